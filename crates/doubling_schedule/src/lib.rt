@@ -1,0 +1,2 @@
+//! The doubling schedule of mitigations: how a miss count is settled, and what it predicts.
+#![tactic(auto)]

@@ -1,0 +1,4 @@
+//! What an access of the machine costs, and the laws of an environment.
+#![tactic(auto)]
+
+pub mod place;

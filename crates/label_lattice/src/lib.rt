@@ -1,0 +1,4 @@
+//! Security labels: their names, their order and their joins.
+#![tactic(auto)]
+
+pub mod label;

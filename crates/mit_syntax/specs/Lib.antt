@@ -1,0 +1,3 @@
+pub mod Todo
+pub mod Values
+pub mod Plan
