@@ -1,5 +1,5 @@
 -- Code at a program counter that is not low changes nothing that is low.
-use Rattle.std.proofs.Common.{◌≡◌, ℕ, ◌+◌, ◌*◌, ◌^◌, [], ◌∷◌, length, refl, sym, ◌∙◌, subst}
+use Rattle.std.proofs.Common.{◌≡◌, ℕ, ◌+◌, ◌-◌, ◌*◌, ◌^◌, [], ◌∷◌, length, refl, sym, ◌∙◌, subst}
 use Rattle.std.specs.Prelude.{ℤ, pos, eqb}
 use Rattle.std.proofs.lemmas.Bool.{cond-false, false_from_ne_true, ne_eqb}
 use Rattle.std.proofs.lemmas.List.{get_or-set_other, length-set}
@@ -12,6 +12,7 @@ use Rattle.doubling_schedule.specs.Doubling.{at_least_zero, misses_after}
 use Rattle.label_lattice.specs.Lattice.{Lattice, Flows, IsLattice}
 use Rattle.timing_types.specs.Typing.{label_of, index_label, ArraysIn, Types}
 use Rattle.env_contract.specs.Env.{Env}
+use Rattle.env_contract.specs.declared.place.Place.{Place}
 use Rattle.label_code.specs.Machine.{Core, Opened, Wrote, Began, Ended, fetched, touched, waited, written, closed}
 use Rattle.env_contract.specs.declared.place.Kind.TheVariants.{Code, Data}
 use Rattle.code_lower.specs.Layout.{expr_size, size, raised}
@@ -37,7 +38,7 @@ module _ {E : Type 0} {serves : E → Type 0} (v : Env E) (lat : Lattice) (ll : 
     pub memory : (x : ℕ) → Low (g x) → read s'.memory x ≡ read s.memory x
     pub long : length s'.memory ≡ length s.memory
     pub kept : serves s.env → serves s'.env
-    pub parts : serves s.env → (q l : ℕ) → Low l → v.part q l s'.env ≡ v.part q l s.env
+    pub parts : serves s.env → (q : Place) (l : ℕ) → Low l → v.part q l s'.env ≡ v.part q l s.env
     pub misses : (l : ℕ) → Low l → s'.misses l ≡ s.misses l
     pub seen : shown lat g o lim s'.log ≡ shown lat g o lim s.log
 

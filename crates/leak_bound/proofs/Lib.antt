@@ -12,4 +12,3 @@ pub mod Apart
 pub mod Whole
 pub mod Balance
 pub mod Headline
-pub mod Exact

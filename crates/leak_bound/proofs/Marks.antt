@@ -1,5 +1,5 @@
 -- The record has an entry for each relevant mitigation that ended up to the cut.
-use Rattle.std.proofs.Common.{◌≡◌, ℕ, ◌+◌, List, [], ◌∷◌, ◌++◌, length, length-append, refl, ap, ◌∙◌, arith}
+use Rattle.std.proofs.Common.{◌≡◌, ℕ, ◌+◌, ◌-◌, List, [], ◌∷◌, ◌++◌, length, length-append, refl, ap, ◌∙◌, arith}
 use Rattle.std.specs.Prelude.{Bool, true, false, cond, not, ◌&&◌, ℤ, leb}
 use Rattle.std.proofs.lemmas.Bool.{cond-false, false_from_ne_true, both_ways}
 use Rattle.mit_syntax.specs.declared.ast.Expr.{Expr}

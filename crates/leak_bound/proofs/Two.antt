@@ -1,5 +1,5 @@
 -- Two runs of one typed list from states with equal low parts.
-use Rattle.std.proofs.Common.{◌≡◌, ℕ, ◌+◌, ◌*◌, ◌^◌, ◌<◌, ◌≤◌, List, [], ◌∷◌, ◌++◌, length, append-nil, length-append, refl, sym, ap, ◌∙◌, subst, ◌⊎◌, inl, inr, ⊎_elim, arith}
+use Rattle.std.proofs.Common.{◌≡◌, ℕ, ◌+◌, ◌-◌, ◌*◌, ◌^◌, ◌<◌, ◌≤◌, List, [], ◌∷◌, ◌++◌, length, append-nil, length-append, refl, sym, ap, ◌∙◌, subst, ◌⊎◌, inl, inr, ⊎_elim, arith}
 use Rattle.std.specs.Prelude.{Bool, true, false, cond, ℤ, eqb, max, leb}
 use Rattle.std.proofs.lemmas.Bool.{cases_lt, both_ways, eqb-true, leb-true, leb-false}
 use Rattle.mit_syntax.specs.declared.ast.Expr.{Expr}
