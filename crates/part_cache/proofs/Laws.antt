@@ -1,16 +1,16 @@
 -- The laws of one cache: what a touch leaves, and what two caches with equal parts answer.
-use Rattle.std.proofs.Common.{◌≡◌, ◌≢◌, ℕ, zero, suc, ◌+◌, ◌*◌, ◌-◌, ◌%◌, ◌<◌, ◌≤◌, List, [], ◌∷◌, ◌++◌, length, take, drop, get_or, Bool, true, false, refl, sym, ap, ◌∙◌, subst, ◌⊎◌, inl, inr, ⊎_elim, arith}
-use Rattle.std.specs.Prelude.{map, not, cond, eqb, ◌&&◌, ◌||◌, slice_set, ◌↔◌}
+use Rattle.std.proofs.Common.{◌≡◌, ℕ, zero, suc, ◌+◌, ◌*◌, ◌%◌, ◌<◌, ◌≤◌, List, [], ◌∷◌, ◌++◌, length, take, drop, get_or, Bool, true, false, refl, sym, ap, ◌∙◌, subst, ◌⊎◌, inl, inr, ⊎_elim, arith}
+use Rattle.std.specs.Prelude.{map, eqb, ◌&&◌, ◌↔◌}
 use Rattle.std.specs.List.{list_any, range_with_len}
 use Rattle.std.proofs.lemmas.List.{take_at, drop_at, set_past}
 use Rattle.std.proofs.lemmas.List.FromFn.{get_or-map-range_with_len}
 use Rattle.std.proofs.lemmas.Nat.{mod_below}
 use Rattle.std.proofs.lemmas.Bool.{cases_eq, cases_lt, cases_Bool, both_ways}
-use Rattle.label_lattice.specs.Lattice.{Lattice, Flows}
+use Rattle.label_lattice.specs.Lattice.{Flows}
 use Rattle.label_lattice.specs.Order.{Order, lattice_of}
 use Rattle.part_cache.specs.History.{some_below}
 use Rattle.part_cache.specs.Rows.{Rows, row_of, IsCache, IsCacheOf, has, found, to_front, touched, rows_at, numbers_of, part_of}
-use Rattle.part_cache.proofs.Stands.{place_below, row_here, row_elsewhere, IsCache-touched, some_below_same}
+use Rattle.part_cache.proofs.Stands.{row_here, row_elsewhere, IsCache-touched, some_below_same}
 
 -- the numbers give the rows back
 pub rows_from_numbers : (xs ys : List (List ℕ)) → numbers_of xs ≡ numbers_of ys → xs ≡ ys

@@ -1,12 +1,12 @@
 -- The parts of a flat row, and what a write to one of them leaves.
-use Rattle.std.proofs.Common.{◌≡◌, ◌≢◌, ℕ, zero, suc, ◌+◌, ◌*◌, ◌-◌, ◌<◌, ◌≤◌, List, [], ◌∷◌, ◌++◌, length, take, drop, get_or, Bool, true, false, refl, sym, ap, ◌∙◌, subst, ◌⊎◌, inl, inr, ⊎_elim, arith, length-take, length-drop, length-append}
-use Rattle.std.specs.Prelude.{eqb, map, ◌||◌, cond, ltb}
+use Rattle.std.proofs.Common.{◌≡◌, ℕ, zero, suc, ◌+◌, ◌*◌, ◌<◌, ◌≤◌, List, [], ◌∷◌, length, take, drop, get_or, Bool, true, false, refl, sym, ap, ◌∙◌, ◌⊎◌, inl, inr, arith, length-take, length-drop}
+use Rattle.std.specs.Prelude.{eqb, ◌||◌, cond, ltb}
 use Rattle.std.specs.List.{zip, list_any}
 use Rattle.std.proofs.lemmas.List.{drop-take, drop_at}
 use Rattle.std.proofs.lemmas.Slice.{take-put_mid_below, take-put_mid, drop-put_mid}
-use Rattle.std.proofs.lemmas.Bool.{cases_eq, cases_lt, cases_Bool, eqb-true, eq-eqb, ne_eqb, or_left, or_right}
+use Rattle.std.proofs.lemmas.Bool.{cases_eq, cases_lt, eq-eqb, ne_eqb, or_left, or_right}
 use borrow.Rule.Slice.PartMut.{put_mid}
-use Rattle.part_cache.specs.Ages.{Entry, put, latest, onto, settled, touch_row, AgesApart, TagsApart}
+use Rattle.part_cache.specs.Ages.{Entry, put, latest}
 use Rattle.part_cache.specs.Parts.{part}
 use Rattle.part_cache.specs.Ages.{tags_of_entries}
 

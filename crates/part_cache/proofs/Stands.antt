@@ -1,15 +1,14 @@
 -- A cache that stands for a history answers by it, and stands for the longer one after a touch.
-use Rattle.std.proofs.Common.{◌≡◌, ◌≢◌, ℕ, zero, suc, ◌+◌, ◌*◌, ◌-◌, ◌%◌, ◌<◌, ◌≤◌, List, [], ◌∷◌, ◌++◌, length, take, get_or, Bool, true, false, refl, sym, ap, ◌∙◌, subst, ◌⊎◌, inl, inr, ⊎_elim, arith, Option, Some, None}
-use Rattle.std.specs.Prelude.{not, cond, eqb, ltb, leb, ◌&&◌, ◌||◌, reverse, min, slice_set}
+use Rattle.std.proofs.Common.{◌≡◌, ℕ, zero, suc, ◌+◌, ◌*◌, ◌%◌, ◌<◌, ◌≤◌, List, [], ◌∷◌, ◌++◌, length, take, get_or, Bool, true, false, refl, sym, ap, ◌∙◌, subst, ◌⊎◌, inl, inr, arith}
+use Rattle.std.specs.Prelude.{not, cond, eqb, ◌&&◌, ◌||◌, reverse, slice_set}
 use Rattle.std.specs.List.{filter, list_any}
 use Rattle.std.proofs.Common.{get_or-set_same, get_or-set_other, length-take, length-set}
-use Rattle.std.proofs.lemmas.List.{reverse-append, append-nil, set_past, get_or_past}
+use Rattle.std.proofs.lemmas.List.{reverse-append, append-nil, set_past}
 use Rattle.std.proofs.lemmas.Nat.{mul-add-lt, same_from_place, mod_below}
 use Rattle.std.proofs.Common.{add-one}
-use Rattle.std.proofs.lemmas.Bool.{or_left, or_right, cases_eq, cases_lt, cases_Bool, eqb-true, eq-eqb, ne_eqb, and_from, and_left, and_right, and_parts, both_ways, not-true, false_from_ne_true}
-use Rattle.label_lattice.specs.Lattice.{Lattice, Flows}
-use Rattle.label_lattice.specs.Order.{Order, lattice_of}
-use Rattle.part_cache.specs.History.{Touched, tags_of, since, distinct, is_near, holds, some_below, hits, held}
+use Rattle.std.proofs.lemmas.Bool.{or_left, or_right, cases_eq, cases_lt, cases_Bool, eqb-true, eq-eqb, and_from, and_parts, both_ways}
+use Rattle.label_lattice.specs.Order.{lattice_of}
+use Rattle.part_cache.specs.History.{Touched, tags_of, distinct, holds, some_below, hits, held}
 use Rattle.part_cache.specs.Rows.{Rows, row_of, IsCache, has, found, to_front, touched, StandsFor}
 use Rattle.part_cache.proofs.Near.{near_is, front_is, any_near}
 

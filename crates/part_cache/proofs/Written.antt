@@ -1,11 +1,11 @@
 -- The ways of a set as two lists, of tags and of ages.
-use Rattle.std.proofs.Common.{◌≡◌, ◌≢◌, ℕ, zero, suc, ◌+◌, ◌*◌, ◌-◌, ◌<◌, ◌≤◌, List, [], ◌∷◌, ◌++◌, length, take, drop, get_or, set, Bool, true, false, refl, sym, ap, ◌∙◌, subst, ◌⊎◌, inl, inr, ⊎_elim, arith, get_or-set_same, get_or-set_other, length-set, length-append, length-take, length-drop}
-use Rattle.std.specs.Prelude.{not, cond, eqb, ltb, leb, max}
-use Rattle.std.specs.List.{filter, zip}
+use Rattle.std.proofs.Common.{◌≡◌, ℕ, zero, suc, ◌+◌, ◌<◌, ◌≤◌, List, [], ◌∷◌, ◌++◌, length, take, drop, get_or, set, false, refl, sym, ap, ◌∙◌, subst, ◌⊎◌, inl, inr, arith, get_or-set_same, get_or-set_other, length-set, length-append, length-take, length-drop}
+use Rattle.std.specs.Prelude.{eqb, max}
+use Rattle.std.specs.List.{zip}
 use Rattle.std.proofs.lemmas.List.{set_split, set-get_or}
-use Rattle.std.proofs.lemmas.Bool.{cases_eq, cases_lt, cases_order, cases_Bool, eqb-true, eqb-false, eq-eqb, ne_eqb, ltb-true, ltb-false, lt-ltb, le-ltb, both_ways}
-use Rattle.part_cache.specs.Ages.{Entry, put, latest, clock, onto, largest, AgesApart, TagsApart, Picked, has_tag, is_least, age_among}
-use Rattle.part_cache.proofs.Latest.{Each, Each-map, most, clock-latest, rest, row, next, written_is, held_case, empty_case, least_case, held_age, age_none, Each-latest}
+use Rattle.std.proofs.lemmas.Bool.{cases_eq, cases_lt, eq-eqb, ne_eqb}
+use Rattle.part_cache.specs.Ages.{Entry, latest, clock, onto, largest, AgesApart, TagsApart, Picked, has_tag, is_least, age_among}
+use Rattle.part_cache.proofs.Latest.{Each, most, clock-latest, rest, row, next, written_is, held_case, empty_case, least_case, held_age, age_none, Each-latest}
 
 pub get_or-zip : (tags ages : List ℕ) (k : ℕ) → length tags ≡ length ages → get_or (zip tags ages) k (0, 0) ≡ (get_or tags k 0, get_or ages k 0)
 get_or-zip [] [] k h = refl

@@ -1,5 +1,5 @@
 -- The flat rows of the body.
-use Rattle.std.specs.Prelude.{◌≡◌, ℕ, ◌+◌, ◌*◌, ◌≤◌, ◌<◌, List, [], ◌∷◌, length, take, drop, map}
+use Rattle.std.specs.Prelude.{◌≡◌, ℕ, ◌*◌, ◌≤◌, ◌<◌, List, length, map}
 use Rattle.std.specs.List.{zip, range_with_len}
 use Rattle.part_cache.specs.Rows.{Rows}
 use Rattle.part_cache.specs.Ages.{Entry, latest, AgesApart, TagsApart}

@@ -1,5 +1,5 @@
 -- What a history of touches says of a partitioned cache.
-use Rattle.std.specs.Prelude.{ℕ, zero, suc, ◌%◌, Bool, true, false, cond, not, eqb, ltb, ◌&&◌, ◌||◌, List, [], ◌∷◌, length, reverse, Option, Some, None}
+use Rattle.std.specs.Prelude.{ℕ, zero, suc, ◌%◌, Bool, false, cond, not, eqb, ltb, ◌&&◌, ◌||◌, List, [], ◌∷◌, length, reverse, Option, Some, None}
 use Rattle.std.specs.List.{filter}
 use Rattle.std.specs.Option.{option_map, option_map_or}
 use Rattle.label_lattice.specs.Order.{Order, lattice_of}

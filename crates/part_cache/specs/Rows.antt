@@ -1,9 +1,9 @@
 -- A partitioned cache as contracts see it.
-use Rattle.std.specs.Prelude.{◌≡◌, ℕ, ◌+◌, ◌*◌, ◌-◌, ◌%◌, ◌<◌, ◌≤◌, Bool, not, eqb, ◌&&◌, List, [], ◌∷◌, ◌++◌, length, take, map, replicate, slice_index_or, slice_set}
+use Rattle.std.specs.Prelude.{◌≡◌, ℕ, ◌+◌, ◌*◌, ◌%◌, ◌<◌, ◌≤◌, Bool, not, eqb, ◌&&◌, List, [], ◌∷◌, ◌++◌, length, take, map, replicate, slice_index_or, slice_set}
 use Rattle.std.specs.List.{filter, list_any, range_with_len, zip}
 use Rattle.label_lattice.specs.Order.{Order, lattice_of}
 use Rattle.part_cache.specs.Ages.{ages_after, age_among}
-use Rattle.part_cache.specs.History.{Touched, some_below, held, hits}
+use Rattle.part_cache.specs.History.{Touched, some_below, held}
 
 -- of each set of each partition the tags, the latest first; row label * sets + set
 pub record Rows : Type 0 where

@@ -1,6 +1,6 @@
-use Rattle.std.proofs.Common.{◌≡◌, ◌+◌, ◌<◌, ◌≤◌, ◌∙◌, sym, ap, subst, arith, length}
+use Rattle.std.proofs.Common.{◌≡◌, ◌+◌, ◌∙◌, ap, arith, length}
 use Rattle.std.specs.List.{zip}
-use Rattle.part_cache.specs.Ages.{latest, onto, AgesApart, TagsApart, largest}
+use Rattle.part_cache.specs.Ages.{latest, onto}
 use Rattle.part_cache.proofs.Written.{written, ages_apart, tags_apart}
 use Rattle.part_cache.proofs.ways.touch_set.Goals as goal
 

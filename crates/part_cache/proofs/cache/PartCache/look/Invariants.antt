@@ -1,5 +1,5 @@
 use Rattle.std.proofs.Common.{◌≡◌, false, ◌&&◌}
-use Rattle.label_lattice.specs.Order.{Order, lattice_of}
+use Rattle.label_lattice.specs.Order.{lattice_of}
 use Rattle.part_cache.specs.History.{some_below}
 use Rattle.part_cache.specs.Rows.{has}
 use Rattle.part_cache.proofs.cache.PartCache.look.Given as goal

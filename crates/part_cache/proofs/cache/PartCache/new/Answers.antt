@@ -1,6 +1,5 @@
-use Rattle.std.proofs.Common.{rules, ◌≡◌, ◌*◌, refl, sym, ap, ◌∙◌, ◌≤◌, arith}
+use Rattle.std.proofs.Common.{◌≡◌, ◌*◌, refl, sym, ap, ◌∙◌, ◌≤◌, arith}
 use Rattle.std.specs.Prelude.{replicate}
-use Rattle.part_cache.specs.Body.{rows_view, IsBody}
 use Rattle.part_cache.specs.declared.cache.PartCache.TheInside.{Inside}
 use Rattle.part_cache.proofs.Flat.{new_value, new_empty, new_body, body_cache}
 use Rattle.part_cache.proofs.cache.PartCache.new.Goals as goal

@@ -1,5 +1,4 @@
-use Rattle.std.proofs.Common.{◌≡◌, ◌≤◌, ◌<◌, arith, refl, sym, ap, ◌∙◌, ℕ, below_more, false, true}
-use Rattle.part_cache.specs.Rows.{row_of}
+use Rattle.std.proofs.Common.{◌≡◌, arith, refl, ap, below_more, false}
 use Rattle.part_cache.proofs.Laws.{differ_at, same_to_end}
 use Rattle.part_cache.proofs.cache.PartCache.same_part.Goals as goal
 
