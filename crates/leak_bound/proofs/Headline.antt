@@ -13,11 +13,12 @@ use Rattle.label_code.specs.declared.code.Instr.{Instr}
 use Rattle.code_lower.specs.Layout.{expr_size, size, IsImage}
 use Rattle.env_contract.specs.Laws.{IsLawful}
 use Rattle.leak_bound.specs.Visible.{visible}
-use Rattle.leak_bound.specs.Relevant.{Tells, HasLevels, begun_count, ended_count}
+use Rattle.leak_bound.specs.Relevant.{ended_count}
+use Rattle.leak_bound.proofs.Tells.{Tells, HasLevels, begun_count}
 use Rattle.label_code.specs.Run.{Start, run_from}
-use Rattle.leak_bound.specs.Sound.{Agree, seen_from, Bounds, CutSound, most_ended}
+use Rattle.leak_bound.specs.Sound.{Agree, seen_from, most_ended}
 use Rattle.leak_bound.specs.Records.{Entry, Fits, levels_of, IsIn, Within, Tests, Each, views, distinct_count}
-use Rattle.leak_bound.proofs.Bound.{count_bound, count_cut}
+use Rattle.leak_bound.proofs.Bound.{count_cut}
 use Rattle.code_lower.proofs.Timed.{tested, opening}
 use Rattle.leak_bound.proofs.Runs.{Job, Do, Loop, Runs, done, skip, assign, put, sleep, if_true, if_false, while_none, while_some, mitigate, last, again, late}
 use Rattle.leak_bound.proofs.Low.{record_of}
@@ -81,13 +82,7 @@ module _ {E : Type 0} {serves : E → Type 0} (v : Env E) (lat : Lattice) (ll : 
   levels_in h (last b w) = levels_in h b
   levels_in h (again b w k) = levels_in-append ls _ _ (levels_in h b) (levels_in h k)
 
-levels_same : (r r' : List Entry) → length r ≡ length r' → Fits r r' → levels_of r ≡ levels_of r'
-levels_same [] [] l f = refl
-levels_same [] (x ∷ r') l f = absurd (omega (arith, l))
-levels_same (x ∷ r) [] l f = absurd (omega (arith, l))
-levels_same (x ∷ r) (y ∷ r') l f = let h = f.0 in let t = levels_same r r' (omega (arith, l)) f.1 in cc
-
-Each-map : {X : Type 0} (P Q : X → Type 0) → ((x : X) → P x → Q x) → (xs : List X) → Each P xs → Each Q xs
+pub Each-map : {X : Type 0} (P Q : X → Type 0) → ((x : X) → P x → Q x) → (xs : List X) → Each P xs → Each Q xs
 Each-map P Q f [] h = tt
 Each-map P Q f (x ∷ xs) h = (f x h.0, Each-map P Q f xs h.1)
 
@@ -95,7 +90,7 @@ module _ {E : Type 0} {serves : E → Type 0} (v : Env E) (lat : Lattice) (ll : 
   pub found : (s : Start E) → Whole v lat g image p code t s
   found s = whole v lat g image p code t s
 
-  abbrev record_from : Start E → List Entry
+  abbrev pub record_from : Start E → List Entry
   record_from s = record_of v lat g o t (found s).run
 
   abbrev ended : Start E → ℕ
@@ -113,7 +108,7 @@ module _ {E : Type 0} {serves : E → Type 0} (v : Env E) (lat : Lattice) (ll : 
   both x y a =
       two_run v lat ll laws g o t lat.bottom typed.0 (lat.bottom, typed.1, typed.2, ll.same lat.bottom, ll.lowest o) (record { memory = a.low; long = a.long; one = a.one; other = a.other; parts = a.parts }) (found x).run (found y).run
 
-  seen_same : (x y : Start E) → AgreeTo x y → record_from x ≡ record_from y → seen_from v lat g image o t x ≡ seen_from v lat g image o t y
+  pub seen_same : (x y : Start E) → AgreeTo x y → record_from x ≡ record_from y → seen_from v lat g image o t x ≡ seen_from v lat g image o t y
   seen_same x y a e =
       let w = (both x y a).timed e (record { seen = refl; misses = λ h h' l low. refl; clock = λ low. inl refl }) in
       ap (visible lat g o) (found x).log ∙ w.seen ∙ sym (ap (visible lat g o) (found y).log)
@@ -190,7 +185,7 @@ module _ {E : Type 0} {serves : E → Type 0} (v : Env E) (lat : Lattice) (ll : 
   pub same_begun : (x y : Start E) → AgreeTo x y → Halts x → Halts y → begun_count rel (run_from v image t x).core.log ≡ begun_count rel (run_from v image t y).core.log
   same_begun x y a h h' = begun_is x h ∙ count_same x y a h h' ∙ sym (begun_is y h')
 
-  each_both : (P Q : Start E → Type 0) (starts : List (Start E)) → Each P starts → Each Q starts → Each (λ s. P s × Q s) starts
+  pub each_both : (P Q : Start E → Type 0) (starts : List (Start E)) → Each P starts → Each Q starts → Each (λ s. P s × Q s) starts
   each_both P Q [] a b = tt
   each_both P Q (s ∷ starts) a b = ((a.0, b.0), each_both P Q starts a.1 b.1)
 
@@ -200,28 +195,3 @@ module _ {E : Type 0} {serves : E → Type 0} (v : Env E) (lat : Lattice) (ll : 
       few_under ls has same tests d lt (begun_count rel (run_from v image t s).core.log) s (s ∷ starts) a
       (Each-map (λ s'. AgreeTo s s' × Halts s') (λ s'. ended s' ≤ begun_count rel (run_from v image t s).core.log)
       (λ s' x. omega (arith, ended_is s', count_same s s' x.0 h.0 x.1, begun_is s h.0)) (s ∷ starts) (each_both (λ s'. AgreeTo s s') Halts (s ∷ starts) a h))
-
-  pub few_seen : (ls : List ℕ) → HasLevels lat o ls p → (same : List Event → List Event → Bool) → Tests same → (d : ℕ) → t < 2 ^ suc d → (s : Start E) (starts : List (Start E)) → Each (λ s'. AgreeTo s s') (s ∷ starts) → Each (λ s'. (run_from v image t s').halted ≡ true) (s ∷ starts) → distinct_count same (views (seen_from v lat g image o t) (s ∷ starts)) ≤ (begun_count rel (run_from v image t s).core.log + 1) ^ (length ls * d)
-  few_seen ls has same tests d lt s starts a h =
-      let k = begun_count rel (run_from v image t s).core.log in
-      let bound = count_bound (see Halts s) (λ (x : Member Halts s). record_from x.from) same tests ls d k
-      (λ x. record {
-        long = sym (count_same s x.from x.agrees h.0 x.more) ∙ sym (begun_is s h.0);
-        within = within_from ls has d lt x.from;
-        rises = (grows_run v lat g o t (found x.from).run).rises;
-      })
-      (λ x y. levels_same (record_from x.from) (record_from y.from) (count_same x.from y.from (pair Halts s x y) x.more y.more) (both x.from y.from (pair Halts s x y)).fits)
-      (λ x y e. seen_same x.from y.from (pair Halts s x y) e)
-      (members Halts s (s ∷ starts) a h) in
-      subst (λ z. distinct_count same z ≤ (k + 1) ^ (length ls * d)) (views-members Halts s (s ∷ starts) a h) bound
-
-pub bounds : {E : Type 0} {serves : E → Type 0} (v : Env E) (lat : Lattice) (ll : IsLattice lat) (laws : IsLawful v lat serves) (g : ℕ → ℕ) (image : List Instr) (p : Marked) → IsTyped lat g p → IsImage lat g image p → Bounds v lat serves g image p
-bounds v lat ll laws g image p typed code =
-    record {
-      same_count = λ o rel tells t s s' a h h'. same_begun v lat ll laws g image p typed code o rel tells t s s' a h h';
-      few = λ o rel ls tells has same tests t d lt s starts a h. few_seen v lat ll laws g image p typed code o rel tells t ls has same tests d lt s starts a h;
-    }
-
-pub cut_sound : {E : Type 0} {serves : E → Type 0} (v : Env E) (lat : Lattice) (ll : IsLattice lat) (laws : IsLawful v lat serves) (g : ℕ → ℕ) (image : List Instr) (p : Marked) → IsTyped lat g p → IsImage lat g image p → CutSound v lat serves g image p
-cut_sound v lat ll laws g image p typed code =
-    record { few_cut = λ o rel ls tells has same tests t d lt starts a. few_cut_by v lat ll laws g image p typed code o rel tells t ls has same tests d lt starts a }

@@ -1,5 +1,6 @@
 pub mod Counting
 pub mod Bound
+pub mod Tells
 pub mod Shown
 pub mod Runs
 pub mod High
@@ -12,3 +13,5 @@ pub mod Apart
 pub mod Whole
 pub mod Balance
 pub mod Headline
+pub mod Digits
+pub mod Final

@@ -13,7 +13,8 @@ use Rattle.label_code.specs.Machine.{Core, Opened, Event, Wrote, Began, Ended, f
 use Rattle.doubling_schedule.specs.Doubling.{misses_after}
 use Rattle.code_lower.specs.Layout.{expr_size, size, raised}
 use Rattle.env_contract.specs.Laws.{IsLawful}
-use Rattle.leak_bound.specs.Relevant.{Tells, ended_count}
+use Rattle.leak_bound.specs.Relevant.{ended_count}
+use Rattle.leak_bound.proofs.Tells.{Tells}
 use Rattle.leak_bound.specs.Records.{Entry}
 use Rattle.code_lower.proofs.Timed.{timed, tested, reached, reached_log, begun, opening}
 use Rattle.leak_bound.proofs.Runs.{Job, Do, Loop, Runs, done, skip, assign, put, sleep, if_true, if_false, while_none, while_some, mitigate, last, again, late}

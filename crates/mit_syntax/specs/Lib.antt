@@ -1,3 +1,4 @@
 pub mod Todo
 pub mod Values
 pub mod Plan
+pub mod MarkOrder

@@ -1,5 +1,6 @@
 -- What n steps of the meaning tell.
 use Rattle.std.proofs.Common.{◌≡◌, ℕ, zero, suc, ◌+◌, ◌≤◌, List, [], ◌∷◌, ◌++◌, append_assoc, append-nil, refl, sym, ap, ◌∙◌, ◌⊎◌, inl, inr, ⊎_elim, arith}
+use Rattle.std.specs.Prelude.{ℤ}
 use Rattle.mit_syntax.specs.Todo.{Todo, Done, Skip, Assign, Put, Sleep, If, While, Mitigate}
 use Rattle.mit_syntax.specs.Values.{element, value_of}
 use Rattle.source_meaning.specs.Source.{Note, Assigned, Started, Source, source_act, source_step, source_steps, source_start, notes_of, HasEnded}
@@ -65,3 +66,13 @@ done_stays zero σ e = refl
 done_stays {M} {L} (suc n) σ e =
     let s : source_step σ ≡ σ = ap (λ t. source_act t σ.memory σ.notes) e ∙ ap (λ t. let r : Source M L = record { todo = t; memory = σ.memory; notes = σ.notes } in r) (sym e) in
     ap (source_steps n) s ∙ done_stays n σ e
+
+later_same : {M L : Type 0} (k : ℕ) (σ : Source M L) (n : ℕ) → (source_steps n σ).todo ≡ Done → (source_steps (n + k) σ).notes ≡ (source_steps n σ).notes
+later_same k σ zero h = let e : 0 + k ≡ k = omega arith in ap (λ z. (source_steps z σ).notes) e ∙ ap (λ z. z.notes) (done_stays k σ h)
+later_same k σ (suc n) h = let e : suc n + k ≡ suc (n + k) = omega arith in ap (λ z. (source_steps z σ).notes) e ∙ later_same k (source_step σ) n h
+
+-- all that is told until the end is told whatever the number of steps
+pub ended_same : {M L : Type 0} (p : Todo M L) (m : List ℤ) (n n' : ℕ) → HasEnded p m n → HasEnded p m n' → notes_of p m n ≡ notes_of p m n'
+ended_same p m n n' h h' =
+    let e : n + n' ≡ n' + n = omega arith in
+    sym (later_same n' (source_start p m) n h) ∙ ap (λ z. notes_of p m z) e ∙ later_same n (source_start p m) n' h'
