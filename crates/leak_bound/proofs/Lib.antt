@@ -15,3 +15,4 @@ pub mod Balance
 pub mod Headline
 pub mod Digits
 pub mod Final
+pub mod Powers

@@ -25,10 +25,13 @@ pub fn within(count: u64, base: u64, exponent: u32) -> bool
     }
     let mut power: u64 = 1;
     for _ in 0..exponent {
-        match power.checked_mul(base) {
-            Some(next) if next < count => power = next,
-            _ => return true,
+        let Some(next) = power.checked_mul(base) else {
+            return true;
+        };
+        if next >= count {
+            return true;
         }
+        power = next;
     }
     false
 }
