@@ -11,5 +11,4 @@ use env_contract::env::MachineEnv;
 /// image tells by some cycle, at which it has halted if the program has ended.
 pub fn code_keeps_order<E: MachineEnv>()
     ensures { OrderAll (record { cost_of = E.cost_of; next_of = E.next_of; part = E.part }) }
-{
-}
+{}

@@ -88,12 +88,14 @@ module _ {E : Type 0} {serves : E → Type 0} (v : Env E) (order : Order) (g : �
           let rel = is_relevant lat g o p in
           let k = begun_count rel (run_from v image t s).core.log in
           let d = digits_is t some in
-          let few = few_halted_by v lat made.lattice laws g image p made.typed made.code o rel (tells o) t (others lat o order.size) (has_levels lat o order.size p made.levels) same tests d.0 d.2 s starts agree.0 halts in
-          (k, begins_log o t s halts.0,
-           Each-map (λ s'. Agree v lat serves g o s s' × Halts v image t s') (λ s'. Begins lat g o p s'.memory k)
-           (λ s' a. subst (λ z. Begins lat g o p s'.memory z) (same_begun v lat made.lattice laws g image p made.typed made.code o rel (tells o) t s' s (back o s s' a.0) a.1 halts.0) (begins_log o t s' a.1))
-           (s ∷ starts) (each_both v lat made.lattice laws g image p made.typed made.code o rel (tells o) t (λ s'. Agree v lat serves g o s s') (Halts v image t) (s ∷ starts) agree.0 halts),
-           by_digits o t _ k d.0 d.1 few)
+          let few = few_halted_by v lat made.lattice laws g image p made.typed made.code o rel (tells o) t (others lat o order.size) (has_levels lat o order.size p made.levels) same tests d.0 d.2 s starts agree.0 halts in (
+            k,
+            begins_log o t s halts.0,
+            Each-map (λ s'. Agree v lat serves g o s s' × Halts v image t s') (λ s'. Begins lat g o p s'.memory k)
+                (λ s' a. subst (λ z. Begins lat g o p s'.memory z) (same_begun v lat made.lattice laws g image p made.typed made.code o rel (tells o) t s' s (back o s s' a.0) a.1 halts.0) (begins_log o t s' a.1))
+                (s ∷ starts) (each_both v lat made.lattice laws g image p made.typed made.code o rel (tells o) t (λ s'. Agree v lat serves g o s s') (Halts v image t) (s ∷ starts) agree.0 halts),
+            by_digits o t _ k d.0 d.1 few,
+          )
         where
           back : (o : ℕ) (s s' : Start E) → Agree v lat serves g o s s' → Agree v lat serves g o s' s
           back o s s' a = record { one = a.other; other = a.one; long = sym a.long; low = λ x h. sym (a.low x h); parts = λ q l h. sym (a.parts q l h) }

@@ -11,7 +11,6 @@ use Rattle.label_lattice.specs.Lattice.{Lattice}
 use Rattle.env_contract.specs.Env.{Env}
 use Rattle.label_code.specs.Machine.{Core, Opened, Began, fetched, touched, waited, logged, written, closed}
 use Rattle.code_lower.specs.Layout.{expr_size, size, raised}
-
 use Rattle.code_lower.proofs.Timed.{tested, stored, begun, opening}
 
 -- what may come to its end: a list at a place, or a loop whose body stands at a place and is about to begin

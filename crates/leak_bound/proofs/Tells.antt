@@ -93,20 +93,23 @@ module _ (lat : Lattice) (g : ℕ → ℕ) (o : ℕ) (all : List Bool) where
       let inner = lat.join pc (label_of lat g e) in
       let fa = relevances lat g o inner a in
       let fb = relevances lat g o inner b in
-      let x = back all n (mitigates a) fa (fb ++ relevances lat g o pc r) (length-relevances lat g o inner a) f in
-      (tells_at a inner n (front all n fa (fb ++ relevances lat g o pc r) f) h.0,
-       tells_at b inner (n + mitigates a) (front all (n + mitigates a) fb (relevances lat g o pc r) x) h.1,
-       tells_at r pc (n + mitigates a + mitigates b) (back all (n + mitigates a) (mitigates b) fb (relevances lat g o pc r) (length-relevances lat g o inner b) x) h.2)
+      let x = back all n (mitigates a) fa (fb ++ relevances lat g o pc r) (length-relevances lat g o inner a) f in (
+        tells_at a inner n (front all n fa (fb ++ relevances lat g o pc r) f) h.0,
+        tells_at b inner (n + mitigates a) (front all (n + mitigates a) fb (relevances lat g o pc r) x) h.1,
+        tells_at r pc (n + mitigates a + mitigates b) (back all (n + mitigates a) (mitigates b) fb (relevances lat g o pc r) (length-relevances lat g o inner b) x) h.2,
+      )
   tells_at (While m e c r) pc n f h =
       let inner = lat.join pc (label_of lat g e) in
-      let fc = relevances lat g o inner c in
-      (tells_at c inner n (front all n fc (relevances lat g o pc r) f) h.0,
-       tells_at r pc (n + mitigates c) (back all n (mitigates c) fc (relevances lat g o pc r) (length-relevances lat g o inner c) f) h.1)
+      let fc = relevances lat g o inner c in (
+        tells_at c inner n (front all n fc (relevances lat g o pc r) f) h.0,
+        tells_at r pc (n + mitigates c) (back all n (mitigates c) fc (relevances lat g o pc r) (length-relevances lat g o inner c) f) h.1,
+      )
   tells_at (Mitigate m k l e c r) pc n f h =
-      let fc = relevances lat g o pc c in
-      (subst (λ z. get_or all z false ≡ (lat.flows pc o && not (lat.flows l o))) (sym h.0) f.0,
-       tells_at c pc (n + 1) (front all (n + 1) fc (relevances lat g o pc r) f.1) h.1,
-       tells_at r pc (n + 1 + mitigates c) (back all (n + 1) (mitigates c) fc (relevances lat g o pc r) (length-relevances lat g o pc c) f.1) h.2)
+      let fc = relevances lat g o pc c in (
+        subst (λ z. get_or all z false ≡ (lat.flows pc o && not (lat.flows l o))) (sym h.0) f.0,
+        tells_at c pc (n + 1) (front all (n + 1) fc (relevances lat g o pc r) f.1) h.1,
+        tells_at r pc (n + 1 + mitigates c) (back all (n + 1) (mitigates c) fc (relevances lat g o pc r) (length-relevances lat g o pc c) f.1) h.2,
+      )
 
 -- the relevances of a numbered program tell of its marks
 pub tells_relevant : (lat : Lattice) (g : ℕ → ℕ) (o : ℕ) (p : Marked) → MarksFrom 0 p → Tells lat g o (is_relevant lat g o p) lat.bottom p

@@ -20,30 +20,29 @@ pub fn few_sequences<E: MachineEnv>()
     ensures halted { SoundAll (record { cost_of = E.cost_of; next_of = E.next_of; part = E.part }) E.serves }
     ensures quiet { ShowsOneAll (record { cost_of = E.cost_of; next_of = E.next_of; part = E.part }) E.serves }
     ensures cut { CutSoundAll (record { cost_of = E.cost_of; next_of = E.next_of; part = E.part }) E.serves }
-{
-}
+{}
 
 /// The same in the flat environment.
 pub fn few_sequences_flat()
     ensures halted { SoundAll
         (record {
-            cost_of = ⟦<FlatEnv as MachineEnv>⟧.cost_of;
-            next_of = ⟦<FlatEnv as MachineEnv>⟧.next_of;
-            part = ⟦<FlatEnv as MachineEnv>⟧.part
+          cost_of = ⟦<FlatEnv as MachineEnv>⟧.cost_of;
+          next_of = ⟦<FlatEnv as MachineEnv>⟧.next_of;
+          part = ⟦<FlatEnv as MachineEnv>⟧.part;
         })
         ⟦<FlatEnv as MachineEnv>⟧.serves }
     ensures quiet { ShowsOneAll
         (record {
-            cost_of = ⟦<FlatEnv as MachineEnv>⟧.cost_of;
-            next_of = ⟦<FlatEnv as MachineEnv>⟧.next_of;
-            part = ⟦<FlatEnv as MachineEnv>⟧.part
+          cost_of = ⟦<FlatEnv as MachineEnv>⟧.cost_of;
+          next_of = ⟦<FlatEnv as MachineEnv>⟧.next_of;
+          part = ⟦<FlatEnv as MachineEnv>⟧.part;
         })
         ⟦<FlatEnv as MachineEnv>⟧.serves }
     ensures cut { CutSoundAll
         (record {
-            cost_of = ⟦<FlatEnv as MachineEnv>⟧.cost_of;
-            next_of = ⟦<FlatEnv as MachineEnv>⟧.next_of;
-            part = ⟦<FlatEnv as MachineEnv>⟧.part
+          cost_of = ⟦<FlatEnv as MachineEnv>⟧.cost_of;
+          next_of = ⟦<FlatEnv as MachineEnv>⟧.next_of;
+          part = ⟦<FlatEnv as MachineEnv>⟧.part;
         })
         ⟦<FlatEnv as MachineEnv>⟧.serves }
 {
