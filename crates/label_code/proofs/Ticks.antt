@@ -12,7 +12,6 @@ use Rattle.label_code.specs.declared.code.Instr.{Instr}
 use Rattle.label_code.proofs.Upto.{clock_of, upto, upto-append}
 use Rattle.label_code.proofs.Leads.{stays}
 use Rattle.doubling_schedule.proofs.Settling.{misses_enough}
-use Rattle.doubling_schedule.specs.Doubling.{prediction, misses_after}
 
 -- a mitigation ends after what it waited for
 pub closed_clock : {E : Type 0} (w : Opened) (q : Core E) → w.since ≤ q.clock → q.clock ≤ (closed w q).clock

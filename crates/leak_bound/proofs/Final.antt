@@ -1,12 +1,12 @@
 -- The main theorem.
-use Rattle.std.proofs.Common.{◌≡◌, ℕ, zero, suc, ◌+◌, ◌*◌, ◌^◌, ◌<◌, ◌≤◌, List, [], ◌∷◌, length, refl, sym, ap, ◌∙◌, subst, arith}
+use Rattle.std.proofs.Common.{◌≡◌, ℕ, suc, ◌+◌, ◌*◌, ◌^◌, ◌<◌, ◌≤◌, List, [], ◌∷◌, length, refl, sym, ap, ◌∙◌, subst, arith}
 use Rattle.std.specs.Prelude.{Bool, true, false, cond, max, ℤ}
 use Rattle.std.specs.List.{count_by}
 use Rattle.std.proofs.lemmas.List.Recursion.{is_count_by}
 use Rattle.mit_syntax.specs.Todo.{Marked}
-use Rattle.label_lattice.specs.Lattice.{Lattice, IsLattice}
-use Rattle.label_lattice.specs.Order.{Order, lattice_of, count_not_below}
-use Rattle.source_meaning.specs.Source.{started_in, notes_of, marks_of, HasEnded}
+use Rattle.label_lattice.specs.Lattice.{Lattice}
+use Rattle.label_lattice.specs.Order.{Order, lattice_of}
+use Rattle.source_meaning.specs.Source.{started_in}
 use Rattle.source_meaning.proofs.Told.{ended_same}
 use Rattle.env_contract.specs.Env.{Env}
 use Rattle.env_contract.specs.Laws.{IsLawful}

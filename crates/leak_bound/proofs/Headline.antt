@@ -17,7 +17,7 @@ use Rattle.leak_bound.specs.Relevant.{ended_count}
 use Rattle.leak_bound.proofs.Tells.{Tells, HasLevels, begun_count}
 use Rattle.label_code.specs.Run.{Start, run_from}
 use Rattle.leak_bound.specs.Sound.{Agree, seen_from, most_ended}
-use Rattle.leak_bound.specs.Records.{Entry, Fits, levels_of, IsIn, Within, Tests, Each, views, distinct_count}
+use Rattle.leak_bound.specs.Records.{Entry, levels_of, IsIn, Within, Tests, Each, views, distinct_count}
 use Rattle.leak_bound.proofs.Bound.{count_cut}
 use Rattle.code_lower.proofs.Timed.{tested, opening}
 use Rattle.leak_bound.proofs.Runs.{Job, Do, Loop, Runs, done, skip, assign, put, sleep, if_true, if_false, while_none, while_some, mitigate, last, again, late}
