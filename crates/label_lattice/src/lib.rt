@@ -1,5 +1,8 @@
 //! Security labels: their names, their order and their joins.
 #![tactic(auto)]
 
+mod closure;
+pub mod fault;
 pub mod label;
 pub mod lattice;
+pub mod name;
