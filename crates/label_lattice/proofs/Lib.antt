@@ -1,3 +1,5 @@
 pub mod NameLemmas
 pub mod Over
 pub mod Orders
+pub mod Chained
+pub mod Closures

@@ -33,6 +33,16 @@ fn diagonal() -> Flows
     flows
 }
 
+// At a place of the table: set before, or by way of the pair.
+fn by_way(old: &Flows, x: usize, y: usize, i: usize) -> bool
+    requires x { x < ROOM }
+    requires y { y < ROOM }
+    requires i { i < CELLS }
+    ensures { result ≡ extended old.now x y i }
+{
+    old[i] || (old[i / ROOM * ROOM + x] && old[y * ROOM + i % ROOM])
+}
+
 // One pair more: whatever flows to its first label flows to all to which its second one flows.
 fn with_pair(old: &Flows, x: usize, y: usize) -> Flows
     requires x { x < ROOM }
@@ -41,7 +51,7 @@ fn with_pair(old: &Flows, x: usize, y: usize) -> Flows
 {
     let mut flows = [false; CELLS];
     for i in 0..CELLS {
-        flows[i] = old[i] || (old[i / ROOM * ROOM + x] && old[y * ROOM + i % ROOM]);
+        flows[i] = by_way(old, x, y, i);
     }
     flows
 }
