@@ -3,3 +3,5 @@ pub mod Over
 pub mod Orders
 pub mod Chained
 pub mod Closures
+pub mod Filled
+pub mod Sound

@@ -1,10 +1,10 @@
 -- Tables of pairs of labels, in rows of 32.
-use Rattle.std.specs.Prelude.{◌≡◌, ℕ, ◌+◌, ◌*◌, ◌/◌, ◌%◌, ◌<◌, Bool, true, false, ◌||◌, ◌&&◌, ◌==◌, List, slice_index_or, ◌↔◌}
+use Rattle.std.specs.Prelude.{◌≡◌, ℕ, ◌+◌, ◌*◌, ◌/◌, ◌%◌, ◌<◌, ◌⊎◌, Bool, true, false, ◌||◌, ◌&&◌, ◌==◌, List, slice_index_or}
 use Rattle.label_lattice.specs.declared.label.Label.{Label}
 use Rattle.label_lattice.specs.declared.label.TheConstants.{MAX_LABELS}
-use Rattle.label_lattice.specs.declared.closure.Check.{Check}
-use Rattle.label_lattice.specs.declared.closure.Check.TheVariants.{Cycle, Bottom, Join}
-use Rattle.label_lattice.specs.Chains.{Chain, IsCycle, AreLowest, HaveNoJoin}
+use Rattle.label_lattice.specs.declared.checks.Check.{Check}
+use Rattle.label_lattice.specs.declared.checks.Check.TheVariants.{Cycle, Bottom, Join}
+use Rattle.label_lattice.specs.Chains.{Chain, IsCycle, AreLowest, IsJoin, HaveNoJoin}
 
 -- the table says so of the pair
 abbrev pub IsSet : List Bool → ℕ → ℕ → Type 0
@@ -28,3 +28,7 @@ abbrev pub IsRefused : Check → ℕ → (ℕ → ℕ → Type 0) → ℕ → �
 IsRefused Cycle n flows = IsCycle flows
 IsRefused Bottom n flows = AreLowest n flows
 IsRefused Join n flows = HaveNoJoin n flows
+
+-- at a place of the table: the join of the row's label and the column's, if there is one
+abbrev pub IsJoinOf : ℕ → List Bool → ℕ → ℕ → Type 0
+IsJoinOf n t i j = HaveNoJoin n (IsSet t) (i / 32) (i % 32) ⊎ ((j < n) × IsJoin n (IsSet t) (i / 32) (i % 32) j)
