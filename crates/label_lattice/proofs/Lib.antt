@@ -5,3 +5,4 @@ pub mod Chained
 pub mod Closures
 pub mod Filled
 pub mod Sound
+pub mod Built

@@ -5,3 +5,4 @@ pub mod Padded
 pub mod Kept
 pub mod Chains
 pub mod Tables
+pub mod Room

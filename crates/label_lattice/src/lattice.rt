@@ -1,16 +1,18 @@
-ghost use Rattle.std.specs.Prelude.{◌≡◌, ◌<◌, ◌≤◌, ℕ, MatchOption};
-ghost use Rattle.label_lattice.specs.Lattice.{IsLattice};
-ghost use Rattle.label_lattice.specs.Order.{lattice_of, name_of, IsOrder, count_not_below};
+//! Lattices of labels.
 
+ghost use Rattle.std.specs.Prelude.{◌≡◌, ◌<◌, ◌≤◌, ◌^◌, ℕ, length, MatchOption, IfOk, IfErr};
+ghost use Rattle.label_lattice.specs.Lattice.{IsLattice};
+ghost use Rattle.label_lattice.specs.Order.{lattice_of, name_of, AllDiffer, IsOrder, count_not_below};
+ghost use Rattle.label_lattice.specs.Chains.{Chain, AreBelow, IsFault, IsBuilt};
+ghost use Rattle.label_lattice.specs.Room.{filled};
+
+use crate::bounds::{joins, lowest};
+use crate::checks::{Check, first_pair};
+use crate::closure::{CELLS, ROOM, closure};
+use crate::fault::LatticeFault;
 use crate::label::{Label, MAX_LABELS};
 use crate::name::Name;
 use std::marker::Model;
-
-/// How many labels there is room for.
-const ROOM: usize = MAX_LABELS as usize;
-
-/// How many pairs of labels there is room for.
-const CELLS: usize = ROOM * ROOM;
 
 /// A finite lattice of labels: their names, a closed table of what flows, and a table of joins.
 #[derive(Clone, Copy)]
@@ -38,7 +40,61 @@ impl Model for Lattice {
     ghost inverse_ok = { inside_again };
 }
 
+// The names at the front, and the first of them up to the room's end.
+fn with_room(names: &[Name]) -> [Name; ROOM]
+    requires some { 0 < length names.now }
+    requires few { length names.now ≤ MAX_LABELS }
+    ensures { result ≡ filled names.now (length names.now) }
+{
+    let mut room = [names[0]; ROOM];
+    room[..names.len()].copy_from_slice(names);
+    room
+}
+
 impl Lattice {
+    /// The lattice of labels with these names, of which a first one flows to a second one where a chain of
+    /// zero or more of the pairs leads from the first to the second.
+    ///
+    /// There is a name, there are at most 2^31 names, the names differ, and the pairs are of labels below the
+    /// number of names. Takes no memory.
+    ///
+    /// # Errors
+    /// `TooMany` above `MAX_LABELS` names, else `Cycle`, `NoBottom` or `NoJoin`, where two labels are in the
+    /// way: the first check that fails, with the first two labels that it refuses.
+    pub fn build(names: &[Name], pairs: &[(Label, Label)]) -> Result<Lattice, LatticeFault>
+        requires some { 0 < length names.now }
+        requires many { length names.now ≤ 2 ^ 31 }
+        requires differ { AllDiffer names.now }
+        requires pairs { AreBelow (length names.now) pairs.now }
+        ensures built { IfOk result (IsBuilt names.now pairs.now) }
+        ensures fault { IfErr result (IsFault (length names.now) (Chain pairs.now)) }
+    {
+        let size = names.len() as u32;
+        if size > MAX_LABELS {
+            return Err(LatticeFault::TooMany(size));
+        }
+        let flows = closure(pairs);
+        if let Some((a, b)) = first_pair(Check::Cycle, &flows, size) {
+            return Err(LatticeFault::Cycle(a, b));
+        }
+        if let Some((a, b)) = first_pair(Check::Bottom, &flows, size) {
+            return Err(LatticeFault::NoBottom(a, b));
+        }
+        if let Some((a, b)) = first_pair(Check::Join, &flows, size) {
+            return Err(LatticeFault::NoJoin(a, b));
+        }
+        let Some(bottom) = lowest(&flows, size) else {
+            unreachable!()
+        };
+        Ok(Lattice {
+            size,
+            names: with_room(names),
+            flows,
+            joins: joins(&flows, size),
+            bottom: bottom as u8,
+        })
+    }
+
     /// Says nothing at run time: what is true of every lattice.
     pub fn laws(&self)
         ensures order { IsOrder self.now }
