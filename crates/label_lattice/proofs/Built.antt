@@ -76,8 +76,8 @@ module _ (n : ℕ) (few : n ≤ 32) (ps : List (Label × Label)) (t : List Bool)
           let f : P ((a * 32 + b) / 32) ((a * 32 + b) % 32) = joins (a * 32 + b) (cell_below a b (omega (arith, k, few)) l') in
           let g : P a b = subst (λ (x : ℕ). P x b) (div-mul-add a 32 b l') (subst (λ (y : ℕ). P ((a * 32 + b) / 32) y) (mod-mul-add a 32 b l') f) in
           ⊎_elim
-            (λ (x : HaveNoJoin n (IsSet t) a b). absurd (have_join n (IsSet t) same chain known no_cycle one_lowest joined a b k l x))
-            (λ (y : (get_or js (a * 32 + b) 0 < n) × IsJoin n (IsSet t) a b (get_or js (a * 32 + b) 0)). y) g
+          (λ (x : HaveNoJoin n (IsSet t) a b). absurd (have_join n (IsSet t) same chain known no_cycle one_lowest joined a b k l x))
+          (λ (y : (get_or js (a * 32 + b) 0 < n) × IsJoin n (IsSet t) a b (get_or js (a * 32 + b) 0)). y) g
 
       pub table_is : IsTable n (λ a b. get_or t (a * 32 + b) false) (λ a b. get_or js (a * 32 + b) 0) m
       unfolding join_in
@@ -112,7 +112,7 @@ module _ (names room : List (List ℕ)) (t : List Bool) (js : List ℕ) (m : ℕ
         size = refl;
         named = front;
         flows = λ a b k l.
-          let two : (ltb a (length names) && ltb b (length names)) ≡ true = and_from (ltb a (length names)) (ltb b (length names)) (lt-ltb a (length names) k) (lt-ltb b (length names) l) in
-          let e : cond (ltb a (length names) && ltb b (length names)) (get_or t (a * 32 + b) false) (leb a b) ≡ get_or t (a * 32 + b) false = cond-true (ltb a (length names) && ltb b (length names)) (get_or t (a * 32 + b) false) (leb a b) two in
-          (λ f. h.sets a b (omega (arith, k, s.few)) (omega (arith, l, s.few)) (sym e ∙ f), λ c. e ∙ h.set a b (omega (arith, k, s.few)) (omega (arith, l, s.few)) c);
+            let two : (ltb a (length names) && ltb b (length names)) ≡ true = and_from (ltb a (length names)) (ltb b (length names)) (lt-ltb a (length names) k) (lt-ltb b (length names) l) in
+            let e : cond (ltb a (length names) && ltb b (length names)) (get_or t (a * 32 + b) false) (leb a b) ≡ get_or t (a * 32 + b) false = cond-true (ltb a (length names) && ltb b (length names)) (get_or t (a * 32 + b) false) (leb a b) two in
+            (λ f. h.sets a b (omega (arith, k, s.few)) (omega (arith, l, s.few)) (sym e ∙ f), λ c. e ∙ h.set a b (omega (arith, k, s.few)) (omega (arith, l, s.few)) c);
       }

@@ -29,8 +29,8 @@ module _ (t : List Bool) (ps : List (Label × Label)) (p : Label × Label) (h : 
   to_chain a b k l e = ⊎_elim
       (λ (x : get_or t (a * 32 + b) false ≡ true). chain_more ps p (h.sets a b k l x))
       (λ (y : (get_or t (a * 32 + p.0.number) false && get_or t (p.1.number * 32 + b) false) ≡ true).
-        let z = and_parts (get_or t (a * 32 + p.0.number) false) (get_or t (p.1.number * 32 + b) false) y in
-        chain_by ps p (h.sets a p.0.number k below.0 z.0) (h.sets p.1.number b below.1 l z.1))
+      let z = and_parts (get_or t (a * 32 + p.0.number) false) (get_or t (p.1.number * 32 + b) false) y in
+      chain_by ps p (h.sets a p.0.number k below.0 z.0) (h.sets p.1.number b below.1 l z.1))
       (or_cases (get_or t (a * 32 + b) false) (get_or t (a * 32 + p.0.number) false && get_or t (p.1.number * 32 + b) false) e)
 
   from_chain : (a b : ℕ) → a < 32 → b < 32 → Chain (ps ++ p ∷ []) a b → by_way a b ≡ true
@@ -38,15 +38,15 @@ module _ (t : List Bool) (ps : List (Label × Label)) (p : Label × Label) (h : 
   from_chain a b k l c = ⊎_elim
       (λ (x : Chain ps a b). or_left (get_or t (a * 32 + b) false) _ (h.set a b k l x))
       (λ (s : Chain ps a p.0.number × Chain ps p.1.number b).
-        or_right (get_or t (a * 32 + b) false) (get_or t (a * 32 + p.0.number) false && get_or t (p.1.number * 32 + b) false)
-        (and_from (get_or t (a * 32 + p.0.number) false) (get_or t (p.1.number * 32 + b) false) (h.set a p.0.number k below.0 s.0) (h.set p.1.number b below.1 l s.1)))
+      or_right (get_or t (a * 32 + b) false) (get_or t (a * 32 + p.0.number) false && get_or t (p.1.number * 32 + b) false)
+      (and_from (get_or t (a * 32 + p.0.number) false) (get_or t (p.1.number * 32 + b) false) (h.set a p.0.number k below.0 s.0) (h.set p.1.number b below.1 l s.1)))
       (chain_split ps p c)
 
   pub closure_more : (u : List Bool) → ((i : ℕ) → i < 1024 → get_or u i false ≡ extended t p.0.number p.1.number i) → IsClosure u (ps ++ p ∷ [])
   unfolding by_way
   closure_more u f =
       let at : (a b : ℕ) → a < 32 → b < 32 → get_or u (a * 32 + b) false ≡ by_way a b =
-        λ a b k l. f (a * 32 + b) (cell_below a b k l) ∙ ap₂ (λ (x y : ℕ). get_or t (a * 32 + b) false || (get_or t (x * 32 + p.0.number) false && get_or t (p.1.number * 32 + y) false)) (div-mul-add a 32 b l) (mod-mul-add a 32 b l) in
+      λ a b k l. f (a * 32 + b) (cell_below a b k l) ∙ ap₂ (λ (x y : ℕ). get_or t (a * 32 + b) false || (get_or t (x * 32 + p.0.number) false && get_or t (p.1.number * 32 + y) false)) (div-mul-add a 32 b l) (mod-mul-add a 32 b l) in
       record {
         sets = λ a b k l s. to_chain a b k l (sym (at a b k l) ∙ s);
         set = λ a b k l c. at a b k l ∙ from_chain a b k l c;
@@ -57,9 +57,9 @@ module _ (t : List Bool) (ps : List (Label × Label)) (p : Label × Label) (h : 
       record {
         sets = λ a b k l s. chain_more ps p (h.sets a b k l s);
         set = λ a b k l c. ⊎_elim
-          (λ (x : Chain ps a b). h.set a b k l x)
-          (λ (s : Chain ps a p.0.number × Chain ps p.1.number b). h.set a b k l (chain_then ps s.0 (chain_then ps (h.sets p.0.number p.1.number below.0 below.1 e) s.1)))
-          (chain_split ps p c);
+            (λ (x : Chain ps a b). h.set a b k l x)
+            (λ (s : Chain ps a p.0.number × Chain ps p.1.number b). h.set a b k l (chain_then ps s.0 (chain_then ps (h.sets p.0.number p.1.number below.0 below.1 e) s.1)))
+            (chain_split ps p c);
       }
 
 -- what the loop reads past the last pair
