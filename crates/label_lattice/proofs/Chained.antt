@@ -51,11 +51,5 @@ chain_split xs p (more {a} {b} {c} w r) = ⊎_elim
     (λ (e : (p.0.number ≡ a) × (p.1.number ≡ b)). inr (chain_same xs a p.0.number (sym e.0), s.1))
     (written_split xs p a b w)) (chain_split xs p r)
 
-pub below_at : (n : ℕ) (ps : List (Label × Label)) (i : ℕ) (d : Label × Label) → AreBelow n ps → i < length ps → ((get_or ps i d).0.number < n) × ((get_or ps i d).1.number < n)
-below_at n [] i d h l = absurd (omega arith)
-below_at n (p ∷ ps) zero d h l = (h.0, h.1)
-below_at n (p ∷ ps) (suc i) d h l = below_at n ps i d h.2 (omega arith)
-
 pub below_more : (m n : ℕ) (ps : List (Label × Label)) → m ≤ n → AreBelow m ps → AreBelow n ps
-below_more m n [] l h = tt
-below_more m n (p ∷ ps) l h = (omega (arith, h.0), omega (arith, h.1), below_more m n ps l h.2)
+below_more m n ps l h k d i = let b = h k d i in (omega (arith, b.0), omega (arith, b.1))

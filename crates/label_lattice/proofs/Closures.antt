@@ -7,7 +7,7 @@ use Rattle.label_lattice.specs.declared.label.Label.{Label}
 use Rattle.std.proofs.lemmas.List.{take_more}
 use Rattle.label_lattice.specs.Chains.{IsWritten, Chain, AreBelow}
 use Rattle.label_lattice.specs.Tables.{IsSet, IsClosure, on_diagonal, extended}
-use Rattle.label_lattice.proofs.Chained.{chain_then, chain_same, chain_empty, chain_more, chain_by, chain_split, below_at}
+use Rattle.label_lattice.proofs.Chained.{chain_then, chain_same, chain_empty, chain_more, chain_by, chain_split}
 
 pub cell_below : (a b : ℕ) → a < 32 → b < 32 → a * 32 + b < 1024
 cell_below a b h k = omega arith
@@ -68,14 +68,14 @@ no_pair = (record { number = 0 }, record { number = 0 })
 
 module _ (ps : List (Label × Label)) (i x y : ℕ) (t : List Bool) (h : IsClosure t (take i ps)) (below : AreBelow 32 ps) (l : i < length ps) (ex : x ≡ (get_or ps i no_pair).0.number) (ey : y ≡ (get_or ps i no_pair).1.number) where
   pub step_below : (x < 32) × (y < 32)
-  step_below = let b = below_at 32 ps i no_pair below l in (rw ex b.0, rw ey b.1)
+  step_below = let b = below i no_pair l in (rw ex b.0, rw ey b.1)
 
   pub step_with : (u : List Bool) → ((k : ℕ) → k < 1024 → get_or u k false ≡ extended t x y k) → IsClosure u (take (i + 1) ps)
   step_with u f =
       rw (take_more ps i no_pair l)
-      (closure_more t (take i ps) (get_or ps i no_pair) h (below_at 32 ps i no_pair below l) u (λ k m. f k m ∙ ap₂ (λ (a b : ℕ). extended t a b k) ex ey))
+      (closure_more t (take i ps) (get_or ps i no_pair) h (below i no_pair l) u (λ k m. f k m ∙ ap₂ (λ (a b : ℕ). extended t a b k) ex ey))
 
   pub step_same : get_or t (x * 32 + y) false ≡ true → IsClosure t (take (i + 1) ps)
   step_same e =
       rw (take_more ps i no_pair l)
-      (closure_same t (take i ps) (get_or ps i no_pair) h (below_at 32 ps i no_pair below l) (sym (ap₂ (λ (a b : ℕ). get_or t (a * 32 + b) false) ex ey) ∙ e))
+      (closure_same t (take i ps) (get_or ps i no_pair) h (below i no_pair l) (sym (ap₂ (λ (a b : ℕ). get_or t (a * 32 + b) false) ex ey) ∙ e))

@@ -1,5 +1,5 @@
 -- A lattice as contracts see it: its labels' names, and tables of what flows and of joins.
-use Rattle.std.specs.Prelude.{◌≡◌, ℕ, ◌+◌, ◌*◌, ◌<◌, ◌≤◌, Bool, false, cond, zero, suc, List, [], length, slice_index_or}
+use Rattle.std.specs.Prelude.{◌≡◌, ℕ, ◌+◌, ◌*◌, ◌<◌, ◌≤◌, Bool, false, cond, zero, suc, List, [], AllPairs, length, slice_index_or}
 use Rattle.label_lattice.specs.declared.label.TheConstants.{MAX_LABELS}
 use Rattle.label_lattice.specs.Lattice.{Lattice, IsTable, over_all}
 
@@ -22,7 +22,7 @@ name_of o a = slice_index_or o.names a []
 
 -- no text is there twice
 abbrev pub AllDiffer : List (List ℕ) → Type 0
-AllDiffer names = (i j : ℕ) → i < length names → j < length names → slice_index_or names i [] ≡ slice_index_or names j [] → i ≡ j
+AllDiffer names = AllPairs (λ a b. a ≡ b → ⊥) names
 
 -- what is true of every lattice
 pub record IsOrder (o : Order) : Type 0 where
