@@ -1,3 +1,6 @@
 pub mod Todo
 pub mod Values
 pub mod Plan
+pub mod Lexemes
+pub mod Cut
+pub mod TokenSteps

@@ -2,4 +2,7 @@
 #![tactic(auto)]
 
 pub mod ast;
+pub mod fault;
+pub mod lexeme;
 pub mod token;
+pub mod tokens;

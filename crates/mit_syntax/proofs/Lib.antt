@@ -1,0 +1,6 @@
+pub mod LexBytes
+pub mod LexSigns
+pub mod LexLongest
+pub mod LexPieces
+pub mod OneList
+pub mod ClosedPiece
