@@ -63,7 +63,7 @@ rest_stops p (x ∷ xs) (suc n) h stops = rest_stops p xs n (omega arith) (λ l.
 pub differ : {X : Type 0} → true ≡ false → X
 differ e = cc
 
-abbrev tail_of : List ℕ → List ℕ
+abbrev pub tail_of : List ℕ → List ℕ
 tail_of [] = []
 tail_of (x ∷ xs) = xs
 

@@ -76,7 +76,7 @@ pub moved-append : (p : Place) (v w : List ℕ) → moved p (v ++ w) ≡ moved (
 moved-append p [] w = refl
 moved-append p (b ∷ v) w = moved-append (past p b) v w
 
-front_back : (w r : List ℕ) → (take (length w) (w ++ r) ≡ w) × (drop (length w) (w ++ r) ≡ r)
+pub front_back : (w r : List ℕ) → (take (length w) (w ++ r) ≡ w) × (drop (length w) (w ++ r) ≡ r)
 front_back [] r = (refl, refl)
 front_back (b ∷ w) r = let k = front_back w r in (ap (λ l. b ∷ l) k.0, k.1)
 

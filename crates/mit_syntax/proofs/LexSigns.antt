@@ -9,7 +9,7 @@ use Rattle.mit_syntax.specs.declared.token.Sign.TheVariants.{Assign, Colon, Semi
 use Rattle.mit_syntax.specs.Lexemes.{is_white, is_name_byte, Each, StopsAt, IsWord, key_text, sign_text}
 use Rattle.mit_syntax.specs.Cut.{in_line, starts_comment}
 use Rattle.mit_syntax.specs.TokenSteps.{second_is_equal, sign_front}
-use Rattle.mit_syntax.proofs.LexBytes.{differ, head_of, heads}
+use Rattle.mit_syntax.proofs.LexBytes.{differ, head_of, tail_of, heads}
 
 pub each_sign : (P : Sign → Type 0) → (P Assign × P Colon × P Semicolon × P Comma × P LeftRound × P RightRound × P LeftBrace × P RightBrace × P LeftSquare × P RightSquare × P At × P Plus × P Minus × P Star × P Slash × P Percent × P Equal × P NotEqual × P LessEqual × P Less × P GreaterEqual × P Greater) → (s : Sign) → P s
 each_sign P h Assign = h.0
@@ -57,28 +57,7 @@ abbrev pub sign_first : Sign → ℕ
 sign_first s = head_of (sign_text s)
 
 abbrev pub sign_others : Sign → List ℕ
-sign_others Assign = 61 ∷ []
-sign_others Colon = []
-sign_others Semicolon = []
-sign_others Comma = []
-sign_others LeftRound = []
-sign_others RightRound = []
-sign_others LeftBrace = []
-sign_others RightBrace = []
-sign_others LeftSquare = []
-sign_others RightSquare = []
-sign_others At = []
-sign_others Plus = []
-sign_others Minus = []
-sign_others Star = []
-sign_others Slash = []
-sign_others Percent = []
-sign_others Equal = 61 ∷ []
-sign_others NotEqual = 61 ∷ []
-sign_others LessEqual = 61 ∷ []
-sign_others Less = []
-sign_others GreaterEqual = 61 ∷ []
-sign_others Greater = []
+sign_others s = tail_of (sign_text s)
 
 pub sign_parts : (s : Sign) → sign_text s ≡ sign_first s ∷ sign_others s
 sign_parts = each_sign (λ s. sign_text s ≡ sign_first s ∷ sign_others s) (refl, refl, refl, refl, refl, refl, refl, refl, refl, refl, refl, refl, refl, refl, refl, refl, refl, refl, refl, refl, refl, refl)

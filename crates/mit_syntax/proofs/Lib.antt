@@ -4,3 +4,5 @@ pub mod LexLongest
 pub mod LexPieces
 pub mod OneList
 pub mod ClosedPiece
+pub mod OneFault
+pub mod TokenFacts

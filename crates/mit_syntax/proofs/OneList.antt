@@ -1,5 +1,5 @@
 -- A text has one list of tokens at most.
-use Rattle.std.proofs.Common.{◌≡◌, ◌≤◌, refl, ap, ◌∙◌, sym, subst, ℕ, List, [], ◌∷◌, ◌++◌, length, Bool, true, false, ◌&&◌, ◌||◌, ◌==◌, arith}
+use Rattle.std.proofs.Common.{◌≡◌, ◌≤◌, refl, ap, ◌∙◌, sym, subst, ℕ, List, [], ◌∷◌, ◌++◌, append_assoc, length, Bool, true, false, ◌&&◌, ◌||◌, ◌==◌, arith}
 use Rattle.std.proofs.lemmas.List.{append-nil}
 use Rattle.std.proofs.lemmas.Bool.{eqb-true}
 use Rattle.std.specs.Char.{is_ascii_digit, is_ascii_alphabetic}
@@ -13,7 +13,7 @@ use Rattle.mit_syntax.proofs.LexBytes.{differ, not_longer, heads, tails, not_bot
 use Rattle.mit_syntax.proofs.LexSigns.{no_sign, no_letter_first, no_digit_first, no_white_first, key_opens, sign_parts, one_key, one_sign}
 
 -- fronts of one length are one
-same_front : (w v r q : List ℕ) → w ++ r ≡ v ++ q → length w ≤ length v → length v ≤ length w → (w ≡ v) × (r ≡ q)
+pub same_front : (w v r q : List ℕ) → w ++ r ≡ v ++ q → length w ≤ length v → length v ≤ length w → (w ≡ v) × (r ≡ q)
 same_front [] [] r q e h k = (refl, e)
 same_front [] (b ∷ v) r q e h k = absurd (omega (arith, k))
 same_front (a ∷ w) [] r q e h k = absurd (omega (arith, h))
@@ -31,15 +31,15 @@ as_lexeme w (SignKind s) h = subst Lexeme (sym h) (sign s)
 as_lexeme w End h = absurd h
 
 -- the first byte of a word, of digits and of a sign
-word_digits : {X : Type 0} (w : List ℕ) → IsWord w → IsDigits w → X
+pub word_digits : {X : Type 0} (w : List ℕ) → IsWord w → IsDigits w → X
 word_digits [] h k = absurd h
 word_digits (b ∷ w) h k = not_both b h.0 k.0
 
-word_sign : {X : Type 0} (w : List ℕ) (s : Sign) → IsWord w → w ≡ sign_text s → X
+pub word_sign : {X : Type 0} (w : List ℕ) (s : Sign) → IsWord w → w ≡ sign_text s → X
 word_sign [] s h e = absurd h
 word_sign (b ∷ w) s h e = no_sign is_ascii_alphabetic s b w [] (no_letter_first s) h.0 (e ∙ sym (append-nil (sign_text s)))
 
-digits_sign : {X : Type 0} (w : List ℕ) (s : Sign) → IsDigits w → w ≡ sign_text s → X
+pub digits_sign : {X : Type 0} (w : List ℕ) (s : Sign) → IsDigits w → w ≡ sign_text s → X
 digits_sign [] s h e = absurd h
 digits_sign (b ∷ w) s h e = no_sign is_ascii_digit s b w [] (no_digit_first s) h.0 (e ∙ sym (append-nil (sign_text s)))
 
@@ -89,7 +89,7 @@ white_no_comment b (a ∷ r) k c = opens_no_white (λ x. x == 47) refl refl refl
     first_true true y e = refl
     first_true false y e = cc
 
-comment_goes_on : (c r : List ℕ) → starts_comment c ≡ true → starts_comment (c ++ r) ≡ true
+pub comment_goes_on : (c r : List ℕ) → starts_comment c ≡ true → starts_comment (c ++ r) ≡ true
 comment_goes_on [] r h = differ (sym h)
 comment_goes_on (a ∷ []) r h = differ (sym h)
 comment_goes_on (a ∷ b ∷ c) r h = h
@@ -126,18 +126,28 @@ some_bytes (lexeme [] k) r h e = none_is k h.1
     none_is End h = h
 some_bytes (lexeme (b ∷ w) k) r h e = cc
 
-one_cut : (ps qs : List Piece) → spread ps ≡ spread qs → CutBefore ps [] → CutBefore qs [] → ps ≡ qs
-one_cut [] [] e h k = refl
-one_cut [] (q ∷ qs) e h k = absurd (some_bytes q (spread qs) (subst (IsPiece q) (append-nil (spread qs)) k.0) (sym e))
-one_cut (p ∷ ps) [] e h k = absurd (some_bytes p (spread ps) (subst (IsPiece p) (append-nil (spread ps)) h.0) e)
-one_cut (p ∷ ps) (q ∷ qs) e h k =
-    let m = one_piece p q (spread ps) (spread qs) e (subst (IsPiece p) (append-nil (spread ps)) h.0) (subst (IsPiece q) (append-nil (spread qs)) k.0) in
+-- no piece begins
+abbrev pub Stuck : List ℕ → Type 0
+Stuck text = (p : Piece) (r : List ℕ) → bytes_of p ++ r ≡ text → IsPiece p r → ⊥
+
+pub stuck_end : Stuck []
+stuck_end p r e h = some_bytes p r h e
+
+-- what is cut until no piece begins is cut in one way
+pub one_cut : (ps qs : List Piece) (r s : List ℕ) → spread ps ++ r ≡ spread qs ++ s → CutBefore ps r → CutBefore qs s → Stuck r → Stuck s → (ps ≡ qs) × (r ≡ s)
+one_cut [] [] r s e h k f g = (refl, e)
+one_cut [] (q ∷ qs) r s e h k f g = absurd (f q (spread qs ++ s) (sym (e ∙ append_assoc (bytes_of q) (spread qs) s)) k.0)
+one_cut (p ∷ ps) [] r s e h k f g = absurd (g p (spread ps ++ r) (sym (append_assoc (bytes_of p) (spread ps) r) ∙ e) h.0)
+one_cut (p ∷ ps) (q ∷ qs) r s e h k f g =
+    let m = one_piece p q (spread ps ++ r) (spread qs ++ s) (sym (append_assoc (bytes_of p) (spread ps) r) ∙ e ∙ append_assoc (bytes_of q) (spread qs) s) h.0 k.0 in
     let x = m.0 in
-    let y = one_cut ps qs m.1 h.1 k.1 in
-    cc
+    let n = one_cut ps qs r s m.1 h.1 k.1 f g in
+    let y = n.0 in
+    (cc, n.1)
 
 -- the tokens of a text are one list
 pub one_list : (text : List ℕ) (a b : List Token) → AreTokens text a → AreTokens text b → a ≡ b
 one_list text a b h k =
-    let same = one_cut h.pieces k.pieces (sym h.are ∙ k.are) h.cut k.cut in
+    let whole : spread h.pieces ++ [] ≡ spread k.pieces ++ [] = ap (λ l. l ++ []) (sym h.are ∙ k.are) in
+    let same = (one_cut h.pieces k.pieces [] [] whole h.cut k.cut stuck_end stuck_end).0 in
     h.tokens_are ∙ ap (λ ps. tokens_of start ps ++ end_at (moved start text) ∷ []) same ∙ sym k.tokens_are

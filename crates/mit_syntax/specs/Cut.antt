@@ -1,5 +1,5 @@
 -- A text is cut into pieces, each as long as it can be. The tokens are those of the pieces, and then the end.
-use Rattle.std.specs.Prelude.{◌≡◌, ℕ, ◌+◌, ◌<◌, Bool, true, false, ◌&&◌, ◌==◌, if◌then◌else◌, List, [], ◌∷◌, ◌++◌, length, Option, Some, None, IsUtf8}
+use Rattle.std.specs.Prelude.{◌≡◌, ℕ, ◌+◌, ◌-◌, ◌<◌, Bool, true, false, ◌&&◌, ◌==◌, if◌then◌else◌, List, [], ◌∷◌, ◌++◌, length, take, drop, Option, Some, None, IsUtf8}
 use Rattle.std.specs.Str.{IsValidUpTo}
 use Rattle.tim_base.specs.declared.pos.Pos.{Pos}
 use Rattle.mit_syntax.specs.declared.fault.TextFault.{TextFault}
@@ -84,6 +84,10 @@ pub record AreTokens (text : List ℕ) (tokens : List Token) : Type 0 where
   pub are : text ≡ spread pieces
   pub cut : CutBefore pieces []
   pub tokens_are : tokens ≡ tokens_of start pieces ++ end_at (moved start text) ∷ []
+
+-- the bytes of a token
+abbrev pub token_bytes : List ℕ → Token → List ℕ
+token_bytes text t = take (t.to - t.from) (drop t.from text)
 
 -- no lexeme is at the front
 abbrev pub BeginsNone : List ℕ → Type 0
