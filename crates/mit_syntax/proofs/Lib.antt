@@ -6,3 +6,4 @@ pub mod OneList
 pub mod ClosedPiece
 pub mod OneFault
 pub mod TokenFacts
+pub mod PlainText

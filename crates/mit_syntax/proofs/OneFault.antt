@@ -2,7 +2,7 @@
 use Rattle.std.proofs.Common.{◌≡◌, ◌<◌, ◌≤◌, refl, ap, ◌∙◌, sym, subst, ℕ, List, [], ◌∷◌, ◌++◌, length, take, true, false, arith}
 use Rattle.std.proofs.lemmas.List.{append-nil, take_all}
 use Rattle.std.proofs.lemmas.Str.{utf8_valid_len-IsValidUpTo}
-use Rattle.std.specs.Prelude.{IsUtf8}
+use Rattle.std.specs.Prelude.{IsUtf8, Result, Ok, Err, MatchResult}
 use Rattle.std.specs.Str.{IsValidUpTo}
 use Rattle.tim_base.specs.declared.pos.Pos.{Pos}
 use Rattle.mit_syntax.specs.declared.fault.TextFault.{TextFault}
@@ -14,7 +14,7 @@ use Rattle.mit_syntax.specs.Lexemes.{is_white, StopsAt, Lexeme, word, digits, Is
 use Rattle.mit_syntax.specs.Cut.{start, moved, starts_comment, Piece, white, comment, lexeme, spread, AreTokens, BeginsNone, BeginsWide, BeginsLong, StopsBefore, IsFault}
 use Rattle.mit_syntax.proofs.LexBytes.{differ}
 use Rattle.mit_syntax.proofs.LexSigns.{key_opens}
-use Rattle.mit_syntax.proofs.OneList.{as_lexeme, same_front, word_digits, word_sign, digits_sign, comment_goes_on, Stuck, stuck_end, one_cut}
+use Rattle.mit_syntax.proofs.OneList.{as_lexeme, same_front, word_digits, word_sign, digits_sign, comment_goes_on, Stuck, stuck_end, one_cut, one_list}
 
 -- no token is at the front
 abbrev pub NoToken : List ℕ → Type 0
@@ -114,3 +114,9 @@ one_fault text (WideNumber p) (LongName q) h k x y = let s = one_stop text Begin
 one_fault text (LongName p) (BadByte q) h k x y = let s = one_stop text BeginsLong BeginsNone p q long_no_token none_no_token h k in absurd (none_long s.1 s.3 s.2)
 one_fault text (LongName p) (WideNumber q) h k x y = let s = one_stop text BeginsLong BeginsWide p q long_no_token wide_no_token h k in absurd (wide_long s.1 s.3 s.2)
 one_fault text (LongName p) (LongName q) h k x y = ap LongName (one_stop text BeginsLong BeginsLong p q long_no_token long_no_token h k).0
+
+-- what an answer says of all lists of tokens
+pub only : {V : Type 0} (text : List ℕ) (r : Result V TextFault) (items : V → List Token) → MatchResult r (λ v. AreTokens text (items v)) (IsFault text)
+    → MatchResult r (λ v. (others : List Token) → AreTokens text others → others ≡ items v) (λ e. (others : List Token) → AreTokens text others → e ≡ Memory)
+only text (Ok v) items h = λ others k. one_list text others (items v) k h
+only text (Err e) items h = λ others k. no_tokens text e others h k

@@ -5,4 +5,6 @@ pub mod ast;
 pub mod fault;
 pub mod lexeme;
 pub mod token;
+#[cfg(test)]
+mod token_tests;
 pub mod tokens;

@@ -1,6 +1,8 @@
 //! From a text to its tokens, in one pass.
 
-ghost use Rattle.std.specs.Prelude.{◌≡◌, ◌+◌, ◌^◌, ◌<◌, ◌≤◌, ℕ, true, false, length, take, drop, slice_index, MatchResult, MatchBool, IsUtf8};
+ghost use Rattle.std.specs.Prelude.{◌≡◌, ◌+◌, ◌^◌, ◌<◌, ◌≤◌, ℕ, true, false, length, take, drop, slice_index, MatchResult, MatchBool, IsUtf8, List};
+ghost use Rattle.mit_syntax.specs.declared.fault.TextFault.TheVariants.{Memory};
+ghost use Rattle.mit_syntax.specs.declared.token.Token.{Token};
 ghost use Rattle.mit_syntax.specs.Lexemes.{is_white, Each};
 ghost use Rattle.mit_syntax.specs.Cut.{start, moved, in_line, starts_comment, AreTokens, IsFault, end_at};
 ghost use Rattle.mit_syntax.specs.TokenSteps.{TookPiece, NoPiece};
@@ -174,11 +176,14 @@ impl<'a> Lexer<'a> {
 
 /// The tokens of a text of at most 2^31 - 1 bytes, in order. The last one is `End`, and no other is.
 ///
+/// `answer` says what comes; `only`: a text with a fault has no tokens, and there is one list at most.
+///
 /// Errors: `NotUtf8` exactly where the text is not UTF-8, whatever else is wrong with it. Else the first
 /// fault in the text: `BadByte`, `WideNumber` or `LongName`. `Memory` may come for any text.
 pub fn tokens(alloc: Global, text: &[u8]) -> Result<Vec<Token>, TextFault>
     requires { length text.now < 2 ^ 31 }
-    ensures { MatchResult result (λ v. AreTokens text.now v.items) (IsFault text.now) }
+    ensures answer { MatchResult result (λ v. AreTokens text.now v.items) (IsFault text.now) }
+    ensures only { MatchResult result (λ v. (others : List Token) → AreTokens text.now others → others ≡ v.items) (λ e. (others : List Token) → AreTokens text.now others → e ≡ Memory) }
 {
     match std::str::from_utf8(text) {
         Ok(_) => cut(alloc, text),
