@@ -3,7 +3,7 @@
 
 pub mod ast;
 pub mod fault;
-pub mod lexeme;
+mod lexeme;
 pub mod token;
 #[cfg(test)]
 mod token_tests;
