@@ -4,7 +4,7 @@ ghost use Rattle.std.specs.Prelude.{◌≡◌, ◌+◌, ◌^◌, ◌<◌, ◌≤
 ghost use Rattle.mit_syntax.specs.declared.fault.TextFault.TheVariants.{Memory};
 ghost use Rattle.mit_syntax.specs.declared.token.Token.{Token};
 ghost use Rattle.mit_syntax.specs.Lexemes.{is_white, Each};
-ghost use Rattle.mit_syntax.specs.Cut.{start, moved, in_line, starts_comment, AreTokens, IsFault, end_at};
+ghost use Rattle.mit_syntax.specs.Cut.{start, moved, in_line, starts_comment, AreTokens, IsFault, end_at, token_bytes};
 ghost use Rattle.mit_syntax.specs.TokenSteps.{TookPiece, NoPiece};
 
 use crate::fault::TextFault;
@@ -171,6 +171,17 @@ impl<'a> Lexer<'a> {
             to: self.place.at,
             pos: self.place.pos,
         }
+    }
+}
+
+impl Token {
+    /// The bytes of a token of this text.
+    pub fn bytes<'a>(&self, text: &'a [u8]) -> &'a [u8]
+        requires order { self.now.from ≤ self.now.to }
+        requires within { self.now.to ≤ length text.now }
+        ensures { result.now ≡ token_bytes text.now self.now }
+    {
+        &text[self.from as usize..self.to as usize]
     }
 }
 
