@@ -2,3 +2,6 @@ pub mod Expression
 pub mod Todo
 pub mod Values
 pub mod Plan
+pub mod Lexemes
+pub mod Cut
+pub mod TokenSteps

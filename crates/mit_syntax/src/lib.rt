@@ -2,4 +2,9 @@
 #![tactic(auto)]
 
 pub mod ast;
+pub mod fault;
+mod lexeme;
 pub mod token;
+#[cfg(test)]
+mod token_tests;
+pub mod tokens;
