@@ -5,3 +5,4 @@ pub mod Plan
 pub mod Lexemes
 pub mod Cut
 pub mod TokenSteps
+pub mod MarkOrder
