@@ -1,3 +1,5 @@
 pub mod Todo
 pub mod Values
 pub mod Plan
+pub mod Declarations
+pub mod Numbered

@@ -2,4 +2,5 @@
 #![tactic(auto)]
 
 pub mod ast;
+pub mod declarations;
 pub mod token;
