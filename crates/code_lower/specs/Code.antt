@@ -1,7 +1,7 @@
 -- The instructions of a list of commands as a list, from the place where the first one stands.
 use Rattle.std.specs.Prelude.{ℕ, ◌+◌, List, [], ◌∷◌, ◌++◌}
-use Rattle.mit_syntax.specs.declared.ast.Expr.{Expr}
-use Rattle.mit_syntax.specs.declared.ast.Expr.TheVariants.{Number, Variable, Binary', Element'}
+use Rattle.mit_syntax.specs.Expression.{Expression}
+use Rattle.mit_syntax.specs.Expression.{Number, Variable, Binary, Element}
 use Rattle.label_code.specs.declared.code.Work.TheVariants.{Push, Load, Store, LoadAt, StoreAt, Apply, Brz, Brnz, Jmp, Sleep as SleepWork, Mitb, Mite, Nop}
 use Rattle.label_code.specs.declared.code.Instr.{Instr}
 use Rattle.mit_syntax.specs.Todo.{Marks, Marked, Done, Skip, Assign, Put, Sleep, If, While, Mitigate}
@@ -9,11 +9,11 @@ use Rattle.label_lattice.specs.Lattice.{Lattice}
 use Rattle.label_code.specs.Machine.{label, instr}
 use Rattle.code_lower.specs.Layout.{expr_size, size, raised}
 
-abbrev pub expr_code : Marks → Expr → List Instr
+abbrev pub expr_code : Marks → Expression → List Instr
 expr_code m (Number n) = instr (Push n) m ∷ []
 expr_code m (Variable x) = instr (Load x) m ∷ []
-expr_code m (Binary' o p l q r) = expr_code m l ++ (expr_code m r ++ instr (Apply o) m ∷ [])
-expr_code m (Element' f n p i) = expr_code m i ++ instr (LoadAt f n) m ∷ []
+expr_code m (Binary o l r) = expr_code m l ++ (expr_code m r ++ instr (Apply o) m ∷ [])
+expr_code m (Element f n i) = expr_code m i ++ instr (LoadAt f n) m ∷ []
 
 abbrev pub code_of : Lattice → (ℕ → ℕ) → Marked → ℕ → List Instr
 code_of lat g Done a = []

@@ -1,7 +1,7 @@
 -- The code of a list of commands, from a place on.
 use Rattle.std.specs.Prelude.{◌≡◌, ℕ, ◌+◌, List, Some, slice_get}
-use Rattle.mit_syntax.specs.declared.ast.Expr.{Expr}
-use Rattle.mit_syntax.specs.declared.ast.Expr.TheVariants.{Number, Variable, Binary', Element'}
+use Rattle.mit_syntax.specs.Expression.{Expression}
+use Rattle.mit_syntax.specs.Expression.{Number, Variable, Binary, Element}
 use Rattle.mit_syntax.specs.Todo.{Marks, Marked, Done, Skip, Assign, Put, Sleep, If, While, Mitigate}
 use Rattle.label_lattice.specs.Lattice.{Lattice}
 use Rattle.timing_types.specs.Typing.{label_of}
@@ -13,11 +13,11 @@ use Rattle.label_code.specs.Machine.{label, instr}
 abbrev pub Stands : List Instr → ℕ → Work → Marks → Type 0
 Stands image a w m = slice_get image a ≡ Some (instr w m)
 
-abbrev pub expr_size : Expr → ℕ
+abbrev pub expr_size : Expression → ℕ
 expr_size (Number n) = 1
 expr_size (Variable x) = 1
-expr_size (Binary' o p l q r) = expr_size l + expr_size r + 1
-expr_size (Element' f n p i) = expr_size i + 1
+expr_size (Binary o l r) = expr_size l + expr_size r + 1
+expr_size (Element f n i) = expr_size i + 1
 
 abbrev pub size : Marked → ℕ
 size Done = 0
@@ -29,17 +29,17 @@ size (If m e c d r) = expr_size e + 1 + size c + 1 + size d + size r
 size (While m e c r) = expr_size e + 1 + size c + expr_size e + 1 + size r
 size (Mitigate m k l e c r) = expr_size e + 1 + size c + 1 + size r
 
-abbrev pub HasExpr : List Instr → Marks → Expr → ℕ → Type 0
+abbrev pub HasExpr : List Instr → Marks → Expression → ℕ → Type 0
 HasExpr image m (Number n) a = Stands image a (Push n) m
 HasExpr image m (Variable x) a = Stands image a (Load x) m
-HasExpr image m (Binary' o p l q r) a =
+HasExpr image m (Binary o l r) a =
     HasExpr image m l a
     × HasExpr image m r (a + expr_size l)
     × Stands image (a + expr_size l + expr_size r) (Apply o) m
-HasExpr image m (Element' f n p i) a = HasExpr image m i a × Stands image (a + expr_size i) (LoadAt f n) m
+HasExpr image m (Element f n i) a = HasExpr image m i a × Stands image (a + expr_size i) (LoadAt f n) m
 
 -- the labels of code that a guard has decided
-abbrev pub raised : Lattice → (ℕ → ℕ) → Expr → Marks → Marks
+abbrev pub raised : Lattice → (ℕ → ℕ) → Expression → Marks → Marks
 raised lat g e m = record { er = lat.join m.er (label_of lat g e); ew = lat.join m.ew (label_of lat g e) }
 
 abbrev pub HasCode : Lattice → (ℕ → ℕ) → List Instr → Marked → ℕ → Type 0

@@ -1,23 +1,23 @@
 -- The type system: which programs are accepted.
 use Rattle.std.specs.Prelude.{◌≡◌, ℕ, ◌+◌, ◌<◌}
-use Rattle.mit_syntax.specs.declared.ast.Expr.{Expr}
-use Rattle.mit_syntax.specs.declared.ast.Expr.TheVariants.{Number, Variable, Binary', Element'}
+use Rattle.mit_syntax.specs.Expression.{Expression}
+use Rattle.mit_syntax.specs.Expression.{Number, Variable, Binary, Element}
 use Rattle.mit_syntax.specs.Todo.{Marked, Done, Skip, Assign, Put, Sleep, If, While, Mitigate}
 use Rattle.label_lattice.specs.Lattice.{Lattice, Flows}
 
 -- the join of the labels of an expression's variables and arrays, those in indices included
-abbrev pub label_of : Lattice → (ℕ → ℕ) → Expr → ℕ
+abbrev pub label_of : Lattice → (ℕ → ℕ) → Expression → ℕ
 label_of lat g (Number n) = lat.bottom
 label_of lat g (Variable x) = g x
-label_of lat g (Binary' o p l q r) = lat.join (label_of lat g l) (label_of lat g r)
-label_of lat g (Element' f n p i) = lat.join (g f) (label_of lat g i)
+label_of lat g (Binary o l r) = lat.join (label_of lat g l) (label_of lat g r)
+label_of lat g (Element f n i) = lat.join (g f) (label_of lat g i)
 
 -- the join of the labels of the variables and arrays that stand in an index of an expression
-abbrev pub index_label : Lattice → (ℕ → ℕ) → Expr → ℕ
+abbrev pub index_label : Lattice → (ℕ → ℕ) → Expression → ℕ
 index_label lat g (Number n) = lat.bottom
 index_label lat g (Variable x) = lat.bottom
-index_label lat g (Binary' o p l q r) = lat.join (index_label lat g l) (index_label lat g r)
-index_label lat g (Element' f n p i) = label_of lat g i
+index_label lat g (Binary o l r) = lat.join (index_label lat g l) (index_label lat g r)
+index_label lat g (Element f n i) = label_of lat g i
 
 -- all elements of an array have the label of its first, and it has one
 pub record IsArray (g : ℕ → ℕ) (f n : ℕ) : Type 0 where
@@ -25,11 +25,11 @@ pub record IsArray (g : ℕ → ℕ) (f n : ℕ) : Type 0 where
   pub same : (k : ℕ) → k < n → g (f + k) ≡ g f
 
 -- the arrays of an expression are arrays
-abbrev pub HasArrays : (ℕ → ℕ) → Expr → Type 0
+abbrev pub HasArrays : (ℕ → ℕ) → Expression → Type 0
 HasArrays g (Number n) = Unit {0}
 HasArrays g (Variable x) = Unit {0}
-HasArrays g (Binary' o p l q r) = HasArrays g l × HasArrays g r
-HasArrays g (Element' f n p i) = IsArray g f n × HasArrays g i
+HasArrays g (Binary o l r) = HasArrays g l × HasArrays g r
+HasArrays g (Element f n i) = IsArray g f n × HasArrays g i
 
 -- of each expression and assignment of a list
 abbrev pub ArraysIn : (ℕ → ℕ) → Marked → Type 0
