@@ -4,3 +4,6 @@ pub mod Values
 pub mod Plan
 pub mod Declarations
 pub mod Numbered
+pub mod Lexemes
+pub mod Cut
+pub mod TokenSteps

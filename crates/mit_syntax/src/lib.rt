@@ -3,4 +3,9 @@
 
 pub mod ast;
 pub mod declarations;
+pub mod fault;
+pub mod lexeme;
 pub mod token;
+#[cfg(test)]
+mod token_tests;
+pub mod tokens;
