@@ -1,13 +1,10 @@
 -- Looking a name up.
-use Rattle.std.proofs.Common.{◌≡◌, refl, sym, ap, ◌∙◌, subst, ℕ, zero, suc, ◌+◌, ◌-◌, ◌<◌, List, [], ◌∷◌, ◌++◌, length, get_or, Option, None, Some, arith}
-use Rattle.std.specs.Prelude.{Bool, true, false, cond, replicate, slice_get, map, position, option_map, ◌&&◌}
+use Rattle.std.proofs.Common.{◌≡◌, refl, sym, ap, ◌∙◌, subst, ℕ, zero, suc, ◌+◌, ◌-◌, ◌<◌, List, [], ◌∷◌, ◌++◌, length, get_or, Option, None, Some, arith, eq-eqb}
+use Rattle.std.specs.Prelude.{Bool, true, false, cond, replicate, slice_get, map, position, option_map, ◌&&◌, nat_eq}
 use Rattle.std.specs.Str.{bytes_eq}
 use Rattle.std.specs.Map.{keys_of, lookup}
 use Rattle.std.specs.Cmp.{both_ways}
-use Rattle.std.specs.Ordering.{is_eq}
-use Rattle.std.proofs.Common.{rules}
-use Rattle.std.specs.Ordering.{nat_cmp}
-use Rattle.std.proofs.lemmas.Bool.{and_from, and_parts, cond-true, cond-false}
+use Rattle.std.proofs.lemmas.Bool.{and_from, and_parts, eqb-true, cond-true, cond-false}
 use Rattle.std.proofs.lemmas.List.{append_cancel_right}
 use Rattle.std.proofs.lemmas.List.Quantifiers.{position-Some}
 use Rattle.std.proofs.lemmas.Option.{none-some, same_Some, slice_get-map, get_or_from_slice_get}
@@ -25,18 +22,13 @@ pub same_name : (a b : List ℕ) → eq-value.it a b ≡ bytes_eq a b
 same_name a b =
     both_ways (eq-value.it a b) (bytes_eq a b)
     (λ h.
-      let q = and_parts (bytes_eq (room a) (room b)) (is_eq (nat_cmp (length a) (length b))) h in
-      let n : length a ≡ length b = one_length (length a) (length b) q.1 in
+      let q = and_parts (bytes_eq (room a) (room b)) (nat_eq (length a) (length b)) h in
+      let n : length a ≡ length b = eqb-true (length a) (length b) q.1 in
       let r : room a ≡ room b = (bytes_eq-Decides (room a) (room b)).0 q.0 in
       (bytes_eq-Decides a b).1 (append_cancel_right a b (replicate (32 - length a) 0) (r ∙ ap (λ k. b ++ replicate (32 - k) 0) (sym n))))
     (λ h.
       let e : a ≡ b = (bytes_eq-Decides a b).0 h in
-      and_from (bytes_eq (room a) (room b)) (is_eq (nat_cmp (length a) (length b))) ((bytes_eq-Decides (room a) (room b)).1 (ap room e)) (same_length (length a) (length b) (ap length e)))
-  where
-    one_length : (m n : ℕ) → is_eq (nat_cmp m n) ≡ true → m ≡ n
-    one_length m n h = search rules
-    same_length : (m n : ℕ) → m ≡ n → is_eq (nat_cmp m n) ≡ true
-    same_length m n h = search rules
+      and_from (bytes_eq (room a) (room b)) (nat_eq (length a) (length b)) ((bytes_eq-Decides (room a) (room b)).1 (ap room e)) (eq-eqb (length a) (length b) (ap length e)))
 
 pub declared_first : (ds : List Declaration) (w : List ℕ) (k : ℕ) (d : Declaration) → slice_get ds k ≡ Some d → bytes_eq w d.0 ≡ true
     → ((j : ℕ) (x : Declaration) → j < k → slice_get ds j ≡ Some x → bytes_eq w x.0 ≡ false) → declared ds w ≡ Some (first_of ds k, d.1)

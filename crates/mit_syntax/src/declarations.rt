@@ -46,11 +46,11 @@ impl Model for Variables {
 
     ghost Value = { List Declaration };
 
-    ghost use Rattle.mit_syntax.specs.Numbered.{entries_of, IsNumbered};
+    ghost use Rattle.mit_syntax.specs.Firsts.{entries_of, AreFirsts};
 
     ghost view = { entries_of };
 
-    ghost invariant = { IsNumbered };
+    ghost invariant = { AreFirsts };
 }
 
 fn entry(table: &IndexMap<Name, Decl>, k: usize) -> (Name, Decl)

@@ -6,6 +6,6 @@ use Rattle.mit_syntax.specs.Declarations.{Declaration, first_of, AreFew}
 abbrev pub entries_of : Inside → List Declaration
 entries_of v = v.table.entries
 
-pub record IsNumbered (v : Inside) : Type 0 where
+pub record AreFirsts (v : Inside) : Type 0 where
   pub few : AreFew (entries_of v)
   pub firsts : (k : ℕ) → k ≤ length (entries_of v) → slice_index v.firsts k ≡ first_of (entries_of v) k
