@@ -1,3 +1,6 @@
+pub mod Numbers
+pub mod Named
+pub mod Counting
 pub mod LexBytes
 pub mod LexSigns
 pub mod LexLongest
