@@ -1,0 +1,4 @@
+pub mod Joins
+pub mod Walk
+pub mod Parts
+pub mod Steps
