@@ -2,3 +2,4 @@ pub mod Joins
 pub mod Walk
 pub mod Parts
 pub mod Steps
+pub mod Guards

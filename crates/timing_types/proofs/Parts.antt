@@ -2,6 +2,7 @@
 use Rattle.std.proofs.Common.{◌≡◌, ℕ, suc, zero, ◌+◌, ◌<◌, ◌≤◌, refl, sym, ap, ◌∙◌, List, [], ◌∷◌, length, get_or, drop, arith, Vec, Global, Option, drop-cons}
 use Rattle.label_lattice.specs.declared.label.Label.{Label}
 use Rattle.mit_syntax.specs.declared.ast.Expr.{Expr}
+use Rattle.mit_syntax.specs.Expression.{expression_of}
 use Rattle.mit_syntax.specs.declared.ast.Command.{Command}
 use Rattle.mit_syntax.specs.declared.ast.Form.{Form, While as DWhile, If as DIf, Mitigate as DMitigate}
 use Rattle.mit_syntax.specs.declared.ast.Form.{Skip as FSkip, Assign as FAssign, Put as FPut, Sleep as FSleep, If' as FIf, While' as FWhile, Mitigate' as FMitigate}
@@ -9,20 +10,20 @@ use Rattle.mit_syntax.specs.Todo.{Done, If, While, Mitigate}
 use Rattle.mit_syntax.specs.Plan.{Written, Plan, form_plan, command_plan, list_plan, row_plan, count, form_count, plan-If, plan-While, plan-Mitigate}
 
 pub if_parts : (f : Form) (e : Expr) (v u : Vec Command Global) (a b : List Command) → f ≡ DIf e v u → a ≡ v.items → b ≡ u.items →
-    (w : Written) (rest : Plan) → form_plan f w rest ≡ If w e (list_plan a) (list_plan b) rest
+    (w : Written) (rest : Plan) → form_plan f w rest ≡ If w (expression_of e) (list_plan a) (list_plan b) rest
 if_parts f e v u a b is ha hb w rest =
     ap (λ z. form_plan z w rest) is ∙ plan-If e v u w rest
-    ∙ ap (λ z. If w e (list_plan z) (list_plan u.items) rest) (sym ha)
-    ∙ ap (λ z. If w e (list_plan a) (list_plan z) rest) (sym hb)
+    ∙ ap (λ z. If w (expression_of e) (list_plan z) (list_plan u.items) rest) (sym ha)
+    ∙ ap (λ z. If w (expression_of e) (list_plan a) (list_plan z) rest) (sym hb)
 
 pub while_parts : (f : Form) (e : Expr) (v : Vec Command Global) (a : List Command) → f ≡ DWhile e v → a ≡ v.items →
-    (w : Written) (rest : Plan) → form_plan f w rest ≡ While w e (list_plan a) rest
-while_parts f e v a is ha w rest = ap (λ z. form_plan z w rest) is ∙ plan-While e v w rest ∙ ap (λ z. While w e (list_plan z) rest) (sym ha)
+    (w : Written) (rest : Plan) → form_plan f w rest ≡ While w (expression_of e) (list_plan a) rest
+while_parts f e v a is ha w rest = ap (λ z. form_plan z w rest) is ∙ plan-While e v w rest ∙ ap (λ z. While w (expression_of e) (list_plan z) rest) (sym ha)
 
 pub mitigate_parts : (f : Form) (k : ℕ) (e : Expr) (l : Option Label) (v : Vec Command Global) (a : List Command) → f ≡ DMitigate k e l v → a ≡ v.items →
-    (w : Written) (rest : Plan) → form_plan f w rest ≡ Mitigate w k l e (list_plan a) rest
+    (w : Written) (rest : Plan) → form_plan f w rest ≡ Mitigate w k l (expression_of e) (list_plan a) rest
 mitigate_parts f k e l v a is ha w rest =
-    ap (λ z. form_plan z w rest) is ∙ plan-Mitigate k e l v w rest ∙ ap (λ z. Mitigate w k l e (list_plan z) rest) (sym ha)
+    ap (λ z. form_plan z w rest) is ∙ plan-Mitigate k e l v w rest ∙ ap (λ z. Mitigate w k l (expression_of e) (list_plan z) rest) (sym ha)
 
 -- the count of a command that has parts
 pub if_count : (f : Form) (e : Expr) (v u : Vec Command Global) (a b : List Command) → f ≡ DIf e v u → a ≡ v.items → b ≡ u.items →

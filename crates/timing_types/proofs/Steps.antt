@@ -4,7 +4,7 @@ use Rattle.std.specs.Prelude.{Bool, true, false, cond, Option, None, Some, is_so
 use Rattle.std.proofs.lemmas.Bool.{cond-true, cond-false}
 use Rattle.label_lattice.specs.Lattice.{Lattice, Flows}
 use Rattle.label_lattice.specs.declared.label.Label.{Label}
-use Rattle.mit_syntax.specs.declared.ast.Expr.{Expr}
+use Rattle.mit_syntax.specs.Expression.{Expression}
 use Rattle.mit_syntax.specs.Todo.{Marks, Done, If, While, Mitigate}
 use Rattle.mit_syntax.specs.Plan.{Written, Plan, count}
 use Rattle.timing_types.specs.declared.rule.TypeFault.{TypeFault}
@@ -39,7 +39,7 @@ module _ (lat : Lattice) (g : ℕ → ℕ) (ms : ℕ → Marks) (ls : ℕ → �
   first_holds c cs f = cond-true (lat.flows c.have c.allowed) (first_broken lat cs) (Some (told c)) f
 
   -- command number i, which reads e at pc from t: le is e's label, er the read label
-  module _ (w : Written) (e : Expr) (i pc t le er : ℕ) (hle : le ≡ label_of lat g e) (her : er ≡ (ms i).er) where
+  module _ (w : Written) (e : Expression) (i pc t le er : ℕ) (hle : le ≡ label_of lat g e) (her : er ≡ (ms i).er) where
     abbrev m : Placed
     m = placed ms w i
 

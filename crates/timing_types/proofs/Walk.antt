@@ -3,7 +3,7 @@ use Rattle.std.proofs.Common.{◌≡◌, ℕ, refl, sym, ap, ◌∙◌, subst, L
 use Rattle.std.specs.Prelude.{Bool, true, false, cond, Option, None, Some}
 use Rattle.std.proofs.lemmas.Bool.{cond-true}
 use Rattle.label_lattice.specs.Lattice.{Lattice, Flows, IsLattice}
-use Rattle.mit_syntax.specs.declared.ast.Expr.{Expr}
+use Rattle.mit_syntax.specs.Expression.{Expression}
 use Rattle.mit_syntax.specs.Todo.{Done, Skip, Assign, Put, Sleep, If, While, Mitigate}
 use Rattle.timing_types.specs.declared.rule.TypeFault.{TypeFault}
 use Rattle.timing_types.specs.declared.rule.Rule.TheVariants.{Mtg as RMtg}

@@ -2,7 +2,7 @@
 use Rattle.std.specs.Prelude.{◌≡◌, ℕ, Bool, true, cond, List, [], ◌∷◌, ◌++◌, Option, None, Some}
 use Rattle.label_lattice.specs.Lattice.{Lattice, Flows}
 use Rattle.tim_base.specs.declared.pos.Pos.{Pos}
-use Rattle.mit_syntax.specs.declared.ast.Expr.{Expr}
+use Rattle.mit_syntax.specs.Expression.{Expression}
 use Rattle.mit_syntax.specs.Todo.{Done, Skip, Assign, Put, Sleep, If, While, Mitigate}
 use Rattle.timing_types.specs.declared.rule.Rule.{Rule}
 use Rattle.timing_types.specs.declared.rule.Rule.TheVariants.{Skip as RSkip, Asgn as RAsgn, If as RIf, While as RWhile, Mtg as RMtg, Sleep as RSleep}
@@ -31,19 +31,19 @@ abbrev pub demand : Lattice → ℕ → ℕ → Placed → ℕ → ℕ → ℕ
 demand lat pc t m le li = lat.join (lat.join (lat.join (lat.join le li) pc) t) m.marks.er
 
 -- li of an assignment to an element: all of the index counts
-abbrev pub put_index : Lattice → (ℕ → ℕ) → Expr → Expr → ℕ
+abbrev pub put_index : Lattice → (ℕ → ℕ) → Expression → Expression → ℕ
 put_index lat g i e = lat.join (label_of lat g i) (index_label lat g e)
 
 -- `pc | li`
-abbrev pub here : Lattice → (ℕ → ℕ) → ℕ → Expr → ℕ
+abbrev pub here : Lattice → (ℕ → ℕ) → ℕ → Expression → ℕ
 here lat g pc e = lat.join pc (index_label lat g e)
 
 -- `t | le | er`, the timing label after an expression is read
-abbrev pub after : Lattice → (ℕ → ℕ) → ℕ → Placed → Expr → ℕ
+abbrev pub after : Lattice → (ℕ → ℕ) → ℕ → Placed → Expression → ℕ
 after lat g t m e = lat.join (lat.join t (label_of lat g e)) m.marks.er
 
 -- `le | t | er`, the left side of a loop's demand on its own label
-abbrev pub loop_start : Lattice → (ℕ → ℕ) → ℕ → Placed → Expr → ℕ
+abbrev pub loop_start : Lattice → (ℕ → ℕ) → ℕ → Placed → Expression → ℕ
 loop_start lat g t m e = lat.join (lat.join (label_of lat g e) t) m.marks.er
 
 -- The end label of a list that is walked at pc from t. An assignment ends at the label of what it assigns,

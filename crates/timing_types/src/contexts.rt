@@ -25,11 +25,13 @@ fn command_contexts(c: &Command, p: &Labels, order: &Lattice, pc: Label, found: 
         } => {
             let inner = order.join(pc, label(guard, p, order));
             list_contexts(then_part, p, order, inner, found)?;
-            list_contexts(else_part, p, order, inner, found)
+            list_contexts(else_part, p, order, inner, found)?;
+            Ok(())
         }
         Form::While { guard, body } => {
             let inner = order.join(pc, label(guard, p, order));
-            list_contexts(body, p, order, inner, found)
+            list_contexts(body, p, order, inner, found)?;
+            Ok(())
         }
         Form::Mitigate {
             mark: _,
@@ -38,7 +40,8 @@ fn command_contexts(c: &Command, p: &Labels, order: &Lattice, pc: Label, found: 
             body,
         } => {
             found.push(pc)?;
-            list_contexts(body, p, order, pc, found)
+            list_contexts(body, p, order, pc, found)?;
+            Ok(())
         }
     }
 }

@@ -2,6 +2,7 @@
 
 ghost use Rattle.std.specs.Prelude.{◌≡◌, ◌+◌, ◌^◌, ◌<◌};
 ghost use Rattle.label_lattice.specs.Order.{lattice_of};
+ghost use Rattle.mit_syntax.specs.Expression.{expression_of};
 ghost use Rattle.mit_syntax.specs.Plan.{Plan, command_plan, list_plan, form_count, count};
 ghost use Rattle.timing_types.specs.Typing.{label_of, index_label};
 ghost use Rattle.timing_types.specs.Tables.{variable_of, end_of};
@@ -20,7 +21,7 @@ pub(crate) fn join3(order: &Lattice, a: Label, b: Label, c: Label) -> Label
 
 /// The join of the labels of an expression's variables and arrays, those in indices included.
 pub(crate) fn label(e: &Expr, p: &Labels, order: &Lattice) -> Label
-    ensures { result.number ≡ label_of (lattice_of order.now) (variable_of order.now p.now) e.now }
+    ensures { result.number ≡ label_of (lattice_of order.now) (variable_of order.now p.now) (expression_of e.now) }
 {
     match e {
         Expr::Number(_) => order.bottom(),
@@ -36,7 +37,7 @@ pub(crate) fn label(e: &Expr, p: &Labels, order: &Lattice) -> Label
 
 /// The join of the labels of the variables and arrays that stand in an index of an expression.
 pub(crate) fn index_label(e: &Expr, p: &Labels, order: &Lattice) -> Label
-    ensures { result.number ≡ index_label (lattice_of order.now) (variable_of order.now p.now) e.now }
+    ensures { result.number ≡ index_label (lattice_of order.now) (variable_of order.now p.now) (expression_of e.now) }
 {
     match e {
         Expr::Number(_) | Expr::Variable(_) => order.bottom(),
