@@ -2,4 +2,12 @@
 #![tactic(auto)]
 
 pub mod ast;
+pub mod count;
+pub mod declarations;
+pub mod fault;
+pub mod lexeme;
+pub mod program;
 pub mod token;
+#[cfg(test)]
+mod token_tests;
+pub mod tokens;
