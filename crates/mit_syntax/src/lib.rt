@@ -6,7 +6,6 @@ pub mod count;
 pub mod declarations;
 pub mod fault;
 mod lexeme;
-pub mod lexeme;
 pub mod program;
 pub mod token;
 #[cfg(test)]

@@ -1,0 +1,130 @@
+//! The walk over a program's commands, which tests each condition.
+
+ghost use Rattle.std.specs.Prelude.{◌≡◌, ◌+◌, ◌^◌, ◌<◌, IfOk, IfErr, Some, false};
+ghost use Rattle.label_lattice.specs.Lattice.{Flows};
+ghost use Rattle.label_lattice.specs.Order.{lattice_of};
+ghost use Rattle.mit_syntax.specs.Plan.{Plan, command_plan, list_plan, form_count, count};
+ghost use Rattle.mit_syntax.specs.Todo.{Done};
+ghost use Rattle.timing_types.specs.declared.rule.TypeFault.TheVariants.{Refused};
+ghost use Rattle.timing_types.specs.Walk.{Passes};
+ghost use Rattle.timing_types.specs.Tables.{variable_of, tree_of, broken_of};
+
+use crate::ends::{index_label, join3, label, list_end};
+use crate::labels::Labels;
+use crate::rule::{Rule, TypeFault};
+use label_lattice::label::Label;
+use label_lattice::lattice::Lattice;
+use mit_syntax::ast::{Command, Form};
+use tim_base::pos::Pos;
+
+/// One condition.
+fn test(order: &Lattice, rule: Rule, pos: Pos, have: Label, allowed: Label) -> Result<(), TypeFault>
+    ensures holds { IfOk result (λ _. Flows (lattice_of order.now) have.number allowed.number) }
+    ensures broken { IfErr result (λ b. (b ≡ Refused rule pos have allowed) × ((lattice_of order.now).flows have.number allowed.number ≡ false)) }
+{
+    if order.flows(have, allowed) {
+        return Ok(());
+    }
+    Err(TypeFault::Refused {
+        rule,
+        pos,
+        have,
+        allowed,
+    })
+}
+
+/// A command: the number after its last part, and its end label; else the first broken condition.
+#[cycle(walk)]
+fn command_walk(c: &Command, p: &Labels, order: &Lattice, number: usize, pc: Label, t: Label) -> Result<(usize, Label), TypeFault>
+    requires { number + form_count c.now.form (record { pos = c.now.pos; labels = c.now.labels }) < 2 ^ 31 }
+    ensures number { IfOk result (λ r. r.0 ≡ number + form_count c.now.form (record { pos = c.now.pos; labels = c.now.labels })) }
+    ensures passes { IfOk result (λ r. (rest : Plan) → Passes (lattice_of order.now) (variable_of order.now p.now) pc.number (tree_of order.now p.now (command_plan c.now rest) number) t.number (tree_of order.now p.now rest r.0) r.1.number) }
+    ensures refused { IfErr result (λ b. (rest : Plan) → broken_of order.now p.now (command_plan c.now rest) number pc.number t.number ≡ Some b) }
+{
+    let own = p.command(number, order);
+    match &c.form {
+        Form::Skip => {
+            test(order, Rule::Skip, c.pos, pc, own.1)?;
+            Ok((number + 1, order.join(t, own.0)))
+        }
+        Form::Assign { variable, value } => {
+            let li = index_label(value, p, order);
+            let reads = join3(order, label(value, p, order), li, pc);
+            let have = join3(order, reads, t, own.0);
+            let allowed = p.variable(*variable, order);
+            test(order, Rule::Asgn, c.pos, have, allowed)?;
+            test(order, Rule::Asgn, c.pos, order.join(pc, li), own.1)?;
+            Ok((number + 1, order.join(allowed, have)))
+        }
+        Form::Put {
+            first,
+            length: _,
+            index,
+            value,
+        } => {
+            let li = order.join(label(index, p, order), index_label(value, p, order));
+            let reads = join3(order, label(value, p, order), li, pc);
+            let have = join3(order, reads, t, own.0);
+            let allowed = p.variable(*first, order);
+            test(order, Rule::Asgn, c.pos, have, allowed)?;
+            test(order, Rule::Asgn, c.pos, order.join(pc, li), own.1)?;
+            Ok((number + 1, order.join(allowed, have)))
+        }
+        Form::Sleep { time } => {
+            test(order, Rule::Sleep, c.pos, order.join(pc, index_label(time, p, order)), own.1)?;
+            Ok((number + 1, join3(order, t, label(time, p, order), own.0)))
+        }
+        Form::If {
+            guard,
+            then_part,
+            else_part,
+        } => {
+            test(order, Rule::If, c.pos, order.join(pc, index_label(guard, p, order)), own.1)?;
+            let le = label(guard, p, order);
+            let start = join3(order, t, le, own.0);
+            let inner = order.join(pc, le);
+            let one = list_walk(then_part, p, order, number + 1, inner, start)?;
+            let other = list_walk(else_part, p, order, one.0, inner, start)?;
+            Ok((other.0, order.join(one.1, other.1)))
+        }
+        Form::While { guard, body } => {
+            test(order, Rule::While, c.pos, order.join(pc, index_label(guard, p, order)), own.1)?;
+            let le = label(guard, p, order);
+            let start = join3(order, le, t, own.0);
+            let inner = order.join(pc, le);
+            let stay = list_end(body, p, order, number + 1, inner, start).1;
+            let part = list_walk(body, p, order, number + 1, inner, stay)?;
+            Ok((part.0, stay))
+        }
+        Form::Mitigate {
+            mark,
+            estimate,
+            level: _,
+            body,
+        } => {
+            test(order, Rule::Mtg, c.pos, order.join(pc, index_label(estimate, p, order)), own.1)?;
+            let start = join3(order, t, label(estimate, p, order), own.0);
+            let part = list_walk(body, p, order, number + 1, pc, start)?;
+            test(order, Rule::Mtg, c.pos, part.1, p.level(*mark, order))?;
+            Ok((part.0, start))
+        }
+    }
+}
+
+/// A list: the number after it, and its end label; else the first broken condition.
+#[cycle(walk)]
+fn list_walk(commands: &[Command], p: &Labels, order: &Lattice, number: usize, pc: Label, t: Label) -> Result<(usize, Label), TypeFault>
+    requires { number + count (list_plan commands.now) < 2 ^ 31 }
+    ensures number { IfOk result (λ r. r.0 ≡ number + count (list_plan commands.now)) }
+    ensures passes { IfOk result (λ r. Passes (lattice_of order.now) (variable_of order.now p.now) pc.number (tree_of order.now p.now (list_plan commands.now) number) t.number Done r.1.number) }
+    ensures refused { IfErr result (λ b. broken_of order.now p.now (list_plan commands.now) number pc.number t.number ≡ Some b) }
+{
+    let mut next = number;
+    let mut end = t;
+    for c in commands {
+        let part = command_walk(c, p, order, next, pc, end)?;
+        next = part.0;
+        end = part.1;
+    }
+    Ok((next, end))
+}
