@@ -87,13 +87,17 @@ small_prediction a k p h l e =
     let q : p ≤ 2 ^ 64 = omega (arith, e, m) in
     product_bound a p (2 ^ 63) (2 ^ 64) h q
 
--- the same in the words of a table whose count at l is settled
-pub settled_table : (ms ms' : List ℕ) (i l : ℕ) (estimate : ℤ) (elapsed count : ℕ) → ms ≡ ms' → i ≡ l → Settles estimate elapsed (slice_index ms i) count →
-    slice_set ms i count ≡ slice_set ms' l (misses_after estimate elapsed (slice_index ms' l))
-settled_table ms ms' i l n e c p q s =
-    let is = Settles-unique n e (slice_index ms i) c (misses_after n e (slice_index ms i)) s (misses_after-settles n e (slice_index ms i)) in
-    ap (slice_set ms i) is
-    ∙ (ap (λ z. slice_set ms z (misses_after n e (slice_index ms z))) q ∙ ap (λ z. slice_set z l (misses_after n e (slice_index z l))) p)
+-- the same for a count in a table
+pub count_is : (ms ms' : List ℕ) (i l : ℕ) (n n' : ℤ) (elapsed count : ℕ) → ms ≡ ms' → i ≡ l → n ≡ n' → Missed n elapsed (slice_index ms i) count → elapsed < prediction n' count →
+    count ≡ misses_after n' elapsed (slice_index ms' l)
+count_is ms ms' i l n n' e c p q r s a =
+    let missed : Missed n' e (slice_index ms i) c = subst (λ z. Missed z e (slice_index ms i) c) r s in
+    let settles = Missed-settles n' e (slice_index ms i) c missed a in
+    Settles-unique n' e (slice_index ms i) c (misses_after n' e (slice_index ms i)) settles (misses_after-settles n' e (slice_index ms i))
+    ∙ (ap (λ z. misses_after n' e (slice_index ms z)) q ∙ ap (λ z. misses_after n' e (slice_index z l)) p)
+
+pub table_is : (ms ms' : List ℕ) (i l count m : ℕ) → ms ≡ ms' → i ≡ l → count ≡ m → slice_set ms i count ≡ slice_set ms' l m
+table_is ms ms' i l c m p q r = ap (slice_set ms i) r ∙ (ap (λ z. slice_set ms z m) q ∙ ap (λ z. slice_set z l m) p)
 
 -- a new table's counts are all few
 pub slice_index-replicate : (n l : ℕ) → slice_index (replicate n 0) l ≤ 64

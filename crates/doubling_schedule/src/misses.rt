@@ -59,6 +59,7 @@ impl MissTable {
         ensures value { result ≡ prediction n (slice_index self.new l.number) }
 
         // The same count, computed. All others stay.
+        ensures count { slice_index self.new l.number ≡ misses_after n elapsed (slice_index self.old l.number) }
         ensures counts { self.new ≡ slice_set self.old l.number (misses_after n elapsed (slice_index self.old l.number)) }
 
         ensures few { slice_index self.new l.number ≤ 64 }
