@@ -1,13 +1,13 @@
 -- A lattice from a closed table of which nothing is wrong.
 use Rattle.std.proofs.Common.{◌≡◌, ◌∙◌, ℕ, ◌+◌, ◌*◌, ◌/◌, ◌%◌, ◌<◌, ◌≤◌, Bool, true, false, cond, ltb, leb, List, length, take, get_or, refl, sym, ap, subst, ◌⊎◌, inl, inr, ⊎_elim, arith}
-use Rattle.std.specs.Prelude.{◌&&◌, ◌↔◌, All}
+use Rattle.std.specs.Prelude.{◌&&◌, All}
 use Rattle.label_lattice.specs.Names.{IsName}
 use Rattle.std.proofs.Math.Seq.{take-append_seam}
 use Rattle.std.proofs.lemmas.Bool.{cases_Bool, both_ways, and_from, lt-ltb, cond-true}
 use Rattle.std.proofs.lemmas.Nat.{div-mul-add, mod-mul-add}
 use Rattle.label_lattice.specs.declared.label.Label.{Label}
-use Rattle.label_lattice.specs.Lattice.{IsTable, Flows}
-use Rattle.label_lattice.specs.Order.{row, Order, IsOrder, AllDiffer, lattice_of}
+use Rattle.label_lattice.specs.Lattice.{IsTable}
+use Rattle.label_lattice.specs.Order.{row, AllDiffer}
 use Rattle.label_lattice.specs.Room.{filled}
 use Rattle.label_lattice.specs.Kept.{IsKept, order_of}
 use Rattle.label_lattice.specs.Chains.{Chain, none, IsCycle, IsLowest, AreLowest, IsJoin, HaveNoJoin, IsNoPair, IsFirstPair, IsSound, IsBuilt}

@@ -1,13 +1,13 @@
 -- A table of what flows, with one pair more.
-use Rattle.std.proofs.Common.{◌≡◌, ℕ, ◌+◌, ◌*◌, ◌/◌, ◌%◌, ◌<◌, Bool, true, false, eqb, List, [], ◌∷◌, ◌++◌, length, get_or, take, subst, sym, ap, ap₂, ◌∙◌, ◌⊎◌, inl, inr, ⊎_elim, refl, arith}
+use Rattle.std.proofs.Common.{◌≡◌, ℕ, ◌+◌, ◌*◌, ◌<◌, Bool, true, false, eqb, List, [], ◌∷◌, ◌++◌, length, get_or, take, sym, ap₂, ◌∙◌, ⊎_elim, arith}
 use Rattle.std.specs.Prelude.{◌||◌, ◌&&◌}
 use Rattle.std.proofs.lemmas.Bool.{or_cases, or_left, or_right, and_parts, and_from, eqb-true, eq-eqb}
-use Rattle.std.proofs.lemmas.Nat.{div-mul-add, mod-mul-add, mul-add-lt}
+use Rattle.std.proofs.lemmas.Nat.{div-mul-add, mod-mul-add}
 use Rattle.label_lattice.specs.Order.{row}
 use Rattle.label_lattice.specs.declared.label.Label.{Label}
 use Rattle.std.proofs.lemmas.List.{take_more}
-use Rattle.label_lattice.specs.Chains.{IsWritten, Chain, AreBelow}
-use Rattle.label_lattice.specs.Tables.{IsSet, IsClosure, on_diagonal, extended}
+use Rattle.label_lattice.specs.Chains.{Chain, AreBelow}
+use Rattle.label_lattice.specs.Tables.{IsClosure, on_diagonal, extended}
 use Rattle.label_lattice.proofs.Chained.{chain_then, chain_same, chain_empty, chain_more, chain_by, chain_split}
 
 pub cell_below : (a b : ℕ) → a < row → b < row → a * row + b < row * row

@@ -1,5 +1,5 @@
 -- The laws of a lattice of labels, over all numbers.
-use Rattle.std.proofs.Common.{◌≡◌, ℕ, ◌<◌, ◌+◌, ◌*◌, refl, add-one, sym, subst}
+use Rattle.std.proofs.Common.{◌≡◌, ℕ, ◌<◌, ◌+◌, add-one, subst}
 use Rattle.std.specs.Prelude.{cond, ltb, ◌&&◌, max}
 use Rattle.std.proofs.lemmas.Bool.{lt-ltb, and_from, cond-true}
 use Rattle.label_lattice.specs.Lattice.{Lattice, IsLattice}

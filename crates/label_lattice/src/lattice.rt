@@ -137,7 +137,7 @@ impl Lattice {
     {
         for number in 0..self.size {
             let label = Label::new(number as u8);
-            if self.name(label).bytes() == name.bytes() {
+            if self.name(label) == *name {
                 return Some(label);
             }
         }

@@ -1,6 +1,6 @@
-use Rattle.std.proofs.Common.{◌*◌, ◌≡◌, ℕ, ◌<◌, ◌≤◌, false, get_or, take, length}
+use Rattle.std.proofs.Common.{◌*◌, ◌≡◌, ℕ, ◌<◌, false, get_or, length}
 use Rattle.label_lattice.specs.Order.{row}
-use Rattle.label_lattice.specs.Tables.{IsSet, IsClosure, IsRefused, on_diagonal, extended}
+use Rattle.label_lattice.specs.Tables.{extended}
 use Rattle.label_lattice.proofs.closure.with_pair.Given as goal
 
 abbrev pub invariant-loop-i : goal.invariant-loop-i

@@ -1,4 +1,4 @@
-use Rattle.std.proofs.Common.{arith, length}
+use Rattle.std.proofs.Common.{length}
 use Rattle.label_lattice.specs.Order.{row}
 use Rattle.label_lattice.proofs.Chained.{below_more}
 use Rattle.label_lattice.proofs.Built.{chained_no_cycle, chained_one_lowest, chained_lowest, chained_no_join, lowest_there, sound, table_is, kept, built}
