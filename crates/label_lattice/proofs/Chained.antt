@@ -1,5 +1,5 @@
 -- Chains of written pairs.
-use Rattle.std.proofs.Common.{◌≡◌, ℕ, ◌<◌, ◌≤◌, List, [], ◌∷◌, ◌++◌, length, get_or, subst, sym, ◌⊎◌, inl, inr, ⊎_elim, refl, arith, zero, suc}
+use Rattle.std.proofs.Common.{◌≡◌, ℕ, ◌≤◌, List, [], ◌∷◌, ◌++◌, subst, sym, ◌⊎◌, inl, inr, ⊎_elim, refl, arith}
 use Rattle.label_lattice.specs.declared.label.Label.{Label}
 use Rattle.label_lattice.specs.Chains.{IsWritten, Chain, none, more, AreBelow}
 

@@ -1,7 +1,7 @@
 -- A lattice of n labels is one over all numbers.
-use Rattle.std.proofs.Common.{◌≡◌, ℕ, ◌<◌, ◌≤◌, refl, sym, ap, ◌∙◌, subst, ◌⊎◌, inl, inr, ⊎_elim, arith, max}
-use Rattle.std.specs.Prelude.{Bool, true, false, cond, leb, ltb, ◌&&◌}
-use Rattle.std.proofs.lemmas.Bool.{cases_Bool, cases_lt, leb-true, le-leb, ltb-true, lt-ltb, le-ltb, and_parts, and_from, both_ways, cond-true, cond-false}
+use Rattle.std.proofs.Common.{◌≡◌, ℕ, ◌<◌, ◌≤◌, sym, ap, ◌∙◌, subst, ◌⊎◌, inl, inr, ⊎_elim, arith, max}
+use Rattle.std.specs.Prelude.{Bool, true, false, leb, ltb, ◌&&◌}
+use Rattle.std.proofs.lemmas.Bool.{cases_lt, leb-true, le-leb, lt-ltb, le-ltb, and_from, cond-true, cond-false}
 use Rattle.label_lattice.specs.Lattice.{Lattice, Flows, IsLattice, IsTable, over_all}
 
 module _ (n : ℕ) (flows : ℕ → ℕ → Bool) (join : ℕ → ℕ → ℕ) (bottom : ℕ) (table : IsTable n flows join bottom) where
