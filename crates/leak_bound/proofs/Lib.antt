@@ -16,3 +16,5 @@ pub mod Headline
 pub mod Digits
 pub mod Final
 pub mod Powers
+pub mod Same
+pub mod Examples
