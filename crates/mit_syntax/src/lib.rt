@@ -6,6 +6,8 @@ pub mod count;
 pub mod declarations;
 pub mod fault;
 mod lexeme;
+pub mod lexeme;
+pub mod print;
 pub mod program;
 pub mod token;
 #[cfg(test)]
