@@ -12,7 +12,7 @@ const MAX_BYTES: usize = 32;
 /// A name: a letter, then letters, digits and `_`, of at most 32 bytes, and no keyword.
 #[derive(Clone, Copy, Debug, PartialEq, Eq, Hash)]
 pub struct Name {
-    room: [u8; 32],
+    room: [u8; MAX_BYTES],
     len: u8,
 }
 
@@ -44,7 +44,7 @@ impl Name {
         if bytes.len() > MAX_BYTES || !is_word(bytes) || is_keyword(bytes) {
             return None;
         }
-        let mut room = [0u8; 32];
+        let mut room = [0u8; MAX_BYTES];
         room[..bytes.len()].copy_from_slice(bytes);
         Some(Name {
             room,
