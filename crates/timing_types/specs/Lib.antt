@@ -1,6 +1,7 @@
 pub mod Typing
 pub mod Placed
 pub mod Walk
-pub mod Table
 pub mod Contexts
-pub mod Tables
+pub mod Labelling
+pub mod Labelled
+pub mod Kept

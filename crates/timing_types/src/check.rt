@@ -7,14 +7,19 @@ ghost use Rattle.mit_syntax.specs.Plan.{Plan, command_plan, list_plan, form_coun
 ghost use Rattle.mit_syntax.specs.Todo.{Done};
 ghost use Rattle.timing_types.specs.declared.rule.TypeFault.TheVariants.{Refused};
 ghost use Rattle.timing_types.specs.Walk.{Passes};
-ghost use Rattle.timing_types.specs.Tables.{variable_of, tree_of, broken_of};
+ghost use Rattle.timing_types.specs.Labelling.{variable_of, tree_of, broken_of};
+ghost use Rattle.timing_types.specs.Labelled.{HasType, first_broken_of, IsTypeFault, AreContexts};
 
+use crate::contexts::list_contexts;
 use crate::ends::{index_label, join3, label, list_end};
+use crate::labelled::Labelled;
 use crate::labels::Labels;
 use crate::rule::{Rule, TypeFault};
+use crate::typed::Typed;
 use label_lattice::label::Label;
 use label_lattice::lattice::Lattice;
 use mit_syntax::ast::{Command, Form};
+use std::alloc::{AllocError, Global};
 use tim_base::pos::Pos;
 
 /// One condition.
@@ -127,4 +132,45 @@ fn list_walk(commands: &[Command], p: &Labels, order: &Lattice, number: usize, p
         end = part.1;
     }
     Ok((next, end))
+}
+
+/// The first broken condition, if there is one.
+fn walk(p: &Labelled) -> Result<(), TypeFault>
+    ensures typed { IfOk result (λ _. HasType p.now) }
+    ensures refused { IfErr result (λ fault. (first_broken_of p.now ≡ Some fault) × (HasType p.now → ⊥)) }
+{
+    let order = p.program().lattice();
+    order.laws();
+    let bottom = order.bottom();
+    list_walk(p.program().body(), p.labels(), &order, 0, bottom, bottom)?;
+    Ok(())
+}
+
+/// The program-counter label of each mitigate, by its mark.
+fn contexts(alloc: Global, p: &Labelled) -> Result<Vec<Label>, AllocError>
+    ensures { IfOk result (λ pcs. AreContexts p.now pcs.items) }
+{
+    let order = p.program().lattice();
+    let mut pcs = Vec::new(alloc);
+    list_contexts(p.program().body(), p.labels(), &order, order.bottom(), &mut pcs)?;
+    Ok(pcs)
+}
+
+/// Checks a labelled program. `Refused` comes exactly where no derivation types it, and names the first
+/// broken condition: the commands are walked in the order of the text, and a command's own conditions come
+/// before those of its parts. `Memory` is want of memory. After a fault the labelled program comes back.
+pub fn check(alloc: Global, p: Labelled) -> Result<Typed, (Labelled, TypeFault)>
+    ensures labelled { IfOk result (λ q. q.labelled ≡ p) }
+    ensures typed { IfOk result (λ _. HasType p) }
+    ensures contexts { IfOk result (λ q. AreContexts p q.contexts) }
+    ensures kept { IfErr result (λ e. e.0 ≡ p) }
+    ensures fault { IfErr result (λ e. IsTypeFault p e.1) }
+{
+    if let Err(fault) = walk(&p) {
+        return Err((p, fault));
+    }
+    match contexts(alloc, &p) {
+        Ok(pcs) => Ok(Typed::of(p, pcs)),
+        Err(_) => Err((p, TypeFault::Memory)),
+    }
 }

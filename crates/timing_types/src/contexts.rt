@@ -2,7 +2,7 @@
 
 ghost use Rattle.std.specs.Prelude.{◌≡◌, ◌++◌, OnOk, IfOk};
 ghost use Rattle.mit_syntax.specs.Plan.{Plan, command_plan, list_plan};
-ghost use Rattle.timing_types.specs.Tables.{contexts_of};
+ghost use Rattle.timing_types.specs.Labelling.{contexts_of};
 
 use crate::ends::label;
 use crate::labels::Labels;

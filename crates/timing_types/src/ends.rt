@@ -5,7 +5,7 @@ ghost use Rattle.label_lattice.specs.Order.{lattice_of};
 ghost use Rattle.mit_syntax.specs.Expression.{expression_of};
 ghost use Rattle.mit_syntax.specs.Plan.{Plan, command_plan, list_plan, form_count, count};
 ghost use Rattle.timing_types.specs.Typing.{label_of, index_label};
-ghost use Rattle.timing_types.specs.Tables.{variable_of, end_of};
+ghost use Rattle.timing_types.specs.Labelling.{variable_of, end_of};
 
 use crate::labels::Labels;
 use label_lattice::label::Label;

@@ -5,7 +5,7 @@ use Rattle.label_lattice.specs.Order.{lattice_of}
 use Rattle.mit_syntax.specs.Expression.{expression_of}
 use Rattle.mit_syntax.specs.Plan.{Written, list_plan, command_plan, form_count, count}
 use Rattle.timing_types.specs.Walk.{walk_end, conditions, first_broken}
-use Rattle.timing_types.specs.Tables.{variable_of, marks_of, level_of, tree_of, end_of}
+use Rattle.timing_types.specs.Labelling.{variable_of, marks_of, level_of, tree_of, end_of}
 use Rattle.timing_types.proofs.Parts.{if_parts, while_parts, mitigate_parts, if_count, while_count, mitigate_count, cut, cut_count, drop_count}
 use Rattle.timing_types.proofs.Steps.{if_passes, if_broken_one, if_broken_other, while_passes, while_broken, mitigate_passes, mitigate_broken, mitigate_high}
 use Rattle.timing_types.proofs.check.+walk.Goals as goal

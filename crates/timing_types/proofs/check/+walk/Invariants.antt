@@ -2,7 +2,7 @@ use Rattle.std.proofs.Common.{◌≡◌, ◌+◌, ◌*◌, drop}
 use Rattle.label_lattice.specs.Order.{lattice_of}
 use Rattle.mit_syntax.specs.Plan.{list_plan, form_count, count}
 use Rattle.timing_types.specs.Walk.{Passes}
-use Rattle.timing_types.specs.Tables.{variable_of, tree_of}
+use Rattle.timing_types.specs.Labelling.{variable_of, tree_of}
 use Rattle.timing_types.proofs.check.+walk.Given as goal
 
 abbrev pub invariant-list_walk-loop-c : goal.invariant-list_walk-loop-c

@@ -2,7 +2,7 @@ use Rattle.std.proofs.Common.{rules, ◌≡◌, ◌+◌, ◌++◌, drop, sym, ap
 use Rattle.label_lattice.specs.Order.{lattice_of}
 use Rattle.mit_syntax.specs.Expression.{expression_of}
 use Rattle.mit_syntax.specs.Plan.{Written, command_plan, list_plan}
-use Rattle.timing_types.specs.Tables.{variable_of, contexts_of}
+use Rattle.timing_types.specs.Labelling.{variable_of, contexts_of}
 use Rattle.timing_types.proofs.Parts.{if_parts, while_parts, mitigate_parts, cut}
 use Rattle.timing_types.proofs.Guards.{if_contexts, while_contexts, mitigate_contexts}
 use Rattle.timing_types.proofs.contexts.+contexts.Goals as goal

@@ -1,6 +1,6 @@
 use Rattle.std.proofs.Common.{◌≡◌, ◌++◌, drop}
 use Rattle.mit_syntax.specs.Plan.{list_plan}
-use Rattle.timing_types.specs.Tables.{contexts_of}
+use Rattle.timing_types.specs.Labelling.{contexts_of}
 use Rattle.timing_types.proofs.contexts.+contexts.Given as goal
 
 abbrev pub invariant-list_contexts-loop-c : goal.invariant-list_contexts-loop-c

@@ -2,7 +2,7 @@ use Rattle.std.proofs.Common.{rules, ◌≡◌, ℕ, ◌+◌, ◌*◌, ◌^◌, 
 use Rattle.label_lattice.specs.Order.{lattice_of}
 use Rattle.mit_syntax.specs.Expression.{expression_of}
 use Rattle.mit_syntax.specs.Plan.{Written, list_plan, command_plan, form_count, count}
-use Rattle.timing_types.specs.Tables.{variable_of, marks_of, level_of, end_of}
+use Rattle.timing_types.specs.Labelling.{variable_of, marks_of, level_of, end_of}
 use Rattle.timing_types.proofs.Parts.{if_parts, while_parts, mitigate_parts, if_count, while_count, mitigate_count, cut, cut_count, drop_count}
 use Rattle.timing_types.proofs.Steps.{if_ends, while_ends, mitigate_ends}
 use Rattle.timing_types.proofs.ends.+ends.Goals as goal

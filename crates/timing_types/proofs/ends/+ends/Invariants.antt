@@ -1,6 +1,6 @@
 use Rattle.std.proofs.Common.{◌≡◌, ◌+◌, ◌*◌, drop}
 use Rattle.mit_syntax.specs.Plan.{list_plan, form_count, count}
-use Rattle.timing_types.specs.Tables.{end_of}
+use Rattle.timing_types.specs.Labelling.{end_of}
 use Rattle.timing_types.proofs.ends.+ends.Given as goal
 
 abbrev pub invariant-list_end-loop-c : goal.invariant-list_end-loop-c
