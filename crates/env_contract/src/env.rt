@@ -1,0 +1,45 @@
+ghost use Rattle.std.specs.Prelude.{◌≡◌, ◌<◌, ◌≤◌, ◌↔◌, ℕ, List, IsTrue};
+ghost use Rattle.label_lattice.specs.Lattice.{IsLattice};
+ghost use Rattle.label_lattice.specs.Order.{Order, lattice_of};
+ghost use Rattle.env_contract.specs.Laws.{IsLawful};
+
+use crate::place::{Kind, Place};
+use label_lattice::label::Label;
+
+/// What an access costs beyond its instruction, and what it changes.
+pub trait MachineEnv {
+    ghost use Rattle.env_contract.specs.declared.place.Kind.{Kind};
+    ghost use Rattle.env_contract.specs.declared.place.Place.{Place};
+
+    // The environment is made for the lattice.
+    ghost serves: { Order → Self → Type 0 };
+
+    // What it holds at a place for a label.
+    ghost part: { Place → ℕ → Self → List ℕ };
+
+    // The penalty of an access: kind, byte address, read label, write label.
+    ghost cost_of: { Kind → ℕ → ℕ → ℕ → Self → ℕ };
+
+    // The state after an access.
+    ghost next_of: { Kind → ℕ → ℕ → ℕ → Self → Self };
+
+    /// Reads at a byte address under the labels `[er, ew]`, and answers the penalty in cycles, at most
+    /// 1,000. The state may change. Takes no memory.
+    fn access(&mut self, kind: Kind, address: u32, er: Label, ew: Label) -> u32
+        requires { (order : Order)
+            × (serves order self.old × (er.number < order.size) × (ew.number < order.size)) }
+        ensures cost { result ≡ cost_of kind address er.number ew.number self.old }
+        ensures next { self.new ≡ next_of kind address er.number ew.number self.old }
+        ensures small { result ≤ 1000 }
+        ensures serves { (order : Order) → serves order self.old → serves order self.new };
+
+    /// Whether both hold the same at the place for the label. Takes no memory.
+    fn same(&self, other: &Self, place: Place, label: Label) -> bool
+        requires { (order : Order)
+            × (serves order self.now × serves order other.now × (label.number < order.size)) }
+        ensures { IsTrue result
+            ↔ (part place label.number self.now ≡ part place label.number other.now) };
+
+    ghost lawful: { (order : Order) → IsLattice (lattice_of order)
+        → IsLawful (record { cost_of = cost_of; next_of = next_of; part = part }) (lattice_of order) (serves order) };
+}
