@@ -1,0 +1,15 @@
+pub mod Counting
+pub mod Bound
+pub mod Shown
+pub mod Runs
+pub mod High
+pub mod Low
+pub mod Record
+pub mod Late
+pub mod Two
+pub mod Marks
+pub mod Apart
+pub mod Whole
+pub mod Balance
+pub mod Headline
+pub mod Exact
