@@ -3,3 +3,4 @@
 
 pub mod ast;
 pub mod token;
+pub mod values;
