@@ -1,7 +1,7 @@
 -- What one step of the machine, and a run to T, do to the clock and the log.
-use Rattle.std.proofs.Common.{◌≡◌, ℕ, zero, suc, ◌+◌, ◌<◌, ◌≤◌, List, [], ◌∷◌, ◌++◌, append-nil, refl, sym, ap, ◌∙◌, ◌⊎◌, inl, inr, arith}
+use Rattle.std.proofs.Common.{◌≡◌, ℕ, zero, suc, ◌+◌, ◌-◌, ◌<◌, ◌≤◌, List, [], ◌∷◌, ◌++◌, append-nil, refl, sym, ap, ◌∙◌, ◌⊎◌, inl, inr, arith}
 use Rattle.std.specs.Prelude.{Bool, true, false, cond, ℤ, leb, not, ◌&&◌, Option, Some, None, slice_get}
-use Rattle.std.proofs.lemmas.Bool.{both_ways, leb-true, leb-false, cond-true, cond-false, le-leb, lt-leb}
+use Rattle.std.proofs.lemmas.Bool.{and_from, both_ways, leb-true, leb-false, cond-true, cond-false, le-leb, lt-leb}
 use Rattle.mit_syntax.specs.Todo.{Marks}
 use Rattle.env_contract.specs.Env.{Env}
 use Rattle.label_code.specs.Machine.{Core, Machine, Opened, Event, closed, fetched, at, act, obey, step, steps, run_for, close_first, marks_of}
