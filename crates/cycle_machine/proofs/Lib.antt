@@ -1,0 +1,5 @@
+pub mod Close
+pub mod Advance
+pub mod Start
+pub mod Quiet
+pub mod Turns
