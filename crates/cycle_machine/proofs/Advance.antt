@@ -8,7 +8,7 @@ use Rattle.label_code.specs.declared.code.Work.{Work}
 use Rattle.label_code.specs.declared.code.Work.TheVariants.{Push, Load, Store, LoadAt, StoreAt, Apply, Brz, Brnz, Jmp, Sleep, Mitb, Mite, Nop, Halt}
 use Rattle.label_code.specs.declared.code.Instr.{Instr}
 use Rattle.mit_syntax.specs.Todo.{Marks}
-use Rattle.mit_syntax.specs.Values.{holds, at_least_zero}
+use Rattle.mit_syntax.specs.Values.{holds}
 use Rattle.env_contract.specs.Env.{Env}
 use Rattle.label_code.specs.Machine.{Core, Opened, Machine, Event, act, obey, step, at, first, rest, fetched, marks_of}
 use Rattle.cycle_machine.specs.declared.state.State.{State}
@@ -142,7 +142,7 @@ pub served_from : {E : Type 0} (serves : Order → E → Type 0) (c : Code) (i :
 served_from serves c i s h e =
     let has : HasDepths c h.depths.0 = h.depths.1 in
     let fine = has.each s.place i e in
-    (c.order, h.serves, fine.er, fine.ew)
+    (c.order, (h.served, (fine.er, fine.ew)))
 
 stands_next : {E : Type 0} (v : Env E) (serves : Order → E → Type 0) (c : Code) (i : Instr) (old new : State E) (es : List Event) → Stands serves c old → slice_get c.instrs old.place ≡ Some i →
     Keeps serves old new → after v i old ≡ with_log es (seen new) → Stands serves c new
@@ -162,7 +162,7 @@ stands_next v serves c i old new es h e k q =
       opened = omega (arith, h.opened, k.opened);
       memory = k.memory ∙ h.memory;
       labels = h.labels;
-      serves = k.serves c.order h.serves;
+      served = k.lattices c.order h.served;
     }
 
 step_is : {E : Type 0} (v : Env E) (c : Code) (i : Instr) (old : State E) → slice_get c.instrs old.place ≡ Some i → step v c.instrs (seen old) ≡ after v i old

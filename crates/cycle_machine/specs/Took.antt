@@ -35,7 +35,7 @@ pub record Keeps {E : Type 0} (serves : Order → E → Type 0) (old new : State
   pub operands : vec_capacity old.operands ≤ vec_capacity new.operands
   pub opened : vec_capacity old.opened ≤ vec_capacity new.opened
   pub memory : length new.memory.items ≡ length old.memory.items
-  pub serves : (order : Order) → serves order old.env → serves order new.env
+  pub lattices : (order : Order) → serves order old.env → serves order new.env
 
 -- the depths at the machine's place are its own
 pub record IsThere {E : Type 0} (ds : Depths) (size : ℕ) (m : Machine E) : Type 0 where
@@ -50,7 +50,7 @@ pub record Stands {E : Type 0} (serves : Order → E → Type 0) (c : Code) (s :
   pub opened : c.nesting ≤ vec_capacity s.opened
   pub memory : length s.memory.items ≡ c.variables
   pub labels : c.order.size ≤ 32
-  pub serves : serves c.order s.env
+  pub served : serves c.order s.env
 
 -- a state that the instruction fits
 pub record Fits {E : Type 0} (i : Instr) (s : State E) : Type 0 where

@@ -33,7 +33,7 @@ impl<'a, E: MachineEnv> Model for Machine<'a, E> {
     ghost invariant = { λ m. m.stopped ≡ None → Stands E.serves m.image.now m.state };
 }
 
-impl<'a, E: MachineEnv> Machine<'a, E> {
+impl<'a, E: MachineEnv + Drop> Machine<'a, E> {
     /// A machine at the start of an image, with a value for each variable and the state of the environment.
     /// Takes all memory of the run. Fails only for want of memory.
     pub fn load(

@@ -1,12 +1,12 @@
 use Rattle.cycle_machine.proofs.Advance.{fits_from, served_from, advance_is}
 use Rattle.cycle_machine.proofs.run.advance.Goals as goal
 
-pub obey-requires-fits : goal.obey-requires-fits
-obey-requires-fits g c =
+pub obey-requires-clause-fits : goal.obey-requires-clause-fits
+obey-requires-clause-fits g c =
     fits_from g.E.MachineEnv.serves c.args.image.now c.at-i.result c.args.state.now c.requires c.at-i.ensures c.lengths.ensures.operands c.lengths.ensures.opened c.lengths.ensures.memory
 
-pub obey-requires-served : goal.obey-requires-served
-obey-requires-served g c = served_from g.E.MachineEnv.serves c.args.image.now c.at-i.result c.args.state.now c.requires c.at-i.ensures
+pub obey-requires-clause-served : goal.obey-requires-clause-served
+obey-requires-clause-served g c = served_from g.E.MachineEnv.serves c.args.image.now c.at-i.result c.args.state.now c.requires c.at-i.ensures
 
 pub returns : goal.returns
 returns g c =
