@@ -142,7 +142,7 @@ pub served_from : {E : Type 0} (serves : Order → E → Type 0) (c : Code) (i :
 served_from serves c i s h e =
     let has : HasDepths c h.depths.0 = h.depths.1 in
     let fine = has.each s.place i e in
-    (c.order, (h.served, (fine.er, fine.ew)))
+    (c.order, (h.served, fine.er, fine.ew))
 
 stands_next : {E : Type 0} (v : Env E) (serves : Order → E → Type 0) (c : Code) (i : Instr) (old new : State E) (es : List Event) → Stands serves c old → slice_get c.instrs old.place ≡ Some i →
     Keeps serves old new → after v i old ≡ with_log es (seen new) → Stands serves c new

@@ -3,3 +3,4 @@ pub mod Advance
 pub mod Start
 pub mod Quiet
 pub mod Turns
+pub mod Elements

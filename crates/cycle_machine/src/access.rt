@@ -9,7 +9,7 @@ use env_contract::place::Kind;
 use label_lattice::label::Label;
 
 /// Fetches the instruction at a place, and answers the penalty. Instruction k lies at byte 4k.
-pub fn fetch<E: MachineEnv>(env: &mut E, place: u32, er: Label, ew: Label) -> u32
+pub fn fetch<E: MachineEnv>(env: &mut E, place: u32, er: Label, ew: Label) -> u64
     requires place { place < 200000 }
     requires served { IsServed E.serves env.old er ew }
     ensures cost { result ≡ E.cost_of Kind.Code (4 * place) er.number ew.number env.old }
@@ -18,11 +18,11 @@ pub fn fetch<E: MachineEnv>(env: &mut E, place: u32, er: Label, ew: Label) -> u3
     ensures serves { (order : Order) → E.serves order env.old → E.serves order env.new }
     ensures served { IsServed E.serves env.new er ew }
 {
-    env.access(Kind::Code, 4 * place, er, ew)
+    u64::from(env.access(Kind::Code, 4 * place, er, ew))
 }
 
 /// Accesses the datum of a variable, and answers the penalty. Variable i lies at byte 2^20 + 8i.
-pub fn touch<E: MachineEnv>(env: &mut E, variable: u32, er: Label, ew: Label) -> u32
+pub fn touch<E: MachineEnv>(env: &mut E, variable: u32, er: Label, ew: Label) -> u64
     requires few { variable < 4096 }
     requires served { IsServed E.serves env.old er ew }
     ensures cost { result ≡ E.cost_of Kind.Data (2 ^ 20 + 8 * variable) er.number ew.number env.old }
@@ -30,7 +30,7 @@ pub fn touch<E: MachineEnv>(env: &mut E, variable: u32, er: Label, ew: Label) ->
     ensures small { result ≤ 1000 }
     ensures serves { (order : Order) → E.serves order env.old → E.serves order env.new }
 {
-    env.access(Kind::Data, 1_048_576 + 8 * variable, er, ew)
+    u64::from(env.access(Kind::Data, 1_048_576 + 8 * variable, er, ew))
 }
 
 /// The clock after so many cycles more, if it is not above the limit.

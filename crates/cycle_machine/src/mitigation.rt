@@ -24,7 +24,7 @@ impl<E: MachineEnv> State<E> {
         let Some(estimate) = self.operands.pop() else {
             unreachable!()
         };
-        let Some(end) = pass(self.clock, 1 + u64::from(fetched), limit) else {
+        let Some(end) = pass(self.clock, 1 + fetched, limit) else {
             return Outcome::Late;
         };
         match self.opened.push(Open {
@@ -50,7 +50,7 @@ impl<E: MachineEnv> State<E> {
         ensures keeps { Keeps E.serves self.old self.new }
     {
         let fetched = fetch(&mut self.env, self.place, er, ew);
-        let Some(now) = pass(self.clock, 1 + u64::from(fetched), limit) else {
+        let Some(now) = pass(self.clock, 1 + fetched, limit) else {
             return Outcome::Late;
         };
         let Some(open) = self.opened.pop() else {
@@ -59,8 +59,8 @@ impl<E: MachineEnv> State<E> {
         let prediction = self
             .misses
             .settle(open.estimate, open.level, now.saturating_sub(open.since));
-        let end = u128::from(open.since) + prediction;
-        if end > u128::from(limit) {
+        let end = open.since as u128 + prediction;
+        if end > limit as u128 {
             return Outcome::Late;
         }
         self.clock = end as u64;

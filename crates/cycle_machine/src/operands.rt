@@ -22,7 +22,7 @@ impl<E: MachineEnv> State<E> {
         ensures keeps { Keeps E.serves self.old self.new }
     {
         let fetched = fetch(&mut self.env, self.place, er, ew);
-        let Some(end) = pass(self.clock, 1 + u64::from(fetched), limit) else {
+        let Some(end) = pass(self.clock, 1 + fetched, limit) else {
             return Outcome::Late;
         };
         match self.operands.push(n) {
@@ -46,7 +46,7 @@ impl<E: MachineEnv> State<E> {
     {
         let fetched = fetch(&mut self.env, self.place, er, ew);
         let touched = touch(&mut self.env, x, er, ew);
-        let Some(end) = pass(self.clock, 1 + u64::from(fetched) + u64::from(touched), limit) else {
+        let Some(end) = pass(self.clock, 1 + fetched + touched, limit) else {
             return Outcome::Late;
         };
         match self.operands.push(self.memory[x as usize]) {
@@ -73,7 +73,7 @@ impl<E: MachineEnv> State<E> {
             unreachable!()
         };
         let touched = touch(&mut self.env, x, er, ew);
-        let Some(end) = pass(self.clock, 1 + u64::from(fetched) + u64::from(touched), limit) else {
+        let Some(end) = pass(self.clock, 1 + fetched + touched, limit) else {
             return Outcome::Late;
         };
         self.memory[x as usize] = n;
@@ -100,7 +100,7 @@ impl<E: MachineEnv> State<E> {
         let x = element(first, length, index);
         let n = self.memory[x as usize];
         let touched = touch(&mut self.env, x, er, ew);
-        let Some(end) = pass(self.clock, 1 + u64::from(fetched) + u64::from(touched), limit) else {
+        let Some(end) = pass(self.clock, 1 + fetched + touched, limit) else {
             return Outcome::Late;
         };
         match self.operands.push(n) {
@@ -132,7 +132,7 @@ impl<E: MachineEnv> State<E> {
         };
         let x = element(first, length, index);
         let touched = touch(&mut self.env, x, er, ew);
-        let Some(end) = pass(self.clock, 1 + u64::from(fetched) + u64::from(touched), limit) else {
+        let Some(end) = pass(self.clock, 1 + fetched + touched, limit) else {
             return Outcome::Late;
         };
         self.memory[x as usize] = n;
@@ -157,7 +157,7 @@ impl<E: MachineEnv> State<E> {
             unreachable!()
         };
         let worked = op_cost(op, left, right);
-        let Some(end) = pass(self.clock, 1 + u64::from(fetched) + u64::from(worked), limit) else {
+        let Some(end) = pass(self.clock, 1 + fetched + u64::from(worked), limit) else {
             return Outcome::Late;
         };
         match self.operands.push(op.apply(left, right)) {

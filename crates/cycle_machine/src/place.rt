@@ -31,7 +31,7 @@ impl<E: MachineEnv> State<E> {
         let Some(n) = self.operands.pop() else {
             unreachable!()
         };
-        let Some(end) = pass(self.clock, 1 + u64::from(fetched), limit) else {
+        let Some(end) = pass(self.clock, 1 + fetched, limit) else {
             return Outcome::Late;
         };
         self.clock = end;
@@ -51,7 +51,7 @@ impl<E: MachineEnv> State<E> {
         let Some(n) = self.operands.pop() else {
             unreachable!()
         };
-        let Some(end) = pass(self.clock, 1 + u64::from(fetched), limit) else {
+        let Some(end) = pass(self.clock, 1 + fetched, limit) else {
             return Outcome::Late;
         };
         self.clock = end;
@@ -67,7 +67,7 @@ impl<E: MachineEnv> State<E> {
         ensures keeps { Keeps E.serves self.old self.new }
     {
         let fetched = fetch(&mut self.env, self.place, er, ew);
-        let Some(end) = pass(self.clock, 1 + u64::from(fetched), limit) else {
+        let Some(end) = pass(self.clock, 1 + fetched, limit) else {
             return Outcome::Late;
         };
         self.clock = end;
@@ -88,7 +88,7 @@ impl<E: MachineEnv> State<E> {
             unreachable!()
         };
         let slept = at_least_zero(n);
-        let Some(end) = pass(self.clock, 1 + u64::from(fetched) + slept, limit) else {
+        let Some(end) = pass(self.clock, 1 + fetched + slept, limit) else {
             return Outcome::Late;
         };
         self.clock = end;
@@ -104,7 +104,7 @@ impl<E: MachineEnv> State<E> {
         ensures keeps { Keeps E.serves self.old self.new }
     {
         let fetched = fetch(&mut self.env, self.place, er, ew);
-        let Some(end) = pass(self.clock, 1 + u64::from(fetched), limit) else {
+        let Some(end) = pass(self.clock, 1 + fetched, limit) else {
             return Outcome::Late;
         };
         self.clock = end;
@@ -120,7 +120,7 @@ impl<E: MachineEnv> State<E> {
         ensures keeps { Keeps E.serves self.old self.new }
     {
         let fetched = fetch(&mut self.env, self.place, er, ew);
-        let Some(end) = pass(self.clock, 1 + u64::from(fetched), limit) else {
+        let Some(end) = pass(self.clock, 1 + fetched, limit) else {
             return Outcome::Late;
         };
         self.clock = end;

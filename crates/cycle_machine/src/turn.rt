@@ -8,11 +8,21 @@ pub enum Turn {
         cycle: u64,
     },
     /// A mitigation began.
-    Began { mark: u32, cycle: u64 },
+    Began {
+        mark: u32,
+        cycle: u64,
+    },
     /// A mitigation ended.
-    Ended { mark: u32, cycle: u64 },
+    Ended {
+        mark: u32,
+        cycle: u64,
+    },
     /// HALT was done.
-    Halted { cycle: u64 },
+    Halted {
+        cycle: u64,
+    },
     /// The next step would end after the limit; the clock is that before it.
-    Limit { cycle: u64 },
+    Limit {
+        cycle: u64,
+    },
 }
