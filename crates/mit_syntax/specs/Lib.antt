@@ -1,3 +1,4 @@
+pub mod Expression
 pub mod Todo
 pub mod Values
 pub mod Plan

@@ -4,6 +4,7 @@ use Rattle.std.specs.Prelude.{◌≡◌, ℕ, ◌+◌, List, [], ◌∷◌, Opti
 use Rattle.label_lattice.specs.declared.label.Label.{Label}
 use Rattle.tim_base.specs.declared.pos.Pos.{Pos}
 use Rattle.mit_syntax.specs.declared.ast.Expr.{Expr}
+use Rattle.mit_syntax.specs.Expression.{expression_of}
 use Rattle.mit_syntax.specs.declared.ast.Command.{Command}
 use Rattle.mit_syntax.specs.declared.ast.Form.{Form, Row_of-Command, end_of-Command, more_of-Command, items-the_row-Command, items_hidden-the_row-Command-0, While as DWhile, If as DIf, Mitigate as DMitigate}
 use Rattle.mit_syntax.specs.declared.ast.Form.{Skip as FSkip, Assign as FAssign, Put as FPut, Sleep as FSleep, If' as FIf, While' as FWhile, Mitigate' as FMitigate}
@@ -23,12 +24,12 @@ Plan = Todo Written (Option Label)
 abbrev mutual
   pub form_plan : Form → Written → Plan → Plan
   form_plan FSkip w rest = Skip w rest
-  form_plan (FAssign x e) w rest = Assign w x e rest
-  form_plan (FPut a n i e) w rest = Put w a n i e rest
-  form_plan (FSleep e) w rest = Sleep w e rest
-  form_plan (FIf e s a s' b) w rest = If w e (row_plan a) (row_plan b) rest
-  form_plan (FWhile e s c) w rest = While w e (row_plan c) rest
-  form_plan (FMitigate k e l s c) w rest = Mitigate w k l e (row_plan c) rest
+  form_plan (FAssign x e) w rest = Assign w x (expression_of e) rest
+  form_plan (FPut a n i e) w rest = Put w a n (expression_of i) (expression_of e) rest
+  form_plan (FSleep e) w rest = Sleep w (expression_of e) rest
+  form_plan (FIf e s a s' b) w rest = If w (expression_of e) (row_plan a) (row_plan b) rest
+  form_plan (FWhile e s c) w rest = While w (expression_of e) (row_plan c) rest
+  form_plan (FMitigate k e l s c) w rest = Mitigate w k l (expression_of e) (row_plan c) rest
 
   pub row_plan : {n : _} → Row_of-Command n → Plan
   row_plan end_of-Command = Done
@@ -75,13 +76,13 @@ row_plan-list (more_of-Command p l f r) = ap (λ z. form_plan f (record { pos = 
 plan-Vec : (v : Vec Command Global) → row_plan (hidden-the_row-Command-0 v) ≡ list_plan v.items
 plan-Vec v = row_plan-list (hidden-the_row-Command-0 v) ∙ ap list_plan (items_hidden-the_row-Command-0 v)
 
-pub plan-If : (e : Expr) (v u : Vec Command Global) (w : Written) (rest : Plan) → form_plan (DIf e v u) w rest ≡ If w e (list_plan v.items) (list_plan u.items) rest
+pub plan-If : (e : Expr) (v u : Vec Command Global) (w : Written) (rest : Plan) → form_plan (DIf e v u) w rest ≡ If w (expression_of e) (list_plan v.items) (list_plan u.items) rest
 plan-If e v u w rest =
-    ap (λ z. If w e z (row_plan (hidden-the_row-Command-0 u)) rest) (plan-Vec v)
-    ∙ ap (λ z. If w e (list_plan v.items) z rest) (plan-Vec u)
+    ap (λ z. If w (expression_of e) z (row_plan (hidden-the_row-Command-0 u)) rest) (plan-Vec v)
+    ∙ ap (λ z. If w (expression_of e) (list_plan v.items) z rest) (plan-Vec u)
 
-pub plan-While : (e : Expr) (v : Vec Command Global) (w : Written) (rest : Plan) → form_plan (DWhile e v) w rest ≡ While w e (list_plan v.items) rest
-plan-While e v w rest = ap (λ z. While w e z rest) (plan-Vec v)
+pub plan-While : (e : Expr) (v : Vec Command Global) (w : Written) (rest : Plan) → form_plan (DWhile e v) w rest ≡ While w (expression_of e) (list_plan v.items) rest
+plan-While e v w rest = ap (λ z. While w (expression_of e) z rest) (plan-Vec v)
 
-pub plan-Mitigate : (k : ℕ) (e : Expr) (l : Option Label) (v : Vec Command Global) (w : Written) (rest : Plan) → form_plan (DMitigate k e l v) w rest ≡ Mitigate w k l e (list_plan v.items) rest
-plan-Mitigate k e l v w rest = ap (λ z. Mitigate w k l e z rest) (plan-Vec v)
+pub plan-Mitigate : (k : ℕ) (e : Expr) (l : Option Label) (v : Vec Command Global) (w : Written) (rest : Plan) → form_plan (DMitigate k e l v) w rest ≡ Mitigate w k l (expression_of e) (list_plan v.items) rest
+plan-Mitigate k e l v w rest = ap (λ z. Mitigate w k l (expression_of e) z rest) (plan-Vec v)

@@ -1,19 +1,19 @@
 -- Commands still to do. Each form carries the rest of its list, so that a program is one inductive value.
 use Rattle.std.specs.Prelude.{ℕ}
-use Rattle.mit_syntax.specs.declared.ast.Expr.{Expr}
+use Rattle.mit_syntax.specs.Expression.{Expression}
 
 -- Each command has marks of a type M, and each mitigate a level of a type L: what a program writes, or
 -- what a labelling gives. A mitigate also has its mark, a number.
 pub data Todo (M L : Type 0) : Type 0 where
   Done : Todo M L
   Skip : M → Todo M L → Todo M L
-  Assign : M → ℕ → Expr → Todo M L → Todo M L
+  Assign : M → ℕ → Expression → Todo M L → Todo M L
   -- an element: the first element of its array, the length, the index, the value
-  Put : M → ℕ → ℕ → Expr → Expr → Todo M L → Todo M L
-  Sleep : M → Expr → Todo M L → Todo M L
-  If : M → Expr → Todo M L → Todo M L → Todo M L → Todo M L
-  While : M → Expr → Todo M L → Todo M L → Todo M L
-  Mitigate : M → ℕ → L → Expr → Todo M L → Todo M L → Todo M L
+  Put : M → ℕ → ℕ → Expression → Expression → Todo M L → Todo M L
+  Sleep : M → Expression → Todo M L → Todo M L
+  If : M → Expression → Todo M L → Todo M L → Todo M L → Todo M L
+  While : M → Expression → Todo M L → Todo M L → Todo M L
+  Mitigate : M → ℕ → L → Expression → Todo M L → Todo M L → Todo M L
 
 -- one list after another
 abbrev pub then_todo : {M L : Type 0} → Todo M L → Todo M L → Todo M L

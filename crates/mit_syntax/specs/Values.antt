@@ -4,8 +4,8 @@ use Rattle.std.specs.Int.{int_wrapping_add, int_wrapping_sub, int_wrapping_mul, 
 use Rattle.std.specs.Ordering.{int_eq}
 use Rattle.mit_syntax.specs.declared.ast.Op.{Op}
 use Rattle.mit_syntax.specs.declared.ast.Op.TheVariants.{Add, Sub, Mul, Div, Rem, Eq, Ne, Lt, Le, Gt, Ge}
-use Rattle.mit_syntax.specs.declared.ast.Expr.{Expr}
-use Rattle.mit_syntax.specs.declared.ast.Expr.TheVariants.{Number, Variable, Binary', Element'}
+use Rattle.mit_syntax.specs.Expression.{Expression}
+use Rattle.mit_syntax.specs.Expression.{Number, Variable, Binary, Element}
 
 -- a guard holds if its value is not 0
 abbrev pub holds : ℤ → Bool
@@ -47,8 +47,8 @@ abbrev pub element : ℕ → ℕ → ℤ → ℕ
 element f n z = f + place_of n z
 
 -- the value of an expression in a memory, which has a value for each variable, elements included
-abbrev pub value_of : Expr → List ℤ → ℤ
+abbrev pub value_of : Expression → List ℤ → ℤ
 value_of (Number n) m = n
 value_of (Variable x) m = read m x
-value_of (Binary' o p l q r) m = apply o (value_of l m) (value_of r m)
-value_of (Element' f n p i) m = read m (element f n (value_of i m))
+value_of (Binary o l r) m = apply o (value_of l m) (value_of r m)
+value_of (Element f n i) m = read m (element f n (value_of i m))

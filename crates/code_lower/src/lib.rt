@@ -1,0 +1,2 @@
+//! From typed programs to images.
+#![tactic(auto)]

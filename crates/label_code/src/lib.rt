@@ -1,0 +1,4 @@
+//! The machine's instructions and images.
+#![tactic(auto)]
+
+pub mod code;

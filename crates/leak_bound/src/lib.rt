@@ -1,0 +1,2 @@
+//! The theorem on what timed observations can tell.
+#![tactic(auto)]

@@ -1,0 +1,2 @@
+//! The untimed meaning of programs: one step after another.
+#![tactic(auto)]
