@@ -1,6 +1,7 @@
 -- A lattice as contracts see it: its labels' names, and tables of what flows and of joins.
-use Rattle.std.specs.Prelude.{ℕ, ◌+◌, ◌*◌, Bool, false, List, slice_index_or}
-use Rattle.label_lattice.specs.Lattice.{Lattice, over_all}
+use Rattle.std.specs.Prelude.{◌≡◌, ℕ, ◌+◌, ◌*◌, ◌<◌, ◌≤◌, Bool, false, cond, zero, suc, List, [], AllPairs, length, slice_index_or}
+use Rattle.label_lattice.specs.declared.label.TheConstants.{MAX_LABELS}
+use Rattle.label_lattice.specs.Lattice.{Lattice, IsTable, over_all}
 
 -- how many labels there are, their names' bytes, and for each pair of labels whether the first flows to the
 -- second and what their join is, in rows of 32
@@ -14,3 +15,24 @@ pub record Order : Type 0 where
 -- the lattice over all numbers that the tables give
 abbrev pub lattice_of : Order → Lattice
 lattice_of o = over_all o.size (λ a b. slice_index_or o.flows (a * 32 + b) false) (λ a b. slice_index_or o.joins (a * 32 + b) 0) o.bottom
+
+-- the name of a label
+abbrev pub name_of : Order → ℕ → List ℕ
+name_of o a = slice_index_or o.names a []
+
+-- no text is there twice
+abbrev pub AllDiffer : List (List ℕ) → Type 0
+AllDiffer names = AllPairs (λ a b. a ≡ b → ⊥) names
+
+-- what is true of every lattice
+pub record IsOrder (o : Order) : Type 0 where
+  pub some : 0 < o.size
+  pub within : o.size ≤ MAX_LABELS
+  pub named : length o.names ≡ o.size
+  pub differ : AllDiffer o.names
+  pub table : IsTable o.size (λ a b. slice_index_or o.flows (a * 32 + b) false) (λ a b. slice_index_or o.joins (a * 32 + b) 0) o.bottom
+
+-- how many of the labels below n do not flow to a label
+abbrev pub count_not_below : Lattice → ℕ → ℕ → ℕ
+count_not_below lat a zero = 0
+count_not_below lat a (suc n) = count_not_below lat a n + cond (lat.flows n a) 0 1

@@ -1,0 +1,7 @@
+use Rattle.std.proofs.Common.{◌≡◌, ℕ, ◌<◌, ◌≤◌, false, get_or, take}
+use Rattle.label_lattice.specs.Chains.{IsLowest, IsJoin}
+use Rattle.label_lattice.specs.Tables.{IsSet, IsClosure, IsRefused, on_diagonal, extended}
+use Rattle.label_lattice.proofs.checks.first_pair.Given as goal
+
+abbrev pub invariant-loop-a : goal.invariant-loop-a
+invariant-loop-a l = (k m : ℕ) → k < l.a → k < m → m < l.size → IsRefused l.check l.size (IsSet l.flows) k m → ⊥
