@@ -5,3 +5,6 @@ pub mod env;
 pub mod flat;
 pub mod make;
 pub mod place;
+
+#[cfg(test)]
+mod tests;

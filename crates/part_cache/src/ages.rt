@@ -1,6 +1,7 @@
 ghost use Rattle.std.specs.Prelude.{◌≡◌, ◌<◌, ◌≤◌, ℕ, List, map, length};
 ghost use Rattle.std.specs.List.{zip};
-ghost use Rattle.part_cache.specs.Ages.{latest, settled, largest, rank_in, AgesApart, TagsApart};
+ghost use Rattle.part_cache.specs.Ages.{settled};
+ghost use Rattle.part_cache.specs.Slots.{latest, largest, rank_in, AgesApart, TagsApart};
 
 /// The greatest age.
 #[tactic(auto, using(crate::proofs::Renumber::largest_more))]

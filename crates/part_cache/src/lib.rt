@@ -5,3 +5,6 @@ mod ages;
 pub mod cache;
 mod compare;
 mod ways;
+
+#[cfg(test)]
+mod tests;
