@@ -187,7 +187,7 @@ impl Token {
 
 /// The tokens of a text of at most 2^31 - 1 bytes, in order. The last one is `End`, and no other is.
 ///
-/// `answer` says what comes; `only`: a text with a fault has no tokens, and there is one list at most.
+/// A text has one list of tokens at most, and none where it has a fault.
 ///
 /// Errors: `NotUtf8` exactly where the text is not UTF-8, whatever else is wrong with it. Else the first
 /// fault in the text: `BadByte`, `WideNumber` or `LongName`. `Memory` may come for any text.
