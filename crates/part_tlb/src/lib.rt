@@ -5,3 +5,5 @@
 mod lookup;
 pub mod part;
 pub mod part2;
+#[cfg(test)]
+mod tests;
