@@ -11,6 +11,7 @@ use std::alloc::Global;
 use tim_base::pos::Memory;
 
 const LOW: Label = Label { number: 0 };
+
 const HIGH: Label = Label { number: 1 };
 
 // The labels L and H, of which the first flows to the second.
@@ -19,7 +20,11 @@ fn low_high() -> Option<Lattice>
 {
     let names = [Name::read(b"L")?, Name::read(b"H")?];
     let lattice = Lattice::build(&names, &[(LOW, HIGH)]).ok()?;
-    if lattice.size() == 2 { Some(lattice) } else { None }
+    if lattice.size() == 2 {
+        Some(lattice)
+    } else {
+        None
+    }
 }
 
 fn make<E: MachineEnv, M: MakeEnv<E>>(

@@ -1,3 +1,5 @@
+//! The ages of one set: its clock, and how they are numbered anew at the end of their range.
+
 ghost use Rattle.std.specs.Prelude.{◌≡◌, ◌<◌, ◌≤◌, ℕ, List, map, length};
 ghost use Rattle.std.specs.List.{zip};
 ghost use Rattle.part_cache.specs.Ages.{settled};

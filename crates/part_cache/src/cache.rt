@@ -1,3 +1,5 @@
+//! The partitioned cache.
+
 ghost use Rattle.std.specs.Prelude.{◌≡◌, ◌+◌, ◌%◌, ◌<◌, ◌≤◌, ℕ, [], ◌∷◌, ◌++◌, List, length, false, IfOk, IsTrue, ◌↔◌};
 ghost use Rattle.std.specs.List.{zip};
 ghost use Rattle.part_cache.specs.Ages.{clock, settled};
@@ -94,8 +96,8 @@ impl PartCache {
         touch_at(&mut self.tags, &mut self.ages, row, ways, tag);
     }
 
-    /// The age of the tag in the partition of the label, 0 exactly where it is not held there. Of two
-    /// tags of a set the later touched has the greater age. Takes no memory.
+    /// The age of the tag in the partition of the label, 0 exactly where it is not held there. Takes no
+    /// memory.
     pub fn age(&self, tag: u32, label: Label) -> u16
         requires { label.number < self.now.order.size }
         ensures age { result ≡ age_of self.now tag label.number }

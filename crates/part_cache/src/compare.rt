@@ -1,6 +1,7 @@
-ghost use Rattle.std.specs.Prelude.{◌≡◌, ◌+◌, ◌*◌, ◌^◌, ◌<◌, ◌≤◌, ℕ, length, slice_index, MatchOption, IsTrue, ◌↔◌};
+//! Whether two sets hold the same tags in the same order.
+
+ghost use Rattle.std.specs.Prelude.{◌≡◌, ◌<◌, ◌≤◌, ℕ, length, slice_index, MatchOption, IsTrue, ◌↔◌};
 ghost use Rattle.std.specs.List.{zip};
-ghost use Rattle.part_cache.specs.Slots.{part};
 ghost use Rattle.part_cache.specs.Ages.{tags_of};
 ghost use Rattle.part_cache.specs.Slots.{latest, AgesApart};
 

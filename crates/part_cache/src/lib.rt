@@ -4,7 +4,6 @@
 mod ages;
 pub mod cache;
 mod compare;
-mod ways;
-
 #[cfg(test)]
 mod tests;
+mod ways;

@@ -6,6 +6,7 @@ use label_lattice::lattice::Lattice;
 use label_lattice::name::Name;
 
 const LOW: Label = Label { number: 0 };
+
 const HIGH: Label = Label { number: 1 };
 
 // The labels L and H, of which the first flows to the second.
@@ -14,7 +15,11 @@ fn low_high() -> Option<Lattice>
 {
     let names = [Name::read(b"L")?, Name::read(b"H")?];
     let lattice = Lattice::build(&names, &[(LOW, HIGH)]).ok()?;
-    if lattice.size() == 2 { Some(lattice) } else { None }
+    if lattice.size() == 2 {
+        Some(lattice)
+    } else {
+        None
+    }
 }
 
 // Touches the tags 1 and 2 in turn, tag 1 first.

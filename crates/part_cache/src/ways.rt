@@ -1,8 +1,9 @@
+//! The ways of one set: a row of tags and a row of ages, of which 0 marks an empty way.
+
 ghost use Rattle.std.specs.Prelude.{◌≡◌, ◌+◌, ◌*◌, ◌^◌, eqb, ◌<◌, ◌≤◌, ℕ, length, slice_index, MatchOption, false, ◌↔◌};
 ghost use Rattle.std.specs.List.{zip, list_any};
-ghost use Rattle.part_cache.specs.Slots.{part};
 ghost use Rattle.part_cache.specs.Ages.{touch_row, tags_of, age_among};
-ghost use Rattle.part_cache.specs.Slots.{latest, AgesApart, TagsApart, Picked};
+ghost use Rattle.part_cache.specs.Slots.{part, latest, AgesApart, TagsApart, Picked};
 
 use crate::ages::{clock, settle};
 

@@ -1,3 +1,5 @@
+//! Look-ups, what they cost, and the tags of addresses.
+
 ghost use Rattle.std.specs.Prelude.{◌≡◌, ◌+◌, ◌<◌, cond};
 ghost use Rattle.part_cache.specs.Rows.{found, touched};
 ghost use Rattle.part_tlb.specs.Histories.{tag_at, line_cost};

@@ -1,3 +1,5 @@
+//! The environment with one level of caches.
+
 ghost use Rattle.std.specs.Prelude.{◌≡◌, ◌+◌, ◌/◌, ◌<◌, ◌≤◌, ◌↔◌, cond, List, [], IfOk, IsTrue};
 ghost use Rattle.std.specs.List.{All};
 ghost use Rattle.label_lattice.specs.Order.{Order};
