@@ -21,8 +21,12 @@ pub struct Labelled {
 
 impl Model for Labelled {
     ghost use Rattle.timing_types.specs.Labelled.{LabelledProgram};
+    ghost use Rattle.mit_syntax.specs.contracts.ast.Command as command;
+    ghost use Rattle.std.specs.Coded.{codes};
 
     ghost Value = { LabelledProgram };
+
+    ghost coded = { Prim.hlevel (codes, command.the_row.coded) };
 
     ghost use Rattle.timing_types.specs.Kept.{labelled_of, IsLabelled};
 

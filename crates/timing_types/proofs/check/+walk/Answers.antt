@@ -98,10 +98,10 @@ command_walk-returns-in_ok-other-in-If-clause-passes t c =
     λ rest.
       let q = if_parts c.args.c.now.form c.in-If.guard c.in-If.then_part c.in-If.else_part c.deref.result.now c.deref-in-If.result.now c.in-If.is c.deref.ensures.value c.deref-in-If.ensures.value w rest in
       if_passes lat (variable_of o p) (marks_of o p) (level_of o p) w (expression_of c.in-If.guard) i pc c.args.t.number c.label-le.result.number c.command-own.result.0.number c.label-le.ensures c.command-own.ensures.er
-        c.index_label-in-If.result.number c.command-own.result.1.number c.join-in-If.result.number c.index_label-in-If.ensures c.command-own.ensures.ew c.join-in-If.ensures c.in_ok-test-in-If.ensures.holds
+        c.index_label-in-If.result.number c.command-own.result.1.number c.join-in-If.result.number c.index_label-in-If.ensures c.command-own.ensures.ew c.join-in-If.ensures.value c.in_ok-test-in-If.ensures.holds
         (command_plan c.args.c.now rest) (list_plan c.deref.result.now) (list_plan c.deref-in-If.result.now) rest c.in_ok-one-in-If.one.0 c.join-inner.result.number c.join3-start.result.number
-        q c.join-inner.ensures c.join3-start.ensures c.in_ok-other-in-If.other.0 c.in_ok-one-in-If.one.1.number c.in_ok-other-in-If.other.1.number c.join-in-If-2.result.number
-        c.in_ok-one-in-If.ensures.number c.in_ok-other-in-If.ensures.number c.in_ok-one-in-If.ensures.passes c.in_ok-other-in-If.ensures.passes c.join-in-If-2.ensures
+        q c.join-inner.ensures.value c.join3-start.ensures c.in_ok-other-in-If.other.0 c.in_ok-one-in-If.one.1.number c.in_ok-other-in-If.other.1.number c.join-in-If-2.result.number
+        c.in_ok-one-in-If.ensures.number c.in_ok-other-in-If.ensures.number c.in_ok-one-in-If.ensures.passes c.in_ok-other-in-If.ensures.passes c.join-in-If-2.ensures.value
 
 pub command_walk-returns-in_err-one-in-If-clause-refused : goal.command_walk-returns-in_err-one-in-If-clause-refused
 command_walk-returns-in_err-one-in-If-clause-refused t c =
@@ -115,9 +115,9 @@ command_walk-returns-in_err-one-in-If-clause-refused t c =
     rw (b.1, b.2) (λ rest.
       let q = if_parts c.args.c.now.form c.in-If.guard c.in-If.then_part c.in-If.else_part c.deref.result.now c.in-If.else_part.items c.in-If.is c.deref.ensures.value refl w rest in
       if_broken_one lat (variable_of o p) (marks_of o p) (level_of o p) w (expression_of c.in-If.guard) i pc c.args.t.number c.label-le.result.number c.command-own.result.0.number c.label-le.ensures c.command-own.ensures.er
-        c.index_label-in-If.result.number c.command-own.result.1.number c.join-in-If.result.number c.index_label-in-If.ensures c.command-own.ensures.ew c.join-in-If.ensures c.in_ok-test-in-If.ensures.holds
+        c.index_label-in-If.result.number c.command-own.result.1.number c.join-in-If.result.number c.index_label-in-If.ensures c.command-own.ensures.ew c.join-in-If.ensures.value c.in_ok-test-in-If.ensures.holds
         (command_plan c.args.c.now rest) (list_plan c.deref.result.now) (list_plan c.in-If.else_part.items) rest 0 c.join-inner.result.number c.join3-start.result.number
-        q c.join-inner.ensures c.join3-start.ensures c.in_err-one-in-If.field-0.0 c.in_err-one-in-If.ensures.refused)
+        q c.join-inner.ensures.value c.join3-start.ensures c.in_err-one-in-If.field-0.0 c.in_err-one-in-If.ensures.refused)
 
 pub command_walk-returns-in_err-other-in-If-clause-refused : goal.command_walk-returns-in_err-other-in-If-clause-refused
 command_walk-returns-in_err-other-in-If-clause-refused t c =
@@ -131,9 +131,9 @@ command_walk-returns-in_err-other-in-If-clause-refused t c =
     rw (b.1, b.2) (λ rest.
       let q = if_parts c.args.c.now.form c.in-If.guard c.in-If.then_part c.in-If.else_part c.deref.result.now c.deref-in-If.result.now c.in-If.is c.deref.ensures.value c.deref-in-If.ensures.value w rest in
       if_broken_other lat (variable_of o p) (marks_of o p) (level_of o p) w (expression_of c.in-If.guard) i pc c.args.t.number c.label-le.result.number c.command-own.result.0.number c.label-le.ensures c.command-own.ensures.er
-        c.index_label-in-If.result.number c.command-own.result.1.number c.join-in-If.result.number c.index_label-in-If.ensures c.command-own.ensures.ew c.join-in-If.ensures c.in_ok-test-in-If.ensures.holds
+        c.index_label-in-If.result.number c.command-own.result.1.number c.join-in-If.result.number c.index_label-in-If.ensures c.command-own.ensures.ew c.join-in-If.ensures.value c.in_ok-test-in-If.ensures.holds
         (command_plan c.args.c.now rest) (list_plan c.deref.result.now) (list_plan c.deref-in-If.result.now) rest c.in_ok-one-in-If.one.0 c.join-inner.result.number c.join3-start.result.number
-        q c.join-inner.ensures c.join3-start.ensures c.in_ok-one-in-If.one.1.number c.in_err-other-in-If.field-0.0 c.in_ok-one-in-If.ensures.number c.in_ok-one-in-If.ensures.passes c.in_err-other-in-If.ensures.refused)
+        q c.join-inner.ensures.value c.join3-start.ensures c.in_ok-one-in-If.one.1.number c.in_err-other-in-If.field-0.0 c.in_ok-one-in-If.ensures.number c.in_ok-one-in-If.ensures.passes c.in_err-other-in-If.ensures.refused)
 
 pub command_walk-returns-in_ok-part-in-While-clause-passes : goal.command_walk-returns-in_ok-part-in-While-clause-passes
 command_walk-returns-in_ok-part-in-While-clause-passes t c =
@@ -150,8 +150,8 @@ command_walk-returns-in_ok-part-in-While-clause-passes t c =
     λ rest.
       let q = while_parts c.args.c.now.form c.in-While.guard c.in-While.body c.deref-in-While-2.result.now c.in-While.is c.deref-in-While-2.ensures.value w rest in
       while_passes lat (variable_of o p) (marks_of o p) (level_of o p) w (expression_of c.in-While.guard) i pc c.args.t.number c.label-le-in-While.result.number c.command-own.result.0.number c.label-le-in-While.ensures c.command-own.ensures.er
-        c.index_label-in-While.result.number c.command-own.result.1.number c.join-in-While.result.number c.index_label-in-While.ensures c.command-own.ensures.ew c.join-in-While.ensures c.in_ok-test-in-While.ensures.holds
-        (command_plan c.args.c.now rest) (list_plan c.deref-in-While-2.result.now) rest inner start c.list_end.result.1.number q c.join-inner-in-While.ensures c.join3-start-in-While.ensures stays
+        c.index_label-in-While.result.number c.command-own.result.1.number c.join-in-While.result.number c.index_label-in-While.ensures c.command-own.ensures.ew c.join-in-While.ensures.value c.in_ok-test-in-While.ensures.holds
+        (command_plan c.args.c.now rest) (list_plan c.deref-in-While-2.result.now) rest inner start c.list_end.result.1.number q c.join-inner-in-While.ensures.value c.join3-start-in-While.ensures stays
         c.in_ok-part-in-While.part.0 c.in_ok-part-in-While.part.1.number c.in_ok-part-in-While.ensures.number c.in_ok-part-in-While.ensures.passes
 
 pub command_walk-returns-in_err-part-in-While-clause-refused : goal.command_walk-returns-in_err-part-in-While-clause-refused
@@ -170,8 +170,8 @@ command_walk-returns-in_err-part-in-While-clause-refused t c =
     rw (b.1, b.2) (λ rest.
       let q = while_parts c.args.c.now.form c.in-While.guard c.in-While.body c.deref-in-While-2.result.now c.in-While.is c.deref-in-While-2.ensures.value w rest in
       while_broken lat (variable_of o p) (marks_of o p) (level_of o p) w (expression_of c.in-While.guard) i pc c.args.t.number c.label-le-in-While.result.number c.command-own.result.0.number c.label-le-in-While.ensures c.command-own.ensures.er
-        c.index_label-in-While.result.number c.command-own.result.1.number c.join-in-While.result.number c.index_label-in-While.ensures c.command-own.ensures.ew c.join-in-While.ensures c.in_ok-test-in-While.ensures.holds
-        (command_plan c.args.c.now rest) (list_plan c.deref-in-While-2.result.now) rest inner start c.list_end.result.1.number q c.join-inner-in-While.ensures c.join3-start-in-While.ensures stays
+        c.index_label-in-While.result.number c.command-own.result.1.number c.join-in-While.result.number c.index_label-in-While.ensures c.command-own.ensures.ew c.join-in-While.ensures.value c.in_ok-test-in-While.ensures.holds
+        (command_plan c.args.c.now rest) (list_plan c.deref-in-While-2.result.now) rest inner start c.list_end.result.1.number q c.join-inner-in-While.ensures.value c.join3-start-in-While.ensures stays
         c.in_err-part-in-While.field-0.0 c.in_err-part-in-While.ensures.refused)
 
 pub command_walk-returns-in_ok-test-in-Mitigate-2-clause-passes : goal.command_walk-returns-in_ok-test-in-Mitigate-2-clause-passes
@@ -185,7 +185,7 @@ command_walk-returns-in_ok-test-in-Mitigate-2-clause-passes t c =
     λ rest.
       let q = mitigate_parts c.args.c.now.form c.in-Mitigate.mark c.in-Mitigate.estimate c.in-Mitigate.level c.in-Mitigate.body c.deref-in-Mitigate.result.now c.in-Mitigate.is c.deref-in-Mitigate.ensures.value w rest in
       mitigate_passes lat (variable_of o p) (marks_of o p) (level_of o p) w (expression_of c.in-Mitigate.estimate) i pc c.args.t.number c.label-in-Mitigate.result.number c.command-own.result.0.number c.label-in-Mitigate.ensures c.command-own.ensures.er
-        c.index_label-in-Mitigate.result.number c.command-own.result.1.number c.join-in-Mitigate.result.number c.index_label-in-Mitigate.ensures c.command-own.ensures.ew c.join-in-Mitigate.ensures c.in_ok-test-in-Mitigate.ensures.holds
+        c.index_label-in-Mitigate.result.number c.command-own.result.1.number c.join-in-Mitigate.result.number c.index_label-in-Mitigate.ensures c.command-own.ensures.ew c.join-in-Mitigate.ensures.value c.in_ok-test-in-Mitigate.ensures.holds
         (command_plan c.args.c.now rest) (list_plan c.deref-in-Mitigate.result.now) rest c.in-Mitigate.mark c.in-Mitigate.level c.join3-start-in-Mitigate.result.number q c.join3-start-in-Mitigate.ensures
         c.in_ok-part-in-Mitigate.part.0 c.in_ok-part-in-Mitigate.part.1.number c.level.result.number c.in_ok-part-in-Mitigate.ensures.number c.in_ok-part-in-Mitigate.ensures.passes c.level.ensures c.in_ok-test-in-Mitigate-2.ensures.holds
 
@@ -201,7 +201,7 @@ command_walk-returns-in_err-part-in-Mitigate-clause-refused t c =
     rw (b.1, b.2) (λ rest.
       let q = mitigate_parts c.args.c.now.form c.in-Mitigate.mark c.in-Mitigate.estimate c.in-Mitigate.level c.in-Mitigate.body c.deref-in-Mitigate.result.now c.in-Mitigate.is c.deref-in-Mitigate.ensures.value w rest in
       mitigate_broken lat (variable_of o p) (marks_of o p) (level_of o p) w (expression_of c.in-Mitigate.estimate) i pc c.args.t.number c.label-in-Mitigate.result.number c.command-own.result.0.number c.label-in-Mitigate.ensures c.command-own.ensures.er
-        c.index_label-in-Mitigate.result.number c.command-own.result.1.number c.join-in-Mitigate.result.number c.index_label-in-Mitigate.ensures c.command-own.ensures.ew c.join-in-Mitigate.ensures c.in_ok-test-in-Mitigate.ensures.holds
+        c.index_label-in-Mitigate.result.number c.command-own.result.1.number c.join-in-Mitigate.result.number c.index_label-in-Mitigate.ensures c.command-own.ensures.ew c.join-in-Mitigate.ensures.value c.in_ok-test-in-Mitigate.ensures.holds
         (command_plan c.args.c.now rest) (list_plan c.deref-in-Mitigate.result.now) rest c.in-Mitigate.mark c.in-Mitigate.level c.join3-start-in-Mitigate.result.number q c.join3-start-in-Mitigate.ensures
         c.in_err-part-in-Mitigate.field-0.0 c.in_err-part-in-Mitigate.ensures.refused)
 
@@ -217,7 +217,7 @@ command_walk-returns-in_err-test-in-Mitigate-2-clause-refused t c =
     rw (b.1, b.2) (λ rest.
       let q = mitigate_parts c.args.c.now.form c.in-Mitigate.mark c.in-Mitigate.estimate c.in-Mitigate.level c.in-Mitigate.body c.deref-in-Mitigate.result.now c.in-Mitigate.is c.deref-in-Mitigate.ensures.value w rest in
       mitigate_high lat (variable_of o p) (marks_of o p) (level_of o p) w (expression_of c.in-Mitigate.estimate) i pc c.args.t.number c.label-in-Mitigate.result.number c.command-own.result.0.number c.label-in-Mitigate.ensures c.command-own.ensures.er
-        c.index_label-in-Mitigate.result.number c.command-own.result.1.number c.join-in-Mitigate.result.number c.index_label-in-Mitigate.ensures c.command-own.ensures.ew c.join-in-Mitigate.ensures c.in_ok-test-in-Mitigate.ensures.holds
+        c.index_label-in-Mitigate.result.number c.command-own.result.1.number c.join-in-Mitigate.result.number c.index_label-in-Mitigate.ensures c.command-own.ensures.ew c.join-in-Mitigate.ensures.value c.in_ok-test-in-Mitigate.ensures.holds
         (command_plan c.args.c.now rest) (list_plan c.deref-in-Mitigate.result.now) rest c.in-Mitigate.mark c.in-Mitigate.level c.join3-start-in-Mitigate.result.number q c.join3-start-in-Mitigate.ensures
         c.in_ok-part-in-Mitigate.part.1.number c.level.result.number c.in_err-test-in-Mitigate-2.field-0.0 c.in_ok-part-in-Mitigate.ensures.passes c.level.ensures
         c.in_err-test-in-Mitigate-2.ensures.broken.1 c.in_err-test-in-Mitigate-2.ensures.broken.0)

@@ -87,7 +87,7 @@ command_end-returns-in-If-clause-end t c =
       if_ends lat (variable_of o p) (marks_of o p) (level_of o p) w (expression_of c.in-If.guard) c.args.number c.args.pc.number c.args.t.number c.label-le.result.number c.command-own.result.0.number
         c.label-le.ensures c.command-own.ensures.er (command_plan c.args.c.now rest) (list_plan c.deref.result.now) (list_plan c.deref-in-If.result.now) rest
         c.list_end-one.result.0 c.list_end-other.result.0 c.join-inner.result.number c.join3-start.result.number c.list_end-one.result.1.number c.list_end-other.result.1.number c.join-in-If.result.number
-        q c.join-inner.ensures c.join3-start.ensures c.list_end-one.ensures.number c.list_end-other.ensures.number c.list_end-one.ensures.end c.list_end-other.ensures.end c.join-in-If.ensures
+        q c.join-inner.ensures.value c.join3-start.ensures c.list_end-one.ensures.number c.list_end-other.ensures.number c.list_end-one.ensures.end c.list_end-other.ensures.end c.join-in-If.ensures.value
 
 pub command_end-returns-in-While-clause-end : goal.command_end-returns-in-While-clause-end
 command_end-returns-in-While-clause-end t c =
@@ -100,7 +100,7 @@ command_end-returns-in-While-clause-end t c =
       while_ends lat (variable_of o p) (marks_of o p) (level_of o p) w (expression_of c.in-While.guard) c.args.number c.args.pc.number c.args.t.number c.label-le-in-While.result.number c.command-own.result.0.number
         c.label-le-in-While.ensures c.command-own.ensures.er (command_plan c.args.c.now rest) (list_plan c.deref-in-While.result.now) rest
         c.list_end.result.0 c.join-in-While.result.number c.join3-start-in-While.result.number c.list_end.result.1.number
-        q c.join-in-While.ensures c.join3-start-in-While.ensures c.list_end.ensures.number c.list_end.ensures.end
+        q c.join-in-While.ensures.value c.join3-start-in-While.ensures c.list_end.ensures.number c.list_end.ensures.end
 
 pub command_end-returns-in-Mitigate-clause-end : goal.command_end-returns-in-Mitigate-clause-end
 command_end-returns-in-Mitigate-clause-end t c =
