@@ -1,6 +1,6 @@
 -- Each array of a program has one label.
-use Rattle.std.proofs.Common.{◌≡◌, ℕ, suc, zero, ◌+◌, ◌<◌, ◌≤◌, refl, sym, ap, ◌∙◌, subst, List, [], ◌∷◌, ◌++◌, length, get_or, arith, Option, None, Some, length-append}
-use Rattle.std.specs.Prelude.{Bool, true, false, cond, option_map, slice_index_or}
+use Rattle.std.proofs.Common.{◌≡◌, ℕ, suc, zero, ◌+◌, ◌<◌, refl, sym, ap, ◌∙◌, subst, List, [], ◌∷◌, ◌++◌, length, get_or, arith, Option, None, Some, length-append}
+use Rattle.std.specs.Prelude.{Bool, true, false, option_map}
 use Rattle.std.specs.Str.{bytes_eq}
 use Rattle.std.proofs.lemmas.Bool.{cond-true, cond-false}
 use Rattle.std.proofs.lemmas.Option.{none-some, same_Some}
@@ -63,18 +63,22 @@ alike_first : (w : List ℕ) (l : Option Label) (k : Option ℕ) (rest : List Ce
 alike_first w l None rest f n h e = absurd (none-some (f, n) e)
 alike_first w None (Some k) rest f n h e = absurd h
 alike_first w (Some l) (Some k) rest f n h e =
-    let same : (0, k) ≡ (f, n) = same_Some (0, k) (f, n) e in
+    let same : ◌≡◌ {A = ℕ × ℕ} (0, k) (f, n) = same_Some (0, k) (f, n) e in
     let hf : f ≡ 0 = sym (ap (λ (z : ℕ × ℕ). z.0) same) in
     let hn : n ≡ k = sym (ap (λ (z : ℕ × ℕ). z.1) same) in
     let long = length_elements w (Some l) 0 k in
-    let both = length-append (elements w (Some l) 0 k) rest in
-    (omega (arith, h, hn), l, λ j q.
-      let m : f + j ≡ j = omega (arith, hf) in
-      let small : j < length (elements w (Some l) 0 k) = omega (arith, q, hn, long) in
-      (omega (arith, hf, hn, q, long, both),
-       ap (λ z. (get_or (elements w (Some l) 0 k ++ rest) z no_cell).label) m
-       ∙ ap (λ z. z.label) (get_or_append_left (elements w (Some l) 0 k) rest no_cell j small)
-       ∙ element_label w (Some l) 0 k j no_cell (omega (arith, q, hn))))
+    let both = length-append (elements w (Some l) 0 k) rest in (
+      omega (arith, h, hn),
+      l,
+      λ j q.
+          let m : f + j ≡ j = omega (arith, hf) in
+          let small : j < length (elements w (Some l) 0 k) = omega (arith, q, hn, long) in (
+            omega (arith, hf, hn, q, long, both),
+            ap (λ z. (get_or (elements w (Some l) 0 k ++ rest) z no_cell).label) m
+                ∙ ap (λ z. z.label) (get_or_append_left (elements w (Some l) 0 k) rest no_cell j small)
+                ∙ element_label w (Some l) 0 k j no_cell (omega (arith, q, hn)),
+          ),
+    )
 
 moved_in : (s : ℕ) (o : Option (ℕ × Decl)) (f n : ℕ) → array_in (option_map (λ r. (s + r.0, r.1)) o) ≡ Some (f, n) → (f' : ℕ) × (f ≡ s + f') × (array_in o ≡ Some (f', n))
 moved_in s None f n e = cc
@@ -84,7 +88,7 @@ moved_in s (Some r) f n e = from r.1.length refl
     from None h = let x : array_from (s + r.0) None ≡ Some (f, n) = sym (ap (array_from (s + r.0)) h) ∙ e in cc
     from (Some k) h =
         let x : array_from (s + r.0) (Some k) ≡ Some (f, n) = sym (ap (array_from (s + r.0)) h) ∙ e in
-        let same : (s + r.0, k) ≡ (f, n) = same_Some (s + r.0, k) (f, n) x in
+        let same : ◌≡◌ {A = ℕ × ℕ} (s + r.0, k) (f, n) = same_Some (s + r.0, k) (f, n) x in
         let hn : k ≡ n = ap (λ (z : ℕ × ℕ). z.1) same in
         (r.0, sym (ap (λ (z : ℕ × ℕ). z.0) same), ap (array_from r.0) h ∙ ap (λ z. Some (r.0, z)) hn)
 

@@ -1,5 +1,5 @@
 -- The list of program-counter labels has each under its mark.
-use Rattle.std.proofs.Common.{◌≡◌, ℕ, suc, zero, ◌+◌, ◌<◌, refl, sym, ap, ◌∙◌, List, [], ◌∷◌, ◌++◌, length, get_or, arith, length-append, append_assoc}
+use Rattle.std.proofs.Common.{◌≡◌, ℕ, ◌+◌, refl, sym, ap, ◌∙◌, List, [], ◌∷◌, ◌++◌, length, arith, length-append, append_assoc}
 use Rattle.std.proofs.Math.Seq.{get_or-append_seam}
 use Rattle.label_lattice.specs.Lattice.{Lattice}
 use Rattle.label_lattice.specs.declared.label.Label.{Label}
@@ -58,10 +58,11 @@ module _ (lat : Lattice) (g : ℕ → ℕ) where
         let s2 : all ≡ (pre ++ ca) ++ (cb ++ (cp ++ post)) = s1 ∙ ap (λ z. pre ++ (ca ++ z)) (append_assoc cb cp post) ∙ sym (append_assoc pre ca (cb ++ (cp ++ post))) in
         let s3 : all ≡ ((pre ++ ca) ++ cb) ++ (cp ++ post) = s2 ∙ sym (append_assoc (pre ++ ca) cb (cp ++ post)) in
         let n1 = longer pre ca k (mitigates a) len (length_contexts a inner) in
-        let n2 = longer (pre ++ ca) cb (k + mitigates a) (mitigates b) n1 (length_contexts b inner) in
-        (has_contexts a (i + 1) k inner pre ((cb ++ cp) ++ post) num.0 len s1,
-         has_contexts b (i + 1 + count a) (k + mitigates a) inner (pre ++ ca) (cp ++ post) num.1 n1 s2,
-         has_contexts p (i + 1 + count a + count b) (k + mitigates a + mitigates b) pc ((pre ++ ca) ++ cb) post num.2 n2 s3)
+        let n2 = longer (pre ++ ca) cb (k + mitigates a) (mitigates b) n1 (length_contexts b inner) in (
+          has_contexts a (i + 1) k inner pre ((cb ++ cp) ++ post) num.0 len s1,
+          has_contexts b (i + 1 + count a) (k + mitigates a) inner (pre ++ ca) (cp ++ post) num.1 n1 s2,
+          has_contexts p (i + 1 + count a + count b) (k + mitigates a + mitigates b) pc ((pre ++ ca) ++ cb) post num.2 n2 s3,
+        )
     has_contexts (While w e c p) i k pc pre post num len is =
         let inner = lat.join pc (label_of lat g e) in
         let cc' = contexts lat g c inner in
@@ -77,11 +78,12 @@ module _ (lat : Lattice) (g : ℕ → ℕ) where
         let cp = contexts lat g p pc in
         let s0 : all ≡ pre ++ (own ∷ ((cc' ++ cp) ++ post)) = is in
         let s1 : all ≡ (pre ++ own ∷ []) ++ (cc' ++ (cp ++ post)) =
-          is ∙ ap (λ z. pre ++ (own ∷ z)) (append_assoc cc' cp post) ∙ sym (append_assoc pre (own ∷ []) (cc' ++ (cp ++ post))) in
+        is ∙ ap (λ z. pre ++ (own ∷ z)) (append_assoc cc' cp post) ∙ sym (append_assoc pre (own ∷ []) (cc' ++ (cp ++ post))) in
         let s2 : all ≡ ((pre ++ own ∷ []) ++ cc') ++ (cp ++ post) = s1 ∙ sym (append_assoc (pre ++ own ∷ []) cc' (cp ++ post)) in
         let n0 = longer pre (own ∷ []) k 1 len refl in
         let n1 = longer (pre ++ own ∷ []) cc' (k + 1) (mitigates c) n0 (length_contexts c pc) in
-        let at : j ≡ length pre = num.0 ∙ sym len in
-        (ap (λ z. label_at bottom z j) s0 ∙ ap (λ z. label_at bottom (pre ++ (own ∷ ((cc' ++ cp) ++ post))) z) at ∙ ap (λ z. z.number) (get_or-append_seam pre own ((cc' ++ cp) ++ post) low),
-         has_contexts c (i + 1) (k + 1) pc (pre ++ own ∷ []) (cp ++ post) num.1 n0 s1,
-         has_contexts p (i + 1 + count c) (k + 1 + mitigates c) pc ((pre ++ own ∷ []) ++ cc') post num.2 n1 s2)
+        let at : j ≡ length pre = num.0 ∙ sym len in (
+          ap (λ z. label_at bottom z j) s0 ∙ ap (λ z. label_at bottom (pre ++ (own ∷ ((cc' ++ cp) ++ post))) z) at ∙ ap (λ z. z.number) (get_or-append_seam pre own ((cc' ++ cp) ++ post) low),
+          has_contexts c (i + 1) (k + 1) pc (pre ++ own ∷ []) (cp ++ post) num.1 n0 s1,
+          has_contexts p (i + 1 + count c) (k + 1 + mitigates c) pc ((pre ++ own ∷ []) ++ cc') post num.2 n1 s2,
+        )

@@ -1,6 +1,6 @@
 -- The walk and the program-counter labels of a whole labelled program.
 use Rattle.std.proofs.Common.{◌≡◌, ℕ, refl, sym, ap, ◌∙◌, subst, List, [], ◌++◌, length, append-nil}
-use Rattle.std.specs.Prelude.{Option, None, Some}
+use Rattle.std.specs.Prelude.{None, Some}
 use Rattle.label_lattice.specs.Lattice.{IsLattice}
 use Rattle.label_lattice.specs.declared.label.Label.{Label}
 use Rattle.label_lattice.specs.Order.{Order, lattice_of}
@@ -24,7 +24,7 @@ module _ (q : LabelledProgram) where
       let o = q.program.order in
       let g = labels_of q in
       typed (order_of q) ll g (placed_of q)
-        (arrays_in o.size q.program.declarations g valid.declared kept.declared (marks_of o q.labels) (level_of o q.labels) (plan_of q.program) 0 valid.known) h
+      (arrays_in o.size q.program.declarations g valid.declared kept.declared (marks_of o q.labels) (level_of o q.labels) (plan_of q.program) 0 valid.known) h
 
   are_contexts : (cs : List Label) → IsValid q.program → cs ≡ contexts (order_of q) (labels_of q) (plan_of q.program) q.program.order.bottom → AreContexts q cs
   are_contexts cs valid is =
@@ -69,8 +69,8 @@ module _ (q : LabelledProgram) where
     pub collected : (none pcs : List Label) → none ≡ [] → IsValid s' → pcs ≡ none ++ contexts_of o l (list_plan cs) b → AreContexts q pcs
     collected none pcs hn valid h =
         are_contexts pcs (subst (λ z. IsValid z) hs' valid)
-          (h ∙ ap (λ z. z ++ contexts_of o l (list_plan cs) b) hn
-          ∙ ap (λ z. contexts_of z l (list_plan cs) b) order_is
-          ∙ ap (λ z. contexts_of q.program.order z (list_plan cs) b) hl
-          ∙ ap (λ z. contexts_of q.program.order q.labels (list_plan z) b) body_is
-          ∙ ap (λ z. contexts (order_of q) (labels_of q) (plan_of q.program) z) bottom_is)
+        (h ∙ ap (λ z. z ++ contexts_of o l (list_plan cs) b) hn
+        ∙ ap (λ z. contexts_of z l (list_plan cs) b) order_is
+        ∙ ap (λ z. contexts_of q.program.order z (list_plan cs) b) hl
+        ∙ ap (λ z. contexts_of q.program.order q.labels (list_plan z) b) body_is
+        ∙ ap (λ z. contexts (order_of q) (labels_of q) (plan_of q.program) z) bottom_is)

@@ -3,7 +3,6 @@
 ghost use Rattle.std.specs.Prelude.{◌≡◌, ◌<◌};
 ghost use Rattle.mit_syntax.specs.Plan.{mitigates};
 ghost use Rattle.mit_syntax.specs.Program.{plan_of};
-ghost use Rattle.timing_types.specs.Labelling.{IsLabelling};
 ghost use Rattle.timing_types.specs.Labelled.{HasType, AreContexts, context_of};
 
 use crate::labelled::Labelled;
@@ -41,7 +40,6 @@ impl Typed {
         requires contexts { AreContexts p pcs.items }
         ensures { result ≡ record { labelled = p; contexts = pcs.items } }
     {
-        let _ = p.program();
         Typed {
             labelled: p,
             contexts: pcs,
