@@ -1,6 +1,8 @@
 pub mod Numbers
 pub mod Named
 pub mod Counting
+pub mod Putting
+pub mod Facts
 pub mod LexBytes
 pub mod LexSigns
 pub mod LexLongest

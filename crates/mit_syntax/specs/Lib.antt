@@ -10,6 +10,8 @@ pub mod Limits
 pub mod Valid
 pub mod Kept
 pub mod Counted
+pub mod Chunks
+pub mod Layout
 pub mod Lexemes
 pub mod Cut
 pub mod TokenSteps

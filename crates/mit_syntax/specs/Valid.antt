@@ -1,5 +1,5 @@
 -- What is true of every program.
-use Rattle.std.specs.Prelude.{◌≡◌, ℕ, ℤ, pos, negsuc, ◌+◌, ◌<◌, ◌≤◌, List, [], ◌∷◌, map, Option, None, Some, ◌↔◌}
+use Rattle.std.specs.Prelude.{◌≡◌, ℕ, ℤ, pos, negsuc, ◌+◌, ◌<◌, ◌≤◌, List, [], ◌∷◌, map, All, Option, None, Some, ◌↔◌}
 use Rattle.label_lattice.specs.declared.label.Label.{Label}
 use Rattle.label_lattice.specs.Lattice.{Flows}
 use Rattle.label_lattice.specs.Order.{Order, lattice_of, AllDiffer}
@@ -22,20 +22,14 @@ abbrev pub AreMarksBelow : ℕ → Option (Label × Label) → Type 0
 AreMarksBelow n None = Unit {0}
 AreMarksBelow n (Some m) = (m.0.number < n) × (m.1.number < n)
 
--- a scalar has a label or none, and an array has a label and at least one element
-abbrev pub IsDeclared : ℕ → Option Label → Option ℕ → Type 0
-IsDeclared n l None = IsBelow n l
-IsDeclared n None (Some k) = ⊥
-IsDeclared n (Some l) (Some k) = (l.number < n) × (0 < k)
+-- a scalar, or an array with a label and at least one element
+abbrev pub IsShaped : Option Label → Option ℕ → Type 0
+IsShaped l None = Unit {0}
+IsShaped None (Some k) = ⊥
+IsShaped (Some l) (Some k) = 0 < k
 
--- each declaration has a name that may be written, and is of this kind
-abbrev pub AreDeclared : ℕ → List Declaration → Type 0
-AreDeclared n [] = Unit {0}
-AreDeclared n (d ∷ ds) = IsName d.0 × IsDeclared n d.1.label d.1.length × AreDeclared n ds
-
-abbrev pub AreNames : List (List ℕ) → Type 0
-AreNames [] = Unit {0}
-AreNames (w ∷ ws) = IsName w × AreNames ws
+abbrev pub AreShaped : List Declaration → Type 0
+AreShaped ds = All (λ d. IsShaped d.1.label d.1.length) ds
 
 -- the number is that of a scalar
 abbrev pub IsScalar : List Declaration → ℕ → Type 0
@@ -88,11 +82,13 @@ pub record IsValid (s : Syntax) : Type 0 where
   -- a label flows to another exactly where a chain of written pairs leads there
   pub pairs : AreBelow s.order.size s.pairs
   pub flows : (a b : ℕ) → a < s.order.size → b < s.order.size → Flows (lattice_of s.order) a b ↔ Chain s.pairs a b
-  pub label_names : AreNames s.order.names
+  pub label_names : All IsName s.order.names
   pub few : AreFew s.declarations
-  pub declared : AreDeclared s.order.size s.declarations
+  pub names : All (λ d. IsName d.0) s.declarations
   -- no name is declared twice
   pub differ : AllDiffer (map (λ d. d.0) s.declarations)
+  pub labels : All (λ d. IsBelow s.order.size d.1.label) s.declarations
+  pub arrays : AreShaped s.declarations
   pub some : AreSome (plan_of s)
   pub count : count (plan_of s) ≤ 2147483647
   pub known : AreKnown s.order.size s.declarations (plan_of s)

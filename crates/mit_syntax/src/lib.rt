@@ -6,6 +6,7 @@ pub mod count;
 pub mod declarations;
 pub mod fault;
 pub mod lexeme;
+pub mod print;
 pub mod program;
 pub mod token;
 #[cfg(test)]
