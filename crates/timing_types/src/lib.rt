@@ -2,10 +2,9 @@
 #![tactic(auto)]
 
 pub mod check;
-pub mod labelled;
-pub mod rule;
-pub mod typed;
-
 mod contexts;
 mod ends;
+pub mod labelled;
 mod labels;
+pub mod rule;
+pub mod typed;
