@@ -11,3 +11,6 @@ mod place;
 mod run;
 pub mod state;
 pub mod turn;
+
+#[cfg(test)]
+mod tests;
