@@ -10,7 +10,6 @@ mod operands;
 mod place;
 mod run;
 pub mod state;
-pub mod turn;
-
 #[cfg(test)]
 mod tests;
+pub mod turn;

@@ -1,5 +1,6 @@
 ghost use Rattle.std.specs.Prelude.{◌≡◌, ◌<◌, IfOk, IfSome};
 
+use crate::laws::{halt_is_run, limit_is_run, turns_go_on};
 use crate::machine::Machine;
 use crate::turn::Turn;
 use env_contract::flat::FlatEnv;
@@ -28,13 +29,47 @@ fn mitigated(alloc: Global, lattice: Lattice) -> Result<Image, Memory>
 {
     let low = Label::new(0);
     let instrs = vec![in alloc;
-        Instr { work: Work::Push(64), er: low, ew: low },
-        Instr { work: Work::Mitb { level: low, mark: 0 }, er: low, ew: low },
-        Instr { work: Work::Push(5), er: low, ew: low },
-        Instr { work: Work::Push(7), er: low, ew: low },
-        Instr { work: Work::StoreAt { first: 0, length: 4 }, er: low, ew: low },
-        Instr { work: Work::Mite, er: low, ew: low },
-        Instr { work: Work::Halt, er: low, ew: low },
+        Instr {
+            work: Work::Push(64),
+            er: low,
+            ew: low
+        },
+        Instr {
+            work: Work::Mitb {
+                level: low,
+                mark: 0
+            },
+            er: low,
+            ew: low
+        },
+        Instr {
+            work: Work::Push(5),
+            er: low,
+            ew: low
+        },
+        Instr {
+            work: Work::Push(7),
+            er: low,
+            ew: low
+        },
+        Instr {
+            work: Work::StoreAt {
+                first: 0,
+                length: 4
+            },
+            er: low,
+            ew: low
+        },
+        Instr {
+            work: Work::Mite,
+            er: low,
+            ew: low
+        },
+        Instr {
+            work: Work::Halt,
+            er: low,
+            ew: low
+        },
     ]?;
     Ok(Image::of(instrs, 4, lattice, 2, 1))
 }
@@ -42,7 +77,11 @@ fn mitigated(alloc: Global, lattice: Lattice) -> Result<Image, Memory>
 // What the run tells, without costs of accesses: the assignment takes 3 cycles, the mitigation 64.
 static TURNS: [Turn; 5] = [
     Turn::Began { mark: 0, cycle: 2 },
-    Turn::Event { variable: 1, value: 7, cycle: 5 },
+    Turn::Event {
+        variable: 1,
+        value: 7,
+        cycle: 5,
+    },
     Turn::Ended { mark: 0, cycle: 66 },
     Turn::Halted { cycle: 67 },
     Turn::Halted { cycle: 67 },
@@ -75,5 +114,8 @@ fn stops_at_a_limit(rt: HostRuntime) -> Result<(), Memory> {
     assert_eq!(rt; machine.next(65), Turn::Began { mark: 0, cycle: 2 });
     assert_eq!(rt; machine.next(4), Turn::Limit { cycle: 4 });
     assert_eq!(rt; machine.next(1000), Turn::Limit { cycle: 4 });
+    turns_go_on::<FlatEnv>();
+    limit_is_run::<FlatEnv>();
+    halt_is_run::<FlatEnv>();
     Ok(())
 }
