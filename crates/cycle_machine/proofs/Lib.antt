@@ -4,3 +4,4 @@ pub mod Start
 pub mod Quiet
 pub mod Turns
 pub mod Elements
+pub mod Sample

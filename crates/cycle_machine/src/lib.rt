@@ -10,4 +10,6 @@ mod operands;
 mod place;
 mod run;
 pub mod state;
+#[cfg(test)]
+mod tests;
 pub mod turn;

@@ -48,9 +48,7 @@ impl<'a, E: MachineEnv + Drop> Machine<'a, E> {
         ensures code { IfOk result (λ m. m.code ≡ image.now) }
         ensures going { IfOk result (λ m. m.stopped ≡ None) }
     {
-        let _lattice = image.lattice();
-        let _variables = image.variables();
-        let _length = image.len();
+        image.laws();
         let operands = Vec::with_capacity(alloc, image.operands() as usize)?;
         let opened = Vec::with_capacity(alloc, image.nesting() as usize)?;
         Ok(Machine {

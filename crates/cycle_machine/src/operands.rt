@@ -124,7 +124,7 @@ impl<E: MachineEnv> State<E> {
         ensures keeps { Keeps E.serves self.old self.new }
     {
         let fetched = fetch(&mut self.env, self.place, er, ew);
-        let Some(n) = self.operands.pop() else {
+        let Some(value) = self.operands.pop() else {
             unreachable!()
         };
         let Some(index) = self.operands.pop() else {
@@ -135,10 +135,10 @@ impl<E: MachineEnv> State<E> {
         let Some(end) = pass(self.clock, 1 + fetched + touched, limit) else {
             return Outcome::Late;
         };
-        self.memory[x as usize] = n;
+        self.memory[x as usize] = value;
         self.clock = end;
         self.place += 1;
-        Outcome::Wrote(x, n)
+        Outcome::Wrote(x, value)
     }
 
     /// OP.

@@ -2,6 +2,7 @@ ghost use Rattle.std.specs.Prelude.{◌≡◌, ◌<◌, ◌≤◌, length, slice
 ghost use Rattle.label_code.specs.Shaped.{Code, IsShaped};
 
 use crate::code::Instr;
+use label_lattice::label::MAX_LABELS;
 use label_lattice::lattice::Lattice;
 use std::marker::Model;
 
@@ -49,10 +50,17 @@ impl Image {
         }
     }
 
+    /// Says nothing at run time: what is true of every image.
+    pub fn laws(&self)
+        ensures shaped { IsShaped self.now }
+        ensures labels { self.now.order.size ≤ MAX_LABELS }
+    {
+        let _ = self.lattice.size();
+    }
+
     /// How many instructions there are.
     pub fn len(&self) -> u32
-        ensures length { result ≡ length self.now.instrs }
-        ensures shaped { IsShaped self.now }
+        ensures { result ≡ length self.now.instrs }
     {
         self.instrs.len() as u32
     }
@@ -67,18 +75,15 @@ impl Image {
 
     /// How many variables the code may name.
     pub fn variables(&self) -> u32
-        ensures value { result ≡ self.now.variables }
-        ensures few { result ≤ 4096 }
+        ensures { result ≡ self.now.variables }
     {
         self.variables
     }
 
     /// The lattice of the code's labels.
     pub fn lattice(&self) -> Lattice
-        ensures value { result ≡ self.now.order }
-        ensures few { self.now.order.size ≤ 32 }
+        ensures { result ≡ self.now.order }
     {
-        let _size = self.lattice.size();
         self.lattice
     }
 
