@@ -18,7 +18,7 @@ times_one a b h = grind arith
 pub above_power : (estimate : ℤ) (k : ℕ) → 2 ^ k ≤ prediction estimate k
 above_power n k = times_one (max (at_least_zero n) 1) (2 ^ k) (omega arith)
 
-below_power : (k : ℕ) → k < 2 ^ k
+pub below_power : (k : ℕ) → k < 2 ^ k
 below_power zero = omega arith
 below_power (suc k) = let h = below_power k in let e = pow-suc k 2 in omega (arith, h, e)
 
