@@ -1,5 +1,12 @@
 //! Security labels: their names, their order and their joins.
 #![tactic(auto)]
 
+mod bounds;
+mod checks;
+mod closure;
+pub mod fault;
 pub mod label;
 pub mod lattice;
+pub mod name;
+#[cfg(test)]
+mod tests;

@@ -3,7 +3,7 @@ use Rattle.std.proofs.Common.{◌≡◌, ℕ, zero, suc, ◌+◌, ◌-◌, ◌^�
 use Rattle.std.specs.Prelude.{Bool, true, false, cond, ltb}
 use Rattle.std.proofs.lemmas.Bool.{ltb-true, ltb-false, cases_lt}
 use Rattle.std.proofs.Math.Nat.{pow-zero, pow-le-pow_right}
-use Rattle.doubling_schedule.proofs.Settling.{below_power}
+use Rattle.doubling_schedule.proofs.SettleLemmas.{below_power}
 use Rattle.leak_bound.specs.Digits.{digits_from, digits, HasDigits}
 
 digits_enough : (fuel n t : ℕ) → t < 2 ^ (n + fuel) → t < 2 ^ digits_from fuel n t

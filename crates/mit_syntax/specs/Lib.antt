@@ -2,4 +2,17 @@ pub mod Expression
 pub mod Todo
 pub mod Values
 pub mod Plan
+pub mod Declarations
+pub mod Firsts
+pub mod Program
+pub mod Ranks
+pub mod Limits
+pub mod Valid
+pub mod Kept
+pub mod Counted
+pub mod Chunks
+pub mod Layout
+pub mod Lexemes
+pub mod Cut
+pub mod TokenSteps
 pub mod MarkOrder

@@ -2,4 +2,14 @@
 #![tactic(auto)]
 
 pub mod ast;
+pub mod count;
+pub mod declarations;
+pub mod fault;
+mod lexeme;
+pub mod print;
+pub mod program;
 pub mod token;
+#[cfg(test)]
+mod token_tests;
+pub mod tokens;
+pub mod values;

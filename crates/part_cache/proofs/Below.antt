@@ -3,7 +3,8 @@ use Rattle.std.proofs.Common.{◌≡◌, ℕ, zero, suc, ◌+◌, ◌<◌, ◌�
 use Rattle.std.specs.Prelude.{cond, ltb}
 use Rattle.std.specs.List.{filter, zip}
 use Rattle.std.proofs.lemmas.Bool.{cases_eq, cases_lt, lt-ltb, le-ltb, ne_eqb, eq-eqb}
-use Rattle.part_cache.specs.Ages.{Entry, put, latest, AgesApart, largest, tags_of_entries}
+use Rattle.part_cache.specs.Ages.{Entry, tags_of}
+use Rattle.part_cache.specs.Slots.{put, latest, AgesApart, largest}
 use Rattle.part_cache.proofs.Latest.{Each, Each-map, Each-latest}
 use Rattle.part_cache.proofs.Written.{get_or-zip, length-zip, largest_bounds}
 use Rattle.part_cache.proofs.Renumber.{Falls, Falls-latest, Differ_zip, Each_zip}
@@ -86,28 +87,28 @@ module _ (tags ages : List ℕ) (same : length tags ≡ length ages) (apart : Ag
 
 -- ---- the comparison
 pub record SameFrom (xs ys : List Entry) (n m : ℕ) : Type 0 where
-  pub onward : tags_of_entries xs ≡ tags_of_entries ys → tags_of_entries (below n xs) ≡ tags_of_entries (below m ys)
-  pub back : tags_of_entries (below n xs) ≡ tags_of_entries (below m ys) → tags_of_entries xs ≡ tags_of_entries ys
+  pub onward : tags_of xs ≡ tags_of ys → tags_of (below n xs) ≡ tags_of (below m ys)
+  pub back : tags_of (below n xs) ≡ tags_of (below m ys) → tags_of xs ≡ tags_of ys
 
 pub SameFrom-start : (xs ys : List Entry) (n m : ℕ) → below n xs ≡ xs → below m ys ≡ ys → SameFrom xs ys n m
-SameFrom-start xs ys n m e f = record { onward = λ q. ap tags_of_entries e ∙ q ∙ sym (ap tags_of_entries f); back = λ q. sym (ap tags_of_entries e) ∙ q ∙ ap tags_of_entries f }
+SameFrom-start xs ys n m e f = record { onward = λ q. ap tags_of e ∙ q ∙ sym (ap tags_of f); back = λ q. sym (ap tags_of e) ∙ q ∙ ap tags_of f }
 
 pub SameFrom-next : (xs ys : List Entry) (n m t u a b : ℕ) → SameFrom xs ys n m → below n xs ≡ (t, a) ∷ below a xs → below m ys ≡ (u, b) ∷ below b ys → t ≡ u → SameFrom xs ys a b
 SameFrom-next xs ys n m t u a b s e f tu =
     record {
-      onward = λ q. let k : t ∷ tags_of_entries (below a xs) ≡ u ∷ tags_of_entries (below b ys) = sym (ap tags_of_entries e) ∙ s.onward q ∙ ap tags_of_entries f in cc;
-      back = λ q. s.back (ap tags_of_entries e ∙ ap (λ r. t ∷ r) q ∙ ap (λ t. t ∷ tags_of_entries (below b ys)) tu ∙ sym (ap tags_of_entries f));
+      onward = λ q. let k : t ∷ tags_of (below a xs) ≡ u ∷ tags_of (below b ys) = sym (ap tags_of e) ∙ s.onward q ∙ ap tags_of f in cc;
+      back = λ q. s.back (ap tags_of e ∙ ap (λ r. t ∷ r) q ∙ ap (λ t. t ∷ tags_of (below b ys)) tu ∙ sym (ap tags_of f));
     }
 
-pub SameFrom-differ : (xs ys : List Entry) (n m t u a b : ℕ) → SameFrom xs ys n m → below n xs ≡ (t, a) ∷ below a xs → below m ys ≡ (u, b) ∷ below b ys → (t ≡ u → ⊥) → tags_of_entries xs ≡ tags_of_entries ys → ⊥
+pub SameFrom-differ : (xs ys : List Entry) (n m t u a b : ℕ) → SameFrom xs ys n m → below n xs ≡ (t, a) ∷ below a xs → below m ys ≡ (u, b) ∷ below b ys → (t ≡ u → ⊥) → tags_of xs ≡ tags_of ys → ⊥
 SameFrom-differ xs ys n m t u a b s e f ne q =
-    let k : t ∷ tags_of_entries (below a xs) ≡ u ∷ tags_of_entries (below b ys) = sym (ap tags_of_entries e) ∙ s.onward q ∙ ap tags_of_entries f in
+    let k : t ∷ tags_of (below a xs) ≡ u ∷ tags_of (below b ys) = sym (ap tags_of e) ∙ s.onward q ∙ ap tags_of f in
     let h : t ≡ u = cc in ne h
 
-pub SameFrom-longer : (xs ys : List Entry) (n m t a : ℕ) → SameFrom xs ys n m → below n xs ≡ (t, a) ∷ below a xs → below m ys ≡ [] → tags_of_entries xs ≡ tags_of_entries ys → ⊥
+pub SameFrom-longer : (xs ys : List Entry) (n m t a : ℕ) → SameFrom xs ys n m → below n xs ≡ (t, a) ∷ below a xs → below m ys ≡ [] → tags_of xs ≡ tags_of ys → ⊥
 SameFrom-longer xs ys n m t a s e f q =
-    let k : t ∷ tags_of_entries (below a xs) ≡ [] = sym (ap tags_of_entries e) ∙ s.onward q ∙ ap tags_of_entries f in cc
+    let k : t ∷ tags_of (below a xs) ≡ [] = sym (ap tags_of e) ∙ s.onward q ∙ ap tags_of f in cc
 
-pub SameFrom-shorter : (xs ys : List Entry) (n m u b : ℕ) → SameFrom xs ys n m → below n xs ≡ [] → below m ys ≡ (u, b) ∷ below b ys → tags_of_entries xs ≡ tags_of_entries ys → ⊥
+pub SameFrom-shorter : (xs ys : List Entry) (n m u b : ℕ) → SameFrom xs ys n m → below n xs ≡ [] → below m ys ≡ (u, b) ∷ below b ys → tags_of xs ≡ tags_of ys → ⊥
 SameFrom-shorter xs ys n m u b s e f q =
-    let k : [] ≡ u ∷ tags_of_entries (below b ys) = sym (ap tags_of_entries e) ∙ s.onward q ∙ ap tags_of_entries f in cc
+    let k : [] ≡ u ∷ tags_of (below b ys) = sym (ap tags_of e) ∙ s.onward q ∙ ap tags_of f in cc

@@ -9,47 +9,18 @@ use Rattle.std.proofs.lemmas.Nat.{mul-add-lt, mod_below}
 use Rattle.std.proofs.lemmas.Bool.{cases_eq, cases_lt, and_from, eq-eqb}
 use Rattle.label_lattice.specs.Order.{lattice_of}
 use Rattle.part_cache.specs.History.{Touched, holds, hits}
-use Rattle.part_cache.specs.Rows.{Rows, IsCache, StandsFor, row_of, ages_at, age_of, has, found, touched, to_front, empty_cache}
-use Rattle.part_cache.proofs.Stands.{StandsFor-touched, StandsFor-empty, some_below_at, has_is, found_is}
+use Rattle.part_cache.specs.Rows.{Rows, IsCache, StandsFor, row_of, tags_at, age_of, has, found, touched, empty_cache}
+use Rattle.part_cache.proofs.Stands.{age_here, age_elsewhere, StandsFor-touched, StandsFor-empty, some_below_at, has_is, found_is}
 use Rattle.part_cache.proofs.Latest.{length-latest_le}
-use Rattle.part_cache.specs.Ages.{Entry, latest, clock, renumbered, settled, touch_row, age_among, AgesApart, TagsApart}
-use Rattle.part_cache.specs.Parts.{part}
-use Rattle.part_cache.specs.Ages.{ages_of, tags_of_entries}
+use Rattle.part_cache.specs.Ages.{Entry, clock, renumbered, settled, touch_row, age_among}
+use Rattle.part_cache.specs.Slots.{latest, AgesApart, TagsApart}
+use Rattle.part_cache.specs.Slots.{part}
+use Rattle.part_cache.specs.Ages.{tags_of}
 use Rattle.part_cache.specs.Body.{entries_at, rows_view, IsBody}
 use Rattle.part_cache.specs.declared.cache.PartCache.TheInside.{Inside}
 
--- ---- the tags know no ages
-tags-renumbered : (es : List Entry) → tags_of_entries (renumbered es) ≡ tags_of_entries es
-tags-renumbered [] = refl
-tags-renumbered (e ∷ es) = ap (λ t. e.0 ∷ t) (tags-renumbered es)
-
-tags-settled : (es : List Entry) → tags_of_entries (settled es) ≡ tags_of_entries es
-tags-settled es = go (leb 65535 (clock es))
-  where
-    go : (b : Bool) → tags_of_entries (cond b (renumbered es) es) ≡ tags_of_entries es
-    go true = tags-renumbered es
-    go false = refl
-
-tags-filter : (tag : ℕ) (es : List Entry) → tags_of_entries (filter (λ (e : Entry). not (eqb tag e.0)) es) ≡ filter (λ y. not (eqb tag y)) (tags_of_entries es)
-tags-filter tag [] = refl
-tags-filter tag (e ∷ es) = go (not (eqb tag e.0)) (tags-filter tag es)
-  where
-    go : (b : Bool) → tags_of_entries (filter (λ (e : Entry). not (eqb tag e.0)) es) ≡ filter (λ y. not (eqb tag y)) (tags_of_entries es) →
-        tags_of_entries (cond b (e ∷ filter (λ (e : Entry). not (eqb tag e.0)) es) (filter (λ (e : Entry). not (eqb tag e.0)) es)) ≡ cond b (e.0 ∷ filter (λ y. not (eqb tag y)) (tags_of_entries es)) (filter (λ y. not (eqb tag y)) (tags_of_entries es))
-    go true r = ap (λ t. e.0 ∷ t) r
-    go false r = r
-
-pub tags-touch_row : (ways tag : ℕ) (es : List Entry) → tags_of_entries (touch_row ways tag es) ≡ to_front ways tag (tags_of_entries es)
-tags-touch_row ways tag es =
-    sym (take-map (λ (e : Entry). e.0) ways ((tag, clock (settled es) + 1) ∷ filter (λ (e : Entry). not (eqb tag e.0)) (settled es)))
-    ∙ ap (λ t. take ways (tag ∷ t)) (tags-filter tag (settled es) ∙ ap (filter (λ y. not (eqb tag y))) (tags-settled es))
-
-pub zip_back : (es : List Entry) → zip (tags_of_entries es) (ages_of es) ≡ es
-zip_back [] = refl
-zip_back (e ∷ es) = ap (λ t. e ∷ t) (zip_back es)
-
 -- a list by places, one of them changed
-set_range : (F G : ℕ → List ℕ) (n place : ℕ) (v : List ℕ) → place < n → G place ≡ v → ((k : ℕ) → k < n → (k ≡ place → ⊥) → G k ≡ F k) → map G (range_with_len 0 n) ≡ set (map F (range_with_len 0 n)) place v
+set_range : (F G : ℕ → List Entry) (n place : ℕ) (v : List Entry) → place < n → G place ≡ v → ((k : ℕ) → k < n → (k ≡ place → ⊥) → G k ≡ F k) → map G (range_with_len 0 n) ≡ set (map F (range_with_len 0 n)) place v
 set_range F G n place v h here others =
     ext_get_or [] (map G (range_with_len 0 n)) (set (map F (range_with_len 0 n)) place v)
     (length-map-range_with_len G 0 n ∙ sym (length-map-range_with_len F 0 n) ∙ sym (length-set (map F (range_with_len 0 n)) place v))
@@ -81,14 +52,8 @@ module _ (c : Inside) (good : IsBody c) (tag ew : ℕ) (in_range : ew < c.lattic
   abbrev entries : ℕ → List Entry
   entries row = entries_at c.ways c.tags.items c.ages.items row
 
-  pub row_read : row_of (rows_view c) ew (tag % c.sets) ≡ tags_of_entries (entries place)
-  row_read = get_or-map-range_with_len (λ row. tags_of_entries (entries row)) 0 count place place [] place_in (omega arith)
-
-  ages_read : get_or (rows_view c).ages place [] ≡ ages_of (entries place)
-  ages_read = get_or-map-range_with_len (λ row. ages_of (entries row)) 0 count place place [] place_in (omega arith)
-
-  pub entries_read : zip (row_of (rows_view c) ew (tag % c.sets)) (ages_at (rows_view c) ew (tag % c.sets)) ≡ entries place
-  entries_read = ap (λ t. zip t (get_or (rows_view c).ages place [])) row_read ∙ ap (zip (tags_of_entries (entries place))) ages_read ∙ zip_back (entries place)
+  pub row_read : row_of (rows_view c) ew (tag % c.sets) ≡ entries place
+  row_read = get_or-map-range_with_len entries 0 count place place [] place_in (omega arith)
 
   module _ (tags ages : List ℕ) (tags_long : length tags ≡ length c.tags.items) (ages_long : length ages ≡ length c.ages.items)
       (written : latest (zip (part c.ways place tags) (part c.ways place ages)) ≡ touch_row c.ways tag (entries place))
@@ -111,14 +76,10 @@ module _ (c : Inside) (good : IsBody c) (tag ew : ℕ) (in_range : ew < c.lattic
 
     pub view_touched : rows_view after ≡ touched (rows_view c) tag ew
     view_touched =
-        ap (λ rs. record (rows_view c) { rows = rs; ages = (rows_view after).ages })
-        (set_range (λ row. tags_of_entries (entries row)) (λ row. tags_of_entries (entries_at c.ways after.tags.items after.ages.items row)) count place (to_front c.ways tag (row_of (rows_view c) ew (tag % c.sets))) place_in
-        (ap tags_of_entries (new_entries place ∙ written) ∙ tags-touch_row c.ways tag (entries place) ∙ ap (to_front c.ways tag) (sym row_read))
-        (λ k lt ne. ap tags_of_entries (new_entries k ∙ other_entries k ne)))
-        ∙ ap (λ rs. record (touched (rows_view c) tag ew) { ages = rs })
-        (set_range (λ row. ages_of (entries row)) (λ row. ages_of (entries_at c.ways after.tags.items after.ages.items row)) count place (ages_of (touch_row c.ways tag (zip (row_of (rows_view c) ew (tag % c.sets)) (ages_at (rows_view c) ew (tag % c.sets))))) place_in
-        (ap ages_of (new_entries place ∙ written) ∙ ap (λ es. ages_of (touch_row c.ways tag es)) (sym entries_read))
-        (λ k lt ne. ap ages_of (new_entries k ∙ other_entries k ne)))
+        ap (λ rs. record (rows_view c) { rows = rs })
+        (set_range entries (entries_at c.ways after.tags.items after.ages.items) count place (touch_row c.ways tag (row_of (rows_view c) ew (tag % c.sets))) place_in
+        (new_entries place ∙ written ∙ ap (touch_row c.ways tag) (sym row_read))
+        (λ k lt ne. new_entries k ∙ other_entries k ne))
 
     pub body_touched : AgesApart (part c.ways place ages) → TagsApart (part c.ways place tags) (part c.ways place ages) → IsBody after
     body_touched apart alone =
@@ -195,23 +156,29 @@ body_cache c good =
     record {
       some_set = good.some_set;
       some_way = good.some_way;
-      each_set = length-map-range_with_len (λ row. tags_of_entries (entries_at c.ways c.tags.items c.ages.items row)) 0 (c.lattice.size * c.sets);
+      each_set = length-map-range_with_len F 0 (c.lattice.size * c.sets);
       few = λ k. go k (cases_lt k (c.lattice.size * c.sets));
     }
   where
-    F : ℕ → List ℕ
-    F row = tags_of_entries (entries_at c.ways c.tags.items c.ages.items row)
+    F : ℕ → List Entry
+    F row = entries_at c.ways c.tags.items c.ages.items row
 
     go : (k : ℕ) → ((k < c.lattice.size * c.sets) ⊎ (c.lattice.size * c.sets ≤ k)) → length (get_or (rows_view c).rows k []) ≤ c.ways
     go k (inl lt) =
-        rw (get_or-map-range_with_len (λ row. tags_of_entries (entries_at c.ways c.tags.items c.ages.items row)) 0 (c.lattice.size * c.sets) k k [] lt (omega arith))
-        (omega (arith, length-map (entries_at c.ways c.tags.items c.ages.items k) (λ (e : Entry). e.0), length-entries c.ways k c.tags.items c.ages.items))
+        rw (get_or-map-range_with_len (entries_at c.ways c.tags.items c.ages.items) 0 (c.lattice.size * c.sets) k k [] lt (omega arith))
+        (length-entries c.ways k c.tags.items c.ages.items)
     go k (inr ge) =
-        rw (get_or_past (rows_view c).rows k [] (omega (arith, length-map-range_with_len (λ row. tags_of_entries (entries_at c.ways c.tags.items c.ages.items row)) 0 (c.lattice.size * c.sets)))) (omega arith)
+        rw (get_or_past (rows_view c).rows k [] (omega (arith, length-map-range_with_len (entries_at c.ways c.tags.items c.ages.items) 0 (c.lattice.size * c.sets)))) (omega arith)
 
 -- ---- a touch and the history
 pub touched_history : (v w : Rows) (c : Inside) → rows_view c ≡ v → IsBody c → (tag ew : ℕ) → ew < v.order.size → w ≡ touched v tag ew → (h : List Touched) → StandsFor v h → StandsFor w (h ++ record { label = ew; tag = tag } ∷ [])
 touched_history v w c is good tag ew lt e h s = subst (λ w. StandsFor w (h ++ record { label = ew; tag = tag } ∷ [])) (sym e) (StandsFor-touched v (subst IsCache is (body_cache c good)) tag ew h lt s)
+
+pub touched_age : (v w : Rows) (c : Inside) → rows_view c ≡ v → IsBody c → (tag ew : ℕ) → ew < v.order.size → w ≡ touched v tag ew → age_of w tag ew ≡ clock (settled (row_of v ew (tag % v.sets))) + 1
+touched_age v w c is good tag ew lt e = ap (λ w. age_of w tag ew) e ∙ age_here v (subst IsCache is (body_cache c good)) tag ew lt
+
+pub touched_others : (v w : Rows) (c : Inside) → rows_view c ≡ v → IsBody c → (tag ew : ℕ) → w ≡ touched v tag ew → (other label : ℕ) → ((label ≡ ew) × (other % v.sets ≡ tag % v.sets) → ⊥) → age_of w other label ≡ age_of v other label
+touched_others v w c is good tag ew e other label ne = ap (λ w. age_of w other label) e ∙ age_elsewhere v (subst IsCache is (body_cache c good)) tag ew other label ne
 
 -- ---- a lookup
 pub look_found : (v : Rows) (c : Inside) → rows_view c ≡ v → (tag er label size : ℕ) → size ≡ c.lattice.size → label < size → (lattice_of c.lattice).flows label er ≡ true → has v tag label ≡ true → found v tag er ≡ true
@@ -225,11 +192,6 @@ pub look_history : (v : Rows) (c : Inside) → rows_view c ≡ v → IsBody c �
 look_history v c e good tag er r f h s = f ∙ found_is v (subst IsCache e (body_cache c good)) tag er h s
 
 -- ---- an age
-pub age_read : (v : Rows) (tag label sets : ℕ) (es : List Entry) → sets ≡ v.sets → row_of v label (tag % sets) ≡ tags_of_entries es → ages_at v label (tag % sets) ≡ ages_of es → age_among tag es ≡ age_of v tag label
-age_read v tag label sets es n row ages =
-    ap (age_among tag) (sym (ap (λ r. zip r (ages_at v label (tag % sets))) row ∙ ap (zip (tags_of_entries es)) ages ∙ zip_back es))
-    ∙ ap (λ m. age_among tag (zip (row_of v label (tag % m)) (ages_at v label (tag % m)))) n
-
 pub absent_history : (v : Rows) (c : Inside) → rows_view c ≡ v → IsBody c → (tag label age : ℕ) → label < v.order.size → ((age ≡ 0) ↔ (has v tag label ≡ false)) → (h : List Touched) → StandsFor v h → (age ≡ 0) ↔ (holds v.sets v.ways h label tag ≡ false)
 absent_history v c is good tag label age lt iff h s =
     let e : has v tag label ≡ holds v.sets v.ways h label tag = has_is v (subst IsCache is (body_cache c good)) tag label h lt s in
@@ -259,7 +221,7 @@ latest_zeros [] ages h = refl
 latest_zeros (t ∷ tags) [] h = refl
 latest_zeros (t ∷ tags) (a ∷ ages) h = rw (eq-eqb a 0 h.0) (latest_zeros tags ages h.1)
 
-map_empty : (F : ℕ → List ℕ) (n : ℕ) → ((k : ℕ) → F k ≡ []) → map F (range_with_len 0 n) ≡ replicate n []
+map_empty : (F : ℕ → List Entry) (n : ℕ) → ((k : ℕ) → F k ≡ []) → map F (range_with_len 0 n) ≡ replicate n []
 map_empty F n h =
     ext_get_or [] (map F (range_with_len 0 n)) (replicate n []) (length-map-range_with_len F 0 n ∙ sym (length-replicate n []))
     (λ k lt. let l : k < n = omega (arith, length-map-range_with_len F 0 n) in get_or-map-range_with_len F 0 n k k [] l (omega arith) ∙ h k ∙ sym (get_or-replicate n k [] [] l))
@@ -270,16 +232,21 @@ module _ (c : Inside) (m : ℕ) (ages_are : c.ages.items ≡ replicate m 0) wher
       (subst (λ a. AllZero (part c.ways row a)) (sym ages_are) (AllZero-take c.ways (drop (row * c.ways) (replicate m 0)) (AllZero-drop (row * c.ways) (replicate m 0) (AllZero-replicate m))))
 
   pub new_value : rows_view c ≡ empty_cache c.lattice c.sets c.ways
-  new_value =
-      ap (λ rs. record (rows_view c) { rows = rs }) (map_empty (λ row. tags_of_entries (entries_at c.ways c.tags.items c.ages.items row)) (c.lattice.size * c.sets) (λ k. ap tags_of_entries (none_at k)))
-      ∙ ap (λ as'. record (empty_cache c.lattice c.sets c.ways) { ages = as' }) (map_empty (λ row. ages_of (entries_at c.ways c.tags.items c.ages.items row)) (c.lattice.size * c.sets) (λ k. ap ages_of (none_at k)))
+  new_value = ap (λ rs. record (rows_view c) { rows = rs }) (map_empty (entries_at c.ways c.tags.items c.ages.items) (c.lattice.size * c.sets) none_at)
+
+  pub new_age : (tag label : ℕ) → age_of (rows_view c) tag label ≡ 0
+  new_age tag label = ap (λ v. age_of v tag label) new_value ∙ ap (age_among tag) (none (label * c.sets + tag % c.sets) (cases_lt (label * c.sets + tag % c.sets) (c.lattice.size * c.sets)))
+    where
+      none : (k : ℕ) → ((k < c.lattice.size * c.sets) ⊎ (c.lattice.size * c.sets ≤ k)) → get_or {A = List Entry} (replicate (c.lattice.size * c.sets) []) k [] ≡ []
+      none k (inl lt) = get_or-replicate (c.lattice.size * c.sets) k [] [] lt
+      none k (inr ge) = get_or_past (replicate (c.lattice.size * c.sets) []) k [] (let l = length-replicate {A = List Entry} (c.lattice.size * c.sets) [] in omega arith)
 
   pub new_empty : StandsFor (rows_view c) []
   new_empty = StandsFor-empty (rows_view c) (λ k. ap (λ v. get_or v.rows k []) new_value ∙ go k (cases_lt k (c.lattice.size * c.sets)))
     where
-      go : (k : ℕ) → ((k < c.lattice.size * c.sets) ⊎ (c.lattice.size * c.sets ≤ k)) → get_or {A = List ℕ} (replicate (c.lattice.size * c.sets) []) k [] ≡ []
+      go : (k : ℕ) → ((k < c.lattice.size * c.sets) ⊎ (c.lattice.size * c.sets ≤ k)) → get_or {A = List Entry} (replicate (c.lattice.size * c.sets) []) k [] ≡ []
       go k (inl lt) = get_or-replicate (c.lattice.size * c.sets) k [] [] lt
-      go k (inr ge) = get_or_past (replicate (c.lattice.size * c.sets) []) k [] (let l = length-replicate {A = List ℕ} (c.lattice.size * c.sets) [] in omega arith)
+      go k (inr ge) = get_or_past (replicate (c.lattice.size * c.sets) []) k [] (let l = length-replicate {A = List Entry} (c.lattice.size * c.sets) [] in omega arith)
 
   AllZero_at : (xs : List ℕ) (k : ℕ) → AllZero xs → get_or xs k 0 ≡ 0
   AllZero_at [] k h = refl
@@ -330,17 +297,11 @@ module _ (c : Inside) (good : IsBody c) (v : Rows) (is : rows_view c ≡ v) (lab
   entries_cut : latest (zip (cut tags) (cut ages)) ≡ entries_at c.ways c.tags.items c.ages.items spot
   entries_cut = ap (λ t. latest (zip t (cut ages))) tags_cut ∙ ap (λ a. latest (zip (part c.ways spot c.tags.items) a)) ages_cut
 
-  pub cut_row : row_of v label set ≡ tags_of_entries (latest (zip (cut tags) (cut ages)))
+  pub cut_row : row_of v label set ≡ latest (zip (cut tags) (cut ages))
   cut_row =
       sym (ap (λ v. row_of v label set) is)
-      ∙ get_or-map-range_with_len (λ row. tags_of_entries (entries_at c.ways c.tags.items c.ages.items row)) 0 (c.lattice.size * c.sets) spot spot [] spot_below (omega arith)
-      ∙ ap tags_of_entries (sym entries_cut)
-
-  pub cut_row_ages : ages_at v label set ≡ ages_of (latest (zip (cut tags) (cut ages)))
-  cut_row_ages =
-      sym (ap (λ v. ages_at v label set) is)
-      ∙ get_or-map-range_with_len (λ row. ages_of (entries_at c.ways c.tags.items c.ages.items row)) 0 (c.lattice.size * c.sets) spot spot [] spot_below (omega arith)
-      ∙ ap ages_of (sym entries_cut)
+      ∙ get_or-map-range_with_len (entries_at c.ways c.tags.items c.ages.items) 0 (c.lattice.size * c.sets) spot spot [] spot_below (omega arith)
+      ∙ sym entries_cut
 
   pub cut_ages_apart : AgesApart (cut ages)
   cut_ages_apart = subst AgesApart (sym ages_cut) (good.ages_apart spot spot_below)

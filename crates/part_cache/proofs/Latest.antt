@@ -4,7 +4,8 @@ use Rattle.std.specs.Prelude.{not, cond, eqb, ltb, max}
 use Rattle.std.specs.List.{filter}
 use Rattle.std.proofs.lemmas.List.{take_all, take_at}
 use Rattle.std.proofs.lemmas.Bool.{cases_eq, cases_lt, cases_order, eqb-false, eq-eqb, ne_eqb, lt-ltb, le-ltb}
-use Rattle.part_cache.specs.Ages.{Entry, put, latest, clock, onto, age_among}
+use Rattle.part_cache.specs.Ages.{Entry, clock, onto, age_among}
+use Rattle.part_cache.specs.Slots.{put, latest}
 
 abbrev pub Each : (Entry → Type 0) → List Entry → Type 0
 Each P [] = Unit {0}

@@ -9,8 +9,10 @@ use Rattle.std.proofs.lemmas.Bool.{cases_eq, cases_lt, cases_Bool, both_ways}
 use Rattle.label_lattice.specs.Lattice.{Flows}
 use Rattle.label_lattice.specs.Order.{Order, lattice_of}
 use Rattle.part_cache.specs.History.{some_below}
-use Rattle.part_cache.specs.Rows.{Rows, row_of, IsCache, IsCacheOf, has, found, to_front, touched, rows_at, numbers_of, part_of}
-use Rattle.part_cache.proofs.Stands.{row_here, row_elsewhere, IsCache-touched, some_below_same}
+use Rattle.part_cache.specs.Ages.{Entry, tags_of, touch_row}
+use Rattle.part_cache.specs.Rows.{Rows, row_of, tags_at, IsCache, IsCacheOf, has, found, touched, tag_rows, numbers_of, part_of}
+use Rattle.part_cache.proofs.Near.{to_front}
+use Rattle.part_cache.proofs.Stands.{tags_here, tags_elsewhere, IsCache-touched, some_below_same}
 
 -- the numbers give the rows back
 pub rows_from_numbers : (xs ys : List (List ℕ)) → numbers_of xs ≡ numbers_of ys → xs ≡ ys
@@ -26,19 +28,19 @@ rows_from_numbers (x ∷ xs) (y ∷ ys) e =
     cc
 
 -- equal parts are equal rows
-pub rows_same : (c d : Rows) (label : ℕ) → c.sets ≡ d.sets → part_of label c ≡ part_of label d → (set : ℕ) → set < c.sets → row_of c label set ≡ row_of d label set
+pub rows_same : (c d : Rows) (label : ℕ) → c.sets ≡ d.sets → part_of label c ≡ part_of label d → (set : ℕ) → set < c.sets → tags_at c label set ≡ tags_at d label set
 rows_same c d label n e set h =
-    sym (get_or-map-range_with_len (row_of c label) 0 c.sets set set [] h (omega arith))
-    ∙ ap (λ rs. get_or rs set []) (rows_from_numbers (rows_at c label) (rows_at d label) e)
-    ∙ get_or-map-range_with_len (row_of d label) 0 d.sets set set [] (omega arith) (omega arith)
+    sym (get_or-map-range_with_len (tags_at c label) 0 c.sets set set [] h (omega arith))
+    ∙ ap (λ rs. get_or rs set []) (rows_from_numbers (tag_rows c label) (tag_rows d label) e)
+    ∙ get_or-map-range_with_len (tags_at d label) 0 d.sets set set [] (omega arith) (omega arith)
 
 map_same : (f g : ℕ → List ℕ) (a n : ℕ) → ((k : ℕ) → k < a + n → f k ≡ g k) → map f (range_with_len a n) ≡ map g (range_with_len a n)
 map_same f g a zero h = refl
 map_same f g a (suc n) h = rw (h a (omega arith), map_same f g (a + 1) n (λ k lt. h k (omega arith))) refl
 
-pub part_same : (c d : Rows) (label label' : ℕ) → c.sets ≡ d.sets → ((set : ℕ) → set < c.sets → row_of c label set ≡ row_of d label' set) → part_of label c ≡ part_of label' d
+pub part_same : (c d : Rows) (label label' : ℕ) → c.sets ≡ d.sets → ((set : ℕ) → set < c.sets → tags_at c label set ≡ tags_at d label' set) → part_of label c ≡ part_of label' d
 part_same c d label label' n h =
-    ap numbers_of (map_same (row_of c label) (row_of d label') 0 c.sets (λ k lt. h k (omega arith)) ∙ ap (λ m. map (row_of d label') (range_with_len 0 m)) n)
+    ap numbers_of (map_same (tags_at c label) (tags_at d label') 0 c.sets (λ k lt. h k (omega arith)) ∙ ap (λ m. map (tags_at d label') (range_with_len 0 m)) n)
 
 module _ (order : Order) (sets ways : ℕ) where
   pub touched_serves : (c : Rows) (tag ew : ℕ) → IsCacheOf order sets ways c → IsCacheOf order sets ways (touched c tag ew)
@@ -46,7 +48,7 @@ module _ (order : Order) (sets ways : ℕ) where
 
   -- the parts of other labels stay
   pub part_elsewhere : (c : Rows) (tag ew label : ℕ) → IsCacheOf order sets ways c → (label ≡ ew → ⊥) → part_of label (touched c tag ew) ≡ part_of label c
-  part_elsewhere c tag ew label s ne = part_same (touched c tag ew) c label label refl (λ set h. row_elsewhere c s.cache tag ew label set h (λ p. ne p.0))
+  part_elsewhere c tag ew label s ne = part_same (touched c tag ew) c label label refl (λ set h. tags_elsewhere c s.cache tag ew label set h (λ p. ne p.0))
 
   -- a lookup reads the parts that flow to er
   pub found_same : (c d : Rows) (tag er : ℕ) → IsCacheOf order sets ways c → IsCacheOf order sets ways d → ((l : ℕ) → Flows (lattice_of order) l er → part_of l c ≡ part_of l d) → found c tag er ≡ found d tag er
@@ -61,8 +63,8 @@ module _ (order : Order) (sets ways : ℕ) where
       go n o label (inl f) =
           let e : (lattice_of c.order).flows label er ≡ (lattice_of d.order).flows label er = ap (λ (o : Order). (lattice_of o).flows label er) o in
           let flows : Flows (lattice_of order) label er = ap (λ (o : Order). (lattice_of o).flows label er) (sym s.same_order) ∙ f in
-          let row : row_of c label (tag % c.sets) ≡ row_of d label (tag % c.sets) = rows_same c d label n (agree label flows) (tag % c.sets) (mod_below tag c.sets s.cache.some_set) in
-          ap (λ b. b && has c tag label) e ∙ ap (λ b. (lattice_of d.order).flows label er && b) (ap (list_any (eqb tag)) (row ∙ ap (λ m. row_of d label (tag % m)) n))
+          let row : tags_at c label (tag % c.sets) ≡ tags_at d label (tag % c.sets) = rows_same c d label n (agree label flows) (tag % c.sets) (mod_below tag c.sets s.cache.some_set) in
+          ap (λ b. b && has c tag label) e ∙ ap (λ b. (lattice_of d.order).flows label er && b) (ap (list_any (eqb tag)) (row ∙ ap (λ m. tags_at d label (tag % m)) n))
       go n o label (inr f) =
           let e : (lattice_of c.order).flows label er ≡ (lattice_of d.order).flows label er = ap (λ (o : Order). (lattice_of o).flows label er) o in
           let g : (lattice_of d.order).flows label er ≡ false = sym e ∙ f in
@@ -77,23 +79,23 @@ module _ (order : Order) (sets ways : ℕ) where
       part_same (touched c tag ew) (touched d tag ew) ew ew n (λ set h. row n w z set h (cases_lt ew c.order.size) (cases_eq set (tag % c.sets)))
     where
       -- a label that is none is not touched
-      past : (x : Rows) → IsCache x → x.order.size ≤ ew → (set : ℕ) → row_of (touched x tag ew) ew set ≡ row_of x ew set
-      past x good ge set = ap (λ rs. get_or rs (ew * x.sets + set) []) (set_past x.rows (ew * x.sets + tag % x.sets) (to_front x.ways tag (row_of x ew (tag % x.sets))) (grind (arith, good.each_set)))
+      past : (x : Rows) → IsCache x → x.order.size ≤ ew → (set : ℕ) → tags_at (touched x tag ew) ew set ≡ tags_at x ew set
+      past x good ge set = ap (λ rs. tags_of (get_or rs (ew * x.sets + set) [])) (set_past x.rows (ew * x.sets + tag % x.sets) (touch_row x.ways tag (row_of x ew (tag % x.sets))) (grind (arith, good.each_set)))
 
-      row : (c.sets ≡ d.sets) → (c.ways ≡ d.ways) → (c.order.size ≡ d.order.size) → (set : ℕ) → set < c.sets → ((ew < c.order.size) ⊎ (c.order.size ≤ ew)) → ((set ≡ tag % c.sets) ⊎ (set ≡ tag % c.sets → ⊥)) → row_of (touched c tag ew) ew set ≡ row_of (touched d tag ew) ew set
+      row : (c.sets ≡ d.sets) → (c.ways ≡ d.ways) → (c.order.size ≡ d.order.size) → (set : ℕ) → set < c.sets → ((ew < c.order.size) ⊎ (c.order.size ≤ ew)) → ((set ≡ tag % c.sets) ⊎ (set ≡ tag % c.sets → ⊥)) → tags_at (touched c tag ew) ew set ≡ tags_at (touched d tag ew) ew set
       row n w z set h (inr ge) q =
           past c s.cache ge set ∙ rows_same c d ew n e set h ∙ sym (past d t.cache (omega arith) set)
       row n w z set h (inl lt) (inr ne) =
-          row_elsewhere c s.cache tag ew ew set h (λ p. ne p.1) ∙ rows_same c d ew n e set h
-          ∙ sym (row_elsewhere d t.cache tag ew ew set (omega arith) (λ p. ne (p.1 ∙ ap (λ m. tag % m) (sym n))))
+          tags_elsewhere c s.cache tag ew ew set h (λ p. ne p.1) ∙ rows_same c d ew n e set h
+          ∙ sym (tags_elsewhere d t.cache tag ew ew set (omega arith) (λ p. ne (p.1 ∙ ap (λ m. tag % m) (sym n))))
       row n w z set h (inl lt) (inl q) =
           let same : tag % c.sets ≡ tag % d.sets = ap (λ m. tag % m) n in
-          let old : row_of c ew (tag % c.sets) ≡ row_of d ew (tag % d.sets) = rows_same c d ew n e (tag % c.sets) (mod_below tag c.sets s.cache.some_set) ∙ ap (row_of d ew) same in
-          ap (row_of (touched c tag ew) ew) q
-          ∙ row_here c s.cache tag ew lt
-          ∙ ap (to_front c.ways tag) old ∙ ap (λ m. to_front m tag (row_of d ew (tag % d.sets))) w
-          ∙ sym (row_here d t.cache tag ew (omega arith))
-          ∙ ap (row_of (touched d tag ew) ew) (sym (q ∙ same))
+          let old : tags_at c ew (tag % c.sets) ≡ tags_at d ew (tag % d.sets) = rows_same c d ew n e (tag % c.sets) (mod_below tag c.sets s.cache.some_set) ∙ ap (tags_at d ew) same in
+          ap (tags_at (touched c tag ew) ew) q
+          ∙ tags_here c s.cache tag ew lt
+          ∙ ap (to_front c.ways tag) old ∙ ap (λ m. to_front m tag (tags_at d ew (tag % d.sets))) w
+          ∙ sym (tags_here d t.cache tag ew (omega arith))
+          ∙ ap (tags_at (touched d tag ew) ew) (sym (q ∙ same))
 
   pub part_agrees : (c d : Rows) (tag ew label : ℕ) → IsCacheOf order sets ways c → IsCacheOf order sets ways d → part_of label c ≡ part_of label d → part_of label (touched c tag ew) ≡ part_of label (touched d tag ew)
   part_agrees c d tag ew label s t e =
@@ -103,9 +105,9 @@ module _ (order : Order) (sets ways : ℕ) where
       (cases_eq label ew)
 
 -- ---- a loop that compares the rows
-pub differ_at : (c d : Rows) (label set : ℕ) (same : Bool) → c.sets ≡ d.sets → set < c.sets → ((same ≡ true) ↔ (row_of c label set ≡ row_of d label set)) → same ≡ false → (r : Bool) → r ≡ false → (r ≡ true) ↔ (part_of label c ≡ part_of label d)
+pub differ_at : (c d : Rows) (label set : ℕ) (same : Bool) → c.sets ≡ d.sets → set < c.sets → ((same ≡ true) ↔ (tags_at c label set ≡ tags_at d label set)) → same ≡ false → (r : Bool) → r ≡ false → (r ≡ true) ↔ (part_of label c ≡ part_of label d)
 differ_at c d label set same n h iff failed r f =
     (λ t. absurd (both_ways r f t), λ e. absurd (both_ways same failed (iff.1 (rows_same c d label n e set h))))
 
-pub same_to_end : (c d : Rows) (label end : ℕ) → c.sets ≡ d.sets → c.sets ≤ end → ((k : ℕ) → k < end → row_of c label k ≡ row_of d label k) → part_of label c ≡ part_of label d
+pub same_to_end : (c d : Rows) (label end : ℕ) → c.sets ≡ d.sets → c.sets ≤ end → ((k : ℕ) → k < end → tags_at c label k ≡ tags_at d label k) → part_of label c ≡ part_of label d
 same_to_end c d label end n le h = part_same c d label label n (λ set lt. h set (omega arith))

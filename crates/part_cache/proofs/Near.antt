@@ -1,11 +1,16 @@
 -- What is near is the front of the list of different tags.
-use Rattle.std.proofs.Common.{◌≡◌, ℕ, zero, suc, ◌<◌, ◌≤◌, List, [], ◌∷◌, length, take, Bool, true, false, refl, sym, ap, ◌∙◌, subst, ⊎_elim, arith, Option, Some, None}
-use Rattle.std.specs.Prelude.{not, cond, eqb, ltb, ◌||◌}
+use Rattle.std.proofs.Common.{◌≡◌, ℕ, zero, suc, ◌+◌, ◌<◌, ◌≤◌, List, [], ◌∷◌, length, take, Bool, true, false, refl, sym, ap, ◌∙◌, subst, ⊎_elim, arith, Option, Some, None}
+use Rattle.std.specs.Prelude.{not, cond, eqb, ltb, leb, ◌||◌}
 use Rattle.std.specs.List.{filter, list_any}
 use Rattle.std.specs.Option.{option_map, option_map_or}
+use Rattle.std.proofs.lemmas.List.{take-map}
 use Rattle.std.proofs.lemmas.Bool.{cases_lt, eqb-true, eq-eqb, lt-ltb, le-ltb, or_parts, not-true, both_ways, false_from_ne_true}
 use Rattle.part_cache.specs.History.{since, distinct, is_near}
-use Rattle.part_cache.specs.Rows.{to_front}
+use Rattle.part_cache.specs.Ages.{Entry, tags_of, clock, renumbered, settled, touch_row}
+
+-- the tag at the front, and as many of the others as there are ways left
+abbrev pub to_front : ℕ → ℕ → List ℕ → List ℕ
+to_front ways tag row = take ways (tag ∷ filter (λ y. not (eqb tag y)) row)
 
 abbrev pub other : ℕ → ℕ → Bool
 other x y = not (eqb x y)
@@ -251,3 +256,29 @@ any_near ways x back = go (is_near ways back x) refl
                 let ne : eqb x z ≡ false = false_from_ne_true (eqb x z) (λ q. both_ways (p x) e (ap p (eqb-true x z q) ∙ f)) in
                 rw ne h
             at false f h = h
+
+-- ---- the tags know no ages
+tags-renumbered : (es : List Entry) → tags_of (renumbered es) ≡ tags_of es
+tags-renumbered [] = refl
+tags-renumbered (e ∷ es) = ap (λ t. e.0 ∷ t) (tags-renumbered es)
+
+tags-settled : (es : List Entry) → tags_of (settled es) ≡ tags_of es
+tags-settled es = go (leb 65535 (clock es))
+  where
+    go : (b : Bool) → tags_of (cond b (renumbered es) es) ≡ tags_of es
+    go true = tags-renumbered es
+    go false = refl
+
+tags-filter : (tag : ℕ) (es : List Entry) → tags_of (filter (λ (e : Entry). not (eqb tag e.0)) es) ≡ filter (λ y. not (eqb tag y)) (tags_of es)
+tags-filter tag [] = refl
+tags-filter tag (e ∷ es) = go (not (eqb tag e.0)) (tags-filter tag es)
+  where
+    go : (b : Bool) → tags_of (filter (λ (e : Entry). not (eqb tag e.0)) es) ≡ filter (λ y. not (eqb tag y)) (tags_of es) →
+        tags_of (cond b (e ∷ filter (λ (e : Entry). not (eqb tag e.0)) es) (filter (λ (e : Entry). not (eqb tag e.0)) es)) ≡ cond b (e.0 ∷ filter (λ y. not (eqb tag y)) (tags_of es)) (filter (λ y. not (eqb tag y)) (tags_of es))
+    go true r = ap (λ t. e.0 ∷ t) r
+    go false r = r
+
+pub tags-touch_row : (ways tag : ℕ) (es : List Entry) → tags_of (touch_row ways tag es) ≡ to_front ways tag (tags_of es)
+tags-touch_row ways tag es =
+    sym (take-map (λ (e : Entry). e.0) ways ((tag, clock (settled es) + 1) ∷ filter (λ (e : Entry). not (eqb tag e.0)) (settled es)))
+    ∙ ap (λ t. take ways (tag ∷ t)) (tags-filter tag (settled es) ∙ ap (filter (λ y. not (eqb tag y))) (tags-settled es))

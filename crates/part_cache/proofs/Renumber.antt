@@ -5,7 +5,8 @@ use Rattle.std.specs.List.{zip}
 use Rattle.std.proofs.lemmas.List.Recursion.{is_count_by, max_push}
 use Rattle.std.proofs.lemmas.List.{get_or-map, length-map, take_more, take_all, take_more_set, map_more}
 use Rattle.std.proofs.lemmas.Bool.{cases_eq, cases_lt, cases_order, eq-eqb, ne_eqb, ltb-true, ltb-false, lt-ltb, le-ltb, le-leb, lt-leb, and_from, and_left, and_right, cond-true, cond-false}
-use Rattle.part_cache.specs.Ages.{Entry, put, latest, clock, renumbered, settled, largest, AgesApart, TagsApart, rank_in, counts, count_to}
+use Rattle.part_cache.specs.Ages.{Entry, clock, renumbered, settled}
+use Rattle.part_cache.specs.Slots.{put, latest, largest, AgesApart, TagsApart, rank_in, counts, count_to}
 use Rattle.part_cache.proofs.Latest.{Each, Each-map, Each-latest}
 use Rattle.part_cache.proofs.Written.{clock-zip}
 

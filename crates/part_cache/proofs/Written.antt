@@ -4,7 +4,8 @@ use Rattle.std.specs.Prelude.{eqb, max}
 use Rattle.std.specs.List.{zip}
 use Rattle.std.proofs.lemmas.List.{set_split, set-get_or}
 use Rattle.std.proofs.lemmas.Bool.{cases_eq, cases_lt, eq-eqb, ne_eqb}
-use Rattle.part_cache.specs.Ages.{Entry, latest, clock, onto, largest, AgesApart, TagsApart, Picked, has_tag, is_least, age_among}
+use Rattle.part_cache.specs.Ages.{Entry, clock, onto, age_among}
+use Rattle.part_cache.specs.Slots.{latest, largest, AgesApart, TagsApart, Picked, has_tag, is_least}
 use Rattle.part_cache.proofs.Latest.{Each, most, clock-latest, rest, row, next, written_is, held_case, empty_case, least_case, held_age, age_none, Each-latest}
 
 pub get_or-zip : (tags ages : List ℕ) (k : ℕ) → length tags ≡ length ages → get_or (zip tags ages) k (0, 0) ≡ (get_or tags k 0, get_or ages k 0)

@@ -1,10 +1,9 @@
 -- The flat rows of the body.
 use Rattle.std.specs.Prelude.{◌≡◌, ℕ, ◌*◌, ◌≤◌, ◌<◌, List, length, map}
 use Rattle.std.specs.List.{zip, range_with_len}
+use Rattle.part_cache.specs.Ages.{Entry}
 use Rattle.part_cache.specs.Rows.{Rows}
-use Rattle.part_cache.specs.Ages.{Entry, latest, AgesApart, TagsApart}
-use Rattle.part_cache.specs.Parts.{part}
-use Rattle.part_cache.specs.Ages.{tags_of_entries, ages_of}
+use Rattle.part_cache.specs.Slots.{latest, part, AgesApart, TagsApart}
 use Rattle.part_cache.specs.declared.cache.PartCache.TheInside.{Inside}
 
 abbrev pub entries_at : ℕ → List ℕ → List ℕ → ℕ → List Entry
@@ -16,8 +15,7 @@ rows_view c =
       order = c.lattice;
       sets = c.sets;
       ways = c.ways;
-      rows = map (λ row. tags_of_entries (entries_at c.ways c.tags.items c.ages.items row)) (range_with_len 0 (c.lattice.size * c.sets));
-      ages = map (λ row. ages_of (entries_at c.ways c.tags.items c.ages.items row)) (range_with_len 0 (c.lattice.size * c.sets));
+      rows = map (entries_at c.ways c.tags.items c.ages.items) (range_with_len 0 (c.lattice.size * c.sets));
     }
 
 pub record IsBody (c : Inside) : Type 0 where

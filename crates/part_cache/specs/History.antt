@@ -10,10 +10,10 @@ pub record Touched : Type 0 where
   pub tag : ℕ
 
 -- the tags that were touched in a set of a partition, in their order
-abbrev pub tags_of : ℕ → ℕ → ℕ → List Touched → List ℕ
-tags_of sets label set [] = []
-tags_of sets label set (x ∷ xs) =
-    cond (eqb x.label label && eqb (x.tag % sets) set) (x.tag ∷ tags_of sets label set xs) (tags_of sets label set xs)
+abbrev pub tags_in : ℕ → ℕ → ℕ → List Touched → List ℕ
+tags_in sets label set [] = []
+tags_in sets label set (x ∷ xs) =
+    cond (eqb x.label label && eqb (x.tag % sets) set) (x.tag ∷ tags_in sets label set xs) (tags_in sets label set xs)
 
 -- looking back, the tags that came after the last touch of this one; none where it was never touched
 abbrev pub since : ℕ → List ℕ → Option (List ℕ)
@@ -31,7 +31,7 @@ is_near ways back tag = option_map_or (λ later. ltb (length (distinct later)) w
 
 -- a partition holds a tag
 abbrev pub holds : ℕ → ℕ → List Touched → ℕ → ℕ → Bool
-holds sets ways history label tag = is_near ways (reverse (tags_of sets label (tag % sets) history)) tag
+holds sets ways history label tag = is_near ways (reverse (tags_in sets label (tag % sets) history)) tag
 
 -- some label below n passes the test
 abbrev pub some_below : ℕ → (ℕ → Bool) → Bool
@@ -45,4 +45,4 @@ hits order sets ways history er tag = some_below order.size (λ label. (lattice_
 -- the tags that a set of a partition holds, the latest touched first
 abbrev pub held : ℕ → ℕ → List Touched → ℕ → ℕ → List ℕ
 held sets ways history label set =
-    let back = reverse (tags_of sets label set history) in filter (is_near ways back) (distinct back)
+    let back = reverse (tags_in sets label set history) in filter (is_near ways back) (distinct back)

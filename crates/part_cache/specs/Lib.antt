@@ -1,5 +1,5 @@
 pub mod History
 pub mod Ages
 pub mod Rows
-pub mod Parts
+pub mod Slots
 pub mod Body

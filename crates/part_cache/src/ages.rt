@@ -1,6 +1,9 @@
+//! The ages of one set: its clock, and how they are numbered anew at the end of their range.
+
 ghost use Rattle.std.specs.Prelude.{◌≡◌, ◌<◌, ◌≤◌, ℕ, List, map, length};
 ghost use Rattle.std.specs.List.{zip};
-ghost use Rattle.part_cache.specs.Ages.{latest, settled, largest, rank_in, AgesApart, TagsApart};
+ghost use Rattle.part_cache.specs.Ages.{settled};
+ghost use Rattle.part_cache.specs.Slots.{latest, largest, rank_in, AgesApart, TagsApart};
 
 /// The greatest age.
 #[tactic(auto, using(crate::proofs::Renumber::largest_more))]

@@ -1,8 +1,11 @@
-ghost use Rattle.std.specs.Prelude.{◌≡◌, ◌<◌, ◌≤◌, [], ◌∷◌, ◌++◌, List, length, false, IfOk, IsTrue, ◌↔◌};
+//! The partitioned cache.
+
+ghost use Rattle.std.specs.Prelude.{◌≡◌, ◌+◌, ◌%◌, ◌<◌, ◌≤◌, ℕ, [], ◌∷◌, ◌++◌, List, length, false, IfOk, IsTrue, ◌↔◌};
 ghost use Rattle.std.specs.List.{zip};
-ghost use Rattle.part_cache.specs.Ages.{latest, tags_of_entries, ages_of, AgesApart, TagsApart};
+ghost use Rattle.part_cache.specs.Ages.{clock, settled};
+ghost use Rattle.part_cache.specs.Slots.{latest, AgesApart, TagsApart};
 ghost use Rattle.part_cache.specs.History.{Touched, holds, hits};
-ghost use Rattle.part_cache.specs.Rows.{StandsFor, IsCacheOf, empty_cache, part_of, row_of, ages_at, age_of, has, found, touched};
+ghost use Rattle.part_cache.specs.Rows.{StandsFor, IsCacheOf, empty_cache, part_of, row_of, tags_at, age_of, has, found, touched};
 
 use crate::compare::is_same;
 use crate::ways::{age_in, is_in, touch_at};
@@ -44,6 +47,7 @@ impl PartCache {
         ensures value { IfOk result (λ c. c ≡ empty_cache lattice sets ways) }
         ensures cache { IfOk result (IsCacheOf lattice sets ways) }
         ensures history { IfOk result (λ c. StandsFor c []) }
+        ensures ages { IfOk result (λ c. (tag label : ℕ) → age_of c tag label ≡ 0) }
     {
         let count = lattice.size() as usize * sets as usize * ways as usize;
         let tags = vec![in alloc; 0; count]?;
@@ -74,20 +78,26 @@ impl PartCache {
     }
 
     /// Puts the tag at the front of its set in the partition of `ew`, which keeps as many of the set's
-    /// other tags as there are ways left. Takes no memory.
+    /// other tags as there are ways left. Its age becomes 1 more than the set's greatest; where that is at
+    /// the end of its range, the set's ages are first renumbered as 1, 2, .. in their order. Takes no memory.
     pub fn touch(&mut self, tag: u32, ew: Label)
         requires { ew.number < self.old.order.size }
         ensures touched { self.new ≡ touched self.old tag ew.number }
         ensures history { (h : List Touched) → StandsFor self.old h
             → StandsFor self.new (h ++ record { label = ew.number; tag = tag } ∷ []) }
+        ensures age { age_of self.new tag ew.number
+            ≡ clock (settled (row_of self.old ew.number (tag % self.old.sets))) + 1 }
+        ensures other_ages { (other label : ℕ)
+            → ((label ≡ ew.number) × (other % self.old.sets ≡ tag % self.old.sets) → ⊥)
+            → age_of self.new other label ≡ age_of self.old other label }
     {
         let row = usize::from(ew.number) * self.sets as usize + (tag % self.sets) as usize;
         let ways = self.ways as usize;
         touch_at(&mut self.tags, &mut self.ages, row, ways, tag);
     }
 
-    /// The age of the tag in the partition of the label, 0 exactly where it is not held there. Of two
-    /// tags of a set the later touched has the greater age. Takes no memory.
+    /// The age of the tag in the partition of the label, 0 exactly where it is not held there. Takes no
+    /// memory.
     pub fn age(&self, tag: u32, label: Label) -> u16
         requires { label.number < self.now.order.size }
         ensures age { result ≡ age_of self.now tag label.number }
@@ -121,7 +131,7 @@ impl PartCache {
         requires there { label.number < other.now.order.size }
         requires sets { self.now.sets ≡ other.now.sets }
         requires in_sets { set < self.now.sets }
-        ensures { IsTrue result ↔ (row_of self.now label.number set ≡ row_of other.now label.number set) }
+        ensures { IsTrue result ↔ (tags_at self.now label.number set ≡ tags_at other.now label.number set) }
     {
         let (tags, ages) = self.ways_of(label, set);
         let (other_tags, other_ages) = other.ways_of(label, set);
@@ -141,8 +151,7 @@ impl PartCache {
     fn ways_of(&self, label: Label, set: u32) -> (&[u32], &[u16])
         requires label { label.number < self.now.order.size }
         requires set { set < self.now.sets }
-        ensures tags { row_of self.now label.number set ≡ tags_of_entries (latest (zip result.0.now result.1.now)) }
-        ensures ages { ages_at self.now label.number set ≡ ages_of (latest (zip result.0.now result.1.now)) }
+        ensures row { row_of self.now label.number set ≡ latest (zip result.0.now result.1.now) }
         ensures same { length result.0.now ≡ length result.1.now }
         ensures ages_apart { AgesApart result.1.now }
         ensures tags_apart { TagsApart result.0.now result.1.now }

@@ -1,7 +1,9 @@
-ghost use Rattle.std.specs.Prelude.{◌≡◌, ◌+◌, ◌*◌, ◌^◌, ◌<◌, ◌≤◌, ℕ, length, slice_index, MatchOption, IsTrue, ◌↔◌};
+//! Whether two sets hold the same tags in the same order.
+
+ghost use Rattle.std.specs.Prelude.{◌≡◌, ◌<◌, ◌≤◌, ℕ, length, slice_index, MatchOption, IsTrue, ◌↔◌};
 ghost use Rattle.std.specs.List.{zip};
-ghost use Rattle.part_cache.specs.Parts.{part};
-ghost use Rattle.part_cache.specs.Ages.{latest, tags_of_entries, AgesApart};
+ghost use Rattle.part_cache.specs.Ages.{tags_of};
+ghost use Rattle.part_cache.specs.Slots.{latest, AgesApart};
 
 use crate::ages::clock;
 
@@ -29,7 +31,7 @@ pub fn is_same(tags: &[u32], ages: &[u16], others: &[u32], other_ages: &[u16]) -
     requires same_others { length others.now ≡ length other_ages.now }
     requires apart { AgesApart ages.now }
     requires apart_others { AgesApart other_ages.now }
-    ensures { IsTrue result ↔ (tags_of_entries (latest (zip tags.now ages.now)) ≡ tags_of_entries (latest (zip others.now other_ages.now))) }
+    ensures { IsTrue result ↔ (tags_of (latest (zip tags.now ages.now)) ≡ tags_of (latest (zip others.now other_ages.now))) }
 {
     let mut bound = clock(ages) as u32 + 1;
     let mut other_bound = clock(other_ages) as u32 + 1;

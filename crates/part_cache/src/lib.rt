@@ -4,4 +4,6 @@
 mod ages;
 pub mod cache;
 mod compare;
+#[cfg(test)]
+mod tests;
 mod ways;

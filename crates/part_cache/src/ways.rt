@@ -1,7 +1,9 @@
+//! The ways of one set: a row of tags and a row of ages, of which 0 marks an empty way.
+
 ghost use Rattle.std.specs.Prelude.{◌≡◌, ◌+◌, ◌*◌, ◌^◌, eqb, ◌<◌, ◌≤◌, ℕ, length, slice_index, MatchOption, false, ◌↔◌};
 ghost use Rattle.std.specs.List.{zip, list_any};
-ghost use Rattle.part_cache.specs.Parts.{part};
-ghost use Rattle.part_cache.specs.Ages.{latest, touch_row, tags_of_entries, AgesApart, TagsApart, Picked, age_among};
+ghost use Rattle.part_cache.specs.Ages.{touch_row, tags_of, age_among};
+ghost use Rattle.part_cache.specs.Slots.{part, latest, AgesApart, TagsApart, Picked};
 
 use crate::ages::{clock, settle};
 
@@ -72,7 +74,7 @@ pub fn age_in(tags: &[u32], ages: &[u16], tag: u32) -> u16
     requires ages { AgesApart ages.now }
     requires tags { TagsApart tags.now ages.now }
     ensures age { result ≡ age_among tag (latest (zip tags.now ages.now)) }
-    ensures absent { (result ≡ 0) ↔ (list_any (eqb tag) (tags_of_entries (latest (zip tags.now ages.now))) ≡ false) }
+    ensures absent { (result ≡ 0) ↔ (list_any (eqb tag) (tags_of (latest (zip tags.now ages.now))) ≡ false) }
 {
     match holder(tags, ages, tag) {
         Some(way) => ages[way],
@@ -83,7 +85,7 @@ pub fn age_in(tags: &[u32], ages: &[u16], tag: u32) -> u16
 /// Whether a way has the tag.
 pub fn is_in(tags: &[u32], ages: &[u16], tag: u32) -> bool
     requires { length tags.now ≡ length ages.now }
-    ensures { result ≡ list_any (eqb tag) (tags_of_entries (latest (zip tags.now ages.now))) }
+    ensures { result ≡ list_any (eqb tag) (tags_of (latest (zip tags.now ages.now))) }
 {
     match holder(tags, ages, tag) {
         Some(_way) => true,

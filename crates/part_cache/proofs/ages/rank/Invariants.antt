@@ -1,6 +1,6 @@
 use Rattle.std.proofs.Common.{◌≡◌, ◌≤◌, take}
 use Rattle.std.specs.Prelude.{count_by}
-use Rattle.part_cache.specs.Ages.{counts}
+use Rattle.part_cache.specs.Slots.{counts}
 use Rattle.part_cache.proofs.ages.rank.Given as goal
 
 abbrev pub invariant-loop-other : goal.invariant-loop-other

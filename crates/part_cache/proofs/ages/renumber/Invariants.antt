@@ -1,6 +1,6 @@
 use Rattle.std.proofs.Common.{◌≡◌, take, length}
 use Rattle.std.specs.Prelude.{map}
-use Rattle.part_cache.specs.Ages.{rank_in}
+use Rattle.part_cache.specs.Slots.{rank_in}
 use Rattle.part_cache.proofs.ages.renumber.Given as goal
 
 abbrev pub invariant-loop-i : goal.invariant-loop-i

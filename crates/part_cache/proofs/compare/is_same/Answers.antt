@@ -1,7 +1,8 @@
 use Rattle.std.proofs.Common.{◌+◌, refl, sym, ap, ◌∙◌}
 use Rattle.std.proofs.lemmas.Bool.{false≢true}
 use Rattle.std.specs.List.{zip}
-use Rattle.part_cache.specs.Ages.{latest, tags_of_entries}
+use Rattle.part_cache.specs.Ages.{tags_of}
+use Rattle.part_cache.specs.Slots.{latest}
 use Rattle.part_cache.proofs.Below.{SameFrom-start, SameFrom-next, SameFrom-differ, SameFrom-longer, SameFrom-shorter, start_is, end_is, next_is}
 use Rattle.part_cache.proofs.compare.is_same.Goals as goal
 
@@ -13,7 +14,7 @@ down-init c =
 
 pub returns-in-None-newest_below : goal.returns-in-None-newest_below
 returns-in-None-newest_below c =
-    (λ t. c.down.invariant.back (ap tags_of_entries (end_is c.args.tags.now c.args.ages.now c.requires.same c.requires.apart c.down.bound c.in-None.ensures ∙ sym (end_is c.args.others.now c.args.other_ages.now c.requires.same_others c.requires.apart_others c.down.other_bound c.in-None-newest_below.ensures))), λ q. refl)
+    (λ t. c.down.invariant.back (ap tags_of (end_is c.args.tags.now c.args.ages.now c.requires.same c.requires.apart c.down.bound c.in-None.ensures ∙ sym (end_is c.args.others.now c.args.other_ages.now c.requires.same_others c.requires.apart_others c.down.other_bound c.in-None-newest_below.ensures))), λ q. refl)
 
 pub returns-in-Some-newest_below : goal.returns-in-Some-newest_below
 returns-in-Some-newest_below c = (

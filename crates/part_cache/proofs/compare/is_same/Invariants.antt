@@ -1,5 +1,5 @@
 use Rattle.std.specs.List.{zip}
-use Rattle.part_cache.specs.Ages.{latest}
+use Rattle.part_cache.specs.Slots.{latest}
 use Rattle.part_cache.proofs.Below.{SameFrom}
 use Rattle.part_cache.proofs.compare.is_same.Given as goal
 

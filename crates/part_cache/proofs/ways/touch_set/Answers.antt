@@ -1,6 +1,7 @@
 use Rattle.std.proofs.Common.{◌≡◌, ◌+◌, ◌∙◌, ap, arith, length}
 use Rattle.std.specs.List.{zip}
-use Rattle.part_cache.specs.Ages.{latest, onto}
+use Rattle.part_cache.specs.Ages.{onto}
+use Rattle.part_cache.specs.Slots.{latest}
 use Rattle.part_cache.proofs.Written.{written, ages_apart, tags_apart}
 use Rattle.part_cache.proofs.ways.touch_set.Goals as goal
 

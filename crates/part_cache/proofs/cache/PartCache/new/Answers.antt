@@ -1,7 +1,7 @@
 use Rattle.std.proofs.Common.{◌≡◌, ◌*◌, refl, sym, ap, ◌∙◌, ◌≤◌, arith}
 use Rattle.std.specs.Prelude.{replicate}
 use Rattle.part_cache.specs.declared.cache.PartCache.TheInside.{Inside}
-use Rattle.part_cache.proofs.Flat.{new_value, new_empty, new_body, body_cache}
+use Rattle.part_cache.proofs.Flat.{new_value, new_age, new_empty, new_body, body_cache}
 use Rattle.part_cache.proofs.cache.PartCache.new.Goals as goal
 
 abbrev made : goal.In_ok-ages → Inside
@@ -32,3 +32,6 @@ returns-clause-cache c =
 
 pub returns-clause-history : goal.returns-clause-history
 returns-clause-history c = new_empty (made c) _ (zeros c)
+
+pub returns-clause-ages : goal.returns-clause-ages
+returns-clause-ages c = new_age (made c) _ (zeros c)

@@ -1,6 +1,6 @@
 use Rattle.std.proofs.Common.{◌<◌, sym, ap, ◌∙◌, subst}
 use Rattle.part_cache.specs.Rows.{touched}
-use Rattle.part_cache.proofs.Flat.{tags_fit, ages_fit, ages_apart, tags_apart, touched_view, touched_body, touched_history}
+use Rattle.part_cache.proofs.Flat.{tags_fit, ages_fit, ages_apart, tags_apart, touched_view, touched_body, touched_history, touched_age, touched_others}
 use Rattle.part_cache.proofs.cache.PartCache.touch.Goals as goal
 
 pub touch_at-requires-clause-tags_fit : goal.touch_at-requires-clause-tags_fit
@@ -32,3 +32,9 @@ returns-clause-touched c =
 
 pub returns-clause-history : goal.returns-clause-history
 returns-clause-history c = touched_history c.args.self.now _ c.self.inside c.self.view_is c.self.invariant c.args.tag c.args.ew.number c.requires (returns-clause-touched c)
+
+pub returns-clause-age : goal.returns-clause-age
+returns-clause-age c = touched_age c.args.self.now _ c.self.inside c.self.view_is c.self.invariant c.args.tag c.args.ew.number c.requires (returns-clause-touched c)
+
+pub returns-clause-other_ages : goal.returns-clause-other_ages
+returns-clause-other_ages c = touched_others c.args.self.now _ c.self.inside c.self.view_is c.self.invariant c.args.tag c.args.ew.number (returns-clause-touched c)

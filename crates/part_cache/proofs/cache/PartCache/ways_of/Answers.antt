@@ -1,16 +1,12 @@
 use Rattle.std.proofs.Common.{ℕ, ◌≡◌, ◌+◌, ◌-◌, arith}
-use Rattle.part_cache.proofs.Flat.{cut_row, cut_row_ages, cut_ages_apart, cut_tags_apart}
+use Rattle.part_cache.proofs.Flat.{cut_row, cut_ages_apart, cut_tags_apart}
 use Rattle.part_cache.proofs.cache.PartCache.ways_of.Goals as goal
 
 width : (from ways : ℕ) → from + ways - from ≡ ways
 width from ways = omega arith
 
-pub returns-clause-tags : goal.returns-clause-tags
-returns-clause-tags c = cut_row
-    c.self.inside c.self.invariant c.args.self.now c.self.view_is c.args.label.number c.args.set c.requires.label c.requires.set c.from.result _ c.from.ensures (width _ c.self.inside.ways) c.deref.result.now c.deref-2.result.now c.deref.ensures.value c.deref-2.ensures.value
-
-pub returns-clause-ages : goal.returns-clause-ages
-returns-clause-ages c = cut_row_ages
+pub returns-clause-row : goal.returns-clause-row
+returns-clause-row c = cut_row
     c.self.inside c.self.invariant c.args.self.now c.self.view_is c.args.label.number c.args.set c.requires.label c.requires.set c.from.result _ c.from.ensures (width _ c.self.inside.ways) c.deref.result.now c.deref-2.result.now c.deref.ensures.value c.deref-2.ensures.value
 
 pub returns-clause-ages_apart : goal.returns-clause-ages_apart

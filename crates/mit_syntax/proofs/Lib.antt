@@ -1,0 +1,14 @@
+pub mod Numbers
+pub mod Named
+pub mod Counting
+pub mod Putting
+pub mod Facts
+pub mod LexBytes
+pub mod LexSigns
+pub mod LexLongest
+pub mod LexPieces
+pub mod OneList
+pub mod ClosedPiece
+pub mod OneFault
+pub mod TokenFacts
+pub mod PlainText

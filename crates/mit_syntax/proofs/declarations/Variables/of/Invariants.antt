@@ -1,0 +1,10 @@
+use Rattle.std.proofs.Common.{◌≡◌, ◌<◌, ◌≤◌, ℕ, length, get_or}
+use Rattle.mit_syntax.specs.Declarations.{first_of}
+use Rattle.mit_syntax.proofs.declarations.Variables.of.Given as goal
+
+abbrev pub invariant-loop-k : goal.invariant-loop-k
+invariant-loop-k l = record {
+  next : l.next ≡ first_of l.table.entries l.k;
+  room : length l.firsts ≡ 1025;
+  firsts : (j : ℕ) → j < l.k → get_or l.firsts j 0 ≡ first_of l.table.entries j;
+}

@@ -1,0 +1,146 @@
+//! The chunks of a text.
+
+ghost use Rattle.std.specs.Prelude.{◌≡◌, OnOk, pos};
+ghost use Rattle.mit_syntax.specs.Lexemes.{key_text, sign_text};
+ghost use Rattle.mit_syntax.specs.Chunks.{word, number};
+ghost use Rattle.mit_syntax.specs.Layout.{Puts, a_key, a_sign, a_name, a_space, a_line, a_comma, a_word, spaced, spaced_key, indent, new_line};
+
+use crate::token::{Keyword, Sign};
+use itoa::Buffer;
+use label_lattice::name::Name;
+use std::alloc::AllocError;
+
+fn key_bytes(keyword: Keyword) -> &'static [u8]
+    ensures { result.now ≡ key_text keyword }
+{
+    match keyword {
+        Keyword::Labels => b"labels".as_slice(),
+        Keyword::Order => b"order".as_slice(),
+        Keyword::Var => b"var".as_slice(),
+        Keyword::Skip => b"skip".as_slice(),
+        Keyword::If => b"if".as_slice(),
+        Keyword::Then => b"then".as_slice(),
+        Keyword::Else => b"else".as_slice(),
+        Keyword::While => b"while".as_slice(),
+        Keyword::Do => b"do".as_slice(),
+        Keyword::Mitigate => b"mitigate".as_slice(),
+        Keyword::Sleep => b"sleep".as_slice(),
+    }
+}
+
+fn sign_bytes(sign: Sign) -> &'static [u8]
+    ensures { result.now ≡ sign_text sign }
+{
+    match sign {
+        Sign::Assign => b":=".as_slice(),
+        Sign::Colon => b":".as_slice(),
+        Sign::Semicolon => b";".as_slice(),
+        Sign::Comma => b",".as_slice(),
+        Sign::LeftRound => b"(".as_slice(),
+        Sign::RightRound => b")".as_slice(),
+        Sign::LeftBrace => b"{".as_slice(),
+        Sign::RightBrace => b"}".as_slice(),
+        Sign::LeftSquare => b"[".as_slice(),
+        Sign::RightSquare => b"]".as_slice(),
+        Sign::At => b"@".as_slice(),
+        Sign::Plus => b"+".as_slice(),
+        Sign::Minus => b"-".as_slice(),
+        Sign::Star => b"*".as_slice(),
+        Sign::Slash => b"/".as_slice(),
+        Sign::Percent => b"%".as_slice(),
+        Sign::Equal => b"==".as_slice(),
+        Sign::NotEqual => b"!=".as_slice(),
+        Sign::LessEqual => b"<=".as_slice(),
+        Sign::Less => b"<".as_slice(),
+        Sign::GreaterEqual => b">=".as_slice(),
+        Sign::Greater => b">".as_slice(),
+    }
+}
+
+pub fn put_key(out: &mut Vec<u8>, keyword: Keyword) -> Result<(), AllocError>
+    ensures { OnOk result (Puts out.old.items out.new.items (a_key keyword)) }
+{
+    out.extend_from_slice(key_bytes(keyword))
+}
+
+pub fn put_sign(out: &mut Vec<u8>, which: Sign) -> Result<(), AllocError>
+    ensures { OnOk result (Puts out.old.items out.new.items (a_sign which)) }
+{
+    out.extend_from_slice(sign_bytes(which))
+}
+
+pub fn put_number(out: &mut Vec<u8>, n: i64) -> Result<(), AllocError>
+    ensures { OnOk result (Puts out.old.items out.new.items (a_word (number n))) }
+{
+    let mut buffer = Buffer::new();
+    out.extend_from_slice(buffer.format(n).as_bytes())
+}
+
+pub fn put_name(out: &mut Vec<u8>, name: Name) -> Result<(), AllocError>
+    ensures { OnOk result (Puts out.old.items out.new.items (a_name name)) }
+{
+    out.extend_from_slice(name.bytes())
+}
+
+pub fn put_space(out: &mut Vec<u8>) -> Result<(), AllocError>
+    ensures { OnOk result (Puts out.old.items out.new.items a_space) }
+{
+    out.push(b' ')?;
+    Ok(())
+}
+
+pub fn put_line(out: &mut Vec<u8>) -> Result<(), AllocError>
+    ensures { OnOk result (Puts out.old.items out.new.items a_line) }
+{
+    out.push(b'\n')?;
+    Ok(())
+}
+
+pub fn put_comma(out: &mut Vec<u8>) -> Result<(), AllocError>
+    ensures { OnOk result (Puts out.old.items out.new.items a_comma) }
+{
+    put_sign(out, Sign::Comma)?;
+    put_space(out)?;
+    Ok(())
+}
+
+// A sign between two spaces.
+pub fn put_spaced(out: &mut Vec<u8>, which: Sign) -> Result<(), AllocError>
+    ensures { OnOk result (Puts out.old.items out.new.items (spaced which)) }
+{
+    put_space(out)?;
+    put_sign(out, which)?;
+    put_space(out)?;
+    Ok(())
+}
+
+pub fn put_spaced_key(out: &mut Vec<u8>, keyword: Keyword) -> Result<(), AllocError>
+    ensures { OnOk result (Puts out.old.items out.new.items (spaced_key keyword)) }
+{
+    put_space(out)?;
+    put_key(out, keyword)?;
+    put_space(out)?;
+    Ok(())
+}
+
+// Two spaces for each open brace.
+fn put_indent(out: &mut Vec<u8>, depth: u32) -> Result<(), AllocError>
+    ensures { OnOk result (Puts out.old.items out.new.items (indent depth)) }
+{
+    if depth == 0 {
+        return Ok(());
+    }
+    put_space(out)?;
+    put_space(out)?;
+    put_indent(out, depth - 1)?;
+    Ok(())
+}
+
+// A line's end, and the next line up to its first byte.
+pub fn put_new_line(out: &mut Vec<u8>, depth: u32) -> Result<(), AllocError>
+    ensures { OnOk result (Puts out.old.items out.new.items (new_line depth)) }
+{
+    put_line(out)?;
+    put_indent(out, depth)?;
+    Ok(())
+}

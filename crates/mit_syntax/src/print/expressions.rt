@@ -1,0 +1,121 @@
+//! The canonical text of an expression.
+
+ghost use Rattle.std.specs.Prelude.{◌≡◌, OnOk};
+ghost use Rattle.mit_syntax.specs.Expression.{expression_of};
+ghost use Rattle.mit_syntax.specs.Ranks.{rank, left_need, right_need};
+ghost use Rattle.mit_syntax.specs.Layout.{Puts, op_sign, expression_part, in_square};
+ghost use Rattle.mit_syntax.specs.Valid.{IsKnown, AreShaped};
+
+use crate::ast::{Expr, Op};
+use crate::declarations::Variables;
+use crate::print::chunks::{put_name, put_number, put_sign, put_spaced};
+use crate::token::Sign;
+use std::alloc::AllocError;
+
+fn op_sign(op: Op) -> Sign
+    ensures { result ≡ op_sign op }
+{
+    match op {
+        Op::Add => Sign::Plus,
+        Op::Sub => Sign::Minus,
+        Op::Mul => Sign::Star,
+        Op::Div => Sign::Slash,
+        Op::Rem => Sign::Percent,
+        Op::Eq => Sign::Equal,
+        Op::Ne => Sign::NotEqual,
+        Op::Lt => Sign::Less,
+        Op::Le => Sign::LessEqual,
+        Op::Gt => Sign::Greater,
+        Op::Ge => Sign::GreaterEqual,
+    }
+}
+
+fn rank(op: Op) -> u32
+    ensures { result ≡ rank op }
+{
+    match op {
+        Op::Eq | Op::Ne | Op::Lt | Op::Le | Op::Gt | Op::Ge => 1,
+        Op::Add | Op::Sub => 2,
+        Op::Mul | Op::Div | Op::Rem => 3,
+    }
+}
+
+// The least rank that the left part has without parentheses.
+fn left_need(op: Op) -> u32
+    ensures { result ≡ left_need op }
+{
+    match op {
+        Op::Eq | Op::Ne | Op::Lt | Op::Le | Op::Gt | Op::Ge | Op::Add | Op::Sub => 2,
+        Op::Mul | Op::Div | Op::Rem => 3,
+    }
+}
+
+// The same of the right part.
+fn right_need(op: Op) -> u32
+    ensures { result ≡ right_need op }
+{
+    match op {
+        Op::Eq | Op::Ne | Op::Lt | Op::Le | Op::Gt | Op::Ge => 2,
+        Op::Add | Op::Sub => 3,
+        Op::Mul | Op::Div | Op::Rem => 4,
+    }
+}
+
+/// Puts an expression where at least this rank is needed.
+pub fn put_expression(
+    out: &mut Vec<u8>,
+    variables: &Variables,
+    e: &Expr,
+    need: u32,
+) -> Result<(), AllocError>
+    requires known { IsKnown variables.now (expression_of e.now) }
+    requires arrays { AreShaped variables.now }
+    ensures { OnOk result (Puts out.old.items out.new.items (expression_part variables.now need (expression_of e.now))) }
+{
+    match e {
+        Expr::Number(n) => put_number(out, *n),
+        Expr::Variable(x) => put_name(out, variables.name(*x)),
+        Expr::Binary(op, left, right) => {
+            if rank(*op) < need {
+                put_sign(out, Sign::LeftRound)?;
+                put_expression(out, variables, left, left_need(*op))?;
+                put_spaced(out, op_sign(*op))?;
+                put_expression(out, variables, right, right_need(*op))?;
+                put_sign(out, Sign::RightRound)?;
+                Ok(())
+            } else {
+                put_expression(out, variables, left, left_need(*op))?;
+                put_spaced(out, op_sign(*op))?;
+                put_expression(out, variables, right, right_need(*op))?;
+                Ok(())
+            }
+        }
+        Expr::Element {
+            first,
+            length: _,
+            index,
+        } => {
+            put_name(out, variables.name(*first))?;
+            put_sign(out, Sign::LeftSquare)?;
+            put_expression(out, variables, index, 1)?;
+            put_sign(out, Sign::RightSquare)?;
+            Ok(())
+        }
+    }
+}
+
+/// Puts an index in its brackets.
+pub fn put_index(
+    out: &mut Vec<u8>,
+    variables: &Variables,
+    index: &Expr,
+) -> Result<(), AllocError>
+    requires known { IsKnown variables.now (expression_of index.now) }
+    requires arrays { AreShaped variables.now }
+    ensures { OnOk result (Puts out.old.items out.new.items (in_square (expression_part variables.now 1 (expression_of index.now)))) }
+{
+    put_sign(out, Sign::LeftSquare)?;
+    put_expression(out, variables, index, 1)?;
+    put_sign(out, Sign::RightSquare)?;
+    Ok(())
+}
