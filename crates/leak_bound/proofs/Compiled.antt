@@ -40,17 +40,21 @@ module _ (ms : ℕ → Marks) (ls : ℕ → ℕ) where
   labelled_marks (Sleep w e p) i n h = labelled_marks p (i + 1) n h
   labelled_marks (If w e a b p) i n h =
       let ma = same_mitigates a (i + 1) in
-      let mb = same_mitigates b (i + 1 + count a) in
-      (labelled_marks a (i + 1) n h.0,
-       subst (λ z. MarksFrom (n + z) (bare (labelled ms ls b (i + 1 + count a)))) (sym ma) (labelled_marks b (i + 1 + count a) (n + mitigates a) h.1),
-       subst (λ z. MarksFrom (n + z + mitigates (bare (labelled ms ls b (i + 1 + count a)))) (bare (labelled ms ls p (i + 1 + count a + count b)))) (sym ma)
-       (subst (λ z. MarksFrom (n + mitigates a + z) (bare (labelled ms ls p (i + 1 + count a + count b)))) (sym mb) (labelled_marks p (i + 1 + count a + count b) (n + mitigates a + mitigates b) h.2)))
-  labelled_marks (While w e c p) i n h =
-      (labelled_marks c (i + 1) n h.0,
-       subst (λ z. MarksFrom (n + z) (bare (labelled ms ls p (i + 1 + count c)))) (sym (same_mitigates c (i + 1))) (labelled_marks p (i + 1 + count c) (n + mitigates c) h.1))
-  labelled_marks (Mitigate w k l e c p) i n h =
-      (h.0, labelled_marks c (i + 1) (n + 1) h.1,
-       subst (λ z. MarksFrom (n + 1 + z) (bare (labelled ms ls p (i + 1 + count c)))) (sym (same_mitigates c (i + 1))) (labelled_marks p (i + 1 + count c) (n + 1 + mitigates c) h.2))
+      let mb = same_mitigates b (i + 1 + count a) in (
+        labelled_marks a (i + 1) n h.0,
+        subst (λ z. MarksFrom (n + z) (bare (labelled ms ls b (i + 1 + count a)))) (sym ma) (labelled_marks b (i + 1 + count a) (n + mitigates a) h.1),
+        subst (λ z. MarksFrom (n + z + mitigates (bare (labelled ms ls b (i + 1 + count a)))) (bare (labelled ms ls p (i + 1 + count a + count b)))) (sym ma)
+            (subst (λ z. MarksFrom (n + mitigates a + z) (bare (labelled ms ls p (i + 1 + count a + count b)))) (sym mb) (labelled_marks p (i + 1 + count a + count b) (n + mitigates a + mitigates b) h.2)),
+      )
+  labelled_marks (While w e c p) i n h = (
+    labelled_marks c (i + 1) n h.0,
+    subst (λ z. MarksFrom (n + z) (bare (labelled ms ls p (i + 1 + count c)))) (sym (same_mitigates c (i + 1))) (labelled_marks p (i + 1 + count c) (n + mitigates c) h.1),
+  )
+  labelled_marks (Mitigate w k l e c p) i n h = (
+    h.0,
+    labelled_marks c (i + 1) (n + 1) h.1,
+    subst (λ z. MarksFrom (n + 1 + z) (bare (labelled ms ls p (i + 1 + count c)))) (sym (same_mitigates c (i + 1))) (labelled_marks p (i + 1 + count c) (n + 1 + mitigates c) h.2),
+  )
 
   labelled_levels : (p : Plan) (i n : ℕ) → ((k : ℕ) → ls k < n) → LevelsBelow n (bare (labelled ms ls p i))
   labelled_levels Done i n h = tt
