@@ -1,11 +1,11 @@
-ghost use Rattle.std.specs.Prelude.{◌≡◌, ℕ, ◌<◌, [], ◌↔◌, All, IfSome, IfOk, None};
+ghost use Rattle.std.specs.Prelude.{◌≡◌, ℕ, ◌<◌, [], ◌↔◌, All, IfSome, IfOk, None, pos};
 ghost use Rattle.label_lattice.specs.Chains.{Chain};
 ghost use Rattle.label_lattice.specs.Lattice.{Flows};
 ghost use Rattle.label_lattice.specs.Names.{IsName};
 ghost use Rattle.label_lattice.specs.Order.{lattice_of};
-ghost use Rattle.mit_syntax.specs.Plan.{Plan};
+ghost use Rattle.mit_syntax.specs.Expression.{Number};
 ghost use Rattle.mit_syntax.specs.Program.{plan_of};
-ghost use Rattle.mit_syntax.specs.Todo.{Skip, Done};
+ghost use Rattle.mit_syntax.specs.Todo.{Skip, Mitigate, Done};
 
 use crate::check::{check, list_walk};
 use crate::labelled::Labelled;
@@ -33,17 +33,29 @@ fn one_label() -> Option<Lattice>
     Lattice::build(&[name], &[]).ok()
 }
 
-// The program `skip`.
-fn skip(alloc: Global, lattice: Lattice) -> Result<Program, AllocError>
+// The program `mitigate (1) { skip }`.
+fn mitigated(alloc: Global, lattice: Lattice) -> Result<Program, AllocError>
     requires size { lattice.size ≡ 1 }
     requires names { All IsName lattice.names }
     requires flows { (a b : ℕ) → a < 1 → b < 1 → Flows (lattice_of lattice) a b ↔ Chain [] a b }
-    ensures { IfOk result (λ p. (p.declarations ≡ []) × (plan_of p ≡ Skip (record { pos = record { line = 1; column = 1 }; labels = None }) Done)) }
+    ensures declarations { IfOk result (λ p. p.declarations ≡ []) }
+    ensures plan { IfOk result (λ p. plan_of p ≡ Mitigate (record { pos = record { line = 1; column = 1 }; labels = None }) 0 None (Number (pos 1)) (Skip (record { pos = record { line = 1; column = 16 }; labels = None }) Done) Done) }
 {
-    let command = Command {
-        pos: Pos { line: 1, column: 1 },
+    let skip = Command {
+        pos: at(16),
         labels: None,
         form: Form::Skip,
+    };
+    let inner = vec![in alloc; skip]?;
+    let command = Command {
+        pos: at(1),
+        labels: None,
+        form: Form::Mitigate {
+            mark: 0,
+            estimate: Expr::Number(1),
+            level: None,
+            body: inner,
+        },
     };
     let body = vec![in alloc; command]?;
     Ok(Program::of(lattice, Vec::new(alloc), IndexMap::new(alloc), body))
@@ -52,19 +64,24 @@ fn skip(alloc: Global, lattice: Lattice) -> Result<Program, AllocError>
 // It with bottom everywhere.
 fn labelled(alloc: Global, p: Program) -> Result<Labelled, AllocError>
     requires declarations { p.declarations ≡ [] }
-    requires body { plan_of p ≡ Skip (record { pos = record { line = 1; column = 1 }; labels = None }) Done }
+    requires plan { plan_of p ≡ Mitigate (record { pos = record { line = 1; column = 1 }; labels = None }) 0 None (Number (pos 1)) (Skip (record { pos = record { line = 1; column = 16 }; labels = None }) Done) Done }
+    ensures { IfOk result (λ q. q.program ≡ p) }
 {
     let low = p.lattice().bottom();
-    let commands = vec![in alloc; (low, low)]?;
-    Ok(Labelled::of(p, Vec::new(alloc), commands, Vec::new(alloc)))
+    let commands = vec![in alloc; (low, low); 2]?;
+    let levels = vec![in alloc; low]?;
+    Ok(Labelled::of(p, Vec::new(alloc), commands, levels))
 }
 
 #[test]
-fn accepts_a_skip(rt: HostRuntime) -> Result<(), AllocError> {
+fn accepts_a_mitigate(rt: HostRuntime) -> Result<(), AllocError> {
     let lattice = one_label().expect(&rt, "a lattice");
-    let p = labelled(rt.alloc(), skip(rt.alloc(), lattice)?)?;
+    let p = labelled(rt.alloc(), mitigated(rt.alloc(), lattice)?)?;
     match check(rt.alloc(), p) {
-        Ok(typed) => assert_eq!(rt; typed.labelled().program().commands(), 1),
+        Ok(typed) => {
+            assert_eq!(rt; typed.labelled().program().commands(), 2);
+            assert_eq!(rt; typed.mitigate_pc(0), LOW);
+        }
         Err(_) => panic!(rt; "refused"),
     }
     Ok(())
@@ -80,7 +97,9 @@ fn two_labels() -> Option<Lattice> {
     Lattice::build(&[low, high], &[(LOW, HIGH)]).ok()
 }
 
-const fn at(column: u32) -> Pos {
+const fn at(column: u32) -> Pos
+    ensures { result ≡ record { line = 1; column = column } }
+{
     Pos { line: 1, column }
 }
 
