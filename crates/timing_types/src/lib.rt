@@ -7,4 +7,6 @@ mod ends;
 pub mod labelled;
 mod labels;
 pub mod rule;
+#[cfg(test)]
+mod tests;
 pub mod typed;
