@@ -141,6 +141,11 @@ abbrev mutual
   more_listed part [] q = q
   more_listed part (x ∷ xs) q = a_comma (part x (more_listed part xs q))
 
+-- what stands before the part after i others
+abbrev pub comma_before : ℕ → Part
+comma_before zero q = q
+comma_before (suc i) q = a_comma q
+
 abbrev pub pair_part : Order → Label × Label → Part
 pair_part o p q = a_name (name_of o p.0.number) (spaced Less (a_name (name_of o p.1.number) q))
 
@@ -166,6 +171,11 @@ declaration_part o d q = a_key Var (space ∷ a_name d.0 (length_part d.1.length
 abbrev pub declarations_part : Order → List Declaration → Part
 declarations_part o [] q = q
 declarations_part o (d ∷ ds) q = declaration_part o d (declarations_part o ds q)
+
+-- what stands before the command after i others
+abbrev pub separator : ℕ → ℕ → Part
+separator d zero q = q
+separator d (suc i) q = a_sign Semicolon (new_line d q)
 
 -- all chunks of a program
 abbrev pub program_chunks : Syntax → List Chunk
