@@ -6,16 +6,19 @@ use Rattle.label_lattice.specs.Order.{Order}
 use Rattle.mit_syntax.specs.declared.ast.Expr.{Expr}
 use Rattle.mit_syntax.specs.declared.ast.Command.{Command}
 use Rattle.mit_syntax.specs.declared.ast.Form.{Form, Skip as FSkip, Assign as FAssign, Put as FPut, Sleep as FSleep, If' as FIf, While' as FWhile, Mitigate' as FMitigate, While as DWhile, If as DIf, Mitigate as DMitigate}
+use Rattle.mit_syntax.specs.declared.token.Keyword.TheVariants.{If as IfKey, Then, Else, While as WhileKey, Do, Mitigate as MitigateKey, Sleep as SleepKey}
+use Rattle.mit_syntax.specs.declared.token.Sign.TheVariants.{Assign as AssignSign, LeftRound, RightRound}
 use Rattle.mit_syntax.specs.Chunks.{Chunk, text}
-use Rattle.mit_syntax.specs.Declarations.{Declaration}
+use Rattle.mit_syntax.specs.Declarations.{Declaration, cell_at, variables}
 use Rattle.mit_syntax.specs.Expression.{expression_of}
 use Rattle.mit_syntax.specs.Limits.{AreSmall, IsSmall, depth}
 use Rattle.mit_syntax.specs.Todo.{Todo, Done, Skip, Assign, Put, Sleep, If, While, Mitigate}
 use Rattle.mit_syntax.specs.Plan.{Plan, Written, form_plan, list_plan, command_plan}
 use Rattle.mit_syntax.specs.Valid.{AreKnown, AreShaped, AreMarksBelow, IsBelow}
-use Rattle.mit_syntax.specs.Layout.{Part, Puts, after, separator, commands_part}
+use Rattle.mit_syntax.specs.Layout.{Part, Puts, a_key, a_sign, a_name, a_space, spaced, spaced_key, in_square, in_braces, expression_part, marks_part, level_part, after, separator, commands_part}
 use Rattle.mit_syntax.specs.Printable.{IsPrintable}
 use Rattle.mit_syntax.proofs.Putting.{puts_then}
+use Rattle.mit_syntax.proofs.Facts.{scalar_below, array_first_below}
 use Rattle.mit_syntax.proofs.Counting.{front_of, if_plan, while_plan, mitigate_plan}
 
 abbrev pub written : Command → Written
@@ -175,3 +178,60 @@ module _ (o : Order) (ds : List Declaration) (d : ℕ) where
   pub all_put : {a b : List ℕ} (list : List Command) (i : ℕ) → length list ≤ i → PutSoFar a b o ds d i list → Puts a b (commands_part o ds d (list_plan list))
   all_put {b} list i h so =
       record { is = λ q. ap (λ l. b ++ text l) (sym (left_none i q)) ∙ ap (λ l. b ++ text (left_commands o ds d i (list_plan l) q)) (sym (drop_all i list h)) ∙ so.is q }
+
+block_as : {b c : List ℕ} (o : Order) (ds : List Declaration) (d : ℕ) (ls ms : List Command) → ls ≡ ms → Puts b c (in_braces d (commands_part o ds (d + 1) (list_plan ls)))
+    → Puts b c (in_braces d (commands_part o ds (d + 1) (list_plan ms)))
+block_as {b} {c} o ds d ls ms h p = subst (λ (l : List Command). Puts b c (in_braces d (commands_part o ds (d + 1) (list_plan l)))) h p
+
+-- each command from its parts
+module _ {a z : List ℕ} (o : Order) (ds : List Declaration) (d : ℕ) (k : Command) where
+  pub puts_assign : {b c e : List ℕ} (x : ℕ) (v : Expr) (w : List ℕ) → k.form ≡ FAssign x v → w ≡ (cell_at ds x).name
+      → Puts a b (a_name w) → Puts b c (spaced AssignSign) → Puts c e (expression_part ds 1 (expression_of v)) → Puts e z (marks_part o k.labels)
+      → Puts a z (commands_part o ds d (command_plan k Done))
+  puts_assign {b} x v w h n p1 p2 p3 p4 =
+      puts_form o ds d k _ (as_form k (FAssign x v) h) (puts_then (subst (λ y. Puts a b (a_name y)) n p1) (puts_then p2 (puts_then p3 p4)))
+
+  pub puts_put : {b c e f : List ℕ} (x n : ℕ) (i v : Expr) (w : List ℕ) → k.form ≡ FPut x n i v → w ≡ (cell_at ds x).name
+      → Puts a b (a_name w) → Puts b c (in_square (expression_part ds 1 (expression_of i))) → Puts c e (spaced AssignSign) → Puts e f (expression_part ds 1 (expression_of v))
+      → Puts f z (marks_part o k.labels) → Puts a z (commands_part o ds d (command_plan k Done))
+  puts_put {b} x n i v w h m p1 p2 p3 p4 p5 =
+      puts_form o ds d k _ (as_form k (FPut x n i v) h) (puts_then (subst (λ y. Puts a b (a_name y)) m p1) (puts_then p2 (puts_then p3 (puts_then p4 p5))))
+
+  pub puts_sleep : {b c e : List ℕ} (v : Expr) → k.form ≡ FSleep v
+      → Puts a b (a_key SleepKey) → Puts b c a_space → Puts c e (expression_part ds 1 (expression_of v)) → Puts e z (marks_part o k.labels)
+      → Puts a z (commands_part o ds d (command_plan k Done))
+  puts_sleep v h p1 p2 p3 p4 = puts_form o ds d k _ (as_form k (FSleep v) h) (puts_then p1 (puts_then p2 (puts_then p3 p4)))
+
+  pub puts_if : {b c e f g u v : List ℕ} (x : Expr) (xs ys : Vec Command Global) (ls ms : List Command) → k.form ≡ DIf x xs ys → ls ≡ xs.items → ms ≡ ys.items
+      → Puts a b (a_key IfKey) → Puts b c a_space → Puts c e (expression_part ds 1 (expression_of x)) → Puts e f (marks_part o k.labels) → Puts f g (spaced_key Then)
+      → Puts g u (in_braces d (commands_part o ds (d + 1) (list_plan ls))) → Puts u v (spaced_key Else) → Puts v z (in_braces d (commands_part o ds (d + 1) (list_plan ms)))
+      → Puts a z (commands_part o ds d (command_plan k Done))
+  puts_if x xs ys ls ms h e1 e2 p1 p2 p3 p4 p5 p6 p7 p8 =
+      puts_form o ds d k _ (if_plan k x xs ys h)
+      (puts_then p1 (puts_then p2 (puts_then p3 (puts_then p4 (puts_then p5 (puts_then (block_as o ds d ls xs.items e1 p6) (puts_then p7 (block_as o ds d ms ys.items e2 p8))))))))
+
+  pub puts_while : {b c e f g : List ℕ} (x : Expr) (xs : Vec Command Global) (ls : List Command) → k.form ≡ DWhile x xs → ls ≡ xs.items
+      → Puts a b (a_key WhileKey) → Puts b c a_space → Puts c e (expression_part ds 1 (expression_of x)) → Puts e f (marks_part o k.labels) → Puts f g (spaced_key Do)
+      → Puts g z (in_braces d (commands_part o ds (d + 1) (list_plan ls))) → Puts a z (commands_part o ds d (command_plan k Done))
+  puts_while x xs ls h e1 p1 p2 p3 p4 p5 p6 =
+      puts_form o ds d k _ (while_plan k x xs h) (puts_then p1 (puts_then p2 (puts_then p3 (puts_then p4 (puts_then p5 (block_as o ds d ls xs.items e1 p6))))))
+
+  pub puts_mitigate : {b c e f g u v w : List ℕ} (m : ℕ) (x : Expr) (l : Option Label) (xs : Vec Command Global) (ls : List Command) → k.form ≡ DMitigate m x l xs → ls ≡ xs.items
+      → Puts a b (a_key MitigateKey) → Puts b c a_space → Puts c e (a_sign LeftRound) → Puts e f (expression_part ds 1 (expression_of x)) → Puts f g (level_part o l)
+      → Puts g u (a_sign RightRound) → Puts u v (marks_part o k.labels) → Puts v w a_space
+      → Puts w z (in_braces d (commands_part o ds (d + 1) (list_plan ls))) → Puts a z (commands_part o ds d (command_plan k Done))
+  puts_mitigate m x l xs ls h e1 p1 p2 p3 p4 p5 p6 p7 p8 p9 =
+      puts_form o ds d k _ (mitigate_plan k x xs m l h)
+      (puts_then p1 (puts_then p2 (puts_then p3 (puts_then p4 (puts_then p5 (puts_then p6 (puts_then p7 (puts_then p8 (block_as o ds d ls xs.items e1 p9)))))))))
+
+-- the variables of assignments
+module _ (n : ℕ) (ds : List Declaration) (d : ℕ) (k : Command) (h : IsPrintable n ds d (command_plan k Done)) where
+  pub assigned_below : (x : ℕ) (v : Expr) → k.form ≡ FAssign x v → x < variables ds
+  assigned_below x v is =
+      let p : IsPrintable n ds d (Assign (written k) x (expression_of v) Done) = printable_form n ds d k _ (as_form k (FAssign x v) is) h in
+      scalar_below ds p.known.1.0 x p.known.1.1
+
+  pub put_below : (x m : ℕ) (i v : Expr) → k.form ≡ FPut x m i v → x < variables ds
+  put_below x m i v is =
+      let p : IsPrintable n ds d (Put (written k) x m (expression_of i) (expression_of v) Done) = printable_form n ds d k _ (as_form k (FPut x m i v) is) h in
+      array_first_below ds p.known.1.0 x m p.known.1.1 h.arrays

@@ -76,6 +76,13 @@ impl Program {
         &self.pairs
     }
 
+    /// The declarations.
+    pub fn declarations(&self) -> &Variables
+        ensures { result.now ≡ self.now.declarations }
+    {
+        &self.variables
+    }
+
     /// How many variables there are, each element of an array counted.
     pub fn variables(&self) -> u32
         ensures value { result ≡ variables self.now.declarations }

@@ -8,7 +8,7 @@ ghost use Rattle.mit_syntax.specs.Layout.{Puts, a_name, comma_before, listed, pa
 
 use crate::declarations::{Decl, Variables};
 use crate::print::chunks::{
-    put_comma, put_key, put_line, put_name, put_number, put_sign, put_space, put_spaced,
+    put_comma, put_key, put_line, put_name, put_natural, put_sign, put_space, put_spaced,
 };
 use crate::token::{Keyword, Sign};
 use label_lattice::label::Label;
@@ -121,7 +121,7 @@ fn put_length(out: &mut Vec<u8>, length: Option<u32>) -> Result<(), AllocError>
         None => Ok(()),
         Some(length) => {
             put_sign(out, Sign::LeftSquare)?;
-            put_number(out, i64::from(length))?;
+            put_natural(out, length)?;
             put_sign(out, Sign::RightSquare)?;
             Ok(())
         }
