@@ -4,6 +4,7 @@ pub mod Counting
 pub mod Putting
 pub mod Listing
 pub mod Commanding
+pub mod Whole
 pub mod Facts
 pub mod LexBytes
 pub mod LexSigns
