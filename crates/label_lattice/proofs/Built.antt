@@ -1,12 +1,13 @@
 -- A lattice from a closed table of which nothing is wrong.
 use Rattle.std.proofs.Common.{◌≡◌, ◌∙◌, ℕ, ◌+◌, ◌*◌, ◌/◌, ◌%◌, ◌<◌, ◌≤◌, Bool, true, false, cond, ltb, leb, List, length, take, get_or, refl, sym, ap, subst, ◌⊎◌, inl, inr, ⊎_elim, arith}
-use Rattle.std.specs.Prelude.{◌&&◌, ◌↔◌}
+use Rattle.std.specs.Prelude.{◌&&◌, All}
+use Rattle.label_lattice.specs.Names.{IsName}
 use Rattle.std.proofs.Math.Seq.{take-append_seam}
 use Rattle.std.proofs.lemmas.Bool.{cases_Bool, both_ways, and_from, lt-ltb, cond-true}
 use Rattle.std.proofs.lemmas.Nat.{div-mul-add, mod-mul-add}
 use Rattle.label_lattice.specs.declared.label.Label.{Label}
-use Rattle.label_lattice.specs.Lattice.{IsTable, Flows}
-use Rattle.label_lattice.specs.Order.{Order, IsOrder, AllDiffer, lattice_of}
+use Rattle.label_lattice.specs.Lattice.{IsTable}
+use Rattle.label_lattice.specs.Order.{row, AllDiffer}
 use Rattle.label_lattice.specs.Room.{filled}
 use Rattle.label_lattice.specs.Kept.{IsKept, order_of}
 use Rattle.label_lattice.specs.Chains.{Chain, none, IsCycle, IsLowest, AreLowest, IsJoin, HaveNoJoin, IsNoPair, IsFirstPair, IsSound, IsBuilt}
@@ -15,7 +16,7 @@ use Rattle.label_lattice.proofs.Chained.{chain_then}
 use Rattle.label_lattice.proofs.Closures.{cell_below}
 use Rattle.label_lattice.proofs.Sound.{cycle, both_lowest, join, no_pair, first_pair, anti, some_lowest, lowest_flows, have_join}
 
-module _ (n : ℕ) (few : n ≤ 32) (ps : List (Label × Label)) (t : List Bool) (h : IsClosure t ps) where
+module _ (n : ℕ) (few : n ≤ row) (ps : List (Label × Label)) (t : List Bool) (h : IsClosure t ps) where
   to : (a b : ℕ) → a < n → b < n → IsSet t a b → Chain ps a b
   to a b k l s = h.sets a b (omega (arith, k, few)) (omega (arith, l, few)) s
 
@@ -30,8 +31,8 @@ module _ (n : ℕ) (few : n ≤ 32) (ps : List (Label × Label)) (t : List Bool)
 
   known : (a b : ℕ) → a < n → b < n → IsSet t a b ⊎ (IsSet t a b → ⊥)
   known a b k l = ⊎_elim
-      (λ (e : get_or t (a * 32 + b) false ≡ true). inl e)
-      (λ (e : get_or t (a * 32 + b) false ≡ false). inr (λ s. both_ways (get_or t (a * 32 + b) false) e s)) (cases_Bool (get_or t (a * 32 + b) false))
+      (λ (e : get_or t (a * row + b) false ≡ true). inl e)
+      (λ (e : get_or t (a * row + b) false ≡ false). inr (λ s. both_ways (get_or t (a * row + b) false) e s)) (cases_Bool (get_or t (a * row + b) false))
 
   no_join : (a b : ℕ) → a < n → b < n → HaveNoJoin n (IsSet t) a b → HaveNoJoin n (Chain ps) a b
   no_join a b k l f c m j = f c m (join n (Chain ps) (IsSet t) from to a b c k l m j)
@@ -64,22 +65,22 @@ module _ (n : ℕ) (few : n ≤ 32) (ps : List (Label × Label)) (t : List Bool)
     pub sound : IsSound n (Chain ps)
     sound = record { few = few; no_cycle = chained_no_cycle no_cycle; one_lowest = chained_one_lowest one_lowest; joined = chained_joined joined }
 
-    module _ (js : List ℕ) (joins : (i : ℕ) → i < 1024 → IsJoinOf n t i (get_or js i 0)) (m : ℕ) (below : m < n) (low : IsLowest n (IsSet t) m) where
+    module _ (js : List ℕ) (joins : (i : ℕ) → i < row * row → IsJoinOf n t i (get_or js i 0)) (m : ℕ) (below : m < n) (low : IsLowest n (IsSet t) m) where
       join_in : ℕ → ℕ → ℕ
-      join_in a b = get_or js (a * 32 + b) 0
+      join_in a b = get_or js (a * row + b) 0
 
       join_is : (a b : ℕ) → a < n → b < n → (join_in a b < n) × IsJoin n (IsSet t) a b (join_in a b)
       unfolding join_in
       join_is a b k l =
-          let P : ℕ → ℕ → Type 0 = λ x y. HaveNoJoin n (IsSet t) x y ⊎ ((get_or js (a * 32 + b) 0 < n) × IsJoin n (IsSet t) x y (get_or js (a * 32 + b) 0)) in
-          let l' : b < 32 = omega (arith, l, few) in
-          let f : P ((a * 32 + b) / 32) ((a * 32 + b) % 32) = joins (a * 32 + b) (cell_below a b (omega (arith, k, few)) l') in
-          let g : P a b = subst (λ (x : ℕ). P x b) (div-mul-add a 32 b l') (subst (λ (y : ℕ). P ((a * 32 + b) / 32) y) (mod-mul-add a 32 b l') f) in
+          let P : ℕ → ℕ → Type 0 = λ x y. HaveNoJoin n (IsSet t) x y ⊎ ((get_or js (a * row + b) 0 < n) × IsJoin n (IsSet t) x y (get_or js (a * row + b) 0)) in
+          let l' : b < row = omega (arith, l, few) in
+          let f : P ((a * row + b) / row) ((a * row + b) % row) = joins (a * row + b) (cell_below a b (omega (arith, k, few)) l') in
+          let g : P a b = subst (λ (x : ℕ). P x b) (div-mul-add a row b l') (subst (λ (y : ℕ). P ((a * row + b) / row) y) (mod-mul-add a row b l') f) in
           ⊎_elim
-            (λ (x : HaveNoJoin n (IsSet t) a b). absurd (have_join n (IsSet t) same chain known no_cycle one_lowest joined a b k l x))
-            (λ (y : (get_or js (a * 32 + b) 0 < n) × IsJoin n (IsSet t) a b (get_or js (a * 32 + b) 0)). y) g
+          (λ (x : HaveNoJoin n (IsSet t) a b). absurd (have_join n (IsSet t) same chain known no_cycle one_lowest joined a b k l x))
+          (λ (y : (get_or js (a * row + b) 0 < n) × IsJoin n (IsSet t) a b (get_or js (a * row + b) 0)). y) g
 
-      pub table_is : IsTable n (λ a b. get_or t (a * 32 + b) false) (λ a b. get_or js (a * 32 + b) 0) m
+      pub table_is : IsTable n (λ a b. get_or t (a * row + b) false) (λ a b. get_or js (a * row + b) 0) m
       unfolding join_in
       table_is =
           record {
@@ -98,10 +99,17 @@ module _ (names room : List (List ℕ)) (t : List Bool) (js : List ℕ) (m : ℕ
   front : take (length names) room ≡ names
   front = ap (λ (x : List (List ℕ)). take (length names) x) is_room ∙ take-append_seam names _
 
-  pub kept : 0 < length names → length names ≤ 32 → AllDiffer names → IsTable (length names) (λ a b. get_or t (a * 32 + b) false) (λ a b. get_or js (a * 32 + b) 0) m → IsKept (record { size = length names; names = room; flows = t; joins = js; bottom = m })
-  kept z few differ table =
+  pub kept : 0 < length names → length names ≤ row → All IsName names → AllDiffer names → IsTable (length names) (λ a b. get_or t (a * row + b) false) (λ a b. get_or js (a * row + b) 0) m → IsKept (record { size = length names; names = room; flows = t; joins = js; bottom = m })
+  kept z few all differ table =
       record {
-        order = record { some = z; within = few; named = ap length front; differ = subst AllDiffer (sym front) differ; table = table };
+        order = record {
+          some = z;
+          within = few;
+          named = ap length front;
+          names = subst (All IsName) (sym front) all;
+          differ = subst AllDiffer (sym front) differ;
+          table = table;
+        };
         room = is_room ∙ ap (λ (x : List (List ℕ)). filled x (length names)) (sym front);
       }
 
@@ -112,7 +120,7 @@ module _ (names room : List (List ℕ)) (t : List Bool) (js : List ℕ) (m : ℕ
         size = refl;
         named = front;
         flows = λ a b k l.
-          let two : (ltb a (length names) && ltb b (length names)) ≡ true = and_from (ltb a (length names)) (ltb b (length names)) (lt-ltb a (length names) k) (lt-ltb b (length names) l) in
-          let e : cond (ltb a (length names) && ltb b (length names)) (get_or t (a * 32 + b) false) (leb a b) ≡ get_or t (a * 32 + b) false = cond-true (ltb a (length names) && ltb b (length names)) (get_or t (a * 32 + b) false) (leb a b) two in
-          (λ f. h.sets a b (omega (arith, k, s.few)) (omega (arith, l, s.few)) (sym e ∙ f), λ c. e ∙ h.set a b (omega (arith, k, s.few)) (omega (arith, l, s.few)) c);
+            let two : (ltb a (length names) && ltb b (length names)) ≡ true = and_from (ltb a (length names)) (ltb b (length names)) (lt-ltb a (length names) k) (lt-ltb b (length names) l) in
+            let e : cond (ltb a (length names) && ltb b (length names)) (get_or t (a * row + b) false) (leb a b) ≡ get_or t (a * row + b) false = cond-true (ltb a (length names) && ltb b (length names)) (get_or t (a * row + b) false) (leb a b) two in
+            (λ f. h.sets a b (omega (arith, k, s.few)) (omega (arith, l, s.few)) (sym e ∙ f), λ c. e ∙ h.set a b (omega (arith, k, s.few)) (omega (arith, l, s.few)) c);
       }

@@ -1,5 +1,5 @@
 -- Chains of written pairs.
-use Rattle.std.proofs.Common.{◌≡◌, ℕ, ◌<◌, List, [], ◌∷◌, ◌++◌, length, get_or, subst, sym, ◌⊎◌, inl, inr, ⊎_elim, refl, arith, zero, suc}
+use Rattle.std.proofs.Common.{◌≡◌, ℕ, ◌≤◌, List, [], ◌∷◌, ◌++◌, subst, sym, ◌⊎◌, inl, inr, ⊎_elim, refl, arith}
 use Rattle.label_lattice.specs.declared.label.Label.{Label}
 use Rattle.label_lattice.specs.Chains.{IsWritten, Chain, none, more, AreBelow}
 
@@ -43,15 +43,13 @@ pub chain_split : (xs : List (Label × Label)) (p : Label × Label) {a b : ℕ} 
 chain_split xs p none = inl none
 chain_split xs p (more {a} {b} {c} w r) = ⊎_elim
     (λ (l : Chain xs b c). ⊎_elim
-      (λ (v : IsWritten xs a b). inl (more v l))
-      (λ (e : (p.0.number ≡ a) × (p.1.number ≡ b)). inr (chain_same xs a p.0.number (sym e.0), chain_then xs (chain_same xs p.1.number b e.1) l))
-      (written_split xs p a b w))
+    (λ (v : IsWritten xs a b). inl (more v l))
+    (λ (e : (p.0.number ≡ a) × (p.1.number ≡ b)). inr (chain_same xs a p.0.number (sym e.0), chain_then xs (chain_same xs p.1.number b e.1) l))
+    (written_split xs p a b w))
     (λ (s : Chain xs b p.0.number × Chain xs p.1.number c). ⊎_elim
-      (λ (v : IsWritten xs a b). inr (more v s.0, s.1))
-      (λ (e : (p.0.number ≡ a) × (p.1.number ≡ b)). inr (chain_same xs a p.0.number (sym e.0), s.1))
-      (written_split xs p a b w)) (chain_split xs p r)
+    (λ (v : IsWritten xs a b). inr (more v s.0, s.1))
+    (λ (e : (p.0.number ≡ a) × (p.1.number ≡ b)). inr (chain_same xs a p.0.number (sym e.0), s.1))
+    (written_split xs p a b w)) (chain_split xs p r)
 
-pub below_at : (n : ℕ) (ps : List (Label × Label)) (i : ℕ) (d : Label × Label) → AreBelow n ps → i < length ps → ((get_or ps i d).0.number < n) × ((get_or ps i d).1.number < n)
-below_at n [] i d h l = absurd (omega arith)
-below_at n (p ∷ ps) zero d h l = (h.0, h.1)
-below_at n (p ∷ ps) (suc i) d h l = below_at n ps i d h.2 (omega arith)
+pub below_more : (m n : ℕ) (ps : List (Label × Label)) → m ≤ n → AreBelow m ps → AreBelow n ps
+below_more m n ps l h k d i = let b = h k d i in (omega (arith, b.0), omega (arith, b.1))

@@ -1,6 +1,6 @@
 -- Names: their words, and a name at the front of a room of zeros.
-use Rattle.std.proofs.Common.{◌≡◌, ◌∙◌, ◌≤◌, ◌<◌, ◌-◌, ℕ, List, [], ◌∷◌, ◌++◌, length, take, drop, ap, ap₂, sym, refl, get_or, arith}
-use Rattle.std.specs.Prelude.{Bool, true, false, replicate, IsTrue, ◌↔◌, ◌&&◌}
+use Rattle.std.proofs.Common.{◌≡◌, ◌∙◌, ◌≤◌, ◌-◌, ℕ, List, [], ◌∷◌, ◌++◌, length, take, drop, ap, ap₂, sym, refl, get_or, arith}
+use Rattle.std.specs.Prelude.{Bool, true, replicate, IsTrue, ◌↔◌}
 use Rattle.std.specs.List.{list_all}
 use Rattle.std.specs.Char.{is_ascii_alphabetic}
 use Rattle.std.proofs.Math.Seq.{take-append_seam}

@@ -1,24 +1,24 @@
 -- The laws of a lattice of labels, over all numbers.
-use Rattle.std.proofs.Common.{◌≡◌, ℕ, ◌<◌, ◌+◌, ◌*◌, refl, add-one}
-use Rattle.std.specs.Prelude.{Bool, false, slice_index_or, cond, ltb, ◌&&◌, max}
+use Rattle.std.proofs.Common.{◌≡◌, ℕ, ◌<◌, ◌+◌, add-one, subst}
+use Rattle.std.specs.Prelude.{cond, ltb, ◌&&◌, max}
 use Rattle.std.proofs.lemmas.Bool.{lt-ltb, and_from, cond-true}
 use Rattle.label_lattice.specs.Lattice.{Lattice, IsLattice}
-use Rattle.label_lattice.specs.Order.{Order, IsOrder, lattice_of, count_not_below}
+use Rattle.label_lattice.specs.Order.{Order, IsOrder, lattice_of, flows_in, join_in, count_not_below}
 use Rattle.label_lattice.proofs.Over.{over_all_is}
 
 -- whatever is a lattice by its tables is one over all numbers
 pub order_is : (o : Order) → IsOrder o → IsLattice (lattice_of o)
-order_is o h = over_all_is o.size (λ a b. slice_index_or o.flows (a * 32 + b) false) (λ a b. slice_index_or o.joins (a * 32 + b) 0) o.bottom h.table
+order_is o h = over_all_is o.size (flows_in o.flows) (join_in o.joins) o.bottom h.table
 
 -- the join of two labels is a label
 pub join_below : (o : Order) → IsOrder o → (a b : ℕ) → a < o.size → b < o.size → (lattice_of o).join a b < o.size
 join_below o h a b p q =
-    rw (cond-true (ltb a o.size && ltb b o.size) (slice_index_or o.joins (a * 32 + b) 0) (max a b) (and_from (ltb a o.size) (ltb b o.size) (lt-ltb a o.size p) (lt-ltb b o.size q)))
+    rw (cond-true (ltb a o.size && ltb b o.size) (join_in o.joins a b) (max a b) (and_from (ltb a o.size) (ltb b o.size) (lt-ltb a o.size p) (lt-ltb b o.size q)))
     (h.table.closed a b p q)
 
--- the lattice's laws from its value
-pub value_is : (o v : Order) → o ≡ v → IsOrder o → IsLattice (lattice_of v)
-value_is o v e h = order_is v (rw (← e) h)
+-- what holds of the fields' order holds of the value
+pub value_is : (o v : Order) → o ≡ v → IsOrder o → IsOrder v
+value_is o v e h = subst IsOrder e h
 
 pub count_more : (lat : Lattice) (a n : ℕ) → count_not_below lat a (n + 1) ≡ count_not_below lat a n + cond (lat.flows n a) 0 1
 count_more lat a n = rw add-one

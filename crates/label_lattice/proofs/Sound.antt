@@ -1,5 +1,5 @@
 -- Labels of which nothing is wrong are a lattice, and what is wrong of one relation is wrong of its equal.
-use Rattle.std.proofs.Common.{◌≡◌, ◌∙◌, ℕ, zero, suc, ◌+◌, ◌*◌, ◌<◌, ◌≤◌, refl, sym, ap, subst, ◌⊎◌, inl, inr, ⊎_elim, arith}
+use Rattle.std.proofs.Common.{◌≡◌, ℕ, zero, suc, ◌<◌, ◌≤◌, sym, subst, ◌⊎◌, ⊎_elim, arith}
 use Rattle.std.proofs.lemmas.Bool.{cases_order, cases_eq}
 use Rattle.label_lattice.specs.Chains.{IsCycle, IsLowest, AreLowest, IsJoin, HaveNoJoin, IsNoPair, IsFirstPair}
 
@@ -51,15 +51,29 @@ module _ (n : ℕ) (R : ℕ → ℕ → Type 0) (same : (a : ℕ) → a < n → 
     where
       low_more : (k : ℕ) → k < n → (a : ℕ) → a < n → ((m : ℕ) × LowestBelow k a m) → (m : ℕ) × LowestBelow (suc k) a m
       low_more k h a l (m, f) = ⊎_elim
-          (λ (r : R k m). (k, (h, chain k m a h f.0 l r f.1, λ c i q. ⊎_elim
-            (λ (e : c ≡ k). e)
-            (λ (ne : c ≡ k → ⊥).
-              let j : c < k = omega (arith, i, ne) in
-              let e : c ≡ m = f.2 c j (chain c k m (omega (arith, j, h)) h f.0 q r) in
-              anti c k (omega (arith, j, h)) h q (subst (λ (z : ℕ). R k z) (sym e) r)) (cases_eq c k))))
-          (λ (no : R k m → ⊥). (m, (f.0, f.1, λ c i q. ⊎_elim
-            (λ (e : c ≡ k). absurd (no (subst (λ (z : ℕ). R z m) e q)))
-            (λ (ne : c ≡ k → ⊥). f.2 c (omega (arith, i, ne)) q) (cases_eq c k))))
+          (λ (r : R k m). (
+            k,
+            (
+              h,
+              chain k m a h f.0 l r f.1,
+              λ c i q. ⊎_elim
+                  (λ (e : c ≡ k). e)
+                  (λ (ne : c ≡ k → ⊥).
+                  let j : c < k = omega (arith, i, ne) in
+                  let e : c ≡ m = f.2 c j (chain c k m (omega (arith, j, h)) h f.0 q r) in
+                  anti c k (omega (arith, j, h)) h q (subst (λ (z : ℕ). R k z) (sym e) r)) (cases_eq c k),
+            ),
+          ))
+          (λ (no : R k m → ⊥). (
+            m,
+            (
+              f.0,
+              f.1,
+              λ c i q. ⊎_elim
+                  (λ (e : c ≡ k). absurd (no (subst (λ (z : ℕ). R z m) e q)))
+                  (λ (ne : c ≡ k → ⊥). f.2 c (omega (arith, i, ne)) q) (cases_eq c k),
+            ),
+          ))
           (known k m h f.0)
 
   pub some_lowest : 0 < n → (m : ℕ) × ((m < n) × IsLowest n R m)
@@ -81,6 +95,6 @@ module _ (n : ℕ) (R : ℕ → ℕ → Type 0) (same : (a : ℕ) → a < n → 
   have_join a b h k f = ⊎_elim
       (λ (e : a ≡ b). f a h (record { left = same a h; right = subst (λ (z : ℕ). R z a) e (same a h); least = λ d m p q. p }))
       (λ (o : (a < b) ⊎ (b < a)). ⊎_elim
-        (λ (l : a < b). joined a b l k f)
-        (λ (l : b < a). joined b a l h (λ c m j. f c m (record { left = j.right; right = j.left; least = λ d i p q. j.least d i q p }))) o)
+      (λ (l : a < b). joined a b l k f)
+      (λ (l : b < a). joined b a l h (λ c m j. f c m (record { left = j.right; right = j.left; least = λ d i p q. j.least d i q p }))) o)
       (cases_order a b)

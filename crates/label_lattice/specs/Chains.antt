@@ -1,5 +1,5 @@
 -- What written pairs of labels say, and what keeps them from being a lattice.
-use Rattle.std.specs.Prelude.{◌≡◌, ℕ, ◌<◌, ◌≤◌, List, [], ◌∷◌, length, ◌⊎◌, ◌↔◌}
+use Rattle.std.specs.Prelude.{◌≡◌, ℕ, ◌<◌, ◌≤◌, List, [], ◌∷◌, length, All, ◌⊎◌, ◌↔◌}
 use Rattle.label_lattice.specs.declared.label.Label.{Label}
 use Rattle.label_lattice.specs.declared.label.TheConstants.{MAX_LABELS}
 use Rattle.label_lattice.specs.declared.fault.LatticeFault.{LatticeFault}
@@ -19,8 +19,7 @@ pub data Chain (pairs : List (Label × Label)) : ℕ → ℕ → Type 0 where
 
 -- the pairs are of labels below n
 abbrev pub AreBelow : ℕ → List (Label × Label) → Type 0
-AreBelow n [] = Unit {0}
-AreBelow n (p ∷ ps) = (p.0.number < n) × (p.1.number < n) × AreBelow n ps
+AreBelow n pairs = All (λ p. (p.0.number < n) × (p.1.number < n)) pairs
 
 -- both labels flow to each other
 abbrev pub IsCycle : (ℕ → ℕ → Type 0) → ℕ → ℕ → Type 0

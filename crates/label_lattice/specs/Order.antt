@@ -1,10 +1,15 @@
 -- A lattice as contracts see it: its labels' names, and tables of what flows and of joins.
-use Rattle.std.specs.Prelude.{◌≡◌, ℕ, ◌+◌, ◌*◌, ◌<◌, ◌≤◌, Bool, false, cond, zero, suc, List, [], length, slice_index_or}
+use Rattle.std.specs.Prelude.{◌≡◌, ℕ, ◌+◌, ◌*◌, ◌<◌, ◌≤◌, Bool, false, cond, zero, suc, List, [], All, AllPairs, length, slice_index_or}
 use Rattle.label_lattice.specs.declared.label.TheConstants.{MAX_LABELS}
+use Rattle.label_lattice.specs.Names.{IsName}
 use Rattle.label_lattice.specs.Lattice.{Lattice, IsTable, over_all}
 
+-- how many labels a row of a table has room for
+abbrev pub row : ℕ
+row = 32
+
 -- how many labels there are, their names' bytes, and for each pair of labels whether the first flows to the
--- second and what their join is, in rows of 32
+-- second and what their join is, in rows
 pub record Order : Type 0 where
   pub size : ℕ
   pub names : List (List ℕ)
@@ -12,9 +17,16 @@ pub record Order : Type 0 where
   pub joins : List ℕ
   pub bottom : ℕ
 
+-- what the tables say of two labels
+abbrev pub flows_in : List Bool → ℕ → ℕ → Bool
+flows_in flows a b = slice_index_or flows (a * row + b) false
+
+abbrev pub join_in : List ℕ → ℕ → ℕ → ℕ
+join_in joins a b = slice_index_or joins (a * row + b) 0
+
 -- the lattice over all numbers that the tables give
 abbrev pub lattice_of : Order → Lattice
-lattice_of o = over_all o.size (λ a b. slice_index_or o.flows (a * 32 + b) false) (λ a b. slice_index_or o.joins (a * 32 + b) 0) o.bottom
+lattice_of o = over_all o.size (flows_in o.flows) (join_in o.joins) o.bottom
 
 -- the name of a label
 abbrev pub name_of : Order → ℕ → List ℕ
@@ -22,15 +34,16 @@ name_of o a = slice_index_or o.names a []
 
 -- no text is there twice
 abbrev pub AllDiffer : List (List ℕ) → Type 0
-AllDiffer names = (i j : ℕ) → i < length names → j < length names → slice_index_or names i [] ≡ slice_index_or names j [] → i ≡ j
+AllDiffer names = AllPairs (λ a b. a ≡ b → ⊥) names
 
 -- what is true of every lattice
 pub record IsOrder (o : Order) : Type 0 where
   pub some : 0 < o.size
   pub within : o.size ≤ MAX_LABELS
   pub named : length o.names ≡ o.size
+  pub names : All IsName o.names
   pub differ : AllDiffer o.names
-  pub table : IsTable o.size (λ a b. slice_index_or o.flows (a * 32 + b) false) (λ a b. slice_index_or o.joins (a * 32 + b) 0) o.bottom
+  pub table : IsTable o.size (flows_in o.flows) (join_in o.joins) o.bottom
 
 -- how many of the labels below n do not flow to a label
 abbrev pub count_not_below : Lattice → ℕ → ℕ → ℕ

@@ -1,5 +1,5 @@
 -- A name in a room of 32 bytes.
-use Rattle.std.specs.Prelude.{◌≡◌, ◌≤◌, ◌-◌, ℕ, List, ◌++◌, length, take, replicate, refl}
+use Rattle.std.specs.Prelude.{◌≡◌, ◌≤◌, ◌-◌, ℕ, List, ◌++◌, length, take, replicate}
 use Rattle.std.proofs.Common.{ap, ap₂, sym, ◌∙◌}
 use Rattle.label_lattice.specs.Names.{IsName}
 use Rattle.label_lattice.specs.declared.name.Name.TheInside.{Inside}

@@ -1,22 +1,23 @@
--- Tables of pairs of labels, in rows of 32.
+-- Tables of pairs of labels, in rows.
 use Rattle.std.specs.Prelude.{◌≡◌, ℕ, ◌+◌, ◌*◌, ◌/◌, ◌%◌, ◌<◌, ◌⊎◌, Bool, true, false, ◌||◌, ◌&&◌, ◌==◌, List, slice_index_or}
 use Rattle.label_lattice.specs.declared.label.Label.{Label}
 use Rattle.label_lattice.specs.declared.label.TheConstants.{MAX_LABELS}
 use Rattle.label_lattice.specs.declared.checks.Check.{Check}
 use Rattle.label_lattice.specs.declared.checks.Check.TheVariants.{Cycle, Bottom, Join}
+use Rattle.label_lattice.specs.Order.{row, flows_in}
 use Rattle.label_lattice.specs.Chains.{Chain, IsCycle, AreLowest, IsJoin, HaveNoJoin}
 
 -- the table says so of the pair
 abbrev pub IsSet : List Bool → ℕ → ℕ → Type 0
-IsSet t a b = slice_index_or t (a * 32 + b) false ≡ true
+IsSet t a b = flows_in t a b ≡ true
 
 -- at a place of the table: the label of the row is that of the column
 abbrev pub on_diagonal : ℕ → Bool
-on_diagonal i = i / 32 == i % 32
+on_diagonal i = i / row == i % row
 
 -- at a place of the table: set before, or by way of the pair (x, y)
 abbrev pub extended : List Bool → ℕ → ℕ → ℕ → Bool
-extended t x y i = slice_index_or t i false || (slice_index_or t (i / 32 * 32 + x) false && slice_index_or t (y * 32 + i % 32) false)
+extended t x y i = slice_index_or t i false || (slice_index_or t (i / row * 32 + x) false && slice_index_or t (y * 32 + i % row) false)
 
 -- the table has what the pairs say
 pub record IsClosure (t : List Bool) (pairs : List (Label × Label)) : Type 0 where
@@ -31,4 +32,4 @@ IsRefused Join n flows = HaveNoJoin n flows
 
 -- at a place of the table: the join of the row's label and the column's, if there is one
 abbrev pub IsJoinOf : ℕ → List Bool → ℕ → ℕ → Type 0
-IsJoinOf n t i j = HaveNoJoin n (IsSet t) (i / 32) (i % 32) ⊎ ((j < n) × IsJoin n (IsSet t) (i / 32) (i % 32) j)
+IsJoinOf n t i j = HaveNoJoin n (IsSet t) (i / row) (i % row) ⊎ ((j < n) × IsJoin n (IsSet t) (i / row) (i % row) j)

@@ -7,7 +7,7 @@ ghost use Rattle.label_lattice.specs.Tables.{IsSet, IsJoinOf};
 use crate::closure::{CELLS, Flows, ROOM, is_set};
 use crate::label::MAX_LABELS;
 
-// Whether no other label flows to this one.
+/// Whether no other label flows to this one.
 pub fn is_lowest(flows: &Flows, size: u32, a: u32) -> bool
     requires size { size ≤ MAX_LABELS }
     requires a { a < MAX_LABELS }
@@ -39,7 +39,7 @@ fn is_join(flows: &Flows, size: u32, a: u32, b: u32, c: u32) -> bool
     true
 }
 
-// The join of two labels, if there is one.
+/// The join of two labels, if there is one.
 pub fn join_of(flows: &Flows, size: u32, a: u32, b: u32) -> Option<u32>
     requires size { size ≤ MAX_LABELS }
     requires a { a < MAX_LABELS }
@@ -54,7 +54,7 @@ pub fn join_of(flows: &Flows, size: u32, a: u32, b: u32) -> Option<u32>
     None
 }
 
-// A label to which no other label flows.
+/// A label to which no other label flows.
 pub fn lowest(flows: &Flows, size: u32) -> Option<u32>
     requires size { size ≤ MAX_LABELS }
     ensures { MatchOption result ((a : ℕ) → a < size → IsLowest size (IsSet flows.now) a → ⊥) (λ a. (a < size) × IsLowest size (IsSet flows.now) a) }
@@ -79,7 +79,7 @@ fn join_at(flows: &Flows, size: u32, i: usize) -> u8
     }
 }
 
-// All joins, in rows.
+/// All joins, in rows.
 pub fn joins(flows: &Flows, size: u32) -> [u8; CELLS]
     requires { size ≤ MAX_LABELS }
     ensures { (i : ℕ) → i < CELLS → IsJoinOf size flows.now i (slice_index_or result i 0) }

@@ -46,7 +46,7 @@ fn first_above(check: Check, flows: &Flows, size: u32, a: u32) -> Option<u32>
     None
 }
 
-// The first two labels that are refused.
+/// The first two labels that are refused.
 pub fn first_pair(check: Check, flows: &Flows, size: u32) -> Option<(Label, Label)>
     requires size { size ≤ MAX_LABELS }
     ensures { MatchOption result (IsNoPair size (IsRefused check size (IsSet flows.now))) (λ p. IsFirstPair size (IsRefused check size (IsSet flows.now)) p.0.number p.1.number) }

@@ -12,7 +12,7 @@ pub const ROOM: usize = MAX_LABELS as usize;
 /// How many pairs of labels there is room for.
 pub const CELLS: usize = ROOM * ROOM;
 
-// For each pair of labels whether the first flows to the second, in rows.
+/// For each pair of labels whether the first flows to the second, in rows.
 pub type Flows = [bool; CELLS];
 
 fn diagonal() -> Flows
@@ -48,7 +48,7 @@ fn with_pair(old: &Flows, x: usize, y: usize) -> Flows
     flows
 }
 
-// What flows to what by these pairs.
+/// What flows to what by these pairs.
 pub fn closure(pairs: &[(Label, Label)]) -> Flows
     requires { AreBelow MAX_LABELS pairs.now }
     ensures { IsClosure result pairs.now }
@@ -63,7 +63,7 @@ pub fn closure(pairs: &[(Label, Label)]) -> Flows
     flows
 }
 
-// Whether the table says so of the pair.
+/// Whether the table says so of the pair.
 pub fn is_set(flows: &Flows, a: u32, b: u32) -> bool
     requires a { a < MAX_LABELS }
     requires b { b < MAX_LABELS }

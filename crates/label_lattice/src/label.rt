@@ -1,3 +1,5 @@
+//! Labels.
+
 ghost use Rattle.std.specs.Prelude.{◌≡◌};
 
 /// The most labels that a lattice may have.

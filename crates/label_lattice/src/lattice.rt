@@ -1,6 +1,7 @@
 //! Lattices of labels.
 
-ghost use Rattle.std.specs.Prelude.{◌≡◌, ◌<◌, ◌≤◌, ◌^◌, ℕ, length, MatchOption, IfOk, IfErr};
+ghost use Rattle.std.specs.Prelude.{◌≡◌, ◌<◌, ◌≤◌, ◌^◌, ℕ, length, All, MatchOption, IfOk, IfErr};
+ghost use Rattle.label_lattice.specs.Names.{IsName};
 ghost use Rattle.label_lattice.specs.Lattice.{IsLattice};
 ghost use Rattle.label_lattice.specs.Order.{lattice_of, name_of, AllDiffer, IsOrder, count_not_below};
 ghost use Rattle.label_lattice.specs.Chains.{Chain, AreBelow, IsFault, IsBuilt};
@@ -51,6 +52,15 @@ fn with_room(names: &[Name]) -> [Name; ROOM]
     room
 }
 
+// Each of these is a name, as every `Name` is.
+fn are_names(names: &[Name])
+    ensures { All IsName names.now }
+{
+    for name in names {
+        let _ = name.bytes();
+    }
+}
+
 impl Lattice {
     /// The lattice of labels with these names, of which a first one flows to a second one where a chain of
     /// zero or more of the pairs leads from the first to the second.
@@ -73,6 +83,7 @@ impl Lattice {
         if size > MAX_LABELS {
             return Err(LatticeFault::TooMany(size));
         }
+        are_names(names);
         let flows = closure(pairs);
         if let Some((a, b)) = first_pair(Check::Cycle, &flows, size) {
             return Err(LatticeFault::Cycle(a, b));
@@ -126,7 +137,7 @@ impl Lattice {
     {
         for number in 0..self.size {
             let label = Label::new(number as u8);
-            if self.name(label).bytes() == name.bytes() {
+            if self.name(label) == *name {
                 return Some(label);
             }
         }
@@ -147,7 +158,8 @@ impl Lattice {
 
     /// The least label to which both flow.
     pub fn join(&self, a: Label, b: Label) -> Label
-        ensures { result.number ≡ (lattice_of self.now).join a.number b.number }
+        ensures value { result.number ≡ (lattice_of self.now).join a.number b.number }
+        ensures within { a.number < self.now.size → b.number < self.now.size → result.number < self.now.size }
     {
         let (a, b) = (a.number, b.number);
         if u32::from(a) < self.size && u32::from(b) < self.size {

@@ -8,3 +8,5 @@ pub mod fault;
 pub mod label;
 pub mod lattice;
 pub mod name;
+#[cfg(test)]
+mod tests;

@@ -2,17 +2,24 @@
 
 ghost use Rattle.std.specs.Prelude.{◌≡◌, false, IfSome, IsSome, IsTrue, ◌↔◌};
 ghost use Rattle.std.specs.List.{list_all};
+ghost use Rattle.std.specs.Str.{bytes_eq};
+ghost use Rattle.std.specs.Hash as fed;
+ghost use Rattle.std.specs.Cmp;
+ghost use Rattle.std.specs.Cmp.Lexicographic.{nat_list_eq_equiv};
+ghost use Rattle.std.specs.Cmp.Rules.{hashing};
+ghost use Rattle.std.proofs.Common.{rules};
 ghost use Rattle.label_lattice.specs.Names.{IsName, IsWord, is_one_of, keywords, is_name_byte};
 
+use std::hash::{Hash, Hasher};
 use std::marker::Model;
 
 /// The most bytes that a name may have.
 const MAX_BYTES: usize = 32;
 
 /// A name: a letter, then letters, digits and `_`, of at most 32 bytes, and no keyword.
-#[derive(Clone, Copy, Debug, PartialEq, Eq, Hash)]
+#[derive(Clone, Copy, Debug)]
 pub struct Name {
-    room: [u8; 32],
+    room: [u8; MAX_BYTES],
     len: u8,
 }
 
@@ -44,7 +51,7 @@ impl Name {
         if bytes.len() > MAX_BYTES || !is_word(bytes) || is_keyword(bytes) {
             return None;
         }
-        let mut room = [0u8; 32];
+        let mut room = [0u8; MAX_BYTES];
         room[..bytes.len()].copy_from_slice(bytes);
         Some(Name {
             room,
@@ -58,6 +65,30 @@ impl Name {
         ensures name { IsName self.now }
     {
         &self.room[..self.len as usize]
+    }
+}
+
+impl PartialEq for Name {
+    ghost eq = { bytes_eq };
+
+    ghost laws = { Cmp.partial_equiv_from_equiv nat_list_eq_equiv };
+
+    fn eq(&self, other: &Self) -> bool {
+        self.bytes() == other.bytes()
+    }
+}
+
+impl Eq for Name {
+    ghost laws = { nat_list_eq_equiv };
+}
+
+impl Hash for Name {
+    ghost hash_input = { fed.slice fed.u8 };
+
+    ghost respects_eq = { Prim.search (hashing, rules) };
+
+    fn hash<H: Hasher>(&self, state: &mut H) {
+        self.bytes().hash(state);
     }
 }
 

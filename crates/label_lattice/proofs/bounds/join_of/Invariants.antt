@@ -1,6 +1,6 @@
-use Rattle.std.proofs.Common.{◌≡◌, ℕ, ◌<◌, ◌≤◌, false, get_or, take}
-use Rattle.label_lattice.specs.Chains.{IsLowest, IsJoin}
-use Rattle.label_lattice.specs.Tables.{IsSet, IsClosure, IsRefused, on_diagonal, extended}
+use Rattle.std.proofs.Common.{ℕ, ◌<◌}
+use Rattle.label_lattice.specs.Chains.{IsJoin}
+use Rattle.label_lattice.specs.Tables.{IsSet}
 use Rattle.label_lattice.proofs.bounds.join_of.Given as goal
 
 abbrev pub invariant-loop-c : goal.invariant-loop-c

@@ -1,6 +1,5 @@
-use Rattle.std.proofs.Common.{◌≡◌, ℕ, ◌<◌, ◌≤◌, false, get_or, take}
-use Rattle.label_lattice.specs.Chains.{IsLowest, IsJoin}
-use Rattle.label_lattice.specs.Tables.{IsSet, IsClosure, IsRefused, on_diagonal, extended}
+use Rattle.std.proofs.Common.{ℕ, ◌<◌}
+use Rattle.label_lattice.specs.Tables.{IsSet, IsRefused}
 use Rattle.label_lattice.proofs.checks.first_above.Given as goal
 
 abbrev pub invariant-loop-b : goal.invariant-loop-b

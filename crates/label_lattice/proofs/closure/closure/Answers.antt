@@ -22,6 +22,6 @@ pub loop-a-preserved : goal.loop-a-preserved
 loop-a-preserved c =
     let P : List Bool → Type 0 = λ t. IsClosure t (take (c.loop-a.a-index + 1) c.args.pairs.now) in
     elim c.if-not-flows-x.branch [
-      then-not-flows-x w ↦ subst P (sym w.flows-is) (step_with c.args.pairs.now c.loop-a.a-index c.from-x.result c.from-y.result c.loop-a.flows c.loop-a.invariant c.requires c.loop-a-test.true c.from-x.ensures c.from-y.ensures w.with_pair-flows.result w.with_pair-flows.ensures)
-    | else-not-flows-x w ↦ subst P (sym w.flows-is) (step_same c.args.pairs.now c.loop-a.a-index c.from-x.result c.from-y.result c.loop-a.flows c.loop-a.invariant c.requires c.loop-a-test.true c.from-x.ensures c.from-y.ensures w.if-not-flows-x.false)
+      | then-not-flows-x w ↦ subst P (sym w.flows-is) (step_with c.args.pairs.now c.loop-a.a-index c.from-x.result c.from-y.result c.loop-a.flows c.loop-a.invariant c.requires c.loop-a-test.true c.from-x.ensures c.from-y.ensures w.with_pair-flows.result w.with_pair-flows.ensures)
+      | else-not-flows-x w ↦ subst P (sym w.flows-is) (step_same c.args.pairs.now c.loop-a.a-index c.from-x.result c.from-y.result c.loop-a.flows c.loop-a.invariant c.requires c.loop-a-test.true c.from-x.ensures c.from-y.ensures w.if-not-flows-x.false)
     ]

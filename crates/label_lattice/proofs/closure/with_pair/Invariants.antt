@@ -1,6 +1,7 @@
-use Rattle.std.proofs.Common.{◌≡◌, ℕ, ◌<◌, ◌≤◌, false, get_or, take, length}
-use Rattle.label_lattice.specs.Tables.{IsSet, IsClosure, IsRefused, on_diagonal, extended}
+use Rattle.std.proofs.Common.{◌*◌, ◌≡◌, ℕ, ◌<◌, false, get_or, length}
+use Rattle.label_lattice.specs.Order.{row}
+use Rattle.label_lattice.specs.Tables.{extended}
 use Rattle.label_lattice.proofs.closure.with_pair.Given as goal
 
 abbrev pub invariant-loop-i : goal.invariant-loop-i
-invariant-loop-i l = (length l.flows ≡ 1024) × ((k : ℕ) → k < l.i → get_or l.flows k false ≡ extended l.old l.x l.y k)
+invariant-loop-i l = (length l.flows ≡ row * row) × ((k : ℕ) → k < l.i → get_or l.flows k false ≡ extended l.old l.x l.y k)

@@ -1,4 +1,4 @@
-use Rattle.std.proofs.Common.{arith, refl, ap, ◌∙◌, sym}
+use Rattle.std.proofs.Common.{arith}
 use Rattle.std.proofs.lemmas.Grind.{common_steps}
 use Rattle.label_lattice.proofs.Orders.{count_more}
 use Rattle.label_lattice.proofs.lattice.Lattice.not_below.Goals as goal
