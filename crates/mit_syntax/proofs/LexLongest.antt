@@ -8,7 +8,7 @@ use Rattle.mit_syntax.specs.declared.token.TokenKind.{TokenKind}
 use Rattle.mit_syntax.specs.declared.token.TokenKind.TheVariants.{Sign as SignKind}
 use Rattle.mit_syntax.specs.Lexemes.{is_name_byte, Each, StopsAt, value, value_after, sign_text, IsWord, IsDigits, word, digits, sign, IsLongest, HasKind}
 use Rattle.mit_syntax.specs.TokenSteps.{IsToken, HasFlaw, second_is_equal, sign_front}
-use Rattle.mit_syntax.proofs.LexBytes.{differ, heads, not_longer, word_passes, digits_pass, each_name, not_both, letter_in_name, front_passes, rest_stops, grows, head_of}
+use Rattle.mit_syntax.proofs.LexBytes.{differ, heads, not_longer, word_passes, digits_pass, each_name, not_both, letter_in_name, front_passes, rest_stops, grows}
 use Rattle.mit_syntax.proofs.LexSigns.{no_sign, no_letter_first, no_digit_first, taken, takes, taken_there}
 
 pub word_longest : (w r : List ℕ) → IsWord w → StopsAt is_name_byte r → IsLongest w r

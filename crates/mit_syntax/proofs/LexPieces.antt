@@ -13,8 +13,8 @@ use Rattle.mit_syntax.specs.declared.token.Token.{Token}
 use Rattle.mit_syntax.specs.declared.token.TokenKind.{TokenKind}
 use Rattle.mit_syntax.specs.declared.token.TokenKind.TheVariants.{Key, Name, Number, Sign as SignKind, End}
 use Rattle.mit_syntax.specs.declared.tokens.Place.{Place}
-use Rattle.mit_syntax.specs.Lexemes.{is_white, is_name_byte, Each, StopsAt, IsWord, IsDigits, key_text, sign_text, HasKind, IsLongest}
-use Rattle.mit_syntax.specs.Cut.{start, past, moved, in_line, starts_comment, Piece, white, comment, lexeme, bytes_of, IsPiece, spread, CutBefore, and_then, tokens_of, end_at, AreTokens, BeginsNone, BeginsWide, BeginsLong, StopsBefore, IsFault}
+use Rattle.mit_syntax.specs.Lexemes.{is_white, is_name_byte, Each, StopsAt, IsWord, IsDigits, key_text, HasKind, IsLongest}
+use Rattle.mit_syntax.specs.Cut.{start, past, moved, in_line, starts_comment, white, comment, lexeme, bytes_of, IsPiece, spread, and_then, tokens_of, end_at, AreTokens, BeginsNone, BeginsWide, BeginsLong, StopsBefore, IsFault}
 use Rattle.mit_syntax.specs.TokenSteps.{IsToken, HasFlaw, State, TookPiece, StandsAtFlaw, NoPiece, CutSoFar}
 use Rattle.mit_syntax.proofs.LexBytes.{differ, letter_in_name}
 use Rattle.mit_syntax.proofs.LexSigns.{key_opens, sign_stays, sign_parts}

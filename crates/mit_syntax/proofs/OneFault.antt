@@ -1,5 +1,5 @@
 -- A text has tokens or one fault, and not both.
-use Rattle.std.proofs.Common.{◌≡◌, ◌<◌, ◌≤◌, refl, ap, ◌∙◌, sym, subst, ℕ, List, [], ◌∷◌, ◌++◌, length, take, true, false, arith}
+use Rattle.std.proofs.Common.{◌≡◌, ◌<◌, refl, ap, ◌∙◌, sym, subst, ℕ, List, [], ◌++◌, length, false, arith}
 use Rattle.std.proofs.lemmas.List.{append-nil, take_all}
 use Rattle.std.proofs.lemmas.Str.{utf8_valid_len-IsValidUpTo}
 use Rattle.std.specs.Prelude.{IsUtf8, Result, Ok, Err, MatchResult}
@@ -10,8 +10,8 @@ use Rattle.mit_syntax.specs.declared.fault.TextFault.TheVariants.{NotUtf8, BadBy
 use Rattle.mit_syntax.specs.declared.token.Token.{Token}
 use Rattle.mit_syntax.specs.declared.token.TokenKind.{TokenKind}
 use Rattle.mit_syntax.specs.declared.token.TokenKind.TheVariants.{Key, Name, Number, Sign as SignKind, End}
-use Rattle.mit_syntax.specs.Lexemes.{is_white, StopsAt, Lexeme, word, digits, IsWord, IsDigits, IsNoKeyword, value, IsLongest, HasKind}
-use Rattle.mit_syntax.specs.Cut.{start, moved, starts_comment, Piece, white, comment, lexeme, spread, AreTokens, BeginsNone, BeginsWide, BeginsLong, StopsBefore, IsFault}
+use Rattle.mit_syntax.specs.Lexemes.{is_white, StopsAt, word, digits, IsWord, IsDigits, IsNoKeyword, value, IsLongest, HasKind}
+use Rattle.mit_syntax.specs.Cut.{start, moved, starts_comment, white, comment, lexeme, spread, AreTokens, BeginsNone, BeginsWide, BeginsLong, StopsBefore, IsFault}
 use Rattle.mit_syntax.proofs.LexBytes.{differ}
 use Rattle.mit_syntax.proofs.LexSigns.{key_opens}
 use Rattle.mit_syntax.proofs.OneList.{as_lexeme, same_front, word_digits, word_sign, digits_sign, comment_goes_on, Stuck, stuck_end, one_cut, one_list}

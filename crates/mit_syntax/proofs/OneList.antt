@@ -7,7 +7,7 @@ use Rattle.mit_syntax.specs.declared.token.Sign.{Sign}
 use Rattle.mit_syntax.specs.declared.token.Token.{Token}
 use Rattle.mit_syntax.specs.declared.token.TokenKind.{TokenKind}
 use Rattle.mit_syntax.specs.declared.token.TokenKind.TheVariants.{Key, Name, Number, Sign as SignKind, End}
-use Rattle.mit_syntax.specs.Lexemes.{is_white, IsWord, IsDigits, Lexeme, word, digits, sign, key_text, sign_text, HasKind}
+use Rattle.mit_syntax.specs.Lexemes.{is_white, IsWord, IsDigits, Lexeme, word, digits, sign, sign_text, HasKind}
 use Rattle.mit_syntax.specs.Cut.{start, moved, in_line, starts_comment, Piece, white, comment, lexeme, bytes_of, IsPiece, spread, CutBefore, tokens_of, end_at, AreTokens}
 use Rattle.mit_syntax.proofs.LexBytes.{differ, not_longer, heads, tails, not_both}
 use Rattle.mit_syntax.proofs.LexSigns.{no_sign, no_letter_first, no_digit_first, no_white_first, key_opens, sign_parts, one_key, one_sign}

@@ -1,5 +1,5 @@
 -- A text of tokens and white space alone is ASCII, and so UTF-8.
-use Rattle.std.proofs.Common.{◌≡◌, ◌<◌, ◌≤◌, refl, ap, ◌∙◌, sym, subst, ℕ, zero, suc, List, [], ◌∷◌, ◌++◌, length, get_or, Bool, true, false, ◌&&◌, ◌||◌, ◌==◌, nat_le, inl, inr, arith}
+use Rattle.std.proofs.Common.{◌≡◌, ◌<◌, sym, subst, ℕ, zero, suc, List, [], ◌∷◌, ◌++◌, refl, get_or, Bool, true, ◌&&◌, ◌||◌, ◌==◌, nat_le, inl, inr, arith}
 use Rattle.std.proofs.lemmas.Bool.{eqb-true, leb-true}
 use Rattle.std.proofs.lemmas.Str.{IsUtf8-from_ascii, IsUtf8-append, IsUtf8-nil}
 use Rattle.std.specs.Prelude.{IsUtf8}
@@ -7,8 +7,8 @@ use Rattle.std.specs.Char.{is_ascii_digit, is_ascii_alphabetic}
 use Rattle.mit_syntax.specs.declared.token.TokenKind.{TokenKind}
 use Rattle.mit_syntax.specs.declared.token.TokenKind.TheVariants.{Key, Name, Number, Sign as SignKind, End}
 use Rattle.mit_syntax.specs.declared.token.Sign.{Sign}
-use Rattle.mit_syntax.specs.Lexemes.{is_white, is_name_byte, Each, IsWord, IsDigits, key_text, sign_text, HasKind}
-use Rattle.mit_syntax.specs.Cut.{Piece, white, comment, lexeme, bytes_of, IsPiece, spread, CutBefore}
+use Rattle.mit_syntax.specs.Lexemes.{is_white, is_name_byte, Each, key_text, sign_text, HasKind}
+use Rattle.mit_syntax.specs.Cut.{start, moved, Piece, white, comment, lexeme, spread, CutBefore, tokens_of, end_at, AreTokens}
 use Rattle.mit_syntax.proofs.LexBytes.{both_of, either_of, digit_range, word_passes, digits_pass}
 use Rattle.mit_syntax.proofs.LexSigns.{each_sign, key_opens}
 
@@ -89,3 +89,7 @@ plain_utf8 [] rest c h = IsUtf8-nil
 plain_utf8 (white b ∷ ps) rest c h = IsUtf8-append (b ∷ []) (spread ps) (white_utf8 b c.0) (plain_utf8 ps rest c.1 h)
 plain_utf8 (comment d ∷ ps) rest c h = absurd h
 plain_utf8 (lexeme w k ∷ ps) rest c h = IsUtf8-append w (spread ps) (token_utf8 w k c.0.1) (plain_utf8 ps rest c.1 h)
+
+-- what is cut into white space and lexemes has their tokens
+pub plain_tokens : (ps : List Piece) → CutBefore ps [] → NoComments ps → AreTokens (spread ps) (tokens_of start ps ++ end_at (moved start (spread ps)) ∷ [])
+plain_tokens ps c h = record { utf8 = plain_utf8 ps [] c h; pieces = ps; are = refl; cut = c; tokens_are = refl }

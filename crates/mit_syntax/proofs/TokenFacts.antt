@@ -1,14 +1,13 @@
 -- What the tokens of a text say of its bytes.
-use Rattle.std.proofs.Common.{◌≡◌, ◌<◌, ◌≤◌, ◌+◌, ◌-◌, refl, ap, ◌∙◌, sym, subst, ℕ, zero, suc, List, [], ◌∷◌, ◌++◌, append_assoc, length, length-append, take, drop, get_or, Bool, true, false, cond, ◌==◌, arith}
+use Rattle.std.proofs.Common.{◌≡◌, ◌<◌, ◌≤◌, ◌+◌, ◌-◌, ℤ, refl, ap, ◌∙◌, sym, subst, ℕ, zero, suc, List, [], ◌∷◌, ◌++◌, append_assoc, length, length-append, take, drop, get_or, Bool, true, false, cond, ◌==◌, arith}
 use Rattle.std.proofs.lemmas.Bool.{eqb-true, eqb-false}
 use Rattle.std.proofs.lemmas.List.{append-nil}
-use Rattle.tim_base.specs.declared.pos.Pos.{Pos}
 use Rattle.mit_syntax.specs.declared.token.Token.{Token}
 use Rattle.mit_syntax.specs.declared.token.TokenKind.{TokenKind}
-use Rattle.mit_syntax.specs.declared.token.TokenKind.TheVariants.{End}
+use Rattle.mit_syntax.specs.declared.token.TokenKind.TheVariants.{Name, Number, End}
 use Rattle.mit_syntax.specs.declared.tokens.Place.{Place}
-use Rattle.mit_syntax.specs.Lexemes.{HasKind}
-use Rattle.mit_syntax.specs.Cut.{start, past, moved, Piece, white, comment, lexeme, bytes_of, IsPiece, spread, CutBefore, token_at, tokens_of, end_at, AreTokens, token_bytes}
+use Rattle.mit_syntax.specs.Lexemes.{HasKind, IsName}
+use Rattle.mit_syntax.specs.Cut.{start, past, moved, Piece, white, comment, lexeme, bytes_of, spread, CutBefore, tokens_of, end_at, AreTokens, token_bytes}
 use Rattle.mit_syntax.proofs.LexPieces.{moved-append, front_back, kind_some}
 
 -- the kinds and the bytes of the tokens in pieces
@@ -182,3 +181,25 @@ module _ (text : List ℕ) (tokens : List Token) (h : AreTokens text tokens) whe
           let s = t.some in
           let w = t.within in
           (omega (arith, s), w)
+
+  pub from_within : (i : ℕ) (d : Token) → i < length tokens → (get_or tokens i d).from ≤ (get_or tokens i d).to
+  from_within i d k = (token_within i d k).0
+
+  pub to_within : (i : ℕ) (d : Token) → i < length tokens → (get_or tokens i d).to ≤ length text
+  to_within i d k = (token_within i d k).1
+
+  -- a token that is not the end has its kind's spelling
+  pub kind_told : (i : ℕ) (d : Token) → i < length tokens → ((get_or tokens i d).kind ≡ End → ⊥) → HasKind (token_bytes text (get_or tokens i d)) (get_or tokens i d).kind
+  kind_told i d k e = at_last (i + 1 == length tokens) refl
+    where
+      at_last : (b : Bool) → (i + 1 == length tokens) ≡ b → HasKind (token_bytes text (get_or tokens i d)) (get_or tokens i d).kind
+      at_last true q = absurd (e (ap (λ t. t.kind) (end_told i d (eqb-true (i + 1) (length tokens) q))))
+      at_last false q = let n = eqb-false (i + 1) (length tokens) q in (token_told i d (omega (arith, k, n))).has_kind
+
+  -- the bytes of a name are a name
+  pub name_told : (i : ℕ) (d : Token) → i < length tokens → (get_or tokens i d).kind ≡ Name → IsName (token_bytes text (get_or tokens i d))
+  name_told i d k e = subst (HasKind (token_bytes text (get_or tokens i d))) e (kind_told i d k (λ h. let both : Name ≡ End = sym e ∙ h in cc))
+
+  -- a number is no more than the greatest
+  pub number_told : (i : ℕ) (d : Token) (n : ℤ) → i < length tokens → (get_or tokens i d).kind ≡ Number n → HasKind (token_bytes text (get_or tokens i d)) (Number n)
+  number_told i d n k e = subst (HasKind (token_bytes text (get_or tokens i d))) e (kind_told i d k (λ h. let both : Number n ≡ End = sym e ∙ h in cc))

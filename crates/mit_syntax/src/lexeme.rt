@@ -94,8 +94,8 @@ fn keyword_of(word: &[u8]) -> Option<Keyword>
     }
 }
 
-/// The longest token at the front of a text that isn't empty, and how many bytes it has. What the text
-/// goes on with behind it isn't looked at.
+/// The longest token at the front of a text that isn't empty, and how many bytes it has. A comment is not
+/// known here.
 pub fn lexeme(text: &[u8]) -> Result<(TokenKind, usize), Flaw>
     requires { 0 < length text.now }
     ensures { MatchResult result (λ t. IsToken text.now t.0 t.1) (HasFlaw text.now) }

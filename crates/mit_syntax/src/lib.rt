@@ -2,10 +2,10 @@
 #![tactic(auto)]
 
 pub mod ast;
-pub mod count;
+mod count;
 pub mod declarations;
 pub mod fault;
-pub mod lexeme;
+mod lexeme;
 pub mod print;
 pub mod program;
 pub mod token;

@@ -124,5 +124,6 @@ static PLACES: [Token; 5] = [
 fn tells_places(rt: HostRuntime) -> Result<(), Fail> {
     let list = tokens(rt.alloc(), b"x /y\n z\n")?;
     assert_eq!(rt; list.as_slice(), PLACES.as_slice());
+    assert_eq!(rt; PLACES[1].bytes(b"x /y"), b"/".as_slice());
     Ok(())
 }

@@ -4,7 +4,7 @@ ghost use Rattle.std.specs.Prelude.{◌≡◌, ◌+◌, ◌^◌, ◌<◌, ◌≤
 ghost use Rattle.mit_syntax.specs.declared.fault.TextFault.TheVariants.{Memory};
 ghost use Rattle.mit_syntax.specs.declared.token.Token.{Token};
 ghost use Rattle.mit_syntax.specs.Lexemes.{is_white, Each};
-ghost use Rattle.mit_syntax.specs.Cut.{start, moved, in_line, starts_comment, AreTokens, IsFault, end_at};
+ghost use Rattle.mit_syntax.specs.Cut.{start, moved, in_line, starts_comment, AreTokens, IsFault, end_at, token_bytes};
 ghost use Rattle.mit_syntax.specs.TokenSteps.{TookPiece, NoPiece};
 
 use crate::fault::TextFault;
@@ -174,9 +174,20 @@ impl<'a> Lexer<'a> {
     }
 }
 
+impl Token {
+    /// The bytes of a token of this text.
+    pub fn bytes<'a>(&self, text: &'a [u8]) -> &'a [u8]
+        requires order { self.now.from ≤ self.now.to }
+        requires within { self.now.to ≤ length text.now }
+        ensures { result.now ≡ token_bytes text.now self.now }
+    {
+        &text[self.from as usize..self.to as usize]
+    }
+}
+
 /// The tokens of a text of at most 2^31 - 1 bytes, in order. The last one is `End`, and no other is.
 ///
-/// `answer` says what comes; `only`: a text with a fault has no tokens, and there is one list at most.
+/// A text has one list of tokens at most, and none where it has a fault.
 ///
 /// Errors: `NotUtf8` exactly where the text is not UTF-8, whatever else is wrong with it. Else the first
 /// fault in the text: `BadByte`, `WideNumber` or `LongName`. `Memory` may come for any text.
