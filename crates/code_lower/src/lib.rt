@@ -1,2 +1,4 @@
 //! From typed programs to images.
 #![tactic(auto)]
+
+pub mod laws;

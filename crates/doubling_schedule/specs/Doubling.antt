@@ -1,5 +1,5 @@
 -- Predictions that double at each miss.
-use Rattle.std.specs.Prelude.{ℕ, zero, suc, ◌+◌, ◌*◌, ◌-◌, ◌^◌, ◌<◌, ◌≤◌, max, leb, cond, ℤ, pos, negsuc}
+use Rattle.std.specs.Prelude.{ℕ, zero, suc, ◌+◌, ◌*◌, ◌^◌, ◌<◌, ◌≤◌, max, leb, cond, ℤ, pos, negsuc}
 
 -- at least 0
 abbrev pub at_least_zero : ℤ → ℕ

@@ -1,2 +1,7 @@
 //! The doubling schedule of mitigations: how a miss count is settled, and what it predicts.
 #![tactic(auto)]
+
+pub mod misses;
+mod prediction;
+#[cfg(test)]
+mod tests;

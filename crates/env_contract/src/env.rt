@@ -1,3 +1,5 @@
+//! The contract of an environment.
+
 ghost use Rattle.std.specs.Prelude.{◌≡◌, ◌<◌, ◌≤◌, ◌↔◌, ℕ, List, IsTrue};
 ghost use Rattle.label_lattice.specs.Lattice.{IsLattice};
 ghost use Rattle.label_lattice.specs.Order.{Order, lattice_of};

@@ -1,3 +1,5 @@
+//! The environment without caches.
+
 ghost use Rattle.std.specs.Prelude.{◌≡◌, ◌≤◌};
 ghost use Rattle.label_lattice.specs.Order.{Order};
 

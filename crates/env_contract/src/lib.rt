@@ -5,3 +5,5 @@ pub mod env;
 pub mod flat;
 pub mod make;
 pub mod place;
+#[cfg(test)]
+mod tests;

@@ -1,3 +1,5 @@
+//! What makes environments for runs.
+
 ghost use Rattle.std.specs.Prelude.{◌≡◌, ◌<◌, List, IfOk};
 ghost use Rattle.std.specs.List.{All};
 ghost use Rattle.label_lattice.specs.Order.{Order};

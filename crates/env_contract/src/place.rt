@@ -1,3 +1,5 @@
+//! What is read and where it may be kept.
+
 use label_lattice::label::Label;
 
 /// What an access reads: an instruction or a datum.

@@ -1,3 +1,4 @@
 pub mod Costs
 pub mod Machine
 pub mod Run
+pub mod Shaped

@@ -1,5 +1,5 @@
 -- The machine that counts cycles, over any environment.
-use Rattle.std.specs.Prelude.{ℕ, zero, suc, ◌+◌, ◌*◌, ◌-◌, ◌^◌, max, leb, eqb, List, [], ◌∷◌, ◌++◌, Bool, true, false, cond, not, ◌&&◌, ℤ, pos, Option, Some, None, slice_get, slice_set}
+use Rattle.std.specs.Prelude.{ℕ, zero, suc, ◌+◌, ◌*◌, ◌-◌, ◌^◌, leb, eqb, List, [], ◌∷◌, ◌++◌, Bool, true, false, cond, not, ◌&&◌, ℤ, pos, Option, Some, None, slice_get, slice_set}
 use Rattle.label_lattice.specs.declared.label.Label.{Label}
 use Rattle.label_code.specs.declared.code.Work.{Work}
 use Rattle.label_code.specs.declared.code.Work.TheVariants.{Push, Load, Store, LoadAt, StoreAt, Apply, Brz, Brnz, Jmp, Sleep, Mitb, Mite, Nop, Halt}
@@ -8,7 +8,6 @@ use Rattle.mit_syntax.specs.Todo.{Marks}
 use Rattle.mit_syntax.specs.Values.{apply, read, element, holds}
 use Rattle.label_code.specs.Costs.{op_cost}
 use Rattle.doubling_schedule.specs.Doubling.{at_least_zero, prediction, misses_after}
-use Rattle.env_contract.specs.declared.place.Kind.{Kind}
 use Rattle.env_contract.specs.declared.place.Kind.TheVariants.{Code, Data}
 use Rattle.env_contract.specs.Env.{Env}
 

@@ -2,3 +2,5 @@
 #![tactic(auto)]
 
 pub mod code;
+pub mod cost;
+pub mod image;

@@ -1,4 +1,5 @@
 pub mod Records
 pub mod Visible
 pub mod Relevant
+pub mod Digits
 pub mod Sound

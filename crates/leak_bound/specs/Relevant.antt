@@ -1,45 +1,48 @@
--- Which mitigates are relevant for an observer, and how many of them a run begins.
-use Rattle.std.specs.Prelude.{◌≡◌, ℕ, ◌+◌, List, [], ◌∷◌, Bool, false, cond, not, ◌&&◌}
+-- Which mitigates are relevant for an observer, and how many of them a run begins or ends.
+use Rattle.std.specs.Prelude.{◌≡◌, ℕ, ◌+◌, ◌<◌, List, [], ◌∷◌, ◌++◌, Bool, false, cond, not, ◌&&◌, ℤ, slice_index_or}
+use Rattle.std.specs.List.{count_by}
 use Rattle.mit_syntax.specs.Todo.{Marked, Done, Skip, Assign, Put, Sleep, If, While, Mitigate}
 use Rattle.label_lattice.specs.Lattice.{Lattice}
 use Rattle.timing_types.specs.Typing.{label_of}
+use Rattle.source_meaning.specs.Source.{marks_of, HasEnded}
 use Rattle.label_code.specs.Machine.{Event, Wrote, Began, Ended}
-use Rattle.leak_bound.specs.Records.{IsIn}
 
--- rel tells of each mark in the list, at pc, whether its mitigate's pc is low and its level is not
-abbrev pub Tells : Lattice → (ℕ → ℕ) → ℕ → (ℕ → Bool) → ℕ → Marked → Type 0
-Tells lat g o rel pc Done = Unit {0}
-Tells lat g o rel pc (Skip m r) = Tells lat g o rel pc r
-Tells lat g o rel pc (Assign m x e r) = Tells lat g o rel pc r
-Tells lat g o rel pc (Put m f n i e r) = Tells lat g o rel pc r
-Tells lat g o rel pc (Sleep m e r) = Tells lat g o rel pc r
-Tells lat g o rel pc (If m e a b r) =
-    Tells lat g o rel (lat.join pc (label_of lat g e)) a × Tells lat g o rel (lat.join pc (label_of lat g e)) b × Tells lat g o rel pc r
-Tells lat g o rel pc (While m e c r) = Tells lat g o rel (lat.join pc (label_of lat g e)) c × Tells lat g o rel pc r
-Tells lat g o rel pc (Mitigate m k l e c r) =
-    (rel k ≡ (lat.flows pc o && not (lat.flows l o))) × Tells lat g o rel pc c × Tells lat g o rel pc r
+-- of each mitigate, in the order of the text: whether its pc flows to the observer and its level does not
+abbrev pub relevances : Lattice → (ℕ → ℕ) → ℕ → ℕ → Marked → List Bool
+relevances lat g o pc Done = []
+relevances lat g o pc (Skip m r) = relevances lat g o pc r
+relevances lat g o pc (Assign m x e r) = relevances lat g o pc r
+relevances lat g o pc (Put m f n i e r) = relevances lat g o pc r
+relevances lat g o pc (Sleep m e r) = relevances lat g o pc r
+relevances lat g o pc (If m e a b r) =
+    let inner = lat.join pc (label_of lat g e) in
+    relevances lat g o inner a ++ (relevances lat g o inner b ++ relevances lat g o pc r)
+relevances lat g o pc (While m e c r) = relevances lat g o (lat.join pc (label_of lat g e)) c ++ relevances lat g o pc r
+relevances lat g o pc (Mitigate m k l e c r) =
+    (lat.flows pc o && not (lat.flows l o)) ∷ (relevances lat g o pc c ++ relevances lat g o pc r)
 
--- each level that is not low is among the labels
-abbrev pub HasLevels : Lattice → ℕ → List ℕ → Marked → Type 0
-HasLevels lat o ls Done = Unit {0}
-HasLevels lat o ls (Skip m r) = HasLevels lat o ls r
-HasLevels lat o ls (Assign m x e r) = HasLevels lat o ls r
-HasLevels lat o ls (Put m f n i e r) = HasLevels lat o ls r
-HasLevels lat o ls (Sleep m e r) = HasLevels lat o ls r
-HasLevels lat o ls (If m e a b r) = HasLevels lat o ls a × HasLevels lat o ls b × HasLevels lat o ls r
-HasLevels lat o ls (While m e c r) = HasLevels lat o ls c × HasLevels lat o ls r
-HasLevels lat o ls (Mitigate m k l e c r) = (lat.flows l o ≡ false → IsIn l ls) × HasLevels lat o ls c × HasLevels lat o ls r
+-- whether the mitigate with a mark is relevant: marks are numbered from 0 in the order of the text
+abbrev pub is_relevant : Lattice → (ℕ → ℕ) → ℕ → Marked → ℕ → Bool
+is_relevant lat g o p k = slice_index_or (relevances lat g o lat.bottom p) k false
 
--- how many relevant mitigations began
-abbrev pub begun_count : (ℕ → Bool) → List Event → ℕ
-begun_count rel [] = 0
-begun_count rel (Wrote x n c ∷ es) = begun_count rel es
-begun_count rel (Began k c ∷ es) = cond (rel k) 1 0 + begun_count rel es
-begun_count rel (Ended k c ∷ es) = begun_count rel es
+-- the program ends from this memory, and begins k relevant mitigates until then
+abbrev pub Begins : Lattice → (ℕ → ℕ) → ℕ → Marked → List ℤ → ℕ → Type 0
+Begins lat g o p m k = (n : ℕ) × HasEnded p m n × (count_by (is_relevant lat g o p) (marks_of p m n) ≡ k)
 
--- how many relevant mitigations ended
+-- how many mitigations with such marks a log ends
 abbrev pub ended_count : (ℕ → Bool) → List Event → ℕ
 ended_count rel [] = 0
 ended_count rel (Wrote x n c ∷ es) = ended_count rel es
 ended_count rel (Began k c ∷ es) = ended_count rel es
 ended_count rel (Ended k c ∷ es) = cond (rel k) 1 0 + ended_count rel es
+
+-- the levels of mitigates are below n
+abbrev pub LevelsBelow : ℕ → Marked → Type 0
+LevelsBelow n Done = Unit {0}
+LevelsBelow n (Skip m r) = LevelsBelow n r
+LevelsBelow n (Assign m x e r) = LevelsBelow n r
+LevelsBelow n (Put m f k i e r) = LevelsBelow n r
+LevelsBelow n (Sleep m e r) = LevelsBelow n r
+LevelsBelow n (If m e a b r) = LevelsBelow n a × LevelsBelow n b × LevelsBelow n r
+LevelsBelow n (While m e c r) = LevelsBelow n c × LevelsBelow n r
+LevelsBelow n (Mitigate m k l e c r) = (l < n) × LevelsBelow n c × LevelsBelow n r

@@ -1,20 +1,25 @@
 -- The main theorem's statement.
-use Rattle.std.specs.Prelude.{◌≡◌, ℕ, zero, suc, ◌+◌, ◌*◌, ◌^◌, ◌<◌, ◌≤◌, List, [], ◌∷◌, ◌++◌, length, max, cond, ltb, ℤ, Bool, true}
+use Rattle.std.specs.Prelude.{◌≡◌, ℕ, ◌+◌, ◌*◌, ◌^◌, ◌<◌, ◌≤◌, List, [], ◌∷◌, length, max, Bool, true, false}
 use Rattle.mit_syntax.specs.Todo.{Marked}
+use Rattle.mit_syntax.specs.MarkOrder.{MarksFrom}
 use Rattle.mit_syntax.specs.Values.{read}
 use Rattle.label_lattice.specs.Lattice.{Lattice, Flows, IsLattice}
+use Rattle.label_lattice.specs.Order.{Order, lattice_of, count_not_below}
 use Rattle.timing_types.specs.Typing.{IsTyped}
 use Rattle.env_contract.specs.Env.{Env}
+use Rattle.env_contract.specs.Laws.{AgreeBelow}
 use Rattle.label_code.specs.Machine.{Event}
 use Rattle.label_code.specs.Run.{Start, run_from}
 use Rattle.label_code.specs.declared.code.Instr.{Instr}
 use Rattle.code_lower.specs.Layout.{IsImage}
-use Rattle.env_contract.specs.Laws.{AgreeBelow}
+use Rattle.code_lower.specs.Follows.{KeepsOrder}
+use Rattle.leak_bound.specs.Digits.{digits}
 use Rattle.leak_bound.specs.Visible.{visible}
-use Rattle.leak_bound.specs.Relevant.{Tells, HasLevels, begun_count, ended_count}
-use Rattle.leak_bound.specs.Records.{Each, views, Tests, distinct_count}
+use Rattle.leak_bound.specs.Relevant.{is_relevant, Begins, ended_count, LevelsBelow}
+use Rattle.leak_bound.specs.Records.{Each, Pairwise, views, Tests, distinct_count}
 
--- equal low variables and equal low parts
+-- Two starts agree for an observer: variables whose labels flow to it have equal values, and the
+-- environments, which serve the lattice, are equal in the parts of labels that flow to it.
 pub record Agree {E : Type 0} (v : Env E) (lat : Lattice) (serves : E → Type 0) (g : ℕ → ℕ) (o : ℕ) (s s' : Start E) : Type 0 where
   pub one : serves s.env
   pub other : serves s'.env
@@ -22,50 +27,69 @@ pub record Agree {E : Type 0} (v : Env E) (lat : Lattice) (serves : E → Type 0
   pub low : (x : ℕ) → Flows lat (g x) o → read s.memory x ≡ read s'.memory x
   pub parts : AgreeBelow v lat o s.env s'.env
 
+-- what the observer sees of the run to T: assignments to variables that flow to it, with their cycles
 abbrev pub seen_from : {E : Type 0} → Env E → Lattice → (ℕ → ℕ) → List Instr → ℕ → ℕ → Start E → List Event
 seen_from v lat g image o t s = visible lat g o (run_from v image t s).core.log
 
--- of starts that agree and halt within T, below 2 ^ (d + 1), as many relevant mitigations begin, and few sequences are seen
-pub record Bounds {E : Type 0} (v : Env E) (lat : Lattice) (serves : E → Type 0) (g : ℕ → ℕ) (image : List Instr) (p : Marked) : Type 0 where
-  pub same_count : (o : ℕ) (rel : ℕ → Bool) → Tells lat g o rel lat.bottom p → (t : ℕ) (s s' : Start E) → Agree v lat serves g o s s' → (run_from v image t s).halted ≡ true → (run_from v image t s').halted ≡ true → begun_count rel (run_from v image t s).core.log ≡ begun_count rel (run_from v image t s').core.log
-  pub few : (o : ℕ) (rel : ℕ → Bool) (ls : List ℕ) → Tells lat g o rel lat.bottom p → HasLevels lat o ls p → (same : List Event → List Event → Bool) → Tests same →
-      (t d : ℕ) → t < 2 ^ suc d → (s : Start E) (starts : List (Start E)) → Each (λ s'. Agree v lat serves g o s s') (s ∷ starts) → Each (λ s'. (run_from v image t s').halted ≡ true) (s ∷ starts) →
-      distinct_count same (views (seen_from v lat g image o t) (s ∷ starts)) ≤ (begun_count rel (run_from v image t s).core.log + 1) ^ (length ls * d)
+-- the run to T has come to its end
+abbrev pub Halts : {E : Type 0} → Env E → List Instr → ℕ → Start E → Type 0
+Halts v image t s = (run_from v image t s).halted ≡ true
+
+-- (k + 1) ^ (L * b), where L counts the labels that do not flow to the observer, and b the binary digits of T
+abbrev pub bound : Order → ℕ → ℕ → ℕ → ℕ
+bound order o t k = (k + 1) ^ (count_not_below (lattice_of order) o order.size * digits t)
+
+-- the count of a list of starts is that of its first, and 0 if it has none
+abbrev pub FirstBegins : {E : Type 0} → Lattice → (ℕ → ℕ) → ℕ → Marked → List (Start E) → ℕ → Type 0
+FirstBegins lat g o p [] k = k ≡ 0
+FirstBegins lat g o p (s ∷ starts) k = Begins lat g o p s.memory k
+
+-- A program's image is sound in an environment: it does what the program does, in its order; and of starts
+-- that agree pairwise for an observer and halt by T, as many relevant mitigates begin, say k, and at most
+-- (k + 1) ^ (L * b) different sequences are seen.
+pub record Sound {E : Type 0} (v : Env E) (order : Order) (serves : E → Type 0) (g : ℕ → ℕ) (image : List Instr) (p : Marked) : Type 0 where
+  pub keeps : KeepsOrder v image p
+  pub few : (o : ℕ) → o < order.size → (t : ℕ) → 0 < t → (starts : List (Start E)) →
+      Pairwise (Agree v (lattice_of order) serves g o) starts → Each (Halts v image t) starts →
+      (same : List Event → List Event → Bool) → Tests same →
+      (k : ℕ)
+      × FirstBegins (lattice_of order) g o p starts k
+      × Each (λ s. Begins (lattice_of order) g o p s.memory k) starts
+      × (distinct_count same (views (seen_from v (lattice_of order) g image o t) starts) ≤ bound order o t k)
+
+-- where no mitigate is relevant, starts that agree show one sequence, whether or not their runs have halted
+abbrev pub ShowsOne : {E : Type 0} → Env E → Order → (E → Type 0) → (ℕ → ℕ) → List Instr → Marked → Type 0
+ShowsOne {E} v order serves g image p =
+    (o : ℕ) → o < order.size → ((k : ℕ) → is_relevant (lattice_of order) g o p k ≡ false) → (t : ℕ) (s s' : Start E) →
+    Agree v (lattice_of order) serves g o s s' →
+    seen_from v (lattice_of order) g image o t s ≡ seen_from v (lattice_of order) g image o t s'
 
 -- the greatest number, over the runs, of relevant mitigations that ended by T
 abbrev pub most_ended : {E : Type 0} → Env E → List Instr → (ℕ → Bool) → ℕ → List (Start E) → ℕ
 most_ended v image rel t [] = 0
 most_ended v image rel t (s ∷ starts) = max (ended_count rel (run_from v image t s).core.log) (most_ended v image rel t starts)
 
--- the number of binary digits: the least n with t below 2 ^ n
-abbrev pub digits_from : ℕ → ℕ → ℕ → ℕ
-digits_from zero n t = n
-digits_from (suc fuel) n t = cond (ltb t (2 ^ n)) n (digits_from fuel (suc n) t)
+-- of starts that agree pairwise, few sequences are seen by T, whether or not the runs have halted
+pub record CutSound {E : Type 0} (v : Env E) (order : Order) (serves : E → Type 0) (g : ℕ → ℕ) (image : List Instr) (p : Marked) : Type 0 where
+  pub few : (o : ℕ) → o < order.size → (t : ℕ) → 0 < t → (starts : List (Start E)) →
+      Pairwise (Agree v (lattice_of order) serves g o) starts →
+      (same : List Event → List Event → Bool) → Tests same →
+      distinct_count same (views (seen_from v (lattice_of order) g image o t) starts) ≤ bound order o t (most_ended v image (is_relevant (lattice_of order) g o p) t starts)
 
-abbrev pub digits : ℕ → ℕ
-digits t = digits_from t 0 t
+-- an accepted program with its labels and its image
+pub record IsCompiled (order : Order) (g : ℕ → ℕ) (image : List Instr) (p : Marked) : Type 0 where
+  pub lattice : IsLattice (lattice_of order)
+  pub levels : LevelsBelow order.size p
+  pub marks : MarksFrom 0 p
+  pub typed : IsTyped (lattice_of order) g p
+  pub code : IsImage (lattice_of order) g image p
 
--- D24, exactly
-pub record CutSoundExact {E : Type 0} (v : Env E) (lat : Lattice) (serves : E → Type 0) (g : ℕ → ℕ) (image : List Instr) (p : Marked) : Type 0 where
-  pub few_cut : (o : ℕ) (rel : ℕ → Bool) (ls : List ℕ) → Tells lat g o rel lat.bottom p → HasLevels lat o ls p → (same : List Event → List Event → Bool) → Tests same →
-      (t : ℕ) → 0 < t → (starts : List (Start E)) → Each (λ s. Each (λ s'. Agree v lat serves g o s s') starts) starts →
-      distinct_count same (views (seen_from v lat g image o t) starts) ≤ (most_ended v image rel t starts + 1) ^ (length ls * digits t)
+-- every accepted program is sound in the environment
+abbrev pub SoundAll : {E : Type 0} → Env E → (Order → E → Type 0) → Type 0
+SoundAll v serves = (order : Order) (g : ℕ → ℕ) (image : List Instr) (p : Marked) → IsCompiled order g image p → Sound v order (serves order) g image p
 
--- D22 (b), the count, exactly
-pub record HaltSoundExact {E : Type 0} (v : Env E) (lat : Lattice) (serves : E → Type 0) (g : ℕ → ℕ) (image : List Instr) (p : Marked) : Type 0 where
-  pub few_halted : (o : ℕ) (rel : ℕ → Bool) (ls : List ℕ) → Tells lat g o rel lat.bottom p → HasLevels lat o ls p → (same : List Event → List Event → Bool) → Tests same →
-      (t : ℕ) → 0 < t → (s : Start E) (starts : List (Start E)) → Each (λ s'. Agree v lat serves g o s s') (s ∷ starts) → Each (λ s'. (run_from v image t s').halted ≡ true) (s ∷ starts) →
-      distinct_count same (views (seen_from v lat g image o t) (s ∷ starts)) ≤ (begun_count rel (run_from v image t s).core.log + 1) ^ (length ls * digits t)
+abbrev pub ShowsOneAll : {E : Type 0} → Env E → (Order → E → Type 0) → Type 0
+ShowsOneAll v serves = (order : Order) (g : ℕ → ℕ) (image : List Instr) (p : Marked) → IsCompiled order g image p → ShowsOne v order (serves order) g image p
 
--- of starts that agree pairwise, few sequences are seen by T, below 2 ^ (d + 1), whether or not the runs have halted
-pub record CutSound {E : Type 0} (v : Env E) (lat : Lattice) (serves : E → Type 0) (g : ℕ → ℕ) (image : List Instr) (p : Marked) : Type 0 where
-  pub few_cut : (o : ℕ) (rel : ℕ → Bool) (ls : List ℕ) → Tells lat g o rel lat.bottom p → HasLevels lat o ls p → (same : List Event → List Event → Bool) → Tests same →
-      (t d : ℕ) → t < 2 ^ suc d → (starts : List (Start E)) → Each (λ s. Each (λ s'. Agree v lat serves g o s s') starts) starts →
-      distinct_count same (views (seen_from v lat g image o t) starts) ≤ (most_ended v image rel t starts + 1) ^ (length ls * suc d)
-
--- every accepted program in every lawful environment
-abbrev pub BoundsAll : {E : Type 0} → Env E → (Lattice → E → Type 0) → Type 0
-BoundsAll {E} v serves = (lat : Lattice) (g : ℕ → ℕ) (image : List Instr) (p : Marked) → IsLattice lat → IsTyped lat g p → IsImage lat g image p → Bounds v lat (serves lat) g image p
-
-abbrev pub CutSoundAll : {E : Type 0} → Env E → (Lattice → E → Type 0) → Type 0
-CutSoundAll {E} v serves = (lat : Lattice) (g : ℕ → ℕ) (image : List Instr) (p : Marked) → IsLattice lat → IsTyped lat g p → IsImage lat g image p → CutSound v lat (serves lat) g image p
+abbrev pub CutSoundAll : {E : Type 0} → Env E → (Order → E → Type 0) → Type 0
+CutSoundAll v serves = (order : Order) (g : ℕ → ℕ) (image : List Instr) (p : Marked) → IsCompiled order g image p → CutSound v order (serves order) g image p

@@ -1,2 +1,7 @@
 //! The theorem on what timed observations can tell.
 #![tactic(auto)]
+
+pub mod count;
+pub mod laws;
+#[cfg(test)]
+mod tests;

@@ -16,3 +16,4 @@ pub mod Printable
 pub mod Lexemes
 pub mod Cut
 pub mod TokenSteps
+pub mod MarkOrder

@@ -12,3 +12,4 @@ pub mod token;
 #[cfg(test)]
 mod token_tests;
 pub mod tokens;
+pub mod values;

@@ -1,7 +1,11 @@
-//! The outside: files that are read, and a place where bytes go, each with a count of its faults.
+//! Positions in a text, files that are read, places where bytes go, and a printed line. Files and
+//! places for bytes each have a count of their faults, which never falls.
 #![tactic(auto)]
 
-pub mod count;
+mod count;
+pub mod line;
 pub mod pos;
 pub mod shelf;
 pub mod sink;
+#[cfg(test)]
+mod tests;

@@ -1,2 +1,10 @@
 //! The type system: which programs are accepted, and the first condition that one breaks.
 #![tactic(auto)]
+
+pub mod check;
+mod contexts;
+mod ends;
+pub mod labelled;
+mod labels;
+pub mod rule;
+pub mod typed;

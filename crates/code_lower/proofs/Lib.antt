@@ -1,0 +1,5 @@
+pub mod Timed
+pub mod Stretches
+pub mod Follow
+pub mod Order
+pub mod Stands

@@ -1,0 +1,5 @@
+use Rattle.code_lower.proofs.Order.{keeps_order}
+use Rattle.code_lower.proofs.laws.code_keeps_order.Goals as goal
+
+pub returns : goal.returns
+returns g c = λ lat labels image p code. keeps_order _ lat labels image p code

@@ -1,0 +1,14 @@
+//! What is true of the code of every program, as contracts of functions that do nothing.
+
+ghost use Rattle.code_lower.specs.Follows.{OrderAll};
+ghost use Rattle.env_contract.specs.Env.{Env};
+
+use env_contract::env::MachineEnv;
+
+/// The image of a program does what the program does, in its order, in every environment. From each start
+/// and up to each cycle, its log without cycles is what the program tells in some number of steps, and all
+/// that the program tells if the image has halted; and whatever the program tells in a number of steps, the
+/// image tells by some cycle, at which it has halted if the program has ended.
+pub fn code_keeps_order<E: MachineEnv>()
+    ensures { OrderAll (record { cost_of = E.cost_of; next_of = E.next_of; part = E.part }) }
+{}

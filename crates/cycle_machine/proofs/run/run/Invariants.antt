@@ -1,0 +1,12 @@
+use Rattle.std.proofs.Common.{◌≡◌, ◌-◌}
+use Rattle.cycle_machine.specs.Took.{Stands}
+use Rattle.cycle_machine.specs.Turned.{Quiet}
+use Rattle.cycle_machine.proofs.run.run.Given as goal
+
+abbrev pub invariant-run : goal.invariant-run
+invariant-run g l =
+    Stands g.E.MachineEnv.serves l.image l.state
+    × Quiet (record { cost_of = g.E.MachineEnv.cost_of; next_of = g.E.MachineEnv.next_of; part = g.E.MachineEnv.part }) l.image.instrs l.limit l.fn.state l.state
+
+abbrev pub decreases-run : goal.decreases-run
+decreases-run g l = l.limit - l.state.clock

@@ -1,0 +1,4 @@
+pub mod Seen
+pub mod Took
+pub mod Turned
+pub mod Reached

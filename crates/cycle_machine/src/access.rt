@@ -1,0 +1,44 @@
+//! Accesses of the environment, and the clock.
+
+ghost use Rattle.std.specs.Prelude.{◌≡◌, ◌<◌, ◌≤◌, ◌+◌, ◌*◌, ◌^◌, MatchOption};
+ghost use Rattle.label_lattice.specs.Order.{Order};
+ghost use Rattle.cycle_machine.specs.Took.{IsServed};
+
+use env_contract::env::MachineEnv;
+use env_contract::place::Kind;
+use label_lattice::label::Label;
+
+/// Fetches the instruction at a place, and answers the penalty. Instruction k lies at byte 4k.
+pub fn fetch<E: MachineEnv>(env: &mut E, place: u32, er: Label, ew: Label) -> u64
+    requires place { place < 200000 }
+    requires served { IsServed E.serves env.old er ew }
+    ensures cost { result ≡ E.cost_of Kind.Code (4 * place) er.number ew.number env.old }
+    ensures next { env.new ≡ E.next_of Kind.Code (4 * place) er.number ew.number env.old }
+    ensures small { result ≤ 1000 }
+    ensures serves { (order : Order) → E.serves order env.old → E.serves order env.new }
+    ensures served { IsServed E.serves env.new er ew }
+{
+    u64::from(env.access(Kind::Code, 4 * place, er, ew))
+}
+
+/// Accesses the datum of a variable, and answers the penalty. Variable i lies at byte 2^20 + 8i.
+pub fn touch<E: MachineEnv>(env: &mut E, variable: u32, er: Label, ew: Label) -> u64
+    requires few { variable < 4096 }
+    requires served { IsServed E.serves env.old er ew }
+    ensures cost { result ≡ E.cost_of Kind.Data (2 ^ 20 + 8 * variable) er.number ew.number env.old }
+    ensures next { env.new ≡ E.next_of Kind.Data (2 ^ 20 + 8 * variable) er.number ew.number env.old }
+    ensures small { result ≤ 1000 }
+    ensures serves { (order : Order) → E.serves order env.old → E.serves order env.new }
+{
+    u64::from(env.access(Kind::Data, 1_048_576 + 8 * variable, er, ew))
+}
+
+/// The clock after so many cycles more, if it is not above the limit.
+pub fn pass(clock: u64, cycles: u64, limit: u64) -> Option<u64>
+    ensures { MatchOption result (limit < clock + cycles) (λ end. (end ≡ clock + cycles) × (end ≤ limit)) }
+{
+    match clock.checked_add(cycles) {
+        Some(end) if end <= limit => Some(end),
+        _ => None,
+    }
+}

@@ -1,0 +1,22 @@
+//! Turns, one after another, are a run to a limit.
+
+ghost use Rattle.cycle_machine.specs.Reached.{TurnsGoOn, LimitIsRun, HaltIsRun};
+
+use env_contract::env::MachineEnv;
+
+/// A law: where turns have come from a start to a state, the next turn goes on from there, and adds its event
+/// to the log.
+pub fn turns_go_on<E: MachineEnv>()
+    ensures { TurnsGoOn (record { cost_of = E.cost_of; next_of = E.next_of; part = E.part }) }
+{}
+
+/// A law: where turns have come to a state whose next step ends after the limit, the run to the limit is there,
+/// with their events in its log.
+pub fn limit_is_run<E: MachineEnv>()
+    ensures { LimitIsRun (record { cost_of = E.cost_of; next_of = E.next_of; part = E.part }) }
+{}
+
+/// A law: where turns have come to HALT, the run to the limit has halted there, with their events in its log.
+pub fn halt_is_run<E: MachineEnv>()
+    ensures { HaltIsRun (record { cost_of = E.cost_of; next_of = E.next_of; part = E.part }) }
+{}

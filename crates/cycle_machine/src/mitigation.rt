@@ -1,0 +1,70 @@
+//! Instructions that begin and end a mitigation.
+
+ghost use Rattle.std.specs.Prelude.{◌≡◌, ◌+◌, ◌<◌, ◌≤◌, vec_len, vec_capacity};
+ghost use Rattle.cycle_machine.specs.Took.{IsServed, Took, Keeps};
+
+use crate::access::{fetch, pass};
+use crate::state::{Open, Outcome, State};
+use env_contract::env::MachineEnv;
+use label_code::code::Work;
+use label_lattice::label::Label;
+
+impl<E: MachineEnv> State<E> {
+    /// MITB.
+    pub fn begin(&mut self, level: Label, mark: u32, er: Label, ew: Label, limit: u64) -> Outcome
+        requires place { self.old.place < 200000 }
+        requires served { IsServed E.serves self.old.env er ew }
+        requires depth { 0 < vec_len self.old.operands }
+        requires room { vec_len self.old.opened < vec_capacity self.old.opened }
+        requires known { level.number < 32 }
+        ensures took { Took (record { cost_of = E.cost_of; next_of = E.next_of; part = E.part }) self.old (record { work = Work.Mitb level mark; er = er; ew = ew }) limit result self.new }
+        ensures keeps { Keeps E.serves self.old self.new }
+    {
+        let fetched = fetch(&mut self.env, self.place, er, ew);
+        let Some(estimate) = self.operands.pop() else {
+            unreachable!()
+        };
+        let Some(end) = pass(self.clock, 1 + fetched, limit) else {
+            return Outcome::Late;
+        };
+        match self.opened.push(Open {
+            estimate,
+            level,
+            mark,
+            since: end,
+        }) {
+            Ok(()) => {}
+            Err(_) => unreachable!(),
+        }
+        self.clock = end;
+        self.place += 1;
+        Outcome::Began(mark)
+    }
+
+    /// MITE. A mitigation never ends before its fetch does, so the limit is tested first after that.
+    pub fn end(&mut self, er: Label, ew: Label, limit: u64) -> Outcome
+        requires place { self.old.place < 200000 }
+        requires served { IsServed E.serves self.old.env er ew }
+        requires open { 0 < vec_len self.old.opened }
+        ensures took { Took (record { cost_of = E.cost_of; next_of = E.next_of; part = E.part }) self.old (record { work = Work.Mite; er = er; ew = ew }) limit result self.new }
+        ensures keeps { Keeps E.serves self.old self.new }
+    {
+        let fetched = fetch(&mut self.env, self.place, er, ew);
+        let Some(now) = pass(self.clock, 1 + fetched, limit) else {
+            return Outcome::Late;
+        };
+        let Some(open) = self.opened.pop() else {
+            unreachable!()
+        };
+        let prediction = self
+            .misses
+            .settle(open.estimate, open.level, now.saturating_sub(open.since));
+        let end = open.since as u128 + prediction;
+        if end > limit as u128 {
+            return Outcome::Late;
+        }
+        self.clock = end as u64;
+        self.place += 1;
+        Outcome::Ended(open.mark)
+    }
+}

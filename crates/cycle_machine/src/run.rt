@@ -1,0 +1,71 @@
+//! Steps, one after another, to the end of a turn.
+
+ghost use Rattle.std.specs.Prelude.{◌≡◌, None, length, vec_len};
+ghost use Rattle.cycle_machine.specs.Took.{Stands, Stepped};
+ghost use Rattle.cycle_machine.specs.Turned.{Turned, stops};
+
+use crate::state::{Outcome, State};
+use crate::turn::Turn;
+use env_contract::env::MachineEnv;
+use label_code::image::Image;
+
+impl<E: MachineEnv> State<E> {
+    // A vector's length is that of its elements.
+    fn lengths(&self)
+        ensures operands { vec_len self.now.operands ≡ length self.now.operands.items }
+        ensures opened { vec_len self.now.opened ≡ length self.now.opened.items }
+        ensures memory { vec_len self.now.memory ≡ length self.now.memory.items }
+    {
+        let _ = self.operands.as_slice();
+        let _ = self.opened.as_slice();
+        let _ = self.memory.as_slice();
+    }
+}
+
+/// One step, if it ends within the limit.
+pub fn advance<E: MachineEnv>(image: &Image, state: &mut State<E>, limit: u64) -> Outcome
+    requires { Stands E.serves image.now state.old }
+    ensures { Stepped (record { cost_of = E.cost_of; next_of = E.next_of; part = E.part }) E.serves image.now state.old limit result state.new }
+{
+    state.lengths();
+    let i = image.at(state.place);
+    state.obey(i, limit)
+}
+
+/// Steps to the end of a turn.
+pub fn run<E: MachineEnv>(image: &Image, state: &mut State<E>, limit: u64) -> Turn
+    requires { Stands E.serves image.now state.old }
+    ensures turned { Turned (record { cost_of = E.cost_of; next_of = E.next_of; part = E.part }) image.now state.old limit result state.new }
+    ensures stands { stops result ≡ None → Stands E.serves image.now state.new }
+{
+    'run: loop {
+        match advance(image, state, limit) {
+            Outcome::Went => {}
+            Outcome::Wrote(variable, value) => {
+                return Turn::Event {
+                    variable,
+                    value,
+                    cycle: state.clock,
+                };
+            }
+            Outcome::Began(mark) => {
+                return Turn::Began {
+                    mark,
+                    cycle: state.clock,
+                };
+            }
+            Outcome::Ended(mark) => {
+                return Turn::Ended {
+                    mark,
+                    cycle: state.clock,
+                };
+            }
+            Outcome::Halted => {
+                return Turn::Halted { cycle: state.clock };
+            }
+            Outcome::Late => {
+                return Turn::Limit { cycle: state.clock };
+            }
+        }
+    }
+}

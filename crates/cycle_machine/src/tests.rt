@@ -1,0 +1,121 @@
+ghost use Rattle.std.specs.Prelude.{◌≡◌, ◌<◌, IfOk, IfSome};
+
+use crate::laws::{halt_is_run, limit_is_run, turns_go_on};
+use crate::machine::Machine;
+use crate::turn::Turn;
+use env_contract::flat::FlatEnv;
+use label_code::code::{Instr, Work};
+use label_code::image::Image;
+use label_lattice::label::Label;
+use label_lattice::lattice::Lattice;
+use label_lattice::name::Name;
+use std::alloc::Global;
+use tim_base::pos::Memory;
+
+// The lattice of one label.
+fn one_label() -> Option<Lattice>
+    ensures { IfSome result (λ l. 0 < l.size) }
+{
+    let name = Name::read(b"L")?;
+    let lattice = Lattice::build(&[name], &[]).ok()?;
+    let _ = lattice.size();
+    Some(lattice)
+}
+
+// The code of `mitigate (64, L) { a[5] := 7 }` for an array of length 4.
+fn mitigated(alloc: Global, lattice: Lattice) -> Result<Image, Memory>
+    requires { 0 < lattice.size }
+    ensures { IfOk result (λ i. i.variables ≡ 4) }
+{
+    let low = Label::new(0);
+    let instrs = vec![in alloc;
+        Instr {
+            work: Work::Push(64),
+            er: low,
+            ew: low
+        },
+        Instr {
+            work: Work::Mitb {
+                level: low,
+                mark: 0
+            },
+            er: low,
+            ew: low
+        },
+        Instr {
+            work: Work::Push(5),
+            er: low,
+            ew: low
+        },
+        Instr {
+            work: Work::Push(7),
+            er: low,
+            ew: low
+        },
+        Instr {
+            work: Work::StoreAt {
+                first: 0,
+                length: 4
+            },
+            er: low,
+            ew: low
+        },
+        Instr {
+            work: Work::Mite,
+            er: low,
+            ew: low
+        },
+        Instr {
+            work: Work::Halt,
+            er: low,
+            ew: low
+        },
+    ]?;
+    Ok(Image::of(instrs, 4, lattice, 2, 1))
+}
+
+// What the run tells, without costs of accesses: the assignment takes 3 cycles, the mitigation 64.
+static TURNS: [Turn; 5] = [
+    Turn::Began { mark: 0, cycle: 2 },
+    Turn::Event {
+        variable: 1,
+        value: 7,
+        cycle: 5,
+    },
+    Turn::Ended { mark: 0, cycle: 66 },
+    Turn::Halted { cycle: 67 },
+    Turn::Halted { cycle: 67 },
+];
+
+#[test]
+fn runs_to_its_end(rt: HostRuntime) -> Result<(), Memory> {
+    let Some(lattice) = one_label() else {
+        assert!(rt; false);
+        return Ok(());
+    };
+    let image = mitigated(rt.alloc(), lattice)?;
+    let memory = vec![in rt.alloc(); 0i64; 4]?;
+    let mut machine = Machine::load(rt.alloc(), &image, memory, FlatEnv::new())?;
+    for turn in &TURNS {
+        assert_eq!(rt; machine.next(67), *turn);
+    }
+    Ok(())
+}
+
+#[test]
+fn stops_at_a_limit(rt: HostRuntime) -> Result<(), Memory> {
+    let Some(lattice) = one_label() else {
+        assert!(rt; false);
+        return Ok(());
+    };
+    let image = mitigated(rt.alloc(), lattice)?;
+    let memory = vec![in rt.alloc(); 0i64; 4]?;
+    let mut machine = Machine::load(rt.alloc(), &image, memory, FlatEnv::new())?;
+    assert_eq!(rt; machine.next(65), Turn::Began { mark: 0, cycle: 2 });
+    assert_eq!(rt; machine.next(4), Turn::Limit { cycle: 4 });
+    assert_eq!(rt; machine.next(1000), Turn::Limit { cycle: 4 });
+    turns_go_on::<FlatEnv>();
+    limit_is_run::<FlatEnv>();
+    halt_is_run::<FlatEnv>();
+    Ok(())
+}

@@ -1,0 +1,3 @@
+pub mod Upto
+pub mod Leads
+pub mod Ticks

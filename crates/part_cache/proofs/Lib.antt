@@ -1,0 +1,9 @@
+pub mod Near
+pub mod Stands
+pub mod Laws
+pub mod Latest
+pub mod Written
+pub mod Renumber
+pub mod Parts
+pub mod Flat
+pub mod Below

@@ -1,0 +1,168 @@
+-- A cache that stands for a history answers by it, and stands for the longer one after a touch.
+use Rattle.std.proofs.Common.{◌≡◌, ℕ, zero, suc, ◌+◌, ◌*◌, ◌%◌, ◌<◌, ◌≤◌, List, [], ◌∷◌, ◌++◌, length, take, get_or, Bool, true, false, refl, sym, ap, ◌∙◌, subst, ◌⊎◌, inl, inr, arith}
+use Rattle.std.specs.Prelude.{not, cond, eqb, ◌&&◌, ◌||◌, reverse, slice_set}
+use Rattle.std.specs.List.{filter, list_any}
+use Rattle.std.proofs.Common.{get_or-set_same, get_or-set_other, length-take, length-set}
+use Rattle.std.proofs.lemmas.List.{reverse-append, append-nil, set_past}
+use Rattle.std.proofs.lemmas.Nat.{mul-add-lt, same_from_place, mod_below}
+use Rattle.std.proofs.Common.{add-one}
+use Rattle.std.proofs.lemmas.Bool.{or_left, or_right, cases_eq, cases_lt, cases_Bool, eqb-true, eq-eqb, and_from, and_parts, both_ways}
+use Rattle.label_lattice.specs.Order.{lattice_of}
+use Rattle.part_cache.specs.History.{Touched, tags_in, distinct, holds, some_below, hits, held}
+use Rattle.part_cache.specs.Ages.{Entry, tags_of, clock, settled, touch_row, onto, age_among}
+use Rattle.part_cache.specs.Rows.{Rows, row_of, tags_at, age_of, IsCache, has, found, touched, StandsFor}
+use Rattle.part_cache.proofs.Near.{to_front, tags-touch_row, near_is, front_is, any_near}
+
+abbrev pub is_at : ℕ → ℕ → ℕ → Touched → Bool
+is_at sets label set x = eqb x.label label && eqb (x.tag % sets) set
+
+tags_in-push : (sets label set : ℕ) (h : List Touched) (x : Touched) → tags_in sets label set (h ++ x ∷ []) ≡ tags_in sets label set h ++ cond (is_at sets label set x) (x.tag ∷ []) []
+tags_in-push sets label set [] x = refl
+tags_in-push sets label set (y ∷ h) x = go (is_at sets label set y) (tags_in-push sets label set h x)
+  where
+    go : (b : Bool) → tags_in sets label set (h ++ x ∷ []) ≡ tags_in sets label set h ++ cond (is_at sets label set x) (x.tag ∷ []) [] →
+        cond b (y.tag ∷ tags_in sets label set (h ++ x ∷ [])) (tags_in sets label set (h ++ x ∷ [])) ≡ cond b (y.tag ∷ tags_in sets label set h) (tags_in sets label set h) ++ cond (is_at sets label set x) (x.tag ∷ []) []
+    go true e = ap (λ t. y.tag ∷ t) e
+    go false e = e
+
+-- looking back, the touch comes first
+back_here : (sets label set : ℕ) (h : List Touched) (x : Touched) → is_at sets label set x ≡ true → reverse (tags_in sets label set (h ++ x ∷ [])) ≡ x.tag ∷ reverse (tags_in sets label set h)
+back_here sets label set h x e =
+    ap reverse (tags_in-push sets label set h x ∙ ap (λ b. tags_in sets label set h ++ cond b (x.tag ∷ []) []) e)
+    ∙ reverse-append (tags_in sets label set h) (x.tag ∷ [])
+
+back_elsewhere : (sets label set : ℕ) (h : List Touched) (x : Touched) → is_at sets label set x ≡ false → reverse (tags_in sets label set (h ++ x ∷ [])) ≡ reverse (tags_in sets label set h)
+back_elsewhere sets label set h x e =
+    ap reverse (tags_in-push sets label set h x ∙ ap (λ b. tags_in sets label set h ++ cond b (x.tag ∷ []) []) e ∙ append-nil (tags_in sets label set h))
+
+held_is : (sets ways : ℕ) (h : List Touched) (label set : ℕ) → held sets ways h label set ≡ take ways (distinct (reverse (tags_in sets label set h)))
+held_is sets ways h label set = near_is ways (reverse (tags_in sets label set h))
+
+pub held_here : (sets ways : ℕ) (h : List Touched) (label tag : ℕ) → 0 < ways →
+    held sets ways (h ++ record { label = label; tag = tag } ∷ []) label (tag % sets) ≡ to_front ways tag (held sets ways h label (tag % sets))
+held_here sets ways h label tag some =
+    let x : Touched = record { label = label; tag = tag } in
+    let here : is_at sets label (tag % sets) x ≡ true = and_from (eqb label label) (eqb (tag % sets) (tag % sets)) (eq-eqb label label refl) (eq-eqb (tag % sets) (tag % sets) refl) in
+    held_is sets ways (h ++ x ∷ []) label (tag % sets)
+    ∙ ap (λ b. take ways (distinct b)) (back_here sets label (tag % sets) h x here)
+    ∙ front_is ways tag (reverse (tags_in sets label (tag % sets) h)) some
+    ∙ ap (to_front ways tag) (sym (held_is sets ways h label (tag % sets)))
+
+pub held_elsewhere : (sets ways : ℕ) (h : List Touched) (x : Touched) (label set : ℕ) → is_at sets label set x ≡ false →
+    held sets ways (h ++ x ∷ []) label set ≡ held sets ways h label set
+held_elsewhere sets ways h x label set e =
+    held_is sets ways (h ++ x ∷ []) label set
+    ∙ ap (λ b. take ways (distinct b)) (back_elsewhere sets label set h x e)
+    ∙ sym (held_is sets ways h label set)
+
+-- ---- one row of the cache
+
+module _ (c : Rows) (good : IsCache c) where
+  set_below : (tag : ℕ) → tag % c.sets < c.sets
+  set_below tag = mod_below tag c.sets good.some_set
+
+  pub place_below : (tag ew : ℕ) → ew < c.order.size → ew * c.sets + tag % c.sets < length c.rows
+  place_below tag ew h = omega (arith, good.each_set, mul-add-lt ew c.sets (tag % c.sets) c.order.size h (set_below tag))
+
+  -- the touched row, where the label is one
+  pub row_here : (tag ew : ℕ) → ew < c.order.size → row_of (touched c tag ew) ew (tag % c.sets) ≡ touch_row c.ways tag (row_of c ew (tag % c.sets))
+  row_here tag ew h =
+      get_or-set_same c.rows (ew * c.sets + tag % c.sets) (touch_row c.ways tag (row_of c ew (tag % c.sets))) []
+      (place_below tag ew h)
+
+  pub row_elsewhere : (tag ew label set : ℕ) → set < c.sets → ((label ≡ ew) × (set ≡ tag % c.sets) → ⊥) → row_of (touched c tag ew) label set ≡ row_of c label set
+  row_elsewhere tag ew label set h ne =
+      get_or-set_other c.rows (ew * c.sets + tag % c.sets) (label * c.sets + set) (touch_row c.ways tag (row_of c ew (tag % c.sets))) []
+      (λ e. ne (same_from_place label set ew (tag % c.sets) c.sets h (set_below tag) e))
+
+  pub tags_here : (tag ew : ℕ) → ew < c.order.size → tags_at (touched c tag ew) ew (tag % c.sets) ≡ to_front c.ways tag (tags_at c ew (tag % c.sets))
+  tags_here tag ew h = ap tags_of (row_here tag ew h) ∙ tags-touch_row c.ways tag (row_of c ew (tag % c.sets))
+
+  pub tags_elsewhere : (tag ew label set : ℕ) → set < c.sets → ((label ≡ ew) × (set ≡ tag % c.sets) → ⊥) → tags_at (touched c tag ew) label set ≡ tags_at c label set
+  tags_elsewhere tag ew label set h ne = ap tags_of (row_elsewhere tag ew label set h ne)
+
+  -- the ages after a touch
+  age_at_front : (tag age ways : ℕ) (es : List Entry) → 0 < ways → age_among tag (take ways ((tag, age) ∷ es)) ≡ age
+  age_at_front tag age zero es h = absurd (omega arith)
+  age_at_front tag age (suc ways) es h = rw (eq-eqb tag tag refl) refl
+
+  pub age_here : (tag ew : ℕ) → ew < c.order.size → age_of (touched c tag ew) tag ew ≡ clock (settled (row_of c ew (tag % c.sets))) + 1
+  age_here tag ew h =
+      ap (age_among tag) (row_here tag ew h)
+      ∙ age_at_front tag (clock (settled (row_of c ew (tag % c.sets))) + 1) c.ways (filter (λ (e : Entry). not (eqb tag e.0)) (settled (row_of c ew (tag % c.sets)))) good.some_way
+
+  pub age_elsewhere : (tag ew other label : ℕ) → ((label ≡ ew) × (other % c.sets ≡ tag % c.sets) → ⊥) → age_of (touched c tag ew) other label ≡ age_of c other label
+  age_elsewhere tag ew other label ne = ap (age_among other) (row_elsewhere tag ew label (other % c.sets) (set_below other) ne)
+
+  length-touch_row : (tag : ℕ) (row : List Entry) → length (touch_row c.ways tag row) ≤ c.ways
+  length-touch_row tag row = omega (arith, length-take c.ways ((tag, clock (settled row) + 1) ∷ filter (λ (e : Entry). not (eqb tag e.0)) (settled row)))
+
+  pub IsCache-touched : (tag ew : ℕ) → IsCache (touched c tag ew)
+  IsCache-touched tag ew =
+      record {
+        some_set = good.some_set;
+        some_way = good.some_way;
+        each_set = length-set c.rows (ew * c.sets + tag % c.sets) (touch_row c.ways tag (row_of c ew (tag % c.sets))) ∙ good.each_set;
+        few = λ k. short k (cases_eq k (ew * c.sets + tag % c.sets)) (cases_lt k (length c.rows));
+      }
+    where
+      place : ℕ
+      place = ew * c.sets + tag % c.sets
+
+      row : List Entry
+      row = touch_row c.ways tag (row_of c ew (tag % c.sets))
+
+      short : (k : ℕ) → ((k ≡ place) ⊎ (k ≡ place → ⊥)) → ((k < length c.rows) ⊎ (length c.rows ≤ k)) → length (get_or (slice_set c.rows place row) k []) ≤ c.ways
+      short k (inr ne) q = rw (get_or-set_other c.rows place k row [] ne) (good.few k)
+      short k (inl e) (inl lt) = let l : place < length c.rows = omega arith in rw (e, get_or-set_same c.rows place row [] l) (length-touch_row tag (row_of c ew (tag % c.sets)))
+      short k (inl e) (inr ge) = let l : length c.rows ≤ place = omega arith in rw (set_past c.rows place row l) (good.few k)
+
+  pub StandsFor-touched : (tag ew : ℕ) (h : List Touched) → ew < c.order.size → StandsFor c h → StandsFor (touched c tag ew) (h ++ record { label = ew; tag = tag } ∷ [])
+  StandsFor-touched tag ew h in_range stands = record { each = λ label set lb sb. go label set lb sb (cases_Bool (is_at c.sets label set (record { label = ew; tag = tag }))) }
+    where
+      go : (label set : ℕ) → label < c.order.size → set < c.sets → ((is_at c.sets label set (record { label = ew; tag = tag }) ≡ true) ⊎ (is_at c.sets label set (record { label = ew; tag = tag }) ≡ false)) →
+          tags_at (touched c tag ew) label set ≡ held c.sets c.ways (h ++ record { label = ew; tag = tag } ∷ []) label set
+      go label set lb sb (inl e) =
+          let p = and_parts (eqb ew label) (eqb (tag % c.sets) set) e in
+          let same_label : ew ≡ label = eqb-true ew label p.0 in
+          let same_set : tag % c.sets ≡ set = eqb-true (tag % c.sets) set p.1 in
+          subst (λ l. tags_at (touched c tag ew) l set ≡ held c.sets c.ways (h ++ record { label = ew; tag = tag } ∷ []) l set) same_label
+          (subst (λ s. tags_at (touched c tag ew) ew s ≡ held c.sets c.ways (h ++ record { label = ew; tag = tag } ∷ []) ew s) same_set
+          (tags_here tag ew in_range ∙ ap (to_front c.ways tag) (stands.each ew (tag % c.sets) in_range (set_below tag)) ∙ sym (held_here c.sets c.ways h ew tag good.some_way)))
+      go label set lb sb (inr e) =
+          let apart : (label ≡ ew) × (set ≡ tag % c.sets) → ⊥ = λ p. both_ways (is_at c.sets label set (record { label = ew; tag = tag })) e (and_from (eqb ew label) (eqb (tag % c.sets) set) (eq-eqb ew label (sym p.0)) (eq-eqb (tag % c.sets) set (sym p.1))) in
+          tags_elsewhere tag ew label set sb apart ∙ stands.each label set lb sb ∙ sym (held_elsewhere c.sets c.ways h (record { label = ew; tag = tag }) label set e)
+
+  pub some_below_same : (n : ℕ) (p q : ℕ → Bool) → ((k : ℕ) → k < n → p k ≡ q k) → some_below n p ≡ some_below n q
+  some_below_same zero p q h = refl
+  some_below_same (suc n) p q h = rw (h n (omega arith), some_below_same n p q (λ k lt. h k (omega arith))) refl
+
+  pub has_is : (tag label : ℕ) (h : List Touched) → label < c.order.size → StandsFor c h → has c tag label ≡ holds c.sets c.ways h label tag
+  has_is tag label h lt stands =
+      ap (list_any (eqb tag)) (stands.each label (tag % c.sets) lt (set_below tag)) ∙ any_near c.ways tag (reverse (tags_in c.sets label (tag % c.sets) h))
+
+  pub found_is : (tag er : ℕ) (h : List Touched) → StandsFor c h → found c tag er ≡ hits c.order c.sets c.ways h er tag
+  found_is tag er h stands =
+      some_below_same c.order.size
+      (λ label. (lattice_of c.order).flows label er && has c tag label)
+      (λ label. (lattice_of c.order).flows label er && holds c.sets c.ways h label tag)
+      (λ label lt. ap (λ b. (lattice_of c.order).flows label er && b) (has_is tag label h lt stands))
+
+-- a cache all of whose rows are empty stands for the empty history
+pub StandsFor-empty : (c : Rows) → ((k : ℕ) → get_or c.rows k [] ≡ []) → StandsFor c []
+StandsFor-empty c none = record { each = λ label set lb sb. ap tags_of (none (label * c.sets + set)) }
+
+-- ---- a loop over the labels
+pub some_below_more : (n : ℕ) (p : ℕ → Bool) → p n ≡ false → some_below n p ≡ false → some_below (n + 1) p ≡ false
+some_below_more n p h k = rw (add-one, h) k
+
+pub some_below_at : (n : ℕ) (p : ℕ → Bool) (k : ℕ) → k < n → p k ≡ true → some_below n p ≡ true
+some_below_at zero p k h e = absurd (omega arith)
+some_below_at (suc n) p k h e = go (λ lt. some_below_at n p k lt e) (cases_eq k n)
+  where
+    go : (k < n → some_below n p ≡ true) → ((k ≡ n) ⊎ (k ≡ n → ⊥)) → (p n || some_below n p) ≡ true
+    go rest (inl q) = or_left (p n) (some_below n p) (ap p (sym q) ∙ e)
+    go rest (inr ne) = or_right (p n) (some_below n p) (rest (omega arith))
+
+pub some_below_upto : (n m : ℕ) (p : ℕ → Bool) → m ≤ n → n ≤ m → some_below n p ≡ false → some_below m p ≡ false
+some_below_upto n m p a b h = let e : m ≡ n = omega arith in rw e h

@@ -1,0 +1,5 @@
+pub mod History
+pub mod Ages
+pub mod Rows
+pub mod Slots
+pub mod Body

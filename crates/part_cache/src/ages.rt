@@ -1,0 +1,63 @@
+//! The ages of one set: its clock, and how they are numbered anew at the end of their range.
+
+ghost use Rattle.std.specs.Prelude.{◌≡◌, ◌<◌, ◌≤◌, ℕ, List, map, length};
+ghost use Rattle.std.specs.List.{zip};
+ghost use Rattle.part_cache.specs.Ages.{settled};
+ghost use Rattle.part_cache.specs.Slots.{latest, largest, rank_in, AgesApart, TagsApart};
+
+/// The greatest age.
+#[tactic(auto, using(crate::proofs::Renumber::largest_more))]
+pub fn clock(ages: &[u16]) -> u16
+    ensures { result ≡ largest ages.now }
+{
+    let mut most = 0;
+    for age in ages {
+        if *age > most {
+            most = *age;
+        }
+    }
+    most
+}
+
+/// The number of an age among those of the set.
+pub fn rank(ages: &[u16], age: u16) -> u16
+    requires { length ages.now ≤ 8 }
+    ensures { result ≡ rank_in ages.now age }
+{
+    if age == 0 {
+        return 0;
+    }
+    let mut rank = 0;
+    for other in ages {
+        if *other != 0 && *other <= age {
+            rank += 1;
+        }
+    }
+    rank
+}
+
+/// Numbers the ages anew, in their order.
+pub fn renumber(ages: &mut [u16])
+    requires { length ages.old ≤ 8 }
+    ensures { ages.new ≡ map (rank_in ages.old) ages.old }
+{
+    let mut fresh = [0; 8];
+    for i in 0..ages.len() {
+        fresh[i] = rank(ages, ages[i]);
+    }
+    ages.copy_from_slice(&fresh[..ages.len()]);
+}
+
+/// Numbers the ages anew where the clock stands at its end.
+pub fn settle(ages: &mut [u16])
+    requires few { length ages.old ≤ 8 }
+    requires apart { AgesApart ages.old }
+    ensures row { (tags : List ℕ) → length tags ≡ length ages.old → latest (zip tags ages.new) ≡ settled (latest (zip tags ages.old)) }
+    ensures ages { AgesApart ages.new }
+    ensures tags { (tags : List ℕ) → TagsApart tags ages.old → TagsApart tags ages.new }
+    ensures room { largest ages.new < 65535 }
+{
+    if clock(ages) == 65535 {
+        renumber(ages);
+    }
+}

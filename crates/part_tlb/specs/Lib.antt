@@ -1,0 +1,5 @@
+pub mod Histories
+pub mod Structures
+pub mod Envs
+pub mod Keeps
+pub mod Laws

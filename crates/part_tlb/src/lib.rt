@@ -1,0 +1,9 @@
+//! The environments with a translation buffer and one or two levels of caches, each with a partition for
+//! each label.
+#![tactic(auto)]
+
+mod lookup;
+pub mod part;
+pub mod part2;
+#[cfg(test)]
+mod tests;

@@ -1,0 +1,118 @@
+//! The environment with two levels of caches.
+
+ghost use Rattle.std.specs.Prelude.{◌≡◌, ◌+◌, ◌/◌, ◌<◌, ◌≤◌, ◌↔◌, List, [], IfOk, IsTrue};
+ghost use Rattle.std.specs.List.{All};
+ghost use Rattle.label_lattice.specs.Order.{Order};
+ghost use Rattle.part_tlb.specs.Histories.{Placed, history_of, part2_history, part2_cost};
+ghost use Rattle.part_tlb.specs.Structures.{IsMadeFor, StandsForAll, warmed};
+ghost use Rattle.part_tlb.specs.Envs.{part2_structure, part2_touched, part2_penalty, part2_after, empty_part2};
+
+use crate::lookup::{look_and_touch, miss_cost, tag_at};
+use crate::part::PartEnv;
+use env_contract::env::MachineEnv;
+use env_contract::make::MakeEnv;
+use env_contract::place::{Kind, Place, Touch};
+use label_lattice::label::Label;
+use label_lattice::lattice::Lattice;
+use part_cache::cache::PartCache;
+use std::alloc::Global;
+use tim_base::pos::Memory;
+
+/// A translation buffer and two levels of caches, each with a partition for each label. The second level
+/// serves code and data.
+#[derive(Drop)]
+pub struct Part2Env {
+    first: PartEnv,
+    second: PartCache,
+}
+
+impl Part2Env {
+    /// The environment of a lattice in which the touches were made, the earliest first. Fails only for
+    /// want of memory.
+    pub fn warm(alloc: Global, lattice: Lattice, touches: &[Touch]) -> Result<Part2Env, Memory>
+        requires { All (λ t. t.label.number < lattice.size) touches.now }
+        ensures value { IfOk result (λ e. e ≡ warmed part2_touched (empty_part2 lattice) touches.now) }
+        ensures serves { IfOk result (IsMadeFor part2_structure lattice) }
+        ensures history { IfOk result (λ e. StandsForAll part2_structure e (history_of touches.now)) }
+    {
+        let first = PartEnv::warm(alloc, lattice, &[])?;
+        let second = PartCache::new(alloc, lattice, 32, 4)?;
+        let mut env = Part2Env { first, second };
+        for touch in touches {
+            env.touch(touch.place, tag_at(touch.place, touch.address), touch.label);
+        }
+        Ok(env)
+    }
+
+    // Touches the tag at the place, in the partition of the label.
+    fn touch(&mut self, place: Place, tag: u32, label: Label)
+        requires { (order : Order) × (IsMadeFor part2_structure order self.old × (label.number < order.size)) }
+        ensures { self.new ≡ part2_touched place tag label.number self.old }
+    {
+        match place {
+            Place::Second => self.second.touch(tag, label),
+            Place::Page | Place::Code | Place::Data => self.first.touch(place, tag, label),
+        }
+    }
+}
+
+impl MachineEnv for Part2Env {
+    ghost use Rattle.part_tlb.specs.Structures.{IsMadeFor, part_at};
+    ghost use Rattle.part_tlb.specs.Envs.{part2_structure, part2_penalty, part2_after};
+    ghost use Rattle.part_tlb.specs.Laws.{part2_lawful};
+
+    ghost serves = { IsMadeFor part2_structure };
+
+    ghost part = { part_at part2_structure };
+
+    ghost cost_of = { part2_penalty };
+
+    ghost next_of = { part2_after };
+
+    ghost lawful = { part2_lawful };
+
+    fn access(&mut self, kind: Kind, address: u32, er: Label, ew: Label) -> u32
+        requires { (order : Order)
+            × (IsMadeFor part2_structure order self.old × (er.number < order.size) × (ew.number < order.size)) }
+        ensures cost { result ≡ part2_penalty kind address er.number ew.number self.old }
+        ensures next { self.new ≡ part2_after kind address er.number ew.number self.old }
+        ensures small { result ≤ 1000 }
+        ensures serves { (order : Order) → IsMadeFor part2_structure order self.old → IsMadeFor part2_structure order self.new }
+        ensures history_cost { (order : Order) (h : List Placed) → IsMadeFor part2_structure order self.old
+            → StandsForAll part2_structure self.old h
+            → result ≡ part2_cost order kind address er.number ew.number h }
+        ensures history_next { (h : List Placed) → StandsForAll part2_structure self.old h
+            → StandsForAll part2_structure self.new (part2_history kind address ew.number h) }
+    {
+        let hits = self.first.look_up(kind, address, er, ew);
+        let second = look_and_touch(&mut self.second, tag_at(Place::Second, address), er, ew);
+        hits.penalty(kind) + miss_cost(hits.line || second, 30)
+    }
+
+    fn same(&self, other: &Self, place: Place, label: Label) -> bool {
+        match place {
+            Place::Second => self.second.same_part(&other.second, label),
+            Place::Page | Place::Code | Place::Data => self.first.same(&other.first, place, label),
+        }
+    }
+}
+
+/// Makes environments of two levels of caches.
+#[derive(Clone, Copy, Debug, PartialEq, Eq)]
+pub struct MakePart2;
+
+impl MakeEnv<Part2Env> for MakePart2 {
+    ghost use Rattle.part_tlb.specs.Structures.{warmed};
+    ghost use Rattle.part_tlb.specs.Envs.{part2_touched, empty_part2};
+
+    ghost made = { λ order touches. warmed part2_touched (empty_part2 order) touches };
+
+    fn make(&self, alloc: Global, lattice: Lattice, touches: &[Touch]) -> Result<Part2Env, Memory>
+        requires { All (λ t. t.label.number < lattice.size) touches.now }
+        ensures value { IfOk result (λ e. e ≡ warmed part2_touched (empty_part2 lattice) touches.now) }
+        ensures serves { IfOk result (IsMadeFor part2_structure lattice) }
+        ensures history { IfOk result (λ e. StandsForAll part2_structure e (history_of touches.now)) }
+    {
+        Part2Env::warm(alloc, lattice, touches)
+    }
+}

@@ -1,0 +1,39 @@
+ghost use Rattle.std.specs.Prelude.{◌≡◌, ℕ, ◌+◌, ◌<◌, ◌≤◌, List, length, IfOk, OnOk, OnErr, Option};
+ghost use Rattle.std.specs.Io.KnownBytes.{Appends, WriteAppends};
+ghost use Rattle.tim_base.specs.Faults.{Rose};
+ghost use Rattle.tim_base.specs.Sinks.{AppendsPrefix};
+
+use super::SinkFault;
+
+/// A place where bytes go.
+pub trait Sink {
+    /// The bytes that it has taken, where it tells them.
+    ghost taken: { Self → Option (List ℕ) };
+
+    /// The count of its faults.
+    ghost faults: { Self → ℕ };
+
+    /// Takes the first bytes of a piece, and at least one of a piece that is not empty, and answers how
+    /// many it took. After a fault it has taken nothing, and its count rose.
+    fn write(&mut self, piece: &[u8]) -> Result<usize, SinkFault>
+        ensures bound { IfOk result (λ n. n ≤ length piece.now) }
+        ensures some { IfOk result (λ n. 0 < length piece.now → 0 < n) }
+        ensures appended { WriteAppends (taken self.old) (taken self.new) result piece.now }
+        ensures later { faults self.old ≤ faults self.new }
+        ensures fault { OnErr result (Rose (faults self.old) (faults self.new)) };
+}
+
+/// Writes all bytes, in as many pieces as the sink wants. It takes no memory. After a fault, whose count
+/// rose, a prefix of the bytes has been taken.
+pub fn write_all<W: Sink>(out: &mut W, bytes: &[u8]) -> Result<(), SinkFault>
+    ensures ok { OnOk result (Appends (W.taken out.old) (W.taken out.new) bytes.now) }
+    ensures prefix { OnErr result (AppendsPrefix (W.taken out.old) (W.taken out.new) bytes.now) }
+    ensures later { W.faults out.old ≤ W.faults out.new }
+    ensures fault { OnErr result (Rose (W.faults out.old) (W.faults out.new)) }
+{
+    let mut done = 0;
+    while done < bytes.len() {
+        done += out.write(&bytes[done..])?;
+    }
+    Ok(())
+}
