@@ -5,6 +5,7 @@ pub mod Putting
 pub mod Listing
 pub mod Commanding
 pub mod Whole
+pub mod Rows
 pub mod Facts
 pub mod LexBytes
 pub mod LexSigns

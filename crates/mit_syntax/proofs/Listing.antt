@@ -1,9 +1,8 @@
 -- A list of parts, put one after another.
-use Rattle.std.proofs.Common.{◌≡◌, refl, ap, sym, subst, ◌∙◌, List, [], ◌∷◌, ◌++◌, ℕ, zero, suc, ◌<◌, ◌≤◌, ◌+◌, drop, get_or, length, add-one, arith}
+use Rattle.std.proofs.Common.{◌≡◌, refl, ap, sym, ◌∙◌, List, [], ◌∷◌, ◌++◌, ℕ, zero, suc, ◌<◌, ◌≤◌, ◌+◌, drop, get_or, length, add-one, arith}
 use Rattle.std.proofs.lemmas.List.{drop_more, drop_all}
 use Rattle.label_lattice.specs.declared.label.Label.{Label}
 use Rattle.label_lattice.specs.Order.{Order}
-use Rattle.label_lattice.specs.Chains.{AreBelow}
 use Rattle.mit_syntax.specs.declared.token.Keyword.TheVariants.{Order as OrderKey}
 use Rattle.mit_syntax.specs.Chunks.{Chunk, text}
 use Rattle.mit_syntax.specs.Declarations.{Declaration}
@@ -49,12 +48,6 @@ left_none (suc i) part q = refl
 pub all_listed : {X : Type 0} {a b : List ℕ} (part : X → Part) (xs : List X) (i : ℕ) → length xs ≤ i → ListedSoFar a b part i xs → Puts a b (listed part xs)
 all_listed {b} part xs i h so =
     record { is = λ q. ap (λ l. b ++ text l) (sym (left_none i part q)) ∙ ap (λ l. b ++ text (left_listed i part l q)) (sym (drop_all i xs h)) ∙ so.is q }
-
--- pairs of labels
-pub pair_below : (n : ℕ) (ps : List (Label × Label)) (p d : Label × Label) (i : ℕ) → i < length ps → p ≡ get_or ps i d → AreBelow n ps → (p.0.number < n) × (p.1.number < n)
-pair_below n [] p d i h e k = absurd (omega (arith, h))
-pair_below n (x ∷ ps) p d zero h e k = subst (λ (z : Label × Label). (z.0.number < n) × (z.1.number < n)) (sym e) (k.0, k.1)
-pair_below n (x ∷ ps) p d (suc i) h e k = pair_below n ps p d i (omega (arith, h)) e k.2
 
 -- declarations
 pub record DeclaredSoFar (a b : List ℕ) (o : Order) (k : ℕ) (ds : List Declaration) : Type 0 where

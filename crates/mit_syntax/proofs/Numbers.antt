@@ -84,8 +84,8 @@ table_full ds firsts k e r h j l =
     ⊎_elim
     (λ (a : j < k). get_or-set_other firsts k j (first_of ds k) 0 (λ q. omega (arith, a, q)) ∙ h j a)
     (λ (b : k ≤ j).
-      let q : j ≡ k = omega (arith, b, l, e) in
-      ap (λ i. get_or (set firsts k (first_of ds k)) i 0) q ∙ get_or-set_same firsts k (first_of ds k) 0 r ∙ ap (first_of ds) (sym q))
+    let q : j ≡ k = omega (arith, b, l, e) in
+    ap (λ i. get_or (set firsts k (first_of ds k)) i 0) q ∙ get_or-set_same firsts k (first_of ds k) 0 r ∙ ap (first_of ds) (sym q))
     (cases_lt j k)
 
 pub table_more : (ds : List Declaration) (firsts : List ℕ) (k : ℕ) → k < length firsts → ((j : ℕ) → j < k → get_or firsts j 0 ≡ first_of ds j)
@@ -94,8 +94,8 @@ table_more ds firsts k r h j l =
     ⊎_elim
     (λ (a : j < k). get_or-set_other firsts k j (first_of ds k) 0 (λ q. omega (arith, a, q)) ∙ h j a)
     (λ (b : k ≤ j).
-      let q : j ≡ k = omega (arith, b, l) in
-      ap (λ i. get_or (set firsts k (first_of ds k)) i 0) q ∙ get_or-set_same firsts k (first_of ds k) 0 r ∙ ap (first_of ds) (sym q))
+    let q : j ≡ k = omega (arith, b, l) in
+    ap (λ i. get_or (set firsts k (first_of ds k)) i 0) q ∙ get_or-set_same firsts k (first_of ds k) 0 r ∙ ap (first_of ds) (sym q))
     (cases_lt j k)
 
 pub some_declared : (ds : List Declaration) (x : ℕ) → x < variables ds → 0 < length ds

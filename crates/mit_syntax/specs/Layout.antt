@@ -177,9 +177,12 @@ abbrev pub separator : ℕ → ℕ → Part
 separator d zero q = q
 separator d (suc i) q = a_sign Semicolon (new_line d q)
 
--- all chunks of a program
+-- all chunks of a program, from its parts
+abbrev pub chunks_of : Order → List (Label × Label) → List Declaration → Plan → List Chunk
+chunks_of o ps ds p = labels_part o (order_part o ps (declarations_part o ds (commands_part o ds 0 p (line ∷ []))))
+
 abbrev pub program_chunks : Syntax → List Chunk
-program_chunks s = labels_part s.order (order_part s.order s.pairs (declarations_part s.order s.declarations (commands_part s.order s.declarations 0 (plan_of s) (line ∷ []))))
+program_chunks s = chunks_of s.order s.pairs s.declarations (plan_of s)
 
 -- the canonical text
 abbrev pub canonical : Syntax → List ℕ

@@ -8,6 +8,8 @@ pub mod fault;
 mod lexeme;
 pub mod print;
 pub mod program;
+#[cfg(test)]
+mod program_tests;
 pub mod token;
 #[cfg(test)]
 mod token_tests;

@@ -44,7 +44,12 @@ impl Model for Program {
 
 impl Program {
     /// A program of these parts, which are those of a program: takes no memory.
-    pub fn of(lattice: Lattice, pairs: Vec<(Label, Label)>, variables: IndexMap<Name, Decl>, body: Vec<Command>) -> Program
+    pub fn of(
+        lattice: Lattice,
+        pairs: Vec<(Label, Label)>,
+        variables: IndexMap<Name, Decl>,
+        body: Vec<Command>,
+    ) -> Program
         requires { IsValid (syntax lattice pairs.items variables.entries body.items) }
         ensures { result ≡ syntax lattice pairs.items variables.entries body.items }
     {

@@ -42,11 +42,7 @@ fn put_marks(
     }
 }
 
-fn put_level(
-    out: &mut Vec<u8>,
-    labels: &Lattice,
-    level: Option<Label>,
-) -> Result<(), AllocError>
+fn put_level(out: &mut Vec<u8>, labels: &Lattice, level: Option<Label>) -> Result<(), AllocError>
     requires { IsBelow labels.now.size level }
     ensures { OnOk result (Puts out.old.items out.new.items (level_part labels.now level)) }
 {
