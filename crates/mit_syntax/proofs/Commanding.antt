@@ -1,5 +1,5 @@
 -- Commands, put one after another.
-use Rattle.std.proofs.Common.{◌≡◌, refl, ap, sym, subst, ◌∙◌, List, [], ◌∷◌, ◌++◌, ℕ, zero, suc, ◌<◌, ◌≤◌, ◌+◌, drop, get_or, length, add-one, arith, Vec, Global, Option}
+use Rattle.std.proofs.Common.{◌≡◌, refl, ap, sym, subst, ◌∙◌, List, ◌∷◌, ◌++◌, ℕ, zero, suc, ◌<◌, ◌≤◌, ◌+◌, drop, get_or, length, add-one, arith, Vec, Global, Option}
 use Rattle.std.proofs.lemmas.List.{drop_all}
 use Rattle.label_lattice.specs.declared.label.Label.{Label}
 use Rattle.label_lattice.specs.Order.{Order}
@@ -11,10 +11,10 @@ use Rattle.mit_syntax.specs.declared.token.Sign.TheVariants.{Assign as AssignSig
 use Rattle.mit_syntax.specs.Chunks.{Chunk, text}
 use Rattle.mit_syntax.specs.Declarations.{Declaration, cell_at, variables}
 use Rattle.mit_syntax.specs.Expression.{expression_of}
-use Rattle.mit_syntax.specs.Limits.{AreSmall, IsSmall, depth}
-use Rattle.mit_syntax.specs.Todo.{Todo, Done, Skip, Assign, Put, Sleep, If, While, Mitigate}
+use Rattle.mit_syntax.specs.Limits.{AreSmall}
+use Rattle.mit_syntax.specs.Todo.{Done, Assign, Put, If, While, Mitigate}
 use Rattle.mit_syntax.specs.Plan.{Plan, Written, form_plan, list_plan, command_plan}
-use Rattle.mit_syntax.specs.Valid.{AreKnown, AreShaped, AreMarksBelow, IsBelow}
+use Rattle.mit_syntax.specs.Valid.{AreKnown, AreMarksBelow, IsBelow}
 use Rattle.mit_syntax.specs.Layout.{Part, Puts, a_key, a_sign, a_name, a_space, spaced, spaced_key, in_square, in_braces, expression_part, marks_part, level_part, after, separator, commands_part}
 use Rattle.mit_syntax.specs.Printable.{IsPrintable}
 use Rattle.mit_syntax.proofs.Putting.{puts_then}

@@ -6,7 +6,7 @@ use Rattle.label_lattice.specs.Order.{Order}
 use Rattle.mit_syntax.specs.declared.token.Keyword.TheVariants.{Order as OrderKey}
 use Rattle.mit_syntax.specs.Chunks.{Chunk, text}
 use Rattle.mit_syntax.specs.Declarations.{Declaration}
-use Rattle.mit_syntax.specs.Layout.{Part, Puts, a_key, a_space, a_comma, end_line, pair_part, order_part, comma_before, listed, more_listed, declaration_part, declarations_part}
+use Rattle.mit_syntax.specs.Layout.{Part, Puts, a_key, a_space, end_line, pair_part, order_part, comma_before, listed, more_listed, declaration_part, declarations_part}
 use Rattle.mit_syntax.proofs.Putting.{puts_then, puts_none}
 
 -- what is left to put after i parts

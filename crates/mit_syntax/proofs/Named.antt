@@ -1,6 +1,6 @@
 -- Looking a name up.
-use Rattle.std.proofs.Common.{◌≡◌, refl, sym, ap, ◌∙◌, subst, ℕ, zero, suc, ◌+◌, ◌<◌, ◌≤◌, List, [], ◌∷◌, length, get_or, Option, None, Some, arith}
-use Rattle.std.specs.Prelude.{Bool, true, false, cond, slice_get, map, position, option_map}
+use Rattle.std.proofs.Common.{◌≡◌, refl, sym, ap, ◌∙◌, subst, ℕ, zero, suc, ◌+◌, ◌<◌, List, [], ◌∷◌, get_or, None, Some, arith}
+use Rattle.std.specs.Prelude.{Bool, true, false, slice_get, map, position, option_map}
 use Rattle.std.specs.Str.{bytes_eq}
 use Rattle.std.specs.Map.{keys_of, lookup}
 use Rattle.std.specs.List.{IsDistinct}

@@ -1,12 +1,11 @@
 -- The numbers of variables.
-use Rattle.std.proofs.Common.{◌≡◌, refl, sym, ap, ◌∙◌, subst, ℕ, zero, suc, ◌+◌, ◌-◌, ◌<◌, ◌≤◌, List, [], ◌∷◌, ◌++◌, length, get_or, Option, None, Some, arith, length-append, add-one, Bool, true, false, cond, set, ⊎_elim}
-use Rattle.std.specs.Prelude.{slice_get, slice_index_or, map, position, option_map}
+use Rattle.std.proofs.Common.{◌≡◌, refl, sym, ap, ◌∙◌, subst, ℕ, zero, suc, ◌+◌, ◌-◌, ◌<◌, ◌≤◌, List, [], ◌∷◌, length, get_or, Option, None, Some, arith, length-append, set, ⊎_elim}
+use Rattle.std.specs.Prelude.{slice_get}
 use Rattle.std.proofs.lemmas.List.{get_or_append_left, get_or-append-add, get_or-set_same, get_or-set_other}
 use Rattle.std.proofs.lemmas.Bool.{cases_lt}
 use Rattle.std.proofs.lemmas.Option.{none-some, same_Some}
 use Rattle.label_lattice.specs.declared.label.Label.{Label}
-use Rattle.mit_syntax.specs.declared.declarations.Decl.{Decl}
-use Rattle.mit_syntax.specs.Declarations.{Declaration, Cell, elements, cells_of, cells, cell_at, cell_of, place_in, size_in, size_of, length_in, elements_in, variables, first_of, declared}
+use Rattle.mit_syntax.specs.Declarations.{Declaration, Cell, elements, cells_of, cells, cell_at, cell_of, place_in, size_in, size_of, length_in, elements_in, variables, first_of}
 
 pub length-elements : (w : List ℕ) (l : Option Label) (i n : ℕ) → length (elements w l i n) ≡ n
 length-elements w l i zero = refl

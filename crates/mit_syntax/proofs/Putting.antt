@@ -1,5 +1,5 @@
 -- One part after another.
-use Rattle.std.proofs.Common.{◌≡◌, refl, subst, ap, ◌∙◌, List, [], ◌∷◌, ◌++◌, ℕ, zero, suc, ◌<◌, ◌-◌, ◌+◌, sym, arith}
+use Rattle.std.proofs.Common.{◌≡◌, refl, subst, ap, ◌∙◌, List, [], ◌++◌, ℕ, zero, suc, ◌<◌, ◌-◌, sym, arith}
 use Rattle.std.proofs.lemmas.Bool.{lt-ltb}
 use Rattle.std.proofs.lemmas.List.{append-nil}
 use Rattle.mit_syntax.specs.declared.ast.Op.{Op}

@@ -4,7 +4,6 @@ use Prim.Native.String.{String}
 use Rattle.std.specs.Prelude.{pos, codes}
 use Rattle.label_lattice.specs.declared.label.Label.{Label}
 use Rattle.label_lattice.specs.Order.{Order}
-use Rattle.tim_base.specs.declared.pos.Pos.{Pos}
 use Rattle.mit_syntax.specs.declared.ast.Op.TheVariants.{Add, Sub, Mul, Div, Rem, Eq, Ne, Lt, Le, Gt, Ge}
 use Rattle.std.specs.Fmt.{digits}
 use Rattle.mit_syntax.specs.Chunks.{text}

@@ -14,7 +14,7 @@ use Rattle.mit_syntax.specs.Chunks.{Word, Chunk, space, line, word, key, sign, n
 use Rattle.mit_syntax.specs.Expression.{Expression, Number, Variable, Binary, Element}
 use Rattle.mit_syntax.specs.Ranks.{rank, left_need, right_need}
 use Rattle.mit_syntax.specs.Todo.{Done, Skip, Assign, Put, Sleep, If, While, Mitigate}
-use Rattle.mit_syntax.specs.Plan.{Plan, Written}
+use Rattle.mit_syntax.specs.Plan.{Plan}
 use Rattle.mit_syntax.specs.Declarations.{Declaration, cell_at}
 use Rattle.mit_syntax.specs.Program.{Syntax, plan_of}
 

@@ -1,5 +1,5 @@
 -- What is true of every program.
-use Rattle.std.specs.Prelude.{◌≡◌, ℕ, ℤ, pos, negsuc, ◌+◌, ◌<◌, ◌≤◌, List, [], ◌∷◌, map, All, Option, None, Some, ◌↔◌}
+use Rattle.std.specs.Prelude.{◌≡◌, ℕ, ℤ, pos, negsuc, ◌+◌, ◌<◌, ◌≤◌, List, map, All, Option, None, Some, ◌↔◌}
 use Rattle.label_lattice.specs.declared.label.Label.{Label}
 use Rattle.label_lattice.specs.Lattice.{Flows}
 use Rattle.label_lattice.specs.Order.{IsOrder, lattice_of, AllDiffer}
@@ -7,7 +7,7 @@ use Rattle.label_lattice.specs.Names.{IsName}
 use Rattle.label_lattice.specs.Chains.{Chain, AreBelow}
 use Rattle.mit_syntax.specs.Expression.{Expression, Number, Variable, Binary, Element}
 use Rattle.mit_syntax.specs.Todo.{Done, Skip, Assign, Put, Sleep, If, While, Mitigate}
-use Rattle.mit_syntax.specs.Plan.{Plan, Written, count, mitigates}
+use Rattle.mit_syntax.specs.Plan.{Plan, count, mitigates}
 use Rattle.mit_syntax.specs.Declarations.{Declaration, AreFew, find_scalar, find_array}
 use Rattle.mit_syntax.specs.Limits.{AreSmall}
 use Rattle.mit_syntax.specs.Program.{Syntax, plan_of}

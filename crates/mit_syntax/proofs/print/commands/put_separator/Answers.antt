@@ -1,4 +1,3 @@
-use Rattle.std.proofs.Common.{arith}
 use Rattle.mit_syntax.proofs.Putting.{puts_separator}
 use Rattle.mit_syntax.proofs.print.commands.put_separator.Goals as goal
 

@@ -1,4 +1,4 @@
-use Rattle.std.proofs.Common.{◌<◌, length, arith, sym}
+use Rattle.std.proofs.Common.{sym}
 use Rattle.std.proofs.lemmas.Option.{slice_get_within, get_or_from_slice_get}
 use Rattle.mit_syntax.proofs.Listing.{next_declared}
 use Rattle.mit_syntax.proofs.print.header.put_declarations.Goals as goal

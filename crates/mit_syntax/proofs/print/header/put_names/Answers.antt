@@ -1,4 +1,4 @@
-use Rattle.std.proofs.Common.{◌<◌, subst, refl, ℕ, length, arith}
+use Rattle.std.proofs.Common.{subst, refl, ℕ, arith}
 use Rattle.label_lattice.specs.Order.{name_of}
 use Rattle.mit_syntax.specs.Layout.{Puts, a_name}
 use Rattle.mit_syntax.proofs.Listing.{next_listed}

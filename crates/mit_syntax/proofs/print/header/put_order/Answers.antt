@@ -1,4 +1,4 @@
-use Rattle.std.proofs.Common.{◌<◌, length, arith, rules}
+use Rattle.std.proofs.Common.{◌<◌, length, arith}
 use Rattle.std.proofs.lemmas.Grind.{common_steps}
 use Rattle.mit_syntax.proofs.Putting.{puts_then}
 use Rattle.mit_syntax.proofs.Listing.{puts_order}
