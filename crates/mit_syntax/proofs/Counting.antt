@@ -1,5 +1,5 @@
 -- Counts of commands.
-use Rattle.std.proofs.Common.{◌≡◌, refl, ap, sym, ◌∙◌, ℕ, ◌+◌, ◌<◌, ◌≤◌, arith, List, [], ◌∷◌, length, drop, get_or, Option, Vec, Global}
+use Rattle.std.proofs.Common.{◌≡◌, ap, sym, ◌∙◌, ℕ, ◌+◌, ◌<◌, ◌≤◌, arith, List, ◌∷◌, length, drop, get_or, Option, Vec, Global}
 use Rattle.std.proofs.lemmas.List.{drop_more, drop_all}
 use Rattle.label_lattice.specs.declared.label.Label.{Label}
 use Rattle.mit_syntax.specs.declared.ast.Expr.{Expr}
@@ -10,7 +10,7 @@ use Rattle.mit_syntax.specs.Counted.{IsCount}
 use Rattle.mit_syntax.specs.declared.ast.Form.{Form, Skip as FSkip, Assign as FAssign, Put as FPut, Sleep as FSleep, If' as FIf, While' as FWhile, Mitigate' as FMitigate}
 use Rattle.mit_syntax.specs.declared.ast.Command.{Command}
 use Rattle.mit_syntax.specs.Todo.{Todo, Done, Skip, Assign, Put, Sleep, If, While, Mitigate}
-use Rattle.mit_syntax.specs.Plan.{Plan, Written, form_plan, row_plan, list_plan, command_plan, count, mitigates, plan-If, plan-While, plan-Mitigate}
+use Rattle.mit_syntax.specs.Plan.{Plan, Written, form_plan, list_plan, command_plan, count, mitigates, plan-If, plan-While, plan-Mitigate}
 
 pub count-form : (f : Form) (w : Written) (rest : Plan) → count (form_plan f w rest) ≡ count (form_plan f w Done) + count rest
 count-form FSkip w rest = omega arith

@@ -1,13 +1,13 @@
 -- What a caller gets from a program: where its variables and arrays are, and what is written of them.
-use Rattle.std.proofs.Common.{◌≡◌, refl, sym, ap, ◌∙◌, subst, ℕ, zero, suc, ◌+◌, ◌<◌, ◌≤◌, List, [], ◌∷◌, ◌++◌, length, Option, None, Some, arith, length-append}
-use Rattle.std.specs.Prelude.{Bool, true, false, cond, slice_get, slice_index_or, option_map, All}
+use Rattle.std.proofs.Common.{◌≡◌, refl, sym, ap, ◌∙◌, subst, ℕ, zero, suc, ◌+◌, ◌<◌, ◌≤◌, List, [], ◌∷◌, Option, None, Some, arith, length-append}
+use Rattle.std.specs.Prelude.{Bool, true, false, slice_get, option_map}
 use Rattle.std.specs.Str.{bytes_eq}
 use Rattle.std.proofs.lemmas.Bool.{cond-true, cond-false}
 use Rattle.std.proofs.lemmas.Option.{none-some, same_Some, slice_get_within, get_or_from_slice_get}
 use Rattle.std.proofs.lemmas.Slice.Eq.{bytes_eq-Decides}
 use Rattle.label_lattice.specs.declared.label.Label.{Label}
 use Rattle.mit_syntax.specs.declared.declarations.Decl.{Decl}
-use Rattle.mit_syntax.specs.Declarations.{Declaration, Cell, cells_of, cells, cell_at, cell_of, place_in, size_in, size_of, variables, first_of, declared, scalar_from, scalar_in, find_scalar, array_from, array_in, find_array}
+use Rattle.mit_syntax.specs.Declarations.{Declaration, Cell, cells_of, cells, cell_at, place_in, size_in, size_of, variables, first_of, declared, scalar_from, scalar_in, find_scalar, array_from, array_in, find_array}
 use Rattle.mit_syntax.specs.Valid.{IsShaped, AreShaped}
 use Rattle.mit_syntax.proofs.Numbers.{cell_in, length-cells_of}
 

@@ -2,6 +2,10 @@ pub mod Numbers
 pub mod Named
 pub mod Counting
 pub mod Putting
+pub mod Listing
+pub mod Commanding
+pub mod Whole
+pub mod Rows
 pub mod Facts
 pub mod LexBytes
 pub mod LexSigns

@@ -1,34 +1,23 @@
 -- Looking a name up.
-use Rattle.std.proofs.Common.{◌≡◌, refl, sym, ap, ◌∙◌, subst, ℕ, zero, suc, ◌+◌, ◌-◌, ◌<◌, List, [], ◌∷◌, ◌++◌, length, get_or, Option, None, Some, arith, eq-eqb}
-use Rattle.std.specs.Prelude.{Bool, true, false, cond, replicate, slice_get, map, position, option_map, ◌&&◌, nat_eq}
+use Rattle.std.proofs.Common.{◌≡◌, refl, sym, ap, ◌∙◌, subst, ℕ, zero, suc, ◌+◌, ◌<◌, List, [], ◌∷◌, get_or, None, Some, arith}
+use Rattle.std.specs.Prelude.{Bool, true, false, slice_get, map, position, option_map}
 use Rattle.std.specs.Str.{bytes_eq}
 use Rattle.std.specs.Map.{keys_of, lookup}
-use Rattle.std.specs.Cmp.{both_ways}
-use Rattle.std.proofs.lemmas.Bool.{and_from, and_parts, eqb-true, cond-true, cond-false}
-use Rattle.std.proofs.lemmas.List.{append_cancel_right}
+use Rattle.std.specs.List.{IsDistinct}
+use Rattle.std.proofs.lemmas.Map.Keys.{apart_from_distinct}
+use Rattle.std.proofs.lemmas.Slice.Eq.{bytes_eq-Decides}
+use Rattle.label_lattice.specs.Order.{AllDiffer}
+use Rattle.std.proofs.lemmas.Bool.{cond-true, cond-false, both_ways}
 use Rattle.std.proofs.lemmas.List.Quantifiers.{position-Some}
 use Rattle.std.proofs.lemmas.Option.{none-some, same_Some, slice_get-map, get_or_from_slice_get}
-use Rattle.std.proofs.lemmas.Slice.Eq.{bytes_eq-Decides}
 use Rattle.indexmap.proofs.MapLemmas.{Missing-position}
 use Rattle.label_lattice.specs.contracts.name.NamePartialEq.TheImpl.{eq-value}
 use Rattle.mit_syntax.specs.declared.declarations.Decl.{Decl}
 use Rattle.mit_syntax.specs.Declarations.{Declaration, declared, first_of, size_of, scalar_from, scalar_in, find_scalar, array_from, array_in, find_array}
 
-abbrev room : List ℕ → List ℕ
-room a = a ++ replicate (32 - length a) 0
-
 -- names are equal exactly where their bytes are
 pub same_name : (a b : List ℕ) → eq-value.it a b ≡ bytes_eq a b
-same_name a b =
-    both_ways (eq-value.it a b) (bytes_eq a b)
-    (λ h.
-      let q = and_parts (bytes_eq (room a) (room b)) (nat_eq (length a) (length b)) h in
-      let n : length a ≡ length b = eqb-true (length a) (length b) q.1 in
-      let r : room a ≡ room b = (bytes_eq-Decides (room a) (room b)).0 q.0 in
-      (bytes_eq-Decides a b).1 (append_cancel_right a b (replicate (32 - length a) 0) (r ∙ ap (λ k. b ++ replicate (32 - k) 0) (sym n))))
-    (λ h.
-      let e : a ≡ b = (bytes_eq-Decides a b).0 h in
-      and_from (bytes_eq (room a) (room b)) (nat_eq (length a) (length b)) ((bytes_eq-Decides (room a) (room b)).1 (ap room e)) (eq-eqb (length a) (length b) (ap length e)))
+same_name a b = refl
 
 pub declared_first : (ds : List Declaration) (w : List ℕ) (k : ℕ) (d : Declaration) → slice_get ds k ≡ Some d → bytes_eq w d.0 ≡ true
     → ((j : ℕ) (x : Declaration) → j < k → slice_get ds j ≡ Some x → bytes_eq w x.0 ≡ false) → declared ds w ≡ Some (first_of ds k, d.1)
@@ -46,7 +35,7 @@ pub declared_at : (test : List ℕ → Bool) (w : List ℕ) → ((v : List ℕ) 
 declared_at test w same ds k d h e =
     let p = position-Some test (keys_of ds) k [] (sym h) in
     let at : (j : ℕ) (x : Declaration) → slice_get ds j ≡ Some x → get_or (keys_of ds) j [] ≡ x.0 =
-      λ j x q. get_or_from_slice_get (keys_of ds) j x.0 [] (slice_get-map (λ (z : Declaration). z.0) ds j ∙ ap (option_map (λ (z : Declaration). z.0)) q) in
+    λ j x q. get_or_from_slice_get (keys_of ds) j x.0 [] (slice_get-map (λ (z : Declaration). z.0) ds j ∙ ap (option_map (λ (z : Declaration). z.0)) q) in
     declared_first ds w k d e
     (sym (same d.0) ∙ ap test (sym (at k d e)) ∙ p.1)
     (λ j x l q. sym (same x.0) ∙ ap test (sym (at j x q)) ∙ p.2 j l)
@@ -83,3 +72,10 @@ module _ (ds : List Declaration) (w : List ℕ) where
 
     pub array_not : d.length ≡ None → find_array ds w ≡ None
     array_not h = ap array_in e ∙ ap (array_from f) h
+
+-- the names of a map's entries differ
+pub names_differ : (ds : List Declaration) → IsDistinct eq-value.it (keys_of ds) → AllDiffer (map (λ d. d.0) ds)
+names_differ ds h i j d l k s =
+    let a = get_or (keys_of ds) i d in
+    let b = get_or (keys_of ds) j d in
+    both_ways (bytes_eq a b) (apart_from_distinct eq-value.it (keys_of ds) i j d h l k) ((bytes_eq-Decides a b).1 s)

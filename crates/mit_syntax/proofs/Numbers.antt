@@ -1,12 +1,11 @@
 -- The numbers of variables.
-use Rattle.std.proofs.Common.{◌≡◌, refl, sym, ap, ◌∙◌, subst, ℕ, zero, suc, ◌+◌, ◌-◌, ◌<◌, ◌≤◌, List, [], ◌∷◌, ◌++◌, length, get_or, Option, None, Some, arith, length-append, add-one, Bool, true, false, cond, set, ⊎_elim}
-use Rattle.std.specs.Prelude.{slice_get, slice_index_or, map, position, option_map}
+use Rattle.std.proofs.Common.{◌≡◌, refl, sym, ap, ◌∙◌, subst, ℕ, zero, suc, ◌+◌, ◌-◌, ◌<◌, ◌≤◌, List, [], ◌∷◌, length, get_or, Option, None, Some, arith, length-append, set, ⊎_elim}
+use Rattle.std.specs.Prelude.{slice_get}
 use Rattle.std.proofs.lemmas.List.{get_or_append_left, get_or-append-add, get_or-set_same, get_or-set_other}
 use Rattle.std.proofs.lemmas.Bool.{cases_lt}
 use Rattle.std.proofs.lemmas.Option.{none-some, same_Some}
 use Rattle.label_lattice.specs.declared.label.Label.{Label}
-use Rattle.mit_syntax.specs.declared.declarations.Decl.{Decl}
-use Rattle.mit_syntax.specs.Declarations.{Declaration, Cell, elements, cells_of, cells, cell_at, cell_of, place_in, size_in, size_of, length_in, elements_in, variables, first_of, declared}
+use Rattle.mit_syntax.specs.Declarations.{Declaration, Cell, elements, cells_of, cells, cell_at, cell_of, place_in, size_in, size_of, length_in, elements_in, variables, first_of}
 
 pub length-elements : (w : List ℕ) (l : Option Label) (i n : ℕ) → length (elements w l i n) ≡ n
 length-elements w l i zero = refl
@@ -84,8 +83,8 @@ table_full ds firsts k e r h j l =
     ⊎_elim
     (λ (a : j < k). get_or-set_other firsts k j (first_of ds k) 0 (λ q. omega (arith, a, q)) ∙ h j a)
     (λ (b : k ≤ j).
-      let q : j ≡ k = omega (arith, b, l, e) in
-      ap (λ i. get_or (set firsts k (first_of ds k)) i 0) q ∙ get_or-set_same firsts k (first_of ds k) 0 r ∙ ap (first_of ds) (sym q))
+    let q : j ≡ k = omega (arith, b, l, e) in
+    ap (λ i. get_or (set firsts k (first_of ds k)) i 0) q ∙ get_or-set_same firsts k (first_of ds k) 0 r ∙ ap (first_of ds) (sym q))
     (cases_lt j k)
 
 pub table_more : (ds : List Declaration) (firsts : List ℕ) (k : ℕ) → k < length firsts → ((j : ℕ) → j < k → get_or firsts j 0 ≡ first_of ds j)
@@ -94,8 +93,8 @@ table_more ds firsts k r h j l =
     ⊎_elim
     (λ (a : j < k). get_or-set_other firsts k j (first_of ds k) 0 (λ q. omega (arith, a, q)) ∙ h j a)
     (λ (b : k ≤ j).
-      let q : j ≡ k = omega (arith, b, l) in
-      ap (λ i. get_or (set firsts k (first_of ds k)) i 0) q ∙ get_or-set_same firsts k (first_of ds k) 0 r ∙ ap (first_of ds) (sym q))
+    let q : j ≡ k = omega (arith, b, l) in
+    ap (λ i. get_or (set firsts k (first_of ds k)) i 0) q ∙ get_or-set_same firsts k (first_of ds k) 0 r ∙ ap (first_of ds) (sym q))
     (cases_lt j k)
 
 pub some_declared : (ds : List Declaration) (x : ℕ) → x < variables ds → 0 < length ds

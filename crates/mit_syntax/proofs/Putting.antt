@@ -1,14 +1,15 @@
 -- One part after another.
-use Rattle.std.proofs.Common.{◌≡◌, refl, subst, ap, ◌∙◌, List, [], ◌∷◌, ◌++◌, ℕ, zero, suc, ◌<◌, ◌-◌, ◌+◌, sym, arith}
+use Rattle.std.proofs.Common.{◌≡◌, refl, subst, ap, ◌∙◌, List, [], ◌++◌, ℕ, zero, suc, ◌<◌, ◌-◌, sym, arith}
 use Rattle.std.proofs.lemmas.Bool.{lt-ltb}
+use Rattle.std.proofs.lemmas.List.{append-nil}
 use Rattle.mit_syntax.specs.declared.ast.Op.{Op}
 use Rattle.mit_syntax.specs.declared.token.Sign.{Sign}
-use Rattle.mit_syntax.specs.declared.token.Sign.TheVariants.{LeftRound, RightRound, LeftSquare, RightSquare}
+use Rattle.mit_syntax.specs.declared.token.Sign.TheVariants.{LeftRound, RightRound, LeftSquare, RightSquare, Semicolon}
 use Rattle.mit_syntax.specs.Chunks.{Chunk, text}
 use Rattle.mit_syntax.specs.Declarations.{Declaration, cell_at}
 use Rattle.mit_syntax.specs.Expression.{Expression, Binary, Element}
 use Rattle.mit_syntax.specs.Ranks.{rank, left_need, right_need}
-use Rattle.mit_syntax.specs.Layout.{Puts, a_sign, a_name, a_space, indent, spaced, op_sign, in_round, expression_part}
+use Rattle.mit_syntax.specs.Layout.{Puts, a_sign, a_name, a_space, indent, new_line, separator, spaced, op_sign, in_round, expression_part}
 
 pub puts_then : {a b c : List ℕ} {f g : List Chunk → List Chunk} → Puts a b f → Puts b c g → Puts a c (λ q. f (g q))
 puts_then {g} h k = record { is = λ q. k.is q ∙ h.is (g q) }
@@ -49,3 +50,11 @@ pub puts_element : {a b c d z : List ℕ} (ds : List Declaration) (need f n : �
 puts_element {a} {b} {z} ds need f n w e i i' h1 h2 h3 p1 p2 p3 p4 =
     subst (λ x. Puts a z (expression_part ds need x)) (sym h1)
     (puts_then (subst (λ x. Puts a b (a_name x)) h2 p1) (puts_then p2 (puts_then (expression_as ds 1 1 i' i refl h3 p3) p4)))
+
+pub puts_separator : {a b c : List ℕ} (d i : ℕ) → 0 < i → Puts a b (a_sign Semicolon) → Puts b c (new_line d) → Puts a c (separator d i)
+puts_separator d zero h x y = absurd (omega (arith, h))
+puts_separator d (suc i) h x y = puts_then x y
+
+-- a text from its chunks
+pub whole_text : {a c : List ℕ} {f : List Chunk → List Chunk} → a ≡ [] → Puts a c f → c ≡ text (f [])
+whole_text {c} {f} e k = sym (append-nil c) ∙ k.is [] ∙ ap (λ l. l ++ text (f [])) e

@@ -14,7 +14,7 @@ use Rattle.mit_syntax.specs.Chunks.{Word, Chunk, space, line, word, key, sign, n
 use Rattle.mit_syntax.specs.Expression.{Expression, Number, Variable, Binary, Element}
 use Rattle.mit_syntax.specs.Ranks.{rank, left_need, right_need}
 use Rattle.mit_syntax.specs.Todo.{Done, Skip, Assign, Put, Sleep, If, While, Mitigate}
-use Rattle.mit_syntax.specs.Plan.{Plan, Written}
+use Rattle.mit_syntax.specs.Plan.{Plan}
 use Rattle.mit_syntax.specs.Declarations.{Declaration, cell_at}
 use Rattle.mit_syntax.specs.Program.{Syntax, plan_of}
 
@@ -141,6 +141,11 @@ abbrev mutual
   more_listed part [] q = q
   more_listed part (x ∷ xs) q = a_comma (part x (more_listed part xs q))
 
+-- what stands before the part after i others
+abbrev pub comma_before : ℕ → Part
+comma_before zero q = q
+comma_before (suc i) q = a_comma q
+
 abbrev pub pair_part : Order → Label × Label → Part
 pair_part o p q = a_name (name_of o p.0.number) (spaced Less (a_name (name_of o p.1.number) q))
 
@@ -167,9 +172,17 @@ abbrev pub declarations_part : Order → List Declaration → Part
 declarations_part o [] q = q
 declarations_part o (d ∷ ds) q = declaration_part o d (declarations_part o ds q)
 
--- all chunks of a program
+-- what stands before the command after i others
+abbrev pub separator : ℕ → ℕ → Part
+separator d zero q = q
+separator d (suc i) q = a_sign Semicolon (new_line d q)
+
+-- all chunks of a program, from its parts
+abbrev pub chunks_of : Order → List (Label × Label) → List Declaration → Plan → List Chunk
+chunks_of o ps ds p = labels_part o (order_part o ps (declarations_part o ds (commands_part o ds 0 p (line ∷ []))))
+
 abbrev pub program_chunks : Syntax → List Chunk
-program_chunks s = labels_part s.order (order_part s.order s.pairs (declarations_part s.order s.declarations (commands_part s.order s.declarations 0 (plan_of s) (line ∷ []))))
+program_chunks s = chunks_of s.order s.pairs s.declarations (plan_of s)
 
 -- the canonical text
 abbrev pub canonical : Syntax → List ℕ

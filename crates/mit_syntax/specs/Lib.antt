@@ -12,6 +12,7 @@ pub mod Kept
 pub mod Counted
 pub mod Chunks
 pub mod Layout
+pub mod Printable
 pub mod Lexemes
 pub mod Cut
 pub mod TokenSteps

@@ -1,13 +1,13 @@
 -- What is true of every program.
-use Rattle.std.specs.Prelude.{◌≡◌, ℕ, ℤ, pos, negsuc, ◌+◌, ◌<◌, ◌≤◌, List, [], ◌∷◌, map, All, Option, None, Some, ◌↔◌}
+use Rattle.std.specs.Prelude.{◌≡◌, ℕ, ℤ, pos, negsuc, ◌+◌, ◌<◌, ◌≤◌, List, map, All, Option, None, Some, ◌↔◌}
 use Rattle.label_lattice.specs.declared.label.Label.{Label}
 use Rattle.label_lattice.specs.Lattice.{Flows}
-use Rattle.label_lattice.specs.Order.{Order, lattice_of, AllDiffer}
+use Rattle.label_lattice.specs.Order.{IsOrder, lattice_of, AllDiffer}
 use Rattle.label_lattice.specs.Names.{IsName}
 use Rattle.label_lattice.specs.Chains.{Chain, AreBelow}
 use Rattle.mit_syntax.specs.Expression.{Expression, Number, Variable, Binary, Element}
 use Rattle.mit_syntax.specs.Todo.{Done, Skip, Assign, Put, Sleep, If, While, Mitigate}
-use Rattle.mit_syntax.specs.Plan.{Plan, Written, count, mitigates}
+use Rattle.mit_syntax.specs.Plan.{Plan, count, mitigates}
 use Rattle.mit_syntax.specs.Declarations.{Declaration, AreFew, find_scalar, find_array}
 use Rattle.mit_syntax.specs.Limits.{AreSmall}
 use Rattle.mit_syntax.specs.Program.{Syntax, plan_of}
@@ -82,7 +82,7 @@ pub record IsValid (s : Syntax) : Type 0 where
   -- a label flows to another exactly where a chain of written pairs leads there
   pub pairs : AreBelow s.order.size s.pairs
   pub flows : (a b : ℕ) → a < s.order.size → b < s.order.size → Flows (lattice_of s.order) a b ↔ Chain s.pairs a b
-  pub label_names : All IsName s.order.names
+  pub order : IsOrder s.order
   pub few : AreFew s.declarations
   pub names : All (λ d. IsName d.0) s.declarations
   -- no name is declared twice

@@ -70,9 +70,6 @@ fn count_command(command: &Command) -> Counts
             };
             sum(mitigate, count_list(body))
         }
-        Form::Skip
-        | Form::Assign { .. }
-        | Form::Put { .. }
-        | Form::Sleep { .. } => one,
+        Form::Skip | Form::Assign { .. } | Form::Put { .. } | Form::Sleep { .. } => one,
     }
 }

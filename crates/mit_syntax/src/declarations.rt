@@ -79,6 +79,13 @@ impl Variables {
         Variables { table, firsts }
     }
 
+    /// The declarations as a table, in their order.
+    pub fn into_table(self) -> IndexMap<Name, Decl>
+        ensures { result.entries ≡ self }
+    {
+        self.table
+    }
+
     /// How many variables there are, each element of an array counted.
     pub fn count(&self) -> u32
         ensures value { result ≡ variables self.now }

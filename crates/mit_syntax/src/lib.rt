@@ -2,12 +2,14 @@
 #![tactic(auto)]
 
 pub mod ast;
-pub mod count;
+mod count;
 pub mod declarations;
 pub mod fault;
 mod lexeme;
 pub mod print;
 pub mod program;
+#[cfg(test)]
+mod program_tests;
 pub mod token;
 #[cfg(test)]
 mod token_tests;

@@ -44,7 +44,12 @@ impl Model for Program {
 
 impl Program {
     /// A program of these parts, which are those of a program: takes no memory.
-    pub fn of(lattice: Lattice, pairs: Vec<(Label, Label)>, variables: IndexMap<Name, Decl>, body: Vec<Command>) -> Program
+    pub fn of(
+        lattice: Lattice,
+        pairs: Vec<(Label, Label)>,
+        variables: IndexMap<Name, Decl>,
+        body: Vec<Command>,
+    ) -> Program
         requires { IsValid (syntax lattice pairs.items variables.entries body.items) }
         ensures { result ≡ syntax lattice pairs.items variables.entries body.items }
     {
@@ -74,6 +79,13 @@ impl Program {
         ensures { result.now ≡ self.now.pairs }
     {
         &self.pairs
+    }
+
+    /// The declarations.
+    pub fn declarations(&self) -> &Variables
+        ensures { result.now ≡ self.now.declarations }
+    {
+        &self.variables
     }
 
     /// How many variables there are, each element of an array counted.

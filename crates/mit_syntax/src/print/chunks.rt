@@ -1,9 +1,9 @@
 //! The chunks of a text.
 
-ghost use Rattle.std.specs.Prelude.{◌≡◌, OnOk, pos};
+ghost use Rattle.std.specs.Prelude.{◌≡◌, OnOk};
 ghost use Rattle.mit_syntax.specs.Lexemes.{key_text, sign_text};
-ghost use Rattle.mit_syntax.specs.Chunks.{word, number};
-ghost use Rattle.mit_syntax.specs.Layout.{Puts, a_key, a_sign, a_name, a_space, a_line, a_comma, a_word, spaced, spaced_key, indent, new_line};
+ghost use Rattle.mit_syntax.specs.Chunks.{number};
+ghost use Rattle.mit_syntax.specs.Layout.{Puts, a_key, a_sign, a_name, a_space, a_line, a_comma, a_word, a_number, spaced, spaced_key, indent, new_line};
 
 use crate::token::{Keyword, Sign};
 use itoa::Buffer;
@@ -71,6 +71,13 @@ pub fn put_sign(out: &mut Vec<u8>, which: Sign) -> Result<(), AllocError>
 
 pub fn put_number(out: &mut Vec<u8>, n: i64) -> Result<(), AllocError>
     ensures { OnOk result (Puts out.old.items out.new.items (a_word (number n))) }
+{
+    let mut buffer = Buffer::new();
+    out.extend_from_slice(buffer.format(n).as_bytes())
+}
+
+pub fn put_natural(out: &mut Vec<u8>, n: u32) -> Result<(), AllocError>
+    ensures { OnOk result (Puts out.old.items out.new.items (a_number n)) }
 {
     let mut buffer = Buffer::new();
     out.extend_from_slice(buffer.format(n).as_bytes())

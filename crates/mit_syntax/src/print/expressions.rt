@@ -105,11 +105,7 @@ pub fn put_expression(
 }
 
 /// Puts an index in its brackets.
-pub fn put_index(
-    out: &mut Vec<u8>,
-    variables: &Variables,
-    index: &Expr,
-) -> Result<(), AllocError>
+pub fn put_index(out: &mut Vec<u8>, variables: &Variables, index: &Expr) -> Result<(), AllocError>
     requires known { IsKnown variables.now (expression_of index.now) }
     requires arrays { AreShaped variables.now }
     ensures { OnOk result (Puts out.old.items out.new.items (in_square (expression_part variables.now 1 (expression_of index.now)))) }

@@ -1,4 +1,4 @@
-use Rattle.std.proofs.Common.{◌≡◌, ◌<◌, ◌≤◌, ◌+◌, ◌*◌, ◌^◌, ◌∙◌, sym, ap, refl, arith, ℕ}
+use Rattle.std.proofs.Common.{◌≡◌, ◌<◌, ◌≤◌, ◌+◌, ◌^◌, ap, arith}
 use Rattle.mit_syntax.specs.Todo.{Done}
 use Rattle.mit_syntax.specs.Plan.{count, mitigates, list_plan, command_plan}
 use Rattle.mit_syntax.proofs.Counting.{if_plan, while_plan, mitigate_plan, count_front, mitigates_front, all_counted, mitigates_below}

@@ -1,4 +1,4 @@
-use Rattle.std.proofs.Common.{◌≡◌, ◌+◌, ◌*◌}
+use Rattle.std.proofs.Common.{◌+◌, ◌*◌}
 use Rattle.mit_syntax.specs.Todo.{Done}
 use Rattle.mit_syntax.specs.Plan.{count, list_plan, command_plan}
 use Rattle.mit_syntax.proofs.Counting.{CountedSoFar}

@@ -1,4 +1,4 @@
-use Rattle.std.proofs.Common.{◌≡◌, ◌<◌, ◌≤◌, ◌∙◌, ◌-◌, sym, ap, subst, ℕ, List, length, arith, Some}
+use Rattle.std.proofs.Common.{◌≡◌, ◌<◌, ◌∙◌, ◌-◌, sym, ap, subst, ℕ, List, length, arith, Some}
 use Rattle.std.specs.Prelude.{slice_get}
 use Rattle.mit_syntax.specs.Declarations.{Declaration, cell_of, first_of}
 use Rattle.mit_syntax.proofs.Numbers.{owned}

@@ -1,4 +1,4 @@
-use Rattle.std.proofs.Common.{◌≡◌, ◌∙◌, sym, ap, ℕ, List, get_or, arith}
+use Rattle.std.proofs.Common.{◌∙◌, ap, ℕ, List, get_or, arith}
 use Rattle.mit_syntax.specs.Declarations.{Declaration, variables}
 use Rattle.mit_syntax.proofs.Numbers.{first_all}
 use Rattle.mit_syntax.proofs.declarations.Variables.count.Goals as goal

@@ -1,5 +1,5 @@
-use Rattle.std.proofs.Common.{◌≡◌, ◌∙◌, sym, ap, None, Some, ℕ, List, get_or, arith, Option}
-use Rattle.mit_syntax.specs.Declarations.{Declaration, find_array, first_of, declared}
+use Rattle.std.proofs.Common.{◌∙◌, sym, ap, Some, ℕ, List, arith}
+use Rattle.mit_syntax.specs.Declarations.{Declaration, find_array}
 use Rattle.mit_syntax.proofs.Named.{same_name, declared_at, declared_none, array_none, array_found, array_not}
 use Rattle.mit_syntax.proofs.declarations.Variables.find_array.Goals as goal
 

@@ -1,5 +1,5 @@
-use Rattle.std.proofs.Common.{◌≡◌, ◌∙◌, sym, ap, None, Some, ℕ, List, get_or, arith, Option}
-use Rattle.mit_syntax.specs.Declarations.{Declaration, find_scalar, first_of, declared}
+use Rattle.std.proofs.Common.{◌∙◌, sym, ap, Some, List, arith}
+use Rattle.mit_syntax.specs.Declarations.{Declaration, find_scalar}
 use Rattle.mit_syntax.proofs.Named.{same_name, declared_at, declared_none, scalar_none, scalar_found, scalar_not}
 use Rattle.mit_syntax.proofs.declarations.Variables.find_variable.Goals as goal
 

@@ -1,6 +1,6 @@
-use Rattle.std.proofs.Common.{◌≡◌, ◌<◌, ◌≤◌, ◌∙◌, ◌+◌, sym, ap, subst, ℕ, List, length, get_or, set, arith, rules}
-use Rattle.mit_syntax.specs.Declarations.{Declaration, first_of, size_of}
-use Rattle.mit_syntax.proofs.Numbers.{first_more, first_bound, table_more, table_full}
+use Rattle.std.proofs.Common.{◌≡◌, ◌<◌, ◌+◌, sym, subst, ℕ, get_or, set, arith, rules}
+use Rattle.mit_syntax.specs.Declarations.{first_of, size_of}
+use Rattle.mit_syntax.proofs.Numbers.{first_more, first_bound, table_more}
 use Rattle.mit_syntax.proofs.declarations.Variables.of.Goals as goal
 
 pub overflow_add-next : goal.overflow_add-next

@@ -1,4 +1,4 @@
-use Rattle.std.proofs.Common.{◌≡◌, ◌<◌, ◌≤◌, ℕ, length, get_or}
+use Rattle.std.proofs.Common.{◌≡◌, ◌<◌, ℕ, length, get_or}
 use Rattle.mit_syntax.specs.Declarations.{first_of}
 use Rattle.mit_syntax.proofs.declarations.Variables.of.Given as goal
 

@@ -1,5 +1,5 @@
-use Rattle.std.proofs.Common.{◌≡◌, ◌<◌, ◌≤◌, ◌∙◌, sym, ap, subst, ℕ, List, length, arith}
-use Rattle.mit_syntax.specs.Declarations.{Declaration, variables, first_of}
+use Rattle.std.proofs.Common.{◌≡◌, ◌<◌, ◌∙◌, sym, ap, subst, List, length, arith}
+use Rattle.mit_syntax.specs.Declarations.{Declaration, first_of}
 use Rattle.mit_syntax.proofs.Numbers.{first_all, some_declared}
 use Rattle.mit_syntax.proofs.declarations.Variables.owner.Goals as goal
 
