@@ -19,7 +19,7 @@ ruled_out true f = absurd (f refl)
 ruled_out false f = refl
 
 at_least : (n : ℕ) → (n == 0) ≡ false → 0 < n
-at_least zero e = absurd (false-eqb 0 0 e refl)
+at_least zero e = absurd (false-eqb 0 0 (sym e) refl)
 at_least (suc n) e = omega arith
 
 last_false : (a b c : Bool) → c ≡ false → a && (b && c) ≡ false
