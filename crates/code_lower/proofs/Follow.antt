@@ -1,8 +1,8 @@
 -- The machine follows the source, one source step after another.
 use Rattle.std.proofs.Common.{◌≡◌, ℕ, ◌+◌, List, [], ◌∷◌, ◌++◌, append-nil, refl, sym, ap, ◌∙◌, subst, arith}
 use Rattle.std.specs.Prelude.{Bool, true, false, cond, ℤ, slice_set}
-use Rattle.mit_syntax.specs.declared.ast.Expr.{Expr}
-use Rattle.mit_syntax.specs.declared.ast.Expr.TheVariants.{Number, Variable, Binary', Element'}
+use Rattle.mit_syntax.specs.Expression.{Expression}
+use Rattle.mit_syntax.specs.Expression.{Number, Variable, Binary, Element}
 use Rattle.mit_syntax.specs.Todo.{Marks, Marked, Done, Skip, Assign, Put, Sleep, If, While, Mitigate, then_todo}
 use Rattle.mit_syntax.specs.Values.{element, value_of, holds}
 use Rattle.doubling_schedule.specs.Doubling.{at_least_zero}
@@ -24,23 +24,23 @@ told-append (Wrote x n c ∷ es) fs = ap (λ t. Assigned x n ∷ t) (told-append
 told-append (Began k c ∷ es) fs = ap (λ t. Started k ∷ t) (told-append es fs)
 told-append (Ended k c ∷ es) fs = told-append es fs
 
-memory_same : {E : Type 0} (v : Env E) (m : Marks) (e : Expr) (a : ℕ) (s : Core E) → (timed v m e a s).memory ≡ s.memory
+memory_same : {E : Type 0} (v : Env E) (m : Marks) (e : Expression) (a : ℕ) (s : Core E) → (timed v m e a s).memory ≡ s.memory
 memory_same v m (Number n) a s = refl
 memory_same v m (Variable x) a s = refl
-memory_same v m (Binary' op p l q r) a s = memory_same v m r (a + expr_size l) _ ∙ memory_same v m l a s
-memory_same v m (Element' f n p i) a s = memory_same v m i a s
+memory_same v m (Binary op l r) a s = memory_same v m r (a + expr_size l) _ ∙ memory_same v m l a s
+memory_same v m (Element f n i) a s = memory_same v m i a s
 
-log_same : {E : Type 0} (v : Env E) (m : Marks) (e : Expr) (a : ℕ) (s : Core E) → (timed v m e a s).log ≡ s.log
+log_same : {E : Type 0} (v : Env E) (m : Marks) (e : Expression) (a : ℕ) (s : Core E) → (timed v m e a s).log ≡ s.log
 log_same v m (Number n) a s = refl
 log_same v m (Variable x) a s = refl
-log_same v m (Binary' op p l q r) a s = log_same v m r (a + expr_size l) _ ∙ log_same v m l a s
-log_same v m (Element' f n p i) a s = log_same v m i a s
+log_same v m (Binary op l r) a s = log_same v m r (a + expr_size l) _ ∙ log_same v m l a s
+log_same v m (Element f n i) a s = log_same v m i a s
 
 -- what is done below the current list: the rest of a list, also behind a jump; a loop again, and the rest; the end of a mitigation, and the rest
 pub data Frame : Type 0 where
   After : Marked → Frame
   Jumped : Marked → Frame
-  Again : Marks → Expr → Marked → Marked → Frame
+  Again : Marks → Expression → Marked → Marked → Frame
   Closing : Marked → Frame
 
 abbrev pub rest_of : List Frame → Marked
@@ -99,7 +99,7 @@ module _ {E : Type 0} (v : Env E) (lat : Lattice) (g : ℕ → ℕ) (image : Lis
   fits_at fs q q' os e f = subst (λ z. Fits fs z os) e f
 
   -- a command whose guard decides what is done next
-  if_goes : (m : Marks) (e : Expr) (c d r : Marked) (fs : List Frame) (a : ℕ) (os : List Opened) (s : Core E) → HasCode lat g image (If m e c d r) a → Fits fs (a + size (If m e c d r)) os → Goes (source_at (If m e c d r) fs s) (at a [] os s)
+  if_goes : (m : Marks) (e : Expression) (c d r : Marked) (fs : List Frame) (a : ℕ) (os : List Opened) (s : Core E) → HasCode lat g image (If m e c d r) a → Fits fs (a + size (If m e c d r)) os → Goes (source_at (If m e c d r) fs s) (at a [] os s)
   if_goes m e c d r fs a os s code below = go (holds (value_of e s.memory)) refl
     where
       b : ℕ
@@ -124,7 +124,7 @@ module _ {E : Type 0} (v : Env E) (lat : Lattice) (g : ℕ → ℕ) (image : Lis
       go true f = on (λ z. cc) (leads true f) (meets c (Jumped r ∷ fs) (b + 1) os s0 code.2 (raised lat g e m, j + 1 + size d, code.3, code.5, fits_at fs _ _ os (sym end) below) _ (stepped true f))
       go false f = on (λ z. cc) (leads false f) (meets d (After r ∷ fs) (j + 1) os s0 code.4 (code.5, fits_at fs _ _ os (sym end) below) _ (stepped false f))
 
-  while_goes : (m : Marks) (e : Expr) (c r : Marked) (fs : List Frame) (a : ℕ) (os : List Opened) (s : Core E) → HasCode lat g image (While m e c r) a → Fits fs (a + size (While m e c r)) os → Goes (source_at (While m e c r) fs s) (at a [] os s)
+  while_goes : (m : Marks) (e : Expression) (c r : Marked) (fs : List Frame) (a : ℕ) (os : List Opened) (s : Core E) → HasCode lat g image (While m e c r) a → Fits fs (a + size (While m e c r)) os → Goes (source_at (While m e c r) fs s) (at a [] os s)
   while_goes m e c r fs a os s code below = go (holds (value_of e s.memory)) refl
     where
       b : ℕ
@@ -152,7 +152,7 @@ module _ {E : Type 0} (v : Env E) (lat : Lattice) (g : ℕ → ℕ) (image : Lis
       go true f = on (λ z. cc) (leads true f) (meets c (Again m e c r ∷ fs) (b + 1) os s0 code.2 (b + 1, refl, code.3, code.4, code.2, code.5, fits_at fs _ _ os (sym end) below) _ (stepped true f))
       go false f = on (λ z. cc) (leads false f) (meets r fs q os s0 code.5 (fits_at fs _ _ os (sym end) below) _ (stepped false f))
 
-  again_goes : (m : Marks) (e : Expr) (c p : Marked) (fs : List Frame) (a : ℕ) (os : List Opened) (s : Core E) → Fits (Again m e c p ∷ fs) a os → Goes (source_at Done (Again m e c p ∷ fs) s) (at a [] os s)
+  again_goes : (m : Marks) (e : Expression) (c p : Marked) (fs : List Frame) (a : ℕ) (os : List Opened) (s : Core E) → Fits (Again m e c p ∷ fs) a os → Goes (source_at Done (Again m e c p ∷ fs) s) (at a [] os s)
   again_goes m e c p fs a os s below = go (holds (value_of e s.memory)) refl
     where
       rm : Marks

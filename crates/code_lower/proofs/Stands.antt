@@ -3,8 +3,8 @@ use Rattle.std.proofs.Common.{◌≡◌, ℕ, ◌+◌, ◌<◌, List, [], ◌∷
 use Rattle.std.specs.Prelude.{slice_get}
 use Rattle.std.proofs.Math.Seq.{get_or-append_seam}
 use Rattle.std.proofs.lemmas.Option.{slice_get-get_or}
-use Rattle.mit_syntax.specs.declared.ast.Expr.{Expr}
-use Rattle.mit_syntax.specs.declared.ast.Expr.TheVariants.{Number, Variable, Binary', Element'}
+use Rattle.mit_syntax.specs.Expression.{Expression}
+use Rattle.mit_syntax.specs.Expression.{Number, Variable, Binary, Element}
 use Rattle.label_code.specs.declared.code.Instr.{Instr}
 use Rattle.label_code.specs.declared.code.Work.TheVariants.{Apply, Store, LoadAt, StoreAt, Brz, Brnz, Jmp, Sleep as SleepWork, Mitb, Mite, Nop, Halt}
 use Rattle.mit_syntax.specs.Todo.{Marks, Marked, Done, Skip, Assign, Put, Sleep, If, While, Mitigate, then_todo}
@@ -37,29 +37,29 @@ has_all (i ∷ is) pre =
     let rest = subst (λ l. HasAt l (length (pre ++ i ∷ [])) is) (append_assoc pre (i ∷ []) is) (has_all is (pre ++ i ∷ [])) in
     (here, subst (λ m. HasAt (pre ++ i ∷ is) m is) n rest)
 
-pub length-expr_code : (m : Marks) (e : Expr) → length (expr_code m e) ≡ expr_size e
+pub length-expr_code : (m : Marks) (e : Expression) → length (expr_code m e) ≡ expr_size e
 length-expr_code m (Number n) = refl
 length-expr_code m (Variable x) = refl
-length-expr_code m (Binary' o p l q r) =
+length-expr_code m (Binary o l r) =
     let t : List Instr = instr (Apply o) m ∷ [] in
     omega (arith, length-append (expr_code m l) (expr_code m r ++ t), length-append (expr_code m r) t, length-expr_code m l, length-expr_code m r)
-length-expr_code m (Element' f n p i) =
+length-expr_code m (Element f n i) =
     let t : List Instr = instr (LoadAt f n) m ∷ [] in omega (arith, length-append (expr_code m i) t, length-expr_code m i)
 
-expr_stands : (image : List Instr) (m : Marks) (e : Expr) (a : ℕ) → HasAt image a (expr_code m e) → HasExpr image m e a
+expr_stands : (image : List Instr) (m : Marks) (e : Expression) (a : ℕ) → HasAt image a (expr_code m e) → HasExpr image m e a
 expr_stands image m (Number n) a h = h.0
 expr_stands image m (Variable x) a h = h.0
-expr_stands image m (Binary' o p l q r) a h =
+expr_stands image m (Binary o l r) a h =
     let back = has_back image a (expr_code m l) _ (expr_size l) (length-expr_code m l) h in (
       expr_stands image m l a (has_front image a (expr_code m l) _ h),
       expr_stands image m r (a + expr_size l) (has_front image (a + expr_size l) (expr_code m r) _ back),
       (has_back image (a + expr_size l) (expr_code m r) _ (expr_size r) (length-expr_code m r) back).0,
     )
-expr_stands image m (Element' f n p i) a h =
+expr_stands image m (Element f n i) a h =
     (expr_stands image m i a (has_front image a (expr_code m i) _ h), (has_back image a (expr_code m i) _ (expr_size i) (length-expr_code m i) h).0)
 
 -- where an expression's code and one more instruction stand, with what is below them
-after_test : (image : List Instr) (m : Marks) (e : Expr) (i : Instr) (js : List Instr) (a : ℕ) → HasAt image a (expr_code m e ++ (i ∷ js)) → HasExpr image m e a × (slice_get image (a + expr_size e) ≡ Some i) × HasAt image (a + expr_size e + 1) js
+after_test : (image : List Instr) (m : Marks) (e : Expression) (i : Instr) (js : List Instr) (a : ℕ) → HasAt image a (expr_code m e ++ (i ∷ js)) → HasExpr image m e a × (slice_get image (a + expr_size e) ≡ Some i) × HasAt image (a + expr_size e + 1) js
 after_test image m e i js a h =
     let back = has_back image a (expr_code m e) (i ∷ js) (expr_size e) (length-expr_code m e) h in
     (expr_stands image m e a (has_front image a (expr_code m e) (i ∷ js) h), back.0, back.1)

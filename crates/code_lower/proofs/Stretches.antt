@@ -1,8 +1,8 @@
 -- The machine passes the code of an expression, and of what takes its value.
 use Rattle.std.proofs.Common.{◌≡◌, ℕ, zero, suc, ◌+◌, ◌<◌, List, ◌∷◌, refl, sym, ap, ◌∙◌, arith}
 use Rattle.std.specs.Prelude.{Bool, true, false, cond, ℤ, slice_get}
-use Rattle.mit_syntax.specs.declared.ast.Expr.{Expr}
-use Rattle.mit_syntax.specs.declared.ast.Expr.TheVariants.{Number, Variable, Binary', Element'}
+use Rattle.mit_syntax.specs.Expression.{Expression}
+use Rattle.mit_syntax.specs.Expression.{Number, Variable, Binary, Element}
 use Rattle.mit_syntax.specs.Todo.{Marks}
 use Rattle.mit_syntax.specs.Values.{apply, read, element, value_of}
 use Rattle.env_contract.specs.Env.{Env}
@@ -20,10 +20,10 @@ module _ {E : Type 0} (v : Env E) (image : List Instr) where
   pub one : (w : Work) (m : Marks) (a : ℕ) (ops : List ℤ) (os : List Opened) (s : Core E) → Stands image a w m → Leads v image (at a ops os s) (act v m w a ops os (fetched v m a s))
   one w m a ops os s h = record { count = 1; some = omega arith; ends = ap (λ i. obey v i (at a ops os s)) h }
 
-  pub expr_leads : (e : Expr) (m : Marks) (a : ℕ) (ops : List ℤ) (os : List Opened) (s : Core E) → HasExpr image m e a → Leads v image (at a ops os s) (at (a + expr_size e) (value_of e s.memory ∷ ops) os (timed v m e a s))
+  pub expr_leads : (e : Expression) (m : Marks) (a : ℕ) (ops : List ℤ) (os : List Opened) (s : Core E) → HasExpr image m e a → Leads v image (at a ops os s) (at (a + expr_size e) (value_of e s.memory ∷ ops) os (timed v m e a s))
   expr_leads (Number n) m a ops os s h = one (Push n) m a ops os s h
   expr_leads (Variable x) m a ops os s h = one (Load x) m a ops os s h
-  expr_leads (Binary' o p l q r) m a ops os s h =
+  expr_leads (Binary o l r) m a ops os s h =
       let b = a + expr_size l in
       let c = b + expr_size r in
       let s1 = timed v m l a s in
@@ -36,7 +36,7 @@ module _ {E : Type 0} (v : Env E) (image : List Instr) where
       (leads_then v image (at b (x ∷ ops) os s1) (at c (y ∷ x ∷ ops) os s2) _ right
       (leads_to v image _ _ _ (one (Apply o) m c (y ∷ x ∷ ops) os s2 h.2)
       (ap (λ z. at z (apply o x y ∷ ops) os (waited (op_cost o x y) (fetched v m c s2))) here)))
-  expr_leads (Element' f n p i) m a ops os s h =
+  expr_leads (Element f n i) m a ops os s h =
       let b = a + expr_size i in
       let s1 = timed v m i a s in
       let y = value_of i s.memory in
@@ -48,11 +48,11 @@ module _ {E : Type 0} (v : Env E) (image : List Instr) where
       (ap (λ z. at (b + 1) (read z x ∷ ops) os s2) (timed_memory v m i a s) ∙ ap (λ z. at z (read s.memory x ∷ ops) os s2) here))
 
   -- an expression, and the instruction that takes its value
-  pub test_leads : (w : Work) (e : Expr) (m : Marks) (a : ℕ) (ops : List ℤ) (os : List Opened) (s : Core E) → HasExpr image m e a → Stands image (a + expr_size e) w m → Leads v image (at a ops os s) (act v m w (a + expr_size e) (value_of e s.memory ∷ ops) os (tested v m e a s))
+  pub test_leads : (w : Work) (e : Expression) (m : Marks) (a : ℕ) (ops : List ℤ) (os : List Opened) (s : Core E) → HasExpr image m e a → Stands image (a + expr_size e) w m → Leads v image (at a ops os s) (act v m w (a + expr_size e) (value_of e s.memory ∷ ops) os (tested v m e a s))
   test_leads w e m a ops os s h i = leads_then v image (at a ops os s) _ _ (expr_leads e m a ops os s h) (one w m (a + expr_size e) (value_of e s.memory ∷ ops) os (timed v m e a s) i)
 
   -- an index and a value, and the instruction that takes both
-  pub put_leads : (f n : ℕ) (i e : Expr) (m : Marks) (a : ℕ) (ops : List ℤ) (os : List Opened) (s : Core E) → HasExpr image m i a → HasExpr image m e (a + expr_size i) → Stands image (a + expr_size i + expr_size e) (StoreAt f n) m → Leads v image (at a ops os s) (at (a + expr_size i + expr_size e + 1) ops os (stored v m f n i e a s))
+  pub put_leads : (f n : ℕ) (i e : Expression) (m : Marks) (a : ℕ) (ops : List ℤ) (os : List Opened) (s : Core E) → HasExpr image m i a → HasExpr image m e (a + expr_size i) → Stands image (a + expr_size i + expr_size e) (StoreAt f n) m → Leads v image (at a ops os s) (at (a + expr_size i + expr_size e + 1) ops os (stored v m f n i e a s))
   put_leads f n i e m a ops os s hi he h =
       let b = a + expr_size i in
       let s1 = timed v m i a s in

@@ -2,8 +2,8 @@
 use Rattle.std.proofs.Common.{◌≡◌, ℕ, zero, suc, ◌+◌, ◌-◌, ◌<◌, ◌≤◌, List, ◌∷◌, refl, sym, ap, ◌∙◌, subst, ◌⊎◌, inl, inr, ⊎_elim, arith, zero-add}
 use Rattle.std.specs.Prelude.{Bool, true, false, cond, ℤ, slice_get}
 use Rattle.std.proofs.lemmas.Bool.{cases_lt, both_ways}
-use Rattle.mit_syntax.specs.declared.ast.Expr.{Expr}
-use Rattle.mit_syntax.specs.declared.ast.Expr.TheVariants.{Number, Variable, Binary', Element'}
+use Rattle.mit_syntax.specs.Expression.{Expression}
+use Rattle.mit_syntax.specs.Expression.{Number, Variable, Binary, Element}
 use Rattle.mit_syntax.specs.Todo.{Marks, Marked, Done, Skip, Assign, Put, Sleep, If, While, Mitigate}
 use Rattle.mit_syntax.specs.Values.{apply, read, element, value_of, holds}
 use Rattle.label_code.specs.Costs.{op_cost}
@@ -69,7 +69,7 @@ module _ {E : Type 0} (v : Env E) (image : List Instr) where
       pub run : Runs v lat g lim (Do p a) s after
       pub rest : Onward (suc n) (at (a + size p) ops os after)
 
-    pub record LoopPart (m : Marks) (e : Expr) (c : Marked) (a : ℕ) (ops : List ℤ) (os : List Opened) (n : ℕ) (s : Core E) : Type 0 where
+    pub record LoopPart (m : Marks) (e : Expression) (c : Marked) (a : ℕ) (ops : List ℤ) (os : List Opened) (n : ℕ) (s : Core E) : Type 0 where
       pub after : Core E
       pub run : Runs v lat g lim (Loop m e c a) s after
       pub rest : Onward (suc n) (at (a + size c + expr_size e + 1) ops os after)
@@ -92,7 +92,7 @@ module _ {E : Type 0} (v : Env E) (image : List Instr) where
     joined p r a q ops os n s s1 place make t = record { after = t.after; run = make t.after t.run; rest = moved (suc n) _ _ ops os t.after place t.rest }
 
     -- the body of a loop, as often as the run passes it
-    turn_part : (m : Marks) (e : Expr) (c : Marked) (a : ℕ) (ops : List ℤ) (os : List Opened) → HasExpr image (raised lat g e m) e (a + size c) → Stands image (a + size c + expr_size e) (Brnz a) (raised lat g e m) → (n : ℕ) (s : Core E) → Part c a ops os n s → ((k : ℕ) (s1 : Core E) → k < n → steps v image k (at a ops os s1) ≡ y → LoopPart m e c a ops os k s1) → LoopPart m e c a ops os n s
+    turn_part : (m : Marks) (e : Expression) (c : Marked) (a : ℕ) (ops : List ℤ) (os : List Opened) → HasExpr image (raised lat g e m) e (a + size c) → Stands image (a + size c + expr_size e) (Brnz a) (raised lat g e m) → (n : ℕ) (s : Core E) → Part c a ops os n s → ((k : ℕ) (s1 : Core E) → k < n → steps v image k (at a ops os s1) ≡ y → LoopPart m e c a ops os k s1) → LoopPart m e c a ops os n s
     turn_part m e c a ops os he hi n s b next = turn (holds (value_of e b.after.memory)) refl
       where
         rm : Marks
@@ -121,18 +121,18 @@ module _ {E : Type 0} (v : Env E) (image : List Instr) where
         turn false f = record { after = s2; run = last b.run f; rest = wider n (suc n) _ (omega arith) (test false f) }
         turn true f = more f (test true f)
 
-    loop_part : (m : Marks) (e : Expr) (c : Marked) (a : ℕ) (ops : List ℤ) (os : List Opened) → Passes c a ops os → HasExpr image (raised lat g e m) e (a + size c) → Stands image (a + size c + expr_size e) (Brnz a) (raised lat g e m) → (fuel n : ℕ) (s : Core E) → n ≤ fuel → steps v image n (at a ops os s) ≡ y → LoopPart m e c a ops os n s
+    loop_part : (m : Marks) (e : Expression) (c : Marked) (a : ℕ) (ops : List ℤ) (os : List Opened) → Passes c a ops os → HasExpr image (raised lat g e m) e (a + size c) → Stands image (a + size c + expr_size e) (Brnz a) (raised lat g e m) → (fuel n : ℕ) (s : Core E) → n ≤ fuel → steps v image n (at a ops os s) ≡ y → LoopPart m e c a ops os n s
     loop_part m e c a ops os body he hi zero n s le h = turn_part m e c a ops os he hi n s (body n s h) (λ k s1 less h1. absurd (omega arith))
     loop_part m e c a ops os body he hi (suc fuel) n s le h = turn_part m e c a ops os he hi n s (body n s h) (λ k s1 less h1. loop_part m e c a ops os body he hi fuel k s1 (omega arith) h1)
 
     -- a loop from where a part ended
-    inside_loop : (m : Marks) (e : Expr) (c : Marked) (a : ℕ) (ops : List ℤ) (os : List Opened) (n : ℕ) (s : Core E) → Passes c a ops os → HasExpr image (raised lat g e m) e (a + size c) → Stands image (a + size c + expr_size e) (Brnz a) (raised lat g e m) → Onward n (at a ops os s) → LoopPart m e c a ops os n s
+    inside_loop : (m : Marks) (e : Expression) (c : Marked) (a : ℕ) (ops : List ℤ) (os : List Opened) (n : ℕ) (s : Core E) → Passes c a ops os → HasExpr image (raised lat g e m) e (a + size c) → Stands image (a + size c + expr_size e) (Brnz a) (raised lat g e m) → Onward n (at a ops os s) → LoopPart m e c a ops os n s
     inside_loop m e c a ops os n s body he hi (on left l h) =
         let r = loop_part m e c a ops os body he hi left left s (omega arith) h in
         record { after = r.after; run = r.run; rest = wider (suc left) (suc n) _ (omega arith) r.rest }
     inside_loop m e c a ops os n s body he hi (cut i l h) = record { after = s; run = late l; rest = cut i l h }
 
-    if_apart : (m : Marks) (e : Expr) (c d r : Marked) (a : ℕ) → HasCode lat g image (If m e c d r) a → (ops : List ℤ) (os : List Opened) → Passes c (a + expr_size e + 1) ops os → Passes d (a + expr_size e + 1 + size c + 1) ops os → Passes r (a + expr_size e + 1 + size c + 1 + size d) ops os → Passes (If m e c d r) a ops os
+    if_apart : (m : Marks) (e : Expression) (c d r : Marked) (a : ℕ) → HasCode lat g image (If m e c d r) a → (ops : List ℤ) (os : List Opened) → Passes c (a + expr_size e + 1) ops os → Passes d (a + expr_size e + 1 + size c + 1) ops os → Passes r (a + expr_size e + 1 + size c + 1 + size d) ops os → Passes (If m e c d r) a ops os
     if_apart m e c d r a code ops os pc pd pr n s h = turn (holds (value_of e s.memory)) refl
       where
         b : ℕ
@@ -162,7 +162,7 @@ module _ {E : Type 0} (v : Env E) (image : List Instr) where
             let x = beyond d (j + 1) ops os n s0 pd (test false f) in
             joined (If m e c d r) r a q ops os n s x.after (omega arith) (λ s' z. if_false f x.run z) (inside r q ops os n x.after pr x.rest)
 
-    while_apart : (m : Marks) (e : Expr) (c r : Marked) (a : ℕ) → HasCode lat g image (While m e c r) a → (ops : List ℤ) (os : List Opened) → Passes c (a + expr_size e + 1) ops os → Passes r (a + expr_size e + 1 + size c + expr_size e + 1) ops os → Passes (While m e c r) a ops os
+    while_apart : (m : Marks) (e : Expression) (c r : Marked) (a : ℕ) → HasCode lat g image (While m e c r) a → (ops : List ℤ) (os : List Opened) → Passes c (a + expr_size e + 1) ops os → Passes r (a + expr_size e + 1 + size c + expr_size e + 1) ops os → Passes (While m e c r) a ops os
     while_apart m e c r a code ops os pc pr n s h = turn (holds (value_of e s.memory)) refl
       where
         b : ℕ

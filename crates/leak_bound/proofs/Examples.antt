@@ -1,8 +1,8 @@
 -- Small programs worked out by the definitions alone, in an environment without penalties and with two labels.
-use Rattle.std.proofs.Common.{◌≡◌, ◌+◌, List, [], ◌∷◌, ◌++◌, Box, Global, refl}
+use Rattle.std.proofs.Common.{◌≡◌, ◌+◌, List, [], ◌∷◌, ◌++◌, refl}
 use Rattle.std.specs.Prelude.{ℕ, cond, pos, negsuc, leb, eqb, max, Bool, true, false, ◌&&◌}
 use Rattle.mit_syntax.specs.declared.ast.Op.TheVariants.{Add, Lt}
-use Rattle.mit_syntax.specs.declared.ast.Expr.TheVariants.{Number, Variable, Binary', Element'}
+use Rattle.mit_syntax.specs.Expression.{Number, Variable, Binary, Element}
 use Rattle.mit_syntax.specs.Todo.{Marks, Marked, Done, Skip, Assign, Put, Sleep, If, While, Mitigate}
 use Rattle.label_lattice.specs.Lattice.{Lattice}
 use Rattle.source_meaning.specs.Source.{trace_of, HasEnded}
@@ -38,38 +38,38 @@ abbrev from : ℕ → Start ℕ
 from h = record { memory = pos 0 ∷ pos h ∷ []; env = 0 }
 
 -- mitigate (1, H) { while 0 < h do { h := h + -1 } }; l := 1
-abbrev waits : Box (Unit {0}) Global → Marked
-waits p =
+abbrev waits : Marked
+waits =
     Mitigate (mark 0 0) 0 1 (Number (pos 1))
-    (While (mark 0 0) (Binary' Lt p (Number (pos 0)) p (Variable 1)) (Assign (mark 1 1) 1 (Binary' Add p (Variable 1) p (Number (negsuc 0))) Done) Done)
+    (While (mark 0 0) (Binary Lt (Number (pos 0)) (Variable 1)) (Assign (mark 1 1) 1 (Binary Add (Variable 1) (Number (negsuc 0))) Done) Done)
     (Assign (mark 0 0) 0 (Number (pos 1)) Done)
 
-waits_log : (p : Box (Unit {0}) Global) → (run_from flat (image (waits p)) 40 (from 3)).core.log
+waits_log : (run_from flat (image waits) 40 (from 3)).core.log
     ≡ Began 0 2 ∷ Wrote 1 (pos 2) 10 ∷ Wrote 1 (pos 1) 18 ∷ Wrote 1 (pos 0) 26 ∷ Ended 0 34 ∷ Wrote 0 (pos 1) 36 ∷ []
-waits_log p = refl
+waits_log = refl
 
 -- its one mitigate is relevant for label 0, not for label 1, and begins once
-waits_relevant : (p : Box (Unit {0}) Global) → is_relevant two own 0 (waits p) 0 ≡ true
-waits_relevant p = refl
+waits_relevant : is_relevant two own 0 waits 0 ≡ true
+waits_relevant = refl
 
-waits_plain : (p : Box (Unit {0}) Global) → is_relevant two own 1 (waits p) 0 ≡ false
-waits_plain p = refl
+waits_plain : is_relevant two own 1 waits 0 ≡ false
+waits_plain = refl
 
-waits_begins : (p : Box (Unit {0}) Global) → Begins two own 0 (waits p) (pos 0 ∷ pos 3 ∷ []) 1
-waits_begins p = (9, refl, refl)
+waits_begins : Begins two own 0 waits (pos 0 ∷ pos 3 ∷ []) 1
+waits_begins = (9, refl, refl)
 
 -- cut at 20 one run shows its assignment and the other none yet
-cut_first : (p : Box (Unit {0}) Global) → seen_from flat two own (image (waits p)) 0 20 (from 0) ≡ Wrote 0 (pos 1) 12 ∷ []
-cut_first p = refl
+cut_first : seen_from flat two own (image waits) 0 20 (from 0) ≡ Wrote 0 (pos 1) 12 ∷ []
+cut_first = refl
 
-cut_second : (p : Box (Unit {0}) Global) → seen_from flat two own (image (waits p)) 0 20 (from 3) ≡ []
-cut_second p = refl
+cut_second : seen_from flat two own (image waits) 0 20 (from 3) ≡ []
+cut_second = refl
 
-cut_ended : (p : Box (Unit {0}) Global) → most_ended flat (image (waits p)) (is_relevant two own 0 (waits p)) 20 (from 0 ∷ from 3 ∷ []) ≡ 1
-cut_ended p = refl
+cut_ended : most_ended flat (image waits) (is_relevant two own 0 waits) 20 (from 0 ∷ from 3 ∷ []) ≡ 1
+cut_ended = refl
 
-cut_distinct : (p : Box (Unit {0}) Global) → distinct_count same_events (views (seen_from flat two own (image (waits p)) 0 20) (from 0 ∷ from 3 ∷ [])) ≡ 2
-cut_distinct p = refl
+cut_distinct : distinct_count same_events (views (seen_from flat two own (image waits) 0 20) (from 0 ∷ from 3 ∷ [])) ≡ 2
+cut_distinct = refl
 
 cut_digits : digits 20 ≡ 5
 cut_digits = refl
@@ -88,27 +88,27 @@ spins_distinct : distinct_count same_events (views (seen_from flat two own (imag
 spins_distinct = refl
 
 -- var a[4] : L; a[5] := 7; a[0 + -1] := 8
-abbrev wraps : Box (Unit {0}) Global → Marked
-wraps p = Put (mark 0 0) 0 4 (Number (pos 5)) (Number (pos 7)) (Put (mark 0 0) 0 4 (Binary' Add p (Number (pos 0)) p (Number (negsuc 0))) (Number (pos 8)) Done)
+abbrev wraps : Marked
+wraps = Put (mark 0 0) 0 4 (Number (pos 5)) (Number (pos 7)) (Put (mark 0 0) 0 4 (Binary Add (Number (pos 0)) (Number (negsuc 0))) (Number (pos 8)) Done)
 
 abbrev zeros : Start ℕ
 zeros = record { memory = pos 0 ∷ pos 0 ∷ pos 0 ∷ pos 0 ∷ []; env = 0 }
 
-wraps_log : (p : Box (Unit {0}) Global) → (run_from flat (image (wraps p)) 40 zeros).core.log ≡ Wrote 1 (pos 7) 3 ∷ Wrote 3 (pos 8) 8 ∷ []
-wraps_log p = refl
+wraps_log : (run_from flat (image wraps) 40 zeros).core.log ≡ Wrote 1 (pos 7) 3 ∷ Wrote 3 (pos 8) 8 ∷ []
+wraps_log = refl
 
-wraps_end : (p : Box (Unit {0}) Global) → (run_from flat (image (wraps p)) 40 zeros).core.clock ≡ 9
-wraps_end p = refl
+wraps_end : (run_from flat (image wraps) 40 zeros).core.clock ≡ 9
+wraps_end = refl
 
 -- var a[3] : L; var i : L; a[4] := 5; i := a[0 + -2]; a[i] := 1
-abbrev meant : Box (Unit {0}) Global → Marked
-meant p =
+abbrev meant : Marked
+meant =
     Put (mark 0 0) 0 3 (Number (pos 4)) (Number (pos 5))
-    (Assign (mark 0 0) 3 (Element' 0 3 p (Binary' Add p (Number (pos 0)) p (Number (negsuc 1))))
+    (Assign (mark 0 0) 3 (Element 0 3 (Binary Add (Number (pos 0)) (Number (negsuc 1))))
     (Put (mark 0 0) 0 3 (Variable 3) (Number (pos 1)) Done))
 
-meant_trace : (p : Box (Unit {0}) Global) → trace_of (meant p) zeros.memory 9 ≡ (1, pos 5) ∷ (3, pos 5) ∷ (2, pos 1) ∷ []
-meant_trace p = refl
+meant_trace : trace_of meant zeros.memory 9 ≡ (1, pos 5) ∷ (3, pos 5) ∷ (2, pos 1) ∷ []
+meant_trace = refl
 
-meant_ended : (p : Box (Unit {0}) Global) → HasEnded (meant p) zeros.memory 3
-meant_ended p = refl
+meant_ended : HasEnded meant zeros.memory 3
+meant_ended = refl

@@ -3,8 +3,8 @@ use Rattle.std.proofs.Common.{◌≡◌, ℕ, ◌+◌, ◌-◌, ◌*◌, ◌^◌
 use Rattle.std.specs.Prelude.{ℤ, pos, eqb}
 use Rattle.std.proofs.lemmas.Bool.{cond-false, false_from_ne_true, ne_eqb}
 use Rattle.std.proofs.lemmas.List.{get_or-set_other, length-set}
-use Rattle.mit_syntax.specs.declared.ast.Expr.{Expr}
-use Rattle.mit_syntax.specs.declared.ast.Expr.TheVariants.{Number, Variable, Binary', Element'}
+use Rattle.mit_syntax.specs.Expression.{Expression}
+use Rattle.mit_syntax.specs.Expression.{Number, Variable, Binary, Element}
 use Rattle.mit_syntax.specs.Todo.{Marks}
 use Rattle.mit_syntax.specs.Values.{element, read, value_of}
 use Rattle.label_code.specs.Costs.{op_cost}
@@ -81,23 +81,23 @@ module _ {E : Type 0} {serves : E → Type 0} (v : Env E) (lat : Lattice) (ll : 
   waited_same : (n : ℕ) (s : Core E) → Unchanged s (waited n s)
   waited_same n s = record { memory = λ x h. refl; long = refl; kept = λ c. c; parts = λ c q l h. refl; misses = λ l h. refl; seen = refl }
 
-  pub timed_high : (m : Marks) (e : Expr) (a : ℕ) (s : Core E) → High m.ew → Unchanged s (timed v m e a s)
+  pub timed_high : (m : Marks) (e : Expression) (a : ℕ) (s : Core E) → High m.ew → Unchanged s (timed v m e a s)
   timed_high m (Number n) a s h = fetched_high m a s h
   timed_high m (Variable x) a s h = unchanged_then s (fetched v m a s) _ (fetched_high m a s h) (touched_high m x (fetched v m a s) h)
-  timed_high m (Binary' op p l q r) a s h =
+  timed_high m (Binary op l r) a s h =
       let s1 = timed v m l a s in
       let s2 = timed v m r (a + expr_size l) s1 in
       let s3 = fetched v m (a + expr_size l + expr_size r) s2 in
       unchanged_then s s1 _ (timed_high m l a s h)
       (unchanged_then s1 s2 _ (timed_high m r (a + expr_size l) s1 h)
       (unchanged_then s2 s3 _ (fetched_high m (a + expr_size l + expr_size r) s2 h) (waited_same (op_cost op (value_of l s.memory) (value_of r s.memory)) s3)))
-  timed_high m (Element' f n p i) a s h =
+  timed_high m (Element f n i) a s h =
       let s1 = timed v m i a s in
       let s2 = fetched v m (a + expr_size i) s1 in
       unchanged_then s s1 _ (timed_high m i a s h)
       (unchanged_then s1 s2 _ (fetched_high m (a + expr_size i) s1 h) (touched_high m (element f n (value_of i s.memory)) s2 h))
 
-  pub tested_high : (m : Marks) (e : Expr) (a : ℕ) (s : Core E) → High m.ew → Unchanged s (tested v m e a s)
+  pub tested_high : (m : Marks) (e : Expression) (a : ℕ) (s : Core E) → High m.ew → Unchanged s (tested v m e a s)
   tested_high m e a s h = unchanged_then s (timed v m e a s) _ (timed_high m e a s h) (fetched_high m (a + expr_size e) (timed v m e a s) h)
 
   pub written_high : (x : ℕ) (n : ℤ) (s : Core E) → High (g x) → Unchanged s (written x n s)
@@ -138,7 +138,7 @@ module _ {E : Type 0} {serves : E → Type 0} (v : Env E) (lat : Lattice) (ll : 
   Secret (Do p a) = (pc : ℕ) × (t : ℕ) × (end : ℕ) × Types lat g pc t p end × Flows lat pc t × ArraysIn g p × High pc
   Secret (Loop m e c a) = (pc : ℕ) × (t : ℕ) × (end : ℕ) × Types lat g pc t c end × Flows lat pc t × ArraysIn g c × High pc × High (raised lat g e m).ew
 
-  ew_up : (pc : ℕ) (m : Marks) (e : Expr) → High pc → Flows lat (lat.join pc (index_label lat g e)) m.ew → High m.ew
+  ew_up : (pc : ℕ) (m : Marks) (e : Expression) → High pc → Flows lat (lat.join pc (index_label lat g e)) m.ew → High m.ew
   ew_up pc m e h q = high_up pc m.ew h (pc_to_ew lat ll g pc m e q)
 
   pub high_run : {j : Job} {s s' : Core E} → Secret j → Runs v lat g lim j s s' → Unchanged s s'

@@ -1,7 +1,7 @@
 -- A run from a label that is not low shows nothing.
 use Rattle.std.proofs.Common.{◌≡◌, ℕ, ◌+◌, ◌<◌, ◌≤◌, List, [], ◌∷◌, refl, ap, ◌∙◌, subst}
 use Rattle.std.proofs.lemmas.Bool.{cond-false, false_from_ne_true}
-use Rattle.mit_syntax.specs.declared.ast.Expr.{Expr}
+use Rattle.mit_syntax.specs.Expression.{Expression}
 use Rattle.mit_syntax.specs.Todo.{Marks}
 use Rattle.mit_syntax.specs.Values.{element, value_of}
 use Rattle.label_lattice.specs.Lattice.{Lattice, Flows, IsLattice}
@@ -29,7 +29,7 @@ module _ {E : Type 0} {serves : E → Type 0} (v : Env E) (lat : Lattice) (ll : 
   abbrev see : Core E → List Event
   see s = shown lat g o lim s.log
 
-  tested_see : (m : Marks) (e : Expr) (a : ℕ) (s : Core E) → see (tested v m e a s) ≡ see s
+  tested_see : (m : Marks) (e : Expression) (a : ℕ) (s : Core E) → see (tested v m e a s) ≡ see s
   tested_see m e a s = ap (shown lat g o lim) (timed_log v m e a s)
 
   up : (a b : ℕ) → (Flows lat a o → ⊥) → Flows lat a b → Flows lat b o → ⊥

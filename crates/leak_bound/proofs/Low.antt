@@ -3,8 +3,8 @@ use Rattle.std.proofs.Common.{◌≡◌, ℕ, ◌+◌, ◌-◌, ◌*◌, ◌^◌
 use Rattle.std.specs.Prelude.{Bool, true, false, cond, ℤ, pos, slice_set, leb}
 use Rattle.std.proofs.lemmas.Bool.{cond-false, cases_eq, cases_lt, cases_Bool, both_ways}
 use Rattle.std.proofs.lemmas.List.{get_or-set_other, get_or-set_same, set_past, length-set}
-use Rattle.mit_syntax.specs.declared.ast.Expr.{Expr}
-use Rattle.mit_syntax.specs.declared.ast.Expr.TheVariants.{Number, Variable, Binary', Element'}
+use Rattle.mit_syntax.specs.Expression.{Expression}
+use Rattle.mit_syntax.specs.Expression.{Number, Variable, Binary, Element}
 use Rattle.mit_syntax.specs.Todo.{Marks}
 use Rattle.mit_syntax.specs.Values.{apply, element, read, value_of}
 use Rattle.label_code.specs.Costs.{op_cost}
@@ -148,61 +148,61 @@ module _ {E : Type 0} {serves : E → Type 0} (v : Env E) (lat : Lattice) (ll : 
       still_same s s' _ _ h (touched_high v lat ll laws g o lim m x s ew) (touched_high v lat ll laws g o lim m x' s' ew))
 
   -- what the code of an expression with these labels needs: li <= ew
-  abbrev pub Fit : Marks → Expr → Type 0
+  abbrev pub Fit : Marks → Expression → Type 0
   Fit m e = Flows lat (index_label lat g e) m.ew × HasArrays g e
 
-  pub fit_of : (pc : ℕ) (m : Marks) (e : Expr) → Flows lat (lat.join pc (index_label lat g e)) m.ew → HasArrays g e → Fit m e
+  pub fit_of : (pc : ℕ) (m : Marks) (e : Expression) → Flows lat (lat.join pc (index_label lat g e)) m.ew → HasArrays g e → Fit m e
   fit_of pc m e q k = (from_right lat ll g pc (index_label lat g e) m.ew q, k)
 
-  pub fit_raised : (m : Marks) (e : Expr) → Fit m e → Fit (raised lat g e m) e
+  pub fit_raised : (m : Marks) (e : Expression) → Fit m e → Fit (raised lat g e m) e
   fit_raised m e f = (ll.chain (index_label lat g e) m.ew _ f.0 (ll.left m.ew (label_of lat g e)), f.1)
 
   -- what stands in an index stands in the expression
-  index_flows : (e : Expr) → Flows lat (index_label lat g e) (label_of lat g e)
+  index_flows : (e : Expression) → Flows lat (index_label lat g e) (label_of lat g e)
   index_flows (Number n) = ll.same lat.bottom
   index_flows (Variable x) = ll.lowest (g x)
-  index_flows (Binary' op p l q r) =
-      let j = label_of lat g (Binary' op p l q r) in
+  index_flows (Binary op l r) =
+      let j = label_of lat g (Binary op l r) in
       ll.least (index_label lat g l) (index_label lat g r) j
       (ll.chain _ (label_of lat g l) j (index_flows l) (ll.left (label_of lat g l) (label_of lat g r)))
       (ll.chain _ (label_of lat g r) j (index_flows r) (ll.right (label_of lat g l) (label_of lat g r)))
-  index_flows (Element' f n p i) = ll.right (g f) (label_of lat g i)
+  index_flows (Element f n i) = ll.right (g f) (label_of lat g i)
 
   -- an index whose labels flow to the write label
-  pub fit_index : (m : Marks) (i : Expr) → Flows lat (label_of lat g i) m.ew → HasArrays g i → Fit m i
+  pub fit_index : (m : Marks) (i : Expression) → Flows lat (label_of lat g i) m.ew → HasArrays g i → Fit m i
   fit_index m i f a = (ll.chain (index_label lat g i) (label_of lat g i) m.ew (index_flows i) f, a)
 
-  fit_left : (m : Marks) (l r : Expr) → Flows lat (lat.join (index_label lat g l) (index_label lat g r)) m.ew → HasArrays g l → Fit m l
+  fit_left : (m : Marks) (l r : Expression) → Flows lat (lat.join (index_label lat g l) (index_label lat g r)) m.ew → HasArrays g l → Fit m l
   fit_left m l r f a = (from_left lat ll g (index_label lat g l) (index_label lat g r) m.ew f, a)
 
-  fit_right : (m : Marks) (l r : Expr) → Flows lat (lat.join (index_label lat g l) (index_label lat g r)) m.ew → HasArrays g r → Fit m r
+  fit_right : (m : Marks) (l r : Expression) → Flows lat (lat.join (index_label lat g l) (index_label lat g r)) m.ew → HasArrays g r → Fit m r
   fit_right m l r f a = (from_right lat ll g (index_label lat g l) (index_label lat g r) m.ew f, a)
 
-  pub value_low : (e : Expr) (s s' : Core E) → HasArrays g e → SameLow s s' → Low (label_of lat g e) → value_of e s.memory ≡ value_of e s'.memory
+  pub value_low : (e : Expression) (s s' : Core E) → HasArrays g e → SameLow s s' → Low (label_of lat g e) → value_of e s.memory ≡ value_of e s'.memory
   value_low (Number n) s s' k h low = refl
   value_low (Variable x) s s' k h low = h.memory x low
-  value_low (Binary' op p l q r) s s' k h low =
+  value_low (Binary op l r) s s' k h low =
       let a = value_low l s s' k.0 h (from_left lat ll g (label_of lat g l) (label_of lat g r) o low) in
       let b = value_low r s s' k.1 h (from_right lat ll g (label_of lat g l) (label_of lat g r) o low) in
       ap (λ x. apply op x (value_of r s.memory)) a ∙ ap (λ x. apply op (value_of l s'.memory) x) b
-  value_low (Element' f n p i) s s' k h low =
+  value_low (Element f n i) s s' k h low =
       let a = value_low i s s' k.1 h (from_right lat ll g (g f) (label_of lat g i) o low) in
       let here = subst (λ z. Low z) (sym (element_label g f n (value_of i s'.memory) k.0)) (from_left lat ll g (g f) (label_of lat g i) o low) in
       ap (λ z. read s.memory (element f n z)) a ∙ h.memory (element f n (value_of i s'.memory)) here
 
-  pub timed_low : (m : Marks) (e : Expr) (a : ℕ) (s s' : Core E) → Fit m e → SameLow s s' → SameLow (timed v m e a s) (timed v m e a s')
+  pub timed_low : (m : Marks) (e : Expression) (a : ℕ) (s s' : Core E) → Fit m e → SameLow s s' → SameLow (timed v m e a s) (timed v m e a s')
   timed_low m (Number n) a s s' k h = fetched_low m a s s' h
   timed_low m (Variable x) a s s' k h = touched_low m x _ _ (fetched_low m a s s' h)
-  timed_low m (Binary' op p l q r) a s s' k h =
+  timed_low m (Binary op l r) a s s' k h =
       waited_low _ _ _ _ (fetched_low m (a + expr_size l + expr_size r) _ _ (timed_low m r (a + expr_size l) _ _ (fit_right m l r k.0 k.1.1) (timed_low m l a s s' (fit_left m l r k.0 k.1.0) h)))
-  timed_low m (Element' f n p i) a s s' k h =
+  timed_low m (Element f n i) a s s' k h =
       touched_two m (label_of lat g i) _ _ _ _ k.0 (λ low. ap (element f n) (value_low i s s' k.1.1 h low))
       (fetched_low m (a + expr_size i) _ _ (timed_low m i a s s' (fit_index m i k.0 k.1.1) h))
 
-  pub tested_low : (m : Marks) (e : Expr) (a : ℕ) (s s' : Core E) → Fit m e → SameLow s s' → SameLow (tested v m e a s) (tested v m e a s')
+  pub tested_low : (m : Marks) (e : Expression) (a : ℕ) (s s' : Core E) → Fit m e → SameLow s s' → SameLow (tested v m e a s) (tested v m e a s')
   tested_low m e a s s' k h = fetched_low m (a + expr_size e) _ _ (timed_low m e a s s' k h)
 
-  pub reached_low : (m : Marks) (i e : Expr) (a : ℕ) (s s' : Core E) → Fit m i → Fit m e → SameLow s s' → SameLow (reached v m i e a s) (reached v m i e a s')
+  pub reached_low : (m : Marks) (i e : Expression) (a : ℕ) (s s' : Core E) → Fit m i → Fit m e → SameLow s s' → SameLow (reached v m i e a s) (reached v m i e a s')
   reached_low m i e a s s' k q h = tested_low m e (a + expr_size i) _ _ q (timed_low m i a s s' k h)
 
   -- costs of an access with a low read label
@@ -219,10 +219,10 @@ module _ {E : Type 0} {serves : E → Type 0} (v : Env E) (lat : Lattice) (ll : 
   pub touched_two_time : (m : Marks) (x x' : ℕ) (s s' : Core E) → x ≡ x' → SameLow s s' → Low m.er → Alike s.clock s'.clock → Alike (touched v m x s).clock (touched v m x' s').clock
   touched_two_time m x x' s s' e h low c = subst (λ z. Alike (touched v m x s).clock (touched v m z s').clock) e (touched_time m x s s' h low c)
 
-  pub timed_time : (m : Marks) (e : Expr) (a : ℕ) (s s' : Core E) → Fit m e → SameLow s s' → Low m.er → Low (label_of lat g e) → Alike s.clock s'.clock → Alike (timed v m e a s).clock (timed v m e a s').clock
+  pub timed_time : (m : Marks) (e : Expression) (a : ℕ) (s s' : Core E) → Fit m e → SameLow s s' → Low m.er → Low (label_of lat g e) → Alike s.clock s'.clock → Alike (timed v m e a s).clock (timed v m e a s').clock
   timed_time m (Number n) a s s' k h low le c = fetched_time m a s s' h low c
   timed_time m (Variable x) a s s' k h low le c = touched_time m x _ _ (fetched_low m a s s' h) low (fetched_time m a s s' h low c)
-  timed_time m (Binary' op p l q r) a s s' k h low le c =
+  timed_time m (Binary op l r) a s s' k h low le c =
       let ll_ = from_left lat ll g (label_of lat g l) (label_of lat g r) o le in
       let lr = from_right lat ll g (label_of lat g l) (label_of lat g r) o le in
       let kl = fit_left m l r k.0 k.1.0 in
@@ -236,31 +236,31 @@ module _ {E : Type 0} {serves : E → Type 0} (v : Env E) (lat : Lattice) (ll : 
       let vr = value_low r s s' k.1.1 h lr in
       let cost = ap (λ x. op_cost op x (value_of r s.memory)) vl ∙ ap (λ x. op_cost op (value_of l s'.memory) x) vr in
       alike_add _ _ _ _ cost c3
-  timed_time m (Element' f n p i) a s s' k h low le c =
+  timed_time m (Element f n i) a s s' k h low le c =
       let low_i = from_right lat ll g (g f) (label_of lat g i) o le in
       let ki = fit_index m i k.0 k.1.1 in
       let h1 = timed_low m i a s s' ki h in
       let c1 = timed_time m i a s s' ki h low low_i c in
       touched_two_time m _ _ _ _ (ap (element f n) (value_low i s s' k.1.1 h low_i)) (fetched_low m (a + expr_size i) _ _ h1) low (fetched_time m (a + expr_size i) _ _ h1 low c1)
 
-  pub tested_time : (m : Marks) (e : Expr) (a : ℕ) (s s' : Core E) → Fit m e → SameLow s s' → Low m.er → Low (label_of lat g e) → Alike s.clock s'.clock → Alike (tested v m e a s).clock (tested v m e a s').clock
+  pub tested_time : (m : Marks) (e : Expression) (a : ℕ) (s s' : Core E) → Fit m e → SameLow s s' → Low m.er → Low (label_of lat g e) → Alike s.clock s'.clock → Alike (tested v m e a s).clock (tested v m e a s').clock
   tested_time m e a s s' k h low le c = fetched_time m (a + expr_size e) _ _ (timed_low m e a s s' k h) low (timed_time m e a s s' k h low le c)
 
   -- an expression's code changes no memory, no misses and no log
-  pub timed_memory : (m : Marks) (e : Expr) (a : ℕ) (s : Core E) → (timed v m e a s).memory ≡ s.memory
+  pub timed_memory : (m : Marks) (e : Expression) (a : ℕ) (s : Core E) → (timed v m e a s).memory ≡ s.memory
   timed_memory m (Number n) a s = refl
   timed_memory m (Variable x) a s = refl
-  timed_memory m (Binary' op p l q r) a s = timed_memory m r (a + expr_size l) _ ∙ timed_memory m l a s
-  timed_memory m (Element' f n p i) a s = timed_memory m i a s
+  timed_memory m (Binary op l r) a s = timed_memory m r (a + expr_size l) _ ∙ timed_memory m l a s
+  timed_memory m (Element f n i) a s = timed_memory m i a s
 
-  pub timed_misses : (m : Marks) (e : Expr) (a : ℕ) (s : Core E) → (timed v m e a s).misses ≡ s.misses
+  pub timed_misses : (m : Marks) (e : Expression) (a : ℕ) (s : Core E) → (timed v m e a s).misses ≡ s.misses
   timed_misses m (Number n) a s = refl
   timed_misses m (Variable x) a s = refl
-  timed_misses m (Binary' op p l q r) a s = timed_misses m r (a + expr_size l) _ ∙ timed_misses m l a s
-  timed_misses m (Element' f n p i) a s = timed_misses m i a s
+  timed_misses m (Binary op l r) a s = timed_misses m r (a + expr_size l) _ ∙ timed_misses m l a s
+  timed_misses m (Element f n i) a s = timed_misses m i a s
 
   -- after the code of an expression
-  pub timed_timing : (m : Marks) (e : Expr) (a t t1 : ℕ) (s s' : Core E) → Fit m e → SameLow s s' → Flows lat t t1 → Flows lat (label_of lat g e) t1 → Flows lat m.er t1 → Timing t s s' → Timing t1 (timed v m e a s) (timed v m e a s')
+  pub timed_timing : (m : Marks) (e : Expression) (a t t1 : ℕ) (s s' : Core E) → Fit m e → SameLow s s' → Flows lat t t1 → Flows lat (label_of lat g e) t1 → Flows lat m.er t1 → Timing t s s' → Timing t1 (timed v m e a s) (timed v m e a s')
   timed_timing m e a t t1 s s' k h ft fl fe w =
       record {
         seen = ap (shown lat g o lim) (timed_log v m e a s) ∙ w.seen ∙ sym (ap (shown lat g o lim) (timed_log v m e a s'));
@@ -269,7 +269,7 @@ module _ {E : Type 0} {serves : E → Type 0} (v : Env E) (lat : Lattice) (ll : 
       }
 
   -- after the code of an expression and the instruction below it
-  pub tested_timing : (m : Marks) (e : Expr) (a t t1 : ℕ) (s s' : Core E) → Fit m e → SameLow s s' → Flows lat t t1 → Flows lat (label_of lat g e) t1 → Flows lat m.er t1 → Timing t s s' → Timing t1 (tested v m e a s) (tested v m e a s')
+  pub tested_timing : (m : Marks) (e : Expression) (a t t1 : ℕ) (s s' : Core E) → Fit m e → SameLow s s' → Flows lat t t1 → Flows lat (label_of lat g e) t1 → Flows lat m.er t1 → Timing t s s' → Timing t1 (tested v m e a s) (tested v m e a s')
   tested_timing m e a t t1 s s' k h ft fl fe w =
       record {
         seen = ap (shown lat g o lim) (timed_log v m e a s) ∙ w.seen ∙ sym (ap (shown lat g o lim) (timed_log v m e a s'));
@@ -278,7 +278,7 @@ module _ {E : Type 0} {serves : E → Type 0} (v : Env E) (lat : Lattice) (ll : 
       }
 
   -- after the code of an index and a value and the instruction below them
-  pub reached_timing : (m : Marks) (i e : Expr) (a t t1 : ℕ) (s s' : Core E) → Fit m i → Fit m e → SameLow s s' → Flows lat t t1 → Flows lat (label_of lat g i) t1 → Flows lat (label_of lat g e) t1 → Flows lat m.er t1 → Timing t s s' → Timing t1 (reached v m i e a s) (reached v m i e a s')
+  pub reached_timing : (m : Marks) (i e : Expression) (a t t1 : ℕ) (s s' : Core E) → Fit m i → Fit m e → SameLow s s' → Flows lat t t1 → Flows lat (label_of lat g i) t1 → Flows lat (label_of lat g e) t1 → Flows lat m.er t1 → Timing t s s' → Timing t1 (reached v m i e a s) (reached v m i e a s')
   reached_timing m i e a t t1 s s' k q h ft fi fl fe w =
       tested_timing m e (a + expr_size i) t1 t1 _ _ q (timed_low m i a s s' k h) (ll.same t1) fl fe (timed_timing m i a t t1 s s' k h ft fi fe w)
 

@@ -2,8 +2,8 @@
 use Rattle.std.proofs.Common.{◌≡◌, ℕ, ◌+◌, ◌-◌, List, [], ◌∷◌, ◌++◌, length, length-append, refl, ap, ◌∙◌, arith}
 use Rattle.std.specs.Prelude.{Bool, true, false, cond, not, ◌&&◌, ℤ, leb}
 use Rattle.std.proofs.lemmas.Bool.{cond-false, false_from_ne_true, both_ways}
-use Rattle.mit_syntax.specs.declared.ast.Expr.{Expr}
-use Rattle.mit_syntax.specs.declared.ast.Expr.TheVariants.{Number, Variable, Binary', Element'}
+use Rattle.mit_syntax.specs.Expression.{Expression}
+use Rattle.mit_syntax.specs.Expression.{Number, Variable, Binary, Element}
 use Rattle.mit_syntax.specs.Todo.{Marks}
 use Rattle.mit_syntax.specs.Values.{element, value_of}
 use Rattle.label_lattice.specs.Lattice.{Lattice, Flows, IsLattice}
@@ -35,11 +35,11 @@ one_more rel lim es e = ap (ended_count rel) (upto-append lim es (e ∷ [])) ∙
     go true = refl
     go false = refl
 
-log_same : {E : Type 0} (v : Env E) (m : Marks) (e : Expr) (a : ℕ) (s : Core E) → (timed v m e a s).log ≡ s.log
+log_same : {E : Type 0} (v : Env E) (m : Marks) (e : Expression) (a : ℕ) (s : Core E) → (timed v m e a s).log ≡ s.log
 log_same v m (Number n) a s = refl
 log_same v m (Variable x) a s = refl
-log_same v m (Binary' op p l q r) a s = log_same v m r (a + expr_size l) _ ∙ log_same v m l a s
-log_same v m (Element' f n p i) a s = log_same v m i a s
+log_same v m (Binary op l r) a s = log_same v m r (a + expr_size l) _ ∙ log_same v m l a s
+log_same v m (Element f n i) a s = log_same v m i a s
 
 module _ {E : Type 0} {serves : E → Type 0} (v : Env E) (lat : Lattice) (ll : IsLattice lat) (laws : IsLawful v lat serves) (g : ℕ → ℕ) (o lim : ℕ) (rel : ℕ → Bool) where
   abbrev TellsJob : ℕ → Job → Type 0
@@ -49,10 +49,10 @@ module _ {E : Type 0} {serves : E → Type 0} (v : Env E) (lat : Lattice) (ll : 
   abbrev count : Core E → ℕ
   count s = ended_count rel (upto lim s.log)
 
-  tested_count : (m : Marks) (e : Expr) (a : ℕ) (s : Core E) → count (tested v m e a s) ≡ count s
+  tested_count : (m : Marks) (e : Expression) (a : ℕ) (s : Core E) → count (tested v m e a s) ≡ count s
   tested_count m e a s = ap (λ z. ended_count rel (upto lim z)) (log_same v m e a s)
 
-  reached_count : (m : Marks) (i e : Expr) (a : ℕ) (s : Core E) → count (reached v m i e a s) ≡ count s
+  reached_count : (m : Marks) (i e : Expression) (a : ℕ) (s : Core E) → count (reached v m i e a s) ≡ count s
   reached_count m i e a s = ap (λ z. ended_count rel (upto lim z)) (reached_log v m i e a s)
 
   nought : (b : Bool) → cond {A = ℕ} b 0 0 ≡ 0

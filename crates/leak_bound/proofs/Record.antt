@@ -3,8 +3,8 @@ use Rattle.std.proofs.Common.{◌≡◌, ℕ, zero, suc, ◌+◌, ◌-◌, ◌*�
 use Rattle.std.specs.Prelude.{Bool, true, false, cond, max, eqb, leb}
 use Rattle.std.proofs.Math.Nat.{pow-zero, two-pow-succ, le-max_right, mul-le-mul_right}
 use Rattle.std.proofs.lemmas.Bool.{leb-true, leb-false, eqb-true, eq-eqb}
-use Rattle.mit_syntax.specs.declared.ast.Expr.{Expr}
-use Rattle.mit_syntax.specs.declared.ast.Expr.TheVariants.{Number, Variable, Binary', Element'}
+use Rattle.mit_syntax.specs.Expression.{Expression}
+use Rattle.mit_syntax.specs.Expression.{Number, Variable, Binary, Element}
 use Rattle.mit_syntax.specs.Todo.{Marks}
 use Rattle.mit_syntax.specs.Values.{element, value_of}
 use Rattle.doubling_schedule.specs.Doubling.{at_least_zero, prediction, misses_after}
@@ -111,13 +111,13 @@ grows_cond : {E : Type 0} (lim : ℕ) (b : Bool) (s s' : Core E) (a : List Entry
 grows_cond lim true s s' a x = x
 grows_cond lim false s s' a x = record { misses = x.misses; clock = x.clock; above = λ l. tt; under = λ l. tt; rises = tt; took = tt; none = λ far. refl; log = x.log }
 
-timed_miss : {E : Type 0} (v : Env E) (m : Marks) (e : Expr) (a : ℕ) (s : Core E) → (timed v m e a s).misses ≡ s.misses
+timed_miss : {E : Type 0} (v : Env E) (m : Marks) (e : Expression) (a : ℕ) (s : Core E) → (timed v m e a s).misses ≡ s.misses
 timed_miss v m (Number n) a s = refl
 timed_miss v m (Variable x) a s = refl
-timed_miss v m (Binary' op p l q r) a s = timed_miss v m r (a + expr_size l) _ ∙ timed_miss v m l a s
-timed_miss v m (Element' f n p i) a s = timed_miss v m i a s
+timed_miss v m (Binary op l r) a s = timed_miss v m r (a + expr_size l) _ ∙ timed_miss v m l a s
+timed_miss v m (Element f n i) a s = timed_miss v m i a s
 
-reached_miss : {E : Type 0} (v : Env E) (m : Marks) (i e : Expr) (a : ℕ) (s : Core E) → (reached v m i e a s).misses ≡ s.misses
+reached_miss : {E : Type 0} (v : Env E) (m : Marks) (i e : Expression) (a : ℕ) (s : Core E) → (reached v m i e a s).misses ≡ s.misses
 reached_miss v m i e a s = timed_miss v m e (a + expr_size i) (timed v m i a s) ∙ timed_miss v m i a s
 
 pub closed_grows : {E : Type 0} (lim : ℕ) (w : Opened) (q : Core E) → w.since ≤ q.clock → Grows lim q (closed w q) (cond (leb (closed w q).clock lim) ((w.level, misses_after w.estimate (q.clock - w.since) (q.misses w.level)) ∷ []) [])
@@ -156,7 +156,7 @@ closed_grows lim w q h = go (leb (closed w q).clock lim) refl
     go false by = record { misses = λ l. up l (eqb l w.level) refl; clock = omega (arith, enough); above = λ l. tt; under = λ l. tt; rises = tt; took = tt; none = λ far. refl; log = λ far. upto-late lim q.log (Ended w.mark (closed w q).clock) (omega (arith, enough)) }
 
 module _ {E : Type 0} (v : Env E) (lat : Lattice) (g : ℕ → ℕ) (o lim : ℕ) where
-  tested_upto : (m : Marks) (e : Expr) (a : ℕ) (s : Core E) → upto lim (tested v m e a s).log ≡ upto lim s.log
+  tested_upto : (m : Marks) (e : Expression) (a : ℕ) (s : Core E) → upto lim (tested v m e a s).log ≡ upto lim s.log
   tested_upto m e a s = ap (upto lim) (timed_log v m e a s)
 
   pub grows_run : {j : Job} {s s' : Core E} → (d : Runs v lat g lim j s s') → Grows lim s s' (record_of v lat g o lim d)

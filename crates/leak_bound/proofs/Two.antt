@@ -2,7 +2,7 @@
 use Rattle.std.proofs.Common.{◌≡◌, ℕ, ◌+◌, ◌-◌, ◌*◌, ◌^◌, ◌<◌, ◌≤◌, List, [], ◌∷◌, ◌++◌, length, append-nil, length-append, refl, sym, ap, ◌∙◌, subst, ◌⊎◌, inl, inr, ⊎_elim, arith}
 use Rattle.std.specs.Prelude.{Bool, true, false, cond, ℤ, eqb, max, leb}
 use Rattle.std.proofs.lemmas.Bool.{cases_lt, both_ways, eqb-true, leb-true, leb-false}
-use Rattle.mit_syntax.specs.declared.ast.Expr.{Expr}
+use Rattle.mit_syntax.specs.Expression.{Expression}
 use Rattle.mit_syntax.specs.Todo.{Marks, Marked}
 use Rattle.mit_syntax.specs.Values.{element, value_of, holds}
 use Rattle.doubling_schedule.specs.Doubling.{at_least_zero, misses_after}
@@ -293,7 +293,7 @@ module _ {E : Type 0} {serves : E → Type 0} (v : Env E) (lat : Lattice) (ll : 
       (ll.chain l tl (lat.join tl m.er) (ll.right t l) (ll.left tl m.er)) (ll.right tl m.er) sb
 
   -- a choice: both ends are joined
-  if_facts : (pc t : ℕ) (m : Marks) (e : Expr) (c : Marked) (ta tb : ℕ) → Flows lat pc t → Types lat g (lat.join pc (label_of lat g e)) (lat.join (lat.join t (label_of lat g e)) m.er) c ta → Facts pc t (label_of lat g e) m (lat.join (lat.join t (label_of lat g e)) m.er) (lat.join ta tb)
+  if_facts : (pc t : ℕ) (m : Marks) (e : Expression) (c : Marked) (ta tb : ℕ) → Flows lat pc t → Types lat g (lat.join pc (label_of lat g e)) (lat.join (lat.join t (label_of lat g e)) m.er) c ta → Facts pc t (label_of lat g e) m (lat.join (lat.join t (label_of lat g e)) m.er) (lat.join ta tb)
   if_facts pc t m e c ta tb pt ty =
       let l = label_of lat g e in
       let start = lat.join (lat.join t l) m.er in
@@ -316,7 +316,7 @@ module _ {E : Type 0} {serves : E → Type 0} (v : Env E) (lat : Lattice) (ll : 
       (unchanged_then v lat ll laws g o lim s n _ u.0 (fetched_high v lat ll laws g o lim (record { er = lat.join m.er l; ew = lat.join m.ew l }) j n (high_up v lat ll laws g o lim l (lat.join m.ew l) high (ll.right m.ew l))), omega arith)
 
   -- a guard with a low label has one value
-  one_guard : (e : Expr) (s s' : Core E) → HasArrays g e → Same s s' → Low (label_of lat g e) → holds (value_of e s.memory) ≡ true → holds (value_of e s'.memory) ≡ false → ⊥
+  one_guard : (e : Expression) (s s' : Core E) → HasArrays g e → Same s s' → Low (label_of lat g e) → holds (value_of e s.memory) ≡ true → holds (value_of e s'.memory) ≡ false → ⊥
   one_guard e s s' k h low y n = both_ways (holds (value_of e s'.memory)) n (sym (ap holds (value_low v lat ll laws g o lim e s s' k h low)) ∙ y)
 
   mirrored : (s s' : Core E) → Same s s' → Same s' s
@@ -326,7 +326,7 @@ module _ {E : Type 0} {serves : E → Type 0} (v : Env E) (lat : Lattice) (ll : 
   later : (t t1 : ℕ) (s s' : Core E) → Flows lat t t1 → Time t s s' → Time t1 s s'
   later t t1 s s' f w = record { seen = w.seen; misses = w.misses; clock = λ low. w.clock (ll.chain t t1 o f low) }
 
-  loop_still : (pc t' : ℕ) (m : Marks) (e : Expr) (c : Marked) (a : ℕ) (s n : Core E) → Types lat g (lat.join pc (label_of lat g e)) t' c t' → ArraysIn g c → Flows lat (lat.join pc (label_of lat g e)) t' → High (label_of lat g e) → Runs v lat g lim (Loop m e c a) s n → Still s n
+  loop_still : (pc t' : ℕ) (m : Marks) (e : Expression) (c : Marked) (a : ℕ) (s n : Core E) → Types lat g (lat.join pc (label_of lat g e)) t' c t' → ArraysIn g c → Flows lat (lat.join pc (label_of lat g e)) t' → High (label_of lat g e) → Runs v lat g lim (Loop m e c a) s n → Still s n
   loop_still pc t' m e c a s n ty k f high b =
       let l = label_of lat g e in
       (high_run v lat ll laws g o lim (lat.join pc l, t', t', ty, f, k, high_up v lat ll laws g o lim l (lat.join pc l) high (ll.right pc l), high_up v lat ll laws g o lim l (lat.join m.ew l) high (ll.right m.ew l)) b, (grows_run v lat g o lim b).clock)
@@ -511,7 +511,7 @@ module _ {E : Type 0} {serves : E → Type 0} (v : Env E) (lat : Lattice) (ll : 
           })
       go false e = high_level e (leb e1.clock lim) (leb e2.clock lim) refl refl
 
-  tested_rest : (t end : ℕ) (n : Core E) (m : Marks) (e : Expr) (a : ℕ) → Flows lat t end → SleepWork t end n (tested v m e a n) []
+  tested_rest : (t end : ℕ) (n : Core E) (m : Marks) (e : Expression) (a : ℕ) → Flows lat t end → SleepWork t end n (tested v m e a n) []
   tested_rest t end n m e a f = quiet_rest t end n (tested v m e a n) f (tested_clock v m e a n) (timed_log v m e a n)
 
   -- without what is said of the pc

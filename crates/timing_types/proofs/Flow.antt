@@ -1,6 +1,6 @@
 -- The program counter's label flows to each start label, and that to the end label.
 use Rattle.std.proofs.Common.{ℕ, subst}
-use Rattle.mit_syntax.specs.declared.ast.Expr.{Expr}
+use Rattle.mit_syntax.specs.Expression.{Expression}
 use Rattle.mit_syntax.specs.Todo.{Marks, Marked, Done, Skip, Assign, Put, Sleep, If, While, Mitigate}
 use Rattle.label_lattice.specs.Lattice.{Lattice, Flows, IsLattice}
 use Rattle.timing_types.specs.Typing.{label_of, index_label, Types}
@@ -32,7 +32,7 @@ module _ (lat : Lattice) (ll : IsLattice lat) (g : ℕ → ℕ) where
       record { value = from_left l li to h2; index = from_right l li to h2; counter = from_right two pc to h3; time = from_right three t to h4; read = from_right four er to h }
 
   -- of pc | li <= ew, the part on pc
-  pub pc_to_ew : (pc : ℕ) (m : Marks) (e : Expr) → Flows lat (lat.join pc (index_label lat g e)) m.ew → Flows lat pc m.ew
+  pub pc_to_ew : (pc : ℕ) (m : Marks) (e : Expression) → Flows lat (lat.join pc (index_label lat g e)) m.ew → Flows lat pc m.ew
   pc_to_ew pc m e q = from_left pc (index_label lat g e) m.ew q
 
   -- the start of what a guard leads to
