@@ -2,10 +2,10 @@
 #![tactic(auto)]
 
 pub mod check;
+pub mod ends;
 pub mod labelled;
+pub mod labels;
 pub mod rule;
 pub mod typed;
 
 mod contexts;
-mod ends;
-mod labels;
