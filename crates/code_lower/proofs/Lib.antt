@@ -3,3 +3,4 @@ pub mod Stretches
 pub mod Follow
 pub mod Order
 pub mod Stands
+pub mod Extents

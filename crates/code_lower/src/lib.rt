@@ -2,3 +2,7 @@
 #![tactic(auto)]
 
 pub mod laws;
+//pub mod lower;
+
+//mod emit;
+mod size;

@@ -14,21 +14,9 @@ use Rattle.label_lattice.specs.contracts.name.NamePartialEq.TheImpl.{eq-value}
 use Rattle.mit_syntax.specs.declared.declarations.Decl.{Decl}
 use Rattle.mit_syntax.specs.Declarations.{Declaration, declared, first_of, size_of, scalar_from, scalar_in, find_scalar, array_from, array_in, find_array}
 
-abbrev room : List ℕ → List ℕ
-room a = a ++ replicate (32 - length a) 0
-
 -- names are equal exactly where their bytes are
 pub same_name : (a b : List ℕ) → eq-value.it a b ≡ bytes_eq a b
-same_name a b =
-    both_ways (eq-value.it a b) (bytes_eq a b)
-    (λ h.
-      let q = and_parts (bytes_eq (room a) (room b)) (nat_eq (length a) (length b)) h in
-      let n : length a ≡ length b = eqb-true (length a) (length b) q.1 in
-      let r : room a ≡ room b = (bytes_eq-Decides (room a) (room b)).0 q.0 in
-      (bytes_eq-Decides a b).1 (append_cancel_right a b (replicate (32 - length a) 0) (r ∙ ap (λ k. b ++ replicate (32 - k) 0) (sym n))))
-    (λ h.
-      let e : a ≡ b = (bytes_eq-Decides a b).0 h in
-      and_from (bytes_eq (room a) (room b)) (nat_eq (length a) (length b)) ((bytes_eq-Decides (room a) (room b)).1 (ap room e)) (eq-eqb (length a) (length b) (ap length e)))
+same_name a b = refl
 
 pub declared_first : (ds : List Declaration) (w : List ℕ) (k : ℕ) (d : Declaration) → slice_get ds k ≡ Some d → bytes_eq w d.0 ≡ true
     → ((j : ℕ) (x : Declaration) → j < k → slice_get ds j ≡ Some x → bytes_eq w x.0 ≡ false) → declared ds w ≡ Some (first_of ds k, d.1)
