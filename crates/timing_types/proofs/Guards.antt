@@ -1,5 +1,5 @@
 -- The program-counter labels of the mitigates in one command and in the rest of its list.
-use Rattle.std.proofs.Common.{◌≡◌, ℕ, ◌+◌, refl, sym, ap, ◌∙◌, List, [], ◌∷◌, ◌++◌, append_assoc, Option}
+use Rattle.std.proofs.Common.{◌≡◌, ℕ, sym, ap, ◌∙◌, List, [], ◌∷◌, ◌++◌, append_assoc, Option}
 use Rattle.label_lattice.specs.Lattice.{Lattice}
 use Rattle.label_lattice.specs.declared.label.Label.{Label}
 use Rattle.mit_syntax.specs.Expression.{Expression}

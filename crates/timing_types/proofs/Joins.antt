@@ -1,5 +1,5 @@
 -- Joins as equations, and how they grow.
-use Rattle.std.proofs.Common.{◌≡◌, ℕ, refl, sym, ap, ◌∙◌, subst}
+use Rattle.std.proofs.Common.{◌≡◌, ℕ}
 use Rattle.label_lattice.specs.Lattice.{Lattice, Flows, IsLattice}
 
 module _ (lat : Lattice) (ll : IsLattice lat) where
@@ -23,12 +23,12 @@ module _ (lat : Lattice) (ll : IsLattice lat) where
       let l = lat.join (lat.join a b) c in
       let r = lat.join a (lat.join b c) in
       ll.anti l r
-        (ll.least (lat.join a b) c r
-          (ll.least a b r (ll.left a (lat.join b c)) (ll.chain b (lat.join b c) r (ll.left b c) (ll.right a (lat.join b c))))
-          (ll.chain c (lat.join b c) r (ll.right b c) (ll.right a (lat.join b c))))
-        (ll.least a (lat.join b c) l
-          (ll.chain a (lat.join a b) l (ll.left a b) (ll.left (lat.join a b) c))
-          (ll.least b c l (ll.chain b (lat.join a b) l (ll.right a b) (ll.left (lat.join a b) c)) (ll.right (lat.join a b) c)))
+      (ll.least (lat.join a b) c r
+      (ll.least a b r (ll.left a (lat.join b c)) (ll.chain b (lat.join b c) r (ll.left b c) (ll.right a (lat.join b c))))
+      (ll.chain c (lat.join b c) r (ll.right b c) (ll.right a (lat.join b c))))
+      (ll.least a (lat.join b c) l
+      (ll.chain a (lat.join a b) l (ll.left a b) (ll.left (lat.join a b) c))
+      (ll.least b c l (ll.chain b (lat.join a b) l (ll.right a b) (ll.left (lat.join a b) c)) (ll.right (lat.join a b) c)))
 
   -- b is above a
   pub absorbs : (a b : ℕ) → Flows lat a b → lat.join b a ≡ b

@@ -5,3 +5,6 @@ pub mod Walk
 pub mod Parts
 pub mod Steps
 pub mod Guards
+pub mod Arrays
+pub mod Pcs
+pub mod Whole

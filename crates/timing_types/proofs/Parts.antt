@@ -1,5 +1,5 @@
 -- A command that has parts, as code reads it.
-use Rattle.std.proofs.Common.{◌≡◌, ℕ, suc, zero, ◌+◌, ◌<◌, ◌≤◌, refl, sym, ap, ◌∙◌, List, [], ◌∷◌, length, get_or, drop, arith, Vec, Global, Option, drop-cons}
+use Rattle.std.proofs.Common.{◌≡◌, ℕ, suc, zero, ◌+◌, ◌<◌, ◌≤◌, sym, ap, ◌∙◌, List, [], ◌∷◌, length, get_or, drop, arith, Vec, Global, Option, drop-cons}
 use Rattle.label_lattice.specs.declared.label.Label.{Label}
 use Rattle.mit_syntax.specs.declared.ast.Expr.{Expr}
 use Rattle.mit_syntax.specs.Expression.{expression_of}
@@ -7,7 +7,7 @@ use Rattle.mit_syntax.specs.declared.ast.Command.{Command}
 use Rattle.mit_syntax.specs.declared.ast.Form.{Form, While as DWhile, If as DIf, Mitigate as DMitigate}
 use Rattle.mit_syntax.specs.declared.ast.Form.{Skip as FSkip, Assign as FAssign, Put as FPut, Sleep as FSleep, If' as FIf, While' as FWhile, Mitigate' as FMitigate}
 use Rattle.mit_syntax.specs.Todo.{Done, If, While, Mitigate}
-use Rattle.mit_syntax.specs.Plan.{Written, Plan, form_plan, command_plan, list_plan, row_plan, count, form_count, plan-If, plan-While, plan-Mitigate}
+use Rattle.mit_syntax.specs.Plan.{Written, Plan, form_plan, list_plan, count, form_count, plan-If, plan-While, plan-Mitigate}
 
 pub if_parts : (f : Form) (e : Expr) (v u : Vec Command Global) (a b : List Command) → f ≡ DIf e v u → a ≡ v.items → b ≡ u.items →
     (w : Written) (rest : Plan) → form_plan f w rest ≡ If w (expression_of e) (list_plan a) (list_plan b) rest

@@ -1,6 +1,6 @@
 -- What one command's walk comes to, from the walks of its parts.
-use Rattle.std.proofs.Common.{◌≡◌, ℕ, ◌+◌, refl, sym, ap, ◌∙◌, subst, List, [], ◌∷◌, ◌++◌}
-use Rattle.std.specs.Prelude.{Bool, true, false, cond, Option, None, Some, is_some}
+use Rattle.std.proofs.Common.{◌≡◌, ℕ, ◌+◌, refl, sym, ap, ◌∙◌, subst, List, ◌∷◌, ◌++◌}
+use Rattle.std.specs.Prelude.{false, Option, Some, is_some}
 use Rattle.std.proofs.lemmas.Bool.{cond-true, cond-false}
 use Rattle.label_lattice.specs.Lattice.{Lattice, Flows}
 use Rattle.label_lattice.specs.declared.label.Label.{Label}
@@ -116,12 +116,13 @@ module _ (lat : Lattice) (g : ℕ → ℕ) (ms : ℕ → Marks) (ls : ℕ → �
             let one = one_moved ea ha in
             let other = other_moved eb hn hb in
             let j : lat.join (walk_end lat g A I S) (walk_end lat g B I S) ≡ end = ap (λ z. lat.join z (walk_end lat g B I S)) one.0 ∙ ap (lat.join ea) other.0 ∙ sym he in
-            let last : i + 1 + count a + count b ≡ k = ap (λ z. z + count b) (sym hn) ∙ sym hk in
-            (ap (λ z. walk_end lat g (T z i) pc t) hq ∙ ap (walk_end lat g R pc) j ∙ ap (λ z. walk_end lat g (T rest z) pc end) last,
-             ap (λ z. first_broken lat (conditions lat g (T z i) pc t)) hq
-             ∙ first_holds (writes RIf m (here lat g pc e)) (conditions lat g A I S ++ (conditions lat g B I S ++ after_both)) f
-             ∙ broken_none lat (conditions lat g A I S) (conditions lat g B I S ++ after_both) one.1 ∙ broken_none lat (conditions lat g B I S) after_both other.1
-             ∙ ap (λ z. first_broken lat (conditions lat g R pc z)) j ∙ ap (λ z. first_broken lat (conditions lat g (T rest z) pc end)) last)
+            let last : i + 1 + count a + count b ≡ k = ap (λ z. z + count b) (sym hn) ∙ sym hk in (
+              ap (λ z. walk_end lat g (T z i) pc t) hq ∙ ap (walk_end lat g R pc) j ∙ ap (λ z. walk_end lat g (T rest z) pc end) last,
+              ap (λ z. first_broken lat (conditions lat g (T z i) pc t)) hq
+                  ∙ first_holds (writes RIf m (here lat g pc e)) (conditions lat g A I S ++ (conditions lat g B I S ++ after_both)) f
+                  ∙ broken_none lat (conditions lat g A I S) (conditions lat g B I S ++ after_both) one.1 ∙ broken_none lat (conditions lat g B I S) after_both other.1
+                  ∙ ap (λ z. first_broken lat (conditions lat g R pc z)) j ∙ ap (λ z. first_broken lat (conditions lat g (T rest z) pc end)) last,
+            )
 
         pub if_broken_one : (r : TypeFault) → broken_at a (i + 1) inner start ≡ Some r → first_broken lat (conditions lat g (T q i) pc t) ≡ Some r
         if_broken_one r h1 =
@@ -153,12 +154,13 @@ module _ (lat : Lattice) (g : ℕ → ℕ) (ms : ℕ → Marks) (ls : ℕ → �
 
         pub while_passes : (k end : ℕ) → k ≡ i + 1 + count a → Walked a (i + 1) inner stay end → Passes lat g pc (T q i) t (T rest k) stay
         while_passes k end hk ha =
-            let body = moved a (i + 1) (i + 1) inner I stay Y end refl (inner_is inner hi) stay_is ha in
-            (ap (λ z. walk_end lat g (T z i) pc t) hq ∙ ap (walk_end lat g X pc) (sym stay_is) ∙ ap (λ z. walk_end lat g (T rest z) pc stay) (sym hk),
-             ap (λ z. first_broken lat (conditions lat g (T z i) pc t)) hq
-             ∙ first_holds (writes RWhile m (here lat g pc e)) (conditions lat g C I Y ++ conditions lat g X pc Y) f
-             ∙ broken_none lat (conditions lat g C I Y) (conditions lat g X pc Y) body.1
-             ∙ ap (λ z. first_broken lat (conditions lat g X pc z)) (sym stay_is) ∙ ap (λ z. first_broken lat (conditions lat g (T rest z) pc stay)) (sym hk))
+            let body = moved a (i + 1) (i + 1) inner I stay Y end refl (inner_is inner hi) stay_is ha in (
+              ap (λ z. walk_end lat g (T z i) pc t) hq ∙ ap (walk_end lat g X pc) (sym stay_is) ∙ ap (λ z. walk_end lat g (T rest z) pc stay) (sym hk),
+              ap (λ z. first_broken lat (conditions lat g (T z i) pc t)) hq
+                  ∙ first_holds (writes RWhile m (here lat g pc e)) (conditions lat g C I Y ++ conditions lat g X pc Y) f
+                  ∙ broken_none lat (conditions lat g C I Y) (conditions lat g X pc Y) body.1
+                  ∙ ap (λ z. first_broken lat (conditions lat g X pc z)) (sym stay_is) ∙ ap (λ z. first_broken lat (conditions lat g (T rest z) pc stay)) (sym hk),
+            )
 
         pub while_broken : (r : TypeFault) → broken_at a (i + 1) inner stay ≡ Some r → first_broken lat (conditions lat g (T q i) pc t) ≡ Some r
         while_broken r h1 =
@@ -186,12 +188,13 @@ module _ (lat : Lattice) (g : ℕ → ℕ) (ms : ℕ → Marks) (ls : ℕ → �
         mitigate_passes k end lv hk ha hl hf =
             let body = part_moved end ha in
             let below : Flows lat (walk_end lat g D pc S) (ls j) = subst (λ z. Flows lat z (ls j)) (sym body.0) (subst (λ z. Flows lat end z) hl hf) in
-            let s = sym (start_is start hs) in
-            (ap (λ z. walk_end lat g (T z i) pc t) hq ∙ ap (walk_end lat g U pc) s ∙ ap (λ z. walk_end lat g (T rest z) pc start) (sym hk),
-             ap (λ z. first_broken lat (conditions lat g (T z i) pc t)) hq
-             ∙ first_holds (writes RMtg m (here lat g pc e)) (conditions lat g D pc S ++ tail) f ∙ broken_none lat (conditions lat g D pc S) tail body.1
-             ∙ first_holds last (conditions lat g U pc S) below
-             ∙ ap (λ z. first_broken lat (conditions lat g U pc z)) s ∙ ap (λ z. first_broken lat (conditions lat g (T rest z) pc start)) (sym hk))
+            let s = sym (start_is start hs) in (
+              ap (λ z. walk_end lat g (T z i) pc t) hq ∙ ap (walk_end lat g U pc) s ∙ ap (λ z. walk_end lat g (T rest z) pc start) (sym hk),
+              ap (λ z. first_broken lat (conditions lat g (T z i) pc t)) hq
+                  ∙ first_holds (writes RMtg m (here lat g pc e)) (conditions lat g D pc S ++ tail) f ∙ broken_none lat (conditions lat g D pc S) tail body.1
+                  ∙ first_holds last (conditions lat g U pc S) below
+                  ∙ ap (λ z. first_broken lat (conditions lat g U pc z)) s ∙ ap (λ z. first_broken lat (conditions lat g (T rest z) pc start)) (sym hk),
+            )
 
         pub mitigate_broken : (r : TypeFault) → broken_at a (i + 1) pc start ≡ Some r → first_broken lat (conditions lat g (T q i) pc t) ≡ Some r
         mitigate_broken r h1 =

@@ -3,17 +3,15 @@ use Rattle.std.proofs.Common.{◌≡◌, ℕ, refl, sym, ap, ◌∙◌, subst, L
 use Rattle.std.specs.Prelude.{Bool, true, false, cond, Option, None, Some}
 use Rattle.std.proofs.lemmas.Bool.{cond-true}
 use Rattle.label_lattice.specs.Lattice.{Lattice, Flows, IsLattice}
-use Rattle.mit_syntax.specs.Expression.{Expression}
 use Rattle.mit_syntax.specs.Todo.{Done, Skip, Assign, Put, Sleep, If, While, Mitigate}
 use Rattle.timing_types.specs.declared.rule.TypeFault.{TypeFault}
 use Rattle.timing_types.specs.declared.rule.Rule.TheVariants.{Mtg as RMtg}
 use Rattle.timing_types.specs.Typing.{label_of, index_label, ArraysIn, Types, IsTyped}
-use Rattle.timing_types.specs.Placed.{Placed, Level, Tree, bare}
-use Rattle.timing_types.specs.Walk.{Condition, demand, put_index, here, after, loop_start, walk_end, conditions, told, first_broken, AllHold, OfLevel}
+use Rattle.timing_types.specs.Placed.{Placed, Tree, bare}
+use Rattle.timing_types.specs.Walk.{Condition, demand, put_index, after, loop_start, walk_end, conditions, told, first_broken, AllHold, OfLevel, IsLeastStay}
 use Rattle.timing_types.proofs.Joins.{join_up, idem, comm, assoc, absorbs}
 
 module _ (lat : Lattice) where
-
   pub head_holds : (b : Bool) (x : Option TypeFault) (r : TypeFault) → cond b x (Some r) ≡ None → (b ≡ true) × (x ≡ None)
   head_holds true x r h = (refl, h)
   head_holds false x r h = cc
@@ -112,10 +110,14 @@ module _ (lat : Lattice) (ll : IsLattice lat) (g : ℕ → ℕ) where
       let e : lat.join t u ≡ u = comm lat ll t u ∙ absorbs lat ll t u f in
       subst (λ z. Flows lat (walk_end lat g p pc t) z) (sym (ap (walk_end lat g p pc) (sym e) ∙ walk_moves p pc t u)) (ll.left (walk_end lat g p pc t) u)
 
-  -- So a loop's label is the least one at or above its start from which the body ends there: the body's end
-  -- from the start is one by walk_grows and walk_stays, and each other one is above it.
-  pub least_stay : (p : Tree) (pc t u : ℕ) → Flows lat t u → walk_end lat g p pc u ≡ u → Flows lat (walk_end lat g p pc t) u
-  least_stay p pc t u f e = subst (λ z. Flows lat (walk_end lat g p pc t) z) e (walk_up p pc t u f)
+  -- so the end of a walk is the least label at or above its start from which the walk ends there
+  pub least_stay : (p : Tree) (pc t : ℕ) → IsLeastStay lat g p pc t (walk_end lat g p pc t)
+  least_stay p pc t =
+      record {
+        above = walk_grows p pc t;
+        stays = walk_stays p pc t;
+        least = λ v f e. subst (λ z. Flows lat (walk_end lat g p pc t) z) e (walk_up p pc t v f);
+      }
 
   -- where each condition holds, there is a derivation, to the walk's end
   pub typed_from : (p : Tree) (pc t : ℕ) → AllHold lat (conditions lat g p pc t) → Types lat g pc t (bare p) (walk_end lat g p pc t)

@@ -18,6 +18,5 @@ abbrev pub typed_of : TypedInside → TypedProgram
 typed_of p = record { labelled = p.labelled; contexts = p.contexts.items }
 
 pub record IsKeptTyped (p : TypedInside) : Type 0 where
-  pub valid : IsLabelling p.labelled.program p.labelled.labels
   pub typed : HasType p.labelled
   pub contexts : AreContexts p.labelled p.contexts.items

@@ -89,7 +89,7 @@ conditions lat g (If m e a b r) pc t =
     let start = after lat g t m e in
     let inner = lat.join pc (label_of lat g e) in
     writes RIf m (here lat g pc e) ∷ (conditions lat g a inner start ++ (conditions lat g b inner start
-      ++ conditions lat g r pc (lat.join (walk_end lat g a inner start) (walk_end lat g b inner start))))
+    ++ conditions lat g r pc (lat.join (walk_end lat g a inner start) (walk_end lat g b inner start))))
 conditions lat g (While m e c r) pc t =
     let inner = lat.join pc (label_of lat g e) in
     let end = walk_end lat g c inner (loop_start lat g t m e) in
@@ -97,7 +97,7 @@ conditions lat g (While m e c r) pc t =
 conditions lat g (Mitigate m k l e c r) pc t =
     let start = after lat g t m e in
     writes RMtg m (here lat g pc e) ∷ (conditions lat g c pc start
-      ++ (record { rule = RMtg; pos = m.pos; have = walk_end lat g c pc start; allowed = l.label; side = OfLevel k l.written } ∷ conditions lat g r pc start))
+    ++ (record { rule = RMtg; pos = m.pos; have = walk_end lat g c pc start; allowed = l.label; side = OfLevel k l.written } ∷ conditions lat g r pc start))
 
 -- what is told of a broken condition
 abbrev pub told : Condition → TypeFault
@@ -123,3 +123,9 @@ abbrev pub Passes : Lattice → (ℕ → ℕ) → ℕ → Tree → ℕ → Tree 
 Passes lat g pc p t q end =
     (walk_end lat g p pc t ≡ walk_end lat g q pc end)
     × (first_broken lat (conditions lat g p pc t) ≡ first_broken lat (conditions lat g q pc end))
+
+-- u is the least label at or above t from which the walk of a list ends at that label
+pub record IsLeastStay (lat : Lattice) (g : ℕ → ℕ) (p : Tree) (pc t u : ℕ) : Type 0 where
+  pub above : Flows lat t u
+  pub stays : walk_end lat g p pc u ≡ u
+  pub least : (v : ℕ) → Flows lat t v → walk_end lat g p pc v ≡ v → Flows lat u v

@@ -1,12 +1,13 @@
 //! The walk over a program's commands, which tests each condition.
 
-ghost use Rattle.std.specs.Prelude.{◌≡◌, ◌+◌, ◌^◌, ◌<◌, IfOk, IfErr, Some, false};
+ghost use Rattle.std.specs.Prelude.{◌≡◌, ℕ, ◌+◌, ◌^◌, ◌<◌, IfOk, IfErr, Some, false};
 ghost use Rattle.label_lattice.specs.Lattice.{Flows};
 ghost use Rattle.label_lattice.specs.Order.{lattice_of};
 ghost use Rattle.mit_syntax.specs.Plan.{Plan, command_plan, list_plan, form_count, count};
 ghost use Rattle.mit_syntax.specs.Todo.{Done};
 ghost use Rattle.timing_types.specs.declared.rule.TypeFault.TheVariants.{Refused};
-ghost use Rattle.timing_types.specs.Walk.{Passes};
+ghost use Rattle.timing_types.specs.Walk.{Passes, IsLeastStay, walk_end};
+ghost use Rattle.timing_types.specs.Placed.{Tree};
 ghost use Rattle.timing_types.specs.Labelling.{variable_of, tree_of, broken_of};
 ghost use Rattle.timing_types.specs.Labelled.{HasType, first_broken_of, IsTypeFault, AreContexts};
 
@@ -40,7 +41,14 @@ fn test(order: &Lattice, rule: Rule, pos: Pos, have: Label, allowed: Label) -> R
 
 /// A command: the number after its last part, and its end label; else the first broken condition.
 #[cycle(walk)]
-fn command_walk(c: &Command, p: &Labels, order: &Lattice, number: usize, pc: Label, t: Label) -> Result<(usize, Label), TypeFault>
+fn command_walk(
+    c: &Command,
+    p: &Labels,
+    order: &Lattice,
+    number: usize,
+    pc: Label,
+    t: Label,
+) -> Result<(usize, Label), TypeFault>
     requires { number + form_count c.now.form (record { pos = c.now.pos; labels = c.now.labels }) < 2 ^ 31 }
     ensures number { IfOk result (λ r. r.0 ≡ number + form_count c.now.form (record { pos = c.now.pos; labels = c.now.labels })) }
     ensures passes { IfOk result (λ r. (rest : Plan) → Passes (lattice_of order.now) (variable_of order.now p.now) pc.number (tree_of order.now p.now (command_plan c.now rest) number) t.number (tree_of order.now p.now rest r.0) r.1.number) }
@@ -76,7 +84,13 @@ fn command_walk(c: &Command, p: &Labels, order: &Lattice, number: usize, pc: Lab
             Ok((number + 1, order.join(allowed, have)))
         }
         Form::Sleep { time } => {
-            test(order, Rule::Sleep, c.pos, order.join(pc, index_label(time, p, order)), own.1)?;
+            test(
+                order,
+                Rule::Sleep,
+                c.pos,
+                order.join(pc, index_label(time, p, order)),
+                own.1,
+            )?;
             Ok((number + 1, join3(order, t, label(time, p, order), own.0)))
         }
         Form::If {
@@ -84,7 +98,13 @@ fn command_walk(c: &Command, p: &Labels, order: &Lattice, number: usize, pc: Lab
             then_part,
             else_part,
         } => {
-            test(order, Rule::If, c.pos, order.join(pc, index_label(guard, p, order)), own.1)?;
+            test(
+                order,
+                Rule::If,
+                c.pos,
+                order.join(pc, index_label(guard, p, order)),
+                own.1,
+            )?;
             let le = label(guard, p, order);
             let start = join3(order, t, le, own.0);
             let inner = order.join(pc, le);
@@ -93,7 +113,13 @@ fn command_walk(c: &Command, p: &Labels, order: &Lattice, number: usize, pc: Lab
             Ok((other.0, order.join(one.1, other.1)))
         }
         Form::While { guard, body } => {
-            test(order, Rule::While, c.pos, order.join(pc, index_label(guard, p, order)), own.1)?;
+            test(
+                order,
+                Rule::While,
+                c.pos,
+                order.join(pc, index_label(guard, p, order)),
+                own.1,
+            )?;
             let le = label(guard, p, order);
             let start = join3(order, le, t, own.0);
             let inner = order.join(pc, le);
@@ -107,7 +133,13 @@ fn command_walk(c: &Command, p: &Labels, order: &Lattice, number: usize, pc: Lab
             level: _,
             body,
         } => {
-            test(order, Rule::Mtg, c.pos, order.join(pc, index_label(estimate, p, order)), own.1)?;
+            test(
+                order,
+                Rule::Mtg,
+                c.pos,
+                order.join(pc, index_label(estimate, p, order)),
+                own.1,
+            )?;
             let start = join3(order, t, label(estimate, p, order), own.0);
             let part = list_walk(body, p, order, number + 1, pc, start)?;
             test(order, Rule::Mtg, c.pos, part.1, p.level(*mark, order))?;
@@ -118,7 +150,14 @@ fn command_walk(c: &Command, p: &Labels, order: &Lattice, number: usize, pc: Lab
 
 /// A list: the number after it, and its end label; else the first broken condition.
 #[cycle(walk)]
-fn list_walk(commands: &[Command], p: &Labels, order: &Lattice, number: usize, pc: Label, t: Label) -> Result<(usize, Label), TypeFault>
+fn list_walk(
+    commands: &[Command],
+    p: &Labels,
+    order: &Lattice,
+    number: usize,
+    pc: Label,
+    t: Label,
+) -> Result<(usize, Label), TypeFault>
     requires { number + count (list_plan commands.now) < 2 ^ 31 }
     ensures number { IfOk result (λ r. r.0 ≡ number + count (list_plan commands.now)) }
     ensures passes { IfOk result (λ r. Passes (lattice_of order.now) (variable_of order.now p.now) pc.number (tree_of order.now p.now (list_plan commands.now) number) t.number Done r.1.number) }
@@ -132,6 +171,14 @@ fn list_walk(commands: &[Command], p: &Labels, order: &Lattice, number: usize, p
         end = part.1;
     }
     Ok((next, end))
+}
+
+/// Says nothing at run time: the end of a body's walk from a loop's start is the least label at or above
+/// that start from which the body ends there, so that one walk gives the loop's label.
+pub fn loop_law(order: &Lattice)
+    ensures { (g : ℕ → ℕ) (body : Tree) (pc t : ℕ) → IsLeastStay (lattice_of order.now) g body pc t (walk_end (lattice_of order.now) g body pc t) }
+{
+    order.laws();
 }
 
 /// The first broken condition, if there is one.
@@ -152,7 +199,13 @@ fn contexts(alloc: Global, p: &Labelled) -> Result<Vec<Label>, AllocError>
 {
     let order = p.program().lattice();
     let mut pcs = Vec::new(alloc);
-    list_contexts(p.program().body(), p.labels(), &order, order.bottom(), &mut pcs)?;
+    list_contexts(
+        p.program().body(),
+        p.labels(),
+        &order,
+        order.bottom(),
+        &mut pcs,
+    )?;
     Ok(pcs)
 }
 

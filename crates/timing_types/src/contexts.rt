@@ -13,7 +13,13 @@ use std::alloc::AllocError;
 
 /// Appends the program-counter labels of the mitigates in a command, in order of the text.
 #[cycle(contexts)]
-fn command_contexts(c: &Command, p: &Labels, order: &Lattice, pc: Label, found: &mut Vec<Label>) -> Result<(), AllocError>
+fn command_contexts(
+    c: &Command,
+    p: &Labels,
+    order: &Lattice,
+    pc: Label,
+    found: &mut Vec<Label>,
+) -> Result<(), AllocError>
     ensures { IfOk result (λ _. (rest : Plan) → found.old.items ++ contexts_of order.now p.now (command_plan c.now rest) pc ≡ found.new.items ++ contexts_of order.now p.now rest pc) }
 {
     match &c.form {
@@ -48,7 +54,13 @@ fn command_contexts(c: &Command, p: &Labels, order: &Lattice, pc: Label, found: 
 
 /// Appends the program-counter labels of the mitigates in a list, in order of the text.
 #[cycle(contexts)]
-pub(crate) fn list_contexts(commands: &[Command], p: &Labels, order: &Lattice, pc: Label, found: &mut Vec<Label>) -> Result<(), AllocError>
+pub(crate) fn list_contexts(
+    commands: &[Command],
+    p: &Labels,
+    order: &Lattice,
+    pc: Label,
+    found: &mut Vec<Label>,
+) -> Result<(), AllocError>
     ensures { IfOk result (λ _. found.new.items ≡ found.old.items ++ contexts_of order.now p.now (list_plan commands.now) pc) }
 {
     for c in commands {

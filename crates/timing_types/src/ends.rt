@@ -41,7 +41,10 @@ pub(crate) fn index_label(e: &Expr, p: &Labels, order: &Lattice) -> Label
 {
     match e {
         Expr::Number(_) | Expr::Variable(_) => order.bottom(),
-        Expr::Binary(_, left, right) => order.join(index_label(left, p, order), index_label(right, p, order)),
+        Expr::Binary(_, left, right) => order.join(
+            index_label(left, p, order),
+            index_label(right, p, order),
+        ),
         Expr::Element {
             first: _,
             length: _,
@@ -52,7 +55,14 @@ pub(crate) fn index_label(e: &Expr, p: &Labels, order: &Lattice) -> Label
 
 /// The number after a command's last part, and its end label.
 #[cycle(ends)]
-pub(crate) fn command_end(c: &Command, p: &Labels, order: &Lattice, number: usize, pc: Label, t: Label) -> (usize, Label)
+pub(crate) fn command_end(
+    c: &Command,
+    p: &Labels,
+    order: &Lattice,
+    number: usize,
+    pc: Label,
+    t: Label,
+) -> (usize, Label)
     requires { number + form_count c.now.form (record { pos = c.now.pos; labels = c.now.labels }) < 2 ^ 31 }
     ensures number { result.0 ≡ number + form_count c.now.form (record { pos = c.now.pos; labels = c.now.labels }) }
     ensures end { (rest : Plan) → end_of order.now p.now (command_plan c.now rest) number pc.number t.number ≡ end_of order.now p.now rest result.0 pc.number result.1.number }
@@ -61,8 +71,16 @@ pub(crate) fn command_end(c: &Command, p: &Labels, order: &Lattice, number: usiz
     match &c.form {
         Form::Skip => (number + 1, order.join(t, own.0)),
         Form::Assign { variable, value } => {
-            let reads = join3(order, label(value, p, order), index_label(value, p, order), pc);
-            (number + 1, order.join(p.variable(*variable, order), join3(order, reads, t, own.0)))
+            let reads = join3(
+                order,
+                label(value, p, order),
+                index_label(value, p, order),
+                pc,
+            );
+            (
+                number + 1,
+                order.join(p.variable(*variable, order), join3(order, reads, t, own.0)),
+            )
         }
         Form::Put {
             first,
@@ -72,7 +90,10 @@ pub(crate) fn command_end(c: &Command, p: &Labels, order: &Lattice, number: usiz
         } => {
             let li = order.join(label(index, p, order), index_label(value, p, order));
             let reads = join3(order, label(value, p, order), li, pc);
-            (number + 1, order.join(p.variable(*first, order), join3(order, reads, t, own.0)))
+            (
+                number + 1,
+                order.join(p.variable(*first, order), join3(order, reads, t, own.0)),
+            )
         }
         Form::Sleep { time } => (number + 1, join3(order, t, label(time, p, order), own.0)),
         Form::If {
@@ -107,7 +128,14 @@ pub(crate) fn command_end(c: &Command, p: &Labels, order: &Lattice, number: usiz
 
 /// The number after a list, and its end label.
 #[cycle(ends)]
-pub(crate) fn list_end(commands: &[Command], p: &Labels, order: &Lattice, number: usize, pc: Label, t: Label) -> (usize, Label)
+pub(crate) fn list_end(
+    commands: &[Command],
+    p: &Labels,
+    order: &Lattice,
+    number: usize,
+    pc: Label,
+    t: Label,
+) -> (usize, Label)
     requires { number + count (list_plan commands.now) < 2 ^ 31 }
     ensures number { result.0 ≡ number + count (list_plan commands.now) }
     ensures end { result.1.number ≡ end_of order.now p.now (list_plan commands.now) number pc.number t.number }

@@ -21,8 +21,12 @@ pub struct Labelled {
 
 impl Model for Labelled {
     ghost use Rattle.timing_types.specs.Labelled.{LabelledProgram};
+    ghost use Rattle.mit_syntax.specs.contracts.ast.Command as command;
+    ghost use Rattle.std.specs.Coded.{codes};
 
     ghost Value = { LabelledProgram };
+
+    ghost coded = { Prim.hlevel (codes, command.the_row.coded) };
 
     ghost use Rattle.timing_types.specs.Kept.{labelled_of, IsLabelled};
 
@@ -35,7 +39,12 @@ impl Labelled {
     /// The program with these labels: one for each variable by its number, the read label and the write
     /// label of each command in order of the text, and the level of each mitigate by its mark. What the
     /// program writes is kept, and all labels are labels of its lattice. Takes no memory.
-    pub fn of(program: Program, variables: Vec<Label>, commands: Vec<(Label, Label)>, levels: Vec<Label>) -> Labelled
+    pub fn of(
+        program: Program,
+        variables: Vec<Label>,
+        commands: Vec<(Label, Label)>,
+        levels: Vec<Label>,
+    ) -> Labelled
         requires { IsLabelling program (record { variables = variables.items; commands = commands.items; levels = levels.items }) }
         ensures { result ≡ record { program = program; labels = record { variables = variables.items; commands = commands.items; levels = levels.items } } }
     {

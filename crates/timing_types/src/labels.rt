@@ -27,7 +27,11 @@ impl Model for Labels {
 }
 
 impl Labels {
-    pub(crate) fn new(variables: Vec<Label>, commands: Vec<(Label, Label)>, levels: Vec<Label>) -> Labels
+    pub(crate) fn new(
+        variables: Vec<Label>,
+        commands: Vec<(Label, Label)>,
+        levels: Vec<Label>,
+    ) -> Labels
         ensures { result ≡ record { variables = variables.items; commands = commands.items; levels = levels.items } }
     {
         Labels {

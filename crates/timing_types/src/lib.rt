@@ -2,10 +2,9 @@
 #![tactic(auto)]
 
 pub mod check;
+mod contexts;
 pub mod ends;
 pub mod labelled;
 pub mod labels;
 pub mod rule;
 pub mod typed;
-
-mod contexts;

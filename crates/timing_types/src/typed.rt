@@ -3,7 +3,6 @@
 ghost use Rattle.std.specs.Prelude.{◌≡◌, ◌<◌};
 ghost use Rattle.mit_syntax.specs.Plan.{mitigates};
 ghost use Rattle.mit_syntax.specs.Program.{plan_of};
-ghost use Rattle.timing_types.specs.Labelling.{IsLabelling};
 ghost use Rattle.timing_types.specs.Labelled.{HasType, AreContexts, context_of};
 
 use crate::labelled::Labelled;
@@ -19,8 +18,12 @@ pub struct Typed {
 
 impl Model for Typed {
     ghost use Rattle.timing_types.specs.Labelled.{TypedProgram};
+    ghost use Rattle.mit_syntax.specs.contracts.ast.Command as command;
+    ghost use Rattle.std.specs.Coded.{codes};
 
     ghost Value = { TypedProgram };
+
+    ghost coded = { Prim.hlevel (codes, command.the_row.coded) };
 
     ghost use Rattle.timing_types.specs.Kept.{typed_of, IsKeptTyped};
 
@@ -37,7 +40,6 @@ impl Typed {
         requires contexts { AreContexts p pcs.items }
         ensures { result ≡ record { labelled = p; contexts = pcs.items } }
     {
-        let _ = p.program();
         Typed {
             labelled: p,
             contexts: pcs,

@@ -1,6 +1,5 @@
-use Rattle.std.proofs.Common.{rules, ◌≡◌, ℕ, ◌+◌, ◌*◌, ◌^◌, ◌<◌, drop, refl, sym, ap, ◌∙◌, subst, arith}
+use Rattle.std.proofs.Common.{rules, ◌+◌, ◌*◌, ◌<◌, drop, refl, sym, ap, ◌∙◌, arith}
 use Rattle.std.proofs.lemmas.Result.{err_from_is_err_and}
-use Rattle.std.specs.Prelude.{Some}
 use Rattle.label_lattice.specs.Order.{lattice_of}
 use Rattle.mit_syntax.specs.Expression.{expression_of}
 use Rattle.mit_syntax.specs.Plan.{Written, list_plan, command_plan, form_count, count}
@@ -96,12 +95,12 @@ command_walk-returns-in_ok-other-in-If-clause-passes t c =
     let i = c.args.number in
     let pc = c.args.pc.number in
     λ rest.
-      let q = if_parts c.args.c.now.form c.in-If.guard c.in-If.then_part c.in-If.else_part c.deref.result.now c.deref-in-If.result.now c.in-If.is c.deref.ensures.value c.deref-in-If.ensures.value w rest in
-      if_passes lat (variable_of o p) (marks_of o p) (level_of o p) w (expression_of c.in-If.guard) i pc c.args.t.number c.label-le.result.number c.command-own.result.0.number c.label-le.ensures c.command-own.ensures.er
-        c.index_label-in-If.result.number c.command-own.result.1.number c.join-in-If.result.number c.index_label-in-If.ensures c.command-own.ensures.ew c.join-in-If.ensures c.in_ok-test-in-If.ensures.holds
-        (command_plan c.args.c.now rest) (list_plan c.deref.result.now) (list_plan c.deref-in-If.result.now) rest c.in_ok-one-in-If.one.0 c.join-inner.result.number c.join3-start.result.number
-        q c.join-inner.ensures c.join3-start.ensures c.in_ok-other-in-If.other.0 c.in_ok-one-in-If.one.1.number c.in_ok-other-in-If.other.1.number c.join-in-If-2.result.number
-        c.in_ok-one-in-If.ensures.number c.in_ok-other-in-If.ensures.number c.in_ok-one-in-If.ensures.passes c.in_ok-other-in-If.ensures.passes c.join-in-If-2.ensures
+    let q = if_parts c.args.c.now.form c.in-If.guard c.in-If.then_part c.in-If.else_part c.deref.result.now c.deref-in-If.result.now c.in-If.is c.deref.ensures.value c.deref-in-If.ensures.value w rest in
+    if_passes lat (variable_of o p) (marks_of o p) (level_of o p) w (expression_of c.in-If.guard) i pc c.args.t.number c.label-le.result.number c.command-own.result.0.number c.label-le.ensures c.command-own.ensures.er
+    c.index_label-in-If.result.number c.command-own.result.1.number c.join-in-If.result.number c.index_label-in-If.ensures c.command-own.ensures.ew c.join-in-If.ensures.value c.in_ok-test-in-If.ensures.holds
+    (command_plan c.args.c.now rest) (list_plan c.deref.result.now) (list_plan c.deref-in-If.result.now) rest c.in_ok-one-in-If.one.0 c.join-inner.result.number c.join3-start.result.number
+    q c.join-inner.ensures.value c.join3-start.ensures c.in_ok-other-in-If.other.0 c.in_ok-one-in-If.one.1.number c.in_ok-other-in-If.other.1.number c.join-in-If-2.result.number
+    c.in_ok-one-in-If.ensures.number c.in_ok-other-in-If.ensures.number c.in_ok-one-in-If.ensures.passes c.in_ok-other-in-If.ensures.passes c.join-in-If-2.ensures.value
 
 pub command_walk-returns-in_err-one-in-If-clause-refused : goal.command_walk-returns-in_err-one-in-If-clause-refused
 command_walk-returns-in_err-one-in-If-clause-refused t c =
@@ -113,11 +112,11 @@ command_walk-returns-in_err-one-in-If-clause-refused t c =
     let pc = c.args.pc.number in
     let b = err_from_is_err_and c.from_residual-in_err-one-in-If.result c.from_residual-in_err-one-in-If.ensures.1 in
     rw (b.1, b.2) (λ rest.
-      let q = if_parts c.args.c.now.form c.in-If.guard c.in-If.then_part c.in-If.else_part c.deref.result.now c.in-If.else_part.items c.in-If.is c.deref.ensures.value refl w rest in
-      if_broken_one lat (variable_of o p) (marks_of o p) (level_of o p) w (expression_of c.in-If.guard) i pc c.args.t.number c.label-le.result.number c.command-own.result.0.number c.label-le.ensures c.command-own.ensures.er
-        c.index_label-in-If.result.number c.command-own.result.1.number c.join-in-If.result.number c.index_label-in-If.ensures c.command-own.ensures.ew c.join-in-If.ensures c.in_ok-test-in-If.ensures.holds
-        (command_plan c.args.c.now rest) (list_plan c.deref.result.now) (list_plan c.in-If.else_part.items) rest 0 c.join-inner.result.number c.join3-start.result.number
-        q c.join-inner.ensures c.join3-start.ensures c.in_err-one-in-If.field-0.0 c.in_err-one-in-If.ensures.refused)
+    let q = if_parts c.args.c.now.form c.in-If.guard c.in-If.then_part c.in-If.else_part c.deref.result.now c.in-If.else_part.items c.in-If.is c.deref.ensures.value refl w rest in
+    if_broken_one lat (variable_of o p) (marks_of o p) (level_of o p) w (expression_of c.in-If.guard) i pc c.args.t.number c.label-le.result.number c.command-own.result.0.number c.label-le.ensures c.command-own.ensures.er
+    c.index_label-in-If.result.number c.command-own.result.1.number c.join-in-If.result.number c.index_label-in-If.ensures c.command-own.ensures.ew c.join-in-If.ensures.value c.in_ok-test-in-If.ensures.holds
+    (command_plan c.args.c.now rest) (list_plan c.deref.result.now) (list_plan c.in-If.else_part.items) rest 0 c.join-inner.result.number c.join3-start.result.number
+    q c.join-inner.ensures.value c.join3-start.ensures c.in_err-one-in-If.field-0.0 c.in_err-one-in-If.ensures.refused)
 
 pub command_walk-returns-in_err-other-in-If-clause-refused : goal.command_walk-returns-in_err-other-in-If-clause-refused
 command_walk-returns-in_err-other-in-If-clause-refused t c =
@@ -129,11 +128,11 @@ command_walk-returns-in_err-other-in-If-clause-refused t c =
     let pc = c.args.pc.number in
     let b = err_from_is_err_and c.from_residual-in_err-other-in-If.result c.from_residual-in_err-other-in-If.ensures.1 in
     rw (b.1, b.2) (λ rest.
-      let q = if_parts c.args.c.now.form c.in-If.guard c.in-If.then_part c.in-If.else_part c.deref.result.now c.deref-in-If.result.now c.in-If.is c.deref.ensures.value c.deref-in-If.ensures.value w rest in
-      if_broken_other lat (variable_of o p) (marks_of o p) (level_of o p) w (expression_of c.in-If.guard) i pc c.args.t.number c.label-le.result.number c.command-own.result.0.number c.label-le.ensures c.command-own.ensures.er
-        c.index_label-in-If.result.number c.command-own.result.1.number c.join-in-If.result.number c.index_label-in-If.ensures c.command-own.ensures.ew c.join-in-If.ensures c.in_ok-test-in-If.ensures.holds
-        (command_plan c.args.c.now rest) (list_plan c.deref.result.now) (list_plan c.deref-in-If.result.now) rest c.in_ok-one-in-If.one.0 c.join-inner.result.number c.join3-start.result.number
-        q c.join-inner.ensures c.join3-start.ensures c.in_ok-one-in-If.one.1.number c.in_err-other-in-If.field-0.0 c.in_ok-one-in-If.ensures.number c.in_ok-one-in-If.ensures.passes c.in_err-other-in-If.ensures.refused)
+    let q = if_parts c.args.c.now.form c.in-If.guard c.in-If.then_part c.in-If.else_part c.deref.result.now c.deref-in-If.result.now c.in-If.is c.deref.ensures.value c.deref-in-If.ensures.value w rest in
+    if_broken_other lat (variable_of o p) (marks_of o p) (level_of o p) w (expression_of c.in-If.guard) i pc c.args.t.number c.label-le.result.number c.command-own.result.0.number c.label-le.ensures c.command-own.ensures.er
+    c.index_label-in-If.result.number c.command-own.result.1.number c.join-in-If.result.number c.index_label-in-If.ensures c.command-own.ensures.ew c.join-in-If.ensures.value c.in_ok-test-in-If.ensures.holds
+    (command_plan c.args.c.now rest) (list_plan c.deref.result.now) (list_plan c.deref-in-If.result.now) rest c.in_ok-one-in-If.one.0 c.join-inner.result.number c.join3-start.result.number
+    q c.join-inner.ensures.value c.join3-start.ensures c.in_ok-one-in-If.one.1.number c.in_err-other-in-If.field-0.0 c.in_ok-one-in-If.ensures.number c.in_ok-one-in-If.ensures.passes c.in_err-other-in-If.ensures.refused)
 
 pub command_walk-returns-in_ok-part-in-While-clause-passes : goal.command_walk-returns-in_ok-part-in-While-clause-passes
 command_walk-returns-in_ok-part-in-While-clause-passes t c =
@@ -148,11 +147,11 @@ command_walk-returns-in_ok-part-in-While-clause-passes t c =
     let same = c.deref-in-While.ensures.value ∙ sym c.deref-in-While-2.ensures.value in
     let stays = c.list_end.ensures.end ∙ ap (λ z. end_of o p (list_plan z) (i + 1) inner start) same in
     λ rest.
-      let q = while_parts c.args.c.now.form c.in-While.guard c.in-While.body c.deref-in-While-2.result.now c.in-While.is c.deref-in-While-2.ensures.value w rest in
-      while_passes lat (variable_of o p) (marks_of o p) (level_of o p) w (expression_of c.in-While.guard) i pc c.args.t.number c.label-le-in-While.result.number c.command-own.result.0.number c.label-le-in-While.ensures c.command-own.ensures.er
-        c.index_label-in-While.result.number c.command-own.result.1.number c.join-in-While.result.number c.index_label-in-While.ensures c.command-own.ensures.ew c.join-in-While.ensures c.in_ok-test-in-While.ensures.holds
-        (command_plan c.args.c.now rest) (list_plan c.deref-in-While-2.result.now) rest inner start c.list_end.result.1.number q c.join-inner-in-While.ensures c.join3-start-in-While.ensures stays
-        c.in_ok-part-in-While.part.0 c.in_ok-part-in-While.part.1.number c.in_ok-part-in-While.ensures.number c.in_ok-part-in-While.ensures.passes
+    let q = while_parts c.args.c.now.form c.in-While.guard c.in-While.body c.deref-in-While-2.result.now c.in-While.is c.deref-in-While-2.ensures.value w rest in
+    while_passes lat (variable_of o p) (marks_of o p) (level_of o p) w (expression_of c.in-While.guard) i pc c.args.t.number c.label-le-in-While.result.number c.command-own.result.0.number c.label-le-in-While.ensures c.command-own.ensures.er
+    c.index_label-in-While.result.number c.command-own.result.1.number c.join-in-While.result.number c.index_label-in-While.ensures c.command-own.ensures.ew c.join-in-While.ensures.value c.in_ok-test-in-While.ensures.holds
+    (command_plan c.args.c.now rest) (list_plan c.deref-in-While-2.result.now) rest inner start c.list_end.result.1.number q c.join-inner-in-While.ensures.value c.join3-start-in-While.ensures stays
+    c.in_ok-part-in-While.part.0 c.in_ok-part-in-While.part.1.number c.in_ok-part-in-While.ensures.number c.in_ok-part-in-While.ensures.passes
 
 pub command_walk-returns-in_err-part-in-While-clause-refused : goal.command_walk-returns-in_err-part-in-While-clause-refused
 command_walk-returns-in_err-part-in-While-clause-refused t c =
@@ -168,11 +167,11 @@ command_walk-returns-in_err-part-in-While-clause-refused t c =
     let stays = c.list_end.ensures.end ∙ ap (λ z. end_of o p (list_plan z) (i + 1) inner start) same in
     let b = err_from_is_err_and c.from_residual-in_err-part-in-While.result c.from_residual-in_err-part-in-While.ensures.1 in
     rw (b.1, b.2) (λ rest.
-      let q = while_parts c.args.c.now.form c.in-While.guard c.in-While.body c.deref-in-While-2.result.now c.in-While.is c.deref-in-While-2.ensures.value w rest in
-      while_broken lat (variable_of o p) (marks_of o p) (level_of o p) w (expression_of c.in-While.guard) i pc c.args.t.number c.label-le-in-While.result.number c.command-own.result.0.number c.label-le-in-While.ensures c.command-own.ensures.er
-        c.index_label-in-While.result.number c.command-own.result.1.number c.join-in-While.result.number c.index_label-in-While.ensures c.command-own.ensures.ew c.join-in-While.ensures c.in_ok-test-in-While.ensures.holds
-        (command_plan c.args.c.now rest) (list_plan c.deref-in-While-2.result.now) rest inner start c.list_end.result.1.number q c.join-inner-in-While.ensures c.join3-start-in-While.ensures stays
-        c.in_err-part-in-While.field-0.0 c.in_err-part-in-While.ensures.refused)
+    let q = while_parts c.args.c.now.form c.in-While.guard c.in-While.body c.deref-in-While-2.result.now c.in-While.is c.deref-in-While-2.ensures.value w rest in
+    while_broken lat (variable_of o p) (marks_of o p) (level_of o p) w (expression_of c.in-While.guard) i pc c.args.t.number c.label-le-in-While.result.number c.command-own.result.0.number c.label-le-in-While.ensures c.command-own.ensures.er
+    c.index_label-in-While.result.number c.command-own.result.1.number c.join-in-While.result.number c.index_label-in-While.ensures c.command-own.ensures.ew c.join-in-While.ensures.value c.in_ok-test-in-While.ensures.holds
+    (command_plan c.args.c.now rest) (list_plan c.deref-in-While-2.result.now) rest inner start c.list_end.result.1.number q c.join-inner-in-While.ensures.value c.join3-start-in-While.ensures stays
+    c.in_err-part-in-While.field-0.0 c.in_err-part-in-While.ensures.refused)
 
 pub command_walk-returns-in_ok-test-in-Mitigate-2-clause-passes : goal.command_walk-returns-in_ok-test-in-Mitigate-2-clause-passes
 command_walk-returns-in_ok-test-in-Mitigate-2-clause-passes t c =
@@ -183,11 +182,11 @@ command_walk-returns-in_ok-test-in-Mitigate-2-clause-passes t c =
     let i = c.args.number in
     let pc = c.args.pc.number in
     λ rest.
-      let q = mitigate_parts c.args.c.now.form c.in-Mitigate.mark c.in-Mitigate.estimate c.in-Mitigate.level c.in-Mitigate.body c.deref-in-Mitigate.result.now c.in-Mitigate.is c.deref-in-Mitigate.ensures.value w rest in
-      mitigate_passes lat (variable_of o p) (marks_of o p) (level_of o p) w (expression_of c.in-Mitigate.estimate) i pc c.args.t.number c.label-in-Mitigate.result.number c.command-own.result.0.number c.label-in-Mitigate.ensures c.command-own.ensures.er
-        c.index_label-in-Mitigate.result.number c.command-own.result.1.number c.join-in-Mitigate.result.number c.index_label-in-Mitigate.ensures c.command-own.ensures.ew c.join-in-Mitigate.ensures c.in_ok-test-in-Mitigate.ensures.holds
-        (command_plan c.args.c.now rest) (list_plan c.deref-in-Mitigate.result.now) rest c.in-Mitigate.mark c.in-Mitigate.level c.join3-start-in-Mitigate.result.number q c.join3-start-in-Mitigate.ensures
-        c.in_ok-part-in-Mitigate.part.0 c.in_ok-part-in-Mitigate.part.1.number c.level.result.number c.in_ok-part-in-Mitigate.ensures.number c.in_ok-part-in-Mitigate.ensures.passes c.level.ensures c.in_ok-test-in-Mitigate-2.ensures.holds
+    let q = mitigate_parts c.args.c.now.form c.in-Mitigate.mark c.in-Mitigate.estimate c.in-Mitigate.level c.in-Mitigate.body c.deref-in-Mitigate.result.now c.in-Mitigate.is c.deref-in-Mitigate.ensures.value w rest in
+    mitigate_passes lat (variable_of o p) (marks_of o p) (level_of o p) w (expression_of c.in-Mitigate.estimate) i pc c.args.t.number c.label-in-Mitigate.result.number c.command-own.result.0.number c.label-in-Mitigate.ensures c.command-own.ensures.er
+    c.index_label-in-Mitigate.result.number c.command-own.result.1.number c.join-in-Mitigate.result.number c.index_label-in-Mitigate.ensures c.command-own.ensures.ew c.join-in-Mitigate.ensures.value c.in_ok-test-in-Mitigate.ensures.holds
+    (command_plan c.args.c.now rest) (list_plan c.deref-in-Mitigate.result.now) rest c.in-Mitigate.mark c.in-Mitigate.level c.join3-start-in-Mitigate.result.number q c.join3-start-in-Mitigate.ensures
+    c.in_ok-part-in-Mitigate.part.0 c.in_ok-part-in-Mitigate.part.1.number c.level.result.number c.in_ok-part-in-Mitigate.ensures.number c.in_ok-part-in-Mitigate.ensures.passes c.level.ensures c.in_ok-test-in-Mitigate-2.ensures.holds
 
 pub command_walk-returns-in_err-part-in-Mitigate-clause-refused : goal.command_walk-returns-in_err-part-in-Mitigate-clause-refused
 command_walk-returns-in_err-part-in-Mitigate-clause-refused t c =
@@ -199,11 +198,11 @@ command_walk-returns-in_err-part-in-Mitigate-clause-refused t c =
     let pc = c.args.pc.number in
     let b = err_from_is_err_and c.from_residual-in_err-part-in-Mitigate.result c.from_residual-in_err-part-in-Mitigate.ensures.1 in
     rw (b.1, b.2) (λ rest.
-      let q = mitigate_parts c.args.c.now.form c.in-Mitigate.mark c.in-Mitigate.estimate c.in-Mitigate.level c.in-Mitigate.body c.deref-in-Mitigate.result.now c.in-Mitigate.is c.deref-in-Mitigate.ensures.value w rest in
-      mitigate_broken lat (variable_of o p) (marks_of o p) (level_of o p) w (expression_of c.in-Mitigate.estimate) i pc c.args.t.number c.label-in-Mitigate.result.number c.command-own.result.0.number c.label-in-Mitigate.ensures c.command-own.ensures.er
-        c.index_label-in-Mitigate.result.number c.command-own.result.1.number c.join-in-Mitigate.result.number c.index_label-in-Mitigate.ensures c.command-own.ensures.ew c.join-in-Mitigate.ensures c.in_ok-test-in-Mitigate.ensures.holds
-        (command_plan c.args.c.now rest) (list_plan c.deref-in-Mitigate.result.now) rest c.in-Mitigate.mark c.in-Mitigate.level c.join3-start-in-Mitigate.result.number q c.join3-start-in-Mitigate.ensures
-        c.in_err-part-in-Mitigate.field-0.0 c.in_err-part-in-Mitigate.ensures.refused)
+    let q = mitigate_parts c.args.c.now.form c.in-Mitigate.mark c.in-Mitigate.estimate c.in-Mitigate.level c.in-Mitigate.body c.deref-in-Mitigate.result.now c.in-Mitigate.is c.deref-in-Mitigate.ensures.value w rest in
+    mitigate_broken lat (variable_of o p) (marks_of o p) (level_of o p) w (expression_of c.in-Mitigate.estimate) i pc c.args.t.number c.label-in-Mitigate.result.number c.command-own.result.0.number c.label-in-Mitigate.ensures c.command-own.ensures.er
+    c.index_label-in-Mitigate.result.number c.command-own.result.1.number c.join-in-Mitigate.result.number c.index_label-in-Mitigate.ensures c.command-own.ensures.ew c.join-in-Mitigate.ensures.value c.in_ok-test-in-Mitigate.ensures.holds
+    (command_plan c.args.c.now rest) (list_plan c.deref-in-Mitigate.result.now) rest c.in-Mitigate.mark c.in-Mitigate.level c.join3-start-in-Mitigate.result.number q c.join3-start-in-Mitigate.ensures
+    c.in_err-part-in-Mitigate.field-0.0 c.in_err-part-in-Mitigate.ensures.refused)
 
 pub command_walk-returns-in_err-test-in-Mitigate-2-clause-refused : goal.command_walk-returns-in_err-test-in-Mitigate-2-clause-refused
 command_walk-returns-in_err-test-in-Mitigate-2-clause-refused t c =
@@ -215,12 +214,12 @@ command_walk-returns-in_err-test-in-Mitigate-2-clause-refused t c =
     let pc = c.args.pc.number in
     let b = err_from_is_err_and c.from_residual-in_err-test-in-Mitigate-2.result c.from_residual-in_err-test-in-Mitigate-2.ensures.1 in
     rw (b.1, b.2) (λ rest.
-      let q = mitigate_parts c.args.c.now.form c.in-Mitigate.mark c.in-Mitigate.estimate c.in-Mitigate.level c.in-Mitigate.body c.deref-in-Mitigate.result.now c.in-Mitigate.is c.deref-in-Mitigate.ensures.value w rest in
-      mitigate_high lat (variable_of o p) (marks_of o p) (level_of o p) w (expression_of c.in-Mitigate.estimate) i pc c.args.t.number c.label-in-Mitigate.result.number c.command-own.result.0.number c.label-in-Mitigate.ensures c.command-own.ensures.er
-        c.index_label-in-Mitigate.result.number c.command-own.result.1.number c.join-in-Mitigate.result.number c.index_label-in-Mitigate.ensures c.command-own.ensures.ew c.join-in-Mitigate.ensures c.in_ok-test-in-Mitigate.ensures.holds
-        (command_plan c.args.c.now rest) (list_plan c.deref-in-Mitigate.result.now) rest c.in-Mitigate.mark c.in-Mitigate.level c.join3-start-in-Mitigate.result.number q c.join3-start-in-Mitigate.ensures
-        c.in_ok-part-in-Mitigate.part.1.number c.level.result.number c.in_err-test-in-Mitigate-2.field-0.0 c.in_ok-part-in-Mitigate.ensures.passes c.level.ensures
-        c.in_err-test-in-Mitigate-2.ensures.broken.1 c.in_err-test-in-Mitigate-2.ensures.broken.0)
+    let q = mitigate_parts c.args.c.now.form c.in-Mitigate.mark c.in-Mitigate.estimate c.in-Mitigate.level c.in-Mitigate.body c.deref-in-Mitigate.result.now c.in-Mitigate.is c.deref-in-Mitigate.ensures.value w rest in
+    mitigate_high lat (variable_of o p) (marks_of o p) (level_of o p) w (expression_of c.in-Mitigate.estimate) i pc c.args.t.number c.label-in-Mitigate.result.number c.command-own.result.0.number c.label-in-Mitigate.ensures c.command-own.ensures.er
+    c.index_label-in-Mitigate.result.number c.command-own.result.1.number c.join-in-Mitigate.result.number c.index_label-in-Mitigate.ensures c.command-own.ensures.ew c.join-in-Mitigate.ensures.value c.in_ok-test-in-Mitigate.ensures.holds
+    (command_plan c.args.c.now rest) (list_plan c.deref-in-Mitigate.result.now) rest c.in-Mitigate.mark c.in-Mitigate.level c.join3-start-in-Mitigate.result.number q c.join3-start-in-Mitigate.ensures
+    c.in_ok-part-in-Mitigate.part.1.number c.level.result.number c.in_err-test-in-Mitigate-2.field-0.0 c.in_ok-part-in-Mitigate.ensures.passes c.level.ensures
+    c.in_err-test-in-Mitigate-2.ensures.broken.1 c.in_err-test-in-Mitigate-2.ensures.broken.0)
 
 pub list_walk-loop-c-preserved : goal.list_walk-loop-c-preserved
 list_walk-loop-c-preserved t c =
@@ -238,7 +237,8 @@ list_walk-loop-c-preserved t c =
     let next = c.in_ok-part.ensures.passes (list_plan (drop (j + 1) cs)) in
     record {
       count = omega (arith, n, i, k);
-      passes =
-        (c.loop-c.invariant.passes.0 ∙ ap (λ z. walk_end lat g (tree_of o p (list_plan z) c.loop-c.next) pc c.loop-c.end.number) u ∙ next.0,
-         c.loop-c.invariant.passes.1 ∙ ap (λ z. first_broken lat (conditions lat g (tree_of o p (list_plan z) c.loop-c.next) pc c.loop-c.end.number)) u ∙ next.1);
+      passes = (
+        c.loop-c.invariant.passes.0 ∙ ap (λ z. walk_end lat g (tree_of o p (list_plan z) c.loop-c.next) pc c.loop-c.end.number) u ∙ next.0,
+        c.loop-c.invariant.passes.1 ∙ ap (λ z. first_broken lat (conditions lat g (tree_of o p (list_plan z) c.loop-c.next) pc c.loop-c.end.number)) u ∙ next.1,
+      );
     }

@@ -1,4 +1,4 @@
-use Rattle.std.proofs.Common.{rules, ◌≡◌, ℕ, ◌+◌, ◌*◌, ◌^◌, ◌<◌, drop, refl, sym, ap, ◌∙◌, arith}
+use Rattle.std.proofs.Common.{rules, ◌+◌, ◌*◌, ◌<◌, drop, refl, sym, ap, ◌∙◌, arith}
 use Rattle.label_lattice.specs.Order.{lattice_of}
 use Rattle.mit_syntax.specs.Expression.{expression_of}
 use Rattle.mit_syntax.specs.Plan.{Written, list_plan, command_plan, form_count, count}
@@ -83,11 +83,11 @@ command_end-returns-in-If-clause-end t c =
     let p = c.args.p.now in
     let lat = lattice_of o in
     λ rest.
-      let q = if_parts c.args.c.now.form c.in-If.guard c.in-If.then_part c.in-If.else_part c.deref.result.now c.deref-in-If.result.now c.in-If.is c.deref.ensures.value c.deref-in-If.ensures.value w rest in
-      if_ends lat (variable_of o p) (marks_of o p) (level_of o p) w (expression_of c.in-If.guard) c.args.number c.args.pc.number c.args.t.number c.label-le.result.number c.command-own.result.0.number
-        c.label-le.ensures c.command-own.ensures.er (command_plan c.args.c.now rest) (list_plan c.deref.result.now) (list_plan c.deref-in-If.result.now) rest
-        c.list_end-one.result.0 c.list_end-other.result.0 c.join-inner.result.number c.join3-start.result.number c.list_end-one.result.1.number c.list_end-other.result.1.number c.join-in-If.result.number
-        q c.join-inner.ensures c.join3-start.ensures c.list_end-one.ensures.number c.list_end-other.ensures.number c.list_end-one.ensures.end c.list_end-other.ensures.end c.join-in-If.ensures
+    let q = if_parts c.args.c.now.form c.in-If.guard c.in-If.then_part c.in-If.else_part c.deref.result.now c.deref-in-If.result.now c.in-If.is c.deref.ensures.value c.deref-in-If.ensures.value w rest in
+    if_ends lat (variable_of o p) (marks_of o p) (level_of o p) w (expression_of c.in-If.guard) c.args.number c.args.pc.number c.args.t.number c.label-le.result.number c.command-own.result.0.number
+    c.label-le.ensures c.command-own.ensures.er (command_plan c.args.c.now rest) (list_plan c.deref.result.now) (list_plan c.deref-in-If.result.now) rest
+    c.list_end-one.result.0 c.list_end-other.result.0 c.join-inner.result.number c.join3-start.result.number c.list_end-one.result.1.number c.list_end-other.result.1.number c.join-in-If.result.number
+    q c.join-inner.ensures.value c.join3-start.ensures c.list_end-one.ensures.number c.list_end-other.ensures.number c.list_end-one.ensures.end c.list_end-other.ensures.end c.join-in-If.ensures.value
 
 pub command_end-returns-in-While-clause-end : goal.command_end-returns-in-While-clause-end
 command_end-returns-in-While-clause-end t c =
@@ -96,11 +96,11 @@ command_end-returns-in-While-clause-end t c =
     let p = c.args.p.now in
     let lat = lattice_of o in
     λ rest.
-      let q = while_parts c.args.c.now.form c.in-While.guard c.in-While.body c.deref-in-While.result.now c.in-While.is c.deref-in-While.ensures.value w rest in
-      while_ends lat (variable_of o p) (marks_of o p) (level_of o p) w (expression_of c.in-While.guard) c.args.number c.args.pc.number c.args.t.number c.label-le-in-While.result.number c.command-own.result.0.number
-        c.label-le-in-While.ensures c.command-own.ensures.er (command_plan c.args.c.now rest) (list_plan c.deref-in-While.result.now) rest
-        c.list_end.result.0 c.join-in-While.result.number c.join3-start-in-While.result.number c.list_end.result.1.number
-        q c.join-in-While.ensures c.join3-start-in-While.ensures c.list_end.ensures.number c.list_end.ensures.end
+    let q = while_parts c.args.c.now.form c.in-While.guard c.in-While.body c.deref-in-While.result.now c.in-While.is c.deref-in-While.ensures.value w rest in
+    while_ends lat (variable_of o p) (marks_of o p) (level_of o p) w (expression_of c.in-While.guard) c.args.number c.args.pc.number c.args.t.number c.label-le-in-While.result.number c.command-own.result.0.number
+    c.label-le-in-While.ensures c.command-own.ensures.er (command_plan c.args.c.now rest) (list_plan c.deref-in-While.result.now) rest
+    c.list_end.result.0 c.join-in-While.result.number c.join3-start-in-While.result.number c.list_end.result.1.number
+    q c.join-in-While.ensures.value c.join3-start-in-While.ensures c.list_end.ensures.number c.list_end.ensures.end
 
 pub command_end-returns-in-Mitigate-clause-end : goal.command_end-returns-in-Mitigate-clause-end
 command_end-returns-in-Mitigate-clause-end t c =
@@ -109,11 +109,11 @@ command_end-returns-in-Mitigate-clause-end t c =
     let p = c.args.p.now in
     let lat = lattice_of o in
     λ rest.
-      let q = mitigate_parts c.args.c.now.form c.in-Mitigate.mark c.in-Mitigate.estimate c.in-Mitigate.level c.in-Mitigate.body c.deref-in-Mitigate.result.now c.in-Mitigate.is c.deref-in-Mitigate.ensures.value w rest in
-      mitigate_ends lat (variable_of o p) (marks_of o p) (level_of o p) w (expression_of c.in-Mitigate.estimate) c.args.number c.args.pc.number c.args.t.number c.label-in-Mitigate.result.number c.command-own.result.0.number
-        c.label-in-Mitigate.ensures c.command-own.ensures.er (command_plan c.args.c.now rest) (list_plan c.deref-in-Mitigate.result.now) rest
-        c.in-Mitigate.mark c.list_end-part.result.0 c.join3-start-in-Mitigate.result.number c.in-Mitigate.level
-        q c.join3-start-in-Mitigate.ensures c.list_end-part.ensures.number
+    let q = mitigate_parts c.args.c.now.form c.in-Mitigate.mark c.in-Mitigate.estimate c.in-Mitigate.level c.in-Mitigate.body c.deref-in-Mitigate.result.now c.in-Mitigate.is c.deref-in-Mitigate.ensures.value w rest in
+    mitigate_ends lat (variable_of o p) (marks_of o p) (level_of o p) w (expression_of c.in-Mitigate.estimate) c.args.number c.args.pc.number c.args.t.number c.label-in-Mitigate.result.number c.command-own.result.0.number
+    c.label-in-Mitigate.ensures c.command-own.ensures.er (command_plan c.args.c.now rest) (list_plan c.deref-in-Mitigate.result.now) rest
+    c.in-Mitigate.mark c.list_end-part.result.0 c.join3-start-in-Mitigate.result.number c.in-Mitigate.level
+    q c.join3-start-in-Mitigate.ensures c.list_end-part.ensures.number
 
 pub list_end-loop-c-preserved : goal.list_end-loop-c-preserved
 list_end-loop-c-preserved t c =
@@ -126,6 +126,6 @@ list_end-loop-c-preserved t c =
     record {
       count = omega (arith, n, i, k);
       end =
-        sym (c.command_end-part.ensures.end (list_plan (drop (j + 1) cs)))
-        ∙ sym (ap (λ z. end_of c.args.order.now c.args.p.now (list_plan z) c.loop-c.next c.args.pc.number c.loop-c.end.number) u) ∙ c.loop-c.invariant.end;
+          sym (c.command_end-part.ensures.end (list_plan (drop (j + 1) cs)))
+          ∙ sym (ap (λ z. end_of c.args.order.now c.args.p.now (list_plan z) c.loop-c.next c.args.pc.number c.loop-c.end.number) u) ∙ c.loop-c.invariant.end;
     }
