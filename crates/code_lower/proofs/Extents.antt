@@ -38,17 +38,14 @@ deepest-form (FMitigate k e l s c) w rest = omega arith
 
 -- a list from one of its commands on
 module _ (cs : List Command) (i : ℕ) (c : Command) (h : i < length cs) (is : c ≡ get_or cs i c) where
-  w : Written
-  w = record { pos = c.pos; labels = c.labels }
-
   pub cut_size : size (list_plan (drop i cs)) ≡ size (command_plan c Done) + size (list_plan (drop (i + 1) cs))
-  cut_size = ap (λ z. size (list_plan z)) (cut cs i c h is) ∙ size-form c.form w (list_plan (drop (i + 1) cs))
+  cut_size = ap (λ z. size (list_plan z)) (cut cs i c h is) ∙ size-form c.form (record { pos = c.pos; labels = c.labels }) (list_plan (drop (i + 1) cs))
 
   pub cut_operands : most_operands (list_plan (drop i cs)) ≡ max (most_operands (command_plan c Done)) (most_operands (list_plan (drop (i + 1) cs)))
-  cut_operands = ap (λ z. most_operands (list_plan z)) (cut cs i c h is) ∙ operands-form c.form w (list_plan (drop (i + 1) cs))
+  cut_operands = ap (λ z. most_operands (list_plan z)) (cut cs i c h is) ∙ operands-form c.form (record { pos = c.pos; labels = c.labels }) (list_plan (drop (i + 1) cs))
 
   pub cut_deepest : deepest (list_plan (drop i cs)) ≡ max (deepest (command_plan c Done)) (deepest (list_plan (drop (i + 1) cs)))
-  cut_deepest = ap (λ z. deepest (list_plan z)) (cut cs i c h is) ∙ deepest-form c.form w (list_plan (drop (i + 1) cs))
+  cut_deepest = ap (λ z. deepest (list_plan z)) (cut cs i c h is) ∙ deepest-form c.form (record { pos = c.pos; labels = c.labels }) (list_plan (drop (i + 1) cs))
 
 -- no code is deeper than it is long
 pub expr_operands_within : (e : Expression) → expr_operands e ≤ expr_size e
