@@ -4,3 +4,5 @@ pub mod Follow
 pub mod Order
 pub mod Stands
 pub mod Extents
+pub mod Patch
+pub mod Emitting

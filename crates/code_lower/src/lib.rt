@@ -1,8 +1,6 @@
 //! From typed programs to images.
 #![tactic(auto)]
 
+mod emit;
 pub mod laws;
-//pub mod lower;
-
-//mod emit;
 mod size;
