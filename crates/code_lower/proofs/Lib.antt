@@ -6,3 +6,6 @@ pub mod Stands
 pub mod Extents
 pub mod Patch
 pub mod Emitting
+pub mod Program
+pub mod Range
+pub mod Bound

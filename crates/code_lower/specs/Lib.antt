@@ -3,5 +3,5 @@ pub mod Code
 pub mod Depth
 pub mod Measured
 pub mod Emitted
--- pub mod Lowered
+pub mod Lowered
 pub mod Follows

@@ -3,4 +3,5 @@
 
 mod emit;
 pub mod laws;
+pub mod lower;
 mod size;
