@@ -3,9 +3,9 @@
 
 pub mod check;
 mod contexts;
-mod ends;
+pub mod ends;
 pub mod labelled;
-mod labels;
+pub mod labels;
 pub mod rule;
 #[cfg(test)]
 mod tests;
