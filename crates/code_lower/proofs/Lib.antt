@@ -3,3 +3,9 @@ pub mod Stretches
 pub mod Follow
 pub mod Order
 pub mod Stands
+pub mod Extents
+pub mod Patch
+pub mod Emitting
+pub mod Program
+pub mod Range
+pub mod Bound

@@ -2,7 +2,7 @@
 use Rattle.std.specs.Prelude.{ℕ, ◌+◌, List, [], ◌∷◌, ◌++◌}
 use Rattle.mit_syntax.specs.Expression.{Expression}
 use Rattle.mit_syntax.specs.Expression.{Number, Variable, Binary, Element}
-use Rattle.label_code.specs.declared.code.Work.TheVariants.{Push, Load, Store, LoadAt, StoreAt, Apply, Brz, Brnz, Jmp, Sleep as SleepWork, Mitb, Mite, Nop}
+use Rattle.label_code.specs.declared.code.Work.TheVariants.{Push, Load, Store, LoadAt, StoreAt, Apply, Brz, Brnz, Jmp, Sleep as SleepWork, Mitb, Mite, Nop, Halt}
 use Rattle.label_code.specs.declared.code.Instr.{Instr}
 use Rattle.mit_syntax.specs.Todo.{Marks, Marked, Done, Skip, Assign, Put, Sleep, If, While, Mitigate}
 use Rattle.label_lattice.specs.Lattice.{Lattice}
@@ -40,3 +40,7 @@ code_of lat g (Mitigate m k l e c r) a =
     let j = b + 1 + size c in
     expr_code m e ++ (instr (Mitb (label l) k) m ∷ (code_of lat g c (b + 1)
     ++ (instr Mite m ∷ code_of lat g r (j + 1))))
+
+-- a program's image: its code and HALT
+abbrev pub image_of : Lattice → (ℕ → ℕ) → Marked → List Instr
+image_of lat g p = code_of lat g p 0 ++ instr Halt (record { er = lat.bottom; ew = lat.bottom }) ∷ []

@@ -2,7 +2,7 @@
 use Rattle.std.specs.Prelude.{◌≡◌, ℕ, ◌+◌, List, Some, slice_get}
 use Rattle.mit_syntax.specs.Expression.{Expression}
 use Rattle.mit_syntax.specs.Expression.{Number, Variable, Binary, Element}
-use Rattle.mit_syntax.specs.Todo.{Marks, Marked, Done, Skip, Assign, Put, Sleep, If, While, Mitigate}
+use Rattle.mit_syntax.specs.Todo.{Todo, Marks, Marked, Done, Skip, Assign, Put, Sleep, If, While, Mitigate}
 use Rattle.label_lattice.specs.Lattice.{Lattice}
 use Rattle.timing_types.specs.Typing.{label_of}
 use Rattle.label_code.specs.declared.code.Work.{Work}
@@ -13,13 +13,14 @@ use Rattle.label_code.specs.Machine.{label, instr}
 abbrev pub Stands : List Instr → ℕ → Work → Marks → Type 0
 Stands image a w m = slice_get image a ≡ Some (instr w m)
 
+-- how many instructions the code of an expression has, and that of a list
 abbrev pub expr_size : Expression → ℕ
 expr_size (Number n) = 1
 expr_size (Variable x) = 1
 expr_size (Binary o l r) = expr_size l + expr_size r + 1
 expr_size (Element f n i) = expr_size i + 1
 
-abbrev pub size : Marked → ℕ
+abbrev pub size : {M L : Type 0} → Todo M L → ℕ
 size Done = 0
 size (Skip m r) = 1 + size r
 size (Assign m x e r) = expr_size e + 1 + size r

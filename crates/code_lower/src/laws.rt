@@ -1,6 +1,7 @@
 //! What is true of the code of every program, as contracts of functions that do nothing.
 
 ghost use Rattle.code_lower.specs.Follows.{OrderAll};
+ghost use Rattle.code_lower.specs.Lowered.{LoweredKeepsOrder};
 ghost use Rattle.env_contract.specs.Env.{Env};
 
 use env_contract::env::MachineEnv;
@@ -11,4 +12,9 @@ use env_contract::env::MachineEnv;
 /// image tells by some cycle, at which it has halted if the program has ended.
 pub fn code_keeps_order<E: MachineEnv>()
     ensures { OrderAll (record { cost_of = E.cost_of; next_of = E.next_of; part = E.part }) }
+{}
+
+/// The same of the image that `lower` makes of a program.
+pub fn image_keeps_order<E: MachineEnv>()
+    ensures { LoweredKeepsOrder (record { cost_of = E.cost_of; next_of = E.next_of; part = E.part }) }
 {}

@@ -1,6 +1,6 @@
 -- One step from a state that stands at known depths.
-use Rattle.std.proofs.Common.{◌≡◌, ◌<◌, ◌≤◌, ◌+◌, ◌*◌, ◌^◌, ℕ, zero, suc, List, [], ◌∷◌, ◌++◌, max, ◌-◌, length, refl, sym, ap, ◌∙◌, subst, arith, cond, inl, inr, Bool, true, false, Some, ℤ}
-use Rattle.std.specs.Prelude.{slice_get, map, reverse, vec_len, vec_capacity}
+use Rattle.std.proofs.Common.{◌≡◌, ◌<◌, ◌≤◌, ◌+◌, ℕ, List, [], ◌∷◌, length, sym, ap, ◌∙◌, subst, arith, cond, true, false, Some, ℤ}
+use Rattle.std.specs.Prelude.{slice_get, map, reverse, vec_len}
 use Rattle.std.proofs.lemmas.List.{length-reverse, length-map}
 use Rattle.std.proofs.lemmas.Option.{slice_get-get_or}
 use Rattle.std.proofs.Common.{get_or}
@@ -14,7 +14,7 @@ use Rattle.label_code.specs.Machine.{Core, Opened, Machine, Event, act, obey, st
 use Rattle.cycle_machine.specs.declared.state.State.{State}
 use Rattle.cycle_machine.specs.declared.state.Outcome.{Outcome}
 use Rattle.cycle_machine.specs.declared.state.Outcome.TheVariants.{Went, Wrote as DidWrite, Began as DidBegin, Ended as DidEnd, Halted as DidHalt, Late}
-use Rattle.label_code.specs.Shaped.{Code, Depths, HasDepths, IsFine, Arrives, Leads, InRange, takes, leaves, opens, closes}
+use Rattle.label_code.specs.Shaped.{Code, Depths, HasDepths, Leads, InRange, takes, leaves, opens, closes}
 use Rattle.label_lattice.specs.Order.{Order}
 use Rattle.cycle_machine.specs.Seen.{seen, with_log, core_of, opened_of}
 use Rattle.cycle_machine.specs.Took.{after, Took, Keeps, IsServed, IsThere, Stands, Fits, Stepped}

@@ -1,5 +1,5 @@
 -- The end of a mitigation.
-use Rattle.std.proofs.Common.{◌≡◌, ◌<◌, ◌≤◌, ◌+◌, ◌*◌, ℕ, List, [], ◌∷◌, ◌++◌, ◌-◌, length, refl, sym, ap, ◌∙◌, subst, arith, cond, inl, inr}
+use Rattle.std.proofs.Common.{◌≡◌, ◌<◌, ◌+◌, ◌*◌, ℕ, List, [], ◌∷◌, ◌++◌, ◌-◌, length, sym, ap, ◌∙◌, arith, cond, inl, inr}
 use Rattle.std.specs.Prelude.{eqb, map, reverse, slice_set, slice_index, ℤ}
 use Rattle.std.proofs.Math.Path.{fun_ext}
 use Rattle.std.proofs.lemmas.Bool.{eq-eqb, ne_eqb, cases_eq}
@@ -9,7 +9,7 @@ use Rattle.env_contract.specs.declared.place.Kind.TheVariants.{Code}
 use Rattle.doubling_schedule.specs.Doubling.{prediction, misses_after}
 use Rattle.doubling_schedule.proofs.Settling.{misses_enough}
 use Rattle.label_lattice.specs.declared.label.Label.{Label}
-use Rattle.label_code.specs.Machine.{Core, Opened, Machine, Event, Ended, closed, close_first, at, fetched, marks_of}
+use Rattle.label_code.specs.Machine.{Core, Opened, Machine, Ended, close_first, at, fetched, marks_of}
 use Rattle.label_code.specs.declared.code.Instr.{Instr}
 use Rattle.label_code.specs.declared.code.Work.TheVariants.{Mite}
 use Rattle.cycle_machine.specs.declared.state.State.{State}

@@ -1,5 +1,5 @@
 -- Quiet steps, one more.
-use Rattle.std.proofs.Common.{◌≡◌, ◌≤◌, ◌<◌, ◌+◌, ℕ, zero, suc, List, refl, sym, ap, ◌∙◌, inr, arith}
+use Rattle.std.proofs.Common.{◌≡◌, ◌≤◌, ◌<◌, ℕ, zero, suc, List, refl, ap, ◌∙◌, inr, arith}
 use Rattle.label_code.specs.declared.code.Instr.{Instr}
 use Rattle.env_contract.specs.Env.{Env}
 use Rattle.label_code.specs.Machine.{Machine, step, steps}

@@ -6,7 +6,7 @@ use Rattle.label_lattice.specs.Order.{Order}
 use Rattle.label_code.specs.declared.code.Work.{Work}
 use Rattle.label_code.specs.declared.code.Work.TheVariants.{Push, StoreAt, Mitb, Mite, Halt}
 use Rattle.label_code.specs.declared.code.Instr.{Instr}
-use Rattle.label_code.specs.Shaped.{Code, Depths, HasDepths, IsFine, IsShaped, Arrives}
+use Rattle.label_code.specs.Shaped.{Depths, IsFine, IsShaped}
 
 abbrev made : Label → Work → Instr
 made l w = record { work = w; er = l; ew = l }

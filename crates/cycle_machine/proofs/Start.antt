@@ -1,8 +1,8 @@
--- A loaded machine stands at the theory's start.
-use Rattle.std.proofs.Common.{◌≡◌, ℕ, zero, suc, List, [], ◌∷◌, refl, ap, ◌∙◌, ℤ, arith}
+-- A loaded machine stands at the start of its run.
+use Rattle.std.proofs.Common.{◌≡◌, ℕ, zero, suc, List, [], refl, ap, ◌∙◌, ℤ}
 use Rattle.std.specs.Prelude.{replicate}
 use Rattle.std.proofs.Math.Path.{fun_ext}
-use Rattle.label_code.specs.Machine.{Machine, Opened, at, start}
+use Rattle.label_code.specs.Machine.{Opened, at, start}
 use Rattle.cycle_machine.specs.Seen.{counts}
 
 none_counted : (n : ℕ) (l : ℕ) → counts (replicate n 0) l ≡ 0

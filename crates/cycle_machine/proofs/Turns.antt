@@ -1,6 +1,6 @@
--- Turns one after another are steps of the theory, with the whole log.
+-- Turns, one after another, are steps of the defined machine, with the whole log.
 use Rattle.std.proofs.Common.{◌≡◌, ◌≤◌, ◌<◌, ◌+◌, ℕ, subst, zero, suc, List, [], ◌∷◌, ◌++◌, refl, sym, ap, ◌∙◌, inl, inr, append_assoc, arith, cond, Bool, true, false, Option, Some, None, ℤ}
-use Rattle.std.specs.Prelude.{slice_get, ◌⊎◌}
+use Rattle.std.specs.Prelude.{slice_get}
 use Rattle.std.proofs.lemmas.List.{append-nil}
 use Rattle.label_code.specs.declared.code.Work.{Work}
 use Rattle.label_code.specs.declared.code.Work.TheVariants.{Push, Load, Store, LoadAt, StoreAt, Apply, Brz, Brnz, Jmp, Sleep, Mitb, Mite, Nop, Halt}
@@ -12,7 +12,7 @@ use Rattle.env_contract.specs.Env.{Env}
 use Rattle.label_code.specs.Machine.{start, run_to, run_for, Event, Core, Opened, Machine, act, obey, step, steps, at, closed, fetched, marks_of}
 use Rattle.cycle_machine.specs.declared.state.State.{State}
 use Rattle.cycle_machine.specs.Seen.{seen, with_log}
-use Rattle.cycle_machine.specs.Turned.{Quiet, Comes}
+use Rattle.cycle_machine.specs.Turned.{Comes}
 use Rattle.cycle_machine.specs.Reached.{Reached}
 use Rattle.cycle_machine.proofs.Quiet.{steps_last}
 

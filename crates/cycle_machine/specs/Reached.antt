@@ -1,11 +1,11 @@
--- What a caller knows after some turns: the events so far are the log of a run of the theory.
+-- What a caller knows after some turns: their events are the log of a run.
 use Rattle.std.specs.Prelude.{true, ◌≡◌, ◌≤◌, ◌<◌, ◌⊎◌, ℕ, List, [], ◌∷◌, ◌++◌, ℤ}
 use Rattle.env_contract.specs.Env.{Env}
 use Rattle.label_code.specs.Machine.{Event, Machine, step, steps, start, run_to}
 use Rattle.label_code.specs.declared.code.Instr.{Instr}
 use Rattle.cycle_machine.specs.declared.state.State.{State}
 use Rattle.cycle_machine.specs.Seen.{seen, with_log}
-use Rattle.cycle_machine.specs.Turned.{Quiet, Comes}
+use Rattle.cycle_machine.specs.Turned.{Comes}
 
 -- so many steps from the start, the last within the limit, lead to the state with these events in the log
 pub record Reached {E : Type 0} (v : Env E) (code : List Instr) (limit : ℕ) (from : Machine E) (events : List Event) (s : State E) : Type 0 where

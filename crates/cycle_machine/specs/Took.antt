@@ -1,9 +1,9 @@
 -- What one instruction needs, and what it makes of a state.
-use Rattle.std.specs.Prelude.{◌≡◌, ◌≤◌, ◌<◌, ℕ, ◌+◌, List, [], ◌∷◌, map, reverse, true, vec_len, vec_capacity, length}
+use Rattle.std.specs.Prelude.{◌≡◌, ◌≤◌, ◌<◌, ℕ, ◌+◌, [], ◌∷◌, map, reverse, true, vec_len, vec_capacity, length}
 use Rattle.label_lattice.specs.declared.label.Label.{Label}
 use Rattle.label_lattice.specs.Order.{Order}
 use Rattle.env_contract.specs.Env.{Env}
-use Rattle.label_code.specs.Machine.{Event, Wrote, Began, Ended, Machine, act, fetched, marks_of, step}
+use Rattle.label_code.specs.Machine.{Wrote, Began, Ended, Machine, act, fetched, marks_of, step}
 use Rattle.label_code.specs.Shaped.{Code, Depths, HasDepths, InRange, takes, leaves, opens, closes}
 use Rattle.label_code.specs.declared.code.Instr.{Instr}
 use Rattle.cycle_machine.specs.declared.state.Outcome.{Outcome}

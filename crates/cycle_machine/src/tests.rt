@@ -114,6 +114,8 @@ fn stops_at_a_limit(rt: HostRuntime) -> Result<(), Memory> {
     assert_eq!(rt; machine.next(65), Turn::Began { mark: 0, cycle: 2 });
     assert_eq!(rt; machine.next(4), Turn::Limit { cycle: 4 });
     assert_eq!(rt; machine.next(1000), Turn::Limit { cycle: 4 });
+    assert_eq!(rt; (image.len(), image.variables()), (7, 4));
+    assert_eq!(rt; image.lattice().size(), 1);
     turns_go_on::<FlatEnv>();
     limit_is_run::<FlatEnv>();
     halt_is_run::<FlatEnv>();

@@ -1,6 +1,6 @@
 -- Stretches of the machine's run.
-use Rattle.std.proofs.Common.{◌≡◌, ℕ, zero, suc, ◌+◌, ◌<◌, List, refl, sym, ap, ◌∙◌, arith, zero-add}
-use Rattle.std.specs.Prelude.{Bool, true, false, cond, slice_get}
+use Rattle.std.proofs.Common.{◌≡◌, ℕ, zero, suc, ◌+◌, ◌<◌, List, refl, ap, ◌∙◌, arith, zero-add}
+use Rattle.std.specs.Prelude.{true, cond, slice_get}
 use Rattle.env_contract.specs.Env.{Env}
 use Rattle.label_code.specs.Machine.{Machine, obey, step, steps}
 use Rattle.label_code.specs.declared.code.Instr.{Instr}

@@ -4,14 +4,14 @@ use Rattle.std.specs.Prelude.{Bool, true, false, cond, ℤ, leb, not, ◌&&◌, 
 use Rattle.std.proofs.lemmas.Bool.{and_from, both_ways, leb-true, leb-false, cond-true, cond-false, le-leb, lt-leb}
 use Rattle.mit_syntax.specs.Todo.{Marks}
 use Rattle.env_contract.specs.Env.{Env}
-use Rattle.label_code.specs.Machine.{Core, Machine, Opened, Event, closed, fetched, at, act, obey, step, steps, run_for, close_first, marks_of}
+use Rattle.label_code.specs.Machine.{Core, Machine, Opened, Event, closed, fetched, at, act, obey, start, step, steps, run_for, close_first, marks_of}
+use Rattle.label_code.specs.Run.{Start, run_from, RunsTo}
 use Rattle.label_code.specs.declared.code.Work.{Work}
 use Rattle.label_code.specs.declared.code.Work.TheVariants.{Push, Load, Store, LoadAt, StoreAt, Apply, Brz, Brnz, Jmp, Sleep as SleepWork, Mitb, Mite, Nop, Halt}
 use Rattle.label_code.specs.declared.code.Instr.{Instr}
 use Rattle.label_code.proofs.Upto.{clock_of, upto, upto-append}
 use Rattle.label_code.proofs.Leads.{stays}
 use Rattle.doubling_schedule.proofs.Settling.{misses_enough}
-use Rattle.doubling_schedule.specs.Doubling.{prediction, misses_after}
 
 -- a mitigation ends after what it waited for
 pub closed_clock : {E : Type 0} (w : Opened) (q : Core E) → w.since ≤ q.clock → q.clock ≤ (closed w q).clock
@@ -192,3 +192,15 @@ module _ {E : Type 0} (v : Env E) (image : List Instr) where
           let test = and_from _ _ (le-leb (step v image x).core.clock t by) (ap not e) in
           let r = next n (omega arith) in
           (r.0, ap (λ b. cond b (run_for v image t n (step v image x)) x) test ∙ r.1)
+
+  -- the computed run comes to where the greatest number of steps leads
+  pub runs_to : (t : ℕ) (s : Start E) → RunsTo v image t (start s.memory s.env) (run_from v image t s)
+  runs_to t s =
+      let x = start s.memory s.env in
+      let r = ran v image t t x tt (omega arith) (omega arith) in
+      record {
+        count = r.count;
+        is = r.is;
+        by = r.by;
+        greatest = λ k le. let c = covers k t t x tt le (omega arith) in (c.0, sym c.1);
+      }

@@ -1,27 +1,24 @@
 -- Stretches of the machine's run, and a halted run taken apart command by command.
-use Rattle.std.proofs.Common.{◌≡◌, ℕ, zero, suc, ◌+◌, ◌-◌, ◌<◌, ◌≤◌, List, ◌∷◌, refl, sym, ap, ◌∙◌, subst, ◌⊎◌, inl, inr, ⊎_elim, arith, zero-add}
-use Rattle.std.specs.Prelude.{Bool, true, false, cond, ℤ, slice_get}
+use Rattle.std.proofs.Common.{◌≡◌, ℕ, zero, suc, ◌+◌, ◌-◌, ◌<◌, ◌≤◌, List, ◌∷◌, refl, sym, ap, ◌∙◌, subst, ◌⊎◌, inl, inr, ⊎_elim, arith}
+use Rattle.std.specs.Prelude.{Bool, true, false, cond, ℤ}
 use Rattle.std.proofs.lemmas.Bool.{cases_lt, both_ways}
 use Rattle.mit_syntax.specs.Expression.{Expression}
-use Rattle.mit_syntax.specs.Expression.{Number, Variable, Binary, Element}
 use Rattle.mit_syntax.specs.Todo.{Marks, Marked, Done, Skip, Assign, Put, Sleep, If, While, Mitigate}
-use Rattle.mit_syntax.specs.Values.{apply, read, element, value_of, holds}
-use Rattle.label_code.specs.Costs.{op_cost}
+use Rattle.mit_syntax.specs.Values.{value_of, holds}
 use Rattle.doubling_schedule.specs.Doubling.{at_least_zero}
 use Rattle.label_lattice.specs.Lattice.{Lattice}
 use Rattle.env_contract.specs.Env.{Env}
-use Rattle.label_code.specs.Machine.{Core, Machine, Opened, Ended, fetched, touched, waited, written, closed, at, act, obey, step, steps, label}
-use Rattle.label_code.specs.declared.code.Work.{Work}
-use Rattle.label_code.specs.declared.code.Work.TheVariants.{Push, Load, Store, LoadAt, StoreAt, Apply, Brz, Brnz, Jmp, Sleep as SleepWork, Mitb, Mite, Nop}
+use Rattle.label_code.specs.Machine.{Core, Machine, Opened, Ended, fetched, touched, waited, written, closed, at, step, steps, label}
+use Rattle.label_code.specs.declared.code.Work.TheVariants.{Store, Brz, Brnz, Jmp, Sleep as SleepWork, Mitb, Mite, Nop}
 use Rattle.label_code.specs.declared.code.Instr.{Instr}
 use Rattle.code_lower.specs.Layout.{Stands, expr_size, size, HasExpr, raised, HasCode}
-use Rattle.code_lower.proofs.Timed.{timed, tested, reached, stored, begun, opening, tested_clock, timed_log}
+use Rattle.code_lower.proofs.Timed.{tested, stored, begun, opening, tested_clock, timed_log}
 use Rattle.leak_bound.proofs.Runs.{Do, Loop, Runs, done, skip, assign, put, sleep, if_true, if_false, while_none, while_some, mitigate, last, again, late}
 use Rattle.label_code.proofs.Upto.{upto, upto-late}
 use Rattle.label_code.proofs.Ticks.{closed_clock, Sane, steps_out}
 use Rattle.leak_bound.proofs.Record.{grows_run}
-use Rattle.label_code.proofs.Leads.{Leads, leads_then, leads_to, steps-add, stays}
-use Rattle.code_lower.proofs.Stretches.{one, expr_leads, test_leads, put_leads}
+use Rattle.label_code.proofs.Leads.{Leads, leads_to, steps-add, stays}
+use Rattle.code_lower.proofs.Stretches.{one, test_leads, put_leads}
 
 module _ {E : Type 0} (v : Env E) (image : List Instr) where
   -- the rest of a run whose last state is y, at the time lim: y has halted, or its next step ends after lim

@@ -1,15 +1,15 @@
 -- Small programs worked out by the definitions alone, in an environment without penalties and with two labels.
-use Rattle.std.proofs.Common.{◌≡◌, ◌+◌, List, [], ◌∷◌, ◌++◌, refl}
-use Rattle.std.specs.Prelude.{ℕ, cond, pos, negsuc, leb, eqb, max, Bool, true, false, ◌&&◌}
+use Rattle.std.proofs.Common.{◌≡◌, List, [], ◌∷◌, ◌++◌, refl}
+use Rattle.std.specs.Prelude.{ℕ, pos, negsuc, leb, max, true, false}
 use Rattle.mit_syntax.specs.declared.ast.Op.TheVariants.{Add, Lt}
 use Rattle.mit_syntax.specs.Expression.{Number, Variable, Binary, Element}
-use Rattle.mit_syntax.specs.Todo.{Marks, Marked, Done, Skip, Assign, Put, Sleep, If, While, Mitigate}
+use Rattle.mit_syntax.specs.Todo.{Marks, Marked, Done, Skip, Assign, Put, While, Mitigate}
 use Rattle.label_lattice.specs.Lattice.{Lattice}
 use Rattle.source_meaning.specs.Source.{trace_of, HasEnded}
 use Rattle.env_contract.specs.Env.{Env}
 use Rattle.label_code.specs.declared.code.Instr.{Instr}
 use Rattle.label_code.specs.declared.code.Work.TheVariants.{Halt}
-use Rattle.label_code.specs.Machine.{Event, Wrote, Began, Ended, instr}
+use Rattle.label_code.specs.Machine.{Wrote, Began, Ended, instr}
 use Rattle.label_code.specs.Run.{Start, run_from}
 use Rattle.code_lower.specs.Code.{code_of}
 use Rattle.leak_bound.specs.Digits.{digits}

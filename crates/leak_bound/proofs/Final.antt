@@ -1,12 +1,12 @@
 -- The main theorem.
-use Rattle.std.proofs.Common.{◌≡◌, ℕ, zero, suc, ◌+◌, ◌*◌, ◌^◌, ◌<◌, ◌≤◌, List, [], ◌∷◌, length, refl, sym, ap, ◌∙◌, subst, arith}
-use Rattle.std.specs.Prelude.{Bool, true, false, cond, ℤ}
+use Rattle.std.proofs.Common.{◌≡◌, ℕ, suc, ◌+◌, ◌*◌, ◌^◌, ◌<◌, ◌≤◌, List, [], ◌∷◌, length, refl, sym, ap, ◌∙◌, subst, arith}
+use Rattle.std.specs.Prelude.{Bool, true, false, cond, max, ℤ}
 use Rattle.std.specs.List.{count_by}
 use Rattle.std.proofs.lemmas.List.Recursion.{is_count_by}
 use Rattle.mit_syntax.specs.Todo.{Marked}
-use Rattle.label_lattice.specs.Lattice.{Lattice, IsLattice}
-use Rattle.label_lattice.specs.Order.{Order, lattice_of, count_not_below}
-use Rattle.source_meaning.specs.Source.{started_in, notes_of, marks_of, HasEnded}
+use Rattle.label_lattice.specs.Lattice.{Lattice}
+use Rattle.label_lattice.specs.Order.{Order, lattice_of}
+use Rattle.source_meaning.specs.Source.{started_in}
 use Rattle.source_meaning.proofs.Told.{ended_same}
 use Rattle.env_contract.specs.Env.{Env}
 use Rattle.env_contract.specs.Laws.{IsLawful}
@@ -21,7 +21,7 @@ use Rattle.leak_bound.specs.Records.{Entry, Each, Pairwise, Tests, views, distin
 use Rattle.leak_bound.specs.Sound.{Agree, seen_from, Halts, bound, FirstBegins, Sound, ShowsOne, most_ended, CutSound, IsCompiled}
 use Rattle.leak_bound.proofs.Tells.{Tells, begun_count, others, length-others, has_levels, tells_relevant}
 use Rattle.leak_bound.proofs.Digits.{digits_is}
-use Rattle.leak_bound.proofs.Headline.{Each-map, each_both, ended_is, record_from, seen_same, few_cut_by, few_halted_by, same_begun}
+use Rattle.leak_bound.proofs.Headline.{Each-map, each_both, ended_is, begun_is, record_from, seen_same, few_cut_by, few_halted_by, same_begun}
 
 abbrev tally : (ℕ → Bool) → List ℕ → ℕ
 tally rel [] = 0
@@ -66,6 +66,28 @@ module _ {E : Type 0} {serves : E → Type 0} (v : Env E) (order : Order) (g : �
   begins_log o t s h =
       let f = (keeps_order v lat g image p made.code).follows s t in
       (f.0, f.2 h, ap (λ z. count_by (is_relevant lat g o p) (started_in z)) (sym f.1) ∙ sym (begun-told (is_relevant lat g o p) (run_from v image t s).core.log))
+
+  -- and so it is by whatever tells which marks are relevant
+  pub begins_by : (o t : ℕ) (rel : ℕ → Bool) → Tells lat g o rel lat.bottom p → (s : Start E) → Halts v image t s → Begins lat g o p s.memory (begun_count rel (run_from v image t s).core.log)
+  begins_by o t rel other s h =
+      let own = is_relevant lat g o p in
+      let a = begun_is v lat made.lattice laws g image p made.typed made.code o own (tells_relevant lat g o p made.marks) t s h in
+      let b = begun_is v lat made.lattice laws g image p made.typed made.code o rel other t s h in
+      subst (λ z. Begins lat g o p s.memory z) (a ∙ sym b) (begins_log o t s h)
+
+  -- as many relevant mitigations end
+  pub ended_by : (o t : ℕ) (rel : ℕ → Bool) → Tells lat g o rel lat.bottom p → (s : Start E) → ended_count rel (run_from v image t s).core.log ≡ ended_count (is_relevant lat g o p) (run_from v image t s).core.log
+  ended_by o t rel other s =
+      let own = is_relevant lat g o p in
+      ended_is v lat made.lattice laws g image p made.typed made.code o rel other t s
+      ∙ sym (ended_is v lat made.lattice laws g image p made.typed made.code o own (tells_relevant lat g o p made.marks) t s)
+
+  pub most_by : (o t : ℕ) (rel : ℕ → Bool) → Tells lat g o rel lat.bottom p → (starts : List (Start E)) → most_ended v image rel t starts ≡ most_ended v image (is_relevant lat g o p) t starts
+  most_by o t rel other [] = refl
+  most_by o t rel other (s ∷ starts) =
+      let own = is_relevant lat g o p in
+      ap (λ z. max z (most_ended v image rel t starts)) (ended_by o t rel other s)
+      ∙ ap (λ z. max (ended_count own (run_from v image t s).core.log) z) (most_by o t rel other starts)
 
   by_digits : (o t c k d : ℕ) → digits t ≡ suc d → c ≤ (k + 1) ^ (length (others lat o order.size) * suc d) → c ≤ bound order o t k
   by_digits o t c k d e h =

@@ -17,7 +17,7 @@ use Rattle.leak_bound.specs.Relevant.{ended_count}
 use Rattle.leak_bound.proofs.Tells.{Tells, HasLevels, begun_count}
 use Rattle.label_code.specs.Run.{Start, run_from}
 use Rattle.leak_bound.specs.Sound.{Agree, seen_from, most_ended}
-use Rattle.leak_bound.specs.Records.{Entry, Fits, levels_of, IsIn, Within, Tests, Each, views, distinct_count}
+use Rattle.leak_bound.specs.Records.{Entry, levels_of, IsIn, Within, Tests, Each, views, distinct_count}
 use Rattle.leak_bound.proofs.Bound.{count_cut}
 use Rattle.code_lower.proofs.Timed.{tested, opening}
 use Rattle.leak_bound.proofs.Runs.{Job, Do, Loop, Runs, done, skip, assign, put, sleep, if_true, if_false, while_none, while_some, mitigate, last, again, late}
@@ -87,7 +87,7 @@ Each-map P Q f [] h = tt
 Each-map P Q f (x ∷ xs) h = (f x h.0, Each-map P Q f xs h.1)
 
 module _ {E : Type 0} {serves : E → Type 0} (v : Env E) (lat : Lattice) (ll : IsLattice lat) (laws : IsLawful v lat serves) (g : ℕ → ℕ) (image : List Instr) (p : Marked) (typed : IsTyped lat g p) (code : IsImage lat g image p) (o : ℕ) (rel : ℕ → Bool) (tells : Tells lat g o rel lat.bottom p) (t : ℕ) where
-  pub found : (s : Start E) → Whole v lat g image p code t s
+  abbrev pub found : (s : Start E) → Whole v lat g image p code t s
   found s = whole v lat g image p code t s
 
   abbrev pub record_from : Start E → List Entry
@@ -170,7 +170,7 @@ module _ {E : Type 0} {serves : E → Type 0} (v : Env E) (lat : Lattice) (ll : 
   abbrev Halts : Start E → Type 0
   Halts s = (run_from v image t s).halted ≡ true
 
-  begun_is : (s : Start E) → Halts s → begun_count rel (run_from v image t s).core.log ≡ length (record_from s)
+  pub begun_is : (s : Start E) → Halts s → begun_count rel (run_from v image t s).core.log ≡ length (record_from s)
   begun_is s h =
       let r = ran v image t t (start s.memory s.env) tt (omega arith) (omega arith) in
       all_ended v image rel r.count (start s.memory s.env) (run_from v image t s) (omega arith) r.is ((found s).none_open h) ∙ ended_is s

@@ -18,3 +18,4 @@ pub mod Final
 pub mod Powers
 pub mod Same
 pub mod Examples
+pub mod Compiled

@@ -1,15 +1,13 @@
 -- A run of a list of commands that comes to its end, command by command, with its cycles.
-use Rattle.std.proofs.Common.{◌≡◌, ℕ, ◌+◌, ◌<◌, ◌≤◌, refl, ◌∙◌, arith}
-use Rattle.std.specs.Prelude.{true, false, ℤ}
+use Rattle.std.proofs.Common.{◌≡◌, ℕ, ◌+◌, ◌<◌}
+use Rattle.std.specs.Prelude.{true, false}
 use Rattle.mit_syntax.specs.Expression.{Expression}
-use Rattle.mit_syntax.specs.Expression.{Number, Variable, Binary, Element}
 use Rattle.mit_syntax.specs.Todo.{Marks, Marked, Done, Skip, Assign, Put, Sleep, If, While, Mitigate}
-use Rattle.mit_syntax.specs.Values.{element, value_of, holds}
-use Rattle.label_code.specs.Costs.{op_cost}
+use Rattle.mit_syntax.specs.Values.{value_of, holds}
 use Rattle.doubling_schedule.specs.Doubling.{at_least_zero}
 use Rattle.label_lattice.specs.Lattice.{Lattice}
 use Rattle.env_contract.specs.Env.{Env}
-use Rattle.label_code.specs.Machine.{Core, Opened, Began, fetched, touched, waited, logged, written, closed}
+use Rattle.label_code.specs.Machine.{Core, fetched, touched, waited, written, closed}
 use Rattle.code_lower.specs.Layout.{expr_size, size, raised}
 use Rattle.code_lower.proofs.Timed.{tested, stored, begun, opening}
 

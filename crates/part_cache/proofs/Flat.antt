@@ -1,21 +1,20 @@
 -- A touch of the flat rows is a touch of the table.
 use Rattle.std.proofs.Common.{◌≡◌, ℕ, zero, suc, ◌+◌, ◌*◌, ◌%◌, ◌<◌, ◌≤◌, List, [], ◌∷◌, ◌++◌, length, take, drop, get_or, set, Bool, true, false, refl, sym, ap, ◌∙◌, subst, ◌⊎◌, inl, inr, arith, get_or-set_same, get_or-set_other, length-set, length-take}
-use Rattle.std.specs.Prelude.{eqb, map, not, cond, leb, ◌&&◌, replicate, ◌↔◌}
-use Rattle.std.specs.List.{zip, filter, range_with_len}
+use Rattle.std.specs.Prelude.{map, ◌&&◌, replicate, ◌↔◌}
+use Rattle.std.specs.List.{zip, range_with_len}
 use Rattle.std.specs.Vec.{with_items}
-use Rattle.std.proofs.lemmas.List.{ext_get_or, take-map, with_items_is, length-map, get_or_past, length-replicate, get_or-replicate}
+use Rattle.std.proofs.lemmas.List.{ext_get_or, with_items_is, get_or_past, length-replicate, get_or-replicate}
 use Rattle.std.proofs.lemmas.List.FromFn.{length-map-range_with_len, get_or-map-range_with_len}
 use Rattle.std.proofs.lemmas.Nat.{mul-add-lt, mod_below}
 use Rattle.std.proofs.lemmas.Bool.{cases_eq, cases_lt, and_from, eq-eqb}
 use Rattle.label_lattice.specs.Order.{lattice_of}
 use Rattle.part_cache.specs.History.{Touched, holds, hits}
-use Rattle.part_cache.specs.Rows.{Rows, IsCache, StandsFor, row_of, tags_at, age_of, has, found, touched, empty_cache}
+use Rattle.part_cache.specs.Rows.{Rows, IsCache, StandsFor, row_of, age_of, has, found, touched, empty_cache}
 use Rattle.part_cache.proofs.Stands.{age_here, age_elsewhere, StandsFor-touched, StandsFor-empty, some_below_at, has_is, found_is}
 use Rattle.part_cache.proofs.Latest.{length-latest_le}
-use Rattle.part_cache.specs.Ages.{Entry, clock, renumbered, settled, touch_row, age_among}
+use Rattle.part_cache.specs.Ages.{Entry, clock, settled, touch_row, age_among}
 use Rattle.part_cache.specs.Slots.{latest, AgesApart, TagsApart}
 use Rattle.part_cache.specs.Slots.{part}
-use Rattle.part_cache.specs.Ages.{tags_of}
 use Rattle.part_cache.specs.Body.{entries_at, rows_view, IsBody}
 use Rattle.part_cache.specs.declared.cache.PartCache.TheInside.{Inside}
 

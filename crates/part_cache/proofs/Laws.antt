@@ -9,7 +9,7 @@ use Rattle.std.proofs.lemmas.Bool.{cases_eq, cases_lt, cases_Bool, both_ways}
 use Rattle.label_lattice.specs.Lattice.{Flows}
 use Rattle.label_lattice.specs.Order.{Order, lattice_of}
 use Rattle.part_cache.specs.History.{some_below}
-use Rattle.part_cache.specs.Ages.{Entry, tags_of, touch_row}
+use Rattle.part_cache.specs.Ages.{tags_of, touch_row}
 use Rattle.part_cache.specs.Rows.{Rows, row_of, tags_at, IsCache, IsCacheOf, has, found, touched, tag_rows, numbers_of, part_of}
 use Rattle.part_cache.proofs.Near.{to_front}
 use Rattle.part_cache.proofs.Stands.{tags_here, tags_elsewhere, IsCache-touched, some_below_same}

@@ -9,7 +9,7 @@ use Rattle.std.proofs.Common.{add-one}
 use Rattle.std.proofs.lemmas.Bool.{or_left, or_right, cases_eq, cases_lt, cases_Bool, eqb-true, eq-eqb, and_from, and_parts, both_ways}
 use Rattle.label_lattice.specs.Order.{lattice_of}
 use Rattle.part_cache.specs.History.{Touched, tags_in, distinct, holds, some_below, hits, held}
-use Rattle.part_cache.specs.Ages.{Entry, tags_of, clock, settled, touch_row, onto, age_among}
+use Rattle.part_cache.specs.Ages.{Entry, tags_of, clock, settled, touch_row, age_among}
 use Rattle.part_cache.specs.Rows.{Rows, row_of, tags_at, age_of, IsCache, has, found, touched, StandsFor}
 use Rattle.part_cache.proofs.Near.{to_front, tags-touch_row, near_is, front_is, any_near}
 

@@ -24,7 +24,7 @@ module _ (q : LabelledProgram) where
       let o = q.program.order in
       let g = labels_of q in
       typed (order_of q) ll g (placed_of q)
-      (arrays_in o.size q.program.declarations g valid.declared kept.declared (marks_of o q.labels) (level_of o q.labels) (plan_of q.program) 0 valid.known) h
+      (arrays_in o.size q.program.declarations g valid.arrays kept.declared (marks_of o q.labels) (level_of o q.labels) (plan_of q.program) 0 valid.known) h
 
   are_contexts : (cs : List Label) → IsValid q.program → cs ≡ contexts (order_of q) (labels_of q) (plan_of q.program) q.program.order.bottom → AreContexts q cs
   are_contexts cs valid is =

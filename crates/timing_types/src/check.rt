@@ -150,7 +150,7 @@ fn command_walk(
 
 /// A list: the number after it, and its end label; else the first broken condition.
 #[cycle(walk)]
-fn list_walk(
+pub(crate) fn list_walk(
     commands: &[Command],
     p: &Labels,
     order: &Lattice,

@@ -20,7 +20,7 @@ pub(crate) fn join3(order: &Lattice, a: Label, b: Label, c: Label) -> Label
 }
 
 /// The join of the labels of an expression's variables and arrays, those in indices included.
-pub(crate) fn label(e: &Expr, p: &Labels, order: &Lattice) -> Label
+pub fn label(e: &Expr, p: &Labels, order: &Lattice) -> Label
     ensures { result.number ≡ label_of (lattice_of order.now) (variable_of order.now p.now) (expression_of e.now) }
 {
     match e {

@@ -92,7 +92,7 @@ impl Labelled {
     }
 
     /// All labels.
-    pub(crate) fn labels(&self) -> &Labels
+    pub fn labels(&self) -> &Labels
         ensures { result.now ≡ self.now.labels }
     {
         &self.labels

@@ -10,7 +10,7 @@ use std::marker::Model;
 /// Labels of variables by number, of commands in order of the text, and of mitigates by their marks. A
 /// number past the end of a table has bottom.
 #[derive(Drop)]
-pub(crate) struct Labels {
+pub struct Labels {
     variables: Vec<Label>,
     commands: Vec<(Label, Label)>,
     levels: Vec<Label>,
@@ -41,7 +41,8 @@ impl Labels {
         }
     }
 
-    pub(crate) fn variable(&self, x: u32, order: &Lattice) -> Label
+    /// The label of a variable.
+    pub fn variable(&self, x: u32, order: &Lattice) -> Label
         ensures { result.number ≡ variable_of order.now self.now x }
     {
         match self.variables.get(x as usize) {
@@ -50,7 +51,8 @@ impl Labels {
         }
     }
 
-    pub(crate) fn command(&self, number: usize, order: &Lattice) -> (Label, Label)
+    /// The read label and the write label of a command.
+    pub fn command(&self, number: usize, order: &Lattice) -> (Label, Label)
         ensures er { result.0.number ≡ (marks_of order.now self.now number).er }
         ensures ew { result.1.number ≡ (marks_of order.now self.now number).ew }
     {
@@ -60,7 +62,8 @@ impl Labels {
         }
     }
 
-    pub(crate) fn level(&self, mark: u32, order: &Lattice) -> Label
+    /// The level of a mitigate.
+    pub fn level(&self, mark: u32, order: &Lattice) -> Label
         ensures { result.number ≡ level_of order.now self.now mark }
     {
         match self.levels.get(mark as usize) {

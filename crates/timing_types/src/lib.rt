@@ -3,8 +3,10 @@
 
 pub mod check;
 mod contexts;
-mod ends;
+pub mod ends;
 pub mod labelled;
-mod labels;
+pub mod labels;
 pub mod rule;
+#[cfg(test)]
+mod tests;
 pub mod typed;

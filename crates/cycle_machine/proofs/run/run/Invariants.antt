@@ -1,4 +1,4 @@
-use Rattle.std.proofs.Common.{◌≡◌, ◌-◌}
+use Rattle.std.proofs.Common.{◌-◌}
 use Rattle.cycle_machine.specs.Took.{Stands}
 use Rattle.cycle_machine.specs.Turned.{Quiet}
 use Rattle.cycle_machine.proofs.run.run.Given as goal

@@ -1,4 +1,4 @@
-use Rattle.std.proofs.Common.{◌≡◌, ◌<◌, sym, subst, arith}
+use Rattle.std.proofs.Common.{◌<◌, sym, subst, arith}
 use Rattle.label_code.specs.Shaped.{IsShaped}
 use Rattle.cycle_machine.proofs.Sample.{sample_shaped}
 use Rattle.cycle_machine.proofs.tests.mitigated.Goals as goal

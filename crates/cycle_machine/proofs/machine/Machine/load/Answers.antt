@@ -1,4 +1,4 @@
-use Rattle.std.proofs.Common.{◌≡◌, ap, ◌∙◌, refl}
+use Rattle.std.proofs.Common.{ap}
 use Rattle.std.specs.Prelude.{reverse, map}
 use Rattle.cycle_machine.specs.Seen.{opened_of}
 use Rattle.cycle_machine.proofs.Start.{start_is}

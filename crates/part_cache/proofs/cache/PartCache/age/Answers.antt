@@ -1,4 +1,4 @@
-use Rattle.std.proofs.Common.{rules, ap, ◌∙◌}
+use Rattle.std.proofs.Common.{rules}
 use Rattle.part_cache.proofs.Flat.{absent_history}
 use Rattle.part_cache.proofs.cache.PartCache.age.Goals as goal
 

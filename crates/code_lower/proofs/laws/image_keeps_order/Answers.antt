@@ -1,0 +1,8 @@
+use Rattle.timing_types.specs.Labelled.{order_of, labels_of, bare_of}
+use Rattle.code_lower.specs.Lowered.{lowered}
+use Rattle.code_lower.proofs.Order.{keeps_order}
+use Rattle.code_lower.proofs.Stands.{image_is}
+use Rattle.code_lower.proofs.laws.image_keeps_order.Goals as goal
+
+pub returns : goal.returns
+returns g c = λ p. keeps_order _ (order_of p) (labels_of p) (lowered p).instrs (bare_of p) (image_is (order_of p) (labels_of p) (bare_of p))

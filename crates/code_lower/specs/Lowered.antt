@@ -1,0 +1,31 @@
+-- The image of a labelled program, and why there is none.
+use Rattle.std.specs.Prelude.{◌≡◌, ◌<◌, length}
+use Rattle.mit_syntax.specs.Declarations.{variables}
+use Rattle.timing_types.specs.Labelled.{LabelledProgram, order_of, labels_of, bare_of}
+use Rattle.env_contract.specs.Env.{Env}
+use Rattle.label_code.specs.Shaped.{Code}
+use Rattle.code_lower.specs.Code.{image_of}
+use Rattle.code_lower.specs.Depth.{most_operands, deepest}
+use Rattle.code_lower.specs.Follows.{KeepsOrder}
+use Rattle.code_lower.specs.declared.lower.LowerFault.{LowerFault}
+use Rattle.code_lower.specs.declared.lower.LowerFault.TheVariants.{TooLong, Memory}
+
+-- of whatever length
+abbrev pub lowered : LabelledProgram → Code
+lowered p =
+    record {
+      instrs = image_of (order_of p) (labels_of p) (bare_of p);
+      variables = variables p.program.declarations;
+      order = p.program.order;
+      operands = most_operands (bare_of p);
+      nesting = deepest (bare_of p);
+    }
+
+-- the image has more than 200,000 instructions, and this is their number
+abbrev pub IsLowerFault : LabelledProgram → LowerFault → Type 0
+IsLowerFault p (TooLong count) = (200000 < count) × (count ≡ length (lowered p).instrs)
+IsLowerFault p Memory = Unit {0}
+
+-- the image of every labelled program does what the program does
+abbrev pub LoweredKeepsOrder : {E : Type 0} → Env E → Type 0
+LoweredKeepsOrder {E} v = (p : LabelledProgram) → KeepsOrder v (lowered p).instrs (bare_of p)

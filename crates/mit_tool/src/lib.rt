@@ -1,0 +1,4 @@
+//! The tool `mitigate` over any files and any place for its text.
+#![tactic(auto)]
+
+pub mod words;
