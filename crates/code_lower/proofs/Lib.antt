@@ -9,3 +9,4 @@ pub mod Emitting
 pub mod Program
 pub mod Range
 pub mod Bound
+pub mod Whole

@@ -110,6 +110,6 @@ module _ (ds : List Declaration) (shaped : AreShaped ds) (n : ℕ) where
            range_both (variables ds) n (code_of lat g c' (s + 1)) r2 (code_range c (i + 1) (s + 1) h.4)
            ((tt, b.0, b.1), code_range p (i + 1 + count c) (j + 1) h.5))
 
-      image_range : (p : Plan) (i : ℕ) → AreKnown n ds p → AllInRange (variables ds) n (image_of lat g (bare (labelled ms ls p i)))
+      pub image_range : (p : Plan) (i : ℕ) → AreKnown n ds p → AllInRange (variables ds) n (image_of lat g (bare (labelled ms ls p i)))
       image_range p i h =
           range_both (variables ds) n (code_of lat g (bare (labelled ms ls p i)) 0) (instr Halt (record { er = lat.bottom; ew = lat.bottom }) ∷ []) (code_range p i 0 h) ((tt, low, low), tt)
