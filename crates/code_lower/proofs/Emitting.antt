@@ -101,18 +101,19 @@ list_step o l old new cs i c n n' h is e num =
     let f = marked_of o l (command_plan c Done) n in
     let r = marked_of o l rest n' in
     let todo : marked_of o l (list_plan (drop i cs)) n ≡ then_todo f r =
-        ap (λ z. marked_of o l (list_plan z) n) (cut cs i c h is) ∙ labelled-then ms ls c.form w rest n n' num in
+    ap (λ z. marked_of o l (list_plan z) n) (cut cs i c h is) ∙ labelled-then ms ls c.form w rest n n' num in
     let long : length new ≡ length old + size f = omega (arith, ap length e, length-append old (code_of lat g f (length old)), length-code_of lat g f (length old)) in
     let same : size f ≡ size (command_plan c Done) = size-labelled ms ls (command_plan c Done) n in
     let sizes = cut_size cs i c h is in
-    let counts = cut_count cs i c h is in
-    (ap (λ z. new ++ code_of lat g r z) long
-     ∙ ap (λ z. z ++ code_of lat g r (length old + size f)) e
-     ∙ append_assoc old (code_of lat g f (length old)) (code_of lat g r (length old + size f))
-     ∙ ap (λ z. old ++ z) (sym (code-then lat g f r (length old)))
-     ∙ ap (λ z. old ++ code_of lat g z (length old)) (sym todo),
-     omega (arith, num, counts),
-     omega (arith, long, same, sizes))
+    let counts = cut_count cs i c h is in (
+      ap (λ z. new ++ code_of lat g r z) long
+          ∙ ap (λ z. z ++ code_of lat g r (length old + size f)) e
+          ∙ append_assoc old (code_of lat g f (length old)) (code_of lat g r (length old + size f))
+          ∙ ap (λ z. old ++ z) (sym (code-then lat g f r (length old)))
+          ∙ ap (λ z. old ++ code_of lat g z (length old)) (sym todo),
+      omega (arith, num, counts),
+      omega (arith, long, same, sizes),
+    )
 
 -- the code of a list has its size
 pub added_length : (o : Order) (l : Labelling) (old new : List Instr) (p : Plan) (n : ℕ) → Adds o l old new p n → length new ≡ length old + size p

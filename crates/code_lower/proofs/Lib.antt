@@ -10,3 +10,4 @@ pub mod Program
 pub mod Range
 pub mod Bound
 pub mod Whole
+pub mod Examples

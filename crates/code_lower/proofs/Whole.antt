@@ -77,8 +77,8 @@ module _ (p : LabelledProgram) where
   is_shaped v k h small =
       let o = p.program.order in
       image_shaped (order_of p) (labels_of p) (bare_of p) (variables p.program.declarations) o (few_variables p.program v) small
-        (image_range p.program.declarations v.arrays o.size (order_of p) (labels_of p) h.table.some k.variables_below (join_below o h)
-          (marks_of o p.labels) (level_of o p.labels) k.commands_below k.levels_below (plan_of p.program) 0 v.known)
+      (image_range p.program.declarations v.arrays o.size (order_of p) (labels_of p) h.table.some k.variables_below (join_below o h)
+      (marks_of o p.labels) (level_of o p.labels) k.commands_below k.levels_below (plan_of p.program) 0 v.known)
 
   -- the code that is emitted, and HALT
   pub emitted_is : (o : Order) (l : Labelling) (body : List Command) (c0 c1 c2 : List Instr) (low : Label) → o ≡ p.program.order → l ≡ p.labels → body ≡ p.program.body →
@@ -86,11 +86,11 @@ module _ (p : LabelledProgram) where
   emitted_is o l body c0 c1 c2 low ho hl hb hlow h0 h1 h2 =
       let code = code_of (order_of p) (labels_of p) (bare_of p) 0 in
       let same : c1 ≡ code =
-          h1
-          ∙ ap (λ z. z ++ code_of (lattice_of o) (variable_of o l) (marked_of o l (list_plan body) 0) (length z)) h0
-          ∙ ap (λ z. code_of (lattice_of z) (variable_of z l) (marked_of z l (list_plan body) 0) 0) ho
-          ∙ ap (λ z. code_of (order_of p) (variable_of p.program.order z) (marked_of p.program.order z (list_plan body) 0) 0) hl
-          ∙ ap (λ z. code_of (order_of p) (labels_of p) (marked_of p.program.order p.labels (list_plan z) 0) 0) hb in
+      h1
+      ∙ ap (λ z. z ++ code_of (lattice_of o) (variable_of o l) (marked_of o l (list_plan body) 0) (length z)) h0
+      ∙ ap (λ z. code_of (lattice_of z) (variable_of z l) (marked_of z l (list_plan body) 0) 0) ho
+      ∙ ap (λ z. code_of (order_of p) (variable_of p.program.order z) (marked_of p.program.order z (list_plan body) 0) 0) hl
+      ∙ ap (λ z. code_of (order_of p) (labels_of p) (marked_of p.program.order p.labels (list_plan z) 0) 0) hb in
       let bottom : low.number ≡ p.program.order.bottom = hlow ∙ ap (λ (z : Order). z.bottom) ho in
       h2
       ∙ ap (λ z. z ++ instr Halt (marks_from (low, low)) ∷ []) same

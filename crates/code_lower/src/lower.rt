@@ -59,5 +59,11 @@ pub fn lower(alloc: Global, p: &Typed) -> Result<Image, LowerFault>
     let bottom = order.bottom();
     put(&mut code, Work::Halt, (bottom, bottom))?;
     let variables = program.variables();
-    Ok(Image::of(code, variables, order, extent.operands as u32, extent.nesting as u32))
+    Ok(Image::of(
+        code,
+        variables,
+        order,
+        extent.operands as u32,
+        extent.nesting as u32,
+    ))
 }
