@@ -79,11 +79,13 @@ module _ (ds : List Declaration) (shaped : AreShaped ds) (n : ℕ) where
           let q = j + 1 + size d' in
           let r3 : List Instr = code_of lat g d' (j + 1) ++ code_of lat g p' q in
           let r2 : List Instr = instr (Jmp q) (raised lat g e (ms i)) ∷ r3 in
-          after (ms i) e (instr (Brz (j + 1)) (ms i) ∷ (code_of lat g c' (s + 1) ++ r2)) b h.1
-          ((tt, b.0, b.1),
-           range_both (variables ds) n (code_of lat g c' (s + 1)) r2 (code_range c (i + 1) (s + 1) h.4)
-           ((tt, rb.0, rb.1),
-            range_both (variables ds) n (code_of lat g d' (j + 1)) (code_of lat g p' q) (code_range d (i + 1 + count c) (j + 1) h.5) (code_range p (i + 1 + count c + count d) q h.6)))
+          after (ms i) e (instr (Brz (j + 1)) (ms i) ∷ (code_of lat g c' (s + 1) ++ r2)) b h.1 (
+            (tt, b.0, b.1),
+            range_both (variables ds) n (code_of lat g c' (s + 1)) r2 (code_range c (i + 1) (s + 1) h.4) (
+              (tt, rb.0, rb.1),
+              range_both (variables ds) n (code_of lat g d' (j + 1)) (code_of lat g p' q) (code_range d (i + 1 + count c) (j + 1) h.5) (code_range p (i + 1 + count c + count d) q h.6),
+            ),
+          )
       code_range (While w e c p) i a h =
           let b = ms_below i in
           let rb = raised_below e (ms i) b in
@@ -94,10 +96,11 @@ module _ (ds : List Declaration) (shaped : AreShaped ds) (n : ℕ) where
           let q = t + expr_size e + 1 in
           let r3 : List Instr = instr (Brnz (s + 1)) (raised lat g e (ms i)) ∷ code_of lat g p' q in
           let r2 : List Instr = expr_code (raised lat g e (ms i)) e ++ r3 in
-          after (ms i) e (instr (Brz q) (ms i) ∷ (code_of lat g c' (s + 1) ++ r2)) b h.1
-          ((tt, b.0, b.1),
-           range_both (variables ds) n (code_of lat g c' (s + 1)) r2 (code_range c (i + 1) (s + 1) h.3)
-           (after (raised lat g e (ms i)) e r3 rb h.1 ((tt, rb.0, rb.1), code_range p (i + 1 + count c) q h.4)))
+          after (ms i) e (instr (Brz q) (ms i) ∷ (code_of lat g c' (s + 1) ++ r2)) b h.1 (
+            (tt, b.0, b.1),
+            range_both (variables ds) n (code_of lat g c' (s + 1)) r2 (code_range c (i + 1) (s + 1) h.3)
+                (after (raised lat g e (ms i)) e r3 rb h.1 ((tt, rb.0, rb.1), code_range p (i + 1 + count c) q h.4)),
+          )
       code_range (Mitigate w k l e c p) i a h =
           let b = ms_below i in
           let s = a + expr_size e in
@@ -105,11 +108,12 @@ module _ (ds : List Declaration) (shaped : AreShaped ds) (n : ℕ) where
           let p' = bare (labelled ms ls p (i + 1 + count c)) in
           let j = s + 1 + size c' in
           let r2 : List Instr = instr Mite (ms i) ∷ code_of lat g p' (j + 1) in
-          after (ms i) e (instr (Mitb (label (ls k)) k) (ms i) ∷ (code_of lat g c' (s + 1) ++ r2)) b h.2
-          ((ls_below k, b.0, b.1),
-           range_both (variables ds) n (code_of lat g c' (s + 1)) r2 (code_range c (i + 1) (s + 1) h.4)
-           ((tt, b.0, b.1), code_range p (i + 1 + count c) (j + 1) h.5))
+          after (ms i) e (instr (Mitb (label (ls k)) k) (ms i) ∷ (code_of lat g c' (s + 1) ++ r2)) b h.2 (
+            (ls_below k, b.0, b.1),
+            range_both (variables ds) n (code_of lat g c' (s + 1)) r2 (code_range c (i + 1) (s + 1) h.4)
+                ((tt, b.0, b.1), code_range p (i + 1 + count c) (j + 1) h.5),
+          )
 
-      image_range : (p : Plan) (i : ℕ) → AreKnown n ds p → AllInRange (variables ds) n (image_of lat g (bare (labelled ms ls p i)))
+      pub image_range : (p : Plan) (i : ℕ) → AreKnown n ds p → AllInRange (variables ds) n (image_of lat g (bare (labelled ms ls p i)))
       image_range p i h =
           range_both (variables ds) n (code_of lat g (bare (labelled ms ls p i)) 0) (instr Halt (record { er = lat.bottom; ew = lat.bottom }) ∷ []) (code_range p i 0 h) ((tt, low, low), tt)
