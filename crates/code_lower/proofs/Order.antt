@@ -1,21 +1,20 @@
 -- The code keeps the source's order, for any number of cycles.
-use Rattle.std.proofs.Common.{◌≡◌, ℕ, zero, suc, ◌+◌, ◌-◌, ◌<◌, ◌≤◌, List, [], ◌∷◌, ◌++◌, append_assoc, append-nil, refl, sym, ap, ◌∙◌, subst, ◌⊎◌, inl, inr, ⊎_elim, arith}
-use Rattle.std.specs.Prelude.{Bool, true, false, cond, ℤ, leb, not, ◌&&◌}
-use Rattle.std.proofs.lemmas.Bool.{cases_lt, both_ways, le-leb, and_from}
+use Rattle.std.proofs.Common.{◌≡◌, ℕ, zero, suc, ◌+◌, ◌-◌, ◌<◌, ◌≤◌, List, [], ◌++◌, append-nil, refl, sym, ap, ◌∙◌, subst, ⊎_elim, arith}
+use Rattle.std.specs.Prelude.{Bool, true, false, ℤ}
+use Rattle.std.proofs.lemmas.Bool.{cases_lt, both_ways}
 use Rattle.mit_syntax.specs.Todo.{Marks, Marked, Done, Skip, Assign, Put, Sleep, If, While, Mitigate, then_todo}
-use Rattle.mit_syntax.specs.Values.{element, value_of}
 use Rattle.source_meaning.proofs.Told.{IsPrefix, prefix_then, prefix_same, between, done_stays}
-use Rattle.source_meaning.specs.Source.{Note, Assigned, Started, Source, source_act, source_step, source_steps, source_start, notes_of, HasEnded}
+use Rattle.source_meaning.specs.Source.{Note, Source, source_step, source_steps, source_start, notes_of, HasEnded}
 use Rattle.label_lattice.specs.Lattice.{Lattice}
 use Rattle.env_contract.specs.Env.{Env}
-use Rattle.label_code.specs.Machine.{Machine, at, step, steps, run_for, start}
+use Rattle.label_code.specs.Machine.{Machine, at, step, steps, start}
 use Rattle.label_code.specs.declared.code.Work.TheVariants.{Halt}
 use Rattle.label_code.specs.declared.code.Instr.{Instr}
 use Rattle.code_lower.specs.Layout.{Stands, size, IsImage}
 use Rattle.label_code.specs.Run.{Start, run_from}
 use Rattle.code_lower.specs.Follows.{told, KeepsOrder}
 use Rattle.label_code.proofs.Leads.{Leads, stays, steps-add}
-use Rattle.label_code.proofs.Ticks.{covers, Sane, ticks, steps_clock, steps_sane, run_is}
+use Rattle.label_code.proofs.Ticks.{covers, Sane, ticks, steps_sane, run_is}
 use Rattle.code_lower.proofs.Follow.{told-append, Meets, Goes, on, over, goes}
 
 module _ {E : Type 0} (v : Env E) (image : List Instr) where

@@ -1,13 +1,13 @@
 -- The machine passes the code of an expression, and of what takes its value.
-use Rattle.std.proofs.Common.{◌≡◌, ℕ, zero, suc, ◌+◌, ◌<◌, List, ◌∷◌, refl, sym, ap, ◌∙◌, arith}
-use Rattle.std.specs.Prelude.{Bool, true, false, cond, ℤ, slice_get}
+use Rattle.std.proofs.Common.{◌≡◌, ℕ, ◌+◌, List, ◌∷◌, ap, ◌∙◌, arith}
+use Rattle.std.specs.Prelude.{ℤ}
 use Rattle.mit_syntax.specs.Expression.{Expression}
 use Rattle.mit_syntax.specs.Expression.{Number, Variable, Binary, Element}
 use Rattle.mit_syntax.specs.Todo.{Marks}
 use Rattle.mit_syntax.specs.Values.{apply, read, element, value_of}
 use Rattle.env_contract.specs.Env.{Env}
 use Rattle.label_code.specs.Costs.{op_cost}
-use Rattle.label_code.specs.Machine.{Core, Machine, Opened, fetched, touched, waited, written, at, act, obey, step, steps}
+use Rattle.label_code.specs.Machine.{Core, Opened, fetched, touched, waited, written, at, act, obey}
 use Rattle.label_code.specs.declared.code.Work.{Work}
 use Rattle.label_code.specs.declared.code.Work.TheVariants.{Push, Load, LoadAt, StoreAt, Apply}
 use Rattle.label_code.specs.declared.code.Instr.{Instr}

@@ -1,16 +1,14 @@
 -- What the code of an expression does to the state, with its cycles.
-use Rattle.std.proofs.Common.{◌≡◌, ℕ, ◌+◌, ◌<◌, ◌≤◌, refl, ◌∙◌, arith}
-use Rattle.std.specs.Prelude.{true, false, ℤ}
+use Rattle.std.proofs.Common.{◌≡◌, ℕ, ◌+◌, ◌≤◌, refl, ◌∙◌, arith}
+use Rattle.std.specs.Prelude.{ℤ}
 use Rattle.mit_syntax.specs.Expression.{Expression}
 use Rattle.mit_syntax.specs.Expression.{Number, Variable, Binary, Element}
-use Rattle.mit_syntax.specs.Todo.{Marks, Marked, Done, Skip, Assign, Put, Sleep, If, While, Mitigate}
-use Rattle.mit_syntax.specs.Values.{element, value_of, holds}
+use Rattle.mit_syntax.specs.Todo.{Marks}
+use Rattle.mit_syntax.specs.Values.{element, value_of}
 use Rattle.label_code.specs.Costs.{op_cost}
-use Rattle.doubling_schedule.specs.Doubling.{at_least_zero}
-use Rattle.label_lattice.specs.Lattice.{Lattice}
 use Rattle.env_contract.specs.Env.{Env}
-use Rattle.label_code.specs.Machine.{Core, Opened, Began, fetched, touched, waited, logged, written, closed}
-use Rattle.code_lower.specs.Layout.{expr_size, size, raised}
+use Rattle.label_code.specs.Machine.{Core, Opened, Began, fetched, touched, waited, logged, written}
+use Rattle.code_lower.specs.Layout.{expr_size}
 
 -- what the code of an expression at a place does to the rest of the state
 abbrev pub timed : {E : Type 0} → Env E → Marks → Expression → ℕ → Core E → Core E
