@@ -1,9 +1,9 @@
 -- The code of a command and then that of the rest of its list.
-use Rattle.std.proofs.Common.{◌≡◌, ℕ, zero, suc, ◌+◌, ◌<◌, ◌≤◌, List, [], ◌∷◌, ◌++◌, length, get_or, drop, refl, sym, ap, ◌∙◌, arith, append_assoc, length-append}
+use Rattle.std.proofs.Common.{◌≡◌, ℕ, ◌+◌, ◌<◌, List, ◌++◌, length, get_or, drop, refl, sym, ap, ◌∙◌, arith, append_assoc, length-append}
 use Rattle.label_lattice.specs.Order.{Order, lattice_of}
 use Rattle.mit_syntax.specs.declared.ast.Command.{Command}
 use Rattle.mit_syntax.specs.declared.ast.Form.{Form, Skip as FSkip, Assign as FAssign, Put as FPut, Sleep as FSleep, If' as FIf, While' as FWhile, Mitigate' as FMitigate}
-use Rattle.mit_syntax.specs.Todo.{Marks, Todo, Marked, Done, Skip, Assign, Put, Sleep, If, While, Mitigate, then_todo}
+use Rattle.mit_syntax.specs.Todo.{Marks, Done, Skip, Assign, Put, Sleep, If, While, Mitigate, then_todo}
 use Rattle.mit_syntax.specs.Plan.{Written, Plan, form_plan, row_plan, command_plan, list_plan, count, form_count}
 use Rattle.timing_types.specs.Placed.{bare, labelled}
 use Rattle.timing_types.specs.Labelling.{Labelling, variable_of, marks_of, level_of}

@@ -1,12 +1,11 @@
 -- Images that were worked out by hand.
-use Rattle.std.proofs.Common.{◌≡◌, ℕ, List, [], ◌∷◌, refl}
-use Rattle.std.specs.Prelude.{ℤ, pos, leb, max, eqb, cond}
+use Rattle.std.proofs.Common.{◌≡◌, ℕ, [], ◌∷◌, refl}
+use Rattle.std.specs.Prelude.{pos, leb, max, eqb, cond}
 use Rattle.label_lattice.specs.Lattice.{Lattice}
 use Rattle.mit_syntax.specs.declared.ast.Op.TheVariants.{Sub, Gt}
-use Rattle.mit_syntax.specs.Expression.{Expression, Number, Variable, Binary, Element}
+use Rattle.mit_syntax.specs.Expression.{Number, Variable, Binary}
 use Rattle.mit_syntax.specs.Todo.{Marks, Marked, Done, Skip, Assign, Put, If, While, Mitigate}
-use Rattle.label_code.specs.declared.code.Instr.{Instr}
-use Rattle.label_code.specs.declared.code.Work.TheVariants.{Push, Load, Store, LoadAt, StoreAt, Apply, Brz, Brnz, Jmp, Mitb, Mite, Nop, Halt}
+use Rattle.label_code.specs.declared.code.Work.TheVariants.{Push, Load, Store, StoreAt, Apply, Brz, Brnz, Jmp, Mitb, Mite, Nop, Halt}
 use Rattle.label_code.specs.Machine.{label, instr}
 use Rattle.code_lower.specs.Code.{image_of}
 use Rattle.code_lower.specs.Depth.{most_operands, deepest}

@@ -1,5 +1,5 @@
 -- The code of a program, with HALT below it, has known depths.
-use Rattle.std.proofs.Common.{◌≡◌, ◌<◌, ◌≤◌, ◌+◌, ℕ, zero, suc, List, [], ◌∷◌, ◌++◌, length, refl, sym, ap, ◌∙◌, subst, arith, length-append, append_assoc, get_or, max, Some}
+use Rattle.std.proofs.Common.{◌≡◌, ◌<◌, ◌≤◌, ◌+◌, ℕ, zero, suc, List, [], ◌∷◌, ◌++◌, length, refl, sym, ap, subst, arith, length-append, append_assoc, get_or, Some}
 use Rattle.std.specs.Prelude.{slice_get}
 use Rattle.std.proofs.Math.Seq.{get_or-append_seam}
 use Rattle.mit_syntax.specs.Expression.{Expression, Number, Variable, Binary, Element}
@@ -8,9 +8,9 @@ use Rattle.label_lattice.specs.Order.{Order}
 use Rattle.label_lattice.specs.Lattice.{Lattice}
 use Rattle.label_code.specs.declared.code.Instr.{Instr}
 use Rattle.label_code.specs.declared.code.Work.{Work}
-use Rattle.label_code.specs.declared.code.Work.TheVariants.{Push, Load, Store, LoadAt, StoreAt, Apply, Brz, Brnz, Jmp, Sleep as SleepWork, Mitb, Mite, Nop, Halt}
+use Rattle.label_code.specs.declared.code.Work.TheVariants.{Store, StoreAt, Brz, Brnz, Jmp, Sleep as SleepWork, Mitb, Mite, Nop, Halt}
 use Rattle.label_code.specs.Machine.{label, instr}
-use Rattle.label_code.specs.Shaped.{Code, Depths, Arrives, Leads, HasDepths, IsFine, IsShaped, InRange, takes, leaves, opens, closes}
+use Rattle.label_code.specs.Shaped.{Depths, Arrives, Leads, IsShaped, InRange, takes, leaves, opens, closes}
 use Rattle.code_lower.specs.Layout.{expr_size, size, raised}
 use Rattle.code_lower.specs.Code.{expr_code, code_of, image_of}
 use Rattle.code_lower.specs.Depth.{expr_operands, most_operands, deepest}

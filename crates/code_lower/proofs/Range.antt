@@ -1,6 +1,5 @@
 -- Variables and labels of a program's code are in range.
-use Rattle.std.proofs.Common.{◌≡◌, ◌<◌, ◌≤◌, ◌+◌, ℕ, zero, suc, List, [], ◌∷◌, ◌++◌, length, refl, sym, ap, ◌∙◌, subst, arith}
-use Rattle.std.specs.Prelude.{Bool, true, false, ◌&&◌, ltb, cond}
+use Rattle.std.proofs.Common.{◌<◌, ◌+◌, ℕ, List, [], ◌∷◌, ◌++◌}
 use Rattle.label_lattice.specs.Lattice.{Lattice}
 use Rattle.mit_syntax.specs.Expression.{Expression, Number, Variable, Binary, Element}
 use Rattle.mit_syntax.specs.Todo.{Marks, Done, Skip, Assign, Put, Sleep, If, While, Mitigate}
@@ -11,7 +10,7 @@ use Rattle.mit_syntax.proofs.Facts.{scalar_below, array_below, array_some}
 use Rattle.timing_types.specs.Typing.{label_of}
 use Rattle.timing_types.specs.Placed.{bare, labelled}
 use Rattle.label_code.specs.declared.code.Instr.{Instr}
-use Rattle.label_code.specs.declared.code.Work.TheVariants.{Apply, Load, Push, LoadAt, Store, StoreAt, Brz, Brnz, Jmp, Sleep as SleepWork, Mitb, Mite, Nop, Halt}
+use Rattle.label_code.specs.declared.code.Work.TheVariants.{Apply, LoadAt, Store, StoreAt, Brz, Brnz, Jmp, Sleep as SleepWork, Mitb, Mite, Halt}
 use Rattle.label_code.specs.Machine.{label, instr}
 use Rattle.code_lower.specs.Layout.{expr_size, size, raised}
 use Rattle.code_lower.specs.Code.{expr_code, code_of, image_of}

@@ -1,10 +1,10 @@
 -- The image of a labelled program.
-use Rattle.std.proofs.Common.{◌≡◌, ◌<◌, ◌≤◌, ◌+◌, ◌*◌, ℕ, suc, List, [], ◌∷◌, ◌++◌, length, Option, None, Some, refl, sym, ap, ◌∙◌, arith, length-append}
+use Rattle.std.proofs.Common.{◌≡◌, ◌<◌, ◌≤◌, ◌+◌, ℕ, List, [], ◌∷◌, ◌++◌, length, Option, None, Some, sym, ap, ◌∙◌, arith, length-append}
 use Rattle.label_lattice.specs.declared.label.Label.{Label}
 use Rattle.label_lattice.specs.Order.{Order, IsOrder, lattice_of}
 use Rattle.label_lattice.proofs.Orders.{join_below}
 use Rattle.mit_syntax.specs.declared.ast.Command.{Command}
-use Rattle.mit_syntax.specs.Plan.{Plan, list_plan, count}
+use Rattle.mit_syntax.specs.Plan.{list_plan}
 use Rattle.mit_syntax.specs.Declarations.{Declaration, variables, cells, cells_of, elements_in, size_in, length_in}
 use Rattle.mit_syntax.specs.Program.{Syntax, plan_of}
 use Rattle.mit_syntax.specs.Valid.{IsValid}

@@ -1,9 +1,9 @@
-use Rattle.std.proofs.Common.{rules, ◌≡◌, ◌+◌, ◌*◌, ◌^◌, ◌<◌, ◌≤◌, ◌++◌, [], ◌∷◌, length, drop, refl, sym, ap, ◌∙◌, arith}
+use Rattle.std.proofs.Common.{rules, ◌+◌, ◌*◌, ◌<◌, ◌++◌, [], ◌∷◌, length, refl, sym, ap, ◌∙◌, arith}
 use Rattle.std.specs.Prelude.{slice_set}
 use Rattle.label_lattice.specs.Order.{lattice_of}
 use Rattle.mit_syntax.specs.Expression.{expression_of}
 use Rattle.mit_syntax.specs.Todo.{Done, If, While, Mitigate}
-use Rattle.mit_syntax.specs.Plan.{Written, list_plan, command_plan, form_count, count}
+use Rattle.mit_syntax.specs.Plan.{Written, list_plan, form_count, count}
 use Rattle.timing_types.specs.Labelling.{variable_of, level_of, marks_from}
 use Rattle.timing_types.proofs.Parts.{if_parts, while_parts, mitigate_parts, if_count, while_count, mitigate_count, cut_count, drop_count}
 use Rattle.label_code.specs.declared.code.Work.TheVariants.{Brz, Brnz, Jmp, Mitb}
@@ -13,7 +13,7 @@ use Rattle.code_lower.specs.Code.{expr_code, code_of}
 use Rattle.code_lower.specs.Emitted.{marked_of}
 use Rattle.code_lower.proofs.Extents.{cut_size}
 use Rattle.code_lower.proofs.Patch.{if_emitted, while_emitted, mitigate_emitted, expr_length, put_length, one_length}
-use Rattle.code_lower.proofs.Emitting.{list_step, added_length, same_marks}
+use Rattle.code_lower.proofs.Emitting.{list_step, added_length}
 use Rattle.code_lower.proofs.emit.+emit.Goals as goal
 
 pub emit_command-emit_list-requires : goal.emit_command-emit_list-requires

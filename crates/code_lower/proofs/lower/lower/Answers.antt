@@ -1,4 +1,4 @@
-use Rattle.std.proofs.Common.{◌≡◌, ◌≤◌, ◌<◌, ◌+◌, length, sym, ap, ◌∙◌, subst, arith}
+use Rattle.std.proofs.Common.{◌≤◌, length, sym, ap, ◌∙◌, subst, arith}
 use Rattle.label_lattice.specs.Order.{IsOrder}
 use Rattle.mit_syntax.specs.Declarations.{variables}
 use Rattle.mit_syntax.specs.Plan.{list_plan}
@@ -7,11 +7,10 @@ use Rattle.timing_types.specs.Labelling.{IsLabelling}
 use Rattle.timing_types.specs.Labelled.{order_of, labels_of, bare_of}
 use Rattle.label_code.specs.Shaped.{Code, IsShaped}
 use Rattle.code_lower.specs.Layout.{size, IsImage}
-use Rattle.code_lower.specs.Depth.{most_operands, deepest}
 use Rattle.code_lower.specs.Lowered.{lowered}
 use Rattle.code_lower.proofs.Stands.{image_is}
 use Rattle.code_lower.proofs.Extents.{operands_within, deepest_within}
-use Rattle.code_lower.proofs.Whole.{size_fits, length_is, operands_is, nesting_is, is_shaped, emitted_is, built_is}
+use Rattle.code_lower.proofs.Whole.{size_fits, length_is, is_shaped, emitted_is, built_is}
 use Rattle.code_lower.proofs.lower.lower.Goals as goal
 
 pub list_extent-extent-requires : goal.list_extent-extent-requires
