@@ -17,10 +17,10 @@ use Rattle.cycle_machine.specs.Reached.{Reached}
 use Rattle.cycle_machine.proofs.Quiet.{steps_last}
 
 -- a core, and a machine, with these events before its log
-abbrev core_past : {E : Type 0} → List Event → Core E → Core E
+abbrev pub core_past : {E : Type 0} → List Event → Core E → Core E
 core_past l s = record s { log = l ++ s.log }
 
-abbrev past : {E : Type 0} → List Event → Machine E → Machine E
+abbrev pub past : {E : Type 0} → List Event → Machine E → Machine E
 past l m = record m { core = core_past l m.core }
 
 relog : {E : Type 0} (s : Core E) (a b : List Event) → a ≡ b → record s { log = a } ≡ record s { log = b }
@@ -44,7 +44,7 @@ act_past v m l Mite a ops (o ∷ os) s = ap (λ z. at (a + 1) ops os (record (cl
 act_past v m l Nop a ops os s = refl
 act_past v m l Halt a ops os s = refl
 
-step_past : {E : Type 0} (v : Env E) (code : List Instr) (l : List Event) (x : Machine E) → step v code (past l x) ≡ past l (step v code x)
+pub step_past : {E : Type 0} (v : Env E) (code : List Instr) (l : List Event) (x : Machine E) → step v code (past l x) ≡ past l (step v code x)
 step_past {E} v code l x = go x.halted (slice_get code x.place)
   where
     obeyed : (o : Option Instr) → obey v o (past l x) ≡ past l (obey v o x)

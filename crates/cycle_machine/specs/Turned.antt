@@ -49,6 +49,9 @@ stops (HasEnded k t) = None
 stops (Halted t) = Some (Halted t)
 stops (Limit t) = Some (Limit t)
 
+abbrev pub IsStop : Turn → Type 0
+IsStop turn = stops turn ≡ Some turn
+
 abbrev pub by_stopped : {E : Type 0} → Env E → ℕ → Loaded E → Turn → Loaded E → Option Turn → Type 0
 by_stopped v limit old turn new None = Turned v old.code old.state limit turn new.state × (new.stopped ≡ stops turn) × (new.code ≡ old.code)
 by_stopped v limit old turn new (Some t) = (turn ≡ t) × (new ≡ old)

@@ -1,7 +1,8 @@
-ghost use Rattle.std.specs.Prelude.{◌≡◌, None, length, IfOk};
+ghost use Rattle.std.specs.Prelude.{◌≡◌, None, length, IfOk, IfSome};
 ghost use Rattle.label_code.specs.Machine.{start};
+ghost use Rattle.label_code.specs.Shaped.{IsShaped};
 ghost use Rattle.cycle_machine.specs.Seen.{seen};
-ghost use Rattle.cycle_machine.specs.Turned.{CallWent};
+ghost use Rattle.cycle_machine.specs.Turned.{CallWent, IsStop};
 
 use crate::run::run;
 use crate::state::State;
@@ -22,15 +23,15 @@ pub struct Machine<'a, E: MachineEnv> {
 }
 
 impl<'a, E: MachineEnv> Model for Machine<'a, E> {
-    ghost use Rattle.std.specs.Prelude.{◌≡◌, None};
+    ghost use Rattle.std.specs.Prelude.{◌≡◌, None, IfSome};
     ghost use Rattle.cycle_machine.specs.Took.{Stands};
-    ghost use Rattle.cycle_machine.specs.Turned.{Loaded};
+    ghost use Rattle.cycle_machine.specs.Turned.{Loaded, IsStop};
 
     ghost Value = { Loaded E };
 
     ghost view = { λ m. record { code = m.image.now; state = m.state; stopped = m.stopped } };
 
-    ghost invariant = { λ m. m.stopped ≡ None → Stands E.serves m.image.now m.state };
+    ghost invariant = { λ m. (m.stopped ≡ None → Stands E.serves m.image.now m.state) × IfSome m.stopped IsStop };
 }
 
 impl<'a, E: MachineEnv + Drop> Machine<'a, E> {
@@ -64,6 +65,14 @@ impl<'a, E: MachineEnv + Drop> Machine<'a, E> {
             },
             stopped: None,
         })
+    }
+
+    /// Says nothing at run time: what is true of every machine.
+    pub fn laws(&self)
+        ensures shaped { IsShaped self.now.code }
+        ensures stopped { IfSome self.now.stopped IsStop }
+    {
+        self.image.laws();
     }
 
     /// Takes steps until a variable gets a value, a mitigation begins or ends, HALT is done, or the next step

@@ -2,3 +2,4 @@ pub mod Costs
 pub mod Machine
 pub mod Run
 pub mod Shaped
+pub mod Visible

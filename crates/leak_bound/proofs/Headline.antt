@@ -12,7 +12,7 @@ use Rattle.label_code.specs.Machine.{Core, Event, fetched, closed, start}
 use Rattle.label_code.specs.declared.code.Instr.{Instr}
 use Rattle.code_lower.specs.Layout.{expr_size, size, IsImage}
 use Rattle.env_contract.specs.Laws.{IsLawful}
-use Rattle.leak_bound.specs.Visible.{visible}
+use Rattle.label_code.specs.Visible.{visible}
 use Rattle.leak_bound.specs.Relevant.{ended_count}
 use Rattle.leak_bound.proofs.Tells.{Tells, HasLevels, begun_count}
 use Rattle.label_code.specs.Run.{Start, run_from}

@@ -17,7 +17,7 @@ use Rattle.env_contract.specs.declared.place.Kind.TheVariants.{Code, Data}
 use Rattle.doubling_schedule.specs.Doubling.{misses_after}
 use Rattle.code_lower.specs.Layout.{expr_size, size, raised}
 use Rattle.env_contract.specs.Laws.{AgreeBelow, IsLawful}
-use Rattle.leak_bound.specs.Visible.{visible}
+use Rattle.label_code.specs.Visible.{visible}
 use Rattle.leak_bound.specs.Records.{Entry, Fits}
 use Rattle.code_lower.proofs.Timed.{timed, tested, reached, opening, timed_clock, timed_log, tested_clock}
 use Rattle.leak_bound.proofs.Runs.{Job, Runs, done, skip, assign, put, sleep, if_true, if_false, while_none, while_some, mitigate, last, again, late}

@@ -5,7 +5,7 @@ use Rattle.std.proofs.lemmas.Bool.{cond-false, lt-leb}
 use Rattle.label_lattice.specs.Lattice.{Lattice}
 use Rattle.label_code.specs.Machine.{Event, Wrote, Began, Ended}
 use Rattle.label_code.proofs.Upto.{clock_of, upto, upto-append}
-use Rattle.leak_bound.specs.Visible.{visible}
+use Rattle.label_code.specs.Visible.{visible}
 
 abbrev pub shown : Lattice → (ℕ → ℕ) → ℕ → ℕ → List Event → List Event
 shown lat g o lim es = visible lat g o (upto lim es)

@@ -13,7 +13,7 @@ use Rattle.label_code.specs.Machine.{Core, Began, Ended, fetched, touched, close
 use Rattle.env_contract.specs.declared.place.Kind.TheVariants.{Code}
 use Rattle.code_lower.specs.Layout.{expr_size, size, raised}
 use Rattle.env_contract.specs.Laws.{IsLawful}
-use Rattle.leak_bound.specs.Visible.{visible}
+use Rattle.label_code.specs.Visible.{visible}
 use Rattle.code_lower.proofs.Timed.{tested, begun, opening, tested_clock, timed_log}
 use Rattle.leak_bound.proofs.Runs.{Job, Do, Loop, Runs, done, skip, assign, put, sleep, if_true, if_false, while_none, while_some, mitigate, last, again, late}
 use Rattle.timing_types.proofs.Flow.{from_left, from_right, parts, inner_flows, start_flows, flows_to_end}

@@ -1,5 +1,4 @@
 pub mod Records
-pub mod Visible
 pub mod Relevant
 pub mod Digits
 pub mod Sound

@@ -14,7 +14,7 @@ use Rattle.label_code.specs.declared.code.Instr.{Instr}
 use Rattle.code_lower.specs.Layout.{IsImage}
 use Rattle.code_lower.specs.Follows.{KeepsOrder}
 use Rattle.leak_bound.specs.Digits.{digits}
-use Rattle.leak_bound.specs.Visible.{visible}
+use Rattle.label_code.specs.Visible.{visible}
 use Rattle.leak_bound.specs.Relevant.{is_relevant, Begins, ended_count, LevelsBelow}
 use Rattle.leak_bound.specs.Records.{Each, Pairwise, views, Tests, distinct_count}
 
