@@ -1,10 +1,10 @@
 -- Sizes and depths of a command and of the rest of its list.
-use Rattle.std.proofs.Common.{◌≡◌, ℕ, suc, zero, ◌+◌, ◌*◌, ◌<◌, ◌≤◌, max, refl, sym, ap, ◌∙◌, List, [], ◌∷◌, length, get_or, drop, arith}
+use Rattle.std.proofs.Common.{◌≡◌, ℕ, ◌+◌, ◌<◌, ◌≤◌, max, ap, ◌∙◌, List, length, get_or, drop, arith}
 use Rattle.mit_syntax.specs.declared.ast.Command.{Command}
 use Rattle.mit_syntax.specs.declared.ast.Form.{Form, Skip as FSkip, Assign as FAssign, Put as FPut, Sleep as FSleep, If' as FIf, While' as FWhile, Mitigate' as FMitigate}
 use Rattle.mit_syntax.specs.Expression.{Expression, Number, Variable, Binary, Element}
 use Rattle.mit_syntax.specs.Todo.{Todo, Done, Skip, Assign, Put, Sleep, If, While, Mitigate}
-use Rattle.mit_syntax.specs.Plan.{Written, Plan, form_plan, command_plan, list_plan, count}
+use Rattle.mit_syntax.specs.Plan.{Written, Plan, form_plan, command_plan, list_plan}
 use Rattle.timing_types.proofs.Parts.{cut}
 use Rattle.code_lower.specs.Layout.{expr_size, size}
 use Rattle.code_lower.specs.Depth.{expr_operands, most_operands, deepest}

@@ -9,3 +9,5 @@ pub mod Emitting
 pub mod Program
 pub mod Range
 pub mod Bound
+pub mod Whole
+pub mod Examples

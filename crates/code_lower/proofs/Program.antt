@@ -1,5 +1,5 @@
 -- The code of a program, with HALT below it, has known depths.
-use Rattle.std.proofs.Common.{◌≡◌, ◌<◌, ◌≤◌, ◌+◌, ℕ, zero, suc, List, [], ◌∷◌, ◌++◌, length, refl, sym, ap, ◌∙◌, subst, arith, length-append, append_assoc, get_or, max, Some}
+use Rattle.std.proofs.Common.{◌≡◌, ◌<◌, ◌≤◌, ◌+◌, ℕ, zero, suc, List, [], ◌∷◌, ◌++◌, length, refl, sym, ap, subst, arith, length-append, append_assoc, get_or, Some}
 use Rattle.std.specs.Prelude.{slice_get}
 use Rattle.std.proofs.Math.Seq.{get_or-append_seam}
 use Rattle.mit_syntax.specs.Expression.{Expression, Number, Variable, Binary, Element}
@@ -8,9 +8,9 @@ use Rattle.label_lattice.specs.Order.{Order}
 use Rattle.label_lattice.specs.Lattice.{Lattice}
 use Rattle.label_code.specs.declared.code.Instr.{Instr}
 use Rattle.label_code.specs.declared.code.Work.{Work}
-use Rattle.label_code.specs.declared.code.Work.TheVariants.{Push, Load, Store, LoadAt, StoreAt, Apply, Brz, Brnz, Jmp, Sleep as SleepWork, Mitb, Mite, Nop, Halt}
+use Rattle.label_code.specs.declared.code.Work.TheVariants.{Store, StoreAt, Brz, Brnz, Jmp, Sleep as SleepWork, Mitb, Mite, Nop, Halt}
 use Rattle.label_code.specs.Machine.{label, instr}
-use Rattle.label_code.specs.Shaped.{Code, Depths, Arrives, Leads, HasDepths, IsFine, IsShaped, InRange, takes, leaves, opens, closes}
+use Rattle.label_code.specs.Shaped.{Depths, Arrives, Leads, IsShaped, InRange, takes, leaves, opens, closes}
 use Rattle.code_lower.specs.Layout.{expr_size, size, raised}
 use Rattle.code_lower.specs.Code.{expr_code, code_of, image_of}
 use Rattle.code_lower.specs.Depth.{expr_operands, most_operands, deepest}
@@ -328,24 +328,28 @@ module _ (most deep : ℕ) where
       ((omega (arith, h, p), omega (arith, k)), spots_within r n (omega (arith, h)) k)
   spots_within (If m e c d r) n h k =
       let p = one_operand e in
-      both (expr_spots e 0 n) (spot 1 n ∷ (spots c n ++ (spot 0 n ∷ (spots d n ++ spots r n)))) (expr_within most deep e 0 n (omega (arith, h)) (omega (arith, k)))
-      ((omega (arith, h, p), omega (arith, k)),
-       both (spots c n) (spot 0 n ∷ (spots d n ++ spots r n)) (spots_within c n (omega (arith, h)) (omega (arith, k)))
-       ((omega arith, omega (arith, k)),
-        both (spots d n) (spots r n) (spots_within d n (omega (arith, h)) (omega (arith, k))) (spots_within r n (omega (arith, h)) (omega (arith, k)))))
+      both (expr_spots e 0 n) (spot 1 n ∷ (spots c n ++ (spot 0 n ∷ (spots d n ++ spots r n)))) (expr_within most deep e 0 n (omega (arith, h)) (omega (arith, k))) (
+        (omega (arith, h, p), omega (arith, k)),
+        both (spots c n) (spot 0 n ∷ (spots d n ++ spots r n)) (spots_within c n (omega (arith, h)) (omega (arith, k))) (
+          (omega arith, omega (arith, k)),
+          both (spots d n) (spots r n) (spots_within d n (omega (arith, h)) (omega (arith, k))) (spots_within r n (omega (arith, h)) (omega (arith, k))),
+        ),
+      )
   spots_within (While m e c r) n h k =
       let p = one_operand e in
       let t = expr_within most deep e 0 n (omega (arith, h)) (omega (arith, k)) in
-      both (expr_spots e 0 n) (spot 1 n ∷ (spots c n ++ (expr_spots e 0 n ++ (spot 1 n ∷ spots r n)))) t
-      ((omega (arith, h, p), omega (arith, k)),
-       both (spots c n) (expr_spots e 0 n ++ (spot 1 n ∷ spots r n)) (spots_within c n (omega (arith, h)) (omega (arith, k)))
-       (both (expr_spots e 0 n) (spot 1 n ∷ spots r n) t ((omega (arith, h, p), omega (arith, k)), spots_within r n (omega (arith, h)) (omega (arith, k)))))
+      both (expr_spots e 0 n) (spot 1 n ∷ (spots c n ++ (expr_spots e 0 n ++ (spot 1 n ∷ spots r n)))) t (
+        (omega (arith, h, p), omega (arith, k)),
+        both (spots c n) (expr_spots e 0 n ++ (spot 1 n ∷ spots r n)) (spots_within c n (omega (arith, h)) (omega (arith, k)))
+            (both (expr_spots e 0 n) (spot 1 n ∷ spots r n) t ((omega (arith, h, p), omega (arith, k)), spots_within r n (omega (arith, h)) (omega (arith, k)))),
+      )
   spots_within (Mitigate m y v e c r) n h k =
       let p = one_operand e in
-      both (expr_spots e 0 n) (spot 1 n ∷ (spots c (n + 1) ++ (spot 0 (n + 1) ∷ spots r n))) (expr_within most deep e 0 n (omega (arith, h)) (omega (arith, k)))
-      ((omega (arith, h, p), omega (arith, k)),
-       both (spots c (n + 1)) (spot 0 (n + 1) ∷ spots r n) (spots_within c (n + 1) (omega (arith, h)) (omega (arith, k)))
-       ((omega arith, omega (arith, k)), spots_within r n (omega (arith, h)) (omega (arith, k))))
+      both (expr_spots e 0 n) (spot 1 n ∷ (spots c (n + 1) ++ (spot 0 (n + 1) ∷ spots r n))) (expr_within most deep e 0 n (omega (arith, h)) (omega (arith, k))) (
+        (omega (arith, h, p), omega (arith, k)),
+        both (spots c (n + 1)) (spot 0 (n + 1) ∷ spots r n) (spots_within c (n + 1) (omega (arith, h)) (omega (arith, k)))
+            ((omega arith, omega (arith, k)), spots_within r n (omega (arith, h)) (omega (arith, k))),
+      )
 
 spots_stand : (xs pre : List Spot) (a : ℕ) → length pre ≡ a → HasSpots (depths_of (pre ++ xs)) a xs
 spots_stand [] pre a e = tt
@@ -383,12 +387,11 @@ image_shaped lat g p vars order v small range =
     let last = back ds 0 (spots p 0) (spot 0 0 ∷ []) (size p) (omega (arith, length-spots p 0)) stand in
     let body = deep_todo lat g ds (length (image_of lat g p)) p 0 0 (size p) (omega arith) (front ds 0 (spots p 0) (spot 0 0 ∷ []) stand) last.0 (omega (arith, long)) in
     let deep : DeepAt ds (length (image_of lat g p)) 0 (image_of lat g p) =
-        joined ds (length (image_of lat g p)) 0 code (halt ∷ []) (size p) (omega (arith, length-code_of lat g p 0)) body
-        (record { enough = omega arith; opened = omega arith; leads = omega (arith, long) }, tt) in
+    joined ds (length (image_of lat g p)) 0 code (halt ∷ []) (size p) (omega (arith, length-code_of lat g p 0)) body
+    (record { enough = omega arith; opened = omega arith; leads = omega (arith, long) }, tt) in
     let begin = start_at ds p 0 0 (size p) (omega arith) (front ds 0 (spots p 0) (spot 0 0 ∷ []) stand) last.0 in
     let within : AreWithin (most_operands p) (deepest p) all =
-        within_both (most_operands p) (deepest p) (spots p 0) (spot 0 0 ∷ []) (spots_within (most_operands p) (deepest p) p 0 (omega arith) (omega arith)) ((omega arith, omega arith), tt) in
-    (
+    within_both (most_operands p) (deepest p) (spots p 0) (spot 0 0 ∷ []) (spots_within (most_operands p) (deepest p) p 0 (omega arith) (omega arith)) ((omega arith, omega arith), tt) in (
       ds,
       record {
         some = omega (arith, long);

@@ -1,6 +1,5 @@
 -- Variables and labels of a program's code are in range.
-use Rattle.std.proofs.Common.{◌≡◌, ◌<◌, ◌≤◌, ◌+◌, ℕ, zero, suc, List, [], ◌∷◌, ◌++◌, length, refl, sym, ap, ◌∙◌, subst, arith}
-use Rattle.std.specs.Prelude.{Bool, true, false, ◌&&◌, ltb, cond}
+use Rattle.std.proofs.Common.{◌<◌, ◌+◌, ℕ, List, [], ◌∷◌, ◌++◌}
 use Rattle.label_lattice.specs.Lattice.{Lattice}
 use Rattle.mit_syntax.specs.Expression.{Expression, Number, Variable, Binary, Element}
 use Rattle.mit_syntax.specs.Todo.{Marks, Done, Skip, Assign, Put, Sleep, If, While, Mitigate}
@@ -11,7 +10,7 @@ use Rattle.mit_syntax.proofs.Facts.{scalar_below, array_below, array_some}
 use Rattle.timing_types.specs.Typing.{label_of}
 use Rattle.timing_types.specs.Placed.{bare, labelled}
 use Rattle.label_code.specs.declared.code.Instr.{Instr}
-use Rattle.label_code.specs.declared.code.Work.TheVariants.{Apply, Load, Push, LoadAt, Store, StoreAt, Brz, Brnz, Jmp, Sleep as SleepWork, Mitb, Mite, Nop, Halt}
+use Rattle.label_code.specs.declared.code.Work.TheVariants.{Apply, LoadAt, Store, StoreAt, Brz, Brnz, Jmp, Sleep as SleepWork, Mitb, Mite, Halt}
 use Rattle.label_code.specs.Machine.{label, instr}
 use Rattle.code_lower.specs.Layout.{expr_size, size, raised}
 use Rattle.code_lower.specs.Code.{expr_code, code_of, image_of}
@@ -79,11 +78,13 @@ module _ (ds : List Declaration) (shaped : AreShaped ds) (n : ℕ) where
           let q = j + 1 + size d' in
           let r3 : List Instr = code_of lat g d' (j + 1) ++ code_of lat g p' q in
           let r2 : List Instr = instr (Jmp q) (raised lat g e (ms i)) ∷ r3 in
-          after (ms i) e (instr (Brz (j + 1)) (ms i) ∷ (code_of lat g c' (s + 1) ++ r2)) b h.1
-          ((tt, b.0, b.1),
-           range_both (variables ds) n (code_of lat g c' (s + 1)) r2 (code_range c (i + 1) (s + 1) h.4)
-           ((tt, rb.0, rb.1),
-            range_both (variables ds) n (code_of lat g d' (j + 1)) (code_of lat g p' q) (code_range d (i + 1 + count c) (j + 1) h.5) (code_range p (i + 1 + count c + count d) q h.6)))
+          after (ms i) e (instr (Brz (j + 1)) (ms i) ∷ (code_of lat g c' (s + 1) ++ r2)) b h.1 (
+            (tt, b.0, b.1),
+            range_both (variables ds) n (code_of lat g c' (s + 1)) r2 (code_range c (i + 1) (s + 1) h.4) (
+              (tt, rb.0, rb.1),
+              range_both (variables ds) n (code_of lat g d' (j + 1)) (code_of lat g p' q) (code_range d (i + 1 + count c) (j + 1) h.5) (code_range p (i + 1 + count c + count d) q h.6),
+            ),
+          )
       code_range (While w e c p) i a h =
           let b = ms_below i in
           let rb = raised_below e (ms i) b in
@@ -94,10 +95,11 @@ module _ (ds : List Declaration) (shaped : AreShaped ds) (n : ℕ) where
           let q = t + expr_size e + 1 in
           let r3 : List Instr = instr (Brnz (s + 1)) (raised lat g e (ms i)) ∷ code_of lat g p' q in
           let r2 : List Instr = expr_code (raised lat g e (ms i)) e ++ r3 in
-          after (ms i) e (instr (Brz q) (ms i) ∷ (code_of lat g c' (s + 1) ++ r2)) b h.1
-          ((tt, b.0, b.1),
-           range_both (variables ds) n (code_of lat g c' (s + 1)) r2 (code_range c (i + 1) (s + 1) h.3)
-           (after (raised lat g e (ms i)) e r3 rb h.1 ((tt, rb.0, rb.1), code_range p (i + 1 + count c) q h.4)))
+          after (ms i) e (instr (Brz q) (ms i) ∷ (code_of lat g c' (s + 1) ++ r2)) b h.1 (
+            (tt, b.0, b.1),
+            range_both (variables ds) n (code_of lat g c' (s + 1)) r2 (code_range c (i + 1) (s + 1) h.3)
+                (after (raised lat g e (ms i)) e r3 rb h.1 ((tt, rb.0, rb.1), code_range p (i + 1 + count c) q h.4)),
+          )
       code_range (Mitigate w k l e c p) i a h =
           let b = ms_below i in
           let s = a + expr_size e in
@@ -105,11 +107,12 @@ module _ (ds : List Declaration) (shaped : AreShaped ds) (n : ℕ) where
           let p' = bare (labelled ms ls p (i + 1 + count c)) in
           let j = s + 1 + size c' in
           let r2 : List Instr = instr Mite (ms i) ∷ code_of lat g p' (j + 1) in
-          after (ms i) e (instr (Mitb (label (ls k)) k) (ms i) ∷ (code_of lat g c' (s + 1) ++ r2)) b h.2
-          ((ls_below k, b.0, b.1),
-           range_both (variables ds) n (code_of lat g c' (s + 1)) r2 (code_range c (i + 1) (s + 1) h.4)
-           ((tt, b.0, b.1), code_range p (i + 1 + count c) (j + 1) h.5))
+          after (ms i) e (instr (Mitb (label (ls k)) k) (ms i) ∷ (code_of lat g c' (s + 1) ++ r2)) b h.2 (
+            (ls_below k, b.0, b.1),
+            range_both (variables ds) n (code_of lat g c' (s + 1)) r2 (code_range c (i + 1) (s + 1) h.4)
+                ((tt, b.0, b.1), code_range p (i + 1 + count c) (j + 1) h.5),
+          )
 
-      image_range : (p : Plan) (i : ℕ) → AreKnown n ds p → AllInRange (variables ds) n (image_of lat g (bare (labelled ms ls p i)))
+      pub image_range : (p : Plan) (i : ℕ) → AreKnown n ds p → AllInRange (variables ds) n (image_of lat g (bare (labelled ms ls p i)))
       image_range p i h =
           range_both (variables ds) n (code_of lat g (bare (labelled ms ls p i)) 0) (instr Halt (record { er = lat.bottom; ew = lat.bottom }) ∷ []) (code_range p i 0 h) ((tt, low, low), tt)

@@ -46,7 +46,11 @@ fn instruction(work: Work, labels: (Label, Label)) -> Instr
 }
 
 /// One more instruction.
-pub(crate) fn put(code: &mut Vec<Instr>, work: Work, labels: (Label, Label)) -> Result<(), AllocError>
+pub(crate) fn put(
+    code: &mut Vec<Instr>,
+    work: Work,
+    labels: (Label, Label),
+) -> Result<(), AllocError>
     ensures { OnOk result (code.new.items ≡ code.old.items ++ instr work (marks_from labels) ∷ []) }
 {
     code.push(instruction(work, labels))?;
@@ -84,7 +88,13 @@ fn emit_expr(code: &mut Vec<Instr>, e: &Expr, labels: (Label, Label)) -> Result<
 
 /// The code of a command with this number: the number of the next one.
 #[cycle(emit)]
-fn emit_command(code: &mut Vec<Instr>, c: &Command, p: &Labels, order: &Lattice, number: usize) -> Result<usize, AllocError>
+fn emit_command(
+    code: &mut Vec<Instr>,
+    c: &Command,
+    p: &Labels,
+    order: &Lattice,
+    number: usize,
+) -> Result<usize, AllocError>
     requires room { length code.old.items + size (command_plan c.now Done) < 2 ^ 31 }
     requires number { number + count (command_plan c.now Done) < 2 ^ 31 }
     ensures number { IfOk result (λ n. n ≡ number + count (command_plan c.now Done)) }
@@ -160,15 +170,10 @@ fn emit_command(code: &mut Vec<Instr>, c: &Command, p: &Labels, order: &Lattice,
             level: _,
             body,
         } => {
+            let mark = *mark;
+            let level = p.level(mark, order);
             emit_expr(code, estimate, own)?;
-            put(
-                code,
-                Work::Mitb {
-                    level: p.level(*mark, order),
-                    mark: *mark,
-                },
-                own,
-            )?;
+            put(code, Work::Mitb { level, mark }, own)?;
             let next = emit_list(code, body, p, order, number + 1)?;
             put(code, Work::Mite, own)?;
             Ok(next)
@@ -178,7 +183,13 @@ fn emit_command(code: &mut Vec<Instr>, c: &Command, p: &Labels, order: &Lattice,
 
 /// The code of a list whose first command has this number: the number of the command after it.
 #[cycle(emit)]
-pub(crate) fn emit_list(code: &mut Vec<Instr>, commands: &[Command], p: &Labels, order: &Lattice, number: usize) -> Result<usize, AllocError>
+pub(crate) fn emit_list(
+    code: &mut Vec<Instr>,
+    commands: &[Command],
+    p: &Labels,
+    order: &Lattice,
+    number: usize,
+) -> Result<usize, AllocError>
     requires room { length code.old.items + size (list_plan commands.now) < 2 ^ 31 }
     requires number { number + count (list_plan commands.now) < 2 ^ 31 }
     ensures number { IfOk result (λ n. n ≡ number + count (list_plan commands.now)) }

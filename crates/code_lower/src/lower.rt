@@ -53,10 +53,17 @@ pub fn lower(alloc: Global, p: &Typed) -> Result<Image, LowerFault>
         return Err(LowerFault::TooLong(count));
     }
     let order = program.lattice();
+    order.laws();
     let mut code = Vec::with_capacity(alloc, count as usize)?;
     emit_list(&mut code, program.body(), labelled.labels(), &order, 0)?;
     let bottom = order.bottom();
     put(&mut code, Work::Halt, (bottom, bottom))?;
     let variables = program.variables();
-    Ok(Image::of(code, variables, order, extent.operands as u32, extent.nesting as u32))
+    Ok(Image::of(
+        code,
+        variables,
+        order,
+        extent.operands as u32,
+        extent.nesting as u32,
+    ))
 }

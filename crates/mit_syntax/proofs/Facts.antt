@@ -1,6 +1,6 @@
 -- What a caller gets from a program: where its variables and arrays are, and what is written of them.
 use Rattle.std.proofs.Common.{◌≡◌, refl, sym, ap, ◌∙◌, subst, ℕ, zero, suc, ◌+◌, ◌<◌, ◌≤◌, List, [], ◌∷◌, Option, None, Some, arith, length-append}
-use Rattle.std.specs.Prelude.{Bool, true, false, slice_get, option_map}
+use Rattle.std.specs.Prelude.{All, Bool, true, false, slice_get, option_map}
 use Rattle.std.specs.Str.{bytes_eq}
 use Rattle.std.proofs.lemmas.Bool.{cond-true, cond-false}
 use Rattle.std.proofs.lemmas.Option.{none-some, same_Some, slice_get_within, get_or_from_slice_get}
@@ -40,6 +40,11 @@ declared_place (x ∷ ds) w f d e = by (λ g. declared_place ds w g d) (bytes_eq
     by rest false h =
         declared_later ds w x f d (declared ds w) rest
         (sym (cond-false (bytes_eq w x.0) (Some (0, x.1)) (option_map (shift (size_of x.1)) (declared ds w)) h) ∙ e)
+
+module _ (ds : List Declaration) (w : List ℕ) (f : ℕ) (d : Decl) (at : DeclaredAt ds w f d) where
+  -- what is true of each declaration is true of this one
+  pub declared_has : (P : Declaration → Type 0) → All P ds → P (w, d)
+  declared_has P h = subst P (get_or_from_slice_get ds at.place (w, d) (w, d) at.there) (h at.place (w, d) (slice_get_within ds at.place (w, d) at.there))
 
 scalar_parts : (f x : ℕ) (n : Option ℕ) → scalar_from f n ≡ Some x → (n ≡ None) × (f ≡ x)
 scalar_parts f x None e = (refl, same_Some f x e)
@@ -151,9 +156,7 @@ module _ (ds : List Declaration) (w : List ℕ) where
       shaped : IsShaped (array_at ds w f n e).decl.label (array_at ds w f n e).decl.length
       shaped =
           let s = array_at ds w f n e in
-          subst (λ (d : Declaration). IsShaped d.1.label d.1.length)
-          (get_or_from_slice_get ds s.at.place (w, s.decl) (w, s.decl) s.at.there)
-          (a s.at.place (w, s.decl) (slice_get_within ds s.at.place (w, s.decl) s.at.there))
+          declared_has ds w f s.decl s.at (λ d. IsShaped d.1.label d.1.length) a
 
       -- an array has an element
       pub array_some : 0 < n

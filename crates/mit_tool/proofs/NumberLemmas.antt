@@ -1,5 +1,5 @@
 -- Numbers of one to twenty digits.
-use Rattle.std.proofs.Common.{◌≡◌, refl, sym, ap, subst, ℕ, zero, suc, ◌==◌, OkIff, false-eqb, ◌<◌, ◌≤◌, ◌^◌, Bool, true, false, cond, ◌&&◌, List, length, leb, leb-true, le-leb, arith, Result, Err, Option, Some, None}
+use Rattle.std.proofs.Common.{◌≡◌, refl, sym, ap, subst, ℕ, zero, suc, ◌==◌, OkIff, false-eqb, ◌<◌, ◌^◌, Bool, true, false, cond, ◌&&◌, List, length, leb, leb-true, le-leb, arith, Result, Err, Some, None}
 use Rattle.std.specs.Char.{is_ascii_digit}
 use Rattle.std.specs.List.{list_all}
 use Rattle.std.specs.Str.Parse.{digits_value, ParsesUnsigned}

@@ -1,6 +1,6 @@
 -- What the words of a command line ask for.
-use Rattle.std.specs.Prelude.{ℕ, ◌^◌, ◌&&◌, Bool, List, [], ◌∷◌, Option, Some, None, codes, length, bytes_eq, option_and_then, if◌then◌else◌}
-use Rattle.std.specs.Bool.{nat_le}
+use Rattle.std.specs.Prelude.{ℕ, ◌^◌, ◌≤◌, ◌&&◌, Bool, List, [], ◌∷◌, Option, Some, None, codes, length, bytes_eq, option_and_then, if◌then◌else◌}
+use Rattle.std.specs.Bool.{nat_le, ⊤}
 use Rattle.std.specs.Char.{is_ascii_digit}
 use Rattle.std.specs.List.{list_all}
 use Rattle.std.specs.Str.Parse.{digits_value}
@@ -141,3 +141,19 @@ asked_after verb words =
 abbrev pub command_of : List Text → Option Asked
 command_of [] = None
 command_of (word ∷ words) = option_and_then (λ verb. asked_after verb words) (verb_named word)
+
+-- ---- what callers rest on
+
+-- from 1 to 2^40
+abbrev pub IsCycles : ℕ → Type 0
+IsCycles n = (1 ≤ n) × (n ≤ 2 ^ 40)
+
+-- the numbers of a command are in range
+abbrev pub IsInRange : Asked → Type 0
+IsInRange (run file starts env budget observer) = IsCycles budget
+IsInRange (meaning file starts steps) = steps ≤ 2 ^ 40
+IsInRange (audit file starts observer env budget) = IsCycles budget
+IsInRange (gen size number) = (1 ≤ size) × (size ≤ 10000) × (number ≤ 2147483647)
+IsInRange (cut file starts observer env budget) = IsCycles budget
+IsInRange (blackbox ready first budget) = IsCycles first × IsCycles budget
+IsInRange _ = ⊤

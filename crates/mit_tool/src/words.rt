@@ -1,7 +1,7 @@
 //! The words of a command line, without the program's name.
 
 ghost use Rattle.std.specs.Prelude.{◌≡◌, IfOk, IsErrOf, None, Some, map, string_bytes};
-ghost use Rattle.mit_tool.specs.WordsAsked.{asked_after, command_of};
+ghost use Rattle.mit_tool.specs.WordsAsked.{IsInRange, asked_after, command_of};
 ghost use Rattle.mit_tool.specs.WordsViews.{asked_of};
 
 mod forms;
@@ -15,7 +15,7 @@ use crate::words::readers::command;
 use crate::words::values::verb_of;
 use std::alloc::Global;
 
-/// The most cycles that a budget may name, and the greatest first length of a slot: 2^40.
+/// The greatest budget and the greatest first length of a slot, in cycles: 2^40.
 pub const MAX_CYCLES: u64 = 1_099_511_627_776;
 
 /// The most steps that a run of the source may be asked for: 2^40.
@@ -33,8 +33,11 @@ pub const MAX_NUMBER: u64 = 2_147_483_647;
 /// An environment that `--env` names.
 #[derive(Clone, Copy, Debug, PartialEq, Eq)]
 pub enum EnvName {
+    /// No state and no penalty.
     Flat,
+    /// Partitioned caches and a translation buffer.
     Part,
+    /// As `Part`, with a second level of cache.
     Part2,
 }
 
@@ -54,19 +57,22 @@ pub(crate) enum Verb {
     Recheck,
 }
 
-/// What words ask for. Files and observers are named by the words themselves.
+/// What words ask for. Files and observers are named by the words themselves; whether there are such is not seen here.
 #[derive(Clone, Copy, Debug, PartialEq, Eq)]
 pub enum Command<'a> {
+    /// `check FILE`
     Check {
         file: &'a str,
     },
+    /// `infer FILE`
     Infer {
         file: &'a str,
     },
+    /// `compile FILE`
     Compile {
         file: &'a str,
     },
-    /// `budget` is from 1 to `MAX_CYCLES`.
+    /// `run FILE [STARTS] [--env E] [--budget T] [--observer L]`, `budget` from 1 to `MAX_CYCLES`
     Run {
         file: &'a str,
         starts: Option<&'a str>,
@@ -74,13 +80,13 @@ pub enum Command<'a> {
         budget: u64,
         observer: Option<&'a str>,
     },
-    /// `steps` is at most `MAX_STEPS`.
+    /// `meaning FILE [STARTS] --steps N`, `steps` at most `MAX_STEPS`
     Meaning {
         file: &'a str,
         starts: Option<&'a str>,
         steps: u64,
     },
-    /// `budget` is from 1 to `MAX_CYCLES`.
+    /// `audit FILE STARTS --observer L [--env E] [--budget T]`, `budget` from 1 to `MAX_CYCLES`
     Audit {
         file: &'a str,
         starts: &'a str,
@@ -88,12 +94,12 @@ pub enum Command<'a> {
         env: EnvName,
         budget: u64,
     },
-    /// `size` is from 1 to `MAX_SIZE`, and `number` at most `MAX_NUMBER`.
+    /// `gen SIZE NUMBER`, `size` from 1 to `MAX_SIZE` and `number` at most `MAX_NUMBER`
     Gen {
         size: u32,
         number: u32,
     },
-    /// `budget` is from 1 to `MAX_CYCLES`.
+    /// `cut FILE STARTS --observer L [--env E] [--budget T]`, `budget` from 1 to `MAX_CYCLES`
     Cut {
         file: &'a str,
         starts: &'a str,
@@ -101,15 +107,17 @@ pub enum Command<'a> {
         env: EnvName,
         budget: u64,
     },
-    /// `first` and `budget` are from 1 to `MAX_CYCLES`.
+    /// `blackbox READY --first Q [--budget T]`, `first` and `budget` from 1 to `MAX_CYCLES`
     Blackbox {
         ready: &'a str,
         first: u64,
         budget: u64,
     },
+    /// `certify FILE`
     Certify {
         file: &'a str,
     },
+    /// `recheck FILE CERTIFICATE`
     Recheck {
         file: &'a str,
         certificate: &'a str,
@@ -128,6 +136,7 @@ pub enum WordsFault {
 /// Reads the words that follow a command word.
 fn read_after<'a>(alloc: Global, verb: Verb, words: &'a [String]) -> Result<Command<'a>, WordsFault>
     ensures asked { IfOk result (λ c. asked_after verb (map string_bytes words.entry.now) ≡ Some (asked_of c)) }
+    ensures range { IfOk result (λ c. IsInRange (asked_of c)) }
     ensures usage { IsErrOf result WordsFault.Usage → asked_after verb (map string_bytes words.entry.now) ≡ None }
 {
     let Ok(form) = form(alloc, verb) else {
@@ -140,6 +149,7 @@ fn read_after<'a>(alloc: Global, verb: Verb, words: &'a [String]) -> Result<Comm
 /// Reads the words. `Usage` comes exactly where they ask for nothing, want of memory aside.
 pub fn read_words<'a>(alloc: Global, words: &'a [String]) -> Result<Command<'a>, WordsFault>
     ensures asked { IfOk result (λ c. command_of (map string_bytes words.entry.now) ≡ Some (asked_of c)) }
+    ensures range { IfOk result (λ c. IsInRange (asked_of c)) }
     ensures usage { IsErrOf result WordsFault.Usage → command_of (map string_bytes words.entry.now) ≡ None }
 {
     let Some((word, rest)) = words.split_first() else {

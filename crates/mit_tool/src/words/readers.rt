@@ -2,7 +2,7 @@
 
 ghost use Rattle.std.specs.Prelude.{◌≡◌, ◌≤◌, IfSome, codes, option_map};
 ghost use Rattle.clap.specs.Words.{first_of, found_of, rows_of};
-ghost use Rattle.mit_tool.specs.WordsAsked.{budget_given, env_given, given, number_given};
+ghost use Rattle.mit_tool.specs.WordsAsked.{IsCycles, IsInRange, budget_given, env_given, given, number_given};
 ghost use Rattle.mit_tool.specs.WordsViews.{asked_of};
 
 use crate::words::values::{budget_of, env_of, number_of};
@@ -19,7 +19,7 @@ fn text<'a>(matches: &ArgMatches<'a>, name: &str) -> Option<&'a str>
 /// The number of a name, if the words give it one within the bounds.
 fn number(matches: &ArgMatches<'_>, name: &str, least: u64, most: u64) -> Option<u64>
     ensures value { result ≡ number_given name.now least most (rows_of (found_of matches.now)) }
-    ensures bound { IfSome result (λ n. n ≤ most) }
+    ensures range { IfSome result (λ n. (least ≤ n) × (n ≤ most)) }
 {
     number_of(text(matches, name)?, least, most)
 }
@@ -31,7 +31,8 @@ fn env(matches: &ArgMatches<'_>) -> Option<EnvName>
 }
 
 fn budget(matches: &ArgMatches<'_>) -> Option<u64>
-    ensures { result ≡ budget_given (rows_of (found_of matches.now)) }
+    ensures value { result ≡ budget_given (rows_of (found_of matches.now)) }
+    ensures range { IfSome result IsCycles }
 {
     budget_of(text(matches, "budget"))
 }
@@ -43,7 +44,8 @@ fn file<'a>(matches: &ArgMatches<'a>) -> Option<&'a str>
 }
 
 fn run<'a>(matches: &ArgMatches<'a>) -> Option<Command<'a>>
-    ensures { option_map asked_of result ≡ given Verb.Run (rows_of (found_of matches.now)) }
+    ensures asked { option_map asked_of result ≡ given Verb.Run (rows_of (found_of matches.now)) }
+    ensures range { IfSome result (λ c. IsInRange (asked_of c)) }
 {
     let file = file(matches)?;
     let env = env(matches)?;
@@ -60,7 +62,8 @@ fn run<'a>(matches: &ArgMatches<'a>) -> Option<Command<'a>>
 }
 
 fn meaning<'a>(matches: &ArgMatches<'a>) -> Option<Command<'a>>
-    ensures { option_map asked_of result ≡ given Verb.Meaning (rows_of (found_of matches.now)) }
+    ensures asked { option_map asked_of result ≡ given Verb.Meaning (rows_of (found_of matches.now)) }
+    ensures range { IfSome result (λ c. IsInRange (asked_of c)) }
 {
     let file = file(matches)?;
     let starts = text(matches, "STARTS");
@@ -73,7 +76,8 @@ fn meaning<'a>(matches: &ArgMatches<'a>) -> Option<Command<'a>>
 }
 
 fn audit<'a>(matches: &ArgMatches<'a>) -> Option<Command<'a>>
-    ensures { option_map asked_of result ≡ given Verb.Audit (rows_of (found_of matches.now)) }
+    ensures asked { option_map asked_of result ≡ given Verb.Audit (rows_of (found_of matches.now)) }
+    ensures range { IfSome result (λ c. IsInRange (asked_of c)) }
 {
     let file = file(matches)?;
     let starts = text(matches, "STARTS")?;
@@ -90,7 +94,8 @@ fn audit<'a>(matches: &ArgMatches<'a>) -> Option<Command<'a>>
 }
 
 fn cut<'a>(matches: &ArgMatches<'a>) -> Option<Command<'a>>
-    ensures { option_map asked_of result ≡ given Verb.Cut (rows_of (found_of matches.now)) }
+    ensures asked { option_map asked_of result ≡ given Verb.Cut (rows_of (found_of matches.now)) }
+    ensures range { IfSome result (λ c. IsInRange (asked_of c)) }
 {
     let file = file(matches)?;
     let starts = text(matches, "STARTS")?;
@@ -107,7 +112,8 @@ fn cut<'a>(matches: &ArgMatches<'a>) -> Option<Command<'a>>
 }
 
 fn made<'a>(matches: &ArgMatches<'a>) -> Option<Command<'a>>
-    ensures { option_map asked_of result ≡ given Verb.Gen (rows_of (found_of matches.now)) }
+    ensures asked { option_map asked_of result ≡ given Verb.Gen (rows_of (found_of matches.now)) }
+    ensures range { IfSome result (λ c. IsInRange (asked_of c)) }
 {
     let size = number(matches, "SIZE", 1, MAX_SIZE)?;
     let number = number(matches, "NUMBER", 0, MAX_NUMBER)?;
@@ -118,7 +124,8 @@ fn made<'a>(matches: &ArgMatches<'a>) -> Option<Command<'a>>
 }
 
 fn blackbox<'a>(matches: &ArgMatches<'a>) -> Option<Command<'a>>
-    ensures { option_map asked_of result ≡ given Verb.Blackbox (rows_of (found_of matches.now)) }
+    ensures asked { option_map asked_of result ≡ given Verb.Blackbox (rows_of (found_of matches.now)) }
+    ensures range { IfSome result (λ c. IsInRange (asked_of c)) }
 {
     let ready = text(matches, "READY")?;
     let first = number(matches, "first", 1, MAX_CYCLES)?;
@@ -131,7 +138,8 @@ fn blackbox<'a>(matches: &ArgMatches<'a>) -> Option<Command<'a>>
 }
 
 fn recheck<'a>(matches: &ArgMatches<'a>) -> Option<Command<'a>>
-    ensures { option_map asked_of result ≡ given Verb.Recheck (rows_of (found_of matches.now)) }
+    ensures asked { option_map asked_of result ≡ given Verb.Recheck (rows_of (found_of matches.now)) }
+    ensures range { IfSome result (λ c. IsInRange (asked_of c)) }
 {
     let file = file(matches)?;
     let certificate = text(matches, "CERTIFICATE")?;
@@ -140,7 +148,8 @@ fn recheck<'a>(matches: &ArgMatches<'a>) -> Option<Command<'a>>
 
 /// What the matches of a command ask for, if its numbers and names are of their form and in range.
 pub(crate) fn command<'a>(verb: Verb, matches: &ArgMatches<'a>) -> Option<Command<'a>>
-    ensures { option_map asked_of result ≡ given verb (rows_of (found_of matches.now)) }
+    ensures asked { option_map asked_of result ≡ given verb (rows_of (found_of matches.now)) }
+    ensures range { IfSome result (λ c. IsInRange (asked_of c)) }
 {
     match verb {
         Verb::Check => Some(Command::Check {

@@ -1,3 +1,4 @@
+use crate::words::EnvName::{Flat, Part, Part2};
 use crate::words::{Command, EnvName, WordsFault, read_words};
 use std::alloc::{AllocError, Global};
 use std::test::Fail;
@@ -11,227 +12,74 @@ fn split(alloc: Global, line: &str) -> Result<Vec<String>, AllocError> {
     Ok(words)
 }
 
-static RUNS: [(&str, Command<'static>); 22] = [
-    (
-        "run|p",
-        Command::Run {
-            file: "p",
-            starts: None,
-            env: EnvName::Part,
-            budget: 1_000_000,
-            observer: None,
-        },
-    ),
-    (
-        "run|p|s",
-        Command::Run {
-            file: "p",
-            starts: Some("s"),
-            env: EnvName::Part,
-            budget: 1_000_000,
-            observer: None,
-        },
-    ),
-    (
-        "run|p|--env|flat",
-        Command::Run {
-            file: "p",
-            starts: None,
-            env: EnvName::Flat,
-            budget: 1_000_000,
-            observer: None,
-        },
-    ),
-    (
-        "run|--env=part|--budget=10|p",
-        Command::Run {
-            file: "p",
-            starts: None,
-            env: EnvName::Part,
-            budget: 10,
-            observer: None,
-        },
-    ),
+// A line, and the file, starts, environment, budget and observer of the run that it asks for.
+type RunRow = (
+    &'static str,
+    &'static str,
+    Option<&'static str>,
+    EnvName,
+    u64,
+    Option<&'static str>,
+);
+
+static RUNS: [RunRow; 22] = [
+    ("run|p", "p", None, Part, 1_000_000, None),
+    ("run|p|s", "p", Some("s"), Part, 1_000_000, None),
+    ("run|p|--env|flat", "p", None, Flat, 1_000_000, None),
+    ("run|--env=part|--budget=10|p", "p", None, Part, 10, None),
     (
         "run|p|--observer|L|s|--env|part2",
-        Command::Run {
-            file: "p",
-            starts: Some("s"),
-            env: EnvName::Part2,
-            budget: 1_000_000,
-            observer: Some("L"),
-        },
+        "p",
+        Some("s"),
+        Part2,
+        1_000_000,
+        Some("L"),
     ),
-    (
-        "run|-",
-        Command::Run {
-            file: "-",
-            starts: None,
-            env: EnvName::Part,
-            budget: 1_000_000,
-            observer: None,
-        },
-    ),
-    (
-        "run|",
-        Command::Run {
-            file: "",
-            starts: None,
-            env: EnvName::Part,
-            budget: 1_000_000,
-            observer: None,
-        },
-    ),
-    (
-        "run||-",
-        Command::Run {
-            file: "",
-            starts: Some("-"),
-            env: EnvName::Part,
-            budget: 1_000_000,
-            observer: None,
-        },
-    ),
-    (
-        "run|p|--",
-        Command::Run {
-            file: "p",
-            starts: None,
-            env: EnvName::Part,
-            budget: 1_000_000,
-            observer: None,
-        },
-    ),
-    (
-        "run|--|-x",
-        Command::Run {
-            file: "-x",
-            starts: None,
-            env: EnvName::Part,
-            budget: 1_000_000,
-            observer: None,
-        },
-    ),
-    (
-        "run|p|--|--env",
-        Command::Run {
-            file: "p",
-            starts: Some("--env"),
-            env: EnvName::Part,
-            budget: 1_000_000,
-            observer: None,
-        },
-    ),
-    (
-        "run|p|--|--",
-        Command::Run {
-            file: "p",
-            starts: Some("--"),
-            env: EnvName::Part,
-            budget: 1_000_000,
-            observer: None,
-        },
-    ),
-    (
-        "run|--env|flat|--|p",
-        Command::Run {
-            file: "p",
-            starts: None,
-            env: EnvName::Flat,
-            budget: 1_000_000,
-            observer: None,
-        },
-    ),
-    (
-        "run|p|--observer=",
-        Command::Run {
-            file: "p",
-            starts: None,
-            env: EnvName::Part,
-            budget: 1_000_000,
-            observer: Some(""),
-        },
-    ),
-    (
-        "run|p|--observer|",
-        Command::Run {
-            file: "p",
-            starts: None,
-            env: EnvName::Part,
-            budget: 1_000_000,
-            observer: Some(""),
-        },
-    ),
-    (
-        "run|p|--observer|-",
-        Command::Run {
-            file: "p",
-            starts: None,
-            env: EnvName::Part,
-            budget: 1_000_000,
-            observer: Some("-"),
-        },
-    ),
+    ("run|-", "-", None, Part, 1_000_000, None),
+    ("run|", "", None, Part, 1_000_000, None),
+    ("run||-", "", Some("-"), Part, 1_000_000, None),
+    ("run|p|--", "p", None, Part, 1_000_000, None),
+    ("run|--|-x", "-x", None, Part, 1_000_000, None),
+    ("run|p|--|--env", "p", Some("--env"), Part, 1_000_000, None),
+    ("run|p|--|--", "p", Some("--"), Part, 1_000_000, None),
+    ("run|--env|flat|--|p", "p", None, Flat, 1_000_000, None),
+    ("run|p|--observer=", "p", None, Part, 1_000_000, Some("")),
+    ("run|p|--observer|", "p", None, Part, 1_000_000, Some("")),
+    ("run|p|--observer|-", "p", None, Part, 1_000_000, Some("-")),
     (
         "run|p|--observer=-x",
-        Command::Run {
-            file: "p",
-            starts: None,
-            env: EnvName::Part,
-            budget: 1_000_000,
-            observer: Some("-x"),
-        },
+        "p",
+        None,
+        Part,
+        1_000_000,
+        Some("-x"),
     ),
     (
         "run|p|--observer=a=b",
-        Command::Run {
-            file: "p",
-            starts: None,
-            env: EnvName::Part,
-            budget: 1_000_000,
-            observer: Some("a=b"),
-        },
+        "p",
+        None,
+        Part,
+        1_000_000,
+        Some("a=b"),
     ),
-    (
-        "run|p|--budget|1",
-        Command::Run {
-            file: "p",
-            starts: None,
-            env: EnvName::Part,
-            budget: 1,
-            observer: None,
-        },
-    ),
+    ("run|p|--budget|1", "p", None, Part, 1, None),
     (
         "run|p|--budget|1099511627776",
-        Command::Run {
-            file: "p",
-            starts: None,
-            env: EnvName::Part,
-            budget: 1_099_511_627_776,
-            observer: None,
-        },
+        "p",
+        None,
+        Part,
+        1_099_511_627_776,
+        None,
     ),
     (
         "run|p|--budget|00000000000000000007",
-        Command::Run {
-            file: "p",
-            starts: None,
-            env: EnvName::Part,
-            budget: 7,
-            observer: None,
-        },
+        "p",
+        None,
+        Part,
+        7,
+        None,
     ),
-    (
-        "run|help",
-        Command::Run {
-            file: "help",
-            starts: None,
-            env: EnvName::Part,
-            budget: 1_000_000,
-            observer: None,
-        },
-    ),
+    ("run|help", "help", None, Part, 1_000_000, None),
 ];
 
 static OTHERS: [(&str, Command<'static>); 17] = [
@@ -268,7 +116,7 @@ static OTHERS: [(&str, Command<'static>); 17] = [
             file: "p",
             starts: "s",
             observer: "L",
-            env: EnvName::Part,
+            env: Part,
             budget: 1_000_000,
         },
     ),
@@ -278,7 +126,7 @@ static OTHERS: [(&str, Command<'static>); 17] = [
             file: "p",
             starts: "s",
             observer: "H",
-            env: EnvName::Flat,
+            env: Flat,
             budget: 7,
         },
     ),
@@ -288,7 +136,7 @@ static OTHERS: [(&str, Command<'static>); 17] = [
             file: "p",
             starts: "s",
             observer: "",
-            env: EnvName::Part,
+            env: Part,
             budget: 1_000_000,
         },
     ),
@@ -298,7 +146,7 @@ static OTHERS: [(&str, Command<'static>); 17] = [
             file: "p",
             starts: "s",
             observer: "L",
-            env: EnvName::Part,
+            env: Part,
             budget: 1_000_000,
         },
     ),
@@ -308,7 +156,7 @@ static OTHERS: [(&str, Command<'static>); 17] = [
             file: "p",
             starts: "s",
             observer: "L",
-            env: EnvName::Part2,
+            env: Part2,
             budget: 50,
         },
     ),
@@ -429,8 +277,15 @@ fn takes(alloc: Global, line: &str, want: Command<'_>) -> Result<bool, AllocErro
 
 #[test]
 fn takes_the_words_of_run(rt: HostRuntime) -> Result<(), Fail> {
-    for (line, want) in &RUNS {
-        assert!(rt; takes(rt.alloc(), line, *want)?, "at {line}");
+    for (line, file, starts, env, budget, observer) in &RUNS {
+        let want = Command::Run {
+            file,
+            starts: *starts,
+            env: *env,
+            budget: *budget,
+            observer: *observer,
+        };
+        assert!(rt; takes(rt.alloc(), line, want)?, "at {line}");
     }
     Ok(())
 }

@@ -1,9 +1,9 @@
 //! What single words mean: command words, numbers and the names of environments.
 
-ghost use Rattle.std.specs.Prelude.{◌≡◌, option_map};
+ghost use Rattle.std.specs.Prelude.{◌≡◌, ◌≤◌, IfSome, option_map};
 ghost use Rattle.std.specs.Char.{is_ascii_digit};
 ghost use Rattle.std.specs.List.{list_all};
-ghost use Rattle.mit_tool.specs.WordsAsked.{budget_named, env_named, number_in, verb_named};
+ghost use Rattle.mit_tool.specs.WordsAsked.{IsCycles, budget_named, env_named, number_in, verb_named};
 
 use crate::words::{DEFAULT_BUDGET, EnvName, MAX_CYCLES, Verb};
 
@@ -38,7 +38,8 @@ fn is_digits(text: &str) -> bool
 
 /// The number that a text writes, if it has one to twenty digits and lies within the bounds.
 pub(crate) fn number_of(text: &str, least: u64, most: u64) -> Option<u64>
-    ensures { result ≡ number_in least most text.now }
+    ensures value { result ≡ number_in least most text.now }
+    ensures range { IfSome result (λ n. (least ≤ n) × (n ≤ most)) }
 {
     if text.is_empty() || text.len() > MAX_DIGITS || !is_digits(text) {
         return None;
@@ -51,7 +52,8 @@ pub(crate) fn number_of(text: &str, least: u64, most: u64) -> Option<u64>
 
 /// The budget that an option gives, in cycles.
 pub(crate) fn budget_of(text: Option<&str>) -> Option<u64>
-    ensures { result ≡ budget_named (option_map (λ t. t.now) text.entry) }
+    ensures value { result ≡ budget_named (option_map (λ t. t.now) text.entry) }
+    ensures range { IfSome result IsCycles }
 {
     match text {
         Some(text) => number_of(text, 1, MAX_CYCLES),

@@ -1,9 +1,9 @@
-use Rattle.std.proofs.Common.{rules, ◌≡◌, ◌+◌, ◌*◌, ◌^◌, ◌<◌, ◌≤◌, ◌++◌, [], ◌∷◌, length, drop, refl, sym, ap, ◌∙◌, arith}
+use Rattle.std.proofs.Common.{rules, ◌+◌, ◌*◌, ◌<◌, ◌++◌, [], ◌∷◌, length, refl, sym, ap, ◌∙◌, arith}
 use Rattle.std.specs.Prelude.{slice_set}
 use Rattle.label_lattice.specs.Order.{lattice_of}
 use Rattle.mit_syntax.specs.Expression.{expression_of}
 use Rattle.mit_syntax.specs.Todo.{Done, If, While, Mitigate}
-use Rattle.mit_syntax.specs.Plan.{Written, list_plan, command_plan, form_count, count}
+use Rattle.mit_syntax.specs.Plan.{Written, list_plan, form_count, count}
 use Rattle.timing_types.specs.Labelling.{variable_of, level_of, marks_from}
 use Rattle.timing_types.proofs.Parts.{if_parts, while_parts, mitigate_parts, if_count, while_count, mitigate_count, cut_count, drop_count}
 use Rattle.label_code.specs.declared.code.Work.TheVariants.{Brz, Brnz, Jmp, Mitb}
@@ -13,7 +13,7 @@ use Rattle.code_lower.specs.Code.{expr_code, code_of}
 use Rattle.code_lower.specs.Emitted.{marked_of}
 use Rattle.code_lower.proofs.Extents.{cut_size}
 use Rattle.code_lower.proofs.Patch.{if_emitted, while_emitted, mitigate_emitted, expr_length, put_length, one_length}
-use Rattle.code_lower.proofs.Emitting.{list_step, added_length, same_marks}
+use Rattle.code_lower.proofs.Emitting.{list_step, added_length}
 use Rattle.code_lower.proofs.emit.+emit.Goals as goal
 
 pub emit_command-emit_list-requires : goal.emit_command-emit_list-requires
@@ -133,10 +133,10 @@ emit_command-returns-in_ok-last-in-If-clause-code t c =
     let c5 = c.emit_list-in-If.new.code.items in
     let i = instr (Brz (n2 + 1)) m in
     let whole =
-        if_emitted lat g base m e p d c.emit_expr-in-If.new.code.items c.put-in-If.new.code.items c.emit_list.new.code.items c.put-in-If-2.new.code.items c5
-          (instr (Brz 0) m) (instr (Jmp 0) (marks_from c.raised-high.result)) n1 n2
-          c.in_ok-emit_expr-in-If.ensures (c.len-test.ensures ∙ c.emit_expr-in-If.new.code.ok.0) c.in_ok-put-in-If.ensures c.in_ok-next-in-If.ensures.code
-          (c.len-jump.ensures ∙ c.emit_list.new.code.ok.0) c.in_ok-put-in-If-2.ensures c.in_ok-last-in-If.ensures.code in
+    if_emitted lat g base m e p d c.emit_expr-in-If.new.code.items c.put-in-If.new.code.items c.emit_list.new.code.items c.put-in-If-2.new.code.items c5
+    (instr (Brz 0) m) (instr (Jmp 0) (marks_from c.raised-high.result)) n1 n2
+    c.in_ok-emit_expr-in-If.ensures (c.len-test.ensures ∙ c.emit_expr-in-If.new.code.ok.0) c.in_ok-put-in-If.ensures c.in_ok-next-in-If.ensures.code
+    (c.len-jump.ensures ∙ c.emit_list.new.code.ok.0) c.in_ok-put-in-If-2.ensures c.in_ok-last-in-If.ensures.code in
     ap (λ z. slice_set (slice_set c5 n1 z) n2 c.instruction-in-If.result) c.instruction.ensures
     ∙ ap (λ z. slice_set (slice_set c5 n1 i) n2 z) c.instruction-in-If.ensures
     ∙ ap (λ z. slice_set (slice_set c5 n1 i) n2 (instr (Jmp z) (marks_from c.raised-high.result))) (c.len-end.ensures ∙ c.emit_list-in-If.new.code.ok.0)
@@ -234,10 +234,10 @@ emit_command-returns-in_ok-put-in-While-2-clause-code t c =
     let c5 = c.put-in-While-2.new.code.items in
     let high = c.raised-high-in-While.ensures in
     let whole =
-        while_emitted lat g base m e p c.emit_expr-in-While.new.code.items c.put-in-While.new.code.items c.emit_list-in-While.new.code.items c.emit_expr-in-While-2.new.code.items c5 (instr (Brz 0) m) n1
-          c.in_ok-emit_expr-in-While.ensures (c.len-test-in-While.ensures ∙ c.emit_expr-in-While.new.code.ok.0) c.in_ok-put-in-While.ensures c.in_ok-next-in-While.ensures.code
-          (c.in_ok-emit_expr-in-While-2.ensures ∙ ap (λ z. c.emit_list-in-While.new.code.items ++ expr_code z e) high)
-          (c.in_ok-put-in-While-2.ensures ∙ ap (λ z. c.emit_expr-in-While-2.new.code.items ++ instr (Brnz (n1 + 1)) z ∷ []) high) in
+    while_emitted lat g base m e p c.emit_expr-in-While.new.code.items c.put-in-While.new.code.items c.emit_list-in-While.new.code.items c.emit_expr-in-While-2.new.code.items c5 (instr (Brz 0) m) n1
+    c.in_ok-emit_expr-in-While.ensures (c.len-test-in-While.ensures ∙ c.emit_expr-in-While.new.code.ok.0) c.in_ok-put-in-While.ensures c.in_ok-next-in-While.ensures.code
+    (c.in_ok-emit_expr-in-While-2.ensures ∙ ap (λ z. c.emit_list-in-While.new.code.items ++ expr_code z e) high)
+    (c.in_ok-put-in-While-2.ensures ∙ ap (λ z. c.emit_expr-in-While-2.new.code.items ++ instr (Brnz (n1 + 1)) z ∷ []) high) in
     ap (λ z. slice_set c5 n1 z) c.instruction-in-While.ensures
     ∙ ap (λ z. slice_set c5 n1 (instr (Brz z) m)) (c.len-end-in-While.ensures ∙ c.put-in-While-2.new.code.ok.0)
     ∙ whole
@@ -259,7 +259,7 @@ emit_command-emit_list-requires-in-Mitigate t c =
     let sizes = ap size parts in
     let n = mitigate_count c.args.c.now.form c.in-Mitigate.mark c.in-Mitigate.estimate c.in-Mitigate.level c.in-Mitigate.body c.deref-in-Mitigate.result.now c.in-Mitigate.is c.deref-in-Mitigate.ensures.value w in
     let e = expression_of c.in-Mitigate.estimate in
-    let l2 = put_length lat g base c.emit_expr-in-Mitigate.new.code.items c.put-in-Mitigate.new.code.items m e (instr (Mitb c.level.result c.in-Mitigate.mark) m) c.in_ok-emit_expr-in-Mitigate.ensures c.in_ok-put-in-Mitigate.ensures in
+    let l2 = put_length lat g base c.emit_expr-in-Mitigate.new.code.items c.put-in-Mitigate.new.code.items m e (instr (Mitb c.level-level.result c.in-Mitigate.mark) m) c.in_ok-emit_expr-in-Mitigate.ensures c.in_ok-put-in-Mitigate.ensures in
     let d = c.decreases in
     let smaller : 2 * count (list_plan c.deref-in-Mitigate.result.now) + 1 < 2 * form_count c.args.c.now.form w = omega arith in
     (search rules, (omega arith, omega arith))
@@ -289,10 +289,10 @@ emit_command-returns-in_ok-put-in-Mitigate-2-clause-code t c =
     let k = c.in-Mitigate.mark in
     let p = marked_of o l (list_plan c.deref-in-Mitigate.result.now) (c.args.number + 1) in
     let whole =
-        mitigate_emitted lat g base m k c.level.result.number e p c.emit_expr-in-Mitigate.new.code.items c.put-in-Mitigate.new.code.items c.emit_list-in-Mitigate.new.code.items c.put-in-Mitigate-2.new.code.items
-          c.in_ok-emit_expr-in-Mitigate.ensures c.in_ok-put-in-Mitigate.ensures c.in_ok-next-in-Mitigate.ensures.code c.in_ok-put-in-Mitigate-2.ensures in
+    mitigate_emitted lat g base m k c.level-level.result.number e p c.emit_expr-in-Mitigate.new.code.items c.put-in-Mitigate.new.code.items c.emit_list-in-Mitigate.new.code.items c.put-in-Mitigate-2.new.code.items
+    c.in_ok-emit_expr-in-Mitigate.ensures c.in_ok-put-in-Mitigate.ensures c.in_ok-next-in-Mitigate.ensures.code c.in_ok-put-in-Mitigate-2.ensures in
     whole
-    ∙ ap (λ z. base ++ code_of lat g (Mitigate m k z e p Done) (length base)) c.level.ensures
+    ∙ ap (λ z. base ++ code_of lat g (Mitigate m k z e p Done) (length base)) c.level-level.ensures
     ∙ ap (λ z. base ++ code_of lat g (Mitigate z k (level_of o l k) e p Done) (length base)) c.own_labels-own.ensures
     ∙ ap (λ z. base ++ code_of lat g (marked_of o l z c.args.number) (length base)) (sym parts)
 

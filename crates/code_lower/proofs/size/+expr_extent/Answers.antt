@@ -1,4 +1,4 @@
-use Rattle.std.proofs.Common.{◌≡◌, ◌+◌, ◌<◌, ap, arith}
+use Rattle.std.proofs.Common.{ap, arith}
 use Rattle.mit_syntax.specs.Expression.{expression_of}
 use Rattle.code_lower.specs.Layout.{expr_size}
 use Rattle.code_lower.proofs.Extents.{expr_operands_within}

@@ -1,11 +1,11 @@
-use Rattle.std.proofs.Common.{rules, ◌≡◌, ◌+◌, ◌*◌, ◌<◌, ◌≤◌, max, drop, refl, ap, arith}
+use Rattle.std.proofs.Common.{rules, ◌+◌, ◌*◌, ◌<◌, refl, ap, arith}
 use Rattle.mit_syntax.specs.Expression.{expression_of}
 use Rattle.mit_syntax.specs.Todo.{Done}
 use Rattle.mit_syntax.specs.Plan.{Written, list_plan, command_plan, form_count, count}
 use Rattle.timing_types.proofs.Parts.{if_parts, while_parts, mitigate_parts, if_count, while_count, mitigate_count, cut_count, drop_count}
-use Rattle.code_lower.specs.Layout.{expr_size, size}
-use Rattle.code_lower.specs.Depth.{expr_operands, most_operands, deepest}
-use Rattle.code_lower.proofs.Extents.{expr_operands_within, operands_within, deepest_within, cut_size, cut_operands, cut_deepest}
+use Rattle.code_lower.specs.Layout.{size}
+use Rattle.code_lower.specs.Depth.{most_operands, deepest}
+use Rattle.code_lower.proofs.Extents.{expr_operands_within, deepest_within, cut_size, cut_operands, cut_deepest}
 use Rattle.code_lower.proofs.size.+extent.Goals as goal
 
 pub command_extent-above_operand-requires : goal.command_extent-above_operand-requires
