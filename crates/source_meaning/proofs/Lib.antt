@@ -1,2 +1,7 @@
 pub mod Told
 pub mod Unlabelled
+pub mod GoOn
+pub mod Single
+pub mod Stacks
+pub mod Begins
+pub mod Steps

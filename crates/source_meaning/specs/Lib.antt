@@ -1,1 +1,4 @@
 pub mod Source
+pub mod InRange
+pub mod Frames
+pub mod Walked
