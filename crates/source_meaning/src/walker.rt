@@ -46,7 +46,7 @@ impl<'a> Walker<'a> {
         let _ = p.variables();
         let mut frames = Vec::new(alloc);
         frames.push(p.body())?;
-        let memory = memory.to_vec(alloc)?;
+        let memory = Vec::from_slice(alloc, memory)?;
         Ok(Walker { frames, memory })
     }
 
