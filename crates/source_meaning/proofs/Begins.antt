@@ -1,16 +1,15 @@
 -- A program's variables are those of a memory with a value for each.
-use Rattle.std.proofs.Common.{◌≡◌, ◌<◌, ◌≤◌, ◌+◌, ℕ, List, [], ◌∷◌, All, length, subst, refl, sym, ap, arith}
-use Rattle.mit_syntax.specs.declared.ast.Command.{Command}
+use Rattle.std.proofs.Common.{◌≡◌, ◌≤◌, ℕ, List, [], ◌∷◌, length, subst, refl, sym, ap, arith}
 use Rattle.mit_syntax.specs.Expression.{Expression, Number, Variable, Binary, Element}
 use Rattle.mit_syntax.specs.Todo.{Done, Skip, Assign, Put, Sleep, If, While, Mitigate, then_todo}
-use Rattle.mit_syntax.specs.Plan.{Plan, list_plan}
+use Rattle.mit_syntax.specs.Plan.{Plan}
 use Rattle.mit_syntax.specs.Declarations.{Declaration, variables, elements_in}
 use Rattle.mit_syntax.specs.Program.{Syntax, plan_of}
 use Rattle.mit_syntax.specs.Valid.{IsValid, AreShaped, IsKnown, AreKnown, AreSome}
 use Rattle.mit_syntax.proofs.Facts.{scalar_below, array_below, array_some}
 use Rattle.mit_syntax.proofs.Numbers.{first_bound, first_all}
 use Rattle.source_meaning.proofs.Single.{All-one}
-use Rattle.source_meaning.specs.InRange.{IsArrayIn, IsIn, IsSome, AreIn}
+use Rattle.source_meaning.specs.InRange.{IsIn, IsSome, AreIn}
 use Rattle.source_meaning.specs.Frames.{IsFrame, IsGoing}
 
 some_in : (p : Plan) → AreSome p → IsSome p

@@ -5,4 +5,5 @@ pub mod Single
 pub mod Places
 pub mod Stacks
 pub mod Begins
+pub mod Exact
 pub mod Steps

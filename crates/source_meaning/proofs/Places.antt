@@ -1,9 +1,9 @@
 -- The last element of a stack is put in another's place.
-use Rattle.std.proofs.Common.{◌≡◌, ℕ, zero, suc, ◌+◌, ◌-◌, ◌<◌, List, [], ◌∷◌, ◌++◌, length, take, map, refl, sym, ap, ◌∙◌, arith, true, false, Bool, get_or, All}
+use Rattle.std.proofs.Common.{◌≡◌, ℕ, zero, suc, ◌-◌, ◌<◌, List, [], ◌∷◌, ◌++◌, length, take, map, refl, sym, ap, ◌∙◌, arith, true, false, Bool, get_or, All}
 use Rattle.std.specs.Prelude.{slice_set, ◌==◌}
 use borrow.Author.Tests.{eqb-true}
 use Rattle.mit_syntax.specs.declared.ast.Command.{Command}
-use Rattle.source_meaning.specs.Frames.{without_last, some_list}
+use Rattle.source_meaning.specs.Frames.{some_list}
 
 pub some_full : (f : List Command) (b : Bool) → b ≡ (length f == 0) → b ≡ false → some_list f ≡ f ∷ []
 some_full [] b e n = absurd cc

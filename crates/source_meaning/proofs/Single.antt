@@ -1,5 +1,5 @@
 -- A list of one element.
-use Rattle.std.proofs.Common.{◌<◌, ℕ, zero, suc, List, [], ◌∷◌, All, arith}
+use Rattle.std.proofs.Common.{zero, suc, [], ◌∷◌, All, arith}
 
 pub All-none : {X : Type 0} (P : X → Type 0) → All P []
 All-none P k d h = absurd (omega arith)

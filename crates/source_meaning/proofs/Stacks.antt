@@ -1,13 +1,12 @@
 -- The lists of a walk.
-use Rattle.std.proofs.Common.{◌≡◌, ℕ, zero, suc, ◌+◌, ◌-◌, ◌<◌, ◌≤◌, List, [], ◌∷◌, ◌++◌, All, length, take, get_or, refl, sym, ap, ◌∙◌, subst, append_assoc, append-nil, arith}
+use Rattle.std.proofs.Common.{◌≡◌, List, [], ◌∷◌, ◌++◌, refl, sym, ap, ◌∙◌, append_assoc, append-nil}
 use Rattle.mit_syntax.specs.declared.ast.Command.{Command}
 use Rattle.mit_syntax.specs.Todo.{Done, then_todo}
 use Rattle.mit_syntax.specs.Plan.{Plan, list_plan}
-use Rattle.source_meaning.specs.InRange.{IsSome, AreIn}
-use Rattle.source_meaning.specs.Frames.{without_last, some_list, todo_from, todo_of, IsFrame, IsGoing}
+use Rattle.source_meaning.specs.Frames.{some_list, todo_from, todo_of}
 
 -- the last list comes first
-todo_last : (q : Plan) (fs : List (List Command)) (f : List Command) → todo_from q (fs ++ f ∷ []) ≡ then_todo (list_plan f) (todo_from q fs)
+pub todo_last : (q : Plan) (fs : List (List Command)) (f : List Command) → todo_from q (fs ++ f ∷ []) ≡ then_todo (list_plan f) (todo_from q fs)
 todo_last q [] f = refl
 todo_last q (g ∷ fs) f = todo_last (then_todo (list_plan g) q) fs f
 

@@ -1,22 +1,21 @@
 -- One command of a walk.
-use Rattle.std.proofs.Common.{◌≡◌, ℕ, ◌<◌, ◌-◌, List, [], ◌∷◌, ◌++◌, All, length, take, refl, sym, ap, ◌∙◌, subst, Vec, Global, Option}
-use Rattle.std.specs.Prelude.{ℤ, Bool, true, false, cond, slice_set, pos, negsuc, zero, suc, ◌≢◌}
-use Rattle.std.proofs.lemmas.Bool.{cond-true, cond-false}
+use Rattle.std.proofs.Common.{◌≡◌, ℕ, ◌-◌, List, [], ◌∷◌, ◌++◌, All, length, refl, sym, ap, ◌∙◌, subst, Vec, Global, Option}
+use Rattle.std.specs.Prelude.{ℤ, true, cond, slice_set, pos, negsuc, zero, suc}
 use Rattle.std.proofs.lemmas.List.Elements.{All-append, All-take}
 use Rattle.label_lattice.specs.declared.label.Label.{Label}
 use Rattle.mit_syntax.specs.declared.ast.Expr.{Expr}
-use Rattle.mit_syntax.specs.Expression.{Expression, expression_of}
+use Rattle.mit_syntax.specs.Expression.{expression_of}
 use Rattle.mit_syntax.specs.declared.ast.Command.{Command}
 use Rattle.mit_syntax.specs.declared.ast.Form.{Form, While as DWhile, If as DIf, Mitigate as DMitigate}
 use Rattle.mit_syntax.specs.declared.ast.Form.{Skip as FSkip, Assign as FAssign, Put as FPut, Sleep as FSleep, If' as FIf, While' as FWhile, Mitigate' as FMitigate}
-use Rattle.mit_syntax.specs.Todo.{Done, Skip, Assign, Put, Sleep, If, While, Mitigate, then_todo}
-use Rattle.mit_syntax.specs.Plan.{Written, Plan, form_plan, command_plan, list_plan, plan-If, plan-While, plan-Mitigate}
+use Rattle.mit_syntax.specs.Todo.{Skip, Assign, Put, Sleep, If, While, Mitigate, then_todo}
+use Rattle.mit_syntax.specs.Plan.{Written, Plan, form_plan, list_plan, plan-If, plan-While, plan-Mitigate}
 use Rattle.mit_syntax.specs.Values.{value_of, holds, element}
 use Rattle.source_meaning.specs.Source.{Note, Assigned, Started, Source, source_act}
-use Rattle.source_meaning.specs.Walked.{Standing, source_at}
+use Rattle.source_meaning.specs.Walked.{source_at}
 use Rattle.source_meaning.proofs.Stacks.{todo_some, todo_two}
 use Rattle.source_meaning.proofs.Single.{All-none, All-one}
-use Rattle.source_meaning.specs.InRange.{IsSome, AreIn, IsIn, IsArrayIn}
+use Rattle.source_meaning.specs.InRange.{IsSome, AreIn}
 use Rattle.source_meaning.specs.Frames.{without_last, some_list, todo_of, IsFrame, IsGoing}
 
 abbrev pub written_of : Command → Written
@@ -130,7 +129,7 @@ module _ (fs : List (List Command)) (list : List Command) (k : Command) (rest : 
   put_step a n j i x z f w v e =
       left fs list rest new _ m (slice_set m x z) (Assigned x z ∷ []) (put_front list k rest is a n j i f) e
       (λ q. ap (λ y. at (then_todo (list_plan rest) q) (slice_set m (element a n (value_of (expression_of j) m)) y) (Assigned (element a n (value_of (expression_of j) m)) y ∷ [])) (sym v)
-          ∙ ap (λ y. at (then_todo (list_plan rest) q) (slice_set m y z) (Assigned y z ∷ [])) (sym w))
+      ∙ ap (λ y. at (then_todo (list_plan rest) q) (slice_set m y z) (Assigned y z ∷ [])) (sym w))
 
   pub then_step : (i : Expr) (v u : Vec Command Global) (body : List Command) (z : ℤ) → k.form ≡ DIf i v u → z ≡ value_of (expression_of i) m → (z ≡ pos 0 → ⊥) → body ≡ v.items →
       new ≡ without_last fs ++ (some_list rest ++ body ∷ []) →
@@ -138,7 +137,7 @@ module _ (fs : List (List Command)) (list : List Command) (k : Command) (rest : 
   then_step i v u body z f w n b e =
       entered fs list rest body new _ m [] (if_front list k rest is i v u f) e
       (λ q. ap (λ y. at (cond y (then_todo (list_plan v.items) (then_todo (list_plan rest) q)) (then_todo (list_plan u.items) (then_todo (list_plan rest) q))) m []) (ap holds (sym w) ∙ holds_not z n)
-          ∙ ap (λ y. at (then_todo (list_plan y) (then_todo (list_plan rest) q)) m []) (sym b))
+      ∙ ap (λ y. at (then_todo (list_plan y) (then_todo (list_plan rest) q)) m []) (sym b))
 
   pub else_step : (i : Expr) (v u : Vec Command Global) (body : List Command) (z : ℤ) → k.form ≡ DIf i v u → z ≡ value_of (expression_of i) m → z ≡ pos 0 → body ≡ u.items →
       new ≡ without_last fs ++ (some_list rest ++ body ∷ []) →
@@ -146,7 +145,7 @@ module _ (fs : List (List Command)) (list : List Command) (k : Command) (rest : 
   else_step i v u body z f w n b e =
       entered fs list rest body new _ m [] (if_front list k rest is i v u f) e
       (λ q. ap (λ y. at (cond y (then_todo (list_plan v.items) (then_todo (list_plan rest) q)) (then_todo (list_plan u.items) (then_todo (list_plan rest) q))) m []) (ap holds (sym w) ∙ ap holds n)
-          ∙ ap (λ y. at (then_todo (list_plan y) (then_todo (list_plan rest) q)) m []) (sym b))
+      ∙ ap (λ y. at (then_todo (list_plan y) (then_todo (list_plan rest) q)) m []) (sym b))
 
   pub turn_step : (i : Expr) (v : Vec Command Global) (body : List Command) (z : ℤ) → k.form ≡ DWhile i v → z ≡ value_of (expression_of i) m → (z ≡ pos 0 → ⊥) → body ≡ v.items →
       new ≡ without_last fs ++ (some_list list ++ body ∷ []) →
@@ -155,16 +154,16 @@ module _ (fs : List (List Command)) (list : List Command) (k : Command) (rest : 
       let front = while_front list k rest is i v f in
       entered fs list list body new _ m [] front e
       (λ q. ap (λ y. at (cond y (then_todo (list_plan v.items) (While (written_of k) (expression_of i) (list_plan v.items) (then_todo (list_plan rest) q))) (then_todo (list_plan rest) q)) m [])
-              (ap holds (sym w) ∙ holds_not z n)
-          ∙ (ap (λ y. at (then_todo (list_plan v.items) (then_todo y q)) m []) (sym front)
-          ∙ ap (λ y. at (then_todo (list_plan y) (then_todo (list_plan list) q)) m []) (sym b)))
+      (ap holds (sym w) ∙ holds_not z n)
+      ∙ (ap (λ y. at (then_todo (list_plan v.items) (then_todo y q)) m []) (sym front)
+      ∙ ap (λ y. at (then_todo (list_plan y) (then_todo (list_plan list) q)) m []) (sym b)))
 
   pub done_step : (i : Expr) (v : Vec Command Global) (z : ℤ) → k.form ≡ DWhile i v → z ≡ value_of (expression_of i) m → z ≡ pos 0 → new ≡ without_last fs ++ some_list rest →
       source_act (then_todo (list_plan list) (todo_of (without_last fs))) m [] ≡ source_at (record { lists = new; memory = m }) []
   done_step i v z f w n e =
       left fs list rest new _ m m [] (while_front list k rest is i v f) e
       (λ q. ap (λ y. at (cond y (then_todo (list_plan v.items) (While (written_of k) (expression_of i) (list_plan v.items) (then_todo (list_plan rest) q))) (then_todo (list_plan rest) q)) m [])
-          (ap holds (sym w) ∙ ap holds n))
+      (ap holds (sym w) ∙ ap holds n))
 
   pub mitigate_step : (j : ℕ) (i : Expr) (l : Option Label) (v : Vec Command Global) (body : List Command) → k.form ≡ DMitigate j i l v → body ≡ v.items →
       new ≡ without_last fs ++ (some_list rest ++ body ∷ []) →

@@ -1,5 +1,5 @@
 -- The lists in which a walk stands, and what is left to do in them.
-use Rattle.std.specs.Prelude.{◌≡◌, ◌<◌, ◌≤◌, ◌-◌, ℕ, List, [], ◌∷◌, All, length, take}
+use Rattle.std.specs.Prelude.{◌≤◌, ◌-◌, ℕ, List, [], ◌∷◌, All, length, take}
 use Rattle.mit_syntax.specs.declared.ast.Command.{Command}
 use Rattle.mit_syntax.specs.Todo.{Done, then_todo}
 use Rattle.mit_syntax.specs.Plan.{Plan, list_plan}

@@ -1,6 +1,5 @@
-use Rattle.std.proofs.Common.{◌≡◌, ◌<◌, ◌++◌, ◌∷◌, [], ap, sym, ◌∙◌, arith, length, map, List}
-use Rattle.mit_syntax.specs.declared.ast.Command.{Command}
-use Rattle.source_meaning.specs.Frames.{without_last, some_list}
+use Rattle.std.proofs.Common.{◌++◌, ◌∷◌, [], ap, sym, ◌∙◌, arith, map}
+use Rattle.source_meaning.specs.Frames.{without_last}
 use Rattle.source_meaning.proofs.Places.{some_full, some_none, last_put, last_two}
 use Rattle.source_meaning.proofs.frames.enter.Goals as goal
 

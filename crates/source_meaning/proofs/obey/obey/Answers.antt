@@ -1,4 +1,4 @@
-use Rattle.std.proofs.Common.{rules, ◌≡◌, ◌≢◌, refl, sym, ap, ◌∙◌, map, length, arith, to_z, of_z, w64, inl, inr}
+use Rattle.std.proofs.Common.{rules, ◌≡◌, sym, ap, ◌∙◌, map, length, to_z, of_z, w64, inl, inr}
 use Rattle.std.proofs.lemmas.Int.{to_z-of_z}
 use Rattle.mit_syntax.specs.Values.{element}
 use Rattle.source_meaning.proofs.Steps.{skip_step, sleep_step, assign_step, put_step, then_step, else_step, turn_step, done_step, mitigate_step}
@@ -70,13 +70,13 @@ returns-in_ok-enter-in-Mitigate-clause-going c =
 pub returns-in-Skip-clause-step : goal.returns-in-Skip-clause-step
 returns-in-Skip-clause-step c =
     elim c.in-Skip.is [
-      inl f ↦ skip_step (map (λ f. f.now) c.args.frames.now.items) c.args.list.now c.args.command.now c.args.rest.now (map (λ f. f.now) c.leave-in-Skip.new.frames.items) c.args.memory.now c.requires.first f c.leave-in-Skip.ensures
-    | inr f ↦ sleep_step (map (λ f. f.now) c.args.frames.now.items) c.args.list.now c.args.command.now c.args.rest.now (map (λ f. f.now) c.leave-in-Skip.new.frames.items) c.args.memory.now c.requires.first f.0 f.1 c.leave-in-Skip.ensures
+      | inl f ↦ skip_step (map (λ f. f.now) c.args.frames.now.items) c.args.list.now c.args.command.now c.args.rest.now (map (λ f. f.now) c.leave-in-Skip.new.frames.items) c.args.memory.now c.requires.first f c.leave-in-Skip.ensures
+      | inr f ↦ sleep_step (map (λ f. f.now) c.args.frames.now.items) c.args.list.now c.args.command.now c.args.rest.now (map (λ f. f.now) c.leave-in-Skip.new.frames.items) c.args.memory.now c.requires.first f.0 f.1 c.leave-in-Skip.ensures
     ]
 
 pub returns-in-Skip-clause-going : goal.returns-in-Skip-clause-going
 returns-in-Skip-clause-going c =
     elim c.in-Skip.is [
-      inl f ↦ skip_going (map (λ f. f.now) c.args.frames.now.items) c.args.list.now c.args.command.now c.args.rest.now (map (λ f. f.now) c.leave-in-Skip.new.frames.items) c.args.memory.now c.requires.first (length c.args.memory.now) c.requires.going c.requires.frame f c.leave-in-Skip.ensures
-    | inr f ↦ sleep_going (map (λ f. f.now) c.args.frames.now.items) c.args.list.now c.args.command.now c.args.rest.now (map (λ f. f.now) c.leave-in-Skip.new.frames.items) c.args.memory.now c.requires.first (length c.args.memory.now) c.requires.going c.requires.frame f.0 f.1 c.leave-in-Skip.ensures
+      | inl f ↦ skip_going (map (λ f. f.now) c.args.frames.now.items) c.args.list.now c.args.command.now c.args.rest.now (map (λ f. f.now) c.leave-in-Skip.new.frames.items) c.args.memory.now c.requires.first (length c.args.memory.now) c.requires.going c.requires.frame f c.leave-in-Skip.ensures
+      | inr f ↦ sleep_going (map (λ f. f.now) c.args.frames.now.items) c.args.list.now c.args.command.now c.args.rest.now (map (λ f. f.now) c.leave-in-Skip.new.frames.items) c.args.memory.now c.requires.first (length c.args.memory.now) c.requires.going c.requires.frame f.0 f.1 c.leave-in-Skip.ensures
     ]

@@ -1,7 +1,6 @@
-use Rattle.std.proofs.Common.{◌≡◌, refl, sym, ap, ◌∙◌, subst, map, length, List, [], ◌∷◌, ◌++◌}
+use Rattle.std.proofs.Common.{◌≡◌, sym, ap, ◌∙◌, subst, map, length, List, [], ◌∷◌, ◌++◌}
 use Rattle.std.specs.Prelude.{ℤ, Option}
 use Rattle.label_lattice.specs.declared.label.Label.{Label}
-use Rattle.mit_syntax.specs.declared.ast.Command.{Command}
 use Rattle.mit_syntax.specs.Plan.{Written, Plan}
 use Rattle.mit_syntax.specs.Program.{plan_of}
 use Rattle.source_meaning.specs.Source.{Source}
