@@ -1,0 +1,96 @@
+use Rattle.std.proofs.Common.{◌≡◌, ◌≤◌, refl, sym, ap, ◌∙◌, subst, arith, Option, None, Some}
+use Rattle.std.specs.Prelude.{ℕ, Result, Ok, Err, OnErr}
+use Rattle.event_print.specs.declared.end.RunEnd.{RunEnd}
+use Rattle.std.specs.Io.KnownBytes.{Appends}
+use Rattle.tim_base.specs.Sinks.{AppendsPrefix}
+use Rattle.mit_syntax.specs.Declarations.{variables}
+use Rattle.env_contract.specs.Env.{Env}
+use Rattle.event_print.specs.Rest.{end_of_turn, text_of_turn, IsTurnBelow}
+use Rattle.event_print.proofs.Goes.{next_turn, last_turn, turn_below}
+use Rattle.event_print.proofs.Printed.{none_printed, stands_first, more_printed, all_printed, end_is, prefix_printed, stands_turn}
+use Rattle.event_print.proofs.print.print_run.Goals as goal
+
+on_err : {T E : Type 0} (r : Result T E) (P : Type 0) → P → OnErr r P
+on_err (Ok x) P h = tt
+on_err (Err e) P h = h
+
+none_left : (o : Option RunEnd) → ((e : RunEnd) → o ≡ Some e → ⊥) → o ≡ None
+none_left None h = refl
+none_left (Some e) h = absurd (h e refl)
+
+up_to : (a b c : ℕ) → a ≤ b → b ≤ c → a ≤ c
+up_to a b c p q = omega arith
+
+pub run-init : goal.run-init
+run-init g c =
+    let v : Env g.row.E.Denot = record { cost_of = g.E.MachineEnv.cost_of; next_of = g.E.MachineEnv.next_of; part = g.E.MachineEnv.part } in
+    record {
+      printed = none_printed v c.args.limit c.args.p.now.labelled c.args.observer c.args.m.now (g.W.Sink.taken c.args.out.now);
+      stands = stands_first v c.args.limit c.args.m.now;
+      later = omega arith;
+      labelled = c.labelled-labelled.ensures.labelled;
+    }
+
+pub print_turn-requires : goal.print_turn-requires
+print_turn-requires g c =
+    let v : Env g.row.E.Denot = record { cost_of = g.E.MachineEnv.cost_of; next_of = g.E.MachineEnv.next_of; part = g.E.MachineEnv.part } in
+    let count : c.run.m.code.variables ≡ variables c.labelled-labelled.result.now.program.declarations =
+    ap (λ m. m.variables) c.run.invariant.stands.code ∙ (c.requires.variables ∙ ap (λ p. variables p.program.declarations) (sym c.labelled-labelled.ensures.labelled)) in
+    subst (λ n. IsTurnBelow n c.next-turn.result) count
+    (turn_below v c.args.limit c.run.m c.next-turn.new.self c.next-turn.result c.laws.ensures.shaped c.laws.ensures.stopped c.next-turn.ensures)
+
+pub returns-in_err-end-clause-prefix : goal.returns-in_err-end-clause-prefix
+returns-in_err-end-clause-prefix g c =
+    let v : Env g.row.E.Denot = record { cost_of = g.E.MachineEnv.cost_of; next_of = g.E.MachineEnv.next_of; part = g.E.MachineEnv.part } in
+    let line : AppendsPrefix (g.W.Sink.taken c.run.out) (g.W.Sink.taken c.print_turn.new.out) (text_of_turn c.args.p.now.labelled c.args.observer c.next-turn.result) =
+    subst (λ p. AppendsPrefix (g.W.Sink.taken c.run.out) (g.W.Sink.taken c.print_turn.new.out) (text_of_turn p c.args.observer c.next-turn.result)) c.labelled-labelled.ensures.labelled c.in_err-end.ensures.prefix in
+    on_err _ _ (prefix_printed v c.args.limit c.args.p.now.labelled c.args.observer c.args.m.now c.run.m c.next-turn.new.self c.next-turn.result _ _ _ c.run.invariant.printed c.laws.ensures.stopped c.next-turn.ensures line)
+
+pub returns-in_err-end-clause-stands : goal.returns-in_err-end-clause-stands
+returns-in_err-end-clause-stands g c =
+    let v : Env g.row.E.Denot = record { cost_of = g.E.MachineEnv.cost_of; next_of = g.E.MachineEnv.next_of; part = g.E.MachineEnv.part } in
+    stands_turn v c.args.limit c.args.p.now.labelled c.args.observer c.args.m.now c.run.m c.next-turn.new.self c.next-turn.result _ _ c.run.invariant.printed c.run.invariant.stands c.laws.ensures.stopped c.next-turn.ensures
+
+pub returns-in-Some-clause-end : goal.returns-in-Some-clause-end
+returns-in-Some-clause-end g c =
+    let v : Env g.row.E.Denot = record { cost_of = g.E.MachineEnv.cost_of; next_of = g.E.MachineEnv.next_of; part = g.E.MachineEnv.part } in
+    let told : end_of_turn c.next-turn.result ≡ Some c.in-Some.end = sym c.in_ok-end.ensures.end ∙ c.in-Some.is in
+    end_is v c.args.limit c.args.p.now.labelled c.args.observer c.args.m.now c.run.m c.next-turn.new.self c.next-turn.result c.in-Some.end _ _ c.run.invariant.printed
+    (last_turn v c.args.limit c.run.m c.next-turn.new.self c.next-turn.result c.in-Some.end c.laws.ensures.stopped c.next-turn.ensures told)
+
+pub returns-in-Some-clause-text : goal.returns-in-Some-clause-text
+returns-in-Some-clause-text g c =
+    let v : Env g.row.E.Denot = record { cost_of = g.E.MachineEnv.cost_of; next_of = g.E.MachineEnv.next_of; part = g.E.MachineEnv.part } in
+    let told : end_of_turn c.next-turn.result ≡ Some c.in-Some.end = sym c.in_ok-end.ensures.end ∙ c.in-Some.is in
+    let line : Appends (g.W.Sink.taken c.run.out) (g.W.Sink.taken c.print_turn.new.out) (text_of_turn c.args.p.now.labelled c.args.observer c.next-turn.result) =
+    subst (λ p. Appends (g.W.Sink.taken c.run.out) (g.W.Sink.taken c.print_turn.new.out) (text_of_turn p c.args.observer c.next-turn.result)) c.labelled-labelled.ensures.labelled c.in_ok-end.ensures.text in
+    all_printed v c.args.limit c.args.p.now.labelled c.args.observer c.args.m.now c.run.m c.next-turn.new.self c.next-turn.result c.in-Some.end _ _ _ c.run.invariant.printed
+    (last_turn v c.args.limit c.run.m c.next-turn.new.self c.next-turn.result c.in-Some.end c.laws.ensures.stopped c.next-turn.ensures told) told line
+
+pub returns-in-Some-clause-stands : goal.returns-in-Some-clause-stands
+returns-in-Some-clause-stands g c =
+    let v : Env g.row.E.Denot = record { cost_of = g.E.MachineEnv.cost_of; next_of = g.E.MachineEnv.next_of; part = g.E.MachineEnv.part } in
+    stands_turn v c.args.limit c.args.p.now.labelled c.args.observer c.args.m.now c.run.m c.next-turn.new.self c.next-turn.result _ _ c.run.invariant.printed c.run.invariant.stands c.laws.ensures.stopped c.next-turn.ensures
+
+pub run-preserved : goal.run-preserved
+run-preserved g c =
+    let v : Env g.row.E.Denot = record { cost_of = g.E.MachineEnv.cost_of; next_of = g.E.MachineEnv.next_of; part = g.E.MachineEnv.part } in
+    let none : end_of_turn c.next-turn.result ≡ None = sym c.in_ok-end.ensures.end ∙ none_left c.in_ok-end.field-0 c.in_default.not-Some in
+    let line : Appends (g.W.Sink.taken c.run.out) (g.W.Sink.taken c.print_turn.new.out) (text_of_turn c.args.p.now.labelled c.args.observer c.next-turn.result) =
+    subst (λ p. Appends (g.W.Sink.taken c.run.out) (g.W.Sink.taken c.print_turn.new.out) (text_of_turn p c.args.observer c.next-turn.result)) c.labelled-labelled.ensures.labelled c.in_ok-end.ensures.text in
+    let next = next_turn v c.args.limit c.run.m c.next-turn.new.self c.next-turn.result c.laws.ensures.stopped c.next-turn.ensures none in
+    record {
+      printed = more_printed v c.args.limit c.args.p.now.labelled c.args.observer c.args.m.now c.run.m c.next-turn.new.self c.next-turn.result _ _ _ c.run.invariant.printed next none line;
+      stands = stands_turn v c.args.limit c.args.p.now.labelled c.args.observer c.args.m.now c.run.m c.next-turn.new.self c.next-turn.result _ _ c.run.invariant.printed c.run.invariant.stands c.laws.ensures.stopped c.next-turn.ensures;
+      later = up_to _ _ _ c.run.invariant.later c.print_turn.ensures.later;
+      labelled = c.labelled-labelled.ensures.labelled;
+    }
+
+pub run-smaller : goal.run-smaller
+run-smaller g c =
+    let v : Env g.row.E.Denot = record { cost_of = g.E.MachineEnv.cost_of; next_of = g.E.MachineEnv.next_of; part = g.E.MachineEnv.part } in
+    let none : end_of_turn c.next-turn.result ≡ None = sym c.in_ok-end.ensures.end ∙ none_left c.in_ok-end.field-0 c.in_default.not-Some in
+    let next = next_turn v c.args.limit c.run.m c.next-turn.new.self c.next-turn.result c.laws.ensures.stopped c.next-turn.ensures none in
+    let later = next.later in
+    let within = next.within in
+    omega (arith, later, within)

@@ -1,0 +1,15 @@
+use Rattle.std.proofs.Common.{◌≡◌, ◌≤◌, ◌-◌}
+use Rattle.event_print.specs.Rest.{StandsAfter}
+use Rattle.event_print.proofs.Printed.{Printed}
+use Rattle.event_print.proofs.print.print_run.Given as goal
+
+abbrev pub invariant-run : goal.invariant-run
+invariant-run g l = record {
+  printed : Printed (record { cost_of = g.E.MachineEnv.cost_of; next_of = g.E.MachineEnv.next_of; part = g.E.MachineEnv.part }) l.fn.limit l.fn.p.labelled l.fn.observer l.fn.m l.m (g.W.Sink.taken l.fn.out) (g.W.Sink.taken l.out);
+  stands : StandsAfter (record { cost_of = g.E.MachineEnv.cost_of; next_of = g.E.MachineEnv.next_of; part = g.E.MachineEnv.part }) l.fn.limit l.fn.m l.m;
+  later : g.W.Sink.faults l.fn.out ≤ g.W.Sink.faults l.out;
+  labelled : l.labelled ≡ l.fn.p.labelled;
+}
+
+abbrev pub decreases-run : goal.decreases-run
+decreases-run g l = l.limit - l.m.state.clock

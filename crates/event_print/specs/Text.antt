@@ -1,0 +1,56 @@
+-- The text of a run: a line for each assignment that is shown, and a last line.
+use Rattle.std.specs.Prelude.{ℕ, ℤ, List, [], ◌∷◌, ◌++◌, Bool, true, Option, Some, None, codes, decimal}
+use Rattle.std.specs.Fmt.{signed_decimal}
+use Rattle.label_lattice.specs.declared.label.Label.{Label}
+use Rattle.mit_syntax.specs.Declarations.{Declaration, Cell, cell_at}
+use Rattle.timing_types.specs.Labelled.{LabelledProgram, order_of, labels_of}
+use Rattle.label_code.specs.Machine.{Event, Wrote, Began, Ended}
+use Rattle.label_code.specs.Visible.{visible}
+use Rattle.event_print.specs.declared.end.RunEnd.{RunEnd}
+use Rattle.event_print.specs.declared.end.RunEnd.TheVariants.{Halted, Limit}
+
+-- a variable's name, and the place of an element in its array
+abbrev pub place_text : Option ℕ → List ℕ
+place_text None = []
+place_text (Some k) = codes "[" ++ (decimal k ++ codes "]")
+
+abbrev pub cell_text : Cell → List ℕ
+cell_text c = c.name ++ place_text c.place
+
+-- ` @C` and a line feed
+abbrev pub cycle_text : ℕ → List ℕ
+cycle_text c = codes " @" ++ (decimal c ++ codes "\n")
+
+-- `X = V @C`
+abbrev pub event_line : List Declaration → ℕ → ℤ → ℕ → List ℕ
+event_line ds x n c = cell_text (cell_at ds x) ++ (codes " = " ++ (signed_decimal n ++ cycle_text c))
+
+-- the lines of the assignments among events
+abbrev pub lines_of : List Declaration → List Event → List ℕ
+lines_of ds [] = []
+lines_of ds (Wrote x n c ∷ es) = event_line ds x n c ++ lines_of ds es
+lines_of ds (Began k c ∷ es) = lines_of ds es
+lines_of ds (Ended k c ∷ es) = lines_of ds es
+
+-- `end @C` or `limit @C`
+abbrev pub last_line : RunEnd → List ℕ
+last_line (Halted c) = codes "end" ++ cycle_text c
+last_line (Limit c) = codes "limit" ++ cycle_text c
+
+-- what is shown of events: all, or what an observer sees
+abbrev pub shown : LabelledProgram → Option Label → List Event → List Event
+shown p None es = es
+shown p (Some o) es = visible (order_of p) (labels_of p) o.number es
+
+-- whether assignments to a variable are shown
+abbrev pub is_shown : LabelledProgram → Option Label → ℕ → Bool
+is_shown p None x = true
+is_shown p (Some o) x = (order_of p).flows (labels_of p x) o.number
+
+-- what a run tells: its events, and how it ended
+pub record Told : Type 0 where
+  pub events : List Event
+  pub end : RunEnd
+
+abbrev pub text_of : LabelledProgram → Option Label → Told → List ℕ
+text_of p o t = lines_of p.program.declarations (shown p o t.events) ++ last_line t.end

@@ -1,0 +1,100 @@
+//! Printing a run.
+
+ghost use Rattle.std.specs.Prelude.{◌≡◌, ◌<◌, ◌≤◌, Some, OnOk, OnErr, IfOk, IfSome};
+ghost use Rattle.std.specs.Io.KnownBytes.{Appends};
+ghost use Rattle.tim_base.specs.Faults.{Rose};
+ghost use Rattle.tim_base.specs.Sinks.{AppendsPrefix};
+ghost use Rattle.mit_syntax.specs.Declarations.{variables};
+ghost use Rattle.event_print.specs.Text.{text_of, last_line};
+ghost use Rattle.event_print.specs.Rest.{rest_of, StandsAfter, turn_of, end_of_turn, text_of_turn, IsTurnBelow};
+
+use crate::end::RunEnd;
+use crate::lines::{event_line, last_line};
+use crate::shown::shows;
+use cycle_machine::machine::Machine;
+use cycle_machine::turn::Turn;
+use env_contract::env::MachineEnv;
+use label_lattice::label::Label;
+use tim_base::sink::{Sink, SinkFault, write_all};
+use timing_types::labelled::Labelled;
+use timing_types::typed::Typed;
+
+// Writes the line of a turn, if it has one and is shown, and answers the end that it tells.
+fn print_turn<W: Sink>(
+    p: &Labelled,
+    observer: Option<Label>,
+    turn: Turn,
+    out: &mut W,
+) -> Result<Option<RunEnd>, SinkFault>
+    requires { IsTurnBelow (variables p.now.program.declarations) turn }
+    ensures end { IfOk result (λ end. end ≡ end_of_turn turn) }
+    ensures text { OnOk result (Appends (W.taken out.old) (W.taken out.new) (text_of_turn p.now observer turn)) }
+    ensures prefix { OnErr result (AppendsPrefix (W.taken out.old) (W.taken out.new) (text_of_turn p.now observer turn)) }
+    ensures later { W.faults out.old ≤ W.faults out.new }
+    ensures fault { OnErr result (Rose (W.faults out.old) (W.faults out.new)) }
+{
+    match turn {
+        Turn::Event {
+            variable,
+            value,
+            cycle,
+        } => {
+            if shows(p, observer, variable) {
+                let line = event_line(p.program(), variable, value, cycle);
+                write_all(out, line.bytes())?;
+            }
+            Ok(None)
+        }
+        Turn::Began { .. } | Turn::Ended { .. } => Ok(None),
+        Turn::Halted { cycle } => print_end(RunEnd::Halted(cycle), out),
+        Turn::Limit { cycle } => print_end(RunEnd::Limit(cycle), out),
+    }
+}
+
+// Writes the last line.
+fn print_end<W: Sink>(end: RunEnd, out: &mut W) -> Result<Option<RunEnd>, SinkFault>
+    ensures end { IfOk result (λ e. e ≡ Some end) }
+    ensures text { OnOk result (Appends (W.taken out.old) (W.taken out.new) (last_line end)) }
+    ensures prefix { OnErr result (AppendsPrefix (W.taken out.old) (W.taken out.new) (last_line end)) }
+    ensures later { W.faults out.old ≤ W.faults out.new }
+    ensures fault { OnErr result (Rose (W.faults out.old) (W.faults out.new)) }
+{
+    let line = last_line(end);
+    write_all(out, line.bytes())?;
+    Ok(Some(end))
+}
+
+/// Runs a machine to a limit in cycles, and writes a line for each assignment that it makes, or of those
+/// that the observer sees, and then how it ended: `X = V @C`, with the place of an element in brackets
+/// after its array's name, and `end @C` or `limit @C`. The machine's image has as many variables as the
+/// program, and the observer is a label of it. Takes no memory.
+///
+/// # Errors
+/// The sink's fault, where a prefix of the text is written. The machine then stands after the last step that
+/// it took.
+pub fn print_run<E: MachineEnv + Drop, W: Sink>(
+    m: &mut Machine<E>,
+    p: &Typed,
+    observer: Option<Label>,
+    limit: u64,
+    out: &mut W,
+) -> Result<RunEnd, SinkFault>
+    requires variables { m.old.code.variables ≡ variables p.now.labelled.program.declarations }
+    requires observer { IfSome observer (λ o. o.number < p.now.labelled.program.order.size) }
+    ensures end { IfOk result (λ end. end ≡ (rest_of (record { cost_of = E.cost_of; next_of = E.next_of; part = E.part }) limit m.old).end) }
+    ensures text { OnOk result (Appends (W.taken out.old) (W.taken out.new) (text_of p.now.labelled observer (rest_of (record { cost_of = E.cost_of; next_of = E.next_of; part = E.part }) limit m.old))) }
+    ensures prefix { OnErr result (AppendsPrefix (W.taken out.old) (W.taken out.new) (text_of p.now.labelled observer (rest_of (record { cost_of = E.cost_of; next_of = E.next_of; part = E.part }) limit m.old))) }
+    ensures later { W.faults out.old ≤ W.faults out.new }
+    ensures fault { OnErr result (Rose (W.faults out.old) (W.faults out.new)) }
+    ensures stopped { IfOk result (λ end. m.new.stopped ≡ Some (turn_of end)) }
+    ensures stands { StandsAfter (record { cost_of = E.cost_of; next_of = E.next_of; part = E.part }) limit m.old m.new }
+{
+    let labelled = p.labelled();
+    'run: loop {
+        m.laws();
+        let turn = m.next(limit);
+        if let Some(end) = print_turn(labelled, observer, turn, out)? {
+            return Ok(end);
+        }
+    }
+}
