@@ -1,7 +1,7 @@
 -- The image of a labelled program.
 use Rattle.std.proofs.Common.{◌≡◌, ◌<◌, ◌≤◌, ◌+◌, ℕ, List, [], ◌∷◌, ◌++◌, length, Option, None, Some, sym, ap, ◌∙◌, arith, length-append}
 use Rattle.label_lattice.specs.declared.label.Label.{Label}
-use Rattle.label_lattice.specs.Order.{Order, IsOrder, lattice_of}
+use Rattle.label_lattice.specs.Order.{Order, lattice_of}
 use Rattle.label_lattice.proofs.Orders.{join_below}
 use Rattle.mit_syntax.specs.declared.ast.Command.{Command}
 use Rattle.mit_syntax.specs.Plan.{list_plan}
@@ -73,11 +73,11 @@ module _ (p : LabelledProgram) where
   nesting_is = deepest-labelled (marks_of p.program.order p.labels) (level_of p.program.order p.labels) (plan_of p.program) 0
 
   -- the image is an image's code
-  pub is_shaped : IsValid p.program → IsLabelling p.program p.labels → IsOrder p.program.order → length (lowered p).instrs ≤ 200000 → IsShaped (lowered p)
-  is_shaped v k h small =
+  pub is_shaped : IsValid p.program → IsLabelling p.program p.labels → length (lowered p).instrs ≤ 200000 → IsShaped (lowered p)
+  is_shaped v k small =
       let o = p.program.order in
       image_shaped (order_of p) (labels_of p) (bare_of p) (variables p.program.declarations) o (few_variables p.program v) small
-      (image_range p.program.declarations v.arrays o.size (order_of p) (labels_of p) h.table.some k.variables_below (join_below o h)
+      (image_range p.program.declarations v.arrays o.size (order_of p) (labels_of p) v.order.table.some k.variables_below (join_below o v.order)
       (marks_of o p.labels) (level_of o p.labels) k.commands_below k.levels_below (plan_of p.program) 0 v.known)
 
   -- the code that is emitted, and HALT

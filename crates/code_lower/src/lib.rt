@@ -5,3 +5,5 @@ mod emit;
 pub mod laws;
 pub mod lower;
 mod size;
+#[cfg(test)]
+mod tests;

@@ -53,7 +53,6 @@ pub fn lower(alloc: Global, p: &Typed) -> Result<Image, LowerFault>
         return Err(LowerFault::TooLong(count));
     }
     let order = program.lattice();
-    order.laws();
     let mut code = Vec::with_capacity(alloc, count as usize)?;
     emit_list(&mut code, program.body(), labelled.labels(), &order, 0)?;
     let bottom = order.bottom();

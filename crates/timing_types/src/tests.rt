@@ -58,6 +58,7 @@ fn mitigated(alloc: Global, lattice: Lattice) -> Result<Program, AllocError>
         },
     };
     let body = vec![in alloc; command]?;
+    lattice.laws();
     Ok(Program::of(lattice, Vec::new(alloc), IndexMap::new(alloc), body))
 }
 

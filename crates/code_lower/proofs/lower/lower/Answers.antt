@@ -1,5 +1,4 @@
 use Rattle.std.proofs.Common.{◌≤◌, length, sym, ap, ◌∙◌, subst, arith}
-use Rattle.label_lattice.specs.Order.{IsOrder}
 use Rattle.mit_syntax.specs.Declarations.{variables}
 use Rattle.mit_syntax.specs.Plan.{list_plan}
 use Rattle.mit_syntax.specs.Valid.{IsValid}
@@ -70,7 +69,7 @@ of-requires c =
     let f = c.if-count-gt-MAX_INSTRUCTIONS.false in
     let small : length (lowered p).instrs ≤ 200000 = omega (arith, s, x, l, f) in
     subst IsShaped (sym built)
-    (is_shaped p (subst IsValid hp c.body.ensures.valid) (subst (λ z. IsLabelling z.program z.labels) hl c.program-program.ensures.labelling) (subst IsOrder ho c.laws.ensures.order) small)
+    (is_shaped p (subst IsValid hp c.body.ensures.valid) (subst (λ z. IsLabelling z.program z.labels) hl c.program-program.ensures.labelling) small)
 
 pub returns-clause-image : goal.returns-clause-image
 returns-clause-image c =

@@ -29,7 +29,7 @@ of-requires c =
     record {
       pairs = search rules;
       flows = search rules;
-      label_names = search rules;
+      order = c.laws.ensures.order;
       few = search rules;
       names = search rules;
       differ = search rules;
