@@ -5,22 +5,12 @@ use Rattle.mit_syntax.specs.Todo.{Done, Skip, Assign, Put, Sleep, If, While, Mit
 use Rattle.mit_syntax.specs.Plan.{Plan}
 use Rattle.mit_syntax.specs.Declarations.{Declaration, variables, elements_in}
 use Rattle.mit_syntax.specs.Program.{Syntax, plan_of}
-use Rattle.mit_syntax.specs.Valid.{IsValid, AreShaped, IsKnown, AreKnown, AreSome}
+use Rattle.mit_syntax.specs.Valid.{IsValid, AreShaped, IsKnown, AreKnown}
 use Rattle.mit_syntax.proofs.Facts.{scalar_below, array_below, array_some}
 use Rattle.mit_syntax.proofs.Numbers.{first_bound, first_all}
 use Rattle.source_meaning.proofs.Single.{All-one}
-use Rattle.source_meaning.specs.InRange.{IsIn, IsSome, AreIn}
+use Rattle.source_meaning.specs.InRange.{IsIn, AreIn}
 use Rattle.source_meaning.specs.Frames.{IsFrame, IsGoing}
-
-some_in : (p : Plan) → AreSome p → IsSome p
-some_in Done h = h
-some_in (Skip w p) h = h
-some_in (Assign w x e p) h = h
-some_in (Put w f n i e p) h = h
-some_in (Sleep w e p) h = h
-some_in (If w e a b p) h = h
-some_in (While w e c p) h = h
-some_in (Mitigate w k l e c p) h = h
 
 module _ (ds : List Declaration) (shaped : AreShaped ds) (n : ℕ) where
   known_in : (e : Expression) → IsKnown ds e → IsIn (variables ds) e
@@ -36,9 +26,9 @@ module _ (ds : List Declaration) (shaped : AreShaped ds) (n : ℕ) where
   all_known_in (Put w f j i e p) h =
       ((array_some ds h.1.0 f j h.1.1 shaped, array_below ds h.1.0 f j h.1.1), known_in i h.2, known_in e h.3, all_known_in p h.4)
   all_known_in (Sleep w e p) h = all_known_in p h.2
-  all_known_in (If w e a b p) h = (known_in e h.1, (some_in a h.2, all_known_in a h.4), (some_in b h.3, all_known_in b h.5), all_known_in p h.6)
-  all_known_in (While w e c p) h = (known_in e h.1, (some_in c h.2, all_known_in c h.3), all_known_in p h.4)
-  all_known_in (Mitigate w k l e c p) h = ((some_in c h.3, all_known_in c h.4), all_known_in p h.5)
+  all_known_in (If w e a b p) h = (known_in e h.1, (h.2, all_known_in a h.4), (h.3, all_known_in b h.5), all_known_in p h.6)
+  all_known_in (While w e c p) h = (known_in e h.1, (h.2, all_known_in c h.3), all_known_in p h.4)
+  all_known_in (Mitigate w k l e c p) h = ((h.3, all_known_in c h.4), all_known_in p h.5)
 
 -- a program's list and a memory begin a walk
 pub going_first : (s : Syntax) (k : ℕ) → IsValid s → k ≡ variables s.declarations → IsGoing (s.body ∷ []) k
@@ -48,7 +38,7 @@ going_first s k v e =
     let count : length s.declarations ≤ 1024 = v.few.count in
     let elements : elements_in s.declarations ≤ 2048 = v.few.elements in
     record {
-      frames = All-one (IsFrame k) s.body (some_in (plan_of s) v.some, subst (λ n. AreIn n (plan_of s)) (sym e) (all_known_in s.declarations v.arrays s.order.size (plan_of s) v.known));
+      frames = All-one (IsFrame k) s.body (v.some, subst (λ n. AreIn n (plan_of s)) (sym e) (all_known_in s.declarations v.arrays s.order.size (plan_of s) v.known));
       few = omega (arith, few, all, count, elements, e);
     }
 

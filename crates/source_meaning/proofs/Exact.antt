@@ -8,13 +8,13 @@ use Rattle.mit_syntax.specs.Plan.{Plan, list_plan}
 use Rattle.source_meaning.specs.Source.{source_act}
 use Rattle.source_meaning.specs.declared.walk.Walk.{Walk}
 use Rattle.source_meaning.specs.declared.walk.Walk.TheVariants.{Ended}
-use Rattle.source_meaning.specs.InRange.{IsSome}
+use Rattle.mit_syntax.specs.Valid.{AreSome}
 use Rattle.source_meaning.specs.Frames.{without_last, todo_of, IsFrame, IsGoing}
 use Rattle.source_meaning.specs.Walked.{Standing, told_by, source_at, IsStep}
 use Rattle.source_meaning.proofs.Stacks.{todo_last}
 use Rattle.source_meaning.proofs.Places.{All-last}
 
-not_done : (p q : Plan) → IsSome p → then_todo p q ≡ Done → ⊥
+not_done : (p q : Plan) → AreSome p → then_todo p q ≡ Done → ⊥
 not_done Done q h e = h
 not_done (Skip w p) q h e = absurd cc
 not_done (Assign w x i p) q h e = absurd cc
@@ -24,7 +24,7 @@ not_done (If w i a b p) q h e = absurd cc
 not_done (While w i c p) q h e = absurd cc
 not_done (Mitigate w k l i c p) q h e = absurd cc
 
-pub is_step : {R : Type 0} (fs : List (List Command)) (m : List ℤ) (list : List Command) (new : Standing) (r : Result Walk R) → fs ≡ without_last fs ++ list ∷ [] → IsSome (list_plan list) →
+pub is_step : {R : Type 0} (fs : List (List Command)) (m : List ℤ) (list : List Command) (new : Standing) (r : Result Walk R) → fs ≡ without_last fs ++ list ∷ [] → AreSome (list_plan list) →
     IfOk r (λ walk. source_act (then_todo (list_plan list) (todo_of (without_last fs))) m [] ≡ source_at new (told_by walk)) → IfOk r (λ walk. walk ≡ Ended → ⊥) →
     IfOk r (λ walk. IsStep (record { lists = fs; memory = m }) walk new)
 is_step fs m list new (Err e) is some h told = tt
@@ -36,7 +36,7 @@ is_step fs m list new (Ok walk) is some h told =
       going = λ e. absurd (not_done (list_plan list) (todo_of (without_last fs)) some (sym todo ∙ e));
     }
 
-pub no_empty : (f : List Command) → IsSome (list_plan f) → length f < 1 → ⊥
+pub no_empty : (f : List Command) → AreSome (list_plan f) → length f < 1 → ⊥
 no_empty [] h l = h
 no_empty (c ∷ cs) h l = omega arith
 

@@ -15,7 +15,8 @@ use Rattle.source_meaning.specs.Source.{Note, Assigned, Started, Source, source_
 use Rattle.source_meaning.specs.Walked.{source_at}
 use Rattle.source_meaning.proofs.Stacks.{todo_some, todo_two}
 use Rattle.source_meaning.proofs.Single.{All-none, All-one}
-use Rattle.source_meaning.specs.InRange.{IsSome, AreIn}
+use Rattle.mit_syntax.specs.Valid.{AreSome}
+use Rattle.source_meaning.specs.InRange.{AreIn}
 use Rattle.source_meaning.specs.Frames.{without_last, some_list, todo_of, IsFrame, IsGoing}
 
 abbrev pub written_of : Command → Written
@@ -54,10 +55,10 @@ holds_not (pos zero) h = absurd (h refl)
 holds_not (pos (suc n)) h = refl
 holds_not (negsuc n) h = refl
 
-some_front : (c : Command) (cs : List Command) → IsSome (list_plan (c ∷ cs))
+some_front : (c : Command) (cs : List Command) → AreSome (list_plan (c ∷ cs))
 some_front c cs = go c.form
   where
-    go : (f : Form) → IsSome (form_plan f (written_of c) (list_plan cs))
+    go : (f : Form) → AreSome (form_plan f (written_of c) (list_plan cs))
     go FSkip = tt
     go (FAssign x e) = tt
     go (FPut a n i e) = tt

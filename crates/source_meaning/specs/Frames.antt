@@ -3,7 +3,8 @@ use Rattle.std.specs.Prelude.{◌≤◌, ◌-◌, ℕ, List, [], ◌∷◌, All,
 use Rattle.mit_syntax.specs.declared.ast.Command.{Command}
 use Rattle.mit_syntax.specs.Todo.{Done, then_todo}
 use Rattle.mit_syntax.specs.Plan.{Plan, list_plan}
-use Rattle.source_meaning.specs.InRange.{IsSome, AreIn}
+use Rattle.mit_syntax.specs.Valid.{AreSome}
+use Rattle.source_meaning.specs.InRange.{AreIn}
 
 abbrev pub without_last : List (List Command) → List (List Command)
 without_last fs = take (length fs - 1) fs
@@ -22,7 +23,7 @@ todo_of fs = todo_from Done fs
 
 -- a list has a command, and its variables are among the first k
 abbrev pub IsFrame : ℕ → List Command → Type 0
-IsFrame k f = IsSome (list_plan f) × AreIn k (list_plan f)
+IsFrame k f = AreSome (list_plan f) × AreIn k (list_plan f)
 
 -- what is true of every walker
 pub record IsGoing (fs : List (List Command)) (k : ℕ) : Type 0 where
