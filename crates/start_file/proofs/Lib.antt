@@ -1,0 +1,4 @@
+pub mod TableLemmas
+pub mod Names
+pub mod Written
+pub mod Listed

@@ -1,14 +1,13 @@
 //! The values of the variables.
 
-ghost use Rattle.std.specs.Prelude.{◌≡◌, ◌≢◌, ◌+◌, ◌<◌, ◌≤◌, ℕ, pos, true, false, IsTrue, IfOk, IfErr, length, slice_index_or, string_bytes, Some};
+ghost use Rattle.std.specs.Prelude.{◌≡◌, ◌≢◌, ◌+◌, ◌≤◌, true, false, IsTrue, IfOk, IfErr, length, Some};
 ghost use Rattle.std.specs.List.{list_all};
-ghost use Rattle.std.specs.BTreeMap.{keys};
 ghost use Rattle.toml.specs.Data.{no_members, get_item};
 ghost use Rattle.toml.specs.View.{view, items_view, table_view};
 ghost use Rattle.mit_syntax.specs.Declarations.{variables, size_in};
 ghost use Rattle.mit_syntax.specs.Valid.{IsValid};
-ghost use Rattle.start_file.specs.Tables.{data_of, items_in, members_in};
-ghost use Rattle.start_file.specs.Values.{slot_of, is_key, names_pass, is_integer, are_integers, is_filling, is_value, values_pass, memory_passes, number_of, memory_of, values_of};
+ghost use Rattle.start_file.specs.Tables.{data_of, keys_pass, items_in, members_in};
+ghost use Rattle.start_file.specs.Values.{slot_of, is_key, names_pass, is_integer, are_integers, is_filling, is_value, values_pass, memory_passes, number_of, elements_of, memory_of, values_of};
 ghost use Rattle.start_file.specs.Edits.{splice, written};
 
 use crate::fault::StartFault;
@@ -31,7 +30,7 @@ fn is_key(program: &Program, version: Version, key: &str) -> bool
 
 fn has_known_keys(program: &Program, version: Version, table: &Table) -> bool
     requires { IsValid program.now }
-    ensures { result ≡ list_all (λ k. is_key version (slot_of program.now.declarations (string_bytes k))) (keys table.now) }
+    ensures { result ≡ keys_pass (λ w. is_key version (slot_of program.now.declarations w)) (table_view table.now) }
 {
     table
         .keys()
@@ -90,15 +89,23 @@ fn is_filling(length: Option<u32>, value: &Value) -> bool
     }
 }
 
+// The integer at a place, or 0 past the end.
+fn item(values: &[Value], i: usize) -> i64
+    ensures { result ≡ number_of (get_item i (items_view values.now)) }
+{
+    if i < values.len() {
+        number(&values[i])
+    } else {
+        0
+    }
+}
+
 // Writes the integers, and then zeros.
 fn put_elements(cells: &mut [i64], values: &[Value])
-    ensures { (k : ℕ) → k < length cells.old → slice_index_or cells.new k (pos 0) ≡ number_of (get_item k (items_view values.now)) }
+    ensures { cells.new ≡ elements_of (length cells.old) (items_view values.now) }
 {
     for (i, cell) in cells.iter_mut().enumerate() {
-        *cell = match values.get(i) {
-            Some(value) => number(value),
-            None => 0,
-        };
+        *cell = item(values, i);
     }
 }
 

@@ -1,0 +1,1 @@
+-- The runs and the touches, one more at a time.

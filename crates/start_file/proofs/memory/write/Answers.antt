@@ -1,0 +1,14 @@
+use Rattle.std.proofs.Common.{◌∙◌, ap, set, w64, to_z-of_z}
+use Rattle.toml.specs.View.{view, items_view}
+use Rattle.start_file.proofs.Written.{one_written, part_written}
+use Rattle.start_file.proofs.memory.write.Goals as goal
+
+pub returns-in-None : goal.returns-in-None
+returns-in-None c =
+    ap (set c.args.memory.now c.args.slot.first) (to_z-of_z w64 c.number.result c.number.type_inv)
+    ∙ one_written c.args.memory.now c.args.slot (view c.args.value.now) c.requires c.number.result c.in-None.is c.number.ensures
+
+pub returns-in-Some : goal.returns-in-Some
+returns-in-Some c =
+    part_written c.args.memory.now c.args.slot (view c.args.value.now) c.requires c.in-Some.length c.put_elements.new.cells (items_view c.items_in.result.now)
+    c.in-Some.is c.items_in.ensures c.put_elements.ensures
