@@ -1,5 +1,5 @@
 -- What is written for one name more is the memory of one name more.
-use Rattle.std.proofs.Common.{◌≡◌, ◌∙◌, refl, sym, ap, subst, ℕ, ℤ, pos, zero, suc, ◌+◌, ◌-◌, ◌<◌, ◌≤◌, List, [], ◌∷◌, ◌++◌, Bool, true, false, cond, length, get_or, take, drop, set, map, ap₂, Option, None, Some, String, Global, string_bytes, append_assoc, length-append, length-take, length-drop, arith}
+use Rattle.std.proofs.Common.{◌≡◌, ◌∙◌, refl, sym, ap, subst, ℕ, ℤ, pos, zero, suc, ◌+◌, ◌-◌, ◌<◌, ◌≤◌, List, [], ◌∷◌, ◌++◌, Bool, true, false, cond, ◌&&◌, length, get_or, take, drop, set, map, ap₂, Option, None, Some, String, Global, string_bytes, append_assoc, length-append, length-take, length-drop, arith}
 use Rattle.std.specs.Prelude.{option_map}
 use Rattle.std.specs.Cmp.Lexicographic.{slice_cmp}
 use Rattle.std.specs.Ordering.{nat_cmp, is_eq, match_ordering}
@@ -18,7 +18,7 @@ use Rattle.mit_syntax.specs.Declarations.{Declaration, declared, size_of, size_i
 use Rattle.mit_syntax.proofs.Numbers.{length-cells_of}
 use Rattle.start_file.specs.declared.slot.Slot.{Slot}
 use borrow.Rule.Slice.PartMut.{put_mid, Post-is}
-use Rattle.start_file.specs.Values.{slot_of, values_of, elements_of, number_of, memory_of}
+use Rattle.start_file.specs.Values.{slot_of, is_value, values_pass, values_of, elements_of, number_of, memory_of}
 use Rattle.start_file.specs.Tables.{items_in}
 use Rattle.start_file.specs.Edits.{splice, written}
 use Rattle.std.specs.List.{AllByRecursion}
@@ -237,3 +237,17 @@ pub put_entry : (ds : List Declaration) (es : List Entry) (e : Entry) (more : Li
     → memory_of ds (members_view (es ++ e ∷ [])) ≡ written (slot_of ds (string_bytes e.0)) (view e.1) (memory_of ds (members_view es))
 put_entry ds es e more h sorted =
     ap (memory_of ds) (members_view-last es e.0 e.1) ∙ put_last ds (string_bytes e.0) (view e.1) (members_view es) h (new_key es e more sorted)
+
+-- the entry at the front of those that are left, with its key's bytes
+module _ (ds : List Declaration) (it rest : List Entry) (e : Entry) (w : List ℕ) (front : it ≡ e ∷ rest) (key : w ≡ string_bytes e.0) where
+  pub passes_more : (all : Bool) → is_value (slot_of ds w) (view e.1) ≡ true → all ≡ values_pass ds (members_view it) → all ≡ values_pass ds (members_view rest)
+  passes_more all good h =
+      let here : is_value (slot_of ds (string_bytes e.0)) (view e.1) ≡ true = subst (λ b. is_value (slot_of ds b) (view e.1) ≡ true) key good in
+      h ∙ ap (λ l. values_pass ds (members_view l)) front ∙ ap (λ b. b && values_pass ds (members_view rest)) here
+
+  pub memory_more : (all done : List Entry) (m new : List ℤ) → AllDiffer (names ds) → IsStrictlySortedBy string_cmp (keys_of all) → all ≡ done ++ it
+      → m ≡ memory_of ds (members_view done) → new ≡ written (slot_of ds w) (view e.1) m → new ≡ memory_of ds (members_view (done ++ e ∷ []))
+  memory_more all done m new differ sorted parts h put =
+      let whole : all ≡ done ++ e ∷ rest = parts ∙ ap (λ l. done ++ l) front in
+      let ordered : IsStrictlySortedBy string_cmp (keys_of (done ++ e ∷ rest)) = subst (λ l. IsStrictlySortedBy string_cmp (keys_of l)) whole sorted in
+      put ∙ ap (λ b. written (slot_of ds b) (view e.1) m) key ∙ ap (written (slot_of ds (string_bytes e.0)) (view e.1)) h ∙ sym (put_entry ds done e rest differ ordered)
