@@ -1,5 +1,5 @@
 -- What holds of the tables and arrays of a document, seen as data.
-use Rattle.std.proofs.Common.{◌≡◌, ◌∙◌, ℕ, ◌+◌, ◌<◌, ◌≤◌, List, [], ◌∷◌, Bool, false, ◌&&◌, length, refl, ap, le-leb, Option, Some, String, Vec, Global, string_bytes, arith}
+use Rattle.std.proofs.Common.{◌≡◌, ◌∙◌, ℕ, ◌+◌, ◌<◌, ◌≤◌, List, [], ◌∷◌, Bool, false, ◌&&◌, length, refl, sym, ap, le-leb, Option, Some, String, Vec, Global, string_bytes, arith}
 use Rattle.std.specs.Prelude.{nat_le}
 use Rattle.std.proofs.lemmas.Bool.Decides.{nat_tests}
 use Rattle.std.specs.List.{list_all}
@@ -37,3 +37,7 @@ module _ (v : Value) (a : Vec Value Global) (length_of : Option ℕ) (n : ℕ) (
   long_filling lt =
       let e : nat_le (length a.items) n ≡ false = grind (arith, nat_tests) in
       array_filling ∙ ap (λ (b : Bool). b && list_all (λ x. is_integer (view x)) a.items) e
+
+-- what a test of all keys tells
+pub keys_told : (test : List ℕ → Bool) (es : List (String Global × Value)) (r b : Bool) → r ≡ list_all (λ k. test (string_bytes k)) (keys_of es) → r ≡ b → keys_pass test (members_view es) ≡ b
+keys_told test es r b is told = sym (keys_pass_view test es) ∙ sym is ∙ told

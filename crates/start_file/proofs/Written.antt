@@ -1,6 +1,7 @@
 -- What is written for one name more is the memory of one name more.
-use Rattle.std.proofs.Common.{◌≡◌, ◌∙◌, refl, sym, ap, subst, ℕ, ℤ, pos, zero, suc, ◌+◌, ◌-◌, ◌<◌, ◌≤◌, List, [], ◌∷◌, ◌++◌, Bool, true, false, cond, ◌&&◌, length, get_or, take, drop, set, map, ap₂, Option, None, Some, String, Global, string_bytes, append_assoc, length-append, length-take, length-drop, arith}
+use Rattle.std.proofs.Common.{◌≡◌, ◌∙◌, refl, sym, ap, subst, ℕ, ℤ, pos, zero, suc, ◌+◌, ◌-◌, ◌<◌, ◌≤◌, List, [], ◌∷◌, ◌++◌, Bool, true, false, cond, ◌&&◌, length, get_or, take, drop, set, replicate, append-nil, map, ap₂, Option, None, Some, String, Global, string_bytes, append_assoc, length-append, length-take, length-drop, arith}
 use Rattle.std.specs.Prelude.{option_map}
+use Rattle.std.proofs.lemmas.List.{replicate-append-replicate}
 use Rattle.std.specs.Cmp.Lexicographic.{slice_cmp}
 use Rattle.std.specs.Ordering.{nat_cmp, is_eq, match_ordering}
 use Rattle.std.specs.Str.{bytes_eq}
@@ -251,3 +252,26 @@ module _ (ds : List Declaration) (it rest : List Entry) (e : Entry) (w : List �
       let whole : all ≡ done ++ e ∷ rest = parts ∙ ap (λ l. done ++ l) front in
       let ordered : IsStrictlySortedBy string_cmp (keys_of (done ++ e ∷ rest)) = subst (λ l. IsStrictlySortedBy string_cmp (keys_of l)) whole sorted in
       put ∙ ap (λ b. written (slot_of ds b) (view e.1) m) key ∙ ap (written (slot_of ds (string_bytes e.0)) (view e.1)) h ∙ sym (put_entry ds done e rest differ ordered)
+
+zero_elements : (n : ℕ) → elements_of n no_items ≡ replicate n (pos 0)
+zero_elements zero = refl
+zero_elements (suc n) = ap (λ (l : List ℤ). pos 0 ∷ l) (zero_elements n)
+
+zero_values : (l : Option ℕ) → values_of l None ≡ replicate (size_in l) (pos 0)
+zero_values None = refl
+zero_values (Some n) = zero_elements n
+
+-- the memory of an empty table
+pub zero_memory : (ds : List Declaration) → memory_of ds no_members ≡ replicate (variables ds) (pos 0)
+zero_memory [] = refl
+zero_memory (x ∷ ds) =
+    let b = length-append (cells_of x.0 x.1.label x.1.length) (cells ds) in
+    let d = length-cells_of x.0 x.1.label x.1.length in
+    let size : size_in x.1.length + variables ds ≡ variables (x ∷ ds) = omega (arith, b, d) in
+    ap₂ (λ (l r : List ℤ). l ++ r) (zero_values x.1.length) (zero_memory ds)
+    ∙ replicate-append-replicate (size_in x.1.length) (variables ds) (pos 0)
+    ∙ ap (λ n. replicate n (pos 0)) size
+
+-- a list that was lent as a whole and came back
+pub whole_back : (n : ℕ) (new old : List ℤ) → length new ≡ n → take n (new ++ drop (length new) old) ≡ new
+whole_back n new old e = take_after new (drop (length new) old) 0 n (omega (arith, e)) ∙ append-nil new

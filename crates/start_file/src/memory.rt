@@ -1,12 +1,13 @@
 //! The values of the variables.
 
-ghost use Rattle.std.specs.Prelude.{◌≡◌, ◌≢◌, ◌+◌, ◌≤◌, true, false, IsTrue, IfOk, IfErr, length, Some};
+ghost use Rattle.std.specs.Prelude.{◌≡◌, ◌≢◌, ◌+◌, ◌≤◌, true, false, IsTrue, IfOk, IfErr, length, Some, string_bytes, pos, replicate};
 ghost use Rattle.std.specs.List.{list_all};
+ghost use Rattle.std.specs.BTreeMap.{keys};
 ghost use Rattle.toml.specs.Data.{no_members, get_item};
 ghost use Rattle.toml.specs.View.{view, items_view, table_view};
 ghost use Rattle.mit_syntax.specs.Declarations.{variables, size_in};
 ghost use Rattle.mit_syntax.specs.Valid.{IsValid};
-ghost use Rattle.start_file.specs.Tables.{data_of, keys_pass, items_in, members_in};
+ghost use Rattle.start_file.specs.Tables.{data_of, items_in, members_in};
 ghost use Rattle.start_file.specs.Values.{slot_of, is_key, names_pass, is_integer, are_integers, is_filling, is_value, values_pass, memory_passes, number_of, elements_of, memory_of, values_of};
 ghost use Rattle.start_file.specs.Edits.{splice, written};
 
@@ -14,7 +15,7 @@ use crate::fault::StartFault;
 use crate::slot::{Slot, slot_of};
 use crate::version::Version;
 use mit_syntax::program::Program;
-use std::alloc::Global;
+use std::alloc::{AllocError, Global};
 use toml::{Table, Value};
 
 // Whether a key of `memory` is known.
@@ -30,7 +31,7 @@ fn is_key(program: &Program, version: Version, key: &str) -> bool
 
 fn has_known_keys(program: &Program, version: Version, table: &Table) -> bool
     requires { IsValid program.now }
-    ensures { result ≡ keys_pass (λ w. is_key version (slot_of program.now.declarations w)) (table_view table.now) }
+    ensures { result ≡ list_all (λ k. is_key version (slot_of program.now.declarations (string_bytes k))) (keys table.now) }
 {
     table
         .keys()
@@ -165,6 +166,12 @@ fn put_all(program: &Program, memory: &mut [i64], table: &Table) -> bool
     true
 }
 
+fn zeros(alloc: Global, count: u32) -> Result<Vec<i64>, AllocError>
+    ensures { IfOk result (λ v. v.items ≡ replicate count (pos 0)) }
+{
+    vec![in alloc; 0; count as usize]
+}
+
 /// The values of the variables, for the run with a number.
 ///
 /// # Errors
@@ -181,7 +188,7 @@ pub fn memory(
     ensures fault { IfErr result (λ e. e ≢ StartFault.Memory → e ≡ StartFault.NotNumber run) }
     ensures refused { IfErr result (λ e. e ≢ StartFault.Memory → memory_passes program.now.declarations (data_of memory.entry) ≡ false) }
 {
-    let mut values = vec![in alloc; 0; program.variables() as usize]?;
+    let mut values = zeros(alloc, program.variables())?;
     let Some(value) = memory else {
         return Ok(values);
     };

@@ -1,9 +1,10 @@
 //! One run of a start file.
 
-ghost use Rattle.std.specs.Prelude.{◌≡◌, ◌≢◌, Ok, Err, IfOk, IfErr};
+ghost use Rattle.std.specs.Prelude.{◌≡◌, ◌≢◌, Ok, Err, IfOk, IfErr, string_bytes};
+ghost use Rattle.std.specs.List.{list_all};
+ghost use Rattle.std.specs.BTreeMap.{keys};
 ghost use Rattle.toml.specs.View.{view, table_view};
 ghost use Rattle.mit_syntax.specs.Valid.{IsValid};
-ghost use Rattle.start_file.specs.Tables.{keys_pass};
 ghost use Rattle.start_file.specs.Starts.{is_run_key, run_keys_pass, run_in, run_of, seen};
 
 use crate::fault::StartFault;
@@ -23,7 +24,7 @@ fn is_run_key(key: &str) -> bool
 }
 
 fn has_run_keys(table: &Table) -> bool
-    ensures { result ≡ keys_pass is_run_key (table_view table.now) }
+    ensures { result ≡ list_all (λ k. is_run_key (string_bytes k)) (keys table.now) }
 {
     table.keys().all(|key| is_run_key(key.as_str()))
 }

@@ -1,9 +1,11 @@
 //! From the bytes of a start file to the starts of its runs.
 
-ghost use Rattle.std.specs.Prelude.{◌≡◌, ◌≢◌, ◌≤◌, All, Some, None, Ok, Err, IfOk, IfErr, length, map};
+ghost use Rattle.std.specs.Prelude.{◌≡◌, ◌≢◌, ◌≤◌, All, Some, None, Ok, Err, IfOk, IfErr, length, map, string_bytes};
+ghost use Rattle.std.specs.List.{list_all};
+ghost use Rattle.std.specs.BTreeMap.{keys};
 ghost use Rattle.toml.specs.View.{items_view, table_view};
 ghost use Rattle.mit_syntax.specs.Valid.{IsValid};
-ghost use Rattle.start_file.specs.Tables.{data_of, keys_pass};
+ghost use Rattle.start_file.specs.Tables.{data_of};
 ghost use Rattle.start_file.specs.Starts.{is_top_key, runs_from, counted_runs, runs_of, starts_in, seen, IsDocument, Gives, IsFor};
 
 use crate::fault::StartFault;
@@ -25,7 +27,7 @@ fn is_top_key(key: &str) -> bool
 }
 
 fn has_top_keys(table: &Table) -> bool
-    ensures { result ≡ keys_pass is_top_key (table_view table.now) }
+    ensures { result ≡ list_all (λ k. is_top_key (string_bytes k)) (keys table.now) }
 {
     table.keys().all(|key| is_top_key(key.as_str()))
 }

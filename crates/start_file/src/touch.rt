@@ -1,8 +1,10 @@
 //! The touches of a run.
 
-ghost use Rattle.std.specs.Prelude.{◌≡◌, ◌≢◌, None, Some, IfOk, IfErr};
+ghost use Rattle.std.specs.Prelude.{◌≡◌, ◌≢◌, None, Some, IfOk, IfErr, string_bytes};
+ghost use Rattle.std.specs.List.{list_all};
+ghost use Rattle.std.specs.BTreeMap.{keys};
 ghost use Rattle.toml.specs.View.{view, items_view, table_view};
-ghost use Rattle.start_file.specs.Tables.{data_of, keys_pass};
+ghost use Rattle.start_file.specs.Tables.{data_of};
 ghost use Rattle.start_file.specs.Touches.{is_touch_key, place_named, place_of, label_named, label_of, address_of, touch_in, touch_of, touches_of, touches_in};
 
 use crate::fault::StartFault;
@@ -23,7 +25,7 @@ fn is_touch_key(key: &str) -> bool
 }
 
 fn has_touch_keys(table: &Table) -> bool
-    ensures { result ≡ keys_pass is_touch_key (table_view table.now) }
+    ensures { result ≡ list_all (λ k. is_touch_key (string_bytes k)) (keys table.now) }
 {
     table.keys().all(|key| is_touch_key(key.as_str()))
 }

@@ -23,6 +23,6 @@ loop-key-preserved c =
     record {
       passes = passes_more ds c.loop-key.key-iterator c.next.new.self e c.as_str.result.now front c.as_str.ensures.value _ (sym c.put.ensures.value ∙ c.if-not-put.false) c.loop-key.invariant.passes;
       memory = memory_more ds c.loop-key.key-iterator c.next.new.self e c.as_str.result.now front c.as_str.ensures.value c.args.table.now.entries done c.loop-key.memory c.put.new.memory
-        c.requires.valid.differ gives.5 parts c.loop-key.invariant.memory (c.put.ensures.written c.if-not-put.false)
-        ∙ ap (λ l. memory_of ds (members_view l)) (sym one);
+          c.requires.valid.differ gives.5 parts c.loop-key.invariant.memory (c.put.ensures.written c.if-not-put.false)
+          ∙ ap (λ l. memory_of ds (members_view l)) (sym one);
     }
