@@ -2,3 +2,4 @@ pub mod TableLemmas
 pub mod Names
 pub mod Written
 pub mod Listed
+pub mod ForProgram

@@ -1,7 +1,8 @@
 -- The touches and the runs, one more at a time.
-use Rattle.std.proofs.Common.{◌≡◌, ◌∙◌, refl, sym, ap, ℕ, ◌+◌, ◌<◌, ◌≤◌, List, [], ◌∷◌, ◌++◌, length, drop, get_or, Option, None, Some, Result, Ok, Err, drop_of_length-le, append_assoc, append-nil}
-use Rattle.std.specs.Prelude.{option_map, option_and_then}
-use Rattle.toml.specs.Data.{Data, Items, item, no_items}
+use Rattle.std.proofs.Common.{◌≡◌, ◌∙◌, refl, sym, ap, ℕ, ◌+◌, ◌<◌, ◌≤◌, List, [], ◌∷◌, ◌++◌, length, drop, get_or, Option, None, Some, Result, Ok, Err, codes, drop_of_length-le, append_assoc, append-nil, arith}
+use Rattle.std.specs.Prelude.{Bool, true, false, ◌==◌, nat_lt, option_map, option_and_then}
+use Rattle.std.proofs.lemmas.Bool.Decides.{nat_tests}
+use Rattle.toml.specs.Data.{Data, Items, Members, get_member}
 use Rattle.toml.specs.View.{items_view, view}
 use Rattle.toml.specs.declared.value.Value.{Value}
 use Rattle.toml.proofs.Views.{items_view-drop}
@@ -11,7 +12,11 @@ use Rattle.mit_syntax.specs.Program.{Syntax}
 use Rattle.start_file.specs.declared.fault.StartFault.{StartFault}
 use Rattle.start_file.specs.declared.version.Version.{Version}
 use Rattle.start_file.specs.Touches.{touch_of, touches_of}
-use Rattle.start_file.specs.Starts.{StartValue, run_of, with_first, runs_from}
+use Rattle.start_file.specs.Tables.{count_items, keys_pass}
+use Rattle.start_file.specs.Starts.{StartValue, is_top_key, run_of, with_first, runs_from, counted_runs, runs_of, versioned, starts_in}
+use Rattle.start_file.specs.Versions.{version_of}
+use Rattle.start_file.specs.declared.fault.StartFault.TheVariants.{TooMany, UnknownKey}
+use Rattle.start_file.proofs.TableLemmas.{count_items_view}
 
 -- these touches, and then the rest
 abbrev pub after : List Touch → Option (List Touch) → Option (List Touch)
@@ -79,3 +84,30 @@ module _ (p : Syntax) (v : Version) (all : Result (List StartValue) StartFault) 
   pub runs_over : length vs ≤ i → all ≡ Ok ss
   runs_over le =
       so_far ∙ ap (λ (l : List Value). onto ss (runs_from p v (i + 1) (items_view l))) (drop_of_length-le vs {i = i} le) ∙ ap (λ (l : List StartValue). Ok l) (append-nil ss)
+
+module _ (p : Syntax) (v : Version) (vs : List Value) where
+  -- a number of runs that may be
+  pub counted_some : 0 < length vs → length vs ≤ 4096 → counted_runs p v (items_view vs) ≡ runs_from p v 1 (items_view vs)
+  counted_some lt le =
+      let n = count_items_view vs in
+      let some : (count_items (items_view vs) == 0) ≡ false = grind (arith, nat_tests, n) in
+      let few : nat_lt 4096 (count_items (items_view vs)) ≡ false = grind (arith, nat_tests, n) in
+      rw (some, few)
+
+  -- and one that is too large
+  pub counted_many : 4096 < length vs → counted_runs p v (items_view vs) ≡ Err (TooMany (length vs))
+  counted_many lt =
+      let n = count_items_view vs in
+      let some : (count_items (items_view vs) == 0) ≡ false = grind (arith, nat_tests, n) in
+      let many : nat_lt 4096 (count_items (items_view vs)) ≡ true = grind (arith, nat_tests, n) in
+      rw (some, many) (ap (λ k. Err (TooMany k)) n)
+
+-- a document with a version
+module _ (p : Syntax) (ms : Members) (v : Version) (version : Some v ≡ version_of (get_member (codes "version") ms)) where
+  -- and only known keys
+  pub known_top : keys_pass is_top_key ms ≡ true → starts_in p (Some ms) ≡ runs_of p v (get_member (codes "run") ms)
+  known_top h = ap (λ o. versioned p o ms) (sym version) ∙ rw h
+
+  -- and an unknown key
+  pub unknown_top : keys_pass is_top_key ms ≡ false → starts_in p (Some ms) ≡ Err (UnknownKey 0)
+  unknown_top h = ap (λ o. versioned p o ms) (sym version) ∙ rw h
