@@ -8,5 +8,7 @@ mod slot;
 pub mod start;
 pub mod starts;
 mod table;
+#[cfg(test)]
+mod tests;
 mod touch;
 mod version;
