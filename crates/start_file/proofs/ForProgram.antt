@@ -1,5 +1,5 @@
 -- The starts of a file have a value for each variable, and touches of labels.
-use Rattle.std.proofs.Common.{◌≡◌, ◌∙◌, refl, sym, ap, subst, ℕ, ℤ, ◌+◌, ◌<◌, List, [], ◌∷◌, Bool, true, false, cond, length, Option, None, Some, Result, Ok, Err, codes, arith}
+use Rattle.std.proofs.Common.{◌≡◌, refl, subst, ℕ, ℤ, ◌+◌, ◌<◌, List, [], ◌∷◌, Bool, true, false, cond, length, Option, None, Some, Result, Ok, Err, codes, arith}
 use Rattle.std.specs.Prelude.{All, ◌==◌, nat_lt, option_map, option_and_then, position}
 use Rattle.std.specs.Str.{bytes_eq}
 use Rattle.std.proofs.lemmas.List.Elements.{All-nil, All-cons}
@@ -18,7 +18,7 @@ use Rattle.start_file.specs.declared.version.Version.{Version}
 use Rattle.start_file.specs.Tables.{keys_pass, members_in, count_items}
 use Rattle.start_file.specs.Versions.{version_of}
 use Rattle.start_file.specs.Values.{memory_passes, memory_of}
-use Rattle.start_file.specs.Touches.{is_touch_key, place_of, label_of, label_named, address_of, touch_from, touch_in, touch_of, touches_of, touches_in}
+use Rattle.start_file.specs.Touches.{is_touch_key, place_of, label_of, address_of, touch_from, touch_of, touches_of, touches_in}
 use Rattle.start_file.specs.Starts.{StartValue, IsFor, is_top_key, run_keys_pass, with_touches, run_in, run_of, with_first, runs_from, counted_runs, runs_of, versioned, starts_in}
 use Rattle.start_file.proofs.Written.{length-memory_of}
 

@@ -1,8 +1,8 @@
 -- The touches and the runs, one more at a time.
 use Rattle.std.proofs.Common.{◌≡◌, ◌∙◌, refl, sym, ap, ℕ, ◌+◌, ◌<◌, ◌≤◌, List, [], ◌∷◌, ◌++◌, length, drop, get_or, Option, None, Some, Result, Ok, Err, codes, drop_of_length-le, append_assoc, append-nil, arith}
-use Rattle.std.specs.Prelude.{Bool, true, false, ◌==◌, nat_lt, option_map, option_and_then}
+use Rattle.std.specs.Prelude.{true, false, ◌==◌, nat_lt, option_map, option_and_then}
 use Rattle.std.proofs.lemmas.Bool.Decides.{nat_tests}
-use Rattle.toml.specs.Data.{Data, Items, Members, get_member}
+use Rattle.toml.specs.Data.{Items, Members, get_member}
 use Rattle.toml.specs.View.{items_view, view}
 use Rattle.toml.specs.declared.value.Value.{Value}
 use Rattle.toml.proofs.Views.{items_view-drop}

@@ -1,6 +1,6 @@
 -- Looking names up.
-use Rattle.std.proofs.Common.{◌≡◌, ◌∙◌, refl, sym, ap, subst, ℕ, ◌<◌, ◌≤◌, List, [], Bool, true, false, cond, length, get_or, Option, None, Some, arith}
-use Rattle.std.specs.Prelude.{All, MatchOption, nat_lt, option_map, position, ◌+◌}
+use Rattle.std.proofs.Common.{◌≡◌, ◌∙◌, refl, sym, ap, subst, ℕ, ◌<◌, ◌≤◌, List, [], Bool, true, false, length, get_or, Option, None, Some, arith}
+use Rattle.std.specs.Prelude.{All, MatchOption, nat_lt, option_map, ◌+◌}
 use Rattle.std.specs.List.{position_or_len}
 use Rattle.std.specs.Str.{bytes_eq}
 use Rattle.std.proofs.lemmas.Bool.Decides.{nat_tests}
@@ -10,7 +10,7 @@ use Rattle.label_lattice.specs.declared.label.Label.{Label}
 use Rattle.label_lattice.specs.Names.{IsName}
 use Rattle.label_lattice.specs.Order.{Order, IsOrder, name_of}
 use Rattle.mit_syntax.specs.declared.declarations.Decl.{Decl}
-use Rattle.mit_syntax.specs.Declarations.{Declaration, declared, size_in, size_of, variables}
+use Rattle.mit_syntax.specs.Declarations.{Declaration, declared, size_in, variables}
 use Rattle.mit_syntax.proofs.Facts.{declared_place, declared_has, first_below}
 use Rattle.std.proofs.lemmas.Option.{none-some, same_Some}
 use Rattle.start_file.specs.declared.slot.Slot.{Slot}

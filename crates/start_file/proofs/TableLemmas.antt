@@ -1,10 +1,9 @@
 -- What holds of the tables and arrays of a document, seen as data.
-use Rattle.std.proofs.Common.{◌≡◌, ◌∙◌, ℕ, ◌+◌, ◌<◌, ◌≤◌, List, [], ◌∷◌, Bool, false, ◌&&◌, length, refl, sym, ap, le-leb, Option, Some, String, Vec, Global, string_bytes, arith}
+use Rattle.std.proofs.Common.{◌≡◌, ◌∙◌, ℕ, ◌<◌, ◌≤◌, List, [], ◌∷◌, Bool, false, ◌&&◌, length, refl, sym, ap, le-leb, Option, Some, String, Vec, Global, string_bytes, arith}
 use Rattle.std.specs.Prelude.{nat_le}
 use Rattle.std.proofs.lemmas.Bool.Decides.{nat_tests}
 use Rattle.std.specs.List.{list_all}
 use Rattle.std.specs.Map.{keys_of}
-use Rattle.toml.specs.Data.{Items}
 use Rattle.toml.specs.View.{items_view, members_view, view}
 use Rattle.toml.specs.declared.value.Value.{Value, Array}
 use Rattle.toml.proofs.Views.{view-Array}

@@ -1,5 +1,5 @@
 -- The touches of a run.
-use Rattle.std.specs.Prelude.{ℕ, pos, negsuc, ◌||◌, ◌&&◌, if◌then◌else◌, nat_le, Bool, List, [], ◌∷◌, Option, None, Some, codes, option_map, option_and_then, position}
+use Rattle.std.specs.Prelude.{ℕ, pos, ◌||◌, ◌&&◌, if◌then◌else◌, nat_le, Bool, List, [], ◌∷◌, Option, None, Some, codes, option_map, option_and_then, position}
 use Rattle.std.specs.Str.{bytes_eq}
 use Rattle.toml.specs.Data.{Data, Items, no_items, item, Members, get_member, string, integer, array, table}
 use Rattle.label_lattice.specs.declared.label.Label.{Label}

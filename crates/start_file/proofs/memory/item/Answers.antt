@@ -1,4 +1,4 @@
-use Rattle.std.proofs.Common.{◌≡◌, ◌∙◌, Some, ap, w64, to_z, of_z, to_z-of_z, arith, rules}
+use Rattle.std.proofs.Common.{◌≡◌, ◌∙◌, Some, ap, w64, to_z, of_z, arith, rules}
 use Rattle.toml.specs.View.{view}
 use Rattle.toml.proofs.Views.{get_item_within, get_item_past}
 use Rattle.start_file.specs.Values.{number_of}

@@ -1,5 +1,4 @@
-use Rattle.std.proofs.Common.{◌≡◌, ◌∙◌, sym, ap, pos, replicate}
-use Rattle.toml.specs.Data.{no_members}
+use Rattle.std.proofs.Common.{◌∙◌, sym, ap, pos, replicate}
 use Rattle.toml.proofs.Views.{view-Table}
 use Rattle.start_file.specs.Tables.{data_of, members_in}
 use Rattle.start_file.specs.Values.{memory_of}

@@ -1,4 +1,4 @@
-use Rattle.std.proofs.Common.{◌∙◌, refl}
+use Rattle.std.proofs.Common.{◌∙◌}
 use Rattle.toml.proofs.Views.{view-Table}
 use Rattle.start_file.specs.Values.{is_key, slot_of}
 use Rattle.start_file.proofs.TableLemmas.{keys_pass_view}

@@ -1,4 +1,4 @@
-use Rattle.std.proofs.Common.{◌≡◌, ◌∙◌, sym, ap, ◌+◌, ◌<◌, [], ◌∷◌, drop, map, length, arith}
+use Rattle.std.proofs.Common.{◌∙◌, sym, ap, ◌+◌, [], ◌∷◌, drop, map, arith}
 use Rattle.std.proofs.lemmas.List.{map-append}
 use Rattle.toml.specs.View.{items_view, view}
 use Rattle.start_file.specs.Starts.{run_of, runs_from, seen}

@@ -1,4 +1,4 @@
-use Rattle.std.proofs.Common.{◌∙◌, sym, Some}
+use Rattle.std.proofs.Common.{sym, Some}
 use Rattle.std.proofs.lemmas.Result.{IfOk-weaker, IfErr-weaker}
 use Rattle.toml.specs.View.{table_view}
 use Rattle.start_file.proofs.ForProgram.{starts_for}

@@ -1,4 +1,4 @@
-use Rattle.std.proofs.Common.{◌∙◌, sym, Some}
+use Rattle.std.proofs.Common.{◌∙◌, sym}
 use Rattle.std.proofs.lemmas.Bool.{false≢true}
 use Rattle.label_lattice.specs.Names.{IsName}
 use Rattle.start_file.proofs.Names.{label_found, label_unnamed}
