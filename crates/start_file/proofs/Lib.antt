@@ -3,3 +3,4 @@ pub mod Names
 pub mod Written
 pub mod Listed
 pub mod ForProgram
+pub mod OneAnswer
