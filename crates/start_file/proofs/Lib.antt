@@ -1,0 +1,6 @@
+pub mod TableLemmas
+pub mod Names
+pub mod Written
+pub mod Listed
+pub mod ForProgram
+pub mod OneAnswer
