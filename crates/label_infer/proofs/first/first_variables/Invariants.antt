@@ -1,0 +1,6 @@
+use Rattle.std.proofs.Common.{◌≡◌, ◌++◌, map, drop}
+use Rattle.label_infer.specs.First.{first_of}
+use Rattle.label_infer.proofs.first.first_variables.Given as goal
+
+abbrev pub invariant-loop-written : goal.invariant-loop-written
+invariant-loop-written l = l.found.items ++ map (first_of l.k.order.bottom) (drop l.written-index l.k.written.items) ≡ map (first_of l.k.order.bottom) l.k.written.items

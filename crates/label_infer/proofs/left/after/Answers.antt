@@ -1,0 +1,22 @@
+use Rattle.std.proofs.Common.{refl, ap, ◌∙◌}
+use Rattle.mit_syntax.specs.Expression.{expression_of}
+use Rattle.label_infer.specs.FormOf.{form_of}
+use Rattle.label_infer.specs.Forms.{both, label_form, index_form}
+use Rattle.label_infer.specs.Known.{lat_of, free_of, written_of, own_of, here_of}
+use Rattle.label_infer.proofs.Joined.{both_is}
+use Rattle.label_infer.proofs.left.after.Goals as goal
+
+pub returns : goal.returns
+returns c =
+    let k = c.args.k.now in
+    let lat = lat_of k in
+    let o = c.args.written.now in
+    let e = expression_of c.args.e.now in
+    let pc = form_of c.args.pc.now in
+    let t = form_of c.args.t.now in
+    let le = label_form lat (free_of k) (written_of k) e in
+    let li = index_form lat (free_of k) (written_of k) e in
+    let here = both_is lat pc pc (form_of c.index_label.result) li (form_of c.both-here.result) c.both-here.ensures refl c.index_label.ensures in
+    let reads = both_is lat t t (form_of c.label.result) le (form_of c.both-reads.result) c.both-reads.ensures refl c.label.ensures in
+    both_is lat (form_of c.both-reads.result) (both lat t le) (form_of c.own-er.result) (own_of o (here_of k pc e)) (form_of c.both.result) c.both.ensures reads
+    (c.own-er.ensures ∙ ap (own_of o) here)

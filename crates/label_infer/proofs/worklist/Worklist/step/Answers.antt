@@ -1,0 +1,69 @@
+use Rattle.std.proofs.Common.{◌≡◌, sym, ap, ◌∙◌, subst, length, length-set, slice_set, arith, false}
+use Rattle.std.specs.Vec.{with_item, with_items}
+use Rattle.std.proofs.lemmas.List.{with_items_is}
+use Rattle.label_lattice.specs.Order.{lattice_of}
+use Rattle.timing_types.specs.Labelling.{label_at}
+use Rattle.label_infer.specs.Work.{Takes}
+use Rattle.label_infer.specs.Holds.{IsThere}
+use Rattle.label_infer.proofs.Taking.{work}
+use Rattle.label_infer.proofs.Took.{took_variable, took_level, waits_length, labels_length}
+use Rattle.label_infer.proofs.worklist.Worklist.step.Goals as goal
+
+pub invariant_of-self-in-Level : goal.invariant_of-self-in-Level
+invariant_of-self-in-Level g c =
+    let v = c.self.inside in
+    let len0 : length c.lift.new.labels ≡ v.levels.len = ap length c.lift.ensures ∙ length-set c.deref_mut-in-Level.result.now c.in-Level.k _ ∙ c.deref_mut-in-Level.ensures.len in
+    let items = with_items_is v.levels c.lift.new.labels len0 in
+    let len : length (with_items v.levels c.lift.new.labels).items ≡ length v.levels.items =
+    ap length items ∙ ap length c.lift.ensures ∙ length-set c.deref_mut-in-Level.result.now c.in-Level.k _ ∙ ap length c.deref_mut-in-Level.ensures.value in
+    let q = c.in-Some.ensures.0 in
+    let d = ap length c.deref.ensures.value in
+    record {
+      fit = length-set v.waits.items c.in-Some.i _ ∙ c.self.invariant.fit;
+      cursor = let s = length-set v.waits.items c.in-Some.i false in omega (arith, q, d, s);
+      small = c.self.invariant.small;
+      targets = λ i x e. subst (λ z. IsThere (length v.variables.items) z x.target) (sym len) (c.self.invariant.targets i x e);
+    }
+
+pub returns-in-Variable-clause-taken : goal.returns-in-Variable-clause-taken
+returns-in-Variable-clause-taken g c =
+    let v = c.self.inside in
+    let i = c.in-Some.i in
+    let x = c.in-Variable.x in
+    let have = c.value-have.result.number in
+    let V = c.deref_mut-in-Variable.result.now in
+    let t = (lattice_of v.order).flows have (label_at v.order.bottom V x) in
+    let lw : length c.raise.new.waits ≡ v.waits.len = waits_length t x c.deref-in-Variable.result.now c.deref_mut.result.now c.raise.new.waits c.raise.ensures.waits ∙ c.deref_mut.ensures.len in
+    let lv : length c.raise.new.variables ≡ v.variables.len = labels_length t x _ V c.raise.new.variables c.raise.ensures.variables ∙ c.deref_mut-in-Variable.ensures.len in
+    let W = (with_items (with_item v.waits i false) c.raise.new.waits).items in
+    let U = (with_items v.variables c.raise.new.variables).items in
+    let ew = with_items_is (with_item v.waits i false) c.raise.new.waits lw ∙ c.raise.ensures.waits in
+    let eu = with_items_is v.variables c.raise.new.variables lv ∙ c.raise.ensures.variables in
+    λ _. (
+      i,
+      c.condition_at-condition.result,
+      subst (λ z. Takes z (work v.order v.conditions.items W U v.levels.items) i c.condition_at-condition.result) c.self.view_is
+          (took_variable v.order v.conditions.items v.waits.items v.variables.items v.levels.items i c.condition_at-condition.result have
+          c.deref-2.result.now c.deref.result.now c.deref-3.result.now c.deref-2.ensures.value c.deref.ensures.value c.deref-3.ensures.value
+          c.in-Some.ensures.1 c.condition_at-condition.ensures c.value-have.ensures
+          x c.deref-in-Variable.result.now c.deref_mut.result.now W V U
+          c.in-Variable.is c.deref-in-Variable.ensures.value c.deref_mut.ensures.value c.deref_mut-in-Variable.ensures.value ew eu),
+    )
+
+pub returns-in-Level-clause-taken : goal.returns-in-Level-clause-taken
+returns-in-Level-clause-taken g c =
+    let v = c.self.inside in
+    let i = c.in-Some.i in
+    let L = c.deref_mut-in-Level.result.now in
+    let len0 : length c.lift.new.labels ≡ v.levels.len = ap length c.lift.ensures ∙ length-set L c.in-Level.k _ ∙ c.deref_mut-in-Level.ensures.len in
+    let U = (with_items v.levels c.lift.new.labels).items in
+    let eu = with_items_is v.levels c.lift.new.labels len0 ∙ c.lift.ensures in
+    λ _. (
+      i,
+      c.condition_at-condition.result,
+      subst (λ z. Takes z (work v.order v.conditions.items (slice_set v.waits.items i false) v.variables.items U) i c.condition_at-condition.result) c.self.view_is
+          (took_level v.order v.conditions.items v.waits.items v.variables.items v.levels.items i c.condition_at-condition.result c.value-have.result.number
+          c.deref-2.result.now c.deref.result.now c.deref-3.result.now c.deref-2.ensures.value c.deref.ensures.value c.deref-3.ensures.value
+          c.in-Some.ensures.1 c.condition_at-condition.ensures c.value-have.ensures
+          c.in-Level.k L U c.in-Level.is c.deref_mut-in-Level.ensures.value eu),
+    )

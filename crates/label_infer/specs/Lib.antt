@@ -1,0 +1,9 @@
+pub mod Least
+pub mod Given
+pub mod Rows
+pub mod Forms
+pub mod FormOf
+pub mod Known
+pub mod Work
+pub mod Holds
+pub mod First

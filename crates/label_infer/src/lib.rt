@@ -1,0 +1,17 @@
+//! The labels that a program omits: the least ones.
+#![tactic(auto)]
+
+pub mod complete;
+mod first;
+mod form;
+pub mod infer;
+mod known;
+mod left;
+mod needs;
+mod own;
+mod row;
+pub mod steps;
+#[cfg(test)]
+mod tests;
+mod waiting;
+pub mod worklist;
