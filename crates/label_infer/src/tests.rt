@@ -1,7 +1,6 @@
-ghost use Rattle.std.specs.Prelude.{◌≡◌, ◌<◌, ℕ, [], ◌↔◌, All, IfSome, IfOk, length, None, pos};
+ghost use Rattle.std.specs.Prelude.{◌≡◌, ◌<◌, ℕ, [], ◌↔◌, IfSome, IfOk, length, None, pos};
 ghost use Rattle.label_lattice.specs.Chains.{Chain};
 ghost use Rattle.label_lattice.specs.Lattice.{Flows};
-ghost use Rattle.label_lattice.specs.Names.{IsName};
 ghost use Rattle.label_lattice.specs.Order.{lattice_of};
 ghost use Rattle.mit_syntax.specs.Expression.{Number};
 ghost use Rattle.mit_syntax.specs.Program.{plan_of};
@@ -33,20 +32,19 @@ const fn at(column: u32) -> Pos
 
 // The lattice of one label.
 fn one_label() -> Option<Lattice>
-    ensures { IfSome result (λ o. (o.size ≡ 1) × All IsName o.names × ((a b : ℕ) → a < 1 → b < 1 → Flows (lattice_of o) a b ↔ Chain [] a b)) }
+    ensures { IfSome result (λ o. (o.size ≡ 1) × ((a b : ℕ) → a < 1 → b < 1 → Flows (lattice_of o) a b ↔ Chain [] a b)) }
 {
     let name = Name::read(b"L")?;
-    let _ = name.bytes();
     Lattice::build(&[name], &[]).ok()
 }
 
 // The program `mitigate (1) { skip }`.
 fn mitigated(alloc: Global, lattice: Lattice) -> Result<Program, AllocError>
     requires size { lattice.size ≡ 1 }
-    requires names { All IsName lattice.names }
     requires flows { (a b : ℕ) → a < 1 → b < 1 → Flows (lattice_of lattice) a b ↔ Chain [] a b }
-    ensures plan { IfOk result (λ p. plan_of p ≡ Mitigate (record { pos = record { line = 1; column = 1 }; labels = None }) 0 None (Number (pos 1)) (Skip (record { pos = record { line = 1; column = 16 }; labels = None }) Done) Done) }
+    ensures { IfOk result (λ p. plan_of p ≡ Mitigate (record { pos = record { line = 1; column = 1 }; labels = None }) 0 None (Number (pos 1)) (Skip (record { pos = record { line = 1; column = 16 }; labels = None }) Done) Done) }
 {
+    lattice.laws();
     let skip = Command {
         pos: at(16),
         labels: None,
