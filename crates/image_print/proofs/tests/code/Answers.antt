@@ -1,0 +1,9 @@
+use Rattle.std.proofs.Common.{◌<◌, sym, subst, arith}
+use Rattle.label_code.specs.Shaped.{IsShaped}
+use Rattle.image_print.proofs.Sample.{sample_shaped}
+use Rattle.image_print.proofs.tests.code.Goals as goal
+
+pub of-requires : goal.of-requires
+of-requires c =
+    let low : c.new-low.result.number < c.args.lattice.size = omega (arith, c.requires, c.new-low.ensures) in
+    subst (λ z. IsShaped (record { instrs = z; variables = 0; order = c.args.lattice; operands = 2; nesting = 1 })) (sym c.in_ok-instrs.ensures.items) (sample_shaped c.args.lattice c.new-low.result low)
