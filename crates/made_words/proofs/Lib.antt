@@ -1,0 +1,4 @@
+pub mod Apart
+pub mod Numerals
+pub mod Parts
+pub mod Texts

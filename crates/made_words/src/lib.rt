@@ -1,0 +1,4 @@
+//! What the text of a made program says: its words.
+#![tactic(auto)]
+
+pub mod laws;
