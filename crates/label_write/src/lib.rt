@@ -1,0 +1,9 @@
+//! Programs with all labels of a labelling written, and their canonical text.
+#![tactic(auto)]
+
+mod commands;
+mod declarations;
+mod expressions;
+#[cfg(test)]
+mod tests;
+pub mod write;
