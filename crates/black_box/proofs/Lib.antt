@@ -1,0 +1,9 @@
+pub mod UnderWay
+pub mod Few
+pub mod Encoded
+pub mod LineLemmas
+pub mod FileLemmas
+pub mod Gathered
+pub mod FactsMet
+pub mod OneSchedule
+pub mod EpochCount
