@@ -1,0 +1,6 @@
+pub mod Tallying
+pub mod Running
+pub mod Marking
+pub mod Classing
+pub mod Agreeing
+pub mod Surveying

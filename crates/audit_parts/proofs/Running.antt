@@ -1,0 +1,101 @@
+-- What is known of a run that is observed, turn by turn.
+use Rattle.std.proofs.Common.{◌≡◌, ◌≤◌, ℕ, List, [], ◌++◌, map, refl, sym, ap, ◌∙◌, append_assoc, append-nil, arith, Bool, Some, None, ℤ}
+use Rattle.timing_types.specs.Labelled.{LabelledProgram}
+use Rattle.env_contract.specs.Env.{Env}
+use Rattle.label_code.specs.Machine.{Event}
+use Rattle.cycle_machine.specs.declared.turn.Turn.{Turn}
+use Rattle.cycle_machine.specs.declared.turn.Turn.TheVariants.{Event as AnEvent, Began as HasBegun, Ended as HasEnded, Halted as DidHalt, Limit as DidLimit}
+use Rattle.cycle_machine.specs.Turned.{Loaded}
+use Rattle.event_print.specs.declared.end.RunEnd.{RunEnd}
+use Rattle.event_print.specs.Text.{Told}
+use Rattle.label_code.specs.Machine.{start, run_to}
+use Rattle.label_code.specs.Run.{Start, run_from}
+use Rattle.cycle_machine.specs.Seen.{seen}
+use Rattle.code_lower.specs.Lowered.{lowered}
+use Rattle.event_print.specs.Rest.{told_by, rest_of, rest_from, end_of_turn}
+use Rattle.event_print.proofs.Goes.{events_of, after_events, Next, Last}
+use Rattle.audit_parts.specs.declared.observe.Tally.{Tally}
+use Rattle.audit_parts.specs.Observed.{event_of, Tallies, CountsUp, IsObserved}
+use Rattle.audit_parts.proofs.Tallying.{same_more}
+
+-- these events of the run are in the tally, and the rest is what the machine still does; no count is above the clock
+pub record Observing {E : Type 0} (v : Env E) (limit : ℕ) (p : LabelledProgram) (o : ℕ) (marked : List Bool) (room : ℕ) (old new : Loaded E) (t : Tally) : Type 0 where
+  pub events : List Event
+  pub rest : rest_of v limit old ≡ after_events events (rest_of v limit new)
+  pub tallies : Tallies p o marked room events t
+  pub code : new.code ≡ old.code
+  pub shown : t.shown ≤ new.state.clock
+  pub begun : t.begun ≤ new.state.clock
+  pub ended : t.ended ≤ new.state.clock
+  pub by : new.state.clock ≤ limit
+
+stop_tells : (t : Turn) (end : RunEnd) → end_of_turn t ≡ Some end → events_of t ≡ []
+stop_tells (AnEvent x k c) end e = absurd cc
+stop_tells (HasBegun k c) end e = absurd cc
+stop_tells (HasEnded k c) end e = absurd cc
+stop_tells (DidHalt c) end e = refl
+stop_tells (DidLimit c) end e = refl
+
+module _ {E : Type 0} (v : Env E) (limit : ℕ) (p : LabelledProgram) (o : ℕ) (marked : List Bool) (room : ℕ) where
+  -- nothing is observed at first
+  pub none_observed : (m : Loaded E) (t : Tally) → m.state.clock ≡ 0 → t.shown ≡ 0 → t.begun ≡ 0 → t.ended ≡ 0 → t.events.items ≡ [] → Observing v limit p o marked room m m t
+  none_observed m t clock shown begun ended items = record {
+    events = [];
+    rest = refl;
+    tallies = record { shown = shown; kept = λ fits. ap (map event_of) items; begun = begun; ended = ended };
+    code = refl;
+    shown = omega (arith, shown);
+    begun = omega (arith, begun);
+    ended = omega (arith, ended);
+    by = omega (arith, clock);
+  }
+
+  pub more_observed : (old mid new : Loaded E) (turn : Turn) (t u : Tally) → Observing v limit p o marked room old mid t → Next v limit mid new turn → CountsUp t u →
+      ((events : List Event) → Tallies p o marked room events t → Tallies p o marked room (events ++ events_of turn) u) → Observing v limit p o marked room old new u
+  more_observed old mid new turn t u r n up tells =
+      let later = n.later in
+      let shown = r.shown in
+      let begun = r.begun in
+      let ended = r.ended in
+      let u1 = up.shown in
+      let u2 = up.begun in
+      let u3 = up.ended in
+      record {
+        events = r.events ++ events_of turn;
+        rest = r.rest ∙ (ap (after_events r.events) n.rest ∙ ap (λ z. let k : Told = record { events = z; end = (rest_of v limit new).end } in k) (sym (append_assoc r.events (events_of turn) (rest_of v limit new).events)));
+        tallies = tells r.events r.tallies;
+        code = n.code ∙ r.code;
+        shown = omega arith;
+        begun = omega arith;
+        ended = omega arith;
+        by = n.within;
+      }
+
+  pub all_observed : (old mid new : Loaded E) (turn : Turn) (end : RunEnd) (t u : Tally) → Observing v limit p o marked room old mid t → Last v limit mid new turn end → end_of_turn turn ≡ Some end →
+      ((events : List Event) → Tallies p o marked room events t → Tallies p o marked room (events ++ events_of turn) u) → IsObserved p o marked room limit (rest_of v limit old) (record { tally = u; end = end })
+  all_observed old mid new turn end t u r l e tells =
+      let told : (rest_of v limit old).events ≡ r.events = ap (λ z. z.events) r.rest ∙ (ap (λ z. r.events ++ z.events) l.rest ∙ append-nil r.events) in
+      let same : r.events ++ events_of turn ≡ r.events = ap (λ z. r.events ++ z) (stop_tells turn end e) ∙ append-nil r.events in
+      let now : Tallies p o marked room r.events u = same_more p o marked room (r.events ++ events_of turn) r.events u same (tells r.events r.tallies) in
+      let clock = r.by in
+      let shown : u.shown ≡ t.shown = now.shown ∙ sym r.tallies.shown in
+      let begun : u.begun ≡ t.begun = now.begun ∙ sym r.tallies.begun in
+      let ended : u.ended ≡ t.ended = now.ended ∙ sym r.tallies.ended in
+      let s = r.shown in
+      let b = r.begun in
+      let f = r.ended in
+      record {
+        tallies = same_more p o marked room r.events (rest_of v limit old).events u (sym told) now;
+        end = sym (ap (λ z. z.end) r.rest ∙ ap (λ z. z.end) l.rest);
+        shown = omega arith;
+        begun = omega arith;
+        ended = omega arith;
+      }
+
+-- what a machine at its start still does is the run
+pub rest_start : {E : Type 0} (v : Env E) (limit : ℕ) (p : LabelledProgram) (m : Loaded E) (memory : List ℤ) (env : E) (s : Start E) → m.stopped ≡ None → m.code ≡ lowered p → seen m.state ≡ start memory env → record { memory = memory; env = env } ≡ s →
+    rest_of v limit m ≡ told_by (run_from v (lowered p).instrs limit s)
+rest_start v limit p m memory env s going code at is =
+    ap (rest_from v limit m.code.instrs m.state) going
+    ∙ (ap (λ z. told_by (run_to v z.instrs limit (seen m.state))) code
+    ∙ (ap (λ z. told_by (run_to v (lowered p).instrs limit z)) at ∙ ap (λ z. told_by (run_from v (lowered p).instrs limit z)) is))

@@ -1,0 +1,205 @@
+-- What is known of some runs of a list, one after the other.
+use Rattle.std.proofs.Common.{◌≡◌, ◌<◌, ◌≤◌, ℕ, ◌+◌, ◌-◌, List, [], ◌∷◌, ◌++◌, map, max, Bool, true, false, cond, inl, inr, refl, sym, ap, ◌∙◌, subst, arith, append-nil, append_assoc, Some, None}
+use Rattle.std.specs.Prelude.{◌⊎◌}
+use Rattle.std.proofs.lemmas.List.{map-append}
+use Rattle.std.proofs.lemmas.Bool.{cases_lt}
+use Rattle.std.proofs.lemmas.Bool.Decides.{nat_tests}
+use Rattle.timing_types.specs.Labelled.{LabelledProgram, order_of, labels_of, bare_of}
+use Rattle.env_contract.specs.Env.{Env}
+use Rattle.label_code.specs.Machine.{Machine}
+use Rattle.label_code.specs.Run.{Start}
+use Rattle.code_lower.specs.Lowered.{lowered}
+use Rattle.event_print.specs.declared.end.RunEnd.{RunEnd}
+use Rattle.event_print.specs.declared.end.RunEnd.TheVariants.{Halted, Limit}
+use Rattle.leak_bound.specs.Relevant.{relevances, ended_count}
+use Rattle.leak_bound.specs.Records.{Each, views}
+use Rattle.leak_bound.specs.Sound.{Halts, most_ended}
+use Rattle.leak_bound.proofs.Tells.{begun_count}
+use Rattle.audit_parts.specs.declared.observe.Observed.{Observed}
+use Rattle.audit_parts.specs.declared.survey.Survey.{Survey}
+use Rattle.audit_parts.specs.declared.survey.SurveyFault.{SurveyFault}
+use Rattle.audit_parts.specs.declared.survey.SurveyFault.TheVariants.{Unfinished, TooMuch, Memory}
+use Rattle.audit_parts.specs.Observed.{sequence_of, is_marked, ObservesRun}
+use Rattle.audit_parts.specs.Surveyed.{relevant_for, run_of, sequence_from, shown_by, shown_by_all, halted_count, begun_first, FirstRefused, IsSurveyFault, IsSurvey, unfinished, halts, of_first, Takes, Refuses}
+
+-- how a run ended
+abbrev end_of : Bool → ℕ → RunEnd
+end_of h c = cond h (Halted c) (Limit c)
+
+halts-end : (h : Bool) (c : ℕ) → halts (end_of h c) ≡ cond h 1 0
+halts-end true c = refl
+halts-end false c = refl
+
+goes_halted : (must h : Bool) (c : ℕ) → unfinished must (end_of h c) ≡ None → must ≡ true → h ≡ true
+goes_halted must true c e m = refl
+goes_halted true false c e m = absurd cc
+goes_halted false false c e m = absurd cc
+
+stays_must : (must h : Bool) (c k : ℕ) → unfinished must (end_of h c) ≡ Some k → (must ≡ true) × (h ≡ false) × (k ≡ c)
+stays_must must true c k e = absurd cc
+stays_must true false c k e = (refl, refl, cc)
+stays_must false false c k e = absurd cc
+
+of_first-one : (n a b : ℕ) → n ≡ 1 → of_first n a b ≡ a
+of_first-one n a b e = ap (λ z. of_first z a b) e
+
+of_first-more : (n a b : ℕ) → 1 < n → of_first n a b ≡ b
+of_first-more n a b lt = grind (arith, nat_tests)
+
+cases_le : (n m : ℕ) → (n ≤ m) ⊎ (m < n)
+cases_le n m = elim (cases_lt m n) [ inl lt ↦ inr lt | inr le ↦ inl le ]
+
+module _ {E : Type 0} (v : Env E) (p : LabelledProgram) (o t : ℕ) (must : Bool) (ss : List (Start E)) where
+  -- the runs from n on are left
+  pub record Surveying (rest : List (Start E)) (n : ℕ) (r : Survey) : Type 0 where
+    pub sequences : map sequence_of r.sequences.items ++ views (sequence_from v p o t) rest ≡ views (sequence_from v p o t) ss
+    pub halts : (must ≡ true → Each (Halts v (lowered p).instrs t) rest) → must ≡ true → Each (Halts v (lowered p).instrs t) ss
+    pub shown : r.shown + shown_by_all v p o t rest ≡ shown_by_all v p o t ss
+    pub small : r.shown ≤ 16777216
+    pub halted : r.halted + halted_count v p t rest ≡ halted_count v p t ss
+    pub few : r.halted + 1 ≤ n
+    pub whole : n ≡ 1 → rest ≡ ss
+    pub none : n ≡ 1 → r.begun ≡ 0
+    pub begun : 1 < n → r.begun ≡ begun_first v p o t ss
+    pub ended : max r.ended (most_ended v (lowered p).instrs (relevant_for p o) t rest) ≡ most_ended v (lowered p).instrs (relevant_for p o) t ss
+    pub begun_by : r.begun ≤ t
+    pub ended_by : r.ended ≤ t
+    pub refused : (f : SurveyFault) → FirstRefused v p o t must n r.shown rest f → FirstRefused v p o t must 1 0 ss f
+
+  pub none_surveyed : (n : ℕ) (r : Survey) → n ≡ 1 → r.sequences.items ≡ [] → r.shown ≡ 0 → r.begun ≡ 0 → r.ended ≡ 0 → r.halted ≡ 0 → Surveying ss n r
+  none_surveyed n r is sequences shown begun ended halted = record {
+    sequences = ap (λ z. map sequence_of z ++ views (sequence_from v p o t) ss) sequences;
+    halts = λ h m. h m;
+    shown = omega (arith, shown);
+    small = omega (arith, shown);
+    halted = omega (arith, halted);
+    few = omega (arith, halted, is);
+    whole = λ e. refl;
+    none = λ e. begun;
+    begun = λ lt. absurd (omega arith);
+    ended = omega (arith, ended);
+    begun_by = omega (arith, begun);
+    ended_by = omega (arith, ended);
+    refused = λ f h. subst (λ z. FirstRefused v p o t must z 0 ss f) is (subst (λ z. FirstRefused v p o t must n z ss f) shown h);
+  }
+
+  module _ (s : Start E) (rest more : List (Start E)) (n : ℕ) (r : Survey) (from : rest ≡ s ∷ more) (h : Surveying rest n r) (w : Observed) (marked : List Bool)
+      (told : marked ≡ relevances (order_of p) (labels_of p) o (order_of p).bottom (bare_of p)) (seen : ObservesRun v p o marked (16777216 - r.shown) t s w) where
+    abbrev run : Machine E
+    run = run_of v p t s
+
+    begun_is : w.tally.begun ≡ begun_count (relevant_for p o) run.core.log
+    begun_is = seen.tallies.begun ∙ ap (λ z. begun_count (is_marked z) run.core.log) told
+
+    ended_is : w.tally.ended ≡ ended_count (relevant_for p o) run.core.log
+    ended_is = seen.tallies.ended ∙ ap (λ z. ended_count (is_marked z) run.core.log) told
+
+    refused_now : (f : SurveyFault) → FirstRefused v p o t must n r.shown (s ∷ more) f → FirstRefused v p o t must 1 0 ss f
+    refused_now f k = h.refused f (subst (λ z. FirstRefused v p o t must n r.shown z f) (sym from) k)
+
+    -- a run that is refused
+    pub refuses : (f : SurveyFault) → Refuses r n must w f → IsSurveyFault v p o t must ss f
+    refuses (Unfinished k c) x =
+        let y = stays_must must run.halted run.core.clock c (ap (unfinished must) (sym seen.end) ∙ x.1) in
+        refused_now (Unfinished k c) (inl (y.0, y.1, ap (λ z. Unfinished z c) x.0 ∙ ap (λ z. Unfinished n z) y.2))
+    refuses (TooMuch m) x =
+        let shown : w.tally.shown ≡ shown_by v p o t s = seen.tallies.shown in
+        let all : m ≡ r.shown + shown_by v p o t s = omega (arith, x.1, shown) in
+        refused_now (TooMuch m) (inr (inl (goes_halted must run.halted run.core.clock (ap (unfinished must) (sym seen.end) ∙ x.0), omega (arith, x.2, all), ap (λ z. TooMuch z) all)))
+    refuses Memory x = tt
+
+    -- a run that is taken in
+    pub one_surveyed : (m : ℕ) (q : Survey) → m ≡ n + 1 → Takes r n must w q → Surveying more m q
+    one_surveyed m q next x =
+        let shown : w.tally.shown ≡ shown_by v p o t s = seen.tallies.shown in
+        let add = x.shown in
+        let fits = x.few in
+        let room : w.tally.shown ≤ 16777216 - r.shown = omega arith in
+        let all : q.shown ≡ r.shown + shown_by v p o t s = omega arith in
+        let halt = goes_halted must run.halted run.core.clock (ap (unfinished must) (sym seen.end) ∙ x.goes) in
+        let halted : q.halted ≡ r.halted + cond run.halted 1 0 = x.halted ∙ ap (λ z. r.halted + z) (ap halts seen.end ∙ halts-end run.halted run.core.clock) in
+        let shown_rest : shown_by_all v p o t rest ≡ shown_by v p o t s + shown_by_all v p o t more = ap (shown_by_all v p o t) from in
+        let halted_rest : halted_count v p t rest ≡ cond run.halted 1 0 + halted_count v p t more = ap (halted_count v p t) from in
+        let ended_rest : most_ended v (lowered p).instrs (relevant_for p o) t rest ≡ max (ended_count (relevant_for p o) run.core.log) (most_ended v (lowered p).instrs (relevant_for p o) t more) =
+        ap (most_ended v (lowered p).instrs (relevant_for p o) t) from in
+        let hs = h.shown in
+        let hh = h.halted in
+        let he = h.ended in
+        let hf = h.few in
+        let xe = x.ended in
+        let by = seen.ended in
+        let hby = h.ended_by in
+        let one : cond run.halted 1 0 ≤ 1 = at_most run.halted in
+        record {
+          sequences =
+              ap (λ z. z ++ views (sequence_from v p o t) more) x.sequences
+              ∙ (append_assoc (map sequence_of r.sequences.items) (sequence_of w.tally.events ∷ []) (views (sequence_from v p o t) more)
+              ∙ (ap (λ z. map sequence_of r.sequences.items ++ z ∷ views (sequence_from v p o t) more) (seen.tallies.kept room)
+              ∙ (ap (λ z. map sequence_of r.sequences.items ++ views (sequence_from v p o t) z) (sym from) ∙ h.sequences)));
+          halts = λ k m. h.halts (λ m'. subst (Each (Halts v (lowered p).instrs t)) (sym from) (halt m', k m')) m;
+          shown = omega arith;
+          small = x.few;
+          halted = omega arith;
+          few = omega arith;
+          whole = λ e. absurd (omega arith);
+          none = λ e. absurd (omega arith);
+          begun = λ lt. begun_now (first_or n);
+          ended = omega (arith, ended_is);
+          begun_by = bounded;
+          ended_by = omega arith;
+          refused = λ f k.
+              refused_now f (inr (inr (halt, omega arith, subst (λ z. FirstRefused v p o t must (n + 1) z more f) all (subst (λ z. FirstRefused v p o t must z q.shown more f) next k))));
+        }
+      where
+        at_most : (b : Bool) → cond b 1 0 ≤ 1
+        at_most true = omega arith
+        at_most false = omega arith
+
+        first_or : (k : ℕ) → (k ≤ 1) ⊎ (1 < k)
+        first_or k = cases_le k 1
+
+        begun_now : (n ≤ 1) ⊎ (1 < n) → q.begun ≡ begun_first v p o t ss
+        begun_now (inl le) =
+            let hf = h.few in
+            let is : n ≡ 1 = omega arith in
+            x.begun ∙ (of_first-one n w.tally.begun r.begun is ∙ (begun_is ∙ (ap (begun_first v p o t) (sym from ∙ h.whole is))))
+        begun_now (inr lt) = x.begun ∙ (of_first-more n w.tally.begun r.begun lt ∙ h.begun lt)
+
+        bounded : q.begun ≤ t
+        bounded = by (cases_le n 1)
+          where
+            by : (n ≤ 1) ⊎ (1 < n) → q.begun ≤ t
+            by (inl le) =
+                let hf = h.few in
+                let is : n ≡ 1 = omega arith in
+                let b = seen.begun in
+                omega (arith, x.begun, of_first-one n w.tally.begun r.begun is, b)
+            by (inr lt) = let b = h.begun_by in omega (arith, x.begun, of_first-more n w.tally.begun r.begun lt, b)
+
+  -- all runs are taken in
+  pub all_surveyed : (rest : List (Start E)) (n : ℕ) (r : Survey) → rest ≡ [] → Surveying rest n r → IsSurvey v p o t must ss r
+  all_surveyed rest n r none h =
+      let shown_rest : shown_by_all v p o t rest ≡ 0 = ap (shown_by_all v p o t) none in
+      let halted_rest : halted_count v p t rest ≡ 0 = ap (halted_count v p t) none in
+      let ended_rest : most_ended v (lowered p).instrs (relevant_for p o) t rest ≡ 0 = ap (most_ended v (lowered p).instrs (relevant_for p o) t) none in
+      let hs = h.shown in
+      let small = h.small in
+      let hh = h.halted in
+      let he = h.ended in
+      record {
+        sequences = sym (append-nil (map sequence_of r.sequences.items)) ∙ (ap (λ z. map sequence_of r.sequences.items ++ views (sequence_from v p o t) z) (sym none) ∙ h.sequences);
+        halts = λ m. h.halts (λ m'. subst (Each (Halts v (lowered p).instrs t)) (sym none) tt) m;
+        few = omega arith;
+        halted = omega arith;
+        begun = by (cases_le n 1);
+        ended = omega arith;
+        begun_by = h.begun_by;
+        ended_by = h.ended_by;
+      }
+    where
+      by : (n ≤ 1) ⊎ (1 < n) → r.begun ≡ begun_first v p o t ss
+      by (inl le) =
+          let hf = h.few in
+          let is : n ≡ 1 = omega arith in
+          h.none is ∙ ap (begun_first v p o t) (sym none ∙ h.whole is)
+      by (inr lt) = h.begun lt

@@ -1,0 +1,10 @@
+use Rattle.std.proofs.Common.{◌+◌, map, drop}
+use Rattle.start_file.specs.Starts.{seen}
+use Rattle.audit_parts.specs.Agreement.{starts_of}
+use Rattle.audit_parts.proofs.Surveying.{Surveying}
+use Rattle.audit_parts.proofs.survey.survey_runs.Given as goal
+
+abbrev pub invariant-loop-i : goal.invariant-loop-i
+invariant-loop-i g l =
+    let ss = starts_of g.M.MakeEnv.made l.p.program.order (map seen l.starts) in
+    Surveying (record { cost_of = g.E.MachineEnv.cost_of; next_of = g.E.MachineEnv.next_of; part = g.E.MachineEnv.part }) l.p l.request.observer.number l.request.limit l.request.must_halt ss (drop l.i ss) (l.i + 1) l.survey

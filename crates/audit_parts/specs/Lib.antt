@@ -1,0 +1,5 @@
+pub mod Agreement
+pub mod Sequences
+pub mod Observed
+pub mod Surveyed
+pub mod Measured

@@ -1,0 +1,27 @@
+-- Which sequences of events are the same, and the classes of a list of sequences.
+use Rattle.std.specs.Prelude.{ℕ, ◌+◌, List, map, Bool, false, ◌&&◌, nat_eq}
+use Rattle.std.specs.Cmp.Lexicographic.{pointwise}
+use Rattle.std.specs.List.{position_or_len}
+use Rattle.std.specs.Ordering.{int_eq}
+use Rattle.label_code.specs.Machine.{Event, Wrote, Began, Ended}
+use Rattle.leak_bound.specs.Records.{distinct}
+
+-- the same variable, value and cycle, or the same mark and cycle
+abbrev pub same_event : Event → Event → Bool
+same_event (Wrote x n c) (Wrote y m d) = nat_eq x y && (int_eq n m && nat_eq c d)
+same_event (Wrote x n c) (Began k d) = false
+same_event (Wrote x n c) (Ended k d) = false
+same_event (Began j c) (Wrote y m d) = false
+same_event (Began j c) (Began k d) = nat_eq j k && nat_eq c d
+same_event (Began j c) (Ended k d) = false
+same_event (Ended j c) (Wrote y m d) = false
+same_event (Ended j c) (Began k d) = false
+same_event (Ended j c) (Ended k d) = nat_eq j k && nat_eq c d
+
+-- as long, and the same at each place
+abbrev pub same_sequence : List Event → List Event → Bool
+same_sequence = pointwise same_event
+
+-- the class of each: its place, from 1, among the different ones in order of first appearance
+abbrev pub classes_of : {V : Type 0} → (V → V → Bool) → List V → List ℕ
+classes_of same xs = map (λ x. position_or_len (same x) (distinct same xs) + 1) xs

@@ -1,0 +1,103 @@
+-- What is known of the runs of a program's image from a list of starts.
+use Rattle.std.specs.Prelude.{◌≡◌, ◌<◌, ◌≤◌, ◌+◌, ◌⊎◌, ◌++◌, ℕ, List, [], ◌∷◌, map, max, length, Bool, true, false, cond, nat_eq, Option, None, Some}
+use Rattle.timing_types.specs.Labelled.{LabelledProgram, order_of, labels_of, bare_of}
+use Rattle.env_contract.specs.Env.{Env}
+use Rattle.label_code.specs.Machine.{Machine, Event}
+use Rattle.label_code.specs.Run.{Start, run_from}
+use Rattle.code_lower.specs.Lowered.{lowered}
+use Rattle.event_print.specs.declared.end.RunEnd.{RunEnd}
+use Rattle.event_print.specs.declared.end.RunEnd.TheVariants.{Halted, Limit}
+use Rattle.leak_bound.specs.Relevant.{is_relevant}
+use Rattle.leak_bound.specs.Records.{Each, views}
+use Rattle.leak_bound.specs.Sound.{seen_from, Halts, most_ended}
+use Rattle.leak_bound.proofs.Tells.{begun_count}
+use Rattle.audit_parts.specs.declared.observe.Observed.{Observed}
+use Rattle.audit_parts.specs.declared.survey.Survey.{Survey}
+use Rattle.audit_parts.specs.declared.survey.SurveyFault.{SurveyFault}
+use Rattle.audit_parts.specs.declared.survey.SurveyFault.TheVariants.{Unfinished, TooMuch, Memory}
+use Rattle.audit_parts.specs.Observed.{sequence_of}
+
+-- whether the mitigate with a mark is relevant for an observer of a program
+abbrev pub relevant_for : LabelledProgram → ℕ → ℕ → Bool
+relevant_for p o = is_relevant (order_of p) (labels_of p) o (bare_of p)
+
+module _ {E : Type 0} (v : Env E) (p : LabelledProgram) where
+  -- the run to T from a start
+  abbrev pub run_of : ℕ → Start E → Machine E
+  run_of t s = run_from v (lowered p).instrs t s
+
+  -- what an observer sees of it
+  abbrev pub sequence_from : ℕ → ℕ → Start E → List Event
+  sequence_from o t s = seen_from v (order_of p) (labels_of p) (lowered p).instrs o t s
+
+  -- how many assignments it shows, and how many all runs of a list do
+  abbrev pub shown_by : ℕ → ℕ → Start E → ℕ
+  shown_by o t s = length (sequence_from o t s)
+
+  abbrev pub shown_by_all : ℕ → ℕ → List (Start E) → ℕ
+  shown_by_all o t [] = 0
+  shown_by_all o t (s ∷ ss) = shown_by o t s + shown_by_all o t ss
+
+  -- how many runs have halted by T
+  abbrev pub halted_count : ℕ → List (Start E) → ℕ
+  halted_count t [] = 0
+  halted_count t (s ∷ ss) = cond (run_of t s).halted 1 0 + halted_count t ss
+
+  -- how many relevant mitigations began in the first run
+  abbrev pub begun_first : ℕ → ℕ → List (Start E) → ℕ
+  begun_first o t [] = 0
+  begun_first o t (s ∷ ss) = begun_count (relevant_for p o) (run_of t s).core.log
+
+  -- Of runs, counted from n and with so many assignments shown before, the first that is refused, and why: it
+  -- must halt by T and has not, or else more than 16,777,216 assignments are shown up to and with it.
+  abbrev pub FirstRefused : ℕ → ℕ → Bool → ℕ → ℕ → List (Start E) → SurveyFault → Type 0
+  FirstRefused o t must n shown [] f = ⊥
+  FirstRefused o t must n shown (s ∷ ss) f =
+      let all = shown + shown_by o t s in
+      ((must ≡ true) × ((run_of t s).halted ≡ false) × (f ≡ Unfinished n (run_of t s).core.clock))
+      ⊎ (((must ≡ true → (run_of t s).halted ≡ true) × (16777216 < all) × (f ≡ TooMuch all))
+      ⊎ ((must ≡ true → (run_of t s).halted ≡ true) × (all ≤ 16777216) × FirstRefused o t must (n + 1) all ss f))
+
+  abbrev pub IsSurveyFault : ℕ → ℕ → Bool → List (Start E) → SurveyFault → Type 0
+  IsSurveyFault o t must ss (Unfinished run cycle) = FirstRefused o t must 1 0 ss (Unfinished run cycle)
+  IsSurveyFault o t must ss (TooMuch count) = FirstRefused o t must 1 0 ss (TooMuch count)
+  IsSurveyFault o t must ss Memory = Unit {0}
+
+  -- none is refused
+  pub record IsSurvey (o t : ℕ) (must : Bool) (ss : List (Start E)) (r : Survey) : Type 0 where
+    pub sequences : map sequence_of r.sequences.items ≡ views (sequence_from o t) ss
+    pub halts : must ≡ true → Each (Halts v (lowered p).instrs t) ss
+    pub few : shown_by_all o t ss ≤ 16777216
+    pub halted : r.halted ≡ halted_count t ss
+    pub begun : r.begun ≡ begun_first o t ss
+    pub ended : r.ended ≡ most_ended v (lowered p).instrs (relevant_for p o) t ss
+    pub begun_by : r.begun ≤ t
+    pub ended_by : r.ended ≤ t
+
+-- the clock of a run that must halt and has not
+abbrev pub unfinished : Bool → RunEnd → Option ℕ
+unfinished must (Halted c) = None
+unfinished must (Limit c) = cond must (Some c) None
+
+abbrev pub halts : RunEnd → ℕ
+halts (Halted c) = 1
+halts (Limit c) = 0
+
+abbrev pub of_first : ℕ → ℕ → ℕ → ℕ
+of_first run count before = cond (nat_eq run 1) count before
+
+-- what one run more makes of what is known of the runs before it
+pub record Takes (old : Survey) (run : ℕ) (must : Bool) (w : Observed) (new : Survey) : Type 0 where
+  pub goes : unfinished must w.end ≡ None
+  pub sequences : map sequence_of new.sequences.items ≡ map sequence_of old.sequences.items ++ sequence_of w.tally.events ∷ []
+  pub shown : new.shown ≡ old.shown + w.tally.shown
+  pub few : new.shown ≤ 16777216
+  pub begun : new.begun ≡ of_first run w.tally.begun old.begun
+  pub ended : new.ended ≡ max old.ended w.tally.ended
+  pub halted : new.halted ≡ old.halted + halts w.end
+
+-- why it is refused
+abbrev pub Refuses : Survey → ℕ → Bool → Observed → SurveyFault → Type 0
+Refuses old run must w (Unfinished k c) = (k ≡ run) × (unfinished must w.end ≡ Some c)
+Refuses old run must w (TooMuch n) = (unfinished must w.end ≡ None) × (n ≡ old.shown + w.tally.shown) × (16777216 < n)
+Refuses old run must w Memory = Unit {0}

@@ -1,0 +1,13 @@
+//! What audits of a list of starts share: whether the starts agree, what an observer sees of each run, and
+//! which of the sequences seen are the same.
+#![tactic(auto)]
+
+pub mod agreement;
+pub mod classes;
+mod difference;
+pub mod measure;
+pub mod observe;
+pub mod relevance;
+pub mod sighting;
+pub mod survey;
+pub mod what;
