@@ -1,0 +1,89 @@
+//! The audit.
+
+ghost use Rattle.std.specs.Prelude.{◌≡◌, ◌<◌, ◌≤◌, ◌^◌, All, IfOk, IfErr, length, map};
+ghost use Rattle.code_lower.specs.Lowered.{lowered};
+ghost use Rattle.start_file.specs.Starts.{seen, IsFor};
+ghost use Rattle.audit_parts.specs.Agreement.{starts_of};
+ghost use Rattle.cut_audit.specs.Report.{IsReport, IsCutFault};
+
+use crate::report::{CutFault, CutReport};
+use audit_parts::agreement::all_agree;
+use audit_parts::measure::measure;
+use audit_parts::relevance::relevant_marks;
+use audit_parts::survey::{Request, survey_runs};
+use env_contract::env::MachineEnv;
+use env_contract::make::MakeEnv;
+use label_code::image::Image;
+use label_lattice::label::Label;
+use leak_bound::laws::few_sequences;
+use start_file::start::Start;
+use std::alloc::Global;
+use timing_types::typed::Typed;
+
+/// Runs a program's image from each start of a list, 1 to 4,096 of them, up to a limit of 1 to 2^40 cycles,
+/// and counts the different sequences of assignments, with their cycles, that an observer sees by then, of
+/// runs that have halted and of those that have not. That is at most the report's base to the power of its
+/// exponent, in every environment that keeps the laws of `MachineEnv`. The image is that of the program, the
+/// starts are for it, and the observer is one of its labels. Keeps 24 bytes for each assignment that is seen.
+///
+/// # Errors
+/// First all starts are compared: `Disagree` exactly where some start does not agree with the first one. Then
+/// `TooMuch` comes exactly where more than 16,777,216 assignments are seen up to and with some run, for the
+/// first such run. `Memory` is want of memory.
+pub fn cut<E: MachineEnv + Drop, M: MakeEnv<E>>(
+    alloc: Global,
+    p: &Typed,
+    image: &Image,
+    starts: &[Start],
+    observer: Label,
+    limit: u64,
+    make: &M,
+) -> Result<CutReport, CutFault>
+    requires image { image.now ≡ lowered p.now.labelled }
+    requires some { 0 < length starts.now }
+    requires few { length starts.now ≤ 4096 }
+    requires starts { All (IsFor p.now.labelled.program) (map seen starts.now) }
+    requires observer { observer.number < p.now.labelled.program.order.size }
+    requires cycles { 0 < limit }
+    requires limit { limit ≤ 2 ^ 40 }
+    ensures report { IfOk result (IsReport (record { cost_of = E.cost_of; next_of = E.next_of; part = E.part }) E.serves p.now.labelled observer.number limit (starts_of M.made p.now.labelled.program.order (map seen starts.now))) }
+    ensures bound { IfOk result (λ r. r.distinct ≤ r.base ^ r.exponent) }
+    ensures fault { IfErr result (IsCutFault (record { cost_of = E.cost_of; next_of = E.next_of; part = E.part }) E.serves p.now.labelled observer.number limit (starts_of M.made p.now.labelled.program.order (map seen starts.now))) }
+{
+    few_sequences::<E>();
+    let labelled = p.labelled();
+    let program = labelled.program();
+    let order = program.lattice();
+    order.laws();
+    let _ = program.body();
+    all_agree(alloc, labelled, starts, observer, make)?;
+    let relevant = relevant_marks(alloc, p, observer)?;
+    let request = Request {
+        limit,
+        must_halt: false,
+        observer,
+        relevant: relevant.as_slice(),
+    };
+    let survey = match survey_runs(alloc, labelled, image, starts, &request, make) {
+        Ok(survey) => survey,
+        Err(fault) => return Err(CutFault::of(fault)),
+    };
+    let measures = measure(
+        alloc,
+        &order,
+        observer,
+        limit,
+        survey.ended,
+        survey.sequences,
+    )?;
+    Ok(CutReport {
+        runs: starts.len() as u32,
+        levels: measures.levels,
+        ended: survey.ended,
+        halted: survey.halted,
+        distinct: measures.distinct,
+        base: measures.base,
+        exponent: measures.exponent,
+        classes: measures.classes,
+    })
+}
