@@ -1,17 +1,16 @@
 -- Why the report is true, and its count within the bound.
-use Rattle.std.proofs.Common.{◌≡◌, ◌<◌, ◌≤◌, ℕ, ◌+◌, ◌*◌, ◌^◌, List, [], ◌∷◌, length, map, true, refl, sym, ap, ◌∙◌, subst, arith}
+use Rattle.std.proofs.Common.{◌≡◌, ◌<◌, ◌≤◌, ℕ, ◌+◌, ◌*◌, ◌^◌, List, [], ◌∷◌, length, map, true, refl, sym, ap, ◌∙◌, subst}
 use Rattle.std.specs.List.{count_by}
-use Rattle.label_lattice.specs.Order.{Order, lattice_of, count_not_below}
+use Rattle.label_lattice.specs.Order.{Order, count_not_below}
 use Rattle.timing_types.specs.Labelled.{LabelledProgram, order_of, labels_of, bare_of}
 use Rattle.source_meaning.specs.Source.{started_in}
 use Rattle.env_contract.specs.Env.{Env}
-use Rattle.label_code.specs.Machine.{Event}
-use Rattle.label_code.specs.Run.{Start, run_from}
+use Rattle.label_code.specs.Run.{Start}
 use Rattle.code_lower.specs.Lowered.{lowered}
 use Rattle.leak_bound.specs.Digits.{digits}
-use Rattle.leak_bound.specs.Relevant.{is_relevant, Begins}
+use Rattle.leak_bound.specs.Relevant.{Begins}
 use Rattle.leak_bound.specs.Records.{Each, Pairwise, views, distinct_count}
-use Rattle.leak_bound.specs.Sound.{Halts, FirstBegins, Sound, IsCompiled, bound}
+use Rattle.leak_bound.specs.Sound.{Halts, FirstBegins, Sound, bound}
 use Rattle.leak_bound.proofs.Final.{begun-told, begins_one}
 use Rattle.audit_parts.specs.declared.measure.Measures.{Measures}
 use Rattle.audit_parts.specs.declared.survey.Survey.{Survey}
