@@ -1,0 +1,16 @@
+pub mod Words
+pub mod Operators
+pub mod Tree
+pub mod Counting
+pub mod Limits
+pub mod Scope
+pub mod Meaning
+pub mod Faults
+pub mod Spells
+pub mod State
+pub mod Inside
+pub mod Machine
+pub mod Reads
+pub mod Headers
+pub mod Sums
+pub mod Assembly

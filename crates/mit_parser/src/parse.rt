@@ -1,0 +1,60 @@
+//! The program that tokens spell.
+
+ghost use Rattle.std.specs.Prelude.{◌<◌, ◌^◌, MatchResult, length};
+ghost use Rattle.mit_syntax.specs.Cut.{AreTokens};
+ghost use Rattle.mit_parser.specs.Words.{told};
+ghost use Rattle.mit_parser.specs.Spells.{IsProgram, Refuses};
+ghost use Rattle.mit_parser.specs.Assembly.{AreParts, IsAssembled};
+
+use crate::fault::ParseFault;
+use crate::header::Header;
+use crate::names::Names;
+use crate::parser::Parser;
+use label_lattice::label::Label;
+use mit_syntax::ast::Command;
+use mit_syntax::program::Program;
+use mit_syntax::token::Token;
+use std::alloc::Global;
+
+// The program of these parts.
+fn assembled(pairs: Vec<(Label, Label)>, names: Names, body: Vec<Command>) -> Program
+    requires { AreParts names.lattice pairs.items names.variables body.items }
+    ensures { IsAssembled names.lattice pairs.items names.variables body.items result }
+{
+    let Some(lattice) = names.lattice else {
+        unreachable!()
+    };
+    lattice.laws();
+    let _ = names.variables.len();
+    let table = names.variables.into_table();
+    let _ = table.len();
+    Program::of(lattice, pairs, table, body)
+}
+
+/// The program that the tokens of a text of at most 2^31 - 1 bytes spell.
+///
+/// # Errors
+/// `Unexpected` at the first token with which the tokens begin no program, or `TooDeep` at the first one that
+/// opens the 101st bracket or is the 257th operator of one expression, whichever is earlier. Else the first
+/// fault of names: in the header `Twice` among the labels, then `Unknown` in the pairs, then `Lattice`; in the
+/// declarations, one after the other, `Twice`, then `Size`, then `Unknown`; then `TooMany`; then `Unknown` or
+/// `Misuse` in the commands. `Memory` may come for any tokens.
+pub fn parse(alloc: Global, tokens: &[Token], text: &[u8]) -> Result<Program, ParseFault>
+    requires size { length text.now < 2 ^ 31 }
+    requires tokens { AreTokens text.now tokens.now }
+    ensures { MatchResult result (IsProgram (told text.now tokens.now)) (Refuses (told text.now tokens.now)) }
+{
+    let mut parser = Parser::new(text, tokens);
+    let Header { lattice, pairs } = parser.header(alloc)?;
+    let variables = parser.variables(alloc, &lattice)?;
+    let names = Names { lattice, variables };
+    let body = parser.commands(alloc, &names)?;
+    parser.laws();
+    if !parser.is_at_end() {
+        return Err(parser.unexpected());
+    }
+    match parser.fault() {
+        Some(fault) => Err(fault),
+        None => Ok(assembled(pairs, names, body)),
+    }
+}
