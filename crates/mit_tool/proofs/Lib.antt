@@ -1,2 +1,11 @@
 pub mod NumberLemmas
 pub mod ReadLemmas
+pub mod LineLemmas
+pub mod TypeLemmas
+pub mod StartLemmas
+pub mod SoundLemmas
+pub mod EndLemmas
+pub mod StopLemmas
+pub mod RunLemmas
+pub mod WalkLemmas
+pub mod AskedLemmas

@@ -1,3 +1,10 @@
 pub mod WordsAsked
 pub mod WordsForms
 pub mod WordsViews
+pub mod Texts
+pub mod Stages
+pub mod Envs
+pub mod Answers
+pub mod Ends
+pub mod Means
+pub mod Accepted

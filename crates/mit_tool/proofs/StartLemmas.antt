@@ -1,0 +1,95 @@
+-- A start file that is taken has a first start, and the stops of a file that was read.
+use Rattle.std.proofs.Common.{◌≡◌, sym, ap, subst, ℕ, ◌<◌, ◌==◌, Bool, true, false, cond, nat_lt, List, [], ◌∷◌, length, map, All, get_or, Option, Some, None, Result, Ok, Err, arith, codes}
+use Rattle.std.proofs.lemmas.List.{length-map}
+use Rattle.toml.specs.Data.{Data, Items, no_items, item, Members, get_member, array}
+use Rattle.toml.specs.Data as toml
+use Rattle.mit_syntax.specs.Program.{Syntax}
+use Rattle.start_file.specs.declared.fault.StartFault.{StartFault}
+use Rattle.start_file.specs.declared.fault.StartFault.TheVariants.{NoRuns, TooMany, UnknownKey}
+use Rattle.start_file.specs.declared.start.Start.{Start}
+use Rattle.start_file.specs.declared.version.Version.{Version}
+use Rattle.start_file.specs.Tables.{keys_pass, count_items}
+use Rattle.start_file.specs.Versions.{version_of}
+use Rattle.start_file.specs.Starts.{StartValue, seen, is_top_key, with_first, run_of, runs_from, counted_runs, runs_of, versioned, starts_in, IsFor}
+use Rattle.mit_tool.specs.declared.status.Status.{Status}
+use Rattle.mit_tool.specs.declared.status.Status.TheVariants as status
+use Rattle.mit_tool.specs.declared.stop.Stop.{Stop}
+use Rattle.mit_tool.specs.declared.stop.Stop.TheVariants as stop
+use Rattle.mit_tool.specs.Ends.{Broke, IsStop}
+use Rattle.mit_tool.specs.Stages.{StartsAre, StartStops}
+
+abbrev pub Runs : Type 0
+Runs = Result (List StartValue) StartFault
+
+-- an answer behind a test is not the refusal
+then_part : (b : Bool) (ss : List StartValue) (r : Runs) (f : StartFault) → Ok ss ≡ cond b r (Err f) → Ok ss ≡ r
+then_part true ss r f e = e
+then_part false ss r f e = absurd cc
+
+else_part : (b : Bool) (ss : List StartValue) (r : Runs) (f : StartFault) → Ok ss ≡ cond b (Err f) r → Ok ss ≡ r
+else_part true ss r f e = absurd cc
+else_part false ss r f e = e
+
+some_first : (ss : List StartValue) (a : Result StartValue StartFault) (b : Runs) → Ok ss ≡ with_first a b → 0 < length ss
+some_first ss (Err f) b e = absurd cc
+some_first ss (Ok s) (Err f) e = absurd cc
+some_first ss (Ok s) (Ok r) e = let same : ss ≡ s ∷ r = cc in omega (arith, ap length same)
+
+some_counted : (p : Syntax) (v : Version) (ds : Items) (ss : List StartValue) → Ok ss ≡ counted_runs p v ds → 0 < length ss
+some_counted p v no_items ss e = absurd cc
+some_counted p v (item d ds) ss e =
+    some_first ss (run_of p v 1 d) (runs_from p v 2 ds)
+    (else_part (nat_lt 4096 (count_items (item d ds))) ss (runs_from p v 1 (item d ds)) (TooMany (count_items (item d ds)))
+    (else_part (count_items (item d ds) == 0) ss _ NoRuns e))
+
+some_runs : (p : Syntax) (v : Version) (d : Option Data) (ss : List StartValue) → Ok ss ≡ runs_of p v d → 0 < length ss
+some_runs p v None ss e = absurd cc
+some_runs p v (Some (array ds)) ss e = some_counted p v ds ss e
+some_runs p v (Some (toml.string x)) ss e = absurd cc
+some_runs p v (Some (toml.integer x)) ss e = absurd cc
+some_runs p v (Some (toml.float x)) ss e = absurd cc
+some_runs p v (Some (toml.boolean x)) ss e = absurd cc
+some_runs p v (Some (toml.datetime x)) ss e = absurd cc
+some_runs p v (Some (toml.table x)) ss e = absurd cc
+
+some_versioned : (p : Syntax) (v : Option Version) (ms : Members) (ss : List StartValue) → Ok ss ≡ versioned p v ms → 0 < length ss
+some_versioned p None ms ss e = absurd cc
+some_versioned p (Some v) ms ss e =
+    some_runs p v (get_member (codes "run") ms) ss (then_part (keys_pass is_top_key ms) ss (runs_of p v (get_member (codes "run") ms)) (UnknownKey 0) e)
+
+some_starts : (p : Syntax) (d : Option Members) (ss : List StartValue) → Ok ss ≡ starts_in p d → 0 < length ss
+some_starts p None ss e = absurd cc
+some_starts p (Some ms) ss e = some_versioned p (version_of (get_member (codes "version") ms)) ms ss e
+
+pub some_given : (content : Option (Option (List ℕ))) (p : Syntax) (ss : List Start) → StartsAre content p (map seen ss) → 0 < length ss
+some_given content p ss h =
+    let some = some_starts p h.3.0 (map seen ss) h.3.2 in
+    omega (arith, some, length-map ss seen)
+
+pub first_given : (content : Option (Option (List ℕ))) (p : Syntax) (ss : List Start) (s : Start) → StartsAre content p (map seen ss) → s ≡ get_or ss 0 s
+    → (others : List StartValue) × StartsAre content p (seen s ∷ others)
+first_given content p [] s h e = absurd (let some = some_given content p [] h in omega (arith, some))
+first_given content p (t ∷ ts) s h e = (map seen ts, subst (λ (z : Start). StartsAre content p (seen z ∷ map seen ts)) (sym e) h)
+
+pub first_fits : (p : Syntax) (ss : List Start) (s : Start) → All (IsFor p) (map seen ss) → 0 < length ss → s ≡ get_or ss 0 s → IsFor p (seen s)
+first_fits p [] s h k e = absurd (omega (arith, k))
+first_fits p (t ∷ ts) s h k e = subst (λ (z : Start). IsFor p (seen z)) (sym e) (h 0 (seen t) (omega arith))
+
+-- where a file was read, its stops are those of its starts
+broke : (R : Type 0) (content : Option (Option (List ℕ))) (p : Syntax) (s : Status) (t : List ℕ) → Broke (StartStops ⊥ content p) s t → Broke (StartStops R content p) s t
+broke R content p status.Done t h = h
+broke R content p status.Refused t h = h
+broke R content p status.Syntax t h = h
+broke R content p status.Starts t h = h
+broke R content p status.Usage t h = h
+broke R content p status.ReadFault t h = absurd h.0
+broke R content p status.WriteFault t h = h
+broke R content p status.TooLong t h = h
+broke R content p status.Budget t h = h
+broke R content p status.Disagree t h = h
+broke R content p status.Unfinished t h = h
+broke R content p status.Memory t h = h
+
+pub start_stops : (R : Type 0) (content : Option (Option (List ℕ))) (p : Syntax) (e : Stop) → IsStop (StartStops ⊥ content p) e → IsStop (StartStops R content p) e
+start_stops R content p stop.Usage h = h
+start_stops R content p (stop.With s l) h = broke R content p s l h

@@ -1,0 +1,244 @@
+-- What stages stop with.
+use Rattle.std.proofs.Common.{◌≡◌, ◌≢◌, ◌≤◌, ℕ, List, ◌++◌, Option, Some, None, inl, inr, refl, sym, subst, ap, ◌∙◌, arith, true}
+use Rattle.label_lattice.specs.declared.label.Label.{Label}
+use Rattle.label_lattice.specs.Order.{Order}
+use Rattle.mit_syntax.specs.Program.{Syntax, plan_of}
+use Rattle.timing_types.specs.Labelled.{LabelledProgram}
+use Rattle.label_code.specs.Shaped.{Code}
+use Rattle.mit_tool.specs.declared.status.Status.{Status}
+use Rattle.mit_tool.specs.declared.status.Status.TheVariants.{Done, Refused, Syntax as BadSyntax, Starts, Usage, ReadFault, WriteFault, TooLong, Budget, Disagree, Unfinished, Memory}
+use Rattle.mit_tool.specs.declared.words.EnvName.{EnvName}
+use Rattle.mit_tool.specs.declared.stop.Stop.{Stop}
+use Rattle.start_file.specs.Starts.{StartValue}
+use Rattle.mit_tool.specs.Stages.{Then, ProgramStops, ImageStops, StartStops, FirstStops, FirstStart, Reads, Observes, Types}
+use Rattle.mit_tool.specs.Ends.{Broke, IsStop, EndsBy, status_of, stop_text}
+use Rattle.mit_tool.proofs.EndLemmas.{broke_map, ends_after, prefix_longer}
+use Rattle.mit_tool.specs.WordsAsked.{check, run, meaning}
+use Rattle.std.specs.Prelude.{ℤ}
+use Rattle.std.specs.Io.KnownBytes.{Appends}
+use Rattle.tim_base.specs.Sinks.{AppendsPrefix}
+use Rattle.mit_tool.specs.Texts.{memory_line}
+use Rattle.mit_tool.specs.Means.{lines_after, IsLastLine, WritesSome, BreaksOff}
+use Rattle.tim_base.specs.Faults.{Rose}
+use Rattle.mit_tool.specs.Answers.{Content, Compiles, NoMore, CompileStops, RunStops, MeaningStops, HasCompiled, HasSource, HasBegun, IsReady, HasRun, IsAnswer, Before, CheckStops, is_past_typing}
+
+then_map : {A : Type 0} (Stops : Status → List ℕ → Type 0) (Gives : A → Type 0) (Next Next' : A → Status → List ℕ → Type 0) (s : Status) (t : List ℕ) → ((a : A) → Next a s t → Next' a s t) → Then Stops Gives Next s t → Then Stops Gives Next' s t
+then_map Stops Gives Next Next' s t f (inl h) = inl h
+then_map Stops Gives Next Next' s t f (inr (a, g, h)) = inr (a, g, f a h)
+
+program_rise : (R R' : Type 0) (c : Option (Option (List ℕ))) (s : Status) (t : List ℕ) → (R → R') → ProgramStops R c s t → ProgramStops R' c s t
+program_rise R R' c Done t f h = h
+program_rise R R' c Refused t f h = h
+program_rise R R' c BadSyntax t f h = h
+program_rise R R' c Starts t f h = h
+program_rise R R' c Usage t f h = h
+program_rise R R' c ReadFault t f h = (f h.0, h.1)
+program_rise R R' c WriteFault t f h = h
+program_rise R R' c TooLong t f h = h
+program_rise R R' c Budget t f h = h
+program_rise R R' c Disagree t f h = h
+program_rise R R' c Unfinished t f h = h
+program_rise R R' c Memory t f h = h
+
+compiles_rise : (Rises Rises' : List ℕ → Type 0) (content : Content) (file : List ℕ) (observer : Option (List ℕ)) (Next : Syntax → LabelledProgram → Option Label → Code → Status → List ℕ → Type 0) (s : Status) (t : List ℕ)
+    → (Rises file → Rises' file) → Compiles Rises content file observer Next s t → Compiles Rises' content file observer Next s t
+compiles_rise Rises Rises' content file observer Next s t f (inl h) = inl (program_rise _ _ _ s t f h)
+compiles_rise Rises Rises' content file observer Next s t f (inr h) = inr h
+
+abbrev starts_next : (List ℕ → Type 0) → Content → Option (List ℕ) → Syntax → LabelledProgram → Option Label → Code → Status → List ℕ → Type 0
+starts_next Rises content starts p q o code = Then (FirstStops Rises content starts p) (FirstStart content starts p) (λ start. NoMore)
+
+pub compiles_map : (Rises : List ℕ → Type 0) (content : Content) (file : List ℕ) (observer : Option (List ℕ)) (Next Next' : Syntax → LabelledProgram → Option Label → Code → Status → List ℕ → Type 0) (s : Status) (t : List ℕ)
+    → ((p : Syntax) (q : LabelledProgram) (o : Option Label) (code : Code) → Next p q o code s t → Next' p q o code s t) → Compiles Rises content file observer Next s t → Compiles Rises content file observer Next' s t
+compiles_map Rises content file observer Next Next' s t f (inl h) = inl h
+compiles_map Rises content file observer Next Next' s t f (inr (p, reads, inl h)) = inr (p, reads, inl h)
+compiles_map Rises content file observer Next Next' s t f (inr (p, reads, inr (o, sees, inl h))) = inr (p, reads, inr (o, sees, inl h))
+compiles_map Rises content file observer Next Next' s t f (inr (p, reads, inr (o, sees, inr (q, types, inl h)))) = inr (p, reads, inr (o, sees, inr (q, types, inl h)))
+compiles_map Rises content file observer Next Next' s t f (inr (p, reads, inr (o, sees, inr (q, types, inr (code, image, h))))) = inr (p, reads, inr (o, sees, inr (q, types, inr (code, image, f p q o code h))))
+
+-- where there is an image, what stops after it
+pub compiled_goes : (Rises : List ℕ → Type 0) (content : Content) (file : List ℕ) (observer : Option (List ℕ)) (q : LabelledProgram) (o : Option Label) (code : Code) (Next : Syntax → LabelledProgram → Option Label → Code → Status → List ℕ → Type 0) (s : Status) (t : List ℕ)
+    → (h : HasCompiled content file observer q o code) → Next h.program q o code s t → Compiles Rises content file observer Next s t
+compiled_goes Rises content file observer q o code Next s t h n = inr (h.program, h.reads, inr (o, h.observes, inr (q, h.types, inr (code, h.image, n))))
+
+-- the image stops
+pub image_stops : (Rises : List ℕ → Type 0) (content : Content) (file : List ℕ) (observer : Option (List ℕ)) (p : Syntax) (order : Order) (o : Option Label) (q : LabelledProgram) (e : Stop)
+    → Reads (content file) p → order ≡ p.order → Observes order observer o → Types p q → IsStop (ImageStops q) e → IsStop (CompileStops Rises content file observer) e
+image_stops Rises content file observer p order o q e reads is sees types h =
+    let seen : Observes p.order observer o = subst (λ (z : Order). Observes z observer o) is sees in
+    broke_map (ImageStops q) (CompileStops Rises content file observer) (status_of e) (stop_text e) (λ k. inr (p, reads, inr (o, seen, inr (q, types, inl k)))) h
+
+-- what stops the image stops the run
+pub compile_stops : (Rises Rises' : List ℕ → Type 0) (content : Content) (file : List ℕ) (starts observer : Option (List ℕ)) (e : Stop)
+    → (Rises file → Rises' file) → IsStop (CompileStops Rises content file observer) e → IsStop (RunStops Rises' content file starts observer) e
+compile_stops Rises Rises' content file starts observer e rise h =
+    broke_map (CompileStops Rises content file observer) (RunStops Rises' content file starts observer) (status_of e) (stop_text e)
+    (λ k. compiles_rise Rises Rises' content file observer (starts_next Rises' content starts) (status_of e) (stop_text e) rise
+    (compiles_map Rises content file observer (λ p q o code. NoMore) (starts_next Rises' content starts) (status_of e) (stop_text e) (λ p q o code n. absurd n) k)) h
+
+-- the starts stop the run
+pub first_stops : (Rises : List ℕ → Type 0) (content : Content) (file : List ℕ) (starts observer : Option (List ℕ)) (q : LabelledProgram) (o : Option Label) (code : Code) (e : Stop)
+    → HasCompiled content file observer q o code → IsStop (FirstStops Rises content starts q.program) e → IsStop (RunStops Rises content file starts observer) e
+first_stops Rises content file starts observer q o code e h stop =
+    let at : IsStop (FirstStops Rises content starts h.program) e = subst (λ (z : Syntax). IsStop (FirstStops Rises content starts z) e) h.types.program stop in
+    broke_map (FirstStops Rises content starts h.program) (RunStops Rises content file starts observer) (status_of e) (stop_text e)
+    (λ k. compiled_goes Rises content file observer q o code (starts_next Rises content starts) (status_of e) (stop_text e) h (inl k)) at
+
+abbrev run_next : (List ℕ → Type 0) → Content → Option (List ℕ) → EnvName → ℕ → Syntax → LabelledProgram → Option Label → Code → Status → List ℕ → Type 0
+run_next Rises content starts env budget p q o code = Then (FirstStops Rises content starts p) (FirstStart content starts p) (λ start. HasRun env budget q o code start)
+
+-- the run has what its answer tells
+pub ready_tells : (Rises : List ℕ → Type 0) (content : Content) (file : List ℕ) (starts observer : Option (List ℕ)) (env : EnvName) (budget : ℕ) (q : LabelledProgram) (o : Option Label) (code : Code) (start : StartValue) (s : Status) (t : List ℕ)
+    → IsReady content file starts observer q o code start → HasRun env budget q o code start s t → IsAnswer Rises content (run file starts env budget observer) s t
+ready_tells Rises content file starts observer env budget q o code start s t h told =
+    let first : FirstStart content starts h.compiled.program start = subst (λ (z : Syntax). FirstStart content starts z start) h.compiled.types.program h.first in
+    compiled_goes Rises content file observer q o code (run_next Rises content starts env budget) s t h.compiled (inr (start, first, told))
+
+pub run_stops : (Rises : List ℕ → Type 0) (content : Content) (file : List ℕ) (starts observer : Option (List ℕ)) (env : EnvName) (budget : ℕ) (s : Status) (t : List ℕ)
+    → RunStops Rises content file starts observer s t → IsAnswer Rises content (run file starts env budget observer) s t
+run_stops Rises content file starts observer env budget s t =
+    compiles_map Rises content file observer (starts_next Rises content starts) (run_next Rises content starts env budget) s t (λ p q o code. then_map (FirstStops Rises content starts p) (FirstStart content starts p) (λ start. NoMore) (λ start. HasRun env budget q o code start) s t (λ start n. absurd n))
+
+-- ---- a file that is read later
+
+-- a count that rose later rose
+pub rose_before : (a b c : ℕ) → a ≤ b → Rose b c → Rose a c
+rose_before a b c l h = omega (arith, l, h)
+
+start_rise : (R R' : Type 0) (c : Option (Option (List ℕ))) (p : Syntax) (s : Status) (t : List ℕ) → (R → R') → StartStops R c p s t → StartStops R' c p s t
+start_rise R R' c p Done t f h = h
+start_rise R R' c p Refused t f h = h
+start_rise R R' c p BadSyntax t f h = h
+start_rise R R' c p Starts t f h = h
+start_rise R R' c p Usage t f h = h
+start_rise R R' c p ReadFault t f h = (f h.0, h.1)
+start_rise R R' c p WriteFault t f h = h
+start_rise R R' c p TooLong t f h = h
+start_rise R R' c p Budget t f h = h
+start_rise R R' c p Disagree t f h = h
+start_rise R R' c p Unfinished t f h = h
+start_rise R R' c p Memory t f h = h
+
+first_rise : (Rises Rises' : List ℕ → Type 0) (content content' : Content) (starts : Option (List ℕ)) (p : Syntax) (s : Status) (t : List ℕ) → ((name : List ℕ) → Rises name → Rises' name) → ((name : List ℕ) → content name ≡ content' name)
+    → FirstStops Rises content starts p s t → FirstStops Rises' content' starts p s t
+first_rise Rises Rises' content content' None p s t f e h = h
+first_rise Rises Rises' content content' (Some name) p s t f e h =
+    subst (λ (c : Option (Option (List ℕ))). StartStops (Rises' name) c p s t) (e name) (start_rise (Rises name) (Rises' name) (content name) p s t (f name) h)
+
+pub later_first_stops : (Rises Rises' : List ℕ → Type 0) (content content' : Content) (file : List ℕ) (starts observer : Option (List ℕ)) (q : LabelledProgram) (o : Option Label) (code : Code) (p : Syntax) (e : Stop)
+    → ((name : List ℕ) → Rises name → Rises' name) → ((name : List ℕ) → content name ≡ content' name) → p ≡ q.program → HasCompiled content' file observer q o code
+    → IsStop (FirstStops Rises content starts p) e → IsStop (RunStops Rises' content' file starts observer) e
+later_first_stops Rises Rises' content content' file starts observer q o code p e f same is h stop =
+    let at : IsStop (FirstStops Rises content starts q.program) e = subst (λ (z : Syntax). IsStop (FirstStops Rises content starts z) e) is stop in
+    first_stops Rises' content' file starts observer q o code e h
+    (broke_map (FirstStops Rises content starts q.program) (FirstStops Rises' content' starts q.program) (status_of e) (stop_text e) (first_rise Rises Rises' content content' starts q.program (status_of e) (stop_text e) f same) at)
+
+-- ---- a run without its time
+
+pub source_first_stops : (Rises Rises' : List ℕ → Type 0) (content content' : Content) (file : List ℕ) (starts : Option (List ℕ)) (p : Syntax) (e : Stop)
+    → ((name : List ℕ) → Rises name → Rises' name) → ((name : List ℕ) → content name ≡ content' name) → Reads (content' file) p
+    → IsStop (FirstStops Rises content starts p) e → IsStop (MeaningStops Rises' content' file starts) e
+source_first_stops Rises Rises' content content' file starts p e f same reads stop =
+    broke_map (FirstStops Rises content starts p) (MeaningStops Rises' content' file starts) (status_of e) (stop_text e)
+    (λ k. inr (p, reads, inl (first_rise Rises Rises' content content' starts p (status_of e) (stop_text e) f same k))) stop
+
+pub meaning_stops : (Rises : List ℕ → Type 0) (content : Content) (file : List ℕ) (starts : Option (List ℕ)) (n : ℕ) (s : Status) (t : List ℕ) → MeaningStops Rises content file starts s t → IsAnswer Rises content (meaning file starts n) s t
+meaning_stops Rises content file starts n s t (inl h) = inl h
+meaning_stops Rises content file starts n s t (inr (p, reads, inl h)) = inr (p, reads, inl h)
+meaning_stops Rises content file starts n s t (inr (p, reads, inr (start, first, h))) = absurd h
+
+pub source_tells : (Rises : List ℕ → Type 0) (content : Content) (file : List ℕ) (starts : Option (List ℕ)) (n : ℕ) (p : Syntax) (start : StartValue) (last : List ℕ)
+    → HasSource content file starts p start → IsLastLine (plan_of p) start.memory n last → IsAnswer Rises content (meaning file starts n) Done (lines_after p start.memory n ++ last)
+source_tells Rises content file starts n p start last h is = inr (p, h.reads, inr (start, h.first, (refl, last, is, refl)))
+
+pub source_begins : (content : Content) (file : List ℕ) (starts : Option (List ℕ)) (n k : ℕ) (p : Syntax) (start : StartValue) → HasSource content file starts p start → k ≤ n → HasBegun content file starts n (lines_after p start.memory k)
+source_begins content file starts n k p start h l = record { program = p; reads = h.reads; start = start; first = h.first; steps = k; within = l; lines = refl }
+
+-- the last line was written after the others, or a write failed
+pub meaning_done : (Rises : List ℕ → Type 0) (content : Content) (file : List ℕ) (starts : Option (List ℕ)) (n : ℕ) (p : Syntax) (start : StartValue) (memory : List ℤ) (line text : List ℕ) (old mid new : Option (List ℕ)) (r : Status)
+    → HasSource content file starts p start → memory ≡ start.memory → IsLastLine (plan_of p) memory n line → Appends old mid (lines_after p memory n) → text ≡ line
+    → (r ≢ WriteFault → (r ≡ Done) × Appends mid new text) → (r ≡ WriteFault → AppendsPrefix mid new text) → EndsBy old new (Before content (meaning file starts n)) (IsAnswer Rises content (meaning file starts n)) r
+meaning_done Rises content file starts n p start memory line text old mid new r h is last lines same told prefix =
+    let last' : IsLastLine (plan_of p) start.memory n text = subst (λ (l : List ℕ). IsLastLine (plan_of p) start.memory n l) (sym same) (subst (λ (m : List ℤ). IsLastLine (plan_of p) m n line) is last) in
+    let lines' : Appends old mid (lines_after p start.memory n) = subst (λ (m : List ℤ). Appends old mid (lines_after p m n)) is lines in
+    ends_after old mid new (Before content (meaning file starts n)) (IsAnswer Rises content (meaning file starts n)) (lines_after p start.memory n) Done text r lines' (source_tells Rises content file starts n p start text h last') told prefix
+
+-- memory was wanting after some lines
+pub meaning_short : (Rises : List ℕ → Type 0) (content : Content) (file : List ℕ) (starts : Option (List ℕ)) (n : ℕ) (p : Syntax) (start : StartValue) (memory : List ℤ) (old mid new : Option (List ℕ)) (r : Status)
+    → HasSource content file starts p start → memory ≡ start.memory → WritesSome old mid p memory n
+    → (r ≢ WriteFault → (r ≡ Memory) × Appends mid new memory_line) → (r ≡ WriteFault → AppendsPrefix mid new memory_line) → EndsBy old new (Before content (meaning file starts n)) (IsAnswer Rises content (meaning file starts n)) r
+meaning_short Rises content file starts n p start memory old mid new r h is some told prefix =
+    let lines' : Appends old mid (lines_after p start.memory some.steps) = subst (λ (m : List ℤ). Appends old mid (lines_after p m some.steps)) is some.lines in
+    ends_after old mid new (Before content (meaning file starts n)) (IsAnswer Rises content (meaning file starts n)) (lines_after p start.memory some.steps) Memory memory_line r lines'
+    (lines_after p start.memory some.steps, inr (source_begins content file starts n some.steps p start h some.within), refl) told prefix
+
+-- a write failed in a line
+pub meaning_broke : (Rises : List ℕ → Type 0) (content : Content) (file : List ℕ) (starts : Option (List ℕ)) (n : ℕ) (p : Syntax) (start : StartValue) (memory : List ℤ) (old new : Option (List ℕ))
+    → HasSource content file starts p start → memory ≡ start.memory → BreaksOff old new p memory n → EndsBy old new (Before content (meaning file starts n)) (IsAnswer Rises content (meaning file starts n)) WriteFault
+meaning_broke Rises content file starts n p start memory old new h is some =
+    let prefix' : AppendsPrefix old new (lines_after p start.memory some.steps) = subst (λ (m : List ℤ). AppendsPrefix old new (lines_after p m some.steps)) is some.prefix in (
+      Memory,
+      lines_after p start.memory some.steps ++ memory_line,
+      (lines_after p start.memory some.steps, inr (source_begins content file starts n some.steps p start h some.within), refl),
+      prefix_longer old new (lines_after p start.memory some.steps) memory_line prefix',
+    )
+
+-- ---- what stops `check` comes before the end of the typing
+
+no_check : (Rises : List ℕ → Type 0) (content : Content) (file : List ℕ) (s : Status) (t : List ℕ) → is_past_typing s ≡ true → CheckStops Rises content file s t → ⊥
+no_check Rises content file Done t e (inl h) = absurd h
+no_check Rises content file Done t e (inr (p, reads, inl h)) = absurd h
+no_check Rises content file Done t e (inr (p, reads, inr (q, types, h))) = absurd h
+no_check Rises content file Budget t e (inl h) = absurd h
+no_check Rises content file Budget t e (inr (p, reads, inl h)) = absurd h
+no_check Rises content file Budget t e (inr (p, reads, inr (q, types, h))) = absurd h
+no_check Rises content file Disagree t e (inl h) = absurd h
+no_check Rises content file Disagree t e (inr (p, reads, inl h)) = absurd h
+no_check Rises content file Disagree t e (inr (p, reads, inr (q, types, h))) = absurd h
+no_check Rises content file Unfinished t e (inl h) = absurd h
+no_check Rises content file Unfinished t e (inr (p, reads, inl h)) = absurd h
+no_check Rises content file Unfinished t e (inr (p, reads, inr (q, types, h))) = absurd h
+no_check Rises content file Refused t e h = absurd cc
+no_check Rises content file BadSyntax t e h = absurd cc
+no_check Rises content file Starts t e h = absurd cc
+no_check Rises content file Usage t e h = absurd cc
+no_check Rises content file ReadFault t e h = absurd cc
+no_check Rises content file WriteFault t e h = absurd cc
+no_check Rises content file TooLong t e h = absurd cc
+no_check Rises content file Memory t e h = absurd cc
+
+check_early : (Rises : List ℕ → Type 0) (content : Content) (file : List ℕ) (s : Status) (t : List ℕ) → Broke (CheckStops Rises content file) s t → is_past_typing s ≡ true → ⊥
+check_early Rises content file Done t h e = no_check Rises content file Done t e h
+check_early Rises content file Refused t h e = no_check Rises content file Refused t e h
+check_early Rises content file BadSyntax t h e = no_check Rises content file BadSyntax t e h
+check_early Rises content file Starts t h e = no_check Rises content file Starts t e h
+check_early Rises content file Usage t h e = no_check Rises content file Usage t e h
+check_early Rises content file ReadFault t h e = no_check Rises content file ReadFault t e h
+check_early Rises content file WriteFault t h e = no_check Rises content file WriteFault t e h
+check_early Rises content file TooLong t h e = no_check Rises content file TooLong t e h
+check_early Rises content file Budget t h e = no_check Rises content file Budget t e h
+check_early Rises content file Disagree t h e = no_check Rises content file Disagree t e h
+check_early Rises content file Unfinished t h e = no_check Rises content file Unfinished t e h
+check_early Rises content file Memory t h e = absurd cc
+
+past_written : (r s : Status) → (r ≢ WriteFault → r ≡ s) → is_past_typing r ≡ true → is_past_typing s ≡ true
+past_written Done s f e = ap is_past_typing (sym (f (λ w. cc))) ∙ e
+past_written Refused s f e = ap is_past_typing (sym (f (λ w. cc))) ∙ e
+past_written BadSyntax s f e = ap is_past_typing (sym (f (λ w. cc))) ∙ e
+past_written Starts s f e = ap is_past_typing (sym (f (λ w. cc))) ∙ e
+past_written Usage s f e = ap is_past_typing (sym (f (λ w. cc))) ∙ e
+past_written ReadFault s f e = ap is_past_typing (sym (f (λ w. cc))) ∙ e
+past_written WriteFault s f e = absurd cc
+past_written TooLong s f e = ap is_past_typing (sym (f (λ w. cc))) ∙ e
+past_written Budget s f e = ap is_past_typing (sym (f (λ w. cc))) ∙ e
+past_written Disagree s f e = ap is_past_typing (sym (f (λ w. cc))) ∙ e
+past_written Unfinished s f e = ap is_past_typing (sym (f (λ w. cc))) ∙ e
+past_written Memory s f e = ap is_past_typing (sym (f (λ w. cc))) ∙ e
+
+pub check_stopped : (Rises : List ℕ → Type 0) (content : Content) (file : List ℕ) (e : Stop) (r : Status) (W : Type 0) → IsStop (CheckStops Rises content file) e → (r ≢ WriteFault → (r ≡ status_of e) × W) → is_past_typing r ≡ true → ⊥
+check_stopped Rises content file e r W h told past = check_early Rises content file (status_of e) (stop_text e) h (past_written r (status_of e) (λ n. (told n).0) past)
+
+pub check_stops : (Rises : List ℕ → Type 0) (content : Content) (file : List ℕ) (s : Status) (t : List ℕ) → CheckStops Rises content file s t → IsAnswer Rises content (check file) s t
+check_stops Rises content file s t (inl h) = inl h
+check_stops Rises content file s t (inr (p, reads, inl h)) = inr (p, reads, inl h)
+check_stops Rises content file s t (inr (p, reads, inr (q, types, h))) = absurd h

@@ -1,0 +1,28 @@
+use Rattle.std.proofs.Common.{arith, ◌<◌}
+use Rattle.mit_tool.proofs.WalkLemmas.{walking_first, walking_next, ends_lines, breaks_off}
+use Rattle.mit_tool.proofs.commands.meaning.walk.walk.Goals as goal
+
+pub steps-init : goal.steps-init
+steps-init g c = record {
+  walking = walking_first c.args.p.now c.args.memory.now c.args.steps c.in-Ok.walker (g.W.Sink.taken c.args.out.now) c.variables.ensures.valid c.in-Ok.ensures;
+  later = omega arith;
+}
+
+pub returns-in-Ended-clause-text : goal.returns-in-Ended-clause-text
+returns-in-Ended-clause-text g c =
+    ends_lines c.args.p.now c.args.memory.now c.args.steps c.steps.taken c.steps.walker c.step.new.self c.in-Ok-step.walk (g.W.Sink.taken c.args.out.now) (g.W.Sink.taken c.steps.out) c.steps.invariant.walking c.in-Ok-step.ensures.step c.in-Ended.is
+
+pub steps-preserved : goal.steps-preserved
+steps-preserved g c =
+    let less : c.steps.taken < c.args.steps = omega (arith, c.if-taken-steps.false) in
+    record {
+      walking = walking_next c.args.p.now c.args.memory.now c.args.steps c.steps.taken c.steps.walker c.step.new.self c.in-Ok-step.walk
+          (g.W.Sink.taken c.args.out.now) (g.W.Sink.taken c.steps.out) (g.W.Sink.taken c.print_step.new.out) c.steps.invariant.walking c.in-Ok-step.ensures.step c.in_default-walk.not-Ended less c.in-Ok-print_step.ensures.text;
+      later = omega (arith, c.steps.invariant.later, c.print_step.ensures.later);
+    }
+
+pub returns-in-Err-clause-prefix : goal.returns-in-Err-clause-prefix
+returns-in-Err-clause-prefix g c =
+    let less : c.steps.taken < c.args.steps = omega (arith, c.if-taken-steps.false) in
+    λ e. breaks_off c.args.p.now c.args.memory.now c.args.steps c.steps.taken c.steps.walker c.step.new.self c.in-Ok-step.walk
+    (g.W.Sink.taken c.args.out.now) (g.W.Sink.taken c.steps.out) (g.W.Sink.taken c.print_step.new.out) c.steps.invariant.walking c.in-Ok-step.ensures.step less c.in-Err.ensures.prefix

@@ -1,0 +1,42 @@
+use Rattle.std.proofs.Common.{refl, ap, subst, ◌∙◌}
+use Rattle.env_contract.specs.Env.{Env}
+use Rattle.tim_base.specs.Sinks.{AppendsPrefix}
+use Rattle.label_code.specs.Run.{run_from}
+use Rattle.event_print.specs.Text.{Told, text_of}
+use Rattle.event_print.specs.Rest.{told_by}
+use Rattle.mit_tool.specs.Ends.{Nothing}
+use Rattle.mit_tool.specs.Answers.{HasTold, status_at}
+use Rattle.mit_tool.proofs.EndLemmas.{ends_memory}
+use Rattle.mit_tool.proofs.RunLemmas.{loaded_runs, told_tells}
+use Rattle.mit_tool.proofs.commands.run.run_in.Goals as goal
+
+pub returns-in_default-clause-ended : goal.returns-in_default-clause-ended
+returns-in_default-clause-ended g c =
+    let v : Env g.row.E.Denot = record { cost_of = g.E.MachineEnv.cost_of; next_of = g.E.MachineEnv.next_of; part = g.E.MachineEnv.part } in
+    let q = c.args.program.now.typed.labelled in
+    let told : Told = told_by (run_from v c.args.program.now.image.instrs c.args.budget (record { memory = c.args.start.memory.items; env = g.M.MakeEnv.made q.program.order c.args.start.touches.items })) in
+    ends_memory (g.W.Sink.taken c.args.out.now) (g.W.Sink.taken c.finish.new.out) Nothing (HasTold q c.args.program.now.observer told) c.finish.result refl c.finish.ensures.told c.finish.ensures.prefix
+
+pub returns-in_default-load-clause-ended : goal.returns-in_default-load-clause-ended
+returns-in_default-load-clause-ended g c =
+    let v : Env g.row.E.Denot = record { cost_of = g.E.MachineEnv.cost_of; next_of = g.E.MachineEnv.next_of; part = g.E.MachineEnv.part } in
+    let q = c.args.program.now.typed.labelled in
+    let told : Told = told_by (run_from v c.args.program.now.image.instrs c.args.budget (record { memory = c.args.start.memory.items; env = g.M.MakeEnv.made q.program.order c.args.start.touches.items })) in
+    ends_memory (g.W.Sink.taken c.args.out.now) (g.W.Sink.taken c.finish-in_default-load.new.out) Nothing (HasTold q c.args.program.now.observer told) c.finish-in_default-load.result refl
+    c.finish-in_default-load.ensures.told c.finish-in_default-load.ensures.prefix
+
+pub returns-clause-ended : goal.returns-clause-ended
+returns-clause-ended g c =
+    let v : Env g.row.E.Denot = record { cost_of = g.E.MachineEnv.cost_of; next_of = g.E.MachineEnv.next_of; part = g.E.MachineEnv.part } in
+    let q = c.args.program.now.typed.labelled in
+    let o = c.args.program.now.observer in
+    let order = c.lattice-lattice.ensures ∙ ap (λ p. p.order) (c.program.ensures.program ∙ ap (λ l. l.program) c.labelled.ensures.labelled) in
+    let env = c.in-Ok.ensures.value ∙ ap (λ l. g.M.MakeEnv.made l c.as_slice.result.now) order ∙ ap (g.M.MakeEnv.made q.program.order) c.as_slice.ensures.value in
+    let told : Told = told_by (run_from v c.args.program.now.image.instrs c.args.budget (record { memory = c.args.start.memory.items; env = g.M.MakeEnv.made q.program.order c.args.start.touches.items })) in
+    let runs = loaded_runs v c.args.budget c.in-Ok-load.machine c.args.program.now.image c.args.start.memory.items c.in-Ok.env (g.M.MakeEnv.made q.program.order c.args.start.touches.items)
+    c.in-Ok-load.ensures.going c.in-Ok-load.ensures.code c.in-Ok-load.ensures.start env in (
+      status_at told.end,
+      text_of q o told,
+      told_tells q o told,
+      subst (λ (z : Told). AppendsPrefix (g.W.Sink.taken c.args.out.now) (g.W.Sink.taken c.print_run.new.out) (text_of q o z)) runs c.in-Err.ensures.prefix,
+    )

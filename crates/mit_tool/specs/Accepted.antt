@@ -1,0 +1,36 @@
+-- What is true of every accepted program.
+use Rattle.std.specs.Prelude.{ℕ, List, Option}
+use Rattle.env_contract.specs.Env.{Env}
+use Rattle.label_lattice.specs.Order.{Order}
+use Rattle.mit_syntax.specs.Program.{Syntax}
+use Rattle.mit_syntax.specs.Valid.{IsValid}
+use Rattle.timing_types.specs.Labelled.{LabelledProgram, labels_of, bare_of}
+use Rattle.code_lower.specs.Lowered.{lowered}
+use Rattle.part_tlb.specs.Structures.{IsMadeFor}
+use Rattle.part_tlb.specs.Envs.{part_structure, part2_structure}
+use Rattle.leak_bound.specs.Sound.{Sound, CutSound}
+use Rattle.mit_tool.specs.Stages.{Reads, Types}
+use Rattle.mit_tool.specs.Envs.{flat_env, part_env, part2_env}
+
+-- the image of a labelled program is sound in an environment, for runs that halt and for runs that are cut
+pub record IsSoundIn {E : Type 0} (v : Env E) (serves : Order → E → Type 0) (q : LabelledProgram) : Type 0 where
+  pub halted : Sound v q.program.order (serves q.program.order) (labels_of q) (lowered q).instrs (bare_of q)
+  pub cut : CutSound v q.program.order (serves q.program.order) (labels_of q) (lowered q).instrs (bare_of q)
+
+-- it is in each environment that `--env` names
+pub record IsSound (q : LabelledProgram) : Type 0 where
+  pub flat : IsSoundIn flat_env (λ order e. Unit {0}) q
+  pub part : IsSoundIn part_env (IsMadeFor part_structure) q
+  pub part2 : IsSoundIn part2_env (IsMadeFor part2_structure) q
+
+-- every program is sound with the least labelling that types it
+abbrev pub AcceptedAreSound : Type 0
+AcceptedAreSound = (p : Syntax) (q : LabelledProgram) → IsValid p → Types p q → IsSound q
+
+-- the program of a file is accepted
+pub record IsAccepted (content : Option (Option (List ℕ))) : Type 0 where
+  pub program : Syntax
+  pub reads : Reads content program
+  pub labelled : LabelledProgram
+  pub types : Types program labelled
+  pub sound : IsSound labelled

@@ -1,0 +1,5 @@
+//! The commands.
+
+pub mod check;
+pub mod meaning;
+pub mod run;

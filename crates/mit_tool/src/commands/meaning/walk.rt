@@ -1,0 +1,82 @@
+//! The steps of a run without its time.
+
+ghost use Rattle.std.specs.Prelude.{◌≡◌, ◌≤◌, length, IfOk, OnOk, OnErr, IsErrOf};
+ghost use Rattle.std.specs.Io.KnownBytes.{Appends};
+ghost use Rattle.tim_base.specs.Faults.{Rose};
+ghost use Rattle.tim_base.specs.Sinks.{AppendsPrefix};
+ghost use Rattle.mit_syntax.specs.Declarations.{variables};
+ghost use Rattle.mit_syntax.specs.Program.{plan_of};
+ghost use Rattle.mit_tool.specs.Means.{IsLastLine, lines_after, text_of_walk, IsWalkBelow, WritesSome, BreaksOff};
+
+use crate::commands::meaning::lines::{ended, not_ended, value_line};
+use mit_syntax::program::Program;
+use source_meaning::walk::Walk;
+use source_meaning::walker::Walker;
+use std::alloc::Global;
+use tim_base::line::Line;
+use tim_base::sink::{Sink, SinkFault, write_all};
+
+/// Why steps were not all taken.
+#[derive(Clone, Copy, Debug, PartialEq, Eq)]
+pub enum WalkFault {
+    /// Want of memory. The lines of the steps so far were written.
+    Memory,
+    /// The sink failed. A prefix of those lines was written.
+    Sink,
+}
+
+// Writes the line of a step, if it has one.
+fn print_step<W: Sink>(p: &Program, walk: Walk, out: &mut W) -> Result<(), SinkFault>
+    requires { IsWalkBelow (variables p.now.declarations) walk }
+    ensures text { OnOk result (Appends (W.taken out.old) (W.taken out.new) (text_of_walk p.now.declarations walk)) }
+    ensures prefix { OnErr result (AppendsPrefix (W.taken out.old) (W.taken out.new) (text_of_walk p.now.declarations walk)) }
+    ensures later { W.faults out.old ≤ W.faults out.new }
+    ensures fault { OnErr result (Rose (W.faults out.old) (W.faults out.new)) }
+{
+    match walk {
+        Walk::Assigned(x, n) => {
+            let line = value_line(p, x, n);
+            write_all(out, line.bytes())
+        }
+        Walk::Began(_) | Walk::Silent | Walk::Ended => Ok(()),
+    }
+}
+
+/// Takes at most so many steps of a program from a memory, writes the line of each assignment, and gives the
+/// last line, which is not written.
+pub fn walk<W: Sink>(
+    alloc: Global,
+    p: &Program,
+    memory: &[i64],
+    steps: u64,
+    out: &mut W,
+) -> Result<Line, WalkFault>
+    requires { length memory.now ≡ variables p.now.declarations }
+    ensures last { IfOk result (IsLastLine (plan_of p.now) memory.now steps) }
+    ensures text { OnOk result (Appends (W.taken out.old) (W.taken out.new) (lines_after p.now memory.now steps)) }
+    ensures some { IsErrOf result WalkFault.Memory → WritesSome (W.taken out.old) (W.taken out.new) p.now memory.now steps }
+    ensures prefix { IsErrOf result WalkFault.Sink → BreaksOff (W.taken out.old) (W.taken out.new) p.now memory.now steps }
+    ensures fault { IsErrOf result WalkFault.Sink → Rose (W.faults out.old) (W.faults out.new) }
+    ensures later { W.faults out.old ≤ W.faults out.new }
+{
+    let _ = p.variables();
+    let Ok(mut walker) = Walker::new(alloc, p, memory) else {
+        return Err(WalkFault::Memory);
+    };
+    let mut taken: u64 = 0;
+    'steps: loop {
+        let Ok(walk) = walker.step() else {
+            return Err(WalkFault::Memory);
+        };
+        if let Walk::Ended = walk {
+            return Ok(ended(taken));
+        }
+        if taken >= steps {
+            return Ok(not_ended(steps));
+        }
+        match print_step(p, walk, out) {
+            Ok(()) => taken += 1,
+            Err(_) => return Err(WalkFault::Sink),
+        }
+    }
+}

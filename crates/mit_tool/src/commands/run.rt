@@ -1,0 +1,149 @@
+//! `run`: a program runs on the machine that counts cycles, and its assignments are written while it runs.
+
+ghost use Rattle.std.specs.Prelude.{◌≡◌, ◌≤◌, ◌<◌, ℕ, List, IfOk, IfErr, OnOk, IfSome, option_map, IsTrue};
+ghost use Rattle.tim_base.specs.Faults.{Rose};
+ghost use Rattle.label_code.specs.Run.{run_from};
+ghost use Rattle.start_file.specs.Starts.{seen, IsFor};
+ghost use Rattle.event_print.specs.Rest.{told_by};
+ghost use Rattle.mit_tool.specs.Ends.{IsStop, EndsBy, Nothing};
+ghost use Rattle.mit_tool.specs.WordsAsked.{run};
+ghost use Rattle.mit_tool.specs.Stages.{HasImage};
+ghost use Rattle.mit_tool.specs.Answers.{IsAnswer, HasTold, HasRun, is_past_typing, IsReady, RunStops};
+ghost use Rattle.mit_tool.specs.Accepted.{IsAccepted};
+
+use crate::compiled::{Compiled, compile};
+use crate::finish::{finish, stop};
+use crate::stages::starts::first_start;
+use crate::status::Status;
+use crate::stop::Stop;
+use crate::words::EnvName;
+use cycle_machine::machine::Machine;
+use env_contract::env::MachineEnv;
+use env_contract::make::{MakeEnv, MakeFlat};
+use event_print::end::RunEnd;
+use event_print::print::print_run;
+use part_tlb::part::MakePart;
+use part_tlb::part2::MakePart2;
+use start_file::start::Start;
+use std::alloc::Global;
+use tim_base::shelf::Shelf;
+use tim_base::sink::Sink;
+
+/// The environment and the budget of a run, in cycles.
+#[derive(Clone, Copy)]
+pub struct Setting {
+    pub env: EnvName,
+    pub budget: u64,
+}
+
+/// Runs a program in the environment that a maker makes.
+fn run_in<E: MachineEnv + Drop, M: MakeEnv<E>, W: Sink>(
+    alloc: Global,
+    maker: &M,
+    program: &Compiled,
+    start: Start,
+    budget: u64,
+    out: &mut W,
+) -> Status
+    requires image { HasImage program.now.typed.labelled program.now.image }
+    requires start { IsFor program.now.typed.labelled.program (seen start) }
+    requires observer { IfSome program.now.observer (λ o. o.number < program.now.typed.labelled.program.order.size) }
+    ensures ended { EndsBy (W.taken out.old) (W.taken out.new) Nothing (HasTold program.now.typed.labelled program.now.observer
+        (told_by (run_from (record { cost_of = E.cost_of; next_of = E.next_of; part = E.part }) program.now.image.instrs budget
+        (record { memory = start.memory.items; env = M.made program.now.typed.labelled.program.order start.touches.items })))) result }
+    ensures later { W.faults out.old ≤ W.faults out.new }
+    ensures fault { result ≡ Status.WriteFault → Rose (W.faults out.old) (W.faults out.new) }
+{
+    let Compiled {
+        typed,
+        image,
+        observer,
+    } = program;
+    let lattice = typed.labelled().program().lattice();
+    let Ok(env) = maker.make(alloc, lattice, start.touches.as_slice()) else {
+        return finish(out, b"memory\n", Status::Memory);
+    };
+    let Ok(mut machine) = Machine::load(alloc, image, start.memory, env) else {
+        return finish(out, b"memory\n", Status::Memory);
+    };
+    match print_run(&mut machine, typed, *observer, budget, out) {
+        Ok(RunEnd::Halted(_)) => Status::Done,
+        Ok(RunEnd::Limit(_)) => Status::Budget,
+        Err(_) => Status::WriteFault,
+    }
+}
+
+/// Runs a program in the environment of a name.
+fn run_named<W: Sink>(
+    alloc: Global,
+    program: &Compiled,
+    start: Start,
+    setting: Setting,
+    out: &mut W,
+) -> Status
+    requires image { HasImage program.now.typed.labelled program.now.image }
+    requires start { IsFor program.now.typed.labelled.program (seen start) }
+    requires observer { IfSome program.now.observer (λ o. o.number < program.now.typed.labelled.program.order.size) }
+    ensures ended { EndsBy (W.taken out.old) (W.taken out.new) Nothing (HasRun setting.env setting.budget program.now.typed.labelled program.now.observer program.now.image (seen start)) result }
+    ensures later { W.faults out.old ≤ W.faults out.new }
+    ensures fault { result ≡ Status.WriteFault → Rose (W.faults out.old) (W.faults out.new) }
+{
+    let budget = setting.budget;
+    match setting.env {
+        EnvName::Flat => run_in(alloc, &MakeFlat, program, start, budget, out),
+        EnvName::Part => run_in(alloc, &MakePart, program, start, budget, out),
+        EnvName::Part2 => run_in(alloc, &MakePart2, program, start, budget, out),
+    }
+}
+
+/// What a run begins with: a program and its first start.
+///
+/// # Errors
+/// Stops with the first refusal, or with `Memory`.
+fn ready<S: Shelf>(
+    alloc: Global,
+    shelf: &mut S,
+    file: &str,
+    starts: Option<&str>,
+    name: Option<&str>,
+) -> Result<(Compiled, Start), Stop>
+    ensures same { (name : List ℕ) → S.content shelf.new name ≡ S.content shelf.old name }
+    ensures later { (name : List ℕ) → S.faults shelf.old name ≤ S.faults shelf.new name }
+    ensures ok { IfOk result (λ r. IsReady (S.content shelf.old) file.now (option_map (λ s. s.now) starts.entry) (option_map (λ s. s.now) name.entry) r.0.typed.labelled r.0.observer r.0.image (seen r.1)) }
+    ensures valid { IfOk result (λ r. IsFor r.0.typed.labelled.program (seen r.1)) }
+    ensures stop { IfErr result (IsStop (RunStops (λ name. Rose (S.faults shelf.old name) (S.faults shelf.new name)) (S.content shelf.old) file.now (option_map (λ s. s.now) starts.entry) (option_map (λ s. s.now) name.entry))) }
+    ensures sound { OnOk result (IsAccepted (S.content shelf.old file.now)) }
+{
+    let compiled = match compile(alloc, shelf, file, name) {
+        Ok(compiled) => compiled,
+        Err(stop) => return Err(stop),
+    };
+    match first_start(alloc, shelf, starts, compiled.typed.labelled().program()) {
+        Ok(start) => Ok((compiled, start)),
+        Err(stop) => Err(stop),
+    }
+}
+
+/// Runs the program of a file from the first start of another one, or from zeros.
+pub fn run<S: Shelf, W: Sink>(
+    alloc: Global,
+    shelf: &mut S,
+    out: &mut W,
+    file: &str,
+    starts: Option<&str>,
+    name: Option<&str>,
+    setting: Setting,
+) -> Status
+    ensures same { (name : List ℕ) → S.content shelf.new name ≡ S.content shelf.old name }
+    ensures later { (name : List ℕ) → S.faults shelf.old name ≤ S.faults shelf.new name }
+    ensures later_out { W.faults out.old ≤ W.faults out.new }
+    ensures answered { EndsBy (W.taken out.old) (W.taken out.new) Nothing (IsAnswer (λ name. Rose (S.faults shelf.old name) (S.faults shelf.new name)) (S.content shelf.old)
+        (run file.now (option_map (λ s. s.now) starts.entry) setting.env setting.budget (option_map (λ s. s.now) name.entry))) result }
+    ensures write { result ≡ Status.WriteFault → Rose (W.faults out.old) (W.faults out.new) }
+    ensures sound { IsTrue (is_past_typing result) → IsAccepted (S.content shelf.old file.now) }
+{
+    match ready(alloc, shelf, file, starts, name) {
+        Ok((program, start)) => run_named(alloc, &program, start, setting, out),
+        Err(e) => stop(out, e),
+    }
+}

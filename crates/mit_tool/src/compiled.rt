@@ -1,0 +1,58 @@
+//! From a file to an image.
+
+ghost use Rattle.std.specs.Prelude.{◌≡◌, ◌≤◌, ℕ, List, IfOk, IfErr, OnOk, option_map};
+ghost use Rattle.tim_base.specs.Faults.{Rose};
+ghost use Rattle.mit_tool.specs.Ends.{IsStop};
+ghost use Rattle.mit_tool.specs.Answers.{HasCompiled, CompileStops};
+ghost use Rattle.mit_tool.specs.Accepted.{IsAccepted};
+
+use crate::laws::accepted_are_sound;
+use crate::stages::image::image;
+use crate::stages::observer::observer;
+use crate::stages::program::read_program;
+use crate::stages::types::typed;
+use crate::stop::Stop;
+use label_code::image::Image;
+use label_lattice::label::Label;
+use std::alloc::Global;
+use tim_base::shelf::Shelf;
+use timing_types::typed::Typed;
+
+/// An accepted program with its image, and the label of an observer where one is named.
+#[derive(Drop)]
+pub struct Compiled {
+    pub typed: Typed,
+    pub image: Image,
+    pub observer: Option<Label>,
+}
+
+/// From a file to an image, and from an observer's name to a label.
+///
+/// # Errors
+/// Stops with the first refusal, or with `Memory`.
+pub fn compile<S: Shelf>(
+    alloc: Global,
+    shelf: &mut S,
+    file: &str,
+    name: Option<&str>,
+) -> Result<Compiled, Stop>
+    ensures same { (name : List ℕ) → S.content shelf.new name ≡ S.content shelf.old name }
+    ensures later { (name : List ℕ) → S.faults shelf.old name ≤ S.faults shelf.new name }
+    ensures ok { IfOk result (λ r. HasCompiled (S.content shelf.old) file.now (option_map (λ s. s.now) name.entry) r.typed.labelled r.observer r.image) }
+    ensures stop { IfErr result (IsStop (CompileStops (λ name. Rose (S.faults shelf.old name) (S.faults shelf.new name)) (S.content shelf.old) file.now (option_map (λ s. s.now) name.entry))) }
+    ensures sound { OnOk result (IsAccepted (S.content shelf.old file.now)) }
+{
+    let program = read_program(alloc, shelf, file)?;
+    let _ = program.body();
+    let observer = observer(&program.lattice(), name)?;
+    let typed = typed(alloc, program)?;
+    accepted_are_sound();
+    match image(alloc, &typed) {
+        Ok(image) => Ok(Compiled {
+            typed,
+            image,
+            observer,
+        }),
+        Err(stop) => Err(stop),
+    }
+}

@@ -1,0 +1,18 @@
+//! What is true of every accepted program.
+
+ghost use Rattle.mit_tool.specs.Accepted.{AcceptedAreSound};
+
+use env_contract::flat::FlatEnv;
+use leak_bound::laws::few_sequences;
+use part_tlb::part::PartEnv;
+use part_tlb::part2::Part2Env;
+
+/// A law: in each environment that `--env` names, the image of an accepted program does what the program does,
+/// and of starts that agree for an observer few different sequences are seen.
+pub fn accepted_are_sound()
+    ensures { AcceptedAreSound }
+{
+    few_sequences::<FlatEnv>();
+    few_sequences::<PartEnv>();
+    few_sequences::<Part2Env>();
+}

@@ -1,0 +1,119 @@
+//! The top call: from the words of a command line to the text that is written, and a status.
+
+ghost use Rattle.std.specs.Prelude.{◌≡◌, ◌≤◌, ℕ, List, None, IfSome, IsTrue, map, string_bytes};
+ghost use Rattle.tim_base.specs.Faults.{Rose};
+ghost use Rattle.mit_tool.specs.Ends.{EndsBy, Nothing};
+ghost use Rattle.mit_tool.specs.WordsAsked.{IsInRange, command_of, check};
+ghost use Rattle.mit_tool.specs.WordsViews.{asked_of};
+ghost use Rattle.mit_tool.specs.Answers.{IsAnswer, IsUsage, Before, typed_file, is_past_typing};
+ghost use Rattle.mit_tool.specs.Accepted.{IsAccepted};
+
+use crate::commands::check::check_line;
+use crate::commands::meaning::meaning;
+use crate::commands::run::{Setting, run};
+use crate::finish::{finish, stop};
+use crate::status::Status;
+use crate::stop::Stop;
+use crate::words::{Command, WordsFault, read_words};
+use std::alloc::Global;
+use tim_base::shelf::Shelf;
+use tim_base::sink::Sink;
+
+/// Tells whether the program of a file is accepted.
+fn check<S: Shelf, W: Sink>(alloc: Global, shelf: &mut S, out: &mut W, file: &str) -> Status
+    ensures same { (name : List ℕ) → S.content shelf.new name ≡ S.content shelf.old name }
+    ensures later { (name : List ℕ) → S.faults shelf.old name ≤ S.faults shelf.new name }
+    ensures later_out { W.faults out.old ≤ W.faults out.new }
+    ensures answered { EndsBy (W.taken out.old) (W.taken out.new) Nothing
+        (IsAnswer (λ name. Rose (S.faults shelf.old name) (S.faults shelf.new name)) (S.content shelf.old) (check file.now)) result }
+    ensures write { result ≡ Status.WriteFault → Rose (W.faults out.old) (W.faults out.new) }
+    ensures sound { IsTrue (is_past_typing result) → IsAccepted (S.content shelf.old file.now) }
+{
+    match check_line(alloc, shelf, file) {
+        Ok(line) => finish(out, line.bytes(), Status::Done),
+        Err(e) => stop(out, e),
+    }
+}
+
+/// Does what words ask for.
+fn obey<S: Shelf, W: Sink>(
+    alloc: Global,
+    shelf: &mut S,
+    out: &mut W,
+    command: Command<'_>,
+) -> Status
+    ensures same { (name : List ℕ) → S.content shelf.new name ≡ S.content shelf.old name }
+    ensures later { (name : List ℕ) → S.faults shelf.old name ≤ S.faults shelf.new name }
+    ensures later_out { W.faults out.old ≤ W.faults out.new }
+    ensures answered { EndsBy (W.taken out.old) (W.taken out.new) (Before (S.content shelf.old) (asked_of command.entry))
+        (IsAnswer (λ name. Rose (S.faults shelf.old name) (S.faults shelf.new name)) (S.content shelf.old) (asked_of command.entry)) result }
+    ensures write { result ≡ Status.WriteFault → Rose (W.faults out.old) (W.faults out.new) }
+    ensures sound { IsTrue (is_past_typing result) → IfSome (typed_file (asked_of command.entry)) (λ file. IsAccepted (S.content shelf.old file)) }
+{
+    match command {
+        Command::Check { file } => check(alloc, shelf, out, file),
+        Command::Run {
+            file,
+            starts,
+            env,
+            budget,
+            observer,
+        } => {
+            let setting = Setting { env, budget };
+            run(alloc, shelf, out, file, starts, observer, setting)
+        }
+        Command::Meaning {
+            file,
+            starts,
+            steps,
+        } => meaning(alloc, shelf, out, file, starts, steps),
+        Command::Infer { .. }
+        | Command::Compile { .. }
+        | Command::Audit { .. }
+        | Command::Gen { .. }
+        | Command::Cut { .. }
+        | Command::Blackbox { .. }
+        | Command::Certify { .. }
+        | Command::Recheck { .. } => stop(out, Stop::Usage),
+    }
+}
+
+/// Does what the words of a command line ask for: reads files from a shelf, writes a text, and tells how it
+/// ended. The words don't hold the program's name. A run and a run without its time write a line at a time;
+/// every other text is written as one.
+///
+/// `answered`: the status and the text are the answer to the command that the words ask for, in the order of its
+/// refusals, from what the shelf is told to hold; a file may not be read only where the count of its faults rose.
+/// Where memory was wanting the text is the line for that, which in a run without its time stands after the
+/// lines of some of its steps. After a fault of the sink a prefix of the text is written.
+///
+/// `usage`: words that ask for nothing get the usage text.
+///
+/// `sound`: where the command came past the typing of a program, that program is accepted, and in each environment
+/// its image does what it does, and shows few different sequences.
+pub fn mitigate_main<S: Shelf, W: Sink>(
+    alloc: Global,
+    words: &[String],
+    shelf: &mut S,
+    out: &mut W,
+) -> Status
+    ensures answered { IfSome (command_of (map string_bytes words.now)) (λ a.
+        EndsBy (W.taken out.old) (W.taken out.new) (Before (S.content shelf.old) a)
+        (IsAnswer (λ name. Rose (S.faults shelf.old name) (S.faults shelf.new name)) (S.content shelf.old) a) result) }
+    ensures usage { command_of (map string_bytes words.now) ≡ None
+        → EndsBy (W.taken out.old) (W.taken out.new) Nothing IsUsage result }
+    ensures sound { IsTrue (is_past_typing result) → IfSome (command_of (map string_bytes words.now)) (λ a.
+        IfSome (typed_file a) (λ file. IsAccepted (S.content shelf.old file))) }
+    ensures write { result ≡ Status.WriteFault → Rose (W.faults out.old) (W.faults out.new) }
+
+    // No file changes, and no count of faults falls.
+    ensures same { (name : List ℕ) → S.content shelf.new name ≡ S.content shelf.old name }
+    ensures later { (name : List ℕ) → S.faults shelf.old name ≤ S.faults shelf.new name }
+    ensures later_out { W.faults out.old ≤ W.faults out.new }
+{
+    match read_words(alloc, words) {
+        Ok(command) => obey(alloc, shelf, out, command),
+        Err(WordsFault::Usage) => stop(out, Stop::Usage),
+        Err(WordsFault::Memory) => finish(out, b"memory\n", Status::Memory),
+    }
+}

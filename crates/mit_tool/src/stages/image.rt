@@ -1,0 +1,32 @@
+//! From a typed program to its image.
+
+ghost use Rattle.std.specs.Prelude.{◌≡◌, IfOk, IfErr, codes};
+ghost use Rattle.mit_tool.specs.Ends.{IsStop};
+ghost use Rattle.mit_tool.specs.Stages.{HasImage, ImageStops};
+
+use super::no_memory;
+use crate::lines;
+use crate::status::Status;
+use crate::stop::Stop;
+use code_lower::lower::{LowerFault, lower};
+use label_code::image::Image;
+use std::alloc::Global;
+use timing_types::typed::Typed;
+
+/// The image of a typed program.
+///
+/// # Errors
+/// Stops with `TooLong` where it would have more than 200,000 instructions, or with `Memory`.
+pub fn image(alloc: Global, p: &Typed) -> Result<Image, Stop>
+    ensures ok { IfOk result (HasImage p.now.labelled) }
+    ensures stop { IfErr result (IsStop (ImageStops p.now.labelled)) }
+{
+    match lower(alloc, p) {
+        Ok(image) => Ok(image),
+        Err(LowerFault::TooLong(count)) => Err(Stop::With {
+            status: Status::TooLong,
+            line: lines::number(b"too long: image ", count),
+        }),
+        Err(LowerFault::Memory) => Err(no_memory()),
+    }
+}
