@@ -16,8 +16,7 @@ use Rattle.mit_syntax.specs.Program.{Syntax}
 use Rattle.mit_parser.specs.declared.fault.ParseFault.{ParseFault}
 use Rattle.mit_parser.specs.declared.fault.ParseFault.TheVariants as parse
 use Rattle.mit_parser.specs.Words.{told}
-use Rattle.mit_parser.specs.Spells.{IsProgram}
-use Rattle.mit_parser.specs.Faults.{Refuses}
+use Rattle.mit_parser.specs.Spells.{IsProgram, Refuses}
 use Rattle.start_file.specs.declared.fault.StartFault.{StartFault}
 use Rattle.start_file.specs.declared.fault.StartFault.TheVariants as start
 use Rattle.start_file.specs.Starts.{StartValue, Gives}

@@ -5,7 +5,7 @@ ghost use Rattle.tim_base.specs.Faults.{Rose};
 ghost use Rattle.tim_base.specs.Told.{limit, IsTold};
 ghost use Rattle.mit_syntax.specs.Cut.{AreTokens, IsFault};
 ghost use Rattle.mit_parser.specs.Words.{told};
-ghost use Rattle.mit_parser.specs.Faults.{Refuses};
+ghost use Rattle.mit_parser.specs.Spells.{Refuses};
 ghost use Rattle.mit_tool.specs.Ends.{IsStop};
 ghost use Rattle.mit_tool.specs.Stages.{Reads, ProgramStops};
 
