@@ -1,0 +1,15 @@
+pub mod Counted
+pub mod Within
+pub mod OneExpression
+pub mod OneProgram
+pub mod Refused
+pub mod Meant
+pub mod Numerals
+pub mod Apart
+pub mod Saying
+pub mod Parted
+pub mod ReadExpression
+pub mod ReadCommands
+pub mod Looking
+pub mod ReadHeader
+pub mod WholeText
