@@ -1,6 +1,4 @@
 -- What is known of a run to an observer.
--- the events that a turn tells
-pub use Rattle.event_print.proofs.Goes.{events_of}
 use Rattle.std.specs.Prelude.{◌≡◌, ◌≤◌, ◌+◌, ℕ, List, map, length, Bool, false, slice_index_or}
 use Rattle.std.proofs.Common.{Vec, Global}
 use Rattle.timing_types.specs.Labelled.{LabelledProgram, order_of, labels_of}
@@ -16,6 +14,8 @@ use Rattle.leak_bound.proofs.Tells.{begun_count}
 use Rattle.audit_parts.specs.declared.sighting.Sighting.{Sighting}
 use Rattle.audit_parts.specs.declared.observe.Tally.{Tally}
 use Rattle.audit_parts.specs.declared.observe.Observed.{Observed}
+-- the events that a turn tells
+pub use Rattle.event_print.proofs.Goes.{events_of}
 
 -- the event that an observer sees, and the sequence
 abbrev pub event_of : Sighting → Event

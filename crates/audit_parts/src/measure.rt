@@ -44,7 +44,7 @@ pub fn measure(
     ensures { IfOk result (IsMeasure order.now observer.number limit mitigations (map sequence_of sequences.items)) }
 {
     let levels = order.not_below(observer);
-    order.size();
+    let _ = order.size();
     let classes = classify(alloc, sequences)?;
     Ok(Measures {
         levels,
