@@ -3,9 +3,10 @@
 
 use mit_tool::mitigate_main;
 use mit_tool::status::Status;
+use std::alloc::Global;
+use std::env;
 use std::io::{self, BufWriter, Write};
 use std::process::ExitCode;
-use std::{alloc::Global, env};
 use tim_base::shelf::FileShelf;
 use tim_base::sink::OutSink;
 

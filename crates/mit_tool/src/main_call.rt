@@ -8,6 +8,9 @@ ghost use Rattle.mit_tool.specs.WordsViews.{asked_of};
 ghost use Rattle.mit_tool.specs.Answers.{IsAnswer, IsUsage, Before, typed_file, is_past_typing};
 ghost use Rattle.mit_tool.specs.Accepted.{IsAccepted};
 
+#[cfg(test)]
+mod tests;
+
 use crate::commands::check::check_line;
 use crate::commands::meaning::meaning;
 use crate::commands::run::{Setting, run};

@@ -1,0 +1,851 @@
+use crate::mitigate_main;
+use std::alloc::{AllocError, Global};
+use std::test::Fail;
+use tim_base::shelf::MemShelf;
+use tim_base::sink::MemSink;
+
+// A call over memory: what it shows, the words, the files, the number of the read and of the write that fail (0
+// for none), and what is wanted.
+struct Row {
+    shows: &'static str,
+    words: &'static str,
+    files: &'static [(&'static str, &'static [u8])],
+    fetch_fails: u32,
+    write_fails: u32,
+    text: &'static str,
+    status: u8,
+}
+
+const ROOM: usize = 65536;
+
+const USAGE: &str = "usage: mitigate check FILE
+       mitigate infer FILE
+       mitigate compile FILE
+       mitigate run FILE [STARTS] [--env flat|part|part2] [--budget T] [--observer L]
+       mitigate meaning FILE [STARTS] --steps N
+       mitigate audit FILE STARTS --observer L [--env flat|part|part2] [--budget T]
+       mitigate gen SIZE NUMBER
+       mitigate cut FILE STARTS --observer L [--env flat|part|part2] [--budget T]
+       mitigate blackbox READY --first Q [--budget T]
+       mitigate certify FILE
+       mitigate recheck FILE CERTIFICATE
+";
+
+static ROWS: [Row; 74] = [
+    Row {
+        shows: "an assignment without caches",
+        words: "run p.mit --env flat",
+        files: &[("p.mit", b"var l : L; l := 7")],
+        fetch_fails: 0,
+        write_fails: 0,
+        text: "l = 7 @2\nend @3\n",
+        status: 0,
+    },
+    Row {
+        shows: "an assignment with cold caches",
+        words: "run p.mit --env part",
+        files: &[("p.mit", b"var l : L; l := 7")],
+        fetch_fails: 0,
+        write_fails: 0,
+        text: "l = 7 @62\nend @63\n",
+        status: 0,
+    },
+    Row {
+        shows: "caches are the default",
+        words: "run p.mit",
+        files: &[("p.mit", b"var l : L; l := 7")],
+        fetch_fails: 0,
+        write_fails: 0,
+        text: "l = 7 @62\nend @63\n",
+        status: 0,
+    },
+    Row {
+        shows: "a second level of caches",
+        words: "run p.mit --env part2",
+        files: &[("p.mit", b"var l : L; l := 7")],
+        fetch_fails: 0,
+        write_fails: 0,
+        text: "l = 7 @122\nend @123\n",
+        status: 0,
+    },
+    Row {
+        shows: "a line that was fetched is a hit",
+        words: "run p.mit --env part",
+        files: &[("p.mit", b"var l : L; l := 7; l := 8")],
+        fetch_fails: 0,
+        write_fails: 0,
+        text: "l = 7 @62\nl = 8 @64\nend @65\n",
+        status: 0,
+    },
+    Row {
+        shows: "a sleep of less than nothing",
+        words: "run p.mit --env flat",
+        files: &[("p.mit", b"var l : L; sleep 0 - 3; l := 1")],
+        fetch_fails: 0,
+        write_fails: 0,
+        text: "l = 1 @6\nend @7\n",
+        status: 0,
+    },
+    Row {
+        shows: "a cut inside a run",
+        words: "run p.mit --env flat --budget 5",
+        files: &[("p.mit", b"var l : L; sleep 0 - 3; l := 1")],
+        fetch_fails: 0,
+        write_fails: 0,
+        text: "limit @5\n",
+        status: 8,
+    },
+    Row {
+        shows: "a mitigation that ends in time",
+        words: "run p.mit --env part",
+        files: &[(
+            "p.mit",
+            b"var l : L; var h : H; mitigate (64, H) { while h > 0 do { h := h - 1 } }; l := 1",
+        )],
+        fetch_fails: 0,
+        write_fails: 0,
+        text: "l = 1 @104\nend @105\n",
+        status: 0,
+    },
+    Row {
+        shows: "a mitigation that misses once",
+        words: "run p.mit s.toml --env part",
+        files: &[
+            (
+                "p.mit",
+                b"var l : L; var h : H; mitigate (64, H) { while h > 0 do { h := h - 1 } }; l := 1",
+            ),
+            ("s.toml", b"[[run]]\nmemory = { h = 3 }\n\n"),
+        ],
+        fetch_fails: 0,
+        write_fails: 0,
+        text: "h = 2 @78\nh = 1 @86\nh = 0 @94\nl = 1 @168\nend @169\n",
+        status: 0,
+    },
+    Row {
+        shows: "what an observer sees",
+        words: "run p.mit s.toml --env part --observer L",
+        files: &[
+            (
+                "p.mit",
+                b"var l : L; var h : H; mitigate (64, H) { while h > 0 do { h := h - 1 } }; l := 1",
+            ),
+            ("s.toml", b"[[run]]\nmemory = { h = 3 }\n\n"),
+        ],
+        fetch_fails: 0,
+        write_fails: 0,
+        text: "l = 1 @168\nend @169\n",
+        status: 0,
+    },
+    Row {
+        shows: "five misses",
+        words: "run p.mit s.toml --env flat",
+        files: &[
+            (
+                "p.mit",
+                b"var l : L; var h : H; mitigate (1, H) { while h > 0 do { h := h - 1 } }; l := 1",
+            ),
+            ("s.toml", b"[[run]]\nmemory = { h = 3 }\n\n"),
+        ],
+        fetch_fails: 0,
+        write_fails: 0,
+        text: "h = 2 @10\nh = 1 @18\nh = 0 @26\nl = 1 @36\nend @37\n",
+        status: 0,
+    },
+    Row {
+        shows: "three misses",
+        words: "run p.mit s.toml --env flat",
+        files: &[
+            (
+                "p.mit",
+                b"var l : L; var h : H; mitigate (1, H) { while h > 0 do { h := h - 1 } }; l := 1",
+            ),
+            ("s.toml", b"[[run]]\nmemory = { h = 0 }\n\n"),
+        ],
+        fetch_fails: 0,
+        write_fails: 0,
+        text: "l = 1 @12\nend @13\n",
+        status: 0,
+    },
+    Row {
+        shows: "elapsed time that is exactly the prediction is a miss",
+        words: "run p.mit --env flat",
+        files: &[(
+            "p.mit",
+            b"mitigate (8, H) { skip; skip; skip; skip; skip; skip; skip }",
+        )],
+        fetch_fails: 0,
+        write_fails: 0,
+        text: "end @19\n",
+        status: 0,
+    },
+    Row {
+        shows: "an estimate of 0",
+        words: "run p.mit --env flat",
+        files: &[("p.mit", b"mitigate (0, H) { skip }")],
+        fetch_fails: 0,
+        write_fails: 0,
+        text: "end @7\n",
+        status: 0,
+    },
+    Row {
+        shows: "an estimate below 0",
+        words: "run p.mit --env flat",
+        files: &[("p.mit", b"mitigate (0 - 5, H) { skip }")],
+        fetch_fails: 0,
+        write_fails: 0,
+        text: "end @9\n",
+        status: 0,
+    },
+    Row {
+        shows: "levels that do not flow to each other",
+        words: "run p.mit s.toml --env flat --observer A",
+        files: &[
+            (
+                "p.mit",
+                b"labels L, A, B, H; order L < A, L < B, A < H, B < H; var l : L; var b : B; var h : H; mitigate (4, B) { while b > 0 do { b := b - 1 } }; mitigate (4, H) { while h > 0 do { h := h - 1 } }; l := 1",
+            ),
+            ("s.toml", b"[[run]]\nmemory = { b = 1, h = 0 }\n\n"),
+        ],
+        fetch_fails: 0,
+        write_fails: 0,
+        text: "l = 1 @30\nend @31\n",
+        status: 0,
+    },
+    Row {
+        shows: "a mitigation inside a mitigation",
+        words: "run p.mit s.toml --env flat",
+        files: &[
+            (
+                "p.mit",
+                b"var l : L; var h : H; mitigate (16, H) { mitigate (2, H) { h := h * h }; l := 1 }",
+            ),
+            ("s.toml", b"[[run]]\nmemory = { h = 3 }\n\n"),
+        ],
+        fetch_fails: 0,
+        write_fails: 0,
+        text: "h = 9 @9\nl = 1 @14\nend @67\n",
+        status: 0,
+    },
+    Row {
+        shows: "a wide product",
+        words: "run p.mit s.toml --env flat",
+        files: &[
+            (
+                "p.mit",
+                b"var l : L; var h : H; mitigate (16, H) { mitigate (2, H) { h := h * h }; l := 1 }",
+            ),
+            ("s.toml", b"[[run]]\nmemory = { h = 40000 }\n\n"),
+        ],
+        fetch_fails: 0,
+        write_fails: 0,
+        text: "h = 1600000000 @12\nl = 1 @22\nend @131\n",
+        status: 0,
+    },
+    Row {
+        shows: "misses of one level add up",
+        words: "run p.mit s.toml --env flat",
+        files: &[
+            (
+                "p.mit",
+                b"var l : L; var h : H; mitigate (1, H) { if h > 0 then { mitigate (1, H) { h := h * h } } }; l := 1",
+            ),
+            ("s.toml", b"[[run]]\nmemory = { h = 1 }\n\n"),
+        ],
+        fetch_fails: 0,
+        write_fails: 0,
+        text: "h = 1 @13\nl = 1 @36\nend @37\n",
+        status: 0,
+    },
+    Row {
+        shows: "the last event ends at the budget",
+        words: "run p.mit --env part --budget 62",
+        files: &[("p.mit", b"var l : L; l := 7")],
+        fetch_fails: 0,
+        write_fails: 0,
+        text: "l = 7 @62\nlimit @62\n",
+        status: 8,
+    },
+    Row {
+        shows: "the end is at the budget",
+        words: "run p.mit --env part --budget 63",
+        files: &[("p.mit", b"var l : L; l := 7")],
+        fetch_fails: 0,
+        write_fails: 0,
+        text: "l = 7 @62\nend @63\n",
+        status: 0,
+    },
+    Row {
+        shows: "a budget of 0",
+        words: "run p.mit --env part --budget 0",
+        files: &[("p.mit", b"var l : L; l := 7")],
+        fetch_fails: 0,
+        write_fails: 0,
+        text: USAGE,
+        status: 4,
+    },
+    Row {
+        shows: "a budget above the greatest",
+        words: "run p.mit --env part --budget 1099511627777",
+        files: &[("p.mit", b"var l : L; l := 7")],
+        fetch_fails: 0,
+        write_fails: 0,
+        text: USAGE,
+        status: 4,
+    },
+    Row {
+        shows: "steps to the end",
+        words: "meaning p.mit --steps 10",
+        files: &[("p.mit", b"var x : L; x := 2; while x do { x := x - 1 }")],
+        fetch_fails: 0,
+        write_fails: 0,
+        text: "x = 2\nx = 1\nx = 0\nended after 6 steps\n",
+        status: 0,
+    },
+    Row {
+        shows: "steps that do not suffice",
+        words: "meaning p.mit --steps 3",
+        files: &[("p.mit", b"var x : L; x := 2; while x do { x := x - 1 }")],
+        fetch_fails: 0,
+        write_fails: 0,
+        text: "x = 2\nx = 1\nnot ended after 3 steps\n",
+        status: 0,
+    },
+    Row {
+        shows: "no steps",
+        words: "meaning p.mit --steps 0",
+        files: &[("p.mit", b"var x : L; x := 2; while x do { x := x - 1 }")],
+        fetch_fails: 0,
+        write_fails: 0,
+        text: "not ended after 0 steps\n",
+        status: 0,
+    },
+    Row {
+        shows: "quotients and remainders",
+        words: "meaning p.mit --steps 9",
+        files: &[(
+            "p.mit",
+            b"var a : L; a := (0 - 9223372036854775807 - 1) / (0 - 1); a := 7 / 0; a := 7 % 0; a := (0 - 7) % 3",
+        )],
+        fetch_fails: 0,
+        write_fails: 0,
+        text: "a = -9223372036854775808\na = 0\na = 7\na = -1\nended after 4 steps\n",
+        status: 0,
+    },
+    Row {
+        shows: "elements of an array by their places",
+        words: "meaning p.mit --steps 9",
+        files: &[(
+            "p.mit",
+            b"var a[3] : L; var i : L; a[4] := 5; i := a[0 - 2]; a[i] := 1",
+        )],
+        fetch_fails: 0,
+        write_fails: 0,
+        text: "a[1] = 5\ni = 5\na[2] = 1\nended after 3 steps\n",
+        status: 0,
+    },
+    Row {
+        shows: "an empty program",
+        words: "run p.mit --env flat",
+        files: &[("p.mit", b"")],
+        fetch_fails: 0,
+        write_fails: 0,
+        text: "syntax: unexpected at 1:1\n",
+        status: 2,
+    },
+    Row {
+        shows: "half an assignment",
+        words: "run p.mit --env flat",
+        files: &[("p.mit", b"var l : L; l :")],
+        fetch_fails: 0,
+        write_fails: 0,
+        text: "syntax: unexpected at 1:14\n",
+        status: 2,
+    },
+    Row {
+        shows: "a name that is not declared",
+        words: "run p.mit --env flat",
+        files: &[("p.mit", b"l := 7")],
+        fetch_fails: 0,
+        write_fails: 0,
+        text: "syntax: unknown name at 1:1\n",
+        status: 2,
+    },
+    Row {
+        shows: "a byte that begins no token",
+        words: "run p.mit --env flat",
+        files: &[("p.mit", b"skip $")],
+        fetch_fails: 0,
+        write_fails: 0,
+        text: "syntax: bad byte at 1:6\n",
+        status: 2,
+    },
+    Row {
+        shows: "bytes that are no text",
+        words: "run p.mit --env flat",
+        files: &[("p.mit", b"sk\xff")],
+        fetch_fails: 0,
+        write_fails: 0,
+        text: "syntax: not UTF-8 at byte 2\n",
+        status: 2,
+    },
+    Row {
+        shows: "a number that is too wide",
+        words: "run p.mit --env flat",
+        files: &[("p.mit", b"sleep 9223372036854775808")],
+        fetch_fails: 0,
+        write_fails: 0,
+        text: "syntax: wide number at 1:7\n",
+        status: 2,
+    },
+    Row {
+        shows: "a name that is too long",
+        words: "run p.mit --env flat",
+        files: &[("p.mit", b"aaaaaaaaaaaaaaaaaaaaaaaaaaaaaaaaa")],
+        fetch_fails: 0,
+        write_fails: 0,
+        text: "syntax: long name at 1:1\n",
+        status: 2,
+    },
+    Row {
+        shows: "a hundred open brackets",
+        words: "run p.mit --env flat",
+        files: &[(
+            "p.mit",
+            b"sleep ((((((((((((((((((((((((((((((((((((((((((((((((((((((((((((((((((((((((((((((((((((((((((((((((((((1))))))))))))))))))))))))))))))))))))))))))))))))))))))))))))))))))))))))))))))))))))))))))))))))))))",
+        )],
+        fetch_fails: 0,
+        write_fails: 0,
+        text: "end @4\n",
+        status: 0,
+    },
+    Row {
+        shows: "one bracket more",
+        words: "run p.mit --env flat",
+        files: &[(
+            "p.mit",
+            b"sleep (((((((((((((((((((((((((((((((((((((((((((((((((((((((((((((((((((((((((((((((((((((((((((((((((((((1)))))))))))))))))))))))))))))))))))))))))))))))))))))))))))))))))))))))))))))))))))))))))))))))))))))",
+        )],
+        fetch_fails: 0,
+        write_fails: 0,
+        text: "syntax: too deep at 1:107\n",
+        status: 2,
+    },
+    Row {
+        shows: "labels without a join",
+        words: "run p.mit --env flat",
+        files: &[("p.mit", b"labels L, A, B; order L < A, L < B; skip")],
+        fetch_fails: 0,
+        write_fails: 0,
+        text: "syntax: no join of A and B\n",
+        status: 2,
+    },
+    Row {
+        shows: "labels without a bottom",
+        words: "run p.mit --env flat",
+        files: &[("p.mit", b"labels A, B, T; order A < T, B < T; skip")],
+        fetch_fails: 0,
+        write_fails: 0,
+        text: "syntax: no bottom below A and B\n",
+        status: 2,
+    },
+    Row {
+        shows: "labels in a circle",
+        words: "run p.mit --env flat",
+        files: &[("p.mit", b"labels A, B; order A < B, B < A; skip")],
+        fetch_fails: 0,
+        write_fails: 0,
+        text: "syntax: order cycle between A and B\n",
+        status: 2,
+    },
+    Row {
+        shows: "a direct flow",
+        words: "check p.mit",
+        files: &[("p.mit", b"var l : L; var h : H; l := h")],
+        fetch_fails: 0,
+        write_fails: 0,
+        text: "refused T-ASGN at 1:23: H does not flow to L\n",
+        status: 1,
+    },
+    Row {
+        shows: "a flow by timing alone",
+        words: "check p.mit",
+        files: &[(
+            "p.mit",
+            b"var l : L; var h : H; while h > 0 do { skip }; l := 1",
+        )],
+        fetch_fails: 0,
+        write_fails: 0,
+        text: "refused T-ASGN at 1:48: H does not flow to L\n",
+        status: 1,
+    },
+    Row {
+        shows: "a level that is too low",
+        words: "check p.mit",
+        files: &[("p.mit", b"var h : H; mitigate (1, L) { h := h }")],
+        fetch_fails: 0,
+        write_fails: 0,
+        text: "refused T-MTG at 1:12: H does not flow to L\n",
+        status: 1,
+    },
+    Row {
+        shows: "a write label that is too low",
+        words: "check p.mit",
+        files: &[("p.mit", b"var h : H; if h > 0 then { skip @[L, L] }")],
+        fetch_fails: 0,
+        write_fails: 0,
+        text: "refused T-SKIP at 1:28: H does not flow to L\n",
+        status: 1,
+    },
+    Row {
+        shows: "timing of labels side by side",
+        words: "run p.mit --env flat",
+        files: &[(
+            "p.mit",
+            b"labels P, A, B, T; order P < A, P < B, A < T, B < T; var a : A; var b : B; a := 1; b := 2",
+        )],
+        fetch_fails: 0,
+        write_fails: 0,
+        text: "refused T-ASGN at 1:84: A does not flow to B\n",
+        status: 1,
+    },
+    Row {
+        shows: "a written label below an index",
+        words: "check p.mit",
+        files: &[(
+            "p.mit",
+            b"var a[4] : L; var h : H; var g : H; g := a[h] @[L, L]",
+        )],
+        fetch_fails: 0,
+        write_fails: 0,
+        text: "refused T-ASGN at 1:37: H does not flow to L\n",
+        status: 1,
+    },
+    Row {
+        shows: "omitted labels",
+        words: "check p.mit",
+        files: &[(
+            "p.mit",
+            b"var x; var h : H; x := h; mitigate (1) { x := h }",
+        )],
+        fetch_fails: 0,
+        write_fails: 0,
+        text: "accepted: commands 3, mitigates 1\n",
+        status: 0,
+    },
+    Row {
+        shows: "an accepted program",
+        words: "check p.mit",
+        files: &[(
+            "p.mit",
+            b"var l : L; var h : H; mitigate (64, H) { while h > 0 do { h := h - 1 } }; l := 1",
+        )],
+        fetch_fails: 0,
+        write_fails: 0,
+        text: "accepted: commands 4, mitigates 1\n",
+        status: 0,
+    },
+    Row {
+        shows: "an accepted index",
+        words: "check p.mit",
+        files: &[("p.mit", b"var a[4] : L; var h : H; var g : H; g := a[h]")],
+        fetch_fails: 0,
+        write_fails: 0,
+        text: "accepted: commands 1, mitigates 0\n",
+        status: 0,
+    },
+    Row {
+        shows: "an array without elements",
+        words: "check p.mit",
+        files: &[("p.mit", b"var a[0] : L; skip")],
+        fetch_fails: 0,
+        write_fails: 0,
+        text: "syntax: array size at 1:7\n",
+        status: 2,
+    },
+    Row {
+        shows: "an index on a scalar",
+        words: "check p.mit",
+        files: &[("p.mit", b"var x : L; x[0] := 1")],
+        fetch_fails: 0,
+        write_fails: 0,
+        text: "syntax: wrong use of a name at 1:12\n",
+        status: 2,
+    },
+    Row {
+        shows: "a file that is absent",
+        words: "run p.mit --env part",
+        files: &[],
+        fetch_fails: 0,
+        write_fails: 0,
+        text: "read fault: program\n",
+        status: 5,
+    },
+    Row {
+        shows: "starts without runs",
+        words: "run p.mit s.toml",
+        files: &[("p.mit", b"var l : L; l := 7"), ("s.toml", b"version = 1")],
+        fetch_fails: 0,
+        write_fails: 0,
+        text: "starts: no runs\n",
+        status: 3,
+    },
+    Row {
+        shows: "touches of a low label",
+        words: "run p.mit s.toml",
+        files: &[
+            ("p.mit", b"var l : L; l := 7"),
+            (
+                "s.toml",
+                b"[[run]]\ntouch = [\n  { place = \"page\", label = \"L\", address = 0 },\n  { place = \"page\", label = \"L\", address = 1048576 },\n  { place = \"code\", label = \"L\", address = 0 },\n  { place = \"data\", label = \"L\", address = 1048576 },\n]\n",
+            ),
+        ],
+        fetch_fails: 0,
+        write_fails: 0,
+        text: "l = 7 @2\nend @3\n",
+        status: 0,
+    },
+    Row {
+        shows: "touches of a high label",
+        words: "run p.mit s.toml",
+        files: &[
+            ("p.mit", b"var l : L; l := 7"),
+            (
+                "s.toml",
+                b"[[run]]\ntouch = [\n  { place = \"page\", label = \"H\", address = 0 },\n  { place = \"page\", label = \"H\", address = 1048576 },\n  { place = \"code\", label = \"H\", address = 0 },\n  { place = \"data\", label = \"H\", address = 1048576 },\n]\n",
+            ),
+        ],
+        fetch_fails: 0,
+        write_fails: 0,
+        text: "l = 7 @62\nend @63\n",
+        status: 0,
+    },
+    Row {
+        shows: "a version that is not known",
+        words: "run p.mit s.toml",
+        files: &[
+            ("p.mit", b"var l : L; l := 7"),
+            ("s.toml", b"version = 3\n"),
+        ],
+        fetch_fails: 0,
+        write_fails: 0,
+        text: "starts: version\n",
+        status: 3,
+    },
+    Row {
+        shows: "values of an array",
+        words: "run p.mit s.toml --env part",
+        files: &[
+            (
+                "p.mit",
+                b"var a[64] : L; var h : H; var l : L; mitigate (64, H) { h := a[0] + a[h] }; l := 1",
+            ),
+            (
+                "s.toml",
+                b"version = 2\n[[run]]\nmemory = { h = 1, a = [5] }\n",
+            ),
+        ],
+        fetch_fails: 0,
+        write_fails: 0,
+        text: "h = 5 @80\nl = 1 @128\nend @129\n",
+        status: 0,
+    },
+    Row {
+        shows: "an array in the first version",
+        words: "run p.mit s.toml --env part",
+        files: &[
+            (
+                "p.mit",
+                b"var a[64] : L; var h : H; var l : L; mitigate (64, H) { h := a[0] + a[h] }; l := 1",
+            ),
+            (
+                "s.toml",
+                b"version = 1\n[[run]]\nmemory = { h = 1, a = [5] }\n",
+            ),
+        ],
+        fetch_fails: 0,
+        write_fails: 0,
+        text: "starts: run 1: unknown key\n",
+        status: 3,
+    },
+    Row {
+        shows: "starts that are no document",
+        words: "run p.mit s.toml",
+        files: &[("p.mit", b"var l : L; l := 7"), ("s.toml", b"[[run]")],
+        fetch_fails: 0,
+        write_fails: 0,
+        text: "starts: not TOML\n",
+        status: 3,
+    },
+    Row {
+        shows: "a mitigation past the budget",
+        words: "run p.mit --env flat",
+        files: &[("p.mit", b"mitigate (9223372036854775807, H) { skip }")],
+        fetch_fails: 0,
+        write_fails: 0,
+        text: "limit @3\n",
+        status: 8,
+    },
+    Row {
+        shows: "a sleep past the budget",
+        words: "run p.mit --env flat",
+        files: &[("p.mit", b"sleep 9223372036854775807")],
+        fetch_fails: 0,
+        write_fails: 0,
+        text: "limit @1\n",
+        status: 8,
+    },
+    Row {
+        shows: "the least estimate",
+        words: "run p.mit --env flat",
+        files: &[(
+            "p.mit",
+            b"mitigate (0 - 9223372036854775807 - 1, H) { skip }",
+        )],
+        fetch_fails: 0,
+        write_fails: 0,
+        text: "end @11\n",
+        status: 0,
+    },
+    Row {
+        shows: "the least sleep",
+        words: "run p.mit --env flat",
+        files: &[("p.mit", b"sleep 0 - 9223372036854775807 - 1")],
+        fetch_fails: 0,
+        write_fails: 0,
+        text: "end @7\n",
+        status: 0,
+    },
+    Row {
+        shows: "elements by their places, with cycles",
+        words: "run p.mit --env flat",
+        files: &[("p.mit", b"var a[4] : L; a[5] := 7; a[0 - 1] := 8")],
+        fetch_fails: 0,
+        write_fails: 0,
+        text: "a[1] = 7 @3\na[3] = 8 @8\nend @9\n",
+        status: 0,
+    },
+    Row {
+        shows: "an element with cold caches",
+        words: "run p.mit --env part",
+        files: &[("p.mit", b"var a[4] : L; a[5] := 7")],
+        fetch_fails: 0,
+        write_fails: 0,
+        text: "a[1] = 7 @63\nend @64\n",
+        status: 0,
+    },
+    Row {
+        shows: "options with an equals sign",
+        words: "run p.mit --env=flat --budget=10",
+        files: &[("p.mit", b"var l : L; l := 7")],
+        fetch_fails: 0,
+        write_fails: 0,
+        text: "l = 7 @2\nend @3\n",
+        status: 0,
+    },
+    Row {
+        shows: "no words",
+        words: "",
+        files: &[],
+        fetch_fails: 0,
+        write_fails: 0,
+        text: USAGE,
+        status: 4,
+    },
+    Row {
+        shows: "a write that fails after a line",
+        words: "run p.mit",
+        files: &[("p.mit", b"var l : L; l := 7")],
+        fetch_fails: 0,
+        write_fails: 2,
+        text: "l = 7 @62\n",
+        status: 6,
+    },
+    Row {
+        shows: "a first write that fails",
+        words: "check p.mit",
+        files: &[("p.mit", b"var l : L; l := 7")],
+        fetch_fails: 0,
+        write_fails: 1,
+        text: "",
+        status: 6,
+    },
+    Row {
+        shows: "a read that fails",
+        words: "check p.mit",
+        files: &[("p.mit", b"var l : L; l := 7")],
+        fetch_fails: 1,
+        write_fails: 0,
+        text: "read fault: program\n",
+        status: 5,
+    },
+    Row {
+        shows: "a second read that fails",
+        words: "run p.mit s.toml",
+        files: &[("p.mit", b"var l : L; l := 7")],
+        fetch_fails: 2,
+        write_fails: 0,
+        text: "read fault: starts\n",
+        status: 5,
+    },
+    Row {
+        shows: "an observer that is no label",
+        words: "run p.mit --observer X",
+        files: &[("p.mit", b"var l : L; l := 7")],
+        fetch_fails: 0,
+        write_fails: 0,
+        text: USAGE,
+        status: 4,
+    },
+    Row {
+        shows: "a program is read before an observer",
+        words: "run p.mit --observer X",
+        files: &[("p.mit", b"skip $")],
+        fetch_fails: 0,
+        write_fails: 0,
+        text: "syntax: bad byte at 1:6\n",
+        status: 2,
+    },
+    Row {
+        shows: "an environment that is not known",
+        words: "run p.mit --env none",
+        files: &[("p.mit", b"var l : L; l := 7")],
+        fetch_fails: 0,
+        write_fails: 0,
+        text: USAGE,
+        status: 4,
+    },
+];
+
+fn split(alloc: Global, line: &str) -> Result<Vec<String>, AllocError> {
+    let mut words = Vec::new(alloc);
+    for word in line.split_whitespace() {
+        words.push(String::from_str(alloc, word)?)?;
+    }
+    Ok(words)
+}
+
+// The status and the text of a row.
+fn run_row(alloc: Global, row: &Row) -> Result<(u8, MemSink), AllocError> {
+    let words = split(alloc, row.words)?;
+    let mut shelf = MemShelf::new(alloc);
+    for (name, bytes) in row.files {
+        shelf.put(name, bytes).map_err(|_| AllocError)?;
+    }
+    shelf.fail_at(row.fetch_fails).map_err(|_| AllocError)?;
+    let mut sink = MemSink::new_with_room(alloc, ROOM).map_err(|_| AllocError)?;
+    sink.fail_at(row.write_fails).map_err(|_| AllocError)?;
+    let status = mitigate_main(alloc, words.as_slice(), &mut shelf, &mut sink);
+    Ok((status.number(), sink))
+}
+
+#[test]
+fn rows(rt: HostRuntime) -> Result<(), Fail> {
+    for row in &ROWS {
+        let (status, sink) = run_row(rt.alloc(), row)?;
+        let shows = row.shows;
+        assert_eq!(rt; status, row.status, "at {shows}");
+        assert!(rt; sink.bytes() == row.text.as_bytes(), "at {shows}");
+    }
+    Ok(())
+}
