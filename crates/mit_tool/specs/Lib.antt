@@ -8,3 +8,4 @@ pub mod Answers
 pub mod Ends
 pub mod Means
 pub mod Accepted
+pub mod Statuses

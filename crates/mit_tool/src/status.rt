@@ -1,5 +1,8 @@
 //! How a call ended.
 
+ghost use Rattle.std.specs.Prelude.{◌≡◌};
+ghost use Rattle.mit_tool.specs.Statuses.{exit_number};
+
 /// How a call ended, in the order of the exit numbers.
 #[derive(Clone, Copy, Debug, PartialEq, Eq)]
 pub enum Status {
@@ -31,7 +34,9 @@ pub enum Status {
 
 impl Status {
     /// The exit number.
-    pub fn number(&self) -> u8 {
+    pub fn number(&self) -> u8
+        ensures { result ≡ exit_number self.now }
+    {
         match self {
             Status::Done => 0,
             Status::Refused => 1,
