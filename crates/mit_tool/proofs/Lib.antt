@@ -9,3 +9,8 @@ pub mod StopLemmas
 pub mod RunLemmas
 pub mod WalkLemmas
 pub mod AskedLemmas
+pub mod PrepareLemmas
+pub mod AuditLemmas
+pub mod EarlyLemmas
+pub mod PieceLemmas
+pub mod TellLemmas

@@ -15,6 +15,13 @@ of_five x₀ x₁ x₂ x₃ x₄ x₅ a b c d e e₀ e₁ e₂ e₃ e₄ e₅ =
     let four : x₄ ≡ a ++ (b ++ (c ++ d)) = e₄ ∙ ap (λ l. l ++ d) three ∙ simp append_assoc in
     e₅ ∙ ap (λ l. l ++ e) four ∙ simp append_assoc
 
+pub of_seven : (x₀ x₁ x₂ x₃ x₄ x₅ x₆ x₇ a b c d e f g : List ℕ) → x₀ ≡ [] → x₁ ≡ x₀ ++ a → x₂ ≡ x₁ ++ b → x₃ ≡ x₂ ++ c → x₄ ≡ x₃ ++ d → x₅ ≡ x₄ ++ e → x₆ ≡ x₅ ++ f → x₇ ≡ x₆ ++ g
+    → x₇ ≡ a ++ (b ++ (c ++ (d ++ (e ++ (f ++ g)))))
+of_seven x₀ x₁ x₂ x₃ x₄ x₅ x₆ x₇ a b c d e f g e₀ e₁ e₂ e₃ e₄ e₅ e₆ e₇ =
+    let five : x₅ ≡ a ++ (b ++ (c ++ (d ++ e))) = of_five x₀ x₁ x₂ x₃ x₄ x₅ a b c d e e₀ e₁ e₂ e₃ e₄ e₅ in
+    let six : x₆ ≡ a ++ (b ++ (c ++ (d ++ (e ++ f)))) = e₆ ∙ ap (λ l. l ++ f) five ∙ simp append_assoc in
+    e₇ ∙ ap (λ l. l ++ g) six ∙ simp append_assoc
+
 module _ (text : List ℕ) (tokens : List Token) (i : ℕ) (d : Token) (h : i < length tokens) where
   at_place : named_at text tokens i ≡ named_at text (get_or tokens i d ∷ []) 0
   at_place = rw (slice_get-get_or tokens i d h)

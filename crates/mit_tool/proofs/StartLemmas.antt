@@ -1,5 +1,6 @@
 -- A start file that is taken has a first start, and the stops of a file that was read.
-use Rattle.std.proofs.Common.{◌≡◌, sym, ap, subst, ℕ, ◌<◌, ◌==◌, Bool, true, false, cond, nat_lt, List, [], ◌∷◌, length, map, All, get_or, Option, Some, None, Result, Ok, Err, arith, codes}
+use Rattle.std.proofs.Common.{◌≡◌, refl, sym, ap, subst, ℕ, ◌+◌, ◌<◌, ◌≤◌, ◌==◌, Bool, true, false, cond, nat_lt, List, [], ◌∷◌, length, map, All, get_or, Option, Some, None, Result, Ok, Err, arith, codes}
+use Rattle.std.proofs.lemmas.Bool.{ltb-false}
 use Rattle.std.proofs.lemmas.List.{length-map}
 use Rattle.toml.specs.Data.{Data, Items, no_items, item, Members, get_member, array}
 use Rattle.toml.specs.Data as toml
@@ -35,14 +36,34 @@ some_first ss (Err f) b e = absurd cc
 some_first ss (Ok s) (Err f) e = absurd cc
 some_first ss (Ok s) (Ok r) e = let same : ss ≡ s ∷ r = cc in omega (arith, ap length same)
 
-some_counted : (p : Syntax) (v : Version) (ds : Items) (ss : List StartValue) → Ok ss ≡ counted_runs p v ds → 0 < length ss
+-- an answer behind a test that refuses is one where the test fails
+else_test : (b : Bool) (ss : List StartValue) (r : Runs) (f : StartFault) → Ok ss ≡ cond b (Err f) r → b ≡ false
+else_test true ss r f e = absurd cc
+else_test false ss r f e = refl
+
+one_more : (ss : List StartValue) (a : Result StartValue StartFault) (b : Runs) (k : ℕ) → ((rest : List StartValue) → Ok rest ≡ b → length rest ≡ k) → Ok ss ≡ with_first a b → length ss ≡ 1 + k
+one_more ss (Err f) b k h e = absurd cc
+one_more ss (Ok s) (Err f) k h e = absurd cc
+one_more ss (Ok s) (Ok r) k h e = let same : ss ≡ s ∷ r = cc in let n = h r refl in omega (arith, ap length same, n)
+
+as_many : (p : Syntax) (v : Version) (n : ℕ) (ds : Items) (ss : List StartValue) → Ok ss ≡ runs_from p v n ds → length ss ≡ count_items ds
+as_many p v n no_items ss e = let same : ss ≡ [] = cc in ap length same
+as_many p v n (item d ds) ss e = one_more ss (run_of p v n d) (runs_from p v (n + 1) ds) (count_items ds) (λ rest k. as_many p v (n + 1) ds rest k) e
+
+-- there are 1 to 4,096
+abbrev IsCounted : List StartValue → Type 0
+IsCounted ss = (0 < length ss) × (length ss ≤ 4096)
+
+some_counted : (p : Syntax) (v : Version) (ds : Items) (ss : List StartValue) → Ok ss ≡ counted_runs p v ds → IsCounted ss
 some_counted p v no_items ss e = absurd cc
 some_counted p v (item d ds) ss e =
-    some_first ss (run_of p v 1 d) (runs_from p v 2 ds)
-    (else_part (nat_lt 4096 (count_items (item d ds))) ss (runs_from p v 1 (item d ds)) (TooMany (count_items (item d ds)))
-    (else_part (count_items (item d ds) == 0) ss _ NoRuns e))
+    let many = else_part (count_items (item d ds) == 0) ss _ NoRuns e in
+    let few = ltb-false 4096 (count_items (item d ds)) (else_test (nat_lt 4096 (count_items (item d ds))) ss (runs_from p v 1 (item d ds)) (TooMany (count_items (item d ds))) many) in
+    let all = else_part (nat_lt 4096 (count_items (item d ds))) ss (runs_from p v 1 (item d ds)) (TooMany (count_items (item d ds))) many in
+    let n = as_many p v 1 (item d ds) ss all in
+    (some_first ss (run_of p v 1 d) (runs_from p v 2 ds) all, omega (arith, few, n))
 
-some_runs : (p : Syntax) (v : Version) (d : Option Data) (ss : List StartValue) → Ok ss ≡ runs_of p v d → 0 < length ss
+some_runs : (p : Syntax) (v : Version) (d : Option Data) (ss : List StartValue) → Ok ss ≡ runs_of p v d → IsCounted ss
 some_runs p v None ss e = absurd cc
 some_runs p v (Some (array ds)) ss e = some_counted p v ds ss e
 some_runs p v (Some (toml.string x)) ss e = absurd cc
@@ -52,19 +73,23 @@ some_runs p v (Some (toml.boolean x)) ss e = absurd cc
 some_runs p v (Some (toml.datetime x)) ss e = absurd cc
 some_runs p v (Some (toml.table x)) ss e = absurd cc
 
-some_versioned : (p : Syntax) (v : Option Version) (ms : Members) (ss : List StartValue) → Ok ss ≡ versioned p v ms → 0 < length ss
+some_versioned : (p : Syntax) (v : Option Version) (ms : Members) (ss : List StartValue) → Ok ss ≡ versioned p v ms → IsCounted ss
 some_versioned p None ms ss e = absurd cc
 some_versioned p (Some v) ms ss e =
     some_runs p v (get_member (codes "run") ms) ss (then_part (keys_pass is_top_key ms) ss (runs_of p v (get_member (codes "run") ms)) (UnknownKey 0) e)
 
-some_starts : (p : Syntax) (d : Option Members) (ss : List StartValue) → Ok ss ≡ starts_in p d → 0 < length ss
+some_starts : (p : Syntax) (d : Option Members) (ss : List StartValue) → Ok ss ≡ starts_in p d → IsCounted ss
 some_starts p None ss e = absurd cc
 some_starts p (Some ms) ss e = some_versioned p (version_of (get_member (codes "version") ms)) ms ss e
 
+-- how many starts there are
+pub count_given : (content : Option (Option (List ℕ))) (p : Syntax) (ss : List StartValue) → StartsAre content p ss → (0 < length ss) × (length ss ≤ 4096)
+count_given content p ss h = some_starts p h.3.0 ss h.3.2
+
 pub some_given : (content : Option (Option (List ℕ))) (p : Syntax) (ss : List Start) → StartsAre content p (map seen ss) → 0 < length ss
 some_given content p ss h =
-    let some = some_starts p h.3.0 (map seen ss) h.3.2 in
-    omega (arith, some, length-map ss seen)
+    let some = count_given content p (map seen ss) h in
+    omega (arith, some.0, length-map ss seen)
 
 pub first_given : (content : Option (Option (List ℕ))) (p : Syntax) (ss : List Start) (s : Start) → StartsAre content p (map seen ss) → s ≡ get_or ss 0 s
     → (others : List StartValue) × StartsAre content p (seen s ∷ others)

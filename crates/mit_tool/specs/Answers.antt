@@ -1,21 +1,28 @@
 -- The answer of the tool to words: its status and its text, from what the files are told to hold.
-use Rattle.std.specs.Prelude.{◌≡◌, ◌⊎◌, ◌≤◌, ℕ, Bool, true, false, List, [], Option, Some, None}
+use Rattle.std.specs.Prelude.{◌≡◌, ◌⊎◌, ◌<◌, ◌≤◌, ◌^◌, ℕ, Bool, true, false, List, [], All, length, Option, Some, None, codes}
 use Rattle.label_lattice.specs.declared.label.Label.{Label}
 use Rattle.mit_syntax.specs.Plan.{count, mitigates}
 use Rattle.mit_syntax.specs.Program.{Syntax, plan_of}
 use Rattle.timing_types.specs.Labelled.{LabelledProgram}
 use Rattle.label_code.specs.Shaped.{Code}
-use Rattle.start_file.specs.Starts.{StartValue}
+use Rattle.code_lower.specs.Lowered.{lowered}
+use Rattle.label_write.specs.Written.{labelled_text}
+use Rattle.image_print.specs.ImageText.{image_text}
+use Rattle.mit_gen.specs.Made.{program_text, starts_text}
+use Rattle.start_file.specs.Starts.{StartValue, IsFor}
 use Rattle.event_print.specs.declared.end.RunEnd.{RunEnd}
 use Rattle.event_print.specs.declared.end.RunEnd.TheVariants.{Halted, Limit}
 use Rattle.event_print.specs.Text.{Told, text_of}
 use Rattle.mit_tool.specs.declared.status.Status.{Status}
 use Rattle.mit_tool.specs.declared.status.Status.TheVariants as status
 use Rattle.mit_tool.specs.declared.words.EnvName.{EnvName}
-use Rattle.mit_tool.specs.WordsAsked.{Asked, check, infer, compile, run, meaning, audit, cut}
+use Rattle.mit_tool.specs.declared.words.EnvName.TheVariants.{Part}
+use Rattle.mit_tool.specs.WordsAsked.{Asked, check, infer, compile, run, meaning, audit, gen, cut, blackbox}
 use Rattle.mit_tool.specs.Texts.{accepted_line, usage_text}
-use Rattle.mit_tool.specs.Stages.{Then, Reads, ProgramStops, Observes, ObserverStops, Types, TypeStops, HasImage, ImageStops, FirstStart, FirstStops}
+use Rattle.mit_tool.specs.Stages.{Then, Reads, ProgramStops, Observes, ObserverStops, Types, TypeStops, HasImage, ImageStops, StartsAre, StartStops, FirstStart, FirstStops}
 use Rattle.mit_tool.specs.Envs.{told_in}
+use Rattle.mit_tool.specs.Reports.{made_lines}
+use Rattle.mit_tool.specs.Audited.{HasAudited, HasCut, ReadyStops, HoldsRuns, HasReleased}
 use Rattle.mit_tool.specs.Means.{lines_after, HasMeant}
 
 -- what names are told to hold
@@ -39,6 +46,18 @@ HasTold q o told s t = (s ≡ status_at told.end) × (t ≡ text_of q o told)
 abbrev pub HasRun : EnvName → ℕ → LabelledProgram → Option Label → Code → StartValue → Status → List ℕ → Type 0
 HasRun e budget q o code start = HasTold q o (told_in e q.program.order code start budget)
 
+-- the canonical text of a program with all labels
+abbrev pub HasInferred : LabelledProgram → Status → List ℕ → Type 0
+HasInferred q s t = (s ≡ status.Done) × (t ≡ labelled_text q)
+
+-- the text of an image
+abbrev pub HasListed : LabelledProgram → Code → Status → List ℕ → Type 0
+HasListed q code s t = (s ≡ status.Done) × (t ≡ image_text q.program code)
+
+-- a made program stands for the content of a file
+abbrev pub made_content : ℕ → ℕ → Content
+made_content size number name = Some (Some (program_text size number))
+
 -- words that ask for nothing, or for what is not offered
 abbrev pub IsUsage : Status → List ℕ → Type 0
 IsUsage s t = (s ≡ status.Usage) × (t ≡ usage_text)
@@ -52,6 +71,20 @@ Compiles Rises content file observer Next =
     Then (TypeStops p) (Types p) (λ q.
     Then (ImageStops q) (HasImage q) (λ code.
     Next p q o code))))
+
+-- From a file, an observer's name and what a start file is told to hold to an image and starts.
+abbrev pub Prepares : (List ℕ → Type 0) → Content → List ℕ → List ℕ → Type 0 → Option (Option (List ℕ))
+    → (Syntax → LabelledProgram → Option Label → Code → List StartValue → Status → List ℕ → Type 0) → Status → List ℕ → Type 0
+Prepares Rises content file observer Rose starts Next =
+    Compiles Rises content file (Some observer) (λ p q o code.
+    Then (StartStops Rose starts p) (StartsAre starts p) (λ ss.
+    Next p q o code ss))
+
+-- a made program is audited for L, with its made starts, as if they were the content of files
+abbrev pub HasGenerated : ℕ → ℕ → Status → List ℕ → Type 0
+HasGenerated size number =
+    Prepares (λ name. ⊥) (made_content size number) [] (codes "L") ⊥ (Some (Some starts_text)) (λ p q o code ss.
+    HasAudited Part (2 ^ 40) q o ss (made_lines size number (count (plan_of p)) (length code.instrs)))
 
 -- The answer to a command, in the order of its refusals. `Rises` tells the names whose counts of faults rose.
 abbrev pub IsAnswer : (List ℕ → Type 0) → Content → Asked → Status → List ℕ → Type 0
@@ -67,6 +100,23 @@ IsAnswer Rises content (meaning file starts n) =
     Then (ProgramStops (Rises file) (content file)) (Reads (content file)) (λ p.
     Then (FirstStops Rises content starts p) (FirstStart content starts p) (λ start.
     HasMeant p start n))
+IsAnswer Rises content (infer file) =
+    Then (ProgramStops (Rises file) (content file)) (Reads (content file)) (λ p.
+    Then (TypeStops p) (Types p) (λ q.
+    HasInferred q))
+IsAnswer Rises content (compile file) =
+    Compiles Rises content file None (λ p q o code.
+    HasListed q code)
+IsAnswer Rises content (audit file starts observer e budget) =
+    Prepares Rises content file observer (Rises starts) (content starts) (λ p q o code ss.
+    HasAudited e budget q o ss [])
+IsAnswer Rises content (cut file starts observer e budget) =
+    Prepares Rises content file observer (Rises starts) (content starts) (λ p q o code ss.
+    HasCut e budget q o ss)
+IsAnswer Rises content (gen size number) = HasGenerated size number
+IsAnswer Rises content (blackbox file first budget) =
+    Then (ReadyStops (Rises file) (content file)) (HoldsRuns (content file)) (λ runs.
+    HasReleased first budget runs)
 IsAnswer Rises content _ = IsUsage
 
 -- ---- what stages leave to the rest of a command
@@ -84,6 +134,25 @@ pub record IsReady (content : Content) (file : List ℕ) (starts observer : Opti
   pub compiled : HasCompiled content file observer q o code
   pub first : FirstStart content starts q.program start
 
+-- a program with labels that type it and its image, and the label that an observer's name names
+pub record IsCompiled (p : Syntax) (observer : Option (List ℕ)) (q : LabelledProgram) (o : Option Label) (code : Code) : Type 0 where
+  pub observes : Observes p.order observer o
+  pub types : Types p q
+  pub image : HasImage q code
+
+-- what an audit begins with: an image, the label that is observed, and all starts
+pub record IsPrepared (content : Content) (file observer : List ℕ) (held : Option (Option (List ℕ))) (q : LabelledProgram) (l : Label) (code : Code) (ss : List StartValue) : Type 0 where
+  pub compiled : HasCompiled content file (Some observer) q (Some l) code
+  pub starts : StartsAre held q.program ss
+
+-- and what an audit asks of it
+pub record CanAudit (q : LabelledProgram) (l : Label) (code : Code) (ss : List StartValue) : Type 0 where
+  pub image : code ≡ lowered q
+  pub observer : l.number < q.program.order.size
+  pub some : 0 < length ss
+  pub few : length ss ≤ 4096
+  pub starts : All (IsFor q.program) ss
+
 -- nothing else stops
 abbrev pub NoMore : Status → List ℕ → Type 0
 NoMore s t = ⊥
@@ -97,6 +166,18 @@ CheckStops Rises content file =
 -- why there is no image
 abbrev pub CompileStops : (List ℕ → Type 0) → Content → List ℕ → Option (List ℕ) → Status → List ℕ → Type 0
 CompileStops Rises content file observer = Compiles Rises content file observer (λ p q o code. NoMore)
+
+-- why a program has no image
+abbrev pub ProgramCompileStops : Syntax → Option (List ℕ) → Status → List ℕ → Type 0
+ProgramCompileStops p observer =
+    Then (ObserverStops p.order observer) (Observes p.order observer) (λ o.
+    Then (TypeStops p) (Types p) (λ q.
+    Then (ImageStops q) (HasImage q) (λ code. NoMore)))
+
+-- why there is no audit
+abbrev pub PrepareStops : (List ℕ → Type 0) → Content → List ℕ → List ℕ → Type 0 → Option (Option (List ℕ)) → Status → List ℕ → Type 0
+PrepareStops Rises content file observer Rose starts =
+    Prepares Rises content file observer Rose starts (λ p q o code ss. NoMore)
 
 -- why there is no run
 abbrev pub RunStops : (List ℕ → Type 0) → Content → List ℕ → Option (List ℕ) → Option (List ℕ) → Status → List ℕ → Type 0
@@ -130,15 +211,16 @@ abbrev pub Before : Content → Asked → List ℕ → Type 0
 Before content (meaning file starts n) b = (b ≡ []) ⊎ HasBegun content file starts n b
 Before content a b = b ≡ []
 
--- the program that a command wants typed
-abbrev pub typed_file : Asked → Option (List ℕ)
-typed_file (check file) = Some file
-typed_file (infer file) = Some file
-typed_file (compile file) = Some file
-typed_file (run file starts e budget observer) = Some file
-typed_file (audit file starts observer e budget) = Some file
-typed_file (cut file starts observer e budget) = Some file
-typed_file a = None
+-- what is told of the program that a command wants typed: of a file, or of the made program
+abbrev pub typed_content : Content → Asked → Option (Option (Option (List ℕ)))
+typed_content content (check file) = Some (content file)
+typed_content content (infer file) = Some (content file)
+typed_content content (compile file) = Some (content file)
+typed_content content (run file starts e budget observer) = Some (content file)
+typed_content content (audit file starts observer e budget) = Some (content file)
+typed_content content (cut file starts observer e budget) = Some (content file)
+typed_content content (gen size number) = Some (Some (Some (program_text size number)))
+typed_content content a = None
 
 -- the command came past the typing
 abbrev pub is_past_typing : Status → Bool

@@ -1,5 +1,6 @@
 -- How a call ends.
-use Rattle.std.specs.Prelude.{◌≡◌, ℕ, List, [], ◌++◌, Option}
+use Rattle.std.specs.Prelude.{◌≡◌, ℕ, List, [], ◌++◌, Option, Result, Ok, Err, Vec}
+use Rattle.std.specs.declared.alloc.Global.{Global}
 use Rattle.std.specs.Io.KnownBytes.{Appends}
 use Rattle.tim_base.specs.Sinks.{AppendsPrefix}
 use Rattle.mit_tool.specs.declared.status.Status.{Status}
@@ -16,6 +17,15 @@ status_of (stop.With s line) = s
 abbrev pub stop_text : Stop → List ℕ
 stop_text stop.Usage = usage_text
 stop_text (stop.With s line) = line
+
+-- the status and the text of a command whose text is made before it is written
+abbrev pub told_status : Result (Vec ℕ Global) Stop → Status
+told_status (Ok v) = status.Done
+told_status (Err e) = status_of e
+
+abbrev pub told_text : Result (Vec ℕ Global) Stop → List ℕ
+told_text (Ok v) = v.items
+told_text (Err e) = stop_text e
 
 -- A stop of a stage with these stops, or want of memory.
 abbrev pub Broke : (Status → List ℕ → Type 0) → Status → List ℕ → Type 0

@@ -4,6 +4,8 @@ pub mod WordsViews
 pub mod Texts
 pub mod Stages
 pub mod Envs
+pub mod Reports
+pub mod Audited
 pub mod Answers
 pub mod Ends
 pub mod Means

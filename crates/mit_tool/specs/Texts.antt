@@ -37,10 +37,12 @@ memory_line = codes "memory\n"
 pub data File : Type 0 where
   program : File
   starts : File
+  ready : File
 
 abbrev pub file_name : File → List ℕ
 file_name program = codes "program"
 file_name starts = codes "starts"
+file_name ready = codes "ready"
 
 abbrev pub read_fault_line : File → List ℕ
 read_fault_line f = codes "read fault: " ++ (file_name f ++ codes "\n")

@@ -1,5 +1,12 @@
 //! The commands.
 
+pub mod audit;
+pub mod blackbox;
 pub mod check;
+pub mod compile;
+pub mod cut;
+pub mod generate;
+pub mod infer;
 pub mod meaning;
+pub mod prepared;
 pub mod run;

@@ -3,8 +3,8 @@
 ghost use Rattle.std.specs.Prelude.{◌≡◌, ◌≤◌, ℕ, List, IfOk, IfErr, OnOk, option_map};
 ghost use Rattle.tim_base.specs.Faults.{Rose};
 ghost use Rattle.mit_tool.specs.Ends.{IsStop};
-ghost use Rattle.mit_tool.specs.Answers.{HasCompiled, CompileStops};
-ghost use Rattle.mit_tool.specs.Accepted.{IsAccepted};
+ghost use Rattle.mit_tool.specs.Answers.{IsCompiled, ProgramCompileStops, HasCompiled, CompileStops};
+ghost use Rattle.mit_tool.specs.Accepted.{IsAccepted, IsSound};
 
 use crate::laws::accepted_are_sound;
 use crate::stages::image::image;
@@ -14,6 +14,7 @@ use crate::stages::types::typed;
 use crate::stop::Stop;
 use label_code::image::Image;
 use label_lattice::label::Label;
+use mit_syntax::program::Program;
 use std::alloc::Global;
 use tim_base::shelf::Shelf;
 use timing_types::typed::Typed;
@@ -24,6 +25,33 @@ pub struct Compiled {
     pub typed: Typed,
     pub image: Image,
     pub observer: Option<Label>,
+}
+
+/// From a program to its image, and from an observer's name to a label.
+///
+/// # Errors
+/// Stops with the first refusal, or with `Memory`.
+pub fn compile_program(
+    alloc: Global,
+    program: Program,
+    name: Option<&str>,
+) -> Result<Compiled, Stop>
+    ensures ok { IfOk result (λ r. IsCompiled program (option_map (λ s. s.now) name.entry) r.typed.labelled r.observer r.image) }
+    ensures stop { IfErr result (IsStop (ProgramCompileStops program (option_map (λ s. s.now) name.entry))) }
+    ensures sound { IfOk result (λ r. IsSound r.typed.labelled) }
+{
+    let _ = program.body();
+    let observer = observer(&program.lattice(), name)?;
+    let typed = typed(alloc, program)?;
+    accepted_are_sound();
+    match image(alloc, &typed) {
+        Ok(image) => Ok(Compiled {
+            typed,
+            image,
+            observer,
+        }),
+        Err(stop) => Err(stop),
+    }
 }
 
 /// From a file to an image, and from an observer's name to a label.
@@ -43,16 +71,8 @@ pub fn compile<S: Shelf>(
     ensures sound { OnOk result (IsAccepted (S.content shelf.old file.now)) }
 {
     let program = read_program(alloc, shelf, file)?;
-    let _ = program.body();
-    let observer = observer(&program.lattice(), name)?;
-    let typed = typed(alloc, program)?;
-    accepted_are_sound();
-    match image(alloc, &typed) {
-        Ok(image) => Ok(Compiled {
-            typed,
-            image,
-            observer,
-        }),
+    match compile_program(alloc, program, name) {
+        Ok(compiled) => Ok(compiled),
         Err(stop) => Err(stop),
     }
 }

@@ -5,7 +5,7 @@ ghost use Rattle.std.specs.Io.KnownBytes.{Appends};
 ghost use Rattle.tim_base.specs.Faults.{Rose};
 ghost use Rattle.tim_base.specs.Sinks.{AppendsPrefix};
 ghost use Rattle.mit_tool.specs.Texts.{usage_text};
-ghost use Rattle.mit_tool.specs.Ends.{status_of, stop_text};
+ghost use Rattle.mit_tool.specs.Ends.{status_of, stop_text, told_status, told_text};
 
 use crate::status::Status;
 use crate::stop::Stop;
@@ -54,5 +54,20 @@ pub(crate) fn stop<W: Sink>(out: &mut W, stop: Stop) -> Status
     match stop {
         Stop::Usage => finish(out, usage(), Status::Usage),
         Stop::With { status, line } => finish(out, line.bytes(), status),
+    }
+}
+
+/// Writes the text of a command that is done, or the text of a stop, and gives its status, or says that the write
+/// failed.
+pub(crate) fn tell<W: Sink>(out: &mut W, made: Result<Vec<u8>, Stop>) -> Status
+    requires { told_status made ≢ Status.WriteFault }
+    ensures told { result ≢ Status.WriteFault → (result ≡ told_status made) × Appends (W.taken out.old) (W.taken out.new) (told_text made) }
+    ensures prefix { result ≡ Status.WriteFault → AppendsPrefix (W.taken out.old) (W.taken out.new) (told_text made) }
+    ensures fault { result ≡ Status.WriteFault → Rose (W.faults out.old) (W.faults out.new) }
+    ensures later { W.faults out.old ≤ W.faults out.new }
+{
+    match made {
+        Ok(text) => finish(out, text.as_slice(), Status::Done),
+        Err(e) => stop(out, e),
     }
 }

@@ -7,6 +7,7 @@ mod finish;
 pub mod laws;
 mod lines;
 mod main_call;
+mod pieces;
 pub mod stages;
 pub mod status;
 pub mod stop;

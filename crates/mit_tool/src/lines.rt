@@ -6,6 +6,8 @@ ghost use Rattle.mit_syntax.specs.Cut.{AreTokens};
 ghost use Rattle.mit_tool.specs.Stages.{header_name};
 ghost use Rattle.mit_tool.specs.Texts.{memory_line, number_line, pos_text, at_line, text_fault_line, labels_line, lattice_fault_line, parse_fault_line, rule_name, refused_line, run_line, start_fault_line, accepted_line};
 
+pub mod report;
+
 use crate::stages::header::header_name;
 use label_lattice::fault::LatticeFault;
 use label_lattice::label::Label;

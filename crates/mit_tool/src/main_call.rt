@@ -5,16 +5,22 @@ ghost use Rattle.tim_base.specs.Faults.{Rose};
 ghost use Rattle.mit_tool.specs.Ends.{EndsBy, Nothing};
 ghost use Rattle.mit_tool.specs.WordsAsked.{IsInRange, command_of, check};
 ghost use Rattle.mit_tool.specs.WordsViews.{asked_of};
-ghost use Rattle.mit_tool.specs.Answers.{IsAnswer, IsUsage, Before, typed_file, is_past_typing};
+ghost use Rattle.mit_tool.specs.Answers.{IsAnswer, IsUsage, Before, typed_content, is_past_typing};
 ghost use Rattle.mit_tool.specs.Accepted.{IsAccepted};
 
 #[cfg(test)]
 mod tests;
 
+use crate::commands::audit::audit_text;
+use crate::commands::blackbox::blackbox_text;
 use crate::commands::check::check_line;
+use crate::commands::compile::compile_text;
+use crate::commands::cut::cut_text;
+use crate::commands::generate::gen_text;
+use crate::commands::infer::infer_text;
 use crate::commands::meaning::meaning;
 use crate::commands::run::{Setting, run};
-use crate::finish::{finish, stop};
+use crate::finish::{finish, stop, tell};
 use crate::status::Status;
 use crate::stop::Stop;
 use crate::words::{Command, WordsFault, read_words};
@@ -45,13 +51,14 @@ fn obey<S: Shelf, W: Sink>(
     out: &mut W,
     command: Command<'_>,
 ) -> Status
+    requires { IsInRange (asked_of command) }
     ensures same { (name : List ℕ) → S.content shelf.new name ≡ S.content shelf.old name }
     ensures later { (name : List ℕ) → S.faults shelf.old name ≤ S.faults shelf.new name }
     ensures later_out { W.faults out.old ≤ W.faults out.new }
     ensures answered { EndsBy (W.taken out.old) (W.taken out.new) (Before (S.content shelf.old) (asked_of command.entry))
         (IsAnswer (λ name. Rose (S.faults shelf.old name) (S.faults shelf.new name)) (S.content shelf.old) (asked_of command.entry)) result }
     ensures write { result ≡ Status.WriteFault → Rose (W.faults out.old) (W.faults out.new) }
-    ensures sound { IsTrue (is_past_typing result) → IfSome (typed_file (asked_of command.entry)) (λ file. IsAccepted (S.content shelf.old file)) }
+    ensures sound { IsTrue (is_past_typing result) → IfSome (typed_content (S.content shelf.old) (asked_of command.entry)) IsAccepted }
 {
     match command {
         Command::Check { file } => check(alloc, shelf, out, file),
@@ -70,14 +77,37 @@ fn obey<S: Shelf, W: Sink>(
             starts,
             steps,
         } => meaning(alloc, shelf, out, file, starts, steps),
-        Command::Infer { .. }
-        | Command::Compile { .. }
-        | Command::Audit { .. }
-        | Command::Gen { .. }
-        | Command::Cut { .. }
-        | Command::Blackbox { .. }
-        | Command::Certify { .. }
-        | Command::Recheck { .. } => stop(out, Stop::Usage),
+        Command::Infer { file } => tell(out, infer_text(alloc, shelf, file)),
+        Command::Compile { file } => tell(out, compile_text(alloc, shelf, file)),
+        Command::Audit {
+            file,
+            starts,
+            observer,
+            env,
+            budget,
+        } => {
+            let setting = Setting { env, budget };
+            let text = audit_text(alloc, shelf, file, starts, observer, setting);
+            tell(out, text)
+        }
+        Command::Gen { size, number } => tell(out, gen_text(alloc, size, number)),
+        Command::Blackbox {
+            ready,
+            first,
+            budget,
+        } => tell(out, blackbox_text(alloc, shelf, ready, first, budget)),
+        Command::Cut {
+            file,
+            starts,
+            observer,
+            env,
+            budget,
+        } => {
+            let setting = Setting { env, budget };
+            let text = cut_text(alloc, shelf, file, starts, observer, setting);
+            tell(out, text)
+        }
+        Command::Certify { .. } | Command::Recheck { .. } => stop(out, Stop::Usage),
     }
 }
 
@@ -106,7 +136,7 @@ pub fn mitigate_main<S: Shelf, W: Sink>(
     ensures usage { command_of (map string_bytes words.now) ≡ None
         → EndsBy (W.taken out.old) (W.taken out.new) Nothing IsUsage result }
     ensures sound { IsTrue (is_past_typing result) → IfSome (command_of (map string_bytes words.now)) (λ a.
-        IfSome (typed_file a) (λ file. IsAccepted (S.content shelf.old file))) }
+        IfSome (typed_content (S.content shelf.old) a) IsAccepted) }
     ensures write { result ≡ Status.WriteFault → Rose (W.faults out.old) (W.faults out.new) }
 
     // No file changes, and no count of faults falls.

@@ -9,6 +9,7 @@ pub(crate) mod header;
 pub mod image;
 pub mod observer;
 pub mod program;
+pub mod ready;
 pub mod starts;
 pub mod types;
 
@@ -17,7 +18,7 @@ use crate::status::Status;
 use crate::stop::Stop;
 
 // The stop where memory was wanting.
-fn no_memory() -> Stop
+pub(crate) fn no_memory() -> Stop
     ensures { result ≡ stop.With status.Memory memory_line }
 {
     Stop::With {

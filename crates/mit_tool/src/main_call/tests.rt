@@ -31,7 +31,7 @@ const USAGE: &str = "usage: mitigate check FILE
        mitigate recheck FILE CERTIFICATE
 ";
 
-static ROWS: [Row; 74] = [
+static ROWS: [Row; 89] = [
     Row {
         shows: "an assignment without caches",
         words: "run p.mit --env flat",
@@ -814,6 +814,207 @@ static ROWS: [Row; 74] = [
         write_fails: 0,
         text: USAGE,
         status: 4,
+    },
+    Row {
+        shows: "classes of what an observer sees",
+        words: "audit p s --observer L --budget 200",
+        files: &[
+            (
+                "p",
+                b"var l : L; var h : H; mitigate (64, H) { while h > 0 do { h := h - 1 } }; l := 1",
+            ),
+            (
+                "s",
+                b"[[run]]\nmemory = { h = 0 }\n\n[[run]]\nmemory = { h = 3 }\n",
+            ),
+        ],
+        fetch_fails: 0,
+        write_fails: 0,
+        text: "runs 2\nobserver L\nbudget 200\nlevels 1\nmitigations 1\ndistinct 2\nbound 2^8\nrun 1 class 1\nrun 2 class 2\n",
+        status: 0,
+    },
+    Row {
+        shows: "a bound with two levels and two mitigations",
+        words: "audit p s --env flat --observer A --budget 100",
+        files: &[
+            (
+                "p",
+                b"labels L, A, B, H; order L < A, L < B, A < H, B < H; var l : L; var b : B; var h : H; mitigate (4, B) { while b > 0 do { b := b - 1 } }; mitigate (4, H) { while h > 0 do { h := h - 1 } }; l := 1",
+            ),
+            (
+                "s",
+                b"[[run]]\nmemory = { b = 0, h = 0 }\n\n[[run]]\nmemory = { b = 1, h = 0 }\n\n[[run]]\nmemory = { b = 0, h = 2 }\n\n",
+            ),
+        ],
+        fetch_fails: 0,
+        write_fails: 0,
+        text: "runs 3\nobserver A\nbudget 100\nlevels 2\nmitigations 2\ndistinct 3\nbound 3^14\nrun 1 class 1\nrun 2 class 2\nrun 3 class 3\n",
+        status: 0,
+    },
+    Row {
+        shows: "starts that do not agree",
+        words: "audit p s --env flat --observer H",
+        files: &[
+            (
+                "p",
+                b"var l : L; var h : H; mitigate (64, H) { while h > 0 do { h := h - 1 } }; l := 1",
+            ),
+            (
+                "s",
+                b"[[run]]\nmemory = { h = 0 }\n\n[[run]]\nmemory = { h = 3 }\n\n",
+            ),
+        ],
+        fetch_fails: 0,
+        write_fails: 0,
+        text: "disagree: run 2: variable h\n",
+        status: 9,
+    },
+    Row {
+        shows: "a run of an audit that has not halted",
+        words: "audit p s --env flat --observer L --budget 50",
+        files: &[
+            ("p", b"var h : H; while h do { skip }"),
+            (
+                "s",
+                b"[[run]]\nmemory = { h = 0 }\n\n[[run]]\nmemory = { h = 1 }\n\n",
+            ),
+        ],
+        fetch_fails: 0,
+        write_fails: 0,
+        text: "unfinished: run 2 @50\n",
+        status: 10,
+    },
+    Row {
+        shows: "a touch that the observer can tell",
+        words: "audit p s --observer L",
+        files: &[
+            ("p", b"var l : L; l := 7"),
+            (
+                "s",
+                b"[[run]]\n\n[[run]]\ntouch = [ { place = \"code\", label = \"L\", address = 32 } ]\n",
+            ),
+        ],
+        fetch_fails: 0,
+        write_fails: 0,
+        text: "disagree: run 2: partition L of code\n",
+        status: 9,
+    },
+    Row {
+        shows: "every label of the least labelling",
+        words: "infer p",
+        files: &[("p", b"var x; var h : H; x := h; mitigate (1) { x := h }")],
+        fetch_fails: 0,
+        write_fails: 0,
+        text: "labels L, H;\norder L < H;\nvar x : H;\nvar h : H;\nx := h @[L, L];\nmitigate (1, H) @[L, L] {\n  x := h @[L, L]\n}\n",
+        status: 0,
+    },
+    Row {
+        shows: "a made program and its audit",
+        words: "gen 1 0",
+        files: &[],
+        fetch_fails: 0,
+        write_fails: 0,
+        text: "made 1 0\nprogram 110\ncommands 1\ninstructions 5\nruns 4\nobserver L\nbudget 1099511627776\nlevels 1\nmitigations 0\ndistinct 1\nbound 1^41\nrun 1 class 1\nrun 2 class 1\nrun 3 class 1\nrun 4 class 1\n",
+        status: 0,
+    },
+    Row {
+        shows: "an image with raised labels",
+        words: "compile p",
+        files: &[("p", b"var h : H; while h > 0 do { h := h - 1 }")],
+        fetch_fails: 0,
+        write_fails: 0,
+        text: "0 LOAD h [L, L]\n1 PUSH 0 [L, L]\n2 OP > [L, L]\n3 BRZ 12 [L, L]\n4 LOAD h [H, H]\n5 PUSH 1 [H, H]\n6 OP - [H, H]\n7 STORE h [H, H]\n8 LOAD h [H, H]\n9 PUSH 0 [H, H]\n10 OP > [H, H]\n11 BRNZ 4 [H, H]\n12 HALT [L, L]\n",
+        status: 0,
+    },
+    Row {
+        shows: "an image with a mitigation",
+        words: "compile p",
+        files: &[(
+            "p",
+            b"var l : L; var h : H; mitigate (64, H) { while h > 0 do { h := h - 1 } }; l := 1",
+        )],
+        fetch_fails: 0,
+        write_fails: 0,
+        text: "0 PUSH 64 [L, L]\n1 MITB H 0 [L, L]\n2 LOAD h [L, L]\n3 PUSH 0 [L, L]\n4 OP > [L, L]\n5 BRZ 14 [L, L]\n6 LOAD h [H, H]\n7 PUSH 1 [H, H]\n8 OP - [H, H]\n9 STORE h [H, H]\n10 LOAD h [H, H]\n11 PUSH 0 [H, H]\n12 OP > [H, H]\n13 BRNZ 6 [H, H]\n14 MITE [L, L]\n15 PUSH 1 [L, L]\n16 STORE l [L, L]\n17 HALT [L, L]\n",
+        status: 0,
+    },
+    Row {
+        shows: "runs of which one is cut",
+        words: "cut p s --env flat --observer L --budget 50",
+        files: &[
+            ("p", b"var h : H; while h do { skip }"),
+            (
+                "s",
+                b"[[run]]\nmemory = { h = 0 }\n\n[[run]]\nmemory = { h = 1 }\n\n",
+            ),
+        ],
+        fetch_fails: 0,
+        write_fails: 0,
+        text: "runs 2\nobserver L\nbudget 50\nlevels 1\nended 0\nhalted 1\ndistinct 1\nbound 1^6\nrun 1 class 1\nrun 2 class 1\n",
+        status: 0,
+    },
+    Row {
+        shows: "a cut that two runs differ by",
+        words: "cut p s --env flat --observer L --budget 20",
+        files: &[
+            (
+                "p",
+                b"var l : L; var h : H; mitigate (1, H) { while h > 0 do { h := h - 1 } }; l := 1",
+            ),
+            (
+                "s",
+                b"[[run]]\nmemory = { h = 0 }\n\n[[run]]\nmemory = { h = 3 }\n\n",
+            ),
+        ],
+        fetch_fails: 0,
+        write_fails: 0,
+        text: "runs 2\nobserver L\nbudget 20\nlevels 1\nended 1\nhalted 1\ndistinct 2\nbound 2^5\nrun 1 class 1\nrun 2 class 2\n",
+        status: 0,
+    },
+    Row {
+        shows: "starts of a cut that do not agree",
+        words: "cut p s --env flat --observer H",
+        files: &[
+            (
+                "p",
+                b"var l : L; var h : H; mitigate (64, H) { while h > 0 do { h := h - 1 } }; l := 1",
+            ),
+            (
+                "s",
+                b"[[run]]\nmemory = { h = 0 }\n\n[[run]]\nmemory = { h = 3 }\n\n",
+            ),
+        ],
+        fetch_fails: 0,
+        write_fails: 0,
+        text: "disagree: run 2: variable h\n",
+        status: 9,
+    },
+    Row {
+        shows: "releases in slots that double",
+        words: "blackbox r --first 4 --budget 40",
+        files: &[("r", b"run\n1\n2\n20\nrun\n30\n")],
+        fetch_fails: 0,
+        write_fails: 0,
+        text: "run 1 event 1 @4\nrun 1 event 2 @8\nrun 1 event 3 @20\nruns 2\nfirst 4\nbudget 40\ndistinct 2\nbound 41^6\nrun 1 events 3 released 3 epochs 3 class 1\nrun 2 events 1 released 0 epochs 4 class 2\n",
+        status: 0,
+    },
+    Row {
+        shows: "a file of ready cycles without runs",
+        words: "blackbox r --first 4",
+        files: &[("r", b"")],
+        fetch_fails: 0,
+        write_fails: 0,
+        text: "ready: no runs\n",
+        status: 3,
+    },
+    Row {
+        shows: "an event before any run",
+        words: "blackbox r --first 4",
+        files: &[("r", b"5\nrun\n")],
+        fetch_fails: 0,
+        write_fails: 0,
+        text: "ready: bad line 1\n",
+        status: 3,
     },
 ];
 

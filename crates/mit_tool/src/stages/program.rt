@@ -50,8 +50,11 @@ fn parse_stop(text: &[u8], tokens: &[Token], fault: ParseFault) -> Stop
     }
 }
 
-// The program that a text spells.
-fn program_of(alloc: Global, text: &[u8]) -> Result<Program, Stop>
+/// The program that a text spells.
+///
+/// # Errors
+/// Stops with `Syntax` or `Memory`.
+pub fn program_of(alloc: Global, text: &[u8]) -> Result<Program, Stop>
     requires { length text.now ≤ limit }
     ensures ok { IfOk result (λ p. (content : Option (Option (List ℕ))) → IsTold content text.now → Reads content p) }
     ensures stop { IfErr result (λ e. (content : Option (Option (List ℕ))) → IsTold content text.now → IsStop (ProgramStops ⊥ content) e) }

@@ -1,8 +1,8 @@
 //! From a start file to starts.
 
-ghost use Rattle.std.specs.Prelude.{◌≡◌, ◌≢◌, ◌≤◌, ℕ, List, Option, Err, All, IfOk, IfErr, map, option_map};
+ghost use Rattle.std.specs.Prelude.{◌≡◌, ◌≢◌, ◌≤◌, ℕ, List, Option, Err, All, IfOk, IfErr, length, map, option_map};
 ghost use Rattle.tim_base.specs.Faults.{Rose};
-ghost use Rattle.tim_base.specs.Told.{IsTold};
+ghost use Rattle.tim_base.specs.Told.{limit, IsTold};
 ghost use Rattle.mit_syntax.specs.Program.{Syntax};
 ghost use Rattle.start_file.specs.declared.fault.StartFault.TheVariants as start;
 ghost use Rattle.start_file.specs.Starts.{seen, Gives, IsFor};
@@ -33,6 +33,22 @@ fn start_stop(fault: StartFault) -> Stop
     }
 }
 
+/// The starts that bytes give for a program, in order, 1 to 4,096 of them.
+///
+/// # Errors
+/// Stops with `Starts` or `Memory`.
+pub fn starts_of(alloc: Global, bytes: &[u8], p: &Program) -> Result<Vec<Start>, Stop>
+    requires { length bytes.now ≤ limit }
+    ensures ok { IfOk result (λ ss. (content : Option (Option (List ℕ))) → IsTold content bytes.now → StartsAre content p.now (map seen ss.items)) }
+    ensures valid { IfOk result (λ ss. All (IsFor p.now) (map seen ss.items)) }
+    ensures stop { IfErr result (λ e. (content : Option (Option (List ℕ))) → IsTold content bytes.now → IsStop (StartStops ⊥ content p.now) e) }
+{
+    match read_starts(alloc, bytes, p) {
+        Ok(starts) => Ok(starts),
+        Err(fault) => Err(start_stop(fault)),
+    }
+}
+
 /// The starts that a file gives for a program, in order.
 ///
 /// # Errors
@@ -51,9 +67,9 @@ pub fn all_starts<S: Shelf>(
 {
     let mut bytes = Vec::new(alloc);
     match shelf.fetch(alloc, file, &mut bytes) {
-        Ok(()) => match read_starts(alloc, &bytes, p) {
+        Ok(()) => match starts_of(alloc, &bytes, p) {
             Ok(starts) => Ok(starts),
-            Err(fault) => Err(start_stop(fault)),
+            Err(stop) => Err(stop),
         },
         Err(FetchFault::Failed) => Err(Stop::With {
             status: Status::ReadFault,

@@ -1,16 +1,23 @@
+use Rattle.std.specs.Prelude.{ℕ, List, option_map}
 use Rattle.tim_base.specs.Faults.{Rose}
-use Rattle.mit_tool.proofs.StopLemmas.{image_stops}
+use Rattle.mit_tool.proofs.PrepareLemmas.{compiled_of, program_stops}
 use Rattle.mit_tool.proofs.compiled.compile.Goals as goal
+
+pub returns-in-Ok-clause-ok : goal.returns-in-Ok-clause-ok
+returns-in-Ok-clause-ok g c =
+    compiled_of (g.S.Shelf.content c.args.shelf.now) c.args.file.now (option_map (λ s. s.now) c.args.name) c.in_ok-program.program
+    c.in-Ok.compiled.typed.labelled c.in-Ok.compiled.observer c.in-Ok.compiled.image c.in_ok-program.ensures.ok c.in-Ok.ensures.ok
 
 pub returns-in-Err-clause-stop : goal.returns-in-Err-clause-stop
 returns-in-Err-clause-stop g c =
-    image_stops (λ name. Rose (g.S.Shelf.faults c.args.shelf.now name) (g.S.Shelf.faults c.read_program.new.shelf name)) (g.S.Shelf.content c.args.shelf.now) _ _ _ _ _ _ c.in-Err.stop c.in_ok-program.ensures.ok c.lattice.ensures c.in_ok-observer.ensures.ok c.in_ok-typed.ensures.ok c.in-Err.ensures.stop
+    program_stops (λ (name : List ℕ). Rose (g.S.Shelf.faults c.args.shelf.now name) (g.S.Shelf.faults c.read_program.new.shelf name)) (g.S.Shelf.content c.args.shelf.now)
+    c.args.file.now (option_map (λ s. s.now) c.args.name) c.in_ok-program.program c.in-Err.stop c.in_ok-program.ensures.ok c.in-Err.ensures.stop
 
 pub returns-in-Ok-clause-sound : goal.returns-in-Ok-clause-sound
 returns-in-Ok-clause-sound g c = record {
   program = c.in_ok-program.program;
   reads = c.in_ok-program.ensures.ok;
-  labelled = c.in_ok-typed.typed.labelled;
-  types = c.in_ok-typed.ensures.ok;
-  sound = c.accepted_are_sound.ensures c.in_ok-program.program c.in_ok-typed.typed.labelled c.body.ensures.valid c.in_ok-typed.ensures.ok;
+  labelled = c.in-Ok.compiled.typed.labelled;
+  types = c.in-Ok.ensures.ok.types;
+  sound = c.in-Ok.ensures.sound;
 }

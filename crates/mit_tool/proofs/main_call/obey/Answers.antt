@@ -1,13 +1,17 @@
 use Rattle.std.proofs.Common.{◌≡◌, ◌⊎◌, ℕ, List, Bor, inl, inr, refl, sym, subst}
 use Rattle.tim_base.specs.Faults.{Rose}
 use Rattle.mit_tool.specs.declared.words.Command.{Command}
-use Rattle.mit_tool.specs.declared.words.Command.TheVariants.{Infer, Compile, Audit, Gen, Cut, Blackbox, Certify, Recheck}
-use Rattle.mit_tool.specs.declared.words.EnvName.{EnvName}
+use Rattle.mit_tool.specs.declared.words.Command.TheVariants.{Certify, Recheck}
 use Rattle.mit_tool.specs.declared.status.Status.TheVariants.{Usage}
 use Rattle.mit_tool.specs.Texts.{usage_text}
 use Rattle.mit_tool.specs.WordsViews.{asked_of}
-use Rattle.mit_tool.specs.Ends.{EndsBy, Nothing}
-use Rattle.mit_tool.specs.Answers.{IsAnswer, IsUsage, Before}
+use Rattle.mit_tool.specs.Ends.{EndsBy, Nothing, told_status, told_text}
+use Rattle.std.specs.Prelude.{IfSome, IsTrue, Some}
+use Rattle.mit_gen.specs.Made.{program_text}
+use Rattle.mit_tool.specs.WordsAsked.{infer, compile, audit, cut, blackbox}
+use Rattle.mit_tool.specs.Answers.{IsAnswer, IsUsage, Before, HasGenerated, typed_content, is_past_typing}
+use Rattle.mit_tool.specs.Accepted.{IsAccepted}
+use Rattle.mit_tool.proofs.TellLemmas.{result_tells, no_fault, told_sound, infer_no_fault, compile_no_fault, audit_no_fault, cut_no_fault, gen_no_fault, blackbox_no_fault}
 use Rattle.mit_tool.proofs.EndLemmas.{ends_finish}
 use Rattle.mit_tool.proofs.main_call.obey.Goals as goal
 
@@ -29,27 +33,136 @@ returns-in-Meaning-clause-answered g c =
     let rises = λ (name : List ℕ). Rose (g.S.Shelf.faults c.args.shelf.now name) (g.S.Shelf.faults c.meaning.new.shelf name) in
     subst (λ (x : Command). EndsBy (g.W.Sink.taken c.args.out.now) (g.W.Sink.taken c.meaning.new.out) (Before content (asked_of x)) (IsAnswer rises content (asked_of x)) c.meaning.result) (sym c.in-Meaning.is) c.meaning.ensures.answered
 
--- a command that is not offered
-not_offered : (P : Command → Type 0) (x : Command)
-    → ((f : Bor (List ℕ)) → P (Infer f)) → ((f : Bor (List ℕ)) → P (Compile f)) → ((f s o : Bor (List ℕ)) (e : EnvName) (t : ℕ) → P (Audit f s o e t)) → ((m n : ℕ) → P (Gen m n))
-    → ((f s o : Bor (List ℕ)) (e : EnvName) (t : ℕ) → P (Cut f s o e t)) → ((f : Bor (List ℕ)) (m n : ℕ) → P (Blackbox f m n)) → ((f : Bor (List ℕ)) → P (Certify f)) → ((f k : Bor (List ℕ)) → P (Recheck f k))
-    → ((f : Bor (List ℕ)) × (x ≡ Infer f)) ⊎ (((f : Bor (List ℕ)) × (x ≡ Compile f)) ⊎ (((f : Bor (List ℕ)) × (s : Bor (List ℕ)) × (o : Bor (List ℕ)) × (e : EnvName) × (t : ℕ) × (x ≡ Audit f s o e t))
-    ⊎ (((m : ℕ) × (n : ℕ) × (x ≡ Gen m n)) ⊎ (((f : Bor (List ℕ)) × (s : Bor (List ℕ)) × (o : Bor (List ℕ)) × (e : EnvName) × (t : ℕ) × (x ≡ Cut f s o e t))
-    ⊎ (((f : Bor (List ℕ)) × (m : ℕ) × (n : ℕ) × (x ≡ Blackbox f m n)) ⊎ (((f : Bor (List ℕ)) × (x ≡ Certify f)) ⊎ ((f : Bor (List ℕ)) × (k : Bor (List ℕ)) × (x ≡ Recheck f k))))))))
-    → P x
-not_offered P x i c a n u b d r (inl (f, e)) = subst P (sym e) (i f)
-not_offered P x i c a n u b d r (inr (inl (f, e))) = subst P (sym e) (c f)
-not_offered P x i c a n u b d r (inr (inr (inl (f, s, o, v, t, e)))) = subst P (sym e) (a f s o v t)
-not_offered P x i c a n u b d r (inr (inr (inr (inl (l, m, e))))) = subst P (sym e) (n l m)
-not_offered P x i c a n u b d r (inr (inr (inr (inr (inl (f, s, o, v, t, e)))))) = subst P (sym e) (u f s o v t)
-not_offered P x i c a n u b d r (inr (inr (inr (inr (inr (inl (f, l, m, e))))))) = subst P (sym e) (b f l m)
-not_offered P x i c a n u b d r (inr (inr (inr (inr (inr (inr (inl (f, e)))))))) = subst P (sym e) (d f)
-not_offered P x i c a n u b d r (inr (inr (inr (inr (inr (inr (inr (f, k, e)))))))) = subst P (sym e) (r f k)
+pub tell-requires : goal.tell-requires
+tell-requires g c =
+    let content = g.S.Shelf.content c.args.shelf.now in
+    let rises = λ (name : List ℕ). Rose (g.S.Shelf.faults c.args.shelf.now name) (g.S.Shelf.faults c.infer_text.new.shelf name) in
+    no_fault (IsAnswer rises content (infer c.in-Infer.file.now)) c.infer_text.result (infer_no_fault rises content c.in-Infer.file.now) c.infer_text.ensures.stop
 
 pub returns-in-Infer-clause-answered : goal.returns-in-Infer-clause-answered
 returns-in-Infer-clause-answered g c =
     let content = g.S.Shelf.content c.args.shelf.now in
+    let rises = λ (name : List ℕ). Rose (g.S.Shelf.faults c.args.shelf.now name) (g.S.Shelf.faults c.infer_text.new.shelf name) in
+    let answer = IsAnswer rises content (infer c.in-Infer.file.now) in
+    subst (λ (x : Command). EndsBy (g.W.Sink.taken c.args.out.now) (g.W.Sink.taken c.tell.new.out) (Before content (asked_of x)) (IsAnswer rises content (asked_of x)) c.tell.result) (sym c.in-Infer.is)
+    (ends_finish (g.W.Sink.taken c.args.out.now) (g.W.Sink.taken c.tell.new.out) Nothing answer (told_status c.infer_text.result) (told_text c.infer_text.result) c.tell.result
+    (result_tells answer c.infer_text.result c.infer_text.ensures.text c.infer_text.ensures.stop) c.tell.ensures.told c.tell.ensures.prefix)
+
+pub returns-in-Infer-clause-sound : goal.returns-in-Infer-clause-sound
+returns-in-Infer-clause-sound g c =
+    let content = g.S.Shelf.content c.args.shelf.now in
+    subst (λ (x : Command). IsTrue (is_past_typing c.tell.result) → IfSome (typed_content content (asked_of x)) IsAccepted) (sym c.in-Infer.is)
+    (told_sound c.infer_text.result (IsAccepted (content c.in-Infer.file.now)) c.tell.result c.infer_text.ensures.sound c.infer_text.ensures.sound_stop (λ n. (c.tell.ensures.told n).0))
+
+pub tell-requires-in-Compile : goal.tell-requires-in-Compile
+tell-requires-in-Compile g c =
+    let content = g.S.Shelf.content c.args.shelf.now in
+    let rises = λ (name : List ℕ). Rose (g.S.Shelf.faults c.args.shelf.now name) (g.S.Shelf.faults c.compile_text.new.shelf name) in
+    no_fault (IsAnswer rises content (compile c.in-Compile.file.now)) c.compile_text.result (compile_no_fault rises content c.in-Compile.file.now) c.compile_text.ensures.stop
+
+pub returns-in-Compile-clause-answered : goal.returns-in-Compile-clause-answered
+returns-in-Compile-clause-answered g c =
+    let content = g.S.Shelf.content c.args.shelf.now in
+    let rises = λ (name : List ℕ). Rose (g.S.Shelf.faults c.args.shelf.now name) (g.S.Shelf.faults c.compile_text.new.shelf name) in
+    let answer = IsAnswer rises content (compile c.in-Compile.file.now) in
+    subst (λ (x : Command). EndsBy (g.W.Sink.taken c.args.out.now) (g.W.Sink.taken c.tell-in-Compile.new.out) (Before content (asked_of x)) (IsAnswer rises content (asked_of x)) c.tell-in-Compile.result) (sym c.in-Compile.is)
+    (ends_finish (g.W.Sink.taken c.args.out.now) (g.W.Sink.taken c.tell-in-Compile.new.out) Nothing answer (told_status c.compile_text.result) (told_text c.compile_text.result) c.tell-in-Compile.result
+    (result_tells answer c.compile_text.result c.compile_text.ensures.text c.compile_text.ensures.stop) c.tell-in-Compile.ensures.told c.tell-in-Compile.ensures.prefix)
+
+pub returns-in-Compile-clause-sound : goal.returns-in-Compile-clause-sound
+returns-in-Compile-clause-sound g c =
+    let content = g.S.Shelf.content c.args.shelf.now in
+    subst (λ (x : Command). IsTrue (is_past_typing c.tell-in-Compile.result) → IfSome (typed_content content (asked_of x)) IsAccepted) (sym c.in-Compile.is)
+    (told_sound c.compile_text.result (IsAccepted (content c.in-Compile.file.now)) c.tell-in-Compile.result c.compile_text.ensures.sound c.compile_text.ensures.sound_stop (λ n. (c.tell-in-Compile.ensures.told n).0))
+
+pub tell-requires-in-Audit : goal.tell-requires-in-Audit
+tell-requires-in-Audit g c =
+    let content = g.S.Shelf.content c.args.shelf.now in
+    let rises = λ (name : List ℕ). Rose (g.S.Shelf.faults c.args.shelf.now name) (g.S.Shelf.faults c.audit_text-text.new.shelf name) in
+    no_fault (IsAnswer rises content (audit c.in-Audit.file.now c.in-Audit.starts.now c.in-Audit.observer.now c.in-Audit.env c.in-Audit.budget)) c.audit_text-text.result (audit_no_fault rises content c.in-Audit.file.now c.in-Audit.starts.now c.in-Audit.observer.now c.in-Audit.env c.in-Audit.budget) c.audit_text-text.ensures.stop
+
+pub returns-in-Audit-clause-answered : goal.returns-in-Audit-clause-answered
+returns-in-Audit-clause-answered g c =
+    let content = g.S.Shelf.content c.args.shelf.now in
+    let rises = λ (name : List ℕ). Rose (g.S.Shelf.faults c.args.shelf.now name) (g.S.Shelf.faults c.audit_text-text.new.shelf name) in
+    let answer = IsAnswer rises content (audit c.in-Audit.file.now c.in-Audit.starts.now c.in-Audit.observer.now c.in-Audit.env c.in-Audit.budget) in
+    subst (λ (x : Command). EndsBy (g.W.Sink.taken c.args.out.now) (g.W.Sink.taken c.tell-in-Audit.new.out) (Before content (asked_of x)) (IsAnswer rises content (asked_of x)) c.tell-in-Audit.result) (sym c.in-Audit.is)
+    (ends_finish (g.W.Sink.taken c.args.out.now) (g.W.Sink.taken c.tell-in-Audit.new.out) Nothing answer (told_status c.audit_text-text.result) (told_text c.audit_text-text.result) c.tell-in-Audit.result
+    (result_tells answer c.audit_text-text.result c.audit_text-text.ensures.text c.audit_text-text.ensures.stop) c.tell-in-Audit.ensures.told c.tell-in-Audit.ensures.prefix)
+
+pub returns-in-Audit-clause-sound : goal.returns-in-Audit-clause-sound
+returns-in-Audit-clause-sound g c =
+    let content = g.S.Shelf.content c.args.shelf.now in
+    subst (λ (x : Command). IsTrue (is_past_typing c.tell-in-Audit.result) → IfSome (typed_content content (asked_of x)) IsAccepted) (sym c.in-Audit.is)
+    (told_sound c.audit_text-text.result (IsAccepted (content c.in-Audit.file.now)) c.tell-in-Audit.result c.audit_text-text.ensures.sound c.audit_text-text.ensures.sound_stop (λ n. (c.tell-in-Audit.ensures.told n).0))
+
+pub tell-requires-in-Gen : goal.tell-requires-in-Gen
+tell-requires-in-Gen g c =
+    let content = g.S.Shelf.content c.args.shelf.now in
+    let rises = λ (name : List ℕ). Rose (g.S.Shelf.faults c.args.shelf.now name) (g.S.Shelf.faults c.args.shelf.now name) in
+    no_fault (HasGenerated c.in-Gen.size c.in-Gen.number) c.gen_text.result (gen_no_fault c.in-Gen.size c.in-Gen.number) c.gen_text.ensures.stop
+
+pub returns-in-Gen-clause-answered : goal.returns-in-Gen-clause-answered
+returns-in-Gen-clause-answered g c =
+    let content = g.S.Shelf.content c.args.shelf.now in
+    let rises = λ (name : List ℕ). Rose (g.S.Shelf.faults c.args.shelf.now name) (g.S.Shelf.faults c.args.shelf.now name) in
+    let answer = HasGenerated c.in-Gen.size c.in-Gen.number in
+    subst (λ (x : Command). EndsBy (g.W.Sink.taken c.args.out.now) (g.W.Sink.taken c.tell-in-Gen.new.out) (Before content (asked_of x)) (IsAnswer rises content (asked_of x)) c.tell-in-Gen.result) (sym c.in-Gen.is)
+    (ends_finish (g.W.Sink.taken c.args.out.now) (g.W.Sink.taken c.tell-in-Gen.new.out) Nothing answer (told_status c.gen_text.result) (told_text c.gen_text.result) c.tell-in-Gen.result
+    (result_tells answer c.gen_text.result c.gen_text.ensures.text c.gen_text.ensures.stop) c.tell-in-Gen.ensures.told c.tell-in-Gen.ensures.prefix)
+
+pub returns-in-Gen-clause-sound : goal.returns-in-Gen-clause-sound
+returns-in-Gen-clause-sound g c =
+    let content = g.S.Shelf.content c.args.shelf.now in
+    subst (λ (x : Command). IsTrue (is_past_typing c.tell-in-Gen.result) → IfSome (typed_content content (asked_of x)) IsAccepted) (sym c.in-Gen.is)
+    (told_sound c.gen_text.result (IsAccepted (Some (Some (program_text c.in-Gen.size c.in-Gen.number)))) c.tell-in-Gen.result c.gen_text.ensures.sound c.gen_text.ensures.sound_stop (λ n. (c.tell-in-Gen.ensures.told n).0))
+
+pub tell-requires-in-Blackbox : goal.tell-requires-in-Blackbox
+tell-requires-in-Blackbox g c =
+    let content = g.S.Shelf.content c.args.shelf.now in
+    let rises = λ (name : List ℕ). Rose (g.S.Shelf.faults c.args.shelf.now name) (g.S.Shelf.faults c.blackbox_text.new.shelf name) in
+    no_fault (IsAnswer rises content (blackbox c.in-Blackbox.ready.now c.in-Blackbox.first c.in-Blackbox.budget)) c.blackbox_text.result (blackbox_no_fault rises content c.in-Blackbox.ready.now c.in-Blackbox.first c.in-Blackbox.budget) c.blackbox_text.ensures.stop
+
+pub returns-in-Blackbox-clause-answered : goal.returns-in-Blackbox-clause-answered
+returns-in-Blackbox-clause-answered g c =
+    let content = g.S.Shelf.content c.args.shelf.now in
+    let rises = λ (name : List ℕ). Rose (g.S.Shelf.faults c.args.shelf.now name) (g.S.Shelf.faults c.blackbox_text.new.shelf name) in
+    let answer = IsAnswer rises content (blackbox c.in-Blackbox.ready.now c.in-Blackbox.first c.in-Blackbox.budget) in
+    subst (λ (x : Command). EndsBy (g.W.Sink.taken c.args.out.now) (g.W.Sink.taken c.tell-in-Blackbox.new.out) (Before content (asked_of x)) (IsAnswer rises content (asked_of x)) c.tell-in-Blackbox.result) (sym c.in-Blackbox.is)
+    (ends_finish (g.W.Sink.taken c.args.out.now) (g.W.Sink.taken c.tell-in-Blackbox.new.out) Nothing answer (told_status c.blackbox_text.result) (told_text c.blackbox_text.result) c.tell-in-Blackbox.result
+    (result_tells answer c.blackbox_text.result c.blackbox_text.ensures.text c.blackbox_text.ensures.stop) c.tell-in-Blackbox.ensures.told c.tell-in-Blackbox.ensures.prefix)
+
+pub tell-requires-in-Cut : goal.tell-requires-in-Cut
+tell-requires-in-Cut g c =
+    let content = g.S.Shelf.content c.args.shelf.now in
+    let rises = λ (name : List ℕ). Rose (g.S.Shelf.faults c.args.shelf.now name) (g.S.Shelf.faults c.cut_text-text.new.shelf name) in
+    no_fault (IsAnswer rises content (cut c.in-Cut.file.now c.in-Cut.starts.now c.in-Cut.observer.now c.in-Cut.env c.in-Cut.budget)) c.cut_text-text.result (cut_no_fault rises content c.in-Cut.file.now c.in-Cut.starts.now c.in-Cut.observer.now c.in-Cut.env c.in-Cut.budget) c.cut_text-text.ensures.stop
+
+pub returns-in-Cut-clause-answered : goal.returns-in-Cut-clause-answered
+returns-in-Cut-clause-answered g c =
+    let content = g.S.Shelf.content c.args.shelf.now in
+    let rises = λ (name : List ℕ). Rose (g.S.Shelf.faults c.args.shelf.now name) (g.S.Shelf.faults c.cut_text-text.new.shelf name) in
+    let answer = IsAnswer rises content (cut c.in-Cut.file.now c.in-Cut.starts.now c.in-Cut.observer.now c.in-Cut.env c.in-Cut.budget) in
+    subst (λ (x : Command). EndsBy (g.W.Sink.taken c.args.out.now) (g.W.Sink.taken c.tell-in-Cut.new.out) (Before content (asked_of x)) (IsAnswer rises content (asked_of x)) c.tell-in-Cut.result) (sym c.in-Cut.is)
+    (ends_finish (g.W.Sink.taken c.args.out.now) (g.W.Sink.taken c.tell-in-Cut.new.out) Nothing answer (told_status c.cut_text-text.result) (told_text c.cut_text-text.result) c.tell-in-Cut.result
+    (result_tells answer c.cut_text-text.result c.cut_text-text.ensures.text c.cut_text-text.ensures.stop) c.tell-in-Cut.ensures.told c.tell-in-Cut.ensures.prefix)
+
+pub returns-in-Cut-clause-sound : goal.returns-in-Cut-clause-sound
+returns-in-Cut-clause-sound g c =
+    let content = g.S.Shelf.content c.args.shelf.now in
+    subst (λ (x : Command). IsTrue (is_past_typing c.tell-in-Cut.result) → IfSome (typed_content content (asked_of x)) IsAccepted) (sym c.in-Cut.is)
+    (told_sound c.cut_text-text.result (IsAccepted (content c.in-Cut.file.now)) c.tell-in-Cut.result c.cut_text-text.ensures.sound c.cut_text-text.ensures.sound_stop (λ n. (c.tell-in-Cut.ensures.told n).0))
+
+-- a command that is not offered
+not_offered : (P : Command → Type 0) (x : Command) → ((f : Bor (List ℕ)) → P (Certify f)) → ((f k : Bor (List ℕ)) → P (Recheck f k))
+    → ((f : Bor (List ℕ)) × (x ≡ Certify f)) ⊎ ((f : Bor (List ℕ)) × (k : Bor (List ℕ)) × (x ≡ Recheck f k)) → P x
+not_offered P x d r (inl (f, e)) = subst P (sym e) (d f)
+not_offered P x d r (inr (f, k, e)) = subst P (sym e) (r f k)
+
+pub returns-in-Certify-clause-answered : goal.returns-in-Certify-clause-answered
+returns-in-Certify-clause-answered g c =
+    let content = g.S.Shelf.content c.args.shelf.now in
     let rises = λ (name : List ℕ). Rose (g.S.Shelf.faults c.args.shelf.now name) (g.S.Shelf.faults c.args.shelf.now name) in
     let usage = ends_finish (g.W.Sink.taken c.args.out.now) (g.W.Sink.taken c.stop.new.out) Nothing IsUsage Usage usage_text c.stop.result (refl, refl) c.stop.ensures.told c.stop.ensures.prefix in
     not_offered (λ (x : Command). EndsBy (g.W.Sink.taken c.args.out.now) (g.W.Sink.taken c.stop.new.out) (Before content (asked_of x)) (IsAnswer rises content (asked_of x)) c.stop.result) c.args.command
-    (λ f. usage) (λ f. usage) (λ f s o e t. usage) (λ m n. usage) (λ f s o e t. usage) (λ f m n. usage) (λ f. usage) (λ f k. usage) c.in-Infer.is
+    (λ f. usage) (λ f k. usage) c.in-Certify.is

@@ -7,4 +7,4 @@ pub returns-in-Ok-clause-stop : goal.returns-in-Ok-clause-stop
 returns-in-Ok-clause-stop g c =
     let content = g.S.Shelf.content c.args.shelf.now c.args.file.now in
     let read = subst (IsTold content) (sym c.deref.ensures.value) c.in-Ok.ensures.ok in
-    start_stops _ content c.args.p.now c.start_stop.result (c.start_stop.ensures content c.deref.result.now c.args.p.now read c.in-Err.ensures.refused)
+    start_stops _ content c.args.p.now c.in-Err.stop (c.in-Err.ensures.stop content read)

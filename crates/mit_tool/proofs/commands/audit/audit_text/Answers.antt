@@ -1,0 +1,34 @@
+use Rattle.std.specs.Prelude.{ℕ, List, [], map}
+use Rattle.tim_base.specs.Faults.{Rose}
+use Rattle.start_file.specs.Starts.{seen}
+use Rattle.mit_tool.specs.declared.status.Status.TheVariants.{Done}
+use Rattle.mit_tool.proofs.PrepareLemmas.{prepared_goes, prepare_stops, audit_stops, audit_next}
+use Rattle.mit_tool.proofs.AuditLemmas.{audited_after, audited_stop_after}
+use Rattle.mit_tool.proofs.EarlyLemmas.{prepare_not_late}
+use Rattle.mit_tool.proofs.commands.audit.audit_text.Goals as goal
+
+pub returns-in-Err-clause-stop : goal.returns-in-Err-clause-stop
+returns-in-Err-clause-stop g c =
+    prepare_stops (λ (name : List ℕ). Rose (g.S.Shelf.faults c.args.shelf.now name) (g.S.Shelf.faults c.prepare.new.shelf name)) (g.S.Shelf.content c.args.shelf.now)
+    c.args.file.now c.args.name.now _ (g.S.Shelf.content c.args.shelf.now c.args.starts.now) (audit_next c.args.setting.env c.args.setting.budget) c.in-Err.stop c.in-Err.ensures.stop
+
+pub returns-in-Err-clause-sound_stop : goal.returns-in-Err-clause-sound_stop
+returns-in-Err-clause-sound_stop g c = λ late.
+    absurd (prepare_not_late (λ (name : List ℕ). Rose (g.S.Shelf.faults c.args.shelf.now name) (g.S.Shelf.faults c.prepare.new.shelf name)) (g.S.Shelf.content c.args.shelf.now)
+    c.args.file.now c.args.name.now _ (g.S.Shelf.content c.args.shelf.now c.args.starts.now) c.in-Err.stop c.in-Err.ensures.stop late)
+
+pub returns-in-Ok-audit_after-clause-text : goal.returns-in-Ok-audit_after-clause-text
+returns-in-Ok-audit_after-clause-text g c =
+    let p = c.in-Ok.prepared in
+    prepared_goes (λ (name : List ℕ). Rose (g.S.Shelf.faults c.args.shelf.now name) (g.S.Shelf.faults c.prepare.new.shelf name)) (g.S.Shelf.content c.args.shelf.now)
+    c.args.file.now c.args.name.now (Rose (g.S.Shelf.faults c.args.shelf.now c.args.starts.now) (g.S.Shelf.faults c.prepare.new.shelf c.args.starts.now)) (g.S.Shelf.content c.args.shelf.now c.args.starts.now)
+    p.compiled.typed.labelled p.observer p.compiled.image (map seen p.starts.items) (audit_next c.args.setting.env c.args.setting.budget) Done c.in-Ok-audit_after.text.items c.in-Ok.ensures.ok
+    (audited_after c.args.setting.env c.args.setting.budget p.compiled.typed.labelled p.observer (map seen p.starts.items) _ [] Done c.in-Ok-audit_after.text.items c.new.ensures.items c.in-Ok-audit_after.ensures.text)
+
+pub returns-clause-stop : goal.returns-clause-stop
+returns-clause-stop g c =
+    let p = c.in-Ok.prepared in
+    audit_stops (λ (name : List ℕ). Rose (g.S.Shelf.faults c.args.shelf.now name) (g.S.Shelf.faults c.prepare.new.shelf name)) (g.S.Shelf.content c.args.shelf.now)
+    c.args.file.now c.args.name.now (Rose (g.S.Shelf.faults c.args.shelf.now c.args.starts.now) (g.S.Shelf.faults c.prepare.new.shelf c.args.starts.now)) (g.S.Shelf.content c.args.shelf.now c.args.starts.now)
+    p.compiled.typed.labelled p.observer p.compiled.image (map seen p.starts.items) (audit_next c.args.setting.env c.args.setting.budget) c.in-Err-audit_after.stop c.in-Ok.ensures.ok
+    (audited_stop_after c.args.setting.env c.args.setting.budget p.compiled.typed.labelled p.observer (map seen p.starts.items) _ [] c.in-Err-audit_after.stop c.new.ensures.items c.in-Err-audit_after.ensures.stop)

@@ -1,0 +1,16 @@
+use Rattle.std.proofs.Common.{ap, subst, ◌∙◌}
+use Rattle.mit_tool.specs.Envs.{CutFaultsIn}
+use Rattle.mit_tool.specs.Reports.{disagree_line}
+use Rattle.mit_tool.proofs.commands.cut.cut_stop.Goals as goal
+
+pub returns-in-Disagree : goal.returns-in-Disagree
+returns-in-Disagree c = λ e t q l ss is h. (
+  c.in-Disagree.run',
+  c.in-Disagree.what,
+  subst (CutFaultsIn e q l.number t ss) c.in-Disagree.is h,
+  c.disagree.ensures ∙ ap (λ p. disagree_line p c.in-Disagree.run' c.in-Disagree.what) is,
+)
+
+pub returns-in-TooMuch : goal.returns-in-TooMuch
+returns-in-TooMuch c = λ e t q l ss is h.
+    (c.in-TooMuch.count, subst (CutFaultsIn e q l.number t ss) c.in-TooMuch.is h, c.number.ensures)

@@ -1,0 +1,95 @@
+-- What audits stop with and what they tell, of the runs of a program and of a file of ready cycles.
+use Rattle.std.specs.Prelude.{◌≡◌, ◌≢◌, ◌≤◌, ◌+◌, ◌^◌, ℕ, List, ◌++◌, length, Option, Some, None}
+use Rattle.std.specs.List.{AllZip}
+use Rattle.tim_base.specs.Told.{limit, IsTold, IsTooLong}
+use Rattle.label_lattice.specs.declared.label.Label.{Label}
+use Rattle.timing_types.specs.Labelled.{LabelledProgram}
+use Rattle.start_file.specs.Starts.{StartValue}
+use Rattle.leak_bound.specs.Digits.{digits}
+use Rattle.leak_bound.specs.Records.{distinct_count}
+use Rattle.audit_parts.specs.declared.what.What.{What}
+use Rattle.leak_audit.specs.declared.report.AuditReport.{AuditReport}
+use Rattle.leak_audit.specs.declared.report.AuditFault.TheVariants.{Disagree, Unfinished, TooMuch}
+use Rattle.cut_audit.specs.declared.report.CutReport.{CutReport}
+use Rattle.cut_audit.specs.declared.report.CutFault.TheVariants as cut
+use Rattle.black_box.specs.declared.fault.ReadyFault.{ReadyFault}
+use Rattle.black_box.specs.declared.fault.ReadyFault.TheVariants.{Memory}
+use Rattle.black_box.specs.Audits.{same_cycles}
+use Rattle.black_box.specs.Files.{Holds, refusal}
+use Rattle.black_box.specs.Outcomes.{Outcome, IsOutcome}
+use Rattle.mit_tool.specs.declared.status.Status.{Status}
+use Rattle.mit_tool.specs.declared.status.Status.TheVariants as status
+use Rattle.mit_tool.specs.declared.words.EnvName.{EnvName}
+use Rattle.mit_tool.specs.Texts.{ready, read_fault_line, too_long_line}
+use Rattle.mit_tool.specs.Stages.{Then}
+use Rattle.mit_tool.specs.Envs.{ReportsIn, AuditFaultsIn, CutReportsIn, CutFaultsIn}
+use Rattle.mit_tool.specs.Reports.{audit_lines, cut_lines, disagree_line, unfinished_line, events_line, ready_fault_line, all_released, box_lines}
+
+-- ---- the runs of a program, for an observer, in a named environment, up to T
+
+-- two starts do not agree, a run has not halted, or too much is shown
+abbrev pub AuditStops : EnvName → ℕ → LabelledProgram → Label → List StartValue → Status → List ℕ → Type 0
+AuditStops e t q l ss status.Disagree x = (run : ℕ) × (what : What) × AuditFaultsIn e q l.number t ss (Disagree run what) × (x ≡ disagree_line q.program run what)
+AuditStops e t q l ss status.Unfinished x = (run : ℕ) × (cycle : ℕ) × AuditFaultsIn e q l.number t ss (Unfinished run cycle) × (x ≡ unfinished_line run cycle)
+AuditStops e t q l ss status.TooLong x = (count : ℕ) × AuditFaultsIn e q l.number t ss (TooMuch count) × (x ≡ events_line count)
+AuditStops e t q l ss _ x = ⊥
+
+-- the report, whose number of different sequences is within its bound
+pub record Audits (e : EnvName) (t : ℕ) (q : LabelledProgram) (l : Label) (ss : List StartValue) (r : AuditReport) : Type 0 where
+  pub report : ReportsIn e q l.number t ss r
+  pub bound : r.distinct ≤ r.base ^ r.exponent
+
+-- the lines of the report stand after a text
+abbrev pub HasAudited : EnvName → ℕ → LabelledProgram → Option Label → List StartValue → List ℕ → Status → List ℕ → Type 0
+HasAudited e t q None ss before = λ s x. ⊥
+HasAudited e t q (Some l) ss before =
+    Then (AuditStops e t q l ss) (Audits e t q l ss) (λ r s x.
+    (s ≡ status.Done) × (x ≡ before ++ audit_lines q.program.order l t r))
+
+-- ---- the same where runs may not have halted
+
+abbrev pub CutStops : EnvName → ℕ → LabelledProgram → Label → List StartValue → Status → List ℕ → Type 0
+CutStops e t q l ss status.Disagree x = (run : ℕ) × (what : What) × CutFaultsIn e q l.number t ss (cut.Disagree run what) × (x ≡ disagree_line q.program run what)
+CutStops e t q l ss status.TooLong x = (count : ℕ) × CutFaultsIn e q l.number t ss (cut.TooMuch count) × (x ≡ events_line count)
+CutStops e t q l ss _ x = ⊥
+
+pub record Cuts (e : EnvName) (t : ℕ) (q : LabelledProgram) (l : Label) (ss : List StartValue) (r : CutReport) : Type 0 where
+  pub report : CutReportsIn e q l.number t ss r
+  pub bound : r.distinct ≤ r.base ^ r.exponent
+
+abbrev pub HasCut : EnvName → ℕ → LabelledProgram → Option Label → List StartValue → Status → List ℕ → Type 0
+HasCut e t q None ss = λ s x. ⊥
+HasCut e t q (Some l) ss =
+    Then (CutStops e t q l ss) (Cuts e t q l ss) (λ r s x.
+    (s ≡ status.Done) × (x ≡ cut_lines q.program.order l t r))
+
+-- ---- a file of ready cycles
+
+-- the runs that the file holds
+pub record HoldsRuns (content : Option (Option (List ℕ))) (runs : List (List ℕ)) : Type 0 where
+  pub bytes : List ℕ
+  pub are : IsTold content bytes
+  pub short : length bytes ≤ limit
+  pub taken : refusal bytes ≡ None
+  pub holds : Holds bytes runs
+
+pub record HasReadyFault (content : Option (Option (List ℕ))) (t : List ℕ) : Type 0 where
+  pub bytes : List ℕ
+  pub are : IsTold content bytes
+  pub fault : ReadyFault
+  pub none : fault ≢ Memory
+  pub is : refusal bytes ≡ Some fault
+  pub line : t ≡ ready_fault_line fault
+
+abbrev pub ReadyStops : Type 0 → Option (Option (List ℕ)) → Status → List ℕ → Type 0
+ReadyStops Rose content status.ReadFault t = Rose × (t ≡ read_fault_line ready)
+ReadyStops Rose content status.TooLong t = IsTooLong content × (t ≡ too_long_line ready)
+ReadyStops Rose content status.Starts t = HasReadyFault content t
+ReadyStops Rose content _ t = ⊥
+
+-- what is released by the schedule, where the number of different lists of releases is within its bound
+abbrev pub HasReleased : ℕ → ℕ → List (List ℕ) → Status → List ℕ → Type 0
+HasReleased first t runs s x =
+    (s ≡ status.Done) × (outcomes : List Outcome) × AllZip (IsOutcome first t) runs outcomes
+    × (distinct_count same_cycles (all_released outcomes) ≤ (t + 1) ^ digits t)
+    × (x ≡ box_lines first t runs outcomes)

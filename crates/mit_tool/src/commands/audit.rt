@@ -1,0 +1,124 @@
+//! `audit`: how many different sequences an observer can tell apart, and the bound of that.
+
+ghost use Rattle.std.specs.Prelude.{◌≡◌, ◌≤◌, ℕ, List, Some, IfOk, IfErr, OnOk, IsTrue, map};
+ghost use Rattle.tim_base.specs.Faults.{Rose};
+ghost use Rattle.label_lattice.specs.declared.label.Label.{Label};
+ghost use Rattle.timing_types.specs.Labelled.{LabelledProgram};
+ghost use Rattle.start_file.specs.Starts.{StartValue, seen};
+ghost use Rattle.mit_tool.specs.Ends.{IsStop, status_of};
+ghost use Rattle.mit_tool.specs.WordsAsked.{IsCycles, audit};
+ghost use Rattle.mit_tool.specs.Envs.{AuditFaultsIn};
+ghost use Rattle.mit_tool.specs.Audited.{AuditStops, Audits, HasAudited};
+ghost use Rattle.mit_tool.specs.Answers.{IsAnswer, CanAudit, is_past_typing};
+ghost use Rattle.mit_tool.specs.Accepted.{IsAccepted};
+
+use crate::commands::prepared::{Prepared, prepare};
+use crate::commands::run::Setting;
+use crate::lines;
+use crate::pieces::audits::put_audit;
+use crate::stages::no_memory;
+use crate::status::Status;
+use crate::stop::Stop;
+use crate::words::EnvName;
+use env_contract::make::MakeFlat;
+use leak_audit::audit::audit;
+use leak_audit::report::{AuditFault, AuditReport};
+use mit_syntax::program::Program;
+use part_tlb::part::MakePart;
+use part_tlb::part2::MakePart2;
+use std::alloc::Global;
+use tim_base::shelf::Shelf;
+
+/// Audits in the environment of a name.
+fn audit_named(alloc: Global, p: &Prepared, setting: Setting) -> Result<AuditReport, AuditFault>
+    requires fit { CanAudit p.now.compiled.typed.labelled p.now.observer p.now.compiled.image (map seen p.now.starts.items) }
+    requires cycles { IsCycles setting.budget }
+    ensures report { IfOk result (Audits setting.env setting.budget p.now.compiled.typed.labelled p.now.observer (map seen p.now.starts.items)) }
+    ensures fault { IfErr result (AuditFaultsIn setting.env p.now.compiled.typed.labelled p.now.observer.number setting.budget (map seen p.now.starts.items)) }
+{
+    let (typed, image, starts) = (&p.compiled.typed, &p.compiled.image, p.starts.as_slice());
+    let (observer, budget) = (p.observer, setting.budget);
+    match setting.env {
+        EnvName::Flat => audit(alloc, typed, image, starts, observer, budget, &MakeFlat),
+        EnvName::Part => audit(alloc, typed, image, starts, observer, budget, &MakePart),
+        EnvName::Part2 => audit(alloc, typed, image, starts, observer, budget, &MakePart2),
+    }
+}
+
+// The stop for an audit without a report.
+fn audit_stop(p: &Program, fault: AuditFault) -> Stop
+    ensures { (e : EnvName) (t : ℕ) (q : LabelledProgram) (l : Label) (ss : List StartValue) → p.now ≡ q.program → AuditFaultsIn e q l.number t ss fault → IsStop (AuditStops e t q l ss) result }
+{
+    match fault {
+        AuditFault::Disagree { run, what } => Stop::With {
+            status: Status::Disagree,
+            line: lines::report::disagree(p, run, what),
+        },
+        AuditFault::Unfinished { run, cycle } => Stop::With {
+            status: Status::Unfinished,
+            line: lines::report::unfinished(run, cycle),
+        },
+        AuditFault::TooMuch { count } => Stop::With {
+            status: Status::TooLong,
+            line: lines::number(b"too long: events ", count),
+        },
+        AuditFault::Memory => no_memory(),
+    }
+}
+
+/// A text and after it the lines of an audit's report.
+///
+/// # Errors
+/// Stops with `Disagree`, `Unfinished`, `TooLong` or `Memory`.
+pub fn audit_after(
+    alloc: Global,
+    mut text: Vec<u8>,
+    p: &Prepared,
+    setting: Setting,
+) -> Result<Vec<u8>, Stop>
+    requires fit { CanAudit p.now.compiled.typed.labelled p.now.observer p.now.compiled.image (map seen p.now.starts.items) }
+    requires cycles { IsCycles setting.budget }
+    ensures text { IfOk result (λ v. HasAudited setting.env setting.budget p.now.compiled.typed.labelled (Some p.now.observer) (map seen p.now.starts.items) text.items Status.Done v.items) }
+    ensures stop { IfErr result (IsStop (HasAudited setting.env setting.budget p.now.compiled.typed.labelled (Some p.now.observer) (map seen p.now.starts.items) text.items)) }
+{
+    let program = p.compiled.typed.labelled().program();
+    let report = match audit_named(alloc, p, setting) {
+        Ok(report) => report,
+        Err(fault) => return Err(audit_stop(program, fault)),
+    };
+    let order = program.lattice();
+    match put_audit(&mut text, &order, p.observer, setting.budget, &report) {
+        Ok(()) => Ok(text),
+        Err(_) => Err(no_memory()),
+    }
+}
+
+/// The text of an audit of the program of a file from the starts of another one.
+///
+/// # Errors
+/// Stops with the first refusal, or with `Memory`.
+pub fn audit_text<S: Shelf>(
+    alloc: Global,
+    shelf: &mut S,
+    file: &str,
+    starts: &str,
+    name: &str,
+    setting: Setting,
+) -> Result<Vec<u8>, Stop>
+    requires { IsCycles setting.budget }
+    ensures same { (name : List ℕ) → S.content shelf.new name ≡ S.content shelf.old name }
+    ensures later { (name : List ℕ) → S.faults shelf.old name ≤ S.faults shelf.new name }
+    ensures text { IfOk result (λ v. IsAnswer (λ name. Rose (S.faults shelf.old name) (S.faults shelf.new name)) (S.content shelf.old) (audit file.now starts.now name.now setting.env setting.budget) Status.Done v.items) }
+    ensures stop { IfErr result (IsStop (IsAnswer (λ name. Rose (S.faults shelf.old name) (S.faults shelf.new name)) (S.content shelf.old) (audit file.now starts.now name.now setting.env setting.budget))) }
+    ensures sound { OnOk result (IsAccepted (S.content shelf.old file.now)) }
+    ensures sound_stop { IfErr result (λ e. IsTrue (is_past_typing (status_of e)) → IsAccepted (S.content shelf.old file.now)) }
+{
+    let prepared = match prepare(alloc, shelf, file, starts, name) {
+        Ok(prepared) => prepared,
+        Err(stop) => return Err(stop),
+    };
+    match audit_after(alloc, Vec::new(alloc), &prepared, setting) {
+        Ok(text) => Ok(text),
+        Err(stop) => Err(stop),
+    }
+}

@@ -1,0 +1,63 @@
+//! `blackbox`: the releases of a black box for the runs of a file.
+
+ghost use Rattle.std.specs.Prelude.{◌≡◌, ◌≤◌, ℕ, List, IfOk, IfErr, length};
+ghost use Rattle.tim_base.specs.Faults.{Rose};
+ghost use Rattle.black_box.specs.Files.{ready_lists};
+ghost use Rattle.mit_tool.specs.Ends.{IsStop};
+ghost use Rattle.mit_tool.specs.WordsAsked.{IsCycles, blackbox};
+ghost use Rattle.mit_tool.specs.Audited.{HasReleased};
+ghost use Rattle.mit_tool.specs.Answers.{IsAnswer};
+
+use crate::pieces::boxes::put_box;
+use crate::stages::no_memory;
+use crate::stages::ready::ready_runs;
+use crate::status::Status;
+use crate::stop::Stop;
+use black_box::audit::box_audit;
+use std::alloc::Global;
+use tim_base::pos::Memory;
+use tim_base::shelf::Shelf;
+
+// The text of runs with these ready cycles.
+fn released(alloc: Global, all: &[Vec<u64>], first: u64, budget: u64) -> Result<Vec<u8>, Memory>
+    requires few { length all.now ≤ 4096 }
+    requires first { IsCycles first }
+    requires budget { IsCycles budget }
+    ensures { IfOk result (λ v. HasReleased first budget (ready_lists all.now) Status.Done v.items) }
+{
+    let audit = box_audit(alloc, all, first, budget)?;
+    let mut text = Vec::new(alloc);
+    match put_box(&mut text, all, first, budget, &audit) {
+        Ok(()) => Ok(text),
+        Err(_) => Err(Memory),
+    }
+}
+
+/// The text of a black box for the runs of a file: what is released when, how many different lists of releases
+/// there are, and their bound. The distance of the slots in the first epoch and the budget are in cycles.
+///
+/// # Errors
+/// Stops with the first refusal, or with `Memory`.
+pub fn blackbox_text<S: Shelf>(
+    alloc: Global,
+    shelf: &mut S,
+    file: &str,
+    first: u64,
+    budget: u64,
+) -> Result<Vec<u8>, Stop>
+    requires first { IsCycles first }
+    requires budget { IsCycles budget }
+    ensures same { (name : List ℕ) → S.content shelf.new name ≡ S.content shelf.old name }
+    ensures later { (name : List ℕ) → S.faults shelf.old name ≤ S.faults shelf.new name }
+    ensures text { IfOk result (λ v. IsAnswer (λ name. Rose (S.faults shelf.old name) (S.faults shelf.new name)) (S.content shelf.old) (blackbox file.now first budget) Status.Done v.items) }
+    ensures stop { IfErr result (IsStop (IsAnswer (λ name. Rose (S.faults shelf.old name) (S.faults shelf.new name)) (S.content shelf.old) (blackbox file.now first budget))) }
+{
+    let runs = match ready_runs(alloc, shelf, file) {
+        Ok(runs) => runs,
+        Err(stop) => return Err(stop),
+    };
+    match released(alloc, runs.as_slice(), first, budget) {
+        Ok(text) => Ok(text),
+        Err(_) => Err(no_memory()),
+    }
+}

@@ -1,0 +1,39 @@
+//! `compile`: the text of a program's image.
+
+ghost use Rattle.std.specs.Prelude.{◌≡◌, ◌≤◌, ℕ, List, IfOk, IfErr, OnOk, IsTrue};
+ghost use Rattle.tim_base.specs.Faults.{Rose};
+ghost use Rattle.mit_tool.specs.Ends.{IsStop, status_of};
+ghost use Rattle.mit_tool.specs.WordsAsked.{compile};
+ghost use Rattle.mit_tool.specs.Answers.{IsAnswer, is_past_typing};
+ghost use Rattle.mit_tool.specs.Accepted.{IsAccepted};
+
+use crate::compiled::compile;
+use crate::stages::no_memory;
+use crate::status::Status;
+use crate::stop::Stop;
+use image_print::print::print_image;
+use std::alloc::Global;
+use tim_base::shelf::Shelf;
+
+/// The text of the image of the program of a file.
+///
+/// # Errors
+/// Stops with the first refusal, or with `Memory`.
+pub fn compile_text<S: Shelf>(alloc: Global, shelf: &mut S, file: &str) -> Result<Vec<u8>, Stop>
+    ensures same { (name : List ℕ) → S.content shelf.new name ≡ S.content shelf.old name }
+    ensures later { (name : List ℕ) → S.faults shelf.old name ≤ S.faults shelf.new name }
+    ensures text { IfOk result (λ v. IsAnswer (λ name. Rose (S.faults shelf.old name) (S.faults shelf.new name)) (S.content shelf.old) (compile file.now) Status.Done v.items) }
+    ensures stop { IfErr result (IsStop (IsAnswer (λ name. Rose (S.faults shelf.old name) (S.faults shelf.new name)) (S.content shelf.old) (compile file.now))) }
+    ensures sound { OnOk result (IsAccepted (S.content shelf.old file.now)) }
+    ensures sound_stop { IfErr result (λ e. IsTrue (is_past_typing (status_of e)) → IsAccepted (S.content shelf.old file.now)) }
+{
+    let compiled = match compile(alloc, shelf, file, None) {
+        Ok(compiled) => compiled,
+        Err(stop) => return Err(stop),
+    };
+    let program = compiled.typed.labelled().program();
+    match print_image(alloc, &compiled.image, program) {
+        Ok(text) => Ok(text),
+        Err(_) => Err(no_memory()),
+    }
+}

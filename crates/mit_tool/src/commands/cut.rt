@@ -1,0 +1,113 @@
+//! `cut`: how many different sequences an observer can tell apart by a cycle, whether or not the runs have halted.
+
+ghost use Rattle.std.specs.Prelude.{◌≡◌, ◌≤◌, ℕ, List, Some, IfOk, IfErr, OnOk, IsTrue, map};
+ghost use Rattle.tim_base.specs.Faults.{Rose};
+ghost use Rattle.label_lattice.specs.declared.label.Label.{Label};
+ghost use Rattle.timing_types.specs.Labelled.{LabelledProgram};
+ghost use Rattle.start_file.specs.Starts.{StartValue, seen};
+ghost use Rattle.mit_tool.specs.Ends.{IsStop, status_of};
+ghost use Rattle.mit_tool.specs.WordsAsked.{IsCycles, cut};
+ghost use Rattle.mit_tool.specs.Envs.{CutFaultsIn};
+ghost use Rattle.mit_tool.specs.Audited.{CutStops, Cuts, HasCut};
+ghost use Rattle.mit_tool.specs.Answers.{IsAnswer, CanAudit, is_past_typing};
+ghost use Rattle.mit_tool.specs.Accepted.{IsAccepted};
+
+use crate::commands::prepared::{Prepared, prepare};
+use crate::commands::run::Setting;
+use crate::lines;
+use crate::pieces::audits::put_cut;
+use crate::stages::no_memory;
+use crate::status::Status;
+use crate::stop::Stop;
+use crate::words::EnvName;
+use cut_audit::cut::cut;
+use cut_audit::report::{CutFault, CutReport};
+use env_contract::make::MakeFlat;
+use mit_syntax::program::Program;
+use part_tlb::part::MakePart;
+use part_tlb::part2::MakePart2;
+use std::alloc::Global;
+use tim_base::shelf::Shelf;
+
+/// Audits runs that may not have halted in the environment of a name.
+fn cut_named(alloc: Global, p: &Prepared, setting: Setting) -> Result<CutReport, CutFault>
+    requires fit { CanAudit p.now.compiled.typed.labelled p.now.observer p.now.compiled.image (map seen p.now.starts.items) }
+    requires cycles { IsCycles setting.budget }
+    ensures report { IfOk result (Cuts setting.env setting.budget p.now.compiled.typed.labelled p.now.observer (map seen p.now.starts.items)) }
+    ensures fault { IfErr result (CutFaultsIn setting.env p.now.compiled.typed.labelled p.now.observer.number setting.budget (map seen p.now.starts.items)) }
+{
+    let (typed, image, starts) = (&p.compiled.typed, &p.compiled.image, p.starts.as_slice());
+    let (observer, budget) = (p.observer, setting.budget);
+    match setting.env {
+        EnvName::Flat => cut(alloc, typed, image, starts, observer, budget, &MakeFlat),
+        EnvName::Part => cut(alloc, typed, image, starts, observer, budget, &MakePart),
+        EnvName::Part2 => cut(alloc, typed, image, starts, observer, budget, &MakePart2),
+    }
+}
+
+// The stop for an audit without a report.
+fn cut_stop(p: &Program, fault: CutFault) -> Stop
+    ensures { (e : EnvName) (t : ℕ) (q : LabelledProgram) (l : Label) (ss : List StartValue) → p.now ≡ q.program → CutFaultsIn e q l.number t ss fault → IsStop (CutStops e t q l ss) result }
+{
+    match fault {
+        CutFault::Disagree { run, what } => Stop::With {
+            status: Status::Disagree,
+            line: lines::report::disagree(p, run, what),
+        },
+        CutFault::TooMuch { count } => Stop::With {
+            status: Status::TooLong,
+            line: lines::number(b"too long: events ", count),
+        },
+        CutFault::Memory => no_memory(),
+    }
+}
+
+// The lines of an audit's report.
+fn cut_report(alloc: Global, p: &Prepared, setting: Setting) -> Result<Vec<u8>, Stop>
+    requires fit { CanAudit p.now.compiled.typed.labelled p.now.observer p.now.compiled.image (map seen p.now.starts.items) }
+    requires cycles { IsCycles setting.budget }
+    ensures text { IfOk result (λ v. HasCut setting.env setting.budget p.now.compiled.typed.labelled (Some p.now.observer) (map seen p.now.starts.items) Status.Done v.items) }
+    ensures stop { IfErr result (IsStop (HasCut setting.env setting.budget p.now.compiled.typed.labelled (Some p.now.observer) (map seen p.now.starts.items))) }
+{
+    let program = p.compiled.typed.labelled().program();
+    let report = match cut_named(alloc, p, setting) {
+        Ok(report) => report,
+        Err(fault) => return Err(cut_stop(program, fault)),
+    };
+    let order = program.lattice();
+    let mut text = Vec::new(alloc);
+    match put_cut(&mut text, &order, p.observer, setting.budget, &report) {
+        Ok(()) => Ok(text),
+        Err(_) => Err(no_memory()),
+    }
+}
+
+/// The text of an audit of the program of a file from the starts of another one, up to a budget in cycles.
+///
+/// # Errors
+/// Stops with the first refusal, or with `Memory`.
+pub fn cut_text<S: Shelf>(
+    alloc: Global,
+    shelf: &mut S,
+    file: &str,
+    starts: &str,
+    name: &str,
+    setting: Setting,
+) -> Result<Vec<u8>, Stop>
+    requires { IsCycles setting.budget }
+    ensures same { (name : List ℕ) → S.content shelf.new name ≡ S.content shelf.old name }
+    ensures later { (name : List ℕ) → S.faults shelf.old name ≤ S.faults shelf.new name }
+    ensures text { IfOk result (λ v. IsAnswer (λ name. Rose (S.faults shelf.old name) (S.faults shelf.new name)) (S.content shelf.old) (cut file.now starts.now name.now setting.env setting.budget) Status.Done v.items) }
+    ensures stop { IfErr result (IsStop (IsAnswer (λ name. Rose (S.faults shelf.old name) (S.faults shelf.new name)) (S.content shelf.old) (cut file.now starts.now name.now setting.env setting.budget))) }
+    ensures sound { OnOk result (IsAccepted (S.content shelf.old file.now)) }
+    ensures sound_stop { IfErr result (λ e. IsTrue (is_past_typing (status_of e)) → IsAccepted (S.content shelf.old file.now)) }
+{
+    let prepared = match prepare(alloc, shelf, file, starts, name) {
+        Ok(prepared) => prepared,
+        Err(stop) => return Err(stop),
+    };
+    match cut_report(alloc, &prepared, setting) {
+        Ok(text) => Ok(text),
+        Err(stop) => Err(stop),
+    }
+}

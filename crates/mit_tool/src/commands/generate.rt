@@ -1,0 +1,114 @@
+//! `gen`: a made program is audited.
+
+ghost use Rattle.std.specs.Prelude.{◌≡◌, ◌≤◌, Some, IfOk, IfErr, OnOk, IsTrue, [], length, map, codes};
+ghost use Rattle.start_file.specs.Starts.{seen};
+ghost use Rattle.mit_gen.specs.Made.{program_text, starts_text};
+ghost use Rattle.mit_syntax.specs.Plan.{count};
+ghost use Rattle.mit_syntax.specs.Program.{plan_of};
+ghost use Rattle.mit_tool.specs.Reports.{made_lines};
+ghost use Rattle.mit_tool.specs.Ends.{IsStop, status_of};
+ghost use Rattle.mit_tool.specs.Answers.{HasGenerated, made_content, IsPrepared, CanAudit, PrepareStops, is_past_typing};
+ghost use Rattle.mit_tool.specs.Accepted.{IsAccepted};
+
+use crate::commands::audit::audit_after;
+use crate::commands::prepared::Prepared;
+use crate::commands::run::Setting;
+use crate::compiled::compile_program;
+use crate::pieces::audits::put_made;
+use crate::stages::no_memory;
+use crate::stages::program::program_of;
+use crate::stages::starts::starts_of;
+use crate::status::Status;
+use crate::stop::Stop;
+use crate::words::EnvName;
+use mit_gen::made::{Made, make};
+use std::alloc::{AllocError, Global};
+
+/// The environment and the budget of the audit of a made program.
+const SETTING: Setting = Setting {
+    env: EnvName::Part,
+    budget: 1 << 40,
+};
+
+// What the audit of a made program begins with.
+fn prepare_made(alloc: Global, made: &Made, size: u32, number: u32) -> Result<Prepared, Stop>
+    requires program { made.now.program.items ≡ program_text size number }
+    requires starts { made.now.starts.items ≡ starts_text }
+    requires short { (length made.now.program.items ≤ 1048576) × (length made.now.starts.items ≤ 1048576) }
+    ensures ok { IfOk result (λ r. IsPrepared (made_content size number) [] (codes "L") (Some (Some starts_text)) r.compiled.typed.labelled r.observer r.compiled.image (map seen r.starts.items)) }
+    ensures fit { IfOk result (λ r. CanAudit r.compiled.typed.labelled r.observer r.compiled.image (map seen r.starts.items)) }
+    ensures stop { IfErr result (IsStop (PrepareStops (λ name. ⊥) (made_content size number) [] (codes "L") ⊥ (Some (Some starts_text)))) }
+    ensures sound { OnOk result (IsAccepted (Some (Some (program_text size number)))) }
+{
+    let program = match program_of(alloc, made.program.as_slice()) {
+        Ok(program) => program,
+        Err(stop) => return Err(stop),
+    };
+    let compiled = match compile_program(alloc, program, Some("L")) {
+        Ok(compiled) => compiled,
+        Err(stop) => return Err(stop),
+    };
+    let observer = compiled.observer.unwrap();
+    match starts_of(
+        alloc,
+        made.starts.as_slice(),
+        compiled.typed.labelled().program(),
+    ) {
+        Ok(starts) => Ok(Prepared {
+            compiled,
+            observer,
+            starts,
+        }),
+        Err(stop) => Err(stop),
+    }
+}
+
+// What is told of a made program before its audit.
+fn made_text(
+    alloc: Global,
+    made: &Made,
+    p: &Prepared,
+    size: u32,
+    number: u32,
+) -> Result<Vec<u8>, AllocError>
+    requires { made.now.program.items ≡ program_text size number }
+    ensures { IfOk result (λ v. v.items ≡ made_lines size number (count (plan_of p.now.compiled.typed.labelled.program)) (length p.now.compiled.image.instrs)) }
+{
+    let mut text = Vec::new(alloc);
+    let commands = p.compiled.typed.labelled().program().commands();
+    let instructions = p.compiled.image.len();
+    let program = made.program.as_slice();
+    put_made(&mut text, size, number, program, commands, instructions)?;
+    Ok(text)
+}
+
+/// The text of the audit of a made program, after what is told of the program. The size is from 1 to 10,000
+/// units, and the number at most 2,147,483,647.
+///
+/// # Errors
+/// Stops with the first refusal, or with `Memory`.
+pub fn gen_text(alloc: Global, size: u32, number: u32) -> Result<Vec<u8>, Stop>
+    requires some { 1 ≤ size }
+    requires few { size ≤ 10000 }
+    requires number { number ≤ 2147483647 }
+    ensures text { IfOk result (λ v. HasGenerated size number Status.Done v.items) }
+    ensures stop { IfErr result (IsStop (HasGenerated size number)) }
+    ensures sound { OnOk result (IsAccepted (Some (Some (program_text size number)))) }
+    ensures sound_stop { IfErr result (λ e. IsTrue (is_past_typing (status_of e)) → IsAccepted (Some (Some (program_text size number)))) }
+{
+    let Ok(made) = make(alloc, size, number) else {
+        return Err(no_memory());
+    };
+    let prepared = match prepare_made(alloc, &made, size, number) {
+        Ok(prepared) => prepared,
+        Err(stop) => return Err(stop),
+    };
+    let text = match made_text(alloc, &made, &prepared, size, number) {
+        Ok(text) => text,
+        Err(_) => return Err(no_memory()),
+    };
+    match audit_after(alloc, text, &prepared, SETTING) {
+        Ok(text) => Ok(text),
+        Err(stop) => Err(stop),
+    }
+}
