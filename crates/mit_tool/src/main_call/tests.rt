@@ -31,7 +31,7 @@ const USAGE: &str = "usage: mitigate check FILE
        mitigate recheck FILE CERTIFICATE
 ";
 
-static ROWS: [Row; 89] = [
+static RUNS_A: [Row; 13] = [
     Row {
         shows: "an assignment without caches",
         words: "run p.mit --env flat",
@@ -179,6 +179,9 @@ static ROWS: [Row; 89] = [
         text: "end @19\n",
         status: 0,
     },
+];
+
+static RUNS_B: [Row; 13] = [
     Row {
         shows: "an estimate of 0",
         words: "run p.mit --env flat",
@@ -276,138 +279,6 @@ static ROWS: [Row; 89] = [
         status: 0,
     },
     Row {
-        shows: "a budget of 0",
-        words: "run p.mit --env part --budget 0",
-        files: &[("p.mit", b"var l : L; l := 7")],
-        fetch_fails: 0,
-        write_fails: 0,
-        text: USAGE,
-        status: 4,
-    },
-    Row {
-        shows: "a budget above the greatest",
-        words: "run p.mit --env part --budget 1099511627777",
-        files: &[("p.mit", b"var l : L; l := 7")],
-        fetch_fails: 0,
-        write_fails: 0,
-        text: USAGE,
-        status: 4,
-    },
-    Row {
-        shows: "steps to the end",
-        words: "meaning p.mit --steps 10",
-        files: &[("p.mit", b"var x : L; x := 2; while x do { x := x - 1 }")],
-        fetch_fails: 0,
-        write_fails: 0,
-        text: "x = 2\nx = 1\nx = 0\nended after 6 steps\n",
-        status: 0,
-    },
-    Row {
-        shows: "steps that do not suffice",
-        words: "meaning p.mit --steps 3",
-        files: &[("p.mit", b"var x : L; x := 2; while x do { x := x - 1 }")],
-        fetch_fails: 0,
-        write_fails: 0,
-        text: "x = 2\nx = 1\nnot ended after 3 steps\n",
-        status: 0,
-    },
-    Row {
-        shows: "no steps",
-        words: "meaning p.mit --steps 0",
-        files: &[("p.mit", b"var x : L; x := 2; while x do { x := x - 1 }")],
-        fetch_fails: 0,
-        write_fails: 0,
-        text: "not ended after 0 steps\n",
-        status: 0,
-    },
-    Row {
-        shows: "quotients and remainders",
-        words: "meaning p.mit --steps 9",
-        files: &[(
-            "p.mit",
-            b"var a : L; a := (0 - 9223372036854775807 - 1) / (0 - 1); a := 7 / 0; a := 7 % 0; a := (0 - 7) % 3",
-        )],
-        fetch_fails: 0,
-        write_fails: 0,
-        text: "a = -9223372036854775808\na = 0\na = 7\na = -1\nended after 4 steps\n",
-        status: 0,
-    },
-    Row {
-        shows: "elements of an array by their places",
-        words: "meaning p.mit --steps 9",
-        files: &[(
-            "p.mit",
-            b"var a[3] : L; var i : L; a[4] := 5; i := a[0 - 2]; a[i] := 1",
-        )],
-        fetch_fails: 0,
-        write_fails: 0,
-        text: "a[1] = 5\ni = 5\na[2] = 1\nended after 3 steps\n",
-        status: 0,
-    },
-    Row {
-        shows: "an empty program",
-        words: "run p.mit --env flat",
-        files: &[("p.mit", b"")],
-        fetch_fails: 0,
-        write_fails: 0,
-        text: "syntax: unexpected at 1:1\n",
-        status: 2,
-    },
-    Row {
-        shows: "half an assignment",
-        words: "run p.mit --env flat",
-        files: &[("p.mit", b"var l : L; l :")],
-        fetch_fails: 0,
-        write_fails: 0,
-        text: "syntax: unexpected at 1:14\n",
-        status: 2,
-    },
-    Row {
-        shows: "a name that is not declared",
-        words: "run p.mit --env flat",
-        files: &[("p.mit", b"l := 7")],
-        fetch_fails: 0,
-        write_fails: 0,
-        text: "syntax: unknown name at 1:1\n",
-        status: 2,
-    },
-    Row {
-        shows: "a byte that begins no token",
-        words: "run p.mit --env flat",
-        files: &[("p.mit", b"skip $")],
-        fetch_fails: 0,
-        write_fails: 0,
-        text: "syntax: bad byte at 1:6\n",
-        status: 2,
-    },
-    Row {
-        shows: "bytes that are no text",
-        words: "run p.mit --env flat",
-        files: &[("p.mit", b"sk\xff")],
-        fetch_fails: 0,
-        write_fails: 0,
-        text: "syntax: not UTF-8 at byte 2\n",
-        status: 2,
-    },
-    Row {
-        shows: "a number that is too wide",
-        words: "run p.mit --env flat",
-        files: &[("p.mit", b"sleep 9223372036854775808")],
-        fetch_fails: 0,
-        write_fails: 0,
-        text: "syntax: wide number at 1:7\n",
-        status: 2,
-    },
-    Row {
-        shows: "a name that is too long",
-        words: "run p.mit --env flat",
-        files: &[("p.mit", b"aaaaaaaaaaaaaaaaaaaaaaaaaaaaaaaaa")],
-        fetch_fails: 0,
-        write_fails: 0,
-        text: "syntax: long name at 1:1\n",
-        status: 2,
-    },
-    Row {
         shows: "a hundred open brackets",
         words: "run p.mit --env flat",
         files: &[(
@@ -420,84 +291,6 @@ static ROWS: [Row; 89] = [
         status: 0,
     },
     Row {
-        shows: "one bracket more",
-        words: "run p.mit --env flat",
-        files: &[(
-            "p.mit",
-            b"sleep (((((((((((((((((((((((((((((((((((((((((((((((((((((((((((((((((((((((((((((((((((((((((((((((((((((1)))))))))))))))))))))))))))))))))))))))))))))))))))))))))))))))))))))))))))))))))))))))))))))))))))))",
-        )],
-        fetch_fails: 0,
-        write_fails: 0,
-        text: "syntax: too deep at 1:107\n",
-        status: 2,
-    },
-    Row {
-        shows: "labels without a join",
-        words: "run p.mit --env flat",
-        files: &[("p.mit", b"labels L, A, B; order L < A, L < B; skip")],
-        fetch_fails: 0,
-        write_fails: 0,
-        text: "syntax: no join of A and B\n",
-        status: 2,
-    },
-    Row {
-        shows: "labels without a bottom",
-        words: "run p.mit --env flat",
-        files: &[("p.mit", b"labels A, B, T; order A < T, B < T; skip")],
-        fetch_fails: 0,
-        write_fails: 0,
-        text: "syntax: no bottom below A and B\n",
-        status: 2,
-    },
-    Row {
-        shows: "labels in a circle",
-        words: "run p.mit --env flat",
-        files: &[("p.mit", b"labels A, B; order A < B, B < A; skip")],
-        fetch_fails: 0,
-        write_fails: 0,
-        text: "syntax: order cycle between A and B\n",
-        status: 2,
-    },
-    Row {
-        shows: "a direct flow",
-        words: "check p.mit",
-        files: &[("p.mit", b"var l : L; var h : H; l := h")],
-        fetch_fails: 0,
-        write_fails: 0,
-        text: "refused T-ASGN at 1:23: H does not flow to L\n",
-        status: 1,
-    },
-    Row {
-        shows: "a flow by timing alone",
-        words: "check p.mit",
-        files: &[(
-            "p.mit",
-            b"var l : L; var h : H; while h > 0 do { skip }; l := 1",
-        )],
-        fetch_fails: 0,
-        write_fails: 0,
-        text: "refused T-ASGN at 1:48: H does not flow to L\n",
-        status: 1,
-    },
-    Row {
-        shows: "a level that is too low",
-        words: "check p.mit",
-        files: &[("p.mit", b"var h : H; mitigate (1, L) { h := h }")],
-        fetch_fails: 0,
-        write_fails: 0,
-        text: "refused T-MTG at 1:12: H does not flow to L\n",
-        status: 1,
-    },
-    Row {
-        shows: "a write label that is too low",
-        words: "check p.mit",
-        files: &[("p.mit", b"var h : H; if h > 0 then { skip @[L, L] }")],
-        fetch_fails: 0,
-        write_fails: 0,
-        text: "refused T-SKIP at 1:28: H does not flow to L\n",
-        status: 1,
-    },
-    Row {
         shows: "timing of labels side by side",
         words: "run p.mit --env flat",
         files: &[(
@@ -508,69 +301,6 @@ static ROWS: [Row; 89] = [
         write_fails: 0,
         text: "refused T-ASGN at 1:84: A does not flow to B\n",
         status: 1,
-    },
-    Row {
-        shows: "a written label below an index",
-        words: "check p.mit",
-        files: &[(
-            "p.mit",
-            b"var a[4] : L; var h : H; var g : H; g := a[h] @[L, L]",
-        )],
-        fetch_fails: 0,
-        write_fails: 0,
-        text: "refused T-ASGN at 1:37: H does not flow to L\n",
-        status: 1,
-    },
-    Row {
-        shows: "omitted labels",
-        words: "check p.mit",
-        files: &[(
-            "p.mit",
-            b"var x; var h : H; x := h; mitigate (1) { x := h }",
-        )],
-        fetch_fails: 0,
-        write_fails: 0,
-        text: "accepted: commands 3, mitigates 1\n",
-        status: 0,
-    },
-    Row {
-        shows: "an accepted program",
-        words: "check p.mit",
-        files: &[(
-            "p.mit",
-            b"var l : L; var h : H; mitigate (64, H) { while h > 0 do { h := h - 1 } }; l := 1",
-        )],
-        fetch_fails: 0,
-        write_fails: 0,
-        text: "accepted: commands 4, mitigates 1\n",
-        status: 0,
-    },
-    Row {
-        shows: "an accepted index",
-        words: "check p.mit",
-        files: &[("p.mit", b"var a[4] : L; var h : H; var g : H; g := a[h]")],
-        fetch_fails: 0,
-        write_fails: 0,
-        text: "accepted: commands 1, mitigates 0\n",
-        status: 0,
-    },
-    Row {
-        shows: "an array without elements",
-        words: "check p.mit",
-        files: &[("p.mit", b"var a[0] : L; skip")],
-        fetch_fails: 0,
-        write_fails: 0,
-        text: "syntax: array size at 1:7\n",
-        status: 2,
-    },
-    Row {
-        shows: "an index on a scalar",
-        words: "check p.mit",
-        files: &[("p.mit", b"var x : L; x[0] := 1")],
-        fetch_fails: 0,
-        write_fails: 0,
-        text: "syntax: wrong use of a name at 1:12\n",
-        status: 2,
     },
     Row {
         shows: "a file that is absent",
@@ -605,6 +335,9 @@ static ROWS: [Row; 89] = [
         text: "l = 7 @2\nend @3\n",
         status: 0,
     },
+];
+
+static RUNS_C: [Row; 12] = [
     Row {
         shows: "touches of a high label",
         words: "run p.mit s.toml",
@@ -743,6 +476,27 @@ static ROWS: [Row; 89] = [
         text: "l = 7 @2\nend @3\n",
         status: 0,
     },
+];
+
+static FAULTY_WORDS: [Row; 5] = [
+    Row {
+        shows: "a budget of 0",
+        words: "run p.mit --env part --budget 0",
+        files: &[("p.mit", b"var l : L; l := 7")],
+        fetch_fails: 0,
+        write_fails: 0,
+        text: USAGE,
+        status: 4,
+    },
+    Row {
+        shows: "a budget above the greatest",
+        words: "run p.mit --env part --budget 1099511627777",
+        files: &[("p.mit", b"var l : L; l := 7")],
+        fetch_fails: 0,
+        write_fails: 0,
+        text: USAGE,
+        status: 4,
+    },
     Row {
         shows: "no words",
         words: "",
@@ -752,6 +506,330 @@ static ROWS: [Row; 89] = [
         text: USAGE,
         status: 4,
     },
+    Row {
+        shows: "an observer that is no label",
+        words: "run p.mit --observer X",
+        files: &[("p.mit", b"var l : L; l := 7")],
+        fetch_fails: 0,
+        write_fails: 0,
+        text: USAGE,
+        status: 4,
+    },
+    Row {
+        shows: "an environment that is not known",
+        words: "run p.mit --env none",
+        files: &[("p.mit", b"var l : L; l := 7")],
+        fetch_fails: 0,
+        write_fails: 0,
+        text: USAGE,
+        status: 4,
+    },
+];
+
+static MEANINGS: [Row; 5] = [
+    Row {
+        shows: "steps to the end",
+        words: "meaning p.mit --steps 10",
+        files: &[("p.mit", b"var x : L; x := 2; while x do { x := x - 1 }")],
+        fetch_fails: 0,
+        write_fails: 0,
+        text: "x = 2\nx = 1\nx = 0\nended after 6 steps\n",
+        status: 0,
+    },
+    Row {
+        shows: "steps that do not suffice",
+        words: "meaning p.mit --steps 3",
+        files: &[("p.mit", b"var x : L; x := 2; while x do { x := x - 1 }")],
+        fetch_fails: 0,
+        write_fails: 0,
+        text: "x = 2\nx = 1\nnot ended after 3 steps\n",
+        status: 0,
+    },
+    Row {
+        shows: "no steps",
+        words: "meaning p.mit --steps 0",
+        files: &[("p.mit", b"var x : L; x := 2; while x do { x := x - 1 }")],
+        fetch_fails: 0,
+        write_fails: 0,
+        text: "not ended after 0 steps\n",
+        status: 0,
+    },
+    Row {
+        shows: "quotients and remainders",
+        words: "meaning p.mit --steps 9",
+        files: &[(
+            "p.mit",
+            b"var a : L; a := (0 - 9223372036854775807 - 1) / (0 - 1); a := 7 / 0; a := 7 % 0; a := (0 - 7) % 3",
+        )],
+        fetch_fails: 0,
+        write_fails: 0,
+        text: "a = -9223372036854775808\na = 0\na = 7\na = -1\nended after 4 steps\n",
+        status: 0,
+    },
+    Row {
+        shows: "elements of an array by their places",
+        words: "meaning p.mit --steps 9",
+        files: &[(
+            "p.mit",
+            b"var a[3] : L; var i : L; a[4] := 5; i := a[0 - 2]; a[i] := 1",
+        )],
+        fetch_fails: 0,
+        write_fails: 0,
+        text: "a[1] = 5\ni = 5\na[2] = 1\nended after 3 steps\n",
+        status: 0,
+    },
+];
+
+static FAULTY_TEXTS: [Row; 14] = [
+    Row {
+        shows: "an empty program",
+        words: "run p.mit --env flat",
+        files: &[("p.mit", b"")],
+        fetch_fails: 0,
+        write_fails: 0,
+        text: "syntax: unexpected at 1:1\n",
+        status: 2,
+    },
+    Row {
+        shows: "half an assignment",
+        words: "run p.mit --env flat",
+        files: &[("p.mit", b"var l : L; l :")],
+        fetch_fails: 0,
+        write_fails: 0,
+        text: "syntax: unexpected at 1:14\n",
+        status: 2,
+    },
+    Row {
+        shows: "a name that is not declared",
+        words: "run p.mit --env flat",
+        files: &[("p.mit", b"l := 7")],
+        fetch_fails: 0,
+        write_fails: 0,
+        text: "syntax: unknown name at 1:1\n",
+        status: 2,
+    },
+    Row {
+        shows: "a byte that begins no token",
+        words: "run p.mit --env flat",
+        files: &[("p.mit", b"skip $")],
+        fetch_fails: 0,
+        write_fails: 0,
+        text: "syntax: bad byte at 1:6\n",
+        status: 2,
+    },
+    Row {
+        shows: "bytes that are no text",
+        words: "run p.mit --env flat",
+        files: &[("p.mit", b"sk\xff")],
+        fetch_fails: 0,
+        write_fails: 0,
+        text: "syntax: not UTF-8 at byte 2\n",
+        status: 2,
+    },
+    Row {
+        shows: "a number that is too wide",
+        words: "run p.mit --env flat",
+        files: &[("p.mit", b"sleep 9223372036854775808")],
+        fetch_fails: 0,
+        write_fails: 0,
+        text: "syntax: wide number at 1:7\n",
+        status: 2,
+    },
+    Row {
+        shows: "a name that is too long",
+        words: "run p.mit --env flat",
+        files: &[("p.mit", b"aaaaaaaaaaaaaaaaaaaaaaaaaaaaaaaaa")],
+        fetch_fails: 0,
+        write_fails: 0,
+        text: "syntax: long name at 1:1\n",
+        status: 2,
+    },
+    Row {
+        shows: "one bracket more",
+        words: "run p.mit --env flat",
+        files: &[(
+            "p.mit",
+            b"sleep (((((((((((((((((((((((((((((((((((((((((((((((((((((((((((((((((((((((((((((((((((((((((((((((((((((1)))))))))))))))))))))))))))))))))))))))))))))))))))))))))))))))))))))))))))))))))))))))))))))))))))))",
+        )],
+        fetch_fails: 0,
+        write_fails: 0,
+        text: "syntax: too deep at 1:107\n",
+        status: 2,
+    },
+    Row {
+        shows: "labels without a join",
+        words: "run p.mit --env flat",
+        files: &[("p.mit", b"labels L, A, B; order L < A, L < B; skip")],
+        fetch_fails: 0,
+        write_fails: 0,
+        text: "syntax: no join of A and B\n",
+        status: 2,
+    },
+    Row {
+        shows: "labels without a bottom",
+        words: "run p.mit --env flat",
+        files: &[("p.mit", b"labels A, B, T; order A < T, B < T; skip")],
+        fetch_fails: 0,
+        write_fails: 0,
+        text: "syntax: no bottom below A and B\n",
+        status: 2,
+    },
+    Row {
+        shows: "labels in a circle",
+        words: "run p.mit --env flat",
+        files: &[("p.mit", b"labels A, B; order A < B, B < A; skip")],
+        fetch_fails: 0,
+        write_fails: 0,
+        text: "syntax: order cycle between A and B\n",
+        status: 2,
+    },
+    Row {
+        shows: "an array without elements",
+        words: "check p.mit",
+        files: &[("p.mit", b"var a[0] : L; skip")],
+        fetch_fails: 0,
+        write_fails: 0,
+        text: "syntax: array size at 1:7\n",
+        status: 2,
+    },
+    Row {
+        shows: "an index on a scalar",
+        words: "check p.mit",
+        files: &[("p.mit", b"var x : L; x[0] := 1")],
+        fetch_fails: 0,
+        write_fails: 0,
+        text: "syntax: wrong use of a name at 1:12\n",
+        status: 2,
+    },
+    Row {
+        shows: "a program is read before an observer",
+        words: "run p.mit --observer X",
+        files: &[("p.mit", b"skip $")],
+        fetch_fails: 0,
+        write_fails: 0,
+        text: "syntax: bad byte at 1:6\n",
+        status: 2,
+    },
+];
+
+static LABELS: [Row; 11] = [
+    Row {
+        shows: "a direct flow",
+        words: "check p.mit",
+        files: &[("p.mit", b"var l : L; var h : H; l := h")],
+        fetch_fails: 0,
+        write_fails: 0,
+        text: "refused T-ASGN at 1:23: H does not flow to L\n",
+        status: 1,
+    },
+    Row {
+        shows: "a flow by timing alone",
+        words: "check p.mit",
+        files: &[(
+            "p.mit",
+            b"var l : L; var h : H; while h > 0 do { skip }; l := 1",
+        )],
+        fetch_fails: 0,
+        write_fails: 0,
+        text: "refused T-ASGN at 1:48: H does not flow to L\n",
+        status: 1,
+    },
+    Row {
+        shows: "a level that is too low",
+        words: "check p.mit",
+        files: &[("p.mit", b"var h : H; mitigate (1, L) { h := h }")],
+        fetch_fails: 0,
+        write_fails: 0,
+        text: "refused T-MTG at 1:12: H does not flow to L\n",
+        status: 1,
+    },
+    Row {
+        shows: "a write label that is too low",
+        words: "check p.mit",
+        files: &[("p.mit", b"var h : H; if h > 0 then { skip @[L, L] }")],
+        fetch_fails: 0,
+        write_fails: 0,
+        text: "refused T-SKIP at 1:28: H does not flow to L\n",
+        status: 1,
+    },
+    Row {
+        shows: "a written label below an index",
+        words: "check p.mit",
+        files: &[(
+            "p.mit",
+            b"var a[4] : L; var h : H; var g : H; g := a[h] @[L, L]",
+        )],
+        fetch_fails: 0,
+        write_fails: 0,
+        text: "refused T-ASGN at 1:37: H does not flow to L\n",
+        status: 1,
+    },
+    Row {
+        shows: "omitted labels",
+        words: "check p.mit",
+        files: &[(
+            "p.mit",
+            b"var x; var h : H; x := h; mitigate (1) { x := h }",
+        )],
+        fetch_fails: 0,
+        write_fails: 0,
+        text: "accepted: commands 3, mitigates 1\n",
+        status: 0,
+    },
+    Row {
+        shows: "an accepted program",
+        words: "check p.mit",
+        files: &[(
+            "p.mit",
+            b"var l : L; var h : H; mitigate (64, H) { while h > 0 do { h := h - 1 } }; l := 1",
+        )],
+        fetch_fails: 0,
+        write_fails: 0,
+        text: "accepted: commands 4, mitigates 1\n",
+        status: 0,
+    },
+    Row {
+        shows: "an accepted index",
+        words: "check p.mit",
+        files: &[("p.mit", b"var a[4] : L; var h : H; var g : H; g := a[h]")],
+        fetch_fails: 0,
+        write_fails: 0,
+        text: "accepted: commands 1, mitigates 0\n",
+        status: 0,
+    },
+    Row {
+        shows: "every label of the least labelling",
+        words: "infer p",
+        files: &[("p", b"var x; var h : H; x := h; mitigate (1) { x := h }")],
+        fetch_fails: 0,
+        write_fails: 0,
+        text: "labels L, H;\norder L < H;\nvar x : H;\nvar h : H;\nx := h @[L, L];\nmitigate (1, H) @[L, L] {\n  x := h @[L, L]\n}\n",
+        status: 0,
+    },
+    Row {
+        shows: "an image with raised labels",
+        words: "compile p",
+        files: &[("p", b"var h : H; while h > 0 do { h := h - 1 }")],
+        fetch_fails: 0,
+        write_fails: 0,
+        text: "0 LOAD h [L, L]\n1 PUSH 0 [L, L]\n2 OP > [L, L]\n3 BRZ 12 [L, L]\n4 LOAD h [H, H]\n5 PUSH 1 [H, H]\n6 OP - [H, H]\n7 STORE h [H, H]\n8 LOAD h [H, H]\n9 PUSH 0 [H, H]\n10 OP > [H, H]\n11 BRNZ 4 [H, H]\n12 HALT [L, L]\n",
+        status: 0,
+    },
+    Row {
+        shows: "an image with a mitigation",
+        words: "compile p",
+        files: &[(
+            "p",
+            b"var l : L; var h : H; mitigate (64, H) { while h > 0 do { h := h - 1 } }; l := 1",
+        )],
+        fetch_fails: 0,
+        write_fails: 0,
+        text: "0 PUSH 64 [L, L]\n1 MITB H 0 [L, L]\n2 LOAD h [L, L]\n3 PUSH 0 [L, L]\n4 OP > [L, L]\n5 BRZ 14 [L, L]\n6 LOAD h [H, H]\n7 PUSH 1 [H, H]\n8 OP - [H, H]\n9 STORE h [H, H]\n10 LOAD h [H, H]\n11 PUSH 0 [H, H]\n12 OP > [H, H]\n13 BRNZ 6 [H, H]\n14 MITE [L, L]\n15 PUSH 1 [L, L]\n16 STORE l [L, L]\n17 HALT [L, L]\n",
+        status: 0,
+    },
+];
+
+static FAILING_OUTSIDES: [Row; 4] = [
     Row {
         shows: "a write that fails after a line",
         words: "run p.mit",
@@ -788,33 +866,9 @@ static ROWS: [Row; 89] = [
         text: "read fault: starts\n",
         status: 5,
     },
-    Row {
-        shows: "an observer that is no label",
-        words: "run p.mit --observer X",
-        files: &[("p.mit", b"var l : L; l := 7")],
-        fetch_fails: 0,
-        write_fails: 0,
-        text: USAGE,
-        status: 4,
-    },
-    Row {
-        shows: "a program is read before an observer",
-        words: "run p.mit --observer X",
-        files: &[("p.mit", b"skip $")],
-        fetch_fails: 0,
-        write_fails: 0,
-        text: "syntax: bad byte at 1:6\n",
-        status: 2,
-    },
-    Row {
-        shows: "an environment that is not known",
-        words: "run p.mit --env none",
-        files: &[("p.mit", b"var l : L; l := 7")],
-        fetch_fails: 0,
-        write_fails: 0,
-        text: USAGE,
-        status: 4,
-    },
+];
+
+static AUDITS: [Row; 12] = [
     Row {
         shows: "classes of what an observer sees",
         words: "audit p s --observer L --budget 200",
@@ -900,42 +954,12 @@ static ROWS: [Row; 89] = [
         status: 9,
     },
     Row {
-        shows: "every label of the least labelling",
-        words: "infer p",
-        files: &[("p", b"var x; var h : H; x := h; mitigate (1) { x := h }")],
-        fetch_fails: 0,
-        write_fails: 0,
-        text: "labels L, H;\norder L < H;\nvar x : H;\nvar h : H;\nx := h @[L, L];\nmitigate (1, H) @[L, L] {\n  x := h @[L, L]\n}\n",
-        status: 0,
-    },
-    Row {
         shows: "a made program and its audit",
         words: "gen 1 0",
         files: &[],
         fetch_fails: 0,
         write_fails: 0,
         text: "made 1 0\nprogram 110\ncommands 1\ninstructions 5\nruns 4\nobserver L\nbudget 1099511627776\nlevels 1\nmitigations 0\ndistinct 1\nbound 1^41\nrun 1 class 1\nrun 2 class 1\nrun 3 class 1\nrun 4 class 1\n",
-        status: 0,
-    },
-    Row {
-        shows: "an image with raised labels",
-        words: "compile p",
-        files: &[("p", b"var h : H; while h > 0 do { h := h - 1 }")],
-        fetch_fails: 0,
-        write_fails: 0,
-        text: "0 LOAD h [L, L]\n1 PUSH 0 [L, L]\n2 OP > [L, L]\n3 BRZ 12 [L, L]\n4 LOAD h [H, H]\n5 PUSH 1 [H, H]\n6 OP - [H, H]\n7 STORE h [H, H]\n8 LOAD h [H, H]\n9 PUSH 0 [H, H]\n10 OP > [H, H]\n11 BRNZ 4 [H, H]\n12 HALT [L, L]\n",
-        status: 0,
-    },
-    Row {
-        shows: "an image with a mitigation",
-        words: "compile p",
-        files: &[(
-            "p",
-            b"var l : L; var h : H; mitigate (64, H) { while h > 0 do { h := h - 1 } }; l := 1",
-        )],
-        fetch_fails: 0,
-        write_fails: 0,
-        text: "0 PUSH 64 [L, L]\n1 MITB H 0 [L, L]\n2 LOAD h [L, L]\n3 PUSH 0 [L, L]\n4 OP > [L, L]\n5 BRZ 14 [L, L]\n6 LOAD h [H, H]\n7 PUSH 1 [H, H]\n8 OP - [H, H]\n9 STORE h [H, H]\n10 LOAD h [H, H]\n11 PUSH 0 [H, H]\n12 OP > [H, H]\n13 BRNZ 6 [H, H]\n14 MITE [L, L]\n15 PUSH 1 [L, L]\n16 STORE l [L, L]\n17 HALT [L, L]\n",
         status: 0,
     },
     Row {
@@ -1040,13 +1064,67 @@ fn run_row(alloc: Global, row: &Row) -> Result<(u8, MemSink), AllocError> {
     Ok((status.number(), sink))
 }
 
-#[test]
-fn rows(rt: HostRuntime) -> Result<(), Fail> {
-    for row in &ROWS {
-        let (status, sink) = run_row(rt.alloc(), row)?;
-        let shows = row.shows;
-        assert_eq!(rt; status, row.status, "at {shows}");
-        assert!(rt; sink.bytes() == row.text.as_bytes(), "at {shows}");
+// What the first row shows that gives another answer than it wants, if there is one.
+fn first_wrong(alloc: Global, rows: &[Row]) -> Result<Option<&'static str>, AllocError> {
+    for row in rows {
+        let (status, sink) = run_row(alloc, row)?;
+        if status != row.status || sink.bytes() != row.text.as_bytes() {
+            return Ok(Some(row.shows));
+        }
     }
+    Ok(None)
+}
+
+#[test]
+fn rows_of_runs_a(rt: HostRuntime) -> Result<(), Fail> {
+    assert_eq!(rt; first_wrong(rt.alloc(), &RUNS_A)?, None);
+    Ok(())
+}
+
+#[test]
+fn rows_of_runs_b(rt: HostRuntime) -> Result<(), Fail> {
+    assert_eq!(rt; first_wrong(rt.alloc(), &RUNS_B)?, None);
+    Ok(())
+}
+
+#[test]
+fn rows_of_runs_c(rt: HostRuntime) -> Result<(), Fail> {
+    assert_eq!(rt; first_wrong(rt.alloc(), &RUNS_C)?, None);
+    Ok(())
+}
+
+#[test]
+fn rows_of_faulty_words(rt: HostRuntime) -> Result<(), Fail> {
+    assert_eq!(rt; first_wrong(rt.alloc(), &FAULTY_WORDS)?, None);
+    Ok(())
+}
+
+#[test]
+fn rows_of_meanings(rt: HostRuntime) -> Result<(), Fail> {
+    assert_eq!(rt; first_wrong(rt.alloc(), &MEANINGS)?, None);
+    Ok(())
+}
+
+#[test]
+fn rows_of_faulty_texts(rt: HostRuntime) -> Result<(), Fail> {
+    assert_eq!(rt; first_wrong(rt.alloc(), &FAULTY_TEXTS)?, None);
+    Ok(())
+}
+
+#[test]
+fn rows_of_labels(rt: HostRuntime) -> Result<(), Fail> {
+    assert_eq!(rt; first_wrong(rt.alloc(), &LABELS)?, None);
+    Ok(())
+}
+
+#[test]
+fn rows_of_failing_outsides(rt: HostRuntime) -> Result<(), Fail> {
+    assert_eq!(rt; first_wrong(rt.alloc(), &FAILING_OUTSIDES)?, None);
+    Ok(())
+}
+
+#[test]
+fn rows_of_audits(rt: HostRuntime) -> Result<(), Fail> {
+    assert_eq!(rt; first_wrong(rt.alloc(), &AUDITS)?, None);
     Ok(())
 }
