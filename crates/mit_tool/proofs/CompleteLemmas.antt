@@ -37,7 +37,9 @@ use Rattle.mit_tool.specs.Means.{HasMeant}
 use Rattle.mit_tool.specs.Complete.{files_of, IsKnown, AreKnown, NoneRises, Goes, IsTypable, CanLower, CanCompile, IsHalted, HaltsBy, AgreeIn, shown_in, CanCut, CanBeAudited, OfObserver, CanGoOn, CanBeDone}
 use Rattle.mit_tool.proofs.GoesLemmas.{then_goes, program_goes, observer_goes, typing_goes, image_goes, starts_go, ready_goes}
 use Rattle.mit_tool.proofs.MadeLemmas.{made_goes, made_observer_goes}
-use Rattle.mit_tool.proofs.AgreeLemmas.{no_audit_fault, no_cut_fault, all_halt}
+use Rattle.leak_audit.proofs.Once.{no_audit_fault}
+use Rattle.cut_audit.proofs.Once.{no_cut_fault}
+use Rattle.mit_tool.proofs.AgreeLemmas.{all_halt}
 
 -- ---- to an image
 

@@ -18,5 +18,9 @@ pub mod GoesLemmas
 pub mod MadeLemmas
 pub mod OneLemmas
 pub mod OneRun
+pub mod OtherBody
+pub mod OtherAudit
+pub mod OneReport
+pub mod OneAnswer
 pub mod AgreeLemmas
 pub mod CompleteLemmas

@@ -9,12 +9,15 @@ use Rattle.mit_syntax.specs.declared.fault.TextFault.{TextFault}
 use Rattle.mit_syntax.specs.declared.fault.TextFault.TheVariants as text_fault
 use Rattle.mit_syntax.specs.Cut.{AreTokens, IsFault}
 use Rattle.mit_syntax.specs.Program.{Syntax}
-use Rattle.mit_syntax.proofs.OneFault.{no_tokens}
+use Rattle.mit_syntax.proofs.OneFault.{no_tokens, one_fault}
 use Rattle.mit_syntax.proofs.OneList.{one_list}
 use Rattle.mit_parser.specs.declared.fault.ParseFault.{ParseFault}
 use Rattle.mit_parser.specs.declared.fault.ParseFault.TheVariants as parse_fault
 use Rattle.mit_parser.specs.Words.{Told, told}
 use Rattle.mit_parser.specs.Spells.{IsProgram, Refuses}
+use Rattle.parse_laws.specs.Spelled.{SameProgram}
+use Rattle.parse_laws.proofs.Meant.{one_meaning}
+use Rattle.parse_laws.proofs.OneRefusal.{one_refusal}
 use Rattle.start_file.specs.declared.fault.StartFault.{StartFault}
 use Rattle.start_file.specs.Starts.{StartValue, Gives}
 use Rattle.start_file.proofs.OneAnswer.{one_answer}
@@ -22,6 +25,7 @@ use Rattle.timing_types.specs.Labelling.{Labelling}
 use Rattle.timing_types.specs.Labelled.{LabelledProgram, HasType, first_broken_of}
 use Rattle.timing_types.specs.declared.rule.TypeFault.TheVariants.{Refused as BrokenAt}
 use Rattle.label_infer.specs.Least.{Labels, IsLeast}
+use Rattle.label_infer.proofs.OneLeast.{one_least, one_labelled}
 use Rattle.label_code.specs.Shaped.{Code}
 use Rattle.code_lower.specs.Lowered.{lowered}
 use Rattle.black_box.specs.declared.fault.ReadyFault.{ReadyFault}
@@ -83,13 +87,6 @@ program_stops R c status.Disagree t n h = absurd h
 program_stops R c status.Unfinished t n h = absurd h
 program_stops R c status.Memory t n h = absurd h
 
--- what is known of texts
-pub record OneText : Type 0 where
-  pub fault : (text : List ℕ) (f g : TextFault) → IsFault text f → IsFault text g → f ≢ text_fault.Memory → g ≢ text_fault.Memory → f ≡ g
-  pub refusal : (words : List Told) (f g : ParseFault) → Refuses words f → Refuses words g → f ≢ parse_fault.Memory → g ≢ parse_fault.Memory → f ≡ g
-  pub program : (words : List Told) (p q : Syntax) → IsProgram words p → IsProgram words q → p ≡ q
-  pub order : (words : List Told) (p : Syntax) → IsProgram words p → IsOrder p.order
-
 module _ (c : Option (Option (List ℕ))) (known : IsKnown c) where
   text_not_long : (t : List ℕ) → BadText c t → IsTooLong c → ⊥
   text_not_long t (inl f) l = not_long c f.bytes known f.are f.short l
@@ -101,34 +98,34 @@ module _ (c : Option (Option (List ℕ))) (known : IsKnown c) where
       let list : ts ≡ us = one_list b ts us (subst (λ (z : List ℕ). AreTokens z ts) bytes cut) cut' in
       (bytes, list, ap (λ (z : List ℕ). told z ts) bytes ∙ ap (told b) list)
 
-  one_text : (laws : OneText) (t x : List ℕ) → BadText c t → BadText c x → t ≡ x
-  one_text laws t x (inl f) (inl g) =
+  one_text : (t x : List ℕ) → BadText c t → BadText c x → t ≡ x
+  one_text t x (inl f) (inl g) =
       let bytes : f.bytes ≡ g.bytes = one_told c f.bytes g.bytes known f.are g.are in
-      let same : f.fault ≡ g.fault = laws.fault g.bytes f.fault g.fault (subst (λ (z : List ℕ). IsFault z f.fault) bytes f.is) g.is f.none g.none in
+      let same : f.fault ≡ g.fault = one_fault g.bytes f.fault g.fault (subst (λ (z : List ℕ). IsFault z f.fault) bytes f.is) g.is f.none g.none in
       f.line ∙ ap text_fault_line same ∙ sym g.line
-  one_text laws t x (inl f) (inr g) =
+  one_text t x (inl f) (inr g) =
       let bytes : g.bytes ≡ f.bytes = one_told c g.bytes f.bytes known g.are f.are in
       absurd (f.none (no_tokens f.bytes f.fault g.tokens f.is (subst (λ (z : List ℕ). AreTokens z g.tokens) bytes g.cut)))
-  one_text laws t x (inr f) (inl g) =
+  one_text t x (inr f) (inl g) =
       let bytes : f.bytes ≡ g.bytes = one_told c f.bytes g.bytes known f.are g.are in
       absurd (g.none (no_tokens g.bytes g.fault f.tokens g.is (subst (λ (z : List ℕ). AreTokens z f.tokens) bytes f.cut)))
-  one_text laws t x (inr f) (inr g) =
+  one_text t x (inr f) (inr g) =
       let same = same_words f.bytes g.bytes f.tokens g.tokens f.are g.are f.cut g.cut in
-      let fault : f.fault ≡ g.fault = laws.refusal (told g.bytes g.tokens) f.fault g.fault (subst (λ (w : List Told). Refuses w f.fault) same.2 f.is) g.is f.none g.none in
+      let fault : f.fault ≡ g.fault = one_refusal (told g.bytes g.tokens) f.fault g.fault (subst (λ (w : List Told). Refuses w f.fault) same.2 f.is) g.is f.none g.none in
       let line : parse_fault_line (header_name f.bytes f.tokens) f.fault ≡ parse_fault_line (header_name g.bytes g.tokens) g.fault =
       ap (λ (z : List ℕ). parse_fault_line (header_name z f.tokens) f.fault) same.0
       ∙ ap (λ (z : List Token). parse_fault_line (header_name g.bytes z) f.fault) same.1
       ∙ ap (λ (z : ParseFault). parse_fault_line (header_name g.bytes g.tokens) z) fault in
       f.line ∙ line ∙ sym g.line
 
-  pub one_program : (laws : OneText) (p q : Syntax) → Reads c p → Reads c q → p ≡ q
-  one_program laws p q r r' =
+  pub one_program : (p q : Syntax) → Reads c p → Reads c q → SameProgram p q
+  one_program p q r r' =
       let same = same_words r.bytes r'.bytes r.tokens r'.tokens r.are r'.are r.cut r'.cut in
-      laws.program (told r'.bytes r'.tokens) p q (subst (λ (w : List Told). IsProgram w p) same.2 r.spelled) r'.spelled
+      one_meaning (told r'.bytes r'.tokens) p q (subst (λ (w : List Told). IsProgram w p) same.2 r.spelled) r'.spelled
 
-  pub one_program_stop : (laws : OneText) (R : Type 0) (s u : Status) (t x : List ℕ) → (R → ⊥) → ProgramStops R c s t → ProgramStops R c u x → Same s u t x
-  one_program_stop laws R s u t x n h k =
-      file_stop program c (BadText c) status.Syntax s u t x text_not_long (one_text laws) (program_stops R c s t n h) (program_stops R c u x n k)
+  pub one_program_stop : (R : Type 0) (s u : Status) (t x : List ℕ) → (R → ⊥) → ProgramStops R c s t → ProgramStops R c u x → Same s u t x
+  one_program_stop R s u t x n h k =
+      file_stop program c (BadText c) status.Syntax s u t x text_not_long one_text (program_stops R c s t n h) (program_stops R c u x n k)
 
 -- ---- an observer
 
@@ -154,15 +151,11 @@ one_observer_stop o w s u t x h k =
 
 -- ---- labels
 
--- one least labelling
-abbrev pub OneLeast : Type 0
-OneLeast = (p : Syntax) → IsOrder p.order → (a b : Labelling) → IsLeast p a → IsLeast p b → a ≡ b
-
-same_labelled : (p r : Syntax) (l m : Labelling) → p ≡ r → l ≡ m → ◌≡◌ {A = LabelledProgram} (record { program = p; labels = l }) (record { program = r; labels = m })
+pub same_labelled : (p r : Syntax) (l m : Labelling) → p ≡ r → l ≡ m → ◌≡◌ {A = LabelledProgram} (record { program = p; labels = l }) (record { program = r; labels = m })
 same_labelled p r l m e f = ap (λ z. record { program = z; labels = l }) e ∙ ap (λ z. record { program = r; labels = z }) f
 
-pub one_typed : (one : OneLeast) (p : Syntax) (a b : LabelledProgram) → IsOrder p.order → Types p a → Types p b → a ≡ b
-one_typed one p a b o h k = same_labelled a.program b.program a.labels b.labels (h.program ∙ sym k.program) (one p o a.labels b.labels h.least k.least)
+pub one_typed : (p : Syntax) (a b : LabelledProgram) → IsOrder p.order → Types p a → Types p b → a ≡ b
+one_typed p a b o h k = one_labelled p o a b h.program k.program h.least k.least
 
 pub typed_or_not : (p : Syntax) (q : LabelledProgram) (s : Status) (t : List ℕ) → Types p q → TypeStops p s t → ⊥
 typed_or_not p q status.Done t k h = h
@@ -180,7 +173,7 @@ typed_or_not p q status.Disagree t k h = h
 typed_or_not p q status.Unfinished t k h = h
 typed_or_not p q status.Memory t k h = h
 
-type_stops : (p : Syntax) (s : Status) (t : List ℕ) → TypeStops p s t → (s ≡ status.Refused) × HasNoType p t
+pub type_stops : (p : Syntax) (s : Status) (t : List ℕ) → TypeStops p s t → (s ≡ status.Refused) × HasNoType p t
 type_stops p status.Done t h = absurd h
 type_stops p status.Refused t h = (refl, h)
 type_stops p status.Syntax t h = absurd h
@@ -194,9 +187,9 @@ type_stops p status.Disagree t h = absurd h
 type_stops p status.Unfinished t h = absurd h
 type_stops p status.Memory t h = absurd h
 
-one_refusal : (one : OneLeast) (p : Syntax) (t x : List ℕ) → IsOrder p.order → HasNoType p t → HasNoType p x → t ≡ x
-one_refusal one p t x o f g =
-    let labels : f.labels ≡ g.labels = one p o f.labels g.labels f.least g.least in
+one_broken : (p : Syntax) (t x : List ℕ) → IsOrder p.order → HasNoType p t → HasNoType p x → t ≡ x
+one_broken p t x o f g =
+    let labels : f.labels ≡ g.labels = one_least p o f.labels g.labels f.least g.least in
     let same : Some (BrokenAt f.rule f.at f.have f.allowed) ≡ Some (BrokenAt g.rule g.at g.have g.allowed) =
     sym f.first ∙ ap (λ (l : Labelling). first_broken_of (record { program = p; labels = l })) labels ∙ g.first in
     let rule : f.rule ≡ g.rule = cc in
@@ -208,15 +201,15 @@ one_refusal one p t x o f g =
     ∙ ap (λ z. refused_line p.order g.rule g.at z f.allowed) have ∙ ap (λ z. refused_line p.order g.rule g.at g.have z) allowed in
     f.line ∙ line ∙ sym g.line
 
-pub one_type_stop : (one : OneLeast) (p : Syntax) (s u : Status) (t x : List ℕ) → IsOrder p.order → TypeStops p s t → TypeStops p u x → Same s u t x
-one_type_stop one p s u t x o h k =
+pub one_type_stop : (p : Syntax) (s u : Status) (t x : List ℕ) → IsOrder p.order → TypeStops p s t → TypeStops p u x → Same s u t x
+one_type_stop p s u t x o h k =
     let a = type_stops p s t h in
     let b = type_stops p u x k in
-    (a.0 ∙ sym b.0, one_refusal one p t x o a.1 b.1)
+    (a.0 ∙ sym b.0, one_broken p t x o a.1 b.1)
 
 -- ---- an image
 
-image_stops : (q : LabelledProgram) (s : Status) (t : List ℕ) → ImageStops q s t → (s ≡ status.TooLong) × (t ≡ number_line (codes "too long: image ") (length (lowered q).instrs))
+pub image_stops : (q : LabelledProgram) (s : Status) (t : List ℕ) → ImageStops q s t → (s ≡ status.TooLong) × (200000 < length (lowered q).instrs) × (t ≡ number_line (codes "too long: image ") (length (lowered q).instrs))
 image_stops q status.Done t h = absurd h
 image_stops q status.Refused t h = absurd h
 image_stops q status.Syntax t h = absurd h
@@ -224,7 +217,7 @@ image_stops q status.Starts t h = absurd h
 image_stops q status.Usage t h = absurd h
 image_stops q status.ReadFault t h = absurd h
 image_stops q status.WriteFault t h = absurd h
-image_stops q status.TooLong t h = (refl, h.1)
+image_stops q status.TooLong t h = (refl, h.0, h.1)
 image_stops q status.Budget t h = absurd h
 image_stops q status.Disagree t h = absurd h
 image_stops q status.Unfinished t h = absurd h
@@ -234,7 +227,7 @@ pub one_image_stop : (q : LabelledProgram) (s u : Status) (t x : List ℕ) → I
 one_image_stop q s u t x h k =
     let a = image_stops q s t h in
     let b = image_stops q u x k in
-    (a.0 ∙ sym b.0, a.1 ∙ sym b.1)
+    (a.0 ∙ sym b.0, a.2 ∙ sym b.2)
 
 pub image_or_not : (q : LabelledProgram) (code : Code) (s : Status) (t : List ℕ) → HasImage q code → ImageStops q s t → ⊥
 image_or_not q code s t k h =

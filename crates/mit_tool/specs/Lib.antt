@@ -12,3 +12,4 @@ pub mod Means
 pub mod Accepted
 pub mod Statuses
 pub mod Complete
+pub mod Once

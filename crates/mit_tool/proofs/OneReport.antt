@@ -1,0 +1,200 @@
+-- One answer at most: what audits tell, and what they stop with.
+use Rattle.std.proofs.Common.{◌≡◌, ◌≢◌, ◌≤◌, ◌^◌, ℕ, List, [], ◌∷◌, ◌++◌, length, Option, Some, None, inl, inr, refl, sym, ap, subst, ◌∙◌, codes}
+use Rattle.std.specs.List.{AllZip}
+use Rattle.label_lattice.specs.declared.label.Label.{Label}
+use Rattle.label_lattice.specs.Order.{Order}
+use Rattle.mit_syntax.specs.Program.{Syntax}
+use Rattle.timing_types.specs.Labelled.{LabelledProgram}
+use Rattle.part_tlb.specs.Envs.{part_structure, part2_structure}
+use Rattle.part_tlb.specs.Structures.{IsMadeFor}
+use Rattle.start_file.specs.Starts.{StartValue}
+use Rattle.audit_parts.specs.Agreement.{starts_of}
+use Rattle.leak_audit.specs.declared.report.AuditReport.{AuditReport}
+use Rattle.leak_audit.specs.declared.report.AuditFault.{AuditFault}
+use Rattle.leak_audit.specs.declared.report.AuditFault.TheVariants as audit_fault
+use Rattle.leak_audit.specs.Report.{SameReport}
+use Rattle.leak_audit.proofs.Once as audit
+use Rattle.cut_audit.specs.declared.report.CutReport.{CutReport}
+use Rattle.cut_audit.specs.declared.report.CutFault.{CutFault}
+use Rattle.cut_audit.specs.declared.report.CutFault.TheVariants as cut_fault
+use Rattle.cut_audit.specs.Report.{SameReport as SameCut}
+use Rattle.cut_audit.proofs.Once as cut
+use Rattle.black_box.specs.Outcomes.{Outcome, IsOutcome}
+use Rattle.mit_tool.specs.declared.status.Status.{Status}
+use Rattle.mit_tool.specs.declared.status.Status.TheVariants as status
+use Rattle.mit_tool.specs.declared.words.EnvName.{EnvName}
+use Rattle.mit_tool.specs.declared.words.EnvName.TheVariants.{Flat, Part, Part2}
+use Rattle.mit_tool.specs.Texts.{number_line}
+use Rattle.mit_tool.specs.Reports.{head_lines, tail_lines, audit_lines, cut_lines, disagree_line, unfinished_line, events_line, box_lines}
+use Rattle.mit_tool.specs.Envs.{flat_env, part_env, part2_env, flat_made, part_made, part2_made, ReportsIn, AuditFaultsIn, CutReportsIn, CutFaultsIn}
+use Rattle.mit_tool.specs.Audited.{AuditStops, Audits, HasAudited, CutStops, Cuts, HasCut, HasReleased}
+use Rattle.mit_tool.proofs.OneLemmas.{Same}
+
+-- ---- reports and faults in a named environment
+
+same_report : (e : EnvName) (q : LabelledProgram) (o t : ℕ) (ss : List StartValue) (r s : AuditReport) → ReportsIn e q o t ss r → ReportsIn e q o t ss s → SameReport r s
+same_report Flat q o t ss r s h k = audit.same_report flat_env (λ order e. Unit {0}) q o t (starts_of flat_made q.program.order ss) r s h k
+same_report Part q o t ss r s h k = audit.same_report part_env (IsMadeFor part_structure) q o t (starts_of part_made q.program.order ss) r s h k
+same_report Part2 q o t ss r s h k = audit.same_report part2_env (IsMadeFor part2_structure) q o t (starts_of part2_made q.program.order ss) r s h k
+
+same_fault : (e : EnvName) (q : LabelledProgram) (o t : ℕ) (ss : List StartValue) (f g : AuditFault) → AuditFaultsIn e q o t ss f → AuditFaultsIn e q o t ss g → f ≢ audit_fault.Memory → g ≢ audit_fault.Memory → f ≡ g
+same_fault Flat q o t ss f g h k n m = audit.same_fault flat_env (λ order e. Unit {0}) q o t (starts_of flat_made q.program.order ss) f g h k n m
+same_fault Part q o t ss f g h k n m = audit.same_fault part_env (IsMadeFor part_structure) q o t (starts_of part_made q.program.order ss) f g h k n m
+same_fault Part2 q o t ss f g h k n m = audit.same_fault part2_env (IsMadeFor part2_structure) q o t (starts_of part2_made q.program.order ss) f g h k n m
+
+not_fault : (e : EnvName) (q : LabelledProgram) (o t : ℕ) (ss : List StartValue) (r : AuditReport) (f : AuditFault) → ReportsIn e q o t ss r → AuditFaultsIn e q o t ss f → f ≡ audit_fault.Memory
+not_fault Flat q o t ss r f h k = audit.not_fault flat_env (λ order e. Unit {0}) q o t (starts_of flat_made q.program.order ss) r f h k
+not_fault Part q o t ss r f h k = audit.not_fault part_env (IsMadeFor part_structure) q o t (starts_of part_made q.program.order ss) r f h k
+not_fault Part2 q o t ss r f h k = audit.not_fault part2_env (IsMadeFor part2_structure) q o t (starts_of part2_made q.program.order ss) r f h k
+
+same_cut : (e : EnvName) (q : LabelledProgram) (o t : ℕ) (ss : List StartValue) (r s : CutReport) → CutReportsIn e q o t ss r → CutReportsIn e q o t ss s → SameCut r s
+same_cut Flat q o t ss r s h k = cut.same_report flat_env (λ order e. Unit {0}) q o t (starts_of flat_made q.program.order ss) r s h k
+same_cut Part q o t ss r s h k = cut.same_report part_env (IsMadeFor part_structure) q o t (starts_of part_made q.program.order ss) r s h k
+same_cut Part2 q o t ss r s h k = cut.same_report part2_env (IsMadeFor part2_structure) q o t (starts_of part2_made q.program.order ss) r s h k
+
+same_cut_fault : (e : EnvName) (q : LabelledProgram) (o t : ℕ) (ss : List StartValue) (f g : CutFault) → CutFaultsIn e q o t ss f → CutFaultsIn e q o t ss g → f ≢ cut_fault.Memory → g ≢ cut_fault.Memory → f ≡ g
+same_cut_fault Flat q o t ss f g h k n m = cut.same_fault flat_env (λ order e. Unit {0}) q o t (starts_of flat_made q.program.order ss) f g h k n m
+same_cut_fault Part q o t ss f g h k n m = cut.same_fault part_env (IsMadeFor part_structure) q o t (starts_of part_made q.program.order ss) f g h k n m
+same_cut_fault Part2 q o t ss f g h k n m = cut.same_fault part2_env (IsMadeFor part2_structure) q o t (starts_of part2_made q.program.order ss) f g h k n m
+
+not_cut_fault : (e : EnvName) (q : LabelledProgram) (o t : ℕ) (ss : List StartValue) (r : CutReport) (f : CutFault) → CutReportsIn e q o t ss r → CutFaultsIn e q o t ss f → f ≡ cut_fault.Memory
+not_cut_fault Flat q o t ss r f h k = cut.not_fault flat_env (λ order e. Unit {0}) q o t (starts_of flat_made q.program.order ss) r f h k
+not_cut_fault Part q o t ss r f h k = cut.not_fault part_env (IsMadeFor part_structure) q o t (starts_of part_made q.program.order ss) r f h k
+not_cut_fault Part2 q o t ss r f h k = cut.not_fault part2_env (IsMadeFor part2_structure) q o t (starts_of part2_made q.program.order ss) r f h k
+
+-- ---- their lines
+
+same_head : (o : Order) (l : Label) (t runs levels runs' levels' : ℕ) → runs ≡ runs' → levels ≡ levels' → head_lines o l t runs levels ≡ head_lines o l t runs' levels'
+same_head o l t runs levels runs' levels' e f = ap (λ z. head_lines o l t z levels) e ∙ ap (λ z. head_lines o l t runs' z) f
+
+same_tail : (d b x d' b' x' : ℕ) (cs cs' : List ℕ) → d ≡ d' → b ≡ b' → x ≡ x' → cs ≡ cs' → tail_lines d b x cs ≡ tail_lines d' b' x' cs'
+same_tail d b x d' b' x' cs cs' e f g h = ap (λ z. tail_lines z b x cs) e ∙ ap (λ z. tail_lines d' z x cs) f ∙ ap (λ z. tail_lines d' b' z cs) g ∙ ap (λ z. tail_lines d' b' x' z) h
+
+two_parts : (a b c d : List ℕ) → a ≡ c → b ≡ d → a ++ b ≡ c ++ d
+two_parts a b c d e f = ap (λ z. z ++ b) e ∙ ap (λ z. c ++ z) f
+
+same_lines : (o : Order) (l : Label) (t : ℕ) (r s : AuditReport) → SameReport r s → audit_lines o l t r ≡ audit_lines o l t s
+same_lines o l t r s h =
+    two_parts _ _ _ _ (same_head o l t r.runs r.levels s.runs s.levels h.runs h.levels)
+    (two_parts _ _ _ _ (ap (number_line (codes "mitigations ")) h.mitigations)
+    (same_tail r.distinct r.base r.exponent s.distinct s.base s.exponent r.classes.items s.classes.items h.distinct h.base h.exponent h.classes))
+
+same_cut_lines : (o : Order) (l : Label) (t : ℕ) (r s : CutReport) → SameCut r s → cut_lines o l t r ≡ cut_lines o l t s
+same_cut_lines o l t r s h =
+    two_parts _ _ _ _ (same_head o l t r.runs r.levels s.runs s.levels h.runs h.levels)
+    (two_parts _ _ _ _ (ap (number_line (codes "ended ")) h.ended)
+    (two_parts _ _ _ _ (ap (number_line (codes "halted ")) h.halted)
+    (same_tail r.distinct r.base r.exponent s.distinct s.base s.exponent r.classes.items s.classes.items h.distinct h.base h.exponent h.classes)))
+
+-- ---- audits
+
+abbrev fault_status : AuditFault → Status
+fault_status (audit_fault.Disagree run what) = status.Disagree
+fault_status (audit_fault.Unfinished run cycle) = status.Unfinished
+fault_status (audit_fault.TooMuch count) = status.TooLong
+fault_status audit_fault.Memory = status.Memory
+
+abbrev fault_line : Syntax → AuditFault → List ℕ
+fault_line p (audit_fault.Disagree run what) = disagree_line p run what
+fault_line p (audit_fault.Unfinished run cycle) = unfinished_line run cycle
+fault_line p (audit_fault.TooMuch count) = events_line count
+fault_line p audit_fault.Memory = []
+
+-- a stop of an audit is a fault of it
+record HasFault (e : EnvName) (t : ℕ) (q : LabelledProgram) (l : Label) (ss : List StartValue) (s : Status) (x : List ℕ) : Type 0 where
+  fault : AuditFault
+  none : fault ≢ audit_fault.Memory
+  is : AuditFaultsIn e q l.number t ss fault
+  told : s ≡ fault_status fault
+  line : x ≡ fault_line q.program fault
+
+audit_stops : (e : EnvName) (t : ℕ) (q : LabelledProgram) (l : Label) (ss : List StartValue) (s : Status) (x : List ℕ) → AuditStops e t q l ss s x → HasFault e t q l ss s x
+audit_stops e t q l ss status.Done x h = absurd h
+audit_stops e t q l ss status.Refused x h = absurd h
+audit_stops e t q l ss status.Syntax x h = absurd h
+audit_stops e t q l ss status.Starts x h = absurd h
+audit_stops e t q l ss status.Usage x h = absurd h
+audit_stops e t q l ss status.ReadFault x h = absurd h
+audit_stops e t q l ss status.WriteFault x h = absurd h
+audit_stops e t q l ss status.TooLong x h = record { fault = audit_fault.TooMuch h.0; none = λ e. cc; is = h.1; told = refl; line = h.2 }
+audit_stops e t q l ss status.Budget x h = absurd h
+audit_stops e t q l ss status.Disagree x h = record { fault = audit_fault.Disagree h.0 h.1; none = λ e. cc; is = h.2; told = refl; line = h.3 }
+audit_stops e t q l ss status.Unfinished x h = record { fault = audit_fault.Unfinished h.0 h.1; none = λ e. cc; is = h.2; told = refl; line = h.3 }
+audit_stops e t q l ss status.Memory x h = absurd h
+
+one_audit_stop : (e : EnvName) (t : ℕ) (q : LabelledProgram) (l : Label) (ss : List StartValue) (s u : Status) (x y : List ℕ) → AuditStops e t q l ss s x → AuditStops e t q l ss u y → Same s u x y
+one_audit_stop e t q l ss s u x y h k =
+    let a = audit_stops e t q l ss s x h in
+    let b = audit_stops e t q l ss u y k in
+    let same : a.fault ≡ b.fault = same_fault e q l.number t ss a.fault b.fault a.is b.is a.none b.none in
+    (a.told ∙ ap fault_status same ∙ sym b.told, a.line ∙ ap (fault_line q.program) same ∙ sym b.line)
+
+pub one_audit : (e : EnvName) (t : ℕ) (q : LabelledProgram) (o : Option Label) (ss : List StartValue) (before : List ℕ) (s u : Status) (x y : List ℕ)
+    → HasAudited e t q o ss before s x → HasAudited e t q o ss before u y → Same s u x y
+one_audit e t q None ss before s u x y h k = absurd h
+one_audit e t q (Some l) ss before s u x y (inl h) (inl k) = one_audit_stop e t q l ss s u x y h k
+one_audit e t q (Some l) ss before s u x y (inl h) (inr k) = let a = audit_stops e t q l ss s x h in absurd (a.none (not_fault e q l.number t ss k.0 a.fault k.1.report a.is))
+one_audit e t q (Some l) ss before s u x y (inr h) (inl k) = let a = audit_stops e t q l ss u y k in absurd (a.none (not_fault e q l.number t ss h.0 a.fault h.1.report a.is))
+one_audit e t q (Some l) ss before s u x y (inr h) (inr k) =
+    let lines = same_lines q.program.order l t h.0 k.0 (same_report e q l.number t ss h.0 k.0 h.1.report k.1.report) in
+    (h.2.0 ∙ sym k.2.0, h.2.1 ∙ ap (λ (z : List ℕ). before ++ z) lines ∙ sym k.2.1)
+
+-- ---- audits of runs that may not have halted
+
+abbrev cut_status : CutFault → Status
+cut_status (cut_fault.Disagree run what) = status.Disagree
+cut_status (cut_fault.TooMuch count) = status.TooLong
+cut_status cut_fault.Memory = status.Memory
+
+abbrev cut_line : Syntax → CutFault → List ℕ
+cut_line p (cut_fault.Disagree run what) = disagree_line p run what
+cut_line p (cut_fault.TooMuch count) = events_line count
+cut_line p cut_fault.Memory = []
+
+record HasCutFault (e : EnvName) (t : ℕ) (q : LabelledProgram) (l : Label) (ss : List StartValue) (s : Status) (x : List ℕ) : Type 0 where
+  fault : CutFault
+  none : fault ≢ cut_fault.Memory
+  is : CutFaultsIn e q l.number t ss fault
+  told : s ≡ cut_status fault
+  line : x ≡ cut_line q.program fault
+
+cut_stops : (e : EnvName) (t : ℕ) (q : LabelledProgram) (l : Label) (ss : List StartValue) (s : Status) (x : List ℕ) → CutStops e t q l ss s x → HasCutFault e t q l ss s x
+cut_stops e t q l ss status.Done x h = absurd h
+cut_stops e t q l ss status.Refused x h = absurd h
+cut_stops e t q l ss status.Syntax x h = absurd h
+cut_stops e t q l ss status.Starts x h = absurd h
+cut_stops e t q l ss status.Usage x h = absurd h
+cut_stops e t q l ss status.ReadFault x h = absurd h
+cut_stops e t q l ss status.WriteFault x h = absurd h
+cut_stops e t q l ss status.TooLong x h = record { fault = cut_fault.TooMuch h.0; none = λ e. cc; is = h.1; told = refl; line = h.2 }
+cut_stops e t q l ss status.Budget x h = absurd h
+cut_stops e t q l ss status.Disagree x h = record { fault = cut_fault.Disagree h.0 h.1; none = λ e. cc; is = h.2; told = refl; line = h.3 }
+cut_stops e t q l ss status.Unfinished x h = absurd h
+cut_stops e t q l ss status.Memory x h = absurd h
+
+one_cut_stop : (e : EnvName) (t : ℕ) (q : LabelledProgram) (l : Label) (ss : List StartValue) (s u : Status) (x y : List ℕ) → CutStops e t q l ss s x → CutStops e t q l ss u y → Same s u x y
+one_cut_stop e t q l ss s u x y h k =
+    let a = cut_stops e t q l ss s x h in
+    let b = cut_stops e t q l ss u y k in
+    let same : a.fault ≡ b.fault = same_cut_fault e q l.number t ss a.fault b.fault a.is b.is a.none b.none in
+    (a.told ∙ ap cut_status same ∙ sym b.told, a.line ∙ ap (cut_line q.program) same ∙ sym b.line)
+
+pub one_cut : (e : EnvName) (t : ℕ) (q : LabelledProgram) (o : Option Label) (ss : List StartValue) (s u : Status) (x y : List ℕ) → HasCut e t q o ss s x → HasCut e t q o ss u y → Same s u x y
+one_cut e t q None ss s u x y h k = absurd h
+one_cut e t q (Some l) ss s u x y (inl h) (inl k) = one_cut_stop e t q l ss s u x y h k
+one_cut e t q (Some l) ss s u x y (inl h) (inr k) = let a = cut_stops e t q l ss s x h in absurd (a.none (not_cut_fault e q l.number t ss k.0 a.fault k.1.report a.is))
+one_cut e t q (Some l) ss s u x y (inr h) (inl k) = let a = cut_stops e t q l ss u y k in absurd (a.none (not_cut_fault e q l.number t ss h.0 a.fault h.1.report a.is))
+one_cut e t q (Some l) ss s u x y (inr h) (inr k) =
+    let lines = same_cut_lines q.program.order l t h.0 k.0 (same_cut e q l.number t ss h.0 k.0 h.1.report k.1.report) in
+    (h.2.0 ∙ sym k.2.0, h.2.1 ∙ lines ∙ sym k.2.1)
+
+-- ---- a file of ready cycles
+
+-- runs have one list of outcomes
+abbrev pub OneOutcomes : Type 0
+OneOutcomes = (q t : ℕ) (runs : List (List ℕ)) (outcomes others : List Outcome) → AllZip (IsOutcome q t) runs outcomes → AllZip (IsOutcome q t) runs others → outcomes ≡ others
+
+pub one_release : (one : OneOutcomes) (first t : ℕ) (runs : List (List ℕ)) (s u : Status) (x y : List ℕ) → HasReleased first t runs s x → HasReleased first t runs u y → Same s u x y
+one_release one first t runs s u x y h k =
+    let same : h.1 ≡ k.1 = one first t runs h.1 k.1 h.2 k.2 in
+    (h.0 ∙ sym k.0, h.4 ∙ ap (box_lines first t runs) same ∙ sym k.4)

@@ -1,0 +1,14 @@
+-- A command has one answer.
+use Rattle.std.specs.Prelude.{◌≡◌, ℕ, List}
+use Rattle.tim_base.specs.Faults.{Rose}
+use Rattle.mit_tool.specs.declared.status.Status.{Status}
+use Rattle.mit_tool.specs.WordsAsked.{Asked}
+use Rattle.mit_tool.specs.Answers.{Content, IsAnswer}
+use Rattle.mit_tool.specs.Complete.{AreKnown, NoneRises}
+
+-- Where each file that the command names is told to hold bytes, and none of their counts of faults rose, two answers
+-- to it are one: they have the same status and the same text.
+abbrev pub HasOneAnswer : Type 0
+HasOneAnswer =
+    (content : Content) (before now : List ℕ → ℕ) (a : Asked) (s u : Status) (t x : List ℕ) → AreKnown content a → NoneRises (λ name. Rose (before name) (now name)) a →
+    IsAnswer (λ name. Rose (before name) (now name)) content a s t → IsAnswer (λ name. Rose (before name) (now name)) content a u x → (s ≡ u) × (t ≡ x)
