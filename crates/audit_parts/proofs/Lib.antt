@@ -4,3 +4,4 @@ pub mod Marking
 pub mod Classing
 pub mod Agreeing
 pub mod Surveying
+pub mod Differing
