@@ -1,11 +1,11 @@
 -- What one step of the machine, and a run to T, do to the clock and the log.
-use Rattle.std.proofs.Common.{◌≡◌, ℕ, subst, zero, suc, ◌+◌, ◌-◌, ◌<◌, ◌≤◌, List, [], ◌∷◌, ◌++◌, append-nil, refl, sym, ap, ◌∙◌, ◌⊎◌, inl, inr, arith}
+use Rattle.std.proofs.Common.{◌≡◌, ℕ, zero, suc, ◌+◌, ◌-◌, ◌<◌, ◌≤◌, List, [], ◌∷◌, ◌++◌, append-nil, refl, sym, ap, ◌∙◌, ◌⊎◌, inl, inr, arith}
 use Rattle.std.specs.Prelude.{Bool, true, false, cond, ℤ, leb, not, ◌&&◌, Option, Some, None, slice_get}
 use Rattle.std.proofs.lemmas.Bool.{and_from, both_ways, leb-true, leb-false, cond-true, cond-false, le-leb, lt-leb}
 use Rattle.mit_syntax.specs.Todo.{Marks}
 use Rattle.env_contract.specs.Env.{Env}
 use Rattle.label_code.specs.Machine.{Core, Machine, Opened, Event, closed, fetched, at, act, obey, start, step, steps, run_for, close_first, marks_of}
-use Rattle.label_code.specs.Run.{Start, run_from, RunsTo, HasOneRun}
+use Rattle.label_code.specs.Run.{Start, run_from, RunsTo}
 use Rattle.label_code.specs.declared.code.Work.{Work}
 use Rattle.label_code.specs.declared.code.Work.TheVariants.{Push, Load, Store, LoadAt, StoreAt, Apply, Brz, Brnz, Jmp, Sleep as SleepWork, Mitb, Mite, Nop, Halt}
 use Rattle.label_code.specs.declared.code.Instr.{Instr}
@@ -204,24 +204,3 @@ module _ {E : Type 0} (v : Env E) (image : List Instr) where
         by = r.by;
         greatest = λ k le. let c = covers k t t x tt le (omega arith) in (c.0, sym c.1);
       }
-
-  -- where the next step ends after T, or the machine has halted, steps that end by T lead nowhere else
-  ends_there : (t : ℕ) (j : ℕ) (x y : Machine E) → Sane x.opened x.core.clock → (x.halted ≡ true) ⊎ ((x.halted ≡ false) × (t < (step v image x).core.clock)) →
-      steps v image j x ≡ y → y.core.clock ≤ t → y ≡ x
-  ends_there t zero x y h over e by = sym e
-  ends_there t (suc j) x y h (inl halted) e by = sym e ∙ stays v image (suc j) x halted
-  ends_there t (suc j) x y h (inr late) e by =
-      let out = (steps_out v image t j x h late.1).0 in
-      let by' : (steps v image (suc j) x).core.clock ≤ t = subst (λ m. m.core.clock ≤ t) (sym e) by in
-      absurd (omega (arith, out, by'))
-
-  pub only : (t : ℕ) (s : Start E) (y : Machine E) → RunsTo v image t (start s.memory s.env) y → y ≡ run_from v image t s
-  only t s y r =
-      let x : Machine E = start s.memory s.env in
-      let q = ran v image t t x tt (omega arith) (omega arith) in
-      let g = r.greatest q.count (subst (λ m. m.core.clock ≤ t) (sym q.is) q.by) in
-      ends_there t g.0 (run_for v image t t x) y (subst (λ m. Sane m.opened m.core.clock) q.is (steps_sane v image q.count x tt)) q.over
-      (ap (steps v image g.0) (sym q.is) ∙ g.1) r.by
-
-pub has_one_run : {E : Type 0} (v : Env E) → HasOneRun v
-has_one_run v image t s y = (only v image t s y, λ e. subst (RunsTo v image t (start s.memory s.env)) (sym e) (runs_to v image t s))

@@ -1,5 +1,5 @@
 -- Runs from a start, and what a log tells without its cycles.
-use Rattle.std.specs.Prelude.{◌≡◌, ℕ, ◌≤◌, List, ℤ, ◌↔◌}
+use Rattle.std.specs.Prelude.{◌≡◌, ℕ, ◌≤◌, List, ℤ}
 use Rattle.env_contract.specs.Env.{Env}
 use Rattle.label_code.specs.Machine.{Machine, steps, run_to, start}
 use Rattle.label_code.specs.declared.code.Instr.{Instr}
@@ -19,8 +19,3 @@ pub record RunsTo {E : Type 0} (v : Env E) (image : List Instr) (t : ℕ) (x y :
   pub is : steps v image count x ≡ y
   pub by : y.core.clock ≤ t
   pub greatest : (k : ℕ) → (steps v image k x).core.clock ≤ t → (j : ℕ) × (steps v image j (steps v image k x) ≡ y)
-
--- from each start the run to T comes to one machine, the computed one
-abbrev pub HasOneRun : {E : Type 0} → Env E → Type 0
-HasOneRun {E} v = (image : List Instr) (t : ℕ) (s : Start E) (y : Machine E) →
-    RunsTo v image t (start s.memory s.env) y ↔ (y ≡ run_from v image t s)

@@ -1,6 +1,6 @@
 //! What is true of every run, as the contract of a function that does nothing.
 
-ghost use Rattle.label_code.specs.Run.{HasOneRun};
+ghost use Rattle.label_code.specs.OneRun.{HasOneRun};
 
 use env_contract::env::MachineEnv;
 

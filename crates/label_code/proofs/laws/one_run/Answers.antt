@@ -1,4 +1,4 @@
-use Rattle.label_code.proofs.Ticks.{has_one_run}
+use Rattle.label_code.proofs.OneRun.{has_one_run}
 use Rattle.label_code.proofs.laws.one_run.Goals as goal
 
 pub returns : goal.returns
