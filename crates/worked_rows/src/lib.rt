@@ -6,6 +6,8 @@ mod audits;
 #[cfg(test)]
 mod black_box;
 #[cfg(test)]
+mod clocks;
+#[cfg(test)]
 mod environments;
 #[cfg(test)]
 mod hostile;
