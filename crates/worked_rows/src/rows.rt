@@ -77,3 +77,64 @@ pub(crate) fn gives(
     let (number, sink) = answer(alloc, line, &[("p", program)], 0, 0)?;
     Ok(number == status && sink.bytes() == text.as_bytes())
 }
+
+// A piece of a long text: a unit, which is written for each number from the first one to below the second one. In
+// it `#` stands for the number, and `$` for the next one.
+pub(crate) type Piece = (&'static str, u32, u32);
+
+// A row over long files, each given by its pieces.
+pub(crate) struct Built {
+    pub(crate) shows: &'static str,
+    pub(crate) words: &'static str,
+    pub(crate) files: &'static [(&'static str, &'static [Piece])],
+    pub(crate) text: &'static str,
+    pub(crate) status: u8,
+}
+
+fn put_unit(alloc: Global, text: &mut String, unit: &str, number: u32) -> Result<(), AllocError> {
+    for letter in unit.chars() {
+        match letter {
+            '#' => text.push_str(format!(in alloc; "{number}")?.as_str())?,
+            '$' => text.push_str(format!(in alloc; "{}", u64::from(number) + 1)?.as_str())?,
+            _ => text.push(letter)?,
+        }
+    }
+    Ok(())
+}
+
+fn text_of(alloc: Global, pieces: &[Piece]) -> Result<String, AllocError> {
+    let mut text = String::new(alloc);
+    for (unit, first, end) in pieces {
+        for number in *first..*end {
+            put_unit(alloc, &mut text, unit, number)?;
+        }
+    }
+    Ok(text)
+}
+
+// The status and the text of a row over long files.
+fn answer_built(alloc: Global, row: &Built) -> Result<(u8, MemSink), AllocError> {
+    let words = split(alloc, row.words)?;
+    let mut shelf = MemShelf::new(alloc);
+    for (name, pieces) in row.files {
+        let text = text_of(alloc, pieces)?;
+        shelf.put(name, text.as_bytes()).map_err(|_| AllocError)?;
+    }
+    let mut sink = MemSink::new_with_room(alloc, ROOM).map_err(|_| AllocError)?;
+    let status = mitigate_main(alloc, words.as_slice(), &mut shelf, &mut sink);
+    Ok((status.number(), sink))
+}
+
+// What the first row shows that gives another answer than it wants, if there is one.
+pub(crate) fn first_wrong_built(
+    alloc: Global,
+    rows: &[Built],
+) -> Result<Option<&'static str>, AllocError> {
+    for row in rows {
+        let (status, sink) = answer_built(alloc, row)?;
+        if status != row.status || sink.bytes() != row.text.as_bytes() {
+            return Ok(Some(row.shows));
+        }
+    }
+    Ok(None)
+}
