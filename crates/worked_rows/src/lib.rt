@@ -18,6 +18,8 @@ mod limits;
 #[cfg(test)]
 mod names;
 #[cfg(test)]
+mod passwords;
+#[cfg(test)]
 mod prefixes;
 #[cfg(test)]
 mod refusals;

@@ -35,6 +35,30 @@ fn split(alloc: Global, line: &str) -> Result<Vec<String>, AllocError> {
     Ok(words)
 }
 
+// The status and the text of a call over a shelf, with a sink of this room whose write of this number fails (0 for
+// none).
+fn told(
+    alloc: Global,
+    line: &str,
+    shelf: &mut MemShelf,
+    room: usize,
+    write_fails: u32,
+) -> Result<(u8, MemSink), AllocError> {
+    let words = split(alloc, line)?;
+    let mut sink = MemSink::new_with_room(alloc, room).map_err(|_| AllocError)?;
+    sink.fail_at(write_fails).map_err(|_| AllocError)?;
+    let status = mitigate_main(alloc, words.as_slice(), shelf, &mut sink);
+    Ok((status.number(), sink))
+}
+
+fn shelf_of(alloc: Global, files: &[(&str, &[u8])]) -> Result<MemShelf, AllocError> {
+    let mut shelf = MemShelf::new(alloc);
+    for (name, bytes) in files {
+        shelf.put(name, bytes).map_err(|_| AllocError)?;
+    }
+    Ok(shelf)
+}
+
 // The status and the text of a call whose read and whose write of these numbers fail (0 for none).
 pub(crate) fn answer(
     alloc: Global,
@@ -43,16 +67,20 @@ pub(crate) fn answer(
     fetch_fails: u32,
     write_fails: u32,
 ) -> Result<(u8, MemSink), AllocError> {
-    let words = split(alloc, line)?;
-    let mut shelf = MemShelf::new(alloc);
-    for (name, bytes) in files {
-        shelf.put(name, bytes).map_err(|_| AllocError)?;
-    }
+    let mut shelf = shelf_of(alloc, files)?;
     shelf.fail_at(fetch_fails).map_err(|_| AllocError)?;
-    let mut sink = MemSink::new_with_room(alloc, ROOM).map_err(|_| AllocError)?;
-    sink.fail_at(write_fails).map_err(|_| AllocError)?;
-    let status = mitigate_main(alloc, words.as_slice(), &mut shelf, &mut sink);
-    Ok((status.number(), sink))
+    told(alloc, line, &mut shelf, ROOM, write_fails)
+}
+
+// The status and the text of a call whose text has this room.
+pub(crate) fn answer_in_room(
+    alloc: Global,
+    line: &str,
+    files: &[(&str, &[u8])],
+    room: usize,
+) -> Result<(u8, MemSink), AllocError> {
+    let mut shelf = shelf_of(alloc, files)?;
+    told(alloc, line, &mut shelf, room, 0)
 }
 
 // What the first row shows that gives another answer than it wants, if there is one.
@@ -92,6 +120,9 @@ pub(crate) struct Built {
 }
 
 fn put_unit(alloc: Global, text: &mut String, unit: &str, number: u32) -> Result<(), AllocError> {
+    if !unit.contains('#') && !unit.contains('$') {
+        return text.push_str(unit);
+    }
     for letter in unit.chars() {
         match letter {
             '#' => text.push_str(format!(in alloc; "{number}")?.as_str())?,
@@ -114,15 +145,12 @@ fn text_of(alloc: Global, pieces: &[Piece]) -> Result<String, AllocError> {
 
 // The status and the text of a row over long files.
 fn answer_built(alloc: Global, row: &Built) -> Result<(u8, MemSink), AllocError> {
-    let words = split(alloc, row.words)?;
     let mut shelf = MemShelf::new(alloc);
     for (name, pieces) in row.files {
         let text = text_of(alloc, pieces)?;
         shelf.put(name, text.as_bytes()).map_err(|_| AllocError)?;
     }
-    let mut sink = MemSink::new_with_room(alloc, ROOM).map_err(|_| AllocError)?;
-    let status = mitigate_main(alloc, words.as_slice(), &mut shelf, &mut sink);
-    Ok((status.number(), sink))
+    told(alloc, row.words, &mut shelf, ROOM, 0)
 }
 
 // What the first row shows that gives another answer than it wants, if there is one.
