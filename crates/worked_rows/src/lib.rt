@@ -10,9 +10,21 @@ mod clocks;
 #[cfg(test)]
 mod environments;
 #[cfg(test)]
+mod four_labels;
+#[cfg(test)]
 mod hostile;
 #[cfg(test)]
 mod inference;
+#[cfg(test)]
+mod limits;
+#[cfg(test)]
+mod names;
+#[cfg(test)]
+mod passwords;
+#[cfg(test)]
+mod prefixes;
+#[cfg(test)]
+mod refusals;
 #[cfg(test)]
 mod rows;
 #[cfg(test)]

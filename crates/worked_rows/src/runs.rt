@@ -6,8 +6,14 @@ const ASSIGNMENT: &[u8] = b"var l : L; l := 7";
 const COUNTDOWN_FROM_ONE: &[u8] =
     b"var l : L; var h : H; mitigate (1, H) { while h > 0 do { h := h - 1 } }; l := 1";
 
+const TWO_LEVELS: &[u8] =
+    b"labels L, A, B, H; order L < A, L < B, A < H, B < H; var l : L; var b : B; var h : H; mitigate (4, B) { while b > 0 do { b := b - 1 } }; mitigate (4, H) { while h > 0 do { h := h - 1 } }; l := 1";
+
 const NESTED: &[u8] =
     b"var l : L; var h : H; mitigate (16, H) { mitigate (2, H) { h := h * h }; l := 1 }";
+
+const IN_A_BRANCH: &[u8] =
+    b"var l : L; var h : H; mitigate (1, H) { if h > 0 then { mitigate (1, H) { h := h * h } } }; l := 1";
 
 const TWO_DOWN: &[u8] = b"var x : L; x := 2; while x do { x := x - 1 }";
 
@@ -122,10 +128,7 @@ static NESTINGS: [Row; 5] = [
         shows: "levels that do not flow to each other",
         words: "run p.mit s.toml --env flat --observer A",
         files: &[
-            (
-                "p.mit",
-                b"labels L, A, B, H; order L < A, L < B, A < H, B < H; var l : L; var b : B; var h : H; mitigate (4, B) { while b > 0 do { b := b - 1 } }; mitigate (4, H) { while h > 0 do { h := h - 1 } }; l := 1",
-            ),
+            ("p.mit", TWO_LEVELS),
             ("s.toml", b"[[run]]\nmemory = { b = 1, h = 0 }\n\n"),
         ],
         text: "l = 1 @30\nend @31\n",
@@ -155,10 +158,7 @@ static NESTINGS: [Row; 5] = [
         shows: "misses of one level add up",
         words: "run p.mit s.toml --env flat",
         files: &[
-            (
-                "p.mit",
-                b"var l : L; var h : H; mitigate (1, H) { if h > 0 then { mitigate (1, H) { h := h * h } } }; l := 1",
-            ),
+            ("p.mit", IN_A_BRANCH),
             ("s.toml", b"[[run]]\nmemory = { h = 1 }\n\n"),
         ],
         text: "h = 1 @13\nl = 1 @36\nend @37\n",
@@ -217,6 +217,118 @@ static MEANINGS: [Row; 5] = [
     },
 ];
 
+static SUMS: [Row; 13] = [
+    Row {
+        shows: "a sum of two variables",
+        words: "run p --env flat",
+        files: &[("p", b"var l : L; var h : H; l := 3; h := l + 4")],
+        text: "l = 3 @2\nh = 7 @6\nend @7\n",
+        status: 0,
+    },
+    Row {
+        shows: "levels side by side, none taken",
+        words: "run p s --env flat --observer A",
+        files: &[("p", TWO_LEVELS), ("s", b"[[run]]\n")],
+        text: "l = 1 @22\nend @23\n",
+        status: 0,
+    },
+    Row {
+        shows: "levels side by side, the higher one taken",
+        words: "run p s --env flat --observer A",
+        files: &[("p", TWO_LEVELS), ("s", b"[[run]]\nmemory = { h = 2 }\n")],
+        text: "l = 1 @46\nend @47\n",
+        status: 0,
+    },
+    Row {
+        shows: "no misses of an inner mitigation",
+        words: "run p s --env flat",
+        files: &[("p", IN_A_BRANCH), ("s", b"[[run]]\nmemory = { h = 0 }\n")],
+        text: "l = 1 @12\nend @13\n",
+        status: 0,
+    },
+    Row {
+        shows: "a quotient and a remainder take 16 cycles more",
+        words: "run p --env flat",
+        files: &[("p", b"var x : L; x := 7 / 2; x := 7 % 2")],
+        text: "x = 3 @20\nx = 1 @40\nend @41\n",
+        status: 0,
+    },
+    Row {
+        shows: "a product of operands at the edge of the narrow ones",
+        words: "run p --env flat",
+        files: &[("p", b"var x : L; x := 32767 * (0 - 32768); x := 32768 * 1")],
+        text: "x = -1073709056 @7\nx = 32768 @15\nend @16\n",
+        status: 0,
+    },
+    Row {
+        shows: "sums and products wrap",
+        words: "run p --env flat",
+        files: &[(
+            "p",
+            b"var x : L; x := 9223372036854775807 + 1; x := 4294967296 * 4294967296",
+        )],
+        text: "x = -9223372036854775808 @4\nx = 0 @12\nend @13\n",
+        status: 0,
+    },
+    Row {
+        shows: "comparisons",
+        words: "meaning p --steps 9",
+        files: &[(
+            "p",
+            b"var x : L; x := 1 < 2; x := 2 <= 1; x := 3 == 3; x := 3 != 3; x := 2 > 1; x := 1 >= 2",
+        )],
+        text: "x = 1\nx = 0\nx = 1\nx = 0\nx = 1\nx = 0\nended after 6 steps\n",
+        status: 0,
+    },
+    Row {
+        shows: "operators of one rank group to the left",
+        words: "meaning p --steps 9",
+        files: &[(
+            "p",
+            b"var x : L; x := 9 - 3 - 2; x := 100 / 10 / 2; x := 7 - 2 * 3; x := (7 - 2) * 3; x := 2 * 3 % 4",
+        )],
+        text: "x = 4\nx = 5\nx = 1\nx = 15\nx = 2\nended after 5 steps\n",
+        status: 0,
+    },
+    Row {
+        shows: "remainders of the least value",
+        words: "meaning p --steps 9",
+        files: &[(
+            "p",
+            b"var x : L; x := (0 - 9223372036854775807 - 1) % (0 - 1); x := 7 % (0 - 3); x := (0 - 7) / 2",
+        )],
+        text: "x = 0\nx = 1\nx = -3\nended after 3 steps\n",
+        status: 0,
+    },
+    Row {
+        shows: "an element read and written",
+        words: "run p --env flat",
+        files: &[(
+            "p",
+            b"var a[2] : L; var i : L; i := 3; a[i] := i * 2; i := a[0 - 1] + a[i + 1]",
+        )],
+        text: "i = 3 @2\na[1] = 6 @8\ni = 6 @18\nend @19\n",
+        status: 0,
+    },
+    Row {
+        shows: "a meaning of mitigations and sleeps",
+        words: "meaning p --steps 9",
+        files: &[(
+            "p",
+            b"var x : L; mitigate (5, H) { sleep 3; x := 1 }; x := 2",
+        )],
+        text: "x = 1\nx = 2\nended after 4 steps\n",
+        status: 0,
+    },
+    Row {
+        shows: "a meaning that ends in its last step",
+        words: "meaning p --steps 2",
+        files: &[("p", b"var x : L; x := 1; x := 2")],
+        text: "x = 1\nx = 2\nended after 2 steps\n",
+        status: 0,
+    },
+];
+
 #[test]
 fn rows_of_estimates(rt: HostRuntime) -> Result<(), Fail> {
     assert_eq!(rt; first_wrong(rt.alloc(), &ESTIMATES)?, None);
@@ -232,5 +344,11 @@ fn rows_of_nestings(rt: HostRuntime) -> Result<(), Fail> {
 #[test]
 fn rows_of_meanings(rt: HostRuntime) -> Result<(), Fail> {
     assert_eq!(rt; first_wrong(rt.alloc(), &MEANINGS)?, None);
+    Ok(())
+}
+
+#[test]
+fn rows_of_sums(rt: HostRuntime) -> Result<(), Fail> {
+    assert_eq!(rt; first_wrong(rt.alloc(), &SUMS)?, None);
     Ok(())
 }
