@@ -1,3 +1,4 @@
 pub mod Upto
 pub mod Leads
 pub mod Ticks
+pub mod Alike

@@ -3,3 +3,4 @@ pub mod Machine
 pub mod Run
 pub mod Shaped
 pub mod Visible
+pub mod Alike
