@@ -9,7 +9,7 @@ fn at_least_one(estimate: i64) -> u64
     if estimate < 1 { 1 } else { estimate as u64 }
 }
 
-// The prediction for an estimate after so many misses.
+/// The prediction in cycles for an estimate after so many misses, of which there are at most 64.
 pub fn predicted(estimate: i64, misses: u8) -> u128
     requires { misses ≤ 64 }
     ensures value { result ≡ prediction estimate misses }

@@ -1,18 +1,18 @@
 -- A lattice from a closed table of which nothing is wrong.
-use Rattle.std.proofs.Common.{◌≡◌, ◌∙◌, ℕ, ◌+◌, ◌*◌, ◌/◌, ◌%◌, ◌<◌, ◌≤◌, Bool, true, false, cond, ltb, leb, List, length, take, get_or, refl, sym, ap, subst, ◌⊎◌, inl, inr, ⊎_elim, arith}
+use Rattle.std.proofs.Common.{◌≡◌, ◌∙◌, ℕ, ◌+◌, ◌*◌, ◌/◌, ◌%◌, ◌<◌, ◌≤◌, Bool, true, false, cond, eqb, ltb, leb, List, length, take, get_or, refl, sym, ap, subst, ◌⊎◌, inl, inr, ⊎_elim, arith}
 use Rattle.std.specs.Prelude.{◌&&◌, All}
 use Rattle.label_lattice.specs.Names.{IsName}
 use Rattle.std.proofs.Math.Seq.{take-append_seam}
-use Rattle.std.proofs.lemmas.Bool.{cases_Bool, both_ways, and_from, lt-ltb, cond-true}
+use Rattle.std.proofs.lemmas.Bool.{cases_Bool, cases_eq, cases_lt, both_ways, and_from, lt-ltb, cond-true, eq-eqb, ne_eqb, false_from_ne_true}
 use Rattle.std.proofs.lemmas.Nat.{div-mul-add, mod-mul-add}
 use Rattle.label_lattice.specs.declared.label.Label.{Label}
 use Rattle.label_lattice.specs.Lattice.{IsTable}
-use Rattle.label_lattice.specs.Order.{row, AllDiffer}
+use Rattle.label_lattice.specs.Order.{Order, row, AllDiffer, IsOrder}
 use Rattle.label_lattice.specs.Room.{filled}
 use Rattle.label_lattice.specs.Kept.{IsKept, order_of}
-use Rattle.label_lattice.specs.Chains.{Chain, none, IsCycle, IsLowest, AreLowest, IsJoin, HaveNoJoin, IsNoPair, IsFirstPair, IsSound, IsBuilt}
+use Rattle.label_lattice.specs.Chains.{Chain, none, AreBelow, IsCycle, IsLowest, AreLowest, IsJoin, HaveNoJoin, IsNoPair, IsFirstPair, IsSound, IsBuilt}
 use Rattle.label_lattice.specs.Tables.{IsSet, IsClosure, IsJoinOf}
-use Rattle.label_lattice.proofs.Chained.{chain_then}
+use Rattle.label_lattice.proofs.Chained.{chain_then, chain_same, chain_outside}
 use Rattle.label_lattice.proofs.Closures.{cell_below}
 use Rattle.label_lattice.proofs.Sound.{cycle, both_lowest, join, no_pair, first_pair, anti, some_lowest, lowest_flows, have_join}
 
@@ -72,12 +72,12 @@ module _ (n : ℕ) (few : n ≤ row) (ps : List (Label × Label)) (t : List Bool
       join_is : (a b : ℕ) → a < n → b < n → (join_in a b < n) × IsJoin n (IsSet t) a b (join_in a b)
       unfolding join_in
       join_is a b k l =
-          let P : ℕ → ℕ → Type 0 = λ x y. HaveNoJoin n (IsSet t) x y ⊎ ((get_or js (a * row + b) 0 < n) × IsJoin n (IsSet t) x y (get_or js (a * row + b) 0)) in
+          let P : ℕ → ℕ → Type 0 = λ x y. (HaveNoJoin n (IsSet t) x y × (get_or js (a * row + b) 0 ≡ 0)) ⊎ ((get_or js (a * row + b) 0 < n) × IsJoin n (IsSet t) x y (get_or js (a * row + b) 0)) in
           let l' : b < row = omega (arith, l, few) in
           let f : P ((a * row + b) / row) ((a * row + b) % row) = joins (a * row + b) (cell_below a b (omega (arith, k, few)) l') in
           let g : P a b = subst (λ (x : ℕ). P x b) (div-mul-add a row b l') (subst (λ (y : ℕ). P ((a * row + b) / row) y) (mod-mul-add a row b l') f) in
           ⊎_elim
-          (λ (x : HaveNoJoin n (IsSet t) a b). absurd (have_join n (IsSet t) same chain known no_cycle one_lowest joined a b k l x))
+          (λ (x : HaveNoJoin n (IsSet t) a b × (get_or js (a * row + b) 0 ≡ 0)). absurd (have_join n (IsSet t) same chain known no_cycle one_lowest joined a b k l x.0))
           (λ (y : (get_or js (a * row + b) 0 < n) × IsJoin n (IsSet t) a b (get_or js (a * row + b) 0)). y) g
 
       pub table_is : IsTable n (λ a b. get_or t (a * row + b) false) (λ a b. get_or js (a * row + b) 0) m
@@ -95,32 +95,69 @@ module _ (n : ℕ) (few : n ≤ row) (ps : List (Label × Label)) (t : List Bool
             lowest = lowest_flows n (IsSet t) same chain known no_cycle one_lowest joined m below low;
           }
 
+-- what the tables say where not both are labels
+module _ (n : ℕ) (few : n ≤ row) (ps : List (Label × Label)) (below : AreBelow n ps) (t : List Bool) (h : IsClosure t ps) where
+  alone : (a b : ℕ) → a < row → b < row → (a < n → b < n → ⊥) → IsSet t a b → a ≡ b
+  alone a b k l f s = chain_outside n ps below f (h.sets a b k l s)
+
+  pub flows_alone : (a b : ℕ) → a < row → b < row → (a < n → b < n → ⊥) → get_or t (a * row + b) false ≡ eqb a b
+  flows_alone a b k l f = ⊎_elim
+      (λ (e : a ≡ b). h.set a b k l (chain_same ps a b e) ∙ sym (eq-eqb a b e))
+      (λ (ne : a ≡ b → ⊥). false_from_ne_true (get_or t (a * row + b) false) (λ s. ne (alone a b k l f s)) ∙ sym (ne_eqb a b ne)) (cases_eq a b)
+
+  module _ (js : List ℕ) (joins : (i : ℕ) → i < row * row → IsJoinOf n t i (get_or js i 0)) where
+    no_join_there : (a b j : ℕ) → a < row → b < row → (a < n → b < n → ⊥) → j < n → IsJoin n (IsSet t) a b j → ⊥
+    no_join_there a b j k l f i x = ⊎_elim
+        (λ (p : a < n). let e : b ≡ j = alone b j l (omega (arith, i, few)) (λ u v. f p u) x.right in f p (omega (arith, e, i)))
+        (λ (p : n ≤ a). let e : a ≡ j = alone a j k (omega (arith, i, few)) (λ u v. absurd (omega (arith, u, p))) x.left in absurd (omega (arith, e, i, p))) (cases_lt a n)
+
+    pub joins_none : (a b : ℕ) → a < row → b < row → (a < n → b < n → ⊥) → get_or js (a * row + b) 0 ≡ 0
+    joins_none a b k l f =
+        let j : ℕ = get_or js (a * row + b) 0 in
+        let P : ℕ → ℕ → Type 0 = λ x y. (HaveNoJoin n (IsSet t) x y × (get_or js (a * row + b) 0 ≡ 0)) ⊎ ((get_or js (a * row + b) 0 < n) × IsJoin n (IsSet t) x y (get_or js (a * row + b) 0)) in
+        let g : P ((a * row + b) / row) ((a * row + b) % row) = joins (a * row + b) (cell_below a b k l) in
+        let q : P a b = subst (λ (x : ℕ). P x b) (div-mul-add a row b l) (subst (λ (y : ℕ). P ((a * row + b) / row) y) (mod-mul-add a row b l) g) in
+        ⊎_elim
+        (λ (x : HaveNoJoin n (IsSet t) a b × (get_or js (a * row + b) 0 ≡ 0)). x.1)
+        (λ (y : (get_or js (a * row + b) 0 < n) × IsJoin n (IsSet t) a b (get_or js (a * row + b) 0)). absurd (no_join_there a b (get_or js (a * row + b) 0) k l f y.0 y.1)) q
+
 module _ (names room : List (List ℕ)) (t : List Bool) (js : List ℕ) (m : ℕ) (is_room : room ≡ filled names (length names)) where
   front : take (length names) room ≡ names
   front = ap (λ (x : List (List ℕ)). take (length names) x) is_room ∙ take-append_seam names _
 
-  pub kept : 0 < length names → length names ≤ row → All IsName names → AllDiffer names → IsTable (length names) (λ a b. get_or t (a * row + b) false) (λ a b. get_or js (a * row + b) 0) m → IsKept (record { size = length names; names = room; flows = t; joins = js; bottom = m })
-  kept z few all differ table =
-      record {
-        order = record {
+  abbrev there : Order
+  there = order_of (record { size = length names; names = room; flows = t; joins = js; bottom = m })
+
+  module _ (z : 0 < length names) (few : length names ≤ row) (all : All IsName names) (differ : AllDiffer names) (table : IsTable (length names) (λ a b. get_or t (a * row + b) false) (λ a b. get_or js (a * row + b) 0) m)
+      (ps : List (Label × Label)) (below : AreBelow (length names) ps) (h : IsClosure t ps) (joins : (i : ℕ) → i < row * row → IsJoinOf (length names) t i (get_or js i 0)) (sizes : (length t ≡ row * row) × (length js ≡ row * row)) where
+    order : IsOrder there
+    order =
+        record {
           some = z;
           within = few;
           named = ap length front;
           names = subst (All IsName) (sym front) all;
           differ = subst AllDiffer (sym front) differ;
           table = table;
-        };
-        room = is_room ∙ ap (λ (x : List (List ℕ)). filled x (length names)) (sym front);
-      }
+          room = record {
+            flows = sizes.0;
+            joins = sizes.1;
+            unused = λ a b k l f. (flows_alone (length names) few ps below t h a b k l f, joins_none (length names) few ps below t h js joins a b k l f);
+          };
+        }
 
-  pub built : (ps : List (Label × Label)) → IsSound (length names) (Chain ps) → IsClosure t ps → IsBuilt names ps (order_of (record { size = length names; names = room; flows = t; joins = js; bottom = m }))
-  built ps s h =
-      record {
-        sound = s;
-        size = refl;
-        named = front;
-        flows = λ a b k l.
-            let two : (ltb a (length names) && ltb b (length names)) ≡ true = and_from (ltb a (length names)) (ltb b (length names)) (lt-ltb a (length names) k) (lt-ltb b (length names) l) in
-            let e : cond (ltb a (length names) && ltb b (length names)) (get_or t (a * row + b) false) (leb a b) ≡ get_or t (a * row + b) false = cond-true (ltb a (length names) && ltb b (length names)) (get_or t (a * row + b) false) (leb a b) two in
-            (λ f. h.sets a b (omega (arith, k, s.few)) (omega (arith, l, s.few)) (sym e ∙ f), λ c. e ∙ h.set a b (omega (arith, k, s.few)) (omega (arith, l, s.few)) c);
-      }
+    pub kept : IsKept (record { size = length names; names = room; flows = t; joins = js; bottom = m })
+    kept = record { order = order; room = is_room ∙ ap (λ (x : List (List ℕ)). filled x (length names)) (sym front) }
+
+    pub built : IsSound (length names) (Chain ps) → IsBuilt names ps there
+    built s =
+        record {
+          sound = s;
+          order = order;
+          size = refl;
+          named = front;
+          flows = λ a b k l.
+              let two : (ltb a (length names) && ltb b (length names)) ≡ true = and_from (ltb a (length names)) (ltb b (length names)) (lt-ltb a (length names) k) (lt-ltb b (length names) l) in
+              let e : cond (ltb a (length names) && ltb b (length names)) (get_or t (a * row + b) false) (leb a b) ≡ get_or t (a * row + b) false = cond-true (ltb a (length names) && ltb b (length names)) (get_or t (a * row + b) false) (leb a b) two in
+              (λ f. h.sets a b (omega (arith, k, s.few)) (omega (arith, l, s.few)) (sym e ∙ f), λ c. e ∙ h.set a b (omega (arith, k, s.few)) (omega (arith, l, s.few)) c);
+        }

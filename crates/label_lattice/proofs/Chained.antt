@@ -1,5 +1,5 @@
 -- Chains of written pairs.
-use Rattle.std.proofs.Common.{◌≡◌, ℕ, ◌≤◌, List, [], ◌∷◌, ◌++◌, subst, sym, ◌⊎◌, inl, inr, ⊎_elim, refl, arith}
+use Rattle.std.proofs.Common.{◌≡◌, ℕ, suc, ◌<◌, ◌≤◌, List, [], ◌∷◌, ◌++◌, subst, sym, ◌⊎◌, inl, inr, ⊎_elim, refl, arith}
 use Rattle.label_lattice.specs.declared.label.Label.{Label}
 use Rattle.label_lattice.specs.Chains.{IsWritten, Chain, none, more, AreBelow}
 
@@ -53,3 +53,18 @@ chain_split xs p (more {a} {b} {c} w r) = ⊎_elim
 
 pub below_more : (m n : ℕ) (ps : List (Label × Label)) → m ≤ n → AreBelow m ps → AreBelow n ps
 below_more m n ps l h k d i = let b = h k d i in (omega (arith, b.0), omega (arith, b.1))
+
+written_below : (n : ℕ) (ps : List (Label × Label)) (a b : ℕ) → AreBelow n ps → IsWritten ps a b → (a < n) × (b < n)
+written_below n [] a b h w = absurd w
+written_below n (p ∷ ps) a b h w = ⊎_elim
+    (λ (e : (p.0.number ≡ a) × (p.1.number ≡ b)). let i = h 0 p (omega arith) in (subst (λ (z : ℕ). z < n) e.0 i.0, subst (λ (z : ℕ). z < n) e.1 i.1))
+    (λ (r : IsWritten ps a b). written_below n ps a b (λ k d l. h (suc k) d (omega (arith, l))) r) w
+
+chain_below : (n : ℕ) (ps : List (Label × Label)) → AreBelow n ps → {a b : ℕ} → a < n → Chain ps a b → b < n
+chain_below n ps h l none = l
+chain_below n ps h l (more {a} {b} {c} w r) = chain_below n ps h (written_below n ps a b h w).1 r
+
+-- a number that is not below n is in no chain but its own
+pub chain_outside : (n : ℕ) (ps : List (Label × Label)) → AreBelow n ps → {a b : ℕ} → (a < n → b < n → ⊥) → Chain ps a b → a ≡ b
+chain_outside n ps h f none = refl
+chain_outside n ps h f (more {a} {b} {c} w r) = let i = written_below n ps a b h w in absurd (f i.0 (chain_below n ps h i.1 r))

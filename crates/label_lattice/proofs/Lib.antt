@@ -6,3 +6,4 @@ pub mod Closures
 pub mod Filled
 pub mod Sound
 pub mod Built
+pub mod OneOrder

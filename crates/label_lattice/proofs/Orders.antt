@@ -1,5 +1,5 @@
 -- The laws of a lattice of labels, over all numbers.
-use Rattle.std.proofs.Common.{◌≡◌, ℕ, ◌<◌, ◌+◌, add-one, subst}
+use Rattle.std.proofs.Common.{◌≡◌, ◌∙◌, ℕ, ◌<◌, ◌+◌, Bool, true, false, add-one, add-zero, ap, ap₂, sym, subst}
 use Rattle.std.specs.Prelude.{cond, ltb, ◌&&◌, max}
 use Rattle.std.proofs.lemmas.Bool.{lt-ltb, and_from, cond-true}
 use Rattle.label_lattice.specs.Lattice.{Lattice, IsLattice}
@@ -20,5 +20,15 @@ join_below o h a b p q =
 pub value_is : (o v : Order) → o ≡ v → IsOrder o → IsOrder v
 value_is o v e h = subst IsOrder e h
 
-pub count_more : (lat : Lattice) (a n : ℕ) → count_not_below lat a (n + 1) ≡ count_not_below lat a n + cond (lat.flows n a) 0 1
+count_more : (lat : Lattice) (a n : ℕ) → count_not_below lat a (n + 1) ≡ count_not_below lat a n + cond (lat.flows n a) 0 1
 count_more lat a n = rw add-one
+
+count_next : (lat : Lattice) (a n m k : ℕ) → m ≡ n → k ≡ count_not_below lat a n → (r : Bool) → r ≡ lat.flows m a → k + cond r 0 1 ≡ count_not_below lat a (n + 1)
+count_next lat a n m k e h r f = ap₂ (λ (x : ℕ) (y : Bool). x + cond y 0 1) h (f ∙ ap (λ (z : ℕ). lat.flows z a) e) ∙ sym (count_more lat a n)
+
+-- a label that does not flow there is counted, and one that does is not
+pub count_one : (lat : Lattice) (a n m k : ℕ) → m ≡ n → k ≡ count_not_below lat a n → (r : Bool) → r ≡ lat.flows m a → r ≡ false → k + 1 ≡ count_not_below lat a (n + 1)
+count_one lat a n m k e h r f g = ap (λ (b : Bool). k + cond b 0 1) (sym g) ∙ count_next lat a n m k e h r f
+
+pub count_none : (lat : Lattice) (a n m k : ℕ) → m ≡ n → k ≡ count_not_below lat a n → (r : Bool) → r ≡ lat.flows m a → r ≡ true → k ≡ count_not_below lat a (n + 1)
+count_none lat a n m k e h r f g = sym (add-zero k) ∙ ap (λ (b : Bool). k + cond b 0 1) (sym g) ∙ count_next lat a n m k e h r f

@@ -5,7 +5,7 @@ use Rattle.label_lattice.specs.declared.label.TheConstants.{MAX_LABELS}
 use Rattle.label_lattice.specs.declared.fault.LatticeFault.{LatticeFault}
 use Rattle.label_lattice.specs.declared.fault.LatticeFault.TheVariants.{TooMany, Cycle, NoBottom, NoJoin}
 use Rattle.label_lattice.specs.Lattice.{Flows}
-use Rattle.label_lattice.specs.Order.{Order, lattice_of}
+use Rattle.label_lattice.specs.Order.{Order, IsOrder, lattice_of}
 
 -- the pair of labels is written
 abbrev pub IsWritten : List (Label × Label) → ℕ → ℕ → Type 0
@@ -68,9 +68,10 @@ pub record IsSound (n : ℕ) (flows : ℕ → ℕ → Type 0) : Type 0 where
   pub one_lowest : IsNoPair n (AreLowest n flows)
   pub joined : IsNoPair n (HaveNoJoin n flows)
 
--- the lattice is that of these names and pairs
+-- the lattice is that of these names and pairs: there is one at most
 pub record IsBuilt (names : List (List ℕ)) (pairs : List (Label × Label)) (o : Order) : Type 0 where
   pub sound : IsSound (length names) (Chain pairs)
+  pub order : IsOrder o
   pub size : o.size ≡ length names
   pub named : o.names ≡ names
   pub flows : (a b : ℕ) → a < length names → b < length names → Flows (lattice_of o) a b ↔ Chain pairs a b

@@ -1,5 +1,5 @@
 -- A lattice as contracts see it: its labels' names, and tables of what flows and of joins.
-use Rattle.std.specs.Prelude.{◌≡◌, ℕ, ◌+◌, ◌*◌, ◌<◌, ◌≤◌, Bool, false, cond, zero, suc, List, [], All, AllPairs, length, slice_index_or}
+use Rattle.std.specs.Prelude.{◌≡◌, ℕ, ◌+◌, ◌*◌, ◌<◌, ◌≤◌, ◌==◌, Bool, false, cond, zero, suc, List, [], All, AllPairs, length, slice_index_or}
 use Rattle.label_lattice.specs.declared.label.TheConstants.{MAX_LABELS}
 use Rattle.label_lattice.specs.Names.{IsName}
 use Rattle.label_lattice.specs.Lattice.{Lattice, IsTable, over_all}
@@ -36,6 +36,13 @@ name_of o a = slice_index_or o.names a []
 abbrev pub AllDiffer : List (List ℕ) → Type 0
 AllDiffer names = AllPairs (λ a b. a ≡ b → ⊥) names
 
+-- The tables have a cell for each pair of the room, and where not both the row and the column are labels they
+-- say one thing: a number that is no label flows to itself alone, and its joins are written as 0.
+pub record IsRoom (o : Order) : Type 0 where
+  pub flows : length o.flows ≡ row * row
+  pub joins : length o.joins ≡ row * row
+  pub unused : (a b : ℕ) → a < row → b < row → (a < o.size → b < o.size → ⊥) → (flows_in o.flows a b ≡ (a == b)) × (join_in o.joins a b ≡ 0)
+
 -- what is true of every lattice
 pub record IsOrder (o : Order) : Type 0 where
   pub some : 0 < o.size
@@ -44,6 +51,7 @@ pub record IsOrder (o : Order) : Type 0 where
   pub names : All IsName o.names
   pub differ : AllDiffer o.names
   pub table : IsTable o.size (flows_in o.flows) (join_in o.joins) o.bottom
+  pub room : IsRoom o
 
 -- how many of the labels below n do not flow to a label
 abbrev pub count_not_below : Lattice → ℕ → ℕ → ℕ

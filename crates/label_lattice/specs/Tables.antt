@@ -30,6 +30,6 @@ IsRefused Cycle n flows = IsCycle flows
 IsRefused Bottom n flows = AreLowest n flows
 IsRefused Join n flows = HaveNoJoin n flows
 
--- at a place of the table: the join of the row's label and the column's, if there is one
+-- at a place of the table: the join of the row's label and the column's, or 0 if there is none
 abbrev pub IsJoinOf : ℕ → List Bool → ℕ → ℕ → Type 0
-IsJoinOf n t i j = HaveNoJoin n (IsSet t) (i / row) (i % row) ⊎ ((j < n) × IsJoin n (IsSet t) (i / row) (i % row) j)
+IsJoinOf n t i j = (HaveNoJoin n (IsSet t) (i / row) (i % row) × (j ≡ 0)) ⊎ ((j < n) × IsJoin n (IsSet t) (i / row) (i % row) j)

@@ -1,11 +1,12 @@
 //! Lattices of labels.
 
-ghost use Rattle.std.specs.Prelude.{◌≡◌, ◌<◌, ◌≤◌, ◌^◌, ℕ, length, All, MatchOption, IfOk, IfErr};
+ghost use Rattle.std.specs.Prelude.{◌≡◌, ◌<◌, ◌≤◌, ◌^◌, ℕ, List, length, All, MatchOption, IfOk, IfErr};
 ghost use Rattle.label_lattice.specs.Names.{IsName};
 ghost use Rattle.label_lattice.specs.Lattice.{IsLattice};
-ghost use Rattle.label_lattice.specs.Order.{lattice_of, name_of, AllDiffer, IsOrder, count_not_below};
+ghost use Rattle.label_lattice.specs.Order.{Order, lattice_of, name_of, AllDiffer, IsOrder, count_not_below};
 ghost use Rattle.label_lattice.specs.Chains.{Chain, AreBelow, IsFault, IsBuilt};
 ghost use Rattle.label_lattice.specs.Room.{filled};
+ghost use Rattle.label_lattice.specs.declared.label.Label.{Label};
 
 use crate::bounds::{joins, lowest};
 use crate::checks::{Check, first_pair};
@@ -191,3 +192,8 @@ impl Lattice {
         count
     }
 }
+
+/// Says nothing at run time: two lattices that are built from the same names and pairs are one and the same.
+pub fn one_order()
+    ensures { (names : List (List ℕ)) (pairs : List (Label × Label)) (o u : Order) → IsBuilt names pairs o → IsBuilt names pairs u → o ≡ u }
+{}

@@ -60,7 +60,7 @@ impl<'a> Parser<'a> {
         })
     }
 
-    // "[" expr "]"
+    /// An index: `"[" expr "]"`.
     #[cycle(expression)]
     pub fn index(&mut self, alloc: Global, names: &Names) -> Result<Expr, ParseFault>
         requires there { is (word (a_sign Sign.LeftSquare)) (head_symbol self.old.words) ≡ true }

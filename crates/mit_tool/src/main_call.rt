@@ -8,9 +8,6 @@ ghost use Rattle.mit_tool.specs.WordsViews.{asked_of};
 ghost use Rattle.mit_tool.specs.Answers.{IsAnswer, IsUsage, Before, typed_content, is_past_typing};
 ghost use Rattle.mit_tool.specs.Accepted.{IsAccepted};
 
-#[cfg(test)]
-mod tests;
-
 use crate::commands::audit::audit_text;
 use crate::commands::blackbox::blackbox_text;
 use crate::commands::check::check_line;

@@ -6,8 +6,6 @@ ghost use Rattle.mit_tool.specs.WordsViews.{asked_of};
 
 mod forms;
 mod readers;
-#[cfg(test)]
-mod tests;
 mod values;
 
 use crate::words::forms::{form, matched};

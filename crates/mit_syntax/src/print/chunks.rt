@@ -57,18 +57,21 @@ fn sign_bytes(sign: Sign) -> &'static [u8]
     }
 }
 
+/// The text of a keyword.
 pub fn put_key(out: &mut Vec<u8>, keyword: Keyword) -> Result<(), AllocError>
     ensures { OnOk result (Puts out.old.items out.new.items (a_key keyword)) }
 {
     out.extend_from_slice(key_bytes(keyword))
 }
 
+/// The text of a sign.
 pub fn put_sign(out: &mut Vec<u8>, which: Sign) -> Result<(), AllocError>
     ensures { OnOk result (Puts out.old.items out.new.items (a_sign which)) }
 {
     out.extend_from_slice(sign_bytes(which))
 }
 
+/// A number in decimal digits, behind `-` if it is negative.
 pub fn put_number(out: &mut Vec<u8>, n: i64) -> Result<(), AllocError>
     ensures { OnOk result (Puts out.old.items out.new.items (a_word (number n))) }
 {
@@ -76,6 +79,7 @@ pub fn put_number(out: &mut Vec<u8>, n: i64) -> Result<(), AllocError>
     out.extend_from_slice(buffer.format(n).as_bytes())
 }
 
+/// A number without a sign, in decimal digits.
 pub fn put_natural(out: &mut Vec<u8>, n: u32) -> Result<(), AllocError>
     ensures { OnOk result (Puts out.old.items out.new.items (a_number n)) }
 {
@@ -83,12 +87,14 @@ pub fn put_natural(out: &mut Vec<u8>, n: u32) -> Result<(), AllocError>
     out.extend_from_slice(buffer.format(n).as_bytes())
 }
 
+/// The bytes of a name.
 pub fn put_name(out: &mut Vec<u8>, name: Name) -> Result<(), AllocError>
     ensures { OnOk result (Puts out.old.items out.new.items (a_name name)) }
 {
     out.extend_from_slice(name.bytes())
 }
 
+/// One space.
 pub fn put_space(out: &mut Vec<u8>) -> Result<(), AllocError>
     ensures { OnOk result (Puts out.old.items out.new.items a_space) }
 {
@@ -96,6 +102,7 @@ pub fn put_space(out: &mut Vec<u8>) -> Result<(), AllocError>
     Ok(())
 }
 
+/// The end of a line.
 pub fn put_line(out: &mut Vec<u8>) -> Result<(), AllocError>
     ensures { OnOk result (Puts out.old.items out.new.items a_line) }
 {
@@ -103,6 +110,7 @@ pub fn put_line(out: &mut Vec<u8>) -> Result<(), AllocError>
     Ok(())
 }
 
+/// A comma and a space.
 pub fn put_comma(out: &mut Vec<u8>) -> Result<(), AllocError>
     ensures { OnOk result (Puts out.old.items out.new.items a_comma) }
 {
@@ -111,7 +119,7 @@ pub fn put_comma(out: &mut Vec<u8>) -> Result<(), AllocError>
     Ok(())
 }
 
-// A sign between two spaces.
+/// A sign between two spaces.
 pub fn put_spaced(out: &mut Vec<u8>, which: Sign) -> Result<(), AllocError>
     ensures { OnOk result (Puts out.old.items out.new.items (spaced which)) }
 {
@@ -121,6 +129,7 @@ pub fn put_spaced(out: &mut Vec<u8>, which: Sign) -> Result<(), AllocError>
     Ok(())
 }
 
+/// A keyword between two spaces.
 pub fn put_spaced_key(out: &mut Vec<u8>, keyword: Keyword) -> Result<(), AllocError>
     ensures { OnOk result (Puts out.old.items out.new.items (spaced_key keyword)) }
 {
@@ -143,7 +152,7 @@ fn put_indent(out: &mut Vec<u8>, depth: u32) -> Result<(), AllocError>
     Ok(())
 }
 
-// A line's end, and the next line up to its first byte.
+/// A line's end, and the next line up to its first byte.
 pub fn put_new_line(out: &mut Vec<u8>, depth: u32) -> Result<(), AllocError>
     ensures { OnOk result (Puts out.old.items out.new.items (new_line depth)) }
 {

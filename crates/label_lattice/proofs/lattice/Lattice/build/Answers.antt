@@ -1,4 +1,4 @@
-use Rattle.std.proofs.Common.{length}
+use Rattle.std.proofs.Common.{length, rules}
 use Rattle.label_lattice.specs.Order.{row}
 use Rattle.label_lattice.proofs.Chained.{below_more}
 use Rattle.label_lattice.proofs.Built.{chained_no_cycle, chained_one_lowest, chained_lowest, chained_no_join, lowest_there, sound, table_is, kept, built}
@@ -32,9 +32,12 @@ invariant_of-result c =
     kept c.args.names.now c.with_room.result c.closure-flows.result c.joins.result c.in-Some-lowest.bottom c.with_room.ensures c.requires.some c.if-size-gt-MAX_LABELS.false c.are_names.ensures c.requires.differ
     (table_is (length c.args.names.now) c.if-size-gt-MAX_LABELS.false c.args.pairs.now c.closure-flows.result c.closure-flows.ensures
     c.in_default.ensures c.in_default-first_pair.ensures c.in_default-first_pair-2.ensures c.joins.result c.joins.ensures c.in-Some-lowest.bottom c.in-Some-lowest.ensures.0 c.in-Some-lowest.ensures.1)
+    c.args.pairs.now c.requires.pairs c.closure-flows.ensures c.joins.ensures (search rules, search rules)
 
 pub returns-clause-built : goal.returns-clause-built
 returns-clause-built c =
-    built c.args.names.now c.with_room.result c.closure-flows.result c.joins.result c.in-Some-lowest.bottom c.with_room.ensures c.args.pairs.now
+    built c.args.names.now c.with_room.result c.closure-flows.result c.joins.result c.in-Some-lowest.bottom c.with_room.ensures c.requires.some c.if-size-gt-MAX_LABELS.false c.are_names.ensures c.requires.differ
+    (table_is (length c.args.names.now) c.if-size-gt-MAX_LABELS.false c.args.pairs.now c.closure-flows.result c.closure-flows.ensures
+    c.in_default.ensures c.in_default-first_pair.ensures c.in_default-first_pair-2.ensures c.joins.result c.joins.ensures c.in-Some-lowest.bottom c.in-Some-lowest.ensures.0 c.in-Some-lowest.ensures.1)
+    c.args.pairs.now c.requires.pairs c.closure-flows.ensures c.joins.ensures (search rules, search rules)
     (sound (length c.args.names.now) c.if-size-gt-MAX_LABELS.false c.args.pairs.now c.closure-flows.result c.closure-flows.ensures c.in_default.ensures c.in_default-first_pair.ensures c.in_default-first_pair-2.ensures)
-    c.closure-flows.ensures
