@@ -2,3 +2,4 @@ pub mod Upto
 pub mod Leads
 pub mod Ticks
 mod OneRun
+pub mod Alike

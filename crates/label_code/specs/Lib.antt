@@ -4,3 +4,4 @@ pub mod Run
 pub mod Shaped
 pub mod Visible
 pub mod OneRun
+pub mod Alike
