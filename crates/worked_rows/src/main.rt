@@ -14,7 +14,7 @@ mod text;
 mod words;
 
 // The tables, in the order in which they are run.
-const TABLES: [&str; 12] = [
+const TABLES: [&str; 13] = [
     "texts.txt",
     "prefixes.txt",
     "names.txt",
@@ -22,6 +22,7 @@ const TABLES: [&str; 12] = [
     "refusals.txt",
     "starts.txt",
     "runs.txt",
+    "clocks.txt",
     "caches.txt",
     "labels.txt",
     "audits.txt",
