@@ -17,3 +17,4 @@ pub mod Took
 pub mod Levels
 pub mod Starting
 pub mod Inferred
+pub mod OneLeast

@@ -6,6 +6,7 @@ mod first;
 mod form;
 pub mod infer;
 mod known;
+pub mod laws;
 mod left;
 mod needs;
 mod own;
