@@ -6,3 +6,4 @@ pub mod Split
 pub mod Agreeing
 pub mod Surveying
 pub mod Once
+pub mod Differing
