@@ -1,9 +1,8 @@
 -- Two least labellings of a program are one.
-use Rattle.std.proofs.Common.{◌≡◌, ℕ, ◌<◌, refl, sym, ap, ◌∙◌, List, length, get_or}
+use Rattle.std.proofs.Common.{◌≡◌, ℕ, sym, ap, ◌∙◌, List, length, get_or}
 use Rattle.std.proofs.lemmas.List.{ext_get_or}
 use Rattle.label_lattice.specs.declared.label.Label.{Label}
 use Rattle.label_lattice.specs.Order.{IsOrder}
-use Rattle.mit_syntax.specs.Todo.{Marks}
 use Rattle.mit_syntax.specs.Program.{Syntax}
 use Rattle.timing_types.specs.Labelling.{Labelling, marks_from, label_at, variable_of, marks_of, level_of}
 use Rattle.timing_types.specs.Labelled.{LabelledProgram}

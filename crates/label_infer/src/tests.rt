@@ -1,24 +1,33 @@
-ghost use Rattle.std.specs.Prelude.{◌≡◌, ◌<◌, ℕ, [], ◌↔◌, IfSome, IfOk, length, None, pos};
+ghost use Rattle.std.specs.Prelude.{◌≡◌, ◌<◌, ◌≤◌, ℕ, [], ◌∷◌, ◌↔◌, IfSome, IfOk, length, None, Some, pos};
 ghost use Rattle.label_lattice.specs.Chains.{Chain};
 ghost use Rattle.label_lattice.specs.Lattice.{Flows};
 ghost use Rattle.label_lattice.specs.Order.{lattice_of};
-ghost use Rattle.mit_syntax.specs.Expression.{Number};
+ghost use Rattle.mit_syntax.specs.Declarations.{variables};
+ghost use Rattle.mit_syntax.specs.Expression.{Number, Variable};
+ghost use Rattle.mit_syntax.specs.Plan.{Plan, command_plan};
 ghost use Rattle.mit_syntax.specs.Program.{plan_of};
-ghost use Rattle.mit_syntax.specs.Todo.{Skip, Mitigate, Done};
+ghost use Rattle.mit_syntax.specs.Todo.{Skip, Assign, Mitigate, Done};
 
+use crate::complete::complete;
 use crate::form::fixed;
-use crate::infer::infer;
+use crate::infer::{infer, infer_counted};
 use crate::known::Known;
 use crate::needs::{Condition, list_needs};
+use crate::steps::Steps;
 use crate::waiting::value;
+use crate::worklist::Worklist;
 use indexmap::IndexMap;
 use label_lattice::label::Label;
 use label_lattice::lattice::Lattice;
 use label_lattice::name::Name;
 use mit_syntax::ast::{Command, Expr, Form};
+use mit_syntax::declarations::Decl;
 use mit_syntax::program::Program;
 use std::alloc::{AllocError, Global};
-use tim_base::pos::Pos;
+use std::marker::Brand;
+use std::sync::ledger::{Blank, Ledger};
+use tim_base::pos::{Memory, Pos};
+use timing_types::labelled::Labelled;
 
 const LOW: Label = Label { number: 0 };
 
@@ -30,24 +39,31 @@ const fn at(column: u32) -> Pos
     Pos { line: 1, column }
 }
 
-// The lattice of one label.
-fn one_label() -> Option<Lattice>
-    ensures { IfSome result (λ o. (o.size ≡ 1) × ((a b : ℕ) → a < 1 → b < 1 → Flows (lattice_of o) a b ↔ Chain [] a b)) }
+// The lattice of L below H.
+fn two_labels() -> Option<Lattice>
+    ensures size { IfSome result (λ o. o.size ≡ 2) }
+    ensures flows { IfSome result (λ o. (a b : ℕ) → a < 2 → b < 2 → Flows (lattice_of o) a b ↔ Chain ((record { number = 0 }, record { number = 1 }) ∷ []) a b) }
 {
-    let name = Name::read(b"L")?;
-    Lattice::build(&[name], &[]).ok()
+    let low = Name::read(b"L")?;
+    let high = Name::read(b"H")?;
+    if low.bytes() == high.bytes() {
+        return None;
+    }
+    Lattice::build(&[low, high], &[(LOW, HIGH)]).ok()
 }
 
-// The program `mitigate (1) { skip }`.
+// The program `mitigate (1) { skip @[H, H] }` with the labels L and H.
 fn mitigated(alloc: Global, lattice: Lattice) -> Result<Program, AllocError>
-    requires size { lattice.size ≡ 1 }
-    requires flows { (a b : ℕ) → a < 1 → b < 1 → Flows (lattice_of lattice) a b ↔ Chain [] a b }
-    ensures { IfOk result (λ p. plan_of p ≡ Mitigate (record { pos = record { line = 1; column = 1 }; labels = None }) 0 None (Number (pos 1)) (Skip (record { pos = record { line = 1; column = 16 }; labels = None }) Done) Done) }
+    requires size { lattice.size ≡ 2 }
+    requires flows { (a b : ℕ) → a < 2 → b < 2 → Flows (lattice_of lattice) a b ↔ Chain ((record { number = 0 }, record { number = 1 }) ∷ []) a b }
+    ensures order { IfOk result (λ p. p.order ≡ lattice) }
+    ensures declarations { IfOk result (λ p. p.declarations ≡ []) }
+    ensures plan { IfOk result (λ p. plan_of p ≡ Mitigate (record { pos = record { line = 1; column = 1 }; labels = None }) 0 None (Number (pos 1)) (Skip (record { pos = record { line = 1; column = 16 }; labels = Some (record { number = 1 }, record { number = 1 }) }) Done) Done) }
 {
     lattice.laws();
     let skip = Command {
         pos: at(16),
-        labels: None,
+        labels: Some((HIGH, HIGH)),
         form: Form::Skip,
     };
     let inner = vec![in alloc; skip]?;
@@ -62,34 +78,51 @@ fn mitigated(alloc: Global, lattice: Lattice) -> Result<Program, AllocError>
         },
     };
     let body = vec![in alloc; command]?;
-    Ok(Program::of(lattice, Vec::new(alloc), IndexMap::new(alloc), body))
+    let pairs = vec![in alloc; (LOW, HIGH)]?;
+    Ok(Program::of(lattice, pairs, IndexMap::new(alloc), body))
 }
+
+// The labels of its two commands, and its level.
+fn labels_of(p: &Labelled) -> ([(Label, Label); 2], Label)
+    requires { plan_of p.now.program ≡ Mitigate (record { pos = record { line = 1; column = 1 }; labels = None }) 0 None (Number (pos 1)) (Skip (record { pos = record { line = 1; column = 16 }; labels = Some (record { number = 1 }, record { number = 1 }) }) Done) Done }
+{
+    ([p.command_labels(0), p.command_labels(1)], p.level(0))
+}
+
+// What they are with the least level: the body of the mitigate ends at H.
+const EXPECTED: ([(Label, Label); 2], Label) = ([(LOW, LOW), (HIGH, HIGH)], HIGH);
 
 #[test]
 fn infers_a_level(rt: HostRuntime) -> Result<(), AllocError> {
-    let lattice = one_label().expect(&rt, "a lattice");
+    let lattice = two_labels().expect(&rt, "a lattice");
     let p = mitigated(rt.alloc(), lattice)?;
     match infer(rt.alloc(), p) {
         Ok(labelled) => {
             assert_eq!(rt; labelled.program().commands(), 2);
             assert_eq!(rt; labelled.program().mitigates(), 1);
+            assert_eq!(rt; labels_of(&labelled), EXPECTED);
         }
         Err(_) => panic!(rt; "memory"),
     }
     Ok(())
 }
 
-// The lattice of L below H.
-fn two_labels() -> Option<Lattice> {
-    let low = Name::read(b"L")?;
-    let high = Name::read(b"H")?;
-    if low.bytes() == high.bytes() {
-        return None;
+#[test]
+fn completes_a_level(rt: HostRuntime) -> Result<(), AllocError> {
+    let alloc = rt.alloc();
+    let lattice = two_labels().expect(&rt, "a lattice");
+    let p = mitigated(alloc, lattice)?;
+    match complete(alloc, p, Vec::new(alloc), vec![in alloc; HIGH]?) {
+        Ok(labelled) => assert_eq!(rt; labels_of(&labelled), EXPECTED),
+        Err(_) => panic!(rt; "memory"),
     }
-    Lattice::build(&[low, high], &[(LOW, HIGH)]).ok()
+    Ok(())
 }
 
-fn copy(variable: u32, from: u32, column: u32) -> Command {
+// `x := y`, for variables by their numbers.
+fn copy(variable: u32, from: u32, column: u32) -> Command
+    ensures { (rest : Plan) → command_plan result rest ≡ Assign (record { pos = record { line = 1; column = column }; labels = None }) variable (Variable from) rest }
+{
     Command {
         pos: at(column),
         labels: None,
@@ -133,4 +166,128 @@ fn conditions_have_one_three_and_three_variables(rt: HostRuntime) -> Result<(), 
         panic!(rt; "three conditions");
     }
     Ok(())
+}
+
+// The program `var a; var b; var c; var h : H; c := b; b := a; a := h` with the labels L and H.
+fn chained(
+    alloc: Global,
+    order: Lattice,
+    a: Name,
+    b: Name,
+    c: Name,
+    h: Name,
+) -> Result<Program, AllocError>
+    requires size { order.size ≡ 2 }
+    requires flows { (a b : ℕ) → a < 2 → b < 2 → Flows (lattice_of order) a b ↔ Chain ((record { number = 0 }, record { number = 1 }) ∷ []) a b }
+    requires a { a ≡ 97 ∷ [] }
+    requires b { b ≡ 98 ∷ [] }
+    requires c { c ≡ 99 ∷ [] }
+    requires h { h ≡ 104 ∷ [] }
+    ensures { IfOk result (λ p. variables p.declarations ≡ 4) }
+{
+    order.laws();
+    let _ = a.bytes();
+    let _ = b.bytes();
+    let _ = c.bytes();
+    let _ = h.bytes();
+    let free = Decl {
+        label: None,
+        length: None,
+    };
+    let high = Decl {
+        label: Some(HIGH),
+        length: None,
+    };
+    let mut table = IndexMap::new(alloc);
+    table.insert(a, free)?;
+    table.insert(b, free)?;
+    table.insert(c, free)?;
+    table.insert(h, high)?;
+    let body = vec![in alloc; copy(2, 1, 42), copy(1, 0, 50), copy(0, 3, 58)]?;
+    let pairs = vec![in alloc; (LOW, HIGH)]?;
+    Ok(Program::of(order, pairs, table, body))
+}
+
+// Its program, its three names and h being read.
+fn chained_program(alloc: Global, order: Lattice) -> Option<Program>
+    requires size { order.size ≡ 2 }
+    requires flows { (a b : ℕ) → a < 2 → b < 2 → Flows (lattice_of order) a b ↔ Chain ((record { number = 0 }, record { number = 1 }) ∷ []) a b }
+    ensures { IfSome result (λ p. variables p.declarations ≡ 4) }
+{
+    let a = Name::read(b"a")?;
+    let b = Name::read(b"b")?;
+    let c = Name::read(b"c")?;
+    let h = Name::read(b"h")?;
+    chained(alloc, order, a, b, c, h).ok()
+}
+
+fn counted<L: Ledger>(
+    alloc: Global,
+    p: Program,
+    blank: Blank,
+) -> Result<Labelled, (Program, Memory)>
+    requires name { blank.name ≡ L.name }
+    requires parts { blank.parts ≡ L.parts }
+    requires some { 0 < blank.parts }
+    ensures { IfOk result (λ q. q.program ≡ p) }
+{
+    let mut steps = Steps::<L>::new(blank);
+    infer_counted(alloc, p, &mut steps)
+}
+
+#[test]
+fn the_chain_is_high(rt: HostRuntime) {
+    let order = two_labels().expect(&rt, "a lattice");
+    let p = chained_program(rt.alloc(), order).expect(&rt, "a program");
+    match counted::<Brand>(rt.alloc(), p, Blank::new(1)) {
+        Ok(q) => {
+            assert_eq!(rt; q.variable_label(0), HIGH);
+            assert_eq!(rt; q.variable_label(1), HIGH);
+            assert_eq!(rt; q.variable_label(2), HIGH);
+            assert_eq!(rt; q.variable_label(3), HIGH);
+        }
+        Err(_) => panic!(rt; "memory"),
+    }
+}
+
+// The labels of a, b and c before and after all that is taken up, and whether ten times are enough.
+fn take_all<L: Ledger>(
+    alloc: Global,
+    p: &Program,
+    blank: Blank,
+) -> Result<([Label; 3], [Label; 3], bool), Memory>
+    requires name { blank.name ≡ L.name }
+    requires parts { blank.parts ≡ L.parts }
+    requires some { 0 < blank.parts }
+    requires variables { variables p.now.declarations ≡ 4 }
+{
+    let _ = p.body();
+    let mut steps = Steps::<L>::new(blank);
+    let mut work = Worklist::new(alloc, p)?;
+    let before = first_three(&work);
+    for _ in 0..10 {
+        let _ = work.take_up(&mut steps);
+    }
+    let more = work.take_up(&mut steps);
+    Ok((before, first_three(&work), more))
+}
+
+fn first_three(work: &Worklist) -> [Label; 3]
+    requires { 3 ≤ length work.now.variables }
+{
+    [
+        work.variable_label(0),
+        work.variable_label(1),
+        work.variable_label(2),
+    ]
+}
+
+#[test]
+fn ten_steps_raise_the_chain(rt: HostRuntime) {
+    let order = two_labels().expect(&rt, "a lattice");
+    let p = chained_program(rt.alloc(), order).expect(&rt, "a program");
+    match take_all::<Brand>(rt.alloc(), &p, Blank::new(1)) {
+        Ok(found) => assert_eq!(rt; found, ([LOW, LOW, LOW], [HIGH, HIGH, HIGH], false)),
+        Err(_) => panic!(rt; "memory"),
+    }
 }

@@ -66,6 +66,7 @@ module _ (o : Order) (ps : List (Label 脳 Label)) (h : IsOrder o) (f : (a b : 鈩
   built : IsBuilt o.names ps o
   built = record {
     sound = subst (位 n. IsSound n (Chain ps)) (sym h.named) sound;
+    order = h;
     size = sym h.named;
     named = refl;
     flows = 位 a b i j. f a b (subst (位 n. a < n) h.named i) (subst (位 n. b < n) h.named j);

@@ -1,4 +1,5 @@
-use Rattle.std.proofs.Common.{rules, ◌≡◌, ◌≤◌, refl, sym, ap, ◌∙◌, subst, List, [], ◌∷◌, None, pos, arith, Vec, Global}
+use Rattle.std.proofs.Common.{rules, ◌≡◌, ◌≤◌, refl, sym, ap, ◌∙◌, subst, List, [], ◌∷◌, Option, None, Some, pos, arith, Vec, Global}
+use Rattle.label_lattice.specs.declared.label.Label.{Label}
 use Rattle.tim_base.specs.declared.pos.Pos.{Pos}
 use Rattle.mit_syntax.specs.Expression.{Number}
 use Rattle.mit_syntax.specs.declared.ast.Expr.TheVariants.{Number as ENumber}
@@ -11,10 +12,13 @@ use Rattle.mit_syntax.specs.Valid.{AreSome, AreKnown, AreNumbered}
 use Rattle.mit_syntax.specs.Limits.{AreSmall}
 use Rattle.label_infer.proofs.tests.mitigated.Goals as goal
 
-abbrev sample : Pos → Pos → Plan
-sample p q = Mitigate (record { pos = p; labels = None }) 0 None (Number (pos 1)) (Skip (record { pos = q; labels = None }) Done) Done
+abbrev high : Option (Label × Label)
+high = Some (record { number = 1 }, record { number = 1 })
 
-sample_plan : (p q p' q' : Pos) (inner : Vec Command Global) (xs : List Command) → p ≡ p' → q ≡ q' → inner.items ≡ record { pos = q; labels = None; form = FSkip } ∷ [] →
+abbrev sample : Pos → Pos → Plan
+sample p q = Mitigate (record { pos = p; labels = None }) 0 None (Number (pos 1)) (Skip (record { pos = q; labels = high }) Done) Done
+
+sample_plan : (p q p' q' : Pos) (inner : Vec Command Global) (xs : List Command) → p ≡ p' → q ≡ q' → inner.items ≡ record { pos = q; labels = high; form = FSkip } ∷ [] →
     xs ≡ record { pos = p; labels = None; form = DMitigate 0 (ENumber (pos 1)) None inner } ∷ [] → list_plan xs ≡ sample p' q'
 sample_plan p q p' q' inner xs hp hq hi hx =
     ap list_plan hx ∙ plan-Mitigate 0 (ENumber (pos 1)) None inner (record { pos = p; labels = None }) Done
@@ -37,13 +41,13 @@ of-requires c =
       arrays = search rules;
       some = subst (λ z. AreSome z) (sym q) tt;
       count = subst (λ z. count z ≤ 2147483647) (sym q) (omega arith);
-      known = subst (λ z. AreKnown c.args.lattice.size c.new-2.result.entries z) (sym q) (tt, tt, omega arith, tt, (tt, tt), tt);
+      known = subst (λ z. AreKnown c.args.lattice.size c.new.result.entries z) (sym q) (tt, tt, omega arith, tt, ((omega (arith, c.requires.size), omega (arith, c.requires.size)), tt), tt);
       numbered = subst (λ z. AreNumbered 0 z) (sym q) (refl, tt, tt);
       small = subst (λ z. AreSmall 0 z) (sym q) (record { depth = omega arith; operators = omega arith }, tt, tt);
     }
 
-pub returns : goal.returns
-returns c =
+pub returns-clause-plan : goal.returns-clause-plan
+returns-clause-plan c =
     let q =
     sample_plan c.at-2.result c.at.result (record { line = 1; column = 1 }) (record { line = 1; column = 16 }) c.in_ok-inner.inner c.in_ok-body.body.items
     c.at-2.ensures c.at.ensures c.in_ok-inner.ensures.items c.in_ok-body.ensures.items in
