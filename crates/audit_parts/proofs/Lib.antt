@@ -5,5 +5,5 @@ pub mod Classing
 pub mod Split
 pub mod Agreeing
 pub mod Surveying
-pub mod Differing
 pub mod Once
+pub mod Differing

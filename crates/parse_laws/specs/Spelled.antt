@@ -1,7 +1,6 @@
 -- Words that spell a program.
 use Rattle.std.specs.Prelude.{◌≡◌, None, List, length}
 use Rattle.label_lattice.specs.Chains.{Chain, IsSound}
-use Rattle.mit_syntax.specs.Program.{Syntax, plan_of}
 use Rattle.mit_parser.specs.Words.{Told}
 use Rattle.mit_parser.specs.Tree.{ProgramTree}
 use Rattle.mit_parser.specs.Limits.{CommandsWithin}
@@ -16,10 +15,3 @@ pub record IsSpelled (words : List Told) : Type 0 where
   pub header : header_fault tree.header ≡ None
   pub sound : IsSound (length (header_labels tree.header).names) (Chain (header_pairs tree.header))
   pub body : body_fault tree ≡ None
-
--- the same labels and order, pairs, declarations and commands: one program, wherever its commands lie in memory
-pub record SameProgram (s u : Syntax) : Type 0 where
-  pub order : s.order ≡ u.order
-  pub pairs : s.pairs ≡ u.pairs
-  pub declarations : s.declarations ≡ u.declarations
-  pub plan : plan_of s ≡ plan_of u

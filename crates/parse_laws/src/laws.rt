@@ -13,7 +13,7 @@ ghost use Rattle.mit_syntax.specs.Cut.{AreTokens, IsFault};
 ghost use Rattle.mit_syntax.specs.Program.{Syntax};
 ghost use Rattle.mit_syntax.specs.Valid.{IsValid};
 ghost use Rattle.mit_syntax.specs.Layout.{canonical};
-ghost use Rattle.parse_laws.specs.Spelled.{IsSpelled, SameProgram};
+ghost use Rattle.parse_laws.specs.Spelled.{IsSpelled};
 ghost use Rattle.parse_laws.specs.ReadBack.{ReadsBack, Same};
 
 /// One tree at most spells the words.
@@ -47,7 +47,7 @@ pub fn one_refusal()
 
 /// Words are one program at most.
 pub fn one_program()
-    ensures { (words : List Told) (s u : Syntax) → IsProgram words s → IsProgram words u → SameProgram s u }
+    ensures { (words : List Told) (s u : Syntax) → IsProgram words s → IsProgram words u → s ≡ u }
 {}
 
 /// The canonical text of a program reads back as the program, but for the positions of its commands.
