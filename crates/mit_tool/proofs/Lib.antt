@@ -18,8 +18,6 @@ pub mod GoesLemmas
 pub mod MadeLemmas
 pub mod OneLemmas
 pub mod OneRun
-pub mod OtherBody
-pub mod OtherAudit
 pub mod OneReport
 pub mod OneAnswer
 pub mod AgreeLemmas

@@ -2,17 +2,9 @@
 use Rattle.std.proofs.Common.{◌≡◌, ◌≢◌, ◌^◌, ℕ, List, [], ◌∷◌, ◌++◌, All, length, Option, Some, None, inl, inr, refl, sym, ap, subst, ◌∙◌, codes}
 use Rattle.label_lattice.specs.declared.label.Label.{Label}
 use Rattle.label_lattice.specs.Order.{IsOrder}
-use Rattle.mit_syntax.specs.declared.ast.Command.{Command}
-use Rattle.mit_syntax.specs.Chunks.{text as chunk_text}
-use Rattle.mit_syntax.specs.Layout.{chunks_of}
-use Rattle.mit_syntax.specs.Plan.{Plan, list_plan, count, mitigates}
-use Rattle.mit_syntax.specs.Program.{Syntax, syntax, plan_of}
-use Rattle.parse_laws.specs.Spelled.{SameProgram}
-use Rattle.parse_laws.proofs.Meant.{program_order, other_body}
-use Rattle.source_meaning.specs.Source.{trace_of}
-use Rattle.timing_types.specs.Labelling.{Labelling}
-use Rattle.label_write.specs.Written.{written_declarations, written_plan}
-use Rattle.event_print.specs.Text.{Told, text_of}
+use Rattle.mit_syntax.specs.Plan.{count}
+use Rattle.mit_syntax.specs.Program.{Syntax, plan_of}
+use Rattle.parse_laws.proofs.Meant.{program_order}
 use Rattle.timing_types.specs.Labelled.{LabelledProgram}
 use Rattle.label_code.specs.Shaped.{Code}
 use Rattle.start_file.specs.Starts.{StartValue}
@@ -27,60 +19,22 @@ use Rattle.mit_tool.specs.WordsAsked.{Asked, check, infer, compile, run, meaning
 use Rattle.mit_tool.specs.Reports.{made_lines}
 use Rattle.mit_tool.specs.Stages.{Then, ProgramStops, Reads, ObserverStops, Observes, TypeStops, Types, ImageStops, HasImage, StartStops, StartsAre, FirstStops, FirstStart}
 use Rattle.mit_tool.specs.Audited.{HasAudited, HasCut, HoldsRuns, ReadyStops, HasReleased}
-use Rattle.mit_tool.specs.Texts.{accepted_line}
-use Rattle.mit_tool.specs.Envs.{told_in}
-use Rattle.mit_tool.specs.Means.{value_lines, IsLastLine, HasMeant}
+use Rattle.mit_tool.specs.Means.{HasMeant}
 use Rattle.mit_tool.specs.Answers.{Content, Compiles, Prepares, HasChecked, HasInferred, HasListed, HasRun, made_content, IsAnswer}
 use Rattle.mit_tool.specs.Complete.{files_of, IsKnown, AreKnown, NoneRises}
 use Rattle.mit_tool.proofs.GoesLemmas.{one_told, program_goes, observer_goes, starts_go}
 use Rattle.mit_tool.proofs.CompleteLemmas.{first_file, second_file, no_other, one_other}
 use Rattle.mit_tool.proofs.OneLemmas.{Same, then_one, one_program, one_program_stop, one_observer_stop, one_typed, typed_or_not, one_type_stop, one_image_stop, image_or_not, one_list_of_starts, one_start_stop, one_ready_stop, runs_or_not}
 use Rattle.mit_tool.proofs.OneRun.{one_observer, one_first, first_or_not, one_first_stop, one_meaning}
-use Rattle.mit_tool.proofs.OtherBody.{typed_then_move, lower_then_move, starts_then_move, first_then_move}
-use Rattle.mit_tool.proofs.OtherAudit.{audited_move, cut_move}
 use Rattle.mit_tool.proofs.OneReport.{one_audit, one_cut, OneOutcomes, one_release}
 
--- ---- commands elsewhere in memory
-
-then_map : {A : Type 0} (Stops : Status → List ℕ → Type 0) (Gives : A → Type 0) (Next Next' : A → Status → List ℕ → Type 0) (s : Status) (t : List ℕ) → ((a : A) → Next a s t → Next' a s t) → Then Stops Gives Next s t → Then Stops Gives Next' s t
-then_map Stops Gives Next Next' s t f (inl h) = inl h
-then_map Stops Gives Next Next' s t f (inr (a, g, h)) = inr (a, g, f a h)
-
--- what is said of a program with its commands elsewhere is said of it
-abbrev Moves : (Syntax → Type 0) → Type 0
-Moves Said = (p : Syntax) (b : List Command) → list_plan b ≡ plan_of p → Said (syntax p.order p.pairs p.declarations b) → Said p
-
-checked_move : (s : Status) (t : List ℕ) → Moves (λ p. HasChecked p s t)
-checked_move s t p b e h = (h.0, h.1 ∙ ap (λ (z : Plan). accepted_line (count z) (mitigates z)) e)
-
-inferred_move : (s : Status) (t : List ℕ) (l : Labelling) → Moves (λ p. HasInferred (record { program = p; labels = l }) s t)
-inferred_move s t l p b e h = (h.0, h.1 ∙ ap (λ (z : Plan). chunk_text (chunks_of p.order p.pairs (written_declarations p.order l p.declarations 0) (written_plan p.order l z 0))) e)
-
-same_text : (p : Syntax) (b : List Command) (l : Labelling) (o : Option Label) (told : Told)
-    → text_of (record { program = syntax p.order p.pairs p.declarations b; labels = l }) o told ≡ text_of (record { program = p; labels = l }) o told
-same_text p b l None told = refl
-same_text p b l (Some k) told = refl
-
-run_move : (n : EnvName) (budget : ℕ) (o : Option Label) (code : Code) (start : StartValue) (s : Status) (t : List ℕ) (l : Labelling) → Moves (λ p. HasRun n budget (record { program = p; labels = l }) o code start s t)
-run_move n budget o code start s t l p b e h = (h.0, h.1 ∙ same_text p b l o (told_in n p.order code start budget))
-
-meant_move : (start : StartValue) (n : ℕ) (s : Status) (t : List ℕ) → Moves (λ p. HasMeant p start n s t)
-meant_move start n s t p b e h =
-    (h.0, h.1, subst (λ (z : Plan). IsLastLine z start.memory n h.1) e h.2, h.3 ∙ ap (λ (z : Plan). value_lines p.declarations (trace_of z start.memory n) ++ h.1) e)
-
 module _ (s u : Status) (t x : List ℕ) where
-  reads_one : (R : Type 0) (c : Option (Option (List ℕ))) (Next : Syntax → Status → List ℕ → Type 0) → (R → ⊥) → IsKnown c → Moves (λ p. Next p u x)
+  reads_one : (R : Type 0) (c : Option (Option (List ℕ))) (Next : Syntax → Status → List ℕ → Type 0) → (R → ⊥) → IsKnown c
       → ((p : Syntax) → IsOrder p.order → Next p s t → Next p u x → Same s u t x)
       → Then (ProgramStops R c) (Reads c) (λ p. Next p) s t → Then (ProgramStops R c) (Reads c) (λ p. Next p) u x → Same s u t x
-  reads_one R c Next n known move next (inl h) (inl k) = one_program_stop c known R s u t x n h k
-  reads_one R c Next n known move next (inl h) (inr k) = absurd (program_goes R c k.0 s t n known k.1 h)
-  reads_one R c Next n known move next (inr h) (inl k) = absurd (program_goes R c h.0 u x n known h.1 k)
-  reads_one R c Next n known move next (inr h) (inr k) =
-      let p : Syntax = h.0 in
-      let r : Syntax = k.0 in
-      let same : SameProgram p r = one_program c known p r h.1 k.1 in
-      let is : r ≡ syntax p.order p.pairs p.declarations r.body = other_body p r same in
-      next p (program_order _ p h.1.spelled) h.2 (move p r.body (sym same.plan) (subst (λ (z : Syntax). Next z u x) is k.2))
+  reads_one R c Next n known next =
+      then_one (ProgramStops R c) (Reads c) (λ p. Next p) s u t x (one_program_stop c known R s u t x n) (λ p v y r. program_goes R c p v y n known r) (one_program c known)
+      (λ p r. next p (program_order _ p r.spelled))
 
   types_one : (p : Syntax) (Next : LabelledProgram → Status → List ℕ → Type 0) → IsOrder p.order → ((q : LabelledProgram) → Next q s t → Next q u x → Same s u t x)
       → Then (TypeStops p) (Types p) (λ q. Next q) s t → Then (TypeStops p) (Types p) (λ q. Next q) u x → Same s u t x
@@ -93,40 +47,22 @@ module _ (s u : Status) (t x : List ℕ) where
       types_one p (λ q. Then (ImageStops q) (HasImage q) (λ code. Next q code)) o (λ q.
       then_one (ImageStops q) (HasImage q) (λ code. Next q code) s u t x (one_image_stop q s u t x) (λ code v y. image_or_not q code v y) (λ a b h k. h.0 ∙ sym k.0) (λ code image. next q code))
 
-  abbrev observed : Option (List ℕ) → (Syntax → LabelledProgram → Option Label → Code → Status → List ℕ → Type 0) → Syntax → Status → List ℕ → Type 0
-  observed observer Next p = Then (ObserverStops p.order observer) (Observes p.order observer) (λ o. Then (TypeStops p) (Types p) (λ q. Then (ImageStops q) (HasImage q) (λ code. Next p q o code)))
-
-  -- what follows an image is said of a program with its commands elsewhere
-  abbrev ImageMoves : (Syntax → LabelledProgram → Option Label → Code → Status → List ℕ → Type 0) → Type 0
-  ImageMoves Next = (l : Labelling) (o : Option Label) (code : Code) → Moves (λ p. Next p (record { program = p; labels = l }) o code u x)
-
-  observed_move : (observer : Option (List ℕ)) (Next : Syntax → LabelledProgram → Option Label → Code → Status → List ℕ → Type 0) → ImageMoves Next → Moves (λ p. observed observer Next p u x)
-  observed_move observer Next move p b e =
-      then_map (ObserverStops p.order observer) (Observes p.order observer)
-      (λ o. Then (TypeStops (syntax p.order p.pairs p.declarations b)) (Types (syntax p.order p.pairs p.declarations b)) (λ q. Then (ImageStops q) (HasImage q) (λ code. Next (syntax p.order p.pairs p.declarations b) q o code)))
-      (λ o. Then (TypeStops p) (Types p) (λ q. Then (ImageStops q) (HasImage q) (λ code. Next p q o code))) u x (λ o.
-      lower_then_move p.order p.pairs p.declarations b p.body e (λ q code. Next (syntax p.order p.pairs p.declarations b) q o code) (λ q code. Next p q o code) u x (λ l code. move l o code p b e))
-
   compiles_one : (Rises : List ℕ → Type 0) (content : Content) (file : List ℕ) (observer : Option (List ℕ)) (Next : Syntax → LabelledProgram → Option Label → Code → Status → List ℕ → Type 0)
-      → (Rises file → ⊥) → IsKnown (content file) → ImageMoves Next → ((p : Syntax) (q : LabelledProgram) (o : Option Label) (code : Code) → Next p q o code s t → Next p q o code u x → Same s u t x)
+      → (Rises file → ⊥) → IsKnown (content file) → ((p : Syntax) (q : LabelledProgram) (o : Option Label) (code : Code) → Next p q o code s t → Next p q o code u x → Same s u t x)
       → Compiles Rises content file observer Next s t → Compiles Rises content file observer Next u x → Same s u t x
-  compiles_one Rises content file observer Next n known move next =
-      reads_one (Rises file) (content file) (observed observer Next) n known (observed_move observer Next move) (λ p order.
+  compiles_one Rises content file observer Next n known next =
+      reads_one (Rises file) (content file)
+      (λ p. Then (ObserverStops p.order observer) (Observes p.order observer) (λ o. Then (TypeStops p) (Types p) (λ q. Then (ImageStops q) (HasImage q) (λ code. Next p q o code)))) n known (λ p order.
       then_one (ObserverStops p.order observer) (Observes p.order observer) (λ o. Then (TypeStops p) (Types p) (λ q. Then (ImageStops q) (HasImage q) (λ code. Next p q o code))) s u t x
       (one_observer_stop p.order observer s u t x) (λ o v y. observer_goes p.order observer o v y) (λ a b. one_observer p.order observer a b order) (λ o sees.
       lower_one p (λ q code. Next p q o code) order (λ q code. next p q o code)))
 
   prepares_one : (Rises : List ℕ → Type 0) (content : Content) (file observer : List ℕ) (Rose : Type 0) (c : Option (Option (List ℕ))) (Next : Syntax → LabelledProgram → Option Label → Code → List StartValue → Status → List ℕ → Type 0)
       → (Rises file → ⊥) → IsKnown (content file) → (Rose → ⊥) → IsKnown c
-      → ((l : Labelling) (o : Option Label) (code : Code) (ss : List StartValue) → Moves (λ p. Next p (record { program = p; labels = l }) o code ss u x))
       → ((p : Syntax) (q : LabelledProgram) (o : Option Label) (code : Code) (ss : List StartValue) → Next p q o code ss s t → Next p q o code ss u x → Same s u t x)
       → Prepares Rises content file observer Rose c Next s t → Prepares Rises content file observer Rose c Next u x → Same s u t x
-  prepares_one Rises content file observer Rose c Next n known m kept move next =
-      compiles_one Rises content file (Some observer) (λ p q o code. Then (StartStops Rose c p) (StartsAre c p) (λ ss. Next p q o code ss)) n known
-      (λ l o code p b e.
-      starts_then_move p.order p.pairs p.declarations b p.body c Rose (λ ss. Next (syntax p.order p.pairs p.declarations b) (record { program = syntax p.order p.pairs p.declarations b; labels = l }) o code ss)
-      (λ ss. Next p (record { program = p; labels = l }) o code ss) u x (λ ss. move l o code ss p b e))
-      (λ p q o code.
+  prepares_one Rises content file observer Rose c Next n known m kept next =
+      compiles_one Rises content file (Some observer) (λ p q o code. Then (StartStops Rose c p) (StartsAre c p) (λ ss. Next p q o code ss)) n known (λ p q o code.
       then_one (StartStops Rose c p) (StartsAre c p) (λ ss. Next p q o code ss) s u t x (one_start_stop c kept p Rose s u t x m) (λ ss v y are. starts_go Rose c p ss v y m kept are)
       (one_list_of_starts c kept p) (λ ss are. next p q o code ss))
 
@@ -150,11 +86,7 @@ module _ (s u : Status) (t x : List ℕ) where
         → ((name : List ℕ) → starts ≡ Some name → (Rises name → ⊥) × IsKnown (content name))
         → IsAnswer Rises content (run file starts e budget observer) s t → IsAnswer Rises content (run file starts e budget observer) u x → Same s u t x
     run_one file starts e budget observer n known others =
-        compiles_one Rises content file observer (λ p q o code. Then (FirstStops Rises content starts p) (FirstStart content starts p) (λ start. HasRun e budget q o code start)) n known
-        (λ l o code p b k.
-        first_then_move p.order p.pairs p.declarations b p.body Rises content starts (λ start. HasRun e budget (record { program = syntax p.order p.pairs p.declarations b; labels = l }) o code start)
-        (λ start. HasRun e budget (record { program = p; labels = l }) o code start) u x (λ start. run_move e budget o code start u x l p b k))
-        (λ p q o code.
+        compiles_one Rises content file observer (λ p q o code. Then (FirstStops Rises content starts p) (FirstStart content starts p) (λ start. HasRun e budget q o code start)) n known (λ p q o code.
         then_one (FirstStops Rises content starts p) (FirstStart content starts p) (λ start. HasRun e budget q o code start) s u t x
         (one_first_stop content p Rises starts s u t x (others_fall starts others) (others_known starts others))
         (λ start v y. first_or_not content p Rises starts start v y (others_fall starts others) (others_known starts others))
@@ -164,11 +96,7 @@ module _ (s u : Status) (t x : List ℕ) where
         → ((name : List ℕ) → starts ≡ Some name → (Rises name → ⊥) × IsKnown (content name))
         → IsAnswer Rises content (meaning file starts steps) s t → IsAnswer Rises content (meaning file starts steps) u x → Same s u t x
     meaning_one file starts steps n known others =
-        reads_one (Rises file) (content file) (λ p. Then (FirstStops Rises content starts p) (FirstStart content starts p) (λ start. HasMeant p start steps)) n known
-        (λ p b k.
-        first_then_move p.order p.pairs p.declarations b p.body Rises content starts (λ start. HasMeant (syntax p.order p.pairs p.declarations b) start steps) (λ start. HasMeant p start steps) u x
-        (λ start. meant_move start steps u x p b k))
-        (λ p order.
+        reads_one (Rises file) (content file) (λ p. Then (FirstStops Rises content starts p) (FirstStart content starts p) (λ start. HasMeant p start steps)) n known (λ p order.
         then_one (FirstStops Rises content starts p) (FirstStart content starts p) (λ start. HasMeant p start steps) s u t x
         (one_first_stop content p Rises starts s u t x (others_fall starts others) (others_known starts others))
         (λ start v y. first_or_not content p Rises starts start v y (others_fall starts others) (others_known starts others))
@@ -177,15 +105,13 @@ module _ (s u : Status) (t x : List ℕ) where
     pub answers_one : (a : Asked) → NoneRises Rises a → AreKnown content a → IsAnswer Rises content a s t → IsAnswer Rises content a u x → Same s u t x
     answers_one (check file) n known =
         let k = first_file Rises content file [] n known in
-        reads_one (Rises file) (content file) (λ p. Then (TypeStops p) (Types p) (λ q. HasChecked p)) k.0 k.1
-        (λ p b e. typed_then_move p.order p.pairs p.declarations b p.body e (λ q. HasChecked (syntax p.order p.pairs p.declarations b)) (λ q. HasChecked p) u x (λ l. checked_move u x p b e)) (λ p order. types_one p (λ q. HasChecked p) order (λ q. usage_one))
+        reads_one (Rises file) (content file) (λ p. Then (TypeStops p) (Types p) (λ q. HasChecked p)) k.0 k.1 (λ p order. types_one p (λ q. HasChecked p) order (λ q. usage_one))
     answers_one (infer file) n known =
         let k = first_file Rises content file [] n known in
-        reads_one (Rises file) (content file) (λ p. Then (TypeStops p) (Types p) (λ q. HasInferred q)) k.0 k.1
-        (λ p b e. typed_then_move p.order p.pairs p.declarations b p.body e (λ q. HasInferred q) (λ q. HasInferred q) u x (λ l. inferred_move u x l p b e)) (λ p order. types_one p (λ q. HasInferred q) order (λ q. usage_one))
+        reads_one (Rises file) (content file) (λ p. Then (TypeStops p) (Types p) (λ q. HasInferred q)) k.0 k.1 (λ p order. types_one p (λ q. HasInferred q) order (λ q. usage_one))
     answers_one (compile file) n known =
         let k = first_file Rises content file [] n known in
-        compiles_one Rises content file None (λ p q o code. HasListed q code) k.0 k.1 (λ l o code p b e h. h) (λ p q o code. usage_one)
+        compiles_one Rises content file None (λ p q o code. HasListed q code) k.0 k.1 (λ p q o code. usage_one)
     answers_one (run file None e budget observer) n known =
         let k = first_file Rises content file [] n known in
         run_one file None e budget observer k.0 k.1 (no_other Rises content)
@@ -201,19 +127,15 @@ module _ (s u : Status) (t x : List ℕ) where
     answers_one (audit file starts observer e budget) n known =
         let k = first_file Rises content file (starts ∷ []) n known in
         let m = second_file Rises content file starts [] n known in
-        prepares_one Rises content file observer (Rises starts) (content starts) (λ p q o code ss. HasAudited e budget q o ss []) k.0 k.1 m.0 m.1
-        (λ l o code ss p b k. audited_move p.order p.pairs p.declarations l b p.body k e budget o ss [] u x) (λ p q o code ss. one_audit e budget q o ss [] s u t x)
+        prepares_one Rises content file observer (Rises starts) (content starts) (λ p q o code ss. HasAudited e budget q o ss []) k.0 k.1 m.0 m.1 (λ p q o code ss. one_audit e budget q o ss [] s u t x)
     answers_one (gen size number) n known =
         prepares_one (λ name. ⊥) (made_content size number) [] (codes "L") ⊥ (Some (Some starts_text))
         (λ p q o code ss. HasAudited Part (2 ^ 40) q o ss (made_lines size number (count (plan_of p)) (length code.instrs))) (λ h. h) tt (λ h. h) tt
-        (λ l o code ss p b k h. subst (λ (z : ℕ). HasAudited Part (2 ^ 40) (record { program = p; labels = l }) o ss (made_lines size number z (length code.instrs)) u x) (ap count k)
-        (audited_move p.order p.pairs p.declarations l b p.body k Part (2 ^ 40) o ss (made_lines size number (count (list_plan b)) (length code.instrs)) u x h))
         (λ p q o code ss. one_audit Part (2 ^ 40) q o ss (made_lines size number (count (plan_of p)) (length code.instrs)) s u t x)
     answers_one (cut file starts observer e budget) n known =
         let k = first_file Rises content file (starts ∷ []) n known in
         let m = second_file Rises content file starts [] n known in
-        prepares_one Rises content file observer (Rises starts) (content starts) (λ p q o code ss. HasCut e budget q o ss) k.0 k.1 m.0 m.1
-        (λ l o code ss p b k. cut_move p.order p.pairs p.declarations l b p.body k e budget o ss u x) (λ p q o code ss. one_cut e budget q o ss s u t x)
+        prepares_one Rises content file observer (Rises starts) (content starts) (λ p q o code ss. HasCut e budget q o ss) k.0 k.1 m.0 m.1 (λ p q o code ss. one_cut e budget q o ss s u t x)
     answers_one (blackbox file first budget) n known =
         let k = first_file Rises content file [] n known in
         then_one (ReadyStops (Rises file) (content file)) (HoldsRuns (content file)) (λ runs. HasReleased first budget runs) s u t x

@@ -15,7 +15,6 @@ use Rattle.mit_parser.specs.declared.fault.ParseFault.{ParseFault}
 use Rattle.mit_parser.specs.declared.fault.ParseFault.TheVariants as parse_fault
 use Rattle.mit_parser.specs.Words.{Told, told}
 use Rattle.mit_parser.specs.Spells.{IsProgram, Refuses}
-use Rattle.parse_laws.specs.Spelled.{SameProgram}
 use Rattle.parse_laws.proofs.Meant.{one_meaning}
 use Rattle.parse_laws.proofs.OneRefusal.{one_refusal}
 use Rattle.start_file.specs.declared.fault.StartFault.{StartFault}
@@ -118,7 +117,7 @@ module _ (c : Option (Option (List ℕ))) (known : IsKnown c) where
       ∙ ap (λ (z : ParseFault). parse_fault_line (header_name g.bytes g.tokens) z) fault in
       f.line ∙ line ∙ sym g.line
 
-  pub one_program : (p q : Syntax) → Reads c p → Reads c q → SameProgram p q
+  pub one_program : (p q : Syntax) → Reads c p → Reads c q → p ≡ q
   one_program p q r r' =
       let same = same_words r.bytes r'.bytes r.tokens r'.tokens r.are r'.are r.cut r'.cut in
       one_meaning (told r'.bytes r'.tokens) p q (subst (λ (w : List Told). IsProgram w p) same.2 r.spelled) r'.spelled
