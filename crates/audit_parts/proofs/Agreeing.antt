@@ -1,5 +1,5 @@
 -- Starts that agree with a first one, one after the other.
-use Rattle.std.proofs.Common.{◌≡◌, ◌<◌, ◌≤◌, ℕ, suc, ◌+◌, List, [], ◌∷◌, length, map, drop, get_or, inl, inr, refl, sym, ap, ◌∙◌, subst, arith, add-one}
+use Rattle.std.proofs.Common.{◌≡◌, ◌<◌, ◌≤◌, ℕ, suc, ◌+◌, List, [], ◌∷◌, ◌++◌, length, map, drop, get_or, refl, sym, ap, ◌∙◌, subst, arith, add-one, append-nil, append_assoc, length-append}
 use Rattle.std.specs.Prelude.{All}
 use Rattle.std.proofs.lemmas.List.{drop-map, drop_all, length-map, get_or-map}
 use Rattle.std.proofs.Math.Seq.{drop-cons}
@@ -13,7 +13,8 @@ use Rattle.start_file.specs.Starts.{StartValue, seen}
 use Rattle.leak_bound.specs.Records.{Each, Pairwise}
 use Rattle.leak_bound.proofs.Headline.{Each-map}
 use Rattle.audit_parts.specs.declared.what.What.{What}
-use Rattle.audit_parts.specs.Agreement.{start_of, starts_of, AgreeFor, IsFirstDifference, FirstApart, Disagrees}
+use Rattle.audit_parts.specs.Agreement.{start_of, starts_of, AgreeFor, IsFirstDifference, IsFirstApart, Disagrees}
+use Rattle.audit_parts.proofs.Split.{Each-more}
 
 module _ {E : Type 0} (made : Order → List Touch → E) (order : Order) where
   drop-starts : (xs : List Stored) (n : ℕ) → drop n (starts_of made order (map seen xs)) ≡ map (start_of made order) (map seen (drop n xs))
@@ -42,20 +43,28 @@ module _ {E : Type 0} (v : Env E) (serves : Order → E → Type 0) (p : Labelle
 
   -- the starts before a place agree with the first one
   pub record AgreeTo (one : Start E) (ss rest : List (Start E)) (n : ℕ) : Type 0 where
-    pub agree : Each (Agrees one) rest → Each (Agrees one) ss
-    pub apart : (run : ℕ) (w : What) → FirstApart v serves p o one n rest run w → FirstApart v serves p o one 1 ss run w
+    pub before : List (Start E)
+    pub are : ss ≡ before ++ rest
+    pub agree : Each (Agrees one) before
+    pub number : n ≡ length before + 1
 
   pub agree_first : (one : Start E) (ss : List (Start E)) (n : ℕ) → n ≡ 1 → AgreeTo one ss ss n
-  agree_first one ss n e = record { agree = λ h. h; apart = λ run w h. subst (λ z. FirstApart v serves p o one z ss run w) e h }
+  agree_first one ss n e = record { before = []; are = refl; agree = tt; number = e }
 
   pub agree_more : (one s : Start E) (ss rest more : List (Start E)) (n m : ℕ) → m ≡ n + 1 → rest ≡ s ∷ more → AgreeTo one ss rest n → Agrees one s → AgreeTo one ss more m
   agree_more one s ss rest more n m e is h a = record {
-    agree = λ k. h.agree (subst (Each (Agrees one)) (sym is) (a, k));
-    apart = λ run w k. h.apart run w (subst (λ z. FirstApart v serves p o one n z run w) (sym is) (inr (a, subst (λ z. FirstApart v serves p o one z more run w) e k)));
+    before = h.before ++ s ∷ [];
+    are = h.are ∙ (ap (λ z. h.before ++ z) is ∙ sym (append_assoc h.before (s ∷ []) more));
+    agree = Each-more (Agrees one) h.before s h.agree a;
+    number = omega (arith, e, h.number, length-append h.before (s ∷ []));
   }
 
-  pub apart_here : (one s : Start E) (ss rest more : List (Start E)) (n : ℕ) (w : What) → rest ≡ s ∷ more → AgreeTo one ss rest n → IsFirstDifference v p o one s w → FirstApart v serves p o one 1 ss n w
-  apart_here one s ss rest more n w is h d = h.apart n w (subst (λ z. FirstApart v serves p o one n z n w) (sym is) (inl (refl, d)))
+  pub apart_here : (one s : Start E) (ss rest more : List (Start E)) (n : ℕ) (w : What) → rest ≡ s ∷ more → AgreeTo one ss rest n → IsFirstDifference v p o one s w → IsFirstApart v serves p o one ss n w
+  apart_here one s ss rest more n w is h d =
+      record { before = h.before; apart = s; after = more; are = h.are ∙ ap (λ z. h.before ++ z) is; agree = h.agree; number = h.number; differs = d }
+
+  pub agree_end : (one : Start E) (ss rest : List (Start E)) (n : ℕ) → rest ≡ [] → AgreeTo one ss rest n → Each (Agrees one) ss
+  agree_end one ss rest n none h = subst (Each (Agrees one)) (sym (h.are ∙ (ap (λ z. h.before ++ z) none ∙ append-nil h.before))) h.agree
 
   -- starts that agree with one agree with each other
   pub all_pairwise : (one : Start E) (ss : List (Start E)) → Each (Agrees one) ss → Pairwise Agrees ss
@@ -70,5 +79,5 @@ module _ {E : Type 0} (v : Env E) (serves : Order → E → Type 0) (p : Labelle
         parts = λ q l f. sym (a.parts q l f) ∙ b.parts q l f;
       }
 
-  pub disagrees : (one : Start E) (ss rest : List (Start E)) (run : ℕ) (w : What) → ss ≡ one ∷ rest → FirstApart v serves p o one 1 ss run w → Disagrees v serves p o ss run w
-  disagrees one ss rest run w e h = subst (λ z. Disagrees v serves p o z run w) (sym e) (subst (λ z. FirstApart v serves p o one 1 z run w) e h)
+  pub disagrees : (one : Start E) (ss rest : List (Start E)) (run : ℕ) (w : What) → ss ≡ one ∷ rest → IsFirstApart v serves p o one ss run w → Disagrees v serves p o ss run w
+  disagrees one ss rest run w e h = subst (λ z. Disagrees v serves p o z run w) (sym e) (subst (λ z. IsFirstApart v serves p o one z run w) e h)

@@ -2,5 +2,8 @@ pub mod Tallying
 pub mod Running
 pub mod Marking
 pub mod Classing
+pub mod Split
 pub mod Agreeing
 pub mod Surveying
+pub mod Once
+pub mod Differing

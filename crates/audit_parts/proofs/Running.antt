@@ -12,8 +12,8 @@ use Rattle.label_code.specs.Machine.{start, run_to}
 use Rattle.label_code.specs.Run.{Start, run_from}
 use Rattle.cycle_machine.specs.Seen.{seen}
 use Rattle.code_lower.specs.Lowered.{lowered}
-use Rattle.event_print.specs.Rest.{told_by, rest_of, rest_from, end_of_turn}
-use Rattle.event_print.proofs.Goes.{events_of, after_events, Next, Last}
+use Rattle.event_print.specs.Rest.{told_by, rest_of, rest_from, end_of_turn, events_of}
+use Rattle.event_print.proofs.Goes.{after_events, Next, Last}
 use Rattle.audit_parts.specs.declared.observe.Tally.{Tally}
 use Rattle.audit_parts.specs.Observed.{event_of, Tallies, CountsUp, IsObserved}
 use Rattle.audit_parts.proofs.Tallying.{same_more}

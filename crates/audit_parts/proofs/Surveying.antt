@@ -1,5 +1,5 @@
 -- What is known of some runs of a list, one after the other.
-use Rattle.std.proofs.Common.{◌≡◌, ◌<◌, ◌≤◌, ℕ, ◌+◌, ◌-◌, List, [], ◌∷◌, ◌++◌, map, max, Bool, true, false, cond, inl, inr, refl, sym, ap, ◌∙◌, subst, arith, append-nil, append_assoc, Some, None}
+use Rattle.std.proofs.Common.{◌≡◌, ◌<◌, ◌≤◌, ℕ, ◌+◌, ◌-◌, List, [], ◌∷◌, ◌++◌, length, map, max, Bool, true, false, cond, inl, inr, refl, sym, ap, ◌∙◌, subst, arith, append-nil, append_assoc, length-append, Some, None}
 use Rattle.std.specs.Prelude.{◌⊎◌}
 use Rattle.std.proofs.lemmas.Bool.{cases_lt}
 use Rattle.std.proofs.lemmas.Bool.Decides.{nat_tests}
@@ -10,16 +10,17 @@ use Rattle.label_code.specs.Run.{Start}
 use Rattle.code_lower.specs.Lowered.{lowered}
 use Rattle.event_print.specs.declared.end.RunEnd.{RunEnd}
 use Rattle.event_print.specs.declared.end.RunEnd.TheVariants.{Halted, Limit}
-use Rattle.leak_bound.specs.Relevant.{relevances, ended_count}
+use Rattle.leak_bound.specs.Relevant.{relevances, begun_count, ended_count}
 use Rattle.leak_bound.specs.Records.{Each, views}
 use Rattle.leak_bound.specs.Sound.{Halts, most_ended}
-use Rattle.leak_bound.proofs.Tells.{begun_count}
 use Rattle.audit_parts.specs.declared.observe.Observed.{Observed}
 use Rattle.audit_parts.specs.declared.survey.Survey.{Survey}
 use Rattle.audit_parts.specs.declared.survey.SurveyFault.{SurveyFault}
 use Rattle.audit_parts.specs.declared.survey.SurveyFault.TheVariants.{Unfinished, TooMuch, Memory}
+use Rattle.audit_parts.specs.declared.survey.TheConstants.{MAX_SHOWN}
 use Rattle.audit_parts.specs.Observed.{sequence_of, is_marked, ObservesRun}
-use Rattle.audit_parts.specs.Surveyed.{relevant_for, run_of, sequence_from, shown_by, shown_by_all, halted_count, begun_first, FirstRefused, IsSurveyFault, IsSurvey, unfinished, halts, of_first, Takes, Refuses}
+use Rattle.audit_parts.proofs.Split.{Each-more}
+use Rattle.audit_parts.specs.Surveyed.{relevant_for, run_of, sequence_from, shown_by, shown_by_all, halted_count, begun_first, IsRefused, IsFirstRefused, IsSurveyFault, IsSurvey, unfinished, halts, of_first, Takes, Refuses}
 
 -- how a run ended
 abbrev end_of : Bool → ℕ → RunEnd
@@ -49,12 +50,19 @@ cases_le : (n m : ℕ) → (n ≤ m) ⊎ (m < n)
 cases_le n m = elim (cases_lt m n) [ inl lt ↦ inr lt | inr le ↦ inl le ]
 
 module _ {E : Type 0} (v : Env E) (p : LabelledProgram) (o t : ℕ) (must : Bool) (ss : List (Start E)) where
+  shown_more : (xs : List (Start E)) (x : Start E) → shown_by_all v p o t (xs ++ x ∷ []) ≡ shown_by_all v p o t xs + shown_by v p o t x
+  shown_more [] x = omega arith
+  shown_more (y ∷ xs) x = omega (arith, shown_more xs x)
+
   -- the runs from n on are left
   pub record Surveying (rest : List (Start E)) (n : ℕ) (r : Survey) : Type 0 where
     pub sequences : map sequence_of r.sequences.items ++ views (sequence_from v p o t) rest ≡ views (sequence_from v p o t) ss
-    pub halts : (must ≡ true → Each (Halts v (lowered p).instrs t) rest) → must ≡ true → Each (Halts v (lowered p).instrs t) ss
-    pub shown : r.shown + shown_by_all v p o t rest ≡ shown_by_all v p o t ss
-    pub small : r.shown ≤ 16777216
+    pub before : List (Start E)
+    pub are : ss ≡ before ++ rest
+    pub number : n ≡ length before + 1
+    pub halts : must ≡ true → Each (Halts v (lowered p).instrs t) before
+    pub shown : r.shown ≡ shown_by_all v p o t before
+    pub small : r.shown ≤ MAX_SHOWN
     pub halted : r.halted + halted_count v p t rest ≡ halted_count v p t ss
     pub few : r.halted + 1 ≤ n
     pub whole : n ≡ 1 → rest ≡ ss
@@ -63,13 +71,15 @@ module _ {E : Type 0} (v : Env E) (p : LabelledProgram) (o t : ℕ) (must : Bool
     pub ended : max r.ended (most_ended v (lowered p).instrs (relevant_for p o) t rest) ≡ most_ended v (lowered p).instrs (relevant_for p o) t ss
     pub begun_by : r.begun ≤ t
     pub ended_by : r.ended ≤ t
-    pub refused : (f : SurveyFault) → FirstRefused v p o t must n r.shown rest f → FirstRefused v p o t must 1 0 ss f
 
   pub none_surveyed : (n : ℕ) (r : Survey) → n ≡ 1 → r.sequences.items ≡ [] → r.shown ≡ 0 → r.begun ≡ 0 → r.ended ≡ 0 → r.halted ≡ 0 → Surveying ss n r
   none_surveyed n r is sequences shown begun ended halted = record {
     sequences = ap (λ z. map sequence_of z ++ views (sequence_from v p o t) ss) sequences;
-    halts = λ h m. h m;
-    shown = omega (arith, shown);
+    before = [];
+    are = refl;
+    number = is;
+    halts = λ m. tt;
+    shown = shown;
     small = omega (arith, shown);
     halted = omega (arith, halted);
     few = omega (arith, halted, is);
@@ -79,11 +89,10 @@ module _ {E : Type 0} (v : Env E) (p : LabelledProgram) (o t : ℕ) (must : Bool
     ended = omega (arith, ended);
     begun_by = omega (arith, begun);
     ended_by = omega (arith, ended);
-    refused = λ f h. subst (λ z. FirstRefused v p o t must z 0 ss f) is (subst (λ z. FirstRefused v p o t must n z ss f) shown h);
   }
 
   module _ (s : Start E) (rest more : List (Start E)) (n : ℕ) (r : Survey) (from : rest ≡ s ∷ more) (h : Surveying rest n r) (w : Observed) (marked : List Bool)
-      (told : marked ≡ relevances (order_of p) (labels_of p) o (order_of p).bottom (bare_of p)) (seen : ObservesRun v p o marked (16777216 - r.shown) t s w) where
+      (told : marked ≡ relevances (order_of p) (labels_of p) o (order_of p).bottom (bare_of p)) (seen : ObservesRun v p o marked (MAX_SHOWN - r.shown) t s w) where
     abbrev run : Machine E
     run = run_of v p t s
 
@@ -93,18 +102,21 @@ module _ {E : Type 0} (v : Env E) (p : LabelledProgram) (o t : ℕ) (must : Bool
     ended_is : w.tally.ended ≡ ended_count (relevant_for p o) run.core.log
     ended_is = seen.tallies.ended ∙ ap (λ z. ended_count (is_marked z) run.core.log) told
 
-    refused_now : (f : SurveyFault) → FirstRefused v p o t must n r.shown (s ∷ more) f → FirstRefused v p o t must 1 0 ss f
-    refused_now f k = h.refused f (subst (λ z. FirstRefused v p o t must n r.shown z f) (sym from) k)
+    refused_now : (f : SurveyFault) → IsRefused v p o t must h.before s f → IsFirstRefused v p o t must ss f
+    refused_now f k =
+        let small = h.small in
+        let shown = h.shown in
+        record { before = h.before; refused = s; after = more; are = h.are ∙ ap (λ z. h.before ++ z) from; halt = h.halts; few = omega (arith, small, shown); why = k }
 
     -- a run that is refused
     pub refuses : (f : SurveyFault) → Refuses r n must w f → IsSurveyFault v p o t must ss f
     refuses (Unfinished k c) x =
         let y = stays_must must run.halted run.core.clock c (ap (unfinished must) (sym seen.end) ∙ x.1) in
-        refused_now (Unfinished k c) (inl (y.0, y.1, ap (λ z. Unfinished z c) x.0 ∙ ap (λ z. Unfinished n z) y.2))
+        refused_now (Unfinished k c) (y.0, y.1, x.0 ∙ h.number, y.2)
     refuses (TooMuch m) x =
         let shown : w.tally.shown ≡ shown_by v p o t s = seen.tallies.shown in
-        let all : m ≡ r.shown + shown_by v p o t s = omega (arith, x.1, shown) in
-        refused_now (TooMuch m) (inr (inl (goes_halted must run.halted run.core.clock (ap (unfinished must) (sym seen.end) ∙ x.0), omega (arith, x.2, all), ap (λ z. TooMuch z) all)))
+        let all : m ≡ shown_by_all v p o t h.before + shown_by v p o t s = omega (arith, x.1, shown, h.shown) in
+        refused_now (TooMuch m) (goes_halted must run.halted run.core.clock (ap (unfinished must) (sym seen.end) ∙ x.0), all, x.2)
     refuses Memory x = tt
 
     -- a run that is taken in
@@ -113,11 +125,10 @@ module _ {E : Type 0} (v : Env E) (p : LabelledProgram) (o t : ℕ) (must : Bool
         let shown : w.tally.shown ≡ shown_by v p o t s = seen.tallies.shown in
         let add = x.shown in
         let fits = x.few in
-        let room : w.tally.shown ≤ 16777216 - r.shown = omega arith in
+        let room : w.tally.shown ≤ MAX_SHOWN - r.shown = omega arith in
         let all : q.shown ≡ r.shown + shown_by v p o t s = omega arith in
         let halt = goes_halted must run.halted run.core.clock (ap (unfinished must) (sym seen.end) ∙ x.goes) in
         let halted : q.halted ≡ r.halted + cond run.halted 1 0 = x.halted ∙ ap (λ z. r.halted + z) (ap halts seen.end ∙ halts-end run.halted run.core.clock) in
-        let shown_rest : shown_by_all v p o t rest ≡ shown_by v p o t s + shown_by_all v p o t more = ap (shown_by_all v p o t) from in
         let halted_rest : halted_count v p t rest ≡ cond run.halted 1 0 + halted_count v p t more = ap (halted_count v p t) from in
         let ended_rest : most_ended v (lowered p).instrs (relevant_for p o) t rest ≡ max (ended_count (relevant_for p o) run.core.log) (most_ended v (lowered p).instrs (relevant_for p o) t more) =
         ap (most_ended v (lowered p).instrs (relevant_for p o) t) from in
@@ -135,8 +146,11 @@ module _ {E : Type 0} (v : Env E) (p : LabelledProgram) (o t : ℕ) (must : Bool
               ∙ (append_assoc (map sequence_of r.sequences.items) (sequence_of w.tally.events ∷ []) (views (sequence_from v p o t) more)
               ∙ (ap (λ z. map sequence_of r.sequences.items ++ z ∷ views (sequence_from v p o t) more) (seen.tallies.kept room)
               ∙ (ap (λ z. map sequence_of r.sequences.items ++ views (sequence_from v p o t) z) (sym from) ∙ h.sequences)));
-          halts = λ k m. h.halts (λ m'. subst (Each (Halts v (lowered p).instrs t)) (sym from) (halt m', k m')) m;
-          shown = omega arith;
+          before = h.before ++ s ∷ [];
+          are = h.are ∙ (ap (λ z. h.before ++ z) from ∙ sym (append_assoc h.before (s ∷ []) more));
+          number = omega (arith, next, h.number, length-append h.before (s ∷ []));
+          halts = λ k. Each-more (Halts v (lowered p).instrs t) h.before s (h.halts k) (halt k);
+          shown = omega (arith, all, hs, shown_more h.before s);
           small = x.few;
           halted = omega arith;
           few = omega arith;
@@ -146,8 +160,6 @@ module _ {E : Type 0} (v : Env E) (p : LabelledProgram) (o t : ℕ) (must : Bool
           ended = omega (arith, ended_is);
           begun_by = bounded;
           ended_by = omega arith;
-          refused = λ f k.
-              refused_now f (inr (inr (halt, omega arith, subst (λ z. FirstRefused v p o t must (n + 1) z more f) all (subst (λ z. FirstRefused v p o t must z q.shown more f) next k))));
         }
       where
         at_most : (b : Bool) → cond b 1 0 ≤ 1
@@ -178,7 +190,7 @@ module _ {E : Type 0} (v : Env E) (p : LabelledProgram) (o t : ℕ) (must : Bool
   -- all runs are taken in
   pub all_surveyed : (rest : List (Start E)) (n : ℕ) (r : Survey) → rest ≡ [] → Surveying rest n r → IsSurvey v p o t must ss r
   all_surveyed rest n r none h =
-      let shown_rest : shown_by_all v p o t rest ≡ 0 = ap (shown_by_all v p o t) none in
+      let all : ss ≡ h.before = h.are ∙ (ap (λ z. h.before ++ z) none ∙ append-nil h.before) in
       let halted_rest : halted_count v p t rest ≡ 0 = ap (halted_count v p t) none in
       let ended_rest : most_ended v (lowered p).instrs (relevant_for p o) t rest ≡ 0 = ap (most_ended v (lowered p).instrs (relevant_for p o) t) none in
       let hs = h.shown in
@@ -187,8 +199,8 @@ module _ {E : Type 0} (v : Env E) (p : LabelledProgram) (o t : ℕ) (must : Bool
       let he = h.ended in
       record {
         sequences = sym (append-nil (map sequence_of r.sequences.items)) ∙ (ap (λ z. map sequence_of r.sequences.items ++ views (sequence_from v p o t) z) (sym none) ∙ h.sequences);
-        halts = λ m. h.halts (λ m'. subst (Each (Halts v (lowered p).instrs t)) (sym none) tt) m;
-        few = omega arith;
+        halts = λ m. subst (Each (Halts v (lowered p).instrs t)) (sym all) (h.halts m);
+        few = omega (arith, hs, small, ap (shown_by_all v p o t) all);
         halted = omega arith;
         begun = by (cases_le n 1);
         ended = omega arith;

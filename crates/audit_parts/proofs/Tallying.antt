@@ -7,9 +7,8 @@ use Rattle.label_code.specs.Machine.{Event, Wrote, Began, Ended}
 use Rattle.label_code.specs.Visible.{visible}
 use Rattle.cycle_machine.specs.declared.turn.Turn.{Turn}
 use Rattle.cycle_machine.specs.declared.turn.Turn.TheVariants.{Event as AnEvent, Began as HasBegun, Ended as HasEnded}
-use Rattle.event_print.proofs.Goes.{events_of}
-use Rattle.leak_bound.specs.Relevant.{ended_count}
-use Rattle.leak_bound.proofs.Tells.{begun_count}
+use Rattle.event_print.specs.Rest.{events_of}
+use Rattle.leak_bound.specs.Relevant.{begun_count, ended_count}
 use Rattle.audit_parts.specs.declared.sighting.Sighting.{Sighting}
 use Rattle.audit_parts.specs.declared.observe.Tally.{Tally}
 use Rattle.audit_parts.specs.Observed.{event_of, sequence_of, is_marked, Tallies}

@@ -1,5 +1,5 @@
 -- The starts of a list, whether they agree for an observer, and the first difference of two that do not.
-use Rattle.std.specs.Prelude.{◌≡◌, ◌≢◌, ◌<◌, ◌+◌, ◌⊎◌, ℕ, List, [], ◌∷◌, map}
+use Rattle.std.specs.Prelude.{◌≡◌, ◌≢◌, ◌<◌, ◌+◌, ◌++◌, ◌⊎◌, ℕ, List, [], ◌∷◌, length, map}
 use Rattle.label_lattice.specs.Lattice.{Flows}
 use Rattle.label_lattice.specs.Order.{Order}
 use Rattle.mit_syntax.specs.Values.{read}
@@ -10,6 +10,7 @@ use Rattle.env_contract.specs.declared.place.Touch.{Touch}
 use Rattle.env_contract.specs.Env.{Env}
 use Rattle.label_code.specs.Run.{Start}
 use Rattle.start_file.specs.Starts.{StartValue}
+use Rattle.leak_bound.specs.Records.{Each}
 use Rattle.leak_bound.specs.Sound.{Agree}
 use Rattle.audit_parts.specs.declared.agreement.Disagreement.{Disagreement}
 use Rattle.audit_parts.specs.declared.agreement.Disagreement.TheVariants.{Differs as Apart, Memory}
@@ -51,17 +52,20 @@ pub record IsFirstDifference {E : Type 0} (v : Env E) (p : LabelledProgram) (o :
   pub here : Differs v p o s s' w
   pub first : (b : What) → IsBefore b w → Differs v p o s s' b → ⊥
 
--- of starts, counted from n, the first that does not agree with a given one, and its first difference
-abbrev pub FirstApart : {E : Type 0} → Env E → (Order → E → Type 0) → LabelledProgram → ℕ → Start E → ℕ → List (Start E) → ℕ → What → Type 0
-FirstApart v serves p o one n [] run w = ⊥
-FirstApart v serves p o one n (s ∷ ss) run w =
-    ((run ≡ n) × IsFirstDifference v p o one s w)
-    ⊎ (AgreeFor v serves p o one s × FirstApart v serves p o one (n + 1) ss run w)
+-- of a list, the first start that does not agree with a given one, its number, from 1, and its first difference
+pub record IsFirstApart {E : Type 0} (v : Env E) (serves : Order → E → Type 0) (p : LabelledProgram) (o : ℕ) (one : Start E) (ss : List (Start E)) (run : ℕ) (w : What) : Type 0 where
+  pub before : List (Start E)
+  pub apart : Start E
+  pub after : List (Start E)
+  pub are : ss ≡ before ++ apart ∷ after
+  pub agree : Each (AgreeFor v serves p o one) before
+  pub number : run ≡ length before + 1
+  pub differs : IsFirstDifference v p o one apart w
 
--- of a list, counted from 1, the first that does not agree with the first one
+-- of a list, the first that does not agree with the first one
 abbrev pub Disagrees : {E : Type 0} → Env E → (Order → E → Type 0) → LabelledProgram → ℕ → List (Start E) → ℕ → What → Type 0
 Disagrees v serves p o [] run w = ⊥
-Disagrees v serves p o (s ∷ ss) run w = FirstApart v serves p o s 1 (s ∷ ss) run w
+Disagrees v serves p o (s ∷ ss) run w = IsFirstApart v serves p o s (s ∷ ss) run w
 
 -- what is told of a list whose starts are not known to agree
 abbrev pub IsDisagreement : {E : Type 0} → Env E → (Order → E → Type 0) → LabelledProgram → ℕ → List (Start E) → Disagreement → Type 0

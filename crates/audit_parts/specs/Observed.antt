@@ -9,13 +9,10 @@ use Rattle.env_contract.specs.Env.{Env}
 use Rattle.event_print.specs.Text.{Told}
 use Rattle.event_print.specs.Rest.{told_by}
 use Rattle.code_lower.specs.Lowered.{lowered}
-use Rattle.leak_bound.specs.Relevant.{ended_count}
-use Rattle.leak_bound.proofs.Tells.{begun_count}
+use Rattle.leak_bound.specs.Relevant.{begun_count, ended_count}
 use Rattle.audit_parts.specs.declared.sighting.Sighting.{Sighting}
 use Rattle.audit_parts.specs.declared.observe.Tally.{Tally}
 use Rattle.audit_parts.specs.declared.observe.Observed.{Observed}
--- the events that a turn tells
-pub use Rattle.event_print.proofs.Goes.{events_of}
 
 -- the event that an observer sees, and the sequence
 abbrev pub event_of : Sighting → Event

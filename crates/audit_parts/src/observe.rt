@@ -3,8 +3,8 @@
 ghost use Rattle.std.specs.Prelude.{◌≡◌, ◌<◌, ◌≤◌, ◌+◌, ◌++◌, [], ◌∷◌, ◌^◌, ℕ, List, None, IfOk, OnOk, slice_index_or, false};
 ghost use Rattle.mit_syntax.specs.Declarations.{variables};
 ghost use Rattle.label_code.specs.Machine.{Event};
-ghost use Rattle.event_print.specs.Rest.{rest_of, end_of_turn, IsTurnBelow};
-ghost use Rattle.audit_parts.specs.Observed.{Tallies, events_of, CountsUp, IsObserved};
+ghost use Rattle.event_print.specs.Rest.{rest_of, end_of_turn, events_of, IsTurnBelow};
+ghost use Rattle.audit_parts.specs.Observed.{Tallies, CountsUp, IsObserved};
 
 use crate::sighting::Sighting;
 use cycle_machine::machine::Machine;

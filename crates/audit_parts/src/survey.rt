@@ -102,7 +102,7 @@ impl Survey {
 
     // Takes in one run more, unless it is refused.
     fn take(&mut self, run: u32, must_halt: bool, seen: Observed) -> Result<(), SurveyFault>
-        requires shown { self.old.shown ≤ 16777216 }
+        requires shown { self.old.shown ≤ MAX_SHOWN }
         requires more { seen.tally.shown ≤ 2 ^ 40 }
         requires halted { self.old.halted ≤ 4096 }
         ensures takes { OnOk result (Takes self.old run must_halt seen self.new) }

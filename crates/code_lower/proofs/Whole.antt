@@ -81,7 +81,7 @@ module _ (p : LabelledProgram) where
       (marks_of o p.labels) (level_of o p.labels) k.commands_below k.levels_below (plan_of p.program) 0 v.known)
 
   -- the code that is emitted, and HALT
-  pub emitted_is : (o : Order) (l : Labelling) (body : List Command) (c0 c1 c2 : List Instr) (low : Label) → o ≡ p.program.order → l ≡ p.labels → body ≡ p.program.body →
+  pub emitted_is : (o : Order) (l : Labelling) (body : List Command) (c0 c1 c2 : List Instr) (low : Label) → o ≡ p.program.order → l ≡ p.labels → list_plan body ≡ plan_of p.program →
       low.number ≡ o.bottom → c0 ≡ [] → Adds o l c0 c1 (list_plan body) 0 → c2 ≡ c1 ++ instr Halt (marks_from (low, low)) ∷ [] → c2 ≡ (lowered p).instrs
   emitted_is o l body c0 c1 c2 low ho hl hb hlow h0 h1 h2 =
       let code = code_of (order_of p) (labels_of p) (bare_of p) 0 in
@@ -90,7 +90,7 @@ module _ (p : LabelledProgram) where
       ∙ ap (λ z. z ++ code_of (lattice_of o) (variable_of o l) (marked_of o l (list_plan body) 0) (length z)) h0
       ∙ ap (λ z. code_of (lattice_of z) (variable_of z l) (marked_of z l (list_plan body) 0) 0) ho
       ∙ ap (λ z. code_of (order_of p) (variable_of p.program.order z) (marked_of p.program.order z (list_plan body) 0) 0) hl
-      ∙ ap (λ z. code_of (order_of p) (labels_of p) (marked_of p.program.order p.labels (list_plan z) 0) 0) hb in
+      ∙ ap (λ z. code_of (order_of p) (labels_of p) (marked_of p.program.order p.labels z 0) 0) hb in
       let bottom : low.number ≡ p.program.order.bottom = hlow ∙ ap (λ (z : Order). z.bottom) ho in
       h2
       ∙ ap (λ z. z ++ instr Halt (marks_from (low, low)) ∷ []) same
@@ -101,10 +101,10 @@ module _ (p : LabelledProgram) where
 
   -- an image of these parts
   pub built_is : (is : List Instr) (vars : ℕ) (o : Order) (x : Extent) (body : List Command) → is ≡ (lowered p).instrs → vars ≡ variables p.program.declarations → o ≡ p.program.order →
-      body ≡ p.program.body → IsExtent x (list_plan body) → record { instrs = is; variables = vars; order = o; operands = x.operands; nesting = x.nesting } ≡ lowered p
+      list_plan body ≡ plan_of p.program → IsExtent x (list_plan body) → record { instrs = is; variables = vars; order = o; operands = x.operands; nesting = x.nesting } ≡ lowered p
   built_is is vars o x body hi hv ho hb e =
-      let most : x.operands ≡ (lowered p).operands = e.operands ∙ ap (λ z. most_operands (list_plan z)) hb ∙ sym operands_is in
-      let deep : x.nesting ≡ (lowered p).nesting = e.nesting ∙ ap (λ z. deepest (list_plan z)) hb ∙ sym nesting_is in
+      let most : x.operands ≡ (lowered p).operands = e.operands ∙ ap (λ z. most_operands z) hb ∙ sym operands_is in
+      let deep : x.nesting ≡ (lowered p).nesting = e.nesting ∙ ap (λ z. deepest z) hb ∙ sym nesting_is in
       ap (λ z. code z vars o x.operands x.nesting) hi
       ∙ ap (λ z. code (lowered p).instrs z o x.operands x.nesting) hv
       ∙ ap (λ z. code (lowered p).instrs (lowered p).variables z x.operands x.nesting) ho

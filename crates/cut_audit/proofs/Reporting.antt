@@ -1,5 +1,5 @@
 -- Why the report is true, and its count within the bound.
-use Rattle.std.proofs.Common.{◌≡◌, ◌<◌, ◌≤◌, ℕ, suc, ◌+◌, ◌*◌, ◌^◌, List, [], ◌∷◌, length, map, false, refl, sym, ap, ◌∙◌, subst, inl, inr}
+use Rattle.std.proofs.Common.{◌≡◌, ◌<◌, ◌≤◌, ℕ, suc, ◌+◌, ◌*◌, ◌^◌, List, [], ◌∷◌, length, map, false, refl, sym, ap, ◌∙◌, subst}
 use Rattle.std.proofs.lemmas.List.{length-map}
 use Rattle.label_lattice.specs.Order.{Order, count_not_below}
 use Rattle.timing_types.specs.Labelled.{LabelledProgram, order_of, labels_of, bare_of}
@@ -17,7 +17,7 @@ use Rattle.audit_parts.specs.Agreement.{AgreeFor}
 use Rattle.audit_parts.specs.Measured.{IsMeasure}
 use Rattle.audit_parts.specs.Observed.{sequence_of}
 use Rattle.audit_parts.specs.Sequences.{same_sequence, classes_of}
-use Rattle.audit_parts.specs.Surveyed.{relevant_for, sequence_from, FirstRefused, IsSurvey, IsSurveyFault}
+use Rattle.audit_parts.specs.Surveyed.{relevant_for, sequence_from, IsSurvey, IsSurveyFault}
 use Rattle.audit_parts.proofs.Classing.{tests_sequences}
 use Rattle.cut_audit.specs.declared.report.CutReport.{CutReport}
 use Rattle.cut_audit.specs.Report.{IsReport, MayCut}
@@ -35,14 +35,8 @@ pub record Reports (n : ℕ) (s : Survey) (m : Measures) (r : CutReport) : Type 
 
 module _ {E : Type 0} (v : Env E) (serves : Order → E → Type 0) (p : LabelledProgram) (o t : ℕ) (ss : List (Start E)) where
   -- runs that need not halt are not refused for it
-  none_unfinished : (n shown run cycle : ℕ) (rest : List (Start E)) → FirstRefused v p o t false n shown rest (Unfinished run cycle) → ⊥
-  none_unfinished n shown run cycle [] h = h
-  none_unfinished n shown run cycle (s ∷ rest) (inl h) = absurd cc
-  none_unfinished n shown run cycle (s ∷ rest) (inr (inl h)) = absurd cc
-  none_unfinished n shown run cycle (s ∷ rest) (inr (inr h)) = none_unfinished (n + 1) _ run cycle rest h.2
-
   pub may_cut : (f : SurveyFault) → IsSurveyFault v p o t false ss f → MayCut f
-  may_cut (Unfinished run cycle) h = none_unfinished 1 0 run cycle ss h
+  may_cut (Unfinished run cycle) h = let must = h.why.0 in absurd cc
   may_cut (TooMuch count) h = tt
   may_cut Memory h = tt
 

@@ -3,6 +3,7 @@
 #![tactic(auto)]
 
 pub mod cut;
+pub mod laws;
 pub mod report;
 #[cfg(test)]
 mod tests;

@@ -102,6 +102,39 @@ fn runs_to_its_end(rt: HostRuntime) -> Result<(), Memory> {
     Ok(())
 }
 
+// Limits, and where a run to each stops: after each instruction, and a cycle before the mitigation ends.
+static STOPS: [(u64, Turn); 9] = [
+    (0, Turn::Limit { cycle: 0 }),
+    (1, Turn::Limit { cycle: 1 }),
+    (2, Turn::Limit { cycle: 2 }),
+    (3, Turn::Limit { cycle: 3 }),
+    (4, Turn::Limit { cycle: 4 }),
+    (5, Turn::Limit { cycle: 5 }),
+    (65, Turn::Limit { cycle: 5 }),
+    (66, Turn::Limit { cycle: 66 }),
+    (67, Turn::Halted { cycle: 67 }),
+];
+
+// The last of four turns: three at most come before a stop, and a stop stays.
+fn fourth_turn(machine: &mut Machine<FlatEnv>, limit: u64) -> Turn {
+    for _ in 0..3 {
+        let _ = machine.next(limit);
+    }
+    machine.next(limit)
+}
+
+#[test]
+fn tells_the_clock_of_each_instruction(rt: HostRuntime) -> Result<(), Memory> {
+    let lattice = one_label().expect(&rt, "a lattice");
+    let image = mitigated(rt.alloc(), lattice)?;
+    for &(limit, turn) in &STOPS {
+        let memory = vec![in rt.alloc(); 0i64; 4]?;
+        let mut machine = Machine::load(rt.alloc(), &image, memory, FlatEnv::new())?;
+        assert_eq!(rt; fourth_turn(&mut machine, limit), turn, "{limit}");
+    }
+    Ok(())
+}
+
 #[test]
 fn stops_at_a_limit(rt: HostRuntime) -> Result<(), Memory> {
     let Some(lattice) = one_label() else {

@@ -1,2 +1,3 @@
 pub mod Env
 pub mod Laws
+pub mod Alike

@@ -16,17 +16,9 @@ use Rattle.cycle_machine.proofs.Turns.{go_on}
 use Rattle.event_print.specs.declared.end.RunEnd.{RunEnd}
 use Rattle.event_print.specs.declared.end.RunEnd.TheVariants.{Halted, Limit}
 use Rattle.event_print.specs.Text.{Told}
-use Rattle.event_print.specs.Rest.{told_by, end_of_turn, stopped_at, rest_from, rest_of, IsTurnBelow}
+use Rattle.event_print.specs.Rest.{told_by, end_of_turn, events_of, stopped_at, rest_from, rest_of, IsTurnBelow}
 use Rattle.event_print.proofs.Runs.{halted_stays, late_stays, run_later, run_past}
 use Rattle.event_print.proofs.Wrote.{wrote_below}
-
--- the events of a turn
-abbrev pub events_of : Turn → List Event
-events_of (AnEvent x n t) = Wrote x n t ∷ []
-events_of (HasBegun k t) = Began k t ∷ []
-events_of (HasEnded k t) = Ended k t ∷ []
-events_of (DidHalt t) = []
-events_of (DidLimit t) = []
 
 abbrev pub after_events : List Event → Told → Told
 after_events es t = record { events = es ++ t.events; end = t.end }

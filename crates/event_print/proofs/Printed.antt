@@ -21,8 +21,8 @@ use Rattle.cycle_machine.specs.Reached.{Reached}
 use Rattle.event_print.specs.declared.end.RunEnd.{RunEnd}
 use Rattle.event_print.specs.declared.end.RunEnd.TheVariants.{Halted, Limit}
 use Rattle.event_print.specs.Text.{Told, lines_of, event_line, last_line, shown, text_of}
-use Rattle.event_print.specs.Rest.{rest_of, end_of_turn, turn_of, stopped_at, text_of_turn, stands_at, StandsAfter, rest_from}
-use Rattle.event_print.proofs.Goes.{events_of, after_events, Next, Last, next_turn, last_turn}
+use Rattle.event_print.specs.Rest.{rest_of, end_of_turn, events_of, turn_of, stopped_at, text_of_turn, stands_at, StandsAfter, rest_from}
+use Rattle.event_print.proofs.Goes.{after_events, Next, Last, next_turn, last_turn}
 
 -- these events of the run are printed, and the rest is what the machine still does
 pub record Printed {E : Type 0} (v : Env E) (limit : ℕ) (p : LabelledProgram) (o : Option Label) (old new : Loaded E) (taken taken' : Option (List ℕ)) : Type 0 where

@@ -2,7 +2,7 @@
 use Rattle.std.specs.Prelude.{◌≡◌, ◌<◌, ℕ, List, [], ◌∷◌, cond, Option, Some, None}
 use Rattle.label_lattice.specs.declared.label.Label.{Label}
 use Rattle.env_contract.specs.Env.{Env}
-use Rattle.label_code.specs.Machine.{Event, Wrote, Machine, run_to}
+use Rattle.label_code.specs.Machine.{Event, Wrote, Began, Ended, Machine, run_to}
 use Rattle.label_code.specs.declared.code.Instr.{Instr}
 use Rattle.timing_types.specs.Labelled.{LabelledProgram}
 use Rattle.cycle_machine.specs.declared.state.State.{State}
@@ -18,6 +18,14 @@ use Rattle.event_print.specs.Text.{Told, lines_of, last_line, shown}
 -- what a finished run tells
 abbrev pub told_by : {E : Type 0} → Machine E → Told
 told_by m = record { events = m.core.log; end = cond m.halted (Halted m.core.clock) (Limit m.core.clock) }
+
+-- the events of a turn
+abbrev pub events_of : Turn → List Event
+events_of (AnEvent x n t) = Wrote x n t ∷ []
+events_of (HasBegun k t) = Began k t ∷ []
+events_of (HasEnded k t) = Ended k t ∷ []
+events_of (DidHalt t) = []
+events_of (DidLimit t) = []
 
 -- the end that an answer tells; one that stops a machine does
 abbrev pub end_of_turn : Turn → Option RunEnd

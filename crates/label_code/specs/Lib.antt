@@ -3,3 +3,5 @@ pub mod Machine
 pub mod Run
 pub mod Shaped
 pub mod Visible
+pub mod OneRun
+pub mod Alike

@@ -4,3 +4,4 @@
 pub mod code;
 pub mod cost;
 pub mod image;
+pub mod laws;

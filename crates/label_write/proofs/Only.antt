@@ -104,7 +104,7 @@ module _ (s : Syntax) (l : Labelling) (v : IsValid s) (h : IsLabelling s l) (b :
 
 -- the same of parts that are equal to a labelled program's
 module _ (p : LabelledProgram) (s : Syntax) (o : Order) (l : Labelling) (ps ps' : List (Label × Label)) (ds es : List Declaration) (cs b : List Command) (hs : s ≡ p.program)
-    (lab : IsLabelling p.program p.labels) (v : IsValid s) (ho : o ≡ s.order) (hl : l ≡ p.labels) (hp : ps ≡ ps') (hq : ps' ≡ s.pairs) (hd : ds ≡ s.declarations) (hc : cs ≡ s.body)
+    (lab : IsLabelling p.program p.labels) (v : IsValid s) (ho : o ≡ s.order) (hl : l ≡ p.labels) (hp : ps ≡ ps') (hq : ps' ≡ s.pairs) (hd : ds ≡ s.declarations) (hc : list_plan cs ≡ plan_of s)
     (he : es ≡ written_declarations o l ds 0) (hb : list_plan b ≡ written_plan o l (list_plan cs) 0) where
   declared : es ≡ written_declarations s.order p.labels s.declarations 0
   declared =
@@ -112,7 +112,7 @@ module _ (p : LabelledProgram) (s : Syntax) (o : Order) (l : Labelling) (ps ps' 
 
   planned : list_plan b ≡ written_plan s.order p.labels (plan_of s) 0
   planned =
-      hb ∙ ap (λ z. written_plan z l (list_plan cs) 0) ho ∙ ap (λ z. written_plan s.order z (list_plan cs) 0) hl ∙ ap (λ z. written_plan s.order p.labels (list_plan z) 0) hc
+      hb ∙ ap (λ z. written_plan z l (list_plan cs) 0) ho ∙ ap (λ z. written_plan s.order z (list_plan cs) 0) hl ∙ ap (λ z. written_plan s.order p.labels z 0) hc
 
   fits : IsLabelling s p.labels
   fits = subst (λ z. IsLabelling z p.labels) (sym hs) lab

@@ -33,6 +33,11 @@ pub record Reports (n : ℕ) (s : Survey) (m : Measures) (r : AuditReport) : Typ
   pub exponent : r.exponent ≡ m.exponent
   pub classes : r.classes.items ≡ m.classes.items
 
+-- the first run of a list begins one number of relevant mitigations
+pub first_one : {E : Type 0} (p : LabelledProgram) (o : ℕ) (ss : List (Start E)) (k j : ℕ) → FirstBegins (order_of p) (labels_of p) o (bare_of p) ss k → FirstBegins (order_of p) (labels_of p) o (bare_of p) ss j → k ≡ j
+first_one p o [] k j a b = a ∙ sym b
+first_one p o (s ∷ ss) k j a b = begins_one (order_of p) (labels_of p) o (bare_of p) s.memory k j a b
+
 module _ {E : Type 0} (v : Env E) (serves : Order → E → Type 0) (p : LabelledProgram) (o t : ℕ) (sound : Sound v p.program.order (serves p.program.order) (labels_of p) (lowered p).instrs (bare_of p)) where
   -- the run of a start that halts begins as many relevant mitigations as the program does
   begins : (s : Start E) → Halts v (lowered p).instrs t s → Begins (order_of p) (labels_of p) o (bare_of p) s.memory (begun_first v p o t (s ∷ []))
@@ -43,10 +48,6 @@ module _ {E : Type 0} (v : Env E) (serves : Order → E → Type 0) (p : Labelle
   first_begins : (ss : List (Start E)) (k : ℕ) → Each (Halts v (lowered p).instrs t) ss → k ≡ begun_first v p o t ss → FirstBegins (order_of p) (labels_of p) o (bare_of p) ss k
   first_begins [] k h e = e
   first_begins (s ∷ ss) k h e = subst (λ z. Begins (order_of p) (labels_of p) o (bare_of p) s.memory z) (sym e) (begins s h.0)
-
-  first_one : (ss : List (Start E)) (k j : ℕ) → FirstBegins (order_of p) (labels_of p) o (bare_of p) ss k → FirstBegins (order_of p) (labels_of p) o (bare_of p) ss j → k ≡ j
-  first_one [] k j a b = a ∙ sym b
-  first_one (s ∷ ss) k j a b = begins_one (order_of p) (labels_of p) o (bare_of p) s.memory k j a b
 
   module _ (low : o < p.program.order.size) (some : 0 < t) (ss : List (Start E)) (agree : Pairwise (AgreeFor v serves p o) ss) (s : Survey) (survey : IsSurvey v p o t true ss s) (m : Measures)
       (measure : IsMeasure p.program.order o t s.begun (map sequence_of s.sequences.items) m) (r : AuditReport) (made : Reports (length ss) s m r) where
@@ -82,7 +83,7 @@ module _ {E : Type 0} (v : Env E) (serves : Order → E → Type 0) (p : Labelle
     pub is_within : r.distinct ≤ r.base ^ r.exponent
     is_within =
         let few = sound.few o low t some ss agree (survey.halts refl) same_sequence tests_sequences in
-        let same : few.0 ≡ r.mitigations = first_one ss few.0 r.mitigations few.1 begun in
+        let same : few.0 ≡ r.mitigations = first_one p o ss few.0 r.mitigations few.1 begun in
         let power : bound p.program.order o t few.0 ≡ r.base ^ r.exponent =
         ap (λ z. (z + 1) ^ (count_not_below (order_of p) o p.program.order.size * digits t)) same
         ∙ (ap (λ z. z ^ (count_not_below (order_of p) o p.program.order.size * digits t)) (sym base)

@@ -1,5 +1,5 @@
 -- The report of an audit, and why there is none.
-use Rattle.std.specs.Prelude.{◌≡◌, ◌≤◌, ◌+◌, ◌*◌, ℕ, List, length, true}
+use Rattle.std.specs.Prelude.{◌≡◌, ◌≢◌, ◌≤◌, ◌+◌, ◌*◌, ℕ, List, length, true}
 use Rattle.label_lattice.specs.Order.{Order, count_not_below}
 use Rattle.timing_types.specs.Labelled.{LabelledProgram, order_of, labels_of, bare_of}
 use Rattle.env_contract.specs.Env.{Env}
@@ -12,9 +12,10 @@ use Rattle.audit_parts.specs.declared.agreement.Disagreement.{Disagreement}
 use Rattle.audit_parts.specs.declared.agreement.Disagreement.TheVariants.{Differs, Memory as NoRoom}
 use Rattle.audit_parts.specs.declared.survey.SurveyFault.{SurveyFault}
 use Rattle.audit_parts.specs.declared.survey.SurveyFault.TheVariants.{Unfinished as IsUnfinished, TooMuch as IsTooMuch, Memory as NoMemory}
+use Rattle.audit_parts.specs.declared.survey.TheConstants.{MAX_SHOWN}
 use Rattle.audit_parts.specs.Agreement.{AgreeFor, Disagrees}
 use Rattle.audit_parts.specs.Sequences.{same_sequence, classes_of}
-use Rattle.audit_parts.specs.Surveyed.{sequence_from, shown_by_all, FirstRefused}
+use Rattle.audit_parts.specs.Surveyed.{sequence_from, shown_by_all, IsFirstRefused}
 use Rattle.leak_audit.specs.declared.report.AuditReport.{AuditReport}
 use Rattle.leak_audit.specs.declared.report.AuditFault.{AuditFault}
 use Rattle.leak_audit.specs.declared.report.AuditFault.TheVariants.{Disagree, Unfinished, TooMuch, Memory}
@@ -25,7 +26,7 @@ use Rattle.leak_audit.specs.declared.report.AuditFault.TheVariants.{Disagree, Un
 pub record IsReport {E : Type 0} (v : Env E) (serves : Order → E → Type 0) (p : LabelledProgram) (o t : ℕ) (ss : List (Start E)) (r : AuditReport) : Type 0 where
   pub agree : Pairwise (AgreeFor v serves p o) ss
   pub halted : Each (Halts v (lowered p).instrs t) ss
-  pub few : shown_by_all v p o t ss ≤ 16777216
+  pub few : shown_by_all v p o t ss ≤ MAX_SHOWN
   pub runs : r.runs ≡ length ss
   pub levels : r.levels ≡ count_not_below (order_of p) o p.program.order.size
   pub mitigations : FirstBegins (order_of p) (labels_of p) o (bare_of p) ss r.mitigations
@@ -39,10 +40,31 @@ pub record IsReport {E : Type 0} (v : Env E) (serves : Order → E → Type 0) (
 abbrev pub IsAuditFault : {E : Type 0} → Env E → (Order → E → Type 0) → LabelledProgram → ℕ → ℕ → List (Start E) → AuditFault → Type 0
 IsAuditFault v serves p o t ss (Disagree run what) = Disagrees v serves p o ss run what
 IsAuditFault v serves p o t ss (Unfinished run cycle) =
-    Pairwise (AgreeFor v serves p o) ss × FirstRefused v p o t true 1 0 ss (IsUnfinished run cycle)
+    Pairwise (AgreeFor v serves p o) ss × IsFirstRefused v p o t true ss (IsUnfinished run cycle)
 IsAuditFault v serves p o t ss (TooMuch count) =
-    Pairwise (AgreeFor v serves p o) ss × FirstRefused v p o t true 1 0 ss (IsTooMuch count)
+    Pairwise (AgreeFor v serves p o) ss × IsFirstRefused v p o t true ss (IsTooMuch count)
 IsAuditFault v serves p o t ss Memory = Unit {0}
+
+-- two reports have the same numbers and classes
+pub record SameReport (r s : AuditReport) : Type 0 where
+  pub runs : r.runs ≡ s.runs
+  pub levels : r.levels ≡ s.levels
+  pub mitigations : r.mitigations ≡ s.mitigations
+  pub distinct : r.distinct ≡ s.distinct
+  pub base : r.base ≡ s.base
+  pub exponent : r.exponent ≡ s.exponent
+  pub classes : r.classes.items ≡ s.classes.items
+
+-- An audit has one answer: its reports are the same, so are its faults but for want of memory, and where there
+-- is a report no other fault is told.
+pub record AnswersOnce {E : Type 0} (v : Env E) (serves : Order → E → Type 0) (p : LabelledProgram) (o t : ℕ) (ss : List (Start E)) : Type 0 where
+  pub report : (r s : AuditReport) → IsReport v serves p o t ss r → IsReport v serves p o t ss s → SameReport r s
+  pub fault : (f g : AuditFault) → IsAuditFault v serves p o t ss f → IsAuditFault v serves p o t ss g → f ≢ Memory → g ≢ Memory → f ≡ g
+  pub either : (r : AuditReport) (f : AuditFault) → IsReport v serves p o t ss r → IsAuditFault v serves p o t ss f → f ≡ Memory
+
+-- every audit does
+abbrev pub AnswersOnceAll : {E : Type 0} → Env E → (Order → E → Type 0) → Type 0
+AnswersOnceAll {E} v serves = (p : LabelledProgram) (o t : ℕ) (ss : List (Start E)) → AnswersOnce v serves p o t ss
 
 -- the fault that a part's fault becomes
 abbrev pub fault_of_disagreement : Disagreement → AuditFault

@@ -3,6 +3,7 @@
 #![tactic(auto)]
 
 pub mod audit;
+pub mod laws;
 pub mod report;
 #[cfg(test)]
 mod tests;

@@ -7,8 +7,7 @@ use Rattle.label_code.specs.Machine.{Core, Machine, Opened, Event, Wrote, Began,
 use Rattle.label_code.specs.declared.code.Work.{Work}
 use Rattle.label_code.specs.declared.code.Work.TheVariants.{Push, Load, Store, LoadAt, StoreAt, Apply, Brz, Brnz, Jmp, Sleep as SleepWork, Mitb, Mite, Nop, Halt}
 use Rattle.label_code.specs.declared.code.Instr.{Instr}
-use Rattle.leak_bound.specs.Relevant.{ended_count}
-use Rattle.leak_bound.proofs.Tells.{begun_count}
+use Rattle.leak_bound.specs.Relevant.{begun_count, ended_count}
 
 abbrev open_count : (ℕ → Bool) → List Opened → ℕ
 open_count rel [] = 0

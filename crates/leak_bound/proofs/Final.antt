@@ -16,10 +16,10 @@ use Rattle.label_code.specs.declared.code.Instr.{Instr}
 use Rattle.code_lower.specs.Follows.{told}
 use Rattle.code_lower.proofs.Order.{keeps_order}
 use Rattle.leak_bound.specs.Digits.{digits}
-use Rattle.leak_bound.specs.Relevant.{is_relevant, Begins, ended_count}
+use Rattle.leak_bound.specs.Relevant.{is_relevant, Begins, begun_count, ended_count}
 use Rattle.leak_bound.specs.Records.{Entry, Each, Pairwise, Tests, views, distinct_count}
 use Rattle.leak_bound.specs.Sound.{Agree, seen_from, Halts, bound, FirstBegins, Sound, ShowsOne, most_ended, CutSound, IsCompiled}
-use Rattle.leak_bound.proofs.Tells.{Tells, begun_count, others, length-others, has_levels, tells_relevant}
+use Rattle.leak_bound.proofs.Tells.{Tells, others, length-others, has_levels, tells_relevant}
 use Rattle.leak_bound.proofs.Digits.{digits_is}
 use Rattle.leak_bound.proofs.Headline.{Each-map, each_both, ended_is, begun_is, record_from, seen_same, few_cut_by, few_halted_by, same_begun}
 

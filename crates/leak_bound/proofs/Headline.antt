@@ -13,8 +13,8 @@ use Rattle.label_code.specs.declared.code.Instr.{Instr}
 use Rattle.code_lower.specs.Layout.{expr_size, size, IsImage}
 use Rattle.env_contract.specs.Laws.{IsLawful}
 use Rattle.label_code.specs.Visible.{visible}
-use Rattle.leak_bound.specs.Relevant.{ended_count}
-use Rattle.leak_bound.proofs.Tells.{Tells, HasLevels, begun_count}
+use Rattle.leak_bound.specs.Relevant.{begun_count, ended_count}
+use Rattle.leak_bound.proofs.Tells.{Tells, HasLevels}
 use Rattle.label_code.specs.Run.{Start, run_from}
 use Rattle.leak_bound.specs.Sound.{Agree, seen_from, most_ended}
 use Rattle.leak_bound.specs.Records.{Entry, levels_of, IsIn, Within, Tests, Each, views, distinct_count}

@@ -37,13 +37,6 @@ HasLevels lat o ls (If m e a b r) = HasLevels lat o ls a × HasLevels lat o ls b
 HasLevels lat o ls (While m e c r) = HasLevels lat o ls c × HasLevels lat o ls r
 HasLevels lat o ls (Mitigate m k l e c r) = (lat.flows l o ≡ false → IsIn l ls) × HasLevels lat o ls c × HasLevels lat o ls r
 
--- how many mitigations with such marks a log begins
-abbrev pub begun_count : (ℕ → Bool) → List Event → ℕ
-begun_count rel [] = 0
-begun_count rel (Wrote x n c ∷ es) = begun_count rel es
-begun_count rel (Began k c ∷ es) = cond (rel k) 1 0 + begun_count rel es
-begun_count rel (Ended k c ∷ es) = begun_count rel es
-
 length-relevances : (lat : Lattice) (g : ℕ → ℕ) (o pc : ℕ) (p : Marked) → length (relevances lat g o pc p) ≡ mitigates p
 length-relevances lat g o pc Done = refl
 length-relevances lat g o pc (Skip m r) = length-relevances lat g o pc r

@@ -29,6 +29,13 @@ is_relevant lat g o p k = slice_index_or (relevances lat g o lat.bottom p) k fal
 abbrev pub Begins : Lattice → (ℕ → ℕ) → ℕ → Marked → List ℤ → ℕ → Type 0
 Begins lat g o p m k = (n : ℕ) × HasEnded p m n × (count_by (is_relevant lat g o p) (marks_of p m n) ≡ k)
 
+-- how many mitigations with such marks a log begins
+abbrev pub begun_count : (ℕ → Bool) → List Event → ℕ
+begun_count rel [] = 0
+begun_count rel (Wrote x n c ∷ es) = begun_count rel es
+begun_count rel (Began k c ∷ es) = cond (rel k) 1 0 + begun_count rel es
+begun_count rel (Ended k c ∷ es) = begun_count rel es
+
 -- how many mitigations with such marks a log ends
 abbrev pub ended_count : (ℕ → Bool) → List Event → ℕ
 ended_count rel [] = 0

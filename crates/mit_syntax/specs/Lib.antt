@@ -2,6 +2,7 @@ pub mod Expression
 pub mod Todo
 pub mod Values
 pub mod Plan
+pub mod PlanCode
 pub mod Declarations
 pub mod Firsts
 pub mod Program

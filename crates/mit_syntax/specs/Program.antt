@@ -12,11 +12,12 @@ pub record Syntax : Type 0 where
   pub order : Order
   pub pairs : List (Label × Label)
   pub declarations : List Declaration
-  pub body : List Command
+  pub plan : Plan
 
+-- the program of a list of commands, wherever they lie in memory
 abbrev pub syntax : Order → List (Label × Label) → List Declaration → List Command → Syntax
-syntax order pairs declarations body = record { order = order; pairs = pairs; declarations = declarations; body = body }
+syntax order pairs declarations body = record { order = order; pairs = pairs; declarations = declarations; plan = list_plan body }
 
 -- the commands as one value
 abbrev pub plan_of : Syntax → Plan
-plan_of s = list_plan s.body
+plan_of s = s.plan

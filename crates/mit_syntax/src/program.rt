@@ -2,7 +2,7 @@
 
 ghost use Rattle.std.specs.Prelude.{◌≡◌, ◌<◌};
 ghost use Rattle.mit_syntax.specs.Declarations.{cell_at, variables, find_scalar, find_array};
-ghost use Rattle.mit_syntax.specs.Plan.{count, mitigates};
+ghost use Rattle.mit_syntax.specs.Plan.{count, mitigates, list_plan};
 ghost use Rattle.mit_syntax.specs.Program.{syntax, plan_of};
 ghost use Rattle.mit_syntax.specs.Valid.{IsValid};
 
@@ -28,12 +28,12 @@ pub struct Program {
 
 impl Model for Program {
     ghost use Rattle.mit_syntax.specs.Program.{Syntax};
-    ghost use Rattle.mit_syntax.specs.contracts.ast.Command as command;
+    ghost use Rattle.mit_syntax.specs.PlanCode.{plan_code};
     ghost use Rattle.std.specs.Coded.{codes};
 
     ghost Value = { Syntax };
 
-    ghost coded = { Prim.hlevel (codes, command.the_row.coded) };
+    ghost coded = { Prim.hlevel (codes, plan_code) };
 
     ghost use Rattle.mit_syntax.specs.Kept.{syntax_of, IsKept};
 
@@ -136,7 +136,7 @@ impl Program {
 
     /// The commands. There is at least one.
     pub fn body(&self) -> &[Command]
-        ensures body { result.now ≡ self.now.body }
+        ensures body { list_plan result.now ≡ plan_of self.now }
         ensures valid { IsValid self.now }
     {
         &self.body

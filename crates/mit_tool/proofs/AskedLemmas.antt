@@ -1,5 +1,5 @@
 -- What holds of any command.
-use Rattle.std.proofs.Common.{[], Option, Some, None, inl, refl}
+use Rattle.std.proofs.Common.{◌≡◌, [], Option, Some, None, inl, refl, sym, subst}
 use Rattle.std.specs.Prelude.{IfSome}
 use Rattle.mit_tool.specs.WordsAsked.{Asked, check, infer, compile, run, meaning, audit, gen, cut, blackbox, certify, recheck}
 use Rattle.mit_tool.specs.Answers.{Content, Before}
@@ -21,3 +21,7 @@ nothing_before content (cut file starts observer e budget) = refl
 nothing_before content (blackbox ready first budget) = refl
 nothing_before content (certify file) = refl
 nothing_before content (recheck file certificate) = refl
+
+-- what holds of the command that the words ask for
+pub asked_some : {A : Type 0} (o : Option A) (a : A) (P : A → Type 0) → o ≡ Some a → P a → IfSome o P
+asked_some {A} o a P e h = subst (λ (z : Option A). IfSome z P) (sym e) h

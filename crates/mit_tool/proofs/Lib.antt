@@ -14,3 +14,9 @@ pub mod AuditLemmas
 pub mod EarlyLemmas
 pub mod PieceLemmas
 pub mod TellLemmas
+pub mod GoesLemmas
+pub mod MadeLemmas
+pub mod OneLemmas
+pub mod OneRun
+pub mod AgreeLemmas
+pub mod CompleteLemmas

@@ -21,7 +21,7 @@ use Rattle.source_meaning.specs.Walked.{Standing, told_by, source_at, IsStep}
 use Rattle.source_meaning.proofs.GoOn.{go_on}
 use Rattle.source_meaning.proofs.Told.{done_stays}
 use Rattle.source_meaning.proofs.Places.{All-last}
-use Rattle.source_meaning.proofs.Begins.{going_first}
+use Rattle.source_meaning.proofs.Begins.{first_in}
 use Rattle.mit_tool.proofs.EndLemmas.{prefix_after}
 use Rattle.mit_tool.specs.Means.{value_line, value_lines, lines_after, IsLastLine, ended_line, not_ended_line, text_of_walk, IsWalkBelow, WritesSome, BreaksOff}
 
@@ -117,11 +117,9 @@ pub record Walking (p : Syntax) (memory : List ℤ) (steps taken : ℕ) (walker 
 pub walking_first : (p : Syntax) (memory : List ℤ) (steps : ℕ) (walker : Standing) (old : Option (List ℕ)) → IsValid p
     → source_start (plan_of p) memory ≡ source_at walker [] → Walking p memory steps 0 walker old old
 walking_first p memory steps walker old valid e =
-    let going = going_first p (variables p.declarations) valid refl in
-    let frame : IsFrame (variables p.declarations) p.body = All-last (IsFrame (variables p.declarations)) [] p.body going.frames in
     record {
       stands = e;
-      inside = subst (λ σ. AreIn (variables p.declarations) σ.todo) e frame.1;
+      inside = subst (λ σ. AreIn (variables p.declarations) σ.todo) e (first_in p valid);
       within = omega arith;
       going = λ k h. absurd (omega (arith, h));
       written = Appends-nil old;

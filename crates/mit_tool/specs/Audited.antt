@@ -76,6 +76,7 @@ pub record HoldsRuns (content : Option (Option (List ℕ))) (runs : List (List �
 pub record HasReadyFault (content : Option (Option (List ℕ))) (t : List ℕ) : Type 0 where
   pub bytes : List ℕ
   pub are : IsTold content bytes
+  pub short : length bytes ≤ limit
   pub fault : ReadyFault
   pub none : fault ≢ Memory
   pub is : refusal bytes ≡ Some fault

@@ -11,3 +11,4 @@ pub mod Ends
 pub mod Means
 pub mod Accepted
 pub mod Statuses
+pub mod Complete

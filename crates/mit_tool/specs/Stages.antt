@@ -65,6 +65,7 @@ pub record Reads (content : Option (Option (List ℕ))) (p : Syntax) : Type 0 wh
 pub record HasTextFault (content : Option (Option (List ℕ))) (t : List ℕ) : Type 0 where
   pub bytes : List ℕ
   pub are : IsTold content bytes
+  pub short : length bytes ≤ limit
   pub fault : TextFault
   pub none : fault ≢ text.Memory
   pub is : IsFault bytes fault
@@ -74,6 +75,7 @@ pub record HasTextFault (content : Option (Option (List ℕ))) (t : List ℕ) : 
 pub record HasParseFault (content : Option (Option (List ℕ))) (t : List ℕ) : Type 0 where
   pub bytes : List ℕ
   pub are : IsTold content bytes
+  pub short : length bytes ≤ limit
   pub tokens : List Token
   pub cut : AreTokens bytes tokens
   pub fault : ParseFault
@@ -150,6 +152,7 @@ StartsAre content p ss = (bytes : List ℕ) × IsTold content bytes × (length b
 pub record HasStartFault (content : Option (Option (List ℕ))) (p : Syntax) (t : List ℕ) : Type 0 where
   pub bytes : List ℕ
   pub are : IsTold content bytes
+  pub short : length bytes ≤ limit
   pub fault : StartFault
   pub none : fault ≢ start.Memory
   pub is : Gives p bytes (Err fault)

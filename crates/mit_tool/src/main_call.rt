@@ -1,12 +1,13 @@
 //! The top call: from the words of a command line to the text that is written, and a status.
 
-ghost use Rattle.std.specs.Prelude.{◌≡◌, ◌≤◌, ℕ, List, None, IfSome, IsTrue, map, string_bytes};
+ghost use Rattle.std.specs.Prelude.{◌≡◌, ◌≤◌, ◌⊎◌, ℕ, List, None, IfSome, IsTrue, map, string_bytes};
 ghost use Rattle.tim_base.specs.Faults.{Rose};
 ghost use Rattle.mit_tool.specs.Ends.{EndsBy, Nothing};
 ghost use Rattle.mit_tool.specs.WordsAsked.{IsInRange, command_of, check};
 ghost use Rattle.mit_tool.specs.WordsViews.{asked_of};
 ghost use Rattle.mit_tool.specs.Answers.{IsAnswer, IsUsage, Before, typed_content, is_past_typing};
 ghost use Rattle.mit_tool.specs.Accepted.{IsAccepted};
+ghost use Rattle.mit_tool.specs.Complete.{CanBeDone, NoneRises};
 
 use crate::commands::audit::audit_text;
 use crate::commands::blackbox::blackbox_text;
@@ -121,6 +122,9 @@ fn obey<S: Shelf, W: Sink>(
 ///
 /// `sound`: where the command came past the typing of a program, that program is accepted, and in each environment
 /// its image does what it does, and shows few different sequences.
+///
+/// `complete`: a command that can be done is done, want of memory aside, where no count of faults rose, neither that
+/// of a file that the words name nor that of the sink.
 pub fn mitigate_main<S: Shelf, W: Sink>(
     alloc: Global,
     words: &[String],
@@ -134,6 +138,9 @@ pub fn mitigate_main<S: Shelf, W: Sink>(
         → EndsBy (W.taken out.old) (W.taken out.new) Nothing IsUsage result }
     ensures sound { IsTrue (is_past_typing result) → IfSome (command_of (map string_bytes words.now)) (λ a.
         IfSome (typed_content (S.content shelf.old) a) IsAccepted) }
+    ensures complete { IfSome (command_of (map string_bytes words.now)) (λ a. CanBeDone (S.content shelf.old) a
+        → NoneRises (λ name. Rose (S.faults shelf.old name) (S.faults shelf.new name)) a → (Rose (W.faults out.old) (W.faults out.new) → ⊥)
+        → (result ≡ Status.Done) ⊎ (result ≡ Status.Memory)) }
     ensures write { result ≡ Status.WriteFault → Rose (W.faults out.old) (W.faults out.new) }
 
     // No file changes, and no count of faults falls.

@@ -3,6 +3,7 @@ pub mod Within
 pub mod OneExpression
 pub mod OneProgram
 pub mod Refused
+pub mod OneRefusal
 pub mod Meant
 pub mod Numerals
 pub mod Apart

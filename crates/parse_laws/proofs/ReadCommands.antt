@@ -1,17 +1,14 @@
 -- The words of printed commands are those of trees that mean them.
 use Rattle.std.proofs.Common.{◌≡◌, ◌≤◌, ◌<◌, ◌+◌, refl, sym, ap, ◌∙◌, ℕ, zero, suc, List, ◌∷◌, Option, Some, None, arith}
-use mathlib.Core.Former.{Count}
 use Rattle.label_lattice.specs.declared.label.Label.{Label}
 use Rattle.label_lattice.specs.Order.{Order, name_of}
-use Rattle.mit_syntax.specs.declared.ast.Form.{Row_of-Command, end_of-Command, more_of-Command}
-use Rattle.mit_syntax.specs.declared.ast.Form.{Skip as FSkip, Assign as FAssign, Put as FPut, Sleep as FSleep, If' as FIf, While' as FWhile, Mitigate' as FMitigate}
 use Rattle.mit_syntax.specs.declared.token.Keyword.TheVariants.{Skip as SkipKey, If as IfKey, Then, Else, While as WhileKey, Do, Mitigate as MitigateKey, Sleep as SleepKey}
 use Rattle.mit_syntax.specs.declared.token.Sign.TheVariants.{Assign as AssignSign, Semicolon, Comma, LeftRound, RightRound, LeftBrace, RightBrace, LeftSquare, At}
 use Rattle.mit_syntax.specs.Chunks.{Chunk, space}
-use Rattle.mit_syntax.specs.Expression.{Expression, expression_of}
+use Rattle.mit_syntax.specs.Expression.{Expression}
 use Rattle.mit_syntax.specs.Declarations.{Declaration, cell_at, find_scalar, find_array}
-use Rattle.mit_syntax.specs.Todo.{Todo, Skip, Assign, Put, Sleep, If, While, Mitigate}
-use Rattle.mit_syntax.specs.Plan.{row_plan, mitigates}
+use Rattle.mit_syntax.specs.Todo.{Todo, Done, Skip, Assign, Put, Sleep, If, While, Mitigate}
+use Rattle.mit_syntax.specs.Plan.{Plan, mitigates}
 use Rattle.mit_syntax.specs.Valid.{IsBelow, AreMarksBelow, IsScalar, IsDeclaredArray, AreSome, AreKnown, AreNumbered}
 use Rattle.mit_syntax.specs.Limits.{depth, operators, IsSmall, AreSmall}
 use Rattle.mit_syntax.specs.Layout.{a_sign, spaced, spaced_key, expression_part, marks_part, level_part, indent, new_line, in_braces, after, commands_part}
@@ -120,95 +117,95 @@ module _ (o : Order) (ds : List Declaration) (label_found : (n : ℕ) → n < o.
   deep_enough d e h = let a = h.depth in omega (arith, a)
 
   -- trees that mean these commands, positions aside
-  pub record AreList (d k : ℕ) {n : Count} (r : Row_of-Command n) (t : CommandTree × More) : Type 0 where
-    pub row : Row_of-Command n
-    pub plan : plan_command sc k t.0 (plan_more sc (next_command t.0 k) t.1) ≡ row_plan row
-    pub same : unplaced (row_plan row) ≡ unplaced (row_plan r)
+  pub record AreList (d k : ℕ) (r : Plan) (t : CommandTree × More) : Type 0 where
+    pub read : Plan
+    pub plan : plan_command sc k t.0 (plan_more sc (next_command t.0 k) t.1) ≡ read
+    pub same : unplaced read ≡ unplaced r
     pub within : CommandWithin d t.0 × MoreWithin d t.1
     pub calm : (u : Option ParseFault) → note_more sc t.1 (note_command sc t.0 u) ≡ u
-    pub next : next_more t.1 (next_command t.0 k) ≡ k + mitigates (row_plan r)
+    pub next : next_more t.1 (next_command t.0 k) ≡ k + mitigates r
 
-  pub record AreMore (d k : ℕ) {n : Count} (r : Row_of-Command n) (t : More) : Type 0 where
-    pub row : Row_of-Command n
-    pub plan : plan_more sc k t ≡ row_plan row
-    pub same : unplaced (row_plan row) ≡ unplaced (row_plan r)
+  pub record AreMore (d k : ℕ) (r : Plan) (t : More) : Type 0 where
+    pub read : Plan
+    pub plan : plan_more sc k t ≡ read
+    pub same : unplaced read ≡ unplaced r
     pub within : MoreWithin d t
     pub calm : (u : Option ParseFault) → note_more sc t u ≡ u
-    pub next : next_more t k ≡ k + mitigates (row_plan r)
+    pub next : next_more t k ≡ k + mitigates r
 
-  record IsBlock (d k : ℕ) {n : Count} (r : Row_of-Command n) (t : Block) : Type 0 where
-    pub row : Row_of-Command n
-    pub plan : plan_block sc k t ≡ row_plan row
-    pub same : unplaced (row_plan row) ≡ unplaced (row_plan r)
+  record IsBlock (d k : ℕ) (r : Plan) (t : Block) : Type 0 where
+    pub read : Plan
+    pub plan : plan_block sc k t ≡ read
+    pub same : unplaced read ≡ unplaced r
     pub within : BlockWithin d t
     pub calm : (u : Option ParseFault) → note_block sc t u ≡ u
-    pub next : next_block t k ≡ k + mitigates (row_plan r)
+    pub next : next_block t k ≡ k + mitigates r
 
-  module _ {n : Count} (r : Row_of-Command n) (d k : ℕ) where
-    more_reader : Reader front_list (AreList d k r) (commands_part o ds d (row_plan r)) → Reader front_more (AreMore d k r) (λ q. a_sign Semicolon (new_line d (commands_part o ds d (row_plan r) q)))
+  module _ (r : Plan) (d k : ℕ) where
+    more_reader : Reader front_list (AreList d k r) (commands_part o ds d r) → Reader front_more (AreMore d k r) (λ q. a_sign Semicolon (new_line d (commands_part o ds d r q)))
     more_reader f ws q s =
-        let a = f s.1 q (indent_says d s.1 (commands_part o ds d (row_plan r) q) s.3) in
+        let a = f s.1 q (indent_says d s.1 (commands_part o ds d r q) s.3) in
         record {
           tree = and_more s.0 a.tree.0 a.tree.1;
           rest = a.rest;
           are = s.2 ∙ ap (λ l. sign_at Semicolon s.0 ∷ l) a.are;
           says = a.says;
-          is = record { row = a.is.row; plan = a.is.plan; same = a.is.same; within = a.is.within; calm = a.is.calm; next = a.is.next };
+          is = record { read = a.is.read; plan = a.is.plan; same = a.is.same; within = a.is.within; calm = a.is.calm; next = a.is.next };
         }
 
-    block_reader : d + 1 ≤ 100 → Reader front_list (AreList (d + 1) k r) (commands_part o ds (d + 1) (row_plan r)) → Reader front_block (IsBlock d k r) (in_braces d (commands_part o ds (d + 1) (row_plan r)))
+    block_reader : d + 1 ≤ 100 → Reader front_list (AreList (d + 1) k r) (commands_part o ds (d + 1) r) → Reader front_block (IsBlock d k r) (in_braces d (commands_part o ds (d + 1) r))
     block_reader h f ws q s =
         let q1 : List Chunk = new_line d (a_sign RightBrace q) in
-        let a = f s.1 q1 (indent_says (d + 1) s.1 (commands_part o ds (d + 1) (row_plan r) q1) s.3) in
+        let a = f s.1 q1 (indent_says (d + 1) s.1 (commands_part o ds (d + 1) r q1) s.3) in
         let z = indent_says d a.rest (a_sign RightBrace q) a.says in
         record {
           tree = block_of s.0 (commands_of a.tree.0 a.tree.1) z.0;
           rest = z.1;
           are = s.2 ∙ ap (λ l. sign_at LeftBrace s.0 ∷ l) (a.are ∙ ap (front_list a.tree) z.2);
           says = z.3;
-          is = record { row = a.is.row; plan = a.is.plan; same = a.is.same; within = (h, a.is.within); calm = a.is.calm; next = a.is.next };
+          is = record { read = a.is.read; plan = a.is.plan; same = a.is.same; within = (h, a.is.within); calm = a.is.calm; next = a.is.next };
         }
 
     -- commands can be read as a list, and behind others
-    pub record RowReads : Type 0 where
-      pub first : AreSome (row_plan r) → Reader front_list (AreList d k r) (commands_part o ds d (row_plan r))
-      pub more : Reader front_more (AreMore d k r) (after d (row_plan r) (commands_part o ds d (row_plan r)))
+    pub record PlanReads : Type 0 where
+      pub first : AreSome r → Reader front_list (AreList d k r) (commands_part o ds d r)
+      pub more : Reader front_more (AreMore d k r) (after d r (commands_part o ds d r))
 
-  pub row_reads : {n : Count} (r : Row_of-Command n) (d k : ℕ) → AreKnown o.size ds (row_plan r) → AreNumbered k (row_plan r) → AreSmall d (row_plan r) → RowReads r d k
-  row_reads end_of-Command d k h g m =
+  pub plan_reads : (r : Plan) (d k : ℕ) → AreKnown o.size ds r → AreNumbered k r → AreSmall d r → PlanReads r d k
+  plan_reads Done d k h g m =
       record {
         first = λ s. absurd s;
-        more = λ ws q s. record { tree = no_more; rest = ws; are = refl; says = s; is = record { row = end_of-Command; plan = refl; same = refl; within = tt; calm = λ u. refl; next = omega arith } };
+        more = λ ws q s. record { tree = no_more; rest = ws; are = refl; says = s; is = record { read = Done; plan = refl; same = refl; within = tt; calm = λ u. refl; next = omega arith } };
       }
-  row_reads (more_of-Command p l FSkip r) d k h g m =
-      let f : Reader front_list (AreList d k (more_of-Command p l FSkip r)) (commands_part o ds d (row_plan (more_of-Command p l FSkip r))) =
+  plan_reads (Skip wr r) d k h g m =
+      let f : Reader front_list (AreList d k (Skip wr r)) (commands_part o ds d (Skip wr r)) =
       λ ws q s.
-      let q1 : List Chunk = after d (row_plan r) (commands_part o ds d (row_plan r)) q in
-      let y = marks_reader l h.0 s.1 q1 s.3 in
-      let R = (row_reads r d k h.1 g m).more y.rest q y.says in
+      let q1 : List Chunk = after d r (commands_part o ds d r) q in
+      let y = marks_reader wr.labels h.0 s.1 q1 s.3 in
+      let R = (plan_reads r d k h.1 g m).more y.rest q y.says in
       record {
         tree = (skip_of s.0 y.tree, R.tree);
         rest = R.rest;
         are = s.2 ∙ ap (λ x. key_at SkipKey s.0 ∷ x) (y.are ∙ ap (front_marks y.tree) R.are);
         says = R.says;
         is = record {
-          row = more_of-Command s.0 l FSkip R.is.row;
-          plan = skip_same (written sc s.0 y.tree) (record { pos = s.0; labels = l }) _ _ (ap (λ x. record { pos = s.0; labels = x }) y.is.value) R.is.plan;
-          same = skip_same l l _ _ refl R.is.same;
+          read = Skip (record { pos = s.0; labels = wr.labels }) R.is.read;
+          plan = skip_same (written sc s.0 y.tree) (record { pos = s.0; labels = wr.labels }) _ _ (ap (λ x. record { pos = s.0; labels = x }) y.is.value) R.is.plan;
+          same = skip_same wr.labels wr.labels _ _ refl R.is.same;
           within = (tt, R.is.within);
           calm = quiet R.is.calm y.is.calm;
           next = R.is.next;
         };
       } in
-      record { first = λ _. f; more = more_reader (more_of-Command p l FSkip r) d k f }
-  row_reads (more_of-Command p l (FAssign v e) r) d k h g m =
-      let f : Reader front_list (AreList d k (more_of-Command p l (FAssign v e) r)) (commands_part o ds d (row_plan (more_of-Command p l (FAssign v e) r))) =
+      record { first = λ _. f; more = more_reader (Skip wr r) d k f }
+  plan_reads (Assign wr v e r) d k h g m =
+      let f : Reader front_list (AreList d k (Assign wr v e r)) (commands_part o ds d (Assign wr v e r)) =
       λ ws q s.
-      let q1 : List Chunk = after d (row_plan r) (commands_part o ds d (row_plan r)) q in
+      let q1 : List Chunk = after d r (commands_part o ds d r) q in
       let a = s.3 in
-      let x = (reads o.names ds scalar_found array_found (expression_of e) h.2).whole a.1 (marks_part o l q1) a.3 in
-      let y = marks_reader l h.0 x.rest q1 x.says in
-      let R = (row_reads r d k h.3 g m.1).more y.rest q y.says in
+      let x = (reads o.names ds scalar_found array_found e h.2).whole a.1 (marks_part o wr.labels q1) a.3 in
+      let y = marks_reader wr.labels h.0 x.rest q1 x.says in
+      let R = (plan_reads r d k h.3 g m.1).more y.rest q y.says in
       let w : List ℕ = (cell_at ds v).name in
       record {
         tree = (assign_of w s.0 no_index a.0 x.tree y.tree, R.tree);
@@ -216,25 +213,25 @@ module _ (o : Order) (ds : List Declaration) (label_found : (n : ℕ) → n < o.
         are = s.2 ∙ ap (λ z. name_at w s.0 ∷ z) (a.2 ∙ ap (λ z. sign_at AssignSign a.0 ∷ z) (x.are ∙ ap (front_whole x.tree) (y.are ∙ ap (front_marks y.tree) R.are)));
         says = R.says;
         is = record {
-          row = more_of-Command s.0 l (FAssign v e) R.is.row;
-          plan = assign_same (written sc s.0 y.tree) (record { pos = s.0; labels = l }) _ _ _ _ _ _ (ap (λ x. record { pos = s.0; labels = x }) y.is.value) (ap (or_else 0) (scalar_found v h.1)) x.is.value R.is.plan;
-          same = assign_same l l v v (expression_of e) (expression_of e) _ _ refl refl refl R.is.same;
-          within = ((tt, within d (expression_of e) x.tree m.0 x.is), R.is.within);
+          read = Assign (record { pos = s.0; labels = wr.labels }) v e R.is.read;
+          plan = assign_same (written sc s.0 y.tree) (record { pos = s.0; labels = wr.labels }) _ _ _ _ _ _ (ap (λ x. record { pos = s.0; labels = x }) y.is.value) (ap (or_else 0) (scalar_found v h.1)) x.is.value R.is.plan;
+          same = assign_same wr.labels wr.labels v v e e _ _ refl refl refl R.is.same;
+          within = ((tt, within d e x.tree m.0 x.is), R.is.within);
           calm = quiet R.is.calm (quiet y.is.calm (quiet x.is.calm (λ u. scalar_calm o.names ds scalar_found array_found v h.1 s.0 u)));
           next = R.is.next;
         };
       } in
-      record { first = λ _. f; more = more_reader (more_of-Command p l (FAssign v e) r) d k f }
-  row_reads (more_of-Command p l (FPut v n j e) r) d k h g m =
-      let f : Reader front_list (AreList d k (more_of-Command p l (FPut v n j e) r)) (commands_part o ds d (row_plan (more_of-Command p l (FPut v n j e) r))) =
+      record { first = λ _. f; more = more_reader (Assign wr v e r) d k f }
+  plan_reads (Put wr v n j e r) d k h g m =
+      let f : Reader front_list (AreList d k (Put wr v n j e r)) (commands_part o ds d (Put wr v n j e r)) =
       λ ws q s.
-      let q1 : List Chunk = after d (row_plan r) (commands_part o ds d (row_plan r)) q in
-      let q2 : List Chunk = expression_part ds 1 (expression_of e) (marks_part o l q1) in
-      let i = index_reader sc (expression_part ds 1 (expression_of j)) (expression_of j) (depth 1 (expression_of j)) (operators (expression_of j)) (reads o.names ds scalar_found array_found (expression_of j) h.2).whole s.1 (spaced AssignSign q2) s.3 in
+      let q1 : List Chunk = after d r (commands_part o ds d r) q in
+      let q2 : List Chunk = expression_part ds 1 e (marks_part o wr.labels q1) in
+      let i = index_reader sc (expression_part ds 1 j) j (depth 1 j) (operators j) (reads o.names ds scalar_found array_found j h.2).whole s.1 (spaced AssignSign q2) s.3 in
       let a = i.says in
-      let x = (reads o.names ds scalar_found array_found (expression_of e) h.3).whole a.1 (marks_part o l q1) a.3 in
-      let y = marks_reader l h.0 x.rest q1 x.says in
-      let R = (row_reads r d k h.4 g m.2).more y.rest q y.says in
+      let x = (reads o.names ds scalar_found array_found e h.3).whole a.1 (marks_part o wr.labels q1) a.3 in
+      let y = marks_reader wr.labels h.0 x.rest q1 x.says in
+      let R = (plan_reads r d k h.4 g m.2).more y.rest q y.says in
       let w : List ℕ = (cell_at ds v).name in
       record {
         tree = (assign_of w s.0 i.tree a.0 x.tree y.tree, R.tree);
@@ -242,57 +239,57 @@ module _ (o : Order) (ds : List Declaration) (label_found : (n : ℕ) → n < o.
         are = s.2 ∙ ap (λ z. name_at w s.0 ∷ z) (i.are ∙ ap (front_index i.tree) (a.2 ∙ ap (λ z. sign_at AssignSign a.0 ∷ z) (x.are ∙ ap (front_whole x.tree) (y.are ∙ ap (front_marks y.tree) R.are))));
         says = R.says;
         is = record {
-          row = more_of-Command s.0 l (FPut v n j e) R.is.row;
+          read = Put (record { pos = s.0; labels = wr.labels }) v n j e R.is.read;
           plan = ap (λ z. assigned sc (written sc s.0 y.tree) w z (whole_value sc x.tree) (plan_more sc k R.tree)) i.is.value
-              ∙ put_same (written sc s.0 y.tree) (record { pos = s.0; labels = l }) _ _ _ _ _ _ _ _ _ _ (ap (λ x. record { pos = s.0; labels = x }) y.is.value)
+              ∙ put_same (written sc s.0 y.tree) (record { pos = s.0; labels = wr.labels }) _ _ _ _ _ _ _ _ _ _ (ap (λ x. record { pos = s.0; labels = x }) y.is.value)
               (ap (λ (z : Option (ℕ × ℕ)). (or_else {A = ℕ × ℕ} (0, 0) z).0) (array_found v n h.1)) (ap (λ (z : Option (ℕ × ℕ)). (or_else {A = ℕ × ℕ} (0, 0) z).1) (array_found v n h.1)) refl x.is.value R.is.plan;
-          same = put_same l l v v n n (expression_of j) (expression_of j) (expression_of e) (expression_of e) _ _ refl refl refl refl refl R.is.same;
-          within = ((index_within d (expression_of j) i.tree m.0 i.is, within d (expression_of e) x.tree m.1 x.is), R.is.within);
+          same = put_same wr.labels wr.labels v v n n j j e e _ _ refl refl refl refl refl R.is.same;
+          within = ((index_within d j i.tree m.0 i.is, within d e x.tree m.1 x.is), R.is.within);
           calm = quiet R.is.calm (quiet y.is.calm (quiet x.is.calm (quiet i.is.calm (λ u. ap (kept u) (i.is.used w s.0) ∙ array_calm o.names ds scalar_found array_found v n h.1 s.0 u))));
           next = R.is.next;
         };
       } in
-      record { first = λ _. f; more = more_reader (more_of-Command p l (FPut v n j e) r) d k f }
-  row_reads (more_of-Command p l (FSleep e) r) d k h g m =
-      let f : Reader front_list (AreList d k (more_of-Command p l (FSleep e) r)) (commands_part o ds d (row_plan (more_of-Command p l (FSleep e) r))) =
+      record { first = λ _. f; more = more_reader (Put wr v n j e r) d k f }
+  plan_reads (Sleep wr e r) d k h g m =
+      let f : Reader front_list (AreList d k (Sleep wr e r)) (commands_part o ds d (Sleep wr e r)) =
       λ ws q s.
-      let q1 : List Chunk = after d (row_plan r) (commands_part o ds d (row_plan r)) q in
-      let x = (reads o.names ds scalar_found array_found (expression_of e) h.1).whole s.1 (marks_part o l q1) s.3 in
-      let y = marks_reader l h.0 x.rest q1 x.says in
-      let R = (row_reads r d k h.2 g m.1).more y.rest q y.says in
+      let q1 : List Chunk = after d r (commands_part o ds d r) q in
+      let x = (reads o.names ds scalar_found array_found e h.1).whole s.1 (marks_part o wr.labels q1) s.3 in
+      let y = marks_reader wr.labels h.0 x.rest q1 x.says in
+      let R = (plan_reads r d k h.2 g m.1).more y.rest q y.says in
       record {
         tree = (sleep_of s.0 x.tree y.tree, R.tree);
         rest = R.rest;
         are = s.2 ∙ ap (λ z. key_at SleepKey s.0 ∷ z) (x.are ∙ ap (front_whole x.tree) (y.are ∙ ap (front_marks y.tree) R.are));
         says = R.says;
         is = record {
-          row = more_of-Command s.0 l (FSleep e) R.is.row;
-          plan = sleep_same (written sc s.0 y.tree) (record { pos = s.0; labels = l }) _ _ _ _ (ap (λ x. record { pos = s.0; labels = x }) y.is.value) x.is.value R.is.plan;
-          same = sleep_same l l (expression_of e) (expression_of e) _ _ refl refl R.is.same;
-          within = (within d (expression_of e) x.tree m.0 x.is, R.is.within);
+          read = Sleep (record { pos = s.0; labels = wr.labels }) e R.is.read;
+          plan = sleep_same (written sc s.0 y.tree) (record { pos = s.0; labels = wr.labels }) _ _ _ _ (ap (λ x. record { pos = s.0; labels = x }) y.is.value) x.is.value R.is.plan;
+          same = sleep_same wr.labels wr.labels e e _ _ refl refl R.is.same;
+          within = (within d e x.tree m.0 x.is, R.is.within);
           calm = quiet R.is.calm (quiet y.is.calm x.is.calm);
           next = R.is.next;
         };
       } in
-      record { first = λ _. f; more = more_reader (more_of-Command p l (FSleep e) r) d k f }
-  row_reads (more_of-Command p l (FIf e c a c' b) r) d k h g m =
-      let f : Reader front_list (AreList d k (more_of-Command p l (FIf e c a c' b) r)) (commands_part o ds d (row_plan (more_of-Command p l (FIf e c a c' b) r))) =
+      record { first = λ _. f; more = more_reader (Sleep wr e r) d k f }
+  plan_reads (If wr e a b r) d k h g m =
+      let f : Reader front_list (AreList d k (If wr e a b r)) (commands_part o ds d (If wr e a b r)) =
       λ ws q s.
-      let q1 : List Chunk = after d (row_plan r) (commands_part o ds d (row_plan r)) q in
-      let q2 : List Chunk = spaced_key Else (in_braces d (commands_part o ds (d + 1) (row_plan b)) q1) in
-      let q3 : List Chunk = spaced_key Then (in_braces d (commands_part o ds (d + 1) (row_plan a)) q2) in
+      let q1 : List Chunk = after d r (commands_part o ds d r) q in
+      let q2 : List Chunk = spaced_key Else (in_braces d (commands_part o ds (d + 1) b) q1) in
+      let q3 : List Chunk = spaced_key Then (in_braces d (commands_part o ds (d + 1) a) q2) in
       let i : d + 1 ≤ 100 = omega (arith, m.1) in
-      let ma : ℕ = mitigates (row_plan a) in
-      let mb : ℕ = mitigates (row_plan b) in
-      let x = (reads o.names ds scalar_found array_found (expression_of e) h.1).whole s.1 (marks_part o l q3) s.3 in
-      let y = marks_reader l h.0 x.rest q3 x.says in
+      let ma : ℕ = mitigates a in
+      let mb : ℕ = mitigates b in
+      let x = (reads o.names ds scalar_found array_found e h.1).whole s.1 (marks_part o wr.labels q3) s.3 in
+      let y = marks_reader wr.labels h.0 x.rest q3 x.says in
       let t = y.says in
-      let A = block_reader a d k i ((row_reads a (d + 1) k h.4 g.0 m.2).first h.2) t.1 q2 t.3 in
+      let A = block_reader a d k i ((plan_reads a (d + 1) k h.4 g.0 m.2).first h.2) t.1 q2 t.3 in
       let v = A.says in
-      let B = block_reader b d (k + ma) i ((row_reads b (d + 1) (k + ma) h.5 g.1 m.3).first h.3) v.1 q1 v.3 in
-      let R = (row_reads r d (k + ma + mb) h.6 g.2 m.4).more B.rest q B.says in
+      let B = block_reader b d (k + ma) i ((plan_reads b (d + 1) (k + ma) h.5 g.1 m.3).first h.3) v.1 q1 v.3 in
+      let R = (plan_reads r d (k + ma + mb) h.6 g.2 m.4).more B.rest q B.says in
       let next : next_block B.tree (next_block A.tree k) ≡ k + ma + mb = ap (next_block B.tree) A.is.next ∙ B.is.next in
-      let last : next_more R.tree (next_block B.tree (next_block A.tree k)) ≡ k + ma + mb + mitigates (row_plan r) = ap (next_more R.tree) next ∙ R.is.next in
+      let last : next_more R.tree (next_block B.tree (next_block A.tree k)) ≡ k + ma + mb + mitigates r = ap (next_more R.tree) next ∙ R.is.next in
       record {
         tree = (if_of s.0 x.tree y.tree t.0 A.tree (else_of v.0 B.tree), R.tree);
         rest = R.rest;
@@ -300,61 +297,61 @@ module _ (o : Order) (ds : List Declaration) (label_found : (n : ℕ) → n < o.
             (v.2 ∙ ap (λ z. key_at Else v.0 ∷ z) (B.are ∙ ap (front_block B.tree) R.are))))));
         says = R.says;
         is = record {
-          row = more_of-Command s.0 l (FIf e c A.is.row c' B.is.row) R.is.row;
-          plan = if_same (written sc s.0 y.tree) (record { pos = s.0; labels = l }) _ _ _ _ _ _ _ _ (ap (λ x. record { pos = s.0; labels = x }) y.is.value) x.is.value A.is.plan
+          read = If (record { pos = s.0; labels = wr.labels }) e A.is.read B.is.read R.is.read;
+          plan = if_same (written sc s.0 y.tree) (record { pos = s.0; labels = wr.labels }) _ _ _ _ _ _ _ _ (ap (λ x. record { pos = s.0; labels = x }) y.is.value) x.is.value A.is.plan
               (ap (λ z. plan_block sc z B.tree) A.is.next ∙ B.is.plan) (ap (λ z. plan_more sc z R.tree) next ∙ R.is.plan);
-          same = if_same l l (expression_of e) (expression_of e) _ _ _ _ _ _ refl refl A.is.same B.is.same R.is.same;
-          within = ((within d (expression_of e) x.tree m.0 x.is, A.is.within, B.is.within), R.is.within);
+          same = if_same wr.labels wr.labels e e _ _ _ _ _ _ refl refl A.is.same B.is.same R.is.same;
+          within = ((within d e x.tree m.0 x.is, A.is.within, B.is.within), R.is.within);
           calm = quiet R.is.calm (quiet B.is.calm (quiet A.is.calm (quiet y.is.calm x.is.calm)));
           next = omega (arith, last);
         };
       } in
-      record { first = λ _. f; more = more_reader (more_of-Command p l (FIf e c a c' b) r) d k f }
-  row_reads (more_of-Command p l (FWhile e c a) r) d k h g m =
-      let f : Reader front_list (AreList d k (more_of-Command p l (FWhile e c a) r)) (commands_part o ds d (row_plan (more_of-Command p l (FWhile e c a) r))) =
+      record { first = λ _. f; more = more_reader (If wr e a b r) d k f }
+  plan_reads (While wr e a r) d k h g m =
+      let f : Reader front_list (AreList d k (While wr e a r)) (commands_part o ds d (While wr e a r)) =
       λ ws q s.
-      let q1 : List Chunk = after d (row_plan r) (commands_part o ds d (row_plan r)) q in
-      let q3 : List Chunk = spaced_key Do (in_braces d (commands_part o ds (d + 1) (row_plan a)) q1) in
+      let q1 : List Chunk = after d r (commands_part o ds d r) q in
+      let q3 : List Chunk = spaced_key Do (in_braces d (commands_part o ds (d + 1) a) q1) in
       let i : d + 1 ≤ 100 = omega (arith, m.1) in
-      let ma : ℕ = mitigates (row_plan a) in
-      let x = (reads o.names ds scalar_found array_found (expression_of e) h.1).whole s.1 (marks_part o l q3) s.3 in
-      let y = marks_reader l h.0 x.rest q3 x.says in
+      let ma : ℕ = mitigates a in
+      let x = (reads o.names ds scalar_found array_found e h.1).whole s.1 (marks_part o wr.labels q3) s.3 in
+      let y = marks_reader wr.labels h.0 x.rest q3 x.says in
       let t = y.says in
-      let A = block_reader a d k i ((row_reads a (d + 1) k h.3 g.0 m.2).first h.2) t.1 q1 t.3 in
-      let R = (row_reads r d (k + ma) h.4 g.1 m.3).more A.rest q A.says in
-      let last : next_more R.tree (next_block A.tree k) ≡ k + ma + mitigates (row_plan r) = ap (next_more R.tree) A.is.next ∙ R.is.next in
+      let A = block_reader a d k i ((plan_reads a (d + 1) k h.3 g.0 m.2).first h.2) t.1 q1 t.3 in
+      let R = (plan_reads r d (k + ma) h.4 g.1 m.3).more A.rest q A.says in
+      let last : next_more R.tree (next_block A.tree k) ≡ k + ma + mitigates r = ap (next_more R.tree) A.is.next ∙ R.is.next in
       record {
         tree = (while_of s.0 x.tree y.tree t.0 A.tree, R.tree);
         rest = R.rest;
         are = s.2 ∙ ap (λ z. key_at WhileKey s.0 ∷ z) (x.are ∙ ap (front_whole x.tree) (y.are ∙ ap (front_marks y.tree) (t.2 ∙ ap (λ z. key_at Do t.0 ∷ z) (A.are ∙ ap (front_block A.tree) R.are))));
         says = R.says;
         is = record {
-          row = more_of-Command s.0 l (FWhile e c A.is.row) R.is.row;
-          plan = while_same (written sc s.0 y.tree) (record { pos = s.0; labels = l }) _ _ _ _ _ _ (ap (λ x. record { pos = s.0; labels = x }) y.is.value) x.is.value A.is.plan
+          read = While (record { pos = s.0; labels = wr.labels }) e A.is.read R.is.read;
+          plan = while_same (written sc s.0 y.tree) (record { pos = s.0; labels = wr.labels }) _ _ _ _ _ _ (ap (λ x. record { pos = s.0; labels = x }) y.is.value) x.is.value A.is.plan
               (ap (λ z. plan_more sc z R.tree) A.is.next ∙ R.is.plan);
-          same = while_same l l (expression_of e) (expression_of e) _ _ _ _ refl refl A.is.same R.is.same;
-          within = ((within d (expression_of e) x.tree m.0 x.is, A.is.within), R.is.within);
+          same = while_same wr.labels wr.labels e e _ _ _ _ refl refl A.is.same R.is.same;
+          within = ((within d e x.tree m.0 x.is, A.is.within), R.is.within);
           calm = quiet R.is.calm (quiet A.is.calm (quiet y.is.calm x.is.calm));
           next = omega (arith, last);
         };
       } in
-      record { first = λ _. f; more = more_reader (more_of-Command p l (FWhile e c a) r) d k f }
-  row_reads (more_of-Command p l (FMitigate j e w c a) r) d k h g m =
-      let f : Reader front_list (AreList d k (more_of-Command p l (FMitigate j e w c a) r)) (commands_part o ds d (row_plan (more_of-Command p l (FMitigate j e w c a) r))) =
+      record { first = λ _. f; more = more_reader (While wr e a r) d k f }
+  plan_reads (Mitigate wr j w e a r) d k h g m =
+      let f : Reader front_list (AreList d k (Mitigate wr j w e a r)) (commands_part o ds d (Mitigate wr j w e a r)) =
       λ ws q s.
-      let q1 : List Chunk = after d (row_plan r) (commands_part o ds d (row_plan r)) q in
-      let q2 : List Chunk = space ∷ in_braces d (commands_part o ds (d + 1) (row_plan a)) q1 in
-      let q3 : List Chunk = a_sign RightRound (marks_part o l q2) in
-      let i : d + 1 ≤ 100 = deep_enough d (expression_of e) m.0 in
-      let ma : ℕ = mitigates (row_plan a) in
+      let q1 : List Chunk = after d r (commands_part o ds d r) q in
+      let q2 : List Chunk = space ∷ in_braces d (commands_part o ds (d + 1) a) q1 in
+      let q3 : List Chunk = a_sign RightRound (marks_part o wr.labels q2) in
+      let i : d + 1 ≤ 100 = deep_enough d e m.0 in
+      let ma : ℕ = mitigates a in
       let b = s.3 in
-      let x = (reads o.names ds scalar_found array_found (expression_of e) h.2).whole b.1 (level_part o w q3) b.3 in
+      let x = (reads o.names ds scalar_found array_found e h.2).whole b.1 (level_part o w q3) b.3 in
       let v = level_reader w h.1 x.rest q3 x.says in
       let t = v.says in
-      let y = marks_reader l h.0 t.1 q2 t.3 in
-      let A = block_reader a d (k + 1) i ((row_reads a (d + 1) (k + 1) h.4 g.1 m.1).first h.3) y.rest q1 y.says in
-      let R = (row_reads r d (k + 1 + ma) h.5 g.2 m.2).more A.rest q A.says in
-      let last : next_more R.tree (next_block A.tree (k + 1)) ≡ k + 1 + ma + mitigates (row_plan r) = ap (next_more R.tree) A.is.next ∙ R.is.next in
+      let y = marks_reader wr.labels h.0 t.1 q2 t.3 in
+      let A = block_reader a d (k + 1) i ((plan_reads a (d + 1) (k + 1) h.4 g.1 m.1).first h.3) y.rest q1 y.says in
+      let R = (plan_reads r d (k + 1 + ma) h.5 g.2 m.2).more A.rest q A.says in
+      let last : next_more R.tree (next_block A.tree (k + 1)) ≡ k + 1 + ma + mitigates r = ap (next_more R.tree) A.is.next ∙ R.is.next in
       record {
         tree = (mitigate_of s.0 b.0 x.tree v.tree t.0 y.tree A.tree, R.tree);
         rest = R.rest;
@@ -362,13 +359,13 @@ module _ (o : Order) (ds : List Declaration) (label_found : (n : ℕ) → n < o.
             (t.2 ∙ ap (λ z. sign_at RightRound t.0 ∷ z) (y.are ∙ ap (front_marks y.tree) (A.are ∙ ap (front_block A.tree) R.are))))));
         says = R.says;
         is = record {
-          row = more_of-Command s.0 l (FMitigate j e w c A.is.row) R.is.row;
-          plan = mitigate_same (written sc s.0 y.tree) (record { pos = s.0; labels = l }) _ _ _ _ _ _ _ _ _ _ (ap (λ x. record { pos = s.0; labels = x }) y.is.value) (sym g.0) v.is.value x.is.value A.is.plan
+          read = Mitigate (record { pos = s.0; labels = wr.labels }) j w e A.is.read R.is.read;
+          plan = mitigate_same (written sc s.0 y.tree) (record { pos = s.0; labels = wr.labels }) _ _ _ _ _ _ _ _ _ _ (ap (λ x. record { pos = s.0; labels = x }) y.is.value) (sym g.0) v.is.value x.is.value A.is.plan
               (ap (λ z. plan_more sc z R.tree) A.is.next ∙ R.is.plan);
-          same = mitigate_same l l j j w w (expression_of e) (expression_of e) _ _ _ _ refl refl refl refl A.is.same R.is.same;
-          within = ((within (d + 1) (expression_of e) x.tree m.0 x.is, A.is.within), R.is.within);
+          same = mitigate_same wr.labels wr.labels j j w w e e _ _ _ _ refl refl refl refl A.is.same R.is.same;
+          within = ((within (d + 1) e x.tree m.0 x.is, A.is.within), R.is.within);
           calm = quiet R.is.calm (quiet A.is.calm (quiet y.is.calm (quiet v.is.calm x.is.calm)));
           next = omega (arith, last);
         };
       } in
-      record { first = λ _. f; more = more_reader (more_of-Command p l (FMitigate j e w c a) r) d k f }
+      record { first = λ _. f; more = more_reader (Mitigate wr j w e a r) d k f }

@@ -11,6 +11,8 @@ use Rattle.mit_parser.specs.declared.fault.ParseFault.{ParseFault}
 use Rattle.mit_parser.specs.declared.fault.ParseFault.TheVariants.{Unexpected, TooDeep, TooMany, Unknown, Twice, Lattice, Memory, Size, Misuse}
 use Rattle.mit_parser.specs.Words.{Told}
 use Rattle.mit_parser.specs.Counting.{nothing_yet, count, is_over, counts_after, Fits}
+use Rattle.mit_parser.specs.Tree.{ProgramTree}
+use Rattle.mit_parser.specs.Limits.{CommandsWithin}
 use Rattle.mit_parser.specs.Faults.{header_labels, header_pairs, IsLatticeFault, IsNameFault}
 use Rattle.mit_parser.specs.Spells.{Spells, IsUnexpected, IsTooDeep, IsMisnamed, Refuses}
 use Rattle.parse_laws.specs.Spelled.{IsSpelled}
@@ -18,7 +20,7 @@ use Rattle.parse_laws.proofs.OneProgram.{one_tree}
 use Rattle.parse_laws.proofs.Within.{fits_program}
 
 -- no word among those that fit passes a limit
-none_passes : (before after : List Told) (b : Told) (c : Counts) → Fits c (before ++ b ∷ after) → is_over (count (counts_after c before) b.symbol) ≡ false
+pub none_passes : (before after : List Told) (b : Told) (c : Counts) → Fits c (before ++ b ∷ after) → is_over (count (counts_after c before) b.symbol) ≡ false
 none_passes [] after b c f = f.0
 none_passes (x ∷ before) after b c f = none_passes before after b (count c x.symbol) f.1
 
@@ -29,7 +31,7 @@ no_fault n flows s (Cycle a b) h = s.no_cycle a.number b.number h.1.ordered h.1.
 no_fault n flows s (NoBottom a b) h = s.one_lowest a.number b.number h.2.ordered h.2.within h.2.holds
 no_fault n flows s (NoJoin a b) h = s.joined a.number b.number h.3.ordered h.3.within h.3.holds
 
-no_lattice_fault : (labels : List (List ℕ)) (pairs : List (Label × Label)) → IsSound (length labels) (Chain pairs) → (f : ParseFault) → IsLatticeFault labels pairs f → ⊥
+pub no_lattice_fault : (labels : List (List ℕ)) (pairs : List (Label × Label)) → IsSound (length labels) (Chain pairs) → (f : ParseFault) → IsLatticeFault labels pairs f → ⊥
 no_lattice_fault labels pairs s (Lattice l) h = no_fault (length labels) (Chain pairs) s l h
 no_lattice_fault labels pairs s (Unexpected p) h = h
 no_lattice_fault labels pairs s (TooDeep p) h = h
@@ -40,6 +42,20 @@ no_lattice_fault labels pairs s Memory h = h
 no_lattice_fault labels pairs s (Size p) h = h
 no_lattice_fault labels pairs s (Misuse p) h = h
 
+-- words that a tree spells are not refused for a word
+module _ (words : List Told) (t : ProgramTree) (spells : Spells t words) where
+  pub not_unexpected : (p : Pos) → IsUnexpected words p → ⊥
+  not_unexpected p u =
+      let whole : (u.before ++ u.bad ∷ []) ++ u.after ≡ words = append_assoc u.before (u.bad ∷ []) u.after ∙ sym u.are in
+      u.ends (u.after, t, subst (Spells t) (sym whole) spells)
+
+  pub not_too_deep : CommandsWithin 0 t.commands → (p : Pos) → IsTooDeep words p → ⊥
+  not_too_deep within p d =
+      let fits : Fits nothing_yet (d.before ++ d.deep ∷ d.after) = subst (Fits nothing_yet) d.are (fits_program t words within spells) in
+      let no = none_passes d.before d.after d.deep nothing_yet fits in
+      let yes = d.passes in
+      cc
+
 module _ (words : List Told) (h : IsSpelled words) where
   no_name_fault : (f : ParseFault) → IsNameFault h.tree f → ⊥
   no_name_fault f (inl e) = none-some f (sym h.header ∙ e)
@@ -49,21 +65,9 @@ module _ (words : List Told) (h : IsSpelled words) where
   not_misnamed : (f : ParseFault) → IsMisnamed words f → ⊥
   not_misnamed f m = no_name_fault f (subst (λ t. IsNameFault t f) (one_tree words m.tree h.tree m.spells h.spells) m.first)
 
-  not_unexpected : (p : Pos) → IsUnexpected words p → ⊥
-  not_unexpected p u =
-      let whole : (u.before ++ u.bad ∷ []) ++ u.after ≡ words = append_assoc u.before (u.bad ∷ []) u.after ∙ sym u.are in
-      u.ends (u.after, h.tree, subst (Spells h.tree) (sym whole) h.spells)
-
-  not_too_deep : (p : Pos) → IsTooDeep words p → ⊥
-  not_too_deep p d =
-      let fits : Fits nothing_yet (d.before ++ d.deep ∷ d.after) = subst (Fits nothing_yet) d.are (fits_program h.tree words h.within h.spells) in
-      let no = none_passes d.before d.after d.deep nothing_yet fits in
-      let yes = d.passes in
-      cc
-
   pub not_refused : (f : ParseFault) → Refuses words f → f ≡ Memory
-  not_refused (Unexpected p) r = absurd (not_unexpected p r)
-  not_refused (TooDeep p) r = absurd (not_too_deep p r)
+  not_refused (Unexpected p) r = absurd (not_unexpected words h.tree h.spells p r)
+  not_refused (TooDeep p) r = absurd (not_too_deep words h.tree h.spells h.within p r)
   not_refused (TooMany n) r = absurd (not_misnamed (TooMany n) r)
   not_refused (Unknown p) r = absurd (not_misnamed (Unknown p) r)
   not_refused (Twice p) r = absurd (not_misnamed (Twice p) r)

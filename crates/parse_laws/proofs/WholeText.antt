@@ -1,7 +1,6 @@
 -- The canonical text of a program reads back as the program.
 use Rattle.std.proofs.Common.{◌≡◌, ◌≤◌, ◌<◌, refl, sym, ap, ◌∙◌, subst, ℕ, suc, List, [], ◌∷◌, length, Option, Some, None, arith}
 use Rattle.std.specs.Prelude.{All, ◌↔◌, cond}
-use mathlib.Core.Former.{Count}
 use Rattle.std.proofs.lemmas.Bool.{le-ltb}
 use Rattle.label_lattice.specs.declared.label.Label.{Label}
 use Rattle.label_lattice.specs.Names.{IsName as IsLabelName}
@@ -9,17 +8,13 @@ use Rattle.label_lattice.specs.Lattice.{Flows, IsLattice}
 use Rattle.label_lattice.specs.Order.{Order, IsOrder, lattice_of, name_of}
 use Rattle.label_lattice.specs.Chains.{Chain, IsSound, IsBuilt}
 use Rattle.label_lattice.proofs.Orders.{order_is, join_below}
-use Rattle.mit_syntax.specs.declared.ast.Command.{Command}
-use Rattle.mit_syntax.specs.declared.ast.Form.{Row_of-Command, end_of-Command, more_of-Command, items-the_row-Command}
 use Rattle.mit_syntax.specs.declared.declarations.TheConstants.{MAX_VARIABLES, MAX_ELEMENTS}
 use Rattle.mit_syntax.specs.Lexemes.{IsName}
 use Rattle.mit_syntax.specs.Chunks.{Chunk, line}
 use Rattle.mit_syntax.specs.Declarations.{Declaration, cell_at, find_scalar, find_array, length_in, elements_in}
-use Rattle.mit_syntax.specs.Plan.{row_plan, list_plan, form_plan, row_plan-list}
 use Rattle.mit_syntax.specs.Program.{Syntax, plan_of}
 use Rattle.mit_syntax.specs.Layout.{declarations_part, commands_part, program_chunks, canonical}
-use Rattle.mit_syntax.specs.Valid.{IsBelow, IsShaped, IsScalar, IsDeclaredArray, AreSome, AreKnown, AreNumbered, IsValid}
-use Rattle.mit_syntax.specs.Limits.{AreSmall}
+use Rattle.mit_syntax.specs.Valid.{IsBelow, IsShaped, IsScalar, IsDeclaredArray, IsValid}
 use Rattle.mit_syntax.proofs.Facts.{declared_has, scalar_at, array_at, scalar_name, array_name}
 use Rattle.mit_parser.specs.declared.fault.ParseFault.TheVariants.{TooMany}
 use Rattle.mit_parser.specs.Words.{told}
@@ -27,13 +22,13 @@ use Rattle.mit_parser.specs.Tree.{ProgramTree, commands_of, front_header, front_
 use Rattle.mit_parser.specs.Scope.{find_label, scope, kept}
 use Rattle.mit_parser.specs.Meaning.{plan_commands}
 use Rattle.mit_parser.specs.Faults.{Labelled, header_pairs, Declared, declared_by, many_fault, note_commands}
-use Rattle.parse_laws.specs.ReadBack.{unplaced, ReadsBack}
+use Rattle.parse_laws.specs.ReadBack.{ReadsBack}
 use Rattle.parse_laws.proofs.Looking.{found_at, lexed_name}
 use Rattle.parse_laws.proofs.Apart.{Apart}
 use Rattle.parse_laws.proofs.Parted.{Every, IsLengthSmall, IsWritable, chunks_apart}
-use Rattle.parse_laws.proofs.Saying.{Says, are_said}
+use Rattle.parse_laws.proofs.Saying.{are_said}
 use Rattle.parse_laws.proofs.ReadHeader.{are_new, header_reader, declarations_reader}
-use Rattle.parse_laws.proofs.ReadCommands.{row_reads, front_list}
+use Rattle.parse_laws.proofs.ReadCommands.{plan_reads, front_list}
 
 -- a lattice has no fault
 module _ (o : Order) (ps : List (Label × Label)) (h : IsOrder o) (f : (a b : ℕ) → a < o.size → b < o.size → Flows (lattice_of o) a b ↔ Chain ps a b) where
@@ -66,6 +61,7 @@ module _ (o : Order) (ps : List (Label × Label)) (h : IsOrder o) (f : (a b : �
   built : IsBuilt o.names ps o
   built = record {
     sound = subst (λ n. IsSound n (Chain ps)) (sym h.named) sound;
+    order = h;
     size = sym h.named;
     named = refl;
     flows = λ a b i j. f a b (subst (λ n. a < n) h.named i) (subst (λ n. b < n) h.named j);
@@ -86,18 +82,6 @@ small (Some n) h = omega (arith, h)
 writable : (n : ℕ) (ds : List Declaration) → Every (λ (d : Declaration). IsName d.0 × IsBelow n d.1.label) ds → elements_in ds ≤ MAX_ELEMENTS → Every (IsWritable n) ds
 writable n [] h k = tt
 writable n (d ∷ ds) h k = (record { name = h.0.0; label = h.0.1; length = small d.1.length (omega (arith, k)) }, writable n ds h.1 (omega (arith, k)))
-
--- a list of commands as the rows that a `Vec` in a form has
-record AnyRow (cs : List Command) : Type 0 where
-  pub size : Count
-  pub row : Row_of-Command size
-  pub plan : row_plan row ≡ list_plan cs
-
-row_of : (cs : List Command) → AnyRow cs
-row_of [] = record { size = _; row = end_of-Command; plan = refl }
-row_of (c ∷ cs) =
-    let r = row_of cs in
-    record { size = _; row = more_of-Command c.pos c.labels c.form r.row; plan = ap (form_plan c.form (record { pos = c.pos; labels = c.labels })) r.plan }
 
 not_many : (ds : List Declaration) → length ds ≤ MAX_VARIABLES → many_fault ds ≡ None
 not_many ds h = ap (λ b. cond b (Some (TooMany (length ds))) None) (le-ltb MAX_VARIABLES (length ds) h)
@@ -160,24 +144,19 @@ module _ (s : Syntax) (v : IsValid s) where
   pub reads_back : ReadsBack (canonical s) s
   reads_back =
       let t = are_said (program_chunks s) apart in
-      let any = row_of s.body in
-      let plan : row_plan any.row ≡ plan_of s = any.plan in
-      let back : plan_of s ≡ row_plan any.row = sym plan in
       let some_name : 0 < length o.names = subst (λ n. 0 < n) (sym v.order.named) v.order.some in
       let q1 : List Chunk = commands_part o ds 0 (plan_of s) (line ∷ []) in
       let H = header_reader o label_found some_name v.order.differ ps pairs_below (told (canonical s) t.tokens) (declarations_part o ds q1) t.says in
       let fresh = are_new o.size [] ds v.differ (both (λ (d : Declaration). IsBelow o.size d.1.label) (λ (d : Declaration). IsShaped d.1.label d.1.length) ds labels_below shapes) (omega (arith, v.few.elements)) in
       let D = declarations_reader o label_found [] ds fresh H.rest q1 H.says in
-      let reads = row_reads o ds label_found scalar_found array_found any.row 0 0 (subst (AreKnown o.size ds) back v.known) (subst (AreNumbered 0) back v.numbered) (subst (AreSmall 0) back v.small) in
-      let C = reads.first (subst AreSome back v.some) D.rest (line ∷ []) (subst (λ p. Says D.rest (commands_part o ds 0 p (line ∷ []))) back D.says) in
+      let C = (plan_reads o ds label_found scalar_found array_found (plan_of s) 0 0 v.known v.numbered v.small).first v.some D.rest (line ∷ []) D.says in
       let e = C.says in
       let cs = commands_of C.tree.0 C.tree.1 in
       let tree : ProgramTree = record { header = H.tree; declarations = D.tree; commands = cs } in
-      let listed = row_plan-list C.is.row in
       record {
         tokens = t.tokens;
         are = t.are;
-        program = record { order = o; pairs = ps; declarations = ds; body = items-the_row-Command any.size C.is.row };
+        program = record { order = o; pairs = ps; declarations = ds; plan = C.is.read };
         is = record {
           tree = tree;
           spells = (e.0, H.are ∙ ap (front_header H.tree) (D.are ∙ ap (front_declarations D.tree) (C.are ∙ ap (front_list C.tree) e.1)));
@@ -192,8 +171,8 @@ module _ (s : Syntax) (v : IsValid s) where
                 ∙ ap (λ (x : Declared). note_commands (scope o.names x.list) cs (kept x.fault (many_fault x.list))) D.is
                 ∙ ap (note_commands (scope o.names ds) cs) (not_many ds v.few.count)
                 ∙ C.is.calm None;
-            plan = sym (ap (λ (l : Labelled). plan_commands (scope l.names ds) 0 cs) H.is.labels ∙ C.is.plan ∙ listed);
+            plan = sym (ap (λ (l : Labelled). plan_commands (scope l.names ds) 0 cs) H.is.labels ∙ C.is.plan);
           };
         };
-        same = record { order = refl; pairs = refl; declarations = refl; commands = ap unplaced (sym listed) ∙ C.is.same ∙ ap unplaced plan };
+        same = record { order = refl; pairs = refl; declarations = refl; commands = C.is.same };
       }

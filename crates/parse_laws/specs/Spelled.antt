@@ -1,9 +1,6 @@
 -- Words that spell a program.
-use Rattle.std.specs.Prelude.{◌≡◌, ℕ, ◌<◌, ◌↔◌, None, List, length}
-use Rattle.label_lattice.specs.Lattice.{Flows}
+use Rattle.std.specs.Prelude.{◌≡◌, None, List, length}
 use Rattle.label_lattice.specs.Chains.{Chain, IsSound}
-use Rattle.mit_syntax.specs.Program.{Syntax, plan_of}
-use Rattle.label_lattice.specs.Order.{lattice_of}
 use Rattle.mit_parser.specs.Words.{Told}
 use Rattle.mit_parser.specs.Tree.{ProgramTree}
 use Rattle.mit_parser.specs.Limits.{CommandsWithin}
@@ -18,12 +15,3 @@ pub record IsSpelled (words : List Told) : Type 0 where
   pub header : header_fault tree.header ≡ None
   pub sound : IsSound (length (header_labels tree.header).names) (Chain (header_pairs tree.header))
   pub body : body_fault tree ≡ None
-
--- the same labels, of which the same flow to each other, the same pairs, declarations and commands
-pub record SameProgram (s u : Syntax) : Type 0 where
-  pub size : s.order.size ≡ u.order.size
-  pub names : s.order.names ≡ u.order.names
-  pub flows : (a b : ℕ) → a < s.order.size → b < s.order.size → Flows (lattice_of s.order) a b ↔ Flows (lattice_of u.order) a b
-  pub pairs : s.pairs ≡ u.pairs
-  pub declarations : s.declarations ≡ u.declarations
-  pub plan : plan_of s ≡ plan_of u

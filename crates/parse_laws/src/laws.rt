@@ -1,16 +1,20 @@
 //! Laws of the parser. The functions do nothing at run time: their contracts say what is true.
 
-ghost use Rattle.std.specs.Prelude.{◌≡◌, List};
+ghost use Rattle.std.specs.Prelude.{◌≡◌, ◌≢◌, ℕ, List};
 ghost use Rattle.mit_parser.specs.declared.fault.ParseFault.{ParseFault};
 ghost use Rattle.mit_parser.specs.declared.fault.ParseFault.TheVariants.{Memory};
-ghost use Rattle.mit_parser.specs.Words.{Told};
+ghost use Rattle.mit_parser.specs.Words.{Told, told};
 ghost use Rattle.mit_parser.specs.Tree.{ProgramTree};
 ghost use Rattle.mit_parser.specs.Spells.{Spells, IsProgram, Refuses};
+ghost use Rattle.mit_syntax.specs.declared.token.Token.{Token};
+ghost use Rattle.mit_syntax.specs.declared.fault.TextFault.{TextFault};
+ghost use Rattle.mit_syntax.specs.declared.fault.TextFault.TheVariants as text_fault;
+ghost use Rattle.mit_syntax.specs.Cut.{AreTokens, IsFault};
 ghost use Rattle.mit_syntax.specs.Program.{Syntax};
 ghost use Rattle.mit_syntax.specs.Valid.{IsValid};
 ghost use Rattle.mit_syntax.specs.Layout.{canonical};
-ghost use Rattle.parse_laws.specs.Spelled.{IsSpelled, SameProgram};
-ghost use Rattle.parse_laws.specs.ReadBack.{ReadsBack};
+ghost use Rattle.parse_laws.specs.Spelled.{IsSpelled};
+ghost use Rattle.parse_laws.specs.ReadBack.{ReadsBack, Same};
 
 /// One tree at most spells the words.
 pub fn one_tree()
@@ -28,12 +32,31 @@ pub fn program_is_not_refused()
     ensures { (words : List Told) (s : Syntax) → IsProgram words s → (f : ParseFault) → Refuses words f → f ≡ Memory }
 {}
 
+/// A text has one list of tokens at most; where it has one, no fault of the text is told but want of memory; and
+/// want of memory aside it has one fault at most.
+pub fn one_cut()
+    ensures tokens { (text : List ℕ) (a b : List Token) → AreTokens text a → AreTokens text b → a ≡ b }
+    ensures no_fault { (text : List ℕ) (tokens : List Token) → AreTokens text tokens → (f : TextFault) → IsFault text f → f ≡ text_fault.Memory }
+    ensures fault { (text : List ℕ) (f g : TextFault) → IsFault text f → IsFault text g → f ≢ text_fault.Memory → g ≢ text_fault.Memory → f ≡ g }
+{}
+
+/// Words are refused for one reason at most, want of memory aside.
+pub fn one_refusal()
+    ensures { (words : List Told) (f g : ParseFault) → Refuses words f → Refuses words g → f ≢ Memory → g ≢ Memory → f ≡ g }
+{}
+
 /// Words are one program at most.
 pub fn one_program()
-    ensures { (words : List Told) (s u : Syntax) → IsProgram words s → IsProgram words u → SameProgram s u }
+    ensures { (words : List Told) (s u : Syntax) → IsProgram words s → IsProgram words u → s ≡ u }
 {}
 
 /// The canonical text of a program reads back as the program, but for the positions of its commands.
 pub fn canonical_reads_back()
     ensures { (s : Syntax) → IsValid s → ReadsBack (canonical s) s }
+{}
+
+/// Whatever program the canonical text of a program is, it is that program, but for the positions of its
+/// commands.
+pub fn canonical_is_one_program()
+    ensures { (s : Syntax) → IsValid s → (tokens : List Token) → AreTokens (canonical s) tokens → (u : Syntax) → IsProgram (told (canonical s) tokens) u → Same u s }
 {}

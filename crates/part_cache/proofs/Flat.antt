@@ -10,7 +10,8 @@ use Rattle.std.proofs.lemmas.Bool.{cases_eq, cases_lt, and_from, eq-eqb}
 use Rattle.label_lattice.specs.Order.{lattice_of}
 use Rattle.part_cache.specs.History.{Touched, holds, hits}
 use Rattle.part_cache.specs.Rows.{Rows, IsCache, StandsFor, row_of, age_of, has, found, touched, empty_cache}
-use Rattle.part_cache.proofs.Stands.{age_here, age_elsewhere, StandsFor-touched, StandsFor-empty, some_below_at, has_is, found_is}
+use Rattle.part_cache.proofs.Stands.{age_here, age_elsewhere, StandsFor-touched, some_below_at, has_is, found_is}
+use Rattle.part_cache.proofs.Empty.{row_empty, StandsFor-empty_cache}
 use Rattle.part_cache.proofs.Latest.{length-latest_le}
 use Rattle.part_cache.specs.Ages.{Entry, clock, settled, touch_row, age_among}
 use Rattle.part_cache.specs.Slots.{latest, AgesApart, TagsApart}
@@ -234,18 +235,10 @@ module _ (c : Inside) (m : ℕ) (ages_are : c.ages.items ≡ replicate m 0) wher
   new_value = ap (λ rs. record (rows_view c) { rows = rs }) (map_empty (entries_at c.ways c.tags.items c.ages.items) (c.lattice.size * c.sets) none_at)
 
   pub new_age : (tag label : ℕ) → age_of (rows_view c) tag label ≡ 0
-  new_age tag label = ap (λ v. age_of v tag label) new_value ∙ ap (age_among tag) (none (label * c.sets + tag % c.sets) (cases_lt (label * c.sets + tag % c.sets) (c.lattice.size * c.sets)))
-    where
-      none : (k : ℕ) → ((k < c.lattice.size * c.sets) ⊎ (c.lattice.size * c.sets ≤ k)) → get_or {A = List Entry} (replicate (c.lattice.size * c.sets) []) k [] ≡ []
-      none k (inl lt) = get_or-replicate (c.lattice.size * c.sets) k [] [] lt
-      none k (inr ge) = get_or_past (replicate (c.lattice.size * c.sets) []) k [] (let l = length-replicate {A = List Entry} (c.lattice.size * c.sets) [] in omega arith)
+  new_age tag label = ap (λ v. age_of v tag label) new_value ∙ ap (age_among tag) (row_empty c.lattice c.sets c.ways (label * c.sets + tag % c.sets))
 
   pub new_empty : StandsFor (rows_view c) []
-  new_empty = StandsFor-empty (rows_view c) (λ k. ap (λ v. get_or v.rows k []) new_value ∙ go k (cases_lt k (c.lattice.size * c.sets)))
-    where
-      go : (k : ℕ) → ((k < c.lattice.size * c.sets) ⊎ (c.lattice.size * c.sets ≤ k)) → get_or {A = List Entry} (replicate (c.lattice.size * c.sets) []) k [] ≡ []
-      go k (inl lt) = get_or-replicate (c.lattice.size * c.sets) k [] [] lt
-      go k (inr ge) = get_or_past (replicate (c.lattice.size * c.sets) []) k [] (let l = length-replicate {A = List Entry} (c.lattice.size * c.sets) [] in omega arith)
+  new_empty = subst (λ v. StandsFor v []) (sym new_value) (StandsFor-empty_cache c.lattice c.sets c.ways)
 
   AllZero_at : (xs : List ℕ) (k : ℕ) → AllZero xs → get_or xs k 0 ≡ 0
   AllZero_at [] k h = refl

@@ -8,9 +8,9 @@ use Rattle.std.proofs.lemmas.Nat.{mod_below}
 use Rattle.std.proofs.lemmas.Bool.{cases_eq, cases_lt, cases_Bool, both_ways}
 use Rattle.label_lattice.specs.Lattice.{Flows}
 use Rattle.label_lattice.specs.Order.{Order, lattice_of}
-use Rattle.part_cache.specs.History.{some_below}
+use Rattle.part_cache.specs.History.{Touched, some_below, held}
 use Rattle.part_cache.specs.Ages.{tags_of, touch_row}
-use Rattle.part_cache.specs.Rows.{Rows, row_of, tags_at, IsCache, IsCacheOf, has, found, touched, tag_rows, numbers_of, part_of}
+use Rattle.part_cache.specs.Rows.{Rows, row_of, tags_at, IsCache, IsCacheOf, StandsFor, has, found, touched, tag_rows, numbers_of, part_of}
 use Rattle.part_cache.proofs.Near.{to_front}
 use Rattle.part_cache.proofs.Stands.{tags_here, tags_elsewhere, IsCache-touched, some_below_same}
 
@@ -45,6 +45,14 @@ part_same c d label label' n h =
 module _ (order : Order) (sets ways : ℕ) where
   pub touched_serves : (c : Rows) (tag ew : ℕ) → IsCacheOf order sets ways c → IsCacheOf order sets ways (touched c tag ew)
   touched_serves c tag ew s = record { same_order = s.same_order; same_sets = s.same_sets; same_ways = s.same_ways; cache = IsCache-touched c s.cache tag ew }
+
+  -- each part is what the history says is held
+  pub part_of_held : (c : Rows) (label : ℕ) (h : List Touched) → IsCacheOf order sets ways c → label < order.size → StandsFor c h → part_of label c ≡ numbers_of (map (held sets ways h label) (range_with_len 0 sets))
+  part_of_held c label h s lt stands =
+      ap numbers_of
+      (map_same (tags_at c label) (held sets ways h label) 0 c.sets
+      (λ k below. stands.each label k (subst (λ (o : Order). label < o.size) (sym s.same_order) lt) (omega arith) ∙ ap (λ n. held n c.ways h label k) s.same_sets ∙ ap (λ n. held sets n h label k) s.same_ways)
+      ∙ ap (λ m. map (held sets ways h label) (range_with_len 0 m)) s.same_sets)
 
   -- the parts of other labels stay
   pub part_elsewhere : (c : Rows) (tag ew label : ℕ) → IsCacheOf order sets ways c → (label ≡ ew → ⊥) → part_of label (touched c tag ew) ≡ part_of label c

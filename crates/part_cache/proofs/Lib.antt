@@ -1,6 +1,7 @@
 pub mod Near
 pub mod Stands
 pub mod Laws
+pub mod Empty
 pub mod Latest
 pub mod Written
 pub mod Renumber

@@ -1,12 +1,15 @@
 -- What accesses cost by the history of what was touched.
-use Rattle.std.specs.Prelude.{ℕ, ◌+◌, ◌/◌, Bool, true, false, cond, ◌||◌, List, [], ◌∷◌, ◌++◌}
+use Rattle.std.specs.Prelude.{ℕ, ◌+◌, ◌/◌, Bool, true, false, cond, ◌||◌, List, [], ◌∷◌, ◌++◌, map}
+use Rattle.std.specs.List.{range_with_len}
 use Rattle.label_lattice.specs.Order.{Order}
 use Rattle.env_contract.specs.declared.place.Kind.{Kind}
 use Rattle.env_contract.specs.declared.place.Kind.TheVariants as kind
 use Rattle.env_contract.specs.declared.place.Place.{Place}
 use Rattle.env_contract.specs.declared.place.Place.TheVariants.{Page, Code, Data, Second}
 use Rattle.env_contract.specs.declared.place.Touch.{Touch}
-use Rattle.part_cache.specs.History.{Touched, hits}
+use Rattle.env_contract.specs.Env.{Env}
+use Rattle.part_cache.specs.History.{Touched, hits, held}
+use Rattle.part_cache.specs.Rows.{numbers_of}
 
 -- a touch of a tag in the partition of a label at a place. A history is a list of them, the oldest first
 pub record Placed : Type 0 where
@@ -91,3 +94,25 @@ part2_cost order k address er ew history =
 abbrev pub history_of : List Touch → List Placed
 history_of [] = []
 history_of (t ∷ touches) = record { place = t.place; label = t.label.number; tag = tag_at t.place t.address } ∷ history_of touches
+
+-- what a label's partition at a place holds: of each set the held tags, the latest touched first, as one list of numbers
+abbrev pub held_at : Place → ℕ → List Placed → List ℕ
+held_at p label history = numbers_of (map (held (sets_at p) (ways_at p) (touches_at p history) label) (range_with_len 0 (sets_at p)))
+
+-- The environment of one level of caches in which nothing is kept but the history. It has no second level.
+abbrev pub part_by_history : Order → Env (List Placed)
+part_by_history order =
+    record {
+      cost_of = part_cost order;
+      next_of = λ k address er ew history. part_history k address ew history;
+      part = λ p label history. cond (is_place Second p) [] (held_at p label history);
+    }
+
+-- the environment of two levels in which nothing is kept but the history
+abbrev pub part2_by_history : Order → Env (List Placed)
+part2_by_history order =
+    record {
+      cost_of = part2_cost order;
+      next_of = λ k address er ew history. part2_history k address ew history;
+      part = held_at;
+    }

@@ -17,6 +17,11 @@ module _ {E : Type 0} (structure : Place → Option (E → Rows)) where
   pub record StandsForAll (e : E) (history : List Placed) : Type 0 where
     pub each : (p : Place) → IfSome (structure p) (λ at. StandsFor (at e) (touches_at p history))
 
+  -- it is made for the lattice and stands for the history
+  pub record Keeps (order : Order) (e : E) (history : List Placed) : Type 0 where
+    pub made : IsMadeFor order e
+    pub stands : StandsForAll e history
+
   -- what it holds at a place for a label: nothing where it has no structure
   abbrev pub part_at : Place → ℕ → E → List ℕ
   part_at p label e = option_map_or (λ (at : E → Rows). part_of label (at e)) (structure p) []

@@ -2,6 +2,7 @@
 //! each label.
 #![tactic(auto)]
 
+pub mod laws;
 mod lookup;
 pub mod part;
 pub mod part2;

@@ -1,11 +1,12 @@
 -- A program's variables are those of a memory with a value for each.
 use Rattle.std.proofs.Common.{◌≡◌, ◌≤◌, ℕ, List, [], ◌∷◌, length, subst, refl, sym, ap, arith}
+use Rattle.mit_syntax.specs.declared.ast.Command.{Command}
 use Rattle.mit_syntax.specs.Expression.{Expression, Number, Variable, Binary, Element}
 use Rattle.mit_syntax.specs.Todo.{Done, Skip, Assign, Put, Sleep, If, While, Mitigate, then_todo}
-use Rattle.mit_syntax.specs.Plan.{Plan}
+use Rattle.mit_syntax.specs.Plan.{Plan, list_plan}
 use Rattle.mit_syntax.specs.Declarations.{Declaration, variables, elements_in}
 use Rattle.mit_syntax.specs.Program.{Syntax, plan_of}
-use Rattle.mit_syntax.specs.Valid.{IsValid, AreShaped, IsKnown, AreKnown}
+use Rattle.mit_syntax.specs.Valid.{AreSome, IsValid, AreShaped, IsKnown, AreKnown}
 use Rattle.mit_syntax.proofs.Facts.{scalar_below, array_below, array_some}
 use Rattle.mit_syntax.proofs.Numbers.{first_bound, first_all}
 use Rattle.source_meaning.proofs.Single.{All-one}
@@ -30,15 +31,20 @@ module _ (ds : List Declaration) (shaped : AreShaped ds) (n : ℕ) where
   all_known_in (While w e c p) h = (known_in e h.1, (h.2, all_known_in c h.3), all_known_in p h.4)
   all_known_in (Mitigate w k l e c p) h = ((h.3, all_known_in c h.4), all_known_in p h.5)
 
+-- a program's variables are within
+pub first_in : (s : Syntax) → IsValid s → AreIn (variables s.declarations) (plan_of s)
+first_in s v = all_known_in s.declarations v.arrays s.order.size (plan_of s) v.known
+
 -- a program's list and a memory begin a walk
-pub going_first : (s : Syntax) (k : ℕ) → IsValid s → k ≡ variables s.declarations → IsGoing (s.body ∷ []) k
-going_first s k v e =
+pub going_first : (s : Syntax) (b : List Command) (k : ℕ) → list_plan b ≡ plan_of s → IsValid s → k ≡ variables s.declarations → IsGoing (b ∷ []) k
+going_first s b k same v e =
     let few = first_bound s.declarations (length s.declarations) in
     let all = first_all s.declarations in
     let count : length s.declarations ≤ 1024 = v.few.count in
     let elements : elements_in s.declarations ≤ 2048 = v.few.elements in
     record {
-      frames = All-one (IsFrame k) s.body (v.some, subst (λ n. AreIn n (plan_of s)) (sym e) (all_known_in s.declarations v.arrays s.order.size (plan_of s) v.known));
+      frames = All-one (IsFrame k) b
+          (subst (λ (p : Plan). AreSome p × AreIn k p) (sym same) (v.some, subst (λ n. AreIn n (plan_of s)) (sym e) (first_in s v)));
       few = omega (arith, few, all, count, elements, e);
     }
 

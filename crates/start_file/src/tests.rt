@@ -1,5 +1,5 @@
 use crate::fault::StartFault;
-use crate::starts::read_starts;
+use crate::starts::{MAX_RUNS, read_starts};
 use env_contract::place::{Place, Touch};
 use indexmap::IndexMap;
 use label_lattice::label::Label;
@@ -112,6 +112,39 @@ fn keeps_the_order_of_touches(rt: HostRuntime) -> Result<(), Fail> {
     for start in &starts {
         assert_eq!(rt; start.memory.len(), 0);
         assert_eq!(rt; start.touches.as_slice(), want.as_slice());
+    }
+    Ok(())
+}
+
+static RUN: &str = "[[run]]
+touch = [
+  { place = \"page\", label = \"L\", address = 4294967295 },
+  { place = \"code\", label = \"L\", address = 4294967295 },
+  { place = \"data\", label = \"L\", address = 4294967295 },
+  { place = \"page\", label = \"L\", address = 4294967295 },
+]
+";
+
+// The run, so many times.
+fn repeated(alloc: Global, times: usize) -> Result<String, AllocError> {
+    let mut text = String::new(alloc);
+    for _ in 0..times {
+        text.push_str(RUN)?;
+    }
+    Ok(text)
+}
+
+#[test]
+fn reads_as_many_runs_as_may_be(rt: HostRuntime) -> Result<(), Fail> {
+    let label = Name::read(b"L").expect(&rt, "a name");
+    let program = one_skip(rt.alloc(), label)?.expect(&rt, "a lattice");
+    let text = repeated(rt.alloc(), MAX_RUNS)?;
+    assert!(rt; 1_000_000 < text.len());
+    assert!(rt; text.len() <= 1_048_576);
+    let starts = read_starts(rt.alloc(), text.as_bytes(), &program).expect(&rt, "starts");
+    assert_eq!(rt; starts.len(), MAX_RUNS);
+    for start in &starts {
+        assert_eq!(rt; start.touches.len(), 4);
     }
     Ok(())
 }

@@ -39,12 +39,12 @@ module _ (q : LabelledProgram) where
 
   -- as code reads the parts of a labelled program
   module _ (s s' : Syntax) (o : Order) (l : Labelling) (cs : List Command) (b : Label) (hs : s ≡ q.program) (hs' : s' ≡ q.program) (ho : o ≡ s.order) (hl : l ≡ q.labels)
-      (hc : cs ≡ s'.body) (hb : b.number ≡ o.bottom) where
+      (hc : list_plan cs ≡ plan_of s') (hb : b.number ≡ o.bottom) where
     order_is : o ≡ q.program.order
     order_is = ho ∙ ap (λ (z : Syntax). z.order) hs
 
-    body_is : cs ≡ q.program.body
-    body_is = hc ∙ ap (λ (z : Syntax). z.body) hs'
+    body_is : list_plan cs ≡ plan_of q.program
+    body_is = hc ∙ ap (λ (z : Syntax). plan_of z) hs'
 
     bottom_is : b.number ≡ q.program.order.bottom
     bottom_is = hb ∙ ap (λ (z : Order). z.bottom) order_is
@@ -53,7 +53,7 @@ module _ (q : LabelledProgram) where
     broken_is =
         ap (λ z. broken_of z l (list_plan cs) 0 b.number b.number) order_is
         ∙ ap (λ z. broken_of q.program.order z (list_plan cs) 0 b.number b.number) hl
-        ∙ ap (λ z. broken_of q.program.order q.labels (list_plan z) 0 b.number b.number) body_is
+        ∙ ap (λ z. broken_of q.program.order q.labels z 0 b.number b.number) body_is
         ∙ ap (λ z. broken_of q.program.order q.labels (plan_of q.program) 0 z z) bottom_is
 
     pub walked : (end : ℕ) → IsLattice (lattice_of o) → IsLabelling q.program q.labels → IsValid s' →
@@ -72,5 +72,5 @@ module _ (q : LabelledProgram) where
         (h ∙ ap (λ z. z ++ contexts_of o l (list_plan cs) b) hn
         ∙ ap (λ z. contexts_of z l (list_plan cs) b) order_is
         ∙ ap (λ z. contexts_of q.program.order z (list_plan cs) b) hl
-        ∙ ap (λ z. contexts_of q.program.order q.labels (list_plan z) b) body_is
+        ∙ ap (λ z. contexts_of q.program.order q.labels z b) body_is
         ∙ ap (λ z. contexts (order_of q) (labels_of q) (plan_of q.program) z) bottom_is)

@@ -21,12 +21,12 @@ pub struct Labelled {
 
 impl Model for Labelled {
     ghost use Rattle.timing_types.specs.Labelled.{LabelledProgram};
-    ghost use Rattle.mit_syntax.specs.contracts.ast.Command as command;
+    ghost use Rattle.mit_syntax.specs.PlanCode.{plan_code};
     ghost use Rattle.std.specs.Coded.{codes};
 
     ghost Value = { LabelledProgram };
 
-    ghost coded = { Prim.hlevel (codes, command.the_row.coded) };
+    ghost coded = { Prim.hlevel (codes, plan_code) };
 
     ghost use Rattle.timing_types.specs.Kept.{labelled_of, IsLabelled};
 

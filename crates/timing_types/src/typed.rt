@@ -18,12 +18,12 @@ pub struct Typed {
 
 impl Model for Typed {
     ghost use Rattle.timing_types.specs.Labelled.{TypedProgram};
-    ghost use Rattle.mit_syntax.specs.contracts.ast.Command as command;
+    ghost use Rattle.mit_syntax.specs.PlanCode.{plan_code};
     ghost use Rattle.std.specs.Coded.{codes};
 
     ghost Value = { TypedProgram };
 
-    ghost coded = { Prim.hlevel (codes, command.the_row.coded) };
+    ghost coded = { Prim.hlevel (codes, plan_code) };
 
     ghost use Rattle.timing_types.specs.Kept.{typed_of, IsKeptTyped};
 

@@ -1,4 +1,3 @@
-use crate::rows::{Row, USAGE, first_wrong};
 use mit_tool::words::EnvName::{Flat, Part, Part2};
 use mit_tool::words::{Command, EnvName, WordsFault, read_words};
 use std::alloc::{AllocError, Global};
@@ -313,58 +312,5 @@ fn refuses_words(rt: HostRuntime) -> Result<(), Fail> {
 fn refuses_no_words(rt: HostRuntime) -> Result<(), Fail> {
     let read = read_words(rt.alloc(), &[]);
     assert!(rt; read == Err(WordsFault::Usage));
-    Ok(())
-}
-
-const ASSIGNMENT: &[u8] = b"var l : L; l := 7";
-
-static FAULTY_WORDS: [Row; 6] = [
-    Row {
-        shows: "a budget of 0",
-        words: "run p.mit --env part --budget 0",
-        files: &[("p.mit", ASSIGNMENT)],
-        text: USAGE,
-        status: 4,
-    },
-    Row {
-        shows: "a budget above the greatest",
-        words: "run p.mit --env part --budget 1099511627777",
-        files: &[("p.mit", ASSIGNMENT)],
-        text: USAGE,
-        status: 4,
-    },
-    Row {
-        shows: "no words",
-        words: "",
-        files: &[],
-        text: USAGE,
-        status: 4,
-    },
-    Row {
-        shows: "an observer that is no label",
-        words: "run p.mit --observer X",
-        files: &[("p.mit", ASSIGNMENT)],
-        text: USAGE,
-        status: 4,
-    },
-    Row {
-        shows: "an environment that is not known",
-        words: "run p.mit --env none",
-        files: &[("p.mit", ASSIGNMENT)],
-        text: USAGE,
-        status: 4,
-    },
-    Row {
-        shows: "a program is read before an observer",
-        words: "run p.mit --observer X",
-        files: &[("p.mit", b"skip $")],
-        text: "syntax: bad byte at 1:6\n",
-        status: 2,
-    },
-];
-
-#[test]
-fn rows_of_faulty_words(rt: HostRuntime) -> Result<(), Fail> {
-    assert_eq!(rt; first_wrong(rt.alloc(), &FAULTY_WORDS)?, None);
     Ok(())
 }

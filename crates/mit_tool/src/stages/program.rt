@@ -24,7 +24,7 @@ use tim_base::shelf::{FetchFault, Shelf};
 
 // The stop for a text that has no tokens.
 fn text_stop(fault: TextFault) -> Stop
-    ensures { (content : Option (Option (List ℕ))) (text : List ℕ) → IsTold content text → IsFault text fault → IsStop (ProgramStops ⊥ content) result }
+    ensures { (content : Option (Option (List ℕ))) (text : List ℕ) → IsTold content text → length text ≤ limit → IsFault text fault → IsStop (ProgramStops ⊥ content) result }
 {
     match fault {
         TextFault::Memory => no_memory(),
@@ -37,6 +37,7 @@ fn text_stop(fault: TextFault) -> Stop
 
 // The stop for tokens of a text that are no program.
 fn parse_stop(text: &[u8], tokens: &[Token], fault: ParseFault) -> Stop
+    requires short { length text.now ≤ limit }
     requires tokens { AreTokens text.now tokens.now }
     requires fault { Refuses (told text.now tokens.now) fault }
     ensures { (content : Option (Option (List ℕ))) → IsTold content text.now → IsStop (ProgramStops ⊥ content) result }

@@ -1,8 +1,8 @@
 //! From a file of ready cycles to its runs.
 
-ghost use Rattle.std.specs.Prelude.{◌≡◌, ◌≢◌, ◌≤◌, ℕ, List, Option, Some, IfOk, IfErr, vec_len};
+ghost use Rattle.std.specs.Prelude.{◌≡◌, ◌≢◌, ◌≤◌, ℕ, List, Option, Some, length, IfOk, IfErr, vec_len};
 ghost use Rattle.tim_base.specs.Faults.{Rose};
-ghost use Rattle.tim_base.specs.Told.{IsTold};
+ghost use Rattle.tim_base.specs.Told.{limit, IsTold};
 ghost use Rattle.black_box.specs.declared.fault.ReadyFault.TheVariants as ready;
 ghost use Rattle.black_box.specs.Files.{lists, refusal};
 ghost use Rattle.mit_tool.specs.Ends.{IsStop};
@@ -19,7 +19,7 @@ use tim_base::shelf::{FetchFault, Shelf};
 
 // The stop for bytes that hold no runs.
 fn ready_stop(fault: ReadyFault) -> Stop
-    ensures { (content : Option (Option (List ℕ))) (bytes : List ℕ) → IsTold content bytes → (fault ≢ ready.Memory → refusal bytes ≡ Some fault) → IsStop (ReadyStops ⊥ content) result }
+    ensures { (content : Option (Option (List ℕ))) (bytes : List ℕ) → IsTold content bytes → length bytes ≤ limit → (fault ≢ ready.Memory → refusal bytes ≡ Some fault) → IsStop (ReadyStops ⊥ content) result }
 {
     match fault {
         ReadyFault::Memory => no_memory(),

@@ -22,7 +22,7 @@ use tim_base::shelf::{FetchFault, Shelf};
 
 // The stop for bytes that are no starts.
 fn start_stop(fault: StartFault) -> Stop
-    ensures { (content : Option (Option (List ℕ))) (bytes : List ℕ) (p : Syntax) → IsTold content bytes → (fault ≢ start.Memory → Gives p bytes (Err fault)) → IsStop (StartStops ⊥ content p) result }
+    ensures { (content : Option (Option (List ℕ))) (bytes : List ℕ) (p : Syntax) → IsTold content bytes → length bytes ≤ limit → (fault ≢ start.Memory → Gives p bytes (Err fault)) → IsStop (StartStops ⊥ content p) result }
 {
     match fault {
         StartFault::Memory => no_memory(),

@@ -7,9 +7,8 @@ use Rattle.label_lattice.specs.Order.{Order}
 use Rattle.mit_syntax.specs.Program.{Syntax}
 use Rattle.start_file.specs.declared.start.Start.{Start as Stored}
 use Rattle.start_file.specs.Starts.{seen, IsFor}
-use Rattle.leak_bound.specs.Records.{Each}
 use Rattle.audit_parts.specs.Agreement.{start_of, starts_of, AgreeFor, IsFirstDifference}
-use Rattle.audit_parts.proofs.Agreeing.{starts-from, starts-end, All-seen, Agrees, agree_more, apart_here, all_pairwise, disagrees}
+use Rattle.audit_parts.proofs.Agreeing.{starts-from, starts-end, All-seen, agree_more, apart_here, agree_end, all_pairwise, disagrees}
 use Rattle.audit_parts.specs.declared.what.What.{What}
 use Rattle.audit_parts.proofs.agreement.all_agree.Goals as goal
 
@@ -113,4 +112,4 @@ returns-clause-agree g c =
     let le : length c.args.starts.now ≤ c.loop-i.i = omega arith in
     let end = starts-end g.M.MakeEnv.made p.program.order c.args.starts.now c.loop-i.i le in
     all_pairwise v g.E.MachineEnv.serves p c.args.observer.number one ss
-    (c.loop-i.invariant.agree (subst (Each (Agrees v g.E.MachineEnv.serves p c.args.observer.number one)) (sym end) tt))
+    (agree_end v g.E.MachineEnv.serves p c.args.observer.number one ss (drop c.loop-i.i ss) (c.loop-i.i + 1) end c.loop-i.invariant)

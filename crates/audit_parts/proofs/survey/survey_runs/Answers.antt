@@ -6,13 +6,20 @@ use Rattle.env_contract.specs.Env.{Env}
 use Rattle.start_file.specs.Starts.{seen, IsFor}
 use Rattle.audit_parts.specs.Agreement.{start_of, starts_of}
 use Rattle.audit_parts.proofs.Agreeing.{starts-from, All-seen}
-use Rattle.audit_parts.proofs.Surveying.{refuses, one_surveyed}
+use Rattle.audit_parts.proofs.Surveying.{none_surveyed, refuses, one_surveyed}
 use Rattle.audit_parts.proofs.survey.survey_runs.Goals as goal
 
 -- what is handed on is the fault itself
 same_fault : {T : Type 0} (r : Result T SurveyFault) (e : SurveyFault) (P : SurveyFault → Type 0) → IsErrAnd r (λ x. x ≡ e) → P e → IfErr r P
 same_fault (Ok x) e P h k = tt
 same_fault (Err x) e P h k = subst P (sym h) k
+
+pub loop-i-init : goal.loop-i-init
+loop-i-init g c =
+    let v : Env g.row.E.Denot = record { cost_of = g.E.MachineEnv.cost_of; next_of = g.E.MachineEnv.next_of; part = g.E.MachineEnv.part } in
+    let ss = starts_of g.M.MakeEnv.made c.args.p.now.program.order (map seen c.args.starts.now) in
+    let none = c.in_ok-survey.ensures in
+    none_surveyed v c.args.p.now c.args.request.now.observer.number c.args.request.now.limit c.args.request.now.must_halt ss 1 c.in_ok-survey.survey refl none.0 none.1 none.2 none.3 none.4
 
 pub observe_start-requires-clause-start : goal.observe_start-requires-clause-start
 observe_start-requires-clause-start g c =

@@ -14,13 +14,13 @@ use Rattle.code_lower.proofs.lower.lower.Goals as goal
 
 pub list_extent-extent-requires : goal.list_extent-extent-requires
 list_extent-extent-requires c =
-    let s = ap (λ z. size (list_plan z)) c.body.ensures.body in
+    let s = ap (λ z. size z) c.body.ensures.body in
     let f = size_fits c.program-program.result.now c.body.ensures.valid in
     omega (arith, s, f)
 
 pub overflow_add-count : goal.overflow_add-count
 overflow_add-count c =
-    let s = ap (λ z. size (list_plan z)) c.body.ensures.body in
+    let s = ap (λ z. size z) c.body.ensures.body in
     let f = size_fits c.program-program.result.now c.body.ensures.valid in
     let x = c.list_extent-extent.ensures.size in
     omega (arith, s, f, x)
@@ -28,8 +28,8 @@ overflow_add-count c =
 pub returns-then-count-gt-MAX_INSTRUCTIONS-clause-fault : goal.returns-then-count-gt-MAX_INSTRUCTIONS-clause-fault
 returns-then-count-gt-MAX_INSTRUCTIONS-clause-fault c =
     let p = c.args.p.now.labelled in
-    let s = ap (λ z. size (list_plan z)) c.body.ensures.body in
-    let same = ap (λ z. size (list_plan z.body)) (c.program-program.ensures.program ∙ ap (λ z. z.program) c.labelled-labelled.ensures.labelled) in
+    let s = ap (λ z. size z) c.body.ensures.body in
+    let same = ap (λ z. size z.plan) (c.program-program.ensures.program ∙ ap (λ z. z.program) c.labelled-labelled.ensures.labelled) in
     let x = c.list_extent-extent.ensures.size in
     let l = length_is p in
     let t = c.if-count-gt-MAX_INSTRUCTIONS.true in
@@ -57,13 +57,13 @@ of-requires c =
     let hl = c.labelled-labelled.ensures.labelled in
     let hp = c.program-program.ensures.program ∙ ap (λ z. z.program) hl in
     let ho = c.lattice-order.ensures ∙ ap (λ z. z.order) hp in
-    let hb = c.body.ensures.body ∙ ap (λ z. z.body) hp in
+    let hb = c.body.ensures.body ∙ ap (λ z. z.plan) hp in
     let is =
     emitted_is p c.lattice-order.result c.labels.result.now c.body-2.result.now c.in_ok-code.code.items c.emit_list.new.code.items c.put.new.code.items c.bottom-bottom.result
-    ho (c.labels.ensures ∙ ap (λ z. z.labels) hl) (c.body-2.ensures.body ∙ ap (λ z. z.body) hp) c.bottom-bottom.ensures.value c.in_ok-code.ensures.items c.in_ok-emit_list.ensures.code c.in_ok-put.ensures in
+    ho (c.labels.ensures ∙ ap (λ z. z.labels) hl) (c.body-2.ensures.body ∙ ap (λ z. z.plan) hp) c.bottom-bottom.ensures.value c.in_ok-code.ensures.items c.in_ok-emit_list.ensures.code c.in_ok-put.ensures in
     let hv = c.variables-variables.ensures.value ∙ ap (λ z. variables z.declarations) hp in
     let built = built_is p c.put.new.code.items c.variables-variables.result c.lattice-order.result c.list_extent-extent.result c.body.result.now is hv ho hb c.list_extent-extent.ensures in
-    let s = ap (λ z. size (list_plan z)) hb in
+    let s = ap (λ z. size z) hb in
     let x = c.list_extent-extent.ensures.size in
     let l = length_is p in
     let f = c.if-count-gt-MAX_INSTRUCTIONS.false in
@@ -77,10 +77,10 @@ returns-clause-image c =
     let hl = c.labelled-labelled.ensures.labelled in
     let hp = c.program-program.ensures.program ∙ ap (λ z. z.program) hl in
     let ho = c.lattice-order.ensures ∙ ap (λ z. z.order) hp in
-    let hb = c.body.ensures.body ∙ ap (λ z. z.body) hp in
+    let hb = c.body.ensures.body ∙ ap (λ z. z.plan) hp in
     let is =
     emitted_is p c.lattice-order.result c.labels.result.now c.body-2.result.now c.in_ok-code.code.items c.emit_list.new.code.items c.put.new.code.items c.bottom-bottom.result
-    ho (c.labels.ensures ∙ ap (λ z. z.labels) hl) (c.body-2.ensures.body ∙ ap (λ z. z.body) hp) c.bottom-bottom.ensures.value c.in_ok-code.ensures.items c.in_ok-emit_list.ensures.code c.in_ok-put.ensures in
+    ho (c.labels.ensures ∙ ap (λ z. z.labels) hl) (c.body-2.ensures.body ∙ ap (λ z. z.plan) hp) c.bottom-bottom.ensures.value c.in_ok-code.ensures.items c.in_ok-emit_list.ensures.code c.in_ok-put.ensures in
     let hv = c.variables-variables.ensures.value ∙ ap (λ z. variables z.declarations) hp in
     let built = built_is p c.put.new.code.items c.variables-variables.result c.lattice-order.result c.list_extent-extent.result c.body.result.now is hv ho hb c.list_extent-extent.ensures in
     c.of.ensures ∙ built
@@ -91,10 +91,10 @@ returns-clause-stands c =
     let hl = c.labelled-labelled.ensures.labelled in
     let hp = c.program-program.ensures.program ∙ ap (λ z. z.program) hl in
     let ho = c.lattice-order.ensures ∙ ap (λ z. z.order) hp in
-    let hb = c.body.ensures.body ∙ ap (λ z. z.body) hp in
+    let hb = c.body.ensures.body ∙ ap (λ z. z.plan) hp in
     let is =
     emitted_is p c.lattice-order.result c.labels.result.now c.body-2.result.now c.in_ok-code.code.items c.emit_list.new.code.items c.put.new.code.items c.bottom-bottom.result
-    ho (c.labels.ensures ∙ ap (λ z. z.labels) hl) (c.body-2.ensures.body ∙ ap (λ z. z.body) hp) c.bottom-bottom.ensures.value c.in_ok-code.ensures.items c.in_ok-emit_list.ensures.code c.in_ok-put.ensures in
+    ho (c.labels.ensures ∙ ap (λ z. z.labels) hl) (c.body-2.ensures.body ∙ ap (λ z. z.plan) hp) c.bottom-bottom.ensures.value c.in_ok-code.ensures.items c.in_ok-emit_list.ensures.code c.in_ok-put.ensures in
     let hv = c.variables-variables.ensures.value ∙ ap (λ z. variables z.declarations) hp in
     let built = built_is p c.put.new.code.items c.variables-variables.result c.lattice-order.result c.list_extent-extent.result c.body.result.now is hv ho hb c.list_extent-extent.ensures in
     subst (λ (z : Code). IsImage (order_of p) (labels_of p) z.instrs (bare_of p)) (sym (c.of.ensures ∙ built)) (image_is (order_of p) (labels_of p) (bare_of p))

@@ -1,13 +1,16 @@
-use Rattle.std.proofs.Common.{refl}
+use Rattle.std.proofs.Common.{◌≡◌, ◌⊎◌, inr, refl}
 use Rattle.std.specs.Prelude.{ℕ, List, map, string_bytes}
 use Rattle.tim_base.specs.Faults.{Rose}
-use Rattle.mit_tool.specs.declared.status.Status.TheVariants.{Usage}
+use Rattle.mit_tool.specs.declared.status.Status.TheVariants.{Done, Usage, Memory}
 use Rattle.mit_tool.specs.Texts.{usage_text}
 use Rattle.mit_tool.specs.WordsAsked.{Asked, command_of}
 use Rattle.mit_tool.specs.Ends.{EndsBy, Nothing}
 use Rattle.mit_tool.specs.Answers.{IsAnswer, IsUsage, Before}
 use Rattle.mit_tool.proofs.EndLemmas.{ends_finish, ends_memory}
-use Rattle.mit_tool.proofs.AskedLemmas.{any_some, nothing_before}
+use Rattle.mit_tool.specs.WordsViews.{asked_of}
+use Rattle.mit_tool.specs.Complete.{CanBeDone, NoneRises}
+use Rattle.mit_tool.proofs.AskedLemmas.{any_some, nothing_before, asked_some}
+use Rattle.mit_tool.proofs.CompleteLemmas.{completes}
 use Rattle.mit_tool.proofs.main_call.mitigate_main.Goals as goal
 
 pub returns-in-Err-Usage-clause-usage : goal.returns-in-Err-Usage-clause-usage
@@ -24,3 +27,20 @@ returns-in-Err-Memory-clause-answered g c =
 pub returns-in-Err-Memory-clause-usage : goal.returns-in-Err-Memory-clause-usage
 returns-in-Err-Memory-clause-usage g c =
     λ e. ends_memory (g.W.Sink.taken c.args.out.now) (g.W.Sink.taken c.finish.new.out) Nothing IsUsage c.finish.result refl c.finish.ensures.told c.finish.ensures.prefix
+
+pub returns-in-Ok-clause-complete : goal.returns-in-Ok-clause-complete
+returns-in-Ok-clause-complete g c =
+    let content = g.S.Shelf.content c.args.shelf.now in
+    let rises = λ (name : List ℕ). Rose (g.S.Shelf.faults c.args.shelf.now name) (g.S.Shelf.faults c.obey.new.shelf name) in
+    asked_some (command_of (map string_bytes c.args.words.now)) (asked_of c.in-Ok.command)
+    (λ (a : Asked). CanBeDone content a → NoneRises rises a → (Rose (g.W.Sink.faults c.args.out.now) (g.W.Sink.faults c.obey.new.out) → ⊥) → (c.obey.result ≡ Done) ⊎ (c.obey.result ≡ Memory))
+    c.in-Ok.ensures.asked
+    (completes (g.W.Sink.taken c.args.out.now) (g.W.Sink.taken c.obey.new.out) rises content (asked_of c.in-Ok.command) c.obey.result (Rose (g.W.Sink.faults c.args.out.now) (g.W.Sink.faults c.obey.new.out)) c.obey.ensures.answered c.obey.ensures.write c.in-Ok.ensures.range)
+
+pub returns-in-Err-Memory-clause-complete : goal.returns-in-Err-Memory-clause-complete
+returns-in-Err-Memory-clause-complete g c =
+    let content = g.S.Shelf.content c.args.shelf.now in
+    let rises = λ (name : List ℕ). Rose (g.S.Shelf.faults c.args.shelf.now name) (g.S.Shelf.faults c.args.shelf.now name) in
+    let risen = Rose (g.W.Sink.faults c.args.out.now) (g.W.Sink.faults c.finish.new.out) in
+    any_some (command_of (map string_bytes c.args.words.now)) (λ (a : Asked). CanBeDone content a → NoneRises rises a → (risen → ⊥) → (c.finish.result ≡ Done) ⊎ (c.finish.result ≡ Memory))
+    (λ a can none n. inr (c.finish.ensures.told (λ e. n (c.finish.ensures.fault e))).0)

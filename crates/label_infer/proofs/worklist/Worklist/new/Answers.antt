@@ -24,9 +24,9 @@ returns-clause-work c =
     let k : Known = record { order = o; written = w; small = omega (arith, few, wl) } in
     let low = form_of c.fixed-low.result in
     let hl = c.fixed-low.ensures ∙ ap fixed (c.bottom.ensures.value ∙ ap (λ (z : Order). z.bottom) ho) in
-    let hc = c.in_ok-list_needs.ensures.needs ∙ ap (λ z. needs_in z ++ needs_from k (list_plan c.body.result.now) low low) c.new-conditions.ensures.items ∙ ap (λ z. needs_from k (list_plan z) low low) c.body.ensures.body in
+    let hc = c.in_ok-list_needs.ensures.needs ∙ ap (λ z. needs_in z ++ needs_from k (list_plan c.body.result.now) low low) c.new-conditions.ensures.items ∙ ap (λ z. needs_from k z low low) c.body.ensures.body in
     let hs = c.in_ok-list_levels.ensures ∙ ap (λ z. z ++ first_levels c.bottom-2.result.number (list_plan c.body-2.result.now)) c.new-levels.ensures.items
-    ∙ ap (λ z. first_levels z (list_plan c.body-2.result.now)) (c.bottom-2.ensures.value ∙ ap (λ (z : Order). z.bottom) ho) ∙ ap (λ z. first_levels s.order.bottom (list_plan z)) c.body-2.ensures.body in
+    ∙ ap (λ z. first_levels z (list_plan c.body-2.result.now)) (c.bottom-2.ensures.value ∙ ap (λ (z : Order). z.bottom) ho) ∙ ap (λ z. first_levels s.order.bottom z) c.body-2.ensures.body in
     let cl = c.len.ensures in
     let cok = c.list_needs.new.found.ok.0 in
     let cn : c.len.result ≡ length c.list_needs.new.found.items = omega (arith, cl, cok) in
@@ -45,9 +45,9 @@ returns-clause-steps c =
     let k : Known = record { order = o; written = w; small = omega (arith, few, wl) } in
     let low = form_of c.fixed-low.result in
     let hl = c.fixed-low.ensures ∙ ap fixed (c.bottom.ensures.value ∙ ap (λ (z : Order). z.bottom) ho) in
-    let hc = c.in_ok-list_needs.ensures.needs ∙ ap (λ z. needs_in z ++ needs_from k (list_plan c.body.result.now) low low) c.new-conditions.ensures.items ∙ ap (λ z. needs_from k (list_plan z) low low) c.body.ensures.body in
+    let hc = c.in_ok-list_needs.ensures.needs ∙ ap (λ z. needs_in z ++ needs_from k (list_plan c.body.result.now) low low) c.new-conditions.ensures.items ∙ ap (λ z. needs_from k z low low) c.body.ensures.body in
     let hs = c.in_ok-list_levels.ensures ∙ ap (λ z. z ++ first_levels c.bottom-2.result.number (list_plan c.body-2.result.now)) c.new-levels.ensures.items
-    ∙ ap (λ z. first_levels z (list_plan c.body-2.result.now)) (c.bottom-2.ensures.value ∙ ap (λ (z : Order). z.bottom) ho) ∙ ap (λ z. first_levels s.order.bottom (list_plan z)) c.body-2.ensures.body in
+    ∙ ap (λ z. first_levels z (list_plan c.body-2.result.now)) (c.bottom-2.ensures.value ∙ ap (λ (z : Order). z.bottom) ho) ∙ ap (λ z. first_levels s.order.bottom z) c.body-2.ensures.body in
     let cl = c.len.ensures in
     let cok = c.list_needs.new.found.ok.0 in
     let cn : c.len.result ≡ length c.list_needs.new.found.items = omega (arith, cl, cok) in
@@ -67,9 +67,9 @@ invariant_of-result c =
     let k : Known = record { order = o; written = w; small = omega (arith, few, wl) } in
     let low = form_of c.fixed-low.result in
     let hl = c.fixed-low.ensures ∙ ap fixed (c.bottom.ensures.value ∙ ap (λ (z : Order). z.bottom) ho) in
-    let hc = c.in_ok-list_needs.ensures.needs ∙ ap (λ z. needs_in z ++ needs_from k (list_plan c.body.result.now) low low) c.new-conditions.ensures.items ∙ ap (λ z. needs_from k (list_plan z) low low) c.body.ensures.body in
+    let hc = c.in_ok-list_needs.ensures.needs ∙ ap (λ z. needs_in z ++ needs_from k (list_plan c.body.result.now) low low) c.new-conditions.ensures.items ∙ ap (λ z. needs_from k z low low) c.body.ensures.body in
     let hs = c.in_ok-list_levels.ensures ∙ ap (λ z. z ++ first_levels c.bottom-2.result.number (list_plan c.body-2.result.now)) c.new-levels.ensures.items
-    ∙ ap (λ z. first_levels z (list_plan c.body-2.result.now)) (c.bottom-2.ensures.value ∙ ap (λ (z : Order). z.bottom) ho) ∙ ap (λ z. first_levels s.order.bottom (list_plan z)) c.body-2.ensures.body in
+    ∙ ap (λ z. first_levels z (list_plan c.body-2.result.now)) (c.bottom-2.ensures.value ∙ ap (λ (z : Order). z.bottom) ho) ∙ ap (λ z. first_levels s.order.bottom z) c.body-2.ensures.body in
     let cl = c.len.ensures in
     let cok = c.list_needs.new.found.ok.0 in
     let cn : c.len.result ≡ length c.list_needs.new.found.items = omega (arith, cl, cok) in

@@ -1,0 +1,5 @@
+use Rattle.cut_audit.proofs.Once.{answers_once}
+use Rattle.cut_audit.proofs.laws.one_report.Goals as goal
+
+pub returns : goal.returns
+returns g c = λ p o t ss. answers_once _ _ p o t ss

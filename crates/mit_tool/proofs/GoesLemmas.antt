@@ -1,0 +1,167 @@
+-- Stages that do not stop: what a stage gives, and what excludes each of its stops.
+use Rattle.std.proofs.Common.{◌≡◌, ◌≤◌, ◌<◌, ℕ, List, [], ◌∷◌, All, length, Option, Some, None, Ok, Err, inl, inr, refl, sym, ap, subst, ◌∙◌, arith, codes}
+use Rattle.std.proofs.lemmas.Option.{none-some}
+use Rattle.tim_base.specs.Told.{limit, IsTold, IsTooLong}
+use Rattle.label_lattice.specs.declared.label.Label.{Label}
+use Rattle.label_lattice.specs.Order.{Order, name_of}
+use Rattle.mit_syntax.specs.declared.token.Token.{Token}
+use Rattle.mit_syntax.specs.Cut.{AreTokens, IsFault}
+use Rattle.mit_syntax.specs.Program.{Syntax}
+use Rattle.mit_syntax.proofs.OneFault.{no_tokens}
+use Rattle.mit_syntax.proofs.OneList.{one_list}
+use Rattle.mit_parser.specs.Words.{Told, told}
+use Rattle.mit_parser.specs.Spells.{Refuses}
+use Rattle.parse_laws.proofs.Refused.{not_refused}
+use Rattle.parse_laws.proofs.Meant.{program_spelled}
+use Rattle.start_file.specs.Starts.{StartValue, Gives}
+use Rattle.start_file.proofs.OneAnswer.{one_answer}
+use Rattle.timing_types.specs.Labelled.{LabelledProgram}
+use Rattle.code_lower.specs.Lowered.{lowered}
+use Rattle.black_box.specs.Files.{refusal}
+use Rattle.mit_tool.specs.declared.status.Status.{Status}
+use Rattle.mit_tool.specs.declared.status.Status.TheVariants as status
+use Rattle.mit_tool.specs.Stages.{Then, Reads, HasTextFault, HasParseFault, ProgramStops, Observes, IsUnknown, ObserverStops, TypeStops, ImageStops, StartsAre, HasStartFault, StartStops, FirstStart, FirstStops}
+use Rattle.mit_tool.specs.Audited.{ReadyStops, HasReadyFault}
+use Rattle.mit_tool.specs.Complete.{IsKnown, IsTypable}
+
+-- a stage that does not stop
+pub then_goes : {A : Type 0} (Stops : Status → List ℕ → Type 0) (Gives : A → Type 0) (Next : A → Status → List ℕ → Type 0) (s : Status) (t : List ℕ)
+    → (Stops s t → ⊥) → ((a : A) → Gives a → Next a s t → s ≡ status.Done) → Then Stops Gives Next s t → s ≡ status.Done
+then_goes Stops Gives Next s t f g (inl h) = absurd (f h)
+then_goes Stops Gives Next s t f g (inr h) = g h.0 h.1 h.2
+
+-- ---- files
+
+-- bytes are told
+pub one_told : (c : Option (Option (List ℕ))) (a b : List ℕ) → IsKnown c → IsTold c a → IsTold c b → a ≡ b
+one_told (Some (Some xs)) a b h s t = s ∙ sym t
+one_told (Some None) a b h s t = absurd h
+one_told None a b h s t = absurd h
+
+pub not_long : (c : Option (Option (List ℕ))) (bytes : List ℕ) → IsKnown c → IsTold c bytes → length bytes ≤ limit → IsTooLong c → ⊥
+not_long (Some (Some xs)) bytes h is short l = let same : bytes ≡ xs = is in omega (arith, ap length same, short, l)
+not_long (Some None) bytes h is short l = h
+not_long None bytes h is short l = h
+
+-- ---- a program
+
+no_text_fault : (c : Option (Option (List ℕ))) (p : Syntax) (t : List ℕ) → IsKnown c → Reads c p → HasTextFault c t → ⊥
+no_text_fault c p t known r f =
+    let same : r.bytes ≡ f.bytes = one_told c r.bytes f.bytes known r.are f.are in
+    f.none (no_tokens f.bytes f.fault r.tokens f.is (subst (λ (z : List ℕ). AreTokens z r.tokens) same r.cut))
+
+no_parse_fault : (c : Option (Option (List ℕ))) (p : Syntax) (t : List ℕ) → IsKnown c → Reads c p → HasParseFault c t → ⊥
+no_parse_fault c p t known r f =
+    let same : f.bytes ≡ r.bytes = one_told c f.bytes r.bytes known f.are r.are in
+    let list : f.tokens ≡ r.tokens = one_list r.bytes f.tokens r.tokens (subst (λ (z : List ℕ). AreTokens z f.tokens) same f.cut) r.cut in
+    let words : told f.bytes f.tokens ≡ told r.bytes r.tokens = ap (λ (z : List ℕ). told z f.tokens) same ∙ ap (told r.bytes) list in
+    f.none (not_refused (told r.bytes r.tokens) (program_spelled (told r.bytes r.tokens) p r.spelled) f.fault (subst (λ (w : List Told). Refuses w f.fault) words f.is))
+
+pub program_goes : (R : Type 0) (c : Option (Option (List ℕ))) (p : Syntax) (s : Status) (t : List ℕ) → (R → ⊥) → IsKnown c → Reads c p → ProgramStops R c s t → ⊥
+program_goes R c p status.Done t n known r h = h
+program_goes R c p status.Refused t n known r h = h
+program_goes R c p status.Syntax t n known r (inl h) = no_text_fault c p t known r h
+program_goes R c p status.Syntax t n known r (inr h) = no_parse_fault c p t known r h
+program_goes R c p status.Starts t n known r h = h
+program_goes R c p status.Usage t n known r h = h
+program_goes R c p status.ReadFault t n known r h = n h.0
+program_goes R c p status.WriteFault t n known r h = h
+program_goes R c p status.TooLong t n known r h = not_long c r.bytes known r.are r.short h.0
+program_goes R c p status.Budget t n known r h = h
+program_goes R c p status.Disagree t n known r h = h
+program_goes R c p status.Unfinished t n known r h = h
+program_goes R c p status.Memory t n known r h = h
+
+-- ---- an observer
+
+not_unknown : (o : Order) (w : Option (List ℕ)) (l : Option Label) → Observes o w l → IsUnknown o w → ⊥
+not_unknown o None l h u = u
+not_unknown o (Some w) None h u = h
+not_unknown o (Some w) (Some l) h u = u l.number h.0 h.1
+
+pub observer_goes : (o : Order) (w : Option (List ℕ)) (l : Option Label) (s : Status) (t : List ℕ) → Observes o w l → ObserverStops o w s t → ⊥
+observer_goes o w l status.Done t k h = h
+observer_goes o w l status.Refused t k h = h
+observer_goes o w l status.Syntax t k h = h
+observer_goes o w l status.Starts t k h = h
+observer_goes o w l status.Usage t k h = not_unknown o w l k h.0
+observer_goes o w l status.ReadFault t k h = h
+observer_goes o w l status.WriteFault t k h = h
+observer_goes o w l status.TooLong t k h = h
+observer_goes o w l status.Budget t k h = h
+observer_goes o w l status.Disagree t k h = h
+observer_goes o w l status.Unfinished t k h = h
+observer_goes o w l status.Memory t k h = h
+
+-- ---- labels and an image
+
+pub typing_goes : (p : Syntax) (s : Status) (t : List ℕ) → IsTypable p → TypeStops p s t → ⊥
+typing_goes p status.Done t k h = h
+typing_goes p status.Refused t k h = h.none k.0 k.1 k.2
+typing_goes p status.Syntax t k h = h
+typing_goes p status.Starts t k h = h
+typing_goes p status.Usage t k h = h
+typing_goes p status.ReadFault t k h = h
+typing_goes p status.WriteFault t k h = h
+typing_goes p status.TooLong t k h = h
+typing_goes p status.Budget t k h = h
+typing_goes p status.Disagree t k h = h
+typing_goes p status.Unfinished t k h = h
+typing_goes p status.Memory t k h = h
+
+pub image_goes : (q : LabelledProgram) (s : Status) (t : List ℕ) → length (lowered q).instrs ≤ 200000 → ImageStops q s t → ⊥
+image_goes q status.Done t k h = h
+image_goes q status.Refused t k h = h
+image_goes q status.Syntax t k h = h
+image_goes q status.Starts t k h = h
+image_goes q status.Usage t k h = h
+image_goes q status.ReadFault t k h = h
+image_goes q status.WriteFault t k h = h
+image_goes q status.TooLong t k h = let more = h.0 in omega (arith, more, k)
+image_goes q status.Budget t k h = h
+image_goes q status.Disagree t k h = h
+image_goes q status.Unfinished t k h = h
+image_goes q status.Memory t k h = h
+
+-- ---- starts
+
+no_start_fault : (c : Option (Option (List ℕ))) (p : Syntax) (ss : List StartValue) (t : List ℕ) → IsKnown c → StartsAre c p ss → HasStartFault c p t → ⊥
+no_start_fault c p ss t known r f =
+    let same : f.bytes ≡ r.0 = one_told c f.bytes r.0 known f.are r.1 in
+    let e = one_answer p r.0 (Err f.fault) (Ok ss) (subst (λ (z : List ℕ). Gives p z (Err f.fault)) same f.is) r.3 in
+    absurd (cc e)
+
+pub starts_go : (R : Type 0) (c : Option (Option (List ℕ))) (p : Syntax) (ss : List StartValue) (s : Status) (t : List ℕ) → (R → ⊥) → IsKnown c → StartsAre c p ss → StartStops R c p s t → ⊥
+starts_go R c p ss status.Done t n known r h = h
+starts_go R c p ss status.Refused t n known r h = h
+starts_go R c p ss status.Syntax t n known r h = h
+starts_go R c p ss status.Starts t n known r h = no_start_fault c p ss t known r h
+starts_go R c p ss status.Usage t n known r h = h
+starts_go R c p ss status.ReadFault t n known r h = n h.0
+starts_go R c p ss status.WriteFault t n known r h = h
+starts_go R c p ss status.TooLong t n known r h = not_long c r.0 known r.1 r.2 h.0
+starts_go R c p ss status.Budget t n known r h = h
+starts_go R c p ss status.Disagree t n known r h = h
+starts_go R c p ss status.Unfinished t n known r h = h
+starts_go R c p ss status.Memory t n known r h = h
+
+-- ---- a file of ready cycles
+
+no_ready_fault : (c : Option (Option (List ℕ))) (bytes t : List ℕ) → IsKnown c → IsTold c bytes → refusal bytes ≡ None → HasReadyFault c t → ⊥
+no_ready_fault c bytes t known are none f =
+    let same : f.bytes ≡ bytes = one_told c f.bytes bytes known f.are are in
+    none-some f.fault (sym none ∙ ap refusal (sym same) ∙ f.is)
+
+pub ready_goes : (R : Type 0) (c : Option (Option (List ℕ))) (bytes : List ℕ) (s : Status) (t : List ℕ) → (R → ⊥) → IsKnown c → IsTold c bytes → length bytes ≤ limit → refusal bytes ≡ None → ReadyStops R c s t → ⊥
+ready_goes R c bytes status.Done t n known are short k h = h
+ready_goes R c bytes status.Refused t n known are short k h = h
+ready_goes R c bytes status.Syntax t n known are short k h = h
+ready_goes R c bytes status.Starts t n known are short k h = no_ready_fault c bytes t known are k h
+ready_goes R c bytes status.Usage t n known are short k h = h
+ready_goes R c bytes status.ReadFault t n known are short k h = n h.0
+ready_goes R c bytes status.WriteFault t n known are short k h = h
+ready_goes R c bytes status.TooLong t n known are short k h = not_long c bytes known are short h.0
+ready_goes R c bytes status.Budget t n known are short k h = h
+ready_goes R c bytes status.Disagree t n known are short k h = h
+ready_goes R c bytes status.Unfinished t n known are short k h = h
+ready_goes R c bytes status.Memory t n known are short k h = h

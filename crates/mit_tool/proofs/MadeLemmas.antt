@@ -1,0 +1,97 @@
+-- A made text is read, and one of its labels is L.
+use Rattle.std.proofs.Common.{◌≡◌, ◌≢◌, ◌≤◌, ◌<◌, ℕ, zero, suc, List, [], ◌∷◌, ◌++◌, length, Option, Some, None, inl, inr, refl, sym, ap, subst, ◌∙◌, arith, codes}
+use Rattle.std.specs.Prelude.{slice_index_or}
+use Rattle.tim_base.specs.Told.{limit}
+use Rattle.label_lattice.specs.declared.label.Label.{Label}
+use Rattle.label_lattice.specs.Order.{Order, name_of}
+use Rattle.mit_syntax.specs.declared.token.Token.{Token}
+use Rattle.mit_syntax.specs.Cut.{start, moved, end_at, AreTokens}
+use Rattle.mit_syntax.specs.Program.{Syntax}
+use Rattle.mit_syntax.proofs.OneFault.{no_tokens}
+use Rattle.mit_parser.specs.Words.{Told, told}
+use Rattle.mit_parser.specs.Tree.{Header, no_header, ProgramTree}
+use Rattle.mit_parser.specs.Faults.{header_labels}
+use Rattle.mit_parser.specs.Spells.{Spells, Refuses, Resolves}
+use Rattle.mit_gen.specs.Made.{program_text, starts_text}
+use Rattle.mit_gen.proofs.Sizes.{program_short}
+use Rattle.made_words.specs.Words.{HasWords}
+use Rattle.made_words.specs.MadeWords.{program_chunks, program_words}
+use Rattle.made_words.proofs.Apart.{chunk_words}
+use Rattle.made_words.proofs.Parts.{program_apart}
+use Rattle.made_words.proofs.Texts.{program_bytes}
+use Rattle.made_program.proofs.Onto.{ToldAs, told_as}
+use Rattle.made_program.proofs.Trees.{program_tree, program_spelled}
+use Rattle.made_program.proofs.Wholly.{made_spelled}
+use Rattle.parse_laws.proofs.OneProgram.{one_tree}
+use Rattle.parse_laws.proofs.Refused.{not_refused}
+use Rattle.mit_tool.specs.declared.status.Status.{Status}
+use Rattle.mit_tool.specs.declared.status.Status.TheVariants as status
+use Rattle.mit_tool.specs.Stages.{Reads, HasTextFault, HasParseFault, ProgramStops, Observes, IsUnknown, ObserverStops}
+
+made_words : (size number : ℕ) → HasWords (program_text size number) (program_words size number)
+made_words size number =
+    let P : List ℕ → Type 0 = λ t. HasWords t (program_words size number) in
+    subst P (program_bytes size number) (chunk_words (program_chunks size number) (program_apart size number))
+
+no_text_fault : (size number : ℕ) (t : List ℕ) → HasTextFault (Some (Some (program_text size number))) t → ⊥
+no_text_fault size number t f =
+    let w : HasWords (program_text size number) (program_words size number) = made_words size number in
+    f.none (no_tokens f.bytes f.fault (w.tokens ++ end_at (moved start (program_text size number)) ∷ []) f.is
+    (subst (λ (z : List ℕ). AreTokens z (w.tokens ++ end_at (moved start (program_text size number)) ∷ [])) (sym f.are) w.are))
+
+no_parse_fault : (size number : ℕ) (t : List ℕ) → 0 < size → HasParseFault (Some (Some (program_text size number))) t → ⊥
+no_parse_fault size number t some f =
+    let cut : AreTokens (program_text size number) f.tokens = subst (λ (z : List ℕ). AreTokens z f.tokens) f.are f.cut in
+    let is : Refuses (told (program_text size number) f.tokens) f.fault = subst (λ (z : List ℕ). Refuses (told z f.tokens) f.fault) f.are f.is in
+    f.none (not_refused (told (program_text size number) f.tokens) (made_spelled size number some (made_words size number) f.tokens cut) f.fault is)
+
+pub made_goes : (size number : ℕ) (s : Status) (t : List ℕ) → 0 < size → size ≤ 10000 → ProgramStops ⊥ (Some (Some (program_text size number))) s t → ⊥
+made_goes size number status.Done t some few h = h
+made_goes size number status.Refused t some few h = h
+made_goes size number status.Syntax t some few (inl h) = no_text_fault size number t h
+made_goes size number status.Syntax t some few (inr h) = no_parse_fault size number t some h
+made_goes size number status.Starts t some few h = h
+made_goes size number status.Usage t some few h = h
+made_goes size number status.ReadFault t some few h = h.0
+made_goes size number status.WriteFault t some few h = h
+made_goes size number status.TooLong t some few h = let long = h.0 in let short = program_short size number few in omega (arith, long, short)
+made_goes size number status.Budget t some few h = h
+made_goes size number status.Disagree t some few h = h
+made_goes size number status.Unfinished t some few h = h
+made_goes size number status.Memory t some few h = h
+
+-- ---- its labels
+
+made_header : (size number : ℕ) (tokens : List Token) (tree : ProgramTree) → 0 < size → AreTokens (program_text size number) tokens → Spells tree (told (program_text size number) tokens) → tree.header ≡ no_header
+made_header zero number tokens tree some a s = absurd (omega (arith, some))
+made_header (suc n) number tokens tree some a s =
+    let words : List Told = told (program_text (suc n) number) tokens in
+    let h : ToldAs words (program_words (suc n) number) = told_as (program_text (suc n) number) (program_words (suc n) number) (made_words (suc n) number) tokens a in
+    let spells : Spells (program_tree number n h.positions) words = (h.last, h.are ∙ program_spelled number n h.positions _) in
+    ap (λ (x : ProgramTree). x.header) (one_tree words tree (program_tree number n h.positions) s spells)
+
+first_is_low : (head : Header) (o : Order) → head ≡ no_header → o.size ≡ length (header_labels head).names → o.names ≡ (header_labels head).names → (0 < o.size) × (name_of o 0 ≡ codes "L")
+first_is_low head o is size named =
+    let two : o.size ≡ 2 = size ∙ ap (λ (x : Header). length (header_labels x).names) is in
+    let names : o.names ≡ (76 ∷ []) ∷ (72 ∷ []) ∷ [] = named ∙ ap (λ (x : Header). (header_labels x).names) is in
+    (omega (arith, two), ap (λ (x : List (List ℕ)). slice_index_or x 0 []) names)
+
+made_low : (size number : ℕ) (p : Syntax) → 0 < size → Reads (Some (Some (program_text size number))) p → (0 < p.order.size) × (name_of p.order 0 ≡ codes "L")
+made_low size number p some r =
+    let cut : AreTokens (program_text size number) r.tokens = subst (λ (z : List ℕ). AreTokens z r.tokens) r.are r.cut in
+    let spells : Spells r.spelled.tree (told (program_text size number) r.tokens) = subst (λ (z : List ℕ). Spells r.spelled.tree (told z r.tokens)) r.are r.spelled.spells in
+    first_is_low r.spelled.tree.header p.order (made_header size number r.tokens r.spelled.tree some cut spells) r.spelled.resolves.order.size r.spelled.resolves.order.named
+
+pub made_observer_goes : (size number : ℕ) (p : Syntax) (s : Status) (t : List ℕ) → 0 < size → Reads (Some (Some (program_text size number))) p → ObserverStops p.order (Some (codes "L")) s t → ⊥
+made_observer_goes size number p status.Done t some r h = h
+made_observer_goes size number p status.Refused t some r h = h
+made_observer_goes size number p status.Syntax t some r h = h
+made_observer_goes size number p status.Starts t some r h = h
+made_observer_goes size number p status.Usage t some r h = let k = made_low size number p some r in h.0 0 k.0 k.1
+made_observer_goes size number p status.ReadFault t some r h = h
+made_observer_goes size number p status.WriteFault t some r h = h
+made_observer_goes size number p status.TooLong t some r h = h
+made_observer_goes size number p status.Budget t some r h = h
+made_observer_goes size number p status.Disagree t some r h = h
+made_observer_goes size number p status.Unfinished t some r h = h
+made_observer_goes size number p status.Memory t some r h = h

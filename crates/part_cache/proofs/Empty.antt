@@ -1,0 +1,36 @@
+-- The cache that holds nothing.
+use Rattle.std.proofs.Common.{◌≡◌, ℕ, ◌*◌, ◌<◌, ◌≤◌, List, [], length, get_or, refl, ap, ◌⊎◌, inl, inr, arith}
+use Rattle.std.specs.Prelude.{replicate}
+use Rattle.std.proofs.lemmas.List.{get_or_past, length-replicate, get_or-replicate}
+use Rattle.std.proofs.lemmas.Bool.{cases_lt}
+use Rattle.label_lattice.specs.Order.{Order}
+use Rattle.part_cache.specs.Ages.{Entry}
+use Rattle.part_cache.specs.Rows.{IsCacheOf, StandsFor, empty_cache}
+use Rattle.part_cache.proofs.Stands.{StandsFor-empty}
+
+-- each of its rows is empty
+pub row_empty : (order : Order) (sets ways k : ℕ) → get_or (empty_cache order sets ways).rows k [] ≡ []
+row_empty order sets ways k = go (cases_lt k (order.size * sets))
+  where
+    go : ((k < order.size * sets) ⊎ (order.size * sets ≤ k)) → get_or {A = List Entry} (replicate (order.size * sets) []) k [] ≡ []
+    go (inl lt) = get_or-replicate (order.size * sets) k [] [] lt
+    go (inr ge) = get_or_past (replicate (order.size * sets) []) k [] (let l = length-replicate {A = List Entry} (order.size * sets) [] in omega arith)
+
+pub IsCacheOf-empty : (order : Order) (sets ways : ℕ) → 0 < sets → 0 < ways → IsCacheOf order sets ways (empty_cache order sets ways)
+IsCacheOf-empty order sets ways s w =
+    record {
+      same_order = refl;
+      same_sets = refl;
+      same_ways = refl;
+      cache =
+          record {
+            some_set = s;
+            some_way = w;
+            each_set = length-replicate (order.size * sets) [];
+            few = λ k. let e : length (get_or (empty_cache order sets ways).rows k []) ≡ 0 = ap length (row_empty order sets ways k) in omega (arith, e);
+          };
+    }
+
+-- it stands for the empty history
+pub StandsFor-empty_cache : (order : Order) (sets ways : ℕ) → StandsFor (empty_cache order sets ways) []
+StandsFor-empty_cache order sets ways = StandsFor-empty (empty_cache order sets ways) (row_empty order sets ways)
