@@ -165,3 +165,12 @@ ready_goes R c bytes status.Budget t n known are short k h = h
 ready_goes R c bytes status.Disagree t n known are short k h = h
 ready_goes R c bytes status.Unfinished t n known are short k h = h
 ready_goes R c bytes status.Memory t n known are short k h = h
+
+-- ---- a first start of files that are read later
+
+pub first_at : (content content' : List ℕ → Option (Option (List ℕ))) (starts : Option (List ℕ)) (p p' : Syntax) (start : StartValue) → ((name : List ℕ) → content name ≡ content' name) → p ≡ p'
+    → FirstStart content starts p start → FirstStart content' starts p' start
+first_at content content' None p p' start same is h = subst (λ (z : Syntax). FirstStart content' None z start) is h
+first_at content content' (Some name) p p' start same is h =
+    let at : StartsAre (content' name) p (start ∷ h.0) = subst (λ (c : Option (Option (List ℕ))). StartsAre c p (start ∷ h.0)) (same name) h.1 in
+    (h.0, subst (λ (z : Syntax). StartsAre (content' name) z (start ∷ h.0)) is at)

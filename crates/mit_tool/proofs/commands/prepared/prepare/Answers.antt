@@ -1,4 +1,4 @@
-use Rattle.std.proofs.Common.{ap, ◌∙◌}
+use Rattle.std.proofs.Common.{ap, ◌∙◌, arith}
 use Rattle.std.specs.Prelude.{ℕ, List, map}
 use Rattle.tim_base.specs.Faults.{Rose}
 use Rattle.start_file.specs.Starts.{seen}
@@ -41,3 +41,9 @@ returns-in-Err-all_starts-clause-stop g c =
     c.in-Ok.compiled.typed.labelled c.in-Ok.compiled.observer c.in-Ok.compiled.image c.program.result.now c.in-Err-all_starts.stop
     (rose_since _ _ _ (c.compile.ensures.later c.args.starts.now)) (c.compile.ensures.same c.args.starts.now)
     (c.program.ensures.program ∙ ap (λ l. l.program) c.labelled.ensures.labelled) c.in-Ok.ensures.ok c.in-Err-all_starts.ensures.stop
+
+pub returns-in-Ok-all_starts-clause-same : goal.returns-in-Ok-all_starts-clause-same
+returns-in-Ok-all_starts-clause-same g c = λ name. c.all_starts.ensures.same name ∙ c.compile.ensures.same name
+
+pub returns-in-Ok-all_starts-clause-later : goal.returns-in-Ok-all_starts-clause-later
+returns-in-Ok-all_starts-clause-later g c = λ name. omega (arith, c.compile.ensures.later name, c.all_starts.ensures.later name)

@@ -1,6 +1,8 @@
 use Rattle.std.proofs.Common.{ap, ◌∙◌}
 use Rattle.std.specs.Prelude.{ℕ, List, option_map}
 use Rattle.tim_base.specs.Faults.{Rose}
+use Rattle.start_file.specs.Starts.{seen}
+use Rattle.mit_tool.proofs.GoesLemmas.{first_at}
 use Rattle.mit_tool.proofs.StopLemmas.{compile_stops, later_first_stops, rose_before}
 use Rattle.mit_tool.proofs.commands.run.ready.Goals as goal
 
@@ -18,3 +20,13 @@ returns-in-Err-first_start-clause-stop g c =
     (g.S.Shelf.content c.compile.new.shelf) (g.S.Shelf.content c.args.shelf.now) c.args.file.now (option_map (λ s. s.now) c.args.starts) (option_map (λ s. s.now) c.args.name)
     q c.in-Ok.compiled.observer c.in-Ok.compiled.image c.program.result.now c.in-Err-first_start.stop
     (λ name. rose_before _ _ _ (c.compile.ensures.later name)) c.compile.ensures.same is c.in-Ok.ensures.ok c.in-Err-first_start.ensures.stop
+
+pub returns-in-Ok-first_start-clause-same : goal.returns-in-Ok-first_start-clause-same
+returns-in-Ok-first_start-clause-same g c = λ name. c.first_start.ensures.same name ∙ c.compile.ensures.same name
+
+pub returns-in-Ok-first_start-clause-ok : goal.returns-in-Ok-first_start-clause-ok
+returns-in-Ok-first_start-clause-ok g c = record {
+  compiled = c.in-Ok.ensures.ok;
+  first = first_at (g.S.Shelf.content c.compile.new.shelf) (g.S.Shelf.content c.args.shelf.now) (option_map (λ s. s.now) c.args.starts) c.program.result.now c.in-Ok.compiled.typed.labelled.program (seen c.in-Ok-first_start.start)
+      c.compile.ensures.same (c.program.ensures.program ∙ ap (λ l. l.program) c.labelled.ensures.labelled) c.in-Ok-first_start.ensures.ok;
+}
