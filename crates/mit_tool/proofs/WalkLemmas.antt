@@ -16,11 +16,10 @@ use Rattle.source_meaning.specs.declared.walk.Walk.{Walk}
 use Rattle.source_meaning.specs.declared.walk.Walk.TheVariants.{Assigned as DidAssign, Began, Silent, Ended}
 use Rattle.source_meaning.specs.Source.{Note, Assigned, Started, Source, source_act, source_step, source_steps, source_start, assigned_in, notes_of, HasEnded}
 use Rattle.source_meaning.specs.InRange.{AreIn}
-use Rattle.source_meaning.specs.Frames.{todo_of, IsFrame}
+use Rattle.source_meaning.specs.Frames.{todo_of}
 use Rattle.source_meaning.specs.Walked.{Standing, told_by, source_at, IsStep}
 use Rattle.source_meaning.proofs.GoOn.{go_on}
 use Rattle.source_meaning.proofs.Told.{done_stays}
-use Rattle.source_meaning.proofs.Places.{All-last}
 use Rattle.source_meaning.proofs.Begins.{first_in}
 use Rattle.mit_tool.proofs.EndLemmas.{prefix_after}
 use Rattle.mit_tool.specs.Means.{value_line, value_lines, lines_after, IsLastLine, ended_line, not_ended_line, text_of_walk, IsWalkBelow, WritesSome, BreaksOff}
