@@ -1,0 +1,2 @@
+mod Document
+mod Given
