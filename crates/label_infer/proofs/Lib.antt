@@ -13,6 +13,7 @@ pub mod Taking
 pub mod Right
 pub mod Bound
 pub mod Waking
+pub mod Holding
 pub mod Took
 pub mod Levels
 pub mod Starting

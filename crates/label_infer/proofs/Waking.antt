@@ -1,10 +1,7 @@
--- The loops of a step.
-use Rattle.std.proofs.Common.{◌≡◌, ℕ, zero, suc, ◌+◌, ◌<◌, refl, sym, ap, ◌∙◌, List, [], ◌∷◌, length, arith}
-use Rattle.std.specs.Prelude.{Bool, true, false, cond, ◌||◌, Some, slice_get}
-use Rattle.std.proofs.lemmas.Bool.{cond-true, cond-false}
-use Rattle.label_lattice.specs.Lattice.{Lattice}
+-- The loop of waking.
+use Rattle.std.proofs.Common.{◌≡◌, ℕ, zero, suc, ◌<◌, refl, sym, ap, ◌∙◌, List, [], ◌∷◌, length, arith}
+use Rattle.std.specs.Prelude.{Bool, ◌||◌, Some, slice_get}
 use Rattle.label_infer.specs.declared.needs.Condition.{Condition}
-use Rattle.label_infer.specs.Forms.{value_from}
 use Rattle.label_infer.specs.Known.{need_of}
 use Rattle.label_infer.specs.Work.{waits_at, woken}
 use Rattle.label_infer.proofs.Taking.{woken_length, woken_at}
@@ -30,13 +27,3 @@ all_woken x cs ws ws' fit len f =
     let lk : k < length cs = omega (arith, l, len, fit) in
     let c = some_at cs k lk in
     f k c.0 lk c.1 ∙ sym (woken_at x cs ws k c.0 c.1 (omega (arith, l, len))))
-
-value_more : (lat : Lattice) (g : ℕ → ℕ) (b : ℕ) (has : ℕ → Bool) (x y : ℕ) → y ≡ suc x → value_from lat g b has y ≡ cond (has x) (lat.join (value_from lat g b has x) (g x)) (value_from lat g b has x)
-value_more lat g b has x y e = ap (value_from lat g b has) e
-
-pub value_joins : (lat : Lattice) (g : ℕ → ℕ) (b : ℕ) (has : ℕ → Bool) (x h h' u : ℕ) → has x ≡ true → h ≡ value_from lat g b has x → u ≡ g x → h' ≡ lat.join h u → h' ≡ value_from lat g b has (x + 1)
-value_joins lat g b has x h h' u t e q j =
-    j ∙ ap (λ z. lat.join z u) e ∙ ap (lat.join (value_from lat g b has x)) q ∙ sym (value_more lat g b has x (x + 1) (omega arith) ∙ cond-true (has x) _ _ t)
-
-pub value_keeps : (lat : Lattice) (g : ℕ → ℕ) (b : ℕ) (has : ℕ → Bool) (x h : ℕ) → has x ≡ false → h ≡ value_from lat g b has x → h ≡ value_from lat g b has (x + 1)
-value_keeps lat g b has x h t e = e ∙ sym (value_more lat g b has x (x + 1) (omega arith) ∙ cond-false (has x) _ _ t)

@@ -8,7 +8,7 @@ use Rattle.label_infer.specs.Work.{Work}
 
 abbrev pub work_of : Inside → Work
 work_of w =
-    record { order = w.order; conditions = w.conditions.items; waits = w.waits.items; variables = w.variables.items; levels = w.levels.items }
+    record { order = w.order; conditions = w.conditions.items; waits = w.waits.items; variables = w.variables; levels = w.levels.items }
 
 -- the right side is the label of a variable or a mitigate that is there
 abbrev pub IsThere : ℕ → ℕ → Target → Type 0
@@ -18,5 +18,5 @@ IsThere n m (Level k) = k < m
 pub record IsKeptWork (w : Inside) : Type 0 where
   pub fit : length w.waits.items ≡ length w.conditions.items
   pub cursor : w.cursor ≤ length w.waits.items
-  pub small : length w.variables.items ≤ 3072
-  pub targets : (i : ℕ) (c : Condition) → slice_get w.conditions.items i ≡ Some c → IsThere (length w.variables.items) (length w.levels.items) c.target
+  pub small : length w.variables ≤ 3072
+  pub targets : (i : ℕ) (c : Condition) → slice_get w.conditions.items i ≡ Some c → IsThere (length w.variables) (length w.levels.items) c.target

@@ -5,5 +5,6 @@ pub mod Forms
 pub mod FormOf
 pub mod Known
 pub mod Work
+pub mod Holders
 pub mod Holds
 pub mod First

@@ -8,6 +8,7 @@ ghost use Rattle.label_infer.specs.First.{first_of, first_levels};
 
 use crate::known::Known;
 use crate::row::MAX_NUMBERS;
+use crate::variables::Variables;
 use label_lattice::label::Label;
 use mit_syntax::ast::{Command, Form};
 use mit_syntax::program::Program;
@@ -37,10 +38,10 @@ fn first_label(written: Option<Label>, bottom: Label) -> Label
 }
 
 /// The written label of each variable, or bottom.
-pub(crate) fn first_variables(alloc: Global, k: &Known) -> Result<Vec<Label>, AllocError>
-    ensures { IfOk result (λ v. v.items ≡ map (first_of k.now.order.bottom) k.now.written.items) }
+pub(crate) fn first_variables(alloc: Global, k: &Known) -> Result<Variables, AllocError>
+    ensures { IfOk result (λ v. v ≡ map (first_of k.now.order.bottom) k.now.written.items) }
 {
-    let mut found = Vec::new(alloc);
+    let mut found = Variables::new(alloc)?;
     for written in &k.written {
         found.push(first_label(*written, k.order.bottom()))?;
     }

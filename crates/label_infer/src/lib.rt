@@ -14,5 +14,6 @@ mod row;
 pub mod steps;
 #[cfg(test)]
 mod tests;
+mod variables;
 mod waiting;
 pub mod worklist;

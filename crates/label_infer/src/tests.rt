@@ -14,6 +14,7 @@ use crate::infer::{infer, infer_counted};
 use crate::known::Known;
 use crate::needs::{Condition, list_needs};
 use crate::steps::Steps;
+use crate::variables::Variables;
 use crate::waiting::value;
 use crate::worklist::Worklist;
 use indexmap::IndexMap;
@@ -159,7 +160,10 @@ fn conditions_have_one_three_and_three_variables(rt: HostRuntime) -> Result<(), 
         assert_eq!(rt; variables_of(first), [false, true, false]);
         assert_eq!(rt; variables_of(second), [true, true, true]);
         assert_eq!(rt; variables_of(third), [true, true, true]);
-        let low = [LOW, LOW, LOW, HIGH];
+        let mut low = Variables::new(rt.alloc())?;
+        for label in [LOW, LOW, LOW, HIGH] {
+            low.push(label)?;
+        }
         assert_eq!(rt; value(&first.have, &low, &order), LOW);
         assert_eq!(rt; value(&third.have, &low, &order), HIGH);
     } else {

@@ -10,6 +10,7 @@ ghost use Rattle.label_infer.specs.Work.{waits_at, woken, joined};
 use crate::form::Form;
 use crate::needs::Condition;
 use crate::row::MAX_NUMBERS;
+use crate::variables::Variables;
 use label_lattice::label::Label;
 use label_lattice::lattice::Lattice;
 use std::alloc::{AllocError, Global};
@@ -48,17 +49,11 @@ pub(crate) fn next_waiting(waits: &[bool], cursor: usize) -> Option<usize>
 }
 
 /// The value of a left side.
-pub(crate) fn value(form: &Form, variables: &[Label], order: &Lattice) -> Label
+pub(crate) fn value(form: &Form, variables: &Variables, order: &Lattice) -> Label
     requires { length variables.now ≤ MAX_NUMBERS }
     ensures { result.number ≡ value (lattice_of order.now) (length variables.now) (label_at order.now.bottom variables.now) (form_of form.now) }
 {
-    let mut have = form.base;
-    for x in 0..variables.len() {
-        if form.row.has(x as u32) {
-            have = order.join(have, variables[x]);
-        }
-    }
-    have
+    variables.value(form, order)
 }
 
 /// Lets each condition wait that has a variable in its left side.
@@ -98,7 +93,7 @@ pub(crate) fn raise(
     order: &Lattice,
     conditions: &[Condition],
     waits: &mut [bool],
-    variables: &mut [Label],
+    variables: &mut Variables,
 )
     requires fit { length waits.old ≡ length conditions.now }
     requires small { length variables.old ≤ MAX_NUMBERS }
@@ -106,9 +101,9 @@ pub(crate) fn raise(
     ensures waits { waits.new ≡ cond ((lattice_of order.now).flows have.number (label_at order.now.bottom variables.old x)) waits.old (woken x conditions.now waits.old) }
     ensures variables { variables.new ≡ cond ((lattice_of order.now).flows have.number (label_at order.now.bottom variables.old x)) variables.old (joined (lattice_of order.now) order.now.bottom variables.old x have.number) }
 {
-    let place = x as usize;
-    if !order.flows(have, variables[place]) {
-        lift(place, have, order, variables);
+    let so_far = variables.label(x);
+    if !order.flows(have, so_far) {
+        variables.set(x, order.join(so_far, have));
         wake(x, conditions, waits);
     }
 }

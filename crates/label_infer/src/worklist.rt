@@ -11,6 +11,7 @@ use crate::form::fixed;
 use crate::known::Known;
 use crate::needs::{Condition, Target, list_needs};
 use crate::steps::Steps;
+use crate::variables::Variables;
 use crate::waiting::{all_wait, condition_at, lift, next_waiting, raise, value};
 use label_lattice::label::Label;
 use label_lattice::lattice::Lattice;
@@ -29,7 +30,7 @@ pub struct Worklist {
     waits: Vec<bool>,
     /// Where the condition stands that was taken up last.
     cursor: usize,
-    variables: Vec<Label>,
+    variables: Variables,
     levels: Vec<Label>,
 }
 
@@ -127,7 +128,7 @@ impl Worklist {
         requires { x < length self.now.variables }
         ensures { result.number ≡ variable_in self.now x }
     {
-        self.variables[x as usize]
+        self.variables.label(x)
     }
 
     /// The level so far of a mitigate, whose mark is below the program's number of mitigates: the written one
@@ -144,6 +145,6 @@ impl Worklist {
         ensures variables { result.0.items ≡ self.variables }
         ensures levels { result.1.items ≡ self.levels }
     {
-        (self.variables, self.levels)
+        (self.variables.into_labels(), self.levels)
     }
 }

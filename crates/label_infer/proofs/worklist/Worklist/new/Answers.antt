@@ -31,8 +31,8 @@ returns-clause-work c =
     let cok = c.list_needs.new.found.ok.0 in
     let cn : c.len.result ≡ length c.list_needs.new.found.items = omega (arith, cl, cok) in
     let hw = c.in_ok-waits.ensures ∙ ap (λ n. replicate n true) cn in
-    let h = starts s c.body.ensures.valid k ho (c.in_ok-written_labels.ensures.fit) (c.in_ok-written_labels.ensures.labels) c.list_needs.new.found.items c.in_ok-waits.waits.items c.in_ok-variables.variables.items c.list_levels.new.found.items low hl hc hw c.in_ok-variables.ensures hs in
-    subst (λ z. IsWorkOf s (work z c.list_needs.new.found.items c.in_ok-waits.waits.items c.in_ok-variables.variables.items c.list_levels.new.found.items)) (sym ho) h
+    let h = starts s c.body.ensures.valid k ho (c.in_ok-written_labels.ensures.fit) (c.in_ok-written_labels.ensures.labels) c.list_needs.new.found.items c.in_ok-waits.waits.items c.in_ok-variables.variables c.list_levels.new.found.items low hl hc hw c.in_ok-variables.ensures hs in
+    subst (λ z. IsWorkOf s (work z c.list_needs.new.found.items c.in_ok-waits.waits.items c.in_ok-variables.variables c.list_levels.new.found.items)) (sym ho) h
 
 pub returns-clause-steps : goal.returns-clause-steps
 returns-clause-steps c =
@@ -52,9 +52,9 @@ returns-clause-steps c =
     let cok = c.list_needs.new.found.ok.0 in
     let cn : c.len.result ≡ length c.list_needs.new.found.items = omega (arith, cl, cok) in
     let hw = c.in_ok-waits.ensures ∙ ap (λ n. replicate n true) cn in
-    let h = starts s c.body.ensures.valid k ho (c.in_ok-written_labels.ensures.fit) (c.in_ok-written_labels.ensures.labels) c.list_needs.new.found.items c.in_ok-waits.waits.items c.in_ok-variables.variables.items c.list_levels.new.found.items low hl hc hw c.in_ok-variables.ensures hs in
-    let W = work o c.list_needs.new.found.items c.in_ok-waits.waits.items c.in_ok-variables.variables.items c.list_levels.new.found.items in
-    λ m. first_within W m (λ x. subst (λ (z : Order). label_at z.bottom c.in_ok-variables.variables.items x < z.size) (sym ho) (h.variables.below x))
+    let h = starts s c.body.ensures.valid k ho (c.in_ok-written_labels.ensures.fit) (c.in_ok-written_labels.ensures.labels) c.list_needs.new.found.items c.in_ok-waits.waits.items c.in_ok-variables.variables c.list_levels.new.found.items low hl hc hw c.in_ok-variables.ensures hs in
+    let W = work o c.list_needs.new.found.items c.in_ok-waits.waits.items c.in_ok-variables.variables c.list_levels.new.found.items in
+    λ m. first_within W m (λ x. subst (λ (z : Order). label_at z.bottom c.in_ok-variables.variables x < z.size) (sym ho) (h.variables.below x))
 
 pub invariant_of-result : goal.invariant_of-result
 invariant_of-result c =
@@ -74,12 +74,12 @@ invariant_of-result c =
     let cok = c.list_needs.new.found.ok.0 in
     let cn : c.len.result ≡ length c.list_needs.new.found.items = omega (arith, cl, cok) in
     let hw = c.in_ok-waits.ensures ∙ ap (λ n. replicate n true) cn in
-    let h = starts s c.body.ensures.valid k ho (c.in_ok-written_labels.ensures.fit) (c.in_ok-written_labels.ensures.labels) c.list_needs.new.found.items c.in_ok-waits.waits.items c.in_ok-variables.variables.items c.list_levels.new.found.items low hl hc hw c.in_ok-variables.ensures hs in
+    let h = starts s c.body.ensures.valid k ho (c.in_ok-written_labels.ensures.fit) (c.in_ok-written_labels.ensures.labels) c.list_needs.new.found.items c.in_ok-waits.waits.items c.in_ok-variables.variables c.list_levels.new.found.items low hl hc hw c.in_ok-variables.ensures hs in
     let vfit = h.variables.fit in
     let wfit = c.in_ok-written_labels.ensures.fit in
     record {
       fit = h.fit;
       cursor = omega arith;
       small = omega (arith, vfit, wfit, few);
-      targets = targets_there s c.body.ensures.valid c.list_needs.new.found.items c.in_ok-waits.waits.items c.in_ok-variables.variables.items c.list_levels.new.found.items h;
+      targets = targets_there s c.body.ensures.valid c.list_needs.new.found.items c.in_ok-waits.waits.items c.in_ok-variables.variables c.list_levels.new.found.items h;
     }

@@ -1,4 +1,4 @@
-use Rattle.std.proofs.Common.{◌≡◌, sym, ap, ◌∙◌, subst, length, length-set, slice_set, arith, false}
+use Rattle.std.proofs.Common.{◌≡◌, refl, sym, ap, ◌∙◌, subst, length, length-set, slice_set, arith, false}
 use Rattle.std.specs.Vec.{with_item, with_items}
 use Rattle.std.proofs.lemmas.List.{with_items_is}
 use Rattle.label_lattice.specs.Order.{lattice_of}
@@ -8,6 +8,27 @@ use Rattle.label_infer.specs.Holds.{IsThere}
 use Rattle.label_infer.proofs.Taking.{work}
 use Rattle.label_infer.proofs.Took.{took_variable, took_level, waits_length, labels_length}
 use Rattle.label_infer.proofs.worklist.Worklist.step.Goals as goal
+
+pub invariant_of-self : goal.invariant_of-self
+invariant_of-self g c =
+    let v = c.self.inside in
+    let i = c.in-Some.i in
+    let x = c.in-Variable.x in
+    let t = (lattice_of v.order).flows c.value-have.result.number (label_at v.order.bottom v.variables x) in
+    let lw : length c.raise.new.waits ≡ v.waits.len = waits_length t x c.deref-in-Variable.result.now c.deref_mut.result.now c.raise.new.waits c.raise.ensures.waits ∙ c.deref_mut.ensures.len in
+    let items = with_items_is (with_item v.waits i false) c.raise.new.waits lw in
+    let w : length c.raise.new.waits ≡ length v.waits.items =
+    waits_length t x c.deref-in-Variable.result.now c.deref_mut.result.now c.raise.new.waits c.raise.ensures.waits ∙ ap length c.deref_mut.ensures.value ∙ length-set v.waits.items i false in
+    let n : length c.raise.new.variables ≡ length v.variables = labels_length t x _ v.variables c.raise.new.variables c.raise.ensures.variables in
+    let same = ap length items ∙ w in
+    let q = c.in-Some.ensures.0 in
+    let d = ap length c.deref.ensures.value in
+    record {
+      fit = same ∙ c.self.invariant.fit;
+      cursor = omega (arith, q, d, same);
+      small = let s = c.self.invariant.small in omega (arith, n, s);
+      targets = λ j d e. subst (λ z. IsThere z (length v.levels.items) d.target) (sym n) (c.self.invariant.targets j d e);
+    }
 
 pub invariant_of-self-in-Level : goal.invariant_of-self-in-Level
 invariant_of-self-in-Level g c =
@@ -22,7 +43,7 @@ invariant_of-self-in-Level g c =
       fit = length-set v.waits.items c.in-Some.i _ ∙ c.self.invariant.fit;
       cursor = let s = length-set v.waits.items c.in-Some.i false in omega (arith, q, d, s);
       small = c.self.invariant.small;
-      targets = λ i x e. subst (λ z. IsThere (length v.variables.items) z x.target) (sym len) (c.self.invariant.targets i x e);
+      targets = λ i x e. subst (λ z. IsThere (length v.variables) z x.target) (sym len) (c.self.invariant.targets i x e);
     }
 
 pub returns-in-Variable-clause-taken : goal.returns-in-Variable-clause-taken
@@ -31,23 +52,22 @@ returns-in-Variable-clause-taken g c =
     let i = c.in-Some.i in
     let x = c.in-Variable.x in
     let have = c.value-have.result.number in
-    let V = c.deref_mut-in-Variable.result.now in
+    let V = v.variables in
     let t = (lattice_of v.order).flows have (label_at v.order.bottom V x) in
     let lw : length c.raise.new.waits ≡ v.waits.len = waits_length t x c.deref-in-Variable.result.now c.deref_mut.result.now c.raise.new.waits c.raise.ensures.waits ∙ c.deref_mut.ensures.len in
-    let lv : length c.raise.new.variables ≡ v.variables.len = labels_length t x _ V c.raise.new.variables c.raise.ensures.variables ∙ c.deref_mut-in-Variable.ensures.len in
     let W = (with_items (with_item v.waits i false) c.raise.new.waits).items in
-    let U = (with_items v.variables c.raise.new.variables).items in
+    let U = c.raise.new.variables in
     let ew = with_items_is (with_item v.waits i false) c.raise.new.waits lw ∙ c.raise.ensures.waits in
-    let eu = with_items_is v.variables c.raise.new.variables lv ∙ c.raise.ensures.variables in
+    let eu = c.raise.ensures.variables in
     λ _. (
       i,
       c.condition_at-condition.result,
       subst (λ z. Takes z (work v.order v.conditions.items W U v.levels.items) i c.condition_at-condition.result) c.self.view_is
-          (took_variable v.order v.conditions.items v.waits.items v.variables.items v.levels.items i c.condition_at-condition.result have
-          c.deref-2.result.now c.deref.result.now c.deref-3.result.now c.deref-2.ensures.value c.deref.ensures.value c.deref-3.ensures.value
+          (took_variable v.order v.conditions.items v.waits.items v.variables v.levels.items i c.condition_at-condition.result have
+          c.deref-2.result.now c.deref.result.now v.variables c.deref-2.ensures.value c.deref.ensures.value refl
           c.in-Some.ensures.1 c.condition_at-condition.ensures c.value-have.ensures
           x c.deref-in-Variable.result.now c.deref_mut.result.now W V U
-          c.in-Variable.is c.deref-in-Variable.ensures.value c.deref_mut.ensures.value c.deref_mut-in-Variable.ensures.value ew eu),
+          c.in-Variable.is c.deref-in-Variable.ensures.value c.deref_mut.ensures.value refl ew eu),
     )
 
 pub returns-in-Level-clause-taken : goal.returns-in-Level-clause-taken
@@ -61,9 +81,9 @@ returns-in-Level-clause-taken g c =
     λ _. (
       i,
       c.condition_at-condition.result,
-      subst (λ z. Takes z (work v.order v.conditions.items (slice_set v.waits.items i false) v.variables.items U) i c.condition_at-condition.result) c.self.view_is
-          (took_level v.order v.conditions.items v.waits.items v.variables.items v.levels.items i c.condition_at-condition.result c.value-have.result.number
-          c.deref-2.result.now c.deref.result.now c.deref-3.result.now c.deref-2.ensures.value c.deref.ensures.value c.deref-3.ensures.value
+      subst (λ z. Takes z (work v.order v.conditions.items (slice_set v.waits.items i false) v.variables U) i c.condition_at-condition.result) c.self.view_is
+          (took_level v.order v.conditions.items v.waits.items v.variables v.levels.items i c.condition_at-condition.result c.value-have.result.number
+          c.deref-2.result.now c.deref.result.now v.variables c.deref-2.ensures.value c.deref.ensures.value refl
           c.in-Some.ensures.1 c.condition_at-condition.ensures c.value-have.ensures
           c.in-Level.k L U c.in-Level.is c.deref_mut-in-Level.ensures.value eu),
     )

@@ -1,0 +1,16 @@
+use Rattle.std.proofs.Common.{◌≡◌, ◌<◌, refl, rules, length, subst}
+use Rattle.std.specs.Prelude.{slice_get, slice_set, Some}
+use Rattle.std.proofs.lemmas.Option.{slice_get_read}
+use Rattle.label_infer.specs.declared.row.Row.{Row}
+use Rattle.label_infer.specs.Holders.{Tell}
+use Rattle.label_infer.proofs.Holding.{tell_less, less_of}
+use Rattle.label_infer.proofs.variables.remove_holder.Goals as goal
+
+pub returns-clause-told : goal.returns-clause-told
+returns-clause-told c p t =
+    let rows = c.args.holders.now in
+    let i = c.from-l.result in
+    let r : Row = c.index-holders-l.result in
+    let within : i < length rows = search rules in
+    let there : slice_get rows i ≡ Some r = slice_get_read rows (length rows) i r refl within c.index-holders-l.is in
+    subst (λ n. Tell (slice_set rows i c.without.result) (less_of p n c.args.x)) c.from-l.ensures (tell_less rows p i c.args.x r c.without.result there c.without.ensures t)
