@@ -14,6 +14,7 @@ pub mod Right
 pub mod Bound
 pub mod Waking
 pub mod Holding
+pub mod Blocking
 pub mod Took
 pub mod Levels
 pub mod Starting

@@ -5,6 +5,7 @@ use Rattle.label_infer.specs.declared.needs.Condition.{Condition}
 use Rattle.label_infer.specs.declared.needs.Target.{Target}
 use Rattle.label_infer.specs.declared.needs.Target.TheVariants.{Variable, Level}
 use Rattle.label_infer.specs.Work.{Work}
+use Rattle.label_infer.specs.Blocks.{AreBlocks}
 
 abbrev pub work_of : Inside → Work
 work_of w =
@@ -17,6 +18,7 @@ IsThere n m (Level k) = k < m
 
 pub record IsKeptWork (w : Inside) : Type 0 where
   pub fit : length w.waits.items ≡ length w.conditions.items
+  pub in_blocks : AreBlocks w.conditions.items w.waits.items w.blocks
   pub cursor : w.cursor ≤ length w.waits.items
   pub small : length w.variables ≤ 3072
   pub targets : (i : ℕ) (c : Condition) → slice_get w.conditions.items i ≡ Some c → IsThere (length w.variables) (length w.levels.items) c.target

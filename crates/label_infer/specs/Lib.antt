@@ -6,5 +6,6 @@ pub mod FormOf
 pub mod Known
 pub mod Work
 pub mod Holders
+pub mod Blocks
 pub mod Holds
 pub mod First

@@ -1,6 +1,7 @@
 //! The labels that a program omits: the least ones.
 #![tactic(auto)]
 
+mod blocks;
 pub mod complete;
 mod first;
 mod form;

@@ -147,6 +147,18 @@ fn chain(alloc: Global, order: Lattice) -> Result<Vec<Condition>, AllocError> {
     Ok(found)
 }
 
+// Three variables at L and one at H.
+fn three_low(alloc: Global) -> Result<Variables, AllocError>
+    ensures { IfOk result (λ v. length v ≡ 4) }
+{
+    let mut found = Variables::new(alloc)?;
+    found.push(LOW)?;
+    found.push(LOW)?;
+    found.push(LOW)?;
+    found.push(HIGH)?;
+    Ok(found)
+}
+
 fn variables_of(condition: &Condition) -> [bool; 3] {
     let row = condition.have.row;
     [row.has(0), row.has(1), row.has(2)]
@@ -160,10 +172,7 @@ fn conditions_have_one_three_and_three_variables(rt: HostRuntime) -> Result<(), 
         assert_eq!(rt; variables_of(first), [false, true, false]);
         assert_eq!(rt; variables_of(second), [true, true, true]);
         assert_eq!(rt; variables_of(third), [true, true, true]);
-        let mut low = Variables::new(rt.alloc())?;
-        for label in [LOW, LOW, LOW, HIGH] {
-            low.push(label)?;
-        }
+        let low = three_low(rt.alloc())?;
         assert_eq!(rt; value(&first.have, &low, &order), LOW);
         assert_eq!(rt; value(&third.have, &low, &order), HIGH);
     } else {

@@ -1,12 +1,16 @@
 //! Which conditions wait, and the values of left sides.
 
-ghost use Rattle.std.specs.Prelude.{◌≡◌, ◌<◌, ◌≤◌, ℕ, cond, length, replicate, slice_get, Some, true, false, IfOk, MatchOption};
+ghost use Rattle.std.specs.Prelude.{◌≡◌, ◌+◌, ◌<◌, ◌≤◌, ◌||◌, ℕ, cond, length, replicate, slice_get, Some, true, false, IfOk, MatchOption};
 ghost use Rattle.label_lattice.specs.Order.{lattice_of};
 ghost use Rattle.timing_types.specs.Labelling.{label_at};
+ghost use Rattle.label_infer.specs.declared.needs.Condition.{Condition as Listed};
+ghost use Rattle.label_infer.specs.Blocks.{AreBlocks};
 ghost use Rattle.label_infer.specs.FormOf.{form_of};
+ghost use Rattle.label_infer.specs.Rows.{has_in};
 ghost use Rattle.label_infer.specs.Forms.{value};
 ghost use Rattle.label_infer.specs.Work.{waits_at, woken, joined};
 
+use crate::blocks::Blocks;
 use crate::form::Form;
 use crate::needs::Condition;
 use crate::row::MAX_NUMBERS;
@@ -56,15 +60,35 @@ pub(crate) fn value(form: &Form, variables: &Variables, order: &Lattice) -> Labe
     variables.value(form, order)
 }
 
-/// Lets each condition wait that has a variable in its left side.
-pub(crate) fn wake(x: u32, conditions: &[Condition], waits: &mut [bool])
+/// Lets each condition of a block wait that has a variable in its left side.
+fn wake_block(x: u32, conditions: &[Condition], start: usize, waits: &mut [bool])
     requires fit { length waits.old ≡ length conditions.now }
     requires small { x < MAX_NUMBERS }
-    ensures { waits.new ≡ woken x conditions.now waits.old }
+    requires start { start ≤ length conditions.now }
+    ensures fit { length waits.new ≡ length waits.old }
+    ensures before { (k : ℕ) → k < start → waits_at waits.new k ≡ waits_at waits.old k }
+    ensures inside { (k : ℕ) (c : Listed) → start ≤ k → k < start + 64 → slice_get conditions.now k ≡ Some c → waits_at waits.new k ≡ (waits_at waits.old k || has_in c.have.row.words x) }
+    ensures after { (k : ℕ) → start + 64 ≤ k → waits_at waits.new k ≡ waits_at waits.old k }
 {
-    for i in 0..conditions.len() {
+    let end = start + (conditions.len() - start).min(64);
+    for i in start..end {
         if !waits[i] && conditions[i].have.row.has(x) {
             waits[i] = true;
+        }
+    }
+}
+
+/// Lets each condition wait that has a variable in its left side. A block is passed over where none of its
+/// conditions was taken up yet, or none has the variable.
+pub(crate) fn wake(x: u32, conditions: &[Condition], blocks: &Blocks, waits: &mut [bool])
+    requires fit { length waits.old ≡ length conditions.now }
+    requires small { x < MAX_NUMBERS }
+    requires blocks { AreBlocks conditions.now waits.old blocks.now }
+    ensures { waits.new ≡ woken x conditions.now waits.old }
+{
+    for b in 0..blocks.rows.len() {
+        if blocks.taken[b] && blocks.rows[b].has(x) {
+            wake_block(x, conditions, b * 64, waits);
         }
     }
 }
@@ -92,18 +116,20 @@ pub(crate) fn raise(
     have: Label,
     order: &Lattice,
     conditions: &[Condition],
+    blocks: &Blocks,
     waits: &mut [bool],
     variables: &mut Variables,
 )
     requires fit { length waits.old ≡ length conditions.now }
     requires small { length variables.old ≤ MAX_NUMBERS }
     requires there { x < length variables.old }
+    requires blocks { AreBlocks conditions.now waits.old blocks.now }
     ensures waits { waits.new ≡ cond ((lattice_of order.now).flows have.number (label_at order.now.bottom variables.old x)) waits.old (woken x conditions.now waits.old) }
     ensures variables { variables.new ≡ cond ((lattice_of order.now).flows have.number (label_at order.now.bottom variables.old x)) variables.old (joined (lattice_of order.now) order.now.bottom variables.old x have.number) }
 {
     let so_far = variables.label(x);
     if !order.flows(have, so_far) {
         variables.set(x, order.join(so_far, have));
-        wake(x, conditions, waits);
+        wake(x, conditions, blocks, waits);
     }
 }

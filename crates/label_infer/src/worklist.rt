@@ -6,6 +6,7 @@ ghost use Rattle.mit_syntax.specs.Valid.{IsValid};
 ghost use Rattle.label_infer.specs.declared.needs.Condition.{Condition as Listed};
 ghost use Rattle.label_infer.specs.Work.{Work, Takes, IsDone, IsWorkOf, IsInferred, IsWithin, variable_in, level_in};
 
+use crate::blocks::Blocks;
 use crate::first::{first_variables, list_levels, written_labels};
 use crate::form::fixed;
 use crate::known::Known;
@@ -28,6 +29,7 @@ pub struct Worklist {
     order: Lattice,
     conditions: Vec<Condition>,
     waits: Vec<bool>,
+    blocks: Blocks,
     /// Where the condition stands that was taken up last.
     cursor: usize,
     variables: Variables,
@@ -60,6 +62,7 @@ impl Worklist {
         let condition = condition_at(&self.conditions, i);
         let have = value(&condition.have, &self.variables, &self.order);
         self.waits[i] = false;
+        self.blocks.take(i);
         self.cursor = i;
         match condition.target {
             Target::Variable(x) => raise(
@@ -67,6 +70,7 @@ impl Worklist {
                 have,
                 &self.order,
                 &self.conditions,
+                &self.blocks,
                 &mut self.waits,
                 &mut self.variables,
             ),
@@ -109,6 +113,7 @@ impl Worklist {
         let mut conditions = Vec::new(alloc);
         list_needs(p.body(), &k, &low, &low, &mut conditions)?;
         let waits = all_wait(alloc, conditions.len())?;
+        let blocks = Blocks::new(alloc, &conditions)?;
         let variables = first_variables(alloc, &k)?;
         let mut levels = Vec::new(alloc);
         list_levels(p.body(), order.bottom(), &mut levels)?;
@@ -116,6 +121,7 @@ impl Worklist {
             order,
             conditions,
             waits,
+            blocks,
             cursor: 0,
             variables,
             levels,

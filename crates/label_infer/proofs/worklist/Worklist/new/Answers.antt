@@ -7,6 +7,7 @@ use Rattle.label_infer.specs.Forms.{fixed}
 use Rattle.label_infer.specs.First.{first_levels}
 use Rattle.label_infer.specs.Known.{needs_from, needs_in}
 use Rattle.label_infer.specs.Work.{IsWorkOf}
+use Rattle.label_infer.specs.Blocks.{AreBlocks}
 use Rattle.timing_types.specs.Labelling.{label_at}
 use Rattle.label_infer.proofs.Taking.{work}
 use Rattle.label_infer.proofs.Starting.{starts, targets_there}
@@ -79,6 +80,8 @@ invariant_of-result c =
     let wfit = c.in_ok-written_labels.ensures.fit in
     record {
       fit = h.fit;
+      in_blocks = subst (λ z. AreBlocks c.list_needs.new.found.items z c.in_ok-blocks.blocks) (sym hw)
+          (subst (λ z. AreBlocks z (replicate (length z) true) c.in_ok-blocks.blocks) c.deref.ensures.value c.in_ok-blocks.ensures);
       cursor = omega arith;
       small = omega (arith, vfit, wfit, few);
       targets = targets_there s c.body.ensures.valid c.list_needs.new.found.items c.in_ok-waits.waits.items c.in_ok-variables.variables c.list_levels.new.found.items h;

@@ -5,9 +5,16 @@ use Rattle.label_lattice.specs.Order.{lattice_of}
 use Rattle.timing_types.specs.Labelling.{label_at}
 use Rattle.label_infer.specs.Work.{Takes}
 use Rattle.label_infer.specs.Holds.{IsThere}
+use Rattle.label_infer.proofs.Blocking.{blocks_same, blocks_raised}
 use Rattle.label_infer.proofs.Taking.{work}
 use Rattle.label_infer.proofs.Took.{took_variable, took_level, waits_length, labels_length}
 use Rattle.label_infer.proofs.worklist.Worklist.step.Goals as goal
+
+pub raise-requires-clause-blocks : goal.raise-requires-clause-blocks
+raise-requires-clause-blocks g c =
+    let v = c.self.inside in
+    blocks_same v.conditions.items c.deref-in-Variable.result.now (slice_set v.waits.items c.in-Some.i false) c.deref_mut.result.now c.take.new.self c.deref-in-Variable.ensures.value c.deref_mut.ensures.value
+    (c.take.ensures v.conditions.items v.waits.items c.self.invariant.in_blocks)
 
 pub invariant_of-self : goal.invariant_of-self
 invariant_of-self g c =
@@ -25,6 +32,9 @@ invariant_of-self g c =
     let d = ap length c.deref.ensures.value in
     record {
       fit = same ∙ c.self.invariant.fit;
+      in_blocks = blocks_raised x v.conditions.items c.deref-in-Variable.result.now (slice_set v.waits.items i false) c.deref_mut.result.now c.raise.new.waits _ c.take.new.self t
+          (length-set v.waits.items i false ∙ c.self.invariant.fit) c.deref-in-Variable.ensures.value c.deref_mut.ensures.value c.raise.ensures.waits items
+          (c.take.ensures v.conditions.items v.waits.items c.self.invariant.in_blocks);
       cursor = omega (arith, q, d, same);
       small = let s = c.self.invariant.small in omega (arith, n, s);
       targets = λ j d e. subst (λ z. IsThere z (length v.levels.items) d.target) (sym n) (c.self.invariant.targets j d e);
@@ -41,6 +51,7 @@ invariant_of-self-in-Level g c =
     let d = ap length c.deref.ensures.value in
     record {
       fit = length-set v.waits.items c.in-Some.i _ ∙ c.self.invariant.fit;
+      in_blocks = c.take.ensures v.conditions.items v.waits.items c.self.invariant.in_blocks;
       cursor = let s = length-set v.waits.items c.in-Some.i false in omega (arith, q, d, s);
       small = c.self.invariant.small;
       targets = λ i x e. subst (λ z. IsThere (length v.variables) z x.target) (sym len) (c.self.invariant.targets i x e);

@@ -1,0 +1,26 @@
+-- Conditions in blocks of 64.
+use Rattle.std.specs.Prelude.{◌≡◌, ℕ, ◌+◌, ◌*◌, ◌/◌, ◌<◌, ◌≤◌, Bool, true, false, List, length, slice_get, slice_index_or, Some}
+use Rattle.label_infer.specs.declared.row.Row.{Row}
+use Rattle.label_infer.specs.declared.needs.Condition.{Condition}
+use Rattle.label_infer.specs.declared.blocks.Blocks.{Blocks}
+use Rattle.label_infer.specs.Rows.{has_in}
+
+-- the row has each variable of the other
+abbrev pub Includes : Row → Row → Type 0
+Includes r s = (x : ℕ) → has_in s.words x ≡ true → has_in r.words x ≡ true
+
+-- each row has still what it had
+abbrev pub Grow : List Row → List Row → Type 0
+Grow old new = (k : ℕ) (r s : Row) → slice_get old k ≡ Some r → slice_get new k ≡ Some s → Includes s r
+
+-- the row of a block has the variables of each of the first n conditions in it
+abbrev pub Cover : List Condition → ℕ → List Row → Type 0
+Cover cs n rows = (i : ℕ) (c : Condition) (r : Row) → i < n → slice_get cs i ≡ Some c → slice_get rows (i / 64) ≡ Some r → Includes r c.have.row
+
+-- each condition is in a block, whose row has its variables, and where none of a block was taken up, all wait
+pub record AreBlocks (cs : List Condition) (ws : List Bool) (b : Blocks) : Type 0 where
+  pub enough : length cs ≤ 64 * length b.rows.items
+  pub few : 64 * length b.rows.items < length cs + 64
+  pub fit : length b.taken.items ≡ length b.rows.items
+  pub cover : Cover cs (length cs) b.rows.items
+  pub idle : (i : ℕ) → i < length ws → slice_index_or b.taken.items (i / 64) true ≡ false → slice_index_or ws i false ≡ true
