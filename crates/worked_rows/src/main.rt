@@ -14,7 +14,8 @@ mod text;
 mod words;
 
 // The tables, in the order in which they are run.
-const TABLES: [&str; 13] = [
+const TABLES: [&str; 14] = [
+    "examples.txt",
     "texts.txt",
     "prefixes.txt",
     "names.txt",
