@@ -1,6 +1,6 @@
 //! The labels of the variables.
 
-ghost use Rattle.std.specs.Prelude.{◌≡◌, ◌<◌, ◌≤◌, ◌++◌, ◌∷◌, ◌||◌, ◌&&◌, not, eqb, [], ℕ, Bool, length, slice_index_or, slice_set, IfOk};
+ghost use Rattle.std.specs.Prelude.{◌≡◌, ◌+◌, ◌<◌, ◌≤◌, ◌++◌, ◌∷◌, ◌||◌, ◌&&◌, not, eqb, max, [], ℕ, Bool, length, slice_index_or, slice_set, IfOk};
 ghost use Rattle.label_lattice.specs.declared.label.Label.{Label as Written};
 ghost use Rattle.label_lattice.specs.Lattice.{Flows};
 ghost use Rattle.label_lattice.specs.Order.{lattice_of};
@@ -66,6 +66,7 @@ fn remove_holder(holders: &mut [Row], label: Label, x: u32)
 /// Above a label, and not below what was so far.
 fn room_for(room: usize, label: Label) -> usize
     requires { room ≤ 256 }
+    ensures value { result ≡ max room (label.number + 1) }
     ensures more { room ≤ result }
     ensures above { label.number < result }
     ensures end { result ≤ 256 }
