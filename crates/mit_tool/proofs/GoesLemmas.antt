@@ -30,6 +30,14 @@ pub then_goes : {A : Type 0} (Stops : Status → List ℕ → Type 0) (Gives : A
 then_goes Stops Gives Next s t f g (inl h) = absurd (f h)
 then_goes Stops Gives Next s t f g (inr h) = g h.0 h.1 h.2
 
+-- a stage that does not stop, and gives one value at most
+pub then_goes_from : {A : Type 0} (Stops : Status → List ℕ → Type 0) (Gives : A → Type 0) (Next : A → Status → List ℕ → Type 0) (s : Status) (t : List ℕ)
+    (a : A) → Gives a → ((a b : A) → Gives a → Gives b → a ≡ b) → (Stops s t → ⊥) → (Next a s t → s ≡ status.Done) → Then Stops Gives Next s t → s ≡ status.Done
+then_goes_from Stops Gives Next s t a given one f g (inl h) = absurd (f h)
+then_goes_from Stops Gives Next s t a given one f g (inr h) =
+    let same : h.0 ≡ a = one h.0 a h.1 given in
+    g (subst (λ z. Next z s t) same h.2)
+
 -- ---- files
 
 -- bytes are told

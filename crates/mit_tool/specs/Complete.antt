@@ -59,10 +59,6 @@ NoneRises Rises a = All (λ name. Rises name → ⊥) (files_of a)
 
 -- ---- stages
 
--- A stage gives a value, and from what it gives the rest goes on: it gives one value at most.
-abbrev pub Goes : {A : Type 0} → (A → Type 0) → (A → Type 0) → Type 0
-Goes {A} Gives Next = ((a : A) × Gives a) × ((a : A) → Gives a → Next a)
-
 -- some labelling types the program
 abbrev pub IsTypable : Syntax → Type 0
 IsTypable p = (l : Labelling) × Labels p l × HasType (record { program = p; labels = l })
@@ -71,12 +67,11 @@ IsTypable p = (l : Labelling) × Labels p l × HasType (record { program = p; la
 abbrev pub CanLower : Syntax → (LabelledProgram → Type 0) → Type 0
 CanLower p Next = IsTypable p × ((q : LabelledProgram) → Types p q → (length (lowered q).instrs ≤ 200000) × Next q)
 
--- the file's text spells a program, and an observer that is named is one of its labels
+-- The file's text spells a program, and an observer that is named is one of its labels. There is one such program at
+-- most, and one such label.
 abbrev pub CanCompile : Option (Option (List ℕ)) → Option (List ℕ) → (Syntax → LabelledProgram → Option Label → Type 0) → Type 0
 CanCompile content observer Next =
-    Goes (Reads content) (λ p.
-    Goes (Observes p.order observer) (λ o.
-    CanLower p (λ q. Next p q o)))
+    (p : Syntax) × Reads content p × (o : Option Label) × Observes p.order observer o × CanLower p (λ q. Next p q o)
 
 -- ---- runs
 
@@ -120,28 +115,24 @@ OfObserver P (Some l) = P l.number
 -- What must be so beside the files; for `gen`, of the made program, from its typing on. `certify` and `recheck` are
 -- not offered.
 abbrev pub CanGoOn : Content → Asked → Type 0
-CanGoOn content (check file) = Goes (Reads (content file)) IsTypable
-CanGoOn content (infer file) = Goes (Reads (content file)) IsTypable
+CanGoOn content (check file) = (p : Syntax) × Reads (content file) p × IsTypable p
+CanGoOn content (infer file) = (p : Syntax) × Reads (content file) p × IsTypable p
 CanGoOn content (compile file) = CanCompile (content file) None (λ p q o. ⊤)
 CanGoOn content (run file starts e budget observer) =
     CanCompile (content file) observer (λ p q o.
-    Goes (FirstStart content starts p) (HaltsBy e budget q))
+    (s : StartValue) × FirstStart content starts p s × HaltsBy e budget q s)
 CanGoOn content (meaning file starts n) =
-    Goes (Reads (content file)) (λ p.
-    (s : StartValue) × FirstStart content starts p s)
+    (p : Syntax) × Reads (content file) p × (s : StartValue) × FirstStart content starts p s
 CanGoOn content (audit file starts observer e budget) =
     CanCompile (content file) (Some observer) (λ p q o.
-    Goes (StartsAre (content starts) p) (λ ss.
-    OfObserver (λ l. CanBeAudited e budget q l ss) o))
+    (ss : List StartValue) × StartsAre (content starts) p ss × OfObserver (λ l. CanBeAudited e budget q l ss) o)
 CanGoOn content (gen size number) =
     (p : Syntax) → Reads (made_content size number []) p → (o : Option Label) → Observes p.order (Some (codes "L")) o →
     CanLower p (λ q.
-    Goes (StartsAre (Some (Some starts_text)) p) (λ ss.
-    OfObserver (λ l. CanBeAudited Part (2 ^ 40) q l ss) o))
+    (ss : List StartValue) × StartsAre (Some (Some starts_text)) p ss × OfObserver (λ l. CanBeAudited Part (2 ^ 40) q l ss) o)
 CanGoOn content (cut file starts observer e budget) =
     CanCompile (content file) (Some observer) (λ p q o.
-    Goes (StartsAre (content starts) p) (λ ss.
-    OfObserver (λ l. CanCut e budget q l ss) o))
+    (ss : List StartValue) × StartsAre (content starts) p ss × OfObserver (λ l. CanCut e budget q l ss) o)
 CanGoOn content (blackbox file first budget) = (bytes : List ℕ) × IsTold (content file) bytes × (length bytes ≤ limit) × (refusal bytes ≡ None)
 CanGoOn content (certify file) = ⊥
 CanGoOn content (recheck file certificate) = ⊥
