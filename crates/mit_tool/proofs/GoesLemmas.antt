@@ -16,6 +16,7 @@ use Rattle.parse_laws.proofs.Meant.{program_spelled}
 use Rattle.start_file.specs.Starts.{StartValue, Gives}
 use Rattle.start_file.proofs.OneAnswer.{one_answer}
 use Rattle.timing_types.specs.Labelled.{LabelledProgram}
+use Rattle.code_lower.specs.declared.lower.TheConstants.{MAX_INSTRUCTIONS}
 use Rattle.code_lower.specs.Lowered.{lowered}
 use Rattle.black_box.specs.Files.{refusal}
 use Rattle.mit_tool.specs.declared.status.Status.{Status}
@@ -117,7 +118,7 @@ typing_goes p status.Disagree t k h = h
 typing_goes p status.Unfinished t k h = h
 typing_goes p status.Memory t k h = h
 
-pub image_goes : (q : LabelledProgram) (s : Status) (t : List ℕ) → length (lowered q).instrs ≤ 200000 → ImageStops q s t → ⊥
+pub image_goes : (q : LabelledProgram) (s : Status) (t : List ℕ) → length (lowered q).instrs ≤ MAX_INSTRUCTIONS → ImageStops q s t → ⊥
 image_goes q status.Done t k h = h
 image_goes q status.Refused t k h = h
 image_goes q status.Syntax t k h = h

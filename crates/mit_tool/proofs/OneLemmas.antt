@@ -26,6 +26,7 @@ use Rattle.timing_types.specs.declared.rule.TypeFault.TheVariants.{Refused as Br
 use Rattle.label_infer.specs.Least.{Labels, IsLeast}
 use Rattle.label_infer.proofs.OneLeast.{one_least, one_labelled}
 use Rattle.label_code.specs.Shaped.{Code}
+use Rattle.code_lower.specs.declared.lower.TheConstants.{MAX_INSTRUCTIONS}
 use Rattle.code_lower.specs.Lowered.{lowered}
 use Rattle.black_box.specs.declared.fault.ReadyFault.{ReadyFault}
 use Rattle.black_box.specs.Files.{refusal, Holds}
@@ -208,7 +209,7 @@ one_type_stop p s u t x o h k =
 
 -- ---- an image
 
-pub image_stops : (q : LabelledProgram) (s : Status) (t : List ℕ) → ImageStops q s t → (s ≡ status.TooLong) × (200000 < length (lowered q).instrs) × (t ≡ number_line (codes "too long: image ") (length (lowered q).instrs))
+pub image_stops : (q : LabelledProgram) (s : Status) (t : List ℕ) → ImageStops q s t → (s ≡ status.TooLong) × (MAX_INSTRUCTIONS < length (lowered q).instrs) × (t ≡ number_line (codes "too long: image ") (length (lowered q).instrs))
 image_stops q status.Done t h = absurd h
 image_stops q status.Refused t h = absurd h
 image_stops q status.Syntax t h = absurd h
@@ -231,7 +232,7 @@ one_image_stop q s u t x h k =
 pub image_or_not : (q : LabelledProgram) (code : Code) (s : Status) (t : List ℕ) → HasImage q code → ImageStops q s t → ⊥
 image_or_not q code s t k h =
     let is : code ≡ lowered q = k.0 in
-    let short : length (lowered q).instrs ≤ 200000 = subst (λ (z : Code). length z.instrs ≤ 200000) is k.1 in
+    let short : length (lowered q).instrs ≤ MAX_INSTRUCTIONS = subst (λ (z : Code). length z.instrs ≤ MAX_INSTRUCTIONS) is k.1 in
     image_goes q s t short h
 
 -- ---- starts
