@@ -13,12 +13,11 @@ use Rattle.start_file.specs.Tables.{keys_pass, count_items}
 use Rattle.start_file.specs.Versions.{version_of}
 use Rattle.start_file.specs.declared.starts.TheConstants.{MAX_RUNS}
 use Rattle.start_file.specs.Starts.{StartValue, seen, is_top_key, with_first, run_of, runs_from, counted_runs, runs_of, versioned, starts_in, IsFor}
-use Rattle.mit_tool.specs.declared.status.Status.{Status}
-use Rattle.mit_tool.specs.declared.status.Status.TheVariants as status
 use Rattle.mit_tool.specs.declared.stop.Stop.{Stop}
-use Rattle.mit_tool.specs.declared.stop.Stop.TheVariants as stop
-use Rattle.mit_tool.specs.Ends.{Broke, IsStop}
+use Rattle.mit_tool.specs.Ends.{IsStop, status_of, stop_text}
 use Rattle.mit_tool.specs.Stages.{StartsAre, StartStops}
+use Rattle.mit_tool.proofs.EndLemmas.{broke_map}
+use Rattle.mit_tool.proofs.StopLemmas.{start_rise}
 
 abbrev pub Runs : Type 0
 Runs = Result (List StartValue) StartFault
@@ -102,20 +101,6 @@ first_fits p [] s h k e = absurd (omega (arith, k))
 first_fits p (t ∷ ts) s h k e = subst (λ (z : Start). IsFor p (seen z)) (sym e) (h 0 (seen t) (omega arith))
 
 -- where a file was read, its stops are those of its starts
-broke : (R : Type 0) (content : Option (Option (List ℕ))) (p : Syntax) (s : Status) (t : List ℕ) → Broke (StartStops ⊥ content p) s t → Broke (StartStops R content p) s t
-broke R content p status.Done t h = h
-broke R content p status.Refused t h = h
-broke R content p status.Syntax t h = h
-broke R content p status.Starts t h = h
-broke R content p status.Usage t h = h
-broke R content p status.ReadFault t h = absurd h.0
-broke R content p status.WriteFault t h = h
-broke R content p status.TooLong t h = h
-broke R content p status.Budget t h = h
-broke R content p status.Disagree t h = h
-broke R content p status.Unfinished t h = h
-broke R content p status.Memory t h = h
-
 pub start_stops : (R : Type 0) (content : Option (Option (List ℕ))) (p : Syntax) (e : Stop) → IsStop (StartStops ⊥ content p) e → IsStop (StartStops R content p) e
-start_stops R content p stop.Usage h = h
-start_stops R content p (stop.With s l) h = broke R content p s l h
+start_stops R content p e h =
+    broke_map (StartStops ⊥ content p) (StartStops R content p) (status_of e) (stop_text e) (start_rise ⊥ R content p (status_of e) (stop_text e) (λ n. absurd n)) h

@@ -102,10 +102,10 @@ run_stops Rises content file starts observer env budget s t =
 -- ---- a file that is read later
 
 -- a count that rose later rose
-pub rose_before : (a b c : ℕ) → a ≤ b → Rose b c → Rose a c
-rose_before a b c l h = omega (arith, l, h)
+pub rose_since : (a b c : ℕ) → a ≤ b → Rose b c → Rose a c
+rose_since a b c l h = omega (arith, l, h)
 
-start_rise : (R R' : Type 0) (c : Option (Option (List ℕ))) (p : Syntax) (s : Status) (t : List ℕ) → (R → R') → StartStops R c p s t → StartStops R' c p s t
+pub start_rise : (R R' : Type 0) (c : Option (Option (List ℕ))) (p : Syntax) (s : Status) (t : List ℕ) → (R → R') → StartStops R c p s t → StartStops R' c p s t
 start_rise R R' c p Done t f h = h
 start_rise R R' c p Refused t f h = h
 start_rise R R' c p BadSyntax t f h = h
