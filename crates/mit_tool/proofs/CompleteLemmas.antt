@@ -38,6 +38,7 @@ use Rattle.mit_tool.specs.Means.{HasMeant}
 use Rattle.mit_tool.specs.Complete.{files_of, IsKnown, AreKnown, NoneRises, IsTypable, CanLower, CanCompile, IsHalted, HaltsBy, AgreeIn, shown_in, CanCut, CanBeAudited, OfObserver, CanGoOn, CanBeDone}
 use Rattle.mit_tool.proofs.GoesLemmas.{then_goes, then_goes_from, program_goes, observer_goes, typing_goes, image_goes, starts_go, ready_goes}
 use Rattle.mit_tool.proofs.OneLemmas.{one_program, one_list_of_starts}
+use Rattle.mit_tool.proofs.OneReport.{audit_stops, cut_stops}
 use Rattle.mit_tool.proofs.OneRun.{one_observer, one_first, first_or_not}
 use Rattle.mit_tool.proofs.MadeLemmas.{made_goes, made_observer_goes}
 use Rattle.leak_audit.proofs.Once.{no_audit_fault}
@@ -88,32 +89,10 @@ cut_in Part t q o ss f k h = no_cut_fault part_env (IsMadeFor part_structure) q 
 cut_in Part2 t q o ss f k h = no_cut_fault part2_env (IsMadeFor part2_structure) q o.number t (starts_of part2_made q.program.order ss) f k.agree k.few h
 
 audit_goes : (e : EnvName) (t : ℕ) (q : LabelledProgram) (o : Label) (ss : List StartValue) (s : Status) (x : List ℕ) → CanBeAudited e t q o.number ss → AuditStops e t q o ss s x → ⊥
-audit_goes e t q o ss status.Done x k h = h
-audit_goes e t q o ss status.Refused x k h = h
-audit_goes e t q o ss status.Syntax x k h = h
-audit_goes e t q o ss status.Starts x k h = h
-audit_goes e t q o ss status.Usage x k h = h
-audit_goes e t q o ss status.ReadFault x k h = h
-audit_goes e t q o ss status.WriteFault x k h = h
-audit_goes e t q o ss status.TooLong x k h = let same = halt_in e t q o ss (fault.TooMuch h.0) k h.1 in absurd (cc same)
-audit_goes e t q o ss status.Budget x k h = h
-audit_goes e t q o ss status.Disagree x k h = let same = halt_in e t q o ss (fault.Disagree h.0 h.1) k h.2 in absurd (cc same)
-audit_goes e t q o ss status.Unfinished x k h = let same = halt_in e t q o ss (fault.Unfinished h.0 h.1) k h.2 in absurd (cc same)
-audit_goes e t q o ss status.Memory x k h = h
+audit_goes e t q o ss s x k h = let stop = audit_stops e t q o ss s x h in stop.none (halt_in e t q o ss stop.fault k stop.is)
 
 cut_goes : (e : EnvName) (t : ℕ) (q : LabelledProgram) (o : Label) (ss : List StartValue) (s : Status) (x : List ℕ) → CanCut e t q o.number ss → CutStops e t q o ss s x → ⊥
-cut_goes e t q o ss status.Done x k h = h
-cut_goes e t q o ss status.Refused x k h = h
-cut_goes e t q o ss status.Syntax x k h = h
-cut_goes e t q o ss status.Starts x k h = h
-cut_goes e t q o ss status.Usage x k h = h
-cut_goes e t q o ss status.ReadFault x k h = h
-cut_goes e t q o ss status.WriteFault x k h = h
-cut_goes e t q o ss status.TooLong x k h = let same = cut_in e t q o ss (cut_fault.TooMuch h.0) k h.1 in absurd (cc same)
-cut_goes e t q o ss status.Budget x k h = h
-cut_goes e t q o ss status.Disagree x k h = let same = cut_in e t q o ss (cut_fault.Disagree h.0 h.1) k h.2 in absurd (cc same)
-cut_goes e t q o ss status.Unfinished x k h = h
-cut_goes e t q o ss status.Memory x k h = h
+cut_goes e t q o ss s x k h = let stop = cut_stops e t q o ss s x h in stop.none (cut_in e t q o ss stop.fault k stop.is)
 
 audited_done : (e : EnvName) (t : ℕ) (q : LabelledProgram) (o : Option Label) (ss : List StartValue) (before : List ℕ) (s : Status) (x : List ℕ)
     → OfObserver (λ l. CanBeAudited e t q l ss) o → HasAudited e t q o ss before s x → s ≡ status.Done
