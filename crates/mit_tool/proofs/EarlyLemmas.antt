@@ -9,10 +9,10 @@ use Rattle.label_code.specs.Shaped.{Code}
 use Rattle.mit_tool.specs.declared.status.Status.{Status}
 use Rattle.mit_tool.specs.declared.status.Status.TheVariants.{Done, Refused, Syntax as BadSyntax, Starts, Usage, ReadFault, WriteFault, TooLong, Budget, Disagree, Unfinished, Memory}
 use Rattle.mit_tool.specs.declared.stop.Stop.{Stop}
-use Rattle.mit_tool.specs.Stages.{Then, ProgramStops, ObserverStops, TypeStops, ImageStops, HasStartFault, StartStops, StartsAre}
+use Rattle.mit_tool.specs.Stages.{Then, Reads, ProgramStops, ObserverStops, Types, TypeStops, ImageStops, HasStartFault, StartStops, StartsAre}
 use Rattle.mit_tool.specs.Texts.{File, program as program_file, starts as starts_file}
 use Rattle.mit_tool.specs.Ends.{Broke, IsStop, status_of, stop_text}
-use Rattle.mit_tool.specs.Answers.{Content, Compiles, NoMore, CompileStops, PrepareStops, is_past_typing}
+use Rattle.mit_tool.specs.Answers.{Content, Compiles, NoMore, CheckStops, CompileStops, PrepareStops, is_past_typing}
 use Rattle.mit_tool.proofs.StageStops.{FileStops, BadText, program_stops, observer_stops, type_stops, image_stops, start_stops}
 
 -- a command that stops did not come past the typing, and no write failed
@@ -113,3 +113,24 @@ type_not_late p e h = not_late (status_of e) (broke_early (TypeStops p) (status_
 
 pub compile_not_late : (Rises : List ℕ → Type 0) (content : Content) (file : List ℕ) (observer : Option (List ℕ)) (e : Stop) → IsStop (CompileStops Rises content file observer) e → IsTrue (is_past_typing (status_of e)) → ⊥
 compile_not_late Rises content file observer e h = not_late (status_of e) (broke_early (CompileStops Rises content file observer) (status_of e) (stop_text e) (compile_early Rises content file observer (status_of e) (stop_text e)) h)
+
+-- ---- what was written
+
+-- the status that came past the typing is the one that is told, where no write failed
+pub past_told : (r s : Status) → (r ≢ WriteFault → r ≡ s) → IsTrue (is_past_typing r) → IsTrue (is_past_typing s)
+past_told r s told past =
+    let none : r ≢ WriteFault = λ e. absurd (past_no_fault (subst (λ (z : Status). IsTrue (is_past_typing z)) e past)) in
+    subst (λ (z : Status). IsTrue (is_past_typing z)) (told none) past
+  where
+    past_no_fault : IsTrue (is_past_typing WriteFault) → ⊥
+    past_no_fault e = cc
+
+check_early : (Rises : List ℕ → Type 0) (content : Content) (file : List ℕ) (s : Status) (t : List ℕ) → CheckStops Rises content file s t → IsEarly s
+check_early Rises content file s t =
+    then_early (ProgramStops (Rises file) (content file)) (Reads (content file)) (λ p. Then (TypeStops p) (Types p) (λ q. NoMore)) s t (program_early (Rises file) (content file) s t)
+    (λ p. then_early (TypeStops p) (Types p) (λ q. NoMore) s t (type_early p s t) (λ q n. absurd n))
+
+-- what stops `check` and is written did not come past the typing
+pub check_stopped : (Rises : List ℕ → Type 0) (content : Content) (file : List ℕ) (e : Stop) (r : Status) (W : Type 0) → IsStop (CheckStops Rises content file) e → (r ≢ WriteFault → (r ≡ status_of e) × W) → IsTrue (is_past_typing r) → ⊥
+check_stopped Rises content file e r W h told past =
+    not_late (status_of e) (broke_early (CheckStops Rises content file) (status_of e) (stop_text e) (check_early Rises content file (status_of e) (stop_text e)) h) (past_told r (status_of e) (λ n. (told n).0) past)
