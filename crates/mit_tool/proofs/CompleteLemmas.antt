@@ -1,5 +1,5 @@
 -- A command that can be done is done.
-use Rattle.std.proofs.Common.{◌≡◌, ◌≢◌, ◌≤◌, ◌<◌, ◌^◌, ◌⊎◌, ℕ, List, [], ◌∷◌, ◌++◌, All, length, Option, Some, None, inl, inr, refl, sym, ap, subst, ◌∙◌, arith, codes}
+use Rattle.std.proofs.Common.{◌≡◌, ◌≤◌, ◌^◌, ◌⊎◌, ℕ, List, [], ◌∷◌, ◌++◌, All, length, Option, Some, None, inl, inr, refl, ap, subst, ◌∙◌, codes}
 use Rattle.std.proofs.lemmas.List.Elements.{All-head, All-tail}
 use Rattle.std.proofs.lemmas.Option.{none-some}
 use Rattle.label_lattice.specs.declared.label.Label.{Label}
@@ -17,10 +17,8 @@ use Rattle.event_print.specs.declared.end.RunEnd.TheVariants.{Halted, Limit}
 use Rattle.mit_gen.specs.Made.{program_text, starts_text}
 use Rattle.std.specs.Bool.{⊤}
 use Rattle.audit_parts.specs.Agreement.{starts_of}
-use Rattle.leak_audit.specs.declared.report.AuditReport.{AuditReport}
 use Rattle.leak_audit.specs.declared.report.AuditFault.{AuditFault}
 use Rattle.leak_audit.specs.declared.report.AuditFault.TheVariants as fault
-use Rattle.cut_audit.specs.declared.report.CutReport.{CutReport}
 use Rattle.cut_audit.specs.declared.report.CutFault.{CutFault}
 use Rattle.cut_audit.specs.declared.report.CutFault.TheVariants as cut_fault
 use Rattle.mit_tool.specs.declared.status.Status.{Status}
@@ -32,10 +30,10 @@ use Rattle.mit_tool.specs.Reports.{audit_lines, cut_lines, made_lines}
 use Rattle.mit_tool.specs.Stages.{Then, ProgramStops, Reads, ObserverStops, Observes, TypeStops, Types, ImageStops, HasImage, StartStops, StartsAre, FirstStops, FirstStart}
 use Rattle.mit_tool.specs.Envs.{flat_env, part_env, part2_env, flat_made, part_made, part2_made, AuditFaultsIn, CutFaultsIn, told_in}
 use Rattle.mit_tool.specs.Audited.{AuditStops, Audits, HasAudited, CutStops, Cuts, HasCut, HoldsRuns, ReadyStops, HasReleased}
-use Rattle.mit_tool.specs.Answers.{Content, Compiles, Prepares, HasChecked, HasInferred, HasListed, HasRun, HasTold, status_at, made_content, IsAnswer, Before}
+use Rattle.mit_tool.specs.Answers.{Content, Compiles, Prepares, HasChecked, HasInferred, HasListed, HasRun, status_at, IsAnswer, Before}
 use Rattle.mit_tool.specs.Ends.{EndsBy}
 use Rattle.mit_tool.specs.Means.{HasMeant}
-use Rattle.mit_tool.specs.Complete.{files_of, IsKnown, AreKnown, NoneRises, IsTypable, CanLower, CanCompile, IsHalted, HaltsBy, AgreeIn, shown_in, CanCut, CanBeAudited, OfObserver, CanGoOn, CanBeDone}
+use Rattle.mit_tool.specs.Complete.{IsKnown, AreKnown, NoneRises, IsTypable, CanLower, CanCompile, IsHalted, HaltsBy, CanCut, CanBeAudited, OfObserver, CanGoOn, CanBeDone}
 use Rattle.mit_tool.proofs.GoesLemmas.{then_goes, then_goes_from, program_goes, observer_goes, typing_goes, image_goes, starts_go, ready_goes}
 use Rattle.mit_tool.proofs.OneLemmas.{one_program, one_list_of_starts}
 use Rattle.mit_tool.proofs.OneReport.{audit_stops, cut_stops}

@@ -1,11 +1,10 @@
 -- Stages that do not stop: what a stage gives, and what excludes each of its stops.
-use Rattle.std.proofs.Common.{◌≡◌, ◌≤◌, ◌<◌, ℕ, List, [], ◌∷◌, All, length, Option, Some, None, Ok, Err, inl, inr, refl, sym, ap, subst, ◌∙◌, arith, codes}
+use Rattle.std.proofs.Common.{◌≡◌, ◌≤◌, ℕ, List, ◌∷◌, length, Option, Some, None, Ok, Err, inl, inr, sym, ap, subst, ◌∙◌, arith}
 use Rattle.std.proofs.lemmas.Option.{none-some}
 use Rattle.tim_base.specs.Told.{limit, IsTold, IsTooLong}
 use Rattle.label_lattice.specs.declared.label.Label.{Label}
-use Rattle.label_lattice.specs.Order.{Order, name_of}
-use Rattle.mit_syntax.specs.declared.token.Token.{Token}
-use Rattle.mit_syntax.specs.Cut.{AreTokens, IsFault}
+use Rattle.label_lattice.specs.Order.{Order}
+use Rattle.mit_syntax.specs.Cut.{AreTokens}
 use Rattle.mit_syntax.specs.Program.{Syntax}
 use Rattle.mit_syntax.proofs.OneFault.{no_tokens}
 use Rattle.mit_syntax.proofs.OneList.{one_list}
@@ -21,7 +20,7 @@ use Rattle.code_lower.specs.Lowered.{lowered}
 use Rattle.black_box.specs.Files.{refusal}
 use Rattle.mit_tool.specs.declared.status.Status.{Status}
 use Rattle.mit_tool.specs.declared.status.Status.TheVariants as status
-use Rattle.mit_tool.specs.Stages.{Then, Reads, HasTextFault, HasParseFault, ProgramStops, Observes, IsUnknown, ObserverStops, TypeStops, ImageStops, StartsAre, HasStartFault, StartStops, FirstStart, FirstStops}
+use Rattle.mit_tool.specs.Stages.{Then, Reads, HasTextFault, HasParseFault, ProgramStops, Observes, IsUnknown, ObserverStops, TypeStops, ImageStops, StartsAre, HasStartFault, StartStops, FirstStart}
 use Rattle.mit_tool.specs.Audited.{ReadyStops, HasReadyFault}
 use Rattle.mit_tool.specs.Texts.{program, starts, ready}
 use Rattle.mit_tool.specs.Complete.{IsKnown, IsTypable}

@@ -1,8 +1,6 @@
 -- A made text is read, and one of its labels is L.
-use Rattle.std.proofs.Common.{◌≡◌, ◌≢◌, ◌≤◌, ◌<◌, ℕ, zero, suc, List, [], ◌∷◌, ◌++◌, length, Option, Some, None, inl, inr, refl, sym, ap, subst, ◌∙◌, arith, codes}
+use Rattle.std.proofs.Common.{◌≡◌, ◌≤◌, ◌<◌, ℕ, zero, suc, List, [], ◌∷◌, ◌++◌, length, Option, Some, inl, inr, sym, ap, subst, ◌∙◌, arith, codes}
 use Rattle.std.specs.Prelude.{slice_index_or}
-use Rattle.tim_base.specs.Told.{limit}
-use Rattle.label_lattice.specs.declared.label.Label.{Label}
 use Rattle.label_lattice.specs.Order.{Order, name_of}
 use Rattle.mit_syntax.specs.declared.token.Token.{Token}
 use Rattle.mit_syntax.specs.Cut.{start, moved, end_at, AreTokens}
@@ -11,8 +9,8 @@ use Rattle.mit_syntax.proofs.OneFault.{no_tokens}
 use Rattle.mit_parser.specs.Words.{Told, told}
 use Rattle.mit_parser.specs.Tree.{Header, no_header, ProgramTree}
 use Rattle.mit_parser.specs.Faults.{header_labels}
-use Rattle.mit_parser.specs.Spells.{Spells, Refuses, Resolves}
-use Rattle.mit_gen.specs.Made.{program_text, starts_text}
+use Rattle.mit_parser.specs.Spells.{Spells, Refuses}
+use Rattle.mit_gen.specs.Made.{program_text}
 use Rattle.mit_gen.proofs.Sizes.{program_short}
 use Rattle.made_words.specs.Words.{HasWords}
 use Rattle.made_words.specs.MadeWords.{program_chunks, program_words}
@@ -26,7 +24,7 @@ use Rattle.parse_laws.proofs.OneProgram.{one_tree}
 use Rattle.parse_laws.proofs.Refused.{not_refused}
 use Rattle.mit_tool.specs.declared.status.Status.{Status}
 use Rattle.mit_tool.specs.declared.status.Status.TheVariants as status
-use Rattle.mit_tool.specs.Stages.{Reads, HasTextFault, HasParseFault, ProgramStops, Observes, IsUnknown, ObserverStops}
+use Rattle.mit_tool.specs.Stages.{Reads, HasTextFault, HasParseFault, ProgramStops, ObserverStops}
 use Rattle.mit_tool.specs.Texts.{program}
 use Rattle.mit_tool.proofs.StageStops.{BadText, file_goes, program_stops, observer_stops}
 

@@ -1,44 +1,36 @@
 -- One answer at most: what a stage gives, and what it stops with, is one.
-use Rattle.std.proofs.Common.{◌≡◌, ◌≢◌, ◌≤◌, ◌<◌, ◌⊎◌, ℕ, List, [], ◌∷◌, All, AllPairs, length, Option, Some, None, Ok, Err, inl, inr, refl, sym, ap, subst, ◌∙◌, arith, codes}
-use Rattle.std.proofs.lemmas.Option.{none-some}
-use Rattle.tim_base.specs.Told.{limit, IsTold, IsTooLong}
-use Rattle.label_lattice.specs.declared.label.Label.{Label}
-use Rattle.label_lattice.specs.Order.{Order, IsOrder, name_of}
+use Rattle.std.proofs.Common.{◌≡◌, ◌≤◌, ℕ, List, length, Option, Some, Ok, Err, inl, inr, refl, sym, ap, subst, ◌∙◌}
+use Rattle.tim_base.specs.Told.{IsTold, IsTooLong}
+use Rattle.label_lattice.specs.Order.{Order, IsOrder}
 use Rattle.mit_syntax.specs.declared.token.Token.{Token}
-use Rattle.mit_syntax.specs.declared.fault.TextFault.{TextFault}
-use Rattle.mit_syntax.specs.declared.fault.TextFault.TheVariants as text_fault
 use Rattle.mit_syntax.specs.Cut.{AreTokens, IsFault}
 use Rattle.mit_syntax.specs.Program.{Syntax}
 use Rattle.mit_syntax.proofs.OneFault.{no_tokens, one_fault}
 use Rattle.mit_syntax.proofs.OneList.{one_list}
 use Rattle.mit_parser.specs.declared.fault.ParseFault.{ParseFault}
-use Rattle.mit_parser.specs.declared.fault.ParseFault.TheVariants as parse_fault
 use Rattle.mit_parser.specs.Words.{Told, told}
 use Rattle.mit_parser.specs.Spells.{IsProgram, Refuses}
 use Rattle.parse_laws.proofs.Meant.{one_meaning}
 use Rattle.parse_laws.proofs.OneRefusal.{one_refusal}
-use Rattle.start_file.specs.declared.fault.StartFault.{StartFault}
 use Rattle.start_file.specs.Starts.{StartValue, Gives}
 use Rattle.start_file.proofs.OneAnswer.{one_answer}
 use Rattle.timing_types.specs.Labelling.{Labelling}
 use Rattle.timing_types.specs.Labelled.{LabelledProgram, HasType, first_broken_of}
 use Rattle.timing_types.specs.declared.rule.TypeFault.TheVariants.{Refused as BrokenAt}
-use Rattle.label_infer.specs.Least.{Labels, IsLeast}
 use Rattle.label_infer.proofs.OneLeast.{one_least, one_labelled}
 use Rattle.label_code.specs.Shaped.{Code}
 use Rattle.code_lower.specs.declared.lower.TheConstants.{MAX_INSTRUCTIONS}
 use Rattle.code_lower.specs.Lowered.{lowered}
-use Rattle.black_box.specs.declared.fault.ReadyFault.{ReadyFault}
-use Rattle.black_box.specs.Files.{refusal, Holds}
+use Rattle.black_box.specs.Files.{refusal}
 use Rattle.mit_tool.specs.declared.status.Status.{Status}
 use Rattle.mit_tool.specs.declared.status.Status.TheVariants as status
-use Rattle.mit_tool.specs.Texts.{File, program, starts, ready, usage_text, too_long_line, text_fault_line, parse_fault_line, start_fault_line, refused_line, number_line}
+use Rattle.mit_tool.specs.Texts.{File, program, starts, ready, text_fault_line, parse_fault_line, start_fault_line, refused_line}
 use Rattle.mit_tool.specs.Reports.{ready_fault_line}
-use Rattle.mit_tool.specs.Stages.{Then, Reads, HasTextFault, HasParseFault, ProgramStops, header_name, Observes, ObserverStops, Types, HasNoType, TypeStops, HasImage, ImageStops, StartsAre, HasStartFault, StartStops, zero_start, FirstStart, FirstStops}
+use Rattle.mit_tool.specs.Stages.{Then, Reads, ProgramStops, header_name, ObserverStops, Types, HasNoType, TypeStops, HasImage, ImageStops, StartsAre, HasStartFault, StartStops}
 use Rattle.mit_tool.specs.Audited.{HoldsRuns, HasReadyFault, ReadyStops}
 use Rattle.mit_tool.specs.Complete.{IsKnown}
 use Rattle.mit_tool.proofs.StageStops.{FileStops, BadText, program_stops, observer_stops, type_stops, image_stops, start_stops, ready_stops}
-use Rattle.mit_tool.proofs.GoesLemmas.{one_told, program_goes, not_long, observer_goes, image_goes, starts_go, ready_goes}
+use Rattle.mit_tool.proofs.GoesLemmas.{one_told, not_long, image_goes, ready_goes}
 
 -- two answers are one
 abbrev pub Same : Status → Status → List ℕ → List ℕ → Type 0

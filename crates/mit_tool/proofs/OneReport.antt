@@ -1,5 +1,5 @@
 -- One answer at most: what audits tell, and what they stop with.
-use Rattle.std.proofs.Common.{◌≡◌, ◌≢◌, ◌≤◌, ◌^◌, ℕ, List, [], ◌∷◌, ◌++◌, length, Option, Some, None, inl, inr, refl, sym, ap, subst, ◌∙◌, codes}
+use Rattle.std.proofs.Common.{◌≡◌, ◌≢◌, ℕ, List, [], ◌++◌, Option, Some, None, inl, inr, refl, sym, ap, ◌∙◌, codes}
 use Rattle.std.specs.List.{AllZip}
 use Rattle.label_lattice.specs.declared.label.Label.{Label}
 use Rattle.label_lattice.specs.Order.{Order}
@@ -27,7 +27,7 @@ use Rattle.mit_tool.specs.declared.words.EnvName.TheVariants.{Flat, Part, Part2}
 use Rattle.mit_tool.specs.Texts.{number_line}
 use Rattle.mit_tool.specs.Reports.{head_lines, tail_lines, audit_lines, cut_lines, disagree_line, unfinished_line, events_line, box_lines}
 use Rattle.mit_tool.specs.Envs.{flat_env, part_env, part2_env, flat_made, part_made, part2_made, ReportsIn, AuditFaultsIn, CutReportsIn, CutFaultsIn}
-use Rattle.mit_tool.specs.Audited.{AuditStops, Audits, HasAudited, CutStops, Cuts, HasCut, HasReleased}
+use Rattle.mit_tool.specs.Audited.{AuditStops, HasAudited, CutStops, HasCut, HasReleased}
 use Rattle.mit_tool.proofs.OneLemmas.{Same}
 
 -- ---- reports and faults in a named environment
