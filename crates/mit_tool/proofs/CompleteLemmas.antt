@@ -1,10 +1,11 @@
 -- A command that can be done is done.
-use Rattle.std.proofs.Common.{◌≡◌, ◌≢◌, ◌≤◌, ◌<◌, ◌^◌, ◌⊎◌, ℕ, List, [], ◌∷◌, ◌++◌, All, length, Option, Some, None, inl, inr, refl, sym, ap, subst, ◌∙◌, arith, codes}
+use Rattle.std.proofs.Common.{◌≡◌, ◌≤◌, ◌^◌, ◌⊎◌, ℕ, List, [], ◌∷◌, ◌++◌, All, length, Option, Some, None, inl, inr, refl, ap, subst, ◌∙◌, codes}
 use Rattle.std.proofs.lemmas.List.Elements.{All-head, All-tail}
 use Rattle.std.proofs.lemmas.Option.{none-some}
 use Rattle.label_lattice.specs.declared.label.Label.{Label}
 use Rattle.mit_syntax.specs.Plan.{count}
 use Rattle.mit_syntax.specs.Program.{Syntax, plan_of}
+use Rattle.parse_laws.proofs.Meant.{program_order}
 use Rattle.timing_types.specs.Labelled.{LabelledProgram}
 use Rattle.label_code.specs.Shaped.{Code}
 use Rattle.code_lower.specs.Lowered.{lowered}
@@ -16,10 +17,8 @@ use Rattle.event_print.specs.declared.end.RunEnd.TheVariants.{Halted, Limit}
 use Rattle.mit_gen.specs.Made.{program_text, starts_text}
 use Rattle.std.specs.Bool.{⊤}
 use Rattle.audit_parts.specs.Agreement.{starts_of}
-use Rattle.leak_audit.specs.declared.report.AuditReport.{AuditReport}
 use Rattle.leak_audit.specs.declared.report.AuditFault.{AuditFault}
 use Rattle.leak_audit.specs.declared.report.AuditFault.TheVariants as fault
-use Rattle.cut_audit.specs.declared.report.CutReport.{CutReport}
 use Rattle.cut_audit.specs.declared.report.CutFault.{CutFault}
 use Rattle.cut_audit.specs.declared.report.CutFault.TheVariants as cut_fault
 use Rattle.mit_tool.specs.declared.status.Status.{Status}
@@ -31,11 +30,14 @@ use Rattle.mit_tool.specs.Reports.{audit_lines, cut_lines, made_lines}
 use Rattle.mit_tool.specs.Stages.{Then, ProgramStops, Reads, ObserverStops, Observes, TypeStops, Types, ImageStops, HasImage, StartStops, StartsAre, FirstStops, FirstStart}
 use Rattle.mit_tool.specs.Envs.{flat_env, part_env, part2_env, flat_made, part_made, part2_made, AuditFaultsIn, CutFaultsIn, told_in}
 use Rattle.mit_tool.specs.Audited.{AuditStops, Audits, HasAudited, CutStops, Cuts, HasCut, HoldsRuns, ReadyStops, HasReleased}
-use Rattle.mit_tool.specs.Answers.{Content, Compiles, Prepares, HasChecked, HasInferred, HasListed, HasRun, HasTold, status_at, made_content, IsAnswer, Before}
+use Rattle.mit_tool.specs.Answers.{Content, Compiles, Prepares, HasChecked, HasInferred, HasListed, HasRun, status_at, IsAnswer, Before}
 use Rattle.mit_tool.specs.Ends.{EndsBy}
 use Rattle.mit_tool.specs.Means.{HasMeant}
-use Rattle.mit_tool.specs.Complete.{files_of, IsKnown, AreKnown, NoneRises, Goes, IsTypable, CanLower, CanCompile, IsHalted, HaltsBy, AgreeIn, shown_in, CanCut, CanBeAudited, OfObserver, CanGoOn, CanBeDone}
-use Rattle.mit_tool.proofs.GoesLemmas.{then_goes, program_goes, observer_goes, typing_goes, image_goes, starts_go, ready_goes}
+use Rattle.mit_tool.specs.Complete.{IsKnown, AreKnown, NoneRises, IsTypable, CanLower, CanCompile, IsHalted, HaltsBy, CanCut, CanBeAudited, OfObserver, CanGoOn, CanBeDone}
+use Rattle.mit_tool.proofs.GoesLemmas.{then_goes, then_goes_from, program_goes, observer_goes, typing_goes, image_goes, starts_go, ready_goes}
+use Rattle.mit_tool.proofs.OneLemmas.{one_program, one_list_of_starts}
+use Rattle.mit_tool.proofs.OneReport.{audit_stops, cut_stops}
+use Rattle.mit_tool.proofs.OneRun.{one_observer, one_first, first_or_not}
 use Rattle.mit_tool.proofs.MadeLemmas.{made_goes, made_observer_goes}
 use Rattle.leak_audit.proofs.Once.{no_audit_fault}
 use Rattle.cut_audit.proofs.Once.{no_cut_fault}
@@ -59,13 +61,14 @@ compiles_go : (Rises : List ℕ → Type 0) (content : Content) (file : List ℕ
     → ((p : Syntax) (q : LabelledProgram) (o : Option Label) (code : Code) → code ≡ lowered q → Can p q o → Next p q o code s t → s ≡ status.Done)
     → Compiles Rises content file observer Next s t → s ≡ status.Done
 compiles_go Rises content file observer Can Next s t n known can f h =
-    then_goes (ProgramStops (Rises file) (content file)) (Reads (content file))
+    let p : Syntax = can.0 in
+    let o : Option Label = can.2 in
+    then_goes_from (ProgramStops (Rises file) (content file)) (Reads (content file))
     (λ p. Then (ObserverStops p.order observer) (Observes p.order observer) (λ o. Then (TypeStops p) (Types p) (λ q. Then (ImageStops q) (HasImage q) (λ code. Next p q o code)))) s t
-    (program_goes (Rises file) (content file) can.0.0 s t n known can.0.1) (λ p reads.
-    let sees = can.1 p reads in
-    then_goes (ObserverStops p.order observer) (Observes p.order observer) (λ o. Then (TypeStops p) (Types p) (λ q. Then (ImageStops q) (HasImage q) (λ code. Next p q o code))) s t
-    (observer_goes p.order observer sees.0.0 s t sees.0.1) (λ o is.
-    lower_goes p (λ q. Can p q o) (λ q code. Next p q o code) s t (sees.1 o is) (λ q code. f p q o code))) h
+    p can.1 (one_program (content file) known) (program_goes (Rises file) (content file) p s t n known can.1)
+    (then_goes_from (ObserverStops p.order observer) (Observes p.order observer) (λ o. Then (TypeStops p) (Types p) (λ q. Then (ImageStops q) (HasImage q) (λ code. Next p q o code))) s t
+    o can.3 (λ a b. one_observer p.order observer a b (program_order _ p can.1.spelled)) (observer_goes p.order observer o s t can.3)
+    (lower_goes p (λ q. Can p q o) (λ q code. Next p q o code) s t can.4 (λ q code. f p q o code))) h
 
 -- ---- runs
 
@@ -84,32 +87,10 @@ cut_in Part t q o ss f k h = no_cut_fault part_env (IsMadeFor part_structure) q 
 cut_in Part2 t q o ss f k h = no_cut_fault part2_env (IsMadeFor part2_structure) q o.number t (starts_of part2_made q.program.order ss) f k.agree k.few h
 
 audit_goes : (e : EnvName) (t : ℕ) (q : LabelledProgram) (o : Label) (ss : List StartValue) (s : Status) (x : List ℕ) → CanBeAudited e t q o.number ss → AuditStops e t q o ss s x → ⊥
-audit_goes e t q o ss status.Done x k h = h
-audit_goes e t q o ss status.Refused x k h = h
-audit_goes e t q o ss status.Syntax x k h = h
-audit_goes e t q o ss status.Starts x k h = h
-audit_goes e t q o ss status.Usage x k h = h
-audit_goes e t q o ss status.ReadFault x k h = h
-audit_goes e t q o ss status.WriteFault x k h = h
-audit_goes e t q o ss status.TooLong x k h = let same = halt_in e t q o ss (fault.TooMuch h.0) k h.1 in absurd (cc same)
-audit_goes e t q o ss status.Budget x k h = h
-audit_goes e t q o ss status.Disagree x k h = let same = halt_in e t q o ss (fault.Disagree h.0 h.1) k h.2 in absurd (cc same)
-audit_goes e t q o ss status.Unfinished x k h = let same = halt_in e t q o ss (fault.Unfinished h.0 h.1) k h.2 in absurd (cc same)
-audit_goes e t q o ss status.Memory x k h = h
+audit_goes e t q o ss s x k h = let stop = audit_stops e t q o ss s x h in stop.none (halt_in e t q o ss stop.fault k stop.is)
 
 cut_goes : (e : EnvName) (t : ℕ) (q : LabelledProgram) (o : Label) (ss : List StartValue) (s : Status) (x : List ℕ) → CanCut e t q o.number ss → CutStops e t q o ss s x → ⊥
-cut_goes e t q o ss status.Done x k h = h
-cut_goes e t q o ss status.Refused x k h = h
-cut_goes e t q o ss status.Syntax x k h = h
-cut_goes e t q o ss status.Starts x k h = h
-cut_goes e t q o ss status.Usage x k h = h
-cut_goes e t q o ss status.ReadFault x k h = h
-cut_goes e t q o ss status.WriteFault x k h = h
-cut_goes e t q o ss status.TooLong x k h = let same = cut_in e t q o ss (cut_fault.TooMuch h.0) k h.1 in absurd (cc same)
-cut_goes e t q o ss status.Budget x k h = h
-cut_goes e t q o ss status.Disagree x k h = let same = cut_in e t q o ss (cut_fault.Disagree h.0 h.1) k h.2 in absurd (cc same)
-cut_goes e t q o ss status.Unfinished x k h = h
-cut_goes e t q o ss status.Memory x k h = h
+cut_goes e t q o ss s x k h = let stop = cut_stops e t q o ss s x h in stop.none (cut_in e t q o ss stop.fault k stop.is)
 
 audited_done : (e : EnvName) (t : ℕ) (q : LabelledProgram) (o : Option Label) (ss : List StartValue) (before : List ℕ) (s : Status) (x : List ℕ)
     → OfObserver (λ l. CanBeAudited e t q l ss) o → HasAudited e t q o ss before s x → s ≡ status.Done
@@ -149,57 +130,62 @@ module _ (Rises : List ℕ → Type 0) (content : Content) where
 
 -- ---- commands
 
-first_goes : (Rises : List ℕ → Type 0) (content : Content) (starts : Option (List ℕ)) (p : Syntax) (start : StartValue) (s : Status) (t : List ℕ)
-    → ((name : List ℕ) → starts ≡ Some name → (Rises name → ⊥) × IsKnown (content name)) → FirstStart content starts p start → FirstStops Rises content starts p s t → ⊥
-first_goes Rises content None p start s t n f h = h
-first_goes Rises content (Some name) p start s t n f h =
-    let k = n name refl in
-    starts_go (Rises name) (content name) p (start ∷ f.0) s t k.0 k.1 f.1 h
-
 module _ (Rises : List ℕ → Type 0) (content : Content) (s : Status) (t : List ℕ) where
-  typed_done : (file : List ℕ) (Next : Syntax → LabelledProgram → Status → List ℕ → Type 0) → (Rises file → ⊥) → IsKnown (content file) → Goes (Reads (content file)) IsTypable
+  typed_done : (file : List ℕ) (Next : Syntax → LabelledProgram → Status → List ℕ → Type 0) → (Rises file → ⊥) → IsKnown (content file) → ((p : Syntax) × Reads (content file) p × IsTypable p)
       → ((p : Syntax) (q : LabelledProgram) → Next p q s t → s ≡ status.Done)
       → Then (ProgramStops (Rises file) (content file)) (Reads (content file)) (λ p. Then (TypeStops p) (Types p) (λ q. Next p q)) s t → s ≡ status.Done
   typed_done file Next n known can f h =
-      then_goes (ProgramStops (Rises file) (content file)) (Reads (content file)) (λ p. Then (TypeStops p) (Types p) (λ q. Next p q)) s t
-      (program_goes (Rises file) (content file) can.0.0 s t n known can.0.1) (λ p reads.
-      then_goes (TypeStops p) (Types p) (λ q. Next p q) s t (typing_goes p s t (can.1 p reads)) (λ q typed. f p q)) h
+      let p : Syntax = can.0 in
+      then_goes_from (ProgramStops (Rises file) (content file)) (Reads (content file)) (λ p. Then (TypeStops p) (Types p) (λ q. Next p q)) s t
+      p can.1 (one_program (content file) known) (program_goes (Rises file) (content file) p s t n known can.1)
+      (then_goes (TypeStops p) (Types p) (λ q. Next p q) s t (typing_goes p s t can.2) (λ q typed. f p q)) h
+
+  -- the first start that there is, and the rest
+  first_done : (starts : Option (List ℕ)) (p : Syntax) (Next : StartValue → Status → List ℕ → Type 0) (start : StartValue)
+      → ((name : List ℕ) → starts ≡ Some name → (Rises name → ⊥) × IsKnown (content name)) → FirstStart content starts p start → (Next start s t → s ≡ status.Done)
+      → Then (FirstStops Rises content starts p) (FirstStart content starts p) (λ start. Next start) s t → s ≡ status.Done
+  first_done starts p Next start others first =
+      then_goes_from (FirstStops Rises content starts p) (FirstStart content starts p) (λ start. Next start) s t start first
+      (λ a b. one_first content p starts a b (λ name e. (others name e).1))
+      (first_or_not content p Rises starts start s t (λ name e. (others name e).0) (λ name e. (others name e).1) first)
+
+  -- the starts that there are, and the rest
+  starts_done : (Rose : Type 0) (c : Option (Option (List ℕ))) (p : Syntax) (Next : List StartValue → Status → List ℕ → Type 0) (ss : List StartValue)
+      → (Rose → ⊥) → IsKnown c → StartsAre c p ss → (Next ss s t → s ≡ status.Done) → Then (StartStops Rose c p) (StartsAre c p) (λ ss. Next ss) s t → s ≡ status.Done
+  starts_done Rose c p Next ss n known are =
+      then_goes_from (StartStops Rose c p) (StartsAre c p) (λ ss. Next ss) s t ss are (one_list_of_starts c known p) (starts_go Rose c p ss s t n known are)
 
   run_done : (file : List ℕ) (starts : Option (List ℕ)) (e : EnvName) (budget : ℕ) (observer : Option (List ℕ)) → (Rises file → ⊥) → IsKnown (content file)
       → ((name : List ℕ) → starts ≡ Some name → (Rises name → ⊥) × IsKnown (content name)) → CanGoOn content (run file starts e budget observer)
       → IsAnswer Rises content (run file starts e budget observer) s t → s ≡ status.Done
   run_done file starts e budget observer n known others can h =
-      compiles_go Rises content file observer (λ p q o. Goes (FirstStart content starts p) (HaltsBy e budget q))
+      compiles_go Rises content file observer (λ p q o. (start : StartValue) × FirstStart content starts p start × HaltsBy e budget q start)
       (λ p q o code. Then (FirstStops Rises content starts p) (FirstStart content starts p) (λ start. HasRun e budget q o code start)) s t n known can
       (λ p q o code image goes.
-      then_goes (FirstStops Rises content starts p) (FirstStart content starts p) (λ start. HasRun e budget q o code start) s t
-      (first_goes Rises content starts p goes.0.0 s t others goes.0.1) (λ start first told.
-      let halted : HaltsBy e budget q start = goes.1 start first in
+      let start : StartValue = goes.0 in
+      first_done starts p (λ start. HasRun e budget q o code start) start others goes.1 (λ told.
       let same : s ≡ status_at (told_in e q.program.order (lowered q) start budget).end = told.0 ∙ ap (λ (z : Code). status_at (told_in e q.program.order z start budget).end) image in
-      same ∙ halted_done (told_in e q.program.order (lowered q) start budget).end halted)) h
+      same ∙ halted_done (told_in e q.program.order (lowered q) start budget).end goes.2)) h
 
   meaning_done : (file : List ℕ) (starts : Option (List ℕ)) (steps : ℕ) → (Rises file → ⊥) → IsKnown (content file)
       → ((name : List ℕ) → starts ≡ Some name → (Rises name → ⊥) × IsKnown (content name)) → CanGoOn content (meaning file starts steps)
       → IsAnswer Rises content (meaning file starts steps) s t → s ≡ status.Done
   meaning_done file starts steps n known others can h =
-      then_goes (ProgramStops (Rises file) (content file)) (Reads (content file)) (λ p. Then (FirstStops Rises content starts p) (FirstStart content starts p) (λ start. HasMeant p start steps)) s t
-      (program_goes (Rises file) (content file) can.0.0 s t n known can.0.1) (λ p reads.
-      let start = can.1 p reads in
-      then_goes (FirstStops Rises content starts p) (FirstStart content starts p) (λ start. HasMeant p start steps) s t
-      (first_goes Rises content starts p start.0 s t others start.1) (λ start first meant. meant.0)) h
+      let p : Syntax = can.0 in
+      then_goes_from (ProgramStops (Rises file) (content file)) (Reads (content file)) (λ p. Then (FirstStops Rises content starts p) (FirstStart content starts p) (λ start. HasMeant p start steps)) s t
+      p can.1 (one_program (content file) known) (program_goes (Rises file) (content file) p s t n known can.1)
+      (first_done starts p (λ start. HasMeant p start steps) can.2 others can.3 (λ meant. meant.0)) h
 
   prepared_done : (files : List ℕ → Type 0) (content' : Content) (file observer : List ℕ) (Rose : Type 0) (c : Option (Option (List ℕ)))
       (Can : LabelledProgram → Option Label → List StartValue → Type 0) (Next : Syntax → LabelledProgram → Option Label → Code → List StartValue → Status → List ℕ → Type 0)
       → (files file → ⊥) → IsKnown (content' file) → (Rose → ⊥) → IsKnown c
-      → CanCompile (content' file) (Some observer) (λ p q o. Goes (StartsAre c p) (Can q o))
+      → CanCompile (content' file) (Some observer) (λ p q o. (ss : List StartValue) × StartsAre c p ss × Can q o ss)
       → ((p : Syntax) (q : LabelledProgram) (o : Option Label) (code : Code) (ss : List StartValue) → Can q o ss → Next p q o code ss s t → s ≡ status.Done)
       → Prepares files content' file observer Rose c Next s t → s ≡ status.Done
   prepared_done files content' file observer Rose c Can Next n known m kept can f h =
-      compiles_go files content' file (Some observer) (λ p q o. Goes (StartsAre c p) (Can q o))
+      compiles_go files content' file (Some observer) (λ p q o. (ss : List StartValue) × StartsAre c p ss × Can q o ss)
       (λ p q o code. Then (StartStops Rose c p) (StartsAre c p) (λ ss. Next p q o code ss)) s t n known can
-      (λ p q o code image goes.
-      then_goes (StartStops Rose c p) (StartsAre c p) (λ ss. Next p q o code ss) s t (starts_go Rose c p goes.0.0 s t m kept goes.0.1)
-      (λ ss are next. f p q o code ss (goes.1 ss are) next)) h
+      (λ p q o code image goes. starts_done Rose c p (λ ss. Next p q o code ss) goes.0 m kept goes.1 (f p q o code goes.0 goes.2)) h
 
   gen_done : (size number : ℕ) → 1 ≤ size → size ≤ 10000 → CanGoOn content (gen size number) → IsAnswer Rises content (gen size number) s t → s ≡ status.Done
   gen_done size number some few can h =
@@ -210,11 +196,10 @@ module _ (Rises : List ℕ → Type 0) (content : Content) (s : Status) (t : Lis
       (made_goes size number s t some few) (λ p reads.
       then_goes (ObserverStops p.order (Some (codes "L"))) (Observes p.order (Some (codes "L"))) (λ o. Then (TypeStops p) (Types p) (λ q. Then (ImageStops q) (HasImage q) (λ code. last p q o code))) s t
       (made_observer_goes size number p s t some reads) (λ o is.
-      lower_goes p (λ q. Goes (StartsAre (Some (Some starts_text)) p) (λ ss. OfObserver (λ l. CanBeAudited Part (2 ^ 40) q l ss) o)) (λ q code. last p q o code) s t (can p reads o is)
+      lower_goes p (λ q. (ss : List StartValue) × StartsAre (Some (Some starts_text)) p ss × OfObserver (λ l. CanBeAudited Part (2 ^ 40) q l ss) o) (λ q code. last p q o code) s t (can p reads o is)
       (λ q code image goes.
-      then_goes (StartStops ⊥ (Some (Some starts_text)) p) (StartsAre (Some (Some starts_text)) p) (λ ss. HasAudited Part (2 ^ 40) q o ss (made_lines size number (count (plan_of p)) (length code.instrs))) s t
-      (starts_go ⊥ (Some (Some starts_text)) p goes.0.0 s t (λ n. n) tt goes.0.1)
-      (λ ss are next. audited_done Part (2 ^ 40) q o ss (made_lines size number (count (plan_of p)) (length code.instrs)) s t (goes.1 ss are) next)))) h
+      starts_done ⊥ (Some (Some starts_text)) p (λ ss. HasAudited Part (2 ^ 40) q o ss (made_lines size number (count (plan_of p)) (length code.instrs))) goes.0 (λ n. n) tt goes.1
+      (audited_done Part (2 ^ 40) q o goes.0 (made_lines size number (count (plan_of p)) (length code.instrs)) s t goes.2)))) h
 
   -- the answer to a command that can go on, of files that are told and read
   pub answers_done : (a : Asked) → IsInRange a → NoneRises Rises a → AreKnown content a → CanGoOn content a → IsAnswer Rises content a s t → s ≡ status.Done

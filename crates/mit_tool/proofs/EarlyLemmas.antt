@@ -1,5 +1,5 @@
 -- What stops before the typing, at the image or at the starts does not come past the typing.
-use Rattle.std.proofs.Common.{◌≡◌, ◌≢◌, ℕ, List, Option, Some, inl, inr, refl, false}
+use Rattle.std.proofs.Common.{◌≡◌, ◌≢◌, ℕ, List, Option, Some, inl, inr, refl, sym, subst, false}
 use Rattle.std.specs.Prelude.{IsTrue}
 use Rattle.label_lattice.specs.declared.label.Label.{Label}
 use Rattle.label_lattice.specs.Order.{Order}
@@ -9,9 +9,11 @@ use Rattle.label_code.specs.Shaped.{Code}
 use Rattle.mit_tool.specs.declared.status.Status.{Status}
 use Rattle.mit_tool.specs.declared.status.Status.TheVariants.{Done, Refused, Syntax as BadSyntax, Starts, Usage, ReadFault, WriteFault, TooLong, Budget, Disagree, Unfinished, Memory}
 use Rattle.mit_tool.specs.declared.stop.Stop.{Stop}
-use Rattle.mit_tool.specs.Stages.{Then, ProgramStops, ObserverStops, TypeStops, ImageStops, StartStops, StartsAre}
+use Rattle.mit_tool.specs.Stages.{Then, Reads, ProgramStops, ObserverStops, Types, TypeStops, ImageStops, HasStartFault, StartStops, StartsAre}
+use Rattle.mit_tool.specs.Texts.{File, program as program_file, starts as starts_file}
 use Rattle.mit_tool.specs.Ends.{Broke, IsStop, status_of, stop_text}
-use Rattle.mit_tool.specs.Answers.{Content, Compiles, NoMore, CompileStops, PrepareStops, is_past_typing}
+use Rattle.mit_tool.specs.Answers.{Content, Compiles, NoMore, CheckStops, CompileStops, PrepareStops, is_past_typing}
+use Rattle.mit_tool.proofs.StageStops.{FileStops, BadText, program_stops, observer_stops, type_stops, image_stops, start_stops}
 
 -- a command that stops did not come past the typing, and no write failed
 pub record IsEarly (s : Status) : Type 0 where
@@ -37,75 +39,47 @@ broke_early A Disagree t f h = f h
 broke_early A Unfinished t f h = f h
 broke_early A Memory t f h = record { early = refl; no_fault = λ e. cc }
 
+-- ---- single statuses
+
+read_early : IsEarly ReadFault
+read_early = record { early = refl; no_fault = λ e. cc }
+
+long_early : IsEarly TooLong
+long_early = record { early = refl; no_fault = λ e. cc }
+
+syntax_early : IsEarly BadSyntax
+syntax_early = record { early = refl; no_fault = λ e. cc }
+
+starts_early : IsEarly Starts
+starts_early = record { early = refl; no_fault = λ e. cc }
+
+usage_early : IsEarly Usage
+usage_early = record { early = refl; no_fault = λ e. cc }
+
+refused_early : IsEarly Refused
+refused_early = record { early = refl; no_fault = λ e. cc }
+
+-- ---- stages
+
+file_early : (R : Type 0) (f : File) (c : Option (Option (List ℕ))) (Faulty : List ℕ → Type 0) (v s : Status) (t : List ℕ) → IsEarly v → FileStops R f c Faulty v s t → IsEarly s
+file_early R f c Faulty v s t early (inl h) = subst IsEarly (sym h.0) read_early
+file_early R f c Faulty v s t early (inr (inl h)) = subst IsEarly (sym h.0) long_early
+file_early R f c Faulty v s t early (inr (inr h)) = subst IsEarly (sym h.0) early
+
 program_early : (R : Type 0) (c : Option (Option (List ℕ))) (s : Status) (t : List ℕ) → ProgramStops R c s t → IsEarly s
-program_early R c Done t h = absurd h
-program_early R c Refused t h = absurd h
-program_early R c BadSyntax t h = record { early = refl; no_fault = λ e. cc }
-program_early R c Starts t h = absurd h
-program_early R c Usage t h = absurd h
-program_early R c ReadFault t h = record { early = refl; no_fault = λ e. cc }
-program_early R c WriteFault t h = absurd h
-program_early R c TooLong t h = record { early = refl; no_fault = λ e. cc }
-program_early R c Budget t h = absurd h
-program_early R c Disagree t h = absurd h
-program_early R c Unfinished t h = absurd h
-program_early R c Memory t h = absurd h
+program_early R c s t h = file_early R program_file c (BadText c) BadSyntax s t syntax_early (program_stops R c s t h)
 
 observer_early : (o : Order) (w : Option (List ℕ)) (s : Status) (t : List ℕ) → ObserverStops o w s t → IsEarly s
-observer_early o w Done t h = absurd h
-observer_early o w Refused t h = absurd h
-observer_early o w BadSyntax t h = absurd h
-observer_early o w Starts t h = absurd h
-observer_early o w Usage t h = record { early = refl; no_fault = λ e. cc }
-observer_early o w ReadFault t h = absurd h
-observer_early o w WriteFault t h = absurd h
-observer_early o w TooLong t h = absurd h
-observer_early o w Budget t h = absurd h
-observer_early o w Disagree t h = absurd h
-observer_early o w Unfinished t h = absurd h
-observer_early o w Memory t h = absurd h
+observer_early o w s t h = subst IsEarly (sym (observer_stops o w s t h).0) usage_early
 
 type_early : (p : Syntax) (s : Status) (t : List ℕ) → TypeStops p s t → IsEarly s
-type_early p Done t h = absurd h
-type_early p Refused t h = record { early = refl; no_fault = λ e. cc }
-type_early p BadSyntax t h = absurd h
-type_early p Starts t h = absurd h
-type_early p Usage t h = absurd h
-type_early p ReadFault t h = absurd h
-type_early p WriteFault t h = absurd h
-type_early p TooLong t h = absurd h
-type_early p Budget t h = absurd h
-type_early p Disagree t h = absurd h
-type_early p Unfinished t h = absurd h
-type_early p Memory t h = absurd h
+type_early p s t h = subst IsEarly (sym (type_stops p s t h).0) refused_early
 
 image_early : (q : LabelledProgram) (s : Status) (t : List ℕ) → ImageStops q s t → IsEarly s
-image_early q Done t h = absurd h
-image_early q Refused t h = absurd h
-image_early q BadSyntax t h = absurd h
-image_early q Starts t h = absurd h
-image_early q Usage t h = absurd h
-image_early q ReadFault t h = absurd h
-image_early q WriteFault t h = absurd h
-image_early q TooLong t h = record { early = refl; no_fault = λ e. cc }
-image_early q Budget t h = absurd h
-image_early q Disagree t h = absurd h
-image_early q Unfinished t h = absurd h
-image_early q Memory t h = absurd h
+image_early q s t h = subst IsEarly (sym (image_stops q s t h).0) long_early
 
 start_early : (R : Type 0) (c : Option (Option (List ℕ))) (p : Syntax) (s : Status) (t : List ℕ) → StartStops R c p s t → IsEarly s
-start_early R c p Done t h = absurd h
-start_early R c p Refused t h = absurd h
-start_early R c p BadSyntax t h = absurd h
-start_early R c p Starts t h = record { early = refl; no_fault = λ e. cc }
-start_early R c p Usage t h = absurd h
-start_early R c p ReadFault t h = record { early = refl; no_fault = λ e. cc }
-start_early R c p WriteFault t h = absurd h
-start_early R c p TooLong t h = record { early = refl; no_fault = λ e. cc }
-start_early R c p Budget t h = absurd h
-start_early R c p Disagree t h = absurd h
-start_early R c p Unfinished t h = absurd h
-start_early R c p Memory t h = absurd h
+start_early R c p s t h = file_early R starts_file c (HasStartFault c p) Starts s t starts_early (start_stops R c p s t h)
 
 compiles_early : (Rises : List ℕ → Type 0) (content : Content) (file : List ℕ) (observer : Option (List ℕ)) (Next : Syntax → LabelledProgram → Option Label → Code → Status → List ℕ → Type 0) (s : Status) (t : List ℕ)
     → ((p : Syntax) (q : LabelledProgram) (o : Option Label) (code : Code) → Next p q o code s t → IsEarly s) → Compiles Rises content file observer Next s t → IsEarly s
@@ -139,3 +113,24 @@ type_not_late p e h = not_late (status_of e) (broke_early (TypeStops p) (status_
 
 pub compile_not_late : (Rises : List ℕ → Type 0) (content : Content) (file : List ℕ) (observer : Option (List ℕ)) (e : Stop) → IsStop (CompileStops Rises content file observer) e → IsTrue (is_past_typing (status_of e)) → ⊥
 compile_not_late Rises content file observer e h = not_late (status_of e) (broke_early (CompileStops Rises content file observer) (status_of e) (stop_text e) (compile_early Rises content file observer (status_of e) (stop_text e)) h)
+
+-- ---- what was written
+
+-- the status that came past the typing is the one that is told, where no write failed
+pub past_told : (r s : Status) → (r ≢ WriteFault → r ≡ s) → IsTrue (is_past_typing r) → IsTrue (is_past_typing s)
+past_told r s told past =
+    let none : r ≢ WriteFault = λ e. absurd (past_no_fault (subst (λ (z : Status). IsTrue (is_past_typing z)) e past)) in
+    subst (λ (z : Status). IsTrue (is_past_typing z)) (told none) past
+  where
+    past_no_fault : IsTrue (is_past_typing WriteFault) → ⊥
+    past_no_fault e = cc
+
+check_early : (Rises : List ℕ → Type 0) (content : Content) (file : List ℕ) (s : Status) (t : List ℕ) → CheckStops Rises content file s t → IsEarly s
+check_early Rises content file s t =
+    then_early (ProgramStops (Rises file) (content file)) (Reads (content file)) (λ p. Then (TypeStops p) (Types p) (λ q. NoMore)) s t (program_early (Rises file) (content file) s t)
+    (λ p. then_early (TypeStops p) (Types p) (λ q. NoMore) s t (type_early p s t) (λ q n. absurd n))
+
+-- what stops `check` and is written did not come past the typing
+pub check_stopped : (Rises : List ℕ → Type 0) (content : Content) (file : List ℕ) (e : Stop) (r : Status) (W : Type 0) → IsStop (CheckStops Rises content file) e → (r ≢ WriteFault → (r ≡ status_of e) × W) → IsTrue (is_past_typing r) → ⊥
+check_stopped Rises content file e r W h told past =
+    not_late (status_of e) (broke_early (CheckStops Rises content file) (status_of e) (stop_text e) (check_early Rises content file (status_of e) (stop_text e)) h) (past_told r (status_of e) (λ n. (told n).0) past)

@@ -1,11 +1,10 @@
 -- Stages that do not stop: what a stage gives, and what excludes each of its stops.
-use Rattle.std.proofs.Common.{◌≡◌, ◌≤◌, ◌<◌, ℕ, List, [], ◌∷◌, All, length, Option, Some, None, Ok, Err, inl, inr, refl, sym, ap, subst, ◌∙◌, arith, codes}
+use Rattle.std.proofs.Common.{◌≡◌, ◌≤◌, ℕ, List, ◌∷◌, length, Option, Some, None, Ok, Err, inl, inr, sym, ap, subst, ◌∙◌, arith}
 use Rattle.std.proofs.lemmas.Option.{none-some}
 use Rattle.tim_base.specs.Told.{limit, IsTold, IsTooLong}
 use Rattle.label_lattice.specs.declared.label.Label.{Label}
-use Rattle.label_lattice.specs.Order.{Order, name_of}
-use Rattle.mit_syntax.specs.declared.token.Token.{Token}
-use Rattle.mit_syntax.specs.Cut.{AreTokens, IsFault}
+use Rattle.label_lattice.specs.Order.{Order}
+use Rattle.mit_syntax.specs.Cut.{AreTokens}
 use Rattle.mit_syntax.specs.Program.{Syntax}
 use Rattle.mit_syntax.proofs.OneFault.{no_tokens}
 use Rattle.mit_syntax.proofs.OneList.{one_list}
@@ -16,19 +15,30 @@ use Rattle.parse_laws.proofs.Meant.{program_spelled}
 use Rattle.start_file.specs.Starts.{StartValue, Gives}
 use Rattle.start_file.proofs.OneAnswer.{one_answer}
 use Rattle.timing_types.specs.Labelled.{LabelledProgram}
+use Rattle.code_lower.specs.declared.lower.TheConstants.{MAX_INSTRUCTIONS}
 use Rattle.code_lower.specs.Lowered.{lowered}
 use Rattle.black_box.specs.Files.{refusal}
 use Rattle.mit_tool.specs.declared.status.Status.{Status}
 use Rattle.mit_tool.specs.declared.status.Status.TheVariants as status
-use Rattle.mit_tool.specs.Stages.{Then, Reads, HasTextFault, HasParseFault, ProgramStops, Observes, IsUnknown, ObserverStops, TypeStops, ImageStops, StartsAre, HasStartFault, StartStops, FirstStart, FirstStops}
+use Rattle.mit_tool.specs.Stages.{Then, Reads, HasTextFault, HasParseFault, ProgramStops, Observes, IsUnknown, ObserverStops, TypeStops, ImageStops, StartsAre, HasStartFault, StartStops, FirstStart}
 use Rattle.mit_tool.specs.Audited.{ReadyStops, HasReadyFault}
+use Rattle.mit_tool.specs.Texts.{program, starts, ready}
 use Rattle.mit_tool.specs.Complete.{IsKnown, IsTypable}
+use Rattle.mit_tool.proofs.StageStops.{BadText, file_goes, program_stops, observer_stops, type_stops, image_stops, start_stops, ready_stops}
 
 -- a stage that does not stop
 pub then_goes : {A : Type 0} (Stops : Status → List ℕ → Type 0) (Gives : A → Type 0) (Next : A → Status → List ℕ → Type 0) (s : Status) (t : List ℕ)
     → (Stops s t → ⊥) → ((a : A) → Gives a → Next a s t → s ≡ status.Done) → Then Stops Gives Next s t → s ≡ status.Done
 then_goes Stops Gives Next s t f g (inl h) = absurd (f h)
 then_goes Stops Gives Next s t f g (inr h) = g h.0 h.1 h.2
+
+-- a stage that does not stop, and gives one value at most
+pub then_goes_from : {A : Type 0} (Stops : Status → List ℕ → Type 0) (Gives : A → Type 0) (Next : A → Status → List ℕ → Type 0) (s : Status) (t : List ℕ)
+    (a : A) → Gives a → ((a b : A) → Gives a → Gives b → a ≡ b) → (Stops s t → ⊥) → (Next a s t → s ≡ status.Done) → Then Stops Gives Next s t → s ≡ status.Done
+then_goes_from Stops Gives Next s t a given one f g (inl h) = absurd (f h)
+then_goes_from Stops Gives Next s t a given one f g (inr h) =
+    let same : h.0 ≡ a = one h.0 a h.1 given in
+    g (subst (λ z. Next z s t) same h.2)
 
 -- ---- files
 
@@ -57,20 +67,12 @@ no_parse_fault c p t known r f =
     let words : told f.bytes f.tokens ≡ told r.bytes r.tokens = ap (λ (z : List ℕ). told z f.tokens) same ∙ ap (told r.bytes) list in
     f.none (not_refused (told r.bytes r.tokens) (program_spelled (told r.bytes r.tokens) p r.spelled) f.fault (subst (λ (w : List Told). Refuses w f.fault) words f.is))
 
+no_bad_text : (c : Option (Option (List ℕ))) (p : Syntax) (t : List ℕ) → IsKnown c → Reads c p → BadText c t → ⊥
+no_bad_text c p t known r (inl f) = no_text_fault c p t known r f
+no_bad_text c p t known r (inr f) = no_parse_fault c p t known r f
+
 pub program_goes : (R : Type 0) (c : Option (Option (List ℕ))) (p : Syntax) (s : Status) (t : List ℕ) → (R → ⊥) → IsKnown c → Reads c p → ProgramStops R c s t → ⊥
-program_goes R c p status.Done t n known r h = h
-program_goes R c p status.Refused t n known r h = h
-program_goes R c p status.Syntax t n known r (inl h) = no_text_fault c p t known r h
-program_goes R c p status.Syntax t n known r (inr h) = no_parse_fault c p t known r h
-program_goes R c p status.Starts t n known r h = h
-program_goes R c p status.Usage t n known r h = h
-program_goes R c p status.ReadFault t n known r h = n h.0
-program_goes R c p status.WriteFault t n known r h = h
-program_goes R c p status.TooLong t n known r h = not_long c r.bytes known r.are r.short h.0
-program_goes R c p status.Budget t n known r h = h
-program_goes R c p status.Disagree t n known r h = h
-program_goes R c p status.Unfinished t n known r h = h
-program_goes R c p status.Memory t n known r h = h
+program_goes R c p s t n known r h = file_goes R program c (BadText c) status.Syntax s t n (not_long c r.bytes known r.are r.short) (no_bad_text c p t known r) (program_stops R c s t h)
 
 -- ---- an observer
 
@@ -80,48 +82,15 @@ not_unknown o (Some w) None h u = h
 not_unknown o (Some w) (Some l) h u = u l.number h.0 h.1
 
 pub observer_goes : (o : Order) (w : Option (List ℕ)) (l : Option Label) (s : Status) (t : List ℕ) → Observes o w l → ObserverStops o w s t → ⊥
-observer_goes o w l status.Done t k h = h
-observer_goes o w l status.Refused t k h = h
-observer_goes o w l status.Syntax t k h = h
-observer_goes o w l status.Starts t k h = h
-observer_goes o w l status.Usage t k h = not_unknown o w l k h.0
-observer_goes o w l status.ReadFault t k h = h
-observer_goes o w l status.WriteFault t k h = h
-observer_goes o w l status.TooLong t k h = h
-observer_goes o w l status.Budget t k h = h
-observer_goes o w l status.Disagree t k h = h
-observer_goes o w l status.Unfinished t k h = h
-observer_goes o w l status.Memory t k h = h
+observer_goes o w l s t k h = not_unknown o w l k (observer_stops o w s t h).1
 
 -- ---- labels and an image
 
 pub typing_goes : (p : Syntax) (s : Status) (t : List ℕ) → IsTypable p → TypeStops p s t → ⊥
-typing_goes p status.Done t k h = h
-typing_goes p status.Refused t k h = h.none k.0 k.1 k.2
-typing_goes p status.Syntax t k h = h
-typing_goes p status.Starts t k h = h
-typing_goes p status.Usage t k h = h
-typing_goes p status.ReadFault t k h = h
-typing_goes p status.WriteFault t k h = h
-typing_goes p status.TooLong t k h = h
-typing_goes p status.Budget t k h = h
-typing_goes p status.Disagree t k h = h
-typing_goes p status.Unfinished t k h = h
-typing_goes p status.Memory t k h = h
+typing_goes p s t k h = (type_stops p s t h).1.none k.0 k.1 k.2
 
-pub image_goes : (q : LabelledProgram) (s : Status) (t : List ℕ) → length (lowered q).instrs ≤ 200000 → ImageStops q s t → ⊥
-image_goes q status.Done t k h = h
-image_goes q status.Refused t k h = h
-image_goes q status.Syntax t k h = h
-image_goes q status.Starts t k h = h
-image_goes q status.Usage t k h = h
-image_goes q status.ReadFault t k h = h
-image_goes q status.WriteFault t k h = h
-image_goes q status.TooLong t k h = let more = h.0 in omega (arith, more, k)
-image_goes q status.Budget t k h = h
-image_goes q status.Disagree t k h = h
-image_goes q status.Unfinished t k h = h
-image_goes q status.Memory t k h = h
+pub image_goes : (q : LabelledProgram) (s : Status) (t : List ℕ) → length (lowered q).instrs ≤ MAX_INSTRUCTIONS → ImageStops q s t → ⊥
+image_goes q s t k h = let more = (image_stops q s t h).1 in omega (arith, more, k)
 
 -- ---- starts
 
@@ -132,18 +101,7 @@ no_start_fault c p ss t known r f =
     absurd (cc e)
 
 pub starts_go : (R : Type 0) (c : Option (Option (List ℕ))) (p : Syntax) (ss : List StartValue) (s : Status) (t : List ℕ) → (R → ⊥) → IsKnown c → StartsAre c p ss → StartStops R c p s t → ⊥
-starts_go R c p ss status.Done t n known r h = h
-starts_go R c p ss status.Refused t n known r h = h
-starts_go R c p ss status.Syntax t n known r h = h
-starts_go R c p ss status.Starts t n known r h = no_start_fault c p ss t known r h
-starts_go R c p ss status.Usage t n known r h = h
-starts_go R c p ss status.ReadFault t n known r h = n h.0
-starts_go R c p ss status.WriteFault t n known r h = h
-starts_go R c p ss status.TooLong t n known r h = not_long c r.0 known r.1 r.2 h.0
-starts_go R c p ss status.Budget t n known r h = h
-starts_go R c p ss status.Disagree t n known r h = h
-starts_go R c p ss status.Unfinished t n known r h = h
-starts_go R c p ss status.Memory t n known r h = h
+starts_go R c p ss s t n known r h = file_goes R starts c (HasStartFault c p) status.Starts s t n (not_long c r.0 known r.1 r.2) (no_start_fault c p ss t known r) (start_stops R c p s t h)
 
 -- ---- a file of ready cycles
 
@@ -153,18 +111,7 @@ no_ready_fault c bytes t known are none f =
     none-some f.fault (sym none ∙ ap refusal (sym same) ∙ f.is)
 
 pub ready_goes : (R : Type 0) (c : Option (Option (List ℕ))) (bytes : List ℕ) (s : Status) (t : List ℕ) → (R → ⊥) → IsKnown c → IsTold c bytes → length bytes ≤ limit → refusal bytes ≡ None → ReadyStops R c s t → ⊥
-ready_goes R c bytes status.Done t n known are short k h = h
-ready_goes R c bytes status.Refused t n known are short k h = h
-ready_goes R c bytes status.Syntax t n known are short k h = h
-ready_goes R c bytes status.Starts t n known are short k h = no_ready_fault c bytes t known are k h
-ready_goes R c bytes status.Usage t n known are short k h = h
-ready_goes R c bytes status.ReadFault t n known are short k h = n h.0
-ready_goes R c bytes status.WriteFault t n known are short k h = h
-ready_goes R c bytes status.TooLong t n known are short k h = not_long c bytes known are short h.0
-ready_goes R c bytes status.Budget t n known are short k h = h
-ready_goes R c bytes status.Disagree t n known are short k h = h
-ready_goes R c bytes status.Unfinished t n known are short k h = h
-ready_goes R c bytes status.Memory t n known are short k h = h
+ready_goes R c bytes s t n known are short k h = file_goes R ready c (HasReadyFault c) status.Starts s t n (not_long c bytes known are short) (no_ready_fault c bytes t known are k) (ready_stops R c s t h)
 
 -- ---- a first start of files that are read later
 

@@ -14,6 +14,7 @@ pub mod AuditLemmas
 pub mod EarlyLemmas
 pub mod PieceLemmas
 pub mod TellLemmas
+pub mod StageStops
 pub mod GoesLemmas
 pub mod MadeLemmas
 pub mod OneLemmas

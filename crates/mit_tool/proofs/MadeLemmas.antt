@@ -1,8 +1,6 @@
 -- A made text is read, and one of its labels is L.
-use Rattle.std.proofs.Common.{◌≡◌, ◌≢◌, ◌≤◌, ◌<◌, ℕ, zero, suc, List, [], ◌∷◌, ◌++◌, length, Option, Some, None, inl, inr, refl, sym, ap, subst, ◌∙◌, arith, codes}
+use Rattle.std.proofs.Common.{◌≡◌, ◌≤◌, ◌<◌, ℕ, zero, suc, List, [], ◌∷◌, ◌++◌, length, Option, Some, inl, inr, sym, ap, subst, ◌∙◌, arith, codes}
 use Rattle.std.specs.Prelude.{slice_index_or}
-use Rattle.tim_base.specs.Told.{limit}
-use Rattle.label_lattice.specs.declared.label.Label.{Label}
 use Rattle.label_lattice.specs.Order.{Order, name_of}
 use Rattle.mit_syntax.specs.declared.token.Token.{Token}
 use Rattle.mit_syntax.specs.Cut.{start, moved, end_at, AreTokens}
@@ -11,8 +9,8 @@ use Rattle.mit_syntax.proofs.OneFault.{no_tokens}
 use Rattle.mit_parser.specs.Words.{Told, told}
 use Rattle.mit_parser.specs.Tree.{Header, no_header, ProgramTree}
 use Rattle.mit_parser.specs.Faults.{header_labels}
-use Rattle.mit_parser.specs.Spells.{Spells, Refuses, Resolves}
-use Rattle.mit_gen.specs.Made.{program_text, starts_text}
+use Rattle.mit_parser.specs.Spells.{Spells, Refuses}
+use Rattle.mit_gen.specs.Made.{program_text}
 use Rattle.mit_gen.proofs.Sizes.{program_short}
 use Rattle.made_words.specs.Words.{HasWords}
 use Rattle.made_words.specs.MadeWords.{program_chunks, program_words}
@@ -26,7 +24,9 @@ use Rattle.parse_laws.proofs.OneProgram.{one_tree}
 use Rattle.parse_laws.proofs.Refused.{not_refused}
 use Rattle.mit_tool.specs.declared.status.Status.{Status}
 use Rattle.mit_tool.specs.declared.status.Status.TheVariants as status
-use Rattle.mit_tool.specs.Stages.{Reads, HasTextFault, HasParseFault, ProgramStops, Observes, IsUnknown, ObserverStops}
+use Rattle.mit_tool.specs.Stages.{Reads, HasTextFault, HasParseFault, ProgramStops, ObserverStops}
+use Rattle.mit_tool.specs.Texts.{program}
+use Rattle.mit_tool.proofs.StageStops.{BadText, file_goes, program_stops, observer_stops}
 
 made_words : (size number : ℕ) → HasWords (program_text size number) (program_words size number)
 made_words size number =
@@ -45,20 +45,14 @@ no_parse_fault size number t some f =
     let is : Refuses (told (program_text size number) f.tokens) f.fault = subst (λ (z : List ℕ). Refuses (told z f.tokens) f.fault) f.are f.is in
     f.none (not_refused (told (program_text size number) f.tokens) (made_spelled size number some (made_words size number) f.tokens cut) f.fault is)
 
+no_bad_text : (size number : ℕ) (t : List ℕ) → 0 < size → BadText (Some (Some (program_text size number))) t → ⊥
+no_bad_text size number t some (inl f) = no_text_fault size number t f
+no_bad_text size number t some (inr f) = no_parse_fault size number t some f
+
 pub made_goes : (size number : ℕ) (s : Status) (t : List ℕ) → 0 < size → size ≤ 10000 → ProgramStops ⊥ (Some (Some (program_text size number))) s t → ⊥
-made_goes size number status.Done t some few h = h
-made_goes size number status.Refused t some few h = h
-made_goes size number status.Syntax t some few (inl h) = no_text_fault size number t h
-made_goes size number status.Syntax t some few (inr h) = no_parse_fault size number t some h
-made_goes size number status.Starts t some few h = h
-made_goes size number status.Usage t some few h = h
-made_goes size number status.ReadFault t some few h = h.0
-made_goes size number status.WriteFault t some few h = h
-made_goes size number status.TooLong t some few h = let long = h.0 in let short = program_short size number few in omega (arith, long, short)
-made_goes size number status.Budget t some few h = h
-made_goes size number status.Disagree t some few h = h
-made_goes size number status.Unfinished t some few h = h
-made_goes size number status.Memory t some few h = h
+made_goes size number s t some few h =
+    let c : Option (Option (List ℕ)) = Some (Some (program_text size number)) in
+    file_goes ⊥ program c (BadText c) status.Syntax s t (λ n. n) (λ long. let short = program_short size number few in omega (arith, long, short)) (no_bad_text size number t some) (program_stops ⊥ c s t h)
 
 -- ---- its labels
 
@@ -83,15 +77,6 @@ made_low size number p some r =
     first_is_low r.spelled.tree.header p.order (made_header size number r.tokens r.spelled.tree some cut spells) r.spelled.resolves.order.size r.spelled.resolves.order.named
 
 pub made_observer_goes : (size number : ℕ) (p : Syntax) (s : Status) (t : List ℕ) → 0 < size → Reads (Some (Some (program_text size number))) p → ObserverStops p.order (Some (codes "L")) s t → ⊥
-made_observer_goes size number p status.Done t some r h = h
-made_observer_goes size number p status.Refused t some r h = h
-made_observer_goes size number p status.Syntax t some r h = h
-made_observer_goes size number p status.Starts t some r h = h
-made_observer_goes size number p status.Usage t some r h = let k = made_low size number p some r in h.0 0 k.0 k.1
-made_observer_goes size number p status.ReadFault t some r h = h
-made_observer_goes size number p status.WriteFault t some r h = h
-made_observer_goes size number p status.TooLong t some r h = h
-made_observer_goes size number p status.Budget t some r h = h
-made_observer_goes size number p status.Disagree t some r h = h
-made_observer_goes size number p status.Unfinished t some r h = h
-made_observer_goes size number p status.Memory t some r h = h
+made_observer_goes size number p s t some r h =
+    let k = made_low size number p some r in
+    (observer_stops p.order (Some (codes "L")) s t h).1 0 k.0 k.1

@@ -1,5 +1,5 @@
 -- A command has one answer at most.
-use Rattle.std.proofs.Common.{◌≡◌, ◌≢◌, ◌^◌, ℕ, List, [], ◌∷◌, ◌++◌, All, length, Option, Some, None, inl, inr, refl, sym, ap, subst, ◌∙◌, codes}
+use Rattle.std.proofs.Common.{◌≡◌, ◌^◌, ℕ, List, [], ◌∷◌, length, Option, Some, None, sym, subst, ◌∙◌, codes}
 use Rattle.label_lattice.specs.declared.label.Label.{Label}
 use Rattle.label_lattice.specs.Order.{IsOrder}
 use Rattle.mit_syntax.specs.Plan.{count}
@@ -12,7 +12,6 @@ use Rattle.mit_gen.specs.Made.{starts_text}
 use Rattle.black_box.proofs.FileLemmas.{one_list}
 use Rattle.black_box.specs.Files.{Holds}
 use Rattle.mit_tool.specs.declared.status.Status.{Status}
-use Rattle.mit_tool.specs.declared.status.Status.TheVariants as status
 use Rattle.mit_tool.specs.declared.words.EnvName.{EnvName}
 use Rattle.mit_tool.specs.declared.words.EnvName.TheVariants.{Part}
 use Rattle.mit_tool.specs.WordsAsked.{Asked, check, infer, compile, run, meaning, audit, gen, cut, blackbox, certify, recheck}
@@ -21,7 +20,7 @@ use Rattle.mit_tool.specs.Stages.{Then, ProgramStops, Reads, ObserverStops, Obse
 use Rattle.mit_tool.specs.Audited.{HasAudited, HasCut, HoldsRuns, ReadyStops, HasReleased}
 use Rattle.mit_tool.specs.Means.{HasMeant}
 use Rattle.mit_tool.specs.Answers.{Content, Compiles, Prepares, HasChecked, HasInferred, HasListed, HasRun, made_content, IsAnswer}
-use Rattle.mit_tool.specs.Complete.{files_of, IsKnown, AreKnown, NoneRises}
+use Rattle.mit_tool.specs.Complete.{IsKnown, AreKnown, NoneRises}
 use Rattle.mit_tool.proofs.GoesLemmas.{one_told, program_goes, observer_goes, starts_go}
 use Rattle.mit_tool.proofs.CompleteLemmas.{first_file, second_file, no_other, one_other}
 use Rattle.mit_tool.proofs.OneLemmas.{Same, then_one, one_program, one_program_stop, one_observer_stop, one_typed, typed_or_not, one_type_stop, one_image_stop, image_or_not, one_list_of_starts, one_start_stop, one_ready_stop, runs_or_not}

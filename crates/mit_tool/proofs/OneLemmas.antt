@@ -1,42 +1,36 @@
 -- One answer at most: what a stage gives, and what it stops with, is one.
-use Rattle.std.proofs.Common.{◌≡◌, ◌≢◌, ◌≤◌, ◌<◌, ◌⊎◌, ℕ, List, [], ◌∷◌, All, AllPairs, length, Option, Some, None, Ok, Err, inl, inr, refl, sym, ap, subst, ◌∙◌, arith, codes}
-use Rattle.std.proofs.lemmas.Option.{none-some}
-use Rattle.tim_base.specs.Told.{limit, IsTold, IsTooLong}
-use Rattle.label_lattice.specs.declared.label.Label.{Label}
-use Rattle.label_lattice.specs.Order.{Order, IsOrder, name_of}
+use Rattle.std.proofs.Common.{◌≡◌, ◌≤◌, ℕ, List, length, Option, Some, Ok, Err, inl, inr, refl, sym, ap, subst, ◌∙◌}
+use Rattle.tim_base.specs.Told.{IsTold, IsTooLong}
+use Rattle.label_lattice.specs.Order.{Order, IsOrder}
 use Rattle.mit_syntax.specs.declared.token.Token.{Token}
-use Rattle.mit_syntax.specs.declared.fault.TextFault.{TextFault}
-use Rattle.mit_syntax.specs.declared.fault.TextFault.TheVariants as text_fault
 use Rattle.mit_syntax.specs.Cut.{AreTokens, IsFault}
 use Rattle.mit_syntax.specs.Program.{Syntax}
 use Rattle.mit_syntax.proofs.OneFault.{no_tokens, one_fault}
 use Rattle.mit_syntax.proofs.OneList.{one_list}
 use Rattle.mit_parser.specs.declared.fault.ParseFault.{ParseFault}
-use Rattle.mit_parser.specs.declared.fault.ParseFault.TheVariants as parse_fault
 use Rattle.mit_parser.specs.Words.{Told, told}
 use Rattle.mit_parser.specs.Spells.{IsProgram, Refuses}
 use Rattle.parse_laws.proofs.Meant.{one_meaning}
 use Rattle.parse_laws.proofs.OneRefusal.{one_refusal}
-use Rattle.start_file.specs.declared.fault.StartFault.{StartFault}
 use Rattle.start_file.specs.Starts.{StartValue, Gives}
 use Rattle.start_file.proofs.OneAnswer.{one_answer}
 use Rattle.timing_types.specs.Labelling.{Labelling}
 use Rattle.timing_types.specs.Labelled.{LabelledProgram, HasType, first_broken_of}
 use Rattle.timing_types.specs.declared.rule.TypeFault.TheVariants.{Refused as BrokenAt}
-use Rattle.label_infer.specs.Least.{Labels, IsLeast}
 use Rattle.label_infer.proofs.OneLeast.{one_least, one_labelled}
 use Rattle.label_code.specs.Shaped.{Code}
+use Rattle.code_lower.specs.declared.lower.TheConstants.{MAX_INSTRUCTIONS}
 use Rattle.code_lower.specs.Lowered.{lowered}
-use Rattle.black_box.specs.declared.fault.ReadyFault.{ReadyFault}
-use Rattle.black_box.specs.Files.{refusal, Holds}
+use Rattle.black_box.specs.Files.{refusal}
 use Rattle.mit_tool.specs.declared.status.Status.{Status}
 use Rattle.mit_tool.specs.declared.status.Status.TheVariants as status
-use Rattle.mit_tool.specs.Texts.{File, program, starts, ready, usage_text, too_long_line, text_fault_line, parse_fault_line, start_fault_line, refused_line, number_line}
+use Rattle.mit_tool.specs.Texts.{File, program, starts, ready, text_fault_line, parse_fault_line, start_fault_line, refused_line}
 use Rattle.mit_tool.specs.Reports.{ready_fault_line}
-use Rattle.mit_tool.specs.Stages.{Then, Reads, HasTextFault, HasParseFault, ProgramStops, header_name, Observes, ObserverStops, Types, HasNoType, TypeStops, HasImage, ImageStops, StartsAre, HasStartFault, StartStops, zero_start, FirstStart, FirstStops}
+use Rattle.mit_tool.specs.Stages.{Then, Reads, ProgramStops, header_name, ObserverStops, Types, HasNoType, TypeStops, HasImage, ImageStops, StartsAre, HasStartFault, StartStops}
 use Rattle.mit_tool.specs.Audited.{HoldsRuns, HasReadyFault, ReadyStops}
 use Rattle.mit_tool.specs.Complete.{IsKnown}
-use Rattle.mit_tool.proofs.GoesLemmas.{one_told, program_goes, not_long, observer_goes, image_goes, starts_go, ready_goes}
+use Rattle.mit_tool.proofs.StageStops.{FileStops, BadText, program_stops, observer_stops, type_stops, image_stops, start_stops, ready_stops}
+use Rattle.mit_tool.proofs.GoesLemmas.{one_told, not_long, image_goes, ready_goes}
 
 -- two answers are one
 abbrev pub Same : Status → Status → List ℕ → List ℕ → Type 0
@@ -53,38 +47,19 @@ then_one Stops Gives Next s u t x stop not one next (inr h) (inr k) =
     let same : k.0 ≡ h.0 = one k.0 h.0 k.1 h.1 in
     next h.0 h.1 h.2 (subst (λ z. Next z u x) same k.2)
 
--- ---- a file's stops: too long, or another
+-- ---- a file
 
--- what a stage that reads a file stops with, where the file was read
-abbrev FileStops : File → Option (Option (List ℕ)) → (List ℕ → Type 0) → Status → Status → List ℕ → Type 0
-FileStops f c Faulty v s t = ((s ≡ status.TooLong) × IsTooLong c × (t ≡ too_long_line f)) ⊎ ((s ≡ v) × Faulty t)
-
--- one fault at most, and a faulty file is not too long
-file_stop : (f : File) (c : Option (Option (List ℕ))) (Faulty : List ℕ → Type 0) (v s u : Status) (t x : List ℕ)
-    → ((t : List ℕ) → Faulty t → IsTooLong c → ⊥) → ((t x : List ℕ) → Faulty t → Faulty x → t ≡ x) → FileStops f c Faulty v s t → FileStops f c Faulty v u x → Same s u t x
-file_stop f c Faulty v s u t x short one (inl h) (inl k) = (h.0 ∙ sym k.0, h.2 ∙ sym k.2)
-file_stop f c Faulty v s u t x short one (inl h) (inr k) = absurd (short x k.1 h.1)
-file_stop f c Faulty v s u t x short one (inr h) (inl k) = absurd (short t h.1 k.1)
-file_stop f c Faulty v s u t x short one (inr h) (inr k) = (h.0 ∙ sym k.0, one t x h.1 k.1)
+-- a file that is read stops with one fault at most, and a faulty file is not too long
+file_stop : (R : Type 0) (f : File) (c : Option (Option (List ℕ))) (Faulty : List ℕ → Type 0) (v s u : Status) (t x : List ℕ)
+    → (R → ⊥) → ((t : List ℕ) → Faulty t → IsTooLong c → ⊥) → ((t x : List ℕ) → Faulty t → Faulty x → t ≡ x) → FileStops R f c Faulty v s t → FileStops R f c Faulty v u x → Same s u t x
+file_stop R f c Faulty v s u t x n short one (inl h) k = absurd (n h.1)
+file_stop R f c Faulty v s u t x n short one (inr h) (inl k) = absurd (n k.1)
+file_stop R f c Faulty v s u t x n short one (inr (inl h)) (inr (inl k)) = (h.0 ∙ sym k.0, h.2 ∙ sym k.2)
+file_stop R f c Faulty v s u t x n short one (inr (inl h)) (inr (inr k)) = absurd (short x k.1 h.1)
+file_stop R f c Faulty v s u t x n short one (inr (inr h)) (inr (inl k)) = absurd (short t h.1 k.1)
+file_stop R f c Faulty v s u t x n short one (inr (inr h)) (inr (inr k)) = (h.0 ∙ sym k.0, one t x h.1 k.1)
 
 -- ---- a program
-
-abbrev BadText : Option (Option (List ℕ)) → List ℕ → Type 0
-BadText c t = HasTextFault c t ⊎ HasParseFault c t
-
-program_stops : (R : Type 0) (c : Option (Option (List ℕ))) (s : Status) (t : List ℕ) → (R → ⊥) → ProgramStops R c s t → FileStops program c (BadText c) status.Syntax s t
-program_stops R c status.Done t n h = absurd h
-program_stops R c status.Refused t n h = absurd h
-program_stops R c status.Syntax t n h = inr (refl, h)
-program_stops R c status.Starts t n h = absurd h
-program_stops R c status.Usage t n h = absurd h
-program_stops R c status.ReadFault t n h = absurd (n h.0)
-program_stops R c status.WriteFault t n h = absurd h
-program_stops R c status.TooLong t n h = inl (refl, h.0, h.1)
-program_stops R c status.Budget t n h = absurd h
-program_stops R c status.Disagree t n h = absurd h
-program_stops R c status.Unfinished t n h = absurd h
-program_stops R c status.Memory t n h = absurd h
 
 module _ (c : Option (Option (List ℕ))) (known : IsKnown c) where
   text_not_long : (t : List ℕ) → BadText c t → IsTooLong c → ⊥
@@ -124,29 +99,15 @@ module _ (c : Option (Option (List ℕ))) (known : IsKnown c) where
 
   pub one_program_stop : (R : Type 0) (s u : Status) (t x : List ℕ) → (R → ⊥) → ProgramStops R c s t → ProgramStops R c u x → Same s u t x
   one_program_stop R s u t x n h k =
-      file_stop program c (BadText c) status.Syntax s u t x text_not_long one_text (program_stops R c s t n h) (program_stops R c u x n k)
+      file_stop R program c (BadText c) status.Syntax s u t x n text_not_long one_text (program_stops R c s t h) (program_stops R c u x k)
 
 -- ---- an observer
-
-observer_stops : (o : Order) (w : Option (List ℕ)) (s : Status) (t : List ℕ) → ObserverStops o w s t → (s ≡ status.Usage) × (t ≡ usage_text)
-observer_stops o w status.Done t h = absurd h
-observer_stops o w status.Refused t h = absurd h
-observer_stops o w status.Syntax t h = absurd h
-observer_stops o w status.Starts t h = absurd h
-observer_stops o w status.Usage t h = (refl, h.1)
-observer_stops o w status.ReadFault t h = absurd h
-observer_stops o w status.WriteFault t h = absurd h
-observer_stops o w status.TooLong t h = absurd h
-observer_stops o w status.Budget t h = absurd h
-observer_stops o w status.Disagree t h = absurd h
-observer_stops o w status.Unfinished t h = absurd h
-observer_stops o w status.Memory t h = absurd h
 
 pub one_observer_stop : (o : Order) (w : Option (List ℕ)) (s u : Status) (t x : List ℕ) → ObserverStops o w s t → ObserverStops o w u x → Same s u t x
 one_observer_stop o w s u t x h k =
     let a = observer_stops o w s t h in
     let b = observer_stops o w u x k in
-    (a.0 ∙ sym b.0, a.1 ∙ sym b.1)
+    (a.0 ∙ sym b.0, a.2 ∙ sym b.2)
 
 -- ---- labels
 
@@ -157,34 +118,9 @@ pub one_typed : (p : Syntax) (a b : LabelledProgram) → IsOrder p.order → Typ
 one_typed p a b o h k = one_labelled p o a b h.program k.program h.least k.least
 
 pub typed_or_not : (p : Syntax) (q : LabelledProgram) (s : Status) (t : List ℕ) → Types p q → TypeStops p s t → ⊥
-typed_or_not p q status.Done t k h = h
-typed_or_not p q status.Refused t k h =
+typed_or_not p q s t k h =
     let program : q.program ≡ p = k.program in
-    h.none q.labels k.least.labels (subst HasType (same_labelled q.program p q.labels q.labels program refl) k.typed)
-typed_or_not p q status.Syntax t k h = h
-typed_or_not p q status.Starts t k h = h
-typed_or_not p q status.Usage t k h = h
-typed_or_not p q status.ReadFault t k h = h
-typed_or_not p q status.WriteFault t k h = h
-typed_or_not p q status.TooLong t k h = h
-typed_or_not p q status.Budget t k h = h
-typed_or_not p q status.Disagree t k h = h
-typed_or_not p q status.Unfinished t k h = h
-typed_or_not p q status.Memory t k h = h
-
-pub type_stops : (p : Syntax) (s : Status) (t : List ℕ) → TypeStops p s t → (s ≡ status.Refused) × HasNoType p t
-type_stops p status.Done t h = absurd h
-type_stops p status.Refused t h = (refl, h)
-type_stops p status.Syntax t h = absurd h
-type_stops p status.Starts t h = absurd h
-type_stops p status.Usage t h = absurd h
-type_stops p status.ReadFault t h = absurd h
-type_stops p status.WriteFault t h = absurd h
-type_stops p status.TooLong t h = absurd h
-type_stops p status.Budget t h = absurd h
-type_stops p status.Disagree t h = absurd h
-type_stops p status.Unfinished t h = absurd h
-type_stops p status.Memory t h = absurd h
+    (type_stops p s t h).1.none q.labels k.least.labels (subst HasType (same_labelled q.program p q.labels q.labels program refl) k.typed)
 
 one_broken : (p : Syntax) (t x : List ℕ) → IsOrder p.order → HasNoType p t → HasNoType p x → t ≡ x
 one_broken p t x o f g =
@@ -208,20 +144,6 @@ one_type_stop p s u t x o h k =
 
 -- ---- an image
 
-pub image_stops : (q : LabelledProgram) (s : Status) (t : List ℕ) → ImageStops q s t → (s ≡ status.TooLong) × (200000 < length (lowered q).instrs) × (t ≡ number_line (codes "too long: image ") (length (lowered q).instrs))
-image_stops q status.Done t h = absurd h
-image_stops q status.Refused t h = absurd h
-image_stops q status.Syntax t h = absurd h
-image_stops q status.Starts t h = absurd h
-image_stops q status.Usage t h = absurd h
-image_stops q status.ReadFault t h = absurd h
-image_stops q status.WriteFault t h = absurd h
-image_stops q status.TooLong t h = (refl, h.0, h.1)
-image_stops q status.Budget t h = absurd h
-image_stops q status.Disagree t h = absurd h
-image_stops q status.Unfinished t h = absurd h
-image_stops q status.Memory t h = absurd h
-
 pub one_image_stop : (q : LabelledProgram) (s u : Status) (t x : List ℕ) → ImageStops q s t → ImageStops q u x → Same s u t x
 one_image_stop q s u t x h k =
     let a = image_stops q s t h in
@@ -231,24 +153,10 @@ one_image_stop q s u t x h k =
 pub image_or_not : (q : LabelledProgram) (code : Code) (s : Status) (t : List ℕ) → HasImage q code → ImageStops q s t → ⊥
 image_or_not q code s t k h =
     let is : code ≡ lowered q = k.0 in
-    let short : length (lowered q).instrs ≤ 200000 = subst (λ (z : Code). length z.instrs ≤ 200000) is k.1 in
+    let short : length (lowered q).instrs ≤ MAX_INSTRUCTIONS = subst (λ (z : Code). length z.instrs ≤ MAX_INSTRUCTIONS) is k.1 in
     image_goes q s t short h
 
 -- ---- starts
-
-start_stops : (R : Type 0) (c : Option (Option (List ℕ))) (p : Syntax) (s : Status) (t : List ℕ) → (R → ⊥) → StartStops R c p s t → FileStops starts c (HasStartFault c p) status.Starts s t
-start_stops R c p status.Done t n h = absurd h
-start_stops R c p status.Refused t n h = absurd h
-start_stops R c p status.Syntax t n h = absurd h
-start_stops R c p status.Starts t n h = inr (refl, h)
-start_stops R c p status.Usage t n h = absurd h
-start_stops R c p status.ReadFault t n h = absurd (n h.0)
-start_stops R c p status.WriteFault t n h = absurd h
-start_stops R c p status.TooLong t n h = inl (refl, h.0, h.1)
-start_stops R c p status.Budget t n h = absurd h
-start_stops R c p status.Disagree t n h = absurd h
-start_stops R c p status.Unfinished t n h = absurd h
-start_stops R c p status.Memory t n h = absurd h
 
 module _ (c : Option (Option (List ℕ))) (known : IsKnown c) (p : Syntax) where
   start_not_long : (t : List ℕ) → HasStartFault c p t → IsTooLong c → ⊥
@@ -269,23 +177,9 @@ module _ (c : Option (Option (List ℕ))) (known : IsKnown c) (p : Syntax) where
 
   pub one_start_stop : (R : Type 0) (s u : Status) (t x : List ℕ) → (R → ⊥) → StartStops R c p s t → StartStops R c p u x → Same s u t x
   one_start_stop R s u t x n h k =
-      file_stop starts c (HasStartFault c p) status.Starts s u t x start_not_long one_start_fault (start_stops R c p s t n h) (start_stops R c p u x n k)
+      file_stop R starts c (HasStartFault c p) status.Starts s u t x n start_not_long one_start_fault (start_stops R c p s t h) (start_stops R c p u x k)
 
 -- ---- a file of ready cycles
-
-ready_stops : (R : Type 0) (c : Option (Option (List ℕ))) (s : Status) (t : List ℕ) → (R → ⊥) → ReadyStops R c s t → FileStops ready c (HasReadyFault c) status.Starts s t
-ready_stops R c status.Done t n h = absurd h
-ready_stops R c status.Refused t n h = absurd h
-ready_stops R c status.Syntax t n h = absurd h
-ready_stops R c status.Starts t n h = inr (refl, h)
-ready_stops R c status.Usage t n h = absurd h
-ready_stops R c status.ReadFault t n h = absurd (n h.0)
-ready_stops R c status.WriteFault t n h = absurd h
-ready_stops R c status.TooLong t n h = inl (refl, h.0, h.1)
-ready_stops R c status.Budget t n h = absurd h
-ready_stops R c status.Disagree t n h = absurd h
-ready_stops R c status.Unfinished t n h = absurd h
-ready_stops R c status.Memory t n h = absurd h
 
 module _ (c : Option (Option (List ℕ))) (known : IsKnown c) where
   one_ready_fault : (t x : List ℕ) → HasReadyFault c t → HasReadyFault c x → t ≡ x
@@ -297,7 +191,7 @@ module _ (c : Option (Option (List ℕ))) (known : IsKnown c) where
 
   pub one_ready_stop : (R : Type 0) (s u : Status) (t x : List ℕ) → (R → ⊥) → ReadyStops R c s t → ReadyStops R c u x → Same s u t x
   one_ready_stop R s u t x n h k =
-      file_stop ready c (HasReadyFault c) status.Starts s u t x (λ t f l. not_long c f.bytes known f.are f.short l) one_ready_fault (ready_stops R c s t n h) (ready_stops R c u x n k)
+      file_stop R ready c (HasReadyFault c) status.Starts s u t x n (λ t f l. not_long c f.bytes known f.are f.short l) one_ready_fault (ready_stops R c s t h) (ready_stops R c u x k)
 
   pub runs_or_not : (runs : List (List ℕ)) (R : Type 0) (s : Status) (t : List ℕ) → (R → ⊥) → HoldsRuns c runs → ReadyStops R c s t → ⊥
   runs_or_not runs R s t n k h = ready_goes R c k.bytes s t n known k.are k.short k.taken h

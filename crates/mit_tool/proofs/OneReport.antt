@@ -1,5 +1,5 @@
 -- One answer at most: what audits tell, and what they stop with.
-use Rattle.std.proofs.Common.{◌≡◌, ◌≢◌, ◌≤◌, ◌^◌, ℕ, List, [], ◌∷◌, ◌++◌, length, Option, Some, None, inl, inr, refl, sym, ap, subst, ◌∙◌, codes}
+use Rattle.std.proofs.Common.{◌≡◌, ◌≢◌, ℕ, List, [], ◌++◌, Option, Some, None, inl, inr, refl, sym, ap, ◌∙◌, codes}
 use Rattle.std.specs.List.{AllZip}
 use Rattle.label_lattice.specs.declared.label.Label.{Label}
 use Rattle.label_lattice.specs.Order.{Order}
@@ -27,7 +27,7 @@ use Rattle.mit_tool.specs.declared.words.EnvName.TheVariants.{Flat, Part, Part2}
 use Rattle.mit_tool.specs.Texts.{number_line}
 use Rattle.mit_tool.specs.Reports.{head_lines, tail_lines, audit_lines, cut_lines, disagree_line, unfinished_line, events_line, box_lines}
 use Rattle.mit_tool.specs.Envs.{flat_env, part_env, part2_env, flat_made, part_made, part2_made, ReportsIn, AuditFaultsIn, CutReportsIn, CutFaultsIn}
-use Rattle.mit_tool.specs.Audited.{AuditStops, Audits, HasAudited, CutStops, Cuts, HasCut, HasReleased}
+use Rattle.mit_tool.specs.Audited.{AuditStops, HasAudited, CutStops, HasCut, HasReleased}
 use Rattle.mit_tool.proofs.OneLemmas.{Same}
 
 -- ---- reports and faults in a named environment
@@ -88,27 +88,27 @@ same_cut_lines o l t r s h =
 
 -- ---- audits
 
-abbrev fault_status : AuditFault → Status
+abbrev pub fault_status : AuditFault → Status
 fault_status (audit_fault.Disagree run what) = status.Disagree
 fault_status (audit_fault.Unfinished run cycle) = status.Unfinished
 fault_status (audit_fault.TooMuch count) = status.TooLong
 fault_status audit_fault.Memory = status.Memory
 
-abbrev fault_line : Syntax → AuditFault → List ℕ
+abbrev pub fault_line : Syntax → AuditFault → List ℕ
 fault_line p (audit_fault.Disagree run what) = disagree_line p run what
 fault_line p (audit_fault.Unfinished run cycle) = unfinished_line run cycle
 fault_line p (audit_fault.TooMuch count) = events_line count
 fault_line p audit_fault.Memory = []
 
 -- a stop of an audit is a fault of it
-record HasFault (e : EnvName) (t : ℕ) (q : LabelledProgram) (l : Label) (ss : List StartValue) (s : Status) (x : List ℕ) : Type 0 where
-  fault : AuditFault
-  none : fault ≢ audit_fault.Memory
-  is : AuditFaultsIn e q l.number t ss fault
-  told : s ≡ fault_status fault
-  line : x ≡ fault_line q.program fault
+pub record HasFault (e : EnvName) (t : ℕ) (q : LabelledProgram) (l : Label) (ss : List StartValue) (s : Status) (x : List ℕ) : Type 0 where
+  pub fault : AuditFault
+  pub none : fault ≢ audit_fault.Memory
+  pub is : AuditFaultsIn e q l.number t ss fault
+  pub told : s ≡ fault_status fault
+  pub line : x ≡ fault_line q.program fault
 
-audit_stops : (e : EnvName) (t : ℕ) (q : LabelledProgram) (l : Label) (ss : List StartValue) (s : Status) (x : List ℕ) → AuditStops e t q l ss s x → HasFault e t q l ss s x
+pub audit_stops : (e : EnvName) (t : ℕ) (q : LabelledProgram) (l : Label) (ss : List StartValue) (s : Status) (x : List ℕ) → AuditStops e t q l ss s x → HasFault e t q l ss s x
 audit_stops e t q l ss status.Done x h = absurd h
 audit_stops e t q l ss status.Refused x h = absurd h
 audit_stops e t q l ss status.Syntax x h = absurd h
@@ -141,24 +141,24 @@ one_audit e t q (Some l) ss before s u x y (inr h) (inr k) =
 
 -- ---- audits of runs that may not have halted
 
-abbrev cut_status : CutFault → Status
+abbrev pub cut_status : CutFault → Status
 cut_status (cut_fault.Disagree run what) = status.Disagree
 cut_status (cut_fault.TooMuch count) = status.TooLong
 cut_status cut_fault.Memory = status.Memory
 
-abbrev cut_line : Syntax → CutFault → List ℕ
+abbrev pub cut_line : Syntax → CutFault → List ℕ
 cut_line p (cut_fault.Disagree run what) = disagree_line p run what
 cut_line p (cut_fault.TooMuch count) = events_line count
 cut_line p cut_fault.Memory = []
 
-record HasCutFault (e : EnvName) (t : ℕ) (q : LabelledProgram) (l : Label) (ss : List StartValue) (s : Status) (x : List ℕ) : Type 0 where
-  fault : CutFault
-  none : fault ≢ cut_fault.Memory
-  is : CutFaultsIn e q l.number t ss fault
-  told : s ≡ cut_status fault
-  line : x ≡ cut_line q.program fault
+pub record HasCutFault (e : EnvName) (t : ℕ) (q : LabelledProgram) (l : Label) (ss : List StartValue) (s : Status) (x : List ℕ) : Type 0 where
+  pub fault : CutFault
+  pub none : fault ≢ cut_fault.Memory
+  pub is : CutFaultsIn e q l.number t ss fault
+  pub told : s ≡ cut_status fault
+  pub line : x ≡ cut_line q.program fault
 
-cut_stops : (e : EnvName) (t : ℕ) (q : LabelledProgram) (l : Label) (ss : List StartValue) (s : Status) (x : List ℕ) → CutStops e t q l ss s x → HasCutFault e t q l ss s x
+pub cut_stops : (e : EnvName) (t : ℕ) (q : LabelledProgram) (l : Label) (ss : List StartValue) (s : Status) (x : List ℕ) → CutStops e t q l ss s x → HasCutFault e t q l ss s x
 cut_stops e t q l ss status.Done x h = absurd h
 cut_stops e t q l ss status.Refused x h = absurd h
 cut_stops e t q l ss status.Syntax x h = absurd h

@@ -1,18 +1,17 @@
 -- One answer at most: labels of one name, first starts, runs, and the end of a run without its time.
-use Rattle.std.proofs.Common.{◌≡◌, ◌≢◌, ◌≤◌, ◌<◌, ◌+◌, ◌-◌, ◌⊎◌, ℕ, zero, suc, ℤ, List, [], ◌∷◌, ◌++◌, length, get_or, Option, Some, None, inl, inr, refl, sym, ap, subst, ◌∙◌, arith}
+use Rattle.std.proofs.Common.{◌≡◌, ◌≤◌, ◌<◌, ◌+◌, ◌-◌, ◌⊎◌, ℕ, zero, suc, ℤ, List, [], ◌∷◌, ◌++◌, Option, Some, None, inl, inr, refl, sym, ap, subst, ◌∙◌, arith}
 use Rattle.std.proofs.lemmas.Bool.{cases_order}
 use Rattle.label_lattice.specs.declared.label.Label.{Label}
 use Rattle.label_lattice.specs.Order.{Order, IsOrder, name_of}
-use Rattle.mit_syntax.specs.Todo.{Todo, Done}
+use Rattle.mit_syntax.specs.Todo.{Done}
 use Rattle.mit_syntax.specs.Plan.{Plan}
 use Rattle.mit_syntax.specs.Program.{Syntax, plan_of}
 use Rattle.source_meaning.specs.Source.{Source, source_step, source_steps, source_start, HasEnded}
 use Rattle.source_meaning.proofs.Told.{done_stays}
 use Rattle.start_file.specs.Starts.{StartValue}
 use Rattle.mit_tool.specs.declared.status.Status.{Status}
-use Rattle.mit_tool.specs.declared.status.Status.TheVariants as status
-use Rattle.mit_tool.specs.Stages.{Observes, StartsAre, zero_start, FirstStart, FirstStops}
-use Rattle.mit_tool.specs.Means.{lines_after, ended_line, not_ended_line, EndsAfter, IsLastLine, HasMeant}
+use Rattle.mit_tool.specs.Stages.{Observes, FirstStart, FirstStops}
+use Rattle.mit_tool.specs.Means.{lines_after, ended_line, EndsAfter, IsLastLine, HasMeant}
 use Rattle.mit_tool.specs.Complete.{IsKnown}
 use Rattle.mit_tool.proofs.GoesLemmas.{starts_go}
 use Rattle.mit_tool.proofs.OneLemmas.{Same, one_list_of_starts, one_start_stop}

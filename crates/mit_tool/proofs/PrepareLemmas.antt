@@ -1,7 +1,6 @@
 -- What audits begin with, and what stops them before.
-use Rattle.std.proofs.Common.{◌≡◌, ◌≤◌, ◌<◌, ◌^◌, ℕ, List, [], All, length, Option, Some, None, inl, inr, refl, sym, subst, ◌∙◌, arith}
+use Rattle.std.proofs.Common.{◌≡◌, ◌<◌, ◌^◌, ℕ, List, [], All, length, Option, Some, None, inl, inr, refl, sym, subst, ◌∙◌}
 use Rattle.std.specs.Prelude.{IsSome}
-use Rattle.tim_base.specs.Faults.{Rose}
 use Rattle.label_lattice.specs.declared.label.Label.{Label}
 use Rattle.label_lattice.specs.Order.{Order}
 use Rattle.mit_syntax.specs.Program.{Syntax, plan_of}
@@ -23,7 +22,7 @@ use Rattle.mit_tool.specs.Reports.{made_lines}
 use Rattle.mit_tool.specs.Audited.{HasAudited, HasCut}
 use Rattle.mit_tool.proofs.EndLemmas.{broke_map}
 use Rattle.mit_tool.proofs.StartLemmas.{count_given}
-use Rattle.mit_tool.proofs.StopLemmas.{compiles_map, compiled_goes}
+use Rattle.mit_tool.proofs.StopLemmas.{compiles_map, compiled_goes, start_rise}
 
 -- ---- an image
 
@@ -65,24 +64,6 @@ names_some order w None h = absurd h
 names_some order w (Some l) h = refl
 
 -- ---- starts
-
-pub start_rise : (R R' : Type 0) (c : Option (Option (List ℕ))) (p : Syntax) (s : Status) (t : List ℕ) → (R → R') → StartStops R c p s t → StartStops R' c p s t
-start_rise R R' c p status.Done t f h = h
-start_rise R R' c p status.Refused t f h = h
-start_rise R R' c p status.Syntax t f h = h
-start_rise R R' c p status.Starts t f h = h
-start_rise R R' c p status.Usage t f h = h
-start_rise R R' c p status.ReadFault t f h = (f h.0, h.1)
-start_rise R R' c p status.WriteFault t f h = h
-start_rise R R' c p status.TooLong t f h = h
-start_rise R R' c p status.Budget t f h = h
-start_rise R R' c p status.Disagree t f h = h
-start_rise R R' c p status.Unfinished t f h = h
-start_rise R R' c p status.Memory t f h = h
-
--- a count that rose later rose
-pub rose_since : (a b c : ℕ) → a ≤ b → Rose b c → Rose a c
-rose_since a b c l h = omega (arith, l, h)
 
 abbrev starts_next : Type 0 → Option (Option (List ℕ)) → (Syntax → LabelledProgram → Option Label → Code → List StartValue → Status → List ℕ → Type 0) → Syntax → LabelledProgram → Option Label → Code → Status → List ℕ → Type 0
 starts_next R starts Next p q o code = Then (StartStops R starts p) (StartsAre starts p) (λ ss. Next p q o code ss)

@@ -11,13 +11,13 @@ use Rattle.start_file.specs.declared.start.Start.{Start}
 use Rattle.start_file.specs.declared.version.Version.{Version}
 use Rattle.start_file.specs.Tables.{keys_pass, count_items}
 use Rattle.start_file.specs.Versions.{version_of}
+use Rattle.start_file.specs.declared.starts.TheConstants.{MAX_RUNS}
 use Rattle.start_file.specs.Starts.{StartValue, seen, is_top_key, with_first, run_of, runs_from, counted_runs, runs_of, versioned, starts_in, IsFor}
-use Rattle.mit_tool.specs.declared.status.Status.{Status}
-use Rattle.mit_tool.specs.declared.status.Status.TheVariants as status
 use Rattle.mit_tool.specs.declared.stop.Stop.{Stop}
-use Rattle.mit_tool.specs.declared.stop.Stop.TheVariants as stop
-use Rattle.mit_tool.specs.Ends.{Broke, IsStop}
+use Rattle.mit_tool.specs.Ends.{IsStop, status_of, stop_text}
 use Rattle.mit_tool.specs.Stages.{StartsAre, StartStops}
+use Rattle.mit_tool.proofs.EndLemmas.{broke_map}
+use Rattle.mit_tool.proofs.StopLemmas.{start_rise}
 
 abbrev pub Runs : Type 0
 Runs = Result (List StartValue) StartFault
@@ -50,9 +50,9 @@ as_many : (p : Syntax) (v : Version) (n : ℕ) (ds : Items) (ss : List StartValu
 as_many p v n no_items ss e = let same : ss ≡ [] = cc in ap length same
 as_many p v n (item d ds) ss e = one_more ss (run_of p v n d) (runs_from p v (n + 1) ds) (count_items ds) (λ rest k. as_many p v (n + 1) ds rest k) e
 
--- there are 1 to 4,096
+-- there are 1 to `MAX_RUNS`
 abbrev IsCounted : List StartValue → Type 0
-IsCounted ss = (0 < length ss) × (length ss ≤ 4096)
+IsCounted ss = (0 < length ss) × (length ss ≤ MAX_RUNS)
 
 some_counted : (p : Syntax) (v : Version) (ds : Items) (ss : List StartValue) → Ok ss ≡ counted_runs p v ds → IsCounted ss
 some_counted p v no_items ss e = absurd cc
@@ -83,7 +83,7 @@ some_starts p None ss e = absurd cc
 some_starts p (Some ms) ss e = some_versioned p (version_of (get_member (codes "version") ms)) ms ss e
 
 -- how many starts there are
-pub count_given : (content : Option (Option (List ℕ))) (p : Syntax) (ss : List StartValue) → StartsAre content p ss → (0 < length ss) × (length ss ≤ 4096)
+pub count_given : (content : Option (Option (List ℕ))) (p : Syntax) (ss : List StartValue) → StartsAre content p ss → (0 < length ss) × (length ss ≤ MAX_RUNS)
 count_given content p ss h = some_starts p h.3.0 ss h.3.2
 
 pub some_given : (content : Option (Option (List ℕ))) (p : Syntax) (ss : List Start) → StartsAre content p (map seen ss) → 0 < length ss
@@ -101,20 +101,6 @@ first_fits p [] s h k e = absurd (omega (arith, k))
 first_fits p (t ∷ ts) s h k e = subst (λ (z : Start). IsFor p (seen z)) (sym e) (h 0 (seen t) (omega arith))
 
 -- where a file was read, its stops are those of its starts
-broke : (R : Type 0) (content : Option (Option (List ℕ))) (p : Syntax) (s : Status) (t : List ℕ) → Broke (StartStops ⊥ content p) s t → Broke (StartStops R content p) s t
-broke R content p status.Done t h = h
-broke R content p status.Refused t h = h
-broke R content p status.Syntax t h = h
-broke R content p status.Starts t h = h
-broke R content p status.Usage t h = h
-broke R content p status.ReadFault t h = absurd h.0
-broke R content p status.WriteFault t h = h
-broke R content p status.TooLong t h = h
-broke R content p status.Budget t h = h
-broke R content p status.Disagree t h = h
-broke R content p status.Unfinished t h = h
-broke R content p status.Memory t h = h
-
 pub start_stops : (R : Type 0) (content : Option (Option (List ℕ))) (p : Syntax) (e : Stop) → IsStop (StartStops ⊥ content p) e → IsStop (StartStops R content p) e
-start_stops R content p stop.Usage h = h
-start_stops R content p (stop.With s l) h = broke R content p s l h
+start_stops R content p e h =
+    broke_map (StartStops ⊥ content p) (StartStops R content p) (status_of e) (stop_text e) (start_rise ⊥ R content p (status_of e) (stop_text e) (λ n. absurd n)) h

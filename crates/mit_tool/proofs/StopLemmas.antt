@@ -1,5 +1,5 @@
 -- What stages stop with.
-use Rattle.std.proofs.Common.{◌≡◌, ◌≢◌, ◌≤◌, ℕ, List, ◌++◌, Option, Some, None, inl, inr, refl, sym, subst, ap, ◌∙◌, arith, true}
+use Rattle.std.proofs.Common.{◌≡◌, ◌≢◌, ◌≤◌, ℕ, List, ◌++◌, Option, Some, None, inl, inr, refl, sym, subst, arith}
 use Rattle.label_lattice.specs.declared.label.Label.{Label}
 use Rattle.label_lattice.specs.Order.{Order}
 use Rattle.mit_syntax.specs.Program.{Syntax, plan_of}
@@ -11,7 +11,7 @@ use Rattle.mit_tool.specs.declared.words.EnvName.{EnvName}
 use Rattle.mit_tool.specs.declared.stop.Stop.{Stop}
 use Rattle.start_file.specs.Starts.{StartValue}
 use Rattle.mit_tool.specs.Stages.{Then, ProgramStops, ImageStops, StartStops, FirstStops, FirstStart, Reads, Observes, Types}
-use Rattle.mit_tool.specs.Ends.{Broke, IsStop, EndsBy, status_of, stop_text}
+use Rattle.mit_tool.specs.Ends.{IsStop, EndsBy, status_of, stop_text}
 use Rattle.mit_tool.proofs.EndLemmas.{broke_map, ends_after, prefix_longer}
 use Rattle.mit_tool.specs.WordsAsked.{check, run, meaning}
 use Rattle.std.specs.Prelude.{ℤ}
@@ -20,7 +20,7 @@ use Rattle.tim_base.specs.Sinks.{AppendsPrefix}
 use Rattle.mit_tool.specs.Texts.{memory_line}
 use Rattle.mit_tool.specs.Means.{lines_after, IsLastLine, WritesSome, BreaksOff}
 use Rattle.tim_base.specs.Faults.{Rose}
-use Rattle.mit_tool.specs.Answers.{Content, Compiles, NoMore, CompileStops, RunStops, MeaningStops, HasCompiled, HasSource, HasBegun, IsReady, HasRun, IsAnswer, Before, CheckStops, is_past_typing}
+use Rattle.mit_tool.specs.Answers.{Content, Compiles, NoMore, CompileStops, RunStops, MeaningStops, HasCompiled, HasSource, HasBegun, IsReady, HasRun, IsAnswer, Before, CheckStops}
 
 then_map : {A : Type 0} (Stops : Status → List ℕ → Type 0) (Gives : A → Type 0) (Next Next' : A → Status → List ℕ → Type 0) (s : Status) (t : List ℕ) → ((a : A) → Next a s t → Next' a s t) → Then Stops Gives Next s t → Then Stops Gives Next' s t
 then_map Stops Gives Next Next' s t f (inl h) = inl h
@@ -102,10 +102,10 @@ run_stops Rises content file starts observer env budget s t =
 -- ---- a file that is read later
 
 -- a count that rose later rose
-pub rose_before : (a b c : ℕ) → a ≤ b → Rose b c → Rose a c
-rose_before a b c l h = omega (arith, l, h)
+pub rose_since : (a b c : ℕ) → a ≤ b → Rose b c → Rose a c
+rose_since a b c l h = omega (arith, l, h)
 
-start_rise : (R R' : Type 0) (c : Option (Option (List ℕ))) (p : Syntax) (s : Status) (t : List ℕ) → (R → R') → StartStops R c p s t → StartStops R' c p s t
+pub start_rise : (R R' : Type 0) (c : Option (Option (List ℕ))) (p : Syntax) (s : Status) (t : List ℕ) → (R → R') → StartStops R c p s t → StartStops R' c p s t
 start_rise R R' c p Done t f h = h
 start_rise R R' c p Refused t f h = h
 start_rise R R' c p BadSyntax t f h = h
@@ -183,60 +183,7 @@ meaning_broke Rises content file starts n p start memory old new h is some =
       prefix_longer old new (lines_after p start.memory some.steps) memory_line prefix',
     )
 
--- ---- what stops `check` comes before the end of the typing
-
-no_check : (Rises : List ℕ → Type 0) (content : Content) (file : List ℕ) (s : Status) (t : List ℕ) → is_past_typing s ≡ true → CheckStops Rises content file s t → ⊥
-no_check Rises content file Done t e (inl h) = absurd h
-no_check Rises content file Done t e (inr (p, reads, inl h)) = absurd h
-no_check Rises content file Done t e (inr (p, reads, inr (q, types, h))) = absurd h
-no_check Rises content file Budget t e (inl h) = absurd h
-no_check Rises content file Budget t e (inr (p, reads, inl h)) = absurd h
-no_check Rises content file Budget t e (inr (p, reads, inr (q, types, h))) = absurd h
-no_check Rises content file Disagree t e (inl h) = absurd h
-no_check Rises content file Disagree t e (inr (p, reads, inl h)) = absurd h
-no_check Rises content file Disagree t e (inr (p, reads, inr (q, types, h))) = absurd h
-no_check Rises content file Unfinished t e (inl h) = absurd h
-no_check Rises content file Unfinished t e (inr (p, reads, inl h)) = absurd h
-no_check Rises content file Unfinished t e (inr (p, reads, inr (q, types, h))) = absurd h
-no_check Rises content file Refused t e h = absurd cc
-no_check Rises content file BadSyntax t e h = absurd cc
-no_check Rises content file Starts t e h = absurd cc
-no_check Rises content file Usage t e h = absurd cc
-no_check Rises content file ReadFault t e h = absurd cc
-no_check Rises content file WriteFault t e h = absurd cc
-no_check Rises content file TooLong t e h = absurd cc
-no_check Rises content file Memory t e h = absurd cc
-
-check_early : (Rises : List ℕ → Type 0) (content : Content) (file : List ℕ) (s : Status) (t : List ℕ) → Broke (CheckStops Rises content file) s t → is_past_typing s ≡ true → ⊥
-check_early Rises content file Done t h e = no_check Rises content file Done t e h
-check_early Rises content file Refused t h e = no_check Rises content file Refused t e h
-check_early Rises content file BadSyntax t h e = no_check Rises content file BadSyntax t e h
-check_early Rises content file Starts t h e = no_check Rises content file Starts t e h
-check_early Rises content file Usage t h e = no_check Rises content file Usage t e h
-check_early Rises content file ReadFault t h e = no_check Rises content file ReadFault t e h
-check_early Rises content file WriteFault t h e = no_check Rises content file WriteFault t e h
-check_early Rises content file TooLong t h e = no_check Rises content file TooLong t e h
-check_early Rises content file Budget t h e = no_check Rises content file Budget t e h
-check_early Rises content file Disagree t h e = no_check Rises content file Disagree t e h
-check_early Rises content file Unfinished t h e = no_check Rises content file Unfinished t e h
-check_early Rises content file Memory t h e = absurd cc
-
-past_written : (r s : Status) → (r ≢ WriteFault → r ≡ s) → is_past_typing r ≡ true → is_past_typing s ≡ true
-past_written Done s f e = ap is_past_typing (sym (f (λ w. cc))) ∙ e
-past_written Refused s f e = ap is_past_typing (sym (f (λ w. cc))) ∙ e
-past_written BadSyntax s f e = ap is_past_typing (sym (f (λ w. cc))) ∙ e
-past_written Starts s f e = ap is_past_typing (sym (f (λ w. cc))) ∙ e
-past_written Usage s f e = ap is_past_typing (sym (f (λ w. cc))) ∙ e
-past_written ReadFault s f e = ap is_past_typing (sym (f (λ w. cc))) ∙ e
-past_written WriteFault s f e = absurd cc
-past_written TooLong s f e = ap is_past_typing (sym (f (λ w. cc))) ∙ e
-past_written Budget s f e = ap is_past_typing (sym (f (λ w. cc))) ∙ e
-past_written Disagree s f e = ap is_past_typing (sym (f (λ w. cc))) ∙ e
-past_written Unfinished s f e = ap is_past_typing (sym (f (λ w. cc))) ∙ e
-past_written Memory s f e = ap is_past_typing (sym (f (λ w. cc))) ∙ e
-
-pub check_stopped : (Rises : List ℕ → Type 0) (content : Content) (file : List ℕ) (e : Stop) (r : Status) (W : Type 0) → IsStop (CheckStops Rises content file) e → (r ≢ WriteFault → (r ≡ status_of e) × W) → is_past_typing r ≡ true → ⊥
-check_stopped Rises content file e r W h told past = check_early Rises content file (status_of e) (stop_text e) h (past_written r (status_of e) (λ n. (told n).0) past)
+-- ---- `check`
 
 pub check_stops : (Rises : List ℕ → Type 0) (content : Content) (file : List ℕ) (s : Status) (t : List ℕ) → CheckStops Rises content file s t → IsAnswer Rises content (check file) s t
 check_stops Rises content file s t (inl h) = inl h

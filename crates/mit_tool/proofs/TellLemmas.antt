@@ -19,6 +19,7 @@ use Rattle.mit_tool.specs.Audited.{HasAudited, HasCut}
 use Rattle.mit_tool.specs.Ends.{IsStop, Broke, Tells, Nothing, status_of, stop_text, told_status, told_text}
 use Rattle.mit_tool.specs.Answers.{Content, Compiles, Prepares, IsAnswer, HasGenerated, made_content, is_past_typing}
 use Rattle.mit_tool.proofs.EndLemmas.{tells_broke}
+use Rattle.mit_tool.proofs.EarlyLemmas.{past_told}
 use Rattle.mit_tool.proofs.PrepareLemmas.{listed, audit_next, made_next, cut_next}
 
 -- a text or a stop that answers is told
@@ -33,13 +34,8 @@ no_fault Answer (Err e) f k = λ is. f (stop_text e) (subst (λ (s : Status). Br
 
 -- what is true of each result that came past the typing is true where the status tells so
 pub told_sound : (r : Result (Vec ℕ Global) Stop) (A : Type 0) (s : Status) → OnOk r A → IfErr r (λ e. IsTrue (is_past_typing (status_of e)) → A) → (s ≢ WriteFault → s ≡ told_status r) → IsTrue (is_past_typing s) → A
-told_sound r A s ok stop told past =
-    let none : s ≢ WriteFault = λ e. absurd (past_no_fault (subst (λ (z : Status). IsTrue (is_past_typing z)) e past)) in
-    of_result r ok stop (subst (λ (z : Status). IsTrue (is_past_typing z)) (told none) past)
+told_sound r A s ok stop told past = of_result r ok stop (past_told s (told_status r) told past)
   where
-    past_no_fault : IsTrue (is_past_typing WriteFault) → ⊥
-    past_no_fault e = cc
-
     of_result : (r : Result (Vec ℕ Global) Stop) → OnOk r A → IfErr r (λ e. IsTrue (is_past_typing (status_of e)) → A) → IsTrue (is_past_typing (told_status r)) → A
     of_result (Ok v) h k p = h
     of_result (Err e) h k p = k p

@@ -9,6 +9,7 @@ use Rattle.code_lower.specs.Lowered.{lowered}
 use Rattle.label_write.specs.Written.{labelled_text}
 use Rattle.image_print.specs.ImageText.{image_text}
 use Rattle.mit_gen.specs.Made.{program_text, starts_text}
+use Rattle.start_file.specs.declared.starts.TheConstants.{MAX_RUNS}
 use Rattle.start_file.specs.Starts.{StartValue, IsFor}
 use Rattle.event_print.specs.declared.end.RunEnd.{RunEnd}
 use Rattle.event_print.specs.declared.end.RunEnd.TheVariants.{Halted, Limit}
@@ -150,7 +151,7 @@ pub record CanAudit (q : LabelledProgram) (l : Label) (code : Code) (ss : List S
   pub image : code ≡ lowered q
   pub observer : l.number < q.program.order.size
   pub some : 0 < length ss
-  pub few : length ss ≤ 4096
+  pub few : length ss ≤ MAX_RUNS
   pub starts : All (IsFor q.program) ss
 
 -- nothing else stops

@@ -7,8 +7,10 @@ use Rattle.mit_syntax.specs.Program.{Syntax}
 use Rattle.timing_types.specs.Labelling.{Labelling}
 use Rattle.timing_types.specs.Labelled.{LabelledProgram, HasType}
 use Rattle.label_infer.specs.Least.{Labels}
+use Rattle.code_lower.specs.declared.lower.TheConstants.{MAX_INSTRUCTIONS}
 use Rattle.code_lower.specs.Lowered.{lowered}
 use Rattle.leak_bound.specs.Records.{Pairwise}
+use Rattle.audit_parts.specs.declared.survey.TheConstants.{MAX_SHOWN}
 use Rattle.audit_parts.specs.Agreement.{AgreeFor, starts_of}
 use Rattle.audit_parts.specs.Surveyed.{shown_by_all}
 use Rattle.part_tlb.specs.Envs.{part_structure, part2_structure}
@@ -59,24 +61,19 @@ NoneRises Rises a = All (λ name. Rises name → ⊥) (files_of a)
 
 -- ---- stages
 
--- A stage gives a value, and from what it gives the rest goes on: it gives one value at most.
-abbrev pub Goes : {A : Type 0} → (A → Type 0) → (A → Type 0) → Type 0
-Goes {A} Gives Next = ((a : A) × Gives a) × ((a : A) → Gives a → Next a)
-
 -- some labelling types the program
 abbrev pub IsTypable : Syntax → Type 0
 IsTypable p = (l : Labelling) × Labels p l × HasType (record { program = p; labels = l })
 
 -- some labelling types the program, and the image of its least labelling is not too long
 abbrev pub CanLower : Syntax → (LabelledProgram → Type 0) → Type 0
-CanLower p Next = IsTypable p × ((q : LabelledProgram) → Types p q → (length (lowered q).instrs ≤ 200000) × Next q)
+CanLower p Next = IsTypable p × ((q : LabelledProgram) → Types p q → (length (lowered q).instrs ≤ MAX_INSTRUCTIONS) × Next q)
 
--- the file's text spells a program, and an observer that is named is one of its labels
+-- The file's text spells a program, and an observer that is named is one of its labels. There is one such program at
+-- most, and one such label.
 abbrev pub CanCompile : Option (Option (List ℕ)) → Option (List ℕ) → (Syntax → LabelledProgram → Option Label → Type 0) → Type 0
 CanCompile content observer Next =
-    Goes (Reads content) (λ p.
-    Goes (Observes p.order observer) (λ o.
-    CanLower p (λ q. Next p q o)))
+    (p : Syntax) × Reads content p × (o : Option Label) × Observes p.order observer o × CanLower p (λ q. Next p q o)
 
 -- ---- runs
 
@@ -103,7 +100,7 @@ shown_in Part2 q o t ss = shown_by_all part2_env q o t (starts_of part2_made q.p
 -- they agree, and show few enough
 pub record CanCut (e : EnvName) (t : ℕ) (q : LabelledProgram) (o : ℕ) (ss : List StartValue) : Type 0 where
   pub agree : AgreeIn e q o ss
-  pub few : shown_in e q o t ss ≤ 16777216
+  pub few : shown_in e q o t ss ≤ MAX_SHOWN
 
 -- and all have halted by T
 pub record CanBeAudited (e : EnvName) (t : ℕ) (q : LabelledProgram) (o : ℕ) (ss : List StartValue) : Type 0 where
@@ -120,28 +117,24 @@ OfObserver P (Some l) = P l.number
 -- What must be so beside the files; for `gen`, of the made program, from its typing on. `certify` and `recheck` are
 -- not offered.
 abbrev pub CanGoOn : Content → Asked → Type 0
-CanGoOn content (check file) = Goes (Reads (content file)) IsTypable
-CanGoOn content (infer file) = Goes (Reads (content file)) IsTypable
+CanGoOn content (check file) = (p : Syntax) × Reads (content file) p × IsTypable p
+CanGoOn content (infer file) = (p : Syntax) × Reads (content file) p × IsTypable p
 CanGoOn content (compile file) = CanCompile (content file) None (λ p q o. ⊤)
 CanGoOn content (run file starts e budget observer) =
     CanCompile (content file) observer (λ p q o.
-    Goes (FirstStart content starts p) (HaltsBy e budget q))
+    (s : StartValue) × FirstStart content starts p s × HaltsBy e budget q s)
 CanGoOn content (meaning file starts n) =
-    Goes (Reads (content file)) (λ p.
-    (s : StartValue) × FirstStart content starts p s)
+    (p : Syntax) × Reads (content file) p × (s : StartValue) × FirstStart content starts p s
 CanGoOn content (audit file starts observer e budget) =
     CanCompile (content file) (Some observer) (λ p q o.
-    Goes (StartsAre (content starts) p) (λ ss.
-    OfObserver (λ l. CanBeAudited e budget q l ss) o))
+    (ss : List StartValue) × StartsAre (content starts) p ss × OfObserver (λ l. CanBeAudited e budget q l ss) o)
 CanGoOn content (gen size number) =
     (p : Syntax) → Reads (made_content size number []) p → (o : Option Label) → Observes p.order (Some (codes "L")) o →
     CanLower p (λ q.
-    Goes (StartsAre (Some (Some starts_text)) p) (λ ss.
-    OfObserver (λ l. CanBeAudited Part (2 ^ 40) q l ss) o))
+    (ss : List StartValue) × StartsAre (Some (Some starts_text)) p ss × OfObserver (λ l. CanBeAudited Part (2 ^ 40) q l ss) o)
 CanGoOn content (cut file starts observer e budget) =
     CanCompile (content file) (Some observer) (λ p q o.
-    Goes (StartsAre (content starts) p) (λ ss.
-    OfObserver (λ l. CanCut e budget q l ss) o))
+    (ss : List StartValue) × StartsAre (content starts) p ss × OfObserver (λ l. CanCut e budget q l ss) o)
 CanGoOn content (blackbox file first budget) = (bytes : List ℕ) × IsTold (content file) bytes × (length bytes ≤ limit) × (refusal bytes ≡ None)
 CanGoOn content (certify file) = ⊥
 CanGoOn content (recheck file certificate) = ⊥

@@ -26,6 +26,7 @@ use Rattle.timing_types.specs.Labelling.{Labelling}
 use Rattle.timing_types.specs.Labelled.{LabelledProgram, HasType, first_broken_of}
 use Rattle.label_infer.specs.Least.{Labels, IsLeast}
 use Rattle.label_code.specs.Shaped.{Code}
+use Rattle.code_lower.specs.declared.lower.TheConstants.{MAX_INSTRUCTIONS}
 use Rattle.code_lower.specs.Lowered.{lowered}
 use Rattle.mit_tool.specs.declared.status.Status.{Status}
 use Rattle.mit_tool.specs.declared.status.Status.TheVariants as status
@@ -133,10 +134,10 @@ TypeStops p _ t = ⊥
 -- ---- an image
 
 abbrev pub HasImage : LabelledProgram → Code → Type 0
-HasImage q code = (code ≡ lowered q) × (length code.instrs ≤ 200000)
+HasImage q code = (code ≡ lowered q) × (length code.instrs ≤ MAX_INSTRUCTIONS)
 
 abbrev pub ImageStops : LabelledProgram → Status → List ℕ → Type 0
-ImageStops q status.TooLong t = (200000 < length (lowered q).instrs) × (t ≡ number_line (codes "too long: image ") (length (lowered q).instrs))
+ImageStops q status.TooLong t = (MAX_INSTRUCTIONS < length (lowered q).instrs) × (t ≡ number_line (codes "too long: image ") (length (lowered q).instrs))
 ImageStops q _ t = ⊥
 
 -- ---- starts

@@ -14,13 +14,14 @@ use crate::stages::ready::ready_runs;
 use crate::status::Status;
 use crate::stop::Stop;
 use black_box::audit::box_audit;
+use black_box::ready::MAX_RUNS;
 use std::alloc::Global;
 use tim_base::pos::Memory;
 use tim_base::shelf::Shelf;
 
 // The text of runs with these ready cycles.
 fn released(alloc: Global, all: &[Vec<u64>], first: u64, budget: u64) -> Result<Vec<u8>, Memory>
-    requires few { length all.now ≤ 4096 }
+    requires few { length all.now ≤ MAX_RUNS }
     requires first { IsCycles first }
     requires budget { IsCycles budget }
     ensures { IfOk result (λ v. HasReleased first budget (ready_lists all.now) Status.Done v.items) }

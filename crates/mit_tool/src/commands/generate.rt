@@ -1,6 +1,7 @@
 //! `gen`: a made program is audited.
 
 ghost use Rattle.std.specs.Prelude.{◌≡◌, ◌≤◌, Some, IfOk, IfErr, OnOk, IsTrue, [], length, map, codes};
+ghost use Rattle.tim_base.specs.Told.{limit};
 ghost use Rattle.start_file.specs.Starts.{seen};
 ghost use Rattle.mit_gen.specs.Made.{program_text, starts_text};
 ghost use Rattle.mit_syntax.specs.Plan.{count};
@@ -34,7 +35,7 @@ const SETTING: Setting = Setting {
 fn prepare_made(alloc: Global, made: &Made, size: u32, number: u32) -> Result<Prepared, Stop>
     requires program { made.now.program.items ≡ program_text size number }
     requires starts { made.now.starts.items ≡ starts_text }
-    requires short { (length made.now.program.items ≤ 1048576) × (length made.now.starts.items ≤ 1048576) }
+    requires short { (length made.now.program.items ≤ limit) × (length made.now.starts.items ≤ limit) }
     ensures ok { IfOk result (λ r. IsPrepared (made_content size number) [] (codes "L") (Some (Some starts_text)) r.compiled.typed.labelled r.observer r.compiled.image (map seen r.starts.items)) }
     ensures fit { IfOk result (λ r. CanAudit r.compiled.typed.labelled r.observer r.compiled.image (map seen r.starts.items)) }
     ensures stop { IfErr result (IsStop (PrepareStops (λ name. ⊥) (made_content size number) [] (codes "L") ⊥ (Some (Some starts_text)))) }

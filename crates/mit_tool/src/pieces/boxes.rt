@@ -8,6 +8,7 @@ ghost use Rattle.mit_tool.specs.Reports.{release_lines, releases_of, run_texts, 
 use super::{put, put_number};
 use crate::lines::report::{bound, release, run};
 use black_box::audit::BoxAudit;
+use black_box::ready::MAX_RUNS;
 use black_box::release::Releases;
 use std::alloc::AllocError;
 
@@ -23,7 +24,7 @@ fn put_releases(text: &mut Vec<u8>, run: u64, at: &[u64]) -> Result<(), AllocErr
 
 // Appends the releases of all runs.
 fn put_all_releases(text: &mut Vec<u8>, runs: &[Releases]) -> Result<(), AllocError>
-    requires { length runs.now ≤ 4096 }
+    requires { length runs.now ≤ MAX_RUNS }
     ensures { OnOk result (text.new.items ≡ text.old.items ++ releases_of 1 (map seen runs.now)) }
 {
     for k in 0..runs.len() {
@@ -39,7 +40,7 @@ fn put_runs(
     runs: &[Releases],
     classes: &[u32],
 ) -> Result<(), AllocError>
-    requires few { length all.now ≤ 4096 }
+    requires few { length all.now ≤ MAX_RUNS }
     requires runs { length runs.now ≡ length all.now }
     requires classes { length classes.now ≡ length all.now }
     ensures { OnOk result (text.new.items ≡ text.old.items ++ run_texts 1 (ready_lists all.now) (map seen runs.now) classes.now) }
@@ -66,7 +67,7 @@ pub fn put_box(
     budget: u64,
     audit: &BoxAudit,
 ) -> Result<(), AllocError>
-    requires few { length all.now ≤ 4096 }
+    requires few { length all.now ≤ MAX_RUNS }
     requires runs { length audit.now.runs.items ≡ length all.now }
     requires classes { length audit.now.classes.items ≡ length all.now }
     ensures { OnOk result (text.new.items ≡ text.old.items ++ box_text first budget (ready_lists all.now) (map seen audit.now.runs.items) audit.now.distinct audit.now.base audit.now.exponent audit.now.classes.items) }

@@ -16,7 +16,7 @@ use timing_types::typed::Typed;
 /// The image of a typed program.
 ///
 /// # Errors
-/// Stops with `TooLong` where it would have more than 200,000 instructions, or with `Memory`.
+/// Stops with `TooLong` where it would have more than `MAX_INSTRUCTIONS` instructions, or with `Memory`.
 pub fn image(alloc: Global, p: &Typed) -> Result<Image, Stop>
     ensures ok { IfOk result (HasImage p.now.labelled) }
     ensures stop { IfErr result (IsStop (ImageStops p.now.labelled)) }

@@ -13,7 +13,7 @@ use crate::lines;
 use crate::status::Status;
 use crate::stop::Stop;
 use black_box::fault::ReadyFault;
-use black_box::ready::read_ready;
+use black_box::ready::{MAX_RUNS, read_ready};
 use std::alloc::Global;
 use tim_base::shelf::{FetchFault, Shelf};
 
@@ -30,7 +30,7 @@ fn ready_stop(fault: ReadyFault) -> Stop
     }
 }
 
-/// The runs that a file holds, at most 4,096, each with the cycles at which its events are ready.
+/// The runs that a file holds, at most `MAX_RUNS`, each with the cycles at which its events are ready.
 ///
 /// # Errors
 /// Stops with `ReadFault`, `TooLong`, `Starts` or `Memory`.
@@ -38,7 +38,7 @@ pub fn ready_runs<S: Shelf>(alloc: Global, shelf: &mut S, file: &str) -> Result<
     ensures same { (name : List ℕ) → S.content shelf.new name ≡ S.content shelf.old name }
     ensures later { (name : List ℕ) → S.faults shelf.old name ≤ S.faults shelf.new name }
     ensures ok { IfOk result (λ v. HoldsRuns (S.content shelf.old file.now) (lists v)) }
-    ensures few { IfOk result (λ v. vec_len v ≤ 4096) }
+    ensures few { IfOk result (λ v. vec_len v ≤ MAX_RUNS) }
     ensures stop { IfErr result (IsStop (ReadyStops (Rose (S.faults shelf.old file.now) (S.faults shelf.new file.now)) (S.content shelf.old file.now))) }
 {
     let mut bytes = Vec::new(alloc);

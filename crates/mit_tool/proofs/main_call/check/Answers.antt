@@ -6,7 +6,8 @@ use Rattle.mit_tool.specs.WordsAsked.{check}
 use Rattle.mit_tool.specs.Ends.{Nothing, status_of, stop_text}
 use Rattle.mit_tool.specs.Answers.{IsAnswer, CheckStops}
 use Rattle.mit_tool.proofs.EndLemmas.{ends_finish, ends_stop}
-use Rattle.mit_tool.proofs.StopLemmas.{check_stops, check_stopped}
+use Rattle.mit_tool.proofs.StopLemmas.{check_stops}
+use Rattle.mit_tool.proofs.EarlyLemmas.{check_stopped}
 use Rattle.mit_tool.proofs.main_call.check.Goals as goal
 
 pub returns-in-Ok-clause-answered : goal.returns-in-Ok-clause-answered

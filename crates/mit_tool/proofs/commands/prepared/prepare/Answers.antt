@@ -2,7 +2,8 @@ use Rattle.std.proofs.Common.{ap, ◌∙◌, arith}
 use Rattle.std.specs.Prelude.{ℕ, List, map}
 use Rattle.tim_base.specs.Faults.{Rose}
 use Rattle.start_file.specs.Starts.{seen}
-use Rattle.mit_tool.proofs.PrepareLemmas.{names_some, compile_stops_audit, starts_stop_audit, prepared_of, audit_fits, rose_since}
+use Rattle.mit_tool.proofs.PrepareLemmas.{names_some, compile_stops_audit, starts_stop_audit, prepared_of, audit_fits}
+use Rattle.mit_tool.proofs.StopLemmas.{rose_since}
 use Rattle.mit_tool.proofs.commands.prepared.prepare.Goals as goal
 
 pub returns-in-Err-clause-stop : goal.returns-in-Err-clause-stop

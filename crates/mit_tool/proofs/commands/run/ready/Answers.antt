@@ -3,7 +3,7 @@ use Rattle.std.specs.Prelude.{ℕ, List, option_map}
 use Rattle.tim_base.specs.Faults.{Rose}
 use Rattle.start_file.specs.Starts.{seen}
 use Rattle.mit_tool.proofs.GoesLemmas.{first_at}
-use Rattle.mit_tool.proofs.StopLemmas.{compile_stops, later_first_stops, rose_before}
+use Rattle.mit_tool.proofs.StopLemmas.{compile_stops, later_first_stops, rose_since}
 use Rattle.mit_tool.proofs.commands.run.ready.Goals as goal
 
 pub returns-in-Err-clause-stop : goal.returns-in-Err-clause-stop
@@ -19,7 +19,7 @@ returns-in-Err-first_start-clause-stop g c =
     (λ (name : List ℕ). Rose (g.S.Shelf.faults c.args.shelf.now name) (g.S.Shelf.faults c.first_start.new.shelf name))
     (g.S.Shelf.content c.compile.new.shelf) (g.S.Shelf.content c.args.shelf.now) c.args.file.now (option_map (λ s. s.now) c.args.starts) (option_map (λ s. s.now) c.args.name)
     q c.in-Ok.compiled.observer c.in-Ok.compiled.image c.program.result.now c.in-Err-first_start.stop
-    (λ name. rose_before _ _ _ (c.compile.ensures.later name)) c.compile.ensures.same is c.in-Ok.ensures.ok c.in-Err-first_start.ensures.stop
+    (λ name. rose_since _ _ _ (c.compile.ensures.later name)) c.compile.ensures.same is c.in-Ok.ensures.ok c.in-Err-first_start.ensures.stop
 
 pub returns-in-Ok-first_start-clause-same : goal.returns-in-Ok-first_start-clause-same
 returns-in-Ok-first_start-clause-same g c = λ name. c.first_start.ensures.same name ∙ c.compile.ensures.same name
