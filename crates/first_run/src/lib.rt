@@ -1,0 +1,4 @@
+//! A first run: a command that can be done, and what it answers.
+#![tactic(auto)]
+
+pub mod laws;
