@@ -1,16 +1,18 @@
 -- How a call that asks for the run ends.
-use Rattle.std.proofs.Common.{◌≡◌, ◌≢◌, ◌≤◌, ◌⊎◌, ◌∙◌, refl, ap, subst, ℕ, List, [], ◌++◌, Option, None, inl, inr}
+use Rattle.std.proofs.Common.{◌≡◌, ◌≢◌, ◌≤◌, ◌⊎◌, ◌∙◌, refl, ap, subst, ℕ, List, [], ◌++◌, Option, None, inl, inr, arith}
+use Rattle.std.specs.Prelude.{IfSome}
 use Rattle.std.specs.Io.KnownBytes.{Appends}
 use Rattle.tim_base.specs.Faults.{Rose}
 use Rattle.mit_tool.specs.declared.status.Status.{Status}
 use Rattle.mit_tool.specs.declared.status.Status.TheVariants as status
 use Rattle.mit_tool.specs.declared.words.EnvName.TheVariants.{Flat}
 use Rattle.mit_tool.specs.Texts.{memory_line}
-use Rattle.mit_tool.specs.WordsAsked.{run}
+use Rattle.mit_tool.specs.WordsAsked.{Asked, command_of, run}
 use Rattle.mit_tool.specs.Answers.{Content, IsAnswer, Before}
 use Rattle.mit_tool.specs.Ends.{EndsBy}
 use Rattle.mit_tool.specs.Once.{HasOneAnswer}
-use Rattle.first_run.specs.FirstRun.{first_answer}
+use Rattle.first_run.specs.FirstRun.{first_file, first_words, first_answer}
+use Rattle.first_run.proofs.Asked.{asks}
 use Rattle.first_run.proofs.Whole.{HoldsText, has_one}
 
 abbrev Ended : Option (List ℕ) → Option (List ℕ) → Status → Type 0
@@ -47,3 +49,12 @@ pub run_ends : HasOneAnswer → (content : Content) (before now : List ℕ → �
     → s ≢ status.WriteFault → Ended old new s
 run_ends law content before now file t h k n old new s e w =
     ends old new (IsAnswer (λ name. Rose (before name) (now name)) content (run file None Flat t None)) (has_one law content before now file t h k n) s e w
+
+-- the same of the first words
+pub call_ends : HasOneAnswer → (content : Content) (before now : List ℕ → ℕ) (old new : Option (List ℕ)) (s : Status) (words : List (List ℕ)) (Fails : Type 0)
+    → words ≡ first_words → HoldsText (content first_file) → (Rose (before first_file) (now first_file) → ⊥) → (Fails → ⊥) → (s ≡ status.WriteFault → Fails)
+    → IfSome (command_of words) (λ a. EndsBy old new (Before content a) (IsAnswer (λ name. Rose (before name) (now name)) content a) s) → Ended old new s
+call_ends law content before now old new s words Fails e h n m write a =
+    let P : Asked → Type 0 = λ x. EndsBy old new (Before content x) (IsAnswer (λ name. Rose (before name) (now name)) content x) s in
+    run_ends law content before now first_file 1000000 h (omega arith) n old new s
+    (subst (λ (o : Option Asked). IfSome o P) (ap command_of e ∙ asks) a) (λ w. m (write w))
