@@ -1,0 +1,9 @@
+mod Order
+mod Cut
+mod Program
+mod Spelled
+mod Types
+mod Runs
+mod Whole
+mod Asked
+mod Ended
