@@ -558,8 +558,11 @@ impl<'a> Parser<'a> {
             }
             self.lexer.advance()?;
             let length = self.length(&mut elements)?;
-            let is_labelled = if length.is_some() { self.want(Token::Colon).map(|_| true)? } else { self.takes(Token::Colon)? };
-            let label = if is_labelled { Some(self.label()?) } else { None };
+            let label = match self.takes(Token::Colon)? {
+                true => Some(self.label()?),
+                false if length.is_some() => return self.lexer.fault("unexpected"),
+                false => None,
+            };
             self.want(Token::Semicolon)?;
             self.declarations.push(Declaration { name, length, label, first: variables });
             variables += length.unwrap_or(1);
@@ -727,7 +730,15 @@ impl<'a> Parser<'a> {
     fn blank(&mut self, at: u32) -> Command {
         self.commands += 1;
         let label = self.lattice.bottom;
-        Command { form: Form::Skip, at, value: NO_EXPRESSION, has_marks: false, read: label, write: label, guard: label }
+        Command {
+            form: Form::Skip,
+            at,
+            value: NO_EXPRESSION,
+            has_marks: false,
+            read: label,
+            write: label,
+            guard: label,
+        }
     }
 
     fn command(&mut self) -> Answer<Command> {
@@ -1314,12 +1325,20 @@ enum Act {
     Halt,
 }
 
-/// An instruction with the set of labels that flow to its read label, and its write label.
+/// An instruction with what its labels tell an access.
 #[derive(Clone, Copy)]
 struct Instruction {
     act: Act,
-    below: u32,
+    reach: Reach,
+}
+
+/// The partitions that an access concerns: it changes that of `write`, and reads it where `reads_own` says so, and
+/// those of `others`, a bit for each label.
+#[derive(Clone, Copy)]
+struct Reach {
+    others: u32,
     write: u8,
+    reads_own: bool,
 }
 
 /// An image, and the greatest number of operands that one of its expressions has at once.
@@ -1349,7 +1368,8 @@ fn lowered(labelled: &Labelled) -> Answer<Image> {
 impl Lowering<'_> {
     fn push(&mut self, act: Act, (read, write): (u8, u8)) {
         let below = self.labelled.program.lattice.below[read as usize];
-        self.code.push(Instruction { act, below, write });
+        let reach = Reach { others: below & !(1 << write), write, reads_own: below >> write & 1 != 0 };
+        self.code.push(Instruction { act, reach });
     }
 
     /// Fills in the place after the last instruction as a jump's target.
@@ -1460,56 +1480,56 @@ const SECOND_MISS: u64 = 30;
 
 /// The partitions of all labels, those of one place in one list. A set has its tags from front to back.
 struct Caches {
-    page: Vec<[u32; 4]>,
-    code: Vec<[u32; 2]>,
-    data: Vec<[u32; 2]>,
-    second: Vec<[u32; 4]>,
+    page: [[u32; 4]; MOST_LABELS],
+    code: [[u32; 2]; MOST_LABELS * FIRST_SETS],
+    data: [[u32; 2]; MOST_LABELS * FIRST_SETS],
+    second: [[u32; 4]; MOST_LABELS * SECOND_SETS],
 }
 
 impl Caches {
-    fn new(labels: usize) -> Self {
+    fn new() -> Self {
         Caches {
-            page: vec![[NO_TAG; 4]; labels],
-            code: vec![[NO_TAG; 2]; labels * FIRST_SETS],
-            data: vec![[NO_TAG; 2]; labels * FIRST_SETS],
-            second: vec![[NO_TAG; 4]; labels * SECOND_SETS],
+            page: [[NO_TAG; 4]; MOST_LABELS],
+            code: [[NO_TAG; 2]; MOST_LABELS * FIRST_SETS],
+            data: [[NO_TAG; 2]; MOST_LABELS * FIRST_SETS],
+            second: [[NO_TAG; 4]; MOST_LABELS * SECOND_SETS],
         }
     }
 
-    fn clear(&mut self) {
-        self.page.fill([NO_TAG; 4]);
-        self.code.fill([NO_TAG; 2]);
-        self.data.fill([NO_TAG; 2]);
-        self.second.fill([NO_TAG; 4]);
+    fn clear(&mut self, labels: usize) {
+        self.page[..labels].fill([NO_TAG; 4]);
+        self.code[..labels * FIRST_SETS].fill([NO_TAG; 2]);
+        self.data[..labels * FIRST_SETS].fill([NO_TAG; 2]);
+        self.second[..labels * SECOND_SETS].fill([NO_TAG; 4]);
     }
 
     #[inline(always)]
-    fn fetch<const KIND: u8>(&mut self, at: usize, below: u32, write: u8) -> u64 {
+    fn fetch<const KIND: u8>(&mut self, at: usize, reach: Reach) -> u64 {
         if KIND == FLAT {
             return 0;
         }
         let address = 4 * at as u32;
-        let page = touch::<1, 4>(&mut self.page, address / 1024, below, write);
-        let first = touch::<FIRST_SETS, 2>(&mut self.code, address / 32, below, write);
-        self.cost::<KIND>(address / 32, below, write, page, first, CODE_MISS)
+        let page = touch::<1, 4>(&mut self.page, address / 1024, reach);
+        let first = touch::<FIRST_SETS, 2>(&mut self.code, address / 32, reach);
+        self.cost::<KIND>(address / 32, reach, page, first, CODE_MISS)
     }
 
     #[inline(always)]
-    fn datum<const KIND: u8>(&mut self, variable: usize, below: u32, write: u8) -> u64 {
+    fn datum<const KIND: u8>(&mut self, variable: usize, reach: Reach) -> u64 {
         if KIND == FLAT {
             return 0;
         }
         let address = (1 << 20) + 8 * variable as u32;
-        let page = touch::<1, 4>(&mut self.page, address / 1024, below, write);
-        let first = touch::<FIRST_SETS, 2>(&mut self.data, address / 32, below, write);
-        self.cost::<KIND>(address / 32, below, write, page, first, DATA_MISS)
+        let page = touch::<1, 4>(&mut self.page, address / 1024, reach);
+        let first = touch::<FIRST_SETS, 2>(&mut self.data, address / 32, reach);
+        self.cost::<KIND>(address / 32, reach, page, first, DATA_MISS)
     }
 
     #[inline(always)]
-    fn cost<const KIND: u8>(&mut self, line: u32, below: u32, write: u8, page: bool, first: bool, miss: u64) -> u64 {
+    fn cost<const KIND: u8>(&mut self, line: u32, reach: Reach, page: bool, first: bool, miss: u64) -> u64 {
         let mut cost = if page { 0 } else { PAGE_MISS } + if first { 0 } else { miss };
         if KIND == PART2 {
-            let second = touch::<SECOND_SETS, 4>(&mut self.second, line, below, write);
+            let second = touch::<SECOND_SETS, 4>(&mut self.second, line, reach);
             cost += if first || second { 0 } else { SECOND_MISS };
         }
         cost
@@ -1518,31 +1538,37 @@ impl Caches {
 
 /// Whether a partition that may be read holds the tag; the write label's own gets it at its front.
 #[inline(always)]
-fn touch<const SETS: usize, const WAYS: usize>(place: &mut [[u32; WAYS]], tag: u32, below: u32, write: u8) -> bool {
+fn touch<const SETS: usize, const WAYS: usize>(place: &mut [[u32; WAYS]], tag: u32, reach: Reach) -> bool {
     let set = tag as usize % SETS;
-    let is_at_front = place[write as usize * SETS + set][0] == tag && below >> (write & 31) & 1 != 0;
-    is_at_front || touch_deeper::<SETS, WAYS>(place, set, tag, below, write)
+    let own = &mut place[reach.write as usize % MOST_LABELS * SETS + set];
+    let mut carried = own[0];
+    if carried != tag {
+        own[0] = tag;
+        for held in &mut own[1..] {
+            std::mem::swap(held, &mut carried);
+            if carried == tag {
+                break;
+            }
+        }
+    }
+    carried == tag && reach.reads_own || is_elsewhere::<SETS, WAYS>(place, set, tag, reach.others)
 }
 
-#[inline(never)]
-fn touch_deeper<const SETS: usize, const WAYS: usize>(
-    place: &mut [[u32; WAYS]],
+/// Whether the set of a partition of one of these labels holds the tag.
+fn is_elsewhere<const SETS: usize, const WAYS: usize>(
+    place: &[[u32; WAYS]],
     set: usize,
     tag: u32,
-    below: u32,
-    write: u8,
+    mut labels: u32,
 ) -> bool {
-    let (mut is_hit, mut rest) = (false, below);
-    while rest != 0 && !is_hit {
-        let label = rest.trailing_zeros() as usize;
-        is_hit = place[label * SETS + set].contains(&tag);
-        rest &= rest - 1;
+    while labels != 0 {
+        let label = labels.trailing_zeros() as usize;
+        if place[label * SETS + set].contains(&tag) {
+            return true;
+        }
+        labels &= labels - 1;
     }
-    let own = &mut place[write as usize * SETS + set];
-    let old = own.iter().position(|held| *held == tag).unwrap_or(WAYS - 1);
-    own.copy_within(..old, 1);
-    own[0] = tag;
-    is_hit
+    false
 }
 
 // --- The machine
@@ -1557,6 +1583,7 @@ struct Opened {
 struct Machine {
     memory: Vec<i64>,
     operands: Vec<i64>,
+    labels: usize,
     caches: Caches,
     opened: Vec<Opened>,
     misses: [u32; MOST_LABELS],
@@ -1571,37 +1598,22 @@ trait Listener {
     fn began(&mut self, mark: u32);
 }
 
-fn applied(operator: Operator, left: i64, right: i64) -> i64 {
+/// The value of an operator and what it costs beyond 1.
+#[inline(always)]
+fn applied(operator: Operator, left: i64, right: i64) -> (i64, u64) {
+    let is_small = |value: i64| value == value as i16 as i64;
     match operator {
-        Operator::Add => left.wrapping_add(right),
-        Operator::Subtract => left.wrapping_sub(right),
-        Operator::Multiply => left.wrapping_mul(right),
-        Operator::Divide if right == 0 => 0,
-        Operator::Divide => left.wrapping_div(right),
-        Operator::Remainder if right == 0 => left,
-        Operator::Remainder => left.wrapping_rem(right),
-        Operator::Equal => (left == right) as i64,
-        Operator::Different => (left != right) as i64,
-        Operator::Less => (left < right) as i64,
-        Operator::AtMost => (left <= right) as i64,
-        Operator::Greater => (left > right) as i64,
-        Operator::AtLeast => (left >= right) as i64,
-    }
-}
-
-/// What an operator costs beyond 1.
-fn cost_of(operator: Operator, left: i64, right: i64) -> u64 {
-    match operator {
-        Operator::Multiply => {
-            let is_small = |value: i64| value == value as i16 as i64;
-            if is_small(left) && is_small(right) {
-                1
-            } else {
-                4
-            }
-        }
-        Operator::Divide | Operator::Remainder => 16,
-        _ => 0,
+        Operator::Add => (left.wrapping_add(right), 0),
+        Operator::Subtract => (left.wrapping_sub(right), 0),
+        Operator::Multiply => (left.wrapping_mul(right), if is_small(left) && is_small(right) { 1 } else { 4 }),
+        Operator::Divide => (if right == 0 { 0 } else { left.wrapping_div(right) }, 16),
+        Operator::Remainder => (if right == 0 { left } else { left.wrapping_rem(right) }, 16),
+        Operator::Equal => ((left == right) as i64, 0),
+        Operator::Different => ((left != right) as i64, 0),
+        Operator::Less => ((left < right) as i64, 0),
+        Operator::AtMost => ((left <= right) as i64, 0),
+        Operator::Greater => ((left > right) as i64, 0),
+        Operator::AtLeast => ((left >= right) as i64, 0),
     }
 }
 
@@ -1614,7 +1626,8 @@ impl Machine {
         Machine {
             memory: vec![0; variables],
             operands: vec![0; most_operands + 1],
-            caches: Caches::new(labels),
+            labels,
+            caches: Caches::new(),
             opened: Vec::new(),
             misses: [0; MOST_LABELS],
             clock: 0,
@@ -1625,7 +1638,7 @@ impl Machine {
     /// Runs an image from a memory and empty caches to a limit.
     fn run(&mut self, environment: u8, code: &[Instruction], memory: &[i64], limit: u64, listener: &mut impl Listener) {
         self.memory.copy_from_slice(memory);
-        self.caches.clear();
+        self.caches.clear(self.labels);
         self.opened.clear();
         self.misses = [0; MOST_LABELS];
         match environment {
@@ -1635,12 +1648,13 @@ impl Machine {
         }
     }
 
+    #[inline(never)]
     fn steps<const KIND: u8>(&mut self, code: &[Instruction], limit: u64, listener: &mut impl Listener) {
         let (memory, operands, caches) = (&mut self.memory[..], &mut self.operands[..], &mut self.caches);
         let (mut at, mut top, mut last) = (0, 0, 0);
         self.has_halted = loop {
-            let Instruction { act, below, write } = code[at];
-            let mut clock = last + 1 + caches.fetch::<KIND>(at, below, write);
+            let Instruction { act, reach } = code[at];
+            let mut clock = last + 1 + caches.fetch::<KIND>(at, reach);
             at += 1;
             match act {
                 Act::Push(value) => {
@@ -1648,12 +1662,12 @@ impl Machine {
                     top += 1;
                 }
                 Act::Load(variable) => {
-                    clock += caches.datum::<KIND>(variable as usize, below, write);
+                    clock += caches.datum::<KIND>(variable as usize, reach);
                     operands[top] = memory[variable as usize];
                     top += 1;
                 }
                 Act::Store(variable) => {
-                    clock += caches.datum::<KIND>(variable as usize, below, write);
+                    clock += caches.datum::<KIND>(variable as usize, reach);
                     if clock > limit {
                         break false;
                     }
@@ -1663,13 +1677,13 @@ impl Machine {
                 }
                 Act::LoadElement { first, length } => {
                     let variable = chosen(first, length, operands[top - 1]);
-                    clock += caches.datum::<KIND>(variable, below, write);
+                    clock += caches.datum::<KIND>(variable, reach);
                     operands[top - 1] = memory[variable];
                 }
                 Act::StoreElement { first, length } => {
                     top -= 2;
                     let variable = chosen(first, length, operands[top]);
-                    clock += caches.datum::<KIND>(variable, below, write);
+                    clock += caches.datum::<KIND>(variable, reach);
                     if clock > limit {
                         break false;
                     }
@@ -1678,9 +1692,9 @@ impl Machine {
                 }
                 Act::Apply(operator) => {
                     top -= 1;
-                    let (left, right) = (operands[top - 1], operands[top]);
-                    clock += cost_of(operator, left, right);
-                    operands[top - 1] = applied(operator, left, right);
+                    let (value, cost) = applied(operator, operands[top - 1], operands[top]);
+                    operands[top - 1] = value;
+                    clock += cost;
                 }
                 Act::JumpIfZero(target) => {
                     top -= 1;
@@ -1759,7 +1773,8 @@ fn starts_of(text: &str, program: &Program) -> Answer<Vec<Vec<i64>>> {
             return plain("starts: a line that this reader does not know");
         };
         match (key.trim(), starts.last_mut()) {
-            ("version", None) if value.trim() == "1" || value.trim() == "2" => version = value.trim().parse().unwrap_or(1),
+            ("version", None) if value.trim() == "1" => version = 1,
+            ("version", None) if value.trim() == "2" => version = 2,
             ("memory", Some(memory)) if !has_memory => {
                 has_memory = true;
                 Table { text: value, program, version, memory }.read()?;
@@ -1871,10 +1886,19 @@ struct EventPrinter<'p> {
 const FULL: usize = 1 << 16;
 
 impl Listener for EventPrinter<'_> {
+    #[inline(always)]
     fn assigned(&mut self, variable: usize, value: i64, cycle: u64) {
-        if !self.is_shown[variable] {
-            return;
+        if self.is_shown[variable] {
+            self.print(variable, value, cycle);
         }
+    }
+
+    fn began(&mut self, _: u32) {}
+}
+
+impl EventPrinter<'_> {
+    #[inline(never)]
+    fn print(&mut self, variable: usize, value: i64, cycle: u64) {
         self.program.write_variable(&self.owners, variable, &mut self.out);
         self.out.extend_from_slice(b" = ");
         write_signed(value, &mut self.out);
@@ -1886,8 +1910,6 @@ impl Listener for EventPrinter<'_> {
             self.out.clear();
         }
     }
-
-    fn began(&mut self, _: u32) {}
 }
 
 /// Writes bytes to standard output; a reader that has gone away ends the program.
@@ -1984,8 +2006,10 @@ fn audit(labelled: &Labelled, image: &Image, starts: &[Vec<i64>], words: &Words,
     let owners = program.owners();
     let is_shown = shown(labelled, &owners, Some(observer));
     agreed(program, starts, &owners, &is_shown)?;
-    let is_relevant = |(counter, level): (&u8, &u8)| lattice.flows(*counter, observer) && !lattice.flows(*level, observer);
-    let is_relevant = labelled.counters.iter().zip(&labelled.levels).map(is_relevant).collect();
+    let marks = labelled.counters.iter().zip(&labelled.levels);
+    let is_relevant =
+        marks.map(|(counter, level)| lattice.flows(*counter, observer) && !lattice.flows(*level, observer));
+    let is_relevant = is_relevant.collect();
     let mut watch = Watch { is_shown, is_relevant, events: Vec::new(), begun: 0 };
     let mut machine = Machine::new(lattice.names.len(), program.elements, image.most_operands);
     let (mut classes, mut of_runs, mut total, mut mitigations) = (Classes::default(), Vec::new(), 0, 0);
@@ -2007,7 +2031,8 @@ fn audit(labelled: &Labelled, image: &Image, starts: &[Vec<i64>], words: &Words,
     let levels = (0..lattice.names.len()).filter(|label| !lattice.flows(*label as u8, observer)).count();
     let exponent = levels as u32 * (u64::BITS - words.budget.leading_zeros());
     let mut out = format!(
-        "runs {}\nobserver {}\nbudget {}\nlevels {levels}\nmitigations {mitigations}\ndistinct {}\nbound {}^{exponent}\n",
+        "runs {}\nobserver {}\nbudget {}\nlevels {levels}\nmitigations {mitigations}\ndistinct {}\n\
+         bound {}^{exponent}\n",
         starts.len(),
         lattice.name(observer),
         words.budget,
