@@ -1,0 +1,2167 @@
+//! A plain-Rust twin of the tool, to measure the tool's speed against. It does `check`, `infer`, `run` and `audit` by
+//! the same rules (docs/LANGUAGE.md, docs/MACHINE.md and docs/FORMATS.md) and shares no code with the tool. Nothing
+//! in it is proved, and nobody should use it for anything but its time.
+//!
+//! ```text
+//! rustc --edition 2021 -O -o plain-twin tools/plain-twin.rs
+//! ./plain-twin audit p.mit s.toml --observer L --budget 1000
+//! ```
+//!
+//! It needs the standard library alone, has no unsafe code and starts no threads.
+//!
+//! What it leaves out:
+//!
+//! - the other commands;
+//! - refusals in their order and their words: but for the line of a broken condition, of starts that do not agree and
+//!   of a run that has not halted, a refusal is a line on standard error and status 1;
+//! - most of TOML: it reads start files in the form that docs/FORMATS.md shows, with a table on one line;
+//! - touches: a start file that has them is refused.
+
+use std::collections::HashMap;
+use std::hash::{BuildHasherDefault, Hasher};
+use std::io::Write;
+use std::process::ExitCode;
+
+const MOST_BYTES: usize = 1_048_576;
+const MOST_LABELS: usize = 32;
+const MOST_DECLARATIONS: usize = 1_024;
+const MOST_ELEMENTS: u64 = 2_048;
+const MOST_NAME: usize = 32;
+const MOST_OPEN: u32 = 100;
+const MOST_OPERATORS: u32 = 256;
+const MOST_INSTRUCTIONS: usize = 200_000;
+const MOST_RUNS: usize = 4_096;
+const MOST_EVENTS: usize = 16_777_216;
+const GREATEST_BUDGET: u64 = 1 << 40;
+
+/// A refusal: `Plain` is told on standard error, `Line` is the tool's own line with the tool's status.
+enum Stop {
+    Plain(String),
+    Line(u8, String),
+}
+
+type Answer<T> = Result<T, Stop>;
+
+fn plain<T>(what: impl Into<String>) -> Answer<T> {
+    Err(Stop::Plain(what.into()))
+}
+
+// --- Tokens
+
+#[derive(Clone, Copy, PartialEq)]
+enum Token<'a> {
+    Labels,
+    Order,
+    Var,
+    Skip,
+    If,
+    Then,
+    Else,
+    While,
+    Do,
+    Mitigate,
+    Sleep,
+    Name(&'a str),
+    Number(i64),
+    Becomes,
+    Colon,
+    Semicolon,
+    Comma,
+    Open,
+    Close,
+    OpenBrace,
+    CloseBrace,
+    OpenBracket,
+    CloseBracket,
+    At,
+    Sign(Operator),
+    End,
+}
+
+#[derive(Clone, Copy, PartialEq)]
+enum Operator {
+    Add,
+    Subtract,
+    Multiply,
+    Divide,
+    Remainder,
+    Equal,
+    Different,
+    Less,
+    AtMost,
+    Greater,
+    AtLeast,
+}
+
+impl Operator {
+    fn rank(self) -> u32 {
+        match self {
+            Operator::Add | Operator::Subtract => 2,
+            Operator::Multiply | Operator::Divide | Operator::Remainder => 3,
+            _ => 1,
+        }
+    }
+
+    fn sign(self) -> &'static str {
+        match self {
+            Operator::Add => "+",
+            Operator::Subtract => "-",
+            Operator::Multiply => "*",
+            Operator::Divide => "/",
+            Operator::Remainder => "%",
+            Operator::Equal => "==",
+            Operator::Different => "!=",
+            Operator::Less => "<",
+            Operator::AtMost => "<=",
+            Operator::Greater => ">",
+            Operator::AtLeast => ">=",
+        }
+    }
+}
+
+/// Goes over the text; `token` begins at byte `begin`, and `at` is the byte after it.
+struct Lexer<'a> {
+    text: &'a str,
+    at: usize,
+    begin: usize,
+    token: Token<'a>,
+}
+
+impl<'a> Lexer<'a> {
+    fn new(text: &'a str) -> Answer<Self> {
+        let mut lexer = Lexer { text, at: 0, begin: 0, token: Token::End };
+        lexer.advance()?;
+        Ok(lexer)
+    }
+
+    fn byte(&self, at: usize) -> u8 {
+        self.text.as_bytes().get(at).copied().unwrap_or(0)
+    }
+
+    fn fault<T>(&self, what: &str) -> Answer<T> {
+        let (line, column) = place_of(self.text, self.begin);
+        plain(format!("syntax: {what} at {line}:{column}"))
+    }
+
+    fn skip_blank(&mut self) {
+        let bytes = self.text.as_bytes();
+        while let Some(&byte) = bytes.get(self.at) {
+            match byte {
+                b' ' | b'\t' | b'\r' | b'\n' => self.at += 1,
+                b'/' if self.byte(self.at + 1) == b'/' => {
+                    while self.at < bytes.len() && bytes[self.at] != b'\n' {
+                        self.at += 1;
+                    }
+                }
+                _ => return,
+            }
+        }
+    }
+
+    fn advance(&mut self) -> Answer<()> {
+        self.skip_blank();
+        self.begin = self.at;
+        self.token = match self.text.as_bytes().get(self.at) {
+            None => Token::End,
+            Some(b'a'..=b'z' | b'A'..=b'Z') => self.word()?,
+            Some(b'0'..=b'9') => self.number()?,
+            Some(&byte) => self.sign(byte)?,
+        };
+        Ok(())
+    }
+
+    fn word(&mut self) -> Answer<Token<'a>> {
+        let bytes = self.text.as_bytes();
+        while self.at < bytes.len() && (bytes[self.at].is_ascii_alphanumeric() || bytes[self.at] == b'_') {
+            self.at += 1;
+        }
+        let word = &self.text[self.begin..self.at];
+        Ok(match word {
+            "labels" => Token::Labels,
+            "order" => Token::Order,
+            "var" => Token::Var,
+            "skip" => Token::Skip,
+            "if" => Token::If,
+            "then" => Token::Then,
+            "else" => Token::Else,
+            "while" => Token::While,
+            "do" => Token::Do,
+            "mitigate" => Token::Mitigate,
+            "sleep" => Token::Sleep,
+            _ if word.len() > MOST_NAME => return self.fault("long name"),
+            _ => Token::Name(word),
+        })
+    }
+
+    fn number(&mut self) -> Answer<Token<'a>> {
+        let mut value = 0i64;
+        while let Some(digit @ b'0'..=b'9') = self.text.as_bytes().get(self.at) {
+            let more = value.checked_mul(10).and_then(|v| v.checked_add((digit - b'0') as i64));
+            let Some(more) = more else {
+                return self.fault("wide number");
+            };
+            value = more;
+            self.at += 1;
+        }
+        Ok(Token::Number(value))
+    }
+
+    fn sign(&mut self, byte: u8) -> Answer<Token<'a>> {
+        let is_wide = self.byte(self.at + 1) == b'=';
+        let (token, length) = match (byte, is_wide) {
+            (b':', true) => (Token::Becomes, 2),
+            (b'=', true) => (Token::Sign(Operator::Equal), 2),
+            (b'!', true) => (Token::Sign(Operator::Different), 2),
+            (b'<', true) => (Token::Sign(Operator::AtMost), 2),
+            (b'>', true) => (Token::Sign(Operator::AtLeast), 2),
+            (b'<', false) => (Token::Sign(Operator::Less), 1),
+            (b'>', false) => (Token::Sign(Operator::Greater), 1),
+            (b':', false) => (Token::Colon, 1),
+            (b';', _) => (Token::Semicolon, 1),
+            (b',', _) => (Token::Comma, 1),
+            (b'(', _) => (Token::Open, 1),
+            (b')', _) => (Token::Close, 1),
+            (b'{', _) => (Token::OpenBrace, 1),
+            (b'}', _) => (Token::CloseBrace, 1),
+            (b'[', _) => (Token::OpenBracket, 1),
+            (b']', _) => (Token::CloseBracket, 1),
+            (b'@', _) => (Token::At, 1),
+            (b'+', _) => (Token::Sign(Operator::Add), 1),
+            (b'-', _) => (Token::Sign(Operator::Subtract), 1),
+            (b'*', _) => (Token::Sign(Operator::Multiply), 1),
+            (b'/', _) => (Token::Sign(Operator::Divide), 1),
+            (b'%', _) => (Token::Sign(Operator::Remainder), 1),
+            _ => return self.fault("bad byte"),
+        };
+        self.at += length;
+        Ok(token)
+    }
+}
+
+/// The line and the column of a byte of a text.
+fn place_of(text: &str, at: usize) -> (usize, usize) {
+    let before = &text.as_bytes()[..at];
+    let line = before.iter().filter(|byte| **byte == b'\n').count() + 1;
+    let column = before.iter().rev().take_while(|byte| **byte != b'\n').count() + 1;
+    (line, column)
+}
+
+// --- Labels
+
+/// The labels of a program: `below[a]` has a bit for each label that flows to a.
+struct Lattice<'a> {
+    names: Vec<&'a str>,
+    pairs: Vec<(u8, u8)>,
+    below: Vec<u32>,
+    joins: [[u8; MOST_LABELS]; MOST_LABELS],
+    bottom: u8,
+}
+
+impl<'a> Lattice<'a> {
+    fn new(names: Vec<&'a str>, pairs: Vec<(u8, u8)>) -> Answer<Self> {
+        let size = names.len();
+        let mut below: Vec<u32> = (0..size).map(|label| 1 << label).collect();
+        for &(low, high) in &pairs {
+            below[high as usize] |= 1 << low;
+        }
+        for over in 0..size {
+            for label in 0..size {
+                if below[label] >> over & 1 != 0 {
+                    below[label] |= below[over];
+                }
+            }
+        }
+        let flows = |a: usize, b: usize| below[b] >> a & 1 != 0;
+        let mut joins = [[0; MOST_LABELS]; MOST_LABELS];
+        for a in 0..size {
+            for b in 0..size {
+                if a != b && flows(a, b) && flows(b, a) {
+                    return plain(format!("syntax: order cycle between {} and {}", names[a], names[b]));
+                }
+                let above: Vec<usize> = (0..size).filter(|c| flows(a, *c) && flows(b, *c)).collect();
+                let Some(least) = above.iter().find(|c| above.iter().all(|d| flows(**c, *d))) else {
+                    return plain(format!("syntax: no join of {} and {}", names[a], names[b]));
+                };
+                joins[a][b] = *least as u8;
+            }
+        }
+        let Some(bottom) = (0..size).find(|a| (0..size).all(|b| flows(*a, b))) else {
+            return plain("syntax: no bottom");
+        };
+        Ok(Lattice { names, pairs, below, joins, bottom: bottom as u8 })
+    }
+
+    fn join(&self, a: u8, b: u8) -> u8 {
+        self.joins[a as usize % MOST_LABELS][b as usize % MOST_LABELS]
+    }
+
+    fn flows(&self, a: u8, b: u8) -> bool {
+        self.below[b as usize] >> a & 1 != 0
+    }
+
+    fn name(&self, label: u8) -> &'a str {
+        self.names[label as usize]
+    }
+
+    fn find(&self, name: &str) -> Option<u8> {
+        self.names.iter().position(|known| *known == name).map(|label| label as u8)
+    }
+}
+
+// --- Programs
+
+/// A part of an expression. All parts of a program lie in one list, each expression in the order of its code: the last
+/// part before an operator is its right side, `left` is the last part of its left side, and the last part before an
+/// element is its index.
+#[derive(Clone, Copy)]
+enum Part {
+    Number(i64),
+    Variable { declaration: u32, is_in_index: bool },
+    Element { declaration: u32, is_in_index: bool },
+    Apply { operator: Operator, left: u32 },
+}
+
+/// An expression: the places of its parts.
+#[derive(Clone, Copy)]
+struct Expression {
+    first: u32,
+    end: u32,
+}
+
+const NO_EXPRESSION: Expression = Expression { first: 0, end: 0 };
+
+struct Command {
+    form: Form,
+    /// The byte where the command begins.
+    at: u32,
+    value: Expression,
+    has_marks: bool,
+    read: u8,
+    write: u8,
+    /// The label of the guard of `if` and `while`, once labels are known.
+    guard: u8,
+}
+
+enum Form {
+    Skip,
+    Assign { to: u32 },
+    Put { to: u32, index: Expression },
+    Sleep,
+    If { yes: Vec<Command>, no: Vec<Command> },
+    While { body: Vec<Command>, start: u32 },
+    Mitigate { mark: u32, body: Vec<Command> },
+}
+
+struct Declaration<'a> {
+    name: &'a str,
+    length: Option<u32>,
+    label: Option<u8>,
+    /// The number of the variable, or of the first element.
+    first: u32,
+}
+
+struct Program<'a> {
+    text: &'a str,
+    lattice: Lattice<'a>,
+    declarations: Vec<Declaration<'a>>,
+    numbers: Names<'a>,
+    elements: usize,
+    parts: Vec<Part>,
+    body: Vec<Command>,
+    commands: usize,
+    /// The level of each mitigate, where it is written.
+    levels: Vec<Option<u8>>,
+}
+
+impl Program<'_> {
+    fn parts_of(&self, expression: Expression) -> &[Part] {
+        &self.parts[expression.first as usize..expression.end as usize]
+    }
+
+    /// The declaration of each variable, elements included.
+    fn owners(&self) -> Vec<u32> {
+        let mut owners = Vec::with_capacity(self.elements);
+        for (number, declaration) in self.declarations.iter().enumerate() {
+            owners.extend(std::iter::repeat_n(number as u32, declaration.length.unwrap_or(1) as usize));
+        }
+        owners
+    }
+
+    fn write_variable(&self, owners: &[u32], variable: usize, out: &mut Vec<u8>) {
+        let declaration = &self.declarations[owners[variable] as usize];
+        out.extend_from_slice(declaration.name.as_bytes());
+        if declaration.length.is_some() {
+            out.push(b'[');
+            write_number(variable as u64 - declaration.first as u64, out);
+            out.push(b']');
+        }
+    }
+}
+
+/// Names are short, so a short hash is enough.
+#[derive(Default)]
+struct NameHasher(u64);
+
+impl Hasher for NameHasher {
+    fn write(&mut self, bytes: &[u8]) {
+        for chunk in bytes.chunks(8) {
+            let mut word = [0; 8];
+            word[..chunk.len()].copy_from_slice(chunk);
+            self.0 = (self.0.rotate_left(5) ^ u64::from_le_bytes(word)).wrapping_mul(0x517c_c1b7_2722_0a95);
+        }
+    }
+
+    fn write_u8(&mut self, byte: u8) {
+        self.0 = self.0.rotate_left(5) ^ byte as u64;
+    }
+
+    fn finish(&self) -> u64 {
+        self.0 ^ self.0 >> 32
+    }
+}
+
+type Names<'a> = HashMap<&'a str, u32, BuildHasherDefault<NameHasher>>;
+
+// --- The parser
+
+struct Parser<'a> {
+    lexer: Lexer<'a>,
+    lattice: Lattice<'a>,
+    declarations: Vec<Declaration<'a>>,
+    numbers: Names<'a>,
+    parts: Vec<Part>,
+    commands: usize,
+    levels: Vec<Option<u8>>,
+    open: u32,
+    operators: u32,
+    indices: u32,
+}
+
+fn parsed(text: &str) -> Answer<Program<'_>> {
+    let mut lexer = Lexer::new(text)?;
+    let mut parser = Parser {
+        lattice: header(&mut lexer)?,
+        lexer,
+        declarations: Vec::new(),
+        numbers: Names::default(),
+        parts: Vec::new(),
+        commands: 0,
+        levels: Vec::new(),
+        open: 0,
+        operators: 0,
+        indices: 0,
+    };
+    let elements = parser.declared()?;
+    let body = parser.list()?;
+    parser.want(Token::End)?;
+    Ok(Program {
+        text,
+        lattice: parser.lattice,
+        declarations: parser.declarations,
+        numbers: parser.numbers,
+        elements: elements as usize,
+        parts: parser.parts,
+        body,
+        commands: parser.commands,
+        levels: parser.levels,
+    })
+}
+
+fn header<'a>(lexer: &mut Lexer<'a>) -> Answer<Lattice<'a>> {
+    if lexer.token != Token::Labels {
+        return Lattice::new(vec!["L", "H"], vec![(0, 1)]);
+    }
+    let mut names = Vec::new();
+    while names.is_empty() || lexer.token == Token::Comma {
+        lexer.advance()?;
+        let name = name_at(lexer)?;
+        if names.contains(&name) {
+            return lexer.fault("name twice");
+        }
+        names.push(name);
+        lexer.advance()?;
+    }
+    pass(lexer, Token::Semicolon)?;
+    if names.len() > MOST_LABELS {
+        return plain(format!("syntax: too many labels: {}", names.len()));
+    }
+    let mut pairs = Vec::new();
+    if lexer.token == Token::Order {
+        while pairs.is_empty() || lexer.token == Token::Comma {
+            lexer.advance()?;
+            let low = known(lexer, &names)?;
+            pass(lexer, Token::Sign(Operator::Less))?;
+            pairs.push((low, known(lexer, &names)?));
+        }
+        pass(lexer, Token::Semicolon)?;
+    }
+    Lattice::new(names, pairs)
+}
+
+fn name_at<'a>(lexer: &Lexer<'a>) -> Answer<&'a str> {
+    match lexer.token {
+        Token::Name(name) => Ok(name),
+        _ => lexer.fault("unexpected"),
+    }
+}
+
+fn known(lexer: &mut Lexer, names: &[&str]) -> Answer<u8> {
+    let name = name_at(lexer)?;
+    let Some(label) = names.iter().position(|known| *known == name) else {
+        return lexer.fault("unknown name");
+    };
+    lexer.advance()?;
+    Ok(label as u8)
+}
+
+fn pass(lexer: &mut Lexer, token: Token) -> Answer<()> {
+    if lexer.token != token {
+        return lexer.fault("unexpected");
+    }
+    lexer.advance()
+}
+
+impl<'a> Parser<'a> {
+    fn sees(&self, token: Token) -> bool {
+        self.lexer.token == token
+    }
+
+    fn want(&mut self, token: Token) -> Answer<()> {
+        if !self.sees(token) {
+            return self.lexer.fault("unexpected");
+        }
+        if token != Token::End {
+            self.lexer.advance()?;
+        }
+        Ok(())
+    }
+
+    fn takes(&mut self, token: Token) -> Answer<bool> {
+        let is_there = self.sees(token);
+        if is_there {
+            self.lexer.advance()?;
+        }
+        Ok(is_there)
+    }
+
+    fn label(&mut self) -> Answer<u8> {
+        known(&mut self.lexer, &self.lattice.names)
+    }
+
+    /// Reads the declarations and gives the number of variables, elements included.
+    fn declared(&mut self) -> Answer<u32> {
+        let (mut variables, mut elements) = (0, 0);
+        while self.takes(Token::Var)? {
+            let name = name_at(&self.lexer)?;
+            if self.numbers.insert(name, self.declarations.len() as u32).is_some() {
+                return self.lexer.fault("name twice");
+            }
+            self.lexer.advance()?;
+            let length = self.length(&mut elements)?;
+            let label = match self.takes(Token::Colon)? {
+                true => Some(self.label()?),
+                false if length.is_some() => return self.lexer.fault("unexpected"),
+                false => None,
+            };
+            self.want(Token::Semicolon)?;
+            self.declarations.push(Declaration { name, length, label, first: variables });
+            variables += length.unwrap_or(1);
+        }
+        if self.declarations.len() > MOST_DECLARATIONS {
+            return plain(format!("syntax: too many variables: {}", self.declarations.len()));
+        }
+        Ok(variables)
+    }
+
+    fn length(&mut self, elements: &mut u64) -> Answer<Option<u32>> {
+        if !self.takes(Token::OpenBracket)? {
+            return Ok(None);
+        }
+        let Token::Number(length) = self.lexer.token else {
+            return self.lexer.fault("unexpected");
+        };
+        *elements = elements.saturating_add(length as u64);
+        if length == 0 || *elements > MOST_ELEMENTS {
+            return self.lexer.fault("array size");
+        }
+        self.lexer.advance()?;
+        self.want(Token::CloseBracket)?;
+        Ok(Some(length as u32))
+    }
+
+    fn opens(&mut self, token: Token) -> Answer<()> {
+        if self.open == MOST_OPEN {
+            return self.lexer.fault("too deep");
+        }
+        self.want(token)?;
+        self.open += 1;
+        Ok(())
+    }
+
+    fn closes(&mut self, token: Token) -> Answer<()> {
+        self.want(token)?;
+        self.open -= 1;
+        Ok(())
+    }
+
+    fn whole(&mut self) -> Answer<Expression> {
+        self.operators = 0;
+        let first = self.parts.len() as u32;
+        self.comparison()?;
+        Ok(Expression { first, end: self.parts.len() as u32 })
+    }
+
+    /// Takes an operator of a rank, and gives it with the place of its left side.
+    fn operator(&mut self, rank: u32) -> Answer<Option<(Operator, u32)>> {
+        match self.lexer.token {
+            Token::Sign(operator) if operator.rank() == rank => {
+                if self.operators == MOST_OPERATORS {
+                    return self.lexer.fault("too deep");
+                }
+                self.operators += 1;
+                self.lexer.advance()?;
+                Ok(Some((operator, self.parts.len() as u32 - 1)))
+            }
+            _ => Ok(None),
+        }
+    }
+
+    fn comparison(&mut self) -> Answer<()> {
+        self.sum()?;
+        if let Some((operator, left)) = self.operator(1)? {
+            self.sum()?;
+            self.parts.push(Part::Apply { operator, left });
+        }
+        Ok(())
+    }
+
+    fn sum(&mut self) -> Answer<()> {
+        self.term()?;
+        while let Some((operator, left)) = self.operator(2)? {
+            self.term()?;
+            self.parts.push(Part::Apply { operator, left });
+        }
+        Ok(())
+    }
+
+    fn term(&mut self) -> Answer<()> {
+        self.atom()?;
+        while let Some((operator, left)) = self.operator(3)? {
+            self.atom()?;
+            self.parts.push(Part::Apply { operator, left });
+        }
+        Ok(())
+    }
+
+    fn atom(&mut self) -> Answer<()> {
+        match self.lexer.token {
+            Token::Number(value) => {
+                self.parts.push(Part::Number(value));
+                self.lexer.advance()
+            }
+            Token::Name(name) => self.named(name),
+            _ => {
+                self.opens(Token::Open)?;
+                self.comparison()?;
+                self.closes(Token::Close)
+            }
+        }
+    }
+
+    fn named(&mut self, name: &str) -> Answer<()> {
+        let (declaration, is_array) = self.use_of(name)?;
+        let is_in_index = self.indices > 0;
+        if is_array {
+            self.index()?;
+            self.parts.push(Part::Element { declaration, is_in_index });
+        } else {
+            self.parts.push(Part::Variable { declaration, is_in_index });
+        }
+        Ok(())
+    }
+
+    /// The declaration of the name that stands here, and whether it is an array; the next token has to fit.
+    fn use_of(&mut self, name: &str) -> Answer<(u32, bool)> {
+        let Some(&declaration) = self.numbers.get(name) else {
+            return self.lexer.fault("unknown name");
+        };
+        let is_array = self.declarations[declaration as usize].length.is_some();
+        self.lexer.advance()?;
+        if is_array != self.sees(Token::OpenBracket) {
+            return self.lexer.fault("wrong use of a name");
+        }
+        Ok((declaration, is_array))
+    }
+
+    fn index(&mut self) -> Answer<()> {
+        self.opens(Token::OpenBracket)?;
+        self.indices += 1;
+        self.comparison()?;
+        self.indices -= 1;
+        self.closes(Token::CloseBracket)
+    }
+
+    fn marks(&mut self, command: &mut Command) -> Answer<()> {
+        if !self.takes(Token::At)? {
+            return Ok(());
+        }
+        self.want(Token::OpenBracket)?;
+        command.has_marks = true;
+        command.read = self.label()?;
+        command.write = if self.takes(Token::Comma)? { self.label()? } else { command.read };
+        self.want(Token::CloseBracket)
+    }
+
+    fn block(&mut self) -> Answer<Vec<Command>> {
+        self.opens(Token::OpenBrace)?;
+        let commands = self.list()?;
+        self.closes(Token::CloseBrace)?;
+        Ok(commands)
+    }
+
+    fn list(&mut self) -> Answer<Vec<Command>> {
+        let mut commands = vec![self.command()?];
+        while self.takes(Token::Semicolon)? {
+            commands.push(self.command()?);
+        }
+        Ok(commands)
+    }
+
+    fn blank(&mut self, at: u32) -> Command {
+        self.commands += 1;
+        let label = self.lattice.bottom;
+        Command {
+            form: Form::Skip,
+            at,
+            value: NO_EXPRESSION,
+            has_marks: false,
+            read: label,
+            write: label,
+            guard: label,
+        }
+    }
+
+    fn command(&mut self) -> Answer<Command> {
+        let mut command = self.blank(self.lexer.begin as u32);
+        match self.lexer.token {
+            Token::Skip => {
+                self.lexer.advance()?;
+                self.marks(&mut command)?;
+            }
+            Token::Name(name) => self.assignment(name, &mut command)?,
+            Token::Sleep => {
+                self.lexer.advance()?;
+                command.value = self.whole()?;
+                self.marks(&mut command)?;
+                command.form = Form::Sleep;
+            }
+            Token::If => self.choice(&mut command)?,
+            Token::While => {
+                self.lexer.advance()?;
+                command.value = self.whole()?;
+                self.marks(&mut command)?;
+                self.want(Token::Do)?;
+                command.form = Form::While { body: self.block()?, start: 0 };
+            }
+            Token::Mitigate => self.mitigation(&mut command)?,
+            _ => return self.lexer.fault("unexpected"),
+        }
+        Ok(command)
+    }
+
+    fn assignment(&mut self, name: &str, command: &mut Command) -> Answer<()> {
+        let (to, is_array) = self.use_of(name)?;
+        command.form = Form::Assign { to };
+        if is_array {
+            self.operators = 0;
+            let first = self.parts.len() as u32;
+            self.index()?;
+            command.form = Form::Put { to, index: Expression { first, end: self.parts.len() as u32 } };
+        }
+        self.want(Token::Becomes)?;
+        command.value = self.whole()?;
+        self.marks(command)
+    }
+
+    fn choice(&mut self, command: &mut Command) -> Answer<()> {
+        self.lexer.advance()?;
+        command.value = self.whole()?;
+        self.marks(command)?;
+        self.want(Token::Then)?;
+        let yes = self.block()?;
+        let no = if self.takes(Token::Else)? { self.block()? } else { vec![self.blank(command.at)] };
+        command.form = Form::If { yes, no };
+        Ok(())
+    }
+
+    fn mitigation(&mut self, command: &mut Command) -> Answer<()> {
+        self.lexer.advance()?;
+        self.opens(Token::Open)?;
+        command.value = self.whole()?;
+        let level = if self.takes(Token::Comma)? { Some(self.label()?) } else { None };
+        self.closes(Token::Close)?;
+        let mark = self.levels.len() as u32;
+        self.levels.push(level);
+        self.marks(command)?;
+        command.form = Form::Mitigate { mark, body: self.block()? };
+        Ok(())
+    }
+}
+
+// --- Inference
+
+/// A program with all its labels: the marks of each command are filled in.
+struct Labelled<'a> {
+    program: Program<'a>,
+    variables: Vec<u8>,
+    levels: Vec<u8>,
+    /// The program counter label of each mitigate.
+    counters: Vec<u8>,
+}
+
+/// The conditions as a graph: each node has a label, and that of each edge's source flows to that of its target. The
+/// first nodes are the declarations and then the levels; more nodes are program counters and timing labels. A node
+/// without edges to it is settled when it is made, and what comes from it is joined to its targets at once.
+struct Graph<'p> {
+    lattice: &'p Lattice<'p>,
+    parts: &'p [Part],
+    declarations: usize,
+    labels: Vec<u8>,
+    is_settled: Vec<bool>,
+    edges: Vec<(u32, u32)>,
+}
+
+impl Graph<'_> {
+    fn node(&mut self, label: u8, is_settled: bool) -> u32 {
+        self.labels.push(label);
+        self.is_settled.push(is_settled);
+        self.labels.len() as u32 - 1
+    }
+
+    fn raise(&mut self, node: u32, label: u8) {
+        self.labels[node as usize] = self.lattice.join(self.labels[node as usize], label);
+    }
+
+    /// Makes `source` flow to `target`, and unsettles a target that now hangs on an open source.
+    fn flow(&mut self, source: u32, target: u32) {
+        if self.is_settled[source as usize] {
+            self.raise(target, self.labels[source as usize]);
+        } else if source != target {
+            self.is_settled[target as usize] = false;
+            self.edges.push((source, target));
+        }
+    }
+
+    fn flow_parts(&mut self, expression: Expression, target: u32, only_in_index: bool) {
+        for part in &self.parts[expression.first as usize..expression.end as usize] {
+            if let Part::Variable { declaration, is_in_index } | Part::Element { declaration, is_in_index } = *part {
+                if is_in_index || !only_in_index {
+                    self.flow(declaration, target);
+                }
+            }
+        }
+    }
+
+    /// Makes a command's read label flow to `target`.
+    fn flow_read(&mut self, command: &Command, counter: u32, target: u32) {
+        if command.has_marks {
+            self.raise(target, command.read);
+            return;
+        }
+        self.flow(counter, target);
+        self.flow_parts(command.value, target, true);
+    }
+
+    /// A node for what is above a label, the command's read label and, on demand, its value.
+    fn after(&mut self, command: &Command, counter: u32, start: u32) -> u32 {
+        let node = self.node(self.lattice.bottom, true);
+        self.flow(start, node);
+        self.flow_read(command, counter, node);
+        self.flow_parts(command.value, node, false);
+        node
+    }
+
+    fn list(&mut self, commands: &mut [Command], counter: u32, mut start: u32) -> u32 {
+        for command in commands {
+            start = self.command(command, counter, start);
+        }
+        start
+    }
+
+    /// Adds a command's conditions and gives the node of its end label.
+    fn command(&mut self, command: &mut Command, counter: u32, start: u32) -> u32 {
+        match command.form {
+            Form::Skip | Form::Sleep => return self.after(command, counter, start),
+            Form::Assign { to } => return self.assignment(command, to, NO_EXPRESSION, counter, start),
+            Form::Put { to, index } => return self.assignment(command, to, index, counter, start),
+            _ => {}
+        }
+        let after = self.after(command, counter, start);
+        match &mut command.form {
+            Form::If { yes, no } => {
+                let inner = self.inner(command.value, counter);
+                let ends = [self.list(yes, inner, after), self.list(no, inner, after)];
+                let end = self.node(self.lattice.bottom, true);
+                ends.iter().for_each(|source| self.flow(*source, end));
+                end
+            }
+            Form::While { body, start } => {
+                *start = after;
+                self.is_settled[after as usize] = false;
+                let inner = self.inner(command.value, counter);
+                let end = self.list(body, inner, after);
+                self.flow(end, after);
+                after
+            }
+            Form::Mitigate { mark, body } => {
+                let level = self.declarations as u32 + *mark;
+                let end = self.list(body, counter, after);
+                if !self.is_settled[level as usize] {
+                    self.flow(end, level);
+                }
+                after
+            }
+            _ => after,
+        }
+    }
+
+    fn inner(&mut self, guard: Expression, counter: u32) -> u32 {
+        let node = self.node(self.lattice.bottom, true);
+        self.flow(counter, node);
+        self.flow_parts(guard, node, false);
+        node
+    }
+
+    /// The end of an assignment is the variable's own node where its label is left out.
+    fn assignment(&mut self, command: &Command, to: u32, index: Expression, counter: u32, start: u32) -> u32 {
+        let end = if self.is_settled[to as usize] { self.node(self.labels[to as usize], true) } else { to };
+        self.flow(counter, end);
+        self.flow(start, end);
+        self.flow_parts(command.value, end, false);
+        self.flow_parts(index, end, false);
+        if command.has_marks {
+            self.raise(end, command.read);
+        }
+        end
+    }
+
+    /// Raises labels along the edges until no label rises.
+    fn solve(&mut self) {
+        let (begins, targets) = self.targets();
+        let mut is_waiting = vec![false; self.labels.len()];
+        let mut waiting: std::collections::VecDeque<u32> = std::collections::VecDeque::new();
+        for node in 0..self.labels.len() {
+            if self.labels[node] != self.lattice.bottom && begins[node] != begins[node + 1] {
+                is_waiting[node] = true;
+                waiting.push_back(node as u32);
+            }
+        }
+        while let Some(node) = waiting.pop_front() {
+            let node = node as usize;
+            is_waiting[node] = false;
+            let label = self.labels[node];
+            for &target in &targets[begins[node] as usize..begins[node + 1] as usize] {
+                let target = target as usize;
+                let joined = self.lattice.join(self.labels[target], label);
+                if joined != self.labels[target] {
+                    self.labels[target] = joined;
+                    if !is_waiting[target] {
+                        is_waiting[target] = true;
+                        waiting.push_back(target as u32);
+                    }
+                }
+            }
+        }
+    }
+
+    /// The targets of each node: those of node n lie from `begins[n]` to `begins[n + 1]`.
+    fn targets(&self) -> (Vec<u32>, Vec<u32>) {
+        let mut begins = vec![0; self.labels.len() + 1];
+        for &(source, _) in &self.edges {
+            begins[source as usize + 1] += 1;
+        }
+        for node in 1..begins.len() {
+            begins[node] += begins[node - 1];
+        }
+        let (mut next, mut targets) = (begins.clone(), vec![0; self.edges.len()]);
+        for &(source, target) in &self.edges {
+            targets[next[source as usize] as usize] = target;
+            next[source as usize] += 1;
+        }
+        (begins, targets)
+    }
+}
+
+/// Finds the least labelling of a program and checks it.
+fn labelled(mut program: Program) -> Answer<Labelled> {
+    let mut body = std::mem::take(&mut program.body);
+    let mut graph = Graph {
+        lattice: &program.lattice,
+        parts: &program.parts,
+        declarations: program.declarations.len(),
+        labels: Vec::new(),
+        is_settled: Vec::new(),
+        edges: Vec::new(),
+    };
+    let given = program.declarations.iter().map(|declaration| declaration.label);
+    for label in given.chain(program.levels.iter().copied()) {
+        graph.node(label.unwrap_or(program.lattice.bottom), label.is_some());
+    }
+    let bottom = graph.node(program.lattice.bottom, true);
+    graph.list(&mut body, bottom, bottom);
+    graph.solve();
+    let labels = graph.labels;
+    let names = program.declarations.len();
+    let mut checker = Checker { program: &program, labels: &labels, counters: vec![0; program.levels.len()] };
+    checker.list(&mut body, program.lattice.bottom, program.lattice.bottom)?;
+    let (counters, variables) = (checker.counters, labels[..names].to_vec());
+    let levels = labels[names..names + program.levels.len()].to_vec();
+    program.body = body;
+    Ok(Labelled { program, variables, levels, counters })
+}
+
+/// Walks the commands in their order, fills in their marks and finds the first condition that fails.
+struct Checker<'p> {
+    program: &'p Program<'p>,
+    labels: &'p [u8],
+    counters: Vec<u8>,
+}
+
+impl Checker<'_> {
+    fn join(&self, a: u8, b: u8) -> u8 {
+        self.program.lattice.join(a, b)
+    }
+
+    /// The join of the labels of an expression, and that of those in its indices.
+    fn label(&self, expression: Expression) -> (u8, u8) {
+        let (mut all, mut inside) = (self.program.lattice.bottom, self.program.lattice.bottom);
+        for part in self.program.parts_of(expression) {
+            if let Part::Variable { declaration, is_in_index } | Part::Element { declaration, is_in_index } = *part {
+                let label = self.labels[declaration as usize];
+                all = self.join(all, label);
+                if is_in_index {
+                    inside = self.join(inside, label);
+                }
+            }
+        }
+        (all, inside)
+    }
+
+    fn demand(&self, have: u8, allowed: u8, command: &Command) -> Answer<()> {
+        if self.program.lattice.flows(have, allowed) {
+            return Ok(());
+        }
+        let rule = match command.form {
+            Form::Skip => "T-SKIP",
+            Form::Assign { .. } | Form::Put { .. } => "T-ASGN",
+            Form::Sleep => "T-SLEEP",
+            Form::If { .. } => "T-IF",
+            Form::While { .. } => "T-WHILE",
+            Form::Mitigate { .. } => "T-MTG",
+        };
+        let (line, column) = place_of(self.program.text, command.at as usize);
+        let (have, allowed) = (self.program.lattice.name(have), self.program.lattice.name(allowed));
+        Err(Stop::Line(1, format!("refused {rule} at {line}:{column}: {have} does not flow to {allowed}\n")))
+    }
+
+    fn list(&mut self, commands: &mut [Command], counter: u8, mut start: u8) -> Answer<u8> {
+        for command in commands {
+            start = self.command(command, counter, start)?;
+        }
+        Ok(start)
+    }
+
+    /// Checks a command and gives its end label.
+    fn command(&mut self, command: &mut Command, counter: u8, start: u8) -> Answer<u8> {
+        let (mut value, mut inside) = self.label(command.value);
+        if let Form::Put { index, .. } = command.form {
+            let (place, _) = self.label(index);
+            (value, inside) = (self.join(value, place), self.join(inside, place));
+        }
+        let bound = self.join(counter, inside);
+        if !command.has_marks {
+            (command.read, command.write) = (bound, bound);
+        }
+        let after = self.join(self.join(start, value), command.read);
+        if let Form::Assign { to } | Form::Put { to, .. } = command.form {
+            let (have, label) = (self.join(after, bound), self.labels[to as usize]);
+            self.demand(have, label, command)?;
+            self.demand(bound, command.write, command)?;
+            return Ok(self.join(label, have));
+        }
+        self.demand(bound, command.write, command)?;
+        command.guard = value;
+        self.parts(command, counter, after)
+    }
+
+    /// Checks the parts of a command from the label after its own expression.
+    fn parts(&mut self, command: &mut Command, counter: u8, after: u8) -> Answer<u8> {
+        let inner = self.join(counter, command.guard);
+        match &mut command.form {
+            Form::If { yes, no } => {
+                let end = self.list(yes, inner, after)?;
+                let other = self.list(no, inner, after)?;
+                Ok(self.join(end, other))
+            }
+            Form::While { body, start } => {
+                let start = self.labels[*start as usize];
+                self.list(body, inner, start)?;
+                Ok(start)
+            }
+            Form::Mitigate { mark, body } => {
+                let mark = *mark as usize;
+                self.counters[mark] = counter;
+                let end = self.list(body, counter, after)?;
+                self.demand(end, self.labels[self.program.declarations.len() + mark], command)?;
+                Ok(after)
+            }
+            _ => Ok(after),
+        }
+    }
+}
+
+// --- Texts
+
+fn write_number(value: u64, out: &mut Vec<u8>) {
+    let (mut digits, mut at, mut rest) = ([0; 20], 20, value);
+    loop {
+        at -= 1;
+        digits[at] = b'0' + (rest % 10) as u8;
+        rest /= 10;
+        if rest == 0 {
+            break;
+        }
+    }
+    out.extend_from_slice(&digits[at..]);
+}
+
+fn write_signed(value: i64, out: &mut Vec<u8>) {
+    if value < 0 {
+        out.push(b'-');
+    }
+    write_number(value.unsigned_abs(), out);
+}
+
+/// Writes the canonical text of a program with all labels.
+struct Printer<'p> {
+    labelled: &'p Labelled<'p>,
+    out: Vec<u8>,
+}
+
+impl Printer<'_> {
+    fn say(&mut self, text: &str) {
+        self.out.extend_from_slice(text.as_bytes());
+    }
+
+    fn label(&mut self, label: u8) {
+        self.say(self.labelled.program.lattice.name(label));
+    }
+
+    fn name(&mut self, declaration: u32) {
+        self.say(self.labelled.program.declarations[declaration as usize].name);
+    }
+
+    fn program(&mut self) {
+        let program = &self.labelled.program;
+        self.say("labels ");
+        self.say(&program.lattice.names.join(", "));
+        self.say(";\n");
+        for (place, &(low, high)) in program.lattice.pairs.iter().enumerate() {
+            self.say(if place == 0 { "order " } else { ", " });
+            self.label(low);
+            self.say(" < ");
+            self.label(high);
+        }
+        if !program.lattice.pairs.is_empty() {
+            self.say(";\n");
+        }
+        for (declaration, &label) in program.declarations.iter().zip(&self.labelled.variables) {
+            self.say("var ");
+            self.say(declaration.name);
+            if let Some(length) = declaration.length {
+                self.out.push(b'[');
+                write_number(length as u64, &mut self.out);
+                self.out.push(b']');
+            }
+            self.say(" : ");
+            self.label(label);
+            self.say(";\n");
+        }
+        self.list(&program.body, 0);
+    }
+
+    fn list(&mut self, commands: &[Command], depth: usize) {
+        for (place, command) in commands.iter().enumerate() {
+            self.indent(depth);
+            self.command(command, depth);
+            self.say(if place + 1 < commands.len() { ";\n" } else { "\n" });
+        }
+    }
+
+    fn indent(&mut self, depth: usize) {
+        self.out.resize(self.out.len() + 2 * depth, b' ');
+    }
+
+    fn block(&mut self, commands: &[Command], depth: usize) {
+        self.say("{\n");
+        self.list(commands, depth + 1);
+        self.indent(depth);
+        self.say("}");
+    }
+
+    fn command(&mut self, command: &Command, depth: usize) {
+        match &command.form {
+            Form::Skip => self.say("skip"),
+            Form::Assign { to } => {
+                self.name(*to);
+                self.say(" := ");
+                self.expression(command.value);
+            }
+            Form::Put { to, index } => {
+                self.name(*to);
+                self.say("[");
+                self.expression(*index);
+                self.say("] := ");
+                self.expression(command.value);
+            }
+            Form::Sleep => {
+                self.say("sleep ");
+                self.expression(command.value);
+            }
+            Form::If { .. } => {
+                self.say("if ");
+                self.expression(command.value);
+            }
+            Form::While { .. } => {
+                self.say("while ");
+                self.expression(command.value);
+            }
+            Form::Mitigate { mark, .. } => {
+                self.say("mitigate (");
+                self.expression(command.value);
+                self.say(", ");
+                self.label(self.labelled.levels[*mark as usize]);
+                self.say(")");
+            }
+        }
+        self.say(" @[");
+        self.label(command.read);
+        self.say(", ");
+        self.label(command.write);
+        self.say("]");
+        self.parts(command, depth);
+    }
+
+    fn parts(&mut self, command: &Command, depth: usize) {
+        match &command.form {
+            Form::If { yes, no } => {
+                self.say(" then ");
+                self.block(yes, depth);
+                self.say(" else ");
+                self.block(no, depth);
+            }
+            Form::While { body, .. } => {
+                self.say(" do ");
+                self.block(body, depth);
+            }
+            Form::Mitigate { body, .. } => {
+                self.say(" ");
+                self.block(body, depth);
+            }
+            _ => {}
+        }
+    }
+
+    fn expression(&mut self, expression: Expression) {
+        self.part(expression.end as usize - 1, 0);
+    }
+
+    fn part(&mut self, at: usize, needed: u32) {
+        match self.labelled.program.parts[at] {
+            Part::Number(value) => write_signed(value, &mut self.out),
+            Part::Variable { declaration, .. } => self.name(declaration),
+            Part::Element { declaration, .. } => {
+                self.name(declaration);
+                self.say("[");
+                self.part(at - 1, 0);
+                self.say("]");
+            }
+            Part::Apply { operator, left } => {
+                let rank = operator.rank();
+                let is_bracketed = rank < needed;
+                if is_bracketed {
+                    self.say("(");
+                }
+                self.part(left as usize, if rank == 1 { 2 } else { rank });
+                self.say(" ");
+                self.say(operator.sign());
+                self.say(" ");
+                self.part(at - 1, rank + 1);
+                if is_bracketed {
+                    self.say(")");
+                }
+            }
+        }
+    }
+}
+
+// --- Code
+
+#[derive(Clone, Copy)]
+enum Act {
+    Push(i64),
+    Load(u32),
+    Store(u32),
+    LoadElement { first: u32, length: u32 },
+    StoreElement { first: u32, length: u32 },
+    Apply(Operator),
+    JumpIfZero(u32),
+    JumpIfNot(u32),
+    Jump(u32),
+    Sleep,
+    Begin { level: u8, mark: u32 },
+    End,
+    Nothing,
+    Halt,
+}
+
+/// An instruction with what its labels tell an access.
+#[derive(Clone, Copy)]
+struct Instruction {
+    act: Act,
+    reach: Reach,
+}
+
+/// The partitions that an access concerns: it changes that of `write`, and reads it where `reads_own` says so, and
+/// those of `others`, a bit for each label.
+#[derive(Clone, Copy)]
+struct Reach {
+    others: u32,
+    write: u8,
+    reads_own: bool,
+}
+
+/// An image, and the greatest number of operands that one of its expressions has at once.
+struct Image {
+    code: Vec<Instruction>,
+    most_operands: usize,
+}
+
+struct Lowering<'p> {
+    labelled: &'p Labelled<'p>,
+    code: Vec<Instruction>,
+    operands: usize,
+    most_operands: usize,
+}
+
+fn lowered(labelled: &Labelled) -> Answer<Image> {
+    let mut lowering = Lowering { labelled, code: Vec::new(), operands: 0, most_operands: 0 };
+    lowering.list(&labelled.program.body);
+    let bottom = labelled.program.lattice.bottom;
+    lowering.push(Act::Halt, (bottom, bottom));
+    if lowering.code.len() > MOST_INSTRUCTIONS {
+        return plain(format!("too long: image {}", lowering.code.len()));
+    }
+    Ok(Image { code: lowering.code, most_operands: lowering.most_operands })
+}
+
+impl Lowering<'_> {
+    fn push(&mut self, act: Act, (read, write): (u8, u8)) {
+        let below = self.labelled.program.lattice.below[read as usize];
+        let reach = Reach { others: below & !(1 << write), write, reads_own: below >> write & 1 != 0 };
+        self.code.push(Instruction { act, reach });
+    }
+
+    /// Fills in the place after the last instruction as a jump's target.
+    fn land(&mut self, jump: usize) {
+        let here = self.code.len() as u32;
+        if let Act::JumpIfZero(target) | Act::Jump(target) = &mut self.code[jump].act {
+            *target = here;
+        }
+    }
+
+    fn array(&self, declaration: u32) -> (u32, u32) {
+        let declaration = &self.labelled.program.declarations[declaration as usize];
+        (declaration.first, declaration.length.unwrap_or(1))
+    }
+
+    fn expression(&mut self, expression: Expression, labels: (u8, u8)) {
+        let labelled = self.labelled;
+        for part in labelled.program.parts_of(expression) {
+            let act = match *part {
+                Part::Number(value) => Act::Push(value),
+                Part::Variable { declaration, .. } => Act::Load(self.array(declaration).0),
+                Part::Element { declaration, .. } => {
+                    let (first, length) = self.array(declaration);
+                    Act::LoadElement { first, length }
+                }
+                Part::Apply { operator, .. } => Act::Apply(operator),
+            };
+            match act {
+                Act::Push(_) | Act::Load(_) => self.operands += 1,
+                Act::Apply(_) => self.operands -= 1,
+                _ => {}
+            }
+            self.most_operands = self.most_operands.max(self.operands);
+            self.push(act, labels);
+        }
+    }
+
+    fn list(&mut self, commands: &[Command]) {
+        for command in commands {
+            self.command(command);
+            self.operands = 0;
+        }
+    }
+
+    fn command(&mut self, command: &Command) {
+        let labels = (command.read, command.write);
+        if let Form::Put { index, .. } = command.form {
+            self.expression(index, labels);
+        }
+        self.expression(command.value, labels);
+        match &command.form {
+            Form::Skip => self.push(Act::Nothing, labels),
+            Form::Assign { to } => self.push(Act::Store(self.array(*to).0), labels),
+            Form::Put { to, .. } => {
+                let (first, length) = self.array(*to);
+                self.push(Act::StoreElement { first, length }, labels);
+            }
+            Form::Sleep => self.push(Act::Sleep, labels),
+            Form::If { .. } | Form::While { .. } => self.branch(command, labels),
+            Form::Mitigate { mark, body } => {
+                let level = self.labelled.levels[*mark as usize];
+                self.push(Act::Begin { level, mark: *mark }, labels);
+                self.operands = 0;
+                self.list(body);
+                self.push(Act::End, labels);
+            }
+        }
+    }
+
+    fn branch(&mut self, command: &Command, labels: (u8, u8)) {
+        let lattice = &self.labelled.program.lattice;
+        let raised = (lattice.join(labels.0, command.guard), lattice.join(labels.1, command.guard));
+        let branch = self.code.len();
+        self.push(Act::JumpIfZero(0), labels);
+        self.operands = 0;
+        match &command.form {
+            Form::If { yes, no } => {
+                self.list(yes);
+                let jump = self.code.len();
+                self.push(Act::Jump(0), raised);
+                self.land(branch);
+                self.list(no);
+                self.land(jump);
+            }
+            Form::While { body, .. } => {
+                self.list(body);
+                self.expression(command.value, raised);
+                self.push(Act::JumpIfNot(branch as u32 + 1), raised);
+                self.land(branch);
+            }
+            _ => {}
+        }
+    }
+}
+
+// --- Caches
+
+const FLAT: u8 = 0;
+const PART: u8 = 1;
+const PART2: u8 = 2;
+const FIRST_SETS: usize = 8;
+const SECOND_SETS: usize = 32;
+const NO_TAG: u32 = u32::MAX;
+const PAGE_MISS: u64 = 20;
+const CODE_MISS: u64 = 8;
+const DATA_MISS: u64 = 12;
+const SECOND_MISS: u64 = 30;
+
+/// The partitions of all labels, those of one place in one list. A set has its tags from front to back.
+struct Caches {
+    page: [[u32; 4]; MOST_LABELS],
+    code: [[u32; 2]; MOST_LABELS * FIRST_SETS],
+    data: [[u32; 2]; MOST_LABELS * FIRST_SETS],
+    second: [[u32; 4]; MOST_LABELS * SECOND_SETS],
+}
+
+impl Caches {
+    fn new() -> Self {
+        Caches {
+            page: [[NO_TAG; 4]; MOST_LABELS],
+            code: [[NO_TAG; 2]; MOST_LABELS * FIRST_SETS],
+            data: [[NO_TAG; 2]; MOST_LABELS * FIRST_SETS],
+            second: [[NO_TAG; 4]; MOST_LABELS * SECOND_SETS],
+        }
+    }
+
+    fn clear(&mut self, labels: usize) {
+        self.page[..labels].fill([NO_TAG; 4]);
+        self.code[..labels * FIRST_SETS].fill([NO_TAG; 2]);
+        self.data[..labels * FIRST_SETS].fill([NO_TAG; 2]);
+        self.second[..labels * SECOND_SETS].fill([NO_TAG; 4]);
+    }
+
+    #[inline(always)]
+    fn fetch<const KIND: u8>(&mut self, at: usize, reach: Reach) -> u64 {
+        if KIND == FLAT {
+            return 0;
+        }
+        let address = 4 * at as u32;
+        let page = touch::<1, 4>(&mut self.page, address / 1024, reach);
+        let first = touch::<FIRST_SETS, 2>(&mut self.code, address / 32, reach);
+        self.cost::<KIND>(address / 32, reach, page, first, CODE_MISS)
+    }
+
+    #[inline(always)]
+    fn datum<const KIND: u8>(&mut self, variable: usize, reach: Reach) -> u64 {
+        if KIND == FLAT {
+            return 0;
+        }
+        let address = (1 << 20) + 8 * variable as u32;
+        let page = touch::<1, 4>(&mut self.page, address / 1024, reach);
+        let first = touch::<FIRST_SETS, 2>(&mut self.data, address / 32, reach);
+        self.cost::<KIND>(address / 32, reach, page, first, DATA_MISS)
+    }
+
+    #[inline(always)]
+    fn cost<const KIND: u8>(&mut self, line: u32, reach: Reach, page: bool, first: bool, miss: u64) -> u64 {
+        let mut cost = if page { 0 } else { PAGE_MISS } + if first { 0 } else { miss };
+        if KIND == PART2 {
+            let second = touch::<SECOND_SETS, 4>(&mut self.second, line, reach);
+            cost += if first || second { 0 } else { SECOND_MISS };
+        }
+        cost
+    }
+}
+
+/// Whether a partition that may be read holds the tag; the write label's own gets it at its front.
+#[inline(always)]
+fn touch<const SETS: usize, const WAYS: usize>(place: &mut [[u32; WAYS]], tag: u32, reach: Reach) -> bool {
+    let set = tag as usize % SETS;
+    let own = &mut place[reach.write as usize % MOST_LABELS * SETS + set];
+    let mut carried = own[0];
+    if carried != tag {
+        own[0] = tag;
+        for held in &mut own[1..] {
+            std::mem::swap(held, &mut carried);
+            if carried == tag {
+                break;
+            }
+        }
+    }
+    carried == tag && reach.reads_own || is_elsewhere::<SETS, WAYS>(place, set, tag, reach.others)
+}
+
+/// Whether the set of a partition of one of these labels holds the tag.
+fn is_elsewhere<const SETS: usize, const WAYS: usize>(
+    place: &[[u32; WAYS]],
+    set: usize,
+    tag: u32,
+    mut labels: u32,
+) -> bool {
+    while labels != 0 {
+        let label = labels.trailing_zeros() as usize;
+        if place[label * SETS + set].contains(&tag) {
+            return true;
+        }
+        labels &= labels - 1;
+    }
+    false
+}
+
+// --- The machine
+
+struct Opened {
+    estimate: i64,
+    level: u8,
+    begun: u64,
+}
+
+/// All that a run changes; it is used for one run after the other.
+struct Machine {
+    memory: Vec<i64>,
+    operands: Vec<i64>,
+    labels: usize,
+    caches: Caches,
+    opened: Vec<Opened>,
+    misses: [u32; MOST_LABELS],
+    /// The clock after the last step that ended in time.
+    clock: u64,
+    has_halted: bool,
+}
+
+/// What a run tells: a variable, its new value and its cycle, and the mark of each mitigation that began.
+trait Listener {
+    fn assigned(&mut self, variable: usize, value: i64, cycle: u64);
+    fn began(&mut self, mark: u32);
+}
+
+/// The value of an operator and what it costs beyond 1.
+#[inline(always)]
+fn applied(operator: Operator, left: i64, right: i64) -> (i64, u64) {
+    let is_small = |value: i64| value == value as i16 as i64;
+    match operator {
+        Operator::Add => (left.wrapping_add(right), 0),
+        Operator::Subtract => (left.wrapping_sub(right), 0),
+        Operator::Multiply => (left.wrapping_mul(right), if is_small(left) && is_small(right) { 1 } else { 4 }),
+        Operator::Divide => (if right == 0 { 0 } else { left.wrapping_div(right) }, 16),
+        Operator::Remainder => (if right == 0 { left } else { left.wrapping_rem(right) }, 16),
+        Operator::Equal => ((left == right) as i64, 0),
+        Operator::Different => ((left != right) as i64, 0),
+        Operator::Less => ((left < right) as i64, 0),
+        Operator::AtMost => ((left <= right) as i64, 0),
+        Operator::Greater => ((left > right) as i64, 0),
+        Operator::AtLeast => ((left >= right) as i64, 0),
+    }
+}
+
+fn chosen(first: u32, length: u32, index: i64) -> usize {
+    first as usize + index.rem_euclid(length as i64) as usize
+}
+
+impl Machine {
+    fn new(labels: usize, variables: usize, most_operands: usize) -> Self {
+        Machine {
+            memory: vec![0; variables],
+            operands: vec![0; most_operands + 1],
+            labels,
+            caches: Caches::new(),
+            opened: Vec::new(),
+            misses: [0; MOST_LABELS],
+            clock: 0,
+            has_halted: false,
+        }
+    }
+
+    /// Runs an image from a memory and empty caches to a limit.
+    fn run(&mut self, environment: u8, code: &[Instruction], memory: &[i64], limit: u64, listener: &mut impl Listener) {
+        self.memory.copy_from_slice(memory);
+        self.caches.clear(self.labels);
+        self.opened.clear();
+        self.misses = [0; MOST_LABELS];
+        match environment {
+            FLAT => self.steps::<FLAT>(code, limit, listener),
+            PART => self.steps::<PART>(code, limit, listener),
+            _ => self.steps::<PART2>(code, limit, listener),
+        }
+    }
+
+    #[inline(never)]
+    fn steps<const KIND: u8>(&mut self, code: &[Instruction], limit: u64, listener: &mut impl Listener) {
+        let (memory, operands, caches) = (&mut self.memory[..], &mut self.operands[..], &mut self.caches);
+        let (mut at, mut top, mut last) = (0, 0, 0);
+        self.has_halted = loop {
+            let Instruction { act, reach } = code[at];
+            let mut clock = last + 1 + caches.fetch::<KIND>(at, reach);
+            at += 1;
+            match act {
+                Act::Push(value) => {
+                    operands[top] = value;
+                    top += 1;
+                }
+                Act::Load(variable) => {
+                    clock += caches.datum::<KIND>(variable as usize, reach);
+                    operands[top] = memory[variable as usize];
+                    top += 1;
+                }
+                Act::Store(variable) => {
+                    clock += caches.datum::<KIND>(variable as usize, reach);
+                    if clock > limit {
+                        break false;
+                    }
+                    top -= 1;
+                    memory[variable as usize] = operands[top];
+                    listener.assigned(variable as usize, operands[top], clock);
+                }
+                Act::LoadElement { first, length } => {
+                    let variable = chosen(first, length, operands[top - 1]);
+                    clock += caches.datum::<KIND>(variable, reach);
+                    operands[top - 1] = memory[variable];
+                }
+                Act::StoreElement { first, length } => {
+                    top -= 2;
+                    let variable = chosen(first, length, operands[top]);
+                    clock += caches.datum::<KIND>(variable, reach);
+                    if clock > limit {
+                        break false;
+                    }
+                    memory[variable] = operands[top + 1];
+                    listener.assigned(variable, operands[top + 1], clock);
+                }
+                Act::Apply(operator) => {
+                    top -= 1;
+                    let (value, cost) = applied(operator, operands[top - 1], operands[top]);
+                    operands[top - 1] = value;
+                    clock += cost;
+                }
+                Act::JumpIfZero(target) => {
+                    top -= 1;
+                    if operands[top] == 0 {
+                        at = target as usize;
+                    }
+                }
+                Act::JumpIfNot(target) => {
+                    top -= 1;
+                    if operands[top] != 0 {
+                        at = target as usize;
+                    }
+                }
+                Act::Jump(target) => at = target as usize,
+                Act::Sleep => {
+                    top -= 1;
+                    clock += operands[top].max(0) as u64;
+                }
+                Act::Begin { level, mark } => {
+                    top -= 1;
+                    if clock > limit {
+                        break false;
+                    }
+                    self.opened.push(Opened { estimate: operands[top], level, begun: clock });
+                    listener.began(mark);
+                }
+                Act::End => match self.opened.pop() {
+                    Some(opened) if clock <= limit => clock = settled(&opened, &mut self.misses, clock),
+                    _ => break false,
+                },
+                Act::Nothing => {}
+                Act::Halt => {
+                    if clock <= limit {
+                        last = clock;
+                    }
+                    break clock <= limit;
+                }
+            }
+            if clock > limit {
+                break false;
+            }
+            last = clock;
+        };
+        self.clock = last;
+    }
+}
+
+/// The clock after a mitigation that ends at `clock`; the miss counter of its level rises as far as it has to. A clock
+/// above every limit stands for all such clocks.
+fn settled(opened: &Opened, misses: &mut [u32; MOST_LABELS], clock: u64) -> u64 {
+    let estimate = opened.estimate.max(1) as u128;
+    let count = &mut misses[opened.level as usize];
+    while (clock - opened.begun) as u128 >= estimate << *count {
+        *count += 1;
+    }
+    (opened.begun as u128 + (estimate << *count)).min(2 * GREATEST_BUDGET as u128) as u64
+}
+
+// --- Start files
+
+/// Reads a start file, one line after the other: `version = N`, `[[run]]` and `memory = { .. }`.
+fn starts_of(text: &str, program: &Program) -> Answer<Vec<Vec<i64>>> {
+    let (mut starts, mut version) = (Vec::new(), 1);
+    let mut has_memory = false;
+    for line in text.lines() {
+        let line = line.split('#').next().unwrap_or("").trim();
+        if line.is_empty() {
+            continue;
+        }
+        if line == "[[run]]" {
+            starts.push(vec![0; program.elements]);
+            has_memory = false;
+            continue;
+        }
+        let Some((key, value)) = line.split_once('=') else {
+            return plain("starts: a line that this reader does not know");
+        };
+        match (key.trim(), starts.last_mut()) {
+            ("version", None) if value.trim() == "1" => version = 1,
+            ("version", None) if value.trim() == "2" => version = 2,
+            ("memory", Some(memory)) if !has_memory => {
+                has_memory = true;
+                Table { text: value, program, version, memory }.read()?;
+            }
+            _ => return plain(format!("starts: the key {} here", key.trim())),
+        }
+    }
+    if starts.is_empty() || starts.len() > MOST_RUNS {
+        return plain(format!("starts: {} runs", starts.len()));
+    }
+    Ok(starts)
+}
+
+/// A table `{ x = 1, a = [1, 2] }` that goes into a memory; `text` is what is still to read.
+struct Table<'t> {
+    text: &'t str,
+    program: &'t Program<'t>,
+    version: u32,
+    memory: &'t mut [i64],
+}
+
+impl<'t> Table<'t> {
+    fn takes(&mut self, sign: char) -> bool {
+        self.text = self.text.trim_start();
+        let rest = self.text.strip_prefix(sign);
+        self.text = rest.unwrap_or(self.text);
+        rest.is_some()
+    }
+
+    fn want(&mut self, sign: char) -> Answer<()> {
+        if self.takes(sign) {
+            return Ok(());
+        }
+        plain(format!("starts: no {sign} in a table"))
+    }
+
+    fn word(&mut self) -> &'t str {
+        self.text = self.text.trim_start();
+        let is_end = |c: char| !(c.is_ascii_alphanumeric() || c == '_' || c == '-' || c == '+');
+        let (word, rest) = self.text.split_at(self.text.find(is_end).unwrap_or(self.text.len()));
+        self.text = rest;
+        word
+    }
+
+    fn number(&mut self) -> Answer<i64> {
+        let word = self.word();
+        word.parse().or_else(|_| plain(format!("starts: {word} is not a number")))
+    }
+
+    fn read(mut self) -> Answer<()> {
+        self.want('{')?;
+        if !self.takes('}') {
+            self.entry()?;
+            while self.takes(',') {
+                self.entry()?;
+            }
+            self.want('}')?;
+        }
+        if self.text.trim().is_empty() {
+            return Ok(());
+        }
+        plain("starts: more after a table")
+    }
+
+    fn entry(&mut self) -> Answer<()> {
+        let name = self.word();
+        self.want('=')?;
+        let Some(&number) = self.program.numbers.get(name) else {
+            return plain(format!("starts: unknown key {name}"));
+        };
+        let declaration = &self.program.declarations[number as usize];
+        let first = declaration.first as usize;
+        match declaration.length {
+            None => self.memory[first] = self.number()?,
+            Some(length) if self.version == 2 => self.elements(first, length as usize)?,
+            Some(_) => return plain("starts: an array in version 1"),
+        }
+        Ok(())
+    }
+
+    fn elements(&mut self, first: usize, length: usize) -> Answer<()> {
+        self.want('[')?;
+        let mut place = 0;
+        while !self.takes(']') {
+            if place == length {
+                return plain("starts: an array of too many numbers");
+            }
+            self.memory[first + place] = self.number()?;
+            place += 1;
+            if !self.takes(',') {
+                self.want(']')?;
+                break;
+            }
+        }
+        Ok(())
+    }
+}
+
+// --- Commands
+
+/// Prints each event that is shown.
+struct EventPrinter<'p> {
+    program: &'p Program<'p>,
+    owners: Vec<u32>,
+    is_shown: Vec<bool>,
+    out: Vec<u8>,
+}
+
+const FULL: usize = 1 << 16;
+
+impl Listener for EventPrinter<'_> {
+    #[inline(always)]
+    fn assigned(&mut self, variable: usize, value: i64, cycle: u64) {
+        if self.is_shown[variable] {
+            self.print(variable, value, cycle);
+        }
+    }
+
+    fn began(&mut self, _: u32) {}
+}
+
+impl EventPrinter<'_> {
+    #[inline(never)]
+    fn print(&mut self, variable: usize, value: i64, cycle: u64) {
+        self.program.write_variable(&self.owners, variable, &mut self.out);
+        self.out.extend_from_slice(b" = ");
+        write_signed(value, &mut self.out);
+        self.out.extend_from_slice(b" @");
+        write_number(cycle, &mut self.out);
+        self.out.push(b'\n');
+        if self.out.len() >= FULL {
+            send(&self.out);
+            self.out.clear();
+        }
+    }
+}
+
+/// Writes bytes to standard output; a reader that has gone away ends the program.
+fn send(bytes: &[u8]) {
+    if std::io::stdout().lock().write_all(bytes).is_err() {
+        std::process::exit(6);
+    }
+}
+
+/// Whether the observer sees each variable, elements included; without an observer all are seen.
+fn shown(labelled: &Labelled, owners: &[u32], observer: Option<u8>) -> Vec<bool> {
+    let flows = |owner: &u32| {
+        let label = labelled.variables[*owner as usize];
+        observer.is_none_or(|observer| labelled.program.lattice.flows(label, observer))
+    };
+    owners.iter().map(flows).collect()
+}
+
+fn run(labelled: &Labelled, image: &Image, memory: &[i64], words: &Words, observer: Option<u8>) -> u8 {
+    let program = &labelled.program;
+    let owners = program.owners();
+    let is_shown = shown(labelled, &owners, observer);
+    let mut printer = EventPrinter { program, owners, is_shown, out: Vec::with_capacity(2 * FULL) };
+    let mut machine = Machine::new(program.lattice.names.len(), program.elements, image.most_operands);
+    machine.run(words.environment, &image.code, memory, words.budget, &mut printer);
+    let mut out = printer.out;
+    out.extend_from_slice(if machine.has_halted { b"end @" } else { b"limit @" });
+    write_number(machine.clock, &mut out);
+    out.push(b'\n');
+    send(&out);
+    if machine.has_halted {
+        0
+    } else {
+        8
+    }
+}
+
+type Event = (u32, i64, u64);
+
+/// The events that the observer sees, those of each different run once, and the number of relevant mitigations that
+/// began in the run at hand.
+struct Watch {
+    is_shown: Vec<bool>,
+    is_relevant: Vec<bool>,
+    events: Vec<Event>,
+    begun: u64,
+}
+
+impl Listener for Watch {
+    fn assigned(&mut self, variable: usize, value: i64, cycle: u64) {
+        if self.is_shown[variable] {
+            self.events.push((variable as u32, value, cycle));
+        }
+    }
+
+    fn began(&mut self, mark: u32) {
+        self.begun += self.is_relevant[mark as usize] as u64;
+    }
+}
+
+/// The different sequences in the order in which they came: where each lies, and which have a hash.
+#[derive(Default)]
+struct Classes {
+    ranges: Vec<(usize, usize)>,
+    by_hash: HashMap<u64, Vec<usize>>,
+}
+
+impl Classes {
+    /// The class of the sequence that begins at `first` and is the last one; a known one is dropped.
+    fn class_of(&mut self, events: &mut Vec<Event>, first: usize) -> usize {
+        let alike = self.by_hash.entry(hash_of(&events[first..])).or_default();
+        let is_same = |class: &&usize| {
+            let (from, to) = self.ranges[**class];
+            events[from..to] == events[first..]
+        };
+        if let Some(&class) = alike.iter().find(is_same) {
+            events.truncate(first);
+            return class;
+        }
+        alike.push(self.ranges.len());
+        self.ranges.push((first, events.len()));
+        self.ranges.len() - 1
+    }
+}
+
+fn hash_of(events: &[Event]) -> u64 {
+    let mix = |hash: u64, word: u64| (hash.rotate_left(5) ^ word).wrapping_mul(0x9e37_79b9_7f4a_7c15);
+    events.iter().fold(0, |hash, event| mix(hash, mix(event.0 as u64 ^ event.2 << 12, event.1 as u64)))
+}
+
+fn audit(labelled: &Labelled, image: &Image, starts: &[Vec<i64>], words: &Words, observer: u8) -> Answer<u8> {
+    let program = &labelled.program;
+    let lattice = &program.lattice;
+    let owners = program.owners();
+    let is_shown = shown(labelled, &owners, Some(observer));
+    agreed(program, starts, &owners, &is_shown)?;
+    let marks = labelled.counters.iter().zip(&labelled.levels);
+    let is_relevant =
+        marks.map(|(counter, level)| lattice.flows(*counter, observer) && !lattice.flows(*level, observer));
+    let is_relevant = is_relevant.collect();
+    let mut watch = Watch { is_shown, is_relevant, events: Vec::new(), begun: 0 };
+    let mut machine = Machine::new(lattice.names.len(), program.elements, image.most_operands);
+    let (mut classes, mut of_runs, mut total, mut mitigations) = (Classes::default(), Vec::new(), 0, 0);
+    for (number, memory) in starts.iter().enumerate() {
+        let first = watch.events.len();
+        machine.run(words.environment, &image.code, memory, words.budget, &mut watch);
+        if !machine.has_halted {
+            return Err(Stop::Line(10, format!("unfinished: run {} @{}\n", number + 1, machine.clock)));
+        }
+        total += watch.events.len() - first;
+        if total > MOST_EVENTS {
+            return plain(format!("too long: events {total}"));
+        }
+        if number == 0 {
+            mitigations = watch.begun;
+        }
+        of_runs.push(classes.class_of(&mut watch.events, first));
+    }
+    let levels = (0..lattice.names.len()).filter(|label| !lattice.flows(*label as u8, observer)).count();
+    let exponent = levels as u32 * (u64::BITS - words.budget.leading_zeros());
+    let mut out = format!(
+        "runs {}\nobserver {}\nbudget {}\nlevels {levels}\nmitigations {mitigations}\ndistinct {}\n\
+         bound {}^{exponent}\n",
+        starts.len(),
+        lattice.name(observer),
+        words.budget,
+        classes.ranges.len(),
+        mitigations + 1,
+    );
+    for (number, class) in of_runs.iter().enumerate() {
+        out += &format!("run {} class {}\n", number + 1, class + 1);
+    }
+    send(out.as_bytes());
+    Ok(0)
+}
+
+/// Finds the first run that differs from the first one in a variable that the observer sees.
+fn agreed(program: &Program, starts: &[Vec<i64>], owners: &[u32], is_shown: &[bool]) -> Answer<()> {
+    for (number, memory) in starts.iter().enumerate() {
+        let differs = |variable: &usize| is_shown[*variable] && memory[*variable] != starts[0][*variable];
+        if let Some(variable) = (0..memory.len()).find(differs) {
+            let mut line = format!("disagree: run {}: variable ", number + 1).into_bytes();
+            program.write_variable(owners, variable, &mut line);
+            line.push(b'\n');
+            return Err(Stop::Line(9, String::from_utf8_lossy(&line).into_owned()));
+        }
+    }
+    Ok(())
+}
+
+/// The words of a call.
+struct Words {
+    command: String,
+    files: Vec<String>,
+    environment: u8,
+    budget: u64,
+    observer: Option<String>,
+}
+
+fn words() -> Answer<Words> {
+    let mut rest = std::env::args().skip(1);
+    let command = rest.next().unwrap_or_default();
+    let mut words = Words { command, files: Vec::new(), environment: PART, budget: 1_000_000, observer: None };
+    while let Some(word) = rest.next() {
+        let Some(option) = word.strip_prefix("--") else {
+            words.files.push(word);
+            continue;
+        };
+        let (name, value) = match option.split_once('=') {
+            Some((name, value)) => (name, value.to_string()),
+            None => (option, rest.next().unwrap_or_default()),
+        };
+        match (name, value.as_str()) {
+            ("env", "flat") => words.environment = FLAT,
+            ("env", "part") => words.environment = PART,
+            ("env", "part2") => words.environment = PART2,
+            ("observer", _) => words.observer = Some(value),
+            ("budget", _) => match value.parse() {
+                Ok(budget @ 1..=GREATEST_BUDGET) => words.budget = budget,
+                _ => return plain("usage: the budget"),
+            },
+            _ => return plain(format!("usage: --{name} {value}")),
+        }
+    }
+    Ok(words)
+}
+
+fn text_of(file: Option<&String>) -> Answer<String> {
+    let Some(file) = file else {
+        return plain("usage: a file is missing");
+    };
+    match std::fs::read(file).map(String::from_utf8) {
+        Ok(Ok(text)) if text.len() <= MOST_BYTES => Ok(text),
+        Ok(Ok(_)) => plain(format!("too long: {file}")),
+        Ok(Err(_)) => plain(format!("not UTF-8: {file}")),
+        Err(fault) => plain(format!("{file}: {fault}")),
+    }
+}
+
+fn answered(words: &Words) -> Answer<u8> {
+    let text = text_of(words.files.first())?;
+    let program = parsed(&text)?;
+    let observer = match &words.observer {
+        None => None,
+        Some(name) => match program.lattice.find(name) {
+            None => return plain(format!("usage: unknown observer {name}")),
+            label => label,
+        },
+    };
+    let labelled = labelled(program)?;
+    let program = &labelled.program;
+    match words.command.as_str() {
+        "check" => {
+            send(format!("accepted: commands {}, mitigates {}\n", program.commands, program.levels.len()).as_bytes());
+            Ok(0)
+        }
+        "infer" => {
+            let mut printer = Printer { labelled: &labelled, out: Vec::with_capacity(2 * text.len()) };
+            printer.program();
+            send(&printer.out);
+            Ok(0)
+        }
+        "run" => {
+            let image = lowered(&labelled)?;
+            let starts = match words.files.get(1) {
+                None => vec![vec![0; program.elements]],
+                file => starts_of(&text_of(file)?, program)?,
+            };
+            Ok(run(&labelled, &image, &starts[0], words, observer))
+        }
+        "audit" => {
+            let image = lowered(&labelled)?;
+            let starts = starts_of(&text_of(words.files.get(1))?, program)?;
+            let Some(observer) = observer else {
+                return plain("usage: an audit needs --observer");
+            };
+            audit(&labelled, &image, &starts, words, observer)
+        }
+        _ => plain("usage: plain-twin check|infer|run|audit FILE [STARTS] [--env E] [--budget T] [--observer L]"),
+    }
+}
+
+fn main() -> ExitCode {
+    match words().and_then(|words| answered(&words)) {
+        Ok(status) => ExitCode::from(status),
+        Err(Stop::Line(status, line)) => {
+            send(line.as_bytes());
+            ExitCode::from(status)
+        }
+        Err(Stop::Plain(line)) => {
+            eprintln!("{line}");
+            ExitCode::from(1)
+        }
+    }
+}
