@@ -103,44 +103,55 @@ module _ (c : Inside) (good : IsBody c) (tag ew : ℕ) (in_range : ew < c.lattic
         tags_go row lt (inl e) = subst (λ r. TagsApart (part c.ways r tags) (part c.ways r ages)) (sym e) alone
         tags_go row lt (inr ne) = subst (λ a. TagsApart (part c.ways row tags) a) (sym (other_ages row ne)) (subst (λ t. TagsApart t (part c.ways row c.ages.items)) (sym (other_tags row ne)) (good.tags_apart row lt))
 
--- the same, where the rows were read as other lists
-module _ (c : Inside) (good : IsBody c) (v : Rows) (is : rows_view c ≡ v) (tag ew : ℕ) (in_range : ew < v.order.size) (tags ages tags' ages' : List ℕ) (tags_read : tags ≡ c.tags.items) (ages_read' : ages ≡ c.ages.items) where
+-- the same, where the rows were read as other lists, and the place is a number of its own
+module _ (c : Inside) (good : IsBody c) (v : Rows) (is : rows_view c ≡ v) (tag ew : ℕ) (in_range : ew < v.order.size) (at : ℕ) (at_is : at ≡ ew * c.sets + tag % c.sets) (tags ages tags' ages' : List ℕ) (tags_read : tags ≡ c.tags.items) (ages_read' : ages ≡ c.ages.items) where
   abbrev here : ew < c.lattice.size
   here = subst (λ (v : Rows). ew < v.order.size) (sym is) in_range
 
-  abbrev at : ℕ
-  at = ew * c.sets + tag % c.sets
+  at_in : at < c.lattice.size * c.sets
+  at_in = omega (arith, at_is, place_in c good tag ew here)
+
+  at_fits : at * c.ways + c.ways ≤ c.lattice.size * c.sets * c.ways
+  at_fits = subst (λ r. r * c.ways + c.ways ≤ c.lattice.size * c.sets * c.ways) (sym at_is) (place_fits c good tag ew here)
 
   pub tags_fit : at * c.ways + c.ways ≤ length tags
-  tags_fit = omega (arith, place_fits c good tag ew here, good.tags_long, ap length tags_read)
+  tags_fit = omega (arith, at_fits, good.tags_long, ap length tags_read)
 
   pub ages_fit : at * c.ways + c.ways ≤ length ages
-  ages_fit = omega (arith, place_fits c good tag ew here, good.ages_long, ap length ages_read')
+  ages_fit = omega (arith, at_fits, good.ages_long, ap length ages_read')
 
   pub ages_apart : AgesApart (part c.ways at ages)
-  ages_apart = subst (λ xs. AgesApart (part c.ways at xs)) (sym ages_read') (good.ages_apart at (place_in c good tag ew here))
+  ages_apart = subst (λ xs. AgesApart (part c.ways at xs)) (sym ages_read') (good.ages_apart at at_in)
 
   pub tags_apart : TagsApart (part c.ways at tags) (part c.ways at ages)
   tags_apart =
       subst (λ xs. TagsApart (part c.ways at tags) (part c.ways at xs)) (sym ages_read')
-      (subst (λ xs. TagsApart (part c.ways at xs) (part c.ways at c.ages.items)) (sym tags_read) (good.tags_apart at (place_in c good tag ew here)))
+      (subst (λ xs. TagsApart (part c.ways at xs) (part c.ways at c.ages.items)) (sym tags_read) (good.tags_apart at at_in))
 
   module _ (tags_long : length tags' ≡ length tags) (ages_long : length ages' ≡ length ages)
       (row : latest (zip (part c.ways at tags') (part c.ways at ages')) ≡ touch_row c.ways tag (latest (zip (part c.ways at tags) (part c.ways at ages))))
       (others : (r : ℕ) → (r ≡ at → ⊥) → part c.ways r tags' ≡ part c.ways r tags) (others' : (r : ℕ) → (r ≡ at → ⊥) → part c.ways r ages' ≡ part c.ways r ages) where
-    abbrev row' : latest (zip (part c.ways at tags') (part c.ways at ages')) ≡ touch_row c.ways tag (entries_at c.ways c.tags.items c.ages.items at)
-    row' = row ∙ ap (λ t. touch_row c.ways tag (latest (zip (part c.ways at t) (part c.ways at ages)))) tags_read ∙ ap (λ a. touch_row c.ways tag (latest (zip (part c.ways at c.tags.items) (part c.ways at a)))) ages_read'
+    row' : latest (zip (part c.ways (place c good tag ew here) tags') (part c.ways (place c good tag ew here) ages')) ≡ touch_row c.ways tag (entries_at c.ways c.tags.items c.ages.items (place c good tag ew here))
+    row' =
+        subst (λ r. latest (zip (part c.ways r tags') (part c.ways r ages')) ≡ touch_row c.ways tag (entries_at c.ways c.tags.items c.ages.items r)) at_is
+        (row ∙ ap (λ t. touch_row c.ways tag (latest (zip (part c.ways at t) (part c.ways at ages)))) tags_read ∙ ap (λ a. touch_row c.ways tag (latest (zip (part c.ways at c.tags.items) (part c.ways at a)))) ages_read')
+
+    tags_others : (r : ℕ) → (r ≡ place c good tag ew here → ⊥) → part c.ways r tags' ≡ part c.ways r c.tags.items
+    tags_others r ne = others r (λ e. ne (e ∙ at_is)) ∙ ap (part c.ways r) tags_read
+
+    ages_others : (r : ℕ) → (r ≡ place c good tag ew here → ⊥) → part c.ways r ages' ≡ part c.ways r c.ages.items
+    ages_others r ne = others' r (λ e. ne (e ∙ at_is)) ∙ ap (part c.ways r) ages_read'
 
     pub touched_view : rows_view (record c { tags = with_items c.tags tags'; ages = with_items c.ages ages' }) ≡ touched v tag ew
     touched_view =
-        view_touched c good tag ew here tags' ages' (tags_long ∙ ap length tags_read) (ages_long ∙ ap length ages_read') row'
-        (λ r ne. others r ne ∙ ap (part c.ways r) tags_read) (λ r ne. others' r ne ∙ ap (part c.ways r) ages_read')
+        view_touched c good tag ew here tags' ages' (tags_long ∙ ap length tags_read) (ages_long ∙ ap length ages_read') row' tags_others ages_others
         ∙ ap (λ v. touched v tag ew) is
 
     pub touched_body : AgesApart (part c.ways at ages') → TagsApart (part c.ways at tags') (part c.ways at ages') → IsBody (record c { tags = with_items c.tags tags'; ages = with_items c.ages ages' })
-    touched_body =
-        body_touched c good tag ew here tags' ages' (tags_long ∙ ap length tags_read) (ages_long ∙ ap length ages_read') row'
-        (λ r ne. others r ne ∙ ap (part c.ways r) tags_read) (λ r ne. others' r ne ∙ ap (part c.ways r) ages_read')
+    touched_body apart alone =
+        body_touched c good tag ew here tags' ages' (tags_long ∙ ap length tags_read) (ages_long ∙ ap length ages_read') row' tags_others ages_others
+        (subst (λ r. AgesApart (part c.ways r ages')) at_is apart)
+        (subst (λ r. TagsApart (part c.ways r tags') (part c.ways r ages')) at_is alone)
 
 -- ---- the body is a cache
 length-entries : (ways row : ℕ) (tags ages : List ℕ) → length (entries_at ways tags ages row) ≤ ways
@@ -187,6 +198,9 @@ look_found v c e tag er label size s lt f h =
     let n : c.lattice.size ≡ v.order.size = ap (λ v. v.order.size) e in
     some_below_at v.order.size (λ label. (lattice_of v.order).flows label er && has v tag label) label (omega arith)
     (and_from ((lattice_of v.order).flows label er) (has v tag label) (subst (λ o. (lattice_of o).flows label er ≡ true) o f) h)
+
+pub look_own : (v : Rows) (c : Inside) → rows_view c ≡ v → (tag er : ℕ) → er < v.order.size → (lattice_of c.lattice).flows er er ≡ true → has v tag er ≡ true → found v tag er ≡ true
+look_own v c e tag er lt = look_found v c e tag er er c.lattice.size refl (subst (λ (v : Rows). er < v.order.size) (sym e) lt)
 
 pub look_history : (v : Rows) (c : Inside) → rows_view c ≡ v → IsBody c → (tag er : ℕ) (r : Bool) → r ≡ found v tag er → (h : List Touched) → StandsFor v h → r ≡ hits v.order v.sets v.ways h er tag
 look_history v c e good tag er r f h s = f ∙ found_is v (subst IsCache e (body_cache c good)) tag er h s

@@ -37,6 +37,20 @@ impl Model for PartCache {
     ghost invariant = { IsBody };
 }
 
+// The set of a tag. The numbers of sets in use stand as constants, so that no division is left of them.
+#[inline(always)]
+fn set_of(tag: u32, sets: u32) -> u32
+    requires { 0 < sets }
+    ensures { result ≡ tag % sets }
+{
+    match sets {
+        1 => 0,
+        8 => tag % 8,
+        32 => tag % 32,
+        _ => tag % sets,
+    }
+}
+
 impl PartCache {
     /// An empty cache of 1 to 64 sets with 1 to 8 ways for each label. Fails only for want of memory.
     pub fn new(alloc: Global, lattice: Lattice, sets: u32, ways: u32) -> Result<PartCache, Memory>
@@ -68,6 +82,15 @@ impl PartCache {
         ensures history { (h : List Touched) → StandsFor self.now h
             → result ≡ hits self.now.order self.now.sets self.now.ways h er.number tag }
     {
+        self.lattice.laws();
+        self.has(tag, er) || self.look_in_all(tag, er)
+    }
+
+    // Whether a partition whose label flows to `er` holds the tag, each partition tried.
+    fn look_in_all(&self, tag: u32, er: Label) -> bool
+        requires { er.number < self.now.order.size }
+        ensures { result ≡ found self.now tag er.number }
+    {
         for number in 0..self.lattice.size() {
             let label = Label::new(number as u8);
             if self.lattice.flows(label, er) && self.has(tag, label) {
@@ -91,7 +114,7 @@ impl PartCache {
             → ((label ≡ ew.number) × (other % self.old.sets ≡ tag % self.old.sets) → ⊥)
             → age_of self.new other label ≡ age_of self.old other label }
     {
-        let row = usize::from(ew.number) * self.sets as usize + (tag % self.sets) as usize;
+        let row = usize::from(ew.number) * self.sets as usize + set_of(tag, self.sets) as usize;
         let ways = self.ways as usize;
         touch_at(&mut self.tags, &mut self.ages, row, ways, tag);
     }
@@ -105,7 +128,7 @@ impl PartCache {
         ensures history { (h : List Touched) → StandsFor self.now h
             → (result ≡ 0) ↔ (holds self.now.sets self.now.ways h label.number tag ≡ false) }
     {
-        let (tags, ages) = self.ways_of(label, tag % self.sets);
+        let (tags, ages) = self.ways_of(label, set_of(tag, self.sets));
         age_in(tags, ages, tag)
     }
 
@@ -143,7 +166,7 @@ impl PartCache {
         requires { label.number < self.now.order.size }
         ensures { result ≡ has self.now tag label.number }
     {
-        let (tags, ages) = self.ways_of(label, tag % self.sets);
+        let (tags, ages) = self.ways_of(label, set_of(tag, self.sets));
         is_in(tags, ages, tag)
     }
 

@@ -5,7 +5,7 @@ ghost use Rattle.std.specs.List.{zip, list_any};
 ghost use Rattle.part_cache.specs.Ages.{touch_row, tags_of, age_among};
 ghost use Rattle.part_cache.specs.Slots.{part, latest, AgesApart, TagsApart, Picked};
 
-use crate::ages::{clock, settle};
+use crate::ages::next_age;
 
 /// The way that has the tag.
 pub fn holder(tags: &[u32], ages: &[u16], tag: u32) -> Option<usize>
@@ -61,9 +61,8 @@ pub fn touch_set(tags: &mut [u32], ages: &mut [u16], tag: u32)
     ensures ages { AgesApart ages.new }
     ensures tags { TagsApart tags.new ages.new }
 {
-    settle(ages);
+    let next = next_age(ages);
     let way = pick(tags, ages, tag);
-    let next = clock(ages) + 1;
     tags[way] = tag;
     ages[way] = next;
 }
