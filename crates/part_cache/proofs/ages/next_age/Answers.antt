@@ -1,4 +1,4 @@
-use Rattle.std.proofs.Common.{◌<◌, ◌≤◌, ◌∙◌, sym, ap, subst, arith, length}
+use Rattle.std.proofs.Common.{◌≤◌, ◌∙◌, sym, ap, subst, arith, length}
 use Rattle.std.specs.List.{zip}
 use Rattle.part_cache.specs.Slots.{latest, AgesApart, TagsApart, largest}
 use Rattle.part_cache.proofs.Renumber.{settled_new, settled_same, ranks_apart, ranks_tags_apart, largest_ranks}

@@ -1,4 +1,4 @@
-use Rattle.std.proofs.Common.{◌≡◌, ◌+◌, ◌∙◌, ap, arith, length}
+use Rattle.std.proofs.Common.{◌≡◌, ◌∙◌, ap, arith, length}
 use Rattle.std.specs.List.{zip}
 use Rattle.part_cache.specs.Ages.{onto}
 use Rattle.part_cache.specs.Slots.{latest}
