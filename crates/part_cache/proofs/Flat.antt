@@ -14,7 +14,7 @@ use Rattle.part_cache.proofs.Stands.{age_here, age_elsewhere, StandsFor-touched,
 use Rattle.part_cache.proofs.Empty.{row_empty, StandsFor-empty_cache}
 use Rattle.part_cache.proofs.Latest.{length-latest_le}
 use Rattle.part_cache.specs.Ages.{Entry, clock, settled, touch_row, age_among}
-use Rattle.part_cache.specs.Slots.{latest, AgesApart, TagsApart}
+use Rattle.part_cache.specs.Slots.{latest, largest, AgesApart, TagsApart}
 use Rattle.part_cache.specs.Slots.{part}
 use Rattle.part_cache.specs.Body.{entries_at, rows_view, IsBody}
 use Rattle.part_cache.specs.declared.cache.PartCache.TheInside.{Inside}
@@ -81,8 +81,8 @@ module _ (c : Inside) (good : IsBody c) (tag ew : ℕ) (in_range : ew < c.lattic
         (new_entries place ∙ written ∙ ap (touch_row c.ways tag) (sym row_read))
         (λ k lt ne. new_entries k ∙ other_entries k ne))
 
-    pub body_touched : AgesApart (part c.ways place ages) → TagsApart (part c.ways place tags) (part c.ways place ages) → IsBody after
-    body_touched apart alone =
+    pub body_touched : AgesApart (part c.ways place ages) → TagsApart (part c.ways place tags) (part c.ways place ages) → get_or (part c.ways place ages) 0 0 ≡ largest (part c.ways place ages) → IsBody after
+    body_touched apart alone front =
         record {
           some_set = good.some_set;
           some_way = good.some_way;
@@ -93,11 +93,16 @@ module _ (c : Inside) (good : IsBody c) (tag ew : ℕ) (in_range : ew < c.lattic
           ages_long = ap length ages_are ∙ ages_long ∙ good.ages_long;
           ages_apart = λ row lt. subst (λ a. AgesApart (part c.ways row a)) (sym ages_are) (ages_go row lt (cases_eq row place));
           tags_apart = λ row lt. subst (λ a. TagsApart (part c.ways row after.tags.items) (part c.ways row a)) (sym ages_are) (subst (λ t. TagsApart (part c.ways row t) (part c.ways row ages)) (sym tags_are) (tags_go row lt (cases_eq row place)));
+          ages_front = λ row lt. subst (λ a. get_or (part c.ways row a) 0 0 ≡ largest (part c.ways row a)) (sym ages_are) (front_go row lt (cases_eq row place));
         }
       where
         ages_go : (row : ℕ) → row < count → ((row ≡ place) ⊎ (row ≡ place → ⊥)) → AgesApart (part c.ways row ages)
         ages_go row lt (inl e) = subst (λ r. AgesApart (part c.ways r ages)) (sym e) apart
         ages_go row lt (inr ne) = subst AgesApart (sym (other_ages row ne)) (good.ages_apart row lt)
+
+        front_go : (row : ℕ) → row < count → ((row ≡ place) ⊎ (row ≡ place → ⊥)) → get_or (part c.ways row ages) 0 0 ≡ largest (part c.ways row ages)
+        front_go row lt (inl e) = subst (λ r. get_or (part c.ways r ages) 0 0 ≡ largest (part c.ways r ages)) (sym e) front
+        front_go row lt (inr ne) = subst (λ a. get_or a 0 0 ≡ largest a) (sym (other_ages row ne)) (good.ages_front row lt)
 
         tags_go : (row : ℕ) → row < count → ((row ≡ place) ⊎ (row ≡ place → ⊥)) → TagsApart (part c.ways row tags) (part c.ways row ages)
         tags_go row lt (inl e) = subst (λ r. TagsApart (part c.ways r tags) (part c.ways r ages)) (sym e) alone
@@ -128,6 +133,9 @@ module _ (c : Inside) (good : IsBody c) (v : Rows) (is : rows_view c ≡ v) (tag
       subst (λ xs. TagsApart (part c.ways at tags) (part c.ways at xs)) (sym ages_read')
       (subst (λ xs. TagsApart (part c.ways at xs) (part c.ways at c.ages.items)) (sym tags_read) (good.tags_apart at at_in))
 
+  pub ages_front : get_or (part c.ways at ages) 0 0 ≡ largest (part c.ways at ages)
+  ages_front = subst (λ xs. get_or (part c.ways at xs) 0 0 ≡ largest (part c.ways at xs)) (sym ages_read') (good.ages_front at at_in)
+
   module _ (tags_long : length tags' ≡ length tags) (ages_long : length ages' ≡ length ages)
       (row : latest (zip (part c.ways at tags') (part c.ways at ages')) ≡ touch_row c.ways tag (latest (zip (part c.ways at tags) (part c.ways at ages))))
       (others : (r : ℕ) → (r ≡ at → ⊥) → part c.ways r tags' ≡ part c.ways r tags) (others' : (r : ℕ) → (r ≡ at → ⊥) → part c.ways r ages' ≡ part c.ways r ages) where
@@ -147,11 +155,12 @@ module _ (c : Inside) (good : IsBody c) (v : Rows) (is : rows_view c ≡ v) (tag
         view_touched c good tag ew here tags' ages' (tags_long ∙ ap length tags_read) (ages_long ∙ ap length ages_read') row' tags_others ages_others
         ∙ ap (λ v. touched v tag ew) is
 
-    pub touched_body : AgesApart (part c.ways at ages') → TagsApart (part c.ways at tags') (part c.ways at ages') → IsBody (record c { tags = with_items c.tags tags'; ages = with_items c.ages ages' })
-    touched_body apart alone =
+    pub touched_body : AgesApart (part c.ways at ages') → TagsApart (part c.ways at tags') (part c.ways at ages') → get_or (part c.ways at ages') 0 0 ≡ largest (part c.ways at ages') → IsBody (record c { tags = with_items c.tags tags'; ages = with_items c.ages ages' })
+    touched_body apart alone front =
         body_touched c good tag ew here tags' ages' (tags_long ∙ ap length tags_read) (ages_long ∙ ap length ages_read') row' tags_others ages_others
         (subst (λ r. AgesApart (part c.ways r ages')) at_is apart)
         (subst (λ r. TagsApart (part c.ways r tags') (part c.ways r ages')) at_is alone)
+        (subst (λ r. get_or (part c.ways r ages') 0 0 ≡ largest (part c.ways r ages')) at_is front)
 
 -- ---- the body is a cache
 length-entries : (ways row : ℕ) (tags ages : List ℕ) → length (entries_at ways tags ages row) ≤ ways
@@ -235,6 +244,10 @@ latest_zeros [] ages h = refl
 latest_zeros (t ∷ tags) [] h = refl
 latest_zeros (t ∷ tags) (a ∷ ages) h = rw (eq-eqb a 0 h.0) (latest_zeros tags ages h.1)
 
+largest_zeros : (ages : List ℕ) → AllZero ages → largest ages ≡ 0
+largest_zeros [] h = refl
+largest_zeros (a ∷ ages) h = omega (arith, h.0, largest_zeros ages h.1)
+
 map_empty : (F : ℕ → List Entry) (n : ℕ) → ((k : ℕ) → F k ≡ []) → map F (range_with_len 0 n) ≡ replicate n []
 map_empty F n h =
     ext_get_or [] (map F (range_with_len 0 n)) (replicate n []) (length-map-range_with_len F 0 n ∙ sym (length-replicate n []))
@@ -274,6 +287,7 @@ module _ (c : Inside) (m : ℕ) (ages_are : c.ages.items ≡ replicate m 0) wher
         ages_long = a;
         ages_apart = λ row lt i j h hj e. AllZero_at (part c.ways row c.ages.items) i (zero_part row);
         tags_apart = λ row lt i j h hj e some. AllZero_at (part c.ways row c.ages.items) j (zero_part row);
+        ages_front = λ row lt. AllZero_at (part c.ways row c.ages.items) 0 (zero_part row) ∙ sym (largest_zeros (part c.ways row c.ages.items) (zero_part row));
       }
 
 -- ---- the ways of a set, as they are cut out of the flat rows

@@ -91,10 +91,10 @@ zip-map f [] ages = refl
 zip-map f (t ∷ tags) [] = refl
 zip-map f (t ∷ tags) (a ∷ ages) = ap (λ r. (t, f a) ∷ r) (zip-map f tags ages)
 
-latest_some : (x : Entry) (xs : List Entry) → (x.1 ≡ 0 → ⊥) → latest (x ∷ xs) ≡ put x (latest xs)
+pub latest_some : (x : Entry) (xs : List Entry) → (x.1 ≡ 0 → ⊥) → latest (x ∷ xs) ≡ put x (latest xs)
 latest_some x xs ne = rw (ne_eqb x.1 0 ne) refl
 
-latest_none : (x : Entry) (xs : List Entry) → x.1 ≡ 0 → latest (x ∷ xs) ≡ latest xs
+pub latest_none : (x : Entry) (xs : List Entry) → x.1 ≡ 0 → latest (x ∷ xs) ≡ latest xs
 latest_none x xs e = rw (eq-eqb x.1 0 e) refl
 
 module _ (ages : List ℕ) where

@@ -3,7 +3,7 @@
 ghost use Rattle.std.specs.Prelude.{◌≡◌, ◌+◌, ◌*◌, ◌^◌, eqb, ◌<◌, ◌≤◌, ℕ, length, slice_index, MatchOption, false, ◌↔◌};
 ghost use Rattle.std.specs.List.{zip, list_any};
 ghost use Rattle.part_cache.specs.Ages.{touch_row, tags_of, age_among};
-ghost use Rattle.part_cache.specs.Slots.{part, latest, AgesApart, TagsApart, Picked};
+ghost use Rattle.part_cache.specs.Slots.{part, latest, largest, AgesApart, TagsApart, Picked};
 
 use crate::ages::next_age;
 
@@ -50,21 +50,26 @@ pub fn pick(tags: &[u32], ages: &[u16], tag: u32) -> usize
     }
 }
 
-/// The tag comes to the front of the set.
+/// The tag comes to the front of the set, in the way 0, and what stood there goes to the way that had the
+/// tag, or else to one of least age.
 pub fn touch_set(tags: &mut [u32], ages: &mut [u16], tag: u32)
     requires same { length tags.old ≡ length ages.old }
     requires some { 0 < length ages.old }
     requires few { length ages.old ≤ 8 }
     requires ages { AgesApart ages.old }
     requires tags { TagsApart tags.old ages.old }
+    requires front { slice_index ages.old 0 ≡ largest ages.old }
     ensures row { latest (zip tags.new ages.new) ≡ touch_row (length ages.old) tag (latest (zip tags.old ages.old)) }
     ensures ages { AgesApart ages.new }
     ensures tags { TagsApart tags.new ages.new }
+    ensures front { slice_index ages.new 0 ≡ largest ages.new }
 {
     let next = next_age(ages);
     let way = pick(tags, ages, tag);
-    tags[way] = tag;
-    ages[way] = next;
+    tags[way] = tags[0];
+    ages[way] = ages[0];
+    tags[0] = tag;
+    ages[0] = next;
 }
 
 /// The age of the tag in the set.
@@ -101,10 +106,12 @@ pub fn touch_at(tags: &mut [u32], ages: &mut [u16], row: usize, ways: usize, tag
     requires small { row * ways + ways < 2 ^ 64 }
     requires ages { AgesApart (part ways row ages.old) }
     requires tags { TagsApart (part ways row tags.old) (part ways row ages.old) }
+    requires front { slice_index (part ways row ages.old) 0 ≡ largest (part ways row ages.old) }
     ensures row { latest (zip (part ways row tags.new) (part ways row ages.new))
         ≡ touch_row ways tag (latest (zip (part ways row tags.old) (part ways row ages.old))) }
     ensures ages { AgesApart (part ways row ages.new) }
     ensures tags { TagsApart (part ways row tags.new) (part ways row ages.new) }
+    ensures front { slice_index (part ways row ages.new) 0 ≡ largest (part ways row ages.new) }
     ensures other_tags { (r : ℕ) → (r ≡ row → ⊥) → part ways r tags.new ≡ part ways r tags.old }
     ensures other_ages { (r : ℕ) → (r ≡ row → ⊥) → part ways r ages.new ≡ part ways r ages.old }
 {

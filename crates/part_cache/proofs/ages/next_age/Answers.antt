@@ -11,7 +11,7 @@ overflow_add-result c =
 
 pub returns-then-most-clause-row : goal.returns-then-most-clause-row
 returns-then-most-clause-row c tags h =
-    ap (λ a. latest (zip tags a)) c.renumber.ensures ∙ settled_new tags c.args.ages.now c.requires.apart h (sym c.clock-most.ensures ∙ c.if-most.true)
+    ap (λ a. latest (zip tags a)) c.renumber.ensures ∙ settled_new tags c.args.ages.now c.requires.apart h (sym c.requires.front ∙ c.if-most.true)
 
 pub returns-then-most-clause-ages : goal.returns-then-most-clause-ages
 returns-then-most-clause-ages c = subst AgesApart (sym c.renumber.ensures) (ranks_apart c.args.ages.now c.requires.apart)
