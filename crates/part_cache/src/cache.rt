@@ -37,16 +37,14 @@ impl Model for PartCache {
     ghost invariant = { IsBody };
 }
 
-// The set of a tag. The numbers of sets in use stand as constants, so that no division is left of them.
+// The set of a tag. The numbers of sets in use are powers of 2, and want no division.
 #[inline(always)]
 fn set_of(tag: u32, sets: u32) -> u32
     requires { 0 < sets }
     ensures { result ≡ tag % sets }
 {
     match sets {
-        1 => 0,
-        8 => tag % 8,
-        32 => tag % 32,
+        1 | 8 | 32 => tag & (sets - 1),
         _ => tag % sets,
     }
 }
