@@ -1,7 +1,7 @@
 -- A touch of the flat rows is a touch of the table.
 use Rattle.std.proofs.Common.{◌≡◌, ℕ, zero, suc, ◌+◌, ◌*◌, ◌%◌, ◌<◌, ◌≤◌, List, [], ◌∷◌, ◌++◌, length, take, drop, get_or, set, Bool, true, false, refl, sym, ap, ◌∙◌, subst, ◌⊎◌, inl, inr, arith, get_or-set_same, get_or-set_other, length-set, length-take}
-use Rattle.std.specs.Prelude.{map, ◌&&◌, replicate, ◌↔◌}
-use Rattle.std.specs.List.{zip, range_with_len}
+use Rattle.std.specs.Prelude.{map, eqb, ◌&&◌, replicate, ◌↔◌}
+use Rattle.std.specs.List.{zip, list_any, range_with_len}
 use Rattle.std.specs.Vec.{with_items}
 use Rattle.std.proofs.lemmas.List.{ext_get_or, with_items_is, get_or_past, length-replicate, get_or-replicate}
 use Rattle.std.proofs.lemmas.List.FromFn.{length-map-range_with_len, get_or-map-range_with_len}
@@ -13,7 +13,8 @@ use Rattle.part_cache.specs.Rows.{Rows, IsCache, StandsFor, row_of, age_of, has,
 use Rattle.part_cache.proofs.Stands.{age_here, age_elsewhere, StandsFor-touched, some_below_at, has_is, found_is}
 use Rattle.part_cache.proofs.Empty.{row_empty, StandsFor-empty_cache}
 use Rattle.part_cache.proofs.Latest.{length-latest_le}
-use Rattle.part_cache.specs.Ages.{Entry, clock, settled, touch_row, age_among}
+use Rattle.part_cache.proofs.Parts.{length-part, any_is_none, any_is_some}
+use Rattle.part_cache.specs.Ages.{Entry, tags_of, clock, settled, touch_row, age_among}
 use Rattle.part_cache.specs.Slots.{latest, largest, AgesApart, TagsApart}
 use Rattle.part_cache.specs.Slots.{part}
 use Rattle.part_cache.specs.Body.{entries_at, rows_view, IsBody}
@@ -135,6 +136,20 @@ module _ (c : Inside) (good : IsBody c) (v : Rows) (is : rows_view c ≡ v) (tag
 
   pub ages_front : get_or (part c.ways at ages) 0 0 ≡ largest (part c.ways at ages)
   ages_front = subst (λ xs. get_or (part c.ways at xs) 0 0 ≡ largest (part c.ways at xs)) (sym ages_read') (good.ages_front at at_in)
+
+  row_here : row_of v ew (tag % v.sets) ≡ latest (zip (part c.ways at tags) (part c.ways at ages))
+  row_here =
+      sym (ap (λ v. row_of v ew (tag % v.sets)) is)
+      ∙ row_read c good tag ew here
+      ∙ sym (ap (λ t. latest (zip (part c.ways at t) (part c.ways at ages))) tags_read ∙ ap (λ a. latest (zip (part c.ways at c.tags.items) (part c.ways at a))) ages_read' ∙ ap (entries_at c.ways c.tags.items c.ages.items) at_is)
+
+  pub has_none : ((k : ℕ) → k < length (part c.ways at ages) → (get_or (part c.ways at ages) k 0 ≡ 0 → ⊥) → get_or (part c.ways at tags) k 0 ≡ tag → ⊥) → false ≡ has v tag ew
+  has_none h = any_is_none tag (part c.ways at tags) (part c.ways at ages) h ∙ sym (ap (λ r. list_any (eqb tag) (tags_of r)) row_here)
+
+  pub has_some : (way : ℕ) → (way < length (part c.ways at ages)) × (get_or (part c.ways at ages) way 0 ≡ 0 → ⊥) × (get_or (part c.ways at tags) way 0 ≡ tag) → true ≡ has v tag ew
+  has_some way h =
+      any_is_some tag way (part c.ways at tags) (part c.ways at ages) (length-part c.ways at tags tags_fit ∙ sym (length-part c.ways at ages ages_fit)) h
+      ∙ sym (ap (λ r. list_any (eqb tag) (tags_of r)) row_here)
 
   module _ (tags_long : length tags' ≡ length tags) (ages_long : length ages' ≡ length ages)
       (row : latest (zip (part c.ways at tags') (part c.ways at ages')) ≡ touch_row c.ways tag (latest (zip (part c.ways at tags) (part c.ways at ages))))

@@ -267,6 +267,9 @@ module _ (ages : List ℕ) (apart : AgesApart ages) where
       go (inr p) (inr q) (inr (inl h)) = absurd (less i j p q h same)
       go (inr p) (inr q) (inr (inr h)) = absurd (less j i q p h (sym same))
 
+  pub ranks_held : (k : ℕ) → k < length ages → (get_or ages k 0 ≡ 0 → ⊥) → get_or ranks k 0 ≡ 0 → ⊥
+  ranks_held k lt some z = rank_positive ages (get_or ages k 0) (live_at k some) (sym (rank_at k lt) ∙ z)
+
   pub ranks_tags_apart : (tags : List ℕ) → TagsApart tags ages → TagsApart tags ranks
   ranks_tags_apart tags alone i j lt hj e some =
       let hj' : j < length ages = omega (arith, length-map ages (rank_in ages)) in

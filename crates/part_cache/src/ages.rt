@@ -58,6 +58,7 @@ pub fn next_age(ages: &mut [u16]) -> u16
     ensures row { (tags : List ℕ) → length tags ≡ length ages.old → latest (zip tags ages.new) ≡ settled (latest (zip tags ages.old)) }
     ensures ages { AgesApart ages.new }
     ensures tags { (tags : List ℕ) → TagsApart tags ages.old → TagsApart tags ages.new }
+    ensures held { (k : ℕ) → k < length ages.old → (slice_index ages.old k ≡ 0 → ⊥) → slice_index ages.new k ≡ 0 → ⊥ }
     ensures next { result ≡ largest ages.new + 1 }
 {
     let most = ages[0];

@@ -1,6 +1,6 @@
 //! The partitioned cache.
 
-ghost use Rattle.std.specs.Prelude.{◌≡◌, ◌+◌, ◌%◌, ◌<◌, ◌≤◌, ℕ, [], ◌∷◌, ◌++◌, List, length, false, IfOk, IsTrue, ◌↔◌};
+ghost use Rattle.std.specs.Prelude.{◌≡◌, ◌+◌, ◌%◌, ◌<◌, ◌≤◌, ℕ, [], ◌∷◌, ◌++◌, List, length, cond, true, false, IfOk, IsTrue, ◌↔◌};
 ghost use Rattle.std.specs.List.{zip};
 ghost use Rattle.part_cache.specs.Ages.{clock, settled};
 ghost use Rattle.part_cache.specs.Slots.{latest, AgesApart, TagsApart};
@@ -8,7 +8,7 @@ ghost use Rattle.part_cache.specs.History.{Touched, holds, hits};
 ghost use Rattle.part_cache.specs.Rows.{StandsFor, IsCacheOf, empty_cache, part_of, row_of, tags_at, age_of, has, found, touched};
 
 use crate::compare::is_same;
-use crate::ways::{age_in, is_in, touch_at};
+use crate::ways::{age_in, bring_at, is_in, touch_at, way_in};
 use label_lattice::label::Label;
 use label_lattice::lattice::Lattice;
 use std::alloc::Global;
@@ -115,6 +115,26 @@ impl PartCache {
         let row = usize::from(ew.number) * self.sets as usize + set_of(tag, self.sets) as usize;
         let ways = self.ways as usize;
         touch_at(&mut self.tags, &mut self.ages, row, ways, tag);
+    }
+
+    /// Touches the tag where the partition of the label holds it, and else changes nothing: whether it holds
+    /// it. A look-up at the label then hits. Takes no memory.
+    pub fn touch_held(&mut self, tag: u32, label: Label) -> bool
+        requires { label.number < self.old.order.size }
+        ensures held { result ≡ has self.old tag label.number }
+        ensures touched { self.new ≡ cond result (touched self.old tag label.number) self.old }
+        ensures found { IsTrue result → found self.old tag label.number ≡ true }
+    {
+        self.lattice.laws();
+        let row = usize::from(label.number) * self.sets as usize + set_of(tag, self.sets) as usize;
+        let ways = self.ways as usize;
+        match way_in(&self.tags, &self.ages, row, ways, tag) {
+            Some(way) => {
+                bring_at(&mut self.tags, &mut self.ages, row, ways, way, tag);
+                true
+            }
+            None => false,
+        }
     }
 
     /// The age of the tag in the partition of the label, 0 exactly where it is not held there. Takes no

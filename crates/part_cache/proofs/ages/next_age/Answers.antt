@@ -1,7 +1,7 @@
-use Rattle.std.proofs.Common.{◌≤◌, ◌∙◌, sym, ap, subst, arith, length}
+use Rattle.std.proofs.Common.{◌≤◌, ◌∙◌, sym, ap, subst, arith, length, get_or}
 use Rattle.std.specs.List.{zip}
 use Rattle.part_cache.specs.Slots.{latest, AgesApart, TagsApart, largest}
-use Rattle.part_cache.proofs.Renumber.{settled_new, settled_same, ranks_apart, ranks_tags_apart, largest_ranks}
+use Rattle.part_cache.proofs.Renumber.{settled_new, settled_same, ranks_apart, ranks_held, ranks_tags_apart, largest_ranks}
 use Rattle.part_cache.proofs.ages.next_age.Goals as goal
 
 pub overflow_add-result : goal.overflow_add-result
@@ -21,3 +21,6 @@ returns-then-most-clause-tags c tags h = subst (TagsApart tags) (sym c.renumber.
 
 pub returns-else-most-clause-row : goal.returns-else-most-clause-row
 returns-else-most-clause-row c tags h = settled_same tags c.args.ages.now h (omega arith)
+
+pub returns-then-most-clause-held : goal.returns-then-most-clause-held
+returns-then-most-clause-held c k lt some z = ranks_held c.args.ages.now c.requires.apart k lt some (ap (λ a. get_or a k 0) (sym c.renumber.ensures) ∙ z)
