@@ -1,7 +1,7 @@
 -- A touch of the flat rows is a touch of the table.
 use Rattle.std.proofs.Common.{◌≡◌, ℕ, zero, suc, ◌+◌, ◌*◌, ◌%◌, ◌<◌, ◌≤◌, List, [], ◌∷◌, ◌++◌, length, take, drop, get_or, set, Bool, true, false, refl, sym, ap, ◌∙◌, subst, ◌⊎◌, inl, inr, arith, get_or-set_same, get_or-set_other, length-set, length-take}
-use Rattle.std.specs.Prelude.{map, ◌&&◌, replicate, ◌↔◌}
-use Rattle.std.specs.List.{zip, range_with_len}
+use Rattle.std.specs.Prelude.{map, eqb, ◌&&◌, replicate, ◌↔◌}
+use Rattle.std.specs.List.{zip, list_any, range_with_len}
 use Rattle.std.specs.Vec.{with_items}
 use Rattle.std.proofs.lemmas.List.{ext_get_or, with_items_is, get_or_past, length-replicate, get_or-replicate}
 use Rattle.std.proofs.lemmas.List.FromFn.{length-map-range_with_len, get_or-map-range_with_len}
@@ -13,8 +13,9 @@ use Rattle.part_cache.specs.Rows.{Rows, IsCache, StandsFor, row_of, age_of, has,
 use Rattle.part_cache.proofs.Stands.{age_here, age_elsewhere, StandsFor-touched, some_below_at, has_is, found_is}
 use Rattle.part_cache.proofs.Empty.{row_empty, StandsFor-empty_cache}
 use Rattle.part_cache.proofs.Latest.{length-latest_le}
-use Rattle.part_cache.specs.Ages.{Entry, clock, settled, touch_row, age_among}
-use Rattle.part_cache.specs.Slots.{latest, AgesApart, TagsApart}
+use Rattle.part_cache.proofs.Parts.{length-part, any_is_none, any_is_some}
+use Rattle.part_cache.specs.Ages.{Entry, tags_of, clock, settled, touch_row, age_among}
+use Rattle.part_cache.specs.Slots.{latest, largest, AgesApart, TagsApart}
 use Rattle.part_cache.specs.Slots.{part}
 use Rattle.part_cache.specs.Body.{entries_at, rows_view, IsBody}
 use Rattle.part_cache.specs.declared.cache.PartCache.TheInside.{Inside}
@@ -81,8 +82,8 @@ module _ (c : Inside) (good : IsBody c) (tag ew : ℕ) (in_range : ew < c.lattic
         (new_entries place ∙ written ∙ ap (touch_row c.ways tag) (sym row_read))
         (λ k lt ne. new_entries k ∙ other_entries k ne))
 
-    pub body_touched : AgesApart (part c.ways place ages) → TagsApart (part c.ways place tags) (part c.ways place ages) → IsBody after
-    body_touched apart alone =
+    pub body_touched : AgesApart (part c.ways place ages) → TagsApart (part c.ways place tags) (part c.ways place ages) → get_or (part c.ways place ages) 0 0 ≡ largest (part c.ways place ages) → IsBody after
+    body_touched apart alone front =
         record {
           some_set = good.some_set;
           some_way = good.some_way;
@@ -93,54 +94,88 @@ module _ (c : Inside) (good : IsBody c) (tag ew : ℕ) (in_range : ew < c.lattic
           ages_long = ap length ages_are ∙ ages_long ∙ good.ages_long;
           ages_apart = λ row lt. subst (λ a. AgesApart (part c.ways row a)) (sym ages_are) (ages_go row lt (cases_eq row place));
           tags_apart = λ row lt. subst (λ a. TagsApart (part c.ways row after.tags.items) (part c.ways row a)) (sym ages_are) (subst (λ t. TagsApart (part c.ways row t) (part c.ways row ages)) (sym tags_are) (tags_go row lt (cases_eq row place)));
+          ages_front = λ row lt. subst (λ a. get_or (part c.ways row a) 0 0 ≡ largest (part c.ways row a)) (sym ages_are) (front_go row lt (cases_eq row place));
         }
       where
         ages_go : (row : ℕ) → row < count → ((row ≡ place) ⊎ (row ≡ place → ⊥)) → AgesApart (part c.ways row ages)
         ages_go row lt (inl e) = subst (λ r. AgesApart (part c.ways r ages)) (sym e) apart
         ages_go row lt (inr ne) = subst AgesApart (sym (other_ages row ne)) (good.ages_apart row lt)
 
+        front_go : (row : ℕ) → row < count → ((row ≡ place) ⊎ (row ≡ place → ⊥)) → get_or (part c.ways row ages) 0 0 ≡ largest (part c.ways row ages)
+        front_go row lt (inl e) = subst (λ r. get_or (part c.ways r ages) 0 0 ≡ largest (part c.ways r ages)) (sym e) front
+        front_go row lt (inr ne) = subst (λ a. get_or a 0 0 ≡ largest a) (sym (other_ages row ne)) (good.ages_front row lt)
+
         tags_go : (row : ℕ) → row < count → ((row ≡ place) ⊎ (row ≡ place → ⊥)) → TagsApart (part c.ways row tags) (part c.ways row ages)
         tags_go row lt (inl e) = subst (λ r. TagsApart (part c.ways r tags) (part c.ways r ages)) (sym e) alone
         tags_go row lt (inr ne) = subst (λ a. TagsApart (part c.ways row tags) a) (sym (other_ages row ne)) (subst (λ t. TagsApart t (part c.ways row c.ages.items)) (sym (other_tags row ne)) (good.tags_apart row lt))
 
--- the same, where the rows were read as other lists
-module _ (c : Inside) (good : IsBody c) (v : Rows) (is : rows_view c ≡ v) (tag ew : ℕ) (in_range : ew < v.order.size) (tags ages tags' ages' : List ℕ) (tags_read : tags ≡ c.tags.items) (ages_read' : ages ≡ c.ages.items) where
+-- the same, where the rows were read as other lists, and the place is a number of its own
+module _ (c : Inside) (good : IsBody c) (v : Rows) (is : rows_view c ≡ v) (tag ew : ℕ) (in_range : ew < v.order.size) (at : ℕ) (at_is : at ≡ ew * c.sets + tag % c.sets) (tags ages tags' ages' : List ℕ) (tags_read : tags ≡ c.tags.items) (ages_read' : ages ≡ c.ages.items) where
   abbrev here : ew < c.lattice.size
   here = subst (λ (v : Rows). ew < v.order.size) (sym is) in_range
 
-  abbrev at : ℕ
-  at = ew * c.sets + tag % c.sets
+  at_in : at < c.lattice.size * c.sets
+  at_in = omega (arith, at_is, place_in c good tag ew here)
+
+  at_fits : at * c.ways + c.ways ≤ c.lattice.size * c.sets * c.ways
+  at_fits = subst (λ r. r * c.ways + c.ways ≤ c.lattice.size * c.sets * c.ways) (sym at_is) (place_fits c good tag ew here)
 
   pub tags_fit : at * c.ways + c.ways ≤ length tags
-  tags_fit = omega (arith, place_fits c good tag ew here, good.tags_long, ap length tags_read)
+  tags_fit = omega (arith, at_fits, good.tags_long, ap length tags_read)
 
   pub ages_fit : at * c.ways + c.ways ≤ length ages
-  ages_fit = omega (arith, place_fits c good tag ew here, good.ages_long, ap length ages_read')
+  ages_fit = omega (arith, at_fits, good.ages_long, ap length ages_read')
 
   pub ages_apart : AgesApart (part c.ways at ages)
-  ages_apart = subst (λ xs. AgesApart (part c.ways at xs)) (sym ages_read') (good.ages_apart at (place_in c good tag ew here))
+  ages_apart = subst (λ xs. AgesApart (part c.ways at xs)) (sym ages_read') (good.ages_apart at at_in)
 
   pub tags_apart : TagsApart (part c.ways at tags) (part c.ways at ages)
   tags_apart =
       subst (λ xs. TagsApart (part c.ways at tags) (part c.ways at xs)) (sym ages_read')
-      (subst (λ xs. TagsApart (part c.ways at xs) (part c.ways at c.ages.items)) (sym tags_read) (good.tags_apart at (place_in c good tag ew here)))
+      (subst (λ xs. TagsApart (part c.ways at xs) (part c.ways at c.ages.items)) (sym tags_read) (good.tags_apart at at_in))
+
+  pub ages_front : get_or (part c.ways at ages) 0 0 ≡ largest (part c.ways at ages)
+  ages_front = subst (λ xs. get_or (part c.ways at xs) 0 0 ≡ largest (part c.ways at xs)) (sym ages_read') (good.ages_front at at_in)
+
+  row_here : row_of v ew (tag % v.sets) ≡ latest (zip (part c.ways at tags) (part c.ways at ages))
+  row_here =
+      sym (ap (λ v. row_of v ew (tag % v.sets)) is)
+      ∙ row_read c good tag ew here
+      ∙ sym (ap (λ t. latest (zip (part c.ways at t) (part c.ways at ages))) tags_read ∙ ap (λ a. latest (zip (part c.ways at c.tags.items) (part c.ways at a))) ages_read' ∙ ap (entries_at c.ways c.tags.items c.ages.items) at_is)
+
+  pub has_none : ((k : ℕ) → k < length (part c.ways at ages) → (get_or (part c.ways at ages) k 0 ≡ 0 → ⊥) → get_or (part c.ways at tags) k 0 ≡ tag → ⊥) → false ≡ has v tag ew
+  has_none h = any_is_none tag (part c.ways at tags) (part c.ways at ages) h ∙ sym (ap (λ r. list_any (eqb tag) (tags_of r)) row_here)
+
+  pub has_some : (way : ℕ) → (way < length (part c.ways at ages)) × (get_or (part c.ways at ages) way 0 ≡ 0 → ⊥) × (get_or (part c.ways at tags) way 0 ≡ tag) → true ≡ has v tag ew
+  has_some way h =
+      any_is_some tag way (part c.ways at tags) (part c.ways at ages) (length-part c.ways at tags tags_fit ∙ sym (length-part c.ways at ages ages_fit)) h
+      ∙ sym (ap (λ r. list_any (eqb tag) (tags_of r)) row_here)
 
   module _ (tags_long : length tags' ≡ length tags) (ages_long : length ages' ≡ length ages)
       (row : latest (zip (part c.ways at tags') (part c.ways at ages')) ≡ touch_row c.ways tag (latest (zip (part c.ways at tags) (part c.ways at ages))))
       (others : (r : ℕ) → (r ≡ at → ⊥) → part c.ways r tags' ≡ part c.ways r tags) (others' : (r : ℕ) → (r ≡ at → ⊥) → part c.ways r ages' ≡ part c.ways r ages) where
-    abbrev row' : latest (zip (part c.ways at tags') (part c.ways at ages')) ≡ touch_row c.ways tag (entries_at c.ways c.tags.items c.ages.items at)
-    row' = row ∙ ap (λ t. touch_row c.ways tag (latest (zip (part c.ways at t) (part c.ways at ages)))) tags_read ∙ ap (λ a. touch_row c.ways tag (latest (zip (part c.ways at c.tags.items) (part c.ways at a)))) ages_read'
+    row' : latest (zip (part c.ways (place c good tag ew here) tags') (part c.ways (place c good tag ew here) ages')) ≡ touch_row c.ways tag (entries_at c.ways c.tags.items c.ages.items (place c good tag ew here))
+    row' =
+        subst (λ r. latest (zip (part c.ways r tags') (part c.ways r ages')) ≡ touch_row c.ways tag (entries_at c.ways c.tags.items c.ages.items r)) at_is
+        (row ∙ ap (λ t. touch_row c.ways tag (latest (zip (part c.ways at t) (part c.ways at ages)))) tags_read ∙ ap (λ a. touch_row c.ways tag (latest (zip (part c.ways at c.tags.items) (part c.ways at a)))) ages_read')
+
+    tags_others : (r : ℕ) → (r ≡ place c good tag ew here → ⊥) → part c.ways r tags' ≡ part c.ways r c.tags.items
+    tags_others r ne = others r (λ e. ne (e ∙ at_is)) ∙ ap (part c.ways r) tags_read
+
+    ages_others : (r : ℕ) → (r ≡ place c good tag ew here → ⊥) → part c.ways r ages' ≡ part c.ways r c.ages.items
+    ages_others r ne = others' r (λ e. ne (e ∙ at_is)) ∙ ap (part c.ways r) ages_read'
 
     pub touched_view : rows_view (record c { tags = with_items c.tags tags'; ages = with_items c.ages ages' }) ≡ touched v tag ew
     touched_view =
-        view_touched c good tag ew here tags' ages' (tags_long ∙ ap length tags_read) (ages_long ∙ ap length ages_read') row'
-        (λ r ne. others r ne ∙ ap (part c.ways r) tags_read) (λ r ne. others' r ne ∙ ap (part c.ways r) ages_read')
+        view_touched c good tag ew here tags' ages' (tags_long ∙ ap length tags_read) (ages_long ∙ ap length ages_read') row' tags_others ages_others
         ∙ ap (λ v. touched v tag ew) is
 
-    pub touched_body : AgesApart (part c.ways at ages') → TagsApart (part c.ways at tags') (part c.ways at ages') → IsBody (record c { tags = with_items c.tags tags'; ages = with_items c.ages ages' })
-    touched_body =
-        body_touched c good tag ew here tags' ages' (tags_long ∙ ap length tags_read) (ages_long ∙ ap length ages_read') row'
-        (λ r ne. others r ne ∙ ap (part c.ways r) tags_read) (λ r ne. others' r ne ∙ ap (part c.ways r) ages_read')
+    pub touched_body : AgesApart (part c.ways at ages') → TagsApart (part c.ways at tags') (part c.ways at ages') → get_or (part c.ways at ages') 0 0 ≡ largest (part c.ways at ages') → IsBody (record c { tags = with_items c.tags tags'; ages = with_items c.ages ages' })
+    touched_body apart alone front =
+        body_touched c good tag ew here tags' ages' (tags_long ∙ ap length tags_read) (ages_long ∙ ap length ages_read') row' tags_others ages_others
+        (subst (λ r. AgesApart (part c.ways r ages')) at_is apart)
+        (subst (λ r. TagsApart (part c.ways r tags') (part c.ways r ages')) at_is alone)
+        (subst (λ r. get_or (part c.ways r ages') 0 0 ≡ largest (part c.ways r ages')) at_is front)
 
 -- ---- the body is a cache
 length-entries : (ways row : ℕ) (tags ages : List ℕ) → length (entries_at ways tags ages row) ≤ ways
@@ -188,6 +223,9 @@ look_found v c e tag er label size s lt f h =
     some_below_at v.order.size (λ label. (lattice_of v.order).flows label er && has v tag label) label (omega arith)
     (and_from ((lattice_of v.order).flows label er) (has v tag label) (subst (λ o. (lattice_of o).flows label er ≡ true) o f) h)
 
+pub look_own : (v : Rows) (c : Inside) → rows_view c ≡ v → (tag er : ℕ) → er < v.order.size → (lattice_of c.lattice).flows er er ≡ true → has v tag er ≡ true → found v tag er ≡ true
+look_own v c e tag er lt = look_found v c e tag er er c.lattice.size refl (subst (λ (v : Rows). er < v.order.size) (sym e) lt)
+
 pub look_history : (v : Rows) (c : Inside) → rows_view c ≡ v → IsBody c → (tag er : ℕ) (r : Bool) → r ≡ found v tag er → (h : List Touched) → StandsFor v h → r ≡ hits v.order v.sets v.ways h er tag
 look_history v c e good tag er r f h s = f ∙ found_is v (subst IsCache e (body_cache c good)) tag er h s
 
@@ -220,6 +258,10 @@ latest_zeros : (tags ages : List ℕ) → AllZero ages → latest (zip tags ages
 latest_zeros [] ages h = refl
 latest_zeros (t ∷ tags) [] h = refl
 latest_zeros (t ∷ tags) (a ∷ ages) h = rw (eq-eqb a 0 h.0) (latest_zeros tags ages h.1)
+
+largest_zeros : (ages : List ℕ) → AllZero ages → largest ages ≡ 0
+largest_zeros [] h = refl
+largest_zeros (a ∷ ages) h = omega (arith, h.0, largest_zeros ages h.1)
 
 map_empty : (F : ℕ → List Entry) (n : ℕ) → ((k : ℕ) → F k ≡ []) → map F (range_with_len 0 n) ≡ replicate n []
 map_empty F n h =
@@ -260,6 +302,7 @@ module _ (c : Inside) (m : ℕ) (ages_are : c.ages.items ≡ replicate m 0) wher
         ages_long = a;
         ages_apart = λ row lt i j h hj e. AllZero_at (part c.ways row c.ages.items) i (zero_part row);
         tags_apart = λ row lt i j h hj e some. AllZero_at (part c.ways row c.ages.items) j (zero_part row);
+        ages_front = λ row lt. AllZero_at (part c.ways row c.ages.items) 0 (zero_part row) ∙ sym (largest_zeros (part c.ways row c.ages.items) (zero_part row));
       }
 
 -- ---- the ways of a set, as they are cut out of the flat rows

@@ -8,3 +8,4 @@ pub mod Renumber
 pub mod Parts
 pub mod Flat
 pub mod Below
+pub mod Front

@@ -91,10 +91,10 @@ zip-map f [] ages = refl
 zip-map f (t ∷ tags) [] = refl
 zip-map f (t ∷ tags) (a ∷ ages) = ap (λ r. (t, f a) ∷ r) (zip-map f tags ages)
 
-latest_some : (x : Entry) (xs : List Entry) → (x.1 ≡ 0 → ⊥) → latest (x ∷ xs) ≡ put x (latest xs)
+pub latest_some : (x : Entry) (xs : List Entry) → (x.1 ≡ 0 → ⊥) → latest (x ∷ xs) ≡ put x (latest xs)
 latest_some x xs ne = rw (ne_eqb x.1 0 ne) refl
 
-latest_none : (x : Entry) (xs : List Entry) → x.1 ≡ 0 → latest (x ∷ xs) ≡ latest xs
+pub latest_none : (x : Entry) (xs : List Entry) → x.1 ≡ 0 → latest (x ∷ xs) ≡ latest xs
 latest_none x xs e = rw (eq-eqb x.1 0 e) refl
 
 module _ (ages : List ℕ) where
@@ -266,6 +266,9 @@ module _ (ages : List ℕ) (apart : AgesApart ages) where
       go (inr p) (inr q) (inl s) = absurd (p (apart i j lt hj' s))
       go (inr p) (inr q) (inr (inl h)) = absurd (less i j p q h same)
       go (inr p) (inr q) (inr (inr h)) = absurd (less j i q p h (sym same))
+
+  pub ranks_held : (k : ℕ) → k < length ages → (get_or ages k 0 ≡ 0 → ⊥) → get_or ranks k 0 ≡ 0 → ⊥
+  ranks_held k lt some z = rank_positive ages (get_or ages k 0) (live_at k some) (sym (rank_at k lt) ∙ z)
 
   pub ranks_tags_apart : (tags : List ℕ) → TagsApart tags ages → TagsApart tags ranks
   ranks_tags_apart tags alone i j lt hj e some =

@@ -1,9 +1,9 @@
--- The flat rows of the body.
-use Rattle.std.specs.Prelude.{◌≡◌, ℕ, ◌*◌, ◌≤◌, ◌<◌, List, length, map}
+-- The flat rows of the body. The way 0 of a set is the one that was touched last.
+use Rattle.std.specs.Prelude.{◌≡◌, ℕ, ◌*◌, ◌≤◌, ◌<◌, List, length, map, slice_index}
 use Rattle.std.specs.List.{zip, range_with_len}
 use Rattle.part_cache.specs.Ages.{Entry}
 use Rattle.part_cache.specs.Rows.{Rows}
-use Rattle.part_cache.specs.Slots.{latest, part, AgesApart, TagsApart}
+use Rattle.part_cache.specs.Slots.{latest, part, largest, AgesApart, TagsApart}
 use Rattle.part_cache.specs.declared.cache.PartCache.TheInside.{Inside}
 
 abbrev pub entries_at : ℕ → List ℕ → List ℕ → ℕ → List Entry
@@ -28,3 +28,4 @@ pub record IsBody (c : Inside) : Type 0 where
   pub ages_long : length c.ages.items ≡ c.lattice.size * c.sets * c.ways
   pub ages_apart : (row : ℕ) → row < c.lattice.size * c.sets → AgesApart (part c.ways row c.ages.items)
   pub tags_apart : (row : ℕ) → row < c.lattice.size * c.sets → TagsApart (part c.ways row c.tags.items) (part c.ways row c.ages.items)
+  pub ages_front : (row : ℕ) → row < c.lattice.size * c.sets → slice_index (part c.ways row c.ages.items) 0 ≡ largest (part c.ways row c.ages.items)

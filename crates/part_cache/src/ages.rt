@@ -1,6 +1,6 @@
 //! The ages of one set: its clock, and how they are numbered anew at the end of their range.
 
-ghost use Rattle.std.specs.Prelude.{◌≡◌, ◌<◌, ◌≤◌, ℕ, List, map, length};
+ghost use Rattle.std.specs.Prelude.{◌≡◌, ◌+◌, ◌<◌, ◌≤◌, ℕ, List, map, length, slice_index};
 ghost use Rattle.std.specs.List.{zip};
 ghost use Rattle.part_cache.specs.Ages.{settled};
 ghost use Rattle.part_cache.specs.Slots.{latest, largest, rank_in, AgesApart, TagsApart};
@@ -48,16 +48,24 @@ pub fn renumber(ages: &mut [u16])
     ages.copy_from_slice(&fresh[..ages.len()]);
 }
 
-/// Numbers the ages anew where the clock stands at its end.
-pub fn settle(ages: &mut [u16])
+/// The age that the next touch of the set writes, 1 more than the greatest, which stands at the front. Where
+/// that is at the end of its range, the ages are first numbered anew.
+pub fn next_age(ages: &mut [u16]) -> u16
+    requires some { 0 < length ages.old }
     requires few { length ages.old ≤ 8 }
     requires apart { AgesApart ages.old }
+    requires front { slice_index ages.old 0 ≡ largest ages.old }
     ensures row { (tags : List ℕ) → length tags ≡ length ages.old → latest (zip tags ages.new) ≡ settled (latest (zip tags ages.old)) }
     ensures ages { AgesApart ages.new }
     ensures tags { (tags : List ℕ) → TagsApart tags ages.old → TagsApart tags ages.new }
-    ensures room { largest ages.new < 65535 }
+    ensures held { (k : ℕ) → k < length ages.old → (slice_index ages.old k ≡ 0 → ⊥) → slice_index ages.new k ≡ 0 → ⊥ }
+    ensures next { result ≡ largest ages.new + 1 }
 {
-    if clock(ages) == 65535 {
+    let most = ages[0];
+    if most == 65535 {
         renumber(ages);
+        clock(ages) + 1
+    } else {
+        most + 1
     }
 }

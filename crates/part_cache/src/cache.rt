@@ -1,6 +1,6 @@
 //! The partitioned cache.
 
-ghost use Rattle.std.specs.Prelude.{◌≡◌, ◌+◌, ◌%◌, ◌<◌, ◌≤◌, ℕ, [], ◌∷◌, ◌++◌, List, length, false, IfOk, IsTrue, ◌↔◌};
+ghost use Rattle.std.specs.Prelude.{◌≡◌, ◌+◌, ◌%◌, ◌<◌, ◌≤◌, ℕ, [], ◌∷◌, ◌++◌, List, length, cond, true, false, IfOk, IsTrue, ◌↔◌};
 ghost use Rattle.std.specs.List.{zip};
 ghost use Rattle.part_cache.specs.Ages.{clock, settled};
 ghost use Rattle.part_cache.specs.Slots.{latest, AgesApart, TagsApart};
@@ -8,7 +8,7 @@ ghost use Rattle.part_cache.specs.History.{Touched, holds, hits};
 ghost use Rattle.part_cache.specs.Rows.{StandsFor, IsCacheOf, empty_cache, part_of, row_of, tags_at, age_of, has, found, touched};
 
 use crate::compare::is_same;
-use crate::ways::{age_in, is_in, touch_at};
+use crate::ways::{age_in, bring_at, is_in, touch_at, way_in};
 use label_lattice::label::Label;
 use label_lattice::lattice::Lattice;
 use std::alloc::Global;
@@ -35,6 +35,18 @@ impl Model for PartCache {
     ghost view = { rows_view };
 
     ghost invariant = { IsBody };
+}
+
+// The set of a tag. The numbers of sets in use are powers of 2, and want no division.
+#[inline(always)]
+fn set_of(tag: u32, sets: u32) -> u32
+    requires { 0 < sets }
+    ensures { result ≡ tag % sets }
+{
+    match sets {
+        1 | 8 | 32 => tag & (sets - 1),
+        _ => tag % sets,
+    }
 }
 
 impl PartCache {
@@ -68,6 +80,15 @@ impl PartCache {
         ensures history { (h : List Touched) → StandsFor self.now h
             → result ≡ hits self.now.order self.now.sets self.now.ways h er.number tag }
     {
+        self.lattice.laws();
+        self.has(tag, er) || self.look_in_all(tag, er)
+    }
+
+    // Whether a partition whose label flows to `er` holds the tag, each partition tried.
+    fn look_in_all(&self, tag: u32, er: Label) -> bool
+        requires { er.number < self.now.order.size }
+        ensures { result ≡ found self.now tag er.number }
+    {
         for number in 0..self.lattice.size() {
             let label = Label::new(number as u8);
             if self.lattice.flows(label, er) && self.has(tag, label) {
@@ -91,9 +112,29 @@ impl PartCache {
             → ((label ≡ ew.number) × (other % self.old.sets ≡ tag % self.old.sets) → ⊥)
             → age_of self.new other label ≡ age_of self.old other label }
     {
-        let row = usize::from(ew.number) * self.sets as usize + (tag % self.sets) as usize;
+        let row = usize::from(ew.number) * self.sets as usize + set_of(tag, self.sets) as usize;
         let ways = self.ways as usize;
         touch_at(&mut self.tags, &mut self.ages, row, ways, tag);
+    }
+
+    /// Touches the tag where the partition of the label holds it, and else changes nothing: whether it holds
+    /// it. A look-up at the label then hits. Takes no memory.
+    pub fn touch_held(&mut self, tag: u32, label: Label) -> bool
+        requires { label.number < self.old.order.size }
+        ensures held { result ≡ has self.old tag label.number }
+        ensures touched { self.new ≡ cond result (touched self.old tag label.number) self.old }
+        ensures found { IsTrue result → found self.old tag label.number ≡ true }
+    {
+        self.lattice.laws();
+        let row = usize::from(label.number) * self.sets as usize + set_of(tag, self.sets) as usize;
+        let ways = self.ways as usize;
+        match way_in(&self.tags, &self.ages, row, ways, tag) {
+            Some(way) => {
+                bring_at(&mut self.tags, &mut self.ages, row, ways, way, tag);
+                true
+            }
+            None => false,
+        }
     }
 
     /// The age of the tag in the partition of the label, 0 exactly where it is not held there. Takes no
@@ -105,7 +146,7 @@ impl PartCache {
         ensures history { (h : List Touched) → StandsFor self.now h
             → (result ≡ 0) ↔ (holds self.now.sets self.now.ways h label.number tag ≡ false) }
     {
-        let (tags, ages) = self.ways_of(label, tag % self.sets);
+        let (tags, ages) = self.ways_of(label, set_of(tag, self.sets));
         age_in(tags, ages, tag)
     }
 
@@ -143,7 +184,7 @@ impl PartCache {
         requires { label.number < self.now.order.size }
         ensures { result ≡ has self.now tag label.number }
     {
-        let (tags, ages) = self.ways_of(label, tag % self.sets);
+        let (tags, ages) = self.ways_of(label, set_of(tag, self.sets));
         is_in(tags, ages, tag)
     }
 

@@ -31,6 +31,33 @@ pub fn look_and_touch(cache: &mut PartCache, tag: u32, er: Label, ew: Label) -> 
     ensures hit { result ≡ found cache.old tag er.number }
     ensures touched { cache.new ≡ touched cache.old tag ew.number }
 {
+    if er.number == ew.number {
+        look_and_touch_at(cache, tag, ew)
+    } else {
+        look_then_touch(cache, tag, er, ew)
+    }
+}
+
+// The same at one label. Mostly its partition holds the tag, and nothing else is looked up.
+fn look_and_touch_at(cache: &mut PartCache, tag: u32, label: Label) -> bool
+    requires { label.number < cache.old.order.size }
+    ensures hit { result ≡ found cache.old tag label.number }
+    ensures touched { cache.new ≡ touched cache.old tag label.number }
+{
+    if cache.touch_held(tag, label) {
+        true
+    } else {
+        look_then_touch(cache, tag, label, label)
+    }
+}
+
+// A look-up and then a touch.
+fn look_then_touch(cache: &mut PartCache, tag: u32, er: Label, ew: Label) -> bool
+    requires read { er.number < cache.old.order.size }
+    requires write { ew.number < cache.old.order.size }
+    ensures hit { result ≡ found cache.old tag er.number }
+    ensures touched { cache.new ≡ touched cache.old tag ew.number }
+{
     let hit = cache.look(tag, er);
     cache.touch(tag, ew);
     hit
