@@ -12,6 +12,7 @@ use cycle_machine::turn::Turn;
 use env_contract::env::MachineEnv;
 use event_print::end::RunEnd;
 use label_lattice::label::Label;
+use label_lattice::lattice::Lattice;
 use std::alloc::Global;
 use tim_base::pos::Memory;
 use timing_types::labelled::Labelled;
@@ -87,13 +88,16 @@ impl Tally {
         Ok(())
     }
 
-    // Takes in what one turn of the machine tells, and answers the end of the run, if that is what it tells.
+    // Takes in what one turn of the machine tells, and answers the end of the run, if that is what it tells. The
+    // order is the program's.
     fn take(
         &mut self,
         p: &Labelled,
+        order: &Lattice,
         observer: &Observer<'_>,
         turn: Turn,
     ) -> Result<Option<RunEnd>, Memory>
+        requires order { order.now ≡ p.now.program.order }
         requires below { IsTurnBelow (variables p.now.program.declarations) turn }
         requires shown { self.old.shown < 2 ^ 62 }
         requires begun { self.old.begun < 2 ^ 62 }
@@ -109,7 +113,7 @@ impl Tally {
                 cycle,
             } => {
                 let own = p.variable_label(variable);
-                if p.program().lattice().flows(own, observer.label) {
+                if order.flows(own, observer.label) {
                     let sighting = Sighting {
                         variable,
                         value,
@@ -153,11 +157,12 @@ pub fn observe<E: MachineEnv + Drop>(
     requires limit { limit ≤ 2 ^ 40 }
     ensures { IfOk result (IsObserved p.now observer.now.label.number observer.now.relevant.now observer.now.room limit (rest_of (record { cost_of = E.cost_of; next_of = E.next_of; part = E.part }) limit m.old)) }
 {
+    let order = p.program().lattice();
     let mut tally = Tally::new(alloc);
     'run: loop {
         m.laws();
         let turn = m.next(limit);
-        if let Some(end) = tally.take(p, observer, turn)? {
+        if let Some(end) = tally.take(p, &order, observer, turn)? {
             return Ok(Observed { tally, end });
         }
     }

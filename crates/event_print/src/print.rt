@@ -15,6 +15,7 @@ use cycle_machine::machine::Machine;
 use cycle_machine::turn::Turn;
 use env_contract::env::MachineEnv;
 use label_lattice::label::Label;
+use label_lattice::lattice::Lattice;
 use tim_base::sink::{Sink, SinkFault, write_all};
 use timing_types::labelled::Labelled;
 use timing_types::typed::Typed;
@@ -22,11 +23,13 @@ use timing_types::typed::Typed;
 // Writes the line of a turn, if it has one and is shown, and answers the end that it tells.
 fn print_turn<W: Sink>(
     p: &Labelled,
+    order: &Lattice,
     observer: Option<Label>,
     turn: Turn,
     out: &mut W,
 ) -> Result<Option<RunEnd>, SinkFault>
-    requires { IsTurnBelow (variables p.now.program.declarations) turn }
+    requires below { IsTurnBelow (variables p.now.program.declarations) turn }
+    requires order { order.now ≡ p.now.program.order }
     ensures end { IfOk result (λ end. end ≡ end_of_turn turn) }
     ensures text { OnOk result (Appends (W.taken out.old) (W.taken out.new) (text_of_turn p.now observer turn)) }
     ensures prefix { OnErr result (AppendsPrefix (W.taken out.old) (W.taken out.new) (text_of_turn p.now observer turn)) }
@@ -39,7 +42,7 @@ fn print_turn<W: Sink>(
             value,
             cycle,
         } => {
-            if shows(p, observer, variable) {
+            if shows(p, order, observer, variable) {
                 let line = event_line(p.program(), variable, value, cycle);
                 write_all(out, line.bytes())?;
             }
@@ -90,10 +93,11 @@ pub fn print_run<E: MachineEnv + Drop, W: Sink>(
     ensures stands { StandsAfter (record { cost_of = E.cost_of; next_of = E.next_of; part = E.part }) limit m.old m.new }
 {
     let labelled = p.labelled();
+    let order = labelled.program().lattice();
     'run: loop {
         m.laws();
         let turn = m.next(limit);
-        if let Some(end) = print_turn(labelled, observer, turn, out)? {
+        if let Some(end) = print_turn(labelled, &order, observer, turn, out)? {
             return Ok(end);
         }
     }

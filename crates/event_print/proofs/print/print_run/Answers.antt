@@ -31,8 +31,8 @@ run-init g c =
       labelled = c.labelled-labelled.ensures.labelled;
     }
 
-pub print_turn-requires : goal.print_turn-requires
-print_turn-requires g c =
+pub print_turn-requires-clause-below : goal.print_turn-requires-clause-below
+print_turn-requires-clause-below g c =
     let v : Env g.row.E.Denot = record { cost_of = g.E.MachineEnv.cost_of; next_of = g.E.MachineEnv.next_of; part = g.E.MachineEnv.part } in
     let count : c.run.m.code.variables ≡ variables c.labelled-labelled.result.now.program.declarations =
     ap (λ m. m.variables) c.run.invariant.stands.code ∙ (c.requires.variables ∙ ap (λ p. variables p.program.declarations) (sym c.labelled-labelled.ensures.labelled)) in

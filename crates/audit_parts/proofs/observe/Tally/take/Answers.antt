@@ -22,13 +22,13 @@ pub returns-in_ok-see-in-Event-clause-tallies : goal.returns-in_ok-see-in-Event-
 returns-in_ok-see-in-Event-clause-tallies c = λ events t.
     let n : to_z w64 (of_z w64 c.in-Event.value) ≡ c.in-Event.value = search (rules, to_z-of_z) in
     seen_more c.args.p.now c.args.observer.now.label.number c.args.observer.now.relevant.now c.args.observer.now.room events c.args.self.now t c.args.turn c.in-Event.variable _ c.in-Event.cycle c.in-Event.is
-    (tested _ _ _ _ c.args.observer.now.label.number _ true c.flows.ensures (ap lattice_of (c.lattice.ensures ∙ ap (λ z. z.order) c.program.ensures.program)) c.variable_label-own.ensures.value c.if-flows.true)
+    (tested _ _ _ _ c.args.observer.now.label.number _ true c.flows.ensures (ap lattice_of c.requires.order) c.variable_label-own.ensures.value c.if-flows.true)
     _ c.see.new.self (ap (λ z. Wrote c.in-Event.variable z c.in-Event.cycle) n) c.in_ok-see-in-Event.ensures.shown c.in_ok-see-in-Event.ensures.kept c.in_ok-see-in-Event.ensures.begun c.in_ok-see-in-Event.ensures.ended
 
 pub returns-else-flows-clause-tallies : goal.returns-else-flows-clause-tallies
 returns-else-flows-clause-tallies c = λ events t.
     hidden_more c.args.p.now c.args.observer.now.label.number c.args.observer.now.relevant.now c.args.observer.now.room events c.args.self.now t c.args.turn c.in-Event.variable _ c.in-Event.cycle c.in-Event.is
-    (tested _ _ _ _ c.args.observer.now.label.number _ false c.flows.ensures (ap lattice_of (c.lattice.ensures ∙ ap (λ z. z.order) c.program.ensures.program)) c.variable_label-own.ensures.value c.if-flows.false)
+    (tested _ _ _ _ c.args.observer.now.label.number _ false c.flows.ensures (ap lattice_of c.requires.order) c.variable_label-own.ensures.value c.if-flows.false)
 
 pub returns-then-is_relevant-clause-tallies : goal.returns-then-is_relevant-clause-tallies
 returns-then-is_relevant-clause-tallies c = λ events t.
