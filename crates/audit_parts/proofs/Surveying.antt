@@ -3,7 +3,8 @@ use Rattle.std.proofs.Common.{◌≡◌, ◌<◌, ◌≤◌, ℕ, ◌+◌, ◌-�
 use Rattle.std.specs.Prelude.{◌⊎◌}
 use Rattle.std.proofs.lemmas.Bool.{cases_lt}
 use Rattle.std.proofs.lemmas.Bool.Decides.{nat_tests}
-use Rattle.timing_types.specs.Labelled.{LabelledProgram, order_of, labels_of, bare_of}
+use Rattle.mit_syntax.specs.Program.{plan_of}
+use Rattle.timing_types.specs.Labelled.{LabelledProgram, order_of, labels_of, levels_of}
 use Rattle.env_contract.specs.Env.{Env}
 use Rattle.label_code.specs.Machine.{Machine}
 use Rattle.label_code.specs.Run.{Start}
@@ -92,7 +93,7 @@ module _ {E : Type 0} (v : Env E) (p : LabelledProgram) (o t : ℕ) (must : Bool
   }
 
   module _ (s : Start E) (rest more : List (Start E)) (n : ℕ) (r : Survey) (from : rest ≡ s ∷ more) (h : Surveying rest n r) (w : Observed) (marked : List Bool)
-      (told : marked ≡ relevances (order_of p) (labels_of p) o (order_of p).bottom (bare_of p)) (seen : ObservesRun v p o marked (MAX_SHOWN - r.shown) t s w) where
+      (told : marked ≡ relevances (order_of p) (labels_of p) (levels_of p) o (order_of p).bottom (plan_of p.program)) (seen : ObservesRun v p o marked (MAX_SHOWN - r.shown) t s w) where
     abbrev run : Machine E
     run = run_of v p t s
 

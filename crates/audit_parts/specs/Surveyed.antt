@@ -1,6 +1,7 @@
 -- What is known of the runs of a program's image from a list of starts.
-use Rattle.std.specs.Prelude.{◌≡◌, ◌<◌, ◌≤◌, ◌+◌, ◌⊎◌, ◌++◌, ℕ, List, [], ◌∷◌, map, max, length, Bool, true, false, cond, nat_eq, Option, None, Some}
-use Rattle.timing_types.specs.Labelled.{LabelledProgram, order_of, labels_of, bare_of}
+use Rattle.std.specs.Prelude.{◌≡◌, ◌<◌, ◌≤◌, ◌+◌, ◌++◌, ℕ, List, [], ◌∷◌, map, max, length, Bool, true, false, cond, nat_eq, Option, None, Some}
+use Rattle.mit_syntax.specs.Program.{plan_of}
+use Rattle.timing_types.specs.Labelled.{LabelledProgram, order_of, labels_of, levels_of}
 use Rattle.env_contract.specs.Env.{Env}
 use Rattle.label_code.specs.Machine.{Machine, Event}
 use Rattle.label_code.specs.Run.{Start, run_from}
@@ -19,7 +20,7 @@ use Rattle.audit_parts.specs.Observed.{sequence_of}
 
 -- whether the mitigate with a mark is relevant for an observer of a program
 abbrev pub relevant_for : LabelledProgram → ℕ → ℕ → Bool
-relevant_for p o = is_relevant (order_of p) (labels_of p) o (bare_of p)
+relevant_for p o = is_relevant (order_of p) (labels_of p) (levels_of p) o (plan_of p.program)
 
 module _ {E : Type 0} (v : Env E) (p : LabelledProgram) where
   -- the run to T from a start

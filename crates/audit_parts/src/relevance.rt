@@ -1,7 +1,8 @@
 //! Which mitigates are relevant for an observer.
 
 ghost use Rattle.std.specs.Prelude.{◌≡◌, ◌<◌, IfOk};
-ghost use Rattle.timing_types.specs.Labelled.{order_of, labels_of, bare_of};
+ghost use Rattle.mit_syntax.specs.Program.{plan_of};
+ghost use Rattle.timing_types.specs.Labelled.{order_of, labels_of, levels_of};
 ghost use Rattle.leak_bound.specs.Relevant.{relevances};
 
 use label_lattice::label::Label;
@@ -12,7 +13,7 @@ use timing_types::typed::Typed;
 /// Of each mitigate, by its mark, whether it is relevant for an observer: its program-counter label flows to
 /// the observer and its level does not. Fails only for want of memory.
 pub fn relevant_marks(alloc: Global, p: &Typed, observer: Label) -> Result<Vec<bool>, Memory>
-    ensures { IfOk result (λ v. v.items ≡ relevances (order_of p.now.labelled) (labels_of p.now.labelled) observer.number (order_of p.now.labelled).bottom (bare_of p.now.labelled)) }
+    ensures { IfOk result (λ v. v.items ≡ relevances (order_of p.now.labelled) (labels_of p.now.labelled) (levels_of p.now.labelled) observer.number (order_of p.now.labelled).bottom (plan_of p.now.labelled.program)) }
 {
     let labelled = p.labelled();
     let program = labelled.program();

@@ -1,7 +1,8 @@
 //! The runs of a list of starts, one after the other.
 
 ghost use Rattle.std.specs.Prelude.{◌≡◌, ◌≤◌, ◌^◌, [], All, OnOk, IfOk, IfErr, length, map};
-ghost use Rattle.timing_types.specs.Labelled.{order_of, labels_of, bare_of};
+ghost use Rattle.mit_syntax.specs.Program.{plan_of};
+ghost use Rattle.timing_types.specs.Labelled.{order_of, labels_of, levels_of};
 ghost use Rattle.code_lower.specs.Lowered.{lowered};
 ghost use Rattle.start_file.specs.Starts.{seen, IsFor};
 ghost use Rattle.leak_bound.specs.Relevant.{relevances};
@@ -200,7 +201,7 @@ pub fn survey_runs<E: MachineEnv + Drop, M: MakeEnv<E>>(
     requires few { length starts.now ≤ 4096 }
     requires starts { All (IsFor p.now.program) (map seen starts.now) }
     requires limit { request.now.limit ≤ 2 ^ 40 }
-    requires relevant { request.now.relevant.now ≡ relevances (order_of p.now) (labels_of p.now) request.now.observer.number (order_of p.now).bottom (bare_of p.now) }
+    requires relevant { request.now.relevant.now ≡ relevances (order_of p.now) (labels_of p.now) (levels_of p.now) request.now.observer.number (order_of p.now).bottom (plan_of p.now.program) }
     ensures survey { IfOk result (IsSurvey (record { cost_of = E.cost_of; next_of = E.next_of; part = E.part }) p.now request.now.observer.number request.now.limit request.now.must_halt (starts_of M.made p.now.program.order (map seen starts.now))) }
     ensures fault { IfErr result (IsSurveyFault (record { cost_of = E.cost_of; next_of = E.next_of; part = E.part }) p.now request.now.observer.number request.now.limit request.now.must_halt (starts_of M.made p.now.program.order (map seen starts.now))) }
 {

@@ -11,3 +11,4 @@ pub mod Range
 pub mod Bound
 pub mod Whole
 pub mod Examples
+pub mod Meaning

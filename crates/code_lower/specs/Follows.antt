@@ -2,7 +2,7 @@
 use Rattle.std.specs.Prelude.{◌≡◌, ℕ, List, [], ◌∷◌, ◌++◌, true}
 use Rattle.env_contract.specs.Env.{Env}
 use Rattle.label_lattice.specs.Lattice.{Lattice}
-use Rattle.mit_syntax.specs.Todo.{Marked}
+use Rattle.mit_syntax.specs.Todo.{Todo, Marked}
 use Rattle.source_meaning.specs.Source.{Note, Assigned, Started, notes_of, HasEnded}
 use Rattle.label_code.specs.Machine.{Event, Wrote, Began, Ended}
 use Rattle.label_code.specs.Run.{Start, run_from}
@@ -17,7 +17,7 @@ told (Began k c ∷ es) = Started k ∷ told es
 told (Ended k c ∷ es) = told es
 
 -- the code does what the program does, in its order, for any number of cycles
-pub record KeepsOrder {E : Type 0} (v : Env E) (image : List Instr) (p : Marked) : Type 0 where
+pub record KeepsOrder {E M L : Type 0} (v : Env E) (image : List Instr) (p : Todo M L) : Type 0 where
   pub follows : (s : Start E) (t : ℕ) → (n : ℕ)
       × (told (run_from v image t s).core.log ≡ notes_of p s.memory n)
       × ((run_from v image t s).halted ≡ true → HasEnded p s.memory n)

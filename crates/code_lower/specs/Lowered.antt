@@ -1,7 +1,9 @@
 -- The image of a labelled program, and why there is none.
 use Rattle.std.specs.Prelude.{◌≡◌, ◌<◌, length}
 use Rattle.mit_syntax.specs.Declarations.{variables}
+use Rattle.mit_syntax.specs.Program.{plan_of}
 use Rattle.timing_types.specs.Labelled.{LabelledProgram, order_of, labels_of, bare_of}
+use Rattle.source_meaning.specs.Same.{MeansSame}
 use Rattle.env_contract.specs.Env.{Env}
 use Rattle.label_code.specs.Shaped.{Code}
 use Rattle.code_lower.specs.Code.{image_of}
@@ -26,6 +28,10 @@ abbrev pub IsLowerFault : LabelledProgram → LowerFault → Type 0
 IsLowerFault p (TooLong count) = (200000 < count) × (count ≡ length (lowered p).instrs)
 IsLowerFault p Memory = Unit {0}
 
--- the image of every labelled program does what the program does
+-- every labelled program means what the program does that it labels
+abbrev pub LabelsKeepMeaning : Type 0
+LabelsKeepMeaning = (p : LabelledProgram) → MeansSame (bare_of p) (plan_of p.program)
+
+-- the image of every labelled program does what the program does that it labels
 abbrev pub LoweredKeepsOrder : {E : Type 0} → Env E → Type 0
-LoweredKeepsOrder {E} v = (p : LabelledProgram) → KeepsOrder v (lowered p).instrs (bare_of p)
+LoweredKeepsOrder {E} v = (p : LabelledProgram) → KeepsOrder v (lowered p).instrs (plan_of p.program)

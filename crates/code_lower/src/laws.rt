@@ -1,7 +1,7 @@
 //! What is true of the code of every program, as contracts of functions that do nothing.
 
 ghost use Rattle.code_lower.specs.Follows.{OrderAll};
-ghost use Rattle.code_lower.specs.Lowered.{LoweredKeepsOrder};
+ghost use Rattle.code_lower.specs.Lowered.{LabelsKeepMeaning, LoweredKeepsOrder};
 ghost use Rattle.env_contract.specs.Env.{Env};
 
 use env_contract::env::MachineEnv;
@@ -14,7 +14,14 @@ pub fn code_keeps_order<E: MachineEnv>()
     ensures { OrderAll (record { cost_of = E.cost_of; next_of = E.next_of; part = E.part }) }
 {}
 
-/// The same of the image that `lower` makes of a program.
+/// A program with labels means what the program does that was labelled: from each memory it tells the same
+/// assignments and the same begun mitigates, in the same order and after the same number of steps, and ends after
+/// the same number of steps.
+pub fn labels_keep_meaning()
+    ensures { LabelsKeepMeaning }
+{}
+
+/// The same of the image that `lower` makes of a program, and of the program that was read, without its labels.
 pub fn image_keeps_order<E: MachineEnv>()
     ensures { LoweredKeepsOrder (record { cost_of = E.cost_of; next_of = E.next_of; part = E.part }) }
 {}

@@ -2,7 +2,8 @@
 use Rattle.std.proofs.Common.{◌≡◌, ◌<◌, ◌≤◌, ℕ, suc, ◌+◌, ◌*◌, ◌^◌, List, [], ◌∷◌, length, map, false, refl, sym, ap, ◌∙◌, subst}
 use Rattle.std.proofs.lemmas.List.{length-map}
 use Rattle.label_lattice.specs.Order.{Order, count_not_below}
-use Rattle.timing_types.specs.Labelled.{LabelledProgram, order_of, labels_of, bare_of}
+use Rattle.mit_syntax.specs.Program.{plan_of}
+use Rattle.timing_types.specs.Labelled.{LabelledProgram, order_of, labels_of, levels_of}
 use Rattle.env_contract.specs.Env.{Env}
 use Rattle.label_code.specs.Run.{Start}
 use Rattle.code_lower.specs.Lowered.{lowered}
@@ -48,7 +49,7 @@ module _ {E : Type 0} (v : Env E) (serves : Order → E → Type 0) (p : Labelle
   pub as_many : (s : Survey) → IsSurvey v p o t false ss s → length s.sequences.items ≡ length ss
   as_many s h = sym (length-map s.sequences.items sequence_of) ∙ (ap length h.sequences ∙ length-views (sequence_from v p o t) ss)
 
-  module _ (sound : CutSound v p.program.order (serves p.program.order) (labels_of p) (lowered p).instrs (bare_of p)) (low : o < p.program.order.size) (some : 0 < t) (agree : Pairwise (AgreeFor v serves p o) ss)
+  module _ (sound : CutSound v p.program.order (serves p.program.order) (labels_of p) (levels_of p) (lowered p).instrs (plan_of p.program)) (low : o < p.program.order.size) (some : 0 < t) (agree : Pairwise (AgreeFor v serves p o) ss)
       (s : Survey) (survey : IsSurvey v p o t false ss s) (m : Measures) (measure : IsMeasure p.program.order o t s.ended (map sequence_of s.sequences.items) m) (r : CutReport) (made : Reports (length ss) s m r) where
     ended : r.ended ≡ most_ended v (lowered p).instrs (relevant_for p o) t ss
     ended = made.ended ∙ survey.ended

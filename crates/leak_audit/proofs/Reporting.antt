@@ -2,7 +2,8 @@
 use Rattle.std.proofs.Common.{◌≡◌, ◌<◌, ◌≤◌, ℕ, ◌+◌, ◌*◌, ◌^◌, List, [], ◌∷◌, length, map, true, refl, sym, ap, ◌∙◌, subst}
 use Rattle.std.specs.List.{count_by}
 use Rattle.label_lattice.specs.Order.{Order, count_not_below}
-use Rattle.timing_types.specs.Labelled.{LabelledProgram, order_of, labels_of, bare_of}
+use Rattle.mit_syntax.specs.Program.{plan_of}
+use Rattle.timing_types.specs.Labelled.{LabelledProgram, order_of, labels_of, levels_of}
 use Rattle.source_meaning.specs.Source.{started_in}
 use Rattle.env_contract.specs.Env.{Env}
 use Rattle.label_code.specs.Run.{Start}
@@ -34,24 +35,24 @@ pub record Reports (n : ℕ) (s : Survey) (m : Measures) (r : AuditReport) : Typ
   pub classes : r.classes.items ≡ m.classes.items
 
 -- the first run of a list begins one number of relevant mitigations
-pub first_one : {E : Type 0} (p : LabelledProgram) (o : ℕ) (ss : List (Start E)) (k j : ℕ) → FirstBegins (order_of p) (labels_of p) o (bare_of p) ss k → FirstBegins (order_of p) (labels_of p) o (bare_of p) ss j → k ≡ j
+pub first_one : {E : Type 0} (p : LabelledProgram) (o : ℕ) (ss : List (Start E)) (k j : ℕ) → FirstBegins (order_of p) (labels_of p) (levels_of p) o (plan_of p.program) ss k → FirstBegins (order_of p) (labels_of p) (levels_of p) o (plan_of p.program) ss j → k ≡ j
 first_one p o [] k j a b = a ∙ sym b
-first_one p o (s ∷ ss) k j a b = begins_one (order_of p) (labels_of p) o (bare_of p) s.memory k j a b
+first_one p o (s ∷ ss) k j a b = begins_one (order_of p) (labels_of p) (levels_of p) o (plan_of p.program) s.memory k j a b
 
-module _ {E : Type 0} (v : Env E) (serves : Order → E → Type 0) (p : LabelledProgram) (o t : ℕ) (sound : Sound v p.program.order (serves p.program.order) (labels_of p) (lowered p).instrs (bare_of p)) where
+module _ {E : Type 0} (v : Env E) (serves : Order → E → Type 0) (p : LabelledProgram) (o t : ℕ) (sound : Sound v p.program.order (serves p.program.order) (labels_of p) (levels_of p) (lowered p).instrs (plan_of p.program)) where
   -- the run of a start that halts begins as many relevant mitigations as the program does
-  begins : (s : Start E) → Halts v (lowered p).instrs t s → Begins (order_of p) (labels_of p) o (bare_of p) s.memory (begun_first v p o t (s ∷ []))
+  begins : (s : Start E) → Halts v (lowered p).instrs t s → Begins (order_of p) (labels_of p) (levels_of p) o (plan_of p.program) s.memory (begun_first v p o t (s ∷ []))
   begins s h =
       let f = sound.keeps.follows s t in
       (f.0, f.2 h, ap (λ z. count_by (relevant_for p o) (started_in z)) (sym f.1) ∙ sym (begun-told (relevant_for p o) (run_of v p t s).core.log))
 
-  first_begins : (ss : List (Start E)) (k : ℕ) → Each (Halts v (lowered p).instrs t) ss → k ≡ begun_first v p o t ss → FirstBegins (order_of p) (labels_of p) o (bare_of p) ss k
+  first_begins : (ss : List (Start E)) (k : ℕ) → Each (Halts v (lowered p).instrs t) ss → k ≡ begun_first v p o t ss → FirstBegins (order_of p) (labels_of p) (levels_of p) o (plan_of p.program) ss k
   first_begins [] k h e = e
-  first_begins (s ∷ ss) k h e = subst (λ z. Begins (order_of p) (labels_of p) o (bare_of p) s.memory z) (sym e) (begins s h.0)
+  first_begins (s ∷ ss) k h e = subst (λ z. Begins (order_of p) (labels_of p) (levels_of p) o (plan_of p.program) s.memory z) (sym e) (begins s h.0)
 
   module _ (low : o < p.program.order.size) (some : 0 < t) (ss : List (Start E)) (agree : Pairwise (AgreeFor v serves p o) ss) (s : Survey) (survey : IsSurvey v p o t true ss s) (m : Measures)
       (measure : IsMeasure p.program.order o t s.begun (map sequence_of s.sequences.items) m) (r : AuditReport) (made : Reports (length ss) s m r) where
-    begun : FirstBegins (order_of p) (labels_of p) o (bare_of p) ss r.mitigations
+    begun : FirstBegins (order_of p) (labels_of p) (levels_of p) o (plan_of p.program) ss r.mitigations
     begun = first_begins ss r.mitigations (survey.halts refl) (made.mitigations ∙ survey.begun)
 
     seen : r.distinct ≡ distinct_count same_sequence (views (sequence_from v p o t) ss)

@@ -1,7 +1,8 @@
 -- The report of an audit, and why there is none.
 use Rattle.std.specs.Prelude.{◌≡◌, ◌≢◌, ◌≤◌, ◌+◌, ◌*◌, ℕ, List, length, true}
 use Rattle.label_lattice.specs.Order.{Order, count_not_below}
-use Rattle.timing_types.specs.Labelled.{LabelledProgram, order_of, labels_of, bare_of}
+use Rattle.mit_syntax.specs.Program.{plan_of}
+use Rattle.timing_types.specs.Labelled.{LabelledProgram, order_of, labels_of, levels_of}
 use Rattle.env_contract.specs.Env.{Env}
 use Rattle.label_code.specs.Run.{Start}
 use Rattle.code_lower.specs.Lowered.{lowered}
@@ -29,7 +30,7 @@ pub record IsReport {E : Type 0} (v : Env E) (serves : Order → E → Type 0) (
   pub few : shown_by_all v p o t ss ≤ MAX_SHOWN
   pub runs : r.runs ≡ length ss
   pub levels : r.levels ≡ count_not_below (order_of p) o p.program.order.size
-  pub mitigations : FirstBegins (order_of p) (labels_of p) o (bare_of p) ss r.mitigations
+  pub mitigations : FirstBegins (order_of p) (labels_of p) (levels_of p) o (plan_of p.program) ss r.mitigations
   pub distinct : r.distinct ≡ distinct_count same_sequence (views (sequence_from v p o t) ss)
   pub base : r.base ≡ r.mitigations + 1
   pub exponent : r.exponent ≡ r.levels * digits t

@@ -15,7 +15,7 @@ use env_contract::env::MachineEnv;
 use env_contract::make::MakeEnv;
 use label_code::image::Image;
 use label_lattice::label::Label;
-use leak_bound::laws::few_sequences;
+use leak_bound::laws::lowered_few_sequences;
 use start_file::start::Start;
 use std::alloc::Global;
 use timing_types::typed::Typed;
@@ -50,7 +50,7 @@ pub fn audit<E: MachineEnv + Drop, M: MakeEnv<E>>(
     ensures bound { IfOk result (λ r. r.distinct ≤ r.base ^ r.exponent) }
     ensures fault { IfErr result (IsAuditFault (record { cost_of = E.cost_of; next_of = E.next_of; part = E.part }) E.serves p.now.labelled observer.number limit (starts_of M.made p.now.labelled.program.order (map seen starts.now))) }
 {
-    few_sequences::<E>();
+    lowered_few_sequences::<E>();
     let labelled = p.labelled();
     let program = labelled.program();
     let order = program.lattice();

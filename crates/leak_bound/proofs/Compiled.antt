@@ -1,21 +1,20 @@
 -- A typed program with its image is one that the theorem speaks of.
-use Rattle.std.proofs.Common.{◌≡◌, ℕ, ◌+◌, ◌<◌, refl, sym, ap, ◌∙◌, subst, arith}
-use Rattle.std.specs.Prelude.{Bool, true, false, not, ◌&&◌, List}
-use Rattle.mit_syntax.specs.Todo.{Marks, Todo, Marked, Done, Skip, Assign, Put, Sleep, If, While, Mitigate}
+use Rattle.std.proofs.Common.{◌≡◌, ℕ, ◌+◌, ◌<◌, refl, sym, ap, subst, arith}
+use Rattle.std.specs.Prelude.{not, ◌&&◌, List}
+use Rattle.mit_syntax.specs.Todo.{Marks, Done, Skip, Assign, Put, Sleep, If, While, Mitigate}
 use Rattle.mit_syntax.specs.Plan.{Plan, mitigates, count}
 use Rattle.mit_syntax.specs.MarkOrder.{MarksFrom}
-use Rattle.mit_syntax.specs.Program.{Syntax, plan_of}
+use Rattle.mit_syntax.specs.Program.{plan_of}
 use Rattle.mit_syntax.specs.Valid.{AreNumbered}
 use Rattle.label_lattice.specs.Lattice.{Lattice, IsLattice}
-use Rattle.label_lattice.specs.Order.{lattice_of}
 use Rattle.timing_types.specs.Typing.{label_of}
 use Rattle.timing_types.specs.Placed.{labelled, bare}
 use Rattle.timing_types.specs.Contexts.{HasContexts}
 use Rattle.timing_types.specs.Labelling.{IsLabelling, marks_of, level_of}
-use Rattle.timing_types.specs.Labelled.{LabelledProgram, order_of, labels_of, bare_of, HasType}
+use Rattle.timing_types.specs.Labelled.{LabelledProgram, order_of, labels_of, levels_of, bare_of, HasType}
 use Rattle.label_code.specs.declared.code.Instr.{Instr}
 use Rattle.code_lower.specs.Layout.{IsImage}
-use Rattle.leak_bound.specs.Relevant.{LevelsBelow}
+use Rattle.leak_bound.specs.Relevant.{LevelsBelow, LevelsAre}
 use Rattle.leak_bound.specs.Sound.{IsCompiled}
 use Rattle.leak_bound.proofs.Tells.{Tells}
 
@@ -66,6 +65,16 @@ module _ (ms : ℕ → Marks) (ls : ℕ → ℕ) where
   labelled_levels (While w e c p) i n h = (labelled_levels c (i + 1) n h, labelled_levels p (i + 1 + count c) n h)
   labelled_levels (Mitigate w k l e c p) i n h = (h k, labelled_levels c (i + 1) n h, labelled_levels p (i + 1 + count c) n h)
 
+  labelled_told : (p : Plan) (i : ℕ) → LevelsAre ls (bare (labelled ms ls p i))
+  labelled_told Done i = tt
+  labelled_told (Skip w p) i = labelled_told p (i + 1)
+  labelled_told (Assign w x e p) i = labelled_told p (i + 1)
+  labelled_told (Put w f k j e p) i = labelled_told p (i + 1)
+  labelled_told (Sleep w e p) i = labelled_told p (i + 1)
+  labelled_told (If w e a b p) i = (labelled_told a (i + 1), labelled_told b (i + 1 + count a), labelled_told p (i + 1 + count a + count b))
+  labelled_told (While w e c p) i = (labelled_told c (i + 1), labelled_told p (i + 1 + count c))
+  labelled_told (Mitigate w k l e c p) i = (refl, labelled_told c (i + 1), labelled_told p (i + 1 + count c))
+
   -- a mitigate's program-counter label and its level, by its mark, tell whether it is relevant
   pub contexts_tell : (lat : Lattice) (g : ℕ → ℕ) (o : ℕ) (at : ℕ → ℕ) (pc : ℕ) (p : Plan) (i : ℕ) → HasContexts lat g at pc (bare (labelled ms ls p i)) →
       Tells lat g o (λ k. lat.flows (at k) o && not (lat.flows (ls k) o)) pc (bare (labelled ms ls p i))
@@ -84,13 +93,14 @@ module _ (ms : ℕ → Marks) (ls : ℕ → ℕ) where
 
 -- a labelling of a numbered program that types it, with the image of its code
 pub compiled : (p : LabelledProgram) (image : List Instr) → IsLattice (order_of p) → AreNumbered 0 (plan_of p.program) → IsLabelling p.program p.labels → HasType p → IsImage (order_of p) (labels_of p) image (bare_of p) →
-    IsCompiled p.program.order (labels_of p) image (bare_of p)
+    IsCompiled p.program.order (labels_of p) (levels_of p) image (bare_of p)
 compiled p image lattice numbered kept typed code =
     let ms = marks_of p.program.order p.labels in
     let ls = level_of p.program.order p.labels in
     record {
       lattice = lattice;
       levels = labelled_levels ms ls (plan_of p.program) 0 p.program.order.size kept.levels_below;
+      told = labelled_told ms ls (plan_of p.program) 0;
       marks = labelled_marks ms ls (plan_of p.program) 0 0 numbered;
       typed = typed;
       code = code;

@@ -37,6 +37,10 @@ image p = code_of two own p 0 ++ instr Halt (mark 0 0) ∷ []
 abbrev from : ℕ → Start ℕ
 from h = record { memory = pos 0 ∷ pos h ∷ []; env = 0 }
 
+-- each level is H
+abbrev all_high : ℕ → ℕ
+all_high k = 1
+
 -- mitigate (1, H) { while 0 < h do { h := h + -1 } }; l := 1
 abbrev waits : Marked
 waits =
@@ -49,13 +53,13 @@ waits_log : (run_from flat (image waits) 40 (from 3)).core.log
 waits_log = refl
 
 -- its one mitigate is relevant for label 0, not for label 1, and begins once
-waits_relevant : is_relevant two own 0 waits 0 ≡ true
+waits_relevant : is_relevant two own all_high 0 waits 0 ≡ true
 waits_relevant = refl
 
-waits_plain : is_relevant two own 1 waits 0 ≡ false
+waits_plain : is_relevant two own all_high 1 waits 0 ≡ false
 waits_plain = refl
 
-waits_begins : Begins two own 0 waits (pos 0 ∷ pos 3 ∷ []) 1
+waits_begins : Begins two own all_high 0 waits (pos 0 ∷ pos 3 ∷ []) 1
 waits_begins = (9, refl, refl)
 
 -- cut at 20 one run shows its assignment and the other none yet
@@ -65,7 +69,7 @@ cut_first = refl
 cut_second : seen_from flat two own (image waits) 0 20 (from 3) ≡ []
 cut_second = refl
 
-cut_ended : most_ended flat (image waits) (is_relevant two own 0 waits) 20 (from 0 ∷ from 3 ∷ []) ≡ 1
+cut_ended : most_ended flat (image waits) (is_relevant two own all_high 0 waits) 20 (from 0 ∷ from 3 ∷ []) ≡ 1
 cut_ended = refl
 
 cut_distinct : distinct_count same_events (views (seen_from flat two own (image waits) 0 20) (from 0 ∷ from 3 ∷ [])) ≡ 2

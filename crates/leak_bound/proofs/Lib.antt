@@ -19,3 +19,5 @@ pub mod Powers
 pub mod Same
 pub mod Examples
 pub mod Compiled
+pub mod Source
+pub mod Over

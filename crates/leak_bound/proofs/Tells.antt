@@ -9,9 +9,8 @@ use Rattle.mit_syntax.specs.MarkOrder.{MarksFrom}
 use Rattle.label_lattice.specs.Lattice.{Lattice}
 use Rattle.label_lattice.specs.Order.{count_not_below}
 use Rattle.timing_types.specs.Typing.{label_of}
-use Rattle.label_code.specs.Machine.{Event, Wrote, Began, Ended}
 use Rattle.leak_bound.specs.Records.{IsIn}
-use Rattle.leak_bound.specs.Relevant.{relevances, is_relevant, LevelsBelow}
+use Rattle.leak_bound.specs.Relevant.{relevances, is_relevant, LevelsBelow, LevelsAre}
 
 -- rel tells of each mark in the list, at pc, whether its mitigate's pc is low and its level is not
 abbrev pub Tells : Lattice → (ℕ → ℕ) → ℕ → (ℕ → Bool) → ℕ → Marked → Type 0
@@ -37,23 +36,23 @@ HasLevels lat o ls (If m e a b r) = HasLevels lat o ls a × HasLevels lat o ls b
 HasLevels lat o ls (While m e c r) = HasLevels lat o ls c × HasLevels lat o ls r
 HasLevels lat o ls (Mitigate m k l e c r) = (lat.flows l o ≡ false → IsIn l ls) × HasLevels lat o ls c × HasLevels lat o ls r
 
-length-relevances : (lat : Lattice) (g : ℕ → ℕ) (o pc : ℕ) (p : Marked) → length (relevances lat g o pc p) ≡ mitigates p
-length-relevances lat g o pc Done = refl
-length-relevances lat g o pc (Skip m r) = length-relevances lat g o pc r
-length-relevances lat g o pc (Assign m x e r) = length-relevances lat g o pc r
-length-relevances lat g o pc (Put m f n i e r) = length-relevances lat g o pc r
-length-relevances lat g o pc (Sleep m e r) = length-relevances lat g o pc r
-length-relevances lat g o pc (If m e a b r) =
+length-relevances : (lat : Lattice) (g ls : ℕ → ℕ) (o pc : ℕ) (p : Marked) → length (relevances lat g ls o pc p) ≡ mitigates p
+length-relevances lat g ls o pc Done = refl
+length-relevances lat g ls o pc (Skip m r) = length-relevances lat g ls o pc r
+length-relevances lat g ls o pc (Assign m x e r) = length-relevances lat g ls o pc r
+length-relevances lat g ls o pc (Put m f n i e r) = length-relevances lat g ls o pc r
+length-relevances lat g ls o pc (Sleep m e r) = length-relevances lat g ls o pc r
+length-relevances lat g ls o pc (If m e a b r) =
     let inner = lat.join pc (label_of lat g e) in
-    let fa = relevances lat g o inner a in
-    let fb = relevances lat g o inner b in
-    let fr = relevances lat g o pc r in
-    omega (arith, length-append fa (fb ++ fr), length-append fb fr, length-relevances lat g o inner a, length-relevances lat g o inner b, length-relevances lat g o pc r)
-length-relevances lat g o pc (While m e c r) =
+    let fa = relevances lat g ls o inner a in
+    let fb = relevances lat g ls o inner b in
+    let fr = relevances lat g ls o pc r in
+    omega (arith, length-append fa (fb ++ fr), length-append fb fr, length-relevances lat g ls o inner a, length-relevances lat g ls o inner b, length-relevances lat g ls o pc r)
+length-relevances lat g ls o pc (While m e c r) =
     let inner = lat.join pc (label_of lat g e) in
-    omega (arith, length-append (relevances lat g o inner c) (relevances lat g o pc r), length-relevances lat g o inner c, length-relevances lat g o pc r)
-length-relevances lat g o pc (Mitigate m k l e c r) =
-    omega (arith, length-append (relevances lat g o pc c) (relevances lat g o pc r), length-relevances lat g o pc c, length-relevances lat g o pc r)
+    omega (arith, length-append (relevances lat g ls o inner c) (relevances lat g ls o pc r), length-relevances lat g ls o inner c, length-relevances lat g ls o pc r)
+length-relevances lat g ls o pc (Mitigate m k l e c r) =
+    omega (arith, length-append (relevances lat g ls o pc c) (relevances lat g ls o pc r), length-relevances lat g ls o pc c, length-relevances lat g ls o pc r)
 
 -- these stand in the list from this place on
 abbrev StandsAt : List Bool → ℕ → List Bool → Type 0
@@ -75,38 +74,39 @@ whole pre (f ∷ fs) =
     let rest = subst (λ l. StandsAt l (length (pre ++ f ∷ [])) fs) (append_assoc pre (f ∷ []) fs) (whole (pre ++ f ∷ []) fs) in
     (get_or-append_seam pre f fs false, subst (λ m. StandsAt (pre ++ f ∷ fs) m fs) n rest)
 
-module _ (lat : Lattice) (g : ℕ → ℕ) (o : ℕ) (all : List Bool) where
-  tells_at : (p : Marked) (pc n : ℕ) → StandsAt all n (relevances lat g o pc p) → MarksFrom n p → Tells lat g o (λ k. get_or all k false) pc p
-  tells_at Done pc n f h = tt
-  tells_at (Skip m r) pc n f h = tells_at r pc n f h
-  tells_at (Assign m x e r) pc n f h = tells_at r pc n f h
-  tells_at (Put m b k i e r) pc n f h = tells_at r pc n f h
-  tells_at (Sleep m e r) pc n f h = tells_at r pc n f h
-  tells_at (If m e a b r) pc n f h =
+module _ (lat : Lattice) (g ls : ℕ → ℕ) (o : ℕ) (all : List Bool) where
+  tells_at : (p : Marked) (pc n : ℕ) → StandsAt all n (relevances lat g ls o pc p) → MarksFrom n p → LevelsAre ls p → Tells lat g o (λ k. get_or all k false) pc p
+  tells_at Done pc n f h v = tt
+  tells_at (Skip m r) pc n f h v = tells_at r pc n f h v
+  tells_at (Assign m x e r) pc n f h v = tells_at r pc n f h v
+  tells_at (Put m b k i e r) pc n f h v = tells_at r pc n f h v
+  tells_at (Sleep m e r) pc n f h v = tells_at r pc n f h v
+  tells_at (If m e a b r) pc n f h v =
       let inner = lat.join pc (label_of lat g e) in
-      let fa = relevances lat g o inner a in
-      let fb = relevances lat g o inner b in
-      let x = back all n (mitigates a) fa (fb ++ relevances lat g o pc r) (length-relevances lat g o inner a) f in (
-        tells_at a inner n (front all n fa (fb ++ relevances lat g o pc r) f) h.0,
-        tells_at b inner (n + mitigates a) (front all (n + mitigates a) fb (relevances lat g o pc r) x) h.1,
-        tells_at r pc (n + mitigates a + mitigates b) (back all (n + mitigates a) (mitigates b) fb (relevances lat g o pc r) (length-relevances lat g o inner b) x) h.2,
+      let fa = relevances lat g ls o inner a in
+      let fb = relevances lat g ls o inner b in
+      let x = back all n (mitigates a) fa (fb ++ relevances lat g ls o pc r) (length-relevances lat g ls o inner a) f in (
+        tells_at a inner n (front all n fa (fb ++ relevances lat g ls o pc r) f) h.0 v.0,
+        tells_at b inner (n + mitigates a) (front all (n + mitigates a) fb (relevances lat g ls o pc r) x) h.1 v.1,
+        tells_at r pc (n + mitigates a + mitigates b) (back all (n + mitigates a) (mitigates b) fb (relevances lat g ls o pc r) (length-relevances lat g ls o inner b) x) h.2 v.2,
       )
-  tells_at (While m e c r) pc n f h =
+  tells_at (While m e c r) pc n f h v =
       let inner = lat.join pc (label_of lat g e) in
-      let fc = relevances lat g o inner c in (
-        tells_at c inner n (front all n fc (relevances lat g o pc r) f) h.0,
-        tells_at r pc (n + mitigates c) (back all n (mitigates c) fc (relevances lat g o pc r) (length-relevances lat g o inner c) f) h.1,
+      let fc = relevances lat g ls o inner c in (
+        tells_at c inner n (front all n fc (relevances lat g ls o pc r) f) h.0 v.0,
+        tells_at r pc (n + mitigates c) (back all n (mitigates c) fc (relevances lat g ls o pc r) (length-relevances lat g ls o inner c) f) h.1 v.1,
       )
-  tells_at (Mitigate m k l e c r) pc n f h =
-      let fc = relevances lat g o pc c in (
-        subst (λ z. get_or all z false ≡ (lat.flows pc o && not (lat.flows l o))) (sym h.0) f.0,
-        tells_at c pc (n + 1) (front all (n + 1) fc (relevances lat g o pc r) f.1) h.1,
-        tells_at r pc (n + 1 + mitigates c) (back all (n + 1) (mitigates c) fc (relevances lat g o pc r) (length-relevances lat g o pc c) f.1) h.2,
+  tells_at (Mitigate m k l e c r) pc n f h v =
+      let fc = relevances lat g ls o pc c in
+      let here : get_or all n false ≡ (lat.flows pc o && not (lat.flows l o)) = f.0 ∙ ap (λ z. lat.flows pc o && not (lat.flows z o)) (sym v.0) in (
+        subst (λ z. get_or all z false ≡ (lat.flows pc o && not (lat.flows l o))) (sym h.0) here,
+        tells_at c pc (n + 1) (front all (n + 1) fc (relevances lat g ls o pc r) f.1) h.1 v.1,
+        tells_at r pc (n + 1 + mitigates c) (back all (n + 1) (mitigates c) fc (relevances lat g ls o pc r) (length-relevances lat g ls o pc c) f.1) h.2 v.2,
       )
 
 -- the relevances of a numbered program tell of its marks
-pub tells_relevant : (lat : Lattice) (g : ℕ → ℕ) (o : ℕ) (p : Marked) → MarksFrom 0 p → Tells lat g o (is_relevant lat g o p) lat.bottom p
-tells_relevant lat g o p h = tells_at lat g o (relevances lat g o lat.bottom p) p lat.bottom 0 (whole [] (relevances lat g o lat.bottom p)) h
+pub tells_relevant : (lat : Lattice) (g ls : ℕ → ℕ) (o : ℕ) (p : Marked) → MarksFrom 0 p → LevelsAre ls p → Tells lat g o (is_relevant lat g ls o p) lat.bottom p
+tells_relevant lat g ls o p h v = tells_at lat g ls o (relevances lat g ls o lat.bottom p) p lat.bottom 0 (whole [] (relevances lat g ls o lat.bottom p)) h v
 
 -- the labels below n that do not flow to the observer
 abbrev pub others : Lattice → ℕ → ℕ → List ℕ

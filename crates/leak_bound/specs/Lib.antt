@@ -2,3 +2,5 @@ pub mod Records
 pub mod Relevant
 pub mod Digits
 pub mod Sound
+pub mod Source
+pub mod Over

@@ -1,6 +1,11 @@
 //! The theorem on timed observations, as contracts of functions that do nothing.
 
+ghost use Rattle.std.specs.Prelude.{IsTrue, Bool};
+ghost use Rattle.label_lattice.specs.Order.{Order};
+ghost use Rattle.env_contract.specs.Env.{Env};
 ghost use Rattle.leak_bound.specs.Sound.{SoundAll, ShowsOneAll, CutSoundAll};
+ghost use Rattle.leak_bound.specs.Source.{LabelsKeepCounts, LoweredSoundAll, LoweredShowsOneAll, LoweredCutSoundAll};
+ghost use Rattle.leak_bound.specs.Over.{KeepsLaws, SoundOver, ShowsOneOver, CutSoundOver};
 
 use env_contract::env::MachineEnv;
 use env_contract::flat::FlatEnv;
@@ -22,7 +27,19 @@ pub fn few_sequences<E: MachineEnv>()
     ensures cut { CutSoundAll (record { cost_of = E.cost_of; next_of = E.next_of; part = E.part }) E.serves }
 {}
 
-/// The same in the flat environment.
+/// The same of every environment, run by the machine or not, whose states are values of a type: where it keeps
+/// the laws in the states that pass a test, every accepted program is sound in it. There may be another
+/// environment for each lattice.
+pub fn few_sequences_of_lawful<S>()
+    ensures halted { (v : Order → Env S) (test : Order → S → Bool) → KeepsLaws v (λ order e. IsTrue (test order e))
+        → SoundOver v (λ order e. IsTrue (test order e)) }
+    ensures quiet { (v : Order → Env S) (test : Order → S → Bool) → KeepsLaws v (λ order e. IsTrue (test order e))
+        → ShowsOneOver v (λ order e. IsTrue (test order e)) }
+    ensures cut { (v : Order → Env S) (test : Order → S → Bool) → KeepsLaws v (λ order e. IsTrue (test order e))
+        → CutSoundOver v (λ order e. IsTrue (test order e)) }
+{}
+
+/// What `few_sequences` says, in the flat environment.
 pub fn few_sequences_flat()
     ensures halted { SoundAll
         (record {
@@ -48,3 +65,18 @@ pub fn few_sequences_flat()
 {
     few_sequences::<FlatEnv>();
 }
+
+/// The labels of a program change nothing of what is counted: the same mitigates are relevant in the program that
+/// was labelled, and from each memory as many of them begin until it ends.
+pub fn labels_keep_counts()
+    ensures { LabelsKeepCounts }
+{}
+
+/// The theorem for the image that `lower` makes of a labelled program. Its source is the program that was read,
+/// without its labels: what the image does, in its order, and how many relevant mitigates begin, are said of that
+/// one.
+pub fn lowered_few_sequences<E: MachineEnv>()
+    ensures halted { LoweredSoundAll (record { cost_of = E.cost_of; next_of = E.next_of; part = E.part }) E.serves }
+    ensures quiet { LoweredShowsOneAll (record { cost_of = E.cost_of; next_of = E.next_of; part = E.part }) E.serves }
+    ensures cut { LoweredCutSoundAll (record { cost_of = E.cost_of; next_of = E.next_of; part = E.part }) E.serves }
+{}

@@ -37,6 +37,10 @@ map_todo f g (If m e a b p) = If (f m) e (map_todo f g a) (map_todo f g b) (map_
 map_todo f g (While m e c p) = While (f m) e (map_todo f g c) (map_todo f g p)
 map_todo f g (Mitigate m k l e c p) = Mitigate (f m) k (g l) e (map_todo f g c) (map_todo f g p)
 
+-- the commands alone, without marks and levels
+abbrev pub commands_of : {M L : Type 0} → Todo M L → Todo (Unit {0}) (Unit {0})
+commands_of p = map_todo (λ _. tt) (λ _. tt) p
+
 -- read label and write label
 pub record Marks : Type 0 where
   pub er : ℕ

@@ -9,8 +9,8 @@ use Rattle.parse_laws.proofs.Meant.{program_order}
 use Rattle.timing_types.specs.Labelled.{LabelledProgram}
 use Rattle.label_code.specs.Shaped.{Code}
 use Rattle.code_lower.specs.Lowered.{lowered}
-use Rattle.part_tlb.specs.Envs.{part_structure, part2_structure}
-use Rattle.part_tlb.specs.Structures.{IsMadeFor}
+use Rattle.part_tlb.specs.Histories.{part_by_history, part2_by_history}
+use Rattle.history_bound.specs.Over.{AnyHistory, history_made}
 use Rattle.start_file.specs.Starts.{StartValue}
 use Rattle.event_print.specs.declared.end.RunEnd.{RunEnd}
 use Rattle.event_print.specs.declared.end.RunEnd.TheVariants.{Halted, Limit}
@@ -28,7 +28,7 @@ use Rattle.mit_tool.specs.declared.words.EnvName.TheVariants.{Flat, Part, Part2}
 use Rattle.mit_tool.specs.WordsAsked.{Asked, check, infer, compile, run, meaning, audit, gen, cut, blackbox, certify, recheck, IsInRange}
 use Rattle.mit_tool.specs.Reports.{audit_lines, cut_lines, made_lines}
 use Rattle.mit_tool.specs.Stages.{Then, ProgramStops, Reads, ObserverStops, Observes, TypeStops, Types, ImageStops, HasImage, StartStops, StartsAre, FirstStops, FirstStart}
-use Rattle.mit_tool.specs.Envs.{flat_env, part_env, part2_env, flat_made, part_made, part2_made, AuditFaultsIn, CutFaultsIn, told_in}
+use Rattle.mit_tool.specs.Envs.{flat_env, flat_made, AuditFaultsIn, CutFaultsIn, told_in}
 use Rattle.mit_tool.specs.Audited.{AuditStops, Audits, HasAudited, CutStops, Cuts, HasCut, HoldsRuns, ReadyStops, HasReleased}
 use Rattle.mit_tool.specs.Answers.{Content, Compiles, Prepares, HasChecked, HasInferred, HasListed, HasRun, status_at, IsAnswer, Before}
 use Rattle.mit_tool.specs.Ends.{EndsBy}
@@ -78,13 +78,13 @@ halted_done (Limit c) h = absurd h
 
 halt_in : (e : EnvName) (t : ℕ) (q : LabelledProgram) (o : Label) (ss : List StartValue) (f : AuditFault) → CanBeAudited e t q o.number ss → AuditFaultsIn e q o.number t ss f → f ≡ fault.Memory
 halt_in Flat t q o ss f k h = no_audit_fault flat_env (λ order e. Unit {0}) q o.number t (starts_of flat_made q.program.order ss) f k.cut.agree (all_halt flat_env flat_made q t ss k.halt) k.cut.few h
-halt_in Part t q o ss f k h = no_audit_fault part_env (IsMadeFor part_structure) q o.number t (starts_of part_made q.program.order ss) f k.cut.agree (all_halt part_env part_made q t ss k.halt) k.cut.few h
-halt_in Part2 t q o ss f k h = no_audit_fault part2_env (IsMadeFor part2_structure) q o.number t (starts_of part2_made q.program.order ss) f k.cut.agree (all_halt part2_env part2_made q t ss k.halt) k.cut.few h
+halt_in Part t q o ss f k h = no_audit_fault (part_by_history q.program.order) AnyHistory q o.number t (starts_of history_made q.program.order ss) f k.cut.agree (all_halt (part_by_history q.program.order) history_made q t ss k.halt) k.cut.few h
+halt_in Part2 t q o ss f k h = no_audit_fault (part2_by_history q.program.order) AnyHistory q o.number t (starts_of history_made q.program.order ss) f k.cut.agree (all_halt (part2_by_history q.program.order) history_made q t ss k.halt) k.cut.few h
 
 cut_in : (e : EnvName) (t : ℕ) (q : LabelledProgram) (o : Label) (ss : List StartValue) (f : CutFault) → CanCut e t q o.number ss → CutFaultsIn e q o.number t ss f → f ≡ cut_fault.Memory
 cut_in Flat t q o ss f k h = no_cut_fault flat_env (λ order e. Unit {0}) q o.number t (starts_of flat_made q.program.order ss) f k.agree k.few h
-cut_in Part t q o ss f k h = no_cut_fault part_env (IsMadeFor part_structure) q o.number t (starts_of part_made q.program.order ss) f k.agree k.few h
-cut_in Part2 t q o ss f k h = no_cut_fault part2_env (IsMadeFor part2_structure) q o.number t (starts_of part2_made q.program.order ss) f k.agree k.few h
+cut_in Part t q o ss f k h = no_cut_fault (part_by_history q.program.order) AnyHistory q o.number t (starts_of history_made q.program.order ss) f k.agree k.few h
+cut_in Part2 t q o ss f k h = no_cut_fault (part2_by_history q.program.order) AnyHistory q o.number t (starts_of history_made q.program.order ss) f k.agree k.few h
 
 audit_goes : (e : EnvName) (t : ℕ) (q : LabelledProgram) (o : Label) (ss : List StartValue) (s : Status) (x : List ℕ) → CanBeAudited e t q o.number ss → AuditStops e t q o ss s x → ⊥
 audit_goes e t q o ss s x k h = let stop = audit_stops e t q o ss s x h in stop.none (halt_in e t q o ss stop.fault k stop.is)

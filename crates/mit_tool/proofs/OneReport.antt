@@ -5,8 +5,8 @@ use Rattle.label_lattice.specs.declared.label.Label.{Label}
 use Rattle.label_lattice.specs.Order.{Order}
 use Rattle.mit_syntax.specs.Program.{Syntax}
 use Rattle.timing_types.specs.Labelled.{LabelledProgram}
-use Rattle.part_tlb.specs.Envs.{part_structure, part2_structure}
-use Rattle.part_tlb.specs.Structures.{IsMadeFor}
+use Rattle.part_tlb.specs.Histories.{part_by_history, part2_by_history}
+use Rattle.history_bound.specs.Over.{AnyHistory, history_made}
 use Rattle.start_file.specs.Starts.{StartValue}
 use Rattle.audit_parts.specs.Agreement.{starts_of}
 use Rattle.leak_audit.specs.declared.report.AuditReport.{AuditReport}
@@ -26,7 +26,7 @@ use Rattle.mit_tool.specs.declared.words.EnvName.{EnvName}
 use Rattle.mit_tool.specs.declared.words.EnvName.TheVariants.{Flat, Part, Part2}
 use Rattle.mit_tool.specs.Texts.{number_line}
 use Rattle.mit_tool.specs.Reports.{head_lines, tail_lines, audit_lines, cut_lines, disagree_line, unfinished_line, events_line, box_lines}
-use Rattle.mit_tool.specs.Envs.{flat_env, part_env, part2_env, flat_made, part_made, part2_made, ReportsIn, AuditFaultsIn, CutReportsIn, CutFaultsIn}
+use Rattle.mit_tool.specs.Envs.{flat_env, flat_made, ReportsIn, AuditFaultsIn, CutReportsIn, CutFaultsIn}
 use Rattle.mit_tool.specs.Audited.{AuditStops, HasAudited, CutStops, HasCut, HasReleased}
 use Rattle.mit_tool.proofs.OneLemmas.{Same}
 
@@ -34,33 +34,33 @@ use Rattle.mit_tool.proofs.OneLemmas.{Same}
 
 same_report : (e : EnvName) (q : LabelledProgram) (o t : ℕ) (ss : List StartValue) (r s : AuditReport) → ReportsIn e q o t ss r → ReportsIn e q o t ss s → SameReport r s
 same_report Flat q o t ss r s h k = audit.same_report flat_env (λ order e. Unit {0}) q o t (starts_of flat_made q.program.order ss) r s h k
-same_report Part q o t ss r s h k = audit.same_report part_env (IsMadeFor part_structure) q o t (starts_of part_made q.program.order ss) r s h k
-same_report Part2 q o t ss r s h k = audit.same_report part2_env (IsMadeFor part2_structure) q o t (starts_of part2_made q.program.order ss) r s h k
+same_report Part q o t ss r s h k = audit.same_report (part_by_history q.program.order) AnyHistory q o t (starts_of history_made q.program.order ss) r s h k
+same_report Part2 q o t ss r s h k = audit.same_report (part2_by_history q.program.order) AnyHistory q o t (starts_of history_made q.program.order ss) r s h k
 
 same_fault : (e : EnvName) (q : LabelledProgram) (o t : ℕ) (ss : List StartValue) (f g : AuditFault) → AuditFaultsIn e q o t ss f → AuditFaultsIn e q o t ss g → f ≢ audit_fault.Memory → g ≢ audit_fault.Memory → f ≡ g
 same_fault Flat q o t ss f g h k n m = audit.same_fault flat_env (λ order e. Unit {0}) q o t (starts_of flat_made q.program.order ss) f g h k n m
-same_fault Part q o t ss f g h k n m = audit.same_fault part_env (IsMadeFor part_structure) q o t (starts_of part_made q.program.order ss) f g h k n m
-same_fault Part2 q o t ss f g h k n m = audit.same_fault part2_env (IsMadeFor part2_structure) q o t (starts_of part2_made q.program.order ss) f g h k n m
+same_fault Part q o t ss f g h k n m = audit.same_fault (part_by_history q.program.order) AnyHistory q o t (starts_of history_made q.program.order ss) f g h k n m
+same_fault Part2 q o t ss f g h k n m = audit.same_fault (part2_by_history q.program.order) AnyHistory q o t (starts_of history_made q.program.order ss) f g h k n m
 
 not_fault : (e : EnvName) (q : LabelledProgram) (o t : ℕ) (ss : List StartValue) (r : AuditReport) (f : AuditFault) → ReportsIn e q o t ss r → AuditFaultsIn e q o t ss f → f ≡ audit_fault.Memory
 not_fault Flat q o t ss r f h k = audit.not_fault flat_env (λ order e. Unit {0}) q o t (starts_of flat_made q.program.order ss) r f h k
-not_fault Part q o t ss r f h k = audit.not_fault part_env (IsMadeFor part_structure) q o t (starts_of part_made q.program.order ss) r f h k
-not_fault Part2 q o t ss r f h k = audit.not_fault part2_env (IsMadeFor part2_structure) q o t (starts_of part2_made q.program.order ss) r f h k
+not_fault Part q o t ss r f h k = audit.not_fault (part_by_history q.program.order) AnyHistory q o t (starts_of history_made q.program.order ss) r f h k
+not_fault Part2 q o t ss r f h k = audit.not_fault (part2_by_history q.program.order) AnyHistory q o t (starts_of history_made q.program.order ss) r f h k
 
 same_cut : (e : EnvName) (q : LabelledProgram) (o t : ℕ) (ss : List StartValue) (r s : CutReport) → CutReportsIn e q o t ss r → CutReportsIn e q o t ss s → SameCut r s
 same_cut Flat q o t ss r s h k = cut.same_report flat_env (λ order e. Unit {0}) q o t (starts_of flat_made q.program.order ss) r s h k
-same_cut Part q o t ss r s h k = cut.same_report part_env (IsMadeFor part_structure) q o t (starts_of part_made q.program.order ss) r s h k
-same_cut Part2 q o t ss r s h k = cut.same_report part2_env (IsMadeFor part2_structure) q o t (starts_of part2_made q.program.order ss) r s h k
+same_cut Part q o t ss r s h k = cut.same_report (part_by_history q.program.order) AnyHistory q o t (starts_of history_made q.program.order ss) r s h k
+same_cut Part2 q o t ss r s h k = cut.same_report (part2_by_history q.program.order) AnyHistory q o t (starts_of history_made q.program.order ss) r s h k
 
 same_cut_fault : (e : EnvName) (q : LabelledProgram) (o t : ℕ) (ss : List StartValue) (f g : CutFault) → CutFaultsIn e q o t ss f → CutFaultsIn e q o t ss g → f ≢ cut_fault.Memory → g ≢ cut_fault.Memory → f ≡ g
 same_cut_fault Flat q o t ss f g h k n m = cut.same_fault flat_env (λ order e. Unit {0}) q o t (starts_of flat_made q.program.order ss) f g h k n m
-same_cut_fault Part q o t ss f g h k n m = cut.same_fault part_env (IsMadeFor part_structure) q o t (starts_of part_made q.program.order ss) f g h k n m
-same_cut_fault Part2 q o t ss f g h k n m = cut.same_fault part2_env (IsMadeFor part2_structure) q o t (starts_of part2_made q.program.order ss) f g h k n m
+same_cut_fault Part q o t ss f g h k n m = cut.same_fault (part_by_history q.program.order) AnyHistory q o t (starts_of history_made q.program.order ss) f g h k n m
+same_cut_fault Part2 q o t ss f g h k n m = cut.same_fault (part2_by_history q.program.order) AnyHistory q o t (starts_of history_made q.program.order ss) f g h k n m
 
 not_cut_fault : (e : EnvName) (q : LabelledProgram) (o t : ℕ) (ss : List StartValue) (r : CutReport) (f : CutFault) → CutReportsIn e q o t ss r → CutFaultsIn e q o t ss f → f ≡ cut_fault.Memory
 not_cut_fault Flat q o t ss r f h k = cut.not_fault flat_env (λ order e. Unit {0}) q o t (starts_of flat_made q.program.order ss) r f h k
-not_cut_fault Part q o t ss r f h k = cut.not_fault part_env (IsMadeFor part_structure) q o t (starts_of part_made q.program.order ss) r f h k
-not_cut_fault Part2 q o t ss r f h k = cut.not_fault part2_env (IsMadeFor part2_structure) q o t (starts_of part2_made q.program.order ss) r f h k
+not_cut_fault Part q o t ss r f h k = cut.not_fault (part_by_history q.program.order) AnyHistory q o t (starts_of history_made q.program.order ss) r f h k
+not_cut_fault Part2 q o t ss r f h k = cut.not_fault (part2_by_history q.program.order) AnyHistory q o t (starts_of history_made q.program.order ss) r f h k
 
 -- ---- their lines
 

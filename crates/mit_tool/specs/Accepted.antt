@@ -2,26 +2,27 @@
 use Rattle.std.specs.Prelude.{ℕ, List, Option}
 use Rattle.env_contract.specs.Env.{Env}
 use Rattle.label_lattice.specs.Order.{Order}
-use Rattle.mit_syntax.specs.Program.{Syntax}
+use Rattle.mit_syntax.specs.Program.{Syntax, plan_of}
 use Rattle.mit_syntax.specs.Valid.{IsValid}
-use Rattle.timing_types.specs.Labelled.{LabelledProgram, labels_of, bare_of}
+use Rattle.timing_types.specs.Labelled.{LabelledProgram, labels_of, levels_of}
 use Rattle.code_lower.specs.Lowered.{lowered}
-use Rattle.part_tlb.specs.Structures.{IsMadeFor}
-use Rattle.part_tlb.specs.Envs.{part_structure, part2_structure}
+use Rattle.part_tlb.specs.Histories.{part_by_history, part2_by_history}
+use Rattle.history_bound.specs.Over.{AnyHistory}
 use Rattle.leak_bound.specs.Sound.{Sound, CutSound}
 use Rattle.mit_tool.specs.Stages.{Reads, Types}
-use Rattle.mit_tool.specs.Envs.{flat_env, part_env, part2_env}
+use Rattle.mit_tool.specs.Envs.{flat_env}
 
--- the image of a labelled program is sound in an environment, for runs that halt and for runs that are cut
+-- The image of a labelled program is sound in an environment, for runs that halt and for runs that are cut. Its
+-- source is the program that is labelled, without its labels.
 pub record IsSoundIn {E : Type 0} (v : Env E) (serves : Order → E → Type 0) (q : LabelledProgram) : Type 0 where
-  pub halted : Sound v q.program.order (serves q.program.order) (labels_of q) (lowered q).instrs (bare_of q)
-  pub cut : CutSound v q.program.order (serves q.program.order) (labels_of q) (lowered q).instrs (bare_of q)
+  pub halted : Sound v q.program.order (serves q.program.order) (labels_of q) (levels_of q) (lowered q).instrs (plan_of q.program)
+  pub cut : CutSound v q.program.order (serves q.program.order) (labels_of q) (levels_of q) (lowered q).instrs (plan_of q.program)
 
 -- it is in each environment that `--env` names
 pub record IsSound (q : LabelledProgram) : Type 0 where
   pub flat : IsSoundIn flat_env (λ order e. Unit {0}) q
-  pub part : IsSoundIn part_env (IsMadeFor part_structure) q
-  pub part2 : IsSoundIn part2_env (IsMadeFor part2_structure) q
+  pub part : IsSoundIn (part_by_history q.program.order) AnyHistory q
+  pub part2 : IsSoundIn (part2_by_history q.program.order) AnyHistory q
 
 -- every program is sound with the least labelling that types it
 abbrev pub AcceptedAreSound : Type 0

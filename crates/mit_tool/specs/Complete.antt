@@ -13,8 +13,8 @@ use Rattle.leak_bound.specs.Records.{Pairwise}
 use Rattle.audit_parts.specs.declared.survey.TheConstants.{MAX_SHOWN}
 use Rattle.audit_parts.specs.Agreement.{AgreeFor, starts_of}
 use Rattle.audit_parts.specs.Surveyed.{shown_by_all}
-use Rattle.part_tlb.specs.Envs.{part_structure, part2_structure}
-use Rattle.part_tlb.specs.Structures.{IsMadeFor}
+use Rattle.part_tlb.specs.Histories.{part_by_history, part2_by_history}
+use Rattle.history_bound.specs.Over.{AnyHistory, history_made}
 use Rattle.start_file.specs.Starts.{StartValue}
 use Rattle.event_print.specs.declared.end.RunEnd.{RunEnd}
 use Rattle.event_print.specs.declared.end.RunEnd.TheVariants.{Halted, Limit}
@@ -24,7 +24,7 @@ use Rattle.mit_tool.specs.declared.words.EnvName.{EnvName}
 use Rattle.mit_tool.specs.declared.words.EnvName.TheVariants.{Flat, Part, Part2}
 use Rattle.mit_tool.specs.WordsAsked.{Asked, check, infer, compile, run, meaning, audit, gen, cut, blackbox, certify, recheck}
 use Rattle.mit_tool.specs.Stages.{Reads, Observes, Types, StartsAre, FirstStart}
-use Rattle.mit_tool.specs.Envs.{flat_env, part_env, part2_env, flat_made, part_made, part2_made, told_in}
+use Rattle.mit_tool.specs.Envs.{flat_env, flat_made, told_in}
 use Rattle.mit_tool.specs.Answers.{Content, made_content}
 
 -- ---- files
@@ -88,14 +88,14 @@ HaltsBy e t q s = IsHalted (told_in e q.program.order (lowered q) s t).end
 -- the starts agree pairwise for an observer
 abbrev pub AgreeIn : EnvName → LabelledProgram → ℕ → List StartValue → Type 0
 AgreeIn Flat q o ss = Pairwise (AgreeFor flat_env (λ order e. Unit {0}) q o) (starts_of flat_made q.program.order ss)
-AgreeIn Part q o ss = Pairwise (AgreeFor part_env (IsMadeFor part_structure) q o) (starts_of part_made q.program.order ss)
-AgreeIn Part2 q o ss = Pairwise (AgreeFor part2_env (IsMadeFor part2_structure) q o) (starts_of part2_made q.program.order ss)
+AgreeIn Part q o ss = Pairwise (AgreeFor (part_by_history q.program.order) AnyHistory q o) (starts_of history_made q.program.order ss)
+AgreeIn Part2 q o ss = Pairwise (AgreeFor (part2_by_history q.program.order) AnyHistory q o) (starts_of history_made q.program.order ss)
 
 -- how many assignments the runs to T show to the observer
 abbrev pub shown_in : EnvName → LabelledProgram → ℕ → ℕ → List StartValue → ℕ
 shown_in Flat q o t ss = shown_by_all flat_env q o t (starts_of flat_made q.program.order ss)
-shown_in Part q o t ss = shown_by_all part_env q o t (starts_of part_made q.program.order ss)
-shown_in Part2 q o t ss = shown_by_all part2_env q o t (starts_of part2_made q.program.order ss)
+shown_in Part q o t ss = shown_by_all (part_by_history q.program.order) q o t (starts_of history_made q.program.order ss)
+shown_in Part2 q o t ss = shown_by_all (part2_by_history q.program.order) q o t (starts_of history_made q.program.order ss)
 
 -- they agree, and show few enough
 pub record CanCut (e : EnvName) (t : ℕ) (q : LabelledProgram) (o : ℕ) (ss : List StartValue) : Type 0 where

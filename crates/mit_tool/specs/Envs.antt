@@ -17,10 +17,8 @@ use Rattle.leak_audit.specs.Report.{IsReport, IsAuditFault}
 use Rattle.cut_audit.specs.declared.report.CutReport.{CutReport}
 use Rattle.cut_audit.specs.declared.report.CutFault.{CutFault}
 use Rattle.cut_audit.specs.Report.{IsReport as IsCutReport, IsCutFault}
-use Rattle.part_tlb.specs.Envs.{part_structure, part_touched, part_penalty, part_after, empty_part, part2_structure, part2_touched, part2_penalty, part2_after, empty_part2}
-use Rattle.part_tlb.specs.Structures.{IsMadeFor, part_at, warmed}
-use Rattle.part_tlb.specs.declared.part.PartEnv.{PartEnv}
-use Rattle.part_tlb.specs.declared.part2.Part2Env.{Part2Env}
+use Rattle.part_tlb.specs.Histories.{history_of, part_by_history, part2_by_history}
+use Rattle.history_bound.specs.Over.{AnyHistory, history_made}
 use Rattle.mit_tool.specs.declared.words.EnvName.{EnvName}
 use Rattle.mit_tool.specs.declared.words.EnvName.TheVariants.{Flat, Part, Part2}
 
@@ -28,46 +26,35 @@ use Rattle.mit_tool.specs.declared.words.EnvName.TheVariants.{Flat, Part, Part2}
 abbrev pub flat_env : Env FlatEnv
 flat_env = record { cost_of = λ k a er ew e. 0; next_of = λ k a er ew e. e; part = λ q l e. [] }
 
-abbrev pub part_env : Env PartEnv
-part_env = record { cost_of = part_penalty; next_of = part_after; part = part_at part_structure }
-
-abbrev pub part2_env : Env Part2Env
-part2_env = record { cost_of = part2_penalty; next_of = part2_after; part = part_at part2_structure }
-
--- the environments that touches make for a lattice
+-- the one that touches make
 abbrev pub flat_made : Order → List Touch → FlatEnv
 flat_made o touches = record {}
 
-abbrev pub part_made : Order → List Touch → PartEnv
-part_made o touches = warmed part_touched (empty_part o) touches
-
-abbrev pub part2_made : Order → List Touch → Part2Env
-part2_made o touches = warmed part2_touched (empty_part2 o) touches
-
--- what the run of an image from a start tells up to T
+-- What the run of an image from a start tells up to T. With caches, a look back into the history of touches says
+-- what an access costs.
 abbrev pub told_in : EnvName → Order → Code → StartValue → ℕ → Told
 told_in Flat o code s t = told_by (run_from flat_env code.instrs t (record { memory = s.memory; env = record {} }))
-told_in Part o code s t = told_by (run_from part_env code.instrs t (record { memory = s.memory; env = warmed part_touched (empty_part o) s.touches }))
-told_in Part2 o code s t = told_by (run_from part2_env code.instrs t (record { memory = s.memory; env = warmed part2_touched (empty_part2 o) s.touches }))
+told_in Part o code s t = told_by (run_from (part_by_history o) code.instrs t (record { memory = s.memory; env = history_of s.touches }))
+told_in Part2 o code s t = told_by (run_from (part2_by_history o) code.instrs t (record { memory = s.memory; env = history_of s.touches }))
 
 -- what an audit up to T reports to an observer of the runs from starts, and why it may not
 abbrev pub ReportsIn : EnvName → LabelledProgram → ℕ → ℕ → List StartValue → AuditReport → Type 0
 ReportsIn Flat q o t ss = IsReport flat_env (λ order e. Unit {0}) q o t (starts_of flat_made q.program.order ss)
-ReportsIn Part q o t ss = IsReport part_env (IsMadeFor part_structure) q o t (starts_of part_made q.program.order ss)
-ReportsIn Part2 q o t ss = IsReport part2_env (IsMadeFor part2_structure) q o t (starts_of part2_made q.program.order ss)
+ReportsIn Part q o t ss = IsReport (part_by_history q.program.order) AnyHistory q o t (starts_of history_made q.program.order ss)
+ReportsIn Part2 q o t ss = IsReport (part2_by_history q.program.order) AnyHistory q o t (starts_of history_made q.program.order ss)
 
 abbrev pub AuditFaultsIn : EnvName → LabelledProgram → ℕ → ℕ → List StartValue → AuditFault → Type 0
 AuditFaultsIn Flat q o t ss = IsAuditFault flat_env (λ order e. Unit {0}) q o t (starts_of flat_made q.program.order ss)
-AuditFaultsIn Part q o t ss = IsAuditFault part_env (IsMadeFor part_structure) q o t (starts_of part_made q.program.order ss)
-AuditFaultsIn Part2 q o t ss = IsAuditFault part2_env (IsMadeFor part2_structure) q o t (starts_of part2_made q.program.order ss)
+AuditFaultsIn Part q o t ss = IsAuditFault (part_by_history q.program.order) AnyHistory q o t (starts_of history_made q.program.order ss)
+AuditFaultsIn Part2 q o t ss = IsAuditFault (part2_by_history q.program.order) AnyHistory q o t (starts_of history_made q.program.order ss)
 
 -- the same of runs that may not have halted
 abbrev pub CutReportsIn : EnvName → LabelledProgram → ℕ → ℕ → List StartValue → CutReport → Type 0
 CutReportsIn Flat q o t ss = IsCutReport flat_env (λ order e. Unit {0}) q o t (starts_of flat_made q.program.order ss)
-CutReportsIn Part q o t ss = IsCutReport part_env (IsMadeFor part_structure) q o t (starts_of part_made q.program.order ss)
-CutReportsIn Part2 q o t ss = IsCutReport part2_env (IsMadeFor part2_structure) q o t (starts_of part2_made q.program.order ss)
+CutReportsIn Part q o t ss = IsCutReport (part_by_history q.program.order) AnyHistory q o t (starts_of history_made q.program.order ss)
+CutReportsIn Part2 q o t ss = IsCutReport (part2_by_history q.program.order) AnyHistory q o t (starts_of history_made q.program.order ss)
 
 abbrev pub CutFaultsIn : EnvName → LabelledProgram → ℕ → ℕ → List StartValue → CutFault → Type 0
 CutFaultsIn Flat q o t ss = IsCutFault flat_env (λ order e. Unit {0}) q o t (starts_of flat_made q.program.order ss)
-CutFaultsIn Part q o t ss = IsCutFault part_env (IsMadeFor part_structure) q o t (starts_of part_made q.program.order ss)
-CutFaultsIn Part2 q o t ss = IsCutFault part2_env (IsMadeFor part2_structure) q o t (starts_of part2_made q.program.order ss)
+CutFaultsIn Part q o t ss = IsCutFault (part_by_history q.program.order) AnyHistory q o t (starts_of history_made q.program.order ss)
+CutFaultsIn Part2 q o t ss = IsCutFault (part2_by_history q.program.order) AnyHistory q o t (starts_of history_made q.program.order ss)

@@ -7,3 +7,4 @@ pub mod Stacks
 pub mod Begins
 pub mod Exact
 pub mod Steps
+pub mod Same

@@ -2,3 +2,4 @@ pub mod Source
 pub mod InRange
 pub mod Frames
 pub mod Walked
+pub mod Same

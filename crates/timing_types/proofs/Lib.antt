@@ -8,3 +8,4 @@ pub mod Guards
 pub mod Arrays
 pub mod Pcs
 pub mod Whole
+pub mod Commands

@@ -11,18 +11,22 @@ use Rattle.timing_types.specs.declared.rule.TypeFault.TheVariants.{Refused, Memo
 use Rattle.timing_types.specs.Typing.{IsTyped}
 use Rattle.timing_types.specs.Placed.{Tree, bare}
 use Rattle.timing_types.specs.Contexts.{HasContexts}
-use Rattle.timing_types.specs.Labelling.{Labelling, label_at, variable_of, tree_of, broken_of}
+use Rattle.timing_types.specs.Labelling.{Labelling, label_at, variable_of, level_of, tree_of, broken_of}
 
 pub record LabelledProgram : Type 0 where
   pub program : Syntax
   pub labels : Labelling
 
--- its labels' order, the labels of its variables, and its commands with and without their places
+-- its labels' order, the labels of its variables, the levels of its mitigates by their marks, and its commands
+-- with and without their places
 abbrev pub order_of : LabelledProgram → Lattice
 order_of p = lattice_of p.program.order
 
 abbrev pub labels_of : LabelledProgram → ℕ → ℕ
 labels_of p = variable_of p.program.order p.labels
+
+abbrev pub levels_of : LabelledProgram → ℕ → ℕ
+levels_of p = level_of p.program.order p.labels
 
 abbrev pub placed_of : LabelledProgram → Tree
 placed_of p = tree_of p.program.order p.labels (plan_of p.program) 0

@@ -5,3 +5,4 @@ pub mod Contexts
 pub mod Labelling
 pub mod Labelled
 pub mod Kept
+pub mod Commands

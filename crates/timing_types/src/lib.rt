@@ -6,6 +6,7 @@ mod contexts;
 pub mod ends;
 pub mod labelled;
 pub mod labels;
+pub mod laws;
 pub mod rule;
 #[cfg(test)]
 mod tests;

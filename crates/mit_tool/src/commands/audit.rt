@@ -21,6 +21,7 @@ use crate::status::Status;
 use crate::stop::Stop;
 use crate::words::EnvName;
 use env_contract::make::MakeFlat;
+use history_reports::laws::reports_are_the_same;
 use leak_audit::audit::audit;
 use leak_audit::report::{AuditFault, AuditReport};
 use mit_syntax::program::Program;
@@ -38,6 +39,8 @@ fn audit_named(alloc: Global, p: &Prepared, setting: Setting) -> Result<AuditRep
 {
     let (typed, image, starts) = (&p.compiled.typed, &p.compiled.image, p.starts.as_slice());
     let (observer, budget) = (p.observer, setting.budget);
+    image.laws();
+    reports_are_the_same();
     match setting.env {
         EnvName::Flat => audit(alloc, typed, image, starts, observer, budget, &MakeFlat),
         EnvName::Part => audit(alloc, typed, image, starts, observer, budget, &MakePart),

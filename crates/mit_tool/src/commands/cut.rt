@@ -23,6 +23,7 @@ use crate::words::EnvName;
 use cut_audit::cut::cut;
 use cut_audit::report::{CutFault, CutReport};
 use env_contract::make::MakeFlat;
+use history_reports::laws::reports_are_the_same;
 use mit_syntax::program::Program;
 use part_tlb::part::MakePart;
 use part_tlb::part2::MakePart2;
@@ -38,6 +39,8 @@ fn cut_named(alloc: Global, p: &Prepared, setting: Setting) -> Result<CutReport,
 {
     let (typed, image, starts) = (&p.compiled.typed, &p.compiled.image, p.starts.as_slice());
     let (observer, budget) = (p.observer, setting.budget);
+    image.laws();
+    reports_are_the_same();
     match setting.env {
         EnvName::Flat => cut(alloc, typed, image, starts, observer, budget, &MakeFlat),
         EnvName::Part => cut(alloc, typed, image, starts, observer, budget, &MakePart),

@@ -22,6 +22,7 @@ use env_contract::env::MachineEnv;
 use env_contract::make::{MakeEnv, MakeFlat};
 use event_print::end::RunEnd;
 use event_print::print::print_run;
+use history_reports::laws::reports_are_the_same;
 use part_tlb::part::MakePart;
 use part_tlb::part2::MakePart2;
 use start_file::start::Start;
@@ -89,6 +90,8 @@ fn run_named<W: Sink>(
     ensures fault { result ≡ Status.WriteFault → Rose (W.faults out.old) (W.faults out.new) }
 {
     let budget = setting.budget;
+    program.image.laws();
+    reports_are_the_same();
     match setting.env {
         EnvName::Flat => run_in(alloc, &MakeFlat, program, start, budget, out),
         EnvName::Part => run_in(alloc, &MakePart, program, start, budget, out),

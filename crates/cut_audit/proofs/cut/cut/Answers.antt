@@ -2,10 +2,11 @@ use Rattle.std.proofs.Common.{◌≡◌, map, length, false, refl, sym, ap, ◌�
 use Rattle.std.proofs.lemmas.List.{length-map}
 use Rattle.label_lattice.specs.Lattice.{IsLattice}
 use Rattle.label_lattice.specs.Order.{lattice_of}
+use Rattle.mit_syntax.specs.Program.{plan_of}
 use Rattle.mit_syntax.specs.Valid.{IsValid}
 use Rattle.env_contract.specs.Env.{Env}
 use Rattle.timing_types.specs.Labelling.{IsLabelling}
-use Rattle.timing_types.specs.Labelled.{labels_of, bare_of}
+use Rattle.timing_types.specs.Labelled.{labels_of, levels_of}
 use Rattle.code_lower.specs.Lowered.{lowered}
 use Rattle.start_file.specs.Starts.{seen}
 use Rattle.leak_bound.specs.Records.{Pairwise}
@@ -14,7 +15,7 @@ use Rattle.audit_parts.specs.Agreement.{start_of, starts_of, AgreeFor}
 use Rattle.audit_parts.specs.Measured.{IsMeasure}
 use Rattle.audit_parts.specs.Observed.{sequence_of}
 use Rattle.audit_parts.specs.Surveyed.{IsSurvey}
-use Rattle.audit_parts.proofs.Marking.{compiled_of}
+use Rattle.audit_parts.proofs.Marking.{typed_with}
 use Rattle.cut_audit.proofs.Reporting.{may_cut, as_many, is_report, is_within}
 use Rattle.cut_audit.proofs.cut.cut.Goals as goal
 
@@ -29,8 +30,8 @@ returns-clause-report g c =
     let same = c.labelled-labelled.ensures.labelled in
     let program = c.program-program.ensures.program ∙ ap (λ z. z.program) same in
     let order = c.lattice-order.ensures ∙ ap (λ z. z.order) program in
-    let made = compiled_of p (subst (λ z. IsLattice (lattice_of z)) order c.laws.ensures.lattice) (subst IsValid program c.body.ensures.valid) (subst (λ z. IsLabelling z.program z.labels) same c.program-program.ensures.labelling) c.labelled-labelled.ensures.typed in
-    let sound : CutSound v p.program.order (g.E.MachineEnv.serves p.program.order) (labels_of p) (lowered p).instrs (bare_of p) = c.few_sequences.ensures.cut p.program.order (labels_of p) (lowered p).instrs (bare_of p) made in
+    let made = typed_with p (subst (λ z. IsLattice (lattice_of z)) order c.laws.ensures.lattice) (subst IsValid program c.body.ensures.valid) (subst (λ z. IsLabelling z.program z.labels) same c.program-program.ensures.labelling) c.labelled-labelled.ensures.typed in
+    let sound : CutSound v p.program.order (g.E.MachineEnv.serves p.program.order) (labels_of p) (levels_of p) (lowered p).instrs (plan_of p.program) = c.lowered_few_sequences.ensures.cut p made in
     let agree = subst (λ z. Pairwise (AgreeFor v g.E.MachineEnv.serves z o) (starts_of g.M.MakeEnv.made z.program.order stored)) same c.in_ok-all_agree.ensures.agree in
     let survey = subst (λ z. IsSurvey v z o t false (starts_of g.M.MakeEnv.made z.program.order stored) c.in-Ok.survey) same c.in-Ok.ensures.survey in
     let measure = subst (λ z. IsMeasure z o t c.in-Ok.survey.ended (map sequence_of c.in-Ok.survey.sequences.items) c.in_ok-measures.measures) order c.in_ok-measures.ensures in
@@ -48,8 +49,8 @@ returns-clause-bound g c =
     let same = c.labelled-labelled.ensures.labelled in
     let program = c.program-program.ensures.program ∙ ap (λ z. z.program) same in
     let order = c.lattice-order.ensures ∙ ap (λ z. z.order) program in
-    let made = compiled_of p (subst (λ z. IsLattice (lattice_of z)) order c.laws.ensures.lattice) (subst IsValid program c.body.ensures.valid) (subst (λ z. IsLabelling z.program z.labels) same c.program-program.ensures.labelling) c.labelled-labelled.ensures.typed in
-    let sound : CutSound v p.program.order (g.E.MachineEnv.serves p.program.order) (labels_of p) (lowered p).instrs (bare_of p) = c.few_sequences.ensures.cut p.program.order (labels_of p) (lowered p).instrs (bare_of p) made in
+    let made = typed_with p (subst (λ z. IsLattice (lattice_of z)) order c.laws.ensures.lattice) (subst IsValid program c.body.ensures.valid) (subst (λ z. IsLabelling z.program z.labels) same c.program-program.ensures.labelling) c.labelled-labelled.ensures.typed in
+    let sound : CutSound v p.program.order (g.E.MachineEnv.serves p.program.order) (labels_of p) (levels_of p) (lowered p).instrs (plan_of p.program) = c.lowered_few_sequences.ensures.cut p made in
     let agree = subst (λ z. Pairwise (AgreeFor v g.E.MachineEnv.serves z o) (starts_of g.M.MakeEnv.made z.program.order stored)) same c.in_ok-all_agree.ensures.agree in
     let survey = subst (λ z. IsSurvey v z o t false (starts_of g.M.MakeEnv.made z.program.order stored) c.in-Ok.survey) same c.in-Ok.ensures.survey in
     let measure = subst (λ z. IsMeasure z o t c.in-Ok.survey.ended (map sequence_of c.in-Ok.survey.sequences.items) c.in_ok-measures.measures) order c.in_ok-measures.ensures in

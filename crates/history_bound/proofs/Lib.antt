@@ -1,0 +1,4 @@
+pub mod Touching
+pub mod Lawful
+pub mod Held
+pub mod Told

@@ -1,0 +1,4 @@
+//! Reports over caches are reports over histories.
+#![tactic(auto)]
+
+pub mod laws;
