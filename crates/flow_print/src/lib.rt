@@ -1,0 +1,7 @@
+//! The lines that tell a chain of reasons.
+#![tactic(auto)]
+
+mod lines;
+mod places;
+pub mod print;
+mod words;

@@ -1,0 +1,251 @@
+//! The lines of a step.
+
+ghost use Rattle.std.specs.Prelude.{◌≡◌, ◌++◌, OnOk};
+ghost use Rattle.mit_syntax.specs.Program.{Syntax};
+ghost use Rattle.flow_path.specs.Steps.{written};
+ghost use Rattle.flow_path.specs.declared.step.Spot.TheVariants.{Variable as AVariable};
+ghost use Rattle.flow_print.specs.Lines.{reads_line, time_line, label_line, reader_line, part_lines, variable_text, variable_line, command_line, level_line, side_line, step_lines, first_line, place_if};
+
+use crate::places::{declared_place, kind_at, next_place};
+use crate::words::{
+    bound, noun, put_label, put_line, put_place, put_variable, reader, spot_text,
+};
+use flow_path::step::{How, Spot, Step};
+use flow_path::written::written_at;
+use label_lattice::label::Label;
+use mit_syntax::program::Program;
+use mit_syntax::token::Token;
+use std::alloc::{AllocError, Global};
+use tim_base::pos::Pos;
+
+fn put_reads(
+    out: &mut Vec<u8>,
+    text: &[u8],
+    tokens: &[Token],
+    q: Pos,
+    words: &[u8],
+    name: &[u8],
+) -> Result<(), AllocError>
+    ensures { OnOk result (out.new.items ≡ out.old.items ++ reads_line text.now tokens.now q words.now name.now) }
+{
+    put_place(out, next_place(text, tokens, q, name))?;
+    put_line(out, words, name)?;
+    Ok(())
+}
+
+fn put_time(out: &mut Vec<u8>, tokens: &[Token], q: Pos, first: &[u8]) -> Result<(), AllocError>
+    ensures { OnOk result (out.new.items ≡ out.old.items ++ time_line tokens.now q first.now) }
+{
+    put_place(out, q)?;
+    out.extend_from_slice(b"so how long this ")?;
+    out.extend_from_slice(noun(kind_at(tokens, q)))?;
+    put_line(out, b" takes is ", first)?;
+    Ok(())
+}
+
+fn put_read_label(
+    out: &mut Vec<u8>,
+    tokens: &[Token],
+    q: Pos,
+    name: &[u8],
+) -> Result<(), AllocError>
+    ensures { OnOk result (out.new.items ≡ out.old.items ++ label_line tokens.now q name.now) }
+{
+    put_place(out, q)?;
+    out.extend_from_slice(b"this ")?;
+    out.extend_from_slice(noun(kind_at(tokens, q)))?;
+    put_line(out, b" has the read label ", name)?;
+    Ok(())
+}
+
+fn put_reader(
+    out: &mut Vec<u8>,
+    text: &[u8],
+    tokens: &[Token],
+    q: Pos,
+    name: &[u8],
+) -> Result<(), AllocError>
+    ensures { OnOk result (out.new.items ≡ out.old.items ++ reader_line text.now tokens.now q name.now) }
+{
+    put_place(out, next_place(text, tokens, q, name))?;
+    out.extend_from_slice(b"this ")?;
+    out.extend_from_slice(reader(kind_at(tokens, q)))?;
+    put_line(out, b" reads ", name)?;
+    Ok(())
+}
+
+/// Puts how a part comes into the left side.
+fn put_part(
+    out: &mut Vec<u8>,
+    text: &[u8],
+    tokens: &[Token],
+    how: How,
+    q: Pos,
+    name: &[u8],
+    first: &[u8],
+) -> Result<(), AllocError>
+    ensures { OnOk result (out.new.items ≡ out.old.items ++ part_lines text.now tokens.now how q name.now first.now) }
+{
+    match how {
+        How::Reads => put_reads(out, text, tokens, q, b"this value reads ", name),
+        How::ReadsInIndex => put_reads(out, text, tokens, q, b"this index reads ", name),
+        How::HasReadLabel => put_read_label(out, tokens, q, name),
+        How::UnderGuard => put_reads(out, text, tokens, q, b"this guard reads ", name),
+        How::AfterReading => {
+            put_reader(out, text, tokens, q, name)?;
+            put_time(out, tokens, q, first)?;
+            Ok(())
+        }
+        How::AfterReadLabel => {
+            put_read_label(out, tokens, q, name)?;
+            put_time(out, tokens, q, first)?;
+            Ok(())
+        }
+        How::AfterAssigning => {
+            put_place(out, q)?;
+            put_line(out, b"this assigns to ", name)?;
+            put_place(out, q)?;
+            put_line(out, b"so when it is done is ", first)?;
+            Ok(())
+        }
+    }
+}
+
+fn put_variable_side(
+    out: &mut Vec<u8>,
+    p: &Program,
+    y: u32,
+    bound: &[u8],
+    first: &[u8],
+) -> Result<(), AllocError>
+    ensures { OnOk result (out.new.items ≡ out.old.items ++ variable_line (variable_text p.now y) (written p.now (AVariable y)) p.now.order bound.now first.now) }
+{
+    match written_at(p, &Spot::Variable(y)) {
+        Some(label) => {
+            put_variable(out, p, y)?;
+            out.extend_from_slice(b", which is ")?;
+            put_label(out, &p.lattice(), label)?;
+            put_line(out, b", gets its value ", bound)?;
+            Ok(())
+        }
+        None => {
+            out.extend_from_slice(b"so ")?;
+            put_variable(out, p, y)?;
+            out.extend_from_slice(b", which gets its value ")?;
+            out.extend_from_slice(bound)?;
+            put_line(out, b", is at least ", first)?;
+            Ok(())
+        }
+    }
+}
+
+fn put_level_side(
+    out: &mut Vec<u8>,
+    p: &Program,
+    level: Option<Label>,
+    bound: &[u8],
+    first: &[u8],
+) -> Result<(), AllocError>
+    ensures { OnOk result (out.new.items ≡ out.old.items ++ level_line level p.now.order bound.now first.now) }
+{
+    match level {
+        Some(label) => {
+            out.extend_from_slice(b"this mitigate, whose level is ")?;
+            put_label(out, &p.lattice(), label)?;
+            put_line(out, b", ends ", bound)?;
+            Ok(())
+        }
+        None => {
+            out.extend_from_slice(b"so the level of this mitigate, which ends ")?;
+            out.extend_from_slice(bound)?;
+            put_line(out, b", is at least ", first)?;
+            Ok(())
+        }
+    }
+}
+
+/// Puts the right side.
+fn put_side(
+    out: &mut Vec<u8>,
+    tokens: &[Token],
+    p: &Program,
+    q: Pos,
+    side: &Spot,
+    bound: &[u8],
+    first: &[u8],
+) -> Result<(), AllocError>
+    ensures { OnOk result (out.new.items ≡ out.old.items ++ side_line tokens.now p.now q side.now bound.now first.now) }
+{
+    match side {
+        Spot::Variable(y) => {
+            put_variable_side(out, p, *y, bound, first)?;
+            Ok(())
+        }
+        Spot::Command(label) => {
+            out.extend_from_slice(b"this ")?;
+            out.extend_from_slice(noun(kind_at(tokens, q)))?;
+            out.extend_from_slice(b", whose write label is ")?;
+            put_label(out, &p.lattice(), *label)?;
+            put_line(out, b", runs ", bound)?;
+            Ok(())
+        }
+        Spot::Level(_, level) => {
+            put_level_side(out, p, *level, bound, first)?;
+            Ok(())
+        }
+    }
+}
+
+/// Puts the lines of a step.
+pub(crate) fn put_step(
+    alloc: Global,
+    out: &mut Vec<u8>,
+    text: &[u8],
+    tokens: &[Token],
+    p: &Program,
+    step: &Step,
+    first: &[u8],
+) -> Result<(), AllocError>
+    ensures { OnOk result (out.new.items ≡ out.old.items ++ step_lines text.now tokens.now p.now step.now first.now) }
+{
+    let name = spot_text(alloc, p, &step.part.spot)?;
+    put_part(out, text, tokens, step.part.how, step.part.pos, &name, first)?;
+    put_place(out, step.pos)?;
+    put_side(out, tokens, p, step.pos, &step.side, bound(step.part.how), first)?;
+    Ok(())
+}
+
+fn put_place_if(out: &mut Vec<u8>, place: Option<Pos>) -> Result<(), AllocError>
+    ensures { OnOk result (out.new.items ≡ out.old.items ++ place_if place) }
+{
+    match place {
+        Some(q) => {
+            put_place(out, q)?;
+            Ok(())
+        }
+        None => Ok(()),
+    }
+}
+
+/// Puts where a chain begins.
+pub(crate) fn put_first(
+    out: &mut Vec<u8>,
+    text: &[u8],
+    tokens: &[Token],
+    spot: &Spot,
+    name: &[u8],
+    first: &[u8],
+) -> Result<(), AllocError>
+    ensures { OnOk result (out.new.items ≡ out.old.items ++ first_line text.now tokens.now spot.now name.now first.now) }
+{
+    match spot {
+        Spot::Variable(_) => {
+            put_place_if(out, declared_place(text, tokens, name))?;
+            out.extend_from_slice(name)?;
+            put_line(out, b" is declared ", first)?;
+            Ok(())
+        }
+        Spot::Command(_) => Ok(()),
+        Spot::Level(_, _) => Ok(()),
+    }
+}
