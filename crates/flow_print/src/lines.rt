@@ -1,15 +1,13 @@
 //! The lines of a step.
 
-ghost use Rattle.std.specs.Prelude.{◌≡◌, ◌++◌, OnOk};
+ghost use Rattle.std.specs.Prelude.{◌≡◌, ◌++◌, OnOk, None};
 ghost use Rattle.mit_syntax.specs.Program.{Syntax};
 ghost use Rattle.flow_path.specs.Steps.{written};
 ghost use Rattle.flow_path.specs.declared.step.Spot.TheVariants.{Variable as AVariable};
-ghost use Rattle.flow_print.specs.Lines.{reads_line, time_line, label_line, reader_line, part_lines, variable_text, variable_line, command_line, level_line, side_line, step_lines, first_line, place_if};
+ghost use Rattle.flow_print.specs.Lines.{label_text, place_text, line, reads_line, time_line, label_line, reader_line, part_lines, variable_text, variable_line, command_line, level_line, side_line, step_lines, first_line, place_if};
 
 use crate::places::{declared_place, kind_at, next_place};
-use crate::words::{
-    bound, noun, put_label, put_line, put_place, put_variable, reader, spot_text,
-};
+use crate::words::{bound, noun, put_label, put_line, put_place, put_variable, reader, spot_text};
 use flow_path::step::{How, Spot, Step};
 use flow_path::written::written_at;
 use label_lattice::label::Label;
@@ -33,13 +31,60 @@ fn put_reads(
     Ok(())
 }
 
+/// Puts words, what they are about, and the rest of the line.
+fn put_about(
+    out: &mut Vec<u8>,
+    begin: &[u8],
+    about: &[u8],
+    words: &[u8],
+    last: &[u8],
+) -> Result<(), AllocError>
+    ensures { OnOk result (out.new.items ≡ out.old.items ++ (begin.now ++ (about.now ++ line words.now last.now))) }
+{
+    out.extend_from_slice(begin)?;
+    out.extend_from_slice(about)?;
+    put_line(out, words, last)?;
+    Ok(())
+}
+
+/// Puts such a line at a place.
+fn put_about_at(
+    out: &mut Vec<u8>,
+    q: Pos,
+    begin: &[u8],
+    about: &[u8],
+    words: &[u8],
+    last: &[u8],
+) -> Result<(), AllocError>
+    ensures { OnOk result (out.new.items ≡ out.old.items ++ (place_text q ++ (begin.now ++ (about.now ++ line words.now last.now)))) }
+{
+    put_place(out, q)?;
+    put_about(out, begin, about, words, last)?;
+    Ok(())
+}
+
+/// Puts words, the name of a label, and the rest of the line.
+fn put_about_label(
+    out: &mut Vec<u8>,
+    p: &Program,
+    begin: &[u8],
+    label: Label,
+    words: &[u8],
+    last: &[u8],
+) -> Result<(), AllocError>
+    ensures { OnOk result (out.new.items ≡ out.old.items ++ (begin.now ++ (label_text p.now.order label.number ++ line words.now last.now))) }
+{
+    out.extend_from_slice(begin)?;
+    put_label(out, &p.lattice(), label)?;
+    put_line(out, words, last)?;
+    Ok(())
+}
+
 fn put_time(out: &mut Vec<u8>, tokens: &[Token], q: Pos, first: &[u8]) -> Result<(), AllocError>
     ensures { OnOk result (out.new.items ≡ out.old.items ++ time_line tokens.now q first.now) }
 {
-    put_place(out, q)?;
-    out.extend_from_slice(b"so how long this ")?;
-    out.extend_from_slice(noun(kind_at(tokens, q)))?;
-    put_line(out, b" takes is ", first)?;
+    let command = noun(kind_at(tokens, q));
+    put_about_at(out, q, b"so how long this ", command, b" takes is ", first)?;
     Ok(())
 }
 
@@ -51,10 +96,9 @@ fn put_read_label(
 ) -> Result<(), AllocError>
     ensures { OnOk result (out.new.items ≡ out.old.items ++ label_line tokens.now q name.now) }
 {
+    let command = noun(kind_at(tokens, q));
     put_place(out, q)?;
-    out.extend_from_slice(b"this ")?;
-    out.extend_from_slice(noun(kind_at(tokens, q)))?;
-    put_line(out, b" has the read label ", name)?;
+    put_about(out, b"this ", command, b" has the read label ", name)?;
     Ok(())
 }
 
@@ -67,10 +111,34 @@ fn put_reader(
 ) -> Result<(), AllocError>
     ensures { OnOk result (out.new.items ≡ out.old.items ++ reader_line text.now tokens.now q name.now) }
 {
+    let reads = reader(kind_at(tokens, q));
     put_place(out, next_place(text, tokens, q, name))?;
-    out.extend_from_slice(b"this ")?;
-    out.extend_from_slice(reader(kind_at(tokens, q)))?;
-    put_line(out, b" reads ", name)?;
+    put_about(out, b"this ", reads, b" reads ", name)?;
+    Ok(())
+}
+
+/// Puts a line at a place.
+fn put_line_at(out: &mut Vec<u8>, q: Pos, words: &[u8], last: &[u8]) -> Result<(), AllocError>
+    ensures { OnOk result (out.new.items ≡ out.old.items ++ (place_text q ++ line words.now last.now)) }
+{
+    put_place(out, q)?;
+    put_line(out, words, last)?;
+    Ok(())
+}
+
+/// Puts two lines at a place.
+fn put_two_at(
+    out: &mut Vec<u8>,
+    q: Pos,
+    words: &[u8],
+    last: &[u8],
+    more: &[u8],
+    end: &[u8],
+) -> Result<(), AllocError>
+    ensures { OnOk result (out.new.items ≡ out.old.items ++ (place_text q ++ (line words.now last.now ++ (place_text q ++ line more.now end.now)))) }
+{
+    put_line_at(out, q, words, last)?;
+    put_line_at(out, q, more, end)?;
     Ok(())
 }
 
@@ -102,13 +170,38 @@ fn put_part(
             Ok(())
         }
         How::AfterAssigning => {
-            put_place(out, q)?;
-            put_line(out, b"this assigns to ", name)?;
-            put_place(out, q)?;
-            put_line(out, b"so when it is done is ", first)?;
+            put_two_at(
+                out,
+                q,
+                b"this assigns to ",
+                name,
+                b"so when it is done is ",
+                first,
+            )?;
             Ok(())
         }
     }
+}
+
+fn put_free_variable(
+    out: &mut Vec<u8>,
+    p: &Program,
+    y: u32,
+    bound: &[u8],
+    first: &[u8],
+) -> Result<(), AllocError>
+    ensures { OnOk result (out.new.items ≡ out.old.items ++ variable_line (variable_text p.now y) None p.now.order bound.now first.now) }
+{
+    out.extend_from_slice(b"so ")?;
+    put_variable(out, p, y)?;
+    put_about(
+        out,
+        b", which gets its value ",
+        bound,
+        b", is at least ",
+        first,
+    )?;
+    Ok(())
 }
 
 fn put_variable_side(
@@ -123,17 +216,11 @@ fn put_variable_side(
     match written_at(p, &Spot::Variable(y)) {
         Some(label) => {
             put_variable(out, p, y)?;
-            out.extend_from_slice(b", which is ")?;
-            put_label(out, &p.lattice(), label)?;
-            put_line(out, b", gets its value ", bound)?;
+            put_about_label(out, p, b", which is ", label, b", gets its value ", bound)?;
             Ok(())
         }
         None => {
-            out.extend_from_slice(b"so ")?;
-            put_variable(out, p, y)?;
-            out.extend_from_slice(b", which gets its value ")?;
-            out.extend_from_slice(bound)?;
-            put_line(out, b", is at least ", first)?;
+            put_free_variable(out, p, y, bound, first)?;
             Ok(())
         }
     }
@@ -150,18 +237,33 @@ fn put_level_side(
 {
     match level {
         Some(label) => {
-            out.extend_from_slice(b"this mitigate, whose level is ")?;
-            put_label(out, &p.lattice(), label)?;
-            put_line(out, b", ends ", bound)?;
+            let begin = b"this mitigate, whose level is ".as_slice();
+            put_about_label(out, p, begin, label, b", ends ", bound)?;
             Ok(())
         }
         None => {
-            out.extend_from_slice(b"so the level of this mitigate, which ends ")?;
-            out.extend_from_slice(bound)?;
-            put_line(out, b", is at least ", first)?;
+            let begin = b"so the level of this mitigate, which ends ".as_slice();
+            put_about(out, begin, bound, b", is at least ", first)?;
             Ok(())
         }
     }
+}
+
+fn put_command_side(
+    out: &mut Vec<u8>,
+    tokens: &[Token],
+    p: &Program,
+    q: Pos,
+    label: Label,
+    bound: &[u8],
+) -> Result<(), AllocError>
+    ensures { OnOk result (out.new.items ≡ out.old.items ++ command_line tokens.now q (label_text p.now.order label.number) bound.now) }
+{
+    let command = noun(kind_at(tokens, q));
+    out.extend_from_slice(b"this ")?;
+    out.extend_from_slice(command)?;
+    put_about_label(out, p, b", whose write label is ", label, b", runs ", bound)?;
+    Ok(())
 }
 
 /// Puts the right side.
@@ -182,11 +284,7 @@ fn put_side(
             Ok(())
         }
         Spot::Command(label) => {
-            out.extend_from_slice(b"this ")?;
-            out.extend_from_slice(noun(kind_at(tokens, q)))?;
-            out.extend_from_slice(b", whose write label is ")?;
-            put_label(out, &p.lattice(), *label)?;
-            put_line(out, b", runs ", bound)?;
+            put_command_side(out, tokens, p, q, *label, bound)?;
             Ok(())
         }
         Spot::Level(_, level) => {
@@ -209,9 +307,25 @@ pub(crate) fn put_step(
     ensures { OnOk result (out.new.items ≡ out.old.items ++ step_lines text.now tokens.now p.now step.now first.now) }
 {
     let name = spot_text(alloc, p, &step.part.spot)?;
-    put_part(out, text, tokens, step.part.how, step.part.pos, &name, first)?;
+    put_part(
+        out,
+        text,
+        tokens,
+        step.part.how,
+        step.part.pos,
+        &name,
+        first,
+    )?;
     put_place(out, step.pos)?;
-    put_side(out, tokens, p, step.pos, &step.side, bound(step.part.how), first)?;
+    put_side(
+        out,
+        tokens,
+        p,
+        step.pos,
+        &step.side,
+        bound(step.part.how),
+        first,
+    )?;
     Ok(())
 }
 

@@ -1,6 +1,6 @@
 //! Where words stand in a text.
 
-ghost use Rattle.std.specs.Prelude.{◌≡◌};
+ghost use Rattle.std.specs.Prelude.{◌≡◌, ◌&&◌};
 ghost use Rattle.flow_print.specs.Places.{is_after, is_same, spelled, is_name_kind, is_name, next_place, is_var, declared_place, kind_at};
 
 use mit_syntax::token::{Keyword, Token, TokenKind};
@@ -53,12 +53,26 @@ fn is_var(kind: TokenKind) -> bool
     matches!(kind, TokenKind::Key(Keyword::Var))
 }
 
+/// Whether the token is this name after a position.
+fn is_next(text: &[u8], t: &Token, q: Pos, name: &[u8]) -> bool
+    ensures { result ≡ (is_after t.now.pos q && is_name text.now t.now name.now) }
+{
+    is_after(t.pos, q) && is_name(text, t, name)
+}
+
+/// Whether the token is this name after `var`.
+fn is_declared(text: &[u8], after: bool, t: &Token, name: &[u8]) -> bool
+    ensures { result ≡ (after && is_name text.now t.now name.now) }
+{
+    after && is_name(text, t, name)
+}
+
 /// The first place of a name after a position, or else that position.
 pub(crate) fn next_place(text: &[u8], tokens: &[Token], q: Pos, name: &[u8]) -> Pos
     ensures { result ≡ next_place text.now tokens.now q name.now }
 {
     for t in tokens {
-        if is_after(t.pos, q) && is_name(text, t, name) {
+        if is_next(text, t, q, name) {
             return t.pos;
         }
     }
@@ -71,7 +85,7 @@ pub(crate) fn declared_place(text: &[u8], tokens: &[Token], name: &[u8]) -> Opti
 {
     let mut after = false;
     for t in tokens {
-        if after && is_name(text, t, name) {
+        if is_declared(text, after, t, name) {
             return Some(t.pos);
         }
         after = is_var(t.kind);

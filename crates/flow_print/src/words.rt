@@ -84,11 +84,7 @@ pub(crate) fn put_line(out: &mut Vec<u8>, words: &[u8], last: &[u8]) -> Result<(
 }
 
 /// Puts the name of a label.
-pub(crate) fn put_label(
-    out: &mut Vec<u8>,
-    labels: &Lattice,
-    label: Label,
-) -> Result<(), AllocError>
+pub(crate) fn put_label(out: &mut Vec<u8>, labels: &Lattice, label: Label) -> Result<(), AllocError>
     ensures { OnOk result (out.new.items ≡ out.old.items ++ label_text labels.now label.number) }
 {
     if u32::from(label.number) < labels.size() {

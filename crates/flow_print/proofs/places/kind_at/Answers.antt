@@ -1,10 +1,6 @@
-use Rattle.std.proofs.Common.{rules, ◌≡◌, ◌∙◌, []}
-use Rattle.std.specs.Prelude.{true, false}
-use Rattle.flow_print.specs.Places.{is_same}
+use Rattle.std.proofs.Common.{◌≡◌, ◌∙◌, []}
 use Rattle.flow_print.proofs.Walked.{kind_on}
 use Rattle.flow_print.proofs.places.kind_at.Goals as goal
 
 pub loop-t-preserved : goal.loop-t-preserved
-loop-t-preserved c =
-    let e : is_same c.t-item.result.pos c.args.q ≡ false = search rules in
-    c.loop-t.invariant ∙ kind_on [] c.args.tokens.now [] c.loop-t.t-index c.t-item.result c.loop-t-test.true c.t-item.is c.args.q e
+loop-t-preserved c = c.loop-t.invariant ∙ kind_on [] c.args.tokens.now [] c.loop-t.t-index _ c.loop-t-test.true c.is_same.result c.if-is_same.false c.args.q c.is_same.ensures
