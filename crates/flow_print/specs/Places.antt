@@ -5,8 +5,7 @@ use Rattle.tim_base.specs.declared.pos.Pos.{Pos}
 use Rattle.mit_syntax.specs.declared.token.Token.{Token}
 use Rattle.mit_syntax.specs.declared.token.TokenKind.{TokenKind}
 use Rattle.mit_syntax.specs.declared.token.TokenKind.TheVariants.{Key, Name, Number, Sign, End}
-use Rattle.mit_syntax.specs.declared.token.Keyword.{Keyword}
-use Rattle.mit_syntax.specs.declared.token.Keyword.TheVariants.{Labels, Order, Var, Skip, If, Then, Else, While, Do, Mitigate, Sleep}
+use Rattle.mit_syntax.specs.declared.token.Keyword.TheVariants.{Var, Skip, If, While, Mitigate, Sleep}
 
 -- the position p is after q
 abbrev pub is_after : Pos → Pos → Bool

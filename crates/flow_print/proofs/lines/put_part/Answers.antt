@@ -1,4 +1,4 @@
-use Rattle.std.proofs.Common.{◌≡◌, ◌∙◌, ap, sym, ◌++◌}
+use Rattle.std.proofs.Common.{◌∙◌, ap, sym, ◌++◌}
 use Rattle.flow_path.specs.declared.step.How.{How}
 use Rattle.flow_print.specs.Lines.{part_lines}
 use Rattle.flow_print.proofs.lines.put_part.Goals as goal

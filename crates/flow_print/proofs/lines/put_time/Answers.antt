@@ -1,4 +1,4 @@
-use Rattle.std.proofs.Common.{◌≡◌, ◌∙◌, ap, ◌++◌}
+use Rattle.std.proofs.Common.{◌∙◌, ap, ◌++◌}
 use Rattle.std.specs.Prelude.{codes}
 use Rattle.flow_print.specs.Places.{noun}
 use Rattle.flow_print.specs.Lines.{place_text, line}

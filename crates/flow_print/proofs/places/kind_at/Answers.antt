@@ -1,4 +1,4 @@
-use Rattle.std.proofs.Common.{◌≡◌, ◌∙◌, []}
+use Rattle.std.proofs.Common.{◌∙◌, []}
 use Rattle.flow_print.proofs.Walked.{kind_on}
 use Rattle.flow_print.proofs.places.kind_at.Goals as goal
 

@@ -1,4 +1,4 @@
-use Rattle.std.proofs.Common.{◌≡◌, ◌∙◌}
+use Rattle.std.proofs.Common.{◌∙◌}
 use Rattle.flow_print.proofs.Walked.{next_on}
 use Rattle.flow_print.proofs.places.next_place.Goals as goal
 
