@@ -1,6 +1,6 @@
-//! A plain-Rust twin of the tool, to measure the tool's speed against. It does `check`, `infer`, `run` and `audit` by
-//! the same rules (docs/LANGUAGE.md, docs/MACHINE.md and docs/FORMATS.md) and shares no code with the tool. Nothing
-//! in it is proved, and nobody should use it for anything but its time.
+//! A plain-Rust twin of the tool, to measure the tool's speed against. It does each command by the same rules
+//! (docs/LANGUAGE.md, docs/MACHINE.md and docs/FORMATS.md) and shares no code with the tool. Nothing in it is proved, and
+//! nobody should use it for anything but its time.
 //!
 //! ```text
 //! rustc --edition 2021 -O -o plain-twin tools/plain-twin.rs
@@ -11,11 +11,9 @@
 //!
 //! What it leaves out:
 //!
-//! - the other commands;
-//! - refusals in their order and their words: but for the line of a broken condition, of starts that do not agree and
-//!   of a run that has not halted, a refusal is a line on standard error and status 1;
-//! - most of TOML: it reads start files in the form that docs/FORMATS.md shows, with a table on one line;
-//! - touches: a start file that has them is refused.
+//! - refusals of words, of texts and of start files in their order and their words: each is a line on standard error and
+//!   status 20, which says that this program does not answer the call;
+//! - most of TOML: it reads integers, texts without escapes, arrays, tables in braces, comments and `[[run]]`.
 
 use std::collections::HashMap;
 use std::hash::{BuildHasherDefault, Hasher};
@@ -33,6 +31,9 @@ const MOST_INSTRUCTIONS: usize = 200_000;
 const MOST_RUNS: usize = 4_096;
 const MOST_EVENTS: usize = 16_777_216;
 const GREATEST_BUDGET: u64 = 1 << 40;
+
+/// The status of a call that this program does not answer.
+const NOT_ANSWERED: u8 = 20;
 
 /// A refusal: `Plain` is told on standard error, `Line` is the tool's own line with the tool's status.
 enum Stop {
@@ -817,6 +818,8 @@ struct Labelled<'a> {
     levels: Vec<u8>,
     /// The program counter label of each mitigate.
     counters: Vec<u8>,
+    /// The labels of the nodes of the graph; each `while` names the node of its end label.
+    nodes: Vec<u8>,
 }
 
 /// The conditions as a graph: each node has a label, and that of each edge's source flows to that of its target. The
@@ -1017,7 +1020,18 @@ fn labelled(mut program: Program) -> Answer<Labelled> {
     let (counters, variables) = (checker.counters, labels[..names].to_vec());
     let levels = labels[names..names + program.levels.len()].to_vec();
     program.body = body;
-    Ok(Labelled { program, variables, levels, counters })
+    Ok(Labelled { program, variables, levels, counters, nodes: labels })
+}
+
+fn rule_of(command: &Command) -> &'static str {
+    match command.form {
+        Form::Skip => "T-SKIP",
+        Form::Assign { .. } | Form::Put { .. } => "T-ASGN",
+        Form::Sleep => "T-SLEEP",
+        Form::If { .. } => "T-IF",
+        Form::While { .. } => "T-WHILE",
+        Form::Mitigate { .. } => "T-MTG",
+    }
 }
 
 /// Walks the commands in their order, fills in their marks and finds the first condition that fails.
@@ -1047,18 +1061,21 @@ impl Checker<'_> {
         (all, inside)
     }
 
+    /// The join of the labels of a command's expressions, and that of those in its indices.
+    fn labels_of(&self, command: &Command) -> (u8, u8) {
+        let (value, inside) = self.label(command.value);
+        let Form::Put { index, .. } = command.form else {
+            return (value, inside);
+        };
+        let (place, _) = self.label(index);
+        (self.join(value, place), self.join(inside, place))
+    }
+
     fn demand(&self, have: u8, allowed: u8, command: &Command) -> Answer<()> {
         if self.program.lattice.flows(have, allowed) {
             return Ok(());
         }
-        let rule = match command.form {
-            Form::Skip => "T-SKIP",
-            Form::Assign { .. } | Form::Put { .. } => "T-ASGN",
-            Form::Sleep => "T-SLEEP",
-            Form::If { .. } => "T-IF",
-            Form::While { .. } => "T-WHILE",
-            Form::Mitigate { .. } => "T-MTG",
-        };
+        let rule = rule_of(command);
         let (line, column) = place_of(self.program.text, command.at as usize);
         let (have, allowed) = (self.program.lattice.name(have), self.program.lattice.name(allowed));
         Err(Stop::Line(1, format!("refused {rule} at {line}:{column}: {have} does not flow to {allowed}\n")))
@@ -1073,11 +1090,7 @@ impl Checker<'_> {
 
     /// Checks a command and gives its end label.
     fn command(&mut self, command: &mut Command, counter: u8, start: u8) -> Answer<u8> {
-        let (mut value, mut inside) = self.label(command.value);
-        if let Form::Put { index, .. } = command.form {
-            let (place, _) = self.label(index);
-            (value, inside) = (self.join(value, place), self.join(inside, place));
-        }
+        let (value, inside) = self.labels_of(command);
         let bound = self.join(counter, inside);
         if !command.has_marks {
             (command.read, command.write) = (bound, bound);
@@ -1333,12 +1346,13 @@ struct Instruction {
 }
 
 /// The partitions that an access concerns: it changes that of `write`, and reads it where `reads_own` says so, and
-/// those of `others`, a bit for each label.
+/// those of `others`, a bit for each label. `read` is its read label.
 #[derive(Clone, Copy)]
 struct Reach {
     others: u32,
     write: u8,
     reads_own: bool,
+    read: u8,
 }
 
 /// An image, and the greatest number of operands that one of its expressions has at once.
@@ -1360,7 +1374,7 @@ fn lowered(labelled: &Labelled) -> Answer<Image> {
     let bottom = labelled.program.lattice.bottom;
     lowering.push(Act::Halt, (bottom, bottom));
     if lowering.code.len() > MOST_INSTRUCTIONS {
-        return plain(format!("too long: image {}", lowering.code.len()));
+        return Err(Stop::Line(7, format!("too long: image {}\n", lowering.code.len())));
     }
     Ok(Image { code: lowering.code, most_operands: lowering.most_operands })
 }
@@ -1368,7 +1382,7 @@ fn lowered(labelled: &Labelled) -> Answer<Image> {
 impl Lowering<'_> {
     fn push(&mut self, act: Act, (read, write): (u8, u8)) {
         let below = self.labelled.program.lattice.below[read as usize];
-        let reach = Reach { others: below & !(1 << write), write, reads_own: below >> write & 1 != 0 };
+        let reach = Reach { others: below & !(1 << write), write, reads_own: below >> write & 1 != 0, read };
         self.code.push(Instruction { act, reach });
     }
 
@@ -1465,6 +1479,295 @@ impl Lowering<'_> {
     }
 }
 
+/// Writes the text of an image.
+fn image_text(labelled: &Labelled, image: &Image) -> Vec<u8> {
+    let program = &labelled.program;
+    let (owners, names) = (program.owners(), &program.lattice.names);
+    let mut out = Vec::with_capacity(20 * image.code.len());
+    for (number, Instruction { act, reach }) in image.code.iter().enumerate() {
+        write_number(number as u64, &mut out);
+        let name_of = |variable: u32| program.declarations[owners[variable as usize] as usize].name.as_bytes();
+        let named = |out: &mut Vec<u8>, name: &str, variable: u32| {
+            out.extend_from_slice(name.as_bytes());
+            out.extend_from_slice(name_of(variable));
+        };
+        let numbered = |out: &mut Vec<u8>, name: &str, number: u32| {
+            out.extend_from_slice(name.as_bytes());
+            write_number(number as u64, out);
+        };
+        match *act {
+            Act::Push(value) => {
+                out.extend_from_slice(b" PUSH ");
+                write_signed(value, &mut out);
+            }
+            Act::Load(variable) => named(&mut out, " LOAD ", variable),
+            Act::Store(variable) => named(&mut out, " STORE ", variable),
+            Act::LoadElement { first, .. } => named(&mut out, " LOADX ", first),
+            Act::StoreElement { first, .. } => named(&mut out, " STOREX ", first),
+            Act::Apply(operator) => {
+                out.extend_from_slice(b" OP ");
+                out.extend_from_slice(operator.sign().as_bytes());
+            }
+            Act::JumpIfZero(target) => numbered(&mut out, " BRZ ", target),
+            Act::JumpIfNot(target) => numbered(&mut out, " BRNZ ", target),
+            Act::Jump(target) => numbered(&mut out, " JMP ", target),
+            Act::Sleep => out.extend_from_slice(b" SLEEP"),
+            Act::Begin { level, mark } => {
+                out.extend_from_slice(b" MITB ");
+                out.extend_from_slice(names[level as usize].as_bytes());
+                numbered(&mut out, " ", mark);
+            }
+            Act::End => out.extend_from_slice(b" MITE"),
+            Act::Nothing => out.extend_from_slice(b" NOP"),
+            Act::Halt => out.extend_from_slice(b" HALT"),
+        }
+        out.extend_from_slice(b" [");
+        out.extend_from_slice(names[reach.read as usize].as_bytes());
+        out.extend_from_slice(b", ");
+        out.extend_from_slice(names[reach.write as usize].as_bytes());
+        out.extend_from_slice(b"]\n");
+    }
+    out
+}
+
+// --- Certificates
+
+/// The labels that a certificate tells of each command, in the order of the text: its program counter, its start and
+/// its end.
+struct Derivation<'p> {
+    checker: Checker<'p>,
+    nodes: &'p [u8],
+    told: Vec<(u8, u8, u8)>,
+}
+
+impl Derivation<'_> {
+    fn list(&mut self, commands: &[Command], counter: u8, mut start: u8) -> u8 {
+        for command in commands {
+            let place = self.told.len();
+            self.told.push((counter, start, start));
+            start = self.end(command, counter, start);
+            self.told[place].2 = start;
+        }
+        start
+    }
+
+    fn end(&mut self, command: &Command, counter: u8, start: u8) -> u8 {
+        let (value, _) = self.checker.labels_of(command);
+        let after = self.checker.join(self.checker.join(start, value), command.read);
+        let inner = self.checker.join(counter, value);
+        match &command.form {
+            Form::Assign { to } | Form::Put { to, .. } => self.checker.labels[*to as usize],
+            Form::Skip | Form::Sleep => after,
+            Form::If { yes, no } => {
+                let end = self.list(yes, inner, after);
+                let other = self.list(no, inner, after);
+                self.checker.join(end, other)
+            }
+            Form::While { body, start } => {
+                let end = self.nodes[*start as usize];
+                self.list(body, inner, end);
+                end
+            }
+            Form::Mitigate { body, .. } => {
+                self.list(body, counter, after);
+                after
+            }
+        }
+    }
+}
+
+/// Writes the certificate of a program's least labelling.
+fn certificate(labelled: &Labelled) -> Vec<u8> {
+    let program = &labelled.program;
+    let bottom = program.lattice.bottom;
+    let checker = Checker { program, labels: &labelled.variables, counters: Vec::new() };
+    let mut derivation = Derivation { checker, nodes: &labelled.nodes, told: Vec::with_capacity(program.commands) };
+    derivation.list(&program.body, bottom, bottom);
+    let mut out = Vec::with_capacity(60 * program.commands);
+    out.extend_from_slice(b"certificate 1\n");
+    for (declaration, &label) in program.declarations.iter().zip(&labelled.variables) {
+        for part in ["var ", declaration.name, " ", program.lattice.name(label), "\n"] {
+            out.extend_from_slice(part.as_bytes());
+        }
+    }
+    certify_list(labelled, &program.body, &mut derivation.told.iter(), 0, &mut out);
+    out
+}
+
+fn certify_list<'d>(
+    labelled: &Labelled,
+    commands: &[Command],
+    told: &mut impl Iterator<Item = &'d (u8, u8, u8)>,
+    mut number: u64,
+    out: &mut Vec<u8>,
+) -> u64 {
+    let lattice = &labelled.program.lattice;
+    for command in commands {
+        let Some(&(counter, start, end)) = told.next() else {
+            return number;
+        };
+        write_number(number, out);
+        number += 1;
+        out.push(b' ');
+        out.extend_from_slice(rule_of(command).as_bytes());
+        let labels =
+            [(" pc ", counter), (" start ", start), (" er ", command.read), (" ew ", command.write), (" end ", end)];
+        for (word, label) in labels {
+            out.extend_from_slice(word.as_bytes());
+            out.extend_from_slice(lattice.name(label).as_bytes());
+        }
+        if let Form::Mitigate { mark, .. } = command.form {
+            out.extend_from_slice(b" level ");
+            out.extend_from_slice(lattice.name(labelled.levels[mark as usize]).as_bytes());
+        }
+        out.push(b'\n');
+        number = match &command.form {
+            Form::If { yes, no } => {
+                number = certify_list(labelled, yes, told, number, out);
+                certify_list(labelled, no, told, number, out)
+            }
+            Form::While { body, .. } | Form::Mitigate { body, .. } => certify_list(labelled, body, told, number, out),
+            _ => number,
+        };
+    }
+    number
+}
+
+/// What the end of a list has to be: anything, this label, one that with the first gives the second, one below this.
+#[derive(Clone, Copy)]
+enum Fits {
+    All,
+    Is(u8),
+    Joins(u8, u8),
+    Below(u8),
+}
+
+/// Goes over the lines of a certificate; `number` is that of the line at hand.
+struct Recheck<'p> {
+    program: &'p Program<'p>,
+    text: &'p [u8],
+    at: usize,
+    number: u64,
+    command: u64,
+}
+
+impl<'p> Recheck<'p> {
+    fn demand(&self, holds: bool) -> Answer<()> {
+        if holds {
+            return Ok(());
+        }
+        Err(Stop::Line(12, format!("rejected: line {}\n", self.number)))
+    }
+
+    /// The words of the next line.
+    fn line(&mut self) -> Answer<std::slice::Split<'p, u8, impl FnMut(&u8) -> bool + use<>>> {
+        self.number += 1;
+        let rest = &self.text[self.at..];
+        let end = rest.iter().position(|byte| *byte == b'\n');
+        self.demand(end.is_some())?;
+        let end = end.unwrap_or(0);
+        self.at += end + 1;
+        Ok(rest[..end].split(|byte| *byte == b' '))
+    }
+
+    fn word<'a>(&self, words: &mut impl Iterator<Item = &'a [u8]>, wanted: &[u8]) -> Answer<()> {
+        self.demand(words.next() == Some(wanted))
+    }
+
+    fn label<'a>(&self, words: &mut impl Iterator<Item = &'a [u8]>) -> Answer<u8> {
+        let word = words.next().unwrap_or(b"");
+        let place = self.program.lattice.names.iter().position(|name| name.as_bytes() == word);
+        self.demand(place.is_some())?;
+        Ok(place.unwrap_or(0) as u8)
+    }
+
+    fn whole(&mut self) -> Answer<()> {
+        let mut words = self.line()?;
+        self.word(&mut words, b"certificate")?;
+        self.word(&mut words, b"1")?;
+        self.demand(words.next().is_none())?;
+        let mut labels = Vec::with_capacity(self.program.declarations.len());
+        for declaration in &self.program.declarations {
+            let mut words = self.line()?;
+            self.word(&mut words, b"var")?;
+            self.word(&mut words, declaration.name.as_bytes())?;
+            let label = self.label(&mut words)?;
+            self.demand(words.next().is_none() && declaration.label.is_none_or(|written| written == label))?;
+            labels.push(label);
+        }
+        let bottom = self.program.lattice.bottom;
+        let checker = Checker { program: self.program, labels: &labels, counters: Vec::new() };
+        self.list(&checker, &self.program.body, (bottom, bottom), Fits::All)?;
+        self.number += 1;
+        self.demand(self.at == self.text.len())
+    }
+
+    fn list(&mut self, checker: &Checker, commands: &[Command], start: (u8, u8), fits: Fits) -> Answer<u8> {
+        let (counter, mut start) = start;
+        for (place, command) in commands.iter().enumerate() {
+            let fits = if place + 1 < commands.len() { Fits::All } else { fits };
+            start = self.one(checker, command, (counter, start), fits)?;
+        }
+        Ok(start)
+    }
+
+    fn one(&mut self, checker: &Checker, command: &Command, (counter, start): (u8, u8), fits: Fits) -> Answer<u8> {
+        let lattice = &self.program.lattice;
+        let mut words = self.line()?;
+        let mut digits = Vec::with_capacity(20);
+        write_number(self.command, &mut digits);
+        self.command += 1;
+        self.word(&mut words, &digits)?;
+        self.word(&mut words, rule_of(command).as_bytes())?;
+        let mut labels = [0; 5];
+        for (label, word) in labels.iter_mut().zip([&b"pc"[..], b"start", b"er", b"ew", b"end"]) {
+            self.word(&mut words, word)?;
+            *label = self.label(&mut words)?;
+        }
+        let mut level = None;
+        if let Form::Mitigate { .. } = command.form {
+            self.word(&mut words, b"level")?;
+            level = Some(self.label(&mut words)?);
+        }
+        self.demand(words.next().is_none())?;
+        let [counter_told, start_told, read, write, end] = labels;
+        self.demand(counter_told == counter && start_told == start)?;
+        let (value, inside) = checker.labels_of(command);
+        let bound = lattice.join(counter, inside);
+        let marks = if command.has_marks { (command.read, command.write) } else { (bound, bound) };
+        self.demand((read, write) == marks && lattice.flows(bound, write))?;
+        self.demand(match fits {
+            Fits::All => true,
+            Fits::Is(label) => end == label,
+            Fits::Joins(other, label) => lattice.join(other, end) == label,
+            Fits::Below(label) => lattice.flows(end, label),
+        })?;
+        let (after, inner) = (lattice.join(lattice.join(start, value), read), lattice.join(counter, value));
+        match &command.form {
+            Form::Skip | Form::Sleep => self.demand(end == after)?,
+            Form::Assign { to } | Form::Put { to, .. } => {
+                let label = checker.labels[*to as usize];
+                self.demand(lattice.flows(lattice.join(after, bound), label) && end == label)?;
+            }
+            Form::If { yes, no } => {
+                let first = self.list(checker, yes, (inner, after), Fits::All)?;
+                self.list(checker, no, (inner, after), Fits::Joins(first, end))?;
+            }
+            Form::While { body, .. } => {
+                self.demand(lattice.flows(after, end))?;
+                self.list(checker, body, (inner, end), Fits::Is(end))?;
+            }
+            Form::Mitigate { mark, body } => {
+                let level = level.unwrap_or(0);
+                let written = self.program.levels[*mark as usize];
+                self.demand(end == after && written.is_none_or(|written| written == level))?;
+                self.list(checker, body, (counter, after), Fits::Below(level))?;
+            }
+        }
+        Ok(end)
+    }
+}
+
 // --- Caches
 
 const FLAT: u8 = 0;
@@ -1493,6 +1796,32 @@ impl Caches {
             code: [[NO_TAG; 2]; MOST_LABELS * FIRST_SETS],
             data: [[NO_TAG; 2]; MOST_LABELS * FIRST_SETS],
             second: [[NO_TAG; 4]; MOST_LABELS * SECOND_SETS],
+        }
+    }
+
+    /// Makes the touches of a start.
+    fn warm(&mut self, environment: u8, touches: &[Touch]) {
+        for &Touch { place, label, address } in touches {
+            let reach = Reach { others: 0, write: label, reads_own: false, read: label };
+            match (place, environment) {
+                (_, FLAT) | (Place::Second, PART) => {}
+                (Place::Page, _) => _ = touch::<1, 4>(&mut self.page, address / 1024, reach),
+                (Place::Code, _) => _ = touch::<FIRST_SETS, 2>(&mut self.code, address / 32, reach),
+                (Place::Data, _) => _ = touch::<FIRST_SETS, 2>(&mut self.data, address / 32, reach),
+                (Place::Second, _) => _ = touch::<SECOND_SETS, 4>(&mut self.second, address / 32, reach),
+            }
+        }
+    }
+
+    /// Whether the partition of a label holds the same as another's.
+    fn is_same(&self, other: &Caches, place: Place, label: u8) -> bool {
+        let label = label as usize;
+        let (first, second) = (label * FIRST_SETS, label * SECOND_SETS);
+        match place {
+            Place::Page => self.page[label] == other.page[label],
+            Place::Code => self.code[first..first + FIRST_SETS] == other.code[first..first + FIRST_SETS],
+            Place::Data => self.data[first..first + FIRST_SETS] == other.data[first..first + FIRST_SETS],
+            Place::Second => self.second[second..second + SECOND_SETS] == other.second[second..second + SECOND_SETS],
         }
     }
 
@@ -1576,6 +1905,7 @@ fn is_elsewhere<const SETS: usize, const WAYS: usize>(
 struct Opened {
     estimate: i64,
     level: u8,
+    mark: u32,
     begun: u64,
 }
 
@@ -1592,10 +1922,11 @@ struct Machine {
     has_halted: bool,
 }
 
-/// What a run tells: a variable, its new value and its cycle, and the mark of each mitigation that began.
+/// What a run tells: a variable, its new value and its cycle, and the mark of each mitigation that began or ended.
 trait Listener {
     fn assigned(&mut self, variable: usize, value: i64, cycle: u64);
-    fn began(&mut self, mark: u32);
+    fn began(&mut self, _mark: u32) {}
+    fn ended(&mut self, _mark: u32) {}
 }
 
 /// The value of an operator and what it costs beyond 1.
@@ -1635,10 +1966,11 @@ impl Machine {
         }
     }
 
-    /// Runs an image from a memory and empty caches to a limit.
-    fn run(&mut self, environment: u8, code: &[Instruction], memory: &[i64], limit: u64, listener: &mut impl Listener) {
-        self.memory.copy_from_slice(memory);
+    /// Runs an image from a start to a limit.
+    fn run(&mut self, environment: u8, code: &[Instruction], start: &Start, limit: u64, listener: &mut impl Listener) {
+        self.memory.copy_from_slice(&start.memory);
         self.caches.clear(self.labels);
+        self.caches.warm(environment, &start.touches);
         self.opened.clear();
         self.misses = [0; MOST_LABELS];
         match environment {
@@ -1718,11 +2050,17 @@ impl Machine {
                     if clock > limit {
                         break false;
                     }
-                    self.opened.push(Opened { estimate: operands[top], level, begun: clock });
+                    self.opened.push(Opened { estimate: operands[top], level, mark, begun: clock });
                     listener.began(mark);
                 }
                 Act::End => match self.opened.pop() {
-                    Some(opened) if clock <= limit => clock = settled(&opened, &mut self.misses, clock),
+                    Some(opened) if clock <= limit => {
+                        clock = settled(&opened, &mut self.misses, clock);
+                        if clock > limit {
+                            break false;
+                        }
+                        listener.ended(opened.mark);
+                    }
                     _ => break false,
                 },
                 Act::Nothing => {}
@@ -1755,122 +2093,444 @@ fn settled(opened: &Opened, misses: &mut [u32; MOST_LABELS], clock: u64) -> u64 
 
 // --- Start files
 
-/// Reads a start file, one line after the other: `version = N`, `[[run]]` and `memory = { .. }`.
-fn starts_of(text: &str, program: &Program) -> Answer<Vec<Vec<i64>>> {
-    let (mut starts, mut version) = (Vec::new(), 1);
-    let mut has_memory = false;
-    for line in text.lines() {
-        let line = line.split('#').next().unwrap_or("").trim();
-        if line.is_empty() {
-            continue;
+#[derive(Clone, Copy, PartialEq)]
+enum Place {
+    Page,
+    Code,
+    Data,
+    Second,
+}
+
+const PLACES: [(&str, Place); 4] =
+    [("page", Place::Page), ("code", Place::Code), ("data", Place::Data), ("second", Place::Second)];
+
+struct Touch {
+    place: Place,
+    label: u8,
+    address: u32,
+}
+
+struct Start {
+    memory: Vec<i64>,
+    touches: Vec<Touch>,
+}
+
+/// Reads a start file from its first byte on.
+struct StartReader<'t> {
+    text: &'t [u8],
+    at: usize,
+    program: &'t Program<'t>,
+    version: i64,
+}
+
+fn starts_of(text: &str, program: &Program) -> Answer<Vec<Start>> {
+    let mut reader = StartReader { text: text.as_bytes(), at: 0, program, version: 1 };
+    reader.blank();
+    if reader.word_is(b"version") {
+        reader.want(b'=')?;
+        reader.version = reader.number()?;
+        if !(1..=2).contains(&reader.version) {
+            return plain("starts: version");
         }
-        if line == "[[run]]" {
-            starts.push(vec![0; program.elements]);
-            has_memory = false;
-            continue;
-        }
-        let Some((key, value)) = line.split_once('=') else {
-            return plain("starts: a line that this reader does not know");
-        };
-        match (key.trim(), starts.last_mut()) {
-            ("version", None) if value.trim() == "1" => version = 1,
-            ("version", None) if value.trim() == "2" => version = 2,
-            ("memory", Some(memory)) if !has_memory => {
-                has_memory = true;
-                Table { text: value, program, version, memory }.read()?;
-            }
-            _ => return plain(format!("starts: the key {} here", key.trim())),
-        }
+        reader.blank();
     }
-    if starts.is_empty() || starts.len() > MOST_RUNS {
-        return plain(format!("starts: {} runs", starts.len()));
+    let mut starts = Vec::new();
+    while reader.takes(b'[') {
+        reader.want(b'[')?;
+        reader.wants_word(b"run")?;
+        reader.want(b']')?;
+        reader.want(b']')?;
+        starts.push(reader.start()?);
+    }
+    if reader.at != text.len() || starts.is_empty() || starts.len() > MOST_RUNS {
+        return plain("starts: something that this reader does not know");
     }
     Ok(starts)
 }
 
-/// A table `{ x = 1, a = [1, 2] }` that goes into a memory; `text` is what is still to read.
-struct Table<'t> {
-    text: &'t str,
-    program: &'t Program<'t>,
-    version: u32,
-    memory: &'t mut [i64],
-}
-
-impl<'t> Table<'t> {
-    fn takes(&mut self, sign: char) -> bool {
-        self.text = self.text.trim_start();
-        let rest = self.text.strip_prefix(sign);
-        self.text = rest.unwrap_or(self.text);
-        rest.is_some()
+impl<'t> StartReader<'t> {
+    fn fault<T>(&self) -> Answer<T> {
+        plain(format!("starts: byte {} is not as this reader wants it", self.at))
     }
 
-    fn want(&mut self, sign: char) -> Answer<()> {
-        if self.takes(sign) {
-            return Ok(());
+    fn byte(&self) -> u8 {
+        self.text.get(self.at).copied().unwrap_or(0)
+    }
+
+    /// Goes past white space, line ends and comments.
+    fn blank(&mut self) {
+        loop {
+            match self.byte() {
+                b' ' | b'\t' | b'\n' | b'\r' => self.at += 1,
+                b'#' => {
+                    while self.at < self.text.len() && self.text[self.at] != b'\n' {
+                        self.at += 1;
+                    }
+                }
+                _ => return,
+            }
         }
-        plain(format!("starts: no {sign} in a table"))
     }
 
-    fn word(&mut self) -> &'t str {
-        self.text = self.text.trim_start();
-        let is_end = |c: char| !(c.is_ascii_alphanumeric() || c == '_' || c == '-' || c == '+');
-        let (word, rest) = self.text.split_at(self.text.find(is_end).unwrap_or(self.text.len()));
-        self.text = rest;
-        word
+    fn takes(&mut self, sign: u8) -> bool {
+        self.blank();
+        let is_there = self.byte() == sign;
+        self.at += is_there as usize;
+        is_there
+    }
+
+    fn want(&mut self, sign: u8) -> Answer<()> {
+        if self.takes(sign) { Ok(()) } else { self.fault() }
+    }
+
+    fn word(&mut self) -> &'t [u8] {
+        self.blank();
+        let first = self.at;
+        while self.byte().is_ascii_alphanumeric() || matches!(self.byte(), b'_' | b'-' | b'+') {
+            self.at += 1;
+        }
+        &self.text[first..self.at]
+    }
+
+    fn word_is(&mut self, wanted: &[u8]) -> bool {
+        let before = self.at;
+        let is_there = self.word() == wanted;
+        if !is_there {
+            self.at = before;
+        }
+        is_there
+    }
+
+    fn wants_word(&mut self, wanted: &[u8]) -> Answer<()> {
+        if self.word_is(wanted) { Ok(()) } else { self.fault() }
     }
 
     fn number(&mut self) -> Answer<i64> {
         let word = self.word();
-        word.parse().or_else(|_| plain(format!("starts: {word} is not a number")))
+        match std::str::from_utf8(word).ok().and_then(|word| word.parse().ok()) {
+            Some(number) => Ok(number),
+            None => self.fault(),
+        }
     }
 
-    fn read(mut self) -> Answer<()> {
-        self.want('{')?;
-        if !self.takes('}') {
-            self.entry()?;
-            while self.takes(',') {
-                self.entry()?;
+    fn text(&mut self) -> Answer<&'t [u8]> {
+        self.want(b'"')?;
+        let first = self.at;
+        while self.byte() != b'"' {
+            if self.at == self.text.len() || matches!(self.byte(), b'\\' | b'\n') {
+                return self.fault();
             }
-            self.want('}')?;
+            self.at += 1;
         }
-        if self.text.trim().is_empty() {
-            return Ok(());
-        }
-        plain("starts: more after a table")
+        self.at += 1;
+        Ok(&self.text[first..self.at - 1])
     }
 
-    fn entry(&mut self) -> Answer<()> {
+    /// The keys of a run, after its head.
+    fn start(&mut self) -> Answer<Start> {
+        let mut start = Start { memory: vec![0; self.program.elements], touches: Vec::new() };
+        loop {
+            if self.word_is(b"memory") {
+                self.want(b'=')?;
+                self.want(b'{')?;
+                while !self.takes(b'}') {
+                    self.entry(&mut start.memory)?;
+                    if !self.takes(b',') {
+                        self.want(b'}')?;
+                        break;
+                    }
+                }
+            } else if self.word_is(b"touch") {
+                self.want(b'=')?;
+                self.want(b'[')?;
+                while !self.takes(b']') {
+                    start.touches.push(self.touch()?);
+                    if !self.takes(b',') {
+                        self.want(b']')?;
+                        break;
+                    }
+                }
+            } else {
+                return Ok(start);
+            }
+        }
+    }
+
+    fn entry(&mut self, memory: &mut [i64]) -> Answer<()> {
         let name = self.word();
-        self.want('=')?;
-        let Some(&number) = self.program.numbers.get(name) else {
-            return plain(format!("starts: unknown key {name}"));
+        self.want(b'=')?;
+        let Some(&number) = std::str::from_utf8(name).ok().and_then(|name| self.program.numbers.get(name)) else {
+            return self.fault();
         };
         let declaration = &self.program.declarations[number as usize];
         let first = declaration.first as usize;
         match declaration.length {
-            None => self.memory[first] = self.number()?,
-            Some(length) if self.version == 2 => self.elements(first, length as usize)?,
-            Some(_) => return plain("starts: an array in version 1"),
+            None => memory[first] = self.number()?,
+            Some(length) if self.version == 2 => self.elements(&mut memory[first..first + length as usize])?,
+            Some(_) => return self.fault(),
         }
         Ok(())
     }
 
-    fn elements(&mut self, first: usize, length: usize) -> Answer<()> {
-        self.want('[')?;
+    fn elements(&mut self, memory: &mut [i64]) -> Answer<()> {
+        self.want(b'[')?;
         let mut place = 0;
-        while !self.takes(']') {
-            if place == length {
-                return plain("starts: an array of too many numbers");
+        while !self.takes(b']') {
+            if place == memory.len() {
+                return self.fault();
             }
-            self.memory[first + place] = self.number()?;
+            memory[place] = self.number()?;
             place += 1;
-            if !self.takes(',') {
-                self.want(']')?;
-                break;
+            if !self.takes(b',') {
+                return self.want(b']');
             }
         }
         Ok(())
     }
+
+    fn touch(&mut self) -> Answer<Touch> {
+        let (mut place, mut label, mut address) = (None, None, None);
+        self.want(b'{')?;
+        loop {
+            if self.word_is(b"place") {
+                self.want(b'=')?;
+                let name = self.text()?;
+                place = PLACES.iter().find(|(known, _)| known.as_bytes() == name).map(|(_, place)| *place);
+            } else if self.word_is(b"label") {
+                self.want(b'=')?;
+                let name = self.text()?;
+                label = std::str::from_utf8(name).ok().and_then(|name| self.program.lattice.find(name));
+            } else {
+                self.wants_word(b"address")?;
+                self.want(b'=')?;
+                address = u32::try_from(self.number()?).ok();
+            }
+            if !self.takes(b',') {
+                break;
+            }
+        }
+        self.want(b'}')?;
+        match (place, label, address) {
+            (Some(place), Some(label), Some(address)) if self.version == 2 || place != Place::Second => {
+                Ok(Touch { place, label, address })
+            }
+            _ => self.fault(),
+        }
+    }
+}
+
+// --- The untimed meaning
+
+struct Meaning<'p> {
+    program: &'p Program<'p>,
+    memory: Vec<i64>,
+    operands: Vec<i64>,
+    owners: Vec<u32>,
+    out: Vec<u8>,
+}
+
+impl Meaning<'_> {
+    fn value(&mut self, expression: Expression) -> i64 {
+        self.operands.clear();
+        for part in self.program.parts_of(expression) {
+            match *part {
+                Part::Number(value) => self.operands.push(value),
+                Part::Variable { declaration, .. } => {
+                    let variable = self.program.declarations[declaration as usize].first;
+                    self.operands.push(self.memory[variable as usize]);
+                }
+                Part::Element { declaration, .. } => {
+                    let index = self.operands.pop().unwrap_or(0);
+                    self.operands.push(self.memory[self.element(declaration, index)]);
+                }
+                Part::Apply { operator, .. } => {
+                    let right = self.operands.pop().unwrap_or(0);
+                    let left = self.operands.pop().unwrap_or(0);
+                    self.operands.push(applied(operator, left, right).0);
+                }
+            }
+        }
+        self.operands.pop().unwrap_or(0)
+    }
+
+    fn element(&self, declaration: u32, index: i64) -> usize {
+        let declaration = &self.program.declarations[declaration as usize];
+        chosen(declaration.first, declaration.length.unwrap_or(1), index)
+    }
+
+    fn assign(&mut self, variable: usize, value: i64) {
+        self.memory[variable] = value;
+        self.program.write_variable(&self.owners, variable, &mut self.out);
+        self.out.extend_from_slice(b" = ");
+        write_signed(value, &mut self.out);
+        self.out.push(b'\n');
+        if self.out.len() >= FULL {
+            send(&self.out);
+            self.out.clear();
+        }
+    }
+
+    /// Takes at most so many steps, and writes each assignment and the last line.
+    fn steps(&mut self, steps: u64) {
+        let program = self.program;
+        let mut waiting: Vec<(&[Command], usize)> = vec![(&program.body, 0)];
+        let mut taken = 0;
+        loop {
+            while waiting.last().is_some_and(|(commands, next)| *next == commands.len()) {
+                waiting.pop();
+            }
+            let Some((commands, next)) = waiting.last_mut() else {
+                self.out.extend_from_slice(b"ended after ");
+                break;
+            };
+            if taken == steps {
+                self.out.extend_from_slice(b"not ended after ");
+                break;
+            }
+            taken += 1;
+            let command = &commands[*next];
+            *next += 1;
+            match &command.form {
+                Form::Skip | Form::Sleep => {}
+                Form::Assign { to } => {
+                    let value = self.value(command.value);
+                    self.assign(program.declarations[*to as usize].first as usize, value);
+                }
+                Form::Put { to, index } => {
+                    let (index, value) = (self.value(*index), self.value(command.value));
+                    self.assign(self.element(*to, index), value);
+                }
+                Form::If { yes, no } => {
+                    let branch = if self.value(command.value) != 0 { yes } else { no };
+                    waiting.push((branch, 0));
+                }
+                Form::While { body, .. } => {
+                    if self.value(command.value) != 0 {
+                        *next -= 1;
+                        waiting.push((body, 0));
+                    }
+                }
+                Form::Mitigate { body, .. } => waiting.push((body, 0)),
+            }
+        }
+        write_number(taken, &mut self.out);
+        self.out.extend_from_slice(b" steps\n");
+        send(&self.out);
+    }
+}
+
+fn meaning(program: &Program, start: &Start, steps: u64) {
+    let mut meaning = Meaning {
+        program,
+        memory: start.memory.clone(),
+        operands: Vec::new(),
+        owners: program.owners(),
+        out: Vec::with_capacity(2 * FULL),
+    };
+    meaning.steps(steps);
+}
+
+// --- Made programs
+
+/// The text of a made program, and its four starts.
+fn made(size: u64, number: u64) -> (String, Vec<Start>) {
+    let mut state = number;
+    let mut draw = |below: u64| {
+        state = (state * 1_103_515_245 + 12_345) % (1 << 31);
+        state / 65_536 % below
+    };
+    let mut text = String::with_capacity(64 * size as usize);
+    for name in ["l", "h"] {
+        for place in 0..4 {
+            text += &format!("var {name}{place} : {};\n", name.to_uppercase());
+        }
+    }
+    for unit in 0..size {
+        let (kind, a, b, c) = (draw(4), draw(4), draw(4), draw(100));
+        let d = c + 1;
+        text += if unit == 0 { "" } else { ";\n" };
+        text += &match kind {
+            0 => format!("l{a} := l{b} + {c}"),
+            1 => format!("mitigate ({d}, H) {{ h{a} := (h{b} + {c}) % 16 }}"),
+            2 => format!("mitigate ({d}, H) {{ while h{a} > 0 do {{ h{a} := h{a} - 1 }} }}"),
+            _ => format!("if l{a} > {c} then {{ l{b} := l{a} - {c} }} else {{ l{a} := l{a} + 1 }}"),
+        };
+    }
+    text.push('\n');
+    let start = |r: i64| Start { memory: vec![0, 0, 0, 0, r, 2 * r, 3 * r, 5 * r], touches: Vec::new() };
+    (text, (0..4).map(start).collect())
+}
+
+fn gen_made(size: u64, number: u64) -> Answer<()> {
+    let (text, starts) = made(size, number);
+    let labelled = labelled(parsed(&text)?)?;
+    let image = lowered(&labelled)?;
+    let asked = Asked { environment: PART, budget: GREATEST_BUDGET, observer: 0, is_cut: false };
+    let audit = audit(&labelled, &image, &starts, &asked)?;
+    let (commands, instructions) = (labelled.program.commands, image.code.len());
+    let length = text.len();
+    send(format!("made {size} {number}\nprogram {length}\ncommands {commands}\ninstructions {instructions}\n{audit}").as_bytes());
+    Ok(())
+}
+
+// --- The black box
+
+fn ready_runs(text: &[u8]) -> Answer<Vec<Vec<u64>>> {
+    let mut runs: Vec<Vec<u64>> = Vec::new();
+    for (place, line) in text.split(|byte| *byte == b'\n').enumerate() {
+        let is_space = |byte: &&u8| matches!(byte, b' ' | b'\t' | b'\r');
+        let first = line.iter().take_while(is_space).count();
+        let line = &line[first..];
+        let line = &line[..line.len() - line.iter().rev().take_while(is_space).count()];
+        let is_number = (1..=20).contains(&line.len()) && line.iter().all(u8::is_ascii_digit);
+        let value = line.iter().fold(0u128, |value, digit| 10 * value + digit.wrapping_sub(b'0') as u128);
+        match runs.last_mut() {
+            _ if line.is_empty() => {}
+            _ if line == b"run" => runs.push(Vec::new()),
+            Some(run) if is_number && value <= GREATEST_BUDGET as u128 => run.push(value as u64),
+            _ => return Err(Stop::Line(3, format!("ready: bad line {}\n", place + 1))),
+        }
+    }
+    match runs.len() {
+        0 => Err(Stop::Line(3, "ready: no runs\n".into())),
+        1..=MOST_RUNS => Ok(runs),
+        count => Err(Stop::Line(3, format!("ready: too many runs: {count}\n"))),
+    }
+}
+
+fn black_box(runs: &[Vec<u64>], first: u64, budget: u64) {
+    let (mut out, mut last) = (Vec::new(), String::new());
+    let mut classes: HashMap<Vec<u64>, usize> = HashMap::new();
+    for (place, ready) in runs.iter().enumerate() {
+        let (mut released, mut epochs, mut length, mut slot) = (Vec::new(), 1, first, first);
+        while slot <= budget {
+            if ready.get(released.len()).is_some_and(|cycle| *cycle <= slot) {
+                released.push(slot);
+            } else {
+                epochs += 1;
+                length *= 2;
+            }
+            slot += length;
+        }
+        let number = place as u64 + 1;
+        for (event, cycle) in released.iter().enumerate() {
+            out.extend_from_slice(b"run ");
+            write_number(number, &mut out);
+            out.extend_from_slice(b" event ");
+            write_number(event as u64 + 1, &mut out);
+            out.extend_from_slice(b" @");
+            write_number(*cycle, &mut out);
+            out.push(b'\n');
+        }
+        let (events, count, next) = (ready.len(), released.len(), classes.len() + 1);
+        let class = *classes.entry(released).or_insert(next);
+        last += &format!("run {number} events {events} released {count} epochs {epochs} class {class}\n");
+    }
+    let (count, distinct, base, digits) = (runs.len(), classes.len(), budget + 1, u64::BITS - budget.leading_zeros());
+    let middle = format!("runs {count}\nfirst {first}\nbudget {budget}\ndistinct {distinct}\nbound {base}^{digits}\n");
+    out.extend_from_slice(middle.as_bytes());
+    out.extend_from_slice(last.as_bytes());
+    send(&out);
 }
 
 // --- Commands
@@ -1892,8 +2552,6 @@ impl Listener for EventPrinter<'_> {
             self.print(variable, value, cycle);
         }
     }
-
-    fn began(&mut self, _: u32) {}
 }
 
 impl EventPrinter<'_> {
@@ -1928,13 +2586,13 @@ fn shown(labelled: &Labelled, owners: &[u32], observer: Option<u8>) -> Vec<bool>
     owners.iter().map(flows).collect()
 }
 
-fn run(labelled: &Labelled, image: &Image, memory: &[i64], words: &Words, observer: Option<u8>) -> u8 {
+fn run(labelled: &Labelled, image: &Image, start: &Start, words: &Words, observer: Option<u8>) -> u8 {
     let program = &labelled.program;
     let owners = program.owners();
     let is_shown = shown(labelled, &owners, observer);
     let mut printer = EventPrinter { program, owners, is_shown, out: Vec::with_capacity(2 * FULL) };
     let mut machine = Machine::new(program.lattice.names.len(), program.elements, image.most_operands);
-    machine.run(words.environment, &image.code, memory, words.budget, &mut printer);
+    machine.run(words.environment, &image.code, start, words.budget, &mut printer);
     let mut out = printer.out;
     out.extend_from_slice(if machine.has_halted { b"end @" } else { b"limit @" });
     write_number(machine.clock, &mut out);
@@ -1949,13 +2607,14 @@ fn run(labelled: &Labelled, image: &Image, memory: &[i64], words: &Words, observ
 
 type Event = (u32, i64, u64);
 
-/// The events that the observer sees, those of each different run once, and the number of relevant mitigations that
-/// began in the run at hand.
+/// The events that the observer sees, those of each different run once, and the numbers of relevant mitigations that
+/// began and ended in the run at hand.
 struct Watch {
     is_shown: Vec<bool>,
     is_relevant: Vec<bool>,
     events: Vec<Event>,
     begun: u64,
+    ended: u64,
 }
 
 impl Listener for Watch {
@@ -1967,6 +2626,10 @@ impl Listener for Watch {
 
     fn began(&mut self, mark: u32) {
         self.begun += self.is_relevant[mark as usize] as u64;
+    }
+
+    fn ended(&mut self, mark: u32) {
+        self.ended += self.is_relevant[mark as usize] as u64;
     }
 }
 
@@ -2000,82 +2663,116 @@ fn hash_of(events: &[Event]) -> u64 {
     events.iter().fold(0, |hash, event| mix(hash, mix(event.0 as u64 ^ event.2 << 12, event.1 as u64)))
 }
 
-fn audit(labelled: &Labelled, image: &Image, starts: &[Vec<i64>], words: &Words, observer: u8) -> Answer<u8> {
+/// What an audit is asked; one that is cut counts what is seen up to the budget, halted or not.
+struct Asked {
+    environment: u8,
+    budget: u64,
+    observer: u8,
+    is_cut: bool,
+}
+
+fn audit(labelled: &Labelled, image: &Image, starts: &[Start], asked: &Asked) -> Answer<String> {
     let program = &labelled.program;
     let lattice = &program.lattice;
     let owners = program.owners();
-    let is_shown = shown(labelled, &owners, Some(observer));
-    agreed(program, starts, &owners, &is_shown)?;
+    let is_shown = shown(labelled, &owners, Some(asked.observer));
+    agreed(program, starts, &owners, &is_shown, asked)?;
     let marks = labelled.counters.iter().zip(&labelled.levels);
     let is_relevant =
-        marks.map(|(counter, level)| lattice.flows(*counter, observer) && !lattice.flows(*level, observer));
+        marks.map(|(counter, level)| lattice.flows(*counter, asked.observer) && !lattice.flows(*level, asked.observer));
     let is_relevant = is_relevant.collect();
-    let mut watch = Watch { is_shown, is_relevant, events: Vec::new(), begun: 0 };
+    let mut watch = Watch { is_shown, is_relevant, events: Vec::new(), begun: 0, ended: 0 };
     let mut machine = Machine::new(lattice.names.len(), program.elements, image.most_operands);
-    let (mut classes, mut of_runs, mut total, mut mitigations) = (Classes::default(), Vec::new(), 0, 0);
-    for (number, memory) in starts.iter().enumerate() {
+    let (mut classes, mut of_runs, mut total) = (Classes::default(), Vec::new(), 0);
+    let (mut mitigations, mut most_ended, mut halted) = (0, 0, 0);
+    for (number, start) in starts.iter().enumerate() {
         let first = watch.events.len();
-        machine.run(words.environment, &image.code, memory, words.budget, &mut watch);
-        if !machine.has_halted {
+        watch.ended = 0;
+        machine.run(asked.environment, &image.code, start, asked.budget, &mut watch);
+        if !machine.has_halted && !asked.is_cut {
             return Err(Stop::Line(10, format!("unfinished: run {} @{}\n", number + 1, machine.clock)));
         }
         total += watch.events.len() - first;
         if total > MOST_EVENTS {
-            return plain(format!("too long: events {total}"));
+            return Err(Stop::Line(7, format!("too long: events {total}\n")));
         }
         if number == 0 {
             mitigations = watch.begun;
         }
+        most_ended = most_ended.max(watch.ended);
+        halted += machine.has_halted as u64;
         of_runs.push(classes.class_of(&mut watch.events, first));
     }
-    let levels = (0..lattice.names.len()).filter(|label| !lattice.flows(*label as u8, observer)).count();
-    let exponent = levels as u32 * (u64::BITS - words.budget.leading_zeros());
+    let levels = (0..lattice.names.len()).filter(|label| !lattice.flows(*label as u8, asked.observer)).count();
+    let exponent = levels as u32 * (u64::BITS - asked.budget.leading_zeros());
+    let (count, observer, budget, distinct) = (starts.len(), lattice.name(asked.observer), asked.budget, classes.ranges.len());
+    let (middle, base) = match asked.is_cut {
+        true => (format!("ended {most_ended}\nhalted {halted}\n"), most_ended + 1),
+        false => (format!("mitigations {mitigations}\n"), mitigations + 1),
+    };
     let mut out = format!(
-        "runs {}\nobserver {}\nbudget {}\nlevels {levels}\nmitigations {mitigations}\ndistinct {}\n\
-         bound {}^{exponent}\n",
-        starts.len(),
-        lattice.name(observer),
-        words.budget,
-        classes.ranges.len(),
-        mitigations + 1,
+        "runs {count}\nobserver {observer}\nbudget {budget}\nlevels {levels}\n{middle}distinct {distinct}\nbound {base}^{exponent}\n"
     );
     for (number, class) in of_runs.iter().enumerate() {
         out += &format!("run {} class {}\n", number + 1, class + 1);
     }
-    send(out.as_bytes());
-    Ok(0)
+    Ok(out)
 }
 
-/// Finds the first run that differs from the first one in a variable that the observer sees.
-fn agreed(program: &Program, starts: &[Vec<i64>], owners: &[u32], is_shown: &[bool]) -> Answer<()> {
-    for (number, memory) in starts.iter().enumerate() {
-        let differs = |variable: &usize| is_shown[*variable] && memory[*variable] != starts[0][*variable];
-        if let Some(variable) = (0..memory.len()).find(differs) {
-            let mut line = format!("disagree: run {}: variable ", number + 1).into_bytes();
+/// Finds the first run that differs from the first one in what the observer sees: a variable or a partition.
+fn agreed(program: &Program, starts: &[Start], owners: &[u32], is_shown: &[bool], asked: &Asked) -> Answer<()> {
+    let lattice = &program.lattice;
+    let caches = |start: &Start| {
+        let mut caches = Box::new(Caches::new());
+        caches.warm(asked.environment, &start.touches);
+        caches
+    };
+    let has_touches = starts.iter().any(|start| !start.touches.is_empty());
+    let first = caches(&starts[0]);
+    for (number, start) in starts.iter().enumerate() {
+        let differs = |variable: &usize| is_shown[*variable] && start.memory[*variable] != starts[0].memory[*variable];
+        let mut line = format!("disagree: run {}: ", number + 1).into_bytes();
+        if let Some(variable) = (0..start.memory.len()).find(differs) {
+            line.extend_from_slice(b"variable ");
             program.write_variable(owners, variable, &mut line);
             line.push(b'\n');
             return Err(Stop::Line(9, String::from_utf8_lossy(&line).into_owned()));
+        }
+        if !has_touches {
+            continue;
+        }
+        let own = caches(start);
+        for (name, place) in PLACES {
+            for label in 0..lattice.names.len() as u8 {
+                if lattice.flows(label, asked.observer) && !own.is_same(&first, place, label) {
+                    line.extend_from_slice(format!("partition {} of {name}\n", lattice.name(label)).as_bytes());
+                    return Err(Stop::Line(9, String::from_utf8_lossy(&line).into_owned()));
+                }
+            }
         }
     }
     Ok(())
 }
 
 /// The words of a call.
+#[derive(Default)]
 struct Words {
     command: String,
-    files: Vec<String>,
+    positional: Vec<String>,
     environment: u8,
     budget: u64,
     observer: Option<String>,
+    steps: Option<u64>,
+    first: Option<u64>,
 }
 
 fn words() -> Answer<Words> {
     let mut rest = std::env::args().skip(1);
     let command = rest.next().unwrap_or_default();
-    let mut words = Words { command, files: Vec::new(), environment: PART, budget: 1_000_000, observer: None };
+    let mut words = Words { command, environment: PART, budget: 1_000_000, ..Words::default() };
     while let Some(word) = rest.next() {
         let Some(option) = word.strip_prefix("--") else {
-            words.files.push(word);
+            words.positional.push(word);
             continue;
         };
         let (name, value) = match option.split_once('=') {
@@ -2087,30 +2784,56 @@ fn words() -> Answer<Words> {
             ("env", "part") => words.environment = PART,
             ("env", "part2") => words.environment = PART2,
             ("observer", _) => words.observer = Some(value),
-            ("budget", _) => match value.parse() {
-                Ok(budget @ 1..=GREATEST_BUDGET) => words.budget = budget,
-                _ => return plain("usage: the budget"),
-            },
+            ("budget", _) => words.budget = number_in(&value, 1, GREATEST_BUDGET)?,
+            ("steps", _) => words.steps = Some(number_in(&value, 0, GREATEST_BUDGET)?),
+            ("first", _) => words.first = Some(number_in(&value, 1, GREATEST_BUDGET)?),
             _ => return plain(format!("usage: --{name} {value}")),
         }
     }
     Ok(words)
 }
 
-fn text_of(file: Option<&String>) -> Answer<String> {
-    let Some(file) = file else {
-        return plain("usage: a file is missing");
-    };
-    match std::fs::read(file).map(String::from_utf8) {
-        Ok(Ok(text)) if text.len() <= MOST_BYTES => Ok(text),
-        Ok(Ok(_)) => plain(format!("too long: {file}")),
-        Ok(Err(_)) => plain(format!("not UTF-8: {file}")),
-        Err(fault) => plain(format!("{file}: {fault}")),
+fn number_in(text: &str, least: u64, most: u64) -> Answer<u64> {
+    match text.parse() {
+        Ok(number) if (least..=most).contains(&number) => Ok(number),
+        _ => plain(format!("usage: the number {text}")),
     }
 }
 
+fn bytes_of(words: &Words, place: usize, what: &str) -> Answer<Vec<u8>> {
+    let Some(file) = words.positional.get(place) else {
+        return plain(format!("usage: {what} is missing"));
+    };
+    match std::fs::read(file) {
+        Ok(bytes) if bytes.len() <= MOST_BYTES => Ok(bytes),
+        Ok(_) => Err(Stop::Line(7, format!("too long: {what}\n"))),
+        Err(_) => Err(Stop::Line(5, format!("read fault: {what}\n"))),
+    }
+}
+
+fn text_of(words: &Words, place: usize, what: &str) -> Answer<String> {
+    String::from_utf8(bytes_of(words, place, what)?).or_else(|_| plain(format!("not UTF-8: {what}")))
+}
+
+fn read_starts(words: &Words, program: &Program) -> Answer<Vec<Start>> {
+    if words.positional.len() < 2 {
+        return Ok(vec![Start { memory: vec![0; program.elements], touches: Vec::new() }]);
+    }
+    starts_of(&text_of(words, 1, "starts")?, program)
+}
+
 fn answered(words: &Words) -> Answer<u8> {
-    let text = text_of(words.files.first())?;
+    match (words.command.as_str(), words.first, &words.positional[..]) {
+        ("blackbox", Some(first), [_]) => black_box(&ready_runs(&bytes_of(words, 0, "ready")?)?, first, words.budget),
+        ("gen", _, [size, number]) => gen_made(number_in(size, 1, 10_000)?, number_in(number, 0, (1 << 31) - 1)?)?,
+        _ => return of_program(words),
+    }
+    Ok(0)
+}
+
+/// The commands that read a program.
+fn of_program(words: &Words) -> Answer<u8> {
+    let text = text_of(words, 0, "program")?;
     let program = parsed(&text)?;
     let observer = match &words.observer {
         None => None,
@@ -2119,37 +2842,52 @@ fn answered(words: &Words) -> Answer<u8> {
             label => label,
         },
     };
-    let labelled = labelled(program)?;
+    let counts = format!("commands {}, mitigates {}\n", program.commands, program.levels.len());
+    match (words.command.as_str(), words.steps) {
+        ("meaning", Some(steps)) => {
+            meaning(&program, &read_starts(words, &program)?[0], steps);
+            return Ok(0);
+        }
+        ("recheck", _) => {
+            let certificate = bytes_of(words, 1, "certificate")?;
+            Recheck { program: &program, text: &certificate, at: 0, number: 0, command: 0 }.whole()?;
+            send(format!("rechecked: {counts}").as_bytes());
+            return Ok(0);
+        }
+        _ => {}
+    }
+    of_labelled(words, &labelled(program)?, observer, &counts)
+}
+
+/// The commands that want a typed program.
+fn of_labelled(words: &Words, labelled: &Labelled, observer: Option<u8>, counts: &str) -> Answer<u8> {
     let program = &labelled.program;
     match words.command.as_str() {
-        "check" => {
-            send(format!("accepted: commands {}, mitigates {}\n", program.commands, program.levels.len()).as_bytes());
-            Ok(0)
-        }
+        "check" => send(format!("accepted: {counts}").as_bytes()),
+        "certify" => send(&certificate(labelled)),
         "infer" => {
-            let mut printer = Printer { labelled: &labelled, out: Vec::with_capacity(2 * text.len()) };
+            let mut printer = Printer { labelled, out: Vec::with_capacity(2 * program.text.len()) };
             printer.program();
             send(&printer.out);
-            Ok(0)
         }
+        "compile" => send(&image_text(labelled, &lowered(labelled)?)),
         "run" => {
-            let image = lowered(&labelled)?;
-            let starts = match words.files.get(1) {
-                None => vec![vec![0; program.elements]],
-                file => starts_of(&text_of(file)?, program)?,
-            };
-            Ok(run(&labelled, &image, &starts[0], words, observer))
+            let image = lowered(labelled)?;
+            return Ok(run(labelled, &image, &read_starts(words, program)?[0], words, observer));
         }
-        "audit" => {
-            let image = lowered(&labelled)?;
-            let starts = starts_of(&text_of(words.files.get(1))?, program)?;
-            let Some(observer) = observer else {
-                return plain("usage: an audit needs --observer");
+        "audit" | "cut" => {
+            let image = lowered(labelled)?;
+            let starts = read_starts(words, program)?;
+            let (Some(observer), 2) = (observer, words.positional.len()) else {
+                return plain("usage: an audit needs STARTS and --observer");
             };
-            audit(&labelled, &image, &starts, words, observer)
+            let Words { environment, budget, .. } = *words;
+            let asked = Asked { environment, budget, observer, is_cut: words.command == "cut" };
+            send(audit(labelled, &image, &starts, &asked)?.as_bytes());
         }
-        _ => plain("usage: plain-twin check|infer|run|audit FILE [STARTS] [--env E] [--budget T] [--observer L]"),
+        _ => return plain("usage: plain-twin takes the words of mitigate"),
     }
+    Ok(0)
 }
 
 fn main() -> ExitCode {
@@ -2161,7 +2899,7 @@ fn main() -> ExitCode {
         }
         Err(Stop::Plain(line)) => {
             eprintln!("{line}");
-            ExitCode::from(1)
+            ExitCode::from(NOT_ANSWERED)
         }
     }
 }
