@@ -6,12 +6,14 @@ import pathlib
 import re
 import subprocess
 import sys
+import tempfile
 
 TOP = pathlib.Path(__file__).resolve().parent.parent
 TABLES = TOP / "crates/worked_rows/data"
 # The texts that show calls of the tool with what they write.
 PAGES = ["README.md", "docs/*.md", "examples/**/*.md"]
 CALL = "    $ ./mitigate "
+MOST_SECONDS = 60
 USAGE_STATUS = 4
 USAGE = """usage: mitigate check FILE
        mitigate infer FILE
@@ -98,6 +100,30 @@ def read_rows(path):
 def tables():
     """The names of all tables, each with its rows."""
     return [(path.name, read_rows(path)) for path in sorted(TABLES.iterdir())]
+
+
+def called(program, words, folder):
+    """The status and the text of a call in a folder; None for the status of one that took too long."""
+    try:
+        done = subprocess.run([program, *words], cwd=folder, stdin=subprocess.DEVNULL, capture_output=True, timeout=MOST_SECONDS)
+    except subprocess.TimeoutExpired:
+        return None, b""
+    return done.returncode, done.stdout
+
+
+def called_with_files(program, row):
+    """The status and the text of a row's call, in a folder with the row's files."""
+    with tempfile.TemporaryDirectory() as folder:
+        for name, content in row.files.items():
+            path = pathlib.Path(folder, name)
+            path.parent.mkdir(parents=True, exist_ok=True)
+            path.write_bytes(content)
+        return called(program, row.words, folder)
+
+
+def without_faults():
+    """The rows that need no injected fault, each with its table's name."""
+    return [(name, row) for name, found in tables() for row in found if not row.needs_fault()]
 
 
 def pages():
