@@ -335,9 +335,9 @@ function drawStarts() {
   const scalars = variables.filter((one) => one.length === null).map((one) => one.name);
   const adds = [];
   if (more.length) adds.push(`<label>Add a column <select id="add-column"><option></option>${more.map((name) => `<option>${escaped(name)}</option>`).join('')}</select></label>`);
-  if (scalars.length) adds.push(`<span><label>Runs with <select id="range-name">${scalars.map((name) => `<option${shown.labels.of.get(name) !== shown.labels.names[0] ? ' data-secret' : ''}>${escaped(name)}</option>`).join('')}</select></label> <label>from <input id="range-from" value="0" inputmode="numeric"></label> <label>to <input id="range-to" value="9" inputmode="numeric"></label> <button type="button" class="link" id="range-go">Make</button></span>`);
+  if (scalars.length) adds.push(`<span><label>Runs with <select id="range-name">${scalars.map((name) => `<option${shown.labels.of.get(name) !== shown.labels.names[0] ? ' data-secret' : ''}${columns.includes(name) ? ' data-column' : ''}>${escaped(name)}</option>`).join('')}</select></label> <label>from <input id="range-from" value="0" inputmode="numeric"></label> <label>to <input id="range-to" value="9" inputmode="numeric"></label> <button type="button" class="link" id="range-go">Make</button></span>`);
   box.innerHTML = `<table><thead><tr><th scope="col">run</th>${head.join('')}<th scope="col">seen at ${escaped(state.observer)}</th><th scope="col"><span class="unseen">change</span></th></tr></thead><tbody>${rows.join('')}</tbody></table>${rest}${adds.length ? `<div class="add">${adds.join('')}</div>` : ''}`;
-  const secret = box.querySelector('#range-name option[data-secret]');
+  const secret = box.querySelector('#range-name option[data-secret][data-column]') ?? box.querySelector('#range-name option[data-secret]');
   if (secret) secret.selected = true;
   drawSeen();
 }
@@ -384,7 +384,7 @@ function drawTime() {
     legend.push('<span>The begins and ends of mitigations are not in this module’s answers, and so not drawn.</span>');
   }
   legend.push(`<span>${[1, 2, 3].map((k) => `<svg width="12" height="12" viewBox="0 0 12 12" aria-hidden="true" style="margin-right:2px">${classMark(k, 6, 6, 4.4)}</svg>`).join('')} seen by the observer; runs of one colour and shape look alike</span>`);
-  legend.push('<span><svg width="8" height="12" aria-hidden="true"><path d="M4 2v8" stroke="var(--tick)" stroke-width="1.4" opacity=".75"/></svg>not seen</span>');
+  legend.push('<span><svg width="8" height="12" aria-hidden="true"><path d="M4 2v8" stroke="var(--soft)" stroke-width="1.6"/></svg>not seen</span>');
   $('time-legend').innerHTML = legend.join('');
   if (shown.mitigates?.length) {
     const texts = shown.mitigates.filter((one) => one.ended).map((one) => `The mitigate at ${placeButtonText(one.place)} worked ${one.shortest === one.longest ? '' : `${spaced(one.shortest)} to `}${counted(one.longest, 'cycle')}; ${one.missed ? `${spaced(one.missed)} of ${spaced(one.ended)} missed` : 'none missed'}. From a first prediction of <b>${spaced(one.least)}</b> on none of these runs would miss.`);
@@ -645,10 +645,12 @@ function openLesson(number) {
   $('example').value = '';
   $('example-says').textContent = '';
   load(one);
+  for (const section of document.querySelectorAll('section')) section.classList.toggle('look', section.id === one.look);
 }
 
 function closeLesson() {
   $('lesson').hidden = true;
+  for (const section of document.querySelectorAll('section.look')) section.classList.remove('look');
   $('lesson-open').focus();
 }
 

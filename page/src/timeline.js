@@ -121,9 +121,9 @@ export function timeline(runs, { width, view, first = 1 }) {
     for (const one of run.events) {
       if (one.isSeen || !isIn(one.cycle)) continue;
       const place = x(one.cycle);
-      if (place - last < 1 || ++count > MOST_MARKS) continue; // what stands on one point is drawn once
+      if (place - last < 3 || ++count > MOST_MARKS) continue; // what stands on one point is drawn once
       last = place;
-      out.push(`<g opacity=".75" ${tip(`${one.variable} = ${one.value} at ${spaced(one.cycle)}, not seen by the observer`)}><path d="M${at(place)} ${middle - 7}v14" stroke="transparent" stroke-width="7"/><path d="M${at(place)} ${middle - 4}v8" stroke="var(--tick)" stroke-width="1.4"/></g>`);
+      out.push(`<g ${tip(`${one.variable} = ${one.value} at ${spaced(one.cycle)}, not seen by the observer`)}><path d="M${at(place)} ${middle - 7}v14" stroke="transparent" stroke-width="8"/><path d="M${at(place)} ${middle - 4.5}v9" stroke="var(--card)" stroke-width="3.6"/><path d="M${at(place)} ${middle - 3.5}v7" stroke="var(--soft)" stroke-width="1.4"/></g>`);
     }
   }
 
