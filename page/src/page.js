@@ -327,7 +327,7 @@ function drawStarts() {
     return `<th scope="col"><span class="${number >= 0 ? labelClass(number) : ''}">${escaped(name)}</span>${number >= 0 ? ` ${escaped(label)}` : ''}</th>`;
   });
   const rows = read.runs.slice(0, ROWS).map((run, k) => {
-    const cells = columns.map((name) => `<td><input data-row="${k}" data-name="${escaped(name)}" data-array="${isArray.get(name) ?? Array.isArray(run.memory.get(name))}" value="${escaped(cellText(run.memory.get(name)))}" aria-label="run ${k + 1}, ${escaped(name)}" autocomplete="off"></td>`);
+    const cells = columns.map((name) => `<td><input data-row="${k}" data-name="${escaped(name)}" data-array="${isArray.get(name) ?? Array.isArray(run.memory.get(name))}" value="${escaped(cellText(run.memory.get(name)))}" aria-label="run ${k + 1}, ${escaped(name)}" autocomplete="off" style="min-width:${Math.min(cellText(run.memory.get(name)).length + 3, 26)}ch"></td>`);
     const touches = run.touch.length ? ` <small>${counted(run.touch.length, 'touch', 'touches')}</small>` : '';
     return `<tr data-run="${k}"><td class="what">${k + 1}${touches}</td>${cells.join('')}<td class="what seen"></td><td class="what"><button type="button" class="link" data-copy="${k}" aria-label="Copy run ${k + 1}" title="Copy this run">+</button><button type="button" class="link" data-remove="${k}" aria-label="Remove run ${k + 1}" title="Remove this run"${read.runs.length === 1 ? ' disabled' : ''}>×</button></td></tr>`;
   });
@@ -357,7 +357,7 @@ function drawSeen() {
 
 // --- The timeline
 
-const lanesWidth = () => Math.max($('lanes').clientWidth - 2, 640);
+const lanesWidth = () => Math.max($('lanes').clientWidth - 2, 280);
 
 function drawTime() {
   const { runs } = shown, box = $('lanes');
@@ -532,8 +532,8 @@ async function sweep() {
       $('sweep-text').textContent = 'With a first prediction of 1 not all runs halt within the cycles that are asked for.';
       return;
     }
-    shown.least = slowest.least;
-    const most = powerFrom(slowest.longest), further = [shown.least ?? 0, (shown.least ?? 0) - 1, current ?? 0].filter((n) => n <= most);
+    shown.least = mitigatesNow().length === 1 ? slowest.least : null;
+    const most = powerFrom(slowest.longest), further = [slowest.least ?? 0, (slowest.least ?? 0) - 1, current ?? 0].filter((n) => n <= most);
     let last = performance.now();
     for (const prediction of predictions(most, further)) {
       await point(prediction);
@@ -589,7 +589,7 @@ function drawSweep() {
     return;
   }
   const mitigate = whichMitigate(), current = mitigate ? estimateOf(mitigate) : null;
-  $('sweep-picture').innerHTML = sweepPicture(points, { width: Math.max($('sweep-picture').clientWidth - 2, 560), current });
+  $('sweep-picture').innerHTML = sweepPicture(points, { width: Math.max($('sweep-picture').clientWidth - 2, 280), current });
   $('sweep-text').textContent = sweepText(points, shown.least ?? null, current);
   const best = new Set(cheapest(points));
   const rows = [...points].sort((a, b) => a.prediction - b.prediction).map((one) => `<tr><td class="what">${spaced(one.prediction)}</td><td class="what">${spaced(one.sequences)}</td><td class="what">${spaced(one.shortest)}</td><td class="what">${spaced(one.longest)}</td><td class="what">${best.has(one) ? 'no faster one tells as little' : ''}</td><td class="what"><button type="button" class="link" data-take="${one.prediction}">Take</button></td></tr>`);
@@ -898,7 +898,7 @@ function listenTime() {
   });
   window.addEventListener('pointermove', (event) => {
     if (!drag) return;
-    const [from, to] = drag.view, perPixel = (to - from) / (lanesWidth() - 112);
+    const perPixel = cycleAt(1, lanesWidth(), drag.view) - cycleAt(0, lanesWidth(), drag.view);
     shown.view = moved(drag.view, (drag.x - event.clientX) * perPixel, wholeView(shown.runs));
     redraw();
   });

@@ -34,23 +34,24 @@ export function cheapest(points) {
   return found.filter((one, k) => found.slice(0, k).every((fewer) => fewer.longest > one.longest));
 }
 
-/** The sentence below the picture. `least` is the lab's least first prediction that no body reaches, or null. */
+/** The sentence below the picture. `least` is the lab's least first prediction that no
+    body of the only mitigate reaches, or null. */
 export function sweepText(points, least, current) {
   const quiet = quietFrom(points);
   if (!quiet) {
     const fewest = Math.min(...points.map((one) => one.sequences));
     return `Each prediction that was tried leaves ${counted(fewest, 'sequence')} or more: another part of the program tells them apart.`;
   }
-  const { first } = quiet, isExact = least === first.prediction || (quiet.before && quiet.before.prediction === first.prediction - 1);
+  const { first } = quiet;
   const from = quiet.before
-    ? `From ${spaced(first.prediction)} on, the runs cannot be told apart${least === first.prediction ? ': that is one more than the longest body takes' : isExact ? '' : ', of the predictions that were tried'}.`
+    ? `From ${spaced(first.prediction)} on, the runs cannot be told apart${least === first.prediction ? ': that is one more than the longest body takes' : ', of the predictions that were tried'}.`
     : 'With each prediction that was tried the runs cannot be told apart.';
   const now = points.find((one) => one.prediction === current);
   const cost = ` It costs ${counted(first.longest, 'cycle')}`;
   return `${from}${cost}${now && now !== first ? `, where ${spaced(current)} costs ${spaced(now.longest)}${now.sequences > 1 ? ` and tells ${counted(now.sequences, 'thing')}` : ''}` : ''}.`;
 }
 
-const LEFT = 66, RIGHT = 24, TOP = 30, BOTTOM = 46;
+const LEFT = 58, RIGHT = 24, TOP = 30, BOTTOM = 46, NARROW = 560;
 
 /** The picture: first predictions from left to right, the longest run upwards, colours for numbers of sequences. */
 export function sweepPicture(points, { width, high = 320, current = null }) {
@@ -65,7 +66,8 @@ export function sweepPicture(points, { width, high = 320, current = null }) {
     const edge = quiet.before ? x(quiet.first.prediction) : LEFT;
     out.push(`<rect x="${at(edge)}" y="${TOP}" width="${at(Math.max(width - RIGHT - edge, 2))}" height="${tall}" fill="var(--good-tint)"/>`);
     const fits = width - RIGHT - edge > 190;
-    out.push(`<text x="${at(fits ? edge + 8 : width - RIGHT)}" y="${TOP - 10}" fill="var(--good)" font-weight="600" text-anchor="${fits ? 'start' : 'end'}">one sequence: nothing is told</text>`);
+    const says = width < NARROW ? 'nothing is told' : 'one sequence: nothing is told';
+    out.push(`<text x="${at(fits ? edge + 8 : width - RIGHT)}" y="${TOP - 10}" fill="var(--good)" font-weight="600" text-anchor="${fits ? 'start' : 'end'}">${says}</text>`);
   }
   out.push('<g stroke="var(--line)">');
   const rows = ticks(0, top, 5);
@@ -83,8 +85,8 @@ export function sweepPicture(points, { width, high = 320, current = null }) {
     const place = at(x(one.prediction)), colour = classColour(one.sequences);
     out.push(`<g class="point" data-prediction="${one.prediction}" data-tip="${escaped(text)}" role="img" aria-label="${escaped(text)}">`);
     if (one.shortest !== one.longest) out.push(`<path d="M${place} ${at(y(one.longest))}V${at(y(one.shortest))}" stroke="${colour}" stroke-width="2" opacity=".5"/>`);
-    out.push(`<circle cx="${place}" cy="${at(y(one.longest))}" r="${Math.min(3 + one.sequences, 9)}" fill="${colour}"/>`);
-    out.push(one.sequences > 1 ? `<text x="${place}" y="${at(y(one.longest) - Math.min(6 + one.sequences, 12))}" text-anchor="middle" font-size="10.5" fill="var(--soft)">${one.sequences}</text></g>` : '</g>');
+    out.push(`<circle cx="${place}" cy="${at(y(one.longest))}" r="${Math.min((width < NARROW ? 1.5 : 3) + one.sequences, 9)}" fill="${colour}"/>`);
+    out.push(one.sequences > 1 && width >= NARROW ? `<text x="${place}" y="${at(y(one.longest) - Math.min(6 + one.sequences, 12))}" text-anchor="middle" font-size="10.5" fill="var(--soft)">${one.sequences}</text></g>` : '</g>');
   }
   out.push('</svg>');
   return out.join('\n');

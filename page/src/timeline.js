@@ -3,8 +3,9 @@
 import { at, counted, spaced, ticks } from './axis.js';
 import { classColour, classMark, escaped } from './colours.js';
 
-const LEFT = 92, RIGHT = 20, TOP = 16, BOTTOM = 34, LANE = 30;
+const RIGHT = 20, TOP = 16, BOTTOM = 34, LANE = 30, NARROW = 560;
 const MOST_MARKS = 4000;
+const leftOf = (width) => (width < NARROW ? 46 : 92);
 
 /** The greatest cycle of runs. */
 export function lastCycle(runs) {
@@ -33,7 +34,8 @@ export function moved([from, to], by, whole) {
 
 /** The cycle that stands at a place of a picture of a width. */
 export function cycleAt(x, width, [from, to]) {
-  return from + ((x - LEFT) * (to - from)) / (width - LEFT - RIGHT);
+  const left = leftOf(width);
+  return from + ((x - left) * (to - from)) / (width - left - RIGHT);
 }
 
 /** Where the predictions of a mitigation ended, missed ones first: begin + predicts, then each time twice as long. */
@@ -65,20 +67,20 @@ export function runText(run, number) {
 
 /** The picture of runs, each with its number and class. `first` is the number of the first one. */
 export function timeline(runs, { width, view, first = 1 }) {
-  const [from, to] = view, high = TOP + LANE * runs.length;
-  const x = (cycle) => LEFT + ((width - LEFT - RIGHT) * (cycle - from)) / (to - from);
+  const [from, to] = view, high = TOP + LANE * runs.length, isNarrow = width < NARROW, left = leftOf(width);
+  const x = (cycle) => left + ((width - left - RIGHT) * (cycle - from)) / (to - from);
   const isIn = (cycle) => cycle >= from && cycle <= to;
   const out = [];
   const tip = (text) => `data-tip="${escaped(text)}"`;
   out.push(`<svg xmlns="http://www.w3.org/2000/svg" viewBox="0 0 ${width} ${high + BOTTOM}" width="${width}" height="${high + BOTTOM}" font-size="12.5" font-family="system-ui, sans-serif" role="group" aria-label="Timeline of ${counted(runs.length, 'run')}">`);
   out.push(`<defs><pattern id="wait" width="6" height="6" patternUnits="userSpaceOnUse" patternTransform="rotate(45)"><rect width="6" height="6" fill="var(--code)"/><path d="M0 0V6" stroke="var(--soft)" stroke-width="1.8"/></pattern>`);
-  out.push(`<clipPath id="axis"><rect x="${LEFT}" y="0" width="${width - LEFT - RIGHT}" height="${high + BOTTOM}"/></clipPath></defs>`);
+  out.push(`<clipPath id="axis"><rect x="${left}" y="0" width="${width - left - RIGHT}" height="${high + BOTTOM}"/></clipPath></defs>`);
   out.push(`<g stroke="var(--line)">`);
-  const marks = ticks(from, to, Math.max(2, Math.floor(width / 110)));
+  const marks = ticks(from, to, Math.max(2, Math.floor(width / (isNarrow ? 80 : 110))));
   for (const cycle of marks) out.push(`<path d="M${at(x(cycle))} ${TOP - 6}V${high}"/>`);
   out.push(`</g><g fill="var(--soft)" text-anchor="middle" font-size="12">`);
   for (const cycle of marks) out.push(`<text x="${at(x(cycle))}" y="${high + 17}">${spaced(cycle)}</text>`);
-  out.push(`</g><text x="${LEFT}" y="${high + 31}" fill="var(--soft)" font-size="11.5">cycles</text>`);
+  out.push(`</g><text x="${left}" y="${high + 31}" fill="var(--soft)" font-size="11.5">cycles</text>`);
   runs.forEach((run, k) => lane(run, k));
   out.push('</svg>');
   return out.join('\n');
@@ -87,7 +89,7 @@ export function timeline(runs, { width, view, first = 1 }) {
     const y = TOP + LANE * k, middle = y + LANE / 2, colour = classColour(run.class);
     out.push(`<g class="lane" tabindex="-1" data-run="${first + k}" role="img" aria-label="${escaped(runText(run, first + k))}">`);
     out.push(`<rect class="track" x="0" y="${y}" width="${width}" height="${LANE}" fill="transparent"/>`);
-    out.push(`<text x="6" y="${middle + 4.5}" fill="var(--ink)">run ${first + k}</text>${classMark(run.class, 72, middle, 4.6)}`);
+    out.push(`<text x="6" y="${middle + 4.5}" fill="var(--ink)">${isNarrow ? '' : 'run '}${first + k}</text>${classMark(run.class, left - 18, middle, 4.6)}`);
     out.push(`<g clip-path="url(#axis)">`);
     out.push(`<path d="M${at(x(Math.max(0, from)))} ${middle}H${at(x(Math.min(run.end, to)))}" stroke="var(--soft)" stroke-width="1.2" opacity=".7"/>`);
     for (const one of run.mitigations ?? []) bar(one, run, y, middle);
@@ -141,10 +143,10 @@ export function timeline(runs, { width, view, first = 1 }) {
       const place = x(one.cycle);
       if (place - last < 1.5 || ++count > MOST_MARKS) return;
       last = place;
-      const text = `${one.variable} = ${one.value}`, label = `${text} @${one.cycle}`;
+      const text = `${one.variable} = ${one.value}`, label = isNarrow ? `@${one.cycle}` : `${text} @${one.cycle}`;
       const next = k + 1 < shown.length ? x(shown[k + 1].cycle) : width;
       const room = label.length * 7.6 + 16;
-      const isRight = place + room <= Math.min(next, width), isLeft = k === 0 && shown.length === 1 && place - room > LEFT;
+      const isRight = place + room <= Math.min(next, width), isLeft = k === 0 && shown.length === 1 && place - room > left;
       out.push(`<g ${tip(`${text} at ${spaced(one.cycle)}, seen by the observer`)}>${classMark(run.class, place, middle, 5.4, 'stroke="var(--card)" stroke-width="2" paint-order="stroke"')}`);
       if (isRight || isLeft) {
         out.push(`<text x="${at(isRight ? place + 10 : place - 10)}" y="${middle + 4.5}" text-anchor="${isRight ? 'start' : 'end'}" fill="${colour}" font-weight="600" stroke="var(--card)" stroke-width="3" paint-order="stroke">${escaped(label)}</text>`);

@@ -94,7 +94,7 @@ test('from where on nothing is told, and what it costs', () => {
   assert.equal(quietFrom(POINTS).first.prediction, 269);
   assert.equal(quietFrom(POINTS.slice(0, 3)), null);
   assert.equal(sweepText(POINTS, 269, 512), 'From 269 on, the runs cannot be told apart: that is one more than the longest body takes. It costs 310 cycles, where 512 costs 553.');
-  assert.equal(sweepText(POINTS, null, 16), 'From 269 on, the runs cannot be told apart. It costs 310 cycles, where 16 costs 553 and tells 3 things.');
+  assert.equal(sweepText(POINTS, null, 16), 'From 269 on, the runs cannot be told apart, of the predictions that were tried. It costs 310 cycles, where 16 costs 553 and tells 3 things.');
   const gap = POINTS.filter((one) => one.prediction !== 268);
   assert.match(sweepText(gap, null, 512), /of the predictions that were tried/);
   assert.match(sweepText(POINTS.slice(0, 3), null, 16), /another part/);
