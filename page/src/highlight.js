@@ -1,7 +1,7 @@
 // The layer over which one types: the program's text in colours, and at the ends of lines what the tool adds.
 
 import { escaped, labelClass } from './colours.js';
-import { allCommands, offsetOf, placeOf, pieces, readProgram, words } from './language.js';
+import { allCommands, lineFinder, offsetOf, pieces, readProgram, words } from './language.js';
 
 /** Labels of a program as the tool completed them: of variables by name, of commands by number, of mitigates' levels. */
 export function labelsOf(canonical) {
@@ -47,9 +47,9 @@ const labelled = (name, labels) => {
 
 // What stands at the ends of lines: labels of variables and levels that were left out, and marks.
 function additions(text, program, labels) {
-  const found = new Map();
+  const found = new Map(), lineOf = lineFinder(text);
   const add = (at, html) => {
-    const { line } = placeOf(text, at);
+    const line = lineOf(at);
     found.set(line, [...(found.get(line) ?? []), html]);
   };
   if (!program || !labels.marks) return found;
@@ -72,7 +72,7 @@ function additions(text, program, labels) {
 
 // The lines inside of mitigates, with the number of the outermost one's level.
 function tinted(text, program, labels) {
-  const found = new Map();
+  const found = new Map(), lineOf = lineFinder(text);
   if (!program) return found;
   let level = 0;
   const go = (commands, isInside) => {
@@ -83,7 +83,7 @@ function tinted(text, program, labels) {
         level++;
         if (!isInside) {
           inside = true;
-          const first = placeOf(text, command.head).line, last = placeOf(text, command.end - 1).line;
+          const first = lineOf(command.head), last = lineOf(command.end - 1);
           for (let line = first + 1; line < last; line++) found.set(line, Math.max(labels.names.indexOf(name), 0));
         }
       }

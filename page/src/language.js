@@ -63,6 +63,21 @@ export function placeOf(text, at) {
   return { line, column: utf8.encode(text.slice(begin, at)).length + 1 };
 }
 
+/** Of a text, a function that tells the line of an offset. */
+export function lineFinder(text) {
+  const begins = [0];
+  for (let at = text.indexOf('\n'); at >= 0; at = text.indexOf('\n', at + 1)) begins.push(at + 1);
+  return (at) => {
+    let low = 0, high = begins.length;
+    while (high - low > 1) {
+      const middle = (low + high) >> 1;
+      if (begins[middle] <= at) low = middle;
+      else high = middle;
+    }
+    return low + 1;
+  };
+}
+
 /** The offset of a place, at most the end of its line. */
 export function offsetOf(text, line, column) {
   let begin = 0;

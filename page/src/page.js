@@ -6,7 +6,7 @@ import { classMark, escaped, labelClass } from './colours.js';
 import { DATA, startModule } from './data.js';
 import { examplesOf } from './examples.js';
 import { highlighted, labelsOf, writtenLabels } from './highlight.js';
-import { allCommands, mitigates, offsetOf, owners, placeOf, readProgram, withEstimate } from './language.js';
+import { allCommands, lineFinder, mitigates, offsetOf, owners, placeOf, readProgram, withEstimate } from './language.js';
 import { LESSON } from './lesson.js';
 import { linkOf, stateOf } from './link.js';
 import { cellText, cellValue, columnsOf, readStarts, without, withCell, withCopy, withRange, writeStarts } from './starts.js';
@@ -18,7 +18,7 @@ import { Stopped } from './tool.js';
 
 const $ = (id) => document.getElementById(id);
 const EXAMPLES = examplesOf(DATA);
-const PAUSE = 250, LANES = 100, ROWS = 200, MOST_TEXT = 200000;
+const PAUSE = 250, LANES = 100, ROWS = 200, MOST_TEXT = 60000;
 const QUICK_SWEEP = 4000; // milliseconds that a sweep may take to begin by itself
 
 const state = { program: '', starts: '', observer: 'L', environment: 'part', budget: '1000000' };
@@ -34,6 +34,7 @@ let turn = 0, waiting = null;
 
 function changed({ now = false } = {}) {
   turn++;
+  if (location.hash && !now) history.replaceState(null, '', location.href.split('#')[0]); // it no longer tells what is here
   clearTimeout(waiting);
   tool?.stop();
   stopSweep();
@@ -399,8 +400,15 @@ const placeButtonText = (place) => `<button type="button" class="link" data-plac
 function zoom(factor, about) {
   if (!shown.runs) return;
   const whole = wholeView(shown.runs);
-  shown.view = zoomed(shown.view, about ?? (shown.view[0] + shown.view[1]) / 2, factor, whole);
+  shown.view = zoomed(shown.view, about ?? middleOfSeen(), factor, whole);
   redraw();
+}
+
+// The middle one of what is seen within the view, or else the view's middle.
+function middleOfSeen() {
+  const [from, to] = shown.view;
+  const seen = shown.runs.flatMap((run) => run.events.filter((one) => one.isSeen && one.cycle >= from && one.cycle <= to).map((one) => one.cycle)).sort((a, b) => a - b);
+  return seen[Math.floor(seen.length / 2)] ?? (from + to) / 2;
 }
 
 let frame = 0;
@@ -458,7 +466,8 @@ function drawCode(text) {
     return;
   }
   const program = readProgram(state.program), owned = program ? owners(program) : [];
-  shown.lines = shown.code.map((_, k) => (owned[k] ? placeOf(state.program, owned[k].at).line : 0));
+  const lineOf = lineFinder(state.program);
+  shown.lines = shown.code.map((_, k) => (owned[k] ? lineOf(owned[k].at) : 0));
   box.innerHTML = shown.code.slice(0, 20000).map((one, k) => `<span class="line" data-line="${shown.lines[k]}"><span class="n">${one.number}</span><span class="to"><span class="op">${one.name}</span> ${escaped(one.operand)}</span>[${one.labels.map(labelText).join(', ')}]</span>`).join('');
   light(placeOf(state.program, $('source').selectionStart).line, false);
 }
@@ -489,7 +498,7 @@ const estimateOf = (one) => {
 };
 
 function canSweep() {
-  return Boolean(shown.audit?.report && !shown.audit.isCut && shown.runs && mitigatesNow().length);
+  return Boolean(shown.audit?.report && !shown.audit.isCut && shown.runs && shown.isAll && mitigatesNow().length);
 }
 
 function endSweep() {
@@ -695,6 +704,7 @@ function listen() {
     if (document.activeElement === source) light(placeOf(state.program, source.selectionStart).line, false);
   });
   source.addEventListener('mousemove', (event) => {
+    if ($('code-part').hidden) return;
     const rows = $('layer').children;
     const k = [...rows].findIndex((row) => event.clientY < row.getBoundingClientRect().bottom);
     if (k >= 0 && document.activeElement !== source) light(k + 1, false);

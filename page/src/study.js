@@ -87,10 +87,9 @@ export async function sharpOf(tool, state) {
 
 async function byLab(tool, state) {
   const words = ['timeline', PROGRAM, STARTS, ...settings(state)];
-  const all = await tool.call('lab', words, files(state));
-  if (all.status !== DONE) return { refusal: refusalOf(all) };
+  const all = await tool.call('lab', words, files(state)), told = readTimeline(all.text);
+  if (!told) return { refusal: refusalOf(all) };
   const seen = await tool.call('lab', [...words, ...seenBy(state)], files(state));
-  const told = readTimeline(all.text);
   return { runs: markSeen(told.runs, readTimeline(seen.text).runs), mitigates: told.mitigates, isAll: true };
 }
 
@@ -134,8 +133,7 @@ export async function pointOf(tool, state, mitigate, prediction) {
 
 async function labEnds(tool, state) {
   const words = ['timeline', PROGRAM, STARTS, ...settings(state), ...seenBy(state)];
-  const { status, text } = await tool.call('lab', words, files(state));
-  const told = status === DONE ? readTimeline(text) : null;
+  const told = readTimeline((await tool.call('lab', words, files(state))).text);
   if (!told) return null;
   return { ends: told.runs.map((run) => run.end), least: (one) => told.mitigates[one.mark]?.least ?? null };
 }

@@ -1,6 +1,6 @@
 import assert from 'node:assert/strict';
 import test from 'node:test';
-import { allCommands, below, mitigates, offsetOf, owners, pieces, placeOf, readProgram, withEstimate, words, wrapped } from '../src/language.js';
+import { allCommands, below, lineFinder, mitigates, offsetOf, owners, pieces, placeOf, readProgram, withEstimate, words, wrapped } from '../src/language.js';
 
 const COUNTDOWN = 'var l : L;\nvar h : H;\nmitigate (64, H) {\n  while h > 0 do { h := h - 1 }\n};\nl := 1\n';
 
@@ -25,6 +25,11 @@ test('places count bytes, and offsets come back', () => {
     assert.equal(offsetOf(text, place.line, place.column), at);
   }
   assert.equal(offsetOf(text, 9, 1), text.length);
+});
+
+test('lines of offsets', () => {
+  const text = 'a\n\nb\n', lineOf = lineFinder(text);
+  for (let at = 0; at <= text.length; at++) assert.equal(lineOf(at), placeOf(text, at).line);
 });
 
 test('commands have the numbers of the text, an added skip included', () => {
