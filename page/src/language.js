@@ -303,15 +303,6 @@ export function mitigates(program) {
   return found.map((command, mark) => Object.assign(command, { mark }));
 }
 
-/** Which labels flow to a label, by chains of the written pairs. */
-export function below(pairs, label) {
-  const found = new Set([label]);
-  for (const one of found) {
-    for (const [low, high] of pairs) if (high === one) found.add(low);
-  }
-  return found;
-}
-
 /** For each instruction of a program's code, the command that it comes from; null for the last one, HALT. */
 export function owners(program) {
   const found = [];

@@ -21,15 +21,15 @@ export function callWithRoom(module, program, words, files, room) {
     bytesAt(place, bytes.length).set(bytes);
     return place;
   };
-  const ended = (list) => utf8.encode(list.map((word) => `${word}\0`).join(''));
-  const names = Object.keys(files);
-  const contents = names.map((name) => (typeof files[name] === 'string' ? utf8.encode(files[name]) : files[name]));
-  const all = new Uint8Array(contents.reduce((sum, one) => sum + one.length, 0));
-  contents.reduce((at, one) => (all.set(one, at), at + one.length), 0);
-  const lengths = new Uint8Array(BigUint64Array.from(contents, (one) => BigInt(one.length)).buffer);
-  const spelled = ended(words), named = ended(names);
-  const given = [[spelled, spelled.length], [named, named.length], [lengths, contents.length], [all, all.length]];
-  const slices = given.flatMap(([bytes, count]) => [put(bytes), BigInt(count)]);
+  // a list of pieces as two slices: their lengths, and their bytes in a row
+  const row = (pieces) => {
+    const bytes = pieces.map((one) => (typeof one === 'string' ? utf8.encode(one) : one));
+    const all = new Uint8Array(bytes.reduce((sum, one) => sum + one.length, 0));
+    bytes.reduce((at, one) => (all.set(one, at), at + one.length), 0);
+    const lengths = new Uint8Array(BigUint64Array.from(bytes, (one) => BigInt(one.length)).buffer);
+    return [put(lengths), BigInt(bytes.length), put(all), BigInt(all.length)];
+  };
+  const slices = [words, Object.keys(files), Object.values(files)].flatMap(row);
   const out = instance.web_room(BigInt(room)), end = put(new Uint8Array(16));
   if (out === 0n) throw new RangeError('no memory');
   instance[ENTRIES[program]](...slices, out, BigInt(room), end);

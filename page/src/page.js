@@ -1,6 +1,6 @@
 // The page: puts what the tool answers where it can be seen, and asks anew when something changes.
 
-import { bitsOf } from './answers.js';
+import { bitsOf, readCode } from './answers.js';
 import { counted, spaced } from './axis.js';
 import { classMark, escaped, labelClass } from './colours.js';
 import { DATA, startModule } from './data.js';
@@ -12,8 +12,7 @@ import { linkOf, stateOf } from './link.js';
 import { cellText, cellValue, columnsOf, readStarts, without, withCell, withCopy, withRange, writeStarts } from './starts.js';
 import { auditOf, chainOf, codeOf, completedBy, mendOf, pointOf, runsOf, sharpOf, verdictOf } from './study.js';
 import { cheapest, powerFrom, predictions, sweepPicture, sweepText } from './sweep.js';
-import { cycleAt, lastCycle, moved, runText, timeline, wholeView, zoomed } from './timeline.js';
-import { readCode } from './answers.js';
+import { cycleAt, moved, runText, timeline, wholeView, zoomed } from './timeline.js';
 import { Stopped } from './tool.js';
 
 const $ = (id) => document.getElementById(id);

@@ -1,6 +1,6 @@
 import assert from 'node:assert/strict';
 import test from 'node:test';
-import { allCommands, below, lineFinder, mitigates, offsetOf, owners, pieces, placeOf, readProgram, withEstimate, words, wrapped } from '../src/language.js';
+import { allCommands, lineFinder, mitigates, offsetOf, owners, pieces, placeOf, readProgram, withEstimate, words, wrapped } from '../src/language.js';
 
 const COUNTDOWN = 'var l : L;\nvar h : H;\nmitigate (64, H) {\n  while h > 0 do { h := h - 1 }\n};\nl := 1\n';
 
@@ -62,9 +62,4 @@ test('commands are put into a mitigate', () => {
   const text = '  x := 1;\n  while x do {\n    skip\n  };\n  y := 1', program = readProgram(text);
   const wanted = '  mitigate (8, H) {\n    x := 1;\n    while x do {\n      skip\n    }\n  };\n  y := 1';
   assert.equal(wrapped(text, program.body[0], program.body[1], 8, 'H'), wanted);
-});
-
-test('labels flow by chains', () => {
-  assert.deepEqual([...below([['A', 'B'], ['B', 'C'], ['D', 'C']], 'C')].sort(), ['A', 'B', 'C', 'D']);
-  assert.deepEqual([...below([['A', 'B']], 'A')], ['A']);
 });
