@@ -11,9 +11,8 @@
 //!
 //! What it leaves out:
 //!
-//! - refusals of words, of texts and of start files in their order and their words: each is a line on standard error and
-//!   status 20, which says that this program does not answer the call;
-//! - most of TOML: it reads integers, texts without escapes, arrays, tables in braces, comments and `[[run]]`.
+//! - refusals of words and of texts of programs in their order and their words, and what of TOML start files seldom have:
+//!   each is a line on standard error and status 20, which says that this program does not answer the call.
 
 use std::collections::HashMap;
 use std::hash::{BuildHasherDefault, Hasher};
@@ -2115,55 +2114,46 @@ struct Start {
     touches: Vec<Touch>,
 }
 
-/// Reads a start file from its first byte on.
-struct StartReader<'t> {
-    text: &'t [u8],
+/// A value of a TOML document; `Other` is one that no start file wants.
+enum Value<'t> {
+    Integer(i64),
+    Text(&'t str),
+    Array(Vec<Value<'t>>),
+    Table(Table<'t>),
+    Other,
+}
+
+type Table<'t> = HashMap<&'t str, Value<'t>, BuildHasherDefault<NameHasher>>;
+
+/// Goes over the text of a TOML document.
+struct Toml<'t> {
+    text: &'t str,
     at: usize,
-    program: &'t Program<'t>,
-    version: i64,
 }
 
-fn starts_of(text: &str, program: &Program) -> Answer<Vec<Start>> {
-    let mut reader = StartReader { text: text.as_bytes(), at: 0, program, version: 1 };
-    reader.blank();
-    if reader.word_is(b"version") {
-        reader.want(b'=')?;
-        reader.version = reader.number()?;
-        if !(1..=2).contains(&reader.version) {
-            return plain("starts: version");
-        }
-        reader.blank();
-    }
-    let mut starts = Vec::new();
-    while reader.takes(b'[') {
-        reader.want(b'[')?;
-        reader.wants_word(b"run")?;
-        reader.want(b']')?;
-        reader.want(b']')?;
-        starts.push(reader.start()?);
-    }
-    if reader.at != text.len() || starts.is_empty() || starts.len() > MOST_RUNS {
-        return plain("starts: something that this reader does not know");
-    }
-    Ok(starts)
-}
-
-impl<'t> StartReader<'t> {
+impl<'t> Toml<'t> {
     fn fault<T>(&self) -> Answer<T> {
-        plain(format!("starts: byte {} is not as this reader wants it", self.at))
+        plain(format!("starts: byte {} is not as this reader knows it", self.at))
     }
 
     fn byte(&self) -> u8 {
-        self.text.get(self.at).copied().unwrap_or(0)
+        self.text.as_bytes().get(self.at).copied().unwrap_or(0)
+    }
+
+    fn spaces(&mut self) {
+        while matches!(self.byte(), b' ' | b'\t') {
+            self.at += 1;
+        }
     }
 
     /// Goes past white space, line ends and comments.
     fn blank(&mut self) {
         loop {
+            self.spaces();
             match self.byte() {
-                b' ' | b'\t' | b'\n' | b'\r' => self.at += 1,
+                b'\n' | b'\r' => self.at += 1,
                 b'#' => {
-                    while self.at < self.text.len() && self.text[self.at] != b'\n' {
+                    while self.at < self.text.len() && self.byte() != b'\n' {
                         self.at += 1;
                     }
                 }
@@ -2173,7 +2163,6 @@ impl<'t> StartReader<'t> {
     }
 
     fn takes(&mut self, sign: u8) -> bool {
-        self.blank();
         let is_there = self.byte() == sign;
         self.at += is_there as usize;
         is_there
@@ -2183,8 +2172,13 @@ impl<'t> StartReader<'t> {
         if self.takes(sign) { Ok(()) } else { self.fault() }
     }
 
-    fn word(&mut self) -> &'t [u8] {
-        self.blank();
+    /// Nothing more but a comment stands on the line.
+    fn line_end(&mut self) -> Answer<()> {
+        self.spaces();
+        if self.at == self.text.len() || matches!(self.byte(), b'\n' | b'\r' | b'#') { Ok(()) } else { self.fault() }
+    }
+
+    fn word(&mut self) -> &'t str {
         let first = self.at;
         while self.byte().is_ascii_alphanumeric() || matches!(self.byte(), b'_' | b'-' | b'+') {
             self.at += 1;
@@ -2192,32 +2186,12 @@ impl<'t> StartReader<'t> {
         &self.text[first..self.at]
     }
 
-    fn word_is(&mut self, wanted: &[u8]) -> bool {
-        let before = self.at;
-        let is_there = self.word() == wanted;
-        if !is_there {
-            self.at = before;
-        }
-        is_there
-    }
-
-    fn wants_word(&mut self, wanted: &[u8]) -> Answer<()> {
-        if self.word_is(wanted) { Ok(()) } else { self.fault() }
-    }
-
-    fn number(&mut self) -> Answer<i64> {
-        let word = self.word();
-        match std::str::from_utf8(word).ok().and_then(|word| word.parse().ok()) {
-            Some(number) => Ok(number),
-            None => self.fault(),
-        }
-    }
-
-    fn text(&mut self) -> Answer<&'t [u8]> {
-        self.want(b'"')?;
+    fn quoted(&mut self) -> Answer<&'t str> {
+        let quote = self.byte();
+        self.at += 1;
         let first = self.at;
-        while self.byte() != b'"' {
-            if self.at == self.text.len() || matches!(self.byte(), b'\\' | b'\n') {
+        while self.byte() != quote {
+            if self.byte() < b' ' || self.byte() == b'\\' {
                 return self.fault();
             }
             self.at += 1;
@@ -2226,97 +2200,211 @@ impl<'t> StartReader<'t> {
         Ok(&self.text[first..self.at - 1])
     }
 
-    /// The keys of a run, after its head.
-    fn start(&mut self) -> Answer<Start> {
-        let mut start = Start { memory: vec![0; self.program.elements], touches: Vec::new() };
-        loop {
-            if self.word_is(b"memory") {
-                self.want(b'=')?;
-                self.want(b'{')?;
-                while !self.takes(b'}') {
-                    self.entry(&mut start.memory)?;
-                    if !self.takes(b',') {
-                        self.want(b'}')?;
-                        break;
-                    }
-                }
-            } else if self.word_is(b"touch") {
-                self.want(b'=')?;
-                self.want(b'[')?;
-                while !self.takes(b']') {
-                    start.touches.push(self.touch()?);
-                    if !self.takes(b',') {
-                        self.want(b']')?;
-                        break;
-                    }
-                }
-            } else {
-                return Ok(start);
-            }
+    fn key(&mut self) -> Answer<&'t str> {
+        if matches!(self.byte(), b'"' | b'\'') {
+            return self.quoted();
+        }
+        match self.word() {
+            "" => self.fault(),
+            word if word.contains('+') => self.fault(),
+            word => Ok(word),
         }
     }
 
-    fn entry(&mut self, memory: &mut [i64]) -> Answer<()> {
-        let name = self.word();
-        self.want(b'=')?;
-        let Some(&number) = std::str::from_utf8(name).ok().and_then(|name| self.program.numbers.get(name)) else {
+    fn value(&mut self) -> Answer<Value<'t>> {
+        match self.byte() {
+            b'"' | b'\'' => Ok(Value::Text(self.quoted()?)),
+            b'[' => self.array(),
+            b'{' => self.inline(),
+            _ => self.number(),
+        }
+    }
+
+    fn number(&mut self) -> Answer<Value<'t>> {
+        let word = self.word();
+        if word == "true" || word == "false" {
+            return Ok(Value::Other);
+        }
+        let digits = word.trim_start_matches(['-', '+']);
+        let is_plain = !digits.is_empty() && digits.bytes().all(|byte| byte.is_ascii_digit());
+        if !is_plain || digits.len() > 1 && digits.starts_with('0') || word.len() > digits.len() + 1 || self.byte() == b'.' {
             return self.fault();
-        };
-        let declaration = &self.program.declarations[number as usize];
-        let first = declaration.first as usize;
-        match declaration.length {
-            None => memory[first] = self.number()?,
-            Some(length) if self.version == 2 => self.elements(&mut memory[first..first + length as usize])?,
-            Some(_) => return self.fault(),
         }
-        Ok(())
+        match word.parse() {
+            Ok(number) => Ok(Value::Integer(number)),
+            Err(_) => self.fault(),
+        }
     }
 
-    fn elements(&mut self, memory: &mut [i64]) -> Answer<()> {
+    fn array(&mut self) -> Answer<Value<'t>> {
+        let mut found = Vec::new();
         self.want(b'[')?;
-        let mut place = 0;
+        self.blank();
         while !self.takes(b']') {
-            if place == memory.len() {
-                return self.fault();
-            }
-            memory[place] = self.number()?;
-            place += 1;
+            found.push(self.value()?);
+            self.blank();
             if !self.takes(b',') {
-                return self.want(b']');
-            }
-        }
-        Ok(())
-    }
-
-    fn touch(&mut self) -> Answer<Touch> {
-        let (mut place, mut label, mut address) = (None, None, None);
-        self.want(b'{')?;
-        loop {
-            if self.word_is(b"place") {
-                self.want(b'=')?;
-                let name = self.text()?;
-                place = PLACES.iter().find(|(known, _)| known.as_bytes() == name).map(|(_, place)| *place);
-            } else if self.word_is(b"label") {
-                self.want(b'=')?;
-                let name = self.text()?;
-                label = std::str::from_utf8(name).ok().and_then(|name| self.program.lattice.find(name));
-            } else {
-                self.wants_word(b"address")?;
-                self.want(b'=')?;
-                address = u32::try_from(self.number()?).ok();
-            }
-            if !self.takes(b',') {
+                self.want(b']')?;
                 break;
             }
+            self.blank();
         }
-        self.want(b'}')?;
-        match (place, label, address) {
-            (Some(place), Some(label), Some(address)) if self.version == 2 || place != Place::Second => {
-                Ok(Touch { place, label, address })
+        Ok(Value::Array(found))
+    }
+
+    fn inline(&mut self) -> Answer<Value<'t>> {
+        let mut table = Table::default();
+        self.want(b'{')?;
+        self.spaces();
+        if self.takes(b'}') {
+            return Ok(Value::Table(table));
+        }
+        loop {
+            self.spaces();
+            self.entry(&mut table)?;
+            self.spaces();
+            if !self.takes(b',') {
+                self.want(b'}')?;
+                return Ok(Value::Table(table));
             }
-            _ => self.fault(),
         }
     }
+
+    fn entry(&mut self, table: &mut Table<'t>) -> Answer<()> {
+        let key = self.key()?;
+        self.spaces();
+        self.want(b'=')?;
+        self.spaces();
+        let value = self.value()?;
+        if table.insert(key, value).is_some() { self.fault() } else { Ok(()) }
+    }
+
+    /// The entries up to the next head of a table.
+    fn entries(&mut self, table: &mut Table<'t>) -> Answer<()> {
+        self.blank();
+        while self.at < self.text.len() && self.byte() != b'[' {
+            self.entry(table)?;
+            self.line_end()?;
+            self.blank();
+        }
+        Ok(())
+    }
+
+    /// A document whose heads of tables are all of one name, as `[[run]]`.
+    fn document(&mut self) -> Answer<Table<'t>> {
+        let (mut top, mut name, mut runs) = (Table::default(), None, Vec::new());
+        self.entries(&mut top)?;
+        while self.takes(b'[') {
+            self.want(b'[')?;
+            let key = self.key()?;
+            self.want(b']')?;
+            self.want(b']')?;
+            self.line_end()?;
+            if *name.get_or_insert(key) != key {
+                return self.fault();
+            }
+            let mut run = Table::default();
+            self.entries(&mut run)?;
+            runs.push(Value::Table(run));
+        }
+        match name {
+            Some(name) if top.insert(name, Value::Array(runs)).is_some() => self.fault(),
+            _ => Ok(top),
+        }
+    }
+}
+
+fn refused<T>(what: String) -> Answer<T> {
+    Err(Stop::Line(3, format!("starts: {what}\n")))
+}
+
+fn starts_of(text: &str, program: &Program) -> Answer<Vec<Start>> {
+    let document = Toml { text, at: 0 }.document()?;
+    let version = match document.get("version") {
+        None | Some(Value::Integer(1)) => 1,
+        Some(Value::Integer(2)) => 2,
+        Some(_) => return refused("version".into()),
+    };
+    if document.keys().any(|key| !matches!(*key, "version" | "run")) {
+        return refused("run 0: unknown key".into());
+    }
+    match document.get("run") {
+        Some(Value::Array(runs)) if runs.len() > MOST_RUNS => refused(format!("too many runs: {}", runs.len())),
+        Some(Value::Array(runs)) if !runs.is_empty() => {
+            let numbered = runs.iter().zip(1..);
+            numbered.map(|(run, number)| start_of(run, number, version, program)).collect()
+        }
+        _ => refused("no runs".into()),
+    }
+}
+
+fn start_of(run: &Value, number: usize, version: u32, program: &Program) -> Answer<Start> {
+    let unknown = |_: &&str| refused(format!("run {number}: unknown key"));
+    let Value::Table(run) = run else {
+        return unknown(&"");
+    };
+    if let Some(key) = run.keys().find(|key| !matches!(**key, "memory" | "touch")) {
+        return unknown(key);
+    }
+    let mut memory = vec![0; program.elements];
+    match run.get("memory") {
+        None => {}
+        Some(Value::Table(given)) => {
+            let is_known = |key: &&&str| match program.numbers.get(**key) {
+                Some(declaration) => version == 2 || program.declarations[*declaration as usize].length.is_none(),
+                None => false,
+            };
+            if let Some(key) = given.keys().find(|key| !is_known(key)) {
+                return unknown(key);
+            }
+            if !given.iter().all(|(name, value)| is_put(program, &mut memory, name, value)) {
+                return refused(format!("run {number}: not a number"));
+            }
+        }
+        Some(_) => return refused(format!("run {number}: not a number")),
+    }
+    let touches = match run.get("touch") {
+        None => Some(Vec::new()),
+        Some(Value::Array(touches)) => touches.iter().map(|touch| touch_of(touch, version, program)).collect(),
+        Some(_) => None,
+    };
+    match touches {
+        Some(touches) => Ok(Start { memory, touches }),
+        None => refused(format!("run {number}: bad touch")),
+    }
+}
+
+/// Puts the value of a declaration into a memory, where it is one.
+fn is_put(program: &Program, memory: &mut [i64], name: &str, value: &Value) -> bool {
+    let declaration = &program.declarations[program.numbers[name] as usize];
+    let first = declaration.first as usize;
+    match (declaration.length, value) {
+        (None, Value::Integer(number)) => memory[first] = *number,
+        (Some(length), Value::Array(values)) if values.len() <= length as usize => {
+            for (place, value) in values.iter().enumerate() {
+                let Value::Integer(number) = value else {
+                    return false;
+                };
+                memory[first + place] = *number;
+            }
+        }
+        _ => return false,
+    }
+    true
+}
+
+fn touch_of(touch: &Value, version: u32, program: &Program) -> Option<Touch> {
+    let Value::Table(touch) = touch else {
+        return None;
+    };
+    let (Some(Value::Text(place)), Some(Value::Text(label)), Some(Value::Integer(address)), 3) =
+        (touch.get("place"), touch.get("label"), touch.get("address"), touch.len())
+    else {
+        return None;
+    };
+    let place = PLACES.iter().find(|(known, _)| known == place).map(|(_, place)| *place)?;
+    let touch = Touch { place, label: program.lattice.find(label)?, address: u32::try_from(*address).ok()? };
+    (version == 2 || place != Place::Second).then_some(touch)
 }
 
 // --- The untimed meaning
