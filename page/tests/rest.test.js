@@ -10,10 +10,12 @@ import { readStarts } from '../src/starts.js';
 import { Stopped, Tool } from '../src/tool.js';
 
 const folder = (path) => new URL(path, import.meta.url);
-const files = {};
-for (const place of [folder('../../examples/'), folder('../src/')]) {
-  for (const name of fs.readdirSync(place)) if (/\.(mit|toml)$/.test(name)) files[name] = fs.readFileSync(new URL(name, place), 'utf8');
-}
+const files = new Proxy({}, {
+  get(_, name) {
+    const place = [folder(`../../examples/${name}`), folder(`../src/${name}`)].find((one) => fs.existsSync(one));
+    return place && fs.readFileSync(place, 'utf8');
+  },
+});
 const plain = (html) => html.replace(/<span class="given">.*?<\/span>(?=<span class="step|\n)/g, '').replace(/<span class="step[^>]*>\d+<\/span>/g, '').replace(/<[^>]*>/g, '').replaceAll('&lt;', '<').replaceAll('&gt;', '>').replaceAll('&quot;', '"').replaceAll('&amp;', '&');
 
 test('examples have all their files, and can be read', () => {
