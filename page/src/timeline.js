@@ -158,6 +158,8 @@ export function timeline(runs, { width, view, first = 1 }) {
       const isRight = place + room <= Math.min(next, width), isLeft = k === 0 && shown.length === 1 && place - room > left;
       out.push(`<g ${tip(`${text} at ${spaced(one.cycle)}, seen by the observer`)}>${classMark(run.class, place, middle, 5.4 * Math.max(size, 0.75), 'stroke="var(--card)" stroke-width="2" paint-order="stroke"')}`);
       if (isRight || isLeft) {
+        const wide = label.length * 0.58 * font + 6;
+        out.push(`<rect x="${at(isRight ? place + 8 : place - 8 - wide)}" y="${at(middle - 0.62 * font)}" width="${at(wide)}" height="${at(1.24 * font)}" rx="2" fill="var(--card)" opacity=".86"/>`);
         out.push(`<text x="${at(isRight ? place + 10 : place - 10)}" y="${middle + 4.5}" text-anchor="${isRight ? 'start' : 'end'}" fill="${colour}" font-weight="600" stroke="var(--card)" stroke-width="3" paint-order="stroke">${escaped(label)}</text>`);
       }
       out.push('</g>');
