@@ -53,6 +53,7 @@ test('left-out labels come from the completed text', () => {
   assert.match(rows[4], /tint t1/);
   assert.ok(!rows[3].includes('tint'));
   assert.ok(!highlighted(SOURCE, { labels, showsLabels: false }).join('').includes('given'));
+  assert.ok(!highlighted(`${SOURCE};\nskip`, { labels }).join('').includes('given'), 'labels of an earlier text are not shown');
 });
 
 test('a refusal marks its command, a syntax fault its word, and steps have their numbers', () => {
