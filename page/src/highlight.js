@@ -52,14 +52,15 @@ function additions(text, program, labels) {
     const line = lineOf(at);
     found.set(line, [...(found.get(line) ?? []), html]);
   };
-  if (!program || !labels.marks) return found;
+  const commands = program && labels.marks ? allCommands(program.body) : [];
+  if (commands.length === 0 || commands.length !== labels.marks.length) return found; // they are of an earlier text
   for (const one of program.variables) {
-    if (one.label === null) add(one.at, `: ${labelled(labels.of.get(one.name), labels)}`);
+    if (one.label === null && labels.of.has(one.name)) add(one.at, `: ${labelled(labels.of.get(one.name), labels)}`);
   }
   let level = 0;
-  for (const command of allCommands(program.body)) {
+  for (const command of commands) {
     if (command.form === 'mitigate') {
-      if (command.level === null) add(command.head - 1, `, ${labelled(labels.levels[level], labels)}`);
+      if (command.level === null && labels.levels[level]) add(command.head - 1, `, ${labelled(labels.levels[level], labels)}`);
       level++;
     }
     const marks = labels.marks[command.number];

@@ -151,7 +151,7 @@ function drawSource() {
   const isFresh = shown.verdict?.of === undefined || shown.verdict.of === text;
   const rows = isLong
     ? [escaped(text)]
-    : highlighted(text, { labels: shown.labels, faults: isFresh ? faults : [], steps: isFresh ? shown.steps : [], showsLabels: $('labels-shown').checked && isFresh, lit: shown.lit });
+    : highlighted(text, { labels: shown.labels, faults: isFresh ? faults : [], steps: isFresh ? shown.steps : [], showsLabels: $('labels-shown').checked, lit: shown.lit });
   $('layer').innerHTML = rows.join('');
   const count = text.split('\n').length;
   if ($('numbers').childElementCount !== 0 || $('numbers').textContent.split('\n').length !== count) {

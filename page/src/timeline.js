@@ -16,7 +16,7 @@ export function lastCycle(runs) {
 /** The view of all cycles of runs: from, to. */
 export function wholeView(runs) {
   const last = lastCycle(runs);
-  return [0, last + Math.max(4, last / 8)];
+  return [0, last + Math.max(4, last / 7)];
 }
 
 /** A view made narrower or wider about a cycle, within the whole one. */
@@ -154,10 +154,12 @@ export function timeline(runs, { width, view, first = 1 }) {
       last = place;
       const text = `${one.variable} = ${one.value}`, label = isNarrow ? `@${one.cycle}` : `${text} @${one.cycle}`;
       const next = k + 1 < shown.length ? x(shown[k + 1].cycle) : width;
-      const room = label.length * 0.61 * font + 16;
+      const room = label.length * 0.67 * font + 18;
       const isRight = place + room <= Math.min(next, width), isLeft = k === 0 && shown.length === 1 && place - room > left;
       out.push(`<g ${tip(`${text} at ${spaced(one.cycle)}, seen by the observer`)}>${classMark(run.class, place, middle, 5.4 * Math.max(size, 0.75), 'stroke="var(--card)" stroke-width="2" paint-order="stroke"')}`);
       if (isRight || isLeft) {
+        const wide = label.length * 0.58 * font + 6;
+        out.push(`<rect x="${at(isRight ? place + 8 : place - 8 - wide)}" y="${at(middle - 0.62 * font)}" width="${at(wide)}" height="${at(1.24 * font)}" rx="2" fill="var(--card)" opacity=".86"/>`);
         out.push(`<text x="${at(isRight ? place + 10 : place - 10)}" y="${middle + 4.5}" text-anchor="${isRight ? 'start' : 'end'}" fill="${colour}" font-weight="600" stroke="var(--card)" stroke-width="3" paint-order="stroke">${escaped(label)}</text>`);
       }
       out.push('</g>');

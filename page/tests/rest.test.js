@@ -10,10 +10,12 @@ import { readStarts } from '../src/starts.js';
 import { Stopped, Tool } from '../src/tool.js';
 
 const folder = (path) => new URL(path, import.meta.url);
-const files = {};
-for (const place of [folder('../../examples/'), folder('../src/')]) {
-  for (const name of fs.readdirSync(place)) if (/\.(mit|toml)$/.test(name)) files[name] = fs.readFileSync(new URL(name, place), 'utf8');
-}
+const files = new Proxy({}, {
+  get(_, name) {
+    const place = [folder(`../../examples/${name}`), folder(`../src/${name}`)].find((one) => fs.existsSync(one));
+    return place && fs.readFileSync(place, 'utf8');
+  },
+});
 const plain = (html) => html.replace(/<span class="given">.*?<\/span>(?=<span class="step|\n)/g, '').replace(/<span class="step[^>]*>\d+<\/span>/g, '').replace(/<[^>]*>/g, '').replaceAll('&lt;', '<').replaceAll('&gt;', '>').replaceAll('&quot;', '"').replaceAll('&amp;', '&');
 
 test('examples have all their files, and can be read', () => {
@@ -51,6 +53,7 @@ test('left-out labels come from the completed text', () => {
   assert.match(rows[4], /tint t1/);
   assert.ok(!rows[3].includes('tint'));
   assert.ok(!highlighted(SOURCE, { labels, showsLabels: false }).join('').includes('given'));
+  assert.ok(!highlighted(`${SOURCE};\nskip`, { labels }).join('').includes('given'), 'labels of an earlier text are not shown');
 });
 
 test('a refusal marks its command, a syntax fault its word, and steps have their numbers', () => {
