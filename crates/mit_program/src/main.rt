@@ -2,13 +2,13 @@
 #![tactic(auto)]
 
 use mit_tool::mitigate_main;
-use mit_tool::status::Status;
 use std::alloc::Global;
 use std::env;
 use std::io::{self, BufWriter, Write};
 use std::process::ExitCode;
 use tim_base::shelf::FileShelf;
 use tim_base::sink::OutSink;
+use tool_texts::status::Status;
 
 // The exit number where the words can't be stored.
 const NO_MEMORY: u8 = 11;

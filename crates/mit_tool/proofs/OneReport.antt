@@ -20,15 +20,15 @@ use Rattle.cut_audit.specs.declared.report.CutFault.TheVariants as cut_fault
 use Rattle.cut_audit.specs.Report.{SameReport as SameCut}
 use Rattle.cut_audit.proofs.Once as cut
 use Rattle.black_box.specs.Outcomes.{Outcome, IsOutcome}
-use Rattle.mit_tool.specs.declared.status.Status.{Status}
-use Rattle.mit_tool.specs.declared.status.Status.TheVariants as status
-use Rattle.mit_tool.specs.declared.words.EnvName.{EnvName}
-use Rattle.mit_tool.specs.declared.words.EnvName.TheVariants.{Flat, Part, Part2}
-use Rattle.mit_tool.specs.Texts.{number_line}
-use Rattle.mit_tool.specs.Reports.{head_lines, tail_lines, audit_lines, cut_lines, disagree_line, unfinished_line, events_line, box_lines}
-use Rattle.mit_tool.specs.Envs.{flat_env, flat_made, ReportsIn, AuditFaultsIn, CutReportsIn, CutFaultsIn}
+use Rattle.tool_words.specs.declared.words.EnvName.{EnvName}
+use Rattle.tool_words.specs.declared.words.EnvName.TheVariants.{Flat, Part, Part2}
+use Rattle.tool_texts.specs.declared.status.Status.{Status}
+use Rattle.tool_texts.specs.declared.status.Status.TheVariants as status
+use Rattle.tool_texts.specs.Texts.{number_line}
+use Rattle.tool_texts.specs.Reports.{head_lines, tail_lines, audit_lines, cut_lines, disagree_line, unfinished_line, events_line, box_lines}
+use Rattle.tool_stages.specs.Envs.{flat_env, flat_made, ReportsIn, AuditFaultsIn, CutReportsIn, CutFaultsIn}
 use Rattle.mit_tool.specs.Audited.{AuditStops, HasAudited, CutStops, HasCut, HasReleased}
-use Rattle.mit_tool.proofs.OneLemmas.{Same}
+use Rattle.tool_stages.proofs.OneLemmas.{Same}
 
 -- ---- reports and faults in a named environment
 

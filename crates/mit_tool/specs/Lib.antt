@@ -1,15 +1,5 @@
-pub mod WordsAsked
-pub mod WordsForms
-pub mod WordsViews
-pub mod Texts
-pub mod Stages
-pub mod Envs
-pub mod Reports
 pub mod Audited
-pub mod Answers
-pub mod Ends
 pub mod Means
-pub mod Accepted
-pub mod Statuses
+pub mod Answers
 pub mod Complete
 pub mod Once

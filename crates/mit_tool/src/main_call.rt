@@ -2,11 +2,11 @@
 
 ghost use Rattle.std.specs.Prelude.{◌≡◌, ◌≤◌, ◌⊎◌, ℕ, List, None, IfSome, IsTrue, map, string_bytes};
 ghost use Rattle.tim_base.specs.Faults.{Rose};
-ghost use Rattle.mit_tool.specs.Ends.{EndsBy, Nothing};
-ghost use Rattle.mit_tool.specs.WordsAsked.{IsInRange, command_of, check};
-ghost use Rattle.mit_tool.specs.WordsViews.{asked_of};
-ghost use Rattle.mit_tool.specs.Answers.{IsAnswer, IsUsage, Before, typed_content, is_past_typing};
-ghost use Rattle.mit_tool.specs.Accepted.{IsAccepted};
+ghost use Rattle.tool_words.specs.WordsAsked.{IsInRange, command_of, check};
+ghost use Rattle.tool_words.specs.WordsViews.{asked_of};
+ghost use Rattle.tool_texts.specs.Ends.{EndsBy, Nothing};
+ghost use Rattle.tool_stages.specs.Accepted.{is_past_typing, IsAccepted};
+ghost use Rattle.mit_tool.specs.Answers.{IsAnswer, IsUsage, Before, typed_content};
 ghost use Rattle.mit_tool.specs.Complete.{CanBeDone, NoneRises};
 
 use crate::commands::audit::audit_text;
@@ -17,14 +17,15 @@ use crate::commands::cut::cut_text;
 use crate::commands::generate::gen_text;
 use crate::commands::infer::infer_text;
 use crate::commands::meaning::meaning;
-use crate::commands::run::{Setting, run};
-use crate::finish::{finish, stop, tell};
-use crate::status::Status;
-use crate::stop::Stop;
-use crate::words::{Command, WordsFault, read_words};
+use crate::commands::run::run;
 use std::alloc::Global;
 use tim_base::shelf::Shelf;
 use tim_base::sink::Sink;
+use tool_stages::setting::Setting;
+use tool_texts::finish::{finish, stop, tell};
+use tool_texts::status::Status;
+use tool_texts::stop::Stop;
+use tool_words::words::{Command, WordsFault, read_words};
 
 /// Tells whether the program of a file is accepted.
 fn check<S: Shelf, W: Sink>(alloc: Global, shelf: &mut S, out: &mut W, file: &str) -> Status

@@ -1,14 +1,14 @@
 use Rattle.std.proofs.Common.{◌≡◌, ◌⊎◌, inr, refl}
 use Rattle.std.specs.Prelude.{ℕ, List, map, string_bytes}
 use Rattle.tim_base.specs.Faults.{Rose}
-use Rattle.mit_tool.specs.declared.status.Status.TheVariants.{Done, Usage, Memory}
-use Rattle.mit_tool.specs.Texts.{usage_text}
-use Rattle.mit_tool.specs.WordsAsked.{Asked, command_of}
-use Rattle.mit_tool.specs.Ends.{EndsBy, Nothing}
+use Rattle.tool_words.specs.WordsAsked.{Asked, command_of}
+use Rattle.tool_words.specs.WordsViews.{asked_of}
+use Rattle.tool_texts.specs.declared.status.Status.TheVariants.{Done, Usage, Memory}
+use Rattle.tool_texts.specs.Texts.{usage_text}
+use Rattle.tool_texts.specs.Ends.{EndsBy, Nothing}
 use Rattle.mit_tool.specs.Answers.{IsAnswer, IsUsage, Before}
-use Rattle.mit_tool.proofs.EndLemmas.{ends_finish, ends_memory}
-use Rattle.mit_tool.specs.WordsViews.{asked_of}
 use Rattle.mit_tool.specs.Complete.{CanBeDone, NoneRises}
+use Rattle.tool_texts.proofs.EndLemmas.{ends_finish, ends_memory}
 use Rattle.mit_tool.proofs.AskedLemmas.{any_some, nothing_before, asked_some}
 use Rattle.mit_tool.proofs.CompleteLemmas.{completes}
 use Rattle.mit_tool.proofs.main_call.mitigate_main.Goals as goal

@@ -2,8 +2,8 @@ use Rattle.std.proofs.Common.{ap, ◌∙◌, ◌++◌}
 use Rattle.std.specs.Prelude.{map}
 use Rattle.black_box.specs.Files.{ready_lists}
 use Rattle.black_box.specs.Outcomes.{seen}
-use Rattle.mit_tool.specs.Reports.{box_text}
-use Rattle.mit_tool.proofs.PieceLemmas.{box_tells}
+use Rattle.tool_texts.specs.Reports.{box_text}
+use Rattle.mit_tool.proofs.BoxLemmas.{box_tells}
 use Rattle.mit_tool.proofs.commands.blackbox.released.Goals as goal
 
 pub returns-in-Ok : goal.returns-in-Ok

@@ -1,5 +1,5 @@
 use Rattle.std.proofs.Common.{refl, ap, inr, ◌∙◌}
-use Rattle.mit_tool.specs.Texts.{accepted_line}
+use Rattle.tool_texts.specs.Texts.{accepted_line}
 use Rattle.mit_tool.proofs.commands.check.check_line.Goals as goal
 
 pub returns-clause-line : goal.returns-clause-line

@@ -5,9 +5,10 @@ use Rattle.part_tlb.specs.Histories.{part_by_history, part2_by_history}
 use Rattle.part_tlb.specs.Structures.{IsMadeFor}
 use Rattle.part_tlb.specs.Envs.{part_structure, part2_structure}
 use Rattle.history_bound.specs.Over.{AnyHistory, history_made}
-use Rattle.mit_tool.specs.Answers.{CanAudit}
-use Rattle.mit_tool.specs.declared.words.EnvName.TheVariants.{Flat, Part, Part2}
-use Rattle.mit_tool.proofs.AuditLemmas.{cuts_in, cut_faults_in, cut_report_by, cut_fault_by, alike_for}
+use Rattle.tool_words.specs.declared.words.EnvName.TheVariants.{Flat, Part, Part2}
+use Rattle.tool_stages.specs.Begins.{CanAudit}
+use Rattle.tool_stages.proofs.EnvLemmas.{cut_report_by, cut_fault_by, alike_for}
+use Rattle.mit_tool.proofs.AuditLemmas.{cuts_in, cut_faults_in}
 use Rattle.mit_tool.proofs.commands.cut.cut_named.Goals as goal
 
 pub returns-in-Flat : goal.returns-in-Flat
