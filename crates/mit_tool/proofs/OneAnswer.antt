@@ -1,5 +1,5 @@
 -- A command has one answer at most.
-use Rattle.std.proofs.Common.{◌≡◌, ◌^◌, ℕ, List, [], ◌∷◌, length, Option, Some, None, ◌∙◌, codes}
+use Rattle.std.proofs.Common.{◌≡◌, ◌^◌, ℕ, List, [], ◌∷◌, length, Option, Some, None, codes}
 use Rattle.mit_syntax.specs.Plan.{count}
 use Rattle.mit_syntax.specs.Program.{plan_of}
 use Rattle.mit_gen.specs.Made.{starts_text}

@@ -1,5 +1,5 @@
 -- One answer at most: the end of a run without its time.
-use Rattle.std.proofs.Common.{◌≡◌, ◌≤◌, ◌<◌, ◌+◌, ◌-◌, ◌⊎◌, ℕ, zero, suc, ℤ, List, ◌∷◌, ◌++◌, inl, inr, sym, ap, subst, ◌∙◌, arith}
+use Rattle.std.proofs.Common.{◌≡◌, ◌≤◌, ◌<◌, ◌+◌, ◌-◌, ◌⊎◌, ℕ, zero, suc, ℤ, List, ◌++◌, inl, inr, sym, ap, subst, ◌∙◌, arith}
 use Rattle.std.proofs.lemmas.Bool.{cases_order}
 use Rattle.mit_syntax.specs.Todo.{Done}
 use Rattle.mit_syntax.specs.Plan.{Plan}

@@ -1,5 +1,5 @@
 -- What a run tells.
-use Rattle.std.proofs.Common.{◌≡◌, ◌<◌, Option, refl, sym, ap, ◌∙◌}
+use Rattle.std.proofs.Common.{◌≡◌, Option, refl, sym, ap}
 use Rattle.label_lattice.specs.declared.label.Label.{Label}
 use Rattle.timing_types.specs.Labelled.{LabelledProgram}
 use Rattle.event_print.specs.declared.end.RunEnd.{RunEnd}

@@ -1,5 +1,5 @@
 -- What commands tell whose text is made before it is written.
-use Rattle.std.proofs.Common.{◌≡◌, ◌≢◌, ℕ, ◌^◌, List, [], length, codes, inl, inr, Option, Some, None}
+use Rattle.std.proofs.Common.{ℕ, ◌^◌, List, [], length, codes, inl, inr, Option, Some, None}
 use Rattle.label_lattice.specs.declared.label.Label.{Label}
 use Rattle.mit_syntax.specs.Plan.{count}
 use Rattle.mit_syntax.specs.Program.{plan_of}

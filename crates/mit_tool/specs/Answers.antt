@@ -1,5 +1,5 @@
 -- The answer of the tool to words: its status and its text, from what the files are told to hold.
-use Rattle.std.specs.Prelude.{◌≡◌, ◌⊎◌, ◌<◌, ◌≤◌, ◌^◌, ℕ, List, [], length, Option, Some, None, codes}
+use Rattle.std.specs.Prelude.{◌≡◌, ◌⊎◌, ◌≤◌, ◌^◌, ℕ, List, [], length, Option, Some, None, codes}
 use Rattle.label_lattice.specs.declared.label.Label.{Label}
 use Rattle.mit_syntax.specs.Plan.{count, mitigates}
 use Rattle.mit_syntax.specs.Program.{Syntax, plan_of}

@@ -1,5 +1,5 @@
 -- Stages in their order: where none of them stops, where all give one answer, and that no stop is a write fault.
-use Rattle.std.proofs.Common.{◌≡◌, ◌≤◌, ◌^◌, ◌⊎◌, ℕ, List, ◌∷◌, ◌++◌, All, Option, Some, None, inl, inr, subst, ◌∙◌, sym, ◌≢◌}
+use Rattle.std.proofs.Common.{◌≡◌, ℕ, List, ◌∷◌, All, Option, Some, None, inl, inr, subst, ◌∙◌, sym}
 use Rattle.std.proofs.lemmas.List.Elements.{All-head, All-tail}
 use Rattle.std.proofs.lemmas.Option.{none-some}
 use Rattle.label_lattice.specs.declared.label.Label.{Label}

@@ -1,5 +1,5 @@
 -- When the stages and the runs of a program go on.
-use Rattle.std.specs.Prelude.{◌≤◌, ◌≡◌, ◌^◌, ℕ, List, ◌∷◌, All, length, Option, Some, None}
+use Rattle.std.specs.Prelude.{◌≤◌, ℕ, List, All, length, Option, Some, None}
 use Rattle.std.specs.Bool.{⊤}
 use Rattle.label_lattice.specs.declared.label.Label.{Label}
 use Rattle.mit_syntax.specs.Program.{Syntax}
