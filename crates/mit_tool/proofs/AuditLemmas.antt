@@ -14,14 +14,13 @@ use Rattle.tool_texts.specs.declared.stop.Stop.{Stop}
 use Rattle.tool_texts.specs.Ends.{IsStop, status_of, stop_text}
 use Rattle.tool_texts.specs.Reports.{audit_lines, cut_lines}
 use Rattle.tool_stages.specs.Envs.{ReportsIn, AuditFaultsIn, CutReportsIn, CutFaultsIn}
-use Rattle.mit_tool.specs.Audited.{AuditStops, Audits, HasAudited, CutStops, Cuts, HasCut}
+use Rattle.mit_tool.specs.Audited.{AuditStops, HasAudited, CutStops, HasCut}
 use Rattle.tool_texts.proofs.EndLemmas.{broke_map}
 
 pub audits_in : (e name : EnvName) (t : ℕ) (q : LabelledProgram) (l : Label) (xs ss : List StartValue) (r : Result AuditReport AuditFault)
-    → e ≡ name → xs ≡ ss → IfOk r (ReportsIn name q l.number t xs) → IfOk r (λ r. r.distinct ≤ r.base ^ r.exponent) → IfOk r (Audits e t q l ss)
-audits_in e name t q l xs ss (Ok r) is same h b =
-    record { report = subst (λ (z : EnvName). ReportsIn z q l.number t ss r) (sym is) (subst (λ (z : List StartValue). ReportsIn name q l.number t z r) same h); bound = b }
-audits_in e name t q l xs ss (Err f) is same h b = tt
+    → e ≡ name → xs ≡ ss → IfOk r (ReportsIn name q l.number t xs) → IfOk r (ReportsIn e q l.number t ss)
+audits_in e name t q l xs ss r is same h =
+    subst (λ (z : EnvName). IfOk r (ReportsIn z q l.number t ss)) (sym is) (subst (λ (z : List StartValue). IfOk r (ReportsIn name q l.number t z)) same h)
 
 pub faults_in : (e name : EnvName) (t : ℕ) (q : LabelledProgram) (l : Label) (xs ss : List StartValue) (r : Result AuditReport AuditFault)
     → e ≡ name → xs ≡ ss → IfErr r (AuditFaultsIn name q l.number t xs) → IfErr r (AuditFaultsIn e q l.number t ss)
@@ -29,7 +28,7 @@ faults_in e name t q l xs ss r is same h =
     subst (λ (z : EnvName). IfErr r (AuditFaultsIn z q l.number t ss)) (sym is) (subst (λ (z : List StartValue). IfErr r (AuditFaultsIn name q l.number t z)) same h)
 
 pub report_tells : (e : EnvName) (t : ℕ) (q : LabelledProgram) (l : Label) (ss : List StartValue) (before : List ℕ) (r : AuditReport) (x : List ℕ)
-    → Audits e t q l ss r → x ≡ before ++ audit_lines q.program.order l t r → HasAudited e t q (Some l) ss before status.Done x
+    → ReportsIn e q l.number t ss r → x ≡ before ++ audit_lines q.program.order l t r → HasAudited e t q (Some l) ss before status.Done x
 report_tells e t q l ss before r x h is = inr (r, h, (refl, is))
 
 pub audit_stop_stops : (e : EnvName) (t : ℕ) (q : LabelledProgram) (l : Label) (ss : List StartValue) (before : List ℕ) (s : Stop)
@@ -48,10 +47,9 @@ audited_stop_after e t q l ss text before s is h = subst (λ (z : List ℕ). IsS
 -- ---- runs that may not have halted
 
 pub cuts_in : (e name : EnvName) (t : ℕ) (q : LabelledProgram) (l : Label) (xs ss : List StartValue) (r : Result CutReport CutFault)
-    → e ≡ name → xs ≡ ss → IfOk r (CutReportsIn name q l.number t xs) → IfOk r (λ r. r.distinct ≤ r.base ^ r.exponent) → IfOk r (Cuts e t q l ss)
-cuts_in e name t q l xs ss (Ok r) is same h b =
-    record { report = subst (λ (z : EnvName). CutReportsIn z q l.number t ss r) (sym is) (subst (λ (z : List StartValue). CutReportsIn name q l.number t z r) same h); bound = b }
-cuts_in e name t q l xs ss (Err f) is same h b = tt
+    → e ≡ name → xs ≡ ss → IfOk r (CutReportsIn name q l.number t xs) → IfOk r (CutReportsIn e q l.number t ss)
+cuts_in e name t q l xs ss r is same h =
+    subst (λ (z : EnvName). IfOk r (CutReportsIn z q l.number t ss)) (sym is) (subst (λ (z : List StartValue). IfOk r (CutReportsIn name q l.number t z)) same h)
 
 pub cut_faults_in : (e name : EnvName) (t : ℕ) (q : LabelledProgram) (l : Label) (xs ss : List StartValue) (r : Result CutReport CutFault)
     → e ≡ name → xs ≡ ss → IfErr r (CutFaultsIn name q l.number t xs) → IfErr r (CutFaultsIn e q l.number t ss)
@@ -59,7 +57,7 @@ cut_faults_in e name t q l xs ss r is same h =
     subst (λ (z : EnvName). IfErr r (CutFaultsIn z q l.number t ss)) (sym is) (subst (λ (z : List StartValue). IfErr r (CutFaultsIn name q l.number t z)) same h)
 
 pub cut_tells : (e : EnvName) (t : ℕ) (q : LabelledProgram) (l : Label) (ss : List StartValue) (r : CutReport) (x : List ℕ)
-    → Cuts e t q l ss r → x ≡ cut_lines q.program.order l t r → HasCut e t q (Some l) ss status.Done x
+    → CutReportsIn e q l.number t ss r → x ≡ cut_lines q.program.order l t r → HasCut e t q (Some l) ss status.Done x
 cut_tells e t q l ss r x h is = inr (r, h, (refl, is))
 
 pub cut_stop_stops : (e : EnvName) (t : ℕ) (q : LabelledProgram) (l : Label) (ss : List StartValue) (s : Stop)

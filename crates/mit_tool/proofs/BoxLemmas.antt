@@ -19,19 +19,16 @@ shown_at [] = refl
 shown_at (r ∷ rs) = ap (λ z. r.at.items ∷ z) (shown_at rs)
 
 pub box_tells : (first t : ℕ) (all : List (Vec ℕ Global)) (a : BoxAudit) (x : List ℕ) → AllZip (IsOutcome first t) (ready_lists all) (map seen a.runs.items)
-    → a.distinct ≡ distinct_count same_cycles (shown a.runs.items) → a.classes.items ≡ classes_of (shown a.runs.items) → a.base ≡ t + 1 → a.exponent ≡ digits t → a.distinct ≤ a.base ^ a.exponent
+    → a.distinct ≡ distinct_count same_cycles (shown a.runs.items) → a.classes.items ≡ classes_of (shown a.runs.items) → a.base ≡ t + 1 → a.exponent ≡ digits t
     → x ≡ box_text first t (ready_lists all) (map seen a.runs.items) a.distinct a.base a.exponent a.classes.items → HasReleased first t (ready_lists all) Done x
-box_tells first t all a x outcomes distinct classes base exponent bound text =
+box_tells first t all a x outcomes distinct classes base exponent text =
     let vs = ready_lists all in
     let ws = map seen a.runs.items in
     let d : a.distinct ≡ distinct_count same_cycles (all_released ws) = distinct ∙ ap (distinct_count same_cycles) (shown_at a.runs.items) in
-    let k : a.classes.items ≡ classes_of (all_released ws) = classes ∙ ap classes_of (shown_at a.runs.items) in
-    let by_base : a.distinct ≤ (t + 1) ^ a.exponent = subst (λ (z : ℕ). a.distinct ≤ z ^ a.exponent) base bound in
-    let by_digits : a.distinct ≤ (t + 1) ^ digits t = subst (λ (z : ℕ). a.distinct ≤ (t + 1) ^ z) exponent by_base in (
+    let k : a.classes.items ≡ classes_of (all_released ws) = classes ∙ ap classes_of (shown_at a.runs.items) in (
       refl,
       ws,
       outcomes,
-      subst (λ (z : ℕ). z ≤ (t + 1) ^ digits t) d by_digits,
       text ∙ ap (λ z. box_text first t vs ws z a.base a.exponent a.classes.items) d
           ∙ ap (λ z. box_text first t vs ws (distinct_count same_cycles (all_released ws)) z a.exponent a.classes.items) base
           ∙ ap (λ z. box_text first t vs ws (distinct_count same_cycles (all_released ws)) (t + 1) z a.classes.items) exponent

@@ -28,10 +28,10 @@ use Rattle.tool_texts.specs.declared.status.Status.TheVariants as status
 use Rattle.tool_texts.specs.Reports.{audit_lines, cut_lines, made_lines}
 use Rattle.tool_texts.specs.Ends.{EndsBy}
 use Rattle.tool_stages.specs.Stages.{Then, ProgramStops, Reads, ObserverStops, Observes, TypeStops, Types, ImageStops, HasImage, StartStops, StartsAre, FirstStops, FirstStart, HoldsRuns, ReadyStops}
-use Rattle.tool_stages.specs.Envs.{flat_env, flat_made, AuditFaultsIn, CutFaultsIn, told_in}
+use Rattle.tool_stages.specs.Envs.{flat_env, flat_made, AuditFaultsIn, CutFaultsIn, told_in, ReportsIn, CutReportsIn}
 use Rattle.tool_stages.specs.Content.{Content, IsKnown}
 use Rattle.tool_stages.specs.Goes.{IsHalted, HaltsBy, CanCut, CanBeAudited, OfObserver}
-use Rattle.mit_tool.specs.Audited.{AuditStops, Audits, HasAudited, CutStops, Cuts, HasCut, HasReleased}
+use Rattle.mit_tool.specs.Audited.{AuditStops, HasAudited, CutStops, HasCut, HasReleased}
 use Rattle.mit_tool.specs.Answers.{HasChecked, HasInferred, HasListed, HasRun, status_at, IsAnswer, Before}
 use Rattle.mit_tool.specs.Means.{HasMeant}
 use Rattle.mit_tool.specs.Complete.{AreKnown, NoneRises, CanGoOn, CanBeDone}
@@ -69,13 +69,13 @@ audited_done : (e : EnvName) (t : ℕ) (q : LabelledProgram) (o : Option Label) 
     → OfObserver (λ l. CanBeAudited e t q l ss) o → HasAudited e t q o ss before s x → s ≡ status.Done
 audited_done e t q None ss before s x k h = absurd h
 audited_done e t q (Some l) ss before s x k h =
-    then_goes (AuditStops e t q l ss) (Audits e t q l ss) (λ r s x. (s ≡ status.Done) × (x ≡ before ++ audit_lines q.program.order l t r)) s x (audit_goes e t q l ss s x k) (λ r a n. n.0) h
+    then_goes (AuditStops e t q l ss) (ReportsIn e q l.number t ss) (λ r s x. (s ≡ status.Done) × (x ≡ before ++ audit_lines q.program.order l t r)) s x (audit_goes e t q l ss s x k) (λ r a n. n.0) h
 
 cut_done : (e : EnvName) (t : ℕ) (q : LabelledProgram) (o : Option Label) (ss : List StartValue) (s : Status) (x : List ℕ)
     → OfObserver (λ l. CanCut e t q l ss) o → HasCut e t q o ss s x → s ≡ status.Done
 cut_done e t q None ss s x k h = absurd h
 cut_done e t q (Some l) ss s x k h =
-    then_goes (CutStops e t q l ss) (Cuts e t q l ss) (λ r s x. (s ≡ status.Done) × (x ≡ cut_lines q.program.order l t r)) s x (cut_goes e t q l ss s x k) (λ r a n. n.0) h
+    then_goes (CutStops e t q l ss) (CutReportsIn e q l.number t ss) (λ r s x. (s ≡ status.Done) × (x ≡ cut_lines q.program.order l t r)) s x (cut_goes e t q l ss s x k) (λ r a n. n.0) h
 
 -- ---- commands
 

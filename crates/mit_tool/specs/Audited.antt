@@ -29,16 +29,11 @@ AuditStops e t q l ss status.Unfinished x = (run : ℕ) × (cycle : ℕ) × Audi
 AuditStops e t q l ss status.TooLong x = (count : ℕ) × AuditFaultsIn e q l.number t ss (TooMuch count) × (x ≡ events_line count)
 AuditStops e t q l ss _ x = ⊥
 
--- the report, whose number of different sequences is within its bound
-pub record Audits (e : EnvName) (t : ℕ) (q : LabelledProgram) (l : Label) (ss : List StartValue) (r : AuditReport) : Type 0 where
-  pub report : ReportsIn e q l.number t ss r
-  pub bound : r.distinct ≤ r.base ^ r.exponent
-
 -- the lines of the report stand after a text
 abbrev pub HasAudited : EnvName → ℕ → LabelledProgram → Option Label → List StartValue → List ℕ → Status → List ℕ → Type 0
 HasAudited e t q None ss before = λ s x. ⊥
 HasAudited e t q (Some l) ss before =
-    Then (AuditStops e t q l ss) (Audits e t q l ss) (λ r s x.
+    Then (AuditStops e t q l ss) (ReportsIn e q l.number t ss) (λ r s x.
     (s ≡ status.Done) × (x ≡ before ++ audit_lines q.program.order l t r))
 
 -- ---- the same where runs may not have halted
@@ -48,21 +43,16 @@ CutStops e t q l ss status.Disagree x = (run : ℕ) × (what : What) × CutFault
 CutStops e t q l ss status.TooLong x = (count : ℕ) × CutFaultsIn e q l.number t ss (cut.TooMuch count) × (x ≡ events_line count)
 CutStops e t q l ss _ x = ⊥
 
-pub record Cuts (e : EnvName) (t : ℕ) (q : LabelledProgram) (l : Label) (ss : List StartValue) (r : CutReport) : Type 0 where
-  pub report : CutReportsIn e q l.number t ss r
-  pub bound : r.distinct ≤ r.base ^ r.exponent
-
 abbrev pub HasCut : EnvName → ℕ → LabelledProgram → Option Label → List StartValue → Status → List ℕ → Type 0
 HasCut e t q None ss = λ s x. ⊥
 HasCut e t q (Some l) ss =
-    Then (CutStops e t q l ss) (Cuts e t q l ss) (λ r s x.
+    Then (CutStops e t q l ss) (CutReportsIn e q l.number t ss) (λ r s x.
     (s ≡ status.Done) × (x ≡ cut_lines q.program.order l t r))
 
 -- ---- a black box
 
--- what is released by the schedule, where the number of different lists of releases is within its bound
+-- what is released by the schedule
 abbrev pub HasReleased : ℕ → ℕ → List (List ℕ) → Status → List ℕ → Type 0
 HasReleased first t runs s x =
     (s ≡ status.Done) × (outcomes : List Outcome) × AllZip (IsOutcome first t) runs outcomes
-    × (distinct_count same_cycles (all_released outcomes) ≤ (t + 1) ^ digits t)
     × (x ≡ box_lines first t runs outcomes)

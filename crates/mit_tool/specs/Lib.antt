@@ -3,3 +3,5 @@ pub mod Means
 pub mod Answers
 pub mod Complete
 pub mod Once
+pub mod Held
+pub mod Bounded

@@ -68,16 +68,16 @@ file_early R f c Faulty v s t early (inl h) = subst IsEarly (sym h.0) read_early
 file_early R f c Faulty v s t early (inr (inl h)) = subst IsEarly (sym h.0) long_early
 file_early R f c Faulty v s t early (inr (inr h)) = subst IsEarly (sym h.0) early
 
-program_early : (R : Type 0) (c : Option (Option (List ℕ))) (s : Status) (t : List ℕ) → ProgramStops R c s t → IsEarly s
+pub program_early : (R : Type 0) (c : Option (Option (List ℕ))) (s : Status) (t : List ℕ) → ProgramStops R c s t → IsEarly s
 program_early R c s t h = file_early R program_file c (BadText c) BadSyntax s t syntax_early (program_stops R c s t h)
 
-observer_early : (o : Order) (w : Option (List ℕ)) (s : Status) (t : List ℕ) → ObserverStops o w s t → IsEarly s
+pub observer_early : (o : Order) (w : Option (List ℕ)) (s : Status) (t : List ℕ) → ObserverStops o w s t → IsEarly s
 observer_early o w s t h = subst IsEarly (sym (observer_stops o w s t h).0) usage_early
 
-type_early : (p : Syntax) (s : Status) (t : List ℕ) → TypeStops p s t → IsEarly s
+pub type_early : (p : Syntax) (s : Status) (t : List ℕ) → TypeStops p s t → IsEarly s
 type_early p s t h = subst IsEarly (sym (type_stops p s t h).0) refused_early
 
-image_early : (q : LabelledProgram) (s : Status) (t : List ℕ) → ImageStops q s t → IsEarly s
+pub image_early : (q : LabelledProgram) (s : Status) (t : List ℕ) → ImageStops q s t → IsEarly s
 image_early q s t h = subst IsEarly (sym (image_stops q s t h).0) long_early
 
 start_early : (R : Type 0) (c : Option (Option (List ℕ))) (p : Syntax) (s : Status) (t : List ℕ) → StartStops R c p s t → IsEarly s
@@ -100,7 +100,7 @@ prepare_early Rises content file observer R starts s t =
     compiles_early Rises content file (Some observer) (λ p q o code. Then (StartStops R starts p) (StartsAre starts p) (λ ss. NoMore)) s t
     (λ p q o code. then_early (StartStops R starts p) (StartsAre starts p) (λ ss. NoMore) s t (start_early R starts p s t) (λ ss k. absurd k))
 
-not_late : (s : Status) → IsEarly s → IsTrue (is_past_typing s) → ⊥
+pub not_late : (s : Status) → IsEarly s → IsTrue (is_past_typing s) → ⊥
 not_late s h late = cc (h.early)
 
 pub prepare_not_late : (Rises : List ℕ → Type 0) (content : Content) (file observer : List ℕ) (R : Type 0) (starts : Option (Option (List ℕ))) (e : Stop) → IsStop (PrepareStops Rises content file observer R starts) e → IsTrue (is_past_typing (status_of e)) → ⊥

@@ -4,6 +4,8 @@ use Rattle.env_contract.specs.Env.{Env}
 use Rattle.label_lattice.specs.Order.{Order}
 use Rattle.mit_syntax.specs.Program.{Syntax, plan_of}
 use Rattle.mit_syntax.specs.Valid.{IsValid}
+use Rattle.mit_parser.specs.Words.{Told}
+use Rattle.mit_parser.specs.Spells.{IsProgram}
 use Rattle.timing_types.specs.Labelled.{LabelledProgram, labels_of, levels_of}
 use Rattle.code_lower.specs.Lowered.{lowered}
 use Rattle.part_tlb.specs.Histories.{part_by_history, part2_by_history}
@@ -29,6 +31,10 @@ pub record IsSound (q : LabelledProgram) : Type 0 where
 -- every program is sound with the least labelling that types it
 abbrev pub AcceptedAreSound : Type 0
 AcceptedAreSound = (p : Syntax) (q : LabelledProgram) → IsValid p → Types p q → IsSound q
+
+-- every program that words spell is
+abbrev pub SpelledAreSound : Type 0
+SpelledAreSound = (words : List Told) (p : Syntax) (q : LabelledProgram) → IsProgram words p → Types p q → IsSound q
 
 -- the program of a file is accepted
 pub record IsAccepted (content : Option (Option (List ℕ))) : Type 0 where

@@ -1,6 +1,6 @@
 //! What is true of every accepted program.
 
-ghost use Rattle.tool_stages.specs.Accepted.{AcceptedAreSound};
+ghost use Rattle.tool_stages.specs.Accepted.{AcceptedAreSound, SpelledAreSound};
 
 use env_contract::flat::FlatEnv;
 use history_bound::laws::lowered_few_sequences_by_history;
@@ -9,7 +9,8 @@ use leak_bound::laws::lowered_few_sequences;
 /// A law: in each environment that `--env` names, the image of an accepted program does what the program does,
 /// and of starts that agree for an observer few different sequences are seen.
 pub fn accepted_are_sound()
-    ensures { AcceptedAreSound }
+    ensures valid { AcceptedAreSound }
+    ensures spelled { SpelledAreSound }
 {
     lowered_few_sequences::<FlatEnv>();
     lowered_few_sequences_by_history();

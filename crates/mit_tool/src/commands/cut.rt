@@ -7,10 +7,10 @@ ghost use Rattle.timing_types.specs.Labelled.{LabelledProgram};
 ghost use Rattle.start_file.specs.Starts.{StartValue, seen};
 ghost use Rattle.tool_words.specs.WordsAsked.{IsCycles, cut};
 ghost use Rattle.tool_texts.specs.Ends.{IsStop, status_of};
-ghost use Rattle.tool_stages.specs.Envs.{CutFaultsIn};
+ghost use Rattle.tool_stages.specs.Envs.{CutReportsIn, CutFaultsIn};
 ghost use Rattle.tool_stages.specs.Begins.{CanAudit};
 ghost use Rattle.tool_stages.specs.Accepted.{is_past_typing, IsAccepted};
-ghost use Rattle.mit_tool.specs.Audited.{CutStops, Cuts, HasCut};
+ghost use Rattle.mit_tool.specs.Audited.{CutStops, HasCut};
 ghost use Rattle.mit_tool.specs.Answers.{IsAnswer};
 
 use cut_audit::cut::cut;
@@ -34,7 +34,7 @@ use tool_words::words::EnvName;
 fn cut_named(alloc: Global, p: &Prepared, setting: Setting) -> Result<CutReport, CutFault>
     requires fit { CanAudit p.now.compiled.typed.labelled p.now.observer p.now.compiled.image (map seen p.now.starts.items) }
     requires cycles { IsCycles setting.budget }
-    ensures report { IfOk result (Cuts setting.env setting.budget p.now.compiled.typed.labelled p.now.observer (map seen p.now.starts.items)) }
+    ensures report { IfOk result (CutReportsIn setting.env p.now.compiled.typed.labelled p.now.observer.number setting.budget (map seen p.now.starts.items)) }
     ensures fault { IfErr result (CutFaultsIn setting.env p.now.compiled.typed.labelled p.now.observer.number setting.budget (map seen p.now.starts.items)) }
 {
     let (typed, image, starts) = (&p.compiled.typed, &p.compiled.image, p.starts.as_slice());

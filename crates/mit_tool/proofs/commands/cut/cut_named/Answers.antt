@@ -17,7 +17,7 @@ returns-in-Flat c =
     let xs = map seen c.as_slice-starts.result.now in
     let same = ap (map seen) c.as_slice-starts.ensures.value in
     record {
-      report = cuts_in c.args.setting.env Flat c.args.setting.budget p.compiled.typed.labelled p.observer xs (map seen p.starts.items) c.cut.result c.in-Flat.is same c.cut.ensures.report c.cut.ensures.bound;
+      report = cuts_in c.args.setting.env Flat c.args.setting.budget p.compiled.typed.labelled p.observer xs (map seen p.starts.items) c.cut.result c.in-Flat.is same c.cut.ensures.report;
       fault = cut_faults_in c.args.setting.env Flat c.args.setting.budget p.compiled.typed.labelled p.observer xs (map seen p.starts.items) c.cut.result c.in-Flat.is same c.cut.ensures.fault;
     }
 
@@ -34,7 +34,7 @@ returns-in-Part c =
     let report = cut_report_by _ (IsMadeFor part_structure) (part_by_history q.program.order) AnyHistory q p.observer.number t _ _ alike c.cut-in-Part.result c.cut-in-Part.ensures.report in
     let fault = cut_fault_by _ (IsMadeFor part_structure) (part_by_history q.program.order) AnyHistory q p.observer.number t _ _ alike c.cut-in-Part.result c.cut-in-Part.ensures.fault in
     record {
-      report = cuts_in c.args.setting.env Part t q p.observer xs ss c.cut-in-Part.result c.in-Part.is same report c.cut-in-Part.ensures.bound;
+      report = cuts_in c.args.setting.env Part t q p.observer xs ss c.cut-in-Part.result c.in-Part.is same report;
       fault = cut_faults_in c.args.setting.env Part t q p.observer xs ss c.cut-in-Part.result c.in-Part.is same fault;
     }
 
@@ -51,6 +51,6 @@ returns-in-Part2 c =
     let report = cut_report_by _ (IsMadeFor part2_structure) (part2_by_history q.program.order) AnyHistory q p.observer.number t _ _ alike c.cut-in-Part2.result c.cut-in-Part2.ensures.report in
     let fault = cut_fault_by _ (IsMadeFor part2_structure) (part2_by_history q.program.order) AnyHistory q p.observer.number t _ _ alike c.cut-in-Part2.result c.cut-in-Part2.ensures.fault in
     record {
-      report = cuts_in c.args.setting.env Part2 t q p.observer xs ss c.cut-in-Part2.result c.in-Part2.is same report c.cut-in-Part2.ensures.bound;
+      report = cuts_in c.args.setting.env Part2 t q p.observer xs ss c.cut-in-Part2.result c.in-Part2.is same report;
       fault = cut_faults_in c.args.setting.env Part2 t q p.observer xs ss c.cut-in-Part2.result c.in-Part2.is same fault;
     }
