@@ -36,12 +36,12 @@ fits_bytes None bytes t x e = absurd (none-some x e)
 fits_bytes (Some None) bytes t x e = absurd t
 fits_bytes (Some (Some xs)) bytes t x e = let same : Some xs ≡ x = cc in ap Some t ∙ same
 
-longer : (n : ℕ) → n < length (replicate (n + 1) 0)
-longer n = let long = length-replicate (n + 1) 0 in omega (arith, long)
+longer : (n x : ℕ) → n < length (replicate (n + 1) x)
+longer n x = let long = length-replicate (n + 1) x in omega (arith, long)
 
 -- some file is too long
 pub held_long : (c : Option (Option (List ℕ))) → IsTooLong c → (h : Option (List ℕ)) × Fits c h × IsTooLong (Some h)
-held_long None t = (Some (replicate (limit + 1) 0), λ x e. absurd (none-some x e), longer limit)
+held_long None t = (Some (replicate (limit + 1) 0), λ x e. absurd (none-some x e), longer limit 0)
 held_long (Some None) t = absurd t
 held_long (Some (Some xs)) t = (Some xs, fits_held (Some (Some xs)), t)
 
@@ -152,4 +152,3 @@ first_then_held Rises content name p Next s t =
 -- one file holds this, another one that, and the others what is told of them
 abbrev pub held_with : Content → List ℕ → Option (List ℕ) → List ℕ → Option (List ℕ) → Held
 held_with content file h other k name = cond (bytes_eq name file) h (cond (bytes_eq name other) k (held_of (content name)))
-

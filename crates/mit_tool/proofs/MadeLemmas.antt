@@ -92,4 +92,4 @@ made_starts_are size number p some r =
     let cut : AreTokens text r.tokens = subst (λ (z : List ℕ). AreTokens z r.tokens) r.are r.cut in
     let spelled : IsProgram (told text r.tokens) p = subst (λ (z : List ℕ). IsProgram (told z r.tokens) p) r.are r.spelled in
     let has = made_has_starts size number some (made_words size number) p (r.tokens, cut, spelled) in
-    (made_starts, starts_text, refl, starts_short, has.gives)
+    (made_starts, (starts_text, refl, starts_short, has.gives))

@@ -80,10 +80,12 @@ one_file content file P (h, fits, is) =
 two_files : (content : Content) (file other : List ℕ) (P : Option (Option (List ℕ)) → Option (Option (List ℕ)) → Type 0) (h k : Option (List ℕ))
     → Fits (content file) h → Fits (content other) k → (file ≡ other → IsSome (content file)) → P (Some h) (Some k)
     → (held : Held) × HoldsTold content held × P (told_all held file) (told_all held other)
-two_files content file other P h k fits fits' alike is =
-    (held_with content file h other k, all_held content file h other k fits fits',
-    subst (λ z. P (Some z) (Some (held_with content file h other k other))) (sym (first_held content file h other k))
-    (subst (λ z. P (Some h) (Some z)) (sym (second_held content file h other k fits fits' alike)) is))
+two_files content file other P h k fits fits' alike is = (
+  held_with content file h other k,
+  all_held content file h other k fits fits',
+  subst (λ z. P (Some z) (Some (held_with content file h other k other))) (sym (first_held content file h other k))
+      (subst (λ z. P (Some h) (Some z)) (sym (second_held content file h other k fits fits' alike)) is),
+)
 
 -- ---- from a file to what comes after it
 
@@ -120,11 +122,11 @@ module _ (Rises : List ℕ → Type 0) (content : Content) (s : Status) (t : Lis
       × CompilesFrom (Rises file) (told_all held file) (Some observer) (λ p q o code. Then (StartStops (Rises starts) (told_all held starts) p) (StartsAre (told_all held starts) p) (λ ss. Next p q o code ss)) s t
   starts_answer file observer starts Next alike x =
       let later = compiles_later Rises content file (Some observer) (content starts)
-          (λ p q o code. Then (StartStops (Rises starts) (content starts) p) (StartsAre (content starts) p) (λ ss. Next p q o code ss))
-          (λ k p q o code. Then (StartStops (Rises starts) (Some k) p) (StartsAre (Some k) p) (λ ss. Next p q o code ss)) s t
-          (λ p q o code. starts_then_held (Rises starts) (content starts) p (λ ss. Next p q o code ss) s t) x in
+      (λ p q o code. Then (StartStops (Rises starts) (content starts) p) (StartsAre (content starts) p) (λ ss. Next p q o code ss))
+      (λ k p q o code. Then (StartStops (Rises starts) (Some k) p) (StartsAre (Some k) p) (λ ss. Next p q o code ss)) s t
+      (λ p q o code. starts_then_held (Rises starts) (content starts) p (λ ss. Next p q o code ss) s t) x in
       let first = compiles_then_held (Rises file) (content file) (Some observer)
-          (λ p q o code. Then (StartStops (Rises starts) (Some later.0) p) (StartsAre (Some later.0) p) (λ ss. Next p q o code ss)) s t later.2 in
+      (λ p q o code. Then (StartStops (Rises starts) (Some later.0) p) (StartsAre (Some later.0) p) (λ ss. Next p q o code ss)) s t later.2 in
       two_files content file starts
       (λ c d. CompilesFrom (Rises file) c (Some observer) (λ p q o code. Then (StartStops (Rises starts) d p) (StartsAre d p) (λ ss. Next p q o code ss)) s t)
       first.0 later.0 first.1 later.1 alike first.2
@@ -137,11 +139,11 @@ module _ (Rises : List ℕ → Type 0) (content : Content) (s : Status) (t : Lis
       × CompilesFrom (Rises file) (told_all held file) observer (λ p q o code. Then (FirstStops Rises (told_all held) (Some starts) p) (FirstStart (told_all held) (Some starts) p) (λ start. Next p q o code start)) s t
   first_answer file starts observer Next alike x =
       let later = compiles_later Rises content file observer (content starts)
-          (λ p q o code. Then (FirstStops Rises content (Some starts) p) (FirstStart content (Some starts) p) (λ start. Next p q o code start))
-          (λ k p q o code. Then (StartStops (Rises starts) (Some k) p) (λ start. (others : List StartValue) × StartsAre (Some k) p (start ∷ others)) (λ start. Next p q o code start)) s t
-          (λ p q o code. first_then_held Rises content starts p (λ start. Next p q o code start) s t) x in
+      (λ p q o code. Then (FirstStops Rises content (Some starts) p) (FirstStart content (Some starts) p) (λ start. Next p q o code start))
+      (λ k p q o code. Then (StartStops (Rises starts) (Some k) p) (λ start. (others : List StartValue) × StartsAre (Some k) p (start ∷ others)) (λ start. Next p q o code start)) s t
+      (λ p q o code. first_then_held Rises content starts p (λ start. Next p q o code start) s t) x in
       let first = compiles_then_held (Rises file) (content file) observer
-          (λ p q o code. Then (StartStops (Rises starts) (Some later.0) p) (λ start. (others : List StartValue) × StartsAre (Some later.0) p (start ∷ others)) (λ start. Next p q o code start)) s t later.2 in
+      (λ p q o code. Then (StartStops (Rises starts) (Some later.0) p) (λ start. (others : List StartValue) × StartsAre (Some later.0) p (start ∷ others)) (λ start. Next p q o code start)) s t later.2 in
       two_files content file starts
       (λ c d. CompilesFrom (Rises file) c observer (λ p q o code. Then (StartStops (Rises starts) d p) (λ start. (others : List StartValue) × StartsAre d p (start ∷ others)) (λ start. Next p q o code start)) s t)
       first.0 later.0 first.1 later.1 alike first.2
@@ -154,11 +156,11 @@ module _ (Rises : List ℕ → Type 0) (content : Content) (s : Status) (t : Lis
       × Then (ProgramStops (Rises file) (told_all held file)) (Reads (told_all held file)) (λ p. Then (FirstStops Rises (told_all held) (Some starts) p) (FirstStart (told_all held) (Some starts) p) (λ start. Next p start)) s t
   meant_answer file starts Next alike x =
       let later = then_later (content starts) (ProgramStops (Rises file) (content file)) (Reads (content file))
-          (λ p. Then (FirstStops Rises content (Some starts) p) (FirstStart content (Some starts) p) (λ start. Next p start))
-          (λ k p. Then (StartStops (Rises starts) (Some k) p) (λ start. (others : List StartValue) × StartsAre (Some k) p (start ∷ others)) (λ start. Next p start)) s t
-          (λ p. first_then_held Rises content starts p (λ start. Next p start) s t) x in
+      (λ p. Then (FirstStops Rises content (Some starts) p) (FirstStart content (Some starts) p) (λ start. Next p start))
+      (λ k p. Then (StartStops (Rises starts) (Some k) p) (λ start. (others : List StartValue) × StartsAre (Some k) p (start ∷ others)) (λ start. Next p start)) s t
+      (λ p. first_then_held Rises content starts p (λ start. Next p start) s t) x in
       let first = program_then_held (Rises file) (content file)
-          (λ p. Then (StartStops (Rises starts) (Some later.0) p) (λ start. (others : List StartValue) × StartsAre (Some later.0) p (start ∷ others)) (λ start. Next p start)) s t later.2 in
+      (λ p. Then (StartStops (Rises starts) (Some later.0) p) (λ start. (others : List StartValue) × StartsAre (Some later.0) p (start ∷ others)) (λ start. Next p start)) s t later.2 in
       two_files content file starts
       (λ c d. Then (ProgramStops (Rises file) c) (Reads c) (λ p. Then (StartStops (Rises starts) d p) (λ start. (others : List StartValue) × StartsAre d p (start ∷ others)) (λ start. Next p start)) s t)
       first.0 later.0 first.1 later.1 alike first.2
@@ -176,7 +178,7 @@ module _ (Rises : List ℕ → Type 0) (content : Content) (s : Status) (t : Lis
       (compiles_then_held (Rises file) (content file) None (λ p q o code. HasListed q code) s t x)
   answer_held (run file None e budget observer) alike x =
       let Next : Syntax → LabelledProgram → Option Label → Code → Status → List ℕ → Type 0 =
-          λ p q o code. Then (FirstStops Rises content None p) (FirstStart content None p) (λ start. HasRun e budget q o code start) in
+      λ p q o code. Then (FirstStops Rises content None p) (FirstStart content None p) (λ start. HasRun e budget q o code start) in
       one_file content file (λ c. CompilesFrom (Rises file) c observer Next s t) (compiles_then_held (Rises file) (content file) observer Next s t x)
   answer_held (run file (Some starts) e budget observer) alike x =
       first_answer file starts observer (λ p q o code start. HasRun e budget q o code start) alike x
@@ -208,10 +210,9 @@ begun_held content file (Some starts) n b alike x =
     let first : FirstStart content (Some starts) x.program x.start = x.first in
     let begin = starts_held (content starts) x.program (x.start ∷ first.0) first.1 in
     let made = two_files content file starts (λ c d. Reads c x.program × StartsAre d x.program (x.start ∷ first.0)) read.0 begin.0 read.1 begin.1 alike (read.2, begin.2) in
-    (made.0, made.1, record { program = x.program; reads = made.2; start = x.start; first = (first.0, made.3); steps = x.steps; within = x.within; lines = x.lines })
+    (made.0, made.1, record { program = x.program; reads = made.2.0; start = x.start; first = (first.0, made.2.1); steps = x.steps; within = x.within; lines = x.lines })
 
 before_held : (content : Content) (a : Asked) (b : List ℕ) → AreReadAlike content (files_of a) → Before content a b → (held : Held) × HoldsTold content held × Before (told_all held) a b
-
 before_held content (check file) b alike x = (λ name. held_of (content name), λ name. fits_held (content name), x)
 before_held content (infer file) b alike x = (λ name. held_of (content name), λ name. fits_held (content name), x)
 before_held content (compile file) b alike x = (λ name. held_of (content name), λ name. fits_held (content name), x)

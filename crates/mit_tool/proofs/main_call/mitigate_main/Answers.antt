@@ -80,7 +80,7 @@ returns-in-Err-Memory-clause-one g c =
     any_some (command_of (map string_bytes c.args.words.now)) (λ (a : Asked). EndsByOne content rises risen old new a c.finish.result)
     (λ a alike.
     let k = ends_held rises content a old new c.finish.result alike
-        (ends_memory old new (Before content a) (IsAnswer rises content a) c.finish.result (nothing_before content a) c.finish.ensures.told c.finish.ensures.prefix) in
+    (ends_memory old new (Before content a) (IsAnswer rises content a) c.finish.result (nothing_before content a) c.finish.ensures.told c.finish.ensures.prefix) in
     record {
       held = k.0;
       told = k.1;
