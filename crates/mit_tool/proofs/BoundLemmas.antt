@@ -1,15 +1,12 @@
 -- Counts are within their bounds.
-use Rattle.std.proofs.Common.{◌≡◌, ◌<◌, ◌≤◌, ℕ, ◌+◌, ◌*◌, ◌^◌, Bool, List, [], ◌∷◌, map, refl, sym, ap, ◌∙◌, subst}
+use Rattle.std.proofs.Common.{◌≡◌, ◌<◌, ◌≤◌, ℕ, ◌+◌, ◌*◌, ◌^◌, Bool, List, [], ◌∷◌, sym, ap, ◌∙◌, subst}
 use Rattle.std.specs.List.{AllZip}
 use Rattle.label_lattice.specs.Order.{Order, count_not_below}
 use Rattle.mit_syntax.specs.Program.{Syntax, plan_of}
-use Rattle.mit_parser.specs.Words.{Told}
-use Rattle.mit_parser.specs.Spells.{IsProgram}
 use Rattle.timing_types.specs.Labelled.{LabelledProgram, order_of, labels_of, levels_of}
 use Rattle.env_contract.specs.Env.{Env}
 use Rattle.label_code.specs.Run.{Start}
 use Rattle.code_lower.specs.Lowered.{lowered}
-use Rattle.start_file.specs.Starts.{StartValue}
 use Rattle.leak_bound.specs.Digits.{digits}
 use Rattle.leak_bound.specs.Records.{Tests, distinct_count}
 use Rattle.leak_bound.specs.Sound.{Sound, CutSound, bound, most_ended}
@@ -33,7 +30,7 @@ use Rattle.tool_words.specs.declared.words.EnvName.{EnvName}
 use Rattle.tool_words.specs.declared.words.EnvName.TheVariants.{Flat, Part, Part2}
 use Rattle.tool_words.specs.WordsAsked.{Asked, check, infer, compile, run, meaning, audit, gen, cut, blackbox, certify, recheck}
 use Rattle.tool_stages.specs.Stages.{Types}
-use Rattle.tool_stages.specs.Envs.{flat_env, flat_made, ReportsIn, CutReportsIn}
+use Rattle.tool_stages.specs.Envs.{flat_env, flat_made}
 use Rattle.tool_texts.specs.Reports.{all_released}
 use Rattle.tool_stages.specs.Accepted.{SpelledAreSound}
 use Rattle.mit_tool.specs.Bounded.{AuditsAreWithin, CutsAreWithin, ReleasesAreWithin, AreWithin}

@@ -1,5 +1,5 @@
 -- What a black box tells.
-use Rattle.std.proofs.Common.{Vec, Global, ◌≡◌, refl, ap, subst, ◌∙◌, ℕ, ◌+◌, ◌^◌, ◌≤◌, List, [], ◌∷◌, map}
+use Rattle.std.proofs.Common.{Vec, Global, ◌≡◌, refl, ap, ◌∙◌, ℕ, ◌+◌, List, [], ◌∷◌, map}
 use Rattle.black_box.specs.declared.release.Releases.{Releases}
 use Rattle.black_box.specs.Files.{ready_lists}
 use Rattle.black_box.specs.Outcomes.{seen, IsOutcome}

@@ -1,7 +1,6 @@
 -- Where a shelf does not tell what files hold, the answer to a command is one by some bytes that they hold.
-use Rattle.std.proofs.Common.{◌≡◌, ◌⊎◌, ◌^◌, ℕ, List, [], ◌∷◌, ◌++◌, length, Option, Some, None, Bool, true, false, cond, inl, inr, refl, sym, ap, subst, ◌∙◌, codes}
-use Rattle.std.specs.Prelude.{IsSome, is_some, bytes_eq}
-use Rattle.std.proofs.lemmas.Option.{none-some}
+use Rattle.std.proofs.Common.{◌≡◌, ℕ, List, [], ◌∷◌, Option, Some, None, Bool, true, false, cond, inl, inr, refl, sym, ap, subst, ◌∙◌}
+use Rattle.std.specs.Prelude.{IsSome, bytes_eq}
 use Rattle.std.proofs.lemmas.Bool.{cond-true, cond-false}
 use Rattle.std.proofs.lemmas.Slice.Eq.{bytes_eq-Decides}
 use Rattle.label_lattice.specs.declared.label.Label.{Label}
@@ -11,9 +10,7 @@ use Rattle.label_code.specs.Shaped.{Code}
 use Rattle.start_file.specs.Starts.{StartValue}
 use Rattle.tool_texts.specs.declared.status.Status.{Status}
 use Rattle.tool_texts.specs.declared.status.Status.TheVariants as status
-use Rattle.tool_words.specs.declared.words.EnvName.{EnvName}
 use Rattle.tool_words.specs.WordsAsked.{Asked, check, infer, compile, run, meaning, audit, gen, cut, blackbox, certify, recheck}
-use Rattle.tool_texts.specs.Texts.{memory_line}
 use Rattle.tool_stages.specs.Stages.{Then, Reads, ProgramStops, Observes, ObserverStops, Types, TypeStops, HasImage, ImageStops, StartsAre, StartStops, FirstStart, FirstStops, ReadyStops, HoldsRuns}
 use Rattle.mit_tool.specs.Audited.{HasAudited, HasCut, HasReleased}
 use Rattle.mit_tool.specs.Means.{HasMeant}

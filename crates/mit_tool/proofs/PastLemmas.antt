@@ -7,7 +7,6 @@ use Rattle.mit_syntax.specs.Program.{Syntax, plan_of}
 use Rattle.timing_types.specs.Labelled.{LabelledProgram}
 use Rattle.label_code.specs.Shaped.{Code}
 use Rattle.mit_gen.specs.Made.{starts_text}
-use Rattle.start_file.specs.Starts.{StartValue}
 use Rattle.tool_texts.specs.declared.status.Status.{Status}
 use Rattle.tool_texts.specs.declared.status.Status.TheVariants as status
 use Rattle.tool_words.specs.declared.words.EnvName.TheVariants.{Part}
@@ -15,10 +14,10 @@ use Rattle.tool_words.specs.WordsAsked.{Asked, check, infer, compile, run, meani
 use Rattle.tool_stages.specs.Stages.{Then, Reads, ProgramStops, Types, TypeStops, StartsAre, StartStops, FirstStart, FirstStops}
 use Rattle.mit_tool.specs.Audited.{HasAudited, HasCut}
 use Rattle.tool_texts.specs.Reports.{made_lines}
-use Rattle.tool_texts.specs.Ends.{Tells, EndsBy}
+use Rattle.tool_texts.specs.Ends.{EndsBy}
 use Rattle.mit_tool.specs.Answers.{HasChecked, HasInferred, HasListed, HasRun, made_content, IsAnswer, typed_content}
 use Rattle.tool_stages.specs.Accepted.{IsAccepted, SpelledAreSound, is_past_typing}
-use Rattle.tool_stages.proofs.EarlyLemmas.{not_late, program_early, observer_early, type_early, image_early}
+use Rattle.tool_stages.proofs.EarlyLemmas.{not_late, program_early, observer_early, type_early}
 use Rattle.tool_stages.specs.Content.{Content}
 use Rattle.tool_stages.specs.Begins.{Compiles}
 

@@ -1,22 +1,17 @@
 -- What audits of the runs of a program stop with, and what they and a black box tell.
-use Rattle.std.specs.Prelude.{◌≡◌, ◌≤◌, ◌+◌, ◌^◌, ℕ, List, ◌++◌, Option, Some, None}
+use Rattle.std.specs.Prelude.{◌≡◌, ◌+◌, ℕ, List, ◌++◌, Option, Some, None}
 use Rattle.std.specs.List.{AllZip}
 use Rattle.label_lattice.specs.declared.label.Label.{Label}
 use Rattle.timing_types.specs.Labelled.{LabelledProgram}
 use Rattle.start_file.specs.Starts.{StartValue}
-use Rattle.leak_bound.specs.Digits.{digits}
-use Rattle.leak_bound.specs.Records.{distinct_count}
 use Rattle.audit_parts.specs.declared.what.What.{What}
-use Rattle.leak_audit.specs.declared.report.AuditReport.{AuditReport}
 use Rattle.leak_audit.specs.declared.report.AuditFault.TheVariants.{Disagree, Unfinished, TooMuch}
-use Rattle.cut_audit.specs.declared.report.CutReport.{CutReport}
 use Rattle.cut_audit.specs.declared.report.CutFault.TheVariants as cut
-use Rattle.black_box.specs.Audits.{same_cycles}
 use Rattle.black_box.specs.Outcomes.{Outcome, IsOutcome}
 use Rattle.tool_words.specs.declared.words.EnvName.{EnvName}
 use Rattle.tool_texts.specs.declared.status.Status.{Status}
 use Rattle.tool_texts.specs.declared.status.Status.TheVariants as status
-use Rattle.tool_texts.specs.Reports.{audit_lines, cut_lines, disagree_line, unfinished_line, events_line, all_released, box_lines}
+use Rattle.tool_texts.specs.Reports.{audit_lines, cut_lines, disagree_line, unfinished_line, events_line, box_lines}
 use Rattle.tool_stages.specs.Stages.{Then}
 use Rattle.tool_stages.specs.Envs.{ReportsIn, AuditFaultsIn, CutReportsIn, CutFaultsIn}
 

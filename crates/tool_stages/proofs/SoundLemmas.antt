@@ -1,5 +1,5 @@
 -- A program with the least labelling that types it is sound.
-use Rattle.std.proofs.Common.{◌≡◌, ℕ, List, Option, sym, subst}
+use Rattle.std.proofs.Common.{List, sym, subst}
 use Rattle.env_contract.specs.Env.{Env}
 use Rattle.label_lattice.specs.Lattice.{IsLattice}
 use Rattle.label_lattice.specs.Order.{Order, lattice_of}
