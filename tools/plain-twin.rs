@@ -9,10 +9,8 @@
 //!
 //! It needs the standard library alone, has no unsafe code and starts no threads.
 //!
-//! What it leaves out:
-//!
-//! - refusals of words and of texts of programs in their order and their words, and what of TOML start files seldom have:
-//!   each is a line on standard error and status 20, which says that this program does not answer the call.
+//! What it leaves out is what of TOML start files seldom have: that gives a line on standard error and status 20, which
+//! says that this program does not answer the call.
 
 use std::collections::HashMap;
 use std::hash::{BuildHasherDefault, Hasher};
@@ -33,6 +31,8 @@ const GREATEST_BUDGET: u64 = 1 << 40;
 
 /// The status of a call that this program does not answer.
 const NOT_ANSWERED: u8 = 20;
+/// The status of words that are not UTF-8.
+const BAD_WORDS: u8 = 13;
 
 /// A refusal: `Plain` is told on standard error, `Line` is the tool's own line with the tool's status.
 enum Stop {
@@ -125,13 +125,29 @@ struct Lexer<'a> {
     at: usize,
     begin: usize,
     token: Token<'a>,
+    /// Whether no token begins, or ends well, where the last one was looked for.
+    has_failed: bool,
 }
 
 impl<'a> Lexer<'a> {
     fn new(text: &'a str) -> Answer<Self> {
-        let mut lexer = Lexer { text, at: 0, begin: 0, token: Token::End };
+        let mut lexer = Lexer { text, at: 0, begin: 0, token: Token::End, has_failed: false };
         lexer.advance()?;
         Ok(lexer)
+    }
+
+    /// Goes on to the end of the text: a fault of its tokens comes before one of its grammar.
+    fn rest(&mut self) -> Answer<()> {
+        while !self.has_failed && self.token != Token::End {
+            self.advance()?;
+        }
+        Ok(())
+    }
+
+    /// A fault of the tokens.
+    fn bad<T>(&mut self, what: &str) -> Answer<T> {
+        self.has_failed = true;
+        self.fault(what)
     }
 
     fn byte(&self, at: usize) -> u8 {
@@ -139,8 +155,7 @@ impl<'a> Lexer<'a> {
     }
 
     fn fault<T>(&self, what: &str) -> Answer<T> {
-        let (line, column) = place_of(self.text, self.begin);
-        plain(format!("syntax: {what} at {line}:{column}"))
+        Err(syntax_at(self.text, self.begin, what))
     }
 
     fn skip_blank(&mut self) {
@@ -188,7 +203,7 @@ impl<'a> Lexer<'a> {
             "do" => Token::Do,
             "mitigate" => Token::Mitigate,
             "sleep" => Token::Sleep,
-            _ if word.len() > MOST_NAME => return self.fault("long name"),
+            _ if word.len() > MOST_NAME => return self.bad("long name"),
             _ => Token::Name(word),
         })
     }
@@ -198,7 +213,7 @@ impl<'a> Lexer<'a> {
         while let Some(digit @ b'0'..=b'9') = self.text.as_bytes().get(self.at) {
             let more = value.checked_mul(10).and_then(|v| v.checked_add((digit - b'0') as i64));
             let Some(more) = more else {
-                return self.fault("wide number");
+                return self.bad("wide number");
             };
             value = more;
             self.at += 1;
@@ -231,11 +246,20 @@ impl<'a> Lexer<'a> {
             (b'*', _) => (Token::Sign(Operator::Multiply), 1),
             (b'/', _) => (Token::Sign(Operator::Divide), 1),
             (b'%', _) => (Token::Sign(Operator::Remainder), 1),
-            _ => return self.fault("bad byte"),
+            _ => return self.bad("bad byte"),
         };
         self.at += length;
         Ok(token)
     }
+}
+
+fn syntax(what: impl std::fmt::Display) -> Stop {
+    Stop::Line(2, format!("syntax: {what}\n"))
+}
+
+fn syntax_at(text: &str, at: usize, what: &str) -> Stop {
+    let (line, column) = place_of(text, at);
+    syntax(format!("{what} at {line}:{column}"))
 }
 
 /// The line and the column of a byte of a text.
@@ -272,23 +296,37 @@ impl<'a> Lattice<'a> {
             }
         }
         let flows = |a: usize, b: usize| below[b] >> a & 1 != 0;
+        let first = |holds: &dyn Fn(usize, usize) -> bool| {
+            (0..size).flat_map(|a| (a + 1..size).map(move |b| (a, b))).find(|(a, b)| holds(*a, *b))
+        };
+        let least = |a: usize, b: usize| {
+            let is_above = |c: usize| flows(a, c) && flows(b, c);
+            (0..size).find(|c| is_above(*c) && (0..size).all(|d| !is_above(d) || flows(*c, d)))
+        };
+        if let Some((a, b)) = first(&|a, b| flows(a, b) && flows(b, a)) {
+            return Err(syntax(format!("order cycle between {} and {}", names[a], names[b])));
+        }
+        if let Some((a, b)) = first(&|a, b| !(0..size).any(|c| flows(c, a) && flows(c, b))) {
+            return Err(syntax(format!("no bottom below {} and {}", names[a], names[b])));
+        }
+        if let Some((a, b)) = first(&|a, b| least(a, b).is_none()) {
+            return Err(syntax(format!("no join of {} and {}", names[a], names[b])));
+        }
         let mut joins = [[0; MOST_LABELS]; MOST_LABELS];
         for a in 0..size {
             for b in 0..size {
-                if a != b && flows(a, b) && flows(b, a) {
-                    return plain(format!("syntax: order cycle between {} and {}", names[a], names[b]));
-                }
-                let above: Vec<usize> = (0..size).filter(|c| flows(a, *c) && flows(b, *c)).collect();
-                let Some(least) = above.iter().find(|c| above.iter().all(|d| flows(**c, *d))) else {
-                    return plain(format!("syntax: no join of {} and {}", names[a], names[b]));
-                };
-                joins[a][b] = *least as u8;
+                joins[a][b] = least(a, b).unwrap_or(0) as u8;
             }
         }
-        let Some(bottom) = (0..size).find(|a| (0..size).all(|b| flows(*a, b))) else {
-            return plain("syntax: no bottom");
-        };
+        let bottom = (0..size).find(|a| (0..size).all(|b| flows(*a, b))).unwrap_or(0);
         Ok(Lattice { names, pairs, below, joins, bottom: bottom as u8 })
+    }
+
+    /// The labels of a text without a header.
+    fn two() -> Self {
+        let (below, mut joins) = (vec![1, 3], [[0; MOST_LABELS]; MOST_LABELS]);
+        (joins[0][1], joins[1][0], joins[1][1]) = (1, 1, 1);
+        Lattice { names: vec!["L", "H"], pairs: vec![(0, 1)], below, joins, bottom: 0 }
     }
 
     fn join(&self, a: u8, b: u8) -> u8 {
@@ -435,13 +473,14 @@ struct Parser<'a> {
     open: u32,
     operators: u32,
     indices: u32,
+    /// The first fault of names, lengths and labels: faults of the grammar come before it.
+    later: Option<Stop>,
 }
 
 fn parsed(text: &str) -> Answer<Program<'_>> {
-    let mut lexer = Lexer::new(text)?;
     let mut parser = Parser {
-        lattice: header(&mut lexer)?,
-        lexer,
+        lexer: Lexer::new(text)?,
+        lattice: Lattice::two(),
         declarations: Vec::new(),
         numbers: Names::default(),
         parts: Vec::new(),
@@ -450,10 +489,18 @@ fn parsed(text: &str) -> Answer<Program<'_>> {
         open: 0,
         operators: 0,
         indices: 0,
+        later: None,
     };
-    let elements = parser.declared()?;
-    let body = parser.list()?;
-    parser.want(Token::End)?;
+    let (elements, body) = match parser.program() {
+        Ok(found) => found,
+        Err(stop) => {
+            parser.lexer.rest()?;
+            return Err(stop);
+        }
+    };
+    if let Some(stop) = parser.later {
+        return Err(stop);
+    }
     Ok(Program {
         text,
         lattice: parser.lattice,
@@ -467,61 +514,84 @@ fn parsed(text: &str) -> Answer<Program<'_>> {
     })
 }
 
-fn header<'a>(lexer: &mut Lexer<'a>) -> Answer<Lattice<'a>> {
-    if lexer.token != Token::Labels {
-        return Lattice::new(vec!["L", "H"], vec![(0, 1)]);
-    }
-    let mut names = Vec::new();
-    while names.is_empty() || lexer.token == Token::Comma {
-        lexer.advance()?;
-        let name = name_at(lexer)?;
-        if names.contains(&name) {
-            return lexer.fault("name twice");
-        }
-        names.push(name);
-        lexer.advance()?;
-    }
-    pass(lexer, Token::Semicolon)?;
-    if names.len() > MOST_LABELS {
-        return plain(format!("syntax: too many labels: {}", names.len()));
-    }
-    let mut pairs = Vec::new();
-    if lexer.token == Token::Order {
-        while pairs.is_empty() || lexer.token == Token::Comma {
-            lexer.advance()?;
-            let low = known(lexer, &names)?;
-            pass(lexer, Token::Sign(Operator::Less))?;
-            pairs.push((low, known(lexer, &names)?));
-        }
-        pass(lexer, Token::Semicolon)?;
-    }
-    Lattice::new(names, pairs)
-}
-
-fn name_at<'a>(lexer: &Lexer<'a>) -> Answer<&'a str> {
-    match lexer.token {
-        Token::Name(name) => Ok(name),
-        _ => lexer.fault("unexpected"),
-    }
-}
-
-fn known(lexer: &mut Lexer, names: &[&str]) -> Answer<u8> {
-    let name = name_at(lexer)?;
-    let Some(label) = names.iter().position(|known| *known == name) else {
-        return lexer.fault("unknown name");
-    };
-    lexer.advance()?;
-    Ok(label as u8)
-}
-
-fn pass(lexer: &mut Lexer, token: Token) -> Answer<()> {
-    if lexer.token != token {
-        return lexer.fault("unexpected");
-    }
-    lexer.advance()
-}
-
 impl<'a> Parser<'a> {
+    fn program(&mut self) -> Answer<(u32, Vec<Command>)> {
+        self.header()?;
+        let elements = self.declared()?;
+        let body = self.list()?;
+        self.want(Token::End)?;
+        Ok((elements, body))
+    }
+
+    /// Keeps a fault that the grammar's come before.
+    fn note(&mut self, stop: Stop) {
+        self.later.get_or_insert(stop);
+    }
+
+    /// The same, of the token at hand.
+    fn note_here(&mut self, what: &str) {
+        let stop = syntax_at(self.lexer.text, self.lexer.begin, what);
+        self.note(stop);
+    }
+
+    fn header(&mut self) -> Answer<()> {
+        if !self.takes(Token::Labels)? {
+            return Ok(());
+        }
+        let mut names = Vec::new();
+        loop {
+            let name = self.name()?;
+            if names.contains(&name) {
+                self.note_here("name twice");
+            }
+            names.push(name);
+            self.lexer.advance()?;
+            if !self.takes(Token::Comma)? {
+                break;
+            }
+        }
+        self.want(Token::Semicolon)?;
+        let mut pairs = Vec::new();
+        if self.takes(Token::Order)? {
+            loop {
+                let low = self.label_among(&names)?;
+                self.want(Token::Sign(Operator::Less))?;
+                pairs.push((low, self.label_among(&names)?));
+                if !self.takes(Token::Comma)? {
+                    break;
+                }
+            }
+            self.want(Token::Semicolon)?;
+        }
+        if names.len() > MOST_LABELS {
+            self.note(syntax(format!("too many labels: {}", names.len())));
+        }
+        if self.later.is_none() {
+            match Lattice::new(names, pairs) {
+                Ok(lattice) => self.lattice = lattice,
+                Err(stop) => self.note(stop),
+            }
+        }
+        Ok(())
+    }
+
+    fn name(&self) -> Answer<&'a str> {
+        match self.lexer.token {
+            Token::Name(name) => Ok(name),
+            _ => self.lexer.fault("unexpected"),
+        }
+    }
+
+    fn label_among(&mut self, names: &[&str]) -> Answer<u8> {
+        let name = self.name()?;
+        let label = names.iter().position(|known| *known == name);
+        if label.is_none() {
+            self.note_here("unknown name");
+        }
+        self.lexer.advance()?;
+        Ok(label.unwrap_or(0) as u8)
+    }
+
     fn sees(&self, token: Token) -> bool {
         self.lexer.token == token
     }
@@ -545,16 +615,22 @@ impl<'a> Parser<'a> {
     }
 
     fn label(&mut self) -> Answer<u8> {
-        known(&mut self.lexer, &self.lattice.names)
+        let name = self.name()?;
+        let label = self.lattice.find(name);
+        if label.is_none() {
+            self.note_here("unknown name");
+        }
+        self.lexer.advance()?;
+        Ok(label.unwrap_or(0))
     }
 
     /// Reads the declarations and gives the number of variables, elements included.
     fn declared(&mut self) -> Answer<u32> {
         let (mut variables, mut elements) = (0, 0);
         while self.takes(Token::Var)? {
-            let name = name_at(&self.lexer)?;
+            let name = self.name()?;
             if self.numbers.insert(name, self.declarations.len() as u32).is_some() {
-                return self.lexer.fault("name twice");
+                self.note_here("name twice");
             }
             self.lexer.advance()?;
             let length = self.length(&mut elements)?;
@@ -565,10 +641,10 @@ impl<'a> Parser<'a> {
             };
             self.want(Token::Semicolon)?;
             self.declarations.push(Declaration { name, length, label, first: variables });
-            variables += length.unwrap_or(1);
+            variables = variables.saturating_add(length.unwrap_or(1));
         }
         if self.declarations.len() > MOST_DECLARATIONS {
-            return plain(format!("syntax: too many variables: {}", self.declarations.len()));
+            self.note(syntax(format!("too many variables: {}", self.declarations.len())));
         }
         Ok(variables)
     }
@@ -582,7 +658,7 @@ impl<'a> Parser<'a> {
         };
         *elements = elements.saturating_add(length as u64);
         if length == 0 || *elements > MOST_ELEMENTS {
-            return self.lexer.fault("array size");
+            self.note_here("array size");
         }
         self.lexer.advance()?;
         self.want(Token::CloseBracket)?;
@@ -590,12 +666,14 @@ impl<'a> Parser<'a> {
     }
 
     fn opens(&mut self, token: Token) -> Answer<()> {
+        if !self.sees(token) {
+            return self.lexer.fault("unexpected");
+        }
         if self.open == MOST_OPEN {
             return self.lexer.fault("too deep");
         }
-        self.want(token)?;
         self.open += 1;
-        Ok(())
+        self.lexer.advance()
     }
 
     fn closes(&mut self, token: Token) -> Answer<()> {
@@ -680,17 +758,19 @@ impl<'a> Parser<'a> {
         Ok(())
     }
 
-    /// The declaration of the name that stands here, and whether it is an array; the next token has to fit.
+    /// The declaration of the name that stands here, and whether an index follows, which has to fit.
     fn use_of(&mut self, name: &str) -> Answer<(u32, bool)> {
-        let Some(&declaration) = self.numbers.get(name) else {
-            return self.lexer.fault("unknown name");
-        };
-        let is_array = self.declarations[declaration as usize].length.is_some();
+        let (declaration, begin) = (self.numbers.get(name).copied(), self.lexer.begin);
         self.lexer.advance()?;
-        if is_array != self.sees(Token::OpenBracket) {
-            return self.lexer.fault("wrong use of a name");
-        }
-        Ok((declaration, is_array))
+        let has_index = self.sees(Token::OpenBracket);
+        let what = match declaration {
+            None => "unknown name",
+            Some(number) if self.declarations[number as usize].length.is_some() != has_index => "wrong use of a name",
+            Some(number) => return Ok((number, has_index)),
+        };
+        let stop = syntax_at(self.lexer.text, begin, what);
+        self.note(stop);
+        Ok((0, has_index))
     }
 
     fn index(&mut self) -> Answer<()> {
@@ -2842,78 +2922,136 @@ fn agreed(program: &Program, starts: &[Start], owners: &[u32], is_shown: &[bool]
     Ok(())
 }
 
+const USAGE: &str = "usage: mitigate check FILE
+       mitigate infer FILE
+       mitigate compile FILE
+       mitigate run FILE [STARTS] [--env flat|part|part2] [--budget T] [--observer L]
+       mitigate meaning FILE [STARTS] --steps N
+       mitigate audit FILE STARTS --observer L [--env flat|part|part2] [--budget T]
+       mitigate gen SIZE NUMBER
+       mitigate cut FILE STARTS --observer L [--env flat|part|part2] [--budget T]
+       mitigate blackbox READY --first Q [--budget T]
+       mitigate certify FILE
+       mitigate recheck FILE CERTIFICATE
+";
+
+fn usage<T>() -> Answer<T> {
+    Err(Stop::Line(4, USAGE.into()))
+}
+
+/// The commands: the least and the most positional words, the options, and the one that has to be there.
+const COMMANDS: [(&str, usize, usize, &[&str], &str); 11] = [
+    ("check", 1, 1, &[], ""),
+    ("infer", 1, 1, &[], ""),
+    ("compile", 1, 1, &[], ""),
+    ("run", 1, 2, &["env", "budget", "observer"], ""),
+    ("meaning", 1, 2, &["steps"], "steps"),
+    ("audit", 2, 2, &["observer", "env", "budget"], "observer"),
+    ("cut", 2, 2, &["observer", "env", "budget"], "observer"),
+    ("gen", 2, 2, &[], ""),
+    ("blackbox", 1, 1, &["first", "budget"], "first"),
+    ("certify", 1, 1, &[], ""),
+    ("recheck", 2, 2, &[], ""),
+];
+
 /// The words of a call.
-#[derive(Default)]
 struct Words {
-    command: String,
+    command: &'static str,
     positional: Vec<String>,
     environment: u8,
     budget: u64,
     observer: Option<String>,
-    steps: Option<u64>,
-    first: Option<u64>,
+    steps: u64,
+    first: u64,
 }
 
-fn words() -> Answer<Words> {
-    let mut rest = std::env::args().skip(1);
+fn words(given: Vec<String>) -> Answer<Words> {
+    let mut rest = given.into_iter();
     let command = rest.next().unwrap_or_default();
-    let mut words = Words { command, environment: PART, budget: 1_000_000, ..Words::default() };
+    let Some((command, least, most, names, needed)) = COMMANDS.iter().find(|known| known.0 == command) else {
+        return usage();
+    };
+    let (mut positional, mut options) = (Vec::new(), HashMap::new());
     while let Some(word) = rest.next() {
-        let Some(option) = word.strip_prefix("--") else {
-            words.positional.push(word);
-            continue;
-        };
-        let (name, value) = match option.split_once('=') {
-            Some((name, value)) => (name, value.to_string()),
-            None => (option, rest.next().unwrap_or_default()),
-        };
-        match (name, value.as_str()) {
-            ("env", "flat") => words.environment = FLAT,
-            ("env", "part") => words.environment = PART,
-            ("env", "part2") => words.environment = PART2,
-            ("observer", _) => words.observer = Some(value),
-            ("budget", _) => words.budget = number_in(&value, 1, GREATEST_BUDGET)?,
-            ("steps", _) => words.steps = Some(number_in(&value, 0, GREATEST_BUDGET)?),
-            ("first", _) => words.first = Some(number_in(&value, 1, GREATEST_BUDGET)?),
-            _ => return plain(format!("usage: --{name} {value}")),
+        if word == "--" {
+            positional.extend(rest.by_ref());
+        } else if word == "-" || !word.starts_with('-') {
+            positional.push(word);
+        } else {
+            let (name, value) = match word.split_once('=') {
+                Some((name, value)) => (name, Some(value.to_string())),
+                None => (&word[..], None),
+            };
+            let Some(name) = names.iter().find(|known| name.strip_prefix("--") == Some(known)) else {
+                return usage();
+            };
+            let value = match value.or_else(|| rest.next().filter(|value| value.len() < 2 || !value.starts_with('-'))) {
+                Some(value) => value,
+                None => return usage(),
+            };
+            if options.insert(*name, value).is_some() {
+                return usage();
+            }
         }
     }
-    Ok(words)
+    if !(*least..=*most).contains(&positional.len()) || !needed.is_empty() && !options.contains_key(needed) {
+        return usage();
+    }
+    let environment = match options.get("env").map(String::as_str) {
+        Some("flat") => FLAT,
+        None | Some("part") => PART,
+        Some("part2") => PART2,
+        Some(_) => return usage(),
+    };
+    let number = |name: &str, least: u64, default: u64| match options.get(name) {
+        Some(text) => number_in(text, least, GREATEST_BUDGET),
+        None => Ok(default),
+    };
+    Ok(Words {
+        command,
+        environment,
+        budget: number("budget", 1, 1_000_000)?,
+        steps: number("steps", 0, 0)?,
+        first: number("first", 1, 1)?,
+        observer: options.remove("observer"),
+        positional,
+    })
 }
 
 fn number_in(text: &str, least: u64, most: u64) -> Answer<u64> {
+    let is_number = (1..=20).contains(&text.len()) && text.bytes().all(|byte| byte.is_ascii_digit());
     match text.parse() {
-        Ok(number) if (least..=most).contains(&number) => Ok(number),
-        _ => plain(format!("usage: the number {text}")),
+        Ok(number) if is_number && (least..=most).contains(&number) => Ok(number),
+        _ => usage(),
     }
 }
 
 fn bytes_of(words: &Words, place: usize, what: &str) -> Answer<Vec<u8>> {
-    let Some(file) = words.positional.get(place) else {
-        return plain(format!("usage: {what} is missing"));
-    };
-    match std::fs::read(file) {
+    match std::fs::read(&words.positional[place]) {
         Ok(bytes) if bytes.len() <= MOST_BYTES => Ok(bytes),
         Ok(_) => Err(Stop::Line(7, format!("too long: {what}\n"))),
         Err(_) => Err(Stop::Line(5, format!("read fault: {what}\n"))),
     }
 }
 
-fn text_of(words: &Words, place: usize, what: &str) -> Answer<String> {
-    String::from_utf8(bytes_of(words, place, what)?).or_else(|_| plain(format!("not UTF-8: {what}")))
-}
 
 fn read_starts(words: &Words, program: &Program) -> Answer<Vec<Start>> {
     if words.positional.len() < 2 {
         return Ok(vec![Start { memory: vec![0; program.elements], touches: Vec::new() }]);
     }
-    starts_of(&text_of(words, 1, "starts")?, program)
+    match String::from_utf8(bytes_of(words, 1, "starts")?) {
+        Ok(text) => starts_of(&text, program),
+        Err(_) => refused("not TOML".into()),
+    }
 }
 
 fn answered(words: &Words) -> Answer<u8> {
-    match (words.command.as_str(), words.first, &words.positional[..]) {
-        ("blackbox", Some(first), [_]) => black_box(&ready_runs(&bytes_of(words, 0, "ready")?)?, first, words.budget),
-        ("gen", _, [size, number]) => gen_made(number_in(size, 1, 10_000)?, number_in(number, 0, (1 << 31) - 1)?)?,
+    match words.command {
+        "blackbox" => black_box(&ready_runs(&bytes_of(words, 0, "ready")?)?, words.first, words.budget),
+        "gen" => {
+            let (size, number) = (&words.positional[0], &words.positional[1]);
+            gen_made(number_in(size, 1, 10_000)?, number_in(number, 0, (1 << 31) - 1)?)?;
+        }
         _ => return of_program(words),
     }
     Ok(0)
@@ -2921,36 +3059,35 @@ fn answered(words: &Words) -> Answer<u8> {
 
 /// The commands that read a program.
 fn of_program(words: &Words) -> Answer<u8> {
-    let text = text_of(words, 0, "program")?;
+    let text = match String::from_utf8(bytes_of(words, 0, "program")?) {
+        Ok(text) => text,
+        Err(fault) => return Err(syntax(format!("not UTF-8 at byte {}", fault.utf8_error().valid_up_to()))),
+    };
     let program = parsed(&text)?;
     let observer = match &words.observer {
         None => None,
         Some(name) => match program.lattice.find(name) {
-            None => return plain(format!("usage: unknown observer {name}")),
+            None => return usage(),
             label => label,
         },
     };
     let counts = format!("commands {}, mitigates {}\n", program.commands, program.levels.len());
-    match (words.command.as_str(), words.steps) {
-        ("meaning", Some(steps)) => {
-            meaning(&program, &read_starts(words, &program)?[0], steps);
-            return Ok(0);
-        }
-        ("recheck", _) => {
+    match words.command {
+        "meaning" => meaning(&program, &read_starts(words, &program)?[0], words.steps),
+        "recheck" => {
             let certificate = bytes_of(words, 1, "certificate")?;
             Recheck { program: &program, text: &certificate, at: 0, number: 0, command: 0 }.whole()?;
             send(format!("rechecked: {counts}").as_bytes());
-            return Ok(0);
         }
-        _ => {}
+        _ => return of_labelled(words, &labelled(program)?, observer, &counts),
     }
-    of_labelled(words, &labelled(program)?, observer, &counts)
+    Ok(0)
 }
 
 /// The commands that want a typed program.
 fn of_labelled(words: &Words, labelled: &Labelled, observer: Option<u8>, counts: &str) -> Answer<u8> {
     let program = &labelled.program;
-    match words.command.as_str() {
+    match words.command {
         "check" => send(format!("accepted: {counts}").as_bytes()),
         "certify" => send(&certificate(labelled)),
         "infer" => {
@@ -2963,23 +3100,23 @@ fn of_labelled(words: &Words, labelled: &Labelled, observer: Option<u8>, counts:
             let image = lowered(labelled)?;
             return Ok(run(labelled, &image, &read_starts(words, program)?[0], words, observer));
         }
-        "audit" | "cut" => {
+        _ => {
             let image = lowered(labelled)?;
             let starts = read_starts(words, program)?;
-            let (Some(observer), 2) = (observer, words.positional.len()) else {
-                return plain("usage: an audit needs STARTS and --observer");
-            };
+            let observer = observer.unwrap_or(program.lattice.bottom);
             let Words { environment, budget, .. } = *words;
             let asked = Asked { environment, budget, observer, is_cut: words.command == "cut" };
             send(audit(labelled, &image, &starts, &asked)?.as_bytes());
         }
-        _ => return plain("usage: plain-twin takes the words of mitigate"),
     }
     Ok(0)
 }
 
 fn main() -> ExitCode {
-    match words().and_then(|words| answered(&words)) {
+    let Ok(given) = std::env::args_os().skip(1).map(|word| word.into_string()).collect() else {
+        return ExitCode::from(BAD_WORDS);
+    };
+    match words(given).and_then(|words| answered(&words)) {
         Ok(status) => ExitCode::from(status),
         Err(Stop::Line(status, line)) => {
             send(line.as_bytes());

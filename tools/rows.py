@@ -12,7 +12,6 @@ TOP = pathlib.Path(__file__).resolve().parent.parent
 TABLES = TOP / "crates/worked_rows/data"
 # The texts that show calls of the tool with what they write.
 PAGES = ["*.md", "docs/*.md", "editors/*.md", "examples/**/*.md"]
-CALL = "    $ ./mitigate "
 MOST_SECONDS = 60
 USAGE_STATUS = 4
 USAGE = """usage: mitigate check FILE
@@ -130,14 +129,14 @@ def pages():
     return [path for pattern in PAGES for path in sorted(TOP.glob(pattern))]
 
 
-def shown(page):
-    """The words of each call that a page shows, with the text below it."""
-    found, is_open = [], False
+def shown(page, name="mitigate"):
+    """The words of each call of a program that a page shows, with the text below it."""
+    found, is_open, call = [], False, f"    $ ./{name} "
     for line in page.read_text(encoding="utf-8").splitlines():
-        if line.startswith(CALL):
-            found.append([line[len(CALL) :], ""])
+        if line.startswith(call):
+            found.append([line[len(call) :], ""])
             is_open = True
-        elif is_open and line.startswith("    "):
+        elif is_open and line.startswith("    ") and not line.startswith("    $ "):
             found[-1][1] += line[4:] + "\n"
         else:
             is_open = False
