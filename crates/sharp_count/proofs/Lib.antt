@@ -1,0 +1,5 @@
+pub mod Choose
+pub mod Growing
+pub mod Fitting
+pub mod Binary
+pub mod Listing
