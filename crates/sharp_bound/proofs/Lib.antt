@@ -1,0 +1,15 @@
+pub mod Guess
+pub mod Rank
+pub mod Picks
+pub mod Levels
+pub mod Few
+pub mod Within
+pub mod Firsts
+pub mod Ends
+pub mod Final
+pub mod Near
+pub mod Twice
+pub mod Both
+pub mod Sleeper
+pub mod TwoLabels
+pub mod Lowered
