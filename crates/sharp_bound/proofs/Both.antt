@@ -33,7 +33,7 @@ views-views f g [] = refl
 views-views f g (x ∷ xs) = ap (λ z. g (f x) ∷ z) (views-views f g xs)
 
 -- what holds of all holds of those that pass
-each_pass : {X : Type 0} (P : X → Type 0) (t : X → Bool) (xs : List X) → Each P xs → Each (λ x. P x × (t x ≡ true)) (filter t xs)
+pub each_pass : {X : Type 0} (P : X → Type 0) (t : X → Bool) (xs : List X) → Each P xs → Each (λ x. P x × (t x ≡ true)) (filter t xs)
 each_pass P t [] h = tt
 each_pass P t (x ∷ xs) h = go (t x) refl (each_pass P t xs h.1)
   where
@@ -42,7 +42,7 @@ each_pass P t (x ∷ xs) h = go (t x) refl (each_pass P t xs h.1)
     go false e r = r
 
 -- two of a list that passed
-pairs_pass : {X : Type 0} (R : X → X → Type 0) (t : X → Bool) (xs : List X) → Pairwise R xs → Pairwise (λ x y. R x y × (t x ≡ true) × (t y ≡ true)) (filter t xs)
+pub pairs_pass : {X : Type 0} (R : X → X → Type 0) (t : X → Bool) (xs : List X) → Pairwise R xs → Pairwise (λ x y. R x y × (t x ≡ true) × (t y ≡ true)) (filter t xs)
 pairs_pass R t xs h =
     Each-map (λ x. Each (R x) xs × (t x ≡ true)) (λ x. Each (λ y. R x y × (t x ≡ true) × (t y ≡ true)) (filter t xs))
     (λ x a. Each-map (λ y. R x y × (t y ≡ true)) (λ y. R x y × (t x ≡ true) × (t y ≡ true)) (λ y b. (b.0, a.1, b.1)) (filter t xs) (each_pass (R x) t xs a.0))
@@ -98,7 +98,7 @@ module _ {E X M L : Type 0} (serves : E → Type 0) (v : Env E) (order : Order) 
   abbrev shows : ℕ → ℕ → (X → Start E) → X → List Event
   shows o t f x = seen_from v (lattice_of order) g image o t (f x)
 
-  halted_by : SharpSound v order serves g ls image p → (o : ℕ) → o < order.size → (t : ℕ) → 0 < t → (f : X → Start E) (xs : List X) (firsts : ℕ → ℕ) (n : ℕ) → Pairwise (Agrees o f) xs → Each (λ x. Covers v order g ls image p o t firsts n (f x)) xs → FewShown (shows o t f) same_events xs n
+  pub halted_by : SharpSound v order serves g ls image p → (o : ℕ) → o < order.size → (t : ℕ) → 0 < t → (f : X → Start E) (xs : List X) (firsts : ℕ → ℕ) (n : ℕ) → Pairwise (Agrees o f) xs → Each (λ x. Covers v order g ls image p o t firsts n (f x)) xs → FewShown (shows o t f) same_events xs n
   halted_by sound o low t some f [] firsts n agree h = few_shown (shows o t f) same_events tests_events [] n (omega arith)
   halted_by sound o low t some f (x ∷ xs) firsts n agree h =
       let C : X → Type 0 = λ x. Covers v order g ls image p o t firsts n (f x) in
@@ -108,13 +108,13 @@ module _ {E X M L : Type 0} (serves : E → Type 0) (v : Env E) (order : Order) 
       let count : distinct_count same_events (views (shows o t f) (x ∷ xs)) ≤ sharp (ends_by t firsts) order.size r.0 = subst (λ z. distinct_count same_events z ≤ sharp (ends_by t firsts) order.size r.0) (views-views f (seen_from v (lattice_of order) g image o t) (x ∷ xs)) r.2.count in
       few_shown (shows o t f) same_events tests_events (x ∷ xs) n (omega (arith, count, h.0.counts r.0 r.1.0))
 
-  cut_by : SharpCut v order serves g ls image p → (o : ℕ) → o < order.size → (t : ℕ) → 0 < t → (f : X → Start E) (xs : List X) (firsts : ℕ → ℕ) → Pairwise (Agrees o f) xs → Each (λ x. PredictsFrom order g ls p o firsts (f x)) xs → FewShown (shows o t f) same_events xs (cut_count v order g ls image p o t firsts (views f xs))
+  pub cut_by : SharpCut v order serves g ls image p → (o : ℕ) → o < order.size → (t : ℕ) → 0 < t → (f : X → Start E) (xs : List X) (firsts : ℕ → ℕ) → Pairwise (Agrees o f) xs → Each (λ x. PredictsFrom order g ls p o firsts (f x)) xs → FewShown (shows o t f) same_events xs (cut_count v order g ls image p o t firsts (views f xs))
   cut_by sound o low t some f xs firsts agree predicts =
       let r = sound.few o low t some (views f xs) (agree-views o f xs agree) firsts (each-views (PredictsFrom order g ls p o firsts) f xs predicts) same_events tests_events in
       let n = cut_count v order g ls image p o t firsts (views f xs) in
       few_shown (shows o t f) same_events tests_events xs n (subst (λ z. distinct_count same_events z ≤ n) (views-views f (seen_from v (lattice_of order) g image o t) xs) r.0.count)
 
-  cut_less : (o t : ℕ) (firsts : ℕ → ℕ) (f : X → Start E) (pick : X → Bool) (xs : List X) → cut_count v order g ls image p o t firsts (views f (filter pick xs)) ≤ cut_count v order g ls image p o t firsts (views f xs)
+  pub cut_less : (o t : ℕ) (firsts : ℕ → ℕ) (f : X → Start E) (pick : X → Bool) (xs : List X) → cut_count v order g ls image p o t firsts (views f (filter pick xs)) ≤ cut_count v order g ls image p o t firsts (views f xs)
   cut_less o t firsts f pick xs = sharp-mono (ends_by t firsts) order.size _ _ (λ l. most_filter v image (relevant_at (lattice_of order) g ls o p l) t f pick xs)
 
 module _ {E X : Type 0} (serves : E → Type 0) (v : Env E) (order : Order) (g : ℕ → ℕ) (image : List Instr) (g' : ℕ → ℕ) (image' : List Instr) (o t t' : ℕ) (first : X → Start E) (second : List Event → X → Start E) (xs : List X) where

@@ -13,3 +13,4 @@ pub mod Both
 pub mod Sleeper
 pub mod TwoLabels
 pub mod Lowered
+pub mod Many

@@ -6,3 +6,4 @@ pub mod End
 pub mod Twice
 pub mod Sleeper
 pub mod Lowered
+pub mod Many

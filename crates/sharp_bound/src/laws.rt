@@ -3,6 +3,7 @@
 ghost use Rattle.sharp_bound.specs.End.{SharpEndAll};
 ghost use Rattle.sharp_bound.specs.Firsts.{AtLeastOne};
 ghost use Rattle.sharp_bound.specs.Lowered.{LoweredSharpAll, LoweredSharpCutAll, LoweredSharpEndAll};
+ghost use Rattle.sharp_bound.specs.Many.{FewMany, SharpManyAll};
 ghost use Rattle.sharp_bound.specs.Near.{NearlyReached, TwoLabels};
 ghost use Rattle.sharp_bound.specs.Sharp.{SharpSoundAll, SharpCutAll};
 ghost use Rattle.sharp_bound.specs.Sleeper.{EndTells};
@@ -108,6 +109,24 @@ pub fn few_twice<X, V, W>()
 pub fn few_sequences_twice<X, E: MachineEnv>()
     ensures few { SharpTwiceAll X (record { cost_of = E.cost_of; next_of = E.next_of; part = E.part }) E.serves }
     ensures left { LeavesAgree (record { cost_of = E.cost_of; next_of = E.next_of; part = E.part }) E.serves }
+{}
+
+/// Any number of views after each other of one secret, of whatever types: if each shows few, at most so many, of those
+/// that have shown the same before it, then all together show at most the product. Which view is taken next may depend on
+/// all that was seen before.
+pub fn few_many<X, V>()
+    ensures { FewMany X V }
+{}
+
+/// Any number of runs after each other of one secret X, each of an accepted program: each start is made from the secret
+/// and from all that was seen before. Where the starts of secrets that have shown the same agree, the lists of sequences
+/// are few, and so is what they are worth to one who guesses the secret: for runs that halt, at most the product of the
+/// sharp counts, and the same for runs that may be cut.
+///
+/// The secret tells what earlier runs left in memory and environment, so that a start may hold that too; by
+/// `few_sequences_twice`, clause `left`, it agrees where it should.
+pub fn few_sequences_many<X, E: MachineEnv>()
+    ensures { SharpManyAll X (record { cost_of = E.cost_of; next_of = E.next_of; part = E.part }) E.serves }
 {}
 
 /// Where the end label does not flow to the observer, the cycle of the end is bounded by no count: `sleep h` is
