@@ -6,7 +6,7 @@ use Rattle.std.proofs.lemmas.Bool.{cases_lt, ltb-true, eqb-true, both_ways}
 use Rattle.std.proofs.Math.Nat.{pow-le-pow_right, le-max_left, le-max_right, max-le, mul-le-mul_left, one-le-pow, div-le_self}
 use Rattle.std.proofs.Math.Pow.{pow_mono}
 use Rattle.std.proofs.lemmas.Nat.{le-div}
-use Rattle.mit_syntax.specs.Todo.{Marks, Marked, Done}
+use Rattle.mit_syntax.specs.Todo.{Marks, Marked, Done, commands_of}
 use Rattle.label_lattice.specs.Lattice.{Lattice}
 use Rattle.label_lattice.specs.Order.{Order, lattice_of, count_not_below}
 use Rattle.source_meaning.specs.Source.{started_in}
@@ -48,7 +48,12 @@ use Rattle.sharp_bound.proofs.Levels.{tells_both}
 use Rattle.sharp_bound.proofs.Firsts.{TookFirst, took, from_start}
 use Rattle.sharp_bound.proofs.Within.{sharp_within, sharp_same, picked_length, picked_low, tells_none, tells_above}
 use Rattle.sharp_bound.proofs.Guess.{few_shown}
-use Rattle.sharp_bound.proofs.Few.{IsCounted, count_sharp}
+use Rattle.sharp_bound.proofs.Few.{IsCounted, count_numbered, count_sharp}
+use Rattle.sharp_count.specs.Lists.{IsAmong}
+use Rattle.sharp_count.specs.Ways.{AreWays}
+use Rattle.sharp_bound.specs.Shared.{StandApart, FewShared, SharpShared}
+use Rattle.sharp_bound.proofs.Choices.{spent, choice_of, is_choice, cycles_spent, same_choice, place, place_below, place_same}
+use Rattle.sharp_bound.proofs.Shared.{fits_run}
 
 -- a number with as great a power of two has more binary digits
 power_digits : (m c : ℕ) → 2 ^ m ≤ c → m < digits c
@@ -415,6 +420,49 @@ module _ {E : Type 0} {serves : E → Type 0} (v : Env E) (order : Order) (g ls 
   few_cut : {V : Type 0} (o t : ℕ) → 0 < t → (view : Start E → V) → Told o t view → FewCut v order serves g ls image p o t view
   few_cut o t some view told starts agree firsts predicts same tests =
       (few_shown view same tests starts (sharp (λ l. ends_by t firsts l + 1) order.size (most o t starts)) (cut_under o t view told starts agree firsts predicts same tests), cut_within o t firsts starts some)
+
+  spent_by : (o t : ℕ) (firsts : ℕ → ℕ) (s : Start E) → StandApart (rel o) (commands_of p) → PredictsTo o firsts s → Halts v image t s → spent firsts (record_at o t s) ≤ t
+  spent_by o t firsts s apart predicts halts =
+      let w = (found t s).whole in
+      let by = w.in_time halts in
+      omega (arith, by, fits_run v lat made.lattice laws g o t (rel o) ls firsts lat.bottom (tells o) made.told apart (made.lattice.lowest o) w.run Done (from_start v lat g o t (rel o) ls firsts p s.memory predicts) by)
+
+  -- a start's choice is one of the ways
+  its_way : (o t : ℕ) (firsts counts : ℕ → ℕ) (ways : List (List (List ℕ))) → AreWays t firsts order.size counts ways → StandApart (rel o) (commands_of p) → (s : Start E) → PredictsTo o firsts s → Halts v image t s → ((l : ℕ) → picked (is_at l) (record_at o t s) ≡ counts l) → IsAmong (choice_of order.size (record_at o t s)) ways
+  its_way o t firsts counts ways are apart s predicts halts h =
+      let r = record_at o t s in
+      are.whole (choice_of order.size r)
+      (is_choice (ends_by t firsts) counts order.size r (under_at o t firsts s predicts) (grows_run v lat g o t (found t s).whole.run).rises h)
+      (omega (arith, cycles_spent firsts order.size r, spent_by o t firsts s apart predicts halts))
+
+  few_shared : {V : Type 0} (o t : ℕ) → (view : Start E → V) → Told o t view → FewShared v order serves g ls image p o t view
+  few_shared o t view told apart [] agree halts firsts predicts same tests = (λ l. 0, tt, λ ways are. few_shown view same tests [] (length ways) (omega arith))
+  few_shared o t view told apart (s ∷ starts) agree halts firsts predicts same tests =
+      let counts : ℕ → ℕ = λ l. picked (is_at l) (record_at o t s) in
+      let P : Start E → Type 0 = λ s'. ((l : ℕ) → picked (is_at l) (record_at o t s') ≡ counts l) × (length (record_at o t s') ≡ length (record_at o t s)) × Halts v image t s' × PredictsTo o firsts s' in
+      let each : Each P (s ∷ starts) = Each-map (λ s'. AgreeTo o s s' × Halts v image t s' × PredictsTo o firsts s') P
+      (λ s' a.
+      let e = length_at o t s s' a.0 halts.0 a.1 in
+      (λ l. sym (picked_fits (is_at l) (record_at o t s) (record_at o t s') (fits_at o t s s' a.0) e), sym e, a.1, a.2))
+      (s ∷ starts) (all_hold (λ s'. AgreeTo o s s') (Halts v image t) (PredictsTo o firsts) (s ∷ starts) agree.0 halts predicts) in (
+        counts,
+        Each-map P (λ s'. BeginsEach lat g ls o p s'.memory counts) (λ s' h. begins_each o t counts s' h.2 h.0) (s ∷ starts) each,
+        λ ways are.
+            let way : (x : Member o P s) → IsAmong (choice_of order.size (record_at o t x.from)) ways = λ x. its_way o t firsts counts ways are apart x.from x.more.3 x.more.2 x.more.0 in
+            let own = its_way o t firsts counts ways are apart s each.0.3 each.0.2 each.0.0 in
+            let few = count_numbered (λ (x : Member o P s). view x.from) (λ x. place (choice_of order.size (record_at o t x.from)) ways (way x)) same tests (length ways)
+            (omega (arith, place_below (choice_of order.size (record_at o t s)) ways own))
+            (λ x. place_below (choice_of order.size (record_at o t x.from)) ways (way x))
+            (λ x y e. told x.from y.from (pair o P s x y)
+            (same_choice order.size (record_at o t x.from) (record_at o t y.from) (fits_at o t x.from y.from (pair o P s x y)) (x.more.1 ∙ sym y.more.1) (levels_at o t x.from)
+            (place_same _ _ ways (way x) (way y) e)))
+            (members o P s (s ∷ starts) agree.0 each) in
+            few_shown view same tests (s ∷ starts) (length ways)
+            (subst (λ z. distinct_count same z ≤ length ways) (views-members view o P s (s ∷ starts) agree.0 each) few),
+      )
+
+  pub is_shared : SharpShared v order serves g ls image p
+  is_shared = record { few = λ o low t some. few_shared o t (seen_from v lat g image o t) (told_seen o t) }
 
   pub is_sharp : SharpSound v order serves g ls image p
   is_sharp = record { few = λ o low t some. few_halted o t some (seen_from v lat g image o t) (told_seen o t) }

@@ -53,7 +53,7 @@ took_none : (firsts : ℕ → ℕ) (c : ℕ) (a : List Entry) → a ≡ [] → T
 took_none firsts c a e = subst (TookFirst firsts c) (sym e) tt
 
 -- a first prediction, and one after misses
-doubled : (estimate : ℤ) (m f : ℕ) → f ≤ prediction estimate 0 → 2 ^ m * max f 1 ≤ prediction estimate m
+pub doubled : (estimate : ℤ) (m f : ℕ) → f ≤ prediction estimate 0 → 2 ^ m * max f 1 ≤ prediction estimate m
 doubled estimate m f h =
     let a = max (at_least_zero estimate) 1 in
     let one : 1 ≤ a = le-max_right (at_least_zero estimate) 1 in
@@ -61,51 +61,51 @@ doubled estimate m f h =
     omega (arith, mul-le-mul_left (2 ^ m) less)
 
 module _ {E : Type 0} (v : Env E) (lat : Lattice) (g : ℕ → ℕ) (o lim : ℕ) (rel : ℕ → Bool) (ls firsts : ℕ → ℕ) where
-  abbrev at : Bare → List ℤ → List Note → Source (Unit {0}) (Unit {0})
+  abbrev pub at : Bare → List ℤ → List Note → Source (Unit {0}) (Unit {0})
   at todo memory notes = record { todo = todo; memory = memory; notes = notes }
 
   -- each relevant mitigate that begins from here has such a first prediction
-  abbrev From : Bare → List ℤ → Type 0
+  abbrev pub From : Bare → List ℤ → Type 0
   From todo memory = (notes : List Note) × ((n : ℕ) → PredictsNext rel ls firsts (source_steps n (at todo memory notes)).todo (source_steps n (at todo memory notes)).memory)
 
   -- what is still to do where a job begins
-  abbrev todo_of : Job → Bare → Bare
+  abbrev pub todo_of : Job → Bare → Bare
   todo_of (Do p a) rest = then_todo (commands_of p) rest
   todo_of (Loop m e c a) rest = then_todo (commands_of c) (While tt e (commands_of c) rest)
 
   -- where a job has ended: so it is still, or the cut is past
-  abbrev After : Bare → Core E → Type 0
+  abbrev pub After : Bare → Core E → Type 0
   After rest s = From rest s.memory ⊎ (lim < s.clock)
 
-  tested_memory : (m : Marks) (e : Expression) (a : ℕ) (s : Core E) → (tested v m e a s).memory ≡ s.memory
+  pub tested_memory : (m : Marks) (e : Expression) (a : ℕ) (s : Core E) → (tested v m e a s).memory ≡ s.memory
   tested_memory m e a s = timed_memory v m e a s
 
-  reached_memory : (m : Marks) (i e : Expression) (a : ℕ) (s : Core E) → (reached v m i e a s).memory ≡ s.memory
+  pub reached_memory : (m : Marks) (i e : Expression) (a : ℕ) (s : Core E) → (reached v m i e a s).memory ≡ s.memory
   reached_memory m i e a s = timed_memory v m e (a + expr_size i) (timed v m i a s) ∙ timed_memory v m i a s
 
-  from_same : (todo : Bare) (m m' : List ℤ) → m' ≡ m → From todo m → From todo m'
+  pub from_same : (todo : Bare) (m m' : List ℤ) → m' ≡ m → From todo m → From todo m'
   from_same todo m m' e h = subst (From todo) (sym e) h
 
   -- one step
-  from_skip : (m : Unit {0}) (r : Bare) (memory : List ℤ) → From (Skip m r) memory → From r memory
+  pub from_skip : (m : Unit {0}) (r : Bare) (memory : List ℤ) → From (Skip m r) memory → From r memory
   from_skip m r memory h = (h.0, λ n. h.1 (suc n))
 
-  from_sleep : (m : Unit {0}) (e : Expression) (r : Bare) (memory : List ℤ) → From (Sleep m e r) memory → From r memory
+  pub from_sleep : (m : Unit {0}) (e : Expression) (r : Bare) (memory : List ℤ) → From (Sleep m e r) memory → From r memory
   from_sleep m e r memory h = (h.0, λ n. h.1 (suc n))
 
-  from_assign : (m : Unit {0}) (x : ℕ) (e : Expression) (r : Bare) (memory : List ℤ) → From (Assign m x e r) memory → From r (slice_set memory x (value_of e memory))
+  pub from_assign : (m : Unit {0}) (x : ℕ) (e : Expression) (r : Bare) (memory : List ℤ) → From (Assign m x e r) memory → From r (slice_set memory x (value_of e memory))
   from_assign m x e r memory h = (h.0 ++ Assigned x (value_of e memory) ∷ [], λ n. h.1 (suc n))
 
-  from_put : (m : Unit {0}) (f k : ℕ) (i e : Expression) (r : Bare) (memory : List ℤ) → From (Put m f k i e r) memory → From r (slice_set memory (element f k (value_of i memory)) (value_of e memory))
+  pub from_put : (m : Unit {0}) (f k : ℕ) (i e : Expression) (r : Bare) (memory : List ℤ) → From (Put m f k i e r) memory → From r (slice_set memory (element f k (value_of i memory)) (value_of e memory))
   from_put m f k i e r memory h = (h.0 ++ Assigned (element f k (value_of i memory)) (value_of e memory) ∷ [], λ n. h.1 (suc n))
 
-  from_if : (m : Unit {0}) (e : Expression) (a b r : Bare) (memory : List ℤ) (w : Bool) → holds (value_of e memory) ≡ w → From (If m e a b r) memory → From (cond w (then_todo a r) (then_todo b r)) memory
+  pub from_if : (m : Unit {0}) (e : Expression) (a b r : Bare) (memory : List ℤ) (w : Bool) → holds (value_of e memory) ≡ w → From (If m e a b r) memory → From (cond w (then_todo a r) (then_todo b r)) memory
   from_if m e a b r memory w q h = subst (λ z. From (cond z (then_todo a r) (then_todo b r)) memory) q (h.0, λ n. h.1 (suc n))
 
-  from_while : (m : Unit {0}) (e : Expression) (c r : Bare) (memory : List ℤ) (w : Bool) → holds (value_of e memory) ≡ w → From (While m e c r) memory → From (cond w (then_todo c (While m e c r)) r) memory
+  pub from_while : (m : Unit {0}) (e : Expression) (c r : Bare) (memory : List ℤ) (w : Bool) → holds (value_of e memory) ≡ w → From (While m e c r) memory → From (cond w (then_todo c (While m e c r)) r) memory
   from_while m e c r memory w q h = subst (λ z. From (cond z (then_todo c (While m e c r)) r) memory) q (h.0, λ n. h.1 (suc n))
 
-  from_mitigate : (m l : Unit {0}) (k : ℕ) (e : Expression) (c r : Bare) (memory : List ℤ) → From (Mitigate m k l e c r) memory → From (then_todo c r) memory
+  pub from_mitigate : (m l : Unit {0}) (k : ℕ) (e : Expression) (c r : Bare) (memory : List ℤ) → From (Mitigate m k l e c r) memory → From (then_todo c r) memory
   from_mitigate m l k e c r memory h = (h.0 ++ Started k ∷ [], λ n. h.1 (suc n))
 
   -- the rest, or the cut was past before it
@@ -113,11 +113,11 @@ module _ {E : Type 0} (v : Env E) (lat : Lattice) (g : ℕ → ℕ) (o lim : ℕ
   then_on rest todo k f (inl h) = f h
   then_on rest todo k f (inr far) = let up = (grows_run v lat g o lim k).clock in inr (omega arith)
 
-  ends_after : (m : Marks) (k l : ℕ) (n : ℤ) (a : ℕ) (s0 s1 : Core E) → s0.clock ≤ s1.clock → s1.clock ≤ (closed (opening n l k s0) (fetched v m a s1)).clock
+  pub ends_after : (m : Marks) (k l : ℕ) (n : ℤ) (a : ℕ) (s0 s1 : Core E) → s0.clock ≤ s1.clock → s1.clock ≤ (closed (opening n l k s0) (fetched v m a s1)).clock
   ends_after m k l n a s0 s1 h =
       let up = (closed_grows lim (opening n l k s0) (fetched v m a s1) (omega arith)).clock in omega arith
 
-  goes_on : {j : Job} {s s' : Core E} (d : Runs v lat g lim j s s') (rest : Bare) → From (todo_of j rest) s.memory → After rest s'
+  pub goes_on : {j : Job} {s s' : Core E} (d : Runs v lat g lim j s s') (rest : Bare) → From (todo_of j rest) s.memory → After rest s'
   goes_on done rest h = inl h
   goes_on (late far) rest h = inr far
   goes_on {s = s} (skip {r = r} k) rest h = goes_on k rest (from_skip tt (then_todo (commands_of r) rest) s.memory h)
@@ -170,11 +170,11 @@ module _ {E : Type 0} (v : Env E) (lat : Lattice) (g : ℕ → ℕ) (o lim : ℕ
       go up (inl q) = inl (from_same (then_todo (commands_of c) (While tt e (commands_of c) rest)) _ _ (tested_memory (raised lat g e m) e (a + size c) s1) (from_while tt e (commands_of c) rest s1.memory true w q))
       go up (inr far) = inr (omega arith)
 
-  abbrev TellsJob : ℕ → Job → Type 0
+  abbrev pub TellsJob : ℕ → Job → Type 0
   TellsJob pc (Do p a) = Tells lat g o rel pc p
   TellsJob pc (Loop m e c a) = Tells lat g o rel pc c
 
-  abbrev LevelsJob : Job → Type 0
+  abbrev pub LevelsJob : Job → Type 0
   LevelsJob (Do p a) = LevelsAre ls p
   LevelsJob (Loop m e c a) = LevelsAre ls c
 

@@ -14,3 +14,5 @@ pub mod Sleeper
 pub mod TwoLabels
 pub mod Lowered
 pub mod Many
+pub mod Choices
+pub mod Shared

@@ -23,7 +23,8 @@ use Rattle.sharp_bound.specs.Firsts.{PredictsNext, Predicts}
 use Rattle.sharp_bound.specs.Guess.{FewShown}
 use Rattle.sharp_bound.specs.Sharp.{relevant_at, BeginsEach, ends_by, FewHalted, FewCut, SharpSoundAll, SharpCutAll}
 use Rattle.sharp_bound.specs.End.{SharpEndAll}
-use Rattle.sharp_bound.specs.Lowered.{LoweredSharpAll, LoweredSharpCutAll, LoweredSharpEndAll}
+use Rattle.sharp_bound.specs.Shared.{StandApart, FewShared, SharpSharedAll}
+use Rattle.sharp_bound.specs.Lowered.{LoweredSharpAll, LoweredSharpCutAll, LoweredSharpEndAll, LoweredSharedAll}
 
 module _ {M L M' L' : Type 0} (p : Todo M L) (q : Todo M' L') (e : commands_of p ≡ commands_of q) (lat : Lattice) (g ls : ℕ → ℕ) (o : ℕ) where
   predicts_same : (firsts : ℕ → ℕ) (m : List ℤ) → Predicts (is_relevant lat g ls o q) ls firsts q m → Predicts (is_relevant lat g ls o p) ls firsts p m
@@ -71,6 +72,17 @@ module _ {E V M L M' L' : Type 0} (v : Env E) (order : Order) (serves : E → Ty
       (Each-map (λ (s : Start E). Predicts (is_relevant lat g ls o q) ls firsts q s.memory) (λ s. Predicts (is_relevant lat g ls o p) ls firsts p s.memory) (λ s a. predicts_same p q e lat g ls o firsts s.memory a) starts predicts)
       same tests)
 
+  few_shared_same : FewShared v order serves g ls image p o t view → FewShared v order serves g ls image q o t view
+  few_shared_same few apart starts agree halts firsts predicts same tests =
+      let apart' : StandApart (is_relevant lat g ls o p) (commands_of p) = subst (λ rel. StandApart rel (commands_of p)) (sym (relevant-same p q e lat g ls o)) (subst (StandApart (is_relevant lat g ls o q)) (sym e) apart) in
+      let r = few apart' starts agree halts firsts
+      (Each-map (λ (s : Start E). Predicts (is_relevant lat g ls o q) ls firsts q s.memory) (λ s. Predicts (is_relevant lat g ls o p) ls firsts p s.memory) (λ s a. predicts_same p q e lat g ls o firsts s.memory a) starts predicts)
+      same tests in (
+        r.0,
+        Each-map (λ (s : Start E). BeginsEach lat g ls o p s.memory r.0) (λ s. BeginsEach lat g ls o q s.memory r.0) (λ s b. begins_each_same p q e lat g ls o s.memory r.0 b) starts r.1,
+        r.2,
+      )
+
 module _ {E : Type 0} (v : Env E) (serves : Order → E → Type 0) where
   pub lowered_sharp : SharpSoundAll v serves → LoweredSharpAll v serves
   lowered_sharp all q is =
@@ -89,3 +101,8 @@ module _ {E : Type 0} (v : Env E) (serves : Order → E → Type 0) where
         halted = λ o low ends t some. few_halted_same v q.program.order (serves q.program.order) (labels_of q) (levels_of q) (lowered q).instrs (bare_of q) (plan_of q.program) (keep_commands q) o t _ (both.halted o low ends t some);
         cut = λ o low ends t some. few_cut_same v q.program.order (serves q.program.order) (labels_of q) (levels_of q) (lowered q).instrs (bare_of q) (plan_of q.program) (keep_commands q) o t _ (both.cut o low ends t some);
       }
+
+  pub lowered_shared : SharpSharedAll v serves → LoweredSharedAll v serves
+  lowered_shared all q is =
+      let few = (all q.program.order (labels_of q) (levels_of q) (lowered q).instrs (bare_of q) (made_of q is)).few in
+      record { few = λ o low t some. few_shared_same v q.program.order (serves q.program.order) (labels_of q) (levels_of q) (lowered q).instrs (bare_of q) (plan_of q.program) (keep_commands q) o t _ (few o low t some) }

@@ -7,3 +7,4 @@ pub mod Twice
 pub mod Sleeper
 pub mod Lowered
 pub mod Many
+pub mod Shared

@@ -7,6 +7,7 @@ use Rattle.code_lower.specs.Lowered.{lowered}
 use Rattle.leak_bound.specs.Source.{IsTypedWith}
 use Rattle.sharp_bound.specs.Sharp.{SharpSound, SharpCut}
 use Rattle.sharp_bound.specs.End.{SharpEnd}
+use Rattle.sharp_bound.specs.Shared.{SharpShared}
 
 abbrev pub LoweredSharpAll : {E : Type 0} → Env E → (Order → E → Type 0) → Type 0
 LoweredSharpAll v serves = (q : LabelledProgram) → IsTypedWith q →
@@ -20,3 +21,7 @@ LoweredSharpCutAll v serves = (q : LabelledProgram) → IsTypedWith q →
 abbrev pub LoweredSharpEndAll : {E : Type 0} → Env E → (Order → E → Type 0) → Type 0
 LoweredSharpEndAll v serves = (q : LabelledProgram) → IsTypedWith q →
     SharpEnd v q.program.order (serves q.program.order) (labels_of q) (levels_of q) (lowered q).instrs (bare_of q) (plan_of q.program)
+
+abbrev pub LoweredSharedAll : {E : Type 0} → Env E → (Order → E → Type 0) → Type 0
+LoweredSharedAll v serves = (q : LabelledProgram) → IsTypedWith q →
+    SharpShared v q.program.order (serves q.program.order) (labels_of q) (levels_of q) (lowered q).instrs (plan_of q.program)

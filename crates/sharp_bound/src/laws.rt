@@ -2,10 +2,11 @@
 
 ghost use Rattle.sharp_bound.specs.End.{SharpEndAll};
 ghost use Rattle.sharp_bound.specs.Firsts.{AtLeastOne};
-ghost use Rattle.sharp_bound.specs.Lowered.{LoweredSharpAll, LoweredSharpCutAll, LoweredSharpEndAll};
+ghost use Rattle.sharp_bound.specs.Lowered.{LoweredSharpAll, LoweredSharpCutAll, LoweredSharpEndAll, LoweredSharedAll};
 ghost use Rattle.sharp_bound.specs.Many.{FewMany, SharpManyAll};
 ghost use Rattle.sharp_bound.specs.Near.{NearlyReached, TwoLabels};
 ghost use Rattle.sharp_bound.specs.Sharp.{SharpSoundAll, SharpCutAll};
+ghost use Rattle.sharp_bound.specs.Shared.{SharpSharedAll};
 ghost use Rattle.sharp_bound.specs.Sleeper.{EndTells};
 ghost use Rattle.sharp_bound.specs.Twice.{FewTwice, SharpTwiceAll, LeavesAgree};
 
@@ -41,6 +42,15 @@ pub fn lowered_few_sequences_sharp<E: MachineEnv>()
     ensures halted { LoweredSharpAll (record { cost_of = E.cost_of; next_of = E.next_of; part = E.part }) E.serves }
     ensures cut { LoweredSharpCutAll (record { cost_of = E.cost_of; next_of = E.next_of; part = E.part }) E.serves }
     ensures ended { LoweredSharpEndAll (record { cost_of = E.cost_of; next_of = E.next_of; part = E.part }) E.serves }
+    ensures shared { LoweredSharedAll (record { cost_of = E.cost_of; next_of = E.next_of; part = E.part }) E.serves }
+{}
+
+/// Time is shared: where no relevant mitigate of an accepted program stands in another, starts that agree and halt by T
+/// show at most as many sequences as there are choices of miss counts, for each level as many as relevant mitigations of
+/// it begin, that never fall and whose `e * 2 ^ m` add up to at most T. `ways_are_few` says that these are no more than
+/// the sharp count.
+pub fn few_sequences_shared<E: MachineEnv>()
+    ensures { SharpSharedAll (record { cost_of = E.cost_of; next_of = E.next_of; part = E.part }) E.serves }
 {}
 
 /// Each first prediction is at least 1, so that the sharp count holds for every program with as many miss counts as T

@@ -3,3 +3,4 @@ pub mod Growing
 pub mod Fitting
 pub mod Binary
 pub mod Listing
+pub mod Ways

@@ -12,7 +12,7 @@ cons_all m [] = []
 cons_all m (xs ∷ all) = (m ∷ xs) ∷ cons_all m all
 
 -- those of c numbers from m on
-abbrev listing : ℕ → ℕ → ℕ → List (List ℕ)
+abbrev pub listing : ℕ → ℕ → ℕ → List (List ℕ)
 listing m c zero = [] ∷ []
 listing m zero (suc k) = []
 listing m (suc c) (suc k) = cons_all m (listing m (suc c) k) ++ listing (suc m) c (suc k)
@@ -21,7 +21,7 @@ length-cons_all : (m : ℕ) (all : List (List ℕ)) → length (cons_all m all) 
 length-cons_all m [] = refl
 length-cons_all m (xs ∷ all) = ap suc (length-cons_all m all)
 
-length-listing : (m c k : ℕ) → length (listing m c k) ≡ rising c k
+pub length-listing : (m c k : ℕ) → length (listing m c k) ≡ rising c k
 length-listing m c zero = sym (rising-none c)
 length-listing m zero (suc k) = sym (rising-zero k)
 length-listing m (suc c) (suc k) =
@@ -39,7 +39,7 @@ lower : (m b k : ℕ) (xs : List ℕ) → NeverFalling (suc m) b (suc k) xs → 
 lower m b k [] h = h
 lower m b k (x ∷ xs) h = let up = h.0 in (omega arith, h.1, h.2)
 
-each_falls : (b m c k : ℕ) → m + c ≡ b → Each (NeverFalling m b k) (listing m c k)
+pub each_falls : (b m c k : ℕ) → m + c ≡ b → Each (NeverFalling m b k) (listing m c k)
 each_falls b m c zero e = (refl, tt)
 each_falls b m zero (suc k) e = tt
 each_falls b m (suc c) (suc k) e =
@@ -61,7 +61,7 @@ among-cons_all m xs [] h = absurd h
 among-cons_all m xs (ys ∷ all) (inl e) = inl (ap (λ z. m ∷ z) e)
 among-cons_all m xs (ys ∷ all) (inr h) = inr (among-cons_all m xs all h)
 
-has_all : (b m c k : ℕ) (xs : List ℕ) → m + c ≡ b → NeverFalling m b k xs → IsAmong xs (listing m c k)
+pub has_all : (b m c k : ℕ) (xs : List ℕ) → m + c ≡ b → NeverFalling m b k xs → IsAmong xs (listing m c k)
 has_all b m c zero xs e h = inl h
 has_all b m zero (suc k) [] e h = absurd h
 has_all b m zero (suc k) (x ∷ xs) e h = let low = h.0 in let up = h.1 in absurd (omega (arith, e))
@@ -97,7 +97,7 @@ each_true : (P : List ℕ → Type 0) → ((xs : List ℕ) → P xs) → (all : 
 each_true P f [] = tt
 each_true P f (xs ∷ all) = (f xs, each_true P f all)
 
-all_differ : (m c k : ℕ) → AllDiffer (listing m c k)
+pub all_differ : (m c k : ℕ) → AllDiffer (listing m c k)
 all_differ m c zero = (tt, tt)
 all_differ m zero (suc k) = tt
 all_differ m (suc c) (suc k) =

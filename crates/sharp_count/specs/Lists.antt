@@ -9,13 +9,13 @@ NeverFalling m b zero xs = xs ≡ []
 NeverFalling m b (suc k) [] = ⊥
 NeverFalling m b (suc k) (x ∷ xs) = (m ≤ x) × (x < b) × NeverFalling x b k xs
 
-abbrev pub IsAmong : List ℕ → List (List ℕ) → Type 0
-IsAmong xs [] = ⊥
-IsAmong xs (ys ∷ all) = (xs ≡ ys) ⊎ IsAmong xs all
+abbrev pub IsAmong : {X : Type 0} → X → List X → Type 0
+IsAmong x [] = ⊥
+IsAmong x (y ∷ all) = (x ≡ y) ⊎ IsAmong x all
 
-abbrev pub AllDiffer : List (List ℕ) → Type 0
+abbrev pub AllDiffer : {X : Type 0} → List X → Type 0
 AllDiffer [] = Unit {0}
-AllDiffer (xs ∷ all) = Each (λ ys. xs ≡ ys → ⊥) all × AllDiffer all
+AllDiffer (x ∷ all) = Each (λ y. x ≡ y → ⊥) all × AllDiffer all
 
 -- all lists of k numbers below b that never fall
 pub record IsListing (b k : ℕ) (all : List (List ℕ)) : Type 0 where
