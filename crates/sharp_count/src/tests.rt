@@ -24,6 +24,25 @@ fn lists_that_never_fall(rt: HostRuntime) {
     }
 }
 
+// Mitigations of one level, and the counts to a million cycles with first predictions of 1 and of 512.
+static COUNTS: [(u64, u128, u128); 3] = [(1, 20, 11), (2, 210, 66), (3, 1540, 286)];
+
+#[test]
+fn counts_of_one_level(rt: HostRuntime) {
+    for &(mitigations, from_one, from_512) in &COUNTS {
+        let one = LevelRuns {
+            mitigations,
+            first: 1,
+        };
+        let other = LevelRuns {
+            mitigations,
+            first: 512,
+        };
+        assert!(rt; sharp_count(Runs::Halted, &[one], 1_000_000) == Some(from_one));
+        assert!(rt; sharp_count(Runs::Halted, &[other], 1_000_000) == Some(from_512));
+    }
+}
+
 #[test]
 fn counts_of_levels(rt: HostRuntime) {
     let one = LevelRuns {
