@@ -10,7 +10,7 @@ use Rattle.env_contract.specs.Env.{Env}
 use Rattle.label_code.specs.Machine.{Event}
 use Rattle.label_code.specs.Run.{Start, run_from}
 use Rattle.label_code.specs.declared.code.Instr.{Instr}
-use Rattle.leak_bound.specs.Relevant.{is_relevant, ended_count}
+use Rattle.leak_bound.specs.Relevant.{ended_count}
 use Rattle.leak_bound.specs.Records.{distinct_count, views, Each, Pairwise}
 use Rattle.leak_bound.specs.Sound.{Agree, seen_from, Halts, most_ended}
 use Rattle.leak_bound.proofs.Same.{same_events, tests_events}
@@ -18,7 +18,7 @@ use Rattle.leak_bound.proofs.Headline.{Each-map}
 use Rattle.sharp_bound.specs.Guess.{FewShown}
 use Rattle.sharp_count.specs.Count.{rising, sharp}
 use Rattle.sharp_count.proofs.Choose.{pascal}
-use Rattle.sharp_bound.specs.Firsts.{Predicts}
+use Rattle.sharp_bound.specs.Firsts.{PredictsBy}
 use Rattle.sharp_bound.specs.Sharp.{relevant_at, ends_by, cut_count, SharpSound, SharpCut}
 use Rattle.sharp_bound.specs.Twice.{that_show, Covers, SharpTwice}
 use Rattle.sharp_bound.proofs.Guess.{few_shown}
@@ -83,8 +83,8 @@ most_filter v image rel t f pick (x ∷ xs) = go (pick x) (most_filter v image r
     go true r = max-le (le-max_left here most) (omega (arith, r, le-max_right here most))
     go false r = omega (arith, r, le-max_right here most)
 
-abbrev PredictsFrom : {E M L : Type 0} → Order → (ℕ → ℕ) → (ℕ → ℕ) → Todo M L → ℕ → (ℕ → ℕ) → Start E → Type 0
-PredictsFrom order g ls p o firsts s = Predicts (is_relevant (lattice_of order) g ls o p) ls firsts p s.memory
+abbrev PredictsFrom : {E M L : Type 0} → Env E → Order → (ℕ → ℕ) → (ℕ → ℕ) → List Instr → Todo M L → ℕ → ℕ → (ℕ → ℕ) → Start E → Type 0
+PredictsFrom v order g ls image p o t firsts s = PredictsBy v (lattice_of order) g ls image p o t firsts s
 
 module _ {E X M L : Type 0} (serves : E → Type 0) (v : Env E) (order : Order) (g ls : ℕ → ℕ) (image : List Instr) (p : Todo M L) where
   abbrev Agrees : ℕ → (X → Start E) → X → X → Type 0
@@ -103,14 +103,14 @@ module _ {E X M L : Type 0} (serves : E → Type 0) (v : Env E) (order : Order) 
   halted_by sound o low t some f (x ∷ xs) firsts n agree h =
       let C : X → Type 0 = λ x. Covers v order g ls image p o t firsts n (f x) in
       let halts = each-views (Halts v image t) f (x ∷ xs) (Each-map C (λ x. Halts v image t (f x)) (λ x a. a.halts) (x ∷ xs) h) in
-      let predicts = each-views (PredictsFrom order g ls p o firsts) f (x ∷ xs) (Each-map C (λ x. PredictsFrom order g ls p o firsts (f x)) (λ x a. a.predicts) (x ∷ xs) h) in
+      let predicts = each-views (PredictsFrom v order g ls image p o t firsts) f (x ∷ xs) (Each-map C (λ x. PredictsFrom v order g ls image p o t firsts (f x)) (λ x a. a.predicts) (x ∷ xs) h) in
       let r = sound.few o low t some (views f (x ∷ xs)) (agree-views o f (x ∷ xs) agree) halts firsts predicts same_events tests_events in
       let count : distinct_count same_events (views (shows o t f) (x ∷ xs)) ≤ sharp (ends_by t firsts) order.size r.0 = subst (λ z. distinct_count same_events z ≤ sharp (ends_by t firsts) order.size r.0) (views-views f (seen_from v (lattice_of order) g image o t) (x ∷ xs)) r.2.count in
       few_shown (shows o t f) same_events tests_events (x ∷ xs) n (omega (arith, count, h.0.counts r.0 r.1.0))
 
-  pub cut_by : SharpCut v order serves g ls image p → (o : ℕ) → o < order.size → (t : ℕ) → 0 < t → (f : X → Start E) (xs : List X) (firsts : ℕ → ℕ) → Pairwise (Agrees o f) xs → Each (λ x. PredictsFrom order g ls p o firsts (f x)) xs → FewShown (shows o t f) same_events xs (cut_count v order g ls image p o t firsts (views f xs))
+  pub cut_by : SharpCut v order serves g ls image p → (o : ℕ) → o < order.size → (t : ℕ) → 0 < t → (f : X → Start E) (xs : List X) (firsts : ℕ → ℕ) → Pairwise (Agrees o f) xs → Each (λ x. PredictsFrom v order g ls image p o t firsts (f x)) xs → FewShown (shows o t f) same_events xs (cut_count v order g ls image p o t firsts (views f xs))
   cut_by sound o low t some f xs firsts agree predicts =
-      let r = sound.few o low t some (views f xs) (agree-views o f xs agree) firsts (each-views (PredictsFrom order g ls p o firsts) f xs predicts) same_events tests_events in
+      let r = sound.few o low t some (views f xs) (agree-views o f xs agree) firsts (each-views (PredictsFrom v order g ls image p o t firsts) f xs predicts) same_events tests_events in
       let n = cut_count v order g ls image p o t firsts (views f xs) in
       few_shown (shows o t f) same_events tests_events xs n (subst (λ z. distinct_count same_events z ≤ n) (views-views f (seen_from v (lattice_of order) g image o t) xs) r.0.count)
 
@@ -180,7 +180,7 @@ is_sharp_twice {serves = serves} v order g ls image p g' ls' image' p' sound sou
           (cut_by serves v order g ls image p cut o low t some first xs firsts agree holds)
           (λ w.
           let ys = those serves v order g image g' image' o t t' first second xs w in
-          let P : Start _ → Type 0 = λ s. Predicts (is_relevant (lattice_of order) g' ls' o p') ls' firsts' p' s.memory in
+          let P : Start _ → Type 0 = λ s. PredictsBy v (lattice_of order) g' ls' image' p' o t' firsts' s in
           let r = cut_by serves v order g' ls' image' p' cut' o low t' some' (second w) ys firsts' (those_agree serves v order g image g' image' o t t' first second xs later_agree w) (those_hold serves v order g image g' image' o t t' first second xs P later_holds w) in
           let e = ap (cut_count v order g' ls' image' p' o t' firsts') (later-views serves v order g image g' image' o t t' first second xs w) in
           few_shown _ same_events tests_events ys _ (omega (arith, r.count, e, cut_less serves v order g' ls' image' p' o t' firsts' (later serves v order g image g' image' o t t' first second xs) (λ x. same_events w (see serves v order g image g' image' o t t' first second xs x)) xs)));

@@ -19,6 +19,7 @@ use Rattle.label_code.specs.Run.{Start, run_from}
 use Rattle.label_code.specs.declared.code.Instr.{Instr}
 use Rattle.label_code.proofs.Ticks.{ran}
 use Rattle.code_lower.specs.Layout.{size}
+use Rattle.code_lower.specs.Follows.{told}
 use Rattle.code_lower.proofs.Order.{keeps_order}
 use Rattle.leak_bound.specs.Digits.{digits}
 use Rattle.leak_bound.specs.Relevant.{is_relevant, begun_count, ended_count}
@@ -37,7 +38,7 @@ use Rattle.leak_bound.proofs.Final.{begun-told, begins_one, begins_log}
 use Rattle.sharp_count.specs.Count.{rising, sharp}
 use Rattle.sharp_count.proofs.Choose.{rising-none}
 use Rattle.sharp_count.proofs.Binary.{digits_few}
-use Rattle.sharp_bound.specs.Firsts.{Predicts}
+use Rattle.sharp_bound.specs.Firsts.{PredictsBy, notes_to}
 use Rattle.sharp_bound.specs.Sharp.{closer, ends_by, relevant_at, BeginsEach, FewHalted, FewCut, SharpSound, SharpCut}
 use Rattle.sharp_bound.specs.End.{end_from, seen_to_end, EndsLow, SharpEnd}
 use Rattle.sharp_bound.specs.Twice.{left_by}
@@ -264,14 +265,17 @@ module _ {E : Type 0} {serves : E → Type 0} (v : Env E) (order : Order) (g ls 
       let r = b.least ((found t y).whole.in_time h') in
       omega arith
 
-  abbrev PredictsTo : ℕ → (ℕ → ℕ) → Start E → Type 0
-  PredictsTo o firsts s = Predicts (rel o) ls firsts p s.memory
+  abbrev PredictsTo : ℕ → ℕ → (ℕ → ℕ) → Start E → Type 0
+  PredictsTo o t firsts s = PredictsBy v lat g ls image p o t firsts s
 
-  under_at : (o t : ℕ) (firsts : ℕ → ℕ) (s : Start E) → PredictsTo o firsts s → Under (ends_by t firsts) (record_at o t s)
+  under_at : (o t : ℕ) (firsts : ℕ → ℕ) (s : Start E) → PredictsTo o t firsts s → Under (ends_by t firsts) (record_at o t s)
   under_at o t firsts s h =
+      let w = (found t s).whole in
+      let total = notes_to v image t s in
+      let told_all = ap (λ z. length (told z)) w.log in
       ended_under firsts t (record_at o t s)
-      (took v lat g o t (rel o) ls firsts lat.bottom made.lattice (tells o) made.told (made.lattice.lowest o) (found t s).whole.run Done
-      (from_start v lat g o t (rel o) ls firsts p s.memory h))
+      (took v lat g o t (rel o) ls firsts total lat.bottom made.lattice (tells o) made.told (made.lattice.lowest o) w.run Done
+      (from_start v lat g o t (rel o) ls firsts total p (first_core v lat g image p made.code t s) refl h) (omega (arith, told_all)))
 
   counted_at : (o t : ℕ) (ds ks : ℕ → ℕ) (s : Start E) → AtMost ds (record_at o t s) → ((l : ℕ) → picked (is_at l) (record_at o t s) ≤ ks l) → IsCounted order.size ds ks (record_at o t s)
   counted_at o t ds ks s up h =
@@ -360,12 +364,12 @@ module _ {E : Type 0} {serves : E → Type 0} (v : Env E) (order : Order) (g ls 
   few_halted o t some view told (s ∷ starts) agree halts firsts predicts same tests =
       let counts : ℕ → ℕ = λ l. picked (is_at l) (record_at o t s) in
       let vs : ℕ → ℕ = ends_by t firsts in
-      let P : Start E → Type 0 = λ s'. ((l : ℕ) → picked (is_at l) (record_at o t s') ≡ counts l) × (length (record_at o t s') ≡ length (record_at o t s)) × Halts v image t s' × PredictsTo o firsts s' in
-      let each : Each P (s ∷ starts) = Each-map (λ s'. AgreeTo o s s' × Halts v image t s' × PredictsTo o firsts s') P
+      let P : Start E → Type 0 = λ s'. ((l : ℕ) → picked (is_at l) (record_at o t s') ≡ counts l) × (length (record_at o t s') ≡ length (record_at o t s)) × Halts v image t s' × PredictsTo o t firsts s' in
+      let each : Each P (s ∷ starts) = Each-map (λ s'. AgreeTo o s s' × Halts v image t s' × PredictsTo o t firsts s') P
       (λ s' a.
       let e = length_at o t s s' a.0 halts.0 a.1 in
       (λ l. sym (picked_fits (is_at l) (record_at o t s) (record_at o t s') (fits_at o t s s' a.0) e), sym e, a.1, a.2))
-      (s ∷ starts) (all_hold (λ s'. AgreeTo o s s') (Halts v image t) (PredictsTo o firsts) (s ∷ starts) agree.0 halts predicts) in
+      (s ∷ starts) (all_hold (λ s'. AgreeTo o s s') (Halts v image t) (PredictsTo o t firsts) (s ∷ starts) agree.0 halts predicts) in
       let few = few_of o t (λ l. vs l - 1) counts P
       (λ s' h. counted_at o t (λ l. vs l - 1) counts s' (at_most_less vs (record_at o t s') (under_at o t firsts s' h.3)) (λ l. omega (arith, h.0 l)))
       (λ x y h h'. inl (h.1 ∙ sym h'.1)) view told same tests s (s ∷ starts) agree.0 each in
@@ -403,17 +407,17 @@ module _ {E : Type 0} {serves : E → Type 0} (v : Env E) (order : Order) (g ls 
   cut_within : (o t : ℕ) (firsts : ℕ → ℕ) (starts : List (Start E)) → 0 < t → sharp (λ l. ends_by t firsts l + 1) order.size (most o t starts) ≤ bound order o t (most_ended v image (rel o) t starts)
   cut_within o t firsts starts some = sharp_within lat o (digits t) (most_ended v image (rel o) t starts) order.size (λ l. ends_by t firsts l + 1) (most o t starts) (λ l. omega (arith, few_values t firsts l some)) (λ l. most_less o t l starts) (λ l f. most_none o t l f starts)
 
-  cut_under : {V : Type 0} (o t : ℕ) → (view : Start E → V) → Told o t view → (starts : List (Start E)) → Pairwise (Agree v lat serves g o) starts → (firsts : ℕ → ℕ) → Each (PredictsTo o firsts) starts → (same : V → V → Bool) → Tests same → distinct_count same (views view starts) ≤ sharp (λ l. ends_by t firsts l + 1) order.size (most o t starts)
+  cut_under : {V : Type 0} (o t : ℕ) → (view : Start E → V) → Told o t view → (starts : List (Start E)) → Pairwise (Agree v lat serves g o) starts → (firsts : ℕ → ℕ) → Each (PredictsTo o t firsts) starts → (same : V → V → Bool) → Tests same → distinct_count same (views view starts) ≤ sharp (λ l. ends_by t firsts l + 1) order.size (most o t starts)
   cut_under o t view told [] agree firsts predicts same tests = omega arith
   cut_under o t view told (s ∷ starts) agree firsts predicts same tests =
       let vs : ℕ → ℕ = ends_by t firsts in
       let ks : ℕ → ℕ = most o t (s ∷ starts) in
-      let P : Start E → Type 0 = λ s'. ((l : ℕ) → picked (is_at l) (record_at o t s') ≤ ks l) × PredictsTo o firsts s' in
+      let P : Start E → Type 0 = λ s'. ((l : ℕ) → picked (is_at l) (record_at o t s') ≤ ks l) × PredictsTo o t firsts s' in
       let few = few_of o t vs ks P
       (λ s' h. counted_at o t vs ks s' (at_most_same vs (record_at o t s') (under_at o t firsts s' h.1)) h.0)
       (λ x y h h'. inr (under_at o t firsts x h.1, under_at o t firsts y h'.1))
       view told same tests s (s ∷ starts) agree.0
-      (both_hold (λ s'. (l : ℕ) → picked (is_at l) (record_at o t s') ≤ ks l) (PredictsTo o firsts) (s ∷ starts) (under_most o t (s ∷ starts)) predicts) in
+      (both_hold (λ s'. (l : ℕ) → picked (is_at l) (record_at o t s') ≤ ks l) (PredictsTo o t firsts) (s ∷ starts) (under_most o t (s ∷ starts)) predicts) in
       let all = sharp_same order.size (λ l. suc (vs l)) (λ l. vs l + 1) ks (λ l. let e : suc (vs l) ≡ vs l + 1 = omega arith in ap (λ z. rising z (ks l)) e) in
       subst (λ z. distinct_count same (views view (s ∷ starts)) ≤ z) all few
 
@@ -421,14 +425,16 @@ module _ {E : Type 0} {serves : E → Type 0} (v : Env E) (order : Order) (g ls 
   few_cut o t some view told starts agree firsts predicts same tests =
       (few_shown view same tests starts (sharp (λ l. ends_by t firsts l + 1) order.size (most o t starts)) (cut_under o t view told starts agree firsts predicts same tests), cut_within o t firsts starts some)
 
-  spent_by : (o t : ℕ) (firsts : ℕ → ℕ) (s : Start E) → StandApart (rel o) (commands_of p) → PredictsTo o firsts s → Halts v image t s → spent firsts (record_at o t s) ≤ t
+  spent_by : (o t : ℕ) (firsts : ℕ → ℕ) (s : Start E) → StandApart (rel o) (commands_of p) → PredictsTo o t firsts s → Halts v image t s → spent firsts (record_at o t s) ≤ t
   spent_by o t firsts s apart predicts halts =
       let w = (found t s).whole in
       let by = w.in_time halts in
-      omega (arith, by, fits_run v lat made.lattice laws g o t (rel o) ls firsts lat.bottom (tells o) made.told apart (made.lattice.lowest o) w.run Done (from_start v lat g o t (rel o) ls firsts p s.memory predicts) by)
+      let total = notes_to v image t s in
+      let told_all = ap (λ z. length (told z)) w.log in
+      omega (arith, by, fits_run v lat made.lattice laws g o t (rel o) ls firsts total lat.bottom (tells o) made.told apart (made.lattice.lowest o) w.run Done (from_start v lat g o t (rel o) ls firsts total p (first_core v lat g image p made.code t s) refl predicts) by (omega (arith, told_all)))
 
   -- a start's choice is one of the ways
-  its_way : (o t : ℕ) (firsts counts : ℕ → ℕ) (ways : List (List (List ℕ))) → AreWays t firsts order.size counts ways → StandApart (rel o) (commands_of p) → (s : Start E) → PredictsTo o firsts s → Halts v image t s → ((l : ℕ) → picked (is_at l) (record_at o t s) ≡ counts l) → IsAmong (choice_of order.size (record_at o t s)) ways
+  its_way : (o t : ℕ) (firsts counts : ℕ → ℕ) (ways : List (List (List ℕ))) → AreWays t firsts order.size counts ways → StandApart (rel o) (commands_of p) → (s : Start E) → PredictsTo o t firsts s → Halts v image t s → ((l : ℕ) → picked (is_at l) (record_at o t s) ≡ counts l) → IsAmong (choice_of order.size (record_at o t s)) ways
   its_way o t firsts counts ways are apart s predicts halts h =
       let r = record_at o t s in
       are.whole (choice_of order.size r)
@@ -439,12 +445,12 @@ module _ {E : Type 0} {serves : E → Type 0} (v : Env E) (order : Order) (g ls 
   few_shared o t view told apart [] agree halts firsts predicts same tests = (λ l. 0, tt, λ ways are. few_shown view same tests [] (length ways) (omega arith))
   few_shared o t view told apart (s ∷ starts) agree halts firsts predicts same tests =
       let counts : ℕ → ℕ = λ l. picked (is_at l) (record_at o t s) in
-      let P : Start E → Type 0 = λ s'. ((l : ℕ) → picked (is_at l) (record_at o t s') ≡ counts l) × (length (record_at o t s') ≡ length (record_at o t s)) × Halts v image t s' × PredictsTo o firsts s' in
-      let each : Each P (s ∷ starts) = Each-map (λ s'. AgreeTo o s s' × Halts v image t s' × PredictsTo o firsts s') P
+      let P : Start E → Type 0 = λ s'. ((l : ℕ) → picked (is_at l) (record_at o t s') ≡ counts l) × (length (record_at o t s') ≡ length (record_at o t s)) × Halts v image t s' × PredictsTo o t firsts s' in
+      let each : Each P (s ∷ starts) = Each-map (λ s'. AgreeTo o s s' × Halts v image t s' × PredictsTo o t firsts s') P
       (λ s' a.
       let e = length_at o t s s' a.0 halts.0 a.1 in
       (λ l. sym (picked_fits (is_at l) (record_at o t s) (record_at o t s') (fits_at o t s s' a.0) e), sym e, a.1, a.2))
-      (s ∷ starts) (all_hold (λ s'. AgreeTo o s s') (Halts v image t) (PredictsTo o firsts) (s ∷ starts) agree.0 halts predicts) in (
+      (s ∷ starts) (all_hold (λ s'. AgreeTo o s s') (Halts v image t) (PredictsTo o t firsts) (s ∷ starts) agree.0 halts predicts) in (
         counts,
         Each-map P (λ s'. BeginsEach lat g ls o p s'.memory counts) (λ s' h. begins_each o t counts s' h.2 h.0) (s ∷ starts) each,
         λ ways are.

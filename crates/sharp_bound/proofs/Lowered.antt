@@ -1,5 +1,5 @@
 -- What is true of commands with labels is true of the same commands without them.
-use Rattle.std.proofs.Common.{◌≡◌, ◌≤◌, ℕ, ◌+◌, List, [], ◌∷◌, sym, ap, ◌∙◌, subst}
+use Rattle.std.proofs.Common.{◌≡◌, ◌≤◌, ℕ, ◌+◌, List, [], ◌∷◌, sym, ap, ◌∙◌, subst, ◌<◌, length}
 use Rattle.std.specs.Prelude.{eqb, ◌&&◌, ℤ}
 use Rattle.std.specs.List.{count_by}
 use Rattle.mit_syntax.specs.Todo.{Todo, commands_of}
@@ -8,7 +8,7 @@ use Rattle.label_lattice.specs.Lattice.{Lattice}
 use Rattle.label_lattice.specs.Order.{Order, lattice_of}
 use Rattle.timing_types.specs.Labelled.{labels_of, levels_of, bare_of}
 use Rattle.timing_types.proofs.Commands.{keep_commands}
-use Rattle.source_meaning.specs.Source.{started_in, marks_of, source_start, source_steps}
+use Rattle.source_meaning.specs.Source.{started_in, notes_of, marks_of, source_start, source_steps}
 use Rattle.source_meaning.proofs.Same.{same_commands}
 use Rattle.env_contract.specs.Env.{Env}
 use Rattle.label_code.specs.Run.{Start}
@@ -19,7 +19,7 @@ use Rattle.leak_bound.specs.Sound.{bound, FirstBegins, most_ended}
 use Rattle.leak_bound.proofs.Headline.{Each-map}
 use Rattle.leak_bound.proofs.Source.{relevant-same, begins_same, made_of}
 use Rattle.sharp_count.specs.Count.{sharp}
-use Rattle.sharp_bound.specs.Firsts.{PredictsNext, Predicts}
+use Rattle.sharp_bound.specs.Firsts.{PredictsNext, Predicts, PredictsBy, notes_to}
 use Rattle.sharp_bound.specs.Guess.{FewShown}
 use Rattle.sharp_bound.specs.Sharp.{relevant_at, BeginsEach, ends_by, FewHalted, FewCut, SharpSoundAll, SharpCutAll}
 use Rattle.sharp_bound.specs.End.{SharpEndAll}
@@ -27,10 +27,10 @@ use Rattle.sharp_bound.specs.Shared.{StandApart, FewShared, SharpSharedAll}
 use Rattle.sharp_bound.specs.Lowered.{LoweredSharpAll, LoweredSharpCutAll, LoweredSharpEndAll, LoweredSharedAll}
 
 module _ {M L M' L' : Type 0} (p : Todo M L) (q : Todo M' L') (e : commands_of p ≡ commands_of q) (lat : Lattice) (g ls : ℕ → ℕ) (o : ℕ) where
-  predicts_same : (firsts : ℕ → ℕ) (m : List ℤ) → Predicts (is_relevant lat g ls o q) ls firsts q m → Predicts (is_relevant lat g ls o p) ls firsts p m
-  predicts_same firsts m h =
-      subst (λ rel. Predicts rel ls firsts p m) (sym (relevant-same p q e lat g ls o))
-      (subst (λ c. (n : ℕ) → PredictsNext (is_relevant lat g ls o q) ls firsts (source_steps n (source_start c m)).todo (source_steps n (source_start c m)).memory) (sym e) h)
+  predicts_same : (firsts : ℕ → ℕ) (m : List ℤ) (total : ℕ) → Predicts (is_relevant lat g ls o q) ls firsts q m total → Predicts (is_relevant lat g ls o p) ls firsts p m total
+  predicts_same firsts m total h =
+      subst (λ rel. Predicts rel ls firsts p m total) (sym (relevant-same p q e lat g ls o))
+      (subst (λ c. (n : ℕ) → length (notes_of c m n) < total → PredictsNext (is_relevant lat g ls o q) ls firsts (source_steps n (source_start c m)).todo (source_steps n (source_start c m)).memory) (sym e) h)
 
   begins_each_same : (m : List ℤ) (counts : ℕ → ℕ) → BeginsEach lat g ls o p m counts → BeginsEach lat g ls o q m counts
   begins_each_same m counts b =
@@ -53,7 +53,7 @@ module _ {E V M L M' L' : Type 0} (v : Env E) (order : Order) (serves : E → Ty
   few_halted_same : FewHalted v order serves g ls image p o t view → FewHalted v order serves g ls image q o t view
   few_halted_same few starts agree halts firsts predicts same tests =
       let r = few starts agree halts firsts
-      (Each-map (λ (s : Start E). Predicts (is_relevant lat g ls o q) ls firsts q s.memory) (λ s. Predicts (is_relevant lat g ls o p) ls firsts p s.memory) (λ s a. predicts_same p q e lat g ls o firsts s.memory a) starts predicts)
+      (Each-map (PredictsBy v lat g ls image q o t firsts) (PredictsBy v lat g ls image p o t firsts) (λ s a. predicts_same p q e lat g ls o firsts s.memory (notes_to v image t s) a) starts predicts)
       same tests in (
         r.0,
         Each-map (λ (s : Start E). BeginsEach lat g ls o p s.memory r.0) (λ s. BeginsEach lat g ls o q s.memory r.0) (λ s b. begins_each_same p q e lat g ls o s.memory r.0 b) starts r.1,
@@ -69,14 +69,14 @@ module _ {E V M L M' L' : Type 0} (v : Env E) (order : Order) (serves : E → Ty
       × (sharp (λ l. ends_by t firsts l + 1) order.size (λ l. most_ended v image (λ k. rel k && eqb (ls k) l) t starts) ≤ bound order o t (most_ended v image rel t starts)))
       (relevant-same p q e lat g ls o)
       (few starts agree firsts
-      (Each-map (λ (s : Start E). Predicts (is_relevant lat g ls o q) ls firsts q s.memory) (λ s. Predicts (is_relevant lat g ls o p) ls firsts p s.memory) (λ s a. predicts_same p q e lat g ls o firsts s.memory a) starts predicts)
+      (Each-map (PredictsBy v lat g ls image q o t firsts) (PredictsBy v lat g ls image p o t firsts) (λ s a. predicts_same p q e lat g ls o firsts s.memory (notes_to v image t s) a) starts predicts)
       same tests)
 
   few_shared_same : FewShared v order serves g ls image p o t view → FewShared v order serves g ls image q o t view
   few_shared_same few apart starts agree halts firsts predicts same tests =
       let apart' : StandApart (is_relevant lat g ls o p) (commands_of p) = subst (λ rel. StandApart rel (commands_of p)) (sym (relevant-same p q e lat g ls o)) (subst (StandApart (is_relevant lat g ls o q)) (sym e) apart) in
       let r = few apart' starts agree halts firsts
-      (Each-map (λ (s : Start E). Predicts (is_relevant lat g ls o q) ls firsts q s.memory) (λ s. Predicts (is_relevant lat g ls o p) ls firsts p s.memory) (λ s a. predicts_same p q e lat g ls o firsts s.memory a) starts predicts)
+      (Each-map (PredictsBy v lat g ls image q o t firsts) (PredictsBy v lat g ls image p o t firsts) (λ s a. predicts_same p q e lat g ls o firsts s.memory (notes_to v image t s) a) starts predicts)
       same tests in (
         r.0,
         Each-map (λ (s : Start E). BeginsEach lat g ls o p s.memory r.0) (λ s. BeginsEach lat g ls o q s.memory r.0) (λ s b. begins_each_same p q e lat g ls o s.memory r.0 b) starts r.1,

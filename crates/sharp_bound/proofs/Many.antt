@@ -7,12 +7,11 @@ use Rattle.label_lattice.specs.Order.{Order, lattice_of}
 use Rattle.env_contract.specs.Env.{Env}
 use Rattle.label_code.specs.Machine.{Event}
 use Rattle.label_code.specs.declared.code.Instr.{Instr}
-use Rattle.leak_bound.specs.Relevant.{is_relevant}
 use Rattle.leak_bound.specs.Records.{distinct, distinct_count, views, Tests, Each, Pairwise}
 use Rattle.leak_bound.specs.Sound.{Agree, seen_from}
 use Rattle.leak_bound.proofs.Same.{same_events, tests_events}
 use Rattle.leak_bound.proofs.Headline.{Each-map}
-use Rattle.sharp_bound.specs.Firsts.{Predicts}
+use Rattle.sharp_bound.specs.Firsts.{PredictsBy}
 use Rattle.sharp_bound.specs.Sharp.{cut_count, SharpSound, SharpCut}
 use Rattle.sharp_bound.specs.Twice.{both, that_show, Covers}
 use Rattle.sharp_bound.specs.Many.{seen_in, product_of, FewMany, SharpMany}
@@ -134,7 +133,7 @@ is_sharp_many {E} {X} {serves} v order g ls image p sound cut =
           let ys = that_show (seen_in view i) alike w xs in
           let r = cut_by serves v order (g i) (ls i) (image i) (p i) (cut i) o low (t i) (some i) (start i w) ys (firsts i)
           (those_agree (seen_in view i) alike tests (start i) (Agree v (lattice_of order) serves (g i) o) xs (agree i lt) w)
-          (those_hold (seen_in view i) alike tests (start i) (λ s. Predicts (is_relevant (lattice_of order) (g i) (ls i) o (p i)) (ls i) (firsts i) (p i) s.memory) xs (holds i lt) w) in
+          (those_hold (seen_in view i) alike tests (start i) (λ s. PredictsBy v (lattice_of order) (g i) (ls i) (image i) (p i) o (t i) (firsts i) s) xs (holds i lt) w) in
           let e = ap (cut_count v order (g i) (ls i) (image i) (p i) o (t i) (firsts i)) (those_views (seen_in view i) alike tests (start i) w xs) in
           let less = cut_less serves v order (g i) (ls i) (image i) (p i) o (t i) (firsts i) (λ x. start i (seen_in view i x) x) (λ x. alike w (seen_in view i x)) xs in
           few_shown _ same_events tests_events ys _ (omega (arith, r.count, e, less)));

@@ -31,7 +31,7 @@ use Rattle.label_code.specs.Visible.{visible}
 use Rattle.leak_bound.proofs.Digits.{digits_is, digits_of}
 use Rattle.sharp_bound.specs.Near.{h_high, all_high, naps, naps_image, power, powers, ShowApart, Nearly, NearlyReached}
 use Rattle.sharp_bound.specs.Guess.{FewShown}
-use Rattle.sharp_bound.specs.Firsts.{Predicts}
+use Rattle.sharp_bound.specs.Firsts.{PredictsBy, notes_to}
 use Rattle.sharp_count.specs.Count.{rising, sharp}
 use Rattle.sharp_bound.specs.Sharp.{relevant_at, ends_by, BeginsEach, SharpSound}
 use Rattle.sharp_count.proofs.Choose.{rising-none, one-rising}
@@ -119,9 +119,9 @@ sharp-one values (suc n) high counts h lt =
     omega (arith, times, sharp-one values n high counts h (omega arith)))
     (cases_eq high n)
 
-each_first : {E : Type 0} (rel : ℕ → Bool) (ls : ℕ → ℕ) (p : Marked) (starts : List (Start E)) → Each (λ s. Predicts rel ls (λ l. 1) p s.memory) starts
-each_first rel ls p [] = tt
-each_first rel ls p (s ∷ starts) = (at_least_one _ _ rel ls p s.memory, each_first rel ls p starts)
+each_first : {E : Type 0} (v : Env E) (lat : Lattice) (g ls : ℕ → ℕ) (image : List Instr) (p : Marked) (o t : ℕ) (starts : List (Start E)) → Each (λ s. PredictsBy v lat g ls image p o t (λ l. 1) s) starts
+each_first v lat g ls image p o t [] = tt
+each_first v lat g ls image p o t (s ∷ starts) = (at_least_one _ _ (is_relevant lat g ls o p) ls p s.memory (notes_to v image t s), each_first v lat g ls image p o t starts)
 
 div_one : (n : ℕ) → n / 1 ≡ n
 div_one n = omega arith
@@ -327,7 +327,7 @@ module _ {E : Type 0} (serves : E → Type 0) (part : Place → ℕ → E → Li
   most : o < order.size → high < order.size → SharpSound v order serves g ls image (naps lat high) → (t : ℕ) → 0 < t → (starts : List (Start E)) → Pairwise (Agree v lat serves g o) starts → Each (Halts v image t) starts → (same : List Event → List Event → Bool) → Tests same → FewShown (seen_from v lat g image o t) same starts (digits t)
   most low below sound t some [] agree halts same tests = few_shown (seen_from v lat g image o t) same tests [] (digits t) (omega arith)
   most low below sound t some (s ∷ starts) agree halts same tests =
-      let r = sound.few o low t some (s ∷ starts) agree halts (λ l. 1) (each_first (is_relevant lat g ls o (naps lat high)) ls (naps lat high) (s ∷ starts)) same tests in
+      let r = sound.few o low t some (s ∷ starts) agree halts (λ l. 1) (each_first v lat g ls image (naps lat high) o t (s ∷ starts)) same tests in
       let whole : ends_by t (λ l. 1) high ≡ digits t = ap digits (div_one t) in
       subst (FewShown (seen_from v lat g image o t) same (s ∷ starts)) (sharp-one (ends_by t (λ l. 1)) order.size high r.0 (begins_one s.memory r.0 r.1.0) below ∙ whole) r.2
 

@@ -6,10 +6,9 @@ use Rattle.env_contract.specs.Env.{Env}
 use Rattle.label_code.specs.Machine.{Event}
 use Rattle.label_code.specs.Run.{Start}
 use Rattle.label_code.specs.declared.code.Instr.{Instr}
-use Rattle.leak_bound.specs.Relevant.{is_relevant}
 use Rattle.leak_bound.specs.Records.{Each, Pairwise, Tests, views}
 use Rattle.leak_bound.specs.Sound.{Agree, seen_from, IsCompiled}
-use Rattle.sharp_bound.specs.Firsts.{Predicts}
+use Rattle.sharp_bound.specs.Firsts.{PredictsBy}
 use Rattle.sharp_bound.specs.Guess.{FewShown}
 use Rattle.sharp_bound.specs.Sharp.{cut_count}
 use Rattle.sharp_bound.specs.Twice.{that_show, Covers}
@@ -49,7 +48,7 @@ pub record SharpMany {E : Type 0} (X : Type 0) (v : Env E) (order : Order) (serv
       let view : ℕ → List (List Event) → X → List Event = λ i w x. seen_from v (lattice_of order) (g i) (image i) o (t i) (start i w x) in
       let next : ℕ → X → Start E = λ i x. start i (seen_in view i x) x in
       ((i : ℕ) → i < n → Pairwise (λ x y. seen_in view i x ≡ seen_in view i y → Agree v (lattice_of order) serves (g i) o (next i x) (next i y)) xs) →
-      ((i : ℕ) → i < n → Each (λ x. Predicts (is_relevant (lattice_of order) (g i) (ls i) o (p i)) (ls i) (firsts i) (p i) (next i x).memory) xs) →
+      ((i : ℕ) → i < n → Each (λ x. PredictsBy v (lattice_of order) (g i) (ls i) (image i) (p i) o (t i) (firsts i) (next i x)) xs) →
       (alike : List (List Event) → List (List Event) → Bool) → Tests alike →
       FewShown (seen_in view n) alike xs (product_of (λ i. cut_count v order (g i) (ls i) (image i) (p i) o (t i) (firsts i) (views (next i) xs)) n)
 

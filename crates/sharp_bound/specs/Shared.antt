@@ -9,7 +9,7 @@ use Rattle.leak_bound.specs.Relevant.{is_relevant}
 use Rattle.leak_bound.specs.Records.{Each, Pairwise, Tests}
 use Rattle.leak_bound.specs.Sound.{Agree, seen_from, Halts, IsCompiled}
 use Rattle.sharp_count.specs.Ways.{AreWays}
-use Rattle.sharp_bound.specs.Firsts.{Predicts}
+use Rattle.sharp_bound.specs.Firsts.{PredictsBy}
 use Rattle.sharp_bound.specs.Guess.{FewShown}
 use Rattle.sharp_bound.specs.Sharp.{BeginsEach}
 
@@ -42,7 +42,7 @@ FewShared {E} {V} v order serves g ls image p o t view =
     StandApart (is_relevant (lattice_of order) g ls o p) (commands_of p) →
     (starts : List (Start E)) →
     Pairwise (Agree v (lattice_of order) serves g o) starts → Each (Halts v image t) starts →
-    (firsts : ℕ → ℕ) → Each (λ s. Predicts (is_relevant (lattice_of order) g ls o p) ls firsts p s.memory) starts →
+    (firsts : ℕ → ℕ) → Each (λ s. PredictsBy v (lattice_of order) g ls image p o t firsts s) starts →
     (same : V → V → Bool) → Tests same →
     (counts : ℕ → ℕ)
     × Each (λ s. BeginsEach (lattice_of order) g ls o p s.memory counts) starts

@@ -14,7 +14,7 @@ use Rattle.leak_bound.specs.Records.{Each, Pairwise, Tests}
 use Rattle.leak_bound.specs.Sound.{Agree, seen_from, Halts, bound, FirstBegins, most_ended, IsCompiled}
 use Rattle.sharp_count.specs.Count.{sharp}
 use Rattle.sharp_count.specs.Levels.{miss_counts}
-use Rattle.sharp_bound.specs.Firsts.{Predicts}
+use Rattle.sharp_bound.specs.Firsts.{PredictsBy}
 use Rattle.sharp_bound.specs.Guess.{FewShown}
 
 -- whether the mitigate with a mark is relevant and of level l
@@ -41,7 +41,7 @@ abbrev pub FewHalted : {E V M L : Type 0} → Env E → Order → (E → Type 0)
 FewHalted {E} {V} v order serves g ls image p o t view =
     (starts : List (Start E)) →
     Pairwise (Agree v (lattice_of order) serves g o) starts → Each (Halts v image t) starts →
-    (firsts : ℕ → ℕ) → Each (λ s. Predicts (is_relevant (lattice_of order) g ls o p) ls firsts p s.memory) starts →
+    (firsts : ℕ → ℕ) → Each (λ s. PredictsBy v (lattice_of order) g ls image p o t firsts s) starts →
     (same : V → V → Bool) → Tests same →
     (counts : ℕ → ℕ)
     × Each (λ s. BeginsEach (lattice_of order) g ls o p s.memory counts) starts
@@ -59,7 +59,7 @@ cut_count v order g ls image p o t firsts starts =
 abbrev pub FewCut : {E V M L : Type 0} → Env E → Order → (E → Type 0) → (ℕ → ℕ) → (ℕ → ℕ) → List Instr → Todo M L → ℕ → ℕ → (Start E → V) → Type 0
 FewCut {E} {V} v order serves g ls image p o t view =
     (starts : List (Start E)) → Pairwise (Agree v (lattice_of order) serves g o) starts →
-    (firsts : ℕ → ℕ) → Each (λ s. Predicts (is_relevant (lattice_of order) g ls o p) ls firsts p s.memory) starts →
+    (firsts : ℕ → ℕ) → Each (λ s. PredictsBy v (lattice_of order) g ls image p o t firsts s) starts →
     (same : V → V → Bool) → Tests same →
     FewShown view same starts (cut_count v order g ls image p o t firsts starts)
     × (cut_count v order g ls image p o t firsts starts ≤ bound order o t (most_ended v image (is_relevant (lattice_of order) g ls o p) t starts))

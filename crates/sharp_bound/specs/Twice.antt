@@ -7,12 +7,11 @@ use Rattle.env_contract.specs.Env.{Env}
 use Rattle.label_code.specs.Machine.{Event}
 use Rattle.label_code.specs.Run.{Start, run_from}
 use Rattle.label_code.specs.declared.code.Instr.{Instr}
-use Rattle.leak_bound.specs.Relevant.{is_relevant}
 use Rattle.leak_bound.specs.Records.{Each, Pairwise, Tests, views}
 use Rattle.leak_bound.specs.Sound.{Agree, seen_from, Halts, IsCompiled}
 use Rattle.sharp_bound.specs.Guess.{FewShown}
 use Rattle.sharp_count.specs.Count.{sharp}
-use Rattle.sharp_bound.specs.Firsts.{Predicts}
+use Rattle.sharp_bound.specs.Firsts.{PredictsBy}
 use Rattle.sharp_bound.specs.Sharp.{BeginsEach, ends_by, cut_count}
 
 -- the first view, and then the second
@@ -36,7 +35,7 @@ FewTwice X V W =
 -- as many as it begins of each level
 pub record Covers {E M L : Type 0} (v : Env E) (order : Order) (g ls : ℕ → ℕ) (image : List Instr) (p : Todo M L) (o t : ℕ) (firsts : ℕ → ℕ) (n : ℕ) (s : Start E) : Type 0 where
   pub halts : Halts v image t s
-  pub predicts : Predicts (is_relevant (lattice_of order) g ls o p) ls firsts p s.memory
+  pub predicts : PredictsBy v (lattice_of order) g ls image p o t firsts s
   pub counts : (counts : ℕ → ℕ) → BeginsEach (lattice_of order) g ls o p s.memory counts → sharp (ends_by t firsts) order.size counts ≤ n
 
 -- Of a secret x the run from first x is seen to T, and then, of the same or of another program, the run from
@@ -60,8 +59,8 @@ pub record SharpTwice {E M L M' L' : Type 0} (X : Type 0) (v : Env E) (order : O
       let later : X → Start E = λ x. second (see x) x in
       Pairwise (λ x y. Agree v (lattice_of order) serves g o (first x) (first y)) xs →
       Pairwise (λ x y. see x ≡ see y → Agree v (lattice_of order) serves g' o (later x) (later y)) xs →
-      Each (λ x. Predicts (is_relevant (lattice_of order) g ls o p) ls firsts p (first x).memory) xs →
-      Each (λ x. Predicts (is_relevant (lattice_of order) g' ls' o p') ls' firsts' p' (later x).memory) xs →
+      Each (λ x. PredictsBy v (lattice_of order) g ls image p o t firsts (first x)) xs →
+      Each (λ x. PredictsBy v (lattice_of order) g' ls' image' p' o t' firsts' (later x)) xs →
       (alike : List Event × List Event → List Event × List Event → Bool) → Tests alike →
       FewShown (both see (λ w x. seen_from v (lattice_of order) g' image' o t' (second w x))) alike xs
       (cut_count v order g ls image p o t firsts (views first xs) * cut_count v order g' ls' image' p' o t' firsts' (views later xs))

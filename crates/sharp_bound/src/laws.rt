@@ -20,7 +20,7 @@ use env_contract::flat::FlatEnv;
 /// Nor is seeing the run worth more to one who guesses the start: it multiplies the greatest weight by at most
 /// that number.
 ///
-/// `halted`: for runs that halt by T. Where the relevant mitigations of a level that the program begins have a first
+/// `halted`: for runs that halt by T. Where the relevant mitigations of a level that these runs begin have a first
 /// prediction of e or more, and at least 1, there are as many miss counts as T div e has binary digits. The product is at
 /// most (K + 1) ^ (L * (b - 1)), where K counts the relevant mitigates that begin and b the binary digits of T.
 ///
