@@ -12,7 +12,7 @@ pub mod Twice
 pub mod Both
 pub mod Sleeper
 pub mod TwoLabels
-pub mod Lowered
 pub mod Many
 pub mod Choices
 pub mod Shared
+pub mod Lowered

@@ -2,7 +2,7 @@
 use Rattle.std.proofs.Common.{◌≡◌, ℕ, zero, suc, ◌*◌, ◌≤◌, List, [], ◌∷◌, length, Bool, true, false, refl, sym, ap, ◌∙◌, subst, arith}
 use Rattle.std.specs.Prelude.{cond, not}
 use Rattle.std.specs.List.{filter}
-use Rattle.mit_syntax.specs.Todo.{Marked}
+use Rattle.mit_syntax.specs.Todo.{Todo}
 use Rattle.label_lattice.specs.Order.{Order, lattice_of}
 use Rattle.env_contract.specs.Env.{Env}
 use Rattle.label_code.specs.Machine.{Event}
@@ -116,9 +116,9 @@ those_views see same tests start w (y ∷ ys) = one (same w (see y)) refl (those
     one true e r = ap (λ z. start z y ∷ views (start w) (that_show see same w ys)) (tests.same_to w (see y) e) ∙ ap (λ z. start (see y) y ∷ z) r
     one false e r = r
 
-pub is_sharp_many : {E X : Type 0} {serves : E → Type 0} (v : Env E) (order : Order) (g ls : ℕ → ℕ → ℕ) (image : ℕ → List Instr) (p : ℕ → Marked) →
+pub is_sharp_many : {E X M L : Type 0} {serves : E → Type 0} (v : Env E) (order : Order) (g ls : ℕ → ℕ → ℕ) (image : ℕ → List Instr) (p : ℕ → Todo M L) →
     ((i : ℕ) → SharpSound v order serves (g i) (ls i) (image i) (p i)) → ((i : ℕ) → SharpCut v order serves (g i) (ls i) (image i) (p i)) → SharpMany X v order serves g ls image p
-is_sharp_many {E} {X} {serves} v order g ls image p sound cut =
+is_sharp_many {E} {X} {M} {L} {serves} v order g ls image p sound cut =
     record {
       halted = λ o low t some start xs firsts ms n agree holds alike tests.
           let view : ℕ → List (List Event) → X → List Event = λ i w x. seen_from v (lattice_of order) (g i) (image i) o (t i) (start i w x) in

@@ -5,6 +5,6 @@ pub mod Sharp
 pub mod End
 pub mod Twice
 pub mod Sleeper
-pub mod Lowered
 pub mod Many
 pub mod Shared
+pub mod Lowered

@@ -1,6 +1,6 @@
 -- Any number of runs after each other of one secret: all that was seen before decides which run is the next.
 use Rattle.std.specs.Prelude.{◌≡◌, ℕ, zero, suc, ◌*◌, ◌<◌, List, [], ◌∷◌, Bool}
-use Rattle.mit_syntax.specs.Todo.{Marked}
+use Rattle.mit_syntax.specs.Todo.{Todo, Marked}
 use Rattle.label_lattice.specs.Order.{Order, lattice_of}
 use Rattle.env_contract.specs.Env.{Env}
 use Rattle.label_code.specs.Machine.{Event}
@@ -34,7 +34,7 @@ FewMany X V =
 -- Of a secret x run number i, of program number i, goes from start i w x and is seen to its T, where w is all that
 -- was seen before. The start may hold what the runs before left in memory and environment, since the secret tells that.
 -- Where the starts of secrets that have shown the same agree, all runs together show few.
-pub record SharpMany {E : Type 0} (X : Type 0) (v : Env E) (order : Order) (serves : E → Type 0) (g ls : ℕ → ℕ → ℕ) (image : ℕ → List Instr) (p : ℕ → Marked) : Type 0 where
+pub record SharpMany {E M L : Type 0} (X : Type 0) (v : Env E) (order : Order) (serves : E → Type 0) (g ls : ℕ → ℕ → ℕ) (image : ℕ → List Instr) (p : ℕ → Todo M L) : Type 0 where
   -- runs that halt: at most the product of the sharp counts
   pub halted : (o : ℕ) → o < order.size → (t : ℕ → ℕ) → ((i : ℕ) → 0 < t i) → (start : ℕ → List (List Event) → X → Start E) (xs : List X) (firsts : ℕ → ℕ → ℕ) (ms : ℕ → ℕ) (n : ℕ) →
       let view : ℕ → List (List Event) → X → List Event = λ i w x. seen_from v (lattice_of order) (g i) (image i) o (t i) (start i w x) in

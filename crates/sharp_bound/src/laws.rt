@@ -2,7 +2,7 @@
 
 ghost use Rattle.sharp_bound.specs.End.{SharpEndAll};
 ghost use Rattle.sharp_bound.specs.Firsts.{AtLeastOne};
-ghost use Rattle.sharp_bound.specs.Lowered.{LoweredSharpAll, LoweredSharpCutAll, LoweredSharpEndAll, LoweredSharedAll};
+ghost use Rattle.sharp_bound.specs.Lowered.{LoweredSharpAll, LoweredSharpCutAll, LoweredSharpEndAll, LoweredSharedAll, LoweredManyAll, LoweredLeavesAgree};
 ghost use Rattle.sharp_bound.specs.Many.{FewMany, SharpManyAll};
 ghost use Rattle.sharp_bound.specs.Near.{NearlyReached, TwoLabels};
 ghost use Rattle.sharp_bound.specs.Sharp.{SharpSoundAll, SharpCutAll};
@@ -137,6 +137,13 @@ pub fn few_many<X, V>()
 /// `few_sequences_twice`, clause `left`, it agrees where it should.
 pub fn few_sequences_many<X, E: MachineEnv>()
     ensures { SharpManyAll X (record { cost_of = E.cost_of; next_of = E.next_of; part = E.part }) E.serves }
+{}
+
+/// The same for the images that `lower` makes of labelled programs over one lattice: `many`. What their halted runs leave
+/// in memory and environment agrees where the starts agree: `left`.
+pub fn lowered_few_sequences_many<X, E: MachineEnv>()
+    ensures many { LoweredManyAll X (record { cost_of = E.cost_of; next_of = E.next_of; part = E.part }) E.serves }
+    ensures left { LoweredLeavesAgree (record { cost_of = E.cost_of; next_of = E.next_of; part = E.part }) E.serves }
 {}
 
 /// Where the end label does not flow to the observer, the cycle of the end is bounded by no count: `sleep h` is
