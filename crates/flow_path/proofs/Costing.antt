@@ -1,0 +1,70 @@
+-- The order of costs.
+use Rattle.std.proofs.Common.{◌≡◌, ℕ, ◌+◌, ◌<◌, ◌≤◌, refl, subst, arith, ⊎_elim, inl, inr}
+use Rattle.std.specs.Prelude.{Bool, true, false, cond, ◌⊎◌}
+use Rattle.std.proofs.lemmas.Bool.{cases_lt}
+use Rattle.flow_path.specs.declared.step.How.{How}
+use Rattle.flow_path.specs.declared.cost.Cost.{Cost}
+use Rattle.flow_path.specs.Chains.{is_faint}
+use Rattle.flow_path.specs.Costs.{nothing_yet, add, IsLe}
+
+pub le_refl : (a : Cost) → IsLe a a
+le_refl a = inr (refl, omega arith)
+
+pub le_is : (a b : Cost) → a ≡ b → IsLe a b
+le_is a b e = subst (λ z. IsLe a z) e (le_refl a)
+
+pub le_trans : (a b c : Cost) → IsLe a b → IsLe b c → IsLe a c
+le_trans a b c h k = ⊎_elim
+    (λ (x : a.faint < b.faint). ⊎_elim
+    (λ (y : b.faint < c.faint). inl (omega (arith, x, y)))
+    (λ (y : (b.faint ≡ c.faint) × (b.steps ≤ c.steps)). let e = y.0 in inl (omega (arith, x, e)))
+    k)
+    (λ (x : (a.faint ≡ b.faint) × (a.steps ≤ b.steps)).
+    let e = x.0 in
+    let f = x.1 in
+    ⊎_elim
+    (λ (y : b.faint < c.faint). inl (omega (arith, e, y)))
+    (λ (y : (b.faint ≡ c.faint) × (b.steps ≤ c.steps)).
+    let i = y.0 in
+    let j = y.1 in
+    inr (omega (arith, e, i), omega (arith, f, j)))
+    k)
+    h
+
+le_plus : (n : ℕ) (a b : Cost) → IsLe a b → IsLe (record { faint = n + a.faint; steps = 1 + a.steps }) (record { faint = n + b.faint; steps = 1 + b.steps })
+le_plus n a b h = ⊎_elim
+    (λ (x : a.faint < b.faint). inl (omega (arith, x)))
+    (λ (x : (a.faint ≡ b.faint) × (a.steps ≤ b.steps)).
+    let e = x.0 in
+    let f = x.1 in
+    inr (omega (arith, e), omega (arith, f)))
+    h
+
+pub le_add : (h : How) (a b : Cost) → IsLe a b → IsLe (add a h) (add b h)
+le_add h a b l = le_plus (cond (is_faint h) 1 0) a b l
+
+more_plus : (n : ℕ) (a : Cost) → IsLe a (record { faint = n + a.faint; steps = 1 + a.steps })
+more_plus n a = ⊎_elim
+    (λ (x : a.faint < n + a.faint). inl x)
+    (λ (x : n + a.faint ≤ a.faint). inr (omega (arith, x), omega arith))
+    (cases_lt a.faint (n + a.faint))
+
+pub le_more : (h : How) (a : Cost) → IsLe a (add a h)
+le_more h a = more_plus (cond (is_faint h) 1 0) a
+
+faint_plus : (n : ℕ) (a : Cost) → n ≤ 1 → a.faint ≤ a.steps → n + a.faint ≤ 1 + a.steps
+faint_plus n a h k = omega (arith, h, k)
+
+pub faint_add : (h : How) (a : Cost) → a.faint ≤ a.steps → (add a h).faint ≤ (add a h).steps
+faint_add h a k = faint_plus (cond (is_faint h) 1 0) a (go (is_faint h)) k
+  where
+    go : (b : Bool) → cond b 1 0 ≤ 1
+    go true = omega arith
+    go false = omega arith
+
+-- so no cost is one step more than itself, or less
+pub not_more : (a : Cost) → IsLe (record { faint = a.faint; steps = 1 + a.steps }) a → ⊥
+not_more a h = ⊎_elim
+    (λ (x : a.faint < a.faint). omega (arith, x))
+    (λ (x : (a.faint ≡ a.faint) × (1 + a.steps ≤ a.steps)). let e = x.1 in omega (arith, e))
+    h

@@ -1,0 +1,112 @@
+-- Reasons for a refusal are the chains that a search goes.
+use Rattle.std.proofs.Common.{◌≡◌, ℕ, refl, sym, ap, ◌∙◌, subst, List, [], ◌∷◌, ◌++◌}
+use Rattle.std.specs.Prelude.{Bool, true, false, not, Option, None, Some, Contains}
+use Rattle.std.proofs.lemmas.Bool.{both_ways}
+use Rattle.std.proofs.lemmas.Option.{none-some, same_Some}
+use Rattle.tim_base.specs.declared.pos.Pos.{Pos}
+use Rattle.label_lattice.specs.declared.label.Label.{Label}
+use Rattle.label_lattice.specs.Order.{lattice_of}
+use Rattle.mit_syntax.specs.Program.{Syntax}
+use Rattle.timing_types.specs.declared.rule.Rule.{Rule}
+use Rattle.timing_types.specs.declared.rule.TypeFault.TheVariants.{Refused}
+use Rattle.label_infer.proofs.Right.{Each}
+use Rattle.flow_path.specs.declared.step.Spot.{Spot}
+use Rattle.flow_path.specs.declared.step.Step.{Step}
+use Rattle.flow_path.specs.declared.graph.Node.{Node}
+use Rattle.flow_path.specs.declared.graph.Condition.{Condition}
+use Rattle.flow_path.specs.declared.target.Target.TheVariants.{Broken}
+use Rattle.flow_path.specs.Steps.{written, steps_of}
+use Rattle.flow_path.specs.Chains.{Leads, IsWhy, last_step, GoesBy, GoesByOmitted, IsReason, AreNoCheaper}
+use Rattle.flow_path.specs.Targets.{IsGoalBy}
+use Rattle.flow_path.specs.Search.{Where, Goes, BeginsAt, IsKnown, IsCheapest}
+use Rattle.flow_path.proofs.Complete.{KnownStep}
+
+high_is : (b : Bool) → (b ≡ true → ⊥) → not b ≡ true
+high_is true h = absurd (h refl)
+high_is false h = refl
+
+is_high : (b : Bool) → not b ≡ true → b ≡ true → ⊥
+is_high true e f = both_ways false refl e
+is_high false e f = both_ways false refl f
+
+last_side : (s : Syntax) (p : Spot) (xs : List Step) (q : Spot) (st : Step) → Leads s p xs q → last_step xs ≡ Some st → st.side ≡ q
+last_side s p [] q st l e = absurd (none-some st e)
+last_side s p (x ∷ []) q st l e = ap (λ (z : Step). z.side) (sym (same_Some x st e)) ∙ l.2
+last_side s p (x ∷ (y ∷ xs)) q st l e = last_side s x.side (y ∷ xs) q st l.2 e
+
+module _ (s : Syntax) (ns : List Node) (cs : List Condition) (rule : Rule) (pos : Pos) (have allowed : Label) where
+  abbrev x : Where
+  x = record { program = s; nodes = ns; conditions = cs; target = Broken rule pos allowed }
+
+  record Whole (chain : List Step) (p : Spot) : Type 0 where
+    pub last : Spot
+    pub leads : Leads s p chain last
+    pub step : Step
+    pub ends : last_step chain ≡ Some step
+    pub goal : (step.rule ≡ rule) × (step.pos ≡ pos) × (written s step.side ≡ Some allowed.number)
+    pub side : step.side ≡ last
+    pub omitted : GoesByOmitted s chain
+
+  whole : (t : Step) (ts : List Step) → Goes x (t ∷ ts) → Whole (t ∷ ts) t.part.spot
+  whole t [] g = record { last = t.side; leads = (g.0, refl, refl); step = t; ends = refl; goal = g.1; side = refl; omitted = tt }
+  whole t (u ∷ ts) g =
+      let r = whole u ts g.3 in
+      record { last = r.last; leads = (g.0, refl, subst (λ z. Leads s z (u ∷ ts) r.last) g.2 r.leads); step = r.step; ends = r.ends; goal = r.goal; side = r.side; omitted = (g.1, r.omitted) }
+
+  to_reason : (chain : List Step) (a : ℕ) → Goes x chain → BeginsAt x chain a → IsReason s (Refused rule pos have allowed) chain
+  to_reason [] a g b = absurd g
+  to_reason (t ∷ ts) a g b =
+      let r = whole t ts g in
+      record {
+        why = record {
+          first = t.part.spot;
+          last = r.last;
+          have = a;
+          allowed = allowed.number;
+          begins = b.0;
+          ends = ap (λ z. written s z) (sym r.side) ∙ r.goal.2;
+          leads = r.leads;
+          high = λ f. is_high ((lattice_of s.order).flows a allowed.number) b.1 f;
+        };
+        ends = record { step = r.step; last = r.ends; rule = r.goal.0; pos = r.goal.1; side = r.goal.2 };
+        omitted = r.omitted;
+      }
+
+  goes_of : (p : Spot) (t : Step) (ts : List Step) (q : Spot) → Leads s p (t ∷ ts) q → GoesByOmitted s (t ∷ ts) → GoesBy s (t ∷ ts) rule pos allowed → Goes x (t ∷ ts)
+  goes_of p t [] q l o e = (l.0, subst (λ (z : Step). (z.rule ≡ rule) × (z.pos ≡ pos) × (written s z.side ≡ Some allowed.number)) (sym (same_Some t e.step e.last)) (e.rule, e.pos, e.side))
+  goes_of p t (u ∷ ts) q l o e = (l.0, o.0, l.2.1, goes_of t.side u ts q l.2 o.1 (record { step = e.step; last = e.last; rule = e.rule; pos = e.pos; side = e.side }))
+
+  from_reason : (chain : List Step) → IsReason s (Refused rule pos have allowed) chain → Goes x chain × ((a : ℕ) × BeginsAt x chain a)
+  from_reason [] r = absurd (none-some r.ends.step r.ends.last)
+  from_reason (t ∷ ts) r =
+      let w = r.why in
+      let e = r.ends in
+      let side = last_side s w.first (t ∷ ts) w.last e.step w.leads e.last in
+      let same : w.allowed ≡ allowed.number = same_Some w.allowed allowed.number (sym w.ends ∙ ap (λ z. written s z) (sym side) ∙ e.side) in (
+        goes_of w.first t ts w.last w.leads r.omitted e,
+        (w.have, (ap (λ z. written s z) w.leads.1 ∙ w.begins, high_is ((lattice_of s.order).flows w.have allowed.number) (λ f. w.high (ap (λ z. (lattice_of s.order).flows w.have z) same ∙ f)))),
+      )
+
+  -- a cheapest chain is a reason, and no reason is cheaper
+  pub reason_is : (chain : List Step) → IsCheapest x chain → IsReason s (Refused rule pos have allowed) chain × AreNoCheaper s (Refused rule pos have allowed) chain
+  reason_is chain c = (to_reason chain c.have c.goes c.begins, λ q r. let w = from_reason q r in c.cheapest q w.1.0 w.0 w.1.1)
+
+  -- a chain to a step's part, and then the step
+  goes_with : (p : Spot) (xs : List Step) (q : Spot) (st : Step) → Leads s p xs q → Each (λ (z : Step). written s z.side ≡ None) xs → st.part.spot ≡ q → Contains (steps_of s) st → IsGoalBy s (Broken rule pos allowed) st.rule st.pos st.side → Goes x (xs ++ st ∷ [])
+  goes_with p [] q st l o e c g = (c, g)
+  goes_with p (y ∷ []) q st l o e c g = (l.0, o.0, e ∙ sym l.2, (c, g))
+  goes_with p (y ∷ (z ∷ xs)) q st l o e c g = (l.0, o.0, l.2.1, goes_with y.side (z ∷ xs) q st l.2 o.1 e c g)
+
+  begins_with : (p : Spot) (xs : List Step) (q : Spot) (st : Step) (a : ℕ) → Leads s p xs q → st.part.spot ≡ q → written s p ≡ Some a → not ((lattice_of s.order).flows a allowed.number) ≡ true → BeginsAt x (xs ++ st ∷ []) a
+  begins_with p [] q st a l e w h = (ap (λ z. written s z) (e ∙ sym l) ∙ w, h)
+  begins_with p (y ∷ xs) q st a l e w h = (ap (λ z. written s z) l.1 ∙ w, h)
+
+  pub is_known : KnownStep s rule pos allowed.number → IsKnown x
+  is_known k =
+      let r = k.reached in
+      record {
+        chain = r.chain ++ k.step ∷ [];
+        have = r.have;
+        goes = goes_with r.first r.chain k.step.part.spot k.step r.leads r.omitted refl k.there (k.rule, k.pos, k.side);
+        begins = begins_with r.first r.chain k.step.part.spot k.step r.have r.leads refl r.begins (ap not r.high);
+      }

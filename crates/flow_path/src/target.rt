@@ -1,0 +1,73 @@
+//! What a search looks for.
+
+ghost use Rattle.std.specs.Prelude.{◌≡◌, true, Some};
+ghost use Rattle.flow_path.specs.Steps.{written};
+ghost use Rattle.flow_path.specs.Targets.{IsGoalBy, is_high, leads_on};
+
+use crate::graph::Condition;
+use crate::step::Spot;
+use crate::written::written_at;
+use label_lattice::label::Label;
+use mit_syntax::program::Program;
+use tim_base::pos::Pos;
+use timing_types::rule::Rule;
+
+/// Where chains are to end: at the condition that a refusal tells of, or at an omitted label.
+#[derive(Clone, Copy)]
+pub(crate) enum Target {
+    Broken {
+        rule: Rule,
+        pos: Pos,
+        allowed: Label,
+    },
+    Omitted(Spot),
+}
+
+/// Whether the condition is the broken one.
+fn is_broken(c: &Condition, p: &Program, rule: Rule, pos: Pos, allowed: Label) -> bool
+    ensures goal { result ≡ true → (c.now.rule ≡ rule) × (c.now.pos ≡ pos) × (written p.now c.now.side ≡ Some allowed.number) }
+    ensures only { (c.now.rule ≡ rule) × (c.now.pos ≡ pos) × (written p.now c.now.side ≡ Some allowed.number) → result ≡ true }
+{
+    if c.rule != rule || c.pos != pos {
+        return false;
+    }
+    match written_at(p, &c.side) {
+        Some(label) => label.number == allowed.number,
+        None => false,
+    }
+}
+
+/// Whether a chain is to end by this condition.
+pub(crate) fn is_goal(c: &Condition, p: &Program, target: &Target) -> bool
+    ensures goal { result ≡ true → IsGoalBy p.now target.now c.now.rule c.now.pos c.now.side }
+    ensures only { IsGoalBy p.now target.now c.now.rule c.now.pos c.now.side → result ≡ true }
+{
+    match target {
+        Target::Broken { rule, pos, allowed } => is_broken(c, p, *rule, *pos, *allowed),
+        Target::Omitted(spot) => c.side == *spot,
+    }
+}
+
+/// Whether a chain is to begin at this written label.
+pub(crate) fn is_high(p: &Program, label: Label, target: &Target) -> bool
+    ensures { result ≡ is_high p.now target.now label.number }
+{
+    match target {
+        Target::Broken {
+            rule: _,
+            pos: _,
+            allowed,
+        } => !p.lattice().flows(label, *allowed),
+        Target::Omitted(_) => true,
+    }
+}
+
+/// Whether a chain may begin there, or come from before there.
+pub(crate) fn leads_on(p: &Program, spot: &Spot, target: &Target) -> bool
+    ensures { result ≡ leads_on p.now target.now spot.now }
+{
+    match written_at(p, spot) {
+        Some(label) => is_high(p, label, target),
+        None => true,
+    }
+}
