@@ -52,7 +52,7 @@ module _ {E V M L M' L' : Type 0} (v : Env E) (order : Order) (serves : E → Ty
   abbrev lat : Lattice
   lat = lattice_of order
 
-  few_halted_same : FewHalted v order serves g ls image p o t view → FewHalted v order serves g ls image q o t view
+  pub few_halted_same : FewHalted v order serves g ls image p o t view → FewHalted v order serves g ls image q o t view
   few_halted_same few starts agree halts firsts predicts same tests =
       let r = few starts agree halts firsts
       (Each-map (PredictsBy v lat g ls image q o t firsts) (PredictsBy v lat g ls image p o t firsts) (λ s a. predicts_same p q e lat g ls o firsts s.memory (notes_to v image t s) a) starts predicts)
@@ -63,7 +63,7 @@ module _ {E V M L M' L' : Type 0} (v : Env E) (order : Order) (serves : E → Ty
         λ k b. r.3 k (first_same q p (sym e) lat g ls o starts k b),
       )
 
-  few_cut_same : FewCut v order serves g ls image p o t view → FewCut v order serves g ls image q o t view
+  pub few_cut_same : FewCut v order serves g ls image p o t view → FewCut v order serves g ls image q o t view
   few_cut_same few starts agree firsts predicts same tests =
       subst
       (λ rel.
@@ -74,7 +74,7 @@ module _ {E V M L M' L' : Type 0} (v : Env E) (order : Order) (serves : E → Ty
       (Each-map (PredictsBy v lat g ls image q o t firsts) (PredictsBy v lat g ls image p o t firsts) (λ s a. predicts_same p q e lat g ls o firsts s.memory (notes_to v image t s) a) starts predicts)
       same tests)
 
-  few_shared_same : FewShared v order serves g ls image p o t view → FewShared v order serves g ls image q o t view
+  pub few_shared_same : FewShared v order serves g ls image p o t view → FewShared v order serves g ls image q o t view
   few_shared_same few apart starts agree halts firsts predicts same tests =
       let apart' : StandApart (is_relevant lat g ls o p) (commands_of p) = subst (λ rel. StandApart rel (commands_of p)) (sym (relevant-same p q e lat g ls o)) (subst (StandApart (is_relevant lat g ls o q)) (sym e) apart) in
       let r = few apart' starts agree halts firsts

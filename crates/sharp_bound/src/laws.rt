@@ -45,6 +45,40 @@ pub fn lowered_few_sequences_sharp<E: MachineEnv>()
     ensures shared { LoweredSharedAll (record { cost_of = E.cost_of; next_of = E.next_of; part = E.part }) E.serves }
 {}
 
+/// The same for what `lower` makes of a labelled program, in the flat environment.
+pub fn lowered_few_sequences_sharp_flat()
+    ensures halted { LoweredSharpAll
+        (record {
+          cost_of = ⟦<FlatEnv as MachineEnv>⟧.cost_of;
+          next_of = ⟦<FlatEnv as MachineEnv>⟧.next_of;
+          part = ⟦<FlatEnv as MachineEnv>⟧.part;
+        })
+        ⟦<FlatEnv as MachineEnv>⟧.serves }
+    ensures cut { LoweredSharpCutAll
+        (record {
+          cost_of = ⟦<FlatEnv as MachineEnv>⟧.cost_of;
+          next_of = ⟦<FlatEnv as MachineEnv>⟧.next_of;
+          part = ⟦<FlatEnv as MachineEnv>⟧.part;
+        })
+        ⟦<FlatEnv as MachineEnv>⟧.serves }
+    ensures ended { LoweredSharpEndAll
+        (record {
+          cost_of = ⟦<FlatEnv as MachineEnv>⟧.cost_of;
+          next_of = ⟦<FlatEnv as MachineEnv>⟧.next_of;
+          part = ⟦<FlatEnv as MachineEnv>⟧.part;
+        })
+        ⟦<FlatEnv as MachineEnv>⟧.serves }
+    ensures shared { LoweredSharedAll
+        (record {
+          cost_of = ⟦<FlatEnv as MachineEnv>⟧.cost_of;
+          next_of = ⟦<FlatEnv as MachineEnv>⟧.next_of;
+          part = ⟦<FlatEnv as MachineEnv>⟧.part;
+        })
+        ⟦<FlatEnv as MachineEnv>⟧.serves }
+{
+    lowered_few_sequences_sharp::<FlatEnv>();
+}
+
 /// Time is shared: where no relevant mitigate of an accepted program stands in another, starts that agree and halt by T
 /// show at most as many sequences as there are choices of miss counts, for each level as many as relevant mitigations of
 /// it begin, that never fall and whose `e * 2 ^ m` add up to at most T. `ways_are_few` says that these are no more than
