@@ -1,0 +1,5 @@
+pub mod Told
+pub mod Follow
+pub mod Instructions
+pub mod Advance
+pub mod Placing
