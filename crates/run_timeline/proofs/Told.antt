@@ -1,5 +1,5 @@
 -- What steps tell: it does not depend on the log before, it makes up the log, and a stopped run tells no more.
-use Rattle.std.proofs.Common.{◌≡◌, ℕ, zero, suc, ◌+◌, ◌<◌, ◌≤◌, List, [], ◌∷◌, ◌++◌, refl, sym, ap, ◌∙◌, append_assoc, append-nil, arith}
+use Rattle.std.proofs.Common.{◌≡◌, ℕ, zero, suc, ◌+◌, ◌<◌, ◌≤◌, List, [], ◌∷◌, ◌++◌, refl, sym, ap, ◌∙◌, append_assoc, append-nil, zero-add, arith}
 use Rattle.std.specs.Prelude.{Bool, true, false, cond, ℤ, Option, Some, None, map, slice_get}
 use Rattle.std.proofs.lemmas.List.{map-append}
 use Rattle.mit_syntax.specs.Todo.{Marks}
@@ -71,6 +71,14 @@ module _ {E : Type 0} (v : Env E) (code : List Instr) where
   pub moments_last : (k : ℕ) (x : Machine E) → moments v code (suc k) x ≡ moments v code k x ++ told v code (steps v code k x)
   moments_last zero x = append-nil (told v code x)
   moments_last (suc k) x = ap (λ z. told v code x ++ z) (moments_last k (step v code x)) ∙ sym (append_assoc (told v code x) (moments v code k (step v code x)) (told v code (steps v code k (step v code x))))
+
+  pub moments_add : (k j : ℕ) (x : Machine E) → moments v code (k + j) x ≡ moments v code k x ++ moments v code j (steps v code k x)
+  moments_add zero j x = ap (λ n. moments v code n x) (zero-add j)
+  moments_add (suc k) j x =
+      let e : suc k + j ≡ suc (k + j) = omega arith in
+      ap (λ n. moments v code n x) e
+      ∙ (ap (λ z. told v code x ++ z) (moments_add k j (step v code x))
+      ∙ sym (append_assoc (told v code x) (moments v code k (step v code x)) (moments v code j (steps v code k (step v code x)))))
 
   steps_told : (k : ℕ) (x : Machine E) → (steps v code k x).core.log ≡ x.core.log ++ map event_of (moments v code k x)
   steps_told zero x = sym (append-nil x.core.log)

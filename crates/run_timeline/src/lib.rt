@@ -3,7 +3,14 @@
 
 mod closing;
 pub mod laws;
+mod lines;
+pub mod listing;
 pub mod load;
 pub mod moment;
-pub mod places;
+mod places;
+pub mod print;
+mod shown;
 mod step;
+pub mod summary;
+pub mod tally;
+mod write;
