@@ -1,10 +1,10 @@
 //! What a call is given: words and files from rows of bytes.
 
-ghost use Rattle.std.specs.Prelude.{◌≡◌, ℕ, List, Option, IfOk, map, string_bytes, take, drop};
+ghost use Rattle.std.specs.Prelude.{◌≡◌, ◌∷◌, [], ℕ, List, IfOk, map, string_bytes, take, drop};
 ghost use Rattle.tim_base.specs.Shelves.{bytes_at};
-ghost use Rattle.mit_web.specs.Calls.{held_by, pieces, put_over};
+ghost use Rattle.mit_web.specs.Calls.{PutsAll, held_by, pieces};
 
-use std::alloc::{AllocError, Global};
+use std::alloc::{AllocError, AllocFailed, Global};
 use tim_base::shelf::MemShelf;
 use tim_base::sink::MemSink;
 
@@ -18,7 +18,13 @@ pub enum GivenFault {
 }
 
 impl From<AllocError> for GivenFault {
-    fn from(_: AllocError) -> GivenFault {
+    fn from(_refused: AllocError) -> GivenFault {
+        GivenFault::Memory
+    }
+}
+
+impl<T: Drop> From<AllocFailed<T>> for GivenFault {
+    fn from(_refused: AllocFailed<T>) -> GivenFault {
         GivenFault::Memory
     }
 }
@@ -51,24 +57,35 @@ pub fn texts(alloc: Global, lengths: &[u64], row: &[u8]) -> Result<Vec<String>, 
     Ok(made)
 }
 
+// Puts a file.
+#[tactic(auto, using(crate::proofs::Puts::puts_one))]
+fn put_one(shelf: &mut MemShelf, name: &str, content: &[u8]) -> Result<(), GivenFault>
+    ensures { IfOk result (λ u. PutsAll shelf.old shelf.new (name.now ∷ []) (content.now ∷ [])) }
+{
+    match shelf.put(name, content) {
+        Ok(()) => Ok(()),
+        Err(_) => Err(GivenFault::Memory),
+    }
+}
+
 // Puts the files of these names, whose contents stand in a row.
+#[tactic(auto, using(crate::proofs::Puts::puts_then, crate::proofs::Puts::puts_none, crate::proofs::Puts::puts_no_more))]
 fn put_all(
     shelf: &mut MemShelf,
     names: &[String],
     lengths: &[u64],
     row: &[u8],
 ) -> Result<(), GivenFault>
-    ensures { IfOk result (λ u. (holds : List ℕ → Option (List ℕ)) → ((name : List ℕ) → bytes_at shelf.old name ≡ holds name)
-        → (name : List ℕ) → bytes_at shelf.new name ≡ put_over holds (map string_bytes names.now) (pieces lengths.now row.now) name) }
+    ensures { IfOk result (λ u. PutsAll shelf.old shelf.new (map string_bytes names.now) (pieces lengths.now row.now)) }
 {
-    let (Some((name, names)), Some((length, lengths))) = (names.split_first(), lengths.split_first())
-    else {
+    let Some((name, names)) = names.split_first() else {
+        return Ok(());
+    };
+    let Some((length, lengths)) = lengths.split_first() else {
         return Ok(());
     };
     let (content, rest) = cut(row, *length)?;
-    if shelf.put(name.as_str(), content).is_err() {
-        return Err(GivenFault::Memory);
-    }
+    put_one(shelf, name.as_str(), content)?;
     put_all(shelf, names, lengths, rest)
 }
 
