@@ -96,13 +96,22 @@ pub extern "C" fn mit_web_call(
 )
     ensures told { (((ended.new.status ≡ NO_MEMORY) ⊎ (ended.new.status ≡ BAD_CALL)) × (ended.new.length ≡ 0))
         ⊎ TellsAnswer (pieces word_lengths.now words.now) (pieces name_lengths.now names.now) (pieces file_lengths.now contents.now)
-            ended.new.status (length out.old) out.new ended.new.length }
+        ended.new.status (length out.old) out.new ended.new.length }
     ensures fits { ended.new.length ≤ length out.new }
     ensures room { length out.new ≡ length out.old }
     ensures rest { drop ended.new.length out.new ≡ drop ended.new.length out.old }
 {
     let room = out.len();
-    match ask_rows(alloc, word_lengths, words, name_lengths, names, file_lengths, contents, room) {
+    match ask_rows(
+        alloc,
+        word_lengths,
+        words,
+        name_lengths,
+        names,
+        file_lengths,
+        contents,
+        room,
+    ) {
         Ok((status, sink)) => {
             let length = hand_out(sink.bytes(), out);
             *ended = Ended { status, length };
