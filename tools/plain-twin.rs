@@ -1,6 +1,6 @@
-//! A plain-Rust twin of the tool, to measure the tool's speed against. It does `check`, `infer`, `run` and `audit` by
-//! the same rules (docs/LANGUAGE.md, docs/MACHINE.md and docs/FORMATS.md) and shares no code with the tool. Nothing
-//! in it is proved, and nobody should use it for anything but its time.
+//! A plain-Rust twin of the tool, to measure the tool's speed against. It does each command by the same rules
+//! (docs/LANGUAGE.md, docs/MACHINE.md and docs/FORMATS.md) and shares no code with the tool. Nothing in it is proved, and
+//! nobody should use it for anything but its time.
 //!
 //! ```text
 //! rustc --edition 2021 -O -o plain-twin tools/plain-twin.rs
@@ -9,13 +9,8 @@
 //!
 //! It needs the standard library alone, has no unsafe code and starts no threads.
 //!
-//! What it leaves out:
-//!
-//! - the other commands;
-//! - refusals in their order and their words: but for the line of a broken condition, of starts that do not agree and
-//!   of a run that has not halted, a refusal is a line on standard error and status 1;
-//! - most of TOML: it reads start files in the form that docs/FORMATS.md shows, with a table on one line;
-//! - touches: a start file that has them is refused.
+//! What it leaves out is what of TOML start files seldom have: that gives a line on standard error and status 20, which
+//! says that this program does not answer the call.
 
 use std::collections::HashMap;
 use std::hash::{BuildHasherDefault, Hasher};
@@ -33,6 +28,11 @@ const MOST_INSTRUCTIONS: usize = 200_000;
 const MOST_RUNS: usize = 4_096;
 const MOST_EVENTS: usize = 16_777_216;
 const GREATEST_BUDGET: u64 = 1 << 40;
+
+/// The status of a call that this program does not answer.
+const NOT_ANSWERED: u8 = 20;
+/// The status of words that are not UTF-8.
+const BAD_WORDS: u8 = 13;
 
 /// A refusal: `Plain` is told on standard error, `Line` is the tool's own line with the tool's status.
 enum Stop {
@@ -125,13 +125,29 @@ struct Lexer<'a> {
     at: usize,
     begin: usize,
     token: Token<'a>,
+    /// Whether no token begins, or ends well, where the last one was looked for.
+    has_failed: bool,
 }
 
 impl<'a> Lexer<'a> {
     fn new(text: &'a str) -> Answer<Self> {
-        let mut lexer = Lexer { text, at: 0, begin: 0, token: Token::End };
+        let mut lexer = Lexer { text, at: 0, begin: 0, token: Token::End, has_failed: false };
         lexer.advance()?;
         Ok(lexer)
+    }
+
+    /// Goes on to the end of the text: a fault of its tokens comes before one of its grammar.
+    fn rest(&mut self) -> Answer<()> {
+        while !self.has_failed && self.token != Token::End {
+            self.advance()?;
+        }
+        Ok(())
+    }
+
+    /// A fault of the tokens.
+    fn bad<T>(&mut self, what: &str) -> Answer<T> {
+        self.has_failed = true;
+        self.fault(what)
     }
 
     fn byte(&self, at: usize) -> u8 {
@@ -139,8 +155,7 @@ impl<'a> Lexer<'a> {
     }
 
     fn fault<T>(&self, what: &str) -> Answer<T> {
-        let (line, column) = place_of(self.text, self.begin);
-        plain(format!("syntax: {what} at {line}:{column}"))
+        Err(syntax_at(self.text, self.begin, what))
     }
 
     fn skip_blank(&mut self) {
@@ -188,7 +203,7 @@ impl<'a> Lexer<'a> {
             "do" => Token::Do,
             "mitigate" => Token::Mitigate,
             "sleep" => Token::Sleep,
-            _ if word.len() > MOST_NAME => return self.fault("long name"),
+            _ if word.len() > MOST_NAME => return self.bad("long name"),
             _ => Token::Name(word),
         })
     }
@@ -198,7 +213,7 @@ impl<'a> Lexer<'a> {
         while let Some(digit @ b'0'..=b'9') = self.text.as_bytes().get(self.at) {
             let more = value.checked_mul(10).and_then(|v| v.checked_add((digit - b'0') as i64));
             let Some(more) = more else {
-                return self.fault("wide number");
+                return self.bad("wide number");
             };
             value = more;
             self.at += 1;
@@ -231,11 +246,20 @@ impl<'a> Lexer<'a> {
             (b'*', _) => (Token::Sign(Operator::Multiply), 1),
             (b'/', _) => (Token::Sign(Operator::Divide), 1),
             (b'%', _) => (Token::Sign(Operator::Remainder), 1),
-            _ => return self.fault("bad byte"),
+            _ => return self.bad("bad byte"),
         };
         self.at += length;
         Ok(token)
     }
+}
+
+fn syntax(what: impl std::fmt::Display) -> Stop {
+    Stop::Line(2, format!("syntax: {what}\n"))
+}
+
+fn syntax_at(text: &str, at: usize, what: &str) -> Stop {
+    let (line, column) = place_of(text, at);
+    syntax(format!("{what} at {line}:{column}"))
 }
 
 /// The line and the column of a byte of a text.
@@ -272,23 +296,37 @@ impl<'a> Lattice<'a> {
             }
         }
         let flows = |a: usize, b: usize| below[b] >> a & 1 != 0;
+        let first = |holds: &dyn Fn(usize, usize) -> bool| {
+            (0..size).flat_map(|a| (a + 1..size).map(move |b| (a, b))).find(|(a, b)| holds(*a, *b))
+        };
+        let least = |a: usize, b: usize| {
+            let is_above = |c: usize| flows(a, c) && flows(b, c);
+            (0..size).find(|c| is_above(*c) && (0..size).all(|d| !is_above(d) || flows(*c, d)))
+        };
+        if let Some((a, b)) = first(&|a, b| flows(a, b) && flows(b, a)) {
+            return Err(syntax(format!("order cycle between {} and {}", names[a], names[b])));
+        }
+        if let Some((a, b)) = first(&|a, b| !(0..size).any(|c| flows(c, a) && flows(c, b))) {
+            return Err(syntax(format!("no bottom below {} and {}", names[a], names[b])));
+        }
+        if let Some((a, b)) = first(&|a, b| least(a, b).is_none()) {
+            return Err(syntax(format!("no join of {} and {}", names[a], names[b])));
+        }
         let mut joins = [[0; MOST_LABELS]; MOST_LABELS];
         for a in 0..size {
             for b in 0..size {
-                if a != b && flows(a, b) && flows(b, a) {
-                    return plain(format!("syntax: order cycle between {} and {}", names[a], names[b]));
-                }
-                let above: Vec<usize> = (0..size).filter(|c| flows(a, *c) && flows(b, *c)).collect();
-                let Some(least) = above.iter().find(|c| above.iter().all(|d| flows(**c, *d))) else {
-                    return plain(format!("syntax: no join of {} and {}", names[a], names[b]));
-                };
-                joins[a][b] = *least as u8;
+                joins[a][b] = least(a, b).unwrap_or(0) as u8;
             }
         }
-        let Some(bottom) = (0..size).find(|a| (0..size).all(|b| flows(*a, b))) else {
-            return plain("syntax: no bottom");
-        };
+        let bottom = (0..size).find(|a| (0..size).all(|b| flows(*a, b))).unwrap_or(0);
         Ok(Lattice { names, pairs, below, joins, bottom: bottom as u8 })
+    }
+
+    /// The labels of a text without a header.
+    fn two() -> Self {
+        let (below, mut joins) = (vec![1, 3], [[0; MOST_LABELS]; MOST_LABELS]);
+        (joins[0][1], joins[1][0], joins[1][1]) = (1, 1, 1);
+        Lattice { names: vec!["L", "H"], pairs: vec![(0, 1)], below, joins, bottom: 0 }
     }
 
     fn join(&self, a: u8, b: u8) -> u8 {
@@ -435,13 +473,14 @@ struct Parser<'a> {
     open: u32,
     operators: u32,
     indices: u32,
+    /// The first fault of names, lengths and labels: faults of the grammar come before it.
+    later: Option<Stop>,
 }
 
 fn parsed(text: &str) -> Answer<Program<'_>> {
-    let mut lexer = Lexer::new(text)?;
     let mut parser = Parser {
-        lattice: header(&mut lexer)?,
-        lexer,
+        lexer: Lexer::new(text)?,
+        lattice: Lattice::two(),
         declarations: Vec::new(),
         numbers: Names::default(),
         parts: Vec::new(),
@@ -450,10 +489,18 @@ fn parsed(text: &str) -> Answer<Program<'_>> {
         open: 0,
         operators: 0,
         indices: 0,
+        later: None,
     };
-    let elements = parser.declared()?;
-    let body = parser.list()?;
-    parser.want(Token::End)?;
+    let (elements, body) = match parser.program() {
+        Ok(found) => found,
+        Err(stop) => {
+            parser.lexer.rest()?;
+            return Err(stop);
+        }
+    };
+    if let Some(stop) = parser.later {
+        return Err(stop);
+    }
     Ok(Program {
         text,
         lattice: parser.lattice,
@@ -467,61 +514,84 @@ fn parsed(text: &str) -> Answer<Program<'_>> {
     })
 }
 
-fn header<'a>(lexer: &mut Lexer<'a>) -> Answer<Lattice<'a>> {
-    if lexer.token != Token::Labels {
-        return Lattice::new(vec!["L", "H"], vec![(0, 1)]);
-    }
-    let mut names = Vec::new();
-    while names.is_empty() || lexer.token == Token::Comma {
-        lexer.advance()?;
-        let name = name_at(lexer)?;
-        if names.contains(&name) {
-            return lexer.fault("name twice");
-        }
-        names.push(name);
-        lexer.advance()?;
-    }
-    pass(lexer, Token::Semicolon)?;
-    if names.len() > MOST_LABELS {
-        return plain(format!("syntax: too many labels: {}", names.len()));
-    }
-    let mut pairs = Vec::new();
-    if lexer.token == Token::Order {
-        while pairs.is_empty() || lexer.token == Token::Comma {
-            lexer.advance()?;
-            let low = known(lexer, &names)?;
-            pass(lexer, Token::Sign(Operator::Less))?;
-            pairs.push((low, known(lexer, &names)?));
-        }
-        pass(lexer, Token::Semicolon)?;
-    }
-    Lattice::new(names, pairs)
-}
-
-fn name_at<'a>(lexer: &Lexer<'a>) -> Answer<&'a str> {
-    match lexer.token {
-        Token::Name(name) => Ok(name),
-        _ => lexer.fault("unexpected"),
-    }
-}
-
-fn known(lexer: &mut Lexer, names: &[&str]) -> Answer<u8> {
-    let name = name_at(lexer)?;
-    let Some(label) = names.iter().position(|known| *known == name) else {
-        return lexer.fault("unknown name");
-    };
-    lexer.advance()?;
-    Ok(label as u8)
-}
-
-fn pass(lexer: &mut Lexer, token: Token) -> Answer<()> {
-    if lexer.token != token {
-        return lexer.fault("unexpected");
-    }
-    lexer.advance()
-}
-
 impl<'a> Parser<'a> {
+    fn program(&mut self) -> Answer<(u32, Vec<Command>)> {
+        self.header()?;
+        let elements = self.declared()?;
+        let body = self.list()?;
+        self.want(Token::End)?;
+        Ok((elements, body))
+    }
+
+    /// Keeps a fault that the grammar's come before.
+    fn note(&mut self, stop: Stop) {
+        self.later.get_or_insert(stop);
+    }
+
+    /// The same, of the token at hand.
+    fn note_here(&mut self, what: &str) {
+        let stop = syntax_at(self.lexer.text, self.lexer.begin, what);
+        self.note(stop);
+    }
+
+    fn header(&mut self) -> Answer<()> {
+        if !self.takes(Token::Labels)? {
+            return Ok(());
+        }
+        let mut names = Vec::new();
+        loop {
+            let name = self.name()?;
+            if names.contains(&name) {
+                self.note_here("name twice");
+            }
+            names.push(name);
+            self.lexer.advance()?;
+            if !self.takes(Token::Comma)? {
+                break;
+            }
+        }
+        self.want(Token::Semicolon)?;
+        let mut pairs = Vec::new();
+        if self.takes(Token::Order)? {
+            loop {
+                let low = self.label_among(&names)?;
+                self.want(Token::Sign(Operator::Less))?;
+                pairs.push((low, self.label_among(&names)?));
+                if !self.takes(Token::Comma)? {
+                    break;
+                }
+            }
+            self.want(Token::Semicolon)?;
+        }
+        if names.len() > MOST_LABELS {
+            self.note(syntax(format!("too many labels: {}", names.len())));
+        }
+        if self.later.is_none() {
+            match Lattice::new(names, pairs) {
+                Ok(lattice) => self.lattice = lattice,
+                Err(stop) => self.note(stop),
+            }
+        }
+        Ok(())
+    }
+
+    fn name(&self) -> Answer<&'a str> {
+        match self.lexer.token {
+            Token::Name(name) => Ok(name),
+            _ => self.lexer.fault("unexpected"),
+        }
+    }
+
+    fn label_among(&mut self, names: &[&str]) -> Answer<u8> {
+        let name = self.name()?;
+        let label = names.iter().position(|known| *known == name);
+        if label.is_none() {
+            self.note_here("unknown name");
+        }
+        self.lexer.advance()?;
+        Ok(label.unwrap_or(0) as u8)
+    }
+
     fn sees(&self, token: Token) -> bool {
         self.lexer.token == token
     }
@@ -545,16 +615,22 @@ impl<'a> Parser<'a> {
     }
 
     fn label(&mut self) -> Answer<u8> {
-        known(&mut self.lexer, &self.lattice.names)
+        let name = self.name()?;
+        let label = self.lattice.find(name);
+        if label.is_none() {
+            self.note_here("unknown name");
+        }
+        self.lexer.advance()?;
+        Ok(label.unwrap_or(0))
     }
 
     /// Reads the declarations and gives the number of variables, elements included.
     fn declared(&mut self) -> Answer<u32> {
         let (mut variables, mut elements) = (0, 0);
         while self.takes(Token::Var)? {
-            let name = name_at(&self.lexer)?;
+            let name = self.name()?;
             if self.numbers.insert(name, self.declarations.len() as u32).is_some() {
-                return self.lexer.fault("name twice");
+                self.note_here("name twice");
             }
             self.lexer.advance()?;
             let length = self.length(&mut elements)?;
@@ -565,10 +641,10 @@ impl<'a> Parser<'a> {
             };
             self.want(Token::Semicolon)?;
             self.declarations.push(Declaration { name, length, label, first: variables });
-            variables += length.unwrap_or(1);
+            variables = variables.saturating_add(length.unwrap_or(1));
         }
         if self.declarations.len() > MOST_DECLARATIONS {
-            return plain(format!("syntax: too many variables: {}", self.declarations.len()));
+            self.note(syntax(format!("too many variables: {}", self.declarations.len())));
         }
         Ok(variables)
     }
@@ -582,7 +658,7 @@ impl<'a> Parser<'a> {
         };
         *elements = elements.saturating_add(length as u64);
         if length == 0 || *elements > MOST_ELEMENTS {
-            return self.lexer.fault("array size");
+            self.note_here("array size");
         }
         self.lexer.advance()?;
         self.want(Token::CloseBracket)?;
@@ -590,12 +666,14 @@ impl<'a> Parser<'a> {
     }
 
     fn opens(&mut self, token: Token) -> Answer<()> {
+        if !self.sees(token) {
+            return self.lexer.fault("unexpected");
+        }
         if self.open == MOST_OPEN {
             return self.lexer.fault("too deep");
         }
-        self.want(token)?;
         self.open += 1;
-        Ok(())
+        self.lexer.advance()
     }
 
     fn closes(&mut self, token: Token) -> Answer<()> {
@@ -680,17 +758,19 @@ impl<'a> Parser<'a> {
         Ok(())
     }
 
-    /// The declaration of the name that stands here, and whether it is an array; the next token has to fit.
+    /// The declaration of the name that stands here, and whether an index follows, which has to fit.
     fn use_of(&mut self, name: &str) -> Answer<(u32, bool)> {
-        let Some(&declaration) = self.numbers.get(name) else {
-            return self.lexer.fault("unknown name");
-        };
-        let is_array = self.declarations[declaration as usize].length.is_some();
+        let (declaration, begin) = (self.numbers.get(name).copied(), self.lexer.begin);
         self.lexer.advance()?;
-        if is_array != self.sees(Token::OpenBracket) {
-            return self.lexer.fault("wrong use of a name");
-        }
-        Ok((declaration, is_array))
+        let has_index = self.sees(Token::OpenBracket);
+        let what = match declaration {
+            None => "unknown name",
+            Some(number) if self.declarations[number as usize].length.is_some() != has_index => "wrong use of a name",
+            Some(number) => return Ok((number, has_index)),
+        };
+        let stop = syntax_at(self.lexer.text, begin, what);
+        self.note(stop);
+        Ok((0, has_index))
     }
 
     fn index(&mut self) -> Answer<()> {
@@ -817,6 +897,8 @@ struct Labelled<'a> {
     levels: Vec<u8>,
     /// The program counter label of each mitigate.
     counters: Vec<u8>,
+    /// The labels of the nodes of the graph; each `while` names the node of its end label.
+    nodes: Vec<u8>,
 }
 
 /// The conditions as a graph: each node has a label, and that of each edge's source flows to that of its target. The
@@ -1017,7 +1099,18 @@ fn labelled(mut program: Program) -> Answer<Labelled> {
     let (counters, variables) = (checker.counters, labels[..names].to_vec());
     let levels = labels[names..names + program.levels.len()].to_vec();
     program.body = body;
-    Ok(Labelled { program, variables, levels, counters })
+    Ok(Labelled { program, variables, levels, counters, nodes: labels })
+}
+
+fn rule_of(command: &Command) -> &'static str {
+    match command.form {
+        Form::Skip => "T-SKIP",
+        Form::Assign { .. } | Form::Put { .. } => "T-ASGN",
+        Form::Sleep => "T-SLEEP",
+        Form::If { .. } => "T-IF",
+        Form::While { .. } => "T-WHILE",
+        Form::Mitigate { .. } => "T-MTG",
+    }
 }
 
 /// Walks the commands in their order, fills in their marks and finds the first condition that fails.
@@ -1047,18 +1140,21 @@ impl Checker<'_> {
         (all, inside)
     }
 
+    /// The join of the labels of a command's expressions, and that of those in its indices.
+    fn labels_of(&self, command: &Command) -> (u8, u8) {
+        let (value, inside) = self.label(command.value);
+        let Form::Put { index, .. } = command.form else {
+            return (value, inside);
+        };
+        let (place, _) = self.label(index);
+        (self.join(value, place), self.join(inside, place))
+    }
+
     fn demand(&self, have: u8, allowed: u8, command: &Command) -> Answer<()> {
         if self.program.lattice.flows(have, allowed) {
             return Ok(());
         }
-        let rule = match command.form {
-            Form::Skip => "T-SKIP",
-            Form::Assign { .. } | Form::Put { .. } => "T-ASGN",
-            Form::Sleep => "T-SLEEP",
-            Form::If { .. } => "T-IF",
-            Form::While { .. } => "T-WHILE",
-            Form::Mitigate { .. } => "T-MTG",
-        };
+        let rule = rule_of(command);
         let (line, column) = place_of(self.program.text, command.at as usize);
         let (have, allowed) = (self.program.lattice.name(have), self.program.lattice.name(allowed));
         Err(Stop::Line(1, format!("refused {rule} at {line}:{column}: {have} does not flow to {allowed}\n")))
@@ -1073,11 +1169,7 @@ impl Checker<'_> {
 
     /// Checks a command and gives its end label.
     fn command(&mut self, command: &mut Command, counter: u8, start: u8) -> Answer<u8> {
-        let (mut value, mut inside) = self.label(command.value);
-        if let Form::Put { index, .. } = command.form {
-            let (place, _) = self.label(index);
-            (value, inside) = (self.join(value, place), self.join(inside, place));
-        }
+        let (value, inside) = self.labels_of(command);
         let bound = self.join(counter, inside);
         if !command.has_marks {
             (command.read, command.write) = (bound, bound);
@@ -1333,12 +1425,13 @@ struct Instruction {
 }
 
 /// The partitions that an access concerns: it changes that of `write`, and reads it where `reads_own` says so, and
-/// those of `others`, a bit for each label.
+/// those of `others`, a bit for each label. `read` is its read label.
 #[derive(Clone, Copy)]
 struct Reach {
     others: u32,
     write: u8,
     reads_own: bool,
+    read: u8,
 }
 
 /// An image, and the greatest number of operands that one of its expressions has at once.
@@ -1360,7 +1453,7 @@ fn lowered(labelled: &Labelled) -> Answer<Image> {
     let bottom = labelled.program.lattice.bottom;
     lowering.push(Act::Halt, (bottom, bottom));
     if lowering.code.len() > MOST_INSTRUCTIONS {
-        return plain(format!("too long: image {}", lowering.code.len()));
+        return Err(Stop::Line(7, format!("too long: image {}\n", lowering.code.len())));
     }
     Ok(Image { code: lowering.code, most_operands: lowering.most_operands })
 }
@@ -1368,7 +1461,7 @@ fn lowered(labelled: &Labelled) -> Answer<Image> {
 impl Lowering<'_> {
     fn push(&mut self, act: Act, (read, write): (u8, u8)) {
         let below = self.labelled.program.lattice.below[read as usize];
-        let reach = Reach { others: below & !(1 << write), write, reads_own: below >> write & 1 != 0 };
+        let reach = Reach { others: below & !(1 << write), write, reads_own: below >> write & 1 != 0, read };
         self.code.push(Instruction { act, reach });
     }
 
@@ -1465,6 +1558,295 @@ impl Lowering<'_> {
     }
 }
 
+/// Writes the text of an image.
+fn image_text(labelled: &Labelled, image: &Image) -> Vec<u8> {
+    let program = &labelled.program;
+    let (owners, names) = (program.owners(), &program.lattice.names);
+    let mut out = Vec::with_capacity(20 * image.code.len());
+    for (number, Instruction { act, reach }) in image.code.iter().enumerate() {
+        write_number(number as u64, &mut out);
+        let name_of = |variable: u32| program.declarations[owners[variable as usize] as usize].name.as_bytes();
+        let named = |out: &mut Vec<u8>, name: &str, variable: u32| {
+            out.extend_from_slice(name.as_bytes());
+            out.extend_from_slice(name_of(variable));
+        };
+        let numbered = |out: &mut Vec<u8>, name: &str, number: u32| {
+            out.extend_from_slice(name.as_bytes());
+            write_number(number as u64, out);
+        };
+        match *act {
+            Act::Push(value) => {
+                out.extend_from_slice(b" PUSH ");
+                write_signed(value, &mut out);
+            }
+            Act::Load(variable) => named(&mut out, " LOAD ", variable),
+            Act::Store(variable) => named(&mut out, " STORE ", variable),
+            Act::LoadElement { first, .. } => named(&mut out, " LOADX ", first),
+            Act::StoreElement { first, .. } => named(&mut out, " STOREX ", first),
+            Act::Apply(operator) => {
+                out.extend_from_slice(b" OP ");
+                out.extend_from_slice(operator.sign().as_bytes());
+            }
+            Act::JumpIfZero(target) => numbered(&mut out, " BRZ ", target),
+            Act::JumpIfNot(target) => numbered(&mut out, " BRNZ ", target),
+            Act::Jump(target) => numbered(&mut out, " JMP ", target),
+            Act::Sleep => out.extend_from_slice(b" SLEEP"),
+            Act::Begin { level, mark } => {
+                out.extend_from_slice(b" MITB ");
+                out.extend_from_slice(names[level as usize].as_bytes());
+                numbered(&mut out, " ", mark);
+            }
+            Act::End => out.extend_from_slice(b" MITE"),
+            Act::Nothing => out.extend_from_slice(b" NOP"),
+            Act::Halt => out.extend_from_slice(b" HALT"),
+        }
+        out.extend_from_slice(b" [");
+        out.extend_from_slice(names[reach.read as usize].as_bytes());
+        out.extend_from_slice(b", ");
+        out.extend_from_slice(names[reach.write as usize].as_bytes());
+        out.extend_from_slice(b"]\n");
+    }
+    out
+}
+
+// --- Certificates
+
+/// The labels that a certificate tells of each command, in the order of the text: its program counter, its start and
+/// its end.
+struct Derivation<'p> {
+    checker: Checker<'p>,
+    nodes: &'p [u8],
+    told: Vec<(u8, u8, u8)>,
+}
+
+impl Derivation<'_> {
+    fn list(&mut self, commands: &[Command], counter: u8, mut start: u8) -> u8 {
+        for command in commands {
+            let place = self.told.len();
+            self.told.push((counter, start, start));
+            start = self.end(command, counter, start);
+            self.told[place].2 = start;
+        }
+        start
+    }
+
+    fn end(&mut self, command: &Command, counter: u8, start: u8) -> u8 {
+        let (value, _) = self.checker.labels_of(command);
+        let after = self.checker.join(self.checker.join(start, value), command.read);
+        let inner = self.checker.join(counter, value);
+        match &command.form {
+            Form::Assign { to } | Form::Put { to, .. } => self.checker.labels[*to as usize],
+            Form::Skip | Form::Sleep => after,
+            Form::If { yes, no } => {
+                let end = self.list(yes, inner, after);
+                let other = self.list(no, inner, after);
+                self.checker.join(end, other)
+            }
+            Form::While { body, start } => {
+                let end = self.nodes[*start as usize];
+                self.list(body, inner, end);
+                end
+            }
+            Form::Mitigate { body, .. } => {
+                self.list(body, counter, after);
+                after
+            }
+        }
+    }
+}
+
+/// Writes the certificate of a program's least labelling.
+fn certificate(labelled: &Labelled) -> Vec<u8> {
+    let program = &labelled.program;
+    let bottom = program.lattice.bottom;
+    let checker = Checker { program, labels: &labelled.variables, counters: Vec::new() };
+    let mut derivation = Derivation { checker, nodes: &labelled.nodes, told: Vec::with_capacity(program.commands) };
+    derivation.list(&program.body, bottom, bottom);
+    let mut out = Vec::with_capacity(60 * program.commands);
+    out.extend_from_slice(b"certificate 1\n");
+    for (declaration, &label) in program.declarations.iter().zip(&labelled.variables) {
+        for part in ["var ", declaration.name, " ", program.lattice.name(label), "\n"] {
+            out.extend_from_slice(part.as_bytes());
+        }
+    }
+    certify_list(labelled, &program.body, &mut derivation.told.iter(), 0, &mut out);
+    out
+}
+
+fn certify_list<'d>(
+    labelled: &Labelled,
+    commands: &[Command],
+    told: &mut impl Iterator<Item = &'d (u8, u8, u8)>,
+    mut number: u64,
+    out: &mut Vec<u8>,
+) -> u64 {
+    let lattice = &labelled.program.lattice;
+    for command in commands {
+        let Some(&(counter, start, end)) = told.next() else {
+            return number;
+        };
+        write_number(number, out);
+        number += 1;
+        out.push(b' ');
+        out.extend_from_slice(rule_of(command).as_bytes());
+        let labels =
+            [(" pc ", counter), (" start ", start), (" er ", command.read), (" ew ", command.write), (" end ", end)];
+        for (word, label) in labels {
+            out.extend_from_slice(word.as_bytes());
+            out.extend_from_slice(lattice.name(label).as_bytes());
+        }
+        if let Form::Mitigate { mark, .. } = command.form {
+            out.extend_from_slice(b" level ");
+            out.extend_from_slice(lattice.name(labelled.levels[mark as usize]).as_bytes());
+        }
+        out.push(b'\n');
+        number = match &command.form {
+            Form::If { yes, no } => {
+                number = certify_list(labelled, yes, told, number, out);
+                certify_list(labelled, no, told, number, out)
+            }
+            Form::While { body, .. } | Form::Mitigate { body, .. } => certify_list(labelled, body, told, number, out),
+            _ => number,
+        };
+    }
+    number
+}
+
+/// What the end of a list has to be: anything, this label, one that with the first gives the second, one below this.
+#[derive(Clone, Copy)]
+enum Fits {
+    All,
+    Is(u8),
+    Joins(u8, u8),
+    Below(u8),
+}
+
+/// Goes over the lines of a certificate; `number` is that of the line at hand.
+struct Recheck<'p> {
+    program: &'p Program<'p>,
+    text: &'p [u8],
+    at: usize,
+    number: u64,
+    command: u64,
+}
+
+impl<'p> Recheck<'p> {
+    fn demand(&self, holds: bool) -> Answer<()> {
+        if holds {
+            return Ok(());
+        }
+        Err(Stop::Line(12, format!("rejected: line {}\n", self.number)))
+    }
+
+    /// The words of the next line.
+    fn line(&mut self) -> Answer<std::slice::Split<'p, u8, impl FnMut(&u8) -> bool + use<>>> {
+        self.number += 1;
+        let rest = &self.text[self.at..];
+        let end = rest.iter().position(|byte| *byte == b'\n');
+        self.demand(end.is_some())?;
+        let end = end.unwrap_or(0);
+        self.at += end + 1;
+        Ok(rest[..end].split(|byte| *byte == b' '))
+    }
+
+    fn word<'a>(&self, words: &mut impl Iterator<Item = &'a [u8]>, wanted: &[u8]) -> Answer<()> {
+        self.demand(words.next() == Some(wanted))
+    }
+
+    fn label<'a>(&self, words: &mut impl Iterator<Item = &'a [u8]>) -> Answer<u8> {
+        let word = words.next().unwrap_or(b"");
+        let place = self.program.lattice.names.iter().position(|name| name.as_bytes() == word);
+        self.demand(place.is_some())?;
+        Ok(place.unwrap_or(0) as u8)
+    }
+
+    fn whole(&mut self) -> Answer<()> {
+        let mut words = self.line()?;
+        self.word(&mut words, b"certificate")?;
+        self.word(&mut words, b"1")?;
+        self.demand(words.next().is_none())?;
+        let mut labels = Vec::with_capacity(self.program.declarations.len());
+        for declaration in &self.program.declarations {
+            let mut words = self.line()?;
+            self.word(&mut words, b"var")?;
+            self.word(&mut words, declaration.name.as_bytes())?;
+            let label = self.label(&mut words)?;
+            self.demand(words.next().is_none() && declaration.label.is_none_or(|written| written == label))?;
+            labels.push(label);
+        }
+        let bottom = self.program.lattice.bottom;
+        let checker = Checker { program: self.program, labels: &labels, counters: Vec::new() };
+        self.list(&checker, &self.program.body, (bottom, bottom), Fits::All)?;
+        self.number += 1;
+        self.demand(self.at == self.text.len())
+    }
+
+    fn list(&mut self, checker: &Checker, commands: &[Command], start: (u8, u8), fits: Fits) -> Answer<u8> {
+        let (counter, mut start) = start;
+        for (place, command) in commands.iter().enumerate() {
+            let fits = if place + 1 < commands.len() { Fits::All } else { fits };
+            start = self.one(checker, command, (counter, start), fits)?;
+        }
+        Ok(start)
+    }
+
+    fn one(&mut self, checker: &Checker, command: &Command, (counter, start): (u8, u8), fits: Fits) -> Answer<u8> {
+        let lattice = &self.program.lattice;
+        let mut words = self.line()?;
+        let mut digits = Vec::with_capacity(20);
+        write_number(self.command, &mut digits);
+        self.command += 1;
+        self.word(&mut words, &digits)?;
+        self.word(&mut words, rule_of(command).as_bytes())?;
+        let mut labels = [0; 5];
+        for (label, word) in labels.iter_mut().zip([&b"pc"[..], b"start", b"er", b"ew", b"end"]) {
+            self.word(&mut words, word)?;
+            *label = self.label(&mut words)?;
+        }
+        let mut level = None;
+        if let Form::Mitigate { .. } = command.form {
+            self.word(&mut words, b"level")?;
+            level = Some(self.label(&mut words)?);
+        }
+        self.demand(words.next().is_none())?;
+        let [counter_told, start_told, read, write, end] = labels;
+        self.demand(counter_told == counter && start_told == start)?;
+        let (value, inside) = checker.labels_of(command);
+        let bound = lattice.join(counter, inside);
+        let marks = if command.has_marks { (command.read, command.write) } else { (bound, bound) };
+        self.demand((read, write) == marks && lattice.flows(bound, write))?;
+        self.demand(match fits {
+            Fits::All => true,
+            Fits::Is(label) => end == label,
+            Fits::Joins(other, label) => lattice.join(other, end) == label,
+            Fits::Below(label) => lattice.flows(end, label),
+        })?;
+        let (after, inner) = (lattice.join(lattice.join(start, value), read), lattice.join(counter, value));
+        match &command.form {
+            Form::Skip | Form::Sleep => self.demand(end == after)?,
+            Form::Assign { to } | Form::Put { to, .. } => {
+                let label = checker.labels[*to as usize];
+                self.demand(lattice.flows(lattice.join(after, bound), label) && end == label)?;
+            }
+            Form::If { yes, no } => {
+                let first = self.list(checker, yes, (inner, after), Fits::All)?;
+                self.list(checker, no, (inner, after), Fits::Joins(first, end))?;
+            }
+            Form::While { body, .. } => {
+                self.demand(lattice.flows(after, end))?;
+                self.list(checker, body, (inner, end), Fits::Is(end))?;
+            }
+            Form::Mitigate { mark, body } => {
+                let level = level.unwrap_or(0);
+                let written = self.program.levels[*mark as usize];
+                self.demand(end == after && written.is_none_or(|written| written == level))?;
+                self.list(checker, body, (counter, after), Fits::Below(level))?;
+            }
+        }
+        Ok(end)
+    }
+}
+
 // --- Caches
 
 const FLAT: u8 = 0;
@@ -1493,6 +1875,32 @@ impl Caches {
             code: [[NO_TAG; 2]; MOST_LABELS * FIRST_SETS],
             data: [[NO_TAG; 2]; MOST_LABELS * FIRST_SETS],
             second: [[NO_TAG; 4]; MOST_LABELS * SECOND_SETS],
+        }
+    }
+
+    /// Makes the touches of a start.
+    fn warm(&mut self, environment: u8, touches: &[Touch]) {
+        for &Touch { place, label, address } in touches {
+            let reach = Reach { others: 0, write: label, reads_own: false, read: label };
+            match (place, environment) {
+                (_, FLAT) | (Place::Second, PART) => {}
+                (Place::Page, _) => _ = touch::<1, 4>(&mut self.page, address / 1024, reach),
+                (Place::Code, _) => _ = touch::<FIRST_SETS, 2>(&mut self.code, address / 32, reach),
+                (Place::Data, _) => _ = touch::<FIRST_SETS, 2>(&mut self.data, address / 32, reach),
+                (Place::Second, _) => _ = touch::<SECOND_SETS, 4>(&mut self.second, address / 32, reach),
+            }
+        }
+    }
+
+    /// Whether the partition of a label holds the same as another's.
+    fn is_same(&self, other: &Caches, place: Place, label: u8) -> bool {
+        let label = label as usize;
+        let (first, second) = (label * FIRST_SETS, label * SECOND_SETS);
+        match place {
+            Place::Page => self.page[label] == other.page[label],
+            Place::Code => self.code[first..first + FIRST_SETS] == other.code[first..first + FIRST_SETS],
+            Place::Data => self.data[first..first + FIRST_SETS] == other.data[first..first + FIRST_SETS],
+            Place::Second => self.second[second..second + SECOND_SETS] == other.second[second..second + SECOND_SETS],
         }
     }
 
@@ -1576,6 +1984,7 @@ fn is_elsewhere<const SETS: usize, const WAYS: usize>(
 struct Opened {
     estimate: i64,
     level: u8,
+    mark: u32,
     begun: u64,
 }
 
@@ -1592,10 +2001,11 @@ struct Machine {
     has_halted: bool,
 }
 
-/// What a run tells: a variable, its new value and its cycle, and the mark of each mitigation that began.
+/// What a run tells: a variable, its new value and its cycle, and the mark of each mitigation that began or ended.
 trait Listener {
     fn assigned(&mut self, variable: usize, value: i64, cycle: u64);
-    fn began(&mut self, mark: u32);
+    fn began(&mut self, _mark: u32) {}
+    fn ended(&mut self, _mark: u32) {}
 }
 
 /// The value of an operator and what it costs beyond 1.
@@ -1635,10 +2045,11 @@ impl Machine {
         }
     }
 
-    /// Runs an image from a memory and empty caches to a limit.
-    fn run(&mut self, environment: u8, code: &[Instruction], memory: &[i64], limit: u64, listener: &mut impl Listener) {
-        self.memory.copy_from_slice(memory);
+    /// Runs an image from a start to a limit.
+    fn run(&mut self, environment: u8, code: &[Instruction], start: &Start, limit: u64, listener: &mut impl Listener) {
+        self.memory.copy_from_slice(&start.memory);
         self.caches.clear(self.labels);
+        self.caches.warm(environment, &start.touches);
         self.opened.clear();
         self.misses = [0; MOST_LABELS];
         match environment {
@@ -1718,11 +2129,17 @@ impl Machine {
                     if clock > limit {
                         break false;
                     }
-                    self.opened.push(Opened { estimate: operands[top], level, begun: clock });
+                    self.opened.push(Opened { estimate: operands[top], level, mark, begun: clock });
                     listener.began(mark);
                 }
                 Act::End => match self.opened.pop() {
-                    Some(opened) if clock <= limit => clock = settled(&opened, &mut self.misses, clock),
+                    Some(opened) if clock <= limit => {
+                        clock = settled(&opened, &mut self.misses, clock);
+                        if clock > limit {
+                            break false;
+                        }
+                        listener.ended(opened.mark);
+                    }
                     _ => break false,
                 },
                 Act::Nothing => {}
@@ -1755,122 +2172,533 @@ fn settled(opened: &Opened, misses: &mut [u32; MOST_LABELS], clock: u64) -> u64 
 
 // --- Start files
 
-/// Reads a start file, one line after the other: `version = N`, `[[run]]` and `memory = { .. }`.
-fn starts_of(text: &str, program: &Program) -> Answer<Vec<Vec<i64>>> {
-    let (mut starts, mut version) = (Vec::new(), 1);
-    let mut has_memory = false;
-    for line in text.lines() {
-        let line = line.split('#').next().unwrap_or("").trim();
-        if line.is_empty() {
-            continue;
-        }
-        if line == "[[run]]" {
-            starts.push(vec![0; program.elements]);
-            has_memory = false;
-            continue;
-        }
-        let Some((key, value)) = line.split_once('=') else {
-            return plain("starts: a line that this reader does not know");
-        };
-        match (key.trim(), starts.last_mut()) {
-            ("version", None) if value.trim() == "1" => version = 1,
-            ("version", None) if value.trim() == "2" => version = 2,
-            ("memory", Some(memory)) if !has_memory => {
-                has_memory = true;
-                Table { text: value, program, version, memory }.read()?;
-            }
-            _ => return plain(format!("starts: the key {} here", key.trim())),
-        }
-    }
-    if starts.is_empty() || starts.len() > MOST_RUNS {
-        return plain(format!("starts: {} runs", starts.len()));
-    }
-    Ok(starts)
+#[derive(Clone, Copy, PartialEq)]
+enum Place {
+    Page,
+    Code,
+    Data,
+    Second,
 }
 
-/// A table `{ x = 1, a = [1, 2] }` that goes into a memory; `text` is what is still to read.
-struct Table<'t> {
+const PLACES: [(&str, Place); 4] =
+    [("page", Place::Page), ("code", Place::Code), ("data", Place::Data), ("second", Place::Second)];
+
+struct Touch {
+    place: Place,
+    label: u8,
+    address: u32,
+}
+
+struct Start {
+    memory: Vec<i64>,
+    touches: Vec<Touch>,
+}
+
+/// A value of a TOML document; `Other` is one that no start file wants.
+enum Value<'t> {
+    Integer(i64),
+    Text(&'t str),
+    Array(Vec<Value<'t>>),
+    Table(Table<'t>),
+    Other,
+}
+
+type Table<'t> = HashMap<&'t str, Value<'t>, BuildHasherDefault<NameHasher>>;
+
+/// Goes over the text of a TOML document.
+struct Toml<'t> {
     text: &'t str,
-    program: &'t Program<'t>,
-    version: u32,
-    memory: &'t mut [i64],
+    at: usize,
 }
 
-impl<'t> Table<'t> {
-    fn takes(&mut self, sign: char) -> bool {
-        self.text = self.text.trim_start();
-        let rest = self.text.strip_prefix(sign);
-        self.text = rest.unwrap_or(self.text);
-        rest.is_some()
+impl<'t> Toml<'t> {
+    fn fault<T>(&self) -> Answer<T> {
+        plain(format!("starts: byte {} is not as this reader knows it", self.at))
     }
 
-    fn want(&mut self, sign: char) -> Answer<()> {
-        if self.takes(sign) {
-            return Ok(());
+    fn byte(&self) -> u8 {
+        self.text.as_bytes().get(self.at).copied().unwrap_or(0)
+    }
+
+    fn spaces(&mut self) {
+        while matches!(self.byte(), b' ' | b'\t') {
+            self.at += 1;
         }
-        plain(format!("starts: no {sign} in a table"))
+    }
+
+    /// Goes past white space, line ends and comments.
+    fn blank(&mut self) {
+        loop {
+            self.spaces();
+            match self.byte() {
+                b'\n' | b'\r' => self.at += 1,
+                b'#' => {
+                    while self.at < self.text.len() && self.byte() != b'\n' {
+                        self.at += 1;
+                    }
+                }
+                _ => return,
+            }
+        }
+    }
+
+    fn takes(&mut self, sign: u8) -> bool {
+        let is_there = self.byte() == sign;
+        self.at += is_there as usize;
+        is_there
+    }
+
+    fn want(&mut self, sign: u8) -> Answer<()> {
+        if self.takes(sign) { Ok(()) } else { self.fault() }
+    }
+
+    /// Nothing more but a comment stands on the line.
+    fn line_end(&mut self) -> Answer<()> {
+        self.spaces();
+        if self.at == self.text.len() || matches!(self.byte(), b'\n' | b'\r' | b'#') { Ok(()) } else { self.fault() }
     }
 
     fn word(&mut self) -> &'t str {
-        self.text = self.text.trim_start();
-        let is_end = |c: char| !(c.is_ascii_alphanumeric() || c == '_' || c == '-' || c == '+');
-        let (word, rest) = self.text.split_at(self.text.find(is_end).unwrap_or(self.text.len()));
-        self.text = rest;
-        word
+        let first = self.at;
+        while self.byte().is_ascii_alphanumeric() || matches!(self.byte(), b'_' | b'-' | b'+') {
+            self.at += 1;
+        }
+        &self.text[first..self.at]
     }
 
-    fn number(&mut self) -> Answer<i64> {
+    fn quoted(&mut self) -> Answer<&'t str> {
+        let quote = self.byte();
+        self.at += 1;
+        let first = self.at;
+        while self.byte() != quote {
+            if self.byte() < b' ' || self.byte() == b'\\' {
+                return self.fault();
+            }
+            self.at += 1;
+        }
+        self.at += 1;
+        Ok(&self.text[first..self.at - 1])
+    }
+
+    fn key(&mut self) -> Answer<&'t str> {
+        if matches!(self.byte(), b'"' | b'\'') {
+            return self.quoted();
+        }
+        match self.word() {
+            "" => self.fault(),
+            word if word.contains('+') => self.fault(),
+            word => Ok(word),
+        }
+    }
+
+    fn value(&mut self) -> Answer<Value<'t>> {
+        match self.byte() {
+            b'"' | b'\'' => Ok(Value::Text(self.quoted()?)),
+            b'[' => self.array(),
+            b'{' => self.inline(),
+            _ => self.number(),
+        }
+    }
+
+    fn number(&mut self) -> Answer<Value<'t>> {
         let word = self.word();
-        word.parse().or_else(|_| plain(format!("starts: {word} is not a number")))
+        if word == "true" || word == "false" {
+            return Ok(Value::Other);
+        }
+        let digits = word.trim_start_matches(['-', '+']);
+        let is_plain = !digits.is_empty() && digits.bytes().all(|byte| byte.is_ascii_digit());
+        if !is_plain || digits.len() > 1 && digits.starts_with('0') || word.len() > digits.len() + 1 || self.byte() == b'.' {
+            return self.fault();
+        }
+        match word.parse() {
+            Ok(number) => Ok(Value::Integer(number)),
+            Err(_) => self.fault(),
+        }
     }
 
-    fn read(mut self) -> Answer<()> {
-        self.want('{')?;
-        if !self.takes('}') {
-            self.entry()?;
-            while self.takes(',') {
-                self.entry()?;
-            }
-            self.want('}')?;
-        }
-        if self.text.trim().is_empty() {
-            return Ok(());
-        }
-        plain("starts: more after a table")
-    }
-
-    fn entry(&mut self) -> Answer<()> {
-        let name = self.word();
-        self.want('=')?;
-        let Some(&number) = self.program.numbers.get(name) else {
-            return plain(format!("starts: unknown key {name}"));
-        };
-        let declaration = &self.program.declarations[number as usize];
-        let first = declaration.first as usize;
-        match declaration.length {
-            None => self.memory[first] = self.number()?,
-            Some(length) if self.version == 2 => self.elements(first, length as usize)?,
-            Some(_) => return plain("starts: an array in version 1"),
-        }
-        Ok(())
-    }
-
-    fn elements(&mut self, first: usize, length: usize) -> Answer<()> {
-        self.want('[')?;
-        let mut place = 0;
-        while !self.takes(']') {
-            if place == length {
-                return plain("starts: an array of too many numbers");
-            }
-            self.memory[first + place] = self.number()?;
-            place += 1;
-            if !self.takes(',') {
-                self.want(']')?;
+    fn array(&mut self) -> Answer<Value<'t>> {
+        let mut found = Vec::new();
+        self.want(b'[')?;
+        self.blank();
+        while !self.takes(b']') {
+            found.push(self.value()?);
+            self.blank();
+            if !self.takes(b',') {
+                self.want(b']')?;
                 break;
             }
+            self.blank();
+        }
+        Ok(Value::Array(found))
+    }
+
+    fn inline(&mut self) -> Answer<Value<'t>> {
+        let mut table = Table::default();
+        self.want(b'{')?;
+        self.spaces();
+        if self.takes(b'}') {
+            return Ok(Value::Table(table));
+        }
+        loop {
+            self.spaces();
+            self.entry(&mut table)?;
+            self.spaces();
+            if !self.takes(b',') {
+                self.want(b'}')?;
+                return Ok(Value::Table(table));
+            }
+        }
+    }
+
+    fn entry(&mut self, table: &mut Table<'t>) -> Answer<()> {
+        let key = self.key()?;
+        self.spaces();
+        self.want(b'=')?;
+        self.spaces();
+        let value = self.value()?;
+        if table.insert(key, value).is_some() { self.fault() } else { Ok(()) }
+    }
+
+    /// The entries up to the next head of a table.
+    fn entries(&mut self, table: &mut Table<'t>) -> Answer<()> {
+        self.blank();
+        while self.at < self.text.len() && self.byte() != b'[' {
+            self.entry(table)?;
+            self.line_end()?;
+            self.blank();
         }
         Ok(())
     }
+
+    /// A document whose heads of tables are all of one name, as `[[run]]`.
+    fn document(&mut self) -> Answer<Table<'t>> {
+        let (mut top, mut name, mut runs) = (Table::default(), None, Vec::new());
+        self.entries(&mut top)?;
+        while self.takes(b'[') {
+            self.want(b'[')?;
+            let key = self.key()?;
+            self.want(b']')?;
+            self.want(b']')?;
+            self.line_end()?;
+            if *name.get_or_insert(key) != key {
+                return self.fault();
+            }
+            let mut run = Table::default();
+            self.entries(&mut run)?;
+            runs.push(Value::Table(run));
+        }
+        match name {
+            Some(name) if top.insert(name, Value::Array(runs)).is_some() => self.fault(),
+            _ => Ok(top),
+        }
+    }
+}
+
+fn refused<T>(what: String) -> Answer<T> {
+    Err(Stop::Line(3, format!("starts: {what}\n")))
+}
+
+fn starts_of(text: &str, program: &Program) -> Answer<Vec<Start>> {
+    let document = Toml { text, at: 0 }.document()?;
+    let version = match document.get("version") {
+        None | Some(Value::Integer(1)) => 1,
+        Some(Value::Integer(2)) => 2,
+        Some(_) => return refused("version".into()),
+    };
+    if document.keys().any(|key| !matches!(*key, "version" | "run")) {
+        return refused("run 0: unknown key".into());
+    }
+    match document.get("run") {
+        Some(Value::Array(runs)) if runs.len() > MOST_RUNS => refused(format!("too many runs: {}", runs.len())),
+        Some(Value::Array(runs)) if !runs.is_empty() => {
+            let numbered = runs.iter().zip(1..);
+            numbered.map(|(run, number)| start_of(run, number, version, program)).collect()
+        }
+        _ => refused("no runs".into()),
+    }
+}
+
+fn start_of(run: &Value, number: usize, version: u32, program: &Program) -> Answer<Start> {
+    let unknown = |_: &&str| refused(format!("run {number}: unknown key"));
+    let Value::Table(run) = run else {
+        return unknown(&"");
+    };
+    if let Some(key) = run.keys().find(|key| !matches!(**key, "memory" | "touch")) {
+        return unknown(key);
+    }
+    let mut memory = vec![0; program.elements];
+    match run.get("memory") {
+        None => {}
+        Some(Value::Table(given)) => {
+            let is_known = |key: &&&str| match program.numbers.get(**key) {
+                Some(declaration) => version == 2 || program.declarations[*declaration as usize].length.is_none(),
+                None => false,
+            };
+            if let Some(key) = given.keys().find(|key| !is_known(key)) {
+                return unknown(key);
+            }
+            if !given.iter().all(|(name, value)| is_put(program, &mut memory, name, value)) {
+                return refused(format!("run {number}: not a number"));
+            }
+        }
+        Some(_) => return refused(format!("run {number}: not a number")),
+    }
+    let touches = match run.get("touch") {
+        None => Some(Vec::new()),
+        Some(Value::Array(touches)) => touches.iter().map(|touch| touch_of(touch, version, program)).collect(),
+        Some(_) => None,
+    };
+    match touches {
+        Some(touches) => Ok(Start { memory, touches }),
+        None => refused(format!("run {number}: bad touch")),
+    }
+}
+
+/// Puts the value of a declaration into a memory, where it is one.
+fn is_put(program: &Program, memory: &mut [i64], name: &str, value: &Value) -> bool {
+    let declaration = &program.declarations[program.numbers[name] as usize];
+    let first = declaration.first as usize;
+    match (declaration.length, value) {
+        (None, Value::Integer(number)) => memory[first] = *number,
+        (Some(length), Value::Array(values)) if values.len() <= length as usize => {
+            for (place, value) in values.iter().enumerate() {
+                let Value::Integer(number) = value else {
+                    return false;
+                };
+                memory[first + place] = *number;
+            }
+        }
+        _ => return false,
+    }
+    true
+}
+
+fn touch_of(touch: &Value, version: u32, program: &Program) -> Option<Touch> {
+    let Value::Table(touch) = touch else {
+        return None;
+    };
+    let (Some(Value::Text(place)), Some(Value::Text(label)), Some(Value::Integer(address)), 3) =
+        (touch.get("place"), touch.get("label"), touch.get("address"), touch.len())
+    else {
+        return None;
+    };
+    let place = PLACES.iter().find(|(known, _)| known == place).map(|(_, place)| *place)?;
+    let touch = Touch { place, label: program.lattice.find(label)?, address: u32::try_from(*address).ok()? };
+    (version == 2 || place != Place::Second).then_some(touch)
+}
+
+// --- The untimed meaning
+
+struct Meaning<'p> {
+    program: &'p Program<'p>,
+    memory: Vec<i64>,
+    operands: Vec<i64>,
+    owners: Vec<u32>,
+    out: Vec<u8>,
+}
+
+impl Meaning<'_> {
+    fn value(&mut self, expression: Expression) -> i64 {
+        self.operands.clear();
+        for part in self.program.parts_of(expression) {
+            match *part {
+                Part::Number(value) => self.operands.push(value),
+                Part::Variable { declaration, .. } => {
+                    let variable = self.program.declarations[declaration as usize].first;
+                    self.operands.push(self.memory[variable as usize]);
+                }
+                Part::Element { declaration, .. } => {
+                    let index = self.operands.pop().unwrap_or(0);
+                    self.operands.push(self.memory[self.element(declaration, index)]);
+                }
+                Part::Apply { operator, .. } => {
+                    let right = self.operands.pop().unwrap_or(0);
+                    let left = self.operands.pop().unwrap_or(0);
+                    self.operands.push(applied(operator, left, right).0);
+                }
+            }
+        }
+        self.operands.pop().unwrap_or(0)
+    }
+
+    fn element(&self, declaration: u32, index: i64) -> usize {
+        let declaration = &self.program.declarations[declaration as usize];
+        chosen(declaration.first, declaration.length.unwrap_or(1), index)
+    }
+
+    fn assign(&mut self, variable: usize, value: i64) {
+        self.memory[variable] = value;
+        self.program.write_variable(&self.owners, variable, &mut self.out);
+        self.out.extend_from_slice(b" = ");
+        write_signed(value, &mut self.out);
+        self.out.push(b'\n');
+        if self.out.len() >= FULL {
+            send(&self.out);
+            self.out.clear();
+        }
+    }
+
+    /// Takes at most so many steps, and writes each assignment and the last line.
+    fn steps(&mut self, steps: u64) {
+        let program = self.program;
+        let mut waiting: Vec<(&[Command], usize)> = vec![(&program.body, 0)];
+        let mut taken = 0;
+        loop {
+            while waiting.last().is_some_and(|(commands, next)| *next == commands.len()) {
+                waiting.pop();
+            }
+            let Some((commands, next)) = waiting.last_mut() else {
+                self.out.extend_from_slice(b"ended after ");
+                break;
+            };
+            if taken == steps {
+                self.out.extend_from_slice(b"not ended after ");
+                break;
+            }
+            taken += 1;
+            let command = &commands[*next];
+            *next += 1;
+            match &command.form {
+                Form::Skip | Form::Sleep => {}
+                Form::Assign { to } => {
+                    let value = self.value(command.value);
+                    self.assign(program.declarations[*to as usize].first as usize, value);
+                }
+                Form::Put { to, index } => {
+                    let (index, value) = (self.value(*index), self.value(command.value));
+                    self.assign(self.element(*to, index), value);
+                }
+                Form::If { yes, no } => {
+                    let branch = if self.value(command.value) != 0 { yes } else { no };
+                    waiting.push((branch, 0));
+                }
+                Form::While { body, .. } => {
+                    if self.value(command.value) != 0 {
+                        *next -= 1;
+                        waiting.push((body, 0));
+                    }
+                }
+                Form::Mitigate { body, .. } => waiting.push((body, 0)),
+            }
+        }
+        write_number(taken, &mut self.out);
+        self.out.extend_from_slice(b" steps\n");
+        send(&self.out);
+    }
+}
+
+fn meaning(program: &Program, start: &Start, steps: u64) {
+    let mut meaning = Meaning {
+        program,
+        memory: start.memory.clone(),
+        operands: Vec::new(),
+        owners: program.owners(),
+        out: Vec::with_capacity(2 * FULL),
+    };
+    meaning.steps(steps);
+}
+
+// --- Made programs
+
+/// The text of a made program, and its four starts.
+fn made(size: u64, number: u64) -> (String, Vec<Start>) {
+    let mut state = number;
+    let mut draw = |below: u64| {
+        state = (state * 1_103_515_245 + 12_345) % (1 << 31);
+        state / 65_536 % below
+    };
+    let mut text = String::with_capacity(64 * size as usize);
+    for name in ["l", "h"] {
+        for place in 0..4 {
+            text += &format!("var {name}{place} : {};\n", name.to_uppercase());
+        }
+    }
+    for unit in 0..size {
+        let (kind, a, b, c) = (draw(4), draw(4), draw(4), draw(100));
+        let d = c + 1;
+        text += if unit == 0 { "" } else { ";\n" };
+        text += &match kind {
+            0 => format!("l{a} := l{b} + {c}"),
+            1 => format!("mitigate ({d}, H) {{ h{a} := (h{b} + {c}) % 16 }}"),
+            2 => format!("mitigate ({d}, H) {{ while h{a} > 0 do {{ h{a} := h{a} - 1 }} }}"),
+            _ => format!("if l{a} > {c} then {{ l{b} := l{a} - {c} }} else {{ l{a} := l{a} + 1 }}"),
+        };
+    }
+    text.push('\n');
+    let start = |r: i64| Start { memory: vec![0, 0, 0, 0, r, 2 * r, 3 * r, 5 * r], touches: Vec::new() };
+    (text, (0..4).map(start).collect())
+}
+
+fn gen_made(size: u64, number: u64) -> Answer<()> {
+    let (text, starts) = made(size, number);
+    let labelled = labelled(parsed(&text)?)?;
+    let image = lowered(&labelled)?;
+    let asked = Asked { environment: PART, budget: GREATEST_BUDGET, observer: 0, is_cut: false };
+    let audit = audit(&labelled, &image, &starts, &asked)?;
+    let (commands, instructions) = (labelled.program.commands, image.code.len());
+    let length = text.len();
+    send(format!("made {size} {number}\nprogram {length}\ncommands {commands}\ninstructions {instructions}\n{audit}").as_bytes());
+    Ok(())
+}
+
+// --- The black box
+
+fn ready_runs(text: &[u8]) -> Answer<Vec<Vec<u64>>> {
+    let mut runs: Vec<Vec<u64>> = Vec::new();
+    for (place, line) in text.split(|byte| *byte == b'\n').enumerate() {
+        let is_space = |byte: &&u8| matches!(byte, b' ' | b'\t' | b'\r');
+        let first = line.iter().take_while(is_space).count();
+        let line = &line[first..];
+        let line = &line[..line.len() - line.iter().rev().take_while(is_space).count()];
+        let is_number = (1..=20).contains(&line.len()) && line.iter().all(u8::is_ascii_digit);
+        let value = line.iter().fold(0u128, |value, digit| 10 * value + digit.wrapping_sub(b'0') as u128);
+        match runs.last_mut() {
+            _ if line.is_empty() => {}
+            _ if line == b"run" => runs.push(Vec::new()),
+            Some(run) if is_number && value <= GREATEST_BUDGET as u128 => run.push(value as u64),
+            _ => return Err(Stop::Line(3, format!("ready: bad line {}\n", place + 1))),
+        }
+    }
+    match runs.len() {
+        0 => Err(Stop::Line(3, "ready: no runs\n".into())),
+        1..=MOST_RUNS => Ok(runs),
+        count => Err(Stop::Line(3, format!("ready: too many runs: {count}\n"))),
+    }
+}
+
+fn black_box(runs: &[Vec<u64>], first: u64, budget: u64) {
+    let (mut out, mut last) = (Vec::new(), String::new());
+    let mut classes: HashMap<Vec<u64>, usize> = HashMap::new();
+    for (place, ready) in runs.iter().enumerate() {
+        let (mut released, mut epochs, mut length, mut slot) = (Vec::new(), 1, first, first);
+        while slot <= budget {
+            if ready.get(released.len()).is_some_and(|cycle| *cycle <= slot) {
+                released.push(slot);
+            } else {
+                epochs += 1;
+                length *= 2;
+            }
+            slot += length;
+        }
+        let number = place as u64 + 1;
+        for (event, cycle) in released.iter().enumerate() {
+            out.extend_from_slice(b"run ");
+            write_number(number, &mut out);
+            out.extend_from_slice(b" event ");
+            write_number(event as u64 + 1, &mut out);
+            out.extend_from_slice(b" @");
+            write_number(*cycle, &mut out);
+            out.push(b'\n');
+        }
+        let (events, count, next) = (ready.len(), released.len(), classes.len() + 1);
+        let class = *classes.entry(released).or_insert(next);
+        last += &format!("run {number} events {events} released {count} epochs {epochs} class {class}\n");
+    }
+    let (count, distinct, base, digits) = (runs.len(), classes.len(), budget + 1, u64::BITS - budget.leading_zeros());
+    let middle = format!("runs {count}\nfirst {first}\nbudget {budget}\ndistinct {distinct}\nbound {base}^{digits}\n");
+    out.extend_from_slice(middle.as_bytes());
+    out.extend_from_slice(last.as_bytes());
+    send(&out);
 }
 
 // --- Commands
@@ -1892,8 +2720,6 @@ impl Listener for EventPrinter<'_> {
             self.print(variable, value, cycle);
         }
     }
-
-    fn began(&mut self, _: u32) {}
 }
 
 impl EventPrinter<'_> {
@@ -1928,13 +2754,13 @@ fn shown(labelled: &Labelled, owners: &[u32], observer: Option<u8>) -> Vec<bool>
     owners.iter().map(flows).collect()
 }
 
-fn run(labelled: &Labelled, image: &Image, memory: &[i64], words: &Words, observer: Option<u8>) -> u8 {
+fn run(labelled: &Labelled, image: &Image, start: &Start, words: &Words, observer: Option<u8>) -> u8 {
     let program = &labelled.program;
     let owners = program.owners();
     let is_shown = shown(labelled, &owners, observer);
     let mut printer = EventPrinter { program, owners, is_shown, out: Vec::with_capacity(2 * FULL) };
     let mut machine = Machine::new(program.lattice.names.len(), program.elements, image.most_operands);
-    machine.run(words.environment, &image.code, memory, words.budget, &mut printer);
+    machine.run(words.environment, &image.code, start, words.budget, &mut printer);
     let mut out = printer.out;
     out.extend_from_slice(if machine.has_halted { b"end @" } else { b"limit @" });
     write_number(machine.clock, &mut out);
@@ -1949,13 +2775,14 @@ fn run(labelled: &Labelled, image: &Image, memory: &[i64], words: &Words, observ
 
 type Event = (u32, i64, u64);
 
-/// The events that the observer sees, those of each different run once, and the number of relevant mitigations that
-/// began in the run at hand.
+/// The events that the observer sees, those of each different run once, and the numbers of relevant mitigations that
+/// began and ended in the run at hand.
 struct Watch {
     is_shown: Vec<bool>,
     is_relevant: Vec<bool>,
     events: Vec<Event>,
     begun: u64,
+    ended: u64,
 }
 
 impl Listener for Watch {
@@ -1967,6 +2794,10 @@ impl Listener for Watch {
 
     fn began(&mut self, mark: u32) {
         self.begun += self.is_relevant[mark as usize] as u64;
+    }
+
+    fn ended(&mut self, mark: u32) {
+        self.ended += self.is_relevant[mark as usize] as u64;
     }
 }
 
@@ -2000,160 +2831,292 @@ fn hash_of(events: &[Event]) -> u64 {
     events.iter().fold(0, |hash, event| mix(hash, mix(event.0 as u64 ^ event.2 << 12, event.1 as u64)))
 }
 
-fn audit(labelled: &Labelled, image: &Image, starts: &[Vec<i64>], words: &Words, observer: u8) -> Answer<u8> {
+/// What an audit is asked; one that is cut counts what is seen up to the budget, halted or not.
+struct Asked {
+    environment: u8,
+    budget: u64,
+    observer: u8,
+    is_cut: bool,
+}
+
+fn audit(labelled: &Labelled, image: &Image, starts: &[Start], asked: &Asked) -> Answer<String> {
     let program = &labelled.program;
     let lattice = &program.lattice;
     let owners = program.owners();
-    let is_shown = shown(labelled, &owners, Some(observer));
-    agreed(program, starts, &owners, &is_shown)?;
+    let is_shown = shown(labelled, &owners, Some(asked.observer));
+    agreed(program, starts, &owners, &is_shown, asked)?;
     let marks = labelled.counters.iter().zip(&labelled.levels);
     let is_relevant =
-        marks.map(|(counter, level)| lattice.flows(*counter, observer) && !lattice.flows(*level, observer));
+        marks.map(|(counter, level)| lattice.flows(*counter, asked.observer) && !lattice.flows(*level, asked.observer));
     let is_relevant = is_relevant.collect();
-    let mut watch = Watch { is_shown, is_relevant, events: Vec::new(), begun: 0 };
+    let mut watch = Watch { is_shown, is_relevant, events: Vec::new(), begun: 0, ended: 0 };
     let mut machine = Machine::new(lattice.names.len(), program.elements, image.most_operands);
-    let (mut classes, mut of_runs, mut total, mut mitigations) = (Classes::default(), Vec::new(), 0, 0);
-    for (number, memory) in starts.iter().enumerate() {
+    let (mut classes, mut of_runs, mut total) = (Classes::default(), Vec::new(), 0);
+    let (mut mitigations, mut most_ended, mut halted) = (0, 0, 0);
+    for (number, start) in starts.iter().enumerate() {
         let first = watch.events.len();
-        machine.run(words.environment, &image.code, memory, words.budget, &mut watch);
-        if !machine.has_halted {
+        watch.ended = 0;
+        machine.run(asked.environment, &image.code, start, asked.budget, &mut watch);
+        if !machine.has_halted && !asked.is_cut {
             return Err(Stop::Line(10, format!("unfinished: run {} @{}\n", number + 1, machine.clock)));
         }
         total += watch.events.len() - first;
         if total > MOST_EVENTS {
-            return plain(format!("too long: events {total}"));
+            return Err(Stop::Line(7, format!("too long: events {total}\n")));
         }
         if number == 0 {
             mitigations = watch.begun;
         }
+        most_ended = most_ended.max(watch.ended);
+        halted += machine.has_halted as u64;
         of_runs.push(classes.class_of(&mut watch.events, first));
     }
-    let levels = (0..lattice.names.len()).filter(|label| !lattice.flows(*label as u8, observer)).count();
-    let exponent = levels as u32 * (u64::BITS - words.budget.leading_zeros());
+    let levels = (0..lattice.names.len()).filter(|label| !lattice.flows(*label as u8, asked.observer)).count();
+    let exponent = levels as u32 * (u64::BITS - asked.budget.leading_zeros());
+    let (count, observer, budget, distinct) = (starts.len(), lattice.name(asked.observer), asked.budget, classes.ranges.len());
+    let (middle, base) = match asked.is_cut {
+        true => (format!("ended {most_ended}\nhalted {halted}\n"), most_ended + 1),
+        false => (format!("mitigations {mitigations}\n"), mitigations + 1),
+    };
     let mut out = format!(
-        "runs {}\nobserver {}\nbudget {}\nlevels {levels}\nmitigations {mitigations}\ndistinct {}\n\
-         bound {}^{exponent}\n",
-        starts.len(),
-        lattice.name(observer),
-        words.budget,
-        classes.ranges.len(),
-        mitigations + 1,
+        "runs {count}\nobserver {observer}\nbudget {budget}\nlevels {levels}\n{middle}distinct {distinct}\nbound {base}^{exponent}\n"
     );
     for (number, class) in of_runs.iter().enumerate() {
         out += &format!("run {} class {}\n", number + 1, class + 1);
     }
-    send(out.as_bytes());
-    Ok(0)
+    Ok(out)
 }
 
-/// Finds the first run that differs from the first one in a variable that the observer sees.
-fn agreed(program: &Program, starts: &[Vec<i64>], owners: &[u32], is_shown: &[bool]) -> Answer<()> {
-    for (number, memory) in starts.iter().enumerate() {
-        let differs = |variable: &usize| is_shown[*variable] && memory[*variable] != starts[0][*variable];
-        if let Some(variable) = (0..memory.len()).find(differs) {
-            let mut line = format!("disagree: run {}: variable ", number + 1).into_bytes();
+/// Finds the first run that differs from the first one in what the observer sees: a variable or a partition.
+fn agreed(program: &Program, starts: &[Start], owners: &[u32], is_shown: &[bool], asked: &Asked) -> Answer<()> {
+    let lattice = &program.lattice;
+    let caches = |start: &Start| {
+        let mut caches = Box::new(Caches::new());
+        caches.warm(asked.environment, &start.touches);
+        caches
+    };
+    let has_touches = starts.iter().any(|start| !start.touches.is_empty());
+    let first = caches(&starts[0]);
+    for (number, start) in starts.iter().enumerate() {
+        let differs = |variable: &usize| is_shown[*variable] && start.memory[*variable] != starts[0].memory[*variable];
+        let mut line = format!("disagree: run {}: ", number + 1).into_bytes();
+        if let Some(variable) = (0..start.memory.len()).find(differs) {
+            line.extend_from_slice(b"variable ");
             program.write_variable(owners, variable, &mut line);
             line.push(b'\n');
             return Err(Stop::Line(9, String::from_utf8_lossy(&line).into_owned()));
+        }
+        if !has_touches {
+            continue;
+        }
+        let own = caches(start);
+        for (name, place) in PLACES {
+            for label in 0..lattice.names.len() as u8 {
+                if lattice.flows(label, asked.observer) && !own.is_same(&first, place, label) {
+                    line.extend_from_slice(format!("partition {} of {name}\n", lattice.name(label)).as_bytes());
+                    return Err(Stop::Line(9, String::from_utf8_lossy(&line).into_owned()));
+                }
+            }
         }
     }
     Ok(())
 }
 
+const USAGE: &str = "usage: mitigate check FILE
+       mitigate infer FILE
+       mitigate compile FILE
+       mitigate run FILE [STARTS] [--env flat|part|part2] [--budget T] [--observer L]
+       mitigate meaning FILE [STARTS] --steps N
+       mitigate audit FILE STARTS --observer L [--env flat|part|part2] [--budget T]
+       mitigate gen SIZE NUMBER
+       mitigate cut FILE STARTS --observer L [--env flat|part|part2] [--budget T]
+       mitigate blackbox READY --first Q [--budget T]
+       mitigate certify FILE
+       mitigate recheck FILE CERTIFICATE
+";
+
+fn usage<T>() -> Answer<T> {
+    Err(Stop::Line(4, USAGE.into()))
+}
+
+/// The commands: the least and the most positional words, the options, and the one that has to be there.
+const COMMANDS: [(&str, usize, usize, &[&str], &str); 11] = [
+    ("check", 1, 1, &[], ""),
+    ("infer", 1, 1, &[], ""),
+    ("compile", 1, 1, &[], ""),
+    ("run", 1, 2, &["env", "budget", "observer"], ""),
+    ("meaning", 1, 2, &["steps"], "steps"),
+    ("audit", 2, 2, &["observer", "env", "budget"], "observer"),
+    ("cut", 2, 2, &["observer", "env", "budget"], "observer"),
+    ("gen", 2, 2, &[], ""),
+    ("blackbox", 1, 1, &["first", "budget"], "first"),
+    ("certify", 1, 1, &[], ""),
+    ("recheck", 2, 2, &[], ""),
+];
+
 /// The words of a call.
 struct Words {
-    command: String,
-    files: Vec<String>,
+    command: &'static str,
+    positional: Vec<String>,
     environment: u8,
     budget: u64,
     observer: Option<String>,
+    steps: u64,
+    first: u64,
 }
 
-fn words() -> Answer<Words> {
-    let mut rest = std::env::args().skip(1);
+fn words(given: Vec<String>) -> Answer<Words> {
+    let mut rest = given.into_iter();
     let command = rest.next().unwrap_or_default();
-    let mut words = Words { command, files: Vec::new(), environment: PART, budget: 1_000_000, observer: None };
+    let Some((command, least, most, names, needed)) = COMMANDS.iter().find(|known| known.0 == command) else {
+        return usage();
+    };
+    let (mut positional, mut options) = (Vec::new(), HashMap::new());
     while let Some(word) = rest.next() {
-        let Some(option) = word.strip_prefix("--") else {
-            words.files.push(word);
-            continue;
-        };
-        let (name, value) = match option.split_once('=') {
-            Some((name, value)) => (name, value.to_string()),
-            None => (option, rest.next().unwrap_or_default()),
-        };
-        match (name, value.as_str()) {
-            ("env", "flat") => words.environment = FLAT,
-            ("env", "part") => words.environment = PART,
-            ("env", "part2") => words.environment = PART2,
-            ("observer", _) => words.observer = Some(value),
-            ("budget", _) => match value.parse() {
-                Ok(budget @ 1..=GREATEST_BUDGET) => words.budget = budget,
-                _ => return plain("usage: the budget"),
-            },
-            _ => return plain(format!("usage: --{name} {value}")),
+        if word == "--" {
+            positional.extend(rest.by_ref());
+        } else if word == "-" || !word.starts_with('-') {
+            positional.push(word);
+        } else {
+            let (name, value) = match word.split_once('=') {
+                Some((name, value)) => (name, Some(value.to_string())),
+                None => (&word[..], None),
+            };
+            let Some(name) = names.iter().find(|known| name.strip_prefix("--") == Some(known)) else {
+                return usage();
+            };
+            let value = match value.or_else(|| rest.next().filter(|value| value.len() < 2 || !value.starts_with('-'))) {
+                Some(value) => value,
+                None => return usage(),
+            };
+            if options.insert(*name, value).is_some() {
+                return usage();
+            }
         }
     }
-    Ok(words)
+    if !(*least..=*most).contains(&positional.len()) || !needed.is_empty() && !options.contains_key(needed) {
+        return usage();
+    }
+    let environment = match options.get("env").map(String::as_str) {
+        Some("flat") => FLAT,
+        None | Some("part") => PART,
+        Some("part2") => PART2,
+        Some(_) => return usage(),
+    };
+    let number = |name: &str, least: u64, default: u64| match options.get(name) {
+        Some(text) => number_in(text, least, GREATEST_BUDGET),
+        None => Ok(default),
+    };
+    Ok(Words {
+        command,
+        environment,
+        budget: number("budget", 1, 1_000_000)?,
+        steps: number("steps", 0, 0)?,
+        first: number("first", 1, 1)?,
+        observer: options.remove("observer"),
+        positional,
+    })
 }
 
-fn text_of(file: Option<&String>) -> Answer<String> {
-    let Some(file) = file else {
-        return plain("usage: a file is missing");
-    };
-    match std::fs::read(file).map(String::from_utf8) {
-        Ok(Ok(text)) if text.len() <= MOST_BYTES => Ok(text),
-        Ok(Ok(_)) => plain(format!("too long: {file}")),
-        Ok(Err(_)) => plain(format!("not UTF-8: {file}")),
-        Err(fault) => plain(format!("{file}: {fault}")),
+fn number_in(text: &str, least: u64, most: u64) -> Answer<u64> {
+    let is_number = (1..=20).contains(&text.len()) && text.bytes().all(|byte| byte.is_ascii_digit());
+    match text.parse() {
+        Ok(number) if is_number && (least..=most).contains(&number) => Ok(number),
+        _ => usage(),
+    }
+}
+
+fn bytes_of(words: &Words, place: usize, what: &str) -> Answer<Vec<u8>> {
+    match std::fs::read(&words.positional[place]) {
+        Ok(bytes) if bytes.len() <= MOST_BYTES => Ok(bytes),
+        Ok(_) => Err(Stop::Line(7, format!("too long: {what}\n"))),
+        Err(_) => Err(Stop::Line(5, format!("read fault: {what}\n"))),
+    }
+}
+
+
+fn read_starts(words: &Words, program: &Program) -> Answer<Vec<Start>> {
+    if words.positional.len() < 2 {
+        return Ok(vec![Start { memory: vec![0; program.elements], touches: Vec::new() }]);
+    }
+    match String::from_utf8(bytes_of(words, 1, "starts")?) {
+        Ok(text) => starts_of(&text, program),
+        Err(_) => refused("not TOML".into()),
     }
 }
 
 fn answered(words: &Words) -> Answer<u8> {
-    let text = text_of(words.files.first())?;
+    match words.command {
+        "blackbox" => black_box(&ready_runs(&bytes_of(words, 0, "ready")?)?, words.first, words.budget),
+        "gen" => {
+            let (size, number) = (&words.positional[0], &words.positional[1]);
+            gen_made(number_in(size, 1, 10_000)?, number_in(number, 0, (1 << 31) - 1)?)?;
+        }
+        _ => return of_program(words),
+    }
+    Ok(0)
+}
+
+/// The commands that read a program.
+fn of_program(words: &Words) -> Answer<u8> {
+    let text = match String::from_utf8(bytes_of(words, 0, "program")?) {
+        Ok(text) => text,
+        Err(fault) => return Err(syntax(format!("not UTF-8 at byte {}", fault.utf8_error().valid_up_to()))),
+    };
     let program = parsed(&text)?;
     let observer = match &words.observer {
         None => None,
         Some(name) => match program.lattice.find(name) {
-            None => return plain(format!("usage: unknown observer {name}")),
+            None => return usage(),
             label => label,
         },
     };
-    let labelled = labelled(program)?;
-    let program = &labelled.program;
-    match words.command.as_str() {
-        "check" => {
-            send(format!("accepted: commands {}, mitigates {}\n", program.commands, program.levels.len()).as_bytes());
-            Ok(0)
+    let counts = format!("commands {}, mitigates {}\n", program.commands, program.levels.len());
+    match words.command {
+        "meaning" => meaning(&program, &read_starts(words, &program)?[0], words.steps),
+        "recheck" => {
+            let certificate = bytes_of(words, 1, "certificate")?;
+            Recheck { program: &program, text: &certificate, at: 0, number: 0, command: 0 }.whole()?;
+            send(format!("rechecked: {counts}").as_bytes());
         }
+        _ => return of_labelled(words, &labelled(program)?, observer, &counts),
+    }
+    Ok(0)
+}
+
+/// The commands that want a typed program.
+fn of_labelled(words: &Words, labelled: &Labelled, observer: Option<u8>, counts: &str) -> Answer<u8> {
+    let program = &labelled.program;
+    match words.command {
+        "check" => send(format!("accepted: {counts}").as_bytes()),
+        "certify" => send(&certificate(labelled)),
         "infer" => {
-            let mut printer = Printer { labelled: &labelled, out: Vec::with_capacity(2 * text.len()) };
+            let mut printer = Printer { labelled, out: Vec::with_capacity(2 * program.text.len()) };
             printer.program();
             send(&printer.out);
-            Ok(0)
         }
+        "compile" => send(&image_text(labelled, &lowered(labelled)?)),
         "run" => {
-            let image = lowered(&labelled)?;
-            let starts = match words.files.get(1) {
-                None => vec![vec![0; program.elements]],
-                file => starts_of(&text_of(file)?, program)?,
-            };
-            Ok(run(&labelled, &image, &starts[0], words, observer))
+            let image = lowered(labelled)?;
+            return Ok(run(labelled, &image, &read_starts(words, program)?[0], words, observer));
         }
-        "audit" => {
-            let image = lowered(&labelled)?;
-            let starts = starts_of(&text_of(words.files.get(1))?, program)?;
-            let Some(observer) = observer else {
-                return plain("usage: an audit needs --observer");
-            };
-            audit(&labelled, &image, &starts, words, observer)
+        _ => {
+            let image = lowered(labelled)?;
+            let starts = read_starts(words, program)?;
+            let observer = observer.unwrap_or(program.lattice.bottom);
+            let Words { environment, budget, .. } = *words;
+            let asked = Asked { environment, budget, observer, is_cut: words.command == "cut" };
+            send(audit(labelled, &image, &starts, &asked)?.as_bytes());
         }
-        _ => plain("usage: plain-twin check|infer|run|audit FILE [STARTS] [--env E] [--budget T] [--observer L]"),
     }
+    Ok(0)
 }
 
 fn main() -> ExitCode {
-    match words().and_then(|words| answered(&words)) {
+    let Ok(given) = std::env::args_os().skip(1).map(|word| word.into_string()).collect() else {
+        return ExitCode::from(BAD_WORDS);
+    };
+    match words(given).and_then(|words| answered(&words)) {
         Ok(status) => ExitCode::from(status),
         Err(Stop::Line(status, line)) => {
             send(line.as_bytes());
@@ -2161,7 +3124,7 @@ fn main() -> ExitCode {
         }
         Err(Stop::Plain(line)) => {
             eprintln!("{line}");
-            ExitCode::from(1)
+            ExitCode::from(NOT_ANSWERED)
         }
     }
 }

@@ -3,13 +3,14 @@ use Rattle.std.proofs.Common.{◌≡◌, ◌≢◌, ◌≤◌, ◌⊎◌, ◌∙
 use Rattle.std.specs.Prelude.{IfSome}
 use Rattle.std.specs.Io.KnownBytes.{Appends}
 use Rattle.tim_base.specs.Faults.{Rose}
-use Rattle.mit_tool.specs.declared.status.Status.{Status}
-use Rattle.mit_tool.specs.declared.status.Status.TheVariants as status
-use Rattle.mit_tool.specs.declared.words.EnvName.TheVariants.{Flat}
-use Rattle.mit_tool.specs.Texts.{memory_line}
-use Rattle.mit_tool.specs.WordsAsked.{Asked, command_of, run}
-use Rattle.mit_tool.specs.Answers.{Content, IsAnswer, Before}
-use Rattle.mit_tool.specs.Ends.{EndsBy}
+use Rattle.tool_words.specs.declared.words.EnvName.TheVariants.{Flat}
+use Rattle.tool_words.specs.WordsAsked.{Asked, command_of, run}
+use Rattle.tool_texts.specs.declared.status.Status.{Status}
+use Rattle.tool_texts.specs.declared.status.Status.TheVariants as status
+use Rattle.tool_texts.specs.Texts.{memory_line}
+use Rattle.tool_texts.specs.Ends.{EndsBy}
+use Rattle.tool_stages.specs.Content.{Content}
+use Rattle.mit_tool.specs.Answers.{IsAnswer, Before}
 use Rattle.mit_tool.specs.Once.{HasOneAnswer}
 use Rattle.first_run.specs.FirstRun.{first_file, first_words, first_answer}
 use Rattle.first_run.proofs.Asked.{asks}

@@ -13,9 +13,9 @@ use Rattle.event_print.specs.declared.end.RunEnd.TheVariants.{Halted}
 use Rattle.event_print.specs.Text.{Told, text_of}
 use Rattle.event_print.specs.Rest.{told_by}
 use Rattle.event_print.proofs.Runs.{run_later, halted_stays}
-use Rattle.mit_tool.specs.declared.words.EnvName.TheVariants.{Flat}
-use Rattle.mit_tool.specs.Envs.{flat_env, told_in}
-use Rattle.mit_tool.specs.Stages.{zero_start}
+use Rattle.tool_words.specs.declared.words.EnvName.TheVariants.{Flat}
+use Rattle.tool_stages.specs.Envs.{flat_env, told_in}
+use Rattle.tool_stages.specs.Stages.{zero_start}
 use Rattle.first_run.specs.FirstRun.{first_answer}
 use Rattle.first_run.proofs.Program.{program}
 

@@ -7,13 +7,15 @@ use Rattle.mit_syntax.specs.Program.{Syntax}
 use Rattle.timing_types.specs.Labelled.{LabelledProgram}
 use Rattle.code_lower.specs.Lowered.{lowered}
 use Rattle.event_print.specs.Text.{Told, text_of}
-use Rattle.mit_tool.specs.declared.status.Status.{Status}
-use Rattle.mit_tool.specs.declared.status.Status.TheVariants.{Done}
-use Rattle.mit_tool.specs.declared.words.EnvName.TheVariants.{Flat}
-use Rattle.mit_tool.specs.WordsAsked.{run}
-use Rattle.mit_tool.specs.Stages.{Reads, Types}
-use Rattle.mit_tool.specs.Answers.{Content, HasRun, IsAnswer, status_at}
-use Rattle.mit_tool.specs.Complete.{IsKnown, AreKnown, IsTypable, IsHalted, HaltsBy, CanBeDone}
+use Rattle.tool_words.specs.declared.words.EnvName.TheVariants.{Flat}
+use Rattle.tool_words.specs.WordsAsked.{run}
+use Rattle.tool_texts.specs.declared.status.Status.{Status}
+use Rattle.tool_texts.specs.declared.status.Status.TheVariants.{Done}
+use Rattle.tool_stages.specs.Stages.{Reads, Types}
+use Rattle.tool_stages.specs.Content.{Content, IsKnown}
+use Rattle.tool_stages.specs.Goes.{IsTypable, IsHalted, HaltsBy}
+use Rattle.mit_tool.specs.Answers.{HasRun, IsAnswer, status_at}
+use Rattle.mit_tool.specs.Complete.{AreKnown, CanBeDone}
 use Rattle.mit_tool.specs.Once.{HasOneAnswer}
 use Rattle.first_run.specs.FirstRun.{first_text, first_answer}
 use Rattle.first_run.proofs.Cut.{tokens, are_tokens}

@@ -3,15 +3,15 @@
 ghost use Rattle.std.specs.Prelude.{◌≡◌, ◌⊎◌, Some, map, string_bytes};
 ghost use Rattle.std.specs.Io.KnownBytes.{Appends};
 ghost use Rattle.tim_base.specs.Faults.{Rose};
-ghost use Rattle.mit_tool.specs.Texts.{memory_line};
+ghost use Rattle.tool_texts.specs.Texts.{memory_line};
 ghost use Rattle.first_run.specs.FirstRun.{first_file, first_words, first_text, first_answer};
 
 use mit_tool::laws::one_answer;
 use mit_tool::mitigate_main;
-use mit_tool::status::Status;
 use std::alloc::Global;
 use tim_base::shelf::Shelf;
 use tim_base::sink::Sink;
+use tool_texts::status::Status;
 
 /// Does what words ask for. Where these are the first words, the shelf tells that the first file holds the first
 /// text, and no count of faults rose, neither the file's nor the sink's, the first answer is written, or the line for

@@ -3,14 +3,15 @@
 ghost use Rattle.std.specs.Prelude.{◌≡◌, ◌≢◌, ◌≤◌, ◌⊎◌, ℕ, List, Option, Some, None};
 ghost use Rattle.std.specs.Io.KnownBytes.{Appends};
 ghost use Rattle.tim_base.specs.Faults.{Rose};
-ghost use Rattle.mit_tool.specs.declared.status.Status.{Status};
-ghost use Rattle.mit_tool.specs.declared.status.Status.TheVariants.{Done, WriteFault, Memory};
-ghost use Rattle.mit_tool.specs.declared.words.EnvName.TheVariants.{Flat};
-ghost use Rattle.mit_tool.specs.Texts.{memory_line};
-ghost use Rattle.mit_tool.specs.WordsAsked.{command_of, run};
-ghost use Rattle.mit_tool.specs.Answers.{Content, IsAnswer, Before};
+ghost use Rattle.tool_words.specs.declared.words.EnvName.TheVariants.{Flat};
+ghost use Rattle.tool_words.specs.WordsAsked.{command_of, run};
+ghost use Rattle.tool_texts.specs.declared.status.Status.{Status};
+ghost use Rattle.tool_texts.specs.declared.status.Status.TheVariants.{Done, WriteFault, Memory};
+ghost use Rattle.tool_texts.specs.Texts.{memory_line};
+ghost use Rattle.tool_texts.specs.Ends.{EndsBy};
+ghost use Rattle.tool_stages.specs.Content.{Content};
+ghost use Rattle.mit_tool.specs.Answers.{IsAnswer, Before};
 ghost use Rattle.mit_tool.specs.Complete.{CanBeDone};
-ghost use Rattle.mit_tool.specs.Ends.{EndsBy};
 ghost use Rattle.first_run.specs.FirstRun.{first_file, first_words, first_text, first_answer};
 
 use mit_tool::laws::one_answer;

@@ -1,2 +1,2 @@
 mod Document
-mod Given
+pub mod Given

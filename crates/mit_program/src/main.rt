@@ -1,36 +1,30 @@
 // The program `mitigate`: the top call over the system's files and standard output.
 #![tactic(auto)]
 
+mod output;
+mod words;
+
+use crate::output::{At, kind_of_output};
+use crate::words::words;
 use mit_tool::mitigate_main;
-use mit_tool::status::Status;
 use std::alloc::Global;
-use std::env;
-use std::io::{self, BufWriter, Write};
+use std::io::{BufWriter, Write};
 use std::process::ExitCode;
 use tim_base::shelf::FileShelf;
 use tim_base::sink::OutSink;
+use tool_texts::status::Status;
 
-// The exit number where the words can't be stored.
-const NO_MEMORY: u8 = 11;
-
-// The exit number where the system refuses the words for another cause.
-const BAD_WORDS: u8 = 13;
-
-// The words after the program's name.
-fn words(rt: &HostRuntime, alloc: Global) -> Result<Vec<String>, u8> {
-    let mut args = match env::args(rt) {
-        Ok(args) => args,
-        Err(error) if error.kind() == io::ErrorKind::OutOfMemory => return Err(NO_MEMORY),
-        Err(_) => return Err(BAD_WORDS),
-    };
-    let _name = args.next();
-    args.collect(alloc).map_err(|_| NO_MEMORY)
+// Does what the words ask for, and writes each piece of the text at once.
+fn call_at_once(rt: &HostRuntime, alloc: Global, words: &[String]) -> Status {
+    let mut shelf = FileShelf::new(rt);
+    let mut out = OutSink::new(rt.stdout());
+    mitigate_main(alloc, words, &mut shelf, &mut out)
 }
 
-// Does what the words ask for. The text is kept in a buffer, which is written out at the end.
-fn call(rt: &HostRuntime, alloc: Global, words: &[String]) -> Status {
+// Does what the words ask for. The text is kept in a buffer, which is written out where it is full and at the end.
+fn call_buffered(rt: &HostRuntime, alloc: Global, words: &[String]) -> Status {
     let Ok(mut buffer) = BufWriter::new(alloc, rt.stdout()) else {
-        return Status::Memory;
+        return call_at_once(rt, alloc, words);
     };
     let mut shelf = FileShelf::new(rt);
     let mut out = OutSink::new(&mut buffer);
@@ -43,8 +37,13 @@ fn call(rt: &HostRuntime, alloc: Global, words: &[String]) -> Status {
 
 fn main(rt: HostRuntime) -> ExitCode {
     let alloc = rt.alloc();
-    match words(&rt, alloc) {
-        Ok(words) => ExitCode::from(call(&rt, alloc, words.as_slice()).number()),
-        Err(number) => ExitCode::from(number),
-    }
+    let words = match words(&rt, alloc) {
+        Ok(words) => words,
+        Err(refused) => return ExitCode::from(refused.number()),
+    };
+    let status = match kind_of_output(&rt) {
+        At::TheEnd => call_buffered(&rt, alloc, words.as_slice()),
+        At::Once => call_at_once(&rt, alloc, words.as_slice()),
+    };
+    ExitCode::from(status.number())
 }

@@ -1,8 +1,9 @@
 -- What holds of any command.
 use Rattle.std.proofs.Common.{◌≡◌, [], Option, Some, None, inl, refl, sym, subst}
 use Rattle.std.specs.Prelude.{IfSome}
-use Rattle.mit_tool.specs.WordsAsked.{Asked, check, infer, compile, run, meaning, audit, gen, cut, blackbox, certify, recheck}
-use Rattle.mit_tool.specs.Answers.{Content, Before}
+use Rattle.tool_words.specs.WordsAsked.{Asked, check, infer, compile, run, meaning, audit, gen, cut, blackbox, certify, recheck}
+use Rattle.tool_stages.specs.Content.{Content}
+use Rattle.mit_tool.specs.Answers.{Before}
 
 pub any_some : {A : Type 0} (o : Option A) (P : A → Type 0) → ((a : A) → P a) → IfSome o P
 any_some None P f = tt

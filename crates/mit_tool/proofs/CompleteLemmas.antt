@@ -1,11 +1,8 @@
 -- A command that can be done is done.
-use Rattle.std.proofs.Common.{◌≡◌, ◌≤◌, ◌^◌, ◌⊎◌, ℕ, List, [], ◌∷◌, ◌++◌, All, length, Option, Some, None, inl, inr, refl, ap, subst, ◌∙◌, codes}
-use Rattle.std.proofs.lemmas.List.Elements.{All-head, All-tail}
-use Rattle.std.proofs.lemmas.Option.{none-some}
+use Rattle.std.proofs.Common.{◌≡◌, ◌≤◌, ◌^◌, ◌⊎◌, ℕ, List, [], ◌∷◌, ◌++◌, length, Option, Some, None, refl, ap, ◌∙◌, codes}
 use Rattle.label_lattice.specs.declared.label.Label.{Label}
 use Rattle.mit_syntax.specs.Plan.{count}
 use Rattle.mit_syntax.specs.Program.{Syntax, plan_of}
-use Rattle.parse_laws.proofs.Meant.{program_order}
 use Rattle.timing_types.specs.Labelled.{LabelledProgram}
 use Rattle.label_code.specs.Shaped.{Code}
 use Rattle.code_lower.specs.Lowered.{lowered}
@@ -21,54 +18,30 @@ use Rattle.leak_audit.specs.declared.report.AuditFault.{AuditFault}
 use Rattle.leak_audit.specs.declared.report.AuditFault.TheVariants as fault
 use Rattle.cut_audit.specs.declared.report.CutFault.{CutFault}
 use Rattle.cut_audit.specs.declared.report.CutFault.TheVariants as cut_fault
-use Rattle.mit_tool.specs.declared.status.Status.{Status}
-use Rattle.mit_tool.specs.declared.status.Status.TheVariants as status
-use Rattle.mit_tool.specs.declared.words.EnvName.{EnvName}
-use Rattle.mit_tool.specs.declared.words.EnvName.TheVariants.{Flat, Part, Part2}
-use Rattle.mit_tool.specs.WordsAsked.{Asked, check, infer, compile, run, meaning, audit, gen, cut, blackbox, certify, recheck, IsInRange}
-use Rattle.mit_tool.specs.Reports.{audit_lines, cut_lines, made_lines}
-use Rattle.mit_tool.specs.Stages.{Then, ProgramStops, Reads, ObserverStops, Observes, TypeStops, Types, ImageStops, HasImage, StartStops, StartsAre, FirstStops, FirstStart}
-use Rattle.mit_tool.specs.Envs.{flat_env, flat_made, AuditFaultsIn, CutFaultsIn, told_in}
-use Rattle.mit_tool.specs.Audited.{AuditStops, Audits, HasAudited, CutStops, Cuts, HasCut, HoldsRuns, ReadyStops, HasReleased}
-use Rattle.mit_tool.specs.Answers.{Content, Compiles, Prepares, HasChecked, HasInferred, HasListed, HasRun, status_at, IsAnswer, Before}
-use Rattle.mit_tool.specs.Ends.{EndsBy}
-use Rattle.mit_tool.specs.Means.{HasMeant}
-use Rattle.mit_tool.specs.Complete.{IsKnown, AreKnown, NoneRises, IsTypable, CanLower, CanCompile, IsHalted, HaltsBy, CanCut, CanBeAudited, OfObserver, CanGoOn, CanBeDone}
-use Rattle.mit_tool.proofs.GoesLemmas.{then_goes, then_goes_from, program_goes, observer_goes, typing_goes, image_goes, starts_go, ready_goes}
-use Rattle.mit_tool.proofs.OneLemmas.{one_program, one_list_of_starts}
-use Rattle.mit_tool.proofs.OneReport.{audit_stops, cut_stops}
-use Rattle.mit_tool.proofs.OneRun.{one_observer, one_first, first_or_not}
-use Rattle.mit_tool.proofs.MadeLemmas.{made_goes, made_observer_goes}
 use Rattle.leak_audit.proofs.Once.{no_audit_fault}
 use Rattle.cut_audit.proofs.Once.{no_cut_fault}
-use Rattle.mit_tool.proofs.AgreeLemmas.{all_halt}
-
--- ---- to an image
-
-lower_goes : (p : Syntax) (Can : LabelledProgram → Type 0) (Next : LabelledProgram → Code → Status → List ℕ → Type 0) (s : Status) (t : List ℕ) → CanLower p Can
-    → ((q : LabelledProgram) (code : Code) → code ≡ lowered q → Can q → Next q code s t → s ≡ status.Done)
-    → Then (TypeStops p) (Types p) (λ q. Then (ImageStops q) (HasImage q) (λ code. Next q code)) s t → s ≡ status.Done
-lower_goes p Can Next s t can f h =
-    then_goes (TypeStops p) (Types p) (λ q. Then (ImageStops q) (HasImage q) (λ code. Next q code)) s t
-    (typing_goes p s t can.0) (λ q typed.
-    let short = can.1 q typed in
-    then_goes (ImageStops q) (HasImage q) (λ code. Next q code) s t
-    (image_goes q s t short.0) (λ code image. f q code image.0 short.1)) h
-
-compiles_go : (Rises : List ℕ → Type 0) (content : Content) (file : List ℕ) (observer : Option (List ℕ))
-    (Can : Syntax → LabelledProgram → Option Label → Type 0) (Next : Syntax → LabelledProgram → Option Label → Code → Status → List ℕ → Type 0) (s : Status) (t : List ℕ)
-    → (Rises file → ⊥) → IsKnown (content file) → CanCompile (content file) observer Can
-    → ((p : Syntax) (q : LabelledProgram) (o : Option Label) (code : Code) → code ≡ lowered q → Can p q o → Next p q o code s t → s ≡ status.Done)
-    → Compiles Rises content file observer Next s t → s ≡ status.Done
-compiles_go Rises content file observer Can Next s t n known can f h =
-    let p : Syntax = can.0 in
-    let o : Option Label = can.2 in
-    then_goes_from (ProgramStops (Rises file) (content file)) (Reads (content file))
-    (λ p. Then (ObserverStops p.order observer) (Observes p.order observer) (λ o. Then (TypeStops p) (Types p) (λ q. Then (ImageStops q) (HasImage q) (λ code. Next p q o code)))) s t
-    p can.1 (one_program (content file) known) (program_goes (Rises file) (content file) p s t n known can.1)
-    (then_goes_from (ObserverStops p.order observer) (Observes p.order observer) (λ o. Then (TypeStops p) (Types p) (λ q. Then (ImageStops q) (HasImage q) (λ code. Next p q o code))) s t
-    o can.3 (λ a b. one_observer p.order observer a b (program_order _ p can.1.spelled)) (observer_goes p.order observer o s t can.3)
-    (lower_goes p (λ q. Can p q o) (λ q code. Next p q o code) s t can.4 (λ q code. f p q o code))) h
+use Rattle.tool_words.specs.declared.words.EnvName.{EnvName}
+use Rattle.tool_words.specs.declared.words.EnvName.TheVariants.{Flat, Part, Part2}
+use Rattle.tool_words.specs.WordsAsked.{Asked, check, infer, compile, run, meaning, audit, gen, cut, blackbox, certify, recheck, IsInRange}
+use Rattle.tool_texts.specs.declared.status.Status.{Status}
+use Rattle.tool_texts.specs.declared.status.Status.TheVariants as status
+use Rattle.tool_texts.specs.Reports.{audit_lines, cut_lines, made_lines}
+use Rattle.tool_texts.specs.Ends.{EndsBy}
+use Rattle.tool_stages.specs.Stages.{Then, ProgramStops, Reads, ObserverStops, Observes, TypeStops, Types, ImageStops, HasImage, StartStops, StartsAre, FirstStops, FirstStart, HoldsRuns, ReadyStops}
+use Rattle.tool_stages.specs.Envs.{flat_env, flat_made, AuditFaultsIn, CutFaultsIn, told_in, ReportsIn, CutReportsIn}
+use Rattle.tool_stages.specs.Content.{Content, IsKnown}
+use Rattle.tool_stages.specs.Goes.{IsHalted, HaltsBy, CanCut, CanBeAudited, OfObserver}
+use Rattle.mit_tool.specs.Audited.{AuditStops, HasAudited, CutStops, HasCut, HasReleased}
+use Rattle.mit_tool.specs.Answers.{HasChecked, HasInferred, HasListed, HasRun, status_at, IsAnswer, Before}
+use Rattle.mit_tool.specs.Means.{HasMeant}
+use Rattle.mit_tool.specs.Complete.{AreKnown, NoneRises, CanGoOn, CanBeDone}
+use Rattle.tool_texts.proofs.EndLemmas.{ends_done}
+use Rattle.tool_stages.proofs.GoesLemmas.{then_goes, then_goes_from, program_goes, ready_goes}
+use Rattle.tool_stages.proofs.OneLemmas.{one_program}
+use Rattle.tool_stages.proofs.AgreeLemmas.{all_halt}
+use Rattle.tool_stages.proofs.ChainLemmas.{compiles_go, first_done, first_file, lower_goes, no_other, one_other, prepared_done, second_file, starts_done, typed_done}
+use Rattle.mit_tool.proofs.OneReport.{audit_stops, cut_stops}
+use Rattle.mit_tool.proofs.MadeLemmas.{made_goes, made_observer_goes, made_starts_are}
 
 -- ---- runs
 
@@ -96,65 +69,17 @@ audited_done : (e : EnvName) (t : ℕ) (q : LabelledProgram) (o : Option Label) 
     → OfObserver (λ l. CanBeAudited e t q l ss) o → HasAudited e t q o ss before s x → s ≡ status.Done
 audited_done e t q None ss before s x k h = absurd h
 audited_done e t q (Some l) ss before s x k h =
-    then_goes (AuditStops e t q l ss) (Audits e t q l ss) (λ r s x. (s ≡ status.Done) × (x ≡ before ++ audit_lines q.program.order l t r)) s x (audit_goes e t q l ss s x k) (λ r a n. n.0) h
+    then_goes (AuditStops e t q l ss) (ReportsIn e q l.number t ss) (λ r s x. (s ≡ status.Done) × (x ≡ before ++ audit_lines q.program.order l t r)) s x (audit_goes e t q l ss s x k) (λ r a n. n.0) h
 
 cut_done : (e : EnvName) (t : ℕ) (q : LabelledProgram) (o : Option Label) (ss : List StartValue) (s : Status) (x : List ℕ)
     → OfObserver (λ l. CanCut e t q l ss) o → HasCut e t q o ss s x → s ≡ status.Done
 cut_done e t q None ss s x k h = absurd h
 cut_done e t q (Some l) ss s x k h =
-    then_goes (CutStops e t q l ss) (Cuts e t q l ss) (λ r s x. (s ≡ status.Done) × (x ≡ cut_lines q.program.order l t r)) s x (cut_goes e t q l ss s x k) (λ r a n. n.0) h
-
--- ---- the files of a command
-
-module _ (Rises : List ℕ → Type 0) (content : Content) where
-  -- a file whose count does not rise, and which is told
-  abbrev IsGood : List ℕ → Type 0
-  IsGood name = (Rises name → ⊥) × IsKnown (content name)
-
-  abbrev OtherIsGood : Option (List ℕ) → Type 0
-  OtherIsGood starts = (name : List ℕ) → starts ≡ Some name → IsGood name
-
-  pub no_other : OtherIsGood None
-  no_other name e = absurd (none-some name e)
-
-  pub one_other : (starts : List ℕ) → IsGood starts → OtherIsGood (Some starts)
-  one_other starts k name e =
-      let same : starts ≡ name = cc in
-      subst IsGood same k
-
-  pub first_file : (name : List ℕ) (others : List (List ℕ)) → All (λ name. Rises name → ⊥) (name ∷ others) → All (λ name. IsKnown (content name)) (name ∷ others) → IsGood name
-  first_file name others n h = (All-head (λ name. Rises name → ⊥) name others n, All-head (λ name. IsKnown (content name)) name others h)
-
-  pub second_file : (first name : List ℕ) (others : List (List ℕ)) → All (λ name. Rises name → ⊥) (first ∷ name ∷ others) → All (λ name. IsKnown (content name)) (first ∷ name ∷ others) → IsGood name
-  second_file first name others n h = first_file name others (All-tail (λ name. Rises name → ⊥) first (name ∷ others) n) (All-tail (λ name. IsKnown (content name)) first (name ∷ others) h)
+    then_goes (CutStops e t q l ss) (CutReportsIn e q l.number t ss) (λ r s x. (s ≡ status.Done) × (x ≡ cut_lines q.program.order l t r)) s x (cut_goes e t q l ss s x k) (λ r a n. n.0) h
 
 -- ---- commands
 
 module _ (Rises : List ℕ → Type 0) (content : Content) (s : Status) (t : List ℕ) where
-  typed_done : (file : List ℕ) (Next : Syntax → LabelledProgram → Status → List ℕ → Type 0) → (Rises file → ⊥) → IsKnown (content file) → ((p : Syntax) × Reads (content file) p × IsTypable p)
-      → ((p : Syntax) (q : LabelledProgram) → Next p q s t → s ≡ status.Done)
-      → Then (ProgramStops (Rises file) (content file)) (Reads (content file)) (λ p. Then (TypeStops p) (Types p) (λ q. Next p q)) s t → s ≡ status.Done
-  typed_done file Next n known can f h =
-      let p : Syntax = can.0 in
-      then_goes_from (ProgramStops (Rises file) (content file)) (Reads (content file)) (λ p. Then (TypeStops p) (Types p) (λ q. Next p q)) s t
-      p can.1 (one_program (content file) known) (program_goes (Rises file) (content file) p s t n known can.1)
-      (then_goes (TypeStops p) (Types p) (λ q. Next p q) s t (typing_goes p s t can.2) (λ q typed. f p q)) h
-
-  -- the first start that there is, and the rest
-  first_done : (starts : Option (List ℕ)) (p : Syntax) (Next : StartValue → Status → List ℕ → Type 0) (start : StartValue)
-      → ((name : List ℕ) → starts ≡ Some name → (Rises name → ⊥) × IsKnown (content name)) → FirstStart content starts p start → (Next start s t → s ≡ status.Done)
-      → Then (FirstStops Rises content starts p) (FirstStart content starts p) (λ start. Next start) s t → s ≡ status.Done
-  first_done starts p Next start others first =
-      then_goes_from (FirstStops Rises content starts p) (FirstStart content starts p) (λ start. Next start) s t start first
-      (λ a b. one_first content p starts a b (λ name e. (others name e).1))
-      (first_or_not content p Rises starts start s t (λ name e. (others name e).0) (λ name e. (others name e).1) first)
-
-  -- the starts that there are, and the rest
-  starts_done : (Rose : Type 0) (c : Option (Option (List ℕ))) (p : Syntax) (Next : List StartValue → Status → List ℕ → Type 0) (ss : List StartValue)
-      → (Rose → ⊥) → IsKnown c → StartsAre c p ss → (Next ss s t → s ≡ status.Done) → Then (StartStops Rose c p) (StartsAre c p) (λ ss. Next ss) s t → s ≡ status.Done
-  starts_done Rose c p Next ss n known are =
-      then_goes_from (StartStops Rose c p) (StartsAre c p) (λ ss. Next ss) s t ss are (one_list_of_starts c known p) (starts_go Rose c p ss s t n known are)
-
   run_done : (file : List ℕ) (starts : Option (List ℕ)) (e : EnvName) (budget : ℕ) (observer : Option (List ℕ)) → (Rises file → ⊥) → IsKnown (content file)
       → ((name : List ℕ) → starts ≡ Some name → (Rises name → ⊥) × IsKnown (content name)) → CanGoOn content (run file starts e budget observer)
       → IsAnswer Rises content (run file starts e budget observer) s t → s ≡ status.Done
@@ -163,7 +88,7 @@ module _ (Rises : List ℕ → Type 0) (content : Content) (s : Status) (t : Lis
       (λ p q o code. Then (FirstStops Rises content starts p) (FirstStart content starts p) (λ start. HasRun e budget q o code start)) s t n known can
       (λ p q o code image goes.
       let start : StartValue = goes.0 in
-      first_done starts p (λ start. HasRun e budget q o code start) start others goes.1 (λ told.
+      first_done Rises content s t starts p (λ start. HasRun e budget q o code start) start others goes.1 (λ told.
       let same : s ≡ status_at (told_in e q.program.order (lowered q) start budget).end = told.0 ∙ ap (λ (z : Code). status_at (told_in e q.program.order z start budget).end) image in
       same ∙ halted_done (told_in e q.program.order (lowered q) start budget).end goes.2)) h
 
@@ -174,18 +99,7 @@ module _ (Rises : List ℕ → Type 0) (content : Content) (s : Status) (t : Lis
       let p : Syntax = can.0 in
       then_goes_from (ProgramStops (Rises file) (content file)) (Reads (content file)) (λ p. Then (FirstStops Rises content starts p) (FirstStart content starts p) (λ start. HasMeant p start steps)) s t
       p can.1 (one_program (content file) known) (program_goes (Rises file) (content file) p s t n known can.1)
-      (first_done starts p (λ start. HasMeant p start steps) can.2 others can.3 (λ meant. meant.0)) h
-
-  prepared_done : (files : List ℕ → Type 0) (content' : Content) (file observer : List ℕ) (Rose : Type 0) (c : Option (Option (List ℕ)))
-      (Can : LabelledProgram → Option Label → List StartValue → Type 0) (Next : Syntax → LabelledProgram → Option Label → Code → List StartValue → Status → List ℕ → Type 0)
-      → (files file → ⊥) → IsKnown (content' file) → (Rose → ⊥) → IsKnown c
-      → CanCompile (content' file) (Some observer) (λ p q o. (ss : List StartValue) × StartsAre c p ss × Can q o ss)
-      → ((p : Syntax) (q : LabelledProgram) (o : Option Label) (code : Code) (ss : List StartValue) → Can q o ss → Next p q o code ss s t → s ≡ status.Done)
-      → Prepares files content' file observer Rose c Next s t → s ≡ status.Done
-  prepared_done files content' file observer Rose c Can Next n known m kept can f h =
-      compiles_go files content' file (Some observer) (λ p q o. (ss : List StartValue) × StartsAre c p ss × Can q o ss)
-      (λ p q o code. Then (StartStops Rose c p) (StartsAre c p) (λ ss. Next p q o code ss)) s t n known can
-      (λ p q o code image goes. starts_done Rose c p (λ ss. Next p q o code ss) goes.0 m kept goes.1 (f p q o code goes.0 goes.2)) h
+      (first_done Rises content s t starts p (λ start. HasMeant p start steps) can.2 others can.3 (λ meant. meant.0)) h
 
   gen_done : (size number : ℕ) → 1 ≤ size → size ≤ 10000 → CanGoOn content (gen size number) → IsAnswer Rises content (gen size number) s t → s ≡ status.Done
   gen_done size number some few can h =
@@ -196,19 +110,20 @@ module _ (Rises : List ℕ → Type 0) (content : Content) (s : Status) (t : Lis
       (made_goes size number s t some few) (λ p reads.
       then_goes (ObserverStops p.order (Some (codes "L"))) (Observes p.order (Some (codes "L"))) (λ o. Then (TypeStops p) (Types p) (λ q. Then (ImageStops q) (HasImage q) (λ code. last p q o code))) s t
       (made_observer_goes size number p s t some reads) (λ o is.
-      lower_goes p (λ q. (ss : List StartValue) × StartsAre (Some (Some starts_text)) p ss × OfObserver (λ l. CanBeAudited Part (2 ^ 40) q l ss) o) (λ q code. last p q o code) s t (can p reads o is)
+      lower_goes p (λ q. (ss : List StartValue) → StartsAre (Some (Some starts_text)) p ss → OfObserver (λ l. CanBeAudited Part (2 ^ 40) q l ss) o) (λ q code. last p q o code) s t (can p reads o is)
       (λ q code image goes.
-      starts_done ⊥ (Some (Some starts_text)) p (λ ss. HasAudited Part (2 ^ 40) q o ss (made_lines size number (count (plan_of p)) (length code.instrs))) goes.0 (λ n. n) tt goes.1
-      (audited_done Part (2 ^ 40) q o goes.0 (made_lines size number (count (plan_of p)) (length code.instrs)) s t goes.2)))) h
+      let made = made_starts_are size number p some reads in
+      starts_done s t ⊥ (Some (Some starts_text)) p (λ ss. HasAudited Part (2 ^ 40) q o ss (made_lines size number (count (plan_of p)) (length code.instrs))) made.0 (λ n. n) tt made.1
+      (audited_done Part (2 ^ 40) q o made.0 (made_lines size number (count (plan_of p)) (length code.instrs)) s t (goes made.0 made.1))))) h
 
   -- the answer to a command that can go on, of files that are told and read
   pub answers_done : (a : Asked) → IsInRange a → NoneRises Rises a → AreKnown content a → CanGoOn content a → IsAnswer Rises content a s t → s ≡ status.Done
   answers_done (check file) range n known can h =
       let k = first_file Rises content file [] n known in
-      typed_done file (λ p q. HasChecked p) k.0 k.1 can (λ p q m. m.0) h
+      typed_done Rises content s t file (λ p q. HasChecked p) k.0 k.1 can (λ p q m. m.0) h
   answers_done (infer file) range n known can h =
       let k = first_file Rises content file [] n known in
-      typed_done file (λ p q. HasInferred q) k.0 k.1 can (λ p q m. m.0) h
+      typed_done Rises content s t file (λ p q. HasInferred q) k.0 k.1 can (λ p q m. m.0) h
   answers_done (compile file) range n known can h =
       let k = first_file Rises content file [] n known in
       compiles_go Rises content file None (λ p q o. ⊤) (λ p q o code. HasListed q code) s t k.0 k.1 can (λ p q o code image u m. m.0) h
@@ -227,13 +142,13 @@ module _ (Rises : List ℕ → Type 0) (content : Content) (s : Status) (t : Lis
   answers_done (audit file starts observer e budget) range n known can h =
       let k = first_file Rises content file (starts ∷ []) n known in
       let m = second_file Rises content file starts [] n known in
-      prepared_done Rises content file observer (Rises starts) (content starts) (λ q o ss. OfObserver (λ l. CanBeAudited e budget q l ss) o) (λ p q o code ss. HasAudited e budget q o ss [])
+      prepared_done s t Rises content file observer (Rises starts) (content starts) (λ q o ss. OfObserver (λ l. CanBeAudited e budget q l ss) o) (λ p q o code ss. HasAudited e budget q o ss [])
       k.0 k.1 m.0 m.1 can (λ p q o code ss good next. audited_done e budget q o ss [] s t good next) h
   answers_done (gen size number) range n known can h = gen_done size number range.0 range.1 can h
   answers_done (cut file starts observer e budget) range n known can h =
       let k = first_file Rises content file (starts ∷ []) n known in
       let m = second_file Rises content file starts [] n known in
-      prepared_done Rises content file observer (Rises starts) (content starts) (λ q o ss. OfObserver (λ l. CanCut e budget q l ss) o) (λ p q o code ss. HasCut e budget q o ss)
+      prepared_done s t Rises content file observer (Rises starts) (content starts) (λ q o ss. OfObserver (λ l. CanCut e budget q l ss) o) (λ p q o code ss. HasCut e budget q o ss)
       k.0 k.1 m.0 m.1 can (λ p q o code ss good next. cut_done e budget q o ss s t good next) h
   answers_done (blackbox file first budget) range n known can h =
       let k = first_file Rises content file [] n known in
@@ -241,23 +156,6 @@ module _ (Rises : List ℕ → Type 0) (content : Content) (s : Status) (t : Lis
       (ready_goes (Rises file) (content file) can.0 s t k.0 k.1 can.1 can.2 can.3) (λ runs holds m. m.0) h
   answers_done (certify file) range n known can h = absurd can
   answers_done (recheck file certificate) range n known can h = absurd can
-
--- ---- the end of a call
-
--- a call whose answer is done, and whose writes do not fail
-pub ends_done : (old new : Option (List ℕ)) (Before : List ℕ → Type 0) (A : Status → List ℕ → Type 0) (r : Status) → EndsBy old new Before A r → (r ≡ status.WriteFault → ⊥) → ((t : List ℕ) → A r t → r ≡ status.Done) → (r ≡ status.Done) ⊎ (r ≡ status.Memory)
-ends_done old new Before A status.Done h n f = inl refl
-ends_done old new Before A status.Refused h n f = inl (f h.0 h.1)
-ends_done old new Before A status.Syntax h n f = inl (f h.0 h.1)
-ends_done old new Before A status.Starts h n f = inl (f h.0 h.1)
-ends_done old new Before A status.Usage h n f = inl (f h.0 h.1)
-ends_done old new Before A status.ReadFault h n f = inl (f h.0 h.1)
-ends_done old new Before A status.WriteFault h n f = absurd (n refl)
-ends_done old new Before A status.TooLong h n f = inl (f h.0 h.1)
-ends_done old new Before A status.Budget h n f = inl (f h.0 h.1)
-ends_done old new Before A status.Disagree h n f = inl (f h.0 h.1)
-ends_done old new Before A status.Unfinished h n f = inl (f h.0 h.1)
-ends_done old new Before A status.Memory h n f = inr refl
 
 pub completes : (old new : Option (List ℕ)) (Rises : List ℕ → Type 0) (content : Content) (a : Asked) (r : Status) (Rose : Type 0)
     → EndsBy old new (Before content a) (IsAnswer Rises content a) r → (r ≡ status.WriteFault → Rose)

@@ -1,5 +1,5 @@
--- A made text is read, and one of its labels is L.
-use Rattle.std.proofs.Common.{◌≡◌, ◌≤◌, ◌<◌, ℕ, zero, suc, List, [], ◌∷◌, ◌++◌, length, Option, Some, inl, inr, sym, ap, subst, ◌∙◌, arith, codes}
+-- A made text is read, one of its labels is L, and its starts are valid.
+use Rattle.std.proofs.Common.{◌≡◌, ◌≤◌, ◌<◌, ℕ, zero, suc, List, [], ◌∷◌, ◌++◌, length, Option, Some, inl, inr, refl, sym, ap, subst, ◌∙◌, arith, codes}
 use Rattle.std.specs.Prelude.{slice_index_or}
 use Rattle.label_lattice.specs.Order.{Order, name_of}
 use Rattle.mit_syntax.specs.declared.token.Token.{Token}
@@ -9,9 +9,9 @@ use Rattle.mit_syntax.proofs.OneFault.{no_tokens}
 use Rattle.mit_parser.specs.Words.{Told, told}
 use Rattle.mit_parser.specs.Tree.{Header, no_header, ProgramTree}
 use Rattle.mit_parser.specs.Faults.{header_labels}
-use Rattle.mit_parser.specs.Spells.{Spells, Refuses}
-use Rattle.mit_gen.specs.Made.{program_text}
-use Rattle.mit_gen.proofs.Sizes.{program_short}
+use Rattle.mit_parser.specs.Spells.{Spells, Refuses, IsProgram}
+use Rattle.mit_gen.specs.Made.{program_text, starts_text}
+use Rattle.mit_gen.proofs.Sizes.{program_short, starts_short}
 use Rattle.made_words.specs.Words.{HasWords}
 use Rattle.made_words.specs.MadeWords.{program_chunks, program_words}
 use Rattle.made_words.proofs.Apart.{chunk_words}
@@ -20,13 +20,16 @@ use Rattle.made_words.proofs.Texts.{program_bytes}
 use Rattle.made_program.proofs.Onto.{ToldAs, told_as}
 use Rattle.made_program.proofs.Trees.{program_tree, program_spelled}
 use Rattle.made_program.proofs.Wholly.{made_spelled}
+use Rattle.made_starts.specs.MadeStarts.{made_starts}
+use Rattle.made_starts.proofs.Given.{made_has_starts}
+use Rattle.start_file.specs.Starts.{StartValue}
 use Rattle.parse_laws.proofs.OneProgram.{one_tree}
 use Rattle.parse_laws.proofs.Refused.{not_refused}
-use Rattle.mit_tool.specs.declared.status.Status.{Status}
-use Rattle.mit_tool.specs.declared.status.Status.TheVariants as status
-use Rattle.mit_tool.specs.Stages.{Reads, HasTextFault, HasParseFault, ProgramStops, ObserverStops}
-use Rattle.mit_tool.specs.Texts.{program}
-use Rattle.mit_tool.proofs.StageStops.{BadText, file_goes, program_stops, observer_stops}
+use Rattle.tool_texts.specs.declared.status.Status.{Status}
+use Rattle.tool_texts.specs.declared.status.Status.TheVariants as status
+use Rattle.tool_texts.specs.Texts.{program}
+use Rattle.tool_stages.specs.Stages.{Reads, HasTextFault, HasParseFault, ProgramStops, ObserverStops, StartsAre}
+use Rattle.tool_stages.proofs.StageStops.{BadText, file_goes, program_stops, observer_stops}
 
 made_words : (size number : ℕ) → HasWords (program_text size number) (program_words size number)
 made_words size number =
@@ -80,3 +83,13 @@ pub made_observer_goes : (size number : ℕ) (p : Syntax) (s : Status) (t : List
 made_observer_goes size number p s t some r h =
     let k = made_low size number p some r in
     (observer_stops p.order (Some (codes "L")) s t h).1 0 k.0 k.1
+
+-- ---- its starts
+
+pub made_starts_are : (size number : ℕ) (p : Syntax) → 0 < size → Reads (Some (Some (program_text size number))) p → (ss : List StartValue) × StartsAre (Some (Some starts_text)) p ss
+made_starts_are size number p some r =
+    let text : List ℕ = program_text size number in
+    let cut : AreTokens text r.tokens = subst (λ (z : List ℕ). AreTokens z r.tokens) r.are r.cut in
+    let spelled : IsProgram (told text r.tokens) p = subst (λ (z : List ℕ). IsProgram (told z r.tokens) p) r.are r.spelled in
+    let has = made_has_starts size number some (made_words size number) p (r.tokens, cut, spelled) in
+    (made_starts, (starts_text, refl, starts_short, has.gives))

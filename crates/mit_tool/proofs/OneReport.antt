@@ -20,15 +20,15 @@ use Rattle.cut_audit.specs.declared.report.CutFault.TheVariants as cut_fault
 use Rattle.cut_audit.specs.Report.{SameReport as SameCut}
 use Rattle.cut_audit.proofs.Once as cut
 use Rattle.black_box.specs.Outcomes.{Outcome, IsOutcome}
-use Rattle.mit_tool.specs.declared.status.Status.{Status}
-use Rattle.mit_tool.specs.declared.status.Status.TheVariants as status
-use Rattle.mit_tool.specs.declared.words.EnvName.{EnvName}
-use Rattle.mit_tool.specs.declared.words.EnvName.TheVariants.{Flat, Part, Part2}
-use Rattle.mit_tool.specs.Texts.{number_line}
-use Rattle.mit_tool.specs.Reports.{head_lines, tail_lines, audit_lines, cut_lines, disagree_line, unfinished_line, events_line, box_lines}
-use Rattle.mit_tool.specs.Envs.{flat_env, flat_made, ReportsIn, AuditFaultsIn, CutReportsIn, CutFaultsIn}
+use Rattle.tool_words.specs.declared.words.EnvName.{EnvName}
+use Rattle.tool_words.specs.declared.words.EnvName.TheVariants.{Flat, Part, Part2}
+use Rattle.tool_texts.specs.declared.status.Status.{Status}
+use Rattle.tool_texts.specs.declared.status.Status.TheVariants as status
+use Rattle.tool_texts.specs.Texts.{number_line}
+use Rattle.tool_texts.specs.Reports.{head_lines, tail_lines, audit_lines, cut_lines, disagree_line, unfinished_line, events_line, box_lines}
+use Rattle.tool_stages.specs.Envs.{flat_env, flat_made, ReportsIn, AuditFaultsIn, CutReportsIn, CutFaultsIn}
 use Rattle.mit_tool.specs.Audited.{AuditStops, HasAudited, CutStops, HasCut, HasReleased}
-use Rattle.mit_tool.proofs.OneLemmas.{Same}
+use Rattle.tool_stages.proofs.OneLemmas.{Same}
 
 -- ---- reports and faults in a named environment
 
@@ -133,10 +133,10 @@ pub one_audit : (e : EnvName) (t : ℕ) (q : LabelledProgram) (o : Option Label)
     → HasAudited e t q o ss before s x → HasAudited e t q o ss before u y → Same s u x y
 one_audit e t q None ss before s u x y h k = absurd h
 one_audit e t q (Some l) ss before s u x y (inl h) (inl k) = one_audit_stop e t q l ss s u x y h k
-one_audit e t q (Some l) ss before s u x y (inl h) (inr k) = let a = audit_stops e t q l ss s x h in absurd (a.none (not_fault e q l.number t ss k.0 a.fault k.1.report a.is))
-one_audit e t q (Some l) ss before s u x y (inr h) (inl k) = let a = audit_stops e t q l ss u y k in absurd (a.none (not_fault e q l.number t ss h.0 a.fault h.1.report a.is))
+one_audit e t q (Some l) ss before s u x y (inl h) (inr k) = let a = audit_stops e t q l ss s x h in absurd (a.none (not_fault e q l.number t ss k.0 a.fault k.1 a.is))
+one_audit e t q (Some l) ss before s u x y (inr h) (inl k) = let a = audit_stops e t q l ss u y k in absurd (a.none (not_fault e q l.number t ss h.0 a.fault h.1 a.is))
 one_audit e t q (Some l) ss before s u x y (inr h) (inr k) =
-    let lines = same_lines q.program.order l t h.0 k.0 (same_report e q l.number t ss h.0 k.0 h.1.report k.1.report) in
+    let lines = same_lines q.program.order l t h.0 k.0 (same_report e q l.number t ss h.0 k.0 h.1 k.1) in
     (h.2.0 ∙ sym k.2.0, h.2.1 ∙ ap (λ (z : List ℕ). before ++ z) lines ∙ sym k.2.1)
 
 -- ---- audits of runs that may not have halted
@@ -182,10 +182,10 @@ one_cut_stop e t q l ss s u x y h k =
 pub one_cut : (e : EnvName) (t : ℕ) (q : LabelledProgram) (o : Option Label) (ss : List StartValue) (s u : Status) (x y : List ℕ) → HasCut e t q o ss s x → HasCut e t q o ss u y → Same s u x y
 one_cut e t q None ss s u x y h k = absurd h
 one_cut e t q (Some l) ss s u x y (inl h) (inl k) = one_cut_stop e t q l ss s u x y h k
-one_cut e t q (Some l) ss s u x y (inl h) (inr k) = let a = cut_stops e t q l ss s x h in absurd (a.none (not_cut_fault e q l.number t ss k.0 a.fault k.1.report a.is))
-one_cut e t q (Some l) ss s u x y (inr h) (inl k) = let a = cut_stops e t q l ss u y k in absurd (a.none (not_cut_fault e q l.number t ss h.0 a.fault h.1.report a.is))
+one_cut e t q (Some l) ss s u x y (inl h) (inr k) = let a = cut_stops e t q l ss s x h in absurd (a.none (not_cut_fault e q l.number t ss k.0 a.fault k.1 a.is))
+one_cut e t q (Some l) ss s u x y (inr h) (inl k) = let a = cut_stops e t q l ss u y k in absurd (a.none (not_cut_fault e q l.number t ss h.0 a.fault h.1 a.is))
 one_cut e t q (Some l) ss s u x y (inr h) (inr k) =
-    let lines = same_cut_lines q.program.order l t h.0 k.0 (same_cut e q l.number t ss h.0 k.0 h.1.report k.1.report) in
+    let lines = same_cut_lines q.program.order l t h.0 k.0 (same_cut e q l.number t ss h.0 k.0 h.1 k.1) in
     (h.2.0 ∙ sym k.2.0, h.2.1 ∙ lines ∙ sym k.2.1)
 
 -- ---- a file of ready cycles
@@ -197,4 +197,4 @@ OneOutcomes = (q t : ℕ) (runs : List (List ℕ)) (outcomes others : List Outco
 pub one_release : (one : OneOutcomes) (first t : ℕ) (runs : List (List ℕ)) (s u : Status) (x y : List ℕ) → HasReleased first t runs s x → HasReleased first t runs u y → Same s u x y
 one_release one first t runs s u x y h k =
     let same : h.1 ≡ k.1 = one first t runs h.1 k.1 h.2 k.2 in
-    (h.0 ∙ sym k.0, h.4 ∙ ap (box_lines first t runs) same ∙ sym k.4)
+    (h.0 ∙ sym k.0, h.3 ∙ ap (box_lines first t runs) same ∙ sym k.3)

@@ -21,8 +21,9 @@ use Rattle.source_meaning.specs.Walked.{Standing, told_by, source_at, IsStep}
 use Rattle.source_meaning.proofs.GoOn.{go_on}
 use Rattle.source_meaning.proofs.Told.{done_stays}
 use Rattle.source_meaning.proofs.Begins.{first_in}
-use Rattle.mit_tool.proofs.EndLemmas.{prefix_after}
-use Rattle.mit_tool.specs.Means.{value_line, value_lines, lines_after, IsLastLine, ended_line, not_ended_line, text_of_walk, IsWalkBelow, WritesSome, BreaksOff}
+use Rattle.tool_texts.specs.Texts.{value_line, value_lines, ended_line, not_ended_line}
+use Rattle.mit_tool.specs.Means.{lines_after, IsLastLine, text_of_walk, IsWalkBelow, WritesSome, BreaksOff}
+use Rattle.tool_texts.proofs.EndLemmas.{prefix_after}
 
 -- ---- variables stay in range
 

@@ -1,34 +1,30 @@
 -- The answer of the tool to words: its status and its text, from what the files are told to hold.
-use Rattle.std.specs.Prelude.{◌≡◌, ◌⊎◌, ◌<◌, ◌≤◌, ◌^◌, ℕ, Bool, true, false, List, [], All, length, Option, Some, None, codes}
+use Rattle.std.specs.Prelude.{◌≡◌, ◌⊎◌, ◌≤◌, ◌^◌, ℕ, List, [], length, Option, Some, None, codes}
 use Rattle.label_lattice.specs.declared.label.Label.{Label}
 use Rattle.mit_syntax.specs.Plan.{count, mitigates}
 use Rattle.mit_syntax.specs.Program.{Syntax, plan_of}
 use Rattle.timing_types.specs.Labelled.{LabelledProgram}
 use Rattle.label_code.specs.Shaped.{Code}
-use Rattle.code_lower.specs.Lowered.{lowered}
 use Rattle.label_write.specs.Written.{labelled_text}
 use Rattle.image_print.specs.ImageText.{image_text}
 use Rattle.mit_gen.specs.Made.{program_text, starts_text}
-use Rattle.start_file.specs.declared.starts.TheConstants.{MAX_RUNS}
-use Rattle.start_file.specs.Starts.{StartValue, IsFor}
+use Rattle.start_file.specs.Starts.{StartValue}
 use Rattle.event_print.specs.declared.end.RunEnd.{RunEnd}
 use Rattle.event_print.specs.declared.end.RunEnd.TheVariants.{Halted, Limit}
 use Rattle.event_print.specs.Text.{Told, text_of}
-use Rattle.mit_tool.specs.declared.status.Status.{Status}
-use Rattle.mit_tool.specs.declared.status.Status.TheVariants as status
-use Rattle.mit_tool.specs.declared.words.EnvName.{EnvName}
-use Rattle.mit_tool.specs.declared.words.EnvName.TheVariants.{Part}
-use Rattle.mit_tool.specs.WordsAsked.{Asked, check, infer, compile, run, meaning, audit, gen, cut, blackbox}
-use Rattle.mit_tool.specs.Texts.{accepted_line, usage_text}
-use Rattle.mit_tool.specs.Stages.{Then, Reads, ProgramStops, Observes, ObserverStops, Types, TypeStops, HasImage, ImageStops, StartsAre, StartStops, FirstStart, FirstStops}
-use Rattle.mit_tool.specs.Envs.{told_in}
-use Rattle.mit_tool.specs.Reports.{made_lines}
-use Rattle.mit_tool.specs.Audited.{HasAudited, HasCut, ReadyStops, HoldsRuns, HasReleased}
+use Rattle.tool_words.specs.declared.words.EnvName.{EnvName}
+use Rattle.tool_words.specs.declared.words.EnvName.TheVariants.{Part}
+use Rattle.tool_words.specs.WordsAsked.{Asked, check, infer, compile, run, meaning, audit, gen, cut, blackbox}
+use Rattle.tool_texts.specs.declared.status.Status.{Status}
+use Rattle.tool_texts.specs.declared.status.Status.TheVariants as status
+use Rattle.tool_texts.specs.Texts.{accepted_line, usage_text}
+use Rattle.tool_texts.specs.Reports.{made_lines}
+use Rattle.tool_stages.specs.Stages.{Then, Reads, ProgramStops, Types, TypeStops, FirstStart, FirstStops, ReadyStops, HoldsRuns}
+use Rattle.tool_stages.specs.Envs.{told_in}
+use Rattle.tool_stages.specs.Begins.{Compiles, Prepares}
+use Rattle.tool_stages.specs.Content.{Content}
+use Rattle.mit_tool.specs.Audited.{HasAudited, HasCut, HasReleased}
 use Rattle.mit_tool.specs.Means.{lines_after, HasMeant}
-
--- what names are told to hold
-abbrev pub Content : Type 0
-Content = List ℕ → Option (Option (List ℕ))
 
 -- a program is accepted: how many commands and mitigates it has
 abbrev pub HasChecked : Syntax → Status → List ℕ → Type 0
@@ -62,24 +58,6 @@ made_content size number name = Some (Some (program_text size number))
 -- words that ask for nothing, or for what is not offered
 abbrev pub IsUsage : Status → List ℕ → Type 0
 IsUsage s t = (s ≡ status.Usage) × (t ≡ usage_text)
-
--- From a file to an image, and an observer's name to a label; then the rest goes on.
-abbrev pub Compiles : (List ℕ → Type 0) → Content → List ℕ → Option (List ℕ)
-    → (Syntax → LabelledProgram → Option Label → Code → Status → List ℕ → Type 0) → Status → List ℕ → Type 0
-Compiles Rises content file observer Next =
-    Then (ProgramStops (Rises file) (content file)) (Reads (content file)) (λ p.
-    Then (ObserverStops p.order observer) (Observes p.order observer) (λ o.
-    Then (TypeStops p) (Types p) (λ q.
-    Then (ImageStops q) (HasImage q) (λ code.
-    Next p q o code))))
-
--- From a file, an observer's name and what a start file is told to hold to an image and starts.
-abbrev pub Prepares : (List ℕ → Type 0) → Content → List ℕ → List ℕ → Type 0 → Option (Option (List ℕ))
-    → (Syntax → LabelledProgram → Option Label → Code → List StartValue → Status → List ℕ → Type 0) → Status → List ℕ → Type 0
-Prepares Rises content file observer Rose starts Next =
-    Compiles Rises content file (Some observer) (λ p q o code.
-    Then (StartStops Rose starts p) (StartsAre starts p) (λ ss.
-    Next p q o code ss))
 
 -- a made program is audited for L, with its made starts, as if they were the content of files
 abbrev pub HasGenerated : ℕ → ℕ → Status → List ℕ → Type 0
@@ -120,82 +98,7 @@ IsAnswer Rises content (blackbox file first budget) =
     HasReleased first budget runs)
 IsAnswer Rises content _ = IsUsage
 
--- ---- what stages leave to the rest of a command
-
--- an accepted program of a file with its image, and the label that an observer's name names
-pub record HasCompiled (content : Content) (file : List ℕ) (observer : Option (List ℕ)) (q : LabelledProgram) (o : Option Label) (code : Code) : Type 0 where
-  pub program : Syntax
-  pub reads : Reads (content file) program
-  pub observes : Observes program.order observer o
-  pub types : Types program q
-  pub image : HasImage q code
-
--- the same with the first start
-pub record IsReady (content : Content) (file : List ℕ) (starts observer : Option (List ℕ)) (q : LabelledProgram) (o : Option Label) (code : Code) (start : StartValue) : Type 0 where
-  pub compiled : HasCompiled content file observer q o code
-  pub first : FirstStart content starts q.program start
-
--- a program with labels that type it and its image, and the label that an observer's name names
-pub record IsCompiled (p : Syntax) (observer : Option (List ℕ)) (q : LabelledProgram) (o : Option Label) (code : Code) : Type 0 where
-  pub observes : Observes p.order observer o
-  pub types : Types p q
-  pub image : HasImage q code
-
--- what an audit begins with: an image, the label that is observed, and all starts
-pub record IsPrepared (content : Content) (file observer : List ℕ) (held : Option (Option (List ℕ))) (q : LabelledProgram) (l : Label) (code : Code) (ss : List StartValue) : Type 0 where
-  pub compiled : HasCompiled content file (Some observer) q (Some l) code
-  pub starts : StartsAre held q.program ss
-
--- and what an audit asks of it
-pub record CanAudit (q : LabelledProgram) (l : Label) (code : Code) (ss : List StartValue) : Type 0 where
-  pub image : code ≡ lowered q
-  pub observer : l.number < q.program.order.size
-  pub some : 0 < length ss
-  pub few : length ss ≤ MAX_RUNS
-  pub starts : All (IsFor q.program) ss
-
--- nothing else stops
-abbrev pub NoMore : Status → List ℕ → Type 0
-NoMore s t = ⊥
-
--- why a program is not accepted
-abbrev pub CheckStops : (List ℕ → Type 0) → Content → List ℕ → Status → List ℕ → Type 0
-CheckStops Rises content file =
-    Then (ProgramStops (Rises file) (content file)) (Reads (content file)) (λ p.
-    Then (TypeStops p) (Types p) (λ q. NoMore))
-
--- why there is no image
-abbrev pub CompileStops : (List ℕ → Type 0) → Content → List ℕ → Option (List ℕ) → Status → List ℕ → Type 0
-CompileStops Rises content file observer = Compiles Rises content file observer (λ p q o code. NoMore)
-
--- why a program has no image
-abbrev pub ProgramCompileStops : Syntax → Option (List ℕ) → Status → List ℕ → Type 0
-ProgramCompileStops p observer =
-    Then (ObserverStops p.order observer) (Observes p.order observer) (λ o.
-    Then (TypeStops p) (Types p) (λ q.
-    Then (ImageStops q) (HasImage q) (λ code. NoMore)))
-
--- why there is no audit
-abbrev pub PrepareStops : (List ℕ → Type 0) → Content → List ℕ → List ℕ → Type 0 → Option (Option (List ℕ)) → Status → List ℕ → Type 0
-PrepareStops Rises content file observer Rose starts =
-    Prepares Rises content file observer Rose starts (λ p q o code ss. NoMore)
-
--- why there is no run
-abbrev pub RunStops : (List ℕ → Type 0) → Content → List ℕ → Option (List ℕ) → Option (List ℕ) → Status → List ℕ → Type 0
-RunStops Rises content file starts observer =
-    Compiles Rises content file observer (λ p q o code.
-    Then (FirstStops Rises content starts p) (FirstStart content starts p) (λ start. NoMore))
-
--- a program of a file with a first start
-pub record HasSource (content : Content) (file : List ℕ) (starts : Option (List ℕ)) (p : Syntax) (start : StartValue) : Type 0 where
-  pub reads : Reads (content file) p
-  pub first : FirstStart content starts p start
-
--- why there is none
-abbrev pub MeaningStops : (List ℕ → Type 0) → Content → List ℕ → Option (List ℕ) → Status → List ℕ → Type 0
-MeaningStops Rises content file starts =
-    Then (ProgramStops (Rises file) (content file)) (Reads (content file)) (λ p.
-    Then (FirstStops Rises content starts p) (FirstStart content starts p) (λ start. NoMore))
+-- ---- where memory is wanting
 
 -- the first k steps of a run without its time, at most n
 pub record HasBegun (content : Content) (file : List ℕ) (starts : Option (List ℕ)) (n : ℕ) (b : List ℕ) : Type 0 where
@@ -212,6 +115,8 @@ abbrev pub Before : Content → Asked → List ℕ → Type 0
 Before content (meaning file starts n) b = (b ≡ []) ⊎ HasBegun content file starts n b
 Before content a b = b ≡ []
 
+-- ---- the program of a command
+
 -- what is told of the program that a command wants typed: of a file, or of the made program
 abbrev pub typed_content : Content → Asked → Option (Option (Option (List ℕ)))
 typed_content content (check file) = Some (content file)
@@ -222,11 +127,3 @@ typed_content content (audit file starts observer e budget) = Some (content file
 typed_content content (cut file starts observer e budget) = Some (content file)
 typed_content content (gen size number) = Some (Some (Some (program_text size number)))
 typed_content content a = None
-
--- the command came past the typing
-abbrev pub is_past_typing : Status → Bool
-is_past_typing status.Done = true
-is_past_typing status.Budget = true
-is_past_typing status.Disagree = true
-is_past_typing status.Unfinished = true
-is_past_typing s = false

@@ -1,29 +1,19 @@
--- What audits stop with and what they tell, of the runs of a program and of a file of ready cycles.
-use Rattle.std.specs.Prelude.{◌≡◌, ◌≢◌, ◌≤◌, ◌+◌, ◌^◌, ℕ, List, ◌++◌, length, Option, Some, None}
+-- What audits of the runs of a program stop with, and what they and a black box tell.
+use Rattle.std.specs.Prelude.{◌≡◌, ◌+◌, ℕ, List, ◌++◌, Option, Some, None}
 use Rattle.std.specs.List.{AllZip}
-use Rattle.tim_base.specs.Told.{limit, IsTold, IsTooLong}
 use Rattle.label_lattice.specs.declared.label.Label.{Label}
 use Rattle.timing_types.specs.Labelled.{LabelledProgram}
 use Rattle.start_file.specs.Starts.{StartValue}
-use Rattle.leak_bound.specs.Digits.{digits}
-use Rattle.leak_bound.specs.Records.{distinct_count}
 use Rattle.audit_parts.specs.declared.what.What.{What}
-use Rattle.leak_audit.specs.declared.report.AuditReport.{AuditReport}
 use Rattle.leak_audit.specs.declared.report.AuditFault.TheVariants.{Disagree, Unfinished, TooMuch}
-use Rattle.cut_audit.specs.declared.report.CutReport.{CutReport}
 use Rattle.cut_audit.specs.declared.report.CutFault.TheVariants as cut
-use Rattle.black_box.specs.declared.fault.ReadyFault.{ReadyFault}
-use Rattle.black_box.specs.declared.fault.ReadyFault.TheVariants.{Memory}
-use Rattle.black_box.specs.Audits.{same_cycles}
-use Rattle.black_box.specs.Files.{Holds, refusal}
 use Rattle.black_box.specs.Outcomes.{Outcome, IsOutcome}
-use Rattle.mit_tool.specs.declared.status.Status.{Status}
-use Rattle.mit_tool.specs.declared.status.Status.TheVariants as status
-use Rattle.mit_tool.specs.declared.words.EnvName.{EnvName}
-use Rattle.mit_tool.specs.Texts.{ready, read_fault_line, too_long_line}
-use Rattle.mit_tool.specs.Stages.{Then}
-use Rattle.mit_tool.specs.Envs.{ReportsIn, AuditFaultsIn, CutReportsIn, CutFaultsIn}
-use Rattle.mit_tool.specs.Reports.{audit_lines, cut_lines, disagree_line, unfinished_line, events_line, ready_fault_line, all_released, box_lines}
+use Rattle.tool_words.specs.declared.words.EnvName.{EnvName}
+use Rattle.tool_texts.specs.declared.status.Status.{Status}
+use Rattle.tool_texts.specs.declared.status.Status.TheVariants as status
+use Rattle.tool_texts.specs.Reports.{audit_lines, cut_lines, disagree_line, unfinished_line, events_line, box_lines}
+use Rattle.tool_stages.specs.Stages.{Then}
+use Rattle.tool_stages.specs.Envs.{ReportsIn, AuditFaultsIn, CutReportsIn, CutFaultsIn}
 
 -- ---- the runs of a program, for an observer, in a named environment, up to T
 
@@ -34,16 +24,11 @@ AuditStops e t q l ss status.Unfinished x = (run : ℕ) × (cycle : ℕ) × Audi
 AuditStops e t q l ss status.TooLong x = (count : ℕ) × AuditFaultsIn e q l.number t ss (TooMuch count) × (x ≡ events_line count)
 AuditStops e t q l ss _ x = ⊥
 
--- the report, whose number of different sequences is within its bound
-pub record Audits (e : EnvName) (t : ℕ) (q : LabelledProgram) (l : Label) (ss : List StartValue) (r : AuditReport) : Type 0 where
-  pub report : ReportsIn e q l.number t ss r
-  pub bound : r.distinct ≤ r.base ^ r.exponent
-
 -- the lines of the report stand after a text
 abbrev pub HasAudited : EnvName → ℕ → LabelledProgram → Option Label → List StartValue → List ℕ → Status → List ℕ → Type 0
 HasAudited e t q None ss before = λ s x. ⊥
 HasAudited e t q (Some l) ss before =
-    Then (AuditStops e t q l ss) (Audits e t q l ss) (λ r s x.
+    Then (AuditStops e t q l ss) (ReportsIn e q l.number t ss) (λ r s x.
     (s ≡ status.Done) × (x ≡ before ++ audit_lines q.program.order l t r))
 
 -- ---- the same where runs may not have halted
@@ -53,44 +38,16 @@ CutStops e t q l ss status.Disagree x = (run : ℕ) × (what : What) × CutFault
 CutStops e t q l ss status.TooLong x = (count : ℕ) × CutFaultsIn e q l.number t ss (cut.TooMuch count) × (x ≡ events_line count)
 CutStops e t q l ss _ x = ⊥
 
-pub record Cuts (e : EnvName) (t : ℕ) (q : LabelledProgram) (l : Label) (ss : List StartValue) (r : CutReport) : Type 0 where
-  pub report : CutReportsIn e q l.number t ss r
-  pub bound : r.distinct ≤ r.base ^ r.exponent
-
 abbrev pub HasCut : EnvName → ℕ → LabelledProgram → Option Label → List StartValue → Status → List ℕ → Type 0
 HasCut e t q None ss = λ s x. ⊥
 HasCut e t q (Some l) ss =
-    Then (CutStops e t q l ss) (Cuts e t q l ss) (λ r s x.
+    Then (CutStops e t q l ss) (CutReportsIn e q l.number t ss) (λ r s x.
     (s ≡ status.Done) × (x ≡ cut_lines q.program.order l t r))
 
--- ---- a file of ready cycles
+-- ---- a black box
 
--- the runs that the file holds
-pub record HoldsRuns (content : Option (Option (List ℕ))) (runs : List (List ℕ)) : Type 0 where
-  pub bytes : List ℕ
-  pub are : IsTold content bytes
-  pub short : length bytes ≤ limit
-  pub taken : refusal bytes ≡ None
-  pub holds : Holds bytes runs
-
-pub record HasReadyFault (content : Option (Option (List ℕ))) (t : List ℕ) : Type 0 where
-  pub bytes : List ℕ
-  pub are : IsTold content bytes
-  pub short : length bytes ≤ limit
-  pub fault : ReadyFault
-  pub none : fault ≢ Memory
-  pub is : refusal bytes ≡ Some fault
-  pub line : t ≡ ready_fault_line fault
-
-abbrev pub ReadyStops : Type 0 → Option (Option (List ℕ)) → Status → List ℕ → Type 0
-ReadyStops Rose content status.ReadFault t = Rose × (t ≡ read_fault_line ready)
-ReadyStops Rose content status.TooLong t = IsTooLong content × (t ≡ too_long_line ready)
-ReadyStops Rose content status.Starts t = HasReadyFault content t
-ReadyStops Rose content _ t = ⊥
-
--- what is released by the schedule, where the number of different lists of releases is within its bound
+-- what is released by the schedule
 abbrev pub HasReleased : ℕ → ℕ → List (List ℕ) → Status → List ℕ → Type 0
 HasReleased first t runs s x =
     (s ≡ status.Done) × (outcomes : List Outcome) × AllZip (IsOutcome first t) runs outcomes
-    × (distinct_count same_cycles (all_released outcomes) ≤ (t + 1) ^ digits t)
     × (x ≡ box_lines first t runs outcomes)

@@ -1,36 +1,21 @@
 -- The text of a run without its time: a line for each assignment, and a last line.
-use Rattle.std.specs.Prelude.{◌≡◌, ◌⊎◌, ◌≤◌, ◌<◌, ℕ, ℤ, List, [], ◌∷◌, ◌++◌, Option, codes, decimal}
-use Rattle.std.specs.Fmt.{signed_decimal}
+use Rattle.std.specs.Prelude.{◌≡◌, ◌⊎◌, ◌≤◌, ◌<◌, ℕ, ℤ, List, [], ◌++◌, Option}
 use Rattle.std.specs.Io.KnownBytes.{Appends}
 use Rattle.tim_base.specs.Sinks.{AppendsPrefix}
-use Rattle.mit_syntax.specs.Declarations.{Declaration, cell_at}
+use Rattle.mit_syntax.specs.Declarations.{Declaration}
 use Rattle.mit_syntax.specs.Plan.{Plan}
 use Rattle.mit_syntax.specs.Program.{Syntax, plan_of}
 use Rattle.source_meaning.specs.declared.walk.Walk.{Walk}
 use Rattle.source_meaning.specs.declared.walk.Walk.TheVariants.{Assigned as DidAssign, Began, Silent, Ended}
 use Rattle.source_meaning.specs.Source.{trace_of, HasEnded}
 use Rattle.start_file.specs.Starts.{StartValue}
-use Rattle.event_print.specs.Text.{cell_text}
-use Rattle.mit_tool.specs.declared.status.Status.{Status}
-use Rattle.mit_tool.specs.declared.status.Status.TheVariants as status
-
--- `X = V`
-abbrev pub value_line : List Declaration → ℕ → ℤ → List ℕ
-value_line ds x n = cell_text (cell_at ds x) ++ (codes " = " ++ (signed_decimal n ++ codes "\n"))
-
-abbrev pub value_lines : List Declaration → List (ℕ × ℤ) → List ℕ
-value_lines ds [] = []
-value_lines ds (e ∷ es) = value_line ds e.0 e.1 ++ value_lines ds es
+use Rattle.tool_texts.specs.declared.status.Status.{Status}
+use Rattle.tool_texts.specs.declared.status.Status.TheVariants as status
+use Rattle.tool_texts.specs.Texts.{ended_line, not_ended_line, value_line, value_lines}
 
 -- the lines of the first n steps
 abbrev pub lines_after : Syntax → List ℤ → ℕ → List ℕ
 lines_after p memory n = value_lines p.declarations (trace_of (plan_of p) memory n)
-
-abbrev pub ended_line : ℕ → List ℕ
-ended_line n = codes "ended after " ++ (decimal n ++ codes " steps\n")
-
-abbrev pub not_ended_line : ℕ → List ℕ
-not_ended_line n = codes "not ended after " ++ (decimal n ++ codes " steps\n")
 
 -- nothing is left to do after so many of the n steps, and not before
 pub record EndsAfter (p : Plan) (memory : List ℤ) (n steps : ℕ) : Type 0 where

@@ -8,5 +8,4 @@ pub mod cut;
 pub mod generate;
 pub mod infer;
 pub mod meaning;
-pub mod prepared;
 pub mod run;

@@ -2,12 +2,14 @@
 
 ghost use Rattle.std.specs.Prelude.{◌≡◌, ◌≤◌, ◌⊎◌, ℕ, List, None, IfSome, IsTrue, map, string_bytes};
 ghost use Rattle.tim_base.specs.Faults.{Rose};
-ghost use Rattle.mit_tool.specs.Ends.{EndsBy, Nothing};
-ghost use Rattle.mit_tool.specs.WordsAsked.{IsInRange, command_of, check};
-ghost use Rattle.mit_tool.specs.WordsViews.{asked_of};
-ghost use Rattle.mit_tool.specs.Answers.{IsAnswer, IsUsage, Before, typed_content, is_past_typing};
-ghost use Rattle.mit_tool.specs.Accepted.{IsAccepted};
+ghost use Rattle.tool_words.specs.WordsAsked.{IsInRange, command_of, check};
+ghost use Rattle.tool_words.specs.WordsViews.{asked_of};
+ghost use Rattle.tool_texts.specs.Ends.{EndsBy, Nothing};
+ghost use Rattle.tool_stages.specs.Accepted.{is_past_typing, IsAccepted};
+ghost use Rattle.mit_tool.specs.Answers.{IsAnswer, IsUsage, Before, typed_content};
 ghost use Rattle.mit_tool.specs.Complete.{CanBeDone, NoneRises};
+ghost use Rattle.mit_tool.specs.Held.{EndsByOne};
+ghost use Rattle.mit_tool.specs.Bounded.{AreWithin};
 
 use crate::commands::audit::audit_text;
 use crate::commands::blackbox::blackbox_text;
@@ -17,14 +19,17 @@ use crate::commands::cut::cut_text;
 use crate::commands::generate::gen_text;
 use crate::commands::infer::infer_text;
 use crate::commands::meaning::meaning;
-use crate::commands::run::{Setting, run};
-use crate::finish::{finish, stop, tell};
-use crate::status::Status;
-use crate::stop::Stop;
-use crate::words::{Command, WordsFault, read_words};
+use crate::commands::run::run;
+use black_box::laws::few_release_lists;
 use std::alloc::Global;
 use tim_base::shelf::Shelf;
 use tim_base::sink::Sink;
+use tool_stages::laws::accepted_are_sound;
+use tool_stages::setting::Setting;
+use tool_texts::finish::{finish, stop, tell};
+use tool_texts::status::Status;
+use tool_texts::stop::Stop;
+use tool_words::words::{Command, WordsFault, read_words};
 
 /// Tells whether the program of a file is accepted.
 fn check<S: Shelf, W: Sink>(alloc: Global, shelf: &mut S, out: &mut W, file: &str) -> Status
@@ -125,6 +130,13 @@ fn obey<S: Shelf, W: Sink>(
 ///
 /// `complete`: a command that can be done is done, want of memory aside, where no count of faults rose, neither that
 /// of a file that the words name nor that of the sink.
+///
+/// `one`: these three hold together of one content, the bytes that the files hold, also where the shelf does not tell
+/// them; so the text is the answer by the very bytes whose program is accepted. Only a file that is named twice has to
+/// be told, since its two readings may differ.
+///
+/// `bounded`: the number of different sequences that an audit, a cut or a made audit prints is at most the bound that it
+/// prints, and so is the number of different lists of releases.
 pub fn mitigate_main<S: Shelf, W: Sink>(
     alloc: Global,
     words: &[String],
@@ -142,12 +154,18 @@ pub fn mitigate_main<S: Shelf, W: Sink>(
         → NoneRises (λ name. Rose (S.faults shelf.old name) (S.faults shelf.new name)) a → (Rose (W.faults out.old) (W.faults out.new) → ⊥)
         → (result ≡ Status.Done) ⊎ (result ≡ Status.Memory)) }
     ensures write { result ≡ Status.WriteFault → Rose (W.faults out.old) (W.faults out.new) }
+    ensures one { IfSome (command_of (map string_bytes words.now)) (λ a.
+        EndsByOne (S.content shelf.old) (λ name. Rose (S.faults shelf.old name) (S.faults shelf.new name)) (Rose (W.faults out.old) (W.faults out.new))
+        (W.taken out.old) (W.taken out.new) a result) }
+    ensures bounded { IfSome (command_of (map string_bytes words.now)) AreWithin }
 
     // No file changes, and no count of faults falls.
     ensures same { (name : List ℕ) → S.content shelf.new name ≡ S.content shelf.old name }
     ensures later { (name : List ℕ) → S.faults shelf.old name ≤ S.faults shelf.new name }
     ensures later_out { W.faults out.old ≤ W.faults out.new }
 {
+    accepted_are_sound();
+    few_release_lists();
     match read_words(alloc, words) {
         Ok(command) => obey(alloc, shelf, out, command),
         Err(WordsFault::Usage) => stop(out, Stop::Usage),

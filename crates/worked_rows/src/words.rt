@@ -1,7 +1,7 @@
-use mit_tool::words::EnvName::{Flat, Part, Part2};
-use mit_tool::words::{Command, EnvName, WordsFault, read_words};
 use std::alloc::{AllocError, Global};
 use std::test::Fail;
+use tool_words::words::EnvName::{Flat, Part, Part2};
+use tool_words::words::{Command, EnvName, WordsFault, read_words};
 
 // The words of a line, with a bar between two words.
 fn split(alloc: Global, line: &str) -> Result<Vec<String>, AllocError> {

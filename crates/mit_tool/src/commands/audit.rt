@@ -5,21 +5,14 @@ ghost use Rattle.tim_base.specs.Faults.{Rose};
 ghost use Rattle.label_lattice.specs.declared.label.Label.{Label};
 ghost use Rattle.timing_types.specs.Labelled.{LabelledProgram};
 ghost use Rattle.start_file.specs.Starts.{StartValue, seen};
-ghost use Rattle.mit_tool.specs.Ends.{IsStop, status_of};
-ghost use Rattle.mit_tool.specs.WordsAsked.{IsCycles, audit};
-ghost use Rattle.mit_tool.specs.Envs.{AuditFaultsIn};
-ghost use Rattle.mit_tool.specs.Audited.{AuditStops, Audits, HasAudited};
-ghost use Rattle.mit_tool.specs.Answers.{IsAnswer, CanAudit, is_past_typing};
-ghost use Rattle.mit_tool.specs.Accepted.{IsAccepted};
+ghost use Rattle.tool_words.specs.WordsAsked.{IsCycles, audit};
+ghost use Rattle.tool_texts.specs.Ends.{IsStop, status_of};
+ghost use Rattle.tool_stages.specs.Envs.{ReportsIn, AuditFaultsIn};
+ghost use Rattle.tool_stages.specs.Begins.{CanAudit};
+ghost use Rattle.tool_stages.specs.Accepted.{is_past_typing, IsAccepted};
+ghost use Rattle.mit_tool.specs.Audited.{AuditStops, HasAudited};
+ghost use Rattle.mit_tool.specs.Answers.{IsAnswer};
 
-use crate::commands::prepared::{Prepared, prepare};
-use crate::commands::run::Setting;
-use crate::lines;
-use crate::pieces::audits::put_audit;
-use crate::stages::no_memory;
-use crate::status::Status;
-use crate::stop::Stop;
-use crate::words::EnvName;
 use env_contract::make::MakeFlat;
 use history_reports::laws::reports_are_the_same;
 use leak_audit::audit::audit;
@@ -29,12 +22,19 @@ use part_tlb::part::MakePart;
 use part_tlb::part2::MakePart2;
 use std::alloc::Global;
 use tim_base::shelf::Shelf;
+use tool_stages::prepared::{Prepared, prepare};
+use tool_stages::setting::Setting;
+use tool_texts::lines;
+use tool_texts::pieces::audits::put_audit;
+use tool_texts::status::Status;
+use tool_texts::stop::{Stop, no_memory};
+use tool_words::words::EnvName;
 
 /// Audits in the environment of a name.
 fn audit_named(alloc: Global, p: &Prepared, setting: Setting) -> Result<AuditReport, AuditFault>
     requires fit { CanAudit p.now.compiled.typed.labelled p.now.observer p.now.compiled.image (map seen p.now.starts.items) }
     requires cycles { IsCycles setting.budget }
-    ensures report { IfOk result (Audits setting.env setting.budget p.now.compiled.typed.labelled p.now.observer (map seen p.now.starts.items)) }
+    ensures report { IfOk result (ReportsIn setting.env p.now.compiled.typed.labelled p.now.observer.number setting.budget (map seen p.now.starts.items)) }
     ensures fault { IfErr result (AuditFaultsIn setting.env p.now.compiled.typed.labelled p.now.observer.number setting.budget (map seen p.now.starts.items)) }
 {
     let (typed, image, starts) = (&p.compiled.typed, &p.compiled.image, p.starts.as_slice());

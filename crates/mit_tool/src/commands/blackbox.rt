@@ -3,21 +3,20 @@
 ghost use Rattle.std.specs.Prelude.{◌≡◌, ◌≤◌, ℕ, List, IfOk, IfErr, length};
 ghost use Rattle.tim_base.specs.Faults.{Rose};
 ghost use Rattle.black_box.specs.Files.{ready_lists};
-ghost use Rattle.mit_tool.specs.Ends.{IsStop};
-ghost use Rattle.mit_tool.specs.WordsAsked.{IsCycles, blackbox};
+ghost use Rattle.tool_words.specs.WordsAsked.{IsCycles, blackbox};
+ghost use Rattle.tool_texts.specs.Ends.{IsStop};
 ghost use Rattle.mit_tool.specs.Audited.{HasReleased};
 ghost use Rattle.mit_tool.specs.Answers.{IsAnswer};
 
-use crate::pieces::boxes::put_box;
-use crate::stages::no_memory;
-use crate::stages::ready::ready_runs;
-use crate::status::Status;
-use crate::stop::Stop;
 use black_box::audit::box_audit;
 use black_box::ready::MAX_RUNS;
 use std::alloc::Global;
 use tim_base::pos::Memory;
 use tim_base::shelf::Shelf;
+use tool_stages::ready::ready_runs;
+use tool_texts::pieces::boxes::put_box;
+use tool_texts::status::Status;
+use tool_texts::stop::{Stop, no_memory};
 
 // The text of runs with these ready cycles.
 fn released(alloc: Global, all: &[Vec<u64>], first: u64, budget: u64) -> Result<Vec<u8>, Memory>

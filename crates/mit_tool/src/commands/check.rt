@@ -2,20 +2,21 @@
 
 ghost use Rattle.std.specs.Prelude.{◌≡◌, ◌≤◌, ℕ, List, IfOk, IfErr, OnOk};
 ghost use Rattle.tim_base.specs.Faults.{Rose};
-ghost use Rattle.mit_tool.specs.Ends.{IsStop};
-ghost use Rattle.mit_tool.specs.WordsAsked.{check};
-ghost use Rattle.mit_tool.specs.Answers.{IsAnswer, CheckStops};
-ghost use Rattle.mit_tool.specs.Accepted.{IsAccepted};
+ghost use Rattle.tool_words.specs.WordsAsked.{check};
+ghost use Rattle.tool_texts.specs.Ends.{IsStop};
+ghost use Rattle.tool_stages.specs.Begins.{CheckStops};
+ghost use Rattle.tool_stages.specs.Accepted.{IsAccepted};
+ghost use Rattle.mit_tool.specs.Answers.{IsAnswer};
 
-use crate::laws::accepted_are_sound;
-use crate::lines::accepted;
-use crate::stages::program::read_program;
-use crate::stages::types::typed;
-use crate::status::Status;
-use crate::stop::Stop;
 use std::alloc::Global;
 use tim_base::line::Line;
 use tim_base::shelf::Shelf;
+use tool_stages::laws::accepted_are_sound;
+use tool_stages::program::read_program;
+use tool_stages::types::typed;
+use tool_texts::lines::accepted;
+use tool_texts::status::Status;
+use tool_texts::stop::Stop;
 
 /// The line that tells that the program of a file is accepted.
 ///

@@ -2,18 +2,17 @@
 
 ghost use Rattle.std.specs.Prelude.{◌≡◌, ◌≤◌, ℕ, List, IfOk, IfErr, OnOk, IsTrue};
 ghost use Rattle.tim_base.specs.Faults.{Rose};
-ghost use Rattle.mit_tool.specs.Ends.{IsStop, status_of};
-ghost use Rattle.mit_tool.specs.WordsAsked.{compile};
-ghost use Rattle.mit_tool.specs.Answers.{IsAnswer, is_past_typing};
-ghost use Rattle.mit_tool.specs.Accepted.{IsAccepted};
+ghost use Rattle.tool_words.specs.WordsAsked.{compile};
+ghost use Rattle.tool_texts.specs.Ends.{IsStop, status_of};
+ghost use Rattle.tool_stages.specs.Accepted.{is_past_typing, IsAccepted};
+ghost use Rattle.mit_tool.specs.Answers.{IsAnswer};
 
-use crate::compiled::compile;
-use crate::stages::no_memory;
-use crate::status::Status;
-use crate::stop::Stop;
 use image_print::print::print_image;
 use std::alloc::Global;
 use tim_base::shelf::Shelf;
+use tool_stages::compiled::compile;
+use tool_texts::status::Status;
+use tool_texts::stop::{Stop, no_memory};
 
 /// The text of the image of the program of a file.
 ///

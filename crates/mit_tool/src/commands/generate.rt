@@ -6,24 +6,24 @@ ghost use Rattle.start_file.specs.Starts.{seen};
 ghost use Rattle.mit_gen.specs.Made.{program_text, starts_text};
 ghost use Rattle.mit_syntax.specs.Plan.{count};
 ghost use Rattle.mit_syntax.specs.Program.{plan_of};
-ghost use Rattle.mit_tool.specs.Reports.{made_lines};
-ghost use Rattle.mit_tool.specs.Ends.{IsStop, status_of};
-ghost use Rattle.mit_tool.specs.Answers.{HasGenerated, made_content, IsPrepared, CanAudit, PrepareStops, is_past_typing};
-ghost use Rattle.mit_tool.specs.Accepted.{IsAccepted};
+ghost use Rattle.tool_texts.specs.Reports.{made_lines};
+ghost use Rattle.tool_texts.specs.Ends.{IsStop, status_of};
+ghost use Rattle.tool_stages.specs.Begins.{IsPrepared, CanAudit, PrepareStops};
+ghost use Rattle.tool_stages.specs.Accepted.{is_past_typing, IsAccepted};
+ghost use Rattle.mit_tool.specs.Answers.{HasGenerated, made_content};
 
 use crate::commands::audit::audit_after;
-use crate::commands::prepared::Prepared;
-use crate::commands::run::Setting;
-use crate::compiled::compile_program;
-use crate::pieces::audits::put_made;
-use crate::stages::no_memory;
-use crate::stages::program::program_of;
-use crate::stages::starts::starts_of;
-use crate::status::Status;
-use crate::stop::Stop;
-use crate::words::EnvName;
 use mit_gen::made::{Made, make};
 use std::alloc::{AllocError, Global};
+use tool_stages::compiled::compile_program;
+use tool_stages::prepared::Prepared;
+use tool_stages::program::program_of;
+use tool_stages::setting::Setting;
+use tool_stages::starts::starts_of;
+use tool_texts::pieces::audits::put_made;
+use tool_texts::status::Status;
+use tool_texts::stop::{Stop, no_memory};
+use tool_words::words::EnvName;
 
 /// The environment and the budget of the audit of a made program.
 const SETTING: Setting = Setting {

@@ -2,20 +2,19 @@
 
 ghost use Rattle.std.specs.Prelude.{◌≡◌, ◌≤◌, ℕ, List, IfOk, IfErr, OnOk, IsTrue};
 ghost use Rattle.tim_base.specs.Faults.{Rose};
-ghost use Rattle.mit_tool.specs.Ends.{IsStop, status_of};
-ghost use Rattle.mit_tool.specs.WordsAsked.{infer};
-ghost use Rattle.mit_tool.specs.Answers.{IsAnswer, is_past_typing};
-ghost use Rattle.mit_tool.specs.Accepted.{IsAccepted};
+ghost use Rattle.tool_words.specs.WordsAsked.{infer};
+ghost use Rattle.tool_texts.specs.Ends.{IsStop, status_of};
+ghost use Rattle.tool_stages.specs.Accepted.{is_past_typing, IsAccepted};
+ghost use Rattle.mit_tool.specs.Answers.{IsAnswer};
 
-use crate::laws::accepted_are_sound;
-use crate::stages::no_memory;
-use crate::stages::program::read_program;
-use crate::stages::types::typed;
-use crate::status::Status;
-use crate::stop::Stop;
 use label_write::write::print_labelled;
 use std::alloc::Global;
 use tim_base::shelf::Shelf;
+use tool_stages::laws::accepted_are_sound;
+use tool_stages::program::read_program;
+use tool_stages::types::typed;
+use tool_texts::status::Status;
+use tool_texts::stop::{Stop, no_memory};
 
 /// The canonical text of the program of a file, in which every label of its least labelling is written.
 ///

@@ -1,52 +1,20 @@
 //! `meaning`: a program runs without its time, and its assignments are written while it runs.
 
-ghost use Rattle.std.specs.Prelude.{◌≡◌, ◌≤◌, ℕ, List, IfOk, IfErr, option_map};
+ghost use Rattle.std.specs.Prelude.{◌≡◌, ◌≤◌, ℕ, List, option_map};
 ghost use Rattle.tim_base.specs.Faults.{Rose};
-ghost use Rattle.start_file.specs.Starts.{seen, IsFor};
-ghost use Rattle.mit_tool.specs.Ends.{IsStop, EndsBy};
-ghost use Rattle.mit_tool.specs.WordsAsked.{meaning};
-ghost use Rattle.mit_tool.specs.Answers.{IsAnswer, Before, HasSource, MeaningStops};
+ghost use Rattle.tool_words.specs.WordsAsked.{meaning};
+ghost use Rattle.tool_texts.specs.Ends.{EndsBy};
+ghost use Rattle.mit_tool.specs.Answers.{IsAnswer, Before};
 
-mod lines;
 mod walk;
 
 use crate::commands::meaning::walk::{WalkFault, walk};
-use crate::finish::{finish, stop};
-use crate::stages::program::read_program;
-use crate::stages::starts::first_start;
-use crate::status::Status;
-use crate::stop::Stop;
-use mit_syntax::program::Program;
-use start_file::start::Start;
 use std::alloc::Global;
 use tim_base::shelf::Shelf;
 use tim_base::sink::Sink;
-
-/// What a run without its time begins with: a program and its first start.
-///
-/// # Errors
-/// Stops with the first refusal, or with `Memory`.
-fn source<S: Shelf>(
-    alloc: Global,
-    shelf: &mut S,
-    file: &str,
-    starts: Option<&str>,
-) -> Result<(Program, Start), Stop>
-    ensures same { (name : List ℕ) → S.content shelf.new name ≡ S.content shelf.old name }
-    ensures later { (name : List ℕ) → S.faults shelf.old name ≤ S.faults shelf.new name }
-    ensures ok { IfOk result (λ r. HasSource (S.content shelf.old) file.now (option_map (λ s. s.now) starts.entry) r.0 (seen r.1)) }
-    ensures valid { IfOk result (λ r. IsFor r.0 (seen r.1)) }
-    ensures stop { IfErr result (IsStop (MeaningStops (λ name. Rose (S.faults shelf.old name) (S.faults shelf.new name)) (S.content shelf.old) file.now (option_map (λ s. s.now) starts.entry))) }
-{
-    let program = match read_program(alloc, shelf, file) {
-        Ok(program) => program,
-        Err(stop) => return Err(stop),
-    };
-    match first_start(alloc, shelf, starts, &program) {
-        Ok(start) => Ok((program, start)),
-        Err(stop) => Err(stop),
-    }
-}
+use tool_stages::started::source;
+use tool_texts::finish::{finish, stop};
+use tool_texts::status::Status;
 
 /// Takes at most so many steps of the program of a file, from the first start of another one or from zeros.
 pub fn meaning<S: Shelf, W: Sink>(

@@ -1,22 +1,16 @@
 //! `run`: a program runs on the machine that counts cycles, and its assignments are written while it runs.
 
-ghost use Rattle.std.specs.Prelude.{◌≡◌, ◌≤◌, ◌<◌, ℕ, List, IfOk, IfErr, OnOk, IfSome, option_map, IsTrue};
+ghost use Rattle.std.specs.Prelude.{◌≡◌, ◌≤◌, ◌<◌, ℕ, List, IfSome, option_map, IsTrue};
 ghost use Rattle.tim_base.specs.Faults.{Rose};
 ghost use Rattle.label_code.specs.Run.{run_from};
 ghost use Rattle.start_file.specs.Starts.{seen, IsFor};
 ghost use Rattle.event_print.specs.Rest.{told_by};
-ghost use Rattle.mit_tool.specs.Ends.{IsStop, EndsBy, Nothing};
-ghost use Rattle.mit_tool.specs.WordsAsked.{run};
-ghost use Rattle.mit_tool.specs.Stages.{HasImage};
-ghost use Rattle.mit_tool.specs.Answers.{IsAnswer, HasTold, HasRun, is_past_typing, IsReady, RunStops};
-ghost use Rattle.mit_tool.specs.Accepted.{IsAccepted};
+ghost use Rattle.tool_words.specs.WordsAsked.{run};
+ghost use Rattle.tool_texts.specs.Ends.{EndsBy, Nothing};
+ghost use Rattle.tool_stages.specs.Stages.{HasImage};
+ghost use Rattle.tool_stages.specs.Accepted.{is_past_typing, IsAccepted};
+ghost use Rattle.mit_tool.specs.Answers.{IsAnswer, HasTold, HasRun};
 
-use crate::compiled::{Compiled, compile};
-use crate::finish::{finish, stop};
-use crate::stages::starts::first_start;
-use crate::status::Status;
-use crate::stop::Stop;
-use crate::words::EnvName;
 use cycle_machine::machine::Machine;
 use env_contract::env::MachineEnv;
 use env_contract::make::{MakeEnv, MakeFlat};
@@ -29,13 +23,12 @@ use start_file::start::Start;
 use std::alloc::Global;
 use tim_base::shelf::Shelf;
 use tim_base::sink::Sink;
-
-/// The environment and the budget of a run, in cycles.
-#[derive(Clone, Copy)]
-pub struct Setting {
-    pub env: EnvName,
-    pub budget: u64,
-}
+use tool_stages::compiled::Compiled;
+use tool_stages::setting::Setting;
+use tool_stages::started::ready;
+use tool_texts::finish::{finish, stop};
+use tool_texts::status::Status;
+use tool_words::words::EnvName;
 
 /// Runs a program in the environment that a maker makes.
 fn run_in<E: MachineEnv + Drop, M: MakeEnv<E>, W: Sink>(
@@ -96,34 +89,6 @@ fn run_named<W: Sink>(
         EnvName::Flat => run_in(alloc, &MakeFlat, program, start, budget, out),
         EnvName::Part => run_in(alloc, &MakePart, program, start, budget, out),
         EnvName::Part2 => run_in(alloc, &MakePart2, program, start, budget, out),
-    }
-}
-
-/// What a run begins with: a program and its first start.
-///
-/// # Errors
-/// Stops with the first refusal, or with `Memory`.
-fn ready<S: Shelf>(
-    alloc: Global,
-    shelf: &mut S,
-    file: &str,
-    starts: Option<&str>,
-    name: Option<&str>,
-) -> Result<(Compiled, Start), Stop>
-    ensures same { (name : List ℕ) → S.content shelf.new name ≡ S.content shelf.old name }
-    ensures later { (name : List ℕ) → S.faults shelf.old name ≤ S.faults shelf.new name }
-    ensures ok { IfOk result (λ r. IsReady (S.content shelf.old) file.now (option_map (λ s. s.now) starts.entry) (option_map (λ s. s.now) name.entry) r.0.typed.labelled r.0.observer r.0.image (seen r.1)) }
-    ensures valid { IfOk result (λ r. IsFor r.0.typed.labelled.program (seen r.1)) }
-    ensures stop { IfErr result (IsStop (RunStops (λ name. Rose (S.faults shelf.old name) (S.faults shelf.new name)) (S.content shelf.old) file.now (option_map (λ s. s.now) starts.entry) (option_map (λ s. s.now) name.entry))) }
-    ensures sound { OnOk result (IsAccepted (S.content shelf.old file.now)) }
-{
-    let compiled = match compile(alloc, shelf, file, name) {
-        Ok(compiled) => compiled,
-        Err(stop) => return Err(stop),
-    };
-    match first_start(alloc, shelf, starts, compiled.typed.labelled().program()) {
-        Ok(start) => Ok((compiled, start)),
-        Err(stop) => Err(stop),
     }
 }
 

@@ -1,13 +1,14 @@
 use Rattle.std.proofs.Common.{refl, sym, subst}
 use Rattle.std.specs.Prelude.{ℕ, List}
 use Rattle.tim_base.specs.Faults.{Rose}
-use Rattle.mit_tool.specs.declared.status.Status.TheVariants.{Done}
-use Rattle.mit_tool.specs.WordsAsked.{check}
-use Rattle.mit_tool.specs.Ends.{Nothing, status_of, stop_text}
-use Rattle.mit_tool.specs.Answers.{IsAnswer, CheckStops}
-use Rattle.mit_tool.proofs.EndLemmas.{ends_finish, ends_stop}
+use Rattle.tool_words.specs.WordsAsked.{check}
+use Rattle.tool_texts.specs.declared.status.Status.TheVariants.{Done}
+use Rattle.tool_texts.specs.Ends.{Nothing, status_of, stop_text}
+use Rattle.tool_stages.specs.Begins.{CheckStops}
+use Rattle.mit_tool.specs.Answers.{IsAnswer}
+use Rattle.tool_texts.proofs.EndLemmas.{ends_finish, ends_stop}
+use Rattle.tool_stages.proofs.EarlyLemmas.{check_stopped}
 use Rattle.mit_tool.proofs.StopLemmas.{check_stops}
-use Rattle.mit_tool.proofs.EarlyLemmas.{check_stopped}
 use Rattle.mit_tool.proofs.main_call.check.Goals as goal
 
 pub returns-in-Ok-clause-answered : goal.returns-in-Ok-clause-answered

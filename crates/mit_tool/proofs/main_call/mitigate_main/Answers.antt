@@ -1,16 +1,21 @@
 use Rattle.std.proofs.Common.{◌≡◌, ◌⊎◌, inr, refl}
 use Rattle.std.specs.Prelude.{ℕ, List, map, string_bytes}
 use Rattle.tim_base.specs.Faults.{Rose}
-use Rattle.mit_tool.specs.declared.status.Status.TheVariants.{Done, Usage, Memory}
-use Rattle.mit_tool.specs.Texts.{usage_text}
-use Rattle.mit_tool.specs.WordsAsked.{Asked, command_of}
-use Rattle.mit_tool.specs.Ends.{EndsBy, Nothing}
+use Rattle.tool_words.specs.WordsAsked.{Asked, command_of}
+use Rattle.tool_words.specs.WordsViews.{asked_of}
+use Rattle.tool_texts.specs.declared.status.Status.TheVariants.{Done, Usage, Memory}
+use Rattle.tool_texts.specs.Texts.{usage_text}
+use Rattle.tool_texts.specs.Ends.{EndsBy, Nothing}
 use Rattle.mit_tool.specs.Answers.{IsAnswer, IsUsage, Before}
-use Rattle.mit_tool.proofs.EndLemmas.{ends_finish, ends_memory}
-use Rattle.mit_tool.specs.WordsViews.{asked_of}
 use Rattle.mit_tool.specs.Complete.{CanBeDone, NoneRises}
+use Rattle.tool_texts.proofs.EndLemmas.{ends_finish, ends_memory}
 use Rattle.mit_tool.proofs.AskedLemmas.{any_some, nothing_before, asked_some}
+use Rattle.mit_tool.specs.Held.{EndsByOne, told_all}
+use Rattle.mit_tool.specs.Bounded.{AreWithin}
 use Rattle.mit_tool.proofs.CompleteLemmas.{completes}
+use Rattle.mit_tool.proofs.OneHeld.{ends_held}
+use Rattle.mit_tool.proofs.PastLemmas.{ends_past}
+use Rattle.mit_tool.proofs.BoundLemmas.{within}
 use Rattle.mit_tool.proofs.main_call.mitigate_main.Goals as goal
 
 pub returns-in-Err-Usage-clause-usage : goal.returns-in-Err-Usage-clause-usage
@@ -44,3 +49,51 @@ returns-in-Err-Memory-clause-complete g c =
     let risen = Rose (g.W.Sink.faults c.args.out.now) (g.W.Sink.faults c.finish.new.out) in
     any_some (command_of (map string_bytes c.args.words.now)) (λ (a : Asked). CanBeDone content a → NoneRises rises a → (risen → ⊥) → (c.finish.result ≡ Done) ⊎ (c.finish.result ≡ Memory))
     (λ a can none n. inr (c.finish.ensures.told (λ e. n (c.finish.ensures.fault e))).0)
+
+pub returns-in-Ok-clause-one : goal.returns-in-Ok-clause-one
+returns-in-Ok-clause-one g c =
+    let content = g.S.Shelf.content c.args.shelf.now in
+    let rises = λ (name : List ℕ). Rose (g.S.Shelf.faults c.args.shelf.now name) (g.S.Shelf.faults c.obey.new.shelf name) in
+    let risen = Rose (g.W.Sink.faults c.args.out.now) (g.W.Sink.faults c.obey.new.out) in
+    let old = g.W.Sink.taken c.args.out.now in
+    let new = g.W.Sink.taken c.obey.new.out in
+    let a = asked_of c.in-Ok.command in
+    asked_some (command_of (map string_bytes c.args.words.now)) a (λ (a : Asked). EndsByOne content rises risen old new a c.obey.result)
+    c.in-Ok.ensures.asked
+    (λ alike.
+    let k = ends_held rises content a old new c.obey.result alike c.obey.ensures.answered in
+    record {
+      held = k.0;
+      told = k.1;
+      answered = k.2;
+      sound = ends_past c.accepted_are_sound.ensures.spelled rises (told_all k.0) a old new (Before (told_all k.0) a) c.obey.result k.2;
+      complete = completes old new rises (told_all k.0) a c.obey.result risen k.2 c.obey.ensures.write c.in-Ok.ensures.range;
+    })
+
+pub returns-in-Err-Memory-clause-one : goal.returns-in-Err-Memory-clause-one
+returns-in-Err-Memory-clause-one g c =
+    let content = g.S.Shelf.content c.args.shelf.now in
+    let rises = λ (name : List ℕ). Rose (g.S.Shelf.faults c.args.shelf.now name) (g.S.Shelf.faults c.args.shelf.now name) in
+    let risen = Rose (g.W.Sink.faults c.args.out.now) (g.W.Sink.faults c.finish.new.out) in
+    let old = g.W.Sink.taken c.args.out.now in
+    let new = g.W.Sink.taken c.finish.new.out in
+    any_some (command_of (map string_bytes c.args.words.now)) (λ (a : Asked). EndsByOne content rises risen old new a c.finish.result)
+    (λ a alike.
+    let k = ends_held rises content a old new c.finish.result alike
+    (ends_memory old new (Before content a) (IsAnswer rises content a) c.finish.result (nothing_before content a) c.finish.ensures.told c.finish.ensures.prefix) in
+    record {
+      held = k.0;
+      told = k.1;
+      answered = k.2;
+      sound = ends_past c.accepted_are_sound.ensures.spelled rises (told_all k.0) a old new (Before (told_all k.0) a) c.finish.result k.2;
+      complete = λ can none n. inr (c.finish.ensures.told (λ e. n (c.finish.ensures.fault e))).0;
+    })
+
+pub returns-in-Ok-clause-bounded : goal.returns-in-Ok-clause-bounded
+returns-in-Ok-clause-bounded g c = any_some (command_of (map string_bytes c.args.words.now)) AreWithin (within c.accepted_are_sound.ensures.spelled c.few_release_lists.ensures.few)
+
+pub returns-in-Err-Memory-clause-bounded : goal.returns-in-Err-Memory-clause-bounded
+returns-in-Err-Memory-clause-bounded g c = any_some (command_of (map string_bytes c.args.words.now)) AreWithin (within c.accepted_are_sound.ensures.spelled c.few_release_lists.ensures.few)
+
+pub returns-in-Err-Usage-clause-bounded : goal.returns-in-Err-Usage-clause-bounded
+returns-in-Err-Usage-clause-bounded g c = any_some (command_of (map string_bytes c.args.words.now)) AreWithin (within c.accepted_are_sound.ensures.spelled c.few_release_lists.ensures.few)

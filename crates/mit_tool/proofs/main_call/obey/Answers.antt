@@ -1,18 +1,19 @@
 use Rattle.std.proofs.Common.{◌≡◌, ◌⊎◌, ℕ, List, Bor, inl, inr, refl, sym, subst}
 use Rattle.tim_base.specs.Faults.{Rose}
-use Rattle.mit_tool.specs.declared.words.Command.{Command}
-use Rattle.mit_tool.specs.declared.words.Command.TheVariants.{Certify, Recheck}
-use Rattle.mit_tool.specs.declared.status.Status.TheVariants.{Usage}
-use Rattle.mit_tool.specs.Texts.{usage_text}
-use Rattle.mit_tool.specs.WordsViews.{asked_of}
-use Rattle.mit_tool.specs.Ends.{EndsBy, Nothing, told_status, told_text}
 use Rattle.std.specs.Prelude.{IfSome, IsTrue, Some}
 use Rattle.mit_gen.specs.Made.{program_text}
-use Rattle.mit_tool.specs.WordsAsked.{infer, compile, audit, cut, blackbox}
-use Rattle.mit_tool.specs.Answers.{IsAnswer, IsUsage, Before, HasGenerated, typed_content, is_past_typing}
-use Rattle.mit_tool.specs.Accepted.{IsAccepted}
-use Rattle.mit_tool.proofs.TellLemmas.{result_tells, no_fault, told_sound, infer_no_fault, compile_no_fault, audit_no_fault, cut_no_fault, gen_no_fault, blackbox_no_fault}
-use Rattle.mit_tool.proofs.EndLemmas.{ends_finish}
+use Rattle.tool_words.specs.declared.words.Command.{Command}
+use Rattle.tool_words.specs.declared.words.Command.TheVariants.{Certify, Recheck}
+use Rattle.tool_words.specs.WordsViews.{asked_of}
+use Rattle.tool_words.specs.WordsAsked.{infer, compile, audit, cut, blackbox}
+use Rattle.tool_texts.specs.declared.status.Status.TheVariants.{Usage}
+use Rattle.tool_texts.specs.Texts.{usage_text}
+use Rattle.tool_texts.specs.Ends.{EndsBy, Nothing, told_status, told_text}
+use Rattle.tool_stages.specs.Accepted.{is_past_typing, IsAccepted}
+use Rattle.mit_tool.specs.Answers.{IsAnswer, IsUsage, Before, HasGenerated, typed_content}
+use Rattle.tool_texts.proofs.EndLemmas.{result_tells, no_fault, ends_finish}
+use Rattle.tool_stages.proofs.EarlyLemmas.{told_sound}
+use Rattle.mit_tool.proofs.TellLemmas.{infer_no_fault, compile_no_fault, audit_no_fault, cut_no_fault, gen_no_fault, blackbox_no_fault}
 use Rattle.mit_tool.proofs.main_call.obey.Goals as goal
 
 pub returns-in-Check-clause-answered : goal.returns-in-Check-clause-answered

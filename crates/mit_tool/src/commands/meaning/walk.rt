@@ -8,13 +8,13 @@ ghost use Rattle.mit_syntax.specs.Declarations.{variables};
 ghost use Rattle.mit_syntax.specs.Program.{plan_of};
 ghost use Rattle.mit_tool.specs.Means.{IsLastLine, lines_after, text_of_walk, IsWalkBelow, WritesSome, BreaksOff};
 
-use crate::commands::meaning::lines::{ended, not_ended, value_line};
 use mit_syntax::program::Program;
 use source_meaning::walk::Walk;
 use source_meaning::walker::Walker;
 use std::alloc::Global;
 use tim_base::line::Line;
 use tim_base::sink::{Sink, SinkFault, write_all};
+use tool_texts::lines::steps::{ended, not_ended, value_line};
 
 /// Why steps were not all taken.
 #[derive(Clone, Copy, Debug, PartialEq, Eq)]

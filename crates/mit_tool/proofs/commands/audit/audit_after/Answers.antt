@@ -1,7 +1,7 @@
 use Rattle.std.proofs.Common.{ap, ◌∙◌, ◌++◌}
 use Rattle.std.specs.Prelude.{map}
 use Rattle.start_file.specs.Starts.{seen}
-use Rattle.mit_tool.specs.Reports.{audit_lines}
+use Rattle.tool_texts.specs.Reports.{audit_lines}
 use Rattle.mit_tool.proofs.AuditLemmas.{report_tells, audit_stop_stops}
 use Rattle.mit_tool.proofs.commands.audit.audit_after.Goals as goal
 

@@ -5,9 +5,10 @@ use Rattle.part_tlb.specs.Histories.{part_by_history, part2_by_history}
 use Rattle.part_tlb.specs.Structures.{IsMadeFor}
 use Rattle.part_tlb.specs.Envs.{part_structure, part2_structure}
 use Rattle.history_bound.specs.Over.{AnyHistory, history_made}
-use Rattle.mit_tool.specs.Answers.{CanAudit}
-use Rattle.mit_tool.specs.declared.words.EnvName.TheVariants.{Flat, Part, Part2}
-use Rattle.mit_tool.proofs.AuditLemmas.{audits_in, faults_in, report_by, fault_by, alike_for}
+use Rattle.tool_words.specs.declared.words.EnvName.TheVariants.{Flat, Part, Part2}
+use Rattle.tool_stages.specs.Begins.{CanAudit}
+use Rattle.tool_stages.proofs.EnvLemmas.{report_by, fault_by, alike_for}
+use Rattle.mit_tool.proofs.AuditLemmas.{audits_in, faults_in}
 use Rattle.mit_tool.proofs.commands.audit.audit_named.Goals as goal
 
 pub returns-in-Flat : goal.returns-in-Flat
@@ -16,7 +17,7 @@ returns-in-Flat c =
     let xs = map seen c.as_slice-starts.result.now in
     let same = ap (map seen) c.as_slice-starts.ensures.value in
     record {
-      report = audits_in c.args.setting.env Flat c.args.setting.budget p.compiled.typed.labelled p.observer xs (map seen p.starts.items) c.audit.result c.in-Flat.is same c.audit.ensures.report c.audit.ensures.bound;
+      report = audits_in c.args.setting.env Flat c.args.setting.budget p.compiled.typed.labelled p.observer xs (map seen p.starts.items) c.audit.result c.in-Flat.is same c.audit.ensures.report;
       fault = faults_in c.args.setting.env Flat c.args.setting.budget p.compiled.typed.labelled p.observer xs (map seen p.starts.items) c.audit.result c.in-Flat.is same c.audit.ensures.fault;
     }
 
@@ -33,7 +34,7 @@ returns-in-Part c =
     let report = report_by _ (IsMadeFor part_structure) (part_by_history q.program.order) AnyHistory q p.observer.number t _ _ alike c.audit-in-Part.result c.audit-in-Part.ensures.report in
     let fault = fault_by _ (IsMadeFor part_structure) (part_by_history q.program.order) AnyHistory q p.observer.number t _ _ alike c.audit-in-Part.result c.audit-in-Part.ensures.fault in
     record {
-      report = audits_in c.args.setting.env Part t q p.observer xs ss c.audit-in-Part.result c.in-Part.is same report c.audit-in-Part.ensures.bound;
+      report = audits_in c.args.setting.env Part t q p.observer xs ss c.audit-in-Part.result c.in-Part.is same report;
       fault = faults_in c.args.setting.env Part t q p.observer xs ss c.audit-in-Part.result c.in-Part.is same fault;
     }
 
@@ -50,6 +51,6 @@ returns-in-Part2 c =
     let report = report_by _ (IsMadeFor part2_structure) (part2_by_history q.program.order) AnyHistory q p.observer.number t _ _ alike c.audit-in-Part2.result c.audit-in-Part2.ensures.report in
     let fault = fault_by _ (IsMadeFor part2_structure) (part2_by_history q.program.order) AnyHistory q p.observer.number t _ _ alike c.audit-in-Part2.result c.audit-in-Part2.ensures.fault in
     record {
-      report = audits_in c.args.setting.env Part2 t q p.observer xs ss c.audit-in-Part2.result c.in-Part2.is same report c.audit-in-Part2.ensures.bound;
+      report = audits_in c.args.setting.env Part2 t q p.observer xs ss c.audit-in-Part2.result c.in-Part2.is same report;
       fault = faults_in c.args.setting.env Part2 t q p.observer xs ss c.audit-in-Part2.result c.in-Part2.is same fault;
     }

@@ -1,10 +1,11 @@
 use Rattle.std.specs.Prelude.{ℕ, List, [], map}
 use Rattle.tim_base.specs.Faults.{Rose}
 use Rattle.start_file.specs.Starts.{seen}
-use Rattle.mit_tool.specs.declared.status.Status.TheVariants.{Done}
-use Rattle.mit_tool.proofs.PrepareLemmas.{prepared_goes, prepare_stops, audit_stops, audit_next}
+use Rattle.tool_texts.specs.declared.status.Status.TheVariants.{Done}
+use Rattle.tool_stages.proofs.PrepareLemmas.{prepared_goes, prepare_stops, audit_stops}
+use Rattle.tool_stages.proofs.EarlyLemmas.{prepare_not_late}
+use Rattle.mit_tool.proofs.PrepareLemmas.{audit_next}
 use Rattle.mit_tool.proofs.AuditLemmas.{audited_after, audited_stop_after}
-use Rattle.mit_tool.proofs.EarlyLemmas.{prepare_not_late}
 use Rattle.mit_tool.proofs.commands.audit.audit_text.Goals as goal
 
 pub returns-in-Err-clause-stop : goal.returns-in-Err-clause-stop

@@ -1,5 +1,5 @@
 use Rattle.std.proofs.Common.{refl, ap, inr, ◌∙◌}
-use Rattle.mit_tool.specs.Texts.{accepted_line}
+use Rattle.tool_texts.specs.Texts.{accepted_line}
 use Rattle.mit_tool.proofs.commands.check.check_line.Goals as goal
 
 pub returns-clause-line : goal.returns-clause-line
@@ -13,5 +13,5 @@ returns-clause-sound g c = record {
   reads = c.in_ok-program.ensures.ok;
   labelled = c.in_ok-typed.field-0.labelled;
   types = c.in_ok-typed.ensures.ok;
-  sound = c.accepted_are_sound.ensures c.in_ok-program.program c.in_ok-typed.field-0.labelled c.body.ensures.valid c.in_ok-typed.ensures.ok;
+  sound = c.accepted_are_sound.ensures.valid c.in_ok-program.program c.in_ok-typed.field-0.labelled c.body.ensures.valid c.in_ok-typed.ensures.ok;
 }

@@ -1,9 +1,8 @@
 use Rattle.std.proofs.Common.{ap, ◌∙◌}
-use Rattle.std.specs.Prelude.{ℕ, List}
+use Rattle.std.specs.Prelude.{ℕ, List, None}
 use Rattle.tim_base.specs.Faults.{Rose}
 use Rattle.image_print.specs.ImageText.{image_text}
-use Rattle.std.specs.Prelude.{None}
-use Rattle.mit_tool.proofs.EarlyLemmas.{compile_not_late}
+use Rattle.tool_stages.proofs.EarlyLemmas.{compile_not_late}
 use Rattle.mit_tool.proofs.PrepareLemmas.{compile_tells, compile_stops_text}
 use Rattle.mit_tool.proofs.commands.compile.compile_text.Goals as goal
 

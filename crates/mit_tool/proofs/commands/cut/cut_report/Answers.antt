@@ -1,7 +1,7 @@
 use Rattle.std.proofs.Common.{ap, ◌∙◌, ◌++◌}
 use Rattle.std.specs.Prelude.{map}
 use Rattle.start_file.specs.Starts.{seen}
-use Rattle.mit_tool.specs.Reports.{cut_lines}
+use Rattle.tool_texts.specs.Reports.{cut_lines}
 use Rattle.mit_tool.proofs.AuditLemmas.{cut_tells, cut_stop_stops}
 use Rattle.mit_tool.proofs.commands.cut.cut_report.Goals as goal
 

@@ -1,6 +1,6 @@
 use Rattle.std.proofs.Common.{ap, subst, ◌∙◌}
-use Rattle.mit_tool.specs.Envs.{CutFaultsIn}
-use Rattle.mit_tool.specs.Reports.{disagree_line}
+use Rattle.tool_texts.specs.Reports.{disagree_line}
+use Rattle.tool_stages.specs.Envs.{CutFaultsIn}
 use Rattle.mit_tool.proofs.commands.cut.cut_stop.Goals as goal
 
 pub returns-in-Disagree : goal.returns-in-Disagree

@@ -1,9 +1,10 @@
 use Rattle.std.specs.Prelude.{ℕ, List, map}
 use Rattle.tim_base.specs.Faults.{Rose}
 use Rattle.start_file.specs.Starts.{seen}
-use Rattle.mit_tool.specs.declared.status.Status.TheVariants.{Done}
-use Rattle.mit_tool.proofs.PrepareLemmas.{prepared_goes, prepare_stops, audit_stops, cut_next}
-use Rattle.mit_tool.proofs.EarlyLemmas.{prepare_not_late}
+use Rattle.tool_texts.specs.declared.status.Status.TheVariants.{Done}
+use Rattle.tool_stages.proofs.PrepareLemmas.{prepared_goes, prepare_stops, audit_stops}
+use Rattle.tool_stages.proofs.EarlyLemmas.{prepare_not_late}
+use Rattle.mit_tool.proofs.PrepareLemmas.{cut_next}
 use Rattle.mit_tool.proofs.commands.cut.cut_text.Goals as goal
 
 pub returns-in-Err-clause-stop : goal.returns-in-Err-clause-stop

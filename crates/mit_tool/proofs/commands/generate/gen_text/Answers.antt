@@ -4,13 +4,14 @@ use Rattle.mit_gen.specs.Made.{starts_text}
 use Rattle.mit_syntax.specs.Plan.{count}
 use Rattle.mit_syntax.specs.Program.{plan_of}
 use Rattle.start_file.specs.Starts.{seen}
-use Rattle.mit_tool.specs.declared.status.Status.TheVariants.{Done}
-use Rattle.mit_tool.specs.declared.words.EnvName.TheVariants.{Part}
-use Rattle.mit_tool.specs.Reports.{made_lines}
+use Rattle.tool_words.specs.declared.words.EnvName.TheVariants.{Part}
+use Rattle.tool_texts.specs.declared.status.Status.TheVariants.{Done}
+use Rattle.tool_texts.specs.Reports.{made_lines}
 use Rattle.mit_tool.specs.Answers.{made_content}
+use Rattle.tool_stages.proofs.EarlyLemmas.{prepare_not_late}
+use Rattle.tool_stages.proofs.PrepareLemmas.{prepare_stops, prepared_goes, audit_stops}
 use Rattle.mit_tool.proofs.AuditLemmas.{audited_after, audited_stop_after}
-use Rattle.mit_tool.proofs.EarlyLemmas.{prepare_not_late}
-use Rattle.mit_tool.proofs.PrepareLemmas.{prepare_stops, prepared_goes, audit_stops, made_next}
+use Rattle.mit_tool.proofs.PrepareLemmas.{made_next}
 use Rattle.mit_tool.proofs.commands.generate.gen_text.Goals as goal
 
 pub returns-in-Err-clause-stop : goal.returns-in-Err-clause-stop

@@ -3,7 +3,7 @@ use Rattle.std.specs.Prelude.{ℕ, List, Option, map, codes}
 use Rattle.start_file.specs.Starts.{seen}
 use Rattle.mit_gen.specs.Made.{starts_text}
 use Rattle.mit_tool.specs.Answers.{made_content}
-use Rattle.mit_tool.proofs.PrepareLemmas.{program_stops_audit, program_stops, compile_stops_audit, compiled_of, starts_stop_audit, prepared_of, audit_fits}
+use Rattle.tool_stages.proofs.PrepareLemmas.{program_stops_audit, program_stops, compile_stops_audit, compiled_of, starts_stop_audit, prepared_of, audit_fits}
 use Rattle.mit_tool.proofs.commands.generate.prepare_made.Goals as goal
 
 pub returns-in-Err-clause-stop : goal.returns-in-Err-clause-stop

@@ -2,10 +2,11 @@ use Rattle.std.proofs.Common.{refl, inl}
 use Rattle.std.specs.Prelude.{ℕ, List, option_map}
 use Rattle.tim_base.specs.Faults.{Rose}
 use Rattle.start_file.specs.Starts.{seen}
-use Rattle.mit_tool.specs.WordsAsked.{meaning}
-use Rattle.mit_tool.specs.Ends.{status_of, stop_text}
-use Rattle.mit_tool.specs.Answers.{IsAnswer, MeaningStops, Before}
-use Rattle.mit_tool.proofs.EndLemmas.{ends_stop}
+use Rattle.tool_words.specs.WordsAsked.{meaning}
+use Rattle.tool_texts.specs.Ends.{status_of, stop_text}
+use Rattle.tool_stages.specs.Begins.{MeaningStops}
+use Rattle.mit_tool.specs.Answers.{IsAnswer, Before}
+use Rattle.tool_texts.proofs.EndLemmas.{ends_stop}
 use Rattle.mit_tool.proofs.StopLemmas.{meaning_stops, meaning_done, meaning_short, meaning_broke}
 use Rattle.mit_tool.proofs.commands.meaning.meaning.Goals as goal
 

@@ -2,10 +2,11 @@ use Rattle.std.proofs.Common.{refl}
 use Rattle.std.specs.Prelude.{ℕ, List, option_map}
 use Rattle.tim_base.specs.Faults.{Rose}
 use Rattle.start_file.specs.Starts.{seen}
-use Rattle.mit_tool.specs.WordsAsked.{run}
-use Rattle.mit_tool.specs.Ends.{Nothing, status_of, stop_text}
-use Rattle.mit_tool.specs.Answers.{IsAnswer, HasRun, RunStops}
-use Rattle.mit_tool.proofs.EndLemmas.{ends_map, ends_stop}
+use Rattle.tool_words.specs.WordsAsked.{run}
+use Rattle.tool_texts.specs.Ends.{Nothing, status_of, stop_text}
+use Rattle.tool_stages.specs.Begins.{RunStops}
+use Rattle.mit_tool.specs.Answers.{IsAnswer, HasRun}
+use Rattle.tool_texts.proofs.EndLemmas.{ends_map, ends_stop}
 use Rattle.mit_tool.proofs.StopLemmas.{ready_tells, run_stops}
 use Rattle.mit_tool.proofs.commands.run.run.Goals as goal
 

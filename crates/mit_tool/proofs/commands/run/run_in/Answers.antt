@@ -4,10 +4,11 @@ use Rattle.tim_base.specs.Sinks.{AppendsPrefix}
 use Rattle.label_code.specs.Run.{run_from}
 use Rattle.event_print.specs.Text.{Told, text_of}
 use Rattle.event_print.specs.Rest.{told_by}
-use Rattle.mit_tool.specs.Ends.{Nothing}
+use Rattle.tool_texts.specs.Ends.{Nothing}
 use Rattle.mit_tool.specs.Answers.{HasTold, status_at}
-use Rattle.mit_tool.proofs.EndLemmas.{ends_memory}
-use Rattle.mit_tool.proofs.RunLemmas.{loaded_runs, told_tells}
+use Rattle.tool_texts.proofs.EndLemmas.{ends_memory}
+use Rattle.tool_stages.proofs.RunLemmas.{loaded_runs}
+use Rattle.mit_tool.proofs.RunLemmas.{told_tells}
 use Rattle.mit_tool.proofs.commands.run.run_in.Goals as goal
 
 pub returns-in_default-clause-ended : goal.returns-in_default-clause-ended

@@ -1,7 +1,5 @@
 use Rattle.std.proofs.Common.{sym, subst}
 use Rattle.start_file.specs.Starts.{seen}
-use Rattle.mit_tool.specs.declared.words.EnvName.{EnvName}
-use Rattle.mit_tool.specs.Ends.{EndsBy, Nothing}
 use Rattle.event_print.specs.Text.{Told}
 use Rattle.part_tlb.specs.Histories.{part_by_history, part2_by_history}
 use Rattle.part_tlb.specs.Structures.{part_at, warmed}
@@ -13,8 +11,10 @@ use Rattle.env_contract.specs.declared.place.Touch.{Touch}
 use Rattle.label_lattice.specs.Order.{Order}
 use Rattle.std.specs.Prelude.{List}
 use Rattle.history_bound.specs.Over.{history_made}
+use Rattle.tool_words.specs.declared.words.EnvName.{EnvName}
+use Rattle.tool_texts.specs.Ends.{EndsBy, Nothing}
 use Rattle.mit_tool.specs.Answers.{HasTold, HasRun}
-use Rattle.mit_tool.proofs.AuditLemmas.{told_alike}
+use Rattle.tool_stages.proofs.EnvLemmas.{told_alike}
 use Rattle.mit_tool.proofs.commands.run.run_named.Goals as goal
 
 -- the environments of caches, and what touches make of them

@@ -1,0 +1,104 @@
+-- Counts are within their bounds.
+use Rattle.std.proofs.Common.{◌≡◌, ◌<◌, ◌≤◌, ℕ, ◌+◌, ◌*◌, ◌^◌, Bool, List, [], ◌∷◌, sym, ap, ◌∙◌, subst}
+use Rattle.std.specs.List.{AllZip}
+use Rattle.label_lattice.specs.Order.{Order, count_not_below}
+use Rattle.mit_syntax.specs.Program.{Syntax, plan_of}
+use Rattle.timing_types.specs.Labelled.{LabelledProgram, order_of, labels_of, levels_of}
+use Rattle.env_contract.specs.Env.{Env}
+use Rattle.label_code.specs.Run.{Start}
+use Rattle.code_lower.specs.Lowered.{lowered}
+use Rattle.leak_bound.specs.Digits.{digits}
+use Rattle.leak_bound.specs.Records.{Tests, distinct_count}
+use Rattle.leak_bound.specs.Sound.{Sound, CutSound, bound, most_ended}
+use Rattle.audit_parts.specs.Agreement.{starts_of}
+use Rattle.audit_parts.specs.Sequences.{same_sequence}
+use Rattle.audit_parts.specs.Surveyed.{relevant_for}
+use Rattle.audit_parts.proofs.Classing.{tests_sequences}
+use Rattle.leak_audit.specs.declared.report.AuditReport.{AuditReport}
+use Rattle.leak_audit.specs.Report.{IsReport}
+use Rattle.leak_audit.proofs.Reporting.{first_one}
+use Rattle.cut_audit.specs.declared.report.CutReport.{CutReport}
+use Rattle.cut_audit.specs.Report.{IsReport as IsCutReport}
+use Rattle.black_box.specs.Audits.{same_cycles}
+use Rattle.black_box.specs.Schedule.{IsSchedule}
+use Rattle.black_box.specs.Outcomes.{Outcome, IsOutcome}
+use Rattle.black_box.specs.Bound.{box_bound}
+use Rattle.black_box.proofs.Gathered.{cycles_test}
+use Rattle.part_tlb.specs.Histories.{part_by_history, part2_by_history}
+use Rattle.history_bound.specs.Over.{AnyHistory, history_made}
+use Rattle.tool_words.specs.declared.words.EnvName.{EnvName}
+use Rattle.tool_words.specs.declared.words.EnvName.TheVariants.{Flat, Part, Part2}
+use Rattle.tool_words.specs.WordsAsked.{Asked, check, infer, compile, run, meaning, audit, gen, cut, blackbox, certify, recheck}
+use Rattle.tool_stages.specs.Stages.{Types}
+use Rattle.tool_stages.specs.Envs.{flat_env, flat_made}
+use Rattle.tool_texts.specs.Reports.{all_released}
+use Rattle.tool_stages.specs.Accepted.{SpelledAreSound}
+use Rattle.mit_tool.specs.Bounded.{AuditsAreWithin, CutsAreWithin, ReleasesAreWithin, AreWithin}
+
+module _ {E : Type 0} (v : Env E) (serves : Order → E → Type 0) (q : LabelledProgram) (o t : ℕ) (low : o < q.program.order.size) (some : 0 < t) (ss : List (Start E)) where
+  report_within : Sound v q.program.order (serves q.program.order) (labels_of q) (levels_of q) (lowered q).instrs (plan_of q.program) → (r : AuditReport) → IsReport v serves q o t ss r → r.distinct ≤ r.base ^ r.exponent
+  report_within sound r is =
+      let few = sound.few o low t some ss is.agree is.halted same_sequence tests_sequences in
+      let same : few.0 ≡ r.mitigations = first_one q o ss few.0 r.mitigations few.1 is.mitigations in
+      let power : bound q.program.order o t few.0 ≡ r.base ^ r.exponent =
+      ap (λ z. (z + 1) ^ (count_not_below (order_of q) o q.program.order.size * digits t)) same
+      ∙ (ap (λ z. z ^ (count_not_below (order_of q) o q.program.order.size * digits t)) (sym is.base)
+      ∙ ap (λ z. r.base ^ z) (ap (λ z. z * digits t) (sym is.levels) ∙ sym is.exponent)) in
+      subst (λ z. r.distinct ≤ z) power (subst (λ z. z ≤ bound q.program.order o t few.0) (sym is.distinct) few.3)
+
+  cut_within : CutSound v q.program.order (serves q.program.order) (labels_of q) (levels_of q) (lowered q).instrs (plan_of q.program) → (r : CutReport) → IsCutReport v serves q o t ss r → r.distinct ≤ r.base ^ r.exponent
+  cut_within sound r is =
+      let few = sound.few o low t some ss is.agree same_sequence tests_sequences in
+      let k = most_ended v (lowered q).instrs (relevant_for q o) t ss in
+      let power : bound q.program.order o t k ≡ r.base ^ r.exponent =
+      ap (λ z. (z + 1) ^ (count_not_below (order_of q) o q.program.order.size * digits t)) (sym is.ended)
+      ∙ (ap (λ z. z ^ (count_not_below (order_of q) o q.program.order.size * digits t)) (sym is.base)
+      ∙ ap (λ z. r.base ^ z) (ap (λ z. z * digits t) (sym is.levels) ∙ sym is.exponent)) in
+      subst (λ z. r.distinct ≤ z) power (subst (λ z. z ≤ bound q.program.order o t k) (sym is.distinct) few)
+
+-- an observer of the program is one of the labelled program
+below : (p : Syntax) (q : LabelledProgram) (o : ℕ) → Types p q → o < p.order.size → o < q.program.order.size
+below p q o types l = subst (λ (z : Syntax). o < z.order.size) (sym types.program) l
+
+module _ (sound : SpelledAreSound) where
+  audits_within : (e : EnvName) (t : ℕ) → AuditsAreWithin e t
+  audits_within Flat t some words p q o ss r spelled types l is =
+      report_within flat_env (λ order e. Unit {0}) q o t (below p q o types l) some (starts_of flat_made q.program.order ss) (sound words p q spelled types).flat.halted r is
+  audits_within Part t some words p q o ss r spelled types l is =
+      report_within (part_by_history q.program.order) AnyHistory q o t (below p q o types l) some (starts_of history_made q.program.order ss) (sound words p q spelled types).part.halted r is
+  audits_within Part2 t some words p q o ss r spelled types l is =
+      report_within (part2_by_history q.program.order) AnyHistory q o t (below p q o types l) some (starts_of history_made q.program.order ss) (sound words p q spelled types).part2.halted r is
+
+  cuts_within : (e : EnvName) (t : ℕ) → CutsAreWithin e t
+  cuts_within Flat t some words p q o ss r spelled types l is =
+      cut_within flat_env (λ order e. Unit {0}) q o t (below p q o types l) some (starts_of flat_made q.program.order ss) (sound words p q spelled types).flat.cut r is
+  cuts_within Part t some words p q o ss r spelled types l is =
+      cut_within (part_by_history q.program.order) AnyHistory q o t (below p q o types l) some (starts_of history_made q.program.order ss) (sound words p q spelled types).part.cut r is
+  cuts_within Part2 t some words p q o ss r spelled types l is =
+      cut_within (part2_by_history q.program.order) AnyHistory q o t (below p q o types l) some (starts_of history_made q.program.order ss) (sound words p q spelled types).part2.cut r is
+
+-- lists of releases are few
+abbrev pub FewLists : Type 0
+FewLists = (q t : ℕ) → 0 < q → 0 < t → (runs lists : List (List ℕ)) → AllZip (IsSchedule q t) runs lists → (same : List ℕ → List ℕ → Bool) → Tests same → distinct_count same lists ≤ box_bound t
+
+schedules : (q t : ℕ) (runs : List (List ℕ)) (outcomes : List Outcome) → AllZip (IsOutcome q t) runs outcomes → AllZip (IsSchedule q t) runs (all_released outcomes)
+schedules q t [] [] h = h
+schedules q t [] (w ∷ ws) h = h
+schedules q t (r ∷ rs) [] h = h
+schedules q t (r ∷ rs) (w ∷ ws) h = (h.0.schedule, schedules q t rs ws h.1)
+
+releases_within : FewLists → (first t : ℕ) → ReleasesAreWithin first t
+releases_within few first t some more runs outcomes is = few first t some more runs (all_released outcomes) (schedules first t runs outcomes is) same_cycles cycles_test
+
+pub within : SpelledAreSound → FewLists → (a : Asked) → AreWithin a
+within sound few (check file) = tt
+within sound few (infer file) = tt
+within sound few (compile file) = tt
+within sound few (run file starts e budget observer) = tt
+within sound few (meaning file starts n) = tt
+within sound few (audit file starts observer e budget) = audits_within sound e budget
+within sound few (gen size number) = audits_within sound Part (2 ^ 40)
+within sound few (cut file starts observer e budget) = cuts_within sound e budget
+within sound few (blackbox file first budget) = releases_within few first budget
+within sound few (certify file) = tt
+within sound few (recheck file certificate) = tt

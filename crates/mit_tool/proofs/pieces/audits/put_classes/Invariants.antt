@@ -1,6 +1,0 @@
-use Rattle.mit_tool.specs.Reports.{class_line}
-use Rattle.mit_tool.proofs.PieceLemmas.{PutTo}
-use Rattle.mit_tool.proofs.pieces.audits.put_classes.Given as goal
-
-abbrev pub invariant-loop-k : goal.invariant-loop-k
-invariant-loop-k l = PutTo class_line l.initial.text.items l.text.items l.k l.classes

@@ -1,6 +1,0 @@
-use Rattle.mit_tool.specs.Reports.{release_line}
-use Rattle.mit_tool.proofs.PieceLemmas.{PutTo}
-use Rattle.mit_tool.proofs.pieces.boxes.put_releases.Given as goal
-
-abbrev pub invariant-loop-k : goal.invariant-loop-k
-invariant-loop-k l = PutTo (release_line l.run) l.initial.text.items l.text.items l.k l.at

@@ -1,7 +1,0 @@
-use Rattle.std.proofs.Common.{◌∙◌, ap, Some, true}
-use Rattle.clap.specs.Words.{Rule, rule_of}
-use Rattle.mit_tool.proofs.words.forms.required_option.Goals as goal
-
-pub returns-clause-rule : goal.returns-clause-rule
-returns-clause-rule c = ap rule_of c.required.ensures ∙ ap (λ (r : Rule). record r { required = true }) (ap rule_of c.long.ensures)
-    ∙ ap (λ (r : Rule). record r { long = Some c.args.name.now; required = true }) c.new.ensures.rule

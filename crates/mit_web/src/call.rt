@@ -1,0 +1,132 @@
+//! The call that a page makes.
+
+ghost use Rattle.std.specs.Prelude.{◌≡◌, ◌≤◌, ◌⊎◌, ℕ, IfOk, List, Option, drop, length, map, string_bytes};
+ghost use Rattle.tim_base.specs.Shelves.{bytes_at};
+ghost use Rattle.mit_web.specs.Calls.{IsToolAnswer, Shows, TellsAnswer, held_by, pieces};
+
+use crate::given::{GivenFault, files, texts};
+use mit_tool::mitigate_main;
+use std::alloc::Global;
+use tim_base::shelf::MemShelf;
+use tim_base::sink::MemSink;
+
+/// The status where words, names or files cannot be stored, as the tool's own.
+pub const NO_MEMORY: u32 = 11;
+
+/// The status where words or names are not UTF-8, or the lengths say more than the bytes hold.
+pub const BAD_CALL: u32 = 13;
+
+/// How a call ended.
+#[repr(C)]
+#[derive(Clone, Copy)]
+pub struct Ended {
+    /// The exit number.
+    pub status: u32,
+
+    /// How many bytes of the text stand in the room that was given.
+    pub length: usize,
+}
+
+// Asks the tool, with room for so many bytes of text.
+fn ask(
+    alloc: Global,
+    words: &[String],
+    shelf: &mut MemShelf,
+    room: usize,
+) -> Result<(u32, MemSink), GivenFault>
+    ensures { IfOk result (λ r. (held : List ℕ → Option (List ℕ)) → ((name : List ℕ) → bytes_at shelf.old name ≡ held name)
+        → IsToolAnswer (map string_bytes words.now) held r.0 r.1.bytes) }
+{
+    let Ok(mut sink) = MemSink::new_with_room(alloc, room) else {
+        return Err(GivenFault::Memory);
+    };
+    let status = mitigate_main(alloc, words, shelf, &mut sink);
+    Ok((u32::from(status.number()), sink))
+}
+
+// Asks the tool what stands in rows.
+fn ask_rows(
+    alloc: Global,
+    word_lengths: &[u64],
+    words: &[u8],
+    name_lengths: &[u64],
+    names: &[u8],
+    file_lengths: &[u64],
+    contents: &[u8],
+    room: usize,
+) -> Result<(u32, MemSink), GivenFault>
+    ensures { IfOk result (λ r. IsToolAnswer (pieces word_lengths.now words.now)
+        (held_by (pieces name_lengths.now names.now) (pieces file_lengths.now contents.now)) r.0 r.1.bytes) }
+{
+    let words = texts(alloc, word_lengths, words)?;
+    let names = texts(alloc, name_lengths, names)?;
+    let mut shelf = files(alloc, names.as_slice(), file_lengths, contents)?;
+    ask(alloc, words.as_slice(), &mut shelf, room)
+}
+
+// Puts a text into the room, as far as it goes there, and tells how many bytes it has there.
+fn hand_out(text: &[u8], out: &mut [u8]) -> usize
+    ensures shown { Shows (length out.old) out.new result text.now }
+    ensures fits { result ≤ length out.new }
+    ensures room { length out.new ≡ length out.old }
+    ensures rest { drop result out.new ≡ drop result out.old }
+{
+    let count = text.len().min(out.len());
+    out[..count].copy_from_slice(&text[..count]);
+    count
+}
+
+/// Does what words ask for, over files in memory. Words, names of files and what the files hold stand in a row of
+/// bytes each, and the lengths say how many bytes each word, name and file has. The text is written to `out`, as far
+/// as it goes there; the bytes after it stay.
+///
+/// Where words or names are not UTF-8, or the lengths say more than the bytes hold, the status is 13, and where these
+/// cannot be stored it is 11; no text is written then.
+#[unsafe(no_mangle)]
+pub extern "C" fn mit_web_call(
+    alloc: Global,
+    word_lengths: &[u64],
+    words: &[u8],
+    name_lengths: &[u64],
+    names: &[u8],
+    file_lengths: &[u64],
+    contents: &[u8],
+    out: &mut [u8],
+    ended: &mut Ended,
+)
+    ensures told { (((ended.new.status ≡ NO_MEMORY) ⊎ (ended.new.status ≡ BAD_CALL)) × (ended.new.length ≡ 0))
+        ⊎ TellsAnswer (pieces word_lengths.now words.now) (pieces name_lengths.now names.now) (pieces file_lengths.now contents.now)
+        ended.new.status (length out.old) out.new ended.new.length }
+    ensures fits { ended.new.length ≤ length out.new }
+    ensures room { length out.new ≡ length out.old }
+    ensures rest { drop ended.new.length out.new ≡ drop ended.new.length out.old }
+{
+    let room = out.len();
+    match ask_rows(
+        alloc,
+        word_lengths,
+        words,
+        name_lengths,
+        names,
+        file_lengths,
+        contents,
+        room,
+    ) {
+        Ok((status, sink)) => {
+            let length = hand_out(sink.bytes(), out);
+            *ended = Ended { status, length };
+        }
+        Err(GivenFault::Memory) => {
+            *ended = Ended {
+                status: NO_MEMORY,
+                length: 0,
+            };
+        }
+        Err(GivenFault::BadCall) => {
+            *ended = Ended {
+                status: BAD_CALL,
+                length: 0,
+            };
+        }
+    }
+}

@@ -1,0 +1,5 @@
+pub mod Appended
+pub mod Chars
+pub mod Variables
+pub mod Apart
+pub mod Fields

@@ -1,0 +1,6 @@
+pub mod Choose
+pub mod Growing
+pub mod Fitting
+pub mod Binary
+pub mod Listing
+pub mod Ways

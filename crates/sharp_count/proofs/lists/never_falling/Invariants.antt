@@ -1,0 +1,7 @@
+use Rattle.std.proofs.Common.{◌≡◌, ◌<◌, ◌^◌}
+use Rattle.sharp_count.specs.Count.{rising}
+use Rattle.sharp_count.proofs.lists.never_falling.Given as goal
+
+-- the number for the values so far
+abbrev pub invariant-loop-value : goal.invariant-loop-value
+invariant-loop-value l = (l.lists ≡ rising l.value l.entries) × (l.lists < 2 ^ 128)

@@ -1,0 +1,4 @@
+pub mod Count
+pub mod Levels
+pub mod Lists
+pub mod Ways

@@ -1,0 +1,16 @@
+//! What the numbers count, as a contract of a function that does nothing.
+
+ghost use Rattle.sharp_count.specs.Lists.{RisingCounts, RisingOne};
+ghost use Rattle.sharp_count.specs.Ways.{WaysAreFew};
+
+/// `rising b k`, a factor of the sharp count, is the exact number of lists of k numbers below b that never fall; for one
+/// number that is b.
+pub fn rising_counts()
+    ensures exact { RisingCounts }
+    ensures one { RisingOne }
+{}
+
+/// Of the choices of miss counts that the sharp count counts, those whose cycles add up to at most T are no more.
+pub fn ways_are_few()
+    ensures { WaysAreFew }
+{}

@@ -1,0 +1,9 @@
+//! The sharp count of what timed observations can tell, as a number.
+#![tactic(auto)]
+
+pub mod bits;
+pub mod count;
+pub mod laws;
+pub mod lists;
+#[cfg(test)]
+mod tests;

@@ -1,0 +1,80 @@
+use crate::bits::bits;
+use crate::count::{LevelRuns, Runs, sharp_count};
+use crate::lists::never_falling;
+
+// Values, entries, and how many lists never fall.
+static LISTS: [(u32, u64, Option<u128>); 7] = [
+    (0, 0, Some(1)),
+    (0, 3, Some(0)),
+    (20, 1, Some(20)),
+    (20, 2, Some(210)),
+    (20, 3, Some(1540)),
+    (
+        2,
+        18_446_744_073_709_551_615,
+        Some(18_446_744_073_709_551_616),
+    ),
+    (64, 18_446_744_073_709_551_615, None),
+];
+
+#[test]
+fn lists_that_never_fall(rt: HostRuntime) {
+    for &(values, entries, lists) in &LISTS {
+        assert!(rt; never_falling(values, entries) == lists);
+    }
+}
+
+// Mitigations of one level, and the counts to a million cycles with first predictions of 1 and of 512.
+static COUNTS: [(u64, u128, u128); 3] = [(1, 20, 11), (2, 210, 66), (3, 1540, 286)];
+
+#[test]
+fn counts_of_one_level(rt: HostRuntime) {
+    for &(mitigations, from_one, from_512) in &COUNTS {
+        let one = LevelRuns {
+            mitigations,
+            first: 1,
+        };
+        let other = LevelRuns {
+            mitigations,
+            first: 512,
+        };
+        assert!(rt; sharp_count(Runs::Halted, &[one], 1_000_000) == Some(from_one));
+        assert!(rt; sharp_count(Runs::Halted, &[other], 1_000_000) == Some(from_512));
+    }
+}
+
+#[test]
+fn counts_of_levels(rt: HostRuntime) {
+    let one = LevelRuns {
+        mitigations: 1,
+        first: 512,
+    };
+    let two = LevelRuns {
+        mitigations: 2,
+        first: 1,
+    };
+    assert!(rt; sharp_count(Runs::Halted, &[one], 1_000_000) == Some(11));
+    assert!(rt; sharp_count(Runs::Cut, &[one], 1_000_000) == Some(12));
+    assert!(rt; sharp_count(Runs::Halted, &[one, two], 1_000_000) == Some(2310));
+    assert!(rt; sharp_count(Runs::Halted, &[], 1_000_000) == Some(1));
+    let least = LevelRuns {
+        mitigations: 3,
+        first: 4,
+    };
+    assert_eq!(rt; LevelRuns::of(&[7, 4, 9]), least);
+}
+
+#[test]
+fn bits_of_counts(rt: HostRuntime) {
+    for (count, least) in [
+        (0u128, 0u32),
+        (1, 0),
+        (2, 1),
+        (3, 2),
+        (20, 5),
+        (32, 5),
+        (33, 6),
+    ] {
+        assert_eq!(rt; bits(count), least);
+    }
+}

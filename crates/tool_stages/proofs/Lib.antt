@@ -1,0 +1,14 @@
+pub mod TypeLemmas
+pub mod StopLemmas
+pub mod StartLemmas
+pub mod SoundLemmas
+pub mod PrepareLemmas
+pub mod RunLemmas
+pub mod EnvLemmas
+pub mod StageStops
+pub mod EarlyLemmas
+pub mod GoesLemmas
+pub mod OneLemmas
+pub mod OneFirst
+pub mod AgreeLemmas
+pub mod ChainLemmas

@@ -1,0 +1,23 @@
+use Rattle.std.specs.Prelude.{ℕ, List, option_map}
+use Rattle.tim_base.specs.Faults.{Rose}
+use Rattle.tool_stages.proofs.PrepareLemmas.{compiled_of, program_stops}
+use Rattle.tool_stages.proofs.compiled.compile.Goals as goal
+
+pub returns-in-Ok-clause-ok : goal.returns-in-Ok-clause-ok
+returns-in-Ok-clause-ok g c =
+    compiled_of (g.S.Shelf.content c.args.shelf.now) c.args.file.now (option_map (λ s. s.now) c.args.name) c.in_ok-program.program
+    c.in-Ok.compiled.typed.labelled c.in-Ok.compiled.observer c.in-Ok.compiled.image c.in_ok-program.ensures.ok c.in-Ok.ensures.ok
+
+pub returns-in-Err-clause-stop : goal.returns-in-Err-clause-stop
+returns-in-Err-clause-stop g c =
+    program_stops (λ (name : List ℕ). Rose (g.S.Shelf.faults c.args.shelf.now name) (g.S.Shelf.faults c.read_program.new.shelf name)) (g.S.Shelf.content c.args.shelf.now)
+    c.args.file.now (option_map (λ s. s.now) c.args.name) c.in_ok-program.program c.in-Err.stop c.in_ok-program.ensures.ok c.in-Err.ensures.stop
+
+pub returns-in-Ok-clause-sound : goal.returns-in-Ok-clause-sound
+returns-in-Ok-clause-sound g c = record {
+  program = c.in_ok-program.program;
+  reads = c.in_ok-program.ensures.ok;
+  labelled = c.in-Ok.compiled.typed.labelled;
+  types = c.in-Ok.ensures.ok.types;
+  sound = c.in-Ok.ensures.sound;
+}

@@ -1,0 +1,53 @@
+-- What is true of every accepted program.
+use Rattle.std.specs.Prelude.{ℕ, List, Option, Bool, true, false}
+use Rattle.env_contract.specs.Env.{Env}
+use Rattle.label_lattice.specs.Order.{Order}
+use Rattle.mit_syntax.specs.Program.{Syntax, plan_of}
+use Rattle.mit_syntax.specs.Valid.{IsValid}
+use Rattle.mit_parser.specs.Words.{Told}
+use Rattle.mit_parser.specs.Spells.{IsProgram}
+use Rattle.timing_types.specs.Labelled.{LabelledProgram, labels_of, levels_of}
+use Rattle.code_lower.specs.Lowered.{lowered}
+use Rattle.part_tlb.specs.Histories.{part_by_history, part2_by_history}
+use Rattle.history_bound.specs.Over.{AnyHistory}
+use Rattle.leak_bound.specs.Sound.{Sound, CutSound}
+use Rattle.tool_texts.specs.declared.status.Status.{Status}
+use Rattle.tool_texts.specs.declared.status.Status.TheVariants as status
+use Rattle.tool_stages.specs.Stages.{Reads, Types}
+use Rattle.tool_stages.specs.Envs.{flat_env}
+
+-- The image of a labelled program is sound in an environment, for runs that halt and for runs that are cut. Its
+-- source is the program that is labelled, without its labels.
+pub record IsSoundIn {E : Type 0} (v : Env E) (serves : Order → E → Type 0) (q : LabelledProgram) : Type 0 where
+  pub halted : Sound v q.program.order (serves q.program.order) (labels_of q) (levels_of q) (lowered q).instrs (plan_of q.program)
+  pub cut : CutSound v q.program.order (serves q.program.order) (labels_of q) (levels_of q) (lowered q).instrs (plan_of q.program)
+
+-- it is in each environment that `--env` names
+pub record IsSound (q : LabelledProgram) : Type 0 where
+  pub flat : IsSoundIn flat_env (λ order e. Unit {0}) q
+  pub part : IsSoundIn (part_by_history q.program.order) AnyHistory q
+  pub part2 : IsSoundIn (part2_by_history q.program.order) AnyHistory q
+
+-- every program is sound with the least labelling that types it
+abbrev pub AcceptedAreSound : Type 0
+AcceptedAreSound = (p : Syntax) (q : LabelledProgram) → IsValid p → Types p q → IsSound q
+
+-- every program that words spell is
+abbrev pub SpelledAreSound : Type 0
+SpelledAreSound = (words : List Told) (p : Syntax) (q : LabelledProgram) → IsProgram words p → Types p q → IsSound q
+
+-- the program of a file is accepted
+pub record IsAccepted (content : Option (Option (List ℕ))) : Type 0 where
+  pub program : Syntax
+  pub reads : Reads content program
+  pub labelled : LabelledProgram
+  pub types : Types program labelled
+  pub sound : IsSound labelled
+
+-- the command came past the typing
+abbrev pub is_past_typing : Status → Bool
+is_past_typing status.Done = true
+is_past_typing status.Budget = true
+is_past_typing status.Disagree = true
+is_past_typing status.Unfinished = true
+is_past_typing s = false

@@ -1,0 +1,74 @@
+-- When the stages and the runs of a program go on.
+use Rattle.std.specs.Prelude.{◌≤◌, ℕ, List, All, length, Option, Some, None}
+use Rattle.std.specs.Bool.{⊤}
+use Rattle.label_lattice.specs.declared.label.Label.{Label}
+use Rattle.mit_syntax.specs.Program.{Syntax}
+use Rattle.timing_types.specs.Labelling.{Labelling}
+use Rattle.timing_types.specs.Labelled.{LabelledProgram, HasType}
+use Rattle.label_infer.specs.Least.{Labels}
+use Rattle.code_lower.specs.declared.lower.TheConstants.{MAX_INSTRUCTIONS}
+use Rattle.code_lower.specs.Lowered.{lowered}
+use Rattle.leak_bound.specs.Records.{Pairwise}
+use Rattle.audit_parts.specs.declared.survey.TheConstants.{MAX_SHOWN}
+use Rattle.audit_parts.specs.Agreement.{AgreeFor, starts_of}
+use Rattle.audit_parts.specs.Surveyed.{shown_by_all}
+use Rattle.part_tlb.specs.Histories.{part_by_history, part2_by_history}
+use Rattle.history_bound.specs.Over.{AnyHistory, history_made}
+use Rattle.start_file.specs.Starts.{StartValue}
+use Rattle.event_print.specs.declared.end.RunEnd.{RunEnd}
+use Rattle.event_print.specs.declared.end.RunEnd.TheVariants.{Halted, Limit}
+use Rattle.tool_words.specs.declared.words.EnvName.{EnvName}
+use Rattle.tool_words.specs.declared.words.EnvName.TheVariants.{Flat, Part, Part2}
+use Rattle.tool_stages.specs.Stages.{Reads, Observes, Types}
+use Rattle.tool_stages.specs.Envs.{flat_env, flat_made, told_in}
+
+-- some labelling types the program
+abbrev pub IsTypable : Syntax → Type 0
+IsTypable p = (l : Labelling) × Labels p l × HasType (record { program = p; labels = l })
+
+-- some labelling types the program, and the image of its least labelling is not too long
+abbrev pub CanLower : Syntax → (LabelledProgram → Type 0) → Type 0
+CanLower p Next = IsTypable p × ((q : LabelledProgram) → Types p q → (length (lowered q).instrs ≤ MAX_INSTRUCTIONS) × Next q)
+
+-- The file's text spells a program, and an observer that is named is one of its labels. There is one such program at
+-- most, and one such label.
+abbrev pub CanCompile : Option (Option (List ℕ)) → Option (List ℕ) → (Syntax → LabelledProgram → Option Label → Type 0) → Type 0
+CanCompile content observer Next =
+    (p : Syntax) × Reads content p × (o : Option Label) × Observes p.order observer o × CanLower p (λ q. Next p q o)
+
+-- ---- runs
+
+abbrev pub IsHalted : RunEnd → Type 0
+IsHalted (Halted c) = ⊤
+IsHalted (Limit c) = ⊥
+
+-- the run of a program's image from a start halts by T
+abbrev pub HaltsBy : EnvName → ℕ → LabelledProgram → StartValue → Type 0
+HaltsBy e t q s = IsHalted (told_in e q.program.order (lowered q) s t).end
+
+-- the starts agree pairwise for an observer
+abbrev pub AgreeIn : EnvName → LabelledProgram → ℕ → List StartValue → Type 0
+AgreeIn Flat q o ss = Pairwise (AgreeFor flat_env (λ order e. Unit {0}) q o) (starts_of flat_made q.program.order ss)
+AgreeIn Part q o ss = Pairwise (AgreeFor (part_by_history q.program.order) AnyHistory q o) (starts_of history_made q.program.order ss)
+AgreeIn Part2 q o ss = Pairwise (AgreeFor (part2_by_history q.program.order) AnyHistory q o) (starts_of history_made q.program.order ss)
+
+-- how many assignments the runs to T show to the observer
+abbrev pub shown_in : EnvName → LabelledProgram → ℕ → ℕ → List StartValue → ℕ
+shown_in Flat q o t ss = shown_by_all flat_env q o t (starts_of flat_made q.program.order ss)
+shown_in Part q o t ss = shown_by_all (part_by_history q.program.order) q o t (starts_of history_made q.program.order ss)
+shown_in Part2 q o t ss = shown_by_all (part2_by_history q.program.order) q o t (starts_of history_made q.program.order ss)
+
+-- they agree, and show few enough
+pub record CanCut (e : EnvName) (t : ℕ) (q : LabelledProgram) (o : ℕ) (ss : List StartValue) : Type 0 where
+  pub agree : AgreeIn e q o ss
+  pub few : shown_in e q o t ss ≤ MAX_SHOWN
+
+-- and all have halted by T
+pub record CanBeAudited (e : EnvName) (t : ℕ) (q : LabelledProgram) (o : ℕ) (ss : List StartValue) : Type 0 where
+  pub cut : CanCut e t q o ss
+  pub halt : All (HaltsBy e t q) ss
+
+-- it is so of the observer that is named
+abbrev pub OfObserver : (ℕ → Type 0) → Option Label → Type 0
+OfObserver P None = ⊤
+OfObserver P (Some l) = P l.number

@@ -1,0 +1,6 @@
+pub mod Content
+pub mod Stages
+pub mod Envs
+pub mod Begins
+pub mod Accepted
+pub mod Goes

@@ -1,0 +1,71 @@
+//! What runs begin with: a program and its first start.
+
+ghost use Rattle.std.specs.Prelude.{◌≡◌, ◌≤◌, ℕ, List, IfOk, IfErr, OnOk, option_map};
+ghost use Rattle.tim_base.specs.Faults.{Rose};
+ghost use Rattle.start_file.specs.Starts.{seen, IsFor};
+ghost use Rattle.tool_texts.specs.Ends.{IsStop};
+ghost use Rattle.tool_stages.specs.Begins.{IsReady, RunStops, HasSource, MeaningStops};
+ghost use Rattle.tool_stages.specs.Accepted.{IsAccepted};
+
+use crate::compiled::{Compiled, compile};
+use crate::program::read_program;
+use crate::starts::first_start;
+use mit_syntax::program::Program;
+use start_file::start::Start;
+use std::alloc::Global;
+use tim_base::shelf::Shelf;
+use tool_texts::stop::Stop;
+
+/// What a run begins with: a program and its first start.
+///
+/// # Errors
+/// Stops with the first refusal, or with `Memory`.
+pub fn ready<S: Shelf>(
+    alloc: Global,
+    shelf: &mut S,
+    file: &str,
+    starts: Option<&str>,
+    name: Option<&str>,
+) -> Result<(Compiled, Start), Stop>
+    ensures same { (name : List ℕ) → S.content shelf.new name ≡ S.content shelf.old name }
+    ensures later { (name : List ℕ) → S.faults shelf.old name ≤ S.faults shelf.new name }
+    ensures ok { IfOk result (λ r. IsReady (S.content shelf.old) file.now (option_map (λ s. s.now) starts.entry) (option_map (λ s. s.now) name.entry) r.0.typed.labelled r.0.observer r.0.image (seen r.1)) }
+    ensures valid { IfOk result (λ r. IsFor r.0.typed.labelled.program (seen r.1)) }
+    ensures stop { IfErr result (IsStop (RunStops (λ name. Rose (S.faults shelf.old name) (S.faults shelf.new name)) (S.content shelf.old) file.now (option_map (λ s. s.now) starts.entry) (option_map (λ s. s.now) name.entry))) }
+    ensures sound { OnOk result (IsAccepted (S.content shelf.old file.now)) }
+{
+    let compiled = match compile(alloc, shelf, file, name) {
+        Ok(compiled) => compiled,
+        Err(stop) => return Err(stop),
+    };
+    match first_start(alloc, shelf, starts, compiled.typed.labelled().program()) {
+        Ok(start) => Ok((compiled, start)),
+        Err(stop) => Err(stop),
+    }
+}
+
+/// What a run without its time begins with: a program and its first start.
+///
+/// # Errors
+/// Stops with the first refusal, or with `Memory`.
+pub fn source<S: Shelf>(
+    alloc: Global,
+    shelf: &mut S,
+    file: &str,
+    starts: Option<&str>,
+) -> Result<(Program, Start), Stop>
+    ensures same { (name : List ℕ) → S.content shelf.new name ≡ S.content shelf.old name }
+    ensures later { (name : List ℕ) → S.faults shelf.old name ≤ S.faults shelf.new name }
+    ensures ok { IfOk result (λ r. HasSource (S.content shelf.old) file.now (option_map (λ s. s.now) starts.entry) r.0 (seen r.1)) }
+    ensures valid { IfOk result (λ r. IsFor r.0 (seen r.1)) }
+    ensures stop { IfErr result (IsStop (MeaningStops (λ name. Rose (S.faults shelf.old name) (S.faults shelf.new name)) (S.content shelf.old) file.now (option_map (λ s. s.now) starts.entry))) }
+{
+    let program = match read_program(alloc, shelf, file) {
+        Ok(program) => program,
+        Err(stop) => return Err(stop),
+    };
+    match first_start(alloc, shelf, starts, &program) {
+        Ok(start) => Ok((program, start)),
+        Err(stop) => Err(stop),
+    }
+}

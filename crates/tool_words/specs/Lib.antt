@@ -1,0 +1,3 @@
+pub mod WordsAsked
+pub mod WordsForms
+pub mod WordsViews

@@ -1,0 +1,137 @@
+// Reads the texts that the tool and the lab print (docs/FORMATS.md). Values stay texts, since they have 64 bits.
+
+const lines = (text) => text.split('\n').slice(0, text.endsWith('\n') ? -1 : undefined);
+const place = (text) => {
+  const [line, column] = text.split(':').map(Number);
+  return { line, column };
+};
+
+/** Of one line of a refusal: its kind, what it says, and its place where it has one. */
+export function readRefusal(line) {
+  const refused = /^refused (\S+) at (\d+:\d+): (\S+) does not flow to (\S+)$/.exec(line);
+  if (refused) return { kind: 'refused', rule: refused[1], place: place(refused[2]), from: refused[3], to: refused[4], text: line };
+  const syntax = /^syntax: (.*?)(?: at (\d+:\d+))?$/.exec(line);
+  if (syntax) return { kind: 'syntax', what: syntax[1], place: syntax[2] ? place(syntax[2]) : null, text: line };
+  const named = /^(starts|disagree|unfinished|too long|read fault|memory|usage)/.exec(line);
+  return { kind: named ? named[1] : 'other', place: null, text: line };
+}
+
+/** The verdict of `check`: accepted with its counts, or the refusal, and all its lines. */
+export function readVerdict(text) {
+  const accepted = /^accepted: commands (\d+), mitigates (\d+)$/m.exec(text);
+  if (accepted) return { kind: 'accepted', commands: Number(accepted[1]), mitigates: Number(accepted[2]), refusals: [] };
+  const refusals = lines(text).map(readRefusal).filter((one) => one.kind !== 'other');
+  return { ...(refusals[0] ?? readRefusal(lines(text)[0] ?? '')), refusals };
+}
+
+const EVENT = /^(\S+) = (-?\d+) @(\d+)$/;
+const END = /^(end|limit) @(\d+)$/;
+const event = (match) => ({ variable: match[1], value: match[2], cycle: Number(match[3]) });
+
+/** A run: its assignments with their cycles, and how and when it ended. */
+export function readRun(text) {
+  const run = { events: [], mitigations: null, end: null, halted: false };
+  for (const line of lines(text)) {
+    const end = END.exec(line), one = EVENT.exec(line);
+    if (one) run.events.push(event(one));
+    else if (end) Object.assign(run, { end: Number(end[2]), halted: end[1] === 'end' });
+    else return null;
+  }
+  return run.end === null ? null : run;
+}
+
+/** The report of `audit`, `cut` or the lab's `bound`, or null. */
+export function readAudit(text) {
+  const found = { classes: [], levelsOf: [] };
+  for (const line of lines(text)) {
+    const bound = /^bound (\d+)\^(\d+)$/.exec(line), run = /^run (\d+) class (\d+)$/.exec(line);
+    const level = /^level (\S+) mitigations (\d+) first (\d+) digits (\d+)$/.exec(line);
+    const count = /^(runs|budget|levels|mitigations|ended|halted|distinct|bits) (\d+)$/.exec(line);
+    const long = /^(sharp|guess) (\d+)$/.exec(line), observer = /^observer (\S+)$/.exec(line);
+    if (bound) Object.assign(found, { base: Number(bound[1]), exponent: Number(bound[2]) });
+    else if (run) found.classes.push(Number(run[2]));
+    else if (level) found.levelsOf.push({ level: level[1], mitigations: Number(level[2]), first: Number(level[3]), digits: Number(level[4]) });
+    else if (count) found[count[1]] = Number(count[2]);
+    else if (long) found[long[1]] = BigInt(long[2]);
+    else if (observer) [, found.observer] = observer;
+    else return null;
+  }
+  return found.runs === undefined || found.base === undefined ? null : found;
+}
+
+/** The instructions of `compile`: number, name, operand, labels. */
+export function readCode(text) {
+  return lines(text).map((line) => {
+    const [, number, name, operand, read, write] = /^(\d+) (\S+)(?: (.*))? \[(\S+), (\S+)\]$/.exec(line);
+    return { number: Number(number), name, operand: operand ?? '', labels: [read, write] };
+  });
+}
+
+/** The lab's timeline: the runs with their mitigations, and a line for each mitigate of the text; or null. */
+export function readTimeline(text) {
+  const runs = [], mitigates = [];
+  let open = [];
+  for (const line of lines(text)) {
+    const run = runs.at(-1), one = EVENT.exec(line), end = END.exec(line);
+    const begin = /^begin #(\d+) (\d+:\d+) level (\S+) estimate (-?\d+) predicts (\d+) misses (\d+) @(\d+)$/.exec(line);
+    const ended = /^end #(\d+) (\d+:\d+) level (\S+) worked (\d+) lasts (\d+) misses (\d+) to (\d+) @(\d+)$/.exec(line);
+    const total = /^mitigate #(\d+) (\d+:\d+) ended (\d+) shortest (\d+) longest (\d+) missed (\d+) least (\d+)$/.exec(line);
+    if (/^run \d+$/.test(line)) {
+      runs.push({ events: [], mitigations: [], end: null, halted: false });
+      open = [];
+    } else if (one) {
+      run.events.push(event(one));
+    } else if (begin) {
+      const made = {
+        number: Number(begin[1]), place: begin[2], level: begin[3], estimate: begin[4], predicts: Number(begin[5]),
+        misses: Number(begin[6]), begin: Number(begin[7]), worked: null, lasts: null, missesAfter: null, end: null, depth: open.length,
+      };
+      run.mitigations.push(made);
+      open.push(made);
+    } else if (ended) {
+      Object.assign(open.pop(), { worked: Number(ended[4]), lasts: Number(ended[5]), missesAfter: Number(ended[7]), end: Number(ended[8]) });
+    } else if (end) {
+      Object.assign(run, { end: Number(end[2]), halted: end[1] === 'end' });
+    } else if (total) {
+      const [number, ended_, shortest, longest, missed, least] = [1, 3, 4, 5, 6, 7].map((k) => Number(total[k]));
+      mitigates.push({ number, place: total[2], ended: ended_, shortest, longest, missed, least });
+    } else {
+      return null;
+    }
+  }
+  return runs.length && runs.every((run) => run.end !== null) ? { runs, mitigates } : null;
+}
+
+/** The lab's `why`: the refusal and the steps of the chain, each with its place. */
+export function readWhy(text) {
+  const [first, ...rest] = lines(text);
+  const refusal = readRefusal(first ?? '');
+  const steps = rest.map((line) => /^(\d+:\d+) (.*)$/.exec(line)).filter(Boolean);
+  return { refusal, steps: steps.map((step) => ({ place: place(step[1]), text: step[2] })) };
+}
+
+/** What the observer sees of runs, as one text a run; two runs look alike exactly where these are the same. */
+export function sequence(run) {
+  return run.events.filter((one) => one.isSeen).map((one) => `${one.variable}=${one.value}@${one.cycle}`).join(' ');
+}
+
+/** The class of each run, from 1, by first appearance of what is seen of it. */
+export function classesOf(runs) {
+  const kinds = [...new Set(runs.map(sequence))];
+  return runs.map((run) => kinds.indexOf(sequence(run)) + 1);
+}
+
+/** Marks in each run what the observer sees of it, by the run of the same start that tells the observer's part alone. */
+export function markSeen(runs, seen) {
+  runs.forEach((run, k) => {
+    const cycles = new Set(seen[k].events.map((one) => one.cycle));
+    for (const one of run.events) one.isSeen = cycles.has(one.cycle);
+  });
+  return runs;
+}
+
+/** The least number of bits that BASE^EXPONENT fits in: the least B with BASE^EXPONENT <= 2^B. */
+export function bitsOf(base, exponent) {
+  const greatest = BigInt(base) ** BigInt(exponent) - 1n;
+  return greatest === 0n ? 0 : greatest.toString(2).length;
+}

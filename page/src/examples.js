@@ -1,0 +1,28 @@
+// The examples, each with a sentence. `files` are the texts of examples/ and of this folder; page/build puts them in.
+
+/** A list of starts in which one variable goes from a number to another one. */
+export function countedStarts(name, from, to) {
+  const runs = [];
+  for (let value = from; value <= to; value++) runs.push(`[[run]]\nmemory = { ${name} = ${value} }\n`);
+  return runs.join('\n');
+}
+
+/** The examples in order: name, sentence, program, starts, settings. */
+export function examplesOf(files) {
+  const usual = { observer: 'L', environment: 'part', budget: '1000000' };
+  const nine = files['password_nine.toml'];
+  return [
+    { name: 'Password check, small prediction', says: 'Nine secrets, and a first prediction of 16 cycles: each miss doubles it, and each doubling can be seen.', program: files['password_small.mit'], starts: nine },
+    { name: 'Password check', says: 'The same check with a first prediction of 512 cycles: all secrets look alike.', program: files['password.mit'], starts: nine },
+    { name: 'Password check without mitigation', says: 'Refused: the time of the last assignment would tell how many letters were right.', program: files['password_open.mit'], starts: nine },
+    { name: 'One assignment', says: 'The least program there is to look at: when does l become 7?', program: files['first.mit'], starts: '[[run]]\n', environment: 'flat' },
+    { name: 'A secret countdown', says: 'A loop that takes as long as its secret is great, with a prediction of 64 cycles.', program: files['countdown.mit'], starts: countedStarts('h', 0, 9) },
+    { name: 'A login, small prediction', says: 'Names are tried one after the other. The first valid one is seen, and nothing of those after it.', program: files['login/small.mit'], starts: files['login/starts.toml'] },
+    { name: 'A login', says: 'The same with a first prediction that is enough: which names are valid is not told.', program: files['login/login.mit'], starts: files['login/starts.toml'] },
+    { name: 'A table look-up', says: 'Whether the looked-up line is in the cache already depends on the secret place.', program: files['lookup.mit'], starts: files['lookup.toml'] },
+    { name: 'A modular power', says: 'Squaring and multiplying: the time depends on the digits of the secret exponent.', program: files['power.mit'], starts: files['power.toml'] },
+    { name: 'Two tenants', says: 'Four labels: two tenants share the machine, and neither may learn of the other.', program: files['tenants/tenants.mit'], starts: files['tenants/starts.toml'], observer: 'bob' },
+    { name: 'Two tenants without mitigation', says: 'Refused: Bob’s assignments come after Ann’s loop, and so their time would tell of her jobs.', program: files['tenants/open.mit'], starts: files['tenants/starts.toml'], observer: 'bob' },
+    { name: 'A branch with a low write label', says: 'Refused: what stands in a branch on a secret may not change parts of the machine that all can see.', program: files['refused/if.mit'], starts: '[[run]]\n' },
+  ].map((one) => ({ ...usual, ...one }));
+}

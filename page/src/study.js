@@ -1,0 +1,150 @@
+// What the page asks of the tool about one program and its starts. Each answer is what the tool printed, read.
+
+import { classesOf, markSeen, readAudit, readRefusal, readRun, readTimeline, readVerdict, readWhy } from './answers.js';
+import { offsetOf, placeOf, readProgram, withEstimate, wrapped } from './language.js';
+import { oneStart, readStarts } from './starts.js';
+
+const PROGRAM = 'program.mit', STARTS = 'starts.toml';
+const DONE = 0, OUT_OF_BUDGET = 8, UNFINISHED = 10;
+
+/** How many runs are drawn where each needs a call of its own. */
+export const MOST_SINGLE_RUNS = 64;
+
+const settings = (state) => ['--env', state.environment, '--budget', state.budget];
+const seenBy = (state) => ['--observer', state.observer];
+const files = (state) => ({ [PROGRAM]: state.program, [STARTS]: state.starts });
+const refusalOf = ({ text }) => readRefusal(text.split('\n')[0]);
+
+/** Whether the tool accepts the program, and which refusals it names. */
+export async function verdictOf(tool, state) {
+  return readVerdict((await tool.call('mitigate', ['check', PROGRAM], files(state))).text);
+}
+
+/** The program with all its labels, as the tool completes them; null where it is refused. */
+export async function completedBy(tool, state) {
+  const { status, text } = await tool.call('mitigate', ['infer', PROGRAM], files(state));
+  return status === DONE ? text : null;
+}
+
+/** The text of the compiled code, or the refusal's line. */
+export async function codeOf(tool, state) {
+  return tool.call('mitigate', ['compile', PROGRAM], files(state));
+}
+
+/** The chain of a refusal, by the lab; null where the lab is not in the module. */
+export async function chainOf(tool, state) {
+  if (!tool.has('lab')) return null;
+  const { text } = await tool.call('lab', ['why', PROGRAM], files(state));
+  const why = readWhy(text);
+  return why.steps.length ? why : null;
+}
+
+const MOST_TRIES = 60, FIRST_ESTIMATE = 64;
+
+/** A mitigate that makes a refused program an accepted one: around the fewest commands just before the refused one, in
+    its list or in one around it. {text, first, last} with the lines, or null where no such one serves. */
+export async function mendOf(tool, state, refusal) {
+  const program = readProgram(state.program);
+  if (!program || refusal.rule !== 'T-ASGN') return null;
+  const at = offsetOf(state.program, refusal.place.line, refusal.place.column);
+  let tries = 0;
+  for (const list of listsTo(program.body, at).reverse()) {
+    const end = list.findIndex((one) => one.at <= at && at < one.end);
+    for (let k = end - 1; k >= 0 && tries < MOST_TRIES; k--, tries++) {
+      const text = wrapped(state.program, list[k], list[end - 1], FIRST_ESTIMATE, refusal.from);
+      const { status } = await tool.call('mitigate', ['check', PROGRAM], { [PROGRAM]: text });
+      if (status === DONE) return { text, first: placeOf(state.program, list[k].at).line, last: placeOf(state.program, list[end - 1].end - 1).line };
+    }
+  }
+  return null;
+}
+
+// The lists of commands that hold a place, the outermost first.
+function listsTo(list, at) {
+  const one = list.find((command) => command.at <= at && at < command.end && !command.isAdded);
+  if (!one) return [];
+  return [list, ...one.parts.flatMap((part) => listsTo(part, at))];
+}
+
+/** The audit: {report} of runs that have halted, {report, isCut} where some have not, or {refusal}. */
+export async function auditOf(tool, state) {
+  const words = [PROGRAM, STARTS, ...seenBy(state), ...settings(state)];
+  const answer = await tool.call('mitigate', ['audit', ...words], files(state));
+  if (answer.status === DONE) return { report: readAudit(answer.text), isCut: false };
+  if (answer.status !== UNFINISHED) return { refusal: refusalOf(answer) };
+  const cut = await tool.call('mitigate', ['cut', ...words], files(state));
+  return cut.status === DONE ? { report: readAudit(cut.text), isCut: true } : { refusal: refusalOf(cut) };
+}
+
+/** The sharp count and what stands beside it, by the lab; null where it is not there or refuses. */
+export async function sharpOf(tool, state) {
+  if (!tool.has('lab')) return null;
+  const words = ['bound', PROGRAM, STARTS, ...seenBy(state), ...settings(state)];
+  const { status, text } = await tool.call('lab', words, files(state));
+  const report = status === DONE ? readAudit(text) : null;
+  return report?.sharp === undefined ? null : report;
+}
+
+async function byLab(tool, state) {
+  const words = ['timeline', PROGRAM, STARTS, ...settings(state)];
+  const all = await tool.call('lab', words, files(state)), told = readTimeline(all.text);
+  if (!told) return { refusal: refusalOf(all) };
+  const seen = await tool.call('lab', [...words, ...seenBy(state)], files(state));
+  return { runs: markSeen(told.runs, readTimeline(seen.text).runs), mitigates: told.mitigates, isAll: true };
+}
+
+async function single(tool, state, starts, k, more) {
+  const one = { [PROGRAM]: state.program, [STARTS]: oneStart(starts, k) };
+  const answer = await tool.call('mitigate', ['run', PROGRAM, STARTS, ...settings(state), ...more], one);
+  return answer.status === DONE || answer.status === OUT_OF_BUDGET ? readRun(answer.text) : refusalOf(answer);
+}
+
+async function byRuns(tool, state, most) {
+  const starts = readStarts(state.starts);
+  if (starts.fault) return { refusal: { kind: 'starts', text: `the page cannot take these starts apart: ${starts.fault}` } };
+  const count = Math.min(starts.runs.length, most), all = [], seen = [];
+  for (let k = 0; k < count; k++) {
+    for (const [list, more] of [[all, []], [seen, seenBy(state)]]) {
+      const run = await single(tool, state, starts, k, more);
+      if (!run.events) return { refusal: run };
+      list.push(run);
+    }
+  }
+  return { runs: markSeen(all, seen), mitigates: null, isAll: count === starts.runs.length };
+}
+
+/** The runs with their assignments and ends, and with mitigations where the lab is there: {runs, mitigates} or {refusal}. */
+export async function runsOf(tool, state, most = MOST_SINGLE_RUNS) {
+  const told = tool.has('lab') ? await byLab(tool, state) : await byRuns(tool, state, most);
+  if (told.runs) classesOf(told.runs).forEach((number, k) => Object.assign(told.runs[k], { class: number }));
+  return told;
+}
+
+/** One point of the sweep: how many sequences a first prediction leaves, the shortest and the longest run, and where
+    the lab tells it the least first prediction that no body reaches. Null where the tool refuses. */
+export async function pointOf(tool, state, mitigate, prediction) {
+  const tried = { ...state, program: withEstimate(state.program, mitigate, prediction) };
+  const audit = await auditOf(tool, tried);
+  if (!audit.report) return null;
+  const told = tool.has('lab') ? await labEnds(tool, tried) : await singleEnds(tool, tried, audit.report.runs);
+  if (!told) return null;
+  return { prediction, sequences: audit.report.distinct, shortest: Math.min(...told.ends), longest: Math.max(...told.ends), least: told.least(mitigate) };
+}
+
+async function labEnds(tool, state) {
+  const words = ['timeline', PROGRAM, STARTS, ...settings(state), ...seenBy(state)];
+  const told = readTimeline((await tool.call('lab', words, files(state))).text);
+  if (!told) return null;
+  return { ends: told.runs.map((run) => run.end), least: (one) => told.mitigates[one.mark]?.least ?? null };
+}
+
+async function singleEnds(tool, state, count) {
+  const starts = readStarts(state.starts), ends = [];
+  if (starts.fault) return null;
+  for (let k = 0; k < Math.min(count, MOST_SINGLE_RUNS); k++) {
+    const run = await single(tool, state, starts, k, seenBy(state));
+    if (!run.events) return null;
+    ends.push(run.end);
+  }
+  return { ends, least: () => null };
+}
