@@ -51,7 +51,7 @@ fn put_chain(
 }
 
 /// The lines that tell a chain, for a program that is spelled by the tokens of a text. Each line begins with its place:
-/// that of a word where one is named, else that of its command.
+/// that of the name that is read or declared, else that of its command.
 ///
 /// # Errors
 /// `Memory` is want of memory.
