@@ -76,7 +76,8 @@ export function sweepPicture(points, { width, high = 320, current = null }) {
   for (const cycles of rows) out.push(`<text x="${LEFT - 8}" y="${at(y(cycles) + 4)}" text-anchor="end">${spaced(cycles)}</text>`);
   const step = Math.ceil((doublings * 46) / (width - LEFT - RIGHT));
   for (let k = 0; k <= doublings + 0.001; k += step) out.push(`<text x="${at(x(2 ** k))}" y="${high - BOTTOM + 17}" text-anchor="middle">${spaced(2 ** k)}</text>`);
-  out.push(`<text x="${LEFT}" y="${high - 8}">first prediction, in cycles</text><text x="8" y="${TOP - 10}">longest run, in cycles</text></g>`);
+  const isLeft = current === null || x(current) > width / 2; // opposite of where the present one is named
+  out.push(`<text x="${isLeft ? LEFT : width - RIGHT}" y="${high - 8}" text-anchor="${isLeft ? 'start' : 'end'}">first prediction, in cycles</text><text x="8" y="${TOP - 10}">longest run, in cycles</text></g>`);
   if (current !== null && current <= sorted.at(-1).prediction) {
     out.push(`<path d="M${at(x(current))} ${TOP}V${TOP + tall}" stroke="var(--ink)" stroke-dasharray="3 3" opacity=".7"/><text x="${at(x(current))}" y="${high - 8}" text-anchor="middle" fill="var(--ink)">now ${spaced(current)}</text>`);
   }
