@@ -1,0 +1,10 @@
+pub mod Cuts
+pub mod Placing
+pub mod Earlier
+pub mod Sound
+pub mod Marks
+pub mod Spread
+pub mod Whole
+pub mod Following
+pub mod Apart
+pub mod Pushing
