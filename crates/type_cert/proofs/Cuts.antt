@@ -1,14 +1,14 @@
 -- What stands at the front of a text, and what follows it, are one.
-use Rattle.std.proofs.Common.{◌≡◌, ℕ, zero, suc, ◌+◌, ◌<◌, refl, sym, ap, ◌∙◌, subst, List, [], ◌∷◌, ◌++◌, append_assoc, Bool, true, false, get_or, length, arith, None, Some, ⊎_elim, ◌≤◌}
+use Rattle.std.proofs.Common.{◌≡◌, ℕ, zero, suc, ◌+◌, ◌<◌, refl, sym, ap, ◌∙◌, subst, List, [], ◌∷◌, ◌++◌, append_assoc, Bool, true, false, get_or, length, length-drop, take, drop, ◌-◌, arith, None, Some, ⊎_elim, ◌≤◌}
 use Rattle.std.specs.Prelude.{Option, codes, decimal}
-use Rattle.std.proofs.lemmas.List.{append_cancel_left}
+use Rattle.std.proofs.lemmas.List.{append_cancel_left, take-append-drop, take_all}
 use Rattle.std.proofs.lemmas.Bool.{cases_lt}
 use Rattle.label_lattice.specs.declared.label.Label.{Label}
 use Rattle.label_lattice.specs.Order.{Order, IsOrder, name_of, AllDiffer}
 use Rattle.label_lattice.specs.Names.{IsName}
 use Rattle.mit_syntax.specs.Lexemes.{is_name_byte, StopsAt, Each}
 use Rattle.mit_syntax.specs.Valid.{IsBelow}
-use Rattle.mit_syntax.proofs.LexBytes.{heads, tails, letter_in_name}
+use Rattle.mit_syntax.proofs.LexBytes.{heads, tails, letter_in_name, front_passes, rest_stops}
 use Rattle.timing_types.specs.declared.rule.Rule.{Rule}
 use Rattle.type_cert.specs.declared.line.Line.{Line}
 use Rattle.type_cert.specs.declared.place.Act.{Act}
@@ -232,3 +232,73 @@ module _ (o : Order) (ok : IsOrder o) where
       let e = past_name w text l q h (w ++ rest) rest (at_name w text m r k) refl in
       let z = cut_label (codes " ") rest l m (codes "\n" ++ q) (codes "\n" ++ r) (at_variable w text l q h rest e) (at_variable w text m r k rest refl) in
       (z.0, append_cancel_left (codes "\n") q r z.1)
+
+-- a label behind words, and the label alone
+pub behind : (o : Order) (words text rest : List ℕ) (l : Label) (q : List ℕ) → text ≡ words ++ rest → ReadsLabel o words text l q → ReadsLabel o [] rest l q
+behind o words text rest l q e h =
+    record { below = h.below; is = append_cancel_left words rest (name_of o l.number ++ q) (sym e ∙ h.is ∙ append_assoc words (name_of o l.number) q); stops = h.stops }
+
+pub before_it : (o : Order) (words text rest : List ℕ) (l : Label) (q : List ℕ) → text ≡ words ++ rest → ReadsLabel o [] rest l q → ReadsLabel o words text l q
+before_it o words text rest l q e h = record { below = h.below; is = e ∙ ap (λ z. words ++ z) h.is ∙ sym (append_assoc words (name_of o l.number) q); stops = h.stops }
+
+-- a text from the number of bytes of names at its front
+module _ (o : Order) (ok : IsOrder o) (text : List ℕ) (n : ℕ) (within : n ≤ length text) (passes : (k : ℕ) → k < n → is_name_byte (get_or text k 0) ≡ true) (stops : n < length text → is_name_byte (get_or text n 0) ≡ false) where
+  pub front_is : (l : Label) (q : List ℕ) → ReadsLabel o [] text l q → (take n text ≡ name_of o l.number) × (drop n text ≡ q)
+  front_is l q h =
+      same_names (take n text) (name_of o l.number) (drop n text) q (front_passes is_name_byte text n within passes) (name_is o ok l h.below) (rest_stops is_name_byte text n within stops) h.stops
+      (take-append-drop n text ∙ h.is)
+
+  pub front_reads : (l : Label) (name : List ℕ) → l.number < o.size → name_of o l.number ≡ name → name ≡ take n text → ReadsLabel o [] text l (take (length text - n) (drop n text))
+  front_reads l name below e f =
+      let d = length-drop n text in
+      let rest : take (length text - n) (drop n text) ≡ drop n text = take_all (length text - n) (drop n text) (omega (arith, d)) in
+      record {
+        below = below;
+        is = sym (take-append-drop n text) ∙ ap (λ z. z ++ drop n text) (sym (e ∙ f)) ∙ ap (λ z. name_of o l.number ++ z) (sym rest);
+        stops = subst (λ z. StopsAt is_name_byte z) (sym rest) (rest_stops is_name_byte text n within stops);
+      }
+
+  pub front_named : (l : Label) (q : List ℕ) → ReadsLabel o [] text l q → IsName (take n text)
+  front_named l q h = let f = ok.named in let b = h.below in subst IsName (sym (front_is l q h).0) (ok.names l.number [] (omega (arith, b, f)))
+
+-- a line from its parts, as code reads them
+pub line_from : (o : Order) (i : ℕ) (act : Act) (text r0 r1 r2 r3 r4 r5 r6 r7 : List ℕ) (rule : Rule) (pc start read write end : Label) (level : Option Label) → rule ≡ rule_of act →
+    text ≡ head_text i rule ++ r0 → ReadsLabel o (codes " pc ") r0 pc r1 → ReadsLabel o (codes " start ") r1 start r2 → ReadsLabel o (codes " er ") r2 read r3 → ReadsLabel o (codes " ew ") r3 write r4 →
+    ReadsLabel o (codes " end ") r4 end r5 → ReadsLevel o act r5 level r6 → r6 ≡ codes "\n" ++ r7 →
+    ReadsLine o i act text (record { rule = rule; pc = pc; start = start; read = read; write = write; end = end; level = level }) r7
+line_from o i act text r0 r1 r2 r3 r4 r5 r6 r7 rule pc start read write end level er e0 h1 h2 h3 h4 h5 h6 e7 =
+    let x : Line = record { rule = rule; pc = pc; start = start; read = read; write = write; end = end; level = level } in
+    let a = named o (codes " pc ") pc in
+    let b = named o (codes " start ") start in
+    let c = named o (codes " er ") read in
+    let d = named o (codes " ew ") write in
+    let e = named o (codes " end ") end in
+    let f = level_text o level in
+    let n = codes "\n" in
+    let t5 : r5 ≡ (f ++ n) ++ r7 = h6.is ∙ ap (λ z. f ++ z) e7 ∙ sym (append_assoc f n r7) in
+    let t4 : r4 ≡ (e ++ (f ++ n)) ++ r7 = h5.is ∙ ap (λ z. e ++ z) t5 ∙ sym (append_assoc e (f ++ n) r7) in
+    let t3 : r3 ≡ (d ++ (e ++ (f ++ n))) ++ r7 = h4.is ∙ ap (λ z. d ++ z) t4 ∙ sym (append_assoc d (e ++ (f ++ n)) r7) in
+    let t2 : r2 ≡ (c ++ (d ++ (e ++ (f ++ n)))) ++ r7 = h3.is ∙ ap (λ z. c ++ z) t3 ∙ sym (append_assoc c (d ++ (e ++ (f ++ n))) r7) in
+    let t1 : r1 ≡ (b ++ (c ++ (d ++ (e ++ (f ++ n))))) ++ r7 = h2.is ∙ ap (λ z. b ++ z) t2 ∙ sym (append_assoc b (c ++ (d ++ (e ++ (f ++ n)))) r7) in
+    let t0 : r0 ≡ tail_text o x ++ r7 = h1.is ∙ ap (λ z. a ++ z) t1 ∙ sym (append_assoc a (b ++ (c ++ (d ++ (e ++ (f ++ n))))) r7) in
+    record {
+      formed = record {
+        rule = er;
+        labels = record { pc = h1.below; start = h2.below; read = h3.below; write = h4.below; end = h5.below; level = h6.below };
+        level = h6.has;
+      };
+      is = e0 ∙ ap (λ z. head_text i rule ++ z) t0 ∙ sym (append_assoc (head_text i rule) (tail_text o x) r7);
+    }
+
+-- what is left after the parts of a line's head
+pub head_parts : (i : ℕ) (rule : Rule) (text r0 q : List ℕ) → text ≡ decimal i ++ r0 → text ≡ head_text i rule ++ q → r0 ≡ codes " " ++ (rule_name rule ++ q)
+head_parts i rule text r0 q e h =
+    append_cancel_left (decimal i) r0 (codes " " ++ (rule_name rule ++ q))
+    (sym e ∙ h ∙ append_assoc (decimal i) (codes " " ++ rule_name rule) q ∙ ap (λ z. decimal i ++ z) (append_assoc (codes " ") (rule_name rule) q))
+
+pub head_from : (i : ℕ) (rule : Rule) (text r0 r1 r2 : List ℕ) → text ≡ decimal i ++ r0 → r0 ≡ codes " " ++ r1 → r1 ≡ rule_name rule ++ r2 → text ≡ head_text i rule ++ r2
+head_from i rule text r0 r1 r2 e0 e1 e2 =
+    e0 ∙ ap (λ z. decimal i ++ z) (e1 ∙ ap (λ z. codes " " ++ z) e2 ∙ sym (append_assoc (codes " ") (rule_name rule) r2)) ∙ sym (append_assoc (decimal i) (codes " " ++ rule_name rule) r2)
+
+pub head_rule : (rule : Rule) (r0 r1 q : List ℕ) → r0 ≡ codes " " ++ r1 → r0 ≡ codes " " ++ (rule_name rule ++ q) → r1 ≡ rule_name rule ++ q
+head_rule rule r0 r1 q e h = append_cancel_left (codes " ") r1 (rule_name rule ++ q) (sym e ∙ h)

@@ -8,3 +8,10 @@ pub mod Whole
 pub mod Following
 pub mod Apart
 pub mod Pushing
+pub mod Raising
+pub mod Complete
+pub mod Held
+pub mod Back
+pub mod Loop
+pub mod Walking
+pub mod Deriving

@@ -1,8 +1,9 @@
 -- The labels of variables, from those of the declarations.
-use Rattle.std.proofs.Common.{◌≡◌, ℕ, zero, suc, ◌+◌, ◌-◌, ◌<◌, ◌≤◌, refl, sym, ap, ◌∙◌, subst, List, [], ◌∷◌, ◌++◌, length, length-append, take, drop, get_or, arith, ⊎_elim}
-use Rattle.std.specs.Prelude.{Option, None, Some, replicate}
+use Rattle.std.proofs.Common.{◌≡◌, ℕ, zero, suc, ◌+◌, ◌-◌, ◌<◌, ◌≤◌, refl, sym, ap, ◌∙◌, subst, List, [], ◌∷◌, ◌++◌, length, length-append, append_assoc, append-nil, take, drop, get_or, arith, ⊎_elim}
+use Rattle.std.specs.Prelude.{Option, None, Some, replicate, unwrap_or, slice_get}
 use Rattle.std.proofs.lemmas.Bool.{cases_lt}
-use Rattle.std.proofs.lemmas.List.{get_or_append_left, get_or-append-add, get_or-replicate, get_or_past, length-replicate}
+use Rattle.std.proofs.lemmas.List.{get_or_append_left, get_or-append-add, get_or-replicate, length-replicate, drop_more, drop_all, take_all}
+use Rattle.std.proofs.lemmas.Option.{slice_get_within, get_or_from_slice_get}
 use Rattle.label_lattice.specs.declared.label.Label.{Label}
 use Rattle.mit_syntax.specs.Declarations.{Declaration, Cell, cells_of, cells, variables, cell_at, size_in, size_of}
 use Rattle.mit_syntax.proofs.Numbers.{length-cells_of, cells_at}
@@ -66,3 +67,27 @@ module _ (n : ℕ) where
       subst (λ z. IsKept z (label_at b (spread (d ∷ ds) (l ∷ ls)) x)) (sym a)
       (subst (λ (z : Label). IsKept (get_or (cells ds) (x - size_of d.1) c).label z.number) (sym (later_there d ds l ls x low k)) r))
       (cases_lt x (size_of d.1))
+
+-- the steps of making the labels of variables
+pub size_is : (v : Option ℕ) → unwrap_or v 1 ≡ size_in v
+size_is None = refl
+size_is (Some n) = refl
+
+pub spread_next : (ds : List Declaration) (ls all found new : List Label) (k size : ℕ) (d : Declaration) (l : Label) → slice_get ds k ≡ Some d → k < length ls → l ≡ get_or ls k l → size ≡ size_of d.1 →
+    new ≡ found ++ replicate size l → all ≡ found ++ spread (drop k ds) (drop k ls) → all ≡ new ++ spread (drop (k + 1) ds) (drop (k + 1) ls)
+spread_next ds ls all found new k size d l there h at es en so =
+    let hd = slice_get_within ds k d there in
+    let x : drop k ds ≡ d ∷ drop (k + 1) ds = drop_more ds k d hd ∙ ap (λ z. z ∷ drop (k + 1) ds) (get_or_from_slice_get ds k d d there) in
+    let y : drop k ls ≡ l ∷ drop (k + 1) ls = drop_more ls k l h ∙ ap (λ z. z ∷ drop (k + 1) ls) (sym at) in
+    let rest = spread (drop (k + 1) ds) (drop (k + 1) ls) in
+    so ∙ ap (λ z. found ++ spread z (drop k ls)) x ∙ ap (λ z. found ++ spread (d ∷ drop (k + 1) ds) z) y ∙ ap (λ z. found ++ (replicate z l ++ rest)) (sym es)
+    ∙ sym (append_assoc found (replicate size l) rest) ∙ ap (λ z. z ++ rest) (sym en)
+
+pub spread_all : (ds : List Declaration) (ls all found : List Label) (k : ℕ) → length ds ≤ k → all ≡ found ++ spread (drop k ds) (drop k ls) → found ≡ all
+spread_all ds ls all found k h so = sym (so ∙ ap (λ z. found ++ spread z (drop k ls)) (drop_all k ds h) ∙ append-nil found)
+
+pub resized : (found : List Label) (n size len : ℕ) (l : Label) (new : List Label) → len ≡ length found → n ≡ len + size → new ≡ take n found ++ replicate (n - len) l → new ≡ found ++ replicate size l
+resized found n size len l new el en is =
+    let a : length found ≤ n = omega (arith, el, en) in
+    let b : n - len ≡ size = omega (arith, en) in
+    is ∙ ap (λ z. z ++ replicate (n - len) l) (take_all n found a) ∙ ap (λ z. found ++ replicate z l) b

@@ -35,10 +35,10 @@ use Rattle.type_cert.proofs.Sound.{sound, owns, kept, in_contexts}
 use Rattle.type_cert.proofs.Marks.{marked, same_lengths, Marks, marks}
 use Rattle.type_cert.proofs.Spread.{length_spread, spread_below, spread_kept}
 
-abbrev both_labels : Line → Label × Label
+abbrev pub both_labels : Line → Label × Label
 both_labels x = (x.read, x.write)
 
-both_at : (b : ℕ) (xs : List Line) (i : ℕ) → get_or (map both_labels xs) i (label b, label b) ≡ both_labels (line_at b xs i)
+pub both_at : (b : ℕ) (xs : List Line) (i : ℕ) → get_or (map both_labels xs) i (label b, label b) ≡ both_labels (line_at b xs i)
 both_at b [] i = refl
 both_at b (x ∷ xs) zero = refl
 both_at b (x ∷ xs) (suc i) = both_at b xs i

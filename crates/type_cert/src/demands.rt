@@ -126,11 +126,20 @@ fn closes(order: &Lattice, lines: &[Line], close: Close, end: Label) -> bool
 pub(crate) fn meets(order: &Lattice, lines: &[Line], place: &Place, line: &Line) -> bool
     ensures { IsTrue result ↔ Meets (lattice_of order.now) (line_at order.now.bottom lines.now) place.now line.now }
 {
-    line.pc.number == place.pc.number
-        && line.start.number == start_of(order, lines, place.start).number
-        && has_marks(place.written, place.here, line)
-        && keeps_level(order, place.act, line.level)
-        && order.flows(place.here, line.write)
-        && keeps_rule(order, place.act, line)
-        && closes(order, lines, place.close, line.end)
+    if line.pc.number != place.pc.number {
+        return false;
+    }
+    if line.start.number != start_of(order, lines, place.start).number {
+        return false;
+    }
+    if !has_marks(place.written, place.here, line) {
+        return false;
+    }
+    if !keeps_level(order, place.act, line.level) {
+        return false;
+    }
+    if !order.flows(place.here, line.write) {
+        return false;
+    }
+    keeps_rule(order, place.act, line) && closes(order, lines, place.close, line.end)
 }

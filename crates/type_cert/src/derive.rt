@@ -1,9 +1,10 @@
 //! Writing the derivation of a typed program.
 
-ghost use Rattle.std.specs.Prelude.{◌≡◌, ◌++◌, IfOk, take};
+ghost use Rattle.std.specs.Prelude.{◌≡◌, ◌++◌, All, IfOk};
 ghost use Rattle.label_infer.specs.Least.{Labels};
-ghost use Rattle.timing_types.specs.Labelled.{LabelledProgram, labels_of, order_of, placed_of};
+ghost use Rattle.timing_types.specs.Labelled.{labels_of, order_of, placed_of};
 ghost use Rattle.type_cert.specs.Certificate.{IsCertificate};
+ghost use Rattle.type_cert.specs.Demands.{HasLabels};
 ghost use Rattle.type_cert.specs.Derived.{derived, declared_labels, derived_text};
 ghost use Rattle.type_cert.specs.Text.{variables_text, lines_text};
 
@@ -66,6 +67,7 @@ fn put_variables(out: &mut Vec<u8>, p: &Labelled, order: &Lattice) -> Result<(),
 
 /// Puts the lines of the commands.
 fn put_lines(out: &mut Vec<u8>, order: &Lattice, lines: &[Line]) -> Result<(), AllocError>
+    requires { All (HasLabels order.now.size) lines.now }
     ensures { IfOk result (λ _. out.new.items ≡ out.old.items ++ lines_text order.now 0 lines.now) }
 {
     for (number, line) in lines.iter().enumerate() {

@@ -108,6 +108,7 @@ fn command_lines(
             Ok(end)
         }
         Form::While { guard, body } => {
+            order.laws();
             let le = label(guard, variables, order);
             let start = join3(order, le, t, own.0);
             let inner = order.join(pc, le);

@@ -3,6 +3,7 @@
 ghost use Rattle.std.specs.Prelude.{◌≡◌, ◌<◌, ◌≤◌, ◌++◌, ℕ, List, [], Option, length, slice_index, true, false, MatchOption};
 ghost use Rattle.label_lattice.specs.declared.label.Label.{Label};
 ghost use Rattle.label_lattice.specs.Names.{is_name_byte};
+ghost use Rattle.mit_syntax.specs.Lexemes.{StopsAt};
 
 
 ghost use Rattle.type_cert.specs.declared.line.Line.{Line};
@@ -53,6 +54,7 @@ fn name_len(text: &[u8]) -> usize
 fn name<'a>(text: &'a [u8], order: &Lattice) -> Option<(Label, &'a [u8])>
     ensures { MatchOption result ((l : Label) (q : List ℕ) → ReadsLabel order.now [] text.now l q → ⊥) (λ r. ReadsLabel order.now [] text.now r.0 r.1.now) }
 {
+    order.laws();
     let n = name_len(text);
     let name = Name::read(&text[..n])?;
     let label = order.find(&name)?;
@@ -64,11 +66,13 @@ fn label<'a>(text: &'a [u8], word: &[u8], order: &Lattice) -> Option<(Label, &'a
     ensures { MatchOption result ((l : Label) (q : List ℕ) → ReadsLabel order.now word.now text.now l q → ⊥) (λ r. ReadsLabel order.now word.now text.now r.0 r.1.now) }
 {
     let rest = after(text, word)?;
-    name(rest, order)
+    let (label, rest) = name(rest, order)?;
+    Some((label, rest))
 }
 
 /// The level in a command's line, and what follows it.
 fn level<'a>(text: &'a [u8], order: &Lattice, act: Act) -> Option<(Option<Label>, &'a [u8])>
+    requires { StopsAt is_name_byte text.now }
     ensures { MatchOption result ((v : Option Label) (q : List ℕ) → ReadsLevel order.now act text.now v q → ⊥) (λ r. ReadsLevel order.now act text.now r.0 r.1.now) }
 {
     match act {
@@ -76,7 +80,11 @@ fn level<'a>(text: &'a [u8], order: &Lattice, act: Act) -> Option<(Option<Label>
             Some((level, rest)) => Some((Some(level), rest)),
             None => None,
         },
-        _ => Some((None, text)),
+        Act::Skip
+        | Act::Assign { .. }
+        | Act::Sleep { .. }
+        | Act::If { .. }
+        | Act::While { .. } => Some((None, text)),
     }
 }
 
@@ -101,7 +109,8 @@ fn head<'a>(text: &'a [u8], number: usize, rule: Rule) -> Option<&'a [u8]>
     let mut buffer = Buffer::new();
     let rest = after(text, buffer.format(number).as_bytes())?;
     let rest = after(rest, b" ")?;
-    after(rest, rule_name(rule))
+    let rest = after(rest, rule_name(rule))?;
+    Some(rest)
 }
 
 /// The line of the command with a number, and what follows it.
@@ -113,6 +122,7 @@ pub(crate) fn line<'a>(
 ) -> Option<(Line, &'a [u8])>
     ensures { MatchOption result ((x : Line) (q : List ℕ) → ReadsLine order.now number act text.now x q → ⊥) (λ r. ReadsLine order.now number act text.now r.0 r.1.now) }
 {
+    order.laws();
     let rule = rule_of(act);
     let rest = head(text, number, rule)?;
     let (pc, rest) = label(rest, b" pc ", order)?;
@@ -138,6 +148,7 @@ pub(crate) fn line<'a>(
 pub(crate) fn variable<'a>(text: &'a [u8], order: &Lattice, name: Name) -> Option<(Label, &'a [u8])>
     ensures { MatchOption result ((l : Label) (q : List ℕ) → ReadsVariable order.now name text.now l q → ⊥) (λ r. ReadsVariable order.now name text.now r.0 r.1.now) }
 {
+    order.laws();
     let rest = after(text, b"var ")?;
     let rest = after(rest, name.bytes())?;
     let (label, rest) = label(rest, b" ", order)?;

@@ -5,8 +5,8 @@ ghost use Rattle.label_lattice.specs.declared.label.Label.{Label};
 ghost use Rattle.label_lattice.specs.Order.{lattice_of};
 ghost use Rattle.timing_types.specs.Labelling.{IsKept};
 ghost use Rattle.type_cert.specs.declared.line.Line.{Line};
-ghost use Rattle.type_cert.specs.Certificate.{spread, places_of, line_at, levels_in, FitsDeclaration, BeginsWith, IsCertificate};
-ghost use Rattle.type_cert.specs.Contents.{AreContents, pcs_in};
+ghost use Rattle.type_cert.specs.Certificate.{spread, places_of, line_at, before, levels_in, BeginsWith, IsCertificate};
+ghost use Rattle.type_cert.specs.Contents.{AreContents, pc_before, pcs_in};
 ghost use Rattle.type_cert.specs.Demands.{Meets};
 ghost use Rattle.type_cert.specs.Reading.{ReadsLine, ReadsVariable};
 ghost use Rattle.type_cert.specs.Fault.{IsCertFault};
@@ -59,6 +59,7 @@ fn right_variable<'a>(
 ) -> Option<(Label, &'a [u8])>
     ensures { MatchOption result ((l : Label) (q : List ℕ) → ReadsVariable order.now name text.now l q → IsKept written l.number → ⊥) (λ r. ReadsVariable order.now name text.now r.0 r.1.now × IsKept written r.0.number) }
 {
+    order.laws();
     let (label, rest) = variable(text, order, name)?;
     if is_kept(written, label) {
         return Some((label, rest));
@@ -76,6 +77,7 @@ fn right_line<'a>(
 ) -> Option<(Line, &'a [u8])>
     ensures { MatchOption result ((x : Line) (q : List ℕ) → ReadsLine order.now number place.now.act text.now x q → Meets (lattice_of order.now) (line_at order.now.bottom lines.now) place.now x → ⊥) (λ r. ReadsLine order.now number place.now.act text.now r.0 r.1.now × Meets (lattice_of order.now) (line_at order.now.bottom lines.now) place.now r.0) }
 {
+    order.laws();
     let (line, rest) = line(text, order, number, place.act)?;
     if meets(order, lines, place, &line) {
         return Some((line, rest));
@@ -121,9 +123,8 @@ fn spread(alloc: Global, p: &Program, declared: &[Label]) -> Result<Vec<Label>, 
     let mut found = Vec::new(alloc);
     for k in 0..declarations.len() {
         let (_, decl) = declarations.declaration(k);
-        for _ in 0..decl.length.unwrap_or(1) {
-            found.push(declared[k])?;
-        }
+        let size = decl.length.unwrap_or(1) as usize;
+        found.resize(found.len() + size, declared[k])?;
     }
     Ok(found)
 }
@@ -175,6 +176,18 @@ fn read(alloc: Global, p: &Program, bytes: &[u8]) -> Result<Contents, CertFault>
     Ok(Contents { variables, lines })
 }
 
+/// Appends the level and the program-counter label of a mitigate's line.
+fn push_level(line: &Line, levels: &mut Vec<Label>, pcs: &mut Vec<Label>) -> Result<(), AllocError>
+    ensures levels { IfOk result (λ _. levels.new.items ≡ levels.old.items ++ before line.now.level []) }
+    ensures pcs { IfOk result (λ _. pcs.new.items ≡ pcs.old.items ++ pc_before line.now.level line.now.pc []) }
+{
+    if let Some(level) = line.level {
+        levels.push(level)?;
+        pcs.push(line.pc)?;
+    }
+    Ok(())
+}
+
 /// The labels of the commands and the levels that lines hold.
 fn tables(alloc: Global, lines: &[Line]) -> Result<Held, AllocError>
     ensures commands { IfOk result (λ t. t.commands.items ≡ map (λ x. (x.read, x.write)) lines.now) }
@@ -186,10 +199,7 @@ fn tables(alloc: Global, lines: &[Line]) -> Result<Held, AllocError>
     let mut pcs = Vec::new(alloc);
     for line in lines {
         commands.push((line.read, line.write))?;
-        if let Some(level) = line.level {
-            levels.push(level)?;
-            pcs.push(line.pc)?;
-        }
+        push_level(line, &mut levels, &mut pcs)?;
     }
     Ok(Held {
         commands,
