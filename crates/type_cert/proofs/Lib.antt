@@ -13,5 +13,3 @@ pub mod Complete
 pub mod Held
 pub mod Back
 pub mod Loop
-pub mod Walking
-pub mod Deriving

@@ -57,29 +57,29 @@ module _ (s : Syntax) (valid : IsValid s) (bytes : List ℕ) where
 
     -- commands
     module _ (ls : List Label) (all : length ls ≡ length s.declarations) (ps : List Place) (ep : ps ≡ places_of s ls) (k : ℕ) (xs : List Line) (ek : length xs ≡ k) (rest : List ℕ) (begins : BeginsWith s ls xs bytes rest) where
-      module _ (p : Place) (inside : k < length ps) (there : p ≡ get_or ps k p) where
+      module _ (seen : List Line) (es : seen ≡ xs) (p : Place) (inside : k < length ps) (there : p ≡ get_or ps k p) where
         inside_all : length xs < length (places_of s ls)
         inside_all = let l = ap length ep in omega (arith, inside, l, ek)
 
         there_all : p ≡ get_or (places_of s ls) (length xs) p
         there_all = there ∙ ap (λ z. get_or z k p) ep ∙ ap (λ z. get_or (places_of s ls) z p) (sym ek)
 
-        pub wrong_line : (n : ℕ) → n ≡ length ls + k + 2 → ((x : Line) (q : List ℕ) → ReadsLine o k p.act rest x q → Meets (lattice_of o) (line_at o.bottom xs) p x → ⊥) → IsFirstWrong s bytes n
+        pub wrong_line : (n : ℕ) → n ≡ length ls + k + 2 → ((x : Line) (q : List ℕ) → ReadsLine o k p.act rest x q → Meets (lattice_of o) (line_at o.bottom seen) p x → ⊥) → IsFirstWrong s bytes n
         wrong_line n en none =
             let none2 : (x : Line) (q : List ℕ) → ReadsLine s.order (length xs) p.act rest x q → Meets (lattice_of s.order) (line_at s.order.bottom xs) p x → ⊥ =
             λ x q h m. none x q (subst (λ (z : Order). ReadsLine z k p.act rest x q) (sym eo) (subst (λ z. ReadsLine s.order z p.act rest x q) ek h))
-            (subst (λ (z : Order). Meets (lattice_of z) (line_at z.bottom xs) p x) (sym eo) m) in
+            (subst (λ z. Meets (lattice_of o) (line_at o.bottom z) p x) (sym es) (subst (λ (z : Order). Meets (lattice_of z) (line_at z.bottom xs) p x) (sym eo) m)) in
             let c = count_places s valid ls in
             let w = inside_all in
             is_first_wrong s valid bytes n (length ls + k + 1) (omega (arith, en)) (omega (arith, w, ek, c, all)) (inr (ls, xs, rest, begins, omega (arith, ek)))
             (λ ms ys r b le. no_command s valid ls ms xs ys bytes rest r p begins b all w there_all none2 (omega (arith, le, ek)))
 
-        pub next_line : (x : Line) (q : List ℕ) (new : List Line) → new ≡ xs ++ x ∷ [] → ReadsLine o k p.act rest x q → Meets (lattice_of o) (line_at o.bottom xs) p x → BeginsWith s ls new bytes q
+        pub next_line : (x : Line) (q : List ℕ) (new : List Line) → new ≡ xs ++ x ∷ [] → ReadsLine o k p.act rest x q → Meets (lattice_of o) (line_at o.bottom seen) p x → BeginsWith s ls new bytes q
         next_line x q new en reads meets =
             subst (λ z. BeginsWith s ls z bytes q) (sym en)
             (push_line s valid ls xs x p bytes rest q begins all inside_all there_all
             (subst (λ z. ReadsLine s.order z p.act rest x q) (sym ek) (subst (λ (z : Order). ReadsLine z k p.act rest x q) eo reads))
-            (subst (λ (z : Order). Meets (lattice_of z) (line_at z.bottom xs) p x) eo meets))
+            (subst (λ (z : Order). Meets (lattice_of z) (line_at z.bottom xs) p x) eo (subst (λ z. Meets (lattice_of o) (line_at o.bottom z) p x) es meets)))
 
       module _ (past : length ps ≤ k) (most : k ≤ length ps) where
         all_lines : length xs ≡ count (plan_of s)
@@ -96,3 +96,12 @@ module _ (s : Syntax) (valid : IsValid s) (bytes : List ℕ) where
           all_commands = all_lines;
           spreads = ev;
         }
+
+-- the numbers of lines are small
+pub line_small : (s : Syntax) → IsValid s → (ls : List Label) (ps : List Place) (d n : ℕ) → length ls ≡ length s.declarations → ps ≡ places_of s ls → d ≡ length ls → n ≤ length ps → d + n < 4294967294
+line_small s valid ls ps d n all ep ed le =
+    let l = ap length ep in
+    let c = count_places s valid ls in
+    let m = valid.count in
+    let f = valid.few.count in
+    omega (arith, l, c, m, f, all, ed, le)

@@ -164,3 +164,29 @@ module _ (s : Syntax) (valid : IsValid s) (ls : List Label) (xs : List Line) (by
             subst (λ z. HasContexts lat g (label_at b (pcs_in xs)) b (bare (labelled z lv (plan_of s) 0))) same_marks
             (in_contexts lat g E lv (label_at b (pcs_in xs)) (plan_of s) 0 b First Open all_meet all_marks.pcs);
       }
+
+-- the labelled program that code makes of what it read
+pub record IsMade (s : Syntax) (bytes : List ℕ) (l : Labelling) (pcs : List Label) : Type 0 where
+  pub labelling : IsLabelling s l
+  pub typed : HasType (record { program = s; labels = l })
+  pub contexts : AreContexts (record { program = s; labels = l }) pcs
+  pub certificate : IsCertificate (record { program = s; labels = l }) bytes
+
+pub made_of : (s : Syntax) → IsValid s → (bytes : List ℕ) (vs : List Label) (xs seen : List Line) (cs : List (Label × Label)) (lvs pcs : List Label) → AreContents s bytes vs xs → seen ≡ xs →
+    cs ≡ map (λ (x : Line). (x.read, x.write)) seen → lvs ≡ levels_in seen → pcs ≡ pcs_in seen → IsMade s bytes (record { variables = vs; commands = cs; levels = lvs }) pcs
+made_of s valid bytes vs xs seen cs lvs pcs h es hc hl hp =
+    let ls = h.declared in
+    let same : held_in s ls xs ≡ made vs cs lvs =
+    sym (ap (λ z. made z cs lvs) h.spreads ∙ ap (λ z. made (spread s.declarations ls) z lvs) (hc ∙ ap (λ z. map both_labels z) es) ∙ ap (λ z. made (spread s.declarations ls) (map both_labels xs) z) (hl ∙ ap levels_in es)) in
+    let pcs_are : pcs_in xs ≡ pcs = sym (hp ∙ ap pcs_in es) in
+    record {
+      labelling = subst (λ z. IsLabelling s z) same (is_labelling s valid ls xs bytes h.begins h.all_variables h.all_commands);
+      typed = subst (λ z. HasType (record { program = s; labels = z })) same (has_type s valid ls xs bytes h.begins h.all_variables h.all_commands);
+      contexts =
+          subst (λ z. AreContexts (record { program = s; labels = made vs cs lvs }) z) pcs_are
+          (subst (λ z. AreContexts (record { program = s; labels = z }) (pcs_in xs)) same (are_contexts s valid ls xs bytes h.begins h.all_variables h.all_commands));
+      certificate = record { variables = ls; lines = xs; begins = h.begins; all_variables = h.all_variables; all_commands = h.all_commands; labels = sym same };
+    }
+  where
+    made : List Label → List (Label × Label) → List Label → Labelling
+    made a c d = record { variables = a; commands = c; levels = d }

@@ -17,7 +17,7 @@ pub fn holds_one_labelling()
     ensures { HoldsOneLabelling }
 {}
 
-/// No line of a certificate is wrong: what `derive` writes of a program's least labelling is never refused.
+/// No line of a certificate is wrong: a certificate is never refused.
 pub fn certificates_have_no_wrong_line()
     ensures { CertificatesHaveNoWrongLine }
 {}

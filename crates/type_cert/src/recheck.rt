@@ -1,6 +1,6 @@
 //! Checking a certificate, line by line and without inference.
 
-ghost use Rattle.std.specs.Prelude.{◌≡◌, ◌++◌, ◌<◌, ℕ, List, [], length, map, codes, IfOk, IfErr, IsTrue, ◌↔◌, MatchOption};
+ghost use Rattle.std.specs.Prelude.{◌≡◌, ◌+◌, ◌++◌, ◌<◌, ℕ, List, [], length, map, codes, IfOk, IfErr, IsTrue, ◌↔◌, MatchOption};
 ghost use Rattle.label_lattice.specs.declared.label.Label.{Label};
 ghost use Rattle.label_lattice.specs.Order.{lattice_of};
 ghost use Rattle.timing_types.specs.Labelling.{IsKept};
@@ -148,7 +148,16 @@ fn places(alloc: Global, p: &Program, declared: &[Label], variables: &[Label]) -
     Ok(found)
 }
 
+/// The number of the line of a command, which stands behind the first line and those of the declarations.
+fn line_number(declared: usize, number: usize) -> u32
+    requires { declared + number < 4294967294 }
+    ensures { result ≡ declared + number + 2 }
+{
+    (declared + number) as u32 + 2
+}
+
 /// What a certificate of a program says.
+#[tactic(none)]
 fn read(alloc: Global, p: &Program, bytes: &[u8]) -> Result<Contents, CertFault>
     ensures contents { IfOk result (λ c. AreContents p.now bytes.now c.variables.items c.lines.items) }
     ensures fault { IfErr result (IsCertFault p.now bytes.now) }
@@ -156,22 +165,20 @@ fn read(alloc: Global, p: &Program, bytes: &[u8]) -> Result<Contents, CertFault>
     let order = p.lattice();
     order.laws();
     let _ = p.body();
-    let (declared, mut rest) = match read_variables(alloc, p, bytes) {
-        Ok(read) => read,
-        Err(fault) => return Err(fault),
-    };
+    let (declared, text) = read_variables(alloc, p, bytes)?;
     let variables = spread(alloc, p, &declared)?;
     let places = places(alloc, p, &declared, &variables)?;
+    let mut rest = text;
     let mut lines = Vec::new(alloc);
     for (number, place) in places.iter().enumerate() {
         let Some((line, next)) = right_line(rest, &order, number, place, &lines) else {
-            return Err(CertFault::Line((declared.len() + number) as u32 + 2));
+            return Err(CertFault::Line(line_number(declared.len(), number)));
         };
         lines.push(line)?;
         rest = next;
     }
     if !rest.is_empty() {
-        return Err(CertFault::Line((declared.len() + places.len()) as u32 + 2));
+        return Err(CertFault::Line(line_number(declared.len(), places.len())));
     }
     Ok(Contents { variables, lines })
 }
@@ -214,6 +221,7 @@ fn tables(alloc: Global, lines: &[Line]) -> Result<Held, AllocError>
 /// # Errors
 /// `Line` comes exactly where the bytes are no certificate of the program, with the first wrong line, from 1; a
 /// missing or a surplus line counts at its number. `Memory` is want of memory. After a fault the program comes back.
+#[tactic(none)]
 pub fn recheck(alloc: Global, p: Program, bytes: &[u8]) -> Result<Typed, (Program, CertFault)>
     ensures program { IfOk result (λ q. q.labelled.program ≡ p) }
     ensures certificate { IfOk result (λ q. IsCertificate q.labelled bytes.now) }

@@ -74,7 +74,7 @@ fn put_tail(out: &mut Vec<u8>, order: &Lattice, line: &Line) -> Result<(), Alloc
 }
 
 /// Puts the line of the command with a number.
-pub(crate) fn put_line(out: &mut Vec<u8>, order: &Lattice, number: usize, line: &Line) -> Result<(), AllocError>
+pub fn put_line(out: &mut Vec<u8>, order: &Lattice, number: usize, line: &Line) -> Result<(), AllocError>
     requires { HasLabels order.now.size line.now }
     ensures { OnOk result (out.new.items ≡ out.old.items ++ line_text order.now number line.now) }
 {
@@ -84,7 +84,7 @@ pub(crate) fn put_line(out: &mut Vec<u8>, order: &Lattice, number: usize, line: 
 }
 
 /// Puts the line of a declaration.
-pub(crate) fn put_variable(out: &mut Vec<u8>, order: &Lattice, name: Name, label: Label) -> Result<(), AllocError>
+pub fn put_variable(out: &mut Vec<u8>, order: &Lattice, name: Name, label: Label) -> Result<(), AllocError>
     requires { label.number < order.now.size }
     ensures { OnOk result (out.new.items ≡ out.old.items ++ variable_text order.now name label) }
 {
