@@ -141,8 +141,7 @@ module _ (lat : Lattice) (g : ℕ → ℕ) (ms : ℕ → Marks) (ls : ℕ → �
           Fit i (record { written = w.labels; pc = label pc; here = label h; act = act; start = s; close = c })
       fits i w pc h t end r v act s c is rule has start marks level writes keeps closes =
           let pl : Place = record { written = w.labels; pc = label pc; here = label h; act = act; start = s; close = c } in
-          let x = line_of r pc t (placed ms w i) end v in
-          (
+          let x = line_of r pc t (placed ms w i) end v in (
             record { rule = ap (λ (z : Line). z.rule) is ∙ rule; labels = below i; level = subst (λ (z : Line). HasLevel act z.level) (sym is) has },
             subst (λ z. Meets lat E pl z) (sym is) (record { pc = refl; start = start; marks = marks; level = level; writes = writes; rule = keeps; close = closes }),
           )

@@ -18,7 +18,6 @@ use Rattle.type_cert.specs.Reading.{ReadsLine, ReadsVariable}
 use Rattle.type_cert.specs.Certificate.{spread, places_of, no_line, line_at, AllFit, FitsDeclaration, FitsPlace, BeginsWith, AreRight, held_in, IsCertificate, IsFirstWrong}
 use Rattle.type_cert.proofs.Cuts.{cut_line, cut_variable}
 
-
 module _ (o : Order) (ok : IsOrder o) where
   -- the labels of declarations in two texts
   pub record MoreLabels (ds : List Declaration) (ls ms : List Label) (q r : List ℕ) : Type 0 where

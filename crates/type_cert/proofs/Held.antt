@@ -75,9 +75,10 @@ module _ (n b : ℕ) (all : List Label) where
   declared_fit [] x sh gb h = tt
   declared_fit (d ∷ ds) x sh gb h =
       let shape = All-head (λ (z : Declaration). IsShaped z.1.label z.1.length) d ds sh in
-      let z : x + 0 ≡ x = omega arith in
-      ((gb x, subst (λ v. IsKept d.1.label (g v)) z (kept_here d ds x 0 h (some_size d.1.label d.1.length shape))),
-        declared_fit ds (x + size_of d.1) (All-tail (λ (z : Declaration). IsShaped z.1.label z.1.length) d ds sh) gb (kept_later d ds x h))
+      let z : x + 0 ≡ x = omega arith in (
+        (gb x, subst (λ v. IsKept d.1.label (g v)) z (kept_here d ds x 0 h (some_size d.1.label d.1.length shape))),
+        declared_fit ds (x + size_of d.1) (All-tail (λ (z : Declaration). IsShaped z.1.label z.1.length) d ds sh) gb (kept_later d ds x h),
+      )
 
   -- the labels of the declarations give back those of the variables, one by one
   pub spread_at : (ds : List Declaration) (x k : ℕ) → AreShaped ds → Kept ds x → k < variables ds → (get_or (spread ds (declared_labels g x ds)) k low).number ≡ g (x + k)

@@ -100,7 +100,9 @@ fn keeps_rule(order: &Lattice, act: Act, line: &Line) -> bool
             order.flows(have, line.end)
         }
         Act::Mitigate { estimate, .. } => {
-            end == order.join(order.join(line.start, estimate), line.read).number
+            end == order
+                .join(order.join(line.start, estimate), line.read)
+                .number
         }
     }
 }

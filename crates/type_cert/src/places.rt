@@ -8,8 +8,8 @@ ghost use Rattle.type_cert.specs.declared.place.Close.{Close};
 ghost use Rattle.type_cert.specs.declared.place.Start.TheVariants.{After};
 ghost use Rattle.type_cert.specs.Places.{places, closing, last_of};
 
-use crate::place::{Act, Close, Place, Start};
 use crate::expressions::{index_label, label, variable_label};
+use crate::place::{Act, Close, Place, Start};
 use label_lattice::label::Label;
 use label_lattice::lattice::Lattice;
 use mit_syntax::ast::{Command, Form};
@@ -220,7 +220,15 @@ pub(crate) fn list_places(
     let mut from = start;
     for (k, c) in commands.iter().enumerate() {
         last = found.len();
-        command_places(c, variables, order, pc, from, closing(commands, k, close), found)?;
+        command_places(
+            c,
+            variables,
+            order,
+            pc,
+            from,
+            closing(commands, k, close),
+            found,
+        )?;
         from = Start::After(last);
     }
     Ok(last)

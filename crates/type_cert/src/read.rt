@@ -4,8 +4,6 @@ ghost use Rattle.std.specs.Prelude.{◌≡◌, ◌<◌, ◌≤◌, ◌++◌, ℕ
 ghost use Rattle.label_lattice.specs.declared.label.Label.{Label};
 ghost use Rattle.label_lattice.specs.Names.{is_name_byte};
 ghost use Rattle.mit_syntax.specs.Lexemes.{StopsAt};
-
-
 ghost use Rattle.type_cert.specs.declared.line.Line.{Line};
 ghost use Rattle.type_cert.specs.Text.{head_text};
 ghost use Rattle.type_cert.specs.Demands.{rule_of};
@@ -80,11 +78,8 @@ fn level<'a>(text: &'a [u8], order: &Lattice, act: Act) -> Option<(Option<Label>
             Some((level, rest)) => Some((Some(level), rest)),
             None => None,
         },
-        Act::Skip
-        | Act::Assign { .. }
-        | Act::Sleep { .. }
-        | Act::If { .. }
-        | Act::While { .. } => Some((None, text)),
+        Act::Skip | Act::Assign { .. } | Act::Sleep { .. } | Act::If { .. } | Act::While { .. } =>
+            Some((None, text)),
     }
 }
 

@@ -130,7 +130,12 @@ fn spread(alloc: Global, p: &Program, declared: &[Label]) -> Result<Vec<Label>, 
 }
 
 /// The places of a program's commands, where its variables have these labels.
-fn places(alloc: Global, p: &Program, declared: &[Label], variables: &[Label]) -> Result<Vec<Place>, AllocError>
+fn places(
+    alloc: Global,
+    p: &Program,
+    declared: &[Label],
+    variables: &[Label],
+) -> Result<Vec<Place>, AllocError>
     requires { variables.now ≡ spread p.now.declarations declared.now }
     ensures { IfOk result (λ v. v.items ≡ places_of p.now declared.now) }
 {

@@ -27,7 +27,12 @@ pub(crate) fn rule_name(rule: Rule) -> &'static [u8]
     }
 }
 
-fn put_named(out: &mut Vec<u8>, words: &[u8], order: &Lattice, label: Label) -> Result<(), AllocError>
+fn put_named(
+    out: &mut Vec<u8>,
+    words: &[u8],
+    order: &Lattice,
+    label: Label,
+) -> Result<(), AllocError>
     requires { label.number < order.now.size }
     ensures { OnOk result (out.new.items ≡ out.old.items ++ named order.now words.now label) }
 {
@@ -74,7 +79,12 @@ fn put_tail(out: &mut Vec<u8>, order: &Lattice, line: &Line) -> Result<(), Alloc
 }
 
 /// Puts the line of the command with a number.
-pub fn put_line(out: &mut Vec<u8>, order: &Lattice, number: usize, line: &Line) -> Result<(), AllocError>
+pub fn put_line(
+    out: &mut Vec<u8>,
+    order: &Lattice,
+    number: usize,
+    line: &Line,
+) -> Result<(), AllocError>
     requires { HasLabels order.now.size line.now }
     ensures { OnOk result (out.new.items ≡ out.old.items ++ line_text order.now number line.now) }
 {
@@ -84,7 +94,12 @@ pub fn put_line(out: &mut Vec<u8>, order: &Lattice, number: usize, line: &Line) 
 }
 
 /// Puts the line of a declaration.
-pub fn put_variable(out: &mut Vec<u8>, order: &Lattice, name: Name, label: Label) -> Result<(), AllocError>
+pub fn put_variable(
+    out: &mut Vec<u8>,
+    order: &Lattice,
+    name: Name,
+    label: Label,
+) -> Result<(), AllocError>
     requires { label.number < order.now.size }
     ensures { OnOk result (out.new.items ≡ out.old.items ++ variable_text order.now name label) }
 {
