@@ -1,0 +1,15 @@
+pub mod Cuts
+pub mod Placing
+pub mod Earlier
+pub mod Sound
+pub mod Marks
+pub mod Spread
+pub mod Whole
+pub mod Following
+pub mod Apart
+pub mod Pushing
+pub mod Raising
+pub mod Complete
+pub mod Held
+pub mod Back
+pub mod Loop

@@ -1,0 +1,9 @@
+pub mod Places
+pub mod Demands
+pub mod Text
+pub mod Reading
+pub mod Certificate
+pub mod Contents
+pub mod Derived
+pub mod Fault
+pub mod Laws
