@@ -45,16 +45,17 @@ export function readAudit(text) {
   const found = { classes: [], levelsOf: [] };
   for (const line of lines(text)) {
     const bound = /^bound (\d+)\^(\d+)$/.exec(line), run = /^run (\d+) class (\d+)$/.exec(line);
-    const level = /^level (\S+) mitigations (\d+) first (\d+) digits (\d+)$/.exec(line);
+    const level = /^level (\S+) mitigations (\d+)(?: first (\d+) digits (\d+))?$/.exec(line);
     const count = /^(runs|budget|levels|mitigations|ended|halted|distinct|bits) (\d+)$/.exec(line);
-    const long = /^(sharp|guess) (\d+)$/.exec(line), observer = /^observer (\S+)$/.exec(line);
+    const long = /^(sharp) (\d+)$/.exec(line) ?? /^(guess) at most (\d+) times as often$/.exec(line);
+    const observer = /^observer (\S+)$/.exec(line), tooMuch = /^(sharp|bits) \S+ or more$|^guess no limit told$/.test(line);
     if (bound) Object.assign(found, { base: Number(bound[1]), exponent: Number(bound[2]) });
     else if (run) found.classes.push(Number(run[2]));
-    else if (level) found.levelsOf.push({ level: level[1], mitigations: Number(level[2]), first: Number(level[3]), digits: Number(level[4]) });
+    else if (level) found.levelsOf.push({ level: level[1], mitigations: Number(level[2]), first: Number(level[3] ?? 1), digits: level[4] && Number(level[4]) });
     else if (count) found[count[1]] = Number(count[2]);
     else if (long) found[long[1]] = BigInt(long[2]);
     else if (observer) [, found.observer] = observer;
-    else return null;
+    else if (!tooMuch) return null;
   }
   return found.runs === undefined || found.base === undefined ? null : found;
 }
