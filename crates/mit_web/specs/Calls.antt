@@ -9,6 +9,10 @@ use Rattle.tool_texts.specs.Statuses.{exit_number}
 use Rattle.tool_texts.specs.Ends.{EndsBy, Nothing}
 use Rattle.tool_stages.specs.Content.{Content}
 use Rattle.mit_tool.specs.Answers.{IsAnswer, IsUsage, Before}
+use Rattle.lab_words.specs.QuestionAsked.{question_of}
+use Rattle.lab_tool.specs.Answers.{IsAnswer as IsLabAnswer, IsUsage as IsLabUsage, Before as LabBefore}
+use Rattle.mit_web.specs.declared.call.Program.{Program}
+use Rattle.mit_web.specs.declared.call.Program.TheVariants.{Tool, Lab}
 
 -- the pieces of these lengths that stand in a row, one after the other
 abbrev pub pieces : List ℕ → List ℕ → List (List ℕ)
@@ -29,24 +33,33 @@ held_by names contents = put_over (λ name. None) names contents
 pub record PutsAll (old new : MemShelf) (names contents : List (List ℕ)) : Type 0 where
   pub puts : (holds : List ℕ → Option (List ℕ)) → ((name : List ℕ) → bytes_at old name ≡ holds name) → (name : List ℕ) → bytes_at new name ≡ put_over holds names contents name
 
--- The tool's answer to words, over files that hold this: the exit number and the text. The counts of faults of names tell
--- of which ones a read may have failed.
-pub record IsToolAnswer (words : List (List ℕ)) (held : List ℕ → Option (List ℕ)) (number : ℕ) (text : List ℕ) : Type 0 where
+-- The answer of a program to words, where so much of the text was there before; `Rises` tells the names whose counts of
+-- faults rose.
+abbrev pub Answered : Program → List ℕ → List (List ℕ) → Content → (List ℕ → Type 0) → List ℕ → Status → Type 0
+Answered Tool old words content Rises text s =
+    IfSome (command_of words) (λ a. EndsBy (Some old) (Some text) (Before content a) (IsAnswer Rises content a) s)
+    × (command_of words ≡ None → EndsBy (Some old) (Some text) Nothing IsUsage s)
+Answered Lab old words content Rises text s =
+    IfSome (question_of words) (λ a. EndsBy (Some old) (Some text) (LabBefore content a) (IsLabAnswer Rises content a) s)
+    × (question_of words ≡ None → EndsBy (Some old) (Some text) Nothing IsLabUsage s)
+
+-- The answer of a program to words, over files that hold this: the exit number and the text. The counts of faults of names
+-- tell of which ones a read may have failed.
+pub record IsAnswerOf (program : Program) (words : List (List ℕ)) (held : List ℕ → Option (List ℕ)) (number : ℕ) (text : List ℕ) : Type 0 where
   pub status : Status
   pub numbered : number ≡ exit_number status
   pub content : Content
   pub holds : (name : List ℕ) → content name ≡ Some (held name)
   pub before : List ℕ → ℕ
   pub after : List ℕ → ℕ
-  pub answered : IfSome (command_of words) (λ a. EndsBy (Some []) (Some text) (Before content a) (IsAnswer (λ name. Rose (before name) (after name)) content a) status)
-  pub usage : command_of words ≡ None → EndsBy (Some []) (Some text) Nothing IsUsage status
+  pub answered : Answered program [] words content (λ name. Rose (before name) (after name)) text status
 
 -- What stands in a room is the text, as far as the room goes.
 pub record Shows (room : ℕ) (out : List ℕ) (count : ℕ) (text : List ℕ) : Type 0 where
   pub shown : take count out ≡ take room text
 
--- A call told the tool's answer.
-pub record TellsAnswer (words names contents : List (List ℕ)) (number room : ℕ) (out : List ℕ) (count : ℕ) : Type 0 where
+-- A call told the program's answer.
+pub record TellsAnswer (program : Program) (words names contents : List (List ℕ)) (number room : ℕ) (out : List ℕ) (count : ℕ) : Type 0 where
   pub text : List ℕ
-  pub answer : IsToolAnswer words (held_by names contents) number text
+  pub answer : IsAnswerOf program words (held_by names contents) number text
   pub shows : Shows room out count text

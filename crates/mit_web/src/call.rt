@@ -1,10 +1,11 @@
-//! The call that a page makes.
+//! The calls that a page makes.
 
 ghost use Rattle.std.specs.Prelude.{◌≡◌, ◌≤◌, ◌⊎◌, ℕ, IfOk, List, Option, drop, length, map, string_bytes};
 ghost use Rattle.tim_base.specs.Shelves.{bytes_at};
-ghost use Rattle.mit_web.specs.Calls.{IsToolAnswer, Shows, TellsAnswer, held_by, pieces};
+ghost use Rattle.mit_web.specs.Calls.{IsAnswerOf, Shows, TellsAnswer, held_by, pieces};
 
 use crate::given::{GivenFault, files, texts};
+use lab_tool::lab_main;
 use mit_tool::mitigate_main;
 use std::alloc::Global;
 use tim_base::shelf::MemShelf;
@@ -27,15 +28,25 @@ pub struct Ended {
     pub length: usize,
 }
 
+/// A program that a call asks.
+#[derive(Clone, Copy, Debug, PartialEq, Eq)]
+pub enum Program {
+    /// The tool `mitigate`.
+    Tool,
+
+    /// The lab.
+    Lab,
+}
+
 // Asks the tool, with room for so many bytes of text.
-fn ask(
+fn ask_tool(
     alloc: Global,
     words: &[String],
     shelf: &mut MemShelf,
     room: usize,
 ) -> Result<(u32, MemSink), GivenFault>
     ensures { IfOk result (λ r. (held : List ℕ → Option (List ℕ)) → ((name : List ℕ) → bytes_at shelf.old name ≡ held name)
-        → IsToolAnswer (map string_bytes words.now) held r.0 r.1.bytes) }
+        → IsAnswerOf Program.Tool (map string_bytes words.now) held r.0 r.1.bytes) }
 {
     let Ok(mut sink) = MemSink::new_with_room(alloc, room) else {
         return Err(GivenFault::Memory);
@@ -44,9 +55,44 @@ fn ask(
     Ok((u32::from(status.number()), sink))
 }
 
-// Asks the tool what stands in rows.
+// Asks the lab, with room for so many bytes of text.
+fn ask_lab(
+    alloc: Global,
+    words: &[String],
+    shelf: &mut MemShelf,
+    room: usize,
+) -> Result<(u32, MemSink), GivenFault>
+    ensures { IfOk result (λ r. (held : List ℕ → Option (List ℕ)) → ((name : List ℕ) → bytes_at shelf.old name ≡ held name)
+        → IsAnswerOf Program.Lab (map string_bytes words.now) held r.0 r.1.bytes) }
+{
+    let Ok(mut sink) = MemSink::new_with_room(alloc, room) else {
+        return Err(GivenFault::Memory);
+    };
+    let status = lab_main(alloc, words, shelf, &mut sink);
+    Ok((u32::from(status.number()), sink))
+}
+
+// Asks a program, with room for so many bytes of text.
+fn ask(
+    alloc: Global,
+    program: Program,
+    words: &[String],
+    shelf: &mut MemShelf,
+    room: usize,
+) -> Result<(u32, MemSink), GivenFault>
+    ensures { IfOk result (λ r. (held : List ℕ → Option (List ℕ)) → ((name : List ℕ) → bytes_at shelf.old name ≡ held name)
+        → IsAnswerOf program (map string_bytes words.now) held r.0 r.1.bytes) }
+{
+    match program {
+        Program::Tool => ask_tool(alloc, words, shelf, room),
+        Program::Lab => ask_lab(alloc, words, shelf, room),
+    }
+}
+
+// Asks a program what stands in rows.
 fn ask_rows(
     alloc: Global,
+    program: Program,
     word_lengths: &[u64],
     words: &[u8],
     name_lengths: &[u64],
@@ -55,13 +101,13 @@ fn ask_rows(
     contents: &[u8],
     room: usize,
 ) -> Result<(u32, MemSink), GivenFault>
-    ensures { IfOk result (λ r. IsToolAnswer (pieces word_lengths.now words.now)
+    ensures { IfOk result (λ r. IsAnswerOf program (pieces word_lengths.now words.now)
         (held_by (pieces name_lengths.now names.now) (pieces file_lengths.now contents.now)) r.0 r.1.bytes) }
 {
     let words = texts(alloc, word_lengths, words)?;
     let names = texts(alloc, name_lengths, names)?;
     let mut shelf = files(alloc, names.as_slice(), file_lengths, contents)?;
-    ask(alloc, words.as_slice(), &mut shelf, room)
+    ask(alloc, program, words.as_slice(), &mut shelf, room)
 }
 
 // Puts a text into the room, as far as it goes there, and tells how many bytes it has there.
@@ -76,15 +122,10 @@ fn hand_out(text: &[u8], out: &mut [u8]) -> usize
     count
 }
 
-/// Does what words ask for, over files in memory. Words, names of files and what the files hold stand in a row of
-/// bytes each, and the lengths say how many bytes each word, name and file has. The text is written to `out`, as far
-/// as it goes there; the bytes after it stay.
-///
-/// Where words or names are not UTF-8, or the lengths say more than the bytes hold, the status is 13, and where these
-/// cannot be stored it is 11; no text is written then.
-#[unsafe(no_mangle)]
-pub extern "C" fn mit_web_call(
+// Makes a call, and tells how it ended.
+fn call(
     alloc: Global,
+    program: Program,
     word_lengths: &[u64],
     words: &[u8],
     name_lengths: &[u64],
@@ -95,7 +136,7 @@ pub extern "C" fn mit_web_call(
     ended: &mut Ended,
 )
     ensures told { (((ended.new.status ≡ NO_MEMORY) ⊎ (ended.new.status ≡ BAD_CALL)) × (ended.new.length ≡ 0))
-        ⊎ TellsAnswer (pieces word_lengths.now words.now) (pieces name_lengths.now names.now) (pieces file_lengths.now contents.now)
+        ⊎ TellsAnswer program (pieces word_lengths.now words.now) (pieces name_lengths.now names.now) (pieces file_lengths.now contents.now)
         ended.new.status (length out.old) out.new ended.new.length }
     ensures fits { ended.new.length ≤ length out.new }
     ensures room { length out.new ≡ length out.old }
@@ -104,6 +145,7 @@ pub extern "C" fn mit_web_call(
     let room = out.len();
     match ask_rows(
         alloc,
+        program,
         word_lengths,
         words,
         name_lengths,
@@ -129,4 +171,77 @@ pub extern "C" fn mit_web_call(
             };
         }
     }
+}
+
+/// Does what words ask of the tool, over files in memory. Words, names of files and what the files hold stand in a row of
+/// bytes each, and the lengths say how many bytes each word, name and file has. The text is written to `out`, as far
+/// as it goes there; the bytes after it stay.
+///
+/// Where words or names are not UTF-8, or the lengths say more than the bytes hold, the status is 13, and where these
+/// cannot be stored it is 11; no text is written then.
+#[unsafe(no_mangle)]
+pub extern "C" fn mit_web_call(
+    alloc: Global,
+    word_lengths: &[u64],
+    words: &[u8],
+    name_lengths: &[u64],
+    names: &[u8],
+    file_lengths: &[u64],
+    contents: &[u8],
+    out: &mut [u8],
+    ended: &mut Ended,
+)
+    ensures told { (((ended.new.status ≡ NO_MEMORY) ⊎ (ended.new.status ≡ BAD_CALL)) × (ended.new.length ≡ 0))
+        ⊎ TellsAnswer Program.Tool (pieces word_lengths.now words.now) (pieces name_lengths.now names.now) (pieces file_lengths.now contents.now)
+        ended.new.status (length out.old) out.new ended.new.length }
+    ensures fits { ended.new.length ≤ length out.new }
+    ensures room { length out.new ≡ length out.old }
+    ensures rest { drop ended.new.length out.new ≡ drop ended.new.length out.old }
+{
+    call(
+        alloc,
+        Program::Tool,
+        word_lengths,
+        words,
+        name_lengths,
+        names,
+        file_lengths,
+        contents,
+        out,
+        ended,
+    );
+}
+
+/// Answers what words ask of the lab, as `mit_web_call` does what they ask of the tool.
+#[unsafe(no_mangle)]
+pub extern "C" fn lab_web_call(
+    alloc: Global,
+    word_lengths: &[u64],
+    words: &[u8],
+    name_lengths: &[u64],
+    names: &[u8],
+    file_lengths: &[u64],
+    contents: &[u8],
+    out: &mut [u8],
+    ended: &mut Ended,
+)
+    ensures told { (((ended.new.status ≡ NO_MEMORY) ⊎ (ended.new.status ≡ BAD_CALL)) × (ended.new.length ≡ 0))
+        ⊎ TellsAnswer Program.Lab (pieces word_lengths.now words.now) (pieces name_lengths.now names.now) (pieces file_lengths.now contents.now)
+        ended.new.status (length out.old) out.new ended.new.length }
+    ensures fits { ended.new.length ≤ length out.new }
+    ensures room { length out.new ≡ length out.old }
+    ensures rest { drop ended.new.length out.new ≡ drop ended.new.length out.old }
+{
+    call(
+        alloc,
+        Program::Lab,
+        word_lengths,
+        words,
+        name_lengths,
+        names,
+        file_lengths,
+        contents,
+        out,
+        ended,
+    );
 }

@@ -1,7 +1,7 @@
-//! The tool in a web page: words and files come from the host's memory, and the text goes back to it.
+//! The tool and the lab in a web page: words and files come from the host's memory, and the text goes back to it.
 #![tactic(auto)]
 
 mod call;
 mod given;
 
-pub use crate::call::{Ended, mit_web_call};
+pub use crate::call::{Ended, Program, lab_web_call, mit_web_call};
