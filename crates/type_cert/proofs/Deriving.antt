@@ -1,15 +1,15 @@
 -- The lines of one command that has parts, and of the rest of its list.
-use Rattle.std.proofs.Common.{◌≡◌, ℕ, ◌+◌, ◌<◌, ◌≤◌, refl, sym, ap, ◌∙◌, subst, List, [], ◌∷◌, ◌++◌, length, map, take, append_assoc, length-append, arith}
+use Rattle.std.proofs.Common.{◌≡◌, ℕ, ◌+◌, refl, sym, ap, ◌∙◌, List, [], ◌∷◌, ◌++◌, length, map, take, append_assoc, length-append, arith}
 use Rattle.std.specs.Prelude.{Option, None, Some}
 use Rattle.std.proofs.lemmas.List.{length-map, take_all, take-append-le}
 use Rattle.label_lattice.specs.Lattice.{Lattice, Flows, IsLattice}
 use Rattle.label_lattice.specs.declared.label.Label.{Label}
 use Rattle.mit_syntax.specs.Expression.{Expression}
 use Rattle.mit_syntax.specs.Expression.{Number, Variable, Binary, Element}
-use Rattle.mit_syntax.specs.Todo.{Marks, Done, Skip, Assign, Put, Sleep, If, While, Mitigate}
+use Rattle.mit_syntax.specs.Todo.{Marks, Assign, Put, If, While, Mitigate}
 use Rattle.mit_syntax.specs.Plan.{Written, Plan, count}
 use Rattle.timing_types.specs.declared.rule.Rule.{Rule}
-use Rattle.timing_types.specs.declared.rule.Rule.TheVariants.{Skip as RSkip, Asgn as RAsgn, If as RIf, While as RWhile, Mtg as RMtg, Sleep as RSleep}
+use Rattle.timing_types.specs.declared.rule.Rule.TheVariants.{Asgn as RAsgn, If as RIf, While as RWhile, Mtg as RMtg}
 use Rattle.timing_types.specs.Typing.{label_of, index_label}
 use Rattle.timing_types.specs.Walk.{demand, put_index, after, loop_start, walk_end}
 use Rattle.timing_types.specs.Placed.{Placed, Tree, placed, labelled}
@@ -110,8 +110,8 @@ module _ (lat : Lattice) (g : ℕ → ℕ) (ms : ℕ → Marks) (ls : ℕ → �
         let nu : length u ≡ n + 1 = omega (arith, lu) in
         let R = D rest (length u) pc.number end.number in (
           ap (λ v. x ++ v) hd ∙ ap (λ v. x ++ v ∷ D rest (n + 1) pc.number end') (own_line r end end' None he ∙ sym hl)
-          ∙ ap (λ v. x ++ l ∷ v) (moved rest (n + 1) (length u) pc.number pc.number end' end.number (sym nu) refl (sym he))
-          ∙ sym (append_assoc x (l ∷ []) R) ∙ ap (λ v. v ++ R) (sym hu),
+              ∙ ap (λ v. x ++ l ∷ v) (moved rest (n + 1) (length u) pc.number pc.number end' end.number (sym nu) refl (sym he))
+              ∙ sym (append_assoc x (l ∷ []) R) ∙ ap (λ v. v ++ R) (sym hu),
           hw ∙ moved_end rest (n + 1) (length u) pc.number pc.number end' end.number (sym nu) refl (sym he),
         )
 

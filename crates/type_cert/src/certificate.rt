@@ -24,7 +24,7 @@ fn put_variables(out: &mut Vec<u8>, order: &Lattice, q: &Labelled) -> Result<(),
     let mut first = 0;
     for k in 0..declarations.len() {
         let (name, decl) = declarations.declaration(k);
-        put_variable(out, order, name, q.variable_label(first))?;
+        put_variable(out, order, name, q.labels().variable(first, order))?;
         first += decl.length.unwrap_or(1);
     }
     Ok(())
@@ -47,6 +47,7 @@ pub fn certificate(alloc: Global, q: &Labelled) -> Result<Vec<u8>, AllocError>
     ensures { IfOk result (λ v. v.items ≡ derived_text q.now) }
 {
     let order = q.program().lattice();
+    let _ = q.program().body();
     let lines = derive(alloc, q)?;
     let mut out = Vec::new(alloc);
     out.extend_from_slice(b"certificate 1\n")?;

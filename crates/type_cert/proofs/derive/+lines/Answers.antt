@@ -1,4 +1,4 @@
-use Rattle.std.proofs.Common.{rules, ℕ, ◌≡◌, ◌+◌, ◌*◌, ◌<◌, ◌++◌, drop, length, map, refl, sym, ap, ◌∙◌, arith, List, [], ◌∷◌, length-append, append-nil, append_assoc}
+use Rattle.std.proofs.Common.{rules, ◌≡◌, ◌+◌, ◌*◌, ◌<◌, ◌++◌, drop, length, map, refl, sym, ap, ◌∙◌, arith, ◌∷◌, append-nil}
 use Rattle.std.specs.Prelude.{Some}
 use Rattle.std.proofs.lemmas.List.{drop_all}
 use Rattle.label_lattice.specs.Order.{lattice_of}

@@ -1,4 +1,4 @@
-use Rattle.std.proofs.Common.{refl, ◌∙◌, arith}
+use Rattle.std.proofs.Common.{refl, arith}
 use Rattle.label_lattice.specs.Order.{lattice_of}
 use Rattle.type_cert.specs.Derived.{raised}
 use Rattle.type_cert.proofs.Lines.{one_done}
