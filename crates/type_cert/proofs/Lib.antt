@@ -13,3 +13,6 @@ pub mod Complete
 pub mod Held
 pub mod Back
 pub mod Loop
+pub mod Deriving
+pub mod Lines
+pub mod Writing

@@ -2,7 +2,9 @@
 //! line and without inference.
 #![tactic(auto)]
 
+pub mod certificate;
 mod demands;
+pub mod derive;
 mod expressions;
 pub mod fault;
 pub mod laws;
@@ -11,4 +13,6 @@ pub mod place;
 mod places;
 mod read;
 pub mod recheck;
+#[cfg(test)]
+mod tests;
 pub mod write;
