@@ -1,17 +1,17 @@
 -- What is written of a typed program is a certificate of it.
-use Rattle.std.proofs.Common.{◌≡◌, ℕ, zero, suc, ◌+◌, ◌<◌, ◌≤◌, refl, sym, ap, ◌∙◌, subst, List, [], ◌∷◌, ◌++◌, length, length-append, append_assoc, append-nil, get_or, map, arith, ⊎_elim}
+use Rattle.std.proofs.Common.{◌≡◌, ℕ, ◌+◌, ◌<◌, ◌≤◌, refl, sym, ap, ◌∙◌, subst, List, [], ◌∷◌, ◌++◌, length, length-append, append_assoc, append-nil, get_or, map, arith, ⊎_elim}
 use Rattle.std.proofs.Math.Seq.{get_or-append_seam}
 use Rattle.std.proofs.lemmas.Bool.{cases_lt}
 use Rattle.std.proofs.lemmas.List.{ext_get_or, get_or_default, get_or_past, length-map}
 use Rattle.label_lattice.specs.declared.label.Label.{Label}
 use Rattle.label_lattice.specs.Lattice.{Lattice, IsLattice}
-use Rattle.label_lattice.specs.Order.{Order, lattice_of}
-use Rattle.mit_syntax.specs.Plan.{Plan, count, mitigates}
+use Rattle.label_lattice.specs.Order.{lattice_of}
+use Rattle.mit_syntax.specs.Plan.{count}
 use Rattle.mit_syntax.specs.Todo.{Marks}
 use Rattle.mit_syntax.specs.Declarations.{Declaration, Cell, cells, variables, cell_at}
 use Rattle.mit_syntax.specs.Program.{Syntax, plan_of}
 use Rattle.mit_syntax.specs.Valid.{IsValid}
-use Rattle.timing_types.specs.Labelling.{Labelling, label_at, variable_of, marks_of, level_of, IsKept}
+use Rattle.timing_types.specs.Labelling.{Labelling, label_at, marks_of, level_of, IsKept}
 use Rattle.timing_types.specs.Labelled.{LabelledProgram, HasType, placed_of}
 use Rattle.timing_types.proofs.Walk.{not_broken, all_hold}
 use Rattle.timing_types.specs.Walk.{conditions, AllHold}
@@ -21,12 +21,11 @@ use Rattle.label_infer.proofs.Placed.{from_first, from_all}
 use Rattle.label_infer.proofs.Ranges.{joins_below}
 use Rattle.label_infer.proofs.Completed.{lattice_laws}
 use Rattle.type_cert.specs.declared.line.Line.{Line}
-use Rattle.type_cert.specs.declared.place.Place.{Place}
 use Rattle.type_cert.specs.declared.place.Start.TheVariants.{First}
 use Rattle.type_cert.specs.declared.place.Close.TheVariants.{Open}
 use Rattle.type_cert.specs.Places.{label, places}
 use Rattle.type_cert.specs.Demands.{HasLabels, IsFormed, Meets}
-use Rattle.type_cert.specs.Certificate.{spread, places_of, no_line, line_at, levels_in, held_in, AllFit, FitsDeclaration, FitsPlace, BeginsWith, IsCertificate}
+use Rattle.type_cert.specs.Certificate.{spread, places_of, no_line, line_at, levels_in, AllFit, FitsPlace, IsCertificate}
 use Rattle.type_cert.specs.Derived.{derived, declared_labels, derived_text}
 use Rattle.type_cert.proofs.Placing.{length_places}
 use Rattle.type_cert.proofs.Spread.{length_spread}

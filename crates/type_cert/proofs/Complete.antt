@@ -1,5 +1,5 @@
 -- The lines of a walk meet the demands of the places.
-use Rattle.std.proofs.Common.{◌≡◌, ℕ, ◌+◌, ◌<◌, ◌≤◌, refl, sym, ap, ◌∙◌, subst, List, [], ◌∷◌, ◌++◌, length, length-append, arith, ◌⊎◌, inl, inr, ⊎_elim}
+use Rattle.std.proofs.Common.{◌≡◌, ℕ, ◌+◌, ◌<◌, refl, sym, ap, ◌∙◌, subst, List, ◌∷◌, ◌++◌, length, length-append, arith, ◌⊎◌, inl, inr, ⊎_elim}
 use Rattle.std.specs.Prelude.{Option, None, Some, is_some}
 use Rattle.label_lattice.specs.declared.label.Label.{Label}
 use Rattle.label_lattice.specs.Lattice.{Lattice, Flows, IsLattice}
@@ -12,8 +12,8 @@ use Rattle.timing_types.specs.declared.rule.Rule.{Rule}
 use Rattle.timing_types.specs.declared.rule.Rule.TheVariants.{Skip as RSkip, Asgn as RAsgn, If as RIf, While as RWhile, Mtg as RMtg, Sleep as RSleep}
 use Rattle.timing_types.specs.Typing.{label_of, index_label}
 use Rattle.timing_types.specs.Walk.{Condition, demand, put_index, here, after, loop_start, walk_end, conditions, AllHold, OfLevel}
-use Rattle.timing_types.specs.Placed.{Placed, Tree, placed, labelled}
-use Rattle.timing_types.specs.Labelling.{IsKept, Keeps}
+use Rattle.timing_types.specs.Placed.{Tree, placed, labelled}
+use Rattle.timing_types.specs.Labelling.{Keeps}
 use Rattle.timing_types.proofs.Joins.{absorbs}
 use Rattle.timing_types.proofs.Walk.{parts_hold, walk_grows, walk_stays}
 use Rattle.label_infer.specs.Least.{own, HasOwn}
@@ -28,7 +28,7 @@ use Rattle.type_cert.specs.declared.place.Close.{Close}
 use Rattle.type_cert.specs.declared.place.Close.TheVariants.{Open, If as ClosesIf, While as ClosesWhile, Mitigate as ClosesMitigate}
 use Rattle.type_cert.specs.declared.place.Place.{Place}
 use Rattle.type_cert.specs.Places.{label, closing, last_of, places}
-use Rattle.type_cert.specs.Demands.{rule_of, marks_in, level_in, HasLevel, KeepsLevel, KeepsRule, start_of, Closes, HasLabels, IsFormed, Meets}
+use Rattle.type_cert.specs.Demands.{rule_of, level_in, HasLevel, KeepsLevel, KeepsRule, start_of, Closes, HasLabels, IsFormed, Meets}
 use Rattle.type_cert.specs.Derived.{line_of, derived}
 use Rattle.type_cert.proofs.Placing.{length_places}
 

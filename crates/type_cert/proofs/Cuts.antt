@@ -1,10 +1,10 @@
 -- What stands at the front of a text, and what follows it, are one.
-use Rattle.std.proofs.Common.{◌≡◌, ℕ, zero, suc, ◌+◌, ◌<◌, refl, sym, ap, ◌∙◌, subst, List, [], ◌∷◌, ◌++◌, append_assoc, Bool, true, false, get_or, length, length-drop, take, drop, ◌-◌, arith, None, Some, ⊎_elim, ◌≤◌}
+use Rattle.std.proofs.Common.{◌≡◌, ℕ, ◌<◌, refl, sym, ap, ◌∙◌, subst, List, [], ◌∷◌, ◌++◌, append_assoc, true, false, get_or, length, length-drop, take, drop, ◌-◌, arith, None, Some, ⊎_elim, ◌≤◌}
 use Rattle.std.specs.Prelude.{Option, codes, decimal}
 use Rattle.std.proofs.lemmas.List.{append_cancel_left, take-append-drop, take_all}
 use Rattle.std.proofs.lemmas.Bool.{cases_lt}
 use Rattle.label_lattice.specs.declared.label.Label.{Label}
-use Rattle.label_lattice.specs.Order.{Order, IsOrder, name_of, AllDiffer}
+use Rattle.label_lattice.specs.Order.{Order, IsOrder, name_of}
 use Rattle.label_lattice.specs.Names.{IsName}
 use Rattle.mit_syntax.specs.Lexemes.{is_name_byte, StopsAt, Each}
 use Rattle.mit_syntax.specs.Valid.{IsBelow}
@@ -13,8 +13,8 @@ use Rattle.timing_types.specs.declared.rule.Rule.{Rule}
 use Rattle.type_cert.specs.declared.line.Line.{Line}
 use Rattle.type_cert.specs.declared.place.Act.{Act}
 use Rattle.type_cert.specs.declared.place.Act.TheVariants.{Skip, Assign, Sleep, If, While, Mitigate}
-use Rattle.type_cert.specs.Text.{named, level_text, head_text, tail_text, line_text, variable_text, rule_name}
-use Rattle.type_cert.specs.Demands.{HasLevel, IsFormed, HasLabels, rule_of}
+use Rattle.type_cert.specs.Text.{named, level_text, head_text, tail_text, rule_name}
+use Rattle.type_cert.specs.Demands.{HasLevel, rule_of}
 use Rattle.type_cert.specs.Reading.{ReadsLabel, ReadsLevel, ReadsLine, ReadsVariable}
 
 differ : {X : Type 0} → true ≡ false → X

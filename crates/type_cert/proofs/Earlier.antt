@@ -1,6 +1,5 @@
 -- A place looks back only: the demands on a line are the same where the lines before it are.
-use Rattle.std.proofs.Common.{◌≡◌, ℕ, ◌+◌, ◌<◌, ◌≤◌, refl, sym, ap, ◌∙◌, subst, List, [], ◌∷◌, ◌++◌, arith, ◌⊎◌, inl, inr, ⊎_elim}
-use Rattle.std.proofs.lemmas.Bool.{cases_lt}
+use Rattle.std.proofs.Common.{◌≡◌, ℕ, ◌+◌, ◌<◌, ◌≤◌, refl, sym, ap, ◌∙◌, subst, List, ◌++◌, arith, ◌⊎◌, inl, inr, ⊎_elim}
 use Rattle.label_lattice.specs.Lattice.{Lattice, Flows}
 use Rattle.mit_syntax.specs.Todo.{Done, Skip, Assign, Put, Sleep, If, While, Mitigate}
 use Rattle.mit_syntax.specs.Plan.{Plan, count}

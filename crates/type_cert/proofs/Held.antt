@@ -1,13 +1,13 @@
 -- The lines of a walk hold the labelling that is walked.
-use Rattle.std.proofs.Common.{◌≡◌, ℕ, zero, suc, ◌+◌, ◌-◌, ◌<◌, ◌≤◌, refl, sym, ap, ◌∙◌, subst, List, [], ◌∷◌, ◌++◌, length, length-append, append_assoc, append-nil, take, drop, get_or, map, arith, ⊎_elim}
-use Rattle.std.specs.Prelude.{Option, None, Some, All, replicate}
+use Rattle.std.proofs.Common.{◌≡◌, ℕ, suc, ◌+◌, ◌-◌, ◌<◌, ◌≤◌, refl, sym, ap, ◌∙◌, subst, List, [], ◌∷◌, ◌++◌, length, length-append, take, get_or, map, arith, ⊎_elim}
+use Rattle.std.specs.Prelude.{Option, None, Some, replicate}
 use Rattle.std.proofs.lemmas.Bool.{cases_lt}
 use Rattle.std.proofs.lemmas.List.{get_or_append_left, get_or-append-add, get_or-replicate, length-replicate, take_more, map_more}
 use Rattle.std.proofs.lemmas.List.Elements.{All-head, All-tail}
 use Rattle.label_lattice.specs.declared.label.Label.{Label}
 use Rattle.label_lattice.specs.Lattice.{Lattice}
 use Rattle.mit_syntax.specs.Todo.{Marks, Done, Skip, Assign, Put, Sleep, If, While, Mitigate}
-use Rattle.mit_syntax.specs.Plan.{Written, Plan, count, mitigates}
+use Rattle.mit_syntax.specs.Plan.{Plan, count, mitigates}
 use Rattle.mit_syntax.specs.Declarations.{Declaration, Cell, cells_of, cells, variables, size_in, size_of}
 use Rattle.mit_syntax.specs.Valid.{IsShaped, AreShaped, AreNumbered}
 use Rattle.mit_syntax.proofs.Numbers.{length-cells_of, cells_at}

@@ -15,3 +15,6 @@ pub mod Held
 pub mod Back
 pub mod Loop
 pub mod FirstWrong
+pub mod Deriving
+pub mod Lines
+pub mod Writing

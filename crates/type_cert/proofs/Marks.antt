@@ -1,5 +1,5 @@
 -- The mitigates of a program and the lines that have a level, in order of the text.
-use Rattle.std.proofs.Common.{◌≡◌, ℕ, suc, zero, ◌+◌, ◌<◌, refl, sym, ap, ◌∙◌, subst, List, [], ◌∷◌, ◌++◌, length, take, get_or, arith}
+use Rattle.std.proofs.Common.{◌≡◌, ℕ, suc, zero, ◌+◌, refl, sym, ap, ◌∙◌, List, [], ◌∷◌, length, take, get_or, arith}
 use Rattle.std.specs.Prelude.{Option, None, Some}
 use Rattle.label_lattice.specs.declared.label.Label.{Label}
 use Rattle.label_lattice.specs.Lattice.{Lattice}
@@ -17,7 +17,7 @@ use Rattle.type_cert.specs.declared.place.Close.TheVariants.{Open, If as ClosesI
 use Rattle.type_cert.specs.declared.place.Place.{Place}
 use Rattle.type_cert.specs.Places.{label, last_of, places}
 use Rattle.type_cert.specs.Demands.{level_in, HasLevel}
-use Rattle.type_cert.specs.Certificate.{no_line, line_at, before, levels_in}
+use Rattle.type_cert.specs.Certificate.{line_at, before, levels_in}
 use Rattle.type_cert.specs.Contents.{pc_before, pcs_in}
 use Rattle.type_cert.proofs.Sound.{HasLevels, HasPcs, if_parts_at, one_part_at}
 

@@ -1,5 +1,5 @@
 -- The places of one command that has parts, and of the rest of its list.
-use Rattle.std.proofs.Common.{◌≡◌, ℕ, ◌+◌, ◌<◌, ◌≤◌, refl, sym, ap, ◌∙◌, subst, List, [], ◌∷◌, ◌++◌, length, append_assoc, length-append, arith}
+use Rattle.std.proofs.Common.{◌≡◌, ℕ, ◌+◌, ◌<◌, refl, sym, ap, ◌∙◌, List, [], ◌∷◌, ◌++◌, length, append_assoc, length-append, arith}
 use Rattle.std.specs.Prelude.{Option}
 use Rattle.label_lattice.specs.Lattice.{Lattice}
 use Rattle.label_lattice.specs.declared.label.Label.{Label}

@@ -1,9 +1,8 @@
 -- A walk's lines move with its start.
-use Rattle.std.proofs.Common.{◌≡◌, ℕ, ◌+◌, refl, sym, ap, ◌∙◌, subst, List, [], ◌∷◌, ◌++◌, map}
-use Rattle.std.specs.Prelude.{Option, None, Some}
+use Rattle.std.proofs.Common.{◌≡◌, ℕ, refl, sym, ap, ◌∙◌, List, ◌∷◌, ◌++◌, map}
+use Rattle.std.specs.Prelude.{None, Some}
 use Rattle.std.proofs.lemmas.List.{map-append}
-use Rattle.label_lattice.specs.declared.label.Label.{Label}
-use Rattle.label_lattice.specs.Lattice.{Lattice, Flows, IsLattice}
+use Rattle.label_lattice.specs.Lattice.{Lattice, IsLattice}
 use Rattle.mit_syntax.specs.Todo.{Done, Skip, Assign, Put, Sleep, If, While, Mitigate}
 use Rattle.timing_types.specs.declared.rule.Rule.TheVariants.{Skip as RSkip, Asgn as RAsgn, If as RIf, While as RWhile, Mtg as RMtg, Sleep as RSleep}
 use Rattle.timing_types.specs.Typing.{label_of, index_label}

@@ -1,18 +1,18 @@
 -- Lines that meet the demands of a program's places are a derivation of it.
-use Rattle.std.proofs.Common.{◌≡◌, ℕ, suc, zero, ◌+◌, ◌<◌, ◌≤◌, refl, sym, ap, ◌∙◌, subst, List, [], ◌∷◌, ◌++◌, arith, ◌⊎◌, inl, inr, ⊎_elim}
+use Rattle.std.proofs.Common.{◌≡◌, ℕ, ◌+◌, refl, sym, ap, ◌∙◌, subst, List, ◌++◌, arith, ◌⊎◌, inl, inr, ⊎_elim}
 use Rattle.std.specs.Prelude.{Option, None, Some}
 use Rattle.label_lattice.specs.declared.label.Label.{Label}
 use Rattle.label_lattice.specs.Lattice.{Lattice, Flows}
 use Rattle.mit_syntax.specs.Expression.{Expression}
 use Rattle.mit_syntax.specs.Todo.{Marks, Done, Skip, Assign, Put, Sleep, If, While, Mitigate}
-use Rattle.mit_syntax.specs.Plan.{Written, Plan, count, mitigates}
+use Rattle.mit_syntax.specs.Plan.{Plan, count}
 use Rattle.mit_syntax.specs.Declarations.{Declaration}
 use Rattle.mit_syntax.specs.Valid.{AreSome, AreKnown}
 use Rattle.timing_types.specs.Typing.{label_of, index_label, Types}
 use Rattle.timing_types.specs.Walk.{put_index, here}
 use Rattle.timing_types.specs.Placed.{labelled, bare}
 use Rattle.timing_types.specs.Contexts.{HasContexts}
-use Rattle.timing_types.specs.Labelling.{IsKept, AreKept, Keeps, marks_from}
+use Rattle.timing_types.specs.Labelling.{IsKept, AreKept, Keeps}
 use Rattle.label_infer.specs.Least.{own, HasOwn}
 use Rattle.label_infer.specs.Given.{AllFrom}
 use Rattle.label_infer.proofs.Placed.{from_parts}

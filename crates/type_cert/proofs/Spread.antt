@@ -1,11 +1,11 @@
 -- The labels of variables, from those of the declarations.
-use Rattle.std.proofs.Common.{◌≡◌, ℕ, zero, suc, ◌+◌, ◌-◌, ◌<◌, ◌≤◌, refl, sym, ap, ◌∙◌, subst, List, [], ◌∷◌, ◌++◌, length, length-append, append_assoc, append-nil, take, drop, get_or, arith, ⊎_elim}
+use Rattle.std.proofs.Common.{◌≡◌, ℕ, ◌+◌, ◌-◌, ◌<◌, ◌≤◌, refl, sym, ap, ◌∙◌, subst, List, [], ◌∷◌, ◌++◌, length, length-append, append_assoc, append-nil, take, drop, get_or, arith, ⊎_elim}
 use Rattle.std.specs.Prelude.{Option, None, Some, replicate, unwrap_or, slice_get}
 use Rattle.std.proofs.lemmas.Bool.{cases_lt}
 use Rattle.std.proofs.lemmas.List.{get_or_append_left, get_or-append-add, get_or-replicate, length-replicate, drop_more, drop_all, take_all}
 use Rattle.std.proofs.lemmas.Option.{slice_get_within, get_or_from_slice_get}
 use Rattle.label_lattice.specs.declared.label.Label.{Label}
-use Rattle.mit_syntax.specs.Declarations.{Declaration, Cell, cells_of, cells, variables, cell_at, size_in, size_of}
+use Rattle.mit_syntax.specs.Declarations.{Declaration, Cell, cells_of, cells, variables, size_in, size_of}
 use Rattle.mit_syntax.proofs.Numbers.{length-cells_of, cells_at}
 use Rattle.timing_types.specs.Labelling.{label_at, IsKept}
 use Rattle.type_cert.specs.Certificate.{spread, AllFit, FitsDeclaration}

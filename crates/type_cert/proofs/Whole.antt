@@ -1,5 +1,5 @@
 -- What a whole certificate gives: a labelling of the program, a derivation, and the labels of its mitigates.
-use Rattle.std.proofs.Common.{◌≡◌, ℕ, zero, suc, ◌+◌, ◌-◌, ◌<◌, ◌≤◌, refl, sym, ap, ◌∙◌, subst, List, [], ◌∷◌, ◌++◌, length, length-append, append_assoc, take, get_or, map, arith, ⊎_elim}
+use Rattle.std.proofs.Common.{◌≡◌, ℕ, zero, suc, ◌+◌, ◌<◌, ◌≤◌, refl, sym, ap, ◌∙◌, subst, List, [], ◌∷◌, ◌++◌, length, length-append, append_assoc, take, get_or, map, arith, ⊎_elim}
 use Rattle.std.specs.Prelude.{Option, None, Some}
 use Rattle.std.proofs.Math.Path.{fun_ext}
 use Rattle.std.proofs.Math.Seq.{get_or-append_seam}
@@ -7,16 +7,15 @@ use Rattle.std.proofs.lemmas.Bool.{cases_lt}
 use Rattle.std.proofs.lemmas.List.{get_or_past, length-map, take_all}
 use Rattle.label_lattice.specs.declared.label.Label.{Label}
 use Rattle.label_lattice.specs.Lattice.{Lattice}
-use Rattle.label_lattice.specs.Order.{Order, lattice_of}
+use Rattle.label_lattice.specs.Order.{lattice_of}
 use Rattle.mit_syntax.specs.Todo.{Marks as Pair}
-use Rattle.mit_syntax.specs.Plan.{Plan, count, mitigates}
-use Rattle.mit_syntax.specs.Declarations.{variables, cell_at}
+use Rattle.mit_syntax.specs.Plan.{count, mitigates}
 use Rattle.mit_syntax.specs.Program.{Syntax, plan_of}
 use Rattle.mit_syntax.specs.Valid.{IsValid, IsBelow}
 use Rattle.timing_types.specs.Typing.{Types}
 use Rattle.timing_types.specs.Placed.{bare, labelled}
 use Rattle.timing_types.specs.Contexts.{HasContexts}
-use Rattle.timing_types.specs.Labelling.{Labelling, IsLabelling, label_at, variable_of, marks_of, level_of, Keeps}
+use Rattle.timing_types.specs.Labelling.{Labelling, IsLabelling, label_at, marks_of, Keeps}
 use Rattle.timing_types.specs.Labelled.{LabelledProgram, HasType, AreContexts}
 use Rattle.timing_types.proofs.Arrays.{arrays_in}
 use Rattle.label_infer.specs.Least.{HasOwn, Labels}
@@ -26,8 +25,8 @@ use Rattle.type_cert.specs.declared.line.Line.{Line}
 use Rattle.type_cert.specs.declared.place.Place.{Place}
 use Rattle.type_cert.specs.declared.place.Start.TheVariants.{First}
 use Rattle.type_cert.specs.declared.place.Close.TheVariants.{Open}
-use Rattle.type_cert.specs.Places.{label, places}
-use Rattle.type_cert.specs.Demands.{IsFormed, HasLabels, HasLevel, Meets, marks_in, level_in}
+use Rattle.type_cert.specs.Places.{label}
+use Rattle.type_cert.specs.Demands.{HasLabels, HasLevel, Meets, marks_in}
 use Rattle.type_cert.specs.Certificate.{spread, places_of, no_line, line_at, before, levels_in, held_in, AllFit, FitsPlace, BeginsWith, IsCertificate}
 use Rattle.type_cert.specs.Contents.{pcs_in, AreContents}
 use Rattle.type_cert.proofs.Placing.{length_places}

@@ -6,6 +6,7 @@ use Rattle.timing_types.specs.Labelling.{Labelling}
 use Rattle.timing_types.specs.Labelled.{LabelledProgram, HasType}
 use Rattle.label_infer.specs.Least.{Labels}
 use Rattle.type_cert.specs.Certificate.{IsCertificate, IsFirstWrong}
+use Rattle.type_cert.specs.Derived.{derived_text}
 
 abbrev pub with_labels : Syntax → Labelling → LabelledProgram
 with_labels s l = record { program = s; labels = l }
@@ -37,3 +38,7 @@ CertificatesHaveNoWrongLine = (q : LabelledProgram) (bytes : List ℕ) (n : ℕ)
 -- bytes have one first wrong line at most
 abbrev pub HasOneFirstWrong : Type 0
 HasOneFirstWrong = (s : Syntax) (bytes : List ℕ) (n m : ℕ) → IsFirstWrong s bytes n → IsFirstWrong s bytes m → n ≡ m
+
+-- the text that a labelling gives which types the program is a certificate of it, and holds that labelling
+abbrev pub DerivedTextsAreCertificates : Type 0
+DerivedTextsAreCertificates = (q : LabelledProgram) → IsValid q.program → Labels q.program q.labels → HasType q → IsCertificate q (derived_text q)

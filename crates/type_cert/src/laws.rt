@@ -1,6 +1,6 @@
 //! What is true of certificates, as contracts of functions that do nothing.
 
-ghost use Rattle.type_cert.specs.Laws.{CertificatesAreDerivations, HeldLabellingTypes, HoldsOneLabelling, CertificatesHaveNoWrongLine, HasOneFirstWrong};
+ghost use Rattle.type_cert.specs.Laws.{CertificatesAreDerivations, HeldLabellingTypes, HoldsOneLabelling, DerivedTextsAreCertificates, CertificatesHaveNoWrongLine, HasOneFirstWrong};
 
 /// A program has a certificate exactly where some labelling types it.
 pub fn certificates_are_derivations()
@@ -25,4 +25,9 @@ pub fn certificates_have_no_wrong_line()
 /// Bytes have one first wrong line at most.
 pub fn one_first_wrong()
     ensures { HasOneFirstWrong }
+{}
+
+/// What `certificate` writes of a labelling that types the program is a certificate, and holds that labelling.
+pub fn derived_texts_are_certificates()
+    ensures { DerivedTextsAreCertificates }
 {}

@@ -2,7 +2,9 @@
 //! line and without inference.
 #![tactic(auto)]
 
+pub mod certificate;
 mod demands;
+pub mod derive;
 mod expressions;
 pub mod fault;
 pub mod laws;

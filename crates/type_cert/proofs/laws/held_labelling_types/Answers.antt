@@ -2,8 +2,6 @@ use Rattle.std.proofs.Common.{sym, subst}
 use Rattle.timing_types.specs.Labelled.{HasType}
 use Rattle.label_infer.specs.Least.{Labels}
 use Rattle.type_cert.specs.Laws.{with_labels}
-use Rattle.type_cert.proofs.Cuts.{cut_line, cut_variable}
-use Rattle.type_cert.proofs.Earlier.{meets_same, all_back}
 use Rattle.type_cert.proofs.Whole.{are_labels, has_type}
 use Rattle.type_cert.proofs.laws.held_labelling_types.Goals as goal
 
