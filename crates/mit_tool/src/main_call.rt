@@ -65,7 +65,7 @@ fn recheck<S: Shelf, W: Sink>(
     ensures write { result ≡ Status.WriteFault → Rose (W.faults out.old) (W.faults out.new) }
 {
     match recheck_line(alloc, shelf, file, certificate) {
-        Ok(line) => finish(out, line.bytes(), Status::Done),
+        Ok(rechecked) => finish(out, rechecked.bytes(), Status::Done),
         Err(e) => stop(out, e),
     }
 }
