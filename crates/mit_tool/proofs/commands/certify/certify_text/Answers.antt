@@ -2,7 +2,6 @@ use Rattle.std.proofs.Common.{◌≡◌, ap, inr, refl, sym, subst, ◌∙◌}
 use Rattle.std.specs.Prelude.{ℕ, List}
 use Rattle.mit_syntax.specs.Program.{Syntax}
 use Rattle.mit_syntax.specs.Valid.{IsValid}
-use Rattle.timing_types.specs.Labelled.{LabelledProgram}
 use Rattle.label_infer.specs.Least.{Labels}
 use Rattle.type_cert.specs.Certificate.{IsCertificate}
 use Rattle.type_cert.specs.Derived.{derived_text}
