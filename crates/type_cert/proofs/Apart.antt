@@ -1,6 +1,6 @@
 -- Where no right line follows, no longer beginning is right.
-use Rattle.std.proofs.Common.{◌≡◌, ℕ, zero, suc, ◌+◌, ◌-◌, ◌<◌, ◌≤◌, refl, sym, ap, ◌∙◌, subst, List, [], ◌∷◌, ◌++◌, length, length-append, append_assoc, append-nil, drop, get_or, arith, inl, inr, ⊎_elim}
-use Rattle.std.specs.Prelude.{Option, None, Some, codes}
+use Rattle.std.proofs.Common.{◌≡◌, ℕ, ◌+◌, ◌<◌, ◌≤◌, refl, sym, ap, ◌∙◌, subst, List, [], ◌∷◌, ◌++◌, length, length-append, append_assoc, append-nil, drop, get_or, arith, inr, ⊎_elim}
+use Rattle.std.specs.Prelude.{codes}
 use Rattle.std.proofs.lemmas.Bool.{cases_lt}
 use Rattle.std.proofs.lemmas.List.{append_cancel_left, get_or_append_left, drop_more}
 use Rattle.label_lattice.specs.declared.label.Label.{Label}
@@ -10,7 +10,7 @@ use Rattle.mit_syntax.specs.Plan.{count}
 use Rattle.mit_syntax.specs.Declarations.{Declaration}
 use Rattle.mit_syntax.specs.Program.{Syntax, plan_of}
 use Rattle.mit_syntax.specs.Valid.{IsValid}
-use Rattle.timing_types.specs.Labelling.{Labelling, label_at, IsKept}
+use Rattle.timing_types.specs.Labelling.{label_at, IsKept}
 use Rattle.label_infer.specs.Given.{AllFrom}
 use Rattle.label_infer.proofs.Placed.{from_first}
 use Rattle.type_cert.specs.declared.line.Line.{Line}
@@ -18,13 +18,13 @@ use Rattle.type_cert.specs.declared.place.Place.{Place}
 use Rattle.type_cert.specs.declared.place.Start.TheVariants.{First}
 use Rattle.type_cert.specs.declared.place.Close.TheVariants.{Open}
 use Rattle.type_cert.specs.Demands.{IsFormed, Meets}
-use Rattle.type_cert.specs.Text.{line_text, lines_text, variable_text, variables_text, certificate_text}
+use Rattle.type_cert.specs.Text.{line_text, lines_text, variable_text, variables_text}
 use Rattle.type_cert.specs.Reading.{ReadsLine, ReadsVariable}
-use Rattle.type_cert.specs.Certificate.{spread, places_of, no_line, line_at, AllFit, FitsDeclaration, FitsPlace, BeginsWith, AreRight, IsCertificate, IsFirstWrong}
+use Rattle.type_cert.specs.Certificate.{spread, places_of, no_line, line_at, AllFit, FitsDeclaration, FitsPlace, BeginsWith, AreRight, IsFirstWrong}
 use Rattle.type_cert.proofs.Placing.{length_places}
 use Rattle.type_cert.proofs.Earlier.{LooksBack, all_back, meets_same}
 use Rattle.type_cert.proofs.Shorter.{right_before}
-use Rattle.type_cert.proofs.Following.{MoreLabels, more_labels, MoreLines, more_lines}
+use Rattle.type_cert.proofs.Following.{more_labels, MoreLines, more_lines}
 
 pub fit_length : {A B : Type 0} (R : A → B → Type 0) (as' : List A) (bs : List B) → AllFit R as' bs → length bs ≤ length as'
 fit_length R as' [] h = omega arith

@@ -1,21 +1,14 @@
 -- A beginning of bytes by right lines is part of each longer one.
-use Rattle.std.proofs.Common.{◌≡◌, ℕ, zero, suc, ◌+◌, ◌-◌, ◌<◌, ◌≤◌, refl, sym, ap, ◌∙◌, subst, List, [], ◌∷◌, ◌++◌, length, length-append, append_assoc, append-nil, drop, get_or, arith, inl, inr, ⊎_elim}
-use Rattle.std.specs.Prelude.{Option, None, Some, codes, slice_get}
-use Rattle.std.proofs.lemmas.List.{append_cancel_left, get_or_append_left}
+use Rattle.std.proofs.Common.{◌≡◌, ℕ, ◌+◌, ◌≤◌, refl, sym, ap, ◌∙◌, List, [], ◌∷◌, ◌++◌, length, append_assoc, drop, arith}
 use Rattle.label_lattice.specs.declared.label.Label.{Label}
-use Rattle.label_lattice.specs.Order.{Order, IsOrder, lattice_of}
-use Rattle.mit_syntax.specs.Plan.{count}
+use Rattle.label_lattice.specs.Order.{Order, IsOrder}
 use Rattle.mit_syntax.specs.Declarations.{Declaration}
-use Rattle.mit_syntax.specs.Program.{Syntax, plan_of}
-use Rattle.mit_syntax.specs.Valid.{IsValid}
-use Rattle.timing_types.specs.Labelling.{Labelling, label_at}
-use Rattle.timing_types.specs.Labelled.{LabelledProgram}
 use Rattle.type_cert.specs.declared.line.Line.{Line}
 use Rattle.type_cert.specs.declared.place.Place.{Place}
-use Rattle.type_cert.specs.Demands.{IsFormed, Meets}
-use Rattle.type_cert.specs.Text.{line_text, lines_text, variable_text, variables_text, certificate_text}
+use Rattle.type_cert.specs.Demands.{IsFormed}
+use Rattle.type_cert.specs.Text.{line_text, lines_text, variable_text, variables_text}
 use Rattle.type_cert.specs.Reading.{ReadsLine, ReadsVariable}
-use Rattle.type_cert.specs.Certificate.{spread, places_of, no_line, line_at, AllFit, FitsDeclaration, FitsPlace, BeginsWith, AreRight, held_in, IsCertificate, IsFirstWrong}
+use Rattle.type_cert.specs.Certificate.{AllFit, FitsDeclaration}
 use Rattle.type_cert.proofs.Cuts.{cut_line, cut_variable}
 
 module _ (o : Order) (ok : IsOrder o) where

@@ -1,9 +1,8 @@
 -- One more right line.
-use Rattle.std.proofs.Common.{◌≡◌, ℕ, zero, suc, ◌+◌, ◌<◌, ◌≤◌, refl, sym, ap, ◌∙◌, subst, List, [], ◌∷◌, ◌++◌, length, length-append, append_assoc, append-nil, get_or, arith}
+use Rattle.std.proofs.Common.{◌≡◌, ℕ, ◌+◌, ◌<◌, ◌≤◌, refl, sym, ap, ◌∙◌, subst, List, [], ◌∷◌, ◌++◌, length, append_assoc, append-nil, get_or, arith}
 use Rattle.std.specs.Prelude.{codes}
 use Rattle.std.proofs.lemmas.List.{get_or_append_left}
 use Rattle.label_lattice.specs.declared.label.Label.{Label}
-use Rattle.label_lattice.specs.Lattice.{Lattice}
 use Rattle.label_lattice.specs.Order.{Order, lattice_of}
 use Rattle.mit_syntax.specs.Declarations.{Declaration}
 use Rattle.mit_syntax.specs.Program.{Syntax}
@@ -18,7 +17,7 @@ use Rattle.type_cert.specs.Text.{line_text, lines_text, variable_text, variables
 use Rattle.type_cert.specs.Reading.{ReadsLine, ReadsVariable}
 use Rattle.type_cert.specs.Certificate.{places_of, no_line, line_at, AllFit, FitsDeclaration, FitsPlace, BeginsWith}
 use Rattle.type_cert.proofs.Earlier.{LooksBack, meets_same}
-use Rattle.type_cert.proofs.Apart.{looks_back, fit_length}
+use Rattle.type_cert.proofs.Apart.{looks_back}
 
 pub fit_push : {A B : Type 0} (R : A → B → Type 0) (as' : List A) (bs : List B) (a : A) (x : B) → length bs < length as' → a ≡ get_or as' (length bs) a → AllFit R as' bs → R a x → AllFit R as' (bs ++ x ∷ [])
 fit_push R [] bs a x h e f k = absurd (omega (arith, h))

@@ -41,8 +41,9 @@ fn put_lines(out: &mut Vec<u8>, order: &Lattice, lines: &[Line]) -> Result<(), A
     Ok(())
 }
 
-/// The certificate of a labelled program: the label of each declaration, and the line of each command. Where the
-/// labelling types the program, `recheck` accepts it and gives the labelling back.
+/// The certificate of a labelled program: the label of each declaration, and the line of each command. It is one
+/// where the labelling types the program and a command without marks has `pc | li` twice, as it has in the least
+/// labelling. Then it holds this labelling.
 pub fn certificate(alloc: Global, q: &Labelled) -> Result<Vec<u8>, AllocError>
     ensures { IfOk result (λ v. v.items ≡ derived_text q.now) }
 {

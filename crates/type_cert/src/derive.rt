@@ -196,9 +196,10 @@ fn list_lines(
 /// The line of each command of a labelled program, in order of the text: what the derivation with these labels says
 /// of it, where there is one.
 ///
-/// Each command is walked once. The body of a `while` is walked from where the loop is entered, and its end is joined
-/// into its lines after that: so the time is linear in the program but for two joins for each line and each `while`
-/// around it, which would show in a long program of `while`s that stand deep in one another.
+/// Each command is walked once. The body of a `while` is walked from where the loop is entered, and the end of the
+/// loop is joined into its lines after that: two joins for each line and each `while` around it. Programs have at most
+/// 100 `while`s in one another, so a line takes at most 200 such joins, and the time is linear in the program. It could
+/// be seen only in a long program most of whose commands stand about that deep.
 pub fn derive(alloc: Global, q: &Labelled) -> Result<Vec<Line>, AllocError>
     ensures { IfOk result (λ v. v.items ≡ derived (order_of q.now) (labels_of q.now) (placed_of q.now) (order_of q.now).bottom (order_of q.now).bottom) }
 {

@@ -13,4 +13,6 @@ pub mod place;
 mod places;
 mod read;
 pub mod recheck;
+#[cfg(test)]
+mod tests;
 pub mod write;

@@ -1,7 +1,6 @@
 use Rattle.std.proofs.Common.{◌∙◌, sym, ap, []}
 use Rattle.type_cert.specs.Certificate.{held_in}
 use Rattle.type_cert.proofs.Apart.{one_whole}
-use Rattle.type_cert.proofs.Pushing.{push_line, push_variable}
 use Rattle.type_cert.proofs.laws.holds_one_labelling.Goals as goal
 
 pub returns : goal.returns

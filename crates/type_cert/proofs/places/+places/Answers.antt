@@ -1,12 +1,10 @@
-use Rattle.std.proofs.Common.{rules, ℕ, ◌≡◌, ◌+◌, ◌++◌, drop, length, refl, sym, ap, ◌∙◌, arith, [], ◌∷◌, length-append, append-nil}
+use Rattle.std.proofs.Common.{ℕ, ◌≡◌, ◌+◌, ◌++◌, drop, length, refl, sym, ap, ◌∙◌, arith, append-nil}
 use Rattle.std.proofs.lemmas.List.{drop_all}
 use Rattle.label_lattice.specs.Order.{lattice_of}
 use Rattle.mit_syntax.specs.Expression.{expression_of}
-use Rattle.mit_syntax.specs.Plan.{Written, command_plan, list_plan, form_count, count}
+use Rattle.mit_syntax.specs.Plan.{Written, command_plan, list_plan, count}
 use Rattle.timing_types.specs.Labelling.{label_at}
 use Rattle.timing_types.proofs.Parts.{if_parts, while_parts, mitigate_parts, if_count, while_count, mitigate_count, cut, cut_count}
-use Rattle.type_cert.specs.declared.place.Place.{Place}
-use Rattle.type_cert.specs.declared.place.Act.TheVariants.{If as Branches, While as Loops, Mitigate as Mitigates}
 use Rattle.type_cert.specs.declared.place.Start.TheVariants.{After}
 use Rattle.type_cert.specs.Places.{places, last_of}
 use Rattle.type_cert.proofs.Placing.{if_places, while_places, mitigate_places, if_last, while_last, mitigate_last, pushed}

@@ -1,5 +1,5 @@
-use Rattle.std.proofs.Common.{◌+◌, ◌<◌, sym, drop, length, length-drop, arith}
-use Rattle.type_cert.proofs.Placing.{closing_some, closing_none}
+use Rattle.std.proofs.Common.{◌+◌, sym, drop, length-drop, arith}
+use Rattle.type_cert.proofs.Placing.{closing_some}
 use Rattle.type_cert.proofs.places.closing.Goals as goal
 
 pub returns : goal.returns

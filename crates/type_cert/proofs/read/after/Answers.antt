@@ -1,4 +1,4 @@
-use Rattle.std.proofs.Common.{◌≡◌, ◌++◌, ◌-◌, ◌∙◌, sym, ap, drop, take, length, true, false, length-drop, arith}
+use Rattle.std.proofs.Common.{◌++◌, ◌-◌, ◌∙◌, sym, ap, drop, length, length-drop, arith}
 use Rattle.std.proofs.lemmas.Slice.Eq.{starts_is}
 use Rattle.std.proofs.lemmas.Bool.{both_ways}
 use Rattle.std.proofs.lemmas.Bool.Decides.{Decides-eqb}

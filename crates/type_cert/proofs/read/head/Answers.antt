@@ -1,5 +1,5 @@
 use Rattle.std.proofs.Common.{rules, ◌≡◌, ap, sym, ◌∙◌, ◌++◌}
-use Rattle.std.specs.Prelude.{codes, decimal}
+use Rattle.std.specs.Prelude.{decimal}
 use Rattle.type_cert.specs.Text.{rule_name}
 use Rattle.type_cert.proofs.Cuts.{head_parts, head_rule, head_from}
 use Rattle.type_cert.proofs.read.head.Goals as goal

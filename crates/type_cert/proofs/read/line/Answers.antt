@@ -1,5 +1,4 @@
 use Rattle.std.proofs.Common.{sym, ap, ◌∙◌, ◌++◌}
-use Rattle.std.specs.Prelude.{codes}
 use Rattle.type_cert.specs.Text.{head_text}
 use Rattle.type_cert.proofs.Cuts.{at_head, past_head, at_pc, at_start, at_read, at_write, at_end, at_level, to_pc, to_start, to_read, to_write, to_end, to_level, after_head, after_pc, after_start, after_read, after_write, after_end, after_level, line_from}
 use Rattle.type_cert.proofs.read.line.Goals as goal

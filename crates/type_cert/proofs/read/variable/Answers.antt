@@ -1,4 +1,4 @@
-use Rattle.std.proofs.Common.{sym, ap, ◌∙◌, ◌++◌, []}
+use Rattle.std.proofs.Common.{sym, ap, ◌∙◌, ◌++◌}
 use Rattle.std.specs.Prelude.{codes}
 use Rattle.type_cert.proofs.Cuts.{past_name, at_variable, cut_label}
 use Rattle.type_cert.proofs.read.variable.Goals as goal

@@ -1,4 +1,4 @@
-use Rattle.std.proofs.Common.{◌≡◌, length, []}
+use Rattle.std.proofs.Common.{◌≡◌, length}
 use Rattle.type_cert.specs.Certificate.{BeginsWith}
 use Rattle.type_cert.proofs.recheck.read.Given as goal
 

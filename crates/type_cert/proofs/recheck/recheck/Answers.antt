@@ -1,7 +1,7 @@
 use Rattle.std.proofs.Common.{◌∙◌, refl, sym, ap, subst}
 use Rattle.timing_types.specs.Labelled.{LabelledProgram, TypedProgram, HasType, AreContexts}
 use Rattle.type_cert.specs.Certificate.{IsCertificate}
-use Rattle.type_cert.proofs.Whole.{IsMade, made_of}
+use Rattle.type_cert.proofs.Whole.{made_of}
 use Rattle.type_cert.proofs.recheck.recheck.Goals as goal
 
 pub returns-in-Err-clause-kept : goal.returns-in-Err-clause-kept

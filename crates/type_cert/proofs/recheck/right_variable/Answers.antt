@@ -1,4 +1,4 @@
-use Rattle.std.proofs.Common.{ap, subst, true}
+use Rattle.std.proofs.Common.{subst}
 use Rattle.std.proofs.lemmas.Bool.{both_ways}
 use Rattle.label_lattice.specs.declared.label.Label.{Label}
 use Rattle.timing_types.specs.Labelling.{IsKept}

@@ -1,4 +1,4 @@
-use Rattle.std.proofs.Common.{rules, ◌≡◌, ◌<◌, ◌∙◌, ◌+◌, sym, ap, refl, arith, length}
+use Rattle.std.proofs.Common.{◌<◌, ◌∙◌, ◌+◌, ap, arith, length}
 use Rattle.std.proofs.lemmas.List.{get_or_default}
 use Rattle.type_cert.specs.Certificate.{spread}
 use Rattle.type_cert.proofs.Spread.{size_is, spread_next, spread_all, resized}
