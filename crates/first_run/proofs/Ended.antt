@@ -42,6 +42,7 @@ module _ (old new : Option (List ℕ)) (Answer : Status → List ℕ → Type 0)
   ends status.Budget e n = answered status.Budget e
   ends status.Disagree e n = answered status.Disagree e
   ends status.Unfinished e n = answered status.Unfinished e
+  ends status.Rejected e n = answered status.Rejected e
   ends status.Memory e n = inr (refl, subst (λ (t : List ℕ). Appends old new t) (without e.0 e.1) e.2)
 
 pub run_ends : HasOneAnswer → (content : Content) (before now : List ℕ → ℕ) (file : List ℕ) (t : ℕ) → HoldsText (content file) → 3 ≤ t → (Rose (before file) (now file) → ⊥)

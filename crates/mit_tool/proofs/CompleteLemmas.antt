@@ -27,16 +27,16 @@ use Rattle.tool_texts.specs.declared.status.Status.{Status}
 use Rattle.tool_texts.specs.declared.status.Status.TheVariants as status
 use Rattle.tool_texts.specs.Reports.{audit_lines, cut_lines, made_lines}
 use Rattle.tool_texts.specs.Ends.{EndsBy}
-use Rattle.tool_stages.specs.Stages.{Then, ProgramStops, Reads, ObserverStops, Observes, TypeStops, Types, ImageStops, HasImage, StartStops, StartsAre, FirstStops, FirstStart, HoldsRuns, ReadyStops}
+use Rattle.tool_stages.specs.Stages.{Then, ProgramStops, Reads, ObserverStops, Observes, TypeStops, Types, ImageStops, HasImage, StartStops, StartsAre, FirstStops, FirstStart, HoldsRuns, ReadyStops, CertificateStops, Rechecks}
 use Rattle.tool_stages.specs.Envs.{flat_env, flat_made, AuditFaultsIn, CutFaultsIn, told_in, ReportsIn, CutReportsIn}
 use Rattle.tool_stages.specs.Content.{Content, IsKnown}
 use Rattle.tool_stages.specs.Goes.{IsHalted, HaltsBy, CanCut, CanBeAudited, OfObserver}
 use Rattle.mit_tool.specs.Audited.{AuditStops, HasAudited, CutStops, HasCut, HasReleased}
-use Rattle.mit_tool.specs.Answers.{HasChecked, HasInferred, HasListed, HasRun, status_at, IsAnswer, Before}
+use Rattle.mit_tool.specs.Answers.{HasChecked, HasInferred, HasListed, HasRun, HasCertified, HasRechecked, status_at, IsAnswer, Before}
 use Rattle.mit_tool.specs.Means.{HasMeant}
 use Rattle.mit_tool.specs.Complete.{AreKnown, NoneRises, CanGoOn, CanBeDone}
 use Rattle.tool_texts.proofs.EndLemmas.{ends_done}
-use Rattle.tool_stages.proofs.GoesLemmas.{then_goes, then_goes_from, program_goes, ready_goes}
+use Rattle.tool_stages.proofs.GoesLemmas.{then_goes, then_goes_from, program_goes, ready_goes, certificate_goes}
 use Rattle.tool_stages.proofs.OneLemmas.{one_program}
 use Rattle.tool_stages.proofs.AgreeLemmas.{all_halt}
 use Rattle.tool_stages.proofs.ChainLemmas.{compiles_go, first_done, first_file, lower_goes, no_other, one_other, prepared_done, second_file, starts_done, typed_done}
@@ -154,8 +154,18 @@ module _ (Rises : List ℕ → Type 0) (content : Content) (s : Status) (t : Lis
       let k = first_file Rises content file [] n known in
       then_goes (ReadyStops (Rises file) (content file)) (HoldsRuns (content file)) (λ runs. HasReleased first budget runs) s t
       (ready_goes (Rises file) (content file) can.0 s t k.0 k.1 can.1 can.2 can.3) (λ runs holds m. m.0) h
-  answers_done (certify file) range n known can h = absurd can
-  answers_done (recheck file certificate) range n known can h = absurd can
+  answers_done (certify file) range n known can h =
+      let k = first_file Rises content file [] n known in
+      typed_done Rises content s t file (λ p q. HasCertified q) k.0 k.1 can (λ p q m. m.0) h
+  answers_done (recheck file certificate) range n known can h =
+      let k = first_file Rises content file (certificate ∷ []) n known in
+      let m = second_file Rises content file certificate [] n known in
+      let p : Syntax = can.0 in
+      then_goes_from (ProgramStops (Rises file) (content file)) (Reads (content file))
+      (λ p. Then (CertificateStops (Rises certificate) (content certificate) p) (Rechecks (content certificate) p) (λ q. HasRechecked p)) s t
+      p can.1 (one_program (content file) k.1) (program_goes (Rises file) (content file) p s t k.0 k.1 can.1)
+      (then_goes (CertificateStops (Rises certificate) (content certificate) p) (Rechecks (content certificate) p) (λ q. HasRechecked p) s t
+      (certificate_goes (Rises certificate) (content certificate) p can.2 s t m.0 m.1 can.3) (λ q holds told. told.0)) h
 
 pub completes : (old new : Option (List ℕ)) (Rises : List ℕ → Type 0) (content : Content) (a : Asked) (r : Status) (Rose : Type 0)
     → EndsBy old new (Before content a) (IsAnswer Rises content a) r → (r ≡ status.WriteFault → Rose)

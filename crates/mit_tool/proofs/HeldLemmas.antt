@@ -11,7 +11,7 @@ use Rattle.label_code.specs.Shaped.{Code}
 use Rattle.start_file.specs.Starts.{StartValue}
 use Rattle.tool_texts.specs.declared.status.Status.{Status}
 use Rattle.tool_texts.specs.declared.status.Status.TheVariants as status
-use Rattle.tool_stages.specs.Stages.{Then, Reads, ProgramStops, StartsAre, StartStops, FirstStart, FirstStops, ReadyStops, HoldsRuns}
+use Rattle.tool_stages.specs.Stages.{Then, Reads, ProgramStops, StartsAre, StartStops, FirstStart, FirstStops, ReadyStops, HoldsRuns, HoldsCertificate, Rechecks, CertificateStops}
 use Rattle.mit_tool.specs.Held.{Held}
 use Rattle.tool_stages.specs.Content.{Content}
 use Rattle.tool_stages.specs.Begins.{Compiles}
@@ -70,6 +70,7 @@ program_stop_held R c status.Budget t x = absurd x
 program_stop_held R c status.Disagree t x = absurd x
 program_stop_held R c status.Unfinished t x = absurd x
 program_stop_held R c status.Memory t x = absurd x
+program_stop_held R c status.Rejected t x = absurd x
 
 pub start_stop_held : (R : Type 0) (c : Option (Option (List ℕ))) (p : Syntax) (s : Status) (t : List ℕ) → StartStops R c p s t → (h : Option (List ℕ)) × Fits c h × StartStops R (Some h) p s t
 start_stop_held R c p status.Done t x = absurd x
@@ -84,6 +85,7 @@ start_stop_held R c p status.Budget t x = absurd x
 start_stop_held R c p status.Disagree t x = absurd x
 start_stop_held R c p status.Unfinished t x = absurd x
 start_stop_held R c p status.Memory t x = absurd x
+start_stop_held R c p status.Rejected t x = absurd x
 
 pub ready_stop_held : (R : Type 0) (c : Option (Option (List ℕ))) (s : Status) (t : List ℕ) → ReadyStops R c s t → (h : Option (List ℕ)) × Fits c h × ReadyStops R (Some h) s t
 ready_stop_held R c status.Done t x = absurd x
@@ -98,6 +100,30 @@ ready_stop_held R c status.Budget t x = absurd x
 ready_stop_held R c status.Disagree t x = absurd x
 ready_stop_held R c status.Unfinished t x = absurd x
 ready_stop_held R c status.Memory t x = absurd x
+ready_stop_held R c status.Rejected t x = absurd x
+
+pub rechecks_held : (c : Option (Option (List ℕ))) (p : Syntax) (q : LabelledProgram) → Rechecks c p q → (h : Option (List ℕ)) × Fits c h × Rechecks (Some h) p q
+rechecks_held c p q r =
+    let k : HoldsCertificate c p q = r.holds in (
+      Some k.bytes,
+      fits_bytes c k.bytes k.are,
+      record { holds = record { bytes = k.bytes; are = refl; short = k.short; program = k.program; certifies = k.certifies }; labels = r.labels; typed = r.typed },
+    )
+
+pub certificate_stop_held : (R : Type 0) (c : Option (Option (List ℕ))) (p : Syntax) (s : Status) (t : List ℕ) → CertificateStops R c p s t → (h : Option (List ℕ)) × Fits c h × CertificateStops R (Some h) p s t
+certificate_stop_held R c p status.Done t x = absurd x
+certificate_stop_held R c p status.Refused t x = absurd x
+certificate_stop_held R c p status.Syntax t x = absurd x
+certificate_stop_held R c p status.Starts t x = absurd x
+certificate_stop_held R c p status.Usage t x = absurd x
+certificate_stop_held R c p status.ReadFault t x = (held_of c, fits_held c, x)
+certificate_stop_held R c p status.WriteFault t x = absurd x
+certificate_stop_held R c p status.TooLong t x = let k = held_long c x.0 in (k.0, k.1, (k.2, x.1))
+certificate_stop_held R c p status.Budget t x = absurd x
+certificate_stop_held R c p status.Disagree t x = absurd x
+certificate_stop_held R c p status.Unfinished t x = absurd x
+certificate_stop_held R c p status.Memory t x = absurd x
+certificate_stop_held R c p status.Rejected t f = (Some f.bytes, fits_bytes c f.bytes f.are, record { bytes = f.bytes; are = refl; short = f.short; number = f.number; first = f.first; line = f.line })
 
 -- ---- chains of stages
 
@@ -145,6 +171,12 @@ first_then_held Rises content name p Next s t =
     then_held (content name) (λ z. StartStops (Rises name) z p) (λ z start. (others : List StartValue) × StartsAre z p (start ∷ others)) Next s t
     (start_stop_held (Rises name) (content name) p s t)
     (λ start given. let k = starts_held (content name) p (start ∷ given.0) given.1 in (k.0, k.1, (given.0, k.2)))
+
+-- the certificate in a file, and the rest
+pub certificate_then_held : (R : Type 0) (c : Option (Option (List ℕ))) (p : Syntax) (Next : LabelledProgram → Status → List ℕ → Type 0) (s : Status) (t : List ℕ)
+    → Then (CertificateStops R c p) (Rechecks c p) Next s t → (h : Option (List ℕ)) × Fits c h × Then (CertificateStops R (Some h) p) (Rechecks (Some h) p) Next s t
+certificate_then_held R c p Next s t =
+    then_held c (λ z. CertificateStops R z p) (λ z. Rechecks z p) Next s t (certificate_stop_held R c p s t) (rechecks_held c p)
 
 -- ---- two files
 

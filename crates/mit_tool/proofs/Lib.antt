@@ -11,6 +11,7 @@ pub mod OneRun
 pub mod OneReport
 pub mod OneAnswer
 pub mod CompleteLemmas
+pub mod CertifiedLemmas
 pub mod HeldLemmas
 pub mod OneHeld
 pub mod PastLemmas

@@ -8,14 +8,15 @@ use Rattle.tool_words.specs.declared.words.EnvName.TheVariants.{Part}
 use Rattle.tool_words.specs.WordsAsked.{Asked, check, infer, compile, run, meaning, audit, gen, cut, blackbox, certify, recheck}
 use Rattle.tool_texts.specs.declared.status.Status.{Status}
 use Rattle.tool_texts.specs.Reports.{made_lines}
-use Rattle.tool_stages.specs.Stages.{Then, TypeStops, Types, FirstStops, FirstStart, HoldsRuns, ReadyStops}
+use Rattle.tool_stages.specs.Stages.{Then, TypeStops, Types, FirstStops, FirstStart, HoldsRuns, ReadyStops, CertificateStops, Rechecks}
 use Rattle.tool_stages.specs.Content.{Content, IsKnown}
 use Rattle.mit_tool.specs.Audited.{HasAudited, HasCut, HasReleased}
 use Rattle.mit_tool.specs.Means.{HasMeant}
-use Rattle.mit_tool.specs.Answers.{HasChecked, HasInferred, HasListed, HasRun, made_content, IsAnswer}
+use Rattle.mit_tool.specs.Answers.{HasChecked, HasInferred, HasListed, HasRun, HasCertified, HasRechecked, made_content, IsAnswer}
 use Rattle.mit_tool.specs.Complete.{AreKnown, NoneRises}
 use Rattle.tool_stages.proofs.ChainLemmas.{first_file, second_file, no_other, one_other, compiles_one, one_run_list, prepares_one, reads_one, types_one, usage_one}
-use Rattle.tool_stages.proofs.OneLemmas.{Same, then_one, one_ready_stop, runs_or_not}
+use Rattle.tool_stages.proofs.OneLemmas.{Same, then_one, then_same, one_ready_stop, runs_or_not, one_certificate_stop}
+use Rattle.tool_stages.proofs.GoesLemmas.{certificate_goes}
 use Rattle.tool_stages.proofs.OneFirst.{one_first, first_or_not, one_first_stop}
 use Rattle.mit_tool.proofs.OneRun.{one_meaning}
 use Rattle.mit_tool.proofs.OneReport.{one_audit, one_cut, OneOutcomes, one_release}
@@ -87,5 +88,14 @@ module _ (s u : Status) (t x : List ℕ) where
         then_one (ReadyStops (Rises file) (content file)) (HoldsRuns (content file)) (λ runs. HasReleased first budget runs) s u t x
         (one_ready_stop (content file) k.1 (Rises file) s u t x k.0) (λ runs v y holds. runs_or_not (content file) k.1 runs (Rises file) v y k.0 holds) (λ a b. one_run_list s u t x (content file) a b k.1)
         (λ runs holds. one_release outcomes first budget runs s u t x)
-    answers_one (certify file) n known = usage_one s u t x
-    answers_one (recheck file certificate) n known = usage_one s u t x
+    answers_one (certify file) n known =
+        let k = first_file Rises content file [] n known in
+        reads_one s u t x (Rises file) (content file) (λ p. Then (TypeStops p) (Types p) (λ q. HasCertified q)) k.0 k.1 (λ p order.
+        types_one s u t x p (λ q. HasCertified q) order (λ q h j. usage_one s u t x (h.0, h.1) (j.0, j.1)))
+    answers_one (recheck file certificate) n known =
+        let k = first_file Rises content file (certificate ∷ []) n known in
+        let m = second_file Rises content file certificate [] n known in
+        reads_one s u t x (Rises file) (content file) (λ p. Then (CertificateStops (Rises certificate) (content certificate) p) (Rechecks (content certificate) p) (λ q. HasRechecked p)) k.0 k.1 (λ p order.
+        then_same (CertificateStops (Rises certificate) (content certificate) p) (Rechecks (content certificate) p) (HasRechecked p) s u t x
+        (one_certificate_stop (content certificate) m.1 p (Rises certificate) s u t x m.0) (λ q v y r. certificate_goes (Rises certificate) (content certificate) p q v y m.0 m.1 r.holds)
+        (usage_one s u t x))

@@ -11,14 +11,14 @@ use Rattle.start_file.specs.Starts.{StartValue}
 use Rattle.tool_texts.specs.declared.status.Status.{Status}
 use Rattle.tool_texts.specs.declared.status.Status.TheVariants as status
 use Rattle.tool_words.specs.WordsAsked.{Asked, check, infer, compile, run, meaning, audit, gen, cut, blackbox, certify, recheck}
-use Rattle.tool_stages.specs.Stages.{Then, Reads, ProgramStops, Observes, ObserverStops, Types, TypeStops, HasImage, ImageStops, StartsAre, StartStops, FirstStart, FirstStops, ReadyStops, HoldsRuns}
+use Rattle.tool_stages.specs.Stages.{Then, Reads, ProgramStops, Observes, ObserverStops, Types, TypeStops, HasImage, ImageStops, StartsAre, StartStops, FirstStart, FirstStops, ReadyStops, HoldsRuns, CertificateStops, Rechecks}
 use Rattle.mit_tool.specs.Audited.{HasAudited, HasCut, HasReleased}
 use Rattle.mit_tool.specs.Means.{HasMeant}
 use Rattle.tool_texts.specs.Ends.{Tells, EndsBy}
-use Rattle.mit_tool.specs.Answers.{HasChecked, HasInferred, HasListed, HasRun, IsAnswer, HasBegun, Before}
+use Rattle.mit_tool.specs.Answers.{HasChecked, HasInferred, HasListed, HasRun, HasCertified, HasRechecked, IsAnswer, HasBegun, Before}
 use Rattle.mit_tool.specs.Complete.{files_of}
 use Rattle.mit_tool.specs.Held.{Held, told_all, HoldsTold, AreReadAlike}
-use Rattle.mit_tool.proofs.HeldLemmas.{Fits, held_of, fits_held, reads_held, starts_held, runs_held, program_stop_held, ready_stop_held, then_held, then_later, compiles_later, starts_then_held, first_then_held, held_with}
+use Rattle.mit_tool.proofs.HeldLemmas.{Fits, held_of, fits_held, reads_held, starts_held, runs_held, program_stop_held, ready_stop_held, then_held, then_later, compiles_later, starts_then_held, first_then_held, certificate_then_held, held_with}
 use Rattle.tool_stages.specs.Content.{Content}
 
 -- ---- what the files of a command hold
@@ -162,6 +162,23 @@ module _ (Rises : List ℕ → Type 0) (content : Content) (s : Status) (t : Lis
       (λ c d. Then (ProgramStops (Rises file) c) (Reads c) (λ p. Then (StartStops (Rises starts) d p) (λ start. (others : List StartValue) × StartsAre d p (start ∷ others)) (λ start. Next p start)) s t)
       first.0 later.0 first.1 later.1 alike first.2
 
+  -- with the certificate of a second file
+  certified_answer : (file certificate : List ℕ) (Next : Syntax → LabelledProgram → Status → List ℕ → Type 0)
+      → (file ≡ certificate → IsSome (content file))
+      → Then (ProgramStops (Rises file) (content file)) (Reads (content file)) (λ p. Then (CertificateStops (Rises certificate) (content certificate) p) (Rechecks (content certificate) p) (λ q. Next p q)) s t
+      → (held : Held) × HoldsTold content held
+      × Then (ProgramStops (Rises file) (told_all held file)) (Reads (told_all held file)) (λ p. Then (CertificateStops (Rises certificate) (told_all held certificate) p) (Rechecks (told_all held certificate) p) (λ q. Next p q)) s t
+  certified_answer file certificate Next alike x =
+      let later = then_later (content certificate) (ProgramStops (Rises file) (content file)) (Reads (content file))
+      (λ p. Then (CertificateStops (Rises certificate) (content certificate) p) (Rechecks (content certificate) p) (λ q. Next p q))
+      (λ k p. Then (CertificateStops (Rises certificate) (Some k) p) (Rechecks (Some k) p) (λ q. Next p q)) s t
+      (λ p. certificate_then_held (Rises certificate) (content certificate) p (λ q. Next p q) s t) x in
+      let first = program_then_held (Rises file) (content file)
+      (λ p. Then (CertificateStops (Rises certificate) (Some later.0) p) (Rechecks (Some later.0) p) (λ q. Next p q)) s t later.2 in
+      two_files content file certificate
+      (λ c d. Then (ProgramStops (Rises file) c) (Reads c) (λ p. Then (CertificateStops (Rises certificate) d p) (Rechecks d p) (λ q. Next p q)) s t)
+      first.0 later.0 first.1 later.1 alike first.2
+
   -- the answer is one by what the files hold
   pub answer_held : (a : Asked) → AreReadAlike content (files_of a) → IsAnswer Rises content a s t → (held : Held) × HoldsTold content held × IsAnswer Rises (told_all held) a s t
   answer_held (check file) alike x =
@@ -191,8 +208,10 @@ module _ (Rises : List ℕ → Type 0) (content : Content) (s : Status) (t : Lis
   answer_held (blackbox file first budget) alike x =
       one_file content file (λ c. Then (ReadyStops (Rises file) c) (HoldsRuns c) (λ runs. HasReleased first budget runs) s t)
       (ready_then_held (Rises file) (content file) (λ runs. HasReleased first budget runs) s t x)
-  answer_held (certify file) alike x = (λ name. held_of (content name), λ name. fits_held (content name), x)
-  answer_held (recheck file certificate) alike x = (λ name. held_of (content name), λ name. fits_held (content name), x)
+  answer_held (certify file) alike x =
+      let Next : Syntax → Status → List ℕ → Type 0 = λ p. Then (TypeStops p) (Types p) (λ q. HasCertified q) in
+      one_file content file (λ c. Then (ProgramStops (Rises file) c) (Reads c) Next s t) (program_then_held (Rises file) (content file) Next s t x)
+  answer_held (recheck file certificate) alike x = certified_answer file certificate (λ p q. HasRechecked p) alike x
 
 -- ---- what stands before the line for memory
 
@@ -239,6 +258,7 @@ module _ {X : Type 0} (G : X → Type 0) (Earlier : List ℕ → Type 0) (Later 
   tells_some status.Budget t h = g status.Budget t h
   tells_some status.Disagree t h = g status.Disagree t h
   tells_some status.Unfinished t h = g status.Unfinished t h
+  tells_some status.Rejected t h = g status.Rejected t h
   tells_some status.Memory t h = let k = f h.0 h.1 in (k.0, k.1, (h.0, k.2, h.2))
 
   ends_some : (old new : Option (List ℕ)) (s : Status) → EndsBy old new Earlier A s → (x : X) × G x × EndsBy old new (Later x) (B x) s
@@ -254,6 +274,7 @@ module _ {X : Type 0} (G : X → Type 0) (Earlier : List ℕ → Type 0) (Later 
   ends_some old new status.Disagree h = let k = tells_some status.Disagree h.0 h.1 in (k.0, k.1, (h.0, k.2, h.2))
   ends_some old new status.Unfinished h = let k = tells_some status.Unfinished h.0 h.1 in (k.0, k.1, (h.0, k.2, h.2))
   ends_some old new status.Memory h = let k = tells_some status.Memory h.0 h.1 in (k.0, k.1, (h.0, k.2, h.2))
+  ends_some old new status.Rejected h = let k = tells_some status.Rejected h.0 h.1 in (k.0, k.1, (h.0, k.2, h.2))
 
 -- a call that ended with an answer ended with one by what the files hold
 pub ends_held : (Rises : List ℕ → Type 0) (content : Content) (a : Asked) (old new : Option (List ℕ)) (s : Status) → AreReadAlike content (files_of a)

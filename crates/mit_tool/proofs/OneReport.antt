@@ -121,6 +121,7 @@ audit_stops e t q l ss status.Budget x h = absurd h
 audit_stops e t q l ss status.Disagree x h = record { fault = audit_fault.Disagree h.0 h.1; none = λ e. cc; is = h.2; told = refl; line = h.3 }
 audit_stops e t q l ss status.Unfinished x h = record { fault = audit_fault.Unfinished h.0 h.1; none = λ e. cc; is = h.2; told = refl; line = h.3 }
 audit_stops e t q l ss status.Memory x h = absurd h
+audit_stops e t q l ss status.Rejected x h = absurd h
 
 one_audit_stop : (e : EnvName) (t : ℕ) (q : LabelledProgram) (l : Label) (ss : List StartValue) (s u : Status) (x y : List ℕ) → AuditStops e t q l ss s x → AuditStops e t q l ss u y → Same s u x y
 one_audit_stop e t q l ss s u x y h k =
@@ -171,6 +172,7 @@ cut_stops e t q l ss status.Budget x h = absurd h
 cut_stops e t q l ss status.Disagree x h = record { fault = cut_fault.Disagree h.0 h.1; none = λ e. cc; is = h.2; told = refl; line = h.3 }
 cut_stops e t q l ss status.Unfinished x h = absurd h
 cut_stops e t q l ss status.Memory x h = absurd h
+cut_stops e t q l ss status.Rejected x h = absurd h
 
 one_cut_stop : (e : EnvName) (t : ℕ) (q : LabelledProgram) (l : Label) (ss : List StartValue) (s u : Status) (x y : List ℕ) → CutStops e t q l ss s x → CutStops e t q l ss u y → Same s u x y
 one_cut_stop e t q l ss s u x y h k =

@@ -15,11 +15,28 @@ use Rattle.tool_stages.specs.Stages.{Then, Reads, ProgramStops, Types, TypeStops
 use Rattle.mit_tool.specs.Audited.{HasAudited, HasCut}
 use Rattle.tool_texts.specs.Reports.{made_lines}
 use Rattle.tool_texts.specs.Ends.{EndsBy}
-use Rattle.mit_tool.specs.Answers.{HasChecked, HasInferred, HasListed, HasRun, made_content, IsAnswer, typed_content}
-use Rattle.tool_stages.specs.Accepted.{IsAccepted, SpelledAreSound, is_past_typing}
-use Rattle.tool_stages.proofs.EarlyLemmas.{not_late, program_early, observer_early, type_early}
+use Rattle.mit_tool.specs.Answers.{HasChecked, HasInferred, HasListed, HasRun, HasCertified, made_content, IsAnswer, typed_content, HeldIsSound}
+use Rattle.tool_stages.specs.Accepted.{IsAccepted, IsRechecked, SpelledAreSound, TypedAreSound, is_past_typing}
+use Rattle.tool_stages.proofs.EarlyLemmas.{not_late, program_early, observer_early, type_early, certificate_early}
 use Rattle.tool_stages.specs.Content.{Content}
 use Rattle.tool_stages.specs.Begins.{Compiles}
+
+-- what is so of each answer past the typing is so of a call that ended there
+ended_past : (old new : Option (List ℕ)) (Before : List ℕ → Type 0) (A : Status → List ℕ → Type 0) (P : Type 0)
+    → ((s : Status) (t : List ℕ) → IsTrue (is_past_typing s) → A s t → P) → (s : Status) → EndsBy old new Before A s → IsTrue (is_past_typing s) → P
+ended_past old new Before A P f status.Done h past = f status.Done h.0 past h.1
+ended_past old new Before A P f status.Refused h past = cc
+ended_past old new Before A P f status.Syntax h past = cc
+ended_past old new Before A P f status.Starts h past = cc
+ended_past old new Before A P f status.Usage h past = cc
+ended_past old new Before A P f status.ReadFault h past = cc
+ended_past old new Before A P f status.WriteFault h past = cc
+ended_past old new Before A P f status.TooLong h past = cc
+ended_past old new Before A P f status.Budget h past = f status.Budget h.0 past h.1
+ended_past old new Before A P f status.Disagree h past = f status.Disagree h.0 past h.1
+ended_past old new Before A P f status.Unfinished h past = f status.Unfinished h.0 past h.1
+ended_past old new Before A P f status.Memory h past = cc
+ended_past old new Before A P f status.Rejected h past = cc
 
 module _ (sound : SpelledAreSound) where
   accepted : (c : Option (Option (List ℕ))) (p : Syntax) (q : LabelledProgram) → Reads c p → Types p q → IsAccepted c
@@ -54,21 +71,36 @@ module _ (sound : SpelledAreSound) where
     answer_past (cut file starts observer e budget) x =
         compiled_past Rises content file (Some observer) (λ p q o code. Then (StartStops (Rises starts) (content starts) p) (StartsAre (content starts) p) (λ ss. HasCut e budget q o ss)) s t past x
     answer_past (blackbox file first budget) x = tt
-    answer_past (certify file) x = tt
+    answer_past (certify file) x = typed_past (Rises file) (content file) (λ p q. HasCertified q) s t past x
     answer_past (recheck file certificate) x = tt
 
   -- a call that ended past the typing
   pub ends_past : (Rises : List ℕ → Type 0) (content : Content) (a : Asked) (old new : Option (List ℕ)) (Before : List ℕ → Type 0) (s : Status)
       → EndsBy old new Before (IsAnswer Rises content a) s → IsTrue (is_past_typing s) → IfSome (typed_content content a) IsAccepted
-  ends_past Rises content a old new Before status.Done h past = answer_past Rises content status.Done h.0 past a h.1
-  ends_past Rises content a old new Before status.Refused h past = cc
-  ends_past Rises content a old new Before status.Syntax h past = cc
-  ends_past Rises content a old new Before status.Starts h past = cc
-  ends_past Rises content a old new Before status.Usage h past = cc
-  ends_past Rises content a old new Before status.ReadFault h past = cc
-  ends_past Rises content a old new Before status.WriteFault h past = cc
-  ends_past Rises content a old new Before status.TooLong h past = cc
-  ends_past Rises content a old new Before status.Budget h past = answer_past Rises content status.Budget h.0 past a h.1
-  ends_past Rises content a old new Before status.Disagree h past = answer_past Rises content status.Disagree h.0 past a h.1
-  ends_past Rises content a old new Before status.Unfinished h past = answer_past Rises content status.Unfinished h.0 past a h.1
-  ends_past Rises content a old new Before status.Memory h past = cc
+  ends_past Rises content a old new Before s h past = ended_past old new Before (IsAnswer Rises content a) (IfSome (typed_content content a) IsAccepted) (λ s t late x. answer_past Rises content s t late a x) s h past
+
+-- ---- certificates
+
+module _ (sound : TypedAreSound) (Rises : List ℕ → Type 0) (content : Content) where
+  rechecked_past : (file certificate : List ℕ) (s : Status) (t : List ℕ) → IsTrue (is_past_typing s) → IsAnswer Rises content (recheck file certificate) s t → IsRechecked (content file) (content certificate)
+  rechecked_past file certificate s t past (inl x) = absurd (not_late s (program_early (Rises file) (content file) s t x) past)
+  rechecked_past file certificate s t past (inr (p, reads, inl x)) = absurd (not_late s (certificate_early (Rises certificate) (content certificate) p s t x) past)
+  rechecked_past file certificate s t past (inr (p, reads, inr (q, rechecks, n))) =
+      record { program = p; reads = reads; labelled = q; rechecks = rechecks; sound = sound _ p q reads.spelled rechecks.holds.program rechecks.labels.keeps rechecks.typed }
+
+  held_past : (a : Asked) (s : Status) (t : List ℕ) → IsTrue (is_past_typing s) → IsAnswer Rises content a s t → HeldIsSound content a
+  held_past (check file) s t past x = tt
+  held_past (infer file) s t past x = tt
+  held_past (compile file) s t past x = tt
+  held_past (run file starts e budget observer) s t past x = tt
+  held_past (meaning file starts n) s t past x = tt
+  held_past (audit file starts observer e budget) s t past x = tt
+  held_past (gen size number) s t past x = tt
+  held_past (cut file starts observer e budget) s t past x = tt
+  held_past (blackbox file first budget) s t past x = tt
+  held_past (certify file) s t past x = tt
+  held_past (recheck file certificate) s t past x = rechecked_past file certificate s t past x
+
+  pub ends_rechecked : (a : Asked) (old new : Option (List ℕ)) (Before : List ℕ → Type 0) (s : Status)
+      → EndsBy old new Before (IsAnswer Rises content a) s → IsTrue (is_past_typing s) → HeldIsSound content a
+  ends_rechecked a old new Before s h past = ended_past old new Before (IsAnswer Rises content a) (HeldIsSound content a) (λ s t late x. held_past a s t late x) s h past

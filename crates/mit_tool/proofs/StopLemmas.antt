@@ -5,22 +5,24 @@ use Rattle.mit_syntax.specs.Program.{Syntax, plan_of}
 use Rattle.timing_types.specs.Labelled.{LabelledProgram}
 use Rattle.label_code.specs.Shaped.{Code}
 use Rattle.start_file.specs.Starts.{StartValue}
-use Rattle.std.specs.Prelude.{ℤ}
+use Rattle.std.specs.Prelude.{ℤ, Result, Ok, Err, IfErr}
+use Rattle.std.specs.Result.{IsErrAnd}
 use Rattle.std.specs.Io.KnownBytes.{Appends}
 use Rattle.tim_base.specs.Sinks.{AppendsPrefix}
 use Rattle.tool_words.specs.declared.words.EnvName.{EnvName}
-use Rattle.tool_words.specs.WordsAsked.{check, run, meaning}
+use Rattle.tool_words.specs.WordsAsked.{check, run, meaning, recheck}
 use Rattle.tool_texts.specs.declared.status.Status.{Status}
 use Rattle.tool_texts.specs.declared.status.Status.TheVariants.{Done, WriteFault, Memory}
-use Rattle.tool_texts.specs.Ends.{EndsBy}
+use Rattle.tool_texts.specs.declared.stop.Stop.{Stop}
+use Rattle.tool_texts.specs.Ends.{EndsBy, IsStop, status_of, stop_text}
 use Rattle.tool_texts.specs.Texts.{memory_line}
-use Rattle.tool_stages.specs.Stages.{Then, FirstStops, FirstStart}
+use Rattle.tool_stages.specs.Stages.{Then, Reads, FirstStops, FirstStart, CertificateStops}
 use Rattle.tool_stages.specs.Content.{Content}
 use Rattle.tool_stages.specs.Begins.{NoMore, RunStops, MeaningStops, HasSource, IsReady, CheckStops}
 use Rattle.mit_tool.specs.Means.{lines_after, IsLastLine, WritesSome, BreaksOff}
 use Rattle.mit_tool.specs.Answers.{HasBegun, HasRun, IsAnswer, Before}
-use Rattle.tool_texts.proofs.EndLemmas.{ends_after, prefix_longer}
-use Rattle.tool_stages.proofs.StopLemmas.{compiled_goes, compiles_map, starts_next, then_map}
+use Rattle.tool_texts.proofs.EndLemmas.{broke_map, ends_after, prefix_longer}
+use Rattle.tool_stages.proofs.StopLemmas.{certificate_rise, compiled_goes, compiles_map, starts_next, then_map}
 
 abbrev run_next : (List ℕ → Type 0) → Content → Option (List ℕ) → EnvName → ℕ → Syntax → LabelledProgram → Option Label → Code → Status → List ℕ → Type 0
 run_next Rises content starts env budget p q o code = Then (FirstStops Rises content starts p) (FirstStart content starts p) (λ start. HasRun env budget q o code start)
@@ -86,3 +88,23 @@ pub check_stops : (Rises : List ℕ → Type 0) (content : Content) (file : List
 check_stops Rises content file s t (inl h) = inl h
 check_stops Rises content file s t (inr (p, reads, inl h)) = inr (p, reads, inl h)
 check_stops Rises content file s t (inr (p, reads, inr (q, types, h))) = absurd h
+
+-- ---- `recheck`
+
+-- a stop that is handed on
+pub handed_on : {T : Type 0} (r : Result T Stop) (e : Stop) (P : Stop → Type 0) → IsErrAnd r (λ x. x ≡ e) → P e → IfErr r P
+handed_on (Ok x) e P h k = tt
+handed_on (Err x) e P h k = subst P (sym h) k
+
+-- the certificate stops, which is read later
+pub later_certificate_stops : (Rises Rises' : List ℕ → Type 0) (content content' : Content) (file certificate : List ℕ) (p : Syntax) (e : Stop)
+    → ((name : List ℕ) → Rises name → Rises' name) → ((name : List ℕ) → content name ≡ content' name) → Reads (content' file) p
+    → IsStop (CertificateStops (Rises certificate) (content certificate) p) e → IsStop (IsAnswer Rises' content' (recheck file certificate)) e
+later_certificate_stops Rises Rises' content content' file certificate p e f same reads stop =
+    broke_map (CertificateStops (Rises certificate) (content certificate) p) (IsAnswer Rises' content' (recheck file certificate)) (status_of e) (stop_text e)
+    (λ k. inr (
+      p,
+      reads,
+      inl (subst (λ (c : Option (Option (List ℕ))). CertificateStops (Rises' certificate) c p (status_of e) (stop_text e)) (same certificate)
+          (certificate_rise (Rises certificate) (Rises' certificate) (content certificate) p (status_of e) (stop_text e) (f certificate) k)),
+    )) stop

@@ -8,7 +8,7 @@ use Rattle.timing_types.specs.Labelled.{LabelledProgram}
 use Rattle.start_file.specs.Starts.{StartValue}
 use Rattle.tool_words.specs.declared.words.EnvName.{EnvName}
 use Rattle.tool_words.specs.declared.words.EnvName.TheVariants.{Part}
-use Rattle.tool_words.specs.WordsAsked.{infer, compile, audit, cut, blackbox}
+use Rattle.tool_words.specs.WordsAsked.{infer, compile, audit, cut, blackbox, certify, recheck}
 use Rattle.tool_texts.specs.declared.status.Status.TheVariants.{WriteFault}
 use Rattle.tool_texts.specs.Reports.{made_lines}
 use Rattle.tool_stages.specs.Content.{Content}
@@ -23,6 +23,16 @@ pub infer_no_fault : (Rises : List ℕ → Type 0) (content : Content) (file t :
 infer_no_fault Rises content file t (inl h) = h
 infer_no_fault Rises content file t (inr (p, reads, inl h)) = h
 infer_no_fault Rises content file t (inr (p, reads, inr (q, types, h))) = cc (h.0)
+
+pub certify_no_fault : (Rises : List ℕ → Type 0) (content : Content) (file t : List ℕ) → IsAnswer Rises content (certify file) WriteFault t → ⊥
+certify_no_fault Rises content file t (inl h) = h
+certify_no_fault Rises content file t (inr (p, reads, inl h)) = h
+certify_no_fault Rises content file t (inr (p, reads, inr (q, types, h))) = cc (h.0)
+
+pub recheck_no_fault : (Rises : List ℕ → Type 0) (content : Content) (file certificate t : List ℕ) → IsAnswer Rises content (recheck file certificate) WriteFault t → ⊥
+recheck_no_fault Rises content file certificate t (inl h) = h
+recheck_no_fault Rises content file certificate t (inr (p, reads, inl h)) = h
+recheck_no_fault Rises content file certificate t (inr (p, reads, inr (q, rechecks, h))) = cc (h.0)
 
 pub compile_no_fault : (Rises : List ℕ → Type 0) (content : Content) (file t : List ℕ) → IsAnswer Rises content (compile file) WriteFault t → ⊥
 compile_no_fault Rises content file t = compiles_no_fault Rises content file None listed t (λ p q o code h. cc (h.0))

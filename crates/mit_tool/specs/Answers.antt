@@ -5,6 +5,8 @@ use Rattle.mit_syntax.specs.Plan.{count, mitigates}
 use Rattle.mit_syntax.specs.Program.{Syntax, plan_of}
 use Rattle.timing_types.specs.Labelled.{LabelledProgram}
 use Rattle.label_code.specs.Shaped.{Code}
+use Rattle.type_cert.specs.Certificate.{IsCertificate}
+use Rattle.type_cert.specs.Derived.{derived_text}
 use Rattle.label_write.specs.Written.{labelled_text}
 use Rattle.image_print.specs.ImageText.{image_text}
 use Rattle.mit_gen.specs.Made.{program_text, starts_text}
@@ -14,15 +16,16 @@ use Rattle.event_print.specs.declared.end.RunEnd.TheVariants.{Halted, Limit}
 use Rattle.event_print.specs.Text.{Told, text_of}
 use Rattle.tool_words.specs.declared.words.EnvName.{EnvName}
 use Rattle.tool_words.specs.declared.words.EnvName.TheVariants.{Part}
-use Rattle.tool_words.specs.WordsAsked.{Asked, check, infer, compile, run, meaning, audit, gen, cut, blackbox}
+use Rattle.tool_words.specs.WordsAsked.{Asked, check, infer, compile, run, meaning, audit, gen, cut, blackbox, certify, recheck}
 use Rattle.tool_texts.specs.declared.status.Status.{Status}
 use Rattle.tool_texts.specs.declared.status.Status.TheVariants as status
-use Rattle.tool_texts.specs.Texts.{accepted_line, usage_text}
+use Rattle.tool_texts.specs.Texts.{accepted_line, rechecked_line, usage_text}
 use Rattle.tool_texts.specs.Reports.{made_lines}
-use Rattle.tool_stages.specs.Stages.{Then, Reads, ProgramStops, Types, TypeStops, FirstStart, FirstStops, ReadyStops, HoldsRuns}
+use Rattle.tool_stages.specs.Stages.{Then, Reads, ProgramStops, Types, TypeStops, FirstStart, FirstStops, ReadyStops, HoldsRuns, CertificateStops, Rechecks}
 use Rattle.tool_stages.specs.Envs.{told_in}
 use Rattle.tool_stages.specs.Begins.{Compiles, Prepares}
 use Rattle.tool_stages.specs.Content.{Content}
+use Rattle.tool_stages.specs.Accepted.{IsRechecked}
 use Rattle.mit_tool.specs.Audited.{HasAudited, HasCut, HasReleased}
 use Rattle.mit_tool.specs.Means.{lines_after, HasMeant}
 
@@ -55,7 +58,15 @@ HasListed q code s t = (s ≡ status.Done) × (t ≡ image_text q.program code)
 abbrev pub made_content : ℕ → ℕ → Content
 made_content size number name = Some (Some (program_text size number))
 
--- words that ask for nothing, or for what is not offered
+-- the certificate of a program with its labels: the one of its derivation
+abbrev pub HasCertified : LabelledProgram → Status → List ℕ → Type 0
+HasCertified q s t = (s ≡ status.Done) × (t ≡ derived_text q) × IsCertificate q t
+
+-- a certificate is accepted: how many commands and mitigates the program has
+abbrev pub HasRechecked : Syntax → Status → List ℕ → Type 0
+HasRechecked p s t = (s ≡ status.Done) × (t ≡ rechecked_line (count (plan_of p)) (mitigates (plan_of p)))
+
+-- words that ask for nothing
 abbrev pub IsUsage : Status → List ℕ → Type 0
 IsUsage s t = (s ≡ status.Usage) × (t ≡ usage_text)
 
@@ -96,7 +107,14 @@ IsAnswer Rises content (gen size number) = HasGenerated size number
 IsAnswer Rises content (blackbox file first budget) =
     Then (ReadyStops (Rises file) (content file)) (HoldsRuns (content file)) (λ runs.
     HasReleased first budget runs)
-IsAnswer Rises content _ = IsUsage
+IsAnswer Rises content (certify file) =
+    Then (ProgramStops (Rises file) (content file)) (Reads (content file)) (λ p.
+    Then (TypeStops p) (Types p) (λ q.
+    HasCertified q))
+IsAnswer Rises content (recheck file certificate) =
+    Then (ProgramStops (Rises file) (content file)) (Reads (content file)) (λ p.
+    Then (CertificateStops (Rises certificate) (content certificate) p) (Rechecks (content certificate) p) (λ q.
+    HasRechecked p))
 
 -- ---- where memory is wanting
 
@@ -126,4 +144,10 @@ typed_content content (run file starts e budget observer) = Some (content file)
 typed_content content (audit file starts observer e budget) = Some (content file)
 typed_content content (cut file starts observer e budget) = Some (content file)
 typed_content content (gen size number) = Some (Some (Some (program_text size number)))
+typed_content content (certify file) = Some (content file)
 typed_content content a = None
+
+-- the program is sound with the labelling that the certificate holds
+abbrev pub HeldIsSound : Content → Asked → Type 0
+HeldIsSound content (recheck file certificate) = IsRechecked (content file) (content certificate)
+HeldIsSound content a = Unit {0}

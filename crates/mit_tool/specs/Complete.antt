@@ -1,18 +1,21 @@
 -- When a command can be done: what must be so that nothing but want of memory stops it.
 use Rattle.std.specs.Prelude.{◌≤◌, ◌≡◌, ◌^◌, ℕ, List, [], ◌∷◌, All, length, Option, Some, None, codes}
 use Rattle.std.specs.Bool.{⊤}
+use Rattle.tim_base.specs.Faults.{Rose}
 use Rattle.tim_base.specs.Told.{limit, IsTold}
 use Rattle.label_lattice.specs.declared.label.Label.{Label}
 use Rattle.mit_syntax.specs.Program.{Syntax}
+use Rattle.timing_types.specs.Labelled.{LabelledProgram}
 use Rattle.start_file.specs.Starts.{StartValue}
 use Rattle.black_box.specs.Files.{refusal}
 use Rattle.mit_gen.specs.Made.{starts_text}
 use Rattle.tool_words.specs.declared.words.EnvName.TheVariants.{Part}
 use Rattle.tool_words.specs.WordsAsked.{Asked, check, infer, compile, run, meaning, audit, gen, cut, blackbox, certify, recheck}
-use Rattle.tool_stages.specs.Stages.{Reads, Observes, StartsAre, FirstStart}
+use Rattle.tool_texts.specs.declared.status.Status.TheVariants as status
+use Rattle.tool_stages.specs.Stages.{Reads, Observes, StartsAre, FirstStart, HoldsCertificate}
 use Rattle.tool_stages.specs.Content.{Content, IsKnown}
 use Rattle.tool_stages.specs.Goes.{CanBeAudited, CanCompile, CanCut, CanLower, HaltsBy, IsTypable, OfObserver}
-use Rattle.mit_tool.specs.Answers.{made_content}
+use Rattle.mit_tool.specs.Answers.{IsAnswer, made_content}
 
 -- ---- files
 
@@ -43,7 +46,7 @@ NoneRises Rises a = All (λ name. Rises name → ⊥) (files_of a)
 -- ---- commands
 
 -- What must be so beside the files; for `gen`, of the made program from its typing on, and of the starts that are made
--- for it. `certify` and `recheck` are not offered.
+-- for it.
 abbrev pub CanGoOn : Content → Asked → Type 0
 CanGoOn content (check file) = (p : Syntax) × Reads (content file) p × IsTypable p
 CanGoOn content (infer file) = (p : Syntax) × Reads (content file) p × IsTypable p
@@ -64,10 +67,17 @@ CanGoOn content (cut file starts observer e budget) =
     CanCompile (content file) (Some observer) (λ p q o.
     (ss : List StartValue) × StartsAre (content starts) p ss × OfObserver (λ l. CanCut e budget q l ss) o)
 CanGoOn content (blackbox file first budget) = (bytes : List ℕ) × IsTold (content file) bytes × (length bytes ≤ limit) × (refusal bytes ≡ None)
-CanGoOn content (certify file) = ⊥
-CanGoOn content (recheck file certificate) = ⊥
+CanGoOn content (certify file) = (p : Syntax) × Reads (content file) p × IsTypable p
+CanGoOn content (recheck file certificate) =
+    (p : Syntax) × Reads (content file) p × (q : LabelledProgram) × HoldsCertificate (content certificate) p q
 
 -- the files that a command names are told to hold bytes, and with these it can go on to its end
 pub record CanBeDone (content : Content) (a : Asked) : Type 0 where
   pub known : AreKnown content a
   pub goes : CanGoOn content a
+
+-- What `certify` prints of a program `recheck` takes, from a file that is told to hold it and is not too long.
+abbrev pub CertifiedIsTaken : Type 0
+CertifiedIsTaken =
+    (content : Content) (before now : List ℕ → ℕ) (file certificate t : List ℕ) →
+    IsAnswer (λ name. Rose (before name) (now name)) content (certify file) status.Done t → IsTold (content certificate) t → length t ≤ limit → CanGoOn content (recheck file certificate)

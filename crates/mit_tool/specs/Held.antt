@@ -4,7 +4,7 @@ use Rattle.tool_texts.specs.declared.status.Status.{Status}
 use Rattle.tool_texts.specs.declared.status.Status.TheVariants as status
 use Rattle.tool_words.specs.WordsAsked.{Asked}
 use Rattle.tool_texts.specs.Ends.{EndsBy}
-use Rattle.mit_tool.specs.Answers.{IsAnswer, Before, typed_content}
+use Rattle.mit_tool.specs.Answers.{IsAnswer, Before, typed_content, HeldIsSound}
 use Rattle.tool_stages.specs.Accepted.{IsAccepted, is_past_typing}
 use Rattle.mit_tool.specs.Complete.{files_of, CanBeDone, NoneRises}
 use Rattle.tool_stages.specs.Content.{Content}
@@ -27,13 +27,14 @@ AreReadAlike content (first ∷ second ∷ []) = first ≡ second → IsSome (co
 AreReadAlike content names = Unit {0}
 
 -- The files hold bytes by which the call ended with the answer to the command; the program that they spell is accepted,
--- where the call came past the typing; and the command is done, want of memory aside, where by these bytes it can be and
+-- or sound with the labelling that a certificate holds, where the call came past the typing; and the command is done, want of memory aside, where by these bytes it can be and
 -- no count of faults rose.
 pub record EndsByHeld (content : Content) (Rises : List ℕ → Type 0) (Risen : Type 0) (old new : Option (List ℕ)) (a : Asked) (s : Status) : Type 0 where
   pub held : Held
   pub told : HoldsTold content held
   pub answered : EndsBy old new (Before (told_all held) a) (IsAnswer Rises (told_all held) a) s
   pub sound : IsTrue (is_past_typing s) → IfSome (typed_content (told_all held) a) IsAccepted
+  pub rechecked : IsTrue (is_past_typing s) → HeldIsSound (told_all held) a
   pub complete : CanBeDone (told_all held) a → NoneRises Rises a → (Risen → ⊥) → (s ≡ status.Done) ⊎ (s ≡ status.Memory)
 
 -- it is so of a command whose files are read alike

@@ -1,5 +1,6 @@
 //! What is true of every answer.
 
+ghost use Rattle.mit_tool.specs.Complete.{CertifiedIsTaken};
 ghost use Rattle.mit_tool.specs.Once.{HasOneAnswer};
 
 use black_box::laws::one_list_of_outcomes;
@@ -11,3 +12,8 @@ pub fn one_answer()
 {
     one_list_of_outcomes();
 }
+
+/// A law: what `certify` prints of a program can be rechecked with it.
+pub fn certified_is_taken()
+    ensures { CertifiedIsTaken }
+{}

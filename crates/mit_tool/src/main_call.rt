@@ -2,23 +2,25 @@
 
 ghost use Rattle.std.specs.Prelude.{◌≡◌, ◌≤◌, ◌⊎◌, ℕ, List, None, IfSome, IsTrue, map, string_bytes};
 ghost use Rattle.tim_base.specs.Faults.{Rose};
-ghost use Rattle.tool_words.specs.WordsAsked.{IsInRange, command_of, check};
+ghost use Rattle.tool_words.specs.WordsAsked.{IsInRange, command_of, check, recheck};
 ghost use Rattle.tool_words.specs.WordsViews.{asked_of};
 ghost use Rattle.tool_texts.specs.Ends.{EndsBy, Nothing};
 ghost use Rattle.tool_stages.specs.Accepted.{is_past_typing, IsAccepted};
-ghost use Rattle.mit_tool.specs.Answers.{IsAnswer, IsUsage, Before, typed_content};
+ghost use Rattle.mit_tool.specs.Answers.{IsAnswer, IsUsage, Before, typed_content, HeldIsSound};
 ghost use Rattle.mit_tool.specs.Complete.{CanBeDone, NoneRises};
 ghost use Rattle.mit_tool.specs.Held.{EndsByOne};
 ghost use Rattle.mit_tool.specs.Bounded.{AreWithin};
 
 use crate::commands::audit::audit_text;
 use crate::commands::blackbox::blackbox_text;
+use crate::commands::certify::certify_text;
 use crate::commands::check::check_line;
 use crate::commands::compile::compile_text;
 use crate::commands::cut::cut_text;
 use crate::commands::generate::gen_text;
 use crate::commands::infer::infer_text;
 use crate::commands::meaning::meaning;
+use crate::commands::recheck::recheck_line;
 use crate::commands::run::run;
 use black_box::laws::few_release_lists;
 use std::alloc::Global;
@@ -43,6 +45,27 @@ fn check<S: Shelf, W: Sink>(alloc: Global, shelf: &mut S, out: &mut W, file: &st
 {
     match check_line(alloc, shelf, file) {
         Ok(line) => finish(out, line.bytes(), Status::Done),
+        Err(e) => stop(out, e),
+    }
+}
+
+/// Tells whether a file holds a certificate of the program of another one.
+fn recheck<S: Shelf, W: Sink>(
+    alloc: Global,
+    shelf: &mut S,
+    out: &mut W,
+    file: &str,
+    certificate: &str,
+) -> Status
+    ensures same { (name : List ℕ) → S.content shelf.new name ≡ S.content shelf.old name }
+    ensures later { (name : List ℕ) → S.faults shelf.old name ≤ S.faults shelf.new name }
+    ensures later_out { W.faults out.old ≤ W.faults out.new }
+    ensures answered { EndsBy (W.taken out.old) (W.taken out.new) Nothing
+        (IsAnswer (λ name. Rose (S.faults shelf.old name) (S.faults shelf.new name)) (S.content shelf.old) (recheck file.now certificate.now)) result }
+    ensures write { result ≡ Status.WriteFault → Rose (W.faults out.old) (W.faults out.new) }
+{
+    match recheck_line(alloc, shelf, file, certificate) {
+        Ok(rechecked) => finish(out, rechecked.bytes(), Status::Done),
         Err(e) => stop(out, e),
     }
 }
@@ -110,7 +133,8 @@ fn obey<S: Shelf, W: Sink>(
             let text = cut_text(alloc, shelf, file, starts, observer, setting);
             tell(out, text)
         }
-        Command::Certify { .. } | Command::Recheck { .. } => stop(out, Stop::Usage),
+        Command::Certify { file } => tell(out, certify_text(alloc, shelf, file)),
+        Command::Recheck { file, certificate } => recheck(alloc, shelf, out, file, certificate),
     }
 }
 
@@ -128,10 +152,13 @@ fn obey<S: Shelf, W: Sink>(
 /// `sound`: where the command came past the typing of a program, that program is accepted, and in each environment
 /// its image does what it does, and shows few different sequences.
 ///
+/// `rechecked`: where `recheck` is done, the program is sound with the labelling that the certificate holds, also
+/// where it is not the least one.
+///
 /// `complete`: a command that can be done is done, want of memory aside, where no count of faults rose, neither that
 /// of a file that the words name nor that of the sink.
 ///
-/// `one`: these three hold together of one content, the bytes that the files hold, also where the shelf does not tell
+/// `one`: these four hold together of one content, the bytes that the files hold, also where the shelf does not tell
 /// them; so the text is the answer by the very bytes whose program is accepted. Only a file that is named twice has to
 /// be told, since its two readings may differ.
 ///
@@ -150,6 +177,7 @@ pub fn mitigate_main<S: Shelf, W: Sink>(
         → EndsBy (W.taken out.old) (W.taken out.new) Nothing IsUsage result }
     ensures sound { IsTrue (is_past_typing result) → IfSome (command_of (map string_bytes words.now)) (λ a.
         IfSome (typed_content (S.content shelf.old) a) IsAccepted) }
+    ensures rechecked { IsTrue (is_past_typing result) → IfSome (command_of (map string_bytes words.now)) (HeldIsSound (S.content shelf.old)) }
     ensures complete { IfSome (command_of (map string_bytes words.now)) (λ a. CanBeDone (S.content shelf.old) a
         → NoneRises (λ name. Rose (S.faults shelf.old name) (S.faults shelf.new name)) a → (Rose (W.faults out.old) (W.faults out.new) → ⊥)
         → (result ≡ Status.Done) ⊎ (result ≡ Status.Memory)) }

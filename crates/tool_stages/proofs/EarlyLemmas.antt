@@ -7,15 +7,15 @@ use Rattle.mit_syntax.specs.Program.{Syntax}
 use Rattle.timing_types.specs.Labelled.{LabelledProgram}
 use Rattle.label_code.specs.Shaped.{Code}
 use Rattle.tool_texts.specs.declared.status.Status.{Status}
-use Rattle.tool_texts.specs.declared.status.Status.TheVariants.{Done, Refused, Syntax as BadSyntax, Starts, Usage, ReadFault, WriteFault, TooLong, Budget, Disagree, Unfinished, Memory}
+use Rattle.tool_texts.specs.declared.status.Status.TheVariants.{Done, Refused, Syntax as BadSyntax, Starts, Usage, ReadFault, WriteFault, TooLong, Budget, Disagree, Unfinished, Memory, Rejected}
 use Rattle.tool_texts.specs.declared.stop.Stop.{Stop}
-use Rattle.tool_texts.specs.Texts.{File, program as program_file, starts as starts_file}
+use Rattle.tool_texts.specs.Texts.{File, program as program_file, starts as starts_file, certificate as certificate_file}
 use Rattle.tool_texts.specs.Ends.{Broke, IsStop, status_of, stop_text, told_status}
-use Rattle.tool_stages.specs.Stages.{Then, Reads, ProgramStops, ObserverStops, Types, TypeStops, ImageStops, HasStartFault, StartStops, StartsAre}
+use Rattle.tool_stages.specs.Stages.{Then, Reads, ProgramStops, ObserverStops, Types, TypeStops, ImageStops, HasStartFault, StartStops, StartsAre, HasWrongLine, CertificateStops}
 use Rattle.tool_stages.specs.Content.{Content}
 use Rattle.tool_stages.specs.Begins.{Compiles, NoMore, CheckStops, CompileStops, PrepareStops}
 use Rattle.tool_stages.specs.Accepted.{is_past_typing}
-use Rattle.tool_stages.proofs.StageStops.{FileStops, BadText, program_stops, observer_stops, type_stops, image_stops, start_stops}
+use Rattle.tool_stages.proofs.StageStops.{FileStops, BadText, program_stops, observer_stops, type_stops, image_stops, start_stops, certificate_stops}
 
 -- a command that stops did not come past the typing, and no write failed
 pub record IsEarly (s : Status) : Type 0 where
@@ -40,6 +40,7 @@ broke_early A Budget t f h = f h
 broke_early A Disagree t f h = f h
 broke_early A Unfinished t f h = f h
 broke_early A Memory t f h = record { early = refl; no_fault = λ e. cc }
+broke_early A Rejected t f h = f h
 
 -- ---- single statuses
 
@@ -82,6 +83,12 @@ image_early q s t h = subst IsEarly (sym (image_stops q s t h).0) long_early
 
 start_early : (R : Type 0) (c : Option (Option (List ℕ))) (p : Syntax) (s : Status) (t : List ℕ) → StartStops R c p s t → IsEarly s
 start_early R c p s t h = file_early R starts_file c (HasStartFault c p) Starts s t starts_early (start_stops R c p s t h)
+
+rejected_early : IsEarly Rejected
+rejected_early = record { early = refl; no_fault = λ e. cc }
+
+pub certificate_early : (R : Type 0) (c : Option (Option (List ℕ))) (p : Syntax) (s : Status) (t : List ℕ) → CertificateStops R c p s t → IsEarly s
+certificate_early R c p s t h = file_early R certificate_file c (HasWrongLine c p) Rejected s t rejected_early (certificate_stops R c p s t h)
 
 compiles_early : (Rises : List ℕ → Type 0) (content : Content) (file : List ℕ) (observer : Option (List ℕ)) (Next : Syntax → LabelledProgram → Option Label → Code → Status → List ℕ → Type 0) (s : Status) (t : List ℕ)
     → ((p : Syntax) (q : LabelledProgram) (o : Option Label) (code : Code) → Next p q o code s t → IsEarly s) → Compiles Rises content file observer Next s t → IsEarly s

@@ -17,14 +17,15 @@ use Rattle.start_file.proofs.OneAnswer.{one_answer}
 use Rattle.timing_types.specs.Labelled.{LabelledProgram}
 use Rattle.code_lower.specs.declared.lower.TheConstants.{MAX_INSTRUCTIONS}
 use Rattle.code_lower.specs.Lowered.{lowered}
+use Rattle.type_cert.specs.Certificate.{IsCertificate}
 use Rattle.black_box.specs.Files.{refusal}
 use Rattle.tool_texts.specs.declared.status.Status.{Status}
 use Rattle.tool_texts.specs.declared.status.Status.TheVariants as status
-use Rattle.tool_texts.specs.Texts.{program, starts, ready}
-use Rattle.tool_stages.specs.Stages.{Then, Reads, HasTextFault, HasParseFault, ProgramStops, Observes, IsUnknown, ObserverStops, TypeStops, ImageStops, StartsAre, HasStartFault, StartStops, FirstStart, ReadyStops, HasReadyFault}
+use Rattle.tool_texts.specs.Texts.{program, starts, ready, certificate}
+use Rattle.tool_stages.specs.Stages.{Then, Reads, HasTextFault, HasParseFault, ProgramStops, Observes, IsUnknown, ObserverStops, TypeStops, ImageStops, StartsAre, HasStartFault, StartStops, FirstStart, ReadyStops, HasReadyFault, HoldsCertificate, HasWrongLine, CertificateStops}
 use Rattle.tool_stages.specs.Content.{IsKnown}
 use Rattle.tool_stages.specs.Goes.{IsTypable}
-use Rattle.tool_stages.proofs.StageStops.{BadText, file_goes, program_stops, observer_stops, type_stops, image_stops, start_stops, ready_stops}
+use Rattle.tool_stages.proofs.StageStops.{BadText, file_goes, program_stops, observer_stops, type_stops, image_stops, start_stops, ready_stops, certificate_stops}
 
 -- a stage that does not stop
 pub then_goes : {A : Type 0} (Stops : Status → List ℕ → Type 0) (Gives : A → Type 0) (Next : A → Status → List ℕ → Type 0) (s : Status) (t : List ℕ)
@@ -112,6 +113,21 @@ no_ready_fault c bytes t known are none f =
 
 pub ready_goes : (R : Type 0) (c : Option (Option (List ℕ))) (bytes : List ℕ) (s : Status) (t : List ℕ) → (R → ⊥) → IsKnown c → IsTold c bytes → length bytes ≤ limit → refusal bytes ≡ None → ReadyStops R c s t → ⊥
 ready_goes R c bytes s t n known are short k h = file_goes R ready c (HasReadyFault c) status.Starts s t n (not_long c bytes known are short) (no_ready_fault c bytes t known are k) (ready_stops R c s t h)
+
+-- ---- a certificate
+
+-- a program with a labelling
+abbrev with_program : LabelledProgram → Syntax → LabelledProgram
+with_program q p = record { program = p; labels = q.labels }
+
+no_wrong_line : (c : Option (Option (List ℕ))) (p : Syntax) (q : LabelledProgram) (t : List ℕ) → IsKnown c → HoldsCertificate c p q → HasWrongLine c p t → ⊥
+no_wrong_line c p q t known k f =
+    let same : k.bytes ≡ f.bytes = one_told c k.bytes f.bytes known k.are f.are in
+    let is : IsCertificate (with_program q p) k.bytes = subst (λ (z : Syntax). IsCertificate (with_program q z) k.bytes) k.program k.certifies in
+    f.first.none q.labels (subst (λ (z : List ℕ). IsCertificate (with_program q p) z) same is)
+
+pub certificate_goes : (R : Type 0) (c : Option (Option (List ℕ))) (p : Syntax) (q : LabelledProgram) (s : Status) (t : List ℕ) → (R → ⊥) → IsKnown c → HoldsCertificate c p q → CertificateStops R c p s t → ⊥
+certificate_goes R c p q s t n known k h = file_goes R certificate c (HasWrongLine c p) status.Rejected s t n (not_long c k.bytes known k.are k.short) (no_wrong_line c p q t known k) (certificate_stops R c p s t h)
 
 -- ---- a first start of files that are read later
 

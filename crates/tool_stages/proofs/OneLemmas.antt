@@ -21,14 +21,16 @@ use Rattle.label_infer.proofs.OneLeast.{one_least, one_labelled}
 use Rattle.label_code.specs.Shaped.{Code}
 use Rattle.code_lower.specs.declared.lower.TheConstants.{MAX_INSTRUCTIONS}
 use Rattle.code_lower.specs.Lowered.{lowered}
+use Rattle.type_cert.specs.Certificate.{IsFirstWrong}
+use Rattle.type_cert.proofs.FirstWrong.{one_wrong}
 use Rattle.black_box.specs.Files.{refusal}
 use Rattle.tool_texts.specs.declared.status.Status.{Status}
 use Rattle.tool_texts.specs.declared.status.Status.TheVariants as status
-use Rattle.tool_texts.specs.Texts.{File, program, starts, ready, text_fault_line, parse_fault_line, start_fault_line, refused_line, header_name}
+use Rattle.tool_texts.specs.Texts.{File, program, starts, ready, certificate, text_fault_line, parse_fault_line, start_fault_line, refused_line, rejected_line, header_name}
 use Rattle.tool_texts.specs.Reports.{ready_fault_line}
-use Rattle.tool_stages.specs.Stages.{Then, Reads, ProgramStops, ObserverStops, Types, HasNoType, TypeStops, HasImage, ImageStops, StartsAre, HasStartFault, StartStops, HoldsRuns, HasReadyFault, ReadyStops}
+use Rattle.tool_stages.specs.Stages.{Then, Reads, ProgramStops, ObserverStops, Types, HasNoType, TypeStops, HasImage, ImageStops, StartsAre, HasStartFault, StartStops, HoldsRuns, HasReadyFault, ReadyStops, HasWrongLine, CertificateStops}
 use Rattle.tool_stages.specs.Content.{IsKnown}
-use Rattle.tool_stages.proofs.StageStops.{FileStops, BadText, program_stops, observer_stops, type_stops, image_stops, start_stops, ready_stops}
+use Rattle.tool_stages.proofs.StageStops.{FileStops, BadText, program_stops, observer_stops, type_stops, image_stops, start_stops, ready_stops, certificate_stops}
 use Rattle.tool_stages.proofs.GoesLemmas.{one_told, not_long, image_goes, ready_goes}
 
 -- two answers are one
@@ -45,6 +47,15 @@ then_one Stops Gives Next s u t x stop not one next (inr h) (inl k) = absurd (no
 then_one Stops Gives Next s u t x stop not one next (inr h) (inr k) =
     let same : k.0 ≡ h.0 = one k.0 h.0 k.1 h.1 in
     next h.0 h.1 h.2 (subst (λ z. Next z u x) same k.2)
+
+-- a stage after which there is one answer, whatever it gives
+pub then_same : {A : Type 0} (Stops : Status → List ℕ → Type 0) (Gives : A → Type 0) (Next : Status → List ℕ → Type 0) (s u : Status) (t x : List ℕ)
+    → (Stops s t → Stops u x → Same s u t x) → ((a : A) (v : Status) (y : List ℕ) → Gives a → Stops v y → ⊥)
+    → (Next s t → Next u x → Same s u t x) → Then Stops Gives (λ a. Next) s t → Then Stops Gives (λ a. Next) u x → Same s u t x
+then_same Stops Gives Next s u t x stop not next (inl h) (inl k) = stop h k
+then_same Stops Gives Next s u t x stop not next (inl h) (inr k) = absurd (not k.0 s t k.1 h)
+then_same Stops Gives Next s u t x stop not next (inr h) (inl k) = absurd (not h.0 u x h.1 k)
+then_same Stops Gives Next s u t x stop not next (inr h) (inr k) = next h.2 k.2
 
 -- ---- a file
 
@@ -194,3 +205,16 @@ module _ (c : Option (Option (List ℕ))) (known : IsKnown c) where
 
   pub runs_or_not : (runs : List (List ℕ)) (R : Type 0) (s : Status) (t : List ℕ) → (R → ⊥) → HoldsRuns c runs → ReadyStops R c s t → ⊥
   runs_or_not runs R s t n k h = ready_goes R c k.bytes s t n known k.are k.short k.taken h
+
+-- ---- a certificate
+
+module _ (c : Option (Option (List ℕ))) (known : IsKnown c) (p : Syntax) where
+  one_wrong_line : (t x : List ℕ) → HasWrongLine c p t → HasWrongLine c p x → t ≡ x
+  one_wrong_line t x f g =
+      let bytes : f.bytes ≡ g.bytes = one_told c f.bytes g.bytes known f.are g.are in
+      let same : f.number ≡ g.number = one_wrong p g.bytes f.number g.number (subst (λ (z : List ℕ). IsFirstWrong p z f.number) bytes f.first) g.first in
+      f.line ∙ ap rejected_line same ∙ sym g.line
+
+  pub one_certificate_stop : (R : Type 0) (s u : Status) (t x : List ℕ) → (R → ⊥) → CertificateStops R c p s t → CertificateStops R c p u x → Same s u t x
+  one_certificate_stop R s u t x n h k =
+      file_stop R certificate c (HasWrongLine c p) status.Rejected s u t x n (λ t f l. not_long c f.bytes known f.are f.short l) one_wrong_line (certificate_stops R c p s t h) (certificate_stops R c p u x k)

@@ -1,5 +1,5 @@
--- A program with the least labelling that types it is sound.
-use Rattle.std.proofs.Common.{List, sym, subst}
+-- A program with a labelling that types it is sound.
+use Rattle.std.proofs.Common.{◌≡◌, List, sym, subst}
 use Rattle.env_contract.specs.Env.{Env}
 use Rattle.label_lattice.specs.Lattice.{IsLattice}
 use Rattle.label_lattice.specs.Order.{Order, lattice_of}
@@ -13,7 +13,7 @@ use Rattle.mit_parser.specs.Spells.{IsProgram}
 use Rattle.mit_parser.proofs.Small.{numbered_commands}
 use Rattle.parse_laws.proofs.Meant.{program_order}
 use Rattle.timing_types.specs.Labelling.{IsLabelling}
-use Rattle.timing_types.specs.Labelled.{LabelledProgram}
+use Rattle.timing_types.specs.Labelled.{LabelledProgram, HasType}
 use Rattle.leak_bound.specs.Source.{IsTypedWith}
 use Rattle.leak_bound.specs.Over.{LoweredSoundOver, LoweredCutSoundOver}
 use Rattle.tool_stages.specs.Stages.{Types}
@@ -36,18 +36,22 @@ sound_in v serves halted cut p q valid types =
     record { halted = halted q made; cut = cut q made }
 
 -- a program that words spell
-pub spelled_made : (words : List Told) (p : Syntax) (q : LabelledProgram) → IsProgram words p → Types p q → IsTypedWith q
-spelled_made words p q spelled types =
+pub typed_made : (words : List Told) (p : Syntax) (q : LabelledProgram) → IsProgram words p → q.program ≡ p → IsLabelling p q.labels → HasType q → IsTypedWith q
+typed_made words p q spelled is labelling typed =
     let numbered = subst (AreNumbered 0) (sym spelled.resolves.plan) (numbered_commands (scope (header_labels spelled.tree.header).names p.declarations) spelled.tree.commands 0) in
     record {
-      lattice = subst (λ (s : Syntax). IsLattice (lattice_of s.order)) (sym types.program) (order_is p.order (program_order words p spelled));
-      numbered = subst (λ (s : Syntax). AreNumbered 0 (plan_of s)) (sym types.program) numbered;
-      labelling = subst (λ (s : Syntax). IsLabelling s q.labels) (sym types.program) types.least.labels.keeps;
-      typed = types.typed;
+      lattice = subst (λ (s : Syntax). IsLattice (lattice_of s.order)) (sym is) (order_is p.order (program_order words p spelled));
+      numbered = subst (λ (s : Syntax). AreNumbered 0 (plan_of s)) (sym is) numbered;
+      labelling = subst (λ (s : Syntax). IsLabelling s q.labels) (sym is) labelling;
+      typed = typed;
     }
+
+pub typed_in : {E : Type 0} (v : Order → Env E) (serves : Order → E → Type 0) → LoweredSoundOver v serves → LoweredCutSoundOver v serves
+    → (words : List Told) (p : Syntax) (q : LabelledProgram) → IsProgram words p → q.program ≡ p → IsLabelling p q.labels → HasType q → IsSoundIn (v q.program.order) serves q
+typed_in v serves halted cut words p q spelled is labelling typed =
+    let made = typed_made words p q spelled is labelling typed in
+    record { halted = halted q made; cut = cut q made }
 
 pub spelled_in : {E : Type 0} (v : Order → Env E) (serves : Order → E → Type 0) → LoweredSoundOver v serves → LoweredCutSoundOver v serves
     → (words : List Told) (p : Syntax) (q : LabelledProgram) → IsProgram words p → Types p q → IsSoundIn (v q.program.order) serves q
-spelled_in v serves halted cut words p q spelled types =
-    let made = spelled_made words p q spelled types in
-    record { halted = halted q made; cut = cut q made }
+spelled_in v serves halted cut words p q spelled types = typed_in v serves halted cut words p q spelled types.program types.least.labels.keeps types.typed

@@ -8,8 +8,8 @@ use Rattle.code_lower.specs.declared.lower.TheConstants.{MAX_INSTRUCTIONS}
 use Rattle.code_lower.specs.Lowered.{lowered}
 use Rattle.tool_texts.specs.declared.status.Status.{Status}
 use Rattle.tool_texts.specs.declared.status.Status.TheVariants as status
-use Rattle.tool_texts.specs.Texts.{File, program, starts, ready, usage_text, read_fault_line, too_long_line, number_line}
-use Rattle.tool_stages.specs.Stages.{HasTextFault, HasParseFault, ProgramStops, IsUnknown, ObserverStops, HasNoType, TypeStops, ImageStops, HasStartFault, StartStops, HasReadyFault, ReadyStops}
+use Rattle.tool_texts.specs.Texts.{File, program, starts, ready, certificate, usage_text, read_fault_line, too_long_line, number_line}
+use Rattle.tool_stages.specs.Stages.{HasTextFault, HasParseFault, ProgramStops, IsUnknown, ObserverStops, HasNoType, TypeStops, ImageStops, HasStartFault, StartStops, HasReadyFault, ReadyStops, HasWrongLine, CertificateStops}
 
 -- ---- a file: it was not read, is too long, or is faulty
 
@@ -39,6 +39,7 @@ program_stops R c status.Budget t h = absurd h
 program_stops R c status.Disagree t h = absurd h
 program_stops R c status.Unfinished t h = absurd h
 program_stops R c status.Memory t h = absurd h
+program_stops R c status.Rejected t h = absurd h
 
 pub start_stops : (R : Type 0) (c : Option (Option (List ℕ))) (p : Syntax) (s : Status) (t : List ℕ) → StartStops R c p s t → FileStops R starts c (HasStartFault c p) status.Starts s t
 start_stops R c p status.Done t h = absurd h
@@ -53,6 +54,7 @@ start_stops R c p status.Budget t h = absurd h
 start_stops R c p status.Disagree t h = absurd h
 start_stops R c p status.Unfinished t h = absurd h
 start_stops R c p status.Memory t h = absurd h
+start_stops R c p status.Rejected t h = absurd h
 
 pub ready_stops : (R : Type 0) (c : Option (Option (List ℕ))) (s : Status) (t : List ℕ) → ReadyStops R c s t → FileStops R ready c (HasReadyFault c) status.Starts s t
 ready_stops R c status.Done t h = absurd h
@@ -67,6 +69,22 @@ ready_stops R c status.Budget t h = absurd h
 ready_stops R c status.Disagree t h = absurd h
 ready_stops R c status.Unfinished t h = absurd h
 ready_stops R c status.Memory t h = absurd h
+ready_stops R c status.Rejected t h = absurd h
+
+pub certificate_stops : (R : Type 0) (c : Option (Option (List ℕ))) (p : Syntax) (s : Status) (t : List ℕ) → CertificateStops R c p s t → FileStops R certificate c (HasWrongLine c p) status.Rejected s t
+certificate_stops R c p status.Done t h = absurd h
+certificate_stops R c p status.Refused t h = absurd h
+certificate_stops R c p status.Syntax t h = absurd h
+certificate_stops R c p status.Starts t h = absurd h
+certificate_stops R c p status.Usage t h = absurd h
+certificate_stops R c p status.ReadFault t h = inl (refl, h.0, h.1)
+certificate_stops R c p status.WriteFault t h = absurd h
+certificate_stops R c p status.TooLong t h = inr (inl (refl, h.0, h.1))
+certificate_stops R c p status.Budget t h = absurd h
+certificate_stops R c p status.Disagree t h = absurd h
+certificate_stops R c p status.Unfinished t h = absurd h
+certificate_stops R c p status.Memory t h = absurd h
+certificate_stops R c p status.Rejected t h = inr (inr (refl, h))
 
 -- ---- an observer, labels, an image: one status each
 
@@ -83,6 +101,7 @@ observer_stops o w status.Budget t h = absurd h
 observer_stops o w status.Disagree t h = absurd h
 observer_stops o w status.Unfinished t h = absurd h
 observer_stops o w status.Memory t h = absurd h
+observer_stops o w status.Rejected t h = absurd h
 
 pub type_stops : (p : Syntax) (s : Status) (t : List ℕ) → TypeStops p s t → (s ≡ status.Refused) × HasNoType p t
 type_stops p status.Done t h = absurd h
@@ -97,6 +116,7 @@ type_stops p status.Budget t h = absurd h
 type_stops p status.Disagree t h = absurd h
 type_stops p status.Unfinished t h = absurd h
 type_stops p status.Memory t h = absurd h
+type_stops p status.Rejected t h = absurd h
 
 pub image_stops : (q : LabelledProgram) (s : Status) (t : List ℕ) → ImageStops q s t → (s ≡ status.TooLong) × (MAX_INSTRUCTIONS < length (lowered q).instrs) × (t ≡ number_line (codes "too long: image ") (length (lowered q).instrs))
 image_stops q status.Done t h = absurd h
@@ -111,3 +131,4 @@ image_stops q status.Budget t h = absurd h
 image_stops q status.Disagree t h = absurd h
 image_stops q status.Unfinished t h = absurd h
 image_stops q status.Memory t h = absurd h
+image_stops q status.Rejected t h = absurd h

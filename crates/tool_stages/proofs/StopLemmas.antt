@@ -7,10 +7,10 @@ use Rattle.timing_types.specs.Labelled.{LabelledProgram}
 use Rattle.label_code.specs.Shaped.{Code}
 use Rattle.tim_base.specs.Faults.{Rose}
 use Rattle.tool_texts.specs.declared.status.Status.{Status}
-use Rattle.tool_texts.specs.declared.status.Status.TheVariants.{Done, Refused, Syntax as BadSyntax, Starts, Usage, ReadFault, WriteFault, TooLong, Budget, Disagree, Unfinished, Memory}
+use Rattle.tool_texts.specs.declared.status.Status.TheVariants.{Done, Refused, Syntax as BadSyntax, Starts, Usage, ReadFault, WriteFault, TooLong, Budget, Disagree, Unfinished, Memory, Rejected}
 use Rattle.tool_texts.specs.declared.stop.Stop.{Stop}
 use Rattle.tool_texts.specs.Ends.{IsStop, status_of, stop_text}
-use Rattle.tool_stages.specs.Stages.{Then, ProgramStops, ImageStops, StartStops, FirstStops, FirstStart, Reads, Observes, Types}
+use Rattle.tool_stages.specs.Stages.{Then, ProgramStops, ImageStops, StartStops, FirstStops, FirstStart, Reads, Observes, Types, CertificateStops}
 use Rattle.tool_stages.specs.Content.{Content}
 use Rattle.tool_stages.specs.Begins.{Compiles, NoMore, CompileStops, RunStops, MeaningStops, HasCompiled}
 use Rattle.tool_texts.proofs.EndLemmas.{broke_map}
@@ -32,6 +32,7 @@ program_rise R R' c Budget t f h = h
 program_rise R R' c Disagree t f h = h
 program_rise R R' c Unfinished t f h = h
 program_rise R R' c Memory t f h = h
+program_rise R R' c Rejected t f h = h
 
 compiles_rise : (Rises Rises' : List ℕ → Type 0) (content : Content) (file : List ℕ) (observer : Option (List ℕ)) (Next : Syntax → LabelledProgram → Option Label → Code → Status → List ℕ → Type 0) (s : Status) (t : List ℕ)
     → (Rises file → Rises' file) → Compiles Rises content file observer Next s t → Compiles Rises' content file observer Next s t
@@ -96,6 +97,22 @@ start_rise R R' c p Budget t f h = h
 start_rise R R' c p Disagree t f h = h
 start_rise R R' c p Unfinished t f h = h
 start_rise R R' c p Memory t f h = h
+start_rise R R' c p Rejected t f h = h
+
+pub certificate_rise : (R R' : Type 0) (c : Option (Option (List ℕ))) (p : Syntax) (s : Status) (t : List ℕ) → (R → R') → CertificateStops R c p s t → CertificateStops R' c p s t
+certificate_rise R R' c p Done t f h = h
+certificate_rise R R' c p Refused t f h = h
+certificate_rise R R' c p BadSyntax t f h = h
+certificate_rise R R' c p Starts t f h = h
+certificate_rise R R' c p Usage t f h = h
+certificate_rise R R' c p ReadFault t f h = (f h.0, h.1)
+certificate_rise R R' c p WriteFault t f h = h
+certificate_rise R R' c p TooLong t f h = h
+certificate_rise R R' c p Budget t f h = h
+certificate_rise R R' c p Disagree t f h = h
+certificate_rise R R' c p Unfinished t f h = h
+certificate_rise R R' c p Memory t f h = h
+certificate_rise R R' c p Rejected t f h = h
 
 first_rise : (Rises Rises' : List ℕ → Type 0) (content content' : Content) (starts : Option (List ℕ)) (p : Syntax) (s : Status) (t : List ℕ) → ((name : List ℕ) → Rises name → Rises' name) → ((name : List ℕ) → content name ≡ content' name)
     → FirstStops Rises content starts p s t → FirstStops Rises' content' starts p s t

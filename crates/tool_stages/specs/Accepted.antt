@@ -1,19 +1,20 @@
 -- What is true of every accepted program.
-use Rattle.std.specs.Prelude.{ℕ, List, Option, Bool, true, false}
+use Rattle.std.specs.Prelude.{◌≡◌, ℕ, List, Option, Bool, true, false}
 use Rattle.env_contract.specs.Env.{Env}
 use Rattle.label_lattice.specs.Order.{Order}
 use Rattle.mit_syntax.specs.Program.{Syntax, plan_of}
 use Rattle.mit_syntax.specs.Valid.{IsValid}
 use Rattle.mit_parser.specs.Words.{Told}
 use Rattle.mit_parser.specs.Spells.{IsProgram}
-use Rattle.timing_types.specs.Labelled.{LabelledProgram, labels_of, levels_of}
+use Rattle.timing_types.specs.Labelling.{IsLabelling}
+use Rattle.timing_types.specs.Labelled.{LabelledProgram, HasType, labels_of, levels_of}
 use Rattle.code_lower.specs.Lowered.{lowered}
 use Rattle.part_tlb.specs.Histories.{part_by_history, part2_by_history}
 use Rattle.history_bound.specs.Over.{AnyHistory}
 use Rattle.leak_bound.specs.Sound.{Sound, CutSound}
 use Rattle.tool_texts.specs.declared.status.Status.{Status}
 use Rattle.tool_texts.specs.declared.status.Status.TheVariants as status
-use Rattle.tool_stages.specs.Stages.{Reads, Types}
+use Rattle.tool_stages.specs.Stages.{Reads, Types, Rechecks}
 use Rattle.tool_stages.specs.Envs.{flat_env}
 
 -- The image of a labelled program is sound in an environment, for runs that halt and for runs that are cut. Its
@@ -36,12 +37,25 @@ AcceptedAreSound = (p : Syntax) (q : LabelledProgram) → IsValid p → Types p 
 abbrev pub SpelledAreSound : Type 0
 SpelledAreSound = (words : List Told) (p : Syntax) (q : LabelledProgram) → IsProgram words p → Types p q → IsSound q
 
+-- and it is with each labelling that types it, also where that is not the least one
+abbrev pub TypedAreSound : Type 0
+TypedAreSound =
+    (words : List Told) (p : Syntax) (q : LabelledProgram) → IsProgram words p → q.program ≡ p → IsLabelling p q.labels → HasType q → IsSound q
+
 -- the program of a file is accepted
 pub record IsAccepted (content : Option (Option (List ℕ))) : Type 0 where
   pub program : Syntax
   pub reads : Reads content program
   pub labelled : LabelledProgram
   pub types : Types program labelled
+  pub sound : IsSound labelled
+
+-- the program of a file is sound with the labelling that the certificate in another file holds
+pub record IsRechecked (content certificate : Option (Option (List ℕ))) : Type 0 where
+  pub program : Syntax
+  pub reads : Reads content program
+  pub labelled : LabelledProgram
+  pub rechecks : Rechecks certificate program labelled
   pub sound : IsSound labelled
 
 -- the command came past the typing

@@ -26,12 +26,13 @@ use Rattle.label_infer.specs.Least.{Labels, IsLeast}
 use Rattle.label_code.specs.Shaped.{Code}
 use Rattle.code_lower.specs.declared.lower.TheConstants.{MAX_INSTRUCTIONS}
 use Rattle.code_lower.specs.Lowered.{lowered}
+use Rattle.type_cert.specs.Certificate.{IsCertificate, IsFirstWrong}
 use Rattle.black_box.specs.declared.fault.ReadyFault.{ReadyFault}
 use Rattle.black_box.specs.declared.fault.ReadyFault.TheVariants.{Memory}
 use Rattle.black_box.specs.Files.{Holds, refusal}
 use Rattle.tool_texts.specs.declared.status.Status.{Status}
 use Rattle.tool_texts.specs.declared.status.Status.TheVariants as status
-use Rattle.tool_texts.specs.Texts.{program, starts, usage_text, read_fault_line, too_long_line, text_fault_line, parse_fault_line, refused_line, start_fault_line, number_line, header_name, ready}
+use Rattle.tool_texts.specs.Texts.{program, starts, usage_text, read_fault_line, too_long_line, text_fault_line, parse_fault_line, refused_line, start_fault_line, number_line, header_name, ready, certificate, rejected_line}
 use Rattle.tool_texts.specs.Reports.{ready_fault_line}
 
 -- A stage stops with a status and a text, or gives a value, from which the rest goes on.
@@ -185,3 +186,34 @@ ReadyStops Rose content status.ReadFault t = Rose × (t ≡ read_fault_line read
 ReadyStops Rose content status.TooLong t = IsTooLong content × (t ≡ too_long_line ready)
 ReadyStops Rose content status.Starts t = HasReadyFault content t
 ReadyStops Rose content _ t = ⊥
+
+-- ---- a certificate
+
+-- the file's bytes are a certificate of the program, which holds this labelling
+pub record HoldsCertificate (content : Option (Option (List ℕ))) (p : Syntax) (q : LabelledProgram) : Type 0 where
+  pub bytes : List ℕ
+  pub are : IsTold content bytes
+  pub short : length bytes ≤ limit
+  pub program : q.program ≡ p
+  pub certifies : IsCertificate q bytes
+
+-- and the labelling types the program
+pub record Rechecks (content : Option (Option (List ℕ))) (p : Syntax) (q : LabelledProgram) : Type 0 where
+  pub holds : HoldsCertificate content p q
+  pub labels : Labels p q.labels
+  pub typed : HasType q
+
+-- the file's bytes are no certificate of the program; told is their first wrong line
+pub record HasWrongLine (content : Option (Option (List ℕ))) (p : Syntax) (t : List ℕ) : Type 0 where
+  pub bytes : List ℕ
+  pub are : IsTold content bytes
+  pub short : length bytes ≤ limit
+  pub number : ℕ
+  pub first : IsFirstWrong p bytes number
+  pub line : t ≡ rejected_line number
+
+abbrev pub CertificateStops : Type 0 → Option (Option (List ℕ)) → Syntax → Status → List ℕ → Type 0
+CertificateStops Rose content p status.ReadFault t = Rose × (t ≡ read_fault_line certificate)
+CertificateStops Rose content p status.TooLong t = IsTooLong content × (t ≡ too_long_line certificate)
+CertificateStops Rose content p status.Rejected t = HasWrongLine content p t
+CertificateStops Rose content p _ t = ⊥

@@ -1,6 +1,6 @@
 //! What is true of every accepted program.
 
-ghost use Rattle.tool_stages.specs.Accepted.{AcceptedAreSound, SpelledAreSound};
+ghost use Rattle.tool_stages.specs.Accepted.{AcceptedAreSound, SpelledAreSound, TypedAreSound};
 
 use env_contract::flat::FlatEnv;
 use history_bound::laws::lowered_few_sequences_by_history;
@@ -11,6 +11,7 @@ use leak_bound::laws::lowered_few_sequences;
 pub fn accepted_are_sound()
     ensures valid { AcceptedAreSound }
     ensures spelled { SpelledAreSound }
+    ensures typed { TypedAreSound }
 {
     lowered_few_sequences::<FlatEnv>();
     lowered_few_sequences_by_history();

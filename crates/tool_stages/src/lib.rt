@@ -1,6 +1,7 @@
 //! The stages of commands: each gives a value to the next one, or stops the command with its refusal.
 #![tactic(auto)]
 
+pub mod certificate;
 pub mod compiled;
 pub mod image;
 pub mod laws;

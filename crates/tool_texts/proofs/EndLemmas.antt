@@ -6,7 +6,7 @@ use Rattle.std.proofs.KnownBytes.{Appends-trans}
 use Rattle.std.specs.Io.KnownBytes.{Appends}
 use Rattle.tim_base.specs.Sinks.{AppendsPrefix}
 use Rattle.tool_texts.specs.declared.status.Status.{Status}
-use Rattle.tool_texts.specs.declared.status.Status.TheVariants.{Done, Refused, Syntax, Starts, Usage, ReadFault, WriteFault, TooLong, Budget, Disagree, Unfinished, Memory}
+use Rattle.tool_texts.specs.declared.status.Status.TheVariants.{Done, Refused, Syntax, Starts, Usage, ReadFault, WriteFault, TooLong, Budget, Disagree, Unfinished, Memory, Rejected}
 use Rattle.tool_texts.specs.Texts.{memory_line}
 use Rattle.tool_texts.specs.Ends.{Broke, Tells, EndsBy, IsStop, Nothing, status_of, stop_text, told_status, told_text}
 use Rattle.tool_texts.specs.declared.status.Status.TheVariants as status
@@ -26,6 +26,7 @@ tells_broke Before A B Budget t b f h = f t h
 tells_broke Before A B Disagree t b f h = f t h
 tells_broke Before A B Unfinished t b f h = f t h
 tells_broke Before A B Memory t b f h = ([], b, h)
+tells_broke Before A B Rejected t b f h = f t h
 
 pub tells_map : (Before Before' : List ℕ → Type 0) (A B : Status → List ℕ → Type 0) (s : Status) (t : List ℕ) → ((b : List ℕ) → Before b → Before' b) → ((u : List ℕ) → A s u → B s u) → Tells Before A s t → Tells Before' B s t
 tells_map Before Before' A B Done t b f h = f t h
@@ -40,6 +41,7 @@ tells_map Before Before' A B Budget t b f h = f t h
 tells_map Before Before' A B Disagree t b f h = f t h
 tells_map Before Before' A B Unfinished t b f h = f t h
 tells_map Before Before' A B Memory t b f h = (h.0, b h.0 h.1, h.2)
+tells_map Before Before' A B Rejected t b f h = f t h
 
 -- a stop of some stages is one of more stages
 pub broke_map : (A B : Status → List ℕ → Type 0) (s : Status) (t : List ℕ) → (A s t → B s t) → Broke A s t → Broke B s t
@@ -55,6 +57,7 @@ broke_map A B Budget t f h = f h
 broke_map A B Disagree t f h = f h
 broke_map A B Unfinished t f h = f h
 broke_map A B Memory t f h = h
+broke_map A B Rejected t f h = f h
 
 -- the text was written
 pub ends_at : (old new : Option (List ℕ)) (Before : List ℕ → Type 0) (A : Status → List ℕ → Type 0) (r : Status) (t : List ℕ) → r ≢ WriteFault → Tells Before A r t → Appends old new t → EndsBy old new Before A r
@@ -70,6 +73,7 @@ ends_at old new Before A Budget t n h w = (t, h, w)
 ends_at old new Before A Disagree t n h w = (t, h, w)
 ends_at old new Before A Unfinished t n h w = (t, h, w)
 ends_at old new Before A Memory t n h w = (t, h, w)
+ends_at old new Before A Rejected t n h w = (t, h, w)
 
 -- a text was written, or a write failed
 pub ends_finish : (old new : Option (List ℕ)) (Before : List ℕ → Type 0) (A : Status → List ℕ → Type 0) (s : Status) (t : List ℕ) (r : Status) → Tells Before A s t
@@ -86,6 +90,7 @@ ends_finish old new Before A s t Budget h told prefix = let k = told (λ e. cc) 
 ends_finish old new Before A s t Disagree h told prefix = let k = told (λ e. cc) in (t, subst (λ (z : Status). Tells Before A z t) (sym k.0) h, k.1)
 ends_finish old new Before A s t Unfinished h told prefix = let k = told (λ e. cc) in (t, subst (λ (z : Status). Tells Before A z t) (sym k.0) h, k.1)
 ends_finish old new Before A s t Memory h told prefix = let k = told (λ e. cc) in (t, subst (λ (z : Status). Tells Before A z t) (sym k.0) h, k.1)
+ends_finish old new Before A s t Rejected h told prefix = let k = told (λ e. cc) in (t, subst (λ (z : Status). Tells Before A z t) (sym k.0) h, k.1)
 
 -- the text of a stop was written, or a write failed
 pub ends_stop : (old new : Option (List ℕ)) (Before : List ℕ → Type 0) (A B : Status → List ℕ → Type 0) (s : Status) (t : List ℕ) (r : Status) → Before [] → ((u : List ℕ) → A s u → B s u) → Broke A s t
@@ -112,6 +117,7 @@ ends_map old new Before Before' A B Budget b f h = (h.0, tells_map Before Before
 ends_map old new Before Before' A B Disagree b f h = (h.0, tells_map Before Before' A B Disagree h.0 b (f Disagree) h.1, h.2)
 ends_map old new Before Before' A B Unfinished b f h = (h.0, tells_map Before Before' A B Unfinished h.0 b (f Unfinished) h.1, h.2)
 ends_map old new Before Before' A B Memory b f h = (h.0, tells_map Before Before' A B Memory h.0 b (f Memory) h.1, h.2)
+ends_map old new Before Before' A B Rejected b f h = (h.0, tells_map Before Before' A B Rejected h.0 b (f Rejected) h.1, h.2)
 
 -- ---- after bytes that were written before
 
@@ -149,6 +155,7 @@ ends_done old new Before A status.Budget h n f = inl (f h.0 h.1)
 ends_done old new Before A status.Disagree h n f = inl (f h.0 h.1)
 ends_done old new Before A status.Unfinished h n f = inl (f h.0 h.1)
 ends_done old new Before A status.Memory h n f = inr refl
+ends_done old new Before A status.Rejected h n f = inl (f h.0 h.1)
 
 -- ---- a text or a stop that was made before it is written
 

@@ -16,3 +16,4 @@ exit_number status.Budget = 8
 exit_number status.Disagree = 9
 exit_number status.Unfinished = 10
 exit_number status.Memory = 11
+exit_number status.Rejected = 12

@@ -45,11 +45,13 @@ pub data File : Type 0 where
   program : File
   starts : File
   ready : File
+  certificate : File
 
 abbrev pub file_name : File → List ℕ
 file_name program = codes "program"
 file_name starts = codes "starts"
 file_name ready = codes "ready"
+file_name certificate = codes "certificate"
 
 abbrev pub read_fault_line : File → List ℕ
 read_fault_line f = codes "read fault: " ++ (file_name f ++ codes "\n")
@@ -139,10 +141,22 @@ start_fault_line (start.NotNumber n) = run_line n (codes "not a number")
 start_fault_line (start.BadTouch n) = run_line n (codes "bad touch")
 start_fault_line start.Memory = memory_line
 
+-- some words, a number of commands, and a number of mitigates
+abbrev pub counted_line : List ℕ → ℕ → ℕ → List ℕ
+counted_line words commands mitigates =
+    words ++ (decimal commands ++ (codes ", mitigates " ++ (decimal mitigates ++ codes "\n")))
+
 -- what `check` tells of an accepted program
 abbrev pub accepted_line : ℕ → ℕ → List ℕ
-accepted_line commands mitigates =
-    codes "accepted: commands " ++ (decimal commands ++ (codes ", mitigates " ++ (decimal mitigates ++ codes "\n")))
+accepted_line commands mitigates = counted_line (codes "accepted: commands ") commands mitigates
+
+-- what `recheck` tells of a program whose certificate is accepted
+abbrev pub rechecked_line : ℕ → ℕ → List ℕ
+rechecked_line commands mitigates = counted_line (codes "rechecked: commands ") commands mitigates
+
+-- the first wrong line of bytes that are no certificate
+abbrev pub rejected_line : ℕ → List ℕ
+rejected_line n = number_line (codes "rejected: line ") n
 
 -- ---- a run without its time
 

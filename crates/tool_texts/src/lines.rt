@@ -3,7 +3,7 @@
 ghost use Rattle.std.specs.Prelude.{◌≡◌, ◌+◌, ◌≤◌, ◌++◌, length, decimal, codes};
 ghost use Rattle.label_lattice.specs.Order.{name_of};
 ghost use Rattle.mit_syntax.specs.Cut.{AreTokens};
-ghost use Rattle.tool_texts.specs.Texts.{header_name, memory_line, number_line, pos_text, at_line, text_fault_line, labels_line, lattice_fault_line, parse_fault_line, rule_name, refused_line, run_line, start_fault_line, accepted_line};
+ghost use Rattle.tool_texts.specs.Texts.{header_name, memory_line, number_line, pos_text, at_line, text_fault_line, labels_line, lattice_fault_line, parse_fault_line, rule_name, refused_line, run_line, start_fault_line, counted_line, accepted_line, rechecked_line, rejected_line};
 
 pub mod report;
 pub mod steps;
@@ -259,15 +259,37 @@ pub fn start_fault(fault: StartFault) -> Line
     }
 }
 
-/// The line of an accepted program, by its numbers of commands and of mitigates.
-pub fn accepted(commands: u32, mitigates: u32) -> Line
-    ensures { result ≡ accepted_line commands mitigates }
+// Words, a number of commands, and a number of mitigates.
+fn counted(words: &[u8], commands: u32, mitigates: u32) -> Line
+    requires { length words.now ≤ 64 }
+    ensures { result ≡ counted_line words.now commands mitigates }
 {
     let mut line = Line::new();
-    put(&mut line, b"accepted: commands ");
+    put(&mut line, words);
     put_number(&mut line, u64::from(commands));
     put(&mut line, b", mitigates ");
     put_number(&mut line, u64::from(mitigates));
     put(&mut line, b"\n");
     line
+}
+
+/// The line of an accepted program, by its numbers of commands and of mitigates.
+pub fn accepted(commands: u32, mitigates: u32) -> Line
+    ensures { result ≡ accepted_line commands mitigates }
+{
+    counted(b"accepted: commands ", commands, mitigates)
+}
+
+/// The line of a program whose certificate is accepted, by its numbers of commands and of mitigates.
+pub fn rechecked(commands: u32, mitigates: u32) -> Line
+    ensures { result ≡ rechecked_line commands mitigates }
+{
+    counted(b"rechecked: commands ", commands, mitigates)
+}
+
+/// The line of bytes that are no certificate, by their first wrong line.
+pub fn rejected(first_wrong: u32) -> Line
+    ensures { result ≡ rejected_line first_wrong }
+{
+    number(b"rejected: line ", u64::from(first_wrong))
 }

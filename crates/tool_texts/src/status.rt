@@ -30,6 +30,8 @@ pub enum Status {
     Unfinished,
     /// There was no memory.
     Memory,
+    /// The bytes are no certificate of the program.
+    Rejected,
 }
 
 impl Status {
@@ -50,6 +52,7 @@ impl Status {
             Status::Disagree => 9,
             Status::Unfinished => 10,
             Status::Memory => 11,
+            Status::Rejected => 12,
         }
     }
 }

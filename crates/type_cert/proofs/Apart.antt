@@ -23,6 +23,7 @@ use Rattle.type_cert.specs.Reading.{ReadsLine, ReadsVariable}
 use Rattle.type_cert.specs.Certificate.{spread, places_of, no_line, line_at, AllFit, FitsDeclaration, FitsPlace, BeginsWith, AreRight, IsFirstWrong}
 use Rattle.type_cert.proofs.Placing.{length_places}
 use Rattle.type_cert.proofs.Earlier.{LooksBack, all_back, meets_same}
+use Rattle.type_cert.proofs.Shorter.{right_before}
 use Rattle.type_cert.proofs.Following.{more_labels, MoreLines, more_lines}
 
 pub fit_length : {A B : Type 0} (R : A → B → Type 0) (as' : List A) (bs : List B) → AllFit R as' bs → length bs ≤ length as'
@@ -170,9 +171,7 @@ module _ (s : Syntax) (valid : IsValid s) where
       ((ms : List Label) (ys : List Line) (r : List ℕ) → BeginsWith s ms ys bytes r → k ≤ length ms + length ys → ⊥) → IsFirstWrong s bytes n
   is_first_wrong bytes n k en few right apart =
       record {
-        before = k;
-        number = en;
-        right = right;
+        right = λ j l. right_before s valid bytes k j (omega (arith, l, en)) right;
         wrong = λ w. ⊎_elim (λ (z : n ≡ 0). absurd (omega (arith, z, en))) (λ z. let e = z.4 in apart z.0 z.1 z.2 z.3 (omega (arith, e, en))) w;
         none = λ l c. let a = c.all_variables in let m = c.all_commands in apart c.variables c.lines [] c.begins (omega (arith, few, a, m));
       }
@@ -182,9 +181,7 @@ module _ (s : Syntax) (valid : IsValid s) where
       n ≡ length ls + length xs + 2 → IsFirstWrong s bytes n
   is_surplus ls xs bytes q n h el ex some en =
       record {
-        before = 1 + length ls + length xs;
-        number = omega (arith, en);
-        right = inr (ls, xs, q, h, refl);
+        right = λ j l. right_before s valid bytes (1 + length ls + length xs) j (omega (arith, l, en)) (inr (ls, xs, q, h, refl));
         wrong = λ w. ⊎_elim (λ (z : n ≡ 0). absurd (omega (arith, z, en)))
             (λ z.
             let e = z.4 in

@@ -1,6 +1,7 @@
 pub mod Cuts
 pub mod Placing
 pub mod Earlier
+pub mod Shorter
 pub mod Sound
 pub mod Marks
 pub mod Spread
@@ -13,6 +14,7 @@ pub mod Complete
 pub mod Held
 pub mod Back
 pub mod Loop
+pub mod FirstWrong
 pub mod Deriving
 pub mod Lines
 pub mod Writing

@@ -83,11 +83,9 @@ pub record IsCertificate (q : LabelledProgram) (bytes : List ℕ) : Type 0 where
   pub all_commands : length lines ≡ count (plan_of q.program)
   pub labels : q.labels ≡ held_in q.program variables lines
 
--- Line n is the first wrong one: all lines before it are right, it is not right, and the bytes are no certificate.
--- After the last line of a certificate that is the line in which anything else follows.
+-- Line n is the first wrong one: the first lines are right, however many of those before it, but not with it, and
+-- the bytes are no certificate. After the last line of a certificate that is the line in which anything else follows.
 pub record IsFirstWrong (s : Syntax) (bytes : List ℕ) (n : ℕ) : Type 0 where
-  pub before : ℕ
-  pub number : n ≡ before + 1
-  pub right : AreRight s bytes before
+  pub right : (k : ℕ) → k < n → AreRight s bytes k
   pub wrong : AreRight s bytes n → ⊥
   pub none : (l : Labelling) → IsCertificate (record { program = s; labels = l }) bytes → ⊥

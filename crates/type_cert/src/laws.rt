@@ -1,6 +1,6 @@
 //! What is true of certificates, as contracts of functions that do nothing.
 
-ghost use Rattle.type_cert.specs.Laws.{CertificatesAreDerivations, HeldLabellingTypes, HoldsOneLabelling, DerivedTextsAreCertificates, CertificatesHaveNoWrongLine};
+ghost use Rattle.type_cert.specs.Laws.{CertificatesAreDerivations, HeldLabellingTypes, HoldsOneLabelling, DerivedTextsAreCertificates, CertificatesHaveNoWrongLine, HasOneFirstWrong};
 
 /// A program has a certificate exactly where some labelling types it.
 pub fn certificates_are_derivations()
@@ -20,6 +20,11 @@ pub fn holds_one_labelling()
 /// No line of a certificate is wrong: a certificate is never refused.
 pub fn certificates_have_no_wrong_line()
     ensures { CertificatesHaveNoWrongLine }
+{}
+
+/// Bytes have one first wrong line at most.
+pub fn one_first_wrong()
+    ensures { HasOneFirstWrong }
 {}
 
 /// What `certificate` writes of a labelling that types the program is a certificate, and holds that labelling.

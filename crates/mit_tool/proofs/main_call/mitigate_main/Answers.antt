@@ -6,7 +6,7 @@ use Rattle.tool_words.specs.WordsViews.{asked_of}
 use Rattle.tool_texts.specs.declared.status.Status.TheVariants.{Done, Usage, Memory}
 use Rattle.tool_texts.specs.Texts.{usage_text}
 use Rattle.tool_texts.specs.Ends.{EndsBy, Nothing}
-use Rattle.mit_tool.specs.Answers.{IsAnswer, IsUsage, Before}
+use Rattle.mit_tool.specs.Answers.{IsAnswer, IsUsage, Before, HeldIsSound}
 use Rattle.mit_tool.specs.Complete.{CanBeDone, NoneRises}
 use Rattle.tool_texts.proofs.EndLemmas.{ends_finish, ends_memory}
 use Rattle.mit_tool.proofs.AskedLemmas.{any_some, nothing_before, asked_some}
@@ -14,7 +14,7 @@ use Rattle.mit_tool.specs.Held.{EndsByOne, told_all}
 use Rattle.mit_tool.specs.Bounded.{AreWithin}
 use Rattle.mit_tool.proofs.CompleteLemmas.{completes}
 use Rattle.mit_tool.proofs.OneHeld.{ends_held}
-use Rattle.mit_tool.proofs.PastLemmas.{ends_past}
+use Rattle.mit_tool.proofs.PastLemmas.{ends_past, ends_rechecked}
 use Rattle.mit_tool.proofs.BoundLemmas.{within}
 use Rattle.mit_tool.proofs.main_call.mitigate_main.Goals as goal
 
@@ -50,6 +50,14 @@ returns-in-Err-Memory-clause-complete g c =
     any_some (command_of (map string_bytes c.args.words.now)) (λ (a : Asked). CanBeDone content a → NoneRises rises a → (risen → ⊥) → (c.finish.result ≡ Done) ⊎ (c.finish.result ≡ Memory))
     (λ a can none n. inr (c.finish.ensures.told (λ e. n (c.finish.ensures.fault e))).0)
 
+pub returns-in-Ok-clause-rechecked : goal.returns-in-Ok-clause-rechecked
+returns-in-Ok-clause-rechecked g c = λ past.
+    let content = g.S.Shelf.content c.args.shelf.now in
+    let rises = λ (name : List ℕ). Rose (g.S.Shelf.faults c.args.shelf.now name) (g.S.Shelf.faults c.obey.new.shelf name) in
+    let a = asked_of c.in-Ok.command in
+    asked_some (command_of (map string_bytes c.args.words.now)) a (HeldIsSound content) c.in-Ok.ensures.asked
+    (ends_rechecked c.accepted_are_sound.ensures.typed rises content a (g.W.Sink.taken c.args.out.now) (g.W.Sink.taken c.obey.new.out) (Before content a) c.obey.result c.obey.ensures.answered past)
+
 pub returns-in-Ok-clause-one : goal.returns-in-Ok-clause-one
 returns-in-Ok-clause-one g c =
     let content = g.S.Shelf.content c.args.shelf.now in
@@ -67,6 +75,7 @@ returns-in-Ok-clause-one g c =
       told = k.1;
       answered = k.2;
       sound = ends_past c.accepted_are_sound.ensures.spelled rises (told_all k.0) a old new (Before (told_all k.0) a) c.obey.result k.2;
+      rechecked = ends_rechecked c.accepted_are_sound.ensures.typed rises (told_all k.0) a old new (Before (told_all k.0) a) c.obey.result k.2;
       complete = completes old new rises (told_all k.0) a c.obey.result risen k.2 c.obey.ensures.write c.in-Ok.ensures.range;
     })
 
@@ -86,6 +95,7 @@ returns-in-Err-Memory-clause-one g c =
       told = k.1;
       answered = k.2;
       sound = ends_past c.accepted_are_sound.ensures.spelled rises (told_all k.0) a old new (Before (told_all k.0) a) c.finish.result k.2;
+      rechecked = ends_rechecked c.accepted_are_sound.ensures.typed rises (told_all k.0) a old new (Before (told_all k.0) a) c.finish.result k.2;
       complete = λ can none n. inr (c.finish.ensures.told (λ e. n (c.finish.ensures.fault e))).0;
     })
 

@@ -1,19 +1,16 @@
-use Rattle.std.proofs.Common.{◌≡◌, ◌⊎◌, ℕ, List, Bor, inl, inr, refl, sym, subst}
+use Rattle.std.proofs.Common.{ℕ, List, sym, subst}
 use Rattle.tim_base.specs.Faults.{Rose}
 use Rattle.std.specs.Prelude.{IfSome, IsTrue, Some}
 use Rattle.mit_gen.specs.Made.{program_text}
 use Rattle.tool_words.specs.declared.words.Command.{Command}
-use Rattle.tool_words.specs.declared.words.Command.TheVariants.{Certify, Recheck}
 use Rattle.tool_words.specs.WordsViews.{asked_of}
-use Rattle.tool_words.specs.WordsAsked.{infer, compile, audit, cut, blackbox}
-use Rattle.tool_texts.specs.declared.status.Status.TheVariants.{Usage}
-use Rattle.tool_texts.specs.Texts.{usage_text}
+use Rattle.tool_words.specs.WordsAsked.{infer, compile, audit, cut, blackbox, certify}
 use Rattle.tool_texts.specs.Ends.{EndsBy, Nothing, told_status, told_text}
 use Rattle.tool_stages.specs.Accepted.{is_past_typing, IsAccepted}
-use Rattle.mit_tool.specs.Answers.{IsAnswer, IsUsage, Before, HasGenerated, typed_content}
+use Rattle.mit_tool.specs.Answers.{IsAnswer, Before, HasGenerated, typed_content}
 use Rattle.tool_texts.proofs.EndLemmas.{result_tells, no_fault, ends_finish}
 use Rattle.tool_stages.proofs.EarlyLemmas.{told_sound}
-use Rattle.mit_tool.proofs.TellLemmas.{infer_no_fault, compile_no_fault, audit_no_fault, cut_no_fault, gen_no_fault, blackbox_no_fault}
+use Rattle.mit_tool.proofs.TellLemmas.{infer_no_fault, compile_no_fault, audit_no_fault, cut_no_fault, gen_no_fault, blackbox_no_fault, certify_no_fault}
 use Rattle.mit_tool.proofs.main_call.obey.Goals as goal
 
 pub returns-in-Check-clause-answered : goal.returns-in-Check-clause-answered
@@ -154,16 +151,29 @@ returns-in-Cut-clause-sound g c =
     subst (λ (x : Command). IsTrue (is_past_typing c.tell-in-Cut.result) → IfSome (typed_content content (asked_of x)) IsAccepted) (sym c.in-Cut.is)
     (told_sound c.cut_text-text.result (IsAccepted (content c.in-Cut.file.now)) c.tell-in-Cut.result c.cut_text-text.ensures.sound c.cut_text-text.ensures.sound_stop (λ n. (c.tell-in-Cut.ensures.told n).0))
 
--- a command that is not offered
-not_offered : (P : Command → Type 0) (x : Command) → ((f : Bor (List ℕ)) → P (Certify f)) → ((f k : Bor (List ℕ)) → P (Recheck f k))
-    → ((f : Bor (List ℕ)) × (x ≡ Certify f)) ⊎ ((f : Bor (List ℕ)) × (k : Bor (List ℕ)) × (x ≡ Recheck f k)) → P x
-not_offered P x d r (inl (f, e)) = subst P (sym e) (d f)
-not_offered P x d r (inr (f, k, e)) = subst P (sym e) (r f k)
+pub tell-requires-in-Certify : goal.tell-requires-in-Certify
+tell-requires-in-Certify g c =
+    let content = g.S.Shelf.content c.args.shelf.now in
+    let rises = λ (name : List ℕ). Rose (g.S.Shelf.faults c.args.shelf.now name) (g.S.Shelf.faults c.certify_text.new.shelf name) in
+    no_fault (IsAnswer rises content (certify c.in-Certify.file.now)) c.certify_text.result (certify_no_fault rises content c.in-Certify.file.now) c.certify_text.ensures.stop
 
 pub returns-in-Certify-clause-answered : goal.returns-in-Certify-clause-answered
 returns-in-Certify-clause-answered g c =
     let content = g.S.Shelf.content c.args.shelf.now in
-    let rises = λ (name : List ℕ). Rose (g.S.Shelf.faults c.args.shelf.now name) (g.S.Shelf.faults c.args.shelf.now name) in
-    let usage = ends_finish (g.W.Sink.taken c.args.out.now) (g.W.Sink.taken c.stop.new.out) Nothing IsUsage Usage usage_text c.stop.result (refl, refl) c.stop.ensures.told c.stop.ensures.prefix in
-    not_offered (λ (x : Command). EndsBy (g.W.Sink.taken c.args.out.now) (g.W.Sink.taken c.stop.new.out) (Before content (asked_of x)) (IsAnswer rises content (asked_of x)) c.stop.result) c.args.command
-    (λ f. usage) (λ f k. usage) c.in-Certify.is
+    let rises = λ (name : List ℕ). Rose (g.S.Shelf.faults c.args.shelf.now name) (g.S.Shelf.faults c.certify_text.new.shelf name) in
+    let answer = IsAnswer rises content (certify c.in-Certify.file.now) in
+    subst (λ (x : Command). EndsBy (g.W.Sink.taken c.args.out.now) (g.W.Sink.taken c.tell-in-Certify.new.out) (Before content (asked_of x)) (IsAnswer rises content (asked_of x)) c.tell-in-Certify.result) (sym c.in-Certify.is)
+    (ends_finish (g.W.Sink.taken c.args.out.now) (g.W.Sink.taken c.tell-in-Certify.new.out) Nothing answer (told_status c.certify_text.result) (told_text c.certify_text.result) c.tell-in-Certify.result
+    (result_tells answer c.certify_text.result c.certify_text.ensures.text c.certify_text.ensures.stop) c.tell-in-Certify.ensures.told c.tell-in-Certify.ensures.prefix)
+
+pub returns-in-Certify-clause-sound : goal.returns-in-Certify-clause-sound
+returns-in-Certify-clause-sound g c =
+    let content = g.S.Shelf.content c.args.shelf.now in
+    subst (λ (x : Command). IsTrue (is_past_typing c.tell-in-Certify.result) → IfSome (typed_content content (asked_of x)) IsAccepted) (sym c.in-Certify.is)
+    (told_sound c.certify_text.result (IsAccepted (content c.in-Certify.file.now)) c.tell-in-Certify.result c.certify_text.ensures.sound c.certify_text.ensures.sound_stop (λ n. (c.tell-in-Certify.ensures.told n).0))
+
+pub returns-in-Recheck-clause-answered : goal.returns-in-Recheck-clause-answered
+returns-in-Recheck-clause-answered g c =
+    let content = g.S.Shelf.content c.args.shelf.now in
+    let rises = λ (name : List ℕ). Rose (g.S.Shelf.faults c.args.shelf.now name) (g.S.Shelf.faults c.recheck.new.shelf name) in
+    subst (λ (x : Command). EndsBy (g.W.Sink.taken c.args.out.now) (g.W.Sink.taken c.recheck.new.out) (Before content (asked_of x)) (IsAnswer rises content (asked_of x)) c.recheck.result) (sym c.in-Recheck.is) c.recheck.ensures.answered

@@ -1,0 +1,41 @@
+//! `certify`: a certificate of a program's least labelling.
+
+ghost use Rattle.std.specs.Prelude.{◌≡◌, ◌≤◌, ℕ, List, IfOk, IfErr, OnOk, IsTrue};
+ghost use Rattle.tim_base.specs.Faults.{Rose};
+ghost use Rattle.tool_words.specs.WordsAsked.{certify};
+ghost use Rattle.tool_texts.specs.Ends.{IsStop, status_of};
+ghost use Rattle.tool_stages.specs.Accepted.{is_past_typing, IsAccepted};
+ghost use Rattle.mit_tool.specs.Answers.{IsAnswer};
+
+use std::alloc::Global;
+use tim_base::shelf::Shelf;
+use tool_stages::laws::accepted_are_sound;
+use tool_stages::program::read_program;
+use tool_stages::types::typed;
+use tool_texts::status::Status;
+use tool_texts::stop::{Stop, no_memory};
+use type_cert::certificate::certificate;
+use type_cert::laws::derived_texts_are_certificates;
+
+/// The certificate of the program of a file with its least labelling.
+///
+/// # Errors
+/// Stops with the first refusal, or with `Memory`.
+pub fn certify_text<S: Shelf>(alloc: Global, shelf: &mut S, file: &str) -> Result<Vec<u8>, Stop>
+    ensures same { (name : List ℕ) → S.content shelf.new name ≡ S.content shelf.old name }
+    ensures later { (name : List ℕ) → S.faults shelf.old name ≤ S.faults shelf.new name }
+    ensures text { IfOk result (λ v. IsAnswer (λ name. Rose (S.faults shelf.old name) (S.faults shelf.new name)) (S.content shelf.old) (certify file.now) Status.Done v.items) }
+    ensures stop { IfErr result (IsStop (IsAnswer (λ name. Rose (S.faults shelf.old name) (S.faults shelf.new name)) (S.content shelf.old) (certify file.now))) }
+    ensures sound { OnOk result (IsAccepted (S.content shelf.old file.now)) }
+    ensures sound_stop { IfErr result (λ e. IsTrue (is_past_typing (status_of e)) → IsAccepted (S.content shelf.old file.now)) }
+{
+    let program = read_program(alloc, shelf, file)?;
+    let _ = program.body();
+    let typed = typed(alloc, program)?;
+    accepted_are_sound();
+    derived_texts_are_certificates();
+    match certificate(alloc, typed.labelled()) {
+        Ok(text) => Ok(text),
+        Err(_) => Err(no_memory()),
+    }
+}
