@@ -4,7 +4,6 @@ use Rattle.label_lattice.specs.declared.label.Label.{Label}
 use Rattle.timing_types.specs.Labelled.{LabelledProgram}
 use Rattle.start_file.specs.Starts.{StartValue}
 use Rattle.leak_audit.specs.declared.report.AuditReport.{AuditReport}
-use Rattle.leak_audit.specs.declared.report.AuditFault.{AuditFault}
 use Rattle.cut_audit.specs.declared.report.CutReport.{CutReport}
 use Rattle.cut_audit.specs.declared.report.CutFault.{CutFault}
 use Rattle.tool_words.specs.declared.words.EnvName.{EnvName}
@@ -13,19 +12,10 @@ use Rattle.tool_texts.specs.declared.status.Status.TheVariants as status
 use Rattle.tool_texts.specs.declared.stop.Stop.{Stop}
 use Rattle.tool_texts.specs.Ends.{IsStop, status_of, stop_text}
 use Rattle.tool_texts.specs.Reports.{audit_lines, cut_lines}
-use Rattle.tool_stages.specs.Envs.{ReportsIn, AuditFaultsIn, CutReportsIn, CutFaultsIn}
-use Rattle.mit_tool.specs.Audited.{AuditStops, HasAudited, CutStops, HasCut}
+use Rattle.tool_stages.specs.Envs.{ReportsIn, CutReportsIn, CutFaultsIn}
+use Rattle.audit_stage.specs.Audited.{AuditStops}
+use Rattle.mit_tool.specs.Audited.{HasAudited, CutStops, HasCut}
 use Rattle.tool_texts.proofs.EndLemmas.{broke_map}
-
-pub audits_in : (e name : EnvName) (t : ℕ) (q : LabelledProgram) (l : Label) (xs ss : List StartValue) (r : Result AuditReport AuditFault)
-    → e ≡ name → xs ≡ ss → IfOk r (ReportsIn name q l.number t xs) → IfOk r (ReportsIn e q l.number t ss)
-audits_in e name t q l xs ss r is same h =
-    subst (λ (z : EnvName). IfOk r (ReportsIn z q l.number t ss)) (sym is) (subst (λ (z : List StartValue). IfOk r (ReportsIn name q l.number t z)) same h)
-
-pub faults_in : (e name : EnvName) (t : ℕ) (q : LabelledProgram) (l : Label) (xs ss : List StartValue) (r : Result AuditReport AuditFault)
-    → e ≡ name → xs ≡ ss → IfErr r (AuditFaultsIn name q l.number t xs) → IfErr r (AuditFaultsIn e q l.number t ss)
-faults_in e name t q l xs ss r is same h =
-    subst (λ (z : EnvName). IfErr r (AuditFaultsIn z q l.number t ss)) (sym is) (subst (λ (z : List StartValue). IfErr r (AuditFaultsIn name q l.number t z)) same h)
 
 pub report_tells : (e : EnvName) (t : ℕ) (q : LabelledProgram) (l : Label) (ss : List StartValue) (before : List ℕ) (r : AuditReport) (x : List ℕ)
     → ReportsIn e q l.number t ss r → x ≡ before ++ audit_lines q.program.order l t r → HasAudited e t q (Some l) ss before status.Done x

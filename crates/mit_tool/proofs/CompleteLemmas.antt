@@ -31,7 +31,9 @@ use Rattle.tool_stages.specs.Stages.{Then, ProgramStops, Reads, ObserverStops, O
 use Rattle.tool_stages.specs.Envs.{flat_env, flat_made, AuditFaultsIn, CutFaultsIn, told_in, ReportsIn, CutReportsIn}
 use Rattle.tool_stages.specs.Content.{Content, IsKnown}
 use Rattle.tool_stages.specs.Goes.{IsHalted, HaltsBy, CanCut, CanBeAudited, OfObserver}
-use Rattle.mit_tool.specs.Audited.{AuditStops, HasAudited, CutStops, HasCut, HasReleased}
+use Rattle.audit_stage.specs.Audited.{AuditStops}
+use Rattle.audit_stage.proofs.Once.{audit_goes}
+use Rattle.mit_tool.specs.Audited.{HasAudited, CutStops, HasCut, HasReleased}
 use Rattle.mit_tool.specs.Answers.{HasChecked, HasInferred, HasListed, HasRun, HasCertified, HasRechecked, status_at, IsAnswer, Before}
 use Rattle.mit_tool.specs.Means.{HasMeant}
 use Rattle.mit_tool.specs.Complete.{AreKnown, NoneRises, CanGoOn, CanBeDone}
@@ -40,7 +42,7 @@ use Rattle.tool_stages.proofs.GoesLemmas.{then_goes, then_goes_from, program_goe
 use Rattle.tool_stages.proofs.OneLemmas.{one_program}
 use Rattle.tool_stages.proofs.AgreeLemmas.{all_halt}
 use Rattle.tool_stages.proofs.ChainLemmas.{compiles_go, first_done, first_file, lower_goes, no_other, one_other, prepared_done, second_file, starts_done, typed_done}
-use Rattle.mit_tool.proofs.OneReport.{audit_stops, cut_stops}
+use Rattle.mit_tool.proofs.OneReport.{cut_stops}
 use Rattle.mit_tool.proofs.MadeLemmas.{made_goes, made_observer_goes, made_starts_are}
 
 -- ---- runs
@@ -49,18 +51,10 @@ halted_done : (e : RunEnd) → IsHalted e → status_at e ≡ status.Done
 halted_done (Halted c) h = refl
 halted_done (Limit c) h = absurd h
 
-halt_in : (e : EnvName) (t : ℕ) (q : LabelledProgram) (o : Label) (ss : List StartValue) (f : AuditFault) → CanBeAudited e t q o.number ss → AuditFaultsIn e q o.number t ss f → f ≡ fault.Memory
-halt_in Flat t q o ss f k h = no_audit_fault flat_env (λ order e. Unit {0}) q o.number t (starts_of flat_made q.program.order ss) f k.cut.agree (all_halt flat_env flat_made q t ss k.halt) k.cut.few h
-halt_in Part t q o ss f k h = no_audit_fault (part_by_history q.program.order) AnyHistory q o.number t (starts_of history_made q.program.order ss) f k.cut.agree (all_halt (part_by_history q.program.order) history_made q t ss k.halt) k.cut.few h
-halt_in Part2 t q o ss f k h = no_audit_fault (part2_by_history q.program.order) AnyHistory q o.number t (starts_of history_made q.program.order ss) f k.cut.agree (all_halt (part2_by_history q.program.order) history_made q t ss k.halt) k.cut.few h
-
 cut_in : (e : EnvName) (t : ℕ) (q : LabelledProgram) (o : Label) (ss : List StartValue) (f : CutFault) → CanCut e t q o.number ss → CutFaultsIn e q o.number t ss f → f ≡ cut_fault.Memory
 cut_in Flat t q o ss f k h = no_cut_fault flat_env (λ order e. Unit {0}) q o.number t (starts_of flat_made q.program.order ss) f k.agree k.few h
 cut_in Part t q o ss f k h = no_cut_fault (part_by_history q.program.order) AnyHistory q o.number t (starts_of history_made q.program.order ss) f k.agree k.few h
 cut_in Part2 t q o ss f k h = no_cut_fault (part2_by_history q.program.order) AnyHistory q o.number t (starts_of history_made q.program.order ss) f k.agree k.few h
-
-audit_goes : (e : EnvName) (t : ℕ) (q : LabelledProgram) (o : Label) (ss : List StartValue) (s : Status) (x : List ℕ) → CanBeAudited e t q o.number ss → AuditStops e t q o ss s x → ⊥
-audit_goes e t q o ss s x k h = let stop = audit_stops e t q o ss s x h in stop.none (halt_in e t q o ss stop.fault k stop.is)
 
 cut_goes : (e : EnvName) (t : ℕ) (q : LabelledProgram) (o : Label) (ss : List StartValue) (s : Status) (x : List ℕ) → CanCut e t q o.number ss → CutStops e t q o ss s x → ⊥
 cut_goes e t q o ss s x k h = let stop = cut_stops e t q o ss s x h in stop.none (cut_in e t q o ss stop.fault k stop.is)

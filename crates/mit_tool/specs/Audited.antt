@@ -5,24 +5,17 @@ use Rattle.label_lattice.specs.declared.label.Label.{Label}
 use Rattle.timing_types.specs.Labelled.{LabelledProgram}
 use Rattle.start_file.specs.Starts.{StartValue}
 use Rattle.audit_parts.specs.declared.what.What.{What}
-use Rattle.leak_audit.specs.declared.report.AuditFault.TheVariants.{Disagree, Unfinished, TooMuch}
 use Rattle.cut_audit.specs.declared.report.CutFault.TheVariants as cut
 use Rattle.black_box.specs.Outcomes.{Outcome, IsOutcome}
 use Rattle.tool_words.specs.declared.words.EnvName.{EnvName}
 use Rattle.tool_texts.specs.declared.status.Status.{Status}
 use Rattle.tool_texts.specs.declared.status.Status.TheVariants as status
-use Rattle.tool_texts.specs.Reports.{audit_lines, cut_lines, disagree_line, unfinished_line, events_line, box_lines}
+use Rattle.tool_texts.specs.Reports.{audit_lines, cut_lines, disagree_line, events_line, box_lines}
 use Rattle.tool_stages.specs.Stages.{Then}
-use Rattle.tool_stages.specs.Envs.{ReportsIn, AuditFaultsIn, CutReportsIn, CutFaultsIn}
+use Rattle.tool_stages.specs.Envs.{ReportsIn, CutReportsIn, CutFaultsIn}
+use Rattle.audit_stage.specs.Audited.{AuditStops}
 
 -- ---- the runs of a program, for an observer, in a named environment, up to T
-
--- two starts do not agree, a run has not halted, or too much is shown
-abbrev pub AuditStops : EnvName → ℕ → LabelledProgram → Label → List StartValue → Status → List ℕ → Type 0
-AuditStops e t q l ss status.Disagree x = (run : ℕ) × (what : What) × AuditFaultsIn e q l.number t ss (Disagree run what) × (x ≡ disagree_line q.program run what)
-AuditStops e t q l ss status.Unfinished x = (run : ℕ) × (cycle : ℕ) × AuditFaultsIn e q l.number t ss (Unfinished run cycle) × (x ≡ unfinished_line run cycle)
-AuditStops e t q l ss status.TooLong x = (count : ℕ) × AuditFaultsIn e q l.number t ss (TooMuch count) × (x ≡ events_line count)
-AuditStops e t q l ss _ x = ⊥
 
 -- the lines of the report stand after a text
 abbrev pub HasAudited : EnvName → ℕ → LabelledProgram → Option Label → List StartValue → List ℕ → Status → List ℕ → Type 0

@@ -7,12 +7,8 @@ use Rattle.mit_tool.proofs.commands.audit.audit_after.Goals as goal
 
 pub returns-in-Err-clause-stop : goal.returns-in-Err-clause-stop
 returns-in-Err-clause-stop c =
-    let q = c.args.p.now.compiled.typed.labelled in
-    let l = c.args.p.now.observer in
-    let ss = map seen c.args.p.now.starts.items in
-    let is = c.program-program.ensures.program ∙ ap (λ x. x.program) c.labelled.ensures.labelled in
-    audit_stop_stops c.args.setting.env c.args.setting.budget q l ss c.args.text.items c.audit_stop.result
-    (c.audit_stop.ensures c.args.setting.env c.args.setting.budget q l ss is c.in-Err.ensures.fault)
+    audit_stop_stops c.args.setting.env c.args.setting.budget c.args.p.now.compiled.typed.labelled c.args.p.now.observer (map seen c.args.p.now.starts.items) c.args.text.items
+    c.in-Err.stop c.in-Err.ensures.stop
 
 pub returns-in-Ok-put_audit-clause-text : goal.returns-in-Ok-put_audit-clause-text
 returns-in-Ok-put_audit-clause-text c =

@@ -8,8 +8,8 @@ use Rattle.history_bound.specs.Over.{AnyHistory, history_made}
 use Rattle.tool_words.specs.declared.words.EnvName.TheVariants.{Flat, Part, Part2}
 use Rattle.tool_stages.specs.Begins.{CanAudit}
 use Rattle.tool_stages.proofs.EnvLemmas.{report_by, fault_by, alike_for}
-use Rattle.mit_tool.proofs.AuditLemmas.{audits_in, faults_in}
-use Rattle.mit_tool.proofs.commands.audit.audit_named.Goals as goal
+use Rattle.audit_stage.proofs.AuditLemmas.{audits_in, faults_in}
+use Rattle.audit_stage.proofs.audited.audit_named.Goals as goal
 
 pub returns-in-Flat : goal.returns-in-Flat
 returns-in-Flat c =

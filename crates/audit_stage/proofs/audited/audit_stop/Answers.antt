@@ -1,7 +1,7 @@
 use Rattle.std.proofs.Common.{ap, subst, ◌∙◌}
 use Rattle.tool_texts.specs.Reports.{disagree_line}
 use Rattle.tool_stages.specs.Envs.{AuditFaultsIn}
-use Rattle.mit_tool.proofs.commands.audit.audit_stop.Goals as goal
+use Rattle.audit_stage.proofs.audited.audit_stop.Goals as goal
 
 pub returns-in-Disagree : goal.returns-in-Disagree
 returns-in-Disagree c = λ e t q l ss is h. (
