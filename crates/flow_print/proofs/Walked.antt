@@ -6,9 +6,8 @@ use Rattle.tim_base.specs.declared.pos.Pos.{Pos}
 use Rattle.mit_syntax.specs.declared.token.Token.{Token}
 use Rattle.mit_syntax.specs.Program.{Syntax}
 use Rattle.flow_path.specs.declared.step.Step.{Step}
-use Rattle.flow_path.specs.declared.origins.Origin.{Origin}
 use Rattle.flow_print.specs.Places.{is_after, is_same, is_name, next_place, is_var, declared_from, kind_at}
-use Rattle.flow_print.specs.Lines.{step_lines, steps_lines, chain_text, origins_text}
+use Rattle.flow_print.specs.Lines.{step_lines, steps_lines}
 
 pub assoc : {A : Type 0} (xs ys zs : List A) → (xs ++ ys) ++ zs ≡ xs ++ (ys ++ zs)
 assoc [] ys zs = refl
@@ -43,13 +42,4 @@ steps_on T ts s a xs i x old new whole h e so =
     ap (λ z. z ++ steps_lines T ts s (drop (i + 1) xs) a) e
     ∙ assoc old (step_lines T ts s (get_or xs i x) a) (steps_lines T ts s (drop (i + 1) xs) a)
     ∙ sym (ap (λ z. old ++ steps_lines T ts s z a) (drop_more xs i x h))
-    ∙ so
-
--- the lines of one chain more; chain is that of the origin at i
-pub origins_on : (T : List ℕ) (ts : List Token) (s : Syntax) (ws : List Origin) (i : ℕ) (w : Origin) (chain : List Step) (old new whole : List ℕ) → i < length ws → chain ≡ (get_or ws i w).chain.items →
-    new ≡ old ++ chain_text T ts s chain → old ++ origins_text T ts s (drop i ws) ≡ whole → new ++ origins_text T ts s (drop (i + 1) ws) ≡ whole
-origins_on T ts s ws i w chain old new whole h at e so =
-    ap (λ z. z ++ origins_text T ts s (drop (i + 1) ws)) (e ∙ ap (λ z. old ++ chain_text T ts s z) at)
-    ∙ assoc old (chain_text T ts s (get_or ws i w).chain.items) (origins_text T ts s (drop (i + 1) ws))
-    ∙ sym (ap (λ z. old ++ origins_text T ts s z) (drop_more ws i w h))
     ∙ so
