@@ -1,5 +1,5 @@
 -- Joins of the labels of origins, and which of them can be left out.
-use Rattle.std.proofs.Common.{◌≡◌, ℕ, zero, suc, ◌+◌, ◌<◌, refl, sym, ap, ◌∙◌, subst, List, [], ◌∷◌, ◌++◌, length, get_or, drop, arith, ⊎_elim, inl, inr}
+use Rattle.std.proofs.Common.{◌≡◌, ℕ, zero, suc, ◌+◌, ◌<◌, refl, sym, ap, ◌∙◌, subst, List, [], ◌∷◌, ◌++◌, length, get_or, drop, arith, inl, inr}
 use Rattle.std.specs.Prelude.{All, Contains, ◌⊎◌}
 use Rattle.std.specs.List.{insert}
 use Rattle.std.proofs.lemmas.List.{drop_more}

@@ -1,6 +1,6 @@
 -- The chains to one spot, as they are told.
-use Rattle.std.proofs.Common.{◌≡◌, ℕ, ◌<◌, refl, sym, ap, ◌∙◌, subst, List, [], ◌∷◌, ◌++◌, length, get_or, arith, ⊎_elim, inl, inr}
-use Rattle.std.specs.Prelude.{Option, None, Some, Bool, true, false, is_some, option_map, All, Contains, slice_get, ◌⊎◌, ◌↔◌}
+use Rattle.std.proofs.Common.{◌≡◌, ℕ, refl, sym, ap, ◌∙◌, subst, List, [], ◌∷◌, ◌++◌, arith, ⊎_elim}
+use Rattle.std.specs.Prelude.{Option, None, Some, true, false, is_some, option_map, All, Contains, ◌↔◌}
 use Rattle.std.proofs.lemmas.Bool.{both_ways}
 use Rattle.std.proofs.lemmas.Option.{none-some, slice_get-get_or}
 use Rattle.label_lattice.specs.declared.label.Label.{Label}
@@ -17,7 +17,6 @@ use Rattle.flow_path.specs.declared.step.Spot.TheVariants.{Variable, Command, Le
 use Rattle.flow_path.specs.declared.step.Step.{Step}
 use Rattle.flow_path.specs.declared.graph.Node.{Node}
 use Rattle.flow_path.specs.declared.graph.Condition.{Condition}
-use Rattle.flow_path.specs.declared.cost.Cost.{Cost}
 use Rattle.flow_path.specs.declared.search.Heads.{Heads}
 use Rattle.flow_path.specs.declared.origins.Origin.{Origin}
 use Rattle.flow_path.specs.declared.target.Target.TheVariants.{Omitted}
@@ -27,7 +26,7 @@ use Rattle.flow_path.specs.Costs.{cost_of, IsLe}
 use Rattle.flow_path.specs.Search.{Where, State, Every, Goes, BeginsAt, IsReady, IsNextStart, AreAllTold}
 use Rattle.flow_path.specs.Origins.{IsOmitted, label_there, joined, IsOrigin}
 use Rattle.flow_path.specs.Telling.{Tells, covered, told, IsTold, AreTold, AreAll}
-use Rattle.flow_path.proofs.Base.{each_at, each_all, all_each, each_map}
+use Rattle.flow_path.proofs.Base.{each_at}
 use Rattle.flow_path.proofs.Proper.{Proper, IsProper}
 use Rattle.flow_path.proofs.Found.{proper}
 use Rattle.flow_path.proofs.Complete.{variable_from, level_from}

@@ -1,9 +1,7 @@
-use Rattle.std.proofs.Common.{rules, ◌≡◌, ◌∙◌, ap, sym, subst, length, List, [], ◌∷◌, ◌++◌}
-use Rattle.std.specs.Prelude.{Bool, true, false, option_to_list}
+use Rattle.std.proofs.Common.{rules, ◌≡◌, ◌∙◌, ap, sym, subst, length, ◌++◌}
+use Rattle.std.specs.Prelude.{true, false, option_to_list}
 use Rattle.std.proofs.lemmas.Bool.{both_ways}
-use Rattle.label_lattice.specs.Lattice.{Lattice}
 use Rattle.label_lattice.specs.Order.{lattice_of}
-use Rattle.flow_path.specs.declared.origins.Origin.{Origin}
 use Rattle.flow_path.specs.Origins.{joined}
 use Rattle.flow_path.specs.Telling.{IsSifted}
 use Rattle.flow_path.proofs.Joins.{insert_first, empty_is, sift_begins, sift_ends, sift_drops, sift_keeps}

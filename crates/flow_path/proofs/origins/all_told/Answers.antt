@@ -1,7 +1,6 @@
-use Rattle.std.proofs.Common.{◌≡◌, ◌+◌, ◌<◌, ◌≤◌, ◌∙◌, refl, ap, sym, subst, length, ◌∷◌, [], arith}
+use Rattle.std.proofs.Common.{◌∙◌, ap, sym, subst, length, ◌∷◌, arith}
 use Rattle.std.proofs.lemmas.Option.{slice_get_within}
-use Rattle.label_lattice.specs.Order.{Order, lattice_of}
-use Rattle.mit_syntax.specs.Declarations.{variables}
+use Rattle.label_lattice.specs.Order.{lattice_of}
 use Rattle.mit_syntax.specs.Program.{Syntax}
 use Rattle.label_infer.proofs.Completed.{lattice_laws}
 use Rattle.flow_path.specs.Steps.{written}

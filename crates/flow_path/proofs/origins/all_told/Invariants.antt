@@ -1,4 +1,4 @@
-use Rattle.std.proofs.Common.{◌≡◌, ◌+◌, ◌-◌, ◌*◌, length}
+use Rattle.std.proofs.Common.{◌+◌, ◌-◌, ◌*◌, length}
 use Rattle.flow_path.specs.Search.{Where, state_of, IsSet}
 use Rattle.flow_path.specs.Telling.{AreTold}
 use Rattle.flow_path.proofs.origins.all_told.Given as goal
