@@ -107,6 +107,11 @@ fn ways_of_one_level(rt: HostRuntime) {
         assert!(rt; shared_count(mitigations, first, t) == Some(ways));
     }
     assert!(rt; shared_count(MAX_SHARED + 1, 1, 65) == None);
+    let many = LevelRuns {
+        mitigations: 64,
+        first: 1,
+    };
+    assert!(rt; sharp_count(Runs::Halted, &[many], 65) == Some(131_115_985));
 }
 
 // Mitigations of one level, and the ways in which they can share a million cycles, with first predictions of 1 and of 512.
