@@ -1,10 +1,10 @@
 -- A guess that is right as often as the count allows.
-use Rattle.std.proofs.Common.{◌≡◌, ℕ, zero, suc, ◌+◌, ◌*◌, ◌<◌, ◌≤◌, List, [], ◌∷◌, length, Bool, true, false, refl, sym, ap, ◌∙◌, subst, arith, eq-eqb}
-use Rattle.std.specs.Prelude.{cond, eqb, max, not}
+use Rattle.std.proofs.Common.{◌≡◌, ℕ, zero, suc, ◌<◌, ◌≤◌, List, [], ◌∷◌, length, Bool, true, false, refl, sym, ap, ◌∙◌, subst, arith, eq-eqb}
+use Rattle.std.specs.Prelude.{cond, eqb, not}
 use Rattle.std.specs.List.{filter}
 use Rattle.std.proofs.lemmas.Bool.{eqb-true, eqb-false}
-use Rattle.leak_bound.specs.Records.{distinct, distinct_count, views, Tests, Each}
-use Rattle.sharp_bound.specs.Guess.{greatest, best, best_sum, FewShown, GuessReached}
+use Rattle.leak_bound.specs.Records.{distinct, views, Tests}
+use Rattle.sharp_bound.specs.Guess.{greatest, best_sum, GuessReached}
 use Rattle.sharp_bound.proofs.Guess.{few_shown}
 
 down : ℕ → List ℕ

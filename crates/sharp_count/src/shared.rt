@@ -70,7 +70,8 @@ fn double(table: &mut [Row; PLACES], most: u64)
 /// of their miss counts never fall and have cycles that add up to at most T. `first` is their least first prediction,
 /// and 0 stands for 1.
 ///
-/// It is told of at most `MAX_SHARED` mitigations. The time that it takes does not grow with T.
+/// There is no answer for more than `MAX_SHARED` mitigations. The time that it takes grows with the binary digits of T,
+/// and not with T.
 pub fn shared_count(mitigations: u64, first: u64, t: u64) -> Option<u128>
     ensures exact { mitigations ≤ 64 → (all : List (List (List ℕ))) → AreWays t (λ l. first) 1 (λ l. mitigations) all → result ≡ Some (length all) }
     ensures left_out { 64 < mitigations → result ≡ None }
