@@ -1,4 +1,5 @@
 pub mod Guess
+pub mod Reached
 pub mod Rank
 pub mod Picks
 pub mod Levels

@@ -2,6 +2,7 @@
 
 ghost use Rattle.sharp_bound.specs.End.{SharpEndAll};
 ghost use Rattle.sharp_bound.specs.Firsts.{AtLeastOne};
+ghost use Rattle.sharp_bound.specs.Guess.{GuessReached};
 ghost use Rattle.sharp_bound.specs.Lowered.{LoweredSharpAll, LoweredSharpCutAll, LoweredSharpEndAll, LoweredSharedAll, LoweredManyAll, LoweredLeavesAgree};
 ghost use Rattle.sharp_bound.specs.Many.{FewMany, SharpManyAll};
 ghost use Rattle.sharp_bound.specs.Near.{NearlyReached, TwoLabels};
@@ -133,6 +134,12 @@ pub fn nearly_reached_flat()
         })
         ⟦<FlatEnv as MachineEnv>⟧.serves }
     ensures two { TwoLabels }
+{}
+
+/// No smaller number serves for guesses: for each n there are n members of weight 1 that show n views and make up n for
+/// whoever has seen the view, and 1 for one who has not.
+pub fn guess_reached()
+    ensures { GuessReached }
 {}
 
 /// Two views after each other of one secret, of whatever types: if the first shows few, at most n, and after

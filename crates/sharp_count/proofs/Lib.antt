@@ -4,3 +4,6 @@ pub mod Fitting
 pub mod Binary
 pub mod Listing
 pub mod Ways
+pub mod Alike
+pub mod Shares
+pub mod Table

@@ -7,7 +7,7 @@ use Rattle.sharp_count.specs.Count.{rising}
 use Rattle.sharp_count.specs.Lists.{NeverFalling, IsAmong, AllDiffer, RisingCounts}
 use Rattle.sharp_count.proofs.Choose.{pascal, rising-none, rising-zero}
 
-abbrev cons_all : ℕ → List (List ℕ) → List (List ℕ)
+abbrev pub cons_all : ℕ → List (List ℕ) → List (List ℕ)
 cons_all m [] = []
 cons_all m (xs ∷ all) = (m ∷ xs) ∷ cons_all m all
 

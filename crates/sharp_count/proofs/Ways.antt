@@ -8,7 +8,7 @@ use Rattle.leak_bound.proofs.Headline.{Each-map}
 use Rattle.sharp_count.specs.Count.{rising, sharp}
 use Rattle.sharp_count.specs.Levels.{miss_counts}
 use Rattle.sharp_count.specs.Lists.{NeverFalling, IsAmong, AllDiffer}
-use Rattle.sharp_count.specs.Ways.{IsChoice, cycles_in, WaysAreFew}
+use Rattle.sharp_count.specs.Ways.{IsChoice, cycles_of, cycles_in, AreWays, WaysAreFew}
 use Rattle.sharp_count.proofs.Listing.{listing, length-listing, each_falls, has_all, all_differ}
 
 abbrev Choice : Type 0
@@ -160,16 +160,39 @@ differ_choices : (values : ℕ → ℕ) (n : ℕ) (counts : ℕ → ℕ) → All
 differ_choices values zero counts = (tt, tt)
 differ_choices values (suc l) counts = differ-pairs (listing 0 (values l) (counts l)) (choices values l counts) (all_differ 0 (values l) (counts l)) (differ_choices values l counts)
 
+-- those whose cycles add up to at most T
+abbrev pub ways : ℕ → (ℕ → ℕ) → ℕ → (ℕ → ℕ) → List Choice
+ways t firsts n counts = filter (λ c. leb (cycles_in firsts n c) t) (choices (λ l. miss_counts t (firsts l)) n counts)
+
+pub are_ways : (t : ℕ) (firsts : ℕ → ℕ) (n : ℕ) (counts : ℕ → ℕ) → AreWays t firsts n counts (ways t firsts n counts)
+are_ways t firsts n counts =
+    let values : ℕ → ℕ = λ l. miss_counts t (firsts l) in
+    let fits : Choice → Bool = λ c. leb (cycles_in firsts n c) t in
+    let all = choices values n counts in
+    record {
+      each = Each-map (λ c. IsChoice values n counts c × (fits c ≡ true)) (λ c. IsChoice values n counts c × (cycles_in firsts n c ≤ t)) (λ c h. (h.0, leb-true (cycles_in firsts n c) t h.1)) (filter fits all) (each_passed (IsChoice values n counts) fits all (each_choice values n counts));
+      whole = λ c h le. among_passed fits c all (le-leb (cycles_in firsts n c) t le) (whole_choices values n counts c h);
+      differ = differ_passed fits all (differ_choices values n counts);
+    }
+
 pub ways_are_few : WaysAreFew
 ways_are_few t firsts n counts =
     let values : ℕ → ℕ = λ l. miss_counts t (firsts l) in
-    let fits : Choice → Bool = λ c. leb (cycles_in firsts n c) t in
-    let all = choices values n counts in (
-      filter fits all,
-      record {
-        each = Each-map (λ c. IsChoice values n counts c × (fits c ≡ true)) (λ c. IsChoice values n counts c × (cycles_in firsts n c ≤ t)) (λ c h. (h.0, leb-true (cycles_in firsts n c) t h.1)) (filter fits all) (each_passed (IsChoice values n counts) fits all (each_choice values n counts));
-        whole = λ c h le. among_passed fits c all (le-leb (cycles_in firsts n c) t le) (whole_choices values n counts c h);
-        differ = differ_passed fits all (differ_choices values n counts);
-      },
-      omega (arith, length_passed fits all, length-choices values n counts),
+    let fits : Choice → Bool = λ c. leb (cycles_in firsts n c) t in (
+      ways t firsts n counts,
+      are_ways t firsts n counts,
+      omega (arith, length_passed fits (choices values n counts), length-choices values n counts),
     )
+
+-- of one level these are the lists of miss counts whose cycles add up to at most T
+length-singles : (fits : Choice → Bool) (all : List (List ℕ)) → length (filter fits (pairs all ([] ∷ []))) ≡ length (filter (λ ms. fits (ms ∷ [])) all)
+length-singles fits [] = refl
+length-singles fits (ms ∷ all) = go (fits (ms ∷ [])) (length-singles fits all)
+  where
+    go : (b : Bool) → length (filter fits (pairs all ([] ∷ []))) ≡ length (filter (λ ns. fits (ns ∷ [])) all) →
+        length (cond b ((ms ∷ []) ∷ filter fits (pairs all ([] ∷ []))) (filter fits (pairs all ([] ∷ [])))) ≡ length (cond b (ms ∷ filter (λ ns. fits (ns ∷ [])) all) (filter (λ ns. fits (ns ∷ [])) all))
+    go true e = ap suc e
+    go false e = e
+
+pub length-one_level : (t first k : ℕ) → length (ways t (λ l. first) 1 (λ l. k)) ≡ length (filter (λ ms. leb (cycles_of first ms + 0) t) (listing 0 (miss_counts t first) k))
+length-one_level t first k = length-singles (λ c. leb (cycles_in (λ l. first) 1 c) t) (listing 0 (miss_counts t first) k)

@@ -5,5 +5,6 @@ pub mod bits;
 pub mod count;
 pub mod laws;
 pub mod lists;
+pub mod shared;
 #[cfg(test)]
 mod tests;

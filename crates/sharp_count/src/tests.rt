@@ -1,6 +1,7 @@
 use crate::bits::bits;
 use crate::count::{LevelRuns, Runs, sharp_count};
 use crate::lists::never_falling;
+use crate::shared::{MAX_SHARED, shared_count};
 
 // Values, entries, and how many lists never fall.
 static LISTS: [(u32, u64, Option<u128>); 7] = [
@@ -76,5 +77,50 @@ fn bits_of_counts(rt: HostRuntime) {
         (33, 6),
     ] {
         assert_eq!(rt; bits(count), least);
+    }
+}
+
+// Mitigations, their least first prediction, the cycles, and in how many ways they can share these. With two
+// mitigations and five cycles: 1 + 1, 1 + 2, 1 + 4 and 2 + 2. With three and six: 1 + 1 + 1, 1 + 1 + 2, 1 + 1 + 4,
+// 1 + 2 + 2 and 2 + 2 + 2.
+static WAYS: [(u64, u64, u64, u128); 15] = [
+    (0, 1, 0, 1),
+    (1, 1, 0, 0),
+    (1, 1, 5, 3),
+    (1, 3, 5, 1),
+    (1, 3, 6, 2),
+    (2, 1, 5, 4),
+    (2, 0, 5, 4),
+    (2, 1, 6, 5),
+    (2, 3, 14, 3),
+    (2, 3, 15, 4),
+    (3, 1, 6, 5),
+    (3, 3, 17, 3),
+    (3, 3, 18, 5),
+    (64, 1, 64, 1),
+    (64, 1, 65, 2),
+];
+
+#[test]
+fn ways_of_one_level(rt: HostRuntime) {
+    for &(mitigations, first, t, ways) in &WAYS {
+        assert!(rt; shared_count(mitigations, first, t) == Some(ways));
+    }
+    assert!(rt; shared_count(MAX_SHARED + 1, 1, 65) == None);
+    let many = LevelRuns {
+        mitigations: 64,
+        first: 1,
+    };
+    assert!(rt; sharp_count(Runs::Halted, &[many], 65) == Some(131_115_985));
+}
+
+// Mitigations of one level, and the ways in which they can share a million cycles, with first predictions of 1 and of 512.
+static SHARED: [(u64, u128, u128); 3] = [(1, 20, 11), (2, 209, 65), (3, 1519, 274)];
+
+#[test]
+fn ways_to_share_a_million_cycles(rt: HostRuntime) {
+    for &(mitigations, from_one, from_512) in &SHARED {
+        assert!(rt; shared_count(mitigations, 1, 1_000_000) == Some(from_one));
+        assert!(rt; shared_count(mitigations, 512, 1_000_000) == Some(from_512));
     }
 }
