@@ -14,7 +14,7 @@ mod text;
 mod words;
 
 // The tables, in the order in which they are run.
-const TABLES: [&str; 21] = [
+const TABLES: [&str; 23] = [
     "examples.txt",
     "texts.txt",
     "prefixes.txt",
@@ -28,6 +28,8 @@ const TABLES: [&str; 21] = [
     "labels.txt",
     "audits.txt",
     "slots.txt",
+    "neighbours.txt",
+    "ample.txt",
     "certificates.txt",
     "rejections.txt",
     "faults.txt",
