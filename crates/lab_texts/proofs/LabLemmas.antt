@@ -1,9 +1,9 @@
 -- What the tool tells is told by the lab with its own usage text.
-use Rattle.std.proofs.Common.{◌≡◌, ◌≢◌, ℕ, List, [], ◌++◌, refl, sym, ap, subst, ◌∙◌, Vec, Global, Result, Ok, Err, IfOk, IfErr}
+use Rattle.std.proofs.Common.{◌≡◌, ℕ, List, [], refl, sym, ap, ◌∙◌, Vec, Global, Result, IfOk, IfErr}
 use Rattle.tool_texts.specs.declared.status.Status.{Status}
 use Rattle.tool_texts.specs.declared.status.Status.TheVariants.{Done, Refused, Syntax, Starts, Usage, ReadFault, WriteFault, TooLong, Budget, Disagree, Unfinished, Memory}
 use Rattle.tool_texts.specs.declared.stop.Stop.{Stop}
-use Rattle.tool_texts.specs.Ends.{Broke, Tells, IsStop, Nothing, status_of, stop_text, told_status, told_text}
+use Rattle.tool_texts.specs.Ends.{Tells, IsStop, Nothing, status_of, stop_text, told_status, told_text}
 use Rattle.tool_texts.proofs.EndLemmas.{tells_broke, result_tells}
 use Rattle.lab_texts.specs.InLab.{lab_text, InLab}
 
