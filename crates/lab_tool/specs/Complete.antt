@@ -1,11 +1,12 @@
 -- How a question can end: what must be so that nothing but want of memory ends it otherwise.
-use Rattle.std.specs.Prelude.{ℕ, List, [], ◌∷◌, All, Option, None}
+use Rattle.std.specs.Prelude.{ℕ, List, [], ◌∷◌, All, Option, Some, None}
 use Rattle.mit_syntax.specs.Program.{Syntax}
 use Rattle.tool_texts.specs.declared.status.Status.{Status}
 use Rattle.tool_texts.specs.declared.status.Status.TheVariants as status
 use Rattle.tool_stages.specs.Stages.{Reads}
 use Rattle.tool_stages.specs.Content.{Content, IsKnown}
 use Rattle.tool_stages.specs.Goes.{IsTypable}
+use Rattle.lab_runs.specs.Begins.{CanBegin}
 use Rattle.lab_words.specs.QuestionAsked.{Asked, why, seen, timeline, bound}
 
 -- the files that a question names
@@ -29,9 +30,15 @@ WhyGoes content status.Done = (p : Syntax) × Reads content p × IsTypable p
 WhyGoes content status.Refused = (p : Syntax) × Reads content p × (IsTypable p → ⊥)
 WhyGoes content _ = ⊥
 
+-- what is told of runs is done where nothing stops before them
+abbrev pub IsDoneIf : Type 0 → Status → Type 0
+IsDoneIf Can status.Done = Can
+IsDoneIf Can _ = ⊥
+
 -- what must be so beside the files
 abbrev pub Goes : Content → Asked → Status → Type 0
 Goes content (why file None) s = WhyGoes (content file) s
+Goes content (seen file starts observer e budget) s = IsDoneIf (CanBegin content file starts (Some observer)) s
 Goes content _ s = ⊥
 
 -- the files that a question names are told to hold bytes, and with these it goes on to this end

@@ -8,12 +8,14 @@ ghost use Rattle.lab_words.specs.QuestionViews.{asked_of};
 ghost use Rattle.lab_tool.specs.Answers.{Before, IsAnswer, IsUsage};
 ghost use Rattle.lab_tool.specs.Complete.{CanEnd, NoneRises};
 
+use lab_seen::seen::seen;
 use lab_texts::finish::stop;
 use lab_why::why::why;
 use lab_words::question::{Question, read_question};
 use std::alloc::Global;
 use tim_base::shelf::Shelf;
 use tim_base::sink::Sink;
+use tool_stages::setting::Setting;
 use tool_texts::finish::finish;
 use tool_texts::status::Status;
 use tool_texts::stop::Stop;
@@ -39,9 +41,17 @@ fn obey<S: Shelf, W: Sink>(
             None => why(alloc, shelf, out, file),
             Some(_) => stop(out, Stop::Usage),
         },
-        Question::Seen { .. } | Question::Timeline { .. } | Question::Bound { .. } => {
-            stop(out, Stop::Usage)
+        Question::Seen {
+            file,
+            starts,
+            observer,
+            env,
+            budget,
+        } => {
+            let setting = Setting { env, budget };
+            seen(alloc, shelf, out, file, starts, observer, setting)
         }
+        Question::Timeline { .. } | Question::Bound { .. } => stop(out, Stop::Usage),
     }
 }
 
@@ -50,7 +60,8 @@ fn obey<S: Shelf, W: Sink>(
 ///
 /// `answered`: the status and the text are the answer to the question that the words ask, in the order of its refusals,
 /// from what the shelf is told to hold; a file may not be read only where the count of its faults rose. Where memory was
-/// wanting the text is the line for that. After a fault of the sink a prefix of the text is written.
+/// wanting the text is the line for that, which may stand after what is told of some of the runs. After a fault of the
+/// sink a prefix of the text is written.
 ///
 /// `usage`: words that ask for nothing get the usage text.
 ///

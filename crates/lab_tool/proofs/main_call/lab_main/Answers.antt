@@ -10,7 +10,7 @@ use Rattle.lab_words.specs.QuestionAsked.{Asked, question_of}
 use Rattle.lab_words.specs.QuestionViews.{asked_of}
 use Rattle.lab_tool.specs.Answers.{Before, IsAnswer, IsUsage}
 use Rattle.lab_tool.specs.Complete.{CanEnd, NoneRises}
-use Rattle.lab_tool.proofs.AskedLemmas.{any_some, asked_some}
+use Rattle.lab_tool.proofs.AskedLemmas.{any_some, asked_some, nothing_before}
 use Rattle.lab_tool.proofs.EndsLemmas.{completes}
 use Rattle.lab_tool.proofs.main_call.lab_main.Goals as goal
 
@@ -23,7 +23,7 @@ returns-in-Err-Memory-clause-answered g c =
     let content = g.S.Shelf.content c.args.shelf.now in
     let rises = λ (name : List ℕ). Rose (g.S.Shelf.faults c.args.shelf.now name) (g.S.Shelf.faults c.args.shelf.now name) in
     any_some (question_of (map string_bytes c.args.words.now)) (λ (a : Asked). EndsBy (g.W.Sink.taken c.args.out.now) (g.W.Sink.taken c.finish.new.out) (Before content a) (IsAnswer rises content a) c.finish.result)
-    (λ a. ends_memory (g.W.Sink.taken c.args.out.now) (g.W.Sink.taken c.finish.new.out) (Before content a) (IsAnswer rises content a) c.finish.result refl c.finish.ensures.told c.finish.ensures.prefix)
+    (λ a. ends_memory (g.W.Sink.taken c.args.out.now) (g.W.Sink.taken c.finish.new.out) (Before content a) (IsAnswer rises content a) c.finish.result (nothing_before content a) c.finish.ensures.told c.finish.ensures.prefix)
 
 pub returns-in-Err-Memory-clause-usage : goal.returns-in-Err-Memory-clause-usage
 returns-in-Err-Memory-clause-usage g c =

@@ -26,20 +26,24 @@ returns-in-Some-clause-answered g c =
     let usage = ends_finish (g.W.Sink.taken c.args.out.now) (g.W.Sink.taken c.stop.new.out) Nothing IsUsage Usage lab_usage_text c.stop.result (refl, refl) c.stop.ensures.told c.stop.ensures.prefix in
     subst P (sym c.in-Why.is) (subst (λ (o : Option (Bor (List ℕ))). P (Why c.in-Why.file o)) (sym c.in-Some.is) usage)
 
--- a question that is not offered
-not_offered : (P : Question → Type 0) (x : Question) → ((f s o : Bor (List ℕ)) (e : EnvName) (b : ℕ) → P (Seen f s o e b)) → ((f s : Bor (List ℕ)) (o : Option (Bor (List ℕ))) (e : EnvName) (b : ℕ) → P (Timeline f s o e b))
-    → ((f s o : Bor (List ℕ)) (e : EnvName) (b : ℕ) → P (Bound f s o e b))
-    → ((f : Bor (List ℕ)) × (s : Bor (List ℕ)) × (o : Bor (List ℕ)) × (e : EnvName) × (b : ℕ) × (x ≡ Seen f s o e b))
-    ⊎ (((f : Bor (List ℕ)) × (s : Bor (List ℕ)) × (o : Option (Bor (List ℕ))) × (e : EnvName) × (b : ℕ) × (x ≡ Timeline f s o e b))
-    ⊎ ((f : Bor (List ℕ)) × (s : Bor (List ℕ)) × (o : Bor (List ℕ)) × (e : EnvName) × (b : ℕ) × (x ≡ Bound f s o e b))) → P x
-not_offered P x n t u (inl (f, s, o, e, b, i)) = subst P (sym i) (n f s o e b)
-not_offered P x n t u (inr (inl (f, s, o, e, b, i))) = subst P (sym i) (t f s o e b)
-not_offered P x n t u (inr (inr (f, s, o, e, b, i))) = subst P (sym i) (u f s o e b)
-
 pub returns-in-Seen-clause-answered : goal.returns-in-Seen-clause-answered
 returns-in-Seen-clause-answered g c =
     let content = g.S.Shelf.content c.args.shelf.now in
+    let rises = λ (name : List ℕ). Rose (g.S.Shelf.faults c.args.shelf.now name) (g.S.Shelf.faults c.seen.new.shelf name) in
+    subst (λ (x : Question). EndsBy (g.W.Sink.taken c.args.out.now) (g.W.Sink.taken c.seen.new.out) (Before content (asked_of x)) (IsAnswer rises content (asked_of x)) c.seen.result) (sym c.in-Seen.is) c.seen.ensures.answered
+
+-- a question that is not offered
+not_offered : (P : Question → Type 0) (x : Question) → ((f s : Bor (List ℕ)) (o : Option (Bor (List ℕ))) (e : EnvName) (b : ℕ) → P (Timeline f s o e b))
+    → ((f s o : Bor (List ℕ)) (e : EnvName) (b : ℕ) → P (Bound f s o e b))
+    → ((f : Bor (List ℕ)) × (s : Bor (List ℕ)) × (o : Option (Bor (List ℕ))) × (e : EnvName) × (b : ℕ) × (x ≡ Timeline f s o e b))
+    ⊎ ((f : Bor (List ℕ)) × (s : Bor (List ℕ)) × (o : Bor (List ℕ)) × (e : EnvName) × (b : ℕ) × (x ≡ Bound f s o e b)) → P x
+not_offered P x t u (inl (f, s, o, e, b, i)) = subst P (sym i) (t f s o e b)
+not_offered P x t u (inr (f, s, o, e, b, i)) = subst P (sym i) (u f s o e b)
+
+pub returns-in-Timeline-clause-answered : goal.returns-in-Timeline-clause-answered
+returns-in-Timeline-clause-answered g c =
+    let content = g.S.Shelf.content c.args.shelf.now in
     let rises = λ (name : List ℕ). Rose (g.S.Shelf.faults c.args.shelf.now name) (g.S.Shelf.faults c.args.shelf.now name) in
-    let usage = ends_finish (g.W.Sink.taken c.args.out.now) (g.W.Sink.taken c.stop-in-Seen.new.out) Nothing IsUsage Usage lab_usage_text c.stop-in-Seen.result (refl, refl) c.stop-in-Seen.ensures.told c.stop-in-Seen.ensures.prefix in
-    not_offered (λ (x : Question). EndsBy (g.W.Sink.taken c.args.out.now) (g.W.Sink.taken c.stop-in-Seen.new.out) (Before content (asked_of x)) (IsAnswer rises content (asked_of x)) c.stop-in-Seen.result) c.args.question
-    (λ f s o e b. usage) (λ f s o e b. usage) (λ f s o e b. usage) c.in-Seen.is
+    let usage = ends_finish (g.W.Sink.taken c.args.out.now) (g.W.Sink.taken c.stop-in-Timeline.new.out) Nothing IsUsage Usage lab_usage_text c.stop-in-Timeline.result (refl, refl) c.stop-in-Timeline.ensures.told c.stop-in-Timeline.ensures.prefix in
+    not_offered (λ (x : Question). EndsBy (g.W.Sink.taken c.args.out.now) (g.W.Sink.taken c.stop-in-Timeline.new.out) (Before content (asked_of x)) (IsAnswer rises content (asked_of x)) c.stop-in-Timeline.result) c.args.question
+    (λ f s o e b. usage) (λ f s o e b. usage) c.in-Timeline.is
