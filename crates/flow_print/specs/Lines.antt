@@ -12,6 +12,7 @@ use Rattle.flow_path.specs.declared.step.Spot.TheVariants.{Variable, Command, Le
 use Rattle.flow_path.specs.declared.step.How.{How}
 use Rattle.flow_path.specs.declared.step.How.TheVariants.{Reads, ReadsInIndex, HasReadLabel, UnderGuard, AfterReading, AfterReadLabel, AfterAssigning}
 use Rattle.flow_path.specs.declared.step.Step.{Step}
+use Rattle.flow_path.specs.declared.origins.Origin.{Origin}
 use Rattle.flow_path.specs.Steps.{written}
 use Rattle.flow_print.specs.Places.{next_place, declared_place, noun, reader, kind_at}
 
@@ -119,3 +120,8 @@ first_line T ts (Level k l) w a = []
 abbrev pub chain_text : List ℕ → List Token → Syntax → List Step → List ℕ
 chain_text T ts s [] = []
 chain_text T ts s (x ∷ xs) = first_line T ts x.part.spot (spot_text s x.part.spot) (written_text s x.part.spot) ++ steps_lines T ts s (x ∷ xs) (written_text s x.part.spot)
+
+-- the chains of origins, one after another
+abbrev pub origins_text : List ℕ → List Token → Syntax → List Origin → List ℕ
+origins_text T ts s [] = []
+origins_text T ts s (w ∷ ws) = chain_text T ts s w.chain.items ++ origins_text T ts s ws

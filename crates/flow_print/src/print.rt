@@ -1,10 +1,11 @@
 //! The text of a chain.
 
 ghost use Rattle.std.specs.Prelude.{◌≡◌, ◌++◌, OnOk, IfOk};
-ghost use Rattle.flow_print.specs.Lines.{steps_lines, chain_text};
+ghost use Rattle.flow_print.specs.Lines.{steps_lines, chain_text, origins_text};
 
 use crate::lines::{put_first, put_step};
 use crate::words::{spot_text, written_text};
+use flow_path::origins::Origin;
 use flow_path::step::Step;
 use mit_syntax::program::Program;
 use mit_syntax::token::Token;
@@ -50,6 +51,22 @@ fn put_chain(
     }
 }
 
+fn put_origins(
+    alloc: Global,
+    out: &mut Vec<u8>,
+    text: &[u8],
+    tokens: &[Token],
+    p: &Program,
+    origins: &[Origin],
+) -> Result<(), AllocError>
+    ensures { OnOk result (out.new.items ≡ out.old.items ++ origins_text text.now tokens.now p.now origins.now) }
+{
+    for origin in origins {
+        put_chain(alloc, out, text, tokens, p, &origin.chain)?;
+    }
+    Ok(())
+}
+
 /// The lines that tell a chain, for a program that is spelled by the tokens of a text. Each line begins with its place:
 /// that of the name that is read or declared, else that of its command.
 ///
@@ -66,5 +83,23 @@ pub fn chain_text(
 {
     let mut out = Vec::new(alloc);
     put_chain(alloc, &mut out, text, tokens, p, chain)?;
+    Ok(out)
+}
+
+/// The lines that tell the chains of origins, one chain after another.
+///
+/// # Errors
+/// `Memory` is want of memory.
+pub fn origins_text(
+    alloc: Global,
+    text: &[u8],
+    tokens: &[Token],
+    p: &Program,
+    origins: &[Origin],
+) -> Result<Vec<u8>, Memory>
+    ensures { IfOk result (λ v. v.items ≡ origins_text text.now tokens.now p.now origins.now) }
+{
+    let mut out = Vec::new(alloc);
+    put_origins(alloc, &mut out, text, tokens, p, origins)?;
     Ok(out)
 }
