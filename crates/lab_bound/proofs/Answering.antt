@@ -23,8 +23,8 @@ use Rattle.tool_stages.proofs.ChainLemmas.{prepared_done, prepares_no_fault}
 use Rattle.audit_stage.specs.Audited.{AuditStops}
 use Rattle.audit_stage.proofs.Once.{audit_goes}
 use Rattle.lab_bound.specs.Text.{BoundPut, IsBoundText}
-use Rattle.lab_bound.specs.Answer.{HasBound, IsBoundAnswer}
-use Rattle.lab_bound.specs.Complete.{CanBound, NeitherRises}
+use Rattle.lab_bound.specs.Answer.{HasBound, Bounds, IsBoundAnswer}
+use Rattle.lab_bound.specs.Complete.{CanBound}
 
 -- what comes after the stages
 abbrev pub bound_next : EnvName → ℕ → Syntax → LabelledProgram → Option Label → Code → List StartValue → Status → List ℕ → Type 0
@@ -49,7 +49,7 @@ no_fault_in e t q None ss x h = h
 no_fault_in e t q (Some l) ss x (inl h) = h
 no_fault_in e t q (Some l) ss x (inr (r, is, h)) = cc (h.0)
 
-pub bound_no_fault : (Rises : List ℕ → Type 0) (content : Content) (file starts observer : List ℕ) (e : EnvName) (t : ℕ) (x : List ℕ) → IsBoundAnswer Rises content file starts observer e t status.WriteFault x → ⊥
+pub bound_no_fault : (Rises : List ℕ → Type 0) (content : Content) (file starts observer : List ℕ) (e : EnvName) (t : ℕ) (x : List ℕ) → Bounds Rises content file starts observer e t status.WriteFault x → ⊥
 bound_no_fault Rises content file starts observer e t x =
     prepares_no_fault Rises content file observer (Rises starts) (content starts) (bound_next e t) x (λ p q o code ss. no_fault_in e t q o ss x)
 
@@ -62,8 +62,8 @@ bound_done e t q (Some l) ss s x k (inr h) = h.2.0
 
 pub completes : (old new : Option (List ℕ)) (Rises : List ℕ → Type 0) (content : Content) (file starts observer : List ℕ) (e : EnvName) (t : ℕ) (r : Status) (Rose : Type 0) →
     EndsBy old new Nothing (IsBoundAnswer Rises content file starts observer e t) r → (r ≡ status.WriteFault → Rose) →
-    CanBound content file starts observer e t → NeitherRises Rises file starts → (Rose → ⊥) → (r ≡ status.Done) ⊎ (r ≡ status.Memory)
-completes old new Rises content file starts observer e t r Rose ends write can none n =
+    CanBound content file starts observer e t → (Rises file → ⊥) → (Rises starts → ⊥) → (Rose → ⊥) → (r ≡ status.Done) ⊎ (r ≡ status.Memory)
+completes old new Rises content file starts observer e t r Rose ends write can one other n =
     ends_done old new Nothing (IsBoundAnswer Rises content file starts observer e t) r ends (λ w. n (write w))
-    (λ x h. prepared_done r x Rises content file observer (Rises starts) (content starts) (λ q o ss. OfObserver (λ l. CanBeAudited e t q l ss) o) (bound_next e t)
-    none.program can.known.program none.runs can.known.runs can.goes (λ p q o code ss good next. bound_done e t q o ss r x good next) h)
+    (λ x h. prepared_done r h.0 Rises content file observer (Rises starts) (content starts) (λ q o ss. OfObserver (λ l. CanBeAudited e t q l ss) o) (bound_next e t)
+    one can.known other can.known_starts can.goes (λ p q o code ss good next. bound_done e t q o ss r h.0 good next) h.1)

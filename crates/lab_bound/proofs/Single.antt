@@ -18,10 +18,11 @@ use Rattle.tool_texts.specs.declared.status.Status.{Status}
 use Rattle.tool_texts.specs.Reports.{audit_lines}
 use Rattle.tool_stages.proofs.OneLemmas.{Same}
 use Rattle.tool_stages.proofs.ChainLemmas.{prepares_one}
+use Rattle.lab_texts.proofs.LabLemmas.{one_in_lab}
 use Rattle.audit_stage.proofs.Once.{audit_stops, one_audit_stop, same_report, not_fault, same_lines}
 use Rattle.lab_bound.specs.Text.{IsBits, IsSharpText, IsBoundText, level_lines, number_text, sharp_of}
-use Rattle.lab_bound.specs.Answer.{HasBound}
-use Rattle.lab_bound.specs.Complete.{HasOneAnswer}
+use Rattle.lab_bound.specs.Answer.{HasBound, Bounds}
+use Rattle.lab_bound.specs.Complete.{HasOneBound}
 use Rattle.lab_bound.proofs.Enough.{begins_each_one}
 use Rattle.lab_bound.proofs.Answering.{bound_next}
 
@@ -70,9 +71,8 @@ one_bound e t q (Some l) ss s u x y (inr h) (inr k) =
     let rest = one_text q.program.order l.number t h.2.1 k.2.1 h.2.3 k.2.3 levels h.2.4 k.2.4 in
     (h.2.0 ∙ sym k.2.0, h.2.5 ∙ ap (λ z. z ++ h.2.3) lines ∙ ap (λ z. audit_lines q.program.order l t k.0 ++ z) rest ∙ sym k.2.5)
 
-pub one_answer : HasOneAnswer
-one_answer before now content file starts observer e t known none = record {
-  one = λ s u x y h k.
-      prepares_one s u x y (λ name. Rose (before name) (now name)) content file observer (Rose (before starts) (now starts)) (content starts) (bound_next e t)
-      none.program known.program none.runs known.runs (λ p q o code ss. one_bound e t q o ss s u x y) h k;
-}
+pub one_bound_in_lab : HasOneBound
+one_bound_in_lab content before now file starts observer e t s u x y known known_starts one other h k =
+    let rises = λ (name : List ℕ). Rose (before name) (now name) in
+    one_in_lab (Bounds rises content file starts observer e t) s u x y
+    (λ m n a b. prepares_one s u m n rises content file observer (rises starts) (content starts) (bound_next e t) one known other known_starts (λ p q o code ss. one_bound e t q o ss s u m n) a b) h k

@@ -13,6 +13,7 @@ use Rattle.tool_stages.specs.Content.{Content}
 use Rattle.tool_stages.specs.Stages.{Then}
 use Rattle.tool_stages.specs.Begins.{Prepares}
 use Rattle.tool_stages.specs.Envs.{ReportsIn}
+use Rattle.lab_texts.specs.InLab.{InLab}
 use Rattle.audit_stage.specs.Audited.{AuditStops}
 use Rattle.lab_bound.specs.Text.{IsBoundText}
 
@@ -25,12 +26,13 @@ HasBound e t q (Some l) ss =
     × (levels : List LevelRuns) × AreTold q l.number (memories_of ss) levels
     × (rest : List ℕ) × IsBoundText q.program.order l.number t levels rest × (x ≡ audit_lines q.program.order l t r ++ rest))
 
--- In the order of its refusals, which are those of an audit. `Rises` tells the names whose counts of faults rose.
-abbrev pub IsBoundAnswer : (List ℕ → Type 0) → Content → List ℕ → List ℕ → List ℕ → EnvName → ℕ → Status → List ℕ → Type 0
-IsBoundAnswer Rises content file starts observer e t =
+-- What is told, in the order of its refusals, which are those of an audit. `Rises` tells the names whose counts of
+-- faults rose.
+abbrev pub Bounds : (List ℕ → Type 0) → Content → List ℕ → List ℕ → List ℕ → EnvName → ℕ → Status → List ℕ → Type 0
+Bounds Rises content file starts observer e t =
     Prepares Rises content file observer (Rises starts) (content starts) (λ p q o code ss.
     HasBound e t q o ss)
 
--- of content that is told and files that are read, two answers are one
-pub record HasOneBound (Rises : List ℕ → Type 0) (content : Content) (file starts observer : List ℕ) (e : EnvName) (t : ℕ) : Type 0 where
-  pub one : (s u : Status) (x y : List ℕ) → IsBoundAnswer Rises content file starts observer e t s x → IsBoundAnswer Rises content file starts observer e t u y → (s ≡ u) × (x ≡ y)
+-- the answer of `bound`
+abbrev pub IsBoundAnswer : (List ℕ → Type 0) → Content → List ℕ → List ℕ → List ℕ → EnvName → ℕ → Status → List ℕ → Type 0
+IsBoundAnswer Rises content file starts observer e t = InLab (Bounds Rises content file starts observer e t)

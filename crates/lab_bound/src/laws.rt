@@ -1,6 +1,6 @@
 //! What is true of every answer.
 
-ghost use Rattle.lab_bound.specs.Complete.{HasOneAnswer};
+ghost use Rattle.lab_bound.specs.Complete.{HasOneBound};
 ghost use Rattle.lab_bound.specs.Enough.{AllAreEnough};
 
 use sharp_bound::laws::lowered_few_sequences_sharp_flat;
@@ -15,8 +15,8 @@ pub fn sharp_counts_are_enough()
     lowered_few_sequences_sharp_by_history();
 }
 
-/// A law: where both files are told to hold bytes, and no count of their faults rose, the answer is one status and one
+/// A law: where both files are told to hold bytes, and neither count of faults rose, the answer is one status and one
 /// text.
-pub fn one_answer()
-    ensures { HasOneAnswer }
+pub fn one_bound()
+    ensures { HasOneBound }
 {}

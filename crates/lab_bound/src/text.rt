@@ -1,14 +1,15 @@
 //! The text of `bound`.
 
-ghost use Rattle.std.specs.Prelude.{◌≡◌, ◌≤◌, ◌++◌, ℕ, List, Some, IfOk, IfErr, length, map, OnOk};
+ghost use Rattle.std.specs.Prelude.{◌≡◌, ◌≤◌, ◌++◌, ℕ, List, Some, IfOk, IfErr, length, map, OnOk, IsTrue};
 ghost use Rattle.tim_base.specs.Faults.{Rose};
 ghost use Rattle.start_file.specs.Starts.{seen};
 ghost use Rattle.tool_words.specs.WordsAsked.{IsCycles};
-ghost use Rattle.tool_texts.specs.Ends.{IsStop};
+ghost use Rattle.tool_texts.specs.Ends.{IsStop, status_of};
 ghost use Rattle.tool_texts.specs.declared.status.Status.TheVariants as status;
 ghost use Rattle.tool_stages.specs.Begins.{CanAudit};
+ghost use Rattle.tool_stages.specs.Accepted.{is_past_typing, IsAccepted};
 ghost use Rattle.lab_bound.specs.Text.{BoundPut};
-ghost use Rattle.lab_bound.specs.Answer.{HasBound, IsBoundAnswer};
+ghost use Rattle.lab_bound.specs.Answer.{HasBound, Bounds};
 
 use crate::lines::{put_levels, put_sharp};
 use audit_stage::audited::audited;
@@ -81,8 +82,10 @@ pub fn bound_text<S: Shelf>(
     requires { IsCycles setting.budget }
     ensures same { (name : List ℕ) → S.content shelf.new name ≡ S.content shelf.old name }
     ensures later { (name : List ℕ) → S.faults shelf.old name ≤ S.faults shelf.new name }
-    ensures text { IfOk result (λ v. IsBoundAnswer (λ name. Rose (S.faults shelf.old name) (S.faults shelf.new name)) (S.content shelf.old) file.now starts.now name.now setting.env setting.budget status.Done v.items) }
-    ensures stop { IfErr result (IsStop (IsBoundAnswer (λ name. Rose (S.faults shelf.old name) (S.faults shelf.new name)) (S.content shelf.old) file.now starts.now name.now setting.env setting.budget)) }
+    ensures text { IfOk result (λ v. Bounds (λ name. Rose (S.faults shelf.old name) (S.faults shelf.new name)) (S.content shelf.old) file.now starts.now name.now setting.env setting.budget status.Done v.items) }
+    ensures stop { IfErr result (IsStop (Bounds (λ name. Rose (S.faults shelf.old name) (S.faults shelf.new name)) (S.content shelf.old) file.now starts.now name.now setting.env setting.budget)) }
+    ensures sound { OnOk result (IsAccepted (S.content shelf.old file.now)) }
+    ensures sound_stop { IfErr result (λ e. IsTrue (is_past_typing (status_of e)) → IsAccepted (S.content shelf.old file.now)) }
 {
     let prepared = match prepare(alloc, shelf, file, starts, name) {
         Ok(prepared) => prepared,
