@@ -7,6 +7,8 @@ use Rattle.label_lattice.specs.Order.{Order}
 use Rattle.mit_syntax.specs.Todo.{Todo, Done, Skip, Assign, Put, Sleep, If, While, Mitigate, commands_of}
 use Rattle.mit_syntax.specs.Program.{Syntax, plan_of}
 use Rattle.mit_syntax.specs.Values.{value_of}
+use Rattle.mit_parser.specs.Words.{Told}
+use Rattle.mit_parser.specs.Spells.{IsProgram}
 use Rattle.doubling_schedule.specs.Doubling.{prediction}
 use Rattle.timing_types.specs.Labelled.{LabelledProgram, order_of, labels_of, levels_of}
 use Rattle.source_meaning.specs.Source.{source_start, source_steps, started_in}
@@ -17,6 +19,7 @@ use Rattle.label_code.specs.Run.{Start}
 use Rattle.code_lower.specs.Lowered.{lowered}
 use Rattle.leak_bound.specs.Relevant.{is_relevant}
 use Rattle.leak_bound.specs.Records.{Each}
+use Rattle.leak_bound.specs.Source.{IsTypedWith}
 use Rattle.sharp_count.specs.declared.count.LevelRuns.{LevelRuns}
 use Rattle.sharp_count.specs.Count.{rising, sharp, fitting}
 use Rattle.sharp_count.specs.Levels.{told_of, counts_of}
@@ -133,6 +136,9 @@ module _ {E : Type 0} (v : Env E) (serves : Order → E → Type 0) (made : Orde
       let d = is.distinct in
       omega (arith, same, c, d)
 
+typed_with : (words : List Told) (p : Syntax) (q : LabelledProgram) → IsProgram words p → Types p q → IsTypedWith q
+typed_with words p q spelled types = spelled_made words p q spelled types
+
 -- in each environment that `--env` names
 module _ (flat : LoweredSharpAll flat_env (λ order e. Unit {0})) (part : LoweredSharpOver part_by_history AnyHistory) (part2 : LoweredSharpOver part2_by_history AnyHistory) where
   below : (p : Syntax) (q : LabelledProgram) (o : ℕ) → Types p q → o < p.order.size → o < q.program.order.size
@@ -140,13 +146,13 @@ module _ (flat : LoweredSharpAll flat_env (λ order e. Unit {0})) (part : Lowere
 
   pub all_enough : AllAreEnough
   all_enough Flat t some words p q o ss r levels spelled types low is h =
-      let f = found flat_env (λ order e. Unit {0}) flat_made q o t (flat q (spelled_made words p q spelled types)) (below p q o types low) some ss r levels is h in
+      let f = found flat_env (λ order e. Unit {0}) flat_made q o t (flat q (typed_with words p q spelled types)) (below p q o types low) some ss r levels is h in
       record { begun = f.begun; few = f.few; counted = counted flat_env (λ order e. Unit {0}) flat_made q o t ss r levels is f }
   all_enough Part t some words p q o ss r levels spelled types low is h =
       let v = part_by_history q.program.order in
-      let f = found v AnyHistory history_made q o t (part q (spelled_made words p q spelled types)) (below p q o types low) some ss r levels is h in
+      let f = found v AnyHistory history_made q o t (part q (typed_with words p q spelled types)) (below p q o types low) some ss r levels is h in
       record { begun = f.begun; few = f.few; counted = counted v AnyHistory history_made q o t ss r levels is f }
   all_enough Part2 t some words p q o ss r levels spelled types low is h =
       let v = part2_by_history q.program.order in
-      let f = found v AnyHistory history_made q o t (part2 q (spelled_made words p q spelled types)) (below p q o types low) some ss r levels is h in
+      let f = found v AnyHistory history_made q o t (part2 q (typed_with words p q spelled types)) (below p q o types low) some ss r levels is h in
       record { begun = f.begun; few = f.few; counted = counted v AnyHistory history_made q o t ss r levels is f }
