@@ -1,0 +1,49 @@
+use Rattle.std.proofs.Common.{◌≡◌, ◌⊎◌, ℕ, List, Option, Bor, inl, inr, refl, sym, subst}
+use Rattle.tim_base.specs.Faults.{Rose}
+use Rattle.tool_words.specs.declared.words.EnvName.{EnvName}
+use Rattle.tool_texts.specs.declared.status.Status.TheVariants.{Usage}
+use Rattle.tool_texts.specs.Ends.{EndsBy, Nothing}
+use Rattle.tool_texts.proofs.EndLemmas.{ends_finish}
+use Rattle.lab_texts.specs.InLab.{lab_usage_text}
+use Rattle.lab_words.specs.declared.question.Question.{Question}
+use Rattle.lab_words.specs.declared.question.Question.TheVariants.{Why, Seen, Timeline, Bound}
+use Rattle.lab_words.specs.QuestionViews.{asked_of}
+use Rattle.lab_tool.specs.Answers.{Before, IsAnswer, IsUsage}
+use Rattle.lab_tool.proofs.main_call.obey.Goals as goal
+
+pub returns-in-None-clause-answered : goal.returns-in-None-clause-answered
+returns-in-None-clause-answered g c =
+    let content = g.S.Shelf.content c.args.shelf.now in
+    let rises = λ (name : List ℕ). Rose (g.S.Shelf.faults c.args.shelf.now name) (g.S.Shelf.faults c.why.new.shelf name) in
+    let P = λ (x : Question). EndsBy (g.W.Sink.taken c.args.out.now) (g.W.Sink.taken c.why.new.out) (Before content (asked_of x)) (IsAnswer rises content (asked_of x)) c.why.result in
+    subst P (sym c.in-Why.is) (subst (λ (o : Option (Bor (List ℕ))). P (Why c.in-Why.file o)) (sym c.in-None.is) c.why.ensures.answered)
+
+pub returns-in-Some-clause-answered : goal.returns-in-Some-clause-answered
+returns-in-Some-clause-answered g c =
+    let content = g.S.Shelf.content c.args.shelf.now in
+    let rises = λ (name : List ℕ). Rose (g.S.Shelf.faults c.args.shelf.now name) (g.S.Shelf.faults c.args.shelf.now name) in
+    let P = λ (x : Question). EndsBy (g.W.Sink.taken c.args.out.now) (g.W.Sink.taken c.stop.new.out) (Before content (asked_of x)) (IsAnswer rises content (asked_of x)) c.stop.result in
+    let usage = ends_finish (g.W.Sink.taken c.args.out.now) (g.W.Sink.taken c.stop.new.out) Nothing IsUsage Usage lab_usage_text c.stop.result (refl, refl) c.stop.ensures.told c.stop.ensures.prefix in
+    subst P (sym c.in-Why.is) (subst (λ (o : Option (Bor (List ℕ))). P (Why c.in-Why.file o)) (sym c.in-Some.is) usage)
+
+pub returns-in-Seen-clause-answered : goal.returns-in-Seen-clause-answered
+returns-in-Seen-clause-answered g c =
+    let content = g.S.Shelf.content c.args.shelf.now in
+    let rises = λ (name : List ℕ). Rose (g.S.Shelf.faults c.args.shelf.now name) (g.S.Shelf.faults c.seen.new.shelf name) in
+    subst (λ (x : Question). EndsBy (g.W.Sink.taken c.args.out.now) (g.W.Sink.taken c.seen.new.out) (Before content (asked_of x)) (IsAnswer rises content (asked_of x)) c.seen.result) (sym c.in-Seen.is) c.seen.ensures.answered
+
+-- a question that is not offered
+not_offered : (P : Question → Type 0) (x : Question) → ((f s : Bor (List ℕ)) (o : Option (Bor (List ℕ))) (e : EnvName) (b : ℕ) → P (Timeline f s o e b))
+    → ((f s o : Bor (List ℕ)) (e : EnvName) (b : ℕ) → P (Bound f s o e b))
+    → ((f : Bor (List ℕ)) × (s : Bor (List ℕ)) × (o : Option (Bor (List ℕ))) × (e : EnvName) × (b : ℕ) × (x ≡ Timeline f s o e b))
+    ⊎ ((f : Bor (List ℕ)) × (s : Bor (List ℕ)) × (o : Bor (List ℕ)) × (e : EnvName) × (b : ℕ) × (x ≡ Bound f s o e b)) → P x
+not_offered P x t u (inl (f, s, o, e, b, i)) = subst P (sym i) (t f s o e b)
+not_offered P x t u (inr (f, s, o, e, b, i)) = subst P (sym i) (u f s o e b)
+
+pub returns-in-Timeline-clause-answered : goal.returns-in-Timeline-clause-answered
+returns-in-Timeline-clause-answered g c =
+    let content = g.S.Shelf.content c.args.shelf.now in
+    let rises = λ (name : List ℕ). Rose (g.S.Shelf.faults c.args.shelf.now name) (g.S.Shelf.faults c.args.shelf.now name) in
+    let usage = ends_finish (g.W.Sink.taken c.args.out.now) (g.W.Sink.taken c.stop-in-Timeline.new.out) Nothing IsUsage Usage lab_usage_text c.stop-in-Timeline.result (refl, refl) c.stop-in-Timeline.ensures.told c.stop-in-Timeline.ensures.prefix in
+    not_offered (λ (x : Question). EndsBy (g.W.Sink.taken c.args.out.now) (g.W.Sink.taken c.stop-in-Timeline.new.out) (Before content (asked_of x)) (IsAnswer rises content (asked_of x)) c.stop-in-Timeline.result) c.args.question
+    (λ f s o e b. usage) (λ f s o e b. usage) c.in-Timeline.is
