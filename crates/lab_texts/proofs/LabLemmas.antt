@@ -1,7 +1,7 @@
 -- What the tool tells is told by the lab with its own usage text.
 use Rattle.std.proofs.Common.{◌≡◌, ℕ, List, [], refl, sym, ap, ◌∙◌, Vec, Global, Result, IfOk, IfErr}
 use Rattle.tool_texts.specs.declared.status.Status.{Status}
-use Rattle.tool_texts.specs.declared.status.Status.TheVariants.{Done, Refused, Syntax, Starts, Usage, ReadFault, WriteFault, TooLong, Budget, Disagree, Unfinished, Memory}
+use Rattle.tool_texts.specs.declared.status.Status.TheVariants.{Done, Refused, Syntax, Starts, Usage, ReadFault, WriteFault, TooLong, Budget, Disagree, Unfinished, Memory, Rejected}
 use Rattle.tool_texts.specs.declared.stop.Stop.{Stop}
 use Rattle.tool_texts.specs.Ends.{Tells, IsStop, Nothing, status_of, stop_text, told_status, told_text}
 use Rattle.tool_texts.proofs.EndLemmas.{tells_broke, result_tells}
@@ -20,6 +20,7 @@ tells_in_lab Before A Budget t h = (t, h, refl)
 tells_in_lab Before A Disagree t h = (t, h, refl)
 tells_in_lab Before A Unfinished t h = (t, h, refl)
 tells_in_lab Before A Memory t h = h
+tells_in_lab Before A Rejected t h = (t, h, refl)
 
 -- a text or a stop that was made before it is written
 pub result_tells_in_lab : (A : Status → List ℕ → Type 0) (r : Result (Vec ℕ Global) Stop) → IfOk r (λ v. A Done v.items) → IfErr r (IsStop A) → Tells Nothing (InLab A) (told_status r) (lab_text (told_status r) (told_text r))
