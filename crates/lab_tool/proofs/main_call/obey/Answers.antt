@@ -43,6 +43,6 @@ pub returns-in-Timeline-clause-answered : goal.returns-in-Timeline-clause-answer
 returns-in-Timeline-clause-answered g c =
     let content = g.S.Shelf.content c.args.shelf.now in
     let rises = λ (name : List ℕ). Rose (g.S.Shelf.faults c.args.shelf.now name) (g.S.Shelf.faults c.args.shelf.now name) in
-    let usage = ends_finish (g.W.Sink.taken c.args.out.now) (g.W.Sink.taken c.stop-in-Timeline.new.out) Nothing IsUsage Usage lab_usage_text c.stop-in-Timeline.result (refl, refl) c.stop-in-Timeline.ensures.told c.stop-in-Timeline.ensures.prefix in
-    not_offered (λ (x : Question). EndsBy (g.W.Sink.taken c.args.out.now) (g.W.Sink.taken c.stop-in-Timeline.new.out) (Before content (asked_of x)) (IsAnswer rises content (asked_of x)) c.stop-in-Timeline.result) c.args.question
+    let usage = ends_finish (g.W.Sink.taken c.args.out.now) (g.W.Sink.taken c.stop.new.out) Nothing IsUsage Usage lab_usage_text c.stop.result (refl, refl) c.stop.ensures.told c.stop.ensures.prefix in
+    not_offered (λ (x : Question). EndsBy (g.W.Sink.taken c.args.out.now) (g.W.Sink.taken c.stop.new.out) (Before content (asked_of x)) (IsAnswer rises content (asked_of x)) c.stop.result) c.args.question
     (λ f s o e b. usage) (λ f s o e b. usage) c.in-Timeline.is
