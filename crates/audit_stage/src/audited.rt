@@ -1,0 +1,82 @@
+//! From a prepared program to the report of an audit.
+
+ghost use Rattle.std.specs.Prelude.{◌≡◌, ℕ, List, IfOk, IfErr, map};
+ghost use Rattle.label_lattice.specs.declared.label.Label.{Label};
+ghost use Rattle.timing_types.specs.Labelled.{LabelledProgram};
+ghost use Rattle.start_file.specs.Starts.{StartValue, seen};
+ghost use Rattle.tool_words.specs.WordsAsked.{IsCycles};
+ghost use Rattle.tool_texts.specs.Ends.{IsStop};
+ghost use Rattle.tool_stages.specs.Envs.{ReportsIn, AuditFaultsIn};
+ghost use Rattle.tool_stages.specs.Begins.{CanAudit};
+ghost use Rattle.audit_stage.specs.Audited.{AuditStops};
+
+use env_contract::make::MakeFlat;
+use history_reports::laws::reports_are_the_same;
+use leak_audit::audit::audit;
+use leak_audit::report::{AuditFault, AuditReport};
+use mit_syntax::program::Program;
+use part_tlb::part::MakePart;
+use part_tlb::part2::MakePart2;
+use std::alloc::Global;
+use tool_stages::prepared::Prepared;
+use tool_stages::setting::Setting;
+use tool_texts::lines;
+use tool_texts::status::Status;
+use tool_texts::stop::{Stop, no_memory};
+use tool_words::words::EnvName;
+
+// Audits in the environment of a name.
+fn audit_named(alloc: Global, p: &Prepared, setting: Setting) -> Result<AuditReport, AuditFault>
+    requires fit { CanAudit p.now.compiled.typed.labelled p.now.observer p.now.compiled.image (map seen p.now.starts.items) }
+    requires cycles { IsCycles setting.budget }
+    ensures report { IfOk result (ReportsIn setting.env p.now.compiled.typed.labelled p.now.observer.number setting.budget (map seen p.now.starts.items)) }
+    ensures fault { IfErr result (AuditFaultsIn setting.env p.now.compiled.typed.labelled p.now.observer.number setting.budget (map seen p.now.starts.items)) }
+{
+    let (typed, image, starts) = (&p.compiled.typed, &p.compiled.image, p.starts.as_slice());
+    let (observer, budget) = (p.observer, setting.budget);
+    image.laws();
+    reports_are_the_same();
+    match setting.env {
+        EnvName::Flat => audit(alloc, typed, image, starts, observer, budget, &MakeFlat),
+        EnvName::Part => audit(alloc, typed, image, starts, observer, budget, &MakePart),
+        EnvName::Part2 => audit(alloc, typed, image, starts, observer, budget, &MakePart2),
+    }
+}
+
+// The stop for an audit without a report.
+fn audit_stop(p: &Program, fault: AuditFault) -> Stop
+    ensures { (e : EnvName) (t : ℕ) (q : LabelledProgram) (l : Label) (ss : List StartValue) → p.now ≡ q.program → AuditFaultsIn e q l.number t ss fault → IsStop (AuditStops e t q l ss) result }
+{
+    match fault {
+        AuditFault::Disagree { run, what } => Stop::With {
+            status: Status::Disagree,
+            line: lines::report::disagree(p, run, what),
+        },
+        AuditFault::Unfinished { run, cycle } => Stop::With {
+            status: Status::Unfinished,
+            line: lines::report::unfinished(run, cycle),
+        },
+        AuditFault::TooMuch { count } => Stop::With {
+            status: Status::TooLong,
+            line: lines::number(b"too long: events ", count),
+        },
+        AuditFault::Memory => no_memory(),
+    }
+}
+
+/// The report of an audit in the environment of a name.
+///
+/// # Errors
+/// Stops with `Disagree`, `Unfinished`, `TooLong` or `Memory`.
+pub fn audited(alloc: Global, p: &Prepared, setting: Setting) -> Result<AuditReport, Stop>
+    requires fit { CanAudit p.now.compiled.typed.labelled p.now.observer p.now.compiled.image (map seen p.now.starts.items) }
+    requires cycles { IsCycles setting.budget }
+    ensures report { IfOk result (ReportsIn setting.env p.now.compiled.typed.labelled p.now.observer.number setting.budget (map seen p.now.starts.items)) }
+    ensures stop { IfErr result (IsStop (AuditStops setting.env setting.budget p.now.compiled.typed.labelled p.now.observer (map seen p.now.starts.items))) }
+{
+    let program = p.compiled.typed.labelled().program();
+    match audit_named(alloc, p, setting) {
+        Ok(report) => Ok(report),
+        Err(fault) => Err(audit_stop(program, fault)),
+    }
+}

@@ -1,0 +1,4 @@
+//! The stage in which the runs of a program are audited.
+#![tactic(auto)]
+
+pub mod audited;
