@@ -10,8 +10,8 @@ use Rattle.lab_runs.proofs.BeginLemmas.{begin_completes}
 use Rattle.lab_seen.specs.Seen.{AreLines, SeenBefore}
 use Rattle.lab_words.specs.QuestionAsked.{Asked, why, seen, timeline, bound}
 use Rattle.lab_tool.specs.Answers.{Before, IsAnswer}
-use Rattle.lab_tool.specs.Complete.{CanEnd, IsDoneIf, NoneRises}
-use Rattle.lab_tool.proofs.WhyLemmas.{why_ends}
+use Rattle.lab_tool.specs.Complete.{CanEnd, IsDoneIf, Names, NoneRises}
+use Rattle.lab_tool.proofs.WhyLemmas.{origin_ends, why_ends}
 
 -- a call whose answer has one status, and whose writes do not fail
 ends_as : (old new : Option (List ℕ)) (Before : List ℕ → Type 0) (A : Status → List ℕ → Type 0) (r e : Status) → EndsBy old new Before A r → (r ≡ status.WriteFault → ⊥) → ((t : List ℕ) → A r t → r ≡ e) → (r ≡ e) ⊎ (r ≡ status.Memory)
@@ -49,7 +49,10 @@ pub completes : (old new : Option (List ℕ)) (Rises : List ℕ → Type 0) (con
 completes old new Rises content (why file None) r Rose ends write e can none n =
     let k = first_file Rises content file [] none can.known in
     ends_as old new (Before content (why file None)) (IsAnswer Rises content (why file None)) r e ends (λ f. n (write f)) (λ t h. why_ends Rises content file r e t k.0 k.1 can.goes h)
-completes old new Rises content (why file (Some name)) r Rose ends write e can none n = absurd can.goes
+completes old new Rises content (why file (Some name)) r Rose ends write e can none n =
+    let k = first_file Rises content file [] none can.known in
+    done_if (Names (content file) name) r e can.goes (λ goes.
+    ends_as old new (Before content (why file (Some name))) (IsAnswer Rises content (why file (Some name))) r status.Done ends (λ f. n (write f)) (λ t h. origin_ends Rises content file name r t k.0 k.1 goes h))
 completes old new Rises content (seen file starts observer env budget) r Rose ends write e can none n =
     let k = first_file Rises content file (starts ∷ []) none can.known in
     let m = second_file Rises content file starts [] none can.known in

@@ -1,5 +1,7 @@
 -- How `why` ends.
-use Rattle.std.proofs.Common.{◌≡◌, ℕ, List, Option, refl, subst, inl, inr}
+use Rattle.std.proofs.Common.{◌≡◌, ℕ, List, Option, Some, None, refl, sym, subst, ◌∙◌, inl, inr}
+use Rattle.std.proofs.lemmas.Option.{none-some}
+use Rattle.flow_path.specs.declared.step.Spot.{Spot}
 use Rattle.mit_syntax.specs.Program.{Syntax}
 use Rattle.timing_types.specs.Labelled.{LabelledProgram, HasType}
 use Rattle.tool_texts.specs.declared.status.Status.{Status}
@@ -11,7 +13,9 @@ use Rattle.tool_stages.proofs.GoesLemmas.{program_goes}
 use Rattle.tool_stages.proofs.OneLemmas.{one_program, same_labelled}
 use Rattle.lab_why.specs.Answers.{ReasonStops, IsAccepted, IsWhyAnswer}
 use Rattle.lab_why.specs.Reasons.{HasReason}
-use Rattle.lab_tool.specs.Complete.{WhyGoes}
+use Rattle.lab_why.specs.Names.{named}
+use Rattle.lab_why.specs.Origins.{HasOrigins, IsOriginAnswer, NameStops}
+use Rattle.lab_tool.specs.Complete.{Names, WhyGoes}
 
 -- a stage that does not stop and gives one value at most, and then ends
 pub then_ends : {A : Type 0} (Stops : Status → List ℕ → Type 0) (Gives : A → Type 0) (Next : A → Status → List ℕ → Type 0) (s e : Status) (t : List ℕ)
@@ -70,3 +74,30 @@ why_ends Rises content file s status.Budget t n known goes h = absurd goes
 why_ends Rises content file s status.Disagree t n known goes h = absurd goes
 why_ends Rises content file s status.Unfinished t n known goes h = absurd goes
 why_ends Rises content file s status.Memory t n known goes h = absurd goes
+
+name_stops : (p : Syntax) (w : List ℕ) (s : Status) (t : List ℕ) → NameStops p w s t → named p w ≡ None
+name_stops p w status.Done t h = absurd h
+name_stops p w status.Refused t h = absurd h
+name_stops p w status.Syntax t h = absurd h
+name_stops p w status.Starts t h = absurd h
+name_stops p w status.Usage t h = h.0
+name_stops p w status.ReadFault t h = absurd h
+name_stops p w status.WriteFault t h = absurd h
+name_stops p w status.TooLong t h = absurd h
+name_stops p w status.Budget t h = absurd h
+name_stops p w status.Disagree t h = absurd h
+name_stops p w status.Unfinished t h = absurd h
+name_stops p w status.Memory t h = absurd h
+
+told_ends : (c : Option (Option (List ℕ))) (p : Syntax) (w : List ℕ) (spot : Spot) (s : Status) (t : List ℕ) → named p w ≡ Some spot
+    → Then (NameStops p w) (λ spot. named p w ≡ Some spot) (λ spot s t. (s ≡ status.Done) × HasOrigins c p w spot t) s t → s ≡ status.Done
+told_ends c p w spot s t is (inl h) = absurd (none-some spot (sym (name_stops p w s t h) ∙ is))
+told_ends c p w spot s t is (inr h) = h.2.0
+
+-- `--of` a word that names something is done
+pub origin_ends : (Rises : List ℕ → Type 0) (content : Content) (file w : List ℕ) (s : Status) (t : List ℕ) → (Rises file → ⊥) → IsKnown (content file) → Names (content file) w
+    → IsOriginAnswer Rises content file w s t → s ≡ status.Done
+origin_ends Rises content file w s t n known goes h =
+    then_ends (ProgramStops (Rises file) (content file)) (Reads (content file))
+    (λ p. Then (NameStops p w) (λ spot. named p w ≡ Some spot) (λ spot s t. (s ≡ status.Done) × HasOrigins (content file) p w spot t)) s status.Done h.0
+    goes.0 goes.1 (one_program (content file) known) (program_goes (Rises file) (content file) goes.0 s h.0 n known goes.1) (told_ends (content file) goes.0 w goes.2 s h.0 goes.3) h.1

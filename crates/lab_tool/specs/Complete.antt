@@ -1,5 +1,6 @@
 -- How a question can end: what must be so that nothing but want of memory ends it otherwise.
-use Rattle.std.specs.Prelude.{ℕ, List, [], ◌∷◌, All, Option, Some, None}
+use Rattle.std.specs.Prelude.{◌≡◌, ℕ, List, [], ◌∷◌, All, Option, Some, None}
+use Rattle.flow_path.specs.declared.step.Spot.{Spot}
 use Rattle.mit_syntax.specs.Program.{Syntax}
 use Rattle.tool_texts.specs.declared.status.Status.{Status}
 use Rattle.tool_texts.specs.declared.status.Status.TheVariants as status
@@ -7,6 +8,7 @@ use Rattle.tool_stages.specs.Stages.{Reads}
 use Rattle.tool_stages.specs.Content.{Content, IsKnown}
 use Rattle.tool_stages.specs.Goes.{IsTypable}
 use Rattle.lab_runs.specs.Begins.{CanBegin}
+use Rattle.lab_why.specs.Names.{named}
 use Rattle.lab_words.specs.QuestionAsked.{Asked, why, seen, timeline, bound}
 
 -- the files that a question names
@@ -35,9 +37,14 @@ abbrev pub IsDoneIf : Type 0 → Status → Type 0
 IsDoneIf Can status.Done = Can
 IsDoneIf Can _ = ⊥
 
+-- `why --of` is done where the word names something in the program
+abbrev pub Names : Option (Option (List ℕ)) → List ℕ → Type 0
+Names content w = (p : Syntax) × Reads content p × (spot : Spot) × (named p w ≡ Some spot)
+
 -- what must be so beside the files
 abbrev pub Goes : Content → Asked → Status → Type 0
 Goes content (why file None) s = WhyGoes (content file) s
+Goes content (why file (Some name)) s = IsDoneIf (Names (content file) name) s
 Goes content (seen file starts observer e budget) s = IsDoneIf (CanBegin content file starts (Some observer)) s
 Goes content _ s = ⊥
 

@@ -10,6 +10,7 @@ ghost use Rattle.lab_tool.specs.Complete.{CanEnd, NoneRises};
 
 use lab_seen::seen::seen;
 use lab_texts::finish::stop;
+use lab_why::of::why_of;
 use lab_why::why::why;
 use lab_words::question::{Question, read_question};
 use std::alloc::Global;
@@ -39,7 +40,7 @@ fn obey<S: Shelf, W: Sink>(
     match question {
         Question::Why { file, of } => match of {
             None => why(alloc, shelf, out, file),
-            Some(_) => stop(out, Stop::Usage),
+            Some(name) => why_of(alloc, shelf, out, file, name),
         },
         Question::Seen {
             file,

@@ -21,10 +21,9 @@ returns-in-None-clause-answered g c =
 pub returns-in-Some-clause-answered : goal.returns-in-Some-clause-answered
 returns-in-Some-clause-answered g c =
     let content = g.S.Shelf.content c.args.shelf.now in
-    let rises = λ (name : List ℕ). Rose (g.S.Shelf.faults c.args.shelf.now name) (g.S.Shelf.faults c.args.shelf.now name) in
-    let P = λ (x : Question). EndsBy (g.W.Sink.taken c.args.out.now) (g.W.Sink.taken c.stop.new.out) (Before content (asked_of x)) (IsAnswer rises content (asked_of x)) c.stop.result in
-    let usage = ends_finish (g.W.Sink.taken c.args.out.now) (g.W.Sink.taken c.stop.new.out) Nothing IsUsage Usage lab_usage_text c.stop.result (refl, refl) c.stop.ensures.told c.stop.ensures.prefix in
-    subst P (sym c.in-Why.is) (subst (λ (o : Option (Bor (List ℕ))). P (Why c.in-Why.file o)) (sym c.in-Some.is) usage)
+    let rises = λ (name : List ℕ). Rose (g.S.Shelf.faults c.args.shelf.now name) (g.S.Shelf.faults c.why_of.new.shelf name) in
+    let P = λ (x : Question). EndsBy (g.W.Sink.taken c.args.out.now) (g.W.Sink.taken c.why_of.new.out) (Before content (asked_of x)) (IsAnswer rises content (asked_of x)) c.why_of.result in
+    subst P (sym c.in-Why.is) (subst (λ (o : Option (Bor (List ℕ))). P (Why c.in-Why.file o)) (sym c.in-Some.is) c.why_of.ensures.answered)
 
 pub returns-in-Seen-clause-answered : goal.returns-in-Seen-clause-answered
 returns-in-Seen-clause-answered g c =
@@ -44,6 +43,6 @@ pub returns-in-Timeline-clause-answered : goal.returns-in-Timeline-clause-answer
 returns-in-Timeline-clause-answered g c =
     let content = g.S.Shelf.content c.args.shelf.now in
     let rises = λ (name : List ℕ). Rose (g.S.Shelf.faults c.args.shelf.now name) (g.S.Shelf.faults c.args.shelf.now name) in
-    let usage = ends_finish (g.W.Sink.taken c.args.out.now) (g.W.Sink.taken c.stop-in-Timeline.new.out) Nothing IsUsage Usage lab_usage_text c.stop-in-Timeline.result (refl, refl) c.stop-in-Timeline.ensures.told c.stop-in-Timeline.ensures.prefix in
-    not_offered (λ (x : Question). EndsBy (g.W.Sink.taken c.args.out.now) (g.W.Sink.taken c.stop-in-Timeline.new.out) (Before content (asked_of x)) (IsAnswer rises content (asked_of x)) c.stop-in-Timeline.result) c.args.question
+    let usage = ends_finish (g.W.Sink.taken c.args.out.now) (g.W.Sink.taken c.stop.new.out) Nothing IsUsage Usage lab_usage_text c.stop.result (refl, refl) c.stop.ensures.told c.stop.ensures.prefix in
+    not_offered (λ (x : Question). EndsBy (g.W.Sink.taken c.args.out.now) (g.W.Sink.taken c.stop.new.out) (Before content (asked_of x)) (IsAnswer rises content (asked_of x)) c.stop.result) c.args.question
     (λ f s o e b. usage) (λ f s o e b. usage) c.in-Timeline.is
