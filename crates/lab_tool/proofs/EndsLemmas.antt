@@ -5,6 +5,8 @@ use Rattle.tool_texts.specs.declared.status.Status.TheVariants as status
 use Rattle.tool_texts.specs.Ends.{EndsBy}
 use Rattle.tool_stages.specs.Content.{Content}
 use Rattle.tool_stages.proofs.ChainLemmas.{first_file, second_file}
+use Rattle.lab_bound.specs.Complete.{CanBound}
+use Rattle.lab_bound.proofs.Answering.{completes as bound_completes}
 use Rattle.lab_runs.specs.Begins.{CanBegin}
 use Rattle.lab_runs.proofs.BeginLemmas.{begin_completes}
 use Rattle.lab_seen.specs.Seen.{AreLines, SeenBefore}
@@ -59,4 +61,8 @@ completes old new Rises content (seen file starts observer env budget) r Rose en
     done_if (CanBegin content file starts (Some observer)) r e can.goes (λ goes.
     begin_completes Rises content file starts (Some observer) (AreLines env budget) old new (SeenBefore content file starts observer env budget) r Rose ends write goes k.0 m.0 n)
 completes old new Rises content (timeline file starts observer env budget) r Rose ends write e can none n = absurd can.goes
-completes old new Rises content (bound file starts observer env budget) r Rose ends write e can none n = absurd can.goes
+completes old new Rises content (bound file starts observer env budget) r Rose ends write e can none n =
+    let k = first_file Rises content file (starts ∷ []) none can.known in
+    let m = second_file Rises content file starts [] none can.known in
+    done_if (CanBound content file starts observer env budget) r e can.goes (λ goes.
+    bound_completes old new Rises content file starts observer env budget r Rose ends write goes k.0 m.0 n)

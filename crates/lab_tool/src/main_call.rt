@@ -8,6 +8,7 @@ ghost use Rattle.lab_words.specs.QuestionViews.{asked_of};
 ghost use Rattle.lab_tool.specs.Answers.{Before, IsAnswer, IsUsage};
 ghost use Rattle.lab_tool.specs.Complete.{CanEnd, NoneRises};
 
+use lab_bound::bound::bound;
 use lab_seen::seen::seen;
 use lab_texts::finish::stop;
 use lab_why::of::why_of;
@@ -52,7 +53,17 @@ fn obey<S: Shelf, W: Sink>(
             let setting = Setting { env, budget };
             seen(alloc, shelf, out, file, starts, observer, setting)
         }
-        Question::Timeline { .. } | Question::Bound { .. } => stop(out, Stop::Usage),
+        Question::Timeline { .. } => stop(out, Stop::Usage),
+        Question::Bound {
+            file,
+            starts,
+            observer,
+            env,
+            budget,
+        } => {
+            let setting = Setting { env, budget };
+            bound(alloc, shelf, out, file, starts, observer, setting)
+        }
     }
 }
 
