@@ -1,6 +1,6 @@
 -- The texts of runs, while they are written one after the other.
-use Rattle.std.proofs.Common.{◌≡◌, ◌<◌, ℕ, suc, ◌+◌, List, [], ◌∷◌, ◌++◌, length, map, take, drop, get_or, Option, sym, ap, ◌∙◌, subst, arith, add-one, append-nil, append_assoc}
-use Rattle.std.proofs.lemmas.List.{drop-map, length-take, take-append-drop}
+use Rattle.std.proofs.Common.{◌≡◌, ◌<◌, ◌≤◌, ℕ, suc, ◌+◌, List, [], ◌∷◌, ◌++◌, length, map, take, drop, get_or, Option, sym, ap, ◌∙◌, subst, arith, add-one, append-nil, append_assoc}
+use Rattle.std.proofs.lemmas.List.{drop-map, drop_all, length-take, take-append-drop}
 use Rattle.std.proofs.Math.Seq.{drop-cons, take-add}
 use Rattle.std.proofs.KnownBytes.{Appends-trans}
 use Rattle.std.specs.Io.KnownBytes.{Appends}
@@ -52,3 +52,14 @@ module _ {A : Type 0} (text : ℕ → A → List ℕ) where
   -- memory was wanting before a text
   pub some_written : (xs : List A) (i : ℕ) (old now new : Option (List ℕ)) → Appends old now (texts text (take i xs)) → new ≡ now → WritesSome old new text xs
   some_written xs i old now new h same = record { runs = i; written = subst (λ z. Appends old z (texts text (take i xs))) (sym same) h }
+
+-- ---- members of a list, one after the other
+
+pub take_one : {A : Type 0} (xs : List A) (i : ℕ) (a : A) → drop i xs ≡ a ∷ drop (i + 1) xs → take (i + 1) xs ≡ take i xs ++ a ∷ []
+take_one xs i a from = take-add i 1 xs ∙ ap (λ z. take i xs ++ take 1 z) from
+
+pub take_end : {A : Type 0} (xs : List A) (i : ℕ) → length xs ≤ i → take i xs ≡ xs
+take_end xs i le = sym (append-nil (take i xs)) ∙ (ap (λ z. take i xs ++ z) (sym (drop_all i xs le)) ∙ take-append-drop i xs)
+
+pub texts_last : {A : Type 0} (text : ℕ → A → List ℕ) (xs : List A) (a : A) → texts text (xs ++ a ∷ []) ≡ texts text xs ++ text (1 + length xs) a
+texts_last text xs a = texts-append text xs (a ∷ []) 1 ∙ ap (λ z. texts text xs ++ z) (append-nil (text (1 + length xs) a))

@@ -10,6 +10,7 @@ use Rattle.lab_bound.proofs.Answering.{completes as bound_completes}
 use Rattle.lab_runs.specs.Begins.{CanBegin}
 use Rattle.lab_runs.proofs.BeginLemmas.{begin_completes}
 use Rattle.lab_seen.specs.Seen.{AreLines, SeenBefore}
+use Rattle.lab_timeline.specs.Timed.{AreTimelines, TimelinesBefore}
 use Rattle.lab_words.specs.QuestionAsked.{Asked, why, seen, timeline, bound}
 use Rattle.lab_tool.specs.Answers.{Before, IsAnswer}
 use Rattle.lab_tool.specs.Complete.{CanEnd, IsDoneIf, Names, NoneRises}
@@ -60,7 +61,11 @@ completes old new Rises content (seen file starts observer env budget) r Rose en
     let m = second_file Rises content file starts [] none can.known in
     done_if (CanBegin content file starts (Some observer)) r e can.goes (λ goes.
     begin_completes Rises content file starts (Some observer) (AreLines env budget) old new (SeenBefore content file starts observer env budget) r Rose ends write goes k.0 m.0 n)
-completes old new Rises content (timeline file starts observer env budget) r Rose ends write e can none n = absurd can.goes
+completes old new Rises content (timeline file starts observer env budget) r Rose ends write e can none n =
+    let k = first_file Rises content file (starts ∷ []) none can.known in
+    let m = second_file Rises content file starts [] none can.known in
+    done_if (CanBegin content file starts observer) r e can.goes (λ goes.
+    begin_completes Rises content file starts observer (AreTimelines env budget) old new (TimelinesBefore content file starts observer env budget) r Rose ends write goes k.0 m.0 n)
 completes old new Rises content (bound file starts observer env budget) r Rose ends write e can none n =
     let k = first_file Rises content file (starts ∷ []) none can.known in
     let m = second_file Rises content file starts [] none can.known in

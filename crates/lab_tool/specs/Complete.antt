@@ -48,7 +48,7 @@ Goes content (why file None) s = WhyGoes (content file) s
 Goes content (why file (Some name)) s = IsDoneIf (Names (content file) name) s
 Goes content (seen file starts observer e budget) s = IsDoneIf (CanBegin content file starts (Some observer)) s
 Goes content (bound file starts observer e budget) s = IsDoneIf (CanBound content file starts observer e budget) s
-Goes content _ s = ⊥
+Goes content (timeline file starts observer e budget) s = IsDoneIf (CanBegin content file starts observer) s
 
 -- the files that a question names are told to hold bytes, and with these it goes on to this end
 pub record CanEnd (content : Content) (a : Asked) (s : Status) : Type 0 where

@@ -11,6 +11,7 @@ ghost use Rattle.lab_tool.specs.Complete.{CanEnd, NoneRises};
 use lab_bound::bound::bound;
 use lab_seen::seen::seen;
 use lab_texts::finish::stop;
+use lab_timeline::timeline::timeline;
 use lab_why::of::why_of;
 use lab_why::why::why;
 use lab_words::question::{Question, read_question};
@@ -53,7 +54,16 @@ fn obey<S: Shelf, W: Sink>(
             let setting = Setting { env, budget };
             seen(alloc, shelf, out, file, starts, observer, setting)
         }
-        Question::Timeline { .. } => stop(out, Stop::Usage),
+        Question::Timeline {
+            file,
+            starts,
+            observer,
+            env,
+            budget,
+        } => {
+            let setting = Setting { env, budget };
+            timeline(alloc, shelf, out, file, starts, observer, setting)
+        }
         Question::Bound {
             file,
             starts,
