@@ -17,5 +17,5 @@ asked_some {A} o a P e h = subst (λ (z : Option A). IfSome z P) (sym e) h
 pub nothing_before : (content : Content) (a : Asked) → Before content a []
 nothing_before content (why file of) = refl
 nothing_before content (seen file starts observer e budget) = inl refl
-nothing_before content (timeline file starts observer e budget) = refl
+nothing_before content (timeline file starts observer e budget) = inl refl
 nothing_before content (bound file starts observer e budget) = refl

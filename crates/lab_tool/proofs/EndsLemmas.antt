@@ -5,9 +5,12 @@ use Rattle.tool_texts.specs.declared.status.Status.TheVariants as status
 use Rattle.tool_texts.specs.Ends.{EndsBy}
 use Rattle.tool_stages.specs.Content.{Content}
 use Rattle.tool_stages.proofs.ChainLemmas.{first_file, second_file}
+use Rattle.lab_bound.specs.Complete.{CanBound}
+use Rattle.lab_bound.proofs.Answering.{completes as bound_completes}
 use Rattle.lab_runs.specs.Begins.{CanBegin}
 use Rattle.lab_runs.proofs.BeginLemmas.{begin_completes}
 use Rattle.lab_seen.specs.Seen.{AreLines, SeenBefore}
+use Rattle.lab_timeline.specs.Timed.{AreTimelines, TimelinesBefore}
 use Rattle.lab_words.specs.QuestionAsked.{Asked, why, seen, timeline, bound}
 use Rattle.lab_tool.specs.Answers.{Before, IsAnswer}
 use Rattle.lab_tool.specs.Complete.{CanEnd, IsDoneIf, Names, NoneRises}
@@ -27,6 +30,7 @@ ends_as old new Before A status.Budget e h n f = inl (f h.0 h.1)
 ends_as old new Before A status.Disagree e h n f = inl (f h.0 h.1)
 ends_as old new Before A status.Unfinished e h n f = inl (f h.0 h.1)
 ends_as old new Before A status.Memory e h n f = inr refl
+ends_as old new Before A status.Rejected e h n f = inl (f h.0 h.1)
 
 -- what ends well only where it can
 done_if : (Can : Type 0) (r e : Status) → IsDoneIf Can e → (Can → (r ≡ status.Done) ⊎ (r ≡ status.Memory)) → (r ≡ e) ⊎ (r ≡ status.Memory)
@@ -42,6 +46,7 @@ done_if Can r status.Budget h f = absurd h
 done_if Can r status.Disagree h f = absurd h
 done_if Can r status.Unfinished h f = absurd h
 done_if Can r status.Memory h f = absurd h
+done_if Can r status.Rejected h f = absurd h
 
 pub completes : (old new : Option (List ℕ)) (Rises : List ℕ → Type 0) (content : Content) (a : Asked) (r : Status) (Rose : Type 0)
     → EndsBy old new (Before content a) (IsAnswer Rises content a) r → (r ≡ status.WriteFault → Rose)
@@ -58,5 +63,13 @@ completes old new Rises content (seen file starts observer env budget) r Rose en
     let m = second_file Rises content file starts [] none can.known in
     done_if (CanBegin content file starts (Some observer)) r e can.goes (λ goes.
     begin_completes Rises content file starts (Some observer) (AreLines env budget) old new (SeenBefore content file starts observer env budget) r Rose ends write goes k.0 m.0 n)
-completes old new Rises content (timeline file starts observer env budget) r Rose ends write e can none n = absurd can.goes
-completes old new Rises content (bound file starts observer env budget) r Rose ends write e can none n = absurd can.goes
+completes old new Rises content (timeline file starts observer env budget) r Rose ends write e can none n =
+    let k = first_file Rises content file (starts ∷ []) none can.known in
+    let m = second_file Rises content file starts [] none can.known in
+    done_if (CanBegin content file starts observer) r e can.goes (λ goes.
+    begin_completes Rises content file starts observer (AreTimelines env budget) old new (TimelinesBefore content file starts observer env budget) r Rose ends write goes k.0 m.0 n)
+completes old new Rises content (bound file starts observer env budget) r Rose ends write e can none n =
+    let k = first_file Rises content file (starts ∷ []) none can.known in
+    let m = second_file Rises content file starts [] none can.known in
+    done_if (CanBound content file starts observer env budget) r e can.goes (λ goes.
+    bound_completes old new Rises content file starts observer env budget r Rose ends write goes k.0 m.0 n)

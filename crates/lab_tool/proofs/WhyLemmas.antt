@@ -38,8 +38,9 @@ reason_stops c p status.Budget t h = absurd h
 reason_stops c p status.Disagree t h = absurd h
 reason_stops c p status.Unfinished t h = absurd h
 reason_stops c p status.Memory t h = absurd h
+reason_stops c p status.Rejected t h = absurd h
 
-is_typable : (p : Syntax) (q : LabelledProgram) → Types p q → IsTypable p
+pub is_typable : (p : Syntax) (q : LabelledProgram) → Types p q → IsTypable p
 is_typable p q k =
     let program : q.program ≡ p = k.program in
     (q.labels, k.least.labels, subst HasType (same_labelled q.program p q.labels q.labels program refl) k.typed)
@@ -74,13 +75,14 @@ why_ends Rises content file s status.Budget t n known goes h = absurd goes
 why_ends Rises content file s status.Disagree t n known goes h = absurd goes
 why_ends Rises content file s status.Unfinished t n known goes h = absurd goes
 why_ends Rises content file s status.Memory t n known goes h = absurd goes
+why_ends Rises content file s status.Rejected t n known goes h = absurd goes
 
-name_stops : (p : Syntax) (w : List ℕ) (s : Status) (t : List ℕ) → NameStops p w s t → named p w ≡ None
+pub name_stops : (p : Syntax) (w : List ℕ) (s : Status) (t : List ℕ) → NameStops p w s t → (s ≡ status.Usage) × (named p w ≡ None)
 name_stops p w status.Done t h = absurd h
 name_stops p w status.Refused t h = absurd h
 name_stops p w status.Syntax t h = absurd h
 name_stops p w status.Starts t h = absurd h
-name_stops p w status.Usage t h = h.0
+name_stops p w status.Usage t h = (refl, h.0)
 name_stops p w status.ReadFault t h = absurd h
 name_stops p w status.WriteFault t h = absurd h
 name_stops p w status.TooLong t h = absurd h
@@ -88,10 +90,11 @@ name_stops p w status.Budget t h = absurd h
 name_stops p w status.Disagree t h = absurd h
 name_stops p w status.Unfinished t h = absurd h
 name_stops p w status.Memory t h = absurd h
+name_stops p w status.Rejected t h = absurd h
 
 told_ends : (c : Option (Option (List ℕ))) (p : Syntax) (w : List ℕ) (spot : Spot) (s : Status) (t : List ℕ) → named p w ≡ Some spot
     → Then (NameStops p w) (λ spot. named p w ≡ Some spot) (λ spot s t. (s ≡ status.Done) × HasOrigins c p w spot t) s t → s ≡ status.Done
-told_ends c p w spot s t is (inl h) = absurd (none-some spot (sym (name_stops p w s t h) ∙ is))
+told_ends c p w spot s t is (inl h) = absurd (none-some spot (sym (name_stops p w s t h).1 ∙ is))
 told_ends c p w spot s t is (inr h) = h.2.0
 
 -- `--of` a word that names something is done

@@ -5,11 +5,13 @@ use Rattle.tool_texts.specs.declared.status.Status.TheVariants as status
 use Rattle.tool_stages.specs.Content.{Content}
 use Rattle.lab_texts.specs.InLab.{lab_usage_text}
 use Rattle.lab_words.specs.QuestionAsked.{Asked, why, seen, timeline, bound}
+use Rattle.lab_bound.specs.Answer.{IsBoundAnswer}
 use Rattle.lab_seen.specs.Seen.{IsSeen, SeenBefore}
+use Rattle.lab_timeline.specs.Timed.{TellsTimelines, TimelinesBefore}
 use Rattle.lab_why.specs.Answers.{IsWhyAnswer}
 use Rattle.lab_why.specs.Origins.{IsOriginAnswer}
 
--- words that ask for nothing, or for what is not offered
+-- words that ask for nothing
 abbrev pub IsUsage : Status → List ℕ → Type 0
 IsUsage s t = (s ≡ status.Usage) × (t ≡ lab_usage_text)
 
@@ -18,9 +20,11 @@ abbrev pub IsAnswer : (List ℕ → Type 0) → Content → Asked → Status →
 IsAnswer Rises content (why file None) = IsWhyAnswer Rises content file
 IsAnswer Rises content (why file (Some name)) = IsOriginAnswer Rises content file name
 IsAnswer Rises content (seen file starts observer e budget) = IsSeen Rises content file starts observer e budget
-IsAnswer Rises content _ = IsUsage
+IsAnswer Rises content (timeline file starts observer e budget) = TellsTimelines Rises content file starts observer e budget
+IsAnswer Rises content (bound file starts observer e budget) = IsBoundAnswer Rises content file starts observer e budget
 
 -- what may stand before the line for memory: nothing, or what is told of some of the runs
 abbrev pub Before : Content → Asked → List ℕ → Type 0
 Before content (seen file starts observer e budget) b = SeenBefore content file starts observer e budget b
+Before content (timeline file starts observer e budget) b = TimelinesBefore content file starts observer e budget b
 Before content a b = b ≡ []

@@ -7,6 +7,7 @@ use Rattle.tool_texts.specs.declared.status.Status.TheVariants as status
 use Rattle.tool_stages.specs.Stages.{Reads}
 use Rattle.tool_stages.specs.Content.{Content, IsKnown}
 use Rattle.tool_stages.specs.Goes.{IsTypable}
+use Rattle.lab_bound.specs.Complete.{CanBound}
 use Rattle.lab_runs.specs.Begins.{CanBegin}
 use Rattle.lab_why.specs.Names.{named}
 use Rattle.lab_words.specs.QuestionAsked.{Asked, why, seen, timeline, bound}
@@ -46,7 +47,8 @@ abbrev pub Goes : Content → Asked → Status → Type 0
 Goes content (why file None) s = WhyGoes (content file) s
 Goes content (why file (Some name)) s = IsDoneIf (Names (content file) name) s
 Goes content (seen file starts observer e budget) s = IsDoneIf (CanBegin content file starts (Some observer)) s
-Goes content _ s = ⊥
+Goes content (bound file starts observer e budget) s = IsDoneIf (CanBound content file starts observer e budget) s
+Goes content (timeline file starts observer e budget) s = IsDoneIf (CanBegin content file starts observer) s
 
 -- the files that a question names are told to hold bytes, and with these it goes on to this end
 pub record CanEnd (content : Content) (a : Asked) (s : Status) : Type 0 where

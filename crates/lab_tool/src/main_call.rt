@@ -8,8 +8,10 @@ ghost use Rattle.lab_words.specs.QuestionViews.{asked_of};
 ghost use Rattle.lab_tool.specs.Answers.{Before, IsAnswer, IsUsage};
 ghost use Rattle.lab_tool.specs.Complete.{CanEnd, NoneRises};
 
+use lab_bound::bound::bound;
 use lab_seen::seen::seen;
 use lab_texts::finish::stop;
+use lab_timeline::timeline::timeline;
 use lab_why::of::why_of;
 use lab_why::why::why;
 use lab_words::question::{Question, read_question};
@@ -52,7 +54,26 @@ fn obey<S: Shelf, W: Sink>(
             let setting = Setting { env, budget };
             seen(alloc, shelf, out, file, starts, observer, setting)
         }
-        Question::Timeline { .. } | Question::Bound { .. } => stop(out, Stop::Usage),
+        Question::Timeline {
+            file,
+            starts,
+            observer,
+            env,
+            budget,
+        } => {
+            let setting = Setting { env, budget };
+            timeline(alloc, shelf, out, file, starts, observer, setting)
+        }
+        Question::Bound {
+            file,
+            starts,
+            observer,
+            env,
+            budget,
+        } => {
+            let setting = Setting { env, budget };
+            bound(alloc, shelf, out, file, starts, observer, setting)
+        }
     }
 }
 

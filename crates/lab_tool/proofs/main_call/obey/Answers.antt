@@ -6,7 +6,7 @@ use Rattle.tool_texts.specs.Ends.{EndsBy, Nothing}
 use Rattle.tool_texts.proofs.EndLemmas.{ends_finish}
 use Rattle.lab_texts.specs.InLab.{lab_usage_text}
 use Rattle.lab_words.specs.declared.question.Question.{Question}
-use Rattle.lab_words.specs.declared.question.Question.TheVariants.{Why, Seen, Timeline, Bound}
+use Rattle.lab_words.specs.declared.question.Question.TheVariants.{Why}
 use Rattle.lab_words.specs.QuestionViews.{asked_of}
 use Rattle.lab_tool.specs.Answers.{Before, IsAnswer, IsUsage}
 use Rattle.lab_tool.proofs.main_call.obey.Goals as goal
@@ -31,18 +31,14 @@ returns-in-Seen-clause-answered g c =
     let rises = λ (name : List ℕ). Rose (g.S.Shelf.faults c.args.shelf.now name) (g.S.Shelf.faults c.seen.new.shelf name) in
     subst (λ (x : Question). EndsBy (g.W.Sink.taken c.args.out.now) (g.W.Sink.taken c.seen.new.out) (Before content (asked_of x)) (IsAnswer rises content (asked_of x)) c.seen.result) (sym c.in-Seen.is) c.seen.ensures.answered
 
--- a question that is not offered
-not_offered : (P : Question → Type 0) (x : Question) → ((f s : Bor (List ℕ)) (o : Option (Bor (List ℕ))) (e : EnvName) (b : ℕ) → P (Timeline f s o e b))
-    → ((f s o : Bor (List ℕ)) (e : EnvName) (b : ℕ) → P (Bound f s o e b))
-    → ((f : Bor (List ℕ)) × (s : Bor (List ℕ)) × (o : Option (Bor (List ℕ))) × (e : EnvName) × (b : ℕ) × (x ≡ Timeline f s o e b))
-    ⊎ ((f : Bor (List ℕ)) × (s : Bor (List ℕ)) × (o : Bor (List ℕ)) × (e : EnvName) × (b : ℕ) × (x ≡ Bound f s o e b)) → P x
-not_offered P x t u (inl (f, s, o, e, b, i)) = subst P (sym i) (t f s o e b)
-not_offered P x t u (inr (f, s, o, e, b, i)) = subst P (sym i) (u f s o e b)
+pub returns-in-Bound-clause-answered : goal.returns-in-Bound-clause-answered
+returns-in-Bound-clause-answered g c =
+    let content = g.S.Shelf.content c.args.shelf.now in
+    let rises = λ (name : List ℕ). Rose (g.S.Shelf.faults c.args.shelf.now name) (g.S.Shelf.faults c.bound.new.shelf name) in
+    subst (λ (x : Question). EndsBy (g.W.Sink.taken c.args.out.now) (g.W.Sink.taken c.bound.new.out) (Before content (asked_of x)) (IsAnswer rises content (asked_of x)) c.bound.result) (sym c.in-Bound.is) c.bound.ensures.answered
 
 pub returns-in-Timeline-clause-answered : goal.returns-in-Timeline-clause-answered
 returns-in-Timeline-clause-answered g c =
     let content = g.S.Shelf.content c.args.shelf.now in
-    let rises = λ (name : List ℕ). Rose (g.S.Shelf.faults c.args.shelf.now name) (g.S.Shelf.faults c.args.shelf.now name) in
-    let usage = ends_finish (g.W.Sink.taken c.args.out.now) (g.W.Sink.taken c.stop.new.out) Nothing IsUsage Usage lab_usage_text c.stop.result (refl, refl) c.stop.ensures.told c.stop.ensures.prefix in
-    not_offered (λ (x : Question). EndsBy (g.W.Sink.taken c.args.out.now) (g.W.Sink.taken c.stop.new.out) (Before content (asked_of x)) (IsAnswer rises content (asked_of x)) c.stop.result) c.args.question
-    (λ f s o e b. usage) (λ f s o e b. usage) c.in-Timeline.is
+    let rises = λ (name : List ℕ). Rose (g.S.Shelf.faults c.args.shelf.now name) (g.S.Shelf.faults c.timeline.new.shelf name) in
+    subst (λ (x : Question). EndsBy (g.W.Sink.taken c.args.out.now) (g.W.Sink.taken c.timeline.new.out) (Before content (asked_of x)) (IsAnswer rises content (asked_of x)) c.timeline.result) (sym c.in-Timeline.is) c.timeline.ensures.answered
