@@ -1,5 +1,5 @@
 -- How many different fields there are, of any number of runs, from any number of files.
-use Rattle.std.specs.Prelude.{◌≤◌, ◌<◌, ℕ, List, Bool, map}
+use Rattle.std.specs.Prelude.{◌≤◌, ◌<◌, ◌^◌, ℕ, List, Bool, map}
 use Rattle.label_lattice.specs.declared.label.Label.{Label}
 use Rattle.mit_syntax.specs.Program.{Syntax}
 use Rattle.mit_parser.specs.Words.{Told}
@@ -13,11 +13,12 @@ use Rattle.leak_bound.specs.Records.{Tests, distinct_count}
 use Rattle.leak_bound.specs.Sound.{bound, most_ended}
 use Rattle.audit_parts.specs.Agreement.{starts_of}
 use Rattle.audit_parts.specs.Surveyed.{relevant_for}
+use Rattle.cut_audit.specs.declared.report.CutReport.{CutReport}
 use Rattle.seen_line.specs.Field.{seen_text}
 use Rattle.tool_words.specs.declared.words.EnvName.{EnvName}
 use Rattle.tool_words.specs.declared.words.EnvName.TheVariants.{Flat, Part, Part2}
 use Rattle.tool_stages.specs.Stages.{Types}
-use Rattle.tool_stages.specs.Envs.{flat_env, flat_made, told_in}
+use Rattle.tool_stages.specs.Envs.{flat_env, flat_made, told_in, CutReportsIn}
 use Rattle.tool_stages.specs.Goes.{AgreeIn}
 
 -- the field of what an observer sees of the run of a program's image from a start, up to T
@@ -37,3 +38,10 @@ FieldsAreFew =
     (words : List Told) (p : Syntax) (q : LabelledProgram) → IsProgram words p → Types p q → (e : EnvName) (t : ℕ) → 0 < t → (l : Label) → l.number < p.order.size →
     (ss : List StartValue) → AgreeIn e q l.number ss → (same : List ℕ → List ℕ → Bool) → Tests same →
     distinct_count same (map (field_in e t q l) ss) ≤ bound q.program.order l.number t (most_ended_in e t q l.number ss)
+
+-- The same with the bound that `cut` reports.
+abbrev pub FieldsAreWithinCut : Type 0
+FieldsAreWithinCut =
+    (words : List Told) (p : Syntax) (q : LabelledProgram) → IsProgram words p → Types p q → (e : EnvName) (t : ℕ) → 0 < t → (l : Label) → l.number < p.order.size →
+    (ss : List StartValue) (r : CutReport) → CutReportsIn e q l.number t ss r → (same : List ℕ → List ℕ → Bool) → Tests same →
+    distinct_count same (map (field_in e t q l) ss) ≤ r.base ^ r.exponent
