@@ -1,0 +1,6 @@
+mod Order
+mod Program
+mod Cut
+mod Spelled
+mod Types
+mod Premises
