@@ -4,3 +4,5 @@ mod Cut
 mod Spelled
 mod Types
 mod Premises
+mod Starts
+mod Audited

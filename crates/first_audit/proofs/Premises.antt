@@ -44,7 +44,7 @@ secret_stays : Flows (order_of labelled) 1 observer → ⊥
 unfolding table flow_table join_table
 secret_stays f = absurd (cc (f))
 
-begins : (h : ℤ) → Begins (order_of labelled) (labels_of labelled) (levels_of labelled) observer (plan_of program) (h ∷ pos 0 ∷ []) 1
+pub begins : (h : ℤ) → Begins (order_of labelled) (labels_of labelled) (levels_of labelled) observer (plan_of program) (h ∷ pos 0 ∷ []) 1
 unfolding table flow_table join_table
 begins h = (3, refl, refl)
 
@@ -85,7 +85,7 @@ flat : BothAreApart flat_env (λ order e. Unit {0}) (record {}) labelled
 unfolding table flow_table join_table
 flat = both flat_env (λ order e. Unit {0}) (record {}) tt refl refl 8 132 (λ e. absurd (omega (arith, e))) refl refl
 
-part : BothAreApart (part_by_history two) AnyHistory [] labelled
+pub part : BothAreApart (part_by_history two) AnyHistory [] labelled
 unfolding table flow_table join_table
 part = both (part_by_history two) AnyHistory [] tt refl refl 96 288 (λ e. absurd (omega (arith, e))) refl refl
 

@@ -55,3 +55,20 @@ pub record IsMet (content : Option (Option (List ℕ))) : Type 0 where
   pub flat : BothAreApart flat_env (λ order e. Unit {0}) (record {}) labelled
   pub part : BothAreApart (part_by_history labelled.program.order) AnyHistory [] labelled
   pub part2 : BothAreApart (part2_by_history labelled.program.order) AnyHistory [] labelled
+
+-- ---- the audit
+
+abbrev pub program_file : List ℕ
+program_file = codes "examples/nap.mit"
+
+abbrev pub starts_file : List ℕ
+starts_file = codes "examples/nap.toml"
+
+-- `audit examples/nap.mit examples/nap.toml --observer L --env part --budget 1000`
+abbrev pub audit_words : List (List ℕ)
+audit_words =
+    codes "audit" ∷ program_file ∷ starts_file ∷ codes "--observer" ∷ codes "L" ∷ codes "--env" ∷ codes "part" ∷ codes "--budget" ∷ codes "1000" ∷ []
+
+-- two different sequences, of at most 2 ^ 10
+abbrev pub audit_answer : List ℕ
+audit_answer = codes "runs 2\nobserver L\nbudget 1000\nlevels 1\nmitigations 1\ndistinct 2\nbound 2^10\nrun 1 class 1\nrun 2 class 2\n"

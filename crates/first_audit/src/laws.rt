@@ -9,3 +9,4 @@ ghost use Rattle.first_audit.specs.FirstAudit.{program_text, IsMet};
 pub fn theorem_is_met()
     ensures { (content : Option (Option (List ℕ))) → content ≡ Some (Some program_text) → IsMet content }
 {}
+
