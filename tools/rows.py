@@ -25,6 +25,10 @@ USAGE = """usage: mitigate check FILE
        mitigate blackbox READY --first Q [--budget T]
        mitigate certify FILE
        mitigate recheck FILE CERTIFICATE"""
+LAB_USAGE = """usage: lab why FILE [--of NAME]
+       lab seen FILE STARTS --observer L [--env flat|part|part2] [--budget T]
+       lab timeline FILE STARTS [--env flat|part|part2] [--budget T] [--observer L]
+       lab bound FILE STARTS --observer L [--env flat|part|part2] [--budget T]"""
 
 
 @dataclasses.dataclass
@@ -32,6 +36,7 @@ class Row:
     """A call with the answer that is wanted. `read` and `write` are the numbers of what fails, `room` what may be written."""
 
     shows: str
+    program: str = "mitigate"
     words: list = dataclasses.field(default_factory=list)
     files: dict = dataclasses.field(default_factory=dict)
     wanted: bytes = b""
@@ -83,8 +88,11 @@ def rows_of(table):
             rows[-1].files[name] += units(rest)
         elif mark == ">":
             rows[-1].wanted += text_of(rest)
+        elif mark == "lab":
+            rows[-1].program = mark
         elif mark == "usage":
-            rows[-1].wanted, rows[-1].status = USAGE.encode() + b"\n", USAGE_STATUS
+            usage = LAB_USAGE if rows[-1].program == "lab" else USAGE
+            rows[-1].wanted, rows[-1].status = usage.encode() + b"\n", USAGE_STATUS
         elif mark == "end":
             rows[-1].is_end = True
         elif mark:
@@ -120,9 +128,9 @@ def called_with_files(program, row):
         return called(program, row.words, folder)
 
 
-def without_faults():
-    """The rows that need no injected fault, each with its table's name."""
-    return [(name, row) for name, found in tables() for row in found if not row.needs_fault()]
+def without_faults(programs=("mitigate",)):
+    """The rows of these programs that need no injected fault, each with its table's name."""
+    return [(name, row) for name, found in tables() for row in found if row.program in programs and not row.needs_fault()]
 
 
 def pages():
@@ -144,9 +152,9 @@ def shown(page, name="mitigate"):
 
 
 @functools.cache
-def program():
-    """The path of the program that ./mitigate runs, which is built first where it has to be."""
-    told = subprocess.run([TOP / "mitigate"], env={**os.environ, "MITIGATE_WHICH": "1"}, stdout=subprocess.PIPE, text=True)
+def program(name="mitigate"):
+    """The path of the program that ./mitigate or ./lab runs, which is built first where it has to be."""
+    told = subprocess.run([TOP / name], env={**os.environ, "MITIGATE_WHICH": "1"}, stdout=subprocess.PIPE, text=True)
     if told.returncode:
         sys.exit(told.returncode)
     return told.stdout.rstrip("\n")

@@ -21,7 +21,7 @@ _mitigate() {
     local word=${COMP_WORDS[COMP_CWORD]} before=${COMP_WORDS[COMP_CWORD - 1]} command=${COMP_WORDS[1]:-} file
     COMPREPLY=()
     if [ "$COMP_CWORD" -eq 1 ]; then
-        mapfile -t COMPREPLY < <(compgen -W "check infer compile run meaning audit cut gen blackbox" -- "$word")
+        mapfile -t COMPREPLY < <(compgen -W "check infer compile run meaning audit cut gen blackbox certify recheck" -- "$word")
         return
     fi
     case $before in

@@ -77,19 +77,10 @@ pub record HasFault (e : EnvName) (t : ℕ) (q : LabelledProgram) (l : Label) (s
   pub line : x ≡ fault_line q.program fault
 
 pub audit_stops : (e : EnvName) (t : ℕ) (q : LabelledProgram) (l : Label) (ss : List StartValue) (s : Status) (x : List ℕ) → AuditStops e t q l ss s x → HasFault e t q l ss s x
-audit_stops e t q l ss status.Done x h = absurd h
-audit_stops e t q l ss status.Refused x h = absurd h
-audit_stops e t q l ss status.Syntax x h = absurd h
-audit_stops e t q l ss status.Starts x h = absurd h
-audit_stops e t q l ss status.Usage x h = absurd h
-audit_stops e t q l ss status.ReadFault x h = absurd h
-audit_stops e t q l ss status.WriteFault x h = absurd h
 audit_stops e t q l ss status.TooLong x h = record { fault = audit_fault.TooMuch h.0; none = λ e. cc; is = h.1; told = refl; line = h.2 }
-audit_stops e t q l ss status.Budget x h = absurd h
 audit_stops e t q l ss status.Disagree x h = record { fault = audit_fault.Disagree h.0 h.1; none = λ e. cc; is = h.2; told = refl; line = h.3 }
 audit_stops e t q l ss status.Unfinished x h = record { fault = audit_fault.Unfinished h.0 h.1; none = λ e. cc; is = h.2; told = refl; line = h.3 }
-audit_stops e t q l ss status.Memory x h = absurd h
-audit_stops e t q l ss status.Rejected x h = absurd h
+audit_stops e t q l ss _ x h = absurd h
 
 pub one_audit_stop : (e : EnvName) (t : ℕ) (q : LabelledProgram) (l : Label) (ss : List StartValue) (s u : Status) (x y : List ℕ) → AuditStops e t q l ss s x → AuditStops e t q l ss u y → Same s u x y
 one_audit_stop e t q l ss s u x y h k =

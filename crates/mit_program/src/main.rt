@@ -1,17 +1,14 @@
 // The program `mitigate`: the top call over the system's files and standard output.
 #![tactic(auto)]
 
-mod output;
-mod words;
-
-use crate::output::{At, kind_of_output};
-use crate::words::words;
 use mit_tool::mitigate_main;
 use std::alloc::Global;
 use std::io::{BufWriter, Write};
 use std::process::ExitCode;
 use tim_base::shelf::FileShelf;
 use tim_base::sink::OutSink;
+use tool_main::output::{At, kind_of_output};
+use tool_main::words::words;
 use tool_texts::status::Status;
 
 // Does what the words ask for, and writes each piece of the text at once.

@@ -80,4 +80,5 @@ pub record CanBeDone (content : Content) (a : Asked) : Type 0 where
 abbrev pub CertifiedIsTaken : Type 0
 CertifiedIsTaken =
     (content : Content) (before now : List ℕ → ℕ) (file certificate t : List ℕ) →
-    IsAnswer (λ name. Rose (before name) (now name)) content (certify file) status.Done t → IsTold (content certificate) t → length t ≤ limit → CanGoOn content (recheck file certificate)
+    IsAnswer (λ name. Rose (before name) (now name)) content (certify file) status.Done t →
+    IsTold (content certificate) t → length t ≤ limit → CanGoOn content (recheck file certificate)

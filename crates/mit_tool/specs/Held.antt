@@ -26,9 +26,9 @@ abbrev pub AreReadAlike : Content → List (List ℕ) → Type 0
 AreReadAlike content (first ∷ second ∷ []) = first ≡ second → IsSome (content first)
 AreReadAlike content names = Unit {0}
 
--- The files hold bytes by which the call ended with the answer to the command; where the call came past the typing, the
--- program that they spell is accepted, or sound with the labelling that a certificate holds; and the command is done, want
--- of memory aside, where by these bytes it can be and no count of faults rose.
+-- The files hold bytes by which the call ended with the answer to the command; the program that they spell is accepted,
+-- or is sound with the labelling that a certificate holds, where the call came past the typing; and the command is done,
+-- want of memory aside, where by these bytes it can be and no count of faults rose.
 pub record EndsByHeld (content : Content) (Rises : List ℕ → Type 0) (Risen : Type 0) (old new : Option (List ℕ)) (a : Asked) (s : Status) : Type 0 where
   pub held : Held
   pub told : HoldsTold content held

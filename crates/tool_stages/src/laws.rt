@@ -7,7 +7,8 @@ use history_bound::laws::lowered_few_sequences_by_history;
 use leak_bound::laws::lowered_few_sequences;
 
 /// A law: in each environment that `--env` names, the image of an accepted program does what the program does,
-/// and of starts that agree for an observer few different sequences are seen.
+/// and of starts that agree for an observer few different sequences are seen. `typed`: so it is with each labelling
+/// that types a program, also with one that is not the least.
 pub fn accepted_are_sound()
     ensures valid { AcceptedAreSound }
     ensures spelled { SpelledAreSound }

@@ -2,6 +2,8 @@ use anyhow::{Context, Result, bail};
 
 // A line of a row.
 pub(crate) enum Line<'a> {
+    // `lab`: the call is one of the lab.
+    Lab,
     // `$ WORDS`: the words of the call.
     Words(&'a str),
     // `- NAME`: a file follows.
@@ -59,6 +61,7 @@ impl<'a> Line<'a> {
             Some((mark, rest)) => with_rest(mark, rest),
             None => match line {
                 "" => Ok(Line::Nothing),
+                "lab" => Ok(Line::Lab),
                 "usage" => Ok(Line::Usage),
                 "end" => Ok(Line::EndAlone),
                 _ => bail!("the line {line} is not known"),

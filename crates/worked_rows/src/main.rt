@@ -1,4 +1,4 @@
-//! Calls of the tool over files in memory, each with the answer that is wanted. The rows are tables in data/.
+//! Calls of the tool and of the lab over files in memory, each with the answer that is wanted. The rows are tables in data/.
 #![tactic(auto)]
 
 use anyhow::{Context, Result, bail};
@@ -14,7 +14,7 @@ mod text;
 mod words;
 
 // The tables, in the order in which they are run.
-const TABLES: [&str; 14] = [
+const TABLES: [&str; 23] = [
     "examples.txt",
     "texts.txt",
     "prefixes.txt",
@@ -28,7 +28,16 @@ const TABLES: [&str; 14] = [
     "labels.txt",
     "audits.txt",
     "slots.txt",
+    "neighbours.txt",
+    "ample.txt",
+    "certificates.txt",
+    "rejections.txt",
     "faults.txt",
+    "lab-examples.txt",
+    "lab-why.txt",
+    "lab-runs.txt",
+    "lab-bounds.txt",
+    "lab-faults.txt",
 ];
 
 // How many rows were run, and how many of them gave something else than they want.

@@ -1,6 +1,7 @@
 use crate::line::Line;
 use crate::text::{put_repeated, put_text};
 use anyhow::{Context, Result, bail};
+use lab_tool::lab_main;
 use mit_tool::mitigate_main;
 use std::alloc::{AllocError, Global};
 use tim_base::shelf::MemShelf;
@@ -22,6 +23,12 @@ const USAGE: &[u8] = b"usage: mitigate check FILE
        mitigate recheck FILE CERTIFICATE
 ";
 
+const LAB_USAGE: &[u8] = b"usage: lab why FILE [--of NAME]
+       lab seen FILE STARTS --observer L [--env flat|part|part2] [--budget T]
+       lab timeline FILE STARTS [--env flat|part|part2] [--budget T] [--observer L]
+       lab bound FILE STARTS --observer L [--env flat|part|part2] [--budget T]
+";
+
 // A file in memory.
 #[derive(Drop)]
 struct NamedFile {
@@ -33,6 +40,9 @@ struct NamedFile {
 #[derive(Drop)]
 pub(crate) struct Row {
     shows: String,
+
+    // Whether the call is one of the lab, and not of the tool.
+    lab: bool,
     words: Vec<String>,
     files: Vec<NamedFile>,
 
@@ -54,6 +64,7 @@ impl Row {
     pub(crate) fn new(alloc: Global, shows: &str) -> Result<Row, AllocError> {
         Ok(Row {
             shows: String::from_str(alloc, shows)?,
+            lab: false,
             words: Vec::new(alloc),
             files: Vec::new(alloc),
             fetch_fails: 0,
@@ -72,6 +83,7 @@ impl Row {
     // Takes up a line of the row.
     pub(crate) fn read(&mut self, alloc: Global, line: &str) -> Result<()> {
         match Line::read(line)? {
+            Line::Lab => self.lab = true,
             Line::Words(words) => self.put_words(alloc, words)?,
             Line::File(name) => self.files.push(NamedFile {
                 name: String::from_str(alloc, name)?,
@@ -83,7 +95,7 @@ impl Row {
             }
             Line::Wanted(text) => put_text(&mut self.wanted, text)?,
             Line::Usage => {
-                self.wanted.extend_from_slice(USAGE)?;
+                self.wanted.extend_from_slice(self.usage())?;
                 self.status = 4;
             }
             Line::EndAlone => self.end_alone = true,
@@ -94,6 +106,11 @@ impl Row {
             Line::Nothing => (),
         }
         Ok(())
+    }
+
+    // The usage text of the program that is called.
+    fn usage(&self) -> &'static [u8] {
+        if self.lab { LAB_USAGE } else { USAGE }
     }
 
     fn put_words(&mut self, alloc: Global, words: &str) -> Result<(), AllocError> {
@@ -121,7 +138,12 @@ impl Row {
         shelf.fail_at(self.fetch_fails).map_err(|_| AllocError)?;
         let mut sink = MemSink::new_with_room(alloc, self.room).map_err(|_| AllocError)?;
         sink.fail_at(self.write_fails).map_err(|_| AllocError)?;
-        let status = mitigate_main(alloc, self.words.as_slice(), &mut shelf, &mut sink);
+        let words = self.words.as_slice();
+        let status = if self.lab {
+            lab_main(alloc, words, &mut shelf, &mut sink)
+        } else {
+            mitigate_main(alloc, words, &mut shelf, &mut sink)
+        };
         Ok((status.number(), sink))
     }
 

@@ -18,6 +18,7 @@ use tim_base::shelf::Shelf;
 use tool_stages::prepared::{Prepared, prepare};
 use tool_stages::setting::Setting;
 use tool_texts::pieces::audits::put_audit;
+use tool_texts::status::Status;
 use tool_texts::stop::{Stop, no_memory};
 
 /// A text and after it the lines of an audit's report.

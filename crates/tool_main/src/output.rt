@@ -1,4 +1,4 @@
-// When the text goes out.
+//! When the text goes out.
 
 use std::rt::Files;
 

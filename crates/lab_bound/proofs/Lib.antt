@@ -1,0 +1,6 @@
+pub mod Ending
+pub mod Bare
+pub mod Enough
+pub mod Putting
+pub mod Answering
+pub mod Single

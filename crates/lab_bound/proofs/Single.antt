@@ -1,0 +1,78 @@
+-- There is one answer.
+use Rattle.std.proofs.Common.{◌≡◌, ℕ, suc, List, [], ◌∷◌, ◌++◌, length, Option, Some, None, inl, inr, refl, sym, ap, ◌∙◌, subst, arith}
+use Rattle.std.specs.Prelude.{ℤ, codes}
+use Rattle.tim_base.specs.Faults.{Rose}
+use Rattle.label_lattice.specs.declared.label.Label.{Label}
+use Rattle.label_lattice.specs.Order.{Order}
+use Rattle.mit_syntax.specs.Program.{plan_of}
+use Rattle.timing_types.specs.Labelled.{LabelledProgram, order_of, labels_of, levels_of}
+use Rattle.start_file.specs.Starts.{StartValue}
+use Rattle.sharp_count.specs.declared.count.LevelRuns.{LevelRuns}
+use Rattle.sharp_count.specs.Count.{fitting}
+use Rattle.sharp_count.specs.Levels.{told_of, counts_of}
+use Rattle.sharp_bound.specs.Sharp.{relevant_at}
+use Rattle.level_counts.specs.Begun.{PredictedIn, FirstBeginsEach, AreTold, memories_of}
+use Rattle.level_counts.proofs.Leasts.{one_least}
+use Rattle.tool_words.specs.declared.words.EnvName.{EnvName}
+use Rattle.tool_texts.specs.declared.status.Status.{Status}
+use Rattle.tool_texts.specs.Reports.{audit_lines}
+use Rattle.tool_stages.proofs.OneLemmas.{Same}
+use Rattle.tool_stages.proofs.ChainLemmas.{prepares_one}
+use Rattle.lab_texts.proofs.LabLemmas.{one_in_lab}
+use Rattle.audit_stage.proofs.Once.{audit_stops, one_audit_stop, same_report, not_fault, same_lines}
+use Rattle.lab_bound.specs.Text.{IsBits, IsSharpText, IsBoundText, level_lines, number_text, sharp_of}
+use Rattle.lab_bound.specs.Answer.{HasBound, Bounds}
+use Rattle.lab_bound.specs.Complete.{HasOneBound}
+use Rattle.lab_bound.proofs.Enough.{begins_each_one}
+use Rattle.lab_bound.proofs.Answering.{bound_next}
+
+same_list : (a b : List LevelRuns) → length a ≡ length b → ((l : ℕ) → told_of a l ≡ told_of b l) → a ≡ b
+same_list [] [] e h = refl
+same_list [] (y ∷ b) e h = absurd (omega (arith, e))
+same_list (x ∷ a) [] e h = absurd (omega (arith, e))
+same_list (x ∷ a) (y ∷ b) e h = ap (λ z. z ∷ a) (h 0) ∙ ap (λ z. y ∷ z) (same_list a b (omega (arith, e)) (λ l. h (suc l)))
+
+same_told : (t u : LevelRuns) → t.mitigations ≡ u.mitigations → t.first ≡ u.first → t ≡ u
+same_told t u e f =
+    ap (λ z. let r : LevelRuns = record { mitigations = z; first = t.first } in r) e ∙ ap (λ z. let r : LevelRuns = record { mitigations = u.mitigations; first = z } in r) f
+
+same_counts : (q : LabelledProgram) (o : ℕ) (ms : List (List ℤ)) (c d : ℕ → ℕ) → FirstBeginsEach q o ms c → FirstBeginsEach q o ms d → (l : ℕ) → c l ≡ d l
+same_counts q o [] c d h k l = h l ∙ sym (k l)
+same_counts q o (m ∷ ms) c d h k l = begins_each_one q o m c d h k l
+
+-- what is told of the levels is told in one way
+one_told : (q : LabelledProgram) (o : ℕ) (ms : List (List ℤ)) (a b : List LevelRuns) → AreTold q o ms a → AreTold q o ms b → a ≡ b
+one_told q o ms a b h k =
+    same_list a b (h.size ∙ sym k.size)
+    (λ l. same_told (told_of a l) (told_of b l) (same_counts q o ms (counts_of a) (counts_of b) h.begun k.begun l)
+    (one_least (PredictedIn (relevant_at (order_of q) (labels_of q) (levels_of q) o (plan_of q.program) l) (plan_of q.program) ms) (told_of a l).first (told_of b l).first (h.first l) (k.first l)))
+
+one_bits : (n b c : ℕ) → IsBits n b → IsBits n c → b ≡ c
+one_bits n b c h k = let x = h.least c k.enough in let y = k.least b h.enough in omega (arith, x, y)
+
+one_sharp : (count : Option ℕ) (x y : List ℕ) → IsSharpText count x → IsSharpText count y → x ≡ y
+one_sharp None x y h k = h ∙ sym k
+one_sharp (Some n) x y h k =
+    h.2 ∙ ap (λ b. (number_text (codes "sharp ") n ++ codes "\n") ++ ((number_text (codes "bits ") b ++ codes "\n") ++ (number_text (codes "guess at most ") n ++ codes " times as often\n"))) (one_bits n h.0 k.0 h.1 k.1) ∙ sym k.2
+
+one_text : (order : Order) (o t : ℕ) (a b : List LevelRuns) (x y : List ℕ) → a ≡ b → IsBoundText order o t a x → IsBoundText order o t b y → x ≡ y
+one_text order o t a b x y e h k =
+    let rest : h.0 ≡ k.0 = one_sharp (fitting (sharp_of t b)) h.0 k.0 (subst (λ z. IsSharpText (fitting (sharp_of t z)) h.0) e h.1) k.1 in
+    h.2 ∙ ap (λ z. level_lines order o t 0 z ++ h.0) e ∙ ap (λ z. level_lines order o t 0 b ++ z) rest ∙ sym k.2
+
+one_bound : (e : EnvName) (t : ℕ) (q : LabelledProgram) (o : Option Label) (ss : List StartValue) (s u : Status) (x y : List ℕ) → HasBound e t q o ss s x → HasBound e t q o ss u y → Same s u x y
+one_bound e t q None ss s u x y h k = absurd h
+one_bound e t q (Some l) ss s u x y (inl h) (inl k) = one_audit_stop e t q l ss s u x y h k
+one_bound e t q (Some l) ss s u x y (inl h) (inr k) = let a = audit_stops e t q l ss s x h in absurd (a.none (not_fault e q l.number t ss k.0 a.fault k.1 a.is))
+one_bound e t q (Some l) ss s u x y (inr h) (inl k) = let a = audit_stops e t q l ss u y k in absurd (a.none (not_fault e q l.number t ss h.0 a.fault h.1 a.is))
+one_bound e t q (Some l) ss s u x y (inr h) (inr k) =
+    let lines = same_lines q.program.order l t h.0 k.0 (same_report e q l.number t ss h.0 k.0 h.1 k.1) in
+    let levels = one_told q l.number (memories_of ss) h.2.1 k.2.1 h.2.2 k.2.2 in
+    let rest = one_text q.program.order l.number t h.2.1 k.2.1 h.2.3 k.2.3 levels h.2.4 k.2.4 in
+    (h.2.0 ∙ sym k.2.0, h.2.5 ∙ ap (λ z. z ++ h.2.3) lines ∙ ap (λ z. audit_lines q.program.order l t k.0 ++ z) rest ∙ sym k.2.5)
+
+pub one_bound_in_lab : HasOneBound
+one_bound_in_lab content before now file starts observer e t s u x y known known_starts one other h k =
+    let rises = λ (name : List ℕ). Rose (before name) (now name) in
+    one_in_lab (Bounds rises content file starts observer e t) s u x y
+    (λ m n a b. prepares_one s u m n rises content file observer (rises starts) (content starts) (bound_next e t) one known other known_starts (λ p q o code ss. one_bound e t q o ss s u m n) a b) h k

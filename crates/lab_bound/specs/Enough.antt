@@ -1,0 +1,50 @@
+-- What the sharp count bounds.
+use Rattle.std.specs.Prelude.{◌≡◌, ◌≤◌, ◌<◌, ℕ, List, Some}
+use Rattle.mit_syntax.specs.Program.{Syntax, plan_of}
+use Rattle.mit_parser.specs.Words.{Told}
+use Rattle.mit_parser.specs.Spells.{IsProgram}
+use Rattle.timing_types.specs.Labelled.{LabelledProgram, order_of, labels_of, levels_of}
+use Rattle.start_file.specs.Starts.{StartValue}
+use Rattle.leak_bound.specs.Records.{Each}
+use Rattle.sharp_count.specs.declared.count.LevelRuns.{LevelRuns}
+use Rattle.sharp_count.specs.Count.{fitting}
+use Rattle.sharp_count.specs.Levels.{counts_of}
+use Rattle.sharp_bound.specs.Sharp.{BeginsEach}
+use Rattle.sharp_bound.specs.Guess.{FewShown}
+use Rattle.part_tlb.specs.Histories.{part_by_history, part2_by_history}
+use Rattle.history_bound.specs.Over.{history_made}
+use Rattle.audit_parts.specs.Agreement.{starts_of}
+use Rattle.audit_parts.specs.Sequences.{same_sequence}
+use Rattle.audit_parts.specs.Surveyed.{sequence_from}
+use Rattle.leak_audit.specs.declared.report.AuditReport.{AuditReport}
+use Rattle.level_counts.specs.Begun.{AreTold, memories_of}
+use Rattle.tool_words.specs.declared.words.EnvName.{EnvName}
+use Rattle.tool_words.specs.declared.words.EnvName.TheVariants.{Flat, Part, Part2}
+use Rattle.tool_stages.specs.Stages.{Types}
+use Rattle.tool_stages.specs.Envs.{flat_env, flat_made, ReportsIn}
+use Rattle.lab_bound.specs.Text.{sharp_of}
+
+-- In a named environment the runs from starts show at most n different sequences up to T, and whoever sees one of them
+-- guesses the start right at most n times as often.
+abbrev pub FewIn : EnvName → LabelledProgram → ℕ → ℕ → List StartValue → ℕ → Type 0
+FewIn Flat q o t ss n = FewShown (sequence_from flat_env q o t) same_sequence (starts_of flat_made q.program.order ss) n
+FewIn Part q o t ss n = FewShown (sequence_from (part_by_history q.program.order) q o t) same_sequence (starts_of history_made q.program.order ss) n
+FewIn Part2 q o t ss n = FewShown (sequence_from (part2_by_history q.program.order) q o t) same_sequence (starts_of history_made q.program.order ss) n
+
+-- of runs of which there is a report, and of whose levels this is told
+pub record IsEnough (e : EnvName) (q : LabelledProgram) (o t : ℕ) (ss : List StartValue) (r : AuditReport) (levels : List LevelRuns) : Type 0 where
+  -- each run, not the first alone, begins as many relevant mitigations of each level as are told
+  pub begun : Each (λ m. BeginsEach (order_of q) (labels_of q) (levels_of q) o (plan_of q.program) m (counts_of levels)) (memories_of ss)
+  -- the sharp count bounds the runs
+  pub few : FewIn e q o t ss (sharp_of t levels)
+  -- a number that is told is at least as great as the number of different sequences in the report
+  pub counted : (n : ℕ) → fitting (sharp_of t levels) ≡ Some n → r.distinct ≤ n
+
+-- so it is of each program that words spell, with its least labelling, up to each T of at least 1
+abbrev pub NumbersAreEnough : EnvName → ℕ → Type 0
+NumbersAreEnough e t = 0 < t →
+    (words : List Told) (p : Syntax) (q : LabelledProgram) (o : ℕ) (ss : List StartValue) (r : AuditReport) (levels : List LevelRuns) → IsProgram words p → Types p q → o < p.order.size →
+    ReportsIn e q o t ss r → AreTold q o (memories_of ss) levels → IsEnough e q o t ss r levels
+
+abbrev pub AllAreEnough : Type 0
+AllAreEnough = (e : EnvName) (t : ℕ) → NumbersAreEnough e t

@@ -1,0 +1,51 @@
+-- The lines that stand after those of an audit: what is told of each level, and the sharp count.
+use Rattle.std.specs.Prelude.{◌≡◌, ◌≤◌, ◌+◌, ◌^◌, ℕ, List, [], ◌∷◌, ◌++◌, length, Option, Some, None, cond, eqb, codes, decimal}
+use Rattle.label_lattice.specs.Order.{Order, lattice_of, name_of}
+use Rattle.sharp_count.specs.declared.count.LevelRuns.{LevelRuns}
+use Rattle.sharp_count.specs.declared.count.Runs.TheVariants.{Halted}
+use Rattle.sharp_count.specs.Count.{sharp, fitting}
+use Rattle.sharp_count.specs.Levels.{miss_counts, counts_of, values_of}
+
+-- ` first E digits B`, where runs begin mitigations of the level
+abbrev pub firsts_text : ℕ → LevelRuns → List ℕ
+firsts_text t told = cond (eqb told.mitigations 0) [] (codes " first " ++ (decimal told.first ++ (codes " digits " ++ decimal (miss_counts t told.first))))
+
+-- `level A mitigations K`, and that
+abbrev pub level_line : Order → ℕ → ℕ → LevelRuns → List ℕ
+level_line order t l told = codes "level " ++ (name_of order l ++ (codes " mitigations " ++ (decimal told.mitigations ++ (firsts_text t told ++ codes "\n"))))
+
+-- the levels from l on that do not flow to the observer
+abbrev pub level_lines : Order → ℕ → ℕ → ℕ → List LevelRuns → List ℕ
+level_lines order o t l [] = []
+level_lines order o t l (told ∷ levels) = cond ((lattice_of order).flows l o) [] (level_line order t l told) ++ level_lines order o t (l + 1) levels
+
+-- the sharp count of runs that halt by T, of which this is told
+abbrev pub sharp_of : ℕ → List LevelRuns → ℕ
+sharp_of t levels = sharp (values_of Halted t levels) (length levels) (counts_of levels)
+
+-- the least number of bits that tell n things apart
+pub record IsBits (n b : ℕ) : Type 0 where
+  pub enough : n ≤ 2 ^ b
+  pub least : (c : ℕ) → n ≤ 2 ^ c → b ≤ c
+
+abbrev pub number_text : List ℕ → ℕ → List ℕ
+number_text words n = words ++ decimal n
+
+-- `sharp N`, `bits B`, `guess at most N times as often`; N is told where it is below 2^128
+abbrev pub IsSharpText : Option ℕ → List ℕ → Type 0
+IsSharpText None x = x ≡ codes "sharp 2^128 or more\nbits 128 or more\nguess no limit told\n"
+IsSharpText (Some n) x =
+    (b : ℕ) × IsBits n b
+    × (x ≡ (number_text (codes "sharp ") n ++ codes "\n") ++ ((number_text (codes "bits ") b ++ codes "\n") ++ (number_text (codes "guess at most ") n ++ codes " times as often\n")))
+
+-- all these lines
+abbrev pub IsBoundText : Order → ℕ → ℕ → List LevelRuns → List ℕ → Type 0
+IsBoundText order o t levels x = (rest : List ℕ) × IsSharpText (fitting (sharp_of t levels)) rest × (x ≡ level_lines order o t 0 levels ++ rest)
+
+-- the lines of a sharp count stand after a text
+abbrev pub SharpPut : Option ℕ → List ℕ → List ℕ → Type 0
+SharpPut count old new = (rest : List ℕ) × IsSharpText count rest × (new ≡ old ++ rest)
+
+-- all lines stand after a text
+abbrev pub BoundPut : Order → ℕ → ℕ → List LevelRuns → List ℕ → List ℕ → Type 0
+BoundPut order o t levels old new = (rest : List ℕ) × IsBoundText order o t levels rest × (new ≡ old ++ rest)

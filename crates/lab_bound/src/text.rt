@@ -1,0 +1,98 @@
+//! The text of `bound`.
+
+ghost use Rattle.std.specs.Prelude.{◌≡◌, ◌≤◌, ◌++◌, ℕ, List, Some, IfOk, IfErr, length, map, OnOk, IsTrue};
+ghost use Rattle.tim_base.specs.Faults.{Rose};
+ghost use Rattle.start_file.specs.Starts.{seen};
+ghost use Rattle.tool_words.specs.WordsAsked.{IsCycles};
+ghost use Rattle.tool_texts.specs.Ends.{IsStop, status_of};
+ghost use Rattle.tool_texts.specs.declared.status.Status.TheVariants as status;
+ghost use Rattle.tool_stages.specs.Begins.{CanAudit};
+ghost use Rattle.tool_stages.specs.Accepted.{is_past_typing, IsAccepted};
+ghost use Rattle.lab_bound.specs.Text.{BoundPut};
+ghost use Rattle.lab_bound.specs.Answer.{HasBound, Bounds};
+
+use crate::lines::{put_levels, put_sharp};
+use audit_stage::audited::audited;
+use label_lattice::label::Label;
+use label_lattice::lattice::Lattice;
+use level_counts::levels::level_counts;
+use sharp_count::count::{LevelRuns, Runs, sharp_count};
+use std::alloc::{AllocError, Global};
+use tim_base::shelf::Shelf;
+use tool_stages::prepared::{Prepared, prepare};
+use tool_stages::setting::Setting;
+use tool_texts::pieces::audits::put_audit;
+use tool_texts::stop::{Stop, no_memory};
+
+// Appends what is told of the levels, and the sharp count of that.
+fn put_bound(
+    text: &mut Vec<u8>,
+    order: &Lattice,
+    observer: Label,
+    t: u64,
+    levels: &[LevelRuns],
+) -> Result<(), AllocError>
+    requires { length levels.now ≡ order.now.size }
+    ensures { OnOk result (BoundPut order.now observer.number t levels.now text.old.items text.new.items) }
+{
+    put_levels(text, order, observer, t, levels)?;
+    put_sharp(text, sharp_count(Runs::Halted, levels, t))?;
+    Ok(())
+}
+
+// The text of a prepared program.
+fn prepared_text(alloc: Global, p: &Prepared, setting: Setting) -> Result<Vec<u8>, Stop>
+    requires fit { CanAudit p.now.compiled.typed.labelled p.now.observer p.now.compiled.image (map seen p.now.starts.items) }
+    requires cycles { IsCycles setting.budget }
+    ensures text { IfOk result (λ v. HasBound setting.env setting.budget p.now.compiled.typed.labelled (Some p.now.observer) (map seen p.now.starts.items) status.Done v.items) }
+    ensures stop { IfErr result (IsStop (HasBound setting.env setting.budget p.now.compiled.typed.labelled (Some p.now.observer) (map seen p.now.starts.items))) }
+{
+    let report = match audited(alloc, p, setting) {
+        Ok(report) => report,
+        Err(stop) => return Err(stop),
+    };
+    let (typed, starts) = (&p.compiled.typed, p.starts.as_slice());
+    let (observer, budget) = (p.observer, setting.budget);
+    let Ok(levels) = level_counts(alloc, typed, starts, observer, budget + 1) else {
+        return Err(no_memory());
+    };
+    let order = typed.labelled().program().lattice();
+    let mut text = Vec::new(alloc);
+    let Ok(()) = put_audit(&mut text, &order, observer, budget, &report) else {
+        return Err(no_memory());
+    };
+    match put_bound(&mut text, &order, observer, budget, &levels) {
+        Ok(()) => Ok(text),
+        Err(_) => Err(no_memory()),
+    }
+}
+
+/// The text of `bound` for the program of a file and the starts of another one.
+///
+/// # Errors
+/// Stops with the first refusal, or with `Memory`.
+pub fn bound_text<S: Shelf>(
+    alloc: Global,
+    shelf: &mut S,
+    file: &str,
+    starts: &str,
+    name: &str,
+    setting: Setting,
+) -> Result<Vec<u8>, Stop>
+    requires { IsCycles setting.budget }
+    ensures same { (name : List ℕ) → S.content shelf.new name ≡ S.content shelf.old name }
+    ensures later { (name : List ℕ) → S.faults shelf.old name ≤ S.faults shelf.new name }
+    ensures text { IfOk result (λ v. Bounds (λ name. Rose (S.faults shelf.old name) (S.faults shelf.new name)) (S.content shelf.old) file.now starts.now name.now setting.env setting.budget status.Done v.items) }
+    ensures stop { IfErr result (IsStop (Bounds (λ name. Rose (S.faults shelf.old name) (S.faults shelf.new name)) (S.content shelf.old) file.now starts.now name.now setting.env setting.budget)) }
+    ensures sound { OnOk result (IsAccepted (S.content shelf.old file.now)) }
+    ensures sound_stop { IfErr result (λ e. IsTrue (is_past_typing (status_of e)) → IsAccepted (S.content shelf.old file.now)) }
+{
+    let prepared = match prepare(alloc, shelf, file, starts, name) {
+        Ok(prepared) => prepared,
+        Err(stop) => return Err(stop),
+    };
+    match prepared_text(alloc, &prepared, setting) {
+        Ok(text) => Ok(text),
+        Err(stop) => Err(stop),
+    }
+}

@@ -1,0 +1,4 @@
+//! What commands share that write a text for each run of a list of starts.
+#![tactic(auto)]
+
+pub mod fault;

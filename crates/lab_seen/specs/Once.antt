@@ -1,0 +1,16 @@
+-- `seen` has one answer.
+use Rattle.std.specs.Prelude.{◌≡◌, ℕ, List}
+use Rattle.tim_base.specs.Faults.{Rose}
+use Rattle.tool_words.specs.declared.words.EnvName.{EnvName}
+use Rattle.tool_texts.specs.declared.status.Status.{Status}
+use Rattle.tool_stages.specs.Content.{Content, IsKnown}
+use Rattle.lab_seen.specs.Seen.{IsSeen}
+
+-- Where both files are told to hold bytes, and neither count of faults rose, two answers are one: they have the same
+-- status and the same text.
+abbrev pub HasOneSeen : Type 0
+HasOneSeen =
+    (content : Content) (before now : List ℕ → ℕ) (file starts observer : List ℕ) (e : EnvName) (budget : ℕ) (s u : Status) (t x : List ℕ) →
+    IsKnown (content file) → IsKnown (content starts) → (Rose (before file) (now file) → ⊥) → (Rose (before starts) (now starts) → ⊥) →
+    IsSeen (λ name. Rose (before name) (now name)) content file starts observer e budget s t → IsSeen (λ name. Rose (before name) (now name)) content file starts observer e budget u x →
+    (s ≡ u) × (t ≡ x)

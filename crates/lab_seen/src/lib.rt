@@ -1,0 +1,8 @@
+//! `seen`: what an observer sees of each run from the starts of a file, a line for each.
+#![tactic(auto)]
+
+pub mod laws;
+mod line;
+mod load;
+pub mod seen;
+mod walk;

@@ -1,0 +1,35 @@
+//! From a start to a machine.
+
+ghost use Rattle.std.specs.Prelude.{◌≡◌, ℕ, IfOk};
+ghost use Rattle.label_code.specs.Run.{run_from};
+ghost use Rattle.code_lower.specs.Lowered.{lowered};
+ghost use Rattle.start_file.specs.Starts.{seen, IsFor};
+ghost use Rattle.event_print.specs.Rest.{told_by, rest_of};
+ghost use Rattle.audit_parts.specs.Agreement.{start_of};
+
+use cycle_machine::machine::Machine;
+use env_contract::env::MachineEnv;
+use env_contract::make::MakeEnv;
+use start_file::start::Start;
+use std::alloc::Global;
+use tim_base::pos::Memory;
+use tool_stages::compiled::Compiled;
+
+/// A machine at a start, in the environment that a maker makes of its touches. Fails only for want of memory.
+pub fn load<'a, E: MachineEnv + Drop, M: MakeEnv<E>>(
+    alloc: Global,
+    maker: &M,
+    program: &'a Compiled,
+    start: &Start,
+) -> Result<Machine<'a, E>, Memory>
+    requires image { program.now.image ≡ lowered program.now.typed.labelled }
+    requires start { IsFor program.now.typed.labelled.program (seen start.now) }
+    ensures code { IfOk result (λ m. m.code ≡ program.now.image) }
+    ensures runs { IfOk result (λ m. (t : ℕ) → rest_of (record { cost_of = E.cost_of; next_of = E.next_of; part = E.part }) t m
+        ≡ told_by (run_from (record { cost_of = E.cost_of; next_of = E.next_of; part = E.part }) program.now.image.instrs t (start_of M.made program.now.typed.labelled.program.order (seen start.now)))) }
+{
+    let env = maker.make(alloc, program.image.lattice(), start.touches.as_slice())?;
+    let memory = start.memory.clone()?;
+    let machine = Machine::load(alloc, &program.image, memory, env)?;
+    Ok(machine)
+}

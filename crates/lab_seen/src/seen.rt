@@ -1,0 +1,79 @@
+//! `seen`: the call.
+
+ghost use Rattle.std.specs.Prelude.{◌≡◌, ◌≤◌, ◌⊎◌, ℕ, List, IsTrue, Some};
+ghost use Rattle.tim_base.specs.Faults.{Rose};
+ghost use Rattle.tool_texts.specs.Ends.{EndsBy};
+ghost use Rattle.tool_stages.specs.Accepted.{is_past_typing, IsAccepted};
+ghost use Rattle.lab_runs.specs.Begins.{CanBegin};
+ghost use Rattle.lab_seen.specs.Seen.{IsSeen, SeenBefore};
+
+use crate::walk::write_lines;
+use lab_runs::fault::RunFault;
+use lab_texts::finish::stop;
+use std::alloc::Global;
+use tim_base::shelf::Shelf;
+use tim_base::sink::Sink;
+use tool_stages::prepared::{Prepared, prepare};
+use tool_stages::setting::Setting;
+use tool_texts::finish::finish;
+use tool_texts::status::Status;
+
+// The same, but for what is said of a call that can be done.
+fn show<S: Shelf, W: Sink>(
+    alloc: Global,
+    shelf: &mut S,
+    out: &mut W,
+    file: &str,
+    starts: &str,
+    observer: &str,
+    setting: Setting,
+) -> Status
+    ensures same { (name : List ℕ) → S.content shelf.new name ≡ S.content shelf.old name }
+    ensures later { (name : List ℕ) → S.faults shelf.old name ≤ S.faults shelf.new name }
+    ensures later_out { W.faults out.old ≤ W.faults out.new }
+    ensures answered { EndsBy (W.taken out.old) (W.taken out.new) (SeenBefore (S.content shelf.old) file.now starts.now observer.now setting.env setting.budget)
+        (IsSeen (λ name. Rose (S.faults shelf.old name) (S.faults shelf.new name)) (S.content shelf.old) file.now starts.now observer.now setting.env setting.budget) result }
+    ensures write { result ≡ Status.WriteFault → Rose (W.faults out.old) (W.faults out.new) }
+    ensures sound { IsTrue (is_past_typing result) → IsAccepted (S.content shelf.old file.now) }
+{
+    let prepared = match prepare(alloc, shelf, file, starts, observer) {
+        Ok(prepared) => prepared,
+        Err(e) => return stop(out, e),
+    };
+    match write_lines(alloc, &prepared, setting, out) {
+        Ok(()) => Status::Done,
+        Err(RunFault::Memory) => finish(out, b"memory\n", Status::Memory),
+        Err(RunFault::Sink) => Status::WriteFault,
+    }
+}
+
+/// Runs the program of a file from each start of another one, up to the budget, and writes for each run, in order, a
+/// line with its number, a tab, and what the observer sees of it as one field. The starts need not agree.
+///
+/// `answered`: the status and the text are the answer, in the order of the refusals of an audit. Where memory was
+/// wanting the line for that stands after the lines of the runs before.
+///
+/// `sound`: where the call came past the typing, the program is accepted.
+///
+/// `complete`: a call that can be done is done, want of memory aside, where no count of faults rose.
+pub fn seen<S: Shelf, W: Sink>(
+    alloc: Global,
+    shelf: &mut S,
+    out: &mut W,
+    file: &str,
+    starts: &str,
+    observer: &str,
+    setting: Setting,
+) -> Status
+    ensures same { (name : List ℕ) → S.content shelf.new name ≡ S.content shelf.old name }
+    ensures later { (name : List ℕ) → S.faults shelf.old name ≤ S.faults shelf.new name }
+    ensures later_out { W.faults out.old ≤ W.faults out.new }
+    ensures answered { EndsBy (W.taken out.old) (W.taken out.new) (SeenBefore (S.content shelf.old) file.now starts.now observer.now setting.env setting.budget)
+        (IsSeen (λ name. Rose (S.faults shelf.old name) (S.faults shelf.new name)) (S.content shelf.old) file.now starts.now observer.now setting.env setting.budget) result }
+    ensures write { result ≡ Status.WriteFault → Rose (W.faults out.old) (W.faults out.new) }
+    ensures sound { IsTrue (is_past_typing result) → IsAccepted (S.content shelf.old file.now) }
+    ensures complete { CanBegin (S.content shelf.old) file.now starts.now (Some observer.now) → (Rose (S.faults shelf.old file.now) (S.faults shelf.new file.now) → ⊥) → (Rose (S.faults shelf.old starts.now) (S.faults shelf.new starts.now) → ⊥)
+        → (Rose (W.faults out.old) (W.faults out.new) → ⊥) → (result ≡ Status.Done) ⊎ (result ≡ Status.Memory) }
+{
+    show(alloc, shelf, out, file, starts, observer, setting)
+}

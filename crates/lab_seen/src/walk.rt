@@ -1,0 +1,120 @@
+//! The lines of all runs.
+
+ghost use Rattle.std.specs.Prelude.{◌≡◌, ◌≤◌, OnOk, IsErrOf, map};
+ghost use Rattle.std.specs.Io.KnownBytes.{Appends};
+ghost use Rattle.tim_base.specs.Faults.{Rose};
+ghost use Rattle.tim_base.specs.Sinks.{AppendsPrefix};
+ghost use Rattle.label_code.specs.Run.{run_from};
+ghost use Rattle.start_file.specs.Starts.{StartValue, seen, IsFor};
+ghost use Rattle.event_print.specs.Rest.{told_by};
+ghost use Rattle.audit_parts.specs.Agreement.{start_of};
+ghost use Rattle.tool_stages.specs.Envs.{told_in};
+ghost use Rattle.tool_stages.specs.Begins.{CanAudit};
+ghost use Rattle.lab_runs.specs.Runs.{texts, WritesSome};
+ghost use Rattle.lab_seen.specs.Seen.{line_text, line_in};
+
+use crate::line::write_line;
+use crate::load::load;
+use env_contract::env::MachineEnv;
+use env_contract::make::{MakeEnv, MakeFlat};
+use history_reports::laws::reports_are_the_same;
+use lab_runs::fault::RunFault;
+use part_tlb::part::MakePart;
+use part_tlb::part2::MakePart2;
+use start_file::start::Start;
+use std::alloc::Global;
+use tim_base::sink::Sink;
+use tool_stages::prepared::Prepared;
+use tool_stages::setting::Setting;
+use tool_words::words::EnvName;
+
+// The line of the run from a start, in the environment that a maker makes.
+fn run_line<E: MachineEnv + Drop, M: MakeEnv<E>, W: Sink>(
+    alloc: Global,
+    maker: &M,
+    p: &Prepared,
+    start: &Start,
+    number: u32,
+    budget: u64,
+    out: &mut W,
+) -> Result<(), RunFault>
+    requires fit { CanAudit p.now.compiled.typed.labelled p.now.observer p.now.compiled.image (map seen p.now.starts.items) }
+    requires start { IsFor p.now.compiled.typed.labelled.program (seen start.now) }
+    ensures text { OnOk result (Appends (W.taken out.old) (W.taken out.new) (line_text p.now.compiled.typed.labelled p.now.observer number
+        (told_by (run_from (record { cost_of = E.cost_of; next_of = E.next_of; part = E.part }) p.now.compiled.image.instrs budget (start_of M.made p.now.compiled.typed.labelled.program.order (seen start.now)))))) }
+    ensures memory { IsErrOf result RunFault.Memory → W.taken out.new ≡ W.taken out.old }
+    ensures prefix { IsErrOf result RunFault.Sink → AppendsPrefix (W.taken out.old) (W.taken out.new) (line_text p.now.compiled.typed.labelled p.now.observer number
+        (told_by (run_from (record { cost_of = E.cost_of; next_of = E.next_of; part = E.part }) p.now.compiled.image.instrs budget (start_of M.made p.now.compiled.typed.labelled.program.order (seen start.now))))) }
+    ensures fault { IsErrOf result RunFault.Sink → Rose (W.faults out.old) (W.faults out.new) }
+    ensures later { W.faults out.old ≤ W.faults out.new }
+{
+    let Ok(mut machine) = load(alloc, maker, &p.compiled, start) else {
+        return Err(RunFault::Memory);
+    };
+    match write_line(
+        &mut machine,
+        &p.compiled.typed,
+        p.observer,
+        number,
+        budget,
+        out,
+    ) {
+        Ok(()) => Ok(()),
+        Err(_) => Err(RunFault::Sink),
+    }
+}
+
+// The lines of all runs, in the environment that a maker makes, which has the name.
+fn run_lines<E: MachineEnv + Drop, M: MakeEnv<E>, W: Sink>(
+    alloc: Global,
+    maker: &M,
+    p: &Prepared,
+    setting: Setting,
+    out: &mut W,
+) -> Result<(), RunFault>
+    requires fit { CanAudit p.now.compiled.typed.labelled p.now.observer p.now.compiled.image (map seen p.now.starts.items) }
+    requires named { (s : StartValue) → IsFor p.now.compiled.typed.labelled.program s
+        → told_by (run_from (record { cost_of = E.cost_of; next_of = E.next_of; part = E.part }) p.now.compiled.image.instrs setting.budget (start_of M.made p.now.compiled.typed.labelled.program.order s))
+        ≡ told_in setting.env p.now.compiled.typed.labelled.program.order p.now.compiled.image s setting.budget }
+    ensures text { OnOk result (Appends (W.taken out.old) (W.taken out.new) (texts (line_in setting.env setting.budget p.now.compiled.typed.labelled p.now.observer p.now.compiled.image) (map seen p.now.starts.items))) }
+    ensures some { IsErrOf result RunFault.Memory → WritesSome (W.taken out.old) (W.taken out.new) (line_in setting.env setting.budget p.now.compiled.typed.labelled p.now.observer p.now.compiled.image) (map seen p.now.starts.items) }
+    ensures prefix { IsErrOf result RunFault.Sink → AppendsPrefix (W.taken out.old) (W.taken out.new) (texts (line_in setting.env setting.budget p.now.compiled.typed.labelled p.now.observer p.now.compiled.image) (map seen p.now.starts.items)) }
+    ensures fault { IsErrOf result RunFault.Sink → Rose (W.faults out.old) (W.faults out.new) }
+    ensures later { W.faults out.old ≤ W.faults out.new }
+{
+    let starts = p.starts.as_slice();
+    for (i, start) in starts.iter().enumerate() {
+        match run_line(alloc, maker, p, start, i as u32 + 1, setting.budget, out) {
+            Ok(()) => {}
+            Err(fault) => return Err(fault),
+        }
+    }
+    Ok(())
+}
+
+/// Writes the line of each run, in the environment of a name, one after the other. The memory of each run is taken
+/// when it begins.
+///
+/// # Errors
+/// `Memory` after the lines of the runs before, or `Sink`, where a prefix of all lines is written.
+pub fn write_lines<W: Sink>(
+    alloc: Global,
+    p: &Prepared,
+    setting: Setting,
+    out: &mut W,
+) -> Result<(), RunFault>
+    requires fit { CanAudit p.now.compiled.typed.labelled p.now.observer p.now.compiled.image (map seen p.now.starts.items) }
+    ensures text { OnOk result (Appends (W.taken out.old) (W.taken out.new) (texts (line_in setting.env setting.budget p.now.compiled.typed.labelled p.now.observer p.now.compiled.image) (map seen p.now.starts.items))) }
+    ensures some { IsErrOf result RunFault.Memory → WritesSome (W.taken out.old) (W.taken out.new) (line_in setting.env setting.budget p.now.compiled.typed.labelled p.now.observer p.now.compiled.image) (map seen p.now.starts.items) }
+    ensures prefix { IsErrOf result RunFault.Sink → AppendsPrefix (W.taken out.old) (W.taken out.new) (texts (line_in setting.env setting.budget p.now.compiled.typed.labelled p.now.observer p.now.compiled.image) (map seen p.now.starts.items)) }
+    ensures fault { IsErrOf result RunFault.Sink → Rose (W.faults out.old) (W.faults out.new) }
+    ensures later { W.faults out.old ≤ W.faults out.new }
+{
+    p.compiled.image.laws();
+    reports_are_the_same();
+    match setting.env {
+        EnvName::Flat => run_lines(alloc, &MakeFlat, p, setting, out),
+        EnvName::Part => run_lines(alloc, &MakePart, p, setting, out),
+        EnvName::Part2 => run_lines(alloc, &MakePart2, p, setting, out),
+    }
+}

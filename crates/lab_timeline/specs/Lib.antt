@@ -1,0 +1,5 @@
+pub mod Timed
+pub mod Begun
+pub mod Written
+pub mod Once
+pub mod Alike

@@ -1,0 +1,142 @@
+//! The lines of all runs, and those of the mitigates after them.
+
+ghost use Rattle.std.specs.Prelude.{◌≡◌, ◌≤◌, ◌⊎◌, ℕ, List, OnOk, IsErrOf, length, map, replicate};
+ghost use Rattle.tim_base.specs.Faults.{Rose};
+ghost use Rattle.mit_syntax.specs.Plan.{mitigates};
+ghost use Rattle.mit_syntax.specs.Program.{plan_of};
+ghost use Rattle.start_file.specs.Starts.{StartValue, seen, IsFor};
+ghost use Rattle.audit_parts.specs.Agreement.{start_of};
+ghost use Rattle.run_timeline.specs.declared.moment.Moment.{Moment};
+ghost use Rattle.run_timeline.specs.Places.{places};
+ghost use Rattle.run_timeline.specs.Tallied.{no_tally};
+ghost use Rattle.run_timeline.specs.Timeline.{IsTimeline};
+ghost use Rattle.tool_words.specs.WordsAsked.{IsCycles};
+ghost use Rattle.lab_timeline.specs.Begun.{CanRun};
+ghost use Rattle.lab_timeline.specs.Timed.{IsTimed};
+ghost use Rattle.lab_timeline.specs.Written.{timed_by, WritesRuns, WritesFew, BreaksFew, WritesAll, BreaksAll};
+
+use crate::begin::Begun;
+use crate::laws::timelines_are_the_same;
+use crate::write::write_run;
+use env_contract::env::MachineEnv;
+use env_contract::make::{MakeEnv, MakeFlat};
+use history_reports::laws::reports_are_the_same;
+use lab_runs::fault::RunFault;
+use part_tlb::part::MakePart;
+use part_tlb::part2::MakePart2;
+use run_timeline::listing::Listing;
+use run_timeline::summary::print_summary;
+use std::alloc::Global;
+use tim_base::sink::Sink;
+use tool_stages::setting::Setting;
+use tool_words::words::EnvName;
+
+// The lines of all runs, in the environment that a maker makes, which has the name.
+fn write_runs<E: MachineEnv + Drop, M: MakeEnv<E>, W: Sink>(
+    alloc: Global,
+    maker: &M,
+    p: &Begun,
+    setting: Setting,
+    listing: &mut Listing,
+    out: &mut W,
+) -> Result<(), RunFault>
+    requires fit { CanRun p.now.compiled.typed.labelled p.now.compiled.observer p.now.compiled.image (map seen p.now.starts.items) }
+    requires cycles { IsCycles setting.budget }
+    requires named { (s : StartValue) (ms : List Moment) → IsFor p.now.compiled.typed.labelled.program s
+        → IsTimeline (record { cost_of = E.cost_of; next_of = E.next_of; part = E.part }) p.now.compiled.image.instrs setting.budget (start_of M.made p.now.compiled.typed.labelled.program.order s) ms
+        → IsTimed setting.env setting.budget p.now.compiled.typed.labelled.program.order p.now.compiled.image s
+        (timed_by (record { cost_of = E.cost_of; next_of = E.next_of; part = E.part }) p.now.compiled.image setting.budget (start_of M.made p.now.compiled.typed.labelled.program.order s) ms) }
+    requires places { listing.old.places.items ≡ places (plan_of p.now.compiled.typed.labelled.program) }
+    requires none { listing.old.tallies.items ≡ replicate (mitigates (plan_of p.now.compiled.typed.labelled.program)) no_tally }
+    ensures text { OnOk result (WritesRuns setting.env setting.budget p.now.compiled.typed.labelled p.now.compiled.observer p.now.compiled.image (map seen p.now.starts.items) (W.taken out.old) (W.taken out.new) listing.new.tallies.items) }
+    ensures some { IsErrOf result RunFault.Memory → WritesFew setting.env setting.budget p.now.compiled.typed.labelled p.now.compiled.observer p.now.compiled.image (map seen p.now.starts.items) (W.taken out.old) (W.taken out.new) }
+    ensures prefix { IsErrOf result RunFault.Sink → BreaksFew setting.env setting.budget p.now.compiled.typed.labelled p.now.compiled.observer p.now.compiled.image (map seen p.now.starts.items) (W.taken out.old) (W.taken out.new) }
+    ensures places { listing.new.places ≡ listing.old.places }
+    ensures count { length listing.new.tallies.items ≡ mitigates (plan_of p.now.compiled.typed.labelled.program) }
+    ensures fault { IsErrOf result RunFault.Sink → Rose (W.faults out.old) (W.faults out.new) }
+    ensures later { W.faults out.old ≤ W.faults out.new }
+{
+    let starts = p.starts.as_slice();
+    for (i, start) in starts.iter().enumerate() {
+        match write_run(
+            alloc,
+            maker,
+            &p.compiled,
+            start,
+            i as u32 + 1,
+            listing,
+            setting.budget,
+            out,
+        ) {
+            Ok(()) => {}
+            Err(fault) => return Err(fault),
+        }
+    }
+    Ok(())
+}
+
+// The lines of all runs, in the environment of a name.
+fn write_named<W: Sink>(
+    alloc: Global,
+    p: &Begun,
+    setting: Setting,
+    listing: &mut Listing,
+    out: &mut W,
+) -> Result<(), RunFault>
+    requires fit { CanRun p.now.compiled.typed.labelled p.now.compiled.observer p.now.compiled.image (map seen p.now.starts.items) }
+    requires cycles { IsCycles setting.budget }
+    requires places { listing.old.places.items ≡ places (plan_of p.now.compiled.typed.labelled.program) }
+    requires none { listing.old.tallies.items ≡ replicate (mitigates (plan_of p.now.compiled.typed.labelled.program)) no_tally }
+    ensures text { OnOk result (WritesRuns setting.env setting.budget p.now.compiled.typed.labelled p.now.compiled.observer p.now.compiled.image (map seen p.now.starts.items) (W.taken out.old) (W.taken out.new) listing.new.tallies.items) }
+    ensures some { IsErrOf result RunFault.Memory → WritesFew setting.env setting.budget p.now.compiled.typed.labelled p.now.compiled.observer p.now.compiled.image (map seen p.now.starts.items) (W.taken out.old) (W.taken out.new) }
+    ensures prefix { IsErrOf result RunFault.Sink → BreaksFew setting.env setting.budget p.now.compiled.typed.labelled p.now.compiled.observer p.now.compiled.image (map seen p.now.starts.items) (W.taken out.old) (W.taken out.new) }
+    ensures places { listing.new.places ≡ listing.old.places }
+    ensures count { length listing.new.tallies.items ≡ mitigates (plan_of p.now.compiled.typed.labelled.program) }
+    ensures fault { IsErrOf result RunFault.Sink → Rose (W.faults out.old) (W.faults out.new) }
+    ensures later { W.faults out.old ≤ W.faults out.new }
+{
+    p.compiled.image.laws();
+    reports_are_the_same();
+    timelines_are_the_same();
+    match setting.env {
+        EnvName::Flat => write_runs(alloc, &MakeFlat, p, setting, listing, out),
+        EnvName::Part => write_runs(alloc, &MakePart, p, setting, listing, out),
+        EnvName::Part2 => write_runs(alloc, &MakePart2, p, setting, listing, out),
+    }
+}
+
+/// Writes the lines of each run, in the environment of a name, one after the other, and then a line for each mitigate
+/// of the text. The memory of each run is taken when it begins.
+///
+/// # Errors
+/// `Memory` after the lines of the runs before, or `Sink`, where a prefix of the lines is written.
+pub fn write_timelines<W: Sink>(
+    alloc: Global,
+    p: &Begun,
+    setting: Setting,
+    out: &mut W,
+) -> Result<(), RunFault>
+    requires fit { CanRun p.now.compiled.typed.labelled p.now.compiled.observer p.now.compiled.image (map seen p.now.starts.items) }
+    requires cycles { IsCycles setting.budget }
+    ensures text { OnOk result (WritesAll setting.env setting.budget p.now.compiled.typed.labelled p.now.compiled.observer p.now.compiled.image (map seen p.now.starts.items) (W.taken out.old) (W.taken out.new)) }
+    ensures some { IsErrOf result RunFault.Memory → WritesFew setting.env setting.budget p.now.compiled.typed.labelled p.now.compiled.observer p.now.compiled.image (map seen p.now.starts.items) (W.taken out.old) (W.taken out.new) }
+    ensures prefix { IsErrOf result RunFault.Sink
+        → BreaksFew setting.env setting.budget p.now.compiled.typed.labelled p.now.compiled.observer p.now.compiled.image (map seen p.now.starts.items) (W.taken out.old) (W.taken out.new)
+        ⊎ BreaksAll setting.env setting.budget p.now.compiled.typed.labelled p.now.compiled.observer p.now.compiled.image (map seen p.now.starts.items) (W.taken out.old) (W.taken out.new) }
+    ensures fault { IsErrOf result RunFault.Sink → Rose (W.faults out.old) (W.faults out.new) }
+    ensures later { W.faults out.old ≤ W.faults out.new }
+{
+    let program = p.compiled.typed.labelled().program();
+    let _count = program.mitigates();
+    let Ok(mut listing) = Listing::of(alloc, program) else {
+        return Err(RunFault::Memory);
+    };
+    match write_named(alloc, p, setting, &mut listing, out) {
+        Ok(()) => {}
+        Err(fault) => return Err(fault),
+    }
+    match print_summary(&listing, out) {
+        Ok(()) => Ok(()),
+        Err(_) => Err(RunFault::Sink),
+    }
+}

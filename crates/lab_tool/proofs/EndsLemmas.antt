@@ -1,0 +1,75 @@
+-- A question that can end in some way ends so.
+use Rattle.std.proofs.Common.{◌≡◌, ◌⊎◌, ℕ, List, [], ◌∷◌, Option, Some, None, refl, inl, inr}
+use Rattle.tool_texts.specs.declared.status.Status.{Status}
+use Rattle.tool_texts.specs.declared.status.Status.TheVariants as status
+use Rattle.tool_texts.specs.Ends.{EndsBy}
+use Rattle.tool_stages.specs.Content.{Content}
+use Rattle.tool_stages.proofs.ChainLemmas.{first_file, second_file}
+use Rattle.lab_bound.specs.Complete.{CanBound}
+use Rattle.lab_bound.proofs.Answering.{completes as bound_completes}
+use Rattle.lab_runs.specs.Begins.{CanBegin}
+use Rattle.lab_runs.proofs.BeginLemmas.{begin_completes}
+use Rattle.lab_seen.specs.Seen.{AreLines, SeenBefore}
+use Rattle.lab_timeline.specs.Timed.{AreTimelines, TimelinesBefore}
+use Rattle.lab_words.specs.QuestionAsked.{Asked, why, seen, timeline, bound}
+use Rattle.lab_tool.specs.Answers.{Before, IsAnswer}
+use Rattle.lab_tool.specs.Complete.{CanEnd, IsDoneIf, Names, NoneRises}
+use Rattle.lab_tool.proofs.WhyLemmas.{origin_ends, why_ends}
+
+-- a call whose answer has one status, and whose writes do not fail
+ends_as : (old new : Option (List ℕ)) (Before : List ℕ → Type 0) (A : Status → List ℕ → Type 0) (r e : Status) → EndsBy old new Before A r → (r ≡ status.WriteFault → ⊥) → ((t : List ℕ) → A r t → r ≡ e) → (r ≡ e) ⊎ (r ≡ status.Memory)
+ends_as old new Before A status.Done e h n f = inl (f h.0 h.1)
+ends_as old new Before A status.Refused e h n f = inl (f h.0 h.1)
+ends_as old new Before A status.Syntax e h n f = inl (f h.0 h.1)
+ends_as old new Before A status.Starts e h n f = inl (f h.0 h.1)
+ends_as old new Before A status.Usage e h n f = inl (f h.0 h.1)
+ends_as old new Before A status.ReadFault e h n f = inl (f h.0 h.1)
+ends_as old new Before A status.WriteFault e h n f = absurd (n refl)
+ends_as old new Before A status.TooLong e h n f = inl (f h.0 h.1)
+ends_as old new Before A status.Budget e h n f = inl (f h.0 h.1)
+ends_as old new Before A status.Disagree e h n f = inl (f h.0 h.1)
+ends_as old new Before A status.Unfinished e h n f = inl (f h.0 h.1)
+ends_as old new Before A status.Memory e h n f = inr refl
+ends_as old new Before A status.Rejected e h n f = inl (f h.0 h.1)
+
+-- what ends well only where it can
+done_if : (Can : Type 0) (r e : Status) → IsDoneIf Can e → (Can → (r ≡ status.Done) ⊎ (r ≡ status.Memory)) → (r ≡ e) ⊎ (r ≡ status.Memory)
+done_if Can r status.Done h f = f h
+done_if Can r status.Refused h f = absurd h
+done_if Can r status.Syntax h f = absurd h
+done_if Can r status.Starts h f = absurd h
+done_if Can r status.Usage h f = absurd h
+done_if Can r status.ReadFault h f = absurd h
+done_if Can r status.WriteFault h f = absurd h
+done_if Can r status.TooLong h f = absurd h
+done_if Can r status.Budget h f = absurd h
+done_if Can r status.Disagree h f = absurd h
+done_if Can r status.Unfinished h f = absurd h
+done_if Can r status.Memory h f = absurd h
+done_if Can r status.Rejected h f = absurd h
+
+pub completes : (old new : Option (List ℕ)) (Rises : List ℕ → Type 0) (content : Content) (a : Asked) (r : Status) (Rose : Type 0)
+    → EndsBy old new (Before content a) (IsAnswer Rises content a) r → (r ≡ status.WriteFault → Rose)
+    → (e : Status) → CanEnd content a e → NoneRises Rises a → (Rose → ⊥) → (r ≡ e) ⊎ (r ≡ status.Memory)
+completes old new Rises content (why file None) r Rose ends write e can none n =
+    let k = first_file Rises content file [] none can.known in
+    ends_as old new (Before content (why file None)) (IsAnswer Rises content (why file None)) r e ends (λ f. n (write f)) (λ t h. why_ends Rises content file r e t k.0 k.1 can.goes h)
+completes old new Rises content (why file (Some name)) r Rose ends write e can none n =
+    let k = first_file Rises content file [] none can.known in
+    done_if (Names (content file) name) r e can.goes (λ goes.
+    ends_as old new (Before content (why file (Some name))) (IsAnswer Rises content (why file (Some name))) r status.Done ends (λ f. n (write f)) (λ t h. origin_ends Rises content file name r t k.0 k.1 goes h))
+completes old new Rises content (seen file starts observer env budget) r Rose ends write e can none n =
+    let k = first_file Rises content file (starts ∷ []) none can.known in
+    let m = second_file Rises content file starts [] none can.known in
+    done_if (CanBegin content file starts (Some observer)) r e can.goes (λ goes.
+    begin_completes Rises content file starts (Some observer) (AreLines env budget) old new (SeenBefore content file starts observer env budget) r Rose ends write goes k.0 m.0 n)
+completes old new Rises content (timeline file starts observer env budget) r Rose ends write e can none n =
+    let k = first_file Rises content file (starts ∷ []) none can.known in
+    let m = second_file Rises content file starts [] none can.known in
+    done_if (CanBegin content file starts observer) r e can.goes (λ goes.
+    begin_completes Rises content file starts observer (AreTimelines env budget) old new (TimelinesBefore content file starts observer env budget) r Rose ends write goes k.0 m.0 n)
+completes old new Rises content (bound file starts observer env budget) r Rose ends write e can none n =
+    let k = first_file Rises content file (starts ∷ []) none can.known in
+    let m = second_file Rises content file starts [] none can.known in
+    done_if (CanBound content file starts observer env budget) r e can.goes (λ goes.
+    bound_completes old new Rises content file starts observer env budget r Rose ends write goes k.0 m.0 n)

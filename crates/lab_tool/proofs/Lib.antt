@@ -1,0 +1,4 @@
+pub mod AskedLemmas
+pub mod WhyLemmas
+pub mod EndsLemmas
+pub mod OneAnswer

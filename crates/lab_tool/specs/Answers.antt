@@ -1,0 +1,30 @@
+-- The answer of the lab to words: its status and its text, from what the files are told to hold.
+use Rattle.std.specs.Prelude.{◌≡◌, ℕ, List, [], Some, None}
+use Rattle.tool_texts.specs.declared.status.Status.{Status}
+use Rattle.tool_texts.specs.declared.status.Status.TheVariants as status
+use Rattle.tool_stages.specs.Content.{Content}
+use Rattle.lab_texts.specs.InLab.{lab_usage_text}
+use Rattle.lab_words.specs.QuestionAsked.{Asked, why, seen, timeline, bound}
+use Rattle.lab_bound.specs.Answer.{IsBoundAnswer}
+use Rattle.lab_seen.specs.Seen.{IsSeen, SeenBefore}
+use Rattle.lab_timeline.specs.Timed.{TellsTimelines, TimelinesBefore}
+use Rattle.lab_why.specs.Answers.{IsWhyAnswer}
+use Rattle.lab_why.specs.Origins.{IsOriginAnswer}
+
+-- words that ask for nothing
+abbrev pub IsUsage : Status → List ℕ → Type 0
+IsUsage s t = (s ≡ status.Usage) × (t ≡ lab_usage_text)
+
+-- The answer to a question, in the order of its refusals. `Rises` tells the names whose counts of faults rose.
+abbrev pub IsAnswer : (List ℕ → Type 0) → Content → Asked → Status → List ℕ → Type 0
+IsAnswer Rises content (why file None) = IsWhyAnswer Rises content file
+IsAnswer Rises content (why file (Some name)) = IsOriginAnswer Rises content file name
+IsAnswer Rises content (seen file starts observer e budget) = IsSeen Rises content file starts observer e budget
+IsAnswer Rises content (timeline file starts observer e budget) = TellsTimelines Rises content file starts observer e budget
+IsAnswer Rises content (bound file starts observer e budget) = IsBoundAnswer Rises content file starts observer e budget
+
+-- what may stand before the line for memory: nothing, or what is told of some of the runs
+abbrev pub Before : Content → Asked → List ℕ → Type 0
+Before content (seen file starts observer e budget) b = SeenBefore content file starts observer e budget b
+Before content (timeline file starts observer e budget) b = TimelinesBefore content file starts observer e budget b
+Before content a b = b ≡ []

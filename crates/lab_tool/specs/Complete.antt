@@ -1,0 +1,56 @@
+-- How a question can end: what must be so that nothing but want of memory ends it otherwise.
+use Rattle.std.specs.Prelude.{◌≡◌, ℕ, List, [], ◌∷◌, All, Option, Some, None}
+use Rattle.flow_path.specs.declared.step.Spot.{Spot}
+use Rattle.mit_syntax.specs.Program.{Syntax}
+use Rattle.tool_texts.specs.declared.status.Status.{Status}
+use Rattle.tool_texts.specs.declared.status.Status.TheVariants as status
+use Rattle.tool_stages.specs.Stages.{Reads}
+use Rattle.tool_stages.specs.Content.{Content, IsKnown}
+use Rattle.tool_stages.specs.Goes.{IsTypable}
+use Rattle.lab_bound.specs.Complete.{CanBound}
+use Rattle.lab_runs.specs.Begins.{CanBegin}
+use Rattle.lab_why.specs.Names.{named}
+use Rattle.lab_words.specs.QuestionAsked.{Asked, why, seen, timeline, bound}
+
+-- the files that a question names
+abbrev pub files_of : Asked → List (List ℕ)
+files_of (why file of) = file ∷ []
+files_of (seen file starts observer e budget) = file ∷ starts ∷ []
+files_of (timeline file starts observer e budget) = file ∷ starts ∷ []
+files_of (bound file starts observer e budget) = file ∷ starts ∷ []
+
+-- each of them is told to hold bytes
+abbrev pub AreKnown : Content → Asked → Type 0
+AreKnown content a = All (λ name. IsKnown (content name)) (files_of a)
+
+-- none of them is one whose count of faults rose
+abbrev pub NoneRises : (List ℕ → Type 0) → Asked → Type 0
+NoneRises Rises a = All (λ name. Rises name → ⊥) (files_of a)
+
+-- `why` is done where some labelling types the program, and tells its reason where none does
+abbrev pub WhyGoes : Option (Option (List ℕ)) → Status → Type 0
+WhyGoes content status.Done = (p : Syntax) × Reads content p × IsTypable p
+WhyGoes content status.Refused = (p : Syntax) × Reads content p × (IsTypable p → ⊥)
+WhyGoes content _ = ⊥
+
+-- what is told of runs is done where nothing stops before them
+abbrev pub IsDoneIf : Type 0 → Status → Type 0
+IsDoneIf Can status.Done = Can
+IsDoneIf Can _ = ⊥
+
+-- `why --of` is done where the word names something in the program
+abbrev pub Names : Option (Option (List ℕ)) → List ℕ → Type 0
+Names content w = (p : Syntax) × Reads content p × (spot : Spot) × (named p w ≡ Some spot)
+
+-- what must be so beside the files
+abbrev pub Goes : Content → Asked → Status → Type 0
+Goes content (why file None) s = WhyGoes (content file) s
+Goes content (why file (Some name)) s = IsDoneIf (Names (content file) name) s
+Goes content (seen file starts observer e budget) s = IsDoneIf (CanBegin content file starts (Some observer)) s
+Goes content (bound file starts observer e budget) s = IsDoneIf (CanBound content file starts observer e budget) s
+Goes content (timeline file starts observer e budget) s = IsDoneIf (CanBegin content file starts observer) s
+
+-- the files that a question names are told to hold bytes, and with these it goes on to this end
+pub record CanEnd (content : Content) (a : Asked) (s : Status) : Type 0 where
+  pub known : AreKnown content a
+  pub goes : Goes content a s

@@ -1,0 +1,23 @@
+-- A question has one answer.
+use Rattle.std.specs.Prelude.{◌≡◌, ℕ, List}
+use Rattle.std.specs.Bool.{⊤}
+use Rattle.tim_base.specs.Faults.{Rose}
+use Rattle.tool_texts.specs.declared.status.Status.{Status}
+use Rattle.tool_stages.specs.Content.{Content}
+use Rattle.lab_words.specs.QuestionAsked.{Asked, why, seen, timeline, bound}
+use Rattle.lab_tool.specs.Answers.{IsAnswer}
+use Rattle.lab_tool.specs.Complete.{AreKnown, NoneRises}
+
+-- one text answers it; of several chains that cost as little, `why` may tell any
+abbrev pub HasOneText : Asked → Type 0
+HasOneText (why file of) = ⊥
+HasOneText (seen file starts observer e budget) = ⊤
+HasOneText (timeline file starts observer e budget) = ⊤
+HasOneText (bound file starts observer e budget) = ⊤
+
+-- Where each file that the question names is told to hold bytes, and none of their counts of faults rose, two answers to
+-- it have the same status, and the same text but for the chains of `why`.
+abbrev pub HasOneAnswer : Type 0
+HasOneAnswer =
+    (content : Content) (before now : List ℕ → ℕ) (a : Asked) (s u : Status) (t x : List ℕ) → AreKnown content a → NoneRises (λ name. Rose (before name) (now name)) a →
+    IsAnswer (λ name. Rose (before name) (now name)) content a s t → IsAnswer (λ name. Rose (before name) (now name)) content a u x → (s ≡ u) × (HasOneText a → t ≡ x)

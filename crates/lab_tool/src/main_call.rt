@@ -1,0 +1,118 @@
+//! The top call: from the words of a command line to the text that is written, and a status.
+
+ghost use Rattle.std.specs.Prelude.{◌≡◌, ◌≤◌, ◌⊎◌, ℕ, List, None, IfSome, map, string_bytes};
+ghost use Rattle.tim_base.specs.Faults.{Rose};
+ghost use Rattle.tool_texts.specs.Ends.{EndsBy, Nothing};
+ghost use Rattle.lab_words.specs.QuestionAsked.{IsInRange, question_of};
+ghost use Rattle.lab_words.specs.QuestionViews.{asked_of};
+ghost use Rattle.lab_tool.specs.Answers.{Before, IsAnswer, IsUsage};
+ghost use Rattle.lab_tool.specs.Complete.{CanEnd, NoneRises};
+
+use lab_bound::bound::bound;
+use lab_seen::seen::seen;
+use lab_texts::finish::stop;
+use lab_timeline::timeline::timeline;
+use lab_why::of::why_of;
+use lab_why::why::why;
+use lab_words::question::{Question, read_question};
+use std::alloc::Global;
+use tim_base::shelf::Shelf;
+use tim_base::sink::Sink;
+use tool_stages::setting::Setting;
+use tool_texts::finish::finish;
+use tool_texts::status::Status;
+use tool_texts::stop::Stop;
+use tool_words::words::WordsFault;
+
+/// Answers a question.
+fn obey<S: Shelf, W: Sink>(
+    alloc: Global,
+    shelf: &mut S,
+    out: &mut W,
+    question: Question<'_>,
+) -> Status
+    requires { IsInRange (asked_of question) }
+    ensures same { (name : List ℕ) → S.content shelf.new name ≡ S.content shelf.old name }
+    ensures later { (name : List ℕ) → S.faults shelf.old name ≤ S.faults shelf.new name }
+    ensures later_out { W.faults out.old ≤ W.faults out.new }
+    ensures answered { EndsBy (W.taken out.old) (W.taken out.new) (Before (S.content shelf.old) (asked_of question.entry))
+        (IsAnswer (λ name. Rose (S.faults shelf.old name) (S.faults shelf.new name)) (S.content shelf.old) (asked_of question.entry)) result }
+    ensures write { result ≡ Status.WriteFault → Rose (W.faults out.old) (W.faults out.new) }
+{
+    match question {
+        Question::Why { file, of } => match of {
+            None => why(alloc, shelf, out, file),
+            Some(name) => why_of(alloc, shelf, out, file, name),
+        },
+        Question::Seen {
+            file,
+            starts,
+            observer,
+            env,
+            budget,
+        } => {
+            let setting = Setting { env, budget };
+            seen(alloc, shelf, out, file, starts, observer, setting)
+        }
+        Question::Timeline {
+            file,
+            starts,
+            observer,
+            env,
+            budget,
+        } => {
+            let setting = Setting { env, budget };
+            timeline(alloc, shelf, out, file, starts, observer, setting)
+        }
+        Question::Bound {
+            file,
+            starts,
+            observer,
+            env,
+            budget,
+        } => {
+            let setting = Setting { env, budget };
+            bound(alloc, shelf, out, file, starts, observer, setting)
+        }
+    }
+}
+
+/// Answers what the words of a command line ask: reads files from a shelf, writes a text, and tells how it ended. The
+/// words don't hold the program's name.
+///
+/// `answered`: the status and the text are the answer to the question that the words ask, in the order of its refusals,
+/// from what the shelf is told to hold; a file may not be read only where the count of its faults rose. Where memory was
+/// wanting the text is the line for that, which may stand after what is told of some of the runs. After a fault of the
+/// sink a prefix of the text is written.
+///
+/// `usage`: words that ask for nothing get the usage text.
+///
+/// `complete`: a question that can end in some way ends so, want of memory aside, where no count of faults rose, neither
+/// that of a file that the words name nor that of the sink.
+pub fn lab_main<S: Shelf, W: Sink>(
+    alloc: Global,
+    words: &[String],
+    shelf: &mut S,
+    out: &mut W,
+) -> Status
+    ensures answered { IfSome (question_of (map string_bytes words.now)) (λ a.
+        EndsBy (W.taken out.old) (W.taken out.new) (Before (S.content shelf.old) a)
+        (IsAnswer (λ name. Rose (S.faults shelf.old name) (S.faults shelf.new name)) (S.content shelf.old) a) result) }
+    ensures usage { question_of (map string_bytes words.now) ≡ None
+        → EndsBy (W.taken out.old) (W.taken out.new) Nothing IsUsage result }
+    ensures complete { IfSome (question_of (map string_bytes words.now)) (λ a. (s : Status) → CanEnd (S.content shelf.old) a s
+        → NoneRises (λ name. Rose (S.faults shelf.old name) (S.faults shelf.new name)) a → (Rose (W.faults out.old) (W.faults out.new) → ⊥)
+        → (result ≡ s) ⊎ (result ≡ Status.Memory)) }
+    ensures write { result ≡ Status.WriteFault → Rose (W.faults out.old) (W.faults out.new) }
+
+    // No file changes, and no count of faults falls.
+    ensures same { (name : List ℕ) → S.content shelf.new name ≡ S.content shelf.old name }
+    ensures later { (name : List ℕ) → S.faults shelf.old name ≤ S.faults shelf.new name }
+    ensures later_out { W.faults out.old ≤ W.faults out.new }
+{
+    match read_question(alloc, words) {
+        Ok(question) => obey(alloc, shelf, out, question),
+        Err(WordsFault::Usage) => stop(out, Stop::Usage),
+        Err(WordsFault::Memory) => finish(out, b"memory\n", Status::Memory),
+    }
+}

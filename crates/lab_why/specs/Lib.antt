@@ -1,0 +1,5 @@
+pub mod Reasons
+pub mod Answers
+pub mod Explained
+pub mod Names
+pub mod Origins

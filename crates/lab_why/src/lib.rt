@@ -1,0 +1,11 @@
+//! The question `why`: whether a program is accepted, and if not, by which chain of conditions its labels can't hold;
+//! and by which chains a label comes from those that are written.
+#![tactic(auto)]
+
+mod explained;
+mod names;
+pub mod of;
+mod origins;
+mod refused;
+mod source;
+pub mod why;

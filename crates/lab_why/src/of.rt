@@ -1,0 +1,74 @@
+//! The command `why --of`.
+
+ghost use Rattle.std.specs.Prelude.{◌≡◌, ◌≤◌, ℕ, List, IfOk, IfErr};
+ghost use Rattle.tim_base.specs.Faults.{Rose};
+ghost use Rattle.tool_texts.specs.Ends.{EndsBy, IsStop, Nothing};
+ghost use Rattle.lab_why.specs.Origins.{ComesFrom, IsOriginAnswer};
+
+use crate::names::named;
+use crate::origins::label_text;
+use crate::source::{Source, read_source};
+use lab_texts::finish::tell;
+use label_infer::infer::infer;
+use mit_syntax::tokens::tokens;
+use std::alloc::Global;
+use tim_base::shelf::Shelf;
+use tim_base::sink::Sink;
+use tool_texts::status::Status;
+use tool_texts::stop::{Stop, no_memory};
+
+// The text on a label of the program of a file.
+fn origin_text<S: Shelf>(
+    alloc: Global,
+    shelf: &mut S,
+    file: &str,
+    word: &str,
+) -> Result<Vec<u8>, Stop>
+    ensures same { (name : List ℕ) → S.content shelf.new name ≡ S.content shelf.old name }
+    ensures later { (name : List ℕ) → S.faults shelf.old name ≤ S.faults shelf.new name }
+    ensures text { IfOk result (λ v. ComesFrom (λ name. Rose (S.faults shelf.old name) (S.faults shelf.new name)) (S.content shelf.old) file.now word.now Status.Done v.items) }
+    ensures stop { IfErr result (IsStop (ComesFrom (λ name. Rose (S.faults shelf.old name) (S.faults shelf.new name)) (S.content shelf.old) file.now word.now)) }
+{
+    let Source { text, program } = read_source(alloc, shelf, file)?;
+    let Some(spot) = named(&program, word) else {
+        return Err(Stop::Usage);
+    };
+    let Ok(labelled) = infer(alloc, program) else {
+        return Err(no_memory());
+    };
+    // The text spells a program, so it has tokens.
+    let Ok(tokens) = tokens(alloc, text.as_slice()) else {
+        return Err(no_memory());
+    };
+    match label_text(
+        alloc,
+        text.as_slice(),
+        tokens.as_slice(),
+        &labelled,
+        word,
+        &spot,
+    ) {
+        Ok(lines) => Ok(lines),
+        Err(_) => Err(no_memory()),
+    }
+}
+
+/// Tells which label the least labelling of the program of a file gives to a variable, an array or the level of a
+/// mitigate, and by which chains it comes from labels that are written.
+pub fn why_of<S: Shelf, W: Sink>(
+    alloc: Global,
+    shelf: &mut S,
+    out: &mut W,
+    file: &str,
+    word: &str,
+) -> Status
+    ensures same { (name : List ℕ) → S.content shelf.new name ≡ S.content shelf.old name }
+    ensures later { (name : List ℕ) → S.faults shelf.old name ≤ S.faults shelf.new name }
+    ensures later_out { W.faults out.old ≤ W.faults out.new }
+    ensures answered { EndsBy (W.taken out.old) (W.taken out.new) Nothing
+        (IsOriginAnswer (λ name. Rose (S.faults shelf.old name) (S.faults shelf.new name)) (S.content shelf.old) file.now word.now) result }
+    ensures write { result ≡ Status.WriteFault → Rose (W.faults out.old) (W.faults out.new) }
+{
+    let made = origin_text(alloc, shelf, file, word);
+    tell(out, made)
+}

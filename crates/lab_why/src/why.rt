@@ -1,0 +1,30 @@
+//! The command `why`.
+
+ghost use Rattle.std.specs.Prelude.{◌≡◌, ◌≤◌, ℕ, List};
+ghost use Rattle.tim_base.specs.Faults.{Rose};
+ghost use Rattle.tool_texts.specs.Ends.{EndsBy, Nothing};
+ghost use Rattle.lab_why.specs.Answers.{IsWhyAnswer};
+
+use crate::explained::{Explained, explain};
+use std::alloc::Global;
+use tim_base::shelf::Shelf;
+use tim_base::sink::Sink;
+use tool_texts::finish::{finish, stop};
+use tool_texts::status::Status;
+
+/// Tells whether the program of a file is accepted, and if not, which condition is broken first and by which chain of
+/// conditions no labels can hold there. Of all such chains none is cheaper.
+pub fn why<S: Shelf, W: Sink>(alloc: Global, shelf: &mut S, out: &mut W, file: &str) -> Status
+    ensures same { (name : List ℕ) → S.content shelf.new name ≡ S.content shelf.old name }
+    ensures later { (name : List ℕ) → S.faults shelf.old name ≤ S.faults shelf.new name }
+    ensures later_out { W.faults out.old ≤ W.faults out.new }
+    ensures answered { EndsBy (W.taken out.old) (W.taken out.new) Nothing
+        (IsWhyAnswer (λ name. Rose (S.faults shelf.old name) (S.faults shelf.new name)) (S.content shelf.old) file.now) result }
+    ensures write { result ≡ Status.WriteFault → Rose (W.faults out.old) (W.faults out.new) }
+{
+    match explain(alloc, shelf, file) {
+        Ok(Explained::Accepted(line)) => finish(out, line.bytes(), Status::Done),
+        Ok(Explained::Refused(lines)) => finish(out, lines.as_slice(), Status::Refused),
+        Err(e) => stop(out, e),
+    }
+}

@@ -1,0 +1,3 @@
+pub mod QuestionForms
+pub mod QuestionAsked
+pub mod QuestionViews

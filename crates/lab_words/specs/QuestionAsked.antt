@@ -1,0 +1,72 @@
+-- What the words of the lab's command line ask for.
+use Rattle.std.specs.Prelude.{ℕ, List, [], ◌∷◌, Option, Some, None, codes, bytes_eq, option_and_then, if◌then◌else◌}
+use Rattle.std.specs.Bool.{⊤}
+use Rattle.clap.specs.Words.{Row, Text, fault_of, first_of, matches_of}
+use Rattle.clap.specs.Walk.{is_empty}
+use Rattle.tool_words.specs.declared.words.EnvName.{EnvName}
+use Rattle.tool_words.specs.WordsAsked.{IsCycles, budget_given, env_given}
+use Rattle.lab_words.specs.declared.verbs.Verb.{Verb}
+use Rattle.lab_words.specs.declared.verbs.Verb.TheVariants.{Why, Seen, Timeline, Bound}
+use Rattle.lab_words.specs.QuestionForms.{form_app}
+
+-- A question with the bytes of its texts, in the order of `Question`: file, starts, observer, environment and budget.
+pub data Asked : Type 0 where
+  why : Text → Option Text → Asked
+  seen : Text → Text → Text → EnvName → ℕ → Asked
+  timeline : Text → Text → Option Text → EnvName → ℕ → Asked
+  bound : Text → Text → Text → EnvName → ℕ → Asked
+
+abbrev pub verb_named : Text → Option Verb
+verb_named word =
+    if bytes_eq word (codes "why") then Some Why else
+    (if bytes_eq word (codes "seen") then Some Seen else
+    (if bytes_eq word (codes "timeline") then Some Timeline else
+    (if bytes_eq word (codes "bound") then Some Bound else None)))
+
+-- ---- the values that `clap` gives to the names of a form
+
+abbrev pub why_asked : Option Text → Option Text → Option Asked
+why_asked (Some file) of = Some (why file of)
+why_asked None of = None
+
+abbrev pub shown_asked : (Text → Text → Text → EnvName → ℕ → Asked)
+    → Option Text → Option Text → Option Text → Option EnvName → Option ℕ → Option Asked
+shown_asked command (Some file) (Some starts) (Some observer) (Some env) (Some budget) =
+    Some (command file starts observer env budget)
+shown_asked _ _ _ _ _ _ = None
+
+abbrev pub timeline_asked : Option Text → Option Text → Option EnvName → Option ℕ → Option Text → Option Asked
+timeline_asked (Some file) (Some starts) (Some env) (Some budget) observer = Some (timeline file starts observer env budget)
+timeline_asked _ _ _ _ _ = None
+
+abbrev pub shown_given : (Text → Text → Text → EnvName → ℕ → Asked) → List Row → Option Asked
+shown_given command rows = shown_asked command (first_of (codes "FILE") rows) (first_of (codes "STARTS") rows)
+    (first_of (codes "observer") rows) (env_given rows) (budget_given rows)
+
+abbrev pub given : Verb → List Row → Option Asked
+given Why rows = why_asked (first_of (codes "FILE") rows) (first_of (codes "of") rows)
+given Seen rows = shown_given seen rows
+given Timeline rows = timeline_asked (first_of (codes "FILE") rows) (first_of (codes "STARTS") rows) (env_given rows)
+    (budget_given rows) (first_of (codes "observer") rows)
+given Bound rows = shown_given bound rows
+
+-- ---- all words
+
+-- what the words after a command word ask for, where `clap` takes them by the form of the command
+abbrev pub asked_after : Verb → List Text → Option Asked
+asked_after verb words =
+    if is_empty (fault_of (form_app verb) words) then given verb (matches_of (form_app verb) words) else None
+
+-- what words ask for, or that they are refused
+abbrev pub question_of : List Text → Option Asked
+question_of [] = None
+question_of (word ∷ words) = option_and_then (λ verb. asked_after verb words) (verb_named word)
+
+-- ---- what callers rest on
+
+-- the budget of a question is in range
+abbrev pub IsInRange : Asked → Type 0
+IsInRange (why file of) = ⊤
+IsInRange (seen file starts observer env budget) = IsCycles budget
+IsInRange (timeline file starts observer env budget) = IsCycles budget
+IsInRange (bound file starts observer env budget) = IsCycles budget

@@ -1,0 +1,79 @@
+//! What the words ask for.
+
+ghost use Rattle.std.specs.Prelude.{◌≡◌, IfOk, IsErrOf, None, Some, map, string_bytes};
+ghost use Rattle.lab_words.specs.QuestionAsked.{IsInRange, asked_after, question_of};
+ghost use Rattle.lab_words.specs.QuestionViews.{asked_of};
+
+use crate::forms::form;
+use crate::readers::question;
+use crate::verbs::{Verb, verb_of};
+use std::alloc::Global;
+use tool_words::forms::matched;
+use tool_words::words::{EnvName, WordsFault};
+
+/// What words ask of the lab. Files, observers and names are the words themselves; whether there are such is not seen
+/// here.
+#[derive(Clone, Copy, Debug, PartialEq, Eq)]
+pub enum Question<'a> {
+    /// `why FILE [--of NAME]`
+    Why {
+        file: &'a str,
+        of: Option<&'a str>,
+    },
+    /// `seen FILE STARTS --observer L [--env E] [--budget T]`, `budget` from 1 to `MAX_CYCLES`
+    Seen {
+        file: &'a str,
+        starts: &'a str,
+        observer: &'a str,
+        env: EnvName,
+        budget: u64,
+    },
+    /// `timeline FILE STARTS [--env E] [--budget T] [--observer L]`, `budget` from 1 to `MAX_CYCLES`
+    Timeline {
+        file: &'a str,
+        starts: &'a str,
+        observer: Option<&'a str>,
+        env: EnvName,
+        budget: u64,
+    },
+    /// `bound FILE STARTS --observer L [--env E] [--budget T]`, `budget` from 1 to `MAX_CYCLES`
+    Bound {
+        file: &'a str,
+        starts: &'a str,
+        observer: &'a str,
+        env: EnvName,
+        budget: u64,
+    },
+}
+
+/// Reads the words that follow a command word.
+fn read_after<'a>(
+    alloc: Global,
+    verb: Verb,
+    words: &'a [String],
+) -> Result<Question<'a>, WordsFault>
+    ensures asked { IfOk result (λ q. asked_after verb (map string_bytes words.entry.now) ≡ Some (asked_of q)) }
+    ensures range { IfOk result (λ q. IsInRange (asked_of q)) }
+    ensures usage { IsErrOf result WordsFault.Usage → asked_after verb (map string_bytes words.entry.now) ≡ None }
+{
+    let Ok(form) = form(alloc, verb) else {
+        return Err(WordsFault::Memory);
+    };
+    let matches = matched(form, words)?;
+    question(verb, &matches).ok_or(WordsFault::Usage)
+}
+
+/// Reads the words. `Usage` comes exactly where they ask for nothing, want of memory aside.
+pub fn read_question<'a>(alloc: Global, words: &'a [String]) -> Result<Question<'a>, WordsFault>
+    ensures asked { IfOk result (λ q. question_of (map string_bytes words.entry.now) ≡ Some (asked_of q)) }
+    ensures range { IfOk result (λ q. IsInRange (asked_of q)) }
+    ensures usage { IsErrOf result WordsFault.Usage → question_of (map string_bytes words.entry.now) ≡ None }
+{
+    let Some((word, rest)) = words.split_first() else {
+        return Err(WordsFault::Usage);
+    };
+    let Some(verb) = verb_of(word.as_str()) else {
+        return Err(WordsFault::Usage);
+    };
+    read_after(alloc, verb, rest)
+}

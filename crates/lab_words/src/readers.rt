@@ -1,0 +1,87 @@
+//! What the matches of each command ask for.
+
+ghost use Rattle.std.specs.Prelude.{◌≡◌, IfSome, option_map};
+ghost use Rattle.clap.specs.Words.{found_of, rows_of};
+ghost use Rattle.lab_words.specs.QuestionAsked.{IsInRange, given};
+ghost use Rattle.lab_words.specs.QuestionViews.{asked_of};
+
+use crate::question::Question;
+use crate::verbs::Verb;
+use clap::ArgMatches;
+use tool_words::readers::{budget, env, file, text};
+
+fn why<'a>(matches: &ArgMatches<'a>) -> Option<Question<'a>>
+    ensures asked { option_map asked_of result ≡ given Verb.Why (rows_of (found_of matches.now)) }
+    ensures range { IfSome result (λ q. IsInRange (asked_of q)) }
+{
+    let file = file(matches)?;
+    let of = text(matches, "of");
+    Some(Question::Why { file, of })
+}
+
+fn seen<'a>(matches: &ArgMatches<'a>) -> Option<Question<'a>>
+    ensures asked { option_map asked_of result ≡ given Verb.Seen (rows_of (found_of matches.now)) }
+    ensures range { IfSome result (λ q. IsInRange (asked_of q)) }
+{
+    let file = file(matches)?;
+    let starts = text(matches, "STARTS")?;
+    let observer = text(matches, "observer")?;
+    let env = env(matches)?;
+    let budget = budget(matches)?;
+    Some(Question::Seen {
+        file,
+        starts,
+        observer,
+        env,
+        budget,
+    })
+}
+
+fn timeline<'a>(matches: &ArgMatches<'a>) -> Option<Question<'a>>
+    ensures asked { option_map asked_of result ≡ given Verb.Timeline (rows_of (found_of matches.now)) }
+    ensures range { IfSome result (λ q. IsInRange (asked_of q)) }
+{
+    let file = file(matches)?;
+    let starts = text(matches, "STARTS")?;
+    let env = env(matches)?;
+    let budget = budget(matches)?;
+    let observer = text(matches, "observer");
+    Some(Question::Timeline {
+        file,
+        starts,
+        observer,
+        env,
+        budget,
+    })
+}
+
+fn bound<'a>(matches: &ArgMatches<'a>) -> Option<Question<'a>>
+    ensures asked { option_map asked_of result ≡ given Verb.Bound (rows_of (found_of matches.now)) }
+    ensures range { IfSome result (λ q. IsInRange (asked_of q)) }
+{
+    let file = file(matches)?;
+    let starts = text(matches, "STARTS")?;
+    let observer = text(matches, "observer")?;
+    let env = env(matches)?;
+    let budget = budget(matches)?;
+    Some(Question::Bound {
+        file,
+        starts,
+        observer,
+        env,
+        budget,
+    })
+}
+
+/// What the matches of a command ask for, if its numbers and names are of their form and in range.
+pub(crate) fn question<'a>(verb: Verb, matches: &ArgMatches<'a>) -> Option<Question<'a>>
+    ensures asked { option_map asked_of result ≡ given verb (rows_of (found_of matches.now)) }
+    ensures range { IfSome result (λ q. IsInRange (asked_of q)) }
+{
+    match verb {
+        Verb::Why => why(matches),
+        Verb::Seen => seen(matches),
+        Verb::Timeline => timeline(matches),
+        Verb::Bound => bound(matches),
+    }
+}

@@ -1,0 +1,26 @@
+//! The command words.
+
+ghost use Rattle.std.specs.Prelude.{◌≡◌};
+ghost use Rattle.lab_words.specs.QuestionAsked.{verb_named};
+
+/// The command words.
+#[derive(Clone, Copy)]
+pub(crate) enum Verb {
+    Why,
+    Seen,
+    Timeline,
+    Bound,
+}
+
+/// The command word that a text is.
+pub(crate) fn verb_of(word: &str) -> Option<Verb>
+    ensures { result ≡ verb_named word.now }
+{
+    match word {
+        "why" => Some(Verb::Why),
+        "seen" => Some(Verb::Seen),
+        "timeline" => Some(Verb::Timeline),
+        "bound" => Some(Verb::Bound),
+        _ => None,
+    }
+}

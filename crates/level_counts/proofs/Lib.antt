@@ -1,0 +1,7 @@
+pub mod Placing
+pub mod Table
+pub mod Steps
+pub mod Leasts
+pub mod Going
+pub mod Taking
+pub mod NoteLemmas

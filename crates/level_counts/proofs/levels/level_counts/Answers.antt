@@ -1,0 +1,77 @@
+use Rattle.std.proofs.Common.{◌≡◌, ◌<◌, ◌≤◌, ℤ, List, [], ◌∷◌, sym, ap, ◌∙◌, subst, length, map, arith}
+use Rattle.std.proofs.lemmas.List.{length-map, take_all}
+use Rattle.mit_syntax.specs.Declarations.{variables}
+use Rattle.mit_syntax.specs.Program.{Syntax, plan_of}
+use Rattle.timing_types.specs.Labelled.{LabelledProgram}
+use Rattle.source_meaning.specs.Source.{HasEnded}
+use Rattle.start_file.specs.Starts.{StartValue, seen, IsFor}
+use Rattle.start_file.specs.declared.start.Start.{Start}
+use Rattle.audit_parts.proofs.Agreeing.{All-seen}
+use Rattle.level_counts.specs.Begun.{AreTold, memories_of}
+use Rattle.level_counts.proofs.Taking.{told_one, told_next, told_same}
+use Rattle.level_counts.proofs.levels.level_counts.Goals as goal
+
+pub run_levels-requires-clause-long : goal.run_levels-requires-clause-long
+run_levels-requires-clause-long c =
+    let p : Syntax = c.args.p.now.labelled.program in
+    let h = All-seen (IsFor p) c.args.starts.now 0 c.index-starts-0.result c.requires.starts c.requires.some c.index-starts-0.is in
+    let m = c.as_slice-memory.ensures.value ∙ ap (λ (s : Start). s.memory.items) (sym c.index-starts-0.is) in
+    ap length m ∙ h.memory ∙ sym (ap (λ (z : LabelledProgram). variables z.program.declarations) c.labelled-labelled.ensures.labelled)
+
+pub run_levels-requires-clause-ends : goal.run_levels-requires-clause-ends
+run_levels-requires-clause-ends c =
+    let p : Syntax = c.args.p.now.labelled.program in
+    let h : HasEnded (plan_of p) c.index-starts-0.result.memory.items c.args.steps = All-seen (λ (s : StartValue). HasEnded (plan_of p) s.memory c.args.steps) c.args.starts.now 0 c.index-starts-0.result c.requires.ends c.requires.some c.index-starts-0.is in
+    let m = c.as_slice-memory.ensures.value ∙ ap (λ (s : Start). s.memory.items) (sym c.index-starts-0.is) in
+    subst (λ (z : LabelledProgram). HasEnded (plan_of z.program) c.as_slice-memory.result.now c.args.steps) (sym c.labelled-labelled.ensures.labelled)
+    (subst (λ (z : List ℤ). HasEnded (plan_of p) z c.args.steps) (sym m) h)
+
+pub loop-i-init : goal.loop-i-init
+loop-i-init c =
+    let q : LabelledProgram = c.args.p.now.labelled in
+    let m = c.as_slice-memory.ensures.value ∙ ap (λ (s : Start). s.memory.items) (sym c.index-starts-0.is) in
+    let run : AreTold q c.args.observer.number (c.as_slice-memory.result.now ∷ []) c.in_ok-levels.levels.items =
+    told_same c.labelled-labelled.result.now q c.deref.result.now c.in_ok-relevant.relevant.items (c.as_slice-memory.result.now ∷ []) c.in_ok-levels.levels.items c.labelled-labelled.ensures.labelled
+    c.in_ok-levels.ensures c.deref.ensures.value c.args.observer.number c.in_ok-relevant.ensures in
+    record { from = omega arith; told = told_one q c.args.observer.number c.args.starts.now c.index-starts-0.result c.as_slice-memory.result.now c.in_ok-levels.levels.items c.requires.some c.index-starts-0.is m run }
+
+pub run_levels-requires-in-loop-i-clause-long : goal.run_levels-requires-in-loop-i-clause-long
+run_levels-requires-in-loop-i-clause-long c =
+    let p : Syntax = c.args.p.now.labelled.program in
+    let lt : c.loop-i.i < length c.args.starts.now = c.loop-i-test.true in
+    let h = All-seen (IsFor p) c.args.starts.now c.loop-i.i c.index-starts-i.result c.requires.starts lt c.index-starts-i.is in
+    let m = c.as_slice-memory-in-loop-i.ensures.value ∙ ap (λ (s : Start). s.memory.items) (sym c.index-starts-i.is) in
+    ap length m ∙ h.memory ∙ sym (ap (λ (z : LabelledProgram). variables z.program.declarations) c.labelled-labelled.ensures.labelled)
+
+pub run_levels-requires-in-loop-i-clause-ends : goal.run_levels-requires-in-loop-i-clause-ends
+run_levels-requires-in-loop-i-clause-ends c =
+    let p : Syntax = c.args.p.now.labelled.program in
+    let lt : c.loop-i.i < length c.args.starts.now = c.loop-i-test.true in
+    let h : HasEnded (plan_of p) c.index-starts-i.result.memory.items c.args.steps = All-seen (λ (s : StartValue). HasEnded (plan_of p) s.memory c.args.steps) c.args.starts.now c.loop-i.i c.index-starts-i.result c.requires.ends lt c.index-starts-i.is in
+    let m = c.as_slice-memory-in-loop-i.ensures.value ∙ ap (λ (s : Start). s.memory.items) (sym c.index-starts-i.is) in
+    subst (λ (z : LabelledProgram). HasEnded (plan_of z.program) c.as_slice-memory-in-loop-i.result.now c.args.steps) (sym c.labelled-labelled.ensures.labelled)
+    (subst (λ (z : List ℤ). HasEnded (plan_of p) z c.args.steps) (sym m) h)
+
+pub loop-i-preserved : goal.loop-i-preserved
+loop-i-preserved c =
+    let q : LabelledProgram = c.args.p.now.labelled in
+    let lt : c.loop-i.i < length c.args.starts.now = c.loop-i-test.true in
+    let some : 0 < c.loop-i.i = omega arith in
+    let m = c.as_slice-memory-in-loop-i.ensures.value ∙ ap (λ (s : Start). s.memory.items) (sym c.index-starts-i.is) in
+    let run : AreTold q c.args.observer.number (c.as_slice-memory-in-loop-i.result.now ∷ []) c.deref-in-loop-i-3.result.now =
+    subst (AreTold q c.args.observer.number (c.as_slice-memory-in-loop-i.result.now ∷ [])) (sym c.deref-in-loop-i-3.ensures.value)
+    (told_same c.labelled-labelled.result.now q c.deref-in-loop-i.result.now c.in_ok-relevant.relevant.items (c.as_slice-memory-in-loop-i.result.now ∷ []) c.in_ok-run.run'.items c.labelled-labelled.ensures.labelled
+    c.in_ok-run.ensures c.deref-in-loop-i.ensures.value c.args.observer.number c.in_ok-relevant.ensures) in
+    record {
+      from = omega arith;
+      told = told_next q c.args.observer.number c.args.starts.now c.loop-i.i c.index-starts-i.result c.as_slice-memory-in-loop-i.result.now c.loop-i.levels.items c.deref-in-loop-i-3.result.now c.take_firsts.new.levels.items
+          some lt c.index-starts-i.is m c.loop-i.invariant.told run c.take_firsts.ensures.size c.take_firsts.ensures.told;
+    }
+
+pub returns : goal.returns
+returns c =
+    let q : LabelledProgram = c.args.p.now.labelled in
+    let ms = memories_of (map seen c.args.starts.now) in
+    let long : length ms ≡ length c.args.starts.now = length-map (map seen c.args.starts.now) (λ s. s.memory) ∙ length-map c.args.starts.now seen in
+    let all : length ms ≤ c.loop-i.i = omega (arith, long) in
+    subst (λ z. AreTold q c.args.observer.number z c.loop-i.levels.items) (take_all c.loop-i.i ms all) c.loop-i.invariant.told

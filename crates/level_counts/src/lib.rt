@@ -1,0 +1,8 @@
+//! What the runs of a program begin: for each level, how many mitigations that are relevant to an observer, and the least
+//! of their first predictions.
+#![tactic(auto)]
+
+mod estimates;
+pub mod levels;
+mod note;
+mod run;

@@ -1,0 +1,55 @@
+# Completion of lab's words for bash: source this file, or put it into /etc/bash_completion.d.
+
+# The options of a command.
+_lab_options() {
+    case $1 in
+        why) echo "--of" ;;
+        seen | timeline | bound) echo "--observer --env --budget" ;;
+    esac
+}
+
+# The labels that a program declares; L and H where it declares none.
+_lab_labels() {
+    local told
+    told=$(sed -n 's/^[[:space:]]*labels[[:space:]]*\([^;]*\);.*/\1/p' "$1" 2>/dev/null | head -n 1 | tr ',' ' ')
+    echo "${told:-L H}"
+}
+
+# The variables and arrays that a program declares.
+_lab_names() {
+    sed 's/;/;\n/g' "$1" 2>/dev/null | sed -n 's/^[[:space:]]*var[[:space:]]*\([A-Za-z][A-Za-z0-9_]*\).*/\1/p'
+}
+
+_lab() {
+    local word=${COMP_WORDS[COMP_CWORD]} before=${COMP_WORDS[COMP_CWORD - 1]} command=${COMP_WORDS[1]:-} file
+    COMPREPLY=()
+    if [ "$COMP_CWORD" -eq 1 ]; then
+        mapfile -t COMPREPLY < <(compgen -W "why seen timeline bound" -- "$word")
+        return
+    fi
+    case $before in
+        --env)
+            mapfile -t COMPREPLY < <(compgen -W "flat part part2" -- "$word")
+            return
+            ;;
+        --observer | --of)
+            for file in "${COMP_WORDS[@]}"; do
+                case $before,$file in
+                    --observer,*.mit) mapfile -t COMPREPLY < <(compgen -W "$(_lab_labels "$file")" -- "$word") ;;
+                    --of,*.mit) mapfile -t COMPREPLY < <(compgen -W "$(_lab_names "$file")" -- "$word") ;;
+                esac
+            done
+            return
+            ;;
+        --budget) return ;;
+    esac
+    case $word in
+        -*) mapfile -t COMPREPLY < <(compgen -W "$(_lab_options "$command")" -- "$word") ;;
+        *)
+            compopt -o filenames 2>/dev/null
+            mapfile -t COMPREPLY < <(compgen -f -- "$word")
+            ;;
+    esac
+}
+
+complete -F _lab lab ./lab
