@@ -14,7 +14,7 @@ use Rattle.tool_texts.specs.Reports.{audit_lines}
 use Rattle.tool_stages.specs.Goes.{CanCut, CanBeAudited, HaltsBy, shown_in}
 use Rattle.tool_stages.specs.Envs.{ReportsIn}
 use Rattle.first_audit.specs.FirstAudit.{observer, budget, audit_answer, BothAreApart}
-use Rattle.first_audit.proofs.Order.{table, flow_table, join_table, two}
+use Rattle.first_run.proofs.Order.{table, flow_table, join_table, two}
 use Rattle.first_audit.proofs.Program.{low}
 use Rattle.first_audit.proofs.Types.{labelled}
 use Rattle.first_audit.proofs.Premises.{part, begins}

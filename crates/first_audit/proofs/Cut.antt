@@ -3,17 +3,21 @@ use Rattle.std.proofs.Common.{refl, ℕ, List, [], ◌∷◌, ◌++◌, pos, cod
 use Rattle.std.specs.Prelude.{IsUtf8}
 use Rattle.std.specs.Char.{encode_utf8}
 use Rattle.label_lattice.specs.Names.{keywords}
+use Rattle.label_lattice.proofs.NameLemmas.{all_each}
 use Rattle.mit_syntax.specs.declared.token.Token.{Token}
 use Rattle.mit_syntax.specs.declared.token.TokenKind.TheVariants.{Key, Name, Number, Sign as SignKind}
 use Rattle.mit_syntax.specs.declared.token.Keyword.TheVariants.{Var, Mitigate, Sleep}
 use Rattle.mit_syntax.specs.declared.token.Sign.TheVariants.{Assign, Colon, Semicolon, Comma, LeftRound, RightRound, LeftBrace, RightBrace}
 use Rattle.mit_syntax.specs.Lexemes.{IsName}
-use Rattle.mit_syntax.specs.Cut.{start, moved, end_at, Piece, white, lexeme, CutBefore, tokens_of, AreTokens}
+use Rattle.mit_syntax.specs.Cut.{start, moved, end_at, in_line, Piece, white, comment, lexeme, CutBefore, tokens_of, AreTokens}
 use Rattle.mit_syntax.proofs.ClosedPiece.{closed_piece}
 use Rattle.parse_laws.proofs.Looking.{lexed_name}
 use Rattle.first_audit.specs.FirstAudit.{program_text}
 
--- the pieces of the last line, of the last two, of the last three, and all
+abbrev remark : List ℕ
+remark = codes "// A secret sleep under mitigation, and a public assignment after it."
+
+-- the pieces of the last line, from the body of the mitigate on, from the mitigate on, from a declaration on, and all
 abbrev last : List Piece
 last = lexeme (codes "l") Name ∷ white 32 ∷ lexeme (codes ":=") (SignKind Assign) ∷ white 32 ∷ lexeme (codes "1") (Number (pos 1)) ∷ white 10 ∷ []
 
@@ -32,8 +36,11 @@ declared name label after =
     lexeme (codes "var") (Key Var) ∷ white 32 ∷ lexeme name Name ∷ white 32 ∷ lexeme (codes ":") (SignKind Colon) ∷ white 32
     ∷ lexeme label Name ∷ lexeme (codes ";") (SignKind Semicolon) ∷ white 10 ∷ after
 
+abbrev declarations : List Piece
+declarations = declared (codes "h") (codes "H") (declared (codes "l") (codes "L") mitigated)
+
 abbrev pieces : List Piece
-pieces = declared (codes "h") (codes "H") (declared (codes "l") (codes "L") mitigated)
+pieces = comment remark ∷ white 10 ∷ declarations
 
 name_h : IsName (codes "h")
 unfolding keywords
@@ -136,8 +143,8 @@ cut_secret_label = (
   (closed_piece (codes ";") (SignKind Semicolon) _ refl (refl, refl), (refl, cut_public)),
 )
 
-cut : CutBefore pieces []
-cut = (
+cut_declarations : CutBefore declarations []
+cut_declarations = (
   closed_piece (codes "var") (Key Var) _ refl refl,
   (
     refl,
@@ -150,6 +157,9 @@ cut = (
     ),
   ),
 )
+
+cut : CutBefore pieces []
+cut = ((refl, all_each in_line remark refl, refl), (refl, cut_declarations))
 
 text_utf8 : IsUtf8 program_text
 unfolding encode_utf8

@@ -1,4 +1,3 @@
-mod Order
 mod Program
 mod Cut
 mod Spelled
@@ -6,3 +5,6 @@ mod Types
 mod Premises
 mod Starts
 mod Audited
+mod Whole
+mod Asked
+mod MadeOne

@@ -18,7 +18,7 @@ use Rattle.history_bound.specs.Over.{AnyHistory}
 use Rattle.tool_stages.specs.Envs.{flat_env}
 use Rattle.tool_stages.specs.Stages.{Reads, Types}
 use Rattle.first_audit.specs.FirstAudit.{program_text, observer, budget, with_secret, AreApart, BothAreApart, IsMet}
-use Rattle.first_audit.proofs.Order.{table, flow_table, join_table, two, flow_there}
+use Rattle.first_run.proofs.Order.{table, flow_table, join_table, two}
 use Rattle.first_audit.proofs.Program.{program}
 use Rattle.first_audit.proofs.Cut.{tokens, are_tokens}
 use Rattle.first_audit.proofs.Spelled.{spelled}

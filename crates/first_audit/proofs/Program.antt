@@ -6,7 +6,7 @@ use Rattle.mit_syntax.specs.Todo.{Done, Assign, Sleep, Mitigate}
 use Rattle.mit_syntax.specs.Plan.{Plan}
 use Rattle.mit_syntax.specs.Declarations.{Declaration}
 use Rattle.mit_syntax.specs.Program.{Syntax}
-use Rattle.first_audit.proofs.Order.{two, pairs}
+use Rattle.first_run.proofs.Order.{two, pairs}
 
 abbrev pub low : Label
 low = record { number = 0 }
@@ -19,9 +19,9 @@ declarations = (codes "h", record { label = Some high; length = None }) ∷ (cod
 
 abbrev pub commands : Plan
 commands =
-    Mitigate (record { pos = record { line = 3; column = 1 }; labels = None }) 0 (Some high) (Number (pos 1))
-    (Sleep (record { pos = record { line = 3; column = 19 }; labels = None }) (Variable 0) Done)
-    (Assign (record { pos = record { line = 4; column = 1 }; labels = None }) 1 (Number (pos 1)) Done)
+    Mitigate (record { pos = record { line = 4; column = 1 }; labels = None }) 0 (Some high) (Number (pos 1))
+    (Sleep (record { pos = record { line = 4; column = 19 }; labels = None }) (Variable 0) Done)
+    (Assign (record { pos = record { line = 5; column = 1 }; labels = None }) 1 (Number (pos 1)) Done)
 
 abbrev pub program : Syntax
 program = record { order = two; pairs = pairs; declarations = declarations; plan = commands }

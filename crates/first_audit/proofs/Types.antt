@@ -8,7 +8,7 @@ use Rattle.mit_syntax.specs.Declarations.{cell_at}
 use Rattle.timing_types.specs.Labelling.{Labelling, IsLabelling, IsKept, variable_of, marks_of, level_of}
 use Rattle.timing_types.specs.Labelled.{LabelledProgram, HasType}
 use Rattle.label_infer.specs.Least.{Labels, MeetsOmitted, Below, IsLeast}
-use Rattle.first_audit.proofs.Order.{table, flow_table, join_table, two, two_lattice}
+use Rattle.first_run.proofs.Order.{table, flow_table, join_table, two, two_lattice}
 use Rattle.first_audit.proofs.Program.{low, high, declarations, program}
 
 abbrev pub labels : Labelling

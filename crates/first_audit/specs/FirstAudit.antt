@@ -17,11 +17,11 @@ use Rattle.tool_stages.specs.Stages.{Reads, Types}
 
 -- the bytes of a program: a secret sleep under mitigation, and a public assignment after it
 abbrev pub program_text : List ℕ
-program_text = codes "var h : H;\nvar l : L;\nmitigate (1, H) { sleep h };\nl := 1\n"
+program_text = codes "// A secret sleep under mitigation, and a public assignment after it.\nvar h : H;\nvar l : L;\nmitigate (1, H) { sleep h };\nl := 1\n"
 
 -- the bytes of two starts, which differ in the secret
 abbrev pub starts_text : List ℕ
-starts_text = codes "[[run]]\nmemory = { h = 0 }\n[[run]]\nmemory = { h = 100 }\n"
+starts_text = codes "# Two secrets.\n[[run]]\nmemory = { h = 0 }\n\n[[run]]\nmemory = { h = 100 }\n"
 
 -- the observer L, as a number, and a number of cycles
 abbrev pub observer : ℕ

@@ -1,4 +1,4 @@
-mod Order
+pub mod Order
 mod Cut
 mod Program
 mod Spelled
