@@ -1,19 +1,16 @@
 -- The audit of the two starts under one level of caches.
-use Rattle.std.proofs.Common.{◌≡◌, refl, sym, subst, ℕ, pos, List, [], ◌∷◌, Option, Some, codes, arith, Vec, Global}
+use Rattle.std.proofs.Common.{◌≡◌, refl, ℕ, pos, [], ◌∷◌, arith, Vec, Global}
 use Rattle.std.specs.Prelude.{All}
 use Rattle.std.specs.Fmt.{digits}
 use Rattle.std.proofs.lemmas.List.Elements.{All-nil, All-cons}
 use denote.RawPtr.{null_ptr}
-use Rattle.timing_types.specs.Labelled.{LabelledProgram}
 use Rattle.start_file.specs.Starts.{StartValue}
-use Rattle.part_tlb.specs.Histories.{part_by_history}
-use Rattle.history_bound.specs.Over.{AnyHistory}
 use Rattle.leak_audit.specs.declared.report.AuditReport.{AuditReport}
 use Rattle.tool_words.specs.declared.words.EnvName.TheVariants.{Part}
 use Rattle.tool_texts.specs.Reports.{audit_lines}
-use Rattle.tool_stages.specs.Goes.{CanCut, CanBeAudited, HaltsBy, shown_in}
+use Rattle.tool_stages.specs.Goes.{CanBeAudited, HaltsBy, shown_in}
 use Rattle.tool_stages.specs.Envs.{ReportsIn}
-use Rattle.first_audit.specs.FirstAudit.{observer, budget, audit_answer, BothAreApart}
+use Rattle.first_audit.specs.FirstAudit.{observer, budget, audit_answer}
 use Rattle.first_run.proofs.Order.{table, flow_table, join_table, two}
 use Rattle.first_audit.proofs.Program.{low}
 use Rattle.first_audit.proofs.Types.{labelled}

@@ -1,6 +1,5 @@
 -- What the theorem asks for is met.
 use Rattle.std.proofs.Common.{◌≡◌, ◌≢◌, ◌∙◌, refl, sym, ap, subst, ℕ, zero, suc, ℤ, pos, List, [], ◌∷◌, Option, Some, arith}
-use Rattle.std.specs.Prelude.{get_or}
 use Rattle.tim_base.specs.Told.{IsTold}
 use Rattle.mit_syntax.specs.Program.{plan_of}
 use Rattle.mit_syntax.specs.Values.{read}
@@ -8,7 +7,6 @@ use Rattle.label_lattice.specs.Lattice.{Flows}
 use Rattle.label_lattice.specs.Order.{Order}
 use Rattle.env_contract.specs.Env.{Env}
 use Rattle.label_code.specs.Machine.{Event, Wrote}
-use Rattle.label_code.specs.Run.{Start}
 use Rattle.code_lower.specs.Lowered.{lowered}
 use Rattle.timing_types.specs.Labelled.{order_of, labels_of, levels_of}
 use Rattle.leak_bound.specs.Relevant.{Begins}
@@ -17,12 +15,12 @@ use Rattle.part_tlb.specs.Histories.{part_by_history, part2_by_history}
 use Rattle.history_bound.specs.Over.{AnyHistory}
 use Rattle.tool_stages.specs.Envs.{flat_env}
 use Rattle.tool_stages.specs.Stages.{Reads, Types}
-use Rattle.first_audit.specs.FirstAudit.{program_text, observer, budget, with_secret, AreApart, BothAreApart, IsMet}
+use Rattle.first_audit.specs.FirstAudit.{program_text, observer, budget, with_secret, BothAreApart, IsMet}
 use Rattle.first_run.proofs.Order.{table, flow_table, join_table, two}
 use Rattle.first_audit.proofs.Program.{program}
 use Rattle.first_audit.proofs.Cut.{tokens, are_tokens}
 use Rattle.first_audit.proofs.Spelled.{spelled}
-use Rattle.first_audit.proofs.Types.{labels, labelled, least, typed}
+use Rattle.first_audit.proofs.Types.{labelled, least, typed}
 
 pub reads : (c : Option (Option (List ℕ))) → c ≡ Some (Some program_text) → Reads c program
 reads c h = record {
