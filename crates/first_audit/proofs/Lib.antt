@@ -8,3 +8,4 @@ mod Audited
 mod Whole
 mod Asked
 mod MadeOne
+mod Ended

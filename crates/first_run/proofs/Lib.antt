@@ -6,4 +6,4 @@ mod Types
 mod Runs
 mod Whole
 mod Asked
-mod Ended
+pub mod Ended
