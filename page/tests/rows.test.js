@@ -8,7 +8,7 @@ import { callWithRoom, programsOf } from '../src/module.js';
 
 const folder = (path) => new URL(path, import.meta.url);
 const TABLES = folder('../../crates/worked_rows/data/'), READER = folder('../../crates/worked_rows/src/row.rt'), PAGE = folder('../index.html');
-const USAGE = 4, ROOM = 1 << 20;
+const USAGE = 4, ROOM = 1 << 23;
 
 function moduleBytes() {
   if (process.env.MODULE) return fs.readFileSync(process.env.MODULE);
@@ -32,7 +32,7 @@ function repeated(rest) {
   return Buffer.from(parts.join(''), 'latin1');
 }
 
-function rowsOf(table, usage) {
+function rowsOf(table, usages) {
   const rows = [];
   for (const line of table.split('\n')) {
     const [mark] = line.split(' ', 1), rest = line.slice(mark.length + 1), row = rows.at(-1);
@@ -45,7 +45,8 @@ function rowsOf(table, usage) {
     else if (mark === 'status' || mark === 'room') row[mark] = Number(rest);
     else if (mark === 'read' || mark === 'write') row.hasFault = true;
     else if (mark === 'end') row.isEnd = true;
-    else if (mark === 'usage') Object.assign(row, { wanted: [usage], status: USAGE });
+    else if (mark === 'lab') row.program = 'lab';
+    else if (mark === 'usage') Object.assign(row, { wanted: [usages[row.program]], status: USAGE });
     else if (mark) throw new Error(`a line of rows that is not known here: ${line}`);
   }
   return rows;
@@ -55,12 +56,14 @@ const bytes = moduleBytes();
 
 test('rows of worked_rows on the module', { skip: bytes ? false : 'there is no page/index.html yet' }, () => {
   const module = new WebAssembly.Module(bytes);
-  assert.ok(programsOf(module).includes('mitigate'));
-  const usage = Buffer.from(/const USAGE: &\[u8\] = b"([\s\S]*?)";/.exec(fs.readFileSync(READER, 'utf8'))[1]);
+  assert.deepEqual(programsOf(module), ['mitigate', 'lab']);
+  const reader = fs.readFileSync(READER, 'utf8');
+  const usageOf = (name) => Buffer.from(new RegExp(`const ${name}: &\\[u8\\] = b"([\\s\\S]*?)";`).exec(reader)[1]);
+  const usages = { mitigate: usageOf('USAGE'), lab: usageOf('LAB_USAGE') };
   let count = 0, left = 0;
   const wrong = [];
   for (const name of fs.readdirSync(TABLES).sort()) {
-    for (const row of rowsOf(fs.readFileSync(new URL(name, TABLES), 'utf8'), usage)) {
+    for (const row of rowsOf(fs.readFileSync(new URL(name, TABLES), 'utf8'), usages)) {
       if (row.hasFault) {
         left++;
         continue;

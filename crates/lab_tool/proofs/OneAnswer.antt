@@ -14,9 +14,9 @@ use Rattle.lab_words.specs.QuestionAsked.{Asked, why, seen, timeline, bound}
 use Rattle.lab_bound.proofs.Single.{one_bound_in_lab}
 use Rattle.lab_seen.proofs.OneSeen.{seen_once}
 use Rattle.lab_timeline.proofs.OneTimeline.{timeline_once}
-use Rattle.lab_why.specs.Answers.{ReasonStops, IsAccepted, IsWhyAnswer}
+use Rattle.lab_why.specs.Answers.{ReasonStops, IsAccepted}
 use Rattle.lab_why.specs.Names.{named}
-use Rattle.lab_why.specs.Origins.{HasOrigins, IsOriginAnswer, NameStops}
+use Rattle.lab_why.specs.Origins.{HasOrigins, NameStops}
 use Rattle.lab_tool.specs.Answers.{IsAnswer}
 use Rattle.lab_tool.specs.Complete.{AreKnown, NoneRises}
 use Rattle.lab_tool.specs.Once.{HasOneText}
@@ -67,9 +67,11 @@ answers_one content before now (why file None) s u t x known none h k =
     (reads_status (rises file) (content file) (λ p. Then (ReasonStops (content file) p) (Types p) (λ q. IsAccepted p)) s u t x good.0 good.1 (λ p. reason_status (content file) p s u t x) h k, λ e. absurd e)
 answers_one content before now (why file (Some name)) s u t x known none h k =
     let rises = λ (name : List ℕ). Rose (before name) (now name) in
-    let good = first_file rises content file [] none known in
-    (reads_status (rises file) (content file) (λ p. Then (NameStops p name) (λ spot. named p name ≡ Some spot) (λ spot s t. (s ≡ Done) × HasOrigins (content file) p name spot t)) s u h.0 k.0 good.0 good.1
-    (λ p. origin_status (content file) p name s u h.0 k.0) h.1 k.1, λ e. absurd e)
+    let good = first_file rises content file [] none known in (
+      reads_status (rises file) (content file) (λ p. Then (NameStops p name) (λ spot. named p name ≡ Some spot) (λ spot s t. (s ≡ Done) × HasOrigins (content file) p name spot t)) s u h.0 k.0 good.0 good.1
+          (λ p. origin_status (content file) p name s u h.0 k.0) h.1 k.1,
+      λ e. absurd e,
+    )
 answers_one content before now (seen file starts observer e budget) s u t x known none h k =
     let rises = λ (name : List ℕ). Rose (before name) (now name) in
     let good = first_file rises content file (starts ∷ []) none known in

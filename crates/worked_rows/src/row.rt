@@ -29,6 +29,11 @@ const LAB_USAGE: &[u8] = b"usage: lab why FILE [--of NAME]
        lab bound FILE STARTS --observer L [--env flat|part|part2] [--budget T]
 ";
 
+// The usage text of the program that is called.
+fn usage_of(lab: bool) -> &'static [u8] {
+    if lab { LAB_USAGE } else { USAGE }
+}
+
 // A file in memory.
 #[derive(Drop)]
 struct NamedFile {
@@ -95,7 +100,8 @@ impl Row {
             }
             Line::Wanted(text) => put_text(&mut self.wanted, text)?,
             Line::Usage => {
-                self.wanted.extend_from_slice(self.usage())?;
+                let usage = usage_of(self.lab);
+                self.wanted.extend_from_slice(usage)?;
                 self.status = 4;
             }
             Line::EndAlone => self.end_alone = true,
@@ -106,11 +112,6 @@ impl Row {
             Line::Nothing => (),
         }
         Ok(())
-    }
-
-    // The usage text of the program that is called.
-    fn usage(&self) -> &'static [u8] {
-        if self.lab { LAB_USAGE } else { USAGE }
     }
 
     fn put_words(&mut self, alloc: Global, words: &str) -> Result<(), AllocError> {

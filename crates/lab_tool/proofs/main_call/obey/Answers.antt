@@ -1,14 +1,10 @@
-use Rattle.std.proofs.Common.{◌≡◌, ◌⊎◌, ℕ, List, Option, Bor, inl, inr, refl, sym, subst}
+use Rattle.std.proofs.Common.{ℕ, List, Option, Bor, sym, subst}
 use Rattle.tim_base.specs.Faults.{Rose}
-use Rattle.tool_words.specs.declared.words.EnvName.{EnvName}
-use Rattle.tool_texts.specs.declared.status.Status.TheVariants.{Usage}
-use Rattle.tool_texts.specs.Ends.{EndsBy, Nothing}
-use Rattle.tool_texts.proofs.EndLemmas.{ends_finish}
-use Rattle.lab_texts.specs.InLab.{lab_usage_text}
+use Rattle.tool_texts.specs.Ends.{EndsBy}
 use Rattle.lab_words.specs.declared.question.Question.{Question}
 use Rattle.lab_words.specs.declared.question.Question.TheVariants.{Why}
 use Rattle.lab_words.specs.QuestionViews.{asked_of}
-use Rattle.lab_tool.specs.Answers.{Before, IsAnswer, IsUsage}
+use Rattle.lab_tool.specs.Answers.{Before, IsAnswer}
 use Rattle.lab_tool.proofs.main_call.obey.Goals as goal
 
 pub returns-in-None-clause-answered : goal.returns-in-None-clause-answered
