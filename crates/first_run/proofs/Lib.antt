@@ -1,4 +1,4 @@
-mod Order
+pub mod Order
 mod Cut
 mod Program
 mod Spelled
@@ -6,4 +6,4 @@ mod Types
 mod Runs
 mod Whole
 mod Asked
-mod Ended
+pub mod Ended

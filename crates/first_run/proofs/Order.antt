@@ -20,7 +20,7 @@ names = (76 ∷ []) ∷ (72 ∷ []) ∷ []
 -- ---- tables of 32 rows
 
 -- so many cells, each by its place
-table : {A : Type 0} → (ℕ → A) → ℕ → ℕ → List A
+unfoldable pub table : {A : Type 0} → (ℕ → A) → ℕ → ℕ → List A
 table f i zero = []
 table f i (suc n) = f i ∷ table f (suc i) n
 
@@ -36,17 +36,17 @@ table_at f d i (suc n) zero h = ap f (omega arith)
 table_at f d i (suc n) (suc k) h = table_at f d (suc i) n k (omega (arith, h)) ∙ ap f (omega arith)
 
 -- each label flows to itself, and the first to the second
-abbrev flow_cell : ℕ → Bool
+abbrev pub flow_cell : ℕ → Bool
 flow_cell i = (i / 32 == i % 32) || (i == 1)
 
 -- the join of two labels is the higher one
-abbrev join_cell : ℕ → ℕ
+abbrev pub join_cell : ℕ → ℕ
 join_cell i = cond ((i == 1) || ((i == 32) || (i == 33))) 1 0
 
-pub flow_table : List Bool
+unfoldable pub flow_table : List Bool
 flow_table = table flow_cell 0 1024
 
-pub join_table : List ℕ
+unfoldable pub join_table : List ℕ
 join_table = table join_cell 0 1024
 
 from_none : (n : ℕ) → 0 + n ≡ n

@@ -1,0 +1,11 @@
+mod Program
+mod Cut
+mod Spelled
+mod Types
+mod Premises
+mod Starts
+mod Audited
+mod Whole
+mod Asked
+mod MadeOne
+mod Ended
