@@ -13,7 +13,7 @@ use env_contract::make::MakeEnv;
 use label_lattice::label::Label;
 use start_file::start::Start;
 use std::alloc::Global;
-use tim_base::pos::Memory;
+use text_base::pos::Memory;
 use timing_types::labelled::Labelled;
 
 /// Why starts are not known to agree.

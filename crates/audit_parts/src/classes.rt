@@ -8,7 +8,7 @@ ghost use Rattle.audit_parts.specs.Sequences.{same_sequence, classes_of};
 use crate::sighting::Sighting;
 use indexmap::IndexSet;
 use std::alloc::Global;
-use tim_base::pos::Memory;
+use text_base::pos::Memory;
 
 /// How many different sequences a list has, and for each its class: its place, from 1, among the different
 /// ones in order of first appearance.

@@ -10,7 +10,7 @@ use label_lattice::label::Label;
 use label_lattice::lattice::Lattice;
 use leak_bound::count::digits;
 use std::alloc::Global;
-use tim_base::pos::Memory;
+use text_base::pos::Memory;
 
 /// How many different sequences there are, the class of each, and a power that is to bound their number.
 #[derive(Drop)]

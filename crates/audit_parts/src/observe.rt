@@ -14,7 +14,7 @@ use event_print::end::RunEnd;
 use label_lattice::label::Label;
 use label_lattice::lattice::Lattice;
 use std::alloc::Global;
-use tim_base::pos::Memory;
+use text_base::pos::Memory;
 use timing_types::labelled::Labelled;
 
 /// What is known of a run so far.

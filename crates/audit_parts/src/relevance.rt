@@ -7,7 +7,7 @@ ghost use Rattle.leak_bound.specs.Relevant.{relevances};
 
 use label_lattice::label::Label;
 use std::alloc::Global;
-use tim_base::pos::Memory;
+use text_base::pos::Memory;
 use timing_types::typed::Typed;
 
 /// Of each mitigate, by its mark, whether it is relevant for an observer: its program-counter label flows to

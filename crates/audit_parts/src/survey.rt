@@ -21,7 +21,7 @@ use label_code::image::Image;
 use label_lattice::label::Label;
 use start_file::start::Start;
 use std::alloc::{AllocError, AllocFailed, Global};
-use tim_base::pos::Memory;
+use text_base::pos::Memory;
 use timing_types::labelled::Labelled;
 
 /// The most assignments that all runs of an audit may show together.

@@ -14,7 +14,7 @@ use crate::ready::MAX_RUNS;
 use crate::release::{Releases, release};
 use leak_bound::count::digits;
 use std::alloc::Global;
-use tim_base::pos::Memory;
+use text_base::pos::Memory;
 
 /// What is told of several runs.
 #[derive(Debug, PartialEq, Eq, Drop)]

@@ -8,7 +8,7 @@ use crate::ready::MAX_RUNS;
 use crate::release::Releases;
 use indexmap::IndexSet;
 use std::alloc::Global;
-use tim_base::pos::Memory;
+use text_base::pos::Memory;
 
 /// Which lists of releases are equal.
 #[derive(Drop)]

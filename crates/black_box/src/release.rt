@@ -5,7 +5,7 @@ ghost use Rattle.black_box.specs.Schedule.{IsCycles, is_due};
 ghost use Rattle.black_box.specs.Outcomes.{seen, IsOutcome, outcome};
 
 use std::alloc::Global;
-use tim_base::pos::Memory;
+use text_base::pos::Memory;
 
 /// When the events of a run are released.
 #[derive(Debug, PartialEq, Eq, Drop)]

@@ -6,7 +6,7 @@ use crate::ready::read_ready;
 use crate::release::{Releases, release};
 use std::alloc::Global;
 use std::test::Fail;
-use tim_base::pos::Memory;
+use text_base::pos::Memory;
 
 fn fault(alloc: Global, text: &str) -> Option<ReadyFault>
     requires { length text.now < 2 ^ 31 }

@@ -33,10 +33,10 @@ pub enum CutFault {
     Memory,
 }
 
-impl From<tim_base::pos::Memory> for CutFault {
+impl From<text_base::pos::Memory> for CutFault {
     ghost from_gives = { λ _ e. e ≡ Memory };
 
-    fn from(_: tim_base::pos::Memory) -> CutFault {
+    fn from(_: text_base::pos::Memory) -> CutFault {
         CutFault::Memory
     }
 }

@@ -12,7 +12,7 @@ use env_contract::env::MachineEnv;
 use label_code::image::Image;
 use std::alloc::Global;
 use std::marker::Model;
-use tim_base::pos::Memory;
+use text_base::pos::Memory;
 
 /// A machine that runs an image over an environment. Once it has halted or come to a limit it is stopped.
 #[derive(Drop)]

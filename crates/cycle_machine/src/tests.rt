@@ -10,7 +10,7 @@ use label_lattice::label::Label;
 use label_lattice::lattice::Lattice;
 use label_lattice::name::Name;
 use std::alloc::Global;
-use tim_base::pos::Memory;
+use text_base::pos::Memory;
 
 // The lattice of one label.
 fn one_label() -> Option<Lattice>

@@ -9,7 +9,7 @@ use crate::flat::FlatEnv;
 use crate::place::Touch;
 use label_lattice::lattice::Lattice;
 use std::alloc::Global;
-use tim_base::pos::Memory;
+use text_base::pos::Memory;
 
 /// Makes the environment that a lattice and a list of touches give.
 pub trait MakeEnv<E: MachineEnv> {

@@ -8,7 +8,7 @@ use label_lattice::label::Label;
 use label_lattice::lattice::Lattice;
 use label_lattice::name::Name;
 use std::alloc::Global;
-use tim_base::pos::Memory;
+use text_base::pos::Memory;
 
 const LOW: Label = Label { number: 0 };
 

@@ -1,6 +1,6 @@
 -- What a search looks for.
 use Rattle.std.specs.Prelude.{◌≡◌, ℕ, Bool, true, not, Option, None, Some}
-use Rattle.tim_base.specs.declared.pos.Pos.{Pos}
+use Rattle.text_base.specs.declared.pos.Pos.{Pos}
 use Rattle.label_lattice.specs.Order.{lattice_of}
 use Rattle.mit_syntax.specs.Program.{Syntax}
 use Rattle.timing_types.specs.declared.rule.Rule.{Rule}

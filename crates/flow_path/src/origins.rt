@@ -22,7 +22,7 @@ use label_lattice::label::Label;
 use label_lattice::lattice::Lattice;
 use mit_syntax::program::Program;
 use std::alloc::{AllocError, Global};
-use tim_base::pos::Memory;
+use text_base::pos::Memory;
 use timing_types::labelled::Labelled;
 
 /// A written label, and a chain that leads from it.

@@ -9,7 +9,7 @@ use crate::step::Spot;
 use crate::written::written_at;
 use label_lattice::label::Label;
 use mit_syntax::program::Program;
-use tim_base::pos::Pos;
+use text_base::pos::Pos;
 use timing_types::rule::Rule;
 
 /// Where chains are to end: at the condition that a refusal tells of, or at an omitted label.

@@ -2,7 +2,7 @@
 use Rattle.std.proofs.Common.{◌≡◌, ℕ, ◌+◌, ◌<◌, refl, sym, ap, ◌∙◌, List, [], ◌∷◌, ◌++◌, length, get_or, drop}
 use Rattle.std.specs.Prelude.{Bool, false, ◌&&◌, if◌then◌else◌, Some}
 use Rattle.std.proofs.lemmas.List.{drop_more}
-use Rattle.tim_base.specs.declared.pos.Pos.{Pos}
+use Rattle.text_base.specs.declared.pos.Pos.{Pos}
 use Rattle.mit_syntax.specs.declared.token.Token.{Token}
 use Rattle.mit_syntax.specs.Program.{Syntax}
 use Rattle.flow_path.specs.declared.step.Step.{Step}

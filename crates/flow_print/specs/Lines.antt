@@ -1,7 +1,7 @@
 -- The lines that tell a chain: for each step how its part comes in, and then its right side. Each line begins with its
 -- place. T is the text of the program, and ts are its tokens.
 use Rattle.std.specs.Prelude.{ℕ, if◌then◌else◌, nat_lt, List, [], ◌∷◌, ◌++◌, Option, None, Some, codes, decimal}
-use Rattle.tim_base.specs.declared.pos.Pos.{Pos}
+use Rattle.text_base.specs.declared.pos.Pos.{Pos}
 use Rattle.label_lattice.specs.declared.label.Label.{Label}
 use Rattle.label_lattice.specs.Order.{Order, name_of}
 use Rattle.mit_syntax.specs.declared.token.Token.{Token}

@@ -14,7 +14,7 @@ use label_lattice::label::Label;
 use mit_syntax::program::Program;
 use mit_syntax::token::Token;
 use std::alloc::{AllocError, Global};
-use tim_base::pos::Pos;
+use text_base::pos::Pos;
 
 fn put_reads(
     out: &mut Vec<u8>,

@@ -4,7 +4,7 @@ ghost use Rattle.std.specs.Prelude.{◌≡◌, ◌&&◌};
 ghost use Rattle.flow_print.specs.Places.{is_after, is_same, spelled, is_name_kind, is_name, next_place, is_var, declared_place, kind_at};
 
 use mit_syntax::token::{Keyword, Token, TokenKind};
-use tim_base::pos::Pos;
+use text_base::pos::Pos;
 
 fn is_after(p: Pos, q: Pos) -> bool
     ensures { result ≡ is_after p q }

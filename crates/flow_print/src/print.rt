@@ -10,7 +10,7 @@ use flow_path::step::Step;
 use mit_syntax::program::Program;
 use mit_syntax::token::Token;
 use std::alloc::{AllocError, Global};
-use tim_base::pos::Memory;
+use text_base::pos::Memory;
 
 fn put_steps(
     alloc: Global,

@@ -12,7 +12,7 @@ use label_lattice::lattice::Lattice;
 use mit_syntax::program::Program;
 use mit_syntax::token::{Keyword, TokenKind};
 use std::alloc::{AllocError, Global};
-use tim_base::pos::Pos;
+use text_base::pos::Pos;
 
 /// What a command is called that begins with such a token.
 pub(crate) fn noun(kind: TokenKind) -> &'static [u8]

@@ -8,7 +8,7 @@ use crate::instr::put_instr;
 use label_code::image::Image;
 use mit_syntax::program::Program;
 use std::alloc::Global;
-use tim_base::pos::Memory;
+use text_base::pos::Memory;
 
 /// The text of an image, with the names of a program: a line for each instruction, of its number from 0,
 /// its name, its operand if it has one, and its labels as `[READ, WRITE]`. The program has as many variables

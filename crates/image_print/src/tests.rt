@@ -11,7 +11,7 @@ use mit_syntax::ast::{Command, Form, Op};
 use mit_syntax::program::Program;
 use std::alloc::{AllocError, Global};
 use std::test::Fail;
-use tim_base::pos::Pos;
+use text_base::pos::Pos;
 
 // A program with one label and no variables.
 fn one_skip(alloc: Global, label: Name) -> Result<Option<Program>, AllocError>

@@ -12,7 +12,7 @@ use env_contract::env::MachineEnv;
 use env_contract::make::MakeEnv;
 use start_file::start::Start;
 use std::alloc::Global;
-use tim_base::pos::Memory;
+use text_base::pos::Memory;
 use tool_stages::compiled::Compiled;
 
 /// A machine at a start, in the environment that a maker makes of its touches. Fails only for want of memory.

@@ -12,7 +12,7 @@ use flow_print::print::origins_text;
 use label_lattice::label::Label;
 use mit_syntax::token::Token;
 use std::alloc::Global;
-use tim_base::pos::Memory;
+use text_base::pos::Memory;
 use timing_types::labelled::Labelled;
 
 // The label of a variable, or the level of a mitigate.

@@ -7,7 +7,7 @@ use flow_path::why::Refusal;
 use flow_print::print::chain_text;
 use mit_syntax::token::Token;
 use std::alloc::Global;
-use tim_base::pos::Memory;
+use text_base::pos::Memory;
 use timing_types::rule::TypeFault;
 use tool_texts::lines;
 

@@ -12,7 +12,7 @@ use crate::own::list_pairs;
 use label_lattice::label::Label;
 use mit_syntax::program::Program;
 use std::alloc::{AllocError, Global};
-use tim_base::pos::Memory;
+use text_base::pos::Memory;
 use timing_types::labelled::Labelled;
 
 /// The labels of a program's commands, in order of the text.

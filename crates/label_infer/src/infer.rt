@@ -12,7 +12,7 @@ use mit_syntax::program::Program;
 use std::alloc::Global;
 use std::marker::Brand;
 use std::sync::ledger::{Blank, Ledger};
-use tim_base::pos::Memory;
+use text_base::pos::Memory;
 use timing_types::labelled::Labelled;
 
 /// Takes conditions up until none waits.

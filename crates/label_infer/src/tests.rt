@@ -27,7 +27,7 @@ use mit_syntax::program::Program;
 use std::alloc::{AllocError, Global};
 use std::marker::Brand;
 use std::sync::ledger::{Blank, Ledger};
-use tim_base::pos::{Memory, Pos};
+use text_base::pos::{Memory, Pos};
 use timing_types::labelled::Labelled;
 
 const LOW: Label = Label { number: 0 };

@@ -20,7 +20,7 @@ use mit_syntax::program::Program;
 use std::alloc::Global;
 use std::marker::Model;
 use std::sync::ledger::Ledger;
-use tim_base::pos::Memory;
+use text_base::pos::Memory;
 
 /// The conditions of a program whose right side is an omitted label, those of them that wait to be taken up,
 /// and the labels so far: the written ones, and those that the conditions have led to.

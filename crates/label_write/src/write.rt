@@ -9,7 +9,7 @@ use crate::declarations::write_declarations;
 use mit_syntax::print::print_program;
 use mit_syntax::program::Program;
 use std::alloc::{AllocError, Global};
-use tim_base::pos::Memory;
+use text_base::pos::Memory;
 use timing_types::labelled::Labelled;
 
 /// The program that writes the label of each variable, both labels of each command and the level of each

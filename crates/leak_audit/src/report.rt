@@ -34,10 +34,10 @@ pub enum AuditFault {
     Memory,
 }
 
-impl From<tim_base::pos::Memory> for AuditFault {
+impl From<text_base::pos::Memory> for AuditFault {
     ghost from_gives = { λ _ e. e ≡ Memory };
 
-    fn from(_: tim_base::pos::Memory) -> AuditFault {
+    fn from(_: text_base::pos::Memory) -> AuditFault {
         AuditFault::Memory
     }
 }

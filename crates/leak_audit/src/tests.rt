@@ -22,7 +22,7 @@ use mit_syntax::program::Program;
 use part_tlb::part::MakePart;
 use start_file::start::Start;
 use std::alloc::{AllocError, Global};
-use tim_base::pos::Pos;
+use text_base::pos::Pos;
 use timing_types::check::check;
 use timing_types::labelled::Labelled;
 use timing_types::typed::Typed;

@@ -9,7 +9,7 @@ ghost use Rattle.level_counts.specs.Estimates.{estimates_of};
 use mit_syntax::ast::{Command, Expr, Form};
 use mit_syntax::program::Program;
 use std::alloc::{AllocError, Global};
-use tim_base::pos::Memory;
+use text_base::pos::Memory;
 
 // Appends the estimates of the mitigates in a command, in order of the text.
 #[cycle(estimates)]

@@ -16,7 +16,7 @@ use label_lattice::label::Label;
 use sharp_count::count::LevelRuns;
 use start_file::start::Start;
 use std::alloc::Global;
-use tim_base::pos::Memory;
+use text_base::pos::Memory;
 use timing_types::typed::Typed;
 
 // Takes the first predictions of one run more.

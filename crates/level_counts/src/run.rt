@@ -16,7 +16,7 @@ use sharp_count::count::LevelRuns;
 use source_meaning::walk::Walk;
 use source_meaning::walker::Walker;
 use std::alloc::Global;
-use tim_base::pos::Memory;
+use text_base::pos::Memory;
 use timing_types::labelled::Labelled;
 
 /// What is told of the levels of a run that begins nothing.

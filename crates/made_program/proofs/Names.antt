@@ -1,6 +1,6 @@
 -- Each name of a made program is declared.
 use Rattle.std.proofs.Common.{◌≡◌, ◌<◌, ◌%◌, ◌*◌, refl, ap, ◌∙◌, ℕ, zero, suc, List, [], ◌∷◌, Option, None, arith}
-use Rattle.tim_base.specs.declared.pos.Pos.{Pos}
+use Rattle.text_base.specs.declared.pos.Pos.{Pos}
 use Rattle.mit_syntax.specs.Declarations.{Declaration}
 use Rattle.mit_parser.specs.declared.fault.ParseFault.{ParseFault}
 use Rattle.mit_parser.specs.Scope.{scope, scalar_fault, kept}

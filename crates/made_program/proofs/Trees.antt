@@ -1,7 +1,7 @@
 -- The tree of a made program.
 use Rattle.std.proofs.Common.{◌≡◌, ◌+◌, ◌*◌, refl, sym, ap, ◌∙◌, ℕ, zero, suc, List, [], ◌∷◌, arith}
 use Rattle.std.specs.Prelude.{pos}
-use Rattle.tim_base.specs.declared.pos.Pos.{Pos}
+use Rattle.text_base.specs.declared.pos.Pos.{Pos}
 use Rattle.mit_syntax.specs.Chunks.{Chunk, line}
 use Rattle.mit_syntax.specs.declared.token.Sign.TheVariants.{Semicolon}
 use Rattle.mit_parser.specs.Words.{Told, sign_at}

@@ -1,6 +1,6 @@
 -- What the text of the starts gives a made program.
 use Rattle.std.proofs.Common.{◌≡◌, ◌<◌, ◌∙◌, refl, sym, subst, ℕ, zero, suc, List, [], ◌∷◌, None, Some, Ok, arith}
-use Rattle.tim_base.specs.declared.pos.Pos.{Pos}
+use Rattle.text_base.specs.declared.pos.Pos.{Pos}
 use Rattle.label_lattice.specs.Order.{Order}
 use Rattle.label_lattice.specs.declared.label.Label.{Label}
 use Rattle.mit_syntax.specs.declared.declarations.Decl.{Decl}

@@ -7,7 +7,7 @@ use crate::draws::Draws;
 use crate::starts::starts;
 use crate::unit::put_unit;
 use std::alloc::{AllocError, Global};
-use tim_base::pos::Memory;
+use text_base::pos::Memory;
 
 /// The texts of a made program and of its starts.
 #[derive(Debug, Drop)]

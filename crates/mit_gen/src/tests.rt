@@ -1,5 +1,5 @@
 use crate::made::make;
-use tim_base::pos::Memory;
+use text_base::pos::Memory;
 
 #[test]
 fn programs_of_one_and_two_units(rt: HostRuntime) -> Result<(), Memory> {

@@ -1,7 +1,7 @@
 -- What each way through the functions of expressions gives.
 use Rattle.std.proofs.Common.{◌≡◌, ◌+◌, ◌-◌, ◌≤◌, refl, ap, ◌∙◌, sym, ℕ, ℤ, Bool, true, false, cond, List, [], ◌∷◌, Option, Some, None, arith}
 use Rattle.std.specs.Option.{option_map}
-use Rattle.tim_base.specs.declared.pos.Pos.{Pos}
+use Rattle.text_base.specs.declared.pos.Pos.{Pos}
 use Rattle.mit_syntax.specs.declared.token.Sign.TheVariants.{LeftRound, RightRound, LeftSquare, RightSquare, Star, Slash, Percent, Plus, Minus, Equal, NotEqual, LessEqual, Less, GreaterEqual, Greater}
 use Rattle.mit_syntax.specs.declared.ast.Op.{Op}
 use Rattle.mit_syntax.specs.Expression.{Expression, Number as NumberOf, Variable as VariableOf, Binary as BinaryOf, Element as ElementOf}

@@ -1,6 +1,6 @@
 -- The same for commands: each whole expression is counted anew.
 use Rattle.std.proofs.Common.{◌≡◌, ◌≤◌, ◌+◌, ◌-◌, subst, ℕ, List, [], ◌∷◌, arith}
-use Rattle.tim_base.specs.declared.pos.Pos.{Pos}
+use Rattle.text_base.specs.declared.pos.Pos.{Pos}
 use Rattle.mit_syntax.specs.declared.token.Keyword.TheVariants.{Then, Do}
 use Rattle.mit_syntax.specs.declared.token.Sign.TheVariants.{RightRound, RightBrace, RightSquare, Assign, Semicolon}
 use Rattle.mit_parser.specs.Words.{Told, sign_at, key_at, end_at}

@@ -2,7 +2,7 @@
 use Rattle.std.proofs.Common.{◌≡◌, ◌+◌, ◌≤◌, ◌<◌, refl, ap, ◌∙◌, sym, subst, ℕ, ℤ, List, [], ◌∷◌, ◌++◌, append_assoc, length, Bool, true, false, cond, Option, Some, None, arith}
 use Rattle.std.specs.Prelude.{is_some}
 use Rattle.std.proofs.lemmas.List.{append-nil}
-use Rattle.tim_base.specs.declared.pos.Pos.{Pos}
+use Rattle.text_base.specs.declared.pos.Pos.{Pos}
 use Rattle.mit_syntax.specs.declared.token.Keyword.TheVariants.{Order, Var}
 use Rattle.mit_syntax.specs.declared.token.Sign.TheVariants.{Colon, Semicolon, Comma, LeftSquare, RightSquare, Less}
 use Rattle.mit_syntax.specs.Chunks.{key, sign, number}

@@ -1,7 +1,7 @@
 -- Where nothing is wrong with the names of a tree, what it means is declared.
 use Rattle.std.proofs.Common.{◌≡◌, ◌<◌, ◌+◌, refl, ap, ◌∙◌, sym, ℕ, List, ◌∷◌, length, cond, Option, Some, None}
 use Rattle.std.specs.Prelude.{is_some}
-use Rattle.tim_base.specs.declared.pos.Pos.{Pos}
+use Rattle.text_base.specs.declared.pos.Pos.{Pos}
 use Rattle.mit_syntax.specs.Expression.{Expression, Binary}
 use Rattle.mit_syntax.specs.Plan.{Plan}
 use Rattle.mit_syntax.specs.Declarations.{find_scalar, find_array}

@@ -1,7 +1,7 @@
 -- What each way through the functions of commands gives.
 use Rattle.std.proofs.Common.{◌≡◌, ◌+◌, ◌-◌, refl, ap, ◌∙◌, sym, ℕ, List, [], ◌∷◌, ◌++◌, append_assoc, Bool, true, false, cond, Option, Some, None, arith, Vec, Global}
 use Rattle.std.proofs.lemmas.List.{append-nil}
-use Rattle.tim_base.specs.declared.pos.Pos.{Pos}
+use Rattle.text_base.specs.declared.pos.Pos.{Pos}
 use Rattle.label_lattice.specs.declared.label.Label.{Label}
 use Rattle.mit_syntax.specs.declared.token.Keyword.TheVariants.{Skip, If, Then, Else, While, Do, Mitigate, Sleep}
 use Rattle.mit_syntax.specs.declared.token.Sign.TheVariants.{Assign, Semicolon, Comma, LeftRound, RightRound, LeftBrace, RightBrace, LeftSquare, RightSquare, At}

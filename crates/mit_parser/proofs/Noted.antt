@@ -1,7 +1,7 @@
 -- The first fault is kept, and is one of names.
 use Rattle.std.proofs.Common.{◌≡◌, refl, ap, ◌∙◌, ℕ, ℤ, List, [], ◌∷◌, ◌++◌, length, Bool, true, false, cond, Option, Some, None}
 use Rattle.std.specs.Prelude.{is_some, ltb}
-use Rattle.tim_base.specs.declared.pos.Pos.{Pos}
+use Rattle.text_base.specs.declared.pos.Pos.{Pos}
 use Rattle.mit_syntax.specs.declared.declarations.TheConstants.{MAX_VARIABLES}
 use Rattle.mit_syntax.specs.Declarations.{Declaration, declared, find_scalar, find_array, elements_in}
 use Rattle.mit_parser.specs.declared.fault.ParseFault.{ParseFault}

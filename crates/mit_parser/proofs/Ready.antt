@@ -3,7 +3,7 @@ use Rattle.std.proofs.Common.{◌≡◌, ◌<◌, ◌+◌, refl, ap, ◌∙◌, 
 use Rattle.std.specs.Prelude.{All, ltb, ◌||◌, ◌==◌}
 use Rattle.std.proofs.lemmas.List.Elements.{All-cons}
 use Rattle.std.proofs.lemmas.Bool.{eqb-false}
-use Rattle.tim_base.specs.declared.pos.Pos.{Pos}
+use Rattle.text_base.specs.declared.pos.Pos.{Pos}
 use Rattle.label_lattice.specs.Names.{IsName}
 use Rattle.mit_syntax.specs.declared.declarations.TheConstants.{MAX_ELEMENTS}
 use Rattle.mit_syntax.specs.Declarations.{Declaration, elements_in}

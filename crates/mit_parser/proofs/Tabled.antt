@@ -5,7 +5,7 @@ use Rattle.std.specs.Str.{bytes_eq}
 use Rattle.std.specs.Map.{keys_of, lookup}
 use Rattle.std.proofs.lemmas.Bool.{cond-true, cond-false, ltb-false}
 use Rattle.indexmap.proofs.MapLemmas.{some_index}
-use Rattle.tim_base.specs.declared.pos.Pos.{Pos}
+use Rattle.text_base.specs.declared.pos.Pos.{Pos}
 use Rattle.mit_syntax.specs.declared.declarations.Decl.{Decl}
 use Rattle.mit_syntax.specs.declared.declarations.TheConstants.{MAX_ELEMENTS}
 use Rattle.mit_syntax.specs.Declarations.{Declaration, declared, size_of, elements_in, length_in}

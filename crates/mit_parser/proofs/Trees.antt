@@ -1,6 +1,6 @@
 -- The machine is never stuck on what a tree spells.
 use Rattle.std.proofs.Common.{◌≡◌, refl, ap, ◌∙◌, List, [], ◌∷◌, false, cond, Option, Some, None}
-use Rattle.tim_base.specs.declared.pos.Pos.{Pos}
+use Rattle.text_base.specs.declared.pos.Pos.{Pos}
 use Rattle.mit_syntax.specs.declared.token.Keyword.TheVariants.{Labels, Order, Var, Then, Else, Do}
 use Rattle.mit_syntax.specs.declared.token.Sign.TheVariants.{Assign, Semicolon, Comma, RightRound, RightBrace, LeftSquare, RightSquare, At}
 use Rattle.mit_syntax.specs.Chunks.{key, sign}

@@ -1,6 +1,6 @@
 -- The first fault of a tree's names, in the order of the text.
 use Rattle.std.specs.Prelude.{◌≡◌, ℕ, ℤ, pos, negsuc, ◌+◌, ◌==◌, ◌||◌, ltb, ◌<◌, All, Bool, cond, List, [], ◌∷◌, ◌++◌, length, Option, None, Some, is_some, ◌⊎◌}
-use Rattle.tim_base.specs.declared.pos.Pos.{Pos}
+use Rattle.text_base.specs.declared.pos.Pos.{Pos}
 use Rattle.label_lattice.specs.declared.label.Label.{Label}
 use Rattle.label_lattice.specs.Chains.{Chain, IsFault, IsSound}
 use Rattle.mit_syntax.specs.declared.declarations.Decl.{Decl}

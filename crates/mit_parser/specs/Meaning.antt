@@ -1,7 +1,7 @@
 -- The commands that a tree means: names are looked up, and mitigates numbered in the order of the text. What is
 -- wrong with names is told apart (Faults); a name that stands for nothing counts here as the number 0.
 use Rattle.std.specs.Prelude.{ℕ, ◌+◌, List, Option, None, Some}
-use Rattle.tim_base.specs.declared.pos.Pos.{Pos}
+use Rattle.text_base.specs.declared.pos.Pos.{Pos}
 use Rattle.label_lattice.specs.declared.label.Label.{Label}
 use Rattle.mit_syntax.specs.Expression.{Expression, Number, Variable, Binary, Element}
 use Rattle.mit_syntax.specs.Todo.{Done, Skip, Assign, Put, Sleep, If, While, Mitigate}

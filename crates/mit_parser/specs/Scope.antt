@@ -1,7 +1,7 @@
 -- What names stand for, and which uses of them are wrong.
 use Rattle.std.specs.Prelude.{ℕ, cond, List, [], position, Option, None, Some, is_some}
 use Rattle.std.specs.Str.{bytes_eq}
-use Rattle.tim_base.specs.declared.pos.Pos.{Pos}
+use Rattle.text_base.specs.declared.pos.Pos.{Pos}
 use Rattle.label_lattice.specs.declared.label.Label.{Label}
 use Rattle.label_lattice.specs.Order.{Order}
 use Rattle.mit_syntax.specs.Declarations.{Declaration, find_scalar, find_array}

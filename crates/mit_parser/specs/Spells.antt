@@ -1,6 +1,6 @@
 -- What the parser answers: the program that the words spell, or why there is none.
 use Rattle.std.specs.Prelude.{◌≡◌, None, true, List, [], ◌∷◌, ◌++◌}
-use Rattle.tim_base.specs.declared.pos.Pos.{Pos}
+use Rattle.text_base.specs.declared.pos.Pos.{Pos}
 use Rattle.label_lattice.specs.Chains.{IsBuilt}
 use Rattle.mit_syntax.specs.Program.{Syntax, plan_of}
 use Rattle.mit_parser.specs.declared.fault.ParseFault.{ParseFault}

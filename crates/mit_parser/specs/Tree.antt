@@ -1,6 +1,6 @@
 -- Whole trees, with each written pair of parentheses and the position of each word, and the words that they spell.
 use Rattle.std.specs.Prelude.{ℕ, ℤ, List, ◌∷◌}
-use Rattle.tim_base.specs.declared.pos.Pos.{Pos}
+use Rattle.text_base.specs.declared.pos.Pos.{Pos}
 use Rattle.mit_syntax.specs.declared.token.Keyword.TheVariants.{Labels, Order, Var, Skip, If, Then, Else, While, Do, Mitigate, Sleep}
 use Rattle.mit_syntax.specs.declared.token.Sign.TheVariants.{Assign, Colon, Semicolon, Comma, LeftRound, RightRound, LeftBrace, RightBrace, LeftSquare, RightSquare, At, Less}
 use Rattle.mit_syntax.specs.Chunks.{number}

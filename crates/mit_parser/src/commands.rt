@@ -15,7 +15,7 @@ use label_lattice::lattice::Lattice;
 use mit_syntax::ast::{Command, Form};
 use mit_syntax::token::{Keyword, Sign, TokenKind};
 use std::alloc::Global;
-use tim_base::pos::Pos;
+use text_base::pos::Pos;
 
 impl<'a> Parser<'a> {
     // [ "," name ]

@@ -21,7 +21,7 @@ use mit_syntax::declarations::{Decl, MAX_ELEMENTS, MAX_VARIABLES, Variables};
 use mit_syntax::token::{Keyword, Sign};
 use std::alloc::Global;
 use std::marker::Model;
-use tim_base::pos::Pos;
+use text_base::pos::Pos;
 
 /// The label and the length that a declaration writes, each with its position.
 #[derive(Clone, Copy)]

@@ -6,7 +6,7 @@ ghost use Rattle.std.specs.Prelude.{◌≡◌};
 use label_lattice::fault::LatticeFault;
 use std::alloc::{AllocError, AllocFailed};
 use thiserror::Error;
-use tim_base::pos::Pos;
+use text_base::pos::Pos;
 
 /// Why tokens spell no program.
 #[derive(Clone, Copy, Debug, PartialEq, Eq, Error)]

@@ -19,7 +19,7 @@ use label_lattice::lattice::Lattice;
 use label_lattice::name::Name;
 use mit_syntax::token::{Keyword, Sign};
 use std::alloc::Global;
-use tim_base::pos::Pos;
+use text_base::pos::Pos;
 
 /// The lattice of the labels, where they make one, and the pairs that give their order.
 #[derive(Drop)]

@@ -11,7 +11,7 @@ use label_lattice::label::Label;
 use label_lattice::lattice::Lattice;
 use label_lattice::name::Name;
 use mit_syntax::declarations::Variables;
-use tim_base::pos::Pos;
+use text_base::pos::Pos;
 
 /// The labels, where they make a lattice, and the declared variables.
 #[derive(Drop)]

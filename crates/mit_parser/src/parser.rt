@@ -21,7 +21,7 @@ use label_lattice::name::Name;
 use mit_syntax::ast::Op;
 use mit_syntax::token::{Keyword, Sign, Token, TokenKind};
 use std::marker::Model;
-use tim_base::pos::Pos;
+use text_base::pos::Pos;
 
 /// What is left of the tokens of a text, the limited counts, the first fault of names, and how many
 /// mitigates there were. The last token stays.

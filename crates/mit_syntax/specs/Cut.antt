@@ -1,7 +1,7 @@
 -- A text is cut into pieces, each as long as it can be. The tokens are those of the pieces, and then the end.
 use Rattle.std.specs.Prelude.{◌≡◌, ℕ, ◌+◌, ◌-◌, ◌<◌, Bool, true, false, ◌&&◌, ◌==◌, if◌then◌else◌, List, [], ◌∷◌, ◌++◌, length, take, drop, Option, Some, None, IsUtf8}
 use Rattle.std.specs.Str.{IsValidUpTo}
-use Rattle.tim_base.specs.declared.pos.Pos.{Pos}
+use Rattle.text_base.specs.declared.pos.Pos.{Pos}
 use Rattle.mit_syntax.specs.declared.fault.TextFault.{TextFault}
 use Rattle.mit_syntax.specs.declared.fault.TextFault.TheVariants.{NotUtf8, BadByte, WideNumber, LongName, Memory}
 use Rattle.mit_syntax.specs.declared.token.Token.{Token}

@@ -2,7 +2,7 @@
 use Rattle.std.proofs.Common.{refl, ap, ◌∙◌, Vec, Global}
 use Rattle.std.specs.Prelude.{◌≡◌, ℕ, ◌+◌, List, [], ◌∷◌, Option}
 use Rattle.label_lattice.specs.declared.label.Label.{Label}
-use Rattle.tim_base.specs.declared.pos.Pos.{Pos}
+use Rattle.text_base.specs.declared.pos.Pos.{Pos}
 use Rattle.mit_syntax.specs.declared.ast.Expr.{Expr}
 use Rattle.mit_syntax.specs.Expression.{expression_of}
 use Rattle.mit_syntax.specs.declared.ast.Command.{Command}

@@ -4,7 +4,7 @@ use Rattle.std.proofs.Common.{refl, ap, ◌∙◌, inl, inr}
 use Rattle.std.specs.Prelude.{◌≡◌, ℕ, zero, suc, ℤ, List, [], ◌∷◌, Option, ◌⊎◌}
 use Rattle.std.specs.Coded.{Coded, code_by, coded×, coded⊎, coded_ℕ, coded_ℤ, coded_list, coded_option}
 use Rattle.label_lattice.specs.declared.label.Label.{Label}
-use Rattle.tim_base.specs.declared.pos.Pos.{Pos}
+use Rattle.text_base.specs.declared.pos.Pos.{Pos}
 use Rattle.mit_syntax.specs.declared.ast.Op.{Op}
 use Rattle.mit_syntax.specs.declared.ast.Op.TheVariants.{Add, Sub, Mul, Div, Rem, Eq, Ne, Lt, Le, Gt, Ge}
 use Rattle.mit_syntax.specs.Expression.{Expression, Number, Variable, Binary, Element}

@@ -1,7 +1,7 @@
 //! The trees of a program.
 
 use label_lattice::label::Label;
-use tim_base::pos::Pos;
+use text_base::pos::Pos;
 
 /// An operator on signed numbers of 64 bits.
 #[derive(Clone, Copy, Debug, PartialEq, Eq)]

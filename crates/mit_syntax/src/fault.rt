@@ -5,7 +5,7 @@ ghost use Rattle.std.specs.Prelude.{◌≡◌};
 
 use std::alloc::{AllocError, AllocFailed};
 use thiserror::Error;
-use tim_base::pos::Pos;
+use text_base::pos::Pos;
 
 /// Why a text has no tokens. The numbers of the errors are the order of the variants.
 #[derive(Clone, Copy, Debug, PartialEq, Eq, Error)]

@@ -13,7 +13,7 @@ use crate::print::commands::put_commands;
 use crate::print::header::{put_declarations, put_labels, put_order};
 use crate::program::Program;
 use std::alloc::{AllocError, Global};
-use tim_base::pos::Memory;
+use text_base::pos::Memory;
 
 /// The canonical text of a program: its header, a line for each declaration, and its commands.
 ///

@@ -6,7 +6,7 @@ use label_lattice::lattice::Lattice;
 use label_lattice::name::Name;
 use std::alloc::{AllocError, Global};
 use std::test::Fail;
-use tim_base::pos::Pos;
+use text_base::pos::Pos;
 
 // A program with one label and one command.
 fn one_skip(alloc: Global, label: Name) -> Result<Option<Program>, AllocError> {

@@ -1,6 +1,6 @@
 //! Tokens.
 
-use tim_base::pos::Pos;
+use text_base::pos::Pos;
 
 /// A word of the language that is no name.
 #[derive(Clone, Copy, Debug, PartialEq, Eq)]

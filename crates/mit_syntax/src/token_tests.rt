@@ -1,7 +1,7 @@
 use crate::token::{Keyword, Sign, Token, TokenKind};
 use crate::tokens::tokens;
 use std::test::Fail;
-use tim_base::pos::Pos;
+use text_base::pos::Pos;
 
 /// Texts without tokens, and the fault of each as it is printed.
 static FAULTS: [(&[u8], &str); 11] = [

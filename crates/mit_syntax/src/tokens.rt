@@ -12,7 +12,7 @@ use crate::lexeme::{Flaw, lexeme};
 use crate::token::{Token, TokenKind};
 use std::alloc::Global;
 use std::marker::Model;
-use tim_base::pos::Pos;
+use text_base::pos::Pos;
 
 /// A place in a text: how many bytes lie before it, and its position.
 #[derive(Clone, Copy)]

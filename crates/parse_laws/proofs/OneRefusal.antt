@@ -1,7 +1,7 @@
 -- Words are refused for one reason, want of memory aside.
 use Rattle.std.proofs.Common.{◌≡◌, ◌<◌, ◌≤◌, refl, sym, ap, ◌∙◌, subst, ℕ, List, [], ◌∷◌, ◌++◌, append_assoc, true, Option, Some, ◌⊎◌, inl, inr, ⊎_elim, length, arith}
 use Rattle.std.proofs.lemmas.Option.{none-some}
-use Rattle.tim_base.specs.declared.pos.Pos.{Pos}
+use Rattle.text_base.specs.declared.pos.Pos.{Pos}
 use Rattle.label_lattice.specs.declared.label.Label.{Label}
 use Rattle.label_lattice.specs.declared.fault.LatticeFault.{LatticeFault}
 use Rattle.label_lattice.specs.declared.fault.LatticeFault.TheVariants.{TooMany as ManyLabels, Cycle, NoBottom, NoJoin}

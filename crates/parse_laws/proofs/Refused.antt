@@ -1,7 +1,7 @@
 -- Words that spell a program are not refused.
 use Rattle.std.proofs.Common.{◌≡◌, refl, sym, ◌∙◌, subst, ℕ, List, [], ◌∷◌, ◌++◌, append_assoc, false, inl, inr, length, arith}
 use Rattle.std.proofs.lemmas.Option.{none-some}
-use Rattle.tim_base.specs.declared.pos.Pos.{Pos}
+use Rattle.text_base.specs.declared.pos.Pos.{Pos}
 use Rattle.label_lattice.specs.declared.label.Label.{Label}
 use Rattle.label_lattice.specs.declared.fault.LatticeFault.{LatticeFault}
 use Rattle.label_lattice.specs.declared.fault.LatticeFault.TheVariants.{TooMany as ManyLabels, Cycle, NoBottom, NoJoin}

@@ -13,7 +13,7 @@ use label_lattice::label::Label;
 use label_lattice::lattice::Lattice;
 use std::alloc::Global;
 use std::marker::Model;
-use tim_base::pos::Memory;
+use text_base::pos::Memory;
 
 /// A cache with a partition for each label, each of as many sets, and each set of as many ways.
 #[derive(Drop)]

@@ -16,7 +16,7 @@ use label_lattice::label::Label;
 use label_lattice::lattice::Lattice;
 use part_cache::cache::PartCache;
 use std::alloc::Global;
-use tim_base::pos::Memory;
+use text_base::pos::Memory;
 
 /// A translation buffer and two caches, each with a partition for each label.
 #[derive(Drop)]

@@ -5,7 +5,7 @@ use Rattle.std.specs.Io.KnownBytes.{Appends}
 use Rattle.std.proofs.KnownBytes.{Appends-nil, Appends-trans}
 use Rattle.std.proofs.lemmas.List.{drop_more, drop_all}
 use Rattle.tim_base.specs.Sinks.{AppendsPrefix}
-use Rattle.tim_base.specs.declared.pos.Pos.{Pos}
+use Rattle.text_base.specs.declared.pos.Pos.{Pos}
 use Rattle.run_timeline.specs.declared.tally.Tally.{Tally}
 use Rattle.run_timeline.specs.Summary.{mitigate_text, tally_text, summary_from, summary_text}
 use Rattle.run_timeline.proofs.Printing.{prefix_then}

@@ -1,6 +1,6 @@
 -- Where the mitigates of a program stand.
 use Rattle.std.specs.Prelude.{List, [], ◌∷◌, ◌++◌}
-use Rattle.tim_base.specs.declared.pos.Pos.{Pos}
+use Rattle.text_base.specs.declared.pos.Pos.{Pos}
 use Rattle.mit_syntax.specs.Todo.{Todo, Done, Skip, Assign, Put, Sleep, If, While, Mitigate}
 use Rattle.mit_syntax.specs.Plan.{Written}
 

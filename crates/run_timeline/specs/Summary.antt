@@ -1,6 +1,6 @@
 -- How long the bodies of a mitigate's mitigations took, and how many of them missed.
 use Rattle.std.specs.Prelude.{◌≡◌, ◌≤◌, ◌<◌, ℕ, ◌+◌, List, [], ◌∷◌, ◌++◌, All, length, min, max, cond, eqb, ltb, ◌&&◌, codes, slice_index_or}
-use Rattle.tim_base.specs.declared.pos.Pos.{Pos}
+use Rattle.text_base.specs.declared.pos.Pos.{Pos}
 use Rattle.run_timeline.specs.declared.moment.Moment.{Moment}
 use Rattle.run_timeline.specs.declared.moment.Moment.TheVariants.{Assigned, Begins, Ends}
 use Rattle.run_timeline.specs.declared.tally.Tally.{Tally}

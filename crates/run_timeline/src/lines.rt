@@ -12,7 +12,7 @@ use itoa::Buffer;
 use mit_syntax::program::Program;
 use seen_line::cells::{put_cell, put_number, put_value};
 use tim_base::line::Line;
-use tim_base::pos::Pos;
+use text_base::pos::Pos;
 use timing_types::labelled::Labelled;
 
 // Appends some words and a number of up to 128 bits.

@@ -12,7 +12,7 @@ use crate::places::mitigate_places;
 use crate::tally::Tally;
 use mit_syntax::program::Program;
 use std::alloc::Global;
-use tim_base::pos::{Memory, Pos};
+use text_base::pos::{Memory, Pos};
 
 /// Where each mitigate stands, and the tally of each, by their marks.
 #[derive(Drop)]

@@ -10,7 +10,7 @@ use doubling_schedule::misses::MissTable;
 use env_contract::env::MachineEnv;
 use label_code::image::Image;
 use std::alloc::Global;
-use tim_base::pos::Memory;
+use text_base::pos::Memory;
 
 /// The state at the start of an image, with a value for each variable and the state of the environment. Takes
 /// all memory of the run. Fails only for want of memory.

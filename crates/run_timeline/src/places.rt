@@ -8,7 +8,7 @@ ghost use Rattle.run_timeline.specs.Places.{places};
 use mit_syntax::ast::{Command, Form};
 use mit_syntax::program::Program;
 use std::alloc::{AllocError, Global};
-use tim_base::pos::{Memory, Pos};
+use text_base::pos::{Memory, Pos};
 
 // Appends the places of the mitigates in a command, in order of the text.
 #[cycle(places)]

@@ -13,7 +13,7 @@ use crate::moment::Moment;
 use crate::shown::shows;
 use label_lattice::label::Label;
 use label_lattice::lattice::Lattice;
-use tim_base::pos::Pos;
+use text_base::pos::Pos;
 use tim_base::sink::{Sink, SinkFault, write_all};
 use timing_types::labelled::Labelled;
 

@@ -4,7 +4,7 @@ ghost use Rattle.std.specs.Prelude.{◌≡◌, ◌<◌, ◌++◌, ◌∷◌, [],
 ghost use Rattle.source_meaning.specs.Frames.{without_last, some_list};
 
 use mit_syntax::ast::Command;
-use tim_base::pos::Memory;
+use text_base::pos::Memory;
 
 /// Puts the rest of a list in the place of the last one. An empty rest is dropped.
 pub fn leave<'a>(frames: &mut Vec<&'a [Command]>, rest: &'a [Command])

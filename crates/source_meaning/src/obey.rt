@@ -12,7 +12,7 @@ use crate::value::value;
 use crate::walk::Walk;
 use mit_syntax::ast::{Command, Form};
 use mit_syntax::values::element;
-use tim_base::pos::Memory;
+use text_base::pos::Memory;
 
 /// Does the first command of a list, which is the last one of the frames: the command and the rest of the list
 /// are given beside it. Fails only for want of memory, and then nothing has changed.

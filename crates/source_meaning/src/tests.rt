@@ -18,7 +18,7 @@ use mit_syntax::ast::{Command, Expr, Form, Op};
 use mit_syntax::program::Program;
 use std::alloc::Global;
 use std::boxed::Box;
-use tim_base::pos::{Memory, Pos};
+use text_base::pos::{Memory, Pos};
 
 // The lattice of one label.
 fn one_label() -> Option<Lattice>

@@ -12,7 +12,7 @@ use mit_syntax::ast::Command;
 use mit_syntax::program::Program;
 use std::alloc::Global;
 use std::marker::Model;
-use tim_base::pos::Memory;
+use text_base::pos::Memory;
 
 /// A run of a program without its time, one step after another.
 #[derive(Drop)]

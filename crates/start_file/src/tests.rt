@@ -9,7 +9,7 @@ use mit_syntax::ast::{Command, Form};
 use mit_syntax::program::Program;
 use std::alloc::{AllocError, Global};
 use std::test::Fail;
-use tim_base::pos::Pos;
+use text_base::pos::Pos;
 
 // A program with one label, no variable and one command.
 fn one_skip(alloc: Global, label: Name) -> Result<Option<Program>, AllocError> {

@@ -1,5 +1,5 @@
 use crate::line::Line;
-use crate::pos::Memory;
+use text_base::pos::Memory;
 use crate::shelf::{FetchFault, MemShelf, Shelf};
 use crate::sink::{MemSink, Sink, SinkFault, write_all};
 use std::test::Fail;

@@ -1,6 +1,6 @@
 -- A program's commands with all labels that a labelling gives, and where each command stands.
 use Rattle.std.specs.Prelude.{ℕ, ◌+◌, Bool, is_some}
-use Rattle.tim_base.specs.declared.pos.Pos.{Pos}
+use Rattle.text_base.specs.declared.pos.Pos.{Pos}
 use Rattle.mit_syntax.specs.Todo.{Marks, Marked, Todo, Done, Skip, Assign, Put, Sleep, If, While, Mitigate, map_todo}
 use Rattle.mit_syntax.specs.Plan.{Written, Plan, count}
 

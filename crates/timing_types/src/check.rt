@@ -21,7 +21,7 @@ use label_lattice::label::Label;
 use label_lattice::lattice::Lattice;
 use mit_syntax::ast::{Command, Form};
 use std::alloc::{AllocError, Global};
-use tim_base::pos::Pos;
+use text_base::pos::Pos;
 
 /// One condition.
 fn test(order: &Lattice, rule: Rule, pos: Pos, have: Label, allowed: Label) -> Result<(), TypeFault>

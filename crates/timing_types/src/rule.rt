@@ -1,5 +1,5 @@
 use label_lattice::label::Label;
-use tim_base::pos::Pos;
+use text_base::pos::Pos;
 
 /// A rule of the type system.
 #[derive(Clone, Copy, Debug, PartialEq, Eq)]

@@ -18,7 +18,7 @@ use label_lattice::name::Name;
 use mit_syntax::ast::{Command, Expr, Form};
 use mit_syntax::program::Program;
 use std::alloc::{AllocError, Global};
-use tim_base::pos::Pos;
+use text_base::pos::Pos;
 
 const LOW: Label = Label { number: 0 };
 

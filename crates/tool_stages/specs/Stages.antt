@@ -1,7 +1,7 @@
 -- The stages of commands: what each stops for, and what it gives to the next one. A file is read as what its name
 -- is told to hold; where its count of faults rose in the call, its reading may fail.
 use Rattle.std.specs.Prelude.{◌≡◌, ◌≢◌, ◌⊎◌, ℕ, pos, ◌<◌, ◌≤◌, List, [], ◌∷◌, length, replicate, Option, Some, None, Ok, Err, codes}
-use Rattle.tim_base.specs.declared.pos.Pos.{Pos}
+use Rattle.text_base.specs.declared.pos.Pos.{Pos}
 use Rattle.tim_base.specs.Told.{limit, IsTold, IsTooLong}
 use Rattle.label_lattice.specs.declared.label.Label.{Label}
 use Rattle.label_lattice.specs.Order.{Order, name_of}

@@ -1,6 +1,6 @@
 -- The lines that commands write.
 use Rattle.std.specs.Prelude.{ℕ, List, ◌++◌, codes, decimal, ◌≡◌, ◌≢◌, ◌⊎◌, ◌<◌, ◌≤◌, [], ◌∷◌, slice_get, ◌+◌, ◌*◌, Option, Some, None, ℤ}
-use Rattle.tim_base.specs.declared.pos.Pos.{Pos}
+use Rattle.text_base.specs.declared.pos.Pos.{Pos}
 use Rattle.label_lattice.specs.declared.fault.LatticeFault.{LatticeFault}
 use Rattle.label_lattice.specs.declared.fault.LatticeFault.TheVariants as lattice
 use Rattle.label_lattice.specs.declared.label.Label.{Label}

@@ -17,7 +17,7 @@ use mit_syntax::fault::TextFault;
 use mit_syntax::token::Token;
 use start_file::fault::StartFault;
 use tim_base::line::Line;
-use tim_base::pos::Pos;
+use text_base::pos::Pos;
 use timing_types::rule::Rule;
 
 // Appends bytes.

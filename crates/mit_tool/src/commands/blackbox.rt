@@ -11,7 +11,7 @@ ghost use Rattle.mit_tool.specs.Answers.{IsAnswer};
 use black_box::audit::box_audit;
 use black_box::ready::MAX_RUNS;
 use std::alloc::Global;
-use tim_base::pos::Memory;
+use text_base::pos::Memory;
 use tim_base::shelf::Shelf;
 use tool_stages::ready::ready_runs;
 use tool_texts::pieces::boxes::put_box;

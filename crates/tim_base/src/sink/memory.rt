@@ -5,7 +5,7 @@ ghost use Rattle.tim_base.specs.MemorySinks.{empty_sink, write_fails};
 
 use super::{Sink, SinkFault};
 use crate::count::raise;
-use crate::pos::Memory;
+use text_base::pos::Memory;
 use std::alloc::Global;
 use std::marker::Model;
 

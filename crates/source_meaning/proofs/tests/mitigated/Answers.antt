@@ -1,5 +1,5 @@
 use Rattle.std.proofs.Common.{rules, ◌≡◌, ◌≤◌, refl, sym, ap, ◌∙◌, subst, List, [], ◌∷◌, None, pos, arith, Vec, Global}
-use Rattle.tim_base.specs.declared.pos.Pos.{Pos}
+use Rattle.text_base.specs.declared.pos.Pos.{Pos}
 use Rattle.mit_syntax.specs.Expression.{Number}
 use Rattle.mit_syntax.specs.declared.ast.Expr.TheVariants.{Number as ENumber}
 use Rattle.mit_syntax.specs.declared.ast.Command.{Command}
