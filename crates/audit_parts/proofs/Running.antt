@@ -6,14 +6,14 @@ use Rattle.label_code.specs.Machine.{Event}
 use Rattle.cycle_machine.specs.declared.turn.Turn.{Turn}
 use Rattle.cycle_machine.specs.declared.turn.Turn.TheVariants.{Event as AnEvent, Began as HasBegun, Ended as HasEnded, Halted as DidHalt, Limit as DidLimit}
 use Rattle.cycle_machine.specs.Turned.{Loaded}
-use Rattle.event_print.specs.declared.end.RunEnd.{RunEnd}
-use Rattle.event_print.specs.Text.{Told}
+use Rattle.cycle_machine.specs.declared.end.RunEnd.{RunEnd}
+use Rattle.cycle_machine.specs.Rest.{Told}
 use Rattle.label_code.specs.Machine.{start, run_to}
 use Rattle.label_code.specs.Run.{Start, run_from}
 use Rattle.cycle_machine.specs.Seen.{seen}
 use Rattle.code_lower.specs.Lowered.{lowered}
-use Rattle.event_print.specs.Rest.{told_by, rest_of, rest_from, end_of_turn, events_of}
-use Rattle.event_print.proofs.Goes.{after_events, Next, Last}
+use Rattle.cycle_machine.specs.Rest.{told_by, rest_of, rest_from, end_of_turn, events_of}
+use Rattle.cycle_machine.proofs.Goes.{after_events, Next, Last}
 use Rattle.audit_parts.specs.declared.observe.Tally.{Tally}
 use Rattle.audit_parts.specs.Observed.{event_of, Tallies, CountsUp, IsObserved}
 use Rattle.audit_parts.proofs.Tallying.{same_more}

@@ -9,8 +9,8 @@ use Rattle.env_contract.specs.Env.{Env}
 use Rattle.label_code.specs.Machine.{Machine}
 use Rattle.label_code.specs.Run.{Start}
 use Rattle.code_lower.specs.Lowered.{lowered}
-use Rattle.event_print.specs.declared.end.RunEnd.{RunEnd}
-use Rattle.event_print.specs.declared.end.RunEnd.TheVariants.{Halted, Limit}
+use Rattle.cycle_machine.specs.declared.end.RunEnd.{RunEnd}
+use Rattle.cycle_machine.specs.declared.end.RunEnd.TheVariants.{Halted, Limit}
 use Rattle.leak_bound.specs.Relevant.{relevances, begun_count, ended_count}
 use Rattle.leak_bound.specs.Records.{Each, views}
 use Rattle.leak_bound.specs.Sound.{Halts, most_ended}

@@ -7,7 +7,7 @@ use Rattle.label_code.specs.Machine.{Event, Wrote, Began, Ended}
 use Rattle.label_code.specs.Visible.{visible}
 use Rattle.cycle_machine.specs.declared.turn.Turn.{Turn}
 use Rattle.cycle_machine.specs.declared.turn.Turn.TheVariants.{Event as AnEvent, Began as HasBegun, Ended as HasEnded}
-use Rattle.event_print.specs.Rest.{events_of}
+use Rattle.cycle_machine.specs.Rest.{events_of}
 use Rattle.leak_bound.specs.Relevant.{begun_count, ended_count}
 use Rattle.audit_parts.specs.declared.sighting.Sighting.{Sighting}
 use Rattle.audit_parts.specs.declared.observe.Tally.{Tally}

@@ -6,8 +6,8 @@ use Rattle.label_code.specs.Machine.{Event, Wrote}
 use Rattle.label_code.specs.Visible.{visible}
 use Rattle.label_code.specs.Run.{Start, run_from}
 use Rattle.env_contract.specs.Env.{Env}
-use Rattle.event_print.specs.Text.{Told}
-use Rattle.event_print.specs.Rest.{told_by}
+use Rattle.cycle_machine.specs.Rest.{Told}
+use Rattle.cycle_machine.specs.Rest.{told_by}
 use Rattle.code_lower.specs.Lowered.{lowered}
 use Rattle.leak_bound.specs.Relevant.{begun_count, ended_count}
 use Rattle.audit_parts.specs.declared.sighting.Sighting.{Sighting}

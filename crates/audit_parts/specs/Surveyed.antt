@@ -6,8 +6,8 @@ use Rattle.env_contract.specs.Env.{Env}
 use Rattle.label_code.specs.Machine.{Machine, Event}
 use Rattle.label_code.specs.Run.{Start, run_from}
 use Rattle.code_lower.specs.Lowered.{lowered}
-use Rattle.event_print.specs.declared.end.RunEnd.{RunEnd}
-use Rattle.event_print.specs.declared.end.RunEnd.TheVariants.{Halted, Limit}
+use Rattle.cycle_machine.specs.declared.end.RunEnd.{RunEnd}
+use Rattle.cycle_machine.specs.declared.end.RunEnd.TheVariants.{Halted, Limit}
 use Rattle.leak_bound.specs.Relevant.{is_relevant, begun_count}
 use Rattle.leak_bound.specs.Records.{Each, views}
 use Rattle.leak_bound.specs.Sound.{seen_from, Halts, most_ended}

@@ -3,14 +3,14 @@
 ghost use Rattle.std.specs.Prelude.{◌≡◌, ◌<◌, ◌≤◌, ◌+◌, ◌++◌, [], ◌∷◌, ◌^◌, ℕ, List, None, IfOk, OnOk, slice_index_or, false};
 ghost use Rattle.mit_syntax.specs.Declarations.{variables};
 ghost use Rattle.label_code.specs.Machine.{Event};
-ghost use Rattle.event_print.specs.Rest.{rest_of, end_of_turn, events_of, IsTurnBelow};
+ghost use Rattle.cycle_machine.specs.Rest.{rest_of, end_of_turn, events_of, IsTurnBelow};
 ghost use Rattle.audit_parts.specs.Observed.{Tallies, CountsUp, IsObserved};
 
 use crate::sighting::Sighting;
 use cycle_machine::machine::Machine;
 use cycle_machine::turn::Turn;
 use env_contract::env::MachineEnv;
-use event_print::end::RunEnd;
+use cycle_machine::end::RunEnd;
 use label_lattice::label::Label;
 use label_lattice::lattice::Lattice;
 use std::alloc::Global;

@@ -16,7 +16,7 @@ use crate::sighting::Sighting;
 use cycle_machine::machine::Machine;
 use env_contract::env::MachineEnv;
 use env_contract::make::MakeEnv;
-use event_print::end::RunEnd;
+use cycle_machine::end::RunEnd;
 use label_code::image::Image;
 use label_lattice::label::Label;
 use start_file::start::Start;

@@ -5,3 +5,6 @@ pub mod Quiet
 pub mod Turns
 pub mod Elements
 pub mod Sample
+pub mod Goes
+pub mod Runs
+pub mod Wrote

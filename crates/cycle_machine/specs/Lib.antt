@@ -2,3 +2,4 @@ pub mod Seen
 pub mod Took
 pub mod Turned
 pub mod Reached
+pub mod Rest

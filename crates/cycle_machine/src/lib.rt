@@ -2,6 +2,7 @@
 #![tactic(auto)]
 
 mod access;
+pub mod end;
 pub mod laws;
 pub mod machine;
 mod mitigation;

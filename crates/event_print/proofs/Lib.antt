@@ -1,5 +1,2 @@
 pub mod Lengths
-pub mod Runs
-pub mod Wrote
-pub mod Goes
 pub mod Printed

@@ -18,11 +18,13 @@ use Rattle.cycle_machine.specs.declared.turn.Turn.TheVariants.{Event as AnEvent,
 use Rattle.cycle_machine.specs.Seen.{seen}
 use Rattle.cycle_machine.specs.Turned.{Loaded, IsStop, CallWent}
 use Rattle.cycle_machine.specs.Reached.{Reached}
-use Rattle.event_print.specs.declared.end.RunEnd.{RunEnd}
-use Rattle.event_print.specs.declared.end.RunEnd.TheVariants.{Halted, Limit}
-use Rattle.event_print.specs.Text.{Told, lines_of, event_line, last_line, shown, text_of}
-use Rattle.event_print.specs.Rest.{rest_of, end_of_turn, events_of, turn_of, stopped_at, text_of_turn, stands_at, StandsAfter, rest_from}
-use Rattle.event_print.proofs.Goes.{after_events, Next, Last, next_turn, last_turn}
+use Rattle.cycle_machine.specs.declared.end.RunEnd.{RunEnd}
+use Rattle.cycle_machine.specs.declared.end.RunEnd.TheVariants.{Halted, Limit}
+use Rattle.event_print.specs.Text.{lines_of, event_line, last_line, shown, text_of}
+use Rattle.cycle_machine.specs.Rest.{Told}
+use Rattle.cycle_machine.specs.Rest.{rest_of, end_of_turn, events_of, turn_of, stopped_at, stands_at, StandsAfter, rest_from}
+use Rattle.event_print.specs.Text.{text_of_turn}
+use Rattle.cycle_machine.proofs.Goes.{after_events, Next, Last, next_turn, last_turn}
 
 -- these events of the run are printed, and the rest is what the machine still does
 pub record Printed {E : Type 0} (v : Env E) (limit : ℕ) (p : LabelledProgram) (o : Option Label) (old new : Loaded E) (taken taken' : Option (List ℕ)) : Type 0 where

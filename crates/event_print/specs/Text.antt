@@ -6,8 +6,11 @@ use Rattle.mit_syntax.specs.Declarations.{Declaration, Cell, cell_at}
 use Rattle.timing_types.specs.Labelled.{LabelledProgram, order_of, labels_of}
 use Rattle.label_code.specs.Machine.{Event, Wrote, Began, Ended}
 use Rattle.label_code.specs.Visible.{visible}
-use Rattle.event_print.specs.declared.end.RunEnd.{RunEnd}
-use Rattle.event_print.specs.declared.end.RunEnd.TheVariants.{Halted, Limit}
+use Rattle.cycle_machine.specs.declared.turn.Turn.{Turn}
+use Rattle.cycle_machine.specs.declared.turn.Turn.TheVariants.{Event as AnEvent, Began as HasBegun, Ended as HasEnded, Halted as DidHalt, Limit as DidLimit}
+use Rattle.cycle_machine.specs.Rest.{Told}
+use Rattle.cycle_machine.specs.declared.end.RunEnd.{RunEnd}
+use Rattle.cycle_machine.specs.declared.end.RunEnd.TheVariants.{Halted, Limit}
 
 -- a variable's name, and the place of an element in its array
 abbrev pub place_text : Option ℕ → List ℕ
@@ -47,10 +50,13 @@ abbrev pub is_shown : LabelledProgram → Option Label → ℕ → Bool
 is_shown p None x = true
 is_shown p (Some o) x = (order_of p).flows (labels_of p x) o.number
 
--- what a run tells: its events, and how it ended
-pub record Told : Type 0 where
-  pub events : List Event
-  pub end : RunEnd
-
 abbrev pub text_of : LabelledProgram → Option Label → Told → List ℕ
 text_of p o t = lines_of p.program.declarations (shown p o t.events) ++ last_line t.end
+
+-- the text of one turn
+abbrev pub text_of_turn : LabelledProgram → Option Label → Turn → List ℕ
+text_of_turn p o (AnEvent x n t) = lines_of p.program.declarations (shown p o (Wrote x n t ∷ []))
+text_of_turn p o (HasBegun k t) = []
+text_of_turn p o (HasEnded k t) = []
+text_of_turn p o (DidHalt t) = last_line (Halted t)
+text_of_turn p o (DidLimit t) = last_line (Limit t)

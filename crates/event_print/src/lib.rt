@@ -1,7 +1,6 @@
 //! The text of a run: its assignments, one a line, and how it ended.
 #![tactic(auto)]
 
-pub mod end;
 mod lines;
 pub mod print;
 mod shown;

@@ -4,7 +4,7 @@ ghost use Rattle.std.specs.Prelude.{◌≡◌, ◌<◌, ◌≤◌, ◌++◌, len
 ghost use Rattle.mit_syntax.specs.Declarations.{variables, cell_at};
 ghost use Rattle.event_print.specs.Text.{cell_text, cycle_text, event_line, last_line};
 
-use crate::end::RunEnd;
+use cycle_machine::end::RunEnd;
 use mit_syntax::program::Program;
 use tim_base::line::Line;
 

@@ -6,9 +6,10 @@ ghost use Rattle.tim_base.specs.Faults.{Rose};
 ghost use Rattle.tim_base.specs.Sinks.{AppendsPrefix};
 ghost use Rattle.mit_syntax.specs.Declarations.{variables};
 ghost use Rattle.event_print.specs.Text.{text_of, last_line};
-ghost use Rattle.event_print.specs.Rest.{rest_of, StandsAfter, turn_of, end_of_turn, text_of_turn, IsTurnBelow};
+ghost use Rattle.cycle_machine.specs.Rest.{rest_of, StandsAfter, turn_of, end_of_turn, IsTurnBelow};
+ghost use Rattle.event_print.specs.Text.{text_of_turn};
 
-use crate::end::RunEnd;
+use cycle_machine::end::RunEnd;
 use crate::lines::{event_line, last_line};
 use crate::shown::shows;
 use cycle_machine::machine::Machine;

@@ -9,10 +9,11 @@ use Rattle.label_code.specs.Machine.{Wrote, Machine, steps, start}
 use Rattle.label_code.specs.Run.{Start, run_from}
 use Rattle.code_lower.specs.Lowered.{lowered}
 use Rattle.start_file.specs.Starts.{StartValue}
-use Rattle.event_print.specs.declared.end.RunEnd.TheVariants.{Halted}
-use Rattle.event_print.specs.Text.{Told, text_of}
-use Rattle.event_print.specs.Rest.{told_by}
-use Rattle.event_print.proofs.Runs.{run_later, halted_stays}
+use Rattle.cycle_machine.specs.declared.end.RunEnd.TheVariants.{Halted}
+use Rattle.event_print.specs.Text.{text_of}
+use Rattle.cycle_machine.specs.Rest.{Told}
+use Rattle.cycle_machine.specs.Rest.{told_by}
+use Rattle.cycle_machine.proofs.Runs.{run_later, halted_stays}
 use Rattle.tool_words.specs.declared.words.EnvName.TheVariants.{Flat}
 use Rattle.tool_stages.specs.Envs.{flat_env, told_in}
 use Rattle.tool_stages.specs.Stages.{zero_start}

@@ -6,7 +6,8 @@ use Rattle.tim_base.specs.Told.{IsTold}
 use Rattle.mit_syntax.specs.Program.{Syntax}
 use Rattle.timing_types.specs.Labelled.{LabelledProgram}
 use Rattle.code_lower.specs.Lowered.{lowered}
-use Rattle.event_print.specs.Text.{Told, text_of}
+use Rattle.event_print.specs.Text.{text_of}
+use Rattle.cycle_machine.specs.Rest.{Told}
 use Rattle.tool_words.specs.declared.words.EnvName.TheVariants.{Flat}
 use Rattle.tool_words.specs.WordsAsked.{run}
 use Rattle.tool_texts.specs.declared.status.Status.{Status}

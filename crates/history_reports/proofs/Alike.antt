@@ -18,8 +18,8 @@ use Rattle.code_lower.specs.Lowered.{lowered}
 use Rattle.leak_bound.specs.Records.{Each, Pairwise, views, distinct_count}
 use Rattle.leak_bound.specs.Sound.{Halts}
 use Rattle.start_file.specs.Starts.{StartValue, IsFor}
-use Rattle.event_print.specs.declared.end.RunEnd.TheVariants.{Halted, Limit}
-use Rattle.event_print.specs.Text.{Told}
+use Rattle.cycle_machine.specs.declared.end.RunEnd.TheVariants.{Halted, Limit}
+use Rattle.cycle_machine.specs.Rest.{Told}
 use Rattle.history_bound.specs.Told.{Pair, Paired}
 use Rattle.history_bound.proofs.Told.{below_label, does_back, paired_back, each_over, pairwise_over, agree_over, log_same, clock_same, halted_same, seen_all, ended_all, length-paired, begun_over}
 use Rattle.audit_parts.specs.declared.survey.SurveyFault.{SurveyFault}

@@ -9,7 +9,7 @@ use Rattle.label_code.specs.Run.{Start, run_from}
 use Rattle.code_lower.specs.Lowered.{lowered}
 use Rattle.leak_bound.specs.Records.{Pairwise}
 use Rattle.start_file.specs.Starts.{StartValue, IsFor}
-use Rattle.event_print.specs.Rest.{told_by}
+use Rattle.cycle_machine.specs.Rest.{told_by}
 use Rattle.audit_parts.specs.Agreement.{AgreeFor, start_of, starts_of}
 use Rattle.audit_parts.specs.Surveyed.{shown_by_all}
 use Rattle.leak_audit.specs.declared.report.AuditReport.{AuditReport}

@@ -8,7 +8,7 @@ use Rattle.env_contract.specs.Env.{Env}
 use Rattle.env_contract.specs.declared.place.Touch.{Touch}
 use Rattle.label_code.specs.Run.{run_from}
 use Rattle.code_lower.specs.Lowered.{lowered}
-use Rattle.event_print.specs.Rest.{told_by}
+use Rattle.cycle_machine.specs.Rest.{told_by}
 use Rattle.start_file.specs.Starts.{StartValue}
 use Rattle.leak_bound.specs.Records.{Pairwise, Tests, views, distinct_count}
 use Rattle.leak_bound.specs.Sound.{CutSound, bound, most_ended}

@@ -4,7 +4,7 @@ use Rattle.label_lattice.specs.declared.label.Label.{Label}
 use Rattle.timing_types.specs.Labelled.{LabelledProgram}
 use Rattle.label_code.specs.Shaped.{Code}
 use Rattle.start_file.specs.Starts.{StartValue}
-use Rattle.event_print.specs.Text.{Told}
+use Rattle.cycle_machine.specs.Rest.{Told}
 use Rattle.seen_line.specs.Field.{seen_text}
 use Rattle.tool_words.specs.declared.words.EnvName.{EnvName}
 use Rattle.tool_texts.specs.declared.status.Status.{Status}

@@ -5,7 +5,7 @@ ghost use Rattle.std.specs.Io.KnownBytes.{Appends};
 ghost use Rattle.tim_base.specs.Faults.{Rose};
 ghost use Rattle.tim_base.specs.Sinks.{AppendsPrefix};
 ghost use Rattle.mit_syntax.specs.Declarations.{variables};
-ghost use Rattle.event_print.specs.Rest.{rest_of};
+ghost use Rattle.cycle_machine.specs.Rest.{rest_of};
 ghost use Rattle.lab_seen.specs.Seen.{line_text};
 
 use cycle_machine::machine::Machine;

@@ -6,7 +6,7 @@ ghost use Rattle.tim_base.specs.Faults.{Rose};
 ghost use Rattle.tim_base.specs.Sinks.{AppendsPrefix};
 ghost use Rattle.label_code.specs.Run.{run_from};
 ghost use Rattle.start_file.specs.Starts.{StartValue, seen, IsFor};
-ghost use Rattle.event_print.specs.Rest.{told_by};
+ghost use Rattle.cycle_machine.specs.Rest.{told_by};
 ghost use Rattle.audit_parts.specs.Agreement.{start_of};
 ghost use Rattle.tool_stages.specs.Envs.{told_in};
 ghost use Rattle.tool_stages.specs.Begins.{CanAudit};

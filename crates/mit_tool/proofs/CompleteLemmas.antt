@@ -9,8 +9,8 @@ use Rattle.code_lower.specs.Lowered.{lowered}
 use Rattle.part_tlb.specs.Histories.{part_by_history, part2_by_history}
 use Rattle.history_bound.specs.Over.{AnyHistory, history_made}
 use Rattle.start_file.specs.Starts.{StartValue}
-use Rattle.event_print.specs.declared.end.RunEnd.{RunEnd}
-use Rattle.event_print.specs.declared.end.RunEnd.TheVariants.{Halted, Limit}
+use Rattle.cycle_machine.specs.declared.end.RunEnd.{RunEnd}
+use Rattle.cycle_machine.specs.declared.end.RunEnd.TheVariants.{Halted, Limit}
 use Rattle.mit_gen.specs.Made.{program_text, starts_text}
 use Rattle.std.specs.Bool.{⊤}
 use Rattle.audit_parts.specs.Agreement.{starts_of}

@@ -2,9 +2,10 @@
 use Rattle.std.proofs.Common.{◌≡◌, Option, refl, sym, ap}
 use Rattle.label_lattice.specs.declared.label.Label.{Label}
 use Rattle.timing_types.specs.Labelled.{LabelledProgram}
-use Rattle.event_print.specs.declared.end.RunEnd.{RunEnd}
-use Rattle.event_print.specs.declared.end.RunEnd.TheVariants.{Halted, Limit}
-use Rattle.event_print.specs.Text.{Told, text_of}
+use Rattle.cycle_machine.specs.declared.end.RunEnd.{RunEnd}
+use Rattle.cycle_machine.specs.declared.end.RunEnd.TheVariants.{Halted, Limit}
+use Rattle.event_print.specs.Text.{text_of}
+use Rattle.cycle_machine.specs.Rest.{Told}
 use Rattle.tool_texts.specs.Ends.{Tells, Nothing}
 use Rattle.mit_tool.specs.Answers.{HasTold, status_at}
 

@@ -11,9 +11,10 @@ use Rattle.label_write.specs.Written.{labelled_text}
 use Rattle.image_print.specs.ImageText.{image_text}
 use Rattle.mit_gen.specs.Made.{program_text, starts_text}
 use Rattle.start_file.specs.Starts.{StartValue}
-use Rattle.event_print.specs.declared.end.RunEnd.{RunEnd}
-use Rattle.event_print.specs.declared.end.RunEnd.TheVariants.{Halted, Limit}
-use Rattle.event_print.specs.Text.{Told, text_of}
+use Rattle.cycle_machine.specs.declared.end.RunEnd.{RunEnd}
+use Rattle.cycle_machine.specs.declared.end.RunEnd.TheVariants.{Halted, Limit}
+use Rattle.event_print.specs.Text.{text_of}
+use Rattle.cycle_machine.specs.Rest.{Told}
 use Rattle.tool_words.specs.declared.words.EnvName.{EnvName}
 use Rattle.tool_words.specs.declared.words.EnvName.TheVariants.{Part}
 use Rattle.tool_words.specs.WordsAsked.{Asked, check, infer, compile, run, meaning, audit, gen, cut, blackbox, certify, recheck}

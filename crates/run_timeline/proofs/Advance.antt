@@ -11,7 +11,7 @@ use Rattle.cycle_machine.specs.declared.state.Outcome.TheVariants.{Went as DidGo
 use Rattle.cycle_machine.specs.Seen.{seen, with_log, core_of, opened_of}
 use Rattle.cycle_machine.specs.Took.{Keeps, Stands}
 use Rattle.cycle_machine.proofs.Advance.{advance_is}
-use Rattle.event_print.specs.declared.end.RunEnd.TheVariants.{Halted, Limit}
+use Rattle.cycle_machine.specs.declared.end.RunEnd.TheVariants.{Halted, Limit}
 use Rattle.run_timeline.specs.declared.moment.Moment.{Moment}
 use Rattle.run_timeline.specs.declared.moment.Moment.TheVariants.{Assigned, Begins, Ends}
 use Rattle.run_timeline.specs.declared.moment.Step.{Step}

@@ -20,7 +20,7 @@ use Rattle.cycle_machine.specs.declared.state.Outcome.TheVariants.{Went as DidGo
 use Rattle.cycle_machine.specs.Seen.{counts, opened_of, core_of}
 use Rattle.cycle_machine.specs.Took.{Took}
 use Rattle.cycle_machine.proofs.Close.{end_instr}
-use Rattle.event_print.specs.declared.end.RunEnd.TheVariants.{Halted, Limit}
+use Rattle.cycle_machine.specs.declared.end.RunEnd.TheVariants.{Halted, Limit}
 use Rattle.run_timeline.specs.declared.moment.Moment.{Moment}
 use Rattle.run_timeline.specs.declared.moment.Moment.TheVariants.{Assigned, Begins, Ends}
 use Rattle.run_timeline.specs.declared.moment.Step.TheVariants.{Went, Told, Stopped}

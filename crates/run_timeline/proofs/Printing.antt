@@ -18,9 +18,9 @@ use Rattle.label_code.proofs.Leads.{steps-add}
 use Rattle.label_code.proofs.Ticks.{covers}
 use Rattle.cycle_machine.specs.declared.state.State.{State}
 use Rattle.cycle_machine.specs.Seen.{seen, with_log}
-use Rattle.event_print.specs.declared.end.RunEnd.{RunEnd}
-use Rattle.event_print.specs.declared.end.RunEnd.TheVariants.{Halted, Limit}
-use Rattle.event_print.specs.Rest.{told_by}
+use Rattle.cycle_machine.specs.declared.end.RunEnd.{RunEnd}
+use Rattle.cycle_machine.specs.declared.end.RunEnd.TheVariants.{Halted, Limit}
+use Rattle.cycle_machine.specs.Rest.{told_by}
 use Rattle.event_print.specs.Text.{last_line}
 use Rattle.run_timeline.specs.declared.moment.Moment.{Moment}
 use Rattle.run_timeline.specs.declared.moment.Moment.TheVariants.{Assigned, Begins, Ends}
@@ -29,7 +29,7 @@ use Rattle.label_lattice.specs.Order.{Order}
 use Rattle.run_timeline.specs.declared.tally.Tally.{Tally}
 use Rattle.run_timeline.specs.Steps.{IsMomentBelow, Stepped}
 use Rattle.label_code.specs.Shaped.{Code, IsShaped}
-use Rattle.event_print.proofs.Wrote.{wrote_below}
+use Rattle.cycle_machine.proofs.Wrote.{wrote_below}
 use Rattle.run_timeline.specs.Places.{places}
 use Rattle.run_timeline.specs.Timeline.{told, moments, event_of, IsTimeline}
 use Rattle.run_timeline.specs.Text.{moment_text, moments_text, timeline_text}

@@ -7,7 +7,7 @@ use Rattle.label_lattice.specs.Order.{name_of}
 use Rattle.mit_syntax.specs.Plan.{mitigates}
 use Rattle.mit_syntax.specs.Program.{plan_of}
 use Rattle.timing_types.specs.Labelled.{LabelledProgram, levels_of}
-use Rattle.event_print.specs.declared.end.RunEnd.{RunEnd}
+use Rattle.cycle_machine.specs.declared.end.RunEnd.{RunEnd}
 use Rattle.event_print.specs.Text.{event_line, last_line, cycle_text, is_shown}
 use Rattle.run_timeline.specs.declared.moment.Moment.{Moment}
 use Rattle.run_timeline.specs.declared.moment.Moment.TheVariants.{Assigned, Begins, Ends}

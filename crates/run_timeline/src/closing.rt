@@ -8,7 +8,7 @@ use crate::moment::{Moment, Step};
 use cycle_machine::state::{Outcome, State};
 use env_contract::env::MachineEnv;
 use env_contract::place::Kind;
-use event_print::end::RunEnd;
+use cycle_machine::end::RunEnd;
 use label_code::code::Work;
 use label_lattice::label::Label;
 

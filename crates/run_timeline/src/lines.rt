@@ -7,7 +7,7 @@ ghost use Rattle.run_timeline.specs.Text.{place_text, mark_text, level_text, hea
 ghost use Rattle.run_timeline.specs.Summary.{mitigate_text, tally_text};
 
 use crate::tally::Tally;
-use event_print::end::RunEnd;
+use cycle_machine::end::RunEnd;
 use itoa::Buffer;
 use mit_syntax::program::Program;
 use seen_line::cells::{put_cell, put_number, put_value};

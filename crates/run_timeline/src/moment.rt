@@ -1,6 +1,6 @@
 //! What a run tells.
 
-use event_print::end::RunEnd;
+use cycle_machine::end::RunEnd;
 
 /// An assignment, or the beginning or the end of a mitigation, with the clock after it in cycles.
 #[derive(Clone, Copy, Debug, PartialEq, Eq)]

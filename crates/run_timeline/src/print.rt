@@ -19,7 +19,7 @@ use crate::step::step;
 use crate::write::write_moment;
 use cycle_machine::state::State;
 use env_contract::env::MachineEnv;
-use event_print::end::RunEnd;
+use cycle_machine::end::RunEnd;
 use label_code::image::Image;
 use label_lattice::label::Label;
 use tim_base::sink::{Sink, SinkFault, write_all};

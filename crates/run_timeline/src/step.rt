@@ -8,7 +8,7 @@ use crate::closing::{begin, end};
 use crate::moment::{Moment, Step};
 use cycle_machine::state::{Outcome, State};
 use env_contract::env::MachineEnv;
-use event_print::end::RunEnd;
+use cycle_machine::end::RunEnd;
 use label_code::code::{Instr, Work};
 use label_code::image::Image;
 

@@ -17,11 +17,11 @@ use Rattle.label_code.specs.Visible.{visible}
 use Rattle.cycle_machine.specs.declared.turn.Turn.{Turn}
 use Rattle.cycle_machine.specs.declared.turn.Turn.TheVariants.{Event as AnEvent, Began as HasBegun, Ended as HasEnded, Halted as DidHalt, Limit as DidLimit}
 use Rattle.cycle_machine.specs.Turned.{Loaded, IsStop, CallWent}
-use Rattle.event_print.specs.declared.end.RunEnd.{RunEnd}
-use Rattle.event_print.specs.declared.end.RunEnd.TheVariants.{Halted, Limit}
-use Rattle.event_print.specs.Rest.{rest_of, events_of, end_of_turn, IsTurnBelow}
-use Rattle.event_print.specs.Text.{Told}
-use Rattle.event_print.proofs.Goes.{after_events, next_turn, last_turn}
+use Rattle.cycle_machine.specs.declared.end.RunEnd.{RunEnd}
+use Rattle.cycle_machine.specs.declared.end.RunEnd.TheVariants.{Halted, Limit}
+use Rattle.cycle_machine.specs.Rest.{rest_of, events_of, end_of_turn, IsTurnBelow}
+use Rattle.cycle_machine.specs.Rest.{Told}
+use Rattle.cycle_machine.proofs.Goes.{after_events, next_turn, last_turn}
 use Rattle.seen_line.specs.Field.{item, item_of, spaced, field_of, field_text, seen_text, IsPrintable, ArePrintable, lead, piece, next_none, is_last, IsPrintableTurn}
 
 visible-append : (lat : Lattice) (g : ℕ → ℕ) (o : ℕ) (es fs : List Event) → visible lat g o (es ++ fs) ≡ visible lat g o es ++ visible lat g o fs

@@ -11,7 +11,8 @@ use Rattle.label_code.specs.Machine.{Event, Wrote, Began, Ended}
 use Rattle.label_code.specs.Visible.{visible}
 use Rattle.cycle_machine.specs.declared.turn.Turn.{Turn}
 use Rattle.cycle_machine.specs.declared.turn.Turn.TheVariants.{Event as AnEvent, Began as HasBegun, Ended as HasEnded, Halted as DidHalt, Limit as DidLimit}
-use Rattle.event_print.specs.Text.{cell_text, Told}
+use Rattle.event_print.specs.Text.{cell_text}
+use Rattle.cycle_machine.specs.Rest.{Told}
 
 -- `X=V@C`
 abbrev pub item : List Declaration → ℕ → ℤ → ℕ → List ℕ

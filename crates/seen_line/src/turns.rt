@@ -5,7 +5,7 @@ ghost use Rattle.std.specs.Io.KnownBytes.{Appends};
 ghost use Rattle.tim_base.specs.Faults.{Rose};
 ghost use Rattle.tim_base.specs.Sinks.{AppendsPrefix};
 ghost use Rattle.mit_syntax.specs.Declarations.{variables};
-ghost use Rattle.event_print.specs.Rest.{IsTurnBelow};
+ghost use Rattle.cycle_machine.specs.Rest.{IsTurnBelow};
 ghost use Rattle.seen_line.specs.Field.{IsPrintableTurn, piece, next_none, is_last};
 
 use crate::cells::item_line;

@@ -7,7 +7,7 @@ ghost use Rattle.tim_base.specs.Sinks.{AppendsPrefix};
 ghost use Rattle.mit_syntax.specs.Declarations.{variables};
 ghost use Rattle.timing_types.specs.Labelled.{order_of, labels_of};
 ghost use Rattle.label_code.specs.Visible.{visible};
-ghost use Rattle.event_print.specs.Rest.{rest_of};
+ghost use Rattle.cycle_machine.specs.Rest.{rest_of};
 ghost use Rattle.seen_line.specs.Field.{seen_text, ArePrintable};
 
 use crate::turns::write_turn;

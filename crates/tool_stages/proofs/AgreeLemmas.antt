@@ -7,8 +7,8 @@ use Rattle.env_contract.specs.declared.place.Touch.{Touch}
 use Rattle.env_contract.specs.Env.{Env}
 use Rattle.label_code.specs.Machine.{Machine}
 use Rattle.code_lower.specs.Lowered.{lowered}
-use Rattle.event_print.specs.Rest.{told_by}
-use Rattle.event_print.specs.declared.end.RunEnd.TheVariants.{Halted, Limit}
+use Rattle.cycle_machine.specs.Rest.{told_by}
+use Rattle.cycle_machine.specs.declared.end.RunEnd.TheVariants.{Halted, Limit}
 use Rattle.start_file.specs.Starts.{StartValue}
 use Rattle.leak_bound.specs.Records.{Each}
 use Rattle.leak_bound.specs.Sound.{Halts}

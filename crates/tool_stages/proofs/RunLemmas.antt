@@ -10,7 +10,7 @@ use Rattle.label_code.specs.Run.{run_from}
 use Rattle.cycle_machine.specs.Seen.{seen}
 use Rattle.cycle_machine.specs.Turned.{Loaded}
 use Rattle.cycle_machine.specs.declared.turn.Turn.{Turn}
-use Rattle.event_print.specs.Rest.{told_by, rest_of, rest_from}
+use Rattle.cycle_machine.specs.Rest.{told_by, rest_of, rest_from}
 use Rattle.tool_stages.specs.Stages.{Observes}
 
 -- a machine that was loaded does the run

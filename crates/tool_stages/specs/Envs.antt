@@ -7,8 +7,8 @@ use Rattle.label_lattice.specs.Order.{Order}
 use Rattle.label_code.specs.Shaped.{Code}
 use Rattle.label_code.specs.Run.{run_from}
 use Rattle.start_file.specs.Starts.{StartValue}
-use Rattle.event_print.specs.Text.{Told}
-use Rattle.event_print.specs.Rest.{told_by}
+use Rattle.cycle_machine.specs.Rest.{Told}
+use Rattle.cycle_machine.specs.Rest.{told_by}
 use Rattle.timing_types.specs.Labelled.{LabelledProgram}
 use Rattle.audit_parts.specs.Agreement.{starts_of}
 use Rattle.leak_audit.specs.declared.report.AuditReport.{AuditReport}

@@ -4,7 +4,7 @@ ghost use Rattle.std.specs.Prelude.{◌≡◌, ◌≤◌, ◌<◌, ℕ, List, If
 ghost use Rattle.tim_base.specs.Faults.{Rose};
 ghost use Rattle.label_code.specs.Run.{run_from};
 ghost use Rattle.start_file.specs.Starts.{seen, IsFor};
-ghost use Rattle.event_print.specs.Rest.{told_by};
+ghost use Rattle.cycle_machine.specs.Rest.{told_by};
 ghost use Rattle.tool_words.specs.WordsAsked.{run};
 ghost use Rattle.tool_texts.specs.Ends.{EndsBy, Nothing};
 ghost use Rattle.tool_stages.specs.Stages.{HasImage};
@@ -14,7 +14,7 @@ ghost use Rattle.mit_tool.specs.Answers.{IsAnswer, HasTold, HasRun};
 use cycle_machine::machine::Machine;
 use env_contract::env::MachineEnv;
 use env_contract::make::{MakeEnv, MakeFlat};
-use event_print::end::RunEnd;
+use cycle_machine::end::RunEnd;
 use event_print::print::print_run;
 use history_reports::laws::reports_are_the_same;
 use part_tlb::part::MakePart;

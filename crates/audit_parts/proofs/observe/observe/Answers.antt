@@ -1,9 +1,9 @@
 use Rattle.std.proofs.Common.{◌≡◌, refl, sym, ap, ◌∙◌, subst, arith, Option, None, Some}
 use Rattle.mit_syntax.specs.Declarations.{variables}
 use Rattle.env_contract.specs.Env.{Env}
-use Rattle.event_print.specs.declared.end.RunEnd.{RunEnd}
-use Rattle.event_print.specs.Rest.{end_of_turn, IsTurnBelow}
-use Rattle.event_print.proofs.Goes.{next_turn, last_turn, turn_below}
+use Rattle.cycle_machine.specs.declared.end.RunEnd.{RunEnd}
+use Rattle.cycle_machine.specs.Rest.{end_of_turn, IsTurnBelow}
+use Rattle.cycle_machine.proofs.Goes.{next_turn, last_turn, turn_below}
 use Rattle.audit_parts.proofs.Running.{none_observed, more_observed, all_observed}
 use Rattle.audit_parts.proofs.observe.observe.Goals as goal
 

@@ -1,12 +1,13 @@
 use Rattle.std.proofs.Common.{◌≡◌, ◌≤◌, refl, sym, ap, ◌∙◌, subst, arith, Option, None, Some}
 use Rattle.std.specs.Prelude.{ℕ, Result, Ok, Err, OnErr}
-use Rattle.event_print.specs.declared.end.RunEnd.{RunEnd}
+use Rattle.cycle_machine.specs.declared.end.RunEnd.{RunEnd}
 use Rattle.std.specs.Io.KnownBytes.{Appends}
 use Rattle.tim_base.specs.Sinks.{AppendsPrefix}
 use Rattle.mit_syntax.specs.Declarations.{variables}
 use Rattle.env_contract.specs.Env.{Env}
-use Rattle.event_print.specs.Rest.{end_of_turn, text_of_turn, IsTurnBelow}
-use Rattle.event_print.proofs.Goes.{next_turn, last_turn, turn_below}
+use Rattle.cycle_machine.specs.Rest.{end_of_turn, IsTurnBelow}
+use Rattle.event_print.specs.Text.{text_of_turn}
+use Rattle.cycle_machine.proofs.Goes.{next_turn, last_turn, turn_below}
 use Rattle.event_print.proofs.Printed.{none_printed, stands_first, more_printed, all_printed, end_is, prefix_printed, stands_turn}
 use Rattle.event_print.proofs.print.print_run.Goals as goal
 

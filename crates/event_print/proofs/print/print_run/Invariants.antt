@@ -1,5 +1,5 @@
 use Rattle.std.proofs.Common.{◌≡◌, ◌≤◌, ◌-◌}
-use Rattle.event_print.specs.Rest.{StandsAfter}
+use Rattle.cycle_machine.specs.Rest.{StandsAfter}
 use Rattle.event_print.proofs.Printed.{Printed}
 use Rattle.event_print.proofs.print.print_run.Given as goal
 

@@ -1,7 +1,7 @@
 use Rattle.std.proofs.Common.{ℕ, List, ◌∙◌}
 use Rattle.std.specs.Prelude.{Result, Ok, Err, OnErr, decimal}
 use Rattle.env_contract.specs.Env.{Env}
-use Rattle.event_print.specs.Rest.{rest_of}
+use Rattle.cycle_machine.specs.Rest.{rest_of}
 use Rattle.seen_line.specs.Field.{seen_text}
 use Rattle.lab_seen.proofs.LineLemmas.{broke_head, broke_field, broke_end}
 use Rattle.lab_seen.proofs.line.write_line.Goals as goal

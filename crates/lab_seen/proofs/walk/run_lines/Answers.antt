@@ -5,7 +5,7 @@ use Rattle.std.proofs.lemmas.List.{length-map}
 use Rattle.tim_base.specs.Sinks.{AppendsPrefix}
 use Rattle.start_file.specs.declared.start.Start.{Start as Stored}
 use Rattle.start_file.specs.Starts.{StartValue, seen, IsFor}
-use Rattle.event_print.specs.Text.{Told}
+use Rattle.cycle_machine.specs.Rest.{Told}
 use Rattle.audit_parts.proofs.Agreeing.{All-seen}
 use Rattle.lab_runs.proofs.TextLemmas.{map-from, wrote_one, broke_in}
 use Rattle.lab_seen.specs.Seen.{line_text, line_in}

@@ -4,8 +4,8 @@ use Rattle.std.specs.Io.KnownBytes.{Appends}
 use Rattle.tim_base.specs.Sinks.{AppendsPrefix}
 use Rattle.mit_syntax.specs.Declarations.{variables}
 use Rattle.env_contract.specs.Env.{Env}
-use Rattle.event_print.specs.Rest.{IsTurnBelow}
-use Rattle.event_print.proofs.Goes.{turn_below, next_turn}
+use Rattle.cycle_machine.specs.Rest.{IsTurnBelow}
+use Rattle.cycle_machine.proofs.Goes.{turn_below, next_turn}
 use Rattle.seen_line.specs.Field.{piece, next_none, is_last}
 use Rattle.seen_line.proofs.Fields.{more_field, whole_field, whole_printable, prefix_field, none_more}
 use Rattle.seen_line.proofs.write.write_seen.Goals as goal

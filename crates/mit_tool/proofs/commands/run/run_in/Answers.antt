@@ -2,8 +2,9 @@ use Rattle.std.proofs.Common.{refl, ap, subst, ◌∙◌}
 use Rattle.env_contract.specs.Env.{Env}
 use Rattle.tim_base.specs.Sinks.{AppendsPrefix}
 use Rattle.label_code.specs.Run.{run_from}
-use Rattle.event_print.specs.Text.{Told, text_of}
-use Rattle.event_print.specs.Rest.{told_by}
+use Rattle.event_print.specs.Text.{text_of}
+use Rattle.cycle_machine.specs.Rest.{Told}
+use Rattle.cycle_machine.specs.Rest.{told_by}
 use Rattle.tool_texts.specs.Ends.{Nothing}
 use Rattle.mit_tool.specs.Answers.{HasTold, status_at}
 use Rattle.tool_texts.proofs.EndLemmas.{ends_memory}

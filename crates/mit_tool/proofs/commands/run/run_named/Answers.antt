@@ -1,6 +1,6 @@
 use Rattle.std.proofs.Common.{sym, subst}
 use Rattle.start_file.specs.Starts.{seen}
-use Rattle.event_print.specs.Text.{Told}
+use Rattle.cycle_machine.specs.Rest.{Told}
 use Rattle.part_tlb.specs.Histories.{part_by_history, part2_by_history}
 use Rattle.part_tlb.specs.Structures.{part_at, warmed}
 use Rattle.part_tlb.specs.Envs.{part_structure, part_touched, part_penalty, part_after, empty_part, part2_structure, part2_touched, part2_penalty, part2_after, empty_part2}

@@ -1,19 +1,21 @@
 -- What a machine still does up to a limit.
 use Rattle.std.specs.Prelude.{◌≡◌, ◌<◌, ℕ, List, [], ◌∷◌, cond, Option, Some, None}
-use Rattle.label_lattice.specs.declared.label.Label.{Label}
 use Rattle.env_contract.specs.Env.{Env}
 use Rattle.label_code.specs.Machine.{Event, Wrote, Began, Ended, Machine, run_to}
 use Rattle.label_code.specs.declared.code.Instr.{Instr}
-use Rattle.timing_types.specs.Labelled.{LabelledProgram}
 use Rattle.cycle_machine.specs.declared.state.State.{State}
 use Rattle.cycle_machine.specs.declared.turn.Turn.{Turn}
 use Rattle.cycle_machine.specs.declared.turn.Turn.TheVariants.{Event as AnEvent, Began as HasBegun, Ended as HasEnded, Halted as DidHalt, Limit as DidLimit}
 use Rattle.cycle_machine.specs.Seen.{seen}
 use Rattle.cycle_machine.specs.Turned.{Loaded}
 use Rattle.cycle_machine.specs.Reached.{Reached}
-use Rattle.event_print.specs.declared.end.RunEnd.{RunEnd}
-use Rattle.event_print.specs.declared.end.RunEnd.TheVariants.{Halted, Limit}
-use Rattle.event_print.specs.Text.{Told, lines_of, last_line, shown}
+use Rattle.cycle_machine.specs.declared.end.RunEnd.{RunEnd}
+use Rattle.cycle_machine.specs.declared.end.RunEnd.TheVariants.{Halted, Limit}
+
+-- what a run tells: its events, and how it ended
+pub record Told : Type 0 where
+  pub events : List Event
+  pub end : RunEnd
 
 -- what a finished run tells
 abbrev pub told_by : {E : Type 0} → Machine E → Told
@@ -64,14 +66,6 @@ stands_at v limit old new (Some t) = stopped_at t ≡ record { events = []; end 
 pub record StandsAfter {E : Type 0} (v : Env E) (limit : ℕ) (old new : Loaded E) : Type 0 where
   pub code : new.code ≡ old.code
   pub place : stands_at v limit old new.state new.stopped
-
--- the text of one turn
-abbrev pub text_of_turn : LabelledProgram → Option Label → Turn → List ℕ
-text_of_turn p o (AnEvent x n t) = lines_of p.program.declarations (shown p o (Wrote x n t ∷ []))
-text_of_turn p o (HasBegun k t) = []
-text_of_turn p o (HasEnded k t) = []
-text_of_turn p o (DidHalt t) = last_line (Halted t)
-text_of_turn p o (DidLimit t) = last_line (Limit t)
 
 -- an assignment is to one of the first so many variables
 abbrev pub IsTurnBelow : ℕ → Turn → Type 0

@@ -13,12 +13,12 @@ use Rattle.cycle_machine.specs.Turned.{Loaded, Quiet, Comes, Turned, stops, IsSt
 use Rattle.cycle_machine.specs.Reached.{Reached}
 use Rattle.cycle_machine.proofs.Quiet.{steps_last}
 use Rattle.cycle_machine.proofs.Turns.{go_on}
-use Rattle.event_print.specs.declared.end.RunEnd.{RunEnd}
-use Rattle.event_print.specs.declared.end.RunEnd.TheVariants.{Halted, Limit}
-use Rattle.event_print.specs.Text.{Told}
-use Rattle.event_print.specs.Rest.{told_by, end_of_turn, events_of, stopped_at, rest_from, rest_of, IsTurnBelow}
-use Rattle.event_print.proofs.Runs.{halted_stays, late_stays, run_later, run_past}
-use Rattle.event_print.proofs.Wrote.{wrote_below}
+use Rattle.cycle_machine.specs.declared.end.RunEnd.{RunEnd}
+use Rattle.cycle_machine.specs.declared.end.RunEnd.TheVariants.{Halted, Limit}
+use Rattle.cycle_machine.specs.Rest.{Told}
+use Rattle.cycle_machine.specs.Rest.{told_by, end_of_turn, events_of, stopped_at, rest_from, rest_of, IsTurnBelow}
+use Rattle.cycle_machine.proofs.Runs.{halted_stays, late_stays, run_later, run_past}
+use Rattle.cycle_machine.proofs.Wrote.{wrote_below}
 
 abbrev pub after_events : List Event → Told → Told
 after_events es t = record { events = es ++ t.events; end = t.end }
