@@ -16,7 +16,6 @@ use Rattle.audit_parts.specs.declared.what.What.{What}
 use Rattle.audit_parts.specs.declared.what.What.TheVariants.{Variable, Partition}
 use Rattle.audit_parts.specs.declared.survey.SurveyFault.{SurveyFault}
 use Rattle.audit_parts.specs.declared.survey.SurveyFault.TheVariants.{Unfinished, TooMuch, Memory}
-use Rattle.audit_parts.specs.declared.survey.TheConstants.{MAX_SHOWN}
 use Rattle.audit_parts.specs.Agreement.{AgreeFor, Differs, place_number, IsBefore, IsFirstDifference, IsFirstApart, Disagrees}
 use Rattle.audit_parts.specs.Surveyed.{shown_by, shown_by_all, IsRefused, IsFirstRefused}
 use Rattle.audit_parts.proofs.Split.{Earlier, SameCut, two_cuts, Each-at}
@@ -104,7 +103,7 @@ module _ {E : Type 0} (v : Env E) (serves : Order → E → Type 0) (p : Labelle
 
     -- a run is not refused after which others are taken
     not_refused : (before r ss : List (Start E)) (s : Start E) (f : SurveyFault) → ss ≡ before ++ s ∷ r → IsRefused v p o t must before s f →
-        (must ≡ true → Each (Halts v (lowered p).instrs t) ss) → shown_by_all v p o t ss ≤ MAX_SHOWN → ⊥
+        (must ≡ true → Each (Halts v (lowered p).instrs t) ss) → shown_by_all v p o t ss ≤ 16777216 → ⊥
     not_refused before r ss s (Unfinished run cycle) e h halts few =
         let halted : Halts v (lowered p).instrs t s = Each-at (Halts v (lowered p).instrs t) before r s (subst (Each (Halts v (lowered p).instrs t)) e (halts h.0)) in
         bool_apart _ halted h.1
@@ -131,5 +130,5 @@ module _ {E : Type 0} (v : Env E) (serves : Order → E → Type 0) (p : Labelle
         go (inr (inl e)) = absurd (not_refused a.before e.between b.before a.refused f e.are a.why b.halt b.few)
         go (inr (inr e)) = absurd (not_refused b.before e.between a.before b.refused g e.are b.why a.halt a.few)
 
-    pub not_taken : (ss : List (Start E)) (f : SurveyFault) → IsFirstRefused v p o t must ss f → (must ≡ true → Each (Halts v (lowered p).instrs t) ss) → shown_by_all v p o t ss ≤ MAX_SHOWN → ⊥
+    pub not_taken : (ss : List (Start E)) (f : SurveyFault) → IsFirstRefused v p o t must ss f → (must ≡ true → Each (Halts v (lowered p).instrs t) ss) → shown_by_all v p o t ss ≤ 16777216 → ⊥
     not_taken ss f a halts few = not_refused a.before a.after ss a.refused f a.are a.why halts few

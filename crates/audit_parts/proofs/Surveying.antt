@@ -18,7 +18,6 @@ use Rattle.audit_parts.specs.declared.observe.Observed.{Observed}
 use Rattle.audit_parts.specs.declared.survey.Survey.{Survey}
 use Rattle.audit_parts.specs.declared.survey.SurveyFault.{SurveyFault}
 use Rattle.audit_parts.specs.declared.survey.SurveyFault.TheVariants.{Unfinished, TooMuch, Memory}
-use Rattle.audit_parts.specs.declared.survey.TheConstants.{MAX_SHOWN}
 use Rattle.audit_parts.specs.Observed.{sequence_of, is_marked, ObservesRun}
 use Rattle.audit_parts.proofs.Split.{Each-more}
 use Rattle.audit_parts.specs.Surveyed.{relevant_for, run_of, sequence_from, shown_by, shown_by_all, halted_count, begun_first, IsRefused, IsFirstRefused, IsSurveyFault, IsSurvey, unfinished, halts, of_first, Takes, Refuses}
@@ -63,7 +62,7 @@ module _ {E : Type 0} (v : Env E) (p : LabelledProgram) (o t : ℕ) (must : Bool
     pub number : n ≡ length before + 1
     pub halts : must ≡ true → Each (Halts v (lowered p).instrs t) before
     pub shown : r.shown ≡ shown_by_all v p o t before
-    pub small : r.shown ≤ MAX_SHOWN
+    pub small : r.shown ≤ 16777216
     pub halted : r.halted + halted_count v p t rest ≡ halted_count v p t ss
     pub few : r.halted + 1 ≤ n
     pub whole : n ≡ 1 → rest ≡ ss
@@ -93,7 +92,7 @@ module _ {E : Type 0} (v : Env E) (p : LabelledProgram) (o t : ℕ) (must : Bool
   }
 
   module _ (s : Start E) (rest more : List (Start E)) (n : ℕ) (r : Survey) (from : rest ≡ s ∷ more) (h : Surveying rest n r) (w : Observed) (marked : List Bool)
-      (told : marked ≡ relevances (order_of p) (labels_of p) (levels_of p) o (order_of p).bottom (plan_of p.program)) (seen : ObservesRun v p o marked (MAX_SHOWN - r.shown) t s w) where
+      (told : marked ≡ relevances (order_of p) (labels_of p) (levels_of p) o (order_of p).bottom (plan_of p.program)) (seen : ObservesRun v p o marked (16777216 - r.shown) t s w) where
     abbrev run : Machine E
     run = run_of v p t s
 
@@ -126,7 +125,7 @@ module _ {E : Type 0} (v : Env E) (p : LabelledProgram) (o t : ℕ) (must : Bool
         let shown : w.tally.shown ≡ shown_by v p o t s = seen.tallies.shown in
         let add = x.shown in
         let fits = x.few in
-        let room : w.tally.shown ≤ MAX_SHOWN - r.shown = omega arith in
+        let room : w.tally.shown ≤ 16777216 - r.shown = omega arith in
         let all : q.shown ≡ r.shown + shown_by v p o t s = omega arith in
         let halt = goes_halted must run.halted run.core.clock (ap (unfinished must) (sym seen.end) ∙ x.goes) in
         let halted : q.halted ≡ r.halted + cond run.halted 1 0 = x.halted ∙ ap (λ z. r.halted + z) (ap halts seen.end ∙ halts-end run.halted run.core.clock) in

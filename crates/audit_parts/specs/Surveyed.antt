@@ -15,7 +15,6 @@ use Rattle.audit_parts.specs.declared.observe.Observed.{Observed}
 use Rattle.audit_parts.specs.declared.survey.Survey.{Survey}
 use Rattle.audit_parts.specs.declared.survey.SurveyFault.{SurveyFault}
 use Rattle.audit_parts.specs.declared.survey.SurveyFault.TheVariants.{Unfinished, TooMuch, Memory}
-use Rattle.audit_parts.specs.declared.survey.TheConstants.{MAX_SHOWN}
 use Rattle.audit_parts.specs.Observed.{sequence_of}
 
 -- whether the mitigate with a mark is relevant for an observer of a program
@@ -50,12 +49,12 @@ module _ {E : Type 0} (v : Env E) (p : LabelledProgram) where
   begun_first o t (s ∷ ss) = begun_count (relevant_for p o) (run_of t s).core.log
 
   -- Why a run is refused that comes after these: it must halt by T and has not, and this is its number, from 1,
-  -- and its clock; or else so many assignments are shown up to and with it, more than `MAX_SHOWN`.
+  -- and its clock; or else so many assignments are shown up to and with it, more than 16,777,216.
   abbrev pub IsRefused : ℕ → ℕ → Bool → List (Start E) → Start E → SurveyFault → Type 0
   IsRefused o t must before s (Unfinished run cycle) =
       (must ≡ true) × ((run_of t s).halted ≡ false) × (run ≡ length before + 1) × (cycle ≡ (run_of t s).core.clock)
   IsRefused o t must before s (TooMuch count) =
-      (must ≡ true → (run_of t s).halted ≡ true) × (count ≡ shown_by_all o t before + shown_by o t s) × (MAX_SHOWN < count)
+      (must ≡ true → (run_of t s).halted ≡ true) × (count ≡ shown_by_all o t before + shown_by o t s) × (16777216 < count)
   IsRefused o t must before s Memory = ⊥
 
   -- the first run that is refused, none before it being so, and why
@@ -65,7 +64,7 @@ module _ {E : Type 0} (v : Env E) (p : LabelledProgram) where
     pub after : List (Start E)
     pub are : ss ≡ before ++ refused ∷ after
     pub halt : must ≡ true → Each (Halts v (lowered p).instrs t) before
-    pub few : shown_by_all o t before ≤ MAX_SHOWN
+    pub few : shown_by_all o t before ≤ 16777216
     pub why : IsRefused o t must before refused f
 
   abbrev pub IsSurveyFault : ℕ → ℕ → Bool → List (Start E) → SurveyFault → Type 0
@@ -77,7 +76,7 @@ module _ {E : Type 0} (v : Env E) (p : LabelledProgram) where
   pub record IsSurvey (o t : ℕ) (must : Bool) (ss : List (Start E)) (r : Survey) : Type 0 where
     pub sequences : map sequence_of r.sequences.items ≡ views (sequence_from o t) ss
     pub halts : must ≡ true → Each (Halts v (lowered p).instrs t) ss
-    pub few : shown_by_all o t ss ≤ MAX_SHOWN
+    pub few : shown_by_all o t ss ≤ 16777216
     pub halted : r.halted ≡ halted_count t ss
     pub begun : r.begun ≡ begun_first o t ss
     pub ended : r.ended ≡ most_ended v (lowered p).instrs (relevant_for p o) t ss
@@ -101,7 +100,7 @@ pub record Takes (old : Survey) (run : ℕ) (must : Bool) (w : Observed) (new : 
   pub goes : unfinished must w.end ≡ None
   pub sequences : map sequence_of new.sequences.items ≡ map sequence_of old.sequences.items ++ sequence_of w.tally.events ∷ []
   pub shown : new.shown ≡ old.shown + w.tally.shown
-  pub few : new.shown ≤ MAX_SHOWN
+  pub few : new.shown ≤ 16777216
   pub begun : new.begun ≡ of_first run w.tally.begun old.begun
   pub ended : new.ended ≡ max old.ended w.tally.ended
   pub halted : new.halted ≡ old.halted + halts w.end
@@ -109,5 +108,5 @@ pub record Takes (old : Survey) (run : ℕ) (must : Bool) (w : Observed) (new : 
 -- why it is refused
 abbrev pub Refuses : Survey → ℕ → Bool → Observed → SurveyFault → Type 0
 Refuses old run must w (Unfinished k c) = (k ≡ run) × (unfinished must w.end ≡ Some c)
-Refuses old run must w (TooMuch n) = (unfinished must w.end ≡ None) × (n ≡ old.shown + w.tally.shown) × (MAX_SHOWN < n)
+Refuses old run must w (TooMuch n) = (unfinished must w.end ≡ None) × (n ≡ old.shown + w.tally.shown) × (16777216 < n)
 Refuses old run must w Memory = Unit {0}

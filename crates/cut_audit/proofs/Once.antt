@@ -9,7 +9,6 @@ use Rattle.leak_bound.specs.Digits.{digits}
 use Rattle.leak_bound.specs.Records.{Pairwise}
 use Rattle.audit_parts.specs.declared.survey.SurveyFault.{SurveyFault}
 use Rattle.audit_parts.specs.declared.survey.SurveyFault.TheVariants.{TooMuch as IsTooMuch}
-use Rattle.audit_parts.specs.declared.survey.TheConstants.{MAX_SHOWN}
 use Rattle.audit_parts.specs.Agreement.{AgreeFor}
 use Rattle.audit_parts.specs.Surveyed.{shown_by_all}
 use Rattle.audit_parts.proofs.Once.{disagrees_once, not_apart, refused_once, not_taken}
@@ -45,7 +44,7 @@ module _ {E : Type 0} (v : Env E) (serves : Order → E → Type 0) (p : Labelle
   same_fault f Memory a b n m = absurd (m refl)
 
   -- starts that agree and whose runs show few enough assignments are refused for want of memory alone
-  pub no_cut_fault : (f : CutFault) → Pairwise (AgreeFor v serves p o) ss → shown_by_all v p o t ss ≤ MAX_SHOWN → IsCutFault v serves p o t ss f → f ≡ Memory
+  pub no_cut_fault : (f : CutFault) → Pairwise (AgreeFor v serves p o) ss → shown_by_all v p o t ss ≤ 16777216 → IsCutFault v serves p o t ss f → f ≡ Memory
   no_cut_fault (Disagree run w) agree few b = absurd (not_apart v serves p o ss run w agree b)
   no_cut_fault (TooMuch k) agree few b = absurd (not_taken v serves p o t false ss (IsTooMuch k) b.1 (λ m. absurd cc) few)
   no_cut_fault Memory agree few b = refl

@@ -12,7 +12,6 @@ use Rattle.audit_parts.specs.declared.agreement.Disagreement.{Disagreement}
 use Rattle.audit_parts.specs.declared.agreement.Disagreement.TheVariants.{Differs, Memory as NoRoom}
 use Rattle.audit_parts.specs.declared.survey.SurveyFault.{SurveyFault}
 use Rattle.audit_parts.specs.declared.survey.SurveyFault.TheVariants.{Unfinished as IsUnfinished, TooMuch as IsTooMuch, Memory as NoMemory}
-use Rattle.audit_parts.specs.declared.survey.TheConstants.{MAX_SHOWN}
 use Rattle.audit_parts.specs.Agreement.{AgreeFor, Disagrees}
 use Rattle.audit_parts.specs.Sequences.{same_sequence, classes_of}
 use Rattle.audit_parts.specs.Surveyed.{relevant_for, sequence_from, shown_by_all, halted_count, IsFirstRefused}
@@ -26,7 +25,7 @@ use Rattle.cut_audit.specs.declared.report.CutFault.TheVariants.{Disagree, TooMu
 -- base and exponent of the bound, and the classes.
 pub record IsReport {E : Type 0} (v : Env E) (serves : Order → E → Type 0) (p : LabelledProgram) (o t : ℕ) (ss : List (Start E)) (r : CutReport) : Type 0 where
   pub agree : Pairwise (AgreeFor v serves p o) ss
-  pub few : shown_by_all v p o t ss ≤ MAX_SHOWN
+  pub few : shown_by_all v p o t ss ≤ 16777216
   pub runs : r.runs ≡ length ss
   pub levels : r.levels ≡ count_not_below (order_of p) o p.program.order.size
   pub ended : r.ended ≡ most_ended v (lowered p).instrs (relevant_for p o) t ss

@@ -3,7 +3,6 @@ use Rattle.std.proofs.Common.{◌≡◌, ◌≤◌, refl, sym, subst, ℕ, List,
 use Rattle.std.proofs.lemmas.List.Elements.{All-nil, All-cons}
 use Rattle.tim_base.specs.Faults.{Rose}
 use Rattle.timing_types.specs.Labelled.{LabelledProgram}
-use Rattle.code_lower.specs.declared.lower.TheConstants.{MAX_INSTRUCTIONS}
 use Rattle.code_lower.specs.Lowered.{lowered}
 use Rattle.tool_words.specs.declared.words.EnvName.TheVariants.{Part}
 use Rattle.tool_words.specs.WordsAsked.{Asked, audit}
@@ -47,7 +46,7 @@ typable = (labels, are_labels, typed)
 
 -- what goes on with the least labelling, of which there is one
 abbrev GoesOn : LabelledProgram → Type 0
-GoesOn q = (length (lowered q).instrs ≤ MAX_INSTRUCTIONS) × CanBeAudited Part budget q observer both_starts
+GoesOn q = (length (lowered q).instrs ≤ 200000) × CanBeAudited Part budget q observer both_starts
 
 eight : length (lowered labelled).instrs ≡ 8
 eight = refl

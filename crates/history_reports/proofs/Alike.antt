@@ -24,7 +24,6 @@ use Rattle.history_bound.specs.Told.{Pair, Paired}
 use Rattle.history_bound.proofs.Told.{below_label, does_back, paired_back, each_over, pairwise_over, agree_over, log_same, clock_same, halted_same, seen_all, ended_all, length-paired, begun_over}
 use Rattle.audit_parts.specs.declared.survey.SurveyFault.{SurveyFault}
 use Rattle.audit_parts.specs.declared.survey.SurveyFault.TheVariants.{Unfinished as IsUnfinished, TooMuch as IsTooMuch, Memory as NoMemory}
-use Rattle.audit_parts.specs.declared.survey.TheConstants.{MAX_SHOWN}
 use Rattle.audit_parts.specs.declared.what.What.{What}
 use Rattle.audit_parts.specs.declared.what.What.TheVariants.{Variable, Partition}
 use Rattle.audit_parts.specs.Agreement.{AgreeFor, Differs, IsFirstDifference, IsFirstApart, Disagrees, start_of, starts_of}
@@ -159,7 +158,7 @@ module _ {E F : Type 0} (v : Env E) (w : Env F) (p : LabelledProgram) (serves : 
           after = z.after';
           are = z.are;
           halt = λ e. halts_over a.before z.before' z.first (a.halt e);
-          few = subst (λ n. n ≤ MAX_SHOWN) (show_all a.before z.before' z.first) a.few;
+          few = subst (λ n. n ≤ 16777216) (show_all a.before z.before' z.first) a.few;
           why = refused must a.before z.before' z.first a.refused z.one' z.pair f a.why;
         }
 
@@ -168,7 +167,7 @@ module _ {E F : Type 0} (v : Env E) (w : Env F) (p : LabelledProgram) (serves : 
         record {
           agree = all_agree ss rs q a.agree;
           halted = halts_over ss rs q a.halted;
-          few = subst (λ n. n ≤ MAX_SHOWN) (show_all ss rs q) a.few;
+          few = subst (λ n. n ≤ 16777216) (show_all ss rs q) a.few;
           runs = a.runs ∙ length-paired related ss rs q;
           levels = a.levels;
           mitigations = begun_over related p.program.order (labels_of p) (levels_of p) o (plan_of p.program) r.mitigations ss rs q a.mitigations;
@@ -182,7 +181,7 @@ module _ {E F : Type 0} (v : Env E) (w : Env F) (p : LabelledProgram) (serves : 
     cut_report_over ss rs q r a =
         record {
           agree = all_agree ss rs q a.agree;
-          few = subst (λ n. n ≤ MAX_SHOWN) (show_all ss rs q) a.few;
+          few = subst (λ n. n ≤ 16777216) (show_all ss rs q) a.few;
           runs = a.runs ∙ length-paired related ss rs q;
           levels = a.levels;
           ended = a.ended ∙ ended_all v w p.program.order related does (lowered p).instrs labels t (relevant_for p o) ss rs q;

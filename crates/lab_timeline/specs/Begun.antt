@@ -4,7 +4,6 @@ use Rattle.label_lattice.specs.declared.label.Label.{Label}
 use Rattle.timing_types.specs.Labelled.{LabelledProgram}
 use Rattle.label_code.specs.Shaped.{Code}
 use Rattle.code_lower.specs.Lowered.{lowered}
-use Rattle.start_file.specs.declared.starts.TheConstants.{MAX_RUNS}
 use Rattle.start_file.specs.Starts.{StartValue, IsFor}
 use Rattle.tool_texts.specs.declared.status.Status.{Status}
 use Rattle.tool_stages.specs.Stages.{Then, StartStops, StartsAre}
@@ -26,5 +25,5 @@ BeginStops Rises content file starts observer =
 pub record CanRun (q : LabelledProgram) (o : Option Label) (code : Code) (ss : List StartValue) : Type 0 where
   pub image : code ≡ lowered q
   pub observer : IfSome o (λ l. l.number < q.program.order.size)
-  pub few : length ss ≤ MAX_RUNS
+  pub few : length ss ≤ 4096
   pub starts : All (IsFor q.program) ss

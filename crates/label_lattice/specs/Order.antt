@@ -1,6 +1,5 @@
 -- A lattice as contracts see it: its labels' names, and tables of what flows and of joins.
 use Rattle.std.specs.Prelude.{◌≡◌, ℕ, ◌+◌, ◌*◌, ◌<◌, ◌≤◌, ◌==◌, Bool, false, cond, zero, suc, List, [], All, AllPairs, length, slice_index_or}
-use Rattle.label_lattice.specs.declared.label.TheConstants.{MAX_LABELS}
 use Rattle.label_lattice.specs.Names.{IsName}
 use Rattle.label_lattice.specs.Lattice.{Lattice, IsTable, over_all}
 
@@ -46,7 +45,7 @@ pub record IsRoom (o : Order) : Type 0 where
 -- what is true of every lattice
 pub record IsOrder (o : Order) : Type 0 where
   pub some : 0 < o.size
-  pub within : o.size ≤ MAX_LABELS
+  pub within : o.size ≤ 32
   pub named : length o.names ≡ o.size
   pub names : All IsName o.names
   pub differ : AllDiffer o.names

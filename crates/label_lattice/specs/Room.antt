@@ -1,7 +1,6 @@
 -- Names in a room of a fixed size.
 use Rattle.std.specs.Prelude.{ℕ, ◌-◌, List, [], ◌++◌, replicate, slice_index_or}
-use Rattle.label_lattice.specs.declared.label.TheConstants.{MAX_LABELS}
 
 -- the names, and the first of them again up to the room's end
 abbrev pub filled : List (List ℕ) → ℕ → List (List ℕ)
-filled names n = names ++ replicate (MAX_LABELS - n) (slice_index_or names 0 [])
+filled names n = names ++ replicate (32 - n) (slice_index_or names 0 [])

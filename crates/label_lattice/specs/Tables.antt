@@ -1,7 +1,6 @@
 -- Tables of pairs of labels, in rows.
 use Rattle.std.specs.Prelude.{◌≡◌, ℕ, ◌+◌, ◌*◌, ◌/◌, ◌%◌, ◌<◌, ◌⊎◌, Bool, true, false, ◌||◌, ◌&&◌, ◌==◌, List, slice_index_or}
 use Rattle.label_lattice.specs.declared.label.Label.{Label}
-use Rattle.label_lattice.specs.declared.label.TheConstants.{MAX_LABELS}
 use Rattle.label_lattice.specs.declared.checks.Check.{Check}
 use Rattle.label_lattice.specs.declared.checks.Check.TheVariants.{Cycle, Bottom, Join}
 use Rattle.label_lattice.specs.Order.{row, flows_in}
@@ -21,8 +20,8 @@ extended t x y i = slice_index_or t i false || (slice_index_or t (i / row * 32 +
 
 -- the table has what the pairs say
 pub record IsClosure (t : List Bool) (pairs : List (Label × Label)) : Type 0 where
-  pub sets : (a b : ℕ) → a < MAX_LABELS → b < MAX_LABELS → IsSet t a b → Chain pairs a b
-  pub set : (a b : ℕ) → a < MAX_LABELS → b < MAX_LABELS → Chain pairs a b → IsSet t a b
+  pub sets : (a b : ℕ) → a < 32 → b < 32 → IsSet t a b → Chain pairs a b
+  pub set : (a b : ℕ) → a < 32 → b < 32 → Chain pairs a b → IsSet t a b
 
 -- what a check refuses
 abbrev pub IsRefused : Check → ℕ → (ℕ → ℕ → Type 0) → ℕ → ℕ → Type 0

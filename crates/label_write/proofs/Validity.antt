@@ -9,7 +9,6 @@ use Rattle.label_lattice.specs.Order.{Order, AllDiffer}
 use Rattle.label_lattice.specs.Names.{IsName}
 use Rattle.mit_syntax.specs.declared.ast.Command.{Command}
 use Rattle.mit_syntax.specs.declared.declarations.Decl.{Decl}
-use Rattle.mit_syntax.specs.declared.declarations.TheConstants.{MAX_VARIABLES, MAX_ELEMENTS}
 use Rattle.mit_syntax.specs.Declarations.{Declaration, size_of, length_in, elements_in, declared, scalar_from, scalar_in, array_from, array_in, find_scalar, find_array}
 use Rattle.mit_syntax.specs.Expression.{Expression, Number, Variable, Binary, Element}
 use Rattle.mit_syntax.specs.Limits.{AreSmall}
@@ -213,8 +212,8 @@ valid_written s l v h b e =
       flows = v.flows;
       order = v.order;
       few = record {
-        count = subst (λ n. n ≤ MAX_VARIABLES) (sym (length_written o l ds 0)) v.few.count;
-        elements = subst (λ n. n ≤ MAX_ELEMENTS) (sym (elements_written o l ds 0)) v.few.elements;
+        count = subst (λ n. n ≤ 1024) (sym (length_written o l ds 0)) v.few.count;
+        elements = subst (λ n. n ≤ 2048) (sym (elements_written o l ds 0)) v.few.elements;
       };
       names = all_written o l (λ d. IsName d.0) (λ d. IsName d.0) (λ d x i. i) ds 0 v.names;
       differ = subst (λ z. AllDiffer z) (sym (names_written o l ds 0)) v.differ;

@@ -11,7 +11,6 @@ use Rattle.leak_bound.specs.Records.{Each, Pairwise}
 use Rattle.leak_bound.specs.Sound.{Halts}
 use Rattle.audit_parts.specs.declared.survey.SurveyFault.{SurveyFault}
 use Rattle.audit_parts.specs.declared.survey.SurveyFault.TheVariants.{Unfinished as IsUnfinished, TooMuch as IsTooMuch}
-use Rattle.audit_parts.specs.declared.survey.TheConstants.{MAX_SHOWN}
 use Rattle.audit_parts.specs.Agreement.{AgreeFor}
 use Rattle.audit_parts.specs.Surveyed.{shown_by_all}
 use Rattle.audit_parts.proofs.Once.{disagrees_once, not_apart, refused_once, not_taken}
@@ -52,7 +51,7 @@ module _ {E : Type 0} (v : Env E) (serves : Order → E → Type 0) (p : Labelle
   same_fault f Memory a b n m = absurd (m refl)
 
   -- starts that agree and whose runs halt and show few enough assignments are refused for want of memory alone
-  pub no_audit_fault : (f : AuditFault) → Pairwise (AgreeFor v serves p o) ss → Each (Halts v (lowered p).instrs t) ss → shown_by_all v p o t ss ≤ MAX_SHOWN → IsAuditFault v serves p o t ss f → f ≡ Memory
+  pub no_audit_fault : (f : AuditFault) → Pairwise (AgreeFor v serves p o) ss → Each (Halts v (lowered p).instrs t) ss → shown_by_all v p o t ss ≤ 16777216 → IsAuditFault v serves p o t ss f → f ≡ Memory
   no_audit_fault (Disagree run w) agree halted few b = absurd (not_apart v serves p o ss run w agree b)
   no_audit_fault (Unfinished run c) agree halted few b = absurd (not_taken v serves p o t true ss (IsUnfinished run c) b.1 (λ m. halted) few)
   no_audit_fault (TooMuch k) agree halted few b = absurd (not_taken v serves p o t true ss (IsTooMuch k) b.1 (λ m. halted) few)

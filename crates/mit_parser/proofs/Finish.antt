@@ -8,7 +8,6 @@ use Rattle.label_lattice.specs.Lattice.{Flows}
 use Rattle.label_lattice.specs.Order.{Order, IsOrder, AllDiffer, lattice_of}
 use Rattle.label_lattice.specs.Chains.{AreBelow, IsBuilt, Chain}
 use Rattle.mit_syntax.specs.declared.ast.Command.{Command}
-use Rattle.mit_syntax.specs.declared.declarations.TheConstants.{MAX_VARIABLES}
 use Rattle.mit_syntax.specs.Declarations.{Declaration, AreFew}
 use Rattle.mit_syntax.specs.Plan.{list_plan, count}
 use Rattle.mit_syntax.specs.Program.{Syntax, syntax}
@@ -120,11 +119,11 @@ module _ (words : List Told) (lattice : Option Order) (pairs : List (Label × La
           ∙ ap (λ l. declare_all l v.read.taken.tree (declaring [] None)) named
 
       few_listed : many_fault v.list ≡ None → variables ≡ v.list
-      few_listed e = by (ltb MAX_VARIABLES (length v.list)) refl
+      few_listed e = by (ltb 1024 (length v.list)) refl
         where
-          by : (b : Bool) → ltb MAX_VARIABLES (length v.list) ≡ b → variables ≡ v.list
+          by : (b : Bool) → ltb 1024 (length v.list) ≡ b → variables ≡ v.list
           by true q = let z = sym (ap (λ b. cond b (Some (TooMany (length v.list))) None) q) ∙ e in cc
-          by false q = v.given (ltb-false MAX_VARIABLES (length v.list) q)
+          by false q = v.given (ltb-false 1024 (length v.list) q)
 
       same_scope : (w : Option ParseFault) → kept v.mid.fault (many_fault v.list) ≡ w
           → note_commands (scope (labels_in lattice) variables) k.tree w ≡ note_commands (scope (header_labels h.tree).names v.list) k.tree w

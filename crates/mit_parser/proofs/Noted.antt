@@ -2,7 +2,6 @@
 use Rattle.std.proofs.Common.{◌≡◌, refl, ap, ◌∙◌, ℕ, ℤ, List, [], ◌∷◌, ◌++◌, length, Bool, true, false, cond, Option, Some, None}
 use Rattle.std.specs.Prelude.{is_some, ltb}
 use Rattle.text_base.specs.declared.pos.Pos.{Pos}
-use Rattle.mit_syntax.specs.declared.declarations.TheConstants.{MAX_VARIABLES}
 use Rattle.mit_syntax.specs.Declarations.{Declaration, declared, find_scalar, find_array, elements_in}
 use Rattle.mit_parser.specs.declared.fault.ParseFault.{ParseFault}
 use Rattle.mit_parser.specs.declared.fault.ParseFault.TheVariants.{Unexpected, TooDeep, TooMany, Unknown, Twice, Lattice, Memory, Size, Misuse}
@@ -220,7 +219,7 @@ many_if true n = tt
 many_if false n = tt
 
 pub many_of : (ds : List Declaration) → IsOfNames (many_fault ds)
-many_of ds = many_if (ltb MAX_VARIABLES (length ds)) (length ds)
+many_of ds = many_if (ltb 1024 (length ds)) (length ds)
 
 twice_added : (b : Bool) (names more : List (List ℕ)) (u : Option ParseFault) (p : Pos) → IsOfNames u → IsOfNames (cond {A = Labelled} b (labelled names (kept u (Some (Twice p)))) (labelled more u)).fault
 twice_added true names more u p h = kept_of u (Some (Twice p)) h tt

@@ -5,7 +5,6 @@ use Rattle.std.proofs.lemmas.List.Elements.{All-cons}
 use Rattle.std.proofs.lemmas.Bool.{eqb-false}
 use Rattle.text_base.specs.declared.pos.Pos.{Pos}
 use Rattle.label_lattice.specs.Names.{IsName}
-use Rattle.mit_syntax.specs.declared.declarations.TheConstants.{MAX_ELEMENTS}
 use Rattle.mit_syntax.specs.Declarations.{Declaration, elements_in}
 use Rattle.mit_syntax.specs.Valid.{IsBelow, IsShaped, AreShaped}
 use Rattle.mit_parser.specs.declared.fault.ParseFault.{ParseFault}
@@ -47,7 +46,7 @@ module _ (labels : List (List ℕ)) (some : 0 < length labels) where
       by : (b : Bool) → is_bad_size n (elements_in ds) ≡ b → 0 < size_number n
       by true q = let z = sym (ap (λ b. cond b (Some (Size p)) None) q) ∙ e in cc
       by false q =
-          let z = eqb-false (size_number n) 0 (first (size_number n == 0) (ltb MAX_ELEMENTS (elements_in ds + size_number n)) q) in
+          let z = eqb-false (size_number n) 0 (first (size_number n == 0) (ltb 2048 (elements_in ds + size_number n)) q) in
           omega (arith, z)
 
   shape_good : (ds : List Declaration) (s : Shape) → length_fault ds (shape_length s) ≡ None → IsShaped (written_label labels (shape_label s)) (written_length (shape_length s))

@@ -7,7 +7,6 @@ use Rattle.std.proofs.lemmas.Bool.{cond-true, cond-false, ltb-false}
 use Rattle.indexmap.proofs.MapLemmas.{some_index}
 use Rattle.text_base.specs.declared.pos.Pos.{Pos}
 use Rattle.mit_syntax.specs.declared.declarations.Decl.{Decl}
-use Rattle.mit_syntax.specs.declared.declarations.TheConstants.{MAX_ELEMENTS}
 use Rattle.mit_syntax.specs.Declarations.{Declaration, declared, size_of, elements_in, length_in}
 use Rattle.mit_parser.specs.declared.fault.ParseFault.TheVariants.{Size}
 use Rattle.mit_parser.specs.Faults.{size_number, is_bad_size, length_fault, written_length}
@@ -42,7 +41,7 @@ pub elements_push : (ds : List Declaration) (d : Declaration) → elements_in (d
 elements_push [] d = omega arith
 elements_push (x ∷ ds) d = omega (arith, elements_push ds d)
 
-pub few_after : (ds : List Declaration) (n : Option (ℤ × Pos)) → elements_in ds ≤ MAX_ELEMENTS → length_fault ds n ≡ None → elements_in ds + length_in (written_length n) ≤ MAX_ELEMENTS
+pub few_after : (ds : List Declaration) (n : Option (ℤ × Pos)) → elements_in ds ≤ 2048 → length_fault ds n ≡ None → elements_in ds + length_in (written_length n) ≤ 2048
 few_after ds None h e = omega (arith, h)
 few_after ds (Some n) h e = by (is_bad_size n.0 (elements_in ds)) refl
   where
@@ -50,6 +49,6 @@ few_after ds (Some n) h e = by (is_bad_size n.0 (elements_in ds)) refl
     second true b q = cc
     second false b q = q
 
-    by : (b : Bool) → is_bad_size n.0 (elements_in ds) ≡ b → elements_in ds + size_number n.0 ≤ MAX_ELEMENTS
+    by : (b : Bool) → is_bad_size n.0 (elements_in ds) ≡ b → elements_in ds + size_number n.0 ≤ 2048
     by true q = let z = sym (ap (λ b. cond b (Some (Size n.1)) None) q) ∙ e in cc
-    by false q = ltb-false MAX_ELEMENTS (elements_in ds + size_number n.0) (second (size_number n.0 == 0) (ltb MAX_ELEMENTS (elements_in ds + size_number n.0)) q)
+    by false q = ltb-false 2048 (elements_in ds + size_number n.0) (second (size_number n.0 == 0) (ltb 2048 (elements_in ds + size_number n.0)) q)

@@ -4,7 +4,6 @@ use Rattle.text_base.specs.declared.pos.Pos.{Pos}
 use Rattle.label_lattice.specs.declared.label.Label.{Label}
 use Rattle.label_lattice.specs.Chains.{Chain, IsFault, IsSound}
 use Rattle.mit_syntax.specs.declared.declarations.Decl.{Decl}
-use Rattle.mit_syntax.specs.declared.declarations.TheConstants.{MAX_VARIABLES, MAX_ELEMENTS}
 use Rattle.mit_syntax.specs.Declarations.{Declaration, declared, elements_in}
 use Rattle.mit_parser.specs.declared.fault.ParseFault.{ParseFault}
 use Rattle.mit_parser.specs.declared.fault.ParseFault.TheVariants.{Unexpected, TooDeep, TooMany, Unknown, Twice, Lattice, Memory, Size, Misuse}
@@ -168,7 +167,7 @@ size_number (negsuc n) = 0
 
 -- the length is 0, or with it the lengths so far pass the limit
 abbrev pub is_bad_size : ℤ → ℕ → Bool
-is_bad_size n elements = (size_number n == 0) || ltb MAX_ELEMENTS (elements + size_number n)
+is_bad_size n elements = (size_number n == 0) || ltb 2048 (elements + size_number n)
 
 abbrev pub length_fault : List Declaration → Option (ℤ × Pos) → Option ParseFault
 length_fault ds None = None
@@ -222,7 +221,7 @@ abbrev pub declared_by : List (List ℕ) → Declarations → Declared
 declared_by labels m = declare_all labels m (declaring [] None)
 
 abbrev pub many_fault : List Declaration → Option ParseFault
-many_fault ds = cond (ltb MAX_VARIABLES (length ds)) (Some (TooMany (length ds))) None
+many_fault ds = cond (ltb 1024 (length ds)) (Some (TooMany (length ds))) None
 
 -- the first fault of the declarations and the commands
 abbrev pub body_fault : ProgramTree → Option ParseFault

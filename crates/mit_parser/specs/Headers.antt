@@ -4,7 +4,6 @@ use Rattle.text_base.specs.declared.pos.Pos.{Pos}
 use Rattle.label_lattice.specs.declared.label.Label.{Label}
 use Rattle.label_lattice.specs.Order.{Order}
 use Rattle.label_lattice.specs.Chains.{IsBuilt}
-use Rattle.mit_syntax.specs.declared.declarations.TheConstants.{MAX_VARIABLES}
 use Rattle.mit_syntax.specs.Declarations.{Declaration}
 use Rattle.mit_parser.specs.declared.fault.ParseFault.{ParseFault}
 use Rattle.mit_parser.specs.Words.{Told, name_at}
@@ -109,4 +108,4 @@ pub record AreVariables (labels : List (List ℕ)) (variables : List Declaration
   pub mid : State
   pub read : AreDeclarations labels list old mid
   pub tested : new ≡ with_fault mid (kept mid.fault (many_fault list))
-  pub given : length list ≤ MAX_VARIABLES → variables ≡ list
+  pub given : length list ≤ 1024 → variables ≡ list

@@ -1,6 +1,5 @@
 -- The sum of lengths that is kept beside the declarations.
 use Rattle.std.specs.Prelude.{◌≡◌, ◌≤◌, List}
-use Rattle.mit_syntax.specs.declared.declarations.TheConstants.{MAX_ELEMENTS}
 use Rattle.mit_syntax.specs.Declarations.{Declaration, elements_in}
 use Rattle.mit_parser.specs.declared.declarations.Table.TheInside.{Inside}
 
@@ -9,4 +8,4 @@ entries_of t = t.entries.entries
 
 pub record IsSummed (t : Inside) : Type 0 where
   pub sum : t.elements ≡ elements_in (entries_of t)
-  pub few : t.elements ≤ MAX_ELEMENTS
+  pub few : t.elements ≤ 2048

@@ -4,7 +4,6 @@ use Rattle.std.proofs.Common.{zero, suc}
 use Rattle.std.specs.Str.{bytes_eq}
 use Rattle.label_lattice.specs.declared.label.Label.{Label}
 use Rattle.mit_syntax.specs.declared.declarations.Decl.{Decl}
-use Rattle.mit_syntax.specs.declared.declarations.TheConstants.{MAX_VARIABLES, MAX_ELEMENTS}
 
 -- a name's bytes, and what is declared of it
 abbrev pub Declaration : Type 0
@@ -101,5 +100,5 @@ first_of (d ∷ ds) (suc k) = size_of d.1 + first_of ds k
 
 -- the limits that keep each number of a variable small
 pub record AreFew (ds : List Declaration) : Type 0 where
-  pub count : length ds ≤ MAX_VARIABLES
-  pub elements : elements_in ds ≤ MAX_ELEMENTS
+  pub count : length ds ≤ 1024
+  pub elements : elements_in ds ≤ 2048

@@ -8,7 +8,6 @@ use Rattle.label_lattice.specs.Order.{Order, name_of, AllDiffer}
 use Rattle.mit_syntax.specs.declared.token.Keyword.TheVariants.{Labels, Order as OrderKey, Var}
 use Rattle.mit_syntax.specs.declared.token.Sign.TheVariants.{Colon, Semicolon, Comma, Less, LeftSquare, RightSquare}
 use Rattle.mit_syntax.specs.Chunks.{Chunk, number}
-use Rattle.mit_syntax.specs.declared.declarations.TheConstants.{MAX_ELEMENTS}
 use Rattle.mit_syntax.specs.Declarations.{Declaration, declared, length_in, elements_in}
 use Rattle.mit_syntax.specs.Valid.{IsBelow, IsShaped}
 use Rattle.mit_syntax.specs.Layout.{a_name, listed, more_listed, end_line, pair_part, labels_part, order_part, declaration_part, declarations_part}
@@ -46,7 +45,7 @@ pub record IsNew (n : ℕ) (done : List Declaration) (d : Declaration) : Type 0 
   pub fresh : declared done d.0 ≡ None
   pub label : IsBelow n d.1.label
   pub shape : IsShaped d.1.label d.1.length
-  pub few : elements_in done + length_in d.1.length ≤ MAX_ELEMENTS
+  pub few : elements_in done + length_in d.1.length ≤ 2048
 
 abbrev pub AreNew : ℕ → List Declaration → List Declaration → Type 0
 AreNew n done [] = Unit {0}
@@ -59,7 +58,7 @@ elements_more (x ∷ done) d = let h = elements_more done d in omega (arith, h)
 abbrev names_of : List Declaration → List (List ℕ)
 names_of ds = map (λ (d : Declaration). d.0) ds
 
-pub are_new : (n : ℕ) (done ds : List Declaration) → AllDiffer (names_of (done ++ ds)) → Every (λ (d : Declaration). IsBelow n d.1.label × IsShaped d.1.label d.1.length) ds → elements_in done + elements_in ds ≤ MAX_ELEMENTS → AreNew n done ds
+pub are_new : (n : ℕ) (done ds : List Declaration) → AllDiffer (names_of (done ++ ds)) → Every (λ (d : Declaration). IsBelow n d.1.label × IsShaped d.1.label d.1.length) ds → elements_in done + elements_in ds ≤ 2048 → AreNew n done ds
 are_new n done [] h k f = tt
 are_new n done (d ∷ ds) h k f =
     let grouped : (done ++ d ∷ []) ++ ds ≡ done ++ d ∷ ds = append_assoc done (d ∷ []) ds in
@@ -74,7 +73,7 @@ are_new n done (d ∷ ds) h k f =
       are_new n (done ++ d ∷ []) ds (subst (λ (z : List Declaration). AllDiffer (names_of z)) (sym grouped) h) k.1 (omega (arith, f, m)),
     )
 
-size_good : (k e : ℕ) → 0 < k → e + k ≤ MAX_ELEMENTS → ((k == 0) || ltb MAX_ELEMENTS (e + k)) ≡ false
+size_good : (k e : ℕ) → 0 < k → e + k ≤ 2048 → ((k == 0) || ltb 2048 (e + k)) ≡ false
 size_good k e h f = grind arith
 
 module _ (o : Order) (label_found : (n : ℕ) → n < o.size → find_label o.names (name_of o n) ≡ Some n) where

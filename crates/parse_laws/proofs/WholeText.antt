@@ -8,7 +8,6 @@ use Rattle.label_lattice.specs.Lattice.{Flows, IsLattice}
 use Rattle.label_lattice.specs.Order.{Order, IsOrder, lattice_of, name_of}
 use Rattle.label_lattice.specs.Chains.{Chain, IsSound, IsBuilt}
 use Rattle.label_lattice.proofs.Orders.{order_is, join_below}
-use Rattle.mit_syntax.specs.declared.declarations.TheConstants.{MAX_VARIABLES, MAX_ELEMENTS}
 use Rattle.mit_syntax.specs.Lexemes.{IsName}
 use Rattle.mit_syntax.specs.Chunks.{Chunk, line}
 use Rattle.mit_syntax.specs.Declarations.{Declaration, cell_at, find_scalar, find_array, length_in, elements_in}
@@ -75,16 +74,16 @@ both : {X : Type 0} (P Q : X → Type 0) (xs : List X) → Every P xs → Every 
 both P Q [] h k = tt
 both P Q (x ∷ xs) h k = ((h.0, k.0), both P Q xs h.1 k.1)
 
-small : (n : Option ℕ) → length_in n ≤ MAX_ELEMENTS → IsLengthSmall n
+small : (n : Option ℕ) → length_in n ≤ 2048 → IsLengthSmall n
 small None h = tt
 small (Some n) h = omega (arith, h)
 
-writable : (n : ℕ) (ds : List Declaration) → Every (λ (d : Declaration). IsName d.0 × IsBelow n d.1.label) ds → elements_in ds ≤ MAX_ELEMENTS → Every (IsWritable n) ds
+writable : (n : ℕ) (ds : List Declaration) → Every (λ (d : Declaration). IsName d.0 × IsBelow n d.1.label) ds → elements_in ds ≤ 2048 → Every (IsWritable n) ds
 writable n [] h k = tt
 writable n (d ∷ ds) h k = (record { name = h.0.0; label = h.0.1; length = small d.1.length (omega (arith, k)) }, writable n ds h.1 (omega (arith, k)))
 
-not_many : (ds : List Declaration) → length ds ≤ MAX_VARIABLES → many_fault ds ≡ None
-not_many ds h = ap (λ b. cond b (Some (TooMany (length ds))) None) (le-ltb MAX_VARIABLES (length ds) h)
+not_many : (ds : List Declaration) → length ds ≤ 1024 → many_fault ds ≡ None
+not_many ds h = ap (λ b. cond b (Some (TooMany (length ds))) None) (le-ltb 1024 (length ds) h)
 
 module _ (s : Syntax) (v : IsValid s) where
   abbrev o : Order

@@ -15,7 +15,6 @@ use Rattle.parse_laws.proofs.Meant.{program_spelled}
 use Rattle.start_file.specs.Starts.{StartValue, Gives}
 use Rattle.start_file.proofs.OneAnswer.{one_answer}
 use Rattle.timing_types.specs.Labelled.{LabelledProgram}
-use Rattle.code_lower.specs.declared.lower.TheConstants.{MAX_INSTRUCTIONS}
 use Rattle.code_lower.specs.Lowered.{lowered}
 use Rattle.type_cert.specs.Certificate.{IsCertificate}
 use Rattle.black_box.specs.Files.{refusal}
@@ -90,7 +89,7 @@ observer_goes o w l s t k h = not_unknown o w l k (observer_stops o w s t h).1
 pub typing_goes : (p : Syntax) (s : Status) (t : List ℕ) → IsTypable p → TypeStops p s t → ⊥
 typing_goes p s t k h = (type_stops p s t h).1.none k.0 k.1 k.2
 
-pub image_goes : (q : LabelledProgram) (s : Status) (t : List ℕ) → length (lowered q).instrs ≤ MAX_INSTRUCTIONS → ImageStops q s t → ⊥
+pub image_goes : (q : LabelledProgram) (s : Status) (t : List ℕ) → length (lowered q).instrs ≤ 200000 → ImageStops q s t → ⊥
 image_goes q s t k h = let more = (image_stops q s t h).1 in omega (arith, more, k)
 
 -- ---- starts

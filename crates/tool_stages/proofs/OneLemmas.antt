@@ -19,7 +19,6 @@ use Rattle.timing_types.specs.Labelled.{LabelledProgram, HasType, first_broken_o
 use Rattle.timing_types.specs.declared.rule.TypeFault.TheVariants.{Refused as BrokenAt}
 use Rattle.label_infer.proofs.OneLeast.{one_least, one_labelled}
 use Rattle.label_code.specs.Shaped.{Code}
-use Rattle.code_lower.specs.declared.lower.TheConstants.{MAX_INSTRUCTIONS}
 use Rattle.code_lower.specs.Lowered.{lowered}
 use Rattle.type_cert.specs.Certificate.{IsFirstWrong}
 use Rattle.type_cert.proofs.FirstWrong.{one_wrong}
@@ -163,7 +162,7 @@ one_image_stop q s u t x h k =
 pub image_or_not : (q : LabelledProgram) (code : Code) (s : Status) (t : List ℕ) → HasImage q code → ImageStops q s t → ⊥
 image_or_not q code s t k h =
     let is : code ≡ lowered q = k.0 in
-    let short : length (lowered q).instrs ≤ MAX_INSTRUCTIONS = subst (λ (z : Code). length z.instrs ≤ MAX_INSTRUCTIONS) is k.1 in
+    let short : length (lowered q).instrs ≤ 200000 = subst (λ (z : Code). length z.instrs ≤ 200000) is k.1 in
     image_goes q s t short h
 
 -- ---- starts

@@ -4,7 +4,6 @@ use Rattle.tim_base.specs.Told.{IsTooLong}
 use Rattle.label_lattice.specs.Order.{Order}
 use Rattle.mit_syntax.specs.Program.{Syntax}
 use Rattle.timing_types.specs.Labelled.{LabelledProgram}
-use Rattle.code_lower.specs.declared.lower.TheConstants.{MAX_INSTRUCTIONS}
 use Rattle.code_lower.specs.Lowered.{lowered}
 use Rattle.tool_texts.specs.declared.status.Status.{Status}
 use Rattle.tool_texts.specs.declared.status.Status.TheVariants as status
@@ -118,7 +117,7 @@ type_stops p status.Unfinished t h = absurd h
 type_stops p status.Memory t h = absurd h
 type_stops p status.Rejected t h = absurd h
 
-pub image_stops : (q : LabelledProgram) (s : Status) (t : List ℕ) → ImageStops q s t → (s ≡ status.TooLong) × (MAX_INSTRUCTIONS < length (lowered q).instrs) × (t ≡ number_line (codes "too long: image ") (length (lowered q).instrs))
+pub image_stops : (q : LabelledProgram) (s : Status) (t : List ℕ) → ImageStops q s t → (s ≡ status.TooLong) × (200000 < length (lowered q).instrs) × (t ≡ number_line (codes "too long: image ") (length (lowered q).instrs))
 image_stops q status.Done t h = absurd h
 image_stops q status.Refused t h = absurd h
 image_stops q status.Syntax t h = absurd h

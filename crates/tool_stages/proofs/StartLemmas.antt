@@ -11,7 +11,6 @@ use Rattle.start_file.specs.declared.start.Start.{Start}
 use Rattle.start_file.specs.declared.version.Version.{Version}
 use Rattle.start_file.specs.Tables.{keys_pass, count_items}
 use Rattle.start_file.specs.Versions.{version_of}
-use Rattle.start_file.specs.declared.starts.TheConstants.{MAX_RUNS}
 use Rattle.start_file.specs.Starts.{StartValue, seen, is_top_key, with_first, run_of, runs_from, counted_runs, runs_of, versioned, starts_in, IsFor}
 use Rattle.tool_texts.specs.declared.stop.Stop.{Stop}
 use Rattle.tool_texts.specs.Ends.{IsStop, status_of, stop_text}
@@ -50,9 +49,9 @@ as_many : (p : Syntax) (v : Version) (n : ℕ) (ds : Items) (ss : List StartValu
 as_many p v n no_items ss e = let same : ss ≡ [] = cc in ap length same
 as_many p v n (item d ds) ss e = one_more ss (run_of p v n d) (runs_from p v (n + 1) ds) (count_items ds) (λ rest k. as_many p v (n + 1) ds rest k) e
 
--- there are 1 to `MAX_RUNS`
+-- there are 1 to 4,096
 abbrev IsCounted : List StartValue → Type 0
-IsCounted ss = (0 < length ss) × (length ss ≤ MAX_RUNS)
+IsCounted ss = (0 < length ss) × (length ss ≤ 4096)
 
 some_counted : (p : Syntax) (v : Version) (ds : Items) (ss : List StartValue) → Ok ss ≡ counted_runs p v ds → IsCounted ss
 some_counted p v no_items ss e = absurd cc
@@ -83,7 +82,7 @@ some_starts p None ss e = absurd cc
 some_starts p (Some ms) ss e = some_versioned p (version_of (get_member (codes "version") ms)) ms ss e
 
 -- how many starts there are
-pub count_given : (content : Option (Option (List ℕ))) (p : Syntax) (ss : List StartValue) → StartsAre content p ss → (0 < length ss) × (length ss ≤ MAX_RUNS)
+pub count_given : (content : Option (Option (List ℕ))) (p : Syntax) (ss : List StartValue) → StartsAre content p ss → (0 < length ss) × (length ss ≤ 4096)
 count_given content p ss h = some_starts p h.3.0 ss h.3.2
 
 pub some_given : (content : Option (Option (List ℕ))) (p : Syntax) (ss : List Start) → StartsAre content p (map seen ss) → 0 < length ss

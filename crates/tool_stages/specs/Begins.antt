@@ -5,7 +5,6 @@ use Rattle.mit_syntax.specs.Program.{Syntax}
 use Rattle.timing_types.specs.Labelled.{LabelledProgram}
 use Rattle.label_code.specs.Shaped.{Code}
 use Rattle.code_lower.specs.Lowered.{lowered}
-use Rattle.start_file.specs.declared.starts.TheConstants.{MAX_RUNS}
 use Rattle.start_file.specs.Starts.{StartValue, IsFor}
 use Rattle.tool_texts.specs.declared.status.Status.{Status}
 use Rattle.tool_stages.specs.Stages.{Then, Reads, ProgramStops, Observes, ObserverStops, Types, TypeStops, HasImage, ImageStops, StartsAre, StartStops, FirstStart, FirstStops}
@@ -65,7 +64,7 @@ pub record CanAudit (q : LabelledProgram) (l : Label) (code : Code) (ss : List S
   pub image : code ≡ lowered q
   pub observer : l.number < q.program.order.size
   pub some : 0 < length ss
-  pub few : length ss ≤ MAX_RUNS
+  pub few : length ss ≤ 4096
   pub starts : All (IsFor q.program) ss
 
 -- ---- what stops a command before that

@@ -6,10 +6,8 @@ use Rattle.mit_syntax.specs.Program.{Syntax}
 use Rattle.timing_types.specs.Labelling.{Labelling}
 use Rattle.timing_types.specs.Labelled.{LabelledProgram, HasType}
 use Rattle.label_infer.specs.Least.{Labels}
-use Rattle.code_lower.specs.declared.lower.TheConstants.{MAX_INSTRUCTIONS}
 use Rattle.code_lower.specs.Lowered.{lowered}
 use Rattle.leak_bound.specs.Records.{Pairwise}
-use Rattle.audit_parts.specs.declared.survey.TheConstants.{MAX_SHOWN}
 use Rattle.audit_parts.specs.Agreement.{AgreeFor, starts_of}
 use Rattle.audit_parts.specs.Surveyed.{shown_by_all}
 use Rattle.part_tlb.specs.Histories.{part_by_history, part2_by_history}
@@ -28,7 +26,7 @@ IsTypable p = (l : Labelling) × Labels p l × HasType (record { program = p; la
 
 -- some labelling types the program, and the image of its least labelling is not too long
 abbrev pub CanLower : Syntax → (LabelledProgram → Type 0) → Type 0
-CanLower p Next = IsTypable p × ((q : LabelledProgram) → Types p q → (length (lowered q).instrs ≤ MAX_INSTRUCTIONS) × Next q)
+CanLower p Next = IsTypable p × ((q : LabelledProgram) → Types p q → (length (lowered q).instrs ≤ 200000) × Next q)
 
 -- The file's text spells a program, and an observer that is named is one of its labels. There is one such program at
 -- most, and one such label.
@@ -61,7 +59,7 @@ shown_in Part2 q o t ss = shown_by_all (part2_by_history q.program.order) q o t 
 -- they agree, and show few enough
 pub record CanCut (e : EnvName) (t : ℕ) (q : LabelledProgram) (o : ℕ) (ss : List StartValue) : Type 0 where
   pub agree : AgreeIn e q o ss
-  pub few : shown_in e q o t ss ≤ MAX_SHOWN
+  pub few : shown_in e q o t ss ≤ 16777216
 
 -- and all have halted by T
 pub record CanBeAudited (e : EnvName) (t : ℕ) (q : LabelledProgram) (o : ℕ) (ss : List StartValue) : Type 0 where

@@ -24,7 +24,6 @@ use Rattle.timing_types.specs.Labelling.{Labelling}
 use Rattle.timing_types.specs.Labelled.{LabelledProgram, HasType, first_broken_of}
 use Rattle.label_infer.specs.Least.{Labels, IsLeast}
 use Rattle.label_code.specs.Shaped.{Code}
-use Rattle.code_lower.specs.declared.lower.TheConstants.{MAX_INSTRUCTIONS}
 use Rattle.code_lower.specs.Lowered.{lowered}
 use Rattle.type_cert.specs.Certificate.{IsCertificate, IsFirstWrong}
 use Rattle.black_box.specs.declared.fault.ReadyFault.{ReadyFault}
@@ -122,10 +121,10 @@ TypeStops p _ t = ⊥
 -- ---- an image
 
 abbrev pub HasImage : LabelledProgram → Code → Type 0
-HasImage q code = (code ≡ lowered q) × (length code.instrs ≤ MAX_INSTRUCTIONS)
+HasImage q code = (code ≡ lowered q) × (length code.instrs ≤ 200000)
 
 abbrev pub ImageStops : LabelledProgram → Status → List ℕ → Type 0
-ImageStops q status.TooLong t = (MAX_INSTRUCTIONS < length (lowered q).instrs) × (t ≡ number_line (codes "too long: image ") (length (lowered q).instrs))
+ImageStops q status.TooLong t = (200000 < length (lowered q).instrs) × (t ≡ number_line (codes "too long: image ") (length (lowered q).instrs))
 ImageStops q _ t = ⊥
 
 -- ---- starts
