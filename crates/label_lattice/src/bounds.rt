@@ -57,7 +57,8 @@ pub fn join_of(flows: &Flows, size: u32, a: u32, b: u32) -> Option<u32>
 /// A label to which no other label flows.
 pub fn lowest(flows: &Flows, size: u32) -> Option<u32>
     requires size { size ≤ MAX_LABELS }
-    ensures { MatchOption result ((a : ℕ) → a < size → IsLowest size (IsSet flows.now) a → ⊥) (λ a. (a < size) × IsLowest size (IsSet flows.now) a) }
+    ensures { MatchOption result ((a : ℕ) → a < size → IsLowest size (IsSet flows.now) a → ⊥)
+        (λ a. (a < size) × IsLowest size (IsSet flows.now) a) }
 {
     for a in 0..size {
         if is_lowest(flows, size, a) {

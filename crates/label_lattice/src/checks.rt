@@ -36,7 +36,9 @@ fn is_refused(check: Check, flows: &Flows, size: u32, a: u32, b: u32) -> bool
 fn first_above(check: Check, flows: &Flows, size: u32, a: u32) -> Option<u32>
     requires size { size ≤ MAX_LABELS }
     requires a { a < size }
-    ensures { MatchOption result ((d : ℕ) → a < d → d < size → IsRefused check size (IsSet flows.now) a d → ⊥) (λ b. (a < b) × (b < size) × IsRefused check size (IsSet flows.now) a b × ((d : ℕ) → a < d → d < b → IsRefused check size (IsSet flows.now) a d → ⊥)) }
+    ensures { MatchOption result ((d : ℕ) → a < d → d < size → IsRefused check size (IsSet flows.now) a d → ⊥)
+        (λ b. (a < b) × (b < size) × IsRefused check size (IsSet flows.now) a b
+        × ((d : ℕ) → a < d → d < b → IsRefused check size (IsSet flows.now) a d → ⊥)) }
 {
     for b in a + 1..size {
         if is_refused(check, flows, size, a, b) {
@@ -49,7 +51,8 @@ fn first_above(check: Check, flows: &Flows, size: u32, a: u32) -> Option<u32>
 /// The first two labels that are refused.
 pub fn first_pair(check: Check, flows: &Flows, size: u32) -> Option<(Label, Label)>
     requires size { size ≤ MAX_LABELS }
-    ensures { MatchOption result (IsNoPair size (IsRefused check size (IsSet flows.now))) (λ p. IsFirstPair size (IsRefused check size (IsSet flows.now)) p.0.number p.1.number) }
+    ensures { MatchOption result (IsNoPair size (IsRefused check size (IsSet flows.now)))
+        (λ p. IsFirstPair size (IsRefused check size (IsSet flows.now)) p.0.number p.1.number) }
 {
     for a in 0..size {
         if let Some(b) = first_above(check, flows, size, a) {

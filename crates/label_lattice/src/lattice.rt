@@ -1,6 +1,6 @@
 //! Lattices of labels.
 
-ghost use Rattle.std.specs.Prelude.{◌≡◌, ◌<◌, ◌≤◌, ◌^◌, ℕ, List, length, All, MatchOption, IfOk, IfErr};
+ghost use Rattle.std.specs.Prelude.{◌≡◌, ◌<◌, ◌≤◌, ◌^◌, ℕ, List, length, All, MatchBool, MatchOption, IfOk, IfErr};
 ghost use Rattle.label_lattice.specs.Names.{IsName};
 ghost use Rattle.label_lattice.specs.Lattice.{IsLattice};
 ghost use Rattle.label_lattice.specs.Order.{Order, lattice_of, name_of, AllDiffer, IsOrder, count_not_below};
@@ -58,8 +58,15 @@ fn are_names(names: &[Name])
     ensures { All IsName names.now }
 {
     for name in names {
-        let _ = name.bytes();
+        name.laws();
     }
+}
+
+// Whether there are more labels than a lattice may have.
+fn are_too_many(size: u32) -> bool
+    ensures { MatchBool result (32 < size) (size ≤ 32) }
+{
+    size > MAX_LABELS
 }
 
 impl Lattice {
@@ -81,7 +88,7 @@ impl Lattice {
         ensures fault { IfErr result (IsFault (length names.now) (Chain pairs.now)) }
     {
         let size = names.len() as u32;
-        if size > MAX_LABELS {
+        if are_too_many(size) {
             return Err(LatticeFault::TooMany(size));
         }
         are_names(names);
@@ -134,7 +141,8 @@ impl Lattice {
 
     /// The label with a name, or `None` where no label has it.
     pub fn find(&self, name: &Name) -> Option<Label>
-        ensures { MatchOption result ((k : ℕ) → k < self.now.size → name_of self.now k ≡ name.now → ⊥) (λ a. (a.number < self.now.size) × (name_of self.now a.number ≡ name.now)) }
+        ensures { MatchOption result ((k : ℕ) → k < self.now.size → name_of self.now k ≡ name.now → ⊥)
+            (λ a. (a.number < self.now.size) × (name_of self.now a.number ≡ name.now)) }
     {
         for number in 0..self.size {
             let label = Label::new(number as u8);

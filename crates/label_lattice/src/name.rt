@@ -59,6 +59,13 @@ impl Name {
         })
     }
 
+    /// Says nothing at run time: what is true of every name.
+    pub fn laws(&self)
+        ensures { IsName self.now }
+    {
+        let _ = &self.len;
+    }
+
     /// The name's bytes.
     pub fn bytes(&self) -> &[u8]
         ensures value { result.now ≡ self.now }
