@@ -5,7 +5,7 @@ use Rattle.std.proofs.lemmas.List.{get_or_append_left, get_or-append-add, get_or
 use Rattle.std.proofs.lemmas.Bool.{cases_lt}
 use Rattle.std.proofs.lemmas.Option.{none-some, same_Some}
 use Rattle.label_lattice.specs.declared.label.Label.{Label}
-use Rattle.mit_syntax.specs.Declarations.{Declaration, Cell, elements, cells_of, cells, cell_at, cell_of, place_in, size_in, size_of, length_in, elements_in, variables, first_of}
+use Rattle.mit_syntax.specs.Declarations.{Declaration, Cell, elements, cells_of, cells, cell_at, cell_of, place_in, size_in, size_of, length_in, elements_in, variables, first_of, AreFew}
 
 pub length-elements : (w : List ℕ) (l : Option Label) (i n : ℕ) → length (elements w l i n) ≡ n
 length-elements w l i zero = refl
@@ -57,6 +57,14 @@ first_all (d ∷ ds) =
     let s = length-cells_of d.0 d.1.label d.1.length in
     let a = length-append (cells_of d.0 d.1.label d.1.length) (cells ds) in
     omega (arith, r, s, a)
+
+pub few_cells : (ds : List Declaration) → AreFew ds → variables ds ≤ 3072
+few_cells ds few =
+    let b = first_bound ds (length ds) in
+    let a = first_all ds in
+    let c : length ds ≤ 1024 = few.count in
+    let e : elements_in ds ≤ 2048 = few.elements in
+    omega (arith, b, a, c, e)
 
 pub cell_in : (ds : List Declaration) (k i : ℕ) (d : Declaration) (c : Cell) → slice_get ds k ≡ Some d → i < size_of d.1 → get_or (cells ds) (first_of ds k + i) c ≡ cell_of d.0 d.1 i
 cell_in [] k i d c e h = absurd (none-some d e)

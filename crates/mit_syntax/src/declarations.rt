@@ -14,6 +14,12 @@ pub const MAX_VARIABLES: u32 = 1024;
 /// The most that the lengths of all arrays may sum up to.
 pub const MAX_ELEMENTS: u32 = 2048;
 
+/// The most variables that a program may have, each element of an array counted.
+pub const MAX_CELLS: u32 = MAX_VARIABLES + MAX_ELEMENTS;
+
+/// How many numbers are kept beside the declarations: one for each, and that of all variables.
+const FIRSTS: usize = MAX_VARIABLES as usize + 1;
+
 /// A declaration: the label where it is written, and the length of an array.
 #[derive(Clone, Copy, Debug, PartialEq, Eq)]
 pub struct Decl {
@@ -37,7 +43,7 @@ fn size_of(decl: Decl) -> u32
 pub struct Variables {
     table: IndexMap<Name, Decl>,
     /// The number of the first variable of each declaration, and then the number of all variables.
-    firsts: [u32; 1025],
+    firsts: [u32; FIRSTS],
 }
 
 impl Model for Variables {
@@ -69,7 +75,7 @@ impl Variables {
         requires { AreFew table.entries }
         ensures { result ≡ table.entries }
     {
-        let mut firsts = [0; 1025];
+        let mut firsts = [0; FIRSTS];
         let mut next = 0;
         for k in 0..table.len() {
             firsts[k] = next;

@@ -4,8 +4,8 @@ ghost use Rattle.mit_syntax.specs.declared.fault.TextFault.TheVariants.{Memory};
 ghost use Rattle.std.specs.Prelude.{◌≡◌};
 
 use std::alloc::{AllocError, AllocFailed};
-use thiserror::Error;
 use text_base::pos::Pos;
+use thiserror::Error;
 
 /// Why a text has no tokens. The numbers of the errors are the order of the variants.
 #[derive(Clone, Copy, Debug, PartialEq, Eq, Error)]

@@ -1,6 +1,6 @@
 //! The longest token at the front of a text.
 
-ghost use Rattle.std.specs.Prelude.{◌≡◌, ◌≢◌, ℕ, ◌<◌, ◌≤◌, true, false, length, slice_index, MatchResult, MatchOption};
+ghost use Rattle.std.specs.Prelude.{◌≡◌, ◌≢◌, ℕ, ◌<◌, ◌≤◌, true, false, length, slice_index, MatchBool, MatchResult, MatchOption};
 ghost use Rattle.std.specs.Char.{is_ascii_digit, is_ascii_alphabetic};
 ghost use Rattle.mit_syntax.specs.declared.token.Keyword.{Keyword};
 ghost use Rattle.mit_syntax.specs.Lexemes.{is_name_byte, key_text, IsNoKeyword, value, Each};
@@ -9,7 +9,7 @@ ghost use Rattle.mit_syntax.specs.TokenSteps.{IsToken, HasFlaw, second_is_equal,
 use crate::token::{Keyword, Sign, TokenKind};
 
 /// The greatest value of a number.
-const MAX_NUMBER: u64 = 9223372036854775807;
+const MAX_LITERAL: u64 = 9223372036854775807;
 
 /// The greatest length of a name, in bytes.
 const MAX_NAME: usize = 32;
@@ -62,12 +62,12 @@ fn digits_len(text: &[u8]) -> usize
 /// The value of digits, if it is not too large.
 fn number_of(digits: &[u8]) -> Option<u64>
     requires { Each is_ascii_digit digits.now }
-    ensures { MatchOption result (MAX_NUMBER < value digits.now) (λ n. (n ≡ value digits.now) × (n ≤ MAX_NUMBER)) }
+    ensures { MatchOption result (MAX_LITERAL < value digits.now) (λ n. (n ≡ value digits.now) × (n ≤ MAX_LITERAL)) }
 {
     let mut n: u64 = 0;
     for b in digits {
         let digit = u64::from(*b - b'0');
-        if n > (MAX_NUMBER - digit) / 10 {
+        if n > (MAX_LITERAL - digit) / 10 {
             return None;
         }
         n = 10 * n + digit;
@@ -110,6 +110,13 @@ pub fn lexeme(text: &[u8]) -> Result<(TokenKind, usize), Flaw>
     sign(text)
 }
 
+// Whether a word has more bytes than a name may have.
+fn is_too_long(n: usize) -> bool
+    ensures { MatchBool result (32 < n) (n ≤ 32) }
+{
+    n > MAX_NAME
+}
+
 fn word(text: &[u8]) -> Result<(TokenKind, usize), Flaw>
     requires some { 0 < length text.now }
     requires letter { is_ascii_alphabetic (slice_index text.now 0) ≡ true }
@@ -120,7 +127,7 @@ fn word(text: &[u8]) -> Result<(TokenKind, usize), Flaw>
     if let Some(key) = keyword_of(spelled) {
         return Ok((TokenKind::Key(key), n));
     }
-    if n > MAX_NAME {
+    if is_too_long(n) {
         return Err(Flaw::Long);
     }
     Ok((TokenKind::Name, n))

@@ -6,6 +6,7 @@ mod count;
 pub mod declarations;
 pub mod fault;
 mod lexeme;
+pub mod limits;
 pub mod print;
 pub mod program;
 #[cfg(test)]

@@ -1,6 +1,6 @@
 //! Programs.
 
-ghost use Rattle.std.specs.Prelude.{◌≡◌, ◌<◌};
+ghost use Rattle.std.specs.Prelude.{◌≡◌, ◌<◌, ◌≤◌};
 ghost use Rattle.mit_syntax.specs.Declarations.{cell_at, variables, find_scalar, find_array};
 ghost use Rattle.mit_syntax.specs.Plan.{count, mitigates, list_plan};
 ghost use Rattle.mit_syntax.specs.Program.{syntax, plan_of};
@@ -65,6 +65,14 @@ impl Program {
             commands,
             mitigates,
         }
+    }
+
+    /// Says nothing at run time: what is true of every program.
+    pub fn laws(&self)
+        ensures valid { IsValid self.now }
+        ensures cells { variables self.now.declarations ≤ 3072 }
+    {
+        let _ = &self.body;
     }
 
     /// The labels and their order.

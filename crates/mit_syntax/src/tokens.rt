@@ -1,6 +1,7 @@
 //! From a text to its tokens, in one pass.
 
-ghost use Rattle.std.specs.Prelude.{◌≡◌, ◌+◌, ◌^◌, ◌<◌, ◌≤◌, ℕ, true, false, length, take, drop, slice_index, MatchResult, MatchBool, IsUtf8, List};
+ghost use Rattle.std.specs.Prelude.{◌≡◌, ◌+◌, ◌^◌, ◌<◌, ◌≤◌, ℕ, List, length, take, drop, slice_index};
+ghost use Rattle.std.specs.Prelude.{true, false, MatchResult, MatchBool, IsUtf8};
 ghost use Rattle.mit_syntax.specs.declared.fault.TextFault.TheVariants.{Memory};
 ghost use Rattle.mit_syntax.specs.declared.token.Token.{Token};
 ghost use Rattle.mit_syntax.specs.Lexemes.{is_white, Each};
@@ -194,7 +195,8 @@ impl Token {
 pub fn tokens(alloc: Global, text: &[u8]) -> Result<Vec<Token>, TextFault>
     requires { length text.now < 2 ^ 31 }
     ensures answer { MatchResult result (λ v. AreTokens text.now v.items) (IsFault text.now) }
-    ensures only { MatchResult result (λ v. (others : List Token) → AreTokens text.now others → others ≡ v.items) (λ e. (others : List Token) → AreTokens text.now others → e ≡ Memory) }
+    ensures only { MatchResult result (λ v. (others : List Token) → AreTokens text.now others → others ≡ v.items)
+        (λ e. (others : List Token) → AreTokens text.now others → e ≡ Memory) }
 {
     match std::str::from_utf8(text) {
         Ok(_) => cut(alloc, text),

@@ -9,6 +9,7 @@ ghost use Rattle.mit_syntax.specs.Layout.{Puts, marks_part, level_part, separato
 
 use crate::ast::{Command, Form};
 use crate::declarations::Variables;
+use crate::limits::MAX_DEPTH;
 use crate::print::chunks::{
     put_comma, put_key, put_name, put_new_line, put_sign, put_space, put_spaced, put_spaced_key,
 };
@@ -165,7 +166,7 @@ fn put_block(
     depth: u32,
 ) -> Result<(), AllocError>
     requires printable { IsPrintable labels.now.size variables.now (depth + 1) (list_plan list.now) }
-    requires shallow { depth < 100 }
+    requires shallow { depth < MAX_DEPTH }
     ensures { OnOk result (Puts out.old.items out.new.items (in_braces depth (commands_part labels.now variables.now (depth + 1) (list_plan list.now)))) }
 {
     put_sign(out, Sign::LeftBrace)?;

@@ -4,7 +4,8 @@ ghost use Rattle.std.specs.Prelude.{◌≡◌, ◌<◌, OnOk, All};
 ghost use Rattle.label_lattice.specs.Chains.{AreBelow};
 ghost use Rattle.label_lattice.specs.Order.{name_of};
 ghost use Rattle.mit_syntax.specs.Valid.{IsBelow};
-ghost use Rattle.mit_syntax.specs.Layout.{Puts, a_name, comma_before, listed, pair_part, end_line, labels_part, order_part, length_part, label_part, declaration_part, declarations_part};
+ghost use Rattle.mit_syntax.specs.Layout.{Puts, a_name, comma_before, listed, pair_part, end_line};
+ghost use Rattle.mit_syntax.specs.Layout.{labels_part, order_part, length_part, label_part, declaration_part, declarations_part};
 
 use crate::declarations::{Decl, Variables};
 use crate::print::chunks::{
