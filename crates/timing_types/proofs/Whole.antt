@@ -56,10 +56,13 @@ module _ (q : LabelledProgram) where
         ∙ ap (λ z. broken_of q.program.order q.labels z 0 b.number b.number) body_is
         ∙ ap (λ z. broken_of q.program.order q.labels (plan_of q.program) 0 z z) bottom_is
 
+    pub unbroken : (end : ℕ) → Passes (lattice_of o) (variable_of o l) b.number (tree_of o l (list_plan cs) 0) b.number Done end → first_broken_of q ≡ None
+    unbroken end h = sym broken_is ∙ h.1
+
     pub walked : (end : ℕ) → IsLattice (lattice_of o) → IsLabelling q.program q.labels → IsValid s' →
         Passes (lattice_of o) (variable_of o l) b.number (tree_of o l (list_plan cs) 0) b.number Done end → HasType q
     walked end ll kept valid h =
-        has_type (subst (λ z. IsLattice (lattice_of z)) order_is ll) kept (subst (λ z. IsValid z) hs' valid) (sym broken_is ∙ h.1)
+        has_type (subst (λ z. IsLattice (lattice_of z)) order_is ll) kept (subst (λ z. IsValid z) hs' valid) (unbroken end h)
 
     pub refused : (r : TypeFault) → IsLattice (lattice_of o) → broken_of o l (list_plan cs) 0 b.number b.number ≡ Some r → (first_broken_of q ≡ Some r) × (HasType q → ⊥)
     refused r ll h =

@@ -1,6 +1,6 @@
 //! The walk over a program's commands, which tests each condition.
 
-ghost use Rattle.std.specs.Prelude.{◌≡◌, ℕ, ◌+◌, ◌^◌, ◌<◌, IfOk, IfErr, Some, false};
+ghost use Rattle.std.specs.Prelude.{◌≡◌, ℕ, ◌+◌, ◌^◌, ◌<◌, IfOk, IfErr, Some, None, false};
 ghost use Rattle.label_lattice.specs.Lattice.{Flows};
 ghost use Rattle.label_lattice.specs.Order.{lattice_of};
 ghost use Rattle.mit_syntax.specs.Plan.{Plan, command_plan, list_plan, form_count, count};
@@ -51,7 +51,8 @@ fn command_walk(
 ) -> Result<(usize, Label), TypeFault>
     requires { number + form_count c.now.form (record { pos = c.now.pos; labels = c.now.labels }) < 2 ^ 31 }
     ensures number { IfOk result (λ r. r.0 ≡ number + form_count c.now.form (record { pos = c.now.pos; labels = c.now.labels })) }
-    ensures passes { IfOk result (λ r. (rest : Plan) → Passes (lattice_of order.now) (variable_of order.now p.now) pc.number (tree_of order.now p.now (command_plan c.now rest) number) t.number (tree_of order.now p.now rest r.0) r.1.number) }
+    ensures passes { IfOk result (λ r. (rest : Plan) → Passes (lattice_of order.now) (variable_of order.now p.now) pc.number
+        (tree_of order.now p.now (command_plan c.now rest) number) t.number (tree_of order.now p.now rest r.0) r.1.number) }
     ensures refused { IfErr result (λ b. (rest : Plan) → broken_of order.now p.now (command_plan c.now rest) number pc.number t.number ≡ Some b) }
 {
     let own = p.command(number, order);
@@ -160,7 +161,8 @@ pub(crate) fn list_walk(
 ) -> Result<(usize, Label), TypeFault>
     requires { number + count (list_plan commands.now) < 2 ^ 31 }
     ensures number { IfOk result (λ r. r.0 ≡ number + count (list_plan commands.now)) }
-    ensures passes { IfOk result (λ r. Passes (lattice_of order.now) (variable_of order.now p.now) pc.number (tree_of order.now p.now (list_plan commands.now) number) t.number Done r.1.number) }
+    ensures passes { IfOk result (λ r. Passes (lattice_of order.now) (variable_of order.now p.now) pc.number
+        (tree_of order.now p.now (list_plan commands.now) number) t.number Done r.1.number) }
     ensures refused { IfErr result (λ b. broken_of order.now p.now (list_plan commands.now) number pc.number t.number ≡ Some b) }
 {
     let mut next = number;
@@ -184,6 +186,7 @@ pub fn loop_law(order: &Lattice)
 /// The first broken condition, if there is one.
 fn walk(p: &Labelled) -> Result<(), TypeFault>
     ensures typed { IfOk result (λ _. HasType p.now) }
+    ensures whole { IfOk result (λ _. first_broken_of p.now ≡ None) }
     ensures refused { IfErr result (λ fault. (first_broken_of p.now ≡ Some fault) × (HasType p.now → ⊥)) }
 {
     let order = p.program().lattice();
@@ -211,10 +214,11 @@ fn contexts(alloc: Global, p: &Labelled) -> Result<Vec<Label>, AllocError>
 
 /// Checks a labelled program. `Refused` comes exactly where no derivation types it, and names the first
 /// broken condition: the commands are walked in the order of the text, and a command's own conditions come
-/// before those of its parts. `Memory` is want of memory. After a fault the labelled program comes back.
+/// before those of its parts. After an `Ok` no condition is broken. `Memory` is want of memory. After a fault the labelled program comes back.
 pub fn check(alloc: Global, p: Labelled) -> Result<Typed, (Labelled, TypeFault)>
     ensures labelled { IfOk result (λ q. q.labelled ≡ p) }
     ensures typed { IfOk result (λ _. HasType p) }
+    ensures whole { IfOk result (λ _. first_broken_of p ≡ None) }
     ensures contexts { IfOk result (λ q. AreContexts p q.contexts) }
     ensures kept { IfErr result (λ e. e.0 ≡ p) }
     ensures fault { IfErr result (λ e. IsTypeFault p e.1) }

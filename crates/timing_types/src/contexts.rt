@@ -20,7 +20,8 @@ fn command_contexts(
     pc: Label,
     found: &mut Vec<Label>,
 ) -> Result<(), AllocError>
-    ensures { IfOk result (λ _. (rest : Plan) → found.old.items ++ contexts_of order.now p.now (command_plan c.now rest) pc ≡ found.new.items ++ contexts_of order.now p.now rest pc) }
+    ensures { IfOk result (λ _. (rest : Plan) → found.old.items ++ contexts_of order.now p.now (command_plan c.now rest) pc
+        ≡ found.new.items ++ contexts_of order.now p.now rest pc) }
 {
     match &c.form {
         Form::Skip | Form::Assign { .. } | Form::Put { .. } | Form::Sleep { .. } => Ok(()),

@@ -65,7 +65,8 @@ pub(crate) fn command_end(
 ) -> (usize, Label)
     requires { number + form_count c.now.form (record { pos = c.now.pos; labels = c.now.labels }) < 2 ^ 31 }
     ensures number { result.0 ≡ number + form_count c.now.form (record { pos = c.now.pos; labels = c.now.labels }) }
-    ensures end { (rest : Plan) → end_of order.now p.now (command_plan c.now rest) number pc.number t.number ≡ end_of order.now p.now rest result.0 pc.number result.1.number }
+    ensures end { (rest : Plan) → end_of order.now p.now (command_plan c.now rest) number pc.number t.number
+        ≡ end_of order.now p.now rest result.0 pc.number result.1.number }
 {
     let own = p.command(number, order);
     match &c.form {

@@ -29,7 +29,7 @@ fn one_label() -> Option<Lattice>
     ensures { IfSome result (λ o. (o.size ≡ 1) × All IsName o.names × ((a b : ℕ) → a < 1 → b < 1 → Flows (lattice_of o) a b ↔ Chain [] a b)) }
 {
     let name = Name::read(b"L")?;
-    let _ = name.bytes();
+    name.laws();
     Lattice::build(&[name], &[]).ok()
 }
 

@@ -1,5 +1,5 @@
 use Rattle.std.proofs.lemmas.Result.{err_from_is_err_and}
-use Rattle.timing_types.proofs.Whole.{walked, refused}
+use Rattle.timing_types.proofs.Whole.{unbroken, walked, refused}
 use Rattle.timing_types.proofs.check.walk.Goals as goal
 
 pub returns-clause-typed : goal.returns-clause-typed
@@ -7,6 +7,12 @@ returns-clause-typed c =
     walked c.args.p.now c.program.result.now c.program-2.result.now c.lattice-order.result c.labels.result.now c.body.result.now c.bottom-bottom.result
     c.program.ensures.program c.program-2.ensures.program c.lattice-order.ensures c.labels.ensures c.body.ensures.body c.bottom-bottom.ensures.value
     c.in_ok-list_walk.field-0.1.number c.laws.ensures.lattice c.program.ensures.labelling c.body.ensures.valid c.in_ok-list_walk.ensures.passes
+
+pub returns-clause-whole : goal.returns-clause-whole
+returns-clause-whole c =
+    unbroken c.args.p.now c.program.result.now c.program-2.result.now c.lattice-order.result c.labels.result.now c.body.result.now c.bottom-bottom.result
+    c.program.ensures.program c.program-2.ensures.program c.lattice-order.ensures c.labels.ensures c.body.ensures.body c.bottom-bottom.ensures.value
+    c.in_ok-list_walk.field-0.1.number c.in_ok-list_walk.ensures.passes
 
 pub returns-in_err-list_walk-clause-refused : goal.returns-in_err-list_walk-clause-refused
 returns-in_err-list_walk-clause-refused c =
