@@ -373,7 +373,7 @@ each_is ds t vars labels a (x ∷ xs) h r (suc k) i e =
     (subst (λ z. Deep ds t z i) place b.0, b.1)
 
 -- a program's image is shaped, with the greatest depths of its commands
-pub image_shaped : (lat : Lattice) (g : ℕ → ℕ) (p : Marked) (vars : ℕ) (order : Order) → vars ≤ 4096 →
+pub image_shaped : (lat : Lattice) (g : ℕ → ℕ) (p : Marked) (vars : ℕ) (order : Order) → vars ≤ 3072 →
     length (image_of lat g p) ≤ 200000 → AllInRange vars order.size (image_of lat g p) →
     IsShaped (record { instrs = image_of lat g p; variables = vars; order = order; operands = most_operands p; nesting = deepest p })
 image_shaped lat g p vars order v small range =

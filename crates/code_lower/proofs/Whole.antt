@@ -1,14 +1,14 @@
 -- The image of a labelled program.
-use Rattle.std.proofs.Common.{◌≡◌, ◌<◌, ◌≤◌, ◌+◌, ℕ, List, [], ◌∷◌, ◌++◌, length, Option, None, Some, sym, ap, ◌∙◌, arith, length-append}
+use Rattle.std.proofs.Common.{◌≡◌, ◌<◌, ◌≤◌, ◌+◌, ℕ, List, [], ◌∷◌, ◌++◌, length, sym, ap, ◌∙◌, arith, length-append}
 use Rattle.label_lattice.specs.declared.label.Label.{Label}
 use Rattle.label_lattice.specs.Order.{Order, lattice_of}
 use Rattle.label_lattice.proofs.Orders.{join_below}
 use Rattle.mit_syntax.specs.declared.ast.Command.{Command}
 use Rattle.mit_syntax.specs.Plan.{list_plan}
-use Rattle.mit_syntax.specs.Declarations.{Declaration, variables, cells, cells_of, elements_in, size_in, length_in}
+use Rattle.mit_syntax.specs.Declarations.{variables}
 use Rattle.mit_syntax.specs.Program.{Syntax, plan_of}
 use Rattle.mit_syntax.specs.Valid.{IsValid}
-use Rattle.mit_syntax.proofs.Numbers.{length-cells_of}
+use Rattle.mit_syntax.proofs.Numbers.{few_cells}
 use Rattle.timing_types.specs.Labelling.{Labelling, IsLabelling, variable_of, marks_of, level_of, marks_from}
 use Rattle.timing_types.specs.Labelled.{LabelledProgram, order_of, labels_of, bare_of}
 use Rattle.label_code.specs.declared.code.Instr.{Instr}
@@ -27,27 +27,6 @@ use Rattle.code_lower.proofs.Emitting.{size-labelled, operands-labelled, deepest
 use Rattle.code_lower.proofs.Program.{image_shaped}
 use Rattle.code_lower.proofs.Range.{image_range}
 use Rattle.code_lower.proofs.Bound.{size_bound}
-
--- there are at most 3,072 variables
-size_few : (n : Option ℕ) → size_in n ≤ 1 + length_in n
-size_few None = omega arith
-size_few (Some n) = omega arith
-
-variables_few : (ds : List Declaration) → variables ds ≤ length ds + elements_in ds
-variables_few [] = omega arith
-variables_few (d ∷ ds) =
-    let a = variables_few ds in
-    let b = size_few d.1.length in
-    let n = length-cells_of d.0 d.1.label d.1.length in
-    let l = length-append (cells_of d.0 d.1.label d.1.length) (cells ds) in
-    omega (arith, a, b, n, l)
-
-pub few_variables : (s : Syntax) → IsValid s → variables s.declarations ≤ 4096
-few_variables s v =
-    let a = variables_few s.declarations in
-    let b : length s.declarations ≤ 1024 = v.few.count in
-    let c : elements_in s.declarations ≤ 2048 = v.few.elements in
-    omega (arith, a, b, c)
 
 -- the size can be counted
 pub size_fits : (s : Syntax) → IsValid s → size (plan_of s) < 9223372036854775807
@@ -76,7 +55,7 @@ module _ (p : LabelledProgram) where
   pub is_shaped : IsValid p.program → IsLabelling p.program p.labels → length (lowered p).instrs ≤ 200000 → IsShaped (lowered p)
   is_shaped v k small =
       let o = p.program.order in
-      image_shaped (order_of p) (labels_of p) (bare_of p) (variables p.program.declarations) o (few_variables p.program v) small
+      image_shaped (order_of p) (labels_of p) (bare_of p) (variables p.program.declarations) o (few_cells p.program.declarations v.few) small
       (image_range p.program.declarations v.arrays o.size (order_of p) (labels_of p) v.order.table.some k.variables_below (join_below o v.order)
       (marks_of o p.labels) (level_of o p.labels) k.commands_below k.levels_below (plan_of p.program) 0 v.known)
 

@@ -4,14 +4,13 @@ ghost use Rattle.code_lower.specs.Follows.{OrderAll};
 ghost use Rattle.code_lower.specs.Lowered.{LabelsKeepMeaning, LoweredKeepsOrder};
 ghost use Rattle.env_contract.specs.Env.{Env};
 
-use env_contract::env::MachineEnv;
-
-/// The image of a program does what the program does, in its order, in every environment. From each start
-/// and up to each cycle, its log without cycles is what the program tells in some number of steps, and all
-/// that the program tells if the image has halted; and whatever the program tells in a number of steps, the
-/// image tells by some cycle, at which it has halted if the program has ended.
-pub fn code_keeps_order<E: MachineEnv>()
-    ensures { OrderAll (record { cost_of = E.cost_of; next_of = E.next_of; part = E.part }) }
+/// The image of a program does what the program does, in its order, in every environment, whether or not that
+/// keeps the laws of `MachineEnv`. From each start and up to each cycle, its log without cycles is what the
+/// program tells in some number of steps, and all that the program tells if the image has halted; and whatever
+/// the program tells in a number of steps, the image tells by some cycle, at which it has halted if the program
+/// has ended.
+pub fn code_keeps_order<E>()
+    ensures { (v : Env E) → OrderAll v }
 {}
 
 /// A program with labels means what the program does that was labelled: from each memory it tells the same
@@ -22,6 +21,6 @@ pub fn labels_keep_meaning()
 {}
 
 /// The same of the image that `lower` makes of a program, and of the program that was read, without its labels.
-pub fn image_keeps_order<E: MachineEnv>()
-    ensures { LoweredKeepsOrder (record { cost_of = E.cost_of; next_of = E.next_of; part = E.part }) }
+pub fn image_keeps_order<E>()
+    ensures { (v : Env E) → LoweredKeepsOrder v }
 {}

@@ -9,12 +9,9 @@ ghost use Rattle.code_lower.specs.declared.lower.LowerFault.TheVariants.{Memory}
 use crate::emit::{emit_list, put};
 use crate::size::list_extent;
 use label_code::code::Work;
-use label_code::image::Image;
+use label_code::image::{Image, is_too_long};
 use std::alloc::{AllocError, Global};
 use timing_types::typed::Typed;
-
-/// The most instructions that an image may have, its HALT included.
-pub const MAX_INSTRUCTIONS: u64 = 200_000;
 
 /// Why a typed program has no image.
 #[derive(Clone, Copy, Debug, PartialEq, Eq)]
@@ -49,7 +46,7 @@ pub fn lower(alloc: Global, p: &Typed) -> Result<Image, LowerFault>
     let program = labelled.program();
     let extent = list_extent(program.body());
     let count = extent.size + 1;
-    if count > MAX_INSTRUCTIONS {
+    if is_too_long(count) {
         return Err(LowerFault::TooLong(count));
     }
     let order = program.lattice();

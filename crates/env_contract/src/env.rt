@@ -8,6 +8,9 @@ ghost use Rattle.env_contract.specs.Laws.{IsLawful};
 use crate::place::{Kind, Place};
 use label_lattice::label::Label;
 
+/// The most cycles that an access costs beyond its instruction.
+pub const MAX_PENALTY: u32 = 1000;
+
 /// What an access costs beyond its instruction, and what it changes.
 pub trait MachineEnv {
     ghost use Rattle.env_contract.specs.declared.place.Kind.{Kind};
@@ -26,13 +29,13 @@ pub trait MachineEnv {
     ghost next_of: { Kind → ℕ → ℕ → ℕ → Self → Self };
 
     /// Reads at a byte address under the labels `[er, ew]`, and answers the penalty in cycles, at most
-    /// 1,000. The state may change. Takes no memory.
+    /// `MAX_PENALTY`. The state may change. Takes no memory.
     fn access(&mut self, kind: Kind, address: u32, er: Label, ew: Label) -> u32
         requires { (order : Order)
             × (serves order self.old × (er.number < order.size) × (ew.number < order.size)) }
         ensures cost { result ≡ cost_of kind address er.number ew.number self.old }
         ensures next { self.new ≡ next_of kind address er.number ew.number self.old }
-        ensures small { result ≤ 1000 }
+        ensures small { result ≤ MAX_PENALTY }
         ensures serves { (order : Order) → serves order self.old → serves order self.new };
 
     /// Whether both hold the same at the place for the label. Takes no memory.

@@ -3,7 +3,7 @@
 ghost use Rattle.std.specs.Prelude.{◌≡◌, ◌≤◌};
 ghost use Rattle.label_lattice.specs.Order.{Order};
 
-use crate::env::MachineEnv;
+use crate::env::{MAX_PENALTY, MachineEnv};
 use crate::place::{Kind, Place};
 use label_lattice::label::Label;
 
@@ -41,7 +41,7 @@ impl MachineEnv for FlatEnv {
     fn access(&mut self, _kind: Kind, _address: u32, _er: Label, _ew: Label) -> u32
         ensures cost { result ≡ 0 }
         ensures next { self.new ≡ self.old }
-        ensures small { result ≤ 1000 }
+        ensures small { result ≤ MAX_PENALTY }
         ensures serves { (order : Order)
             → ⟦<FlatEnv as MachineEnv>⟧.serves order self.old → ⟦<FlatEnv as MachineEnv>⟧.serves order self.new }
     {

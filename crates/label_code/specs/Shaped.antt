@@ -142,7 +142,7 @@ pub record IsFine (vars labels most deepest size : ℕ) (ds : Depths) (place : �
 pub record HasDepths (c : Code) (ds : Depths) : Type 0 where
   pub some : 0 < length c.instrs
   pub small : length c.instrs ≤ 200000
-  pub variables : c.variables ≤ 4096
+  pub variables : c.variables ≤ 3072
   pub operands : ds.operands 0 ≡ 0
   pub nesting : ds.nesting 0 ≡ 0
   pub each : (a : ℕ) (i : Instr) → slice_get c.instrs a ≡ Some i → IsFine c.variables c.order.size c.operands c.nesting (length c.instrs) ds a i

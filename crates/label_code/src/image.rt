@@ -1,4 +1,4 @@
-ghost use Rattle.std.specs.Prelude.{◌≡◌, ◌<◌, ◌≤◌, length, slice_get, Some};
+ghost use Rattle.std.specs.Prelude.{◌≡◌, ◌<◌, ◌≤◌, length, slice_get, Some, MatchBool};
 ghost use Rattle.label_code.specs.Shaped.{Code, IsShaped};
 
 use crate::code::Instr;
@@ -6,9 +6,19 @@ use label_lattice::label::MAX_LABELS;
 use label_lattice::lattice::Lattice;
 use std::marker::Model;
 
+/// The most instructions that an image may have, its HALT included.
+pub const MAX_INSTRUCTIONS: u32 = 200_000;
+
+/// Whether there are more instructions than an image may have.
+pub fn is_too_long(count: u64) -> bool
+    ensures { MatchBool result (200000 < count) (count ≤ 200000) }
+{
+    count > u64::from(MAX_INSTRUCTIONS)
+}
+
 /// Code whose depths of operands and of open mitigations are known at each place: neither goes below zero,
 /// targets, variables and labels are in range, and HALT is last and stands nowhere else. It has at most
-/// 200,000 instructions and at most 4,096 variables.
+/// `MAX_INSTRUCTIONS` instructions and at most 3,072 variables.
 #[derive(Drop)]
 pub struct Image {
     instrs: Vec<Instr>,

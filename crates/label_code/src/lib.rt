@@ -5,3 +5,4 @@ pub mod code;
 pub mod cost;
 pub mod image;
 pub mod laws;
+pub mod places;

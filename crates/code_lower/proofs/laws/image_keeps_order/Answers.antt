@@ -7,6 +7,6 @@ use Rattle.code_lower.proofs.Meaning.{keep_meaning, order_same}
 use Rattle.code_lower.proofs.laws.image_keeps_order.Goals as goal
 
 pub returns : goal.returns
-returns g c = λ p.
-    order_same _ (lowered p).instrs (bare_of p) (plan_of p.program) (keep_meaning p)
-    (keeps_order _ (order_of p) (labels_of p) (lowered p).instrs (bare_of p) (image_is (order_of p) (labels_of p) (bare_of p)))
+returns g c = λ v p.
+    order_same v (lowered p).instrs (bare_of p) (plan_of p.program) (keep_meaning p)
+    (keeps_order v (order_of p) (labels_of p) (lowered p).instrs (bare_of p) (image_is (order_of p) (labels_of p) (bare_of p)))

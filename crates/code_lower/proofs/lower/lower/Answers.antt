@@ -1,4 +1,5 @@
 use Rattle.std.proofs.Common.{◌≤◌, length, sym, ap, ◌∙◌, subst, arith}
+use Rattle.std.proofs.lemmas.Bool.{MatchBool-at_true, MatchBool-at_false}
 use Rattle.mit_syntax.specs.Declarations.{variables}
 use Rattle.mit_syntax.specs.Plan.{list_plan}
 use Rattle.mit_syntax.specs.Valid.{IsValid}
@@ -25,14 +26,14 @@ overflow_add-count c =
     let x = c.list_extent-extent.ensures.size in
     omega (arith, s, f, x)
 
-pub returns-then-count-gt-MAX_INSTRUCTIONS-clause-fault : goal.returns-then-count-gt-MAX_INSTRUCTIONS-clause-fault
-returns-then-count-gt-MAX_INSTRUCTIONS-clause-fault c =
+pub returns-then-is_too_long-clause-fault : goal.returns-then-is_too_long-clause-fault
+returns-then-is_too_long-clause-fault c =
     let p = c.args.p.now.labelled in
     let s = ap (λ z. size z) c.body.ensures.body in
     let same = ap (λ z. size z.plan) (c.program-program.ensures.program ∙ ap (λ z. z.program) c.labelled-labelled.ensures.labelled) in
     let x = c.list_extent-extent.ensures.size in
     let l = length_is p in
-    let t = c.if-count-gt-MAX_INSTRUCTIONS.true in
+    let t = MatchBool-at_true _ _ c.if-is_too_long.true c.is_too_long.ensures in
     (omega arith, omega (arith, s, same, x, l))
 
 pub overflow_cast-extent : goal.overflow_cast-extent
@@ -40,7 +41,7 @@ overflow_cast-extent c =
     let x = c.list_extent-extent.ensures.size in
     let y = c.list_extent-extent.ensures.operands in
     let w = operands_within (list_plan c.body.result.now) in
-    let f = c.if-count-gt-MAX_INSTRUCTIONS.false in
+    let f = MatchBool-at_false _ _ c.if-is_too_long.false c.is_too_long.ensures in
     omega arith
 
 pub overflow_cast-extent-2 : goal.overflow_cast-extent-2
@@ -48,7 +49,7 @@ overflow_cast-extent-2 c =
     let x = c.list_extent-extent.ensures.size in
     let y = c.list_extent-extent.ensures.nesting in
     let w = deepest_within (list_plan c.body.result.now) in
-    let f = c.if-count-gt-MAX_INSTRUCTIONS.false in
+    let f = MatchBool-at_false _ _ c.if-is_too_long.false c.is_too_long.ensures in
     omega arith
 
 pub of-requires : goal.of-requires
@@ -66,7 +67,7 @@ of-requires c =
     let s = ap (λ z. size z) hb in
     let x = c.list_extent-extent.ensures.size in
     let l = length_is p in
-    let f = c.if-count-gt-MAX_INSTRUCTIONS.false in
+    let f = MatchBool-at_false _ _ c.if-is_too_long.false c.is_too_long.ensures in
     let small : length (lowered p).instrs ≤ 200000 = omega (arith, s, x, l, f) in
     subst IsShaped (sym built)
     (is_shaped p (subst IsValid hp c.body.ensures.valid) (subst (λ z. IsLabelling z.program z.labels) hl c.program-program.ensures.labelling) small)
