@@ -4,11 +4,11 @@ use Rattle.mit_syntax.specs.declared.ast.Command.{Command}
 use Rattle.mit_syntax.specs.Expression.{Expression, Number, Variable, Binary, Element}
 use Rattle.mit_syntax.specs.Todo.{Done, Skip, Assign, Put, Sleep, If, While, Mitigate, then_todo}
 use Rattle.mit_syntax.specs.Plan.{Plan, list_plan}
-use Rattle.mit_syntax.specs.Declarations.{Declaration, variables, elements_in}
+use Rattle.mit_syntax.specs.Declarations.{Declaration, variables}
 use Rattle.mit_syntax.specs.Program.{Syntax, plan_of}
 use Rattle.mit_syntax.specs.Valid.{AreSome, IsValid, AreShaped, IsKnown, AreKnown}
 use Rattle.mit_syntax.proofs.Facts.{scalar_below, array_below, array_some}
-use Rattle.mit_syntax.proofs.Numbers.{first_bound, first_all}
+use Rattle.mit_syntax.proofs.Numbers.{few_cells}
 use Rattle.source_meaning.proofs.Single.{All-one}
 use Rattle.source_meaning.specs.InRange.{IsIn, AreIn}
 use Rattle.source_meaning.specs.Frames.{IsFrame, IsGoing}
@@ -38,14 +38,11 @@ first_in s v = all_known_in s.declarations v.arrays s.order.size (plan_of s) v.k
 -- a program's list and a memory begin a walk
 pub going_first : (s : Syntax) (b : List Command) (k : ℕ) → list_plan b ≡ plan_of s → IsValid s → k ≡ variables s.declarations → IsGoing (b ∷ []) k
 going_first s b k same v e =
-    let few = first_bound s.declarations (length s.declarations) in
-    let all = first_all s.declarations in
-    let count : length s.declarations ≤ 1024 = v.few.count in
-    let elements : elements_in s.declarations ≤ 2048 = v.few.elements in
+    let few = few_cells s.declarations v.few in
     record {
       frames = All-one (IsFrame k) b
           (subst (λ (p : Plan). AreSome p × AreIn k p) (sym same) (v.some, subst (λ n. AreIn n (plan_of s)) (sym e) (first_in s v)));
-      few = omega (arith, few, all, count, elements, e);
+      few = omega (arith, few, e);
     }
 
 pub then_done : (p : Plan) → then_todo p Done ≡ p

@@ -28,4 +28,4 @@ IsFrame k f = AreSome (list_plan f) × AreIn k (list_plan f)
 -- what is true of every walker
 pub record IsGoing (fs : List (List Command)) (k : ℕ) : Type 0 where
   pub frames : All (IsFrame k) fs
-  pub few : k ≤ 4096
+  pub few : k ≤ 3072

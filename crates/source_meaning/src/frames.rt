@@ -27,7 +27,8 @@ pub fn enter<'a>(
     body: &'a [Command],
 ) -> Result<(), Memory>
     requires { 0 < vec_len frames.old }
-    ensures ok { OnOk result (map (λ f. f.now) frames.new.items ≡ without_last (map (λ f. f.now) frames.old.items) ++ (some_list rest.now ++ body.now ∷ [])) }
+    ensures ok { OnOk result (map (λ f. f.now) frames.new.items
+        ≡ without_last (map (λ f. f.now) frames.old.items) ++ (some_list rest.now ++ body.now ∷ [])) }
     ensures err { OnErr result (frames.new.items ≡ frames.old.items) }
 {
     let last = frames.len() - 1;

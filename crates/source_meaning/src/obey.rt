@@ -27,7 +27,9 @@ pub fn obey<'a>(
     requires first { list.now ≡ command.now ∷ rest.now }
     requires frame { IsFrame (length memory.old) list.now }
     requires going { IsGoing (map (λ f. f.now) frames.old.items) (length memory.old) }
-    ensures step { IfOk result (λ walk. source_act (then_todo (list_plan list.now) (todo_of (without_last (map (λ f. f.now) frames.old.items)))) memory.old [] ≡ source_at (record { lists = map (λ f. f.now) frames.new.items; memory = memory.new }) (told_by walk)) }
+    ensures step { IfOk result (λ walk.
+        source_act (then_todo (list_plan list.now) (todo_of (without_last (map (λ f. f.now) frames.old.items)))) memory.old []
+        ≡ source_at (record { lists = map (λ f. f.now) frames.new.items; memory = memory.new }) (told_by walk)) }
     ensures told { IfOk result (λ walk. walk ≡ Walk.Ended → ⊥) }
     ensures going { OnOk result (IsGoing (map (λ f. f.now) frames.new.items) (length memory.old)) }
     ensures frames { OnErr result (frames.new.items ≡ frames.old.items) }

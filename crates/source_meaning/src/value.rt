@@ -6,12 +6,13 @@ ghost use Rattle.mit_syntax.specs.Values.{value_of};
 ghost use Rattle.source_meaning.specs.InRange.{IsIn};
 
 use mit_syntax::ast::Expr;
+use mit_syntax::declarations::MAX_CELLS;
 use mit_syntax::values::element;
 
-/// The value of an expression in a memory of at most 4,096 variables, which has all that stand in it.
+/// The value of an expression in a memory of at most `MAX_CELLS` variables, which has all that stand in it.
 pub fn value(e: &Expr, memory: &[i64]) -> i64
     requires within { IsIn (length memory.now) (expression_of e.now) }
-    requires few { length memory.now ≤ 4096 }
+    requires few { length memory.now ≤ MAX_CELLS }
     ensures { result ≡ value_of (expression_of e.now) memory.now }
 {
     match e {

@@ -43,7 +43,7 @@ impl<'a> Walker<'a> {
         requires { length memory.now ≡ variables p.now.declarations }
         ensures { IfOk result (λ w. source_start (plan_of p.now) memory.now ≡ source_at w []) }
     {
-        let _ = p.variables();
+        p.laws();
         let mut frames = Vec::new(alloc);
         frames.push(p.body())?;
         let memory = Vec::from_slice(alloc, memory)?;

@@ -12,7 +12,7 @@ pub invariant_of-result : goal.invariant_of-result
 invariant_of-result c =
     let lists : map (λ f. f.now) c.push.new.self.items ≡ c.body.result.now ∷ [] = ap (map (λ f. f.now)) (c.in_ok-push.ensures.items ∙ ap (λ z. z ++ c.body.result ∷ []) c.new-frames.ensures.items) in
     subst (λ l. IsGoing l (length c.in_ok-memory.memory.items)) (sym lists)
-    (going_first c.args.p.now c.body.result.now (length c.in_ok-memory.memory.items) c.body.ensures.body c.variables.ensures.valid (ap length c.in_ok-memory.ensures.items ∙ c.requires))
+    (going_first c.args.p.now c.body.result.now (length c.in_ok-memory.memory.items) c.body.ensures.body c.laws.ensures.valid (ap length c.in_ok-memory.ensures.items ∙ c.requires))
 
 pub returns : goal.returns
 returns c =

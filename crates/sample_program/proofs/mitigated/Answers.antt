@@ -9,7 +9,7 @@ use Rattle.mit_syntax.specs.Plan.{Plan, list_plan, count, plan-Mitigate}
 use Rattle.mit_syntax.specs.Todo.{Skip, Mitigate, Done}
 use Rattle.mit_syntax.specs.Valid.{AreSome, AreKnown, AreNumbered}
 use Rattle.mit_syntax.specs.Limits.{AreSmall}
-use Rattle.source_meaning.proofs.tests.mitigated.Goals as goal
+use Rattle.sample_program.proofs.mitigated.Goals as goal
 
 abbrev sample : Pos → Pos → Plan
 sample p q = Mitigate (record { pos = p; labels = None }) 0 None (Number (pos 1)) (Skip (record { pos = q; labels = None }) Done) Done
