@@ -1,8 +1,9 @@
 //! The theorem on timed observations, as contracts of functions that do nothing.
 
-ghost use Rattle.std.specs.Prelude.{IsTrue, Bool};
+ghost use Rattle.std.specs.Prelude.{◌≡◌, ◌<◌, ℕ, suc, IsTrue, Bool};
 ghost use Rattle.label_lattice.specs.Order.{Order};
 ghost use Rattle.env_contract.specs.Env.{Env};
+ghost use Rattle.leak_bound.specs.Digits.{digits, HasDigits};
 ghost use Rattle.leak_bound.specs.Sound.{SoundAll, ShowsOneAll, CutSoundAll};
 ghost use Rattle.leak_bound.specs.Source.{LabelsKeepCounts, LoweredSoundAll, LoweredShowsOneAll, LoweredCutSoundAll};
 ghost use Rattle.leak_bound.specs.Over.{KeepsLaws, SoundOver, ShowsOneOver, CutSoundOver};
@@ -79,4 +80,11 @@ pub fn lowered_few_sequences<E: MachineEnv>()
     ensures halted { LoweredSoundAll (record { cost_of = E.cost_of; next_of = E.next_of; part = E.part }) E.serves }
     ensures quiet { LoweredShowsOneAll (record { cost_of = E.cost_of; next_of = E.next_of; part = E.part }) E.serves }
     ensures cut { LoweredCutSoundAll (record { cost_of = E.cost_of; next_of = E.next_of; part = E.part }) E.serves }
+{}
+
+/// Says nothing at run time: the digits that are computed are binary digits. 0 has none, and a greater number has one
+/// more than the greatest power of two that it reaches.
+pub fn digits_are()
+    ensures zero { digits 0 ≡ 0 }
+    ensures some { (t : ℕ) → 0 < t → (d : ℕ) × (digits t ≡ suc d) × HasDigits t d }
 {}
