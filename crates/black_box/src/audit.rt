@@ -10,9 +10,9 @@ ghost use Rattle.black_box.specs.Files.{ready_lists};
 ghost use Rattle.black_box.specs.Audits.{same_cycles, classes_of, shown};
 
 use crate::class::{Classes, classify};
-use crate::ready::MAX_RUNS;
 use crate::release::{Releases, release};
 use leak_bound::count::digits;
+use run_limits::MAX_RUNS;
 use std::alloc::Global;
 use text_base::pos::Memory;
 

@@ -4,9 +4,9 @@ ghost use Rattle.std.specs.Prelude.{◌≡◌, ◌≤◌, IfOk, length};
 ghost use Rattle.leak_bound.specs.Records.{distinct_count};
 ghost use Rattle.black_box.specs.Audits.{same_cycles, classes_of, shown};
 
-use crate::ready::MAX_RUNS;
 use crate::release::Releases;
 use indexmap::IndexSet;
+use run_limits::MAX_RUNS;
 use std::alloc::Global;
 use text_base::pos::Memory;
 

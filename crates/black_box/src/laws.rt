@@ -28,7 +28,8 @@ pub fn few_release_lists()
 
 /// A list of runs has one list of outcomes.
 pub fn one_list_of_outcomes()
-    ensures { (q t : ℕ) (runs : List (List ℕ)) (outcomes others : List Outcome) → AllZip (IsOutcome q t) runs outcomes → AllZip (IsOutcome q t) runs others → outcomes ≡ others }
+    ensures { (q t : ℕ) (runs : List (List ℕ)) (outcomes others : List Outcome)
+        → AllZip (IsOutcome q t) runs outcomes → AllZip (IsOutcome q t) runs others → outcomes ≡ others }
 {}
 
 /// A file holds one list of runs.

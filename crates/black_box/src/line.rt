@@ -5,8 +5,7 @@ ghost use Rattle.std.specs.List.{prefix_len, suffix_len};
 ghost use Rattle.black_box.specs.declared.line.Line.{Line};
 ghost use Rattle.black_box.specs.Lines.{is_blank, trimmed, value_in, cycle_in, line_of};
 
-/// The greatest cycle at which an event may be ready.
-const MAX_CYCLE: u64 = 1 << 40;
+use run_limits::is_too_late;
 
 /// The most digits of a cycle.
 const MAX_DIGITS: usize = 20;
@@ -73,7 +72,7 @@ fn value_of(digits: &[u8]) -> Option<u64>
             return None;
         }
         value = 10 * value + u64::from(*byte - b'0');
-        if value > MAX_CYCLE {
+        if is_too_late(value) {
             return None;
         }
     }

@@ -1,16 +1,15 @@
 //! From the bytes of a file to the runs with the ready cycles of their events.
 
-ghost use Rattle.std.specs.Prelude.{◌≡◌, ◌≢◌, ◌+◌, ◌<◌, ◌≤◌, ◌^◌, false, Some, None, IfOk, IfErr, OnOk, List, ◌∷◌, length, vec_len};
+ghost use Rattle.std.specs.Prelude.{◌≡◌, ◌≢◌, ◌+◌, ◌<◌, ◌≤◌, ◌^◌, List, ◌∷◌, length, vec_len};
+ghost use Rattle.std.specs.Prelude.{false, Some, None, IfOk, IfErr, OnOk};
 ghost use Rattle.black_box.specs.declared.line.Line.{Line};
 ghost use Rattle.black_box.specs.Lines.{first_bad, lines_of};
 ghost use Rattle.black_box.specs.Files.{lists, has_runs, Takes, Holds, refusal, IsBadLine};
 
 use crate::fault::ReadyFault;
 use crate::line::{Line, line_of};
+use run_limits::{MAX_RUNS, are_too_many};
 use std::alloc::Global;
-
-/// The most runs that a file may have.
-pub const MAX_RUNS: usize = 4096;
 
 // Adds to the runs what the line with a number says.
 fn take_line(
@@ -22,7 +21,8 @@ fn take_line(
     ensures taken { OnOk result (Takes line (lists runs.old) (lists runs.new)) }
     ensures short { OnOk result (vec_len runs.new ≤ vec_len runs.old + 1) }
     ensures bad { IfErr result (λ e. e ≢ ReadyFault.Memory → e ≡ ReadyFault.BadLine number) }
-    ensures first { IfErr result (λ e. e ≢ ReadyFault.Memory → (rest : List Line) → first_bad (has_runs (lists runs.old)) number (line ∷ rest) ≡ Some number) }
+    ensures first { IfErr result (λ e. e ≢ ReadyFault.Memory → (rest : List Line)
+        → first_bad (has_runs (lists runs.old)) number (line ∷ rest) ≡ Some number) }
 {
     match line {
         Line::Blank => Ok(()),
@@ -80,7 +80,7 @@ pub fn read_ready(alloc: Global, bytes: &[u8]) -> Result<Vec<Vec<u64>>, ReadyFau
     if runs.is_empty() {
         return Err(ReadyFault::NoRuns);
     }
-    if runs.len() > MAX_RUNS {
+    if are_too_many(runs.len()) {
         return Err(ReadyFault::TooMany(runs.len() as u32));
     }
     Ok(runs)
