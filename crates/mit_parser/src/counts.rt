@@ -5,6 +5,7 @@ ghost use Rattle.mit_syntax.specs.Chunks.{sign as a_sign};
 ghost use Rattle.mit_parser.specs.Words.{symbol_of, word};
 ghost use Rattle.mit_parser.specs.Counting.{count, is_over, past_left, past_right, past_operator, past_other, past_atom};
 
+use mit_syntax::limits::{MAX_DEPTH, MAX_OPERATORS};
 use mit_syntax::token::{Sign, TokenKind};
 
 /// The brackets that are open, the operators of the expression so far, whether the last token is `@`, and
@@ -21,7 +22,7 @@ pub struct Counts {
 pub fn is_over(c: Counts) -> bool
     ensures { result ≡ is_over c }
 {
-    c.depth > 100 || c.operators > 256
+    c.depth > MAX_DEPTH || c.operators > MAX_OPERATORS
 }
 
 fn past_atom(c: Counts) -> Counts
@@ -36,7 +37,7 @@ fn past_atom(c: Counts) -> Counts
 }
 
 fn past_operator(c: Counts) -> Counts
-    requires { c.operators ≤ 256 }
+    requires { c.operators ≤ MAX_OPERATORS }
     ensures { result ≡ past_operator c }
 {
     Counts {
@@ -48,7 +49,7 @@ fn past_operator(c: Counts) -> Counts
 }
 
 fn past_left(c: Counts) -> Counts
-    requires { c.depth ≤ 100 }
+    requires { c.depth ≤ MAX_DEPTH }
     ensures { result ≡ past_left c }
 {
     Counts {
@@ -97,7 +98,7 @@ fn past_marks(c: Counts, at: bool, marks: bool) -> Counts
 }
 
 fn past_left_square(c: Counts) -> Counts
-    requires { c.depth ≤ 100 }
+    requires { c.depth ≤ MAX_DEPTH }
     ensures { result ≡ count c (word (a_sign Sign.LeftSquare)) }
 {
     if c.at {
@@ -118,8 +119,8 @@ fn past_right_square(c: Counts) -> Counts
 }
 
 fn past_sign(c: Counts, sign: Sign) -> Counts
-    requires depth { c.depth ≤ 100 }
-    requires operators { c.operators ≤ 256 }
+    requires depth { c.depth ≤ MAX_DEPTH }
+    requires operators { c.operators ≤ MAX_OPERATORS }
     ensures { result ≡ count c (word (a_sign sign)) }
 {
     match sign {
@@ -147,8 +148,8 @@ fn past_sign(c: Counts, sign: Sign) -> Counts
 
 /// The counts after a token.
 pub fn counted(c: Counts, kind: TokenKind) -> Counts
-    requires depth { c.depth ≤ 100 }
-    requires operators { c.operators ≤ 256 }
+    requires depth { c.depth ≤ MAX_DEPTH }
+    requires operators { c.operators ≤ MAX_OPERATORS }
     ensures { (w : List ℕ) → result ≡ count c (symbol_of kind w) }
 {
     match kind {

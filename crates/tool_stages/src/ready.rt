@@ -9,7 +9,8 @@ ghost use Rattle.tool_texts.specs.Ends.{IsStop};
 ghost use Rattle.tool_stages.specs.Stages.{HoldsRuns, ReadyStops};
 
 use black_box::fault::ReadyFault;
-use black_box::ready::{MAX_RUNS, read_ready};
+use black_box::ready::read_ready;
+use run_limits::MAX_RUNS;
 use std::alloc::Global;
 use tim_base::shelf::{FetchFault, Shelf};
 use tool_texts::lines;

@@ -6,8 +6,9 @@ ghost use Rattle.tool_words.specs.WordsAsked.{IsCycles, IsInRange, budget_given,
 ghost use Rattle.tool_words.specs.WordsViews.{asked_of};
 
 use crate::values::{budget_of, env_of, number_of};
-use crate::words::{Command, EnvName, MAX_CYCLES, MAX_NUMBER, MAX_SIZE, MAX_STEPS, Verb};
+use crate::words::{Command, EnvName, MAX_SEED, MAX_SIZE, MAX_STEPS, Verb};
 use clap::ArgMatches;
+use run_limits::MAX_CYCLES;
 
 /// The text of a name, if the words give it one.
 pub fn text<'a>(matches: &ArgMatches<'a>, name: &str) -> Option<&'a str>
@@ -119,7 +120,7 @@ fn made<'a>(matches: &ArgMatches<'a>) -> Option<Command<'a>>
     ensures range { IfSome result (λ c. IsInRange (asked_of c)) }
 {
     let size = number(matches, "SIZE", 1, MAX_SIZE)?;
-    let number = number(matches, "NUMBER", 0, MAX_NUMBER)?;
+    let number = number(matches, "NUMBER", 0, MAX_SEED)?;
     Some(Command::Gen {
         size: size as u32,
         number: number as u32,

@@ -5,7 +5,8 @@ ghost use Rattle.std.specs.Char.{is_ascii_digit};
 ghost use Rattle.std.specs.List.{list_all};
 ghost use Rattle.tool_words.specs.WordsAsked.{IsCycles, budget_named, env_named, number_in, verb_named};
 
-use crate::words::{DEFAULT_BUDGET, EnvName, MAX_CYCLES, Verb};
+use crate::words::{DEFAULT_BUDGET, EnvName, Verb};
+use run_limits::MAX_CYCLES;
 
 /// The most digits of a number.
 const MAX_DIGITS: usize = 20;

@@ -7,13 +7,11 @@ ghost use Rattle.tool_words.specs.WordsViews.{asked_of};
 use crate::forms::{form, matched};
 use crate::readers::command;
 use crate::values::verb_of;
+use run_limits::MAX_CYCLES;
 use std::alloc::Global;
 
-/// The greatest budget and the greatest first length of a slot, in cycles: 2^40.
-pub const MAX_CYCLES: u64 = 1_099_511_627_776;
-
-/// The most steps that a run of the source may be asked for: 2^40.
-pub const MAX_STEPS: u64 = 1_099_511_627_776;
+/// The most steps that a run of the source may be asked for.
+pub const MAX_STEPS: u64 = MAX_CYCLES;
 
 /// The budget where none is given, in cycles.
 pub const DEFAULT_BUDGET: u64 = 1_000_000;
@@ -22,7 +20,7 @@ pub const DEFAULT_BUDGET: u64 = 1_000_000;
 pub const MAX_SIZE: u64 = 10_000;
 
 /// The greatest number from which a program is made.
-pub const MAX_NUMBER: u64 = 2_147_483_647;
+pub const MAX_SEED: u64 = 2_147_483_647;
 
 /// An environment that `--env` names.
 #[derive(Clone, Copy, Debug, PartialEq, Eq)]
@@ -88,7 +86,7 @@ pub enum Command<'a> {
         env: EnvName,
         budget: u64,
     },
-    /// `gen SIZE NUMBER`, `size` from 1 to `MAX_SIZE` and `number` at most `MAX_NUMBER`
+    /// `gen SIZE NUMBER`, `size` from 1 to `MAX_SIZE` and `number` at most `MAX_SEED`
     Gen {
         size: u32,
         number: u32,

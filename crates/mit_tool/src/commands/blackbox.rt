@@ -9,7 +9,7 @@ ghost use Rattle.mit_tool.specs.Audited.{HasReleased};
 ghost use Rattle.mit_tool.specs.Answers.{IsAnswer};
 
 use black_box::audit::box_audit;
-use black_box::ready::MAX_RUNS;
+use run_limits::MAX_RUNS;
 use std::alloc::Global;
 use text_base::pos::Memory;
 use tim_base::shelf::Shelf;

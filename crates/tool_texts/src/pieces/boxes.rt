@@ -8,8 +8,8 @@ ghost use Rattle.tool_texts.specs.Reports.{release_lines, releases_of, run_texts
 use super::{put, put_number};
 use crate::lines::report::{bound, release, run};
 use black_box::audit::BoxAudit;
-use black_box::ready::MAX_RUNS;
 use black_box::release::Releases;
+use run_limits::MAX_RUNS;
 use std::alloc::AllocError;
 
 // Appends the releases of a run.
