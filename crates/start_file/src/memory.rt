@@ -8,7 +8,8 @@ ghost use Rattle.toml.specs.View.{view, items_view, table_view};
 ghost use Rattle.mit_syntax.specs.Declarations.{variables, size_in};
 ghost use Rattle.mit_syntax.specs.Valid.{IsValid};
 ghost use Rattle.start_file.specs.Tables.{data_of, items_in, members_in};
-ghost use Rattle.start_file.specs.Values.{slot_of, is_key, names_pass, is_integer, are_integers, is_filling, is_value, values_pass, memory_passes, number_of, elements_of, memory_of, values_of};
+ghost use Rattle.start_file.specs.Values.{slot_of, is_key, names_pass, is_integer, are_integers, is_filling, is_value};
+ghost use Rattle.start_file.specs.Values.{values_pass, memory_passes, number_of, elements_of, memory_of, values_of};
 ghost use Rattle.start_file.specs.Edits.{splice, written};
 
 use crate::fault::StartFault;

@@ -14,11 +14,9 @@ use crate::start::Start;
 use crate::table::at;
 use crate::version::{Version, stated};
 use mit_syntax::program::Program;
+use run_limits::{MAX_RUNS, are_too_many};
 use std::alloc::Global;
 use toml::{Table, Value};
-
-/// The most runs that a start file may have.
-pub const MAX_RUNS: usize = 4096;
 
 fn is_top_key(key: &str) -> bool
     ensures { result ≡ is_top_key key.now }
@@ -81,7 +79,7 @@ fn counted_runs(
     if values.is_empty() {
         return Err(StartFault::NoRuns);
     }
-    if values.len() > MAX_RUNS {
+    if are_too_many(values.len()) {
         return Err(StartFault::TooMany(values.len() as u64));
     }
     all_runs(alloc, program, version, values)
@@ -132,6 +130,6 @@ pub fn read_starts(alloc: Global, bytes: &[u8], program: &Program) -> Result<Vec
     ensures refused { IfErr result (λ e. e ≢ StartFault.Memory → Gives program.now bytes.now (Err e)) }
 {
     let table = document(alloc, bytes)?;
-    let _ = program.body();
+    program.laws();
     starts_in(alloc, program, &table)
 }

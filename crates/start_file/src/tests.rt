@@ -1,5 +1,5 @@
 use crate::fault::StartFault;
-use crate::starts::{MAX_RUNS, read_starts};
+use crate::starts::read_starts;
 use env_contract::place::{Place, Touch};
 use indexmap::IndexMap;
 use label_lattice::label::Label;
@@ -7,6 +7,7 @@ use label_lattice::lattice::Lattice;
 use label_lattice::name::Name;
 use mit_syntax::ast::{Command, Form};
 use mit_syntax::program::Program;
+use run_limits::MAX_RUNS;
 use std::alloc::{AllocError, Global};
 use std::test::Fail;
 use text_base::pos::Pos;
