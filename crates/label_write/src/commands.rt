@@ -24,7 +24,9 @@ fn write_form(
 ) -> Result<(usize, Form), AllocError>
     requires { number + count (command_plan c.now Done) < 2 ^ 31 }
     ensures number { IfOk result (λ r. r.0 ≡ number + count (command_plan c.now Done)) }
-    ensures form { IfOk result (λ r. (rest : Plan) → written_plan order.now labels.now (command_plan c.now rest) number ≡ form_plan r.1 (with_marks (placed (marks_of order.now labels.now) (record { pos = c.now.pos; labels = c.now.labels }) number)) (written_plan order.now labels.now rest r.0)) }
+    ensures form { IfOk result (λ r. (rest : Plan) → written_plan order.now labels.now (command_plan c.now rest) number
+        ≡ form_plan r.1 (with_marks (placed (marks_of order.now labels.now) (record { pos = c.now.pos; labels = c.now.labels }) number))
+        (written_plan order.now labels.now rest r.0)) }
 {
     let next = number + 1;
     match &c.form {
@@ -113,7 +115,8 @@ fn write_command(
 ) -> Result<(usize, Command), AllocError>
     requires { number + count (command_plan c.now Done) < 2 ^ 31 }
     ensures number { IfOk result (λ r. r.0 ≡ number + count (command_plan c.now Done)) }
-    ensures command { IfOk result (λ r. (rest : Plan) → written_plan order.now labels.now (command_plan c.now rest) number ≡ command_plan r.1 (written_plan order.now labels.now rest r.0)) }
+    ensures command { IfOk result (λ r. (rest : Plan) → written_plan order.now labels.now (command_plan c.now rest) number
+        ≡ command_plan r.1 (written_plan order.now labels.now rest r.0)) }
 {
     let (next, form) = write_form(alloc, c, labels, order, number)?;
     let command = Command {
