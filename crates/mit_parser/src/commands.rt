@@ -225,7 +225,7 @@ impl<'a> Parser<'a> {
         if self.accept_key(Keyword::Else)? {
             return self.block(alloc, names);
         }
-        let mut list = Vec::new(alloc);
+        let mut list = Vec::with_capacity(alloc, 1)?;
         list.push(Command {
             pos,
             labels: None,
@@ -239,8 +239,8 @@ impl<'a> Parser<'a> {
     pub fn commands(&mut self, alloc: Global, names: &Names) -> Result<Vec<Command>, ParseFault>
         ensures { MatchResult result (λ v. IsCommands (scope_of names.now) self.old self.new (list_plan v.items)) (Refused commands self.old self.new) }
     {
-        let mut list = Vec::new(alloc);
         let first = self.command(alloc, names)?;
+        let mut list = Vec::with_capacity(alloc, 1)?;
         list.push(first)?;
         while self.at_sign(Sign::Semicolon) {
             self.advance()?;
