@@ -37,6 +37,7 @@ use Rattle.mit_parser.proofs.Small.{small_commands, numbered_commands, count_com
 use Rattle.mit_parser.proofs.Numbered.{as_labels_below, numbers_below}
 use Rattle.mit_parser.proofs.Heads.{labels_some}
 use Rattle.mit_parser.proofs.Ready.{AreGood, GoodAll, all_good, names_all, labels_all, arrays_all, proper_header}
+use Rattle.mit_parser.proofs.NamedWhole.{resolves_of}
 use Rattle.mit_parser.proofs.Noted.{IsOfNames, misnamed, kept_of, of_commands, keep_commands, keep_declared, of_declared, many_of, of_header, lattice_of_names}
 
 -- the end passes no limit
@@ -203,14 +204,14 @@ module _ (words : List Told) (lattice : Option Order) (pairs : List (Label × La
 
           pub resolves : Resolves tree (syntax q pairs variables body)
           resolves =
-              record {
+              resolves_of tree (syntax q pairs variables body) (record {
                 header = header_fine.none;
                 order = built;
                 pairs = header_fine.kept_pairs;
                 declarations = declared_are;
                 body = no_body;
                 plan = planned;
-              }
+              })
 
       -- the parts are those of a program
       module _ (proper : AreProper words) (short : length words ≤ 2 ^ 31) (q : Order) (there : lattice ≡ Some q) (order : IsOrder q) (few : AreFew variables) (differ : AllDiffer (map (λ d. d.0) variables)) where

@@ -18,4 +18,8 @@ pub mod Sound
 pub mod Tabled
 pub mod Noted
 pub mod Ready
+pub mod Lookup
+pub mod NamedUses
+pub mod NamedHeader
+pub mod NamedWhole
 pub mod Finish

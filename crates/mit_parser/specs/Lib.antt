@@ -6,6 +6,7 @@ pub mod Limits
 pub mod Scope
 pub mod Meaning
 pub mod Faults
+pub mod Named
 pub mod Spells
 pub mod State
 pub mod Inside

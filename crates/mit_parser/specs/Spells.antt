@@ -1,5 +1,5 @@
 -- What the parser answers: the program that the words spell, or why there is none.
-use Rattle.std.specs.Prelude.{◌≡◌, None, true, List, [], ◌∷◌, ◌++◌}
+use Rattle.std.specs.Prelude.{◌≡◌, true, List, [], ◌∷◌, ◌++◌}
 use Rattle.text_base.specs.declared.pos.Pos.{Pos}
 use Rattle.label_lattice.specs.Chains.{IsBuilt}
 use Rattle.mit_syntax.specs.Program.{Syntax, plan_of}
@@ -11,7 +11,8 @@ use Rattle.mit_parser.specs.Counting.{nothing_yet, count, is_over, counts_after,
 use Rattle.mit_parser.specs.Limits.{CommandsWithin}
 use Rattle.mit_parser.specs.Scope.{scope}
 use Rattle.mit_parser.specs.Meaning.{plan_commands}
-use Rattle.mit_parser.specs.Faults.{header_labels, header_pairs, header_fault, declared_by, body_fault, IsNameFault}
+use Rattle.mit_parser.specs.Named.{label_names, label_pairs, declarations_in, IsNamed}
+use Rattle.mit_parser.specs.Faults.{IsNameFault}
 
 -- the tree spells the words, the last of which is the end
 abbrev pub Spells : ProgramTree → List Told → Type 0
@@ -21,14 +22,13 @@ Spells t words = (e : Pos) × (words ≡ front_program t (end_at e ∷ []))
 abbrev pub Begins : List Told → Type 0
 Begins p = (w : List Told) × (t : ProgramTree) × Spells t (p ++ w)
 
--- the tree means the program, and nothing is wrong with its names
+-- the names of the tree are right, and with what they stand for it means the program
 pub record Resolves (t : ProgramTree) (s : Syntax) : Type 0 where
-  pub header : header_fault t.header ≡ None
-  pub order : IsBuilt (header_labels t.header).names (header_pairs t.header) s.order
-  pub pairs : s.pairs ≡ header_pairs t.header
-  pub declarations : s.declarations ≡ (declared_by (header_labels t.header).names t.declarations).list
-  pub body : body_fault t ≡ None
-  pub plan : plan_of s ≡ plan_commands (scope (header_labels t.header).names s.declarations) 0 t.commands
+  pub named : IsNamed t
+  pub order : IsBuilt (label_names t.header) (label_pairs t.header) s.order
+  pub pairs : s.pairs ≡ label_pairs t.header
+  pub declarations : s.declarations ≡ declarations_in (label_names t.header) t.declarations
+  pub plan : plan_of s ≡ plan_commands (scope (label_names t.header) s.declarations) 0 t.commands
 
 -- a tree within the limits spells the words, and means the program
 pub record IsProgram (words : List Told) (s : Syntax) : Type 0 where

@@ -8,7 +8,7 @@ ghost use Rattle.mit_parser.specs.Scope.{labels_in};
 ghost use Rattle.mit_parser.specs.Reads.{scope_of, IsSecond, IsMarks, IsCommand, IsBlock, IsElse, IsCommands, Refused};
 
 use crate::fault::ParseFault;
-use crate::names::{Names, array_fault, array_place, both, scalar_fault, scalar_number};
+use crate::names::{Names, array_use, both, scalar_use};
 use crate::parser::Parser;
 use label_lattice::label::Label;
 use label_lattice::lattice::Lattice;
@@ -69,8 +69,8 @@ impl<'a> Parser<'a> {
         let name = self.name_here();
         self.advance()?;
         if !self.at_sign(Sign::LeftSquare) {
-            self.note(scalar_fault(&names.variables, &name, pos));
-            let variable = scalar_number(&names.variables, &name);
+            let (fault, variable) = scalar_use(&names.variables, &name, pos);
+            self.note(fault);
             self.sign(Sign::Assign)?;
             let value = self.expr(alloc, names)?;
             let labels = self.marks(&names.lattice)?;
@@ -80,8 +80,8 @@ impl<'a> Parser<'a> {
                 form: Form::Assign { variable, value },
             });
         }
-        self.note(array_fault(&names.variables, &name, pos));
-        let (first, length) = array_place(&names.variables, &name);
+        let (fault, place) = array_use(&names.variables, &name, pos);
+        self.note(fault);
         let index = self.index(alloc, names)?;
         self.sign(Sign::Assign)?;
         let value = self.expr(alloc, names)?;
@@ -90,8 +90,8 @@ impl<'a> Parser<'a> {
             pos,
             labels,
             form: Form::Put {
-                first,
-                length,
+                first: place.0,
+                length: place.1,
                 index,
                 value,
             },
@@ -225,7 +225,7 @@ impl<'a> Parser<'a> {
         if self.accept_key(Keyword::Else)? {
             return self.block(alloc, names);
         }
-        let mut list = Vec::new(alloc);
+        let mut list = Vec::with_capacity(alloc, 1)?;
         list.push(Command {
             pos,
             labels: None,
@@ -239,8 +239,8 @@ impl<'a> Parser<'a> {
     pub fn commands(&mut self, alloc: Global, names: &Names) -> Result<Vec<Command>, ParseFault>
         ensures { MatchResult result (λ v. IsCommands (scope_of names.now) self.old self.new (list_plan v.items)) (Refused commands self.old self.new) }
     {
-        let mut list = Vec::new(alloc);
         let first = self.command(alloc, names)?;
+        let mut list = Vec::with_capacity(alloc, 1)?;
         list.push(first)?;
         while self.at_sign(Sign::Semicolon) {
             self.advance()?;

@@ -8,7 +8,7 @@ ghost use Rattle.mit_parser.specs.Machine.{an_atom, an_index, a_term, a_sum, an_
 ghost use Rattle.mit_parser.specs.Reads.{scope_of, IsAtom, IsIndex, IsTerm, IsSum, IsWhole, Refused};
 
 use crate::fault::ParseFault;
-use crate::names::{Names, array_fault, array_place, scalar_fault, scalar_number};
+use crate::names::{Names, array_use, scalar_use};
 use crate::parser::Parser;
 use mit_syntax::ast::Expr;
 use mit_syntax::token::{Sign, TokenKind};
@@ -46,16 +46,16 @@ impl<'a> Parser<'a> {
         let name = self.name_here();
         self.advance()?;
         if !self.at_sign(Sign::LeftSquare) {
-            self.note(scalar_fault(&names.variables, &name, pos));
-            let variable = scalar_number(&names.variables, &name);
+            let (fault, variable) = scalar_use(&names.variables, &name, pos);
+            self.note(fault);
             return Ok(Expr::Variable(variable));
         }
-        self.note(array_fault(&names.variables, &name, pos));
+        let (fault, place) = array_use(&names.variables, &name, pos);
+        self.note(fault);
         let index = self.index(alloc, names)?;
-        let (first, length) = array_place(&names.variables, &name);
         Ok(Expr::Element {
-            first,
-            length,
+            first: place.0,
+            length: place.1,
             index: Box::new(alloc, index)?,
         })
     }

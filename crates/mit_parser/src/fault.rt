@@ -5,8 +5,8 @@ ghost use Rattle.std.specs.Prelude.{◌≡◌};
 
 use label_lattice::fault::LatticeFault;
 use std::alloc::{AllocError, AllocFailed};
-use thiserror::Error;
 use text_base::pos::Pos;
+use thiserror::Error;
 
 /// Why tokens spell no program.
 #[derive(Clone, Copy, Debug, PartialEq, Eq, Error)]

@@ -1,7 +1,8 @@
 //! What names stand for, and which uses of them are wrong.
 
-ghost use Rattle.std.specs.Prelude.{◌≡◌, Some};
+ghost use Rattle.std.specs.Prelude.{◌≡◌, cond, Some};
 ghost use Rattle.std.specs.Option.{option_map};
+ghost use Rattle.mit_parser.specs.declared.fault.ParseFault.TheVariants.{Misuse, Unknown};
 ghost use Rattle.mit_parser.specs.Scope.{labels_in, find_label, label_fault, scalar_fault, array_fault, as_label, or_else};
 ghost use Rattle.mit_parser.specs.Meaning.{both, label};
 ghost use Rattle.mit_syntax.specs.Declarations.{find_scalar, find_array};
@@ -27,8 +28,8 @@ fn find_in(lattice: &Lattice, name: &Name) -> Option<Label>
     lattice.find(name)
 }
 
-/// The label with a name.
-pub fn find_label(lattice: &Option<Lattice>, name: &Name) -> Option<Label>
+// The label with a name.
+fn find_label(lattice: &Option<Lattice>, name: &Name) -> Option<Label>
     ensures { result ≡ option_map as_label (find_label (labels_in lattice.now) name.now) }
 {
     match lattice {
@@ -47,49 +48,53 @@ pub fn label_fault(lattice: &Option<Lattice>, name: &Name, pos: Pos) -> Option<P
     }
 }
 
-/// What is wrong with a name without an index at a position.
-pub fn scalar_fault(variables: &Variables, name: &Name, pos: Pos) -> Option<ParseFault>
-    ensures { result ≡ scalar_fault variables.now name.now pos }
+// What is wrong with a name that cannot be used so: it is declared otherwise, or not at all.
+fn misuse(is_declared: bool, pos: Pos) -> ParseFault
+    ensures { result ≡ cond is_declared (Misuse pos) (Unknown pos) }
 {
-    if variables.find_variable(name).is_some() {
-        return None;
-    }
-    match variables.find_array(name) {
-        Some(_) => Some(ParseFault::Misuse(pos)),
-        None => Some(ParseFault::Unknown(pos)),
+    if is_declared {
+        ParseFault::Misuse(pos)
+    } else {
+        ParseFault::Unknown(pos)
     }
 }
 
-/// What is wrong with a name with an index at a position.
-pub fn array_fault(variables: &Variables, name: &Name, pos: Pos) -> Option<ParseFault>
-    ensures { result ≡ array_fault variables.now name.now pos }
-{
-    if variables.find_array(name).is_some() {
-        return None;
-    }
-    match variables.find_variable(name) {
-        Some(_) => Some(ParseFault::Misuse(pos)),
-        None => Some(ParseFault::Unknown(pos)),
-    }
-}
-
-/// The number of the scalar with a name, or 0 where no scalar has it.
-pub fn scalar_number(variables: &Variables, name: &Name) -> u32
-    ensures { result ≡ or_else 0 (find_scalar variables.now name.now) }
+/// What is wrong with a name without an index at a position, and the number of the scalar with the name, or 0
+/// where no scalar has it.
+pub fn scalar_use(variables: &Variables, name: &Name, pos: Pos) -> (Option<ParseFault>, u32)
+    ensures fault { result.0 ≡ scalar_fault variables.now name.now pos }
+    ensures number { result.1 ≡ or_else 0 (find_scalar variables.now name.now) }
 {
     match variables.find_variable(name) {
-        Some(number) => number,
-        None => 0,
+        Some(number) => (None, number),
+        None => (Some(misuse(variables.find_array(name).is_some(), pos)), 0),
     }
 }
 
-/// The first variable and the length of the array with a name, or zeros where no array has it.
-pub fn array_place(variables: &Variables, name: &Name) -> (u32, u32)
-    ensures { result ≡ or_else (0, 0) (find_array variables.now name.now) }
+/// What is wrong with a name with an index at a position, and the first variable and the length of the array with
+/// the name, or zeros where no array has it.
+pub fn array_use(variables: &Variables, name: &Name, pos: Pos) -> (Option<ParseFault>, (u32, u32))
+    ensures fault { result.0 ≡ array_fault variables.now name.now pos }
+    ensures place { result.1 ≡ or_else (0, 0) (find_array variables.now name.now) }
 {
     match variables.find_array(name) {
-        Some(place) => place,
-        None => (0, 0),
+        Some(place) => (None, place),
+        None => (
+            Some(misuse(variables.find_variable(name).is_some(), pos)),
+            (0, 0),
+        ),
+    }
+}
+
+/// What is wrong with the name of a label at a position, and the label with the name, or the first one where no
+/// label has it.
+pub fn label_use(lattice: &Option<Lattice>, name: &Name, pos: Pos) -> (Option<ParseFault>, Label)
+    ensures fault { result.0 ≡ label_fault (labels_in lattice.now) name.now pos }
+    ensures label { result.1 ≡ label (labels_in lattice.now) name.now }
+{
+    match find_label(lattice, name) {
+        Some(label) => (None, label),
+        None => (Some(ParseFault::Unknown(pos)), Label::new(0)),
     }
 }
 

@@ -13,7 +13,7 @@ ghost use Rattle.mit_parser.specs.Reads.{Passed, Over, Refused, Found, Took, Too
 
 use crate::counts::{Counts, counted, is_over};
 use crate::fault::ParseFault;
-use crate::names::{find_label, label_fault};
+use crate::names::label_use;
 use crate::operators::{addend_op, comparison_op, factor_op};
 use label_lattice::label::Label;
 use label_lattice::lattice::Lattice;
@@ -278,7 +278,8 @@ impl<'a> Parser<'a> {
         ensures label { result ≡ label (labels_in lattice.now) name.now }
         ensures state { self.new ≡ with_fault self.old (kept self.old.fault (label_fault (labels_in lattice.now) name.now pos)) }
     {
-        self.note(label_fault(lattice, name, pos));
-        find_label(lattice, name).unwrap_or(Label::new(0))
+        let (fault, label) = label_use(lattice, name, pos);
+        self.note(fault);
+        label
     }
 }

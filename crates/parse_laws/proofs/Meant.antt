@@ -15,7 +15,7 @@ use Rattle.mit_parser.specs.Words.{Told, told}
 use Rattle.mit_parser.specs.Scope.{scope}
 use Rattle.mit_parser.specs.Tree.{ProgramTree}
 use Rattle.mit_parser.specs.Meaning.{plan_commands}
-use Rattle.mit_parser.specs.Faults.{header_labels, header_pairs}
+use Rattle.mit_parser.specs.Named.{label_names, label_pairs}
 use Rattle.mit_parser.specs.Spells.{IsProgram, Resolves}
 use Rattle.parse_laws.specs.Spelled.{IsSpelled}
 use Rattle.parse_laws.specs.ReadBack.{Same}
@@ -24,16 +24,16 @@ use Rattle.parse_laws.proofs.WholeText.{reads_back}
 
 pub program_spelled : (words : List Told) (s : Syntax) → IsProgram words s → IsSpelled words
 program_spelled words s p =
-    record { tree = p.tree; spells = p.spells; within = p.within; header = p.resolves.header; sound = p.resolves.order.sound; body = p.resolves.body }
+    record { tree = p.tree; spells = p.spells; within = p.within; named = p.resolves.named; sound = p.resolves.order.sound }
 
 abbrev program : Order → List (Label × Label) → List Declaration → Plan → Syntax
 program o ps ds p = record { order = o; pairs = ps; declarations = ds; plan = p }
 
 same : (t : ProgramTree) (s u : Syntax) → Resolves t s → Resolves t u → s ≡ u
 same t s u a b =
-    let names : List (List ℕ) = (header_labels t.header).names in
+    let names : List (List ℕ) = label_names t.header in
     let declarations : s.declarations ≡ u.declarations = a.declarations ∙ sym b.declarations in
-    ap (λ o. program o s.pairs s.declarations s.plan) (one_order names (header_pairs t.header) s.order u.order a.order b.order)
+    ap (λ o. program o s.pairs s.declarations s.plan) (one_order names (label_pairs t.header) s.order u.order a.order b.order)
     ∙ ap (λ ps. program u.order ps s.declarations s.plan) (a.pairs ∙ sym b.pairs)
     ∙ ap (λ ds. program u.order u.pairs ds s.plan) declarations
     ∙ ap (λ p. program u.order u.pairs u.declarations p) (a.plan ∙ ap (λ (ds : List Declaration). plan_commands (scope names ds) 0 t.commands) declarations ∙ sym b.plan)

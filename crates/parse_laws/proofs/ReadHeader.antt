@@ -19,7 +19,7 @@ use Rattle.mit_parser.specs.Scope.{find_label, as_label, or_else, kept, label_fa
 use Rattle.mit_parser.specs.Faults.{Labelled, labelled, add_label, add_labels, header_labels, pair_numbers, more_numbers, ordering_numbers, as_labels, header_pairs, note_pair, note_more_pairs, note_ordering, header_fault, length_fault, twice_fault, decl_of, declaring, added, declare, declare_all}
 use Rattle.parse_laws.proofs.Saying.{Says}
 use Rattle.parse_laws.proofs.Parted.{Every}
-use Rattle.parse_laws.proofs.Looking.{found_none, apart_before, absent}
+use Rattle.mit_parser.proofs.Lookup.{found_none, apart_before, absent}
 use Rattle.parse_laws.proofs.ReadExpression.{Reader, kept_none}
 
 -- names behind others are added to them

@@ -1,5 +1,5 @@
 -- Words that spell a program are not refused.
-use Rattle.std.proofs.Common.{◌≡◌, refl, sym, ◌∙◌, subst, ℕ, List, [], ◌∷◌, ◌++◌, append_assoc, false, inl, inr, length, arith}
+use Rattle.std.proofs.Common.{◌≡◌, refl, sym, ap, ◌∙◌, subst, ℕ, List, [], ◌∷◌, ◌++◌, append_assoc, false, inl, inr, length, arith}
 use Rattle.std.proofs.lemmas.Option.{none-some}
 use Rattle.text_base.specs.declared.pos.Pos.{Pos}
 use Rattle.label_lattice.specs.declared.label.Label.{Label}
@@ -13,8 +13,10 @@ use Rattle.mit_parser.specs.Words.{Told}
 use Rattle.mit_parser.specs.Counting.{nothing_yet, count, is_over, counts_after, Fits}
 use Rattle.mit_parser.specs.Tree.{ProgramTree}
 use Rattle.mit_parser.specs.Limits.{CommandsWithin}
-use Rattle.mit_parser.specs.Faults.{header_labels, header_pairs, IsLatticeFault, IsNameFault}
+use Rattle.mit_parser.specs.Faults.{Labelled, header_labels, header_pairs, IsLatticeFault, IsNameFault}
+use Rattle.mit_parser.specs.Named.{label_pairs}
 use Rattle.mit_parser.specs.Spells.{Spells, IsUnexpected, IsTooDeep, IsMisnamed, Refuses}
+use Rattle.mit_parser.proofs.NamedWhole.{labels_kept, pairs_kept, no_header_fault, no_body_fault}
 use Rattle.parse_laws.specs.Spelled.{IsSpelled}
 use Rattle.parse_laws.proofs.OneProgram.{one_tree}
 use Rattle.parse_laws.proofs.Within.{fits_program}
@@ -57,10 +59,16 @@ module _ (words : List Told) (t : ProgramTree) (spells : Spells t words) where
       cc
 
 module _ (words : List Told) (h : IsSpelled words) where
+  sound : IsSound (length (header_labels h.tree.header).names) (Chain (header_pairs h.tree.header))
+  sound =
+      let P : List (List ℕ) → Type 0 = λ n. IsSound (length n) (Chain (label_pairs h.tree.header)) in
+      let Q : List (Label × Label) → Type 0 = λ p. IsSound (length (header_labels h.tree.header).names) (Chain p) in
+      subst Q (sym (pairs_kept h.tree h.named)) (subst P (sym (ap (λ (l : Labelled). l.names) (labels_kept h.tree h.named))) h.sound)
+
   no_name_fault : (f : ParseFault) → IsNameFault h.tree f → ⊥
-  no_name_fault f (inl e) = none-some f (sym h.header ∙ e)
-  no_name_fault f (inr (inl e)) = no_lattice_fault (header_labels h.tree.header).names (header_pairs h.tree.header) h.sound f e.1
-  no_name_fault f (inr (inr e)) = none-some f (sym h.body ∙ e.2)
+  no_name_fault f (inl e) = none-some f (sym (no_header_fault h.tree h.named) ∙ e)
+  no_name_fault f (inr (inl e)) = no_lattice_fault (header_labels h.tree.header).names (header_pairs h.tree.header) sound f e.1
+  no_name_fault f (inr (inr e)) = none-some f (sym (no_body_fault h.tree h.named) ∙ e.2)
 
   not_misnamed : (f : ParseFault) → IsMisnamed words f → ⊥
   not_misnamed f m = no_name_fault f (subst (λ t. IsNameFault t f) (one_tree words m.tree h.tree m.spells h.spells) m.first)

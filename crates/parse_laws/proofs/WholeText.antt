@@ -22,7 +22,9 @@ use Rattle.mit_parser.specs.Scope.{find_label, scope, kept}
 use Rattle.mit_parser.specs.Meaning.{plan_commands}
 use Rattle.mit_parser.specs.Faults.{Labelled, header_pairs, Declared, declared_by, many_fault, note_commands}
 use Rattle.parse_laws.specs.ReadBack.{ReadsBack}
-use Rattle.parse_laws.proofs.Looking.{found_at, lexed_name}
+use Rattle.mit_parser.proofs.Lookup.{found_at}
+use Rattle.mit_parser.proofs.NamedWhole.{resolves_of}
+use Rattle.parse_laws.proofs.Looking.{lexed_name}
 use Rattle.parse_laws.proofs.Apart.{Apart}
 use Rattle.parse_laws.proofs.Parted.{Every, IsLengthSmall, IsWritable, chunks_apart}
 use Rattle.parse_laws.proofs.Saying.{are_said}
@@ -160,7 +162,7 @@ module _ (s : Syntax) (v : IsValid s) where
           tree = tree;
           spells = (e.0, H.are ∙ ap (front_header H.tree) (D.are ∙ ap (front_declarations D.tree) (C.are ∙ ap (front_list C.tree) e.1)));
           within = C.is.within;
-          resolves = record {
+          resolves = resolves_of tree (record { order = o; pairs = ps; declarations = ds; plan = C.is.read }) (record {
             header = H.is.calm;
             order = subst (λ (n : List (List ℕ)). IsBuilt n (header_pairs H.tree) o) (ap (λ (l : Labelled). l.names) (sym H.is.labels)) (subst (λ (p : List (Label × Label)). IsBuilt o.names p o) (sym H.is.pairs) (built o ps v.order v.flows));
             pairs = sym H.is.pairs;
@@ -171,7 +173,7 @@ module _ (s : Syntax) (v : IsValid s) where
                 ∙ ap (note_commands (scope o.names ds) cs) (not_many ds v.few.count)
                 ∙ C.is.calm None;
             plan = sym (ap (λ (l : Labelled). plan_commands (scope l.names ds) 0 cs) H.is.labels ∙ C.is.plan);
-          };
+          });
         };
         same = record { order = refl; pairs = refl; declarations = refl; commands = C.is.same };
       }

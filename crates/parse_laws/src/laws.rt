@@ -1,10 +1,12 @@
 //! Laws of the parser. The functions do nothing at run time: their contracts say what is true.
 
-ghost use Rattle.std.specs.Prelude.{◌≡◌, ◌≢◌, ℕ, List};
+ghost use Rattle.std.specs.Prelude.{◌≡◌, ◌≢◌, ◌↔◌, ℕ, List, None};
 ghost use Rattle.mit_parser.specs.declared.fault.ParseFault.{ParseFault};
 ghost use Rattle.mit_parser.specs.declared.fault.ParseFault.TheVariants.{Memory};
 ghost use Rattle.mit_parser.specs.Words.{Told, told};
 ghost use Rattle.mit_parser.specs.Tree.{ProgramTree};
+ghost use Rattle.mit_parser.specs.Faults.{header_fault, body_fault};
+ghost use Rattle.mit_parser.specs.Named.{IsNamed};
 ghost use Rattle.mit_parser.specs.Spells.{Spells, IsProgram, Refuses};
 ghost use Rattle.mit_syntax.specs.declared.token.Token.{Token};
 ghost use Rattle.mit_syntax.specs.declared.fault.TextFault.{TextFault};
@@ -21,8 +23,13 @@ pub fn one_tree()
     ensures { (words : List Told) (t u : ProgramTree) → Spells t words → Spells u words → t ≡ u }
 {}
 
-/// Words that spell a program within the limits, with nothing wrong with its names, are refused for want of
-/// memory alone.
+/// The names of a tree are right exactly where nothing is found that is wrong with them, its lattice aside.
+pub fn no_fault_is_named()
+    ensures { (t : ProgramTree) → IsNamed t ↔ ((header_fault t.header ≡ None) × (body_fault t ≡ None)) }
+{}
+
+/// Words that spell a program within the limits, whose names are right and whose labels make a lattice, are
+/// refused for want of memory alone.
 pub fn spelled_is_not_refused()
     ensures { (words : List Told) → IsSpelled words → (f : ParseFault) → Refuses words f → f ≡ Memory }
 {}

@@ -8,7 +8,7 @@ use Rattle.mit_syntax.specs.Program.{Syntax, plan_of}
 use Rattle.mit_syntax.specs.Valid.{IsValid, AreNumbered}
 use Rattle.mit_parser.specs.Words.{Told}
 use Rattle.mit_parser.specs.Scope.{scope}
-use Rattle.mit_parser.specs.Faults.{header_labels}
+use Rattle.mit_parser.specs.Named.{label_names}
 use Rattle.mit_parser.specs.Spells.{IsProgram}
 use Rattle.mit_parser.proofs.Small.{numbered_commands}
 use Rattle.parse_laws.proofs.Meant.{program_order}
@@ -38,7 +38,7 @@ sound_in v serves halted cut p q valid types =
 -- a program that words spell
 pub typed_made : (words : List Told) (p : Syntax) (q : LabelledProgram) → IsProgram words p → q.program ≡ p → IsLabelling p q.labels → HasType q → IsTypedWith q
 typed_made words p q spelled is labelling typed =
-    let numbered = subst (AreNumbered 0) (sym spelled.resolves.plan) (numbered_commands (scope (header_labels spelled.tree.header).names p.declarations) spelled.tree.commands 0) in
+    let numbered = subst (AreNumbered 0) (sym spelled.resolves.plan) (numbered_commands (scope (label_names spelled.tree.header) p.declarations) spelled.tree.commands 0) in
     record {
       lattice = subst (λ (s : Syntax). IsLattice (lattice_of s.order)) (sym is) (order_is p.order (program_order words p spelled));
       numbered = subst (λ (s : Syntax). AreNumbered 0 (plan_of s)) (sym is) numbered;

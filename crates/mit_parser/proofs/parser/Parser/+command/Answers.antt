@@ -44,7 +44,7 @@ commands-returns-in_err-first t c =
     rw (p.1, p.2) (within c.args.self.now c.args.self.now c.command.new.self commands a_command (λ s. more ∷ s) _ (λ s. rule_commands s c.args.self.now.counts c.args.self.now.words) c.in_err-first.ensures)
 
 pub commands-loop-alloc-init : goal.commands-loop-alloc-init
-commands-loop-alloc-init t c = commands_first _ _ _ _ _ c.in_ok-first.ensures (c.in_ok-push.ensures.items ∙ ap (λ l. l ++ c.in_ok-first.first ∷ []) c.new-list.ensures.items)
+commands-loop-alloc-init t c = commands_first _ _ _ _ _ c.in_ok-first.ensures (c.in_ok-push.ensures.items ∙ ap (λ l. l ++ c.in_ok-first.first ∷ []) c.in_ok-list.ensures.items)
 
 pub commands-loop-alloc-preserved : goal.commands-loop-alloc-preserved
 commands-loop-alloc-preserved t c =
@@ -65,4 +65,4 @@ otherwise-returns-then-branch t c =
 pub otherwise-returns : goal.otherwise-returns
 otherwise-returns t c =
     let was = was_absent (word (key Else)) _ _ _ c.if-branch.false c.in_ok-accept_key.ensures in
-    rw (was.0, rw c.new-list.ensures.items at c.in_ok-push.ensures.items) (else_none (scope_of c.args.names.now) c.args.pos c.args.self.now was.1)
+    rw (was.0, rw c.in_ok-list.ensures.items at c.in_ok-push.ensures.items) (else_none (scope_of c.args.names.now) c.args.pos c.args.self.now was.1)

@@ -21,8 +21,8 @@ atom-returns-in_ok-sign-in-Sign-LeftRound t c =
 
 pub named-returns-then-not-at_sign : goal.named-returns-then-not-at_sign
 named-returns-then-not-at_sign t c =
-    rw (c.note.ensures, c.scalar_fault.ensures) (atom_scalar (scope_of c.args.names.now) c.args.self.now c.advance.new.self c.name_here-name.result c.pos-pos.result _ c.name_here-name.ensures c.pos-pos.ensures c.in_ok-advance.ensures
-    (sym c.at_sign.ensures ∙ c.if-not-at_sign.true) c.scalar_number-variable.ensures)
+    rw (c.note.ensures, c.scalar_use-fault.ensures.fault) (atom_scalar (scope_of c.args.names.now) c.args.self.now c.advance.new.self c.name_here-name.result c.pos-pos.result _ c.name_here-name.ensures c.pos-pos.ensures c.in_ok-advance.ensures
+    (sym c.at_sign.ensures ∙ c.if-not-at_sign.true) c.scalar_use-fault.ensures.number)
 
 pub named-returns-in_err-index : goal.named-returns-in_err-index
 named-returns-in_err-index t c =
@@ -32,8 +32,8 @@ named-returns-in_err-index t c =
 
 pub named-returns : goal.named-returns
 named-returns t c =
-    atom_element (scope_of c.args.names.now) c.args.self.now c.advance.new.self _ c.name_here-name.result c.pos-pos.result c.array_place-first.result _ c.name_here-name.ensures c.pos-pos.ensures c.in_ok-advance.ensures
-    (rw c.in_ok-new.ensures.ok (rw (c.note-2.ensures, c.array_fault.ensures) at c.in_ok-index.ensures)) c.array_place-first.ensures
+    atom_element (scope_of c.args.names.now) c.args.self.now c.advance.new.self _ c.name_here-name.result c.pos-pos.result c.array_use-fault.result.1 _ c.name_here-name.ensures c.pos-pos.ensures c.in_ok-advance.ensures
+    (rw c.in_ok-new.ensures.ok (rw (c.note-2.ensures, c.array_use-fault.ensures.fault) at c.in_ok-index.ensures)) c.array_use-fault.ensures.place
 
 pub index-returns-in_err-sign : goal.index-returns-in_err-sign
 index-returns-in_err-sign t c =

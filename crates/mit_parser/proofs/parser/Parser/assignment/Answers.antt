@@ -18,8 +18,8 @@ returns-in_err-sign c =
 pub returns-then-not-at_sign : goal.returns-then-not-at_sign
 returns-then-not-at_sign c =
     command_assign (scope_of c.args.names.now) c.args.self.now c.pos-pos.result c.pos-pos.ensures c.advance.new.self c.sign.new.self c.expr.new.self c.marks.new.self c.name_here-name.result _ _ c.in_ok-labels.labels
-    c.name_here-name.ensures c.in_ok-advance.ensures (sym c.at_sign.ensures ∙ c.if-not-at_sign.true) c.scalar_number-variable.ensures
-    (rw (c.note.ensures, c.scalar_fault.ensures) at c.in_ok-sign.ensures) c.in_ok-value.ensures c.in_ok-labels.ensures
+    c.name_here-name.ensures c.in_ok-advance.ensures (sym c.at_sign.ensures ∙ c.if-not-at_sign.true) c.scalar_use-fault.ensures.number
+    (rw (c.note.ensures, c.scalar_use-fault.ensures.fault) at c.in_ok-sign.ensures) c.in_ok-value.ensures c.in_ok-labels.ensures
 
 pub returns-in_err-index : goal.returns-in_err-index
 returns-in_err-index c =
@@ -29,6 +29,6 @@ returns-in_err-index c =
 
 pub returns : goal.returns
 returns c =
-    command_put (scope_of c.args.names.now) c.args.self.now c.pos-pos.result c.pos-pos.ensures c.advance.new.self c.index.new.self c.sign-2.new.self c.expr-2.new.self c.marks-2.new.self c.name_here-name.result c.array_place-first.result _ _ c.in_ok-labels-2.labels
-    c.name_here-name.ensures c.in_ok-advance.ensures c.array_place-first.ensures
-    (rw (c.note-2.ensures, c.array_fault.ensures) at c.in_ok-index.ensures) c.in_ok-sign-2.ensures c.in_ok-value-2.ensures c.in_ok-labels-2.ensures
+    command_put (scope_of c.args.names.now) c.args.self.now c.pos-pos.result c.pos-pos.ensures c.advance.new.self c.index.new.self c.sign-2.new.self c.expr-2.new.self c.marks-2.new.self c.name_here-name.result c.array_use-fault.result.1 _ _ c.in_ok-labels-2.labels
+    c.name_here-name.ensures c.in_ok-advance.ensures c.array_use-fault.ensures.place
+    (rw (c.note-2.ensures, c.array_use-fault.ensures.fault) at c.in_ok-index.ensures) c.in_ok-sign-2.ensures c.in_ok-value-2.ensures c.in_ok-labels-2.ensures

@@ -1,0 +1,10 @@
+pub mod Apart
+pub mod Parts
+pub mod Texts
+pub mod Onto
+pub mod Trees
+pub mod Names
+pub mod Order
+pub mod Wholly
+pub mod Document
+pub mod Given

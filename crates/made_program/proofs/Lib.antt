@@ -1,5 +1,0 @@
-pub mod Onto
-pub mod Trees
-pub mod Names
-pub mod Order
-pub mod Wholly

@@ -1,2 +1,0 @@
-mod Document
-pub mod Given

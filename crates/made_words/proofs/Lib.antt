@@ -1,4 +1,0 @@
-pub mod Apart
-pub mod Numerals
-pub mod Parts
-pub mod Texts

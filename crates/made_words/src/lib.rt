@@ -1,4 +1,0 @@
-//! What the text of a made program says: its words.
-#![tactic(auto)]
-
-pub mod laws;
