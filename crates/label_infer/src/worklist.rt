@@ -61,10 +61,11 @@ impl Worklist {
         steps.tick();
         let condition = condition_at(&self.conditions, i);
         let have = value(&condition.have, &self.variables, &self.order);
+        let target = condition.target;
         self.waits[i] = false;
         self.blocks.take(i);
         self.cursor = i;
-        match condition.target {
+        match target {
             Target::Variable(x) => raise(
                 x,
                 have,
@@ -107,6 +108,7 @@ impl Worklist {
         let order = p.lattice();
         let low = fixed(order.bottom());
         let k = Known {
+            alloc,
             order,
             written: written_labels(alloc, p)?,
         };

@@ -22,7 +22,7 @@ returns-clause-work c =
     let w = c.in_ok-written_labels.field-0 in
     let few = c.in_ok-written_labels.ensures.few in
     let wl = w.ok.0 in
-    let k : Known = record { order = o; written = w; small = omega (arith, few, wl) } in
+    let k : Known = record { alloc = c.args.alloc; order = o; written = w; small = omega (arith, few, wl) } in
     let low = form_of c.fixed-low.result in
     let hl = c.fixed-low.ensures ∙ ap fixed (c.bottom.ensures.value ∙ ap (λ (z : Order). z.bottom) ho) in
     let hc = c.in_ok-list_needs.ensures.needs ∙ ap (λ z. needs_in z ++ needs_from k (list_plan c.body.result.now) low low) c.new-conditions.ensures.items ∙ ap (λ z. needs_from k z low low) c.body.ensures.body in
@@ -43,7 +43,7 @@ returns-clause-steps c =
     let w = c.in_ok-written_labels.field-0 in
     let few = c.in_ok-written_labels.ensures.few in
     let wl = w.ok.0 in
-    let k : Known = record { order = o; written = w; small = omega (arith, few, wl) } in
+    let k : Known = record { alloc = c.args.alloc; order = o; written = w; small = omega (arith, few, wl) } in
     let low = form_of c.fixed-low.result in
     let hl = c.fixed-low.ensures ∙ ap fixed (c.bottom.ensures.value ∙ ap (λ (z : Order). z.bottom) ho) in
     let hc = c.in_ok-list_needs.ensures.needs ∙ ap (λ z. needs_in z ++ needs_from k (list_plan c.body.result.now) low low) c.new-conditions.ensures.items ∙ ap (λ z. needs_from k z low low) c.body.ensures.body in
@@ -65,7 +65,7 @@ invariant_of-result c =
     let w = c.in_ok-written_labels.field-0 in
     let few = c.in_ok-written_labels.ensures.few in
     let wl = w.ok.0 in
-    let k : Known = record { order = o; written = w; small = omega (arith, few, wl) } in
+    let k : Known = record { alloc = c.args.alloc; order = o; written = w; small = omega (arith, few, wl) } in
     let low = form_of c.fixed-low.result in
     let hl = c.fixed-low.ensures ∙ ap fixed (c.bottom.ensures.value ∙ ap (λ (z : Order). z.bottom) ho) in
     let hc = c.in_ok-list_needs.ensures.needs ∙ ap (λ z. needs_in z ++ needs_from k (list_plan c.body.result.now) low low) c.new-conditions.ensures.items ∙ ap (λ z. needs_from k z low low) c.body.ensures.body in
