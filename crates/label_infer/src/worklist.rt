@@ -4,7 +4,7 @@ ghost use Rattle.std.specs.Prelude.{◌≡◌, ◌+◌, ◌<◌, ℕ, length, tr
 ghost use Rattle.mit_syntax.specs.Program.{Syntax};
 ghost use Rattle.mit_syntax.specs.Valid.{IsValid};
 ghost use Rattle.label_infer.specs.declared.needs.Condition.{Condition as Listed};
-ghost use Rattle.label_infer.specs.Work.{Work, Takes, IsDone, IsWorkOf, IsInferred, IsWithin, variable_in, level_in};
+ghost use Rattle.label_infer.specs.Work.{Work, Takes, IsDone, IsWorkOf, IsFirst, IsInferred, IsWithin, variable_in, level_in};
 
 use crate::blocks::Blocks;
 use crate::first::{first_variables, list_levels, written_labels};
@@ -103,6 +103,7 @@ impl Worklist {
     /// `Memory` is want of memory.
     pub fn new(alloc: Global, p: &Program) -> Result<Worklist, Memory>
         ensures work { IfOk result (IsWorkOf p.now) }
+        ensures first { IfOk result (IsFirst p.now) }
         ensures steps { IfOk result (λ w. (c : ℕ) → IsWithin w c 0) }
     {
         let order = p.lattice();
