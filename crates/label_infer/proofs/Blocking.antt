@@ -1,5 +1,5 @@
 -- The rows of blocks, and which blocks need no look.
-use Rattle.std.proofs.Common.{◌≡◌, ℕ, zero, suc, ◌+◌, ◌/◌, ◌<◌, ◌≤◌, refl, sym, ap, ◌∙◌, subst, List, [], ◌∷◌, length, slice_set, arith, ⊎_elim}
+use Rattle.std.proofs.Common.{◌≡◌, ℕ, zero, suc, ◌+◌, ◌/◌, ◌<◌, ◌≤◌, refl, sym, ap, ◌∙◌, subst, List, [], ◌∷◌, ◌++◌, length, slice_set, arith, ⊎_elim}
 use Rattle.std.specs.Prelude.{Bool, true, false, ◌||◌, cond, Some, slice_get}
 use Rattle.std.proofs.lemmas.Bool.{cases_lt, cases_eq, or_left, or_right}
 use Rattle.std.proofs.lemmas.Option.{same_Some, slice_get_within}
@@ -7,9 +7,10 @@ use Rattle.label_infer.specs.declared.row.Row.{Row}
 use Rattle.label_infer.specs.declared.needs.Condition.{Condition}
 use Rattle.label_infer.specs.declared.blocks.Blocks.{Blocks}
 use Rattle.label_infer.specs.Rows.{has_in}
+use Rattle.label_infer.specs.Sets.{has_of}
 use Rattle.label_infer.specs.Blocks.{Includes, Grow, Cover, AreBlocks}
 use Rattle.label_infer.specs.Work.{waits_at, woken}
-use Rattle.label_infer.proofs.Holding.{get_set_same, get_set_other}
+use Rattle.label_infer.proofs.Holding.{get_set_same, get_set_other, get_push_same}
 use Rattle.label_infer.proofs.Taking.{woken_length, woken_at}
 
 pub some_at : {A : Type 0} (xs : List A) (k : ℕ) → k < length xs → (x : A) × (slice_get xs k ≡ Some x)
@@ -18,25 +19,31 @@ some_at (x ∷ xs) zero h = (x, refl)
 some_at (x ∷ xs) (suc k) h = some_at xs k (omega (arith, h))
 
 -- a row that is joined to that of a block
-pub union_grows : (rows : List Row) (i : ℕ) (r s u : Row) → slice_get rows i ≡ Some r → has_in u.words ≡ (λ y. has_in r.words y || has_in s.words y) → Grow rows (slice_set rows i u)
-union_grows rows i r s u e h k p q a b x t = ⊎_elim
+pub union_grows : (rows : List Row) (i : ℕ) (r u : Row) (s : ℕ → Bool) → slice_get rows i ≡ Some r → has_in u.words ≡ (λ y. has_in r.words y || s y) → Grow rows (slice_set rows i u)
+union_grows rows i r u s e h k p q a b x t = ⊎_elim
     (λ (m : k ≡ i).
     let old : p ≡ r = same_Some p r (sym a ∙ ap (slice_get rows) m ∙ e) in
     let new : q ≡ u = same_Some q u (sym b ∙ ap (slice_get (slice_set rows i u)) m ∙ get_set_same rows i u (slice_get_within rows i r e)) in
-    ap (λ (z : Row). has_in z.words x) new ∙ ap (λ (f : ℕ → Bool). f x) h ∙ or_left (has_in r.words x) (has_in s.words x) (ap (λ (z : Row). has_in z.words x) (sym old) ∙ t))
+    ap (λ (z : Row). has_in z.words x) new ∙ ap (λ (f : ℕ → Bool). f x) h ∙ or_left (has_in r.words x) (s x) (ap (λ (z : Row). has_in z.words x) (sym old) ∙ t))
     (λ (n : k ≡ i → ⊥).
     let same : p ≡ q = same_Some p q (sym a ∙ sym (get_set_other rows i k u n) ∙ b) in
     ap (λ (z : Row). has_in z.words x) (sym same) ∙ t)
     (cases_eq k i)
 
-pub union_here : (rows : List Row) (i : ℕ) (r s u q : Row) → slice_get rows i ≡ Some r → has_in u.words ≡ (λ y. has_in r.words y || has_in s.words y) → slice_get (slice_set rows i u) i ≡ Some q → Includes q s
-union_here rows i r s u q e h b x t =
+pub union_here : (rows : List Row) (i : ℕ) (r u q : Row) (s : ℕ → Bool) → slice_get rows i ≡ Some r → has_in u.words ≡ (λ y. has_in r.words y || s y) → slice_get (slice_set rows i u) i ≡ Some q → Includes q s
+union_here rows i r u q s e h b x t =
     let new : q ≡ u = same_Some q u (sym b ∙ get_set_same rows i u (slice_get_within rows i r e)) in
-    ap (λ (z : Row). has_in z.words x) new ∙ ap (λ (f : ℕ → Bool). f x) h ∙ or_right (has_in r.words x) (has_in s.words x) t
+    ap (λ (z : Row). has_in z.words x) new ∙ ap (λ (f : ℕ → Bool). f x) h ∙ or_right (has_in r.words x) (s x) t
+
+-- a row that is pushed
+pub push_here : (rows rows' : List Row) (i : ℕ) (r u q : Row) (s : ℕ → Bool) → rows' ≡ rows ++ u ∷ [] → i ≡ length rows → has_in u.words ≡ (λ y. has_in r.words y || s y) → slice_get rows' i ≡ Some q → Includes q s
+push_here rows rows' i r u q s e n h b x t =
+    let new : u ≡ q = same_Some u q (sym (get_push_same rows u) ∙ ap (slice_get (rows ++ u ∷ [])) (sym n) ∙ ap (λ z. slice_get z i) (sym e) ∙ b) in
+    ap (λ (z : Row). has_in z.words x) (sym new) ∙ ap (λ (f : ℕ → Bool). f x) h ∙ or_right (has_in r.words x) (s x) t
 
 -- one condition more
 pub cover_more : (cs : List Condition) (i : ℕ) (rows rows' : List Row) (c : Condition) → length rows ≡ (i + 63) / 64 → slice_get cs i ≡ Some c → Cover cs i rows → Grow rows rows' →
-    ((r : Row) → slice_get rows' (i / 64) ≡ Some r → Includes r c.have.row) → Cover cs (i + 1) rows'
+    ((r : Row) → slice_get rows' (i / 64) ≡ Some r → Includes r (has_of c.have.variables)) → Cover cs (i + 1) rows'
 cover_more cs i rows rows' c fit e cover grow here k d r h a b = ⊎_elim
     (λ (l : k < i).
     let s = some_at rows (k / 64) (omega (arith, fit, l)) in
@@ -44,7 +51,7 @@ cover_more cs i rows rows' c fit e cover grow here k d r h a b = ⊎_elim
     (λ (l : i ≤ k).
     let q : k ≡ i = omega (arith, l, h) in
     let same : c ≡ d = same_Some c d (sym e ∙ ap (slice_get cs) (sym q) ∙ a) in
-    λ x t. here r (ap (λ z. slice_get rows' (z / 64)) (sym q) ∙ b) x (ap (λ (z : Condition). has_in z.have.row.words x) same ∙ t))
+    λ x t. here r (ap (λ z. slice_get rows' (z / 64)) (sym q) ∙ b) x (ap (λ (z : Condition). has_of z.have.variables x) same ∙ t))
     (cases_lt k i)
 
 -- conditions that now wait too

@@ -25,7 +25,7 @@ get_set_other (x ∷ xs) zero (suc j) v n = refl
 get_set_other (x ∷ xs) (suc i) zero v n = refl
 get_set_other (x ∷ xs) (suc i) (suc j) v n = get_set_other xs i j v (λ e. n (ap suc e))
 
-get_push_same : {A : Type 0} (xs : List A) (v : A) → slice_get (xs ++ v ∷ []) (length xs) ≡ Some v
+pub get_push_same : {A : Type 0} (xs : List A) (v : A) → slice_get (xs ++ v ∷ []) (length xs) ≡ Some v
 get_push_same [] v = refl
 get_push_same (x ∷ xs) v = get_push_same xs v
 

@@ -1,6 +1,6 @@
 -- Joined forms, and the ends and conditions of one command.
 use Rattle.std.proofs.Common.{◌≡◌, ℕ, sym, ap, ◌∙◌, List, [], ◌∷◌, ◌++◌, append_assoc, append-nil, Option, None, Some}
-use Rattle.std.specs.Prelude.{true, false, cond, eqb, is_none}
+use Rattle.std.specs.Prelude.{true, false, cond, eqb, is_none, Result, Ok, Err, IfOk}
 use Rattle.timing_types.specs.Walk.{OfVariable}
 use Rattle.label_lattice.specs.declared.label.Label.{Label}
 use Rattle.label_lattice.specs.Lattice.{Lattice}
@@ -10,6 +10,11 @@ use Rattle.mit_syntax.specs.Plan.{Written, Plan}
 use Rattle.label_infer.specs.declared.known.Known.{Known}
 use Rattle.label_infer.specs.Forms.{Form, Need, both, fixed, variable_form, set_need, level_need, label_or}
 use Rattle.label_infer.specs.Known.{written_at, free_of, written_of, lat_of, end_of, needs_from, inner_of, after_of, loop_of, assign_of, put_of, next_of, set_of}
+
+-- of what an Ok holds
+pub if_ok : {T E : Type 0} {P Q : T → Type 0} (r : Result T E) → ((x : T) → P x → Q x) → IfOk r P → IfOk r Q
+if_ok (Ok x) f h = f x h
+if_ok (Err e) f h = h
 
 pub both_is : (lat : Lattice) (f f' h h' r : Form) → r ≡ both lat f h → f ≡ f' → h ≡ h' → r ≡ both lat f' h'
 both_is lat f f' h h' r e p q = e ∙ ap (λ z. both lat z h) p ∙ ap (both lat f') q

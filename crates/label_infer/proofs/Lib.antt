@@ -4,6 +4,7 @@ pub mod Ranges
 pub mod Meeting
 pub mod Completed
 pub mod Bits
+pub mod Sets
 pub mod Values
 pub mod Fill
 pub mod Seen

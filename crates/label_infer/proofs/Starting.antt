@@ -19,7 +19,7 @@ use Rattle.label_infer.specs.Given.{written_levels, KeepsVariables, KeepsLevels}
 use Rattle.label_infer.specs.First.{first_of, first_levels}
 use Rattle.label_infer.specs.Forms.{Form, fixed, label_or, written_in, needs}
 use Rattle.label_infer.specs.Known.{free_of, written_of, needs_from, needs_in, side_of}
-use Rattle.label_infer.specs.Work.{Work, waits_at, IsWorkOf, IsWithin, shares, shares_of}
+use Rattle.label_infer.specs.Work.{Work, waits_at, IsWorkOf, IsFirst, IsWithin, shares, shares_of}
 use Rattle.label_infer.specs.declared.needs.Target.{Target}
 use Rattle.label_infer.specs.declared.needs.Target.TheVariants.{Variable, Level}
 use Rattle.label_infer.specs.Holds.{IsThere}
@@ -93,6 +93,10 @@ past_or : (b : ℕ) (cs : List Cell) (x : ℕ) (d : Cell) → length cs ≤ x �
 past_or b [] x d h e = ap (λ o. label_or o b) e
 past_or b (c ∷ cs) zero d h e = absurd (omega (arith, h))
 past_or b (c ∷ cs) (suc x) d h e = past_or b cs x d (omega (arith, h)) e
+
+or_none : (b : ℕ) (o : Option Label) → is_none o ≡ true → label_or o b ≡ b
+or_none b None h = refl
+or_none b (Some l) h = absurd (both_ways false refl h)
 
 past_get : (os : List (Option Label)) (x : ℕ) (d : Option Label) → length os ≤ x → get_or os x d ≡ d
 past_get [] x d h = refl
@@ -185,6 +189,19 @@ module _ (s : Syntax) (valid : IsValid s) (k : Known) (ho : k.order ≡ s.order)
               (cases_lt j (length W));
           kept = from_map (λ j o. get_or W j None ≡ o) (λ j o. IsKept o (label_at b ls j)) level_kept W 0 (from_all W [] W [] 0 None (sym (append-nil W)) refl);
         }
+
+    level_first : (j : ℕ) (o : Option Label) → get_or W j None ≡ o → is_none o ≡ true → label_at b ls j ≡ b
+    level_first j o e n = ⊎_elim
+        (λ (i : j < length W). level_is j i ∙ ap (λ z. label_or z b) e ∙ or_none b o n)
+        (λ (i : length W ≤ j). let f = levels_fit in past_label b ls j (omega (arith, f, i)))
+        (cases_lt j (length W))
+
+    pub first : IsFirst s (work s.order cs ws vs ls)
+    first = record {
+      waits = λ i h. ap (λ z. waits_at z i) hw ∙ all_wait (length cs) i h;
+      variables = λ x t. variable_is x (small_of ds x t) ∙ ap (λ o. label_or o b) (not_free s x t);
+      levels = from_map (λ j o. get_or W j None ≡ o) (λ j o. is_none o ≡ true → label_at b ls j ≡ b) level_first W 0 (from_all W [] W [] 0 None (sym (append-nil W)) refl);
+    }
 
     pub starts : IsWorkOf s (work s.order cs ws vs ls)
     starts =

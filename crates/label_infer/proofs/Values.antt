@@ -78,6 +78,22 @@ module _ (lat : Lattice) (ll : IsLattice lat) where
         (value_least g lat.bottom has n (g x) (ll.lowest (g x)) (λ y i e. let s : x ≡ y = eqb-true x y e in subst (λ z. Flows lat (g z) (g x)) s (ll.same (g x))))
         (has_up g lat.bottom has n x h (eq-eqb x x refl))
 
+    -- a label, joined with that of one variable
+    pub with_one : (b x : ℕ) → x < n → value_from lat g b (λ y. eqb x y) n ≡ lat.join b (g x)
+    with_one b x h =
+        let has : ℕ → Bool = λ y. eqb x y in
+        let v = value_from lat g b has n in
+        ll.anti v (lat.join b (g x))
+        (value_least g b has n (lat.join b (g x)) (ll.left b (g x)) (λ y i e. subst (λ z. Flows lat (g z) (lat.join b (g x))) (eqb-true x y e) (ll.right b (g x))))
+        (ll.least b (g x) v (base_up g b has n) (has_up g b has n x h (eq-eqb x x refl)))
+
+    pub without_one : (b x : ℕ) → n ≤ x → value_from lat g b (λ y. eqb x y) n ≡ b
+    without_one b x h =
+        let has : ℕ → Bool = λ y. eqb x y in
+        ll.anti (value_from lat g b has n) b
+        (value_least g b has n b (ll.same b) (λ y i e. let s = eqb-true x y e in absurd (omega (arith, h, i, s))))
+        (base_up g b has n)
+
     -- two joined forms, by their values
     pub join_value : (f h : Form) (a b : ℕ) → val f ≡ a → val h ≡ b → val (both lat f h) ≡ lat.join a b
     join_value f h a b p q = both_value f h ∙ ap (λ z. lat.join z (val h)) p ∙ ap (lat.join a) q

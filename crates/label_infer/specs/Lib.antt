@@ -2,6 +2,7 @@ pub mod Least
 pub mod Given
 pub mod Rows
 pub mod Forms
+pub mod Sets
 pub mod FormOf
 pub mod Known
 pub mod Work

@@ -1,15 +1,15 @@
 -- Inference in progress: conditions, those that wait, and the labels so far.
-use Rattle.std.specs.Prelude.{◌≡◌, ℕ, ◌+◌, ◌-◌, ◌*◌, ◌<◌, ◌≤◌, zero, suc, Bool, true, false, cond, ◌||◌, List, [], ◌∷◌, length, slice_index_or, slice_set, slice_get, Some}
+use Rattle.std.specs.Prelude.{◌≡◌, ℕ, ◌+◌, ◌-◌, ◌*◌, ◌<◌, ◌≤◌, zero, suc, Bool, true, false, cond, is_none, ◌||◌, List, [], ◌∷◌, length, slice_index_or, slice_set, slice_get, Some}
 use Rattle.label_lattice.specs.declared.label.Label.{Label}
 use Rattle.label_lattice.specs.Lattice.{Lattice, Flows}
 use Rattle.label_lattice.specs.Order.{Order, lattice_of}
 use Rattle.mit_syntax.specs.Declarations.{variables}
-use Rattle.mit_syntax.specs.Program.{Syntax}
+use Rattle.mit_syntax.specs.Program.{Syntax, plan_of}
 use Rattle.timing_types.specs.Walk.{Side, OfCommand, OfVariable, OfLevel}
 use Rattle.timing_types.specs.Labelling.{Labelling, label_at, variable_of, level_of}
 use Rattle.label_infer.specs.declared.needs.Condition.{Condition}
-use Rattle.label_infer.specs.Least.{Labels, MeetsOmitted, IsLeast}
-use Rattle.label_infer.specs.Given.{KeepsVariables, KeepsLevels}
+use Rattle.label_infer.specs.Least.{Labels, is_free, MeetsOmitted, IsLeast}
+use Rattle.label_infer.specs.Given.{AllFrom, written_levels, KeepsVariables, KeepsLevels}
 use Rattle.label_infer.specs.Forms.{value, Need, right_of, needs_of}
 use Rattle.label_infer.specs.Known.{need_of, needs_in}
 
@@ -95,6 +95,12 @@ pub record IsWorkOf (s : Syntax) (w : Work) : Type 0 where
   pub settled : (i : ℕ) (c : Condition) → slice_get w.conditions i ≡ Some c → waits_at w.waits i ≡ false → Flows (lattice_in w) (have_in w (need_of c)) (right_in w (need_of c))
   pub low_variables : (l : Labelling) → Labels s l → MeetsOmitted s l → (x : ℕ) → Flows (lattice_in w) (variable_in w x) (variable_of s.order l x)
   pub low_levels : (l : Labelling) → Labels s l → MeetsOmitted s l → (k : ℕ) → Flows (lattice_in w) (level_in w k) (level_of s.order l k)
+
+-- nothing was taken up yet: each condition waits, and each omitted label is bottom
+pub record IsFirst (s : Syntax) (w : Work) : Type 0 where
+  pub waits : (i : ℕ) → i < length w.conditions → waits_at w.waits i ≡ true
+  pub variables : (x : ℕ) → is_free s.declarations x ≡ true → variable_in w x ≡ s.order.bottom
+  pub levels : AllFrom (λ k l. is_none l ≡ true → level_in w k ≡ s.order.bottom) 0 (written_levels (plan_of s))
 
 -- its labels are those of the least labelling
 pub record IsInferred (s : Syntax) (w : Work) : Type 0 where

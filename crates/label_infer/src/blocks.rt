@@ -4,9 +4,11 @@ ghost use Rattle.std.specs.Prelude.{◌≡◌, ◌+◌, ◌*◌, ◌/◌, ◌<�
 ghost use Rattle.label_infer.specs.declared.needs.Condition.{Condition as Listed};
 ghost use Rattle.label_infer.specs.declared.row.Row.{Row as Bits};
 ghost use Rattle.label_infer.specs.Blocks.{Includes, Grow, AreBlocks};
+ghost use Rattle.label_infer.specs.Sets.{has_of};
 
 use crate::needs::Condition;
 use crate::row::Row;
+use crate::variable_set::VariableSet;
 use std::alloc::{AllocError, Global};
 
 /// For each block of 64 conditions in a row, the variables in their left sides, and whether one of them was
@@ -18,29 +20,29 @@ pub(crate) struct Blocks {
 }
 
 /// Adds the variables of a condition to those of its block.
-fn add_row(i: usize, row: &Row, rows: &mut Vec<Row>) -> Result<(), AllocError>
+fn add_set(i: usize, set: &VariableSet, rows: &mut Vec<Row>) -> Result<(), AllocError>
     requires { length rows.old.items ≡ (i + 63) / 64 }
     ensures fit { IfOk result (λ _. length rows.new.items ≡ (i + 64) / 64) }
     ensures grow { IfOk result (λ _. Grow rows.old.items rows.new.items) }
-    ensures here { IfOk result (λ _. (r : Bits) → slice_get rows.new.items (i / 64) ≡ Some r → Includes r row.now) }
+    ensures here { IfOk result (λ _. (r : Bits) → slice_get rows.new.items (i / 64) ≡ Some r → Includes r (has_of set.now)) }
 {
     let block = i / 64;
     if block == rows.len() {
-        rows.push(*row)?;
+        rows.push(set.onto(&Row::empty()))?;
         return Ok(());
     }
-    rows[block] = rows[block].union(row);
+    rows[block] = set.onto(&rows[block]);
     Ok(())
 }
 
 /// The rows of the blocks.
 fn rows_of(alloc: Global, conditions: &[Condition]) -> Result<Vec<Row>, AllocError>
     ensures fit { IfOk result (λ v. length v.items ≡ (length conditions.now + 63) / 64) }
-    ensures cover { IfOk result (λ v. (i : ℕ) (c : Listed) (r : Bits) → i < length conditions.now → slice_get conditions.now i ≡ Some c → slice_get v.items (i / 64) ≡ Some r → Includes r c.have.row) }
+    ensures cover { IfOk result (λ v. (i : ℕ) (c : Listed) (r : Bits) → i < length conditions.now → slice_get conditions.now i ≡ Some c → slice_get v.items (i / 64) ≡ Some r → Includes r (has_of c.have.variables)) }
 {
     let mut rows = Vec::new(alloc);
     for i in 0..conditions.len() {
-        add_row(i, &conditions[i].have.row, &mut rows)?;
+        add_set(i, &conditions[i].have.variables, &mut rows)?;
     }
     Ok(rows)
 }

@@ -1,19 +1,32 @@
 //! Left sides before omitted labels are known.
 
-ghost use Rattle.std.specs.Prelude.{◌≡◌};
-ghost use Rattle.label_lattice.specs.Order.{lattice_of};
+ghost use Rattle.std.specs.Prelude.{◌≡◌, IfOk};
 ghost use Rattle.label_infer.specs.FormOf.{form_of};
 ghost use Rattle.label_infer.specs.Forms.{fixed, both};
+ghost use Rattle.label_infer.specs.Known.{lat_of};
 
-use crate::row::Row;
+use crate::known::Known;
+use crate::variable_set::VariableSet;
 use label_lattice::label::Label;
-use label_lattice::lattice::Lattice;
+use std::alloc::AllocError;
 
 /// A label that is fixed, joined with the labels of some variables.
-#[derive(Clone, Copy)]
+#[derive(Drop)]
 pub(crate) struct Form {
     pub(crate) base: Label,
-    pub(crate) row: Row,
+    pub(crate) variables: VariableSet,
+}
+
+impl Form {
+    /// The same left side.
+    pub(crate) fn copy(&self) -> Result<Form, AllocError>
+        ensures { IfOk result (λ f. form_of f ≡ form_of self.now) }
+    {
+        Ok(Form {
+            base: self.base,
+            variables: self.variables.copy()?,
+        })
+    }
 }
 
 /// A label alone.
@@ -22,16 +35,16 @@ pub(crate) fn fixed(base: Label) -> Form
 {
     Form {
         base,
-        row: Row::empty(),
+        variables: VariableSet::Empty,
     }
 }
 
 /// Both joined.
-pub(crate) fn both(order: &Lattice, a: &Form, b: &Form) -> Form
-    ensures { form_of result ≡ both (lattice_of order.now) (form_of a.now) (form_of b.now) }
+pub(crate) fn both(k: &Known, a: &Form, b: &Form) -> Result<Form, AllocError>
+    ensures { IfOk result (λ f. form_of f ≡ both (lat_of k.now) (form_of a.now) (form_of b.now)) }
 {
-    Form {
-        base: order.join(a.base, b.base),
-        row: a.row.union(&b.row),
-    }
+    Ok(Form {
+        base: k.order.join(a.base, b.base),
+        variables: a.variables.union(k.alloc, &b.variables)?,
+    })
 }

@@ -1,6 +1,6 @@
 //! The labels of expressions and commands, before omitted labels are known.
 
-ghost use Rattle.std.specs.Prelude.{◌≡◌, ◌<◌, IfNone};
+ghost use Rattle.std.specs.Prelude.{◌≡◌, ◌<◌, IfNone, IfOk};
 ghost use Rattle.label_infer.specs.FormOf.{form_of};
 ghost use Rattle.label_infer.specs.Forms.{variable_form, label_form, index_form, put_form, here_form, own_form, both};
 ghost use Rattle.label_infer.specs.Known.{lat_of, written_at, free_of, written_of, own_of, skip_of, assign_of, put_of, after_of, loop_of, inner_of, next_of};
@@ -8,9 +8,12 @@ ghost use Rattle.mit_syntax.specs.Expression.{expression_of};
 
 use crate::form::{Form, both, fixed};
 use crate::known::Known;
-use crate::row::{MAX_NUMBERS, Row};
+use crate::place::Place;
+use crate::row::MAX_NUMBERS;
+use crate::variable_set::VariableSet;
 use label_lattice::label::Label;
 use mit_syntax::ast::Expr;
+use std::alloc::AllocError;
 
 /// What is written of a variable; past the end of the table bottom.
 pub(crate) fn written_label(x: u32, k: &Known) -> Option<Label>
@@ -31,38 +34,45 @@ fn variable(x: u32, k: &Known) -> Form
         Some(label) => fixed(label),
         None => Form {
             base: k.order.bottom(),
-            row: Row::empty().with(x),
+            variables: VariableSet::One(Place { number: x }),
         },
     }
 }
 
 /// The join of the labels of an expression's variables and arrays, those in indices included.
-pub(crate) fn label(e: &Expr, k: &Known) -> Form
-    ensures { form_of result ≡ label_form (lat_of k.now) (free_of k.now) (written_of k.now) (expression_of e.now) }
+pub(crate) fn label(e: &Expr, k: &Known) -> Result<Form, AllocError>
+    ensures { IfOk result (λ f. form_of f ≡ label_form (lat_of k.now) (free_of k.now) (written_of k.now) (expression_of e.now)) }
 {
     match e {
-        Expr::Number(_) => fixed(k.order.bottom()),
-        Expr::Variable(x) => variable(*x, k),
-        Expr::Binary(_, left, right) => both(&k.order, &label(left, k), &label(right, k)),
+        Expr::Number(_) => Ok(fixed(k.order.bottom())),
+        Expr::Variable(x) => Ok(variable(*x, k)),
+        Expr::Binary(_, left, right) => {
+            let one = label(left, k)?;
+            let other = label(right, k)?;
+            both(k, &one, &other)
+        }
         Expr::Element {
             first,
             length: _,
             index,
-        } => both(&k.order, &variable(*first, k), &label(index, k)),
+        } => {
+            let inside = label(index, k)?;
+            both(k, &variable(*first, k), &inside)
+        }
     }
 }
 
 /// The join of the labels of the variables and arrays that stand in an index of an expression.
-pub(crate) fn index_label(e: &Expr, k: &Known) -> Form
-    ensures { form_of result ≡ index_form (lat_of k.now) (free_of k.now) (written_of k.now) (expression_of e.now) }
+pub(crate) fn index_label(e: &Expr, k: &Known) -> Result<Form, AllocError>
+    ensures { IfOk result (λ f. form_of f ≡ index_form (lat_of k.now) (free_of k.now) (written_of k.now) (expression_of e.now)) }
 {
     match e {
-        Expr::Number(_) | Expr::Variable(_) => fixed(k.order.bottom()),
-        Expr::Binary(_, left, right) => both(
-            &k.order,
-            &index_label(left, k),
-            &index_label(right, k),
-        ),
+        Expr::Number(_) | Expr::Variable(_) => Ok(fixed(k.order.bottom())),
+        Expr::Binary(_, left, right) => {
+            let one = index_label(left, k)?;
+            let other = index_label(right, k)?;
+            both(k, &one, &other)
+        }
         Expr::Element {
             first: _,
             length: _,
@@ -72,34 +82,43 @@ pub(crate) fn index_label(e: &Expr, k: &Known) -> Form
 }
 
 /// The same of an assignment to an element: all of the index counts.
-fn put_label(index: &Expr, value: &Expr, k: &Known) -> Form
-    ensures { form_of result ≡ put_form (lat_of k.now) (free_of k.now) (written_of k.now) (expression_of index.now) (expression_of value.now) }
+fn put_label(index: &Expr, value: &Expr, k: &Known) -> Result<Form, AllocError>
+    ensures { IfOk result (λ f. form_of f ≡ put_form (lat_of k.now) (free_of k.now) (written_of k.now) (expression_of index.now) (expression_of value.now)) }
 {
-    both(&k.order, &label(index, k), &index_label(value, k))
+    let one = label(index, k)?;
+    let other = index_label(value, k)?;
+    both(k, &one, &other)
 }
 
 /// The read label of a command at `pc | li`.
-fn own(written: &Option<(Label, Label)>, here: &Form) -> Form
-    ensures { form_of result ≡ own_of written.now (form_of here.now) }
+fn own(written: &Option<(Label, Label)>, here: Form) -> Form
+    ensures { form_of result ≡ own_of written.now (form_of here) }
 {
     match written {
         Some(pair) => fixed(pair.0),
-        None => *here,
+        None => here,
     }
 }
 
 /// The end label of a `skip`.
-pub(crate) fn skip_end(written: &Option<(Label, Label)>, pc: &Form, t: &Form, k: &Known) -> Form
-    ensures { form_of result ≡ skip_of k.now written.now (form_of pc.now) (form_of t.now) }
+pub(crate) fn skip_end(
+    written: &Option<(Label, Label)>,
+    pc: &Form,
+    t: &Form,
+    k: &Known,
+) -> Result<Form, AllocError>
+    ensures { IfOk result (λ f. form_of f ≡ skip_of k.now written.now (form_of pc.now) (form_of t.now)) }
 {
-    both(&k.order, t, &own(written, pc))
+    let er = own(written, pc.copy()?);
+    both(k, t, &er)
 }
 
 /// The label inside a guard.
-pub(crate) fn inner(pc: &Form, e: &Expr, k: &Known) -> Form
-    ensures { form_of result ≡ inner_of k.now (form_of pc.now) (expression_of e.now) }
+pub(crate) fn inner(pc: &Form, e: &Expr, k: &Known) -> Result<Form, AllocError>
+    ensures { IfOk result (λ f. form_of f ≡ inner_of k.now (form_of pc.now) (expression_of e.now)) }
 {
-    both(&k.order, pc, &label(e, k))
+    let le = label(e, k)?;
+    both(k, pc, &le)
 }
 
 /// `t | le | er`, the timing label after an expression is read.
@@ -109,13 +128,15 @@ pub(crate) fn after(
     t: &Form,
     e: &Expr,
     k: &Known,
-) -> Form
-    ensures { form_of result ≡ after_of k.now written.now (form_of pc.now) (form_of t.now) (expression_of e.now) }
+) -> Result<Form, AllocError>
+    ensures { IfOk result (λ f. form_of f ≡ after_of k.now written.now (form_of pc.now) (form_of t.now) (expression_of e.now)) }
 {
-    let here = both(&k.order, pc, &index_label(e, k));
-    let er = own(written, &here);
-    let reads = both(&k.order, t, &label(e, k));
-    both(&k.order, &reads, &er)
+    let li = index_label(e, k)?;
+    let here = both(k, pc, &li)?;
+    let er = own(written, here);
+    let le = label(e, k)?;
+    let reads = both(k, t, &le)?;
+    both(k, &reads, &er)
 }
 
 /// `le | t | er`, where a loop starts.
@@ -125,13 +146,15 @@ pub(crate) fn loop_start(
     t: &Form,
     e: &Expr,
     k: &Known,
-) -> Form
-    ensures { form_of result ≡ loop_of k.now written.now (form_of pc.now) (form_of t.now) (expression_of e.now) }
+) -> Result<Form, AllocError>
+    ensures { IfOk result (λ f. form_of f ≡ loop_of k.now written.now (form_of pc.now) (form_of t.now) (expression_of e.now)) }
 {
-    let here = both(&k.order, pc, &index_label(e, k));
-    let er = own(written, &here);
-    let reads = both(&k.order, &label(e, k), t);
-    both(&k.order, &reads, &er)
+    let li = index_label(e, k)?;
+    let here = both(k, pc, &li)?;
+    let er = own(written, here);
+    let le = label(e, k)?;
+    let reads = both(k, &le, t)?;
+    both(k, &reads, &er)
 }
 
 /// `le | li | pc | t | er`.
@@ -142,15 +165,15 @@ fn demand(
     le: &Form,
     li: &Form,
     k: &Known,
-) -> Form
-    ensures { form_of result ≡ both (lat_of k.now) (both (lat_of k.now) (both (lat_of k.now) (both (lat_of k.now) (form_of le.now) (form_of li.now)) (form_of pc.now)) (form_of t.now)) (own_of written.now (both (lat_of k.now) (form_of pc.now) (form_of li.now))) }
+) -> Result<Form, AllocError>
+    ensures { IfOk result (λ f. form_of f ≡ both (lat_of k.now) (both (lat_of k.now) (both (lat_of k.now) (both (lat_of k.now) (form_of le.now) (form_of li.now)) (form_of pc.now)) (form_of t.now)) (own_of written.now (both (lat_of k.now) (form_of pc.now) (form_of li.now)))) }
 {
-    let here = both(&k.order, pc, li);
-    let er = own(written, &here);
-    let value = both(&k.order, le, li);
-    let context = both(&k.order, &value, pc);
-    let time = both(&k.order, &context, t);
-    both(&k.order, &time, &er)
+    let here = both(k, pc, li)?;
+    let er = own(written, here);
+    let value = both(k, le, li)?;
+    let context = both(k, &value, pc)?;
+    let time = both(k, &context, t)?;
+    both(k, &time, &er)
 }
 
 /// The left side of an assignment's first condition.
@@ -160,10 +183,12 @@ pub(crate) fn assigned(
     t: &Form,
     value: &Expr,
     k: &Known,
-) -> Form
-    ensures { form_of result ≡ assign_of k.now written.now (form_of pc.now) (form_of t.now) (expression_of value.now) }
+) -> Result<Form, AllocError>
+    ensures { IfOk result (λ f. form_of f ≡ assign_of k.now written.now (form_of pc.now) (form_of t.now) (expression_of value.now)) }
 {
-    demand(written, pc, t, &label(value, k), &index_label(value, k), k)
+    let le = label(value, k)?;
+    let li = index_label(value, k)?;
+    demand(written, pc, t, &le, &li, k)
 }
 
 /// The same of an assignment to an element.
@@ -174,22 +199,17 @@ pub(crate) fn put(
     index: &Expr,
     value: &Expr,
     k: &Known,
-) -> Form
-    ensures { form_of result ≡ put_of k.now written.now (form_of pc.now) (form_of t.now) (expression_of index.now) (expression_of value.now) }
+) -> Result<Form, AllocError>
+    ensures { IfOk result (λ f. form_of f ≡ put_of k.now written.now (form_of pc.now) (form_of t.now) (expression_of index.now) (expression_of value.now)) }
 {
-    demand(
-        written,
-        pc,
-        t,
-        &label(value, k),
-        &put_label(index, value, k),
-        k,
-    )
+    let le = label(value, k)?;
+    let li = put_label(index, value, k)?;
+    demand(written, pc, t, &le, &li, k)
 }
 
 /// The end label of an assignment with this left side.
-pub(crate) fn next(x: u32, have: &Form, k: &Known) -> Form
-    ensures { form_of result ≡ next_of k.now x (form_of have.now) }
+pub(crate) fn next(x: u32, have: &Form, k: &Known) -> Result<Form, AllocError>
+    ensures { IfOk result (λ f. form_of f ≡ next_of k.now x (form_of have.now)) }
 {
-    both(&k.order, &variable(x, k), have)
+    both(k, &variable(x, k), have)
 }

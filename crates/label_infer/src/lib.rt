@@ -11,10 +11,12 @@ pub mod laws;
 mod left;
 mod needs;
 mod own;
+mod place;
 mod row;
 pub mod steps;
 #[cfg(test)]
 mod tests;
+mod variable_set;
 mod variables;
 mod waiting;
 pub mod worklist;

@@ -21,7 +21,7 @@ pub(crate) enum Target {
 }
 
 /// The left side must flow to the right side's label.
-#[derive(Clone, Copy)]
+#[derive(Drop)]
 pub(crate) struct Condition {
     pub(crate) have: Form,
     pub(crate) target: Target,
@@ -29,13 +29,13 @@ pub(crate) struct Condition {
 
 /// The end label of a command.
 #[cycle(ends)]
-fn command_end(c: &Command, k: &Known, pc: &Form, t: &Form) -> Form
-    ensures { (rest : Plan) → end_of k.now (command_plan c.now rest) (form_of pc.now) (form_of t.now) ≡ end_of k.now rest (form_of pc.now) (form_of result) }
+fn command_end(c: &Command, k: &Known, pc: &Form, t: &Form) -> Result<Form, AllocError>
+    ensures { IfOk result (λ end. (rest : Plan) → end_of k.now (command_plan c.now rest) (form_of pc.now) (form_of t.now) ≡ end_of k.now rest (form_of pc.now) (form_of end)) }
 {
     match &c.form {
         Syntax::Skip => skip_end(&c.labels, pc, t, k),
         Syntax::Assign { variable, value } => {
-            let have = assigned(&c.labels, pc, t, value, k);
+            let have = assigned(&c.labels, pc, t, value, k)?;
             next(*variable, &have, k)
         }
         Syntax::Put {
@@ -44,7 +44,7 @@ fn command_end(c: &Command, k: &Known, pc: &Form, t: &Form) -> Form
             index,
             value,
         } => {
-            let have = put(&c.labels, pc, t, index, value, k);
+            let have = put(&c.labels, pc, t, index, value, k)?;
             next(*first, &have, k)
         }
         Syntax::Sleep { time } => after(&c.labels, pc, t, time, k),
@@ -53,15 +53,15 @@ fn command_end(c: &Command, k: &Known, pc: &Form, t: &Form) -> Form
             then_part,
             else_part,
         } => {
-            let start = after(&c.labels, pc, t, guard, k);
-            let inside = inner(pc, guard, k);
-            let one = list_end(then_part, k, &inside, &start);
-            let other = list_end(else_part, k, &inside, &start);
-            both(&k.order, &one, &other)
+            let start = after(&c.labels, pc, t, guard, k)?;
+            let inside = inner(pc, guard, k)?;
+            let one = list_end(then_part, k, &inside, &start)?;
+            let other = list_end(else_part, k, &inside, &start)?;
+            both(k, &one, &other)
         }
         Syntax::While { guard, body } => {
-            let start = loop_start(&c.labels, pc, t, guard, k);
-            let inside = inner(pc, guard, k);
+            let start = loop_start(&c.labels, pc, t, guard, k)?;
+            let inside = inner(pc, guard, k)?;
             list_end(body, k, &inside, &start)
         }
         Syntax::Mitigate {
@@ -75,14 +75,14 @@ fn command_end(c: &Command, k: &Known, pc: &Form, t: &Form) -> Form
 
 /// The end label of a list.
 #[cycle(ends)]
-fn list_end(commands: &[Command], k: &Known, pc: &Form, t: &Form) -> Form
-    ensures { form_of result ≡ end_of k.now (list_plan commands.now) (form_of pc.now) (form_of t.now) }
+fn list_end(commands: &[Command], k: &Known, pc: &Form, t: &Form) -> Result<Form, AllocError>
+    ensures { IfOk result (λ end. form_of end ≡ end_of k.now (list_plan commands.now) (form_of pc.now) (form_of t.now)) }
 {
-    let mut end = *t;
+    let mut end = t.copy()?;
     for c in commands {
-        end = command_end(c, k, pc, &end);
+        end = command_end(c, k, pc, &end)?;
     }
-    end
+    Ok(end)
 }
 
 /// Appends the condition on the label of an assigned variable, where that is omitted.
@@ -96,7 +96,7 @@ fn need_variable(
 {
     if written_label(x, k).is_none() {
         found.push(Condition {
-            have: *have,
+            have: have.copy()?,
             target: Target::Variable(x),
         })?;
     }
@@ -114,7 +114,7 @@ fn need_level(
 {
     if level.is_none() {
         found.push(Condition {
-            have: *have,
+            have: have.copy()?,
             target: Target::Level(mark as usize),
         })?;
     }
@@ -134,11 +134,11 @@ fn command_needs(
     ensures needs { IfOk result (λ end. (rest : Plan) → needs_in found.old.items ++ needs_from k.now (command_plan c.now rest) (form_of pc.now) (form_of t.now) ≡ needs_in found.new.items ++ needs_from k.now rest (form_of pc.now) (form_of end)) }
 {
     match &c.form {
-        Syntax::Skip => Ok(skip_end(&c.labels, pc, t, k)),
+        Syntax::Skip => skip_end(&c.labels, pc, t, k),
         Syntax::Assign { variable, value } => {
-            let have = assigned(&c.labels, pc, t, value, k);
+            let have = assigned(&c.labels, pc, t, value, k)?;
             need_variable(*variable, &have, k, found)?;
-            Ok(next(*variable, &have, k))
+            next(*variable, &have, k)
         }
         Syntax::Put {
             first,
@@ -146,26 +146,26 @@ fn command_needs(
             index,
             value,
         } => {
-            let have = put(&c.labels, pc, t, index, value, k);
+            let have = put(&c.labels, pc, t, index, value, k)?;
             need_variable(*first, &have, k, found)?;
-            Ok(next(*first, &have, k))
+            next(*first, &have, k)
         }
-        Syntax::Sleep { time } => Ok(after(&c.labels, pc, t, time, k)),
+        Syntax::Sleep { time } => after(&c.labels, pc, t, time, k),
         Syntax::If {
             guard,
             then_part,
             else_part,
         } => {
-            let start = after(&c.labels, pc, t, guard, k);
-            let inside = inner(pc, guard, k);
+            let start = after(&c.labels, pc, t, guard, k)?;
+            let inside = inner(pc, guard, k)?;
             let one = list_needs(then_part, k, &inside, &start, found)?;
             let other = list_needs(else_part, k, &inside, &start, found)?;
-            Ok(both(&k.order, &one, &other))
+            both(k, &one, &other)
         }
         Syntax::While { guard, body } => {
-            let start = loop_start(&c.labels, pc, t, guard, k);
-            let inside = inner(pc, guard, k);
-            let stay = list_end(body, k, &inside, &start);
+            let start = loop_start(&c.labels, pc, t, guard, k)?;
+            let inside = inner(pc, guard, k)?;
+            let stay = list_end(body, k, &inside, &start)?;
             let _end = list_needs(body, k, &inside, &stay, found)?;
             Ok(stay)
         }
@@ -175,7 +175,7 @@ fn command_needs(
             level,
             body,
         } => {
-            let start = after(&c.labels, pc, t, estimate, k);
+            let start = after(&c.labels, pc, t, estimate, k)?;
             let end = list_needs(body, k, pc, &start, found)?;
             need_level(level, *mark, &end, found)?;
             Ok(start)
@@ -195,7 +195,7 @@ pub(crate) fn list_needs(
     ensures end { IfOk result (λ end. form_of end ≡ end_of k.now (list_plan commands.now) (form_of pc.now) (form_of t.now)) }
     ensures needs { IfOk result (λ end. needs_in found.new.items ≡ needs_in found.old.items ++ needs_from k.now (list_plan commands.now) (form_of pc.now) (form_of t.now)) }
 {
-    let mut end = *t;
+    let mut end = t.copy()?;
     for c in commands {
         end = command_needs(c, k, pc, &end, found)?;
     }

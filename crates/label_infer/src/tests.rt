@@ -137,6 +137,7 @@ fn copy(variable: u32, from: u32, column: u32) -> Command
 // The conditions of `var a; var b; var c; var h : H; c := b; b := a; a := h`.
 fn chain(alloc: Global, order: Lattice) -> Result<Vec<Condition>, AllocError> {
     let k = Known {
+        alloc,
         order,
         written: vec![in alloc; None, None, None, Some(HIGH)]?,
     };
@@ -160,8 +161,8 @@ fn three_low(alloc: Global) -> Result<Variables, AllocError>
 }
 
 fn variables_of(condition: &Condition) -> [bool; 3] {
-    let row = condition.have.row;
-    [row.has(0), row.has(1), row.has(2)]
+    let set = &condition.have.variables;
+    [set.has(0), set.has(1), set.has(2)]
 }
 
 #[test]

@@ -1,17 +1,18 @@
 //! The labels of the variables.
 
-ghost use Rattle.std.specs.Prelude.{◌≡◌, ◌+◌, ◌<◌, ◌≤◌, ◌++◌, ◌∷◌, ◌||◌, ◌&&◌, not, eqb, max, [], ℕ, Bool, length, slice_index_or, slice_set, IfOk};
+ghost use Rattle.std.specs.Prelude.{◌≡◌, ◌+◌, ◌<◌, ◌≤◌, ◌++◌, ◌∷◌, ◌||◌, ◌&&◌, not, false, eqb, max, [], ℕ, Bool, length, slice_index_or, slice_set, IfOk};
 ghost use Rattle.label_lattice.specs.declared.label.Label.{Label as Written};
 ghost use Rattle.label_lattice.specs.Lattice.{Flows};
 ghost use Rattle.label_lattice.specs.Order.{lattice_of};
 ghost use Rattle.timing_types.specs.Labelling.{label_at};
 ghost use Rattle.label_infer.specs.FormOf.{form_of};
-ghost use Rattle.label_infer.specs.Forms.{value};
+ghost use Rattle.label_infer.specs.Forms.{value, value_from};
 ghost use Rattle.label_infer.specs.Holders.{Tell};
 ghost use Rattle.label_infer.specs.Rows.{has_in, Meet};
 
 use crate::form::Form;
 use crate::row::{MAX_NUMBERS, Row};
+use crate::variable_set::VariableSet;
 use label_lattice::label::Label;
 use label_lattice::lattice::Lattice;
 use std::alloc::{AllocError, Global};
@@ -138,16 +139,40 @@ impl Variables {
     pub(crate) fn value(&self, form: &Form, order: &Lattice) -> Label
         ensures { result.number ≡ value (lattice_of order.now) (length self.now) (label_at order.now.bottom self.now) (form_of form.now) }
     {
+        match &form.variables {
+            VariableSet::Empty => self.without(form.base, order),
+            VariableSet::One(place) => self.with_label(form.base, place.number, order),
+            VariableSet::Many(row) => self.with_labels(form.base, row, order),
+        }
+    }
+
+    /// A label alone.
+    fn without(&self, base: Label, order: &Lattice) -> Label
+        ensures { result.number ≡ value_from (lattice_of order.now) (label_at order.now.bottom self.now) base.number (λ y. false) (length self.now) }
+    {
         order.laws();
-        let mut have = form.base;
+        base
+    }
+
+    /// A label, joined with that of one variable.
+    fn with_label(&self, base: Label, x: u32, order: &Lattice) -> Label
+        ensures { result.number ≡ value_from (lattice_of order.now) (label_at order.now.bottom self.now) base.number (λ y. eqb x y) (length self.now) }
+    {
+        order.laws();
+        if x as usize >= self.labels.len() {
+            return base;
+        }
+        order.join(base, self.label(x))
+    }
+
+    /// A label, joined with those of the variables of a row.
+    fn with_labels(&self, base: Label, row: &Row, order: &Lattice) -> Label
+        ensures { result.number ≡ value_from (lattice_of order.now) (label_at order.now.bottom self.now) base.number (has_in row.now.words) (length self.now) }
+    {
+        order.laws();
+        let mut have = base;
         for l in 0..self.room {
-            have = with_holders(
-                have,
-                Label::new(l as u8),
-                &form.row,
-                &self.holders[l],
-                order,
-            );
+            have = with_holders(have, Label::new(l as u8), row, &self.holders[l], order);
         }
         have
     }

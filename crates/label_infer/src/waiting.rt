@@ -6,7 +6,7 @@ ghost use Rattle.timing_types.specs.Labelling.{label_at};
 ghost use Rattle.label_infer.specs.declared.needs.Condition.{Condition as Listed};
 ghost use Rattle.label_infer.specs.Blocks.{AreBlocks};
 ghost use Rattle.label_infer.specs.FormOf.{form_of};
-ghost use Rattle.label_infer.specs.Rows.{has_in};
+ghost use Rattle.label_infer.specs.Sets.{has_of};
 ghost use Rattle.label_infer.specs.Forms.{value};
 ghost use Rattle.label_infer.specs.Work.{waits_at, woken, joined};
 
@@ -67,12 +67,12 @@ fn wake_block(x: u32, conditions: &[Condition], start: usize, waits: &mut [bool]
     requires start { start ≤ length conditions.now }
     ensures fit { length waits.new ≡ length waits.old }
     ensures before { (k : ℕ) → k < start → waits_at waits.new k ≡ waits_at waits.old k }
-    ensures inside { (k : ℕ) (c : Listed) → start ≤ k → k < start + 64 → slice_get conditions.now k ≡ Some c → waits_at waits.new k ≡ (waits_at waits.old k || has_in c.have.row.words x) }
+    ensures inside { (k : ℕ) (c : Listed) → start ≤ k → k < start + 64 → slice_get conditions.now k ≡ Some c → waits_at waits.new k ≡ (waits_at waits.old k || has_of c.have.variables x) }
     ensures after { (k : ℕ) → start + 64 ≤ k → waits_at waits.new k ≡ waits_at waits.old k }
 {
     let end = start + (conditions.len() - start).min(64);
     for i in start..end {
-        if !waits[i] && conditions[i].have.row.has(x) {
+        if !waits[i] && conditions[i].have.variables.has(x) {
             waits[i] = true;
         }
     }
@@ -94,11 +94,11 @@ pub(crate) fn wake(x: u32, conditions: &[Condition], blocks: &Blocks, waits: &mu
 }
 
 /// A condition, by its place.
-pub(crate) fn condition_at(conditions: &[Condition], i: usize) -> Condition
+pub(crate) fn condition_at(conditions: &[Condition], i: usize) -> &Condition
     requires { i < length conditions.now }
-    ensures { slice_get conditions.now i ≡ Some result }
+    ensures { slice_get conditions.now i ≡ Some result.now }
 {
-    conditions[i]
+    &conditions[i]
 }
 
 /// Joins a label into the label with a number.

@@ -4,7 +4,7 @@ ghost use Rattle.std.specs.Prelude.{◌≡◌, ◌+◌, ◌<◌, ℕ, length, tr
 ghost use Rattle.mit_syntax.specs.Program.{Syntax};
 ghost use Rattle.mit_syntax.specs.Valid.{IsValid};
 ghost use Rattle.label_infer.specs.declared.needs.Condition.{Condition as Listed};
-ghost use Rattle.label_infer.specs.Work.{Work, Takes, IsDone, IsWorkOf, IsInferred, IsWithin, variable_in, level_in};
+ghost use Rattle.label_infer.specs.Work.{Work, Takes, IsDone, IsWorkOf, IsFirst, IsInferred, IsWithin, variable_in, level_in};
 
 use crate::blocks::Blocks;
 use crate::first::{first_variables, list_levels, written_labels};
@@ -61,10 +61,11 @@ impl Worklist {
         steps.tick();
         let condition = condition_at(&self.conditions, i);
         let have = value(&condition.have, &self.variables, &self.order);
+        let target = condition.target;
         self.waits[i] = false;
         self.blocks.take(i);
         self.cursor = i;
-        match condition.target {
+        match target {
             Target::Variable(x) => raise(
                 x,
                 have,
@@ -102,11 +103,13 @@ impl Worklist {
     /// `Memory` is want of memory.
     pub fn new(alloc: Global, p: &Program) -> Result<Worklist, Memory>
         ensures work { IfOk result (IsWorkOf p.now) }
+        ensures first { IfOk result (IsFirst p.now) }
         ensures steps { IfOk result (λ w. (c : ℕ) → IsWithin w c 0) }
     {
         let order = p.lattice();
         let low = fixed(order.bottom());
         let k = Known {
+            alloc,
             order,
             written: written_labels(alloc, p)?,
         };

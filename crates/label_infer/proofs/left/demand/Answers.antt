@@ -2,7 +2,7 @@ use Rattle.std.proofs.Common.{refl, ap, ◌∙◌}
 use Rattle.label_infer.specs.FormOf.{form_of}
 use Rattle.label_infer.specs.Forms.{both}
 use Rattle.label_infer.specs.Known.{lat_of, own_of}
-use Rattle.label_infer.proofs.Joined.{both_is}
+use Rattle.label_infer.proofs.Joined.{if_ok, both_is}
 use Rattle.label_infer.proofs.left.demand.Goals as goal
 
 pub returns : goal.returns
@@ -13,7 +13,8 @@ returns c =
     let t = form_of c.args.t.now in
     let le = form_of c.args.le.now in
     let li = form_of c.args.li.now in
-    let context = both_is lat (form_of c.both-value.result) (both lat le li) pc pc (form_of c.both-context.result) c.both-context.ensures c.both-value.ensures refl in
-    let time = both_is lat (form_of c.both-context.result) (both lat (both lat le li) pc) t t (form_of c.both-time.result) c.both-time.ensures context refl in
-    both_is lat (form_of c.both-time.result) (both lat (both lat (both lat le li) pc) t) (form_of c.own-er.result) (own_of o (both lat pc li)) (form_of c.both.result) c.both.ensures time
-    (c.own-er.ensures ∙ ap (own_of o) c.both-here.ensures)
+    let context = both_is lat (form_of c.in_ok-value.value) (both lat le li) pc pc (form_of c.in_ok-context.context) c.in_ok-context.ensures c.in_ok-value.ensures refl in
+    let time = both_is lat (form_of c.in_ok-context.context) (both lat (both lat le li) pc) t t (form_of c.in_ok-time.time) c.in_ok-time.ensures context refl in
+    if_ok c.both-5.result
+    (λ f h. both_is lat (form_of c.in_ok-time.time) (both lat (both lat (both lat le li) pc) t) (form_of c.own-er.result) (own_of o (both lat pc li)) (form_of f) h time
+    (c.own-er.ensures ∙ ap (own_of o) c.in_ok-here.ensures)) c.both-5.ensures

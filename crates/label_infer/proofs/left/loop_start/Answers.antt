@@ -3,7 +3,7 @@ use Rattle.mit_syntax.specs.Expression.{expression_of}
 use Rattle.label_infer.specs.FormOf.{form_of}
 use Rattle.label_infer.specs.Forms.{both, label_form, index_form}
 use Rattle.label_infer.specs.Known.{lat_of, free_of, written_of, own_of, here_of}
-use Rattle.label_infer.proofs.Joined.{both_is}
+use Rattle.label_infer.proofs.Joined.{if_ok, both_is}
 use Rattle.label_infer.proofs.left.loop_start.Goals as goal
 
 pub returns : goal.returns
@@ -16,7 +16,8 @@ returns c =
     let t = form_of c.args.t.now in
     let le = label_form lat (free_of k) (written_of k) e in
     let li = index_form lat (free_of k) (written_of k) e in
-    let here = both_is lat pc pc (form_of c.index_label.result) li (form_of c.both-here.result) c.both-here.ensures refl c.index_label.ensures in
-    let reads = both_is lat (form_of c.label.result) le t t (form_of c.both-reads.result) c.both-reads.ensures c.label.ensures refl in
-    both_is lat (form_of c.both-reads.result) (both lat le t) (form_of c.own-er.result) (own_of o (here_of k pc e)) (form_of c.both.result) c.both.ensures reads
-    (c.own-er.ensures ∙ ap (own_of o) here)
+    let here = both_is lat pc pc (form_of c.in_ok-li.li) li (form_of c.in_ok-here.here) c.in_ok-here.ensures refl c.in_ok-li.ensures in
+    let reads = both_is lat (form_of c.in_ok-le.le) le t t (form_of c.in_ok-reads.reads) c.in_ok-reads.ensures c.in_ok-le.ensures refl in
+    if_ok c.both-3.result
+    (λ f h. both_is lat (form_of c.in_ok-reads.reads) (both lat le t) (form_of c.own-er.result) (own_of o (here_of k pc e)) (form_of f) h reads
+    (c.own-er.ensures ∙ ap (own_of o) here)) c.both-3.ensures

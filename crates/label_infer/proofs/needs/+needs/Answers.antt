@@ -4,57 +4,57 @@ use Rattle.mit_syntax.specs.Plan.{Written, form_plan, command_plan, list_plan}
 use Rattle.timing_types.proofs.Parts.{if_parts, while_parts, mitigate_parts}
 use Rattle.label_infer.specs.FormOf.{form_of}
 use Rattle.label_infer.specs.Known.{end_of, needs_in}
-use Rattle.label_infer.proofs.Joined.{assign_end, put_end, if_end, while_end, assign_needs, put_needs, if_needs, while_needs, mitigate_needs}
+use Rattle.label_infer.proofs.Joined.{if_ok, assign_end, put_end, if_end, while_end, assign_needs, put_needs, if_needs, while_needs, mitigate_needs}
 use Rattle.label_infer.proofs.needs.+needs.Goals as goal
 
 pub command_needs-returns-in_ok-need_variable-in-Assign-clause-end : goal.command_needs-returns-in_ok-need_variable-in-Assign-clause-end
 command_needs-returns-in_ok-need_variable-in-Assign-clause-end t c =
     let w : Written = record { pos = c.args.c.now.pos; labels = c.args.c.now.labels } in
-    λ rest.
+    if_ok c.next.result (λ f h rest.
     assign_end c.args.k.now w (form_of c.args.pc.now) (form_of c.args.t.now) c.in-Assign.variable (expression_of c.in-Assign.value) (command_plan c.args.c.now rest) rest
-    (form_of c.assigned-have.result) (form_of c.next.result) (ap (λ z. form_plan z w rest) c.in-Assign.is) c.assigned-have.ensures c.next.ensures
+    (form_of c.in_ok-have-in-Assign.have) (form_of f) (ap (λ z. form_plan z w rest) c.in-Assign.is) c.in_ok-have-in-Assign.ensures h) c.next.ensures
 
 pub command_needs-returns-in_ok-need_variable-in-Assign-clause-needs : goal.command_needs-returns-in_ok-need_variable-in-Assign-clause-needs
 command_needs-returns-in_ok-need_variable-in-Assign-clause-needs t c =
     let w : Written = record { pos = c.args.c.now.pos; labels = c.args.c.now.labels } in
-    λ rest.
+    if_ok c.next.result (λ f h rest.
     assign_needs c.args.k.now w (form_of c.args.pc.now) (form_of c.args.t.now) c.in-Assign.variable (expression_of c.in-Assign.value) (command_plan c.args.c.now rest) rest
-    (form_of c.assigned-have.result) (form_of c.next.result) (needs_in c.args.found.now.items) (needs_in c.need_variable.new.found.items)
-    (ap (λ z. form_plan z w rest) c.in-Assign.is) c.assigned-have.ensures c.next.ensures c.in_ok-need_variable-in-Assign.ensures
+    (form_of c.in_ok-have-in-Assign.have) (form_of f) (needs_in c.args.found.now.items) (needs_in c.need_variable.new.found.items)
+    (ap (λ z. form_plan z w rest) c.in-Assign.is) c.in_ok-have-in-Assign.ensures h c.in_ok-need_variable-in-Assign.ensures) c.next.ensures
 
 pub command_needs-returns-in_ok-need_variable-in-Put-clause-end : goal.command_needs-returns-in_ok-need_variable-in-Put-clause-end
 command_needs-returns-in_ok-need_variable-in-Put-clause-end t c =
     let w : Written = record { pos = c.args.c.now.pos; labels = c.args.c.now.labels } in
-    λ rest.
+    if_ok c.next-in-Put.result (λ f h rest.
     put_end c.args.k.now w (form_of c.args.pc.now) (form_of c.args.t.now) c.in-Put.first c.in-Put.length (expression_of c.in-Put.index) (expression_of c.in-Put.value) (command_plan c.args.c.now rest) rest
-    (form_of c.put-have.result) (form_of c.next-in-Put.result) (ap (λ z. form_plan z w rest) c.in-Put.is) c.put-have.ensures c.next-in-Put.ensures
+    (form_of c.in_ok-have-in-Put.have) (form_of f) (ap (λ z. form_plan z w rest) c.in-Put.is) c.in_ok-have-in-Put.ensures h) c.next-in-Put.ensures
 
 pub command_needs-returns-in_ok-need_variable-in-Put-clause-needs : goal.command_needs-returns-in_ok-need_variable-in-Put-clause-needs
 command_needs-returns-in_ok-need_variable-in-Put-clause-needs t c =
     let w : Written = record { pos = c.args.c.now.pos; labels = c.args.c.now.labels } in
-    λ rest.
+    if_ok c.next-in-Put.result (λ f h rest.
     put_needs c.args.k.now w (form_of c.args.pc.now) (form_of c.args.t.now) c.in-Put.first c.in-Put.length (expression_of c.in-Put.index) (expression_of c.in-Put.value) (command_plan c.args.c.now rest) rest
-    (form_of c.put-have.result) (form_of c.next-in-Put.result) (needs_in c.args.found.now.items) (needs_in c.need_variable-in-Put.new.found.items)
-    (ap (λ z. form_plan z w rest) c.in-Put.is) c.put-have.ensures c.next-in-Put.ensures c.in_ok-need_variable-in-Put.ensures
+    (form_of c.in_ok-have-in-Put.have) (form_of f) (needs_in c.args.found.now.items) (needs_in c.need_variable-in-Put.new.found.items)
+    (ap (λ z. form_plan z w rest) c.in-Put.is) c.in_ok-have-in-Put.ensures h c.in_ok-need_variable-in-Put.ensures) c.next-in-Put.ensures
 
 pub command_needs-returns-in_ok-other-in-If-clause-end : goal.command_needs-returns-in_ok-other-in-If-clause-end
 command_needs-returns-in_ok-other-in-If-clause-end t c =
     let w : Written = record { pos = c.args.c.now.pos; labels = c.args.c.now.labels } in
-    λ rest.
+    if_ok c.both.result (λ f h rest.
     let q = if_parts c.args.c.now.form c.in-If.guard c.in-If.then_part c.in-If.else_part c.deref.result.now c.deref-in-If.result.now c.in-If.is c.deref.ensures.value c.deref-in-If.ensures.value w rest in
     if_end c.args.k.now w (form_of c.args.pc.now) (form_of c.args.t.now) (expression_of c.in-If.guard) (command_plan c.args.c.now rest) (list_plan c.deref.result.now) (list_plan c.deref-in-If.result.now) rest
-    (form_of c.inner-inside.result) (form_of c.after-start.result) (form_of c.in_ok-one-in-If.one) (form_of c.in_ok-other-in-If.other) (form_of c.both.result)
-    q c.inner-inside.ensures c.after-start.ensures c.in_ok-one-in-If.ensures.end c.in_ok-other-in-If.ensures.end c.both.ensures
+    (form_of c.in_ok-inside-in-If.inside) (form_of c.in_ok-start-in-If.start) (form_of c.in_ok-one-in-If.one) (form_of c.in_ok-other-in-If.other) (form_of f)
+    q c.in_ok-inside-in-If.ensures c.in_ok-start-in-If.ensures c.in_ok-one-in-If.ensures.end c.in_ok-other-in-If.ensures.end h) c.both.ensures
 
 pub command_needs-returns-in_ok-other-in-If-clause-needs : goal.command_needs-returns-in_ok-other-in-If-clause-needs
 command_needs-returns-in_ok-other-in-If-clause-needs t c =
     let w : Written = record { pos = c.args.c.now.pos; labels = c.args.c.now.labels } in
-    λ rest.
+    if_ok c.both.result (λ f h rest.
     let q = if_parts c.args.c.now.form c.in-If.guard c.in-If.then_part c.in-If.else_part c.deref.result.now c.deref-in-If.result.now c.in-If.is c.deref.ensures.value c.deref-in-If.ensures.value w rest in
     if_needs c.args.k.now w (form_of c.args.pc.now) (form_of c.args.t.now) (expression_of c.in-If.guard) (command_plan c.args.c.now rest) (list_plan c.deref.result.now) (list_plan c.deref-in-If.result.now) rest
-    (form_of c.inner-inside.result) (form_of c.after-start.result) (form_of c.in_ok-one-in-If.one) (form_of c.in_ok-other-in-If.other) (form_of c.both.result)
+    (form_of c.in_ok-inside-in-If.inside) (form_of c.in_ok-start-in-If.start) (form_of c.in_ok-one-in-If.one) (form_of c.in_ok-other-in-If.other) (form_of f)
     (needs_in c.args.found.now.items) (needs_in c.list_needs.new.found.items) (needs_in c.list_needs-in-If.new.found.items)
-    q c.inner-inside.ensures c.after-start.ensures c.in_ok-one-in-If.ensures.end c.in_ok-other-in-If.ensures.end c.both.ensures c.in_ok-one-in-If.ensures.needs c.in_ok-other-in-If.ensures.needs
+    q c.in_ok-inside-in-If.ensures c.in_ok-start-in-If.ensures c.in_ok-one-in-If.ensures.end c.in_ok-other-in-If.ensures.end h c.in_ok-one-in-If.ensures.needs c.in_ok-other-in-If.ensures.needs) c.both.ensures
 
 pub command_needs-returns-in_ok-_end-in-While-clause-end : goal.command_needs-returns-in_ok-_end-in-While-clause-end
 command_needs-returns-in_ok-_end-in-While-clause-end t c =
@@ -62,20 +62,20 @@ command_needs-returns-in_ok-_end-in-While-clause-end t c =
     λ rest.
     let q = while_parts c.args.c.now.form c.in-While.guard c.in-While.body c.deref-in-While.result.now c.in-While.is c.deref-in-While.ensures.value w rest in
     while_end c.args.k.now w (form_of c.args.pc.now) (form_of c.args.t.now) (expression_of c.in-While.guard) (command_plan c.args.c.now rest) (list_plan c.deref-in-While.result.now) rest
-    (form_of c.inner-inside-in-While.result) (form_of c.loop_start-start.result) (form_of c.list_end-stay.result) q c.inner-inside-in-While.ensures c.loop_start-start.ensures c.list_end-stay.ensures
+    (form_of c.in_ok-inside-in-While.inside) (form_of c.in_ok-start-in-While.start) (form_of c.in_ok-stay-in-While.stay) q c.in_ok-inside-in-While.ensures c.in_ok-start-in-While.ensures c.in_ok-stay-in-While.ensures
 
 pub command_needs-returns-in_ok-_end-in-While-clause-needs : goal.command_needs-returns-in_ok-_end-in-While-clause-needs
 command_needs-returns-in_ok-_end-in-While-clause-needs t c =
     let w : Written = record { pos = c.args.c.now.pos; labels = c.args.c.now.labels } in
     let k = c.args.k.now in
-    let inner = form_of c.inner-inside-in-While.result in
-    let start = form_of c.loop_start-start.result in
+    let inner = form_of c.in_ok-inside-in-While.inside in
+    let start = form_of c.in_ok-start-in-While.start in
     let same = c.deref-in-While.ensures.value ∙ sym c.deref-in-While-2.ensures.value in
     λ rest.
     let q = while_parts c.args.c.now.form c.in-While.guard c.in-While.body c.deref-in-While-2.result.now c.in-While.is c.deref-in-While-2.ensures.value w rest in
     while_needs k w (form_of c.args.pc.now) (form_of c.args.t.now) (expression_of c.in-While.guard) (command_plan c.args.c.now rest) (list_plan c.deref-in-While-2.result.now) rest
-    inner start (form_of c.list_end-stay.result) (needs_in c.args.found.now.items) (needs_in c.list_needs-in-While.new.found.items)
-    q c.inner-inside-in-While.ensures c.loop_start-start.ensures (c.list_end-stay.ensures ∙ ap (λ z. end_of k (list_plan z) inner start) same) c.in_ok-_end-in-While.ensures.needs
+    inner start (form_of c.in_ok-stay-in-While.stay) (needs_in c.args.found.now.items) (needs_in c.list_needs-in-While.new.found.items)
+    q c.in_ok-inside-in-While.ensures c.in_ok-start-in-While.ensures (c.in_ok-stay-in-While.ensures ∙ ap (λ z. end_of k (list_plan z) inner start) same) c.in_ok-_end-in-While.ensures.needs
 
 pub command_needs-returns-in_ok-need_level-in-Mitigate-clause-needs : goal.command_needs-returns-in_ok-need_level-in-Mitigate-clause-needs
 command_needs-returns-in_ok-need_level-in-Mitigate-clause-needs t c =
@@ -83,5 +83,5 @@ command_needs-returns-in_ok-need_level-in-Mitigate-clause-needs t c =
     λ rest.
     let q = mitigate_parts c.args.c.now.form c.in-Mitigate.mark c.in-Mitigate.estimate c.in-Mitigate.level c.in-Mitigate.body c.deref-in-Mitigate.result.now c.in-Mitigate.is c.deref-in-Mitigate.ensures.value w rest in
     mitigate_needs c.args.k.now w (form_of c.args.pc.now) (form_of c.args.t.now) c.in-Mitigate.mark c.in-Mitigate.level (expression_of c.in-Mitigate.estimate) (command_plan c.args.c.now rest) (list_plan c.deref-in-Mitigate.result.now) rest
-    (form_of c.after-start-in-Mitigate.result) (form_of c.in_ok-end-in-Mitigate.end) (needs_in c.args.found.now.items) (needs_in c.list_needs-in-Mitigate.new.found.items) (needs_in c.need_level.new.found.items)
-    q c.after-start-in-Mitigate.ensures c.in_ok-end-in-Mitigate.ensures.end c.in_ok-end-in-Mitigate.ensures.needs c.in_ok-need_level-in-Mitigate.ensures
+    (form_of c.in_ok-start-in-Mitigate.start) (form_of c.in_ok-end-in-Mitigate.end) (needs_in c.args.found.now.items) (needs_in c.list_needs-in-Mitigate.new.found.items) (needs_in c.need_level.new.found.items)
+    q c.in_ok-start-in-Mitigate.ensures c.in_ok-end-in-Mitigate.ensures.end c.in_ok-end-in-Mitigate.ensures.needs c.in_ok-need_level-in-Mitigate.ensures

@@ -6,11 +6,11 @@ use Rattle.label_infer.specs.FormOf.{form_of}
 use Rattle.label_infer.specs.Forms.{fixed}
 use Rattle.label_infer.specs.First.{first_levels}
 use Rattle.label_infer.specs.Known.{needs_from, needs_in}
-use Rattle.label_infer.specs.Work.{IsWorkOf}
+use Rattle.label_infer.specs.Work.{IsWorkOf, IsFirst}
 use Rattle.label_infer.specs.Blocks.{AreBlocks}
 use Rattle.timing_types.specs.Labelling.{label_at}
 use Rattle.label_infer.proofs.Taking.{work}
-use Rattle.label_infer.proofs.Starting.{starts, targets_there}
+use Rattle.label_infer.proofs.Starting.{first, starts, targets_there}
 use Rattle.label_infer.proofs.Bound.{first_within}
 use Rattle.label_infer.proofs.worklist.Worklist.new.Goals as goal
 
@@ -22,7 +22,7 @@ returns-clause-work c =
     let w = c.in_ok-written_labels.field-0 in
     let few = c.in_ok-written_labels.ensures.few in
     let wl = w.ok.0 in
-    let k : Known = record { order = o; written = w; small = omega (arith, few, wl) } in
+    let k : Known = record { alloc = c.args.alloc; order = o; written = w; small = omega (arith, few, wl) } in
     let low = form_of c.fixed-low.result in
     let hl = c.fixed-low.ensures ∙ ap fixed (c.bottom.ensures.value ∙ ap (λ (z : Order). z.bottom) ho) in
     let hc = c.in_ok-list_needs.ensures.needs ∙ ap (λ z. needs_in z ++ needs_from k (list_plan c.body.result.now) low low) c.new-conditions.ensures.items ∙ ap (λ z. needs_from k z low low) c.body.ensures.body in
@@ -35,6 +35,27 @@ returns-clause-work c =
     let h = starts s c.body.ensures.valid k ho (c.in_ok-written_labels.ensures.fit) (c.in_ok-written_labels.ensures.labels) c.list_needs.new.found.items c.in_ok-waits.waits.items c.in_ok-variables.variables c.list_levels.new.found.items low hl hc hw c.in_ok-variables.ensures hs in
     subst (λ z. IsWorkOf s (work z c.list_needs.new.found.items c.in_ok-waits.waits.items c.in_ok-variables.variables c.list_levels.new.found.items)) (sym ho) h
 
+pub returns-clause-first : goal.returns-clause-first
+returns-clause-first c =
+    let s = c.args.p.now in
+    let o = c.lattice-order.result in
+    let ho = c.lattice-order.ensures in
+    let w = c.in_ok-written_labels.field-0 in
+    let few = c.in_ok-written_labels.ensures.few in
+    let wl = w.ok.0 in
+    let k : Known = record { alloc = c.args.alloc; order = o; written = w; small = omega (arith, few, wl) } in
+    let low = form_of c.fixed-low.result in
+    let hl = c.fixed-low.ensures ∙ ap fixed (c.bottom.ensures.value ∙ ap (λ (z : Order). z.bottom) ho) in
+    let hc = c.in_ok-list_needs.ensures.needs ∙ ap (λ z. needs_in z ++ needs_from k (list_plan c.body.result.now) low low) c.new-conditions.ensures.items ∙ ap (λ z. needs_from k z low low) c.body.ensures.body in
+    let hs = c.in_ok-list_levels.ensures ∙ ap (λ z. z ++ first_levels c.bottom-2.result.number (list_plan c.body-2.result.now)) c.new-levels.ensures.items
+    ∙ ap (λ z. first_levels z (list_plan c.body-2.result.now)) (c.bottom-2.ensures.value ∙ ap (λ (z : Order). z.bottom) ho) ∙ ap (λ z. first_levels s.order.bottom z) c.body-2.ensures.body in
+    let cl = c.len.ensures in
+    let cok = c.list_needs.new.found.ok.0 in
+    let cn : c.len.result ≡ length c.list_needs.new.found.items = omega (arith, cl, cok) in
+    let hw = c.in_ok-waits.ensures ∙ ap (λ n. replicate n true) cn in
+    let h = first s c.body.ensures.valid k ho (c.in_ok-written_labels.ensures.fit) (c.in_ok-written_labels.ensures.labels) c.list_needs.new.found.items c.in_ok-waits.waits.items c.in_ok-variables.variables c.list_levels.new.found.items low hl hc hw c.in_ok-variables.ensures hs in
+    subst (λ z. IsFirst s (work z c.list_needs.new.found.items c.in_ok-waits.waits.items c.in_ok-variables.variables c.list_levels.new.found.items)) (sym ho) h
+
 pub returns-clause-steps : goal.returns-clause-steps
 returns-clause-steps c =
     let s = c.args.p.now in
@@ -43,7 +64,7 @@ returns-clause-steps c =
     let w = c.in_ok-written_labels.field-0 in
     let few = c.in_ok-written_labels.ensures.few in
     let wl = w.ok.0 in
-    let k : Known = record { order = o; written = w; small = omega (arith, few, wl) } in
+    let k : Known = record { alloc = c.args.alloc; order = o; written = w; small = omega (arith, few, wl) } in
     let low = form_of c.fixed-low.result in
     let hl = c.fixed-low.ensures ∙ ap fixed (c.bottom.ensures.value ∙ ap (λ (z : Order). z.bottom) ho) in
     let hc = c.in_ok-list_needs.ensures.needs ∙ ap (λ z. needs_in z ++ needs_from k (list_plan c.body.result.now) low low) c.new-conditions.ensures.items ∙ ap (λ z. needs_from k z low low) c.body.ensures.body in
@@ -65,7 +86,7 @@ invariant_of-result c =
     let w = c.in_ok-written_labels.field-0 in
     let few = c.in_ok-written_labels.ensures.few in
     let wl = w.ok.0 in
-    let k : Known = record { order = o; written = w; small = omega (arith, few, wl) } in
+    let k : Known = record { alloc = c.args.alloc; order = o; written = w; small = omega (arith, few, wl) } in
     let low = form_of c.fixed-low.result in
     let hl = c.fixed-low.ensures ∙ ap fixed (c.bottom.ensures.value ∙ ap (λ (z : Order). z.bottom) ho) in
     let hc = c.in_ok-list_needs.ensures.needs ∙ ap (λ z. needs_in z ++ needs_from k (list_plan c.body.result.now) low low) c.new-conditions.ensures.items ∙ ap (λ z. needs_from k z low low) c.body.ensures.body in

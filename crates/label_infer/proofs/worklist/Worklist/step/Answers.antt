@@ -72,9 +72,9 @@ returns-in-Variable-clause-taken g c =
     let eu = c.raise.ensures.variables in
     λ _. (
       i,
-      c.condition_at-condition.result,
-      subst (λ z. Takes z (work v.order v.conditions.items W U v.levels.items) i c.condition_at-condition.result) c.self.view_is
-          (took_variable v.order v.conditions.items v.waits.items v.variables v.levels.items i c.condition_at-condition.result have
+      c.condition_at-condition.result.now,
+      subst (λ z. Takes z (work v.order v.conditions.items W U v.levels.items) i c.condition_at-condition.result.now) c.self.view_is
+          (took_variable v.order v.conditions.items v.waits.items v.variables v.levels.items i c.condition_at-condition.result.now have
           c.deref-2.result.now c.deref.result.now v.variables c.deref-2.ensures.value c.deref.ensures.value refl
           c.in-Some.ensures.1 c.condition_at-condition.ensures c.value-have.ensures
           x c.deref-in-Variable.result.now c.deref_mut.result.now W V U
@@ -91,9 +91,9 @@ returns-in-Level-clause-taken g c =
     let eu = with_items_is v.levels c.lift.new.labels len0 ∙ c.lift.ensures in
     λ _. (
       i,
-      c.condition_at-condition.result,
-      subst (λ z. Takes z (work v.order v.conditions.items (slice_set v.waits.items i false) v.variables U) i c.condition_at-condition.result) c.self.view_is
-          (took_level v.order v.conditions.items v.waits.items v.variables v.levels.items i c.condition_at-condition.result c.value-have.result.number
+      c.condition_at-condition.result.now,
+      subst (λ z. Takes z (work v.order v.conditions.items (slice_set v.waits.items i false) v.variables U) i c.condition_at-condition.result.now) c.self.view_is
+          (took_level v.order v.conditions.items v.waits.items v.variables v.levels.items i c.condition_at-condition.result.now c.value-have.result.number
           c.deref-2.result.now c.deref.result.now v.variables c.deref-2.ensures.value c.deref.ensures.value refl
           c.in-Some.ensures.1 c.condition_at-condition.ensures c.value-have.ensures
           c.in-Level.k L U c.in-Level.is c.deref_mut-in-Level.ensures.value eu),

@@ -8,7 +8,7 @@ use Rattle.label_infer.specs.declared.row.Row.{Row}
 use Rattle.label_infer.specs.Rows.{has_in}
 use Rattle.label_infer.specs.Forms.{value_from}
 use Rattle.label_infer.proofs.Holding.{met_more, least_more, value_is}
-use Rattle.label_infer.proofs.variables.Variables.value.Goals as goal
+use Rattle.label_infer.proofs.variables.Variables.with_labels.Goals as goal
 
 pub loop-l-preserved : goal.loop-l-preserved
 loop-l-preserved c =
@@ -26,8 +26,8 @@ loop-l-preserved c =
     let rows = i.rows in
     let within : l < length v.holders.items = omega (arith, test, end, rows) in
     let there : slice_get v.holders.items l ≡ Some r = slice_get_read v.holders.items (length v.holders.items) l r refl within c.index.ensures in
-    let has = has_in c.args.form.now.row.words in
-    let base = c.args.form.now.base.number in
+    let has = has_in c.args.row.now.words in
+    let base = c.args.base.number in
     record {
       up = ll.chain base c.loop-l.have.number new h.up w.up;
       met = met_more la ll v.labels.items base has v.holders.items l c.loop-l.have.number new r i.told there h.met w.up
@@ -42,8 +42,8 @@ returns c =
     let i = c.self.invariant in
     let h = c.loop-l.invariant in
     let la : Lattice = lattice_of c.args.order.now in
-    let base = c.args.form.now.base.number in
-    let has = has_in c.args.form.now.row.words in
+    let base = c.args.base.number in
+    let has = has_in c.args.row.now.words in
     let test = c.loop-l-test.false in
     let is = value_is la c.laws.ensures.lattice v.labels.items base has c.args.order.now.bottom c.loop-l.have.number c.loop-l.l
     (λ x a e. let k = i.room x a e in omega (arith, k, test)) h.up h.met h.least in
