@@ -8,7 +8,7 @@ use Rattle.std.proofs.lemmas.List.Elements.{All-replicate, All-set}
 use Rattle.std.proofs.lemmas.Nat.{mul-add-lt, mod_below}
 use Rattle.std.proofs.lemmas.Bool.{cases_lt, and_from}
 use Rattle.label_lattice.specs.Order.{lattice_of}
-use Rattle.part_cache.specs.Ways.{held_in, IsSet, to_front}
+use Rattle.part_cache.specs.Ways.{held_tags, AreWays, to_front}
 use Rattle.part_cache.specs.History.{Touched, hits}
 use Rattle.part_cache.specs.Rows.{Rows, IsCache, StandsFor, tags_at, has, found, touched, empty_cache}
 use Rattle.part_cache.specs.Body.{rows_view, IsBody}
@@ -18,7 +18,7 @@ use Rattle.part_cache.proofs.Stands.{StandsFor-touched, some_below_at, found_is}
 use Rattle.part_cache.proofs.Empty.{StandsFor-empty_cache}
 
 abbrev holds : Ways → List ℕ
-holds w = held_in w.tags
+holds w = held_tags w.tags
 
 none : Ways
 none = record { tags = [] }
@@ -49,11 +49,11 @@ module _ (c : Inside) (good : IsBody c) (v : Rows) (is : rows_view c ≡ v) (tag
   row_in = omega (arith, row_is, place_in c good label tag (subst (λ (v : Rows). label < v.order.size) (sym is) in_range))
 
   module _ (old : Ways) (read : old ≡ get_or c.slots.items row old) where
-    pub old_set : IsSet old.tags
-    old_set = subst (λ (w : Ways). IsSet w.tags) (sym read) (good.sets_are row old row_in)
+    pub old_set : AreWays old.tags
+    old_set = subst (λ (w : Ways). AreWays w.tags) (sym read) (good.ways_are row old row_in)
 
-    pub old_few : length (held_in old.tags) ≤ c.ways
-    old_few = subst (λ (w : Ways). length (held_in w.tags) ≤ c.ways) (sym read) (good.few row old row_in)
+    pub old_few : length (held_tags old.tags) ≤ c.ways
+    old_few = subst (λ (w : Ways). length (held_tags w.tags) ≤ c.ways) (sym read) (good.few row old row_in)
 
     at_row : holds old ≡ get_or (map holds c.slots.items) row []
     at_row = ap holds read ∙ sym (get_or-map holds c.slots.items row old [] row_in)
@@ -61,14 +61,14 @@ module _ (c : Inside) (good : IsBody c) (v : Rows) (is : rows_view c ≡ v) (tag
     at_place : holds old ≡ tags_at (rows_view c) label (tag % c.sets)
     at_place = at_row ∙ ap (λ r. get_or (map holds c.slots.items) r []) row_is
 
-    pub has_is : (r : Bool) → r ≡ list_any (eqb tag) (held_in old.tags) → r ≡ has v tag label
+    pub has_is : (r : Bool) → r ≡ list_any (eqb tag) (held_tags old.tags) → r ≡ has v tag label
     has_is r e = e ∙ ap (list_any (eqb tag)) at_place ∙ ap (λ v. has v tag label) is
 
     module _ (new : Ways) where
       abbrev pub after : Inside
       after = record c { slots = with_item c.slots row new }
 
-      pub body_after : IsSet new.tags → length (held_in new.tags) ≤ c.ways → IsBody after
+      pub body_after : AreWays new.tags → length (held_tags new.tags) ≤ c.ways → IsBody after
       body_after set few =
           record {
             some_set = good.some_set;
@@ -77,11 +77,11 @@ module _ (c : Inside) (good : IsBody c) (v : Rows) (is : rows_view c ≡ v) (tag
             sets_below = good.sets_below;
             ways_below = good.ways_below;
             long = length-set c.slots.items row new ∙ good.long;
-            sets_are = All-set (λ (w : Ways). IsSet w.tags) c.slots.items row new set good.sets_are;
-            few = All-set (λ (w : Ways). length (held_in w.tags) ≤ c.ways) c.slots.items row new few good.few;
+            ways_are = All-set (λ (w : Ways). AreWays w.tags) c.slots.items row new set good.ways_are;
+            few = All-set (λ (w : Ways). length (held_tags w.tags) ≤ c.ways) c.slots.items row new few good.few;
           }
 
-      pub view_touched : held_in new.tags ≡ to_front c.ways tag (held_in old.tags) → rows_view after ≡ touched v tag label
+      pub view_touched : held_tags new.tags ≡ to_front c.ways tag (held_tags old.tags) → rows_view after ≡ touched v tag label
       view_touched e =
           ap (λ rs. record (rows_view c) { rows = rs })
           (map-set holds c.slots.items row new
@@ -89,7 +89,7 @@ module _ (c : Inside) (good : IsBody c) (v : Rows) (is : rows_view c ≡ v) (tag
           ∙ ap (λ r. set (map holds c.slots.items) r (to_front c.ways tag (tags_at (rows_view c) label (tag % c.sets)))) row_is)
           ∙ ap (λ v. touched v tag label) is
 
-      view_kept : held_in new.tags ≡ held_in old.tags → rows_view after ≡ v
+      view_kept : held_tags new.tags ≡ held_tags old.tags → rows_view after ≡ v
       view_kept e =
           ap (λ rs. record (rows_view c) { rows = rs })
           (map-set holds c.slots.items row new
@@ -97,18 +97,18 @@ module _ (c : Inside) (good : IsBody c) (v : Rows) (is : rows_view c ≡ v) (tag
           ∙ set-get_or (map holds c.slots.items) row [])
           ∙ is
 
-      module _ (held : Bool) (brought : (ways : ℕ) → length (held_in old.tags) ≤ ways → held_in new.tags ≡ cond held (to_front ways tag (held_in old.tags)) (held_in old.tags)) where
-        pub brought_body : IsSet new.tags → IsBody after
+      module _ (held : Bool) (brought : (ways : ℕ) → length (held_tags old.tags) ≤ ways → held_tags new.tags ≡ cond held (to_front ways tag (held_tags old.tags)) (held_tags old.tags)) where
+        pub brought_body : AreWays new.tags → IsBody after
         brought_body set = body_after set (short held (brought c.ways old_few))
           where
-            short : (b : Bool) → held_in new.tags ≡ cond b (to_front c.ways tag (held_in old.tags)) (held_in old.tags) → length (held_in new.tags) ≤ c.ways
-            short true e = omega (arith, ap length e, length-take c.ways (tag ∷ filter (λ y. not (eqb tag y)) (held_in old.tags)))
+            short : (b : Bool) → held_tags new.tags ≡ cond b (to_front c.ways tag (held_tags old.tags)) (held_tags old.tags) → length (held_tags new.tags) ≤ c.ways
+            short true e = omega (arith, ap length e, length-take c.ways (tag ∷ filter (λ y. not (eqb tag y)) (held_tags old.tags)))
             short false e = omega (arith, ap length e, old_few)
 
         pub brought_view : rows_view after ≡ cond held (touched v tag label) v
         brought_view = go held (brought c.ways old_few)
           where
-            go : (b : Bool) → held_in new.tags ≡ cond b (to_front c.ways tag (held_in old.tags)) (held_in old.tags) → rows_view after ≡ cond b (touched v tag label) v
+            go : (b : Bool) → held_tags new.tags ≡ cond b (to_front c.ways tag (held_tags old.tags)) (held_tags old.tags) → rows_view after ≡ cond b (touched v tag label) v
             go true e = view_touched e
             go false e = view_kept e
 
@@ -131,18 +131,18 @@ pub look_history : (v : Rows) (c : Inside) → rows_view c ≡ v → IsBody c �
 look_history v c e good tag er r f h s = f ∙ found_is v (subst IsCache e (body_cache c good)) tag er h s
 
 -- ---- a new cache
-map_empty : (n : ℕ) (w : Ways) → held_in w.tags ≡ [] → map holds (replicate n w) ≡ replicate n []
+map_empty : (n : ℕ) (w : Ways) → held_tags w.tags ≡ [] → map holds (replicate n w) ≡ replicate n []
 map_empty zero w e = refl
 map_empty (suc n) w e = rw (e, map_empty n w e) refl
 
-module _ (c : Inside) (n : ℕ) (w : Ways) (empty : held_in w.tags ≡ []) (filled : c.slots.items ≡ replicate n w) (many : n ≡ c.lattice.size * c.sets) where
+module _ (c : Inside) (n : ℕ) (w : Ways) (empty : held_tags w.tags ≡ []) (filled : c.slots.items ≡ replicate n w) (many : n ≡ c.lattice.size * c.sets) where
   pub new_value : rows_view c ≡ empty_cache c.lattice c.sets c.ways
   new_value = ap (λ rs. record (rows_view c) { rows = rs }) (ap (map holds) filled ∙ map_empty n w empty ∙ ap (λ n. replicate n []) many)
 
   pub new_empty : StandsFor (rows_view c) []
   new_empty = subst (λ v. StandsFor v []) (sym new_value) (StandsFor-empty_cache c.lattice c.sets c.ways)
 
-  pub new_body : 0 < c.sets → 0 < c.ways → c.sets ≤ 64 → c.ways ≤ 8 → c.lattice.size ≤ 32 → IsSet w.tags → IsBody c
+  pub new_body : 0 < c.sets → 0 < c.ways → c.sets ≤ 64 → c.ways ≤ 8 → c.lattice.size ≤ 32 → AreWays w.tags → IsBody c
   new_body some some' few few' labels set =
       record {
         some_set = some;
@@ -151,6 +151,6 @@ module _ (c : Inside) (n : ℕ) (w : Ways) (empty : held_in w.tags ≡ []) (fill
         sets_below = few;
         ways_below = few';
         long = ap length filled ∙ length-replicate n w ∙ many;
-        sets_are = subst (All (λ (w : Ways). IsSet w.tags)) (sym filled) (All-replicate (λ (w : Ways). IsSet w.tags) n w set);
-        few = subst (All (λ (w : Ways). length (held_in w.tags) ≤ c.ways)) (sym filled) (All-replicate (λ (w : Ways). length (held_in w.tags) ≤ c.ways) n w (omega (arith, ap length empty)));
+        ways_are = subst (All (λ (w : Ways). AreWays w.tags)) (sym filled) (All-replicate (λ (w : Ways). AreWays w.tags) n w set);
+        few = subst (All (λ (w : Ways). length (held_tags w.tags) ≤ c.ways)) (sym filled) (All-replicate (λ (w : Ways). length (held_tags w.tags) ≤ c.ways) n w (omega (arith, ap length empty)));
       }

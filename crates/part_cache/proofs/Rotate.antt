@@ -5,7 +5,7 @@ use Rattle.std.specs.List.{filter, list_any}
 use Rattle.std.proofs.lemmas.List.{append_assoc, length-append, length-take, length-drop, length-set, take-append-drop, take-append-le, drop-append-le, take-replicate, drop-replicate, replicate-append-replicate, take_all, take_more, take_more_set, drop_more, drop-set-lt, same_from_push}
 use Rattle.std.proofs.lemmas.List.Elements.{All-cons, All-take, All-filter}
 use Rattle.std.proofs.lemmas.Bool.{eq-eqb, ne_eqb, both_ways}
-use Rattle.part_cache.specs.Ways.{empty_way, held_in, absent, Apart, IsSet, to_front}
+use Rattle.part_cache.specs.Ways.{empty_way, held_tags, absent, Apart, AreWays, to_front}
 use Rattle.part_cache.proofs.Near.{other, filter_absent, absent-take, absent-filter, Apart-filter}
 use Rattle.part_cache.proofs.Held.{held_is, any_some, way_held}
 
@@ -85,14 +85,14 @@ shifted (x ∷ xs) (suc w) m few fits =
     ∙ ap (λ n. take w xs ++ replicate n empty_way) (omega arith))
 
 -- ---- what is so of the ways afterwards
-module _ (tags : List ℕ) (s : IsSet tags) (tag ways : ℕ) (small : tag < 2 ^ 32) (few : length (held_in tags) ≤ ways) where
+module _ (tags : List ℕ) (s : AreWays tags) (tag ways : ℕ) (small : tag < 2 ^ 32) (few : length (held_tags tags) ≤ ways) where
   abbrev front : List ℕ
   front = to_front ways tag s.held
 
   count : length s.held ≤ ways
   count = omega (arith, ap length (held_is tags s))
 
-  front_set : (after : List ℕ) → after ≡ front ++ replicate (8 - length front) empty_way → length front ≤ 8 → IsSet after
+  front_set : (after : List ℕ) → after ≡ front ++ replicate (8 - length front) empty_way → length front ≤ 8 → AreWays after
   front_set after is short =
       record {
         held = front;
@@ -102,7 +102,7 @@ module _ (tags : List ℕ) (s : IsSet tags) (tag ways : ℕ) (small : tag < 2 ^ 
         apart = Apart-take ways (tag ∷ filter (other tag) s.held) (absent-filter tag s.held, Apart-filter (other tag) s.held s.apart);
       }
 
-  front_row : (after : List ℕ) → after ≡ front ++ replicate (8 - length front) empty_way → length front ≤ 8 → held_in after ≡ to_front ways tag (held_in tags)
+  front_row : (after : List ℕ) → after ≡ front ++ replicate (8 - length front) empty_way → length front ≤ 8 → held_tags after ≡ to_front ways tag (held_tags tags)
   unfolding front_set
   front_row after is short = held_is after (front_set after is short) ∙ ap (to_front ways tag) (sym (held_is tags s))
 
@@ -144,14 +144,14 @@ module _ (tags : List ℕ) (s : IsSet tags) (tag ways : ℕ) (small : tag < 2 ^ 
         next : way + 1 ≡ suc way
         next = omega arith
 
-    pub brought_set : (after : List ℕ) → after ≡ rotated way tag tags → IsSet after
+    pub brought_set : (after : List ℕ) → after ≡ rotated way tag tags → AreWays after
     brought_set after e = front_set after (e ∙ brought_is) brought_short
 
-    pub brought_row : (after : List ℕ) → after ≡ rotated way tag tags → held_in after ≡ to_front ways tag (held_in tags)
+    pub brought_row : (after : List ℕ) → after ≡ rotated way tag tags → held_tags after ≡ to_front ways tag (held_tags tags)
     brought_row after e = front_row after (e ∙ brought_is) brought_short
 
   -- no way had it
-  module _ (some : 0 < ways) (at_most : ways ≤ 8) (none : absent tag (held_in tags)) where
+  module _ (some : 0 < ways) (at_most : ways ≤ 8) (none : absent tag (held_tags tags)) where
     abbrev last : ℕ
     last = ways - 1
 
@@ -181,10 +181,10 @@ module _ (tags : List ℕ) (s : IsSet tags) (tag ways : ℕ) (small : tag < 2 ^ 
         next : last + 1 ≡ suc last
         next = omega arith
 
-    pub pushed_set : (after : List ℕ) → after ≡ rotated last tag tags → IsSet after
+    pub pushed_set : (after : List ℕ) → after ≡ rotated last tag tags → AreWays after
     pushed_set after e = front_set after (e ∙ pushed_is) pushed_short
 
-    pub pushed_row : (after : List ℕ) → after ≡ rotated last tag tags → held_in after ≡ to_front ways tag (held_in tags)
+    pub pushed_row : (after : List ℕ) → after ≡ rotated last tag tags → held_tags after ≡ to_front ways tag (held_tags tags)
     pushed_row after e = front_row after (e ∙ pushed_is) pushed_short
 
 -- ---- the first two ways, without a loop

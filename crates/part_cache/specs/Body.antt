@@ -1,7 +1,7 @@
 -- The sets of the body, one after the other.
 use Rattle.std.specs.Prelude.{◌≡◌, ◌*◌, ◌≤◌, ◌<◌, length, map}
 use Rattle.std.specs.List.{All}
-use Rattle.part_cache.specs.Ways.{held_in, IsSet}
+use Rattle.part_cache.specs.Ways.{held_tags, AreWays}
 use Rattle.part_cache.specs.Rows.{Rows}
 use Rattle.part_cache.specs.declared.ways.Ways.{Ways}
 use Rattle.part_cache.specs.declared.cache.PartCache.TheInside.{Inside}
@@ -12,7 +12,7 @@ rows_view c =
       order = c.lattice;
       sets = c.sets;
       ways = c.ways;
-      rows = map (λ (w : Ways). held_in w.tags) c.slots.items;
+      rows = map (λ (w : Ways). held_tags w.tags) c.slots.items;
     }
 
 pub record IsBody (c : Inside) : Type 0 where
@@ -22,5 +22,5 @@ pub record IsBody (c : Inside) : Type 0 where
   pub sets_below : c.sets ≤ 64
   pub ways_below : c.ways ≤ 8
   pub long : length c.slots.items ≡ c.lattice.size * c.sets
-  pub sets_are : All (λ (w : Ways). IsSet w.tags) c.slots.items
-  pub few : All (λ (w : Ways). length (held_in w.tags) ≤ c.ways) c.slots.items
+  pub ways_are : All (λ (w : Ways). AreWays w.tags) c.slots.items
+  pub few : All (λ (w : Ways). length (held_tags w.tags) ≤ c.ways) c.slots.items

@@ -7,8 +7,8 @@ abbrev pub empty_way : ℕ
 empty_way = 18446744073709551615
 
 -- the tags that the ways hold
-abbrev pub held_in : List ℕ → List ℕ
-held_in tags = filter (λ t. not (eqb t empty_way)) tags
+abbrev pub held_tags : List ℕ → List ℕ
+held_tags tags = filter (λ t. not (eqb t empty_way)) tags
 
 -- x is none of these
 abbrev pub absent : ℕ → List ℕ → Type 0
@@ -20,7 +20,7 @@ Apart [] = Unit {0}
 Apart (x ∷ xs) = absent x xs × Apart xs
 
 -- there are 8 ways; they hold tags below 2 ^ 32, no two the same, and empty ways come last
-pub record IsSet (tags : List ℕ) : Type 0 where
+pub record AreWays (tags : List ℕ) : Type 0 where
   pub held : List ℕ
   pub are : tags ≡ held ++ replicate (8 - length held) empty_way
   pub few : length held ≤ 8

@@ -1,7 +1,7 @@
 //! The partitioned cache.
 
 ghost use Rattle.std.specs.Prelude.{◌≡◌, ◌+◌, ◌%◌, ◌<◌, ◌≤◌, ℕ, [], ◌∷◌, ◌++◌, List, cond, true, IfOk, IsTrue, ◌↔◌};
-ghost use Rattle.part_cache.specs.Ways.{held_in, IsSet};
+ghost use Rattle.part_cache.specs.Ways.{held_tags, AreWays};
 ghost use Rattle.part_cache.specs.History.{Touched, hits};
 ghost use Rattle.part_cache.specs.Rows.{StandsFor, IsCacheOf, empty_cache, part_of, tags_at, has, found, touched};
 
@@ -159,8 +159,8 @@ impl PartCache {
     fn ways_of(&self, label: Label, set: u32) -> &Ways
         requires label { label.number < self.now.order.size }
         requires set { set < self.now.sets }
-        ensures row { tags_at self.now label.number set ≡ held_in result.now.tags }
-        ensures set { IsSet result.now.tags }
+        ensures row { tags_at self.now label.number set ≡ held_tags result.now.tags }
+        ensures set { AreWays result.now.tags }
     {
         &self.slots[usize::from(label.number) * self.sets as usize + set as usize]
     }

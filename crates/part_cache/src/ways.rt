@@ -2,10 +2,10 @@
 
 ghost use Rattle.std.specs.Prelude.{◌≡◌, ◌+◌, ◌<◌, ◌≤◌, ℕ, List, [], ◌∷◌, ◌++◌, length, take, drop, slice_index, cond, eqb, MatchOption, IsTrue, ◌↔◌};
 ghost use Rattle.std.specs.List.{list_any};
-ghost use Rattle.part_cache.specs.Ways.{IsSet, held_in, to_front};
+ghost use Rattle.part_cache.specs.Ways.{AreWays, held_tags, to_front};
 
 /// What stands in a way that has no tag. No tag is so great.
-pub const EMPTY: u64 = 18_446_744_073_709_551_615;
+const EMPTY: u64 = 18_446_744_073_709_551_615;
 
 /// The tags of one set, the latest touched first, and then empty ways.
 #[derive(Clone, Copy)]
@@ -16,8 +16,8 @@ pub struct Ways {
 impl Ways {
     /// No tag.
     pub fn none() -> Ways
-        ensures set { IsSet result.tags }
-        ensures none { held_in result.tags ≡ [] }
+        ensures set { AreWays result.tags }
+        ensures none { held_tags result.tags ≡ [] }
     {
         Ways { tags: [EMPTY; 8] }
     }
@@ -53,8 +53,8 @@ impl Ways {
 
     /// Whether a way has the tag.
     pub fn holds(&self, tag: u32) -> bool
-        requires { IsSet self.now.tags }
-        ensures { result ≡ list_any (eqb tag) (held_in self.now.tags) }
+        requires { AreWays self.now.tags }
+        ensures { result ≡ list_any (eqb tag) (held_tags self.now.tags) }
     {
         match self.place(tag) {
             Some(_way) => true,
@@ -66,10 +66,10 @@ impl Ways {
     pub fn touch(&mut self, ways: usize, tag: u32)
         requires some { 0 < ways }
         requires ways { ways ≤ 8 }
-        requires set { IsSet self.old.tags }
-        requires few { length (held_in self.old.tags) ≤ ways }
-        ensures row { held_in self.new.tags ≡ to_front ways tag (held_in self.old.tags) }
-        ensures set { IsSet self.new.tags }
+        requires set { AreWays self.old.tags }
+        requires few { length (held_tags self.old.tags) ≤ ways }
+        ensures row { held_tags self.new.tags ≡ to_front ways tag (held_tags self.old.tags) }
+        ensures set { AreWays self.new.tags }
     {
         match self.place(tag) {
             Some(way) => self.rotate(way, tag),
@@ -81,11 +81,11 @@ impl Ways {
     /// in place.
     #[inline(always)]
     pub fn bring(&mut self, tag: u32) -> bool
-        requires { IsSet self.old.tags }
-        ensures held { result ≡ list_any (eqb tag) (held_in self.old.tags) }
-        ensures row { (ways : ℕ) → length (held_in self.old.tags) ≤ ways
-            → held_in self.new.tags ≡ cond result (to_front ways tag (held_in self.old.tags)) (held_in self.old.tags) }
-        ensures set { IsSet self.new.tags }
+        requires { AreWays self.old.tags }
+        ensures held { result ≡ list_any (eqb tag) (held_tags self.old.tags) }
+        ensures row { (ways : ℕ) → length (held_tags self.old.tags) ≤ ways
+            → held_tags self.new.tags ≡ cond result (to_front ways tag (held_tags self.old.tags)) (held_tags self.old.tags) }
+        ensures set { AreWays self.new.tags }
     {
         let wide = u64::from(tag);
         let front = self.tags[0];
@@ -103,11 +103,11 @@ impl Ways {
     // The same with each way tried.
     #[inline(never)]
     fn bring_far(&mut self, tag: u32) -> bool
-        requires { IsSet self.old.tags }
-        ensures held { result ≡ list_any (eqb tag) (held_in self.old.tags) }
-        ensures row { (ways : ℕ) → length (held_in self.old.tags) ≤ ways
-            → held_in self.new.tags ≡ cond result (to_front ways tag (held_in self.old.tags)) (held_in self.old.tags) }
-        ensures set { IsSet self.new.tags }
+        requires { AreWays self.old.tags }
+        ensures held { result ≡ list_any (eqb tag) (held_tags self.old.tags) }
+        ensures row { (ways : ℕ) → length (held_tags self.old.tags) ≤ ways
+            → held_tags self.new.tags ≡ cond result (to_front ways tag (held_tags self.old.tags)) (held_tags self.old.tags) }
+        ensures set { AreWays self.new.tags }
     {
         match self.place(tag) {
             Some(way) => {
@@ -120,9 +120,9 @@ impl Ways {
 
     /// Whether both hold the same tags in the same order.
     pub fn is_same(&self, other: &Ways) -> bool
-        requires here { IsSet self.now.tags }
-        requires there { IsSet other.now.tags }
-        ensures { IsTrue result ↔ (held_in self.now.tags ≡ held_in other.now.tags) }
+        requires here { AreWays self.now.tags }
+        requires there { AreWays other.now.tags }
+        ensures { IsTrue result ↔ (held_tags self.now.tags ≡ held_tags other.now.tags) }
     {
         self.tags == other.tags
     }
