@@ -11,7 +11,8 @@ use Rattle.env_contract.specs.declared.place.Place.{Place}
 use Rattle.env_contract.specs.declared.place.Place.TheVariants.{Page, Code, Data, Second}
 use Rattle.part_cache.specs.History.{Touched, tags_in, holds, some_below, held}
 use Rattle.part_cache.specs.Rows.{numbers_of}
-use Rattle.part_cache.proofs.Near.{to_front, any_near}
+use Rattle.part_cache.specs.Ways.{to_front}
+use Rattle.part_cache.proofs.Near.{any_near}
 use Rattle.part_cache.proofs.Stands.{is_at, held_here, held_elsewhere}
 use Rattle.part_cache.proofs.Laws.{rows_from_numbers}
 use Rattle.part_tlb.specs.Histories.{Placed, is_place, touches_at, sets_at, ways_at, tag_at, hits_at, touch_at, held_at}

@@ -4,7 +4,6 @@ use Rattle.std.specs.Prelude.{replicate}
 use Rattle.std.proofs.lemmas.List.{get_or_past, length-replicate, get_or-replicate}
 use Rattle.std.proofs.lemmas.Bool.{cases_lt}
 use Rattle.label_lattice.specs.Order.{Order}
-use Rattle.part_cache.specs.Ages.{Entry}
 use Rattle.part_cache.specs.Rows.{IsCacheOf, StandsFor, empty_cache}
 use Rattle.part_cache.proofs.Stands.{StandsFor-empty}
 
@@ -12,9 +11,9 @@ use Rattle.part_cache.proofs.Stands.{StandsFor-empty}
 pub row_empty : (order : Order) (sets ways k : ℕ) → get_or (empty_cache order sets ways).rows k [] ≡ []
 row_empty order sets ways k = go (cases_lt k (order.size * sets))
   where
-    go : ((k < order.size * sets) ⊎ (order.size * sets ≤ k)) → get_or {A = List Entry} (replicate (order.size * sets) []) k [] ≡ []
+    go : ((k < order.size * sets) ⊎ (order.size * sets ≤ k)) → get_or {A = List ℕ} (replicate (order.size * sets) []) k [] ≡ []
     go (inl lt) = get_or-replicate (order.size * sets) k [] [] lt
-    go (inr ge) = get_or_past (replicate (order.size * sets) []) k [] (let l = length-replicate {A = List Entry} (order.size * sets) [] in omega arith)
+    go (inr ge) = get_or_past (replicate (order.size * sets) []) k [] (let l = length-replicate {A = List ℕ} (order.size * sets) [] in omega arith)
 
 pub IsCacheOf-empty : (order : Order) (sets ways : ℕ) → 0 < sets → 0 < ways → IsCacheOf order sets ways (empty_cache order sets ways)
 IsCacheOf-empty order sets ways s w =

@@ -9,9 +9,8 @@ use Rattle.std.proofs.lemmas.Bool.{cases_eq, cases_lt, cases_Bool, both_ways}
 use Rattle.label_lattice.specs.Lattice.{Flows}
 use Rattle.label_lattice.specs.Order.{Order, lattice_of}
 use Rattle.part_cache.specs.History.{Touched, some_below, held}
-use Rattle.part_cache.specs.Ages.{tags_of, touch_row}
-use Rattle.part_cache.specs.Rows.{Rows, row_of, tags_at, IsCache, IsCacheOf, StandsFor, has, found, touched, tag_rows, numbers_of, part_of}
-use Rattle.part_cache.proofs.Near.{to_front}
+use Rattle.part_cache.specs.Ways.{to_front}
+use Rattle.part_cache.specs.Rows.{Rows, tags_at, IsCache, IsCacheOf, StandsFor, has, found, touched, tag_rows, numbers_of, part_of}
 use Rattle.part_cache.proofs.Stands.{tags_here, tags_elsewhere, IsCache-touched, some_below_same}
 
 -- the numbers give the rows back
@@ -88,7 +87,7 @@ module _ (order : Order) (sets ways : ℕ) where
     where
       -- a label that is none is not touched
       past : (x : Rows) → IsCache x → x.order.size ≤ ew → (set : ℕ) → tags_at (touched x tag ew) ew set ≡ tags_at x ew set
-      past x good ge set = ap (λ rs. tags_of (get_or rs (ew * x.sets + set) [])) (set_past x.rows (ew * x.sets + tag % x.sets) (touch_row x.ways tag (row_of x ew (tag % x.sets))) (grind (arith, good.each_set)))
+      past x good ge set = ap (λ rs. get_or rs (ew * x.sets + set) []) (set_past x.rows (ew * x.sets + tag % x.sets) (to_front x.ways tag (tags_at x ew (tag % x.sets))) (grind (arith, good.each_set)))
 
       row : (c.sets ≡ d.sets) → (c.ways ≡ d.ways) → (c.order.size ≡ d.order.size) → (set : ℕ) → set < c.sets → ((ew < c.order.size) ⊎ (c.order.size ≤ ew)) → ((set ≡ tag % c.sets) ⊎ (set ≡ tag % c.sets → ⊥)) → tags_at (touched c tag ew) ew set ≡ tags_at (touched d tag ew) ew set
       row n w z set h (inr ge) q =

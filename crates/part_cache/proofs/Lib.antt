@@ -2,10 +2,6 @@ pub mod Near
 pub mod Stands
 pub mod Laws
 pub mod Empty
-pub mod Latest
-pub mod Written
-pub mod Renumber
-pub mod Parts
+pub mod Held
+pub mod Rotate
 pub mod Flat
-pub mod Below
-pub mod Front

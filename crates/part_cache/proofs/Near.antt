@@ -1,16 +1,11 @@
 -- What is near is the front of the list of different tags.
-use Rattle.std.proofs.Common.{◌≡◌, ℕ, zero, suc, ◌+◌, ◌<◌, ◌≤◌, List, [], ◌∷◌, length, take, Bool, true, false, refl, sym, ap, ◌∙◌, subst, ⊎_elim, arith, Option, Some, None}
-use Rattle.std.specs.Prelude.{not, cond, eqb, ltb, leb, ◌||◌}
+use Rattle.std.proofs.Common.{◌≡◌, ℕ, zero, suc, ◌<◌, ◌≤◌, List, [], ◌∷◌, length, take, Bool, true, false, refl, sym, ap, ◌∙◌, subst, ⊎_elim, arith, Option, Some, None}
+use Rattle.std.specs.Prelude.{not, cond, eqb, ltb, ◌||◌}
 use Rattle.std.specs.List.{filter, list_any}
 use Rattle.std.specs.Option.{option_map, option_map_or}
-use Rattle.std.proofs.lemmas.List.{take-map}
 use Rattle.std.proofs.lemmas.Bool.{cases_lt, eqb-true, eq-eqb, lt-ltb, le-ltb, or_parts, not-true, both_ways, false_from_ne_true}
 use Rattle.part_cache.specs.History.{since, distinct, is_near}
-use Rattle.part_cache.specs.Ages.{Entry, tags_of, clock, renumbered, settled, touch_row}
-
--- the tag at the front, and as many of the others as there are ways left
-abbrev pub to_front : ℕ → ℕ → List ℕ → List ℕ
-to_front ways tag row = take ways (tag ∷ filter (λ y. not (eqb tag y)) row)
+use Rattle.part_cache.specs.Ways.{absent, Apart, to_front}
 
 abbrev pub other : ℕ → ℕ → Bool
 other x y = not (eqb x y)
@@ -129,25 +124,20 @@ pub near_is : (ways : ℕ) (xs : List ℕ) → filter (is_near ways xs) (distinc
 near_is ways xs = near_by (length xs) ways xs (omega arith)
 
 -- ---- the step to the front
-
--- x is none of these
-abbrev pub absent : ℕ → List ℕ → Type 0
-absent x xs = list_any (eqb x) xs ≡ false
-
-filter_absent : (x : ℕ) (xs : List ℕ) → absent x xs → filter (other x) xs ≡ xs
+pub filter_absent : (x : ℕ) (xs : List ℕ) → absent x xs → filter (other x) xs ≡ xs
 filter_absent x [] h = refl
 filter_absent x (y ∷ ys) h =
     let p = or_parts (eqb x y) (list_any (eqb x) ys) h in
     rw p.0 (ap (λ t. y ∷ t) (filter_absent x ys p.1))
 
-absent-take : (x n : ℕ) (xs : List ℕ) → absent x xs → absent x (take n xs)
+pub absent-take : (x n : ℕ) (xs : List ℕ) → absent x xs → absent x (take n xs)
 absent-take x zero xs h = refl
 absent-take x (suc n) [] h = refl
 absent-take x (suc n) (y ∷ ys) h =
     let p = or_parts (eqb x y) (list_any (eqb x) ys) h in
     rw p.0 (absent-take x n ys p.1)
 
-absent-filter : (x : ℕ) (xs : List ℕ) → absent x (filter (other x) xs)
+pub absent-filter : (x : ℕ) (xs : List ℕ) → absent x (filter (other x) xs)
 absent-filter x [] = refl
 absent-filter x (y ∷ ys) = go (eqb x y) refl (absent-filter x ys)
   where
@@ -164,12 +154,7 @@ absent-filter_other x p (y ∷ ys) h =
     go true e k = rw e k
     go false e k = k
 
--- no tag stands twice
-abbrev pub Apart : List ℕ → Type 0
-Apart [] = Unit {0}
-Apart (x ∷ xs) = absent x xs × Apart xs
-
-Apart-filter : (p : ℕ → Bool) (xs : List ℕ) → Apart xs → Apart (filter p xs)
+pub Apart-filter : (p : ℕ → Bool) (xs : List ℕ) → Apart xs → Apart (filter p xs)
 Apart-filter p [] h = tt
 Apart-filter p (x ∷ xs) h = go (p x) (Apart-filter p xs h.1)
   where
@@ -256,29 +241,3 @@ any_near ways x back = go (is_near ways back x) refl
                 let ne : eqb x z ≡ false = false_from_ne_true (eqb x z) (λ q. both_ways (p x) e (ap p (eqb-true x z q) ∙ f)) in
                 rw ne h
             at false f h = h
-
--- ---- the tags know no ages
-tags-renumbered : (es : List Entry) → tags_of (renumbered es) ≡ tags_of es
-tags-renumbered [] = refl
-tags-renumbered (e ∷ es) = ap (λ t. e.0 ∷ t) (tags-renumbered es)
-
-tags-settled : (es : List Entry) → tags_of (settled es) ≡ tags_of es
-tags-settled es = go (leb 65535 (clock es))
-  where
-    go : (b : Bool) → tags_of (cond b (renumbered es) es) ≡ tags_of es
-    go true = tags-renumbered es
-    go false = refl
-
-tags-filter : (tag : ℕ) (es : List Entry) → tags_of (filter (λ (e : Entry). not (eqb tag e.0)) es) ≡ filter (λ y. not (eqb tag y)) (tags_of es)
-tags-filter tag [] = refl
-tags-filter tag (e ∷ es) = go (not (eqb tag e.0)) (tags-filter tag es)
-  where
-    go : (b : Bool) → tags_of (filter (λ (e : Entry). not (eqb tag e.0)) es) ≡ filter (λ y. not (eqb tag y)) (tags_of es) →
-        tags_of (cond b (e ∷ filter (λ (e : Entry). not (eqb tag e.0)) es) (filter (λ (e : Entry). not (eqb tag e.0)) es)) ≡ cond b (e.0 ∷ filter (λ y. not (eqb tag y)) (tags_of es)) (filter (λ y. not (eqb tag y)) (tags_of es))
-    go true r = ap (λ t. e.0 ∷ t) r
-    go false r = r
-
-pub tags-touch_row : (ways tag : ℕ) (es : List Entry) → tags_of (touch_row ways tag es) ≡ to_front ways tag (tags_of es)
-tags-touch_row ways tag es =
-    sym (take-map (λ (e : Entry). e.0) ways ((tag, clock (settled es) + 1) ∷ filter (λ (e : Entry). not (eqb tag e.0)) (settled es)))
-    ∙ ap (λ t. take ways (tag ∷ t)) (tags-filter tag (settled es) ∙ ap (filter (λ y. not (eqb tag y))) (tags-settled es))

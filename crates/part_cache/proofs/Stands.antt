@@ -9,9 +9,9 @@ use Rattle.std.proofs.Common.{add-one}
 use Rattle.std.proofs.lemmas.Bool.{or_left, or_right, cases_eq, cases_lt, cases_Bool, eqb-true, eq-eqb, and_from, and_parts, both_ways}
 use Rattle.label_lattice.specs.Order.{lattice_of}
 use Rattle.part_cache.specs.History.{Touched, tags_in, distinct, holds, some_below, hits, held}
-use Rattle.part_cache.specs.Ages.{Entry, tags_of, clock, settled, touch_row, age_among}
-use Rattle.part_cache.specs.Rows.{Rows, row_of, tags_at, age_of, IsCache, has, found, touched, StandsFor}
-use Rattle.part_cache.proofs.Near.{to_front, tags-touch_row, near_is, front_is, any_near}
+use Rattle.part_cache.specs.Ways.{to_front}
+use Rattle.part_cache.specs.Rows.{Rows, tags_at, IsCache, has, found, touched, StandsFor}
+use Rattle.part_cache.proofs.Near.{near_is, front_is, any_near}
 
 abbrev pub is_at : ℕ → ℕ → ℕ → Touched → Bool
 is_at sets label set x = eqb x.label label && eqb (x.tag % sets) set
@@ -65,56 +65,37 @@ module _ (c : Rows) (good : IsCache c) where
   place_below tag ew h = omega (arith, good.each_set, mul-add-lt ew c.sets (tag % c.sets) c.order.size h (set_below tag))
 
   -- the touched row, where the label is one
-  pub row_here : (tag ew : ℕ) → ew < c.order.size → row_of (touched c tag ew) ew (tag % c.sets) ≡ touch_row c.ways tag (row_of c ew (tag % c.sets))
-  row_here tag ew h =
-      get_or-set_same c.rows (ew * c.sets + tag % c.sets) (touch_row c.ways tag (row_of c ew (tag % c.sets))) []
+  pub tags_here : (tag ew : ℕ) → ew < c.order.size → tags_at (touched c tag ew) ew (tag % c.sets) ≡ to_front c.ways tag (tags_at c ew (tag % c.sets))
+  tags_here tag ew h =
+      get_or-set_same c.rows (ew * c.sets + tag % c.sets) (to_front c.ways tag (tags_at c ew (tag % c.sets))) []
       (place_below tag ew h)
 
-  pub row_elsewhere : (tag ew label set : ℕ) → set < c.sets → ((label ≡ ew) × (set ≡ tag % c.sets) → ⊥) → row_of (touched c tag ew) label set ≡ row_of c label set
-  row_elsewhere tag ew label set h ne =
-      get_or-set_other c.rows (ew * c.sets + tag % c.sets) (label * c.sets + set) (touch_row c.ways tag (row_of c ew (tag % c.sets))) []
+  pub tags_elsewhere : (tag ew label set : ℕ) → set < c.sets → ((label ≡ ew) × (set ≡ tag % c.sets) → ⊥) → tags_at (touched c tag ew) label set ≡ tags_at c label set
+  tags_elsewhere tag ew label set h ne =
+      get_or-set_other c.rows (ew * c.sets + tag % c.sets) (label * c.sets + set) (to_front c.ways tag (tags_at c ew (tag % c.sets))) []
       (λ e. ne (same_from_place label set ew (tag % c.sets) c.sets h (set_below tag) e))
 
-  pub tags_here : (tag ew : ℕ) → ew < c.order.size → tags_at (touched c tag ew) ew (tag % c.sets) ≡ to_front c.ways tag (tags_at c ew (tag % c.sets))
-  tags_here tag ew h = ap tags_of (row_here tag ew h) ∙ tags-touch_row c.ways tag (row_of c ew (tag % c.sets))
-
-  pub tags_elsewhere : (tag ew label set : ℕ) → set < c.sets → ((label ≡ ew) × (set ≡ tag % c.sets) → ⊥) → tags_at (touched c tag ew) label set ≡ tags_at c label set
-  tags_elsewhere tag ew label set h ne = ap tags_of (row_elsewhere tag ew label set h ne)
-
-  -- the ages after a touch
-  age_at_front : (tag age ways : ℕ) (es : List Entry) → 0 < ways → age_among tag (take ways ((tag, age) ∷ es)) ≡ age
-  age_at_front tag age zero es h = absurd (omega arith)
-  age_at_front tag age (suc ways) es h = rw (eq-eqb tag tag refl) refl
-
-  pub age_here : (tag ew : ℕ) → ew < c.order.size → age_of (touched c tag ew) tag ew ≡ clock (settled (row_of c ew (tag % c.sets))) + 1
-  age_here tag ew h =
-      ap (age_among tag) (row_here tag ew h)
-      ∙ age_at_front tag (clock (settled (row_of c ew (tag % c.sets))) + 1) c.ways (filter (λ (e : Entry). not (eqb tag e.0)) (settled (row_of c ew (tag % c.sets)))) good.some_way
-
-  pub age_elsewhere : (tag ew other label : ℕ) → ((label ≡ ew) × (other % c.sets ≡ tag % c.sets) → ⊥) → age_of (touched c tag ew) other label ≡ age_of c other label
-  age_elsewhere tag ew other label ne = ap (age_among other) (row_elsewhere tag ew label (other % c.sets) (set_below other) ne)
-
-  length-touch_row : (tag : ℕ) (row : List Entry) → length (touch_row c.ways tag row) ≤ c.ways
-  length-touch_row tag row = omega (arith, length-take c.ways ((tag, clock (settled row) + 1) ∷ filter (λ (e : Entry). not (eqb tag e.0)) (settled row)))
+  length-to_front : (tag : ℕ) (row : List ℕ) → length (to_front c.ways tag row) ≤ c.ways
+  length-to_front tag row = omega (arith, length-take c.ways (tag ∷ filter (λ y. not (eqb tag y)) row))
 
   pub IsCache-touched : (tag ew : ℕ) → IsCache (touched c tag ew)
   IsCache-touched tag ew =
       record {
         some_set = good.some_set;
         some_way = good.some_way;
-        each_set = length-set c.rows (ew * c.sets + tag % c.sets) (touch_row c.ways tag (row_of c ew (tag % c.sets))) ∙ good.each_set;
+        each_set = length-set c.rows (ew * c.sets + tag % c.sets) (to_front c.ways tag (tags_at c ew (tag % c.sets))) ∙ good.each_set;
         few = λ k. short k (cases_eq k (ew * c.sets + tag % c.sets)) (cases_lt k (length c.rows));
       }
     where
       place : ℕ
       place = ew * c.sets + tag % c.sets
 
-      row : List Entry
-      row = touch_row c.ways tag (row_of c ew (tag % c.sets))
+      row : List ℕ
+      row = to_front c.ways tag (tags_at c ew (tag % c.sets))
 
       short : (k : ℕ) → ((k ≡ place) ⊎ (k ≡ place → ⊥)) → ((k < length c.rows) ⊎ (length c.rows ≤ k)) → length (get_or (slice_set c.rows place row) k []) ≤ c.ways
       short k (inr ne) q = rw (get_or-set_other c.rows place k row [] ne) (good.few k)
-      short k (inl e) (inl lt) = let l : place < length c.rows = omega arith in rw (e, get_or-set_same c.rows place row [] l) (length-touch_row tag (row_of c ew (tag % c.sets)))
+      short k (inl e) (inl lt) = let l : place < length c.rows = omega arith in rw (e, get_or-set_same c.rows place row [] l) (length-to_front tag (tags_at c ew (tag % c.sets)))
       short k (inl e) (inr ge) = let l : length c.rows ≤ place = omega arith in rw (set_past c.rows place row l) (good.few k)
 
   pub StandsFor-touched : (tag ew : ℕ) (h : List Touched) → ew < c.order.size → StandsFor c h → StandsFor (touched c tag ew) (h ++ record { label = ew; tag = tag } ∷ [])
@@ -150,7 +131,7 @@ module _ (c : Rows) (good : IsCache c) where
 
 -- a cache all of whose rows are empty stands for the empty history
 pub StandsFor-empty : (c : Rows) → ((k : ℕ) → get_or c.rows k [] ≡ []) → StandsFor c []
-StandsFor-empty c none = record { each = λ label set lb sb. ap tags_of (none (label * c.sets + set)) }
+StandsFor-empty c none = record { each = λ label set lb sb. none (label * c.sets + set) }
 
 -- ---- a loop over the labels
 pub some_below_more : (n : ℕ) (p : ℕ → Bool) → p n ≡ false → some_below n p ≡ false → some_below (n + 1) p ≡ false

@@ -1,5 +1,4 @@
 pub mod History
-pub mod Ages
+pub mod Ways
 pub mod Rows
-pub mod Slots
 pub mod Body

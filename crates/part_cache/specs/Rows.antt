@@ -2,26 +2,19 @@
 use Rattle.std.specs.Prelude.{◌≡◌, ℕ, ◌+◌, ◌*◌, ◌%◌, ◌<◌, ◌≤◌, Bool, eqb, ◌&&◌, List, [], ◌∷◌, ◌++◌, length, map, replicate, slice_index_or, slice_set}
 use Rattle.std.specs.List.{list_any, range_with_len}
 use Rattle.label_lattice.specs.Order.{Order, lattice_of}
-use Rattle.part_cache.specs.Ages.{Entry, tags_of, touch_row, age_among}
+use Rattle.part_cache.specs.Ways.{to_front}
 use Rattle.part_cache.specs.History.{Touched, some_below, held}
 
--- of each set of each partition the tags that it holds with their ages, the latest touched first; the row
--- of a label's set is label * sets + set
+-- of each set of each partition the tags that it holds, the latest touched first; the row of a label's set
+-- is label * sets + set
 pub record Rows : Type 0 where
   pub order : Order
   pub sets : ℕ
   pub ways : ℕ
-  pub rows : List (List Entry)
-
-abbrev pub row_of : Rows → ℕ → ℕ → List Entry
-row_of c label set = slice_index_or c.rows (label * c.sets + set) []
+  pub rows : List (List ℕ)
 
 abbrev pub tags_at : Rows → ℕ → ℕ → List ℕ
-tags_at c label set = tags_of (row_of c label set)
-
--- the age of a tag in a partition, 0 where it is not held there
-abbrev pub age_of : Rows → ℕ → ℕ → ℕ
-age_of c tag label = age_among tag (row_of c label (tag % c.sets))
+tags_at c label set = slice_index_or c.rows (label * c.sets + set) []
 
 -- there is a row for each set of each partition, and each has at most as many tags as there are ways
 pub record IsCache (c : Rows) : Type 0 where
@@ -41,7 +34,7 @@ found c tag er = some_below c.order.size (λ label. (lattice_of c.order).flows l
 -- the cache after a touch of the tag in the partition of ew: that partition's set of the tag is touched
 abbrev pub touched : Rows → ℕ → ℕ → Rows
 touched c tag ew =
-    record c { rows = slice_set c.rows (ew * c.sets + tag % c.sets) (touch_row c.ways tag (row_of c ew (tag % c.sets))) }
+    record c { rows = slice_set c.rows (ew * c.sets + tag % c.sets) (to_front c.ways tag (tags_at c ew (tag % c.sets))) }
 
 -- the tags of each row are those that the history says are held
 pub record StandsFor (c : Rows) (history : List Touched) : Type 0 where

@@ -1,9 +1,7 @@
 //! A cache with a partition for each label, whose look-ups read the partitions at or below a label.
 #![tactic(auto)]
 
-mod ages;
 pub mod cache;
-mod compare;
 #[cfg(test)]
 mod tests;
 mod ways;

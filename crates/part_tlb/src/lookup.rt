@@ -24,27 +24,32 @@ pub fn tag_at(place: Place, address: u32) -> u32
     }
 }
 
-/// Whether a look-up of the tag hits. The tag is then touched, whether it hit or not.
-pub fn look_and_touch(cache: &mut PartCache, tag: u32, er: Label, ew: Label) -> bool
+/// Whether a look-up of the tag hits. The tag is then touched, whether it hit or not. `sets` is the number
+/// of the cache's sets, a literal where the call is inlined.
+#[inline(always)]
+pub fn look_and_touch(cache: &mut PartCache, sets: u32, tag: u32, er: Label, ew: Label) -> bool
+    requires sets { sets ≡ cache.old.sets }
     requires read { er.number < cache.old.order.size }
     requires write { ew.number < cache.old.order.size }
     ensures hit { result ≡ found cache.old tag er.number }
     ensures touched { cache.new ≡ touched cache.old tag ew.number }
 {
     if er.number == ew.number {
-        look_and_touch_at(cache, tag, ew)
+        look_and_touch_at(cache, sets, tag, ew)
     } else {
         look_then_touch(cache, tag, er, ew)
     }
 }
 
 // The same at one label. Mostly its partition holds the tag, and nothing else is looked up.
-fn look_and_touch_at(cache: &mut PartCache, tag: u32, label: Label) -> bool
-    requires { label.number < cache.old.order.size }
+#[inline(always)]
+fn look_and_touch_at(cache: &mut PartCache, sets: u32, tag: u32, label: Label) -> bool
+    requires sets { sets ≡ cache.old.sets }
+    requires label { label.number < cache.old.order.size }
     ensures hit { result ≡ found cache.old tag label.number }
     ensures touched { cache.new ≡ touched cache.old tag label.number }
 {
-    if cache.touch_held(tag, label) {
+    if cache.touch_held(sets, tag, label) {
         true
     } else {
         look_then_touch(cache, tag, label, label)
@@ -52,6 +57,7 @@ fn look_and_touch_at(cache: &mut PartCache, tag: u32, label: Label) -> bool
 }
 
 // A look-up and then a touch.
+#[inline(never)]
 fn look_then_touch(cache: &mut PartCache, tag: u32, er: Label, ew: Label) -> bool
     requires read { er.number < cache.old.order.size }
     requires write { ew.number < cache.old.order.size }

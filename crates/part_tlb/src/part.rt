@@ -63,6 +63,7 @@ impl PartEnv {
     }
 
     /// Looks the page up and touches it, and then the line in the cache of its kind.
+    #[inline(always)]
     pub(crate) fn look_up(&mut self, kind: Kind, address: u32, er: Label, ew: Label) -> Hits
         requires { (order : Order)
             × (IsMadeFor part_structure order self.old × (er.number < order.size) × (ew.number < order.size)) }
@@ -70,13 +71,25 @@ impl PartEnv {
         ensures line { result.line ≡ found (line_cache kind self.old) (address / 32) er.number }
         ensures next { self.new ≡ part_after kind address er.number ew.number self.old }
     {
-        let page = look_and_touch(&mut self.buffer, tag_at(Place::Page, address), er, ew);
+        let page = look_and_touch(&mut self.buffer, 1, tag_at(Place::Page, address), er, ew);
         let line = match kind {
             Kind::Code => {
-                look_and_touch(&mut self.code_cache, tag_at(Place::Code, address), er, ew)
+                look_and_touch(
+                    &mut self.code_cache,
+                    8,
+                    tag_at(Place::Code, address),
+                    er,
+                    ew,
+                )
             }
             Kind::Data => {
-                look_and_touch(&mut self.data_cache, tag_at(Place::Data, address), er, ew)
+                look_and_touch(
+                    &mut self.data_cache,
+                    8,
+                    tag_at(Place::Data, address),
+                    er,
+                    ew,
+                )
             }
         };
         Hits { page, line }
@@ -98,6 +111,7 @@ impl MachineEnv for PartEnv {
 
     ghost lawful = { part_lawful };
 
+    #[inline(always)]
     fn access(&mut self, kind: Kind, address: u32, er: Label, ew: Label) -> u32
         requires { (order : Order)
             × (IsMadeFor part_structure order self.old × (er.number < order.size) × (ew.number < order.size)) }

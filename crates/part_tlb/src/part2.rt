@@ -71,6 +71,7 @@ impl MachineEnv for Part2Env {
 
     ghost lawful = { part2_lawful };
 
+    #[inline(always)]
     fn access(&mut self, kind: Kind, address: u32, er: Label, ew: Label) -> u32
         requires { (order : Order)
             × (IsMadeFor part2_structure order self.old × (er.number < order.size) × (ew.number < order.size)) }
@@ -85,7 +86,7 @@ impl MachineEnv for Part2Env {
             → StandsForAll part2_structure self.new (part2_history kind address ew.number h) }
     {
         let hits = self.first.look_up(kind, address, er, ew);
-        let second = look_and_touch(&mut self.second, tag_at(Place::Second, address), er, ew);
+        let second = look_and_touch(&mut self.second, 32, tag_at(Place::Second, address), er, ew);
         hits.penalty(kind) + miss_cost(hits.line || second, 30)
     }
 

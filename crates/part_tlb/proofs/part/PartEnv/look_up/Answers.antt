@@ -1,3 +1,4 @@
+use Rattle.std.proofs.Common.{sym}
 use Rattle.part_tlb.proofs.History.{label_in}
 use Rattle.env_contract.specs.declared.place.Place.TheVariants.{Page, Code, Data}
 use Rattle.part_tlb.proofs.part.PartEnv.look_up.Goals as goal
@@ -19,3 +20,12 @@ look_and_touch-line-requires-in-Data-clause-read c = label_in c.requires.0 8 2 c
 
 pub look_and_touch-line-requires-in-Data-clause-write : goal.look_and_touch-line-requires-in-Data-clause-write
 look_and_touch-line-requires-in-Data-clause-write c = label_in c.requires.0 8 2 c.args.self.now.data_cache c.args.ew.number (c.requires.1.0.each Data) c.requires.1.2
+
+pub look_and_touch-page-requires-clause-sets : goal.look_and_touch-page-requires-clause-sets
+look_and_touch-page-requires-clause-sets c = sym (c.requires.1.0.each Page).same_sets
+
+pub look_and_touch-line-requires-clause-sets : goal.look_and_touch-line-requires-clause-sets
+look_and_touch-line-requires-clause-sets c = sym (c.requires.1.0.each Code).same_sets
+
+pub look_and_touch-line-requires-in-Data-clause-sets : goal.look_and_touch-line-requires-in-Data-clause-sets
+look_and_touch-line-requires-in-Data-clause-sets c = sym (c.requires.1.0.each Data).same_sets
