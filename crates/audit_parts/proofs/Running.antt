@@ -15,8 +15,8 @@ use Rattle.code_lower.specs.Lowered.{lowered}
 use Rattle.cycle_machine.specs.Rest.{told_by, rest_of, rest_from, end_of_turn, events_of}
 use Rattle.cycle_machine.proofs.Goes.{after_events, Next, Last}
 use Rattle.audit_parts.specs.declared.observe.Tally.{Tally}
-use Rattle.audit_parts.specs.Observed.{event_of, Tallies, CountsUp, IsObserved}
-use Rattle.audit_parts.proofs.Tallying.{same_more}
+use Rattle.audit_parts.specs.Observed.{event_of, TellsSeen, Tallies, CountsUp, IsObserved}
+use Rattle.audit_parts.proofs.Tallying.{same_more, hidden_more}
 
 -- these events of the run are in the tally, and the rest is what the machine still does; no count is above the clock
 pub record Observing {E : Type 0} (v : Env E) (limit : ℕ) (p : LabelledProgram) (o : ℕ) (marked : List Bool) (room : ℕ) (old new : Loaded E) (t : Tally) : Type 0 where
@@ -50,47 +50,52 @@ module _ {E : Type 0} (v : Env E) (limit : ℕ) (p : LabelledProgram) (o : ℕ) 
     by = omega (arith, clock);
   }
 
-  pub more_observed : (old mid new : Loaded E) (turn : Turn) (t u : Tally) → Observing v limit p o marked room old mid t → Next v limit mid new turn → CountsUp t u →
-      ((events : List Event) → Tallies p o marked room events t → Tallies p o marked room (events ++ events_of turn) u) → Observing v limit p o marked room old new u
-  more_observed old mid new turn t u r n up tells =
-      let later = n.later in
-      let shown = r.shown in
-      let begun = r.begun in
-      let ended = r.ended in
-      let u1 = up.shown in
-      let u2 = up.begun in
-      let u3 = up.ended in
-      record {
-        events = r.events ++ events_of turn;
-        rest = r.rest ∙ (ap (after_events r.events) n.rest ∙ ap (λ z. let k : Told = record { events = z; end = (rest_of v limit new).end } in k) (sym (append_assoc r.events (events_of turn) (rest_of v limit new).events)));
-        tallies = tells r.events r.tallies;
-        code = n.code ∙ r.code;
-        shown = omega arith;
-        begun = omega arith;
-        ended = omega arith;
-        by = n.within;
-      }
+  module _ (list : List Bool) (seen : TellsSeen p o list) where
+    pub more_observed : (old mid new : Loaded E) (turn : Turn) (t u : Tally) → Observing v limit p o marked room old mid t → Next v list limit mid new turn → CountsUp t u →
+        ((events : List Event) → Tallies p o marked room events t → Tallies p o marked room (events ++ events_of turn) u) → Observing v limit p o marked room old new u
+    more_observed old mid new turn t u r n up tells =
+        let es : List Event = n.hidden ++ events_of turn in
+        let passed : Tallies p o marked room (r.events ++ n.hidden) t = hidden_more p o list seen marked room r.events n.hidden t n.unseen r.tallies in
+        let later = n.later in
+        let shown = r.shown in
+        let begun = r.begun in
+        let ended = r.ended in
+        let u1 = up.shown in
+        let u2 = up.begun in
+        let u3 = up.ended in
+        record {
+          events = r.events ++ es;
+          rest = r.rest ∙ (ap (after_events r.events) n.rest ∙ ap (λ z. let k : Told = record { events = z; end = (rest_of v limit new).end } in k) (sym (append_assoc r.events es (rest_of v limit new).events)));
+          tallies = same_more p o marked room ((r.events ++ n.hidden) ++ events_of turn) (r.events ++ es) u (append_assoc r.events n.hidden (events_of turn)) (tells (r.events ++ n.hidden) passed);
+          code = n.code ∙ r.code;
+          shown = omega arith;
+          begun = omega arith;
+          ended = omega arith;
+          by = n.within;
+        }
 
-  pub all_observed : (old mid new : Loaded E) (turn : Turn) (end : RunEnd) (t u : Tally) → Observing v limit p o marked room old mid t → Last v limit mid new turn end → end_of_turn turn ≡ Some end →
-      ((events : List Event) → Tallies p o marked room events t → Tallies p o marked room (events ++ events_of turn) u) → IsObserved p o marked room limit (rest_of v limit old) (record { tally = u; end = end })
-  all_observed old mid new turn end t u r l e tells =
-      let told : (rest_of v limit old).events ≡ r.events = ap (λ z. z.events) r.rest ∙ (ap (λ z. r.events ++ z.events) l.rest ∙ append-nil r.events) in
-      let same : r.events ++ events_of turn ≡ r.events = ap (λ z. r.events ++ z) (stop_tells turn end e) ∙ append-nil r.events in
-      let now : Tallies p o marked room r.events u = same_more p o marked room (r.events ++ events_of turn) r.events u same (tells r.events r.tallies) in
-      let clock = r.by in
-      let shown : u.shown ≡ t.shown = now.shown ∙ sym r.tallies.shown in
-      let begun : u.begun ≡ t.begun = now.begun ∙ sym r.tallies.begun in
-      let ended : u.ended ≡ t.ended = now.ended ∙ sym r.tallies.ended in
-      let s = r.shown in
-      let b = r.begun in
-      let f = r.ended in
-      record {
-        tallies = same_more p o marked room r.events (rest_of v limit old).events u (sym told) now;
-        end = sym (ap (λ z. z.end) r.rest ∙ ap (λ z. z.end) l.rest);
-        shown = omega arith;
-        begun = omega arith;
-        ended = omega arith;
-      }
+    pub all_observed : (old mid new : Loaded E) (turn : Turn) (end : RunEnd) (t u : Tally) → Observing v limit p o marked room old mid t → Last v list limit mid new turn end → end_of_turn turn ≡ Some end →
+        ((events : List Event) → Tallies p o marked room events t → Tallies p o marked room (events ++ events_of turn) u) → IsObserved p o marked room limit (rest_of v limit old) (record { tally = u; end = end })
+    all_observed old mid new turn end t u r l e tells =
+        let es : List Event = r.events ++ l.hidden in
+        let passed : Tallies p o marked room es t = hidden_more p o list seen marked room r.events l.hidden t l.unseen r.tallies in
+        let told : (rest_of v limit old).events ≡ es = ap (λ z. z.events) r.rest ∙ ap (λ z. r.events ++ z.events) l.rest in
+        let same : es ++ events_of turn ≡ es = ap (λ z. es ++ z) (stop_tells turn end e) ∙ append-nil es in
+        let now : Tallies p o marked room es u = same_more p o marked room (es ++ events_of turn) es u same (tells es passed) in
+        let clock = r.by in
+        let shown : u.shown ≡ t.shown = now.shown ∙ sym passed.shown in
+        let begun : u.begun ≡ t.begun = now.begun ∙ sym passed.begun in
+        let ended : u.ended ≡ t.ended = now.ended ∙ sym passed.ended in
+        let s = r.shown in
+        let b = r.begun in
+        let f = r.ended in
+        record {
+          tallies = same_more p o marked room es (rest_of v limit old).events u (sym told) now;
+          end = sym (ap (λ z. z.end) r.rest ∙ ap (λ z. z.end) l.rest);
+          shown = omega arith;
+          begun = omega arith;
+          ended = omega arith;
+        }
 
 -- what a machine at its start still does is the run
 pub rest_start : {E : Type 0} (v : Env E) (limit : ℕ) (p : LabelledProgram) (m : Loaded E) (memory : List ℤ) (env : E) (s : Start E) → m.stopped ≡ None → m.code ≡ lowered p → seen m.state ≡ start memory env → record { memory = memory; env = env } ≡ s →

@@ -1,13 +1,16 @@
 -- What is known of a run to an observer.
-use Rattle.std.specs.Prelude.{◌≡◌, ◌≤◌, ◌+◌, ℕ, List, map, length, Bool, false, slice_index_or}
+use Rattle.std.specs.Prelude.{◌≡◌, ◌<◌, ◌≤◌, ◌+◌, ℕ, List, map, length, Bool, true, false, slice_index_or}
 use Rattle.std.proofs.Common.{Vec, Global}
+use Rattle.mit_syntax.specs.Declarations.{variables}
 use Rattle.timing_types.specs.Labelled.{LabelledProgram, order_of, labels_of}
 use Rattle.label_code.specs.Machine.{Event, Wrote}
 use Rattle.label_code.specs.Visible.{visible}
 use Rattle.label_code.specs.Run.{Start, run_from}
 use Rattle.env_contract.specs.Env.{Env}
-use Rattle.cycle_machine.specs.Rest.{Told}
-use Rattle.cycle_machine.specs.Rest.{told_by}
+use Rattle.cycle_machine.specs.declared.turn.Turn.{Turn}
+use Rattle.cycle_machine.specs.declared.turn.Turn.TheVariants.{Event as AnEvent, Began as HasBegun, Ended as HasEnded, Halted as DidHalt, Limit as DidLimit}
+use Rattle.cycle_machine.specs.Turned.{is_shown_in}
+use Rattle.cycle_machine.specs.Rest.{Told, told_by}
 use Rattle.code_lower.specs.Lowered.{lowered}
 use Rattle.leak_bound.specs.Relevant.{begun_count, ended_count}
 use Rattle.audit_parts.specs.declared.sighting.Sighting.{Sighting}
@@ -20,6 +23,19 @@ event_of s = Wrote s.variable s.value s.cycle
 
 abbrev pub sequence_of : Vec Sighting Global → List Event
 sequence_of v = map event_of v.items
+
+-- a list says of each variable whether an observer sees its assignments, and of each other number that it does
+pub record TellsSeen (p : LabelledProgram) (o : ℕ) (list : List Bool) : Type 0 where
+  pub each : (x : ℕ) → x < variables p.program.declarations → is_shown_in list x ≡ (order_of p).flows (labels_of p x) o
+  pub others : (x : ℕ) → variables p.program.declarations ≤ x → is_shown_in list x ≡ true
+
+-- the observer sees the assignment of a turn
+abbrev pub SeesTurn : LabelledProgram → ℕ → Turn → Type 0
+SeesTurn p o (AnEvent x n t) = (order_of p).flows (labels_of p x) o ≡ true
+SeesTurn p o (HasBegun k t) = Unit {0}
+SeesTurn p o (HasEnded k t) = Unit {0}
+SeesTurn p o (DidHalt t) = Unit {0}
+SeesTurn p o (DidLimit t) = Unit {0}
 
 -- what a list says of a mark; past its end, that it is not relevant
 abbrev pub is_marked : List Bool → ℕ → Bool

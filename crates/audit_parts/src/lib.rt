@@ -8,6 +8,7 @@ mod difference;
 pub mod measure;
 pub mod observe;
 pub mod relevance;
+mod shown;
 pub mod sighting;
 pub mod survey;
 pub mod what;

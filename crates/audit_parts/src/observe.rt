@@ -2,17 +2,17 @@
 
 ghost use Rattle.std.specs.Prelude.{◌≡◌, ◌<◌, ◌≤◌, ◌+◌, ◌++◌, [], ◌∷◌, ◌^◌, ℕ, List, None, IfOk, OnOk, slice_index_or, false};
 ghost use Rattle.mit_syntax.specs.Declarations.{variables};
+ghost use Rattle.timing_types.specs.Labelled.{LabelledProgram};
 ghost use Rattle.label_code.specs.Machine.{Event};
-ghost use Rattle.cycle_machine.specs.Rest.{rest_of, end_of_turn, events_of, IsTurnBelow};
-ghost use Rattle.audit_parts.specs.Observed.{Tallies, CountsUp, IsObserved};
+ghost use Rattle.cycle_machine.specs.Rest.{rest_of, end_of_turn, events_of};
+ghost use Rattle.audit_parts.specs.Observed.{TellsSeen, SeesTurn, Tallies, CountsUp, IsObserved};
 
 use crate::sighting::Sighting;
+use cycle_machine::end::RunEnd;
 use cycle_machine::machine::Machine;
 use cycle_machine::turn::Turn;
 use env_contract::env::MachineEnv;
-use cycle_machine::end::RunEnd;
 use label_lattice::label::Label;
-use label_lattice::lattice::Lattice;
 use std::alloc::Global;
 use text_base::pos::Memory;
 use timing_types::labelled::Labelled;
@@ -37,11 +37,12 @@ pub struct Observed {
     pub end: RunEnd,
 }
 
-/// An observer's label, which mitigates are relevant for it, by their marks, and for how many assignments
-/// there is room.
+/// An observer's label, which variables' assignments it sees, by their numbers, which mitigates are relevant for
+/// it, by their marks, and for how many assignments there is room.
 #[derive(Clone, Copy)]
 pub struct Observer<'a> {
     pub label: Label,
+    pub shown: &'a [bool],
     pub relevant: &'a [bool],
     pub room: u64,
 }
@@ -88,23 +89,15 @@ impl Tally {
         Ok(())
     }
 
-    // Takes in what one turn of the machine tells, and answers the end of the run, if that is what it tells. The
-    // order is the program's.
-    fn take(
-        &mut self,
-        p: &Labelled,
-        order: &Lattice,
-        observer: &Observer<'_>,
-        turn: Turn,
-    ) -> Result<Option<RunEnd>, Memory>
-        requires order { order.now ≡ p.now.program.order }
-        requires below { IsTurnBelow (variables p.now.program.declarations) turn }
+    // Takes in what one turn of the machine tells, whose assignment the observer sees, and answers the end of the
+    // run, if that is what it tells.
+    fn take(&mut self, observer: &Observer<'_>, turn: Turn) -> Result<Option<RunEnd>, Memory>
         requires shown { self.old.shown < 2 ^ 62 }
         requires begun { self.old.begun < 2 ^ 62 }
         requires ended { self.old.ended < 2 ^ 62 }
         ensures end { IfOk result (λ end. end ≡ end_of_turn turn) }
         ensures counts { OnOk result (CountsUp self.old self.new) }
-        ensures tallies { OnOk result ((events : List Event) → Tallies p.now observer.now.label.number observer.now.relevant.now observer.now.room events self.old → Tallies p.now observer.now.label.number observer.now.relevant.now observer.now.room (events ++ events_of turn) self.new) }
+        ensures tallies { OnOk result ((p : LabelledProgram) (events : List Event) → SeesTurn p observer.now.label.number turn → Tallies p observer.now.label.number observer.now.relevant.now observer.now.room events self.old → Tallies p observer.now.label.number observer.now.relevant.now observer.now.room (events ++ events_of turn) self.new) }
     {
         match turn {
             Turn::Event {
@@ -112,15 +105,12 @@ impl Tally {
                 value,
                 cycle,
             } => {
-                let own = p.variable_label(variable);
-                if order.flows(own, observer.label) {
-                    let sighting = Sighting {
-                        variable,
-                        value,
-                        cycle,
-                    };
-                    self.see(sighting, observer.room)?;
-                }
+                let sighting = Sighting {
+                    variable,
+                    value,
+                    cycle,
+                };
+                self.see(sighting, observer.room)?;
                 Ok(None)
             }
             Turn::Began { mark, .. } => {
@@ -155,14 +145,14 @@ pub fn observe<E: MachineEnv + Drop>(
     requires going { m.old.stopped ≡ None }
     requires start { m.old.state.clock ≡ 0 }
     requires limit { limit ≤ 2 ^ 40 }
+    requires shown { TellsSeen p.now observer.now.label.number observer.now.shown.now }
     ensures { IfOk result (IsObserved p.now observer.now.label.number observer.now.relevant.now observer.now.room limit (rest_of (record { cost_of = E.cost_of; next_of = E.next_of; part = E.part }) limit m.old)) }
 {
-    let order = p.program().lattice();
     let mut tally = Tally::new(alloc);
     'run: loop {
         m.laws();
-        let turn = m.next(limit);
-        if let Some(end) = tally.take(p, &order, observer, turn)? {
+        let turn = m.next_shown(limit, observer.shown);
+        if let Some(end) = tally.take(observer, turn)? {
             return Ok(Observed { tally, end });
         }
     }

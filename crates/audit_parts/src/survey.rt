@@ -7,16 +7,17 @@ ghost use Rattle.code_lower.specs.Lowered.{lowered};
 ghost use Rattle.start_file.specs.Starts.{seen, IsFor};
 ghost use Rattle.leak_bound.specs.Relevant.{relevances};
 ghost use Rattle.audit_parts.specs.Agreement.{start_of, starts_of};
-ghost use Rattle.audit_parts.specs.Observed.{ObservesRun};
+ghost use Rattle.audit_parts.specs.Observed.{TellsSeen, ObservesRun};
 ghost use Rattle.audit_parts.specs.Surveyed.{unfinished, halts, of_first, Takes, Refuses, IsSurvey, IsSurveyFault};
 ghost use Rattle.audit_parts.specs.declared.survey.SurveyFault.TheVariants.{Memory};
 
 use crate::observe::{Observed, Observer, Tally, observe};
+use crate::shown::seen_variables;
 use crate::sighting::Sighting;
+use cycle_machine::end::RunEnd;
 use cycle_machine::machine::Machine;
 use env_contract::env::MachineEnv;
 use env_contract::make::MakeEnv;
-use cycle_machine::end::RunEnd;
 use label_code::image::Image;
 use label_lattice::label::Label;
 use start_file::start::Start;
@@ -173,6 +174,7 @@ fn observe_start<E: MachineEnv + Drop, M: MakeEnv<E>>(
     requires image { image.now ≡ lowered p.now }
     requires start { IsFor p.now.program (seen start.now) }
     requires limit { limit ≤ 2 ^ 40 }
+    requires shown { TellsSeen p.now observer.now.label.number observer.now.shown.now }
     ensures { IfOk result (ObservesRun (record { cost_of = E.cost_of; next_of = E.next_of; part = E.part }) p.now observer.now.label.number observer.now.relevant.now observer.now.room limit (start_of M.made p.now.program.order (seen start.now))) }
 {
     let env = make.make(alloc, image.lattice(), start.touches.as_slice())?;
@@ -205,10 +207,13 @@ pub fn survey_runs<E: MachineEnv + Drop, M: MakeEnv<E>>(
     ensures survey { IfOk result (IsSurvey (record { cost_of = E.cost_of; next_of = E.next_of; part = E.part }) p.now request.now.observer.number request.now.limit request.now.must_halt (starts_of M.made p.now.program.order (map seen starts.now))) }
     ensures fault { IfErr result (IsSurveyFault (record { cost_of = E.cost_of; next_of = E.next_of; part = E.part }) p.now request.now.observer.number request.now.limit request.now.must_halt (starts_of M.made p.now.program.order (map seen starts.now))) }
 {
+    image.laws();
+    let shown = seen_variables(p, request.observer);
     let mut survey = Survey::new(alloc, starts.len())?;
     for (i, start) in starts.iter().enumerate() {
         let observer = Observer {
             label: request.observer,
+            shown: &shown,
             relevant: request.relevant,
             room: MAX_SHOWN - survey.shown,
         };

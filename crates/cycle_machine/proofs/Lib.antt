@@ -1,6 +1,7 @@
 pub mod Close
 pub mod Advance
 pub mod Start
+pub mod Past
 pub mod Quiet
 pub mod Turns
 pub mod Elements
@@ -8,3 +9,4 @@ pub mod Sample
 pub mod Goes
 pub mod Runs
 pub mod Wrote
+pub mod Unshown

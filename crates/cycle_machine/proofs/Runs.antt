@@ -9,7 +9,7 @@ use Rattle.label_code.specs.declared.code.Work.{Work}
 use Rattle.label_code.specs.declared.code.Work.TheVariants.{Push, Load, Store, LoadAt, StoreAt, Apply, Brz, Brnz, Jmp, Sleep, Mitb, Mite, Nop, Halt}
 use Rattle.label_code.specs.declared.code.Instr.{Instr}
 use Rattle.label_code.specs.Machine.{Event, Core, Machine, Opened, act, obey, step, steps, run_for, fetched, close_first, marks_of}
-use Rattle.cycle_machine.proofs.Turns.{past, step_past}
+use Rattle.cycle_machine.proofs.Past.{past, step_past}
 
 module _ {E : Type 0} (v : Env E) (code : List Instr) where
   close_later : (a : ℕ) (ops : List ℤ) (os : List Opened) (s : Core E) → s.clock ≤ (close_first a ops os s).core.clock

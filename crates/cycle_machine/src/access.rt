@@ -9,6 +9,7 @@ use env_contract::place::Kind;
 use label_lattice::label::Label;
 
 /// Fetches the instruction at a place, and answers the penalty. Instruction k lies at byte 4k.
+#[inline(always)]
 pub fn fetch<E: MachineEnv>(env: &mut E, place: u32, er: Label, ew: Label) -> u64
     requires place { place < 200000 }
     requires served { IsServed E.serves env.old er ew }
@@ -22,6 +23,7 @@ pub fn fetch<E: MachineEnv>(env: &mut E, place: u32, er: Label, ew: Label) -> u6
 }
 
 /// Accesses the datum of a variable, and answers the penalty. Variable i lies at byte 2^20 + 8i.
+#[inline(always)]
 pub fn touch<E: MachineEnv>(env: &mut E, variable: u32, er: Label, ew: Label) -> u64
     requires few { variable < 4096 }
     requires served { IsServed E.serves env.old er ew }
@@ -34,6 +36,7 @@ pub fn touch<E: MachineEnv>(env: &mut E, variable: u32, er: Label, ew: Label) ->
 }
 
 /// The clock after so many cycles more, if it is not above the limit.
+#[inline(always)]
 pub fn pass(clock: u64, cycles: u64, limit: u64) -> Option<u64>
     ensures { MatchOption result (limit < clock + cycles) (λ end. (end ≡ clock + cycles) × (end ≤ limit)) }
 {

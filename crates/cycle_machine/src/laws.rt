@@ -1,13 +1,19 @@
 //! Turns, one after another, are a run to a limit.
 
-ghost use Rattle.cycle_machine.specs.Reached.{TurnsGoOn, LimitIsRun, HaltIsRun};
+ghost use Rattle.cycle_machine.specs.Reached.{TurnsGoOn, QuietGoesOn, LimitIsRun, HaltIsRun};
 
 use env_contract::env::MachineEnv;
 
-/// A law: where turns have come from a start to a state, the next turn goes on from there, and adds its event
-/// to the log.
+/// A law: where turns have come from a start to a state, the next turn goes on from there, and adds to the log the
+/// assignments that it passed, and its event.
 pub fn turns_go_on<E: MachineEnv>()
     ensures { TurnsGoOn (record { cost_of = E.cost_of; next_of = E.next_of; part = E.part }) }
+{}
+
+/// A law: where turns have come from a start to a state, quiet steps go on from there, and add to the log the
+/// assignments that they passed.
+pub fn quiet_goes_on<E: MachineEnv>()
+    ensures { QuietGoesOn (record { cost_of = E.cost_of; next_of = E.next_of; part = E.part }) }
 {}
 
 /// A law: where turns have come to a state whose next step ends after the limit, the run to the limit is there,

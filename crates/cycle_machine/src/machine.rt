@@ -1,4 +1,4 @@
-ghost use Rattle.std.specs.Prelude.{◌≡◌, None, length, IfOk, IfSome};
+ghost use Rattle.std.specs.Prelude.{◌≡◌, [], None, length, IfOk, IfSome};
 ghost use Rattle.label_code.specs.Machine.{start};
 ghost use Rattle.label_code.specs.Shaped.{IsShaped};
 ghost use Rattle.cycle_machine.specs.Seen.{seen};
@@ -80,12 +80,20 @@ impl<'a, E: MachineEnv + Drop> Machine<'a, E> {
     /// later call gives the same answer, whatever its limit. Takes no memory, and at most as many steps as the
     /// limit has cycles.
     pub fn next(&mut self, limit: u64) -> Turn
-        ensures { CallWent (record { cost_of = E.cost_of; next_of = E.next_of; part = E.part }) limit self.old result self.new }
+        ensures { CallWent (record { cost_of = E.cost_of; next_of = E.next_of; part = E.part }) [] limit self.old result self.new }
+    {
+        self.next_shown(limit, &[])
+    }
+
+    /// The same, but goes past each assignment to a variable of which the list says, by its number, that its
+    /// assignments are not shown.
+    pub fn next_shown(&mut self, limit: u64, shown: &[bool]) -> Turn
+        ensures { CallWent (record { cost_of = E.cost_of; next_of = E.next_of; part = E.part }) shown.now limit self.old result self.new }
     {
         if let Some(turn) = self.stopped {
             return turn;
         }
-        let turn = run(self.image, &mut self.state, limit);
+        let turn = run(self.image, &mut self.state, limit, shown);
         match turn {
             Turn::Halted { .. } | Turn::Limit { .. } => {
                 self.stopped = Some(turn);

@@ -11,6 +11,7 @@ use label_lattice::label::Label;
 
 impl<E: MachineEnv> State<E> {
     /// MITB.
+    #[inline(always)]
     pub fn begin(&mut self, level: Label, mark: u32, er: Label, ew: Label, limit: u64) -> Outcome
         requires place { self.old.place < 200000 }
         requires served { IsServed E.serves self.old.env er ew }
@@ -42,6 +43,7 @@ impl<E: MachineEnv> State<E> {
     }
 
     /// MITE. A mitigation never ends before its fetch does, so the limit is tested first after that.
+    #[inline(always)]
     pub fn end(&mut self, er: Label, ew: Label, limit: u64) -> Outcome
         requires place { self.old.place < 200000 }
         requires served { IsServed E.serves self.old.env er ew }

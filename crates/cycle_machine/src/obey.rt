@@ -10,6 +10,7 @@ use label_code::code::{Instr, Work};
 
 impl<E: MachineEnv> State<E> {
     /// The instruction, if it ends within the limit.
+    #[inline(always)]
     pub fn obey(&mut self, i: Instr, limit: u64) -> Outcome
         requires fits { Fits i self.old }
         requires served { IsServed E.serves self.old.env i.er i.ew }

@@ -14,6 +14,7 @@ use mit_syntax::values::element;
 
 impl<E: MachineEnv> State<E> {
     /// PUSH.
+    #[inline(always)]
     pub fn push(&mut self, n: i64, er: Label, ew: Label, limit: u64) -> Outcome
         requires place { self.old.place < 200000 }
         requires served { IsServed E.serves self.old.env er ew }
@@ -35,6 +36,7 @@ impl<E: MachineEnv> State<E> {
     }
 
     /// LOAD.
+    #[inline(always)]
     pub fn load(&mut self, x: u32, er: Label, ew: Label, limit: u64) -> Outcome
         requires place { self.old.place < 200000 }
         requires served { IsServed E.serves self.old.env er ew }
@@ -59,6 +61,7 @@ impl<E: MachineEnv> State<E> {
     }
 
     /// STORE.
+    #[inline(always)]
     pub fn store(&mut self, x: u32, er: Label, ew: Label, limit: u64) -> Outcome
         requires place { self.old.place < 200000 }
         requires served { IsServed E.serves self.old.env er ew }
@@ -83,6 +86,7 @@ impl<E: MachineEnv> State<E> {
     }
 
     /// LOADX.
+    #[inline(always)]
     pub fn load_at(&mut self, first: u32, length: u32, er: Label, ew: Label, limit: u64) -> Outcome
         requires place { self.old.place < 200000 }
         requires served { IsServed E.serves self.old.env er ew }
@@ -113,6 +117,7 @@ impl<E: MachineEnv> State<E> {
     }
 
     /// STOREX.
+    #[inline(always)]
     pub fn store_at(&mut self, first: u32, length: u32, er: Label, ew: Label, limit: u64) -> Outcome
         requires place { self.old.place < 200000 }
         requires served { IsServed E.serves self.old.env er ew }
@@ -142,6 +147,7 @@ impl<E: MachineEnv> State<E> {
     }
 
     /// OP.
+    #[inline(always)]
     pub fn apply(&mut self, op: Op, er: Label, ew: Label, limit: u64) -> Outcome
         requires place { self.old.place < 200000 }
         requires served { IsServed E.serves self.old.env er ew }

@@ -20,6 +20,7 @@ fn at_least_zero(n: i64) -> u64
 
 impl<E: MachineEnv> State<E> {
     /// BRZ.
+    #[inline(always)]
     pub fn branch_zero(&mut self, to: u32, er: Label, ew: Label, limit: u64) -> Outcome
         requires place { self.old.place < 200000 }
         requires served { IsServed E.serves self.old.env er ew }
@@ -40,6 +41,7 @@ impl<E: MachineEnv> State<E> {
     }
 
     /// BRNZ.
+    #[inline(always)]
     pub fn branch_nonzero(&mut self, to: u32, er: Label, ew: Label, limit: u64) -> Outcome
         requires place { self.old.place < 200000 }
         requires served { IsServed E.serves self.old.env er ew }
@@ -60,6 +62,7 @@ impl<E: MachineEnv> State<E> {
     }
 
     /// JMP.
+    #[inline(always)]
     pub fn jump(&mut self, to: u32, er: Label, ew: Label, limit: u64) -> Outcome
         requires place { self.old.place < 200000 }
         requires served { IsServed E.serves self.old.env er ew }
@@ -76,6 +79,7 @@ impl<E: MachineEnv> State<E> {
     }
 
     /// SLEEP.
+    #[inline(always)]
     pub fn sleep(&mut self, er: Label, ew: Label, limit: u64) -> Outcome
         requires place { self.old.place < 200000 }
         requires served { IsServed E.serves self.old.env er ew }
@@ -97,6 +101,7 @@ impl<E: MachineEnv> State<E> {
     }
 
     /// NOP.
+    #[inline(always)]
     pub fn nop(&mut self, er: Label, ew: Label, limit: u64) -> Outcome
         requires place { self.old.place < 200000 }
         requires served { IsServed E.serves self.old.env er ew }
@@ -113,6 +118,7 @@ impl<E: MachineEnv> State<E> {
     }
 
     /// HALT.
+    #[inline(always)]
     pub fn halt(&mut self, er: Label, ew: Label, limit: u64) -> Outcome
         requires place { self.old.place < 200000 }
         requires served { IsServed E.serves self.old.env er ew }

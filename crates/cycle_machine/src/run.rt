@@ -2,7 +2,7 @@
 
 ghost use Rattle.std.specs.Prelude.{◌≡◌, None, length, vec_len};
 ghost use Rattle.cycle_machine.specs.Took.{Stands, Stepped};
-ghost use Rattle.cycle_machine.specs.Turned.{Turned, stops};
+ghost use Rattle.cycle_machine.specs.Turned.{Turned, is_shown_in, stops};
 
 use crate::state::{Outcome, State};
 use crate::turn::Turn;
@@ -11,6 +11,7 @@ use label_code::image::Image;
 
 impl<E: MachineEnv> State<E> {
     // A vector's length is that of its elements.
+    #[inline(always)]
     fn lengths(&self)
         ensures operands { vec_len self.now.operands ≡ length self.now.operands.items }
         ensures opened { vec_len self.now.opened ≡ length self.now.opened.items }
@@ -23,6 +24,7 @@ impl<E: MachineEnv> State<E> {
 }
 
 /// One step, if it ends within the limit.
+#[inline(always)]
 pub fn advance<E: MachineEnv>(image: &Image, state: &mut State<E>, limit: u64) -> Outcome
     requires { Stands E.serves image.now state.old }
     ensures { Stepped (record { cost_of = E.cost_of; next_of = E.next_of; part = E.part }) E.serves image.now state.old limit result state.new }
@@ -32,21 +34,34 @@ pub fn advance<E: MachineEnv>(image: &Image, state: &mut State<E>, limit: u64) -
     state.obey(i, limit)
 }
 
-/// Steps to the end of a turn.
-pub fn run<E: MachineEnv>(image: &Image, state: &mut State<E>, limit: u64) -> Turn
+// Whether assignments to a variable are shown.
+#[inline(always)]
+fn is_shown(shown: &[bool], variable: u32) -> bool
+    ensures { result ≡ is_shown_in shown.now variable }
+{
+    match shown.get(variable as usize) {
+        Some(is) => *is,
+        None => true,
+    }
+}
+
+/// Steps to the end of a turn, past assignments that are not shown.
+pub fn run<E: MachineEnv>(image: &Image, state: &mut State<E>, limit: u64, shown: &[bool]) -> Turn
     requires { Stands E.serves image.now state.old }
-    ensures turned { Turned (record { cost_of = E.cost_of; next_of = E.next_of; part = E.part }) image.now state.old limit result state.new }
+    ensures turned { Turned (record { cost_of = E.cost_of; next_of = E.next_of; part = E.part }) image.now shown.now state.old limit result state.new }
     ensures stands { stops result ≡ None → Stands E.serves image.now state.new }
 {
     'run: loop {
         match advance(image, state, limit) {
             Outcome::Went => {}
             Outcome::Wrote(variable, value) => {
-                return Turn::Event {
-                    variable,
-                    value,
-                    cycle: state.clock,
-                };
+                if is_shown(shown, variable) {
+                    return Turn::Event {
+                        variable,
+                        value,
+                        cycle: state.clock,
+                    };
+                }
             }
             Outcome::Began(mark) => {
                 return Turn::Began {

@@ -1,2 +1,4 @@
+pub mod Appended
 pub mod Lengths
+pub mod Listed
 pub mod Printed

@@ -1,13 +1,14 @@
 -- The text of a run: a line for each assignment that is shown, and a last line.
-use Rattle.std.specs.Prelude.{ℕ, ℤ, List, [], ◌∷◌, ◌++◌, Bool, true, Option, Some, None, codes, decimal}
+use Rattle.std.specs.Prelude.{◌≡◌, ◌<◌, ◌≤◌, ℕ, ℤ, List, [], ◌∷◌, ◌++◌, Bool, true, Option, Some, None, codes, decimal}
 use Rattle.std.specs.Fmt.{signed_decimal}
 use Rattle.label_lattice.specs.declared.label.Label.{Label}
-use Rattle.mit_syntax.specs.Declarations.{Declaration, Cell, cell_at}
+use Rattle.mit_syntax.specs.Declarations.{Declaration, Cell, cell_at, variables}
 use Rattle.timing_types.specs.Labelled.{LabelledProgram, order_of, labels_of}
 use Rattle.label_code.specs.Machine.{Event, Wrote, Began, Ended}
 use Rattle.label_code.specs.Visible.{visible}
 use Rattle.cycle_machine.specs.declared.turn.Turn.{Turn}
 use Rattle.cycle_machine.specs.declared.turn.Turn.TheVariants.{Event as AnEvent, Began as HasBegun, Ended as HasEnded, Halted as DidHalt, Limit as DidLimit}
+use Rattle.cycle_machine.specs.Turned.{is_shown_in}
 use Rattle.cycle_machine.specs.Rest.{Told}
 use Rattle.cycle_machine.specs.declared.end.RunEnd.{RunEnd}
 use Rattle.cycle_machine.specs.declared.end.RunEnd.TheVariants.{Halted, Limit}
@@ -53,10 +54,15 @@ is_shown p (Some o) x = (order_of p).flows (labels_of p x) o.number
 abbrev pub text_of : LabelledProgram → Option Label → Told → List ℕ
 text_of p o t = lines_of p.program.declarations (shown p o t.events) ++ last_line t.end
 
--- the text of one turn
-abbrev pub text_of_turn : LabelledProgram → Option Label → Turn → List ℕ
-text_of_turn p o (AnEvent x n t) = lines_of p.program.declarations (shown p o (Wrote x n t ∷ []))
-text_of_turn p o (HasBegun k t) = []
-text_of_turn p o (HasEnded k t) = []
-text_of_turn p o (DidHalt t) = last_line (Halted t)
-text_of_turn p o (DidLimit t) = last_line (Limit t)
+-- a list says of each variable whether its assignments are shown, and of each other number that they are
+pub record TellsShown (p : LabelledProgram) (o : Option Label) (list : List Bool) : Type 0 where
+  pub each : (x : ℕ) → x < variables p.program.declarations → is_shown_in list x ≡ is_shown p o x
+  pub others : (x : ℕ) → variables p.program.declarations ≤ x → is_shown_in list x ≡ true
+
+-- the text of one turn that is shown
+abbrev pub text_of_turn : List Declaration → Turn → List ℕ
+text_of_turn ds (AnEvent x n t) = event_line ds x n t
+text_of_turn ds (HasBegun k t) = []
+text_of_turn ds (HasEnded k t) = []
+text_of_turn ds (DidHalt t) = last_line (Halted t)
+text_of_turn ds (DidLimit t) = last_line (Limit t)

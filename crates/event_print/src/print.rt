@@ -5,35 +5,33 @@ ghost use Rattle.std.specs.Io.KnownBytes.{Appends};
 ghost use Rattle.tim_base.specs.Faults.{Rose};
 ghost use Rattle.tim_base.specs.Sinks.{AppendsPrefix};
 ghost use Rattle.mit_syntax.specs.Declarations.{variables};
-ghost use Rattle.event_print.specs.Text.{text_of, last_line};
 ghost use Rattle.cycle_machine.specs.Rest.{rest_of, StandsAfter, turn_of, end_of_turn, IsTurnBelow};
-ghost use Rattle.event_print.specs.Text.{text_of_turn};
+ghost use Rattle.event_print.specs.Text.{text_of, event_line, last_line, text_of_turn};
 
-use cycle_machine::end::RunEnd;
 use crate::lines::{event_line, last_line};
-use crate::shown::shows;
+use crate::shown::shown_variables;
+use cycle_machine::end::RunEnd;
 use cycle_machine::machine::Machine;
 use cycle_machine::turn::Turn;
 use env_contract::env::MachineEnv;
 use label_lattice::label::Label;
-use label_lattice::lattice::Lattice;
+use mit_syntax::program::Program;
+use tim_base::line::Line;
 use tim_base::sink::{Sink, SinkFault, write_all};
-use timing_types::labelled::Labelled;
 use timing_types::typed::Typed;
 
-// Writes the line of a turn, if it has one and is shown, and answers the end that it tells.
+// Writes the line of a turn, if it has one, and answers the end that it tells. A line is lent, to be filled anew.
+#[inline(always)]
 fn print_turn<W: Sink>(
-    p: &Labelled,
-    order: &Lattice,
-    observer: Option<Label>,
+    p: &Program,
     turn: Turn,
+    line: &mut Line,
     out: &mut W,
 ) -> Result<Option<RunEnd>, SinkFault>
-    requires below { IsTurnBelow (variables p.now.program.declarations) turn }
-    requires order { order.now ≡ p.now.program.order }
+    requires { IsTurnBelow (variables p.now.declarations) turn }
     ensures end { IfOk result (λ end. end ≡ end_of_turn turn) }
-    ensures text { OnOk result (Appends (W.taken out.old) (W.taken out.new) (text_of_turn p.now observer turn)) }
-    ensures prefix { OnErr result (AppendsPrefix (W.taken out.old) (W.taken out.new) (text_of_turn p.now observer turn)) }
+    ensures text { OnOk result (Appends (W.taken out.old) (W.taken out.new) (text_of_turn p.now.declarations turn)) }
+    ensures prefix { OnErr result (AppendsPrefix (W.taken out.old) (W.taken out.new) (text_of_turn p.now.declarations turn)) }
     ensures later { W.faults out.old ≤ W.faults out.new }
     ensures fault { OnErr result (Rose (W.faults out.old) (W.faults out.new)) }
 {
@@ -43,10 +41,7 @@ fn print_turn<W: Sink>(
             value,
             cycle,
         } => {
-            if shows(p, order, observer, variable) {
-                let line = event_line(p.program(), variable, value, cycle);
-                write_all(out, line.bytes())?;
-            }
+            print_event(p, variable, value, cycle, line, out)?;
             Ok(None)
         }
         Turn::Began { .. } | Turn::Ended { .. } => Ok(None),
@@ -55,7 +50,29 @@ fn print_turn<W: Sink>(
     }
 }
 
+// Writes the line of an assignment. It has a frame of its own, so that a turn without a line pays for none.
+#[inline(never)]
+fn print_event<W: Sink>(
+    p: &Program,
+    variable: u32,
+    value: i64,
+    cycle: u64,
+    line: &mut Line,
+    out: &mut W,
+) -> Result<(), SinkFault>
+    requires { variable < variables p.now.declarations }
+    ensures text { OnOk result (Appends (W.taken out.old) (W.taken out.new) (event_line p.now.declarations variable value cycle)) }
+    ensures prefix { OnErr result (AppendsPrefix (W.taken out.old) (W.taken out.new) (event_line p.now.declarations variable value cycle)) }
+    ensures later { W.faults out.old ≤ W.faults out.new }
+    ensures fault { OnErr result (Rose (W.faults out.old) (W.faults out.new)) }
+{
+    event_line(line, p, variable, value, cycle);
+    write_all(out, line.bytes())?;
+    Ok(())
+}
+
 // Writes the last line.
+#[inline(never)]
 fn print_end<W: Sink>(end: RunEnd, out: &mut W) -> Result<Option<RunEnd>, SinkFault>
     ensures end { IfOk result (λ e. e ≡ Some end) }
     ensures text { OnOk result (Appends (W.taken out.old) (W.taken out.new) (last_line end)) }
@@ -94,11 +111,13 @@ pub fn print_run<E: MachineEnv + Drop, W: Sink>(
     ensures stands { StandsAfter (record { cost_of = E.cost_of; next_of = E.next_of; part = E.part }) limit m.old m.new }
 {
     let labelled = p.labelled();
-    let order = labelled.program().lattice();
+    m.laws();
+    let shown = shown_variables(labelled, observer);
+    let mut line = Line::new();
     'run: loop {
         m.laws();
-        let turn = m.next(limit);
-        if let Some(end) = print_turn(labelled, &order, observer, turn, out)? {
+        let turn = m.next_shown(limit, &shown);
+        if let Some(end) = print_turn(labelled.program(), turn, &mut line, out)? {
             return Ok(end);
         }
     }

@@ -1,25 +1,24 @@
 //! Which assignments are shown.
 
-ghost use Rattle.std.specs.Prelude.{◌≡◌, ◌<◌};
+ghost use Rattle.std.specs.Prelude.{◌≤◌};
 ghost use Rattle.mit_syntax.specs.Declarations.{variables};
-ghost use Rattle.event_print.specs.Text.{is_shown};
+ghost use Rattle.event_print.specs.Text.{TellsShown};
 
 use label_lattice::label::Label;
-use label_lattice::lattice::Lattice;
 use timing_types::labelled::Labelled;
 
-/// Whether assignments to a variable are shown: to an observer, where the variable's label flows to it. The
-/// order is the program's.
-pub fn shows(p: &Labelled, order: &Lattice, observer: Option<Label>, variable: u32) -> bool
-    requires variable { variable < variables p.now.program.declarations }
-    requires order { order.now ≡ p.now.program.order }
-    ensures { result ≡ is_shown p.now observer variable }
+/// For how many variables a list has room.
+pub const CELLS: usize = 4096;
+
+/// A list that says of each variable, by its number, whether its assignments are shown: all, or to an observer
+/// those of the variables whose labels flow to it.
+pub fn shown_variables(p: &Labelled, observer: Option<Label>) -> [bool; CELLS]
+    requires { variables p.now.program.declarations ≤ 4096 }
+    ensures { TellsShown p.now observer result }
 {
-    match observer {
-        None => true,
-        Some(label) => {
-            let own = p.variable_label(variable);
-            order.flows(own, label)
-        }
+    let mut shown = [true; CELLS];
+    if let Some(label) = observer {
+        p.mark_seen(label, &mut shown);
     }
+    shown
 }

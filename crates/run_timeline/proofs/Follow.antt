@@ -2,16 +2,18 @@
 use Rattle.std.proofs.Common.{◌≡◌, ℕ, suc, ◌+◌, ◌<◌, ◌≤◌, ◌⊎◌, inl, inr, List, [], ◌∷◌, ◌++◌, refl, sym, ap, ◌∙◌, append-nil, arith}
 use Rattle.std.specs.Prelude.{true, map}
 use Rattle.std.proofs.lemmas.List.{map-append}
+use Rattle.std.proofs.lemmas.List.Elements.{All-nil}
 use Rattle.env_contract.specs.Env.{Env}
 use Rattle.label_code.specs.declared.code.Instr.{Instr}
 use Rattle.label_code.specs.Machine.{Event, Machine, step, steps, start}
 use Rattle.label_code.specs.Run.{Start, run_from}
 use Rattle.cycle_machine.specs.declared.state.State.{State}
 use Rattle.cycle_machine.specs.Seen.{seen, with_log}
-use Rattle.cycle_machine.specs.Turned.{Quiet, Comes}
+use Rattle.cycle_machine.specs.Turned.{IsHidden, Quiet, Comes}
 use Rattle.cycle_machine.specs.Reached.{Reached}
 use Rattle.cycle_machine.proofs.Quiet.{steps_last}
-use Rattle.cycle_machine.proofs.Turns.{past, step_past, limit_is, halt_is}
+use Rattle.cycle_machine.proofs.Past.{past, step_past}
+use Rattle.cycle_machine.proofs.Turns.{limit_is, halt_is}
 use Rattle.run_timeline.specs.declared.moment.Moment.{Moment}
 use Rattle.run_timeline.specs.Timeline.{told, moments, event_of, IsTimeline}
 use Rattle.run_timeline.proofs.Told.{told_past, moments_last}
@@ -72,9 +74,10 @@ module _ {E : Type 0} (v : Env E) (code : List Instr) (limit : ℕ) (from : Star
       (run_from v code limit from ≡ record (with_log (map event_of ms) (seen new)) { halted = true }) × IsTimeline v code limit from ms
   halted_is ms old new r e t w l =
       let y : Machine E = record (seen new) { halted = true } in
-      let quiet : Quiet v code limit old old = record { count = 0; ends = refl; within = inl refl; later = omega arith } in
-      let comes : Comes v code limit old new y = record { mid = old; quiet = quiet; next = e; within = w; later = l } in
-      let run : run_from v code limit from ≡ record (with_log (map event_of ms) (seen new)) { halted = true } = halt_is v code limit from.memory from.env (map event_of ms) old new (reached ms old r) comes in
+      let empty : with_log (map event_of ms ++ []) y ≡ with_log (map event_of ms) y = none_after (map event_of ms) y in
+      let quiet : Quiet v code [] limit old old = record { count = 0; hidden = []; unseen = All-nil (IsHidden []); ends = refl; within = inl refl; later = omega arith } in
+      let comes : Comes v code [] limit old new y = record { mid = old; quiet = quiet; next = e; within = w; later = l } in
+      let run : run_from v code limit from ≡ record (with_log (map event_of ms) (seen new)) { halted = true } = halt_is v code [] limit from.memory from.env (map event_of ms) old new (reached ms old r) comes ∙ empty in
       let ends : steps v code (suc r.count) (start from.memory from.env) ≡ record (with_log (map event_of ms) (seen new)) { halted = true } =
-      ends_next ms old y r e ∙ ap (λ z. let m : Machine E = record (with_log z (seen new)) { halted = true } in m) (append-nil (map event_of ms)) in
+      ends_next ms old y r e ∙ empty in
       (run, record { count = suc r.count; ends = ends ∙ sym run; tells = sym (append-nil ms) ∙ tells_next ms [] old r t })

@@ -10,7 +10,7 @@ use Rattle.label_code.specs.declared.code.Instr.{Instr}
 use Rattle.label_code.specs.Machine.{Event, Opened, Core, Machine, act, obey, step, steps, start, fetched, marks_of}
 use Rattle.label_code.specs.Run.{Start, run_from}
 use Rattle.label_code.proofs.Ticks.{Sane, ticks, steps_clock}
-use Rattle.cycle_machine.proofs.Turns.{core_past, past, step_past}
+use Rattle.cycle_machine.proofs.Past.{core_past, past, step_past}
 use Rattle.run_timeline.specs.declared.moment.Moment.{Moment}
 use Rattle.run_timeline.specs.Timeline.{telling, told_at, told, moments, event_of, IsTimeline}
 

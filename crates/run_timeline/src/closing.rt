@@ -5,10 +5,10 @@ ghost use Rattle.cycle_machine.specs.Took.{IsServed, Keeps};
 ghost use Rattle.run_timeline.specs.Steps.{Tells};
 
 use crate::moment::{Moment, Step};
+use cycle_machine::end::RunEnd;
 use cycle_machine::state::{Outcome, State};
 use env_contract::env::MachineEnv;
 use env_contract::place::Kind;
-use cycle_machine::end::RunEnd;
 use label_code::code::Work;
 use label_lattice::label::Label;
 

@@ -8,11 +8,11 @@ ghost use Rattle.run_timeline.specs.Summary.{mitigate_text, tally_text};
 
 use crate::tally::Tally;
 use cycle_machine::end::RunEnd;
+use event_print::cells::{put_cell, put_number, put_value};
 use itoa::Buffer;
 use mit_syntax::program::Program;
-use seen_line::cells::{put_cell, put_number, put_value};
-use tim_base::line::Line;
 use text_base::pos::Pos;
+use tim_base::line::Line;
 use timing_types::labelled::Labelled;
 
 // Appends some words and a number of up to 128 bits.

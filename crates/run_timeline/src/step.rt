@@ -6,9 +6,9 @@ ghost use Rattle.run_timeline.specs.Steps.{IsPlain, Tells, Stepped};
 
 use crate::closing::{begin, end};
 use crate::moment::{Moment, Step};
+use cycle_machine::end::RunEnd;
 use cycle_machine::state::{Outcome, State};
 use env_contract::env::MachineEnv;
-use cycle_machine::end::RunEnd;
 use label_code::code::{Instr, Work};
 use label_code::image::Image;
 

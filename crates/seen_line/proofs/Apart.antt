@@ -1,20 +1,18 @@
 -- A field tells which assignments it is of.
-use Rattle.std.proofs.Common.{◌≡◌, ℕ, zero, suc, ◌+◌, ◌<◌, ◌≤◌, ◌^◌, List, [], ◌∷◌, ◌++◌, length, refl, sym, ap, ◌∙◌, subst, arith, append_assoc, append-nil, get_or, Option, Some, None, ℤ}
-use Rattle.std.specs.Prelude.{Bool, true, false, ◌||◌, ◌==◌, map, codes, decimal, All, ◌↔◌}
+use Rattle.std.proofs.Common.{◌≡◌, ℕ, zero, suc, ◌+◌, ◌<◌, ◌^◌, List, [], ◌∷◌, ◌++◌, length, refl, sym, ap, ◌∙◌, subst, arith, append_assoc, append-nil, get_or, Option, Some, None, ℤ}
+use Rattle.std.specs.Prelude.{true, false, ◌||◌, ◌==◌, map, codes, decimal, ◌↔◌}
 use Rattle.std.specs.Fmt.{signed_decimal}
-use Rattle.std.specs.Int.Signed.{mag}
 use Rattle.std.specs.Char.{is_ascii_alphabetic, is_ascii_digit}
 use Rattle.std.proofs.lemmas.Fmt.{decimal_injective, signed_decimal_injective}
 use Rattle.std.proofs.lemmas.Bool.{both_ways}
-use Rattle.std.proofs.lemmas.List.{length-map, get_or_default}
-use Rattle.label_lattice.specs.Names.{IsWord, IsName, Each, is_name_byte}
-use Rattle.label_lattice.specs.Order.{AllDiffer}
-use Rattle.mit_syntax.specs.Declarations.{Declaration, Cell, cells, cell_at, variables}
+use Rattle.std.proofs.lemmas.List.{length-map}
+use Rattle.label_lattice.specs.Names.{IsWord, Each, is_name_byte}
+use Rattle.mit_syntax.specs.Declarations.{Declaration, cell_at, variables}
 use Rattle.mit_syntax.specs.Program.{Syntax}
 use Rattle.mit_syntax.specs.Valid.{IsValid}
 use Rattle.label_code.specs.Machine.{Event, Wrote, Began, Ended}
 use Rattle.event_print.specs.Text.{cell_text, place_text}
-use Rattle.seen_line.specs.Field.{item, item_of, spaced, field_of, field_text, IsPrintable, ArePrintable, FieldsTellApart}
+use Rattle.seen_line.specs.Field.{item, item_of, spaced, field_of, field_text, IsPrintable, ArePrintable}
 use Rattle.seen_line.proofs.Chars.{Free, free-append, free-decimal, free-signed, free-name, heads, tails, split, no_split}
 use Rattle.seen_line.proofs.Variables.{names, same_cell, cell_named, placed, few_variables}
 

@@ -1,4 +1,3 @@
-pub mod Appended
 pub mod Chars
 pub mod Variables
 pub mod Apart

@@ -5,7 +5,7 @@ use Rattle.std.proofs.lemmas.Bool.{cases_lt}
 use Rattle.std.proofs.lemmas.List.{length-append, get_or_append_left, get_or-append_right}
 use Rattle.label_lattice.specs.declared.label.Label.{Label}
 use Rattle.label_lattice.specs.Order.{AllDiffer}
-use Rattle.mit_syntax.specs.Declarations.{Declaration, Cell, elements, cells_of, cells, cell_at, variables, elements_in, size_in, length_in}
+use Rattle.mit_syntax.specs.Declarations.{Declaration, Cell, cells_of, cells, cell_at, variables, elements_in, size_in, length_in}
 use Rattle.mit_syntax.specs.Program.{Syntax}
 use Rattle.mit_syntax.specs.Valid.{IsValid}
 use Rattle.mit_syntax.proofs.Numbers.{length-elements, length-cells_of, elements_at}

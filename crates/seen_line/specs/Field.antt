@@ -59,21 +59,21 @@ FieldsTellApart = (s : Syntax) → IsValid s → (es fs : List Event) → ArePri
 abbrev pub lead : Bool → List ℕ
 lead none = cond none [] (codes " ")
 
--- what a turn adds to a field of which so far there is nothing, or something
-abbrev pub piece : LabelledProgram → Label → Bool → Turn → List ℕ
-piece p o none (AnEvent x n c) = cond ((order_of p).flows (labels_of p x) o.number) (lead none ++ item p.program.declarations x n c) []
-piece p o none (HasBegun k c) = []
-piece p o none (HasEnded k c) = []
-piece p o none (DidHalt c) = cond none (codes "-") []
-piece p o none (DidLimit c) = cond none (codes "-") []
+-- what a turn that is seen adds to a field of which so far there is nothing, or something
+abbrev pub piece : List Declaration → Bool → Turn → List ℕ
+piece ds none (AnEvent x n c) = lead none ++ item ds x n c
+piece ds none (HasBegun k c) = []
+piece ds none (HasEnded k c) = []
+piece ds none (DidHalt c) = cond none (codes "-") []
+piece ds none (DidLimit c) = cond none (codes "-") []
 
 -- whether there is still nothing after it
-abbrev pub next_none : LabelledProgram → Label → Bool → Turn → Bool
-next_none p o none (AnEvent x n c) = cond ((order_of p).flows (labels_of p x) o.number) false none
-next_none p o none (HasBegun k c) = none
-next_none p o none (HasEnded k c) = none
-next_none p o none (DidHalt c) = none
-next_none p o none (DidLimit c) = none
+abbrev pub next_none : Bool → Turn → Bool
+next_none none (AnEvent x n c) = false
+next_none none (HasBegun k c) = none
+next_none none (HasEnded k c) = none
+next_none none (DidHalt c) = none
+next_none none (DidLimit c) = none
 
 abbrev pub is_last : Turn → Bool
 is_last (AnEvent x n c) = false

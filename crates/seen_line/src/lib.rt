@@ -1,7 +1,9 @@
 //! What an observer sees of a run, as one field of a line.
 #![tactic(auto)]
 
-pub mod cells;
+mod items;
 pub mod laws;
 mod turns;
 pub mod write;
+
+pub use event_print::cells as cells;

@@ -1,19 +1,18 @@
 //! What turns of the machine add to a field.
 
-ghost use Rattle.std.specs.Prelude.{◌≡◌, ◌≤◌, OnOk, OnErr, IfOk};
+ghost use Rattle.std.specs.Prelude.{◌≡◌, ◌<◌, ◌≤◌, ◌++◌, OnOk, OnErr, IfOk};
 ghost use Rattle.std.specs.Io.KnownBytes.{Appends};
 ghost use Rattle.tim_base.specs.Faults.{Rose};
 ghost use Rattle.tim_base.specs.Sinks.{AppendsPrefix};
 ghost use Rattle.mit_syntax.specs.Declarations.{variables};
 ghost use Rattle.cycle_machine.specs.Rest.{IsTurnBelow};
-ghost use Rattle.seen_line.specs.Field.{IsPrintableTurn, piece, next_none, is_last};
+ghost use Rattle.seen_line.specs.Field.{IsPrintableTurn, lead, item, piece, next_none, is_last};
 
-use crate::cells::item_line;
+use crate::items::item_line;
 use cycle_machine::turn::Turn;
-use label_lattice::label::Label;
-use label_lattice::lattice::Lattice;
+use mit_syntax::program::Program;
+use tim_base::line::Line;
 use tim_base::sink::{Sink, SinkFault, write_all};
-use timing_types::labelled::Labelled;
 
 /// Where a field stands after a turn.
 #[derive(Clone, Copy)]
@@ -24,23 +23,21 @@ pub struct Written {
     pub last: bool,
 }
 
-/// Writes the item of a turn, if it is seen by the observer; or at the end of a run of which nothing was
-/// seen, `-`.
+/// Writes the item of a turn, if it has one; or at the end of a run of which nothing was seen, `-`. A line is
+/// lent, to be filled anew.
 pub fn write_turn<W: Sink>(
-    p: &Labelled,
-    order: &Lattice,
-    observer: Label,
+    p: &Program,
     none: bool,
     turn: Turn,
+    line: &mut Line,
     out: &mut W,
 ) -> Result<Written, SinkFault>
-    requires below { IsTurnBelow (variables p.now.program.declarations) turn }
-    requires order { order.now ≡ p.now.program.order }
-    ensures none { IfOk result (λ r. r.none ≡ next_none p.now observer none turn) }
+    requires { IsTurnBelow (variables p.now.declarations) turn }
+    ensures none { IfOk result (λ r. r.none ≡ next_none none turn) }
     ensures last { IfOk result (λ r. r.last ≡ is_last turn) }
     ensures printable { IfOk result (λ _. IsPrintableTurn turn) }
-    ensures text { OnOk result (Appends (W.taken out.old) (W.taken out.new) (piece p.now observer none turn)) }
-    ensures prefix { OnErr result (AppendsPrefix (W.taken out.old) (W.taken out.new) (piece p.now observer none turn)) }
+    ensures text { OnOk result (Appends (W.taken out.old) (W.taken out.new) (piece p.now.declarations none turn)) }
+    ensures prefix { OnErr result (AppendsPrefix (W.taken out.old) (W.taken out.new) (piece p.now.declarations none turn)) }
     ensures later { W.faults out.old ≤ W.faults out.new }
     ensures fault { OnErr result (Rose (W.faults out.old) (W.faults out.new)) }
 {
@@ -50,11 +47,7 @@ pub fn write_turn<W: Sink>(
             value,
             cycle,
         } => {
-            if !order.flows(p.variable_label(variable), observer) {
-                return Ok(Written { none, last: false });
-            }
-            let line = item_line(p.program(), none, variable, value, cycle);
-            write_all(out, line.bytes())?;
+            write_item(p, none, variable, value, cycle, line, out)?;
             Ok(Written {
                 none: false,
                 last: false,
@@ -68,4 +61,26 @@ pub fn write_turn<W: Sink>(
             Ok(Written { none, last: true })
         }
     }
+}
+
+// Writes the item of an assignment.
+#[inline(never)]
+fn write_item<W: Sink>(
+    p: &Program,
+    none: bool,
+    variable: u32,
+    value: i64,
+    cycle: u64,
+    line: &mut Line,
+    out: &mut W,
+) -> Result<(), SinkFault>
+    requires { variable < variables p.now.declarations }
+    ensures text { OnOk result (Appends (W.taken out.old) (W.taken out.new) (lead none ++ item p.now.declarations variable value cycle)) }
+    ensures prefix { OnErr result (AppendsPrefix (W.taken out.old) (W.taken out.new) (lead none ++ item p.now.declarations variable value cycle)) }
+    ensures later { W.faults out.old ≤ W.faults out.new }
+    ensures fault { OnErr result (Rose (W.faults out.old) (W.faults out.new)) }
+{
+    item_line(line, p, none, variable, value, cycle);
+    write_all(out, line.bytes())?;
+    Ok(())
 }

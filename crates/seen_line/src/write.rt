@@ -13,7 +13,9 @@ ghost use Rattle.seen_line.specs.Field.{seen_text, ArePrintable};
 use crate::turns::write_turn;
 use cycle_machine::machine::Machine;
 use env_contract::env::MachineEnv;
+use event_print::shown::shown_variables;
 use label_lattice::label::Label;
+use tim_base::line::Line;
 use tim_base::sink::{Sink, SinkFault};
 use timing_types::typed::Typed;
 
@@ -40,12 +42,14 @@ pub fn write_seen<E: MachineEnv + Drop, W: Sink>(
     ensures fault { OnErr result (Rose (W.faults out.old) (W.faults out.new)) }
 {
     let labelled = p.labelled();
-    let order = labelled.program().lattice();
+    m.laws();
+    let shown = shown_variables(labelled, Some(observer));
+    let mut line = Line::new();
     let mut none = true;
     'run: loop {
         m.laws();
-        let turn = m.next(limit);
-        let written = write_turn(labelled, &order, observer, none, turn, out)?;
+        let turn = m.next_shown(limit, &shown);
+        let written = write_turn(labelled.program(), none, turn, &mut line, out)?;
         if written.last {
             return Ok(());
         }

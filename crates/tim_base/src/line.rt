@@ -29,6 +29,13 @@ impl Line {
         }
     }
 
+    /// Takes all bytes away.
+    pub fn clear(&mut self)
+        ensures { self.new ≡ [] }
+    {
+        self.bytes.clear();
+    }
+
     /// Appends bytes.
     pub fn put_text(&mut self, text: &[u8])
         requires { length self.old + length text.now ≤ 160 }

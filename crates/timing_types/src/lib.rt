@@ -8,6 +8,7 @@ pub mod labelled;
 pub mod labels;
 pub mod laws;
 pub mod rule;
+mod seen;
 #[cfg(test)]
 mod tests;
 pub mod typed;

@@ -3,7 +3,9 @@ use Rattle.mit_syntax.specs.Declarations.{variables}
 use Rattle.env_contract.specs.Env.{Env}
 use Rattle.cycle_machine.specs.declared.end.RunEnd.{RunEnd}
 use Rattle.cycle_machine.specs.Rest.{end_of_turn, IsTurnBelow}
-use Rattle.cycle_machine.proofs.Goes.{next_turn, last_turn, turn_below}
+use Rattle.cycle_machine.proofs.Goes.{next_turn, last_turn, turn_below, turn_shown}
+use Rattle.audit_parts.specs.Observed.{SeesTurn}
+use Rattle.audit_parts.proofs.Tallying.{sees_turn}
 use Rattle.audit_parts.proofs.Running.{none_observed, more_observed, all_observed}
 use Rattle.audit_parts.proofs.observe.observe.Goals as goal
 
@@ -16,32 +18,35 @@ run-init g c =
     let v : Env g.row.E.Denot = record { cost_of = g.E.MachineEnv.cost_of; next_of = g.E.MachineEnv.next_of; part = g.E.MachineEnv.part } in
     none_observed v c.args.limit c.args.p.now c.args.observer.now.label.number c.args.observer.now.relevant.now c.args.observer.now.room c.args.m.now c.new-tally.result c.requires.start c.new-tally.ensures.shown c.new-tally.ensures.begun c.new-tally.ensures.ended c.new-tally.ensures.events
 
-pub take-requires-clause-below : goal.take-requires-clause-below
-take-requires-clause-below g c =
-    let v : Env g.row.E.Denot = record { cost_of = g.E.MachineEnv.cost_of; next_of = g.E.MachineEnv.next_of; part = g.E.MachineEnv.part } in
-    let count : c.run.m.code.variables ≡ variables c.args.p.now.program.declarations = ap (λ m. m.variables) c.run.invariant.code ∙ c.requires.variables in
-    subst (λ n. IsTurnBelow n c.next-turn.result) count
-    (turn_below v c.args.limit c.run.m c.next-turn.new.self c.next-turn.result c.laws.ensures.shaped c.laws.ensures.stopped c.next-turn.ensures)
-
 pub returns-in-Some : goal.returns-in-Some
 returns-in-Some g c =
     let v : Env g.row.E.Denot = record { cost_of = g.E.MachineEnv.cost_of; next_of = g.E.MachineEnv.next_of; part = g.E.MachineEnv.part } in
-    let told : end_of_turn c.next-turn.result ≡ Some c.in-Some.end = sym c.in_ok-end.ensures.end ∙ c.in-Some.is in
-    all_observed v c.args.limit c.args.p.now c.args.observer.now.label.number c.args.observer.now.relevant.now c.args.observer.now.room c.args.m.now c.run.m c.next-turn.new.self c.next-turn.result c.in-Some.end c.run.tally c.take.new.self c.run.invariant
-    (last_turn v c.args.limit c.run.m c.next-turn.new.self c.next-turn.result c.in-Some.end c.laws.ensures.stopped c.next-turn.ensures told) told c.in_ok-end.ensures.tallies
+    let below : IsTurnBelow (variables c.args.p.now.program.declarations) c.next_shown-turn.result =
+    subst (λ n. IsTurnBelow n c.next_shown-turn.result) (ap (λ m. m.variables) c.run.invariant.code ∙ c.requires.variables)
+    (turn_below v c.args.observer.now.shown.now c.args.limit c.run.m c.next_shown-turn.new.self c.next_shown-turn.result c.laws.ensures.shaped c.laws.ensures.stopped c.next_shown-turn.ensures) in
+    let sees : SeesTurn c.args.p.now c.args.observer.now.label.number c.next_shown-turn.result =
+    sees_turn c.args.p.now c.args.observer.now.label.number c.args.observer.now.shown.now c.requires.shown c.next_shown-turn.result below (turn_shown v c.args.observer.now.shown.now c.args.limit c.run.m c.next_shown-turn.new.self c.next_shown-turn.result c.laws.ensures.stopped c.next_shown-turn.ensures) in
+    let told : end_of_turn c.next_shown-turn.result ≡ Some c.in-Some.end = sym c.in_ok-end.ensures.end ∙ c.in-Some.is in
+    all_observed v c.args.limit c.args.p.now c.args.observer.now.label.number c.args.observer.now.relevant.now c.args.observer.now.room c.args.observer.now.shown.now c.requires.shown c.args.m.now c.run.m c.next_shown-turn.new.self c.next_shown-turn.result c.in-Some.end c.run.tally c.take.new.self c.run.invariant
+    (last_turn v c.args.observer.now.shown.now c.args.limit c.run.m c.next_shown-turn.new.self c.next_shown-turn.result c.in-Some.end c.laws.ensures.stopped c.next_shown-turn.ensures told) told (λ events. c.in_ok-end.ensures.tallies c.args.p.now events sees)
 
 pub run-preserved : goal.run-preserved
 run-preserved g c =
     let v : Env g.row.E.Denot = record { cost_of = g.E.MachineEnv.cost_of; next_of = g.E.MachineEnv.next_of; part = g.E.MachineEnv.part } in
-    let none : end_of_turn c.next-turn.result ≡ None = sym c.in_ok-end.ensures.end ∙ none_left c.in_ok-end.field-0 c.in_default.not-Some in
-    more_observed v c.args.limit c.args.p.now c.args.observer.now.label.number c.args.observer.now.relevant.now c.args.observer.now.room c.args.m.now c.run.m c.next-turn.new.self c.next-turn.result c.run.tally c.take.new.self c.run.invariant
-    (next_turn v c.args.limit c.run.m c.next-turn.new.self c.next-turn.result c.laws.ensures.stopped c.next-turn.ensures none) c.in_ok-end.ensures.counts c.in_ok-end.ensures.tallies
+    let below : IsTurnBelow (variables c.args.p.now.program.declarations) c.next_shown-turn.result =
+    subst (λ n. IsTurnBelow n c.next_shown-turn.result) (ap (λ m. m.variables) c.run.invariant.code ∙ c.requires.variables)
+    (turn_below v c.args.observer.now.shown.now c.args.limit c.run.m c.next_shown-turn.new.self c.next_shown-turn.result c.laws.ensures.shaped c.laws.ensures.stopped c.next_shown-turn.ensures) in
+    let sees : SeesTurn c.args.p.now c.args.observer.now.label.number c.next_shown-turn.result =
+    sees_turn c.args.p.now c.args.observer.now.label.number c.args.observer.now.shown.now c.requires.shown c.next_shown-turn.result below (turn_shown v c.args.observer.now.shown.now c.args.limit c.run.m c.next_shown-turn.new.self c.next_shown-turn.result c.laws.ensures.stopped c.next_shown-turn.ensures) in
+    let none : end_of_turn c.next_shown-turn.result ≡ None = sym c.in_ok-end.ensures.end ∙ none_left c.in_ok-end.field-0 c.in_default.not-Some in
+    more_observed v c.args.limit c.args.p.now c.args.observer.now.label.number c.args.observer.now.relevant.now c.args.observer.now.room c.args.observer.now.shown.now c.requires.shown c.args.m.now c.run.m c.next_shown-turn.new.self c.next_shown-turn.result c.run.tally c.take.new.self c.run.invariant
+    (next_turn v c.args.observer.now.shown.now c.args.limit c.run.m c.next_shown-turn.new.self c.next_shown-turn.result c.laws.ensures.stopped c.next_shown-turn.ensures none) c.in_ok-end.ensures.counts (λ events. c.in_ok-end.ensures.tallies c.args.p.now events sees)
 
 pub run-smaller : goal.run-smaller
 run-smaller g c =
     let v : Env g.row.E.Denot = record { cost_of = g.E.MachineEnv.cost_of; next_of = g.E.MachineEnv.next_of; part = g.E.MachineEnv.part } in
-    let none : end_of_turn c.next-turn.result ≡ None = sym c.in_ok-end.ensures.end ∙ none_left c.in_ok-end.field-0 c.in_default.not-Some in
-    let next = next_turn v c.args.limit c.run.m c.next-turn.new.self c.next-turn.result c.laws.ensures.stopped c.next-turn.ensures none in
+    let none : end_of_turn c.next_shown-turn.result ≡ None = sym c.in_ok-end.ensures.end ∙ none_left c.in_ok-end.field-0 c.in_default.not-Some in
+    let next = next_turn v c.args.observer.now.shown.now c.args.limit c.run.m c.next_shown-turn.new.self c.next_shown-turn.result c.laws.ensures.stopped c.next_shown-turn.ensures none in
     let later = next.later in
     let within = next.within in
     omega (arith, later, within)

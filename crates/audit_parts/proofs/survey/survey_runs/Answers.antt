@@ -1,4 +1,4 @@
-use Rattle.std.proofs.Common.{◌≡◌, ◌<◌, ◌+◌, map, length, drop, refl, sym, subst, arith}
+use Rattle.std.proofs.Common.{◌≡◌, ◌<◌, ◌≤◌, ◌+◌, map, length, drop, refl, sym, subst, arith}
 use Rattle.std.specs.Prelude.{Result, Ok, Err, IfErr}
 use Rattle.std.specs.Result.{IsErrAnd}
 use Rattle.audit_parts.specs.declared.survey.SurveyFault.{SurveyFault}
@@ -13,6 +13,9 @@ use Rattle.audit_parts.proofs.survey.survey_runs.Goals as goal
 same_fault : {T : Type 0} (r : Result T SurveyFault) (e : SurveyFault) (P : SurveyFault → Type 0) → IsErrAnd r (λ x. x ≡ e) → P e → IfErr r P
 same_fault (Ok x) e P h k = tt
 same_fault (Err x) e P h k = subst P (sym h) k
+
+pub seen_variables-shown-requires : goal.seen_variables-shown-requires
+seen_variables-shown-requires g c = let few = c.laws.ensures.shaped.1.variables in subst (λ z. z.variables ≤ 4096) c.requires.image few
 
 pub loop-i-init : goal.loop-i-init
 loop-i-init g c =

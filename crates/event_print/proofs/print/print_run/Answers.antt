@@ -7,7 +7,9 @@ use Rattle.mit_syntax.specs.Declarations.{variables}
 use Rattle.env_contract.specs.Env.{Env}
 use Rattle.cycle_machine.specs.Rest.{end_of_turn, IsTurnBelow}
 use Rattle.event_print.specs.Text.{text_of_turn}
-use Rattle.cycle_machine.proofs.Goes.{next_turn, last_turn, turn_below}
+use Rattle.cycle_machine.proofs.Goes.{next_turn, last_turn, turn_below, turn_shown}
+use Rattle.event_print.specs.Text.{TellsShown}
+use Rattle.event_print.proofs.Listed.{IsShown, turn_is_shown, few_variables}
 use Rattle.event_print.proofs.Printed.{none_printed, stands_first, more_printed, all_printed, end_is, prefix_printed, stands_turn}
 use Rattle.event_print.proofs.print.print_run.Goals as goal
 
@@ -32,57 +34,74 @@ run-init g c =
       labelled = c.labelled-labelled.ensures.labelled;
     }
 
-pub print_turn-requires-clause-below : goal.print_turn-requires-clause-below
-print_turn-requires-clause-below g c =
+pub shown_variables-shown-requires : goal.shown_variables-shown-requires
+shown_variables-shown-requires g c =
+    subst (λ n. n ≤ 4096) (c.requires.variables ∙ ap (λ p. variables p.program.declarations) (sym c.labelled-labelled.ensures.labelled)) (few_variables c.args.m.now.code c.laws.ensures.shaped)
+
+pub print_turn-requires : goal.print_turn-requires
+print_turn-requires g c =
     let v : Env g.row.E.Denot = record { cost_of = g.E.MachineEnv.cost_of; next_of = g.E.MachineEnv.next_of; part = g.E.MachineEnv.part } in
-    let count : c.run.m.code.variables ≡ variables c.labelled-labelled.result.now.program.declarations =
-    ap (λ m. m.variables) c.run.invariant.stands.code ∙ (c.requires.variables ∙ ap (λ p. variables p.program.declarations) (sym c.labelled-labelled.ensures.labelled)) in
-    subst (λ n. IsTurnBelow n c.next-turn.result) count
-    (turn_below v c.args.limit c.run.m c.next-turn.new.self c.next-turn.result c.laws.ensures.shaped c.laws.ensures.stopped c.next-turn.ensures)
+    let below : IsTurnBelow (variables c.args.p.now.labelled.program.declarations) c.next_shown-turn.result =
+    subst (λ n. IsTurnBelow n c.next_shown-turn.result) (ap (λ m. m.variables) c.run.invariant.stands.code ∙ c.requires.variables)
+    (turn_below v c.shown_variables-shown.result c.args.limit c.run.m c.next_shown-turn.new.self c.next_shown-turn.result c.laws-in-run.ensures.shaped c.laws-in-run.ensures.stopped c.next_shown-turn.ensures) in
+    subst (λ p. IsTurnBelow (variables p.declarations) c.next_shown-turn.result) (sym (c.program.ensures.program ∙ ap (λ p. p.program) c.labelled-labelled.ensures.labelled)) below
 
 pub returns-in_err-end-clause-prefix : goal.returns-in_err-end-clause-prefix
 returns-in_err-end-clause-prefix g c =
     let v : Env g.row.E.Denot = record { cost_of = g.E.MachineEnv.cost_of; next_of = g.E.MachineEnv.next_of; part = g.E.MachineEnv.part } in
-    let line : AppendsPrefix (g.W.Sink.taken c.run.out) (g.W.Sink.taken c.print_turn.new.out) (text_of_turn c.args.p.now.labelled c.args.observer c.next-turn.result) =
-    subst (λ p. AppendsPrefix (g.W.Sink.taken c.run.out) (g.W.Sink.taken c.print_turn.new.out) (text_of_turn p c.args.observer c.next-turn.result)) c.labelled-labelled.ensures.labelled c.in_err-end.ensures.prefix in
-    on_err _ _ (prefix_printed v c.args.limit c.args.p.now.labelled c.args.observer c.args.m.now c.run.m c.next-turn.new.self c.next-turn.result _ _ _ c.run.invariant.printed c.laws.ensures.stopped c.next-turn.ensures line)
+    let tells : TellsShown c.args.p.now.labelled c.args.observer c.shown_variables-shown.result = subst (λ p. TellsShown p c.args.observer c.shown_variables-shown.result) c.labelled-labelled.ensures.labelled c.shown_variables-shown.ensures in
+    let below : IsTurnBelow (variables c.args.p.now.labelled.program.declarations) c.next_shown-turn.result =
+    subst (λ n. IsTurnBelow n c.next_shown-turn.result) (ap (λ m. m.variables) c.run.invariant.stands.code ∙ c.requires.variables)
+    (turn_below v c.shown_variables-shown.result c.args.limit c.run.m c.next_shown-turn.new.self c.next_shown-turn.result c.laws-in-run.ensures.shaped c.laws-in-run.ensures.stopped c.next_shown-turn.ensures) in
+    let is : IsShown c.args.p.now.labelled c.args.observer c.next_shown-turn.result =
+    turn_is_shown c.args.p.now.labelled c.args.observer c.shown_variables-shown.result c.next_shown-turn.result tells below (turn_shown v c.shown_variables-shown.result c.args.limit c.run.m c.next_shown-turn.new.self c.next_shown-turn.result c.laws-in-run.ensures.stopped c.next_shown-turn.ensures) in
+    let line : AppendsPrefix (g.W.Sink.taken c.run.out) (g.W.Sink.taken c.print_turn.new.out) (text_of_turn c.args.p.now.labelled.program.declarations c.next_shown-turn.result) =
+    subst (λ p. AppendsPrefix (g.W.Sink.taken c.run.out) (g.W.Sink.taken c.print_turn.new.out) (text_of_turn p.declarations c.next_shown-turn.result)) (c.program.ensures.program ∙ ap (λ p. p.program) c.labelled-labelled.ensures.labelled) c.in_err-end.ensures.prefix in
+    on_err _ _ (prefix_printed v c.args.limit c.args.p.now.labelled c.args.observer c.shown_variables-shown.result c.args.m.now c.run.m c.next_shown-turn.new.self c.next_shown-turn.result _ _ _ tells c.run.invariant.printed c.laws-in-run.ensures.stopped c.next_shown-turn.ensures is line)
 
 pub returns-in_err-end-clause-stands : goal.returns-in_err-end-clause-stands
 returns-in_err-end-clause-stands g c =
     let v : Env g.row.E.Denot = record { cost_of = g.E.MachineEnv.cost_of; next_of = g.E.MachineEnv.next_of; part = g.E.MachineEnv.part } in
-    stands_turn v c.args.limit c.args.p.now.labelled c.args.observer c.args.m.now c.run.m c.next-turn.new.self c.next-turn.result _ _ c.run.invariant.printed c.run.invariant.stands c.laws.ensures.stopped c.next-turn.ensures
+    stands_turn v c.args.limit c.args.p.now.labelled c.args.observer c.shown_variables-shown.result c.args.m.now c.run.m c.next_shown-turn.new.self c.next_shown-turn.result _ _ c.run.invariant.printed c.run.invariant.stands c.laws-in-run.ensures.stopped c.next_shown-turn.ensures
 
 pub returns-in-Some-clause-end : goal.returns-in-Some-clause-end
 returns-in-Some-clause-end g c =
     let v : Env g.row.E.Denot = record { cost_of = g.E.MachineEnv.cost_of; next_of = g.E.MachineEnv.next_of; part = g.E.MachineEnv.part } in
-    let told : end_of_turn c.next-turn.result ≡ Some c.in-Some.end = sym c.in_ok-end.ensures.end ∙ c.in-Some.is in
-    end_is v c.args.limit c.args.p.now.labelled c.args.observer c.args.m.now c.run.m c.next-turn.new.self c.next-turn.result c.in-Some.end _ _ c.run.invariant.printed
-    (last_turn v c.args.limit c.run.m c.next-turn.new.self c.next-turn.result c.in-Some.end c.laws.ensures.stopped c.next-turn.ensures told)
+    let told : end_of_turn c.next_shown-turn.result ≡ Some c.in-Some.end = sym c.in_ok-end.ensures.end ∙ c.in-Some.is in
+    end_is v c.args.limit c.args.p.now.labelled c.args.observer c.shown_variables-shown.result c.args.m.now c.run.m c.next_shown-turn.new.self c.next_shown-turn.result c.in-Some.end _ _ c.run.invariant.printed
+    (last_turn v c.shown_variables-shown.result c.args.limit c.run.m c.next_shown-turn.new.self c.next_shown-turn.result c.in-Some.end c.laws-in-run.ensures.stopped c.next_shown-turn.ensures told)
 
 pub returns-in-Some-clause-text : goal.returns-in-Some-clause-text
 returns-in-Some-clause-text g c =
     let v : Env g.row.E.Denot = record { cost_of = g.E.MachineEnv.cost_of; next_of = g.E.MachineEnv.next_of; part = g.E.MachineEnv.part } in
-    let told : end_of_turn c.next-turn.result ≡ Some c.in-Some.end = sym c.in_ok-end.ensures.end ∙ c.in-Some.is in
-    let line : Appends (g.W.Sink.taken c.run.out) (g.W.Sink.taken c.print_turn.new.out) (text_of_turn c.args.p.now.labelled c.args.observer c.next-turn.result) =
-    subst (λ p. Appends (g.W.Sink.taken c.run.out) (g.W.Sink.taken c.print_turn.new.out) (text_of_turn p c.args.observer c.next-turn.result)) c.labelled-labelled.ensures.labelled c.in_ok-end.ensures.text in
-    all_printed v c.args.limit c.args.p.now.labelled c.args.observer c.args.m.now c.run.m c.next-turn.new.self c.next-turn.result c.in-Some.end _ _ _ c.run.invariant.printed
-    (last_turn v c.args.limit c.run.m c.next-turn.new.self c.next-turn.result c.in-Some.end c.laws.ensures.stopped c.next-turn.ensures told) told line
+    let told : end_of_turn c.next_shown-turn.result ≡ Some c.in-Some.end = sym c.in_ok-end.ensures.end ∙ c.in-Some.is in
+    let tells : TellsShown c.args.p.now.labelled c.args.observer c.shown_variables-shown.result = subst (λ p. TellsShown p c.args.observer c.shown_variables-shown.result) c.labelled-labelled.ensures.labelled c.shown_variables-shown.ensures in
+    let line : Appends (g.W.Sink.taken c.run.out) (g.W.Sink.taken c.print_turn.new.out) (text_of_turn c.args.p.now.labelled.program.declarations c.next_shown-turn.result) =
+    subst (λ p. Appends (g.W.Sink.taken c.run.out) (g.W.Sink.taken c.print_turn.new.out) (text_of_turn p.declarations c.next_shown-turn.result)) (c.program.ensures.program ∙ ap (λ p. p.program) c.labelled-labelled.ensures.labelled) c.in_ok-end.ensures.text in
+    all_printed v c.args.limit c.args.p.now.labelled c.args.observer c.shown_variables-shown.result c.args.m.now c.run.m c.next_shown-turn.new.self c.next_shown-turn.result c.in-Some.end _ _ _ tells c.run.invariant.printed
+    (last_turn v c.shown_variables-shown.result c.args.limit c.run.m c.next_shown-turn.new.self c.next_shown-turn.result c.in-Some.end c.laws-in-run.ensures.stopped c.next_shown-turn.ensures told) told line
 
 pub returns-in-Some-clause-stands : goal.returns-in-Some-clause-stands
 returns-in-Some-clause-stands g c =
     let v : Env g.row.E.Denot = record { cost_of = g.E.MachineEnv.cost_of; next_of = g.E.MachineEnv.next_of; part = g.E.MachineEnv.part } in
-    stands_turn v c.args.limit c.args.p.now.labelled c.args.observer c.args.m.now c.run.m c.next-turn.new.self c.next-turn.result _ _ c.run.invariant.printed c.run.invariant.stands c.laws.ensures.stopped c.next-turn.ensures
+    stands_turn v c.args.limit c.args.p.now.labelled c.args.observer c.shown_variables-shown.result c.args.m.now c.run.m c.next_shown-turn.new.self c.next_shown-turn.result _ _ c.run.invariant.printed c.run.invariant.stands c.laws-in-run.ensures.stopped c.next_shown-turn.ensures
 
 pub run-preserved : goal.run-preserved
 run-preserved g c =
     let v : Env g.row.E.Denot = record { cost_of = g.E.MachineEnv.cost_of; next_of = g.E.MachineEnv.next_of; part = g.E.MachineEnv.part } in
-    let none : end_of_turn c.next-turn.result ≡ None = sym c.in_ok-end.ensures.end ∙ none_left c.in_ok-end.field-0 c.in_default.not-Some in
-    let line : Appends (g.W.Sink.taken c.run.out) (g.W.Sink.taken c.print_turn.new.out) (text_of_turn c.args.p.now.labelled c.args.observer c.next-turn.result) =
-    subst (λ p. Appends (g.W.Sink.taken c.run.out) (g.W.Sink.taken c.print_turn.new.out) (text_of_turn p c.args.observer c.next-turn.result)) c.labelled-labelled.ensures.labelled c.in_ok-end.ensures.text in
-    let next = next_turn v c.args.limit c.run.m c.next-turn.new.self c.next-turn.result c.laws.ensures.stopped c.next-turn.ensures none in
+    let none : end_of_turn c.next_shown-turn.result ≡ None = sym c.in_ok-end.ensures.end ∙ none_left c.in_ok-end.field-0 c.in_default.not-Some in
+    let tells : TellsShown c.args.p.now.labelled c.args.observer c.shown_variables-shown.result = subst (λ p. TellsShown p c.args.observer c.shown_variables-shown.result) c.labelled-labelled.ensures.labelled c.shown_variables-shown.ensures in
+    let below : IsTurnBelow (variables c.args.p.now.labelled.program.declarations) c.next_shown-turn.result =
+    subst (λ n. IsTurnBelow n c.next_shown-turn.result) (ap (λ m. m.variables) c.run.invariant.stands.code ∙ c.requires.variables)
+    (turn_below v c.shown_variables-shown.result c.args.limit c.run.m c.next_shown-turn.new.self c.next_shown-turn.result c.laws-in-run.ensures.shaped c.laws-in-run.ensures.stopped c.next_shown-turn.ensures) in
+    let is : IsShown c.args.p.now.labelled c.args.observer c.next_shown-turn.result =
+    turn_is_shown c.args.p.now.labelled c.args.observer c.shown_variables-shown.result c.next_shown-turn.result tells below (turn_shown v c.shown_variables-shown.result c.args.limit c.run.m c.next_shown-turn.new.self c.next_shown-turn.result c.laws-in-run.ensures.stopped c.next_shown-turn.ensures) in
+    let line : Appends (g.W.Sink.taken c.run.out) (g.W.Sink.taken c.print_turn.new.out) (text_of_turn c.args.p.now.labelled.program.declarations c.next_shown-turn.result) =
+    subst (λ p. Appends (g.W.Sink.taken c.run.out) (g.W.Sink.taken c.print_turn.new.out) (text_of_turn p.declarations c.next_shown-turn.result)) (c.program.ensures.program ∙ ap (λ p. p.program) c.labelled-labelled.ensures.labelled) c.in_ok-end.ensures.text in
+    let next = next_turn v c.shown_variables-shown.result c.args.limit c.run.m c.next_shown-turn.new.self c.next_shown-turn.result c.laws-in-run.ensures.stopped c.next_shown-turn.ensures none in
     record {
-      printed = more_printed v c.args.limit c.args.p.now.labelled c.args.observer c.args.m.now c.run.m c.next-turn.new.self c.next-turn.result _ _ _ c.run.invariant.printed next none line;
-      stands = stands_turn v c.args.limit c.args.p.now.labelled c.args.observer c.args.m.now c.run.m c.next-turn.new.self c.next-turn.result _ _ c.run.invariant.printed c.run.invariant.stands c.laws.ensures.stopped c.next-turn.ensures;
+      printed = more_printed v c.args.limit c.args.p.now.labelled c.args.observer c.shown_variables-shown.result c.args.m.now c.run.m c.next_shown-turn.new.self c.next_shown-turn.result _ _ _ tells c.run.invariant.printed next is none line;
+      stands = stands_turn v c.args.limit c.args.p.now.labelled c.args.observer c.shown_variables-shown.result c.args.m.now c.run.m c.next_shown-turn.new.self c.next_shown-turn.result _ _ c.run.invariant.printed c.run.invariant.stands c.laws-in-run.ensures.stopped c.next_shown-turn.ensures;
       later = up_to _ _ _ c.run.invariant.later c.print_turn.ensures.later;
       labelled = c.labelled-labelled.ensures.labelled;
     }
@@ -90,8 +109,8 @@ run-preserved g c =
 pub run-smaller : goal.run-smaller
 run-smaller g c =
     let v : Env g.row.E.Denot = record { cost_of = g.E.MachineEnv.cost_of; next_of = g.E.MachineEnv.next_of; part = g.E.MachineEnv.part } in
-    let none : end_of_turn c.next-turn.result ≡ None = sym c.in_ok-end.ensures.end ∙ none_left c.in_ok-end.field-0 c.in_default.not-Some in
-    let next = next_turn v c.args.limit c.run.m c.next-turn.new.self c.next-turn.result c.laws.ensures.stopped c.next-turn.ensures none in
+    let none : end_of_turn c.next_shown-turn.result ≡ None = sym c.in_ok-end.ensures.end ∙ none_left c.in_ok-end.field-0 c.in_default.not-Some in
+    let next = next_turn v c.shown_variables-shown.result c.args.limit c.run.m c.next_shown-turn.new.self c.next_shown-turn.result c.laws-in-run.ensures.stopped c.next_shown-turn.ensures none in
     let later = next.later in
     let within = next.within in
     omega (arith, later, within)

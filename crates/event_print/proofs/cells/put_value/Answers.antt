@@ -1,8 +1,8 @@
 use Rattle.std.proofs.Common.{arith, to_z, of_z, w64}
 use Rattle.std.specs.Fmt.{signed_decimal}
 use Rattle.event_print.proofs.Lengths.{signed_short}
-use Rattle.seen_line.proofs.Appended.{appended}
-use Rattle.seen_line.proofs.cells.put_value.Goals as goal
+use Rattle.event_print.proofs.Appended.{appended}
+use Rattle.event_print.proofs.cells.put_value.Goals as goal
 
 pub put_signed-requires : goal.put_signed-requires
 put_signed-requires c =

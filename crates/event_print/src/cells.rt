@@ -1,10 +1,9 @@
-//! The names of variables, and assignments as items of a field.
+//! Numbers, and the names of variables, in lines.
 
 ghost use Rattle.std.specs.Prelude.{◌≡◌, ◌+◌, ◌<◌, ◌≤◌, ◌++◌, length, decimal};
 ghost use Rattle.std.specs.Fmt.{signed_decimal};
 ghost use Rattle.mit_syntax.specs.Declarations.{variables, cell_at};
 ghost use Rattle.event_print.specs.Text.{cell_text};
-ghost use Rattle.seen_line.specs.Field.{lead, item};
 
 use mit_syntax::program::Program;
 use tim_base::line::Line;
@@ -42,28 +41,4 @@ pub fn put_cell(line: &mut Line, p: &Program, variable: u32)
         put_number(line, b"[", u64::from(place));
         line.put_text(b"]");
     }
-}
-
-// The space before an item that is not the first one.
-fn lead_line(none: bool) -> Line
-    ensures text { result ≡ lead none }
-    ensures short { length result ≤ 1 }
-{
-    let mut line = Line::new();
-    if !none {
-        line.put_text(b" ");
-    }
-    line
-}
-
-/// The item of an assignment, after a space if it is not the first one.
-pub fn item_line(p: &Program, none: bool, variable: u32, value: i64, cycle: u64) -> Line
-    requires { variable < variables p.now.declarations }
-    ensures { result ≡ lead none ++ item p.now.declarations variable value cycle }
-{
-    let mut line = lead_line(none);
-    put_cell(&mut line, p, variable);
-    put_value(&mut line, b"=", value);
-    put_number(&mut line, b"@", cycle);
-    line
 }

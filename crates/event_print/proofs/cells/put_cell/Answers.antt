@@ -1,7 +1,7 @@
 use Rattle.std.proofs.Common.{arith, length, ◌≤◌, ap}
 use Rattle.std.specs.Prelude.{codes}
-use Rattle.seen_line.proofs.Appended.{appended}
-use Rattle.seen_line.proofs.cells.put_cell.Goals as goal
+use Rattle.event_print.proofs.Appended.{appended}
+use Rattle.event_print.proofs.cells.put_cell.Goals as goal
 
 pub put_number-requires : goal.put_number-requires
 put_number-requires c =

@@ -1,8 +1,8 @@
 use Rattle.std.proofs.Common.{arith, ◌<◌, ◌^◌}
 use Rattle.std.specs.Prelude.{decimal}
 use Rattle.tim_base.proofs.LineLemmas.{length-decimal}
-use Rattle.seen_line.proofs.Appended.{appended}
-use Rattle.seen_line.proofs.cells.put_number.Goals as goal
+use Rattle.event_print.proofs.Appended.{appended}
+use Rattle.event_print.proofs.cells.put_number.Goals as goal
 
 pub put_unsigned-requires : goal.put_unsigned-requires
 put_unsigned-requires c =

@@ -1,0 +1,21 @@
+//! Which variables' assignments an observer sees.
+
+ghost use Rattle.std.specs.Prelude.{◌≤◌};
+ghost use Rattle.mit_syntax.specs.Declarations.{variables};
+ghost use Rattle.audit_parts.specs.Observed.{TellsSeen};
+
+use label_lattice::label::Label;
+use timing_types::labelled::Labelled;
+
+/// For how many variables a list has room.
+pub const CELLS: usize = 4096;
+
+/// A list that says of each variable, by its number, whether the observer sees its assignments.
+pub fn seen_variables(p: &Labelled, observer: Label) -> [bool; CELLS]
+    requires { variables p.now.program.declarations ≤ 4096 }
+    ensures { TellsSeen p.now observer.number result }
+{
+    let mut shown = [true; CELLS];
+    p.mark_seen(observer, &mut shown);
+    shown
+}
