@@ -38,6 +38,8 @@ impl<O: Write> Sink for OutSink<O> {
 
     ghost faults = { λ s. s };
 
+    ghost log = { λ _. None };
+
     fn write(&mut self, piece: &[u8]) -> Result<usize, SinkFault>
         ensures bound { IfOk result (λ n. n ≤ length piece.now) }
         ensures some { IfOk result (λ n. 0 < length piece.now → 0 < n) }
