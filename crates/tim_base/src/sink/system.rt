@@ -34,6 +34,13 @@ impl<O: Write> OutSink<O> {
         OutSink { out, faults: 0 }
     }
 
+    /// The writer, as it is.
+    pub fn into_writer(self) -> O
+        ensures { O.contents result ≡ self.contents }
+    {
+        self.out
+    }
+
     /// Flushes the writer, and gives it back.
     pub fn finish(self) -> (O, Result<(), SinkFault>)
         ensures { Keeps self.contents (O.contents result.0) }
