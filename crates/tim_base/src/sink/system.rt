@@ -3,8 +3,8 @@ ghost use Rattle.std.specs.Io.KnownBytes.{Keeps, WriteAppends};
 ghost use Rattle.tim_base.specs.Faults.{Rose, raised};
 
 use super::{Sink, SinkFault};
-use crate::count::raise;
-use std::io::Write;
+use crate::count::{MAX_INTERRUPTED, raise};
+use std::io::{ErrorKind, Write};
 use std::marker::Model;
 
 #[cfg(test)]
@@ -71,12 +71,32 @@ impl<O: Write> Sink for OutSink<O> {
         ensures kept { OnOk result (self.new.faults ≡ self.old.faults) }
         ensures rose { OnErr result (self.new.faults ≡ raised self.old.faults) }
     {
-        match self.out.write(piece) {
-            Ok(count) if count > 0 || piece.is_empty() => Ok(count),
-            _ => {
+        match write_on(&mut self.out, piece) {
+            Ok(count) => Ok(count),
+            Err(fault) => {
                 self.faults = raise(self.faults);
-                Err(SinkFault)
+                Err(fault)
             }
         }
     }
+}
+
+// One write, taken up again where a signal interrupts it.
+fn write_on<O: Write>(out: &mut O, piece: &[u8]) -> Result<usize, SinkFault>
+    ensures bound { IfOk result (λ n. n ≤ length piece.now) }
+    ensures some { IfOk result (λ n. 0 < length piece.now → 0 < n) }
+    ensures appended { WriteAppends (O.contents out.old) (O.contents out.new) result piece.now }
+{
+    for _ in 0..MAX_INTERRUPTED {
+        match out.write(piece) {
+            Ok(count) if count > 0 || piece.is_empty() => return Ok(count),
+            Ok(_) => return Err(SinkFault),
+            Err(fault) => {
+                if fault.kind() != ErrorKind::Interrupted {
+                    return Err(SinkFault);
+                }
+            }
+        }
+    }
+    Err(SinkFault)
 }
