@@ -37,6 +37,7 @@ impl Line {
     }
 
     /// Appends bytes.
+    #[inline(always)]
     pub fn put_text(&mut self, text: &[u8])
         requires { length self.old + length text.now ≤ 160 }
         ensures { self.new ≡ self.old ++ text.now }
@@ -63,6 +64,7 @@ impl Line {
     }
 
     /// The bytes of the line, at most 160.
+    #[inline(always)]
     pub fn bytes(&self) -> &[u8]
         ensures { result.now ≡ self.now }
     {

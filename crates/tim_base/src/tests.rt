@@ -1,8 +1,8 @@
 use crate::line::Line;
-use text_base::pos::Memory;
 use crate::shelf::{FetchFault, MemShelf, Shelf};
 use crate::sink::{MemSink, Sink, SinkFault, write_all};
 use std::test::Fail;
+use text_base::pos::Memory;
 
 #[test]
 fn shelf_in_memory(rt: HostRuntime) -> Result<(), Fail> {

@@ -1,13 +1,13 @@
-ghost use Rattle.std.specs.Prelude.{◌≡◌, ◌<◌, ◌≤◌, ◌++◌, ◌∷◌, [], length, Some, is_err, OnOk, OnErr, IfOk};
+ghost use Rattle.std.specs.Prelude.{◌≡◌, ◌<◌, ◌≤◌, ◌++◌, ◌∷◌, [], length, Some, None, is_err, OnOk, OnErr, IfOk};
 ghost use Rattle.std.specs.Io.KnownBytes.{WriteAppends};
 ghost use Rattle.tim_base.specs.Faults.{Rose, raised};
 ghost use Rattle.tim_base.specs.MemorySinks.{empty_sink, write_fails};
 
 use super::{Sink, SinkFault};
 use crate::count::raise;
-use text_base::pos::Memory;
 use std::alloc::Global;
 use std::marker::Model;
+use text_base::pos::Memory;
 
 /// Bytes in memory, up to a room. The writes whose numbers are listed fail, and so do those that do not
 /// fit the room. All others take the whole piece.
@@ -81,6 +81,8 @@ impl Sink for MemSink {
     ghost taken = { λ s. Some s.bytes };
 
     ghost faults = { λ s. s.faults };
+
+    ghost log = { λ _. None };
 
     fn write(&mut self, piece: &[u8]) -> Result<usize, SinkFault>
         ensures bound { IfOk result (λ n. n ≤ length piece.now) }

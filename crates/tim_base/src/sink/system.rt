@@ -1,59 +1,102 @@
 ghost use Rattle.std.specs.Prelude.{◌≡◌, ◌<◌, ◌≤◌, length, IfOk, OnOk, OnErr, None};
+ghost use Rattle.std.specs.Io.KnownBytes.{Keeps, WriteAppends};
 ghost use Rattle.tim_base.specs.Faults.{Rose, raised};
 
 use super::{Sink, SinkFault};
-use crate::count::raise;
-use std::io::Write;
+use crate::count::{MAX_INTERRUPTED, raise};
+use std::io::{ErrorKind, Write};
 use std::marker::Model;
 
 #[cfg(test)]
 mod tests;
 
-/// A writer of the system, with a count of its faults. Contracts see that count.
+/// A writer of the system, with a count of its faults. Contracts see what the writer has taken, where it tells that, and
+/// the count.
 #[derive(Drop)]
-pub struct OutSink<O> {
+pub struct OutSink<O: Write> {
     out: O,
     faults: u64,
 }
 
-impl<O> Model for OutSink<O> {
-    ghost use Rattle.std.specs.Prelude.{ℕ};
+impl<O: Write> Model for OutSink<O> {
+    ghost use Rattle.tim_base.specs.Sinks.{OutTold};
 
-    ghost Value = { ℕ };
+    ghost Value = { OutTold };
 
-    ghost view = { λ s. s.faults };
+    ghost view = { λ s. record { contents = O.contents s.out; faults = s.faults } };
 }
 
 impl<O: Write> OutSink<O> {
     /// A writer, with no faults so far.
     pub fn new(out: O) -> OutSink<O>
-        ensures { result ≡ 0 }
+        ensures { result ≡ record { contents = O.contents out; faults = 0 } }
     {
         OutSink { out, faults: 0 }
+    }
+
+    /// The writer, as it is.
+    pub fn into_writer(self) -> O
+        ensures { O.contents result ≡ self.contents }
+    {
+        self.out
+    }
+
+    /// Flushes the writer, and gives it back.
+    pub fn finish(self) -> (O, Result<(), SinkFault>)
+        ensures { Keeps self.contents (O.contents result.0) }
+    {
+        let mut out = self.out;
+        match out.flush() {
+            Ok(()) => (out, Ok(())),
+            Err(_) => (out, Err(SinkFault)),
+        }
     }
 }
 
 impl<O: Write> Sink for OutSink<O> {
-    ghost taken = { λ _. None };
+    ghost taken = { λ s. s.contents };
 
-    ghost faults = { λ s. s };
+    ghost faults = { λ s. s.faults };
+
+    ghost log = { λ _. None };
 
     fn write(&mut self, piece: &[u8]) -> Result<usize, SinkFault>
         ensures bound { IfOk result (λ n. n ≤ length piece.now) }
         ensures some { IfOk result (λ n. 0 < length piece.now → 0 < n) }
-        ensures later { self.old ≤ self.new }
-        ensures fault { OnErr result (Rose self.old self.new) }
+        ensures appended { WriteAppends self.old.contents self.new.contents result piece.now }
+        ensures later { self.old.faults ≤ self.new.faults }
+        ensures fault { OnErr result (Rose self.old.faults self.new.faults) }
 
         // The count rises at each fault and stays at each write that takes bytes.
-        ensures kept { OnOk result (self.new ≡ self.old) }
-        ensures rose { OnErr result (self.new ≡ raised self.old) }
+        ensures kept { OnOk result (self.new.faults ≡ self.old.faults) }
+        ensures rose { OnErr result (self.new.faults ≡ raised self.old.faults) }
     {
-        match self.out.write(piece) {
-            Ok(count) if count > 0 || piece.is_empty() => Ok(count),
-            _ => {
+        match write_on(&mut self.out, piece) {
+            Ok(count) => Ok(count),
+            Err(fault) => {
                 self.faults = raise(self.faults);
-                Err(SinkFault)
+                Err(fault)
             }
         }
     }
+}
+
+// One write, taken up again where a signal interrupts it.
+fn write_on<O: Write>(out: &mut O, piece: &[u8]) -> Result<usize, SinkFault>
+    ensures bound { IfOk result (λ n. n ≤ length piece.now) }
+    ensures some { IfOk result (λ n. 0 < length piece.now → 0 < n) }
+    ensures appended { WriteAppends (O.contents out.old) (O.contents out.new) result piece.now }
+{
+    for _ in 0..MAX_INTERRUPTED {
+        match out.write(piece) {
+            Ok(count) if count > 0 || piece.is_empty() => return Ok(count),
+            Ok(_) => return Err(SinkFault),
+            Err(fault) => {
+                if fault.kind() != ErrorKind::Interrupted {
+                    return Err(SinkFault);
+                }
+            }
+        }
+    }
+    Err(SinkFault)
 }
