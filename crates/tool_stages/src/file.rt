@@ -16,8 +16,8 @@ use tool_texts::stop::{Stop, no_memory};
 // The stop for a file that gives no bytes, by what the line of its fault calls it.
 fn file_stop(kind: &[u8], fault: FetchFault) -> Stop
     requires { length kind.now ≤ 32 }
-    ensures { (f : File) (content : Option (Option (List ℕ))) (Rises : Type 0) → kind.now ≡ file_name f
-        → (fault ≡ FetchFault.Failed → Rises) → (fault ≡ FetchFault.TooLong → IsTooLong content) → IsStop (FileStops Rises content f) result }
+    ensures stop { (f : File) (content : Option (Option (List ℕ))) → kind.now ≡ file_name f → (fault ≡ FetchFault.TooLong → IsTooLong content)
+        → IsStop (FileStops (fault ≡ FetchFault.Failed) content f) result }
     ensures failed { is_read_fault (status_of result) ≡ is_failure fault }
 {
     match fault {
