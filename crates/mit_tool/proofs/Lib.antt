@@ -16,3 +16,4 @@ pub mod HeldLemmas
 pub mod OneHeld
 pub mod PastLemmas
 pub mod BoundLemmas
+pub mod LoggedLemmas

@@ -5,3 +5,4 @@ pub mod Complete
 pub mod Once
 pub mod Held
 pub mod Bounded
+pub mod Logged

@@ -1,5 +1,5 @@
 -- The text of a run without its time: a line for each assignment, and a last line.
-use Rattle.std.specs.Prelude.{◌≡◌, ◌⊎◌, ◌≤◌, ◌<◌, ℕ, ℤ, List, [], ◌++◌, Option}
+use Rattle.std.specs.Prelude.{◌≡◌, ◌⊎◌, ◌≤◌, ◌<◌, ℕ, ℤ, List, [], ◌∷◌, ◌++◌, Option}
 use Rattle.std.specs.Io.KnownBytes.{Appends}
 use Rattle.tim_base.specs.Sinks.{AppendsPrefix}
 use Rattle.mit_syntax.specs.Declarations.{Declaration}
@@ -41,6 +41,13 @@ text_of_walk ds (DidAssign x n) = value_line ds x n
 text_of_walk ds (Began k) = []
 text_of_walk ds Silent = []
 text_of_walk ds Ended = []
+
+-- the line of a step, where it has one
+abbrev pub pieces_of_walk : List Declaration → Walk → List (List ℕ)
+pieces_of_walk ds (DidAssign x n) = value_line ds x n ∷ []
+pieces_of_walk ds (Began k) = []
+pieces_of_walk ds Silent = []
+pieces_of_walk ds Ended = []
 
 -- an assignment is to one of the first so many variables
 abbrev pub IsWalkBelow : ℕ → Walk → Type 0

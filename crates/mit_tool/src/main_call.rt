@@ -1,13 +1,14 @@
 //! The top call: from the words of a command line to the text that is written, and a status.
 
-ghost use Rattle.std.specs.Prelude.{◌≡◌, ◌≤◌, ◌⊎◌, ℕ, List, None, IfSome, IsTrue, map, string_bytes};
+ghost use Rattle.std.specs.Prelude.{◌≡◌, ◌≤◌, ◌⊎◌, ◌∷◌, [], ℕ, List, Some, None, IfSome, IsTrue, map, string_bytes};
 ghost use Rattle.tim_base.specs.Faults.{Rose};
 ghost use Rattle.tool_words.specs.WordsAsked.{IsInRange, command_of, check, recheck};
 ghost use Rattle.tool_words.specs.WordsViews.{asked_of};
 ghost use Rattle.tool_texts.specs.Ends.{EndsBy, Nothing};
 ghost use Rattle.tool_stages.specs.Accepted.{is_past_typing, IsAccepted};
 ghost use Rattle.mit_tool.specs.Answers.{IsAnswer, IsUsage, Before, typed_content, HeldIsSound};
-ghost use Rattle.mit_tool.specs.Complete.{CanBeDone, NoneRises};
+ghost use Rattle.mit_tool.specs.Complete.{CanBeDone, NoneRises, files_of};
+ghost use Rattle.mit_tool.specs.Logged.{HasFetched, HasWritten, ArePieces, named_by};
 ghost use Rattle.mit_tool.specs.Held.{EndsByOne};
 ghost use Rattle.mit_tool.specs.Bounded.{AreWithin};
 
@@ -41,6 +42,8 @@ fn check<S: Shelf, W: Sink>(alloc: Global, shelf: &mut S, out: &mut W, file: &st
     ensures answered { EndsBy (W.taken out.old) (W.taken out.new) Nothing
         (IsAnswer (λ name. Rose (S.faults shelf.old name) (S.faults shelf.new name)) (S.content shelf.old) (check file.now)) result }
     ensures write { result ≡ Status.WriteFault → Rose (W.faults out.old) (W.faults out.new) }
+    ensures fetched { HasFetched (file.now ∷ []) result (S.log shelf.old) (S.log shelf.new) }
+    ensures pieces { HasWritten (ArePieces (Some (check file.now))) result (W.log out.old) (W.log out.new) }
     ensures sound { IsTrue (is_past_typing result) → IsAccepted (S.content shelf.old file.now) }
 {
     match check_line(alloc, shelf, file) {
@@ -63,6 +66,8 @@ fn recheck<S: Shelf, W: Sink>(
     ensures answered { EndsBy (W.taken out.old) (W.taken out.new) Nothing
         (IsAnswer (λ name. Rose (S.faults shelf.old name) (S.faults shelf.new name)) (S.content shelf.old) (recheck file.now certificate.now)) result }
     ensures write { result ≡ Status.WriteFault → Rose (W.faults out.old) (W.faults out.new) }
+    ensures fetched { HasFetched (file.now ∷ certificate.now ∷ []) result (S.log shelf.old) (S.log shelf.new) }
+    ensures pieces { HasWritten (ArePieces (Some (recheck file.now certificate.now))) result (W.log out.old) (W.log out.new) }
 {
     match recheck_line(alloc, shelf, file, certificate) {
         Ok(rechecked) => finish(out, rechecked.bytes(), Status::Done),
@@ -84,6 +89,8 @@ fn obey<S: Shelf, W: Sink>(
     ensures answered { EndsBy (W.taken out.old) (W.taken out.new) (Before (S.content shelf.old) (asked_of command.entry))
         (IsAnswer (λ name. Rose (S.faults shelf.old name) (S.faults shelf.new name)) (S.content shelf.old) (asked_of command.entry)) result }
     ensures write { result ≡ Status.WriteFault → Rose (W.faults out.old) (W.faults out.new) }
+    ensures fetched { HasFetched (files_of (asked_of command.entry)) result (S.log shelf.old) (S.log shelf.new) }
+    ensures pieces { HasWritten (ArePieces (Some (asked_of command.entry))) result (W.log out.old) (W.log out.new) }
     ensures sound { IsTrue (is_past_typing result) → IfSome (typed_content (S.content shelf.old) (asked_of command.entry)) IsAccepted }
 {
     match command {
@@ -162,6 +169,12 @@ fn obey<S: Shelf, W: Sink>(
 /// them; so the text is the answer by the very bytes whose program is accepted. Only a file that is named twice has to
 /// be told, since its two readings may differ.
 ///
+/// `fetched`: the files that the words name are fetched in their order, each once, and none after one that gave no bytes; a
+/// read fault is told exactly where the last fetch failed.
+///
+/// `pieces`: a run and a meaning are written a line a piece, and each other text is one piece; after a write that failed
+/// nothing is written.
+///
 /// `bounded`: the number of different sequences that an audit, a cut or a made audit prints is at most the bound that it
 /// prints, and so is the number of different lists of releases.
 pub fn mitigate_main<S: Shelf, W: Sink>(
@@ -182,6 +195,8 @@ pub fn mitigate_main<S: Shelf, W: Sink>(
         → NoneRises (λ name. Rose (S.faults shelf.old name) (S.faults shelf.new name)) a → (Rose (W.faults out.old) (W.faults out.new) → ⊥)
         → (result ≡ Status.Done) ⊎ (result ≡ Status.Memory)) }
     ensures write { result ≡ Status.WriteFault → Rose (W.faults out.old) (W.faults out.new) }
+    ensures fetched { HasFetched (named_by (command_of (map string_bytes words.now))) result (S.log shelf.old) (S.log shelf.new) }
+    ensures pieces { HasWritten (ArePieces (command_of (map string_bytes words.now))) result (W.log out.old) (W.log out.new) }
     ensures one { IfSome (command_of (map string_bytes words.now)) (λ a.
         EndsByOne (S.content shelf.old) (λ name. Rose (S.faults shelf.old name) (S.faults shelf.new name)) (Rose (W.faults out.old) (W.faults out.new))
         (W.taken out.old) (W.taken out.new) a result) }

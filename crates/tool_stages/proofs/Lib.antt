@@ -13,3 +13,4 @@ pub mod OneLemmas
 pub mod OneFirst
 pub mod AgreeLemmas
 pub mod ChainLemmas
+pub mod FetchLemmas

@@ -4,3 +4,4 @@ pub mod Envs
 pub mod Begins
 pub mod Accepted
 pub mod Goes
+pub mod Fetches

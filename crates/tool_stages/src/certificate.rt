@@ -1,16 +1,18 @@
 //! From a certificate's file to the labelling that it holds.
 
-ghost use Rattle.std.specs.Prelude.{◌≡◌, ◌≤◌, ℕ, List, Option, length, IfOk, IfErr};
+ghost use Rattle.std.specs.Prelude.{◌≡◌, ◌≤◌, ◌∷◌, [], ℕ, List, Option, length, IfOk, IfErr};
 ghost use Rattle.tim_base.specs.Faults.{Rose};
 ghost use Rattle.tim_base.specs.Told.{limit, IsTold};
 ghost use Rattle.mit_syntax.specs.Program.{Syntax};
 ghost use Rattle.type_cert.specs.Fault.{IsCertFault};
 ghost use Rattle.tool_texts.specs.Ends.{IsStop};
+ghost use Rattle.tool_stages.specs.Fetches.{Fetches};
 ghost use Rattle.tool_stages.specs.Stages.{Rechecks, CertificateStops};
 
+use crate::file::bytes_of;
 use mit_syntax::program::Program;
 use std::alloc::Global;
-use tim_base::shelf::{FetchFault, Shelf};
+use tim_base::shelf::Shelf;
 use timing_types::typed::Typed;
 use tool_texts::lines;
 use tool_texts::status::Status;
@@ -61,23 +63,16 @@ pub fn rechecked_by<S: Shelf>(
 ) -> Result<Typed, Stop>
     ensures same { (name : List ℕ) → S.content shelf.new name ≡ S.content shelf.old name }
     ensures later { (name : List ℕ) → S.faults shelf.old name ≤ S.faults shelf.new name }
+    ensures log { Fetches (file.now ∷ []) (S.log shelf.old) (S.log shelf.new) result }
     ensures ok { IfOk result (λ q. Rechecks (S.content shelf.old file.now) p q.labelled) }
     ensures stop { IfErr result (IsStop (CertificateStops (Rose (S.faults shelf.old file.now) (S.faults shelf.new file.now)) (S.content shelf.old file.now) p)) }
 {
-    let mut bytes = Vec::new(alloc);
-    match shelf.fetch(alloc, file, &mut bytes) {
-        Ok(()) => match rechecked(alloc, p, &bytes) {
-            Ok(typed) => Ok(typed),
-            Err(stop) => Err(stop),
-        },
-        Err(FetchFault::Failed) => Err(Stop::With {
-            status: Status::ReadFault,
-            line: lines::read_fault(b"certificate"),
-        }),
-        Err(FetchFault::TooLong) => Err(Stop::With {
-            status: Status::TooLong,
-            line: lines::too_long(b"certificate"),
-        }),
-        Err(FetchFault::Memory) => Err(no_memory()),
+    let bytes = match bytes_of(alloc, shelf, file, b"certificate") {
+        Ok(bytes) => bytes,
+        Err(stop) => return Err(stop),
+    };
+    match rechecked(alloc, p, &bytes) {
+        Ok(typed) => Ok(typed),
+        Err(stop) => Err(stop),
     }
 }

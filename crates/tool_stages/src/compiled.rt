@@ -1,8 +1,9 @@
 //! From a file to an image.
 
-ghost use Rattle.std.specs.Prelude.{◌≡◌, ◌≤◌, ℕ, List, IfOk, IfErr, OnOk, option_map};
+ghost use Rattle.std.specs.Prelude.{◌≡◌, ◌≤◌, ◌∷◌, [], ℕ, List, IfOk, IfErr, OnOk, option_map};
 ghost use Rattle.tim_base.specs.Faults.{Rose};
 ghost use Rattle.tool_texts.specs.Ends.{IsStop};
+ghost use Rattle.tool_stages.specs.Fetches.{Fetches};
 ghost use Rattle.tool_stages.specs.Begins.{IsCompiled, ProgramCompileStops, HasCompiled, CompileStops};
 ghost use Rattle.tool_stages.specs.Accepted.{IsAccepted, IsSound};
 
@@ -66,6 +67,7 @@ pub fn compile<S: Shelf>(
 ) -> Result<Compiled, Stop>
     ensures same { (name : List ℕ) → S.content shelf.new name ≡ S.content shelf.old name }
     ensures later { (name : List ℕ) → S.faults shelf.old name ≤ S.faults shelf.new name }
+    ensures log { Fetches (file.now ∷ []) (S.log shelf.old) (S.log shelf.new) result }
     ensures ok { IfOk result (λ r. HasCompiled (S.content shelf.old) file.now (option_map (λ s. s.now) name.entry) r.typed.labelled r.observer r.image) }
     ensures stop { IfErr result (IsStop (CompileStops (λ name. Rose (S.faults shelf.old name) (S.faults shelf.new name)) (S.content shelf.old) file.now (option_map (λ s. s.now) name.entry))) }
     ensures sound { OnOk result (IsAccepted (S.content shelf.old file.now)) }

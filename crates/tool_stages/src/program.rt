@@ -1,14 +1,16 @@
 //! From a file to a program.
 
-ghost use Rattle.std.specs.Prelude.{◌≡◌, ◌≤◌, ℕ, List, Option, length, IfOk, IfErr};
+ghost use Rattle.std.specs.Prelude.{◌≡◌, ◌≤◌, ◌∷◌, [], ℕ, List, Option, length, IfOk, IfErr};
 ghost use Rattle.tim_base.specs.Faults.{Rose};
 ghost use Rattle.tim_base.specs.Told.{limit, IsTold};
 ghost use Rattle.mit_syntax.specs.Cut.{AreTokens, IsFault};
 ghost use Rattle.mit_parser.specs.Words.{told};
 ghost use Rattle.mit_parser.specs.Spells.{Refuses};
 ghost use Rattle.tool_texts.specs.Ends.{IsStop};
+ghost use Rattle.tool_stages.specs.Fetches.{Fetches};
 ghost use Rattle.tool_stages.specs.Stages.{Reads, ProgramStops};
 
+use crate::file::bytes_of;
 use mit_parser::fault::ParseFault;
 use mit_parser::parse::parse;
 use mit_syntax::fault::TextFault;
@@ -16,7 +18,7 @@ use mit_syntax::program::Program;
 use mit_syntax::token::Token;
 use mit_syntax::tokens::tokens;
 use std::alloc::Global;
-use tim_base::shelf::{FetchFault, Shelf};
+use tim_base::shelf::Shelf;
 use tool_texts::lines;
 use tool_texts::status::Status;
 use tool_texts::stop::{Stop, no_memory};
@@ -76,23 +78,16 @@ pub fn program_of(alloc: Global, text: &[u8]) -> Result<Program, Stop>
 pub fn read_program<S: Shelf>(alloc: Global, shelf: &mut S, file: &str) -> Result<Program, Stop>
     ensures same { (name : List ℕ) → S.content shelf.new name ≡ S.content shelf.old name }
     ensures later { (name : List ℕ) → S.faults shelf.old name ≤ S.faults shelf.new name }
+    ensures log { Fetches (file.now ∷ []) (S.log shelf.old) (S.log shelf.new) result }
     ensures ok { IfOk result (Reads (S.content shelf.old file.now)) }
     ensures stop { IfErr result (IsStop (ProgramStops (Rose (S.faults shelf.old file.now) (S.faults shelf.new file.now)) (S.content shelf.old file.now))) }
 {
-    let mut bytes = Vec::new(alloc);
-    match shelf.fetch(alloc, file, &mut bytes) {
-        Ok(()) => match program_of(alloc, &bytes) {
-            Ok(program) => Ok(program),
-            Err(stop) => Err(stop),
-        },
-        Err(FetchFault::Failed) => Err(Stop::With {
-            status: Status::ReadFault,
-            line: lines::read_fault(b"program"),
-        }),
-        Err(FetchFault::TooLong) => Err(Stop::With {
-            status: Status::TooLong,
-            line: lines::too_long(b"program"),
-        }),
-        Err(FetchFault::Memory) => Err(no_memory()),
+    let bytes = match bytes_of(alloc, shelf, file, b"program") {
+        Ok(bytes) => bytes,
+        Err(stop) => return Err(stop),
+    };
+    match program_of(alloc, &bytes) {
+        Ok(program) => Ok(program),
+        Err(stop) => Err(stop),
     }
 }

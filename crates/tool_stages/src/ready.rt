@@ -1,18 +1,20 @@
 //! From a file of ready cycles to its runs.
 
-ghost use Rattle.std.specs.Prelude.{◌≡◌, ◌≢◌, ◌≤◌, ℕ, List, Option, Some, length, IfOk, IfErr, vec_len};
+ghost use Rattle.std.specs.Prelude.{◌≡◌, ◌≢◌, ◌≤◌, ◌∷◌, [], ℕ, List, Option, Some, length, IfOk, IfErr, vec_len};
 ghost use Rattle.tim_base.specs.Faults.{Rose};
 ghost use Rattle.tim_base.specs.Told.{limit, IsTold};
 ghost use Rattle.black_box.specs.declared.fault.ReadyFault.TheVariants as ready;
 ghost use Rattle.black_box.specs.Files.{lists, refusal};
 ghost use Rattle.tool_texts.specs.Ends.{IsStop};
+ghost use Rattle.tool_stages.specs.Fetches.{Fetches};
 ghost use Rattle.tool_stages.specs.Stages.{HoldsRuns, ReadyStops};
 
+use crate::file::bytes_of;
 use black_box::fault::ReadyFault;
 use black_box::ready::read_ready;
 use run_limits::MAX_RUNS;
 use std::alloc::Global;
-use tim_base::shelf::{FetchFault, Shelf};
+use tim_base::shelf::Shelf;
 use tool_texts::lines;
 use tool_texts::status::Status;
 use tool_texts::stop::{Stop, no_memory};
@@ -37,24 +39,17 @@ fn ready_stop(fault: ReadyFault) -> Stop
 pub fn ready_runs<S: Shelf>(alloc: Global, shelf: &mut S, file: &str) -> Result<Vec<Vec<u64>>, Stop>
     ensures same { (name : List ℕ) → S.content shelf.new name ≡ S.content shelf.old name }
     ensures later { (name : List ℕ) → S.faults shelf.old name ≤ S.faults shelf.new name }
+    ensures log { Fetches (file.now ∷ []) (S.log shelf.old) (S.log shelf.new) result }
     ensures ok { IfOk result (λ v. HoldsRuns (S.content shelf.old file.now) (lists v)) }
     ensures few { IfOk result (λ v. vec_len v ≤ MAX_RUNS) }
     ensures stop { IfErr result (IsStop (ReadyStops (Rose (S.faults shelf.old file.now) (S.faults shelf.new file.now)) (S.content shelf.old file.now))) }
 {
-    let mut bytes = Vec::new(alloc);
-    match shelf.fetch(alloc, file, &mut bytes) {
-        Ok(()) => match read_ready(alloc, &bytes) {
-            Ok(runs) => Ok(runs),
-            Err(fault) => Err(ready_stop(fault)),
-        },
-        Err(FetchFault::Failed) => Err(Stop::With {
-            status: Status::ReadFault,
-            line: lines::read_fault(b"ready"),
-        }),
-        Err(FetchFault::TooLong) => Err(Stop::With {
-            status: Status::TooLong,
-            line: lines::too_long(b"ready"),
-        }),
-        Err(FetchFault::Memory) => Err(no_memory()),
+    let bytes = match bytes_of(alloc, shelf, file, b"ready") {
+        Ok(bytes) => bytes,
+        Err(stop) => return Err(stop),
+    };
+    match read_ready(alloc, &bytes) {
+        Ok(runs) => Ok(runs),
+        Err(fault) => Err(ready_stop(fault)),
     }
 }

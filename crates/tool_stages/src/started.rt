@@ -1,9 +1,10 @@
 //! What runs begin with: a program and its first start.
 
-ghost use Rattle.std.specs.Prelude.{◌≡◌, ◌≤◌, ℕ, List, IfOk, IfErr, OnOk, option_map};
+ghost use Rattle.std.specs.Prelude.{◌≡◌, ◌≤◌, ◌∷◌, ℕ, List, IfOk, IfErr, OnOk, option_map};
 ghost use Rattle.tim_base.specs.Faults.{Rose};
 ghost use Rattle.start_file.specs.Starts.{seen, IsFor};
 ghost use Rattle.tool_texts.specs.Ends.{IsStop};
+ghost use Rattle.tool_stages.specs.Fetches.{Fetches, named};
 ghost use Rattle.tool_stages.specs.Begins.{IsReady, RunStops, HasSource, MeaningStops};
 ghost use Rattle.tool_stages.specs.Accepted.{IsAccepted};
 
@@ -29,6 +30,7 @@ pub fn ready<S: Shelf>(
 ) -> Result<(Compiled, Start), Stop>
     ensures same { (name : List ℕ) → S.content shelf.new name ≡ S.content shelf.old name }
     ensures later { (name : List ℕ) → S.faults shelf.old name ≤ S.faults shelf.new name }
+    ensures log { Fetches (file.now ∷ named (option_map (λ s. s.now) starts.entry)) (S.log shelf.old) (S.log shelf.new) result }
     ensures ok { IfOk result (λ r. IsReady (S.content shelf.old) file.now (option_map (λ s. s.now) starts.entry) (option_map (λ s. s.now) name.entry) r.0.typed.labelled r.0.observer r.0.image (seen r.1)) }
     ensures valid { IfOk result (λ r. IsFor r.0.typed.labelled.program (seen r.1)) }
     ensures stop { IfErr result (IsStop (RunStops (λ name. Rose (S.faults shelf.old name) (S.faults shelf.new name)) (S.content shelf.old) file.now (option_map (λ s. s.now) starts.entry) (option_map (λ s. s.now) name.entry))) }
@@ -56,6 +58,7 @@ pub fn source<S: Shelf>(
 ) -> Result<(Program, Start), Stop>
     ensures same { (name : List ℕ) → S.content shelf.new name ≡ S.content shelf.old name }
     ensures later { (name : List ℕ) → S.faults shelf.old name ≤ S.faults shelf.new name }
+    ensures log { Fetches (file.now ∷ named (option_map (λ s. s.now) starts.entry)) (S.log shelf.old) (S.log shelf.new) result }
     ensures ok { IfOk result (λ r. HasSource (S.content shelf.old) file.now (option_map (λ s. s.now) starts.entry) r.0 (seen r.1)) }
     ensures valid { IfOk result (λ r. IsFor r.0 (seen r.1)) }
     ensures stop { IfErr result (IsStop (MeaningStops (λ name. Rose (S.faults shelf.old name) (S.faults shelf.new name)) (S.content shelf.old) file.now (option_map (λ s. s.now) starts.entry))) }

@@ -1,20 +1,22 @@
 //! From a start file to starts.
 
-ghost use Rattle.std.specs.Prelude.{◌≡◌, ◌≢◌, ◌≤◌, ℕ, List, Option, Err, All, IfOk, IfErr, length, map, option_map};
+ghost use Rattle.std.specs.Prelude.{◌≡◌, ◌≢◌, ◌≤◌, ◌∷◌, [], ℕ, List, Option, Err, All, IfOk, IfErr, length, map, option_map};
 ghost use Rattle.tim_base.specs.Faults.{Rose};
 ghost use Rattle.tim_base.specs.Told.{limit, IsTold};
 ghost use Rattle.mit_syntax.specs.Program.{Syntax};
 ghost use Rattle.start_file.specs.declared.fault.StartFault.TheVariants as start;
 ghost use Rattle.start_file.specs.Starts.{seen, Gives, IsFor};
 ghost use Rattle.tool_texts.specs.Ends.{IsStop};
+ghost use Rattle.tool_stages.specs.Fetches.{Fetches, named};
 ghost use Rattle.tool_stages.specs.Stages.{zero_start, StartsAre, StartStops, FirstStart, FirstStops};
 
+use crate::file::bytes_of;
 use mit_syntax::program::Program;
 use start_file::fault::StartFault;
 use start_file::start::Start;
 use start_file::starts::read_starts;
 use std::alloc::{AllocError, Global};
-use tim_base::shelf::{FetchFault, Shelf};
+use tim_base::shelf::Shelf;
 use tool_texts::lines;
 use tool_texts::status::Status;
 use tool_texts::stop::{Stop, no_memory};
@@ -60,25 +62,18 @@ pub fn all_starts<S: Shelf>(
 ) -> Result<Vec<Start>, Stop>
     ensures same { (name : List ℕ) → S.content shelf.new name ≡ S.content shelf.old name }
     ensures later { (name : List ℕ) → S.faults shelf.old name ≤ S.faults shelf.new name }
+    ensures log { Fetches (file.now ∷ []) (S.log shelf.old) (S.log shelf.new) result }
     ensures ok { IfOk result (λ ss. StartsAre (S.content shelf.old file.now) p.now (map seen ss.items)) }
     ensures valid { IfOk result (λ ss. All (IsFor p.now) (map seen ss.items)) }
     ensures stop { IfErr result (IsStop (StartStops (Rose (S.faults shelf.old file.now) (S.faults shelf.new file.now)) (S.content shelf.old file.now) p.now)) }
 {
-    let mut bytes = Vec::new(alloc);
-    match shelf.fetch(alloc, file, &mut bytes) {
-        Ok(()) => match starts_of(alloc, &bytes, p) {
-            Ok(starts) => Ok(starts),
-            Err(stop) => Err(stop),
-        },
-        Err(FetchFault::Failed) => Err(Stop::With {
-            status: Status::ReadFault,
-            line: lines::read_fault(b"starts"),
-        }),
-        Err(FetchFault::TooLong) => Err(Stop::With {
-            status: Status::TooLong,
-            line: lines::too_long(b"starts"),
-        }),
-        Err(FetchFault::Memory) => Err(no_memory()),
+    let bytes = match bytes_of(alloc, shelf, file, b"starts") {
+        Ok(bytes) => bytes,
+        Err(stop) => return Err(stop),
+    };
+    match starts_of(alloc, &bytes, p) {
+        Ok(starts) => Ok(starts),
+        Err(stop) => Err(stop),
     }
 }
 
@@ -106,6 +101,7 @@ pub fn first_start<S: Shelf>(
 ) -> Result<Start, Stop>
     ensures same { (name : List ℕ) → S.content shelf.new name ≡ S.content shelf.old name }
     ensures later { (name : List ℕ) → S.faults shelf.old name ≤ S.faults shelf.new name }
+    ensures log { Fetches (named (option_map (λ f. f.now) file.entry)) (S.log shelf.old) (S.log shelf.new) result }
     ensures ok { IfOk result (λ s. FirstStart (S.content shelf.old) (option_map (λ f. f.now) file.entry) p.now (seen s)) }
     ensures valid { IfOk result (λ s. IsFor p.now (seen s)) }
     ensures stop { IfErr result (IsStop (FirstStops (λ name. Rose (S.faults shelf.old name) (S.faults shelf.new name)) (S.content shelf.old) (option_map (λ f. f.now) file.entry) p.now)) }

@@ -1,8 +1,9 @@
 //! The end of a call: a text is written, and gives a status.
 
-ghost use Rattle.std.specs.Prelude.{◌≡◌, ◌≢◌, ◌≤◌, codes};
+ghost use Rattle.std.specs.Prelude.{◌≡◌, ◌≢◌, ◌≤◌, ◌∷◌, [], codes};
 ghost use Rattle.std.specs.Io.KnownBytes.{Appends};
 ghost use Rattle.tim_base.specs.Faults.{Rose};
+ghost use Rattle.tim_base.specs.Logs.{HasSent, HasBroken};
 ghost use Rattle.tim_base.specs.Sinks.{AppendsPrefix};
 ghost use Rattle.tool_texts.specs.Texts.{usage_text};
 ghost use Rattle.tool_texts.specs.Ends.{status_of, stop_text, told_status, told_text};
@@ -34,6 +35,8 @@ pub fn finish<W: Sink>(out: &mut W, text: &[u8], status: Status) -> Status
     requires { status ≢ Status.WriteFault }
     ensures told { result ≢ Status.WriteFault → (result ≡ status) × Appends (W.taken out.old) (W.taken out.new) text.now }
     ensures prefix { result ≡ Status.WriteFault → AppendsPrefix (W.taken out.old) (W.taken out.new) text.now }
+    ensures sent { result ≢ Status.WriteFault → HasSent (W.log out.old) (W.log out.new) (text.now ∷ []) }
+    ensures broken { result ≡ Status.WriteFault → HasBroken (W.log out.old) (W.log out.new) (text.now ∷ []) }
     ensures fault { result ≡ Status.WriteFault → Rose (W.faults out.old) (W.faults out.new) }
     ensures later { W.faults out.old ≤ W.faults out.new }
 {
@@ -48,6 +51,8 @@ pub fn stop<W: Sink>(out: &mut W, stop: Stop) -> Status
     requires { status_of stop ≢ Status.WriteFault }
     ensures told { result ≢ Status.WriteFault → (result ≡ status_of stop) × Appends (W.taken out.old) (W.taken out.new) (stop_text stop) }
     ensures prefix { result ≡ Status.WriteFault → AppendsPrefix (W.taken out.old) (W.taken out.new) (stop_text stop) }
+    ensures sent { result ≢ Status.WriteFault → HasSent (W.log out.old) (W.log out.new) (stop_text stop ∷ []) }
+    ensures broken { result ≡ Status.WriteFault → HasBroken (W.log out.old) (W.log out.new) (stop_text stop ∷ []) }
     ensures fault { result ≡ Status.WriteFault → Rose (W.faults out.old) (W.faults out.new) }
     ensures later { W.faults out.old ≤ W.faults out.new }
 {
@@ -63,6 +68,8 @@ pub fn tell<W: Sink>(out: &mut W, made: Result<Vec<u8>, Stop>) -> Status
     requires { told_status made ≢ Status.WriteFault }
     ensures told { result ≢ Status.WriteFault → (result ≡ told_status made) × Appends (W.taken out.old) (W.taken out.new) (told_text made) }
     ensures prefix { result ≡ Status.WriteFault → AppendsPrefix (W.taken out.old) (W.taken out.new) (told_text made) }
+    ensures sent { result ≢ Status.WriteFault → HasSent (W.log out.old) (W.log out.new) (told_text made ∷ []) }
+    ensures broken { result ≡ Status.WriteFault → HasBroken (W.log out.old) (W.log out.new) (told_text made ∷ []) }
     ensures fault { result ≡ Status.WriteFault → Rose (W.faults out.old) (W.faults out.new) }
     ensures later { W.faults out.old ≤ W.faults out.new }
 {

@@ -16,8 +16,8 @@ use mit_parser::fault::ParseFault;
 use mit_syntax::fault::TextFault;
 use mit_syntax::token::Token;
 use start_file::fault::StartFault;
-use tim_base::line::Line;
 use text_base::pos::Pos;
+use tim_base::line::Line;
 use timing_types::rule::Rule;
 
 // Appends bytes.

@@ -1,6 +1,6 @@
 //! `audit`: how many different sequences an observer can tell apart, and the bound of that.
 
-ghost use Rattle.std.specs.Prelude.{◌≡◌, ◌≤◌, ℕ, List, Some, IfOk, IfErr, OnOk, IsTrue, map};
+ghost use Rattle.std.specs.Prelude.{◌≡◌, ◌≤◌, ℕ, List, Some, IfOk, IfErr, OnOk, IsTrue, map, ◌∷◌, []};
 ghost use Rattle.tim_base.specs.Faults.{Rose};
 ghost use Rattle.label_lattice.specs.declared.label.Label.{Label};
 ghost use Rattle.timing_types.specs.Labelled.{LabelledProgram};
@@ -9,6 +9,7 @@ ghost use Rattle.tool_words.specs.WordsAsked.{IsCycles, audit};
 ghost use Rattle.tool_texts.specs.Ends.{IsStop, status_of};
 ghost use Rattle.tool_stages.specs.Begins.{CanAudit};
 ghost use Rattle.tool_stages.specs.Accepted.{is_past_typing, IsAccepted};
+ghost use Rattle.tool_stages.specs.Fetches.{Fetches};
 ghost use Rattle.mit_tool.specs.Audited.{HasAudited};
 ghost use Rattle.mit_tool.specs.Answers.{IsAnswer};
 
@@ -63,6 +64,7 @@ pub fn audit_text<S: Shelf>(
     requires { IsCycles setting.budget }
     ensures same { (name : List ℕ) → S.content shelf.new name ≡ S.content shelf.old name }
     ensures later { (name : List ℕ) → S.faults shelf.old name ≤ S.faults shelf.new name }
+    ensures log { Fetches (file.now ∷ starts.now ∷ []) (S.log shelf.old) (S.log shelf.new) result }
     ensures text { IfOk result (λ v. IsAnswer (λ name. Rose (S.faults shelf.old name) (S.faults shelf.new name)) (S.content shelf.old) (audit file.now starts.now name.now setting.env setting.budget) Status.Done v.items) }
     ensures stop { IfErr result (IsStop (IsAnswer (λ name. Rose (S.faults shelf.old name) (S.faults shelf.new name)) (S.content shelf.old) (audit file.now starts.now name.now setting.env setting.budget))) }
     ensures sound { OnOk result (IsAccepted (S.content shelf.old file.now)) }

@@ -1,10 +1,11 @@
 //! `blackbox`: the releases of a black box for the runs of a file.
 
-ghost use Rattle.std.specs.Prelude.{◌≡◌, ◌≤◌, ℕ, List, IfOk, IfErr, length};
+ghost use Rattle.std.specs.Prelude.{◌≡◌, ◌≤◌, ℕ, List, IfOk, IfErr, length, ◌∷◌, []};
 ghost use Rattle.tim_base.specs.Faults.{Rose};
 ghost use Rattle.black_box.specs.Files.{ready_lists};
 ghost use Rattle.tool_words.specs.WordsAsked.{IsCycles, blackbox};
 ghost use Rattle.tool_texts.specs.Ends.{IsStop};
+ghost use Rattle.tool_stages.specs.Fetches.{Fetches};
 ghost use Rattle.mit_tool.specs.Audited.{HasReleased};
 ghost use Rattle.mit_tool.specs.Answers.{IsAnswer};
 
@@ -49,6 +50,7 @@ pub fn blackbox_text<S: Shelf>(
     requires budget { IsCycles budget }
     ensures same { (name : List ℕ) → S.content shelf.new name ≡ S.content shelf.old name }
     ensures later { (name : List ℕ) → S.faults shelf.old name ≤ S.faults shelf.new name }
+    ensures log { Fetches (file.now ∷ []) (S.log shelf.old) (S.log shelf.new) result }
     ensures text { IfOk result (λ v. IsAnswer (λ name. Rose (S.faults shelf.old name) (S.faults shelf.new name)) (S.content shelf.old) (blackbox file.now first budget) Status.Done v.items) }
     ensures stop { IfErr result (IsStop (IsAnswer (λ name. Rose (S.faults shelf.old name) (S.faults shelf.new name)) (S.content shelf.old) (blackbox file.now first budget))) }
 {

@@ -1,11 +1,12 @@
 //! `check`: whether a program is accepted.
 
-ghost use Rattle.std.specs.Prelude.{◌≡◌, ◌≤◌, ℕ, List, IfOk, IfErr, OnOk};
+ghost use Rattle.std.specs.Prelude.{◌≡◌, ◌≤◌, ℕ, List, IfOk, IfErr, OnOk, ◌∷◌, []};
 ghost use Rattle.tim_base.specs.Faults.{Rose};
 ghost use Rattle.tool_words.specs.WordsAsked.{check};
 ghost use Rattle.tool_texts.specs.Ends.{IsStop};
 ghost use Rattle.tool_stages.specs.Begins.{CheckStops};
 ghost use Rattle.tool_stages.specs.Accepted.{IsAccepted};
+ghost use Rattle.tool_stages.specs.Fetches.{Fetches};
 ghost use Rattle.mit_tool.specs.Answers.{IsAnswer};
 
 use std::alloc::Global;
@@ -25,6 +26,7 @@ use tool_texts::stop::Stop;
 pub fn check_line<S: Shelf>(alloc: Global, shelf: &mut S, file: &str) -> Result<Line, Stop>
     ensures same { (name : List ℕ) → S.content shelf.new name ≡ S.content shelf.old name }
     ensures later { (name : List ℕ) → S.faults shelf.old name ≤ S.faults shelf.new name }
+    ensures log { Fetches (file.now ∷ []) (S.log shelf.old) (S.log shelf.new) result }
     ensures line { IfOk result (IsAnswer (λ name. Rose (S.faults shelf.old name) (S.faults shelf.new name)) (S.content shelf.old) (check file.now) Status.Done) }
     ensures stop { IfErr result (IsStop (CheckStops (λ name. Rose (S.faults shelf.old name) (S.faults shelf.new name)) (S.content shelf.old) file.now)) }
     ensures sound { OnOk result (IsAccepted (S.content shelf.old file.now)) }

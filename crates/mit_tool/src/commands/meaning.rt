@@ -1,9 +1,11 @@
 //! `meaning`: a program runs without its time, and its assignments are written while it runs.
 
-ghost use Rattle.std.specs.Prelude.{◌≡◌, ◌≤◌, ℕ, List, option_map};
+ghost use Rattle.std.specs.Prelude.{◌≡◌, ◌≤◌, ◌∷◌, ℕ, List, option_map};
 ghost use Rattle.tim_base.specs.Faults.{Rose};
 ghost use Rattle.tool_words.specs.WordsAsked.{meaning};
 ghost use Rattle.tool_texts.specs.Ends.{EndsBy};
+ghost use Rattle.tool_stages.specs.Fetches.{named};
+ghost use Rattle.mit_tool.specs.Logged.{HasFetched, HasWritten, AreLines, IsMeaningLine};
 ghost use Rattle.mit_tool.specs.Answers.{IsAnswer, Before};
 
 mod walk;
@@ -31,6 +33,8 @@ pub fn meaning<S: Shelf, W: Sink>(
     ensures answered { EndsBy (W.taken out.old) (W.taken out.new) (Before (S.content shelf.old) (meaning file.now (option_map (λ s. s.now) starts.entry) steps))
         (IsAnswer (λ name. Rose (S.faults shelf.old name) (S.faults shelf.new name)) (S.content shelf.old) (meaning file.now (option_map (λ s. s.now) starts.entry) steps)) result }
     ensures write { result ≡ Status.WriteFault → Rose (W.faults out.old) (W.faults out.new) }
+    ensures fetched { HasFetched (file.now ∷ named (option_map (λ s. s.now) starts.entry)) result (S.log shelf.old) (S.log shelf.new) }
+    ensures pieces { HasWritten (AreLines IsMeaningLine) result (W.log out.old) (W.log out.new) }
 {
     let (program, start) = match source(alloc, shelf, file, starts) {
         Ok(source) => source,

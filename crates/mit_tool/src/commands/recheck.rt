@@ -1,9 +1,10 @@
 //! `recheck`: whether a certificate is one of a program.
 
-ghost use Rattle.std.specs.Prelude.{◌≡◌, ◌≤◌, ℕ, List, IfOk, IfErr};
+ghost use Rattle.std.specs.Prelude.{◌≡◌, ◌≤◌, ℕ, List, IfOk, IfErr, ◌∷◌, []};
 ghost use Rattle.tim_base.specs.Faults.{Rose};
 ghost use Rattle.tool_words.specs.WordsAsked.{recheck};
 ghost use Rattle.tool_texts.specs.Ends.{IsStop};
+ghost use Rattle.tool_stages.specs.Fetches.{Fetches};
 ghost use Rattle.mit_tool.specs.Answers.{IsAnswer};
 
 use std::alloc::Global;
@@ -27,6 +28,7 @@ pub fn recheck_line<S: Shelf>(
 ) -> Result<Line, Stop>
     ensures same { (name : List ℕ) → S.content shelf.new name ≡ S.content shelf.old name }
     ensures later { (name : List ℕ) → S.faults shelf.old name ≤ S.faults shelf.new name }
+    ensures log { Fetches (file.now ∷ certificate.now ∷ []) (S.log shelf.old) (S.log shelf.new) result }
     ensures line { IfOk result (IsAnswer (λ name. Rose (S.faults shelf.old name) (S.faults shelf.new name)) (S.content shelf.old) (recheck file.now certificate.now) Status.Done) }
     ensures stop { IfErr result (IsStop (IsAnswer (λ name. Rose (S.faults shelf.old name) (S.faults shelf.new name)) (S.content shelf.old) (recheck file.now certificate.now))) }
 {

@@ -1,6 +1,6 @@
 //! `run`: a program runs on the machine that counts cycles, and its assignments are written while it runs.
 
-ghost use Rattle.std.specs.Prelude.{◌≡◌, ◌≤◌, ◌<◌, ℕ, List, IfSome, option_map, IsTrue};
+ghost use Rattle.std.specs.Prelude.{◌≡◌, ◌≢◌, ◌≤◌, ◌<◌, ◌∷◌, ℕ, List, IfSome, option_map, IsTrue};
 ghost use Rattle.tim_base.specs.Faults.{Rose};
 ghost use Rattle.label_code.specs.Run.{run_from};
 ghost use Rattle.start_file.specs.Starts.{seen, IsFor};
@@ -9,12 +9,14 @@ ghost use Rattle.tool_words.specs.WordsAsked.{run};
 ghost use Rattle.tool_texts.specs.Ends.{EndsBy, Nothing};
 ghost use Rattle.tool_stages.specs.Stages.{HasImage};
 ghost use Rattle.tool_stages.specs.Accepted.{is_past_typing, IsAccepted};
+ghost use Rattle.tool_stages.specs.Fetches.{named};
+ghost use Rattle.mit_tool.specs.Logged.{HasFetched, HasWritten, AreLines, IsRunLine};
 ghost use Rattle.mit_tool.specs.Answers.{IsAnswer, HasTold, HasRun};
 
+use cycle_machine::end::RunEnd;
 use cycle_machine::machine::Machine;
 use env_contract::env::MachineEnv;
 use env_contract::make::{MakeEnv, MakeFlat};
-use cycle_machine::end::RunEnd;
 use event_print::print::print_run;
 use history_reports::laws::reports_are_the_same;
 use part_tlb::part::MakePart;
@@ -47,6 +49,8 @@ fn run_in<E: MachineEnv + Drop, M: MakeEnv<E>, W: Sink>(
         (record { memory = start.memory.items; env = M.made program.now.typed.labelled.program.order start.touches.items })))) result }
     ensures later { W.faults out.old ≤ W.faults out.new }
     ensures fault { result ≡ Status.WriteFault → Rose (W.faults out.old) (W.faults out.new) }
+    ensures pieces { HasWritten (AreLines IsRunLine) result (W.log out.old) (W.log out.new) }
+    ensures unread { result ≢ Status.ReadFault }
 {
     let Compiled {
         typed,
@@ -81,6 +85,8 @@ fn run_named<W: Sink>(
     ensures ended { EndsBy (W.taken out.old) (W.taken out.new) Nothing (HasRun setting.env setting.budget program.now.typed.labelled program.now.observer program.now.image (seen start)) result }
     ensures later { W.faults out.old ≤ W.faults out.new }
     ensures fault { result ≡ Status.WriteFault → Rose (W.faults out.old) (W.faults out.new) }
+    ensures pieces { HasWritten (AreLines IsRunLine) result (W.log out.old) (W.log out.new) }
+    ensures unread { result ≢ Status.ReadFault }
 {
     let budget = setting.budget;
     program.image.laws();
@@ -108,6 +114,8 @@ pub fn run<S: Shelf, W: Sink>(
     ensures answered { EndsBy (W.taken out.old) (W.taken out.new) Nothing (IsAnswer (λ name. Rose (S.faults shelf.old name) (S.faults shelf.new name)) (S.content shelf.old)
         (run file.now (option_map (λ s. s.now) starts.entry) setting.env setting.budget (option_map (λ s. s.now) name.entry))) result }
     ensures write { result ≡ Status.WriteFault → Rose (W.faults out.old) (W.faults out.new) }
+    ensures fetched { HasFetched (file.now ∷ named (option_map (λ s. s.now) starts.entry)) result (S.log shelf.old) (S.log shelf.new) }
+    ensures pieces { HasWritten (AreLines IsRunLine) result (W.log out.old) (W.log out.new) }
     ensures sound { IsTrue (is_past_typing result) → IsAccepted (S.content shelf.old file.now) }
 {
     match ready(alloc, shelf, file, starts, name) {

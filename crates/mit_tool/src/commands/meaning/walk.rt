@@ -6,7 +6,9 @@ ghost use Rattle.tim_base.specs.Faults.{Rose};
 ghost use Rattle.tim_base.specs.Sinks.{AppendsPrefix};
 ghost use Rattle.mit_syntax.specs.Declarations.{variables};
 ghost use Rattle.mit_syntax.specs.Program.{plan_of};
-ghost use Rattle.mit_tool.specs.Means.{IsLastLine, lines_after, text_of_walk, IsWalkBelow, WritesSome, BreaksOff};
+ghost use Rattle.tim_base.specs.Logs.{HasSent, HasBroken};
+ghost use Rattle.mit_tool.specs.Logged.{IsMeaningLine, SentLines, BrokenLines};
+ghost use Rattle.mit_tool.specs.Means.{IsLastLine, lines_after, text_of_walk, pieces_of_walk, IsWalkBelow, WritesSome, BreaksOff};
 
 use mit_syntax::program::Program;
 use source_meaning::walk::Walk;
@@ -30,6 +32,8 @@ fn print_step<W: Sink>(p: &Program, walk: Walk, out: &mut W) -> Result<(), SinkF
     requires { IsWalkBelow (variables p.now.declarations) walk }
     ensures text { OnOk result (Appends (W.taken out.old) (W.taken out.new) (text_of_walk p.now.declarations walk)) }
     ensures prefix { OnErr result (AppendsPrefix (W.taken out.old) (W.taken out.new) (text_of_walk p.now.declarations walk)) }
+    ensures sent { OnOk result (HasSent (W.log out.old) (W.log out.new) (pieces_of_walk p.now.declarations walk)) }
+    ensures broken { OnErr result (HasBroken (W.log out.old) (W.log out.new) (pieces_of_walk p.now.declarations walk)) }
     ensures later { W.faults out.old ≤ W.faults out.new }
     ensures fault { OnErr result (Rose (W.faults out.old) (W.faults out.new)) }
 {
@@ -57,6 +61,10 @@ pub fn walk<W: Sink>(
     ensures some { IsErrOf result WalkFault.Memory → WritesSome (W.taken out.old) (W.taken out.new) p.now memory.now steps }
     ensures prefix { IsErrOf result WalkFault.Sink → BreaksOff (W.taken out.old) (W.taken out.new) p.now memory.now steps }
     ensures fault { IsErrOf result WalkFault.Sink → Rose (W.faults out.old) (W.faults out.new) }
+    ensures sent { OnOk result (SentLines (W.log out.old) (W.log out.new)) }
+    ensures sent_some { IsErrOf result WalkFault.Memory → SentLines (W.log out.old) (W.log out.new) }
+    ensures broken { IsErrOf result WalkFault.Sink → BrokenLines (W.log out.old) (W.log out.new) }
+    ensures last_line { IfOk result IsMeaningLine }
     ensures later { W.faults out.old ≤ W.faults out.new }
 {
     let _ = p.variables();

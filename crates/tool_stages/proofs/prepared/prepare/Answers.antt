@@ -4,6 +4,8 @@ use Rattle.tim_base.specs.Faults.{Rose}
 use Rattle.start_file.specs.Starts.{seen}
 use Rattle.tool_stages.proofs.PrepareLemmas.{names_some, compile_stops_audit, starts_stop_audit, prepared_of, audit_fits}
 use Rattle.tool_stages.proofs.StopLemmas.{rose_since}
+use Rattle.tool_stages.proofs.FetchLemmas.{fetch_then}
+use Rattle.std.specs.Prelude.{[], ◌∷◌, Ok, Err, Vec}
 use Rattle.tool_stages.proofs.prepared.prepare.Goals as goal
 
 pub returns-in-Err-clause-stop : goal.returns-in-Err-clause-stop
@@ -48,3 +50,13 @@ returns-in-Ok-all_starts-clause-same g c = λ name. c.all_starts.ensures.same na
 
 pub returns-in-Ok-all_starts-clause-later : goal.returns-in-Ok-all_starts-clause-later
 returns-in-Ok-all_starts-clause-later g c = λ name. omega (arith, c.compile.ensures.later name, c.all_starts.ensures.later name)
+
+pub returns-in-Ok-all_starts-clause-log : goal.returns-in-Ok-all_starts-clause-log
+returns-in-Ok-all_starts-clause-log g c =
+    fetch_then (c.args.file.now ∷ []) (c.args.starts.now ∷ []) (g.S.Shelf.log c.args.shelf.now) (g.S.Shelf.log c.compile.new.shelf) (g.S.Shelf.log c.all_starts.new.shelf)
+    c.in-Ok.compiled (Ok c.in-Ok-all_starts.starts) c.in-Ok.ensures.log c.in-Ok-all_starts.ensures.log
+
+pub returns-in-Err-all_starts-clause-log : goal.returns-in-Err-all_starts-clause-log
+returns-in-Err-all_starts-clause-log g c =
+    fetch_then {B = Unit {0}} (c.args.file.now ∷ []) (c.args.starts.now ∷ []) (g.S.Shelf.log c.args.shelf.now) (g.S.Shelf.log c.compile.new.shelf) (g.S.Shelf.log c.all_starts.new.shelf)
+    c.in-Ok.compiled (Err c.in-Err-all_starts.stop) c.in-Ok.ensures.log c.in-Err-all_starts.ensures.log

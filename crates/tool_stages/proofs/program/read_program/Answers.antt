@@ -1,5 +1,10 @@
 use Rattle.std.proofs.Common.{sym, subst}
 use Rattle.tim_base.specs.Told.{IsTold}
+use Rattle.tool_stages.proofs.FetchLemmas.{file_stops}
+use Rattle.tool_texts.specs.Texts.{program}
+use Rattle.tim_base.specs.Faults.{Rose}
+use Rattle.std.proofs.Common.{refl}
+use Rattle.tool_stages.specs.Stages.{ProgramStops}
 use Rattle.tool_stages.proofs.program.read_program.Goals as goal
 
 pub returns-in-Ok-program_of-clause-ok : goal.returns-in-Ok-program_of-clause-ok
@@ -7,3 +12,9 @@ returns-in-Ok-program_of-clause-ok g c =
     let content = g.S.Shelf.content c.args.shelf.now c.args.file.now in
     let read = subst (IsTold content) (sym c.deref.ensures.value) c.in-Ok.ensures.ok in
     c.in-Ok-program_of.ensures.ok content read
+
+pub returns-in-Err-clause-stop : goal.returns-in-Err-clause-stop
+returns-in-Err-clause-stop g c =
+    let rises = Rose (g.S.Shelf.faults c.args.shelf.now c.args.file.now) (g.S.Shelf.faults c.bytes_of.new.shelf c.args.file.now) in
+    let content = g.S.Shelf.content c.args.shelf.now c.args.file.now in
+    file_stops rises content program (ProgramStops rises content) c.in-Err.stop (λ t h. h) (λ t h. h) (c.in-Err.ensures.stop program refl)

@@ -4,6 +4,10 @@ use Rattle.tim_base.specs.Faults.{Rose}
 use Rattle.start_file.specs.Starts.{seen}
 use Rattle.tool_stages.proofs.GoesLemmas.{first_at}
 use Rattle.tool_stages.proofs.StopLemmas.{compile_stops, later_first_stops, rose_since}
+use Rattle.tool_stages.proofs.FetchLemmas.{fetch_then, fetch_stop}
+use Rattle.std.specs.Prelude.{[], ◌∷◌, Ok, Err}
+use Rattle.start_file.specs.declared.start.Start.{Start}
+use Rattle.tool_stages.specs.Fetches.{named}
 use Rattle.tool_stages.proofs.started.ready.Goals as goal
 
 pub returns-in-Err-clause-stop : goal.returns-in-Err-clause-stop
@@ -30,3 +34,17 @@ returns-in-Ok-first_start-clause-ok g c = record {
   first = first_at (g.S.Shelf.content c.compile.new.shelf) (g.S.Shelf.content c.args.shelf.now) (option_map (λ s. s.now) c.args.starts) c.program.result.now c.in-Ok.compiled.typed.labelled.program (seen c.in-Ok-first_start.start)
       c.compile.ensures.same (c.program.ensures.program ∙ ap (λ l. l.program) c.labelled.ensures.labelled) c.in-Ok-first_start.ensures.ok;
 }
+
+pub returns-in-Ok-first_start-clause-log : goal.returns-in-Ok-first_start-clause-log
+returns-in-Ok-first_start-clause-log g c =
+    fetch_then (c.args.file.now ∷ []) (named (option_map (λ s. s.now) c.args.starts)) (g.S.Shelf.log c.args.shelf.now) (g.S.Shelf.log c.compile.new.shelf) (g.S.Shelf.log c.first_start.new.shelf)
+    c.in-Ok.compiled (Ok c.in-Ok-first_start.start) c.in-Ok.ensures.log c.in-Ok-first_start.ensures.log
+
+pub returns-in-Err-first_start-clause-log : goal.returns-in-Err-first_start-clause-log
+returns-in-Err-first_start-clause-log g c =
+    fetch_then {B = Start} (c.args.file.now ∷ []) (named (option_map (λ s. s.now) c.args.starts)) (g.S.Shelf.log c.args.shelf.now) (g.S.Shelf.log c.compile.new.shelf) (g.S.Shelf.log c.first_start.new.shelf)
+    c.in-Ok.compiled (Err c.in-Err-first_start.stop) c.in-Ok.ensures.log c.in-Err-first_start.ensures.log
+
+pub returns-in-Err-clause-log : goal.returns-in-Err-clause-log
+returns-in-Err-clause-log g c =
+    fetch_stop Start Start (c.args.file.now ∷ []) (named (option_map (λ s. s.now) c.args.starts)) (g.S.Shelf.log c.args.shelf.now) (g.S.Shelf.log c.compile.new.shelf) c.in-Err.stop c.in-Err.ensures.log

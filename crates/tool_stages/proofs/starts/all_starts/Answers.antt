@@ -1,10 +1,15 @@
 use Rattle.std.proofs.Common.{sym, subst}
 use Rattle.tim_base.specs.Told.{IsTold}
 use Rattle.tool_stages.proofs.StartLemmas.{start_stops}
+use Rattle.std.proofs.Common.{refl}
+use Rattle.tim_base.specs.Faults.{Rose}
+use Rattle.tool_texts.specs.Texts.{starts}
+use Rattle.tool_stages.specs.Stages.{StartStops}
+use Rattle.tool_stages.proofs.FetchLemmas.{file_stops}
 use Rattle.tool_stages.proofs.starts.all_starts.Goals as goal
 
-pub returns-in-Ok-clause-stop : goal.returns-in-Ok-clause-stop
-returns-in-Ok-clause-stop g c =
+pub returns-in-Err-clause-stop : goal.returns-in-Err-clause-stop
+returns-in-Err-clause-stop g c =
+    let rises = Rose (g.S.Shelf.faults c.args.shelf.now c.args.file.now) (g.S.Shelf.faults c.bytes_of.new.shelf c.args.file.now) in
     let content = g.S.Shelf.content c.args.shelf.now c.args.file.now in
-    let read = subst (IsTold content) (sym c.deref.ensures.value) c.in-Ok.ensures.ok in
-    start_stops _ content c.args.p.now c.in-Err.stop (c.in-Err.ensures.stop content read)
+    file_stops rises content starts (StartStops rises content c.args.p.now) c.in-Err.stop (λ t h. h) (λ t h. h) (c.in-Err.ensures.stop starts refl)

@@ -15,3 +15,6 @@ pub returns-in-Ok-all_starts-clause-valid : goal.returns-in-Ok-all_starts-clause
 returns-in-Ok-all_starts-clause-valid g c =
     let some = some_given (g.S.Shelf.content c.args.shelf.now c.in-Some.file.now) c.args.p.now c.in-Ok-all_starts.starts.items c.in-Ok-all_starts.ensures.ok in
     first_fits c.args.p.now c.in-Ok-all_starts.starts.items c.swap_remove.result c.in-Ok-all_starts.ensures.valid some c.swap_remove.ensures.value
+
+pub returns-in-Err-all_starts-clause-log : goal.returns-in-Err-all_starts-clause-log
+returns-in-Err-all_starts-clause-log g c = rw c.in-Some.is c.in-Err-all_starts.ensures.log

@@ -1,0 +1,69 @@
+-- Which files a call fetches, and in which pieces it writes its text.
+use Rattle.std.specs.Prelude.{◌≡◌, ◌≢◌, ◌⊎◌, ◌++◌, ℕ, ℤ, Bool, true, List, [], ◌∷◌, All, Option, Some, None}
+use Rattle.tim_base.specs.Logs.{Fetched, Offered, Grows, HasSent, HasBroken}
+use Rattle.label_lattice.specs.Names.{IsName}
+use Rattle.mit_syntax.specs.Declarations.{Declaration}
+use Rattle.cycle_machine.specs.declared.end.RunEnd.{RunEnd}
+use Rattle.event_print.specs.Text.{event_line, last_line}
+use Rattle.tool_words.specs.WordsAsked.{Asked, run, meaning}
+use Rattle.tool_texts.specs.declared.status.Status.{Status}
+use Rattle.tool_texts.specs.declared.status.Status.TheVariants as status
+use Rattle.tool_texts.specs.Texts.{value_line, ended_line, not_ended_line}
+use Rattle.mit_tool.specs.Complete.{files_of}
+use Rattle.tool_stages.specs.Fetches.{AreBegun}
+
+-- Some of these files were fetched, from the first one on, each once, and nothing after one that gave no bytes. A read
+-- fault is told exactly where the last fetch failed, unless the line for it could not be written.
+pub record HasFetched (names : List (List ℕ)) (s : Status) (old new : Option (List Fetched)) : Type 0 where
+  pub log : List Fetched
+  pub failed : Bool
+  pub grows : Grows old new log
+  pub begun : AreBegun names failed log
+  pub fault : s ≡ status.ReadFault → failed ≡ true
+  pub told : failed ≡ true → (s ≡ status.ReadFault) ⊎ (s ≡ status.WriteFault)
+
+-- a line of a run's text
+abbrev pub IsRunLine : List ℕ → Type 0
+IsRunLine piece =
+    ((ds : List Declaration) × All (λ d. IsName d.0) ds × (x : ℕ) × (n : ℤ) × (c : ℕ) × (piece ≡ event_line ds x n c))
+    ⊎ ((end : RunEnd) × (piece ≡ last_line end))
+
+-- a line of a meaning's text
+abbrev pub IsMeaningLine : List ℕ → Type 0
+IsMeaningLine piece =
+    ((ds : List Declaration) × All (λ d. IsName d.0) ds × (x : ℕ) × (n : ℤ) × (piece ≡ value_line ds x n))
+    ⊎ ((k : ℕ) × ((piece ≡ ended_line k) ⊎ (piece ≡ not_ended_line k)))
+
+-- Each piece is a line, but for the last one where the text of a stop is written.
+pub record AreLines (IsLine : List ℕ → Type 0) (s : Status) (pieces : List (List ℕ)) : Type 0 where
+  pub lines : List (List ℕ)
+  pub last : List ℕ
+  pub are : pieces ≡ lines ++ last ∷ []
+  pub each : All IsLine lines
+  pub whole : (s ≡ status.Done) ⊎ (s ≡ status.Budget) → IsLine last
+
+-- A run and a meaning are written a line a piece, and each other text is one piece.
+abbrev pub ArePieces : Option Asked → Status → List (List ℕ) → Type 0
+ArePieces (Some (run file starts env budget observer)) s pieces = AreLines IsRunLine s pieces
+ArePieces (Some (meaning file starts steps)) s pieces = AreLines IsMeaningLine s pieces
+ArePieces _ s pieces = (text : List ℕ) × (pieces ≡ text ∷ [])
+
+-- The pieces are written one after the other; after a write that failed there is none.
+pub record HasWritten (Pieces : Status → List (List ℕ) → Type 0) (s : Status) (old new : Option (List Offered)) : Type 0 where
+  pub would : Status
+  pub pieces : List (List ℕ)
+  pub are : Pieces would pieces
+  pub sent : s ≢ status.WriteFault → (s ≡ would) × HasSent old new pieces
+  pub broken : s ≡ status.WriteFault → HasBroken old new pieces
+
+-- the files that words name
+abbrev pub named_by : Option Asked → List (List ℕ)
+named_by None = []
+named_by (Some a) = files_of a
+
+-- lines of a meaning were written, or a write failed in one of them
+abbrev pub SentLines : Option (List Offered) → Option (List Offered) → Type 0
+SentLines old new = (pieces : List (List ℕ)) × All IsMeaningLine pieces × HasSent old new pieces
+
+abbrev pub BrokenLines : Option (List Offered) → Option (List Offered) → Type 0
+BrokenLines old new = (pieces : List (List ℕ)) × All IsMeaningLine pieces × HasBroken old new pieces
