@@ -48,8 +48,8 @@ fn differs<E: MachineEnv>(
     requires one { E.serves lattice.now one.now }
     requires other { E.serves lattice.now other.now }
     requires label { label.number < lattice.now.size }
-    ensures yes { result ≡ true → Flows (lattice_of lattice.now) label.number observer.number × (E.part place label.number one.now ≢ E.part place label.number other.now) }
-    ensures no { result ≡ false → Flows (lattice_of lattice.now) label.number observer.number → E.part place label.number one.now ≡ E.part place label.number other.now }
+    ensures yes { result ≡ true → Flows (lattice_of lattice.now) label.number observer.number × (E.env.part place label.number one.now ≢ E.env.part place label.number other.now) }
+    ensures no { result ≡ false → Flows (lattice_of lattice.now) label.number observer.number → E.env.part place label.number one.now ≡ E.env.part place label.number other.now }
 {
     if !lattice.flows(label, observer) {
         return false;
@@ -68,10 +68,10 @@ fn first_label<E: MachineEnv>(
     requires one { E.serves lattice.now one.now }
     requires other { E.serves lattice.now other.now }
     ensures { MatchOption result
-        ((l : ℕ) → l < lattice.now.size → Flows (lattice_of lattice.now) l observer.number → E.part place l one.now ≡ E.part place l other.now)
+        ((l : ℕ) → l < lattice.now.size → Flows (lattice_of lattice.now) l observer.number → E.env.part place l one.now ≡ E.env.part place l other.now)
         (λ l. Flows (lattice_of lattice.now) l.number observer.number
-        × (E.part place l.number one.now ≢ E.part place l.number other.now)
-        × ((k : ℕ) → k < l.number → Flows (lattice_of lattice.now) k observer.number → E.part place k one.now ≡ E.part place k other.now)) }
+        × (E.env.part place l.number one.now ≢ E.env.part place l.number other.now)
+        × ((k : ℕ) → k < l.number → Flows (lattice_of lattice.now) k observer.number → E.env.part place k one.now ≡ E.env.part place k other.now)) }
 {
     for number in 0..lattice.size() {
         let label = Label::new(number as u8);
@@ -99,8 +99,8 @@ pub fn first_difference<E: MachineEnv>(
     requires one_serves { E.serves p.now.program.order one_env.now }
     requires other_serves { E.serves p.now.program.order other_env.now }
     ensures { MatchOption result
-        (AgreeFor (record { cost_of = E.cost_of; next_of = E.next_of; part = E.part }) E.serves p.now observer.number (record { memory = one.now; env = one_env.now }) (record { memory = other.now; env = other_env.now }))
-        (λ w. IsFirstDifference (record { cost_of = E.cost_of; next_of = E.next_of; part = E.part }) p.now observer.number (record { memory = one.now; env = one_env.now }) (record { memory = other.now; env = other_env.now }) w) }
+        (AgreeFor E.env E.serves p.now observer.number (record { memory = one.now; env = one_env.now }) (record { memory = other.now; env = other_env.now }))
+        (λ w. IsFirstDifference E.env p.now observer.number (record { memory = one.now; env = one_env.now }) (record { memory = other.now; env = other_env.now }) w) }
 {
     if let Some(x) = first_variable(p, observer, one, other) {
         return Some(What::Variable(x));

@@ -146,7 +146,7 @@ pub fn observe<E: MachineEnv + Drop>(
     requires start { m.old.state.clock ≡ 0 }
     requires limit { limit ≤ 2 ^ 40 }
     requires shown { TellsSeen p.now observer.now.label.number observer.now.shown.now }
-    ensures { IfOk result (IsObserved p.now observer.now.label.number observer.now.relevant.now observer.now.room limit (rest_of (record { cost_of = E.cost_of; next_of = E.next_of; part = E.part }) limit m.old)) }
+    ensures { IfOk result (IsObserved p.now observer.now.label.number observer.now.relevant.now observer.now.room limit (rest_of E.env limit m.old)) }
 {
     let mut tally = Tally::new(alloc);
     'run: loop {

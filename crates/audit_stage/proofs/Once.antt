@@ -20,7 +20,8 @@ use Rattle.tool_texts.specs.declared.status.Status.{Status}
 use Rattle.tool_texts.specs.declared.status.Status.TheVariants as status
 use Rattle.tool_texts.specs.Texts.{number_line}
 use Rattle.tool_texts.specs.Reports.{head_lines, tail_lines, audit_lines, disagree_line, unfinished_line, events_line}
-use Rattle.tool_stages.specs.Envs.{flat_env, flat_made, ReportsIn, AuditFaultsIn}
+use Rattle.tool_stages.specs.Envs.{flat_made, ReportsIn, AuditFaultsIn}
+use Rattle.env_contract.specs.Flat.{flat_env}
 use Rattle.tool_stages.specs.Goes.{CanBeAudited}
 use Rattle.tool_stages.proofs.OneLemmas.{Same}
 use Rattle.tool_stages.proofs.AgreeLemmas.{all_halt}

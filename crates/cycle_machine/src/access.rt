@@ -13,8 +13,8 @@ use label_lattice::label::Label;
 pub fn fetch<E: MachineEnv>(env: &mut E, place: u32, er: Label, ew: Label) -> u64
     requires place { place < 200000 }
     requires served { IsServed E.serves env.old er ew }
-    ensures cost { result ≡ E.cost_of Kind.Code (4 * place) er.number ew.number env.old }
-    ensures next { env.new ≡ E.next_of Kind.Code (4 * place) er.number ew.number env.old }
+    ensures cost { result ≡ E.env.cost_of Kind.Code (4 * place) er.number ew.number env.old }
+    ensures next { env.new ≡ E.env.next_of Kind.Code (4 * place) er.number ew.number env.old }
     ensures small { result ≤ 1000 }
     ensures serves { (order : Order) → E.serves order env.old → E.serves order env.new }
     ensures served { IsServed E.serves env.new er ew }
@@ -27,8 +27,8 @@ pub fn fetch<E: MachineEnv>(env: &mut E, place: u32, er: Label, ew: Label) -> u6
 pub fn touch<E: MachineEnv>(env: &mut E, variable: u32, er: Label, ew: Label) -> u64
     requires few { variable < 4096 }
     requires served { IsServed E.serves env.old er ew }
-    ensures cost { result ≡ E.cost_of Kind.Data (2 ^ 20 + 8 * variable) er.number ew.number env.old }
-    ensures next { env.new ≡ E.next_of Kind.Data (2 ^ 20 + 8 * variable) er.number ew.number env.old }
+    ensures cost { result ≡ E.env.cost_of Kind.Data (2 ^ 20 + 8 * variable) er.number ew.number env.old }
+    ensures next { env.new ≡ E.env.next_of Kind.Data (2 ^ 20 + 8 * variable) er.number ew.number env.old }
     ensures small { result ≤ 1000 }
     ensures serves { (order : Order) → E.serves order env.old → E.serves order env.new }
 {

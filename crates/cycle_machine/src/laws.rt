@@ -7,22 +7,22 @@ use env_contract::env::MachineEnv;
 /// A law: where turns have come from a start to a state, the next turn goes on from there, and adds to the log the
 /// assignments that it passed, and its event.
 pub fn turns_go_on<E: MachineEnv>()
-    ensures { TurnsGoOn (record { cost_of = E.cost_of; next_of = E.next_of; part = E.part }) }
+    ensures { TurnsGoOn E.env }
 {}
 
 /// A law: where turns have come from a start to a state, quiet steps go on from there, and add to the log the
 /// assignments that they passed.
 pub fn quiet_goes_on<E: MachineEnv>()
-    ensures { QuietGoesOn (record { cost_of = E.cost_of; next_of = E.next_of; part = E.part }) }
+    ensures { QuietGoesOn E.env }
 {}
 
 /// A law: where turns have come to a state whose next step ends after the limit, the run to the limit is there,
 /// with their events in its log.
 pub fn limit_is_run<E: MachineEnv>()
-    ensures { LimitIsRun (record { cost_of = E.cost_of; next_of = E.next_of; part = E.part }) }
+    ensures { LimitIsRun E.env }
 {}
 
 /// A law: where turns have come to HALT, the run to the limit has halted there, with their events in its log.
 pub fn halt_is_run<E: MachineEnv>()
-    ensures { HaltIsRun (record { cost_of = E.cost_of; next_of = E.next_of; part = E.part }) }
+    ensures { HaltIsRun E.env }
 {}

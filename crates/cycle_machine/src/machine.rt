@@ -80,7 +80,7 @@ impl<'a, E: MachineEnv + Drop> Machine<'a, E> {
     /// later call gives the same answer, whatever its limit. Takes no memory, and at most as many steps as the
     /// limit has cycles.
     pub fn next(&mut self, limit: u64) -> Turn
-        ensures { CallWent (record { cost_of = E.cost_of; next_of = E.next_of; part = E.part }) [] limit self.old result self.new }
+        ensures { CallWent E.env [] limit self.old result self.new }
     {
         self.next_shown(limit, &[])
     }
@@ -88,7 +88,7 @@ impl<'a, E: MachineEnv + Drop> Machine<'a, E> {
     /// The same, but goes past each assignment to a variable of which the list says, by its number, that its
     /// assignments are not shown.
     pub fn next_shown(&mut self, limit: u64, shown: &[bool]) -> Turn
-        ensures { CallWent (record { cost_of = E.cost_of; next_of = E.next_of; part = E.part }) shown.now limit self.old result self.new }
+        ensures { CallWent E.env shown.now limit self.old result self.new }
     {
         if let Some(turn) = self.stopped {
             return turn;

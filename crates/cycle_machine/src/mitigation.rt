@@ -18,7 +18,7 @@ impl<E: MachineEnv> State<E> {
         requires depth { 0 < vec_len self.old.operands }
         requires room { vec_len self.old.opened < vec_capacity self.old.opened }
         requires known { level.number < 32 }
-        ensures took { Took (record { cost_of = E.cost_of; next_of = E.next_of; part = E.part }) self.old (record { work = Work.Mitb level mark; er = er; ew = ew }) limit result self.new }
+        ensures took { Took E.env self.old (record { work = Work.Mitb level mark; er = er; ew = ew }) limit result self.new }
         ensures keeps { Keeps E.serves self.old self.new }
     {
         let fetched = fetch(&mut self.env, self.place, er, ew);
@@ -48,7 +48,7 @@ impl<E: MachineEnv> State<E> {
         requires place { self.old.place < 200000 }
         requires served { IsServed E.serves self.old.env er ew }
         requires open { 0 < vec_len self.old.opened }
-        ensures took { Took (record { cost_of = E.cost_of; next_of = E.next_of; part = E.part }) self.old (record { work = Work.Mite; er = er; ew = ew }) limit result self.new }
+        ensures took { Took E.env self.old (record { work = Work.Mite; er = er; ew = ew }) limit result self.new }
         ensures keeps { Keeps E.serves self.old self.new }
     {
         let fetched = fetch(&mut self.env, self.place, er, ew);

@@ -14,7 +14,7 @@ impl<E: MachineEnv> State<E> {
     pub fn obey(&mut self, i: Instr, limit: u64) -> Outcome
         requires fits { Fits i self.old }
         requires served { IsServed E.serves self.old.env i.er i.ew }
-        ensures took { Took (record { cost_of = E.cost_of; next_of = E.next_of; part = E.part }) self.old i limit result self.new }
+        ensures took { Took E.env self.old i limit result self.new }
         ensures keeps { Keeps E.serves self.old self.new }
     {
         match i.work {

@@ -19,7 +19,7 @@ impl<E: MachineEnv> State<E> {
         requires place { self.old.place < 200000 }
         requires served { IsServed E.serves self.old.env er ew }
         requires room { vec_len self.old.operands < vec_capacity self.old.operands }
-        ensures took { Took (record { cost_of = E.cost_of; next_of = E.next_of; part = E.part }) self.old (record { work = Work.Push n; er = er; ew = ew }) limit result self.new }
+        ensures took { Took E.env self.old (record { work = Work.Push n; er = er; ew = ew }) limit result self.new }
         ensures keeps { Keeps E.serves self.old self.new }
     {
         let fetched = fetch(&mut self.env, self.place, er, ew);
@@ -43,7 +43,7 @@ impl<E: MachineEnv> State<E> {
         requires room { vec_len self.old.operands < vec_capacity self.old.operands }
         requires range { x < vec_len self.old.memory }
         requires few { x < 4096 }
-        ensures took { Took (record { cost_of = E.cost_of; next_of = E.next_of; part = E.part }) self.old (record { work = Work.Load x; er = er; ew = ew }) limit result self.new }
+        ensures took { Took E.env self.old (record { work = Work.Load x; er = er; ew = ew }) limit result self.new }
         ensures keeps { Keeps E.serves self.old self.new }
     {
         let fetched = fetch(&mut self.env, self.place, er, ew);
@@ -68,7 +68,7 @@ impl<E: MachineEnv> State<E> {
         requires depth { 0 < vec_len self.old.operands }
         requires range { x < vec_len self.old.memory }
         requires few { x < 4096 }
-        ensures took { Took (record { cost_of = E.cost_of; next_of = E.next_of; part = E.part }) self.old (record { work = Work.Store x; er = er; ew = ew }) limit result self.new }
+        ensures took { Took E.env self.old (record { work = Work.Store x; er = er; ew = ew }) limit result self.new }
         ensures keeps { Keeps E.serves self.old self.new }
     {
         let fetched = fetch(&mut self.env, self.place, er, ew);
@@ -94,7 +94,7 @@ impl<E: MachineEnv> State<E> {
         requires some { 0 < length }
         requires range { first + length ≤ vec_len self.old.memory }
         requires few { first + length ≤ 4096 }
-        ensures took { Took (record { cost_of = E.cost_of; next_of = E.next_of; part = E.part }) self.old (record { work = Work.LoadAt first length; er = er; ew = ew }) limit result self.new }
+        ensures took { Took E.env self.old (record { work = Work.LoadAt first length; er = er; ew = ew }) limit result self.new }
         ensures keeps { Keeps E.serves self.old self.new }
     {
         let fetched = fetch(&mut self.env, self.place, er, ew);
@@ -125,7 +125,7 @@ impl<E: MachineEnv> State<E> {
         requires some { 0 < length }
         requires range { first + length ≤ vec_len self.old.memory }
         requires few { first + length ≤ 4096 }
-        ensures took { Took (record { cost_of = E.cost_of; next_of = E.next_of; part = E.part }) self.old (record { work = Work.StoreAt first length; er = er; ew = ew }) limit result self.new }
+        ensures took { Took E.env self.old (record { work = Work.StoreAt first length; er = er; ew = ew }) limit result self.new }
         ensures keeps { Keeps E.serves self.old self.new }
     {
         let fetched = fetch(&mut self.env, self.place, er, ew);
@@ -152,7 +152,7 @@ impl<E: MachineEnv> State<E> {
         requires place { self.old.place < 200000 }
         requires served { IsServed E.serves self.old.env er ew }
         requires depth { 1 < vec_len self.old.operands }
-        ensures took { Took (record { cost_of = E.cost_of; next_of = E.next_of; part = E.part }) self.old (record { work = Work.Apply op; er = er; ew = ew }) limit result self.new }
+        ensures took { Took E.env self.old (record { work = Work.Apply op; er = er; ew = ew }) limit result self.new }
         ensures keeps { Keeps E.serves self.old self.new }
     {
         let fetched = fetch(&mut self.env, self.place, er, ew);

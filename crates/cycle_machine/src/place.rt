@@ -25,7 +25,7 @@ impl<E: MachineEnv> State<E> {
         requires place { self.old.place < 200000 }
         requires served { IsServed E.serves self.old.env er ew }
         requires depth { 0 < vec_len self.old.operands }
-        ensures took { Took (record { cost_of = E.cost_of; next_of = E.next_of; part = E.part }) self.old (record { work = Work.Brz to; er = er; ew = ew }) limit result self.new }
+        ensures took { Took E.env self.old (record { work = Work.Brz to; er = er; ew = ew }) limit result self.new }
         ensures keeps { Keeps E.serves self.old self.new }
     {
         let fetched = fetch(&mut self.env, self.place, er, ew);
@@ -46,7 +46,7 @@ impl<E: MachineEnv> State<E> {
         requires place { self.old.place < 200000 }
         requires served { IsServed E.serves self.old.env er ew }
         requires depth { 0 < vec_len self.old.operands }
-        ensures took { Took (record { cost_of = E.cost_of; next_of = E.next_of; part = E.part }) self.old (record { work = Work.Brnz to; er = er; ew = ew }) limit result self.new }
+        ensures took { Took E.env self.old (record { work = Work.Brnz to; er = er; ew = ew }) limit result self.new }
         ensures keeps { Keeps E.serves self.old self.new }
     {
         let fetched = fetch(&mut self.env, self.place, er, ew);
@@ -66,7 +66,7 @@ impl<E: MachineEnv> State<E> {
     pub fn jump(&mut self, to: u32, er: Label, ew: Label, limit: u64) -> Outcome
         requires place { self.old.place < 200000 }
         requires served { IsServed E.serves self.old.env er ew }
-        ensures took { Took (record { cost_of = E.cost_of; next_of = E.next_of; part = E.part }) self.old (record { work = Work.Jmp to; er = er; ew = ew }) limit result self.new }
+        ensures took { Took E.env self.old (record { work = Work.Jmp to; er = er; ew = ew }) limit result self.new }
         ensures keeps { Keeps E.serves self.old self.new }
     {
         let fetched = fetch(&mut self.env, self.place, er, ew);
@@ -84,7 +84,7 @@ impl<E: MachineEnv> State<E> {
         requires place { self.old.place < 200000 }
         requires served { IsServed E.serves self.old.env er ew }
         requires depth { 0 < vec_len self.old.operands }
-        ensures took { Took (record { cost_of = E.cost_of; next_of = E.next_of; part = E.part }) self.old (record { work = Work.Sleep; er = er; ew = ew }) limit result self.new }
+        ensures took { Took E.env self.old (record { work = Work.Sleep; er = er; ew = ew }) limit result self.new }
         ensures keeps { Keeps E.serves self.old self.new }
     {
         let fetched = fetch(&mut self.env, self.place, er, ew);
@@ -105,7 +105,7 @@ impl<E: MachineEnv> State<E> {
     pub fn nop(&mut self, er: Label, ew: Label, limit: u64) -> Outcome
         requires place { self.old.place < 200000 }
         requires served { IsServed E.serves self.old.env er ew }
-        ensures took { Took (record { cost_of = E.cost_of; next_of = E.next_of; part = E.part }) self.old (record { work = Work.Nop; er = er; ew = ew }) limit result self.new }
+        ensures took { Took E.env self.old (record { work = Work.Nop; er = er; ew = ew }) limit result self.new }
         ensures keeps { Keeps E.serves self.old self.new }
     {
         let fetched = fetch(&mut self.env, self.place, er, ew);
@@ -122,7 +122,7 @@ impl<E: MachineEnv> State<E> {
     pub fn halt(&mut self, er: Label, ew: Label, limit: u64) -> Outcome
         requires place { self.old.place < 200000 }
         requires served { IsServed E.serves self.old.env er ew }
-        ensures took { Took (record { cost_of = E.cost_of; next_of = E.next_of; part = E.part }) self.old (record { work = Work.Halt; er = er; ew = ew }) limit result self.new }
+        ensures took { Took E.env self.old (record { work = Work.Halt; er = er; ew = ew }) limit result self.new }
         ensures keeps { Keeps E.serves self.old self.new }
     {
         let fetched = fetch(&mut self.env, self.place, er, ew);

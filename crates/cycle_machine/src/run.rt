@@ -27,7 +27,7 @@ impl<E: MachineEnv> State<E> {
 #[inline(always)]
 pub fn advance<E: MachineEnv>(image: &Image, state: &mut State<E>, limit: u64) -> Outcome
     requires { Stands E.serves image.now state.old }
-    ensures { Stepped (record { cost_of = E.cost_of; next_of = E.next_of; part = E.part }) E.serves image.now state.old limit result state.new }
+    ensures { Stepped E.env E.serves image.now state.old limit result state.new }
 {
     state.lengths();
     let i = image.at(state.place);
@@ -48,7 +48,7 @@ fn is_shown(shown: &[bool], variable: u32) -> bool
 /// Steps to the end of a turn, past assignments that are not shown.
 pub fn run<E: MachineEnv>(image: &Image, state: &mut State<E>, limit: u64, shown: &[bool]) -> Turn
     requires { Stands E.serves image.now state.old }
-    ensures turned { Turned (record { cost_of = E.cost_of; next_of = E.next_of; part = E.part }) image.now shown.now state.old limit result state.new }
+    ensures turned { Turned E.env image.now shown.now state.old limit result state.new }
     ensures stands { stops result ≡ None → Stands E.serves image.now state.new }
 {
     'run: loop {

@@ -1,3 +1,4 @@
 pub mod Env
 pub mod Laws
 pub mod Alike
+pub mod Flat

@@ -13,28 +13,21 @@ pub const MAX_PENALTY: u32 = 1000;
 
 /// What an access costs beyond its instruction, and what it changes.
 pub trait MachineEnv {
-    ghost use Rattle.env_contract.specs.declared.place.Kind.{Kind};
-    ghost use Rattle.env_contract.specs.declared.place.Place.{Place};
+    ghost use Rattle.env_contract.specs.Env.{Env};
 
     // The environment is made for the lattice.
     ghost serves: { Order → Self → Type 0 };
 
-    // What it holds at a place for a label.
-    ghost part: { Place → ℕ → Self → List ℕ };
-
-    // The penalty of an access: kind, byte address, read label, write label.
-    ghost cost_of: { Kind → ℕ → ℕ → ℕ → Self → ℕ };
-
-    // The state after an access.
-    ghost next_of: { Kind → ℕ → ℕ → ℕ → Self → Self };
+    // What an access costs and leaves, and what is held at a place for a label.
+    ghost env: { Env Self };
 
     /// Reads at a byte address under the labels `[er, ew]`, and answers the penalty in cycles, at most
     /// `MAX_PENALTY`. The state may change. Takes no memory.
     fn access(&mut self, kind: Kind, address: u32, er: Label, ew: Label) -> u32
         requires { (order : Order)
             × (serves order self.old × (er.number < order.size) × (ew.number < order.size)) }
-        ensures cost { result ≡ cost_of kind address er.number ew.number self.old }
-        ensures next { self.new ≡ next_of kind address er.number ew.number self.old }
+        ensures cost { result ≡ env.cost_of kind address er.number ew.number self.old }
+        ensures next { self.new ≡ env.next_of kind address er.number ew.number self.old }
         ensures small { result ≤ MAX_PENALTY }
         ensures serves { (order : Order) → serves order self.old → serves order self.new };
 
@@ -43,8 +36,8 @@ pub trait MachineEnv {
         requires { (order : Order)
             × (serves order self.now × serves order other.now × (label.number < order.size)) }
         ensures { IsTrue result
-            ↔ (part place label.number self.now ≡ part place label.number other.now) };
+            ↔ (env.part place label.number self.now ≡ env.part place label.number other.now) };
 
     ghost lawful: { (order : Order) → IsLattice (lattice_of order)
-        → IsLawful (record { cost_of = cost_of; next_of = next_of; part = part }) (lattice_of order) (serves order) };
+        → IsLawful env (lattice_of order) (serves order) };
 }

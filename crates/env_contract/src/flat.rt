@@ -21,15 +21,12 @@ impl FlatEnv {
 }
 
 impl MachineEnv for FlatEnv {
-    ghost use Rattle.std.specs.Prelude.{refl, []};
+    ghost use Rattle.std.specs.Prelude.{refl};
+    ghost use Rattle.env_contract.specs.Flat.{flat_env};
 
     ghost serves = { λ order e. Unit {0} };
 
-    ghost part = { λ place label e. [] };
-
-    ghost cost_of = { λ kind address er ew e. 0 };
-
-    ghost next_of = { λ kind address er ew e. e };
+    ghost env = { flat_env };
 
     ghost lawful = { λ order good. record {
       keeps = λ k a er ew e s. tt;

@@ -102,13 +102,13 @@ pub fn print_run<E: MachineEnv + Drop, W: Sink>(
 ) -> Result<RunEnd, SinkFault>
     requires variables { m.old.code.variables ≡ variables p.now.labelled.program.declarations }
     requires observer { IfSome observer (λ o. o.number < p.now.labelled.program.order.size) }
-    ensures end { IfOk result (λ end. end ≡ (rest_of (record { cost_of = E.cost_of; next_of = E.next_of; part = E.part }) limit m.old).end) }
-    ensures text { OnOk result (Appends (W.taken out.old) (W.taken out.new) (text_of p.now.labelled observer (rest_of (record { cost_of = E.cost_of; next_of = E.next_of; part = E.part }) limit m.old))) }
-    ensures prefix { OnErr result (AppendsPrefix (W.taken out.old) (W.taken out.new) (text_of p.now.labelled observer (rest_of (record { cost_of = E.cost_of; next_of = E.next_of; part = E.part }) limit m.old))) }
+    ensures end { IfOk result (λ end. end ≡ (rest_of E.env limit m.old).end) }
+    ensures text { OnOk result (Appends (W.taken out.old) (W.taken out.new) (text_of p.now.labelled observer (rest_of E.env limit m.old))) }
+    ensures prefix { OnErr result (AppendsPrefix (W.taken out.old) (W.taken out.new) (text_of p.now.labelled observer (rest_of E.env limit m.old))) }
     ensures later { W.faults out.old ≤ W.faults out.new }
     ensures fault { OnErr result (Rose (W.faults out.old) (W.faults out.new)) }
     ensures stopped { IfOk result (λ end. m.new.stopped ≡ Some (turn_of end)) }
-    ensures stands { StandsAfter (record { cost_of = E.cost_of; next_of = E.next_of; part = E.part }) limit m.old m.new }
+    ensures stands { StandsAfter E.env limit m.old m.new }
 {
     let labelled = p.labelled();
     m.laws();

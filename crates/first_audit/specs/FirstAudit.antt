@@ -12,7 +12,7 @@ use Rattle.leak_bound.specs.Relevant.{Begins}
 use Rattle.leak_bound.specs.Sound.{Agree, seen_from, Halts}
 use Rattle.part_tlb.specs.Histories.{part_by_history, part2_by_history}
 use Rattle.history_bound.specs.Over.{AnyHistory}
-use Rattle.tool_stages.specs.Envs.{flat_env}
+use Rattle.env_contract.specs.Flat.{flat_env}
 use Rattle.tool_stages.specs.Stages.{Reads, Types}
 
 -- the bytes of a program: a secret sleep under mitigation, and a public assignment after it

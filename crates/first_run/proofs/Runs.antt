@@ -15,7 +15,8 @@ use Rattle.cycle_machine.specs.Rest.{Told}
 use Rattle.cycle_machine.specs.Rest.{told_by}
 use Rattle.cycle_machine.proofs.Runs.{run_later, halted_stays}
 use Rattle.tool_words.specs.declared.words.EnvName.TheVariants.{Flat}
-use Rattle.tool_stages.specs.Envs.{flat_env, told_in}
+use Rattle.tool_stages.specs.Envs.{told_in}
+use Rattle.env_contract.specs.Flat.{flat_env}
 use Rattle.tool_stages.specs.Stages.{zero_start}
 use Rattle.first_run.specs.FirstRun.{first_answer}
 use Rattle.first_run.proofs.Program.{program}

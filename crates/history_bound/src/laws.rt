@@ -83,18 +83,10 @@ pub fn agreement_is_what_is_held()
 /// agree, whether they halt, what an observer sees, and how many relevant mitigates begin and end.
 pub fn rows_tell_as_histories()
     ensures one_level { TellsAs
-        (record {
-          cost_of = ⟦<PartEnv as MachineEnv>⟧.cost_of;
-          next_of = ⟦<PartEnv as MachineEnv>⟧.next_of;
-          part = ⟦<PartEnv as MachineEnv>⟧.part;
-        })
+        ⟦<PartEnv as MachineEnv>⟧.env
         ⟦<PartEnv as MachineEnv>⟧.serves part_by_history AnyHistory (Keeps part_structure) }
     ensures two_levels { TellsAs
-        (record {
-          cost_of = ⟦<Part2Env as MachineEnv>⟧.cost_of;
-          next_of = ⟦<Part2Env as MachineEnv>⟧.next_of;
-          part = ⟦<Part2Env as MachineEnv>⟧.part;
-        })
+        ⟦<Part2Env as MachineEnv>⟧.env
         ⟦<Part2Env as MachineEnv>⟧.serves part2_by_history AnyHistory (Keeps part2_structure) }
 {
     caches_do_as_histories();

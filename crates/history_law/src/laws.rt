@@ -15,18 +15,10 @@ use part_tlb::part2::{MakePart2, Part2Env};
 /// so far, with the same clock, memory, misses and log; and the caches stand for the list at the end.
 pub fn runs_do_as_histories()
     ensures one_level { RunsByHistory
-        (record {
-          cost_of = ⟦<PartEnv as MachineEnv>⟧.cost_of;
-          next_of = ⟦<PartEnv as MachineEnv>⟧.next_of;
-          part = ⟦<PartEnv as MachineEnv>⟧.part;
-        })
+        ⟦<PartEnv as MachineEnv>⟧.env
         part_structure ⟦<MakePart as MakeEnv<PartEnv>>⟧.made part_by_history }
     ensures two_levels { RunsByHistory
-        (record {
-          cost_of = ⟦<Part2Env as MachineEnv>⟧.cost_of;
-          next_of = ⟦<Part2Env as MachineEnv>⟧.next_of;
-          part = ⟦<Part2Env as MachineEnv>⟧.part;
-        })
+        ⟦<Part2Env as MachineEnv>⟧.env
         part2_structure ⟦<MakePart2 as MakeEnv<Part2Env>>⟧.made part2_by_history }
 {
     caches_do_as_histories();

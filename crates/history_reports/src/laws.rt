@@ -20,32 +20,16 @@ use part_tlb::part2::{MakePart2, Part2Env};
 /// that halt and of runs that may not have, are the same.
 pub fn reports_are_the_same()
     ensures runs { RunsTellAlike
-        (record {
-          cost_of = ⟦<PartEnv as MachineEnv>⟧.cost_of;
-          next_of = ⟦<PartEnv as MachineEnv>⟧.next_of;
-          part = ⟦<PartEnv as MachineEnv>⟧.part;
-        })
+        ⟦<PartEnv as MachineEnv>⟧.env
         ⟦<MakePart as MakeEnv<PartEnv>>⟧.made part_by_history history_made }
     ensures audits { AuditsTellAlike
-        (record {
-          cost_of = ⟦<PartEnv as MachineEnv>⟧.cost_of;
-          next_of = ⟦<PartEnv as MachineEnv>⟧.next_of;
-          part = ⟦<PartEnv as MachineEnv>⟧.part;
-        })
+        ⟦<PartEnv as MachineEnv>⟧.env
         ⟦<MakePart as MakeEnv<PartEnv>>⟧.made part_by_history history_made ⟦<PartEnv as MachineEnv>⟧.serves AnyHistory }
     ensures runs_in_two { RunsTellAlike
-        (record {
-          cost_of = ⟦<Part2Env as MachineEnv>⟧.cost_of;
-          next_of = ⟦<Part2Env as MachineEnv>⟧.next_of;
-          part = ⟦<Part2Env as MachineEnv>⟧.part;
-        })
+        ⟦<Part2Env as MachineEnv>⟧.env
         ⟦<MakePart2 as MakeEnv<Part2Env>>⟧.made part2_by_history history_made }
     ensures audits_in_two { AuditsTellAlike
-        (record {
-          cost_of = ⟦<Part2Env as MachineEnv>⟧.cost_of;
-          next_of = ⟦<Part2Env as MachineEnv>⟧.next_of;
-          part = ⟦<Part2Env as MachineEnv>⟧.part;
-        })
+        ⟦<Part2Env as MachineEnv>⟧.env
         ⟦<MakePart2 as MakeEnv<Part2Env>>⟧.made part2_by_history history_made ⟦<Part2Env as MachineEnv>⟧.serves AnyHistory }
 {
     caches_do_as_histories();

@@ -31,7 +31,8 @@ use Rattle.history_bound.specs.Over.{history_made}
 use Rattle.leak_audit.specs.declared.report.AuditReport.{AuditReport}
 use Rattle.tool_words.specs.declared.words.EnvName.{EnvName}
 use Rattle.tool_words.specs.declared.words.EnvName.TheVariants.{Flat, Part, Part2}
-use Rattle.tool_stages.specs.Envs.{flat_env, flat_made, ReportsIn}
+use Rattle.tool_stages.specs.Envs.{flat_made, ReportsIn}
+use Rattle.env_contract.specs.Flat.{flat_env}
 
 then_done : (p : Marked) → p ≡ then_todo p Done
 then_done Done = refl

@@ -41,7 +41,8 @@ use Rattle.leak_audit.specs.Report.{IsReport}
 use Rattle.level_counts.specs.Begun.{begins_next, PredictedIn, FirstBeginsEach, AreTold, memories_of}
 use Rattle.tool_words.specs.declared.words.EnvName.TheVariants.{Flat, Part, Part2}
 use Rattle.tool_stages.specs.Stages.{Types}
-use Rattle.tool_stages.specs.Envs.{flat_env, flat_made}
+use Rattle.tool_stages.specs.Envs.{flat_made}
+use Rattle.env_contract.specs.Flat.{flat_env}
 use Rattle.tool_stages.proofs.SoundLemmas.{typed_made}
 use Rattle.lab_bound.specs.Text.{sharp_of}
 use Rattle.lab_bound.specs.Enough.{AllAreEnough}

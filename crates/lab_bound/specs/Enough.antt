@@ -21,7 +21,8 @@ use Rattle.level_counts.specs.Begun.{AreTold, memories_of}
 use Rattle.tool_words.specs.declared.words.EnvName.{EnvName}
 use Rattle.tool_words.specs.declared.words.EnvName.TheVariants.{Flat, Part, Part2}
 use Rattle.tool_stages.specs.Stages.{Types}
-use Rattle.tool_stages.specs.Envs.{flat_env, flat_made, ReportsIn}
+use Rattle.tool_stages.specs.Envs.{flat_made, ReportsIn}
+use Rattle.env_contract.specs.Flat.{flat_env}
 use Rattle.lab_bound.specs.Text.{sharp_of}
 
 -- In a named environment the runs from starts show at most n different sequences up to T, and whoever sees one of them

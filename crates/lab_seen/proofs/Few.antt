@@ -24,7 +24,8 @@ use Rattle.cut_audit.specs.Report.{IsReport}
 use Rattle.seen_line.specs.Field.{field_text, seen_text}
 use Rattle.tool_words.specs.declared.words.EnvName.TheVariants.{Flat, Part, Part2}
 use Rattle.tool_stages.specs.Stages.{Types}
-use Rattle.tool_stages.specs.Envs.{flat_env, flat_made}
+use Rattle.tool_stages.specs.Envs.{flat_made}
+use Rattle.env_contract.specs.Flat.{flat_env}
 use Rattle.tool_stages.specs.Accepted.{SpelledAreSound}
 use Rattle.lab_seen.specs.Bounded.{FieldsAreFew, FieldsAreWithinCut}
 use Rattle.lab_seen.proofs.Images.{few_images}

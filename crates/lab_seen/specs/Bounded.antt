@@ -18,7 +18,8 @@ use Rattle.seen_line.specs.Field.{seen_text}
 use Rattle.tool_words.specs.declared.words.EnvName.{EnvName}
 use Rattle.tool_words.specs.declared.words.EnvName.TheVariants.{Flat, Part, Part2}
 use Rattle.tool_stages.specs.Stages.{Types}
-use Rattle.tool_stages.specs.Envs.{flat_env, flat_made, told_in, CutReportsIn}
+use Rattle.tool_stages.specs.Envs.{flat_made, told_in, CutReportsIn}
+use Rattle.env_contract.specs.Flat.{flat_env}
 use Rattle.tool_stages.specs.Goes.{AgreeIn}
 
 -- the field of what an observer sees of the run of a program's image from a start, up to T

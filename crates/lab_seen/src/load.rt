@@ -25,8 +25,8 @@ pub fn load<'a, E: MachineEnv + Drop, M: MakeEnv<E>>(
     requires image { program.now.image ≡ lowered program.now.typed.labelled }
     requires start { IsFor program.now.typed.labelled.program (seen start.now) }
     ensures code { IfOk result (λ m. m.code ≡ program.now.image) }
-    ensures runs { IfOk result (λ m. (t : ℕ) → rest_of (record { cost_of = E.cost_of; next_of = E.next_of; part = E.part }) t m
-        ≡ told_by (run_from (record { cost_of = E.cost_of; next_of = E.next_of; part = E.part }) program.now.image.instrs t (start_of M.made program.now.typed.labelled.program.order (seen start.now)))) }
+    ensures runs { IfOk result (λ m. (t : ℕ) → rest_of E.env t m
+        ≡ told_by (run_from E.env program.now.image.instrs t (start_of M.made program.now.typed.labelled.program.order (seen start.now)))) }
 {
     let env = maker.make(alloc, program.image.lattice(), start.touches.as_slice())?;
     let memory = start.memory.clone()?;

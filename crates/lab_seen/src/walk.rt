@@ -41,10 +41,10 @@ fn run_line<E: MachineEnv + Drop, M: MakeEnv<E>, W: Sink>(
     requires fit { CanAudit p.now.compiled.typed.labelled p.now.observer p.now.compiled.image (map seen p.now.starts.items) }
     requires start { IsFor p.now.compiled.typed.labelled.program (seen start.now) }
     ensures text { OnOk result (Appends (W.taken out.old) (W.taken out.new) (line_text p.now.compiled.typed.labelled p.now.observer number
-        (told_by (run_from (record { cost_of = E.cost_of; next_of = E.next_of; part = E.part }) p.now.compiled.image.instrs budget (start_of M.made p.now.compiled.typed.labelled.program.order (seen start.now)))))) }
+        (told_by (run_from E.env p.now.compiled.image.instrs budget (start_of M.made p.now.compiled.typed.labelled.program.order (seen start.now)))))) }
     ensures memory { IsErrOf result RunFault.Memory → W.taken out.new ≡ W.taken out.old }
     ensures prefix { IsErrOf result RunFault.Sink → AppendsPrefix (W.taken out.old) (W.taken out.new) (line_text p.now.compiled.typed.labelled p.now.observer number
-        (told_by (run_from (record { cost_of = E.cost_of; next_of = E.next_of; part = E.part }) p.now.compiled.image.instrs budget (start_of M.made p.now.compiled.typed.labelled.program.order (seen start.now))))) }
+        (told_by (run_from E.env p.now.compiled.image.instrs budget (start_of M.made p.now.compiled.typed.labelled.program.order (seen start.now))))) }
     ensures fault { IsErrOf result RunFault.Sink → Rose (W.faults out.old) (W.faults out.new) }
     ensures later { W.faults out.old ≤ W.faults out.new }
 {
@@ -74,7 +74,7 @@ fn run_lines<E: MachineEnv + Drop, M: MakeEnv<E>, W: Sink>(
 ) -> Result<(), RunFault>
     requires fit { CanAudit p.now.compiled.typed.labelled p.now.observer p.now.compiled.image (map seen p.now.starts.items) }
     requires named { (s : StartValue) → IsFor p.now.compiled.typed.labelled.program s
-        → told_by (run_from (record { cost_of = E.cost_of; next_of = E.next_of; part = E.part }) p.now.compiled.image.instrs setting.budget (start_of M.made p.now.compiled.typed.labelled.program.order s))
+        → told_by (run_from E.env p.now.compiled.image.instrs setting.budget (start_of M.made p.now.compiled.typed.labelled.program.order s))
         ≡ told_in setting.env p.now.compiled.typed.labelled.program.order p.now.compiled.image s setting.budget }
     ensures text { OnOk result (Appends (W.taken out.old) (W.taken out.new) (texts (line_in setting.env setting.budget p.now.compiled.typed.labelled p.now.observer p.now.compiled.image) (map seen p.now.starts.items))) }
     ensures some { IsErrOf result RunFault.Memory → WritesSome (W.taken out.old) (W.taken out.new) (line_in setting.env setting.budget p.now.compiled.typed.labelled p.now.observer p.now.compiled.image) (map seen p.now.starts.items) }

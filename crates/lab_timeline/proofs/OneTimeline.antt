@@ -22,7 +22,8 @@ use Rattle.tool_words.specs.declared.words.EnvName.{EnvName}
 use Rattle.tool_words.specs.declared.words.EnvName.TheVariants.{Flat, Part, Part2}
 use Rattle.tool_texts.specs.declared.status.Status.{Status}
 use Rattle.tool_stages.specs.Content.{Content, IsKnown}
-use Rattle.tool_stages.specs.Envs.{flat_env, flat_made}
+use Rattle.tool_stages.specs.Envs.{flat_made}
+use Rattle.env_contract.specs.Flat.{flat_env}
 use Rattle.tool_stages.proofs.OneLemmas.{Same}
 use Rattle.lab_runs.specs.Runs.{texts}
 use Rattle.lab_runs.proofs.BeginLemmas.{one_begin}

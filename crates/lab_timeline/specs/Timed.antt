@@ -22,7 +22,8 @@ use Rattle.tool_words.specs.declared.words.EnvName.{EnvName}
 use Rattle.tool_words.specs.declared.words.EnvName.TheVariants.{Flat, Part, Part2}
 use Rattle.tool_texts.specs.declared.status.Status.{Status}
 use Rattle.tool_stages.specs.Content.{Content}
-use Rattle.tool_stages.specs.Envs.{flat_env, flat_made, told_in}
+use Rattle.tool_stages.specs.Envs.{flat_made, told_in}
+use Rattle.env_contract.specs.Flat.{flat_env}
 use Rattle.lab_texts.specs.InLab.{InLab}
 use Rattle.lab_runs.specs.Runs.{texts}
 use Rattle.lab_runs.specs.Begins.{Begins, Before}

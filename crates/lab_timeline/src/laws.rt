@@ -14,18 +14,10 @@ use part_tlb::part2::{MakePart2, Part2Env};
 /// A law: what a run over caches tells of its mitigations is what the run over the history of the touches tells.
 pub fn timelines_are_the_same()
     ensures one_level { TimelinesTellAlike
-        (record {
-          cost_of = ⟦<PartEnv as MachineEnv>⟧.cost_of;
-          next_of = ⟦<PartEnv as MachineEnv>⟧.next_of;
-          part = ⟦<PartEnv as MachineEnv>⟧.part;
-        })
+        ⟦<PartEnv as MachineEnv>⟧.env
         ⟦<MakePart as MakeEnv<PartEnv>>⟧.made part_by_history history_made }
     ensures two_levels { TimelinesTellAlike
-        (record {
-          cost_of = ⟦<Part2Env as MachineEnv>⟧.cost_of;
-          next_of = ⟦<Part2Env as MachineEnv>⟧.next_of;
-          part = ⟦<Part2Env as MachineEnv>⟧.part;
-        })
+        ⟦<Part2Env as MachineEnv>⟧.env
         ⟦<MakePart2 as MakeEnv<Part2Env>>⟧.made part2_by_history history_made }
 {
     caches_do_as_histories();

@@ -43,9 +43,9 @@ fn write_runs<E: MachineEnv + Drop, M: MakeEnv<E>, W: Sink>(
     requires fit { CanRun p.now.compiled.typed.labelled p.now.compiled.observer p.now.compiled.image (map seen p.now.starts.items) }
     requires cycles { IsCycles setting.budget }
     requires named { (s : StartValue) (ms : List Moment) → IsFor p.now.compiled.typed.labelled.program s
-        → IsTimeline (record { cost_of = E.cost_of; next_of = E.next_of; part = E.part }) p.now.compiled.image.instrs setting.budget (start_of M.made p.now.compiled.typed.labelled.program.order s) ms
+        → IsTimeline E.env p.now.compiled.image.instrs setting.budget (start_of M.made p.now.compiled.typed.labelled.program.order s) ms
         → IsTimed setting.env setting.budget p.now.compiled.typed.labelled.program.order p.now.compiled.image s
-        (timed_by (record { cost_of = E.cost_of; next_of = E.next_of; part = E.part }) p.now.compiled.image setting.budget (start_of M.made p.now.compiled.typed.labelled.program.order s) ms) }
+        (timed_by E.env p.now.compiled.image setting.budget (start_of M.made p.now.compiled.typed.labelled.program.order s) ms) }
     requires places { listing.old.places.items ≡ places (plan_of p.now.compiled.typed.labelled.program) }
     requires none { listing.old.tallies.items ≡ replicate (mitigates (plan_of p.now.compiled.typed.labelled.program)) no_tally }
     ensures text { OnOk result (WritesRuns setting.env setting.budget p.now.compiled.typed.labelled p.now.compiled.observer p.now.compiled.image (map seen p.now.starts.items) (W.taken out.old) (W.taken out.new) listing.new.tallies.items) }

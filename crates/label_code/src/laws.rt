@@ -7,5 +7,5 @@ use env_contract::env::MachineEnv;
 /// A law: from each start and up to each cycle a run comes to one machine and no other, and that is the
 /// computed one.
 pub fn one_run<E: MachineEnv>()
-    ensures { HasOneRun (record { cost_of = E.cost_of; next_of = E.next_of; part = E.part }) }
+    ensures { HasOneRun E.env }
 {}

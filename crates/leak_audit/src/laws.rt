@@ -7,5 +7,5 @@ use env_contract::env::MachineEnv;
 /// Of the runs of any list of starts, in any environment, an audit has one answer: one report, or one fault
 /// other than want of memory.
 pub fn one_report<E: MachineEnv>()
-    ensures { AnswersOnceAll (record { cost_of = E.cost_of; next_of = E.next_of; part = E.part }) E.serves }
+    ensures { AnswersOnceAll E.env E.serves }
 {}

@@ -23,9 +23,9 @@ use env_contract::flat::FlatEnv;
 /// `cut`: the bound for runs that may not have halted by T, where K is the greatest number of relevant
 /// mitigations that end by T in one of them.
 pub fn few_sequences<E: MachineEnv>()
-    ensures halted { SoundAll (record { cost_of = E.cost_of; next_of = E.next_of; part = E.part }) E.serves }
-    ensures quiet { ShowsOneAll (record { cost_of = E.cost_of; next_of = E.next_of; part = E.part }) E.serves }
-    ensures cut { CutSoundAll (record { cost_of = E.cost_of; next_of = E.next_of; part = E.part }) E.serves }
+    ensures halted { SoundAll E.env E.serves }
+    ensures quiet { ShowsOneAll E.env E.serves }
+    ensures cut { CutSoundAll E.env E.serves }
 {}
 
 /// The same of every environment, run by the machine or not, whose states are values of a type: where it keeps
@@ -43,25 +43,13 @@ pub fn few_sequences_of_lawful<S>()
 /// What `few_sequences` says, in the flat environment.
 pub fn few_sequences_flat()
     ensures halted { SoundAll
-        (record {
-          cost_of = ⟦<FlatEnv as MachineEnv>⟧.cost_of;
-          next_of = ⟦<FlatEnv as MachineEnv>⟧.next_of;
-          part = ⟦<FlatEnv as MachineEnv>⟧.part;
-        })
+        ⟦<FlatEnv as MachineEnv>⟧.env
         ⟦<FlatEnv as MachineEnv>⟧.serves }
     ensures quiet { ShowsOneAll
-        (record {
-          cost_of = ⟦<FlatEnv as MachineEnv>⟧.cost_of;
-          next_of = ⟦<FlatEnv as MachineEnv>⟧.next_of;
-          part = ⟦<FlatEnv as MachineEnv>⟧.part;
-        })
+        ⟦<FlatEnv as MachineEnv>⟧.env
         ⟦<FlatEnv as MachineEnv>⟧.serves }
     ensures cut { CutSoundAll
-        (record {
-          cost_of = ⟦<FlatEnv as MachineEnv>⟧.cost_of;
-          next_of = ⟦<FlatEnv as MachineEnv>⟧.next_of;
-          part = ⟦<FlatEnv as MachineEnv>⟧.part;
-        })
+        ⟦<FlatEnv as MachineEnv>⟧.env
         ⟦<FlatEnv as MachineEnv>⟧.serves }
 {
     few_sequences::<FlatEnv>();
@@ -77,9 +65,9 @@ pub fn labels_keep_counts()
 /// without its labels: what the image does, in its order, and how many relevant mitigates begin, are said of that
 /// one.
 pub fn lowered_few_sequences<E: MachineEnv>()
-    ensures halted { LoweredSoundAll (record { cost_of = E.cost_of; next_of = E.next_of; part = E.part }) E.serves }
-    ensures quiet { LoweredShowsOneAll (record { cost_of = E.cost_of; next_of = E.next_of; part = E.part }) E.serves }
-    ensures cut { LoweredCutSoundAll (record { cost_of = E.cost_of; next_of = E.next_of; part = E.part }) E.serves }
+    ensures halted { LoweredSoundAll E.env E.serves }
+    ensures quiet { LoweredShowsOneAll E.env E.serves }
+    ensures cut { LoweredCutSoundAll E.env E.serves }
 {}
 
 /// Says nothing at run time: the digits that are computed are binary digits. 0 has none, and a greater number has one

@@ -30,7 +30,8 @@ use Rattle.tool_words.specs.declared.words.EnvName.{EnvName}
 use Rattle.tool_words.specs.declared.words.EnvName.TheVariants.{Flat, Part, Part2}
 use Rattle.tool_words.specs.WordsAsked.{Asked, check, infer, compile, run, meaning, audit, gen, cut, blackbox, certify, recheck}
 use Rattle.tool_stages.specs.Stages.{Types}
-use Rattle.tool_stages.specs.Envs.{flat_env, flat_made}
+use Rattle.tool_stages.specs.Envs.{flat_made}
+use Rattle.env_contract.specs.Flat.{flat_env}
 use Rattle.tool_texts.specs.Reports.{all_released}
 use Rattle.tool_stages.specs.Accepted.{SpelledAreSound}
 use Rattle.mit_tool.specs.Bounded.{AuditsAreWithin, CutsAreWithin, ReleasesAreWithin, AreWithin}

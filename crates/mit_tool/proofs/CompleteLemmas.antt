@@ -28,7 +28,8 @@ use Rattle.tool_texts.specs.declared.status.Status.TheVariants as status
 use Rattle.tool_texts.specs.Reports.{audit_lines, cut_lines, made_lines}
 use Rattle.tool_texts.specs.Ends.{EndsBy}
 use Rattle.tool_stages.specs.Stages.{Then, ProgramStops, Reads, ObserverStops, Observes, TypeStops, Types, ImageStops, HasImage, StartStops, StartsAre, FirstStops, FirstStart, HoldsRuns, ReadyStops, CertificateStops, Rechecks}
-use Rattle.tool_stages.specs.Envs.{flat_env, flat_made, AuditFaultsIn, CutFaultsIn, told_in, ReportsIn, CutReportsIn}
+use Rattle.tool_stages.specs.Envs.{flat_made, AuditFaultsIn, CutFaultsIn, told_in, ReportsIn, CutReportsIn}
+use Rattle.env_contract.specs.Flat.{flat_env}
 use Rattle.tool_stages.specs.Content.{Content, IsKnown}
 use Rattle.tool_stages.specs.Goes.{IsHalted, HaltsBy, CanCut, CanBeAudited, OfObserver}
 use Rattle.audit_stage.specs.Audited.{AuditStops}

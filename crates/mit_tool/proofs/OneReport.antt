@@ -21,7 +21,8 @@ use Rattle.tool_texts.specs.declared.status.Status.{Status}
 use Rattle.tool_texts.specs.declared.status.Status.TheVariants as status
 use Rattle.tool_texts.specs.Texts.{number_line}
 use Rattle.tool_texts.specs.Reports.{cut_lines, disagree_line, events_line, box_lines}
-use Rattle.tool_stages.specs.Envs.{flat_env, flat_made, CutReportsIn, CutFaultsIn}
+use Rattle.tool_stages.specs.Envs.{flat_made, CutReportsIn, CutFaultsIn}
+use Rattle.env_contract.specs.Flat.{flat_env}
 use Rattle.audit_stage.proofs.Once.{same_report, not_fault, same_head, same_tail, two_parts, same_lines, audit_stops, one_audit_stop}
 use Rattle.mit_tool.specs.Audited.{HasAudited, CutStops, HasCut, HasReleased}
 use Rattle.tool_stages.proofs.OneLemmas.{Same}

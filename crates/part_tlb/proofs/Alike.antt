@@ -12,7 +12,7 @@ use Rattle.part_tlb.specs.declared.part.PartEnv.{PartEnv}
 use Rattle.part_tlb.specs.declared.part2.Part2Env.{Part2Env}
 use Rattle.part_tlb.specs.Histories.{Placed, touches_at, history_of, part_by_history, part2_by_history}
 use Rattle.part_tlb.specs.Structures.{Keeps, part_at, warmed}
-use Rattle.part_tlb.specs.Envs.{part_structure, part_touched, part_penalty, part_after, empty_part, part2_structure, part2_touched, part2_penalty, part2_after, empty_part2}
+use Rattle.part_tlb.specs.Envs.{part_structure, part_touched, part_penalty, part_after, empty_part, part2_structure, part2_touched, part2_penalty, part2_after, empty_part2, part_env, part2_env}
 use Rattle.part_tlb.specs.Laws.{part_moves, part2_moves, part_keeps, part2_keeps}
 use Rattle.part_tlb.proofs.History.{warmed_serves, warmed_stands, part_penalty_is, part_after_stands, part2_penalty_is, part2_after_stands, part_serves, part_stands, part2_serves, part2_stands}
 
@@ -23,7 +23,7 @@ one_part order Code l e h lt k = part_of_held order 8 2 e.code_cache l (touches_
 one_part order Data l e h lt k = part_of_held order 8 2 e.data_cache l (touches_at Data h) (k.made.each Data) lt (k.stands.each Data)
 one_part order Second l e h lt k = refl
 
-pub one_level : (order : Order) → DoesAs (record { cost_of = part_penalty; next_of = part_after; part = part_at part_structure }) (part_by_history order) order.size (Keeps part_structure order)
+pub one_level : (order : Order) → DoesAs part_env (part_by_history order) order.size (Keeps part_structure order)
 one_level order =
     record {
       cost = λ k a er ew e h er_in ew_in keeps. part_penalty_is order k a er ew e h keeps.made keeps.stands;
@@ -57,7 +57,7 @@ two_part order Code l e h lt k = part_of_held order 8 2 e.first.code_cache l (to
 two_part order Data l e h lt k = part_of_held order 8 2 e.first.data_cache l (touches_at Data h) (k.made.each Data) lt (k.stands.each Data)
 two_part order Second l e h lt k = part_of_held order 32 4 e.second l (touches_at Second h) (k.made.each Second) lt (k.stands.each Second)
 
-pub two_levels : (order : Order) → DoesAs (record { cost_of = part2_penalty; next_of = part2_after; part = part_at part2_structure }) (part2_by_history order) order.size (Keeps part2_structure order)
+pub two_levels : (order : Order) → DoesAs part2_env (part2_by_history order) order.size (Keeps part2_structure order)
 two_levels order =
     record {
       cost = λ k a er ew e h er_in ew_in keeps. part2_penalty_is order k a er ew e h keeps.made keeps.stands;

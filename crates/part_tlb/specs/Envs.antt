@@ -5,8 +5,10 @@ use Rattle.env_contract.specs.declared.place.Kind.{Kind}
 use Rattle.env_contract.specs.declared.place.Kind.TheVariants as kind
 use Rattle.env_contract.specs.declared.place.Place.{Place}
 use Rattle.env_contract.specs.declared.place.Place.TheVariants.{Page, Code, Data, Second}
+use Rattle.env_contract.specs.Env.{Env}
 use Rattle.part_cache.specs.Rows.{Rows, found, touched, empty_cache}
 use Rattle.part_tlb.specs.Histories.{line_place, line_cost, sets_at, ways_at}
+use Rattle.part_tlb.specs.Structures.{part_at}
 use Rattle.part_tlb.specs.declared.part.PartEnv.{PartEnv}
 use Rattle.part_tlb.specs.declared.part2.Part2Env.{Part2Env}
 
@@ -35,6 +37,9 @@ part_penalty k address er ew e =
 abbrev pub part_after : Kind → ℕ → ℕ → ℕ → PartEnv → PartEnv
 part_after k address er ew e = part_touched (line_place k) (address / 32) ew (part_touched Page (address / 1024) ew e)
 
+abbrev pub part_env : Env PartEnv
+part_env = record { cost_of = part_penalty; next_of = part_after; part = part_at part_structure }
+
 abbrev pub empty_at : Order → Place → Rows
 empty_at order p = empty_cache order (sets_at p) (ways_at p)
 
@@ -62,6 +67,9 @@ part2_penalty k address er ew e =
 abbrev pub part2_after : Kind → ℕ → ℕ → ℕ → Part2Env → Part2Env
 part2_after k address er ew e =
     part2_touched Second (address / 32) ew (part2_touched (line_place k) (address / 32) ew (part2_touched Page (address / 1024) ew e))
+
+abbrev pub part2_env : Env Part2Env
+part2_env = record { cost_of = part2_penalty; next_of = part2_after; part = part_at part2_structure }
 
 abbrev pub empty_part2 : Order → Part2Env
 empty_part2 order = record { first = empty_part order; second = empty_at order Second }

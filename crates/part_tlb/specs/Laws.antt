@@ -14,7 +14,7 @@ use Rattle.part_tlb.specs.declared.part.PartEnv.{PartEnv}
 use Rattle.part_tlb.specs.declared.part2.Part2Env.{Part2Env}
 use Rattle.part_tlb.specs.Histories.{line_place, line_cost, sets_at, ways_at}
 use Rattle.part_tlb.specs.Structures.{IsMadeFor, part_at}
-use Rattle.part_tlb.specs.Envs.{part_structure, line_cache, part_touched, part_penalty, part_after, part2_structure, part2_touched, part2_penalty, part2_after}
+use Rattle.part_tlb.specs.Envs.{part_structure, line_cache, part_touched, part_penalty, part_after, part2_structure, part2_touched, part2_penalty, part2_after, part_env, part2_env}
 use Rattle.part_tlb.specs.Keeps.{Moves, touches, leaves, touch_serves, touch_elsewhere, touch_agrees}
 
 -- a label to which ew does not flow is not ew
@@ -51,7 +51,7 @@ part_keeps order k a er ew e s =
     touch_serves part_structure part_touched part_moves order (line_place k) (a / 32) ew (part_touched Page (a / 1024) ew e)
     (touch_serves part_structure part_touched part_moves order Page (a / 1024) ew e s)
 
-pub part_lawful : (order : Order) → IsLattice (lattice_of order) → IsLawful (record { cost_of = part_penalty; next_of = part_after; part = part_at part_structure }) (lattice_of order) (IsMadeFor part_structure order)
+pub part_lawful : (order : Order) → IsLattice (lattice_of order) → IsLawful part_env (lattice_of order) (IsMadeFor part_structure order)
 part_lawful order good =
     record {
       keeps = part_keeps order;
@@ -117,7 +117,7 @@ part2_keeps order k a er ew e s =
     touch_serves part2_structure part2_touched part2_moves order Second (a / 32) ew (part2_touched (line_place k) (a / 32) ew (part2_touched Page (a / 1024) ew e))
     (lined_keeps order k a ew e s)
 
-pub part2_lawful : (order : Order) → IsLattice (lattice_of order) → IsLawful (record { cost_of = part2_penalty; next_of = part2_after; part = part_at part2_structure }) (lattice_of order) (IsMadeFor part2_structure order)
+pub part2_lawful : (order : Order) → IsLattice (lattice_of order) → IsLawful part2_env (lattice_of order) (IsMadeFor part2_structure order)
 part2_lawful order good =
     record {
       keeps = part2_keeps order;

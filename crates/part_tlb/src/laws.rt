@@ -22,20 +22,12 @@ use env_contract::make::MakeEnv;
 /// `start`: the environment that touches make stands for the history of these touches.
 pub fn caches_do_as_histories()
     ensures costs { (order : Order) → DoesAs
-        (record {
-          cost_of = ⟦<PartEnv as MachineEnv>⟧.cost_of;
-          next_of = ⟦<PartEnv as MachineEnv>⟧.next_of;
-          part = ⟦<PartEnv as MachineEnv>⟧.part;
-        })
+        ⟦<PartEnv as MachineEnv>⟧.env
         (part_by_history order) order.size (Keeps part_structure order) }
     ensures start { (order : Order) (touches : List Touch) → All (λ t. t.label.number < order.size) touches
         → Keeps part_structure order (⟦<MakePart as MakeEnv<PartEnv>>⟧.made order touches) (history_of touches) }
     ensures costs_of_two { (order : Order) → DoesAs
-        (record {
-          cost_of = ⟦<Part2Env as MachineEnv>⟧.cost_of;
-          next_of = ⟦<Part2Env as MachineEnv>⟧.next_of;
-          part = ⟦<Part2Env as MachineEnv>⟧.part;
-        })
+        ⟦<Part2Env as MachineEnv>⟧.env
         (part2_by_history order) order.size (Keeps part2_structure order) }
     ensures start_of_two { (order : Order) (touches : List Touch) → All (λ t. t.label.number < order.size) touches
         → Keeps part2_structure order (⟦<MakePart2 as MakeEnv<Part2Env>>⟧.made order touches) (history_of touches) }

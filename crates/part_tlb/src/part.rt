@@ -97,17 +97,13 @@ impl PartEnv {
 }
 
 impl MachineEnv for PartEnv {
-    ghost use Rattle.part_tlb.specs.Structures.{IsMadeFor, part_at};
-    ghost use Rattle.part_tlb.specs.Envs.{part_structure, part_penalty, part_after};
+    ghost use Rattle.part_tlb.specs.Structures.{IsMadeFor};
+    ghost use Rattle.part_tlb.specs.Envs.{part_structure, part_env};
     ghost use Rattle.part_tlb.specs.Laws.{part_lawful};
 
     ghost serves = { IsMadeFor part_structure };
 
-    ghost part = { part_at part_structure };
-
-    ghost cost_of = { part_penalty };
-
-    ghost next_of = { part_after };
+    ghost env = { part_env };
 
     ghost lawful = { part_lawful };
 

@@ -57,17 +57,13 @@ impl Part2Env {
 }
 
 impl MachineEnv for Part2Env {
-    ghost use Rattle.part_tlb.specs.Structures.{IsMadeFor, part_at};
-    ghost use Rattle.part_tlb.specs.Envs.{part2_structure, part2_penalty, part2_after};
+    ghost use Rattle.part_tlb.specs.Structures.{IsMadeFor};
+    ghost use Rattle.part_tlb.specs.Envs.{part2_structure, part2_env};
     ghost use Rattle.part_tlb.specs.Laws.{part2_lawful};
 
     ghost serves = { IsMadeFor part2_structure };
 
-    ghost part = { part_at part2_structure };
-
-    ghost cost_of = { part2_penalty };
-
-    ghost next_of = { part2_after };
+    ghost env = { part2_env };
 
     ghost lawful = { part2_lawful };
 

@@ -36,7 +36,7 @@ pub fn begin<E: MachineEnv>(
     requires depth { 0 < vec_len state.old.operands }
     requires room { vec_len state.old.opened < vec_capacity state.old.opened }
     requires known { level.number < 32 }
-    ensures tells { Tells (record { cost_of = E.cost_of; next_of = E.next_of; part = E.part }) state.old (record { work = Work.Mitb level mark; er = er; ew = ew }) limit result state.new }
+    ensures tells { Tells E.env state.old (record { work = Work.Mitb level mark; er = er; ew = ew }) limit result state.new }
     ensures keeps { Keeps E.serves state.old state.new }
 {
     let Some(&estimate) = state.operands.last() else {
@@ -59,7 +59,7 @@ pub fn end<E: MachineEnv>(state: &mut State<E>, er: Label, ew: Label, limit: u64
     requires place { state.old.place < 200000 }
     requires served { IsServed E.serves state.old.env er ew }
     requires open { 0 < vec_len state.old.opened }
-    ensures tells { Tells (record { cost_of = E.cost_of; next_of = E.next_of; part = E.part }) state.old (record { work = Work.Mite; er = er; ew = ew }) limit result state.new }
+    ensures tells { Tells E.env state.old (record { work = Work.Mite; er = er; ew = ew }) limit result state.new }
     ensures keeps { Keeps E.serves state.old state.new }
 {
     let fetched = u64::from(state.env.access(Kind::Code, 4 * state.place, er, ew));

@@ -7,12 +7,12 @@ use env_contract::env::MachineEnv;
 
 /// A law: without what they say of estimates and lengths, the moments of a run are its log.
 pub fn moments_are_the_log<E: MachineEnv>()
-    ensures { TellsTheLog (record { cost_of = E.cost_of; next_of = E.next_of; part = E.part }) }
+    ensures { TellsTheLog E.env }
 {}
 
 /// A law: a run has one timeline.
 pub fn one_timeline<E: MachineEnv>()
-    ensures { HasOneTimeline (record { cost_of = E.cost_of; next_of = E.next_of; part = E.part }) }
+    ensures { HasOneTimeline E.env }
 {}
 
 /// A law: the least first prediction that a summary tells is the least that is above the length of each body.

@@ -47,10 +47,10 @@ pub fn print_timeline<E: MachineEnv + Drop, W: Sink>(
     requires observer { IfSome observer (λ o. o.number < p.now.labelled.program.order.size) }
     requires places { listing.old.places.items ≡ places (plan_of p.now.labelled.program) }
     requires room { HaveRoom limit listing.old.tallies.items }
-    ensures end { IfOk result (λ end. end ≡ end_of_run (record { cost_of = E.cost_of; next_of = E.next_of; part = E.part }) image.now.instrs limit (record { memory = state.memory.items; env = state.env })) }
-    ensures printed { OnOk result (Printed (record { cost_of = E.cost_of; next_of = E.next_of; part = E.part }) image.now.instrs limit (record { memory = state.memory.items; env = state.env })
+    ensures end { IfOk result (λ end. end ≡ end_of_run E.env image.now.instrs limit (record { memory = state.memory.items; env = state.env })) }
+    ensures printed { OnOk result (Printed E.env image.now.instrs limit (record { memory = state.memory.items; env = state.env })
         p.now.labelled observer (W.taken out.old) (W.taken out.new) listing.old.tallies.items listing.new.tallies.items) }
-    ensures prefix { OnErr result (PrintedPart (record { cost_of = E.cost_of; next_of = E.next_of; part = E.part }) image.now.instrs limit (record { memory = state.memory.items; env = state.env })
+    ensures prefix { OnErr result (PrintedPart E.env image.now.instrs limit (record { memory = state.memory.items; env = state.env })
         p.now.labelled observer (W.taken out.old) (W.taken out.new)) }
     ensures places { listing.new.places ≡ listing.old.places }
     ensures grown { Grown limit listing.old.tallies.items listing.new.tallies.items }

@@ -28,7 +28,7 @@ fn plain<E: MachineEnv>(state: &mut State<E>, i: Instr, limit: u64) -> Step
     requires plain { IsPlain i.work }
     requires fits { Fits i state.old }
     requires served { IsServed E.serves state.old.env i.er i.ew }
-    ensures tells { Tells (record { cost_of = E.cost_of; next_of = E.next_of; part = E.part }) state.old i limit result state.new }
+    ensures tells { Tells E.env state.old i limit result state.new }
     ensures keeps { Keeps E.serves state.old state.new }
 {
     match state.obey(i, limit) {
@@ -49,7 +49,7 @@ fn plain<E: MachineEnv>(state: &mut State<E>, i: Instr, limit: u64) -> Step
 fn obey<E: MachineEnv>(state: &mut State<E>, i: Instr, limit: u64) -> Step
     requires fits { Fits i state.old }
     requires served { IsServed E.serves state.old.env i.er i.ew }
-    ensures tells { Tells (record { cost_of = E.cost_of; next_of = E.next_of; part = E.part }) state.old i limit result state.new }
+    ensures tells { Tells E.env state.old i limit result state.new }
     ensures keeps { Keeps E.serves state.old state.new }
 {
     match i.work {
@@ -62,7 +62,7 @@ fn obey<E: MachineEnv>(state: &mut State<E>, i: Instr, limit: u64) -> Step
 /// One step, if it ends within the limit.
 pub fn step<E: MachineEnv>(image: &Image, state: &mut State<E>, limit: u64) -> Step
     requires { Stands E.serves image.now state.old }
-    ensures { Stepped (record { cost_of = E.cost_of; next_of = E.next_of; part = E.part }) E.serves image.now state.old limit result state.new }
+    ensures { Stepped E.env E.serves image.now state.old limit result state.new }
 {
     lengths(state);
     let i = image.at(state.place);

@@ -32,49 +32,33 @@ use env_contract::flat::FlatEnv;
 /// `ended`: the same of the sequences with the cycle of the end added, where the program's end label flows to the
 /// observer.
 pub fn few_sequences_sharp<E: MachineEnv>()
-    ensures halted { SharpSoundAll (record { cost_of = E.cost_of; next_of = E.next_of; part = E.part }) E.serves }
-    ensures cut { SharpCutAll (record { cost_of = E.cost_of; next_of = E.next_of; part = E.part }) E.serves }
-    ensures ended { SharpEndAll (record { cost_of = E.cost_of; next_of = E.next_of; part = E.part }) E.serves }
+    ensures halted { SharpSoundAll E.env E.serves }
+    ensures cut { SharpCutAll E.env E.serves }
+    ensures ended { SharpEndAll E.env E.serves }
 {}
 
 /// The same for the image that `lower` makes of a labelled program. Its source is the program that was read, without
 /// its labels: how many relevant mitigates begin, and with which first predictions, is said of that one.
 pub fn lowered_few_sequences_sharp<E: MachineEnv>()
-    ensures halted { LoweredSharpAll (record { cost_of = E.cost_of; next_of = E.next_of; part = E.part }) E.serves }
-    ensures cut { LoweredSharpCutAll (record { cost_of = E.cost_of; next_of = E.next_of; part = E.part }) E.serves }
-    ensures ended { LoweredSharpEndAll (record { cost_of = E.cost_of; next_of = E.next_of; part = E.part }) E.serves }
-    ensures shared { LoweredSharedAll (record { cost_of = E.cost_of; next_of = E.next_of; part = E.part }) E.serves }
+    ensures halted { LoweredSharpAll E.env E.serves }
+    ensures cut { LoweredSharpCutAll E.env E.serves }
+    ensures ended { LoweredSharpEndAll E.env E.serves }
+    ensures shared { LoweredSharedAll E.env E.serves }
 {}
 
 /// The same for what `lower` makes of a labelled program, in the flat environment.
 pub fn lowered_few_sequences_sharp_flat()
     ensures halted { LoweredSharpAll
-        (record {
-          cost_of = ⟦<FlatEnv as MachineEnv>⟧.cost_of;
-          next_of = ⟦<FlatEnv as MachineEnv>⟧.next_of;
-          part = ⟦<FlatEnv as MachineEnv>⟧.part;
-        })
+        ⟦<FlatEnv as MachineEnv>⟧.env
         ⟦<FlatEnv as MachineEnv>⟧.serves }
     ensures cut { LoweredSharpCutAll
-        (record {
-          cost_of = ⟦<FlatEnv as MachineEnv>⟧.cost_of;
-          next_of = ⟦<FlatEnv as MachineEnv>⟧.next_of;
-          part = ⟦<FlatEnv as MachineEnv>⟧.part;
-        })
+        ⟦<FlatEnv as MachineEnv>⟧.env
         ⟦<FlatEnv as MachineEnv>⟧.serves }
     ensures ended { LoweredSharpEndAll
-        (record {
-          cost_of = ⟦<FlatEnv as MachineEnv>⟧.cost_of;
-          next_of = ⟦<FlatEnv as MachineEnv>⟧.next_of;
-          part = ⟦<FlatEnv as MachineEnv>⟧.part;
-        })
+        ⟦<FlatEnv as MachineEnv>⟧.env
         ⟦<FlatEnv as MachineEnv>⟧.serves }
     ensures shared { LoweredSharedAll
-        (record {
-          cost_of = ⟦<FlatEnv as MachineEnv>⟧.cost_of;
-          next_of = ⟦<FlatEnv as MachineEnv>⟧.next_of;
-          part = ⟦<FlatEnv as MachineEnv>⟧.part;
-        })
+        ⟦<FlatEnv as MachineEnv>⟧.env
         ⟦<FlatEnv as MachineEnv>⟧.serves }
 {
     lowered_few_sequences_sharp::<FlatEnv>();
@@ -85,7 +69,7 @@ pub fn lowered_few_sequences_sharp_flat()
 /// it begin, that never fall and whose `e * 2 ^ m` add up to at most T. `ways_are_few` says that these are no more than
 /// the sharp count.
 pub fn few_sequences_shared<E: MachineEnv>()
-    ensures { SharpSharedAll (record { cost_of = E.cost_of; next_of = E.next_of; part = E.part }) E.serves }
+    ensures { SharpSharedAll E.env E.serves }
 {}
 
 /// Each first prediction is at least 1, so that the sharp count holds for every program with as many miss counts as T
@@ -97,25 +81,13 @@ pub fn first_predictions<M, L>()
 /// The same in the flat environment.
 pub fn few_sequences_sharp_flat()
     ensures halted { SharpSoundAll
-        (record {
-          cost_of = ⟦<FlatEnv as MachineEnv>⟧.cost_of;
-          next_of = ⟦<FlatEnv as MachineEnv>⟧.next_of;
-          part = ⟦<FlatEnv as MachineEnv>⟧.part;
-        })
+        ⟦<FlatEnv as MachineEnv>⟧.env
         ⟦<FlatEnv as MachineEnv>⟧.serves }
     ensures cut { SharpCutAll
-        (record {
-          cost_of = ⟦<FlatEnv as MachineEnv>⟧.cost_of;
-          next_of = ⟦<FlatEnv as MachineEnv>⟧.next_of;
-          part = ⟦<FlatEnv as MachineEnv>⟧.part;
-        })
+        ⟦<FlatEnv as MachineEnv>⟧.env
         ⟦<FlatEnv as MachineEnv>⟧.serves }
     ensures ended { SharpEndAll
-        (record {
-          cost_of = ⟦<FlatEnv as MachineEnv>⟧.cost_of;
-          next_of = ⟦<FlatEnv as MachineEnv>⟧.next_of;
-          part = ⟦<FlatEnv as MachineEnv>⟧.part;
-        })
+        ⟦<FlatEnv as MachineEnv>⟧.env
         ⟦<FlatEnv as MachineEnv>⟧.serves }
 {
     few_sequences_sharp::<FlatEnv>();
@@ -127,11 +99,7 @@ pub fn few_sequences_sharp_flat()
 /// b - 4 different sequences.
 pub fn nearly_reached_flat()
     ensures reached { NearlyReached
-        (record {
-          cost_of = ⟦<FlatEnv as MachineEnv>⟧.cost_of;
-          next_of = ⟦<FlatEnv as MachineEnv>⟧.next_of;
-          part = ⟦<FlatEnv as MachineEnv>⟧.part;
-        })
+        ⟦<FlatEnv as MachineEnv>⟧.env
         ⟦<FlatEnv as MachineEnv>⟧.serves }
     ensures two { TwoLabels }
 {}
@@ -158,8 +126,8 @@ pub fn few_twice<X, V, W>()
 ///
 /// `left`: what halted runs leave in memory and environment agrees again, so that a second run may go on from it.
 pub fn few_sequences_twice<X, E: MachineEnv>()
-    ensures few { SharpTwiceAll X (record { cost_of = E.cost_of; next_of = E.next_of; part = E.part }) E.serves }
-    ensures left { LeavesAgree (record { cost_of = E.cost_of; next_of = E.next_of; part = E.part }) E.serves }
+    ensures few { SharpTwiceAll X E.env E.serves }
+    ensures left { LeavesAgree E.env E.serves }
 {}
 
 /// Any number of views after each other of one secret, of whatever types: if each shows few, at most so many, of those
@@ -177,14 +145,14 @@ pub fn few_many<X, V>()
 /// The secret tells what earlier runs left in memory and environment, so that a start may hold that too; by
 /// `few_sequences_twice`, clause `left`, it agrees where it should.
 pub fn few_sequences_many<X, E: MachineEnv>()
-    ensures { SharpManyAll X (record { cost_of = E.cost_of; next_of = E.next_of; part = E.part }) E.serves }
+    ensures { SharpManyAll X E.env E.serves }
 {}
 
 /// The same for the images that `lower` makes of labelled programs over one lattice: `many`. What their halted runs leave
 /// in memory and environment agrees where the starts agree: `left`.
 pub fn lowered_few_sequences_many<X, E: MachineEnv>()
-    ensures many { LoweredManyAll X (record { cost_of = E.cost_of; next_of = E.next_of; part = E.part }) E.serves }
-    ensures left { LoweredLeavesAgree (record { cost_of = E.cost_of; next_of = E.next_of; part = E.part }) E.serves }
+    ensures many { LoweredManyAll X E.env E.serves }
+    ensures left { LoweredLeavesAgree E.env E.serves }
 {}
 
 /// Where the end label does not flow to the observer, the cycle of the end is bounded by no count: `sleep h` is
@@ -192,10 +160,6 @@ pub fn lowered_few_sequences_many<X, E: MachineEnv>()
 /// ends.
 pub fn end_tells_flat()
     ensures { EndTells
-        (record {
-          cost_of = ⟦<FlatEnv as MachineEnv>⟧.cost_of;
-          next_of = ⟦<FlatEnv as MachineEnv>⟧.next_of;
-          part = ⟦<FlatEnv as MachineEnv>⟧.part;
-        })
+        ⟦<FlatEnv as MachineEnv>⟧.env
         ⟦<FlatEnv as MachineEnv>⟧.serves }
 {}

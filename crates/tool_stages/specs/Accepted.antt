@@ -15,7 +15,7 @@ use Rattle.leak_bound.specs.Sound.{Sound, CutSound}
 use Rattle.tool_texts.specs.declared.status.Status.{Status}
 use Rattle.tool_texts.specs.declared.status.Status.TheVariants as status
 use Rattle.tool_stages.specs.Stages.{Reads, Types, Rechecks}
-use Rattle.tool_stages.specs.Envs.{flat_env}
+use Rattle.env_contract.specs.Flat.{flat_env}
 
 -- The image of a labelled program is sound in an environment, for runs that halt and for runs that are cut. Its
 -- source is the program that is labelled, without its labels.

@@ -1,7 +1,7 @@
 -- The environments that `--env` names, and runs in them.
 use Rattle.std.specs.Prelude.{ℕ, List, []}
 use Rattle.env_contract.specs.declared.place.Touch.{Touch}
-use Rattle.env_contract.specs.Env.{Env}
+use Rattle.env_contract.specs.Flat.{flat_env}
 use Rattle.env_contract.specs.declared.flat.FlatEnv.{FlatEnv}
 use Rattle.label_lattice.specs.Order.{Order}
 use Rattle.label_code.specs.Shaped.{Code}
@@ -21,10 +21,6 @@ use Rattle.part_tlb.specs.Histories.{history_of, part_by_history, part2_by_histo
 use Rattle.history_bound.specs.Over.{AnyHistory, history_made}
 use Rattle.tool_words.specs.declared.words.EnvName.{EnvName}
 use Rattle.tool_words.specs.declared.words.EnvName.TheVariants.{Flat, Part, Part2}
-
--- no state, and no penalties
-abbrev pub flat_env : Env FlatEnv
-flat_env = record { cost_of = λ k a er ew e. 0; next_of = λ k a er ew e. e; part = λ q l e. [] }
 
 -- the one that touches make
 abbrev pub flat_made : Order → List Touch → FlatEnv

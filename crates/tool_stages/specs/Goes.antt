@@ -18,7 +18,8 @@ use Rattle.cycle_machine.specs.declared.end.RunEnd.TheVariants.{Halted, Limit}
 use Rattle.tool_words.specs.declared.words.EnvName.{EnvName}
 use Rattle.tool_words.specs.declared.words.EnvName.TheVariants.{Flat, Part, Part2}
 use Rattle.tool_stages.specs.Stages.{Reads, Observes, Types}
-use Rattle.tool_stages.specs.Envs.{flat_env, flat_made, told_in}
+use Rattle.tool_stages.specs.Envs.{flat_made, told_in}
+use Rattle.env_contract.specs.Flat.{flat_env}
 
 -- some labelling types the program
 abbrev pub IsTypable : Syntax → Type 0

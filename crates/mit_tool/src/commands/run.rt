@@ -45,7 +45,7 @@ fn run_in<E: MachineEnv + Drop, M: MakeEnv<E>, W: Sink>(
     requires start { IsFor program.now.typed.labelled.program (seen start) }
     requires observer { IfSome program.now.observer (λ o. o.number < program.now.typed.labelled.program.order.size) }
     ensures ended { EndsBy (W.taken out.old) (W.taken out.new) Nothing (HasTold program.now.typed.labelled program.now.observer
-        (told_by (run_from (record { cost_of = E.cost_of; next_of = E.next_of; part = E.part }) program.now.image.instrs budget
+        (told_by (run_from E.env program.now.image.instrs budget
         (record { memory = start.memory.items; env = M.made program.now.typed.labelled.program.order start.touches.items })))) result }
     ensures later { W.faults out.old ≤ W.faults out.new }
     ensures fault { result ≡ Status.WriteFault → Rose (W.faults out.old) (W.faults out.new) }

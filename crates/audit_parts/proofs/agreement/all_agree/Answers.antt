@@ -64,7 +64,7 @@ first_difference-requires-clause-other g c =
 
 pub returns-in-Some-first_difference-clause-differ : goal.returns-in-Some-first_difference-clause-differ
 returns-in-Some-first_difference-clause-differ g c =
-    let v : Env g.row.E.Denot = record { cost_of = g.E.MachineEnv.cost_of; next_of = g.E.MachineEnv.next_of; part = g.E.MachineEnv.part } in
+    let v : Env g.row.E.Denot = g.E.MachineEnv.env in
     let p = c.args.p.now in
     let ss = starts_of g.M.MakeEnv.made p.program.order (map seen c.args.starts.now) in
     let first = c.in-Some.first.now in
@@ -85,7 +85,7 @@ returns-in-Some-first_difference-clause-differ g c =
 
 pub loop-i-preserved : goal.loop-i-preserved
 loop-i-preserved g c =
-    let v : Env g.row.E.Denot = record { cost_of = g.E.MachineEnv.cost_of; next_of = g.E.MachineEnv.next_of; part = g.E.MachineEnv.part } in
+    let v : Env g.row.E.Denot = g.E.MachineEnv.env in
     let p = c.args.p.now in
     let ss = starts_of g.M.MakeEnv.made p.program.order (map seen c.args.starts.now) in
     let first = c.in-Some.first.now in
@@ -105,7 +105,7 @@ loop-i-preserved g c =
 
 pub returns-clause-agree : goal.returns-clause-agree
 returns-clause-agree g c =
-    let v : Env g.row.E.Denot = record { cost_of = g.E.MachineEnv.cost_of; next_of = g.E.MachineEnv.next_of; part = g.E.MachineEnv.part } in
+    let v : Env g.row.E.Denot = g.E.MachineEnv.env in
     let p = c.args.p.now in
     let ss = starts_of g.M.MakeEnv.made p.program.order (map seen c.args.starts.now) in
     let one = start_of g.M.MakeEnv.made p.program.order (seen c.in-Some.first.now) in

@@ -7,5 +7,5 @@ use Rattle.audit_parts.proofs.agreement.all_agree.Given as goal
 abbrev pub invariant-loop-i : goal.invariant-loop-i
 invariant-loop-i g l =
     let ss = starts_of g.M.MakeEnv.made l.p.program.order (map seen l.starts) in
-    AgreeTo (record { cost_of = g.E.MachineEnv.cost_of; next_of = g.E.MachineEnv.next_of; part = g.E.MachineEnv.part }) g.E.MachineEnv.serves l.p l.observer.number
+    AgreeTo g.E.MachineEnv.env g.E.MachineEnv.serves l.p l.observer.number
     (start_of g.M.MakeEnv.made l.p.program.order (seen l.first)) ss (drop l.i ss) (l.i + 1)

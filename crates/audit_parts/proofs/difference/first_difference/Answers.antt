@@ -5,7 +5,7 @@ use Rattle.audit_parts.proofs.difference.first_difference.Goals as goal
 pub returns-in-Some-first_label : goal.returns-in-Some-first_label
 returns-in-Some-first_label g c =
     let found = c.in-Some-first_label.ensures in
-    first_place (record { cost_of = g.E.MachineEnv.cost_of; next_of = g.E.MachineEnv.next_of; part = g.E.MachineEnv.part }) c.args.p.now c.args.observer.number
+    first_place g.E.MachineEnv.env c.args.p.now c.args.observer.number
     (record { memory = c.args.one.now; env = c.args.one_env.now }) (record { memory = c.args.other.now; env = c.args.other_env.now })
     c.lattice-lattice.result c.loop-place.place-index _ c.in-Some-first_label.label (cc) (place_at c.loop-place.place-index _ (omega arith))
     found.0 found.1 c.in_default.ensures c.loop-place.invariant found.2

@@ -19,7 +19,7 @@ seen_variables-shown-requires g c = let few = c.laws.ensures.shaped.1.variables 
 
 pub loop-i-init : goal.loop-i-init
 loop-i-init g c =
-    let v : Env g.row.E.Denot = record { cost_of = g.E.MachineEnv.cost_of; next_of = g.E.MachineEnv.next_of; part = g.E.MachineEnv.part } in
+    let v : Env g.row.E.Denot = g.E.MachineEnv.env in
     let ss = starts_of g.M.MakeEnv.made c.args.p.now.program.order (map seen c.args.starts.now) in
     let none = c.in_ok-survey.ensures in
     none_surveyed v c.args.p.now c.args.request.now.observer.number c.args.request.now.limit c.args.request.now.must_halt ss 1 c.in_ok-survey.survey refl none.0 none.1 none.2 none.3 none.4
@@ -31,7 +31,7 @@ observe_start-requires-clause-start g c =
 
 pub returns-in_err-take-clause-fault : goal.returns-in_err-take-clause-fault
 returns-in_err-take-clause-fault g c =
-    let v : Env g.row.E.Denot = record { cost_of = g.E.MachineEnv.cost_of; next_of = g.E.MachineEnv.next_of; part = g.E.MachineEnv.part } in
+    let v : Env g.row.E.Denot = g.E.MachineEnv.env in
     let ss = starts_of g.M.MakeEnv.made c.args.p.now.program.order (map seen c.args.starts.now) in
     let lt : c.loop-i.i < length c.args.starts.now = omega arith in
     let from = starts-from g.M.MakeEnv.made c.args.p.now.program.order c.args.starts.now c.loop-i.i c.index-starts-i.result lt c.index-starts-i.is in
@@ -41,7 +41,7 @@ returns-in_err-take-clause-fault g c =
 
 pub loop-i-preserved : goal.loop-i-preserved
 loop-i-preserved g c =
-    let v : Env g.row.E.Denot = record { cost_of = g.E.MachineEnv.cost_of; next_of = g.E.MachineEnv.next_of; part = g.E.MachineEnv.part } in
+    let v : Env g.row.E.Denot = g.E.MachineEnv.env in
     let ss = starts_of g.M.MakeEnv.made c.args.p.now.program.order (map seen c.args.starts.now) in
     let lt : c.loop-i.i < length c.args.starts.now = omega arith in
     let from = starts-from g.M.MakeEnv.made c.args.p.now.program.order c.args.starts.now c.loop-i.i c.index-starts-i.result lt c.index-starts-i.is in

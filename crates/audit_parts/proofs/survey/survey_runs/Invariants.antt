@@ -7,4 +7,4 @@ use Rattle.audit_parts.proofs.survey.survey_runs.Given as goal
 abbrev pub invariant-loop-i : goal.invariant-loop-i
 invariant-loop-i g l =
     let ss = starts_of g.M.MakeEnv.made l.p.program.order (map seen l.starts) in
-    Surveying (record { cost_of = g.E.MachineEnv.cost_of; next_of = g.E.MachineEnv.next_of; part = g.E.MachineEnv.part }) l.p l.request.observer.number l.request.limit l.request.must_halt ss (drop l.i ss) (l.i + 1) l.survey
+    Surveying g.E.MachineEnv.env l.p l.request.observer.number l.request.limit l.request.must_halt ss (drop l.i ss) (l.i + 1) l.survey

@@ -21,7 +21,7 @@ use Rattle.cut_audit.proofs.cut.cut.Goals as goal
 
 pub returns-clause-report : goal.returns-clause-report
 returns-clause-report g c =
-    let v : Env g.row.E.Denot = record { cost_of = g.E.MachineEnv.cost_of; next_of = g.E.MachineEnv.next_of; part = g.E.MachineEnv.part } in
+    let v : Env g.row.E.Denot = g.E.MachineEnv.env in
     let p = c.args.p.now.labelled in
     let o = c.args.observer.number in
     let t = c.args.limit in
@@ -40,7 +40,7 @@ returns-clause-report g c =
 
 pub returns-clause-bound : goal.returns-clause-bound
 returns-clause-bound g c =
-    let v : Env g.row.E.Denot = record { cost_of = g.E.MachineEnv.cost_of; next_of = g.E.MachineEnv.next_of; part = g.E.MachineEnv.part } in
+    let v : Env g.row.E.Denot = g.E.MachineEnv.env in
     let p = c.args.p.now.labelled in
     let o = c.args.observer.number in
     let t = c.args.limit in
@@ -61,7 +61,7 @@ returns-clause-bound g c =
 
 pub of-requires : goal.of-requires
 of-requires g c =
-    let v : Env g.row.E.Denot = record { cost_of = g.E.MachineEnv.cost_of; next_of = g.E.MachineEnv.next_of; part = g.E.MachineEnv.part } in
+    let v : Env g.row.E.Denot = g.E.MachineEnv.env in
     let p = c.labelled-labelled.result.now in
     let stored = map seen c.args.starts.now in
     let ss = starts_of g.M.MakeEnv.made p.program.order stored in
@@ -69,7 +69,7 @@ of-requires g c =
 
 pub measure-requires-clause-few : goal.measure-requires-clause-few
 measure-requires-clause-few g c =
-    let v : Env g.row.E.Denot = record { cost_of = g.E.MachineEnv.cost_of; next_of = g.E.MachineEnv.next_of; part = g.E.MachineEnv.part } in
+    let v : Env g.row.E.Denot = g.E.MachineEnv.env in
     let p = c.labelled-labelled.result.now in
     let stored = map seen c.args.starts.now in
     let ss = starts_of g.M.MakeEnv.made p.program.order stored in

@@ -6,7 +6,7 @@ use Rattle.cycle_machine.proofs.run.run.Given as goal
 abbrev pub invariant-run : goal.invariant-run
 invariant-run g l =
     Stands g.E.MachineEnv.serves l.image l.state
-    × Quiet (record { cost_of = g.E.MachineEnv.cost_of; next_of = g.E.MachineEnv.next_of; part = g.E.MachineEnv.part }) l.image.instrs l.shown l.limit l.fn.state l.state
+    × Quiet g.E.MachineEnv.env l.image.instrs l.shown l.limit l.fn.state l.state
 
 abbrev pub decreases-run : goal.decreases-run
 decreases-run g l = l.limit - l.state.clock

@@ -26,7 +26,7 @@ up_to a b c p q = omega arith
 
 pub run-init : goal.run-init
 run-init g c =
-    let v : Env g.row.E.Denot = record { cost_of = g.E.MachineEnv.cost_of; next_of = g.E.MachineEnv.next_of; part = g.E.MachineEnv.part } in
+    let v : Env g.row.E.Denot = g.E.MachineEnv.env in
     record {
       printed = none_printed v c.args.limit c.args.p.now.labelled c.args.observer c.args.m.now (g.W.Sink.taken c.args.out.now);
       stands = stands_first v c.args.limit c.args.m.now;
@@ -40,7 +40,7 @@ shown_variables-shown-requires g c =
 
 pub print_turn-requires : goal.print_turn-requires
 print_turn-requires g c =
-    let v : Env g.row.E.Denot = record { cost_of = g.E.MachineEnv.cost_of; next_of = g.E.MachineEnv.next_of; part = g.E.MachineEnv.part } in
+    let v : Env g.row.E.Denot = g.E.MachineEnv.env in
     let below : IsTurnBelow (variables c.args.p.now.labelled.program.declarations) c.next_shown-turn.result =
     subst (λ n. IsTurnBelow n c.next_shown-turn.result) (ap (λ m. m.variables) c.run.invariant.stands.code ∙ c.requires.variables)
     (turn_below v c.shown_variables-shown.result c.args.limit c.run.m c.next_shown-turn.new.self c.next_shown-turn.result c.laws-in-run.ensures.shaped c.laws-in-run.ensures.stopped c.next_shown-turn.ensures) in
@@ -48,7 +48,7 @@ print_turn-requires g c =
 
 pub returns-in_err-end-clause-prefix : goal.returns-in_err-end-clause-prefix
 returns-in_err-end-clause-prefix g c =
-    let v : Env g.row.E.Denot = record { cost_of = g.E.MachineEnv.cost_of; next_of = g.E.MachineEnv.next_of; part = g.E.MachineEnv.part } in
+    let v : Env g.row.E.Denot = g.E.MachineEnv.env in
     let tells : TellsShown c.args.p.now.labelled c.args.observer c.shown_variables-shown.result = subst (λ p. TellsShown p c.args.observer c.shown_variables-shown.result) c.labelled-labelled.ensures.labelled c.shown_variables-shown.ensures in
     let below : IsTurnBelow (variables c.args.p.now.labelled.program.declarations) c.next_shown-turn.result =
     subst (λ n. IsTurnBelow n c.next_shown-turn.result) (ap (λ m. m.variables) c.run.invariant.stands.code ∙ c.requires.variables)
@@ -61,19 +61,19 @@ returns-in_err-end-clause-prefix g c =
 
 pub returns-in_err-end-clause-stands : goal.returns-in_err-end-clause-stands
 returns-in_err-end-clause-stands g c =
-    let v : Env g.row.E.Denot = record { cost_of = g.E.MachineEnv.cost_of; next_of = g.E.MachineEnv.next_of; part = g.E.MachineEnv.part } in
+    let v : Env g.row.E.Denot = g.E.MachineEnv.env in
     stands_turn v c.args.limit c.args.p.now.labelled c.args.observer c.shown_variables-shown.result c.args.m.now c.run.m c.next_shown-turn.new.self c.next_shown-turn.result _ _ c.run.invariant.printed c.run.invariant.stands c.laws-in-run.ensures.stopped c.next_shown-turn.ensures
 
 pub returns-in-Some-clause-end : goal.returns-in-Some-clause-end
 returns-in-Some-clause-end g c =
-    let v : Env g.row.E.Denot = record { cost_of = g.E.MachineEnv.cost_of; next_of = g.E.MachineEnv.next_of; part = g.E.MachineEnv.part } in
+    let v : Env g.row.E.Denot = g.E.MachineEnv.env in
     let told : end_of_turn c.next_shown-turn.result ≡ Some c.in-Some.end = sym c.in_ok-end.ensures.end ∙ c.in-Some.is in
     end_is v c.args.limit c.args.p.now.labelled c.args.observer c.shown_variables-shown.result c.args.m.now c.run.m c.next_shown-turn.new.self c.next_shown-turn.result c.in-Some.end _ _ c.run.invariant.printed
     (last_turn v c.shown_variables-shown.result c.args.limit c.run.m c.next_shown-turn.new.self c.next_shown-turn.result c.in-Some.end c.laws-in-run.ensures.stopped c.next_shown-turn.ensures told)
 
 pub returns-in-Some-clause-text : goal.returns-in-Some-clause-text
 returns-in-Some-clause-text g c =
-    let v : Env g.row.E.Denot = record { cost_of = g.E.MachineEnv.cost_of; next_of = g.E.MachineEnv.next_of; part = g.E.MachineEnv.part } in
+    let v : Env g.row.E.Denot = g.E.MachineEnv.env in
     let told : end_of_turn c.next_shown-turn.result ≡ Some c.in-Some.end = sym c.in_ok-end.ensures.end ∙ c.in-Some.is in
     let tells : TellsShown c.args.p.now.labelled c.args.observer c.shown_variables-shown.result = subst (λ p. TellsShown p c.args.observer c.shown_variables-shown.result) c.labelled-labelled.ensures.labelled c.shown_variables-shown.ensures in
     let line : Appends (g.W.Sink.taken c.run.out) (g.W.Sink.taken c.print_turn.new.out) (text_of_turn c.args.p.now.labelled.program.declarations c.next_shown-turn.result) =
@@ -83,12 +83,12 @@ returns-in-Some-clause-text g c =
 
 pub returns-in-Some-clause-stands : goal.returns-in-Some-clause-stands
 returns-in-Some-clause-stands g c =
-    let v : Env g.row.E.Denot = record { cost_of = g.E.MachineEnv.cost_of; next_of = g.E.MachineEnv.next_of; part = g.E.MachineEnv.part } in
+    let v : Env g.row.E.Denot = g.E.MachineEnv.env in
     stands_turn v c.args.limit c.args.p.now.labelled c.args.observer c.shown_variables-shown.result c.args.m.now c.run.m c.next_shown-turn.new.self c.next_shown-turn.result _ _ c.run.invariant.printed c.run.invariant.stands c.laws-in-run.ensures.stopped c.next_shown-turn.ensures
 
 pub run-preserved : goal.run-preserved
 run-preserved g c =
-    let v : Env g.row.E.Denot = record { cost_of = g.E.MachineEnv.cost_of; next_of = g.E.MachineEnv.next_of; part = g.E.MachineEnv.part } in
+    let v : Env g.row.E.Denot = g.E.MachineEnv.env in
     let none : end_of_turn c.next_shown-turn.result ≡ None = sym c.in_ok-end.ensures.end ∙ none_left c.in_ok-end.field-0 c.in_default.not-Some in
     let tells : TellsShown c.args.p.now.labelled c.args.observer c.shown_variables-shown.result = subst (λ p. TellsShown p c.args.observer c.shown_variables-shown.result) c.labelled-labelled.ensures.labelled c.shown_variables-shown.ensures in
     let below : IsTurnBelow (variables c.args.p.now.labelled.program.declarations) c.next_shown-turn.result =
@@ -108,7 +108,7 @@ run-preserved g c =
 
 pub run-smaller : goal.run-smaller
 run-smaller g c =
-    let v : Env g.row.E.Denot = record { cost_of = g.E.MachineEnv.cost_of; next_of = g.E.MachineEnv.next_of; part = g.E.MachineEnv.part } in
+    let v : Env g.row.E.Denot = g.E.MachineEnv.env in
     let none : end_of_turn c.next_shown-turn.result ≡ None = sym c.in_ok-end.ensures.end ∙ none_left c.in_ok-end.field-0 c.in_default.not-Some in
     let next = next_turn v c.shown_variables-shown.result c.args.limit c.run.m c.next_shown-turn.new.self c.next_shown-turn.result c.laws-in-run.ensures.stopped c.next_shown-turn.ensures none in
     let later = next.later in

@@ -5,8 +5,8 @@ use Rattle.event_print.proofs.print.print_run.Given as goal
 
 abbrev pub invariant-run : goal.invariant-run
 invariant-run g l = record {
-  printed : Printed (record { cost_of = g.E.MachineEnv.cost_of; next_of = g.E.MachineEnv.next_of; part = g.E.MachineEnv.part }) l.fn.limit l.fn.p.labelled l.fn.observer l.fn.m l.m (g.W.Sink.taken l.fn.out) (g.W.Sink.taken l.out);
-  stands : StandsAfter (record { cost_of = g.E.MachineEnv.cost_of; next_of = g.E.MachineEnv.next_of; part = g.E.MachineEnv.part }) l.fn.limit l.fn.m l.m;
+  printed : Printed g.E.MachineEnv.env l.fn.limit l.fn.p.labelled l.fn.observer l.fn.m l.m (g.W.Sink.taken l.fn.out) (g.W.Sink.taken l.out);
+  stands : StandsAfter g.E.MachineEnv.env l.fn.limit l.fn.m l.m;
   later : g.W.Sink.faults l.fn.out ≤ g.W.Sink.faults l.out;
   labelled : l.labelled ≡ l.fn.p.labelled;
 }

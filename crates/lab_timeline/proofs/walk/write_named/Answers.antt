@@ -1,25 +1,18 @@
 use Rattle.std.proofs.Common.{refl, sym, subst}
 use Rattle.std.specs.Prelude.{List}
 use Rattle.label_lattice.specs.Order.{Order}
-use Rattle.env_contract.specs.Env.{Env}
 use Rattle.env_contract.specs.declared.place.Touch.{Touch}
-use Rattle.part_tlb.specs.Structures.{part_at, warmed}
-use Rattle.part_tlb.specs.Envs.{part_structure, part_touched, part_penalty, part_after, empty_part, part2_structure, part2_touched, part2_penalty, part2_after, empty_part2}
+use Rattle.part_tlb.specs.Structures.{warmed}
+use Rattle.part_tlb.specs.Envs.{part_structure, part_touched, empty_part, part2_structure, part2_touched, empty_part2, part_env, part2_env}
 use Rattle.part_tlb.specs.declared.part.PartEnv.{PartEnv}
 use Rattle.part_tlb.specs.declared.part2.Part2Env.{Part2Env}
 use Rattle.audit_parts.specs.Agreement.{start_of}
 use Rattle.tool_words.specs.declared.words.EnvName.{EnvName}
-use Rattle.tool_stages.specs.Envs.{flat_env, flat_made}
+use Rattle.tool_stages.specs.Envs.{flat_made}
+use Rattle.env_contract.specs.Flat.{flat_env}
 use Rattle.lab_timeline.specs.Timed.{IsTimed}
 use Rattle.lab_timeline.specs.Written.{timed_by}
 use Rattle.lab_timeline.proofs.walk.write_named.Goals as goal
-
--- the environments of caches, and what touches make of them
-abbrev rows : Env PartEnv
-rows = record { cost_of = part_penalty; next_of = part_after; part = part_at part_structure }
-
-abbrev rows2 : Env Part2Env
-rows2 = record { cost_of = part2_penalty; next_of = part2_after; part = part_at part2_structure }
 
 abbrev warm : Order → List Touch → PartEnv
 warm order touches = warmed part_touched (empty_part order) touches

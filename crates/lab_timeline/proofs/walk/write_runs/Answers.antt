@@ -39,7 +39,7 @@ write_run-requires-clause-start g c =
 
 pub returns-in-Err-clause-prefix : goal.returns-in-Err-clause-prefix
 returns-in-Err-clause-prefix g c = λ e.
-    let v : Env g.row.E.Denot = record { cost_of = g.E.MachineEnv.cost_of; next_of = g.E.MachineEnv.next_of; part = g.E.MachineEnv.part } in
+    let v : Env g.row.E.Denot = g.E.MachineEnv.env in
     let lt : c.loop-i.i < length c.as_slice-starts.result.now = omega arith in
     let items = c.args.p.now.starts.items in
     let x = c.index-starts-i.result in
@@ -52,7 +52,7 @@ returns-in-Err-clause-prefix g c = λ e.
 
 pub loop-i-preserved : goal.loop-i-preserved
 loop-i-preserved g c =
-    let v : Env g.row.E.Denot = record { cost_of = g.E.MachineEnv.cost_of; next_of = g.E.MachineEnv.next_of; part = g.E.MachineEnv.part } in
+    let v : Env g.row.E.Denot = g.E.MachineEnv.env in
     let lt : c.loop-i.i < length c.as_slice-starts.result.now = omega arith in
     let items = c.args.p.now.starts.items in
     let x = c.index-starts-i.result in

@@ -21,7 +21,7 @@ use Rattle.leak_audit.proofs.audit.audit.Goals as goal
 
 pub returns-clause-report : goal.returns-clause-report
 returns-clause-report g c =
-    let v : Env g.row.E.Denot = record { cost_of = g.E.MachineEnv.cost_of; next_of = g.E.MachineEnv.next_of; part = g.E.MachineEnv.part } in
+    let v : Env g.row.E.Denot = g.E.MachineEnv.env in
     let p = c.args.p.now.labelled in
     let o = c.args.observer.number in
     let t = c.args.limit in
@@ -40,7 +40,7 @@ returns-clause-report g c =
 
 pub returns-clause-bound : goal.returns-clause-bound
 returns-clause-bound g c =
-    let v : Env g.row.E.Denot = record { cost_of = g.E.MachineEnv.cost_of; next_of = g.E.MachineEnv.next_of; part = g.E.MachineEnv.part } in
+    let v : Env g.row.E.Denot = g.E.MachineEnv.env in
     let p = c.args.p.now.labelled in
     let o = c.args.observer.number in
     let t = c.args.limit in

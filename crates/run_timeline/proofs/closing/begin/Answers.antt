@@ -10,6 +10,6 @@ returns-clause-tells g c =
     let n : to_z w64 (of_z w64 c.in-Some.field-0.now) ≡ c.in-Some.field-0.now = search (rules, to_z-of_z) in
     let last : slice_get c.args.state.now.operands.items (length c.args.state.now.operands.items - 1) ≡ Some (to_z w64 (of_z w64 c.in-Some.field-0.now)) =
     ap (λ z. slice_get z (length z - 1)) (sym c.deref.ensures.value) ∙ (sym c.in-Some.ensures.value ∙ ap (λ z. Some z) (sym n)) in
-    begin_tells (record { cost_of = g.E.MachineEnv.cost_of; next_of = g.E.MachineEnv.next_of; part = g.E.MachineEnv.part }) c.args.state.now c.begin.new.self c.args.level c.args.mark c.args.er c.args.ew c.args.limit
+    begin_tells g.E.MachineEnv.env c.args.state.now c.begin.new.self c.args.level c.args.mark c.args.er c.args.ew c.args.limit
     c.in-Began.mark (to_z w64 (of_z w64 c.in-Some.field-0.now)) c.predict.result c.misses.result c.in-Began.ensures.took last
     (c.predict.ensures.value ∙ ap (prediction (to_z w64 (of_z w64 c.in-Some.field-0.now))) (sym c.misses.ensures.value)) c.misses.ensures.value

@@ -24,7 +24,7 @@ up_to a b c p q = omega arith
 
 pub run-init : goal.run-init
 run-init g c =
-    let v : Env g.row.E.Denot = record { cost_of = g.E.MachineEnv.cost_of; next_of = g.E.MachineEnv.next_of; part = g.E.MachineEnv.part } in
+    let v : Env g.row.E.Denot = g.E.MachineEnv.env in
     let from : Start g.row.E.Denot = record { memory = c.args.state.memory.items; env = c.args.state.env } in
     let code = c.args.image.now.instrs in
     let q = c.args.p.now.labelled in
@@ -38,7 +38,7 @@ run-init g c =
 
 pub run-preserved-in-Went : goal.run-preserved-in-Went
 run-preserved-in-Went g c =
-    let v : Env g.row.E.Denot = record { cost_of = g.E.MachineEnv.cost_of; next_of = g.E.MachineEnv.next_of; part = g.E.MachineEnv.part } in
+    let v : Env g.row.E.Denot = g.E.MachineEnv.env in
     let from : Start g.row.E.Denot = record { memory = c.args.state.memory.items; env = c.args.state.env } in
     let code = c.args.image.now.instrs in
     let q = c.args.p.now.labelled in
@@ -53,7 +53,7 @@ run-preserved-in-Went g c =
 
 pub write_moment-requires-clause-below : goal.write_moment-requires-clause-below
 write_moment-requires-clause-below g c =
-    let v : Env g.row.E.Denot = record { cost_of = g.E.MachineEnv.cost_of; next_of = g.E.MachineEnv.next_of; part = g.E.MachineEnv.part } in
+    let v : Env g.row.E.Denot = g.E.MachineEnv.env in
     let from : Start g.row.E.Denot = record { memory = c.args.state.memory.items; env = c.args.state.env } in
     let code = c.args.image.now.instrs in
     let q = c.args.p.now.labelled in
@@ -63,7 +63,7 @@ write_moment-requires-clause-below g c =
 
 pub run-preserved : goal.run-preserved
 run-preserved g c =
-    let v : Env g.row.E.Denot = record { cost_of = g.E.MachineEnv.cost_of; next_of = g.E.MachineEnv.next_of; part = g.E.MachineEnv.part } in
+    let v : Env g.row.E.Denot = g.E.MachineEnv.env in
     let from : Start g.row.E.Denot = record { memory = c.args.state.memory.items; env = c.args.state.env } in
     let code = c.args.image.now.instrs in
     let q = c.args.p.now.labelled in
@@ -82,7 +82,7 @@ run-preserved g c =
 
 pub returns-in_err-write_moment-in-Told-clause-prefix : goal.returns-in_err-write_moment-in-Told-clause-prefix
 returns-in_err-write_moment-in-Told-clause-prefix g c =
-    let v : Env g.row.E.Denot = record { cost_of = g.E.MachineEnv.cost_of; next_of = g.E.MachineEnv.next_of; part = g.E.MachineEnv.part } in
+    let v : Env g.row.E.Denot = g.E.MachineEnv.env in
     let from : Start g.row.E.Denot = record { memory = c.args.state.memory.items; env = c.args.state.env } in
     let code = c.args.image.now.instrs in
     let q = c.args.p.now.labelled in
@@ -102,7 +102,7 @@ returns-in_err-write_moment-in-Told-clause-grown g c =
 
 pub returns-in_err-write_all-in-Stopped-clause-prefix : goal.returns-in_err-write_all-in-Stopped-clause-prefix
 returns-in_err-write_all-in-Stopped-clause-prefix g c =
-    let v : Env g.row.E.Denot = record { cost_of = g.E.MachineEnv.cost_of; next_of = g.E.MachineEnv.next_of; part = g.E.MachineEnv.part } in
+    let v : Env g.row.E.Denot = g.E.MachineEnv.env in
     let from : Start g.row.E.Denot = record { memory = c.args.state.memory.items; env = c.args.state.env } in
     let code = c.args.image.now.instrs in
     let q = c.args.p.now.labelled in
@@ -113,7 +113,7 @@ returns-in_err-write_all-in-Stopped-clause-prefix g c =
 
 pub returns-in-Stopped-clause-end : goal.returns-in-Stopped-clause-end
 returns-in-Stopped-clause-end g c =
-    let v : Env g.row.E.Denot = record { cost_of = g.E.MachineEnv.cost_of; next_of = g.E.MachineEnv.next_of; part = g.E.MachineEnv.part } in
+    let v : Env g.row.E.Denot = g.E.MachineEnv.env in
     let from : Start g.row.E.Denot = record { memory = c.args.state.memory.items; env = c.args.state.env } in
     let code = c.args.image.now.instrs in
     let q = c.args.p.now.labelled in
@@ -121,7 +121,7 @@ returns-in-Stopped-clause-end g c =
 
 pub returns-in-Stopped-clause-printed : goal.returns-in-Stopped-clause-printed
 returns-in-Stopped-clause-printed g c =
-    let v : Env g.row.E.Denot = record { cost_of = g.E.MachineEnv.cost_of; next_of = g.E.MachineEnv.next_of; part = g.E.MachineEnv.part } in
+    let v : Env g.row.E.Denot = g.E.MachineEnv.env in
     let from : Start g.row.E.Denot = record { memory = c.args.state.memory.items; env = c.args.state.env } in
     let code = c.args.image.now.instrs in
     let q = c.args.p.now.labelled in

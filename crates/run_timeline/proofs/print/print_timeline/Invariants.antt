@@ -6,7 +6,7 @@ use Rattle.run_timeline.proofs.print.print_timeline.Given as goal
 abbrev pub invariant-run : goal.invariant-run
 invariant-run g l = record {
   printing :
-      Printing (record { cost_of = g.E.MachineEnv.cost_of; next_of = g.E.MachineEnv.next_of; part = g.E.MachineEnv.part }) l.image.instrs l.limit (record { memory = l.fn.state.memory.items; env = l.fn.state.env })
+      Printing g.E.MachineEnv.env l.image.instrs l.limit (record { memory = l.fn.state.memory.items; env = l.fn.state.env })
       l.fn.p.labelled l.fn.observer l.state (g.W.Sink.taken l.fn.out) (g.W.Sink.taken l.out) l.fn.listing.tallies.items l.listing.tallies.items;
   stands : Stands g.E.MachineEnv.serves l.image l.state;
   places : l.listing.places ≡ l.fn.listing.places;

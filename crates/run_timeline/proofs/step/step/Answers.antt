@@ -11,5 +11,5 @@ obey-requires-clause-served g c = served_from g.E.MachineEnv.serves c.args.image
 
 pub returns : goal.returns
 returns g c =
-    stepped (record { cost_of = g.E.MachineEnv.cost_of; next_of = g.E.MachineEnv.next_of; part = g.E.MachineEnv.part }) g.E.MachineEnv.serves c.args.image.now c.at-i.result c.args.state.now c.obey.new.state c.args.limit c.obey.result
+    stepped g.E.MachineEnv.env g.E.MachineEnv.serves c.args.image.now c.at-i.result c.args.state.now c.obey.new.state c.args.limit c.obey.result
     c.requires c.at-i.ensures c.obey.ensures.tells c.obey.ensures.keeps

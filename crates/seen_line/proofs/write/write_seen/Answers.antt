@@ -25,7 +25,7 @@ shown_variables-shown-requires g c =
 
 pub write_turn-requires : goal.write_turn-requires
 write_turn-requires g c =
-    let v : Env g.row.E.Denot = record { cost_of = g.E.MachineEnv.cost_of; next_of = g.E.MachineEnv.next_of; part = g.E.MachineEnv.part } in
+    let v : Env g.row.E.Denot = g.E.MachineEnv.env in
     let below : IsTurnBelow (variables c.args.p.now.labelled.program.declarations) c.next_shown-turn.result =
     subst (λ n. IsTurnBelow n c.next_shown-turn.result) (ap (λ m. m.variables) c.run.invariant.fields.code ∙ c.requires.variables)
     (turn_below v c.shown_variables-shown.result c.args.limit c.run.m c.next_shown-turn.new.self c.next_shown-turn.result c.laws-in-run.ensures.shaped c.laws-in-run.ensures.stopped c.next_shown-turn.ensures) in
@@ -33,7 +33,7 @@ write_turn-requires g c =
 
 pub returns-in_err-written-clause-prefix : goal.returns-in_err-written-clause-prefix
 returns-in_err-written-clause-prefix g c =
-    let v : Env g.row.E.Denot = record { cost_of = g.E.MachineEnv.cost_of; next_of = g.E.MachineEnv.next_of; part = g.E.MachineEnv.part } in
+    let v : Env g.row.E.Denot = g.E.MachineEnv.env in
     let tells : TellsShown c.args.p.now.labelled (Some c.args.observer) c.shown_variables-shown.result = subst (λ p. TellsShown p (Some c.args.observer) c.shown_variables-shown.result) c.labelled-labelled.ensures.labelled c.shown_variables-shown.ensures in
     let below : IsTurnBelow (variables c.args.p.now.labelled.program.declarations) c.next_shown-turn.result =
     subst (λ n. IsTurnBelow n c.next_shown-turn.result) (ap (λ m. m.variables) c.run.invariant.fields.code ∙ c.requires.variables)
@@ -47,7 +47,7 @@ returns-in_err-written-clause-prefix g c =
 
 pub returns-then-written-clause-text : goal.returns-then-written-clause-text
 returns-then-written-clause-text g c =
-    let v : Env g.row.E.Denot = record { cost_of = g.E.MachineEnv.cost_of; next_of = g.E.MachineEnv.next_of; part = g.E.MachineEnv.part } in
+    let v : Env g.row.E.Denot = g.E.MachineEnv.env in
     let last : is_last c.next_shown-turn.result ≡ true = sym c.in_ok-written.ensures.last ∙ c.if-written.true in
     let tells : TellsShown c.args.p.now.labelled (Some c.args.observer) c.shown_variables-shown.result = subst (λ p. TellsShown p (Some c.args.observer) c.shown_variables-shown.result) c.labelled-labelled.ensures.labelled c.shown_variables-shown.ensures in
     let text : Appends (g.W.Sink.taken c.run.out) (g.W.Sink.taken c.write_turn.new.out) (piece c.args.p.now.labelled.program.declarations c.run.none c.next_shown-turn.result) =
@@ -56,14 +56,14 @@ returns-then-written-clause-text g c =
 
 pub returns-then-written-clause-printable : goal.returns-then-written-clause-printable
 returns-then-written-clause-printable g c =
-    let v : Env g.row.E.Denot = record { cost_of = g.E.MachineEnv.cost_of; next_of = g.E.MachineEnv.next_of; part = g.E.MachineEnv.part } in
+    let v : Env g.row.E.Denot = g.E.MachineEnv.env in
     let last : is_last c.next_shown-turn.result ≡ true = sym c.in_ok-written.ensures.last ∙ c.if-written.true in
     let tells : TellsShown c.args.p.now.labelled (Some c.args.observer) c.shown_variables-shown.result = subst (λ p. TellsShown p (Some c.args.observer) c.shown_variables-shown.result) c.labelled-labelled.ensures.labelled c.shown_variables-shown.ensures in
     whole_printable v c.args.limit c.args.p.now.labelled c.args.observer c.shown_variables-shown.result tells c.args.m.now c.run.m c.next_shown-turn.new.self c.next_shown-turn.result c.run.none _ _ c.run.invariant.fields last c.laws-in-run.ensures.stopped c.next_shown-turn.ensures
 
 pub run-preserved : goal.run-preserved
 run-preserved g c =
-    let v : Env g.row.E.Denot = record { cost_of = g.E.MachineEnv.cost_of; next_of = g.E.MachineEnv.next_of; part = g.E.MachineEnv.part } in
+    let v : Env g.row.E.Denot = g.E.MachineEnv.env in
     let last : is_last c.next_shown-turn.result ≡ false = sym c.in_ok-written.ensures.last ∙ c.if-written.false in
     let tells : TellsShown c.args.p.now.labelled (Some c.args.observer) c.shown_variables-shown.result = subst (λ p. TellsShown p (Some c.args.observer) c.shown_variables-shown.result) c.labelled-labelled.ensures.labelled c.shown_variables-shown.ensures in
     let below : IsTurnBelow (variables c.args.p.now.labelled.program.declarations) c.next_shown-turn.result =
@@ -84,7 +84,7 @@ run-preserved g c =
 
 pub run-smaller : goal.run-smaller
 run-smaller g c =
-    let v : Env g.row.E.Denot = record { cost_of = g.E.MachineEnv.cost_of; next_of = g.E.MachineEnv.next_of; part = g.E.MachineEnv.part } in
+    let v : Env g.row.E.Denot = g.E.MachineEnv.env in
     let last : is_last c.next_shown-turn.result ≡ false = sym c.in_ok-written.ensures.last ∙ c.if-written.false in
     let next = next_turn v c.shown_variables-shown.result c.args.limit c.run.m c.next_shown-turn.new.self c.next_shown-turn.result c.laws-in-run.ensures.stopped c.next_shown-turn.ensures (none_more c.next_shown-turn.result last) in
     let later = next.later in

@@ -1,6 +1,6 @@
 use Rattle.part_tlb.specs.Histories.{part_by_history, part2_by_history}
 use Rattle.history_bound.specs.Over.{AnyHistory}
-use Rattle.tool_stages.specs.Envs.{flat_env}
+use Rattle.env_contract.specs.Flat.{flat_env}
 use Rattle.tool_stages.proofs.SoundLemmas.{sound_in, spelled_in, typed_in}
 use Rattle.tool_stages.proofs.laws.accepted_are_sound.Goals as goal
 

@@ -14,14 +14,14 @@ use Rattle.mit_tool.proofs.commands.run.run_in.Goals as goal
 
 pub returns-in_default-clause-ended : goal.returns-in_default-clause-ended
 returns-in_default-clause-ended g c =
-    let v : Env g.row.E.Denot = record { cost_of = g.E.MachineEnv.cost_of; next_of = g.E.MachineEnv.next_of; part = g.E.MachineEnv.part } in
+    let v : Env g.row.E.Denot = g.E.MachineEnv.env in
     let q = c.args.program.now.typed.labelled in
     let told : Told = told_by (run_from v c.args.program.now.image.instrs c.args.budget (record { memory = c.args.start.memory.items; env = g.M.MakeEnv.made q.program.order c.args.start.touches.items })) in
     ends_memory (g.W.Sink.taken c.args.out.now) (g.W.Sink.taken c.finish.new.out) Nothing (HasTold q c.args.program.now.observer told) c.finish.result refl c.finish.ensures.told c.finish.ensures.prefix
 
 pub returns-in_default-load-clause-ended : goal.returns-in_default-load-clause-ended
 returns-in_default-load-clause-ended g c =
-    let v : Env g.row.E.Denot = record { cost_of = g.E.MachineEnv.cost_of; next_of = g.E.MachineEnv.next_of; part = g.E.MachineEnv.part } in
+    let v : Env g.row.E.Denot = g.E.MachineEnv.env in
     let q = c.args.program.now.typed.labelled in
     let told : Told = told_by (run_from v c.args.program.now.image.instrs c.args.budget (record { memory = c.args.start.memory.items; env = g.M.MakeEnv.made q.program.order c.args.start.touches.items })) in
     ends_memory (g.W.Sink.taken c.args.out.now) (g.W.Sink.taken c.finish-in_default-load.new.out) Nothing (HasTold q c.args.program.now.observer told) c.finish-in_default-load.result refl
@@ -29,7 +29,7 @@ returns-in_default-load-clause-ended g c =
 
 pub returns-clause-ended : goal.returns-clause-ended
 returns-clause-ended g c =
-    let v : Env g.row.E.Denot = record { cost_of = g.E.MachineEnv.cost_of; next_of = g.E.MachineEnv.next_of; part = g.E.MachineEnv.part } in
+    let v : Env g.row.E.Denot = g.E.MachineEnv.env in
     let q = c.args.program.now.typed.labelled in
     let o = c.args.program.now.observer in
     let order = c.lattice-lattice.ensures ∙ ap (λ p. p.order) (c.program.ensures.program ∙ ap (λ l. l.program) c.labelled.ensures.labelled) in

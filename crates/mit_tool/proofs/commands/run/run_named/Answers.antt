@@ -2,11 +2,10 @@ use Rattle.std.proofs.Common.{sym, subst}
 use Rattle.start_file.specs.Starts.{seen}
 use Rattle.cycle_machine.specs.Rest.{Told}
 use Rattle.part_tlb.specs.Histories.{part_by_history, part2_by_history}
-use Rattle.part_tlb.specs.Structures.{part_at, warmed}
-use Rattle.part_tlb.specs.Envs.{part_structure, part_touched, part_penalty, part_after, empty_part, part2_structure, part2_touched, part2_penalty, part2_after, empty_part2}
+use Rattle.part_tlb.specs.Structures.{warmed}
+use Rattle.part_tlb.specs.Envs.{part_structure, part_touched, empty_part, part2_structure, part2_touched, empty_part2, part_env, part2_env}
 use Rattle.part_tlb.specs.declared.part.PartEnv.{PartEnv}
 use Rattle.part_tlb.specs.declared.part2.Part2Env.{Part2Env}
-use Rattle.env_contract.specs.Env.{Env}
 use Rattle.env_contract.specs.declared.place.Touch.{Touch}
 use Rattle.label_lattice.specs.Order.{Order}
 use Rattle.std.specs.Prelude.{List}
@@ -16,13 +15,6 @@ use Rattle.tool_texts.specs.Ends.{EndsBy, Nothing}
 use Rattle.mit_tool.specs.Answers.{HasTold, HasRun}
 use Rattle.tool_stages.proofs.EnvLemmas.{told_alike}
 use Rattle.mit_tool.proofs.commands.run.run_named.Goals as goal
-
--- the environments of caches, and what touches make of them
-abbrev rows : Env PartEnv
-rows = record { cost_of = part_penalty; next_of = part_after; part = part_at part_structure }
-
-abbrev rows2 : Env Part2Env
-rows2 = record { cost_of = part2_penalty; next_of = part2_after; part = part_at part2_structure }
 
 abbrev warm : Order → List Touch → PartEnv
 warm order touches = warmed part_touched (empty_part order) touches
@@ -40,7 +32,7 @@ pub returns-in-Part-clause-ended : goal.returns-in-Part-clause-ended
 returns-in-Part-clause-ended g c =
     let p = c.args.program.now in
     let q = p.typed.labelled in
-    let told = told_alike rows warm part_by_history history_made c.reports_are_the_same.ensures.runs q p.image c.requires.image.0 c.laws.ensures.shaped (seen c.args.start) c.requires.start c.args.setting.budget in
+    let told = told_alike part_env warm part_by_history history_made c.reports_are_the_same.ensures.runs q p.image c.requires.image.0 c.laws.ensures.shaped (seen c.args.start) c.requires.start c.args.setting.budget in
     subst (λ (e : EnvName). EndsBy (g.W.Sink.taken c.args.out.now) (g.W.Sink.taken c.run_in-in-Part.new.out) Nothing
     (HasRun e c.args.setting.budget q p.observer p.image (seen c.args.start)) c.run_in-in-Part.result)
     (sym c.in-Part.is)
@@ -50,7 +42,7 @@ pub returns-in-Part2-clause-ended : goal.returns-in-Part2-clause-ended
 returns-in-Part2-clause-ended g c =
     let p = c.args.program.now in
     let q = p.typed.labelled in
-    let told = told_alike rows2 warm2 part2_by_history history_made c.reports_are_the_same.ensures.runs_in_two q p.image c.requires.image.0 c.laws.ensures.shaped (seen c.args.start) c.requires.start c.args.setting.budget in
+    let told = told_alike part2_env warm2 part2_by_history history_made c.reports_are_the_same.ensures.runs_in_two q p.image c.requires.image.0 c.laws.ensures.shaped (seen c.args.start) c.requires.start c.args.setting.budget in
     subst (λ (e : EnvName). EndsBy (g.W.Sink.taken c.args.out.now) (g.W.Sink.taken c.run_in-in-Part2.new.out) Nothing
     (HasRun e c.args.setting.budget q p.observer p.image (seen c.args.start)) c.run_in-in-Part2.result)
     (sym c.in-Part2.is)
