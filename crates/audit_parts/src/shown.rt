@@ -5,14 +5,15 @@ ghost use Rattle.mit_syntax.specs.Declarations.{variables};
 ghost use Rattle.audit_parts.specs.Observed.{TellsSeen};
 
 use label_lattice::label::Label;
+use mit_syntax::declarations::MAX_CELLS;
 use timing_types::labelled::Labelled;
 
 /// For how many variables a list has room.
-pub const CELLS: usize = 4096;
+pub const CELLS: usize = MAX_CELLS as usize;
 
 /// A list that says of each variable, by its number, whether the observer sees its assignments.
 pub fn seen_variables(p: &Labelled, observer: Label) -> [bool; CELLS]
-    requires { variables p.now.program.declarations ≤ 4096 }
+    requires { variables p.now.program.declarations ≤ 3072 }
     ensures { TellsSeen p.now observer.number result }
 {
     let mut shown = [true; CELLS];

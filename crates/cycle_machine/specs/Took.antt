@@ -59,7 +59,7 @@ pub record Fits {E : Type 0} (i : Instr) (s : State E) : Type 0 where
   pub room : vec_len s.operands + leaves i.work ≤ vec_capacity s.operands + takes i.work
   pub opened : closes i.work ≤ vec_len s.opened
   pub nesting : vec_len s.opened + opens i.work ≤ vec_capacity s.opened + closes i.work
-  pub few : vec_len s.memory ≤ 4096
+  pub few : vec_len s.memory ≤ 3072
   pub range : InRange (vec_len s.memory) 32 i.work
 
 -- what one step did

@@ -25,7 +25,7 @@ pub fn fetch<E: MachineEnv>(env: &mut E, place: u32, er: Label, ew: Label) -> u6
 /// Accesses the datum of a variable, and answers the penalty. Variable i lies at byte 2^20 + 8i.
 #[inline(always)]
 pub fn touch<E: MachineEnv>(env: &mut E, variable: u32, er: Label, ew: Label) -> u64
-    requires few { variable < 4096 }
+    requires few { variable < 3072 }
     requires served { IsServed E.serves env.old er ew }
     ensures cost { result ≡ E.env.cost_of Kind.Data (2 ^ 20 + 8 * variable) er.number ew.number env.old }
     ensures next { env.new ≡ E.env.next_of Kind.Data (2 ^ 20 + 8 * variable) er.number ew.number env.old }

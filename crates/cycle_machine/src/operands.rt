@@ -42,7 +42,7 @@ impl<E: MachineEnv> State<E> {
         requires served { IsServed E.serves self.old.env er ew }
         requires room { vec_len self.old.operands < vec_capacity self.old.operands }
         requires range { x < vec_len self.old.memory }
-        requires few { x < 4096 }
+        requires few { x < 3072 }
         ensures took { Took E.env self.old (record { work = Work.Load x; er = er; ew = ew }) limit result self.new }
         ensures keeps { Keeps E.serves self.old self.new }
     {
@@ -67,7 +67,7 @@ impl<E: MachineEnv> State<E> {
         requires served { IsServed E.serves self.old.env er ew }
         requires depth { 0 < vec_len self.old.operands }
         requires range { x < vec_len self.old.memory }
-        requires few { x < 4096 }
+        requires few { x < 3072 }
         ensures took { Took E.env self.old (record { work = Work.Store x; er = er; ew = ew }) limit result self.new }
         ensures keeps { Keeps E.serves self.old self.new }
     {
@@ -93,7 +93,7 @@ impl<E: MachineEnv> State<E> {
         requires depth { 0 < vec_len self.old.operands }
         requires some { 0 < length }
         requires range { first + length ≤ vec_len self.old.memory }
-        requires few { first + length ≤ 4096 }
+        requires few { first + length ≤ 3072 }
         ensures took { Took E.env self.old (record { work = Work.LoadAt first length; er = er; ew = ew }) limit result self.new }
         ensures keeps { Keeps E.serves self.old self.new }
     {
@@ -124,7 +124,7 @@ impl<E: MachineEnv> State<E> {
         requires depth { 1 < vec_len self.old.operands }
         requires some { 0 < length }
         requires range { first + length ≤ vec_len self.old.memory }
-        requires few { first + length ≤ 4096 }
+        requires few { first + length ≤ 3072 }
         ensures took { Took E.env self.old (record { work = Work.StoreAt first length; er = er; ew = ew }) limit result self.new }
         ensures keeps { Keeps E.serves self.old self.new }
     {

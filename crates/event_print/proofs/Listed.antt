@@ -50,5 +50,5 @@ turn_is_shown p o list (DidHalt c) t l e = tt
 turn_is_shown p o list (DidLimit c) t l e = tt
 
 -- shaped code has few variables
-pub few_variables : (c : Code) → IsShaped c → c.variables ≤ 4096
+pub few_variables : (c : Code) → IsShaped c → c.variables ≤ 3072
 few_variables c s = s.1.variables

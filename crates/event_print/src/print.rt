@@ -1,11 +1,13 @@
 //! Printing a run.
 
-ghost use Rattle.std.specs.Prelude.{◌≡◌, ◌<◌, ◌≤◌, Some, OnOk, OnErr, IfOk, IfSome};
+ghost use Rattle.std.specs.Prelude.{◌≡◌, ◌<◌, ◌≤◌, ◌∷◌, [], Some, OnOk, OnErr, IfOk, IfSome};
 ghost use Rattle.std.specs.Io.KnownBytes.{Appends};
 ghost use Rattle.tim_base.specs.Faults.{Rose};
+ghost use Rattle.tim_base.specs.Logs.{HasSent, HasBroken};
 ghost use Rattle.tim_base.specs.Sinks.{AppendsPrefix};
 ghost use Rattle.mit_syntax.specs.Declarations.{variables};
 ghost use Rattle.cycle_machine.specs.Rest.{rest_of, StandsAfter, turn_of, end_of_turn, IsTurnBelow};
+ghost use Rattle.event_print.specs.Pieces.{SendsLines, BreaksLines};
 ghost use Rattle.event_print.specs.Text.{text_of, event_line, last_line, text_of_turn};
 
 use crate::lines::{event_line, last_line};
@@ -32,6 +34,8 @@ fn print_turn<W: Sink>(
     ensures end { IfOk result (λ end. end ≡ end_of_turn turn) }
     ensures text { OnOk result (Appends (W.taken out.old) (W.taken out.new) (text_of_turn p.now.declarations turn)) }
     ensures prefix { OnErr result (AppendsPrefix (W.taken out.old) (W.taken out.new) (text_of_turn p.now.declarations turn)) }
+    ensures sent { OnOk result (SendsLines p.now.declarations (W.log out.old) (W.log out.new)) }
+    ensures broken { OnErr result (BreaksLines p.now.declarations (W.log out.old) (W.log out.new)) }
     ensures later { W.faults out.old ≤ W.faults out.new }
     ensures fault { OnErr result (Rose (W.faults out.old) (W.faults out.new)) }
 {
@@ -63,6 +67,8 @@ fn print_event<W: Sink>(
     requires { variable < variables p.now.declarations }
     ensures text { OnOk result (Appends (W.taken out.old) (W.taken out.new) (event_line p.now.declarations variable value cycle)) }
     ensures prefix { OnErr result (AppendsPrefix (W.taken out.old) (W.taken out.new) (event_line p.now.declarations variable value cycle)) }
+    ensures sent { OnOk result (HasSent (W.log out.old) (W.log out.new) (event_line p.now.declarations variable value cycle ∷ [])) }
+    ensures broken { OnErr result (HasBroken (W.log out.old) (W.log out.new) (event_line p.now.declarations variable value cycle ∷ [])) }
     ensures later { W.faults out.old ≤ W.faults out.new }
     ensures fault { OnErr result (Rose (W.faults out.old) (W.faults out.new)) }
 {
@@ -77,6 +83,8 @@ fn print_end<W: Sink>(end: RunEnd, out: &mut W) -> Result<Option<RunEnd>, SinkFa
     ensures end { IfOk result (λ e. e ≡ Some end) }
     ensures text { OnOk result (Appends (W.taken out.old) (W.taken out.new) (last_line end)) }
     ensures prefix { OnErr result (AppendsPrefix (W.taken out.old) (W.taken out.new) (last_line end)) }
+    ensures sent { OnOk result (HasSent (W.log out.old) (W.log out.new) (last_line end ∷ [])) }
+    ensures broken { OnErr result (HasBroken (W.log out.old) (W.log out.new) (last_line end ∷ [])) }
     ensures later { W.faults out.old ≤ W.faults out.new }
     ensures fault { OnErr result (Rose (W.faults out.old) (W.faults out.new)) }
 {
@@ -88,7 +96,7 @@ fn print_end<W: Sink>(end: RunEnd, out: &mut W) -> Result<Option<RunEnd>, SinkFa
 /// Runs a machine to a limit in cycles, and writes a line for each assignment that it makes, or of those
 /// that the observer sees, and then how it ended: `X = V @C`, with the place of an element in brackets
 /// after its array's name, and `end @C` or `limit @C`. The machine's image has as many variables as the
-/// program, and the observer is a label of it. Takes no memory.
+/// program, and the observer is a label of it. Each line is written as one piece. Takes no memory.
 ///
 /// # Errors
 /// The sink's fault, where a prefix of the text is written. The machine then stands after the last step that
@@ -105,6 +113,8 @@ pub fn print_run<E: MachineEnv + Drop, W: Sink>(
     ensures end { IfOk result (λ end. end ≡ (rest_of E.env limit m.old).end) }
     ensures text { OnOk result (Appends (W.taken out.old) (W.taken out.new) (text_of p.now.labelled observer (rest_of E.env limit m.old))) }
     ensures prefix { OnErr result (AppendsPrefix (W.taken out.old) (W.taken out.new) (text_of p.now.labelled observer (rest_of E.env limit m.old))) }
+    ensures sent { OnOk result (SendsLines p.now.labelled.program.declarations (W.log out.old) (W.log out.new)) }
+    ensures broken { OnErr result (BreaksLines p.now.labelled.program.declarations (W.log out.old) (W.log out.new)) }
     ensures later { W.faults out.old ≤ W.faults out.new }
     ensures fault { OnErr result (Rose (W.faults out.old) (W.faults out.new)) }
     ensures stopped { IfOk result (λ end. m.new.stopped ≡ Some (turn_of end)) }

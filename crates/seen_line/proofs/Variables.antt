@@ -139,7 +139,7 @@ variables_few (d ∷ ds) =
     let l = length-append (cells_of d.0 d.1.label d.1.length) (cells ds) in
     omega (arith, a, b, n, l)
 
-pub few_variables : (s : Syntax) → IsValid s → variables s.declarations ≤ 4096
+pub few_variables : (s : Syntax) → IsValid s → variables s.declarations ≤ 3072
 few_variables s v =
     let a = variables_few s.declarations in
     let b : length s.declarations ≤ 1024 = v.few.count in

@@ -8,4 +8,4 @@ all_true (suc n) zero = refl
 all_true (suc n) (suc x) = all_true n x
 
 pub returns : goal.returns
-returns c = record { each = c.mark_seen.ensures.variables; others = λ x l. c.mark_seen.ensures.others x l ∙ all_true 4096 x }
+returns c = record { each = c.mark_seen.ensures.variables; others = λ x l. c.mark_seen.ensures.others x l ∙ all_true 3072 x }

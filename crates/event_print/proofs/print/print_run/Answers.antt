@@ -11,6 +11,8 @@ use Rattle.cycle_machine.proofs.Goes.{next_turn, last_turn, turn_below, turn_sho
 use Rattle.event_print.specs.Text.{TellsShown}
 use Rattle.event_print.proofs.Listed.{IsShown, turn_is_shown, few_variables}
 use Rattle.event_print.proofs.Printed.{none_printed, stands_first, more_printed, all_printed, end_is, prefix_printed, stands_turn}
+use Rattle.event_print.specs.Pieces.{SendsLines, BreaksLines}
+use Rattle.event_print.proofs.Pieced.{no_lines, lines_then, lines_break}
 use Rattle.event_print.proofs.print.print_run.Goals as goal
 
 on_err : {T E : Type 0} (r : Result T E) (P : Type 0) → P → OnErr r P
@@ -29,6 +31,7 @@ run-init g c =
     let v : Env g.row.E.Denot = g.E.MachineEnv.env in
     record {
       printed = none_printed v c.args.limit c.args.p.now.labelled c.args.observer c.args.m.now (g.W.Sink.taken c.args.out.now);
+      sent = no_lines c.args.p.now.labelled.program.declarations (g.W.Sink.log c.args.out.now);
       stands = stands_first v c.args.limit c.args.m.now;
       later = omega arith;
       labelled = c.labelled-labelled.ensures.labelled;
@@ -36,7 +39,7 @@ run-init g c =
 
 pub shown_variables-shown-requires : goal.shown_variables-shown-requires
 shown_variables-shown-requires g c =
-    subst (λ n. n ≤ 4096) (c.requires.variables ∙ ap (λ p. variables p.program.declarations) (sym c.labelled-labelled.ensures.labelled)) (few_variables c.args.m.now.code c.laws.ensures.shaped)
+    subst (λ n. n ≤ 3072) (c.requires.variables ∙ ap (λ p. variables p.program.declarations) (sym c.labelled-labelled.ensures.labelled)) (few_variables c.args.m.now.code c.laws.ensures.shaped)
 
 pub print_turn-requires : goal.print_turn-requires
 print_turn-requires g c =
@@ -101,6 +104,7 @@ run-preserved g c =
     let next = next_turn v c.shown_variables-shown.result c.args.limit c.run.m c.next_shown-turn.new.self c.next_shown-turn.result c.laws-in-run.ensures.stopped c.next_shown-turn.ensures none in
     record {
       printed = more_printed v c.args.limit c.args.p.now.labelled c.args.observer c.shown_variables-shown.result c.args.m.now c.run.m c.next_shown-turn.new.self c.next_shown-turn.result _ _ _ tells c.run.invariant.printed next is none line;
+      sent = lines_then c.args.p.now.labelled.program.declarations (g.W.Sink.log c.args.out.now) (g.W.Sink.log c.run.out) (g.W.Sink.log c.print_turn.new.out) c.run.invariant.sent (subst (λ p. SendsLines p.declarations (g.W.Sink.log c.run.out) (g.W.Sink.log c.print_turn.new.out)) (c.program.ensures.program ∙ ap (λ p. p.program) c.labelled-labelled.ensures.labelled) c.in_ok-end.ensures.sent);
       stands = stands_turn v c.args.limit c.args.p.now.labelled c.args.observer c.shown_variables-shown.result c.args.m.now c.run.m c.next_shown-turn.new.self c.next_shown-turn.result _ _ c.run.invariant.printed c.run.invariant.stands c.laws-in-run.ensures.stopped c.next_shown-turn.ensures;
       later = up_to _ _ _ c.run.invariant.later c.print_turn.ensures.later;
       labelled = c.labelled-labelled.ensures.labelled;
@@ -114,3 +118,11 @@ run-smaller g c =
     let later = next.later in
     let within = next.within in
     omega (arith, later, within)
+
+pub returns-in-Some-clause-sent : goal.returns-in-Some-clause-sent
+returns-in-Some-clause-sent g c =
+    lines_then c.args.p.now.labelled.program.declarations (g.W.Sink.log c.args.out.now) (g.W.Sink.log c.run.out) (g.W.Sink.log c.print_turn.new.out) c.run.invariant.sent (subst (λ p. SendsLines p.declarations (g.W.Sink.log c.run.out) (g.W.Sink.log c.print_turn.new.out)) (c.program.ensures.program ∙ ap (λ p. p.program) c.labelled-labelled.ensures.labelled) c.in_ok-end.ensures.sent)
+
+pub returns-in_err-end-clause-broken : goal.returns-in_err-end-clause-broken
+returns-in_err-end-clause-broken g c =
+    on_err _ _ (lines_break c.args.p.now.labelled.program.declarations (g.W.Sink.log c.args.out.now) (g.W.Sink.log c.run.out) (g.W.Sink.log c.print_turn.new.out) c.run.invariant.sent (subst (λ p. BreaksLines p.declarations (g.W.Sink.log c.run.out) (g.W.Sink.log c.print_turn.new.out)) (c.program.ensures.program ∙ ap (λ p. p.program) c.labelled-labelled.ensures.labelled) c.in_err-end.ensures.broken))

@@ -21,7 +21,7 @@ tells_all p None list none all = record { each = λ x l. all x; others = λ x l.
 tells_all p (Some l) list none all = absurd (none l refl)
 
 pub returns-in-Some : goal.returns-in-Some
-returns-in-Some c = tells_some c.args.p.now c.args.observer c.in-Some.label c.mark_seen.new.seen (replicate 4096 true) c.in-Some.is c.mark_seen.ensures.variables c.mark_seen.ensures.others (all_true 4096)
+returns-in-Some c = tells_some c.args.p.now c.args.observer c.in-Some.label c.mark_seen.new.seen (replicate 3072 true) c.in-Some.is c.mark_seen.ensures.variables c.mark_seen.ensures.others (all_true 3072)
 
 pub returns-in_default : goal.returns-in_default
-returns-in_default c = tells_all c.args.p.now c.args.observer _ c.in_default.not-Some (all_true 4096)
+returns-in_default c = tells_all c.args.p.now c.args.observer _ c.in_default.not-Some (all_true 3072)

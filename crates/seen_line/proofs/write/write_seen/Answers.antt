@@ -21,7 +21,7 @@ up_to a b c p q = omega arith
 
 pub shown_variables-shown-requires : goal.shown_variables-shown-requires
 shown_variables-shown-requires g c =
-    subst (λ n. n ≤ 4096) (c.requires.variables ∙ ap (λ p. variables p.program.declarations) (sym c.labelled-labelled.ensures.labelled)) (few_variables c.args.m.now.code c.laws.ensures.shaped)
+    subst (λ n. n ≤ 3072) (c.requires.variables ∙ ap (λ p. variables p.program.declarations) (sym c.labelled-labelled.ensures.labelled)) (few_variables c.args.m.now.code c.laws.ensures.shaped)
 
 pub write_turn-requires : goal.write_turn-requires
 write_turn-requires g c =
