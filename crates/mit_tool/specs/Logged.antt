@@ -3,8 +3,7 @@ use Rattle.std.specs.Prelude.{◌≡◌, ◌≢◌, ◌⊎◌, ◌++◌, ℕ, �
 use Rattle.tim_base.specs.Logs.{Fetched, Offered, Grows, HasSent, HasBroken}
 use Rattle.label_lattice.specs.Names.{IsName}
 use Rattle.mit_syntax.specs.Declarations.{Declaration}
-use Rattle.cycle_machine.specs.declared.end.RunEnd.{RunEnd}
-use Rattle.event_print.specs.Text.{event_line, last_line}
+use Rattle.event_print.specs.Pieces.{IsRunLine as IsLineOf}
 use Rattle.tool_words.specs.WordsAsked.{Asked, run, meaning}
 use Rattle.tool_texts.specs.declared.status.Status.{Status}
 use Rattle.tool_texts.specs.declared.status.Status.TheVariants as status
@@ -22,11 +21,9 @@ pub record HasFetched (names : List (List ℕ)) (s : Status) (old new : Option (
   pub fault : s ≡ status.ReadFault → failed ≡ true
   pub told : failed ≡ true → (s ≡ status.ReadFault) ⊎ (s ≡ status.WriteFault)
 
--- a line of a run's text
+-- a line of the text of a program's run
 abbrev pub IsRunLine : List ℕ → Type 0
-IsRunLine piece =
-    ((ds : List Declaration) × All (λ d. IsName d.0) ds × (x : ℕ) × (n : ℤ) × (c : ℕ) × (piece ≡ event_line ds x n c))
-    ⊎ ((end : RunEnd) × (piece ≡ last_line end))
+IsRunLine piece = (ds : List Declaration) × All (λ d. IsName d.0) ds × IsLineOf ds piece
 
 -- a line of a meaning's text
 abbrev pub IsMeaningLine : List ℕ → Type 0
@@ -34,13 +31,11 @@ IsMeaningLine piece =
     ((ds : List Declaration) × All (λ d. IsName d.0) ds × (x : ℕ) × (n : ℤ) × (piece ≡ value_line ds x n))
     ⊎ ((k : ℕ) × ((piece ≡ ended_line k) ⊎ (piece ≡ not_ended_line k)))
 
--- Each piece is a line, but for the last one where the text of a stop is written.
-pub record AreLines (IsLine : List ℕ → Type 0) (s : Status) (pieces : List (List ℕ)) : Type 0 where
-  pub lines : List (List ℕ)
-  pub last : List ℕ
-  pub are : pieces ≡ lines ++ last ∷ []
-  pub each : All IsLine lines
-  pub whole : (s ≡ status.Done) ⊎ (s ≡ status.Budget) → IsLine last
+-- Each piece is a line; where a call stops, its last piece is the text of the stop.
+abbrev pub AreLines : (List ℕ → Type 0) → Status → List (List ℕ) → Type 0
+AreLines IsLine s pieces =
+    All IsLine pieces
+    ⊎ ((s ≢ status.Done) × (s ≢ status.Budget) × (lines : List (List ℕ)) × (text : List ℕ) × (pieces ≡ lines ++ text ∷ []) × All IsLine lines)
 
 -- A run and a meaning are written a line a piece, and each other text is one piece.
 abbrev pub ArePieces : Option Asked → Status → List (List ℕ) → Type 0

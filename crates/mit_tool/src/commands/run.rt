@@ -57,7 +57,9 @@ fn run_in<E: MachineEnv + Drop, M: MakeEnv<E>, W: Sink>(
         image,
         observer,
     } = program;
-    let lattice = typed.labelled().program().lattice();
+    let source = typed.labelled().program();
+    source.laws();
+    let lattice = source.lattice();
     let Ok(env) = maker.make(alloc, lattice, start.touches.as_slice()) else {
         return finish(out, b"memory\n", Status::Memory);
     };

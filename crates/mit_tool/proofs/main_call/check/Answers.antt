@@ -1,5 +1,5 @@
 use Rattle.std.proofs.Common.{refl, sym, subst}
-use Rattle.std.specs.Prelude.{ℕ, List}
+use Rattle.std.specs.Prelude.{ℕ, List, Some}
 use Rattle.tim_base.specs.Faults.{Rose}
 use Rattle.tool_words.specs.WordsAsked.{check}
 use Rattle.tool_texts.specs.declared.status.Status.TheVariants.{Done}
@@ -9,6 +9,8 @@ use Rattle.mit_tool.specs.Answers.{IsAnswer}
 use Rattle.tool_texts.proofs.EndLemmas.{ends_finish, ends_stop}
 use Rattle.tool_stages.proofs.EarlyLemmas.{check_stopped}
 use Rattle.mit_tool.proofs.StopLemmas.{check_stops}
+use Rattle.mit_tool.proofs.LoggedLemmas.{one_piece}
+use Rattle.mit_tool.specs.Logged.{ArePieces}
 use Rattle.mit_tool.proofs.main_call.check.Goals as goal
 
 pub returns-in-Ok-clause-answered : goal.returns-in-Ok-clause-answered
@@ -28,3 +30,9 @@ returns-in-Err-clause-answered g c =
 pub returns-in-Err-clause-sound : goal.returns-in-Err-clause-sound
 returns-in-Err-clause-sound g c = λ past. absurd
     (check_stopped (λ (name : List ℕ). Rose (g.S.Shelf.faults c.args.shelf.now name) (g.S.Shelf.faults c.check_line.new.shelf name)) (g.S.Shelf.content c.args.shelf.now) c.args.file.now c.in-Err.e c.stop.result _ c.in-Err.ensures.stop c.stop.ensures.told past)
+
+pub returns-in-Err-clause-pieces : goal.returns-in-Err-clause-pieces
+returns-in-Err-clause-pieces g c =
+    let e = c.in-Err.e in
+    one_piece (ArePieces (Some (check c.args.file.now))) (status_of e) c.stop.result (stop_text e) (g.W.Sink.log c.args.out.now) (g.W.Sink.log c.stop.new.out) (stop_text e, refl)
+    (λ n. (c.stop.ensures.told n).0) c.stop.ensures.sent c.stop.ensures.broken

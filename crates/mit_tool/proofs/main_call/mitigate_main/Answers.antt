@@ -1,10 +1,10 @@
 use Rattle.std.proofs.Common.{◌≡◌, ◌⊎◌, inr, refl}
-use Rattle.std.specs.Prelude.{ℕ, List, map, string_bytes}
+use Rattle.std.specs.Prelude.{ℕ, List, map, string_bytes, codes}
 use Rattle.tim_base.specs.Faults.{Rose}
 use Rattle.tool_words.specs.WordsAsked.{Asked, command_of}
 use Rattle.tool_words.specs.WordsViews.{asked_of}
 use Rattle.tool_texts.specs.declared.status.Status.TheVariants.{Done, Usage, Memory}
-use Rattle.tool_texts.specs.Texts.{usage_text}
+use Rattle.tool_texts.specs.Texts.{usage_text, memory_line}
 use Rattle.tool_texts.specs.Ends.{EndsBy, Nothing}
 use Rattle.mit_tool.specs.Answers.{IsAnswer, IsUsage, Before, HeldIsSound}
 use Rattle.mit_tool.specs.Complete.{CanBeDone, NoneRises}
@@ -16,6 +16,8 @@ use Rattle.mit_tool.proofs.CompleteLemmas.{completes}
 use Rattle.mit_tool.proofs.OneHeld.{ends_held}
 use Rattle.mit_tool.proofs.PastLemmas.{ends_past, ends_rechecked}
 use Rattle.mit_tool.proofs.BoundLemmas.{within}
+use Rattle.mit_tool.proofs.LoggedLemmas.{fetched_nothing, never_read, memory_pieces, one_piece}
+use Rattle.mit_tool.specs.Logged.{ArePieces, named_by}
 use Rattle.mit_tool.proofs.main_call.mitigate_main.Goals as goal
 
 pub returns-in-Err-Usage-clause-usage : goal.returns-in-Err-Usage-clause-usage
@@ -107,3 +109,18 @@ returns-in-Err-Memory-clause-bounded g c = any_some (command_of (map string_byte
 
 pub returns-in-Err-Usage-clause-bounded : goal.returns-in-Err-Usage-clause-bounded
 returns-in-Err-Usage-clause-bounded g c = any_some (command_of (map string_bytes c.args.words.now)) AreWithin (within c.accepted_are_sound.ensures.spelled c.few_release_lists.ensures.few)
+
+pub returns-in-Err-Usage-clause-fetched : goal.returns-in-Err-Usage-clause-fetched
+returns-in-Err-Usage-clause-fetched g c =
+    fetched_nothing (named_by (command_of (map string_bytes c.args.words.now))) (g.S.Shelf.log c.args.shelf.now) c.stop.result
+    (never_read Usage c.stop.result (λ e. absurd cc) (λ n. (c.stop.ensures.told n).0))
+
+pub returns-in-Err-Memory-clause-fetched : goal.returns-in-Err-Memory-clause-fetched
+returns-in-Err-Memory-clause-fetched g c =
+    fetched_nothing (named_by (command_of (map string_bytes c.args.words.now))) (g.S.Shelf.log c.args.shelf.now) c.finish.result
+    (never_read Memory c.finish.result (λ e. absurd cc) (λ n. (c.finish.ensures.told n).0))
+
+pub returns-in-Err-Memory-clause-pieces : goal.returns-in-Err-Memory-clause-pieces
+returns-in-Err-Memory-clause-pieces g c =
+    one_piece (ArePieces (command_of (map string_bytes c.args.words.now))) Memory c.finish.result memory_line (g.W.Sink.log c.args.out.now) (g.W.Sink.log c.finish.new.out)
+    (memory_pieces (command_of (map string_bytes c.args.words.now)) memory_line) (λ n. (c.finish.ensures.told n).0) c.finish.ensures.sent c.finish.ensures.broken

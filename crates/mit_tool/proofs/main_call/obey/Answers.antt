@@ -1,6 +1,6 @@
 use Rattle.std.proofs.Common.{ℕ, List, sym, subst}
 use Rattle.tim_base.specs.Faults.{Rose}
-use Rattle.std.specs.Prelude.{IfSome, IsTrue, Some}
+use Rattle.std.specs.Prelude.{IfSome, IsTrue, Some, [], ◌∷◌}
 use Rattle.mit_gen.specs.Made.{program_text}
 use Rattle.tool_words.specs.declared.words.Command.{Command}
 use Rattle.tool_words.specs.WordsViews.{asked_of}
@@ -11,6 +11,9 @@ use Rattle.mit_tool.specs.Answers.{IsAnswer, Before, HasGenerated, typed_content
 use Rattle.tool_texts.proofs.EndLemmas.{result_tells, no_fault, ends_finish}
 use Rattle.tool_stages.proofs.EarlyLemmas.{told_sound}
 use Rattle.mit_tool.proofs.TellLemmas.{infer_no_fault, compile_no_fault, audit_no_fault, cut_no_fault, gen_no_fault, blackbox_no_fault, certify_no_fault}
+use Rattle.mit_tool.proofs.LoggedLemmas.{told_fetched, told_piece, told_nothing, gen_no_read}
+use Rattle.mit_tool.specs.Logged.{HasFetched, HasWritten, ArePieces}
+use Rattle.mit_tool.specs.Complete.{files_of}
 use Rattle.mit_tool.proofs.main_call.obey.Goals as goal
 
 pub returns-in-Check-clause-answered : goal.returns-in-Check-clause-answered
@@ -177,3 +180,61 @@ returns-in-Recheck-clause-answered g c =
     let content = g.S.Shelf.content c.args.shelf.now in
     let rises = λ (name : List ℕ). Rose (g.S.Shelf.faults c.args.shelf.now name) (g.S.Shelf.faults c.recheck.new.shelf name) in
     subst (λ (x : Command). EndsBy (g.W.Sink.taken c.args.out.now) (g.W.Sink.taken c.recheck.new.out) (Before content (asked_of x)) (IsAnswer rises content (asked_of x)) c.recheck.result) (sym c.in-Recheck.is) c.recheck.ensures.answered
+
+pub returns-in-Run-clause-pieces : goal.returns-in-Run-clause-pieces
+returns-in-Run-clause-pieces g c =
+    subst (λ (x : Command). HasWritten (ArePieces (Some (asked_of x))) c.run.result (g.W.Sink.log c.args.out.now) (g.W.Sink.log c.run.new.out)) (sym c.in-Run.is) c.run.ensures.pieces
+
+pub returns-in-Meaning-clause-pieces : goal.returns-in-Meaning-clause-pieces
+returns-in-Meaning-clause-pieces g c =
+    subst (λ (x : Command). HasWritten (ArePieces (Some (asked_of x))) c.meaning.result (g.W.Sink.log c.args.out.now) (g.W.Sink.log c.meaning.new.out)) (sym c.in-Meaning.is) c.meaning.ensures.pieces
+
+pub returns-in-Infer-clause-fetched : goal.returns-in-Infer-clause-fetched
+returns-in-Infer-clause-fetched g c =
+    subst (λ (x : Command). HasFetched (files_of (asked_of x)) c.tell.result (g.S.Shelf.log c.args.shelf.now) (g.S.Shelf.log c.infer_text.new.shelf)) (sym c.in-Infer.is)
+    (told_fetched (c.in-Infer.file.now ∷ []) (g.S.Shelf.log c.args.shelf.now) (g.S.Shelf.log c.infer_text.new.shelf) c.infer_text.result c.tell.result c.infer_text.ensures.log (λ n. (c.tell.ensures.told n).0))
+
+pub returns-in-Compile-clause-fetched : goal.returns-in-Compile-clause-fetched
+returns-in-Compile-clause-fetched g c =
+    subst (λ (x : Command). HasFetched (files_of (asked_of x)) c.tell-in-Compile.result (g.S.Shelf.log c.args.shelf.now) (g.S.Shelf.log c.compile_text.new.shelf)) (sym c.in-Compile.is)
+    (told_fetched (c.in-Compile.file.now ∷ []) (g.S.Shelf.log c.args.shelf.now) (g.S.Shelf.log c.compile_text.new.shelf) c.compile_text.result c.tell-in-Compile.result c.compile_text.ensures.log (λ n. (c.tell-in-Compile.ensures.told n).0))
+
+pub returns-in-Audit-clause-fetched : goal.returns-in-Audit-clause-fetched
+returns-in-Audit-clause-fetched g c =
+    subst (λ (x : Command). HasFetched (files_of (asked_of x)) c.tell-in-Audit.result (g.S.Shelf.log c.args.shelf.now) (g.S.Shelf.log c.audit_text.new.shelf)) (sym c.in-Audit.is)
+    (told_fetched (c.in-Audit.file.now ∷ c.in-Audit.starts.now ∷ []) (g.S.Shelf.log c.args.shelf.now) (g.S.Shelf.log c.audit_text.new.shelf) c.audit_text.result c.tell-in-Audit.result c.audit_text.ensures.log (λ n. (c.tell-in-Audit.ensures.told n).0))
+
+pub returns-in-Audit-clause-pieces : goal.returns-in-Audit-clause-pieces
+returns-in-Audit-clause-pieces g c =
+    subst (λ (x : Command). HasWritten (ArePieces (Some (asked_of x))) c.tell-in-Audit.result (g.W.Sink.log c.args.out.now) (g.W.Sink.log c.tell-in-Audit.new.out)) (sym c.in-Audit.is)
+    (told_piece c.audit_text.result c.tell-in-Audit.result (g.W.Sink.log c.args.out.now) (g.W.Sink.log c.tell-in-Audit.new.out) (λ n. (c.tell-in-Audit.ensures.told n).0) c.tell-in-Audit.ensures.sent c.tell-in-Audit.ensures.broken)
+
+pub returns-in-Gen-clause-fetched : goal.returns-in-Gen-clause-fetched
+returns-in-Gen-clause-fetched g c =
+    subst (λ (x : Command). HasFetched (files_of (asked_of x)) c.tell-in-Gen.result (g.S.Shelf.log c.args.shelf.now) (g.S.Shelf.log c.args.shelf.now)) (sym c.in-Gen.is)
+    (told_nothing (g.S.Shelf.log c.args.shelf.now) c.gen_text.result c.tell-in-Gen.result (gen_no_read c.in-Gen.size c.in-Gen.number) c.gen_text.ensures.stop (λ n. (c.tell-in-Gen.ensures.told n).0))
+
+pub returns-in-Gen-clause-pieces : goal.returns-in-Gen-clause-pieces
+returns-in-Gen-clause-pieces g c =
+    subst (λ (x : Command). HasWritten (ArePieces (Some (asked_of x))) c.tell-in-Gen.result (g.W.Sink.log c.args.out.now) (g.W.Sink.log c.tell-in-Gen.new.out)) (sym c.in-Gen.is)
+    (told_piece c.gen_text.result c.tell-in-Gen.result (g.W.Sink.log c.args.out.now) (g.W.Sink.log c.tell-in-Gen.new.out) (λ n. (c.tell-in-Gen.ensures.told n).0) c.tell-in-Gen.ensures.sent c.tell-in-Gen.ensures.broken)
+
+pub returns-in-Blackbox-clause-fetched : goal.returns-in-Blackbox-clause-fetched
+returns-in-Blackbox-clause-fetched g c =
+    subst (λ (x : Command). HasFetched (files_of (asked_of x)) c.tell-in-Blackbox.result (g.S.Shelf.log c.args.shelf.now) (g.S.Shelf.log c.blackbox_text.new.shelf)) (sym c.in-Blackbox.is)
+    (told_fetched (c.in-Blackbox.ready.now ∷ []) (g.S.Shelf.log c.args.shelf.now) (g.S.Shelf.log c.blackbox_text.new.shelf) c.blackbox_text.result c.tell-in-Blackbox.result c.blackbox_text.ensures.log (λ n. (c.tell-in-Blackbox.ensures.told n).0))
+
+pub returns-in-Cut-clause-fetched : goal.returns-in-Cut-clause-fetched
+returns-in-Cut-clause-fetched g c =
+    subst (λ (x : Command). HasFetched (files_of (asked_of x)) c.tell-in-Cut.result (g.S.Shelf.log c.args.shelf.now) (g.S.Shelf.log c.cut_text.new.shelf)) (sym c.in-Cut.is)
+    (told_fetched (c.in-Cut.file.now ∷ c.in-Cut.starts.now ∷ []) (g.S.Shelf.log c.args.shelf.now) (g.S.Shelf.log c.cut_text.new.shelf) c.cut_text.result c.tell-in-Cut.result c.cut_text.ensures.log (λ n. (c.tell-in-Cut.ensures.told n).0))
+
+pub returns-in-Cut-clause-pieces : goal.returns-in-Cut-clause-pieces
+returns-in-Cut-clause-pieces g c =
+    subst (λ (x : Command). HasWritten (ArePieces (Some (asked_of x))) c.tell-in-Cut.result (g.W.Sink.log c.args.out.now) (g.W.Sink.log c.tell-in-Cut.new.out)) (sym c.in-Cut.is)
+    (told_piece c.cut_text.result c.tell-in-Cut.result (g.W.Sink.log c.args.out.now) (g.W.Sink.log c.tell-in-Cut.new.out) (λ n. (c.tell-in-Cut.ensures.told n).0) c.tell-in-Cut.ensures.sent c.tell-in-Cut.ensures.broken)
+
+pub returns-in-Certify-clause-fetched : goal.returns-in-Certify-clause-fetched
+returns-in-Certify-clause-fetched g c =
+    subst (λ (x : Command). HasFetched (files_of (asked_of x)) c.tell-in-Certify.result (g.S.Shelf.log c.args.shelf.now) (g.S.Shelf.log c.certify_text.new.shelf)) (sym c.in-Certify.is)
+    (told_fetched (c.in-Certify.file.now ∷ []) (g.S.Shelf.log c.args.shelf.now) (g.S.Shelf.log c.certify_text.new.shelf) c.certify_text.result c.tell-in-Certify.result c.certify_text.ensures.log (λ n. (c.tell-in-Certify.ensures.told n).0))

@@ -1,5 +1,5 @@
 use Rattle.std.proofs.Common.{refl, sym, subst, Err}
-use Rattle.std.specs.Prelude.{ℕ, List}
+use Rattle.std.specs.Prelude.{ℕ, List, [], ◌∷◌, Ok}
 use Rattle.tim_base.specs.Faults.{Rose}
 use Rattle.tool_words.specs.WordsAsked.{recheck}
 use Rattle.tool_texts.specs.declared.status.Status.TheVariants.{Done}
@@ -7,6 +7,7 @@ use Rattle.tool_texts.specs.Ends.{Nothing, status_of, stop_text}
 use Rattle.mit_tool.specs.Answers.{IsAnswer}
 use Rattle.tool_texts.proofs.EndLemmas.{ends_finish, ends_stop, no_fault}
 use Rattle.mit_tool.proofs.TellLemmas.{recheck_no_fault}
+use Rattle.mit_tool.proofs.LoggedLemmas.{fetched_by}
 use Rattle.mit_tool.proofs.main_call.recheck.Goals as goal
 
 pub returns-in-Ok-clause-answered : goal.returns-in-Ok-clause-answered
@@ -30,3 +31,8 @@ returns-in-Err-clause-answered g c =
     let e = c.in-Err.e in
     ends_stop (g.W.Sink.taken c.args.out.now) (g.W.Sink.taken c.stop.new.out) Nothing answer answer (status_of e) (stop_text e) c.stop.result refl
     (λ t x. x) c.in-Err.ensures.stop c.stop.ensures.told c.stop.ensures.prefix
+
+pub returns-in-Ok-clause-fetched : goal.returns-in-Ok-clause-fetched
+returns-in-Ok-clause-fetched g c =
+    fetched_by (c.args.file.now ∷ c.args.certificate.now ∷ []) (g.S.Shelf.log c.args.shelf.now) (g.S.Shelf.log c.recheck_line.new.shelf) Done c.finish.result (Ok tt)
+    (λ e. absurd cc) c.in-Ok.ensures.log (λ n. (c.finish.ensures.told n).0)

@@ -1,4 +1,4 @@
-use Rattle.std.specs.Prelude.{ℕ, List, [], map}
+use Rattle.std.specs.Prelude.{ℕ, List, [], map, ◌∷◌, Some}
 use Rattle.tim_base.specs.Faults.{Rose}
 use Rattle.start_file.specs.Starts.{seen}
 use Rattle.tool_texts.specs.declared.status.Status.TheVariants.{Done}
@@ -6,6 +6,9 @@ use Rattle.tool_stages.proofs.PrepareLemmas.{prepared_goes, prepare_stops, audit
 use Rattle.tool_stages.proofs.EarlyLemmas.{prepare_not_late}
 use Rattle.mit_tool.proofs.PrepareLemmas.{audit_next}
 use Rattle.mit_tool.proofs.AuditLemmas.{audited_after, audited_stop_after}
+use Rattle.tool_stages.proofs.FetchLemmas.{fetch_stops, not_read}
+use Rattle.mit_tool.proofs.LoggedLemmas.{audited_no_read}
+use Rattle.mit_tool.specs.Audited.{HasAudited}
 use Rattle.mit_tool.proofs.commands.audit.audit_text.Goals as goal
 
 pub returns-in-Err-clause-stop : goal.returns-in-Err-clause-stop
@@ -33,3 +36,8 @@ returns-clause-stop g c =
     c.args.file.now c.args.name.now (Rose (g.S.Shelf.faults c.args.shelf.now c.args.starts.now) (g.S.Shelf.faults c.prepare.new.shelf c.args.starts.now)) (g.S.Shelf.content c.args.shelf.now c.args.starts.now)
     p.compiled.typed.labelled p.observer p.compiled.image (map seen p.starts.items) (audit_next c.args.setting.env c.args.setting.budget) c.in-Err-audit_after.stop c.in-Ok.ensures.ok
     (audited_stop_after c.args.setting.env c.args.setting.budget p.compiled.typed.labelled p.observer (map seen p.starts.items) _ [] c.in-Err-audit_after.stop c.new.ensures.items c.in-Err-audit_after.ensures.stop)
+
+pub returns-clause-log : goal.returns-clause-log
+returns-clause-log g c =
+    fetch_stops (Unit {0}) (Unit {0}) (c.args.file.now ∷ c.args.starts.now ∷ []) (g.S.Shelf.log c.args.shelf.now) (g.S.Shelf.log c.prepare.new.shelf) tt c.in-Err-audit_after.stop
+    (not_read (HasAudited c.args.setting.env c.args.setting.budget c.in-Ok.prepared.compiled.typed.labelled (Some c.in-Ok.prepared.observer) (map seen c.in-Ok.prepared.starts.items) c.new.result.items) (λ t. audited_no_read c.args.setting.env c.args.setting.budget c.in-Ok.prepared.compiled.typed.labelled (Some c.in-Ok.prepared.observer) (map seen c.in-Ok.prepared.starts.items) c.new.result.items t) c.in-Err-audit_after.stop c.in-Err-audit_after.ensures.stop) c.in-Ok.ensures.log

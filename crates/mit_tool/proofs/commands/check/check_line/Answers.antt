@@ -1,5 +1,11 @@
-use Rattle.std.proofs.Common.{refl, ap, inr, ◌∙◌}
+use Rattle.std.proofs.Common.{refl, ap, inr, ◌∙◌, sym, subst}
 use Rattle.tool_texts.specs.Texts.{accepted_line}
+use Rattle.std.specs.Prelude.{ℕ, List, [], ◌∷◌, Result}
+use Rattle.tool_stages.proofs.FetchLemmas.{fetch_stops, not_read}
+use Rattle.mit_syntax.specs.Program.{Syntax}
+use Rattle.tool_texts.specs.declared.stop.Stop.{Stop}
+use Rattle.tool_stages.specs.Stages.{TypeStops}
+use Rattle.tool_stages.specs.Fetches.{Fetches}
 use Rattle.mit_tool.proofs.commands.check.check_line.Goals as goal
 
 pub returns-clause-line : goal.returns-clause-line
@@ -15,3 +21,10 @@ returns-clause-sound g c = record {
   types = c.in_ok-typed.ensures.ok;
   sound = c.accepted_are_sound.ensures.valid c.in_ok-program.program c.in_ok-typed.field-0.labelled c.body.ensures.valid c.in_ok-typed.ensures.ok;
 }
+
+pub returns-in_err-typed-clause-log : goal.returns-in_err-typed-clause-log
+returns-in_err-typed-clause-log g c =
+    let e = c.in_err-typed.field-0.0 in
+    subst (λ (r : Result (List ℕ) Stop). Fetches (c.args.file.now ∷ []) (g.S.Shelf.log c.args.shelf.now) (g.S.Shelf.log c.read_program.new.shelf) r) (sym c.from_residual-in_err-typed.ensures.1)
+    (fetch_stops Syntax (List ℕ) (c.args.file.now ∷ []) (g.S.Shelf.log c.args.shelf.now) (g.S.Shelf.log c.read_program.new.shelf) c.in_ok-program.program e
+    (not_read (TypeStops c.in_ok-program.program) (λ t h. h) e c.in_err-typed.ensures.stop) c.in_ok-program.ensures.log)

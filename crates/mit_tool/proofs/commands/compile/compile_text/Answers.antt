@@ -1,9 +1,12 @@
 use Rattle.std.proofs.Common.{ap, ◌∙◌}
-use Rattle.std.specs.Prelude.{ℕ, List, None}
+use Rattle.std.specs.Prelude.{ℕ, List, None, [], ◌∷◌}
 use Rattle.tim_base.specs.Faults.{Rose}
 use Rattle.image_print.specs.ImageText.{image_text}
 use Rattle.tool_stages.proofs.EarlyLemmas.{compile_not_late}
 use Rattle.mit_tool.proofs.PrepareLemmas.{compile_tells, compile_stops_text}
+use Rattle.tool_stages.proofs.FetchLemmas.{fetch_stops}
+use Rattle.tool_texts.specs.Ends.{status_of}
+use Rattle.tool_stages.specs.Fetches.{is_read_fault}
 use Rattle.mit_tool.proofs.commands.compile.compile_text.Goals as goal
 
 pub returns-in-Err-clause-stop : goal.returns-in-Err-clause-stop
@@ -23,3 +26,8 @@ pub returns-in-Err-clause-sound_stop : goal.returns-in-Err-clause-sound_stop
 returns-in-Err-clause-sound_stop g c = λ late.
     absurd (compile_not_late (λ (name : List ℕ). Rose (g.S.Shelf.faults c.args.shelf.now name) (g.S.Shelf.faults c.compile.new.shelf name)) (g.S.Shelf.content c.args.shelf.now)
     c.args.file.now None c.in-Err.stop c.in-Err.ensures.stop late)
+
+pub returns-clause-log : goal.returns-clause-log
+returns-clause-log g c =
+    fetch_stops (Unit {0}) (Unit {0}) (c.args.file.now ∷ []) (g.S.Shelf.log c.args.shelf.now) (g.S.Shelf.log c.compile.new.shelf) tt c.no_memory.result
+    (ap (λ e. is_read_fault (status_of e)) c.no_memory.ensures) c.in-Ok.ensures.log

@@ -1,5 +1,5 @@
 use Rattle.std.proofs.Common.{refl}
-use Rattle.std.specs.Prelude.{ℕ, List, option_map}
+use Rattle.std.specs.Prelude.{ℕ, List, option_map, ◌∷◌, Ok}
 use Rattle.tim_base.specs.Faults.{Rose}
 use Rattle.start_file.specs.Starts.{seen}
 use Rattle.tool_words.specs.WordsAsked.{run}
@@ -8,6 +8,9 @@ use Rattle.tool_stages.specs.Begins.{RunStops}
 use Rattle.mit_tool.specs.Answers.{IsAnswer, HasRun}
 use Rattle.tool_texts.proofs.EndLemmas.{ends_map, ends_stop}
 use Rattle.mit_tool.proofs.StopLemmas.{ready_tells, run_stops}
+use Rattle.mit_tool.proofs.LoggedLemmas.{fetched_by, stop_alone, run_stopped}
+use Rattle.mit_tool.specs.Logged.{IsRunLine}
+use Rattle.tool_stages.specs.Fetches.{named}
 use Rattle.mit_tool.proofs.commands.run.run.Goals as goal
 
 pub returns-in-Ok-clause-answered : goal.returns-in-Ok-clause-answered
@@ -36,3 +39,16 @@ returns-in-Err-clause-answered g c =
     (IsAnswer rises content (run c.args.file.now starts c.args.setting.env c.args.setting.budget name)) (status_of e) (stop_text e) c.stop.result refl
     (λ t. run_stops rises content c.args.file.now starts name c.args.setting.env c.args.setting.budget (status_of e) t)
     c.in-Err.ensures.stop c.stop.ensures.told c.stop.ensures.prefix
+
+pub returns-in-Ok-clause-fetched : goal.returns-in-Ok-clause-fetched
+returns-in-Ok-clause-fetched g c =
+    fetched_by (c.args.file.now ∷ named (option_map (λ s. s.now) c.args.starts)) (g.S.Shelf.log c.args.shelf.now) (g.S.Shelf.log c.ready.new.shelf) c.run_named.result c.run_named.result (Ok tt)
+    c.run_named.ensures.unread c.in-Ok.ensures.log (λ n. refl)
+
+pub returns-in-Err-clause-pieces : goal.returns-in-Err-clause-pieces
+returns-in-Err-clause-pieces g c =
+    let rises = λ (name : List ℕ). Rose (g.S.Shelf.faults c.args.shelf.now name) (g.S.Shelf.faults c.ready.new.shelf name) in
+    let e = c.in-Err.e in
+    stop_alone IsRunLine e c.stop.result (g.W.Sink.log c.args.out.now) (g.W.Sink.log c.stop.new.out)
+    (run_stopped rises (g.S.Shelf.content c.args.shelf.now) c.args.file.now (option_map (λ s. s.now) c.args.starts) (option_map (λ s. s.now) c.args.name) e c.in-Err.ensures.stop)
+    (λ n. (c.stop.ensures.told n).0) c.stop.ensures.sent c.stop.ensures.broken

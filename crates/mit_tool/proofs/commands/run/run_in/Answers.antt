@@ -10,6 +10,11 @@ use Rattle.mit_tool.specs.Answers.{HasTold, status_at}
 use Rattle.tool_texts.proofs.EndLemmas.{ends_memory}
 use Rattle.tool_stages.proofs.RunLemmas.{loaded_runs}
 use Rattle.mit_tool.proofs.RunLemmas.{told_tells}
+use Rattle.std.specs.Prelude.{All}
+use Rattle.mit_tool.proofs.LoggedLemmas.{run_sent, run_broken}
+use Rattle.label_lattice.specs.Names.{IsName}
+use Rattle.mit_syntax.specs.Program.{Syntax}
+use Rattle.tool_texts.specs.declared.status.Status.TheVariants.{Done, Budget}
 use Rattle.mit_tool.proofs.commands.run.run_in.Goals as goal
 
 pub returns-in_default-clause-ended : goal.returns-in_default-clause-ended
@@ -42,3 +47,21 @@ returns-clause-ended g c =
       told_tells q o told,
       subst (λ (z : Told). AppendsPrefix (g.W.Sink.taken c.args.out.now) (g.W.Sink.taken c.print_run.new.out) (text_of q o z)) runs c.in-Err.ensures.prefix,
     )
+
+pub returns-in-Ok-Halted-clause-pieces : goal.returns-in-Ok-Halted-clause-pieces
+returns-in-Ok-Halted-clause-pieces g c =
+    let is = c.program-source.ensures.program ∙ ap (λ l. l.program) c.labelled.ensures.labelled in
+    let names = subst (λ (p : Syntax). All (λ d. IsName d.0) p.declarations) is c.laws.ensures.valid.names in
+    run_sent c.args.program.now.typed.labelled.program.declarations Done (g.W.Sink.log c.args.out.now) (g.W.Sink.log c.print_run.new.out) names (λ e. absurd cc) (c.print_run.ensures.sent)
+
+pub returns-in-Ok-Limit-clause-pieces : goal.returns-in-Ok-Limit-clause-pieces
+returns-in-Ok-Limit-clause-pieces g c =
+    let is = c.program-source.ensures.program ∙ ap (λ l. l.program) c.labelled.ensures.labelled in
+    let names = subst (λ (p : Syntax). All (λ d. IsName d.0) p.declarations) is c.laws.ensures.valid.names in
+    run_sent c.args.program.now.typed.labelled.program.declarations Budget (g.W.Sink.log c.args.out.now) (g.W.Sink.log c.print_run.new.out) names (λ e. absurd cc) (c.print_run.ensures.sent)
+
+pub returns-clause-pieces : goal.returns-clause-pieces
+returns-clause-pieces g c =
+    let is = c.program-source.ensures.program ∙ ap (λ l. l.program) c.labelled.ensures.labelled in
+    let names = subst (λ (p : Syntax). All (λ d. IsName d.0) p.declarations) is c.laws.ensures.valid.names in
+    run_broken c.args.program.now.typed.labelled.program.declarations (g.W.Sink.log c.args.out.now) (g.W.Sink.log c.print_run.new.out) names (c.print_run.ensures.broken)
