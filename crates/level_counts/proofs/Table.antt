@@ -5,11 +5,11 @@ use Rattle.std.proofs.lemmas.List.Elements.{All-append}
 use Rattle.mit_syntax.specs.Expression.{Expression, Number, Variable, Binary, Element}
 use Rattle.mit_syntax.specs.Todo.{Todo, Done, Skip, Assign, Put, Sleep, If, While, Mitigate, then_todo}
 use Rattle.mit_syntax.specs.Plan.{Plan, mitigates}
-use Rattle.mit_syntax.specs.Declarations.{Declaration, variables, elements_in}
+use Rattle.mit_syntax.specs.Declarations.{Declaration, variables}
 use Rattle.mit_syntax.specs.Program.{Syntax, plan_of}
 use Rattle.mit_syntax.specs.Valid.{AreNumbered, AreShaped, IsKnown, AreKnown, IsValid}
 use Rattle.mit_syntax.specs.Values.{value_of, holds}
-use Rattle.mit_syntax.proofs.Numbers.{first_bound, first_all}
+use Rattle.mit_syntax.proofs.Numbers.{few_cells}
 use Rattle.mit_syntax.proofs.Facts.{scalar_below, array_below, array_some}
 use Rattle.source_meaning.specs.Source.{source_act}
 use Rattle.source_meaning.specs.InRange.{IsIn}
@@ -149,13 +149,5 @@ all_in s v = known_all s.declarations v.arrays s.order.size (plan_of s) v.known
 pub table_in : (r s : Syntax) (table : List Expression) (n : ℕ) → r ≡ s → IsValid r → table ≡ estimates_of (plan_of s) → n ≡ variables s.declarations → All (IsIn n) table
 table_in r s table n e valid same long = subst (λ z. All (IsIn n) z) (sym same) (subst (λ z. All (IsIn z) (estimates_of (plan_of s))) (sym long) (all_in s (subst IsValid e valid)))
 
-pub few_variables : (r s : Syntax) (n : ℕ) → r ≡ s → IsValid r → n ≡ variables s.declarations → n ≤ 4096
-few_variables r s n e valid long = go (subst IsValid e valid)
-  where
-    go : IsValid s → n ≤ 4096
-    go v =
-        let few = first_bound s.declarations (length s.declarations) in
-        let all = first_all s.declarations in
-        let count : length s.declarations ≤ 1024 = v.few.count in
-        let elements : elements_in s.declarations ≤ 2048 = v.few.elements in
-        omega (arith, few, all, count, elements, long)
+pub few_variables : (r s : Syntax) (n : ℕ) → r ≡ s → IsValid r → n ≡ variables s.declarations → n ≤ 3072
+few_variables r s n e valid long = let v = subst IsValid e valid in let few = few_cells s.declarations v.few in omega (arith, few, long)

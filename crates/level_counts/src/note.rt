@@ -11,6 +11,7 @@ ghost use Rattle.sharp_count.specs.Levels.{told_of};
 ghost use Rattle.level_counts.specs.Noted.{lesser, with_one, with_first, noted, stored};
 
 use mit_syntax::ast::Expr;
+use mit_syntax::declarations::MAX_CELLS;
 use sharp_count::count::LevelRuns;
 use source_meaning::value::value;
 use source_meaning::walk::Walk;
@@ -61,7 +62,7 @@ pub fn note(
 )
     requires fit { length estimates.now ≡ mitigates (plan_of p.now.program) }
     requires within { All (IsIn (length memory.now)) (map (λ e. expression_of e.now) estimates.now) }
-    requires few { length memory.now ≤ 4096 }
+    requires few { length memory.now ≤ MAX_CELLS }
     requires levels { length levels.old.items ≡ p.now.program.order.size }
     requires room { (l : ℕ) → (told_of levels.old.items l).mitigations + 1 < 2 ^ 64 }
     ensures { levels.new.items ≡ noted (λ k. slice_index_or relevant.now k false) (levels_of p.now) (map (λ e. expression_of e.now) estimates.now) walk memory.now levels.old.items }

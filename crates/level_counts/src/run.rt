@@ -41,7 +41,7 @@ pub fn run_levels(
     ensures { IfOk result (λ v. (o : ℕ) → relevant.now ≡ relevances (order_of p.now) (labels_of p.now) (levels_of p.now) o (order_of p.now).bottom (plan_of p.now.program) → AreTold p.now o (memory.now ∷ []) v.items) }
 {
     let program = p.program();
-    let _ = program.variables();
+    program.laws();
     let mut levels = vec![in alloc; NONE; program.lattice().size() as usize]?;
     let mut walker = Walker::new(alloc, program, memory)?;
     let mut memory = Vec::from_slice(alloc, memory)?;

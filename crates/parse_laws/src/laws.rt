@@ -44,7 +44,8 @@ pub fn program_is_not_refused()
 pub fn one_cut()
     ensures tokens { (text : List ℕ) (a b : List Token) → AreTokens text a → AreTokens text b → a ≡ b }
     ensures no_fault { (text : List ℕ) (tokens : List Token) → AreTokens text tokens → (f : TextFault) → IsFault text f → f ≡ text_fault.Memory }
-    ensures fault { (text : List ℕ) (f g : TextFault) → IsFault text f → IsFault text g → f ≢ text_fault.Memory → g ≢ text_fault.Memory → f ≡ g }
+    ensures fault { (text : List ℕ) (f g : TextFault) → IsFault text f → IsFault text g
+        → f ≢ text_fault.Memory → g ≢ text_fault.Memory → f ≡ g }
 {}
 
 /// Words are refused for one reason at most, want of memory aside.
@@ -65,5 +66,6 @@ pub fn canonical_reads_back()
 /// Whatever program the canonical text of a program is, it is that program, but for the positions of its
 /// commands.
 pub fn canonical_is_one_program()
-    ensures { (s : Syntax) → IsValid s → (tokens : List Token) → AreTokens (canonical s) tokens → (u : Syntax) → IsProgram (told (canonical s) tokens) u → Same u s }
+    ensures { (s : Syntax) → IsValid s → (tokens : List Token) → AreTokens (canonical s) tokens
+        → (u : Syntax) → IsProgram (told (canonical s) tokens) u → Same u s }
 {}

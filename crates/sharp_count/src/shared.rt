@@ -73,7 +73,8 @@ fn double(table: &mut [Row; PLACES], most: u64)
 /// There is no answer for more than `MAX_SHARED` mitigations. The time that it takes grows with the binary digits of T,
 /// and not with T.
 pub fn shared_count(mitigations: u64, first: u64, t: u64) -> Option<u128>
-    ensures exact { mitigations ≤ 64 → (all : List (List (List ℕ))) → AreWays t (λ l. first) 1 (λ l. mitigations) all → result ≡ Some (length all) }
+    ensures exact { mitigations ≤ 64 → (all : List (List (List ℕ)))
+        → AreWays t (λ l. first) 1 (λ l. mitigations) all → result ≡ Some (length all) }
     ensures left_out { 64 < mitigations → result ≡ None }
     ensures few { IfSome result (λ n. n ≤ rising (miss_counts t first) mitigations) }
     ensures one { mitigations ≡ 1 → result ≡ Some (miss_counts t first) }

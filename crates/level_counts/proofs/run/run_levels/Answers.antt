@@ -14,7 +14,7 @@ pub loop-taken-init : goal.loop-taken-init
 loop-taken-init c =
     let made : c.in_ok-levels.levels.items ≡ replicate c.size.result none = search rules in
     going_begin (λ k. slice_index_or c.args.relevant.now k false) (levels_of c.args.p.now) c.args.p.now.program c.args.memory.now c.program-program.result.now c.in_ok-walker.walker c.in_ok-memory.memory.items c.in_ok-levels.levels.items
-    c.program-program.ensures.program c.variables.ensures.valid c.in_ok-walker.ensures c.in_ok-memory.ensures.items c.requires.long (made ∙ ap (λ z. replicate z none) (c.size.ensures.value ∙ ap (λ z. z.size) c.lattice.ensures))
+    c.program-program.ensures.program c.laws.ensures.valid c.in_ok-walker.ensures c.in_ok-memory.ensures.items c.requires.long (made ∙ ap (λ z. replicate z none) (c.size.ensures.value ∙ ap (λ z. z.size) c.lattice.ensures))
 
 pub note-requires : goal.note-requires
 note-requires c =
@@ -24,8 +24,8 @@ note-requires c =
     let all = length-estimates (plan_of c.args.p.now.program) in
     record {
       fit = omega (arith, table, many, all);
-      within = table_in c.program-program.result.now c.args.p.now.program (map (λ e. expression_of e.now) c.args.estimates.now) (length c.deref.result.now) c.program-program.ensures.program c.variables.ensures.valid c.requires.estimates (here ∙ c.loop-taken.invariant.long);
-      few = few_variables c.program-program.result.now c.args.p.now.program (length c.deref.result.now) c.program-program.ensures.program c.variables.ensures.valid (here ∙ c.loop-taken.invariant.long);
+      within = table_in c.program-program.result.now c.args.p.now.program (map (λ e. expression_of e.now) c.args.estimates.now) (length c.deref.result.now) c.program-program.ensures.program c.laws.ensures.valid c.requires.estimates (here ∙ c.loop-taken.invariant.long);
+      few = few_variables c.program-program.result.now c.args.p.now.program (length c.deref.result.now) c.program-program.ensures.program c.laws.ensures.valid (here ∙ c.loop-taken.invariant.long);
       levels = c.loop-taken.invariant.size;
       room = λ l. let f = c.loop-taken.invariant.counted.few l in let t = c.loop-taken-test.true in let r = c.ranges.steps.fits in omega (arith, f, t, r);
     }
