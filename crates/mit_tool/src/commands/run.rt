@@ -11,10 +11,10 @@ ghost use Rattle.tool_stages.specs.Stages.{HasImage};
 ghost use Rattle.tool_stages.specs.Accepted.{is_past_typing, IsAccepted};
 ghost use Rattle.mit_tool.specs.Answers.{IsAnswer, HasTold, HasRun};
 
+use cycle_machine::end::RunEnd;
 use cycle_machine::machine::Machine;
 use env_contract::env::MachineEnv;
 use env_contract::make::{MakeEnv, MakeFlat};
-use cycle_machine::end::RunEnd;
 use event_print::print::print_run;
 use history_reports::laws::reports_are_the_same;
 use part_tlb::part::MakePart;
