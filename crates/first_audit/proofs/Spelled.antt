@@ -5,7 +5,8 @@ use Rattle.mit_parser.specs.Words.{told}
 use Rattle.mit_parser.specs.Tree.{number_atom, name_atom, no_index, term_of, no_factor, sum_of, no_addend, plain, Whole, and_name, no_marks, CommandTree, assign_of, sleep_of, mitigate_of, block_of, commands_of, no_more, and_more, no_header, label_of, scalar_of, DeclarationTree, declaration_of, no_declarations, and_declaration, ProgramTree, Atom}
 use Rattle.mit_parser.specs.Limits.{CommandsWithin}
 use Rattle.mit_parser.specs.Spells.{Spells, Resolves, IsProgram}
-use Rattle.made_program.proofs.Order.{two_sound}
+use Rattle.mit_parser.proofs.NamedWhole.{named_of}
+use Rattle.made_laws.proofs.Order.{two_sound}
 use Rattle.first_audit.specs.FirstAudit.{program_text}
 use Rattle.first_run.proofs.Order.{two_built}
 use Rattle.first_audit.proofs.Cut.{tokens}
@@ -53,7 +54,7 @@ within : CommandsWithin 0 tree.commands
 within = (((omega arith, omega arith), (omega arith, ((omega arith, omega arith), tt))), ((tt, (omega arith, omega arith)), tt))
 
 resolves : Resolves tree program
-resolves = record { header = refl; order = two_built two_sound; pairs = refl; declarations = refl; body = refl; plan = refl }
+resolves = record { named = named_of tree refl refl; order = two_built two_sound; pairs = refl; declarations = refl; plan = refl }
 
 pub spelled : IsProgram (told program_text tokens) program
 spelled = record { tree = tree; spells = spells; within = within; resolves = resolves }

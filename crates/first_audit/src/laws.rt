@@ -3,7 +3,7 @@
 ghost use Rattle.std.specs.Prelude.{◌≡◌, ◌<◌, ℕ, List, Option, Some, codes};
 ghost use Rattle.tim_base.specs.Faults.{Rose};
 ghost use Rattle.mit_syntax.specs.Program.{Syntax};
-ghost use Rattle.made_starts.specs.MadeStarts.{IsMade};
+ghost use Rattle.made_laws.specs.MadeStarts.{IsMade};
 ghost use Rattle.tool_words.specs.declared.words.EnvName.TheVariants.{Part};
 ghost use Rattle.tool_words.specs.WordsAsked.{command_of, audit};
 ghost use Rattle.tool_texts.specs.declared.status.Status.{Status};
@@ -13,7 +13,7 @@ ghost use Rattle.mit_tool.specs.Answers.{IsAnswer};
 ghost use Rattle.mit_tool.specs.Complete.{NoneRises, CanBeDone};
 ghost use Rattle.first_audit.specs.FirstAudit.{program_text, starts_text, program_file, starts_file, budget, audit_words, audit_answer, IsMet};
 
-use made_words::laws::made_text_has_words;
+use made_laws::words::made_text_has_words;
 use mit_tool::laws::one_answer;
 
 /// The premises of the theorem can be met, and there is something to bound: a file that is told to hold the program

@@ -5,7 +5,8 @@ use Rattle.mit_parser.specs.Words.{told}
 use Rattle.mit_parser.specs.Tree.{number_atom, no_index, term_of, no_factor, sum_of, no_addend, plain, no_marks, CommandTree, assign_of, commands_of, no_more, no_header, label_of, scalar_of, DeclarationTree, declaration_of, no_declarations, and_declaration, ProgramTree}
 use Rattle.mit_parser.specs.Limits.{CommandsWithin}
 use Rattle.mit_parser.specs.Spells.{Spells, Resolves, IsProgram}
-use Rattle.made_program.proofs.Order.{two_sound}
+use Rattle.mit_parser.proofs.NamedWhole.{named_of}
+use Rattle.made_laws.proofs.Order.{two_sound}
 use Rattle.first_run.specs.FirstRun.{first_text}
 use Rattle.first_run.proofs.Order.{two_built}
 use Rattle.first_run.proofs.Cut.{tokens}
@@ -35,7 +36,7 @@ within : CommandsWithin 0 tree.commands
 within = ((tt, (omega arith, omega arith)), tt)
 
 resolves : Resolves tree program
-resolves = record { header = refl; order = two_built two_sound; pairs = refl; declarations = refl; body = refl; plan = refl }
+resolves = record { named = named_of tree refl refl; order = two_built two_sound; pairs = refl; declarations = refl; plan = refl }
 
 pub spelled : IsProgram (told first_text tokens) program
 spelled = record { tree = tree; spells = spells; within = within; resolves = resolves }

@@ -8,20 +8,20 @@ use Rattle.mit_syntax.specs.Program.{Syntax}
 use Rattle.mit_syntax.proofs.OneFault.{no_tokens}
 use Rattle.mit_parser.specs.Words.{Told, told}
 use Rattle.mit_parser.specs.Tree.{Header, no_header, ProgramTree}
-use Rattle.mit_parser.specs.Faults.{header_labels}
+use Rattle.mit_parser.specs.Named.{label_names}
 use Rattle.mit_parser.specs.Spells.{Spells, Refuses, IsProgram}
 use Rattle.mit_gen.specs.Made.{program_text, starts_text}
 use Rattle.mit_gen.proofs.Sizes.{program_short, starts_short}
-use Rattle.made_words.specs.Words.{HasWords}
-use Rattle.made_words.specs.MadeWords.{program_chunks, program_words}
-use Rattle.made_words.proofs.Apart.{chunk_words}
-use Rattle.made_words.proofs.Parts.{program_apart}
-use Rattle.made_words.proofs.Texts.{program_bytes}
-use Rattle.made_program.proofs.Onto.{ToldAs, told_as}
-use Rattle.made_program.proofs.Trees.{program_tree, program_spelled}
-use Rattle.made_program.proofs.Wholly.{made_spelled}
-use Rattle.made_starts.specs.MadeStarts.{made_starts}
-use Rattle.made_starts.proofs.Given.{made_has_starts}
+use Rattle.made_laws.specs.Words.{HasWords}
+use Rattle.made_laws.specs.MadeWords.{program_chunks, program_words}
+use Rattle.made_laws.proofs.Apart.{chunk_words}
+use Rattle.made_laws.proofs.Parts.{program_apart}
+use Rattle.made_laws.proofs.Texts.{program_bytes}
+use Rattle.made_laws.proofs.Onto.{ToldAs, told_as}
+use Rattle.made_laws.proofs.Trees.{program_tree, program_spelled}
+use Rattle.made_laws.proofs.Wholly.{made_spelled}
+use Rattle.made_laws.specs.MadeStarts.{made_starts}
+use Rattle.made_laws.proofs.Given.{made_has_starts}
 use Rattle.start_file.specs.Starts.{StartValue}
 use Rattle.parse_laws.proofs.OneProgram.{one_tree}
 use Rattle.parse_laws.proofs.Refused.{not_refused}
@@ -67,10 +67,10 @@ made_header (suc n) number tokens tree some a s =
     let spells : Spells (program_tree number n h.positions) words = (h.last, h.are ∙ program_spelled number n h.positions _) in
     ap (λ (x : ProgramTree). x.header) (one_tree words tree (program_tree number n h.positions) s spells)
 
-first_is_low : (head : Header) (o : Order) → head ≡ no_header → o.size ≡ length (header_labels head).names → o.names ≡ (header_labels head).names → (0 < o.size) × (name_of o 0 ≡ codes "L")
+first_is_low : (head : Header) (o : Order) → head ≡ no_header → o.size ≡ length (label_names head) → o.names ≡ label_names head → (0 < o.size) × (name_of o 0 ≡ codes "L")
 first_is_low head o is size named =
-    let two : o.size ≡ 2 = size ∙ ap (λ (x : Header). length (header_labels x).names) is in
-    let names : o.names ≡ (76 ∷ []) ∷ (72 ∷ []) ∷ [] = named ∙ ap (λ (x : Header). (header_labels x).names) is in
+    let two : o.size ≡ 2 = size ∙ ap (λ (x : Header). length (label_names x)) is in
+    let names : o.names ≡ (76 ∷ []) ∷ (72 ∷ []) ∷ [] = named ∙ ap (λ (x : Header). label_names x) is in
     (omega (arith, two), ap (λ (x : List (List ℕ)). slice_index_or x 0 []) names)
 
 made_low : (size number : ℕ) (p : Syntax) → 0 < size → Reads (Some (Some (program_text size number))) p → (0 < p.order.size) × (name_of p.order 0 ≡ codes "L")
