@@ -4,7 +4,7 @@ use Rattle.std.specs.Prelude.{Bool, true, false, ◌||◌, cond, Some, slice_get
 use Rattle.std.proofs.lemmas.Bool.{cases_lt, cases_eq, or_left, or_right}
 use Rattle.std.proofs.lemmas.Option.{same_Some, slice_get_within}
 use Rattle.label_infer.specs.declared.row.Row.{Row}
-use Rattle.label_infer.specs.declared.needs.Condition.{Condition}
+use Rattle.label_infer.specs.declared.constraints.Condition.{Condition}
 use Rattle.label_infer.specs.declared.blocks.Blocks.{Blocks}
 use Rattle.label_infer.specs.Rows.{has_in}
 use Rattle.label_infer.specs.Sets.{has_of}

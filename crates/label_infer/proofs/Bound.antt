@@ -10,9 +10,9 @@ use Rattle.mit_syntax.specs.Program.{Syntax, plan_of}
 use Rattle.mit_syntax.specs.Valid.{IsValid}
 use Rattle.timing_types.specs.Walk.{Side, OfCommand, OfVariable, OfLevel}
 use Rattle.timing_types.specs.Labelling.{label_at}
-use Rattle.label_infer.specs.declared.needs.Condition.{Condition}
+use Rattle.label_infer.specs.declared.constraints.Condition.{Condition}
 use Rattle.label_infer.specs.Forms.{value}
-use Rattle.label_infer.specs.Known.{need_of, needs_in}
+use Rattle.label_infer.specs.Known.{constraint_of, constraints_in}
 use Rattle.label_infer.specs.Work.{Work, waits_at, have_in, woken, joined, taken_side, Takes, IsWorkOf, Climb, start, up, ChainsHaveUpTo, row_count, shares, score, row_left, steps_left, IsWithin}
 use Rattle.label_infer.proofs.Completed.{lattice_laws}
 use Rattle.label_infer.specs.Least.{is_free}
@@ -64,13 +64,13 @@ wait_le n w has l l' y h f g = ⊎_elim
 
 left_le : (n : ℕ) (l l' : ℕ → ℕ) → ((x : ℕ) → l' x ≤ l x) → (cs : List Condition) (ws : List Bool) → steps_left n l' cs ws ≤ steps_left n l cs ws
 left_le n l l' f [] ws = omega arith
-left_le n l l' f (c ∷ cs) [] = omega (arith, row_le n (need_of c).have.has l l' f, left_le n l l' f cs [])
-left_le n l l' f (c ∷ cs) (w ∷ ws) = omega (arith, row_le n (need_of c).have.has l l' f, left_le n l l' f cs ws)
+left_le n l l' f (c ∷ cs) [] = omega (arith, row_le n (constraint_of c).have.has l l' f, left_le n l l' f cs [])
+left_le n l l' f (c ∷ cs) (w ∷ ws) = omega (arith, row_le n (constraint_of c).have.has l l' f, left_le n l l' f cs ws)
 
 woken_le : (n : ℕ) (l l' : ℕ → ℕ) (y : ℕ) → y < n → ((x : ℕ) → l' x ≤ l x) → l' y < l y → (cs : List Condition) (ws : List Bool) → steps_left n l' cs (woken y cs ws) ≤ steps_left n l cs ws
 woken_le n l l' y h f g [] ws = omega arith
-woken_le n l l' y h f g (c ∷ cs) [] = omega (arith, row_le n (need_of c).have.has l l' f, left_le n l l' f cs [])
-woken_le n l l' y h f g (c ∷ cs) (w ∷ ws) = omega (arith, wait_le n w (need_of c).have.has l l' y h f g, woken_le n l l' y h f g cs ws)
+woken_le n l l' y h f g (c ∷ cs) [] = omega (arith, row_le n (constraint_of c).have.has l l' f, left_le n l l' f cs [])
+woken_le n l l' y h f g (c ∷ cs) (w ∷ ws) = omega (arith, wait_le n w (constraint_of c).have.has l l' y h f g, woken_le n l l' y h f g cs ws)
 
 -- a condition that waited waits no more
 clear_le : (n : ℕ) (l : ℕ → ℕ) (cs : List Condition) (ws : List Bool) (i : ℕ) (c : Condition) → slice_get cs i ≡ Some c → waits_at ws i ≡ true →
@@ -88,10 +88,10 @@ row_count_le : (n c : ℕ) (has : ℕ → Bool) (l : ℕ → ℕ) → ((x : ℕ)
 row_count_le zero c has l f = omega arith
 row_count_le (suc n) c has l f = count_step (has n) (l n) c (row_left n has l) (row_count n has) (f n) (row_count_le n c has l f)
 
-start_le : (n c : ℕ) (l : ℕ → ℕ) → ((x : ℕ) → l x ≤ c - 1) → (cs : List Condition) (ws : List Bool) → steps_left n l cs ws ≤ shares n c (needs_in cs)
+start_le : (n c : ℕ) (l : ℕ → ℕ) → ((x : ℕ) → l x ≤ c - 1) → (cs : List Condition) (ws : List Bool) → steps_left n l cs ws ≤ shares n c (constraints_in cs)
 start_le n c l f [] ws = omega arith
-start_le n c l f (x ∷ cs) [] = omega (arith, row_count_le n (c - 1) (need_of x).have.has l f, start_le n c l f cs [])
-start_le n c l f (x ∷ cs) (w ∷ ws) = omega (arith, score_le w, row_count_le n (c - 1) (need_of x).have.has l f, start_le n c l f cs ws)
+start_le n c l f (x ∷ cs) [] = omega (arith, row_count_le n (c - 1) (constraint_of x).have.has l f, start_le n c l f cs [])
+start_le n c l f (x ∷ cs) (w ∷ ws) = omega (arith, score_le w, row_count_le n (c - 1) (constraint_of x).have.has l f, start_le n c l f cs ws)
 
 -- at the start no step is used
 pub first_within : (w : Work) (c : ℕ) → ((x : ℕ) → label_at w.order.bottom w.variables x < w.order.size) → IsWithin w c 0
@@ -108,7 +108,7 @@ module _ (s : Syntax) (valid : IsValid s) (cs : List Condition) (ws : List Bool)
   g = label_at s.order.bottom vs
 
   abbrev v : ℕ
-  v = value (lattice_of s.order) (length vs) (label_at s.order.bottom vs) (need_of c).have
+  v = value (lattice_of s.order) (length vs) (label_at s.order.bottom vs) (constraint_of c).have
 
   abbrev left : (ℕ → ℕ) → ℕ → ℕ
   left r x = k - 1 - r x
@@ -122,7 +122,7 @@ module _ (s : Syntax) (valid : IsValid s) (cs : List Condition) (ws : List Bool)
   level_within : (ls' : List Label) → IsWithin (work s.order cs (slice_set ws i false) vs ls') k (1 + used)
   level_within ls' = let q = cleared in let p = b.bound in record { rises = b.rises; climbs = b.climbs; bound = omega (arith, q, p) }
 
-  variable_within : (x : ℕ) → (need_of c).side ≡ OfVariable x → la.flows v (g x) ≡ false → IsWithin (work s.order cs (woken x cs (slice_set ws i false)) (joined la s.order.bottom vs x v) ls) k (1 + used)
+  variable_within : (x : ℕ) → (constraint_of c).side ≡ OfVariable x → la.flows v (g x) ≡ false → IsWithin (work s.order cs (woken x cs (slice_set ws i false)) (joined la s.order.bottom vs x v) ls) k (1 + used)
   variable_within x side rose =
       let ll = lattice_laws s.order valid.order in
       let free = subst (λ z. IsRight (is_free s.declarations) (written_levels (plan_of s)) z) side (is_open s valid cs ws vs ls h i c e).side in
@@ -148,23 +148,23 @@ module _ (s : Syntax) (valid : IsValid s) (cs : List Condition) (ws : List Bool)
       let w = woken_le (length vs) (left r) (left r') x l (λ y. let m = more y in omega (arith, m)) (omega (arith, rx, top)) cs (slice_set ws i false) in
       let q = cleared in
       let p = b.bound in
-      let fin : (1 + used) + steps_left (length vs) (left r') cs (woken x cs (slice_set ws i false)) ≤ shares (length vs) k (needs_in cs) = omega (arith, w, q, p) in
+      let fin : (1 + used) + steps_left (length vs) (left r') cs (woken x cs (slice_set ws i false)) ≤ shares (length vs) k (constraints_in cs) = omega (arith, w, q, p) in
       record {
         rises = r';
         climbs = λ y. ⊎_elim
             (λ (q : y ≡ x). subst (λ z. Climb la s.order.size (g' z) (r' z)) (sym q) (subst (λ z. Climb la s.order.size (g' x) z) (sym rx) (subst (λ z. Climb la s.order.size z (1 + r x)) (sym is) climb)))
             (λ (q : y ≡ x → ⊥). subst (λ z. Climb la s.order.size (g' y) z) (sym (ry y q)) (subst (λ z. Climb la s.order.size z (r y)) (sym (set_other s.order.bottom vs x y new q)) (b.climbs y)))
             (cases_eq y x);
-        bound = subst (λ z. (1 + used) + steps_left z (left r') cs (woken x cs (slice_set ws i false)) ≤ shares z k (needs_in cs)) (sym len) fin;
+        bound = subst (λ z. (1 + used) + steps_left z (left r') cs (woken x cs (slice_set ws i false)) ≤ shares z k (constraints_in cs)) (sym len) fin;
       }
 
-  spent : (need_of c).side ≡ OfCommand → IsWithin (work s.order cs ws vs ls) k (1 + used)
+  spent : (constraint_of c).side ≡ OfCommand → IsWithin (work s.order cs ws vs ls) k (1 + used)
   spent q = absurd (subst (λ z. IsRight (is_free s.declarations) (written_levels (plan_of s)) z) q (is_open s valid cs ws vs ls h i c e).side)
 
-  taken_within : IsWithin (taken_side (work s.order cs ws vs ls) i v (need_of c).side) k (1 + used)
-  taken_within = go (need_of c).side refl
+  taken_within : IsWithin (taken_side (work s.order cs ws vs ls) i v (constraint_of c).side) k (1 + used)
+  taken_within = go (constraint_of c).side refl
     where
-      go : (d : Side) → (need_of c).side ≡ d → IsWithin (taken_side (work s.order cs ws vs ls) i v d) k (1 + used)
+      go : (d : Side) → (constraint_of c).side ≡ d → IsWithin (taken_side (work s.order cs ws vs ls) i v d) k (1 + used)
       go OfCommand q = spent q
       go (OfVariable x) q = by (la.flows v (g x)) refl
         where
@@ -180,7 +180,7 @@ still_within s valid w w' i c k used h t upto b =
     let h2 = subst (λ z. IsWorkOf s z) q h in
     let b2 = subst (λ z. IsWithin z k used) q b in
     let r = taken_within s valid w.conditions w.waits w.variables w.levels h2 i c t.there t.waits k used upto b2 in
-    subst (λ z. IsWithin z k (1 + used)) (sym (t.taken ∙ ap (λ z. taken_side z i (have_in z (need_of c)) (need_of c).side) q)) r
+    subst (λ z. IsWithin z k (1 + used)) (sym (t.taken ∙ ap (λ z. taken_side z i (have_in z (constraint_of c)) (constraint_of c).side) q)) r
 
 -- how many of the labels below n a label flows to
 abbrev above : Lattice → ℕ → ℕ → ℕ

@@ -4,7 +4,7 @@ use Rattle.label_lattice.specs.declared.label.Label.{Label}
 use Rattle.mit_syntax.specs.Program.{Syntax}
 use Rattle.mit_syntax.specs.Valid.{IsValid}
 use Rattle.timing_types.specs.Labelling.{Labelling}
-use Rattle.label_infer.specs.declared.needs.Condition.{Condition}
+use Rattle.label_infer.specs.declared.constraints.Condition.{Condition}
 use Rattle.label_infer.specs.Least.{Labels, IsLeast, TypesMost}
 use Rattle.label_infer.specs.Work.{Work, Takes, IsDone, IsWorkOf, IsInferred}
 use Rattle.label_infer.proofs.Taking.{least_done, still_work, inferred}

@@ -12,7 +12,7 @@ use Rattle.mit_syntax.specs.Declarations.{Declaration}
 use Rattle.mit_syntax.specs.Valid.{AreMarksBelow, AreKnown, AreNumbered}
 use Rattle.timing_types.specs.Walk.{Side, OfCommand, OfVariable, OfLevel}
 use Rattle.label_infer.specs.Given.{written_levels}
-use Rattle.label_infer.specs.Forms.{Form, Need, fixed, both, variable_form, label_form, index_form, put_form, here_form, own_form, after_form, loop_form, demand_form, end_form, set_need, level_need, needs}
+use Rattle.label_infer.specs.Forms.{LeftSide, Constraint, fixed, both, variable_form, label_form, index_form, put_form, here_form, own_form, after_form, loop_form, demand_form, end_form, set_constraint, level_constraint, constraints}
 use Rattle.label_infer.proofs.Placed.{length_levels}
 
 -- the label is a variable's without a written one, or a level that is not written
@@ -21,7 +21,7 @@ IsRight free W OfCommand = ⊥
 IsRight free W (OfVariable x) = free x ≡ true
 IsRight free W (OfLevel k written) = (k < length W) × (get_or W k None ≡ None)
 
-pub record IsOpen (n : ℕ) (free : ℕ → Bool) (W : List (Option Label)) (c : Need) : Type 0 where
+pub record IsOpen (n : ℕ) (free : ℕ → Bool) (W : List (Option Label)) (c : Constraint) : Type 0 where
   pub base : c.have.base < n
   pub side : IsRight free W c.side
 
@@ -37,7 +37,7 @@ module _ (lat : Lattice) (n : ℕ) (low : lat.bottom < n) (closed : (a b : ℕ) 
   variable_base : (x : ℕ) → (variable_form lat free written x).base < n
   variable_base x = go (free x)
     where
-      go : (v : Bool) → (cond {A = Form} v (record { base = lat.bottom; has = λ y. false || eqb x y }) (fixed (written x))).base < n
+      go : (v : Bool) → (cond {A = LeftSide} v (record { base = lat.bottom; has = λ y. false || eqb x y }) (fixed (written x))).base < n
       go true = low
       go false = small x
 
@@ -56,7 +56,7 @@ module _ (lat : Lattice) (n : ℕ) (low : lat.bottom < n) (closed : (a b : ℕ) 
   put_base : (i e : Expression) → (put_form lat free written i e).base < n
   put_base i e = closed (label_form lat free written i).base (index_form lat free written e).base (label_base i) (index_base e)
 
-  own_base : (o : Option (Label × Label)) (h : Form) → AreMarksBelow n o → h.base < n → (own_form o h).base < n
+  own_base : (o : Option (Label × Label)) (h : LeftSide) → AreMarksBelow n o → h.base < n → (own_form o h).base < n
   own_base None h k l = l
   own_base (Some p) h k l = k.0
 
@@ -66,31 +66,31 @@ module _ (lat : Lattice) (n : ℕ) (low : lat.bottom < n) (closed : (a b : ℕ) 
   five : (a b c d e : ℕ) → a < n → b < n → c < n → d < n → e < n → lat.join (lat.join (lat.join (lat.join a b) c) d) e < n
   five a b c d e f h k i j = three (lat.join (lat.join a b) c) d e (three a b c f h k) i j
 
-  abbrev E : Plan → Form → Form → Form
+  abbrev E : Plan → LeftSide → LeftSide → LeftSide
   E = end_form lat free written
 
-  er_base : (o : Option (Label × Label)) (pc : Form) (e : Expression) → AreMarksBelow n o → pc.base < n → (own_form o (here_form lat free written pc e)).base < n
+  er_base : (o : Option (Label × Label)) (pc : LeftSide) (e : Expression) → AreMarksBelow n o → pc.base < n → (own_form o (here_form lat free written pc e)).base < n
   er_base o pc e k h = own_base o (here_form lat free written pc e) k (closed pc.base (index_form lat free written e).base h (index_base e))
 
-  assign_base : (o : Option (Label × Label)) (pc t : Form) (e : Expression) → AreMarksBelow n o → pc.base < n → t.base < n →
+  assign_base : (o : Option (Label × Label)) (pc t : LeftSide) (e : Expression) → AreMarksBelow n o → pc.base < n → t.base < n →
       (demand_form lat free written pc t (own_form o (here_form lat free written pc e)) (label_form lat free written e) (index_form lat free written e)).base < n
   assign_base o pc t e k hp ht = five _ _ pc.base t.base _ (label_base e) (index_base e) hp ht (er_base o pc e k hp)
 
-  put_have : (o : Option (Label × Label)) (pc t : Form) (i e : Expression) → AreMarksBelow n o → pc.base < n → t.base < n →
+  put_have : (o : Option (Label × Label)) (pc t : LeftSide) (i e : Expression) → AreMarksBelow n o → pc.base < n → t.base < n →
       (demand_form lat free written pc t (own_form o (both lat pc (put_form lat free written i e))) (label_form lat free written e) (put_form lat free written i e)).base < n
   put_have o pc t i e k hp ht =
       five _ _ pc.base t.base _ (label_base e) (put_base i e) hp ht (own_base o (both lat pc (put_form lat free written i e)) k (closed pc.base _ hp (put_base i e)))
 
-  after_base : (o : Option (Label × Label)) (pc t : Form) (e : Expression) → AreMarksBelow n o → pc.base < n → t.base < n → (after_form lat free written t (own_form o (here_form lat free written pc e)) e).base < n
+  after_base : (o : Option (Label × Label)) (pc t : LeftSide) (e : Expression) → AreMarksBelow n o → pc.base < n → t.base < n → (after_form lat free written t (own_form o (here_form lat free written pc e)) e).base < n
   after_base o pc t e k hp ht = three t.base _ _ ht (label_base e) (er_base o pc e k hp)
 
-  loop_base : (o : Option (Label × Label)) (pc t : Form) (e : Expression) → AreMarksBelow n o → pc.base < n → t.base < n → (loop_form lat free written t (own_form o (here_form lat free written pc e)) e).base < n
+  loop_base : (o : Option (Label × Label)) (pc t : LeftSide) (e : Expression) → AreMarksBelow n o → pc.base < n → t.base < n → (loop_form lat free written t (own_form o (here_form lat free written pc e)) e).base < n
   loop_base o pc t e k hp ht = three _ t.base _ (label_base e) ht (er_base o pc e k hp)
 
-  inner_base : (pc : Form) (e : Expression) → pc.base < n → (both lat pc (label_form lat free written e)).base < n
+  inner_base : (pc : LeftSide) (e : Expression) → pc.base < n → (both lat pc (label_form lat free written e)).base < n
   inner_base pc e hp = closed pc.base _ hp (label_base e)
 
-  end_base : (d : List Declaration) (p : Plan) (pc t : Form) → AreKnown n d p → pc.base < n → t.base < n → (E p pc t).base < n
+  end_base : (d : List Declaration) (p : Plan) (pc t : LeftSide) → AreKnown n d p → pc.base < n → t.base < n → (E p pc t).base < n
   end_base d Done pc t k hp ht = ht
   end_base d (Skip w p) pc t k hp ht = end_base d p pc _ k.1 hp (closed t.base _ ht (own_base w.labels pc k.0 hp))
   end_base d (Assign w x e p) pc t k hp ht = end_base d p pc _ k.3 hp (closed _ _ (variable_base x) (assign_base w.labels pc t e k.0 hp ht))
@@ -103,20 +103,20 @@ module _ (lat : Lattice) (n : ℕ) (low : lat.bottom < n) (closed : (a b : ℕ) 
   end_base d (While w e c p) pc t k hp ht = end_base d p pc _ k.4 hp (end_base d c _ _ k.3 (inner_base pc e hp) (loop_base w.labels pc t e k.0 hp ht))
   end_base d (Mitigate w j l e c p) pc t k hp ht = end_base d p pc _ k.5 hp (after_base w.labels pc t e k.0 hp ht)
 
-  abbrev O : Need → Type 0
+  abbrev O : Constraint → Type 0
   O = IsOpen n free W
 
-  abbrev N : Plan → Form → Form → List Need
-  N = needs lat free written
+  abbrev N : Plan → LeftSide → LeftSide → List Constraint
+  N = constraints lat free written
 
-  set_open : (x : ℕ) (f : Form) → f.base < n → Each O (set_need (free x) x f)
+  set_open : (x : ℕ) (f : LeftSide) → f.base < n → Each O (set_constraint (free x) x f)
   set_open x f h = go (free x) refl
     where
-      go : (v : Bool) → free x ≡ v → Each O (set_need v x f)
+      go : (v : Bool) → free x ≡ v → Each O (set_constraint v x f)
       go true e = (record { base = h; side = e }, tt)
       go false e = tt
 
-  level_open : (l : Option Label) (j : ℕ) (f : Form) (pre post : List (Option Label)) → f.base < n → j ≡ length pre → W ≡ pre ++ (l ∷ post) → Each O (level_need l j f)
+  level_open : (l : Option Label) (j : ℕ) (f : LeftSide) (pre post : List (Option Label)) → f.base < n → j ≡ length pre → W ≡ pre ++ (l ∷ post) → Each O (level_constraint l j f)
   level_open None j f pre post h e is =
       let len : length W ≡ length pre + length (None ∷ post) = ap length is ∙ length-append pre (None ∷ post) in
       (record { base = h; side = (omega (arith, e, len), ap (λ z. get_or z j None) is ∙ ap (λ z. get_or (pre ++ (None ∷ post)) z None) e ∙ get_or-append_seam pre None post None) }, tt)
@@ -125,16 +125,16 @@ module _ (lat : Lattice) (n : ℕ) (low : lat.bottom < n) (closed : (a b : ℕ) 
   longer : (pre a : List (Option Label)) (k m : ℕ) → length pre ≡ k → length a ≡ m → length (pre ++ a) ≡ k + m
   longer pre a k m h l = let s = length-append pre a in omega (arith, h, l, s)
 
-  pub all_open : (d : List Declaration) (p : Plan) (pc t : Form) (j : ℕ) (pre post : List (Option Label)) → AreKnown n d p → pc.base < n → t.base < n →
+  pub all_open : (d : List Declaration) (p : Plan) (pc t : LeftSide) (j : ℕ) (pre post : List (Option Label)) → AreKnown n d p → pc.base < n → t.base < n →
       AreNumbered j p → length pre ≡ j → W ≡ pre ++ (written_levels p ++ post) → Each O (N p pc t)
   all_open d Done pc t j pre post k hp ht num len is = tt
   all_open d (Skip w p) pc t j pre post k hp ht num len is = all_open d p pc _ j pre post k.1 hp (closed t.base _ ht (own_base w.labels pc k.0 hp)) num len is
   all_open d (Assign w x e p) pc t j pre post k hp ht num len is =
       let h = assign_base w.labels pc t e k.0 hp ht in
-      all_both O (set_need (free x) x _) (N p pc _) (set_open x _ h) (all_open d p pc _ j pre post k.3 hp (closed _ _ (variable_base x) h) num len is)
+      all_both O (set_constraint (free x) x _) (N p pc _) (set_open x _ h) (all_open d p pc _ j pre post k.3 hp (closed _ _ (variable_base x) h) num len is)
   all_open d (Put w f m i e p) pc t j pre post k hp ht num len is =
       let h = put_have w.labels pc t i e k.0 hp ht in
-      all_both O (set_need (free f) f _) (N p pc _) (set_open f _ h) (all_open d p pc _ j pre post k.4 hp (closed _ _ (variable_base f) h) num len is)
+      all_both O (set_constraint (free f) f _) (N p pc _) (set_open f _ h) (all_open d p pc _ j pre post k.4 hp (closed _ _ (variable_base f) h) num len is)
   all_open d (Sleep w e p) pc t j pre post k hp ht num len is = all_open d p pc _ j pre post k.2 hp (after_base w.labels pc t e k.0 hp ht) num len is
   all_open d (If w e a b p) pc t j pre post k hp ht num len is =
       let i = both lat pc (label_form lat free written e) in
@@ -173,6 +173,6 @@ module _ (lat : Lattice) (n : ℕ) (low : lat.bottom < n) (closed : (a b : ℕ) 
       let s2 : W ≡ ((pre ++ l ∷ []) ++ wc) ++ (wp ++ post) = s1 ∙ sym (append_assoc (pre ++ l ∷ []) wc (wp ++ post)) in
       let n0 = longer pre (l ∷ []) j 1 len refl in
       let n1 = longer (pre ++ l ∷ []) wc (j + 1) (mitigates c) n0 (length_levels c) in
-      all_both O (N c pc s) (level_need l m (E c pc s) ++ N p pc s) (all_open d c pc s (j + 1) (pre ++ l ∷ []) (wp ++ post) k.4 hp hs num.1 n0 s1)
-      (all_both O (level_need l m (E c pc s)) (N p pc s) (level_open l m (E c pc s) pre ((wc ++ wp) ++ post) (end_base d c pc s k.4 hp hs) (num.0 ∙ sym len) is)
+      all_both O (N c pc s) (level_constraint l m (E c pc s) ++ N p pc s) (all_open d c pc s (j + 1) (pre ++ l ∷ []) (wp ++ post) k.4 hp hs num.1 n0 s1)
+      (all_both O (level_constraint l m (E c pc s)) (N p pc s) (level_open l m (E c pc s) pre ((wc ++ wp) ++ post) (end_base d c pc s k.4 hp hs) (num.0 ∙ sym len) is)
       (all_open d p pc s (j + 1 + mitigates c) ((pre ++ l ∷ []) ++ wc) post k.5 hp hs num.2 n1 s2))

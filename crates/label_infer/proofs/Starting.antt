@@ -13,15 +13,15 @@ use Rattle.mit_syntax.specs.Program.{Syntax, plan_of}
 use Rattle.mit_syntax.specs.Valid.{IsBelow, AreKnown, IsValid}
 use Rattle.timing_types.specs.Labelling.{label_at, variable_of, level_of, marks_of, IsKept}
 use Rattle.label_infer.specs.declared.known.Known.{Known}
-use Rattle.label_infer.specs.declared.needs.Condition.{Condition}
+use Rattle.label_infer.specs.declared.constraints.Condition.{Condition}
 use Rattle.label_infer.specs.Least.{is_unwritten, is_free}
 use Rattle.label_infer.specs.Given.{written_levels, KeepsVariables, KeepsLevels}
 use Rattle.label_infer.specs.First.{first_of, first_levels}
-use Rattle.label_infer.specs.Forms.{Form, fixed, label_or, written_in, needs}
-use Rattle.label_infer.specs.Known.{free_of, written_of, needs_from, needs_in, side_of}
+use Rattle.label_infer.specs.Forms.{LeftSide, fixed, label_or, written_in, constraints}
+use Rattle.label_infer.specs.Known.{free_of, written_of, constraints_from, constraints_in, side_of}
 use Rattle.label_infer.specs.Work.{Work, waits_at, IsWorkOf, IsFirst, IsWithin, shares, shares_of}
-use Rattle.label_infer.specs.declared.needs.Target.{Target}
-use Rattle.label_infer.specs.declared.needs.Target.TheVariants.{Variable, Level}
+use Rattle.label_infer.specs.declared.constraints.Target.{Target}
+use Rattle.label_infer.specs.declared.constraints.Target.TheVariants.{Variable, Level}
 use Rattle.label_infer.specs.Holds.{IsThere}
 use Rattle.label_infer.proofs.Placed.{from_map, from_all, from_first, length_levels, levels_kept}
 use Rattle.label_infer.proofs.Completed.{lattice_laws}
@@ -131,13 +131,13 @@ module _ (s : Syntax) (valid : IsValid s) (k : Known) (ho : k.order ≡ s.order)
       (λ (i : variables ds ≤ x). ap (λ o. label_or o k.order.bottom) (past_get k.written.items x (Some low) (omega (arith, fit, i))) ∙ hb ∙ sym (past_or b (cells ds) x nowhere i refl))
       (cases_lt x (variables ds))
 
-  same_needs : (pc t : Form) → needs_from k (plan_of s) pc t ≡ needs (lattice_of s.order) (is_free s.declarations) (written_in s.declarations s.order.bottom) (plan_of s) pc t
-  same_needs pc t =
-      ap (λ (z : Order). needs (lattice_of z) (free_of k) (written_of k) (plan_of s) pc t) ho
-      ∙ ap (λ (z : ℕ → Bool). needs (lattice_of s.order) z (written_of k) (plan_of s) pc t) (fun_ext same_free)
-      ∙ ap (λ (z : ℕ → ℕ). needs (lattice_of s.order) (is_free s.declarations) z (plan_of s) pc t) (fun_ext same_written)
+  same_constraints : (pc t : LeftSide) → constraints_from k (plan_of s) pc t ≡ constraints (lattice_of s.order) (is_free s.declarations) (written_in s.declarations s.order.bottom) (plan_of s) pc t
+  same_constraints pc t =
+      ap (λ (z : Order). constraints (lattice_of z) (free_of k) (written_of k) (plan_of s) pc t) ho
+      ∙ ap (λ (z : ℕ → Bool). constraints (lattice_of s.order) z (written_of k) (plan_of s) pc t) (fun_ext same_free)
+      ∙ ap (λ (z : ℕ → ℕ). constraints (lattice_of s.order) (is_free s.declarations) z (plan_of s) pc t) (fun_ext same_written)
 
-  module _ (cs : List Condition) (ws : List Bool) (vs ls : List Label) (low : Form) (hl : low ≡ fixed s.order.bottom) (hc : needs_in cs ≡ needs_from k (plan_of s) low low)
+  module _ (cs : List Condition) (ws : List Bool) (vs ls : List Label) (low : LeftSide) (hl : low ≡ fixed s.order.bottom) (hc : constraints_in cs ≡ constraints_from k (plan_of s) low low)
       (hw : ws ≡ replicate (length cs) true) (hv : vs ≡ map (first_of k.order.bottom) k.written.items) (hs : ls ≡ first_levels s.order.bottom (plan_of s)) where
     abbrev W : List (Option Label)
     W = written_levels (plan_of s)
@@ -209,7 +209,7 @@ module _ (s : Syntax) (valid : IsValid s) (k : Known) (ho : k.order ≡ s.order)
         let la = lattice_of s.order in
         record {
           order = refl;
-          conditions = hc ∙ ap (λ z. needs_from k (plan_of s) z z) hl ∙ same_needs (fixed b) (fixed b);
+          conditions = hc ∙ ap (λ z. constraints_from k (plan_of s) z z) hl ∙ same_constraints (fixed b) (fixed b);
           fit = ap length hw ∙ length-rep (length cs);
           variables = kept_variables;
           levels = kept_levels;
@@ -268,5 +268,5 @@ targets_there s valid cs ws vs ls h i c e = go c.target refl
 pub bound_now : (s : Syntax) (w : Work) (c used : ℕ) → IsWorkOf s w → IsWithin w c used → used ≤ shares_of s c
 bound_now s w c used h b =
     let q = b.bound in
-    let le : used ≤ shares (length w.variables) c (needs_in w.conditions) = omega (arith, q) in
-    subst (λ z. used ≤ shares (variables s.declarations) c z) h.conditions (subst (λ z. used ≤ shares z c (needs_in w.conditions)) h.variables.fit le)
+    let le : used ≤ shares (length w.variables) c (constraints_in w.conditions) = omega (arith, q) in
+    subst (λ z. used ≤ shares (variables s.declarations) c z) h.conditions (subst (λ z. used ≤ shares z c (constraints_in w.conditions)) h.variables.fit le)

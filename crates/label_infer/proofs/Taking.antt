@@ -12,11 +12,11 @@ use Rattle.mit_syntax.specs.Valid.{IsBelow, IsValid}
 use Rattle.std.proofs.lemmas.List.Elements.{All-get_or}
 use Rattle.timing_types.specs.Walk.{Side, OfCommand, OfVariable, OfLevel, conditions, Meets}
 use Rattle.timing_types.specs.Labelling.{Labelling, label_at, variable_of, marks_of, level_of, IsKept}
-use Rattle.label_infer.specs.declared.needs.Condition.{Condition}
+use Rattle.label_infer.specs.declared.constraints.Condition.{Condition}
 use Rattle.label_infer.specs.Least.{Labels, is_unwritten, is_free, is_omitted, MeetsOmitted, IsLeast}
 use Rattle.label_infer.specs.Given.{AllFrom, written_levels, own_pairs, KeepsVariables}
-use Rattle.label_infer.specs.Forms.{value_from, value, fixed, Need, right_of, AllMet, label_or, written_in, needs_of}
-use Rattle.label_infer.specs.Known.{need_of, needs_in}
+use Rattle.label_infer.specs.Forms.{value_from, value, fixed, Constraint, right_of, AllMet, label_or, written_in, constraints_of}
+use Rattle.label_infer.specs.Known.{constraint_of, constraints_in}
 use Rattle.label_infer.specs.Work.{Work, waits_at, have_in, woken, joined, taken_side, Takes, IsDone, IsWorkOf, IsInferred}
 use Rattle.label_infer.proofs.Completed.{lattice_laws, labels_from, least_from, written_at}
 use Rattle.label_infer.proofs.Values.{base_up, has_up, value_least, value_up, fixed_value}
@@ -24,7 +24,7 @@ use Rattle.label_infer.proofs.Fill.{fill, fills}
 use Rattle.label_infer.proofs.Placed.{from_map, from_pair, from_all, length_levels}
 use Rattle.label_infer.proofs.Ranges.{joins_below}
 use Rattle.label_infer.proofs.Right.{Each, all_both, IsOpen, IsRight, all_open}
-use Rattle.label_infer.proofs.Seen.{Hold, kept_hold, hold_meet, seen_hold, hold_seen, needs_seen}
+use Rattle.label_infer.proofs.Seen.{Hold, kept_hold, hold_meet, seen_hold, hold_seen, constraints_seen}
 
 -- a variable without a written label is one
 free_within : (cs : List Cell) (x : ℕ) → is_unwritten (slice_get cs x) ≡ true → x < length cs
@@ -72,9 +72,9 @@ module _ (s : Syntax) (valid : IsValid s) where
   abbrev nv : ℕ
   nv = variables s.declarations
 
-  -- the conditions of a labelling with omitted right sides, as needs
-  needs_met : (l : Labelling) → Labels s l → MeetsOmitted s l → AllMet lat nv (variable_of s.order l) (level_of s.order l) (needs_of s)
-  needs_met l h m =
+  -- the conditions of a labelling with omitted right sides, as constraints
+  constraints_met : (l : Labelling) → Labels s l → MeetsOmitted s l → AllMet lat nv (variable_of s.order l) (level_of s.order l) (constraints_of s)
+  constraints_met l h m =
       let g = variable_of s.order l in
       let lv = level_of s.order l in
       let ds = s.declarations in
@@ -84,11 +84,11 @@ module _ (s : Syntax) (valid : IsValid s) where
       let met = subst (λ z. Meets lat (is_omitted ds) (conditions lat g z b b)) tree m in
       let holds = kept_hold lat ds (conditions lat g (fill lat g lv (plan_of s) b) b b) met in
       let fv = fixed_value lat ll nv g b in
-      let is = needs_seen lat ll nv g lv ds w (small_of ds) keeps (plan_of s) (fixed b) (fixed b) b b fv fv in
-      hold_seen lat ll nv g lv ds w (small_of ds) keeps (needs_of s) (subst (λ z. Hold lat z) (sym is) holds)
+      let is = constraints_seen lat ll nv g lv ds w (small_of ds) keeps (plan_of s) (fixed b) (fixed b) b b fv fv in
+      hold_seen lat ll nv g lv ds w (small_of ds) keeps (constraints_of s) (subst (λ z. Hold lat z) (sym is) holds)
 
-  needs_back : (l : Labelling) → Labels s l → AllMet lat nv (variable_of s.order l) (level_of s.order l) (needs_of s) → MeetsOmitted s l
-  needs_back l h m =
+  constraints_back : (l : Labelling) → Labels s l → AllMet lat nv (variable_of s.order l) (level_of s.order l) (constraints_of s) → MeetsOmitted s l
+  constraints_back l h m =
       let g = variable_of s.order l in
       let lv = level_of s.order l in
       let ds = s.declarations in
@@ -96,8 +96,8 @@ module _ (s : Syntax) (valid : IsValid s) where
       let keeps = keeps_of s l.variables (record { fit = h.keeps.variables_fit; below = h.keeps.variables_below; kept = h.keeps.declared }) in
       let tree = fills lat g lv (marks_of s.order l) (plan_of s) 0 b h.own in
       let fv = fixed_value lat ll nv g b in
-      let is = needs_seen lat ll nv g lv ds w (small_of ds) keeps (plan_of s) (fixed b) (fixed b) b b fv fv in
-      let holds = subst (λ z. Hold lat z) is (seen_hold lat ll nv g lv ds w (small_of ds) keeps (needs_of s) m) in
+      let is = constraints_seen lat ll nv g lv ds w (small_of ds) keeps (plan_of s) (fixed b) (fixed b) b b fv fv in
+      let holds = subst (λ z. Hold lat z) is (seen_hold lat ll nv g lv ds w (small_of ds) keeps (constraints_of s) m) in
       let met = hold_meet lat ds (conditions lat g (fill lat g lv (plan_of s) b) b b) holds in
       subst (λ z. Meets lat (is_omitted ds) (conditions lat g z b b)) (sym tree) met
 
@@ -111,17 +111,17 @@ all_from : {A : Type 0} (P : A → Type 0) (xs : List A) → ((i : ℕ) (x : A) 
 all_from P [] h = tt
 all_from P (x ∷ xs) h = (h 0 x refl, all_from P xs (λ i y e. h (suc i) y e))
 
-need_at : (cs : List Condition) (i : ℕ) (c : Condition) → slice_get cs i ≡ Some c → slice_get (needs_in cs) i ≡ Some (need_of c)
-need_at [] i c e = absurd (none-some c e)
-need_at (d ∷ cs) zero c e = ap (λ z. Some (need_of z)) (same_Some d c e)
-need_at (d ∷ cs) (suc i) c e = need_at cs i c e
+constraint_at : (cs : List Condition) (i : ℕ) (c : Condition) → slice_get cs i ≡ Some c → slice_get (constraints_in cs) i ≡ Some (constraint_of c)
+constraint_at [] i c e = absurd (none-some c e)
+constraint_at (d ∷ cs) zero c e = ap (λ z. Some (constraint_of z)) (same_Some d c e)
+constraint_at (d ∷ cs) (suc i) c e = constraint_at cs i c e
 
-met_at : (lat : Lattice) (n : ℕ) (g lv : ℕ → ℕ) (ns : List Need) (i : ℕ) (x : Need) → AllMet lat n g lv ns → slice_get ns i ≡ Some x → Flows lat (value lat n g x.have) (right_of g lv x.side)
+met_at : (lat : Lattice) (n : ℕ) (g lv : ℕ → ℕ) (ns : List Constraint) (i : ℕ) (x : Constraint) → AllMet lat n g lv ns → slice_get ns i ≡ Some x → Flows lat (value lat n g x.have) (right_of g lv x.side)
 met_at la n g lv [] i x h e = absurd (none-some x e)
 met_at la n g lv (y ∷ ns) zero x h e = subst (λ z. Flows la (value la n g z.have) (right_of g lv z.side)) (same_Some y x e) h.0
 met_at la n g lv (y ∷ ns) (suc i) x h e = met_at la n g lv ns i x h.1 e
 
-met_from : (lat : Lattice) (n : ℕ) (g lv : ℕ → ℕ) (cs : List Condition) → ((i : ℕ) (c : Condition) → slice_get cs i ≡ Some c → Flows lat (value lat n g (need_of c).have) (right_of g lv (need_of c).side)) → AllMet lat n g lv (needs_in cs)
+met_from : (lat : Lattice) (n : ℕ) (g lv : ℕ → ℕ) (cs : List Condition) → ((i : ℕ) (c : Condition) → slice_get cs i ≡ Some c → Flows lat (value lat n g (constraint_of c).have) (right_of g lv (constraint_of c).side)) → AllMet lat n g lv (constraints_in cs)
 met_from la n g lv [] h = tt
 met_from la n g lv (c ∷ cs) h = (h 0 c refl, met_from la n g lv cs (λ i d e. h (suc i) d e))
 
@@ -143,10 +143,10 @@ woken_length x [] ws = refl
 woken_length x (c ∷ cs) [] = refl
 woken_length x (c ∷ cs) (w ∷ ws) = ap suc (woken_length x cs ws)
 
-pub woken_at : (x : ℕ) (cs : List Condition) (ws : List Bool) (j : ℕ) (c : Condition) → slice_get cs j ≡ Some c → j < length ws → waits_at (woken x cs ws) j ≡ (waits_at ws j || (need_of c).have.has x)
+pub woken_at : (x : ℕ) (cs : List Condition) (ws : List Bool) (j : ℕ) (c : Condition) → slice_get cs j ≡ Some c → j < length ws → waits_at (woken x cs ws) j ≡ (waits_at ws j || (constraint_of c).have.has x)
 woken_at x [] ws j c e h = absurd (none-some c e)
 woken_at x (d ∷ cs) [] j c e h = absurd (omega (arith, h))
-woken_at x (d ∷ cs) (w ∷ ws) zero c e h = ap (λ z. w || (need_of z).have.has x) (same_Some d c e)
+woken_at x (d ∷ cs) (w ∷ ws) zero c e h = ap (λ z. w || (constraint_of z).have.has x) (same_Some d c e)
 woken_at x (d ∷ cs) (w ∷ ws) (suc j) c e h = woken_at x cs ws j c e (omega (arith, h))
 
 -- a value is a label, where its parts are
@@ -190,16 +190,16 @@ or_below n b (Some l) h k = k
 pub written_below : (s : Syntax) → IsValid s → (x : ℕ) → written_in s.declarations s.order.bottom x < s.order.size
 written_below s valid x = or_below s.order.size s.order.bottom (cell_at s.declarations x).label valid.order.table.some (label_within s valid x)
 
-opens : (s : Syntax) → IsValid s → Each (IsOpen s.order.size (is_free s.declarations) (written_levels (plan_of s))) (needs_of s)
+opens : (s : Syntax) → IsValid s → Each (IsOpen s.order.size (is_free s.declarations) (written_levels (plan_of s))) (constraints_of s)
 opens s valid =
     let b = s.order.bottom in
     let some = valid.order.table.some in
     all_open (lattice_of s.order) s.order.size some (joins_below s.order valid.order) (is_free s.declarations) (written_in s.declarations b) (written_below s valid) (written_levels (plan_of s))
     s.declarations (plan_of s) (fixed b) (fixed b) 0 [] [] valid.known some some valid.numbered refl (sym (append-nil (written_levels (plan_of s))))
 
-pub open_at : (s : Syntax) → IsValid s → (cs : List Condition) → needs_in cs ≡ needs_of s → (i : ℕ) (c : Condition) → slice_get cs i ≡ Some c → IsOpen s.order.size (is_free s.declarations) (written_levels (plan_of s)) (need_of c)
+pub open_at : (s : Syntax) → IsValid s → (cs : List Condition) → constraints_in cs ≡ constraints_of s → (i : ℕ) (c : Condition) → slice_get cs i ≡ Some c → IsOpen s.order.size (is_free s.declarations) (written_levels (plan_of s)) (constraint_of c)
 open_at s valid cs is i c e =
-    all_at (IsOpen s.order.size (is_free s.declarations) (written_levels (plan_of s))) (needs_of s) i (need_of c) (opens s valid) (subst (λ z. slice_get z i ≡ Some (need_of c)) is (need_at cs i c e))
+    all_at (IsOpen s.order.size (is_free s.declarations) (written_levels (plan_of s))) (constraints_of s) i (constraint_of c) (opens s valid) (subst (λ z. slice_get z i ≡ Some (constraint_of c)) is (constraint_at cs i c e))
 
 -- a written label is not that of an omitted one
 pub not_free : (s : Syntax) (x : ℕ) → is_free s.declarations x ≡ true → (cell_at s.declarations x).label ≡ None
@@ -237,34 +237,34 @@ module _ (s : Syntax) (valid : IsValid s) (cs : List Condition) (ws : List Bool)
   abbrev lv : ℕ → ℕ
   lv = label_at s.order.bottom ls
 
-  abbrev have : Need → ℕ
+  abbrev have : Constraint → ℕ
   have x = value (lattice_of s.order) (length vs) (label_at s.order.bottom vs) x.have
 
   abbrev v : ℕ
-  v = value (lattice_of s.order) (length vs) (label_at s.order.bottom vs) (need_of c).have
+  v = value (lattice_of s.order) (length vs) (label_at s.order.bottom vs) (constraint_of c).have
 
-  at_needs : slice_get (needs_of s) i ≡ Some (need_of c)
-  at_needs = subst (λ z. slice_get z i ≡ Some (need_of c)) h.conditions (need_at cs i c e)
+  at_constraints : slice_get (constraints_of s) i ≡ Some (constraint_of c)
+  at_constraints = subst (λ z. slice_get z i ≡ Some (constraint_of c)) h.conditions (constraint_at cs i c e)
 
-  pub is_open : IsOpen s.order.size (is_free s.declarations) (written_levels (plan_of s)) (need_of c)
+  pub is_open : IsOpen s.order.size (is_free s.declarations) (written_levels (plan_of s)) (constraint_of c)
   is_open = open_at s valid cs h.conditions i c e
 
   pub v_below : v < s.order.size
-  v_below = value_below la s.order.size (joins_below s.order valid.order) g h.variables.below (need_of c).have.base (need_of c).have.has (length vs) is_open.base
+  v_below = value_below la s.order.size (joins_below s.order valid.order) g h.variables.below (constraint_of c).have.base (constraint_of c).have.has (length vs) is_open.base
 
   -- the left side lies below the right side of each labelling that meets what is omitted
-  v_low : (l : Labelling) → Labels s l → MeetsOmitted s l → Flows la v (right_of (variable_of s.order l) (level_of s.order l) (need_of c).side)
+  v_low : (l : Labelling) → Labels s l → MeetsOmitted s l → Flows la v (right_of (variable_of s.order l) (level_of s.order l) (constraint_of c).side)
   v_low l hl m =
-      let up = value_up la lw (length vs) g (variable_of s.order l) (h.low_variables l hl m) (need_of c).have in
-      let met = met_at la (variables s.declarations) (variable_of s.order l) (level_of s.order l) (needs_of s) i (need_of c) (needs_met s valid l hl m) at_needs in
-      let met2 = subst (λ z. Flows la (value la z (variable_of s.order l) (need_of c).have) (right_of (variable_of s.order l) (level_of s.order l) (need_of c).side)) (sym h.variables.fit) met in
+      let up = value_up la lw (length vs) g (variable_of s.order l) (h.low_variables l hl m) (constraint_of c).have in
+      let met = met_at la (variables s.declarations) (variable_of s.order l) (level_of s.order l) (constraints_of s) i (constraint_of c) (constraints_met s valid l hl m) at_constraints in
+      let met2 = subst (λ z. Flows la (value la z (variable_of s.order l) (constraint_of c).have) (right_of (variable_of s.order l) (level_of s.order l) (constraint_of c).side)) (sym h.variables.fit) met in
       lw.chain v _ _ up met2
 
   within : i < length ws
   within = let fit = h.fit in let q = slice_get_within cs i c e in omega (arith, fit, q)
 
   -- the condition holds already
-  pub rests : Flows la v (right_of g lv (need_of c).side) → IsWorkOf s (work s.order cs (slice_set ws i false) vs ls)
+  pub rests : Flows la v (right_of g lv (constraint_of c).side) → IsWorkOf s (work s.order cs (slice_set ws i false) vs ls)
   rests holds =
       record {
         order = refl;
@@ -275,7 +275,7 @@ module _ (s : Syntax) (valid : IsValid s) (cs : List Condition) (ws : List Bool)
         settled = λ j d f k. ⊎_elim
             (λ (q : j ≡ i).
             let same : c ≡ d = same_Some c d (sym e ∙ subst (λ z. slice_get cs z ≡ Some d) q f) in
-            subst (λ z. Flows la (have (need_of z)) (right_of g lv (need_of z).side)) same holds)
+            subst (λ z. Flows la (have (constraint_of z)) (right_of g lv (constraint_of z).side)) same holds)
             (λ (q : j ≡ i → ⊥). h.settled j d f (sym (wait_other ws i j q) ∙ k))
             (cases_eq j i);
         low_variables = h.low_variables;
@@ -312,7 +312,7 @@ module _ (s : Syntax) (valid : IsValid s) (cs : List Condition) (ws : List Bool)
   kept_none (Some l) x y q = absurd (none-some l (sym q))
 
   -- it is on a level
-  pub raises_level : (k : ℕ) (wr : Bool) → (need_of c).side ≡ OfLevel k wr → IsWorkOf s (work s.order cs (slice_set ws i false) vs (joined la bot ls k v))
+  pub raises_level : (k : ℕ) (wr : Bool) → (constraint_of c).side ≡ OfLevel k wr → IsWorkOf s (work s.order cs (slice_set ws i false) vs (joined la bot ls k v))
   raises_level k wr side =
       let W = written_levels (plan_of s) in
       let right : (k < length W) × (get_or W k None ≡ None) = subst (λ z. IsRight (is_free s.declarations) W z) side is_open.side in
@@ -338,8 +338,8 @@ module _ (s : Syntax) (valid : IsValid s) (cs : List Condition) (ws : List Bool)
         settled = λ j d f kk. ⊎_elim
             (λ (q : j ≡ i).
             let same : c ≡ d = same_Some c d (sym e ∙ subst (λ z. slice_get cs z ≡ Some d) q f) in
-            subst (λ z. Flows la (have (need_of z)) (right_of g lv' (need_of z).side)) same (subst (λ z. Flows la v (right_of g lv' z)) (sym side) (joined_is ls k v l)))
-            (λ (q : j ≡ i → ⊥). lw.chain _ _ _ (h.settled j d f (sym (wait_other ws i j q) ∙ kk)) (rup (need_of d).side))
+            subst (λ z. Flows la (have (constraint_of z)) (right_of g lv' (constraint_of z).side)) same (subst (λ z. Flows la v (right_of g lv' z)) (sym side) (joined_is ls k v l)))
+            (λ (q : j ≡ i → ⊥). lw.chain _ _ _ (h.settled j d f (sym (wait_other ws i j q) ∙ kk)) (rup (constraint_of d).side))
             (cases_eq j i);
         low_variables = h.low_variables;
         low_levels = λ l' hl m. joined_low ls k v l (level_of s.order l') (h.low_levels l' hl m)
@@ -356,7 +356,7 @@ module _ (s : Syntax) (valid : IsValid s) (cs : List Condition) (ws : List Bool)
           (from_pair (λ j o'. get_or W j None ≡ o') P W 0 (from_all W [] W [] 0 None (sym (append-nil W)) refl) a)
 
   -- it is on a variable's label, which rises
-  pub raises_variable : (x : ℕ) → (need_of c).side ≡ OfVariable x → IsWorkOf s (work s.order cs (woken x cs (slice_set ws i false)) (joined la bot vs x v) ls)
+  pub raises_variable : (x : ℕ) → (constraint_of c).side ≡ OfVariable x → IsWorkOf s (work s.order cs (woken x cs (slice_set ws i false)) (joined la bot vs x v) ls)
   raises_variable x side =
       let ds = s.declarations in
       let free : is_free ds x ≡ true = subst (λ z. IsRight (is_free ds) (written_levels (plan_of s)) z) side is_open.side in
@@ -368,14 +368,14 @@ module _ (s : Syntax) (valid : IsValid s) (cs : List Condition) (ws : List Bool)
       let len' : length vs' ≡ length vs = length-set vs x _ in
       let ws1 = slice_set ws i false in
       let lws : length ws1 ≡ length ws = length-set ws i false in
-      let have' : Need → ℕ = λ z. value la (length vs') g' z.have in
-      let same_have : (d : Condition) → (need_of d).have.has x ≡ false → Flows la (have' (need_of d)) (have (need_of d)) = λ d out.
-      let f = (need_of d).have in
-      subst (λ z. Flows la (value la z g' f) (have (need_of d))) (sym len')
-      (value_least la lw g' f.base f.has (length vs) (have (need_of d)) (base_up la lw g f.base f.has (length vs))
+      let have' : Constraint → ℕ = λ z. value la (length vs') g' z.have in
+      let same_have : (d : Condition) → (constraint_of d).have.has x ≡ false → Flows la (have' (constraint_of d)) (have (constraint_of d)) = λ d out.
+      let f = (constraint_of d).have in
+      subst (λ z. Flows la (value la z g' f) (have (constraint_of d))) (sym len')
+      (value_least la lw g' f.base f.has (length vs) (have (constraint_of d)) (base_up la lw g f.base f.has (length vs))
       (λ y j k.
       let other : y ≡ x → ⊥ = λ q. both_ways (f.has x) out (subst (λ z. f.has z ≡ true) q k) in
-      subst (λ z. Flows la z (have (need_of d))) (sym (set_other bot vs x y (la.join (g x) v) other)) (has_up la lw g f.base f.has (length vs) y j k))) in
+      subst (λ z. Flows la z (have (constraint_of d))) (sym (set_other bot vs x y (la.join (g x) v) other)) (has_up la lw g f.base f.has (length vs) y j k))) in
       record {
         order = refl;
         conditions = h.conditions;
@@ -391,12 +391,12 @@ module _ (s : Syntax) (valid : IsValid s) (cs : List Condition) (ws : List Bool)
         settled = λ j d f kk.
             let lj = slice_get_within cs j d f in
             let hfit = h.fit in
-            let parts = or_parts (waits_at ws1 j) ((need_of d).have.has x) (sym (woken_at x cs ws1 j d f (omega (arith, lj, hfit, lws))) ∙ kk) in
+            let parts = or_parts (waits_at ws1 j) ((constraint_of d).have.has x) (sym (woken_at x cs ws1 j d f (omega (arith, lj, hfit, lws))) ∙ kk) in
             lw.chain _ _ _ (same_have d parts.1) (⊎_elim
             (λ (q : j ≡ i).
             let same : c ≡ d = same_Some c d (sym e ∙ subst (λ z. slice_get cs z ≡ Some d) q f) in
-            subst (λ z. Flows la (have (need_of z)) (right_of g' lv (need_of z).side)) same (subst (λ z. Flows la v (right_of g' lv z)) (sym side) (joined_is vs x v l)))
-            (λ (q : j ≡ i → ⊥). lw.chain _ _ _ (h.settled j d f (sym (wait_other ws i j q) ∙ parts.0)) (variable_up (need_of d).side (joined_up vs x v l)))
+            subst (λ z. Flows la (have (constraint_of z)) (right_of g' lv (constraint_of z).side)) same (subst (λ z. Flows la v (right_of g' lv z)) (sym side) (joined_is vs x v l)))
+            (λ (q : j ≡ i → ⊥). lw.chain _ _ _ (h.settled j d f (sym (wait_other ws i j q) ∙ parts.0)) (variable_up (constraint_of d).side (joined_up vs x v l)))
             (cases_eq j i));
         low_variables = λ l' hl m. joined_low vs x v l (variable_of s.order l') (h.low_variables l' hl m)
             (subst (λ z. Flows la v (right_of (variable_of s.order l') (level_of s.order l') z)) side (v_low l' hl m));
@@ -408,10 +408,10 @@ module _ (s : Syntax) (valid : IsValid s) (cs : List Condition) (ws : List Bool)
       variable_up (OfVariable y) f = f y
       variable_up (OfLevel k w) f = lw.same (lv k)
 
-  pub steps_on : IsWorkOf s (taken_side (work s.order cs ws vs ls) i v (need_of c).side)
-  steps_on = go (need_of c).side refl
+  pub steps_on : IsWorkOf s (taken_side (work s.order cs ws vs ls) i v (constraint_of c).side)
+  steps_on = go (constraint_of c).side refl
     where
-      go : (d : Side) → (need_of c).side ≡ d → IsWorkOf s (taken_side (work s.order cs ws vs ls) i v d)
+      go : (d : Side) → (constraint_of c).side ≡ d → IsWorkOf s (taken_side (work s.order cs ws vs ls) i v d)
       go OfCommand q = h
       go (OfVariable x) q = by (la.flows v (g x)) refl
         where
@@ -430,7 +430,7 @@ still_work s valid w w' i c h t =
     let q = same_work w s.order h.order in
     let h2 : IsWorkOf s (work s.order w.conditions w.waits w.variables w.levels) = subst (λ z. IsWorkOf s z) q h in
     let r = steps_on s valid w.conditions w.waits w.variables w.levels h2 i c t.there in
-    subst (λ z. IsWorkOf s z) (sym (t.taken ∙ ap (λ z. taken_side z i (have_in z (need_of c)) (need_of c).side) q)) r
+    subst (λ z. IsWorkOf s z) (sym (t.taken ∙ ap (λ z. taken_side z i (have_in z (constraint_of c)) (constraint_of c).side) q)) r
 
 -- where no condition waits, the labels are those of the least labelling
 done_is : (s : Syntax) → IsValid s → (cs : List Condition) (ws : List Bool) (vs ls : List Label) → IsWorkOf s (work s.order cs ws vs ls) → IsDone (work s.order cs ws vs ls) →
@@ -442,8 +442,8 @@ done_is s valid cs ws vs ls h done ms labels =
     let l : Labelling = record { variables = vs; commands = ms; levels = ls } in
     let met = met_from la (length vs) g lv cs (λ j d e. h.settled j d e (done j)) in
     let met2 = subst (λ z. AllMet la (length vs) g lv z) h.conditions met in
-    let met3 = subst (λ z. AllMet la z g lv (needs_of s)) h.variables.fit met2 in
-    least_from s valid l labels (needs_back s valid l labels met3) (λ l' h' m'. (h.low_variables l' h' m', h.low_levels l' h' m'))
+    let met3 = subst (λ z. AllMet la z g lv (constraints_of s)) h.variables.fit met2 in
+    least_from s valid l labels (constraints_back s valid l labels met3) (λ l' h' m'. (h.low_variables l' h' m', h.low_levels l' h' m'))
 
 pub least_done : (s : Syntax) → IsValid s → (w : Work) → IsWorkOf s w → IsDone w → (l : Labelling) → Labels s l → l.variables ≡ w.variables → l.levels ≡ w.levels → IsLeast s l
 least_done s valid w h done l labels hv hl =

@@ -4,11 +4,11 @@ use Rattle.std.specs.Prelude.{Bool, true, false, cond, Some, slice_get}
 use Rattle.label_lattice.specs.declared.label.Label.{Label}
 use Rattle.label_lattice.specs.Order.{Order, lattice_of}
 use Rattle.timing_types.specs.Labelling.{label_at}
-use Rattle.label_infer.specs.declared.needs.Condition.{Condition}
-use Rattle.label_infer.specs.declared.needs.Target.TheVariants.{Variable, Level}
+use Rattle.label_infer.specs.declared.constraints.Condition.{Condition}
+use Rattle.label_infer.specs.declared.constraints.Target.TheVariants.{Variable, Level}
 use Rattle.label_infer.specs.Forms.{value}
-use Rattle.label_infer.specs.FormOf.{form_of}
-use Rattle.label_infer.specs.Known.{need_of, side_of}
+use Rattle.label_infer.specs.LeftSideOf.{left_side_of}
+use Rattle.label_infer.specs.Known.{constraint_of, side_of}
 use Rattle.label_infer.specs.Work.{Work, waits_at, have_in, woken, joined, taken_side, Takes}
 use Rattle.label_infer.proofs.Taking.{work, woken_length}
 
@@ -19,12 +19,12 @@ split_work o cs ws vs ls i false a b x y = refl
 
 module _ (o : Order) (cs : List Condition) (ws : List Bool) (vs ls : List Label) (i : ℕ) (c : Condition) (v : ℕ)
     (cs0 : List Condition) (ws0 : List Bool) (vs0 : List Label) (hc : cs0 ≡ cs) (hw : ws0 ≡ ws) (hv : vs0 ≡ vs)
-    (wt : waits_at ws0 i ≡ true) (e : slice_get cs0 i ≡ Some c) (ev : v ≡ value (lattice_of o) (length vs0) (label_at o.bottom vs0) (form_of c.have)) where
+    (wt : waits_at ws0 i ≡ true) (e : slice_get cs0 i ≡ Some c) (ev : v ≡ value (lattice_of o) (length vs0) (label_at o.bottom vs0) (left_side_of c.have)) where
   abbrev w : Work
   w = work o cs ws vs ls
 
-  value_is : v ≡ have_in w (need_of c)
-  value_is = ev ∙ ap (λ z. value (lattice_of o) (length z) (label_at o.bottom z) (form_of c.have)) hv
+  value_is : v ≡ have_in w (constraint_of c)
+  value_is = ev ∙ ap (λ z. value (lattice_of o) (length z) (label_at o.bottom z) (left_side_of c.have)) hv
 
   pub took_variable : (x : ℕ) (cs1 : List Condition) (ws1 ws' : List Bool) (vs1 vs' : List Label) → c.target ≡ Variable x → cs1 ≡ cs → ws1 ≡ slice_set ws i false → vs1 ≡ vs →
       ws' ≡ cond ((lattice_of o).flows v (label_at o.bottom vs1 x)) ws1 (woken x cs1 ws1) → vs' ≡ cond ((lattice_of o).flows v (label_at o.bottom vs1 x)) vs1 (joined (lattice_of o) o.bottom vs1 x v) →

@@ -6,7 +6,7 @@ use Rattle.label_lattice.specs.Lattice.{Lattice, Flows, IsLattice}
 use Rattle.mit_syntax.specs.Expression.{Expression, Number, Variable, Binary, Element}
 use Rattle.timing_types.specs.Typing.{label_of, index_label}
 use Rattle.timing_types.specs.Walk.{here, put_index}
-use Rattle.label_infer.specs.Forms.{Form, value_from, value, fixed, both, variable_form, label_form, index_form, put_form, here_form}
+use Rattle.label_infer.specs.Forms.{LeftSide, value_from, value, fixed, both, variable_form, label_form, index_form, put_form, here_form}
 
 module _ (lat : Lattice) (ll : IsLattice lat) where
   pub base_up : (g : ℕ → ℕ) (b : ℕ) (has : ℕ → Bool) (n : ℕ) → Flows lat b (value_from lat g b has n)
@@ -42,11 +42,11 @@ module _ (lat : Lattice) (ll : IsLattice lat) where
       go rest false e = rest
 
   module _ (n : ℕ) (g : ℕ → ℕ) where
-    abbrev val : Form → ℕ
+    abbrev val : LeftSide → ℕ
     val = value lat n g
 
     -- values grow with the labels
-    pub value_up : (h : ℕ → ℕ) → ((x : ℕ) → Flows lat (g x) (h x)) → (f : Form) → Flows lat (val f) (value lat n h f)
+    pub value_up : (h : ℕ → ℕ) → ((x : ℕ) → Flows lat (g x) (h x)) → (f : LeftSide) → Flows lat (val f) (value lat n h f)
     value_up h u f =
         value_least g f.base f.has n (value lat n h f) (base_up h f.base f.has n)
         (λ x i e. ll.chain (g x) (h x) (value lat n h f) (u x) (has_up h f.base f.has n x i e))
@@ -54,7 +54,7 @@ module _ (lat : Lattice) (ll : IsLattice lat) where
     pub fixed_value : (a : ℕ) → val (fixed a) ≡ a
     fixed_value a = ll.anti (val (fixed a)) a (value_least g a (λ y. false) n a (ll.same a) (λ x i e. absurd (both_ways false refl e))) (base_up g a (λ y. false) n)
 
-    pub both_value : (f h : Form) → val (both lat f h) ≡ lat.join (val f) (val h)
+    pub both_value : (f h : LeftSide) → val (both lat f h) ≡ lat.join (val f) (val h)
     both_value f h =
         let c = both lat f h in
         let j = lat.join (val f) (val h) in
@@ -95,7 +95,7 @@ module _ (lat : Lattice) (ll : IsLattice lat) where
         (base_up g b has n)
 
     -- two joined forms, by their values
-    pub join_value : (f h : Form) (a b : ℕ) → val f ≡ a → val h ≡ b → val (both lat f h) ≡ lat.join a b
+    pub join_value : (f h : LeftSide) (a b : ℕ) → val f ≡ a → val h ≡ b → val (both lat f h) ≡ lat.join a b
     join_value f h a b p q = both_value f h ∙ ap (λ z. lat.join z (val h)) p ∙ ap (lat.join a) q
 
     module _ (free : ℕ → Bool) (written : ℕ → ℕ) (small : (x : ℕ) → free x ≡ true → x < n) (keeps : (x : ℕ) → free x ≡ false → g x ≡ written x) where
@@ -121,5 +121,5 @@ module _ (lat : Lattice) (ll : IsLattice lat) where
       pub put_value : (i e : Expression) → val (put_form lat free written i e) ≡ put_index lat g i e
       put_value i e = join_value (label_form lat free written i) (index_form lat free written e) (label_of lat g i) (index_label lat g e) (label_value i) (index_value e)
 
-      pub here_value : (pc : Form) (p : ℕ) (e : Expression) → val pc ≡ p → val (here_form lat free written pc e) ≡ here lat g p e
+      pub here_value : (pc : LeftSide) (p : ℕ) (e : Expression) → val pc ≡ p → val (here_form lat free written pc e) ≡ here lat g p e
       here_value pc p e q = join_value pc (index_form lat free written e) p (index_label lat g e) q (index_value e)

@@ -1,8 +1,8 @@
 -- The loop of waking.
 use Rattle.std.proofs.Common.{◌≡◌, ℕ, zero, suc, ◌<◌, refl, sym, ap, ◌∙◌, List, [], ◌∷◌, length, arith}
 use Rattle.std.specs.Prelude.{Bool, ◌||◌, Some, slice_get}
-use Rattle.label_infer.specs.declared.needs.Condition.{Condition}
-use Rattle.label_infer.specs.Known.{need_of}
+use Rattle.label_infer.specs.declared.constraints.Condition.{Condition}
+use Rattle.label_infer.specs.Known.{constraint_of}
 use Rattle.label_infer.specs.Work.{waits_at, woken}
 use Rattle.label_infer.proofs.Taking.{woken_length, woken_at}
 
@@ -20,7 +20,7 @@ some_at (c ∷ cs) zero h = (c, refl)
 some_at (c ∷ cs) (suc k) h = some_at cs k (omega (arith, h))
 
 pub all_woken : (x : ℕ) (cs : List Condition) (ws ws' : List Bool) → length ws ≡ length cs → length ws' ≡ length ws →
-    ((k : ℕ) (c : Condition) → k < length cs → slice_get cs k ≡ Some c → waits_at ws' k ≡ (waits_at ws k || (need_of c).have.has x)) → ws' ≡ woken x cs ws
+    ((k : ℕ) (c : Condition) → k < length cs → slice_get cs k ≡ Some c → waits_at ws' k ≡ (waits_at ws k || (constraint_of c).have.has x)) → ws' ≡ woken x cs ws
 all_woken x cs ws ws' fit len f =
     let wl = woken_length x cs ws in
     ext ws' (woken x cs ws) (omega (arith, len, wl)) (λ k l.

@@ -1,7 +1,7 @@
 -- Conditions in blocks of 64.
 use Rattle.std.specs.Prelude.{◌≡◌, ℕ, ◌+◌, ◌*◌, ◌/◌, ◌<◌, ◌≤◌, Bool, true, false, List, length, slice_get, slice_index_or, Some}
 use Rattle.label_infer.specs.declared.row.Row.{Row}
-use Rattle.label_infer.specs.declared.needs.Condition.{Condition}
+use Rattle.label_infer.specs.declared.constraints.Condition.{Condition}
 use Rattle.label_infer.specs.declared.blocks.Blocks.{Blocks}
 use Rattle.label_infer.specs.Rows.{has_in}
 use Rattle.label_infer.specs.Sets.{has_of}

@@ -1,9 +1,9 @@
 -- What a worklist keeps.
 use Rattle.std.specs.Prelude.{◌≡◌, ℕ, ◌<◌, ◌≤◌, length, slice_get, Some}
 use Rattle.label_infer.specs.declared.worklist.Worklist.TheInside.{Inside}
-use Rattle.label_infer.specs.declared.needs.Condition.{Condition}
-use Rattle.label_infer.specs.declared.needs.Target.{Target}
-use Rattle.label_infer.specs.declared.needs.Target.TheVariants.{Variable, Level}
+use Rattle.label_infer.specs.declared.constraints.Condition.{Condition}
+use Rattle.label_infer.specs.declared.constraints.Target.{Target}
+use Rattle.label_infer.specs.declared.constraints.Target.TheVariants.{Variable, Level}
 use Rattle.label_infer.specs.Work.{Work}
 use Rattle.label_infer.specs.Blocks.{AreBlocks}
 

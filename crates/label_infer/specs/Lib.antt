@@ -3,7 +3,7 @@ pub mod Given
 pub mod Rows
 pub mod Forms
 pub mod Sets
-pub mod FormOf
+pub mod LeftSideOf
 pub mod Known
 pub mod Work
 pub mod Holders

@@ -7,11 +7,11 @@ use Rattle.mit_syntax.specs.Declarations.{variables}
 use Rattle.mit_syntax.specs.Program.{Syntax, plan_of}
 use Rattle.timing_types.specs.Walk.{Side, OfCommand, OfVariable, OfLevel}
 use Rattle.timing_types.specs.Labelling.{Labelling, label_at, variable_of, level_of}
-use Rattle.label_infer.specs.declared.needs.Condition.{Condition}
+use Rattle.label_infer.specs.declared.constraints.Condition.{Condition}
 use Rattle.label_infer.specs.Least.{Labels, is_free, MeetsOmitted, IsLeast}
 use Rattle.label_infer.specs.Given.{AllFrom, written_levels, KeepsVariables, KeepsLevels}
-use Rattle.label_infer.specs.Forms.{value, Need, right_of, needs_of}
-use Rattle.label_infer.specs.Known.{need_of, needs_in}
+use Rattle.label_infer.specs.Forms.{value, Constraint, right_of, constraints_of}
+use Rattle.label_infer.specs.Known.{constraint_of, constraints_in}
 
 -- the labels with their order, the conditions in the order of the walk, which of them wait, and the labels so
 -- far of variables and mitigates
@@ -36,17 +36,17 @@ abbrev pub waits_at : List Bool → ℕ → Bool
 waits_at ws i = slice_index_or ws i false
 
 -- the left side and the right side of a condition
-abbrev pub have_in : Work → Need → ℕ
+abbrev pub have_in : Work → Constraint → ℕ
 have_in w n = value (lattice_in w) (length w.variables) (variable_in w) n.have
 
-abbrev pub right_in : Work → Need → ℕ
+abbrev pub right_in : Work → Constraint → ℕ
 right_in w n = right_of (variable_in w) (level_in w) n.side
 
 -- which wait once the label of x has risen: those that did, and those with x in their left sides
 abbrev pub woken : ℕ → List Condition → List Bool → List Bool
 woken x [] ws = ws
 woken x (c ∷ cs) [] = []
-woken x (c ∷ cs) (w ∷ ws) = (w || (need_of c).have.has x) ∷ woken x cs ws
+woken x (c ∷ cs) (w ∷ ws) = (w || (constraint_of c).have.has x) ∷ woken x cs ws
 
 -- a condition is taken up: its left side is joined into the label of its right side
 abbrev pub joined : Lattice → ℕ → List Label → ℕ → ℕ → List Label
@@ -77,7 +77,7 @@ taken_side w i v (OfLevel k written) =
 pub record Takes (w w' : Work) (i : ℕ) (c : Condition) : Type 0 where
   pub waits : waits_at w.waits i ≡ true
   pub there : slice_get w.conditions i ≡ Some c
-  pub taken : w' ≡ taken_side w i (have_in w (need_of c)) (need_of c).side
+  pub taken : w' ≡ taken_side w i (have_in w (constraint_of c)) (constraint_of c).side
 
 -- no condition waits
 abbrev pub IsDone : Work → Type 0
@@ -88,11 +88,11 @@ IsDone w = (i : ℕ) → waits_at w.waits i ≡ false
 -- the program that meets what it omits.
 pub record IsWorkOf (s : Syntax) (w : Work) : Type 0 where
   pub order : w.order ≡ s.order
-  pub conditions : needs_in w.conditions ≡ needs_of s
+  pub conditions : constraints_in w.conditions ≡ constraints_of s
   pub fit : length w.waits ≡ length w.conditions
   pub variables : KeepsVariables s w.variables
   pub levels : KeepsLevels s w.levels
-  pub settled : (i : ℕ) (c : Condition) → slice_get w.conditions i ≡ Some c → waits_at w.waits i ≡ false → Flows (lattice_in w) (have_in w (need_of c)) (right_in w (need_of c))
+  pub settled : (i : ℕ) (c : Condition) → slice_get w.conditions i ≡ Some c → waits_at w.waits i ≡ false → Flows (lattice_in w) (have_in w (constraint_of c)) (right_in w (constraint_of c))
   pub low_variables : (l : Labelling) → Labels s l → MeetsOmitted s l → (x : ℕ) → Flows (lattice_in w) (variable_in w x) (variable_of s.order l x)
   pub low_levels : (l : Labelling) → Labels s l → MeetsOmitted s l → (k : ℕ) → Flows (lattice_in w) (level_in w k) (level_of s.order l k)
 
@@ -124,12 +124,12 @@ row_count (suc n) has = cond (has n) 1 0 + row_count n has
 
 -- the most steps that the conditions of n variables can take with chains of up to c labels: for each, one, and
 -- one for each rise of a label in its left side
-abbrev pub shares : ℕ → ℕ → List Need → ℕ
+abbrev pub shares : ℕ → ℕ → List Constraint → ℕ
 shares n c [] = 0
 shares n c (x ∷ xs) = (1 + row_count n x.have.has * (c - 1)) + shares n c xs
 
 abbrev pub shares_of : Syntax → ℕ → ℕ
-shares_of s c = shares (variables s.declarations) c (needs_of s)
+shares_of s c = shares (variables s.declarations) c (constraints_of s)
 
 abbrev pub score : Bool → ℕ
 score true = 1
@@ -143,11 +143,11 @@ row_left (suc n) has left = cond (has n) (left n) 0 + row_left n has left
 -- the most steps that are left
 abbrev pub steps_left : ℕ → (ℕ → ℕ) → List Condition → List Bool → ℕ
 steps_left n left [] ws = 0
-steps_left n left (c ∷ cs) [] = row_left n (need_of c).have.has left + steps_left n left cs []
-steps_left n left (c ∷ cs) (w ∷ ws) = (score w + row_left n (need_of c).have.has left) + steps_left n left cs ws
+steps_left n left (c ∷ cs) [] = row_left n (constraint_of c).have.has left + steps_left n left cs []
+steps_left n left (c ∷ cs) (w ∷ ws) = (score w + row_left n (constraint_of c).have.has left) + steps_left n left cs ws
 
 -- after this many steps no more than the shares are used: each label is at the end of a chain of its rises
 pub record IsWithin (w : Work) (c used : ℕ) : Type 0 where
   pub rises : ℕ → ℕ
   pub climbs : (x : ℕ) → Climb (lattice_in w) w.order.size (variable_in w x) (rises x)
-  pub bound : used + steps_left (length w.variables) (λ x. c - 1 - rises x) w.conditions w.waits ≤ shares (length w.variables) c (needs_in w.conditions)
+  pub bound : used + steps_left (length w.variables) (λ x. c - 1 - rises x) w.conditions w.waits ≤ shares (length w.variables) c (constraints_in w.conditions)

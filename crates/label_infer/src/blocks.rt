@@ -1,12 +1,12 @@
 //! Conditions in blocks of 64.
 
 ghost use Rattle.std.specs.Prelude.{◌≡◌, ◌+◌, ◌*◌, ◌/◌, ◌<◌, ◌≤◌, ℕ, Bool, List, length, replicate, slice_get, slice_set, Some, true, false, IfOk};
-ghost use Rattle.label_infer.specs.declared.needs.Condition.{Condition as Listed};
+ghost use Rattle.label_infer.specs.declared.constraints.Condition.{Condition as Listed};
 ghost use Rattle.label_infer.specs.declared.row.Row.{Row as Bits};
 ghost use Rattle.label_infer.specs.Blocks.{Includes, Grow, AreBlocks};
 ghost use Rattle.label_infer.specs.Sets.{has_of};
 
-use crate::needs::Condition;
+use crate::constraints::Condition;
 use crate::row::Row;
 use crate::variable_set::VariableSet;
 use std::alloc::{AllocError, Global};

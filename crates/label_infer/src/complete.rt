@@ -8,7 +8,7 @@ ghost use Rattle.timing_types.specs.Labelling.{label_at};
 ghost use Rattle.label_infer.specs.Least.{Labels, IsLeast};
 ghost use Rattle.label_infer.specs.Given.{KeepsVariables, KeepsLevels, WritesAll, own_pairs};
 
-use crate::own::list_pairs;
+use crate::marks::list_pairs;
 use label_lattice::label::Label;
 use mit_syntax::program::Program;
 use std::alloc::{AllocError, Global};

@@ -3,14 +3,14 @@
 
 mod blocks;
 pub mod complete;
+mod constraints;
 mod first;
-mod form;
 pub mod infer;
 mod known;
 pub mod laws;
-mod left;
-mod needs;
-mod own;
+mod left_side;
+mod left_sides;
+mod marks;
 mod place;
 mod row;
 pub mod steps;

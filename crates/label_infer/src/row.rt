@@ -1,6 +1,6 @@
 //! Sets of variables.
 
-ghost use Rattle.std.specs.Prelude.{◌≡◌, ◌<◌, length, ◌||◌, ◌&&◌, not, true, false, eqb, bit_and, MatchBool};
+ghost use Rattle.std.specs.Prelude.{◌≡◌, ◌<◌, length, ◌||◌, ◌&&◌, not, false, eqb, bit_and, MatchBool, IsTrue, ◌↔◌};
 ghost use Rattle.label_infer.specs.Rows.{has_in, Meet, SharesBit};
 
 /// How many variables a program can have: each declaration is one, and each element of an array.
@@ -67,7 +67,7 @@ impl Row {
 
     /// Whether both have the same words.
     pub(crate) fn same(&self, other: &Row) -> bool
-        ensures { result ≡ true → self.now.words ≡ other.now.words }
+        ensures { IsTrue result ↔ (self.now.words ≡ other.now.words) }
     {
         self.words == other.words
     }

@@ -9,10 +9,10 @@ ghost use Rattle.mit_syntax.specs.Program.{plan_of};
 ghost use Rattle.mit_syntax.specs.Todo.{Skip, Assign, Mitigate, Done};
 
 use crate::complete::complete;
-use crate::form::fixed;
+use crate::constraints::{Condition, list_constraints};
 use crate::infer::{infer, infer_counted};
 use crate::known::Known;
-use crate::needs::{Condition, list_needs};
+use crate::left_side::fixed;
 use crate::steps::Steps;
 use crate::variables::Variables;
 use crate::waiting::value;
@@ -144,7 +144,7 @@ fn chain(alloc: Global, order: Lattice) -> Result<Vec<Condition>, AllocError> {
     let commands = vec![in alloc; copy(2, 1, 42), copy(1, 0, 50), copy(0, 3, 58)]?;
     let low = fixed(LOW);
     let mut found = Vec::new(alloc);
-    list_needs(&commands, &k, &low, &low, &mut found)?;
+    list_constraints(&commands, &k, &low, &low, &mut found)?;
     Ok(found)
 }
 

@@ -5,12 +5,12 @@ ghost use Rattle.label_lattice.specs.declared.label.Label.{Label as Written};
 ghost use Rattle.label_lattice.specs.Lattice.{Flows};
 ghost use Rattle.label_lattice.specs.Order.{lattice_of};
 ghost use Rattle.timing_types.specs.Labelling.{label_at};
-ghost use Rattle.label_infer.specs.FormOf.{form_of};
+ghost use Rattle.label_infer.specs.LeftSideOf.{left_side_of};
 ghost use Rattle.label_infer.specs.Forms.{value, value_from};
 ghost use Rattle.label_infer.specs.Holders.{Tell};
 ghost use Rattle.label_infer.specs.Rows.{has_in, Meet};
 
-use crate::form::Form;
+use crate::left_side::LeftSide;
 use crate::row::{MAX_NUMBERS, Row};
 use crate::variable_set::VariableSet;
 use label_lattice::label::Label;
@@ -136,8 +136,8 @@ impl Variables {
     }
 
     /// The value of a left side.
-    pub(crate) fn value(&self, form: &Form, order: &Lattice) -> Label
-        ensures { result.number ≡ value (lattice_of order.now) (length self.now) (label_at order.now.bottom self.now) (form_of form.now) }
+    pub(crate) fn value(&self, form: &LeftSide, order: &Lattice) -> Label
+        ensures { result.number ≡ value (lattice_of order.now) (length self.now) (label_at order.now.bottom self.now) (left_side_of form.now) }
     {
         match &form.variables {
             VariableSet::Empty => self.without(form.base, order),

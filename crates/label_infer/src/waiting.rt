@@ -3,16 +3,16 @@
 ghost use Rattle.std.specs.Prelude.{◌≡◌, ◌+◌, ◌<◌, ◌≤◌, ◌||◌, ℕ, cond, length, replicate, slice_get, Some, true, false, IfOk, MatchOption};
 ghost use Rattle.label_lattice.specs.Order.{lattice_of};
 ghost use Rattle.timing_types.specs.Labelling.{label_at};
-ghost use Rattle.label_infer.specs.declared.needs.Condition.{Condition as Listed};
+ghost use Rattle.label_infer.specs.declared.constraints.Condition.{Condition as Listed};
 ghost use Rattle.label_infer.specs.Blocks.{AreBlocks};
-ghost use Rattle.label_infer.specs.FormOf.{form_of};
+ghost use Rattle.label_infer.specs.LeftSideOf.{left_side_of};
 ghost use Rattle.label_infer.specs.Sets.{has_of};
 ghost use Rattle.label_infer.specs.Forms.{value};
 ghost use Rattle.label_infer.specs.Work.{waits_at, woken, joined};
 
 use crate::blocks::Blocks;
-use crate::form::Form;
-use crate::needs::Condition;
+use crate::constraints::Condition;
+use crate::left_side::LeftSide;
 use crate::row::MAX_NUMBERS;
 use crate::variables::Variables;
 use label_lattice::label::Label;
@@ -53,9 +53,9 @@ pub(crate) fn next_waiting(waits: &[bool], cursor: usize) -> Option<usize>
 }
 
 /// The value of a left side.
-pub(crate) fn value(form: &Form, variables: &Variables, order: &Lattice) -> Label
+pub(crate) fn value(form: &LeftSide, variables: &Variables, order: &Lattice) -> Label
     requires { length variables.now ≤ MAX_NUMBERS }
-    ensures { result.number ≡ value (lattice_of order.now) (length variables.now) (label_at order.now.bottom variables.now) (form_of form.now) }
+    ensures { result.number ≡ value (lattice_of order.now) (length variables.now) (label_at order.now.bottom variables.now) (left_side_of form.now) }
 {
     variables.value(form, order)
 }

@@ -3,14 +3,14 @@
 ghost use Rattle.std.specs.Prelude.{◌≡◌, ◌+◌, ◌<◌, ℕ, length, true, false, IfOk};
 ghost use Rattle.mit_syntax.specs.Program.{Syntax};
 ghost use Rattle.mit_syntax.specs.Valid.{IsValid};
-ghost use Rattle.label_infer.specs.declared.needs.Condition.{Condition as Listed};
+ghost use Rattle.label_infer.specs.declared.constraints.Condition.{Condition as Listed};
 ghost use Rattle.label_infer.specs.Work.{Work, Takes, IsDone, IsWorkOf, IsFirst, IsInferred, IsWithin, variable_in, level_in};
 
 use crate::blocks::Blocks;
+use crate::constraints::{Condition, Target, list_constraints};
 use crate::first::{first_variables, list_levels, written_labels};
-use crate::form::fixed;
 use crate::known::Known;
-use crate::needs::{Condition, Target, list_needs};
+use crate::left_side::fixed;
 use crate::steps::Steps;
 use crate::variables::Variables;
 use crate::waiting::{all_wait, condition_at, lift, next_waiting, raise, value};
@@ -114,7 +114,7 @@ impl Worklist {
             written: written_labels(alloc, p)?,
         };
         let mut conditions = Vec::new(alloc);
-        list_needs(p.body(), &k, &low, &low, &mut conditions)?;
+        list_constraints(p.body(), &k, &low, &low, &mut conditions)?;
         let waits = all_wait(alloc, conditions.len())?;
         let blocks = Blocks::new(alloc, &conditions)?;
         let variables = first_variables(alloc, &k)?;

@@ -1,7 +1,7 @@
 use Rattle.std.proofs.Common.{◌≡◌, ◌<◌, refl, arith, length, rules, subst, sym}
 use Rattle.std.specs.Prelude.{slice_get, Some}
 use Rattle.std.proofs.lemmas.Option.{slice_get_read}
-use Rattle.label_infer.specs.declared.needs.Condition.{Condition}
+use Rattle.label_infer.specs.declared.constraints.Condition.{Condition}
 use Rattle.label_infer.specs.Blocks.{Includes}
 use Rattle.label_infer.specs.Sets.{has_of}
 use Rattle.label_infer.proofs.Blocking.{cover_more}

@@ -1,6 +1,6 @@
 use Rattle.std.proofs.Common.{◌≡◌, ◌*◌, ◌<◌, ◌≤◌, ℕ, length}
 use Rattle.std.specs.Prelude.{◌||◌, Some, slice_get}
-use Rattle.label_infer.specs.declared.needs.Condition.{Condition}
+use Rattle.label_infer.specs.declared.constraints.Condition.{Condition}
 use Rattle.label_infer.specs.Sets.{has_of}
 use Rattle.label_infer.specs.Work.{waits_at}
 use Rattle.label_infer.proofs.waiting.wake.Given as goal

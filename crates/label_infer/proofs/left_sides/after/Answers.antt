@@ -1,10 +1,10 @@
 use Rattle.std.proofs.Common.{refl, ap, ◌∙◌}
 use Rattle.mit_syntax.specs.Expression.{expression_of}
-use Rattle.label_infer.specs.FormOf.{form_of}
+use Rattle.label_infer.specs.LeftSideOf.{left_side_of}
 use Rattle.label_infer.specs.Forms.{both, label_form, index_form}
 use Rattle.label_infer.specs.Known.{lat_of, free_of, written_of, own_of, here_of}
 use Rattle.label_infer.proofs.Joined.{if_ok, both_is}
-use Rattle.label_infer.proofs.left.after.Goals as goal
+use Rattle.label_infer.proofs.left_sides.after.Goals as goal
 
 pub returns : goal.returns
 returns c =
@@ -12,12 +12,12 @@ returns c =
     let lat = lat_of k in
     let o = c.args.written.now in
     let e = expression_of c.args.e.now in
-    let pc = form_of c.args.pc.now in
-    let t = form_of c.args.t.now in
+    let pc = left_side_of c.args.pc.now in
+    let t = left_side_of c.args.t.now in
     let le = label_form lat (free_of k) (written_of k) e in
     let li = index_form lat (free_of k) (written_of k) e in
-    let here = both_is lat pc pc (form_of c.in_ok-li.li) li (form_of c.in_ok-here.here) c.in_ok-here.ensures refl c.in_ok-li.ensures in
-    let reads = both_is lat t t (form_of c.in_ok-le.le) le (form_of c.in_ok-reads.reads) c.in_ok-reads.ensures refl c.in_ok-le.ensures in
+    let here = both_is lat pc pc (left_side_of c.in_ok-li.li) li (left_side_of c.in_ok-here.here) c.in_ok-here.ensures refl c.in_ok-li.ensures in
+    let reads = both_is lat t t (left_side_of c.in_ok-le.le) le (left_side_of c.in_ok-reads.reads) c.in_ok-reads.ensures refl c.in_ok-le.ensures in
     if_ok c.both-3.result
-    (λ f h. both_is lat (form_of c.in_ok-reads.reads) (both lat t le) (form_of c.own-er.result) (own_of o (here_of k pc e)) (form_of f) h reads
+    (λ f h. both_is lat (left_side_of c.in_ok-reads.reads) (both lat t le) (left_side_of c.own-er.result) (own_of o (here_of k pc e)) (left_side_of f) h reads
     (c.own-er.ensures ∙ ap (own_of o) here)) c.both-3.ensures

@@ -3,7 +3,7 @@ use Rattle.label_lattice.specs.Order.{lattice_of}
 use Rattle.mit_syntax.specs.Plan.{list_plan}
 use Rattle.timing_types.specs.Labelling.{label_at}
 use Rattle.label_infer.specs.Given.{own_pairs}
-use Rattle.label_infer.proofs.own.+own.Given as goal
+use Rattle.label_infer.proofs.marks.+marks.Given as goal
 
 abbrev pub invariant-list_pairs-loop-c : goal.invariant-list_pairs-loop-c
 invariant-list_pairs-loop-c l =

@@ -4,7 +4,7 @@ use Rattle.mit_syntax.specs.Plan.{Written, command_plan, list_plan}
 use Rattle.timing_types.specs.Labelling.{label_at}
 use Rattle.timing_types.proofs.Parts.{if_parts, while_parts, mitigate_parts}
 use Rattle.label_infer.proofs.Pairs.{if_pairs, while_pairs, mitigate_pairs}
-use Rattle.label_infer.proofs.own.+own.Goals as goal
+use Rattle.label_infer.proofs.marks.+marks.Goals as goal
 
 pub command_pairs-returns-in_ok-list_pairs-in-If-2 : goal.command_pairs-returns-in_ok-list_pairs-in-If-2
 command_pairs-returns-in_ok-list_pairs-in-If-2 t c =

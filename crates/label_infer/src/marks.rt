@@ -74,7 +74,7 @@ fn own_pair(written: &Option<(Label, Label)>, here: Label) -> (Label, Label)
 }
 
 /// Appends the labels of a command and of those inside it, in order of the text.
-#[cycle(own)]
+#[cycle(marks)]
 fn command_pairs(
     c: &Command,
     variables: &[Label],
@@ -146,7 +146,7 @@ fn command_pairs(
 }
 
 /// Appends the labels of the commands of a list, in order of the text.
-#[cycle(own)]
+#[cycle(marks)]
 pub(crate) fn list_pairs(
     commands: &[Command],
     variables: &[Label],

@@ -1,7 +1,7 @@
 //! Left sides before omitted labels are known.
 
 ghost use Rattle.std.specs.Prelude.{◌≡◌, IfOk};
-ghost use Rattle.label_infer.specs.FormOf.{form_of};
+ghost use Rattle.label_infer.specs.LeftSideOf.{left_side_of};
 ghost use Rattle.label_infer.specs.Forms.{fixed, both};
 ghost use Rattle.label_infer.specs.Known.{lat_of};
 
@@ -12,17 +12,17 @@ use std::alloc::AllocError;
 
 /// A label that is fixed, joined with the labels of some variables.
 #[derive(Drop)]
-pub(crate) struct Form {
+pub(crate) struct LeftSide {
     pub(crate) base: Label,
     pub(crate) variables: VariableSet,
 }
 
-impl Form {
+impl LeftSide {
     /// The same left side.
-    pub(crate) fn copy(&self) -> Result<Form, AllocError>
-        ensures { IfOk result (λ f. form_of f ≡ form_of self.now) }
+    pub(crate) fn copy(&self) -> Result<LeftSide, AllocError>
+        ensures { IfOk result (λ f. left_side_of f ≡ left_side_of self.now) }
     {
-        Ok(Form {
+        Ok(LeftSide {
             base: self.base,
             variables: self.variables.copy()?,
         })
@@ -30,20 +30,20 @@ impl Form {
 }
 
 /// A label alone.
-pub(crate) fn fixed(base: Label) -> Form
-    ensures { form_of result ≡ fixed base.number }
+pub(crate) fn fixed(base: Label) -> LeftSide
+    ensures { left_side_of result ≡ fixed base.number }
 {
-    Form {
+    LeftSide {
         base,
         variables: VariableSet::Empty,
     }
 }
 
 /// Both joined.
-pub(crate) fn both(k: &Known, a: &Form, b: &Form) -> Result<Form, AllocError>
-    ensures { IfOk result (λ f. form_of f ≡ both (lat_of k.now) (form_of a.now) (form_of b.now)) }
+pub(crate) fn both(k: &Known, a: &LeftSide, b: &LeftSide) -> Result<LeftSide, AllocError>
+    ensures { IfOk result (λ f. left_side_of f ≡ both (lat_of k.now) (left_side_of a.now) (left_side_of b.now)) }
 {
-    Ok(Form {
+    Ok(LeftSide {
         base: k.order.join(a.base, b.base),
         variables: a.variables.union(k.alloc, &b.variables)?,
     })

@@ -1,13 +1,13 @@
 //! The labels of expressions and commands, before omitted labels are known.
 
 ghost use Rattle.std.specs.Prelude.{◌≡◌, ◌<◌, IfNone, IfOk};
-ghost use Rattle.label_infer.specs.FormOf.{form_of};
+ghost use Rattle.label_infer.specs.LeftSideOf.{left_side_of};
 ghost use Rattle.label_infer.specs.Forms.{variable_form, label_form, index_form, put_form, here_form, own_form, both};
 ghost use Rattle.label_infer.specs.Known.{lat_of, written_at, free_of, written_of, own_of, skip_of, assign_of, put_of, after_of, loop_of, inner_of, next_of};
 ghost use Rattle.mit_syntax.specs.Expression.{expression_of};
 
-use crate::form::{Form, both, fixed};
 use crate::known::Known;
+use crate::left_side::{LeftSide, both, fixed};
 use crate::place::Place;
 use crate::row::MAX_NUMBERS;
 use crate::variable_set::VariableSet;
@@ -27,12 +27,12 @@ pub(crate) fn written_label(x: u32, k: &Known) -> Option<Label>
 }
 
 /// The label of a variable.
-fn variable(x: u32, k: &Known) -> Form
-    ensures { form_of result ≡ variable_form (lat_of k.now) (free_of k.now) (written_of k.now) x }
+fn variable(x: u32, k: &Known) -> LeftSide
+    ensures { left_side_of result ≡ variable_form (lat_of k.now) (free_of k.now) (written_of k.now) x }
 {
     match written_label(x, k) {
         Some(label) => fixed(label),
-        None => Form {
+        None => LeftSide {
             base: k.order.bottom(),
             variables: VariableSet::One(Place { number: x }),
         },
@@ -40,8 +40,8 @@ fn variable(x: u32, k: &Known) -> Form
 }
 
 /// The join of the labels of an expression's variables and arrays, those in indices included.
-pub(crate) fn label(e: &Expr, k: &Known) -> Result<Form, AllocError>
-    ensures { IfOk result (λ f. form_of f ≡ label_form (lat_of k.now) (free_of k.now) (written_of k.now) (expression_of e.now)) }
+pub(crate) fn label(e: &Expr, k: &Known) -> Result<LeftSide, AllocError>
+    ensures { IfOk result (λ f. left_side_of f ≡ label_form (lat_of k.now) (free_of k.now) (written_of k.now) (expression_of e.now)) }
 {
     match e {
         Expr::Number(_) => Ok(fixed(k.order.bottom())),
@@ -63,8 +63,8 @@ pub(crate) fn label(e: &Expr, k: &Known) -> Result<Form, AllocError>
 }
 
 /// The join of the labels of the variables and arrays that stand in an index of an expression.
-pub(crate) fn index_label(e: &Expr, k: &Known) -> Result<Form, AllocError>
-    ensures { IfOk result (λ f. form_of f ≡ index_form (lat_of k.now) (free_of k.now) (written_of k.now) (expression_of e.now)) }
+pub(crate) fn index_label(e: &Expr, k: &Known) -> Result<LeftSide, AllocError>
+    ensures { IfOk result (λ f. left_side_of f ≡ index_form (lat_of k.now) (free_of k.now) (written_of k.now) (expression_of e.now)) }
 {
     match e {
         Expr::Number(_) | Expr::Variable(_) => Ok(fixed(k.order.bottom())),
@@ -82,8 +82,8 @@ pub(crate) fn index_label(e: &Expr, k: &Known) -> Result<Form, AllocError>
 }
 
 /// The same of an assignment to an element: all of the index counts.
-fn put_label(index: &Expr, value: &Expr, k: &Known) -> Result<Form, AllocError>
-    ensures { IfOk result (λ f. form_of f ≡ put_form (lat_of k.now) (free_of k.now) (written_of k.now) (expression_of index.now) (expression_of value.now)) }
+fn put_label(index: &Expr, value: &Expr, k: &Known) -> Result<LeftSide, AllocError>
+    ensures { IfOk result (λ f. left_side_of f ≡ put_form (lat_of k.now) (free_of k.now) (written_of k.now) (expression_of index.now) (expression_of value.now)) }
 {
     let one = label(index, k)?;
     let other = index_label(value, k)?;
@@ -91,8 +91,8 @@ fn put_label(index: &Expr, value: &Expr, k: &Known) -> Result<Form, AllocError>
 }
 
 /// The read label of a command at `pc | li`.
-fn own(written: &Option<(Label, Label)>, here: Form) -> Form
-    ensures { form_of result ≡ own_of written.now (form_of here) }
+fn own(written: &Option<(Label, Label)>, here: LeftSide) -> LeftSide
+    ensures { left_side_of result ≡ own_of written.now (left_side_of here) }
 {
     match written {
         Some(pair) => fixed(pair.0),
@@ -103,19 +103,19 @@ fn own(written: &Option<(Label, Label)>, here: Form) -> Form
 /// The end label of a `skip`.
 pub(crate) fn skip_end(
     written: &Option<(Label, Label)>,
-    pc: &Form,
-    t: &Form,
+    pc: &LeftSide,
+    t: &LeftSide,
     k: &Known,
-) -> Result<Form, AllocError>
-    ensures { IfOk result (λ f. form_of f ≡ skip_of k.now written.now (form_of pc.now) (form_of t.now)) }
+) -> Result<LeftSide, AllocError>
+    ensures { IfOk result (λ f. left_side_of f ≡ skip_of k.now written.now (left_side_of pc.now) (left_side_of t.now)) }
 {
     let er = own(written, pc.copy()?);
     both(k, t, &er)
 }
 
 /// The label inside a guard.
-pub(crate) fn inner(pc: &Form, e: &Expr, k: &Known) -> Result<Form, AllocError>
-    ensures { IfOk result (λ f. form_of f ≡ inner_of k.now (form_of pc.now) (expression_of e.now)) }
+pub(crate) fn inner(pc: &LeftSide, e: &Expr, k: &Known) -> Result<LeftSide, AllocError>
+    ensures { IfOk result (λ f. left_side_of f ≡ inner_of k.now (left_side_of pc.now) (expression_of e.now)) }
 {
     let le = label(e, k)?;
     both(k, pc, &le)
@@ -124,12 +124,12 @@ pub(crate) fn inner(pc: &Form, e: &Expr, k: &Known) -> Result<Form, AllocError>
 /// `t | le | er`, the timing label after an expression is read.
 pub(crate) fn after(
     written: &Option<(Label, Label)>,
-    pc: &Form,
-    t: &Form,
+    pc: &LeftSide,
+    t: &LeftSide,
     e: &Expr,
     k: &Known,
-) -> Result<Form, AllocError>
-    ensures { IfOk result (λ f. form_of f ≡ after_of k.now written.now (form_of pc.now) (form_of t.now) (expression_of e.now)) }
+) -> Result<LeftSide, AllocError>
+    ensures { IfOk result (λ f. left_side_of f ≡ after_of k.now written.now (left_side_of pc.now) (left_side_of t.now) (expression_of e.now)) }
 {
     let li = index_label(e, k)?;
     let here = both(k, pc, &li)?;
@@ -142,12 +142,12 @@ pub(crate) fn after(
 /// `le | t | er`, where a loop starts.
 pub(crate) fn loop_start(
     written: &Option<(Label, Label)>,
-    pc: &Form,
-    t: &Form,
+    pc: &LeftSide,
+    t: &LeftSide,
     e: &Expr,
     k: &Known,
-) -> Result<Form, AllocError>
-    ensures { IfOk result (λ f. form_of f ≡ loop_of k.now written.now (form_of pc.now) (form_of t.now) (expression_of e.now)) }
+) -> Result<LeftSide, AllocError>
+    ensures { IfOk result (λ f. left_side_of f ≡ loop_of k.now written.now (left_side_of pc.now) (left_side_of t.now) (expression_of e.now)) }
 {
     let li = index_label(e, k)?;
     let here = both(k, pc, &li)?;
@@ -160,13 +160,13 @@ pub(crate) fn loop_start(
 /// `le | li | pc | t | er`.
 fn demand(
     written: &Option<(Label, Label)>,
-    pc: &Form,
-    t: &Form,
-    le: &Form,
-    li: &Form,
+    pc: &LeftSide,
+    t: &LeftSide,
+    le: &LeftSide,
+    li: &LeftSide,
     k: &Known,
-) -> Result<Form, AllocError>
-    ensures { IfOk result (λ f. form_of f ≡ both (lat_of k.now) (both (lat_of k.now) (both (lat_of k.now) (both (lat_of k.now) (form_of le.now) (form_of li.now)) (form_of pc.now)) (form_of t.now)) (own_of written.now (both (lat_of k.now) (form_of pc.now) (form_of li.now)))) }
+) -> Result<LeftSide, AllocError>
+    ensures { IfOk result (λ f. left_side_of f ≡ both (lat_of k.now) (both (lat_of k.now) (both (lat_of k.now) (both (lat_of k.now) (left_side_of le.now) (left_side_of li.now)) (left_side_of pc.now)) (left_side_of t.now)) (own_of written.now (both (lat_of k.now) (left_side_of pc.now) (left_side_of li.now)))) }
 {
     let here = both(k, pc, li)?;
     let er = own(written, here);
@@ -179,12 +179,12 @@ fn demand(
 /// The left side of an assignment's first condition.
 pub(crate) fn assigned(
     written: &Option<(Label, Label)>,
-    pc: &Form,
-    t: &Form,
+    pc: &LeftSide,
+    t: &LeftSide,
     value: &Expr,
     k: &Known,
-) -> Result<Form, AllocError>
-    ensures { IfOk result (λ f. form_of f ≡ assign_of k.now written.now (form_of pc.now) (form_of t.now) (expression_of value.now)) }
+) -> Result<LeftSide, AllocError>
+    ensures { IfOk result (λ f. left_side_of f ≡ assign_of k.now written.now (left_side_of pc.now) (left_side_of t.now) (expression_of value.now)) }
 {
     let le = label(value, k)?;
     let li = index_label(value, k)?;
@@ -194,13 +194,13 @@ pub(crate) fn assigned(
 /// The same of an assignment to an element.
 pub(crate) fn put(
     written: &Option<(Label, Label)>,
-    pc: &Form,
-    t: &Form,
+    pc: &LeftSide,
+    t: &LeftSide,
     index: &Expr,
     value: &Expr,
     k: &Known,
-) -> Result<Form, AllocError>
-    ensures { IfOk result (λ f. form_of f ≡ put_of k.now written.now (form_of pc.now) (form_of t.now) (expression_of index.now) (expression_of value.now)) }
+) -> Result<LeftSide, AllocError>
+    ensures { IfOk result (λ f. left_side_of f ≡ put_of k.now written.now (left_side_of pc.now) (left_side_of t.now) (expression_of index.now) (expression_of value.now)) }
 {
     let le = label(value, k)?;
     let li = put_label(index, value, k)?;
@@ -208,8 +208,8 @@ pub(crate) fn put(
 }
 
 /// The end label of an assignment with this left side.
-pub(crate) fn next(x: u32, have: &Form, k: &Known) -> Result<Form, AllocError>
-    ensures { IfOk result (λ f. form_of f ≡ next_of k.now x (form_of have.now)) }
+pub(crate) fn next(x: u32, have: &LeftSide, k: &Known) -> Result<LeftSide, AllocError>
+    ensures { IfOk result (λ f. left_side_of f ≡ next_of k.now x (left_side_of have.now)) }
 {
     both(k, &variable(x, k), have)
 }
