@@ -1,5 +1,5 @@
 -- What a list of shown variables tells of events and of turns.
-use Rattle.std.proofs.Common.{◌≡◌, ◌<◌, ◌≤◌, ℕ, List, [], ◌∷◌, refl, sym, ◌∙◌, ⊎_elim, Bool, true, false, Option, None, Some}
+use Rattle.std.proofs.Common.{◌≡◌, ◌<◌, ◌≤◌, ℕ, List, [], ◌∷◌, refl, sym, ◌∙◌, ⊎_elim, arith, Bool, true, false, Option, None, Some}
 use Rattle.std.specs.Prelude.{All}
 use Rattle.std.proofs.lemmas.Bool.{cases_lt}
 use Rattle.std.proofs.lemmas.List.Elements.{All-head}
@@ -51,4 +51,4 @@ turn_is_shown p o list (DidLimit c) t l e = tt
 
 -- shaped code has few variables
 pub few_variables : (c : Code) → IsShaped c → c.variables ≤ 4096
-few_variables c s = s.1.variables
+few_variables c s = let few = s.1.variables in omega (arith, few)

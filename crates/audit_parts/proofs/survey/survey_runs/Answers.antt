@@ -15,7 +15,10 @@ same_fault (Ok x) e P h k = tt
 same_fault (Err x) e P h k = subst P (sym h) k
 
 pub seen_variables-shown-requires : goal.seen_variables-shown-requires
-seen_variables-shown-requires g c = let few = c.laws.ensures.shaped.1.variables in subst (λ z. z.variables ≤ 4096) c.requires.image few
+seen_variables-shown-requires g c =
+    let few = c.laws.ensures.shaped.1.variables in
+    let small : c.args.image.now.variables ≤ 4096 = omega (arith, few) in
+    subst (λ z. z.variables ≤ 4096) c.requires.image small
 
 pub loop-i-init : goal.loop-i-init
 loop-i-init g c =
