@@ -12,7 +12,7 @@ use Rattle.std.proofs.lemmas.List.Recursion.{is_position_or_len}
 use Rattle.indexmap.specs.IndexSet.{insert_key}
 use Rattle.label_code.specs.Machine.{Event, Wrote, Began, Ended}
 use Rattle.leak_bound.specs.Records.{Tests, distinct}
-use Rattle.audit_parts.specs.Sequences.{same_event, same_sequence, classes_of}
+use Rattle.audit_parts.specs.Sequences.{same_event, same_sequence, AllAmong, classes_in, Classed, classes_of}
 
 -- conjunctions
 both : (a b : Bool) → a ≡ true → b ≡ true → (a && b) ≡ true
@@ -195,37 +195,22 @@ module _ {V : Type 0} (same : V → V → Bool) (tests : Tests same) where
   place_is : (p : V → Bool) (l : List V) → position_or_len p l ≡ place p l
   place_is p l = sym (is_position_or_len (place p) p refl (λ x xs. refl) l)
 
-  -- each of a list is among these
-  abbrev AllAmong : List V → List V → Type 0
-  AllAmong ds [] = Unit {0}
-  AllAmong ds (z ∷ zs) = (list_any (same z) ds ≡ true) × AllAmong ds zs
-
-  among-insert : (ds : List V) (x : V) (zs : List V) → AllAmong ds zs → AllAmong (insert_key same ds x) zs
+  among-insert : (ds : List V) (x : V) (zs : List V) → AllAmong same ds zs → AllAmong same (insert_key same ds x) zs
   among-insert ds x [] h = tt
   among-insert ds x (z ∷ zs) h = (any-insert ds x z h.0, among-insert ds x zs h.1)
 
-  among-push : (ds zs : List V) (x : V) → AllAmong ds zs → list_any (same x) ds ≡ true → AllAmong ds (zs ++ x ∷ [])
+  among-push : (ds zs : List V) (x : V) → AllAmong same ds zs → list_any (same x) ds ≡ true → AllAmong same ds (zs ++ x ∷ [])
   among-push ds [] x h k = (k, tt)
   among-push ds (z ∷ zs) x h k = (h.0, among-push ds zs x h.1 k)
 
-  abbrev classes_in : List V → List V → List ℕ
-  classes_in ds zs = map (λ z. position_or_len (same z) ds + 1) zs
-
-  classes-insert : (ds : List V) (x : V) (zs : List V) → AllAmong ds zs → classes_in (insert_key same ds x) zs ≡ classes_in ds zs
+  classes-insert : (ds : List V) (x : V) (zs : List V) → AllAmong same ds zs → classes_in same (insert_key same ds x) zs ≡ classes_in same ds zs
   classes-insert ds x [] h = refl
   classes-insert ds x (z ∷ zs) h =
       let new : position_or_len (same z) (insert_key same ds x) ≡ position_or_len (same z) ds =
       place_is (same z) (insert_key same ds x) ∙ (place-insert ds x z h.0 ∙ sym (place_is (same z) ds)) in
-      ap (λ n. (n + 1) ∷ classes_in (insert_key same ds x) zs) new ∙ ap (λ l. (position_or_len (same z) ds + 1) ∷ l) (classes-insert ds x zs h.1)
+      ap (λ n. (n + 1) ∷ classes_in same (insert_key same ds x) zs) new ∙ ap (λ l. (position_or_len (same z) ds + 1) ∷ l) (classes-insert ds x zs h.1)
 
-  -- what is known after some members: the different ones, and the classes
-  pub record Classed (xs ds : List V) (cs : List ℕ) : Type 0 where
-    pub different : ds ≡ distinct same xs
-    pub classes : cs ≡ classes_in ds xs
-    pub among : AllAmong ds xs
-    pub few : length ds ≤ length xs
-
-  pub none_classed : Classed [] [] []
+  pub none_classed : Classed same [] [] []
   none_classed = record { different = refl; classes = refl; among = tt; few = omega arith }
 
   insert-few : (ds : List V) (x : V) → length (insert_key same ds x) ≤ length ds + 1
@@ -235,7 +220,7 @@ module _ {V : Type 0} (same : V → V → Bool) (tests : Tests same) where
       go true e = omega (arith, ap (λ c. length (if c then ds else ds ++ x ∷ [])) e)
       go false e = omega (arith, ap (λ c. length (if c then ds else ds ++ x ∷ [])) e, length-append ds (x ∷ []))
 
-  pub one_classed : (xs ds : List V) (cs : List ℕ) (x : V) → Classed xs ds cs → Classed (xs ++ x ∷ []) (insert_key same ds x) (cs ++ (position_or_len (same x) ds + 1) ∷ [])
+  pub one_classed : (xs ds : List V) (cs : List ℕ) (x : V) → Classed same xs ds cs → Classed same (xs ++ x ∷ []) (insert_key same ds x) (cs ++ (position_or_len (same x) ds + 1) ∷ [])
   one_classed xs ds cs x h =
       let own : position_or_len (same x) (insert_key same ds x) ≡ position_or_len (same x) ds =
       place_is (same x) (insert_key same ds x) ∙ (place-inserted ds x ∙ sym (place_is (same x) ds)) in
@@ -244,14 +229,14 @@ module _ {V : Type 0} (same : V → V → Bool) (tests : Tests same) where
         different = ap (λ z. insert_key same z x) h.different ∙ sym (distinct-push xs x);
         classes =
             ap (λ z. z ++ (position_or_len (same x) ds + 1) ∷ []) (h.classes ∙ sym (classes-insert ds x xs h.among))
-            ∙ (ap (λ n. classes_in (insert_key same ds x) xs ++ (n + 1) ∷ []) (sym own) ∙ sym (map-append (λ z. position_or_len (same z) (insert_key same ds x) + 1) xs (x ∷ [])));
+            ∙ (ap (λ n. classes_in same (insert_key same ds x) xs ++ (n + 1) ∷ []) (sym own) ∙ sym (map-append (λ z. position_or_len (same z) (insert_key same ds x) + 1) xs (x ∷ [])));
         among = among-push (insert_key same ds x) xs x (among-insert ds x xs h.among) (any-inserted ds x);
         few = omega (arith, insert-few ds x, length-append xs (x ∷ []));
       }
 
   -- at the end
-  pub all_classed : (xs ds : List V) (cs : List ℕ) → Classed xs ds cs → cs ≡ classes_of same xs
-  all_classed xs ds cs h = h.classes ∙ ap (λ z. classes_in z xs) h.different
+  pub all_classed : (xs ds : List V) (cs : List ℕ) → Classed same xs ds cs → cs ≡ classes_of same xs
+  all_classed xs ds cs h = h.classes ∙ ap (λ z. classes_in same z xs) h.different
 
 -- a test of keys that is the test of what they show
 module _ {K V : Type 0} (f : K → V) (eq : K → K → Bool) (same : V → V → Bool) (is : (k l : K) → eq k l ≡ same (f k) (f l)) where

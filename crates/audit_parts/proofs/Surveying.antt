@@ -1,12 +1,13 @@
 -- What is known of some runs of a list, one after the other.
-use Rattle.std.proofs.Common.{◌≡◌, ◌<◌, ◌≤◌, ℕ, ◌+◌, ◌-◌, List, [], ◌∷◌, ◌++◌, length, map, max, Bool, true, false, cond, inl, inr, refl, sym, ap, ◌∙◌, subst, arith, append-nil, append_assoc, length-append, Some, None}
+use Rattle.std.proofs.Common.{◌≡◌, ◌<◌, ◌≤◌, ℕ, suc, ◌+◌, ◌-◌, List, [], ◌∷◌, ◌++◌, length, max, Bool, true, false, cond, inl, inr, refl, sym, ap, ◌∙◌, subst, arith, append-nil, append_assoc, length-append, Some, None}
 use Rattle.std.specs.Prelude.{◌⊎◌}
 use Rattle.std.proofs.lemmas.Bool.{cases_lt}
 use Rattle.std.proofs.lemmas.Bool.Decides.{nat_tests}
+use Rattle.std.proofs.lemmas.List.{length-map}
 use Rattle.mit_syntax.specs.Program.{plan_of}
 use Rattle.timing_types.specs.Labelled.{LabelledProgram, order_of, labels_of, levels_of}
 use Rattle.env_contract.specs.Env.{Env}
-use Rattle.label_code.specs.Machine.{Machine}
+use Rattle.label_code.specs.Machine.{Machine, Event}
 use Rattle.label_code.specs.Run.{Start}
 use Rattle.code_lower.specs.Lowered.{lowered}
 use Rattle.cycle_machine.specs.declared.end.RunEnd.{RunEnd}
@@ -19,6 +20,8 @@ use Rattle.audit_parts.specs.declared.survey.Survey.{Survey}
 use Rattle.audit_parts.specs.declared.survey.SurveyFault.{SurveyFault}
 use Rattle.audit_parts.specs.declared.survey.SurveyFault.TheVariants.{Unfinished, TooMuch, Memory}
 use Rattle.audit_parts.specs.Observed.{sequence_of, is_marked, ObservesRun}
+use Rattle.audit_parts.specs.declared.kinds.Kinds.{Kinds}
+use Rattle.audit_parts.specs.Kept.{AreKinds}
 use Rattle.audit_parts.proofs.Split.{Each-more}
 use Rattle.audit_parts.specs.Surveyed.{relevant_for, run_of, sequence_from, shown_by, shown_by_all, halted_count, begun_first, IsRefused, IsFirstRefused, IsSurveyFault, IsSurvey, unfinished, halts, of_first, Takes, Refuses}
 
@@ -49,6 +52,18 @@ of_first-more n a b lt = grind (arith, nat_tests)
 cases_le : (n m : ℕ) → (n ≤ m) ⊎ (m < n)
 cases_le n m = elim (cases_lt m n) [ inl lt ↦ inr lt | inr le ↦ inl le ]
 
+views-append : {X V : Type 0} (f : X → V) (xs ys : List X) → views f (xs ++ ys) ≡ views f xs ++ views f ys
+views-append f [] ys = refl
+views-append f (x ∷ xs) ys = ap (λ z. f x ∷ z) (views-append f xs ys)
+
+length-views : {X V : Type 0} (f : X → V) (xs : List X) → length (views f xs) ≡ length xs
+length-views f [] = refl
+length-views f (x ∷ xs) = ap suc (length-views f xs)
+
+-- of a list there are at most as many kinds as it has members
+pub few_kinds : {E : Type 0} (f : Start E → List Event) (xs : List (Start E)) (k : Kinds) → AreKinds (views f xs) k → length k.different.keys ≤ length xs
+few_kinds f xs k h = let few = h.few in omega (arith, few, length-map k.different.keys sequence_of, length-views f xs)
+
 module _ {E : Type 0} (v : Env E) (p : LabelledProgram) (o t : ℕ) (must : Bool) (ss : List (Start E)) where
   shown_more : (xs : List (Start E)) (x : Start E) → shown_by_all v p o t (xs ++ x ∷ []) ≡ shown_by_all v p o t xs + shown_by v p o t x
   shown_more [] x = omega arith
@@ -56,8 +71,8 @@ module _ {E : Type 0} (v : Env E) (p : LabelledProgram) (o t : ℕ) (must : Bool
 
   -- the runs from n on are left
   pub record Surveying (rest : List (Start E)) (n : ℕ) (r : Survey) : Type 0 where
-    pub sequences : map sequence_of r.sequences.items ++ views (sequence_from v p o t) rest ≡ views (sequence_from v p o t) ss
     pub before : List (Start E)
+    pub kinds : AreKinds (views (sequence_from v p o t) before) r.kinds
     pub are : ss ≡ before ++ rest
     pub number : n ≡ length before + 1
     pub halts : must ≡ true → Each (Halts v (lowered p).instrs t) before
@@ -72,10 +87,10 @@ module _ {E : Type 0} (v : Env E) (p : LabelledProgram) (o t : ℕ) (must : Bool
     pub begun_by : r.begun ≤ t
     pub ended_by : r.ended ≤ t
 
-  pub none_surveyed : (n : ℕ) (r : Survey) → n ≡ 1 → r.sequences.items ≡ [] → r.shown ≡ 0 → r.begun ≡ 0 → r.ended ≡ 0 → r.halted ≡ 0 → Surveying ss n r
-  none_surveyed n r is sequences shown begun ended halted = record {
-    sequences = ap (λ z. map sequence_of z ++ views (sequence_from v p o t) ss) sequences;
+  pub none_surveyed : (n : ℕ) (r : Survey) → n ≡ 1 → AreKinds [] r.kinds → r.shown ≡ 0 → r.begun ≡ 0 → r.ended ≡ 0 → r.halted ≡ 0 → Surveying ss n r
+  none_surveyed n r is kinds shown begun ended halted = record {
     before = [];
+    kinds = kinds;
     are = refl;
     number = is;
     halts = λ m. tt;
@@ -141,12 +156,10 @@ module _ {E : Type 0} (v : Env E) (p : LabelledProgram) (o t : ℕ) (must : Bool
         let hby = h.ended_by in
         let one : cond run.halted 1 0 ≤ 1 = at_most run.halted in
         record {
-          sequences =
-              ap (λ z. z ++ views (sequence_from v p o t) more) x.sequences
-              ∙ (append_assoc (map sequence_of r.sequences.items) (sequence_of w.tally.events ∷ []) (views (sequence_from v p o t) more)
-              ∙ (ap (λ z. map sequence_of r.sequences.items ++ z ∷ views (sequence_from v p o t) more) (seen.tallies.kept room)
-              ∙ (ap (λ z. map sequence_of r.sequences.items ++ views (sequence_from v p o t) z) (sym from) ∙ h.sequences)));
           before = h.before ++ s ∷ [];
+          kinds =
+              subst (λ z. AreKinds z q.kinds)
+              (ap (λ z. views (sequence_from v p o t) h.before ++ z ∷ []) (seen.tallies.kept room) ∙ sym (views-append (sequence_from v p o t) h.before (s ∷ []))) (x.kinds (views (sequence_from v p o t) h.before) h.kinds);
           are = h.are ∙ (ap (λ z. h.before ++ z) from ∙ sym (append_assoc h.before (s ∷ []) more));
           number = omega (arith, next, h.number, length-append h.before (s ∷ []));
           halts = λ k. Each-more (Halts v (lowered p).instrs t) h.before s (h.halts k) (halt k);
@@ -187,6 +200,10 @@ module _ {E : Type 0} (v : Env E) (p : LabelledProgram) (o t : ℕ) (must : Bool
                 omega (arith, x.begun, of_first-one n w.tally.begun r.begun is, b)
             by (inr lt) = let b = h.begun_by in omega (arith, x.begun, of_first-more n w.tally.begun r.begun lt, b)
 
+  -- there are fewer kinds than the number of the next run
+  pub kinds_below : (rest : List (Start E)) (n : ℕ) (r : Survey) → Surveying rest n r → length r.kinds.different.keys + 1 ≤ n
+  kinds_below rest n r h = omega (arith, few_kinds (sequence_from v p o t) h.before r.kinds h.kinds, h.number)
+
   -- all runs are taken in
   pub all_surveyed : (rest : List (Start E)) (n : ℕ) (r : Survey) → rest ≡ [] → Surveying rest n r → IsSurvey v p o t must ss r
   all_surveyed rest n r none h =
@@ -198,7 +215,7 @@ module _ {E : Type 0} (v : Env E) (p : LabelledProgram) (o t : ℕ) (must : Bool
       let hh = h.halted in
       let he = h.ended in
       record {
-        sequences = sym (append-nil (map sequence_of r.sequences.items)) ∙ (ap (λ z. map sequence_of r.sequences.items ++ views (sequence_from v p o t) z) (sym none) ∙ h.sequences);
+        kinds = subst (λ z. AreKinds (views (sequence_from v p o t) z) r.kinds) (sym all) h.kinds;
         halts = λ m. subst (Each (Halts v (lowered p).instrs t)) (sym all) (h.halts m);
         few = omega (arith, hs, small, ap (shown_by_all v p o t) all);
         halted = omega arith;

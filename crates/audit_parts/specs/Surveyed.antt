@@ -1,5 +1,5 @@
 -- What is known of the runs of a program's image from a list of starts.
-use Rattle.std.specs.Prelude.{◌≡◌, ◌<◌, ◌≤◌, ◌+◌, ◌++◌, ℕ, List, [], ◌∷◌, map, max, length, Bool, true, false, cond, nat_eq, Option, None, Some}
+use Rattle.std.specs.Prelude.{◌≡◌, ◌<◌, ◌≤◌, ◌+◌, ◌++◌, ℕ, List, [], ◌∷◌, max, length, Bool, true, false, cond, nat_eq, Option, None, Some}
 use Rattle.mit_syntax.specs.Program.{plan_of}
 use Rattle.timing_types.specs.Labelled.{LabelledProgram, order_of, labels_of, levels_of}
 use Rattle.env_contract.specs.Env.{Env}
@@ -16,6 +16,7 @@ use Rattle.audit_parts.specs.declared.survey.Survey.{Survey}
 use Rattle.audit_parts.specs.declared.survey.SurveyFault.{SurveyFault}
 use Rattle.audit_parts.specs.declared.survey.SurveyFault.TheVariants.{Unfinished, TooMuch, Memory}
 use Rattle.audit_parts.specs.Observed.{sequence_of}
+use Rattle.audit_parts.specs.Kept.{AreKinds}
 
 -- whether the mitigate with a mark is relevant for an observer of a program
 abbrev pub relevant_for : LabelledProgram → ℕ → ℕ → Bool
@@ -74,7 +75,7 @@ module _ {E : Type 0} (v : Env E) (p : LabelledProgram) where
 
   -- none is refused
   pub record IsSurvey (o t : ℕ) (must : Bool) (ss : List (Start E)) (r : Survey) : Type 0 where
-    pub sequences : map sequence_of r.sequences.items ≡ views (sequence_from o t) ss
+    pub kinds : AreKinds (views (sequence_from o t) ss) r.kinds
     pub halts : must ≡ true → Each (Halts v (lowered p).instrs t) ss
     pub few : shown_by_all o t ss ≤ 16777216
     pub halted : r.halted ≡ halted_count t ss
@@ -98,7 +99,7 @@ of_first run count before = cond (nat_eq run 1) count before
 -- what one run more makes of what is known of the runs before it
 pub record Takes (old : Survey) (run : ℕ) (must : Bool) (w : Observed) (new : Survey) : Type 0 where
   pub goes : unfinished must w.end ≡ None
-  pub sequences : map sequence_of new.sequences.items ≡ map sequence_of old.sequences.items ++ sequence_of w.tally.events ∷ []
+  pub kinds : (seqs : List (List Event)) → AreKinds seqs old.kinds → AreKinds (seqs ++ sequence_of w.tally.events ∷ []) new.kinds
   pub shown : new.shown ≡ old.shown + w.tally.shown
   pub few : new.shown ≤ 16777216
   pub begun : new.begun ≡ of_first run w.tally.begun old.begun

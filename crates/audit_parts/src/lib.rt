@@ -3,8 +3,8 @@
 #![tactic(auto)]
 
 pub mod agreement;
-pub mod classes;
 mod difference;
+pub mod kinds;
 pub mod measure;
 pub mod observe;
 pub mod relevance;

@@ -1,16 +1,14 @@
 //! The numbers of an audit's report.
 
-ghost use Rattle.std.specs.Prelude.{◌≡◌, ◌+◌, ◌<◌, ◌≤◌, ◌^◌, IfOk, length, map};
-ghost use Rattle.audit_parts.specs.Observed.{sequence_of};
+ghost use Rattle.std.specs.Prelude.{◌≡◌, ◌+◌, ◌<◌, ◌≤◌, ◌^◌, List, length};
+ghost use Rattle.label_code.specs.Machine.{Event};
+ghost use Rattle.audit_parts.specs.Kept.{AreKinds};
 ghost use Rattle.audit_parts.specs.Measured.{IsMeasure};
 
-use crate::classes::classify;
-use crate::sighting::Sighting;
+use crate::kinds::Kinds;
 use label_lattice::label::Label;
 use label_lattice::lattice::Lattice;
 use leak_bound::count::digits;
-use std::alloc::Global;
-use text_base::pos::Memory;
 
 /// How many different sequences there are, the class of each, and a power that is to bound their number.
 #[derive(Drop)]
@@ -27,30 +25,29 @@ pub struct Measures {
     pub classes: Vec<u32>,
 }
 
-/// Measures at most 4,096 sequences that an observer has seen up to a limit in cycles, at least 1, of runs
-/// with so many mitigations. Fails only for want of memory.
+/// Measures sequences that an observer has seen up to a limit in cycles, at least 1, of runs with so many
+/// mitigations. At most 4,096 of them are different.
 pub fn measure(
-    alloc: Global,
     order: &Lattice,
     observer: Label,
     limit: u64,
     mitigations: u64,
-    sequences: Vec<Vec<Sighting>>,
-) -> Result<Measures, Memory>
-    requires few { length sequences.items ≤ 4096 }
+    kinds: Kinds,
+) -> Measures
+    requires few { length kinds.different.keys ≤ 4096 }
     requires some { 0 < limit }
     requires limit { limit ≤ 2 ^ 40 }
     requires mitigations { mitigations ≤ limit }
-    ensures { IfOk result (IsMeasure order.now observer.number limit mitigations (map sequence_of sequences.items)) }
+    ensures { (seqs : List (List Event)) → AreKinds seqs kinds → IsMeasure order.now observer.number limit mitigations seqs result }
 {
     let levels = order.not_below(observer);
     let _ = order.size();
-    let classes = classify(alloc, sequences)?;
-    Ok(Measures {
+    let Kinds { different, classes } = kinds;
+    Measures {
         levels,
-        distinct: classes.distinct,
+        distinct: different.len() as u32,
         base: mitigations + 1,
         exponent: levels * digits(limit),
-        classes: classes.numbers,
-    })
+        classes,
+    }
 }

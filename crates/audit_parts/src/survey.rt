@@ -8,12 +8,13 @@ ghost use Rattle.start_file.specs.Starts.{seen, IsFor};
 ghost use Rattle.leak_bound.specs.Relevant.{relevances};
 ghost use Rattle.audit_parts.specs.Agreement.{start_of, starts_of};
 ghost use Rattle.audit_parts.specs.Observed.{TellsSeen, ObservesRun};
+ghost use Rattle.audit_parts.specs.Kept.{AreKinds};
 ghost use Rattle.audit_parts.specs.Surveyed.{unfinished, halts, of_first, Takes, Refuses, IsSurvey, IsSurveyFault};
 ghost use Rattle.audit_parts.specs.declared.survey.SurveyFault.TheVariants.{Memory};
 
+use crate::kinds::Kinds;
 use crate::observe::{Observed, Observer, Tally, observe};
 use crate::shown::seen_variables;
-use crate::sighting::Sighting;
 use cycle_machine::end::RunEnd;
 use cycle_machine::machine::Machine;
 use env_contract::env::MachineEnv;
@@ -67,8 +68,8 @@ impl<T: Drop> From<AllocFailed<T>> for SurveyFault {
 #[derive(Drop)]
 pub struct Survey {
     /// What the observer sees of each.
-    pub sequences: Vec<Vec<Sighting>>,
-    /// How many assignments these have together.
+    pub kinds: Kinds,
+    /// How many assignments the runs show together.
     pub shown: u64,
     /// How many relevant mitigations began in the first run.
     pub begun: u64,
@@ -91,10 +92,10 @@ pub struct Request<'a> {
 impl Survey {
     // Of no run.
     fn new(alloc: Global, count: usize) -> Result<Survey, Memory>
-        ensures { IfOk result (λ s. (s.sequences.items ≡ []) × (s.shown ≡ 0) × (s.begun ≡ 0) × (s.ended ≡ 0) × (s.halted ≡ 0)) }
+        ensures { IfOk result (λ s. AreKinds [] s.kinds × (s.shown ≡ 0) × (s.begun ≡ 0) × (s.ended ≡ 0) × (s.halted ≡ 0)) }
     {
         Ok(Survey {
-            sequences: Vec::with_capacity(alloc, count)?,
+            kinds: Kinds::new(alloc, count)?,
             shown: 0,
             begun: 0,
             ended: 0,
@@ -107,6 +108,7 @@ impl Survey {
         requires shown { self.old.shown ≤ MAX_SHOWN }
         requires more { seen.tally.shown ≤ 2 ^ 40 }
         requires halted { self.old.halted ≤ 4096 }
+        requires kinds { length self.old.kinds.different.keys ≤ 4096 }
         ensures takes { OnOk result (Takes self.old run must_halt seen self.new) }
         ensures refuses { IfErr result (Refuses self.old run must_halt seen) }
     {
@@ -125,7 +127,7 @@ impl Survey {
             return Err(SurveyFault::TooMuch { count: all });
         }
         events.shrink_to_fit();
-        self.sequences.push(events)?;
+        self.kinds.put(events)?;
         self.shown = all;
         self.begun = of_first(run, begun, self.begun);
         self.ended = self.ended.max(ended);
@@ -205,6 +207,7 @@ pub fn survey_runs<E: MachineEnv + Drop, M: MakeEnv<E>>(
     requires limit { request.now.limit ≤ 2 ^ 40 }
     requires relevant { request.now.relevant.now ≡ relevances (order_of p.now) (labels_of p.now) (levels_of p.now) request.now.observer.number (order_of p.now).bottom (plan_of p.now.program) }
     ensures survey { IfOk result (IsSurvey E.env p.now request.now.observer.number request.now.limit request.now.must_halt (starts_of M.made p.now.program.order (map seen starts.now))) }
+    ensures kinds { IfOk result (λ s. length s.kinds.different.keys ≤ 4096) }
     ensures fault { IfErr result (IsSurveyFault E.env p.now request.now.observer.number request.now.limit request.now.must_halt (starts_of M.made p.now.program.order (map seen starts.now))) }
 {
     image.laws();

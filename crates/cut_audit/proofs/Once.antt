@@ -7,7 +7,6 @@ use Rattle.env_contract.specs.Env.{Env}
 use Rattle.label_code.specs.Run.{Start}
 use Rattle.leak_bound.specs.Digits.{digits}
 use Rattle.leak_bound.specs.Records.{Pairwise}
-use Rattle.audit_parts.specs.declared.survey.SurveyFault.{SurveyFault}
 use Rattle.audit_parts.specs.declared.survey.SurveyFault.TheVariants.{TooMuch as IsTooMuch}
 use Rattle.audit_parts.specs.Agreement.{AgreeFor}
 use Rattle.audit_parts.specs.Surveyed.{shown_by_all}

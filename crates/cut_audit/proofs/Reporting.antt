@@ -1,6 +1,5 @@
 -- Why the report is true, and its count within the bound.
-use Rattle.std.proofs.Common.{◌≡◌, ◌<◌, ◌≤◌, ℕ, suc, ◌+◌, ◌*◌, ◌^◌, List, [], ◌∷◌, length, map, false, refl, sym, ap, ◌∙◌, subst}
-use Rattle.std.proofs.lemmas.List.{length-map}
+use Rattle.std.proofs.Common.{◌≡◌, ◌<◌, ◌≤◌, ℕ, ◌+◌, ◌*◌, ◌^◌, List, length, false, sym, ap, ◌∙◌, subst}
 use Rattle.label_lattice.specs.Order.{Order, count_not_below}
 use Rattle.mit_syntax.specs.Program.{plan_of}
 use Rattle.timing_types.specs.Labelled.{LabelledProgram, order_of, labels_of, levels_of}
@@ -16,8 +15,7 @@ use Rattle.audit_parts.specs.declared.survey.SurveyFault.{SurveyFault}
 use Rattle.audit_parts.specs.declared.survey.SurveyFault.TheVariants.{Unfinished, TooMuch, Memory}
 use Rattle.audit_parts.specs.Agreement.{AgreeFor}
 use Rattle.audit_parts.specs.Measured.{IsMeasure}
-use Rattle.audit_parts.specs.Observed.{sequence_of}
-use Rattle.audit_parts.specs.Sequences.{same_sequence, classes_of}
+use Rattle.audit_parts.specs.Sequences.{same_sequence}
 use Rattle.audit_parts.specs.Surveyed.{relevant_for, sequence_from, IsSurvey, IsSurveyFault}
 use Rattle.audit_parts.proofs.Classing.{tests_sequences}
 use Rattle.cut_audit.specs.declared.report.CutReport.{CutReport}
@@ -41,21 +39,13 @@ module _ {E : Type 0} (v : Env E) (serves : Order → E → Type 0) (p : Labelle
   may_cut (TooMuch count) h = tt
   may_cut Memory h = tt
 
-  length-views : {V : Type 0} (f : Start E → V) (xs : List (Start E)) → length (views f xs) ≡ length xs
-  length-views f [] = refl
-  length-views f (x ∷ xs) = ap suc (length-views f xs)
-
-  -- a sequence of each run
-  pub as_many : (s : Survey) → IsSurvey v p o t false ss s → length s.sequences.items ≡ length ss
-  as_many s h = sym (length-map s.sequences.items sequence_of) ∙ (ap length h.sequences ∙ length-views (sequence_from v p o t) ss)
-
   module _ (sound : CutSound v p.program.order (serves p.program.order) (labels_of p) (levels_of p) (lowered p).instrs (plan_of p.program)) (low : o < p.program.order.size) (some : 0 < t) (agree : Pairwise (AgreeFor v serves p o) ss)
-      (s : Survey) (survey : IsSurvey v p o t false ss s) (m : Measures) (measure : IsMeasure p.program.order o t s.ended (map sequence_of s.sequences.items) m) (r : CutReport) (made : Reports (length ss) s m r) where
+      (s : Survey) (survey : IsSurvey v p o t false ss s) (m : Measures) (measure : IsMeasure p.program.order o t s.ended (views (sequence_from v p o t) ss) m) (r : CutReport) (made : Reports (length ss) s m r) where
     ended : r.ended ≡ most_ended v (lowered p).instrs (relevant_for p o) t ss
     ended = made.ended ∙ survey.ended
 
     seen : r.distinct ≡ distinct_count same_sequence (views (sequence_from v p o t) ss)
-    seen = made.distinct ∙ (measure.distinct ∙ ap (distinct_count same_sequence) survey.sequences)
+    seen = made.distinct ∙ measure.distinct
 
     levels : r.levels ≡ count_not_below (order_of p) o p.program.order.size
     levels = made.levels ∙ measure.levels
@@ -77,7 +67,7 @@ module _ {E : Type 0} (v : Env E) (serves : Order → E → Type 0) (p : Labelle
       distinct = seen;
       base = base;
       exponent = exponent;
-      classes = made.classes ∙ (measure.classes ∙ ap (classes_of same_sequence) survey.sequences);
+      classes = made.classes ∙ measure.classes;
     }
 
     pub is_within : r.distinct ≤ r.base ^ r.exponent

@@ -24,7 +24,7 @@ use timing_types::typed::Typed;
 /// and counts the different sequences of assignments, with their cycles, that an observer sees by then, of
 /// runs that have halted and of those that have not. That is at most the report's base to the power of its
 /// exponent, in every environment that keeps the laws of `MachineEnv`. The image is that of the program, the
-/// starts are for it, and the observer is one of its labels. Keeps 24 bytes for each assignment that is seen.
+/// starts are for it, and the observer is one of its labels. Keeps 24 bytes for each assignment of each different sequence.
 ///
 /// # Errors
 /// First all starts are compared: `Disagree` exactly where some start does not agree with the first one. Then
@@ -68,14 +68,7 @@ pub fn cut<E: MachineEnv + Drop, M: MakeEnv<E>>(
         Ok(survey) => survey,
         Err(fault) => return Err(CutFault::of(fault)),
     };
-    let measures = measure(
-        alloc,
-        &order,
-        observer,
-        limit,
-        survey.ended,
-        survey.sequences,
-    )?;
+    let measures = measure(&order, observer, limit, survey.ended, survey.kinds);
     Ok(CutReport {
         runs: starts.len() as u32,
         levels: measures.levels,

@@ -9,7 +9,6 @@ use Rattle.code_lower.specs.Lowered.{lowered}
 use Rattle.leak_bound.specs.Digits.{digits}
 use Rattle.leak_bound.specs.Records.{Each, Pairwise}
 use Rattle.leak_bound.specs.Sound.{Halts}
-use Rattle.audit_parts.specs.declared.survey.SurveyFault.{SurveyFault}
 use Rattle.audit_parts.specs.declared.survey.SurveyFault.TheVariants.{Unfinished as IsUnfinished, TooMuch as IsTooMuch}
 use Rattle.audit_parts.specs.Agreement.{AgreeFor}
 use Rattle.audit_parts.specs.Surveyed.{shown_by_all}

@@ -1,5 +1,5 @@
 -- Why the report is true, and its count within the bound.
-use Rattle.std.proofs.Common.{◌≡◌, ◌<◌, ◌≤◌, ℕ, ◌+◌, ◌*◌, ◌^◌, List, [], ◌∷◌, length, map, true, refl, sym, ap, ◌∙◌, subst}
+use Rattle.std.proofs.Common.{◌≡◌, ◌<◌, ◌≤◌, ℕ, ◌+◌, ◌*◌, ◌^◌, List, [], ◌∷◌, length, true, refl, sym, ap, ◌∙◌, subst}
 use Rattle.std.specs.List.{count_by}
 use Rattle.label_lattice.specs.Order.{Order, count_not_below}
 use Rattle.mit_syntax.specs.Program.{plan_of}
@@ -17,8 +17,7 @@ use Rattle.audit_parts.specs.declared.measure.Measures.{Measures}
 use Rattle.audit_parts.specs.declared.survey.Survey.{Survey}
 use Rattle.audit_parts.specs.Agreement.{AgreeFor}
 use Rattle.audit_parts.specs.Measured.{IsMeasure}
-use Rattle.audit_parts.specs.Observed.{sequence_of}
-use Rattle.audit_parts.specs.Sequences.{same_sequence, classes_of}
+use Rattle.audit_parts.specs.Sequences.{same_sequence}
 use Rattle.audit_parts.specs.Surveyed.{relevant_for, run_of, sequence_from, begun_first, IsSurvey}
 use Rattle.audit_parts.proofs.Classing.{tests_sequences}
 use Rattle.leak_audit.specs.declared.report.AuditReport.{AuditReport}
@@ -51,12 +50,12 @@ module _ {E : Type 0} (v : Env E) (serves : Order → E → Type 0) (p : Labelle
   first_begins (s ∷ ss) k h e = subst (λ z. Begins (order_of p) (labels_of p) (levels_of p) o (plan_of p.program) s.memory z) (sym e) (begins s h.0)
 
   module _ (low : o < p.program.order.size) (some : 0 < t) (ss : List (Start E)) (agree : Pairwise (AgreeFor v serves p o) ss) (s : Survey) (survey : IsSurvey v p o t true ss s) (m : Measures)
-      (measure : IsMeasure p.program.order o t s.begun (map sequence_of s.sequences.items) m) (r : AuditReport) (made : Reports (length ss) s m r) where
+      (measure : IsMeasure p.program.order o t s.begun (views (sequence_from v p o t) ss) m) (r : AuditReport) (made : Reports (length ss) s m r) where
     begun : FirstBegins (order_of p) (labels_of p) (levels_of p) o (plan_of p.program) ss r.mitigations
     begun = first_begins ss r.mitigations (survey.halts refl) (made.mitigations ∙ survey.begun)
 
     seen : r.distinct ≡ distinct_count same_sequence (views (sequence_from v p o t) ss)
-    seen = made.distinct ∙ (measure.distinct ∙ ap (distinct_count same_sequence) survey.sequences)
+    seen = made.distinct ∙ measure.distinct
 
     levels : r.levels ≡ count_not_below (order_of p) o p.program.order.size
     levels = made.levels ∙ measure.levels
@@ -78,7 +77,7 @@ module _ {E : Type 0} (v : Env E) (serves : Order → E → Type 0) (p : Labelle
       distinct = seen;
       base = base;
       exponent = exponent;
-      classes = made.classes ∙ (measure.classes ∙ ap (classes_of same_sequence) survey.sequences);
+      classes = made.classes ∙ measure.classes;
     }
 
     pub is_within : r.distinct ≤ r.base ^ r.exponent

@@ -24,7 +24,7 @@ use timing_types::typed::Typed;
 /// and counts the different sequences of assignments, with their cycles, that an observer sees. That is at
 /// most the report's base to the power of its exponent, in every environment that keeps the laws of
 /// `MachineEnv`. The image is that of the program, the starts are for it, and the observer is one of its
-/// labels. Keeps 24 bytes for each assignment that is seen.
+/// labels. Keeps 24 bytes for each assignment of each different sequence.
 ///
 /// # Errors
 /// First all starts are compared: `Disagree` exactly where some start does not agree with the first one.
@@ -65,14 +65,7 @@ pub fn audit<E: MachineEnv + Drop, M: MakeEnv<E>>(
         relevant: relevant.as_slice(),
     };
     let survey = survey_runs(alloc, labelled, image, starts, &request, make)?;
-    let measures = measure(
-        alloc,
-        &order,
-        observer,
-        limit,
-        survey.begun,
-        survey.sequences,
-    )?;
+    let measures = measure(&order, observer, limit, survey.begun, survey.kinds);
     Ok(AuditReport {
         runs: starts.len() as u32,
         levels: measures.levels,

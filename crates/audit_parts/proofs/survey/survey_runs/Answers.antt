@@ -6,7 +6,7 @@ use Rattle.env_contract.specs.Env.{Env}
 use Rattle.start_file.specs.Starts.{seen, IsFor}
 use Rattle.audit_parts.specs.Agreement.{start_of, starts_of}
 use Rattle.audit_parts.proofs.Agreeing.{starts-from, All-seen}
-use Rattle.audit_parts.proofs.Surveying.{none_surveyed, refuses, one_surveyed}
+use Rattle.audit_parts.proofs.Surveying.{none_surveyed, refuses, one_surveyed, kinds_below}
 use Rattle.audit_parts.proofs.survey.survey_runs.Goals as goal
 
 -- what is handed on is the fault itself
@@ -15,7 +15,9 @@ same_fault (Ok x) e P h k = tt
 same_fault (Err x) e P h k = subst P (sym h) k
 
 pub seen_variables-shown-requires : goal.seen_variables-shown-requires
-seen_variables-shown-requires g c = let few = c.laws.ensures.shaped.1.variables in subst (λ z. z.variables ≤ 3072) c.requires.image few
+seen_variables-shown-requires g c =
+    let few = c.laws.ensures.shaped.1.variables in
+    subst (λ z. z.variables ≤ 3072) c.requires.image few
 
 pub loop-i-init : goal.loop-i-init
 loop-i-init g c =
@@ -47,3 +49,10 @@ loop-i-preserved g c =
     let from = starts-from g.M.MakeEnv.made c.args.p.now.program.order c.args.starts.now c.loop-i.i c.index-starts-i.result lt c.index-starts-i.is in
     one_surveyed v c.args.p.now c.args.request.now.observer.number c.args.request.now.limit c.args.request.now.must_halt ss (start_of g.M.MakeEnv.made c.args.p.now.program.order (seen c.index-starts-i.result)) (drop c.loop-i.i ss) (drop (c.loop-i.i + 1) ss) (c.loop-i.i + 1)
     c.loop-i.survey from c.loop-i.invariant c.in_ok-seen.seen c.args.request.now.relevant.now c.requires.relevant c.in_ok-seen.ensures (c.loop-i.i + 1 + 1) c.take.new.self refl c.in_ok-take.ensures.takes
+
+pub take-requires-clause-kinds : goal.take-requires-clause-kinds
+take-requires-clause-kinds g c =
+    let v : Env g.row.E.Denot = g.E.MachineEnv.env in
+    let ss = starts_of g.M.MakeEnv.made c.args.p.now.program.order (map seen c.args.starts.now) in
+    let below = kinds_below v c.args.p.now c.args.request.now.observer.number c.args.request.now.limit c.args.request.now.must_halt ss (drop c.loop-i.i ss) (c.loop-i.i + 1) c.loop-i.survey c.loop-i.invariant in
+    omega (arith, below)

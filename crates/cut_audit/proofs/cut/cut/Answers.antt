@@ -1,4 +1,4 @@
-use Rattle.std.proofs.Common.{◌≡◌, map, length, false, refl, sym, ap, ◌∙◌, subst, arith}
+use Rattle.std.proofs.Common.{◌≡◌, map, length, false, refl, sym, ap, ◌∙◌, subst}
 use Rattle.std.proofs.lemmas.List.{length-map}
 use Rattle.label_lattice.specs.Lattice.{IsLattice}
 use Rattle.label_lattice.specs.Order.{lattice_of}
@@ -9,14 +9,13 @@ use Rattle.timing_types.specs.Labelling.{IsLabelling}
 use Rattle.timing_types.specs.Labelled.{labels_of, levels_of}
 use Rattle.code_lower.specs.Lowered.{lowered}
 use Rattle.start_file.specs.Starts.{seen}
-use Rattle.leak_bound.specs.Records.{Pairwise}
+use Rattle.leak_bound.specs.Records.{Pairwise, views}
 use Rattle.leak_bound.specs.Sound.{CutSound}
 use Rattle.audit_parts.specs.Agreement.{start_of, starts_of, AgreeFor}
 use Rattle.audit_parts.specs.Measured.{IsMeasure}
-use Rattle.audit_parts.specs.Observed.{sequence_of}
-use Rattle.audit_parts.specs.Surveyed.{IsSurvey}
+use Rattle.audit_parts.specs.Surveyed.{IsSurvey, sequence_from}
 use Rattle.audit_parts.proofs.Marking.{typed_with}
-use Rattle.cut_audit.proofs.Reporting.{may_cut, as_many, is_report, is_within}
+use Rattle.cut_audit.proofs.Reporting.{may_cut, is_report, is_within}
 use Rattle.cut_audit.proofs.cut.cut.Goals as goal
 
 pub returns-clause-report : goal.returns-clause-report
@@ -34,9 +33,9 @@ returns-clause-report g c =
     let sound : CutSound v p.program.order (g.E.MachineEnv.serves p.program.order) (labels_of p) (levels_of p) (lowered p).instrs (plan_of p.program) = c.lowered_few_sequences.ensures.cut p made in
     let agree = subst (λ z. Pairwise (AgreeFor v g.E.MachineEnv.serves z o) (starts_of g.M.MakeEnv.made z.program.order stored)) same c.in_ok-all_agree.ensures.agree in
     let survey = subst (λ z. IsSurvey v z o t false (starts_of g.M.MakeEnv.made z.program.order stored) c.in-Ok.survey) same c.in-Ok.ensures.survey in
-    let measure = subst (λ z. IsMeasure z o t c.in-Ok.survey.ended (map sequence_of c.in-Ok.survey.sequences.items) c.in_ok-measures.measures) order c.in_ok-measures.ensures in
+    let measure = subst (λ z. IsMeasure z o t c.in-Ok.survey.ended (views (sequence_from v p o t) ss) c.measure-measures.result) order (c.measure-measures.ensures (views (sequence_from v p o t) ss) survey.kinds) in
     let count : length c.args.starts.now ≡ length ss = sym (length-map stored (start_of g.M.MakeEnv.made p.program.order) ∙ length-map c.args.starts.now seen) in
-    is_report v g.E.MachineEnv.serves p o t ss sound c.requires.observer c.requires.cycles agree c.in-Ok.survey survey c.in_ok-measures.measures measure _ (record { runs = count; levels = refl; ended = refl; halted = refl; distinct = refl; base = refl; exponent = refl; classes = refl })
+    is_report v g.E.MachineEnv.serves p o t ss sound c.requires.observer c.requires.cycles agree c.in-Ok.survey survey c.measure-measures.result measure _ (record { runs = count; levels = refl; ended = refl; halted = refl; distinct = refl; base = refl; exponent = refl; classes = refl })
 
 pub returns-clause-bound : goal.returns-clause-bound
 returns-clause-bound g c =
@@ -53,10 +52,10 @@ returns-clause-bound g c =
     let sound : CutSound v p.program.order (g.E.MachineEnv.serves p.program.order) (labels_of p) (levels_of p) (lowered p).instrs (plan_of p.program) = c.lowered_few_sequences.ensures.cut p made in
     let agree = subst (λ z. Pairwise (AgreeFor v g.E.MachineEnv.serves z o) (starts_of g.M.MakeEnv.made z.program.order stored)) same c.in_ok-all_agree.ensures.agree in
     let survey = subst (λ z. IsSurvey v z o t false (starts_of g.M.MakeEnv.made z.program.order stored) c.in-Ok.survey) same c.in-Ok.ensures.survey in
-    let measure = subst (λ z. IsMeasure z o t c.in-Ok.survey.ended (map sequence_of c.in-Ok.survey.sequences.items) c.in_ok-measures.measures) order c.in_ok-measures.ensures in
+    let measure = subst (λ z. IsMeasure z o t c.in-Ok.survey.ended (views (sequence_from v p o t) ss) c.measure-measures.result) order (c.measure-measures.ensures (views (sequence_from v p o t) ss) survey.kinds) in
     let count : length c.args.starts.now ≡ length ss = sym (length-map stored (start_of g.M.MakeEnv.made p.program.order) ∙ length-map c.args.starts.now seen) in
-    is_within v g.E.MachineEnv.serves p o t ss sound c.requires.observer c.requires.cycles agree c.in-Ok.survey survey c.in_ok-measures.measures measure
-    (record { runs = length c.args.starts.now; levels = c.in_ok-measures.measures.levels; ended = c.in-Ok.survey.ended; halted = c.in-Ok.survey.halted; distinct = c.in_ok-measures.measures.distinct; base = c.in_ok-measures.measures.base; exponent = c.in_ok-measures.measures.exponent; classes = c.in_ok-measures.measures.classes })
+    is_within v g.E.MachineEnv.serves p o t ss sound c.requires.observer c.requires.cycles agree c.in-Ok.survey survey c.measure-measures.result measure
+    (record { runs = length c.args.starts.now; levels = c.measure-measures.result.levels; ended = c.in-Ok.survey.ended; halted = c.in-Ok.survey.halted; distinct = c.measure-measures.result.distinct; base = c.measure-measures.result.base; exponent = c.measure-measures.result.exponent; classes = c.measure-measures.result.classes })
     (record { runs = count; levels = refl; ended = refl; halted = refl; distinct = refl; base = refl; exponent = refl; classes = refl })
 
 pub of-requires : goal.of-requires
@@ -66,13 +65,3 @@ of-requires g c =
     let stored = map seen c.args.starts.now in
     let ss = starts_of g.M.MakeEnv.made p.program.order stored in
     may_cut v g.E.MachineEnv.serves p c.args.observer.number c.args.limit ss c.in-Err.fault c.in-Err.ensures.fault
-
-pub measure-requires-clause-few : goal.measure-requires-clause-few
-measure-requires-clause-few g c =
-    let v : Env g.row.E.Denot = g.E.MachineEnv.env in
-    let p = c.labelled-labelled.result.now in
-    let stored = map seen c.args.starts.now in
-    let ss = starts_of g.M.MakeEnv.made p.program.order stored in
-    let many = as_many v g.E.MachineEnv.serves p c.args.observer.number c.args.limit ss c.in-Ok.survey c.in-Ok.ensures.survey in
-    let one = length-map stored (start_of g.M.MakeEnv.made p.program.order) in
-    omega (arith, many, one, length-map c.args.starts.now seen, c.requires.few)

@@ -9,12 +9,11 @@ use Rattle.timing_types.specs.Labelling.{IsLabelling}
 use Rattle.timing_types.specs.Labelled.{labels_of, levels_of}
 use Rattle.code_lower.specs.Lowered.{lowered}
 use Rattle.start_file.specs.Starts.{seen}
-use Rattle.leak_bound.specs.Records.{Pairwise}
+use Rattle.leak_bound.specs.Records.{Pairwise, views}
 use Rattle.leak_bound.specs.Sound.{Sound}
 use Rattle.audit_parts.specs.Agreement.{start_of, starts_of, AgreeFor}
 use Rattle.audit_parts.specs.Measured.{IsMeasure}
-use Rattle.audit_parts.specs.Observed.{sequence_of}
-use Rattle.audit_parts.specs.Surveyed.{IsSurvey}
+use Rattle.audit_parts.specs.Surveyed.{IsSurvey, sequence_from}
 use Rattle.audit_parts.proofs.Marking.{typed_with}
 use Rattle.leak_audit.proofs.Reporting.{is_report, is_within}
 use Rattle.leak_audit.proofs.audit.audit.Goals as goal
@@ -34,9 +33,9 @@ returns-clause-report g c =
     let sound : Sound v p.program.order (g.E.MachineEnv.serves p.program.order) (labels_of p) (levels_of p) (lowered p).instrs (plan_of p.program) = c.lowered_few_sequences.ensures.halted p made in
     let agree = subst (λ z. Pairwise (AgreeFor v g.E.MachineEnv.serves z o) (starts_of g.M.MakeEnv.made z.program.order stored)) same c.in_ok-all_agree.ensures.agree in
     let survey = subst (λ z. IsSurvey v z o t true (starts_of g.M.MakeEnv.made z.program.order stored) c.in_ok-survey.survey) same c.in_ok-survey.ensures.survey in
-    let measure = subst (λ z. IsMeasure z o t c.in_ok-survey.survey.begun (map sequence_of c.in_ok-survey.survey.sequences.items) c.in_ok-measures.measures) order c.in_ok-measures.ensures in
+    let measure = subst (λ z. IsMeasure z o t c.in_ok-survey.survey.begun (views (sequence_from v p o t) ss) c.measure-measures.result) order (c.measure-measures.ensures (views (sequence_from v p o t) ss) survey.kinds) in
     let count : length c.args.starts.now ≡ length ss = sym (length-map stored (start_of g.M.MakeEnv.made p.program.order) ∙ length-map c.args.starts.now seen) in
-    is_report v g.E.MachineEnv.serves p o t sound c.requires.observer c.requires.cycles ss agree c.in_ok-survey.survey survey c.in_ok-measures.measures measure _ (record { runs = count; levels = refl; mitigations = refl; distinct = refl; base = refl; exponent = refl; classes = refl })
+    is_report v g.E.MachineEnv.serves p o t sound c.requires.observer c.requires.cycles ss agree c.in_ok-survey.survey survey c.measure-measures.result measure _ (record { runs = count; levels = refl; mitigations = refl; distinct = refl; base = refl; exponent = refl; classes = refl })
 
 pub returns-clause-bound : goal.returns-clause-bound
 returns-clause-bound g c =
@@ -53,8 +52,8 @@ returns-clause-bound g c =
     let sound : Sound v p.program.order (g.E.MachineEnv.serves p.program.order) (labels_of p) (levels_of p) (lowered p).instrs (plan_of p.program) = c.lowered_few_sequences.ensures.halted p made in
     let agree = subst (λ z. Pairwise (AgreeFor v g.E.MachineEnv.serves z o) (starts_of g.M.MakeEnv.made z.program.order stored)) same c.in_ok-all_agree.ensures.agree in
     let survey = subst (λ z. IsSurvey v z o t true (starts_of g.M.MakeEnv.made z.program.order stored) c.in_ok-survey.survey) same c.in_ok-survey.ensures.survey in
-    let measure = subst (λ z. IsMeasure z o t c.in_ok-survey.survey.begun (map sequence_of c.in_ok-survey.survey.sequences.items) c.in_ok-measures.measures) order c.in_ok-measures.ensures in
+    let measure = subst (λ z. IsMeasure z o t c.in_ok-survey.survey.begun (views (sequence_from v p o t) ss) c.measure-measures.result) order (c.measure-measures.ensures (views (sequence_from v p o t) ss) survey.kinds) in
     let count : length c.args.starts.now ≡ length ss = sym (length-map stored (start_of g.M.MakeEnv.made p.program.order) ∙ length-map c.args.starts.now seen) in
-    is_within v g.E.MachineEnv.serves p o t sound c.requires.observer c.requires.cycles ss agree c.in_ok-survey.survey survey c.in_ok-measures.measures measure
-    (record { runs = length c.args.starts.now; levels = c.in_ok-measures.measures.levels; mitigations = c.in_ok-survey.survey.begun; distinct = c.in_ok-measures.measures.distinct; base = c.in_ok-measures.measures.base; exponent = c.in_ok-measures.measures.exponent; classes = c.in_ok-measures.measures.classes })
+    is_within v g.E.MachineEnv.serves p o t sound c.requires.observer c.requires.cycles ss agree c.in_ok-survey.survey survey c.measure-measures.result measure
+    (record { runs = length c.args.starts.now; levels = c.measure-measures.result.levels; mitigations = c.in_ok-survey.survey.begun; distinct = c.measure-measures.result.distinct; base = c.measure-measures.result.base; exponent = c.measure-measures.result.exponent; classes = c.measure-measures.result.classes })
     (record { runs = count; levels = refl; mitigations = refl; distinct = refl; base = refl; exponent = refl; classes = refl })
