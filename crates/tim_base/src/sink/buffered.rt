@@ -64,6 +64,7 @@ impl<W: Sink, B: Start> Buffered<W, B> {
     pub fn into_sink(self) -> W
         ensures sent { W.taken result ≡ self.sent }
         ensures start { Grew B.start (W.taken result) }
+        ensures faults { W.faults result ≡ self.faults }
     {
         self.out
     }
@@ -72,6 +73,8 @@ impl<W: Sink, B: Start> Buffered<W, B> {
     pub fn finish(self) -> (W, Result<(), SinkFault>)
         ensures kept { (rest : List ℕ) × Keeps (append_known self.sent self.waiting) (append_known (W.taken result.0) rest) × OnOk result.1 (rest ≡ []) }
         ensures start { Grew B.start (W.taken result.0) }
+        ensures later { self.faults ≤ W.faults result.0 }
+        ensures fault { OnErr result.1 (Rose self.faults (W.faults result.0)) }
     {
         let mut out = self.out;
         let mut waiting = self.waiting;
