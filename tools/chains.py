@@ -51,13 +51,13 @@ class Steps:
 
     def after(self, command, time):
         """The time after a command's own reading, where this was the time before it."""
-        reads = []
+        parts = self.reads("after reading", command, command["value"]) if "value" in command else []
+        parts += self.read_label("after read label", command)
         if command["form"] in ("assign", "put"):
-            reads.append(("after assigning", command["place"], ("variable", command["name"][1])))
-        for part in ("value", "index"):
-            if part in command:
-                reads += self.reads("after reading", command, command[part])
-        return list(dict.fromkeys(time + reads + self.read_label("after read label", command)))
+            parts.append(("after assigning", command["place"], ("variable", command["name"][1])))
+        if "index" in command:
+            parts += self.reads("after reading", command, command["index"])
+        return list(dict.fromkeys(time + parts))
 
     def ends(self, commands, time):
         """The time after a list of commands."""
@@ -138,6 +138,39 @@ def cheapest(program, steps, is_first, is_last):
     return min(costs), list(itertools.islice(chains(None, min(costs)), MOST_TEXTS))
 
 
+def told(program, steps, is_first, is_last):
+    """Of all cheapest chains from a step that is_first to one that is_last the one that is told: seen from its end, each of
+    its steps is the first among the steps of the program by which a cheapest one can go."""
+    best = {}
+
+    def whole(step):
+        """What a chain costs at least that ends by the step; None where there is none."""
+        if is_first(step):
+            return cost(step)
+        before = best.get(step[4]) if written(program, step[4]) is None else None
+        return plus(before, cost(step)) if before else None
+
+    def first(among):
+        found = [(whole(step), k) for k, step in enumerate(steps) if among(step) and whole(step)]
+        return steps[min(found)[1]] if found else None
+
+    while True:
+        before = dict(best)
+        for step in steps:
+            found, side = whole(step), step[5]
+            if found and written(program, side) is None and (side not in best or found < best[side]):
+                best[side] = found
+        if before == best:
+            break
+    step = first(is_last)
+    chain = []
+    while step:
+        chain.insert(0, step)
+        spot = step[4]
+        step = None if is_first(step) else first(lambda other: other[5] == spot)
+    return chain
+
+
 class Lines:
     """The lines of chains over a text with these tokens (kind, value, place)."""
 
@@ -203,7 +236,7 @@ class Lines:
 
 
 def refusals(program, found, rules, rule, place, allowed):
-    """The texts of all cheapest chains that show why a condition is broken."""
+    """The text of the chain that is told of a broken condition."""
     steps, flows = Steps(program, rules).found, program.lattice.flows
 
     def is_first(step):
@@ -213,9 +246,7 @@ def refusals(program, found, rules, rule, place, allowed):
     def is_last(step):
         return step[:2] == (rule, place) and written(program, step[5]) == allowed
 
-    _, chains = cheapest(program, steps, is_first, is_last)
-    lines = Lines(program, found)
-    return list(dict.fromkeys(lines.chain(chain) for chain in chains))
+    return [Lines(program, found).chain(told(program, steps, is_first, is_last))]
 
 
 def origins(program, found, rules, spot, label):

@@ -1,11 +1,11 @@
 -- The order of costs.
-use Rattle.std.proofs.Common.{◌≡◌, ℕ, ◌+◌, ◌<◌, ◌≤◌, refl, subst, arith, ⊎_elim, inl, inr}
+use Rattle.std.proofs.Common.{◌≡◌, ℕ, ◌+◌, ◌<◌, ◌≤◌, refl, ap, ◌∙◌, subst, arith, ⊎_elim, inl, inr}
 use Rattle.std.specs.Prelude.{Bool, true, false, cond, ◌⊎◌}
 use Rattle.std.proofs.lemmas.Bool.{cases_lt}
 use Rattle.flow_path.specs.declared.step.How.{How}
 use Rattle.flow_path.specs.declared.cost.Cost.{Cost}
 use Rattle.flow_path.specs.Chains.{is_faint}
-use Rattle.flow_path.specs.Costs.{nothing_yet, add, IsLe}
+use Rattle.flow_path.specs.Costs.{nothing_yet, add, plus, IsLe, IsLess}
 
 pub le_refl : (a : Cost) → IsLe a a
 le_refl a = inr (refl, omega arith)
@@ -68,3 +68,73 @@ not_more a h = ⊎_elim
     (λ (x : a.faint < a.faint). omega (arith, x))
     (λ (x : (a.faint ≡ a.faint) × (1 + a.steps ≤ a.steps)). let e = x.1 in omega (arith, e))
     h
+
+pub less_le : (a b : Cost) → IsLess a b → IsLe a b
+less_le a b h = ⊎_elim
+    (λ (x : a.faint < b.faint). inl x)
+    (λ (x : (a.faint ≡ b.faint) × (a.steps < b.steps)). let f = x.1 in inr (x.0, omega (arith, f)))
+    h
+
+pub less_then : (a b c : Cost) → IsLess a b → IsLe b c → IsLess a c
+less_then a b c h k = ⊎_elim
+    (λ (x : a.faint < b.faint). ⊎_elim
+    (λ (y : b.faint < c.faint). inl (omega (arith, x, y)))
+    (λ (y : (b.faint ≡ c.faint) × (b.steps ≤ c.steps)). let e = y.0 in inl (omega (arith, x, e)))
+    k)
+    (λ (x : (a.faint ≡ b.faint) × (a.steps < b.steps)).
+    let e = x.0 in
+    let f = x.1 in
+    ⊎_elim
+    (λ (y : b.faint < c.faint). inl (omega (arith, e, y)))
+    (λ (y : (b.faint ≡ c.faint) × (b.steps ≤ c.steps)).
+    let i = y.0 in
+    let j = y.1 in
+    inr (omega (arith, e, i), omega (arith, f, j)))
+    k)
+    h
+
+pub not_less : (a b : Cost) → IsLess a b → IsLe b a → ⊥
+not_less a b h k = ⊎_elim
+    (λ (x : a.faint < a.faint). omega (arith, x))
+    (λ (x : (a.faint ≡ a.faint) × (a.steps < a.steps)). let f = x.1 in omega (arith, f))
+    (less_then a b a h k)
+
+pub nothing_le : (a : Cost) → IsLe nothing_yet a
+nothing_le a = ⊎_elim
+    (λ (x : 0 < a.faint). inl x)
+    (λ (x : a.faint ≤ 0). inr (omega (arith, x), omega arith))
+    (cases_lt 0 a.faint)
+
+pub le_both : (a b : Cost) → IsLe a b → IsLe b a → (a.faint ≡ b.faint) × (a.steps ≡ b.steps)
+le_both a b h k = ⊎_elim
+    (λ (x : a.faint < b.faint). absurd (not_less a b (inl x) k))
+    (λ (x : (a.faint ≡ b.faint) × (a.steps ≤ b.steps)). ⊎_elim
+    (λ (y : b.faint < a.faint). absurd (not_less b a (inl y) h))
+    (λ (y : (b.faint ≡ a.faint) × (b.steps ≤ a.steps)).
+    let f = x.1 in
+    let g = y.1 in
+    (x.0, omega (arith, f, g)))
+    k)
+    h
+
+-- what is added on both sides
+pub plus_le : (a b c : Cost) → IsLe a b → IsLe (plus a c) (plus b c)
+plus_le a b c h = ⊎_elim
+    (λ (x : a.faint < b.faint). inl (omega (arith, x)))
+    (λ (x : (a.faint ≡ b.faint) × (a.steps ≤ b.steps)).
+    let e = x.0 in
+    let f = x.1 in
+    inr (omega (arith, e), omega (arith, f)))
+    h
+
+pub plus_back : (a b c : Cost) → IsLe (plus a c) (plus b c) → IsLe a b
+plus_back a b c h = ⊎_elim
+    (λ (x : a.faint + c.faint < b.faint + c.faint). inl (omega (arith, x)))
+    (λ (x : (a.faint + c.faint ≡ b.faint + c.faint) × (a.steps + c.steps ≤ b.steps + c.steps)).
+    let e = x.0 in
+    let f = x.1 in
+    inr (omega (arith, e), omega (arith, f)))
+    h
+
+pub cost_is : (a b : Cost) → a.faint ≡ b.faint → a.steps ≡ b.steps → a ≡ b
+cost_is a b e f = ap (λ z. record { faint = z; steps = a.steps }) e ∙ ap (λ z. record { faint = b.faint; steps = z }) f

@@ -7,6 +7,7 @@ use Rattle.text_base.specs.declared.pos.Pos.{Pos}
 use Rattle.label_lattice.specs.declared.label.Label.{Label}
 use Rattle.label_lattice.specs.Order.{lattice_of}
 use Rattle.mit_syntax.specs.Program.{Syntax}
+use Rattle.mit_syntax.specs.Valid.{IsValid}
 use Rattle.timing_types.specs.declared.rule.Rule.{Rule}
 use Rattle.timing_types.specs.declared.rule.TypeFault.TheVariants.{Refused}
 use Rattle.label_infer.proofs.Right.{Each}
@@ -16,9 +17,12 @@ use Rattle.flow_path.specs.declared.graph.Node.{Node}
 use Rattle.flow_path.specs.declared.graph.Condition.{Condition}
 use Rattle.flow_path.specs.declared.target.Target.TheVariants.{Broken}
 use Rattle.flow_path.specs.Steps.{written, steps_of}
-use Rattle.flow_path.specs.Chains.{Leads, IsWhy, last_step, GoesBy, GoesByOmitted, IsReason, AreNoCheaper}
+use Rattle.flow_path.specs.Chains.{Leads, IsWhy, last_step, GoesBy, GoesByOmitted, IsReason}
 use Rattle.flow_path.specs.Targets.{IsGoalBy}
-use Rattle.flow_path.specs.Search.{Where, Goes, BeginsAt, IsKnown, IsCheapest}
+use Rattle.flow_path.specs.Search.{Where, Goes, BeginsAt, IsKnown}
+use Rattle.flow_path.specs.Told.{IsTold}
+use Rattle.flow_path.specs.Distances.{IsPickedOf}
+use Rattle.flow_path.proofs.Picking.{goes, starts, cheapest, earliest}
 use Rattle.flow_path.proofs.Complete.{KnownStep}
 
 high_is : (b : Bool) → (b ≡ true → ⊥) → not b ≡ true
@@ -87,9 +91,16 @@ module _ (s : Syntax) (ns : List Node) (cs : List Condition) (rule : Rule) (pos 
         (w.have, (ap (λ z. written s z) w.leads.1 ∙ w.begins, high_is ((lattice_of s.order).flows w.have allowed.number) (λ f. w.high (ap (λ z. (lattice_of s.order).flows w.have z) same ∙ f)))),
       )
 
-  -- a cheapest chain is a reason, and no reason is cheaper
-  pub reason_is : (chain : List Step) → IsCheapest x chain → IsReason s (Refused rule pos have allowed) chain × AreNoCheaper s (Refused rule pos have allowed) chain
-  reason_is chain c = (to_reason chain c.have c.goes c.begins, λ q r. let w = from_reason q r in c.cheapest q w.1.0 w.0 w.1.1)
+  -- a chain of which each step is picked is the one that is told
+  pub told_is : IsValid s → (chain : List Step) → IsPickedOf s (Broken rule pos allowed) chain → IsTold s (Refused rule pos have allowed) chain
+  told_is valid chain p =
+      let g = goes x valid p.sides p.settled chain p.picked in
+      let b = starts x valid p.sides p.settled chain p.picked p.begins in
+      record {
+        reason = to_reason chain b.0 g b.1;
+        cheapest = λ q r. let w = from_reason q r in cheapest x valid p.sides p.settled chain p.picked b.0 b.1 q w.1.0 w.0 w.1.1;
+        earliest = λ before other after y z e r l. let w = from_reason (other ++ (z ∷ after)) r in earliest x valid p.sides p.settled chain p.picked b.0 b.1 before other after y z w.1.0 e w.0 w.1.1 l;
+      }
 
   -- a chain to a step's part, and then the step
   goes_with : (p : Spot) (xs : List Step) (q : Spot) (st : Step) → Leads s p xs q → Each (λ (z : Step). written s z.side ≡ None) xs → st.part.spot ≡ q → Contains (steps_of s) st → IsGoalBy s (Broken rule pos allowed) st.rule st.pos st.side → Goes x (xs ++ st ∷ [])

@@ -18,3 +18,11 @@ cost_of xs = record { faint = faint_in xs; steps = length xs }
 -- the first costs no more than the second
 abbrev pub IsLe : Cost → Cost → Type 0
 IsLe a b = (a.faint < b.faint) ⊎ ((a.faint ≡ b.faint) × (a.steps ≤ b.steps))
+
+-- the first costs less than the second
+abbrev pub IsLess : Cost → Cost → Type 0
+IsLess a b = (a.faint < b.faint) ⊎ ((a.faint ≡ b.faint) × (a.steps < b.steps))
+
+-- one after the other
+abbrev pub plus : Cost → Cost → Cost
+plus a b = record { faint = a.faint + b.faint; steps = a.steps + b.steps }

@@ -2,7 +2,7 @@
 
 ghost use Rattle.std.specs.Prelude.{◌≡◌, ◌<◌, ◌≤◌, true, false};
 ghost use Rattle.flow_path.specs.Chains.{is_faint};
-ghost use Rattle.flow_path.specs.Costs.{nothing_yet, add, IsLe};
+ghost use Rattle.flow_path.specs.Costs.{nothing_yet, add, IsLe, IsLess};
 
 use crate::step::How;
 
@@ -53,14 +53,30 @@ impl Cost {
     }
 
     /// Whether it costs less than another; else that one costs no more.
-    pub(crate) fn is_below(self, other: Cost) -> bool
-        ensures below { result ≡ true → IsLe self other }
-        ensures above { result ≡ false → IsLe other self }
+    pub(crate) fn is_less(self, other: Cost) -> bool
+        ensures less { result ≡ true → IsLess self other }
+        ensures le { result ≡ false → IsLe other self }
     {
         if self.faint == other.faint {
             self.steps < other.steps
         } else {
             self.faint < other.faint
         }
+    }
+
+    /// Whether it costs as much as another.
+    pub(crate) fn is_same(self, other: Cost) -> bool
+        ensures same { result ≡ true → self ≡ other }
+        ensures other { result ≡ false → self ≡ other → ⊥ }
+    {
+        self.faint == other.faint && self.steps == other.steps
+    }
+
+    /// Whether it costs less than another; else that one costs no more.
+    pub(crate) fn is_below(self, other: Cost) -> bool
+        ensures below { result ≡ true → IsLe self other }
+        ensures above { result ≡ false → IsLe other self }
+    {
+        self.is_less(other)
     }
 }

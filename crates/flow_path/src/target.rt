@@ -1,6 +1,7 @@
 //! What a search looks for.
 
 ghost use Rattle.std.specs.Prelude.{◌≡◌, true, Some};
+ghost use Rattle.mit_syntax.specs.Program.{Syntax};
 ghost use Rattle.flow_path.specs.Steps.{written};
 ghost use Rattle.flow_path.specs.Targets.{IsGoalBy, is_high, leads_on};
 
@@ -8,6 +9,7 @@ use crate::graph::Condition;
 use crate::step::Spot;
 use crate::written::written_at;
 use label_lattice::label::Label;
+use label_lattice::lattice::Lattice;
 use mit_syntax::program::Program;
 use text_base::pos::Pos;
 use timing_types::rule::Rule;
@@ -48,18 +50,25 @@ pub(crate) fn is_goal(c: &Condition, p: &Program, target: &Target) -> bool
     }
 }
 
-/// Whether a chain is to begin at this written label.
-pub(crate) fn is_high(p: &Program, label: Label, target: &Target) -> bool
-    ensures { result ≡ is_high p.now target.now label.number }
+/// Whether a chain is to begin at a written label of this order.
+pub(crate) fn is_high_in(lattice: &Lattice, label: Label, target: &Target) -> bool
+    ensures { (s : Syntax) → lattice.now ≡ s.order → result ≡ is_high s target.now label.number }
 {
     match target {
         Target::Broken {
             rule: _,
             pos: _,
             allowed,
-        } => !p.lattice().flows(label, *allowed),
+        } => !lattice.flows(label, *allowed),
         Target::Omitted(_) => true,
     }
+}
+
+/// Whether a chain is to begin at this written label.
+pub(crate) fn is_high(p: &Program, label: Label, target: &Target) -> bool
+    ensures { result ≡ is_high p.now target.now label.number }
+{
+    is_high_in(&p.lattice(), label, target)
 }
 
 /// Whether a chain may begin there, or come from before there.

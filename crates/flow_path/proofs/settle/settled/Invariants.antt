@@ -1,0 +1,14 @@
+use Rattle.flow_path.specs.declared.cost.Cost.{Cost}
+use Rattle.flow_path.specs.Steps.{steps_of}
+use Rattle.flow_path.specs.Distances.{IsKnownOf, IsDistance, AreSides, count_none}
+use Rattle.flow_path.proofs.settle.settled.Given as goal
+
+abbrev pub invariant-loop-cost : goal.invariant-loop-cost
+invariant-loop-cost l = record {
+  known : IsKnownOf l.p l.target l.known;
+  distance : (now : Cost) × IsDistance l.p l.target l.known.variables.items now;
+  sides : AreSides l.p l.target l.known.variables.items (steps_of l.p) l.all;
+}
+
+abbrev pub decreases-loop-cost : goal.decreases-loop-cost
+decreases-loop-cost l = count_none l.known.variables.items

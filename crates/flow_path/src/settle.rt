@@ -1,0 +1,156 @@
+//! What the cheapest chains to all labels cost, the cheapest first.
+
+ghost use Rattle.std.specs.Prelude.{Option, ◌≡◌, ◌<◌, ◌≤◌, ◌+◌, ℕ, List, length, true, false, IfOk, slice_index_or, None, Some};
+ghost use Rattle.mit_syntax.specs.Program.{Syntax};
+ghost use Rattle.flow_path.specs.declared.cost.Cost.{Cost as ACost};
+ghost use Rattle.flow_path.specs.declared.sides.Found.{Found as AFound};
+ghost use Rattle.flow_path.specs.Steps.{steps_of};
+ghost use Rattle.flow_path.specs.Graph.{AreSteps};
+ghost use Rattle.flow_path.specs.Distances.{IsKnownOf, IsNew, IsNewAt, IsLeastNew, IsSetBy, AreSides, AreSettled};
+
+use crate::best::bests;
+use crate::cost::Cost;
+use crate::graph::{Condition, Node};
+use crate::known::{Known, starts};
+use crate::sides::{Found, Sides, all_sides};
+use crate::step::Spot;
+use crate::target::Target;
+use crate::written::written_at;
+use mit_syntax::program::Program;
+use std::alloc::{AllocError, Global};
+
+/// What a chain to the label of a variable costs, where one was found and its cost was not known.
+fn new_at(p: &Program, known: &[Option<Cost>], found: &[Option<Found>], y: usize) -> Option<Cost>
+    requires known { y < length known.now }
+    requires found { y < length found.now }
+    requires room { y ≤ 4294967295 }
+    ensures { IsNewAt p.now known.now found.now y result }
+{
+    if known[y].is_some() {
+        return None;
+    }
+    match found[y] {
+        None => None,
+        Some(f) => {
+            if written_at(p, &Spot::Variable(y as u32)).is_some() {
+                None
+            } else {
+                Some(f.cost)
+            }
+        }
+    }
+}
+
+/// The cheaper of two costs.
+fn less(a: Option<Cost>, b: Option<Cost>) -> Option<Cost>
+    ensures { (s : Syntax) (ds : List (Option ACost)) (vs : List (Option AFound)) (n : ℕ) → IsLeastNew s ds vs n a → IsNewAt s ds vs n b → IsLeastNew s ds vs (n + 1) result }
+{
+    match a {
+        None => b,
+        Some(x) => match b {
+            None => a,
+            Some(y) => { if y.is_less(x) { b } else { a } }
+        },
+    }
+}
+
+/// The least of the new costs.
+fn least_new(p: &Program, known: &[Option<Cost>], found: &[Option<Found>]) -> Option<Cost>
+    requires fit { length found.now ≡ length known.now }
+    requires room { length known.now ≤ 4294967295 }
+    ensures { IsLeastNew p.now known.now found.now (length known.now) result }
+{
+    let mut least = None;
+    for y in 0..known.len() {
+        least = less(least, new_at(p, known, found, y));
+    }
+    least
+}
+
+/// Whether a new cost is this one.
+fn is_new(
+    p: &Program,
+    known: &[Option<Cost>],
+    found: &[Option<Found>],
+    y: usize,
+    cost: Cost,
+) -> bool
+    requires known { y < length known.now }
+    requires found { y < length found.now }
+    requires room { y ≤ 4294967295 }
+    ensures yes { result ≡ true → IsNew p.now known.now found.now y cost }
+    ensures no { result ≡ false → IsNew p.now known.now found.now y cost → ⊥ }
+{
+    match new_at(p, known, found, y) {
+        Some(c) => c.is_same(cost),
+        None => false,
+    }
+}
+
+/// Takes the cost of a variable for known, if it is new and this one.
+fn settle_at(
+    p: &Program,
+    known: &mut Vec<Option<Cost>>,
+    found: &[Option<Found>],
+    y: usize,
+    cost: Cost,
+)
+    requires known { y < length known.old.items }
+    requires found { y < length found.now }
+    requires room { y ≤ 4294967295 }
+    ensures fit { length known.new.items ≡ length known.old.items }
+    ensures set { (ds : List (Option ACost)) → y < length ds → IsSetBy p.now ds found.now cost y known.old.items → IsSetBy p.now ds found.now cost (y + 1) known.new.items }
+{
+    if is_new(p, known, found, y, cost) {
+        known[y] = Some(cost);
+    }
+}
+
+/// Takes the new costs that are this one for known.
+fn settle(p: &Program, known: &mut Vec<Option<Cost>>, found: &[Option<Found>], cost: Cost)
+    requires fit { length found.now ≡ length known.old.items }
+    requires room { length known.old.items ≤ 4294967295 }
+    ensures { IsSetBy p.now known.old.items found.now cost (length known.old.items) known.new.items }
+{
+    for y in 0..known.len() {
+        settle_at(p, known, found, y, cost);
+    }
+}
+
+/// The first of the cheapest steps to each label, by what is known.
+fn found_with(
+    alloc: Global,
+    p: &Program,
+    nodes: &[Node],
+    conditions: &[Condition],
+    known: &Known,
+    target: &Target,
+) -> Result<Sides, AllocError>
+    requires { IsKnownOf p.now target.now known.now }
+    ensures { IfOk result (λ v. AreSteps nodes.now conditions.now (steps_of p.now) → AreSides p.now target.now known.now.variables.items (steps_of p.now) v) }
+{
+    let found = bests(alloc, nodes, known, p, target)?;
+    let count = known.variables.len();
+    let all = all_sides(alloc, nodes, conditions, &found, count, p, target)?;
+    Ok(all)
+}
+
+/// The first of the cheapest steps to each label.
+pub(crate) fn settled(
+    alloc: Global,
+    p: &Program,
+    nodes: &[Node],
+    conditions: &[Condition],
+    target: &Target,
+) -> Result<Sides, AllocError>
+    requires { AreSteps nodes.now conditions.now (steps_of p.now) }
+    ensures { IfOk result (λ v. AreSettled p.now target.now v) }
+{
+    let mut known = starts(alloc, p, target)?;
+    let mut all = found_with(alloc, p, nodes, conditions, &known, target)?;
+    while let Some(cost) = least_new(p, &known.variables, &all.variables) {
+        settle(p, &mut known.variables, &all.variables, cost);
+        all = found_with(alloc, p, nodes, conditions, &known, target)?;
+    }
+    Ok(all)
+}
