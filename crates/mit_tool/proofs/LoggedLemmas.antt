@@ -1,5 +1,5 @@
 -- Which files a call has fetched at its end, and the pieces that it has written.
-use Rattle.std.proofs.Common.{◌≡◌, ◌≢◌, ◌⊎◌, ℕ, Bool, true, false, List, [], ◌∷◌, ◌++◌, Option, Some, None, Result, Ok, Err, Vec, Global, IfErr, length, ◌^◌, inl, inr, refl, sym, ap, ◌∙◌, subst}
+use Rattle.std.proofs.Common.{◌≡◌, ◌≢◌, ◌⊎◌, ℕ, Bool, true, false, List, [], ◌∷◌, ◌++◌, Option, Some, None, Result, Ok, Err, Vec, Global, IfErr, OnOk, IsErrAnd, length, ◌^◌, inl, inr, refl, sym, ap, ◌∙◌, subst}
 use Rattle.std.specs.List.{All}
 use Rattle.std.proofs.lemmas.List.Elements.{All-nil, All-cons, All-append}
 use Rattle.tim_base.specs.Logs.{Fetched, Offered, Grows, HasSent, HasBroken}
@@ -238,10 +238,10 @@ told_piece made r old new is sent broken = one_piece (λ s pieces. (text : List 
 pub never_read : (s r : Status) → s ≢ status.ReadFault → (r ≢ status.WriteFault → r ≡ s) → r ≢ status.ReadFault
 never_read s r n is e = n (sym (is (not_write r e)) ∙ e)
 
-pub told_nothing : {Stops : Status → List ℕ → Type 0} (old : Option (List Fetched)) (made : Result (Vec ℕ Global) Stop) (r : Status) → ((t : List ℕ) → Stops status.ReadFault t → ⊥) → IfErr made (IsStop Stops) → (r ≢ status.WriteFault → r ≡ told_status made)
+pub told_nothing : (Stops : Status → List ℕ → Type 0) (old : Option (List Fetched)) (made : Result (Vec ℕ Global) Stop) (r : Status) → ((t : List ℕ) → Stops status.ReadFault t → ⊥) → IfErr made (IsStop Stops) → (r ≢ status.WriteFault → r ≡ told_status made)
     → HasFetched [] r old old
-told_nothing old (Ok v) r n h is = fetched_nothing [] old r (never_read status.Done r (λ e. absurd cc) is)
-told_nothing {Stops} old (Err e) r n h is = fetched_nothing [] old r (never_read (status_of e) r (never_stops Stops status.ReadFault e n h) is)
+told_nothing Stops old (Ok v) r n h is = fetched_nothing [] old r (never_read status.Done r (λ e. absurd cc) is)
+told_nothing Stops old (Err e) r n h is = fetched_nothing [] old r (never_read (status_of e) r (never_stops Stops status.ReadFault e n h) is)
 
 pub memory_pieces : (a : Option Asked) (text : List ℕ) → ArePieces a status.Memory (text ∷ [])
 memory_pieces None text = (text, refl)
@@ -296,3 +296,14 @@ lines_more ds walk a b c names g h =
 pub lines_break : (ds : List Declaration) (walk : Walk) (a b c : Option (List Offered)) → All (λ d. IsName d.0) ds → SentLines a b → HasBroken b c (pieces_of_walk ds walk) → BrokenLines a c
 lines_break ds walk a b c names g h =
     (g.0 ++ pieces_of_walk ds walk, All-append IsMeaningLine g.0 (pieces_of_walk ds walk) g.1 (value_lines_are ds names walk), broken_after a b c g.0 (pieces_of_walk ds walk) g.2 h)
+
+-- ---- results
+
+pub on_ok : {T E : Type 0} (r : Result T E) (x : T) (P : Type 0) → r ≡ Ok x → OnOk r P → P
+on_ok (Ok y) x P e h = h
+on_ok (Err y) x P e h = absurd cc
+
+-- a stop that is handed on has fetched as much
+pub fetched_on : {A : Type 0} (r : Result A Stop) (e : Stop) (names : List (List ℕ)) (a b : Option (List Fetched)) → IsErrAnd r (λ x. x ≡ e) → Fetches {A = A} names a b (Err e) → Fetches names a b r
+fetched_on (Ok x) e names a b h k = absurd h
+fetched_on {A} (Err x) e names a b h k = subst (λ z. Fetches {A = A} names a b (Err z)) (sym h) k

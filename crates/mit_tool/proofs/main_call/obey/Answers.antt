@@ -201,18 +201,18 @@ returns-in-Compile-clause-fetched g c =
 
 pub returns-in-Audit-clause-fetched : goal.returns-in-Audit-clause-fetched
 returns-in-Audit-clause-fetched g c =
-    subst (λ (x : Command). HasFetched (files_of (asked_of x)) c.tell-in-Audit.result (g.S.Shelf.log c.args.shelf.now) (g.S.Shelf.log c.audit_text.new.shelf)) (sym c.in-Audit.is)
-    (told_fetched (c.in-Audit.file.now ∷ c.in-Audit.starts.now ∷ []) (g.S.Shelf.log c.args.shelf.now) (g.S.Shelf.log c.audit_text.new.shelf) c.audit_text.result c.tell-in-Audit.result c.audit_text.ensures.log (λ n. (c.tell-in-Audit.ensures.told n).0))
+    subst (λ (x : Command). HasFetched (files_of (asked_of x)) c.tell-in-Audit.result (g.S.Shelf.log c.args.shelf.now) (g.S.Shelf.log c.audit_text-text.new.shelf)) (sym c.in-Audit.is)
+    (told_fetched (c.in-Audit.file.now ∷ c.in-Audit.starts.now ∷ []) (g.S.Shelf.log c.args.shelf.now) (g.S.Shelf.log c.audit_text-text.new.shelf) c.audit_text-text.result c.tell-in-Audit.result c.audit_text-text.ensures.log (λ n. (c.tell-in-Audit.ensures.told n).0))
 
 pub returns-in-Audit-clause-pieces : goal.returns-in-Audit-clause-pieces
 returns-in-Audit-clause-pieces g c =
     subst (λ (x : Command). HasWritten (ArePieces (Some (asked_of x))) c.tell-in-Audit.result (g.W.Sink.log c.args.out.now) (g.W.Sink.log c.tell-in-Audit.new.out)) (sym c.in-Audit.is)
-    (told_piece c.audit_text.result c.tell-in-Audit.result (g.W.Sink.log c.args.out.now) (g.W.Sink.log c.tell-in-Audit.new.out) (λ n. (c.tell-in-Audit.ensures.told n).0) c.tell-in-Audit.ensures.sent c.tell-in-Audit.ensures.broken)
+    (told_piece c.audit_text-text.result c.tell-in-Audit.result (g.W.Sink.log c.args.out.now) (g.W.Sink.log c.tell-in-Audit.new.out) (λ n. (c.tell-in-Audit.ensures.told n).0) c.tell-in-Audit.ensures.sent c.tell-in-Audit.ensures.broken)
 
 pub returns-in-Gen-clause-fetched : goal.returns-in-Gen-clause-fetched
 returns-in-Gen-clause-fetched g c =
     subst (λ (x : Command). HasFetched (files_of (asked_of x)) c.tell-in-Gen.result (g.S.Shelf.log c.args.shelf.now) (g.S.Shelf.log c.args.shelf.now)) (sym c.in-Gen.is)
-    (told_nothing (g.S.Shelf.log c.args.shelf.now) c.gen_text.result c.tell-in-Gen.result (gen_no_read c.in-Gen.size c.in-Gen.number) c.gen_text.ensures.stop (λ n. (c.tell-in-Gen.ensures.told n).0))
+    (told_nothing (HasGenerated c.in-Gen.size c.in-Gen.number) (g.S.Shelf.log c.args.shelf.now) c.gen_text.result c.tell-in-Gen.result (gen_no_read c.in-Gen.size c.in-Gen.number) c.gen_text.ensures.stop (λ n. (c.tell-in-Gen.ensures.told n).0))
 
 pub returns-in-Gen-clause-pieces : goal.returns-in-Gen-clause-pieces
 returns-in-Gen-clause-pieces g c =
@@ -226,13 +226,13 @@ returns-in-Blackbox-clause-fetched g c =
 
 pub returns-in-Cut-clause-fetched : goal.returns-in-Cut-clause-fetched
 returns-in-Cut-clause-fetched g c =
-    subst (λ (x : Command). HasFetched (files_of (asked_of x)) c.tell-in-Cut.result (g.S.Shelf.log c.args.shelf.now) (g.S.Shelf.log c.cut_text.new.shelf)) (sym c.in-Cut.is)
-    (told_fetched (c.in-Cut.file.now ∷ c.in-Cut.starts.now ∷ []) (g.S.Shelf.log c.args.shelf.now) (g.S.Shelf.log c.cut_text.new.shelf) c.cut_text.result c.tell-in-Cut.result c.cut_text.ensures.log (λ n. (c.tell-in-Cut.ensures.told n).0))
+    subst (λ (x : Command). HasFetched (files_of (asked_of x)) c.tell-in-Cut.result (g.S.Shelf.log c.args.shelf.now) (g.S.Shelf.log c.cut_text-text.new.shelf)) (sym c.in-Cut.is)
+    (told_fetched (c.in-Cut.file.now ∷ c.in-Cut.starts.now ∷ []) (g.S.Shelf.log c.args.shelf.now) (g.S.Shelf.log c.cut_text-text.new.shelf) c.cut_text-text.result c.tell-in-Cut.result c.cut_text-text.ensures.log (λ n. (c.tell-in-Cut.ensures.told n).0))
 
 pub returns-in-Cut-clause-pieces : goal.returns-in-Cut-clause-pieces
 returns-in-Cut-clause-pieces g c =
     subst (λ (x : Command). HasWritten (ArePieces (Some (asked_of x))) c.tell-in-Cut.result (g.W.Sink.log c.args.out.now) (g.W.Sink.log c.tell-in-Cut.new.out)) (sym c.in-Cut.is)
-    (told_piece c.cut_text.result c.tell-in-Cut.result (g.W.Sink.log c.args.out.now) (g.W.Sink.log c.tell-in-Cut.new.out) (λ n. (c.tell-in-Cut.ensures.told n).0) c.tell-in-Cut.ensures.sent c.tell-in-Cut.ensures.broken)
+    (told_piece c.cut_text-text.result c.tell-in-Cut.result (g.W.Sink.log c.args.out.now) (g.W.Sink.log c.tell-in-Cut.new.out) (λ n. (c.tell-in-Cut.ensures.told n).0) c.tell-in-Cut.ensures.sent c.tell-in-Cut.ensures.broken)
 
 pub returns-in-Certify-clause-fetched : goal.returns-in-Certify-clause-fetched
 returns-in-Certify-clause-fetched g c =

@@ -53,7 +53,7 @@ returns-in-Err-clause-pieces g c =
 
 pub returns-in-Ok-walk-clause-fetched : goal.returns-in-Ok-walk-clause-fetched
 returns-in-Ok-walk-clause-fetched g c =
-    fetched_by (c.args.file.now ∷ named (option_map (λ s. s.now) c.args.starts)) (g.S.Shelf.log c.args.shelf.now) (g.S.Shelf.log c.source.new.shelf) Done c.finish.result (Ok tt) (λ e. absurd cc) c.in-Ok.ensures.log (λ n. (c.finish.ensures.told n).0)
+    fetched_by {A = Unit {0}} (c.args.file.now ∷ named (option_map (λ s. s.now) c.args.starts)) (g.S.Shelf.log c.args.shelf.now) (g.S.Shelf.log c.source.new.shelf) Done c.finish.result (Ok tt) (λ e. absurd cc) c.in-Ok.ensures.log (λ n. (c.finish.ensures.told n).0)
 
 pub returns-in-Ok-walk-clause-pieces : goal.returns-in-Ok-walk-clause-pieces
 returns-in-Ok-walk-clause-pieces g c =
@@ -63,7 +63,7 @@ returns-in-Ok-walk-clause-pieces g c =
 
 pub returns-in-Err-Memory-clause-fetched : goal.returns-in-Err-Memory-clause-fetched
 returns-in-Err-Memory-clause-fetched g c =
-    fetched_by (c.args.file.now ∷ named (option_map (λ s. s.now) c.args.starts)) (g.S.Shelf.log c.args.shelf.now) (g.S.Shelf.log c.source.new.shelf) Memory c.finish-in-Err-Memory.result (Ok tt) (λ e. absurd cc) c.in-Ok.ensures.log (λ n. (c.finish-in-Err-Memory.ensures.told n).0)
+    fetched_by {A = Unit {0}} (c.args.file.now ∷ named (option_map (λ s. s.now) c.args.starts)) (g.S.Shelf.log c.args.shelf.now) (g.S.Shelf.log c.source.new.shelf) Memory c.finish-in-Err-Memory.result (Ok tt) (λ e. absurd cc) c.in-Ok.ensures.log (λ n. (c.finish-in-Err-Memory.ensures.told n).0)
 
 pub returns-in-Err-Memory-clause-pieces : goal.returns-in-Err-Memory-clause-pieces
 returns-in-Err-Memory-clause-pieces g c =
@@ -73,7 +73,7 @@ returns-in-Err-Memory-clause-pieces g c =
 
 pub returns-clause-fetched : goal.returns-clause-fetched
 returns-clause-fetched g c =
-    fetched_by (c.args.file.now ∷ named (option_map (λ s. s.now) c.args.starts)) (g.S.Shelf.log c.args.shelf.now) (g.S.Shelf.log c.source.new.shelf) WriteFault WriteFault (Ok tt) (λ e. absurd cc) c.in-Ok.ensures.log (λ n. refl)
+    fetched_by {A = Unit {0}} (c.args.file.now ∷ named (option_map (λ s. s.now) c.args.starts)) (g.S.Shelf.log c.args.shelf.now) (g.S.Shelf.log c.source.new.shelf) WriteFault WriteFault (Ok tt) (λ e. absurd cc) c.in-Ok.ensures.log (λ n. refl)
 
 pub returns-clause-pieces : goal.returns-clause-pieces
 returns-clause-pieces g c =

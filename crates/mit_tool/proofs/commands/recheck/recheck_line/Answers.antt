@@ -11,6 +11,7 @@ use Rattle.mit_tool.proofs.StopLemmas.{handed_on, later_certificate_stops}
 use Rattle.tool_stages.proofs.FetchLemmas.{fetch_then}
 use Rattle.tool_texts.specs.declared.stop.Stop.{Stop}
 use Rattle.tool_stages.specs.Fetches.{Fetches}
+use Rattle.mit_tool.proofs.LoggedLemmas.{fetched_on}
 use Rattle.mit_tool.proofs.commands.recheck.recheck_line.Goals as goal
 
 pub returns-clause-line : goal.returns-clause-line
@@ -34,7 +35,7 @@ returns-in_err-rechecked_by-clause-stop g c =
 pub returns-in_err-rechecked_by-clause-log : goal.returns-in_err-rechecked_by-clause-log
 returns-in_err-rechecked_by-clause-log g c =
     let e = c.in_err-rechecked_by.field-0.0 in
-    subst (λ (r : Result (List ℕ) Stop). Fetches (c.args.file.now ∷ c.args.certificate.now ∷ []) (g.S.Shelf.log c.args.shelf.now) (g.S.Shelf.log c.rechecked_by.new.shelf) r) (sym c.from_residual-in_err-rechecked_by.ensures.1)
+    fetched_on c.from_residual-in_err-rechecked_by.result e (c.args.file.now ∷ c.args.certificate.now ∷ []) (g.S.Shelf.log c.args.shelf.now) (g.S.Shelf.log c.rechecked_by.new.shelf) c.from_residual-in_err-rechecked_by.ensures.1
     (fetch_then {B = List ℕ} (c.args.file.now ∷ []) (c.args.certificate.now ∷ []) (g.S.Shelf.log c.args.shelf.now) (g.S.Shelf.log c.read_program.new.shelf) (g.S.Shelf.log c.rechecked_by.new.shelf)
     c.in_ok-program.program (Err e) c.in_ok-program.ensures.log c.in_err-rechecked_by.ensures.log)
 

@@ -42,7 +42,7 @@ returns-in-Err-clause-answered g c =
 
 pub returns-in-Ok-clause-fetched : goal.returns-in-Ok-clause-fetched
 returns-in-Ok-clause-fetched g c =
-    fetched_by (c.args.file.now ∷ named (option_map (λ s. s.now) c.args.starts)) (g.S.Shelf.log c.args.shelf.now) (g.S.Shelf.log c.ready.new.shelf) c.run_named.result c.run_named.result (Ok tt)
+    fetched_by {A = Unit {0}} (c.args.file.now ∷ named (option_map (λ s. s.now) c.args.starts)) (g.S.Shelf.log c.args.shelf.now) (g.S.Shelf.log c.ready.new.shelf) c.run_named.result c.run_named.result (Ok tt)
     c.run_named.ensures.unread c.in-Ok.ensures.log (λ n. refl)
 
 pub returns-in-Err-clause-pieces : goal.returns-in-Err-clause-pieces

@@ -1,5 +1,5 @@
-use Rattle.std.proofs.Common.{arith, ◌<◌, inl, inr}
-use Rattle.mit_tool.proofs.WalkLemmas.{walking_first, walking_next, ends_lines, breaks_off}
+use Rattle.std.proofs.Common.{arith, ◌<◌, ◌≤◌, inl, inr}
+use Rattle.mit_tool.proofs.WalkLemmas.{walking_first, walking_next, ends_lines, breaks_off, stops_last, stops_lines}
 use Rattle.mit_tool.proofs.LoggedLemmas.{no_lines, lines_more, lines_break}
 use Rattle.mit_tool.proofs.commands.meaning.walk.walk.Goals as goal
 
@@ -42,3 +42,22 @@ returns-in-Ended-clause-last_line g c = inr (c.steps.taken, inl c.ended.ensures)
 pub returns-in-Err-clause-broken : goal.returns-in-Err-clause-broken
 returns-in-Err-clause-broken g c =
     λ e. lines_break c.args.p.now.declarations c.in-Ok-step.walk (g.W.Sink.log c.args.out.now) (g.W.Sink.log c.steps.out) (g.W.Sink.log c.print_step.new.out) c.variables.ensures.valid.names c.steps.invariant.sent c.in-Err.ensures.broken
+
+pub returns-then-taken-steps : goal.returns-then-taken-steps
+returns-then-taken-steps g c =
+    let old = g.W.Sink.taken c.args.out.now in
+    let now = g.W.Sink.taken c.steps.out in
+    let past : c.args.steps ≤ c.steps.taken = omega (arith, c.if-taken-steps.true) in
+    record {
+      last = stops_last c.args.p.now c.args.memory.now c.args.steps c.steps.taken c.steps.walker c.step.new.self c.in-Ok-step.walk old now c.steps.invariant.walking c.in-Ok-step.ensures.step
+          c.in_default-walk.not-Ended past c.not_ended.result c.not_ended.ensures;
+      text = stops_lines c.args.p.now c.args.memory.now c.args.steps c.steps.taken c.steps.walker c.step.new.self c.in-Ok-step.walk old now c.steps.invariant.walking c.in-Ok-step.ensures.step past;
+      some = λ e. absurd cc;
+      prefix = λ e. absurd cc;
+      fault = λ e. absurd cc;
+      sent = c.steps.invariant.sent;
+      sent_some = λ e. absurd cc;
+      broken = λ e. absurd cc;
+      last_line = inr (c.args.steps, inr c.not_ended.ensures);
+      later = c.steps.invariant.later;
+    }
