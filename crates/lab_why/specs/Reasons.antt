@@ -6,6 +6,7 @@ use Rattle.timing_types.specs.declared.rule.TypeFault.{TypeFault}
 use Rattle.timing_types.specs.declared.rule.TypeFault.TheVariants.{Refused as BrokenAt, Memory}
 use Rattle.flow_path.specs.declared.step.Step.{Step}
 use Rattle.flow_path.specs.Chains.{IsReason, AreNoCheaper}
+use Rattle.flow_path.specs.Told.{IsEarliest}
 use Rattle.flow_print.specs.Lines.{chain_text}
 use Rattle.tool_texts.specs.Texts.{refused_line}
 use Rattle.tool_stages.specs.Stages.{Reads, HasNoType}
@@ -21,7 +22,7 @@ refusal_text text tokens p (BrokenAt rule at have allowed) chain =
 refusal_text text tokens p Memory chain = []
 
 -- No labelling types the program that a file holds. Told is the condition that the least labelling breaks first, and a
--- chain that shows why it can't hold, of which none is cheaper.
+-- chain that shows why it can't hold: none is cheaper, and of those that are as cheap it is the earliest.
 pub record HasReason (content : Option (Option (List ℕ))) (p : Syntax) (t : List ℕ) : Type 0 where
   pub source : Reads content p
   pub line : List ℕ
@@ -29,4 +30,5 @@ pub record HasReason (content : Option (Option (List ℕ))) (p : Syntax) (t : Li
   pub chain : List Step
   pub reason : IsReason p (fault_of refused) chain
   pub cheapest : AreNoCheaper p (fault_of refused) chain
+  pub earliest : IsEarliest p (fault_of refused) chain
   pub text : t ≡ refusal_text source.bytes source.tokens p (fault_of refused) chain

@@ -13,7 +13,8 @@ use tool_texts::finish::{finish, stop};
 use tool_texts::status::Status;
 
 /// Tells whether the program of a file is accepted, and if not, which condition is broken first and by which chain of
-/// conditions no labels can hold there. Of all such chains none is cheaper.
+/// conditions no labels can hold there. Of all such chains none is cheaper, and of those that are as cheap it is the
+/// earliest.
 pub fn why<S: Shelf, W: Sink>(alloc: Global, shelf: &mut S, out: &mut W, file: &str) -> Status
     ensures same { (name : List ℕ) → S.content shelf.new name ≡ S.content shelf.old name }
     ensures later { (name : List ℕ) → S.faults shelf.old name ≤ S.faults shelf.new name }

@@ -26,11 +26,12 @@ returns-in-Ok-refusal_text-clause-told g c =
     let none = of_err checked refusal _ c.in-Err.is ensures.untyped in
     let reason = of_err checked refusal _ c.in-Err.is ensures.why in
     let cheapest = of_err checked refusal _ c.in-Err.is ensures.cheapest in
+    let earliest = of_err checked refusal _ c.in-Err.is ensures.earliest in
     let list = same_tokens _ _ _ _ (reads.1 ∙ sym c.as_slice.ensures.value) reads.0.cut c.in-Ok-tokens.ensures.only in
     inr (
       c.in_ok-text.field-0.program,
       reads.0,
       inl (tells_reason _ c.in_ok-text.field-0.program c.in-Ok.labelled refusal.labelled refusal.fault refusal.chain.items reads.0 _ _ _
-          (reads.1 ∙ sym c.as_slice-2.ensures.value) (list ∙ sym c.as_slice-3.ensures.value) c.in-Ok.ensures.program refused.0 c.in-Ok.ensures.least c.in-Ok.ensures.types none refused.1 reason cheapest
+          (reads.1 ∙ sym c.as_slice-2.ensures.value) (list ∙ sym c.as_slice-3.ensures.value) c.in-Ok.ensures.program refused.0 c.in-Ok.ensures.least c.in-Ok.ensures.types none refused.1 reason cheapest earliest
           c.in-Ok-refusal_text.ensures),
     )
