@@ -24,8 +24,8 @@ use run_timeline::print::print_timeline;
 use seen_line::cells::put_number;
 use start_file::start::Start;
 use std::alloc::Global;
-use tim_base::line::Line;
 use text_base::pos::Memory;
+use tim_base::line::Line;
 use tim_base::sink::{Sink, write_all};
 use tool_stages::compiled::Compiled;
 
