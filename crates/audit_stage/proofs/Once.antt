@@ -11,6 +11,8 @@ use Rattle.leak_audit.specs.Agreement.{starts_of}
 use Rattle.leak_audit.specs.declared.report.AuditReport.{AuditReport}
 use Rattle.leak_audit.specs.declared.report.AuditFault.{AuditFault}
 use Rattle.leak_audit.specs.declared.report.AuditFault.TheVariants as audit_fault
+use Rattle.leak_audit.specs.declared.measure.Measures.{Measures}
+use Rattle.leak_audit.specs.Measured.{SameMeasures}
 use Rattle.leak_audit.specs.Report.{SameReport}
 use Rattle.leak_audit.proofs.Once as audit
 use Rattle.leak_audit.proofs.Once.{no_audit_fault}
@@ -19,7 +21,7 @@ use Rattle.tool_words.specs.declared.words.EnvName.TheVariants.{Flat, Part, Part
 use Rattle.tool_texts.specs.declared.status.Status.{Status}
 use Rattle.tool_texts.specs.declared.status.Status.TheVariants as status
 use Rattle.tool_texts.specs.Texts.{number_line}
-use Rattle.tool_texts.specs.Reports.{head_lines, tail_lines, audit_lines, disagree_line, unfinished_line, events_line}
+use Rattle.tool_texts.specs.Reports.{bound_line, class_lines, head_lines, tail_lines, audit_lines, disagree_line, unfinished_line, events_line}
 use Rattle.tool_stages.specs.Envs.{flat_made, ReportsIn, AuditFaultsIn}
 use Rattle.env_contract.specs.Flat.{flat_env}
 use Rattle.tool_stages.specs.Goes.{CanBeAudited}
@@ -45,17 +47,20 @@ not_fault Part2 q o t ss r f h k = audit.not_fault (part2_by_history q.program.o
 pub same_head : (o : Order) (l : Label) (t runs levels runs' levels' : ℕ) → runs ≡ runs' → levels ≡ levels' → head_lines o l t runs levels ≡ head_lines o l t runs' levels'
 same_head o l t runs levels runs' levels' e f = ap (λ z. head_lines o l t z levels) e ∙ ap (λ z. head_lines o l t runs' z) f
 
-pub same_tail : (d b x d' b' x' : ℕ) (cs cs' : List ℕ) → d ≡ d' → b ≡ b' → x ≡ x' → cs ≡ cs' → tail_lines d b x cs ≡ tail_lines d' b' x' cs'
-same_tail d b x d' b' x' cs cs' e f g h = ap (λ z. tail_lines z b x cs) e ∙ ap (λ z. tail_lines d' z x cs) f ∙ ap (λ z. tail_lines d' b' z cs) g ∙ ap (λ z. tail_lines d' b' x' z) h
+pub same_tail : (m n : Measures) → SameMeasures m n → tail_lines m ≡ tail_lines n
+same_tail m n h =
+    ap (λ z. number_line (codes "distinct ") z ++ (bound_line m.base m.exponent ++ class_lines 1 m.classes.items)) h.distinct
+    ∙ ap (λ z. number_line (codes "distinct ") n.distinct ++ (bound_line z m.exponent ++ class_lines 1 m.classes.items)) h.base
+    ∙ ap (λ z. number_line (codes "distinct ") n.distinct ++ (bound_line n.base z ++ class_lines 1 m.classes.items)) h.exponent
+    ∙ ap (λ z. number_line (codes "distinct ") n.distinct ++ (bound_line n.base n.exponent ++ class_lines 1 z)) h.classes
 
 pub two_parts : (a b c d : List ℕ) → a ≡ c → b ≡ d → a ++ b ≡ c ++ d
 two_parts a b c d e f = ap (λ z. z ++ b) e ∙ ap (λ z. c ++ z) f
 
 pub same_lines : (o : Order) (l : Label) (t : ℕ) (r s : AuditReport) → SameReport r s → audit_lines o l t r ≡ audit_lines o l t s
 same_lines o l t r s h =
-    two_parts _ _ _ _ (same_head o l t r.runs r.levels s.runs s.levels h.runs h.levels)
-    (two_parts _ _ _ _ (ap (number_line (codes "mitigations ")) h.mitigations)
-    (same_tail r.distinct r.base r.exponent s.distinct s.base s.exponent r.classes.items s.classes.items h.distinct h.base h.exponent h.classes))
+    two_parts _ _ _ _ (same_head o l t r.runs r.measures.levels s.runs s.measures.levels h.runs h.measures.levels)
+    (two_parts _ _ _ _ (ap (number_line (codes "mitigations ")) h.mitigations) (same_tail r.measures s.measures h.measures))
 
 abbrev pub fault_status : AuditFault → Status
 fault_status (audit_fault.Disagree run what) = status.Disagree

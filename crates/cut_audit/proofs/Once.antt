@@ -1,35 +1,31 @@
 -- An audit has one answer.
-use Rattle.std.proofs.Common.{◌≡◌, ℕ, ◌+◌, ◌*◌, ◌≤◌, List, false, refl, sym, ap, ◌∙◌}
+use Rattle.std.proofs.Common.{◌≡◌, ℕ, ◌≤◌, List, false, refl, sym, ap, ◌∙◌}
 use Rattle.std.specs.Prelude.{◌≢◌}
 use Rattle.label_lattice.specs.Order.{Order}
 use Rattle.timing_types.specs.Labelled.{LabelledProgram}
 use Rattle.env_contract.specs.Env.{Env}
 use Rattle.label_code.specs.Run.{Start}
-use Rattle.leak_bound.specs.Digits.{digits}
-use Rattle.leak_bound.specs.Records.{Pairwise}
+use Rattle.leak_bound.specs.Records.{Pairwise, views}
 use Rattle.leak_audit.specs.declared.survey.SurveyFault.TheVariants.{TooMuch as IsTooMuch}
 use Rattle.leak_audit.specs.Agreement.{AgreeFor}
-use Rattle.leak_audit.specs.Surveyed.{shown_by_all}
+use Rattle.leak_audit.specs.OneAnswer.{HasOneAnswer}
+use Rattle.leak_audit.specs.Surveyed.{sequence_from, shown_by_all}
+use Rattle.leak_audit.proofs.Measuring.{same_measures}
 use Rattle.leak_audit.proofs.OneReason.{disagrees_once, not_apart, refused_once, not_taken}
 use Rattle.cut_audit.specs.declared.report.CutReport.{CutReport}
 use Rattle.cut_audit.specs.declared.report.CutFault.{CutFault}
 use Rattle.cut_audit.specs.declared.report.CutFault.TheVariants.{Disagree, TooMuch, Memory}
-use Rattle.cut_audit.specs.Report.{IsReport, IsCutFault, SameReport, AnswersOnce, fault_of_survey}
+use Rattle.cut_audit.specs.Report.{IsReport, IsCutFault, SameReport, fault_of_survey}
 
 module _ {E : Type 0} (v : Env E) (serves : Order → E → Type 0) (p : LabelledProgram) (o t : ℕ) (ss : List (Start E)) where
   pub same_report : (r s : CutReport) → IsReport v serves p o t ss r → IsReport v serves p o t ss s → SameReport r s
   same_report r s a b =
       let ended : r.ended ≡ s.ended = a.ended ∙ sym b.ended in
-      let levels : r.levels ≡ s.levels = a.levels ∙ sym b.levels in
       record {
         runs = a.runs ∙ sym b.runs;
-        levels = levels;
         ended = ended;
         halted = a.halted ∙ sym b.halted;
-        distinct = a.distinct ∙ sym b.distinct;
-        base = a.base ∙ (ap (λ z. z + 1) ended ∙ sym b.base);
-        exponent = a.exponent ∙ (ap (λ z. z * digits t) levels ∙ sym b.exponent);
-        classes = a.classes ∙ sym b.classes;
+        measures = same_measures p.program.order o t r.ended s.ended (views (sequence_from v p o t) ss) r.measures s.measures ended a.measures b.measures;
       }
 
   pub same_fault : (f g : CutFault) → IsCutFault v serves p o t ss f → IsCutFault v serves p o t ss g → f ≢ Memory → g ≢ Memory → f ≡ g
@@ -51,5 +47,5 @@ module _ {E : Type 0} (v : Env E) (serves : Order → E → Type 0) (p : Labelle
   pub not_fault : (r : CutReport) (f : CutFault) → IsReport v serves p o t ss r → IsCutFault v serves p o t ss f → f ≡ Memory
   not_fault r f a b = no_cut_fault f a.agree a.few b
 
-  pub answers_once : AnswersOnce v serves p o t ss
+  pub answers_once : HasOneAnswer (IsReport v serves p o t ss) SameReport (IsCutFault v serves p o t ss) Memory
   answers_once = record { report = same_report; fault = same_fault; either = not_fault }

@@ -3,23 +3,21 @@ ghost use Rattle.cut_audit.specs.Report.{fault_of_disagreement, MayCut, fault_of
 ghost use Rattle.cut_audit.specs.declared.report.CutFault.TheVariants.{Memory};
 
 use leak_audit::agreement::Disagreement;
+use leak_audit::measure::Measures;
 use leak_audit::survey::SurveyFault;
 use leak_audit::what::What;
 
-/// What an audit found: the number of runs, of labels that do not flow to the observer, the greatest number of
-/// relevant mitigations that ended in a run, the number of runs that have halted, and of different sequences
-/// seen; base and exponent of the bound of that; and for each run the class of its sequence, its place, from
-/// 1, among the different ones in order of first appearance.
+/// What an audit found.
 #[derive(Drop)]
 pub struct CutReport {
+    /// How many runs there are.
     pub runs: u32,
-    pub levels: u32,
+    /// The greatest number of relevant mitigations that ended in a run.
     pub ended: u64,
+    /// How many runs have halted.
     pub halted: u32,
-    pub distinct: u32,
-    pub base: u64,
-    pub exponent: u32,
-    pub classes: Vec<u32>,
+    /// How many different sequences are seen, the bound of that, and the class of each run.
+    pub measures: Measures,
 }
 
 /// Why there is no report.

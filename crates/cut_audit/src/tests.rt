@@ -17,6 +17,9 @@ use label_code::image::Image;
 use label_lattice::label::Label;
 use label_lattice::lattice::Lattice;
 use label_lattice::name::Name;
+use leak_audit::audit::audit;
+use leak_audit::measure::Measures;
+use leak_audit::report::{AuditFault, AuditReport};
 use mit_syntax::ast::{Command, Expr, Form};
 use mit_syntax::program::Program;
 use part_tlb::part::MakePart;
@@ -114,7 +117,25 @@ fn start(alloc: Global) -> Start
     }
 }
 
-// Two runs from equal starts.
+// Two runs from equal starts, which have to halt.
+fn audit_twice<E: MachineEnv + Drop, M: MakeEnv<E>>(
+    alloc: Global,
+    p: &Typed,
+    image: &Image,
+    limit: u64,
+    make: &M,
+) -> Result<AuditReport, AuditFault>
+    requires image { image.now ≡ lowered p.now.labelled }
+    requires none { p.now.labelled.program.declarations ≡ [] }
+    requires size { p.now.labelled.program.order.size ≡ 1 }
+    requires cycles { 0 < limit }
+    requires limit { limit ≤ 2 ^ 40 }
+{
+    let starts = [start(alloc), start(alloc)];
+    audit(alloc, p, image, &starts, LOW, limit, make)
+}
+
+// The same runs, cut at the limit.
 fn cut_twice<E: MachineEnv + Drop, M: MakeEnv<E>>(
     alloc: Global,
     p: &Typed,
@@ -132,17 +153,43 @@ fn cut_twice<E: MachineEnv + Drop, M: MakeEnv<E>>(
     cut(alloc, p, image, &starts, LOW, limit, make)
 }
 
+// What is measured of them: one sequence, and no label that does not flow to the observer.
+fn is_one_sequence(measures: &Measures) -> bool {
+    let numbers = (measures.levels, measures.distinct, measures.base);
+    numbers == (0, 1, 1)
+        && measures.exponent == 0
+        && measures.classes.as_slice() == [1, 1].as_slice()
+}
+
 // Without caches the run halts at cycle 7, and its mitigation ends at 6. With them it halts at 35.
 #[test]
 fn audits_a_mitigate(rt: HostRuntime) {
     let (p, image) = compiled(rt.alloc()).expect(&rt, "a program");
+    let Ok(report) = audit_twice(rt.alloc(), &p, &image, 7, &MakeFlat) else {
+        panic!(rt; "refused");
+    };
+    assert_eq!(rt; (report.runs, report.mitigations), (2, 0));
+    assert!(rt; is_one_sequence(&report.measures));
+    assert!(rt; audit_twice(rt.alloc(), &p, &image, 35, &MakePart).is_ok());
+}
+
+#[test]
+fn tells_of_a_run_that_has_not_halted(rt: HostRuntime) {
+    let (p, image) = compiled(rt.alloc()).expect(&rt, "a program");
+    let flat = audit_twice(rt.alloc(), &p, &image, 6, &MakeFlat).err();
+    assert_eq!(rt; flat, Some(AuditFault::Unfinished { run: 1, cycle: 6 }));
+    let part = audit_twice(rt.alloc(), &p, &image, 34, &MakePart).err();
+    assert_eq!(rt; part, Some(AuditFault::Unfinished { run: 1, cycle: 34 }));
+}
+
+#[test]
+fn cuts_a_mitigate(rt: HostRuntime) {
+    let (p, image) = compiled(rt.alloc()).expect(&rt, "a program");
     let Ok(report) = cut_twice(rt.alloc(), &p, &image, 6, &MakeFlat) else {
         panic!(rt; "refused");
     };
-    assert_eq!(rt; (report.runs, report.levels, report.ended), (2, 0, 0));
-    assert_eq!(rt; (report.distinct, report.base, report.exponent), (1, 1, 0));
-    assert_eq!(rt; report.halted, 0);
-    assert!(rt; report.classes.as_slice() == [1, 1].as_slice());
+    assert_eq!(rt; (report.runs, report.ended, report.halted), (2, 0, 0));
+    assert!(rt; is_one_sequence(&report.measures));
     let Ok(report) = cut_twice(rt.alloc(), &p, &image, 35, &MakePart) else {
         panic!(rt; "refused");
     };

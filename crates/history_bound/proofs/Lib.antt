@@ -2,3 +2,4 @@ pub mod Touching
 pub mod Lawful
 pub mod Held
 pub mod Told
+pub mod Runs

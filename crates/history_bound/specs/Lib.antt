@@ -1,3 +1,4 @@
 pub mod Over
 pub mod Held
 pub mod Told
+pub mod Runs

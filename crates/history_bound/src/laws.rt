@@ -12,11 +12,13 @@ ghost use Rattle.leak_bound.specs.Over.{KeepsLaws, SoundOver, ShowsOneOver, CutS
 ghost use Rattle.history_bound.specs.Over.{AnyHistory, CostsAtMost, OrderOver};
 ghost use Rattle.history_bound.specs.Held.{in_one_level, in_two_levels, AgreeInHeld};
 ghost use Rattle.history_bound.specs.Told.{TellsAs};
+ghost use Rattle.history_bound.specs.Runs.{RunsByHistory};
 
 use env_contract::env::MachineEnv;
+use env_contract::make::MakeEnv;
 use part_tlb::laws::caches_do_as_histories;
-use part_tlb::part::PartEnv;
-use part_tlb::part2::Part2Env;
+use part_tlb::part::{MakePart, PartEnv};
+use part_tlb::part2::{MakePart2, Part2Env};
 
 /// The environments in which nothing is kept but the history keep the three laws of an environment, from every
 /// history and for every lattice, and no access in them costs more than 32 cycles, or 62 where there are two
@@ -88,6 +90,20 @@ pub fn rows_tell_as_histories()
     ensures two_levels { TellsAs
         ⟦<Part2Env as MachineEnv>⟧.env
         ⟦<Part2Env as MachineEnv>⟧.serves part2_by_history AnyHistory (Keeps part2_structure) }
+{
+    caches_do_as_histories();
+}
+
+/// What a run does and when it does it is told by histories alone: from any memory, any touches and to any
+/// T, the machine over caches comes to where the machine comes to whose environment is the list of touches
+/// so far, with the same clock, memory, misses and log; and the caches stand for the list at the end.
+pub fn runs_do_as_histories()
+    ensures one_level { RunsByHistory
+        ⟦<PartEnv as MachineEnv>⟧.env
+        part_structure ⟦<MakePart as MakeEnv<PartEnv>>⟧.made part_by_history }
+    ensures two_levels { RunsByHistory
+        ⟦<Part2Env as MachineEnv>⟧.env
+        part2_structure ⟦<MakePart2 as MakeEnv<Part2Env>>⟧.made part2_by_history }
 {
     caches_do_as_histories();
 }

@@ -15,7 +15,7 @@ use Rattle.label_code.specs.Visible.{visible}
 use Rattle.label_code.specs.Run.{Start, run_from}
 use Rattle.label_code.specs.Alike.{HasLabelsBelow}
 use Rattle.code_lower.specs.Lowered.{lowered}
-use Rattle.leak_bound.specs.Records.{Each, Pairwise, views, distinct_count}
+use Rattle.leak_bound.specs.Records.{Each, Pairwise, views}
 use Rattle.leak_bound.specs.Sound.{Halts}
 use Rattle.start_file.specs.Starts.{StartValue, IsFor}
 use Rattle.cycle_machine.specs.declared.end.RunEnd.TheVariants.{Halted, Limit}
@@ -27,7 +27,7 @@ use Rattle.leak_audit.specs.declared.survey.SurveyFault.TheVariants.{Unfinished 
 use Rattle.leak_audit.specs.declared.what.What.{What}
 use Rattle.leak_audit.specs.declared.what.What.TheVariants.{Variable, Partition}
 use Rattle.leak_audit.specs.Agreement.{AgreeFor, Differs, IsFirstDifference, IsFirstApart, Disagrees, start_of, starts_of}
-use Rattle.leak_audit.specs.Sequences.{same_sequence, classes_of}
+use Rattle.leak_audit.specs.Measured.{IsMeasure}
 use Rattle.leak_audit.specs.Surveyed.{sequence_from, shown_by, shown_by_all, halted_count, relevant_for, IsRefused, IsFirstRefused}
 use Rattle.leak_audit.specs.declared.report.AuditReport.{AuditReport}
 use Rattle.leak_audit.specs.declared.report.AuditFault.{AuditFault}
@@ -169,12 +169,8 @@ module _ {E F : Type 0} (v : Env E) (w : Env F) (p : LabelledProgram) (serves : 
           halted = halts_over ss rs q a.halted;
           few = subst (λ n. n ≤ 16777216) (show_all ss rs q) a.few;
           runs = a.runs ∙ length-paired related ss rs q;
-          levels = a.levels;
           mitigations = begun_over related p.program.order (labels_of p) (levels_of p) o (plan_of p.program) r.mitigations ss rs q a.mitigations;
-          distinct = a.distinct ∙ ap (λ (ls : List (List Event)). distinct_count same_sequence ls) (seen_same ss rs q);
-          base = a.base;
-          exponent = a.exponent;
-          classes = a.classes ∙ ap (λ (ls : List (List Event)). classes_of same_sequence ls) (seen_same ss rs q);
+          measures = subst (λ (ls : List (List Event)). IsMeasure p.program.order o t r.mitigations ls r.measures) (seen_same ss rs q) a.measures;
         }
 
     pub cut_report_over : (ss : List (Start E)) (rs : List (Start F)) → Paired related ss rs → (r : CutReport) → IsCutReport v serves p o t ss r → IsCutReport w serves' p o t rs r
@@ -183,13 +179,9 @@ module _ {E F : Type 0} (v : Env E) (w : Env F) (p : LabelledProgram) (serves : 
           agree = all_agree ss rs q a.agree;
           few = subst (λ n. n ≤ 16777216) (show_all ss rs q) a.few;
           runs = a.runs ∙ length-paired related ss rs q;
-          levels = a.levels;
           ended = a.ended ∙ ended_all v w p.program.order related does (lowered p).instrs labels t (relevant_for p o) ss rs q;
           halted = a.halted ∙ halted_all ss rs q;
-          distinct = a.distinct ∙ ap (λ (ls : List (List Event)). distinct_count same_sequence ls) (seen_same ss rs q);
-          base = a.base;
-          exponent = a.exponent;
-          classes = a.classes ∙ ap (λ (ls : List (List Event)). classes_of same_sequence ls) (seen_same ss rs q);
+          measures = subst (λ (ls : List (List Event)). IsMeasure p.program.order o t r.ended ls r.measures) (seen_same ss rs q) a.measures;
         }
 
     pub fault_over : (ss : List (Start E)) (rs : List (Start F)) → Paired related ss rs → (f : AuditFault) → IsAuditFault v serves p o t ss f → IsAuditFault w serves' p o t rs f

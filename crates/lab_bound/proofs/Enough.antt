@@ -130,11 +130,11 @@ module _ {E : Type 0} (v : Env E) (serves : Order → E → Type 0) (made : Orde
             few = subst (FewShown (sequence_from v q o t) same_sequence (starts_of made q.program.order ss)) (same_product (ends_by t (FirstsOf levels)) counts (counts_of levels) (length levels) same) few;
           }
 
-  counted : (ss : List StartValue) (r : AuditReport) (levels : List LevelRuns) → IsReport v serves q o t (starts_of made q.program.order ss) r → Found ss levels → (n : ℕ) → fitting (sharp_of t levels) ≡ Some n → r.distinct ≤ n
+  counted : (ss : List StartValue) (r : AuditReport) (levels : List LevelRuns) → IsReport v serves q o t (starts_of made q.program.order ss) r → Found ss levels → (n : ℕ) → fitting (sharp_of t levels) ≡ Some n → r.measures.distinct ≤ n
   counted ss r levels is f n e =
       let same = (told (sharp_of t levels) n (sym e)).0 in
       let c = f.few.count in
-      let d = is.distinct in
+      let d = is.measures.distinct in
       omega (arith, same, c, d)
 
 typed_with : (words : List Told) (p : Syntax) (q : LabelledProgram) → IsProgram words p → Types p q → IsTypedWith q

@@ -39,7 +39,7 @@ pub record IsEnough (e : EnvName) (q : LabelledProgram) (o t : ℕ) (ss : List S
   -- the sharp count bounds the runs
   pub few : FewIn e q o t ss (sharp_of t levels)
   -- a number that is told is at least as great as the number of different sequences in the report
-  pub counted : (n : ℕ) → fitting (sharp_of t levels) ≡ Some n → r.distinct ≤ n
+  pub counted : (n : ℕ) → fitting (sharp_of t levels) ≡ Some n → r.measures.distinct ≤ n
 
 -- so it is of each program that words spell, with its least labelling, up to each T of at least 1
 abbrev pub NumbersAreEnough : EnvName → ℕ → Type 0

@@ -1,9 +1,9 @@
 -- Of starts that agree, there are few different fields.
-use Rattle.std.proofs.Common.{◌≡◌, ◌<◌, ◌≤◌, ℕ, ◌+◌, ◌*◌, ◌^◌, List, [], ◌∷◌, map, Bool, refl, sym, ap, ◌∙◌, subst, arith}
-use Rattle.label_lattice.specs.Order.{Order, count_not_below}
+use Rattle.std.proofs.Common.{◌≡◌, ◌<◌, ◌≤◌, ℕ, ◌^◌, List, [], ◌∷◌, map, Bool, refl, sym, ap, ◌∙◌, subst, arith}
+use Rattle.label_lattice.specs.Order.{Order}
 use Rattle.label_lattice.specs.declared.label.Label.{Label}
 use Rattle.mit_syntax.specs.Program.{Syntax, plan_of}
-use Rattle.timing_types.specs.Labelled.{LabelledProgram, order_of, labels_of, levels_of}
+use Rattle.timing_types.specs.Labelled.{LabelledProgram, labels_of, levels_of}
 use Rattle.env_contract.specs.Env.{Env}
 use Rattle.env_contract.specs.declared.place.Touch.{Touch}
 use Rattle.label_code.specs.Run.{run_from}
@@ -16,9 +16,9 @@ use Rattle.leak_audit.specs.Agreement.{AgreeFor, start_of, starts_of}
 use Rattle.leak_audit.specs.Sequences.{same_sequence}
 use Rattle.leak_audit.specs.Surveyed.{relevant_for, sequence_from}
 use Rattle.leak_audit.proofs.Classing.{tests_sequences}
+use Rattle.leak_audit.proofs.Measuring.{power_is}
 use Rattle.part_tlb.specs.Histories.{part_by_history, part2_by_history}
 use Rattle.history_bound.specs.Over.{AnyHistory, history_made}
-use Rattle.leak_bound.specs.Digits.{digits}
 use Rattle.cut_audit.specs.declared.report.CutReport.{CutReport}
 use Rattle.cut_audit.specs.Report.{IsReport}
 use Rattle.seen_line.specs.Field.{field_text, seen_text}
@@ -54,13 +54,10 @@ module _ {E : Type 0} (v : Env E) (made : Order → List Touch → E) (q : Label
   within_cut : (serves : Order → E → Type 0) → l.number < q.program.order.size → 0 < t
       → CutSound v q.program.order (serves q.program.order) (labels_of q) (levels_of q) (lowered q).instrs (plan_of q.program)
       → (ss : List StartValue) (r : CutReport) → IsReport v serves q l.number t (starts_of made q.program.order ss) r → (same : List ℕ → List ℕ → Bool) → Tests same
-      → distinct_count same (map field_over ss) ≤ r.base ^ r.exponent
+      → distinct_count same (map field_over ss) ≤ r.measures.base ^ r.measures.exponent
   within_cut serves low some sound ss r is same tests =
-      let k = most_ended v (lowered q).instrs (relevant_for q l.number) t (starts_of made q.program.order ss) in
-      let power : bound q.program.order l.number t k ≡ r.base ^ r.exponent =
-      ap (λ z. (z + 1) ^ (count_not_below (order_of q) l.number q.program.order.size * digits t)) (sym is.ended)
-      ∙ (ap (λ z. z ^ (count_not_below (order_of q) l.number q.program.order.size * digits t)) (sym is.base)
-      ∙ ap (λ z. r.base ^ z) (ap (λ z. z * digits t) (sym is.levels) ∙ sym is.exponent)) in
+      let seqs = views (sequence_from v q l.number t) (starts_of made q.program.order ss) in
+      let power = ap (bound q.program.order l.number t) (sym is.ended) ∙ power_is q.program.order l.number t r.ended seqs r.measures is.measures in
       subst (λ z. distinct_count same (map field_over ss) ≤ z) power (fields_few serves low some sound ss is.agree same tests)
 
 below : (p : Syntax) (q : LabelledProgram) (o : ℕ) → Types p q → o < p.order.size → o < q.program.order.size

@@ -45,4 +45,4 @@ abbrev pub FieldsAreWithinCut : Type 0
 FieldsAreWithinCut =
     (words : List Told) (p : Syntax) (q : LabelledProgram) → IsProgram words p → Types p q → (e : EnvName) (t : ℕ) → 0 < t → (l : Label) → l.number < p.order.size →
     (ss : List StartValue) (r : CutReport) → CutReportsIn e q l.number t ss r → (same : List ℕ → List ℕ → Bool) → Tests same →
-    distinct_count same (map (field_in e t q l) ss) ≤ r.base ^ r.exponent
+    distinct_count same (map (field_in e t q l) ss) ≤ r.measures.base ^ r.measures.exponent

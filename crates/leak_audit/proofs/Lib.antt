@@ -2,6 +2,7 @@ pub mod Tallying
 pub mod Running
 pub mod Marking
 pub mod Classing
+pub mod Measuring
 pub mod Split
 pub mod Agreeing
 pub mod Surveying

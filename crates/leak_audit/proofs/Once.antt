@@ -1,37 +1,33 @@
 -- An audit has one answer.
-use Rattle.std.proofs.Common.{◌≡◌, ℕ, ◌+◌, ◌*◌, ◌≤◌, List, true, refl, sym, ap, ◌∙◌}
+use Rattle.std.proofs.Common.{◌≡◌, ℕ, ◌≤◌, List, true, refl, sym, ap, ◌∙◌}
 use Rattle.std.specs.Prelude.{◌≢◌}
 use Rattle.label_lattice.specs.Order.{Order}
 use Rattle.timing_types.specs.Labelled.{LabelledProgram}
 use Rattle.env_contract.specs.Env.{Env}
 use Rattle.label_code.specs.Run.{Start}
 use Rattle.code_lower.specs.Lowered.{lowered}
-use Rattle.leak_bound.specs.Digits.{digits}
-use Rattle.leak_bound.specs.Records.{Each, Pairwise}
+use Rattle.leak_bound.specs.Records.{Each, Pairwise, views}
 use Rattle.leak_bound.specs.Sound.{Halts}
 use Rattle.leak_audit.specs.declared.survey.SurveyFault.TheVariants.{Unfinished as IsUnfinished, TooMuch as IsTooMuch}
 use Rattle.leak_audit.specs.Agreement.{AgreeFor}
-use Rattle.leak_audit.specs.Surveyed.{shown_by_all}
+use Rattle.leak_audit.specs.Surveyed.{sequence_from, shown_by_all}
 use Rattle.leak_audit.proofs.OneReason.{disagrees_once, not_apart, refused_once, not_taken}
 use Rattle.leak_audit.specs.declared.report.AuditReport.{AuditReport}
 use Rattle.leak_audit.specs.declared.report.AuditFault.{AuditFault}
 use Rattle.leak_audit.specs.declared.report.AuditFault.TheVariants.{Disagree, Unfinished, TooMuch, Memory}
-use Rattle.leak_audit.specs.Report.{IsReport, IsAuditFault, SameReport, AnswersOnce, fault_of_survey}
+use Rattle.leak_audit.specs.OneAnswer.{HasOneAnswer}
+use Rattle.leak_audit.specs.Report.{IsReport, IsAuditFault, SameReport, fault_of_survey}
+use Rattle.leak_audit.proofs.Measuring.{same_measures}
 use Rattle.leak_audit.proofs.Reporting.{first_one}
 
 module _ {E : Type 0} (v : Env E) (serves : Order → E → Type 0) (p : LabelledProgram) (o t : ℕ) (ss : List (Start E)) where
   pub same_report : (r s : AuditReport) → IsReport v serves p o t ss r → IsReport v serves p o t ss s → SameReport r s
   same_report r s a b =
       let mitigations : r.mitigations ≡ s.mitigations = first_one p o ss r.mitigations s.mitigations a.mitigations b.mitigations in
-      let levels : r.levels ≡ s.levels = a.levels ∙ sym b.levels in
       record {
         runs = a.runs ∙ sym b.runs;
-        levels = levels;
         mitigations = mitigations;
-        distinct = a.distinct ∙ sym b.distinct;
-        base = a.base ∙ (ap (λ z. z + 1) mitigations ∙ sym b.base);
-        exponent = a.exponent ∙ (ap (λ z. z * digits t) levels ∙ sym b.exponent);
-        classes = a.classes ∙ sym b.classes;
+        measures = same_measures p.program.order o t r.mitigations s.mitigations (views (sequence_from v p o t) ss) r.measures s.measures mitigations a.measures b.measures;
       }
 
   pub same_fault : (f g : AuditFault) → IsAuditFault v serves p o t ss f → IsAuditFault v serves p o t ss g → f ≢ Memory → g ≢ Memory → f ≡ g
@@ -59,5 +55,5 @@ module _ {E : Type 0} (v : Env E) (serves : Order → E → Type 0) (p : Labelle
   pub not_fault : (r : AuditReport) (f : AuditFault) → IsReport v serves p o t ss r → IsAuditFault v serves p o t ss f → f ≡ Memory
   not_fault r f a b = no_audit_fault f a.agree a.halted a.few b
 
-  pub answers_once : AnswersOnce v serves p o t ss
+  pub answers_once : HasOneAnswer (IsReport v serves p o t ss) SameReport (IsAuditFault v serves p o t ss) Memory
   answers_once = record { report = same_report; fault = same_fault; either = not_fault }

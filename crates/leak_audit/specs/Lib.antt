@@ -4,4 +4,5 @@ pub mod Observed
 pub mod Kept
 pub mod Surveyed
 pub mod Measured
+pub mod OneAnswer
 pub mod Report

@@ -1,4 +1,4 @@
--- The numbers of an audit's report.
+-- The numbers of an audit's report that speak of sequences.
 use Rattle.std.specs.Prelude.{◌≡◌, ◌+◌, ◌*◌, ℕ, List}
 use Rattle.label_lattice.specs.Order.{Order, lattice_of, count_not_below}
 use Rattle.label_code.specs.Machine.{Event}
@@ -14,3 +14,11 @@ pub record IsMeasure (order : Order) (o t k : ℕ) (seqs : List (List Event)) (m
   pub base : m.base ≡ k + 1
   pub exponent : m.exponent ≡ m.levels * digits t
   pub classes : m.classes.items ≡ classes_of same_sequence seqs
+
+-- two have the same numbers and classes
+pub record SameMeasures (m n : Measures) : Type 0 where
+  pub levels : m.levels ≡ n.levels
+  pub distinct : m.distinct ≡ n.distinct
+  pub base : m.base ≡ n.base
+  pub exponent : m.exponent ≡ n.exponent
+  pub classes : m.classes.items ≡ n.classes.items

@@ -22,7 +22,7 @@ use timing_types::typed::Typed;
 
 /// Runs a program's image from each start of a list, 1 to 4,096 of them, up to a limit of 1 to 2^40 cycles,
 /// and counts the different sequences of assignments, with their cycles, that an observer sees. That is at
-/// most the report's base to the power of its exponent, in every environment that keeps the laws of
+/// most the base to the power of the exponent of the report's measures, in every environment that keeps the laws of
 /// `MachineEnv`. The image is that of the program, the starts are for it, and the observer is one of its
 /// labels. Keeps 24 bytes for each assignment of each different sequence.
 ///
@@ -47,7 +47,7 @@ pub fn audit<E: MachineEnv + Drop, M: MakeEnv<E>>(
     requires cycles { 0 < limit }
     requires limit { limit ≤ 2 ^ 40 }
     ensures report { IfOk result (IsReport E.env E.serves p.now.labelled observer.number limit (starts_of M.made p.now.labelled.program.order (map seen starts.now))) }
-    ensures bound { IfOk result (λ r. r.distinct ≤ r.base ^ r.exponent) }
+    ensures bound { IfOk result (λ r. r.measures.distinct ≤ r.measures.base ^ r.measures.exponent) }
     ensures fault { IfErr result (IsAuditFault E.env E.serves p.now.labelled observer.number limit (starts_of M.made p.now.labelled.program.order (map seen starts.now))) }
 {
     lowered_few_sequences::<E>();
@@ -68,11 +68,7 @@ pub fn audit<E: MachineEnv + Drop, M: MakeEnv<E>>(
     let measures = measure(&order, observer, limit, survey.begun, survey.kinds);
     Ok(AuditReport {
         runs: starts.len() as u32,
-        levels: measures.levels,
         mitigations: survey.begun,
-        distinct: measures.distinct,
-        base: measures.base,
-        exponent: measures.exponent,
-        classes: measures.classes,
+        measures,
     })
 }

@@ -14,6 +14,4 @@ pub mod report;
 mod shown;
 pub mod sighting;
 pub mod survey;
-#[cfg(test)]
-mod tests;
 pub mod what;

@@ -1,4 +1,4 @@
-//! The numbers of an audit's report.
+//! The numbers of an audit's report that speak of sequences.
 
 ghost use Rattle.std.specs.Prelude.{◌≡◌, ◌+◌, ◌<◌, ◌≤◌, ◌^◌, List, length};
 ghost use Rattle.label_code.specs.Machine.{Event};
@@ -21,7 +21,7 @@ pub struct Measures {
     pub base: u64,
     /// The levels times the binary digits of the limit.
     pub exponent: u32,
-    /// The class of each sequence, from 1.
+    /// The class of each sequence: its place, from 1, among the different ones in order of first appearance.
     pub classes: Vec<u32>,
 }
 

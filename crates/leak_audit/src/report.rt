@@ -3,22 +3,19 @@ ghost use Rattle.leak_audit.specs.Report.{fault_of_disagreement, fault_of_survey
 ghost use Rattle.leak_audit.specs.declared.report.AuditFault.TheVariants.{Memory};
 
 use crate::agreement::Disagreement;
+use crate::measure::Measures;
 use crate::survey::SurveyFault;
 use crate::what::What;
 
-/// What an audit found: the number of runs, of labels that do not flow to the observer, of relevant
-/// mitigations that a run begins, and of different sequences seen; base and exponent of the bound of that;
-/// and for each run the class of its sequence, its place, from 1, among the different ones in order of first
-/// appearance.
+/// What an audit found.
 #[derive(Drop)]
 pub struct AuditReport {
+    /// How many runs there are.
     pub runs: u32,
-    pub levels: u32,
+    /// How many relevant mitigations a run begins.
     pub mitigations: u64,
-    pub distinct: u32,
-    pub base: u64,
-    pub exponent: u32,
-    pub classes: Vec<u32>,
+    /// How many different sequences are seen, the bound of that, and the class of each run.
+    pub measures: Measures,
 }
 
 /// Why there is no report.

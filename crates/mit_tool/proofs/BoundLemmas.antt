@@ -1,24 +1,12 @@
 -- Counts are within their bounds.
-use Rattle.std.proofs.Common.{◌≡◌, ◌<◌, ◌≤◌, ℕ, ◌+◌, ◌*◌, ◌^◌, Bool, List, [], ◌∷◌, sym, ap, ◌∙◌, subst}
+use Rattle.std.proofs.Common.{◌<◌, ◌≤◌, ℕ, ◌^◌, Bool, List, [], ◌∷◌, sym, subst}
 use Rattle.std.specs.List.{AllZip}
-use Rattle.label_lattice.specs.Order.{Order, count_not_below}
-use Rattle.mit_syntax.specs.Program.{Syntax, plan_of}
-use Rattle.timing_types.specs.Labelled.{LabelledProgram, order_of, labels_of, levels_of}
-use Rattle.env_contract.specs.Env.{Env}
-use Rattle.label_code.specs.Run.{Start}
-use Rattle.code_lower.specs.Lowered.{lowered}
-use Rattle.leak_bound.specs.Digits.{digits}
+use Rattle.mit_syntax.specs.Program.{Syntax}
+use Rattle.timing_types.specs.Labelled.{LabelledProgram}
 use Rattle.leak_bound.specs.Records.{Tests, distinct_count}
-use Rattle.leak_bound.specs.Sound.{Sound, CutSound, bound, most_ended}
 use Rattle.leak_audit.specs.Agreement.{starts_of}
-use Rattle.leak_audit.specs.Sequences.{same_sequence}
-use Rattle.leak_audit.specs.Surveyed.{relevant_for}
-use Rattle.leak_audit.proofs.Classing.{tests_sequences}
-use Rattle.leak_audit.specs.declared.report.AuditReport.{AuditReport}
-use Rattle.leak_audit.specs.Report.{IsReport}
-use Rattle.leak_audit.proofs.Reporting.{first_one}
-use Rattle.cut_audit.specs.declared.report.CutReport.{CutReport}
-use Rattle.cut_audit.specs.Report.{IsReport as IsCutReport}
+use Rattle.leak_audit.proofs.Reporting.{report_within}
+use Rattle.cut_audit.proofs.Reporting as cut
 use Rattle.black_box.specs.Audits.{same_cycles}
 use Rattle.black_box.specs.Schedule.{IsSchedule}
 use Rattle.black_box.specs.Outcomes.{Outcome, IsOutcome}
@@ -36,27 +24,6 @@ use Rattle.tool_texts.specs.Reports.{all_released}
 use Rattle.tool_stages.specs.Accepted.{SpelledAreSound}
 use Rattle.mit_tool.specs.Bounded.{AuditsAreWithin, CutsAreWithin, ReleasesAreWithin, AreWithin}
 
-module _ {E : Type 0} (v : Env E) (serves : Order → E → Type 0) (q : LabelledProgram) (o t : ℕ) (low : o < q.program.order.size) (some : 0 < t) (ss : List (Start E)) where
-  report_within : Sound v q.program.order (serves q.program.order) (labels_of q) (levels_of q) (lowered q).instrs (plan_of q.program) → (r : AuditReport) → IsReport v serves q o t ss r → r.distinct ≤ r.base ^ r.exponent
-  report_within sound r is =
-      let few = sound.few o low t some ss is.agree is.halted same_sequence tests_sequences in
-      let same : few.0 ≡ r.mitigations = first_one q o ss few.0 r.mitigations few.1 is.mitigations in
-      let power : bound q.program.order o t few.0 ≡ r.base ^ r.exponent =
-      ap (λ z. (z + 1) ^ (count_not_below (order_of q) o q.program.order.size * digits t)) same
-      ∙ (ap (λ z. z ^ (count_not_below (order_of q) o q.program.order.size * digits t)) (sym is.base)
-      ∙ ap (λ z. r.base ^ z) (ap (λ z. z * digits t) (sym is.levels) ∙ sym is.exponent)) in
-      subst (λ z. r.distinct ≤ z) power (subst (λ z. z ≤ bound q.program.order o t few.0) (sym is.distinct) few.3)
-
-  cut_within : CutSound v q.program.order (serves q.program.order) (labels_of q) (levels_of q) (lowered q).instrs (plan_of q.program) → (r : CutReport) → IsCutReport v serves q o t ss r → r.distinct ≤ r.base ^ r.exponent
-  cut_within sound r is =
-      let few = sound.few o low t some ss is.agree same_sequence tests_sequences in
-      let k = most_ended v (lowered q).instrs (relevant_for q o) t ss in
-      let power : bound q.program.order o t k ≡ r.base ^ r.exponent =
-      ap (λ z. (z + 1) ^ (count_not_below (order_of q) o q.program.order.size * digits t)) (sym is.ended)
-      ∙ (ap (λ z. z ^ (count_not_below (order_of q) o q.program.order.size * digits t)) (sym is.base)
-      ∙ ap (λ z. r.base ^ z) (ap (λ z. z * digits t) (sym is.levels) ∙ sym is.exponent)) in
-      subst (λ z. r.distinct ≤ z) power (subst (λ z. z ≤ bound q.program.order o t k) (sym is.distinct) few)
-
 -- an observer of the program is one of the labelled program
 below : (p : Syntax) (q : LabelledProgram) (o : ℕ) → Types p q → o < p.order.size → o < q.program.order.size
 below p q o types l = subst (λ (z : Syntax). o < z.order.size) (sym types.program) l
@@ -64,19 +31,19 @@ below p q o types l = subst (λ (z : Syntax). o < z.order.size) (sym types.progr
 module _ (sound : SpelledAreSound) where
   audits_within : (e : EnvName) (t : ℕ) → AuditsAreWithin e t
   audits_within Flat t some words p q o ss r spelled types l is =
-      report_within flat_env (λ order e. Unit {0}) q o t (below p q o types l) some (starts_of flat_made q.program.order ss) (sound words p q spelled types).flat.halted r is
+      report_within flat_env (λ order e. Unit {0}) q o t (sound words p q spelled types).flat.halted (below p q o types l) some (starts_of flat_made q.program.order ss) r is
   audits_within Part t some words p q o ss r spelled types l is =
-      report_within (part_by_history q.program.order) AnyHistory q o t (below p q o types l) some (starts_of history_made q.program.order ss) (sound words p q spelled types).part.halted r is
+      report_within (part_by_history q.program.order) AnyHistory q o t (sound words p q spelled types).part.halted (below p q o types l) some (starts_of history_made q.program.order ss) r is
   audits_within Part2 t some words p q o ss r spelled types l is =
-      report_within (part2_by_history q.program.order) AnyHistory q o t (below p q o types l) some (starts_of history_made q.program.order ss) (sound words p q spelled types).part2.halted r is
+      report_within (part2_by_history q.program.order) AnyHistory q o t (sound words p q spelled types).part2.halted (below p q o types l) some (starts_of history_made q.program.order ss) r is
 
   cuts_within : (e : EnvName) (t : ℕ) → CutsAreWithin e t
   cuts_within Flat t some words p q o ss r spelled types l is =
-      cut_within flat_env (λ order e. Unit {0}) q o t (below p q o types l) some (starts_of flat_made q.program.order ss) (sound words p q spelled types).flat.cut r is
+      cut.report_within flat_env (λ order e. Unit {0}) q o t (starts_of flat_made q.program.order ss) (sound words p q spelled types).flat.cut (below p q o types l) some r is
   cuts_within Part t some words p q o ss r spelled types l is =
-      cut_within (part_by_history q.program.order) AnyHistory q o t (below p q o types l) some (starts_of history_made q.program.order ss) (sound words p q spelled types).part.cut r is
+      cut.report_within (part_by_history q.program.order) AnyHistory q o t (starts_of history_made q.program.order ss) (sound words p q spelled types).part.cut (below p q o types l) some r is
   cuts_within Part2 t some words p q o ss r spelled types l is =
-      cut_within (part2_by_history q.program.order) AnyHistory q o t (below p q o types l) some (starts_of history_made q.program.order ss) (sound words p q spelled types).part2.cut r is
+      cut.report_within (part2_by_history q.program.order) AnyHistory q o t (starts_of history_made q.program.order ss) (sound words p q spelled types).part2.cut (below p q o types l) some r is
 
 -- lists of releases are few
 abbrev pub FewLists : Type 0

@@ -48,10 +48,9 @@ not_cut_fault Part2 q o t ss r f h k = cut.not_fault (part2_by_history q.program
 
 same_cut_lines : (o : Order) (l : Label) (t : ℕ) (r s : CutReport) → SameCut r s → cut_lines o l t r ≡ cut_lines o l t s
 same_cut_lines o l t r s h =
-    two_parts _ _ _ _ (same_head o l t r.runs r.levels s.runs s.levels h.runs h.levels)
+    two_parts _ _ _ _ (same_head o l t r.runs r.measures.levels s.runs s.measures.levels h.runs h.measures.levels)
     (two_parts _ _ _ _ (ap (number_line (codes "ended ")) h.ended)
-    (two_parts _ _ _ _ (ap (number_line (codes "halted ")) h.halted)
-    (same_tail r.distinct r.base r.exponent s.distinct s.base s.exponent r.classes.items s.classes.items h.distinct h.base h.exponent h.classes)))
+    (two_parts _ _ _ _ (ap (number_line (codes "halted ")) h.halted) (same_tail r.measures s.measures h.measures)))
 
 -- ---- audits
 

@@ -9,6 +9,7 @@ use Rattle.mit_syntax.specs.Program.{Syntax}
 use Rattle.event_print.specs.Text.{cell_text, cycle_text}
 use Rattle.leak_bound.specs.Digits.{digits}
 use Rattle.leak_bound.specs.Records.{distinct_count}
+use Rattle.leak_audit.specs.declared.measure.Measures.{Measures}
 use Rattle.leak_audit.specs.declared.what.What.{What}
 use Rattle.leak_audit.specs.declared.what.What.TheVariants.{Variable, Partition}
 use Rattle.leak_audit.specs.declared.report.AuditReport.{AuditReport}
@@ -46,21 +47,18 @@ head_lines o l budget runs levels =
     ++ (number_line (codes "budget ") budget ++ number_line (codes "levels ") levels))
 
 -- how they end: the different sequences, their bound, and the class of each run
-abbrev pub tail_lines : ℕ → ℕ → ℕ → List ℕ → List ℕ
-tail_lines distinct base exponent classes =
-    number_line (codes "distinct ") distinct ++ (bound_line base exponent ++ class_lines 1 classes)
+abbrev pub tail_lines : Measures → List ℕ
+tail_lines m = number_line (codes "distinct ") m.distinct ++ (bound_line m.base m.exponent ++ class_lines 1 m.classes.items)
 
 abbrev pub audit_lines : Order → Label → ℕ → AuditReport → List ℕ
 audit_lines o l budget r =
-    head_lines o l budget r.runs r.levels
-    ++ (number_line (codes "mitigations ") r.mitigations ++ tail_lines r.distinct r.base r.exponent r.classes.items)
+    head_lines o l budget r.runs r.measures.levels ++ (number_line (codes "mitigations ") r.mitigations ++ tail_lines r.measures)
 
 -- an audit of runs that may not have halted
 abbrev pub cut_lines : Order → Label → ℕ → CutReport → List ℕ
 cut_lines o l budget r =
-    head_lines o l budget r.runs r.levels
-    ++ (number_line (codes "ended ") r.ended ++ (number_line (codes "halted ") r.halted
-    ++ tail_lines r.distinct r.base r.exponent r.classes.items))
+    head_lines o l budget r.runs r.measures.levels
+    ++ (number_line (codes "ended ") r.ended ++ (number_line (codes "halted ") r.halted ++ tail_lines r.measures))
 
 abbrev pub place_name : Place → List ℕ
 place_name Page = codes "page"

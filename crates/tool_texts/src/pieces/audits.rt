@@ -9,6 +9,7 @@ use crate::lines::report::{bound, class, label, made};
 use cut_audit::report::CutReport;
 use label_lattice::label::Label;
 use label_lattice::lattice::Lattice;
+use leak_audit::measure::Measures;
 use leak_audit::report::AuditReport;
 use std::alloc::AllocError;
 
@@ -41,18 +42,12 @@ fn put_head(
 }
 
 // Appends the lines with which they end.
-fn put_tail(
-    text: &mut Vec<u8>,
-    distinct: u32,
-    base: u64,
-    exponent: u32,
-    classes: &[u32],
-) -> Result<(), AllocError>
-    ensures { OnOk result (text.new.items ≡ text.old.items ++ tail_lines distinct base exponent classes.now) }
+fn put_tail(text: &mut Vec<u8>, measures: &Measures) -> Result<(), AllocError>
+    ensures { OnOk result (text.new.items ≡ text.old.items ++ tail_lines measures.now) }
 {
-    put_number(text, b"distinct ", distinct as u64)?;
-    put(text, &bound(base, exponent))?;
-    put_classes(text, classes)?;
+    put_number(text, b"distinct ", measures.distinct as u64)?;
+    put(text, &bound(measures.base, measures.exponent))?;
+    put_classes(text, measures.classes.as_slice())?;
     Ok(())
 }
 
@@ -69,10 +64,10 @@ pub fn put_audit(
 ) -> Result<(), AllocError>
     ensures { OnOk result (text.new.items ≡ text.old.items ++ audit_lines order.now observer budget report.now) }
 {
-    put_head(text, order, observer, budget, report.runs, report.levels)?;
+    let levels = report.measures.levels;
+    put_head(text, order, observer, budget, report.runs, levels)?;
     put_number(text, b"mitigations ", report.mitigations)?;
-    let classes = report.classes.as_slice();
-    put_tail(text, report.distinct, report.base, report.exponent, classes)?;
+    put_tail(text, &report.measures)?;
     Ok(())
 }
 
@@ -89,11 +84,11 @@ pub fn put_cut(
 ) -> Result<(), AllocError>
     ensures { OnOk result (text.new.items ≡ text.old.items ++ cut_lines order.now observer budget report.now) }
 {
-    put_head(text, order, observer, budget, report.runs, report.levels)?;
+    let levels = report.measures.levels;
+    put_head(text, order, observer, budget, report.runs, levels)?;
     put_number(text, b"ended ", report.ended)?;
     put_number(text, b"halted ", report.halted as u64)?;
-    let classes = report.classes.as_slice();
-    put_tail(text, report.distinct, report.base, report.exponent, classes)?;
+    put_tail(text, &report.measures)?;
     Ok(())
 }
 

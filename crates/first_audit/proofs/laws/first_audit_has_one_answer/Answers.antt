@@ -1,5 +1,0 @@
-use Rattle.first_audit.proofs.Whole.{has_one}
-use Rattle.first_audit.proofs.laws.first_audit_has_one_answer.Goals as goal
-
-pub returns : goal.returns
-returns c = λ content before now file starts h k n s t a. has_one c.one_answer.ensures content before now file starts h k n s t a

@@ -1,5 +1,0 @@
-use Rattle.first_audit.proofs.MadeOne.{made_one}
-use Rattle.first_audit.proofs.laws.made_program_exists.Goals as goal
-
-pub returns : goal.returns
-returns c = made_one c.args.size c.args.number c.requires c.made_text_has_words.ensures

@@ -1,9 +1,0 @@
-pub mod Order
-mod Cut
-mod Program
-mod Spelled
-mod Types
-mod Runs
-mod Whole
-mod Asked
-pub mod Ended

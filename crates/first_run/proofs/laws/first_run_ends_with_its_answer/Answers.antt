@@ -1,5 +1,0 @@
-use Rattle.first_run.proofs.Ended.{run_ends}
-use Rattle.first_run.proofs.laws.first_run_ends_with_its_answer.Goals as goal
-
-pub returns : goal.returns
-returns c = λ content before now file budget h k n old new s e w. run_ends c.one_answer.ensures content before now file budget h k n old new s e w

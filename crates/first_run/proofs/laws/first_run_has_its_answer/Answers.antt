@@ -1,7 +1,0 @@
-use Rattle.std.specs.Prelude.{List, ℕ}
-use Rattle.tim_base.specs.Faults.{Rose}
-use Rattle.first_run.proofs.Whole.{has_answer}
-use Rattle.first_run.proofs.laws.first_run_has_its_answer.Goals as goal
-
-pub returns : goal.returns
-returns c = λ content before now file budget h k. has_answer (λ (name : List ℕ). Rose (before name) (now name)) content file budget h k
