@@ -1,10 +1,11 @@
 -- The image of a labelled program, and why there is none.
-use Rattle.std.specs.Prelude.{◌≡◌, ◌<◌, length}
+use Rattle.std.specs.Prelude.{◌≡◌, ◌<◌, List, length}
 use Rattle.mit_syntax.specs.Declarations.{variables}
 use Rattle.mit_syntax.specs.Program.{plan_of}
 use Rattle.timing_types.specs.Labelled.{LabelledProgram, order_of, labels_of, bare_of}
 use Rattle.source_meaning.specs.Same.{MeansSame}
 use Rattle.env_contract.specs.Env.{Env}
+use Rattle.label_code.specs.declared.code.Instr.{Instr}
 use Rattle.label_code.specs.Shaped.{Code}
 use Rattle.code_lower.specs.Code.{image_of}
 use Rattle.code_lower.specs.Depth.{most_operands, deepest}
@@ -12,11 +13,15 @@ use Rattle.code_lower.specs.Follows.{KeepsOrder}
 use Rattle.code_lower.specs.declared.lower.LowerFault.{LowerFault}
 use Rattle.code_lower.specs.declared.lower.LowerFault.TheVariants.{TooLong, Memory}
 
--- of whatever length
+-- its instructions, of whatever number
+abbrev pub instrs_of : LabelledProgram → List Instr
+instrs_of p = image_of (order_of p) (labels_of p) (bare_of p)
+
+-- and all of it
 abbrev pub lowered : LabelledProgram → Code
 lowered p =
     record {
-      instrs = image_of (order_of p) (labels_of p) (bare_of p);
+      instrs = instrs_of p;
       variables = variables p.program.declarations;
       order = p.program.order;
       operands = most_operands (bare_of p);

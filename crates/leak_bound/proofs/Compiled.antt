@@ -8,11 +8,13 @@ use Rattle.mit_syntax.specs.Program.{plan_of}
 use Rattle.mit_syntax.specs.Valid.{AreNumbered}
 use Rattle.label_lattice.specs.Lattice.{Lattice, IsLattice}
 use Rattle.timing_types.specs.Typing.{label_of}
+use Rattle.timing_types.specs.Arrays.{ArraysIn}
 use Rattle.timing_types.specs.Placed.{labelled, bare}
 use Rattle.timing_types.specs.Contexts.{HasContexts}
 use Rattle.timing_types.specs.Labelling.{IsLabelling, marks_of, level_of}
 use Rattle.timing_types.specs.Labelled.{LabelledProgram, order_of, labels_of, levels_of, bare_of, HasType}
 use Rattle.label_code.specs.declared.code.Instr.{Instr}
+use Rattle.timing_types.proofs.Arrays.{labelled_arrays}
 use Rattle.code_lower.specs.Layout.{IsImage}
 use Rattle.leak_bound.specs.Relevant.{LevelsBelow, LevelsAre}
 use Rattle.leak_bound.specs.Sound.{IsCompiled}
@@ -92,9 +94,9 @@ module _ (ms : ℕ → Marks) (ls : ℕ → ℕ) where
       (ap (λ z. lat.flows z o && not (lat.flows (ls k) o)) h.0, contexts_tell lat g o at pc c (i + 1) h.1, contexts_tell lat g o at pc p (i + 1 + count c) h.2)
 
 -- a labelling of a numbered program that types it, with the image of its code
-pub compiled : (p : LabelledProgram) (image : List Instr) → IsLattice (order_of p) → AreNumbered 0 (plan_of p.program) → IsLabelling p.program p.labels → HasType p → IsImage (order_of p) (labels_of p) image (bare_of p) →
+pub compiled : (p : LabelledProgram) (image : List Instr) → IsLattice (order_of p) → AreNumbered 0 (plan_of p.program) → IsLabelling p.program p.labels → ArraysIn (labels_of p) (plan_of p.program) → HasType p → IsImage (order_of p) (labels_of p) image (bare_of p) →
     IsCompiled p.program.order (labels_of p) (levels_of p) image (bare_of p)
-compiled p image lattice numbered kept typed code =
+compiled p image lattice numbered kept arrays typed code =
     let ms = marks_of p.program.order p.labels in
     let ls = level_of p.program.order p.labels in
     record {
@@ -102,6 +104,7 @@ compiled p image lattice numbered kept typed code =
       levels = labelled_levels ms ls (plan_of p.program) 0 p.program.order.size kept.levels_below;
       told = labelled_told ms ls (plan_of p.program) 0;
       marks = labelled_marks ms ls (plan_of p.program) 0 0 numbered;
+      arrays = labelled_arrays (labels_of p) ms ls (plan_of p.program) 0 arrays;
       typed = typed;
       code = code;
     }

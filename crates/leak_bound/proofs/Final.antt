@@ -71,16 +71,16 @@ module _ {E : Type 0} {serves : E → Type 0} (v : Env E) (order : Order) (g ls 
   pub begins_by : (o t : ℕ) (rel : ℕ → Bool) → Tells lat g o rel lat.bottom p → (s : Start E) → Halts v image t s → Begins lat g ls o p s.memory (begun_count rel (run_from v image t s).core.log)
   begins_by o t rel other s h =
       let own = is_relevant lat g ls o p in
-      let a = begun_is v lat made.lattice laws g image p made.typed made.code o own (tells_relevant lat g ls o p made.marks made.told) t s h in
-      let b = begun_is v lat made.lattice laws g image p made.typed made.code o rel other t s h in
+      let a = begun_is v lat made.lattice laws g image p made.arrays made.typed made.code o own (tells_relevant lat g ls o p made.marks made.told) t s h in
+      let b = begun_is v lat made.lattice laws g image p made.arrays made.typed made.code o rel other t s h in
       subst (λ z. Begins lat g ls o p s.memory z) (a ∙ sym b) (begins_log o t s h)
 
   -- as many relevant mitigations end
   pub ended_by : (o t : ℕ) (rel : ℕ → Bool) → Tells lat g o rel lat.bottom p → (s : Start E) → ended_count rel (run_from v image t s).core.log ≡ ended_count (is_relevant lat g ls o p) (run_from v image t s).core.log
   ended_by o t rel other s =
       let own = is_relevant lat g ls o p in
-      ended_is v lat made.lattice laws g image p made.typed made.code o rel other t s
-      ∙ sym (ended_is v lat made.lattice laws g image p made.typed made.code o own (tells_relevant lat g ls o p made.marks made.told) t s)
+      ended_is v lat made.lattice laws g image p made.arrays made.typed made.code o rel other t s
+      ∙ sym (ended_is v lat made.lattice laws g image p made.arrays made.typed made.code o own (tells_relevant lat g ls o p made.marks made.told) t s)
 
   pub most_by : (o t : ℕ) (rel : ℕ → Bool) → Tells lat g o rel lat.bottom p → (starts : List (Start E)) → most_ended v image rel t starts ≡ most_ended v image (is_relevant lat g ls o p) t starts
   most_by o t rel other [] = refl
@@ -110,12 +110,12 @@ module _ {E : Type 0} {serves : E → Type 0} (v : Env E) (order : Order) (g ls 
           let rel = is_relevant lat g ls o p in
           let k = begun_count rel (run_from v image t s).core.log in
           let d = digits_is t some in
-          let few = few_halted_by v lat made.lattice laws g image p made.typed made.code o rel (tells o) t (others lat o order.size) (has_levels lat o order.size p made.levels) same tests d.0 d.2 s starts agree.0 halts in (
+          let few = few_halted_by v lat made.lattice laws g image p made.arrays made.typed made.code o rel (tells o) t (others lat o order.size) (has_levels lat o order.size p made.levels) same tests d.0 d.2 s starts agree.0 halts in (
             k,
             begins_log o t s halts.0,
             Each-map (λ s'. Agree v lat serves g o s s' × Halts v image t s') (λ s'. Begins lat g ls o p s'.memory k)
-                (λ s' a. subst (λ z. Begins lat g ls o p s'.memory z) (same_begun v lat made.lattice laws g image p made.typed made.code o rel (tells o) t s' s (back o s s' a.0) a.1 halts.0) (begins_log o t s' a.1))
-                (s ∷ starts) (each_both v lat made.lattice laws g image p made.typed made.code o rel (tells o) t (λ s'. Agree v lat serves g o s s') (Halts v image t) (s ∷ starts) agree.0 halts),
+                (λ s' a. subst (λ z. Begins lat g ls o p s'.memory z) (same_begun v lat made.lattice laws g image p made.arrays made.typed made.code o rel (tells o) t s' s (back o s s' a.0) a.1 halts.0) (begins_log o t s' a.1))
+                (s ∷ starts) (each_both v lat made.lattice laws g image p made.arrays made.typed made.code o rel (tells o) t (λ s'. Agree v lat serves g o s s') (Halts v image t) (s ∷ starts) agree.0 halts),
             by_digits o t _ k d.0 d.1 few,
           )
         where
@@ -125,11 +125,11 @@ module _ {E : Type 0} {serves : E → Type 0} (v : Env E) (order : Order) (g ls 
   pub shows_one : ShowsOne v order serves g ls image p
   shows_one = λ o low none t s s' a.
       let rel = is_relevant lat g ls o p in
-      let r = record_from v lat made.lattice laws g image p made.typed made.code o rel (tells o) t s in
-      let r' = record_from v lat made.lattice laws g image p made.typed made.code o rel (tells o) t s' in
-      let n : length r ≡ 0 = sym (ended_is v lat made.lattice laws g image p made.typed made.code o rel (tells o) t s) ∙ none_ended rel none (run_from v image t s).core.log in
-      let n' : length r' ≡ 0 = sym (ended_is v lat made.lattice laws g image p made.typed made.code o rel (tells o) t s') ∙ none_ended rel none (run_from v image t s').core.log in
-      seen_same v lat made.lattice laws g image p made.typed made.code o rel (tells o) t s s' a (empties r r' n n')
+      let r = record_from v lat made.lattice laws g image p made.arrays made.typed made.code o rel (tells o) t s in
+      let r' = record_from v lat made.lattice laws g image p made.arrays made.typed made.code o rel (tells o) t s' in
+      let n : length r ≡ 0 = sym (ended_is v lat made.lattice laws g image p made.arrays made.typed made.code o rel (tells o) t s) ∙ none_ended rel none (run_from v image t s).core.log in
+      let n' : length r' ≡ 0 = sym (ended_is v lat made.lattice laws g image p made.arrays made.typed made.code o rel (tells o) t s') ∙ none_ended rel none (run_from v image t s').core.log in
+      seen_same v lat made.lattice laws g image p made.arrays made.typed made.code o rel (tells o) t s s' a (empties r r' n n')
 
   pub is_cut_sound : CutSound v order serves g ls image p
   is_cut_sound =
@@ -138,5 +138,5 @@ module _ {E : Type 0} {serves : E → Type 0} (v : Env E) (order : Order) (g ls 
             let rel = is_relevant lat g ls o p in
             let d = digits_is t some in
             by_digits o t _ (most_ended v image rel t starts) d.0 d.1
-            (few_cut_by v lat made.lattice laws g image p made.typed made.code o rel (tells o) t (others lat o order.size) (has_levels lat o order.size p made.levels) same tests d.0 d.2 starts agree);
+            (few_cut_by v lat made.lattice laws g image p made.arrays made.typed made.code o rel (tells o) t (others lat o order.size) (has_levels lat o order.size p made.levels) same tests d.0 d.2 starts agree);
       }

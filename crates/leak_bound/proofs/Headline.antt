@@ -7,6 +7,7 @@ use Rattle.mit_syntax.specs.Todo.{Marked}
 use Rattle.mit_syntax.specs.Values.{value_of}
 use Rattle.label_lattice.specs.Lattice.{Lattice, IsLattice}
 use Rattle.timing_types.specs.Typing.{label_of, IsTyped}
+use Rattle.timing_types.specs.Arrays.{ArraysIn}
 use Rattle.env_contract.specs.Env.{Env}
 use Rattle.label_code.specs.Machine.{Core, Event, fetched, closed, start}
 use Rattle.label_code.specs.declared.code.Instr.{Instr}
@@ -86,7 +87,7 @@ pub Each-map : {X : Type 0} (P Q : X → Type 0) → ((x : X) → P x → Q x) �
 Each-map P Q f [] h = tt
 Each-map P Q f (x ∷ xs) h = (f x h.0, Each-map P Q f xs h.1)
 
-module _ {E : Type 0} {serves : E → Type 0} (v : Env E) (lat : Lattice) (ll : IsLattice lat) (laws : IsLawful v lat serves) (g : ℕ → ℕ) (image : List Instr) (p : Marked) (typed : IsTyped lat g p) (code : IsImage lat g image p) (o : ℕ) (rel : ℕ → Bool) (tells : Tells lat g o rel lat.bottom p) (t : ℕ) where
+module _ {E : Type 0} {serves : E → Type 0} (v : Env E) (lat : Lattice) (ll : IsLattice lat) (laws : IsLawful v lat serves) (g : ℕ → ℕ) (image : List Instr) (p : Marked) (arrays : ArraysIn g p) (typed : IsTyped lat g p) (code : IsImage lat g image p) (o : ℕ) (rel : ℕ → Bool) (tells : Tells lat g o rel lat.bottom p) (t : ℕ) where
   abbrev pub found : (s : Start E) → Whole v lat g image p code t s
   found s = whole v lat g image p code t s
 
@@ -106,7 +107,7 @@ module _ {E : Type 0} {serves : E → Type 0} (v : Env E) (lat : Lattice) (ll : 
 
   both : (x y : Start E) → AgreeTo x y → Both v lat ll laws g o t lat.bottom typed.0 (first_core v lat g image p code t x) (found x).after (first_core v lat g image p code t y) (found y).after (record_from x) (record_from y)
   both x y a =
-      two_run v lat ll laws g o t lat.bottom typed.0 (lat.bottom, typed.1, typed.2, ll.same lat.bottom, ll.lowest o) (record { memory = a.low; long = a.long; one = a.one; other = a.other; parts = a.parts }) (found x).run (found y).run
+      two_run v lat ll laws g o t lat.bottom typed.0 (lat.bottom, typed.1, arrays, ll.same lat.bottom, ll.lowest o) (record { memory = a.low; long = a.long; one = a.one; other = a.other; parts = a.parts }) (found x).run (found y).run
 
   pub seen_same : (x y : Start E) → AgreeTo x y → record_from x ≡ record_from y → seen_from v lat g image o t x ≡ seen_from v lat g image o t y
   seen_same x y a e =

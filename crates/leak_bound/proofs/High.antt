@@ -10,7 +10,8 @@ use Rattle.mit_syntax.specs.Values.{element, read, value_of}
 use Rattle.label_code.specs.Costs.{op_cost}
 use Rattle.doubling_schedule.specs.Doubling.{at_least_zero, misses_after}
 use Rattle.label_lattice.specs.Lattice.{Lattice, Flows, IsLattice}
-use Rattle.timing_types.specs.Typing.{label_of, index_label, ArraysIn, Types}
+use Rattle.timing_types.specs.Typing.{label_of, index_label, Types}
+use Rattle.timing_types.specs.Arrays.{ArraysIn}
 use Rattle.env_contract.specs.Env.{Env}
 use Rattle.env_contract.specs.declared.place.Place.{Place}
 use Rattle.label_code.specs.Machine.{Core, Opened, Wrote, Began, Ended, fetched, touched, waited, written, closed}

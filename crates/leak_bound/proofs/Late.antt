@@ -5,7 +5,8 @@ use Rattle.mit_syntax.specs.Expression.{Expression}
 use Rattle.mit_syntax.specs.Todo.{Marks}
 use Rattle.mit_syntax.specs.Values.{element, value_of}
 use Rattle.label_lattice.specs.Lattice.{Lattice, Flows, IsLattice}
-use Rattle.timing_types.specs.Typing.{label_of, index_label, ArraysIn, Types}
+use Rattle.timing_types.specs.Typing.{label_of, index_label, Types}
+use Rattle.timing_types.specs.Arrays.{ArraysIn}
 use Rattle.env_contract.specs.Env.{Env}
 use Rattle.label_code.specs.Machine.{Core, Event, Wrote, Began, Ended, fetched, touched, closed}
 use Rattle.code_lower.specs.Layout.{expr_size, size, raised}

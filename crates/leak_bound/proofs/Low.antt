@@ -9,7 +9,8 @@ use Rattle.mit_syntax.specs.Todo.{Marks}
 use Rattle.mit_syntax.specs.Values.{apply, element, read, value_of}
 use Rattle.label_code.specs.Costs.{op_cost}
 use Rattle.label_lattice.specs.Lattice.{Lattice, Flows, IsLattice}
-use Rattle.timing_types.specs.Typing.{label_of, index_label, HasArrays}
+use Rattle.timing_types.specs.Typing.{label_of, index_label}
+use Rattle.timing_types.specs.Arrays.{HasArrays}
 use Rattle.env_contract.specs.declared.place.Kind.{Kind}
 use Rattle.env_contract.specs.Env.{Env}
 use Rattle.label_code.specs.Machine.{Core, Opened, Wrote, fetched, touched, waited, written, closed}

@@ -108,4 +108,4 @@ same_counts q =
 
 -- a labelled program that is typed, with its image
 pub made_of : (q : LabelledProgram) → IsTypedWith q → IsCompiled q.program.order (labels_of q) (levels_of q) (lowered q).instrs (bare_of q)
-made_of q is = compiled q (lowered q).instrs is.lattice is.numbered is.labelling is.typed (image_is (order_of q) (labels_of q) (bare_of q))
+made_of q is = compiled q (lowered q).instrs is.lattice is.numbered is.labelling is.arrays is.typed (image_is (order_of q) (labels_of q) (bare_of q))

@@ -7,7 +7,8 @@ use Rattle.mit_syntax.specs.Todo.{Marks, Marked}
 use Rattle.mit_syntax.specs.Values.{element, value_of, holds}
 use Rattle.doubling_schedule.specs.Doubling.{at_least_zero, misses_after}
 use Rattle.label_lattice.specs.Lattice.{Lattice, Flows, IsLattice}
-use Rattle.timing_types.specs.Typing.{label_of, index_label, HasArrays, ArraysIn, Types}
+use Rattle.timing_types.specs.Typing.{label_of, index_label, Types}
+use Rattle.timing_types.specs.Arrays.{HasArrays, ArraysIn}
 use Rattle.env_contract.specs.Env.{Env}
 use Rattle.label_code.specs.Machine.{Core, Began, Ended, fetched, touched, closed}
 use Rattle.env_contract.specs.declared.place.Kind.TheVariants.{Code}

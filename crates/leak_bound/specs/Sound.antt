@@ -6,6 +6,7 @@ use Rattle.mit_syntax.specs.Values.{read}
 use Rattle.label_lattice.specs.Lattice.{Lattice, Flows, IsLattice}
 use Rattle.label_lattice.specs.Order.{Order, lattice_of, count_not_below}
 use Rattle.timing_types.specs.Typing.{IsTyped}
+use Rattle.timing_types.specs.Arrays.{ArraysIn}
 use Rattle.env_contract.specs.Env.{Env}
 use Rattle.env_contract.specs.Laws.{AgreeBelow}
 use Rattle.label_code.specs.Machine.{Event}
@@ -76,12 +77,13 @@ pub record CutSound {E M L : Type 0} (v : Env E) (order : Order) (serves : E →
       (same : List Event → List Event → Bool) → Tests same →
       distinct_count same (views (seen_from v (lattice_of order) g image o t) starts) ≤ bound order o t (most_ended v image (is_relevant (lattice_of order) g ls o p) t starts)
 
--- an accepted program with its labels and its image
+-- an accepted program, whose arrays have one label each, with its labels and its image
 pub record IsCompiled (order : Order) (g ls : ℕ → ℕ) (image : List Instr) (p : Marked) : Type 0 where
   pub lattice : IsLattice (lattice_of order)
   pub levels : LevelsBelow order.size p
   pub told : LevelsAre ls p
   pub marks : MarksFrom 0 p
+  pub arrays : ArraysIn g p
   pub typed : IsTyped (lattice_of order) g p
   pub code : IsImage (lattice_of order) g image p
 

@@ -4,6 +4,7 @@ use Rattle.mit_syntax.specs.Program.{plan_of}
 use Rattle.mit_syntax.specs.Valid.{AreNumbered}
 use Rattle.label_lattice.specs.Lattice.{IsLattice}
 use Rattle.label_lattice.specs.Order.{Order}
+use Rattle.timing_types.specs.Arrays.{ArraysIn}
 use Rattle.timing_types.specs.Labelling.{IsLabelling}
 use Rattle.timing_types.specs.Labelled.{LabelledProgram, order_of, labels_of, levels_of, bare_of, HasType}
 use Rattle.env_contract.specs.Env.{Env}
@@ -21,11 +22,12 @@ pub record SameCounts (q : LabelledProgram) : Type 0 where
 abbrev pub LabelsKeepCounts : Type 0
 LabelsKeepCounts = (q : LabelledProgram) → SameCounts q
 
--- a program whose marks are numbered in the order of the text, with a labelling that types it
+-- a program whose marks are numbered in the order of the text, with a labelling that types it and gives each array one label
 pub record IsTypedWith (q : LabelledProgram) : Type 0 where
   pub lattice : IsLattice (order_of q)
   pub numbered : AreNumbered 0 (plan_of q.program)
   pub labelling : IsLabelling q.program q.labels
+  pub arrays : ArraysIn (labels_of q) (plan_of q.program)
   pub typed : HasType q
 
 -- its image is sound for the program that is labelled

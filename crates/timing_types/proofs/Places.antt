@@ -3,7 +3,7 @@ use Rattle.std.proofs.Common.{◌≡◌, ℕ, ◌+◌, ◌*◌, ◌/◌, ◌<◌
 use Rattle.std.specs.Prelude.{ℤ, pos, negsuc, ◌+ℤ◌}
 use Rattle.std.proofs.lemmas.Int.{ints}
 use Rattle.mit_syntax.specs.Values.{place_of, element}
-use Rattle.timing_types.specs.Typing.{IsArray}
+use Rattle.timing_types.specs.Arrays.{IsArray}
 
 pub place_below : (n : ℕ) (z : ℤ) → 0 < n → place_of n z < n
 place_below n (pos k) h = mod-lt k h

@@ -6,7 +6,7 @@ use Rattle.label_lattice.specs.Lattice.{Lattice, Flows, IsLattice}
 use Rattle.mit_syntax.specs.Todo.{Done, Skip, Assign, Put, Sleep, If, While, Mitigate}
 use Rattle.timing_types.specs.declared.rule.TypeFault.{TypeFault}
 use Rattle.timing_types.specs.declared.rule.Rule.TheVariants.{Mtg as RMtg}
-use Rattle.timing_types.specs.Typing.{label_of, index_label, ArraysIn, Types, IsTyped}
+use Rattle.timing_types.specs.Typing.{label_of, index_label, Types, IsTyped}
 use Rattle.timing_types.specs.Placed.{Placed, Tree, bare}
 use Rattle.timing_types.specs.Walk.{Condition, demand, put_index, after, loop_start, walk_end, conditions, told, first_broken, AllHold, OfLevel, IsLeastStay}
 use Rattle.timing_types.proofs.Joins.{join_up, idem, comm, assoc, absorbs}
@@ -210,8 +210,8 @@ module _ (lat : Lattice) (ll : IsLattice lat) (g : ℕ → ℕ) where
       ((ty.1, both_hold lat (conditions lat g c pc start) (last ∷ conditions lat g r pc start) body.0 (ll.chain (walk_end lat g c pc start) ty.0 l.label body.1 ty.3, z.0)), z.1)
 
   -- a program is typed exactly where no condition is broken
-  pub typed : (p : Tree) → ArraysIn g (bare p) → first_broken lat (conditions lat g p lat.bottom lat.bottom) ≡ None → IsTyped lat g (bare p)
-  typed p ars h = (walk_end lat g p lat.bottom lat.bottom, typed_from p lat.bottom lat.bottom (all_hold lat (conditions lat g p lat.bottom lat.bottom) h), ars)
+  pub typed : (p : Tree) → first_broken lat (conditions lat g p lat.bottom lat.bottom) ≡ None → IsTyped lat g (bare p)
+  typed p h = (walk_end lat g p lat.bottom lat.bottom, typed_from p lat.bottom lat.bottom (all_hold lat (conditions lat g p lat.bottom lat.bottom) h))
 
   pub not_broken : (p : Tree) → IsTyped lat g (bare p) → first_broken lat (conditions lat g p lat.bottom lat.bottom) ≡ None
   not_broken p ty = none_broken lat (conditions lat g p lat.bottom lat.bottom) (holds_from p lat.bottom lat.bottom lat.bottom ty.0 (ll.same lat.bottom) ty.1).0

@@ -12,19 +12,14 @@ use Rattle.mit_syntax.specs.Valid.{IsValid}
 use Rattle.timing_types.specs.declared.rule.TypeFault.{TypeFault}
 use Rattle.timing_types.specs.Walk.{Passes}
 use Rattle.timing_types.specs.Contexts.{contexts}
-use Rattle.timing_types.specs.Labelling.{Labelling, IsLabelling, variable_of, marks_of, level_of, tree_of, broken_of, contexts_of}
+use Rattle.timing_types.specs.Labelling.{Labelling, variable_of, marks_of, level_of, tree_of, broken_of, contexts_of}
 use Rattle.timing_types.specs.Labelled.{LabelledProgram, order_of, labels_of, placed_of, HasType, first_broken_of, AreContexts}
 use Rattle.timing_types.proofs.Walk.{typed, not_broken, none_or_some}
-use Rattle.timing_types.proofs.Arrays.{arrays_in}
 use Rattle.timing_types.proofs.Pcs.{length_contexts, has_contexts}
 
 module _ (q : LabelledProgram) where
-  has_type : IsLattice (order_of q) → IsLabelling q.program q.labels → IsValid q.program → first_broken_of q ≡ None → HasType q
-  has_type ll kept valid h =
-      let o = q.program.order in
-      let g = labels_of q in
-      typed (order_of q) ll g (placed_of q)
-      (arrays_in o.size q.program.declarations g valid.arrays kept.declared (marks_of o q.labels) (level_of o q.labels) (plan_of q.program) 0 valid.known) h
+  has_type : IsLattice (order_of q) → first_broken_of q ≡ None → HasType q
+  has_type ll h = typed (order_of q) ll (labels_of q) (placed_of q) h
 
   are_contexts : (cs : List Label) → IsValid q.program → cs ≡ contexts (order_of q) (labels_of q) (plan_of q.program) q.program.order.bottom → AreContexts q cs
   are_contexts cs valid is =
@@ -59,10 +54,8 @@ module _ (q : LabelledProgram) where
     pub unbroken : (end : ℕ) → Passes (lattice_of o) (variable_of o l) b.number (tree_of o l (list_plan cs) 0) b.number Done end → first_broken_of q ≡ None
     unbroken end h = sym broken_is ∙ h.1
 
-    pub walked : (end : ℕ) → IsLattice (lattice_of o) → IsLabelling q.program q.labels → IsValid s' →
-        Passes (lattice_of o) (variable_of o l) b.number (tree_of o l (list_plan cs) 0) b.number Done end → HasType q
-    walked end ll kept valid h =
-        has_type (subst (λ z. IsLattice (lattice_of z)) order_is ll) kept (subst (λ z. IsValid z) hs' valid) (unbroken end h)
+    pub walked : (end : ℕ) → IsLattice (lattice_of o) → Passes (lattice_of o) (variable_of o l) b.number (tree_of o l (list_plan cs) 0) b.number Done end → HasType q
+    walked end ll h = has_type (subst (λ z. IsLattice (lattice_of z)) order_is ll) (unbroken end h)
 
     pub refused : (r : TypeFault) → IsLattice (lattice_of o) → broken_of o l (list_plan cs) 0 b.number b.number ≡ Some r → (first_broken_of q ≡ Some r) × (HasType q → ⊥)
     refused r ll h =

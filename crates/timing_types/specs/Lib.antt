@@ -1,4 +1,5 @@
 pub mod Typing
+pub mod Arrays
 pub mod Placed
 pub mod Walk
 pub mod Contexts

@@ -1,5 +1,5 @@
 -- The type system: which programs are accepted.
-use Rattle.std.specs.Prelude.{◌≡◌, ℕ, ◌+◌, ◌<◌}
+use Rattle.std.specs.Prelude.{◌≡◌, ℕ}
 use Rattle.mit_syntax.specs.Expression.{Expression}
 use Rattle.mit_syntax.specs.Expression.{Number, Variable, Binary, Element}
 use Rattle.mit_syntax.specs.Todo.{Marked, Done, Skip, Assign, Put, Sleep, If, While, Mitigate}
@@ -18,29 +18,6 @@ index_label lat g (Number n) = lat.bottom
 index_label lat g (Variable x) = lat.bottom
 index_label lat g (Binary o l r) = lat.join (index_label lat g l) (index_label lat g r)
 index_label lat g (Element f n i) = label_of lat g i
-
--- all elements of an array have the label of its first, and it has one
-pub record IsArray (g : ℕ → ℕ) (f n : ℕ) : Type 0 where
-  pub some : 0 < n
-  pub same : (k : ℕ) → k < n → g (f + k) ≡ g f
-
--- the arrays of an expression are arrays
-abbrev pub HasArrays : (ℕ → ℕ) → Expression → Type 0
-HasArrays g (Number n) = Unit {0}
-HasArrays g (Variable x) = Unit {0}
-HasArrays g (Binary o l r) = HasArrays g l × HasArrays g r
-HasArrays g (Element f n i) = IsArray g f n × HasArrays g i
-
--- of each expression and assignment of a list
-abbrev pub ArraysIn : (ℕ → ℕ) → Marked → Type 0
-ArraysIn g Done = Unit {0}
-ArraysIn g (Skip m r) = ArraysIn g r
-ArraysIn g (Assign m x e r) = HasArrays g e × ArraysIn g r
-ArraysIn g (Put m f n i e r) = (IsArray g f n × HasArrays g i × HasArrays g e) × ArraysIn g r
-ArraysIn g (Sleep m e r) = HasArrays g e × ArraysIn g r
-ArraysIn g (If m e a b r) = HasArrays g e × ArraysIn g a × ArraysIn g b × ArraysIn g r
-ArraysIn g (While m e c r) = HasArrays g e × ArraysIn g c × ArraysIn g r
-ArraysIn g (Mitigate m k l e c r) = HasArrays g e × ArraysIn g c × ArraysIn g r
 
 -- Types lat g pc t p end: the list p is typed at pc from the start label t with this end label
 abbrev pub Types : Lattice → (ℕ → ℕ) → ℕ → ℕ → Marked → ℕ → Type 0
@@ -78,6 +55,6 @@ Types lat g pc t (Mitigate m k l e c r) end =
     × Flows lat t' l
     × Types lat g pc start r end
 
--- accepted: typed from bottom, and each array has one label
+-- accepted: typed from bottom
 abbrev pub IsTyped : Lattice → (ℕ → ℕ) → Marked → Type 0
-IsTyped lat g p = (end : ℕ) × Types lat g lat.bottom lat.bottom p end × ArraysIn g p
+IsTyped lat g p = (end : ℕ) × Types lat g lat.bottom lat.bottom p end

@@ -6,7 +6,7 @@ pub returns-clause-typed : goal.returns-clause-typed
 returns-clause-typed c =
     walked c.args.p.now c.program.result.now c.program-2.result.now c.lattice-order.result c.labels.result.now c.body.result.now c.bottom-bottom.result
     c.program.ensures.program c.program-2.ensures.program c.lattice-order.ensures c.labels.ensures c.body.ensures.body c.bottom-bottom.ensures.value
-    c.in_ok-list_walk.field-0.1.number c.laws.ensures.lattice c.program.ensures.labelling c.body.ensures.valid c.in_ok-list_walk.ensures.passes
+    c.in_ok-list_walk.field-0.1.number c.laws.ensures.lattice c.in_ok-list_walk.ensures.passes
 
 pub returns-clause-whole : goal.returns-clause-whole
 returns-clause-whole c =
