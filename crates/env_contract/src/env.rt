@@ -11,6 +11,11 @@ use label_lattice::label::Label;
 /// The most cycles that an access costs beyond its instruction.
 pub const MAX_PENALTY: u32 = 1000;
 
+/// Says nothing at run time: what the clause on an access allows is what the constant says.
+pub fn limit_is()
+    ensures { MAX_PENALTY ≡ 1000 }
+{}
+
 /// What an access costs beyond its instruction, and what it changes.
 pub trait MachineEnv {
     ghost use Rattle.env_contract.specs.Env.{Env};
@@ -28,7 +33,7 @@ pub trait MachineEnv {
             × (serves order self.old × (er.number < order.size) × (ew.number < order.size)) }
         ensures cost { result ≡ env.cost_of kind address er.number ew.number self.old }
         ensures next { self.new ≡ env.next_of kind address er.number ew.number self.old }
-        ensures small { result ≤ MAX_PENALTY }
+        ensures small { result ≤ 1000 }
         ensures serves { (order : Order) → serves order self.old → serves order self.new };
 
     /// Whether both hold the same at the place for the label. Takes no memory.

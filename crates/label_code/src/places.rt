@@ -2,6 +2,9 @@
 
 ghost use Rattle.std.specs.Prelude.{◌≡◌, ◌+◌, ◌*◌, ◌/◌, ◌^◌, ◌<◌, ◌≤◌, ℕ};
 
+use crate::image::MAX_INSTRUCTIONS;
+use mit_syntax::declarations::MAX_CELLS;
+
 /// How many bytes an instruction takes. The first one lies at address 0.
 pub const INSTRUCTION_BYTES: u32 = 4;
 
@@ -12,6 +15,7 @@ pub const DATA_START: u32 = 1_048_576;
 pub const CELL_BYTES: u32 = 8;
 
 /// The address of an instruction, by its place in the code.
+#[inline(always)]
 pub fn code_address(place: u32) -> u32
     requires { place < 2 ^ 30 }
     ensures { result ≡ 4 * place }
@@ -20,6 +24,7 @@ pub fn code_address(place: u32) -> u32
 }
 
 /// The address of a variable, by its number.
+#[inline(always)]
 pub fn data_address(variable: u32) -> u32
     requires { variable < 2 ^ 28 }
     ensures { result ≡ 2 ^ 20 + 8 * variable }
@@ -30,7 +35,7 @@ pub fn data_address(variable: u32) -> u32
 /// Says nothing at run time: the instructions of an image and its variables share no byte and no page of 1,024 bytes,
 /// no two variables share a byte, and all lie below 2^32.
 pub fn code_and_data_lie_apart()
-    ensures pages { (a x : ℕ) → a < 200000 → (4 * a + 3) / 1024 < (2 ^ 20 + 8 * x) / 1024 }
+    ensures pages { (a x : ℕ) → a < MAX_INSTRUCTIONS → (4 * a + 3) / 1024 < (2 ^ 20 + 8 * x) / 1024 }
     ensures cells { (x y : ℕ) → x < y → 2 ^ 20 + 8 * x + 8 ≤ 2 ^ 20 + 8 * y }
-    ensures fits { (x : ℕ) → x < 3072 → 2 ^ 20 + 8 * x + 8 < 2 ^ 32 }
+    ensures fits { (x : ℕ) → x < MAX_CELLS → 2 ^ 20 + 8 * x + 8 < 2 ^ 32 }
 {}

@@ -9,7 +9,7 @@ ghost use Rattle.part_tlb.specs.Structures.{IsMadeFor, StandsForAll, part_at, wa
 ghost use Rattle.part_tlb.specs.Envs.{part_structure, line_cache, part_touched, part_penalty, part_after, empty_part};
 
 use crate::lookup::{Hits, look_and_touch, tag_at};
-use env_contract::env::MachineEnv;
+use env_contract::env::{MAX_PENALTY, MachineEnv};
 use env_contract::make::MakeEnv;
 use env_contract::place::{Kind, Place, Touch};
 use label_lattice::label::Label;
@@ -113,7 +113,7 @@ impl MachineEnv for PartEnv {
             × (IsMadeFor part_structure order self.old × (er.number < order.size) × (ew.number < order.size)) }
         ensures cost { result ≡ part_penalty kind address er.number ew.number self.old }
         ensures next { self.new ≡ part_after kind address er.number ew.number self.old }
-        ensures small { result ≤ 1000 }
+        ensures small { result ≤ MAX_PENALTY }
         ensures serves { (order : Order) → IsMadeFor part_structure order self.old → IsMadeFor part_structure order self.new }
         ensures history_cost { (order : Order) (h : List Placed) → IsMadeFor part_structure order self.old
             → StandsForAll part_structure self.old h

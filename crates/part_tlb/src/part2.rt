@@ -9,7 +9,7 @@ ghost use Rattle.part_tlb.specs.Envs.{part2_structure, part2_touched, part2_pena
 
 use crate::lookup::{look_and_touch, miss_cost, tag_at};
 use crate::part::PartEnv;
-use env_contract::env::MachineEnv;
+use env_contract::env::{MAX_PENALTY, MachineEnv};
 use env_contract::make::MakeEnv;
 use env_contract::place::{Kind, Place, Touch};
 use label_lattice::label::Label;
@@ -73,7 +73,7 @@ impl MachineEnv for Part2Env {
             × (IsMadeFor part2_structure order self.old × (er.number < order.size) × (ew.number < order.size)) }
         ensures cost { result ≡ part2_penalty kind address er.number ew.number self.old }
         ensures next { self.new ≡ part2_after kind address er.number ew.number self.old }
-        ensures small { result ≤ 1000 }
+        ensures small { result ≤ MAX_PENALTY }
         ensures serves { (order : Order) → IsMadeFor part2_structure order self.old → IsMadeFor part2_structure order self.new }
         ensures history_cost { (order : Order) (h : List Placed) → IsMadeFor part2_structure order self.old
             → StandsForAll part2_structure self.old h
