@@ -1,6 +1,6 @@
 use crate::line::Line;
-use crate::shelf::{FetchFault, MemShelf, Shelf};
-use crate::sink::{MemSink, Sink, SinkFault, write_all};
+use crate::shelf::{FetchFault, MemShelf, RecordedShelf, Shelf};
+use crate::sink::{MemSink, RecordedSink, Sink, SinkFault, write_all};
 use std::test::Fail;
 use text_base::pos::Memory;
 
@@ -56,6 +56,36 @@ fn sink_in_memory(rt: HostRuntime) -> Result<(), Memory> {
     let mut full = MemSink::new(rt.alloc());
     assert_eq!(rt; full.write(b""), Ok(0));
     assert_eq!(rt; full.write(b"x"), Err(SinkFault));
+    Ok(())
+}
+
+#[test]
+fn sink_that_records(rt: HostRuntime) -> Result<(), Memory> {
+    let mut sink = RecordedSink::new(rt.alloc(), 1);
+    assert_eq!(rt; write_all(&mut sink, b"one"), Ok(()));
+    assert_eq!(rt; sink.write(b"two"), Err(SinkFault));
+    assert_eq!(rt; sink.is_whole(), true);
+    let Some(last) = sink.writes().get(1) else {
+        return Err(Memory);
+    };
+    assert_eq!(rt; last.bytes.as_slice(), b"two".as_slice());
+    assert_eq!(rt; last.taken, false);
+    Ok(())
+}
+
+#[test]
+fn shelf_that_records(rt: HostRuntime) -> Result<(), Memory> {
+    let mut files = MemShelf::new(rt.alloc());
+    files.put("a", b"first")?;
+    let mut shelf = RecordedShelf::new(rt.alloc(), files);
+    let mut into = Vec::new(rt.alloc());
+    assert_eq!(rt; shelf.fetch(rt.alloc(), "a", &mut into), Ok(()));
+    assert_eq!(rt;
+        shelf.fetch(rt.alloc(), "b", &mut into),
+        Err(FetchFault::Failed)
+    );
+    assert_eq!(rt; shelf.is_whole(), true);
+    assert_eq!(rt; shelf.fetches().len(), 2);
     Ok(())
 }
 
