@@ -43,7 +43,7 @@ pub fn rechecked(alloc: Global, p: Program, bytes: &[u8]) -> Result<Typed, Stop>
     ensures ok { IfOk result (λ q. (content : Option (Option (List ℕ))) → IsTold content bytes.now → Rechecks content p q.labelled) }
     ensures stop { IfErr result (λ e. (content : Option (Option (List ℕ))) → IsTold content bytes.now → IsStop (CertificateStops ⊥ content p) e) }
 {
-    let _ = p.body();
+    p.laws();
     held_labelling_types();
     match recheck(alloc, p, bytes) {
         Ok(typed) => Ok(typed),

@@ -41,7 +41,7 @@ pub fn compile_program(
     ensures stop { IfErr result (IsStop (ProgramCompileStops program (option_map (λ s. s.now) name.entry))) }
     ensures sound { IfOk result (λ r. IsSound r.typed.labelled) }
 {
-    let _ = program.body();
+    program.laws();
     let observer = observer(&program.lattice(), name)?;
     let typed = typed(alloc, program)?;
     accepted_are_sound();

@@ -48,7 +48,7 @@ pub fn certificate(alloc: Global, q: &Labelled) -> Result<Vec<u8>, AllocError>
     ensures { IfOk result (λ v. v.items ≡ derived_text q.now) }
 {
     let order = q.program().lattice();
-    let _ = q.program().body();
+    q.program().laws();
     let lines = derive(alloc, q)?;
     let mut out = Vec::new(alloc);
     out.extend_from_slice(b"certificate 1\n")?;

@@ -97,7 +97,7 @@ fn read_variables<'a>(
 {
     let order = p.lattice();
     order.laws();
-    let _ = p.body();
+    p.laws();
     let declarations = p.declarations();
     let Some(mut rest) = after(bytes, b"certificate 1\n") else {
         return Err(CertFault::Line(1));
@@ -169,7 +169,7 @@ fn read(alloc: Global, p: &Program, bytes: &[u8]) -> Result<Contents, CertFault>
 {
     let order = p.lattice();
     order.laws();
-    let _ = p.body();
+    p.laws();
     let (declared, text) = read_variables(alloc, p, bytes)?;
     let variables = spread(alloc, p, &declared)?;
     let places = places(alloc, p, &declared, &variables)?;
@@ -233,7 +233,7 @@ pub fn recheck(alloc: Global, p: Program, bytes: &[u8]) -> Result<Typed, (Progra
     ensures kept { IfErr result (λ e. e.0 ≡ p) }
     ensures fault { IfErr result (λ e. IsCertFault p bytes.now e.1) }
 {
-    let _ = p.body();
+    p.laws();
     let contents = match read(alloc, &p, bytes) {
         Ok(contents) => contents,
         Err(fault) => return Err((p, fault)),

@@ -32,7 +32,7 @@ pub fn certify_text<S: Shelf>(alloc: Global, shelf: &mut S, file: &str) -> Resul
     ensures sound_stop { IfErr result (λ e. IsTrue (is_past_typing (status_of e)) → IsAccepted (S.content shelf.old file.now)) }
 {
     let program = read_program(alloc, shelf, file)?;
-    let _ = program.body();
+    program.laws();
     let typed = typed(alloc, program)?;
     accepted_are_sound();
     derived_texts_are_certificates();

@@ -32,9 +32,9 @@ pub fn check_line<S: Shelf>(alloc: Global, shelf: &mut S, file: &str) -> Result<
     ensures sound { OnOk result (IsAccepted (S.content shelf.old file.now)) }
 {
     let program = read_program(alloc, shelf, file)?;
-    let _ = program.body();
+    program.laws();
     let line = accepted(program.commands(), program.mitigates());
-    let _ = typed(alloc, program)?;
+    typed(alloc, program)?;
     accepted_are_sound();
     Ok(line)
 }

@@ -31,7 +31,7 @@ pub fn infer_text<S: Shelf>(alloc: Global, shelf: &mut S, file: &str) -> Result<
     ensures sound_stop { IfErr result (λ e. IsTrue (is_past_typing (status_of e)) → IsAccepted (S.content shelf.old file.now)) }
 {
     let program = read_program(alloc, shelf, file)?;
-    let _ = program.body();
+    program.laws();
     let typed = typed(alloc, program)?;
     accepted_are_sound();
     match print_labelled(alloc, typed.labelled()) {

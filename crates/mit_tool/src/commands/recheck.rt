@@ -34,6 +34,6 @@ pub fn recheck_line<S: Shelf>(
 {
     let program = read_program(alloc, shelf, file)?;
     let line = lines::rechecked(program.commands(), program.mitigates());
-    let _ = rechecked_by(alloc, shelf, certificate, program)?;
+    rechecked_by(alloc, shelf, certificate, program)?;
     Ok(line)
 }
