@@ -31,9 +31,11 @@ pub fn ready<S: Shelf>(
     ensures same { (name : List ℕ) → S.content shelf.new name ≡ S.content shelf.old name }
     ensures later { (name : List ℕ) → S.faults shelf.old name ≤ S.faults shelf.new name }
     ensures log { Fetches (file.now ∷ named (option_map (λ s. s.now) starts.entry)) (S.log shelf.old) (S.log shelf.new) result }
-    ensures ok { IfOk result (λ r. IsReady (S.content shelf.old) file.now (option_map (λ s. s.now) starts.entry) (option_map (λ s. s.now) name.entry) r.0.typed.labelled r.0.observer r.0.image (seen r.1)) }
+    ensures ok { IfOk result (λ r. IsReady (S.content shelf.old) file.now (option_map (λ s. s.now) starts.entry) (option_map (λ s. s.now) name.entry)
+        r.0.typed.labelled r.0.observer r.0.image (seen r.1)) }
     ensures valid { IfOk result (λ r. IsFor r.0.typed.labelled.program (seen r.1)) }
-    ensures stop { IfErr result (IsStop (RunStops (λ name. Rose (S.faults shelf.old name) (S.faults shelf.new name)) (S.content shelf.old) file.now (option_map (λ s. s.now) starts.entry) (option_map (λ s. s.now) name.entry))) }
+    ensures stop { IfErr result (IsStop (RunStops (λ name. Rose (S.faults shelf.old name) (S.faults shelf.new name)) (S.content shelf.old) file.now
+        (option_map (λ s. s.now) starts.entry) (option_map (λ s. s.now) name.entry))) }
     ensures sound { OnOk result (IsAccepted (S.content shelf.old file.now)) }
     ensures sound_stop { IfErr result (λ e. IsTrue (is_past_typing (status_of e)) → IsAccepted (S.content shelf.old file.now)) }
 {
@@ -62,7 +64,8 @@ pub fn source<S: Shelf>(
     ensures log { Fetches (file.now ∷ named (option_map (λ s. s.now) starts.entry)) (S.log shelf.old) (S.log shelf.new) result }
     ensures ok { IfOk result (λ r. HasSource (S.content shelf.old) file.now (option_map (λ s. s.now) starts.entry) r.0 (seen r.1)) }
     ensures valid { IfOk result (λ r. IsFor r.0 (seen r.1)) }
-    ensures stop { IfErr result (IsStop (MeaningStops (λ name. Rose (S.faults shelf.old name) (S.faults shelf.new name)) (S.content shelf.old) file.now (option_map (λ s. s.now) starts.entry))) }
+    ensures stop { IfErr result (IsStop (MeaningStops (λ name. Rose (S.faults shelf.old name) (S.faults shelf.new name)) (S.content shelf.old) file.now
+        (option_map (λ s. s.now) starts.entry))) }
 {
     let program = match read_program(alloc, shelf, file) {
         Ok(program) => program,

@@ -57,7 +57,8 @@ fn right_variable<'a>(
     name: Name,
     written: Option<Label>,
 ) -> Option<(Label, &'a [u8])>
-    ensures { MatchOption result ((l : Label) (q : List ℕ) → ReadsVariable order.now name text.now l q → IsKept written l.number → ⊥) (λ r. ReadsVariable order.now name text.now r.0 r.1.now × IsKept written r.0.number) }
+    ensures { MatchOption result ((l : Label) (q : List ℕ) → ReadsVariable order.now name text.now l q → IsKept written l.number → ⊥)
+        (λ r. ReadsVariable order.now name text.now r.0 r.1.now × IsKept written r.0.number) }
 {
     order.laws();
     let (label, rest) = variable(text, order, name)?;
@@ -75,7 +76,10 @@ fn right_line<'a>(
     place: &Place,
     lines: &[Line],
 ) -> Option<(Line, &'a [u8])>
-    ensures { MatchOption result ((x : Line) (q : List ℕ) → ReadsLine order.now number place.now.act text.now x q → Meets (lattice_of order.now) (line_at order.now.bottom lines.now) place.now x → ⊥) (λ r. ReadsLine order.now number place.now.act text.now r.0 r.1.now × Meets (lattice_of order.now) (line_at order.now.bottom lines.now) place.now r.0) }
+    ensures { MatchOption result ((x : Line) (q : List ℕ) → ReadsLine order.now number place.now.act text.now x q
+        → Meets (lattice_of order.now) (line_at order.now.bottom lines.now) place.now x → ⊥)
+        (λ r. ReadsLine order.now number place.now.act text.now r.0 r.1.now
+        × Meets (lattice_of order.now) (line_at order.now.bottom lines.now) place.now r.0) }
 {
     order.laws();
     let (line, rest) = line(text, order, number, place.act)?;
