@@ -1,5 +1,5 @@
 -- What stops before the typing or at the image does not come past the typing.
-use Rattle.std.proofs.Common.{◌≡◌, ◌≢◌, ℕ, List, Option, Some, inl, inr, refl, sym, subst, false, Vec, Global, Result, Ok, Err, IfErr, OnOk}
+use Rattle.std.proofs.Common.{◌≡◌, ◌≢◌, ℕ, List, Option, inl, inr, refl, sym, subst, false, Vec, Global, Result, Ok, Err, IfErr, OnOk}
 use Rattle.std.specs.Prelude.{IsTrue}
 use Rattle.label_lattice.specs.declared.label.Label.{Label}
 use Rattle.label_lattice.specs.Order.{Order}
