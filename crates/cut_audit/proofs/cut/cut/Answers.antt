@@ -46,7 +46,7 @@ returns-clause-bound g c =
     let same = c.labelled-labelled.ensures.labelled in
     let program = c.program-program.ensures.program ∙ ap (λ z. z.program) same in
     let order = c.lattice-order.ensures ∙ ap (λ z. z.order) program in
-    let made = typed_with p (subst (λ z. IsLattice (lattice_of z)) order c.laws.ensures.lattice) (subst IsValid program c.body.ensures.valid) (subst (λ z. IsLabelling z.program z.labels) same c.program-program.ensures.labelling) c.labelled-labelled.ensures.typed in
+    let made = typed_with p (subst (λ z. IsLattice (lattice_of z)) order c.laws.ensures.lattice) (subst IsValid program c.laws-2.ensures.valid) (subst (λ z. IsLabelling z.program z.labels) same c.program-program.ensures.labelling) c.labelled-labelled.ensures.typed in
     let sound : CutSound v p.program.order (g.E.MachineEnv.serves p.program.order) (labels_of p) (levels_of p) (lowered p).instrs (plan_of p.program) = c.lowered_few_sequences.ensures.cut p made in
     report_within v g.E.MachineEnv.serves p o t ss sound c.requires.observer c.requires.cycles _ (returns-clause-report g c)
 
