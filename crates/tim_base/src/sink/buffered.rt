@@ -4,6 +4,7 @@ ghost use Rattle.tim_base.specs.Faults.{Rose};
 ghost use Rattle.tim_base.specs.Sinks.{Grew, Waits};
 
 use super::{Sink, SinkFault, send};
+use run_watch::{RunNumber, Watch};
 use std::alloc::Global;
 use std::marker::{Brand, Model, PhantomData};
 
@@ -80,6 +81,16 @@ impl<W: Sink, B: Start> Buffered<W, B> {
         let mut waiting = self.waiting;
         let result = hand_on(&mut out, &mut waiting);
         (out, result)
+    }
+}
+
+impl<W: Sink, B: Start> Watch for Buffered<W, B> {
+    fn tell(&self, number: RunNumber, clock: u64, limit: u64) {
+        self.out.tell(number, clock, limit);
+    }
+
+    fn clear(&self) {
+        self.out.clear();
     }
 }
 

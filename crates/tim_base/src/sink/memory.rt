@@ -5,6 +5,7 @@ ghost use Rattle.tim_base.specs.MemorySinks.{empty_sink, write_fails};
 
 use super::{Sink, SinkFault};
 use crate::count::raise;
+use run_watch::{RunNumber, Watch};
 use std::alloc::Global;
 use std::marker::Model;
 use text_base::pos::Memory;
@@ -75,6 +76,12 @@ impl MemSink {
     {
         self.bytes.as_slice()
     }
+}
+
+impl Watch for MemSink {
+    fn tell(&self, _number: RunNumber, _clock: u64, _limit: u64) {}
+
+    fn clear(&self) {}
 }
 
 impl Sink for MemSink {

@@ -4,21 +4,23 @@ ghost use Rattle.tim_base.specs.Faults.{Rose, raised};
 
 use super::{Sink, SinkFault};
 use crate::count::{MAX_INTERRUPTED, raise};
+use run_watch::{RunNumber, Watch};
 use std::io::{ErrorKind, Write};
 use std::marker::Model;
 
 #[cfg(test)]
 mod tests;
 
-/// A writer of the system, with a count of its faults. Contracts see what the writer has taken, where it tells that, and
-/// the count.
+/// A writer of the system, with a count of its faults, and a watch whose line is taken away before each write. Contracts see
+/// what the writer has taken, where it tells that, and the count.
 #[derive(Drop)]
-pub struct OutSink<O: Write> {
+pub struct OutSink<O: Write, P: Watch> {
     out: O,
     faults: u64,
+    watch: P,
 }
 
-impl<O: Write> Model for OutSink<O> {
+impl<O: Write, P: Watch> Model for OutSink<O, P> {
     ghost use Rattle.tim_base.specs.Sinks.{OutTold};
 
     ghost Value = { OutTold };
@@ -26,12 +28,16 @@ impl<O: Write> Model for OutSink<O> {
     ghost view = { λ s. record { contents = O.contents s.out; faults = s.faults } };
 }
 
-impl<O: Write> OutSink<O> {
-    /// A writer, with no faults so far.
-    pub fn new(out: O) -> OutSink<O>
+impl<O: Write, P: Watch + Drop> OutSink<O, P> {
+    /// A writer, with no faults so far, and a watch.
+    pub fn new(out: O, watch: P) -> OutSink<O, P>
         ensures { result ≡ record { contents = O.contents out; faults = 0 } }
     {
-        OutSink { out, faults: 0 }
+        OutSink {
+            out,
+            faults: 0,
+            watch,
+        }
     }
 
     /// The writer, as it is.
@@ -53,7 +59,17 @@ impl<O: Write> OutSink<O> {
     }
 }
 
-impl<O: Write> Sink for OutSink<O> {
+impl<O: Write, P: Watch> Watch for OutSink<O, P> {
+    fn tell(&self, number: RunNumber, clock: u64, limit: u64) {
+        self.watch.tell(number, clock, limit);
+    }
+
+    fn clear(&self) {
+        self.watch.clear();
+    }
+}
+
+impl<O: Write, P: Watch> Sink for OutSink<O, P> {
     ghost taken = { λ s. s.contents };
 
     ghost faults = { λ s. s.faults };
@@ -71,6 +87,7 @@ impl<O: Write> Sink for OutSink<O> {
         ensures kept { OnOk result (self.new.faults ≡ self.old.faults) }
         ensures rose { OnErr result (self.new.faults ≡ raised self.old.faults) }
     {
+        self.watch.clear();
         match write_on(&mut self.out, piece) {
             Ok(count) => Ok(count),
             Err(fault) => {

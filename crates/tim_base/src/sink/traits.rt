@@ -5,9 +5,10 @@ ghost use Rattle.tim_base.specs.Sinks.{AppendsPrefix};
 ghost use Rattle.tim_base.specs.Logs.{Offered, offered, Grows, HasSent, HasBroken};
 
 use super::SinkFault;
+use run_watch::Watch;
 
-/// A place where bytes go.
-pub trait Sink {
+/// A place where bytes go. Who looks at it is told how far runs have come.
+pub trait Sink: Watch {
     /// The bytes that it has taken, where it tells them.
     ghost taken: { Self → Option (List ℕ) };
 

@@ -1,5 +1,6 @@
 use super::*;
 use crate::sink::{OutSink, write_all};
+use run_watch::Nobody;
 use std::io;
 use std::io::{ErrorKind, Write};
 use std::test::Fail;
@@ -29,12 +30,13 @@ impl Write for Narrow {
 
 // Writes two words through a buffer of 8 bytes, and tells what the writer has taken.
 fn written(alloc: Global, failing: u32) -> Result<(Vec<u8>, Result<(), SinkFault>), Fail> {
-    let out = OutSink::new(Narrow {
+    let narrow = Narrow {
         bytes: Vec::new(alloc),
         calls: 0,
         failing,
-    });
-    let Ok(mut buffered) = Buffered::<OutSink<Narrow>, Brand>::new(alloc, out, 8) else {
+    };
+    let out = OutSink::new(narrow, Nobody);
+    let Ok(mut buffered) = Buffered::<OutSink<Narrow, Nobody>, Brand>::new(alloc, out, 8) else {
         return Ok((Vec::new(alloc), Err(SinkFault)));
     };
     let first = write_all(&mut buffered, b"hello");
