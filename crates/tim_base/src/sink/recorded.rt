@@ -6,6 +6,7 @@ ghost use Rattle.tim_base.specs.Recorded.{offer_of, tried, taken_by, told_if};
 
 use super::{Sink, SinkFault};
 use crate::count::raise;
+use run_watch::{RunNumber, Watch};
 use std::alloc::Global;
 use std::marker::Model;
 use text_base::pos::Memory;
@@ -68,6 +69,12 @@ impl RecordedSink {
     {
         self.whole
     }
+}
+
+impl Watch for RecordedSink {
+    fn tell(&self, _number: RunNumber, _clock: u64, _limit: u64) {}
+
+    fn clear(&self) {}
 }
 
 impl Sink for RecordedSink {
