@@ -24,7 +24,9 @@ fn settle<L: Ledger>(p: &Program, work: &mut Worklist, steps: &mut Steps<L>)
     ensures done { IsDone work.new }
     ensures steps { (c : ℕ) → ChainsHaveUpTo p.now.order c → steps.new ≤ steps.old + shares_of p.now c }
 {
-    p.laws();
+    let _ = p.body();
+    let order = p.lattice();
+    order.laws();
     while work.take_up(steps) {}
 }
 

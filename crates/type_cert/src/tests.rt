@@ -87,7 +87,7 @@ fn mitigated(alloc: Global, lattice: Lattice, h: Name) -> Result<Program, AllocE
     requires name { h ≡ 104 ∷ [] }
 {
     lattice.laws();
-    h.laws();
+    let _ = h.bytes();
     let sleep = Command {
         pos: AT,
         labels: None,
