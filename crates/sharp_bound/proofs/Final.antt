@@ -203,7 +203,7 @@ module _ {E : Type 0} {serves : E → Type 0} (v : Env E) (order : Order) (g ls 
   -- two runs from starts that agree, typed to this end label
   pair_of : (o t : ℕ) (typed : IsTyped lat g p) (x y : Start E) → AgreeTo o x y → Both v lat made.lattice laws g o t lat.bottom typed.0 (first_core v lat g image p made.code t x) (found t x).whole.after (first_core v lat g image p made.code t y) (found t y).whole.after (record_at o t x) (record_at o t y)
   pair_of o t typed x y a =
-      two_run v lat made.lattice laws g o t lat.bottom typed.0 (lat.bottom, typed.1, typed.2, made.lattice.same lat.bottom, made.lattice.lowest o) (record { memory = a.low; long = a.long; one = a.one; other = a.other; parts = a.parts }) (found t x).whole.run (found t y).whole.run
+      two_run v lat made.lattice laws g o t lat.bottom typed.0 (lat.bottom, typed.1, made.arrays, made.lattice.same lat.bottom, made.lattice.lowest o) (record { memory = a.low; long = a.long; one = a.one; other = a.other; parts = a.parts }) (found t x).whole.run (found t y).whole.run
 
   fits_at : (o t : ℕ) (x y : Start E) → AgreeTo o x y → Fits (record_at o t x) (record_at o t y)
   fits_at o t x y a = (pair_of o t made.typed x y a).fits
@@ -224,7 +224,7 @@ module _ {E : Type 0} {serves : E → Type 0} (v : Env E) (order : Order) (g ls 
   -- with a low end label the ends are alike: at one cycle, or both past T
   ends_alike : (o t : ℕ) → EndsLow lat g p o → (x y : Start E) → AgreeTo o x y → record_at o t x ≡ record_at o t y → (end_at t x ≡ end_at t y) ⊎ ((t < end_at t x) × (t < end_at t y))
   ends_alike o t ends x y a e =
-      let typed : IsTyped lat g p = (ends.0, ends.1, made.typed.2) in
+      let typed : IsTyped lat g p = (ends.0, ends.1) in
       let s = (found t x).whole.after in
       let s' = (found t y).whole.after in
       let alike = (timed_at o t typed x y a e).clock ends.2 in

@@ -188,14 +188,13 @@ module _ {E : Type 0} (serves : E → Type 0) (part : Place → ℕ → E → Li
           ll.least _ _ high (ll.least _ _ high (none_more high) (ll.same high)) (ll.lowest high),
           (ll.least _ _ o (ll.least _ _ o (none_more o) (none_more o)) (ll.lowest o), none lat.bottom, refl),
         ),
-        (tt, (tt, tt), (tt, tt)),
       )
 
   code : IsImage lat g image (naps lat high)
   code = ((refl, refl, (refl, refl, tt), refl, (refl, refl, tt)), refl)
 
   compiled : high < order.size → IsCompiled order g ls image (naps lat high)
-  compiled h = record { lattice = ll; levels = (h, tt, tt); told = (refl, tt, tt); marks = (refl, tt, tt); typed = typed; code = code }
+  compiled h = record { lattice = ll; levels = (h, tt, tt); told = (refl, tt, tt); marks = (refl, tt, tt); arrays = (tt, (tt, tt), (tt, tt)); typed = typed; code = code }
 
   agree : (e : E) → serves e → (a b : ℕ) → Agree v lat serves g o (power e a) (power e b)
   agree e s a b =

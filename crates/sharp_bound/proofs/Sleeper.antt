@@ -32,7 +32,7 @@ module _ {E : Type 0} (serves : E → Type 0) (part : Place → ℕ → E → Li
   image = sleeps_image lat high o
 
   typed : IsTyped lat g (sleeps lat)
-  typed = (lat.join (lat.join lat.bottom high) lat.bottom, (ll.least lat.bottom lat.bottom lat.bottom (ll.lowest lat.bottom) (ll.lowest lat.bottom), refl), (tt, tt))
+  typed = (lat.join (lat.join lat.bottom high) lat.bottom, (ll.least lat.bottom lat.bottom lat.bottom (ll.lowest lat.bottom) (ll.lowest lat.bottom), refl))
 
   code : IsImage lat g image (sleeps lat)
   code = ((refl, refl, tt), refl)
@@ -94,7 +94,7 @@ module _ {E : Type 0} (serves : E → Type 0) (part : Place → ℕ → E → Li
   tells : SleeperTells v order serves o high
   tells =
       record {
-        accepted = record { lattice = ll; levels = tt; told = tt; marks = tt; typed = typed; code = code };
+        accepted = record { lattice = ll; levels = tt; told = tt; marks = tt; arrays = (tt, tt); typed = typed; code = code };
         begins = λ memory. (1, refl, λ l. refl);
         ends_high = ends_high;
         long = long;
