@@ -17,7 +17,6 @@ use Rattle.timing_types.specs.Walk.{OfLevel, Condition, demand, put_index, here,
 use Rattle.timing_types.specs.Labelling.{Labelling, variable_of, marks_of, level_of, tree_of, IsKept, Keeps}
 use Rattle.timing_types.proofs.Joins.{join_up}
 use Rattle.timing_types.proofs.Walk.{parts_hold, both_hold, typed_from, holds_from}
-use Rattle.timing_types.proofs.Arrays.{arrays_in}
 use Rattle.label_infer.specs.Least.{own, is_free, is_omitted, MeetsOmitted, IsLeast, TypesMost}
 use Rattle.label_infer.proofs.Meeting.{parts_meet, holds_meet, label_up, index_up, put_up, here_up, inner_up}
 use Rattle.label_infer.proofs.Completed.{lattice_laws, same_written}
@@ -204,5 +203,4 @@ types_most s valid l best l' h' ty =
     let mine : AllHold lat (conditions lat g (tree_of o l p 0) b b) = subst (λ z. AllHold lat (conditions lat g z b b)) (sym tree) all in (
       walk_end lat g (tree_of o l p 0) b b,
       typed_from lat ll g (tree_of o l p 0) b b mine,
-      arrays_in o.size ds g valid.arrays best.labels.keeps.declared (marks_of o l) lv p 0 valid.known,
     )
