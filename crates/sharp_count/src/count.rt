@@ -17,11 +17,13 @@ pub struct LevelRuns {
 }
 
 impl LevelRuns {
-    /// What is told of a level whose relevant mitigations have these first predictions.
+    /// What is told of a level whose relevant mitigations have these first predictions. Where there are none, 1 stands
+    /// for the least.
     pub fn of(firsts: &[u64]) -> LevelRuns
         ensures mitigations { result.mitigations ≡ length firsts.now }
         ensures least { EachIndex firsts.now (λ k. result.first ≤ slice_index firsts.now k) }
         ensures one { 0 < length firsts.now → SomeIndex firsts.now (λ k. result.first ≡ slice_index firsts.now k) }
+        ensures none { length firsts.now ≡ 0 → result.first ≡ 1 }
     {
         LevelRuns {
             mitigations: firsts.len() as u64,
