@@ -17,7 +17,6 @@ use Rattle.timing_types.specs.Placed.{bare, labelled}
 use Rattle.timing_types.specs.Contexts.{HasContexts}
 use Rattle.timing_types.specs.Labelling.{Labelling, IsLabelling, label_at, marks_of, Keeps}
 use Rattle.timing_types.specs.Labelled.{LabelledProgram, HasType, AreContexts}
-use Rattle.timing_types.proofs.Arrays.{arrays_in}
 use Rattle.label_infer.specs.Least.{HasOwn, Labels}
 use Rattle.label_infer.specs.Given.{AllFrom}
 use Rattle.label_infer.proofs.Placed.{from_first, from_map}
@@ -152,8 +151,7 @@ module _ (s : Syntax) (valid : IsValid s) (ls : List Label) (xs : List Line) (by
   pub has_type : HasType mine
   has_type =
       let q = sound lat g E lv s.order.size s.declarations (plan_of s) 0 b First Open b all_meet all_marks.levels valid.known refl in
-      let ty = subst (λ z. (end : ℕ) × Types lat g b b (bare (labelled z lv (plan_of s) 0)) end) same_marks (_, q.0) in
-      (ty.0, ty.1, arrays_in s.order.size s.declarations g valid.arrays is_labelling.declared (marks_of s.order held) lv (plan_of s) 0 valid.known)
+      subst (λ z. (end : ℕ) × Types lat g b b (bare (labelled z lv (plan_of s) 0)) end) same_marks (_, q.0)
 
   pub are_contexts : AreContexts mine (pcs_in xs)
   are_contexts =
