@@ -1,7 +1,7 @@
 //! The machine that counts cycles: an image runs over an environment, from one event to the next.
 #![tactic(auto)]
 
-mod access;
+pub mod access;
 pub mod end;
 pub mod laws;
 pub mod machine;

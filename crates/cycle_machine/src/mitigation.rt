@@ -7,17 +7,18 @@ use crate::access::{fetch, pass};
 use crate::state::{Open, Outcome, State};
 use env_contract::env::MachineEnv;
 use label_code::code::Work;
-use label_lattice::label::Label;
+use label_code::image::MAX_INSTRUCTIONS;
+use label_lattice::label::{Label, MAX_LABELS};
 
 impl<E: MachineEnv> State<E> {
     /// MITB.
     #[inline(always)]
     pub fn begin(&mut self, level: Label, mark: u32, er: Label, ew: Label, limit: u64) -> Outcome
-        requires place { self.old.place < 200000 }
+        requires place { self.old.place < MAX_INSTRUCTIONS }
         requires served { IsServed E.serves self.old.env er ew }
         requires depth { 0 < vec_len self.old.operands }
         requires room { vec_len self.old.opened < vec_capacity self.old.opened }
-        requires known { level.number < 32 }
+        requires known { level.number < MAX_LABELS }
         ensures took { Took E.env self.old (record { work = Work.Mitb level mark; er = er; ew = ew }) limit result self.new }
         ensures keeps { Keeps E.serves self.old self.new }
     {
@@ -45,7 +46,7 @@ impl<E: MachineEnv> State<E> {
     /// MITE. A mitigation never ends before its fetch does, so the limit is tested first after that.
     #[inline(always)]
     pub fn end(&mut self, er: Label, ew: Label, limit: u64) -> Outcome
-        requires place { self.old.place < 200000 }
+        requires place { self.old.place < MAX_INSTRUCTIONS }
         requires served { IsServed E.serves self.old.env er ew }
         requires open { 0 < vec_len self.old.opened }
         ensures took { Took E.env self.old (record { work = Work.Mite; er = er; ew = ew }) limit result self.new }

@@ -8,15 +8,17 @@ use crate::state::{Outcome, State};
 use env_contract::env::MachineEnv;
 use label_code::code::Work;
 use label_code::cost::op_cost;
+use label_code::image::MAX_INSTRUCTIONS;
 use label_lattice::label::Label;
 use mit_syntax::ast::Op;
+use mit_syntax::declarations::MAX_CELLS;
 use mit_syntax::values::element;
 
 impl<E: MachineEnv> State<E> {
     /// PUSH.
     #[inline(always)]
     pub fn push(&mut self, n: i64, er: Label, ew: Label, limit: u64) -> Outcome
-        requires place { self.old.place < 200000 }
+        requires place { self.old.place < MAX_INSTRUCTIONS }
         requires served { IsServed E.serves self.old.env er ew }
         requires room { vec_len self.old.operands < vec_capacity self.old.operands }
         ensures took { Took E.env self.old (record { work = Work.Push n; er = er; ew = ew }) limit result self.new }
@@ -38,11 +40,11 @@ impl<E: MachineEnv> State<E> {
     /// LOAD.
     #[inline(always)]
     pub fn load(&mut self, x: u32, er: Label, ew: Label, limit: u64) -> Outcome
-        requires place { self.old.place < 200000 }
+        requires place { self.old.place < MAX_INSTRUCTIONS }
         requires served { IsServed E.serves self.old.env er ew }
         requires room { vec_len self.old.operands < vec_capacity self.old.operands }
         requires range { x < vec_len self.old.memory }
-        requires few { x < 3072 }
+        requires few { x < MAX_CELLS }
         ensures took { Took E.env self.old (record { work = Work.Load x; er = er; ew = ew }) limit result self.new }
         ensures keeps { Keeps E.serves self.old self.new }
     {
@@ -63,11 +65,11 @@ impl<E: MachineEnv> State<E> {
     /// STORE.
     #[inline(always)]
     pub fn store(&mut self, x: u32, er: Label, ew: Label, limit: u64) -> Outcome
-        requires place { self.old.place < 200000 }
+        requires place { self.old.place < MAX_INSTRUCTIONS }
         requires served { IsServed E.serves self.old.env er ew }
         requires depth { 0 < vec_len self.old.operands }
         requires range { x < vec_len self.old.memory }
-        requires few { x < 3072 }
+        requires few { x < MAX_CELLS }
         ensures took { Took E.env self.old (record { work = Work.Store x; er = er; ew = ew }) limit result self.new }
         ensures keeps { Keeps E.serves self.old self.new }
     {
@@ -88,12 +90,12 @@ impl<E: MachineEnv> State<E> {
     /// LOADX.
     #[inline(always)]
     pub fn load_at(&mut self, first: u32, length: u32, er: Label, ew: Label, limit: u64) -> Outcome
-        requires place { self.old.place < 200000 }
+        requires place { self.old.place < MAX_INSTRUCTIONS }
         requires served { IsServed E.serves self.old.env er ew }
         requires depth { 0 < vec_len self.old.operands }
         requires some { 0 < length }
         requires range { first + length ≤ vec_len self.old.memory }
-        requires few { first + length ≤ 3072 }
+        requires few { first + length ≤ MAX_CELLS }
         ensures took { Took E.env self.old (record { work = Work.LoadAt first length; er = er; ew = ew }) limit result self.new }
         ensures keeps { Keeps E.serves self.old self.new }
     {
@@ -119,12 +121,12 @@ impl<E: MachineEnv> State<E> {
     /// STOREX.
     #[inline(always)]
     pub fn store_at(&mut self, first: u32, length: u32, er: Label, ew: Label, limit: u64) -> Outcome
-        requires place { self.old.place < 200000 }
+        requires place { self.old.place < MAX_INSTRUCTIONS }
         requires served { IsServed E.serves self.old.env er ew }
         requires depth { 1 < vec_len self.old.operands }
         requires some { 0 < length }
         requires range { first + length ≤ vec_len self.old.memory }
-        requires few { first + length ≤ 3072 }
+        requires few { first + length ≤ MAX_CELLS }
         ensures took { Took E.env self.old (record { work = Work.StoreAt first length; er = er; ew = ew }) limit result self.new }
         ensures keeps { Keeps E.serves self.old self.new }
     {
@@ -149,7 +151,7 @@ impl<E: MachineEnv> State<E> {
     /// OP.
     #[inline(always)]
     pub fn apply(&mut self, op: Op, er: Label, ew: Label, limit: u64) -> Outcome
-        requires place { self.old.place < 200000 }
+        requires place { self.old.place < MAX_INSTRUCTIONS }
         requires served { IsServed E.serves self.old.env er ew }
         requires depth { 1 < vec_len self.old.operands }
         ensures took { Took E.env self.old (record { work = Work.Apply op; er = er; ew = ew }) limit result self.new }

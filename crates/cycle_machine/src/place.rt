@@ -8,6 +8,7 @@ use crate::access::{fetch, pass};
 use crate::state::{Outcome, State};
 use env_contract::env::MachineEnv;
 use label_code::code::Work;
+use label_code::image::MAX_INSTRUCTIONS;
 use label_lattice::label::Label;
 
 // The number, or 0 if it is less.
@@ -22,7 +23,7 @@ impl<E: MachineEnv> State<E> {
     /// BRZ.
     #[inline(always)]
     pub fn branch_zero(&mut self, to: u32, er: Label, ew: Label, limit: u64) -> Outcome
-        requires place { self.old.place < 200000 }
+        requires place { self.old.place < MAX_INSTRUCTIONS }
         requires served { IsServed E.serves self.old.env er ew }
         requires depth { 0 < vec_len self.old.operands }
         ensures took { Took E.env self.old (record { work = Work.Brz to; er = er; ew = ew }) limit result self.new }
@@ -43,7 +44,7 @@ impl<E: MachineEnv> State<E> {
     /// BRNZ.
     #[inline(always)]
     pub fn branch_nonzero(&mut self, to: u32, er: Label, ew: Label, limit: u64) -> Outcome
-        requires place { self.old.place < 200000 }
+        requires place { self.old.place < MAX_INSTRUCTIONS }
         requires served { IsServed E.serves self.old.env er ew }
         requires depth { 0 < vec_len self.old.operands }
         ensures took { Took E.env self.old (record { work = Work.Brnz to; er = er; ew = ew }) limit result self.new }
@@ -64,7 +65,7 @@ impl<E: MachineEnv> State<E> {
     /// JMP.
     #[inline(always)]
     pub fn jump(&mut self, to: u32, er: Label, ew: Label, limit: u64) -> Outcome
-        requires place { self.old.place < 200000 }
+        requires place { self.old.place < MAX_INSTRUCTIONS }
         requires served { IsServed E.serves self.old.env er ew }
         ensures took { Took E.env self.old (record { work = Work.Jmp to; er = er; ew = ew }) limit result self.new }
         ensures keeps { Keeps E.serves self.old self.new }
@@ -81,7 +82,7 @@ impl<E: MachineEnv> State<E> {
     /// SLEEP.
     #[inline(always)]
     pub fn sleep(&mut self, er: Label, ew: Label, limit: u64) -> Outcome
-        requires place { self.old.place < 200000 }
+        requires place { self.old.place < MAX_INSTRUCTIONS }
         requires served { IsServed E.serves self.old.env er ew }
         requires depth { 0 < vec_len self.old.operands }
         ensures took { Took E.env self.old (record { work = Work.Sleep; er = er; ew = ew }) limit result self.new }
@@ -103,7 +104,7 @@ impl<E: MachineEnv> State<E> {
     /// NOP.
     #[inline(always)]
     pub fn nop(&mut self, er: Label, ew: Label, limit: u64) -> Outcome
-        requires place { self.old.place < 200000 }
+        requires place { self.old.place < MAX_INSTRUCTIONS }
         requires served { IsServed E.serves self.old.env er ew }
         ensures took { Took E.env self.old (record { work = Work.Nop; er = er; ew = ew }) limit result self.new }
         ensures keeps { Keeps E.serves self.old self.new }
@@ -120,7 +121,7 @@ impl<E: MachineEnv> State<E> {
     /// HALT.
     #[inline(always)]
     pub fn halt(&mut self, er: Label, ew: Label, limit: u64) -> Outcome
-        requires place { self.old.place < 200000 }
+        requires place { self.old.place < MAX_INSTRUCTIONS }
         requires served { IsServed E.serves self.old.env er ew }
         ensures took { Took E.env self.old (record { work = Work.Halt; er = er; ew = ew }) limit result self.new }
         ensures keeps { Keeps E.serves self.old self.new }
