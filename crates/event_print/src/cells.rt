@@ -5,6 +5,7 @@ ghost use Rattle.std.specs.Fmt.{signed_decimal};
 ghost use Rattle.mit_syntax.specs.Declarations.{variables, cell_at};
 ghost use Rattle.event_print.specs.Text.{cell_text};
 
+use itoa::Buffer;
 use mit_syntax::program::Program;
 use tim_base::line::Line;
 
@@ -26,6 +27,17 @@ pub fn put_value(line: &mut Line, words: &[u8], n: i64)
 {
     line.put_text(words);
     line.put_signed(n);
+}
+
+/// Appends some words and a number of up to 128 bits.
+pub fn put_wide(line: &mut Line, words: &[u8], n: u128)
+    requires { length line.old + length words.now ≤ 120 }
+    ensures text { line.new ≡ line.old ++ (words.now ++ decimal n) }
+    ensures short { length line.new ≤ length line.old + length words.now + 40 }
+{
+    line.put_text(words);
+    let mut buffer = Buffer::new();
+    line.put_text(buffer.format(n).as_bytes());
 }
 
 /// Appends a variable's name, with its place in brackets if it is an element of an array.

@@ -2,26 +2,15 @@
 
 ghost use Rattle.std.specs.Prelude.{◌≡◌, ◌≤◌, ◌<◌, ◌+◌, ◌++◌, [], length, codes, decimal, cond, OnOk};
 ghost use Rattle.label_lattice.specs.Order.{lattice_of};
-ghost use Rattle.sharp_count.specs.Levels.{miss_counts};
 ghost use Rattle.lab_bound.specs.Text.{level_line, level_lines, firsts_text, number_text, SharpPut};
 
-use itoa::Buffer;
 use label_lattice::label::Label;
 use label_lattice::lattice::Lattice;
-use leak_bound::count::digits;
-use seen_line::cells::put_number;
+use seen_line::cells::{put_number, put_wide};
 use sharp_count::bits::bits;
-use sharp_count::count::LevelRuns;
+use sharp_count::count::{LevelRuns, miss_counts};
 use std::alloc::AllocError;
 use tim_base::line::Line;
-
-// How many binary digits T has, divided by a first prediction.
-fn miss_counts(t: u64, first: u64) -> u32
-    ensures { result ≡ miss_counts t first }
-{
-    let most = t / first.max(1);
-    if most == 0 { 0 } else { digits(most) }
-}
 
 // Appends the first prediction and the digits of a level of which mitigations are begun.
 fn put_firsts(line: &mut Line, t: u64, told: LevelRuns)
@@ -49,17 +38,6 @@ fn level(order: &Lattice, t: u64, l: Label, told: LevelRuns) -> Line
     put_firsts(&mut line, t, told);
     line.put_text(b"\n");
     line
-}
-
-// Appends some words and a number of up to 128 bits.
-fn put_wide(line: &mut Line, words: &[u8], n: u128)
-    requires { length line.old + length words.now ≤ 120 }
-    ensures text { line.new ≡ line.old ++ number_text words.now n }
-    ensures short { length line.new ≤ length line.old + length words.now + 40 }
-{
-    line.put_text(words);
-    let mut buffer = Buffer::new();
-    line.put_text(buffer.format(n).as_bytes());
 }
 
 // Appends a line.

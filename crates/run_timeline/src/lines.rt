@@ -3,28 +3,16 @@
 ghost use Rattle.std.specs.Prelude.{◌≡◌, ◌+◌, ◌<◌, ◌≤◌, ◌++◌, length, codes, decimal, slice_get};
 ghost use Rattle.mit_syntax.specs.Declarations.{variables};
 ghost use Rattle.event_print.specs.Text.{event_line, last_line, cycle_text};
-ghost use Rattle.run_timeline.specs.Text.{place_text, mark_text, level_text, head_text, begin_text, end_text, run_text};
+ghost use Rattle.run_timeline.specs.Text.{place_text, mark_text, level_text, head_text, begin_text, end_text};
 ghost use Rattle.run_timeline.specs.Summary.{mitigate_text, tally_text};
 
 use crate::tally::Tally;
 use cycle_machine::end::RunEnd;
-use event_print::cells::{put_cell, put_number, put_value};
-use itoa::Buffer;
+use event_print::cells::{put_cell, put_number, put_value, put_wide};
 use mit_syntax::program::Program;
 use text_base::pos::Pos;
 use tim_base::line::Line;
 use timing_types::labelled::Labelled;
-
-// Appends some words and a number of up to 128 bits.
-fn put_wide(line: &mut Line, words: &[u8], n: u128)
-    requires { length line.old + length words.now ≤ 120 }
-    ensures text { line.new ≡ line.old ++ (words.now ++ decimal n) }
-    ensures short { length line.new ≤ length line.old + length words.now + 40 }
-{
-    line.put_text(words);
-    let mut buffer = Buffer::new();
-    line.put_text(buffer.format(n).as_bytes());
-}
 
 // Ends a line with a cycle.
 fn put_cycle(line: &mut Line, cycle: u64)
@@ -132,16 +120,6 @@ pub fn last_line(end: RunEnd) -> Line
             put_cycle(&mut line, cycle);
         }
     }
-    line
-}
-
-/// The line with which a run begins.
-pub fn run_line(number: u32) -> Line
-    ensures { result ≡ run_text number }
-{
-    let mut line = Line::new();
-    put_number(&mut line, b"run ", u64::from(number));
-    line.put_text(b"\n");
     line
 }
 

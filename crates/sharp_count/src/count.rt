@@ -40,7 +40,7 @@ pub enum Runs {
 }
 
 /// How many miss counts there are at which a mitigation can end by cycle T whose first prediction is at least `first`.
-pub(crate) fn miss_counts(t: u64, first: u64) -> u32
+pub fn miss_counts(t: u64, first: u64) -> u32
     ensures exact { result ≡ miss_counts t first }
     ensures few { result ≤ 64 }
 {

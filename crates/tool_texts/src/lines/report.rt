@@ -2,7 +2,7 @@
 
 ghost use Rattle.std.specs.Prelude.{◌≡◌, ◌+◌, ◌≤◌, ◌++◌, length};
 ghost use Rattle.mit_syntax.specs.Declarations.{cell_at};
-ghost use Rattle.event_print.specs.Text.{place_text, cell_text, cycle_text};
+ghost use Rattle.event_print.specs.Text.{cell_text, cycle_text};
 ghost use Rattle.black_box.specs.Outcomes.{seen};
 ghost use Rattle.tool_texts.specs.Reports.{label_line, bound_line, class_line, place_name, disagree_line, unfinished_line, release_line, run_text, ready_fault_line, made_line};
 
@@ -10,6 +10,7 @@ use super::{memory, number, put, put_label, put_number, words};
 use black_box::fault::ReadyFault;
 use black_box::release::Releases;
 use env_contract::place::Place;
+use event_print::cells::put_cell;
 use label_lattice::label::Label;
 use label_lattice::lattice::Lattice;
 use leak_audit::what::What;
@@ -66,29 +67,14 @@ fn place_name(place: Place) -> &'static [u8]
     }
 }
 
-// Appends the place of an element in its array, in brackets.
-fn put_place(line: &mut Line, place: Option<u32>)
-    requires { length line.old ≤ 100 }
-    ensures text { line.new ≡ line.old ++ place_text place }
-    ensures size { length line.new ≤ length line.old + 22 }
-{
-    if let Some(k) = place {
-        put(line, b"[");
-        put_number(line, k as u64);
-        put(line, b"]");
-    }
-}
-
-// Appends a variable, of at most 54 bytes; nothing for a number that is no variable.
-fn put_cell(line: &mut Line, p: &Program, x: u32)
+// Appends a variable; nothing for a number that is no variable.
+fn put_variable(line: &mut Line, p: &Program, x: u32)
     requires { length line.old ≤ 60 }
     ensures text { line.new ≡ line.old ++ cell_text (cell_at p.now.declarations x) }
-    ensures size { length line.new ≤ length line.old + 54 }
+    ensures size { length line.new ≤ length line.old + 64 }
 {
     if x < p.variables() {
-        let name = p.variable_name(x);
-        put(line, name.bytes());
-        put_place(line, p.element(x));
+        put_cell(line, p, x);
     }
 }
 
@@ -100,7 +86,7 @@ fn differs_in_variable(p: &Program, run: u32, x: u32) -> Line
     put(&mut line, b"disagree: run ");
     put_number(&mut line, run as u64);
     put(&mut line, b": variable ");
-    put_cell(&mut line, p, x);
+    put_variable(&mut line, p, x);
     put(&mut line, b"\n");
     line
 }
