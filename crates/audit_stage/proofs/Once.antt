@@ -7,7 +7,7 @@ use Rattle.timing_types.specs.Labelled.{LabelledProgram}
 use Rattle.part_tlb.specs.Histories.{part_by_history, part2_by_history}
 use Rattle.history_bound.specs.Over.{AnyHistory, history_made}
 use Rattle.start_file.specs.Starts.{StartValue}
-use Rattle.audit_parts.specs.Agreement.{starts_of}
+use Rattle.leak_audit.specs.Agreement.{starts_of}
 use Rattle.leak_audit.specs.declared.report.AuditReport.{AuditReport}
 use Rattle.leak_audit.specs.declared.report.AuditFault.{AuditFault}
 use Rattle.leak_audit.specs.declared.report.AuditFault.TheVariants as audit_fault

@@ -3,7 +3,7 @@ use Rattle.std.specs.Prelude.{◌≡◌, ℕ, List}
 use Rattle.label_lattice.specs.declared.label.Label.{Label}
 use Rattle.timing_types.specs.Labelled.{LabelledProgram}
 use Rattle.start_file.specs.Starts.{StartValue}
-use Rattle.audit_parts.specs.declared.what.What.{What}
+use Rattle.leak_audit.specs.declared.what.What.{What}
 use Rattle.leak_audit.specs.declared.report.AuditFault.TheVariants.{Disagree, Unfinished, TooMuch}
 use Rattle.tool_words.specs.declared.words.EnvName.{EnvName}
 use Rattle.tool_texts.specs.declared.status.Status.{Status}

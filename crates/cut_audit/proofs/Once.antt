@@ -7,10 +7,10 @@ use Rattle.env_contract.specs.Env.{Env}
 use Rattle.label_code.specs.Run.{Start}
 use Rattle.leak_bound.specs.Digits.{digits}
 use Rattle.leak_bound.specs.Records.{Pairwise}
-use Rattle.audit_parts.specs.declared.survey.SurveyFault.TheVariants.{TooMuch as IsTooMuch}
-use Rattle.audit_parts.specs.Agreement.{AgreeFor}
-use Rattle.audit_parts.specs.Surveyed.{shown_by_all}
-use Rattle.audit_parts.proofs.Once.{disagrees_once, not_apart, refused_once, not_taken}
+use Rattle.leak_audit.specs.declared.survey.SurveyFault.TheVariants.{TooMuch as IsTooMuch}
+use Rattle.leak_audit.specs.Agreement.{AgreeFor}
+use Rattle.leak_audit.specs.Surveyed.{shown_by_all}
+use Rattle.leak_audit.proofs.OneReason.{disagrees_once, not_apart, refused_once, not_taken}
 use Rattle.cut_audit.specs.declared.report.CutReport.{CutReport}
 use Rattle.cut_audit.specs.declared.report.CutFault.{CutFault}
 use Rattle.cut_audit.specs.declared.report.CutFault.TheVariants.{Disagree, TooMuch, Memory}

@@ -9,15 +9,15 @@ use Rattle.code_lower.specs.Lowered.{lowered}
 use Rattle.leak_bound.specs.Digits.{digits}
 use Rattle.leak_bound.specs.Records.{Pairwise, views, distinct_count}
 use Rattle.leak_bound.specs.Sound.{CutSound, most_ended, bound}
-use Rattle.audit_parts.specs.declared.measure.Measures.{Measures}
-use Rattle.audit_parts.specs.declared.survey.Survey.{Survey}
-use Rattle.audit_parts.specs.declared.survey.SurveyFault.{SurveyFault}
-use Rattle.audit_parts.specs.declared.survey.SurveyFault.TheVariants.{Unfinished, TooMuch, Memory}
-use Rattle.audit_parts.specs.Agreement.{AgreeFor}
-use Rattle.audit_parts.specs.Measured.{IsMeasure}
-use Rattle.audit_parts.specs.Sequences.{same_sequence}
-use Rattle.audit_parts.specs.Surveyed.{relevant_for, sequence_from, IsSurvey, IsSurveyFault}
-use Rattle.audit_parts.proofs.Classing.{tests_sequences}
+use Rattle.leak_audit.specs.declared.measure.Measures.{Measures}
+use Rattle.leak_audit.specs.declared.survey.Survey.{Survey}
+use Rattle.leak_audit.specs.declared.survey.SurveyFault.{SurveyFault}
+use Rattle.leak_audit.specs.declared.survey.SurveyFault.TheVariants.{Unfinished, TooMuch, Memory}
+use Rattle.leak_audit.specs.Agreement.{AgreeFor}
+use Rattle.leak_audit.specs.Measured.{IsMeasure}
+use Rattle.leak_audit.specs.Sequences.{same_sequence}
+use Rattle.leak_audit.specs.Surveyed.{relevant_for, sequence_from, IsSurvey, IsSurveyFault}
+use Rattle.leak_audit.proofs.Classing.{tests_sequences}
 use Rattle.cut_audit.specs.declared.report.CutReport.{CutReport}
 use Rattle.cut_audit.specs.Report.{IsReport, MayCut}
 

@@ -8,13 +8,13 @@ use Rattle.code_lower.specs.Lowered.{lowered}
 use Rattle.leak_bound.specs.Digits.{digits}
 use Rattle.leak_bound.specs.Records.{Pairwise, views, distinct_count}
 use Rattle.leak_bound.specs.Sound.{most_ended}
-use Rattle.audit_parts.specs.declared.agreement.Disagreement.{Disagreement}
-use Rattle.audit_parts.specs.declared.agreement.Disagreement.TheVariants.{Differs, Memory as NoRoom}
-use Rattle.audit_parts.specs.declared.survey.SurveyFault.{SurveyFault}
-use Rattle.audit_parts.specs.declared.survey.SurveyFault.TheVariants.{Unfinished as IsUnfinished, TooMuch as IsTooMuch, Memory as NoMemory}
-use Rattle.audit_parts.specs.Agreement.{AgreeFor, Disagrees}
-use Rattle.audit_parts.specs.Sequences.{same_sequence, classes_of}
-use Rattle.audit_parts.specs.Surveyed.{relevant_for, sequence_from, shown_by_all, halted_count, IsFirstRefused}
+use Rattle.leak_audit.specs.declared.agreement.Disagreement.{Disagreement}
+use Rattle.leak_audit.specs.declared.agreement.Disagreement.TheVariants.{Differs, Memory as NoRoom}
+use Rattle.leak_audit.specs.declared.survey.SurveyFault.{SurveyFault}
+use Rattle.leak_audit.specs.declared.survey.SurveyFault.TheVariants.{Unfinished as IsUnfinished, TooMuch as IsTooMuch, Memory as NoMemory}
+use Rattle.leak_audit.specs.Agreement.{AgreeFor, Disagrees}
+use Rattle.leak_audit.specs.Sequences.{same_sequence, classes_of}
+use Rattle.leak_audit.specs.Surveyed.{relevant_for, sequence_from, shown_by_all, halted_count, IsFirstRefused}
 use Rattle.cut_audit.specs.declared.report.CutReport.{CutReport}
 use Rattle.cut_audit.specs.declared.report.CutFault.{CutFault}
 use Rattle.cut_audit.specs.declared.report.CutFault.TheVariants.{Disagree, TooMuch, Memory}

@@ -3,18 +3,18 @@
 ghost use Rattle.std.specs.Prelude.{◌≡◌, ◌<◌, ◌≤◌, ◌^◌, All, IfOk, IfErr, length, map};
 ghost use Rattle.code_lower.specs.Lowered.{lowered};
 ghost use Rattle.start_file.specs.Starts.{seen, IsFor};
-ghost use Rattle.audit_parts.specs.Agreement.{starts_of};
+ghost use Rattle.leak_audit.specs.Agreement.{starts_of};
 ghost use Rattle.cut_audit.specs.Report.{IsReport, IsCutFault};
 
 use crate::report::{CutFault, CutReport};
-use audit_parts::agreement::all_agree;
-use audit_parts::measure::measure;
-use audit_parts::relevance::relevant_marks;
-use audit_parts::survey::{Request, survey_runs};
 use env_contract::env::MachineEnv;
 use env_contract::make::MakeEnv;
 use label_code::image::Image;
 use label_lattice::label::Label;
+use leak_audit::agreement::all_agree;
+use leak_audit::measure::measure;
+use leak_audit::relevance::relevant_marks;
+use leak_audit::survey::{Request, survey_runs};
 use leak_bound::laws::lowered_few_sequences;
 use start_file::start::Start;
 use std::alloc::Global;

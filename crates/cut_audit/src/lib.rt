@@ -7,5 +7,3 @@ pub mod laws;
 pub mod report;
 #[cfg(test)]
 mod tests;
-
-pub use audit_parts::what::What as CutWhat;

@@ -2,9 +2,9 @@ ghost use Rattle.std.specs.Prelude.{◌≡◌};
 ghost use Rattle.cut_audit.specs.Report.{fault_of_disagreement, MayCut, fault_of_survey};
 ghost use Rattle.cut_audit.specs.declared.report.CutFault.TheVariants.{Memory};
 
-use audit_parts::agreement::Disagreement;
-use audit_parts::survey::SurveyFault;
-use audit_parts::what::What;
+use leak_audit::agreement::Disagreement;
+use leak_audit::survey::SurveyFault;
+use leak_audit::what::What;
 
 /// What an audit found: the number of runs, of labels that do not flow to the observer, the greatest number of
 /// relevant mitigations that ended in a run, the number of runs that have halted, and of different sequences

@@ -22,13 +22,13 @@ use Rattle.cycle_machine.specs.declared.end.RunEnd.TheVariants.{Halted, Limit}
 use Rattle.cycle_machine.specs.Rest.{Told}
 use Rattle.history_bound.specs.Told.{Pair, Paired}
 use Rattle.history_bound.proofs.Told.{below_label, does_back, paired_back, each_over, pairwise_over, agree_over, log_same, clock_same, halted_same, seen_all, ended_all, length-paired, begun_over}
-use Rattle.audit_parts.specs.declared.survey.SurveyFault.{SurveyFault}
-use Rattle.audit_parts.specs.declared.survey.SurveyFault.TheVariants.{Unfinished as IsUnfinished, TooMuch as IsTooMuch, Memory as NoMemory}
-use Rattle.audit_parts.specs.declared.what.What.{What}
-use Rattle.audit_parts.specs.declared.what.What.TheVariants.{Variable, Partition}
-use Rattle.audit_parts.specs.Agreement.{AgreeFor, Differs, IsFirstDifference, IsFirstApart, Disagrees, start_of, starts_of}
-use Rattle.audit_parts.specs.Sequences.{same_sequence, classes_of}
-use Rattle.audit_parts.specs.Surveyed.{sequence_from, shown_by, shown_by_all, halted_count, relevant_for, IsRefused, IsFirstRefused}
+use Rattle.leak_audit.specs.declared.survey.SurveyFault.{SurveyFault}
+use Rattle.leak_audit.specs.declared.survey.SurveyFault.TheVariants.{Unfinished as IsUnfinished, TooMuch as IsTooMuch, Memory as NoMemory}
+use Rattle.leak_audit.specs.declared.what.What.{What}
+use Rattle.leak_audit.specs.declared.what.What.TheVariants.{Variable, Partition}
+use Rattle.leak_audit.specs.Agreement.{AgreeFor, Differs, IsFirstDifference, IsFirstApart, Disagrees, start_of, starts_of}
+use Rattle.leak_audit.specs.Sequences.{same_sequence, classes_of}
+use Rattle.leak_audit.specs.Surveyed.{sequence_from, shown_by, shown_by_all, halted_count, relevant_for, IsRefused, IsFirstRefused}
 use Rattle.leak_audit.specs.declared.report.AuditReport.{AuditReport}
 use Rattle.leak_audit.specs.declared.report.AuditFault.{AuditFault}
 use Rattle.leak_audit.specs.declared.report.AuditFault.TheVariants.{Disagree, Unfinished, TooMuch, Memory}

@@ -10,8 +10,8 @@ use Rattle.code_lower.specs.Lowered.{lowered}
 use Rattle.leak_bound.specs.Records.{Pairwise}
 use Rattle.start_file.specs.Starts.{StartValue, IsFor}
 use Rattle.cycle_machine.specs.Rest.{told_by}
-use Rattle.audit_parts.specs.Agreement.{AgreeFor, start_of, starts_of}
-use Rattle.audit_parts.specs.Surveyed.{shown_by_all}
+use Rattle.leak_audit.specs.Agreement.{AgreeFor, start_of, starts_of}
+use Rattle.leak_audit.specs.Surveyed.{shown_by_all}
 use Rattle.leak_audit.specs.declared.report.AuditReport.{AuditReport}
 use Rattle.leak_audit.specs.declared.report.AuditFault.{AuditFault}
 use Rattle.leak_audit.specs.Report.{IsReport, IsAuditFault}

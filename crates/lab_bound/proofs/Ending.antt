@@ -25,7 +25,7 @@ use Rattle.code_lower.proofs.Meaning.{keep_meaning}
 use Rattle.leak_bound.specs.Records.{Each}
 use Rattle.leak_bound.specs.Sound.{Halts}
 use Rattle.start_file.specs.Starts.{StartValue}
-use Rattle.audit_parts.specs.Agreement.{start_of, starts_of}
+use Rattle.leak_audit.specs.Agreement.{start_of, starts_of}
 use Rattle.part_tlb.specs.Histories.{part_by_history, part2_by_history}
 use Rattle.history_bound.specs.Over.{history_made}
 use Rattle.leak_audit.specs.declared.report.AuditReport.{AuditReport}

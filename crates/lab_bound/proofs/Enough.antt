@@ -30,10 +30,10 @@ use Rattle.sharp_bound.specs.Guess.{FewShown}
 use Rattle.sharp_bound.specs.Lowered.{LoweredSharpAll}
 use Rattle.sharp_history.specs.Over.{LoweredSharpOver}
 use Rattle.start_file.specs.Starts.{StartValue}
-use Rattle.audit_parts.specs.Agreement.{starts_of}
-use Rattle.audit_parts.specs.Sequences.{same_sequence}
-use Rattle.audit_parts.specs.Surveyed.{sequence_from}
-use Rattle.audit_parts.proofs.Classing.{tests_sequences}
+use Rattle.leak_audit.specs.Agreement.{starts_of}
+use Rattle.leak_audit.specs.Sequences.{same_sequence}
+use Rattle.leak_audit.specs.Surveyed.{sequence_from}
+use Rattle.leak_audit.proofs.Classing.{tests_sequences}
 use Rattle.part_tlb.specs.Histories.{part_by_history, part2_by_history}
 use Rattle.history_bound.specs.Over.{AnyHistory, history_made}
 use Rattle.leak_audit.specs.declared.report.AuditReport.{AuditReport}

@@ -13,9 +13,9 @@ use Rattle.sharp_bound.specs.Sharp.{BeginsEach}
 use Rattle.sharp_bound.specs.Guess.{FewShown}
 use Rattle.part_tlb.specs.Histories.{part_by_history, part2_by_history}
 use Rattle.history_bound.specs.Over.{history_made}
-use Rattle.audit_parts.specs.Agreement.{starts_of}
-use Rattle.audit_parts.specs.Sequences.{same_sequence}
-use Rattle.audit_parts.specs.Surveyed.{sequence_from}
+use Rattle.leak_audit.specs.Agreement.{starts_of}
+use Rattle.leak_audit.specs.Sequences.{same_sequence}
+use Rattle.leak_audit.specs.Surveyed.{sequence_from}
 use Rattle.leak_audit.specs.declared.report.AuditReport.{AuditReport}
 use Rattle.level_counts.specs.Begun.{AreTold, memories_of}
 use Rattle.tool_words.specs.declared.words.EnvName.{EnvName}

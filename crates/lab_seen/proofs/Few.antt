@@ -12,10 +12,10 @@ use Rattle.cycle_machine.specs.Rest.{told_by}
 use Rattle.start_file.specs.Starts.{StartValue}
 use Rattle.leak_bound.specs.Records.{Pairwise, Tests, views, distinct_count}
 use Rattle.leak_bound.specs.Sound.{CutSound, bound, most_ended}
-use Rattle.audit_parts.specs.Agreement.{AgreeFor, start_of, starts_of}
-use Rattle.audit_parts.specs.Sequences.{same_sequence}
-use Rattle.audit_parts.specs.Surveyed.{relevant_for, sequence_from}
-use Rattle.audit_parts.proofs.Classing.{tests_sequences}
+use Rattle.leak_audit.specs.Agreement.{AgreeFor, start_of, starts_of}
+use Rattle.leak_audit.specs.Sequences.{same_sequence}
+use Rattle.leak_audit.specs.Surveyed.{relevant_for, sequence_from}
+use Rattle.leak_audit.proofs.Classing.{tests_sequences}
 use Rattle.part_tlb.specs.Histories.{part_by_history, part2_by_history}
 use Rattle.history_bound.specs.Over.{AnyHistory, history_made}
 use Rattle.leak_bound.specs.Digits.{digits}

@@ -11,8 +11,8 @@ use Rattle.history_bound.specs.Over.{history_made}
 use Rattle.start_file.specs.Starts.{StartValue}
 use Rattle.leak_bound.specs.Records.{Tests, distinct_count}
 use Rattle.leak_bound.specs.Sound.{bound, most_ended}
-use Rattle.audit_parts.specs.Agreement.{starts_of}
-use Rattle.audit_parts.specs.Surveyed.{relevant_for}
+use Rattle.leak_audit.specs.Agreement.{starts_of}
+use Rattle.leak_audit.specs.Surveyed.{relevant_for}
 use Rattle.cut_audit.specs.declared.report.CutReport.{CutReport}
 use Rattle.seen_line.specs.Field.{seen_text}
 use Rattle.tool_words.specs.declared.words.EnvName.{EnvName}

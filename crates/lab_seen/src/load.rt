@@ -5,7 +5,7 @@ ghost use Rattle.label_code.specs.Run.{run_from};
 ghost use Rattle.code_lower.specs.Lowered.{lowered};
 ghost use Rattle.start_file.specs.Starts.{seen, IsFor};
 ghost use Rattle.cycle_machine.specs.Rest.{told_by, rest_of};
-ghost use Rattle.audit_parts.specs.Agreement.{start_of};
+ghost use Rattle.leak_audit.specs.Agreement.{start_of};
 
 use cycle_machine::machine::Machine;
 use env_contract::env::MachineEnv;

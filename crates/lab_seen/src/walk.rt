@@ -7,7 +7,7 @@ ghost use Rattle.tim_base.specs.Sinks.{AppendsPrefix};
 ghost use Rattle.label_code.specs.Run.{run_from};
 ghost use Rattle.start_file.specs.Starts.{StartValue, seen, IsFor};
 ghost use Rattle.cycle_machine.specs.Rest.{told_by};
-ghost use Rattle.audit_parts.specs.Agreement.{start_of};
+ghost use Rattle.leak_audit.specs.Agreement.{start_of};
 ghost use Rattle.tool_stages.specs.Envs.{told_in};
 ghost use Rattle.tool_stages.specs.Begins.{CanAudit};
 ghost use Rattle.lab_runs.specs.Runs.{texts, WritesSome};

@@ -17,7 +17,7 @@ use Rattle.label_code.proofs.Alike.{step_alike}
 use Rattle.code_lower.specs.Lowered.{lowered}
 use Rattle.doubling_schedule.specs.Doubling.{prediction, misses_after}
 use Rattle.start_file.specs.Starts.{StartValue, IsFor}
-use Rattle.audit_parts.specs.Agreement.{start_of}
+use Rattle.leak_audit.specs.Agreement.{start_of}
 use Rattle.run_timeline.specs.declared.moment.Moment.{Moment}
 use Rattle.run_timeline.specs.declared.moment.Moment.TheVariants.{Begins, Ends, Assigned}
 use Rattle.run_timeline.specs.Timeline.{telling, told_at, told, moments, IsTimeline}

@@ -5,7 +5,7 @@ use Rattle.env_contract.specs.declared.place.Touch.{Touch}
 use Rattle.env_contract.specs.Env.{Env}
 use Rattle.label_code.specs.Shaped.{Code, IsShaped}
 use Rattle.start_file.specs.Starts.{StartValue}
-use Rattle.audit_parts.specs.Agreement.{start_of}
+use Rattle.leak_audit.specs.Agreement.{start_of}
 use Rattle.run_timeline.specs.declared.moment.Moment.{Moment}
 use Rattle.run_timeline.specs.Timeline.{IsTimeline}
 

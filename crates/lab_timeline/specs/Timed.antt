@@ -11,7 +11,7 @@ use Rattle.part_tlb.specs.Histories.{part_by_history, part2_by_history}
 use Rattle.history_bound.specs.Over.{history_made}
 use Rattle.start_file.specs.Starts.{StartValue}
 use Rattle.cycle_machine.specs.declared.end.RunEnd.{RunEnd}
-use Rattle.audit_parts.specs.Agreement.{start_of}
+use Rattle.leak_audit.specs.Agreement.{start_of}
 use Rattle.run_timeline.specs.declared.moment.Moment.{Moment}
 use Rattle.run_timeline.specs.declared.tally.Tally.{Tally}
 use Rattle.run_timeline.specs.Places.{places}

@@ -5,7 +5,7 @@ ghost use Rattle.tim_base.specs.Faults.{Rose};
 ghost use Rattle.mit_syntax.specs.Plan.{mitigates};
 ghost use Rattle.mit_syntax.specs.Program.{plan_of};
 ghost use Rattle.start_file.specs.Starts.{StartValue, seen, IsFor};
-ghost use Rattle.audit_parts.specs.Agreement.{start_of};
+ghost use Rattle.leak_audit.specs.Agreement.{start_of};
 ghost use Rattle.run_timeline.specs.declared.moment.Moment.{Moment};
 ghost use Rattle.run_timeline.specs.Places.{places};
 ghost use Rattle.run_timeline.specs.Tallied.{no_tally};

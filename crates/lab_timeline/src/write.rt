@@ -8,7 +8,7 @@ ghost use Rattle.cycle_machine.specs.Seen.{seen as state_seen};
 ghost use Rattle.cycle_machine.specs.Took.{Stands};
 ghost use Rattle.code_lower.specs.Lowered.{lowered};
 ghost use Rattle.start_file.specs.Starts.{seen, IsFor};
-ghost use Rattle.audit_parts.specs.Agreement.{start_of};
+ghost use Rattle.leak_audit.specs.Agreement.{start_of};
 ghost use Rattle.run_timeline.specs.Places.{places};
 ghost use Rattle.run_timeline.specs.Text.{run_text};
 ghost use Rattle.run_timeline.specs.Tallied.{HaveRoom, Grown};

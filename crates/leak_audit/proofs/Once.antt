@@ -9,10 +9,10 @@ use Rattle.code_lower.specs.Lowered.{lowered}
 use Rattle.leak_bound.specs.Digits.{digits}
 use Rattle.leak_bound.specs.Records.{Each, Pairwise}
 use Rattle.leak_bound.specs.Sound.{Halts}
-use Rattle.audit_parts.specs.declared.survey.SurveyFault.TheVariants.{Unfinished as IsUnfinished, TooMuch as IsTooMuch}
-use Rattle.audit_parts.specs.Agreement.{AgreeFor}
-use Rattle.audit_parts.specs.Surveyed.{shown_by_all}
-use Rattle.audit_parts.proofs.Once.{disagrees_once, not_apart, refused_once, not_taken}
+use Rattle.leak_audit.specs.declared.survey.SurveyFault.TheVariants.{Unfinished as IsUnfinished, TooMuch as IsTooMuch}
+use Rattle.leak_audit.specs.Agreement.{AgreeFor}
+use Rattle.leak_audit.specs.Surveyed.{shown_by_all}
+use Rattle.leak_audit.proofs.OneReason.{disagrees_once, not_apart, refused_once, not_taken}
 use Rattle.leak_audit.specs.declared.report.AuditReport.{AuditReport}
 use Rattle.leak_audit.specs.declared.report.AuditFault.{AuditFault}
 use Rattle.leak_audit.specs.declared.report.AuditFault.TheVariants.{Disagree, Unfinished, TooMuch, Memory}

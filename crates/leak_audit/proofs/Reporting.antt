@@ -13,13 +13,13 @@ use Rattle.leak_bound.specs.Relevant.{Begins}
 use Rattle.leak_bound.specs.Records.{Each, Pairwise, views, distinct_count}
 use Rattle.leak_bound.specs.Sound.{Halts, FirstBegins, Sound, bound}
 use Rattle.leak_bound.proofs.Final.{begun-told, begins_one}
-use Rattle.audit_parts.specs.declared.measure.Measures.{Measures}
-use Rattle.audit_parts.specs.declared.survey.Survey.{Survey}
-use Rattle.audit_parts.specs.Agreement.{AgreeFor}
-use Rattle.audit_parts.specs.Measured.{IsMeasure}
-use Rattle.audit_parts.specs.Sequences.{same_sequence}
-use Rattle.audit_parts.specs.Surveyed.{relevant_for, run_of, sequence_from, begun_first, IsSurvey}
-use Rattle.audit_parts.proofs.Classing.{tests_sequences}
+use Rattle.leak_audit.specs.declared.measure.Measures.{Measures}
+use Rattle.leak_audit.specs.declared.survey.Survey.{Survey}
+use Rattle.leak_audit.specs.Agreement.{AgreeFor}
+use Rattle.leak_audit.specs.Measured.{IsMeasure}
+use Rattle.leak_audit.specs.Sequences.{same_sequence}
+use Rattle.leak_audit.specs.Surveyed.{relevant_for, run_of, sequence_from, begun_first, IsSurvey}
+use Rattle.leak_audit.proofs.Classing.{tests_sequences}
 use Rattle.leak_audit.specs.declared.report.AuditReport.{AuditReport}
 use Rattle.leak_audit.specs.Report.{IsReport}
 

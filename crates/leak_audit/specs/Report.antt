@@ -9,13 +9,13 @@ use Rattle.code_lower.specs.Lowered.{lowered}
 use Rattle.leak_bound.specs.Digits.{digits}
 use Rattle.leak_bound.specs.Records.{Each, Pairwise, views, distinct_count}
 use Rattle.leak_bound.specs.Sound.{Halts, FirstBegins}
-use Rattle.audit_parts.specs.declared.agreement.Disagreement.{Disagreement}
-use Rattle.audit_parts.specs.declared.agreement.Disagreement.TheVariants.{Differs, Memory as NoRoom}
-use Rattle.audit_parts.specs.declared.survey.SurveyFault.{SurveyFault}
-use Rattle.audit_parts.specs.declared.survey.SurveyFault.TheVariants.{Unfinished as IsUnfinished, TooMuch as IsTooMuch, Memory as NoMemory}
-use Rattle.audit_parts.specs.Agreement.{AgreeFor, Disagrees}
-use Rattle.audit_parts.specs.Sequences.{same_sequence, classes_of}
-use Rattle.audit_parts.specs.Surveyed.{sequence_from, shown_by_all, IsFirstRefused}
+use Rattle.leak_audit.specs.declared.agreement.Disagreement.{Disagreement}
+use Rattle.leak_audit.specs.declared.agreement.Disagreement.TheVariants.{Differs, Memory as NoRoom}
+use Rattle.leak_audit.specs.declared.survey.SurveyFault.{SurveyFault}
+use Rattle.leak_audit.specs.declared.survey.SurveyFault.TheVariants.{Unfinished as IsUnfinished, TooMuch as IsTooMuch, Memory as NoMemory}
+use Rattle.leak_audit.specs.Agreement.{AgreeFor, Disagrees}
+use Rattle.leak_audit.specs.Sequences.{same_sequence, classes_of}
+use Rattle.leak_audit.specs.Surveyed.{sequence_from, shown_by_all, IsFirstRefused}
 use Rattle.leak_audit.specs.declared.report.AuditReport.{AuditReport}
 use Rattle.leak_audit.specs.declared.report.AuditFault.{AuditFault}
 use Rattle.leak_audit.specs.declared.report.AuditFault.TheVariants.{Disagree, Unfinished, TooMuch, Memory}

@@ -3,14 +3,14 @@
 ghost use Rattle.std.specs.Prelude.{◌≡◌, ◌<◌, ◌≤◌, ◌^◌, All, IfOk, IfErr, length, map};
 ghost use Rattle.code_lower.specs.Lowered.{lowered};
 ghost use Rattle.start_file.specs.Starts.{seen, IsFor};
-ghost use Rattle.audit_parts.specs.Agreement.{starts_of};
+ghost use Rattle.leak_audit.specs.Agreement.{starts_of};
 ghost use Rattle.leak_audit.specs.Report.{IsReport, IsAuditFault};
 
+use crate::agreement::all_agree;
+use crate::measure::measure;
+use crate::relevance::relevant_marks;
 use crate::report::{AuditFault, AuditReport};
-use audit_parts::agreement::all_agree;
-use audit_parts::measure::measure;
-use audit_parts::relevance::relevant_marks;
-use audit_parts::survey::{Request, survey_runs};
+use crate::survey::{Request, survey_runs};
 use env_contract::env::MachineEnv;
 use env_contract::make::MakeEnv;
 use label_code::image::Image;

@@ -2,9 +2,9 @@ ghost use Rattle.std.specs.Prelude.{◌≡◌};
 ghost use Rattle.leak_audit.specs.Report.{fault_of_disagreement, fault_of_survey};
 ghost use Rattle.leak_audit.specs.declared.report.AuditFault.TheVariants.{Memory};
 
-use audit_parts::agreement::Disagreement;
-use audit_parts::survey::SurveyFault;
-use audit_parts::what::What;
+use crate::agreement::Disagreement;
+use crate::survey::SurveyFault;
+use crate::what::What;
 
 /// What an audit found: the number of runs, of labels that do not flow to the observer, of relevant
 /// mitigations that a run begins, and of different sequences seen; base and exponent of the bound of that;

@@ -10,10 +10,10 @@ use Rattle.code_lower.specs.Lowered.{lowered}
 use Rattle.leak_bound.specs.Digits.{digits}
 use Rattle.leak_bound.specs.Records.{Tests, distinct_count}
 use Rattle.leak_bound.specs.Sound.{Sound, CutSound, bound, most_ended}
-use Rattle.audit_parts.specs.Agreement.{starts_of}
-use Rattle.audit_parts.specs.Sequences.{same_sequence}
-use Rattle.audit_parts.specs.Surveyed.{relevant_for}
-use Rattle.audit_parts.proofs.Classing.{tests_sequences}
+use Rattle.leak_audit.specs.Agreement.{starts_of}
+use Rattle.leak_audit.specs.Sequences.{same_sequence}
+use Rattle.leak_audit.specs.Surveyed.{relevant_for}
+use Rattle.leak_audit.proofs.Classing.{tests_sequences}
 use Rattle.leak_audit.specs.declared.report.AuditReport.{AuditReport}
 use Rattle.leak_audit.specs.Report.{IsReport}
 use Rattle.leak_audit.proofs.Reporting.{first_one}

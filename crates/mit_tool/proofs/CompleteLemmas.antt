@@ -13,7 +13,7 @@ use Rattle.cycle_machine.specs.declared.end.RunEnd.{RunEnd}
 use Rattle.cycle_machine.specs.declared.end.RunEnd.TheVariants.{Halted, Limit}
 use Rattle.mit_gen.specs.Made.{program_text, starts_text}
 use Rattle.std.specs.Bool.{⊤}
-use Rattle.audit_parts.specs.Agreement.{starts_of}
+use Rattle.leak_audit.specs.Agreement.{starts_of}
 use Rattle.leak_audit.specs.declared.report.AuditFault.{AuditFault}
 use Rattle.leak_audit.specs.declared.report.AuditFault.TheVariants as fault
 use Rattle.cut_audit.specs.declared.report.CutFault.{CutFault}

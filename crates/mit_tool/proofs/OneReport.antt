@@ -8,7 +8,7 @@ use Rattle.timing_types.specs.Labelled.{LabelledProgram}
 use Rattle.part_tlb.specs.Histories.{part_by_history, part2_by_history}
 use Rattle.history_bound.specs.Over.{AnyHistory, history_made}
 use Rattle.start_file.specs.Starts.{StartValue}
-use Rattle.audit_parts.specs.Agreement.{starts_of}
+use Rattle.leak_audit.specs.Agreement.{starts_of}
 use Rattle.cut_audit.specs.declared.report.CutReport.{CutReport}
 use Rattle.cut_audit.specs.declared.report.CutFault.{CutFault}
 use Rattle.cut_audit.specs.declared.report.CutFault.TheVariants as cut_fault

@@ -4,7 +4,7 @@ use Rattle.std.specs.List.{AllZip}
 use Rattle.label_lattice.specs.declared.label.Label.{Label}
 use Rattle.timing_types.specs.Labelled.{LabelledProgram}
 use Rattle.start_file.specs.Starts.{StartValue}
-use Rattle.audit_parts.specs.declared.what.What.{What}
+use Rattle.leak_audit.specs.declared.what.What.{What}
 use Rattle.cut_audit.specs.declared.report.CutFault.TheVariants as cut
 use Rattle.black_box.specs.Outcomes.{Outcome, IsOutcome}
 use Rattle.tool_words.specs.declared.words.EnvName.{EnvName}

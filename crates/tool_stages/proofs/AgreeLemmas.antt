@@ -12,8 +12,8 @@ use Rattle.cycle_machine.specs.declared.end.RunEnd.TheVariants.{Halted, Limit}
 use Rattle.start_file.specs.Starts.{StartValue}
 use Rattle.leak_bound.specs.Records.{Each}
 use Rattle.leak_bound.specs.Sound.{Halts}
-use Rattle.audit_parts.specs.Agreement.{start_of, starts_of}
-use Rattle.audit_parts.specs.Surveyed.{run_of}
+use Rattle.leak_audit.specs.Agreement.{start_of, starts_of}
+use Rattle.leak_audit.specs.Surveyed.{run_of}
 use Rattle.tool_stages.specs.Goes.{IsHalted}
 
 has_halted : (b : Bool) (c : ℕ) → IsHalted (cond b (Halted c) (Limit c)) → b ≡ true

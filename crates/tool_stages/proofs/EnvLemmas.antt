@@ -8,7 +8,7 @@ use Rattle.label_code.specs.Run.{Start, run_from}
 use Rattle.label_code.specs.Shaped.{Code, IsShaped}
 use Rattle.code_lower.specs.Lowered.{lowered}
 use Rattle.cycle_machine.specs.Rest.{told_by}
-use Rattle.audit_parts.specs.Agreement.{start_of, starts_of}
+use Rattle.leak_audit.specs.Agreement.{start_of, starts_of}
 use Rattle.leak_audit.specs.Report.{IsReport, IsAuditFault}
 use Rattle.cut_audit.specs.Report.{IsReport as IsCutReport, IsCutFault}
 use Rattle.history_reports.specs.Reports.{AuditAlike, RunsTellAlike, AuditsTellAlike}

@@ -10,7 +10,7 @@ use Rattle.start_file.specs.Starts.{StartValue}
 use Rattle.cycle_machine.specs.Rest.{Told}
 use Rattle.cycle_machine.specs.Rest.{told_by}
 use Rattle.timing_types.specs.Labelled.{LabelledProgram}
-use Rattle.audit_parts.specs.Agreement.{starts_of}
+use Rattle.leak_audit.specs.Agreement.{starts_of}
 use Rattle.leak_audit.specs.declared.report.AuditReport.{AuditReport}
 use Rattle.leak_audit.specs.declared.report.AuditFault.{AuditFault}
 use Rattle.leak_audit.specs.Report.{IsReport, IsAuditFault}

@@ -8,8 +8,8 @@ use Rattle.timing_types.specs.Labelled.{LabelledProgram, HasType}
 use Rattle.label_infer.specs.Least.{Labels}
 use Rattle.code_lower.specs.Lowered.{lowered}
 use Rattle.leak_bound.specs.Records.{Pairwise}
-use Rattle.audit_parts.specs.Agreement.{AgreeFor, starts_of}
-use Rattle.audit_parts.specs.Surveyed.{shown_by_all}
+use Rattle.leak_audit.specs.Agreement.{AgreeFor, starts_of}
+use Rattle.leak_audit.specs.Surveyed.{shown_by_all}
 use Rattle.part_tlb.specs.Histories.{part_by_history, part2_by_history}
 use Rattle.history_bound.specs.Over.{AnyHistory, history_made}
 use Rattle.start_file.specs.Starts.{StartValue}

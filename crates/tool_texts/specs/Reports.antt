@@ -9,8 +9,8 @@ use Rattle.mit_syntax.specs.Program.{Syntax}
 use Rattle.event_print.specs.Text.{cell_text, cycle_text}
 use Rattle.leak_bound.specs.Digits.{digits}
 use Rattle.leak_bound.specs.Records.{distinct_count}
-use Rattle.audit_parts.specs.declared.what.What.{What}
-use Rattle.audit_parts.specs.declared.what.What.TheVariants.{Variable, Partition}
+use Rattle.leak_audit.specs.declared.what.What.{What}
+use Rattle.leak_audit.specs.declared.what.What.TheVariants.{Variable, Partition}
 use Rattle.leak_audit.specs.declared.report.AuditReport.{AuditReport}
 use Rattle.cut_audit.specs.declared.report.CutReport.{CutReport}
 use Rattle.mit_gen.specs.Made.{program_text}

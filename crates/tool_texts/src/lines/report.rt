@@ -12,7 +12,7 @@ use black_box::release::Releases;
 use env_contract::place::Place;
 use label_lattice::label::Label;
 use label_lattice::lattice::Lattice;
-use leak_audit::What;
+use leak_audit::what::What;
 use mit_syntax::program::Program;
 use tim_base::line::Line;
 

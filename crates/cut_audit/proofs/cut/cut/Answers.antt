@@ -11,10 +11,10 @@ use Rattle.code_lower.specs.Lowered.{lowered}
 use Rattle.start_file.specs.Starts.{seen}
 use Rattle.leak_bound.specs.Records.{Pairwise, views}
 use Rattle.leak_bound.specs.Sound.{CutSound}
-use Rattle.audit_parts.specs.Agreement.{start_of, starts_of, AgreeFor}
-use Rattle.audit_parts.specs.Measured.{IsMeasure}
-use Rattle.audit_parts.specs.Surveyed.{IsSurvey, sequence_from}
-use Rattle.audit_parts.proofs.Marking.{typed_with}
+use Rattle.leak_audit.specs.Agreement.{start_of, starts_of, AgreeFor}
+use Rattle.leak_audit.specs.Measured.{IsMeasure}
+use Rattle.leak_audit.specs.Surveyed.{IsSurvey, sequence_from}
+use Rattle.leak_audit.proofs.Marking.{typed_with}
 use Rattle.cut_audit.proofs.Reporting.{may_cut, is_report, is_within}
 use Rattle.cut_audit.proofs.cut.cut.Goals as goal
 

@@ -6,7 +6,7 @@ use Rattle.tim_base.specs.Sinks.{AppendsPrefix}
 use Rattle.start_file.specs.declared.start.Start.{Start as Stored}
 use Rattle.start_file.specs.Starts.{StartValue, seen, IsFor}
 use Rattle.cycle_machine.specs.Rest.{Told}
-use Rattle.audit_parts.proofs.Agreeing.{All-seen}
+use Rattle.leak_audit.proofs.Agreeing.{All-seen}
 use Rattle.lab_runs.proofs.TextLemmas.{map-from, wrote_one, broke_in}
 use Rattle.lab_seen.specs.Seen.{line_text, line_in}
 use Rattle.lab_seen.proofs.walk.run_lines.Goals as goal

@@ -6,7 +6,7 @@ use Rattle.part_tlb.specs.Structures.{warmed}
 use Rattle.part_tlb.specs.Envs.{part_structure, part_touched, empty_part, part2_structure, part2_touched, empty_part2, part_env, part2_env}
 use Rattle.part_tlb.specs.declared.part.PartEnv.{PartEnv}
 use Rattle.part_tlb.specs.declared.part2.Part2Env.{Part2Env}
-use Rattle.audit_parts.specs.Agreement.{start_of}
+use Rattle.leak_audit.specs.Agreement.{start_of}
 use Rattle.tool_words.specs.declared.words.EnvName.{EnvName}
 use Rattle.tool_stages.specs.Envs.{flat_made}
 use Rattle.env_contract.specs.Flat.{flat_env}

@@ -4,8 +4,8 @@ use Rattle.std.proofs.lemmas.List.{length-map}
 use Rattle.env_contract.specs.Env.{Env}
 use Rattle.start_file.specs.declared.start.Start.{Start as Stored}
 use Rattle.start_file.specs.Starts.{StartValue, seen, IsFor}
-use Rattle.audit_parts.specs.Agreement.{start_of}
-use Rattle.audit_parts.proofs.Agreeing.{All-seen}
+use Rattle.leak_audit.specs.Agreement.{start_of}
+use Rattle.leak_audit.proofs.Agreeing.{All-seen}
 use Rattle.lab_runs.proofs.TextLemmas.{map-from}
 use Rattle.lab_timeline.proofs.Walking.{walking_first, walking_next, walking_breaks}
 use Rattle.lab_timeline.proofs.walk.write_runs.Goals as goal

@@ -3,7 +3,7 @@ use Rattle.std.specs.Prelude.{ℤ, List}
 use Rattle.env_contract.specs.Env.{Env}
 use Rattle.label_code.specs.Run.{Start}
 use Rattle.start_file.specs.Starts.{seen}
-use Rattle.audit_parts.specs.Agreement.{start_of}
+use Rattle.leak_audit.specs.Agreement.{start_of}
 use Rattle.lab_timeline.proofs.Walking.{head_breaks, rest_breaks}
 use Rattle.lab_timeline.proofs.write.write_run.Goals as goal
 

@@ -6,7 +6,7 @@ use Rattle.timing_types.specs.Labelled.{LabelledProgram}
 use Rattle.source_meaning.specs.Source.{HasEnded}
 use Rattle.start_file.specs.Starts.{StartValue, seen, IsFor}
 use Rattle.start_file.specs.declared.start.Start.{Start}
-use Rattle.audit_parts.proofs.Agreeing.{All-seen}
+use Rattle.leak_audit.proofs.Agreeing.{All-seen}
 use Rattle.level_counts.specs.Begun.{AreTold, memories_of}
 use Rattle.level_counts.proofs.Taking.{told_one, told_next, told_same}
 use Rattle.level_counts.proofs.levels.level_counts.Goals as goal

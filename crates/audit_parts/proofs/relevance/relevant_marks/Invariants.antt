@@ -1,6 +1,0 @@
-use Rattle.std.proofs.Common.{◌≡◌}
-use Rattle.audit_parts.proofs.Marking.{marks_told, relevance_by}
-use Rattle.audit_parts.proofs.relevance.relevant_marks.Given as goal
-
-abbrev pub invariant-loop-mark : goal.invariant-loop-mark
-invariant-loop-mark l = l.relevant.items ≡ marks_told (relevance_by l.p l.observer.number) 0 l.mark

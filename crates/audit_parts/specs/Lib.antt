@@ -1,6 +1,0 @@
-pub mod Agreement
-pub mod Sequences
-pub mod Observed
-pub mod Kept
-pub mod Surveyed
-pub mod Measured
