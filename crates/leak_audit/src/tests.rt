@@ -20,6 +20,7 @@ use label_lattice::name::Name;
 use mit_syntax::ast::{Command, Expr, Form};
 use mit_syntax::program::Program;
 use part_tlb::part::MakePart;
+use run_watch::Nobody;
 use start_file::start::Start;
 use std::alloc::{AllocError, Global};
 use text_base::pos::Pos;
@@ -129,7 +130,7 @@ fn audit_twice<E: MachineEnv + Drop, M: MakeEnv<E>>(
     requires limit { limit ≤ 2 ^ 40 }
 {
     let starts = [start(alloc), start(alloc)];
-    audit(alloc, p, image, &starts, LOW, limit, make)
+    audit(alloc, p, image, &starts, LOW, limit, make, &Nobody)
 }
 
 // Without caches the run halts at cycle 7, and its mitigation ends at 6. With them it halts at 35.
