@@ -27,7 +27,12 @@ use tool_texts::stop::{Stop, no_memory};
 use tool_words::words::EnvName;
 
 // Audits in the environment of a name.
-fn audit_named<W: Watch>(alloc: Global, p: &Prepared, setting: Setting, watch: &W) -> Result<AuditReport, AuditFault>
+fn audit_named<W: Watch>(
+    alloc: Global,
+    p: &Prepared,
+    setting: Setting,
+    watch: &W,
+) -> Result<AuditReport, AuditFault>
     requires fit { CanAudit p.now.compiled.typed.labelled p.now.observer p.now.compiled.image (map seen p.now.starts.items) }
     requires cycles { IsCycles setting.budget }
     ensures report { IfOk result (ReportsIn setting.env p.now.compiled.typed.labelled p.now.observer.number setting.budget (map seen p.now.starts.items)) }
@@ -38,9 +43,15 @@ fn audit_named<W: Watch>(alloc: Global, p: &Prepared, setting: Setting, watch: &
     image.laws();
     reports_are_the_same();
     match setting.env {
-        EnvName::Flat => audit(alloc, typed, image, starts, observer, budget, &MakeFlat, watch),
-        EnvName::Part => audit(alloc, typed, image, starts, observer, budget, &MakePart, watch),
-        EnvName::Part2 => audit(alloc, typed, image, starts, observer, budget, &MakePart2, watch),
+        EnvName::Flat => audit(
+            alloc, typed, image, starts, observer, budget, &MakeFlat, watch,
+        ),
+        EnvName::Part => audit(
+            alloc, typed, image, starts, observer, budget, &MakePart, watch,
+        ),
+        EnvName::Part2 => audit(
+            alloc, typed, image, starts, observer, budget, &MakePart2, watch,
+        ),
     }
 }
 
@@ -69,7 +80,12 @@ fn audit_stop(p: &Program, fault: AuditFault) -> Stop
 ///
 /// # Errors
 /// Stops with `Disagree`, `Unfinished`, `TooLong` or `Memory`.
-pub fn audited<W: Watch>(alloc: Global, p: &Prepared, setting: Setting, watch: &W) -> Result<AuditReport, Stop>
+pub fn audited<W: Watch>(
+    alloc: Global,
+    p: &Prepared,
+    setting: Setting,
+    watch: &W,
+) -> Result<AuditReport, Stop>
     requires fit { CanAudit p.now.compiled.typed.labelled p.now.observer p.now.compiled.image (map seen p.now.starts.items) }
     requires cycles { IsCycles setting.budget }
     ensures report { IfOk result (ReportsIn setting.env p.now.compiled.typed.labelled p.now.observer.number setting.budget (map seen p.now.starts.items)) }

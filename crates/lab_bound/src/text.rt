@@ -16,8 +16,8 @@ use audit_stage::audited::audited;
 use label_lattice::label::Label;
 use label_lattice::lattice::Lattice;
 use level_counts::levels::level_counts;
-use sharp_count::count::{LevelRuns, Runs, sharp_count};
 use run_watch::Watch;
+use sharp_count::count::{LevelRuns, Runs, sharp_count};
 use std::alloc::{AllocError, Global};
 use tim_base::shelf::Shelf;
 use tool_stages::prepared::{Prepared, prepare};
@@ -42,7 +42,12 @@ fn put_bound(
 }
 
 // The text of a prepared program.
-fn prepared_text<W: Watch>(alloc: Global, p: &Prepared, setting: Setting, watch: &W) -> Result<Vec<u8>, Stop>
+fn prepared_text<W: Watch>(
+    alloc: Global,
+    p: &Prepared,
+    setting: Setting,
+    watch: &W,
+) -> Result<Vec<u8>, Stop>
     requires fit { CanAudit p.now.compiled.typed.labelled p.now.observer p.now.compiled.image (map seen p.now.starts.items) }
     requires cycles { IsCycles setting.budget }
     ensures text { IfOk result (λ v. HasBound setting.env setting.budget p.now.compiled.typed.labelled (Some p.now.observer) (map seen p.now.starts.items) status.Done v.items) }

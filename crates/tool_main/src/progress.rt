@@ -10,6 +10,7 @@ use tim_base::line::Line;
 
 // When the line is first written, and how long it then stands, in milliseconds.
 const FIRST: u64 = 2000;
+
 const STANDS: u64 = 250;
 
 // What takes a line away.

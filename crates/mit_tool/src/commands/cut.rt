@@ -33,7 +33,12 @@ use tool_texts::stop::{Stop, no_memory};
 use tool_words::words::EnvName;
 
 /// Audits runs that may not have halted in the environment of a name.
-fn cut_named<W: Watch>(alloc: Global, p: &Prepared, setting: Setting, watch: &W) -> Result<CutReport, CutFault>
+fn cut_named<W: Watch>(
+    alloc: Global,
+    p: &Prepared,
+    setting: Setting,
+    watch: &W,
+) -> Result<CutReport, CutFault>
     requires fit { CanAudit p.now.compiled.typed.labelled p.now.observer p.now.compiled.image (map seen p.now.starts.items) }
     requires cycles { IsCycles setting.budget }
     ensures report { IfOk result (CutReportsIn setting.env p.now.compiled.typed.labelled p.now.observer.number setting.budget (map seen p.now.starts.items)) }
@@ -44,9 +49,15 @@ fn cut_named<W: Watch>(alloc: Global, p: &Prepared, setting: Setting, watch: &W)
     image.laws();
     reports_are_the_same();
     match setting.env {
-        EnvName::Flat => cut(alloc, typed, image, starts, observer, budget, &MakeFlat, watch),
-        EnvName::Part => cut(alloc, typed, image, starts, observer, budget, &MakePart, watch),
-        EnvName::Part2 => cut(alloc, typed, image, starts, observer, budget, &MakePart2, watch),
+        EnvName::Flat => cut(
+            alloc, typed, image, starts, observer, budget, &MakeFlat, watch,
+        ),
+        EnvName::Part => cut(
+            alloc, typed, image, starts, observer, budget, &MakePart, watch,
+        ),
+        EnvName::Part2 => cut(
+            alloc, typed, image, starts, observer, budget, &MakePart2, watch,
+        ),
     }
 }
 
@@ -68,7 +79,12 @@ fn cut_stop(p: &Program, fault: CutFault) -> Stop
 }
 
 // The lines of an audit's report.
-fn cut_report<W: Watch>(alloc: Global, p: &Prepared, setting: Setting, watch: &W) -> Result<Vec<u8>, Stop>
+fn cut_report<W: Watch>(
+    alloc: Global,
+    p: &Prepared,
+    setting: Setting,
+    watch: &W,
+) -> Result<Vec<u8>, Stop>
     requires fit { CanAudit p.now.compiled.typed.labelled p.now.observer p.now.compiled.image (map seen p.now.starts.items) }
     requires cycles { IsCycles setting.budget }
     ensures text { IfOk result (λ v. HasCut setting.env setting.budget p.now.compiled.typed.labelled (Some p.now.observer) (map seen p.now.starts.items) Status.Done v.items) }
