@@ -17,6 +17,7 @@ use leak_audit::report::{AuditFault, AuditReport};
 use mit_syntax::program::Program;
 use part_tlb::part::MakePart;
 use part_tlb::part2::MakePart2;
+use run_watch::Watch;
 use std::alloc::Global;
 use tool_stages::prepared::Prepared;
 use tool_stages::setting::Setting;
@@ -26,7 +27,12 @@ use tool_texts::stop::{Stop, no_memory};
 use tool_words::words::EnvName;
 
 // Audits in the environment of a name.
-fn audit_named(alloc: Global, p: &Prepared, setting: Setting) -> Result<AuditReport, AuditFault>
+fn audit_named<W: Watch>(
+    alloc: Global,
+    p: &Prepared,
+    setting: Setting,
+    watch: &W,
+) -> Result<AuditReport, AuditFault>
     requires fit { CanAudit p.now.compiled.typed.labelled p.now.observer p.now.compiled.image (map seen p.now.starts.items) }
     requires cycles { IsCycles setting.budget }
     ensures report { IfOk result (ReportsIn setting.env p.now.compiled.typed.labelled p.now.observer.number setting.budget (map seen p.now.starts.items)) }
@@ -37,9 +43,15 @@ fn audit_named(alloc: Global, p: &Prepared, setting: Setting) -> Result<AuditRep
     image.laws();
     reports_are_the_same();
     match setting.env {
-        EnvName::Flat => audit(alloc, typed, image, starts, observer, budget, &MakeFlat),
-        EnvName::Part => audit(alloc, typed, image, starts, observer, budget, &MakePart),
-        EnvName::Part2 => audit(alloc, typed, image, starts, observer, budget, &MakePart2),
+        EnvName::Flat => audit(
+            alloc, typed, image, starts, observer, budget, &MakeFlat, watch,
+        ),
+        EnvName::Part => audit(
+            alloc, typed, image, starts, observer, budget, &MakePart, watch,
+        ),
+        EnvName::Part2 => audit(
+            alloc, typed, image, starts, observer, budget, &MakePart2, watch,
+        ),
     }
 }
 
@@ -64,18 +76,23 @@ fn audit_stop(p: &Program, fault: AuditFault) -> Stop
     }
 }
 
-/// The report of an audit in the environment of a name.
+/// The report of an audit in the environment of a name. A watch is told how far each run has come.
 ///
 /// # Errors
 /// Stops with `Disagree`, `Unfinished`, `TooLong` or `Memory`.
-pub fn audited(alloc: Global, p: &Prepared, setting: Setting) -> Result<AuditReport, Stop>
+pub fn audited<W: Watch>(
+    alloc: Global,
+    p: &Prepared,
+    setting: Setting,
+    watch: &W,
+) -> Result<AuditReport, Stop>
     requires fit { CanAudit p.now.compiled.typed.labelled p.now.observer p.now.compiled.image (map seen p.now.starts.items) }
     requires cycles { IsCycles setting.budget }
     ensures report { IfOk result (ReportsIn setting.env p.now.compiled.typed.labelled p.now.observer.number setting.budget (map seen p.now.starts.items)) }
     ensures stop { IfErr result (IsStop (AuditStops setting.env setting.budget p.now.compiled.typed.labelled p.now.observer (map seen p.now.starts.items))) }
 {
     let program = p.compiled.typed.labelled().program();
-    match audit_named(alloc, p, setting) {
+    match audit_named(alloc, p, setting, watch) {
         Ok(report) => Ok(report),
         Err(fault) => Err(audit_stop(program, fault)),
     }

@@ -16,6 +16,7 @@ use leak_audit::measure::measure;
 use leak_audit::relevance::relevant_marks;
 use leak_audit::survey::{Request, survey_runs};
 use leak_bound::laws::lowered_few_sequences;
+use run_watch::Watch;
 use start_file::start::Start;
 use std::alloc::Global;
 use timing_types::typed::Typed;
@@ -25,12 +26,13 @@ use timing_types::typed::Typed;
 /// runs that have halted and of those that have not. That is at most the base to the power of the exponent of the
 /// report's measures, in every environment that keeps the laws of `MachineEnv`. The image is that of the program, the
 /// starts are for it, and the observer is one of its labels. Keeps 24 bytes for each assignment of each different sequence.
+/// A watch is told how far each run has come.
 ///
 /// # Errors
 /// First all starts are compared: `Disagree` exactly where some start does not agree with the first one. Then
 /// `TooMuch` comes exactly where more than 16,777,216 assignments are seen up to and with some run, for the
 /// first such run. `Memory` is want of memory.
-pub fn cut<E: MachineEnv + Drop, M: MakeEnv<E>>(
+pub fn cut<E: MachineEnv + Drop, M: MakeEnv<E>, W: Watch>(
     alloc: Global,
     p: &Typed,
     image: &Image,
@@ -38,6 +40,7 @@ pub fn cut<E: MachineEnv + Drop, M: MakeEnv<E>>(
     observer: Label,
     limit: u64,
     make: &M,
+    watch: &W,
 ) -> Result<CutReport, CutFault>
     requires image { image.now ≡ lowered p.now.labelled }
     requires some { 0 < length starts.now }
@@ -64,7 +67,7 @@ pub fn cut<E: MachineEnv + Drop, M: MakeEnv<E>>(
         observer,
         relevant: relevant.as_slice(),
     };
-    let survey = match survey_runs(alloc, labelled, image, starts, &request, make) {
+    let survey = match survey_runs(alloc, labelled, image, starts, &request, make, watch) {
         Ok(survey) => survey,
         Err(fault) => return Err(CutFault::of(fault)),
     };

@@ -15,6 +15,7 @@ use leak_audit::measure::Measures;
 use leak_audit::report::{AuditFault, AuditReport};
 use mit_syntax::program::Program;
 use part_tlb::part::MakePart;
+use run_watch::Nobody;
 use sample_program::{mitigated, one_label};
 use start_file::start::Start;
 use std::alloc::{AllocError, Global};
@@ -81,7 +82,7 @@ fn audit_twice<E: MachineEnv + Drop, M: MakeEnv<E>>(
     requires limit { limit ≤ 2 ^ 40 }
 {
     let starts = [start(alloc), start(alloc)];
-    audit(alloc, p, image, &starts, LOW, limit, make)
+    audit(alloc, p, image, &starts, LOW, limit, make, &Nobody)
 }
 
 // The same runs, cut at the limit.
@@ -99,7 +100,7 @@ fn cut_twice<E: MachineEnv + Drop, M: MakeEnv<E>>(
     requires limit { limit ≤ 2 ^ 40 }
 {
     let starts = [start(alloc), start(alloc)];
-    cut(alloc, p, image, &starts, LOW, limit, make)
+    cut(alloc, p, image, &starts, LOW, limit, make, &Nobody)
 }
 
 // What is measured of them: one sequence, and no label that does not flow to the observer.

@@ -4,12 +4,13 @@ ghost use Rattle.label_code.specs.Shaped.{IsShaped};
 ghost use Rattle.cycle_machine.specs.Seen.{seen};
 ghost use Rattle.cycle_machine.specs.Turned.{CallWent, IsStop};
 
-use crate::run::run;
+use crate::run::{run, tell_turn};
 use crate::state::State;
 use crate::turn::Turn;
 use doubling_schedule::misses::MissTable;
 use env_contract::env::MachineEnv;
 use label_code::image::Image;
+use run_watch::{Nobody, RunNumber, Watch, Watched};
 use std::alloc::Global;
 use std::marker::Model;
 use text_base::pos::Memory;
@@ -82,18 +83,26 @@ impl<'a, E: MachineEnv + Drop> Machine<'a, E> {
     pub fn next(&mut self, limit: u64) -> Turn
         ensures { CallWent E.env [] limit self.old result self.new }
     {
-        self.next_shown(limit, &[])
+        let only = RunNumber { run: 1, runs: 1 };
+        self.next_shown(limit, &[], &Watched::new(&Nobody, only))
     }
 
     /// The same, but goes past each assignment to a variable of which the list says, by its number, that its
-    /// assignments are not shown.
-    pub fn next_shown(&mut self, limit: u64, shown: &[bool]) -> Turn
+    /// assignments are not shown. A watch is told each time that the clock has come past a multiple of 2^24.
+    pub fn next_shown<W: Watch>(
+        &mut self,
+        limit: u64,
+        shown: &[bool],
+        watch: &Watched<'_, W>,
+    ) -> Turn
         ensures { CallWent E.env shown.now limit self.old result self.new }
     {
         if let Some(turn) = self.stopped {
             return turn;
         }
-        let turn = run(self.image, &mut self.state, limit, shown);
+        let begun = self.state.clock;
+        let turn = run(self.image, &mut self.state, limit, shown, watch);
+        tell_turn(begun, self.state.clock, limit, watch);
         match turn {
             Turn::Halted { .. } | Turn::Limit { .. } => {
                 self.stopped = Some(turn);

@@ -8,6 +8,7 @@ use crate::state::{Outcome, State};
 use crate::turn::Turn;
 use env_contract::env::MachineEnv;
 use label_code::image::Image;
+use run_watch::{Watch, Watched};
 
 impl<E: MachineEnv> State<E> {
     // A vector's length is that of its elements.
@@ -45,13 +46,50 @@ fn is_shown(shown: &[bool], variable: u32) -> bool
     }
 }
 
-/// Steps to the end of a turn, past assignments that are not shown.
-pub fn run<E: MachineEnv>(image: &Image, state: &mut State<E>, limit: u64, shown: &[bool]) -> Turn
+// The last cycle of a stage, of 2^24 cycles, in which a clock stands.
+fn last_of_stage(clock: u64) -> u64 {
+    clock | 16_777_215
+}
+
+// Tells a watch that a stage has ended, and answers the last cycle of the next one.
+#[inline(never)]
+fn tell_stage<W: Watch>(clock: u64, limit: u64, watch: &Watched<'_, W>) -> u64 {
+    watch.tell(clock, limit);
+    last_of_stage(clock)
+}
+
+// Tells a watch where the clock has come past the last cycle of a stage, and answers the last one of its stage.
+#[inline(always)]
+fn heed<W: Watch>(last: u64, clock: u64, limit: u64, watch: &Watched<'_, W>) -> u64 {
+    if clock <= last {
+        last
+    } else {
+        tell_stage(clock, limit, watch)
+    }
+}
+
+/// Tells a watch where a turn has come into another stage, of 2^24 cycles, than that in which it began.
+#[inline(always)]
+pub fn tell_turn<W: Watch>(begun: u64, clock: u64, limit: u64, watch: &Watched<'_, W>) {
+    let _ = heed(last_of_stage(begun), clock, limit, watch);
+}
+
+/// Steps to the end of a turn, past assignments that are not shown. A watch is told at each step that comes into another
+/// stage, of 2^24 cycles, but for the last one.
+pub fn run<E: MachineEnv, W: Watch>(
+    image: &Image,
+    state: &mut State<E>,
+    limit: u64,
+    shown: &[bool],
+    watch: &Watched<'_, W>,
+) -> Turn
     requires { Stands E.serves image.now state.old }
     ensures turned { Turned E.env image.now shown.now state.old limit result state.new }
     ensures stands { stops result ≡ None → Stands E.serves image.now state.new }
 {
+    let mut last = last_of_stage(state.clock);
     'run: loop {
+        last = heed(last, state.clock, limit, watch);
         match advance(image, state, limit) {
             Outcome::Went => {}
             Outcome::Wrote(variable, value) => {

@@ -2,6 +2,7 @@ ghost use Rattle.std.specs.Prelude.{◌≡◌, ◌<◌, IfOk, IfSome};
 
 use crate::laws::{halt_is_run, limit_is_run, turns_go_on};
 use crate::machine::Machine;
+use crate::run::tell_turn;
 use crate::turn::Turn;
 use env_contract::flat::FlatEnv;
 use label_code::code::{Instr, Work};
@@ -9,7 +10,9 @@ use label_code::image::Image;
 use label_lattice::label::Label;
 use label_lattice::lattice::Lattice;
 use label_lattice::name::Name;
+use run_watch::{RunNumber, Watch, Watched};
 use std::alloc::Global;
+use std::cell::Cell;
 use text_base::pos::Memory;
 
 // The lattice of one label.
@@ -153,4 +156,34 @@ fn stops_at_a_limit(rt: HostRuntime) -> Result<(), Memory> {
     limit_is_run::<FlatEnv>();
     halt_is_run::<FlatEnv>();
     Ok(())
+}
+
+// Keeps the clock that it was told last.
+#[derive(Drop)]
+struct LastClock {
+    clock: Cell<u64>,
+}
+
+impl Watch for LastClock {
+    fn tell(&self, _number: RunNumber, clock: u64, _limit: u64) {
+        self.clock.set(clock);
+    }
+
+    fn clear(&self) {}
+}
+
+#[test]
+fn tells_a_watch_of_each_stage(rt: HostRuntime) {
+    let last = LastClock {
+        clock: Cell::new(0),
+    };
+    let watched = Watched::new(&last, RunNumber { run: 1, runs: 1 });
+    tell_turn(0, 16_777_215, 99_999_999, &watched);
+    assert_eq!(rt; last.clock.get(), 0);
+    tell_turn(16_777_215, 16_777_216, 99_999_999, &watched);
+    assert_eq!(rt; last.clock.get(), 16_777_216);
+    tell_turn(16_777_216, 33_554_431, 99_999_999, &watched);
+    assert_eq!(rt; last.clock.get(), 16_777_216);
+    tell_turn(5, 70_000_000, 99_999_999, &watched);
+    assert_eq!(rt; last.clock.get(), 70_000_000);
 }

@@ -18,6 +18,7 @@ use cycle_machine::turn::Turn;
 use env_contract::env::MachineEnv;
 use label_lattice::label::Label;
 use mit_syntax::program::Program;
+use run_watch::{RunNumber, Watched};
 use tim_base::line::Line;
 use tim_base::sink::{Sink, SinkFault, write_all};
 use timing_types::typed::Typed;
@@ -96,7 +97,8 @@ fn print_end<W: Sink>(end: RunEnd, out: &mut W) -> Result<Option<RunEnd>, SinkFa
 /// Runs a machine to a limit in cycles, and writes a line for each assignment that it makes, or of those
 /// that the observer sees, and then how it ended: `X = V @C`, with the place of an element in brackets
 /// after its array's name, and `end @C` or `limit @C`. The machine's image has as many variables as the
-/// program, and the observer is a label of it. Each line is written as one piece. Takes no memory.
+/// program, and the observer is a label of it. Each line is written as one piece. Takes no memory. The sink is told how far
+/// the run has come.
 ///
 /// # Errors
 /// The sink's fault, where a prefix of the text is written. The machine then stands after the last step that
@@ -126,7 +128,8 @@ pub fn print_run<E: MachineEnv + Drop, W: Sink>(
     let mut line = Line::new();
     'run: loop {
         m.laws();
-        let turn = m.next_shown(limit, &shown);
+        let watch = Watched::new(&*out, RunNumber { run: 1, runs: 1 });
+        let turn = m.next_shown(limit, &shown, &watch);
         if let Some(end) = print_turn(labelled.program(), turn, &mut line, out)? {
             return Ok(end);
         }

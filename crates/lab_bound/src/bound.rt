@@ -55,6 +55,6 @@ pub fn bound<S: Shelf, W: Sink>(
     ensures enough { NumbersAreEnough setting.env setting.budget }
 {
     sharp_counts_are_enough();
-    let text = bound_text(alloc, shelf, file, starts, observer, setting);
+    let text = bound_text(alloc, shelf, file, starts, observer, setting, &*out);
     tell(out, text)
 }

@@ -16,6 +16,7 @@ use audit_stage::audited::audited;
 use label_lattice::label::Label;
 use label_lattice::lattice::Lattice;
 use level_counts::levels::level_counts;
+use run_watch::Watch;
 use sharp_count::count::{LevelRuns, Runs, sharp_count};
 use std::alloc::{AllocError, Global};
 use tim_base::shelf::Shelf;
@@ -41,13 +42,18 @@ fn put_bound(
 }
 
 // The text of a prepared program.
-fn prepared_text(alloc: Global, p: &Prepared, setting: Setting) -> Result<Vec<u8>, Stop>
+fn prepared_text<W: Watch>(
+    alloc: Global,
+    p: &Prepared,
+    setting: Setting,
+    watch: &W,
+) -> Result<Vec<u8>, Stop>
     requires fit { CanAudit p.now.compiled.typed.labelled p.now.observer p.now.compiled.image (map seen p.now.starts.items) }
     requires cycles { IsCycles setting.budget }
     ensures text { IfOk result (λ v. HasBound setting.env setting.budget p.now.compiled.typed.labelled (Some p.now.observer) (map seen p.now.starts.items) status.Done v.items) }
     ensures stop { IfErr result (IsStop (HasBound setting.env setting.budget p.now.compiled.typed.labelled (Some p.now.observer) (map seen p.now.starts.items))) }
 {
-    let report = match audited(alloc, p, setting) {
+    let report = match audited(alloc, p, setting, watch) {
         Ok(report) => report,
         Err(stop) => return Err(stop),
     };
@@ -67,17 +73,18 @@ fn prepared_text(alloc: Global, p: &Prepared, setting: Setting) -> Result<Vec<u8
     }
 }
 
-/// The text of `bound` for the program of a file and the starts of another one.
+/// The text of `bound` for the program of a file and the starts of another one. A watch is told how far each run has come.
 ///
 /// # Errors
 /// Stops with the first refusal, or with `Memory`.
-pub fn bound_text<S: Shelf>(
+pub fn bound_text<S: Shelf, W: Watch>(
     alloc: Global,
     shelf: &mut S,
     file: &str,
     starts: &str,
     name: &str,
     setting: Setting,
+    watch: &W,
 ) -> Result<Vec<u8>, Stop>
     requires { IsCycles setting.budget }
     ensures same { (name : List ℕ) → S.content shelf.new name ≡ S.content shelf.old name }
@@ -91,7 +98,7 @@ pub fn bound_text<S: Shelf>(
         Ok(prepared) => prepared,
         Err(stop) => return Err(stop),
     };
-    match prepared_text(alloc, &prepared, setting) {
+    match prepared_text(alloc, &prepared, setting, watch) {
         Ok(text) => Ok(text),
         Err(stop) => Err(stop),
     }

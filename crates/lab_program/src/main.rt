@@ -2,29 +2,31 @@
 #![tactic(auto)]
 
 use lab_tool::lab_main;
+use run_watch::Watch;
 use std::alloc::Global;
 use std::io::{BufWriter, Write};
 use std::process::ExitCode;
 use tim_base::shelf::FileShelf;
 use tim_base::sink::OutSink;
 use tool_main::output::{At, kind_of_output};
+use tool_main::progress::ProgressLine;
 use tool_main::words::words;
 use tool_texts::status::Status;
 
 // Does what the words ask for, and writes each piece of the text at once.
-fn call_at_once(rt: &HostRuntime, alloc: Global, words: &[String]) -> Status {
+fn call_at_once<P: Watch>(rt: &HostRuntime, alloc: Global, words: &[String], watch: &P) -> Status {
     let mut shelf = FileShelf::new(rt);
-    let mut out = OutSink::new(rt.stdout());
+    let mut out = OutSink::new(rt.stdout(), watch);
     lab_main(alloc, words, &mut shelf, &mut out)
 }
 
 // Does what the words ask for. The text is kept in a buffer, which is written out where it is full and at the end.
-fn call_buffered(rt: &HostRuntime, alloc: Global, words: &[String]) -> Status {
+fn call_buffered<P: Watch>(rt: &HostRuntime, alloc: Global, words: &[String], watch: &P) -> Status {
     let Ok(mut buffer) = BufWriter::new(alloc, rt.stdout()) else {
-        return call_at_once(rt, alloc, words);
+        return call_at_once(rt, alloc, words, watch);
     };
     let mut shelf = FileShelf::new(rt);
-    let mut out = OutSink::new(&mut buffer);
+    let mut out = OutSink::new(&mut buffer, watch);
     let status = lab_main(alloc, words, &mut shelf, &mut out);
     match buffer.flush() {
         Ok(()) => status,
@@ -34,13 +36,15 @@ fn call_buffered(rt: &HostRuntime, alloc: Global, words: &[String]) -> Status {
 
 fn main(rt: HostRuntime) -> ExitCode {
     let alloc = rt.alloc();
+    let progress = ProgressLine::new(&rt, rt.stderr());
     let words = match words(&rt, alloc) {
         Ok(words) => words,
         Err(refused) => return ExitCode::from(refused.number()),
     };
     let status = match kind_of_output(&rt) {
-        At::TheEnd => call_buffered(&rt, alloc, words.as_slice()),
-        At::Once => call_at_once(&rt, alloc, words.as_slice()),
+        At::TheEnd => call_buffered(&rt, alloc, words.as_slice(), &progress),
+        At::Once => call_at_once(&rt, alloc, words.as_slice(), &progress),
     };
+    progress.clear();
     ExitCode::from(status.number())
 }

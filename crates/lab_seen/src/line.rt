@@ -11,6 +11,7 @@ ghost use Rattle.lab_seen.specs.Seen.{line_text};
 use cycle_machine::machine::Machine;
 use env_contract::env::MachineEnv;
 use label_lattice::label::Label;
+use run_watch::RunNumber;
 use seen_line::cells::put_number;
 use seen_line::write::write_seen;
 use tim_base::line::Line;
@@ -29,7 +30,7 @@ fn head_line(number: u32) -> Line
 
 /// Runs a machine to a limit in cycles, and writes the line of the run: its number, a tab, and what the observer
 /// sees of it as one field. The machine's image has as many variables as the program, and the observer is a label
-/// of it.
+/// of it. The sink is told how far the run has come, and that there are so many runs.
 ///
 /// # Errors
 /// The sink's fault, where a prefix of the line is written.
@@ -38,6 +39,7 @@ pub fn write_line<E: MachineEnv + Drop, W: Sink>(
     p: &Typed,
     observer: Label,
     number: u32,
+    runs: usize,
     limit: u64,
     out: &mut W,
 ) -> Result<(), SinkFault>
@@ -50,7 +52,11 @@ pub fn write_line<E: MachineEnv + Drop, W: Sink>(
 {
     let head = head_line(number);
     write_all(out, head.bytes())?;
-    write_seen(machine, p, observer, limit, out)?;
+    let place = RunNumber {
+        run: number as usize,
+        runs,
+    };
+    write_seen(machine, p, observer, limit, place, out)?;
     write_all(out, b"\n")?;
     Ok(())
 }

@@ -56,6 +56,7 @@ fn run_line<E: MachineEnv + Drop, M: MakeEnv<E>, W: Sink>(
         &p.compiled.typed,
         p.observer,
         number,
+        p.starts.len(),
         budget,
         out,
     ) {

@@ -16,6 +16,7 @@ use env_contract::make::MakeEnv;
 use label_code::image::Image;
 use label_lattice::label::Label;
 use leak_bound::laws::lowered_few_sequences;
+use run_watch::Watch;
 use start_file::start::Start;
 use std::alloc::Global;
 use timing_types::typed::Typed;
@@ -24,13 +25,14 @@ use timing_types::typed::Typed;
 /// and counts the different sequences of assignments, with their cycles, that an observer sees. That is at
 /// most the base to the power of the exponent of the report's measures, in every environment that keeps the laws of
 /// `MachineEnv`. The image is that of the program, the starts are for it, and the observer is one of its
-/// labels. Keeps 24 bytes for each assignment of each different sequence.
+/// labels. Keeps 24 bytes for each assignment of each different sequence. A watch is told how far each run
+/// has come.
 ///
 /// # Errors
 /// First all starts are compared: `Disagree` exactly where some start does not agree with the first one.
 /// Then each run in turn: `Unfinished` exactly where it has not halted by the limit, and else `TooMuch`
 /// exactly where more than 16,777,216 assignments are seen up to and with it. `Memory` is want of memory.
-pub fn audit<E: MachineEnv + Drop, M: MakeEnv<E>>(
+pub fn audit<E: MachineEnv + Drop, M: MakeEnv<E>, W: Watch>(
     alloc: Global,
     p: &Typed,
     image: &Image,
@@ -38,6 +40,7 @@ pub fn audit<E: MachineEnv + Drop, M: MakeEnv<E>>(
     observer: Label,
     limit: u64,
     make: &M,
+    watch: &W,
 ) -> Result<AuditReport, AuditFault>
     requires image { image.now ≡ lowered p.now.labelled }
     requires some { 0 < length starts.now }
@@ -64,7 +67,7 @@ pub fn audit<E: MachineEnv + Drop, M: MakeEnv<E>>(
         observer,
         relevant: relevant.as_slice(),
     };
-    let survey = survey_runs(alloc, labelled, image, starts, &request, make)?;
+    let survey = survey_runs(alloc, labelled, image, starts, &request, make, watch)?;
     let measures = measure(&order, observer, limit, survey.begun, survey.kinds);
     Ok(AuditReport {
         runs: starts.len() as u32,

@@ -13,6 +13,7 @@ use cycle_machine::machine::Machine;
 use cycle_machine::turn::Turn;
 use env_contract::env::MachineEnv;
 use label_lattice::label::Label;
+use run_watch::{Watch, Watched};
 use std::alloc::Global;
 use text_base::pos::Memory;
 use timing_types::labelled::Labelled;
@@ -133,13 +134,15 @@ impl Tally {
 
 /// Runs a machine to a limit in cycles, and tells what the observer sees of the run, how many relevant
 /// mitigations began and ended in it, and how it ended. The machine stands at its start, and its image has
-/// as many variables as the program. Fails only for want of memory, which the assignments take that are kept.
-pub fn observe<E: MachineEnv + Drop>(
+/// as many variables as the program. Fails only for want of memory, which the assignments take that are kept. A watch is
+/// told how far the run has come, at its start first.
+pub fn observe<E: MachineEnv + Drop, W: Watch>(
     alloc: Global,
     m: &mut Machine<E>,
     p: &Labelled,
     observer: &Observer<'_>,
     limit: u64,
+    watch: &Watched<'_, W>,
 ) -> Result<Observed, Memory>
     requires variables { m.old.code.variables ≡ variables p.now.program.declarations }
     requires going { m.old.stopped ≡ None }
@@ -148,10 +151,11 @@ pub fn observe<E: MachineEnv + Drop>(
     requires shown { TellsSeen p.now observer.now.label.number observer.now.shown.now }
     ensures { IfOk result (IsObserved p.now observer.now.label.number observer.now.relevant.now observer.now.room limit (rest_of E.env limit m.old)) }
 {
+    watch.tell(0, limit);
     let mut tally = Tally::new(alloc);
     'run: loop {
         m.laws();
-        let turn = m.next_shown(limit, observer.shown);
+        let turn = m.next_shown(limit, observer.shown, watch);
         if let Some(end) = tally.take(observer, turn)? {
             return Ok(Observed { tally, end });
         }

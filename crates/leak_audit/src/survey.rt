@@ -21,6 +21,7 @@ use env_contract::env::MachineEnv;
 use env_contract::make::MakeEnv;
 use label_code::image::Image;
 use label_lattice::label::Label;
+use run_watch::{RunNumber, Watch, Watched};
 use start_file::start::Start;
 use std::alloc::{AllocError, AllocFailed, Global};
 use text_base::pos::Memory;
@@ -164,7 +165,7 @@ fn of_first(run: u32, count: u64, before: u64) -> u64
 }
 
 // One run, from a start to the limit.
-fn observe_start<E: MachineEnv + Drop, M: MakeEnv<E>>(
+fn observe_start<E: MachineEnv + Drop, M: MakeEnv<E>, W: Watch>(
     alloc: Global,
     p: &Labelled,
     image: &Image,
@@ -172,6 +173,7 @@ fn observe_start<E: MachineEnv + Drop, M: MakeEnv<E>>(
     observer: &Observer<'_>,
     limit: u64,
     make: &M,
+    watch: &Watched<'_, W>,
 ) -> Result<Observed, Memory>
     requires image { image.now ≡ lowered p.now }
     requires start { IsFor p.now.program (seen start.now) }
@@ -182,24 +184,25 @@ fn observe_start<E: MachineEnv + Drop, M: MakeEnv<E>>(
     let env = make.make(alloc, image.lattice(), start.touches.as_slice())?;
     let memory = start.memory.clone()?;
     let mut machine = Machine::load(alloc, image, memory, env)?;
-    let seen = observe(alloc, &mut machine, p, observer, limit)?;
+    let seen = observe(alloc, &mut machine, p, observer, limit, watch)?;
     Ok(seen)
 }
 
 /// Runs a program's image from each start of a list in turn, and tells what the observer sees of each run,
 /// and how many have halted. Loads one machine at a time. The image is that of the program, and the starts
-/// are for it.
+/// are for it. A watch is told how far each run has come.
 ///
 /// # Errors
 /// The first run decides that has not halted, where all must, or with which more than `MAX_SHOWN`
 /// assignments are shown in all: `Unfinished`, else `TooMuch`. `Memory` is want of memory.
-pub fn survey_runs<E: MachineEnv + Drop, M: MakeEnv<E>>(
+pub fn survey_runs<E: MachineEnv + Drop, M: MakeEnv<E>, W: Watch>(
     alloc: Global,
     p: &Labelled,
     image: &Image,
     starts: &[Start],
     request: &Request<'_>,
     make: &M,
+    watch: &W,
 ) -> Result<Survey, SurveyFault>
     requires image { image.now ≡ lowered p.now }
     requires few { length starts.now ≤ 4096 }
@@ -220,7 +223,13 @@ pub fn survey_runs<E: MachineEnv + Drop, M: MakeEnv<E>>(
             relevant: request.relevant,
             room: MAX_SHOWN - survey.shown,
         };
-        let seen = observe_start(alloc, p, image, start, &observer, request.limit, make)?;
+        let number = RunNumber {
+            run: i + 1,
+            runs: starts.len(),
+        };
+        let watched = Watched::new(watch, number);
+        let limit = request.limit;
+        let seen = observe_start(alloc, p, image, start, &observer, limit, make, &watched)?;
         survey.take(i as u32 + 1, request.must_halt, seen)?;
     }
     Ok(survey)

@@ -8,6 +8,7 @@ ghost use Rattle.tim_base.specs.Sinks.{Grew};
 ghost use Rattle.mit_call.specs.Called.{HasCalled, HasEnded};
 
 use mit_tool::mitigate_main;
+use run_watch::Watch;
 use std::alloc::Global;
 use std::io::Write;
 use std::marker::Brand;
@@ -81,7 +82,7 @@ pub fn obey<S: Shelf, W: Sink>(
 }
 
 // Flushes the writer, but for one that has failed.
-fn end<O: Write>(out: OutSink<O>, status: Status) -> (Status, O)
+fn end<O: Write, P: Watch + Drop>(out: OutSink<O, P>, status: Status) -> (Status, O)
     ensures same { (result.0 ≡ status) ⊎ (result.0 ≡ Status.WriteFault) }
     ensures kept { Keeps out.contents (O.contents result.1) }
 {
@@ -96,18 +97,19 @@ fn end<O: Write>(out: OutSink<O>, status: Status) -> (Status, O)
 
 /// Does what the words of a command line ask for, over files and a writer, and gives the exit number and the writer. The
 /// text goes through a buffer, or piece by piece; the writer is flushed at the end. After a fault of the writer nothing more
-/// is handed to it.
-pub fn call<S: Shelf, O: Write>(
+/// is handed to it. A watch is told how far runs have come, and takes its line away before each write.
+pub fn call<S: Shelf, O: Write, P: Watch + Drop>(
     alloc: Global,
     words: &[String],
     shelf: &mut S,
     out: O,
+    watch: P,
     buffered: bool,
 ) -> (u8, O)
     ensures { HasCalled (S.content shelf.old) (λ name. Rose (S.faults shelf.old name) (S.faults shelf.new name))
         (O.contents out) (O.contents result.1) (map string_bytes words.now) result.0 }
 {
-    let (status, out) = obey(alloc, words, shelf, OutSink::new(out), buffered);
+    let (status, out) = obey(alloc, words, shelf, OutSink::new(out, watch), buffered);
     let (status, out) = end(out, status);
     (status.number(), out)
 }

@@ -120,10 +120,13 @@ fn obey<S: Shelf, W: Sink>(
             budget,
         } => {
             let setting = Setting { env, budget };
-            let text = audit_text(alloc, shelf, file, starts, observer, setting);
+            let text = audit_text(alloc, shelf, file, starts, observer, setting, &*out);
             tell(out, text)
         }
-        Command::Gen { size, number } => tell(out, gen_text(alloc, size, number)),
+        Command::Gen { size, number } => {
+            let text = gen_text(alloc, size, number, &*out);
+            tell(out, text)
+        }
         Command::Blackbox {
             ready,
             first,
@@ -137,7 +140,7 @@ fn obey<S: Shelf, W: Sink>(
             budget,
         } => {
             let setting = Setting { env, budget };
-            let text = cut_text(alloc, shelf, file, starts, observer, setting);
+            let text = cut_text(alloc, shelf, file, starts, observer, setting, &*out);
             tell(out, text)
         }
         Command::Certify { file } => tell(out, certify_text(alloc, shelf, file)),

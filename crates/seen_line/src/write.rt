@@ -15,6 +15,7 @@ use cycle_machine::machine::Machine;
 use env_contract::env::MachineEnv;
 use event_print::shown::shown_variables;
 use label_lattice::label::Label;
+use run_watch::{RunNumber, Watched};
 use tim_base::line::Line;
 use tim_base::sink::{Sink, SinkFault};
 use timing_types::typed::Typed;
@@ -22,7 +23,8 @@ use timing_types::typed::Typed;
 /// Runs a machine to a limit in cycles, and writes what an observer sees of the run as one field: each
 /// assignment that it sees as `X=V@C`, with the place of an element in brackets after its array's name, and a
 /// space between two of them; or `-` where it sees nothing. The machine's image has as many variables as the
-/// program, and the observer is a label of it. Takes no memory.
+/// program, and the observer is a label of it. Takes no memory. The sink is told how far the run, which has that number, has
+/// come.
 ///
 /// # Errors
 /// The sink's fault, where a prefix of the field is written.
@@ -31,6 +33,7 @@ pub fn write_seen<E: MachineEnv + Drop, W: Sink>(
     p: &Typed,
     observer: Label,
     limit: u64,
+    number: RunNumber,
     out: &mut W,
 ) -> Result<(), SinkFault>
     requires variables { m.old.code.variables ≡ variables p.now.labelled.program.declarations }
@@ -48,7 +51,8 @@ pub fn write_seen<E: MachineEnv + Drop, W: Sink>(
     let mut none = true;
     'run: loop {
         m.laws();
-        let turn = m.next_shown(limit, &shown);
+        let watch = Watched::new(&*out, number);
+        let turn = m.next_shown(limit, &shown, &watch);
         let written = write_turn(labelled.program(), none, turn, &mut line, out)?;
         if written.last {
             return Ok(());

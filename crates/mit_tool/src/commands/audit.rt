@@ -14,6 +14,7 @@ ghost use Rattle.mit_tool.specs.Audited.{HasAudited};
 ghost use Rattle.mit_tool.specs.Answers.{IsAnswer};
 
 use audit_stage::audited::audited;
+use run_watch::Watch;
 use std::alloc::Global;
 use tim_base::shelf::Shelf;
 use tool_stages::prepared::{Prepared, prepare};
@@ -22,15 +23,16 @@ use tool_texts::pieces::audits::put_audit;
 use tool_texts::status::Status;
 use tool_texts::stop::{Stop, no_memory};
 
-/// A text and after it the lines of an audit's report.
+/// A text and after it the lines of an audit's report. A watch is told how far each run has come.
 ///
 /// # Errors
 /// Stops with `Disagree`, `Unfinished`, `TooLong` or `Memory`.
-pub fn audit_after(
+pub fn audit_after<W: Watch>(
     alloc: Global,
     mut text: Vec<u8>,
     p: &Prepared,
     setting: Setting,
+    watch: &W,
 ) -> Result<Vec<u8>, Stop>
     requires fit { CanAudit p.now.compiled.typed.labelled p.now.observer p.now.compiled.image (map seen p.now.starts.items) }
     requires cycles { IsCycles setting.budget }
@@ -38,7 +40,7 @@ pub fn audit_after(
     ensures stop { IfErr result (IsStop (HasAudited setting.env setting.budget p.now.compiled.typed.labelled (Some p.now.observer) (map seen p.now.starts.items) text.items)) }
 {
     let program = p.compiled.typed.labelled().program();
-    let report = match audited(alloc, p, setting) {
+    let report = match audited(alloc, p, setting, watch) {
         Ok(report) => report,
         Err(stop) => return Err(stop),
     };
@@ -49,17 +51,18 @@ pub fn audit_after(
     }
 }
 
-/// The text of an audit of the program of a file from the starts of another one.
+/// The text of an audit of the program of a file from the starts of another one. A watch is told how far each run has come.
 ///
 /// # Errors
 /// Stops with the first refusal, or with `Memory`.
-pub fn audit_text<S: Shelf>(
+pub fn audit_text<S: Shelf, W: Watch>(
     alloc: Global,
     shelf: &mut S,
     file: &str,
     starts: &str,
     name: &str,
     setting: Setting,
+    watch: &W,
 ) -> Result<Vec<u8>, Stop>
     requires { IsCycles setting.budget }
     ensures same { (name : List ℕ) → S.content shelf.new name ≡ S.content shelf.old name }
@@ -74,7 +77,7 @@ pub fn audit_text<S: Shelf>(
         Ok(prepared) => prepared,
         Err(stop) => return Err(stop),
     };
-    match audit_after(alloc, Vec::new(alloc), &prepared, setting) {
+    match audit_after(alloc, Vec::new(alloc), &prepared, setting, watch) {
         Ok(text) => Ok(text),
         Err(stop) => Err(stop),
     }

@@ -21,6 +21,7 @@ use history_reports::laws::reports_are_the_same;
 use mit_syntax::program::Program;
 use part_tlb::part::MakePart;
 use part_tlb::part2::MakePart2;
+use run_watch::Watch;
 use std::alloc::Global;
 use tim_base::shelf::Shelf;
 use tool_stages::prepared::{Prepared, prepare};
@@ -32,7 +33,12 @@ use tool_texts::stop::{Stop, no_memory};
 use tool_words::words::EnvName;
 
 /// Audits runs that may not have halted in the environment of a name.
-fn cut_named(alloc: Global, p: &Prepared, setting: Setting) -> Result<CutReport, CutFault>
+fn cut_named<W: Watch>(
+    alloc: Global,
+    p: &Prepared,
+    setting: Setting,
+    watch: &W,
+) -> Result<CutReport, CutFault>
     requires fit { CanAudit p.now.compiled.typed.labelled p.now.observer p.now.compiled.image (map seen p.now.starts.items) }
     requires cycles { IsCycles setting.budget }
     ensures report { IfOk result (CutReportsIn setting.env p.now.compiled.typed.labelled p.now.observer.number setting.budget (map seen p.now.starts.items)) }
@@ -43,9 +49,15 @@ fn cut_named(alloc: Global, p: &Prepared, setting: Setting) -> Result<CutReport,
     image.laws();
     reports_are_the_same();
     match setting.env {
-        EnvName::Flat => cut(alloc, typed, image, starts, observer, budget, &MakeFlat),
-        EnvName::Part => cut(alloc, typed, image, starts, observer, budget, &MakePart),
-        EnvName::Part2 => cut(alloc, typed, image, starts, observer, budget, &MakePart2),
+        EnvName::Flat => cut(
+            alloc, typed, image, starts, observer, budget, &MakeFlat, watch,
+        ),
+        EnvName::Part => cut(
+            alloc, typed, image, starts, observer, budget, &MakePart, watch,
+        ),
+        EnvName::Part2 => cut(
+            alloc, typed, image, starts, observer, budget, &MakePart2, watch,
+        ),
     }
 }
 
@@ -67,14 +79,19 @@ fn cut_stop(p: &Program, fault: CutFault) -> Stop
 }
 
 // The lines of an audit's report.
-fn cut_report(alloc: Global, p: &Prepared, setting: Setting) -> Result<Vec<u8>, Stop>
+fn cut_report<W: Watch>(
+    alloc: Global,
+    p: &Prepared,
+    setting: Setting,
+    watch: &W,
+) -> Result<Vec<u8>, Stop>
     requires fit { CanAudit p.now.compiled.typed.labelled p.now.observer p.now.compiled.image (map seen p.now.starts.items) }
     requires cycles { IsCycles setting.budget }
     ensures text { IfOk result (λ v. HasCut setting.env setting.budget p.now.compiled.typed.labelled (Some p.now.observer) (map seen p.now.starts.items) Status.Done v.items) }
     ensures stop { IfErr result (IsStop (HasCut setting.env setting.budget p.now.compiled.typed.labelled (Some p.now.observer) (map seen p.now.starts.items))) }
 {
     let program = p.compiled.typed.labelled().program();
-    let report = match cut_named(alloc, p, setting) {
+    let report = match cut_named(alloc, p, setting, watch) {
         Ok(report) => report,
         Err(fault) => return Err(cut_stop(program, fault)),
     };
@@ -86,17 +103,19 @@ fn cut_report(alloc: Global, p: &Prepared, setting: Setting) -> Result<Vec<u8>, 
     }
 }
 
-/// The text of an audit of the program of a file from the starts of another one, up to a budget in cycles.
+/// The text of an audit of the program of a file from the starts of another one, up to a budget in cycles. A watch
+/// is told how far each run has come.
 ///
 /// # Errors
 /// Stops with the first refusal, or with `Memory`.
-pub fn cut_text<S: Shelf>(
+pub fn cut_text<S: Shelf, W: Watch>(
     alloc: Global,
     shelf: &mut S,
     file: &str,
     starts: &str,
     name: &str,
     setting: Setting,
+    watch: &W,
 ) -> Result<Vec<u8>, Stop>
     requires { IsCycles setting.budget }
     ensures same { (name : List ℕ) → S.content shelf.new name ≡ S.content shelf.old name }
@@ -111,7 +130,7 @@ pub fn cut_text<S: Shelf>(
         Ok(prepared) => prepared,
         Err(stop) => return Err(stop),
     };
-    match cut_report(alloc, &prepared, setting) {
+    match cut_report(alloc, &prepared, setting, watch) {
         Ok(text) => Ok(text),
         Err(stop) => Err(stop),
     }

@@ -14,6 +14,7 @@ ghost use Rattle.mit_tool.specs.Answers.{HasGenerated, made_content};
 
 use crate::commands::audit::audit_after;
 use mit_gen::made::{Made, make};
+use run_watch::Watch;
 use std::alloc::{AllocError, Global};
 use tool_stages::compiled::compile_program;
 use tool_stages::prepared::Prepared;
@@ -85,11 +86,11 @@ fn made_text(
 }
 
 /// The text of the audit of a made program, after what is told of the program. The size is from 1 to 10,000
-/// units, and the number at most 2,147,483,647.
+/// units, and the number at most 2,147,483,647. A watch is told how far each run has come.
 ///
 /// # Errors
 /// Stops with the first refusal, or with `Memory`.
-pub fn gen_text(alloc: Global, size: u32, number: u32) -> Result<Vec<u8>, Stop>
+pub fn gen_text<W: Watch>(alloc: Global, size: u32, number: u32, watch: &W) -> Result<Vec<u8>, Stop>
     requires some { 1 ≤ size }
     requires few { size ≤ 10000 }
     requires number { number ≤ 2147483647 }
@@ -109,7 +110,7 @@ pub fn gen_text(alloc: Global, size: u32, number: u32) -> Result<Vec<u8>, Stop>
         Ok(text) => text,
         Err(_) => return Err(no_memory()),
     };
-    match audit_after(alloc, text, &prepared, SETTING) {
+    match audit_after(alloc, text, &prepared, SETTING, watch) {
         Ok(text) => Ok(text),
         Err(stop) => Err(stop),
     }
