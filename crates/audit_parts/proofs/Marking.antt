@@ -10,6 +10,7 @@ use Rattle.leak_bound.specs.Relevant.{relevances, LevelsAre}
 use Rattle.leak_bound.proofs.Tells.{Tells}
 use Rattle.leak_bound.proofs.Source.{relevances-same}
 use Rattle.timing_types.proofs.Commands.{keep_commands}
+use Rattle.timing_types.proofs.Arrays.{valid_arrays}
 use Rattle.leak_bound.specs.Sound.{IsCompiled}
 use Rattle.leak_bound.specs.Source.{IsTypedWith}
 use Rattle.leak_bound.proofs.Compiled.{compiled, contexts_tell}
@@ -94,11 +95,11 @@ bare-mitigates ms ls (Mitigate w k l e c p) i = omega (arith, bare-mitigates ms 
 
 -- a labelled program that is typed, with the image that it is lowered to
 compiled_of : (p : LabelledProgram) → IsLattice (order_of p) → IsValid p.program → IsLabelling p.program p.labels → HasType p → IsCompiled p.program.order (labels_of p) (levels_of p) (lowered p).instrs (bare_of p)
-compiled_of p lattice valid kept typed = compiled p (lowered p).instrs lattice valid.numbered kept typed (image_is (order_of p) (labels_of p) (bare_of p))
+compiled_of p lattice valid kept typed = compiled p (lowered p).instrs lattice valid.numbered kept (valid_arrays p.program p.labels valid kept) typed (image_is (order_of p) (labels_of p) (bare_of p))
 
 -- a labelled program that is typed is one that the theorem speaks of
 pub typed_with : (p : LabelledProgram) → IsLattice (order_of p) → IsValid p.program → IsLabelling p.program p.labels → HasType p → IsTypedWith p
-typed_with p lattice valid kept typed = record { lattice = lattice; numbered = valid.numbered; labelling = kept; typed = typed }
+typed_with p lattice valid kept typed = record { lattice = lattice; numbered = valid.numbered; labelling = kept; arrays = valid_arrays p.program p.labels valid kept; typed = typed }
 
 -- relevance by a mitigate's program-counter label and its level
 abbrev pub relevance_by : TypedProgram → ℕ → ℕ → Bool

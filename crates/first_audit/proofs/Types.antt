@@ -90,4 +90,4 @@ least = record { labels = are_labels; meets = meets; least = λ others l m. belo
 
 pub typed : HasType labelled
 unfolding table flow_table join_table
-typed = (0, (1, refl, (refl, refl), refl, (refl, refl, refl)), (tt, (tt, tt), (tt, tt)))
+typed = (0, (1, refl, (refl, refl), refl, (refl, refl, refl)))

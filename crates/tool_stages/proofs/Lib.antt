@@ -2,6 +2,7 @@ pub mod TypeLemmas
 pub mod StopLemmas
 pub mod StartLemmas
 pub mod CertificateLemmas
+pub mod ArrayLemmas
 pub mod SoundLemmas
 pub mod PrepareLemmas
 pub mod RunLemmas

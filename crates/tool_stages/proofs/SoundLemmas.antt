@@ -12,20 +12,25 @@ use Rattle.mit_parser.specs.Named.{label_names}
 use Rattle.mit_parser.specs.Spells.{IsProgram}
 use Rattle.mit_parser.proofs.Small.{numbered_commands}
 use Rattle.parse_laws.proofs.Meant.{program_order}
-use Rattle.timing_types.specs.Labelling.{IsLabelling}
+use Rattle.timing_types.specs.Arrays.{ArraysIn}
+use Rattle.timing_types.specs.Labelling.{variable_of, IsLabelling}
 use Rattle.timing_types.specs.Labelled.{LabelledProgram, HasType}
+use Rattle.timing_types.proofs.Arrays.{valid_arrays}
 use Rattle.leak_bound.specs.Source.{IsTypedWith}
 use Rattle.leak_bound.specs.Over.{LoweredSoundOver, LoweredCutSoundOver}
 use Rattle.tool_stages.specs.Stages.{Types}
 use Rattle.tool_stages.specs.Accepted.{IsSoundIn}
+use Rattle.tool_stages.proofs.ArrayLemmas.{spelled_arrays}
 
 made_of : (p : Syntax) (q : LabelledProgram) → IsValid p → Types p q → IsTypedWith q
 made_of p q valid types =
     let is : IsValid q.program = subst IsValid (sym types.program) valid in
+    let labelling = subst (λ (s : Syntax). IsLabelling s q.labels) (sym types.program) types.least.labels.keeps in
     record {
       lattice = order_is q.program.order is.order;
       numbered = is.numbered;
-      labelling = subst (λ (s : Syntax). IsLabelling s q.labels) (sym types.program) types.least.labels.keeps;
+      labelling = labelling;
+      arrays = valid_arrays q.program q.labels is labelling;
       typed = types.typed;
     }
 
@@ -43,6 +48,7 @@ typed_made words p q spelled is labelling typed =
       lattice = subst (λ (s : Syntax). IsLattice (lattice_of s.order)) (sym is) (order_is p.order (program_order words p spelled));
       numbered = subst (λ (s : Syntax). AreNumbered 0 (plan_of s)) (sym is) numbered;
       labelling = subst (λ (s : Syntax). IsLabelling s q.labels) (sym is) labelling;
+      arrays = subst (λ (s : Syntax). ArraysIn (variable_of s.order q.labels) (plan_of s)) (sym is) (spelled_arrays words p q.labels spelled labelling);
       typed = typed;
     }
 
