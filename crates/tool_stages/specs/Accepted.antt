@@ -8,7 +8,7 @@ use Rattle.mit_parser.specs.Words.{Told}
 use Rattle.mit_parser.specs.Spells.{IsProgram}
 use Rattle.timing_types.specs.Labelling.{IsLabelling}
 use Rattle.timing_types.specs.Labelled.{LabelledProgram, HasType, labels_of, levels_of}
-use Rattle.code_lower.specs.Lowered.{lowered}
+use Rattle.code_lower.specs.Lowered.{instrs_of}
 use Rattle.part_tlb.specs.Histories.{part_by_history, part2_by_history}
 use Rattle.history_bound.specs.Over.{AnyHistory}
 use Rattle.leak_bound.specs.Sound.{Sound, CutSound}
@@ -20,8 +20,8 @@ use Rattle.env_contract.specs.Flat.{flat_env}
 -- The image of a labelled program is sound in an environment, for runs that halt and for runs that are cut. Its
 -- source is the program that is labelled, without its labels.
 pub record IsSoundIn {E : Type 0} (v : Env E) (serves : Order → E → Type 0) (q : LabelledProgram) : Type 0 where
-  pub halted : Sound v q.program.order (serves q.program.order) (labels_of q) (levels_of q) (lowered q).instrs (plan_of q.program)
-  pub cut : CutSound v q.program.order (serves q.program.order) (labels_of q) (levels_of q) (lowered q).instrs (plan_of q.program)
+  pub halted : Sound v q.program.order (serves q.program.order) (labels_of q) (levels_of q) (instrs_of q) (plan_of q.program)
+  pub cut : CutSound v q.program.order (serves q.program.order) (labels_of q) (levels_of q) (instrs_of q) (plan_of q.program)
 
 -- it is in each environment that `--env` names
 pub record IsSound (q : LabelledProgram) : Type 0 where
