@@ -41,7 +41,7 @@ pub fn measure(
     ensures { (seqs : List (List Event)) → AreKinds seqs kinds → IsMeasure order.now observer.number limit mitigations seqs result }
 {
     let levels = order.not_below(observer);
-    let _ = order.size();
+    order.laws();
     let Kinds { different, classes } = kinds;
     Measures {
         levels,

@@ -19,7 +19,7 @@ pub fn relevant_marks(alloc: Global, p: &Typed, observer: Label) -> Result<Vec<b
     let program = labelled.program();
     let lattice = program.lattice();
     lattice.laws();
-    let _ = program.body();
+    program.laws();
     let count = program.mitigates();
     let mut relevant = Vec::with_capacity(alloc, count as usize)?;
     for mark in 0..count {

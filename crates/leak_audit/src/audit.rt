@@ -55,7 +55,7 @@ pub fn audit<E: MachineEnv + Drop, M: MakeEnv<E>>(
     let program = labelled.program();
     let order = program.lattice();
     order.laws();
-    let _ = program.body();
+    program.laws();
     all_agree(alloc, labelled, starts, observer, make)?;
     let relevant = relevant_marks(alloc, p, observer)?;
     let request = Request {

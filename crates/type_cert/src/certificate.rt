@@ -18,7 +18,8 @@ use timing_types::labelled::Labelled;
 /// Puts the lines of the declarations.
 fn put_variables(out: &mut Vec<u8>, order: &Lattice, q: &Labelled) -> Result<(), AllocError>
     requires { order.now ≡ q.now.program.order }
-    ensures { OnOk result (out.new.items ≡ out.old.items ++ variables_text order.now q.now.program.declarations (declared_labels (labels_of q.now) 0 q.now.program.declarations)) }
+    ensures { OnOk result (out.new.items ≡ out.old.items ++ variables_text order.now q.now.program.declarations
+        (declared_labels (labels_of q.now) 0 q.now.program.declarations)) }
 {
     let declarations = q.program().declarations();
     let mut first = 0;
@@ -48,7 +49,7 @@ pub fn certificate(alloc: Global, q: &Labelled) -> Result<Vec<u8>, AllocError>
     ensures { IfOk result (λ v. v.items ≡ derived_text q.now) }
 {
     let order = q.program().lattice();
-    let _ = q.program().body();
+    q.program().laws();
     let lines = derive(alloc, q)?;
     let mut out = Vec::new(alloc);
     out.extend_from_slice(b"certificate 1\n")?;

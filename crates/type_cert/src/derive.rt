@@ -74,7 +74,8 @@ fn put_end(lines: &mut [Line], number: usize, end: Label)
 /// Gives the line of a `while` this end, and joins it into the lines of the body, which follow.
 fn close_loop(lines: &mut [Line], number: usize, order: &Lattice, end: Label)
     requires { number < length lines.old }
-    ensures { (x y : List Line) (l : Line) → lines.old ≡ x ++ l ∷ y → length x ≡ number → lines.new ≡ x ++ record l { end = end } ∷ map (raised (lattice_of order.now) end.number) y }
+    ensures { (x y : List Line) (l : Line) → lines.old ≡ x ++ l ∷ y → length x ≡ number
+        → lines.new ≡ x ++ record l { end = end } ∷ map (raised (lattice_of order.now) end.number) y }
 {
     put_end(lines, number, end);
     raise(lines, number + 1, order, end);
@@ -90,9 +91,14 @@ fn command_lines(
     start: Label,
     found: &mut Vec<Line>,
 ) -> Result<Label, AllocError>
-    ensures count { IfOk result (λ _. length found.new.items ≡ length found.old.items + form_count c.now.form (record { pos = c.now.pos; labels = c.now.labels })) }
-    ensures lines { IfOk result (λ end. (rest : Plan) → found.old.items ++ derived (lattice_of order.now) (variable_of order.now p.now) (tree_of order.now p.now (command_plan c.now rest) (length found.old.items)) pc.number start.number ≡ found.new.items ++ derived (lattice_of order.now) (variable_of order.now p.now) (tree_of order.now p.now rest (length found.new.items)) pc.number end.number) }
-    ensures end { IfOk result (λ end. (rest : Plan) → end_of order.now p.now (command_plan c.now rest) (length found.old.items) pc.number start.number ≡ end_of order.now p.now rest (length found.new.items) pc.number end.number) }
+    ensures count { IfOk result (λ _. length found.new.items
+        ≡ length found.old.items + form_count c.now.form (record { pos = c.now.pos; labels = c.now.labels })) }
+    ensures lines { IfOk result (λ end. (rest : Plan) → found.old.items ++ derived (lattice_of order.now) (variable_of order.now p.now)
+        (tree_of order.now p.now (command_plan c.now rest) (length found.old.items)) pc.number start.number
+        ≡ found.new.items ++ derived (lattice_of order.now) (variable_of order.now p.now) (tree_of order.now p.now rest (length found.new.items)) pc.number
+        end.number) }
+    ensures end { IfOk result (λ end. (rest : Plan) → end_of order.now p.now (command_plan c.now rest) (length found.old.items) pc.number start.number
+        ≡ end_of order.now p.now rest (length found.new.items) pc.number end.number) }
 {
     let number = found.len();
     let own = p.command(number, order);
@@ -183,7 +189,8 @@ fn list_lines(
     found: &mut Vec<Line>,
 ) -> Result<Label, AllocError>
     ensures count { IfOk result (λ _. length found.new.items ≡ length found.old.items + count (list_plan commands.now)) }
-    ensures lines { IfOk result (λ _. found.new.items ≡ found.old.items ++ derived (lattice_of order.now) (variable_of order.now p.now) (tree_of order.now p.now (list_plan commands.now) (length found.old.items)) pc.number start.number) }
+    ensures lines { IfOk result (λ _. found.new.items ≡ found.old.items ++ derived (lattice_of order.now) (variable_of order.now p.now)
+        (tree_of order.now p.now (list_plan commands.now) (length found.old.items)) pc.number start.number) }
     ensures end { IfOk result (λ end. end.number ≡ end_of order.now p.now (list_plan commands.now) (length found.old.items) pc.number start.number) }
 {
     let mut end = start;

@@ -26,9 +26,14 @@ fn command_places(
     close: Close,
     found: &mut Vec<Place>,
 ) -> Result<(), AllocError>
-    ensures count { IfOk result (λ _. length found.new.items ≡ length found.old.items + form_count c.now.form (record { pos = c.now.pos; labels = c.now.labels })) }
-    ensures places { IfOk result (λ _. (rest : Plan) (last : Close) → close ≡ closing rest last → found.old.items ++ places (lattice_of order.now) (label_at order.now.bottom variables.now) (command_plan c.now rest) (length found.old.items) pc.number start last ≡ found.new.items ++ places (lattice_of order.now) (label_at order.now.bottom variables.now) rest (length found.new.items) pc.number (After (length found.old.items)) last) }
-    ensures last { IfOk result (λ _. (rest : Plan) (last : ℕ) → last_of (command_plan c.now rest) (length found.old.items) last ≡ last_of rest (length found.new.items) (length found.old.items)) }
+    ensures count { IfOk result (λ _. length found.new.items
+        ≡ length found.old.items + form_count c.now.form (record { pos = c.now.pos; labels = c.now.labels })) }
+    ensures places { IfOk result (λ _. (rest : Plan) (last : Close) → close ≡ closing rest last
+        → found.old.items ++ places (lattice_of order.now) (label_at order.now.bottom variables.now) (command_plan c.now rest) (length found.old.items)
+        pc.number start last ≡ found.new.items ++ places (lattice_of order.now) (label_at order.now.bottom variables.now) rest (length found.new.items)
+        pc.number (After (length found.old.items)) last) }
+    ensures last { IfOk result (λ _. (rest : Plan) (last : ℕ)
+        → last_of (command_plan c.now rest) (length found.old.items) last ≡ last_of rest (length found.new.items) (length found.old.items)) }
 {
     let number = found.len();
     match &c.form {
@@ -213,7 +218,9 @@ pub(crate) fn list_places(
     found: &mut Vec<Place>,
 ) -> Result<usize, AllocError>
     ensures count { IfOk result (λ _. length found.new.items ≡ length found.old.items + count (list_plan commands.now)) }
-    ensures places { IfOk result (λ _. found.new.items ≡ found.old.items ++ places (lattice_of order.now) (label_at order.now.bottom variables.now) (list_plan commands.now) (length found.old.items) pc.number start close) }
+    ensures places { IfOk result (λ _. found.new.items
+        ≡ found.old.items ++ places (lattice_of order.now) (label_at order.now.bottom variables.now) (list_plan commands.now) (length found.old.items) pc.number
+        start close) }
     ensures last { IfOk result (λ last. last ≡ last_of (list_plan commands.now) (length found.old.items) (length found.old.items)) }
 {
     let mut last = found.len();

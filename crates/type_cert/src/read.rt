@@ -61,7 +61,8 @@ fn name<'a>(text: &'a [u8], order: &Lattice) -> Option<(Label, &'a [u8])>
 
 /// The label whose name stands behind a word at the front of a text, and what follows it.
 fn label<'a>(text: &'a [u8], word: &[u8], order: &Lattice) -> Option<(Label, &'a [u8])>
-    ensures { MatchOption result ((l : Label) (q : List ℕ) → ReadsLabel order.now word.now text.now l q → ⊥) (λ r. ReadsLabel order.now word.now text.now r.0 r.1.now) }
+    ensures { MatchOption result ((l : Label) (q : List ℕ) → ReadsLabel order.now word.now text.now l q → ⊥)
+        (λ r. ReadsLabel order.now word.now text.now r.0 r.1.now) }
 {
     let rest = after(text, word)?;
     let (label, rest) = name(rest, order)?;
@@ -71,7 +72,8 @@ fn label<'a>(text: &'a [u8], word: &[u8], order: &Lattice) -> Option<(Label, &'a
 /// The level in a command's line, and what follows it.
 fn level<'a>(text: &'a [u8], order: &Lattice, act: Act) -> Option<(Option<Label>, &'a [u8])>
     requires { StopsAt is_name_byte text.now }
-    ensures { MatchOption result ((v : Option Label) (q : List ℕ) → ReadsLevel order.now act text.now v q → ⊥) (λ r. ReadsLevel order.now act text.now r.0 r.1.now) }
+    ensures { MatchOption result ((v : Option Label) (q : List ℕ) → ReadsLevel order.now act text.now v q → ⊥)
+        (λ r. ReadsLevel order.now act text.now r.0 r.1.now) }
 {
     match act {
         Act::Mitigate { .. } => match label(text, b" level ", order) {
@@ -115,7 +117,8 @@ pub(crate) fn line<'a>(
     number: usize,
     act: Act,
 ) -> Option<(Line, &'a [u8])>
-    ensures { MatchOption result ((x : Line) (q : List ℕ) → ReadsLine order.now number act text.now x q → ⊥) (λ r. ReadsLine order.now number act text.now r.0 r.1.now) }
+    ensures { MatchOption result ((x : Line) (q : List ℕ) → ReadsLine order.now number act text.now x q → ⊥)
+        (λ r. ReadsLine order.now number act text.now r.0 r.1.now) }
 {
     order.laws();
     let rule = rule_of(act);
@@ -141,7 +144,8 @@ pub(crate) fn line<'a>(
 
 /// The label in the line of a declaration, and what follows the line.
 pub(crate) fn variable<'a>(text: &'a [u8], order: &Lattice, name: Name) -> Option<(Label, &'a [u8])>
-    ensures { MatchOption result ((l : Label) (q : List ℕ) → ReadsVariable order.now name text.now l q → ⊥) (λ r. ReadsVariable order.now name text.now r.0 r.1.now) }
+    ensures { MatchOption result ((l : Label) (q : List ℕ) → ReadsVariable order.now name text.now l q → ⊥)
+        (λ r. ReadsVariable order.now name text.now r.0 r.1.now) }
 {
     order.laws();
     let rest = after(text, b"var ")?;

@@ -57,7 +57,8 @@ fn right_variable<'a>(
     name: Name,
     written: Option<Label>,
 ) -> Option<(Label, &'a [u8])>
-    ensures { MatchOption result ((l : Label) (q : List ℕ) → ReadsVariable order.now name text.now l q → IsKept written l.number → ⊥) (λ r. ReadsVariable order.now name text.now r.0 r.1.now × IsKept written r.0.number) }
+    ensures { MatchOption result ((l : Label) (q : List ℕ) → ReadsVariable order.now name text.now l q → IsKept written l.number → ⊥)
+        (λ r. ReadsVariable order.now name text.now r.0 r.1.now × IsKept written r.0.number) }
 {
     order.laws();
     let (label, rest) = variable(text, order, name)?;
@@ -75,7 +76,10 @@ fn right_line<'a>(
     place: &Place,
     lines: &[Line],
 ) -> Option<(Line, &'a [u8])>
-    ensures { MatchOption result ((x : Line) (q : List ℕ) → ReadsLine order.now number place.now.act text.now x q → Meets (lattice_of order.now) (line_at order.now.bottom lines.now) place.now x → ⊥) (λ r. ReadsLine order.now number place.now.act text.now r.0 r.1.now × Meets (lattice_of order.now) (line_at order.now.bottom lines.now) place.now r.0) }
+    ensures { MatchOption result ((x : Line) (q : List ℕ) → ReadsLine order.now number place.now.act text.now x q
+        → Meets (lattice_of order.now) (line_at order.now.bottom lines.now) place.now x → ⊥)
+        (λ r. ReadsLine order.now number place.now.act text.now r.0 r.1.now
+        × Meets (lattice_of order.now) (line_at order.now.bottom lines.now) place.now r.0) }
 {
     order.laws();
     let (line, rest) = line(text, order, number, place.act)?;
@@ -97,7 +101,7 @@ fn read_variables<'a>(
 {
     let order = p.lattice();
     order.laws();
-    let _ = p.body();
+    p.laws();
     let declarations = p.declarations();
     let Some(mut rest) = after(bytes, b"certificate 1\n") else {
         return Err(CertFault::Line(1));
@@ -169,7 +173,7 @@ fn read(alloc: Global, p: &Program, bytes: &[u8]) -> Result<Contents, CertFault>
 {
     let order = p.lattice();
     order.laws();
-    let _ = p.body();
+    p.laws();
     let (declared, text) = read_variables(alloc, p, bytes)?;
     let variables = spread(alloc, p, &declared)?;
     let places = places(alloc, p, &declared, &variables)?;
@@ -233,7 +237,7 @@ pub fn recheck(alloc: Global, p: Program, bytes: &[u8]) -> Result<Typed, (Progra
     ensures kept { IfErr result (λ e. e.0 ≡ p) }
     ensures fault { IfErr result (λ e. IsCertFault p bytes.now e.1) }
 {
-    let _ = p.body();
+    p.laws();
     let contents = match read(alloc, &p, bytes) {
         Ok(contents) => contents,
         Err(fault) => return Err((p, fault)),

@@ -20,8 +20,6 @@ product a b h k = let x : a * b ≤ 32 * 41 = mul-le-mul h k in omega (arith, x)
 
 pub overflow_mul-result : goal.overflow_mul-result
 overflow_mul-result c =
-    let size = c.size.ensures.within in
-    let value = c.size.ensures.value in
-    let levels : c.not_below-levels.result ≤ 32 = omega (arith, c.not_below-levels.ensures.within, size, value) in
+    let levels : c.not_below-levels.result ≤ 32 = omega (arith, c.not_below-levels.ensures.within, c.laws.ensures.order.within) in
     let count : c.digits.result ≤ 41 = omega (arith, c.digits.ensures, few_digits c.args.limit c.requires.some c.requires.limit) in
     omega (arith, product c.not_below-levels.result c.digits.result levels count)

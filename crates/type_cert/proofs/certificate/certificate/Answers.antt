@@ -12,6 +12,6 @@ pub put_lines-requires : goal.put_lines-requires
 put_lines-requires c =
     let q = c.args.q.now in
     let o = c.lattice-order.ensures ∙ ap (λ (z : Syntax). z.order) c.program.ensures.program in
-    let valid = subst (λ (z : Syntax). IsValid z) c.program-2.ensures.program c.body.ensures.valid in
+    let valid = subst (λ (z : Syntax). IsValid z) c.program-2.ensures.program c.laws.ensures.valid in
     let below = lines_below q.program q.labels c.deref.result.now valid c.program.ensures.labelling (c.deref.ensures.value ∙ c.in_ok-lines.ensures) in
     subst (λ (z : Order). AllFrom (λ (i : ℕ) (x : Line). HasLabels z.size x) 0 c.deref.result.now) (sym o) below

@@ -71,14 +71,14 @@ pub line_number-requires : goal.line_number-requires
 line_number-requires c =
     let ep = c.deref-place-items.ensures.value ∙ c.in_ok-places.ensures ∙ ap (places_of c.args.p.now) c.deref-2.ensures.value in
     let test = c.loop-number-test.true in
-    line_small c.args.p.now c.body.ensures.valid c.in_ok-declared.declared.items c.deref-place-items.result.now c.len.result c.loop-number.number c.in_ok-declared.ensures.complete ep
+    line_small c.args.p.now c.laws-2.ensures.valid c.in_ok-declared.declared.items c.deref-place-items.result.now c.len.result c.loop-number.number c.in_ok-declared.ensures.complete ep
     (c.len.ensures ∙ c.in_ok-declared.declared.ok.0) (omega (arith, test))
 
 pub line_number-requires-then-not-is_empty : goal.line_number-requires-then-not-is_empty
 line_number-requires-then-not-is_empty c =
     let ep = c.in_ok-places.ensures ∙ ap (places_of c.args.p.now) c.deref-2.ensures.value in
     let n = c.len-then-not-is_empty-2.ensures ∙ c.in_ok-places.places.ok.0 in
-    line_small c.args.p.now c.body.ensures.valid c.in_ok-declared.declared.items c.in_ok-places.places.items c.len-then-not-is_empty.result c.len-then-not-is_empty-2.result c.in_ok-declared.ensures.complete ep
+    line_small c.args.p.now c.laws-2.ensures.valid c.in_ok-declared.declared.items c.in_ok-places.places.items c.len-then-not-is_empty.result c.len-then-not-is_empty-2.result c.in_ok-declared.ensures.complete ep
     (c.len-then-not-is_empty.ensures ∙ c.in_ok-declared.declared.ok.0) (omega (arith, n))
 
 pub loop-number-init : goal.loop-number-init
@@ -96,7 +96,7 @@ loop-number-preserved c =
     let ep = c.deref-place-items.ensures.value ∙ c.in_ok-places.ensures ∙ ap (places_of c.args.p.now) c.deref-2.ensures.value in
     record {
       begins =
-          next_line c.args.p.now c.body.ensures.valid c.args.bytes.now c.lattice-order.result c.lattice-order.ensures c.in_ok-declared.declared.items c.in_ok-declared.ensures.complete ps ep k
+          next_line c.args.p.now c.laws-2.ensures.valid c.args.bytes.now c.lattice-order.result c.lattice-order.ensures c.in_ok-declared.declared.items c.in_ok-declared.ensures.complete ps ep k
           c.loop-number.lines.items c.loop-number.invariant.count c.loop-number.rest.now c.loop-number.invariant.begins c.deref-in-loop-number.result.now c.deref-in-loop-number.ensures.value _ h (get_or_default ps k _ _ h)
           c.in-Some.line c.in-Some.next.now c.push.new.self.items c.in_ok-push.ensures.items c.in-Some.ensures.0 c.in-Some.ensures.1;
       count = pushed c.loop-number.lines.items c.push.new.self.items _ c.in_ok-push.ensures.items ∙ ap (λ z. z + 1) c.loop-number.invariant.count;
@@ -108,7 +108,7 @@ returns-in_default-clause-fault c =
     let k = c.loop-number.number in
     let h = c.loop-number-test.true in
     let ep = c.deref-place-items.ensures.value ∙ c.in_ok-places.ensures ∙ ap (places_of c.args.p.now) c.deref-2.ensures.value in
-    wrong_line c.args.p.now c.body.ensures.valid c.args.bytes.now c.lattice-order.result c.lattice-order.ensures c.in_ok-declared.declared.items c.in_ok-declared.ensures.complete ps ep k
+    wrong_line c.args.p.now c.laws-2.ensures.valid c.args.bytes.now c.lattice-order.result c.lattice-order.ensures c.in_ok-declared.declared.items c.in_ok-declared.ensures.complete ps ep k
     c.loop-number.lines.items c.loop-number.invariant.count c.loop-number.rest.now c.loop-number.invariant.begins c.deref-in-loop-number.result.now c.deref-in-loop-number.ensures.value _ h (get_or_default ps k _ _ h)
     c.line_number.result (c.line_number.ensures ∙ ap (λ z. z + k + 2) (c.len.ensures ∙ c.in_ok-declared.declared.ok.0)) c.in_default.ensures
 
@@ -119,7 +119,7 @@ returns-then-not-is_empty-clause-fault c =
     let n = c.line_number-then-not-is_empty.ensures in
     let a = c.len-then-not-is_empty.ensures ∙ c.in_ok-declared.declared.ok.0 in
     let b = c.len-then-not-is_empty-2.ensures ∙ c.in_ok-places.places.ok.0 ∙ ap length (sym c.deref-place-items.ensures.value) in
-    wrong_rest c.args.p.now c.body.ensures.valid c.args.bytes.now c.lattice-order.result c.lattice-order.ensures c.in_ok-declared.declared.items c.in_ok-declared.ensures.complete ps ep c.loop-number.number
+    wrong_rest c.args.p.now c.laws-2.ensures.valid c.args.bytes.now c.lattice-order.result c.lattice-order.ensures c.in_ok-declared.declared.items c.in_ok-declared.ensures.complete ps ep c.loop-number.number
     c.loop-number.lines.items c.loop-number.invariant.count c.loop-number.rest.now c.loop-number.invariant.begins c.loop-number-test.false c.loop-number.auto.number-end
     c.line_number-then-not-is_empty.result (omega (arith, n, a, b)) (some_bytes c.loop-number.rest.now c.is_empty.result c.is_empty.ensures c.if-not-is_empty.true)
 
@@ -127,6 +127,6 @@ pub returns-clause-contents : goal.returns-clause-contents
 returns-clause-contents c =
     let ps = c.deref-place-items.result.now in
     let ep = c.deref-place-items.ensures.value ∙ c.in_ok-places.ensures ∙ ap (places_of c.args.p.now) c.deref-2.ensures.value in
-    contents c.args.p.now c.body.ensures.valid c.args.bytes.now c.lattice-order.result c.lattice-order.ensures c.in_ok-declared.declared.items c.in_ok-declared.ensures.complete ps ep c.loop-number.number
+    contents c.args.p.now c.laws-2.ensures.valid c.args.bytes.now c.lattice-order.result c.lattice-order.ensures c.in_ok-declared.declared.items c.in_ok-declared.ensures.complete ps ep c.loop-number.number
     c.loop-number.lines.items c.loop-number.invariant.count c.loop-number.rest.now c.loop-number.invariant.begins c.loop-number-test.false c.loop-number.auto.number-end
     c.in_ok-variables.variables.items (c.in_ok-variables.ensures ∙ ap (spread c.args.p.now.declarations) c.deref.ensures.value) (no_bytes c.loop-number.rest.now c.is_empty.result c.is_empty.ensures c.if-not-is_empty.false)
