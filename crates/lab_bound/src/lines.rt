@@ -114,7 +114,7 @@ pub fn put_levels(
     requires { length levels.now ≡ order.now.size }
     ensures { OnOk result (text.new.items ≡ text.old.items ++ level_lines order.now observer.number t 0 levels.now) }
 {
-    let _ = order.size();
+    order.laws();
     for (number, told) in levels.iter().enumerate() {
         put_level(text, order, observer, t, Label::new(number as u8), *told)?;
     }

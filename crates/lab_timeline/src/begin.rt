@@ -1,10 +1,10 @@
 //! What runs begin with, where an observer may be left out.
 
-ghost use Rattle.std.specs.Prelude.{◌≡◌, ◌≤◌, ℕ, List, IfOk, IfErr, OnOk, map, option_map};
+ghost use Rattle.std.specs.Prelude.{◌≡◌, ◌≤◌, ℕ, List, IfOk, IfErr, OnOk, IsTrue, map, option_map};
 ghost use Rattle.tim_base.specs.Faults.{Rose};
 ghost use Rattle.start_file.specs.Starts.{seen};
-ghost use Rattle.tool_texts.specs.Ends.{IsStop};
-ghost use Rattle.tool_stages.specs.Accepted.{IsAccepted};
+ghost use Rattle.tool_texts.specs.Ends.{IsStop, status_of};
+ghost use Rattle.tool_stages.specs.Accepted.{is_past_typing, IsAccepted};
 ghost use Rattle.lab_timeline.specs.Begun.{IsBegun, BeginStops, CanRun};
 
 use start_file::start::Start;
@@ -38,6 +38,7 @@ pub fn begin<S: Shelf>(
     ensures fit { IfOk result (λ r. CanRun r.compiled.typed.labelled r.compiled.observer r.compiled.image (map seen r.starts.items)) }
     ensures stop { IfErr result (IsStop (BeginStops (λ name. Rose (S.faults shelf.old name) (S.faults shelf.new name)) (S.content shelf.old) file.now starts.now (option_map (λ s. s.now) name.entry))) }
     ensures sound { OnOk result (IsAccepted (S.content shelf.old file.now)) }
+    ensures sound_stop { IfErr result (λ e. IsTrue (is_past_typing (status_of e)) → IsAccepted (S.content shelf.old file.now)) }
 {
     let compiled = match compile(alloc, shelf, file, name) {
         Ok(compiled) => compiled,

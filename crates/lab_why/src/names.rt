@@ -40,7 +40,7 @@ fn variable_named(p: &Program, word: &str) -> Option<Spot>
     ensures value { result ≡ variable_named p.now word.now }
     ensures there { IfSome result (IsThere p.now) }
 {
-    let _ = p.body();
+    p.laws();
     let name = Name::read(word.as_bytes())?;
     if let Some(x) = p.find_variable(&name) {
         return variable_at(p, x);

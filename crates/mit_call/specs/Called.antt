@@ -13,7 +13,8 @@ use Rattle.mit_tool.specs.Held.{EndsByOne}
 
 -- The clauses of `mitigate_main`, over all that was taken in the end. `Rises` tells the names whose counts of faults rose, and
 -- `Risen` that the sink's count did.
-pub record HasEnded (content : Content) (Rises : List ℕ → Type 0) (Risen : Type 0) (old new : Option (List ℕ)) (words : List (List ℕ)) (s : Status) : Type 0 where
+pub record HasEnded (content : Content) (Rises : List ℕ → Type 0) (Risen : Type 0) (old new : Option (List ℕ)) (words : List (List ℕ))
+    (s : Status) : Type 0 where
   pub answered : IfSome (command_of words) (λ a. EndsBy old new (Before content a) (IsAnswer Rises content a) s)
   pub usage : command_of words ≡ None → EndsBy old new Nothing IsUsage s
   pub sound : IsTrue (is_past_typing s) → IfSome (command_of words) (λ a. IfSome (typed_content content a) IsAccepted)

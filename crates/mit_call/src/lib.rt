@@ -21,7 +21,8 @@ const ROOM: usize = 8192;
 // Hands what waits to the sink, but for one that has failed.
 fn hand_on<W: Sink, B: Start>(out: Buffered<W, B>, status: Status) -> (Status, W)
     ensures same { (result.0 ≡ status) ⊎ (result.0 ≡ Status.WriteFault) }
-    ensures kept { (rest : List ℕ) × Keeps (append_known out.sent out.waiting) (append_known (W.taken result.1) rest) × (result.0 ≢ Status.WriteFault → rest ≡ []) }
+    ensures kept { (rest : List ℕ) × Keeps (append_known out.sent out.waiting) (append_known (W.taken result.1) rest)
+        × (result.0 ≢ Status.WriteFault → rest ≡ []) }
     ensures start { Grew B.start (W.taken result.1) }
     ensures later { out.faults ≤ W.faults result.1 }
     ensures fault { result.0 ≡ Status.WriteFault → (status ≡ Status.WriteFault) ⊎ Rose out.faults (W.faults result.1) }

@@ -12,6 +12,7 @@ use Rattle.start_file.specs.Starts.{StartValue}
 use Rattle.cycle_machine.specs.declared.end.RunEnd.{RunEnd}
 use Rattle.cycle_machine.specs.declared.end.RunEnd.TheVariants.{Halted, Limit}
 use Rattle.mit_gen.specs.Made.{program_text, starts_text}
+use Rattle.made_laws.specs.MadeStarts.{made_starts}
 use Rattle.std.specs.Bool.{⊤}
 use Rattle.audit_parts.specs.Agreement.{starts_of}
 use Rattle.leak_audit.specs.declared.report.AuditFault.{AuditFault}
@@ -44,7 +45,7 @@ use Rattle.tool_stages.proofs.OneLemmas.{one_program}
 use Rattle.tool_stages.proofs.AgreeLemmas.{all_halt}
 use Rattle.tool_stages.proofs.ChainLemmas.{compiles_go, first_done, first_file, lower_goes, no_other, one_other, prepared_done, second_file, starts_done, typed_done}
 use Rattle.mit_tool.proofs.OneReport.{cut_stops}
-use Rattle.mit_tool.proofs.MadeLemmas.{made_goes, made_observer_goes, made_starts_are}
+use Rattle.mit_tool.proofs.MadeLemmas.{made_goes, made_observer_goes, made_observer, made_starts_are}
 
 -- ---- runs
 
@@ -105,11 +106,10 @@ module _ (Rises : List ℕ → Type 0) (content : Content) (s : Status) (t : Lis
       (made_goes size number s t some few) (λ p reads.
       then_goes (ObserverStops p.order (Some (codes "L"))) (Observes p.order (Some (codes "L"))) (λ o. Then (TypeStops p) (Types p) (λ q. Then (ImageStops q) (HasImage q) (λ code. last p q o code))) s t
       (made_observer_goes size number p s t some reads) (λ o is.
-      lower_goes p (λ q. (ss : List StartValue) → StartsAre (Some (Some starts_text)) p ss → OfObserver (λ l. CanBeAudited Part (2 ^ 40) q l ss) o) (λ q code. last p q o code) s t (can p reads o is)
-      (λ q code image goes.
-      let made = made_starts_are size number p some reads in
-      starts_done s t ⊥ (Some (Some starts_text)) p (λ ss. HasAudited Part (2 ^ 40) q o ss (made_lines size number (count (plan_of p)) (length code.instrs))) made.0 (λ n. n) tt made.1
-      (audited_done Part (2 ^ 40) q o made.0 (made_lines size number (count (plan_of p)) (length code.instrs)) s t (goes made.0 made.1))))) h
+      lower_goes p (λ q. CanBeAudited Part (2 ^ 40) q 0 made_starts) (λ q code. last p q o code) s t (can p reads) (λ q code image goes.
+      let before : List ℕ = made_lines size number (count (plan_of p)) (length code.instrs) in
+      starts_done s t ⊥ (Some (Some starts_text)) p (λ ss. HasAudited Part (2 ^ 40) q o ss before) made_starts (λ n. n) tt (made_starts_are size number p some reads)
+      (audited_done Part (2 ^ 40) q o made_starts before s t (made_observer size number p o (λ l. CanBeAudited Part (2 ^ 40) q l made_starts) some reads is goes))))) h
 
   -- the answer to a command that can go on, of files that are told and read
   pub answers_done : (a : Asked) → IsInRange a → NoneRises Rises a → AreKnown content a → CanGoOn content a → IsAnswer Rises content a s t → s ≡ status.Done

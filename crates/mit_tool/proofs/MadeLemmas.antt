@@ -1,6 +1,7 @@
 -- A made text is read, one of its labels is L, and its starts are valid.
 use Rattle.std.proofs.Common.{◌≡◌, ◌≤◌, ◌<◌, ℕ, zero, suc, List, [], ◌∷◌, ◌++◌, length, Option, Some, inl, inr, refl, sym, ap, subst, ◌∙◌, arith, codes}
 use Rattle.std.specs.Prelude.{slice_index_or}
+use Rattle.label_lattice.specs.declared.label.Label.{Label}
 use Rattle.label_lattice.specs.Order.{Order, name_of}
 use Rattle.mit_syntax.specs.declared.token.Token.{Token}
 use Rattle.mit_syntax.specs.Cut.{start, moved, end_at, AreTokens}
@@ -22,13 +23,15 @@ use Rattle.made_laws.proofs.Trees.{program_tree, program_spelled}
 use Rattle.made_laws.proofs.Wholly.{made_spelled}
 use Rattle.made_laws.specs.MadeStarts.{made_starts}
 use Rattle.made_laws.proofs.Given.{made_has_starts}
-use Rattle.start_file.specs.Starts.{StartValue}
+use Rattle.parse_laws.proofs.Meant.{program_order}
 use Rattle.parse_laws.proofs.OneProgram.{one_tree}
 use Rattle.parse_laws.proofs.Refused.{not_refused}
 use Rattle.tool_texts.specs.declared.status.Status.{Status}
 use Rattle.tool_texts.specs.declared.status.Status.TheVariants as status
 use Rattle.tool_texts.specs.Texts.{program}
-use Rattle.tool_stages.specs.Stages.{Reads, HasTextFault, HasParseFault, ProgramStops, ObserverStops, StartsAre}
+use Rattle.tool_stages.specs.Stages.{Reads, HasTextFault, HasParseFault, ProgramStops, ObserverStops, Observes, StartsAre}
+use Rattle.tool_stages.specs.Goes.{OfObserver}
+use Rattle.tool_stages.proofs.OneFirst.{one_observer}
 use Rattle.tool_stages.proofs.StageStops.{BadText, file_goes, program_stops, observer_stops}
 
 made_words : (size number : ℕ) → HasWords (program_text size number) (program_words size number)
@@ -84,12 +87,20 @@ made_observer_goes size number p s t some r h =
     let k = made_low size number p some r in
     (observer_stops p.order (Some (codes "L")) s t h).1 0 k.0 k.1
 
+-- what is so of its first label is so of the observer that L names
+pub made_observer : (size number : ℕ) (p : Syntax) (o : Option Label) (P : ℕ → Type 0) → 0 < size → Reads (Some (Some (program_text size number))) p
+    → Observes p.order (Some (codes "L")) o → P 0 → OfObserver P o
+made_observer size number p o P some r is h =
+    let first : Label = record { number = 0 } in
+    let same : o ≡ Some first = one_observer p.order (Some (codes "L")) o (Some first) (program_order _ p r.spelled) is (made_low size number p some r) in
+    subst (OfObserver P) (sym same) h
+
 -- ---- its starts
 
-pub made_starts_are : (size number : ℕ) (p : Syntax) → 0 < size → Reads (Some (Some (program_text size number))) p → (ss : List StartValue) × StartsAre (Some (Some starts_text)) p ss
+pub made_starts_are : (size number : ℕ) (p : Syntax) → 0 < size → Reads (Some (Some (program_text size number))) p → StartsAre (Some (Some starts_text)) p made_starts
 made_starts_are size number p some r =
     let text : List ℕ = program_text size number in
     let cut : AreTokens text r.tokens = subst (λ (z : List ℕ). AreTokens z r.tokens) r.are r.cut in
     let spelled : IsProgram (told text r.tokens) p = subst (λ (z : List ℕ). IsProgram (told z r.tokens) p) r.are r.spelled in
     let has = made_has_starts size number some (made_words size number) p (r.tokens, cut, spelled) in
-    (made_starts, (starts_text, refl, starts_short, has.gives))
+    (starts_text, refl, starts_short, has.gives)

@@ -27,7 +27,7 @@ ended_past : (old new : Option (List ℕ)) (Before : List ℕ → Type 0) (A : S
 ended_past old new Before A P f status.Done h past = f status.Done h.0 past h.1
 ended_past old new Before A P f status.Refused h past = cc
 ended_past old new Before A P f status.Syntax h past = cc
-ended_past old new Before A P f status.Starts h past = cc
+ended_past old new Before A P f status.Starts h past = f status.Starts h.0 past h.1
 ended_past old new Before A P f status.Usage h past = cc
 ended_past old new Before A P f status.ReadFault h past = cc
 ended_past old new Before A P f status.WriteFault h past = cc

@@ -27,7 +27,8 @@ HasAudited e t q (Some l) ss before =
 -- ---- the same where runs may not have halted
 
 abbrev pub CutStops : EnvName → ℕ → LabelledProgram → Label → List StartValue → Status → List ℕ → Type 0
-CutStops e t q l ss status.Disagree x = (run : ℕ) × (what : What) × CutFaultsIn e q l.number t ss (cut.Disagree run what) × (x ≡ disagree_line q.program run what)
+CutStops e t q l ss status.Disagree x =
+    (run : ℕ) × (what : What) × CutFaultsIn e q l.number t ss (cut.Disagree run what) × (x ≡ disagree_line q.program run what)
 CutStops e t q l ss status.TooLong x = (count : ℕ) × CutFaultsIn e q l.number t ss (cut.TooMuch count) × (x ≡ events_line count)
 CutStops e t q l ss _ x = ⊥
 

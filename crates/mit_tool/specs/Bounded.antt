@@ -35,7 +35,8 @@ CutsAreWithin e t = 0 < t →
 -- the number of different lists of releases, of all runs of a file of ready cycles
 abbrev pub ReleasesAreWithin : ℕ → ℕ → Type 0
 ReleasesAreWithin first t = 0 < first → 0 < t →
-    (runs : List (List ℕ)) (outcomes : List Outcome) → AllZip (IsOutcome first t) runs outcomes → distinct_count same_cycles (all_released outcomes) ≤ (t + 1) ^ digits t
+    (runs : List (List ℕ)) (outcomes : List Outcome) → AllZip (IsOutcome first t) runs outcomes →
+    distinct_count same_cycles (all_released outcomes) ≤ (t + 1) ^ digits t
 
 -- what a command counts
 abbrev pub AreWithin : Asked → Type 0

@@ -1,18 +1,17 @@
 -- When a command can be done: what must be so that nothing but want of memory stops it.
-use Rattle.std.specs.Prelude.{◌≤◌, ◌≡◌, ◌^◌, ℕ, List, [], ◌∷◌, All, length, Option, Some, None, codes}
+use Rattle.std.specs.Prelude.{◌≤◌, ◌≡◌, ◌^◌, ℕ, List, [], ◌∷◌, All, length, Option, Some, None}
 use Rattle.std.specs.Bool.{⊤}
 use Rattle.tim_base.specs.Faults.{Rose}
 use Rattle.tim_base.specs.Told.{limit, IsTold}
-use Rattle.label_lattice.specs.declared.label.Label.{Label}
 use Rattle.mit_syntax.specs.Program.{Syntax}
 use Rattle.timing_types.specs.Labelled.{LabelledProgram}
 use Rattle.start_file.specs.Starts.{StartValue}
 use Rattle.black_box.specs.Files.{refusal}
-use Rattle.mit_gen.specs.Made.{starts_text}
+use Rattle.made_laws.specs.MadeStarts.{made_starts}
 use Rattle.tool_words.specs.declared.words.EnvName.TheVariants.{Part}
 use Rattle.tool_words.specs.WordsAsked.{Asked, check, infer, compile, run, meaning, audit, gen, cut, blackbox, certify, recheck}
 use Rattle.tool_texts.specs.declared.status.Status.TheVariants as status
-use Rattle.tool_stages.specs.Stages.{Reads, Observes, StartsAre, FirstStart, HoldsCertificate}
+use Rattle.tool_stages.specs.Stages.{Reads, StartsAre, FirstStart, HoldsCertificate}
 use Rattle.tool_stages.specs.Content.{Content, IsKnown}
 use Rattle.tool_stages.specs.Goes.{CanBeAudited, CanCompile, CanCut, CanLower, HaltsBy, IsTypable, OfObserver}
 use Rattle.mit_tool.specs.Answers.{IsAnswer, made_content}
@@ -45,8 +44,8 @@ NoneRises Rises a = All (λ name. Rises name → ⊥) (files_of a)
 
 -- ---- commands
 
--- What must be so beside the files; for `gen`, of the made program from its typing on, and of the starts that are made
--- for it.
+-- What must be so beside the files; for `gen`, of the made program from its typing on: its first label, L, is observed,
+-- from the starts that are made for it.
 abbrev pub CanGoOn : Content → Asked → Type 0
 CanGoOn content (check file) = (p : Syntax) × Reads (content file) p × IsTypable p
 CanGoOn content (infer file) = (p : Syntax) × Reads (content file) p × IsTypable p
@@ -60,9 +59,7 @@ CanGoOn content (audit file starts observer e budget) =
     CanCompile (content file) (Some observer) (λ p q o.
     (ss : List StartValue) × StartsAre (content starts) p ss × OfObserver (λ l. CanBeAudited e budget q l ss) o)
 CanGoOn content (gen size number) =
-    (p : Syntax) → Reads (made_content size number []) p → (o : Option Label) → Observes p.order (Some (codes "L")) o →
-    CanLower p (λ q.
-    (ss : List StartValue) → StartsAre (Some (Some starts_text)) p ss → OfObserver (λ l. CanBeAudited Part (2 ^ 40) q l ss) o)
+    (p : Syntax) → Reads (made_content size number []) p → CanLower p (λ q. CanBeAudited Part (2 ^ 40) q 0 made_starts)
 CanGoOn content (cut file starts observer e budget) =
     CanCompile (content file) (Some observer) (λ p q o.
     (ss : List StartValue) × StartsAre (content starts) p ss × OfObserver (λ l. CanCut e budget q l ss) o)

@@ -11,5 +11,6 @@ use Rattle.mit_tool.specs.Complete.{AreKnown, NoneRises}
 -- to it are one: they have the same status and the same text.
 abbrev pub HasOneAnswer : Type 0
 HasOneAnswer =
-    (content : Content) (before now : List ℕ → ℕ) (a : Asked) (s u : Status) (t x : List ℕ) → AreKnown content a → NoneRises (λ name. Rose (before name) (now name)) a →
+    (content : Content) (before now : List ℕ → ℕ) (a : Asked) (s u : Status) (t x : List ℕ) →
+    AreKnown content a → NoneRises (λ name. Rose (before name) (now name)) a →
     IsAnswer (λ name. Rose (before name) (now name)) content a s t → IsAnswer (λ name. Rose (before name) (now name)) content a u x → (s ≡ u) × (t ≡ x)

@@ -156,8 +156,9 @@ fn obey<S: Shelf, W: Sink>(
 ///
 /// `usage`: words that ask for nothing get the usage text.
 ///
-/// `sound`: where the command came past the typing of a program, that program is accepted, and in each environment
-/// its image does what it does, and shows few different sequences.
+/// `sound`: where a command that wants a typed program came past the typing, as `Done`, `Starts`, `Budget`, `Disagree`
+/// and `Unfinished` tell, that program is accepted, and in each environment its image does what it does, and shows few
+/// different sequences.
 ///
 /// `rechecked`: where `recheck` is done, the program is sound with the labelling that the certificate holds, also
 /// where it is not the least one.

@@ -1,5 +1,5 @@
--- What stops before the typing, at the image or at the starts does not come past the typing.
-use Rattle.std.proofs.Common.{◌≡◌, ◌≢◌, ℕ, List, Option, Some, inl, inr, refl, sym, subst, false, Vec, Global, Result, Ok, Err, IfErr, OnOk}
+-- What stops before the typing or at the image does not come past the typing.
+use Rattle.std.proofs.Common.{◌≡◌, ◌≢◌, ℕ, List, Option, inl, inr, refl, sym, subst, false, Vec, Global, Result, Ok, Err, IfErr, OnOk}
 use Rattle.std.specs.Prelude.{IsTrue}
 use Rattle.label_lattice.specs.declared.label.Label.{Label}
 use Rattle.label_lattice.specs.Order.{Order}
@@ -9,13 +9,13 @@ use Rattle.label_code.specs.Shaped.{Code}
 use Rattle.tool_texts.specs.declared.status.Status.{Status}
 use Rattle.tool_texts.specs.declared.status.Status.TheVariants.{Done, Refused, Syntax as BadSyntax, Starts, Usage, ReadFault, WriteFault, TooLong, Budget, Disagree, Unfinished, Memory, Rejected}
 use Rattle.tool_texts.specs.declared.stop.Stop.{Stop}
-use Rattle.tool_texts.specs.Texts.{File, program as program_file, starts as starts_file, certificate as certificate_file}
+use Rattle.tool_texts.specs.Texts.{File, program as program_file, certificate as certificate_file}
 use Rattle.tool_texts.specs.Ends.{Broke, IsStop, status_of, stop_text, told_status}
-use Rattle.tool_stages.specs.Stages.{Then, Reads, ProgramStops, ObserverStops, Types, TypeStops, ImageStops, HasStartFault, StartStops, StartsAre, HasWrongLine, CertificateStops}
+use Rattle.tool_stages.specs.Stages.{Then, Reads, ProgramStops, ObserverStops, Types, TypeStops, ImageStops, HasWrongLine, CertificateStops}
 use Rattle.tool_stages.specs.Content.{Content}
-use Rattle.tool_stages.specs.Begins.{Compiles, NoMore, CheckStops, CompileStops, PrepareStops}
+use Rattle.tool_stages.specs.Begins.{Compiles, NoMore, CheckStops, CompileStops}
 use Rattle.tool_stages.specs.Accepted.{is_past_typing}
-use Rattle.tool_stages.proofs.StageStops.{FileStops, BadText, program_stops, observer_stops, type_stops, image_stops, start_stops, certificate_stops}
+use Rattle.tool_stages.proofs.StageStops.{FileStops, BadText, program_stops, observer_stops, type_stops, image_stops, certificate_stops}
 
 -- a command that stops did not come past the typing, and no write failed
 pub record IsEarly (s : Status) : Type 0 where
@@ -53,9 +53,6 @@ long_early = record { early = refl; no_fault = λ e. cc }
 syntax_early : IsEarly BadSyntax
 syntax_early = record { early = refl; no_fault = λ e. cc }
 
-starts_early : IsEarly Starts
-starts_early = record { early = refl; no_fault = λ e. cc }
-
 usage_early : IsEarly Usage
 usage_early = record { early = refl; no_fault = λ e. cc }
 
@@ -81,9 +78,6 @@ type_early p s t h = subst IsEarly (sym (type_stops p s t h).0) refused_early
 pub image_early : (q : LabelledProgram) (s : Status) (t : List ℕ) → ImageStops q s t → IsEarly s
 image_early q s t h = subst IsEarly (sym (image_stops q s t h).0) long_early
 
-start_early : (R : Type 0) (c : Option (Option (List ℕ))) (p : Syntax) (s : Status) (t : List ℕ) → StartStops R c p s t → IsEarly s
-start_early R c p s t h = file_early R starts_file c (HasStartFault c p) Starts s t starts_early (start_stops R c p s t h)
-
 rejected_early : IsEarly Rejected
 rejected_early = record { early = refl; no_fault = λ e. cc }
 
@@ -101,18 +95,8 @@ compiles_early Rises content file observer Next s t f (inr (p, reads, inr (o, se
 compile_early : (Rises : List ℕ → Type 0) (content : Content) (file : List ℕ) (observer : Option (List ℕ)) (s : Status) (t : List ℕ) → CompileStops Rises content file observer s t → IsEarly s
 compile_early Rises content file observer s t = compiles_early Rises content file observer (λ p q o code. NoMore) s t (λ p q o code h. absurd h)
 
--- what stops before an audit is early
-prepare_early : (Rises : List ℕ → Type 0) (content : Content) (file observer : List ℕ) (R : Type 0) (starts : Option (Option (List ℕ))) (s : Status) (t : List ℕ) → PrepareStops Rises content file observer R starts s t → IsEarly s
-prepare_early Rises content file observer R starts s t =
-    compiles_early Rises content file (Some observer) (λ p q o code. Then (StartStops R starts p) (StartsAre starts p) (λ ss. NoMore)) s t
-    (λ p q o code. then_early (StartStops R starts p) (StartsAre starts p) (λ ss. NoMore) s t (start_early R starts p s t) (λ ss k. absurd k))
-
 pub not_late : (s : Status) → IsEarly s → IsTrue (is_past_typing s) → ⊥
 not_late s h late = cc (h.early)
-
-pub prepare_not_late : (Rises : List ℕ → Type 0) (content : Content) (file observer : List ℕ) (R : Type 0) (starts : Option (Option (List ℕ))) (e : Stop) → IsStop (PrepareStops Rises content file observer R starts) e → IsTrue (is_past_typing (status_of e)) → ⊥
-prepare_not_late Rises content file observer R starts e h =
-    not_late (status_of e) (broke_early (PrepareStops Rises content file observer R starts) (status_of e) (stop_text e) (prepare_early Rises content file observer R starts (status_of e) (stop_text e)) h)
 
 pub program_not_late : (R : Type 0) (held : Option (Option (List ℕ))) (e : Stop) → IsStop (ProgramStops R held) e → IsTrue (is_past_typing (status_of e)) → ⊥
 program_not_late R held e h = not_late (status_of e) (broke_early (ProgramStops R held) (status_of e) (stop_text e) (program_early R held (status_of e) (stop_text e)) h)

@@ -58,9 +58,10 @@ pub record IsRechecked (content certificate : Option (Option (List ℕ))) : Type
   pub rechecks : Rechecks certificate program labelled
   pub sound : IsSound labelled
 
--- the command came past the typing
+-- a command that wants its program typed ends so past the typing alone; in each other status it may end before
 abbrev pub is_past_typing : Status → Bool
 is_past_typing status.Done = true
+is_past_typing status.Starts = true
 is_past_typing status.Budget = true
 is_past_typing status.Disagree = true
 is_past_typing status.Unfinished = true

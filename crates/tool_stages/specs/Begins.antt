@@ -45,7 +45,8 @@ pub record HasCompiled (content : Content) (file : List ℕ) (observer : Option 
   pub image : HasImage q code
 
 -- the same with the first start
-pub record IsReady (content : Content) (file : List ℕ) (starts observer : Option (List ℕ)) (q : LabelledProgram) (o : Option Label) (code : Code) (start : StartValue) : Type 0 where
+pub record IsReady (content : Content) (file : List ℕ) (starts observer : Option (List ℕ)) (q : LabelledProgram) (o : Option Label)
+    (code : Code) (start : StartValue) : Type 0 where
   pub compiled : HasCompiled content file observer q o code
   pub first : FirstStart content starts q.program start
 
@@ -55,7 +56,8 @@ pub record HasSource (content : Content) (file : List ℕ) (starts : Option (Lis
   pub first : FirstStart content starts p start
 
 -- what an audit begins with: an image, the label that is observed, and all starts
-pub record IsPrepared (content : Content) (file observer : List ℕ) (held : Option (Option (List ℕ))) (q : LabelledProgram) (l : Label) (code : Code) (ss : List StartValue) : Type 0 where
+pub record IsPrepared (content : Content) (file observer : List ℕ) (held : Option (Option (List ℕ))) (q : LabelledProgram)
+    (l : Label) (code : Code) (ss : List StartValue) : Type 0 where
   pub compiled : HasCompiled content file (Some observer) q (Some l) code
   pub starts : StartsAre held q.program ss
 

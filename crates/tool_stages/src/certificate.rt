@@ -23,7 +23,8 @@ use type_cert::recheck::recheck;
 
 // The stop for bytes that are no certificate.
 fn certificate_stop(fault: CertFault) -> Stop
-    ensures { (content : Option (Option (List ℕ))) (bytes : List ℕ) (p : Syntax) → IsTold content bytes → length bytes ≤ limit → IsCertFault p bytes fault → IsStop (CertificateStops ⊥ content p) result }
+    ensures { (content : Option (Option (List ℕ))) (bytes : List ℕ) (p : Syntax) → IsTold content bytes → length bytes ≤ limit → IsCertFault p bytes fault
+        → IsStop (CertificateStops ⊥ content p) result }
 {
     match fault {
         CertFault::Line(number) => Stop::With {
@@ -43,7 +44,7 @@ pub fn rechecked(alloc: Global, p: Program, bytes: &[u8]) -> Result<Typed, Stop>
     ensures ok { IfOk result (λ q. (content : Option (Option (List ℕ))) → IsTold content bytes.now → Rechecks content p q.labelled) }
     ensures stop { IfErr result (λ e. (content : Option (Option (List ℕ))) → IsTold content bytes.now → IsStop (CertificateStops ⊥ content p) e) }
 {
-    let _ = p.body();
+    p.laws();
     held_labelling_types();
     match recheck(alloc, p, bytes) {
         Ok(typed) => Ok(typed),
@@ -65,7 +66,8 @@ pub fn rechecked_by<S: Shelf>(
     ensures later { (name : List ℕ) → S.faults shelf.old name ≤ S.faults shelf.new name }
     ensures log { Fetches (file.now ∷ []) (S.log shelf.old) (S.log shelf.new) result }
     ensures ok { IfOk result (λ q. Rechecks (S.content shelf.old file.now) p q.labelled) }
-    ensures stop { IfErr result (IsStop (CertificateStops (Rose (S.faults shelf.old file.now) (S.faults shelf.new file.now)) (S.content shelf.old file.now) p)) }
+    ensures stop { IfErr result (IsStop (CertificateStops
+        (Rose (S.faults shelf.old file.now) (S.faults shelf.new file.now)) (S.content shelf.old file.now) p)) }
 {
     let bytes = match bytes_of(alloc, shelf, file, b"certificate") {
         Ok(bytes) => bytes,

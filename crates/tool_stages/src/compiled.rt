@@ -41,7 +41,7 @@ pub fn compile_program(
     ensures stop { IfErr result (IsStop (ProgramCompileStops program (option_map (λ s. s.now) name.entry))) }
     ensures sound { IfOk result (λ r. IsSound r.typed.labelled) }
 {
-    let _ = program.body();
+    program.laws();
     let observer = observer(&program.lattice(), name)?;
     let typed = typed(alloc, program)?;
     accepted_are_sound();
@@ -69,7 +69,8 @@ pub fn compile<S: Shelf>(
     ensures later { (name : List ℕ) → S.faults shelf.old name ≤ S.faults shelf.new name }
     ensures log { Fetches (file.now ∷ []) (S.log shelf.old) (S.log shelf.new) result }
     ensures ok { IfOk result (λ r. HasCompiled (S.content shelf.old) file.now (option_map (λ s. s.now) name.entry) r.typed.labelled r.observer r.image) }
-    ensures stop { IfErr result (IsStop (CompileStops (λ name. Rose (S.faults shelf.old name) (S.faults shelf.new name)) (S.content shelf.old) file.now (option_map (λ s. s.now) name.entry))) }
+    ensures stop { IfErr result (IsStop (CompileStops (λ name. Rose (S.faults shelf.old name) (S.faults shelf.new name)) (S.content shelf.old) file.now
+        (option_map (λ s. s.now) name.entry))) }
     ensures sound { OnOk result (IsAccepted (S.content shelf.old file.now)) }
 {
     let program = read_program(alloc, shelf, file)?;

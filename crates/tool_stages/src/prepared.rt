@@ -1,12 +1,12 @@
 //! What audits of a program begin with.
 
-ghost use Rattle.std.specs.Prelude.{◌≡◌, ◌≤◌, ◌∷◌, [], ℕ, List, Some, IfOk, IfErr, OnOk, map};
+ghost use Rattle.std.specs.Prelude.{◌≡◌, ◌≤◌, ◌∷◌, [], ℕ, List, Some, IfOk, IfErr, OnOk, IsTrue, map};
 ghost use Rattle.tim_base.specs.Faults.{Rose};
 ghost use Rattle.start_file.specs.Starts.{seen};
-ghost use Rattle.tool_texts.specs.Ends.{IsStop};
+ghost use Rattle.tool_texts.specs.Ends.{IsStop, status_of};
 ghost use Rattle.tool_stages.specs.Fetches.{Fetches};
 ghost use Rattle.tool_stages.specs.Begins.{IsPrepared, CanAudit, PrepareStops};
-ghost use Rattle.tool_stages.specs.Accepted.{IsAccepted};
+ghost use Rattle.tool_stages.specs.Accepted.{is_past_typing, IsAccepted};
 
 use crate::compiled::{Compiled, compile};
 use crate::starts::all_starts;
@@ -38,10 +38,13 @@ pub fn prepare<S: Shelf>(
     ensures same { (name : List ℕ) → S.content shelf.new name ≡ S.content shelf.old name }
     ensures later { (name : List ℕ) → S.faults shelf.old name ≤ S.faults shelf.new name }
     ensures log { Fetches (file.now ∷ starts.now ∷ []) (S.log shelf.old) (S.log shelf.new) result }
-    ensures ok { IfOk result (λ r. IsPrepared (S.content shelf.old) file.now name.now (S.content shelf.old starts.now) r.compiled.typed.labelled r.observer r.compiled.image (map seen r.starts.items)) }
+    ensures ok { IfOk result (λ r. IsPrepared (S.content shelf.old) file.now name.now (S.content shelf.old starts.now) r.compiled.typed.labelled r.observer
+        r.compiled.image (map seen r.starts.items)) }
     ensures fit { IfOk result (λ r. CanAudit r.compiled.typed.labelled r.observer r.compiled.image (map seen r.starts.items)) }
-    ensures stop { IfErr result (IsStop (PrepareStops (λ name. Rose (S.faults shelf.old name) (S.faults shelf.new name)) (S.content shelf.old) file.now name.now (Rose (S.faults shelf.old starts.now) (S.faults shelf.new starts.now)) (S.content shelf.old starts.now))) }
+    ensures stop { IfErr result (IsStop (PrepareStops (λ name. Rose (S.faults shelf.old name) (S.faults shelf.new name)) (S.content shelf.old) file.now name.now
+        (Rose (S.faults shelf.old starts.now) (S.faults shelf.new starts.now)) (S.content shelf.old starts.now))) }
     ensures sound { OnOk result (IsAccepted (S.content shelf.old file.now)) }
+    ensures sound_stop { IfErr result (λ e. IsTrue (is_past_typing (status_of e)) → IsAccepted (S.content shelf.old file.now)) }
 {
     let compiled = match compile(alloc, shelf, file, Some(name)) {
         Ok(compiled) => compiled,

@@ -25,7 +25,8 @@ use tool_texts::stop::{Stop, no_memory};
 
 // The stop for a text that has no tokens.
 fn text_stop(fault: TextFault) -> Stop
-    ensures { (content : Option (Option (List ℕ))) (text : List ℕ) → IsTold content text → length text ≤ limit → IsFault text fault → IsStop (ProgramStops ⊥ content) result }
+    ensures { (content : Option (Option (List ℕ))) (text : List ℕ) → IsTold content text → length text ≤ limit → IsFault text fault
+        → IsStop (ProgramStops ⊥ content) result }
 {
     match fault {
         TextFault::Memory => no_memory(),

@@ -21,7 +21,8 @@ use tool_texts::stop::{Stop, no_memory};
 
 // The stop for bytes that hold no runs.
 fn ready_stop(fault: ReadyFault) -> Stop
-    ensures { (content : Option (Option (List ℕ))) (bytes : List ℕ) → IsTold content bytes → length bytes ≤ limit → (fault ≢ ready.Memory → refusal bytes ≡ Some fault) → IsStop (ReadyStops ⊥ content) result }
+    ensures { (content : Option (Option (List ℕ))) (bytes : List ℕ) → IsTold content bytes → length bytes ≤ limit
+        → (fault ≢ ready.Memory → refusal bytes ≡ Some fault) → IsStop (ReadyStops ⊥ content) result }
 {
     match fault {
         ReadyFault::Memory => no_memory(),

@@ -1,12 +1,12 @@
 //! What runs begin with: a program and its first start.
 
-ghost use Rattle.std.specs.Prelude.{◌≡◌, ◌≤◌, ◌∷◌, ℕ, List, IfOk, IfErr, OnOk, option_map};
+ghost use Rattle.std.specs.Prelude.{◌≡◌, ◌≤◌, ◌∷◌, ℕ, List, IfOk, IfErr, OnOk, IsTrue, option_map};
 ghost use Rattle.tim_base.specs.Faults.{Rose};
 ghost use Rattle.start_file.specs.Starts.{seen, IsFor};
-ghost use Rattle.tool_texts.specs.Ends.{IsStop};
+ghost use Rattle.tool_texts.specs.Ends.{IsStop, status_of};
 ghost use Rattle.tool_stages.specs.Fetches.{Fetches, named};
 ghost use Rattle.tool_stages.specs.Begins.{IsReady, RunStops, HasSource, MeaningStops};
-ghost use Rattle.tool_stages.specs.Accepted.{IsAccepted};
+ghost use Rattle.tool_stages.specs.Accepted.{is_past_typing, IsAccepted};
 
 use crate::compiled::{Compiled, compile};
 use crate::program::read_program;
@@ -31,10 +31,13 @@ pub fn ready<S: Shelf>(
     ensures same { (name : List ℕ) → S.content shelf.new name ≡ S.content shelf.old name }
     ensures later { (name : List ℕ) → S.faults shelf.old name ≤ S.faults shelf.new name }
     ensures log { Fetches (file.now ∷ named (option_map (λ s. s.now) starts.entry)) (S.log shelf.old) (S.log shelf.new) result }
-    ensures ok { IfOk result (λ r. IsReady (S.content shelf.old) file.now (option_map (λ s. s.now) starts.entry) (option_map (λ s. s.now) name.entry) r.0.typed.labelled r.0.observer r.0.image (seen r.1)) }
+    ensures ok { IfOk result (λ r. IsReady (S.content shelf.old) file.now (option_map (λ s. s.now) starts.entry) (option_map (λ s. s.now) name.entry)
+        r.0.typed.labelled r.0.observer r.0.image (seen r.1)) }
     ensures valid { IfOk result (λ r. IsFor r.0.typed.labelled.program (seen r.1)) }
-    ensures stop { IfErr result (IsStop (RunStops (λ name. Rose (S.faults shelf.old name) (S.faults shelf.new name)) (S.content shelf.old) file.now (option_map (λ s. s.now) starts.entry) (option_map (λ s. s.now) name.entry))) }
+    ensures stop { IfErr result (IsStop (RunStops (λ name. Rose (S.faults shelf.old name) (S.faults shelf.new name)) (S.content shelf.old) file.now
+        (option_map (λ s. s.now) starts.entry) (option_map (λ s. s.now) name.entry))) }
     ensures sound { OnOk result (IsAccepted (S.content shelf.old file.now)) }
+    ensures sound_stop { IfErr result (λ e. IsTrue (is_past_typing (status_of e)) → IsAccepted (S.content shelf.old file.now)) }
 {
     let compiled = match compile(alloc, shelf, file, name) {
         Ok(compiled) => compiled,
@@ -61,7 +64,8 @@ pub fn source<S: Shelf>(
     ensures log { Fetches (file.now ∷ named (option_map (λ s. s.now) starts.entry)) (S.log shelf.old) (S.log shelf.new) result }
     ensures ok { IfOk result (λ r. HasSource (S.content shelf.old) file.now (option_map (λ s. s.now) starts.entry) r.0 (seen r.1)) }
     ensures valid { IfOk result (λ r. IsFor r.0 (seen r.1)) }
-    ensures stop { IfErr result (IsStop (MeaningStops (λ name. Rose (S.faults shelf.old name) (S.faults shelf.new name)) (S.content shelf.old) file.now (option_map (λ s. s.now) starts.entry))) }
+    ensures stop { IfErr result (IsStop (MeaningStops (λ name. Rose (S.faults shelf.old name) (S.faults shelf.new name)) (S.content shelf.old) file.now
+        (option_map (λ s. s.now) starts.entry))) }
 {
     let program = match read_program(alloc, shelf, file) {
         Ok(program) => program,

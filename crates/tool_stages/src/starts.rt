@@ -23,7 +23,8 @@ use tool_texts::stop::{Stop, no_memory};
 
 // The stop for bytes that are no starts.
 fn start_stop(fault: StartFault) -> Stop
-    ensures { (content : Option (Option (List ℕ))) (bytes : List ℕ) (p : Syntax) → IsTold content bytes → length bytes ≤ limit → (fault ≢ start.Memory → Gives p bytes (Err fault)) → IsStop (StartStops ⊥ content p) result }
+    ensures { (content : Option (Option (List ℕ))) (bytes : List ℕ) (p : Syntax) → IsTold content bytes → length bytes ≤ limit
+        → (fault ≢ start.Memory → Gives p bytes (Err fault)) → IsStop (StartStops ⊥ content p) result }
 {
     match fault {
         StartFault::Memory => no_memory(),
@@ -104,7 +105,8 @@ pub fn first_start<S: Shelf>(
     ensures log { Fetches (named (option_map (λ f. f.now) file.entry)) (S.log shelf.old) (S.log shelf.new) result }
     ensures ok { IfOk result (λ s. FirstStart (S.content shelf.old) (option_map (λ f. f.now) file.entry) p.now (seen s)) }
     ensures valid { IfOk result (λ s. IsFor p.now (seen s)) }
-    ensures stop { IfErr result (IsStop (FirstStops (λ name. Rose (S.faults shelf.old name) (S.faults shelf.new name)) (S.content shelf.old) (option_map (λ f. f.now) file.entry) p.now)) }
+    ensures stop { IfErr result (IsStop (FirstStops (λ name. Rose (S.faults shelf.old name) (S.faults shelf.new name)) (S.content shelf.old)
+        (option_map (λ f. f.now) file.entry) p.now)) }
 {
     let Some(file) = file else {
         return match zero_start(alloc, p) {

@@ -51,8 +51,10 @@ pub fn blackbox_text<S: Shelf>(
     ensures same { (name : List ℕ) → S.content shelf.new name ≡ S.content shelf.old name }
     ensures later { (name : List ℕ) → S.faults shelf.old name ≤ S.faults shelf.new name }
     ensures log { Fetches (file.now ∷ []) (S.log shelf.old) (S.log shelf.new) result }
-    ensures text { IfOk result (λ v. IsAnswer (λ name. Rose (S.faults shelf.old name) (S.faults shelf.new name)) (S.content shelf.old) (blackbox file.now first budget) Status.Done v.items) }
-    ensures stop { IfErr result (IsStop (IsAnswer (λ name. Rose (S.faults shelf.old name) (S.faults shelf.new name)) (S.content shelf.old) (blackbox file.now first budget))) }
+    ensures text { IfOk result (λ v. IsAnswer (λ name. Rose (S.faults shelf.old name) (S.faults shelf.new name)) (S.content shelf.old)
+        (blackbox file.now first budget) Status.Done v.items) }
+    ensures stop { IfErr result (IsStop (IsAnswer (λ name. Rose (S.faults shelf.old name) (S.faults shelf.new name)) (S.content shelf.old)
+        (blackbox file.now first budget))) }
 {
     let runs = match ready_runs(alloc, shelf, file) {
         Ok(runs) => runs,

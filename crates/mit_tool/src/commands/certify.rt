@@ -26,13 +26,15 @@ pub fn certify_text<S: Shelf>(alloc: Global, shelf: &mut S, file: &str) -> Resul
     ensures same { (name : List ℕ) → S.content shelf.new name ≡ S.content shelf.old name }
     ensures later { (name : List ℕ) → S.faults shelf.old name ≤ S.faults shelf.new name }
     ensures log { Fetches (file.now ∷ []) (S.log shelf.old) (S.log shelf.new) result }
-    ensures text { IfOk result (λ v. IsAnswer (λ name. Rose (S.faults shelf.old name) (S.faults shelf.new name)) (S.content shelf.old) (certify file.now) Status.Done v.items) }
-    ensures stop { IfErr result (IsStop (IsAnswer (λ name. Rose (S.faults shelf.old name) (S.faults shelf.new name)) (S.content shelf.old) (certify file.now))) }
+    ensures text { IfOk result (λ v. IsAnswer (λ name. Rose (S.faults shelf.old name) (S.faults shelf.new name)) (S.content shelf.old)
+        (certify file.now) Status.Done v.items) }
+    ensures stop { IfErr result (IsStop (IsAnswer (λ name. Rose (S.faults shelf.old name) (S.faults shelf.new name)) (S.content shelf.old)
+        (certify file.now))) }
     ensures sound { OnOk result (IsAccepted (S.content shelf.old file.now)) }
     ensures sound_stop { IfErr result (λ e. IsTrue (is_past_typing (status_of e)) → IsAccepted (S.content shelf.old file.now)) }
 {
     let program = read_program(alloc, shelf, file)?;
-    let _ = program.body();
+    program.laws();
     let typed = typed(alloc, program)?;
     accepted_are_sound();
     derived_texts_are_certificates();

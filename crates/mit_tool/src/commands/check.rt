@@ -27,14 +27,15 @@ pub fn check_line<S: Shelf>(alloc: Global, shelf: &mut S, file: &str) -> Result<
     ensures same { (name : List ℕ) → S.content shelf.new name ≡ S.content shelf.old name }
     ensures later { (name : List ℕ) → S.faults shelf.old name ≤ S.faults shelf.new name }
     ensures log { Fetches (file.now ∷ []) (S.log shelf.old) (S.log shelf.new) result }
-    ensures line { IfOk result (IsAnswer (λ name. Rose (S.faults shelf.old name) (S.faults shelf.new name)) (S.content shelf.old) (check file.now) Status.Done) }
+    ensures line { IfOk result (IsAnswer (λ name. Rose (S.faults shelf.old name) (S.faults shelf.new name)) (S.content shelf.old)
+        (check file.now) Status.Done) }
     ensures stop { IfErr result (IsStop (CheckStops (λ name. Rose (S.faults shelf.old name) (S.faults shelf.new name)) (S.content shelf.old) file.now)) }
     ensures sound { OnOk result (IsAccepted (S.content shelf.old file.now)) }
 {
     let program = read_program(alloc, shelf, file)?;
-    let _ = program.body();
+    program.laws();
     let line = accepted(program.commands(), program.mitigates());
-    let _ = typed(alloc, program)?;
+    typed(alloc, program)?;
     accepted_are_sound();
     Ok(line)
 }

@@ -23,8 +23,10 @@ pub fn compile_text<S: Shelf>(alloc: Global, shelf: &mut S, file: &str) -> Resul
     ensures same { (name : List ℕ) → S.content shelf.new name ≡ S.content shelf.old name }
     ensures later { (name : List ℕ) → S.faults shelf.old name ≤ S.faults shelf.new name }
     ensures log { Fetches (file.now ∷ []) (S.log shelf.old) (S.log shelf.new) result }
-    ensures text { IfOk result (λ v. IsAnswer (λ name. Rose (S.faults shelf.old name) (S.faults shelf.new name)) (S.content shelf.old) (compile file.now) Status.Done v.items) }
-    ensures stop { IfErr result (IsStop (IsAnswer (λ name. Rose (S.faults shelf.old name) (S.faults shelf.new name)) (S.content shelf.old) (compile file.now))) }
+    ensures text { IfOk result (λ v. IsAnswer (λ name. Rose (S.faults shelf.old name) (S.faults shelf.new name)) (S.content shelf.old)
+        (compile file.now) Status.Done v.items) }
+    ensures stop { IfErr result (IsStop (IsAnswer (λ name. Rose (S.faults shelf.old name) (S.faults shelf.new name)) (S.content shelf.old)
+        (compile file.now))) }
     ensures sound { OnOk result (IsAccepted (S.content shelf.old file.now)) }
     ensures sound_stop { IfErr result (λ e. IsTrue (is_past_typing (status_of e)) → IsAccepted (S.content shelf.old file.now)) }
 {

@@ -40,6 +40,7 @@ fn prepare_made(alloc: Global, made: &Made, size: u32, number: u32) -> Result<Pr
     ensures fit { IfOk result (λ r. CanAudit r.compiled.typed.labelled r.observer r.compiled.image (map seen r.starts.items)) }
     ensures stop { IfErr result (IsStop (PrepareStops (λ name. ⊥) (made_content size number) [] (codes "L") ⊥ (Some (Some starts_text)))) }
     ensures sound { OnOk result (IsAccepted (Some (Some (program_text size number)))) }
+    ensures sound_stop { IfErr result (λ e. IsTrue (is_past_typing (status_of e)) → IsAccepted (Some (Some (program_text size number)))) }
 {
     let program = match program_of(alloc, made.program.as_slice()) {
         Ok(program) => program,

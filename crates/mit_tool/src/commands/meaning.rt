@@ -31,7 +31,8 @@ pub fn meaning<S: Shelf, W: Sink>(
     ensures later { (name : List ℕ) → S.faults shelf.old name ≤ S.faults shelf.new name }
     ensures later_out { W.faults out.old ≤ W.faults out.new }
     ensures answered { EndsBy (W.taken out.old) (W.taken out.new) (Before (S.content shelf.old) (meaning file.now (option_map (λ s. s.now) starts.entry) steps))
-        (IsAnswer (λ name. Rose (S.faults shelf.old name) (S.faults shelf.new name)) (S.content shelf.old) (meaning file.now (option_map (λ s. s.now) starts.entry) steps)) result }
+        (IsAnswer (λ name. Rose (S.faults shelf.old name) (S.faults shelf.new name)) (S.content shelf.old)
+        (meaning file.now (option_map (λ s. s.now) starts.entry) steps)) result }
     ensures write { result ≡ Status.WriteFault → Rose (W.faults out.old) (W.faults out.new) }
     ensures fetched { HasFetched (file.now ∷ named (option_map (λ s. s.now) starts.entry)) result (S.log shelf.old) (S.log shelf.new) }
     ensures pieces { HasWritten (AreLines IsMeaningLine) result (W.log out.old) (W.log out.new) }

@@ -29,11 +29,13 @@ pub fn recheck_line<S: Shelf>(
     ensures same { (name : List ℕ) → S.content shelf.new name ≡ S.content shelf.old name }
     ensures later { (name : List ℕ) → S.faults shelf.old name ≤ S.faults shelf.new name }
     ensures log { Fetches (file.now ∷ certificate.now ∷ []) (S.log shelf.old) (S.log shelf.new) result }
-    ensures line { IfOk result (IsAnswer (λ name. Rose (S.faults shelf.old name) (S.faults shelf.new name)) (S.content shelf.old) (recheck file.now certificate.now) Status.Done) }
-    ensures stop { IfErr result (IsStop (IsAnswer (λ name. Rose (S.faults shelf.old name) (S.faults shelf.new name)) (S.content shelf.old) (recheck file.now certificate.now))) }
+    ensures line { IfOk result (IsAnswer (λ name. Rose (S.faults shelf.old name) (S.faults shelf.new name)) (S.content shelf.old)
+        (recheck file.now certificate.now) Status.Done) }
+    ensures stop { IfErr result (IsStop (IsAnswer (λ name. Rose (S.faults shelf.old name) (S.faults shelf.new name)) (S.content shelf.old)
+        (recheck file.now certificate.now))) }
 {
     let program = read_program(alloc, shelf, file)?;
     let line = lines::rechecked(program.commands(), program.mitigates());
-    let _ = rechecked_by(alloc, shelf, certificate, program)?;
+    rechecked_by(alloc, shelf, certificate, program)?;
     Ok(line)
 }

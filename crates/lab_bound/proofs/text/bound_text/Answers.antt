@@ -3,7 +3,6 @@ use Rattle.tim_base.specs.Faults.{Rose}
 use Rattle.start_file.specs.Starts.{seen}
 use Rattle.tool_texts.specs.declared.status.Status.TheVariants.{Done}
 use Rattle.tool_stages.proofs.PrepareLemmas.{prepared_goes, prepare_stops, audit_stops}
-use Rattle.tool_stages.proofs.EarlyLemmas.{prepare_not_late}
 use Rattle.lab_bound.proofs.Answering.{bound_next}
 use Rattle.lab_bound.proofs.text.bound_text.Goals as goal
 
@@ -25,8 +24,3 @@ returns-clause-stop g c =
     audit_stops (λ (name : List ℕ). Rose (g.S.Shelf.faults c.args.shelf.now name) (g.S.Shelf.faults c.prepare.new.shelf name)) (g.S.Shelf.content c.args.shelf.now)
     c.args.file.now c.args.name.now (Rose (g.S.Shelf.faults c.args.shelf.now c.args.starts.now) (g.S.Shelf.faults c.prepare.new.shelf c.args.starts.now)) (g.S.Shelf.content c.args.shelf.now c.args.starts.now)
     p.compiled.typed.labelled p.observer p.compiled.image (map seen p.starts.items) (bound_next c.args.setting.env c.args.setting.budget) c.in-Err-prepared_text.stop c.in-Ok.ensures.ok c.in-Err-prepared_text.ensures.stop
-
-pub returns-in-Err-clause-sound_stop : goal.returns-in-Err-clause-sound_stop
-returns-in-Err-clause-sound_stop g c = λ late.
-    absurd (prepare_not_late (λ (name : List ℕ). Rose (g.S.Shelf.faults c.args.shelf.now name) (g.S.Shelf.faults c.prepare.new.shelf name)) (g.S.Shelf.content c.args.shelf.now)
-    c.args.file.now c.args.name.now _ (g.S.Shelf.content c.args.shelf.now c.args.starts.now) c.in-Err.stop c.in-Err.ensures.stop late)

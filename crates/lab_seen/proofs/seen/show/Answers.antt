@@ -1,6 +1,8 @@
 use Rattle.std.specs.Prelude.{ℕ, List, map}
 use Rattle.tim_base.specs.Faults.{Rose}
 use Rattle.start_file.specs.Starts.{seen}
+use Rattle.tool_texts.specs.Ends.{status_of}
+use Rattle.tool_stages.proofs.EarlyLemmas.{past_told}
 use Rattle.lab_seen.proofs.SeenLemmas.{seen_stops, seen_done, seen_short, seen_broke}
 use Rattle.lab_seen.proofs.seen.show.Goals as goal
 
@@ -27,3 +29,6 @@ returns-clause-answered g c =
     let p = c.in-Ok.prepared in
     seen_broke (λ (name : List ℕ). Rose (g.S.Shelf.faults c.args.shelf.now name) (g.S.Shelf.faults c.prepare.new.shelf name)) (g.S.Shelf.content c.args.shelf.now) c.args.file.now c.args.starts.now c.args.observer.now
     c.args.setting.env c.args.setting.budget p.compiled.typed.labelled p.observer p.compiled.image (map seen p.starts.items) c.in-Ok.ensures.ok (g.W.Sink.taken c.args.out.now) (g.W.Sink.taken c.write_lines.new.out) (c.write_lines.ensures.prefix (cc))
+
+pub returns-in-Err-clause-sound : goal.returns-in-Err-clause-sound
+returns-in-Err-clause-sound g c = λ past. c.in-Err.ensures.sound_stop (past_told c.stop.result (status_of c.in-Err.e) (λ n. (c.stop.ensures.told n).0) past)

@@ -2,6 +2,7 @@ use Rattle.std.proofs.Common.{ap, ◌∙◌, arith}
 use Rattle.std.specs.Prelude.{ℕ, List, map, option_map}
 use Rattle.tim_base.specs.Faults.{Rose}
 use Rattle.start_file.specs.Starts.{seen}
+use Rattle.tool_stages.proofs.EarlyLemmas.{compile_not_late}
 use Rattle.tool_stages.proofs.StopLemmas.{rose_since}
 use Rattle.lab_timeline.proofs.BeginLemmas.{compile_stops_runs, starts_stop_runs, begun_of, begun_fits}
 use Rattle.lab_timeline.proofs.begin.begin.Goals as goal
@@ -42,3 +43,8 @@ returns-in-Ok-all_starts-clause-same g c = λ name. c.all_starts.ensures.same na
 
 pub returns-in-Ok-all_starts-clause-later : goal.returns-in-Ok-all_starts-clause-later
 returns-in-Ok-all_starts-clause-later g c = λ name. omega (arith, c.compile.ensures.later name, c.all_starts.ensures.later name)
+
+pub returns-in-Err-clause-sound_stop : goal.returns-in-Err-clause-sound_stop
+returns-in-Err-clause-sound_stop g c = λ late.
+    absurd (compile_not_late (λ (name : List ℕ). Rose (g.S.Shelf.faults c.args.shelf.now name) (g.S.Shelf.faults c.compile.new.shelf name)) (g.S.Shelf.content c.args.shelf.now)
+    c.args.file.now (option_map (λ s. s.now) c.args.name) c.in-Err.stop c.in-Err.ensures.stop late)

@@ -1,6 +1,8 @@
 use Rattle.std.specs.Prelude.{ℕ, List, map, option_map}
 use Rattle.tim_base.specs.Faults.{Rose}
 use Rattle.start_file.specs.Starts.{seen}
+use Rattle.tool_texts.specs.Ends.{status_of}
+use Rattle.tool_stages.proofs.EarlyLemmas.{past_told}
 use Rattle.lab_timeline.proofs.EndLemmas.{timeline_stops, timeline_done, timeline_short, timeline_broke}
 use Rattle.lab_timeline.proofs.timeline.show.Goals as goal
 
@@ -29,3 +31,6 @@ returns-clause-answered g c =
     timeline_broke (λ (name : List ℕ). Rose (g.S.Shelf.faults c.args.shelf.now name) (g.S.Shelf.faults c.begin.new.shelf name)) (g.S.Shelf.content c.args.shelf.now) c.args.file.now c.args.starts.now (option_map (λ s. s.now) c.args.observer)
     c.args.setting.env c.args.setting.budget p.compiled.typed.labelled p.compiled.observer p.compiled.image (map seen p.starts.items) c.in-Ok.ensures.ok (g.W.Sink.taken c.args.out.now) (g.W.Sink.taken c.write_timelines.new.out)
     (c.write_timelines.ensures.prefix (cc))
+
+pub returns-in-Err-clause-sound : goal.returns-in-Err-clause-sound
+returns-in-Err-clause-sound g c = λ past. c.in-Err.ensures.sound_stop (past_told c.stop.result (status_of c.in-Err.e) (λ n. (c.stop.ensures.told n).0) past)

@@ -67,7 +67,7 @@ pub fn walk<W: Sink>(
     ensures last_line { IfOk result IsMeaningLine }
     ensures later { W.faults out.old ≤ W.faults out.new }
 {
-    let _ = p.variables();
+    p.laws();
     let Ok(mut walker) = Walker::new(alloc, p, memory) else {
         return Err(WalkFault::Memory);
     };

@@ -5,7 +5,8 @@ use Rattle.start_file.specs.Starts.{seen}
 use Rattle.tool_stages.proofs.PrepareLemmas.{names_some, compile_stops_audit, starts_stop_audit, prepared_of, audit_fits}
 use Rattle.tool_stages.proofs.StopLemmas.{rose_since}
 use Rattle.tool_stages.proofs.FetchLemmas.{fetch_then}
-use Rattle.std.specs.Prelude.{[], ◌∷◌, Ok, Err, Vec}
+use Rattle.tool_stages.proofs.EarlyLemmas.{compile_not_late}
+use Rattle.std.specs.Prelude.{[], ◌∷◌, Some, Ok, Err, Vec}
 use Rattle.tool_stages.proofs.prepared.prepare.Goals as goal
 
 pub returns-in-Err-clause-stop : goal.returns-in-Err-clause-stop
@@ -60,3 +61,8 @@ pub returns-in-Err-all_starts-clause-log : goal.returns-in-Err-all_starts-clause
 returns-in-Err-all_starts-clause-log g c =
     fetch_then {B = Unit {0}} (c.args.file.now ∷ []) (c.args.starts.now ∷ []) (g.S.Shelf.log c.args.shelf.now) (g.S.Shelf.log c.compile.new.shelf) (g.S.Shelf.log c.all_starts.new.shelf)
     c.in-Ok.compiled (Err c.in-Err-all_starts.stop) c.in-Ok.ensures.log c.in-Err-all_starts.ensures.log
+
+pub returns-in-Err-clause-sound_stop : goal.returns-in-Err-clause-sound_stop
+returns-in-Err-clause-sound_stop g c = λ late.
+    absurd (compile_not_late (λ (name : List ℕ). Rose (g.S.Shelf.faults c.args.shelf.now name) (g.S.Shelf.faults c.compile.new.shelf name)) (g.S.Shelf.content c.args.shelf.now)
+    c.args.file.now (Some c.args.name.now) c.in-Err.stop c.in-Err.ensures.stop late)

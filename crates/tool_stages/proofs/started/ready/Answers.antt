@@ -4,6 +4,7 @@ use Rattle.tim_base.specs.Faults.{Rose}
 use Rattle.start_file.specs.Starts.{seen}
 use Rattle.tool_stages.proofs.GoesLemmas.{first_at}
 use Rattle.tool_stages.proofs.StopLemmas.{compile_stops, later_first_stops, rose_since}
+use Rattle.tool_stages.proofs.EarlyLemmas.{compile_not_late}
 use Rattle.tool_stages.proofs.FetchLemmas.{fetch_then, fetch_stop}
 use Rattle.std.specs.Prelude.{[], ◌∷◌, Ok, Err}
 use Rattle.start_file.specs.declared.start.Start.{Start}
@@ -48,3 +49,8 @@ returns-in-Err-first_start-clause-log g c =
 pub returns-in-Err-clause-log : goal.returns-in-Err-clause-log
 returns-in-Err-clause-log g c =
     fetch_stop Start Start (c.args.file.now ∷ []) (named (option_map (λ s. s.now) c.args.starts)) (g.S.Shelf.log c.args.shelf.now) (g.S.Shelf.log c.compile.new.shelf) c.in-Err.stop c.in-Err.ensures.log
+
+pub returns-in-Err-clause-sound_stop : goal.returns-in-Err-clause-sound_stop
+returns-in-Err-clause-sound_stop g c = λ late.
+    absurd (compile_not_late (λ (name : List ℕ). Rose (g.S.Shelf.faults c.args.shelf.now name) (g.S.Shelf.faults c.compile.new.shelf name)) (g.S.Shelf.content c.args.shelf.now)
+    c.args.file.now (option_map (λ s. s.now) c.args.name) c.in-Err.stop c.in-Err.ensures.stop late)

@@ -12,7 +12,7 @@ returns-in-Ok-clause-text g c =
     let q = c.in_ok-typed.typed.labelled in
     let types = c.in_ok-typed.ensures.ok in
     let is : c.in-Ok.text.items ≡ derived_text q = c.in-Ok.ensures ∙ ap derived_text c.labelled.ensures.labelled in
-    let valid = subst IsValid (sym types.program) c.body.ensures.valid in
+    let valid = subst IsValid (sym types.program) c.laws.ensures.valid in
     let labels = subst (λ (s : Syntax). Labels s q.labels) (sym types.program) types.least.labels in
     let certifies = subst (λ (t : List ℕ). IsCertificate q t) (sym is) (c.derived_texts_are_certificates.ensures q valid labels types.typed) in
     inr (c.in_ok-program.program, c.in_ok-program.ensures.ok, inr (q, types, (refl, is, certifies)))
@@ -23,5 +23,5 @@ returns-in-Ok-clause-sound g c = record {
   reads = c.in_ok-program.ensures.ok;
   labelled = c.in_ok-typed.typed.labelled;
   types = c.in_ok-typed.ensures.ok;
-  sound = c.accepted_are_sound.ensures.valid c.in_ok-program.program c.in_ok-typed.typed.labelled c.body.ensures.valid c.in_ok-typed.ensures.ok;
+  sound = c.accepted_are_sound.ensures.valid c.in_ok-program.program c.in_ok-typed.typed.labelled c.laws.ensures.valid c.in_ok-typed.ensures.ok;
 }

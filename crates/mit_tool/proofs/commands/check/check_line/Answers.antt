@@ -20,7 +20,7 @@ returns-clause-sound g c = record {
   reads = c.in_ok-program.ensures.ok;
   labelled = c.in_ok-typed.field-0.labelled;
   types = c.in_ok-typed.ensures.ok;
-  sound = c.accepted_are_sound.ensures.valid c.in_ok-program.program c.in_ok-typed.field-0.labelled c.body.ensures.valid c.in_ok-typed.ensures.ok;
+  sound = c.accepted_are_sound.ensures.valid c.in_ok-program.program c.in_ok-typed.field-0.labelled c.laws.ensures.valid c.in_ok-typed.ensures.ok;
 }
 
 pub returns-in_err-typed-clause-log : goal.returns-in_err-typed-clause-log

@@ -3,7 +3,6 @@ use Rattle.tim_base.specs.Faults.{Rose}
 use Rattle.start_file.specs.Starts.{seen}
 use Rattle.tool_texts.specs.declared.status.Status.TheVariants.{Done}
 use Rattle.tool_stages.proofs.PrepareLemmas.{prepared_goes, prepare_stops, audit_stops}
-use Rattle.tool_stages.proofs.EarlyLemmas.{prepare_not_late}
 use Rattle.mit_tool.proofs.PrepareLemmas.{cut_next}
 use Rattle.tool_stages.proofs.FetchLemmas.{fetch_stops, not_read}
 use Rattle.mit_tool.proofs.LoggedLemmas.{cut_no_read}
@@ -14,11 +13,6 @@ pub returns-in-Err-clause-stop : goal.returns-in-Err-clause-stop
 returns-in-Err-clause-stop g c =
     prepare_stops (λ (name : List ℕ). Rose (g.S.Shelf.faults c.args.shelf.now name) (g.S.Shelf.faults c.prepare.new.shelf name)) (g.S.Shelf.content c.args.shelf.now)
     c.args.file.now c.args.name.now _ (g.S.Shelf.content c.args.shelf.now c.args.starts.now) (cut_next c.args.setting.env c.args.setting.budget) c.in-Err.stop c.in-Err.ensures.stop
-
-pub returns-in-Err-clause-sound_stop : goal.returns-in-Err-clause-sound_stop
-returns-in-Err-clause-sound_stop g c = λ late.
-    absurd (prepare_not_late (λ (name : List ℕ). Rose (g.S.Shelf.faults c.args.shelf.now name) (g.S.Shelf.faults c.prepare.new.shelf name)) (g.S.Shelf.content c.args.shelf.now)
-    c.args.file.now c.args.name.now _ (g.S.Shelf.content c.args.shelf.now c.args.starts.now) c.in-Err.stop c.in-Err.ensures.stop late)
 
 pub returns-in-Ok-cut_report-clause-text : goal.returns-in-Ok-cut_report-clause-text
 returns-in-Ok-cut_report-clause-text g c =

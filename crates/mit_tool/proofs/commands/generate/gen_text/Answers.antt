@@ -8,7 +8,6 @@ use Rattle.tool_words.specs.declared.words.EnvName.TheVariants.{Part}
 use Rattle.tool_texts.specs.declared.status.Status.TheVariants.{Done}
 use Rattle.tool_texts.specs.Reports.{made_lines}
 use Rattle.mit_tool.specs.Answers.{made_content}
-use Rattle.tool_stages.proofs.EarlyLemmas.{prepare_not_late}
 use Rattle.tool_stages.proofs.PrepareLemmas.{prepare_stops, prepared_goes, audit_stops}
 use Rattle.mit_tool.proofs.AuditLemmas.{audited_after, audited_stop_after}
 use Rattle.mit_tool.proofs.PrepareLemmas.{made_next}
@@ -17,10 +16,6 @@ use Rattle.mit_tool.proofs.commands.generate.gen_text.Goals as goal
 pub returns-in-Err-clause-stop : goal.returns-in-Err-clause-stop
 returns-in-Err-clause-stop c =
     prepare_stops (λ (name : List ℕ). ⊥) (made_content c.args.size c.args.number) [] (codes "L") ⊥ (Some (Some starts_text)) (made_next c.args.size c.args.number) c.in-Err.stop c.in-Err.ensures.stop
-
-pub returns-in-Err-clause-sound_stop : goal.returns-in-Err-clause-sound_stop
-returns-in-Err-clause-sound_stop c = λ late.
-    absurd (prepare_not_late (λ (name : List ℕ). ⊥) (made_content c.args.size c.args.number) [] (codes "L") ⊥ (Some (Some starts_text)) c.in-Err.stop c.in-Err.ensures.stop late)
 
 pub returns-in-Ok-audit_after-clause-text : goal.returns-in-Ok-audit_after-clause-text
 returns-in-Ok-audit_after-clause-text c =

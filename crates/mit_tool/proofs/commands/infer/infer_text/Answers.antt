@@ -6,5 +6,5 @@ returns-in-Ok-clause-sound g c = record {
   reads = c.in_ok-program.ensures.ok;
   labelled = c.in_ok-typed.typed.labelled;
   types = c.in_ok-typed.ensures.ok;
-  sound = c.accepted_are_sound.ensures.valid c.in_ok-program.program c.in_ok-typed.typed.labelled c.body.ensures.valid c.in_ok-typed.ensures.ok;
+  sound = c.accepted_are_sound.ensures.valid c.in_ok-program.program c.in_ok-typed.typed.labelled c.laws.ensures.valid c.in_ok-typed.ensures.ok;
 }

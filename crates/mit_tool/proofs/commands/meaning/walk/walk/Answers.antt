@@ -5,7 +5,7 @@ use Rattle.mit_tool.proofs.commands.meaning.walk.walk.Goals as goal
 
 pub steps-init : goal.steps-init
 steps-init g c = record {
-  walking = walking_first c.args.p.now c.args.memory.now c.args.steps c.in-Ok.walker (g.W.Sink.taken c.args.out.now) c.variables.ensures.valid c.in-Ok.ensures;
+  walking = walking_first c.args.p.now c.args.memory.now c.args.steps c.in-Ok.walker (g.W.Sink.taken c.args.out.now) c.laws.ensures.valid c.in-Ok.ensures;
   sent = no_lines (g.W.Sink.log c.args.out.now);
   later = omega arith;
 }
@@ -20,7 +20,7 @@ steps-preserved g c =
     record {
       walking = walking_next c.args.p.now c.args.memory.now c.args.steps c.steps.taken c.steps.walker c.step.new.self c.in-Ok-step.walk
           (g.W.Sink.taken c.args.out.now) (g.W.Sink.taken c.steps.out) (g.W.Sink.taken c.print_step.new.out) c.steps.invariant.walking c.in-Ok-step.ensures.step c.in_default-walk.not-Ended less c.in-Ok-print_step.ensures.text;
-      sent = lines_more c.args.p.now.declarations c.in-Ok-step.walk (g.W.Sink.log c.args.out.now) (g.W.Sink.log c.steps.out) (g.W.Sink.log c.print_step.new.out) c.variables.ensures.valid.names c.steps.invariant.sent c.in-Ok-print_step.ensures.sent;
+      sent = lines_more c.args.p.now.declarations c.in-Ok-step.walk (g.W.Sink.log c.args.out.now) (g.W.Sink.log c.steps.out) (g.W.Sink.log c.print_step.new.out) c.laws.ensures.valid.names c.steps.invariant.sent c.in-Ok-print_step.ensures.sent;
       later = omega (arith, c.steps.invariant.later, c.print_step.ensures.later);
     }
 
@@ -41,7 +41,7 @@ returns-in-Ended-clause-last_line g c = inr (c.steps.taken, inl c.ended.ensures)
 
 pub returns-in-Err-clause-broken : goal.returns-in-Err-clause-broken
 returns-in-Err-clause-broken g c =
-    λ e. lines_break c.args.p.now.declarations c.in-Ok-step.walk (g.W.Sink.log c.args.out.now) (g.W.Sink.log c.steps.out) (g.W.Sink.log c.print_step.new.out) c.variables.ensures.valid.names c.steps.invariant.sent c.in-Err.ensures.broken
+    λ e. lines_break c.args.p.now.declarations c.in-Ok-step.walk (g.W.Sink.log c.args.out.now) (g.W.Sink.log c.steps.out) (g.W.Sink.log c.print_step.new.out) c.laws.ensures.valid.names c.steps.invariant.sent c.in-Err.ensures.broken
 
 pub returns-then-taken-steps : goal.returns-then-taken-steps
 returns-then-taken-steps g c =
