@@ -13,7 +13,8 @@ use Rattle.tool_stages.specs.Envs.{AuditFaultsIn}
 
 -- two starts do not agree, a run has not halted, or too much is shown
 abbrev pub AuditStops : EnvName → ℕ → LabelledProgram → Label → List StartValue → Status → List ℕ → Type 0
-AuditStops e t q l ss status.Disagree x = (run : ℕ) × (what : What) × AuditFaultsIn e q l.number t ss (Disagree run what) × (x ≡ disagree_line q.program run what)
+AuditStops e t q l ss status.Disagree x =
+    (run : ℕ) × (what : What) × AuditFaultsIn e q l.number t ss (Disagree run what) × (x ≡ disagree_line q.program run what)
 AuditStops e t q l ss status.Unfinished x = (run : ℕ) × (cycle : ℕ) × AuditFaultsIn e q l.number t ss (Unfinished run cycle) × (x ≡ unfinished_line run cycle)
 AuditStops e t q l ss status.TooLong x = (count : ℕ) × AuditFaultsIn e q l.number t ss (TooMuch count) × (x ≡ events_line count)
 AuditStops e t q l ss _ x = ⊥

@@ -40,7 +40,8 @@ pub record AreApart {E : Type 0} (v : Env E) (serves : Order → E → Type 0) (
   pub agree : Pairwise (Agree v (order_of q) (serves q.program.order) (labels_of q) observer) (s ∷ s' ∷ [])
   pub halt : Each (Halts v (lowered q).instrs budget) (s ∷ s' ∷ [])
   pub begin : Each (λ x. Begins (order_of q) (labels_of q) (levels_of q) observer (plan_of q.program) x.memory 1) (s ∷ s' ∷ [])
-  pub apart : seen_from v (order_of q) (labels_of q) (lowered q).instrs observer budget s ≡ seen_from v (order_of q) (labels_of q) (lowered q).instrs observer budget s' → ⊥
+  pub apart : seen_from v (order_of q) (labels_of q) (lowered q).instrs observer budget s
+      ≡ seen_from v (order_of q) (labels_of q) (lowered q).instrs observer budget s' → ⊥
 
 -- the two starts with nothing touched
 abbrev pub BothAreApart : {E : Type 0} → Env E → (Order → E → Type 0) → E → LabelledProgram → Type 0

@@ -104,7 +104,8 @@ side_line ts s q (Command l) b a = command_line ts q (label_text s.order l.numbe
 side_line ts s q (Level k l) b a = level_line l s.order b a
 
 abbrev pub step_lines : List ℕ → List Token → Syntax → Step → List ℕ → List ℕ
-step_lines T ts s x a = part_lines T ts x.part.how x.part.pos (spot_text s x.part.spot) a ++ (place_text x.pos ++ side_line ts s x.pos x.side (bound x.part.how) a)
+step_lines T ts s x a =
+    part_lines T ts x.part.how x.part.pos (spot_text s x.part.spot) a ++ (place_text x.pos ++ side_line ts s x.pos x.side (bound x.part.how) a)
 
 abbrev pub steps_lines : List ℕ → List Token → Syntax → List Step → List ℕ → List ℕ
 steps_lines T ts s [] a = []
@@ -119,7 +120,8 @@ first_line T ts (Level k l) w a = []
 -- a chain
 abbrev pub chain_text : List ℕ → List Token → Syntax → List Step → List ℕ
 chain_text T ts s [] = []
-chain_text T ts s (x ∷ xs) = first_line T ts x.part.spot (spot_text s x.part.spot) (written_text s x.part.spot) ++ steps_lines T ts s (x ∷ xs) (written_text s x.part.spot)
+chain_text T ts s (x ∷ xs) =
+    first_line T ts x.part.spot (spot_text s x.part.spot) (written_text s x.part.spot) ++ steps_lines T ts s (x ∷ xs) (written_text s x.part.spot)
 
 -- the chains of origins, one after another
 abbrev pub origins_text : List ℕ → List Token → Syntax → List Origin → List ℕ

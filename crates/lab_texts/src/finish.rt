@@ -27,7 +27,8 @@ pub fn usage() -> &'static [u8]
 /// is the lab's usage text.
 pub fn stop<W: Sink>(out: &mut W, stop: Stop) -> Status
     requires { status_of stop ≢ Status.WriteFault }
-    ensures told { result ≢ Status.WriteFault → (result ≡ status_of stop) × Appends (W.taken out.old) (W.taken out.new) (lab_text (status_of stop) (stop_text stop)) }
+    ensures told { result ≢ Status.WriteFault → (result ≡ status_of stop)
+        × Appends (W.taken out.old) (W.taken out.new) (lab_text (status_of stop) (stop_text stop)) }
     ensures prefix { result ≡ Status.WriteFault → AppendsPrefix (W.taken out.old) (W.taken out.new) (lab_text (status_of stop) (stop_text stop)) }
     ensures fault { result ≡ Status.WriteFault → Rose (W.faults out.old) (W.faults out.new) }
     ensures later { W.faults out.old ≤ W.faults out.new }
@@ -45,7 +46,8 @@ pub fn stop<W: Sink>(out: &mut W, stop: Stop) -> Status
 /// failed.
 pub fn tell<W: Sink>(out: &mut W, made: Result<Vec<u8>, Stop>) -> Status
     requires { told_status made ≢ Status.WriteFault }
-    ensures told { result ≢ Status.WriteFault → (result ≡ told_status made) × Appends (W.taken out.old) (W.taken out.new) (lab_text (told_status made) (told_text made)) }
+    ensures told { result ≢ Status.WriteFault → (result ≡ told_status made)
+        × Appends (W.taken out.old) (W.taken out.new) (lab_text (told_status made) (told_text made)) }
     ensures prefix { result ≡ Status.WriteFault → AppendsPrefix (W.taken out.old) (W.taken out.new) (lab_text (told_status made) (told_text made)) }
     ensures fault { result ≡ Status.WriteFault → Rose (W.faults out.old) (W.faults out.new) }
     ensures later { W.faults out.old ≤ W.faults out.new }

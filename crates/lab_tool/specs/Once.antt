@@ -19,5 +19,7 @@ HasOneText (bound file starts observer e budget) = ⊤
 -- it have the same status, and the same text but for the chains of `why`.
 abbrev pub HasOneAnswer : Type 0
 HasOneAnswer =
-    (content : Content) (before now : List ℕ → ℕ) (a : Asked) (s u : Status) (t x : List ℕ) → AreKnown content a → NoneRises (λ name. Rose (before name) (now name)) a →
-    IsAnswer (λ name. Rose (before name) (now name)) content a s t → IsAnswer (λ name. Rose (before name) (now name)) content a u x → (s ≡ u) × (HasOneText a → t ≡ x)
+    (content : Content) (before now : List ℕ → ℕ) (a : Asked) (s u : Status) (t x : List ℕ) →
+    AreKnown content a → NoneRises (λ name. Rose (before name) (now name)) a →
+    IsAnswer (λ name. Rose (before name) (now name)) content a s t → IsAnswer (λ name. Rose (before name) (now name)) content a u x →
+    (s ≡ u) × (HasOneText a → t ≡ x)

@@ -24,7 +24,8 @@ pub fn made_program_is_spelled(size: u32, number: u32)
 /// The parser refuses the text of a made program for want of memory alone.
 pub fn made_program_is_not_refused(size: u32, number: u32)
     requires { 0 < size }
-    ensures { (tokens : List Token) → AreTokens (program_text size number) tokens → (f : ParseFault) → Refuses (told (program_text size number) tokens) f → f ≡ Memory }
+    ensures { (tokens : List Token) → AreTokens (program_text size number) tokens → (f : ParseFault) → Refuses (told (program_text size number) tokens) f
+        → f ≡ Memory }
 {
     made_program_is_spelled(size, number);
     spelled_is_not_refused();

@@ -31,7 +31,8 @@ held_by names contents = put_over (λ name. None) names contents
 
 -- Files were put on a shelf, over whatever its names held.
 pub record PutsAll (old new : MemShelf) (names contents : List (List ℕ)) : Type 0 where
-  pub puts : (holds : List ℕ → Option (List ℕ)) → ((name : List ℕ) → bytes_at old name ≡ holds name) → (name : List ℕ) → bytes_at new name ≡ put_over holds names contents name
+  pub puts : (holds : List ℕ → Option (List ℕ)) → ((name : List ℕ) → bytes_at old name ≡ holds name) → (name : List ℕ)
+      → bytes_at new name ≡ put_over holds names contents name
 
 -- The answer of a program to words, where so much of the text was there before; `Rises` tells the names whose counts of
 -- faults rose.

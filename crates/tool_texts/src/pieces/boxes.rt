@@ -70,7 +70,8 @@ pub fn put_box(
     requires few { length all.now ≤ MAX_RUNS }
     requires runs { length audit.now.runs.items ≡ length all.now }
     requires classes { length audit.now.classes.items ≡ length all.now }
-    ensures { OnOk result (text.new.items ≡ text.old.items ++ box_text first budget (ready_lists all.now) (map seen audit.now.runs.items) audit.now.distinct audit.now.base audit.now.exponent audit.now.classes.items) }
+    ensures { OnOk result (text.new.items ≡ text.old.items ++ box_text first budget (ready_lists all.now) (map seen audit.now.runs.items) audit.now.distinct
+        audit.now.base audit.now.exponent audit.now.classes.items) }
 {
     put_all_releases(text, audit.runs.as_slice())?;
     put_number(text, b"runs ", all.len() as u64)?;
