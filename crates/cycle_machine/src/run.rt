@@ -11,9 +11,9 @@ use label_code::image::Image;
 use run_watch::{Watch, Watched};
 
 impl<E: MachineEnv> State<E> {
-    // A vector's length is that of its elements.
+    /// Says nothing at run time: of every state, the length of each vector is that of its elements.
     #[inline(always)]
-    fn lengths(&self)
+    pub fn laws(&self)
         ensures operands { vec_len self.now.operands ≡ length self.now.operands.items }
         ensures opened { vec_len self.now.opened ≡ length self.now.opened.items }
         ensures memory { vec_len self.now.memory ≡ length self.now.memory.items }
@@ -30,7 +30,7 @@ pub fn advance<E: MachineEnv>(image: &Image, state: &mut State<E>, limit: u64) -
     requires { Stands E.serves image.now state.old }
     ensures { Stepped E.env E.serves image.now state.old limit result state.new }
 {
-    state.lengths();
+    state.laws();
     let i = image.at(state.place);
     state.obey(i, limit)
 }

@@ -24,9 +24,7 @@ fn settle<L: Ledger>(p: &Program, work: &mut Worklist, steps: &mut Steps<L>)
     ensures done { IsDone work.new }
     ensures steps { (c : ℕ) → ChainsHaveUpTo p.now.order c → steps.new ≤ steps.old + shares_of p.now c }
 {
-    let _ = p.body();
-    let order = p.lattice();
-    order.laws();
+    p.laws();
     while work.take_up(steps) {}
 }
 

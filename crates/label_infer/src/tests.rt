@@ -200,10 +200,10 @@ fn chained(
     ensures { IfOk result (λ p. variables p.declarations ≡ 4) }
 {
     order.laws();
-    let _ = a.bytes();
-    let _ = b.bytes();
-    let _ = c.bytes();
-    let _ = h.bytes();
+    a.laws();
+    b.laws();
+    c.laws();
+    h.laws();
     let free = Decl {
         label: None,
         length: None,
@@ -275,7 +275,7 @@ fn take_all<L: Ledger>(
     requires some { 0 < blank.parts }
     requires variables { variables p.now.declarations ≡ 4 }
 {
-    let _ = p.body();
+    p.laws();
     let mut steps = Steps::<L>::new(blank);
     let mut work = Worklist::new(alloc, p)?;
     let before = first_three(&work);

@@ -1,6 +1,6 @@
 //! Steps of a run, with what they tell.
 
-ghost use Rattle.std.specs.Prelude.{◌≡◌, length, vec_len};
+ghost use Rattle.std.specs.Prelude.{◌≡◌};
 ghost use Rattle.cycle_machine.specs.Took.{Fits, IsServed, Keeps, Stands};
 ghost use Rattle.run_timeline.specs.Steps.{IsPlain, Tells, Stepped};
 
@@ -11,17 +11,6 @@ use cycle_machine::state::{Outcome, State};
 use env_contract::env::MachineEnv;
 use label_code::code::{Instr, Work};
 use label_code::image::Image;
-
-// A vector's length is that of its elements.
-fn lengths<E: MachineEnv>(state: &State<E>)
-    ensures operands { vec_len state.now.operands ≡ length state.now.operands.items }
-    ensures opened { vec_len state.now.opened ≡ length state.now.opened.items }
-    ensures memory { vec_len state.now.memory ≡ length state.now.memory.items }
-{
-    let _ = state.operands.as_slice();
-    let _ = state.opened.as_slice();
-    let _ = state.memory.as_slice();
-}
 
 // An instruction that neither begins nor ends a mitigation.
 fn plain<E: MachineEnv>(state: &mut State<E>, i: Instr, limit: u64) -> Step
@@ -64,7 +53,7 @@ pub fn step<E: MachineEnv>(image: &Image, state: &mut State<E>, limit: u64) -> S
     requires { Stands E.serves image.now state.old }
     ensures { Stepped E.env E.serves image.now state.old limit result state.new }
 {
-    lengths(state);
+    state.laws();
     let i = image.at(state.place);
     obey(state, i, limit)
 }

@@ -87,7 +87,7 @@ fn mitigated(alloc: Global, lattice: Lattice, h: Name) -> Result<Program, AllocE
     requires name { h ≡ 104 ∷ [] }
 {
     lattice.laws();
-    let _ = h.bytes();
+    h.laws();
     let sleep = Command {
         pos: AT,
         labels: None,

@@ -8,7 +8,7 @@ use Rattle.label_infer.proofs.infer.settle.Goals as goal
 pub loop-smaller : goal.loop-smaller
 loop-smaller g c =
     let p = c.args.p.now in
-    let valid = c.body.ensures.valid in
+    let valid = c.laws.ensures.valid in
     let t = c.take_up.ensures.taken c.loop-test.true in
     let h = c.loop.invariant.work in
     let used = c.loop.invariant.within.0 in
@@ -23,7 +23,7 @@ loop-smaller g c =
 pub loop-preserved : goal.loop-preserved
 loop-preserved g c =
     let p = c.args.p.now in
-    let valid = c.body.ensures.valid in
+    let valid = c.laws.ensures.valid in
     let t = c.take_up.ensures.taken c.loop-test.true in
     let h = c.loop.invariant.work in
     let used = c.loop.invariant.within.0 in

@@ -103,10 +103,10 @@ of-requires c =
       order = c.laws.ensures.order;
       few = subst AreFew (sym e) (record { count = omega arith; elements = omega arith });
       names = subst (λ z. All (λ (d : Declaration). IsName d.0) z) (sym e) (all_four (λ (d : Declaration). IsName d.0) (97 ∷ [], free) (98 ∷ [], free) (99 ∷ [], free) (104 ∷ [], high)
-          (name c.args.a (97 ∷ []) c.requires.a c.bytes.ensures.name)
-          (name c.args.b (98 ∷ []) c.requires.b c.bytes-2.ensures.name)
-          (name c.args.c (99 ∷ []) c.requires.c c.bytes-3.ensures.name)
-          (name c.args.h (104 ∷ []) c.requires.h c.bytes-4.ensures.name));
+          (name c.args.a (97 ∷ []) c.requires.a c.laws-2.ensures)
+          (name c.args.b (98 ∷ []) c.requires.b c.laws-3.ensures)
+          (name c.args.c (99 ∷ []) c.requires.c c.laws-4.ensures)
+          (name c.args.h (104 ∷ []) c.requires.h c.laws-5.ensures));
       differ = subst (λ z. AllDiffer (map (λ (d : Declaration). d.0) z)) (sym e) all_apart;
       labels = subst (λ z. All (λ (d : Declaration). IsBelow n d.1.label) z) (sym e) (all_four (λ (d : Declaration). IsBelow n d.1.label) (97 ∷ [], free) (98 ∷ [], free) (99 ∷ [], free) (104 ∷ [], high) tt tt tt (omega (arith, size)));
       arrays = subst AreShaped (sym e) (all_four (λ (d : Declaration). IsShaped d.1.label d.1.length) (97 ∷ [], free) (98 ∷ [], free) (99 ∷ [], free) (104 ∷ [], high) tt tt tt tt);

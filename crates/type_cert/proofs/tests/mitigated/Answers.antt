@@ -51,7 +51,7 @@ of-requires c =
     let size = c.requires.size in
     let e = filled c.new-table.result.entries c.insert.new.self.entries c.args.h c.new-table.ensures.empty c.in_ok-insert.ensures.entries c.requires.name in
     let q = planned c.in_ok-sleeps.sleeps c.in_ok-body.body.items c.in_ok-sleeps.ensures.items c.in_ok-body.ensures.items in
-    let name : IsName (104 ∷ []) = subst IsName c.requires.name c.bytes.ensures.name in
+    let name : IsName (104 ∷ []) = subst IsName c.requires.name c.laws-2.ensures in
     record {
       pairs = search rules;
       flows = search rules;
