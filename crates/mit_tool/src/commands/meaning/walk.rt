@@ -27,8 +27,14 @@ pub enum WalkFault {
     Sink,
 }
 
-// Writes the line of a step, if it has one.
-fn print_step<W: Sink>(p: &Program, walk: Walk, out: &mut W) -> Result<(), SinkFault>
+// Writes the line of a step, if it has one. A line is lent, to be filled anew.
+#[inline(always)]
+fn print_step<W: Sink>(
+    p: &Program,
+    walk: Walk,
+    line: &mut Line,
+    out: &mut W,
+) -> Result<(), SinkFault>
     requires { IsWalkBelow (variables p.now.declarations) walk }
     ensures text { OnOk result (Appends (W.taken out.old) (W.taken out.new) (text_of_walk p.now.declarations walk)) }
     ensures prefix { OnErr result (AppendsPrefix (W.taken out.old) (W.taken out.new) (text_of_walk p.now.declarations walk)) }
@@ -39,7 +45,7 @@ fn print_step<W: Sink>(p: &Program, walk: Walk, out: &mut W) -> Result<(), SinkF
 {
     match walk {
         Walk::Assigned(x, n) => {
-            let line = value_line(p, x, n);
+            value_line(line, p, x, n);
             write_all(out, line.bytes())
         }
         Walk::Began(_) | Walk::Silent | Walk::Ended => Ok(()),
@@ -71,6 +77,7 @@ pub fn walk<W: Sink>(
     let Ok(mut walker) = Walker::new(alloc, p, memory) else {
         return Err(WalkFault::Memory);
     };
+    let mut line = Line::new();
     let mut taken: u64 = 0;
     'steps: loop {
         let Ok(walk) = walker.step() else {
@@ -82,7 +89,7 @@ pub fn walk<W: Sink>(
         if taken >= steps {
             return Ok(not_ended(steps));
         }
-        match print_step(p, walk, out) {
+        match print_step(p, walk, &mut line, out) {
             Ok(()) => taken += 1,
             Err(_) => return Err(WalkFault::Sink),
         }
