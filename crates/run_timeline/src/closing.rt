@@ -1,26 +1,17 @@
 //! Instructions that begin and end a mitigation, and what they tell.
 
-ghost use Rattle.std.specs.Prelude.{◌≡◌, ◌+◌, ◌<◌, ◌≤◌, MatchOption, vec_len, vec_capacity};
+ghost use Rattle.std.specs.Prelude.{◌≡◌, ◌+◌, ◌<◌, ◌≤◌, vec_len, vec_capacity};
 ghost use Rattle.cycle_machine.specs.Took.{IsServed, Keeps};
 ghost use Rattle.run_timeline.specs.Steps.{Tells};
 
 use crate::moment::{Moment, Step};
+use cycle_machine::access::{fetch, pass};
 use cycle_machine::end::RunEnd;
 use cycle_machine::state::{Outcome, State};
 use env_contract::env::MachineEnv;
-use env_contract::place::Kind;
 use label_code::code::Work;
-use label_lattice::label::Label;
-
-// The clock after so many cycles more, if it is not above the limit.
-fn pass(clock: u64, cycles: u64, limit: u64) -> Option<u64>
-    ensures { MatchOption result (limit < clock + cycles) (λ now. (now ≡ clock + cycles) × (now ≤ limit)) }
-{
-    match clock.checked_add(cycles) {
-        Some(now) if now <= limit => Some(now),
-        _ => None,
-    }
-}
+use label_code::image::MAX_INSTRUCTIONS;
+use label_lattice::label::{Label, MAX_LABELS};
 
 /// MITB.
 pub fn begin<E: MachineEnv>(
@@ -31,11 +22,11 @@ pub fn begin<E: MachineEnv>(
     ew: Label,
     limit: u64,
 ) -> Step
-    requires place { state.old.place < 200000 }
+    requires place { state.old.place < MAX_INSTRUCTIONS }
     requires served { IsServed E.serves state.old.env er ew }
     requires depth { 0 < vec_len state.old.operands }
     requires room { vec_len state.old.opened < vec_capacity state.old.opened }
-    requires known { level.number < 32 }
+    requires known { level.number < MAX_LABELS }
     ensures tells { Tells E.env state.old (record { work = Work.Mitb level mark; er = er; ew = ew }) limit result state.new }
     ensures keeps { Keeps E.serves state.old state.new }
 {
@@ -56,13 +47,13 @@ pub fn begin<E: MachineEnv>(
 
 /// MITE. A mitigation never ends before its fetch does, so the limit is tested first after that.
 pub fn end<E: MachineEnv>(state: &mut State<E>, er: Label, ew: Label, limit: u64) -> Step
-    requires place { state.old.place < 200000 }
+    requires place { state.old.place < MAX_INSTRUCTIONS }
     requires served { IsServed E.serves state.old.env er ew }
     requires open { 0 < vec_len state.old.opened }
     ensures tells { Tells E.env state.old (record { work = Work.Mite; er = er; ew = ew }) limit result state.new }
     ensures keeps { Keeps E.serves state.old state.new }
 {
-    let fetched = u64::from(state.env.access(Kind::Code, 4 * state.place, er, ew));
+    let fetched = fetch(&mut state.env, state.place, er, ew);
     let Some(now) = pass(state.clock, 1 + fetched, limit) else {
         return Step::Stopped(RunEnd::Limit(state.clock));
     };
