@@ -57,7 +57,8 @@ fn audit_named<W: Watch>(
 
 // The stop for an audit without a report.
 fn audit_stop(p: &Program, fault: AuditFault) -> Stop
-    ensures { (e : EnvName) (t : ℕ) (q : LabelledProgram) (l : Label) (ss : List StartValue) → p.now ≡ q.program → AuditFaultsIn e q l.number t ss fault → IsStop (AuditStops e t q l ss) result }
+    ensures { (e : EnvName) (t : ℕ) (q : LabelledProgram) (l : Label) (ss : List StartValue) → p.now ≡ q.program → AuditFaultsIn e q l.number t ss fault
+        → IsStop (AuditStops e t q l ss) result }
 {
     match fault {
         AuditFault::Disagree { run, what } => Stop::With {

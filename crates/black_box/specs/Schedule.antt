@@ -44,7 +44,8 @@ Rises (x ∷ xs) = Each (λ y. x < y) xs × Rises xs
 pub record IsSchedule (q t : ℕ) (ready rs : List ℕ) : Type 0 where
   pub rises : Rises rs
   pub at_slots : Each (λ s. (s ≤ t) × ((k : ℕ) × (s ≡ (nth_slot q rs k).cycle))) rs
-  pub exactly : (k : ℕ) → (nth_slot q rs k).cycle ≤ t → has rs (nth_slot q rs k).cycle ≡ is_due (nth_slot q rs k).cycle (drop (count_by (λ r. nat_lt r (nth_slot q rs k).cycle) rs) ready)
+  pub exactly : (k : ℕ) → (nth_slot q rs k).cycle ≤ t
+      → has rs (nth_slot q rs k).cycle ≡ is_due (nth_slot q rs k).cycle (drop (count_by (λ r. nat_lt r (nth_slot q rs k).cycle) rs) ready)
 
 -- how many of the first n slots lie up to t and have no release
 abbrev pub empty_slots : ℕ → ℕ → List ℕ → ℕ → ℕ

@@ -49,9 +49,11 @@ pub fn cut<E: MachineEnv + Drop, M: MakeEnv<E>, W: Watch>(
     requires observer { observer.number < p.now.labelled.program.order.size }
     requires cycles { 0 < limit }
     requires limit { limit ≤ 2 ^ 40 }
-    ensures report { IfOk result (IsReport E.env E.serves p.now.labelled observer.number limit (starts_of M.made p.now.labelled.program.order (map seen starts.now))) }
+    ensures report { IfOk result (IsReport E.env E.serves p.now.labelled observer.number limit
+        (starts_of M.made p.now.labelled.program.order (map seen starts.now))) }
     ensures bound { IfOk result (λ r. r.measures.distinct ≤ r.measures.base ^ r.measures.exponent) }
-    ensures fault { IfErr result (IsCutFault E.env E.serves p.now.labelled observer.number limit (starts_of M.made p.now.labelled.program.order (map seen starts.now))) }
+    ensures fault { IfErr result (IsCutFault E.env E.serves p.now.labelled observer.number limit
+        (starts_of M.made p.now.labelled.program.order (map seen starts.now))) }
 {
     lowered_few_sequences::<E>();
     let labelled = p.labelled();

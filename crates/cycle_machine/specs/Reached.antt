@@ -16,7 +16,8 @@ pub record Reached {E : Type 0} (v : Env E) (code : List Instr) (limit : ℕ) (f
 -- a turn with an event goes on with what it passed and that event
 abbrev pub TurnsGoOn : {E : Type 0} → Env E → Type 0
 TurnsGoOn {E} v = (code : List Instr) (shown : List Bool) (limit : ℕ) (from : Machine E) (events : List Event) (old new : State E) (e : Event) →
-    Reached v code limit from events old → (c : Comes v code shown limit old new (with_log (e ∷ []) (seen new))) → Reached v code limit from (events ++ (c.quiet.hidden ++ e ∷ [])) new
+    Reached v code limit from events old → (c : Comes v code shown limit old new (with_log (e ∷ []) (seen new)))
+    → Reached v code limit from (events ++ (c.quiet.hidden ++ e ∷ [])) new
 
 -- quiet steps go on with what they passed
 abbrev pub QuietGoesOn : {E : Type 0} → Env E → Type 0

@@ -65,8 +65,11 @@ pub record Fits {E : Type 0} (i : Instr) (s : State E) : Type 0 where
 -- what one step did
 abbrev pub Stepped : {E : Type 0} → Env E → (Order → E → Type 0) → Code → State E → ℕ → Outcome → State E → Type 0
 Stepped v serves c old limit Went new = (step v c.instrs (seen old) ≡ seen new) × (new.clock ≤ limit) × (old.clock < new.clock) × Stands serves c new
-Stepped v serves c old limit (DidWrite x n) new = (step v c.instrs (seen old) ≡ with_log (Wrote x n new.clock ∷ []) (seen new)) × (new.clock ≤ limit) × (old.clock < new.clock) × Stands serves c new
-Stepped v serves c old limit (DidBegin k) new = (step v c.instrs (seen old) ≡ with_log (Began k new.clock ∷ []) (seen new)) × (new.clock ≤ limit) × (old.clock < new.clock) × Stands serves c new
-Stepped v serves c old limit (DidEnd k) new = (step v c.instrs (seen old) ≡ with_log (Ended k new.clock ∷ []) (seen new)) × (new.clock ≤ limit) × (old.clock < new.clock) × Stands serves c new
+Stepped v serves c old limit (DidWrite x n) new = (step v c.instrs (seen old) ≡ with_log (Wrote x n new.clock ∷ []) (seen new)) × (new.clock ≤ limit)
+    × (old.clock < new.clock) × Stands serves c new
+Stepped v serves c old limit (DidBegin k) new = (step v c.instrs (seen old) ≡ with_log (Began k new.clock ∷ []) (seen new)) × (new.clock ≤ limit)
+    × (old.clock < new.clock) × Stands serves c new
+Stepped v serves c old limit (DidEnd k) new = (step v c.instrs (seen old) ≡ with_log (Ended k new.clock ∷ []) (seen new)) × (new.clock ≤ limit)
+    × (old.clock < new.clock) × Stands serves c new
 Stepped v serves c old limit Halted new = (step v c.instrs (seen old) ≡ record (seen new) { halted = true }) × (new.clock ≤ limit) × (old.clock < new.clock)
 Stepped v serves c old limit Late new = (limit < (step v c.instrs (seen old)).core.clock) × (new.clock ≡ old.clock)

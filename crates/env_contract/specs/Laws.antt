@@ -16,4 +16,5 @@ pub record IsLawful {E : Type 0} (v : Env E) (lat : Lattice) (serves : E → Typ
   pub keeps : (k : Kind) (a er ew : ℕ) (e : E) → serves e → serves (v.next_of k a er ew e)
   pub write_label : (k : Kind) (a er ew : ℕ) (e : E) → serves e → (q : Place) (l : ℕ) → (Flows lat ew l → ⊥) → v.part q l (v.next_of k a er ew e) ≡ v.part q l e
   pub read_label : (k : Kind) (a er ew : ℕ) (e e' : E) → serves e → serves e' → AgreeBelow v lat er e e' → v.cost_of k a er ew e ≡ v.cost_of k a er ew e'
-  pub agreement : (k : Kind) (a er ew h : ℕ) (e e' : E) → serves e → serves e' → AgreeBelow v lat h e e' → AgreeBelow v lat h (v.next_of k a er ew e) (v.next_of k a er ew e')
+  pub agreement : (k : Kind) (a er ew h : ℕ) (e e' : E) → serves e → serves e' → AgreeBelow v lat h e e'
+      → AgreeBelow v lat h (v.next_of k a er ew e) (v.next_of k a er ew e')

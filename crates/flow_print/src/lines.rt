@@ -211,7 +211,8 @@ fn put_variable_side(
     bound: &[u8],
     first: &[u8],
 ) -> Result<(), AllocError>
-    ensures { OnOk result (out.new.items ≡ out.old.items ++ variable_line (variable_text p.now y) (written p.now (AVariable y)) p.now.order bound.now first.now) }
+    ensures { OnOk result (out.new.items ≡ out.old.items ++ variable_line (variable_text p.now y) (written p.now (AVariable y)) p.now.order bound.now
+        first.now) }
 {
     match written_at(p, &Spot::Variable(y)) {
         Some(label) => {

@@ -25,7 +25,8 @@ module _ {E F : Type 0} (related : E → F → Type 0) where
 
 -- All that reports are made of is the same of both lists: whether their starts agree pairwise for an observer,
 -- whether all halt by T, what the observer sees of each run, how many relevant mitigates begin and, at most, end.
-pub record TellSame {E F : Type 0} (v : Env E) (serves : E → Type 0) (w : Env F) (serves' : F → Type 0) (lat : Lattice) (g : ℕ → ℕ) (image : List Instr) (o t : ℕ) (ss : List (Start E)) (rs : List (Start F)) : Type 0 where
+pub record TellSame {E F : Type 0} (v : Env E) (serves : E → Type 0) (w : Env F) (serves' : F → Type 0) (lat : Lattice) (g : ℕ → ℕ) (image : List Instr)
+    (o t : ℕ) (ss : List (Start E)) (rs : List (Start F)) : Type 0 where
   pub long : length ss ≡ length rs
   pub agree : Pairwise (Agree v lat serves g o) ss ↔ Pairwise (Agree w lat serves' g o) rs
   pub halt : Each (Halts v image t) ss ↔ Each (Halts w image t) rs

@@ -21,7 +21,8 @@ use Rattle.cut_audit.specs.Report.{IsReport as IsCutReport, IsCutFault}
 
 -- The starts of two lists, of a program in two environments, agree alike and show alike, and audits of the one
 -- have the reports and the faults of the other.
-pub record AuditAlike {E F : Type 0} (v : Env E) (serves : Order → E → Type 0) (w : Env F) (serves' : Order → F → Type 0) (p : LabelledProgram) (o t : ℕ) (ss : List (Start E)) (rs : List (Start F)) : Type 0 where
+pub record AuditAlike {E F : Type 0} (v : Env E) (serves : Order → E → Type 0) (w : Env F) (serves' : Order → F → Type 0) (p : LabelledProgram) (o t : ℕ)
+    (ss : List (Start E)) (rs : List (Start F)) : Type 0 where
   pub agree : Pairwise (AgreeFor v serves p o) ss ↔ Pairwise (AgreeFor w serves' p o) rs
   pub shown : shown_by_all v p o t ss ≡ shown_by_all w p o t rs
   pub report : (r : AuditReport) → IsReport v serves p o t ss r ↔ IsReport w serves' p o t rs r

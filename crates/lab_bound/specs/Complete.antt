@@ -14,7 +14,8 @@ use Rattle.lab_bound.specs.Answer.{IsBoundAnswer}
 pub record CanBound (content : Content) (file starts observer : List ℕ) (e : EnvName) (t : ℕ) : Type 0 where
   pub known : IsKnown (content file)
   pub known_starts : IsKnown (content starts)
-  pub goes : CanCompile (content file) (Some observer) (λ p q o. (ss : List StartValue) × StartsAre (content starts) p ss × OfObserver (λ l. CanBeAudited e t q l ss) o)
+  pub goes : CanCompile (content file) (Some observer) (λ p q o. (ss : List StartValue) × StartsAre (content starts) p ss
+      × OfObserver (λ l. CanBeAudited e t q l ss) o)
 
 -- Where both files are told to hold bytes, and neither count of faults rose, two answers are one: they have the same
 -- status and the same text.
@@ -22,5 +23,6 @@ abbrev pub HasOneBound : Type 0
 HasOneBound =
     (content : Content) (before now : List ℕ → ℕ) (file starts observer : List ℕ) (e : EnvName) (t : ℕ) (s u : Status) (x y : List ℕ) →
     IsKnown (content file) → IsKnown (content starts) → (Rose (before file) (now file) → ⊥) → (Rose (before starts) (now starts) → ⊥) →
-    IsBoundAnswer (λ name. Rose (before name) (now name)) content file starts observer e t s x → IsBoundAnswer (λ name. Rose (before name) (now name)) content file starts observer e t u y →
+    IsBoundAnswer (λ name. Rose (before name) (now name)) content file starts observer e t s x
+    → IsBoundAnswer (λ name. Rose (before name) (now name)) content file starts observer e t u y →
     (s ≡ u) × (x ≡ y)

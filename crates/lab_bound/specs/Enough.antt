@@ -44,7 +44,8 @@ pub record IsEnough (e : EnvName) (q : LabelledProgram) (o t : ℕ) (ss : List S
 -- so it is of each program that words spell, with its least labelling, up to each T of at least 1
 abbrev pub NumbersAreEnough : EnvName → ℕ → Type 0
 NumbersAreEnough e t = 0 < t →
-    (words : List Told) (p : Syntax) (q : LabelledProgram) (o : ℕ) (ss : List StartValue) (r : AuditReport) (levels : List LevelRuns) → IsProgram words p → Types p q → o < p.order.size →
+    (words : List Told) (p : Syntax) (q : LabelledProgram) (o : ℕ) (ss : List StartValue) (r : AuditReport) (levels : List LevelRuns) → IsProgram words p
+    → Types p q → o < p.order.size →
     ReportsIn e q o t ss r → AreTold q o (memories_of ss) levels → IsEnough e q o t ss r levels
 
 abbrev pub AllAreEnough : Type 0

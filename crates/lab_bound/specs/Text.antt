@@ -36,7 +36,8 @@ abbrev pub IsSharpText : Option ℕ → List ℕ → Type 0
 IsSharpText None x = x ≡ codes "sharp 2^128 or more\nbits 128 or more\nguess no limit told\n"
 IsSharpText (Some n) x =
     (b : ℕ) × IsBits n b
-    × (x ≡ (number_text (codes "sharp ") n ++ codes "\n") ++ ((number_text (codes "bits ") b ++ codes "\n") ++ (number_text (codes "guess at most ") n ++ codes " times as often\n")))
+    × (x ≡ (number_text (codes "sharp ") n ++ codes "\n") ++ ((number_text (codes "bits ") b ++ codes "\n") ++ (number_text (codes "guess at most ") n
+    ++ codes " times as often\n")))
 
 -- all these lines
 abbrev pub IsBoundText : Order → ℕ → ℕ → List LevelRuns → List ℕ → Type 0

@@ -46,7 +46,8 @@ pub fn bound<S: Shelf, W: Sink>(
     ensures later { (name : List ℕ) → S.faults shelf.old name ≤ S.faults shelf.new name }
     ensures later_out { W.faults out.old ≤ W.faults out.new }
     ensures answered { EndsBy (W.taken out.old) (W.taken out.new) Nothing
-        (IsBoundAnswer (λ name. Rose (S.faults shelf.old name) (S.faults shelf.new name)) (S.content shelf.old) file.now starts.now observer.now setting.env setting.budget) result }
+        (IsBoundAnswer (λ name. Rose (S.faults shelf.old name) (S.faults shelf.new name)) (S.content shelf.old) file.now starts.now observer.now setting.env
+        setting.budget) result }
     ensures write { result ≡ Status.WriteFault → Rose (W.faults out.old) (W.faults out.new) }
     ensures sound { IsTrue (is_past_typing result) → IsAccepted (S.content shelf.old file.now) }
     ensures complete { CanBound (S.content shelf.old) file.now starts.now observer.now setting.env setting.budget

@@ -69,7 +69,8 @@ fn put_level(
     told: LevelRuns,
 ) -> Result<(), AllocError>
     requires { l.number < order.now.size }
-    ensures { OnOk result (text.new.items ≡ text.old.items ++ cond ((lattice_of order.now).flows l.number observer.number) [] (level_line order.now t l.number told)) }
+    ensures { OnOk result (text.new.items ≡ text.old.items ++ cond ((lattice_of order.now).flows l.number observer.number) []
+        (level_line order.now t l.number told)) }
 {
     if order.flows(l, observer) {
         return Ok(());

@@ -50,8 +50,10 @@ fn prepared_text<W: Watch>(
 ) -> Result<Vec<u8>, Stop>
     requires fit { CanAudit p.now.compiled.typed.labelled p.now.observer p.now.compiled.image (map seen p.now.starts.items) }
     requires cycles { IsCycles setting.budget }
-    ensures text { IfOk result (λ v. HasBound setting.env setting.budget p.now.compiled.typed.labelled (Some p.now.observer) (map seen p.now.starts.items) status.Done v.items) }
-    ensures stop { IfErr result (IsStop (HasBound setting.env setting.budget p.now.compiled.typed.labelled (Some p.now.observer) (map seen p.now.starts.items))) }
+    ensures text { IfOk result (λ v. HasBound setting.env setting.budget p.now.compiled.typed.labelled (Some p.now.observer) (map seen p.now.starts.items)
+        status.Done v.items) }
+    ensures stop { IfErr result (IsStop (HasBound setting.env setting.budget p.now.compiled.typed.labelled (Some p.now.observer)
+        (map seen p.now.starts.items))) }
 {
     let report = match audited(alloc, p, setting, watch) {
         Ok(report) => report,
@@ -89,8 +91,10 @@ pub fn bound_text<S: Shelf, W: Watch>(
     requires { IsCycles setting.budget }
     ensures same { (name : List ℕ) → S.content shelf.new name ≡ S.content shelf.old name }
     ensures later { (name : List ℕ) → S.faults shelf.old name ≤ S.faults shelf.new name }
-    ensures text { IfOk result (λ v. Bounds (λ name. Rose (S.faults shelf.old name) (S.faults shelf.new name)) (S.content shelf.old) file.now starts.now name.now setting.env setting.budget status.Done v.items) }
-    ensures stop { IfErr result (IsStop (Bounds (λ name. Rose (S.faults shelf.old name) (S.faults shelf.new name)) (S.content shelf.old) file.now starts.now name.now setting.env setting.budget)) }
+    ensures text { IfOk result (λ v. Bounds (λ name. Rose (S.faults shelf.old name) (S.faults shelf.new name)) (S.content shelf.old) file.now starts.now
+        name.now setting.env setting.budget status.Done v.items) }
+    ensures stop { IfErr result (IsStop (Bounds (λ name. Rose (S.faults shelf.old name) (S.faults shelf.new name)) (S.content shelf.old) file.now starts.now
+        name.now setting.env setting.budget)) }
     ensures sound { OnOk result (IsAccepted (S.content shelf.old file.now)) }
     ensures sound_stop { IfErr result (λ e. IsTrue (is_past_typing (status_of e)) → IsAccepted (S.content shelf.old file.now)) }
 {

@@ -36,13 +36,15 @@ most_ended_in Part2 t q o ss = most_ended (part2_by_history q.program.order) (lo
 -- least 1: of starts that agree pairwise, however many, there are at most as many different fields as the bound says.
 abbrev pub FieldsAreFew : Type 0
 FieldsAreFew =
-    (words : List Told) (p : Syntax) (q : LabelledProgram) → IsProgram words p → Types p q → (e : EnvName) (t : ℕ) → 0 < t → (l : Label) → l.number < p.order.size →
+    (words : List Told) (p : Syntax) (q : LabelledProgram) → IsProgram words p → Types p q → (e : EnvName) (t : ℕ) → 0 < t → (l : Label)
+    → l.number < p.order.size →
     (ss : List StartValue) → AgreeIn e q l.number ss → (same : List ℕ → List ℕ → Bool) → Tests same →
     distinct_count same (map (field_in e t q l) ss) ≤ bound q.program.order l.number t (most_ended_in e t q l.number ss)
 
 -- The same with the bound that `cut` reports.
 abbrev pub FieldsAreWithinCut : Type 0
 FieldsAreWithinCut =
-    (words : List Told) (p : Syntax) (q : LabelledProgram) → IsProgram words p → Types p q → (e : EnvName) (t : ℕ) → 0 < t → (l : Label) → l.number < p.order.size →
+    (words : List Told) (p : Syntax) (q : LabelledProgram) → IsProgram words p → Types p q → (e : EnvName) (t : ℕ) → 0 < t → (l : Label)
+    → l.number < p.order.size →
     (ss : List StartValue) (r : CutReport) → CutReportsIn e q l.number t ss r → (same : List ℕ → List ℕ → Bool) → Tests same →
     distinct_count same (map (field_in e t q l) ss) ≤ r.measures.base ^ r.measures.exponent

@@ -12,5 +12,6 @@ abbrev pub HasOneSeen : Type 0
 HasOneSeen =
     (content : Content) (before now : List ℕ → ℕ) (file starts observer : List ℕ) (e : EnvName) (budget : ℕ) (s u : Status) (t x : List ℕ) →
     IsKnown (content file) → IsKnown (content starts) → (Rose (before file) (now file) → ⊥) → (Rose (before starts) (now starts) → ⊥) →
-    IsSeen (λ name. Rose (before name) (now name)) content file starts observer e budget s t → IsSeen (λ name. Rose (before name) (now name)) content file starts observer e budget u x →
+    IsSeen (λ name. Rose (before name) (now name)) content file starts observer e budget s t
+    → IsSeen (λ name. Rose (before name) (now name)) content file starts observer e budget u x →
     (s ≡ u) × (t ≡ x)

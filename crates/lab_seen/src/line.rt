@@ -46,7 +46,8 @@ pub fn write_line<E: MachineEnv + Drop, W: Sink>(
     requires variables { machine.old.code.variables ≡ variables p.now.labelled.program.declarations }
     requires observer { observer.number < p.now.labelled.program.order.size }
     ensures text { OnOk result (Appends (W.taken out.old) (W.taken out.new) (line_text p.now.labelled observer number (rest_of E.env limit machine.old))) }
-    ensures prefix { OnErr result (AppendsPrefix (W.taken out.old) (W.taken out.new) (line_text p.now.labelled observer number (rest_of E.env limit machine.old))) }
+    ensures prefix { OnErr result (AppendsPrefix (W.taken out.old) (W.taken out.new)
+        (line_text p.now.labelled observer number (rest_of E.env limit machine.old))) }
     ensures later { W.faults out.old ≤ W.faults out.new }
     ensures fault { OnErr result (Rose (W.faults out.old) (W.faults out.new)) }
 {

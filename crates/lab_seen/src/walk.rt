@@ -43,7 +43,8 @@ fn run_line<E: MachineEnv + Drop, M: MakeEnv<E>, W: Sink>(
     ensures text { OnOk result (Appends (W.taken out.old) (W.taken out.new) (line_text p.now.compiled.typed.labelled p.now.observer number
         (told_by (run_from E.env p.now.compiled.image.instrs budget (start_of M.made p.now.compiled.typed.labelled.program.order (seen start.now)))))) }
     ensures memory { IsErrOf result RunFault.Memory → W.taken out.new ≡ W.taken out.old }
-    ensures prefix { IsErrOf result RunFault.Sink → AppendsPrefix (W.taken out.old) (W.taken out.new) (line_text p.now.compiled.typed.labelled p.now.observer number
+    ensures prefix { IsErrOf result RunFault.Sink → AppendsPrefix (W.taken out.old) (W.taken out.new)
+        (line_text p.now.compiled.typed.labelled p.now.observer number
         (told_by (run_from E.env p.now.compiled.image.instrs budget (start_of M.made p.now.compiled.typed.labelled.program.order (seen start.now))))) }
     ensures fault { IsErrOf result RunFault.Sink → Rose (W.faults out.old) (W.faults out.new) }
     ensures later { W.faults out.old ≤ W.faults out.new }
@@ -77,9 +78,12 @@ fn run_lines<E: MachineEnv + Drop, M: MakeEnv<E>, W: Sink>(
     requires named { (s : StartValue) → IsFor p.now.compiled.typed.labelled.program s
         → told_by (run_from E.env p.now.compiled.image.instrs setting.budget (start_of M.made p.now.compiled.typed.labelled.program.order s))
         ≡ told_in setting.env p.now.compiled.typed.labelled.program.order p.now.compiled.image s setting.budget }
-    ensures text { OnOk result (Appends (W.taken out.old) (W.taken out.new) (texts (line_in setting.env setting.budget p.now.compiled.typed.labelled p.now.observer p.now.compiled.image) (map seen p.now.starts.items))) }
-    ensures some { IsErrOf result RunFault.Memory → WritesSome (W.taken out.old) (W.taken out.new) (line_in setting.env setting.budget p.now.compiled.typed.labelled p.now.observer p.now.compiled.image) (map seen p.now.starts.items) }
-    ensures prefix { IsErrOf result RunFault.Sink → AppendsPrefix (W.taken out.old) (W.taken out.new) (texts (line_in setting.env setting.budget p.now.compiled.typed.labelled p.now.observer p.now.compiled.image) (map seen p.now.starts.items)) }
+    ensures text { OnOk result (Appends (W.taken out.old) (W.taken out.new)
+        (texts (line_in setting.env setting.budget p.now.compiled.typed.labelled p.now.observer p.now.compiled.image) (map seen p.now.starts.items))) }
+    ensures some { IsErrOf result RunFault.Memory → WritesSome (W.taken out.old) (W.taken out.new)
+        (line_in setting.env setting.budget p.now.compiled.typed.labelled p.now.observer p.now.compiled.image) (map seen p.now.starts.items) }
+    ensures prefix { IsErrOf result RunFault.Sink → AppendsPrefix (W.taken out.old) (W.taken out.new)
+        (texts (line_in setting.env setting.budget p.now.compiled.typed.labelled p.now.observer p.now.compiled.image) (map seen p.now.starts.items)) }
     ensures fault { IsErrOf result RunFault.Sink → Rose (W.faults out.old) (W.faults out.new) }
     ensures later { W.faults out.old ≤ W.faults out.new }
 {
@@ -105,9 +109,12 @@ pub fn write_lines<W: Sink>(
     out: &mut W,
 ) -> Result<(), RunFault>
     requires fit { CanAudit p.now.compiled.typed.labelled p.now.observer p.now.compiled.image (map seen p.now.starts.items) }
-    ensures text { OnOk result (Appends (W.taken out.old) (W.taken out.new) (texts (line_in setting.env setting.budget p.now.compiled.typed.labelled p.now.observer p.now.compiled.image) (map seen p.now.starts.items))) }
-    ensures some { IsErrOf result RunFault.Memory → WritesSome (W.taken out.old) (W.taken out.new) (line_in setting.env setting.budget p.now.compiled.typed.labelled p.now.observer p.now.compiled.image) (map seen p.now.starts.items) }
-    ensures prefix { IsErrOf result RunFault.Sink → AppendsPrefix (W.taken out.old) (W.taken out.new) (texts (line_in setting.env setting.budget p.now.compiled.typed.labelled p.now.observer p.now.compiled.image) (map seen p.now.starts.items)) }
+    ensures text { OnOk result (Appends (W.taken out.old) (W.taken out.new)
+        (texts (line_in setting.env setting.budget p.now.compiled.typed.labelled p.now.observer p.now.compiled.image) (map seen p.now.starts.items))) }
+    ensures some { IsErrOf result RunFault.Memory → WritesSome (W.taken out.old) (W.taken out.new)
+        (line_in setting.env setting.budget p.now.compiled.typed.labelled p.now.observer p.now.compiled.image) (map seen p.now.starts.items) }
+    ensures prefix { IsErrOf result RunFault.Sink → AppendsPrefix (W.taken out.old) (W.taken out.new)
+        (texts (line_in setting.env setting.budget p.now.compiled.typed.labelled p.now.observer p.now.compiled.image) (map seen p.now.starts.items)) }
     ensures fault { IsErrOf result RunFault.Sink → Rose (W.faults out.old) (W.faults out.new) }
     ensures later { W.faults out.old ≤ W.faults out.new }
 {

@@ -11,7 +11,8 @@ use Rattle.tool_stages.specs.Content.{Content}
 use Rattle.tool_stages.specs.Begins.{Compiles, HasCompiled, NoMore}
 
 -- an accepted program with its image, the label of an observer that is named, and starts
-pub record IsBegun (content : Content) (file starts : List ℕ) (observer : Option (List ℕ)) (q : LabelledProgram) (o : Option Label) (code : Code) (ss : List StartValue) : Type 0 where
+pub record IsBegun (content : Content) (file starts : List ℕ) (observer : Option (List ℕ)) (q : LabelledProgram) (o : Option Label) (code : Code)
+    (ss : List StartValue) : Type 0 where
   pub compiled : HasCompiled content file observer q o code
   pub given : StartsAre (content starts) q.program ss
 

@@ -12,5 +12,6 @@ abbrev pub HasOneTimelines : Type 0
 HasOneTimelines =
     (content : Content) (before now : List ℕ → ℕ) (file starts : List ℕ) (observer : Option (List ℕ)) (e : EnvName) (budget : ℕ) (s u : Status) (t x : List ℕ) →
     IsKnown (content file) → IsKnown (content starts) → (Rose (before file) (now file) → ⊥) → (Rose (before starts) (now starts) → ⊥) →
-    TellsTimelines (λ name. Rose (before name) (now name)) content file starts observer e budget s t → TellsTimelines (λ name. Rose (before name) (now name)) content file starts observer e budget u x →
+    TellsTimelines (λ name. Rose (before name) (now name)) content file starts observer e budget s t
+    → TellsTimelines (λ name. Rose (before name) (now name)) content file starts observer e budget u x →
     (s ≡ u) × (t ≡ x)

@@ -23,51 +23,59 @@ abbrev pub timed_by : {E : Type 0} → Env E → Code → ℕ → Start E → Li
 timed_by v code t s ms = record { moments = ms; end = end_of_run v code.instrs t s }
 
 -- the lines of one run were written, and its mitigations are in the tallies
-pub record WritesRun {E : Type 0} (v : Env E) (code : Code) (t : ℕ) (s : Start E) (q : LabelledProgram) (o : Option Label) (number : ℕ) (taken taken' : Option (List ℕ)) (old new : List Tally) : Type 0 where
+pub record WritesRun {E : Type 0} (v : Env E) (code : Code) (t : ℕ) (s : Start E) (q : LabelledProgram) (o : Option Label) (number : ℕ)
+    (taken taken' : Option (List ℕ)) (old new : List Tally) : Type 0 where
   pub moments : List Moment
   pub timeline : IsTimeline v code.instrs t s moments
   pub written : Appends taken taken' (run_lines q o number (timed_by v code t s moments))
   pub tallied : (before : List Moment) → AreTallies before old → AreTallies (before ++ moments) new
 
 -- a prefix of them was
-pub record BreaksRun {E : Type 0} (v : Env E) (code : Code) (t : ℕ) (s : Start E) (q : LabelledProgram) (o : Option Label) (number : ℕ) (taken taken' : Option (List ℕ)) : Type 0 where
+pub record BreaksRun {E : Type 0} (v : Env E) (code : Code) (t : ℕ) (s : Start E) (q : LabelledProgram) (o : Option Label) (number : ℕ)
+    (taken taken' : Option (List ℕ)) : Type 0 where
   pub moments : List Moment
   pub timeline : IsTimeline v code.instrs t s moments
   pub written : AppendsPrefix taken taken' (run_lines q o number (timed_by v code t s moments))
 
 -- the lines of the runs from starts were written, and their mitigations are in the tallies
-pub record WritesRuns (e : EnvName) (t : ℕ) (q : LabelledProgram) (o : Option Label) (code : Code) (ss : List StartValue) (old new : Option (List ℕ)) (tallies : List Tally) : Type 0 where
+pub record WritesRuns (e : EnvName) (t : ℕ) (q : LabelledProgram) (o : Option Label) (code : Code) (ss : List StartValue) (old new : Option (List ℕ))
+    (tallies : List Tally) : Type 0 where
   pub runs : List Timed
   pub timed : AllZip (IsTimed e t q.program.order code) ss runs
   pub written : Appends old new (texts (run_lines q o) runs)
   pub tallied : AreTallies (all_moments runs) tallies
 
 -- those of the first few
-pub record WritesFew (e : EnvName) (t : ℕ) (q : LabelledProgram) (o : Option Label) (code : Code) (ss : List StartValue) (old new : Option (List ℕ)) : Type 0 where
+pub record WritesFew (e : EnvName) (t : ℕ) (q : LabelledProgram) (o : Option Label) (code : Code) (ss : List StartValue) (old new : Option
+    (List ℕ)) : Type 0 where
   pub count : ℕ
   pub text : List ℕ
   pub runs : AreRuns e t q o code (take count ss) text
   pub written : Appends old new text
 
 -- a prefix of those
-pub record BreaksFew (e : EnvName) (t : ℕ) (q : LabelledProgram) (o : Option Label) (code : Code) (ss : List StartValue) (old new : Option (List ℕ)) : Type 0 where
+pub record BreaksFew (e : EnvName) (t : ℕ) (q : LabelledProgram) (o : Option Label) (code : Code) (ss : List StartValue) (old new : Option
+    (List ℕ)) : Type 0 where
   pub count : ℕ
   pub text : List ℕ
   pub runs : AreRuns e t q o code (take count ss) text
   pub written : AppendsPrefix old new text
 
 -- all lines and those of the mitigates were written
-pub record WritesAll (e : EnvName) (t : ℕ) (q : LabelledProgram) (o : Option Label) (code : Code) (ss : List StartValue) (old new : Option (List ℕ)) : Type 0 where
+pub record WritesAll (e : EnvName) (t : ℕ) (q : LabelledProgram) (o : Option Label) (code : Code) (ss : List StartValue) (old new : Option
+    (List ℕ)) : Type 0 where
   pub text : List ℕ
   pub timelines : AreTimelines e t q o code ss text
   pub written : Appends old new text
 
 -- a prefix of them was
-pub record BreaksAll (e : EnvName) (t : ℕ) (q : LabelledProgram) (o : Option Label) (code : Code) (ss : List StartValue) (old new : Option (List ℕ)) : Type 0 where
+pub record BreaksAll (e : EnvName) (t : ℕ) (q : LabelledProgram) (o : Option Label) (code : Code) (ss : List StartValue) (old new : Option
+    (List ℕ)) : Type 0 where
   pub text : List ℕ
   pub timelines : AreTimelines e t q o code ss text
   pub written : AppendsPrefix old new text
 
 -- after n runs each of at most 2^40 cycles
 abbrev pub Counted : ℕ → List Tally → Type 0
-Counted n ts = (k : ℕ) (d : Tally) → k < length ts → ((slice_index_or ts k d).ended ≤ n * 2 ^ 40) × ((slice_index_or ts k d).missed ≤ (slice_index_or ts k d).ended)
+Counted n ts = (k : ℕ) (d : Tally) → k < length ts
+    → ((slice_index_or ts k d).ended ≤ n * 2 ^ 40) × ((slice_index_or ts k d).missed ≤ (slice_index_or ts k d).ended)

@@ -33,8 +33,10 @@ fn show<S: Shelf, W: Sink>(
     ensures same { (name : List ℕ) → S.content shelf.new name ≡ S.content shelf.old name }
     ensures later { (name : List ℕ) → S.faults shelf.old name ≤ S.faults shelf.new name }
     ensures later_out { W.faults out.old ≤ W.faults out.new }
-    ensures answered { EndsBy (W.taken out.old) (W.taken out.new) (TimelinesBefore (S.content shelf.old) file.now starts.now (option_map (λ s. s.now) observer.entry) setting.env setting.budget)
-        (TellsTimelines (λ name. Rose (S.faults shelf.old name) (S.faults shelf.new name)) (S.content shelf.old) file.now starts.now (option_map (λ s. s.now) observer.entry) setting.env setting.budget) result }
+    ensures answered { EndsBy (W.taken out.old) (W.taken out.new)
+        (TimelinesBefore (S.content shelf.old) file.now starts.now (option_map (λ s. s.now) observer.entry) setting.env setting.budget)
+        (TellsTimelines (λ name. Rose (S.faults shelf.old name) (S.faults shelf.new name)) (S.content shelf.old) file.now starts.now
+        (option_map (λ s. s.now) observer.entry) setting.env setting.budget) result }
     ensures write { result ≡ Status.WriteFault → Rose (W.faults out.old) (W.faults out.new) }
     ensures sound { IsTrue (is_past_typing result) → IsAccepted (S.content shelf.old file.now) }
 {
@@ -72,11 +74,14 @@ pub fn timeline<S: Shelf, W: Sink>(
     ensures same { (name : List ℕ) → S.content shelf.new name ≡ S.content shelf.old name }
     ensures later { (name : List ℕ) → S.faults shelf.old name ≤ S.faults shelf.new name }
     ensures later_out { W.faults out.old ≤ W.faults out.new }
-    ensures answered { EndsBy (W.taken out.old) (W.taken out.new) (TimelinesBefore (S.content shelf.old) file.now starts.now (option_map (λ s. s.now) observer.entry) setting.env setting.budget)
-        (TellsTimelines (λ name. Rose (S.faults shelf.old name) (S.faults shelf.new name)) (S.content shelf.old) file.now starts.now (option_map (λ s. s.now) observer.entry) setting.env setting.budget) result }
+    ensures answered { EndsBy (W.taken out.old) (W.taken out.new)
+        (TimelinesBefore (S.content shelf.old) file.now starts.now (option_map (λ s. s.now) observer.entry) setting.env setting.budget)
+        (TellsTimelines (λ name. Rose (S.faults shelf.old name) (S.faults shelf.new name)) (S.content shelf.old) file.now starts.now
+        (option_map (λ s. s.now) observer.entry) setting.env setting.budget) result }
     ensures write { result ≡ Status.WriteFault → Rose (W.faults out.old) (W.faults out.new) }
     ensures sound { IsTrue (is_past_typing result) → IsAccepted (S.content shelf.old file.now) }
-    ensures complete { CanBegin (S.content shelf.old) file.now starts.now (option_map (λ s. s.now) observer.entry) → (Rose (S.faults shelf.old file.now) (S.faults shelf.new file.now) → ⊥) → (Rose (S.faults shelf.old starts.now) (S.faults shelf.new starts.now) → ⊥)
+    ensures complete { CanBegin (S.content shelf.old) file.now starts.now (option_map (λ s. s.now) observer.entry)
+        → (Rose (S.faults shelf.old file.now) (S.faults shelf.new file.now) → ⊥) → (Rose (S.faults shelf.old starts.now) (S.faults shelf.new starts.now) → ⊥)
         → (Rose (W.faults out.old) (W.faults out.new) → ⊥) → (result ≡ Status.Done) ⊎ (result ≡ Status.Memory) }
 {
     show(alloc, shelf, out, file, starts, observer, setting)

@@ -48,9 +48,12 @@ fn write_runs<E: MachineEnv + Drop, M: MakeEnv<E>, W: Sink>(
         (timed_by E.env p.now.compiled.image setting.budget (start_of M.made p.now.compiled.typed.labelled.program.order s) ms) }
     requires places { listing.old.places.items ≡ places (plan_of p.now.compiled.typed.labelled.program) }
     requires none { listing.old.tallies.items ≡ replicate (mitigates (plan_of p.now.compiled.typed.labelled.program)) no_tally }
-    ensures text { OnOk result (WritesRuns setting.env setting.budget p.now.compiled.typed.labelled p.now.compiled.observer p.now.compiled.image (map seen p.now.starts.items) (W.taken out.old) (W.taken out.new) listing.new.tallies.items) }
-    ensures some { IsErrOf result RunFault.Memory → WritesFew setting.env setting.budget p.now.compiled.typed.labelled p.now.compiled.observer p.now.compiled.image (map seen p.now.starts.items) (W.taken out.old) (W.taken out.new) }
-    ensures prefix { IsErrOf result RunFault.Sink → BreaksFew setting.env setting.budget p.now.compiled.typed.labelled p.now.compiled.observer p.now.compiled.image (map seen p.now.starts.items) (W.taken out.old) (W.taken out.new) }
+    ensures text { OnOk result (WritesRuns setting.env setting.budget p.now.compiled.typed.labelled p.now.compiled.observer p.now.compiled.image
+        (map seen p.now.starts.items) (W.taken out.old) (W.taken out.new) listing.new.tallies.items) }
+    ensures some { IsErrOf result RunFault.Memory → WritesFew setting.env setting.budget p.now.compiled.typed.labelled p.now.compiled.observer
+        p.now.compiled.image (map seen p.now.starts.items) (W.taken out.old) (W.taken out.new) }
+    ensures prefix { IsErrOf result RunFault.Sink → BreaksFew setting.env setting.budget p.now.compiled.typed.labelled p.now.compiled.observer
+        p.now.compiled.image (map seen p.now.starts.items) (W.taken out.old) (W.taken out.new) }
     ensures places { listing.new.places ≡ listing.old.places }
     ensures count { length listing.new.tallies.items ≡ mitigates (plan_of p.now.compiled.typed.labelled.program) }
     ensures fault { IsErrOf result RunFault.Sink → Rose (W.faults out.old) (W.faults out.new) }
@@ -87,9 +90,12 @@ fn write_named<W: Sink>(
     requires cycles { IsCycles setting.budget }
     requires places { listing.old.places.items ≡ places (plan_of p.now.compiled.typed.labelled.program) }
     requires none { listing.old.tallies.items ≡ replicate (mitigates (plan_of p.now.compiled.typed.labelled.program)) no_tally }
-    ensures text { OnOk result (WritesRuns setting.env setting.budget p.now.compiled.typed.labelled p.now.compiled.observer p.now.compiled.image (map seen p.now.starts.items) (W.taken out.old) (W.taken out.new) listing.new.tallies.items) }
-    ensures some { IsErrOf result RunFault.Memory → WritesFew setting.env setting.budget p.now.compiled.typed.labelled p.now.compiled.observer p.now.compiled.image (map seen p.now.starts.items) (W.taken out.old) (W.taken out.new) }
-    ensures prefix { IsErrOf result RunFault.Sink → BreaksFew setting.env setting.budget p.now.compiled.typed.labelled p.now.compiled.observer p.now.compiled.image (map seen p.now.starts.items) (W.taken out.old) (W.taken out.new) }
+    ensures text { OnOk result (WritesRuns setting.env setting.budget p.now.compiled.typed.labelled p.now.compiled.observer p.now.compiled.image
+        (map seen p.now.starts.items) (W.taken out.old) (W.taken out.new) listing.new.tallies.items) }
+    ensures some { IsErrOf result RunFault.Memory → WritesFew setting.env setting.budget p.now.compiled.typed.labelled p.now.compiled.observer
+        p.now.compiled.image (map seen p.now.starts.items) (W.taken out.old) (W.taken out.new) }
+    ensures prefix { IsErrOf result RunFault.Sink → BreaksFew setting.env setting.budget p.now.compiled.typed.labelled p.now.compiled.observer
+        p.now.compiled.image (map seen p.now.starts.items) (W.taken out.old) (W.taken out.new) }
     ensures places { listing.new.places ≡ listing.old.places }
     ensures count { length listing.new.tallies.items ≡ mitigates (plan_of p.now.compiled.typed.labelled.program) }
     ensures fault { IsErrOf result RunFault.Sink → Rose (W.faults out.old) (W.faults out.new) }
@@ -118,11 +124,15 @@ pub fn write_timelines<W: Sink>(
 ) -> Result<(), RunFault>
     requires fit { CanRun p.now.compiled.typed.labelled p.now.compiled.observer p.now.compiled.image (map seen p.now.starts.items) }
     requires cycles { IsCycles setting.budget }
-    ensures text { OnOk result (WritesAll setting.env setting.budget p.now.compiled.typed.labelled p.now.compiled.observer p.now.compiled.image (map seen p.now.starts.items) (W.taken out.old) (W.taken out.new)) }
-    ensures some { IsErrOf result RunFault.Memory → WritesFew setting.env setting.budget p.now.compiled.typed.labelled p.now.compiled.observer p.now.compiled.image (map seen p.now.starts.items) (W.taken out.old) (W.taken out.new) }
+    ensures text { OnOk result (WritesAll setting.env setting.budget p.now.compiled.typed.labelled p.now.compiled.observer p.now.compiled.image
+        (map seen p.now.starts.items) (W.taken out.old) (W.taken out.new)) }
+    ensures some { IsErrOf result RunFault.Memory → WritesFew setting.env setting.budget p.now.compiled.typed.labelled p.now.compiled.observer
+        p.now.compiled.image (map seen p.now.starts.items) (W.taken out.old) (W.taken out.new) }
     ensures prefix { IsErrOf result RunFault.Sink
-        → BreaksFew setting.env setting.budget p.now.compiled.typed.labelled p.now.compiled.observer p.now.compiled.image (map seen p.now.starts.items) (W.taken out.old) (W.taken out.new)
-        ⊎ BreaksAll setting.env setting.budget p.now.compiled.typed.labelled p.now.compiled.observer p.now.compiled.image (map seen p.now.starts.items) (W.taken out.old) (W.taken out.new) }
+        → BreaksFew setting.env setting.budget p.now.compiled.typed.labelled p.now.compiled.observer p.now.compiled.image (map seen p.now.starts.items)
+        (W.taken out.old) (W.taken out.new)
+        ⊎ BreaksAll setting.env setting.budget p.now.compiled.typed.labelled p.now.compiled.observer p.now.compiled.image (map seen p.now.starts.items)
+        (W.taken out.old) (W.taken out.new) }
     ensures fault { IsErrOf result RunFault.Sink → Rose (W.faults out.old) (W.faults out.new) }
     ensures later { W.faults out.old ≤ W.faults out.new }
 {

@@ -81,7 +81,8 @@ pub fn write_run<E: MachineEnv + Drop, M: MakeEnv<E>, W: Sink>(
     ensures written { OnOk result (WritesRun E.env program.now.image limit (start_of M.made program.now.typed.labelled.program.order (seen start.now))
         program.now.typed.labelled program.now.observer number (W.taken out.old) (W.taken out.new) listing.old.tallies.items listing.new.tallies.items) }
     ensures memory { IsErrOf result RunFault.Memory → W.taken out.new ≡ W.taken out.old }
-    ensures prefix { IsErrOf result RunFault.Sink → BreaksRun E.env program.now.image limit (start_of M.made program.now.typed.labelled.program.order (seen start.now))
+    ensures prefix { IsErrOf result RunFault.Sink → BreaksRun E.env program.now.image limit
+        (start_of M.made program.now.typed.labelled.program.order (seen start.now))
         program.now.typed.labelled program.now.observer number (W.taken out.old) (W.taken out.new) }
     ensures places { listing.new.places ≡ listing.old.places }
     ensures grown { Grown limit listing.old.tallies.items listing.new.tallies.items }

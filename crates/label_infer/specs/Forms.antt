@@ -145,4 +145,5 @@ written_in ds b x = label_or (cell_at ds x).label b
 -- the conditions of a program whose right side is omitted
 abbrev pub constraints_of : Syntax → List Constraint
 constraints_of s =
-    constraints (lattice_of s.order) (is_free s.declarations) (written_in s.declarations s.order.bottom) (plan_of s) (fixed s.order.bottom) (fixed s.order.bottom)
+    constraints (lattice_of s.order) (is_free s.declarations) (written_in s.declarations s.order.bottom) (plan_of s) (fixed s.order.bottom)
+    (fixed s.order.bottom)

@@ -54,7 +54,8 @@ loop_of k o pc t e = loop_form (lat_of k) (free_of k) (written_of k) t (own_of o
 
 abbrev pub assign_of : Known → Option (Label × Label) → LeftSide → LeftSide → Expression → LeftSide
 assign_of k o pc t e =
-    demand_form (lat_of k) (free_of k) (written_of k) pc t (own_of o (here_of k pc e)) (label_form (lat_of k) (free_of k) (written_of k) e) (index_form (lat_of k) (free_of k) (written_of k) e)
+    demand_form (lat_of k) (free_of k) (written_of k) pc t (own_of o (here_of k pc e)) (label_form (lat_of k) (free_of k) (written_of k) e)
+    (index_form (lat_of k) (free_of k) (written_of k) e)
 
 abbrev pub put_of : Known → Option (Label × Label) → LeftSide → LeftSide → Expression → Expression → LeftSide
 put_of k o pc t i e =

@@ -92,7 +92,8 @@ pub record IsWorkOf (s : Syntax) (w : Work) : Type 0 where
   pub fit : length w.waits ≡ length w.conditions
   pub variables : KeepsVariables s w.variables
   pub levels : KeepsLevels s w.levels
-  pub settled : (i : ℕ) (c : Condition) → slice_get w.conditions i ≡ Some c → waits_at w.waits i ≡ false → Flows (lattice_in w) (have_in w (constraint_of c)) (right_in w (constraint_of c))
+  pub settled : (i : ℕ) (c : Condition) → slice_get w.conditions i ≡ Some c → waits_at w.waits i ≡ false
+      → Flows (lattice_in w) (have_in w (constraint_of c)) (right_in w (constraint_of c))
   pub low_variables : (l : Labelling) → Labels s l → MeetsOmitted s l → (x : ℕ) → Flows (lattice_in w) (variable_in w x) (variable_of s.order l x)
   pub low_levels : (l : Labelling) → Labels s l → MeetsOmitted s l → (k : ℕ) → Flows (lattice_in w) (level_in w k) (level_of s.order l k)
 

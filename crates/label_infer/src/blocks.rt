@@ -38,7 +38,8 @@ fn add_set(i: usize, set: &VariableSet, rows: &mut Vec<Row>) -> Result<(), Alloc
 /// The rows of the blocks.
 fn rows_of(alloc: Global, conditions: &[Condition]) -> Result<Vec<Row>, AllocError>
     ensures fit { IfOk result (λ v. length v.items ≡ (length conditions.now + 63) / 64) }
-    ensures cover { IfOk result (λ v. (i : ℕ) (c : Listed) (r : Bits) → i < length conditions.now → slice_get conditions.now i ≡ Some c → slice_get v.items (i / 64) ≡ Some r → Includes r (has_of c.have.variables)) }
+    ensures cover { IfOk result (λ v. (i : ℕ) (c : Listed) (r : Bits) → i < length conditions.now → slice_get conditions.now i ≡ Some c
+        → slice_get v.items (i / 64) ≡ Some r → Includes r (has_of c.have.variables)) }
 {
     let mut rows = Vec::new(alloc);
     for i in 0..conditions.len() {

@@ -18,7 +18,8 @@ use timing_types::labelled::Labelled;
 /// The labels of a program's commands, in order of the text.
 fn pairs(alloc: Global, p: &Program, variables: &[Label]) -> Result<Vec<(Label, Label)>, AllocError>
     ensures valid { IfOk result (λ _. IsValid p.now) }
-    ensures pairs { IfOk result (λ v. v.items ≡ own_pairs (lattice_of p.now.order) (label_at p.now.order.bottom variables.now) (plan_of p.now) p.now.order.bottom) }
+    ensures pairs { IfOk result (λ v. v.items ≡ own_pairs (lattice_of p.now.order) (label_at p.now.order.bottom variables.now) (plan_of p.now)
+        p.now.order.bottom) }
 {
     let order = p.lattice();
     let mut found = Vec::new(alloc);

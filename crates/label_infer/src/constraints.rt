@@ -30,7 +30,8 @@ pub(crate) struct Condition {
 /// The end label of a command.
 #[cycle(ends)]
 fn command_end(c: &Command, k: &Known, pc: &LeftSide, t: &LeftSide) -> Result<LeftSide, AllocError>
-    ensures { IfOk result (λ end. (rest : Plan) → end_of k.now (command_plan c.now rest) (left_side_of pc.now) (left_side_of t.now) ≡ end_of k.now rest (left_side_of pc.now) (left_side_of end)) }
+    ensures { IfOk result (λ end. (rest : Plan) → end_of k.now (command_plan c.now rest) (left_side_of pc.now) (left_side_of t.now)
+        ≡ end_of k.now rest (left_side_of pc.now) (left_side_of end)) }
 {
     match &c.form {
         Form::Skip => skip_end(&c.labels, pc, t, k),
@@ -135,8 +136,11 @@ fn command_constraints(
     t: &LeftSide,
     found: &mut Vec<Condition>,
 ) -> Result<LeftSide, AllocError>
-    ensures end { IfOk result (λ end. (rest : Plan) → end_of k.now (command_plan c.now rest) (left_side_of pc.now) (left_side_of t.now) ≡ end_of k.now rest (left_side_of pc.now) (left_side_of end)) }
-    ensures constraints { IfOk result (λ end. (rest : Plan) → constraints_in found.old.items ++ constraints_from k.now (command_plan c.now rest) (left_side_of pc.now) (left_side_of t.now) ≡ constraints_in found.new.items ++ constraints_from k.now rest (left_side_of pc.now) (left_side_of end)) }
+    ensures end { IfOk result (λ end. (rest : Plan) → end_of k.now (command_plan c.now rest) (left_side_of pc.now) (left_side_of t.now)
+        ≡ end_of k.now rest (left_side_of pc.now) (left_side_of end)) }
+    ensures constraints { IfOk result (λ end. (rest : Plan)
+        → constraints_in found.old.items ++ constraints_from k.now (command_plan c.now rest) (left_side_of pc.now) (left_side_of t.now)
+        ≡ constraints_in found.new.items ++ constraints_from k.now rest (left_side_of pc.now) (left_side_of end)) }
 {
     match &c.form {
         Form::Skip => skip_end(&c.labels, pc, t, k),
@@ -198,7 +202,8 @@ pub(crate) fn list_constraints(
     found: &mut Vec<Condition>,
 ) -> Result<LeftSide, AllocError>
     ensures end { IfOk result (λ end. left_side_of end ≡ end_of k.now (list_plan commands.now) (left_side_of pc.now) (left_side_of t.now)) }
-    ensures constraints { IfOk result (λ end. constraints_in found.new.items ≡ constraints_in found.old.items ++ constraints_from k.now (list_plan commands.now) (left_side_of pc.now) (left_side_of t.now)) }
+    ensures constraints { IfOk result (λ end. constraints_in found.new.items
+        ≡ constraints_in found.old.items ++ constraints_from k.now (list_plan commands.now) (left_side_of pc.now) (left_side_of t.now)) }
 {
     let mut end = t.copy()?;
     for c in commands {

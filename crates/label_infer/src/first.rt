@@ -17,7 +17,8 @@ use std::alloc::{AllocError, Global};
 /// The label of each variable where one is written.
 pub(crate) fn written_labels(alloc: Global, p: &Program) -> Result<Vec<Option<Label>>, AllocError>
     ensures fit { IfOk result (λ v. length v.items ≡ variables p.now.declarations) }
-    ensures labels { IfOk result (λ v. (x : ℕ) (d : Option Written) → x < variables p.now.declarations → slice_index_or v.items x d ≡ (cell_at p.now.declarations x).label) }
+    ensures labels { IfOk result (λ v. (x : ℕ) (d : Option Written) → x < variables p.now.declarations
+        → slice_index_or v.items x d ≡ (cell_at p.now.declarations x).label) }
     ensures few { IfOk result (λ v. length v.items ≤ MAX_NUMBERS) }
 {
     let mut found = Vec::new(alloc);
@@ -51,7 +52,8 @@ pub(crate) fn first_variables(alloc: Global, k: &Known) -> Result<Variables, All
 /// Appends the levels of the mitigates in a command, in order of the text: the written ones, or bottom.
 #[cycle(levels)]
 fn command_levels(c: &Command, bottom: Label, found: &mut Vec<Label>) -> Result<(), AllocError>
-    ensures { IfOk result (λ _. (rest : Plan) → found.old.items ++ first_levels bottom.number (command_plan c.now rest) ≡ found.new.items ++ first_levels bottom.number rest) }
+    ensures { IfOk result (λ _. (rest : Plan) → found.old.items ++ first_levels bottom.number (command_plan c.now rest)
+        ≡ found.new.items ++ first_levels bottom.number rest) }
 {
     match &c.form {
         Form::Skip | Form::Assign { .. } | Form::Put { .. } | Form::Sleep { .. } => Ok(()),

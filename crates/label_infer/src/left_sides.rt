@@ -83,7 +83,8 @@ pub(crate) fn index_label(e: &Expr, k: &Known) -> Result<LeftSide, AllocError>
 
 /// The same of an assignment to an element: all of the index counts.
 fn put_label(index: &Expr, value: &Expr, k: &Known) -> Result<LeftSide, AllocError>
-    ensures { IfOk result (λ f. left_side_of f ≡ put_form (lat_of k.now) (free_of k.now) (written_of k.now) (expression_of index.now) (expression_of value.now)) }
+    ensures { IfOk result (λ f. left_side_of f ≡ put_form (lat_of k.now) (free_of k.now) (written_of k.now) (expression_of index.now)
+        (expression_of value.now)) }
 {
     let one = label(index, k)?;
     let other = index_label(value, k)?;
@@ -166,7 +167,9 @@ fn demand(
     li: &LeftSide,
     k: &Known,
 ) -> Result<LeftSide, AllocError>
-    ensures { IfOk result (λ f. left_side_of f ≡ both (lat_of k.now) (both (lat_of k.now) (both (lat_of k.now) (both (lat_of k.now) (left_side_of le.now) (left_side_of li.now)) (left_side_of pc.now)) (left_side_of t.now)) (own_of written.now (both (lat_of k.now) (left_side_of pc.now) (left_side_of li.now)))) }
+    ensures { IfOk result (λ f. left_side_of f ≡ both (lat_of k.now)
+        (both (lat_of k.now) (both (lat_of k.now) (both (lat_of k.now) (left_side_of le.now) (left_side_of li.now)) (left_side_of pc.now)) (left_side_of t.now))
+        (own_of written.now (both (lat_of k.now) (left_side_of pc.now) (left_side_of li.now)))) }
 {
     let here = both(k, pc, li)?;
     let er = own(written, here);
@@ -200,7 +203,8 @@ pub(crate) fn put(
     value: &Expr,
     k: &Known,
 ) -> Result<LeftSide, AllocError>
-    ensures { IfOk result (λ f. left_side_of f ≡ put_of k.now written.now (left_side_of pc.now) (left_side_of t.now) (expression_of index.now) (expression_of value.now)) }
+    ensures { IfOk result (λ f. left_side_of f ≡ put_of k.now written.now (left_side_of pc.now) (left_side_of t.now) (expression_of index.now)
+        (expression_of value.now)) }
 {
     let le = label(value, k)?;
     let li = put_label(index, value, k)?;

@@ -82,7 +82,8 @@ fn command_pairs(
     pc: Label,
     found: &mut Vec<(Label, Label)>,
 ) -> Result<(), AllocError>
-    ensures { IfOk result (λ _. (rest : Plan) → found.old.items ++ own_pairs (lattice_of order.now) (label_at order.now.bottom variables.now) (command_plan c.now rest) pc.number ≡ found.new.items ++ own_pairs (lattice_of order.now) (label_at order.now.bottom variables.now) rest pc.number) }
+    ensures { IfOk result (λ _. (rest : Plan) → found.old.items ++ own_pairs (lattice_of order.now) (label_at order.now.bottom variables.now)
+        (command_plan c.now rest) pc.number ≡ found.new.items ++ own_pairs (lattice_of order.now) (label_at order.now.bottom variables.now) rest pc.number) }
 {
     match &c.form {
         Form::Skip => {
@@ -154,7 +155,8 @@ pub(crate) fn list_pairs(
     pc: Label,
     found: &mut Vec<(Label, Label)>,
 ) -> Result<(), AllocError>
-    ensures { IfOk result (λ _. found.new.items ≡ found.old.items ++ own_pairs (lattice_of order.now) (label_at order.now.bottom variables.now) (list_plan commands.now) pc.number) }
+    ensures { IfOk result (λ _. found.new.items ≡ found.old.items ++ own_pairs (lattice_of order.now) (label_at order.now.bottom variables.now)
+        (list_plan commands.now) pc.number) }
 {
     for c in commands {
         command_pairs(c, variables, order, pc, found)?;

@@ -43,7 +43,8 @@ const fn at(column: u32) -> Pos
 // The lattice of L below H.
 fn two_labels() -> Option<Lattice>
     ensures size { IfSome result (λ o. o.size ≡ 2) }
-    ensures flows { IfSome result (λ o. (a b : ℕ) → a < 2 → b < 2 → Flows (lattice_of o) a b ↔ Chain ((record { number = 0 }, record { number = 1 }) ∷ []) a b) }
+    ensures flows { IfSome result (λ o. (a b : ℕ) → a < 2 → b < 2
+        → Flows (lattice_of o) a b ↔ Chain ((record { number = 0 }, record { number = 1 }) ∷ []) a b) }
 {
     let low = Name::read(b"L")?;
     let high = Name::read(b"H")?;
@@ -59,7 +60,8 @@ fn mitigated(alloc: Global, lattice: Lattice) -> Result<Program, AllocError>
     requires flows { (a b : ℕ) → a < 2 → b < 2 → Flows (lattice_of lattice) a b ↔ Chain ((record { number = 0 }, record { number = 1 }) ∷ []) a b }
     ensures order { IfOk result (λ p. p.order ≡ lattice) }
     ensures declarations { IfOk result (λ p. p.declarations ≡ []) }
-    ensures plan { IfOk result (λ p. plan_of p ≡ Mitigate (record { pos = record { line = 1; column = 1 }; labels = None }) 0 None (Number (pos 1)) (Skip (record { pos = record { line = 1; column = 16 }; labels = Some (record { number = 1 }, record { number = 1 }) }) Done) Done) }
+    ensures plan { IfOk result (λ p. plan_of p ≡ Mitigate (record { pos = record { line = 1; column = 1 }; labels = None }) 0 None (Number (pos 1))
+        (Skip (record { pos = record { line = 1; column = 16 }; labels = Some (record { number = 1 }, record { number = 1 }) }) Done) Done) }
 {
     lattice.laws();
     let skip = Command {
@@ -85,7 +87,8 @@ fn mitigated(alloc: Global, lattice: Lattice) -> Result<Program, AllocError>
 
 // The labels of its two commands, and its level.
 fn labels_of(p: &Labelled) -> ([(Label, Label); 2], Label)
-    requires { plan_of p.now.program ≡ Mitigate (record { pos = record { line = 1; column = 1 }; labels = None }) 0 None (Number (pos 1)) (Skip (record { pos = record { line = 1; column = 16 }; labels = Some (record { number = 1 }, record { number = 1 }) }) Done) Done }
+    requires { plan_of p.now.program ≡ Mitigate (record { pos = record { line = 1; column = 1 }; labels = None }) 0 None (Number (pos 1))
+        (Skip (record { pos = record { line = 1; column = 16 }; labels = Some (record { number = 1 }, record { number = 1 }) }) Done) Done }
 {
     ([p.command_labels(0), p.command_labels(1)], p.level(0))
 }
@@ -122,7 +125,8 @@ fn completes_a_level(rt: HostRuntime) -> Result<(), AllocError> {
 
 // `x := y`, for variables by their numbers.
 fn copy(variable: u32, from: u32, column: u32) -> Command
-    ensures { (rest : Plan) → command_plan result rest ≡ Assign (record { pos = record { line = 1; column = column }; labels = None }) variable (Variable from) rest }
+    ensures { (rest : Plan) → command_plan result rest
+        ≡ Assign (record { pos = record { line = 1; column = column }; labels = None }) variable (Variable from) rest }
 {
     Command {
         pos: at(column),

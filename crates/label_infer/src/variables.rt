@@ -79,7 +79,9 @@ fn room_for(room: usize, label: Label) -> usize
 fn with_holders(have: Label, label: Label, row: &Row, holders: &Row, order: &Lattice) -> Label
     ensures up { Flows (lattice_of order.now) have.number result.number }
     ensures met { Meet (has_in row.now.words) (has_in holders.now.words) → Flows (lattice_of order.now) label.number result.number }
-    ensures least { (u : ℕ) → Flows (lattice_of order.now) have.number u → (Meet (has_in row.now.words) (has_in holders.now.words) → Flows (lattice_of order.now) label.number u) → Flows (lattice_of order.now) result.number u }
+    ensures least { (u : ℕ) → Flows (lattice_of order.now) have.number u
+        → (Meet (has_in row.now.words) (has_in holders.now.words) → Flows (lattice_of order.now) label.number u)
+        → Flows (lattice_of order.now) result.number u }
 {
     order.laws();
     if order.flows(label, have) {

@@ -67,7 +67,8 @@ fn wake_block(x: u32, conditions: &[Condition], start: usize, waits: &mut [bool]
     requires start { start ≤ length conditions.now }
     ensures fit { length waits.new ≡ length waits.old }
     ensures before { (k : ℕ) → k < start → waits_at waits.new k ≡ waits_at waits.old k }
-    ensures inside { (k : ℕ) (c : Listed) → start ≤ k → k < start + 64 → slice_get conditions.now k ≡ Some c → waits_at waits.new k ≡ (waits_at waits.old k || has_of c.have.variables x) }
+    ensures inside { (k : ℕ) (c : Listed) → start ≤ k → k < start + 64 → slice_get conditions.now k ≡ Some c
+        → waits_at waits.new k ≡ (waits_at waits.old k || has_of c.have.variables x) }
     ensures after { (k : ℕ) → start + 64 ≤ k → waits_at waits.new k ≡ waits_at waits.old k }
 {
     let end = start + (conditions.len() - start).min(64);
@@ -124,8 +125,10 @@ pub(crate) fn raise(
     requires small { length variables.old ≤ MAX_NUMBERS }
     requires there { x < length variables.old }
     requires blocks { AreBlocks conditions.now waits.old blocks.now }
-    ensures waits { waits.new ≡ cond ((lattice_of order.now).flows have.number (label_at order.now.bottom variables.old x)) waits.old (woken x conditions.now waits.old) }
-    ensures variables { variables.new ≡ cond ((lattice_of order.now).flows have.number (label_at order.now.bottom variables.old x)) variables.old (joined (lattice_of order.now) order.now.bottom variables.old x have.number) }
+    ensures waits { waits.new ≡ cond ((lattice_of order.now).flows have.number (label_at order.now.bottom variables.old x)) waits.old
+        (woken x conditions.now waits.old) }
+    ensures variables { variables.new ≡ cond ((lattice_of order.now).flows have.number (label_at order.now.bottom variables.old x)) variables.old
+        (joined (lattice_of order.now) order.now.bottom variables.old x have.number) }
 {
     let so_far = variables.label(x);
     if !order.flows(have, so_far) {

@@ -53,7 +53,8 @@ pub record IsFirstDifference {E : Type 0} (v : Env E) (p : LabelledProgram) (o :
   pub first : (b : What) → IsBefore b w → Differs v p o s s' b → ⊥
 
 -- of a list, the first start that does not agree with a given one, its number, from 1, and its first difference
-pub record IsFirstApart {E : Type 0} (v : Env E) (serves : Order → E → Type 0) (p : LabelledProgram) (o : ℕ) (one : Start E) (ss : List (Start E)) (run : ℕ) (w : What) : Type 0 where
+pub record IsFirstApart {E : Type 0} (v : Env E) (serves : Order → E → Type 0) (p : LabelledProgram) (o : ℕ) (one : Start E) (ss : List (Start E)) (run : ℕ)
+    (w : What) : Type 0 where
   pub before : List (Start E)
   pub apart : Start E
   pub after : List (Start E)

@@ -23,7 +23,8 @@ use Rattle.leak_audit.specs.declared.report.AuditFault.TheVariants.{Disagree, Un
 -- The starts agree pairwise for the observer, all have halted by T, and they show few enough assignments. The
 -- report has their number, that of relevant mitigations that the first run begins, and the measures of the
 -- sequences seen.
-pub record IsReport {E : Type 0} (v : Env E) (serves : Order → E → Type 0) (p : LabelledProgram) (o t : ℕ) (ss : List (Start E)) (r : AuditReport) : Type 0 where
+pub record IsReport {E : Type 0} (v : Env E) (serves : Order → E → Type 0) (p : LabelledProgram) (o t : ℕ) (ss : List (Start E))
+    (r : AuditReport) : Type 0 where
   pub agree : Pairwise (AgreeFor v serves p o) ss
   pub halted : Each (Halts v (lowered p).instrs t) ss
   pub few : shown_by_all v p o t ss ≤ 16777216

@@ -48,8 +48,10 @@ fn differs<E: MachineEnv>(
     requires one { E.serves lattice.now one.now }
     requires other { E.serves lattice.now other.now }
     requires label { label.number < lattice.now.size }
-    ensures yes { result ≡ true → Flows (lattice_of lattice.now) label.number observer.number × (E.env.part place label.number one.now ≢ E.env.part place label.number other.now) }
-    ensures no { result ≡ false → Flows (lattice_of lattice.now) label.number observer.number → E.env.part place label.number one.now ≡ E.env.part place label.number other.now }
+    ensures yes { result ≡ true → Flows (lattice_of lattice.now) label.number observer.number
+        × (E.env.part place label.number one.now ≢ E.env.part place label.number other.now) }
+    ensures no { result ≡ false → Flows (lattice_of lattice.now) label.number observer.number
+        → E.env.part place label.number one.now ≡ E.env.part place label.number other.now }
 {
     if !lattice.flows(label, observer) {
         return false;
@@ -100,7 +102,8 @@ pub fn first_difference<E: MachineEnv>(
     requires other_serves { E.serves p.now.program.order other_env.now }
     ensures { MatchOption result
         (AgreeFor E.env E.serves p.now observer.number (record { memory = one.now; env = one_env.now }) (record { memory = other.now; env = other_env.now }))
-        (λ w. IsFirstDifference E.env p.now observer.number (record { memory = one.now; env = one_env.now }) (record { memory = other.now; env = other_env.now }) w) }
+        (λ w. IsFirstDifference E.env p.now observer.number (record { memory = one.now; env = one_env.now })
+        (record { memory = other.now; env = other_env.now }) w) }
 {
     if let Some(x) = first_variable(p, observer, one, other) {
         return Some(What::Variable(x));

@@ -98,7 +98,9 @@ impl Tally {
         requires ended { self.old.ended < 2 ^ 62 }
         ensures end { IfOk result (λ end. end ≡ end_of_turn turn) }
         ensures counts { OnOk result (CountsUp self.old self.new) }
-        ensures tallies { OnOk result ((p : LabelledProgram) (events : List Event) → SeesTurn p observer.now.label.number turn → Tallies p observer.now.label.number observer.now.relevant.now observer.now.room events self.old → Tallies p observer.now.label.number observer.now.relevant.now observer.now.room (events ++ events_of turn) self.new) }
+        ensures tallies { OnOk result ((p : LabelledProgram) (events : List Event) → SeesTurn p observer.now.label.number turn
+            → Tallies p observer.now.label.number observer.now.relevant.now observer.now.room events self.old
+            → Tallies p observer.now.label.number observer.now.relevant.now observer.now.room (events ++ events_of turn) self.new) }
     {
         match turn {
             Turn::Event {

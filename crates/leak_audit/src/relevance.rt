@@ -13,7 +13,8 @@ use timing_types::typed::Typed;
 /// Of each mitigate, by its mark, whether it is relevant for an observer: its program-counter label flows to
 /// the observer and its level does not. Fails only for want of memory.
 pub fn relevant_marks(alloc: Global, p: &Typed, observer: Label) -> Result<Vec<bool>, Memory>
-    ensures { IfOk result (λ v. v.items ≡ relevances (order_of p.now.labelled) (labels_of p.now.labelled) (levels_of p.now.labelled) observer.number (order_of p.now.labelled).bottom (plan_of p.now.labelled.program)) }
+    ensures { IfOk result (λ v. v.items ≡ relevances (order_of p.now.labelled) (labels_of p.now.labelled) (levels_of p.now.labelled) observer.number
+        (order_of p.now.labelled).bottom (plan_of p.now.labelled.program)) }
 {
     let labelled = p.labelled();
     let program = labelled.program();

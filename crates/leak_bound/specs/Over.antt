@@ -19,13 +19,16 @@ module _ {E : Type 0} (v : Order → Env E) (serves : Order → E → Type 0) wh
 
   -- every accepted program is sound in the environment of its lattice
   abbrev pub SoundOver : Type 0
-  SoundOver = (order : Order) (g ls : ℕ → ℕ) (image : List Instr) (p : Marked) → IsCompiled order g ls image p → Sound (v order) order (serves order) g ls image p
+  SoundOver = (order : Order) (g ls : ℕ → ℕ) (image : List Instr) (p : Marked) → IsCompiled order g ls image p
+      → Sound (v order) order (serves order) g ls image p
 
   abbrev pub ShowsOneOver : Type 0
-  ShowsOneOver = (order : Order) (g ls : ℕ → ℕ) (image : List Instr) (p : Marked) → IsCompiled order g ls image p → ShowsOne (v order) order (serves order) g ls image p
+  ShowsOneOver = (order : Order) (g ls : ℕ → ℕ) (image : List Instr) (p : Marked) → IsCompiled order g ls image p
+      → ShowsOne (v order) order (serves order) g ls image p
 
   abbrev pub CutSoundOver : Type 0
-  CutSoundOver = (order : Order) (g ls : ℕ → ℕ) (image : List Instr) (p : Marked) → IsCompiled order g ls image p → CutSound (v order) order (serves order) g ls image p
+  CutSoundOver = (order : Order) (g ls : ℕ → ℕ) (image : List Instr) (p : Marked) → IsCompiled order g ls image p
+      → CutSound (v order) order (serves order) g ls image p
 
   -- the image of every labelled program that is typed is sound there for the program that was read
   abbrev pub LoweredSoundOver : Type 0

@@ -75,7 +75,8 @@ pub record CutSound {E M L : Type 0} (v : Env E) (order : Order) (serves : E →
   pub few : (o : ℕ) → o < order.size → (t : ℕ) → 0 < t → (starts : List (Start E)) →
       Pairwise (Agree v (lattice_of order) serves g o) starts →
       (same : List Event → List Event → Bool) → Tests same →
-      distinct_count same (views (seen_from v (lattice_of order) g image o t) starts) ≤ bound order o t (most_ended v image (is_relevant (lattice_of order) g ls o p) t starts)
+      distinct_count same (views (seen_from v (lattice_of order) g image o t) starts) ≤ bound order o t
+      (most_ended v image (is_relevant (lattice_of order) g ls o p) t starts)
 
 -- an accepted program, whose arrays have one label each, with its labels and its image
 pub record IsCompiled (order : Order) (g ls : ℕ → ℕ) (image : List Instr) (p : Marked) : Type 0 where
@@ -92,7 +93,9 @@ abbrev pub SoundAll : {E : Type 0} → Env E → (Order → E → Type 0) → Ty
 SoundAll v serves = (order : Order) (g ls : ℕ → ℕ) (image : List Instr) (p : Marked) → IsCompiled order g ls image p → Sound v order (serves order) g ls image p
 
 abbrev pub ShowsOneAll : {E : Type 0} → Env E → (Order → E → Type 0) → Type 0
-ShowsOneAll v serves = (order : Order) (g ls : ℕ → ℕ) (image : List Instr) (p : Marked) → IsCompiled order g ls image p → ShowsOne v order (serves order) g ls image p
+ShowsOneAll v serves = (order : Order) (g ls : ℕ → ℕ) (image : List Instr) (p : Marked) → IsCompiled order g ls image p
+    → ShowsOne v order (serves order) g ls image p
 
 abbrev pub CutSoundAll : {E : Type 0} → Env E → (Order → E → Type 0) → Type 0
-CutSoundAll v serves = (order : Order) (g ls : ℕ → ℕ) (image : List Instr) (p : Marked) → IsCompiled order g ls image p → CutSound v order (serves order) g ls image p
+CutSoundAll v serves = (order : Order) (g ls : ℕ → ℕ) (image : List Instr) (p : Marked) → IsCompiled order g ls image p
+    → CutSound v order (serves order) g ls image p

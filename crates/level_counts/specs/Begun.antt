@@ -54,4 +54,5 @@ memories_of ss = map (λ s. s.memory) ss
 pub record AreTold (q : LabelledProgram) (o : ℕ) (ms : List (List ℤ)) (levels : List LevelRuns) : Type 0 where
   pub size : length levels ≡ q.program.order.size
   pub begun : FirstBeginsEach q o ms (counts_of levels)
-  pub first : (l : ℕ) → IsLeast (PredictedIn (relevant_at (order_of q) (labels_of q) (levels_of q) o (plan_of q.program) l) (plan_of q.program) ms) (told_of levels l).first
+  pub first : (l : ℕ) → IsLeast (PredictedIn (relevant_at (order_of q) (labels_of q) (levels_of q) o (plan_of q.program) l) (plan_of q.program) ms)
+      (told_of levels l).first

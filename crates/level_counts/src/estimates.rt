@@ -14,7 +14,8 @@ use text_base::pos::Memory;
 // Appends the estimates of the mitigates in a command, in order of the text.
 #[cycle(estimates)]
 fn command_estimates<'a>(c: &'a Command, found: &mut Vec<&'a Expr>) -> Result<(), AllocError>
-    ensures { IfOk result (λ _. (rest : Plan) → map (λ e. expression_of e.now) found.old.items ++ estimates_of (command_plan c.now rest) ≡ map (λ e. expression_of e.now) found.new.items ++ estimates_of rest) }
+    ensures { IfOk result (λ _. (rest : Plan) → map (λ e. expression_of e.now) found.old.items ++ estimates_of (command_plan c.now rest)
+        ≡ map (λ e. expression_of e.now) found.new.items ++ estimates_of rest) }
 {
     match &c.form {
         Form::Skip | Form::Assign { .. } | Form::Put { .. } | Form::Sleep { .. } => Ok(()),
@@ -47,7 +48,8 @@ fn command_estimates<'a>(c: &'a Command, found: &mut Vec<&'a Expr>) -> Result<()
 // Appends the estimates of the mitigates in a list, in order of the text.
 #[cycle(estimates)]
 fn list_estimates<'a>(commands: &'a [Command], found: &mut Vec<&'a Expr>) -> Result<(), AllocError>
-    ensures { IfOk result (λ _. map (λ e. expression_of e.now) found.new.items ≡ map (λ e. expression_of e.now) found.old.items ++ estimates_of (list_plan commands.now)) }
+    ensures { IfOk result (λ _. map (λ e. expression_of e.now) found.new.items
+        ≡ map (λ e. expression_of e.now) found.old.items ++ estimates_of (list_plan commands.now)) }
 {
     for c in commands {
         command_estimates(c, found)?;

@@ -65,7 +65,8 @@ pub fn note(
     requires few { length memory.now ≤ MAX_CELLS }
     requires levels { length levels.old.items ≡ p.now.program.order.size }
     requires room { (l : ℕ) → (told_of levels.old.items l).mitigations + 1 < 2 ^ 64 }
-    ensures { levels.new.items ≡ noted (λ k. slice_index_or relevant.now k false) (levels_of p.now) (map (λ e. expression_of e.now) estimates.now) walk memory.now levels.old.items }
+    ensures { levels.new.items ≡ noted (λ k. slice_index_or relevant.now k false) (levels_of p.now) (map (λ e. expression_of e.now) estimates.now) walk
+        memory.now levels.old.items }
 {
     let Walk::Began(mark) = walk else {
         return;

@@ -38,7 +38,9 @@ pub fn run_levels(
     requires estimates { map (λ e. expression_of e.now) estimates.now ≡ estimates_of (plan_of p.now.program) }
     requires long { length memory.now ≡ variables p.now.program.declarations }
     requires ends { HasEnded (plan_of p.now.program) memory.now steps }
-    ensures { IfOk result (λ v. (o : ℕ) → relevant.now ≡ relevances (order_of p.now) (labels_of p.now) (levels_of p.now) o (order_of p.now).bottom (plan_of p.now.program) → AreTold p.now o (memory.now ∷ []) v.items) }
+    ensures { IfOk result (λ v. (o : ℕ) → relevant.now
+        ≡ relevances (order_of p.now) (labels_of p.now) (levels_of p.now) o (order_of p.now).bottom (plan_of p.now.program)
+        → AreTold p.now o (memory.now ∷ []) v.items) }
 {
     let program = p.program();
     program.laws();

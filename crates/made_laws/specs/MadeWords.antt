@@ -36,9 +36,11 @@ mitigated n f q = a_key Mitigate (space ∷ a_sign LeftRound (a_number n (a_comm
 abbrev pub part_by_kind : Kind → ℕ → ℕ → ℕ → Part
 part_by_kind Sum a b c q = low a (spaced Assign (low b (spaced Plus (a_number c q))))
 part_by_kind Masked a b c q =
-    mitigated (c + 1) (λ p. high a (spaced Assign (a_sign LeftRound (high b (spaced Plus (a_number c (a_sign RightRound (spaced Percent (a_number 16 p))))))))) q
+    mitigated (c + 1) (λ p. high a (spaced Assign (a_sign LeftRound (high b (spaced Plus (a_number c (a_sign RightRound (spaced Percent (a_number 16 p)))))))))
+    q
 part_by_kind Countdown a b c q =
-    mitigated (c + 1) (λ p. a_key While (space ∷ high a (spaced Greater (a_number 0 (spaced_key Do (braced (λ o. high a (spaced Assign (high a (spaced Minus (a_number 1 o))))) p)))))) q
+    mitigated (c + 1) (λ p. a_key While (space ∷ high a
+    (spaced Greater (a_number 0 (spaced_key Do (braced (λ o. high a (spaced Assign (high a (spaced Minus (a_number 1 o))))) p)))))) q
 part_by_kind Choice a b c q =
     a_key If (space ∷ low a (spaced Greater (a_number c (spaced_key Then (braced (λ p. low b (spaced Assign (low a (spaced Minus (a_number c p)))))
     (spaced_key Else (braced (λ p. low a (spaced Assign (low a (spaced Plus (a_number 1 p))))) q)))))))

@@ -30,9 +30,11 @@ unit_from s = record { kind = kind_of (draw s 0); a = draw s 1 % 4; b = draw s 2
 abbrev pub text_by_kind : Kind → ℕ → ℕ → ℕ → List ℕ
 text_by_kind Sum a b c = codes "l" ++ (decimal a ++ (codes " := l" ++ (decimal b ++ (codes " + " ++ decimal c))))
 text_by_kind Masked a b c =
-    codes "mitigate (" ++ (decimal (c + 1) ++ (codes ", H) { h" ++ (decimal a ++ (codes " := (h" ++ (decimal b ++ (codes " + " ++ (decimal c ++ codes ") % 16 }")))))))
+    codes "mitigate (" ++ (decimal (c + 1) ++ (codes ", H) { h" ++ (decimal
+    a ++ (codes " := (h" ++ (decimal b ++ (codes " + " ++ (decimal c ++ codes ") % 16 }")))))))
 text_by_kind Countdown a b c =
-    codes "mitigate (" ++ (decimal (c + 1) ++ (codes ", H) { while h" ++ (decimal a ++ (codes " > 0 do { h" ++ (decimal a ++ (codes " := h" ++ (decimal a ++ codes " - 1 } }")))))))
+    codes "mitigate (" ++ (decimal (c + 1) ++ (codes ", H) { while h" ++ (decimal
+    a ++ (codes " > 0 do { h" ++ (decimal a ++ (codes " := h" ++ (decimal a ++ codes " - 1 } }")))))))
 text_by_kind Choice a b c =
     codes "if l" ++ (decimal a ++ (codes " > " ++ (decimal c ++ (codes " then { l" ++ (decimal b ++ (codes " := l" ++ (decimal a ++ (codes " - " ++ (decimal c
     ++ (codes " } else { l" ++ (decimal a ++ (codes " := l" ++ (decimal a ++ codes " + 1 }")))))))))))))
@@ -60,7 +62,8 @@ program_text size number = declarations ++ (units number size ++ codes "\n")
 -- run r, counted from 0
 abbrev pub start_text : ℕ → List ℕ
 start_text r =
-    codes "[[run]]\nmemory = { h0 = " ++ (decimal r ++ (codes ", h1 = " ++ (decimal (2 * r) ++ (codes ", h2 = " ++ (decimal (3 * r) ++ (codes ", h3 = " ++ (decimal (5 * r) ++ codes " }\n")))))))
+    codes "[[run]]\nmemory = { h0 = " ++ (decimal r ++ (codes
+    ", h1 = " ++ (decimal (2 * r) ++ (codes ", h2 = " ++ (decimal (3 * r) ++ (codes ", h3 = " ++ (decimal (5 * r) ++ codes " }\n")))))))
 
 -- the first n runs
 abbrev pub runs : ℕ → List ℕ

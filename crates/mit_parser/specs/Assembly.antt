@@ -13,7 +13,8 @@ pub record AreParts (lattice : Option Order) (pairs : List (Label × Label)) (de
   pub there : lattice ≡ Some order
   pub valid : IsOrder order → AreFew declarations → AllDiffer (map (λ d. d.0) declarations) → IsValid (syntax order pairs declarations body)
 
-pub record IsAssembled (lattice : Option Order) (pairs : List (Label × Label)) (declarations : List Declaration) (body : List Command) (s : Syntax) : Type 0 where
+pub record IsAssembled (lattice : Option Order) (pairs : List (Label × Label)) (declarations : List Declaration) (body : List Command)
+    (s : Syntax) : Type 0 where
   pub order : Order
   pub there : lattice ≡ Some order
   pub made : s ≡ syntax order pairs declarations body

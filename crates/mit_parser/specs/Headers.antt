@@ -34,7 +34,8 @@ front_name t r = name_at t.0 t.1 ∷ r
 -- labels as far as they were read: whatever names follow complete them
 pub record LabelsSoFar (labels : List (List ℕ)) (old now : State) : Type 0 where
   pub builds : (m : MoreNames) (j : List Told) → now.words ≡ front_more_names m j
-      → (t : (List ℕ × Pos) × MoreNames) × (old.words ≡ front_names t j) × (add_labels m (labelled labels now.fault) ≡ add_labels t.1 (labelled (t.0.0 ∷ []) old.fault))
+      → (t : (List ℕ × Pos) × MoreNames) × (old.words ≡ front_names t j)
+      × (add_labels m (labelled labels now.fault) ≡ add_labels t.1 (labelled (t.0.0 ∷ []) old.fault))
   pub next : now.marks ≡ old.marks
   pub goes : (s : List Part) → verdict (names ∷ s) old.counts old.words ≡ verdict (more_names ∷ s) now.counts now.words
   pub few : length labels + length now.words ≤ length old.words
@@ -47,7 +48,8 @@ pub record AreLabels (labels : List (List ℕ)) (old new : State) : Type 0 where
 
 -- a name was read, and looked up among labels
 abbrev pub IsNumber : List (List ℕ) → ℕ → State → State → Type 0
-IsNumber labels n old new = Taken a_name front_name (λ t. (n ≡ or_else 0 (find_label labels t.0)) × (new.fault ≡ kept old.fault (label_fault labels t.0 t.1))) old new
+IsNumber labels n old new = Taken a_name front_name (λ t. (n ≡ or_else 0 (find_label labels t.0)) × (new.fault ≡ kept old.fault (label_fault labels t.0 t.1)))
+    old new
 
 abbrev pub IsPair : List (List ℕ) → ℕ × ℕ → State → State → Type 0
 IsPair labels n old new = Taken a_pair front_pair (λ t. (n ≡ pair_numbers labels t) × (new.fault ≡ note_pair labels t old.fault)) old new
@@ -62,10 +64,12 @@ pub record PairsSoFar (labels : List (List ℕ)) (list : List (ℕ × ℕ)) (old
 
 abbrev pub ArePairs : List (List ℕ) → List (ℕ × ℕ) → State → State → Type 0
 ArePairs labels list old new =
-    Taken pairs front_pairs (λ t. (list ≡ pair_numbers labels t.0 ∷ more_numbers labels t.1) × (new.fault ≡ note_more_pairs labels t.1 (note_pair labels t.0 old.fault))) old new
+    Taken pairs front_pairs (λ t. (list ≡ pair_numbers labels t.0 ∷ more_numbers labels t.1)
+    × (new.fault ≡ note_more_pairs labels t.1 (note_pair labels t.0 old.fault))) old new
 
 abbrev pub IsOrdering : List (List ℕ) → List (ℕ × ℕ) → State → State → Type 0
-IsOrdering labels list old new = Taken ordering front_ordering (λ t. (list ≡ ordering_numbers labels t) × (new.fault ≡ note_ordering labels t old.fault)) old new
+IsOrdering labels list old new = Taken ordering front_ordering (λ t. (list ≡ ordering_numbers labels t) × (new.fault ≡ note_ordering labels t old.fault)) old
+    new
 
 -- what labels and pairs make after a first fault, if there was one: a lattice, or a fault
 abbrev pub Makes : List (List ℕ) → List (Label × Label) → Option ParseFault → Option Order → List (Label × Label) → Option ParseFault → Type 0
@@ -75,13 +79,15 @@ Makes labels written before None kept_pairs None = ⊥
 Makes labels written before None kept_pairs (Some f) = (before ≡ Some f) ⊎ ((before ≡ None) × IsLatticeFault labels written f)
 
 abbrev pub IsHeader : Option Order → List (Label × Label) → State → State → Type 0
-IsHeader lattice kept_pairs old new = Taken header front_header (λ t. Makes (header_labels t).names (header_pairs t) (header_fault t) lattice kept_pairs new.fault) old new
+IsHeader lattice kept_pairs old new = Taken header front_header
+    (λ t. Makes (header_labels t).names (header_pairs t) (header_fault t) lattice kept_pairs new.fault) old new
 
 -- the label and the length that are written
 abbrev pub IsShape : Option (List ℕ × Pos) → Option (ℤ × Pos) → State → State → Type 0
 IsShape label length old new = Taken a_shape front_shape (λ t. (shape_label t ≡ label) × (shape_length t ≡ length) × (new.fault ≡ old.fault)) old new
 
-pub record Declares (labels : List (List ℕ)) (w : List ℕ) (p : Pos) (label : Option (List ℕ × Pos)) (size : Option (ℤ × Pos)) (before after : List Declaration) (old new : State) : Type 0 where
+pub record Declares (labels : List (List ℕ)) (w : List ℕ) (p : Pos) (label : Option (List ℕ × Pos)) (size : Option (ℤ × Pos)) (before after : List Declaration)
+    (old new : State) : Type 0 where
   pub adds : declaring after new.fault ≡ add_declaration labels w p label size (declaring before old.fault)
   pub state : new ≡ with_fault old new.fault
   pub few : length after ≤ length before + 1
@@ -93,7 +99,8 @@ pub record IsDeclaration (labels : List (List ℕ)) (before after : List Declara
 -- declarations as far as they were read: whatever follows completes them
 pub record DeclarationsSoFar (labels : List (List ℕ)) (list : List Declaration) (old now : State) : Type 0 where
   pub builds : (m : Declarations) (j : List Told) → now.words ≡ front_declarations m j
-      → (t : Declarations) × (old.words ≡ front_declarations t j) × (declare_all labels m (declaring list now.fault) ≡ declare_all labels t (declaring [] old.fault))
+      → (t : Declarations) × (old.words ≡ front_declarations t j)
+      × (declare_all labels m (declaring list now.fault) ≡ declare_all labels t (declaring [] old.fault))
   pub next : now.marks ≡ old.marks
   pub goes : (s : List Part) → verdict (declarations ∷ s) old.counts old.words ≡ verdict (declarations ∷ s) now.counts now.words
   pub few : length list + length now.words ≤ length old.words

@@ -100,7 +100,8 @@ abbrev mutual
   plan_command sc k (sleep_of p e m) rest = Sleep (written sc p m) (whole_value sc e) rest
   plan_command sc k (if_of p e m q b o) rest = If (written sc p m) (whole_value sc e) (plan_block sc k b) (plan_else sc p (next_block b k) o) rest
   plan_command sc k (while_of p e m q b) rest = While (written sc p m) (whole_value sc e) (plan_block sc k b) rest
-  plan_command sc k (mitigate_of p q e l u m b) rest = Mitigate (written sc p m) k (and_name_value sc.labels l) (whole_value sc e) (plan_block sc (k + 1) b) rest
+  plan_command sc k (mitigate_of p q e l u m b) rest = Mitigate (written sc p m) k (and_name_value sc.labels l) (whole_value sc e) (plan_block sc (k + 1) b)
+      rest
 
   pub plan_block : Scope → ℕ → Block → Plan
   plan_block sc k (block_of p c q) = plan_commands sc k c

@@ -141,7 +141,8 @@ pub record TookNumber (n : ℤ) (p : Pos) (old new : State) : Type 0 where
   pub marks : new.marks ≡ old.marks
 
 -- a part was read: a tree is spelled up to what is left, and means what was made
-pub record Read {T : Type 0} (part : Part) (front_of : T → List Told → List Told) (note_of : T → Option ParseFault → Option ParseFault) (next_of : T → ℕ → ℕ) (Means : T → Type 0) (old new : State) : Type 0 where
+pub record Read {T : Type 0} (part : Part) (front_of : T → List Told → List Told) (note_of : T → Option ParseFault → Option ParseFault) (next_of : T → ℕ → ℕ)
+    (Means : T → Type 0) (old new : State) : Type 0 where
   pub tree : T
   pub spelled : old.words ≡ front_of tree new.words
   pub means : Means tree
@@ -188,7 +189,8 @@ pub record SumSoFar (sc : Scope) (old now : State) (left : Expression) : Type 0 
   pub rises : old.counts.depth ≤ now.counts.depth
 
 abbrev pub IsSecond : List (List ℕ) → State → State → Option Label → Type 0
-IsSecond labels old new x = Read second front_and_name (note_and_name labels) same_next (λ t. and_name_value labels t ≡ x) old new × (new.counts.marks ≡ old.counts.marks)
+IsSecond labels old new x = Read second front_and_name (note_and_name labels) same_next (λ t. and_name_value labels t ≡ x) old new
+    × (new.counts.marks ≡ old.counts.marks)
 
 abbrev pub IsMarks : List (List ℕ) → State → State → Option (Label × Label) → Type 0
 IsMarks labels old new x = Read marks front_marks (note_marks labels) same_next (λ t. marks_value labels t ≡ x) old new

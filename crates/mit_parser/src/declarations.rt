@@ -208,7 +208,8 @@ impl<'a> Parser<'a> {
         pos: Pos,
         shape: Shape,
     ) -> Result<(), ParseFault>
-        ensures { MatchResult result (λ _. Declares (labels_in lattice.now) name pos shape.label shape.length table.old table.new self.old self.new) (λ f. f ≡ Memory) }
+        ensures { MatchResult result (λ _. Declares (labels_in lattice.now) name pos shape.label shape.length table.old table.new self.old self.new)
+            (λ f. f ≡ Memory) }
     {
         if self.fault().is_some() {
             return Ok(());
@@ -230,7 +231,8 @@ impl<'a> Parser<'a> {
         lattice: &Option<Lattice>,
         table: &mut Table,
     ) -> Result<(), ParseFault>
-        ensures { MatchResult result (λ _. IsDeclaration (labels_in lattice.now) table.old table.new self.old self.new) (Refused a_declaration self.old self.new) }
+        ensures { MatchResult result (λ _. IsDeclaration (labels_in lattice.now) table.old table.new self.old self.new)
+            (Refused a_declaration self.old self.new) }
     {
         self.key(Keyword::Var)?;
         let (name, pos) = self.name()?;

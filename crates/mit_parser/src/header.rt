@@ -148,7 +148,8 @@ impl<'a> Parser<'a> {
         requires few { length labels.now ≤ 2 ^ 31 }
         requires differ { AllDiffer labels.now }
         requires numbers { AreNumbersBelow (length labels.now) numbers.now }
-        ensures { MatchResult result (λ h. (self.new ≡ with_fault self.old self.new.fault) × Makes labels.now (as_labels numbers.now) self.old.fault h.lattice h.pairs.items self.new.fault) (λ f. f ≡ Memory) }
+        ensures { MatchResult result (λ h. (self.new ≡ with_fault self.old self.new.fault)
+            × Makes labels.now (as_labels numbers.now) self.old.fault h.lattice h.pairs.items self.new.fault) (λ f. f ≡ Memory) }
     {
         if self.fault().is_some() {
             return Ok(Header {
@@ -182,7 +183,8 @@ impl<'a> Parser<'a> {
 
     // Without a header the labels are L and H, of which L flows to H.
     fn standard(&mut self, alloc: Global) -> Result<Header, ParseFault>
-        ensures { MatchResult result (λ h. (self.new ≡ with_fault self.old self.new.fault) × Makes (header_labels no_header).names (header_pairs no_header) self.old.fault h.lattice h.pairs.items self.new.fault) (λ f. f ≡ Memory) }
+        ensures { MatchResult result (λ h. (self.new ≡ with_fault self.old self.new.fault)
+            × Makes (header_labels no_header).names (header_pairs no_header) self.old.fault h.lattice h.pairs.items self.new.fault) (λ f. f ≡ Memory) }
     {
         let Some(low) = Name::read(b"L") else {
             unreachable!()

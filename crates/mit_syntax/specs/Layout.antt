@@ -116,15 +116,19 @@ commands_part o ds d (Skip m r) q = a_key SkipKey (marks_part o m.labels (after 
 commands_part o ds d (Assign m x e r) q =
     a_name (cell_at ds x).name (spaced AssignSign (expression_part ds 1 e (marks_part o m.labels (after d r (commands_part o ds d r) q))))
 commands_part o ds d (Put m f n i e r) q =
-    a_name (cell_at ds f).name (in_square (expression_part ds 1 i) (spaced AssignSign (expression_part ds 1 e (marks_part o m.labels (after d r (commands_part o ds d r) q)))))
+    a_name (cell_at ds f).name (in_square (expression_part ds 1 i)
+    (spaced AssignSign (expression_part ds 1 e (marks_part o m.labels (after d r (commands_part o ds d r) q)))))
 commands_part o ds d (Sleep m e r) q = a_key SleepKey (space ∷ expression_part ds 1 e (marks_part o m.labels (after d r (commands_part o ds d r) q)))
 commands_part o ds d (If m e a b r) q =
-    a_key IfKey (space ∷ expression_part ds 1 e (marks_part o m.labels (spaced_key Then (in_braces d (commands_part o ds (d + 1) a) (spaced_key Else (in_braces d (commands_part o ds (d + 1) b)
+    a_key IfKey (space ∷ expression_part ds 1 e (marks_part o m.labels
+    (spaced_key Then (in_braces d (commands_part o ds (d + 1) a) (spaced_key Else (in_braces d (commands_part o ds (d + 1) b)
     (after d r (commands_part o ds d r) q)))))))
 commands_part o ds d (While m e c r) q =
-    a_key WhileKey (space ∷ expression_part ds 1 e (marks_part o m.labels (spaced_key Do (in_braces d (commands_part o ds (d + 1) c) (after d r (commands_part o ds d r) q)))))
+    a_key WhileKey (space ∷ expression_part ds 1 e (marks_part o m.labels
+    (spaced_key Do (in_braces d (commands_part o ds (d + 1) c) (after d r (commands_part o ds d r) q)))))
 commands_part o ds d (Mitigate m k l e c r) q =
-    a_key MitigateKey (space ∷ a_sign LeftRound (expression_part ds 1 e (level_part o l (a_sign RightRound (marks_part o m.labels (space ∷ in_braces d (commands_part o ds (d + 1) c)
+    a_key MitigateKey (space ∷ a_sign LeftRound (expression_part ds 1 e
+    (level_part o l (a_sign RightRound (marks_part o m.labels (space ∷ in_braces d (commands_part o ds (d + 1) c)
     (after d r (commands_part o ds d r) q)))))))
 
 -- the end of a line of the header or of a declaration

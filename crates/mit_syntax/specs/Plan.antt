@@ -76,13 +76,16 @@ row_plan-list (more_of-Command p l f r) = ap (λ z. form_plan f (record { pos = 
 plan-Vec : (v : Vec Command Global) → row_plan (hidden-the_row-Command-0 v) ≡ list_plan v.items
 plan-Vec v = row_plan-list (hidden-the_row-Command-0 v) ∙ ap list_plan (items_hidden-the_row-Command-0 v)
 
-pub plan-If : (e : Expr) (v u : Vec Command Global) (w : Written) (rest : Plan) → form_plan (DIf e v u) w rest ≡ If w (expression_of e) (list_plan v.items) (list_plan u.items) rest
+pub plan-If : (e : Expr) (v u : Vec Command Global) (w : Written) (rest : Plan)
+    → form_plan (DIf e v u) w rest ≡ If w (expression_of e) (list_plan v.items) (list_plan u.items) rest
 plan-If e v u w rest =
     ap (λ z. If w (expression_of e) z (row_plan (hidden-the_row-Command-0 u)) rest) (plan-Vec v)
     ∙ ap (λ z. If w (expression_of e) (list_plan v.items) z rest) (plan-Vec u)
 
-pub plan-While : (e : Expr) (v : Vec Command Global) (w : Written) (rest : Plan) → form_plan (DWhile e v) w rest ≡ While w (expression_of e) (list_plan v.items) rest
+pub plan-While : (e : Expr) (v : Vec Command Global) (w : Written) (rest : Plan)
+    → form_plan (DWhile e v) w rest ≡ While w (expression_of e) (list_plan v.items) rest
 plan-While e v w rest = ap (λ z. While w (expression_of e) z rest) (plan-Vec v)
 
-pub plan-Mitigate : (k : ℕ) (e : Expr) (l : Option Label) (v : Vec Command Global) (w : Written) (rest : Plan) → form_plan (DMitigate k e l v) w rest ≡ Mitigate w k l (expression_of e) (list_plan v.items) rest
+pub plan-Mitigate : (k : ℕ) (e : Expr) (l : Option Label) (v : Vec Command Global) (w : Written) (rest : Plan)
+    → form_plan (DMitigate k e l v) w rest ≡ Mitigate w k l (expression_of e) (list_plan v.items) rest
 plan-Mitigate k e l v w rest = ap (λ z. Mitigate w k l (expression_of e) z rest) (plan-Vec v)

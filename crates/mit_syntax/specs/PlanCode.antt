@@ -19,7 +19,8 @@ pos_code = code_by (ℕ × ℕ) (coded× coded_ℕ coded_ℕ) (λ p. (p.line, p.
 
 abbrev written_code : Coded Written
 written_code =
-    code_by (Pos × Option (Label × Label)) (coded× pos_code (coded_option (coded× label_code label_code))) (λ w. (w.pos, w.labels)) (λ q. record { pos = q.0; labels = q.1 }) (λ _. refl)
+    code_by (Pos × Option (Label × Label)) (coded× pos_code (coded_option (coded× label_code label_code))) (λ w. (w.pos, w.labels))
+    (λ q. record { pos = q.0; labels = q.1 }) (λ _. refl)
 
 -- ---- operators
 
@@ -97,7 +98,8 @@ signs_again (Element f n i) r es = signs_again i (inr (inr (f, n)) ∷ r) es
 
 abbrev expression_code : Coded Expression
 expression_code =
-    code_by (List Sign) (coded_list (coded⊎ (coded⊎ coded_ℤ coded_ℕ) (coded⊎ op_code (coded× coded_ℕ coded_ℕ)))) (λ e. signs_of e []) (λ ss. first_expression (signs_on ss [])) (λ e. ap first_expression (signs_again e [] []))
+    code_by (List Sign) (coded_list (coded⊎ (coded⊎ coded_ℤ coded_ℕ) (coded⊎ op_code (coded× coded_ℕ coded_ℕ)))) (λ e. signs_of e [])
+    (λ ss. first_expression (signs_on ss [])) (λ e. ap first_expression (signs_again e [] []))
 
 -- ---- commands
 
@@ -110,8 +112,10 @@ Item =
 abbrev item_code : Coded Item
 item_code =
     coded⊎
-    (coded⊎ (coded⊎ coded_ℕ written_code) (coded⊎ (coded× written_code (coded× coded_ℕ expression_code)) (coded× written_code (coded× (coded× coded_ℕ coded_ℕ) (coded× expression_code expression_code)))))
-    (coded⊎ (coded⊎ (coded× written_code expression_code) (coded× written_code expression_code)) (coded⊎ (coded× written_code expression_code) (coded× written_code (coded× (coded× coded_ℕ (coded_option label_code)) expression_code))))
+    (coded⊎ (coded⊎ coded_ℕ written_code) (coded⊎ (coded× written_code (coded× coded_ℕ expression_code))
+    (coded× written_code (coded× (coded× coded_ℕ coded_ℕ) (coded× expression_code expression_code)))))
+    (coded⊎ (coded⊎ (coded× written_code expression_code) (coded× written_code expression_code))
+    (coded⊎ (coded× written_code expression_code) (coded× written_code (coded× (coded× coded_ℕ (coded_option label_code)) expression_code))))
 
 abbrev items_of : Plan → List Item → List Item
 items_of Done r = inl (inl (inl 0)) ∷ r
@@ -159,9 +163,11 @@ items_again (Assign w x e p) r ps = items_again p (inl (inr (inl (w, (x, e)))) �
 items_again (Put w f n i e p) r ps = items_again p (inl (inr (inr (w, ((f, n), (i, e))))) ∷ r) ps
 items_again (Sleep w e p) r ps = items_again p (inr (inl (inl (w, e))) ∷ r) ps
 items_again (If w e a b p) r ps =
-    items_again a (items_of b (items_of p (inr (inl (inr (w, e))) ∷ r))) ps ∙ items_again b (items_of p (inr (inl (inr (w, e))) ∷ r)) (a ∷ ps) ∙ items_again p (inr (inl (inr (w, e))) ∷ r) (b ∷ a ∷ ps)
+    items_again a (items_of b (items_of p (inr (inl (inr (w, e))) ∷ r))) ps ∙ items_again b (items_of p (inr (inl (inr (w, e))) ∷ r)) (a ∷ ps)
+    ∙ items_again p (inr (inl (inr (w, e))) ∷ r) (b ∷ a ∷ ps)
 items_again (While w e c p) r ps = items_again c (items_of p (inr (inr (inl (w, e))) ∷ r)) ps ∙ items_again p (inr (inr (inl (w, e))) ∷ r) (c ∷ ps)
-items_again (Mitigate w k l e c p) r ps = items_again c (items_of p (inr (inr (inr (w, ((k, l), e)))) ∷ r)) ps ∙ items_again p (inr (inr (inr (w, ((k, l), e)))) ∷ r) (c ∷ ps)
+items_again (Mitigate w k l e c p) r ps = items_again c (items_of p (inr (inr (inr (w, ((k, l), e)))) ∷ r)) ps
+    ∙ items_again p (inr (inr (inr (w, ((k, l), e)))) ∷ r) (c ∷ ps)
 
 abbrev pub plan_code : Coded Plan
 plan_code = code_by (List Item) (coded_list item_code) (λ p. items_of p []) (λ is. first_plan (items_on is [])) (λ p. ap first_plan (items_again p [] []))

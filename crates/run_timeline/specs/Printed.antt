@@ -20,14 +20,16 @@ abbrev pub end_of_run : {E : Type 0} → Env E → List Instr → ℕ → Start 
 end_of_run v code t s = (told_by (run_from v code t s)).end
 
 -- the whole text of the timeline is written, and its mitigations are in the tallies
-pub record Printed {E : Type 0} (v : Env E) (code : List Instr) (t : ℕ) (s : Start E) (p : LabelledProgram) (o : Option Label) (taken taken' : Option (List ℕ)) (old new : List Tally) : Type 0 where
+pub record Printed {E : Type 0} (v : Env E) (code : List Instr) (t : ℕ) (s : Start E) (p : LabelledProgram) (o : Option Label) (taken taken' : Option (List ℕ))
+    (old new : List Tally) : Type 0 where
   pub moments : List Moment
   pub timeline : IsTimeline v code t s moments
   pub written : Appends taken taken' (timeline_text p o moments (end_of_run v code t s))
   pub tallied : (before : List Moment) → AreTallies before old → AreTallies (before ++ moments) new
 
 -- a prefix of it is written
-pub record PrintedPart {E : Type 0} (v : Env E) (code : List Instr) (t : ℕ) (s : Start E) (p : LabelledProgram) (o : Option Label) (taken taken' : Option (List ℕ)) : Type 0 where
+pub record PrintedPart {E : Type 0} (v : Env E) (code : List Instr) (t : ℕ) (s : Start E) (p : LabelledProgram) (o : Option Label)
+    (taken taken' : Option (List ℕ)) : Type 0 where
   pub moments : List Moment
   pub timeline : IsTimeline v code t s moments
   pub written : AppendsPrefix taken taken' (timeline_text p o moments (end_of_run v code t s))

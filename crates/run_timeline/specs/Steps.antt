@@ -75,14 +75,17 @@ HasTold (Stopped (Limit t)) ms = Unit {0}
 pub record Tells {E : Type 0} (v : Env E) (old : State E) (i : Instr) (limit : ℕ) (d : Step) (new : State E) : Type 0 where
   pub took : Took v old i limit (outcome_of d) new
   pub clock : HasClock d new.clock
-  pub tells : HasTold d (telling i.work (reverse old.operands.items) (map opened_of (reverse old.opened.items)) (fetched v (marks_of i) old.place (core_of old)) new.clock)
+  pub tells : HasTold d (telling i.work (reverse old.operands.items) (map opened_of (reverse old.opened.items)) (fetched v (marks_of i) old.place (core_of old))
+      new.clock)
 
 -- what one step did
 abbrev pub Stepped : {E : Type 0} → Env E → (Order → E → Type 0) → Code → State E → ℕ → Step → State E → Type 0
 Stepped v serves c old limit Went new =
     (step v c.instrs (seen old) ≡ seen new) × (new.clock ≤ limit) × (old.clock < new.clock) × Stands serves c new × (told v c.instrs (seen old) ≡ [])
 Stepped v serves c old limit (Told m) new =
-    (step v c.instrs (seen old) ≡ with_log (event_of m ∷ []) (seen new)) × (new.clock ≤ limit) × (old.clock < new.clock) × Stands serves c new × (told v c.instrs (seen old) ≡ m ∷ [])
+    (step v c.instrs (seen old) ≡ with_log (event_of m ∷ []) (seen new)) × (new.clock ≤ limit) × (old.clock < new.clock) × Stands serves c new
+    × (told v c.instrs (seen old) ≡ m ∷ [])
 Stepped v serves c old limit (Stopped (Halted t)) new =
-    (step v c.instrs (seen old) ≡ record (seen new) { halted = true }) × (new.clock ≤ limit) × (old.clock < new.clock) × (t ≡ new.clock) × (told v c.instrs (seen old) ≡ [])
+    (step v c.instrs (seen old) ≡ record (seen new) { halted = true }) × (new.clock ≤ limit) × (old.clock < new.clock) × (t ≡ new.clock)
+    × (told v c.instrs (seen old) ≡ [])
 Stepped v serves c old limit (Stopped (Limit t)) new = (limit < (step v c.instrs (seen old)).core.clock) × (t ≡ old.clock)

@@ -8,7 +8,8 @@ abbrev pub no_tally : Tally
 no_tally = record { ended = 0; shortest = 0; longest = 0; missed = 0 }
 
 abbrev pub noted : Tally → ℕ → Bool → Tally
-noted t w b = record { ended = t.ended + 1; shortest = cond (eqb t.ended 0) w (min t.shortest w); longest = max t.longest w; missed = cond b (t.missed + 1) t.missed }
+noted t w b = record { ended = t.ended + 1; shortest = cond (eqb t.ended 0) w (min t.shortest w); longest = max t.longest w; missed = cond b (t.missed + 1)
+    t.missed }
 
 -- the tally of the mark, with one more, where there is one
 abbrev pub noted_at : List Tally → ℕ → ℕ → Bool → List Tally
@@ -29,4 +30,5 @@ HaveRoom n ts = (k : ℕ) (d : Tally) → k < length ts → HasRoom n (slice_ind
 -- the same tallies, each with at most so many more
 pub record Grown (n : ℕ) (old new : List Tally) : Type 0 where
   pub fit : length new ≡ length old
-  pub each : (k : ℕ) (d : Tally) → k < length old → ((slice_index_or new k d).ended ≤ (slice_index_or old k d).ended + n) × ((slice_index_or new k d).missed ≤ (slice_index_or new k d).ended)
+  pub each : (k : ℕ) (d : Tally) → k < length old → ((slice_index_or new k d).ended ≤ (slice_index_or old k d).ended + n)
+      × ((slice_index_or new k d).missed ≤ (slice_index_or new k d).ended)

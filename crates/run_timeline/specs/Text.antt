@@ -36,7 +36,8 @@ abbrev pub begin_text : ℤ → ℕ → ℕ → ℕ → List ℕ
 begin_text n d m c = codes " estimate " ++ (signed_decimal n ++ (number_text (codes " predicts ") d ++ (number_text (codes " misses ") m ++ cycle_text c)))
 
 abbrev pub end_text : ℕ → ℕ → ℕ → ℕ → ℕ → List ℕ
-end_text w d m n c = number_text (codes " worked ") w ++ (number_text (codes " lasts ") d ++ (number_text (codes " misses ") m ++ (number_text (codes " to ") n ++ cycle_text c)))
+end_text w d m n c = number_text (codes " worked ")
+    w ++ (number_text (codes " lasts ") d ++ (number_text (codes " misses ") m ++ (number_text (codes " to ") n ++ cycle_text c)))
 
 -- the line of a moment; an assignment has one where it is shown
 abbrev pub moment_text : LabelledProgram → List Pos → Option Label → Moment → List ℕ

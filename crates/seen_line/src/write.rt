@@ -40,7 +40,8 @@ pub fn write_seen<E: MachineEnv + Drop, W: Sink>(
     requires observer { observer.number < p.now.labelled.program.order.size }
     ensures text { OnOk result (Appends (W.taken out.old) (W.taken out.new) (seen_text p.now.labelled observer (rest_of E.env limit m.old))) }
     ensures prefix { OnErr result (AppendsPrefix (W.taken out.old) (W.taken out.new) (seen_text p.now.labelled observer (rest_of E.env limit m.old))) }
-    ensures printable { OnOk result (ArePrintable (variables p.now.labelled.program.declarations) (visible (order_of p.now.labelled) (labels_of p.now.labelled) observer.number (rest_of E.env limit m.old).events)) }
+    ensures printable { OnOk result (ArePrintable (variables p.now.labelled.program.declarations)
+        (visible (order_of p.now.labelled) (labels_of p.now.labelled) observer.number (rest_of E.env limit m.old).events)) }
     ensures later { W.faults out.old ≤ W.faults out.new }
     ensures fault { OnErr result (Rose (W.faults out.old) (W.faults out.new)) }
 {

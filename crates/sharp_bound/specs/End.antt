@@ -24,9 +24,13 @@ abbrev pub EndsLow : Lattice → (ℕ → ℕ) → Marked → ℕ → Type 0
 EndsLow lat g p o = (end : ℕ) × Types lat g lat.bottom lat.bottom p end × Flows lat end o
 
 -- Where the end label flows to the observer, seeing the end too shows no more: the same counts hold.
-pub record SharpEnd {E M L : Type 0} (v : Env E) (order : Order) (serves : E → Type 0) (g ls : ℕ → ℕ) (image : List Instr) (typed : Marked) (p : Todo M L) : Type 0 where
-  pub halted : (o : ℕ) → o < order.size → EndsLow (lattice_of order) g typed o → (t : ℕ) → 0 < t → FewHalted v order serves g ls image p o t (seen_to_end v (lattice_of order) g image o t)
-  pub cut : (o : ℕ) → o < order.size → EndsLow (lattice_of order) g typed o → (t : ℕ) → 0 < t → FewCut v order serves g ls image p o t (seen_to_end v (lattice_of order) g image o t)
+pub record SharpEnd {E M L : Type 0} (v : Env E) (order : Order) (serves : E → Type 0) (g ls : ℕ → ℕ) (image : List Instr) (typed : Marked) (p : Todo M L) :
+    Type 0 where
+  pub halted : (o : ℕ) → o < order.size → EndsLow (lattice_of order) g typed o → (t : ℕ) → 0 < t
+      → FewHalted v order serves g ls image p o t (seen_to_end v (lattice_of order) g image o t)
+  pub cut : (o : ℕ) → o < order.size → EndsLow (lattice_of order) g typed o → (t : ℕ) → 0 < t
+      → FewCut v order serves g ls image p o t (seen_to_end v (lattice_of order) g image o t)
 
 abbrev pub SharpEndAll : {E : Type 0} → Env E → (Order → E → Type 0) → Type 0
-SharpEndAll v serves = (order : Order) (g ls : ℕ → ℕ) (image : List Instr) (p : Marked) → IsCompiled order g ls image p → SharpEnd v order (serves order) g ls image p p
+SharpEndAll v serves = (order : Order) (g ls : ℕ → ℕ) (image : List Instr) (p : Marked) → IsCompiled order g ls image p
+    → SharpEnd v order (serves order) g ls image p p

@@ -34,9 +34,11 @@ FewMany X V =
 -- Of a secret x run number i, of program number i, goes from start i w x and is seen to its T, where w is all that
 -- was seen before. The start may hold what the runs before left in memory and environment, since the secret tells that.
 -- Where the starts of secrets that have shown the same agree, all runs together show few.
-pub record SharpMany {E M L : Type 0} (X : Type 0) (v : Env E) (order : Order) (serves : E → Type 0) (g ls : ℕ → ℕ → ℕ) (image : ℕ → List Instr) (p : ℕ → Todo M L) : Type 0 where
+pub record SharpMany {E M L : Type 0} (X : Type 0) (v : Env E) (order : Order) (serves : E → Type 0) (g ls : ℕ → ℕ → ℕ) (image : ℕ → List Instr)
+    (p : ℕ → Todo M L) : Type 0 where
   -- runs that halt: at most the product of the sharp counts
-  pub halted : (o : ℕ) → o < order.size → (t : ℕ → ℕ) → ((i : ℕ) → 0 < t i) → (start : ℕ → List (List Event) → X → Start E) (xs : List X) (firsts : ℕ → ℕ → ℕ) (ms : ℕ → ℕ) (n : ℕ) →
+  pub halted : (o : ℕ) → o < order.size → (t : ℕ → ℕ) → ((i : ℕ) → 0 < t i)
+      → (start : ℕ → List (List Event) → X → Start E) (xs : List X) (firsts : ℕ → ℕ → ℕ) (ms : ℕ → ℕ) (n : ℕ) →
       let view : ℕ → List (List Event) → X → List Event = λ i w x. seen_from v (lattice_of order) (g i) (image i) o (t i) (start i w x) in
       let next : ℕ → X → Start E = λ i x. start i (seen_in view i x) x in
       ((i : ℕ) → i < n → Pairwise (λ x y. seen_in view i x ≡ seen_in view i y → Agree v (lattice_of order) serves (g i) o (next i x) (next i y)) xs) →
@@ -44,7 +46,8 @@ pub record SharpMany {E M L : Type 0} (X : Type 0) (v : Env E) (order : Order) (
       (alike : List (List Event) → List (List Event) → Bool) → Tests alike →
       FewShown (seen_in view n) alike xs (product_of ms n)
   -- any runs
-  pub cut : (o : ℕ) → o < order.size → (t : ℕ → ℕ) → ((i : ℕ) → 0 < t i) → (start : ℕ → List (List Event) → X → Start E) (xs : List X) (firsts : ℕ → ℕ → ℕ) (n : ℕ) →
+  pub cut : (o : ℕ) → o < order.size → (t : ℕ → ℕ) → ((i : ℕ) → 0 < t i)
+      → (start : ℕ → List (List Event) → X → Start E) (xs : List X) (firsts : ℕ → ℕ → ℕ) (n : ℕ) →
       let view : ℕ → List (List Event) → X → List Event = λ i w x. seen_from v (lattice_of order) (g i) (image i) o (t i) (start i w x) in
       let next : ℕ → X → Start E = λ i x. start i (seen_in view i x) x in
       ((i : ℕ) → i < n → Pairwise (λ x y. seen_in view i x ≡ seen_in view i y → Agree v (lattice_of order) serves (g i) o (next i x) (next i y)) xs) →

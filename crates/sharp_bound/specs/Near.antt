@@ -61,7 +61,8 @@ pub record NapsTell {E : Type 0} (v : Env E) (order : Order) (serves : E → Typ
   -- it is accepted, with this image
   pub accepted : IsCompiled order (h_high high o) (all_high high) (naps_image (lattice_of order) high o) (naps (lattice_of order) high)
   -- it begins one relevant mitigate, of the level high
-  pub begins : (memory : List ℤ) → BeginsEach (lattice_of order) (h_high high o) (all_high high) o (naps (lattice_of order) high) memory (λ l. cond (eqb high l) 1 0)
+  pub begins : (memory : List ℤ) → BeginsEach (lattice_of order) (h_high high o) (all_high high) o (naps (lattice_of order) high) memory (λ l. cond (eqb high l)
+      1 0)
   -- so its sharp count is b: starts that agree and halt by T show at most so many different sequences
   pub most : (t : ℕ) → 0 < t → (starts : List (Start E)) →
       Pairwise (Agree v (lattice_of order) serves (h_high high o) o) starts → Each (Halts v (naps_image (lattice_of order) high o) t) starts →
@@ -70,7 +71,8 @@ pub record NapsTell {E : Type 0} (v : Env E) (order : Order) (serves : E → Typ
   -- and b - 4 are shown
   pub nearly : (e : E) → serves e → (t : ℕ) → Nearly v (lattice_of order) serves high o t (powers e 2 (digits t - 4))
   -- where T is a power of two, no more than b - 4 are shown by starts h = 2 ^ n, with whatever n
-  pub four : (e : E) (d : ℕ) (starts : List (Start E)) → Each (λ s. (n : ℕ) × (s ≡ power e n)) starts → Each (Halts v (naps_image (lattice_of order) high o) (2 ^ d)) starts →
+  pub four : (e : E) (d : ℕ) (starts : List (Start E)) → Each (λ s. (n : ℕ) × (s ≡ power e n)) starts
+      → Each (Halts v (naps_image (lattice_of order) high o) (2 ^ d)) starts →
       (same : List Event → List Event → Bool) → Tests same →
       distinct_count same (views (seen_from v (lattice_of order) (h_high high o) (naps_image (lattice_of order) high o) o (2 ^ d)) starts) ≤ digits (2 ^ d) - 4
 

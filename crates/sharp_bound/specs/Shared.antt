@@ -52,4 +52,5 @@ pub record SharpShared {E M L : Type 0} (v : Env E) (order : Order) (serves : E 
   pub few : (o : ℕ) → o < order.size → (t : ℕ) → 0 < t → FewShared v order serves g ls image p o t (seen_from v (lattice_of order) g image o t)
 
 abbrev pub SharpSharedAll : {E : Type 0} → Env E → (Order → E → Type 0) → Type 0
-SharpSharedAll v serves = (order : Order) (g ls : ℕ → ℕ) (image : List Instr) (p : Marked) → IsCompiled order g ls image p → SharpShared v order (serves order) g ls image p
+SharpSharedAll v serves = (order : Order) (g ls : ℕ → ℕ) (image : List Instr) (p : Marked) → IsCompiled order g ls image p
+    → SharpShared v order (serves order) g ls image p

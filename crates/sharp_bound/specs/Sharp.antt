@@ -72,7 +72,9 @@ pub record SharpCut {E M L : Type 0} (v : Env E) (order : Order) (serves : E →
   pub few : (o : ℕ) → o < order.size → (t : ℕ) → 0 < t → FewCut v order serves g ls image p o t (seen_from v (lattice_of order) g image o t)
 
 abbrev pub SharpSoundAll : {E : Type 0} → Env E → (Order → E → Type 0) → Type 0
-SharpSoundAll v serves = (order : Order) (g ls : ℕ → ℕ) (image : List Instr) (p : Marked) → IsCompiled order g ls image p → SharpSound v order (serves order) g ls image p
+SharpSoundAll v serves = (order : Order) (g ls : ℕ → ℕ) (image : List Instr) (p : Marked) → IsCompiled order g ls image p
+    → SharpSound v order (serves order) g ls image p
 
 abbrev pub SharpCutAll : {E : Type 0} → Env E → (Order → E → Type 0) → Type 0
-SharpCutAll v serves = (order : Order) (g ls : ℕ → ℕ) (image : List Instr) (p : Marked) → IsCompiled order g ls image p → SharpCut v order (serves order) g ls image p
+SharpCutAll v serves = (order : Order) (g ls : ℕ → ℕ) (image : List Instr) (p : Marked) → IsCompiled order g ls image p
+    → SharpCut v order (serves order) g ls image p

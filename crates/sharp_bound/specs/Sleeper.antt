@@ -39,7 +39,8 @@ pub record SleeperTells {E : Type 0} (v : Env E) (order : Order) (serves : E →
   pub long : (e : E) (n : ℕ) → length (sleepers e n) ≡ n
   pub agree : (e : E) → serves e → (n : ℕ) → Pairwise (Agree v (lattice_of order) serves (h_high high o) o) (sleepers e n)
   pub halt : (e : E) (n t : ℕ) → n + 2 ≤ t → Each (Halts v (sleeps_image (lattice_of order) high o) t) (sleepers e n)
-  pub apart : (e : E) (n t : ℕ) → n + 2 ≤ t → ShowApart (seen_to_end v (lattice_of order) (h_high high o) (sleeps_image (lattice_of order) high o) o t) (sleepers e n)
+  pub apart : (e : E) (n t : ℕ) → n + 2 ≤ t → ShowApart (seen_to_end v (lattice_of order) (h_high high o) (sleeps_image (lattice_of order) high o) o t)
+      (sleepers e n)
 
 abbrev pub EndTells : {E : Type 0} → Env E → (Order → E → Type 0) → Type 0
 EndTells v serves =

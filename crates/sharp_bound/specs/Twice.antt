@@ -33,7 +33,8 @@ FewTwice X V W =
 
 -- the run from s halts by T, its relevant mitigates have such first predictions, and n is at least the sharp count of
 -- as many as it begins of each level
-pub record Covers {E M L : Type 0} (v : Env E) (order : Order) (g ls : ℕ → ℕ) (image : List Instr) (p : Todo M L) (o t : ℕ) (firsts : ℕ → ℕ) (n : ℕ) (s : Start E) : Type 0 where
+pub record Covers {E M L : Type 0} (v : Env E) (order : Order) (g ls : ℕ → ℕ) (image : List Instr) (p : Todo M L) (o t : ℕ) (firsts : ℕ → ℕ) (n : ℕ)
+    (s : Start E) : Type 0 where
   pub halts : Halts v image t s
   pub predicts : PredictsBy v (lattice_of order) g ls image p o t firsts s
   pub counts : (counts : ℕ → ℕ) → BeginsEach (lattice_of order) g ls o p s.memory counts → sharp (ends_by t firsts) order.size counts ≤ n
@@ -42,9 +43,11 @@ pub record Covers {E M L : Type 0} (v : Env E) (order : Order) (g ls : ℕ → �
 -- second w x to T', where w is what was seen. So the observer chooses the low inputs of the second run after the
 -- first. Where the first starts agree, and the second starts of secrets that showed the same first agree, both
 -- runs together show few.
-pub record SharpTwice {E M L M' L' : Type 0} (X : Type 0) (v : Env E) (order : Order) (serves : E → Type 0) (g ls : ℕ → ℕ) (image : List Instr) (p : Todo M L) (g' ls' : ℕ → ℕ) (image' : List Instr) (p' : Todo M' L') : Type 0 where
+pub record SharpTwice {E M L M' L' : Type 0} (X : Type 0) (v : Env E) (order : Order) (serves : E → Type 0) (g ls : ℕ → ℕ) (image : List Instr) (p : Todo M L)
+    (g' ls' : ℕ → ℕ) (image' : List Instr) (p' : Todo M' L') : Type 0 where
   -- runs that halt: at most the product of the sharp counts
-  pub halted : (o : ℕ) → o < order.size → (t t' : ℕ) → 0 < t → 0 < t' → (first : X → Start E) (second : List Event → X → Start E) (xs : List X) (firsts firsts' : ℕ → ℕ) (n m : ℕ) →
+  pub halted : (o : ℕ) → o < order.size → (t t' : ℕ) → 0 < t → 0 < t'
+      → (first : X → Start E) (second : List Event → X → Start E) (xs : List X) (firsts firsts' : ℕ → ℕ) (n m : ℕ) →
       let see : X → List Event = λ x. seen_from v (lattice_of order) g image o t (first x) in
       let later : X → Start E = λ x. second (see x) x in
       Pairwise (λ x y. Agree v (lattice_of order) serves g o (first x) (first y)) xs →
@@ -54,7 +57,8 @@ pub record SharpTwice {E M L M' L' : Type 0} (X : Type 0) (v : Env E) (order : O
       (alike : List Event × List Event → List Event × List Event → Bool) → Tests alike →
       FewShown (both see (λ w x. seen_from v (lattice_of order) g' image' o t' (second w x))) alike xs (n * m)
   -- any runs
-  pub cut : (o : ℕ) → o < order.size → (t t' : ℕ) → 0 < t → 0 < t' → (first : X → Start E) (second : List Event → X → Start E) (xs : List X) (firsts firsts' : ℕ → ℕ) →
+  pub cut : (o : ℕ) → o < order.size → (t t' : ℕ) → 0 < t → 0 < t'
+      → (first : X → Start E) (second : List Event → X → Start E) (xs : List X) (firsts firsts' : ℕ → ℕ) →
       let see : X → List Event = λ x. seen_from v (lattice_of order) g image o t (first x) in
       let later : X → Start E = λ x. second (see x) x in
       Pairwise (λ x y. Agree v (lattice_of order) serves g o (first x) (first y)) xs →

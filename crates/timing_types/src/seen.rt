@@ -13,7 +13,8 @@ impl Labelled {
     pub fn mark_seen(&self, observer: Label, seen: &mut [bool])
         requires { variables self.now.program.declarations ≤ length seen.old }
         ensures length { length seen.new ≡ length seen.old }
-        ensures variables { (x : ℕ) → x < variables self.now.program.declarations → slice_index_or seen.new x true ≡ (order_of self.now).flows (labels_of self.now x) observer.number }
+        ensures variables { (x : ℕ) → x < variables self.now.program.declarations
+            → slice_index_or seen.new x true ≡ (order_of self.now).flows (labels_of self.now x) observer.number }
         ensures others { (x : ℕ) → variables self.now.program.declarations ≤ x → slice_index_or seen.new x true ≡ slice_index_or seen.old x true }
     {
         let program = self.program();

@@ -76,10 +76,13 @@ pub fn audit_call<S: Shelf, W: Sink>(
     shelf: &mut S,
     out: &mut W,
 ) -> Status
-    ensures { map string_bytes words.now ≡ audit_words → S.content shelf.old program_file ≡ Some (Some program_text) → S.content shelf.old starts_file ≡ Some (Some starts_text)
-        → (Rose (S.faults shelf.old program_file) (S.faults shelf.new program_file) → ⊥) → (Rose (S.faults shelf.old starts_file) (S.faults shelf.new starts_file) → ⊥)
+    ensures { map string_bytes words.now ≡ audit_words → S.content shelf.old program_file ≡ Some (Some program_text)
+        → S.content shelf.old starts_file ≡ Some (Some starts_text)
+        → (Rose (S.faults shelf.old program_file) (S.faults shelf.new program_file) → ⊥)
+        → (Rose (S.faults shelf.old starts_file) (S.faults shelf.new starts_file) → ⊥)
         → (Rose (W.faults out.old) (W.faults out.new) → ⊥)
-        → ((result ≡ Status.Done) × Appends (W.taken out.old) (W.taken out.new) audit_answer) ⊎ ((result ≡ Status.Memory) × Appends (W.taken out.old) (W.taken out.new) memory_line) }
+        → ((result ≡ Status.Done) × Appends (W.taken out.old) (W.taken out.new) audit_answer)
+        ⊎ ((result ≡ Status.Memory) × Appends (W.taken out.old) (W.taken out.new) memory_line) }
 {
     one_answer();
     mitigate_main(alloc, words, shelf, out)

@@ -44,7 +44,8 @@ pub fn first_run_has_its_answer()
 pub fn first_run_ends_with_its_answer()
     ensures { (content : Content) (before now : List ℕ → ℕ) (file : List ℕ) (budget : ℕ) → content file ≡ Some (Some first_text) → 3 ≤ budget
         → (Rose (before file) (now file) → ⊥) → (old new : Option (List ℕ)) (s : Status)
-        → EndsBy old new (Before content (run file None Flat budget None)) (IsAnswer (λ name. Rose (before name) (now name)) content (run file None Flat budget None)) s
+        → EndsBy old new (Before content (run file None Flat budget None))
+        (IsAnswer (λ name. Rose (before name) (now name)) content (run file None Flat budget None)) s
         → s ≢ Status.WriteFault
         → ((s ≡ Status.Done) × Appends old new first_answer) ⊎ ((s ≡ Status.Memory) × Appends old new memory_line) }
 {
@@ -62,7 +63,8 @@ pub fn first_call<S: Shelf, W: Sink>(
 ) -> Status
     ensures { map string_bytes words.now ≡ first_words → S.content shelf.old first_file ≡ Some (Some first_text)
         → (Rose (S.faults shelf.old first_file) (S.faults shelf.new first_file) → ⊥) → (Rose (W.faults out.old) (W.faults out.new) → ⊥)
-        → ((result ≡ Status.Done) × Appends (W.taken out.old) (W.taken out.new) first_answer) ⊎ ((result ≡ Status.Memory) × Appends (W.taken out.old) (W.taken out.new) memory_line) }
+        → ((result ≡ Status.Done) × Appends (W.taken out.old) (W.taken out.new) first_answer)
+        ⊎ ((result ≡ Status.Memory) × Appends (W.taken out.old) (W.taken out.new) memory_line) }
 {
     one_answer();
     mitigate_main(alloc, words, shelf, out)

@@ -26,7 +26,8 @@ const AT: Pos = Pos { line: 1, column: 1 };
 // The lattice of L below H.
 fn two_labels() -> Option<Lattice>
     ensures size { IfSome result (λ o. o.size ≡ 2) }
-    ensures flows { IfSome result (λ o. (a b : ℕ) → a < 2 → b < 2 → Flows (lattice_of o) a b ↔ Chain ((record { number = 0 }, record { number = 1 }) ∷ []) a b) }
+    ensures flows { IfSome result (λ o. (a b : ℕ) → a < 2 → b < 2
+        → Flows (lattice_of o) a b ↔ Chain ((record { number = 0 }, record { number = 1 }) ∷ []) a b) }
 {
     let low = Name::read(b"L")?;
     let high = Name::read(b"H")?;

@@ -36,8 +36,10 @@ pub fn audit_after<W: Watch>(
 ) -> Result<Vec<u8>, Stop>
     requires fit { CanAudit p.now.compiled.typed.labelled p.now.observer p.now.compiled.image (map seen p.now.starts.items) }
     requires cycles { IsCycles setting.budget }
-    ensures text { IfOk result (λ v. HasAudited setting.env setting.budget p.now.compiled.typed.labelled (Some p.now.observer) (map seen p.now.starts.items) text.items Status.Done v.items) }
-    ensures stop { IfErr result (IsStop (HasAudited setting.env setting.budget p.now.compiled.typed.labelled (Some p.now.observer) (map seen p.now.starts.items) text.items)) }
+    ensures text { IfOk result (λ v. HasAudited setting.env setting.budget p.now.compiled.typed.labelled (Some p.now.observer) (map seen p.now.starts.items)
+        text.items Status.Done v.items) }
+    ensures stop { IfErr result (IsStop (HasAudited setting.env setting.budget p.now.compiled.typed.labelled (Some p.now.observer) (map seen p.now.starts.items)
+        text.items)) }
 {
     let program = p.compiled.typed.labelled().program();
     let report = match audited(alloc, p, setting, watch) {
@@ -68,8 +70,10 @@ pub fn audit_text<S: Shelf, W: Watch>(
     ensures same { (name : List ℕ) → S.content shelf.new name ≡ S.content shelf.old name }
     ensures later { (name : List ℕ) → S.faults shelf.old name ≤ S.faults shelf.new name }
     ensures log { Fetches (file.now ∷ starts.now ∷ []) (S.log shelf.old) (S.log shelf.new) result }
-    ensures text { IfOk result (λ v. IsAnswer (λ name. Rose (S.faults shelf.old name) (S.faults shelf.new name)) (S.content shelf.old) (audit file.now starts.now name.now setting.env setting.budget) Status.Done v.items) }
-    ensures stop { IfErr result (IsStop (IsAnswer (λ name. Rose (S.faults shelf.old name) (S.faults shelf.new name)) (S.content shelf.old) (audit file.now starts.now name.now setting.env setting.budget))) }
+    ensures text { IfOk result (λ v. IsAnswer (λ name. Rose (S.faults shelf.old name) (S.faults shelf.new name)) (S.content shelf.old)
+        (audit file.now starts.now name.now setting.env setting.budget) Status.Done v.items) }
+    ensures stop { IfErr result (IsStop (IsAnswer (λ name. Rose (S.faults shelf.old name) (S.faults shelf.new name)) (S.content shelf.old)
+        (audit file.now starts.now name.now setting.env setting.budget))) }
     ensures sound { OnOk result (IsAccepted (S.content shelf.old file.now)) }
     ensures sound_stop { IfErr result (λ e. IsTrue (is_past_typing (status_of e)) → IsAccepted (S.content shelf.old file.now)) }
 {

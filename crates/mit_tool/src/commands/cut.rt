@@ -63,7 +63,8 @@ fn cut_named<W: Watch>(
 
 // The stop for an audit without a report.
 fn cut_stop(p: &Program, fault: CutFault) -> Stop
-    ensures { (e : EnvName) (t : ℕ) (q : LabelledProgram) (l : Label) (ss : List StartValue) → p.now ≡ q.program → CutFaultsIn e q l.number t ss fault → IsStop (CutStops e t q l ss) result }
+    ensures { (e : EnvName) (t : ℕ) (q : LabelledProgram) (l : Label) (ss : List StartValue) → p.now ≡ q.program → CutFaultsIn e q l.number t ss fault
+        → IsStop (CutStops e t q l ss) result }
 {
     match fault {
         CutFault::Disagree { run, what } => Stop::With {
@@ -87,7 +88,8 @@ fn cut_report<W: Watch>(
 ) -> Result<Vec<u8>, Stop>
     requires fit { CanAudit p.now.compiled.typed.labelled p.now.observer p.now.compiled.image (map seen p.now.starts.items) }
     requires cycles { IsCycles setting.budget }
-    ensures text { IfOk result (λ v. HasCut setting.env setting.budget p.now.compiled.typed.labelled (Some p.now.observer) (map seen p.now.starts.items) Status.Done v.items) }
+    ensures text { IfOk result (λ v. HasCut setting.env setting.budget p.now.compiled.typed.labelled (Some p.now.observer) (map seen p.now.starts.items)
+        Status.Done v.items) }
     ensures stop { IfErr result (IsStop (HasCut setting.env setting.budget p.now.compiled.typed.labelled (Some p.now.observer) (map seen p.now.starts.items))) }
 {
     let program = p.compiled.typed.labelled().program();
@@ -121,8 +123,10 @@ pub fn cut_text<S: Shelf, W: Watch>(
     ensures same { (name : List ℕ) → S.content shelf.new name ≡ S.content shelf.old name }
     ensures later { (name : List ℕ) → S.faults shelf.old name ≤ S.faults shelf.new name }
     ensures log { Fetches (file.now ∷ starts.now ∷ []) (S.log shelf.old) (S.log shelf.new) result }
-    ensures text { IfOk result (λ v. IsAnswer (λ name. Rose (S.faults shelf.old name) (S.faults shelf.new name)) (S.content shelf.old) (cut file.now starts.now name.now setting.env setting.budget) Status.Done v.items) }
-    ensures stop { IfErr result (IsStop (IsAnswer (λ name. Rose (S.faults shelf.old name) (S.faults shelf.new name)) (S.content shelf.old) (cut file.now starts.now name.now setting.env setting.budget))) }
+    ensures text { IfOk result (λ v. IsAnswer (λ name. Rose (S.faults shelf.old name) (S.faults shelf.new name)) (S.content shelf.old)
+        (cut file.now starts.now name.now setting.env setting.budget) Status.Done v.items) }
+    ensures stop { IfErr result (IsStop (IsAnswer (λ name. Rose (S.faults shelf.old name) (S.faults shelf.new name)) (S.content shelf.old)
+        (cut file.now starts.now name.now setting.env setting.budget))) }
     ensures sound { OnOk result (IsAccepted (S.content shelf.old file.now)) }
     ensures sound_stop { IfErr result (λ e. IsTrue (is_past_typing (status_of e)) → IsAccepted (S.content shelf.old file.now)) }
 {

@@ -37,7 +37,8 @@ fn prepare_made(alloc: Global, made: &Made, size: u32, number: u32) -> Result<Pr
     requires program { made.now.program.items ≡ program_text size number }
     requires starts { made.now.starts.items ≡ starts_text }
     requires short { (length made.now.program.items ≤ limit) × (length made.now.starts.items ≤ limit) }
-    ensures ok { IfOk result (λ r. IsPrepared (made_content size number) [] (codes "L") (Some (Some starts_text)) r.compiled.typed.labelled r.observer r.compiled.image (map seen r.starts.items)) }
+    ensures ok { IfOk result (λ r. IsPrepared (made_content size number) [] (codes "L") (Some (Some starts_text)) r.compiled.typed.labelled r.observer
+        r.compiled.image (map seen r.starts.items)) }
     ensures fit { IfOk result (λ r. CanAudit r.compiled.typed.labelled r.observer r.compiled.image (map seen r.starts.items)) }
     ensures stop { IfErr result (IsStop (PrepareStops (λ name. ⊥) (made_content size number) [] (codes "L") ⊥ (Some (Some starts_text)))) }
     ensures sound { OnOk result (IsAccepted (Some (Some (program_text size number)))) }

@@ -84,7 +84,8 @@ fn run_named<W: Sink>(
     requires image { HasImage program.now.typed.labelled program.now.image }
     requires start { IsFor program.now.typed.labelled.program (seen start) }
     requires observer { IfSome program.now.observer (λ o. o.number < program.now.typed.labelled.program.order.size) }
-    ensures ended { EndsBy (W.taken out.old) (W.taken out.new) Nothing (HasRun setting.env setting.budget program.now.typed.labelled program.now.observer program.now.image (seen start)) result }
+    ensures ended { EndsBy (W.taken out.old) (W.taken out.new) Nothing
+        (HasRun setting.env setting.budget program.now.typed.labelled program.now.observer program.now.image (seen start)) result }
     ensures later { W.faults out.old ≤ W.faults out.new }
     ensures fault { result ≡ Status.WriteFault → Rose (W.faults out.old) (W.faults out.new) }
     ensures pieces { HasWritten (AreLines IsRunLine) result (W.log out.old) (W.log out.new) }
@@ -113,7 +114,8 @@ pub fn run<S: Shelf, W: Sink>(
     ensures same { (name : List ℕ) → S.content shelf.new name ≡ S.content shelf.old name }
     ensures later { (name : List ℕ) → S.faults shelf.old name ≤ S.faults shelf.new name }
     ensures later_out { W.faults out.old ≤ W.faults out.new }
-    ensures answered { EndsBy (W.taken out.old) (W.taken out.new) Nothing (IsAnswer (λ name. Rose (S.faults shelf.old name) (S.faults shelf.new name)) (S.content shelf.old)
+    ensures answered { EndsBy (W.taken out.old) (W.taken out.new) Nothing
+        (IsAnswer (λ name. Rose (S.faults shelf.old name) (S.faults shelf.new name)) (S.content shelf.old)
         (run file.now (option_map (λ s. s.now) starts.entry) setting.env setting.budget (option_map (λ s. s.now) name.entry))) result }
     ensures write { result ≡ Status.WriteFault → Rose (W.faults out.old) (W.faults out.new) }
     ensures fetched { HasFetched (file.now ∷ named (option_map (λ s. s.now) starts.entry)) result (S.log shelf.old) (S.log shelf.new) }
