@@ -20,13 +20,13 @@ module _ {E : Type 0} (structure : Place → Option (E → Rows)) (touched_at : 
   touch_serves order q tag ew e s = record { each = λ p. go p (structure p) (s.each p) (moves p q) }
     where
       moved : (p : Place) (at : E → Rows) → IsCacheOf order (sets_at p) (ways_at p) (at e) → Moves touched_at p q at
-      → IsCacheOf order (sets_at p) (ways_at p) (at (touched_at q tag ew e))
+          → IsCacheOf order (sets_at p) (ways_at p) (at (touched_at q tag ew e))
       moved p at c (touches same t) = subst (IsCacheOf order (sets_at p) (ways_at p)) (sym (t tag ew e))
-      (touched_serves order (sets_at p) (ways_at p) (at e) tag ew c)
+          (touched_serves order (sets_at p) (ways_at p) (at e) tag ew c)
       moved p at c (leaves apart t) = subst (IsCacheOf order (sets_at p) (ways_at p)) (sym (t tag ew e)) c
 
       go : (p : Place) (o : Option (E → Rows)) → IfSome o (λ at. IsCacheOf order (sets_at p) (ways_at p) (at e)) → IfSome o (Moves touched_at p q)
-      → IfSome o (λ at. IsCacheOf order (sets_at p) (ways_at p) (at (touched_at q tag ew e)))
+          → IfSome o (λ at. IsCacheOf order (sets_at p) (ways_at p) (at (touched_at q tag ew e)))
       go p None c m = tt
       go p (Some at) c m = moved p at c m
 
@@ -35,7 +35,7 @@ module _ {E : Type 0} (structure : Place → Option (E → Rows)) (touched_at : 
   touch_elsewhere order q tag ew e s p l ne = go (structure p) (s.each p) (moves p q)
     where
       moved : (at : E → Rows) → IsCacheOf order (sets_at p) (ways_at p) (at e) → Moves touched_at p q at
-      → part_of l (at (touched_at q tag ew e)) ≡ part_of l (at e)
+          → part_of l (at (touched_at q tag ew e)) ≡ part_of l (at e)
       moved at c (touches same t) = ap (part_of l) (t tag ew e) ∙ part_elsewhere order (sets_at p) (ways_at p) (at e) tag ew l c ne
       moved at c (leaves apart t) = ap (part_of l) (t tag ew e)
 
@@ -49,15 +49,15 @@ module _ {E : Type 0} (structure : Place → Option (E → Rows)) (touched_at : 
   touch_agrees order q tag ew e f s t p l h = go (structure p) (s.each p) (t.each p) (moves p q) h
     where
       moved : (at : E → Rows) → IsCacheOf order (sets_at p) (ways_at p) (at e) → IsCacheOf order (sets_at p) (ways_at p) (at f) → Moves touched_at p q at
-      → part_of l (at e) ≡ part_of l (at f) → part_of l (at (touched_at q tag ew e)) ≡ part_of l (at (touched_at q tag ew f))
+          → part_of l (at e) ≡ part_of l (at f) → part_of l (at (touched_at q tag ew e)) ≡ part_of l (at (touched_at q tag ew f))
       moved at c d (touches same m) h = ap (part_of l) (m tag ew e) ∙ part_agrees order (sets_at p) (ways_at p) (at e) (at f) tag ew l c d h
-      ∙ sym (ap (part_of l) (m tag ew f))
+          ∙ sym (ap (part_of l) (m tag ew f))
       moved at c d (leaves apart m) h = ap (part_of l) (m tag ew e) ∙ h ∙ sym (ap (part_of l) (m tag ew f))
 
       go : (o : Option (E → Rows)) → IfSome o (λ at. IsCacheOf order (sets_at p) (ways_at p) (at e))
-      → IfSome o (λ at. IsCacheOf order (sets_at p) (ways_at p) (at f)) → IfSome o (Moves touched_at p q) →
+          → IfSome o (λ at. IsCacheOf order (sets_at p) (ways_at p) (at f)) → IfSome o (Moves touched_at p q) →
           option_map_or (λ (at : E → Rows). part_of l (at e)) o [] ≡ option_map_or (λ (at : E → Rows). part_of l (at f)) o [] →
           option_map_or (λ (at : E → Rows). part_of l (at (touched_at q tag ew e))) o []
-          ≡ option_map_or (λ (at : E → Rows). part_of l (at (touched_at q tag ew f))) o []
+              ≡ option_map_or (λ (at : E → Rows). part_of l (at (touched_at q tag ew f))) o []
       go None c d m h = refl
       go (Some at) c d m h = moved at c d m h

@@ -162,10 +162,10 @@ part2_lawful order good =
     serves = touch_serves part2_structure part2_touched part2_moves order
 
     elsewhere : (q : Place) (tag ew : ℕ) (e : Part2Env) → IsMadeFor part2_structure order e → (p : Place) (l : ℕ) → (l ≡ ew → ⊥)
-    → part_at part2_structure p l (part2_touched q tag ew e) ≡ part_at part2_structure p l e
+        → part_at part2_structure p l (part2_touched q tag ew e) ≡ part_at part2_structure p l e
     elsewhere = touch_elsewhere part2_structure part2_touched part2_moves order
 
     agrees : (q : Place) (tag ew : ℕ) (e f : Part2Env) → IsMadeFor part2_structure order e → IsMadeFor part2_structure order f → (p : Place) (l : ℕ)
-    → part_at part2_structure p l e ≡ part_at part2_structure p l f
-    → part_at part2_structure p l (part2_touched q tag ew e) ≡ part_at part2_structure p l (part2_touched q tag ew f)
+        → part_at part2_structure p l e ≡ part_at part2_structure p l f
+        → part_at part2_structure p l (part2_touched q tag ew e) ≡ part_at part2_structure p l (part2_touched q tag ew f)
     agrees = touch_agrees part2_structure part2_touched part2_moves order
