@@ -18,8 +18,8 @@ IsWord (b ∷ r) = (is_ascii_alphabetic b ≡ true) × Each is_name_byte r
 
 -- the words of the language, which are no names
 unfoldable pub keywords : List (List ℕ)
-keywords = codes "labels" ∷ codes "order" ∷ codes "var" ∷ codes "skip" ∷ codes "if" ∷ codes "then" ∷ codes "else" ∷ codes "while" ∷ codes "do" ∷ codes
-    "mitigate" ∷ codes "sleep" ∷ []
+keywords = codes "labels" ∷ codes "order" ∷ codes "var" ∷ codes "skip" ∷ codes "if" ∷ codes "then" ∷ codes "else" ∷ codes "while" ∷ codes "do"
+    ∷ codes "mitigate" ∷ codes "sleep" ∷ []
 
 -- the word is one of these
 abbrev pub is_one_of : List (List ℕ) → List ℕ → Bool

@@ -62,8 +62,8 @@ program_text size number = declarations ++ (units number size ++ codes "\n")
 -- run r, counted from 0
 abbrev pub start_text : ℕ → List ℕ
 start_text r =
-    codes "[[run]]\nmemory = { h0 = " ++ (decimal r ++ (codes
-    ", h1 = " ++ (decimal (2 * r) ++ (codes ", h2 = " ++ (decimal (3 * r) ++ (codes ", h3 = " ++ (decimal (5 * r) ++ codes " }\n")))))))
+    codes "[[run]]\nmemory = { h0 = " ++ (decimal r
+    ++ (codes ", h1 = " ++ (decimal (2 * r) ++ (codes ", h2 = " ++ (decimal (3 * r) ++ (codes ", h3 = " ++ (decimal (5 * r) ++ codes " }\n")))))))
 
 -- the first n runs
 abbrev pub runs : ℕ → List ℕ
