@@ -8,14 +8,14 @@ use Rattle.lab_bound.proofs.Answering.{bound_tells}
 use Rattle.lab_bound.proofs.text.prepared_text.Goals as goal
 
 pub level_counts-requires-clause-ends : goal.level_counts-requires-clause-ends
-level_counts-requires-clause-ends c =
+level_counts-requires-clause-ends g c =
     let q : LabelledProgram = c.args.p.now.compiled.typed.labelled in
     let same : map seen c.as_slice-starts.result.now ≡ map seen c.args.p.now.starts.items = ap (map seen) c.as_slice-starts.ensures.value in
     subst (λ (z : List StartValue). All (λ s. HasEnded (plan_of q.program) s.memory (c.args.setting.budget + 1)) z) (sym same)
     (reported_end c.args.setting.env q c.args.p.now.observer.number c.args.setting.budget (map seen c.args.p.now.starts.items) c.in-Ok.report c.in-Ok.ensures.report)
 
 pub returns-in-Ok-put_bound-clause-text : goal.returns-in-Ok-put_bound-clause-text
-returns-in-Ok-put_bound-clause-text c =
+returns-in-Ok-put_bound-clause-text g c =
     let q : LabelledProgram = c.args.p.now.compiled.typed.labelled in
     let l = c.args.p.now.observer in
     let order : c.lattice-order.result ≡ q.program.order = c.lattice-order.ensures ∙ ap (λ z. z.order) (c.program.ensures.program ∙ ap (λ z. z.program) c.labelled.ensures.labelled) in

@@ -12,7 +12,7 @@ use Rattle.mit_tool.proofs.AuditLemmas.{cuts_in, cut_faults_in}
 use Rattle.mit_tool.proofs.commands.cut.cut_named.Goals as goal
 
 pub returns-in-Flat : goal.returns-in-Flat
-returns-in-Flat c =
+returns-in-Flat g c =
     let p = c.args.p.now in
     let xs = map seen c.as_slice-starts.result.now in
     let same = ap (map seen) c.as_slice-starts.ensures.value in
@@ -22,7 +22,7 @@ returns-in-Flat c =
     }
 
 pub returns-in-Part : goal.returns-in-Part
-returns-in-Part c =
+returns-in-Part g c =
     let p = c.args.p.now in
     let q = p.compiled.typed.labelled in
     let t = c.args.setting.budget in
@@ -39,7 +39,7 @@ returns-in-Part c =
     }
 
 pub returns-in-Part2 : goal.returns-in-Part2
-returns-in-Part2 c =
+returns-in-Part2 g c =
     let p = c.args.p.now in
     let q = p.compiled.typed.labelled in
     let t = c.args.setting.budget in

@@ -6,7 +6,7 @@ use Rattle.mit_tool.proofs.AuditLemmas.{cut_tells, cut_stop_stops}
 use Rattle.mit_tool.proofs.commands.cut.cut_report.Goals as goal
 
 pub returns-in-Err-clause-stop : goal.returns-in-Err-clause-stop
-returns-in-Err-clause-stop c =
+returns-in-Err-clause-stop g c =
     let q = c.args.p.now.compiled.typed.labelled in
     let l = c.args.p.now.observer in
     let ss = map seen c.args.p.now.starts.items in
@@ -15,7 +15,7 @@ returns-in-Err-clause-stop c =
     (c.cut_stop.ensures c.args.setting.env c.args.setting.budget q l ss is c.in-Err.ensures.fault)
 
 pub returns-in-Ok-put_cut-clause-text : goal.returns-in-Ok-put_cut-clause-text
-returns-in-Ok-put_cut-clause-text c =
+returns-in-Ok-put_cut-clause-text g c =
     let q = c.args.p.now.compiled.typed.labelled in
     let l = c.args.p.now.observer in
     let ss = map seen c.args.p.now.starts.items in

@@ -14,11 +14,11 @@ use Rattle.mit_tool.proofs.PrepareLemmas.{made_next}
 use Rattle.mit_tool.proofs.commands.generate.gen_text.Goals as goal
 
 pub returns-in-Err-clause-stop : goal.returns-in-Err-clause-stop
-returns-in-Err-clause-stop c =
+returns-in-Err-clause-stop g c =
     prepare_stops (λ (name : List ℕ). ⊥) (made_content c.args.size c.args.number) [] (codes "L") ⊥ (Some (Some starts_text)) (made_next c.args.size c.args.number) c.in-Err.stop c.in-Err.ensures.stop
 
 pub returns-in-Ok-audit_after-clause-text : goal.returns-in-Ok-audit_after-clause-text
-returns-in-Ok-audit_after-clause-text c =
+returns-in-Ok-audit_after-clause-text g c =
     let p = c.in-Ok-prepare_made.prepared in
     let q = p.compiled.typed.labelled in
     let ss = map seen p.starts.items in
@@ -29,7 +29,7 @@ returns-in-Ok-audit_after-clause-text c =
     (audited_after Part (2 ^ 40) q p.observer ss c.in-Ok-made_text.text.items before Done x c.in-Ok-made_text.ensures c.in-Ok-audit_after.ensures.text)
 
 pub returns-clause-stop : goal.returns-clause-stop
-returns-clause-stop c =
+returns-clause-stop g c =
     let p = c.in-Ok-prepare_made.prepared in
     let q = p.compiled.typed.labelled in
     let ss = map seen p.starts.items in
