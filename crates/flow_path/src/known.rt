@@ -71,11 +71,14 @@ impl Known {
         }
     }
 
-    /// Whether a label is omitted and a chain to it may have this cost.
+    /// Whether a label is omitted, its cost not known, and this a cost that a chain may have.
     fn may_be(&self, p: &Program, y: u32, cost: Cost) -> bool
         ensures { result ≡ true → (y < length self.now.variables.items) × (written p.now (AVariable y) ≡ None) × (cost.faint ≤ cost.steps) × (cost.steps ≤ 4294967295) }
     {
         if (y as usize) >= self.variables.len() || cost.faint > cost.steps {
+            return false;
+        }
+        if self.variables[y as usize].is_some() {
             return false;
         }
         match written_at(p, &Spot::Variable(y)) {
@@ -84,7 +87,7 @@ impl Known {
         }
     }
 
-    /// Takes a cost for that of a label, if it may be.
+    /// Takes a cost for that of a label, if it may be and none is known: the first one that is told stays.
     pub(crate) fn guess(&mut self, p: &Program, y: u32, cost: Cost)
         ensures { (t : ATarget) → IsKnownOf p.now t self.old → IsKnownOf p.now t self.new }
     {

@@ -120,13 +120,13 @@ impl Front {
         }
     }
 
-    /// Goes on from a place: whether it was not done before.
-    fn go_on(&mut self, flows: &Flows, at: Reached) -> Result<bool, AllocError> {
+    /// Goes on from a place, unless that was done.
+    fn go_on(&mut self, flows: &Flows, at: Reached) -> Result<(), AllocError> {
         if (at.place as usize) >= self.seen.len() || (at.place as usize) >= flows.lasts.len() {
-            return Ok(false);
+            return Ok(());
         }
         if self.seen[at.place as usize].done {
-            return Ok(false);
+            return Ok(());
         }
         self.seen[at.place as usize].done = true;
         let mut next = flows.lasts[at.place as usize] as usize;
@@ -138,7 +138,7 @@ impl Front {
             self.reach(flow.to, flow.toll, at.cost)?;
             next = flow.before as usize;
         }
-        Ok(true)
+        Ok(())
     }
 }
 
@@ -154,9 +154,8 @@ pub(crate) fn nearest(alloc: Global, p: &Program, target: &Target) -> Result<Kno
         let Some(reached) = front.next() else {
             break;
         };
-        if front.go_on(&flows, reached)? {
-            known.guess(p, reached.place, reached.cost);
-        }
+        known.guess(p, reached.place, reached.cost);
+        front.go_on(&flows, reached)?;
     }
     Ok(known)
 }
