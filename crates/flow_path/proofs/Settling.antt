@@ -402,11 +402,6 @@ settles s t k now v K D S L = record {
         let b = le_both c f.cost up down in
         a ∙ ap Some (cost_is c f.cost b.0 b.1)
 
-pub agreed_by : (s : Syntax) (t : Target) (k : Known) (v : Sides) (ds : List (Option Cost)) (vs : List (Option Found)) → ds ≡ k.variables.items → vs ≡ v.variables.items → IsKnownOf s t k → AreSides s t k.variables.items (steps_of s) v →
-    ((y : ℕ) → y < length ds → Agrees s ds vs y) → AreSettled s t v
-agreed_by s t k v ds vs e f K S A =
-    agreed s t k v K S (subst (λ z. (y : ℕ) → y < length k.variables.items → Agrees s k.variables.items z y) f (subst (λ z. (y : ℕ) → y < length z → Agrees s z vs y) e A))
-
 -- of two new costs the less one
 module _ (s : Syntax) (ds : List (Option Cost)) (vs : List (Option Found)) (n : ℕ) where
   same_new : (y : ℕ) (c d : Cost) → IsNew s ds vs y c → IsNew s ds vs y d → c ≡ d
