@@ -378,6 +378,11 @@ agreed s t k v K S A = record {
     back y c None a b = absurd (none-some c (sym (ap (λ z. option_map (λ (u : Found). u.cost) z) a) ∙ b))
     back y c (Some f) a b = (f, a, same_Some f.cost c (sym (ap (λ z. option_map (λ (u : Found). u.cost) z) a) ∙ b))
 
+pub agreed_by : (s : Syntax) (t : Target) (k : Known) (v : Sides) (ds : List (Option Cost)) (vs : List (Option Found)) → ds ≡ k.variables.items → vs ≡ v.variables.items → IsKnownOf s t k → AreSides s t k.variables.items (steps_of s) v →
+    ((y : ℕ) → y < length ds → Agrees s ds vs y) → AreSettled s t v
+agreed_by s t k v ds vs e f K S A =
+    agreed s t k v K S (subst (λ z. (y : ℕ) → y < length k.variables.items → Agrees s k.variables.items z y) f (subst (λ z. (y : ℕ) → y < length z → Agrees s z vs y) e A))
+
 -- nothing more is found
 pub settles : (s : Syntax) (t : Target) (k : Known) (now : Cost) (v : Sides) → IsKnownOf s t k → IsDistance s t k.variables.items now → AreSides s t k.variables.items (steps_of s) v →
     IsLeastNew s k.variables.items v.variables.items (length k.variables.items) None → AreSettled s t v

@@ -150,9 +150,12 @@ pub record IsSetBy (s : Syntax) (ds : List (Option Cost)) (vs : List (Option Fou
 
 -- what is known is right, and what is not yet known costs no less
 pub record IsDistance (s : Syntax) (t : Target) (ds : List (Option Cost)) (now : Cost) : Type 0 where
-  pub there : (y : ℕ) (c : Cost) → written s (Variable y) ≡ None → slice_index_or ds y None ≡ Some c → (st : Step) × Contains (steps_of s) st × SideCosts s t ds y st c
-  pub least : (y : ℕ) (c d : Cost) (st : Step) → written s (Variable y) ≡ None → slice_index_or ds y None ≡ Some c → Contains (steps_of s) st → SideCosts s t ds y st d → IsLe c d
-  pub late : (y : ℕ) (d : Cost) (st : Step) → written s (Variable y) ≡ None → slice_index_or ds y None ≡ None → Contains (steps_of s) st → SideCosts s t ds y st d → IsLe now d
+  pub there : (y : ℕ) (c : Cost) → written s (Variable y) ≡ None → slice_index_or ds y None ≡ Some c
+      → (st : Step) × Contains (steps_of s) st × SideCosts s t ds y st c
+  pub least : (y : ℕ) (c d : Cost) (st : Step) → written s (Variable y) ≡ None → slice_index_or ds y None ≡ Some c → Contains (steps_of s) st
+      → SideCosts s t ds y st d → IsLe c d
+  pub late : (y : ℕ) (d : Cost) (st : Step) → written s (Variable y) ≡ None → slice_index_or ds y None ≡ None → Contains (steps_of s) st
+      → SideCosts s t ds y st d → IsLe now d
   pub low : (y : ℕ) (c : Cost) → written s (Variable y) ≡ None → slice_index_or ds y None ≡ Some c → IsLe c now
 
 -- all is known: the first of the cheapest steps to each omitted label has the cost that is known
@@ -161,13 +164,15 @@ pub record AreSettled (s : Syntax) (t : Target) (v : Sides) : Type 0 where
   pub fit : length costs ≡ variables s.declarations
   pub sides : AreSides s t costs (steps_of s) v
   pub goes : (y : ℕ) (f : Found) → written s (Variable y) ≡ None → slice_index_or v.variables.items y None ≡ Some f → slice_index_or costs y None ≡ Some f.cost
-  pub back : (y : ℕ) (c : Cost) → written s (Variable y) ≡ None → slice_index_or costs y None ≡ Some c → (f : Found) × (slice_index_or v.variables.items y None ≡ Some f) × (f.cost ≡ c)
+  pub back : (y : ℕ) (c : Cost) → written s (Variable y) ≡ None → slice_index_or costs y None ≡ Some c
+      → (f : Found) × (slice_index_or v.variables.items y None ≡ Some f) × (f.cost ≡ c)
 
 -- each step of a chain is the first of the cheapest to where it leads
 abbrev pub IsPicked : Syntax → Sides → List Step → Type 0
 IsPicked s v [] = ⊥
 IsPicked s v (x ∷ []) = (f : Found) × (v.goal ≡ Some f) × (f.step ≡ x)
-IsPicked s v (x ∷ (y ∷ ys)) = (n : ℕ) × (f : Found) × (y.part.spot ≡ Variable n) × (written s (Variable n) ≡ None) × (slice_index_or v.variables.items n None ≡ Some f) × (f.step ≡ x) × IsPicked s v (y ∷ ys)
+IsPicked s v (x ∷ (y ∷ ys)) = (n : ℕ) × (f : Found) × (y.part.spot ≡ Variable n) × (written s (Variable n) ≡ None)
+    × (slice_index_or v.variables.items n None ≡ Some f) × (f.step ≡ x) × IsPicked s v (y ∷ ys)
 
 -- the chain begins at a written label
 abbrev pub StartsWritten : Syntax → List Step → Type 0

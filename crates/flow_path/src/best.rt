@@ -44,7 +44,8 @@ pub(crate) fn single(part: Part, p: &Program, known: &Known, target: &Target) ->
 
 /// That of two lists, one after the other.
 pub(crate) fn better(a: Option<Best>, b: Option<Best>) -> Option<Best>
-    ensures { (s : Syntax) (t : ATarget) (ds : List (Option ACost)) (ps qs : List APart) → IsBest s t ds ps a → IsBest s t ds qs b → IsBest s t ds (ps ++ qs) result }
+    ensures { (s : Syntax) (t : ATarget) (ds : List (Option ACost)) (ps qs : List APart) → IsBest s t ds ps a → IsBest s t ds qs b
+        → IsBest s t ds (ps ++ qs) result }
 {
     match a {
         Some(one) => match b {

@@ -73,7 +73,8 @@ impl Known {
 
     /// Whether a label is omitted, its cost not known, and this a cost that a chain may have.
     fn may_be(&self, p: &Program, y: u32, cost: Cost) -> bool
-        ensures { result ≡ true → (y < length self.now.variables.items) × (written p.now (AVariable y) ≡ None) × (cost.faint ≤ cost.steps) × (cost.steps ≤ 4294967295) }
+        ensures { result ≡ true → (y < length self.now.variables.items) × (written p.now (AVariable y) ≡ None) × (cost.faint ≤ cost.steps)
+            × (cost.steps ≤ 4294967295) }
     {
         if (y as usize) >= self.variables.len() || cost.faint > cost.steps {
             return false;

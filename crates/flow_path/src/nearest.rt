@@ -1,6 +1,7 @@
 //! What the cheapest chains to each label cost, by one search forwards from where they begin.
 
 ghost use Rattle.std.specs.Prelude.{IfOk};
+ghost use Rattle.flow_path.specs.declared.target.Target.{Target as ATarget};
 ghost use Rattle.flow_path.specs.Distances.{IsKnownOf};
 
 use crate::cost::Cost;
@@ -142,6 +143,24 @@ impl Front {
     }
 }
 
+/// Goes on from the cheapest place that waits, if one does, and takes its cost for known.
+fn turn(
+    p: &Program,
+    flows: &Flows,
+    known: &mut Known,
+    front: &mut Front,
+) -> Result<(), AllocError>
+    ensures { (t : ATarget) → IsKnownOf p.now t known.old → IsKnownOf p.now t known.new }
+{
+    match front.next() {
+        None => Ok(()),
+        Some(reached) => {
+            known.guess(p, reached.place, reached.cost);
+            front.go_on(flows, reached)
+        }
+    }
+}
+
 /// What the cheapest chains to each label cost. Each is right where one pass over the program finds the same.
 pub(crate) fn nearest(alloc: Global, p: &Program, target: &Target) -> Result<Known, AllocError>
     ensures { IfOk result (IsKnownOf p.now target.now) }
@@ -149,13 +168,14 @@ pub(crate) fn nearest(alloc: Global, p: &Program, target: &Target) -> Result<Kno
     let mut known = starts(alloc, p, target)?;
     let flows = flows_of(alloc, p, target)?;
     let mut front = Front::new(alloc, flows.lasts.len())?;
-    front.reach(flows.start, Toll::Free, Cost::nothing_yet())?;
-    for _ in 0..=flows.flows.len() {
-        let Some(reached) = front.next() else {
-            break;
-        };
-        known.guess(p, reached.place, reached.cost);
-        front.go_on(&flows, reached)?;
+    let start = Reached {
+        place: flows.start,
+        cost: Cost::nothing_yet(),
+    };
+    front.go_on(&flows, start)?;
+    // Each flow lets one place wait at most.
+    for _ in 0..flows.flows.len() {
+        turn(p, &flows, &mut known, &mut front)?;
     }
     Ok(known)
 }

@@ -125,7 +125,8 @@ pub(crate) fn after_skip(
     target: &Target,
 ) -> Option<Best>
     requires { IsKnownOf p.now target.now known.now }
-    ensures { (T : List APart) → IsBest p.now target.now known.now.variables.items T t → IsBest p.now target.now known.now.variables.items (T ++ read_label WhenAfter pos labels.now) result }
+    ensures { (T : List APart) → IsBest p.now target.now known.now.variables.items T t
+        → IsBest p.now target.now known.now.variables.items (T ++ read_label WhenAfter pos labels.now) result }
 {
     let label = read_label(labels, How::AfterReadLabel, pos, p, known, target);
     better(t, label)
@@ -142,7 +143,8 @@ pub(crate) fn after(
     target: &Target,
 ) -> Option<Best>
     requires { IsKnownOf p.now target.now known.now }
-    ensures { (T : List APart) → IsBest p.now target.now known.now.variables.items T t → IsBest p.now target.now known.now.variables.items (after T (record { pos = pos; labels = labels.now }) (expression_of e.now)) result }
+    ensures { (T : List APart) → IsBest p.now target.now known.now.variables.items T t
+        → IsBest p.now target.now known.now.variables.items (after T (record { pos = pos; labels = labels.now }) (expression_of e.now)) result }
 {
     let read = reads(e, How::AfterReading, pos, p, known, target);
     let label = read_label(labels, How::AfterReadLabel, pos, p, known, target);
@@ -162,7 +164,8 @@ pub(crate) fn after_set(
     target: &Target,
 ) -> Option<Best>
     requires { IsKnownOf p.now target.now known.now }
-    ensures { (T : List APart) → IsBest p.now target.now known.now.variables.items T t → IsBest p.now target.now known.now.variables.items (after_set T (record { pos = pos; labels = labels.now }) x (expression_of e.now)) result }
+    ensures { (T : List APart) → IsBest p.now target.now known.now.variables.items T t
+        → IsBest p.now target.now known.now.variables.items (after_set T (record { pos = pos; labels = labels.now }) x (expression_of e.now)) result }
 {
     let read = after(t, pos, labels, e, p, known, target);
     let part = Part {
@@ -187,7 +190,9 @@ pub(crate) fn after_put(
     target: &Target,
 ) -> Option<Best>
     requires { IsKnownOf p.now target.now known.now }
-    ensures { (T : List APart) → IsBest p.now target.now known.now.variables.items T t → IsBest p.now target.now known.now.variables.items (after_put T (record { pos = pos; labels = labels.now }) first (expression_of index.now) (expression_of e.now)) result }
+    ensures { (T : List APart) → IsBest p.now target.now known.now.variables.items T t
+        → IsBest p.now target.now known.now.variables.items
+            (after_put T (record { pos = pos; labels = labels.now }) first (expression_of index.now) (expression_of e.now)) result }
 {
     let set = after_set(t, pos, labels, first, e, p, known, target);
     let read = reads(index, How::AfterReading, pos, p, known, target);
@@ -204,7 +209,8 @@ pub(crate) fn inside(
     target: &Target,
 ) -> Option<Best>
     requires { IsKnownOf p.now target.now known.now }
-    ensures { (P : List APart) → IsBest p.now target.now known.now.variables.items P pc → IsBest p.now target.now known.now.variables.items (P ++ reads WhenGuard pos (expression_of guard.now)) result }
+    ensures { (P : List APart) → IsBest p.now target.now known.now.variables.items P pc
+        → IsBest p.now target.now known.now.variables.items (P ++ reads WhenGuard pos (expression_of guard.now)) result }
 {
     let read = reads(guard, How::UnderGuard, pos, p, known, target);
     better(pc, read)
@@ -220,7 +226,8 @@ pub(crate) fn here(
     target: &Target,
 ) -> Option<Best>
     requires { IsKnownOf p.now target.now known.now }
-    ensures { (P : List APart) → IsBest p.now target.now known.now.variables.items P pc → IsBest p.now target.now known.now.variables.items (P ++ index_reads pos (expression_of e.now)) result }
+    ensures { (P : List APart) → IsBest p.now target.now known.now.variables.items P pc
+        → IsBest p.now target.now known.now.variables.items (P ++ index_reads pos (expression_of e.now)) result }
 {
     let read = index_reads(e, pos, p, known, target);
     better(pc, read)
@@ -237,7 +244,9 @@ pub(crate) fn put_here(
     target: &Target,
 ) -> Option<Best>
     requires { IsKnownOf p.now target.now known.now }
-    ensures { (P : List APart) → IsBest p.now target.now known.now.variables.items P pc → IsBest p.now target.now known.now.variables.items (P ++ (reads WhenIndex pos (expression_of index.now) ++ index_reads pos (expression_of e.now))) result }
+    ensures { (P : List APart) → IsBest p.now target.now known.now.variables.items P pc
+        → IsBest p.now target.now known.now.variables.items
+            (P ++ (reads WhenIndex pos (expression_of index.now) ++ index_reads pos (expression_of e.now))) result }
 {
     let place = reads(index, How::ReadsInIndex, pos, p, known, target);
     let read = index_reads(e, pos, p, known, target);
@@ -256,7 +265,8 @@ fn around(
     target: &Target,
 ) -> Option<Best>
     requires { IsKnownOf p.now target.now known.now }
-    ensures { (P T : List APart) → IsBest p.now target.now known.now.variables.items P pc → IsBest p.now target.now known.now.variables.items T t → IsBest p.now target.now known.now.variables.items (P ++ (read_label WhenLabel pos labels.now ++ T)) result }
+    ensures { (P T : List APart) → IsBest p.now target.now known.now.variables.items P pc → IsBest p.now target.now known.now.variables.items T t
+        → IsBest p.now target.now known.now.variables.items (P ++ (read_label WhenLabel pos labels.now ++ T)) result }
 {
     let label = read_label(labels, How::HasReadLabel, pos, p, known, target);
     let time = better(label, t);
@@ -275,7 +285,9 @@ pub(crate) fn set_left(
     target: &Target,
 ) -> Option<Best>
     requires { IsKnownOf p.now target.now known.now }
-    ensures { (P T : List APart) → IsBest p.now target.now known.now.variables.items P pc → IsBest p.now target.now known.now.variables.items T t → IsBest p.now target.now known.now.variables.items (reads WhenReads pos (expression_of e.now) ++ (P ++ (read_label WhenLabel pos labels.now ++ T))) result }
+    ensures { (P T : List APart) → IsBest p.now target.now known.now.variables.items P pc → IsBest p.now target.now known.now.variables.items T t
+        → IsBest p.now target.now known.now.variables.items
+            (reads WhenReads pos (expression_of e.now) ++ (P ++ (read_label WhenLabel pos labels.now ++ T))) result }
 {
     let read = reads(e, How::Reads, pos, p, known, target);
     let rest = around(pc, t, pos, labels, p, known, target);
@@ -295,7 +307,10 @@ pub(crate) fn put_left(
     target: &Target,
 ) -> Option<Best>
     requires { IsKnownOf p.now target.now known.now }
-    ensures { (P T : List APart) → IsBest p.now target.now known.now.variables.items P pc → IsBest p.now target.now known.now.variables.items T t → IsBest p.now target.now known.now.variables.items (reads WhenReads pos (expression_of e.now) ++ (reads WhenIndex pos (expression_of index.now) ++ (P ++ (read_label WhenLabel pos labels.now ++ T)))) result }
+    ensures { (P T : List APart) → IsBest p.now target.now known.now.variables.items P pc → IsBest p.now target.now known.now.variables.items T t
+        → IsBest p.now target.now known.now.variables.items
+            (reads WhenReads pos (expression_of e.now) ++ (reads WhenIndex pos (expression_of index.now) ++ (P ++ (read_label WhenLabel pos labels.now ++ T))))
+            result }
 {
     let read = reads(e, How::Reads, pos, p, known, target);
     let place = reads(index, How::ReadsInIndex, pos, p, known, target);

@@ -42,7 +42,8 @@ fn new_at(p: &Program, known: &[Option<Cost>], found: &[Option<Found>], y: usize
 
 /// The cheaper of two costs.
 fn less(a: Option<Cost>, b: Option<Cost>) -> Option<Cost>
-    ensures { (s : Syntax) (ds : List (Option ACost)) (vs : List (Option AFound)) (n : ℕ) → IsLeastNew s ds vs n a → IsNewAt s ds vs n b → IsLeastNew s ds vs (n + 1) result }
+    ensures { (s : Syntax) (ds : List (Option ACost)) (vs : List (Option AFound)) (n : ℕ) → IsLeastNew s ds vs n a → IsNewAt s ds vs n b
+        → IsLeastNew s ds vs (n + 1) result }
 {
     match a {
         None => b,
@@ -98,7 +99,8 @@ fn settle_at(
     requires found { y < length found.now }
     requires room { y ≤ 4294967295 }
     ensures fit { length known.new.items ≡ length known.old.items }
-    ensures set { (ds : List (Option ACost)) → y < length ds → IsSetBy p.now ds found.now cost y known.old.items → IsSetBy p.now ds found.now cost (y + 1) known.new.items }
+    ensures set { (ds : List (Option ACost)) → y < length ds → IsSetBy p.now ds found.now cost y known.old.items
+        → IsSetBy p.now ds found.now cost (y + 1) known.new.items }
 {
     if is_new(p, known, found, y, cost) {
         known[y] = Some(cost);
@@ -116,6 +118,13 @@ fn settle(p: &Program, known: &mut Vec<Option<Cost>>, found: &[Option<Found>], c
     }
 }
 
+/// How many variables there are.
+fn count_of(known: &[Option<Cost>]) -> usize
+    ensures { result ≡ length known.now }
+{
+    known.len()
+}
+
 /// The first of the cheapest steps to each label, by what is known.
 fn found_with(
     alloc: Global,
@@ -126,7 +135,7 @@ fn found_with(
     requires { IsKnownOf p.now target.now known.now }
     ensures { IfOk result (λ v. AreSides p.now target.now known.now.variables.items (steps_of p.now) v) }
 {
-    let mut sides = no_sides(alloc, known.variables.len())?;
+    let mut sides = no_sides(alloc, count_of(&known.variables))?;
     let _end = list_pass(p.body(), None, None, &mut sides, p, known, target);
     Ok(sides)
 }

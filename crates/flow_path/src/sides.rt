@@ -52,8 +52,10 @@ fn found_by(rule: Rule, pos: Pos, side: Spot, best: Best) -> Option<Found>
 
 /// The first of the cheapest steps, where those by one more condition follow.
 fn then(slot: Option<Found>, rule: Rule, pos: Pos, side: Spot, best: Option<Best>) -> Option<Found>
-    ensures goal { (s : Syntax) (t : ATarget) (ds : List (Option ACost)) (ss : List AStep) (ps : List APart) → IsBest s t ds ps best → IsGoalBy s t rule pos side → IsFound (GoalCosts s t ds) ss slot → IsFound (GoalCosts s t ds) (ss ++ to rule pos side ps) result }
-    ensures side { (s : Syntax) (t : ATarget) (ds : List (Option ACost)) (y : ℕ) (ss : List AStep) (ps : List APart) → IsBest s t ds ps best → side ≡ AVariable y → IsFound (SideCosts s t ds y) ss slot → IsFound (SideCosts s t ds y) (ss ++ to rule pos side ps) result }
+    ensures goal { (s : Syntax) (t : ATarget) (ds : List (Option ACost)) (ss : List AStep) (ps : List APart) → IsBest s t ds ps best
+        → IsGoalBy s t rule pos side → IsFound (GoalCosts s t ds) ss slot → IsFound (GoalCosts s t ds) (ss ++ to rule pos side ps) result }
+    ensures side { (s : Syntax) (t : ATarget) (ds : List (Option ACost)) (y : ℕ) (ss : List AStep) (ps : List APart) → IsBest s t ds ps best
+        → side ≡ AVariable y → IsFound (SideCosts s t ds y) ss slot → IsFound (SideCosts s t ds y) (ss ++ to rule pos side ps) result }
 {
     match best {
         None => slot,
@@ -80,7 +82,8 @@ fn then_goal(
     p: &Program,
     target: &Target,
 ) -> Option<Found>
-    ensures { (ds : List (Option ACost)) (ss : List AStep) (ps : List APart) → IsBest p.now target.now ds ps best → IsFound (GoalCosts p.now target.now ds) ss slot → IsFound (GoalCosts p.now target.now ds) (ss ++ to rule pos side ps) result }
+    ensures { (ds : List (Option ACost)) (ss : List AStep) (ps : List APart) → IsBest p.now target.now ds ps best
+        → IsFound (GoalCosts p.now target.now ds) ss slot → IsFound (GoalCosts p.now target.now ds) (ss ++ to rule pos side ps) result }
 {
     if is_goal(rule, pos, side, p, target) {
         then(slot, rule, pos, side, best)
@@ -117,7 +120,8 @@ impl Sides {
         p: &Program,
         target: &Target,
     )
-        ensures { (ds : List (Option ACost)) (ss : List AStep) (ps : List APart) → IsBest p.now target.now ds ps best → AreSides p.now target.now ds ss self.old → AreSides p.now target.now ds (ss ++ to rule pos side ps) self.new }
+        ensures { (ds : List (Option ACost)) (ss : List AStep) (ps : List APart) → IsBest p.now target.now ds ps best → AreSides p.now target.now ds ss self.old
+            → AreSides p.now target.now ds (ss ++ to rule pos side ps) self.new }
     {
         self.goal = then_goal(self.goal, rule, pos, side, best, p, target);
         match variable_of(side, self.variables.len()) {
@@ -139,7 +143,8 @@ impl Sides {
         p: &Program,
         target: &Target,
     )
-        ensures { (ds : List (Option ACost)) (ss : List AStep) (ps : List APart) → IsBest p.now target.now ds ps best → AreSides p.now target.now ds ss self.old → AreSides p.now target.now ds (ss ++ to_write_label rule pos labels.now ps) self.new }
+        ensures { (ds : List (Option ACost)) (ss : List AStep) (ps : List APart) → IsBest p.now target.now ds ps best → AreSides p.now target.now ds ss self.old
+            → AreSides p.now target.now ds (ss ++ to_write_label rule pos labels.now ps) self.new }
     {
         if let Some(pair) = labels {
             self.add(rule, pos, Spot::Command(pair.1), best, p, target);

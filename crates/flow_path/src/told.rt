@@ -25,8 +25,10 @@ fn found_at(found: &[Option<Found>], y: usize) -> Option<Found>
 
 /// The first of the cheapest steps to an omitted label.
 fn step_to(p: &Program, all: &Sides, spot: &Spot) -> Option<Found>
-    ensures some { IfSome result (λ f. (n : ℕ) × (spot.now ≡ AVariable n) × (written p.now (AVariable n) ≡ None) × (slice_index_or all.now.variables.items n None ≡ Some f)) }
-    ensures none { IfNone result ((n : ℕ) → spot.now ≡ AVariable n → written p.now (AVariable n) ≡ None → slice_index_or all.now.variables.items n None ≡ None) }
+    ensures some { IfSome result (λ f. (n : ℕ) × (spot.now ≡ AVariable n) × (written p.now (AVariable n) ≡ None)
+        × (slice_index_or all.now.variables.items n None ≡ Some f)) }
+    ensures none { IfNone result ((n : ℕ) → spot.now ≡ AVariable n → written p.now (AVariable n) ≡ None
+        → slice_index_or all.now.variables.items n None ≡ None) }
 {
     match spot {
         Spot::Variable(y) => {

@@ -1,8 +1,9 @@
-use Rattle.std.proofs.Common.{◌≡◌, ◌+◌, ◌++◌, ap, ◌∙◌, sym, subst, drop}
+use Rattle.std.proofs.Common.{rules, ◌≡◌, ◌+◌, ◌*◌, ◌<◌, ◌++◌, refl, ap, ◌∙◌, sym, subst, arith, drop}
+use Rattle.std.proofs.lemmas.List.{drop_all}
 use Rattle.mit_syntax.specs.Expression.{expression_of}
 use Rattle.mit_syntax.specs.Todo.{Done}
-use Rattle.mit_syntax.specs.Plan.{Written, form_plan, command_plan, list_plan}
-use Rattle.timing_types.proofs.Parts.{if_parts, while_parts, mitigate_parts, cut}
+use Rattle.mit_syntax.specs.Plan.{Written, form_plan, command_plan, list_plan, form_count, count}
+use Rattle.timing_types.proofs.Parts.{if_parts, while_parts, mitigate_parts, if_count, while_count, mitigate_count, cut, cut_count, drop_count}
 use Rattle.timing_types.specs.declared.rule.Rule.TheVariants.{Skip as RSkip, Sleep as RSleep}
 use Rattle.flow_path.specs.declared.step.Spot.TheVariants.{Variable as OfVariable}
 use Rattle.flow_path.specs.declared.step.How.TheVariants.{Reads, ReadsInIndex, HasReadLabel, AfterReadLabel}
@@ -73,10 +74,10 @@ command_pass-returns-in-While t c =
     let en = subst (λ z. ComesTo c.args.p.now c.args.target.now c.args.known.now.variables.items c.after-start-in-While.result c.list_end-end.result (list_plan z) Done) same c.list_end-end.ensures in
     λ rest.
     let q = while_parts c.args.c.now.form c.in-While.guard c.in-While.body c.deref-in-While-2.result.now c.in-While.is c.deref-in-While-2.ensures.value w rest in
-    passes_while c.args.p.now c.args.target.now c.args.known.now.variables.items c.args.sides.now c.add_label-in-While.new.self c.list_pass-_again.new.sides
-    c.args.pc c.args.t c.here-own-in-While.result c.after-start-in-While.result c.list_end-end.result c.inside-inner-in-While.result c.list_pass-_again.result
+    passes_while c.args.p.now c.args.target.now c.args.known.now.variables.items c.args.sides.now c.add_label-in-While.new.self c.list_pass-again.new.sides
+    c.args.pc c.args.t c.here-own-in-While.result c.after-start-in-While.result c.list_end-end.result c.inside-inner-in-While.result c.list_pass-again.result
     (command_plan c.args.c.now rest) (list_plan body) rest w (expression_of c.in-While.guard) q
-    c.here-own-in-While.ensures (c.add_label-in-While.ensures c.args.known.now.variables.items) c.after-start-in-While.ensures en c.inside-inner-in-While.ensures c.list_pass-_again.ensures
+    c.here-own-in-While.ensures (c.add_label-in-While.ensures c.args.known.now.variables.items) c.after-start-in-While.ensures en c.inside-inner-in-While.ensures c.list_pass-again.ensures
 
 pub command_pass-returns-in-Mitigate : goal.command_pass-returns-in-Mitigate
 command_pass-returns-in-Mitigate t c =
@@ -99,3 +100,50 @@ list_pass-loop-c-preserved t c =
     let h = subst (λ z. Passes c.args.p.now c.args.target.now c.args.known.now.variables.items c.args.sides.now c.loop-c.sides c.args.pc c.args.t c.loop-c.end (list_plan c.args.commands.now) z) e c.loop-c.invariant in
     passes_then c.args.p.now c.args.target.now c.args.known.now.variables.items c.args.sides.now c.loop-c.sides c.command_pass-end.new.sides c.args.pc c.args.t c.loop-c.end c.command_pass-end.result
     (list_plan c.args.commands.now) (command_plan c.c-item.result more) more h (c.command_pass-end.ensures more)
+
+pub list_pass-returns : goal.list_pass-returns
+list_pass-returns t c =
+    subst
+    (λ z. Passes c.args.p.now c.args.target.now c.args.known.now.variables.items c.args.sides.now c.loop-c.sides c.args.pc c.args.t c.loop-c.end (list_plan c.args.commands.now) (list_plan z))
+    (drop_all c.loop-c.c-index c.args.commands.now c.loop-c-test.false) c.loop-c.invariant
+
+pub command_pass-list_pass-one-requires : goal.command_pass-list_pass-one-requires
+command_pass-list_pass-one-requires t c =
+    let w : Written = record { pos = c.args.c.now.pos; labels = c.args.c.now.labels } in
+    let d = c.decreases in
+    let n = if_count c.args.c.now.form c.in-If.guard c.in-If.then_part c.in-If.else_part c.deref.result.now c.in-If.else_part.items c.in-If.is c.deref.ensures.value refl w in
+    let smaller : 2 * count (list_plan c.deref.result.now) + 1 < 2 * form_count c.args.c.now.form w = omega arith in
+    (search rules, c.requires)
+
+pub command_pass-list_pass-other-requires : goal.command_pass-list_pass-other-requires
+command_pass-list_pass-other-requires t c =
+    let w : Written = record { pos = c.args.c.now.pos; labels = c.args.c.now.labels } in
+    let d = c.decreases in
+    let n = if_count c.args.c.now.form c.in-If.guard c.in-If.then_part c.in-If.else_part c.deref.result.now c.deref-in-If.result.now c.in-If.is c.deref.ensures.value c.deref-in-If.ensures.value w in
+    let smaller : 2 * count (list_plan c.deref-in-If.result.now) + 1 < 2 * form_count c.args.c.now.form w = omega arith in
+    (search rules, c.requires)
+
+pub command_pass-list_pass-again-requires : goal.command_pass-list_pass-again-requires
+command_pass-list_pass-again-requires t c =
+    let w : Written = record { pos = c.args.c.now.pos; labels = c.args.c.now.labels } in
+    let d = c.decreases in
+    let n = while_count c.args.c.now.form c.in-While.guard c.in-While.body c.deref-in-While-2.result.now c.in-While.is c.deref-in-While-2.ensures.value w in
+    let smaller : 2 * count (list_plan c.deref-in-While-2.result.now) + 1 < 2 * form_count c.args.c.now.form w = omega arith in
+    (search rules, c.requires)
+
+pub command_pass-list_pass-last-requires : goal.command_pass-list_pass-last-requires
+command_pass-list_pass-last-requires t c =
+    let w : Written = record { pos = c.args.c.now.pos; labels = c.args.c.now.labels } in
+    let d = c.decreases in
+    let n = mitigate_count c.args.c.now.form c.in-Mitigate.mark c.in-Mitigate.estimate c.in-Mitigate.level c.in-Mitigate.body c.deref-in-Mitigate.result.now c.in-Mitigate.is c.deref-in-Mitigate.ensures.value w in
+    let smaller : 2 * count (list_plan c.deref-in-Mitigate.result.now) + 1 < 2 * form_count c.args.c.now.form w = omega arith in
+    (search rules, c.requires)
+
+pub list_pass-command_pass-end-requires : goal.list_pass-command_pass-end-requires
+list_pass-command_pass-end-requires t c =
+    let w : Written = record { pos = c.c-item.result.pos; labels = c.c-item.result.labels } in
+    let d = c.decreases in
+    let n = cut_count c.args.commands.now c.loop-c.c-index c.c-item.result c.loop-c-test.true c.c-item.is in
+    let all = drop_count c.args.commands.now c.loop-c.c-index in
+    let smaller : 2 * form_count c.c-item.result.form w < 2 * count (list_plan c.args.commands.now) + 1 = omega arith in
+    (search rules, c.requires)
