@@ -1,5 +1,5 @@
 -- The first of the cheapest items of a list.
-use Rattle.std.proofs.Common.{◌≡◌, ℕ, zero, suc, ◌<◌, ◌≤◌, ◌+◌, refl, sym, ap, ◌∙◌, subst, List, [], ◌∷◌, ◌++◌, map, length, arith, append_assoc, append-nil, ⊎_elim, drop, replicate, get_or, slice_set, length-set, get_or-set_same, get_or-set_other}
+use Rattle.std.proofs.Common.{◌≡◌, ℕ, zero, suc, ◌<◌, ◌≤◌, ◌+◌, refl, sym, ap, ◌∙◌, subst, List, [], ◌∷◌, ◌++◌, map, length, arith, append_assoc, append-nil, ⊎_elim, replicate, slice_set, length-set, get_or-set_same, get_or-set_other}
 use Rattle.std.specs.Prelude.{Option, None, Some, Contains, slice_get, slice_index_or}
 use Rattle.std.proofs.lemmas.Option.{none-some, same_Some}
 use Rattle.std.proofs.lemmas.Bool.{cases_eq}
@@ -7,25 +7,23 @@ use Rattle.std.proofs.lemmas.List.{length-replicate}
 use Rattle.std.proofs.lemmas.List.Elements.{Contains-append_right, Contains-append_cases}
 use Rattle.flow_path.specs.declared.step.Part.{Part}
 use Rattle.flow_path.specs.declared.step.Step.{Step}
+use Rattle.flow_path.specs.declared.step.Spot.{Spot}
+use Rattle.text_base.specs.declared.pos.Pos.{Pos}
+use Rattle.label_lattice.specs.declared.label.Label.{Label}
+use Rattle.timing_types.specs.declared.rule.Rule.{Rule}
 use Rattle.mit_syntax.specs.Program.{Syntax}
-use Rattle.flow_path.specs.declared.step.Spot.TheVariants.{Variable}
-use Rattle.flow_path.specs.declared.graph.Node.{Node}
-use Rattle.flow_path.specs.declared.graph.Node.TheVariants.{Nothing, One, Both}
-use Rattle.flow_path.specs.declared.graph.Condition.{Condition}
+use Rattle.flow_path.specs.declared.step.Spot.TheVariants.{Variable, Command}
 use Rattle.flow_path.specs.declared.cost.Cost.{Cost}
 use Rattle.flow_path.specs.declared.target.Target.{Target}
 use Rattle.flow_path.specs.declared.best.Best.{Best}
 use Rattle.flow_path.specs.declared.sides.Found.{Found}
 use Rattle.flow_path.specs.declared.sides.Sides.{Sides}
-use Rattle.flow_path.specs.Steps.{to}
+use Rattle.flow_path.specs.Steps.{to, to_write_label}
 use Rattle.flow_path.specs.Costs.{IsLe, IsLess}
 use Rattle.flow_path.specs.Targets.{IsGoalBy}
-use Rattle.flow_path.specs.Graph.{IsBoth, IsList, nothing, single, both, AreSteps}
-use Rattle.flow_path.specs.Search.{step_by}
-use Rattle.flow_path.specs.Distances.{IsFirst, HaveNone, cost_to, and_then, PartCosts, SideCosts, GoalCosts, IsBest, AreBests, best_by, IsFound, AreSides}
+use Rattle.flow_path.specs.Distances.{IsFirst, HaveNone, cost_to, and_then, PartCosts, SideCosts, GoalCosts, IsBest, best_by, IsFound, AreSides}
 use Rattle.flow_path.proofs.Costing.{le_refl, le_trans, less_le, less_then}
-use Rattle.flow_path.proofs.Nodes.{list_within}
-use Rattle.flow_path.proofs.Searching.{TwoParts, two_parts, one_part, same_left, same_right, same_variable}
+use Rattle.flow_path.proofs.Searching.{same_variable}
 
 map_append : {A : Type 0} {B : Type 0} (g : A → B) (xs ys : List A) → map g (xs ++ ys) ≡ map g xs ++ map g ys
 map_append g [] ys = refl
@@ -94,121 +92,95 @@ module _ (V : Part → Cost → Type 0) (W : Step → Cost → Type 0) (g : Part
   then_keep ss ps p c x e k l f = first_left Step W ss (map g ps) x e k (λ y d i w. le_trans e c d l ((first_map ps p c f).least y d i w))
 
 -- the parts of two lists
-module _ (s : Syntax) (t : Target) (ds : List (Option Cost)) (ns : List Node) where
+module _ (s : Syntax) (t : Target) (ds : List (Option Cost)) where
   abbrev V : Part → Cost → Type 0
   V = PartCosts s t ds
 
-  pub both_left : (ps qs : List Part) (b : Best) → IsBest s t ds ns ps (Some b) → ((y : Part) (d : Cost) → Contains qs y → PartCosts s t ds y d → IsLe b.cost d) → IsBest s t ds ns (ps ++ qs) (Some b)
-  both_left ps qs b h k = (h.0, h.1, first_left Part V ps qs h.0 b.cost h.2 k)
+  both_left : (ps qs : List Part) (b : Best) → IsBest s t ds ps (Some b) → ((y : Part) (d : Cost) → Contains qs y → PartCosts s t ds y d → IsLe b.cost d) → IsBest s t ds (ps ++ qs) (Some b)
+  both_left ps qs b h k = first_left Part V ps qs b.part b.cost h k
 
-  pub both_right : (ps qs : List Part) (b : Best) → ((y : Part) (d : Cost) → Contains ps y → PartCosts s t ds y d → IsLess b.cost d) → IsBest s t ds ns qs (Some b) → IsBest s t ds ns (ps ++ qs) (Some b)
-  both_right ps qs b k h = (h.0, h.1, first_right Part V ps qs h.0 b.cost k h.2)
+  both_right : (ps qs : List Part) (b : Best) → ((y : Part) (d : Cost) → Contains ps y → PartCosts s t ds y d → IsLess b.cost d) → IsBest s t ds qs (Some b) → IsBest s t ds (ps ++ qs) (Some b)
+  both_right ps qs b k h = first_right Part V ps qs b.part b.cost k h
 
   -- a left side that is empty
-  pub then_right : (ps qs : List Part) (o : Option Best) → HaveNone (PartCosts s t ds) ps → IsBest s t ds ns qs o → IsBest s t ds ns (ps ++ qs) o
+  pub then_right : (ps qs : List Part) (o : Option Best) → HaveNone (PartCosts s t ds) ps → IsBest s t ds qs o → IsBest s t ds (ps ++ qs) o
   then_right ps qs None h k = none_append Part V ps qs h k
   then_right ps qs (Some b) h k = both_right ps qs b (λ y d c v. absurd (h y d c v)) k
 
-  pub then_left : (ps qs : List Part) (b : Best) → IsBest s t ds ns ps (Some b) → HaveNone (PartCosts s t ds) qs → IsBest s t ds ns (ps ++ qs) (Some b)
+  pub then_left : (ps qs : List Part) (b : Best) → IsBest s t ds ps (Some b) → HaveNone (PartCosts s t ds) qs → IsBest s t ds (ps ++ qs) (Some b)
   then_left ps qs b h k = both_left ps qs b h (λ y d c v. absurd (k y d c v))
 
-  pub the_less : (ps qs : List Part) (a b : Best) → IsBest s t ds ns ps (Some a) → IsBest s t ds ns qs (Some b) → IsLess b.cost a.cost → IsBest s t ds ns (ps ++ qs) (Some b)
-  the_less ps qs a b h k l = both_right ps qs b (λ y d c v. less_then b.cost a.cost d l (h.2.least y d c v)) k
+  pub the_less : (ps qs : List Part) (a b : Best) → IsBest s t ds ps (Some a) → IsBest s t ds qs (Some b) → IsLess b.cost a.cost → IsBest s t ds (ps ++ qs) (Some b)
+  the_less ps qs a b h k l = both_right ps qs b (λ y d c v. less_then b.cost a.cost d l (h.least y d c v)) k
 
-  pub the_same : (ps qs : List Part) (a b : Best) → IsBest s t ds ns ps (Some a) → IsBest s t ds ns qs (Some b) → IsLe a.cost b.cost → IsBest s t ds ns (ps ++ qs) (Some a)
-  the_same ps qs a b h k l = both_left ps qs a h (λ y d c v. le_trans a.cost b.cost d l (k.2.least y d c v))
+  pub the_same : (ps qs : List Part) (a b : Best) → IsBest s t ds ps (Some a) → IsBest s t ds qs (Some b) → IsLe a.cost b.cost → IsBest s t ds (ps ++ qs) (Some a)
+  the_same ps qs a b h k l = both_left ps qs a h (λ y d c v. le_trans a.cost b.cost d l (k.least y d c v))
 
   -- one part
   only_in : (p y : Part) → Contains (p ∷ []) y → p ≡ y
   only_in p y (zero, l, e) = e
   only_in p y (suc k, l, e) = absurd (omega (arith, l))
 
-  only_best : (i : ℕ) (p : Part) → slice_get ns i ≡ Some (One p) → (o : Option Cost) → and_then (cost_to s t ds p.spot) p.how ≡ o → IsBest s t ds ns (p ∷ []) (best_by i o)
-  only_best i p at None e = λ y d c v. none-some d (sym (ap (λ (z : Part). and_then (cost_to s t ds z.spot) z.how) (sym (only_in p y c)) ∙ e) ∙ v)
-  only_best i p at (Some c) e = (
-    p,
-    at,
-    record {
-      before = [];
-      after = [];
-      is = refl;
-      has = e;
-      dearer = λ y d i v. let q = i.1 in absurd (omega (arith, q));
-      least = λ y d i v.
-          let same : c ≡ d = same_Some c d (sym (ap (λ (z : Part). and_then (cost_to s t ds z.spot) z.how) (sym (only_in p y i)) ∙ e) ∙ v) in
-          subst (λ z. IsLe c z) same (le_refl c);
-    },
-  )
+  only_best : (p : Part) (o : Option Cost) → and_then (cost_to s t ds p.spot) p.how ≡ o → IsBest s t ds (p ∷ []) (best_by p o)
+  only_best p None e = λ y d c v. none-some d (sym (ap (λ (z : Part). and_then (cost_to s t ds z.spot) z.how) (sym (only_in p y c)) ∙ e) ∙ v)
+  only_best p (Some c) e = record {
+    before = [];
+    after = [];
+    is = refl;
+    has = e;
+    dearer = λ y d i v. let q = i.1 in absurd (omega (arith, q));
+    least = λ y d i v.
+        let same : c ≡ d = same_Some c d (sym (ap (λ (z : Part). and_then (cost_to s t ds z.spot) z.how) (sym (only_in p y i)) ∙ e) ∙ v) in
+        subst (λ z. IsLe c z) same (le_refl c);
+  }
 
-  pub one_best : (i : ℕ) (p : Part) → slice_get ns i ≡ Some (One p) → (ps : List Part) → IsList ns i ps → IsBest s t ds ns ps (best_by i (and_then (cost_to s t ds p.spot) p.how))
-  one_best i p at ps h = subst (λ z. IsBest s t ds ns z (best_by i (and_then (cost_to s t ds p.spot) p.how))) (sym (one_part ns i p ps h at)) (only_best i p at (and_then (cost_to s t ds p.spot) p.how) refl)
+  pub single_best : (p : Part) → IsBest s t ds (p ∷ []) (best_by p (and_then (cost_to s t ds p.spot) p.how))
+  single_best p = only_best p (and_then (cost_to s t ds p.spot) p.how) refl
 
-  no_parts : (i : ℕ) (ps : List Part) → IsList ns i ps → slice_get ns i ≡ Some Nothing → ps ≡ []
-  no_parts i ps (nothing e h) f = h
-  no_parts i ps (single {p = p} e h) f = let z : Some (One p) ≡ Some Nothing = sym e ∙ f in cc
-  no_parts i ps (both {a = a} {b = b} e k m h) f = let z : Some (Both a b) ≡ Some Nothing = sym e.at ∙ f in cc
+  -- no parts
+  pub nothing_best : IsBest s t ds [] None
+  nothing_best y d c v = let q = c.1 in omega (arith, q)
 
-  pub nothing_best : (i : ℕ) (ps : List Part) → slice_get ns i ≡ Some Nothing → IsList ns i ps → IsBest s t ds ns ps None
-  nothing_best i ps at h = subst (λ z. IsBest s t ds ns z None) (sym (no_parts i ps h at)) (λ y d c v. let q = c.1 in omega (arith, q))
-
-  below : (i a b : ℕ) (ps : List Part) → IsList ns i ps → slice_get ns i ≡ Some (Both a b) → (a < i) × (b < i)
-  below i a b ps (nothing e h) f = let z : Some Nothing ≡ Some (Both a b) = sym e ∙ f in cc
-  below i a b ps (single {p = p} e h) f = let z : Some (One p) ≡ Some (Both a b) = sym e ∙ f in cc
-  below i a b ps (both {a = c} {b = d} e k m h) f =
-      let z = same_Some (Both c d) (Both a b) (sym e.at ∙ f) in
-      (subst (λ y. y < i) (same_left c d a b z) e.left, subst (λ y. y < i) (same_right c d a b z) e.right)
-
-  pub two_best : (i a b : ℕ) (found : List (Option Best)) (r : Option Best) → slice_get ns i ≡ Some (Both a b) → AreBests s t ds ns i found →
-      ((ps qs : List Part) → IsBest s t ds ns ps (slice_index_or found a None) → IsBest s t ds ns qs (slice_index_or found b None) → IsBest s t ds ns (ps ++ qs) r) → (ps : List Part) → IsList ns i ps → IsBest s t ds ns ps r
-  two_best i a b found r at h k ps l =
-      let w = two_parts ns i a b ps l at in
-      let o = below i a b ps l at in
-      subst (λ z. IsBest s t ds ns z r) (sym w.is) (k w.left w.right (h a w.left o.0 w.lefts) (h b w.right o.1 w.rights))
+-- the step by a condition from a part
+abbrev pub step_at : Rule → Pos → Spot → Part → Step
+step_at r q side p = record { rule = r; pos = q; part = p; side = side }
 
 -- steps by a condition that has no cost
-pub then_skips : (W : Step → Cost → Type 0) (c : Condition) (ss : List Step) (ps : List Part) (o : Option Found) → ((p : Part) (d : Cost) → W (step_by c p) d → ⊥) → IsFound W ss o → IsFound W (ss ++ to c.rule c.pos c.side ps) o
-then_skips W c ss ps o h k = go o k
+pub then_skips : (W : Step → Cost → Type 0) (r : Rule) (q : Pos) (side : Spot) (ss : List Step) (ps : List Part) (o : Option Found) → ((p : Part) (d : Cost) → W (step_at r q side p) d → ⊥) → IsFound W ss o → IsFound W (ss ++ to r q side ps) o
+then_skips W r q side ss ps o h k = go o k
   where
-    none : HaveNone W (map (step_by c) ps)
-    none y d i w = let r = contains_map (step_by c) ps y i in h r.0 d (subst (λ z. W z d) (sym r.2) w)
+    none : HaveNone W (map (step_at r q side) ps)
+    none y d i w = let n = contains_map (step_at r q side) ps y i in h n.0 d (subst (λ z. W z d) (sym n.2) w)
 
-    go : (o : Option Found) → IsFound W ss o → IsFound W (ss ++ map (step_by c) ps) o
-    go None k = none_append Step W ss (map (step_by c) ps) k none
-    go (Some f) k = first_left Step W ss (map (step_by c) ps) f.step f.cost k (λ y d i w. absurd (none y d i w))
+    go : (o : Option Found) → IsFound W ss o → IsFound W (ss ++ map (step_at r q side) ps) o
+    go None k = none_append Step W ss (map (step_at r q side) ps) k none
+    go (Some f) k = first_left Step W ss (map (step_at r q side) ps) f.step f.cost k (λ y d i w. absurd (none y d i w))
 
 -- the steps by one more condition
-module _ (s : Syntax) (t : Target) (ds : List (Option Cost)) (ss : List Step) (ps : List Part) (c : Condition) (v : Sides) (S : AreSides s t ds ss v) (w : Sides) (goal : IsFound (GoalCosts s t ds) (ss ++ to c.rule c.pos c.side ps) w.goal) where
-  pub add_side : (y : ℕ) → c.side ≡ Variable y → y < length v.variables.items → (r : Option Found) → IsFound (SideCosts s t ds y) (ss ++ to c.rule c.pos c.side ps) r → w.variables.items ≡ slice_set v.variables.items y r → w.goal ≡ w.goal →
-      AreSides s t ds (ss ++ to c.rule c.pos c.side ps) w
-  add_side y side l r found is _ = record {
-    fit = ap length is ∙ length-set v.variables.items y r ∙ S.fit;
+module _ (s : Syntax) (t : Target) (ds : List (Option Cost)) (ss : List Step) (ps : List Part) (r : Rule) (q : Pos) (side : Spot) (v : Sides) (S : AreSides s t ds ss v) (w : Sides) (goal : IsFound (GoalCosts s t ds) (ss ++ to r q side ps) w.goal) where
+  pub add_side : (y : ℕ) → side ≡ Variable y → y < length v.variables.items → (o : Option Found) → IsFound (SideCosts s t ds y) (ss ++ to r q side ps) o → w.variables.items ≡ slice_set v.variables.items y o → w.goal ≡ w.goal →
+      AreSides s t ds (ss ++ to r q side ps) w
+  add_side y at l o found is _ = record {
+    fit = ap length is ∙ length-set v.variables.items y o ∙ S.fit;
     goal = goal;
-    each = λ z i. subst (λ u. IsFound (SideCosts s t ds z) (ss ++ to c.rule c.pos c.side ps) (slice_index_or u z None)) (sym is)
+    each = λ z i. subst (λ u. IsFound (SideCosts s t ds z) (ss ++ to r q side ps) (slice_index_or u z None)) (sym is)
         (⊎_elim
         (λ (e : z ≡ y).
-        subst (λ u. IsFound (SideCosts s t ds u) (ss ++ to c.rule c.pos c.side ps) (slice_index_or (slice_set v.variables.items y r) u None)) (sym e)
-        (subst (λ u. IsFound (SideCosts s t ds y) (ss ++ to c.rule c.pos c.side ps) u) (sym (get_or-set_same v.variables.items y r None l)) found))
+        subst (λ u. IsFound (SideCosts s t ds u) (ss ++ to r q side ps) (slice_index_or (slice_set v.variables.items y o) u None)) (sym e)
+        (subst (λ u. IsFound (SideCosts s t ds y) (ss ++ to r q side ps) u) (sym (get_or-set_same v.variables.items y o None l)) found))
         (λ (e : z ≡ y → ⊥).
-        subst (λ u. IsFound (SideCosts s t ds z) (ss ++ to c.rule c.pos c.side ps) u) (sym (get_or-set_other v.variables.items y z r None e))
-        (then_skips (SideCosts s t ds z) c ss ps (slice_index_or v.variables.items z None) (λ p d x. e (same_variable z y (sym x.0 ∙ side))) (S.each z i)))
+        subst (λ u. IsFound (SideCosts s t ds z) (ss ++ to r q side ps) u) (sym (get_or-set_other v.variables.items y z o None e))
+        (then_skips (SideCosts s t ds z) r q side ss ps (slice_index_or v.variables.items z None) (λ p d x. e (same_variable z y (sym x.0 ∙ at))) (S.each z i)))
         (cases_eq z y));
   }
 
-  pub skip_side : ((y : ℕ) → y < length v.variables.items → c.side ≡ Variable y → ⊥) → w.variables.items ≡ v.variables.items → w.goal ≡ w.goal → AreSides s t ds (ss ++ to c.rule c.pos c.side ps) w
+  pub skip_side : ((y : ℕ) → y < length v.variables.items → side ≡ Variable y → ⊥) → w.variables.items ≡ v.variables.items → w.goal ≡ w.goal → AreSides s t ds (ss ++ to r q side ps) w
   skip_side none is _ = record {
     fit = ap length is ∙ S.fit;
     goal = goal;
-    each = λ z i. subst (λ u. IsFound (SideCosts s t ds z) (ss ++ to c.rule c.pos c.side ps) (slice_index_or u z None)) (sym is)
-        (then_skips (SideCosts s t ds z) c ss ps (slice_index_or v.variables.items z None) (λ p d x. none z (let f = S.fit in omega (arith, i, f)) x.0) (S.each z i));
+    each = λ z i. subst (λ u. IsFound (SideCosts s t ds z) (ss ++ to r q side ps) (slice_index_or u z None)) (sym is)
+        (then_skips (SideCosts s t ds z) r q side ss ps (slice_index_or v.variables.items z None) (λ p d x. none z (let f = S.fit in omega (arith, i, f)) x.0) (S.each z i));
   }
-
--- the steps by the first k conditions were added
-pub record IsPart (s : Syntax) (t : Target) (ds : List (Option Cost)) (ns : List Node) (cs : List Condition) (ss : List Step) (k : ℕ) (v : Sides) : Type 0 where
-  pub done : List Step
-  pub left : List Step
-  pub is : ss ≡ done ++ left
-  pub rest : AreSteps ns (drop k cs) left
-  pub sides : AreSides s t ds done v
 
 abbrev no_found : Option Found
 no_found = None
@@ -218,46 +190,14 @@ none_at zero y = refl
 none_at (suc n) zero = refl
 none_at (suc n) (suc y) = none_at n y
 
-pub part_begins : (s : Syntax) (t : Target) (ds : List (Option Cost)) (ns : List Node) (cs : List Condition) (ss : List Step) (n : ℕ) (v : Sides) → length ds ≡ n → AreSteps ns cs ss → v.goal ≡ None → v.variables.items ≡ replicate n None → IsPart s t ds ns cs ss 0 v
-part_begins s t ds ns cs ss n v e h goal is = record {
-  done = [];
-  left = ss;
-  is = refl;
-  rest = h;
-  sides = record {
-    fit = ap length is ∙ length-replicate n None ∙ sym e;
-    goal = subst (λ z. IsFound (GoalCosts s t ds) [] z) (sym goal) (λ y d c w. let q = c.1 in omega (arith, q));
-    each = λ y i. subst (λ z. IsFound (SideCosts s t ds y) [] (slice_index_or z y None)) (sym is) (subst (λ z. IsFound (SideCosts s t ds y) [] z) (sym (none_at n y)) (λ u d c w. let q = c.1 in omega (arith, q)));
-  };
+-- those by no conditions
+pub sides_begin : (s : Syntax) (t : Target) (ds : List (Option Cost)) (n : ℕ) (v : Sides) → length ds ≡ n → v.goal ≡ None → v.variables.items ≡ replicate n None → AreSides s t ds [] v
+sides_begin s t ds n v e goal is = record {
+  fit = ap length is ∙ length-replicate n None ∙ sym e;
+  goal = subst (λ z. IsFound (GoalCosts s t ds) [] z) (sym goal) (λ y d c w. let q = c.1 in omega (arith, q));
+  each = λ y i. subst (λ z. IsFound (SideCosts s t ds y) [] (slice_index_or z y None)) (sym is) (subst (λ z. IsFound (SideCosts s t ds y) [] z) (sym (none_at n y)) (λ u d c w. let q = c.1 in omega (arith, q)));
 }
 
-drop_at : (cs : List Condition) (k : ℕ) (d : Condition) → k < length cs → drop k cs ≡ get_or cs k d ∷ drop (suc k) cs
-drop_at [] k d h = absurd (omega (arith, h))
-drop_at (c ∷ cs) zero d h = refl
-drop_at (c ∷ cs) (suc k) d h = drop_at cs k d (omega (arith, h))
-
-drop_all : (cs : List Condition) (k : ℕ) → length cs ≤ k → drop k cs ≡ []
-drop_all [] zero h = refl
-drop_all [] (suc k) h = refl
-drop_all (c ∷ cs) zero h = absurd (omega (arith, h))
-drop_all (c ∷ cs) (suc k) h = drop_all cs k (omega (arith, h))
-
-pub part_goes : (s : Syntax) (t : Target) (ds : List (Option Cost)) (ns : List Node) (cs : List Condition) (ss : List Step) (k : ℕ) (v w : Sides) (d : Condition) (found : List (Option Best)) → k < length cs → AreBests s t ds ns (length ns) found →
-    ((done : List Step) (ps : List Part) → IsBest s t ds ns ps (slice_index_or found (get_or cs k d).parts None) → AreSides s t ds done v → AreSides s t ds (done ++ to (get_or cs k d).rule (get_or cs k d).pos (get_or cs k d).side ps) w) →
-    IsPart s t ds ns cs ss k v → IsPart s t ds ns cs ss (k + 1) w
-part_goes s t ds ns cs ss k v w d found l bests add h =
-    let r : AreSteps ns (get_or cs k d ∷ drop (suc k) cs) h.left = subst (λ z. AreSteps ns z h.left) (drop_at cs k d l) h.rest in
-    let n : suc k ≡ k + 1 = omega arith in
-    let best = bests (get_or cs k d).parts r.0 (list_within ns (get_or cs k d).parts r.0 r.2) r.2 in
-    record {
-      done = h.done ++ to (get_or cs k d).rule (get_or cs k d).pos (get_or cs k d).side r.0;
-      left = r.1;
-      is = h.is ∙ ap (λ z. h.done ++ z) r.3 ∙ sym (append_assoc h.done (to (get_or cs k d).rule (get_or cs k d).pos (get_or cs k d).side r.0) r.1);
-      rest = subst (λ z. AreSteps ns (drop z cs) r.1) n r.4;
-      sides = add h.done r.0 best h.sides;
-    }
-
-pub part_ends : (s : Syntax) (t : Target) (ds : List (Option Cost)) (ns : List Node) (cs : List Condition) (ss : List Step) (k : ℕ) (v : Sides) → length cs ≤ k → IsPart s t ds ns cs ss k v → AreSides s t ds ss v
-part_ends s t ds ns cs ss k v l h =
-    let none : h.left ≡ [] = subst (λ z. AreSteps ns z h.left) (drop_all cs k l) h.rest in
-    subst (λ z. AreSides s t ds z v) (sym (h.is ∙ ap (λ z. h.done ++ z) none ∙ append-nil h.done)) h.sides
+-- where a write label is written, the condition on it was added
+pub label_added : (s : Syntax) (t : Target) (ds : List (Option Cost)) (ss : List Step) (v : Sides) → AreSides s t ds ss v → AreSides s t ds (ss ++ []) v
+label_added s t ds ss v h = subst (λ z. AreSides s t ds z v) (sym (append-nil ss)) h

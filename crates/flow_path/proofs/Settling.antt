@@ -1,6 +1,6 @@
 -- What each step of the search for the cheapest costs keeps.
 use Rattle.std.proofs.Common.{◌≡◌, ℕ, zero, suc, ◌+◌, ◌<◌, ◌≤◌, refl, sym, ap, ◌∙◌, subst, List, [], ◌∷◌, ◌++◌, map, length, arith, ⊎_elim, inl, inr, get_or, slice_set, length-append, length-set, get_or-set_same, get_or-set_other}
-use Rattle.std.specs.Prelude.{Bool, true, false, cond, Option, None, Some, IfSome, Contains, slice_get, slice_index_or, ◌⊎◌}
+use Rattle.std.specs.Prelude.{Bool, true, false, cond, Option, None, Some, IfSome, Contains, slice_get, slice_index_or, option_map, ◌⊎◌}
 use Rattle.std.proofs.lemmas.Option.{none-some, same_Some}
 use Rattle.std.proofs.lemmas.Bool.{cases_lt, cases_eq}
 use Rattle.std.proofs.lemmas.List.Elements.{Contains-append_left, Contains-append_right}
@@ -19,7 +19,7 @@ use Rattle.flow_path.specs.Chains.{is_faint}
 use Rattle.flow_path.specs.Steps.{written, steps_of}
 use Rattle.flow_path.specs.Costs.{nothing_yet, add, IsLe, IsLess}
 use Rattle.flow_path.specs.Targets.{is_high}
-use Rattle.flow_path.specs.Distances.{IsFirst, HaveNone, start_cost, known_cost, cost_by, cost_to, and_then, PartCosts, SideCosts, count_none, IsKnownOf, AreStarts, IsFound, AreSides, IsNew, IsNewAt, IsLeastNew, IsSetBy, IsDistance, AreSettled}
+use Rattle.flow_path.specs.Distances.{IsFirst, HaveNone, start_cost, known_cost, cost_by, cost_to, and_then, PartCosts, SideCosts, count_none, IsKnownOf, AreFew, AreStarts, IsFound, AreSides, IsNew, IsNewAt, IsLeastNew, IsSetBy, IsDistance, AreSettled, Agrees}
 use Rattle.flow_path.proofs.Writings.{omitted_within}
 use Rattle.flow_path.proofs.Searching.{get_same}
 use Rattle.flow_path.proofs.Indexing.{get_before, get_end}
@@ -107,17 +107,20 @@ module _ (s : Syntax) (t : Target) (k : Known) (b : AreStarts s t k) where
   no_cost : (y : ℕ) (c : Cost) → written s (Variable y) ≡ None → slice_index_or k.variables.items y None ≡ Some c → ⊥
   no_cost y c w e = none-some c (sym (b.each y (within_some k.variables.items y c e) ∙ ap (λ z. cost_by s t [] (Variable y) z) w) ∙ e)
 
+  starts_few : (y : ℕ) (c : Cost) → slice_index_or k.variables.items y None ≡ Some c → c ≡ nothing_yet
+  starts_few y c e = by_few y c (written s (Variable y)) (sym (b.each y (within_some k.variables.items y c e)) ∙ e)
+
   pub known_begins : IsKnownOf s t k
   known_begins = record {
     lattice = b.lattice;
     fit = b.fit;
     room = b.room;
     starts = λ y a l w. b.each y l ∙ ap (λ z. cost_by s t [] (Variable y) z) w;
-    few = λ y c e.
-        let n : c ≡ nothing_yet = by_few y c (written s (Variable y)) (sym (b.each y (within_some k.variables.items y c e)) ∙ e) in
-        let m = count_le k.variables.items in
-        subst (λ (z : Cost). (z.faint ≤ z.steps) × (z.steps + count_none k.variables.items ≤ length k.variables.items)) (sym n) (omega arith, omega (arith, m));
+    few = λ y c e. subst (λ (z : Cost). (z.faint ≤ z.steps) × (z.steps ≤ 4294967295)) (sym (starts_few y c e)) (omega arith, omega arith);
   }
+
+  pub few_begins : AreFew k.variables.items
+  few_begins y c e = let m = count_le k.variables.items in subst (λ (z : Cost). (z.faint ≤ z.steps) × (z.steps + count_none k.variables.items ≤ length k.variables.items)) (sym (starts_few y c e)) (omega arith, omega (arith, m))
 
   pub distance_begins : IsDistance s t k.variables.items nothing_yet
   distance_begins = record {
@@ -148,7 +151,7 @@ module _ (s : Syntax) (t : Target) (ds : List (Option Cost)) (v : Sides) (S : Ar
   found_some y st d l c h = found_by y st d c h (slice_index_or v.variables.items y None) (S.each y l) refl
 
 -- more is known
-module _ (s : Syntax) (t : Target) (k k' : Known) (K : IsKnownOf s t k) (now : Cost) (D : IsDistance s t k.variables.items now) (v : Sides) (S : AreSides s t k.variables.items (steps_of s) v)
+module _ (s : Syntax) (t : Target) (k k' : Known) (K : IsKnownOf s t k) (F : AreFew k.variables.items) (now : Cost) (D : IsDistance s t k.variables.items now) (v : Sides) (S : AreSides s t k.variables.items (steps_of s) v)
     (m : Cost) (L : IsLeastNew s k.variables.items v.variables.items (length k.variables.items) (Some m)) (N : IsSetBy s k.variables.items v.variables.items m (length k.variables.items) k'.variables.items) (same : k'.lattice ≡ k.lattice) where
   -- a cost that was known
   old : (y : ℕ) (c : Cost) → slice_index_or k.variables.items y None ≡ Some c → slice_index_or k'.variables.items y None ≡ Some c
@@ -296,12 +299,24 @@ module _ (s : Syntax) (t : Target) (k k' : Known) (K : IsKnownOf s t k) (now : C
 
       by : (p : Spot) (c : Cost) (o : Option ℕ) → cost_by s t k.variables.items p o ≡ Some c → (c.faint ≤ c.steps) × (c.steps + count_none k.variables.items ≤ length k.variables.items)
       by p c (Some a) e = start c (is_high s t a) e
-      by (Variable y) c None e = K.few y c e
+      by (Variable y) c None e = F y c e
       by (Command l) c None e = absurd (none-some c e)
       by (Level j l) c None e = absurd (none-some c e)
 
       spot_few : (p : Spot) (c : Cost) → cost_to s t k.variables.items p ≡ Some c → (c.faint ≤ c.steps) × (c.steps + count_none k.variables.items ≤ length k.variables.items)
       spot_few p c e = by p c (written s p) e
+
+  pub few_goes : AreFew k'.variables.items
+  few_goes y c e = ⊎_elim
+      (λ (h : slice_index_or k.variables.items y None ≡ Some c).
+      let q = F y c h in
+      let o = q.1 in
+      let less = count_goes in
+      let fit = N.fit in
+      (q.0, omega (arith, o, less, fit)))
+      (λ (h : (c ≡ m) × ((y < length k.variables.items) × IsNew s k.variables.items v.variables.items y m)).
+      subst (λ (z : Cost). (z.faint ≤ z.steps) × (z.steps + count_none k'.variables.items ≤ length k'.variables.items)) (sym h.0) m_few)
+      (which y c e)
 
   pub known_goes : IsKnownOf s t k'
   known_goes = record {
@@ -309,27 +324,64 @@ module _ (s : Syntax) (t : Target) (k k' : Known) (K : IsKnownOf s t k) (now : C
     fit = N.fit ∙ K.fit;
     room = K.room;
     starts = λ y a l w. N.kept y (λ i n. none-some a (sym n.omitted ∙ w)) ∙ K.starts y a (let f = N.fit in omega (arith, l, f)) w;
-    few = λ y c e. ⊎_elim
-        (λ (h : slice_index_or k.variables.items y None ≡ Some c).
-        let q = K.few y c h in
-        let o = q.1 in
-        let less = count_goes in
+    few = λ y c e.
+        let q = few_goes y c e in
+        let few = q.1 in
         let fit = N.fit in
-        (q.0, omega (arith, o, less, fit)))
-        (λ (h : (c ≡ m) × ((y < length k.variables.items) × IsNew s k.variables.items v.variables.items y m)).
-        subst (λ (z : Cost). (z.faint ≤ z.steps) × (z.steps + count_none k'.variables.items ≤ length k'.variables.items)) (sym h.0) m_few)
-        (which y c e);
+        let own = K.fit in
+        let room = K.room in
+        (q.0, omega (arith, few, fit, own, room));
   }
 
 -- a cost that is known is not great
 pub few_at : (s : Syntax) (t : Target) (k : Known) → IsKnownOf s t k → (y : ℕ) (o : Option Cost) → y < length k.variables.items → o ≡ get_or k.variables.items y o → IfSome o (λ c. (c.faint ≤ c.steps) × (c.steps ≤ 4294967295))
 few_at s t k K y None l e = tt
-few_at s t k K y (Some c) l e =
-    let q = K.few y c (get_same k.variables.items y None (Some c) l ∙ sym e) in
-    let few = q.1 in
-    let fit = K.fit in
-    let room = K.room in
-    (q.0, omega (arith, few, fit, room))
+few_at s t k K y (Some c) l e = K.few y c (get_same k.variables.items y None (Some c) l ∙ sym e)
+
+-- a guess at the cost of an omitted label
+pub guessed : (s : Syntax) (t : Target) (k k' : Known) (y : ℕ) (c : Cost) → written s (Variable y) ≡ None → y < length k.variables.items → c.faint ≤ c.steps → c.steps ≤ 4294967295 → k'.variables.items ≡ slice_set k.variables.items y (Some c) → k'.lattice ≡ k.lattice →
+    IsKnownOf s t k → IsKnownOf s t k'
+guessed s t k k' y c w l h i is same K = record {
+  lattice = same ∙ K.lattice;
+  fit = ap length is ∙ length-set k.variables.items y (Some c) ∙ K.fit;
+  room = K.room;
+  starts = λ z a j v. ⊎_elim
+      (λ (q : z ≡ y). absurd (none-some a (sym w ∙ (ap (λ u. written s (Variable u)) (sym q) ∙ v))))
+      (λ (q : z ≡ y → ⊥). other z q ∙ K.starts z a (shorter z j) v)
+      (cases_eq z y);
+  few = λ z d e. ⊎_elim
+      (λ (q : z ≡ y). subst (λ (u : Cost). (u.faint ≤ u.steps) × (u.steps ≤ 4294967295)) (same_Some c d (sym (own z q) ∙ e)) (h, i))
+      (λ (q : z ≡ y → ⊥). K.few z d (sym (other z q) ∙ e))
+      (cases_eq z y);
+}
+  where
+    other : (z : ℕ) → (z ≡ y → ⊥) → slice_index_or k'.variables.items z None ≡ slice_index_or k.variables.items z None
+    other z q = ap (λ u. slice_index_or u z None) is ∙ get_or-set_other k.variables.items y z (Some c) None q
+
+    own : (z : ℕ) → z ≡ y → slice_index_or k'.variables.items z None ≡ Some c
+    own z q = ap (λ u. slice_index_or k'.variables.items u None) q ∙ (ap (λ u. slice_index_or u y None) is ∙ get_or-set_same k.variables.items y (Some c) None l)
+
+    shorter : (z : ℕ) → z < length k'.variables.items → z < length k.variables.items
+    shorter z j = subst (λ u. z < u) (ap length is ∙ length-set k.variables.items y (Some c)) j
+
+-- what is known is what was found
+pub agreed : (s : Syntax) (t : Target) (k : Known) (v : Sides) → IsKnownOf s t k → AreSides s t k.variables.items (steps_of s) v → ((y : ℕ) → y < length k.variables.items → Agrees s k.variables.items v.variables.items y) → AreSettled s t v
+agreed s t k v K S A = record {
+  costs = k.variables.items;
+  fit = K.fit;
+  sides = S;
+  goes = λ y f w e. sym (A y (found_within s t k.variables.items v S y f e) w) ∙ ap (λ z. option_map (λ (u : Found). u.cost) z) e;
+  back = λ y c w e. back y c (slice_index_or v.variables.items y None) refl (A y (within_some k.variables.items y c e) w ∙ e);
+}
+  where
+    back : (y : ℕ) (c : Cost) (o : Option Found) → slice_index_or v.variables.items y None ≡ o → option_map (λ (u : Found). u.cost) (slice_index_or v.variables.items y None) ≡ Some c → (f : Found) × (slice_index_or v.variables.items y None ≡ Some f) × (f.cost ≡ c)
+    back y c None a b = absurd (none-some c (sym (ap (λ z. option_map (λ (u : Found). u.cost) z) a) ∙ b))
+    back y c (Some f) a b = (f, a, same_Some f.cost c (sym (ap (λ z. option_map (λ (u : Found). u.cost) z) a) ∙ b))
+
+pub agreed_by : (s : Syntax) (t : Target) (k : Known) (v : Sides) (ds : List (Option Cost)) (vs : List (Option Found)) → ds ≡ k.variables.items → vs ≡ v.variables.items → IsKnownOf s t k → AreSides s t k.variables.items (steps_of s) v →
+    ((y : ℕ) → y < length ds → Agrees s ds vs y) → AreSettled s t v
+agreed_by s t k v ds vs e f K S A =
+    agreed s t k v K S (subst (λ z. (y : ℕ) → y < length k.variables.items → Agrees s k.variables.items z y) f (subst (λ z. (y : ℕ) → y < length z → Agrees s z vs y) e A))
 
 -- nothing more is found
 pub settles : (s : Syntax) (t : Target) (k : Known) (now : Cost) (v : Sides) → IsKnownOf s t k → IsDistance s t k.variables.items now → AreSides s t k.variables.items (steps_of s) v →
@@ -438,16 +490,17 @@ set_none s ds vs m = record { fit = refl; set = λ y l w. absurd (omega (arith, 
 
 -- one turn of the search
 pub turned : (s : Syntax) (t : Target) (k k' : Known) (v : Sides) (m : Cost) (ds : List (Option Cost)) (vs vs' : List (Option Found)) (o : Option Cost) → ds ≡ k.variables.items → vs ≡ v.variables.items → vs' ≡ v.variables.items → o ≡ Some m →
-    IsLeastNew s ds vs (length ds) o → IsSetBy s k.variables.items vs' m (length k.variables.items) k'.variables.items → k'.lattice ≡ k.lattice → IsKnownOf s t k → (now : Cost) × IsDistance s t k.variables.items now → AreSides s t k.variables.items (steps_of s) v →
-    IsKnownOf s t k' × ((now : Cost) × IsDistance s t k'.variables.items now) × (count_none k'.variables.items < count_none k.variables.items)
-turned s t k k' v m ds vs vs' o e f g h L N same K D S =
+    IsLeastNew s ds vs (length ds) o → IsSetBy s k.variables.items vs' m (length k.variables.items) k'.variables.items → k'.lattice ≡ k.lattice → IsKnownOf s t k → AreFew k.variables.items → (now : Cost) × IsDistance s t k.variables.items now → AreSides s t k.variables.items (steps_of s) v →
+    IsKnownOf s t k' × AreFew k'.variables.items × ((now : Cost) × IsDistance s t k'.variables.items now) × (count_none k'.variables.items < count_none k.variables.items)
+turned s t k k' v m ds vs vs' o e f g h L N same K F D S =
     let L0 = subst (λ z. IsLeastNew s z vs (length z) o) e L in
     let L1 = subst (λ z. IsLeastNew s k.variables.items z (length k.variables.items) o) f L0 in
     let L2 = subst (λ z. IsLeastNew s k.variables.items v.variables.items (length k.variables.items) z) h L1 in
     let N1 = subst (λ z. IsSetBy s k.variables.items z m (length k.variables.items) k'.variables.items) g N in (
-      known_goes s t k k' K D.0 D.1 v S m L2 N1 same,
-      (m, distance_goes s t k k' K D.0 D.1 v S m L2 N1 same (λ y w. let i = omitted_within s y w in let j = K.fit in omega (arith, i, j))),
-      count_goes s t k k' K D.0 D.1 v S m L2 N1 same,
+      known_goes s t k k' K F D.0 D.1 v S m L2 N1 same,
+      few_goes s t k k' K F D.0 D.1 v S m L2 N1 same,
+      (m, distance_goes s t k k' K F D.0 D.1 v S m L2 N1 same (λ y w. let i = omitted_within s y w in let j = K.fit in omega (arith, i, j))),
+      count_goes s t k k' K F D.0 D.1 v S m L2 N1 same,
     )
 
 pub all_settled : (s : Syntax) (t : Target) (k : Known) (v : Sides) (ds : List (Option Cost)) (vs : List (Option Found)) (o : Option Cost) → ds ≡ k.variables.items → vs ≡ v.variables.items → o ≡ None → IsLeastNew s ds vs (length ds) o → IsKnownOf s t k →

@@ -1,24 +1,22 @@
 -- What is known of the cheapest chains to each label, and by which steps they end.
-use Rattle.std.specs.Prelude.{◌≡◌, ℕ, ◌+◌, ◌<◌, ◌≤◌, ◌⊎◌, cond, List, [], ◌∷◌, ◌++◌, length, Option, None, Some, Contains, slice_get, slice_index_or, IfSome, IfNone}
+use Rattle.std.specs.Prelude.{◌≡◌, ℕ, ◌+◌, ◌<◌, ◌≤◌, ◌⊎◌, cond, List, [], ◌∷◌, ◌++◌, length, Option, None, Some, Contains, slice_index_or, option_map}
 use Rattle.mit_syntax.specs.Declarations.{variables}
+use Rattle.mit_syntax.specs.Plan.{Plan}
 use Rattle.mit_syntax.specs.Program.{Syntax}
 use Rattle.flow_path.specs.declared.step.How.{How}
 use Rattle.flow_path.specs.declared.step.Spot.{Spot}
 use Rattle.flow_path.specs.declared.step.Spot.TheVariants.{Variable, Command, Level}
 use Rattle.flow_path.specs.declared.step.Part.{Part}
 use Rattle.flow_path.specs.declared.step.Step.{Step}
-use Rattle.flow_path.specs.declared.graph.Node.{Node}
-use Rattle.flow_path.specs.declared.graph.Node.TheVariants.{One}
 use Rattle.flow_path.specs.declared.cost.Cost.{Cost}
 use Rattle.flow_path.specs.declared.target.Target.{Target}
 use Rattle.flow_path.specs.declared.known.Known.{Known}
 use Rattle.flow_path.specs.declared.best.Best.{Best}
 use Rattle.flow_path.specs.declared.sides.Found.{Found}
 use Rattle.flow_path.specs.declared.sides.Sides.{Sides}
-use Rattle.flow_path.specs.Steps.{written, steps_of}
+use Rattle.flow_path.specs.Steps.{written, ends, steps, steps_of}
 use Rattle.flow_path.specs.Costs.{nothing_yet, add, IsLe, IsLess}
 use Rattle.flow_path.specs.Targets.{IsGoalBy, is_high}
-use Rattle.flow_path.specs.Graph.{IsList}
 
 -- Of the items of a list that have a cost, x has the least, c, and is the first that has it.
 pub record IsFirst {A : Type 0} (V : A → Cost → Type 0) (xs : List A) (x : A) (c : Cost) : Type 0 where
@@ -79,7 +77,11 @@ pub record IsKnownOf (s : Syntax) (t : Target) (k : Known) : Type 0 where
   pub fit : length k.variables.items ≡ variables s.declarations
   pub room : variables s.declarations ≤ 4294967295
   pub starts : (y a : ℕ) → y < length k.variables.items → written s (Variable y) ≡ Some a → slice_index_or k.variables.items y None ≡ start_cost s t a
-  pub few : (y : ℕ) (c : Cost) → slice_index_or k.variables.items y None ≡ Some c → (c.faint ≤ c.steps) × (c.steps + count_none k.variables.items ≤ length k.variables.items)
+  pub few : (y : ℕ) (c : Cost) → slice_index_or k.variables.items y None ≡ Some c → (c.faint ≤ c.steps) × (c.steps ≤ 4294967295)
+
+-- no cheapest chain has more steps than there are variables of which a cost is known
+abbrev pub AreFew : List (Option Cost) → Type 0
+AreFew ds = (y : ℕ) (c : Cost) → slice_index_or ds y None ≡ Some c → (c.faint ≤ c.steps) × (c.steps + count_none ds ≤ length ds)
 
 -- what is known before a search
 pub record AreStarts (s : Syntax) (t : Target) (k : Known) : Type 0 where
@@ -89,17 +91,13 @@ pub record AreStarts (s : Syntax) (t : Target) (k : Known) : Type 0 where
   pub each : (y : ℕ) → y < length k.variables.items → slice_index_or k.variables.items y None ≡ cost_by s t [] (Variable y) (written s (Variable y))
 
 -- the first of the cheapest parts of a list
-abbrev pub IsBest : Syntax → Target → List (Option Cost) → List Node → List Part → Option Best → Type 0
-IsBest s t ds nodes ps None = HaveNone (PartCosts s t ds) ps
-IsBest s t ds nodes ps (Some b) = (p : Part) × (slice_get nodes b.part ≡ Some (One p)) × IsFirst (PartCosts s t ds) ps p b.cost
+abbrev pub IsBest : Syntax → Target → List (Option Cost) → List Part → Option Best → Type 0
+IsBest s t ds ps None = HaveNone (PartCosts s t ds) ps
+IsBest s t ds ps (Some b) = IsFirst (PartCosts s t ds) ps b.part b.cost
 
--- those of the lists at the first n nodes
-abbrev pub AreBests : Syntax → Target → List (Option Cost) → List Node → ℕ → List (Option Best) → Type 0
-AreBests s t ds nodes n found = (j : ℕ) (ps : List Part) → j < n → IsList nodes j ps → IsBest s t ds nodes ps (slice_index_or found j None)
-
-abbrev pub best_by : ℕ → Option Cost → Option Best
-best_by i None = None
-best_by i (Some c) = Some (record { part = i; cost = c })
+abbrev pub best_by : Part → Option Cost → Option Best
+best_by p None = None
+best_by p (Some c) = Some (record { part = p; cost = c })
 
 -- the first of the cheapest steps of a list
 abbrev pub IsFound : (Step → Cost → Type 0) → List Step → Option Found → Type 0
@@ -111,6 +109,20 @@ pub record AreSides (s : Syntax) (t : Target) (ds : List (Option Cost)) (ss : Li
   pub fit : length v.variables.items ≡ length ds
   pub goal : IsFound (GoalCosts s t ds) ss v.goal
   pub each : (y : ℕ) → y < length ds → IsFound (SideCosts s t ds y) ss (slice_index_or v.variables.items y None)
+
+-- The commands p were walked up to q, with the first of the cheapest parts in place of the time: b before, r after.
+abbrev pub ComesTo : Syntax → Target → List (Option Cost) → Option Best → Option Best → Plan → Plan → Type 0
+ComesTo s t ds b r p q = (T : List Part) → IsBest s t ds T b → (T' : List Part) × IsBest s t ds T' r × (ends p T ≡ ends q T')
+
+-- and their steps were added to those that were there, where pc is that of the guards around them
+abbrev pub Passes : Syntax → Target → List (Option Cost) → Sides → Sides → Option Best → Option Best → Option Best → Plan → Plan → Type 0
+Passes s t ds v w pc b r p q =
+    (P T : List Part) (ss : List Step) → IsBest s t ds P pc → IsBest s t ds T b → AreSides s t ds ss v →
+    (T' : List Part) × (S : List Step) × IsBest s t ds T' r × AreSides s t ds (ss ++ S) w × (ends p T ≡ ends q T') × (steps p P T ≡ S ++ steps q P T')
+
+-- the cost that is known of an omitted label is the one that was found
+abbrev pub Agrees : Syntax → List (Option Cost) → List (Option Found) → ℕ → Type 0
+Agrees s ds vs y = written s (Variable y) ≡ None → option_map (λ (f : Found). f.cost) (slice_index_or vs y None) ≡ slice_index_or ds y None
 
 -- a chain to the omitted label of y was found that costs c, and what one costs was not known
 pub record IsNew (s : Syntax) (ds : List (Option Cost)) (vs : List (Option Found)) (y : ℕ) (c : Cost) : Type 0 where
@@ -138,9 +150,12 @@ pub record IsSetBy (s : Syntax) (ds : List (Option Cost)) (vs : List (Option Fou
 
 -- what is known is right, and what is not yet known costs no less
 pub record IsDistance (s : Syntax) (t : Target) (ds : List (Option Cost)) (now : Cost) : Type 0 where
-  pub there : (y : ℕ) (c : Cost) → written s (Variable y) ≡ None → slice_index_or ds y None ≡ Some c → (st : Step) × Contains (steps_of s) st × SideCosts s t ds y st c
-  pub least : (y : ℕ) (c d : Cost) (st : Step) → written s (Variable y) ≡ None → slice_index_or ds y None ≡ Some c → Contains (steps_of s) st → SideCosts s t ds y st d → IsLe c d
-  pub late : (y : ℕ) (d : Cost) (st : Step) → written s (Variable y) ≡ None → slice_index_or ds y None ≡ None → Contains (steps_of s) st → SideCosts s t ds y st d → IsLe now d
+  pub there : (y : ℕ) (c : Cost) → written s (Variable y) ≡ None → slice_index_or ds y None ≡ Some c
+      → (st : Step) × Contains (steps_of s) st × SideCosts s t ds y st c
+  pub least : (y : ℕ) (c d : Cost) (st : Step) → written s (Variable y) ≡ None → slice_index_or ds y None ≡ Some c → Contains (steps_of s) st
+      → SideCosts s t ds y st d → IsLe c d
+  pub late : (y : ℕ) (d : Cost) (st : Step) → written s (Variable y) ≡ None → slice_index_or ds y None ≡ None → Contains (steps_of s) st
+      → SideCosts s t ds y st d → IsLe now d
   pub low : (y : ℕ) (c : Cost) → written s (Variable y) ≡ None → slice_index_or ds y None ≡ Some c → IsLe c now
 
 -- all is known: the first of the cheapest steps to each omitted label has the cost that is known
@@ -149,13 +164,15 @@ pub record AreSettled (s : Syntax) (t : Target) (v : Sides) : Type 0 where
   pub fit : length costs ≡ variables s.declarations
   pub sides : AreSides s t costs (steps_of s) v
   pub goes : (y : ℕ) (f : Found) → written s (Variable y) ≡ None → slice_index_or v.variables.items y None ≡ Some f → slice_index_or costs y None ≡ Some f.cost
-  pub back : (y : ℕ) (c : Cost) → written s (Variable y) ≡ None → slice_index_or costs y None ≡ Some c → (f : Found) × (slice_index_or v.variables.items y None ≡ Some f) × (f.cost ≡ c)
+  pub back : (y : ℕ) (c : Cost) → written s (Variable y) ≡ None → slice_index_or costs y None ≡ Some c
+      → (f : Found) × (slice_index_or v.variables.items y None ≡ Some f) × (f.cost ≡ c)
 
 -- each step of a chain is the first of the cheapest to where it leads
 abbrev pub IsPicked : Syntax → Sides → List Step → Type 0
 IsPicked s v [] = ⊥
 IsPicked s v (x ∷ []) = (f : Found) × (v.goal ≡ Some f) × (f.step ≡ x)
-IsPicked s v (x ∷ (y ∷ ys)) = (n : ℕ) × (f : Found) × (y.part.spot ≡ Variable n) × (written s (Variable n) ≡ None) × (slice_index_or v.variables.items n None ≡ Some f) × (f.step ≡ x) × IsPicked s v (y ∷ ys)
+IsPicked s v (x ∷ (y ∷ ys)) = (n : ℕ) × (f : Found) × (y.part.spot ≡ Variable n) × (written s (Variable n) ≡ None)
+    × (slice_index_or v.variables.items n None ≡ Some f) × (f.step ≡ x) × IsPicked s v (y ∷ ys)
 
 -- the chain begins at a written label
 abbrev pub StartsWritten : Syntax → List Step → Type 0

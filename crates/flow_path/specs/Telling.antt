@@ -13,7 +13,8 @@ use Rattle.flow_path.specs.Origins.{joined}
 -- the chain that begins with a link was told, unless its label flows to the join of those that were told
 pub data Tells (x : Where) (lat : Lattice) (l : Link) (have : ℕ) (old new : List Origin) : Type 0 where
   covered : Flows lat have (joined lat old) → new ≡ old → Tells x lat l have old new
-  told : (w : Origin) → (Flows lat have (joined lat old) → ⊥) → new ≡ old ++ (w ∷ []) → w.label.number ≡ have → IsWay x l w.chain.items → Tells x lat l have old new
+  told : (w : Origin) → (Flows lat have (joined lat old) → ⊥) → new ≡ old ++ (w ∷ []) → w.label.number ≡ have → IsWay x l w.chain.items
+      → Tells x lat l have old new
 
 -- a chain from a label, and none from that label is cheaper
 pub record IsTold (x : Where) (w : Origin) : Type 0 where
@@ -35,7 +36,8 @@ pub record AreAll (x : Where) (ws : List Origin) : Type 0 where
 
 -- of the origins `all`, those that are left were not looked at yet, and none of those that are kept can be left out
 pub record IsSifted (lat : Lattice) (all left kept : List Origin) : Type 0 where
-  pub needed : (before after : List Origin) (w : Origin) → kept ≡ before ++ (w ∷ after) → Flows lat w.label.number (lat.join (joined lat left) (joined lat (before ++ after))) → ⊥
+  pub needed : (before after : List Origin) (w : Origin) → kept ≡ before ++ (w ∷ after)
+      → Flows lat w.label.number (lat.join (joined lat left) (joined lat (before ++ after))) → ⊥
   pub join : lat.join (joined lat left) (joined lat kept) ≡ joined lat all
   pub lefts : Every (Contains all) left
   pub kepts : Every (Contains all) kept

@@ -17,7 +17,8 @@ pub record StandsFirst (xs : List Step) (x y : Step) : Type 0 where
 -- that costs no more and ends by the same steps has before them one that stands earlier among the steps of the program.
 abbrev pub IsEarliest : Syntax → TypeFault → List Step → Type 0
 IsEarliest s fault chain =
-    (before other after : List Step) (x y : Step) → chain ≡ before ++ (x ∷ after) → IsReason s fault (other ++ (y ∷ after)) → CostsNoMore (other ++ (y ∷ after)) chain → StandsFirst (steps_of s) x y
+    (before other after : List Step) (x y : Step) → chain ≡ before ++ (x ∷ after) → IsReason s fault (other ++ (y ∷ after))
+    → CostsNoMore (other ++ (y ∷ after)) chain → StandsFirst (steps_of s) x y
 
 -- the reason that is told: no reason is cheaper, and of those that are as cheap it is the earliest
 pub record IsTold (s : Syntax) (fault : TypeFault) (chain : List Step) : Type 0 where

@@ -20,7 +20,8 @@ impl Index {
     /// Adds the next condition.
     fn add(&mut self, c: &Condition) -> Result<(), AllocError>
         ensures fit { IfOk result (λ _. length self.new.first.items ≡ length self.old.first.items) }
-        ensures index { IfOk result (λ _. (cs : List Listed) → IsIndex cs self.old.first.items self.old.later.items → IsIndex (cs ++ c.now ∷ []) self.new.first.items self.new.later.items) }
+        ensures index { IfOk result (λ _. (cs : List Listed) → IsIndex cs self.old.first.items self.old.later.items
+            → IsIndex (cs ++ c.now ∷ []) self.new.first.items self.new.later.items) }
     {
         match c.side {
             Spot::Variable(y) => {

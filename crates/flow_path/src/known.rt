@@ -1,6 +1,7 @@
 //! What the cheapest chains to each label cost, as far as it is known.
 
-ghost use Rattle.std.specs.Prelude.{◌≡◌, ◌<◌, ◌≤◌, [], length, IfOk, IfSome, take};
+ghost use Rattle.std.specs.Prelude.{◌≡◌, ◌<◌, ◌≤◌, [], length, true, None, IfOk, IfSome, take};
+ghost use Rattle.flow_path.specs.declared.target.Target.{Target as ATarget};
 ghost use Rattle.mit_syntax.specs.Declarations.{variables as variables_of};
 ghost use Rattle.flow_path.specs.declared.step.Spot.TheVariants.{Variable as AVariable};
 ghost use Rattle.flow_path.specs.Steps.{written};
@@ -67,6 +68,32 @@ impl Known {
             }
             Spot::Command(_) => start_at(p, &self.lattice, target, spot),
             Spot::Level(_, _) => start_at(p, &self.lattice, target, spot),
+        }
+    }
+
+    /// Whether a label is omitted, its cost not known, and this a cost that a chain may have.
+    fn may_be(&self, p: &Program, y: u32, cost: Cost) -> bool
+        ensures { result ≡ true → (y < length self.now.variables.items) × (written p.now (AVariable y) ≡ None) × (cost.faint ≤ cost.steps)
+            × (cost.steps ≤ 4294967295) }
+    {
+        if (y as usize) >= self.variables.len() || cost.faint > cost.steps {
+            return false;
+        }
+        if self.variables[y as usize].is_some() {
+            return false;
+        }
+        match written_at(p, &Spot::Variable(y)) {
+            Some(_) => false,
+            None => cost.steps <= 4_294_967_295,
+        }
+    }
+
+    /// Takes a cost for that of a label, if it may be and none is known: the first one that is told stays.
+    pub(crate) fn guess(&mut self, p: &Program, y: u32, cost: Cost)
+        ensures { (t : ATarget) → IsKnownOf p.now t self.old → IsKnownOf p.now t self.new }
+    {
+        if self.may_be(p, y, cost) {
+            self.variables[y as usize] = Some(cost);
         }
     }
 }

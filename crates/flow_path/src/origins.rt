@@ -42,7 +42,9 @@ fn tell(
     told: &mut Vec<Origin>,
 ) -> Result<(), AllocError>
     requires { (x : Where) × (a : Reach) × IsSearch x (state_of found.now) a × (link < length found.now.links.items) }
-    ensures { IfOk result (λ _. (x : Where) (a : Reach) (l : Linked) (have : ℕ) → IsSearch x (state_of found.now) a → slice_get found.now.links.items link ≡ Some l → written p.now l.step.part.spot ≡ Some have → Tells x (lattice_of lattice.now) l have told.old.items told.new.items) }
+    ensures { IfOk result (λ _. (x : Where) (a : Reach) (l : Linked) (have : ℕ) → IsSearch x (state_of found.now) a
+        → slice_get found.now.links.items link ≡ Some l → written p.now l.step.part.spot ≡ Some have
+        → Tells x (lattice_of lattice.now) l have told.old.items told.new.items) }
 {
     let first = link_at(&found.links, link);
     let Some(label) = written_at(p, &first.step.part.spot) else {

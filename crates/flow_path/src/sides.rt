@@ -1,26 +1,25 @@
 //! The first of the cheapest steps to each label.
 
-ghost use Rattle.std.specs.Prelude.{Option, ◌≡◌, ◌++◌, ◌<◌, ℕ, List, length, IfOk, IfSome, slice_get, slice_index_or, None, Some, replicate};
+ghost use Rattle.std.specs.Prelude.{Option, ◌≡◌, ◌++◌, ◌<◌, [], ℕ, List, length, IfOk, IfSome, None, Some, replicate};
 ghost use Rattle.mit_syntax.specs.Program.{Syntax};
 ghost use Rattle.flow_path.specs.declared.cost.Cost.{Cost as ACost};
-ghost use Rattle.flow_path.specs.declared.graph.Node.TheVariants.{One as AOne};
 ghost use Rattle.flow_path.specs.declared.step.Part.{Part as APart};
 ghost use Rattle.flow_path.specs.declared.step.Step.{Step as AStep};
 ghost use Rattle.flow_path.specs.declared.target.Target.{Target as ATarget};
 ghost use Rattle.flow_path.specs.declared.step.Spot.TheVariants.{Variable as AVariable};
-ghost use Rattle.flow_path.specs.Steps.{to};
-ghost use Rattle.flow_path.specs.Search.{step_by};
-ghost use Rattle.flow_path.specs.Graph.{AreSteps};
+ghost use Rattle.flow_path.specs.Steps.{to, to_write_label};
 ghost use Rattle.flow_path.specs.Targets.{IsGoalBy};
-ghost use Rattle.flow_path.specs.Distances.{AreBests, IsBest, IsFound, GoalCosts, SideCosts, AreSides};
+ghost use Rattle.flow_path.specs.Distances.{IsBest, IsFound, GoalCosts, SideCosts, AreSides};
 
-use crate::best::{Best, best_at};
+use crate::best::Best;
 use crate::cost::Cost;
-use crate::graph::{Condition, Node, node_at, step_from};
 use crate::step::{Spot, Step};
 use crate::target::{Target, is_goal};
+use label_lattice::label::Label;
 use mit_syntax::program::Program;
 use std::alloc::{AllocError, Global};
+use text_base::pos::Pos;
+use timing_types::rule::Rule;
 
 /// A step, and what a chain costs that ends by it.
 #[derive(Clone, Copy)]
@@ -36,34 +35,35 @@ pub(crate) struct Sides {
     pub(crate) variables: Vec<Option<Found>>,
 }
 
-/// The step by a condition from the part at a node.
-fn found_by(c: &Condition, best: Best, nodes: &[Node]) -> Option<Found>
-    ensures { (p : APart) → slice_get nodes.now best.part ≡ Some (AOne p) → result ≡ Some (record { step = step_by c.now p; cost = best.cost }) }
+/// The step by a condition from the part that was found.
+fn found_by(rule: Rule, pos: Pos, side: Spot, best: Best) -> Option<Found>
+    ensures { result ≡ Some (record { step = record { rule = rule; pos = pos; part = best.part; side = side }; cost = best.cost }) }
 {
-    if best.part >= nodes.len() {
-        return None;
-    }
-    match node_at(nodes, best.part) {
-        Node::One(part) => Some(Found {
-            step: step_from(c, part),
-            cost: best.cost,
-        }),
-        Node::Both(_, _) | Node::Nothing => None,
-    }
+    Some(Found {
+        step: Step {
+            rule,
+            pos,
+            part: best.part,
+            side,
+        },
+        cost: best.cost,
+    })
 }
 
 /// The first of the cheapest steps, where those by one more condition follow.
-fn then(slot: Option<Found>, c: &Condition, best: Option<Best>, nodes: &[Node]) -> Option<Found>
-    ensures goal { (s : Syntax) (t : ATarget) (ds : List (Option ACost)) (ss : List AStep) (ps : List APart) → IsBest s t ds nodes.now ps best → IsGoalBy s t c.now.rule c.now.pos c.now.side → IsFound (GoalCosts s t ds) ss slot → IsFound (GoalCosts s t ds) (ss ++ to c.now.rule c.now.pos c.now.side ps) result }
-    ensures side { (s : Syntax) (t : ATarget) (ds : List (Option ACost)) (y : ℕ) (ss : List AStep) (ps : List APart) → IsBest s t ds nodes.now ps best → c.now.side ≡ AVariable y → IsFound (SideCosts s t ds y) ss slot → IsFound (SideCosts s t ds y) (ss ++ to c.now.rule c.now.pos c.now.side ps) result }
+fn then(slot: Option<Found>, rule: Rule, pos: Pos, side: Spot, best: Option<Best>) -> Option<Found>
+    ensures goal { (s : Syntax) (t : ATarget) (ds : List (Option ACost)) (ss : List AStep) (ps : List APart) → IsBest s t ds ps best
+        → IsGoalBy s t rule pos side → IsFound (GoalCosts s t ds) ss slot → IsFound (GoalCosts s t ds) (ss ++ to rule pos side ps) result }
+    ensures side { (s : Syntax) (t : ATarget) (ds : List (Option ACost)) (y : ℕ) (ss : List AStep) (ps : List APart) → IsBest s t ds ps best
+        → side ≡ AVariable y → IsFound (SideCosts s t ds y) ss slot → IsFound (SideCosts s t ds y) (ss ++ to rule pos side ps) result }
 {
     match best {
         None => slot,
         Some(b) => match slot {
-            None => found_by(c, b, nodes),
+            None => found_by(rule, pos, side, b),
             Some(f) => {
                 if b.cost.is_less(f.cost) {
-                    found_by(c, b, nodes)
+                    found_by(rule, pos, side, b)
                 } else {
                     slot
                 }
@@ -75,27 +75,29 @@ fn then(slot: Option<Found>, c: &Condition, best: Option<Best>, nodes: &[Node]) 
 /// That of the steps to where a chain is to end.
 fn then_goal(
     slot: Option<Found>,
-    c: &Condition,
+    rule: Rule,
+    pos: Pos,
+    side: Spot,
     best: Option<Best>,
-    nodes: &[Node],
     p: &Program,
     target: &Target,
 ) -> Option<Found>
-    ensures { (ds : List (Option ACost)) (ss : List AStep) (ps : List APart) → IsBest p.now target.now ds nodes.now ps best → IsFound (GoalCosts p.now target.now ds) ss slot → IsFound (GoalCosts p.now target.now ds) (ss ++ to c.now.rule c.now.pos c.now.side ps) result }
+    ensures { (ds : List (Option ACost)) (ss : List AStep) (ps : List APart) → IsBest p.now target.now ds ps best
+        → IsFound (GoalCosts p.now target.now ds) ss slot → IsFound (GoalCosts p.now target.now ds) (ss ++ to rule pos side ps) result }
 {
-    if is_goal(c, p, target) {
-        then(slot, c, best, nodes)
+    if is_goal(rule, pos, side, p, target) {
+        then(slot, rule, pos, side, best)
     } else {
         slot
     }
 }
 
-/// Whether a condition is on the label of one of the first variables.
-fn variable_of(c: &Condition, count: usize) -> Option<usize>
-    ensures some { IfSome result (λ y. (c.now.side ≡ AVariable y) × (y < count)) }
-    ensures none { (y : ℕ) → y < count → c.now.side ≡ AVariable y → result ≡ Some y }
+/// Which of the first variables a label belongs to.
+fn variable_of(side: Spot, count: usize) -> Option<usize>
+    ensures some { IfSome result (λ y. (side ≡ AVariable y) × (y < count)) }
+    ensures none { (y : ℕ) → y < count → side ≡ AVariable y → result ≡ Some y }
 {
-    match c.side {
+    match side {
         Spot::Variable(y) => {
             if (y as usize) < count {
                 Some(y as usize)
@@ -109,23 +111,43 @@ fn variable_of(c: &Condition, count: usize) -> Option<usize>
 
 impl Sides {
     /// Adds the steps by one more condition.
-    fn add(
+    pub(crate) fn add(
         &mut self,
-        c: &Condition,
+        rule: Rule,
+        pos: Pos,
+        side: Spot,
         best: Option<Best>,
-        nodes: &[Node],
         p: &Program,
         target: &Target,
     )
-        ensures { (ds : List (Option ACost)) (ss : List AStep) (ps : List APart) → IsBest p.now target.now ds nodes.now ps best → AreSides p.now target.now ds ss self.old → AreSides p.now target.now ds (ss ++ to c.now.rule c.now.pos c.now.side ps) self.new }
+        ensures { (ds : List (Option ACost)) (ss : List AStep) (ps : List APart) → IsBest p.now target.now ds ps best → AreSides p.now target.now ds ss self.old
+            → AreSides p.now target.now ds (ss ++ to rule pos side ps) self.new }
     {
-        self.goal = then_goal(self.goal, c, best, nodes, p, target);
-        match variable_of(c, self.variables.len()) {
+        self.goal = then_goal(self.goal, rule, pos, side, best, p, target);
+        match variable_of(side, self.variables.len()) {
             Some(y) => {
                 let slot = self.variables[y];
-                self.variables[y] = then(slot, c, best, nodes);
+                self.variables[y] = then(slot, rule, pos, side, best);
             }
             None => {}
+        }
+    }
+
+    /// Adds those by the condition on a write label, where one is written.
+    pub(crate) fn add_label(
+        &mut self,
+        rule: Rule,
+        pos: Pos,
+        labels: &Option<(Label, Label)>,
+        best: Option<Best>,
+        p: &Program,
+        target: &Target,
+    )
+        ensures { (ds : List (Option ACost)) (ss : List AStep) (ps : List APart) → IsBest p.now target.now ds ps best → AreSides p.now target.now ds ss self.old
+            → AreSides p.now target.now ds (ss ++ to_write_label rule pos labels.now ps) self.new }
+    {
+        if let Some(pair) = labels {
+            self.add(rule, pos, Spot::Command(pair.1), best, p, target);
         }
     }
 }
@@ -136,25 +158,13 @@ fn all_none(alloc: Global, count: usize) -> Result<Vec<Option<Found>>, AllocErro
     vec![in alloc; None; count]
 }
 
-/// Those by all conditions.
-pub(crate) fn all_sides(
-    alloc: Global,
-    nodes: &[Node],
-    conditions: &[Condition],
-    found: &[Option<Best>],
-    count: usize,
-    p: &Program,
-    target: &Target,
-) -> Result<Sides, AllocError>
-    ensures { IfOk result (λ v. (ds : List (Option ACost)) (ss : List AStep) → length ds ≡ count → AreBests p.now target.now ds nodes.now (length nodes.now) found.now → AreSteps nodes.now conditions.now ss → AreSides p.now target.now ds ss v) }
+/// Those by no conditions.
+pub(crate) fn no_sides(alloc: Global, count: usize) -> Result<Sides, AllocError>
+    ensures { IfOk result (λ v. (s : Syntax) (t : ATarget) (ds : List (Option ACost)) → length ds ≡ count → AreSides s t ds [] v) }
 {
     let variables = all_none(alloc, count)?;
-    let mut sides = Sides {
+    Ok(Sides {
         goal: None,
         variables,
-    };
-    for c in conditions {
-        sides.add(c, best_at(found, c.parts), nodes, p, target);
-    }
-    Ok(sides)
+    })
 }

@@ -5,7 +5,6 @@ ghost use Rattle.mit_syntax.specs.Program.{Syntax};
 ghost use Rattle.flow_path.specs.Steps.{written};
 ghost use Rattle.flow_path.specs.Targets.{IsGoalBy, is_high, leads_on};
 
-use crate::graph::Condition;
 use crate::step::Spot;
 use crate::written::written_at;
 use label_lattice::label::Label;
@@ -25,28 +24,29 @@ pub(crate) enum Target {
     Omitted(Spot),
 }
 
-/// Whether the condition is the broken one.
-fn is_broken(c: &Condition, p: &Program, rule: Rule, pos: Pos, allowed: Label) -> bool
-    ensures goal { result ≡ true → (c.now.rule ≡ rule) × (c.now.pos ≡ pos) × (written p.now c.now.side ≡ Some allowed.number) }
-    ensures only { (c.now.rule ≡ rule) × (c.now.pos ≡ pos) × (written p.now c.now.side ≡ Some allowed.number) → result ≡ true }
+/// Whether a right side is that of the broken condition.
+fn is_broken(side: Spot, p: &Program, allowed: Label) -> bool
+    ensures goal { result ≡ true → written p.now side ≡ Some allowed.number }
+    ensures only { written p.now side ≡ Some allowed.number → result ≡ true }
 {
-    if c.rule != rule || c.pos != pos {
-        return false;
-    }
-    match written_at(p, &c.side) {
+    match written_at(p, &side) {
         Some(label) => label.number == allowed.number,
         None => false,
     }
 }
 
-/// Whether a chain is to end by this condition.
-pub(crate) fn is_goal(c: &Condition, p: &Program, target: &Target) -> bool
-    ensures goal { result ≡ true → IsGoalBy p.now target.now c.now.rule c.now.pos c.now.side }
-    ensures only { IsGoalBy p.now target.now c.now.rule c.now.pos c.now.side → result ≡ true }
+/// Whether a chain is to end by the condition with this rule, position and right side.
+pub(crate) fn is_goal(rule: Rule, pos: Pos, side: Spot, p: &Program, target: &Target) -> bool
+    ensures goal { result ≡ true → IsGoalBy p.now target.now rule pos side }
+    ensures only { IsGoalBy p.now target.now rule pos side → result ≡ true }
 {
     match target {
-        Target::Broken { rule, pos, allowed } => is_broken(c, p, *rule, *pos, *allowed),
-        Target::Omitted(spot) => c.side == *spot,
+        Target::Broken {
+            rule: broken,
+            pos: place,
+            allowed,
+        } => rule == *broken && pos == *place && is_broken(side, p, *allowed),
+        Target::Omitted(spot) => side == *spot,
     }
 }
 

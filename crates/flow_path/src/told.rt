@@ -4,10 +4,10 @@ ghost use Rattle.std.specs.Prelude.{◌≡◌, ℕ, None, Some, IfOk, IfSome, If
 ghost use Rattle.flow_path.specs.declared.target.Target.{Target as ATarget};
 ghost use Rattle.flow_path.specs.declared.step.Spot.TheVariants.{Variable as AVariable};
 ghost use Rattle.flow_path.specs.Steps.{written};
-ghost use Rattle.flow_path.specs.Search.{Where, Stands, IsKnown};
+ghost use Rattle.mit_syntax.specs.Valid.{IsValid};
+ghost use Rattle.flow_path.specs.Search.{Where, IsKnown};
 ghost use Rattle.flow_path.specs.Distances.{AreSettled, IsPicked, StartsWritten, IsPickedOf};
 
-use crate::graph::{Condition, Node};
 use crate::settle::settled;
 use crate::sides::{Found, Sides};
 use crate::step::{Spot, Step};
@@ -25,8 +25,10 @@ fn found_at(found: &[Option<Found>], y: usize) -> Option<Found>
 
 /// The first of the cheapest steps to an omitted label.
 fn step_to(p: &Program, all: &Sides, spot: &Spot) -> Option<Found>
-    ensures some { IfSome result (λ f. (n : ℕ) × (spot.now ≡ AVariable n) × (written p.now (AVariable n) ≡ None) × (slice_index_or all.now.variables.items n None ≡ Some f)) }
-    ensures none { IfNone result ((n : ℕ) → spot.now ≡ AVariable n → written p.now (AVariable n) ≡ None → slice_index_or all.now.variables.items n None ≡ None) }
+    ensures some { IfSome result (λ f. (n : ℕ) × (spot.now ≡ AVariable n) × (written p.now (AVariable n) ≡ None)
+        × (slice_index_or all.now.variables.items n None ≡ Some f)) }
+    ensures none { IfNone result ((n : ℕ) → spot.now ≡ AVariable n → written p.now (AVariable n) ≡ None
+        → slice_index_or all.now.variables.items n None ≡ None) }
 {
     match spot {
         Spot::Variable(y) => {
@@ -60,14 +62,13 @@ fn chain_to(alloc: Global, p: &Program, all: &Sides, last: Found) -> Result<Vec<
 pub(crate) fn told_chain(
     alloc: Global,
     p: &Program,
-    nodes: &[Node],
-    conditions: &[Condition],
     target: &Target,
 ) -> Result<Vec<Step>, AllocError>
-    requires { (x : Where) × Stands x p.now nodes.now target.now × (x.conditions ≡ conditions.now) × IsKnown x }
+    requires valid { IsValid p.now }
+    requires known { (x : Where) × (x.program ≡ p.now) × (x.target ≡ target.now) × IsKnown x }
     ensures { IfOk result (λ v. IsPickedOf p.now target.now v.items) }
 {
-    let all = settled(alloc, p, nodes, conditions, target)?;
+    let all = settled(alloc, p, target)?;
     match all.goal {
         Some(last) => {
             let chain = chain_to(alloc, p, &all, last)?;

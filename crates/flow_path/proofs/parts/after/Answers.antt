@@ -1,0 +1,10 @@
+use Rattle.std.specs.Prelude.{◌++◌}
+use Rattle.mit_syntax.specs.Expression.{expression_of}
+use Rattle.flow_path.specs.declared.step.How.TheVariants.{AfterReading, AfterReadLabel}
+use Rattle.flow_path.specs.Steps.{reads, read_label}
+use Rattle.flow_path.proofs.parts.after.Goals as goal
+
+pub returns : goal.returns
+returns c = λ T h.
+    c.better.ensures c.args.p.now c.args.target.now c.args.known.now.variables.items T (reads AfterReading c.args.pos (expression_of c.args.e.now) ++ read_label AfterReadLabel c.args.pos c.args.labels.now) h
+    (c.better-own.ensures c.args.p.now c.args.target.now c.args.known.now.variables.items (reads AfterReading c.args.pos (expression_of c.args.e.now)) (read_label AfterReadLabel c.args.pos c.args.labels.now) c.reads-read.ensures c.read_label-label.ensures)

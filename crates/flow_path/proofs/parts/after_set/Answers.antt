@@ -1,0 +1,10 @@
+use Rattle.std.specs.Prelude.{[], ◌∷◌}
+use Rattle.mit_syntax.specs.Expression.{expression_of}
+use Rattle.flow_path.specs.declared.step.Spot.TheVariants.{Variable}
+use Rattle.flow_path.specs.declared.step.How.TheVariants.{AfterAssigning}
+use Rattle.flow_path.specs.Steps.{after, one}
+use Rattle.flow_path.proofs.parts.after_set.Goals as goal
+
+pub returns : goal.returns
+returns c = λ T h.
+    c.better.ensures c.args.p.now c.args.target.now c.args.known.now.variables.items (after T (record { pos = c.args.pos; labels = c.args.labels.now }) (expression_of c.args.e.now)) (one AfterAssigning c.args.pos (Variable c.args.x)) (c.after-read.ensures T h) c.single-set.ensures
