@@ -34,7 +34,8 @@ pub enum Explained {
 pub fn explain<S: Shelf>(alloc: Global, shelf: &mut S, file: &str) -> Result<Explained, Stop>
     ensures same { (name : List ℕ) → S.content shelf.new name ≡ S.content shelf.old name }
     ensures later { (name : List ℕ) → S.faults shelf.old name ≤ S.faults shelf.new name }
-    ensures told { IfOk result (λ x. IsWhyAnswer (λ name. Rose (S.faults shelf.old name) (S.faults shelf.new name)) (S.content shelf.old) file.now (status_told x) (text_told x)) }
+    ensures told { IfOk result (λ x. IsWhyAnswer (λ name. Rose (S.faults shelf.old name) (S.faults shelf.new name)) (S.content shelf.old) file.now
+        (status_told x) (text_told x)) }
     ensures stop { IfErr result (IsStop (ProgramStops (Rose (S.faults shelf.old file.now) (S.faults shelf.new file.now)) (S.content shelf.old file.now))) }
 {
     let Source { text, program } = read_source(alloc, shelf, file)?;

@@ -26,8 +26,10 @@ fn origin_text<S: Shelf>(
 ) -> Result<Vec<u8>, Stop>
     ensures same { (name : List ℕ) → S.content shelf.new name ≡ S.content shelf.old name }
     ensures later { (name : List ℕ) → S.faults shelf.old name ≤ S.faults shelf.new name }
-    ensures text { IfOk result (λ v. ComesFrom (λ name. Rose (S.faults shelf.old name) (S.faults shelf.new name)) (S.content shelf.old) file.now word.now Status.Done v.items) }
-    ensures stop { IfErr result (IsStop (ComesFrom (λ name. Rose (S.faults shelf.old name) (S.faults shelf.new name)) (S.content shelf.old) file.now word.now)) }
+    ensures text { IfOk result (λ v. ComesFrom (λ name. Rose (S.faults shelf.old name) (S.faults shelf.new name)) (S.content shelf.old) file.now word.now
+        Status.Done v.items) }
+    ensures stop { IfErr result (IsStop (ComesFrom (λ name. Rose (S.faults shelf.old name) (S.faults shelf.new name)) (S.content shelf.old) file.now
+        word.now)) }
 {
     let Source { text, program } = read_source(alloc, shelf, file)?;
     let Some(spot) = named(&program, word) else {
