@@ -101,7 +101,7 @@ pub tell-requires-in-Gen : goal.tell-requires-in-Gen
 tell-requires-in-Gen g c =
     let content = g.S.Shelf.content c.args.shelf.now in
     let rises = λ (name : List ℕ). Rose (g.S.Shelf.faults c.args.shelf.now name) (g.S.Shelf.faults c.args.shelf.now name) in
-    no_fault (HasGenerated c.in-Gen.size c.in-Gen.number) c.gen_text.result (gen_no_fault c.in-Gen.size c.in-Gen.number) c.gen_text.ensures.stop
+    no_fault (HasGenerated c.in-Gen.size c.in-Gen.number) c.gen_text-text.result (gen_no_fault c.in-Gen.size c.in-Gen.number) c.gen_text-text.ensures.stop
 
 pub returns-in-Gen-clause-answered : goal.returns-in-Gen-clause-answered
 returns-in-Gen-clause-answered g c =
@@ -109,14 +109,14 @@ returns-in-Gen-clause-answered g c =
     let rises = λ (name : List ℕ). Rose (g.S.Shelf.faults c.args.shelf.now name) (g.S.Shelf.faults c.args.shelf.now name) in
     let answer = HasGenerated c.in-Gen.size c.in-Gen.number in
     subst (λ (x : Command). EndsBy (g.W.Sink.taken c.args.out.now) (g.W.Sink.taken c.tell-in-Gen.new.out) (Before content (asked_of x)) (IsAnswer rises content (asked_of x)) c.tell-in-Gen.result) (sym c.in-Gen.is)
-    (ends_finish (g.W.Sink.taken c.args.out.now) (g.W.Sink.taken c.tell-in-Gen.new.out) Nothing answer (told_status c.gen_text.result) (told_text c.gen_text.result) c.tell-in-Gen.result
-    (result_tells answer c.gen_text.result c.gen_text.ensures.text c.gen_text.ensures.stop) c.tell-in-Gen.ensures.told c.tell-in-Gen.ensures.prefix)
+    (ends_finish (g.W.Sink.taken c.args.out.now) (g.W.Sink.taken c.tell-in-Gen.new.out) Nothing answer (told_status c.gen_text-text.result) (told_text c.gen_text-text.result) c.tell-in-Gen.result
+    (result_tells answer c.gen_text-text.result c.gen_text-text.ensures.text c.gen_text-text.ensures.stop) c.tell-in-Gen.ensures.told c.tell-in-Gen.ensures.prefix)
 
 pub returns-in-Gen-clause-sound : goal.returns-in-Gen-clause-sound
 returns-in-Gen-clause-sound g c =
     let content = g.S.Shelf.content c.args.shelf.now in
     subst (λ (x : Command). IsTrue (is_past_typing c.tell-in-Gen.result) → IfSome (typed_content content (asked_of x)) IsAccepted) (sym c.in-Gen.is)
-    (told_sound c.gen_text.result (IsAccepted (Some (Some (program_text c.in-Gen.size c.in-Gen.number)))) c.tell-in-Gen.result c.gen_text.ensures.sound c.gen_text.ensures.sound_stop (λ n. (c.tell-in-Gen.ensures.told n).0))
+    (told_sound c.gen_text-text.result (IsAccepted (Some (Some (program_text c.in-Gen.size c.in-Gen.number)))) c.tell-in-Gen.result c.gen_text-text.ensures.sound c.gen_text-text.ensures.sound_stop (λ n. (c.tell-in-Gen.ensures.told n).0))
 
 pub tell-requires-in-Blackbox : goal.tell-requires-in-Blackbox
 tell-requires-in-Blackbox g c =
@@ -212,12 +212,12 @@ returns-in-Audit-clause-pieces g c =
 pub returns-in-Gen-clause-fetched : goal.returns-in-Gen-clause-fetched
 returns-in-Gen-clause-fetched g c =
     subst (λ (x : Command). HasFetched (files_of (asked_of x)) c.tell-in-Gen.result (g.S.Shelf.log c.args.shelf.now) (g.S.Shelf.log c.args.shelf.now)) (sym c.in-Gen.is)
-    (told_nothing (HasGenerated c.in-Gen.size c.in-Gen.number) (g.S.Shelf.log c.args.shelf.now) c.gen_text.result c.tell-in-Gen.result (gen_no_read c.in-Gen.size c.in-Gen.number) c.gen_text.ensures.stop (λ n. (c.tell-in-Gen.ensures.told n).0))
+    (told_nothing (HasGenerated c.in-Gen.size c.in-Gen.number) (g.S.Shelf.log c.args.shelf.now) c.gen_text-text.result c.tell-in-Gen.result (gen_no_read c.in-Gen.size c.in-Gen.number) c.gen_text-text.ensures.stop (λ n. (c.tell-in-Gen.ensures.told n).0))
 
 pub returns-in-Gen-clause-pieces : goal.returns-in-Gen-clause-pieces
 returns-in-Gen-clause-pieces g c =
     subst (λ (x : Command). HasWritten (ArePieces (Some (asked_of x))) c.tell-in-Gen.result (g.W.Sink.log c.args.out.now) (g.W.Sink.log c.tell-in-Gen.new.out)) (sym c.in-Gen.is)
-    (told_piece c.gen_text.result c.tell-in-Gen.result (g.W.Sink.log c.args.out.now) (g.W.Sink.log c.tell-in-Gen.new.out) (λ n. (c.tell-in-Gen.ensures.told n).0) c.tell-in-Gen.ensures.sent c.tell-in-Gen.ensures.broken)
+    (told_piece c.gen_text-text.result c.tell-in-Gen.result (g.W.Sink.log c.args.out.now) (g.W.Sink.log c.tell-in-Gen.new.out) (λ n. (c.tell-in-Gen.ensures.told n).0) c.tell-in-Gen.ensures.sent c.tell-in-Gen.ensures.broken)
 
 pub returns-in-Blackbox-clause-fetched : goal.returns-in-Blackbox-clause-fetched
 returns-in-Blackbox-clause-fetched g c =
