@@ -144,12 +144,7 @@ impl Front {
 }
 
 /// Goes on from the cheapest place that waits, if one does, and takes its cost for known.
-fn turn(
-    p: &Program,
-    flows: &Flows,
-    known: &mut Known,
-    front: &mut Front,
-) -> Result<(), AllocError>
+fn turn(p: &Program, flows: &Flows, known: &mut Known, front: &mut Front) -> Result<(), AllocError>
     ensures { (t : ATarget) → IsKnownOf p.now t known.old → IsKnownOf p.now t known.new }
 {
     match front.next() {

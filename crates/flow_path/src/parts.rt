@@ -192,7 +192,7 @@ pub(crate) fn after_put(
     requires { IsKnownOf p.now target.now known.now }
     ensures { (T : List APart) → IsBest p.now target.now known.now.variables.items T t
         → IsBest p.now target.now known.now.variables.items
-            (after_put T (record { pos = pos; labels = labels.now }) first (expression_of index.now) (expression_of e.now)) result }
+        (after_put T (record { pos = pos; labels = labels.now }) first (expression_of index.now) (expression_of e.now)) result }
 {
     let set = after_set(t, pos, labels, first, e, p, known, target);
     let read = reads(index, How::AfterReading, pos, p, known, target);
@@ -246,7 +246,7 @@ pub(crate) fn put_here(
     requires { IsKnownOf p.now target.now known.now }
     ensures { (P : List APart) → IsBest p.now target.now known.now.variables.items P pc
         → IsBest p.now target.now known.now.variables.items
-            (P ++ (reads WhenIndex pos (expression_of index.now) ++ index_reads pos (expression_of e.now))) result }
+        (P ++ (reads WhenIndex pos (expression_of index.now) ++ index_reads pos (expression_of e.now))) result }
 {
     let place = reads(index, How::ReadsInIndex, pos, p, known, target);
     let read = index_reads(e, pos, p, known, target);
@@ -287,7 +287,7 @@ pub(crate) fn set_left(
     requires { IsKnownOf p.now target.now known.now }
     ensures { (P T : List APart) → IsBest p.now target.now known.now.variables.items P pc → IsBest p.now target.now known.now.variables.items T t
         → IsBest p.now target.now known.now.variables.items
-            (reads WhenReads pos (expression_of e.now) ++ (P ++ (read_label WhenLabel pos labels.now ++ T))) result }
+        (reads WhenReads pos (expression_of e.now) ++ (P ++ (read_label WhenLabel pos labels.now ++ T))) result }
 {
     let read = reads(e, How::Reads, pos, p, known, target);
     let rest = around(pc, t, pos, labels, p, known, target);
@@ -309,8 +309,8 @@ pub(crate) fn put_left(
     requires { IsKnownOf p.now target.now known.now }
     ensures { (P T : List APart) → IsBest p.now target.now known.now.variables.items P pc → IsBest p.now target.now known.now.variables.items T t
         → IsBest p.now target.now known.now.variables.items
-            (reads WhenReads pos (expression_of e.now) ++ (reads WhenIndex pos (expression_of index.now) ++ (P ++ (read_label WhenLabel pos labels.now ++ T))))
-            result }
+        (reads WhenReads pos (expression_of e.now) ++ (reads WhenIndex pos (expression_of index.now) ++ (P ++ (read_label WhenLabel pos labels.now ++ T))))
+        result }
 {
     let read = reads(e, How::Reads, pos, p, known, target);
     let place = reads(index, How::ReadsInIndex, pos, p, known, target);

@@ -58,6 +58,6 @@ module _ {E : Type 0} (structure : Place → Option (E → Rows)) (touched_at : 
           → IfSome o (λ at. IsCacheOf order (sets_at p) (ways_at p) (at f)) → IfSome o (Moves touched_at p q) →
           option_map_or (λ (at : E → Rows). part_of l (at e)) o [] ≡ option_map_or (λ (at : E → Rows). part_of l (at f)) o [] →
           option_map_or (λ (at : E → Rows). part_of l (at (touched_at q tag ew e))) o []
-              ≡ option_map_or (λ (at : E → Rows). part_of l (at (touched_at q tag ew f))) o []
+          ≡ option_map_or (λ (at : E → Rows). part_of l (at (touched_at q tag ew f))) o []
       go None c d m h = refl
       go (Some at) c d m h = moved at c d m h

@@ -8,8 +8,13 @@ abbrev pub no_tally : Tally
 no_tally = record { ended = 0; shortest = 0; longest = 0; missed = 0 }
 
 abbrev pub noted : Tally → ℕ → Bool → Tally
-noted t w b = record { ended = t.ended + 1; shortest = cond (eqb t.ended 0) w (min t.shortest w); longest = max t.longest w; missed = cond b (t.missed + 1)
-    t.missed }
+noted t w b = record {
+  ended = t.ended + 1;
+  shortest = cond (eqb t.ended 0) w (min t.shortest w);
+  longest = max t.longest w;
+  missed = cond b (t.missed + 1)
+      t.missed;
+}
 
 -- the tally of the mark, with one more, where there is one
 abbrev pub noted_at : List Tally → ℕ → ℕ → Bool → List Tally
