@@ -73,4 +73,4 @@ demanded =
     (again (lattice.join (lattice.join 0 0) 0) (again (lattice.join 0 0) (again 0 bottom)))
 
 pub typed : HasType labelled
-typed = (0, (demanded, again 0 bottom, refl), (tt, tt))
+typed = (0, (demanded, again 0 bottom, refl))
