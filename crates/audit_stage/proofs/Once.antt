@@ -29,22 +29,28 @@ use Rattle.tool_stages.proofs.OneLemmas.{Same}
 use Rattle.tool_stages.proofs.AgreeLemmas.{all_halt}
 use Rattle.audit_stage.specs.Audited.{AuditStops}
 
-pub same_report : (e : EnvName) (q : LabelledProgram) (o t : ℕ) (ss : List StartValue) (r s : AuditReport) → ReportsIn e q o t ss r → ReportsIn e q o t ss s → SameReport r s
+pub same_report : (e : EnvName) (q : LabelledProgram) (o t : ℕ) (ss : List StartValue) (r s : AuditReport) → ReportsIn e q o t ss r
+    → ReportsIn e q o t ss s → SameReport r s
 same_report Flat q o t ss r s h k = audit.same_report flat_env (λ order e. Unit {0}) q o t (starts_of flat_made q.program.order ss) r s h k
 same_report Part q o t ss r s h k = audit.same_report (part_by_history q.program.order) AnyHistory q o t (starts_of history_made q.program.order ss) r s h k
 same_report Part2 q o t ss r s h k = audit.same_report (part2_by_history q.program.order) AnyHistory q o t (starts_of history_made q.program.order ss) r s h k
 
-same_fault : (e : EnvName) (q : LabelledProgram) (o t : ℕ) (ss : List StartValue) (f g : AuditFault) → AuditFaultsIn e q o t ss f → AuditFaultsIn e q o t ss g → f ≢ audit_fault.Memory → g ≢ audit_fault.Memory → f ≡ g
+same_fault : (e : EnvName) (q : LabelledProgram) (o t : ℕ) (ss : List StartValue) (f g : AuditFault) → AuditFaultsIn e q o t ss f → AuditFaultsIn e q o t ss g
+    → f ≢ audit_fault.Memory → g ≢ audit_fault.Memory → f ≡ g
 same_fault Flat q o t ss f g h k n m = audit.same_fault flat_env (λ order e. Unit {0}) q o t (starts_of flat_made q.program.order ss) f g h k n m
-same_fault Part q o t ss f g h k n m = audit.same_fault (part_by_history q.program.order) AnyHistory q o t (starts_of history_made q.program.order ss) f g h k n m
-same_fault Part2 q o t ss f g h k n m = audit.same_fault (part2_by_history q.program.order) AnyHistory q o t (starts_of history_made q.program.order ss) f g h k n m
+same_fault Part q o t ss f g h k n m =
+    audit.same_fault (part_by_history q.program.order) AnyHistory q o t (starts_of history_made q.program.order ss) f g h k n m
+same_fault Part2 q o t ss f g h k n m =
+    audit.same_fault (part2_by_history q.program.order) AnyHistory q o t (starts_of history_made q.program.order ss) f g h k n m
 
-pub not_fault : (e : EnvName) (q : LabelledProgram) (o t : ℕ) (ss : List StartValue) (r : AuditReport) (f : AuditFault) → ReportsIn e q o t ss r → AuditFaultsIn e q o t ss f → f ≡ audit_fault.Memory
+pub not_fault : (e : EnvName) (q : LabelledProgram) (o t : ℕ) (ss : List StartValue) (r : AuditReport) (f : AuditFault) → ReportsIn e q o t ss r
+    → AuditFaultsIn e q o t ss f → f ≡ audit_fault.Memory
 not_fault Flat q o t ss r f h k = audit.not_fault flat_env (λ order e. Unit {0}) q o t (starts_of flat_made q.program.order ss) r f h k
 not_fault Part q o t ss r f h k = audit.not_fault (part_by_history q.program.order) AnyHistory q o t (starts_of history_made q.program.order ss) r f h k
 not_fault Part2 q o t ss r f h k = audit.not_fault (part2_by_history q.program.order) AnyHistory q o t (starts_of history_made q.program.order ss) r f h k
 
-pub same_head : (o : Order) (l : Label) (t runs levels runs' levels' : ℕ) → runs ≡ runs' → levels ≡ levels' → head_lines o l t runs levels ≡ head_lines o l t runs' levels'
+pub same_head : (o : Order) (l : Label) (t runs levels runs' levels' : ℕ) → runs ≡ runs' → levels ≡ levels'
+    → head_lines o l t runs levels ≡ head_lines o l t runs' levels'
 same_head o l t runs levels runs' levels' e f = ap (λ z. head_lines o l t z levels) e ∙ ap (λ z. head_lines o l t runs' z) f
 
 pub same_tail : (m n : Measures) → SameMeasures m n → tail_lines m ≡ tail_lines n
@@ -82,23 +88,30 @@ pub record HasFault (e : EnvName) (t : ℕ) (q : LabelledProgram) (l : Label) (s
   pub told : s ≡ fault_status fault
   pub line : x ≡ fault_line q.program fault
 
-pub audit_stops : (e : EnvName) (t : ℕ) (q : LabelledProgram) (l : Label) (ss : List StartValue) (s : Status) (x : List ℕ) → AuditStops e t q l ss s x → HasFault e t q l ss s x
+pub audit_stops : (e : EnvName) (t : ℕ) (q : LabelledProgram) (l : Label) (ss : List StartValue) (s : Status) (x : List ℕ)
+    → AuditStops e t q l ss s x → HasFault e t q l ss s x
 audit_stops e t q l ss status.TooLong x h = record { fault = audit_fault.TooMuch h.0; none = λ e. cc; is = h.1; told = refl; line = h.2 }
 audit_stops e t q l ss status.Disagree x h = record { fault = audit_fault.Disagree h.0 h.1; none = λ e. cc; is = h.2; told = refl; line = h.3 }
 audit_stops e t q l ss status.Unfinished x h = record { fault = audit_fault.Unfinished h.0 h.1; none = λ e. cc; is = h.2; told = refl; line = h.3 }
 audit_stops e t q l ss _ x h = absurd h
 
-pub one_audit_stop : (e : EnvName) (t : ℕ) (q : LabelledProgram) (l : Label) (ss : List StartValue) (s u : Status) (x y : List ℕ) → AuditStops e t q l ss s x → AuditStops e t q l ss u y → Same s u x y
+pub one_audit_stop : (e : EnvName) (t : ℕ) (q : LabelledProgram) (l : Label) (ss : List StartValue) (s u : Status) (x y : List ℕ) → AuditStops e t q l ss s x
+    → AuditStops e t q l ss u y → Same s u x y
 one_audit_stop e t q l ss s u x y h k =
     let a = audit_stops e t q l ss s x h in
     let b = audit_stops e t q l ss u y k in
     let same : a.fault ≡ b.fault = same_fault e q l.number t ss a.fault b.fault a.is b.is a.none b.none in
     (a.told ∙ ap fault_status same ∙ sym b.told, a.line ∙ ap (fault_line q.program) same ∙ sym b.line)
 
-halt_in : (e : EnvName) (t : ℕ) (q : LabelledProgram) (o : Label) (ss : List StartValue) (f : AuditFault) → CanBeAudited e t q o.number ss → AuditFaultsIn e q o.number t ss f → f ≡ audit_fault.Memory
-halt_in Flat t q o ss f k h = no_audit_fault flat_env (λ order e. Unit {0}) q o.number t (starts_of flat_made q.program.order ss) f k.cut.agree (all_halt flat_env flat_made q t ss k.halt) k.cut.few h
-halt_in Part t q o ss f k h = no_audit_fault (part_by_history q.program.order) AnyHistory q o.number t (starts_of history_made q.program.order ss) f k.cut.agree (all_halt (part_by_history q.program.order) history_made q t ss k.halt) k.cut.few h
-halt_in Part2 t q o ss f k h = no_audit_fault (part2_by_history q.program.order) AnyHistory q o.number t (starts_of history_made q.program.order ss) f k.cut.agree (all_halt (part2_by_history q.program.order) history_made q t ss k.halt) k.cut.few h
+halt_in : (e : EnvName) (t : ℕ) (q : LabelledProgram) (o : Label) (ss : List StartValue) (f : AuditFault) → CanBeAudited e t q o.number ss
+    → AuditFaultsIn e q o.number t ss f → f ≡ audit_fault.Memory
+halt_in Flat t q o ss f k h = no_audit_fault flat_env (λ order e. Unit {0}) q o.number t (starts_of flat_made q.program.order ss) f k.cut.agree
+    (all_halt flat_env flat_made q t ss k.halt) k.cut.few h
+halt_in Part t q o ss f k h = no_audit_fault (part_by_history q.program.order) AnyHistory q o.number t (starts_of history_made q.program.order ss) f k.cut.agree
+    (all_halt (part_by_history q.program.order) history_made q t ss k.halt) k.cut.few h
+halt_in Part2 t q o ss f k h = no_audit_fault (part2_by_history q.program.order) AnyHistory q o.number t (starts_of history_made q.program.order ss) f
+    k.cut.agree (all_halt (part2_by_history q.program.order) history_made q t ss k.halt) k.cut.few h
 
-pub audit_goes : (e : EnvName) (t : ℕ) (q : LabelledProgram) (o : Label) (ss : List StartValue) (s : Status) (x : List ℕ) → CanBeAudited e t q o.number ss → AuditStops e t q o ss s x → ⊥
+pub audit_goes : (e : EnvName) (t : ℕ) (q : LabelledProgram) (o : Label) (ss : List StartValue) (s : Status) (x : List ℕ) → CanBeAudited e t q o.number ss
+    → AuditStops e t q o ss s x → ⊥
 audit_goes e t q o ss s x k h = let stop = audit_stops e t q o ss s x h in stop.none (halt_in e t q o ss stop.fault k stop.is)

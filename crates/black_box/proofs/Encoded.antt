@@ -42,24 +42,30 @@ below_step t n s len rs e j apart early jt js far due free =
   where
     on_due : s ≤ t → is_due s rs ≡ true → j + number (t + 1) (slots_from t (suc n) s len rs) < (t + 1) ^ suc e
     on_due here d =
-        let now : number (t + 1) (slots_from t (suc n) s len rs) ≡ suc (number (t + 1) (slots_from t n (s + len) len (drop 1 rs))) = ap (number (t + 1)) (slot_due t n s len rs here d) in
+        let now : number (t + 1) (slots_from t (suc n) s len rs) ≡ suc (number (t + 1) (slots_from t n (s + len) len (drop 1 rs))) =
+            ap (number (t + 1)) (slot_due t n s len rs here d) in
         omega (arith, now, due (omega arith) (omega arith))
 
     on_free : s ≤ t → (e : ℕ) → t < len * 2 ^ suc e → is_due s rs ≡ false → j + number (t + 1) (slots_from t (suc n) s len rs) < (t + 1) ^ suc e
     on_free here zero far d =
-        let now : number (t + 1) (slots_from t (suc n) s len rs) ≡ (t + 1) * number (t + 1) (slots_from t n (s + 2 * len) (2 * len) rs) = ap (number (t + 1)) (slot_free t n s len rs here d) in
+        let now : number (t + 1) (slots_from t (suc n) s len rs) ≡ (t + 1) * number (t + 1) (slots_from t n (s + 2 * len) (2 * len) rs) =
+            ap (number (t + 1)) (slot_free t n s len rs here d) in
         let two : len * 2 ^ 1 ≡ len * 2 = ap (λ z. len * z) refl in
-        let none : number (t + 1) (slots_from t n (s + 2 * len) (2 * len) rs) ≡ 0 = ap (number (t + 1)) (no_slots t n (s + 2 * len) (2 * len) rs (omega (arith, two, far))) in
+        let none : number (t + 1) (slots_from t n (s + 2 * len) (2 * len) rs) ≡ 0 =
+            ap (number (t + 1)) (no_slots t n (s + 2 * len) (2 * len) rs (omega (arith, two, far))) in
         let gone : (t + 1) * number (t + 1) (slots_from t n (s + 2 * len) (2 * len) rs) ≡ (t + 1) * 0 = ap (λ z. (t + 1) * z) none in
         omega (arith, now, gone, base_le (t + 1) 0 (omega arith))
     on_free here (suc e) far d =
-        let now : number (t + 1) (slots_from t (suc n) s len rs) ≡ (t + 1) * number (t + 1) (slots_from t n (s + 2 * len) (2 * len) rs) = ap (number (t + 1)) (slot_free t n s len rs here d) in
-        let twice : len * 2 ^ suc (suc e) ≡ 2 * len * 2 ^ suc e = ap (λ z. len * z) (pow-succ' 2 (suc e)) ∙ sym (mul_assoc len 2 (2 ^ suc e)) ∙ ap (λ z. z * 2 ^ suc e) (mul_comm len 2) in
+        let now : number (t + 1) (slots_from t (suc n) s len rs) ≡ (t + 1) * number (t + 1) (slots_from t n (s + 2 * len) (2 * len) rs) =
+            ap (number (t + 1)) (slot_free t n s len rs here d) in
+        let twice : len * 2 ^ suc (suc e) ≡ 2 * len * 2 ^ suc e = ap (λ z. len * z) (pow-succ' 2 (suc e)) ∙ sym (mul_assoc len 2 (2 ^ suc e))
+            ∙ ap (λ z. z * 2 ^ suc e) (mul_comm len 2) in
         let x = number (t + 1) (slots_from t n (s + 2 * len) (2 * len) rs) in
         let less : x + 1 ≤ (t + 1) ^ suc e = let f = free e (subst (λ z. t < z) twice far) in omega (arith, f) in
         omega (arith, now, mul-le-mul_left (t + 1) less, pow-succ' (t + 1) (suc e))
 
-number_below : (t n s len : ℕ) (rs : List ℕ) (e j : ℕ) → 0 < len → len ≤ s → j ≤ t → j < s → t < len * 2 ^ suc e → j + number (t + 1) (slots_from t n s len rs) < (t + 1) ^ suc e
+number_below : (t n s len : ℕ) (rs : List ℕ) (e j : ℕ) → 0 < len → len ≤ s → j ≤ t → j < s → t < len * 2 ^ suc e
+    → j + number (t + 1) (slots_from t n s len rs) < (t + 1) ^ suc e
 number_below t zero s len rs e j apart early jt js far = omega (arith, base_le (t + 1) e (omega arith))
 number_below t (suc n) s len rs e j apart early jt js far =
     below_step t n s len rs e j apart early jt js far
@@ -89,7 +95,8 @@ leads t (suc n) s len rs apart =
     (λ (here : s ≤ t).
     ⊎_elim
     (λ (d : is_due s rs ≡ true). subst (Leads t s) (sym (slot_due t n s len rs here d)) (one_more here (leads t n (s + len) len (drop 1 rs) apart)))
-    (λ (d : is_due s rs ≡ false). subst (Leads t s) (sym (slot_free t n s len rs here d)) (0, number (t + 1) (slots_from t n (s + 2 * len) (2 * len) rs), omega arith, omega arith))
+    (λ (d : is_due s rs ≡ false). subst (Leads t s) (sym (slot_free t n s len rs here d)) (0,
+        number (t + 1) (slots_from t n (s + 2 * len) (2 * len) rs), omega arith, omega arith))
     (cases_Bool (is_due s rs)))
     (cases_lt t s)
   where
@@ -106,9 +113,12 @@ clash t s len x y xs ps here apart l ex e =
     let z = d.0 in absurd (omega (arith, z))
 
 same_step : (t n s len : ℕ) (rs rs' : List ℕ) → 0 < len → 0 < s
-    → (number (t + 1) (slots_from t n (s + len) len (drop 1 rs)) ≡ number (t + 1) (slots_from t n (s + len) len (drop 1 rs')) → slots_from t n (s + len) len (drop 1 rs) ≡ slots_from t n (s + len) len (drop 1 rs'))
-    → (number (t + 1) (slots_from t n (s + 2 * len) (2 * len) rs) ≡ number (t + 1) (slots_from t n (s + 2 * len) (2 * len) rs') → slots_from t n (s + 2 * len) (2 * len) rs ≡ slots_from t n (s + 2 * len) (2 * len) rs')
-    → number (t + 1) (slots_from t (suc n) s len rs) ≡ number (t + 1) (slots_from t (suc n) s len rs') → slots_from t (suc n) s len rs ≡ slots_from t (suc n) s len rs'
+    → (number (t + 1) (slots_from t n (s + len) len (drop 1 rs)) ≡ number (t + 1) (slots_from t n (s + len) len (drop 1 rs'))
+    → slots_from t n (s + len) len (drop 1 rs) ≡ slots_from t n (s + len) len (drop 1 rs'))
+    → (number (t + 1) (slots_from t n (s + 2 * len) (2 * len) rs) ≡ number (t + 1) (slots_from t n (s + 2 * len) (2 * len) rs')
+    → slots_from t n (s + 2 * len) (2 * len) rs ≡ slots_from t n (s + 2 * len) (2 * len) rs')
+    → number (t + 1) (slots_from t (suc n) s len rs) ≡ number (t + 1) (slots_from t (suc n) s len rs')
+    → slots_from t (suc n) s len rs ≡ slots_from t (suc n) s len rs'
 same_step t n s len rs rs' apart ps due free e =
     ⊎_elim
     (λ (late : t < s). no_slots t (suc n) s len rs late ∙ sym (no_slots t (suc n) s len rs' late))
@@ -119,15 +129,19 @@ same_step t n s len rs rs' apart ps due free e =
     (cases_Bool (is_due s rs)))
     (cases_lt t s)
   where
-    due_number : (l : List ℕ) → s ≤ t → is_due s l ≡ true → number (t + 1) (slots_from t (suc n) s len l) ≡ suc (number (t + 1) (slots_from t n (s + len) len (drop 1 l)))
+    due_number : (l : List ℕ) → s ≤ t → is_due s l ≡ true
+        → number (t + 1) (slots_from t (suc n) s len l) ≡ suc (number (t + 1) (slots_from t n (s + len) len (drop 1 l)))
     due_number l here d = ap (number (t + 1)) (slot_due t n s len l here d)
 
-    free_number : (l : List ℕ) → s ≤ t → is_due s l ≡ false → number (t + 1) (slots_from t (suc n) s len l) ≡ (t + 1) * number (t + 1) (slots_from t n (s + 2 * len) (2 * len) l)
+    free_number : (l : List ℕ) → s ≤ t → is_due s l ≡ false
+        → number (t + 1) (slots_from t (suc n) s len l) ≡ (t + 1) * number (t + 1) (slots_from t n (s + 2 * len) (2 * len) l)
     free_number l here d = ap (number (t + 1)) (slot_free t n s len l here d)
 
-    one_due : (l l' : List ℕ) → s ≤ t → is_due s l ≡ true → is_due s l' ≡ false → number (t + 1) (slots_from t (suc n) s len l) ≡ number (t + 1) (slots_from t (suc n) s len l') → ⊥
+    one_due : (l l' : List ℕ) → s ≤ t → is_due s l ≡ true → is_due s l' ≡ false
+        → number (t + 1) (slots_from t (suc n) s len l) ≡ number (t + 1) (slots_from t (suc n) s len l') → ⊥
     one_due l l' here d f same =
-        clash t s len (number (t + 1) (slots_from t n (s + len) len (drop 1 l))) (number (t + 1) (slots_from t n (s + 2 * len) (2 * len) l')) (slots_from t n (s + len) len (drop 1 l))
+        clash t s len (number (t + 1) (slots_from t n (s + len) len (drop 1 l))) (number (t + 1) (slots_from t n (s + 2 * len) (2 * len) l'))
+            (slots_from t n (s + len) len (drop 1 l))
         ps here apart (leads t n (s + len) len (drop 1 l) apart) refl
         (sym (due_number l here d) ∙ same ∙ free_number l' here f)
 
@@ -147,7 +161,8 @@ same_step t n s len rs rs' apart ps due free e =
         ∙ ap (slot_then s false) (free (digits_same (t + 1) 0 x 0 y (omega arith) (omega arith) (omega (arith, a, b, e))).1)
         ∙ sym (slot_free t n s len rs' here d')
 
-same_slots : (t n s len : ℕ) (rs rs' : List ℕ) → 0 < len → 0 < s → number (t + 1) (slots_from t n s len rs) ≡ number (t + 1) (slots_from t n s len rs') → slots_from t n s len rs ≡ slots_from t n s len rs'
+same_slots : (t n s len : ℕ) (rs rs' : List ℕ) → 0 < len → 0 < s → number (t + 1) (slots_from t n s len rs) ≡ number (t + 1) (slots_from t n s len rs')
+    → slots_from t n s len rs ≡ slots_from t n s len rs'
 same_slots t zero s len rs rs' apart ps e = refl
 same_slots t (suc n) s len rs rs' apart ps e =
     same_step t n s len rs rs' apart ps
@@ -166,7 +181,8 @@ all_below q t pq pt rs = go (digits_is t pt)
         let low = number_below t t q q rs d.0 0 pq (omega arith) (omega arith) pq far in
         subst (λ k. number (t + 1) (slots q t rs) < (t + 1) ^ k) (sym d.1) (omega (arith, low))
 
-pub few_releases : (q t : ℕ) → 0 < q → 0 < t → (runs : List (List ℕ)) → (same : List ℕ → List ℕ → Bool) → Tests same → distinct_count same (map (releases q t) runs) ≤ box_bound t
+pub few_releases : (q t : ℕ) → 0 < q → 0 < t → (runs : List (List ℕ)) → (same : List ℕ → List ℕ → Bool) → Tests same
+    → distinct_count same (map (releases q t) runs) ≤ box_bound t
 few_releases q t pq pt runs same tests =
     count_few (releases q t) (λ rs. number (t + 1) (slots q t rs)) (box_bound t) (all_below q t pq pt) same tests
     (λ rs rs' e. ap released (same_slots t t q q rs rs' pq pq e)) runs

@@ -29,7 +29,8 @@ module _ (q t : ℕ) (ready rs : List ℕ) where
   none_late : (m k : ℕ) → t < (nth_slot q rs k).cycle → empty_from q t rs k m ≡ 0
   none_late zero k h = refl
   none_late (suc m) k h =
-      let here = cond-false {A = ℕ} (nat_le (nth_slot q rs k).cycle t && not (has rs (nth_slot q rs k).cycle)) 1 0 (and_left (nat_le (nth_slot q rs k).cycle t) (not (has rs (nth_slot q rs k).cycle)) (lt-leb (nth_slot q rs k).cycle t h)) in
+      let here = cond-false {A = ℕ} (nat_le (nth_slot q rs k).cycle t && not (has rs (nth_slot q rs k).cycle)) 1 0
+          (and_left (nat_le (nth_slot q rs k).cycle t) (not (has rs (nth_slot q rs k).cycle)) (lt-leb (nth_slot q rs k).cycle t h)) in
       let up = later_slot t ready rs (nth_slot q rs k) in
       omega (arith, here, none_late m (suc k) (omega (arith, up, h)))
 
@@ -37,9 +38,11 @@ module _ (q t : ℕ) (ready rs : List ℕ) where
   full s len h = cond-false {A = ℕ} (nat_le s t && not (has rs s)) 1 0 (and_right (nat_le s t) (not (has rs s)) (not_from_true (has rs s) h))
 
   bare : (s len : ℕ) → s ≤ t → has rs s ≡ false → is_empty t rs (record { cycle = s; apart = len }) ≡ 1
-  bare s len here h = cond-true {A = ℕ} (nat_le s t && not (has rs s)) 1 0 (and_from (nat_le s t) (not (has rs s)) (le-leb s t here) (not_from_false (has rs s) h))
+  bare s len here h = cond-true {A =
+      ℕ} (nat_le s t && not (has rs s)) 1 0 (and_from (nat_le s t) (not (has rs s)) (le-leb s t here) (not_from_false (has rs s) h))
 
-  ended_is : (m k s len : ℕ) (before : List ℕ) → nth_slot q rs k ≡ record { cycle = s; apart = len } → Reached t ready rs s len m before → ended (slots_from t m s len (drop (length before) ready)) ≡ empty_from q t rs k m
+  ended_is : (m k s len : ℕ) (before : List ℕ) → nth_slot q rs k ≡ record { cycle = s; apart = len } → Reached t ready rs s len m before
+      → ended (slots_from t m s len (drop (length before) ready)) ≡ empty_from q t rs k m
   ended_is zero k s len before at w = refl
   ended_is (suc m) k s len before at w =
       ⊎_elim
@@ -51,14 +54,17 @@ module _ (q t : ℕ) (ready rs : List ℕ) where
       (λ (d : is_due s (drop (length before) ready) ≡ true).
       let h = has_due t ready rs s len m before w here d in
       let now = ap ended (slot_due t m s len (drop (length before) ready) here d) in
-      let left = ap (λ l. ended (slots_from t m (s + len) len l)) (drop-drop 1 (length before) ready ∙ ap (λ i. drop i ready) (sym (length-append before (s ∷ [])))) in
-      let rest = ended_is m (suc k) (s + len) len (before ++ s ∷ []) (ap (slot_after rs) at ∙ slot_with t ready rs (record { cycle = s; apart = len }) h) (next_due t ready rs s len m before w here d) in
+      let left = ap (λ l. ended (slots_from t m (s + len) len l)) (drop-drop 1 (length before) ready
+          ∙ ap (λ i. drop i ready) (sym (length-append before (s ∷ [])))) in
+      let rest = ended_is m (suc k) (s + len) len (before ++ s ∷ []) (ap (slot_after rs) at ∙ slot_with t ready rs (record { cycle = s; apart = len }) h)
+          (next_due t ready rs s len m before w here d) in
       let none = ap (is_empty t rs) at ∙ full s len h in
       omega (arith, now, left, rest, none))
       (λ (d : is_due s (drop (length before) ready) ≡ false).
       let h = has_free t ready rs s len m before w here d in
       let now = ap ended (slot_free t m s len (drop (length before) ready) here d) in
-      let rest = ended_is m (suc k) (s + 2 * len) (2 * len) before (ap (slot_after rs) at ∙ slot_without t ready rs (record { cycle = s; apart = len }) h) (next_free t ready rs s len m before w here d) in
+      let rest = ended_is m (suc k) (s + 2 * len) (2 * len) before (ap (slot_after rs) at ∙ slot_without t ready rs (record { cycle = s; apart = len }) h)
+          (next_free t ready rs s len m before w here d) in
       let one = ap (is_empty t rs) at ∙ bare s len here h in
       omega (arith, now, rest, one))
       (cases_Bool (is_due s (drop (length before) ready))))
@@ -70,7 +76,8 @@ epochs_are q t pq ready =
     let start : Reached t ready (releases q t ready) q q t [] = record { enough = omega arith; apart = pq; parts = refl; lower = tt } in
     let a = ended_is q t ready rs t 0 q q [] refl start in
     let e : 0 + t ≡ t = omega arith in
-    let b : empty_slots q t (releases q t ready) t ≡ 0 + empty_from q t (releases q t ready) 0 t = subst (λ z. empty_slots q t (releases q t ready) z ≡ 0 + empty_from q t (releases q t ready) 0 t) e (empty_more q t rs t 0) in
+    let b : empty_slots q t (releases q t ready) t ≡ 0 + empty_from q t (releases q t ready) 0 t =
+        subst (λ z. empty_slots q t (releases q t ready) z ≡ 0 + empty_from q t (releases q t ready) 0 t) e (empty_more q t rs t 0) in
     omega (arith, a, b)
 
 pub is_outcome : (q t : ℕ) → 0 < q → (ready : List ℕ) → IsOutcome q t ready (outcome q t ready)

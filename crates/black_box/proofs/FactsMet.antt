@@ -1,5 +1,6 @@
 -- The releases of the schedule are as the facts on the whole list say.
-use Rattle.std.proofs.Common.{◌≡◌, ℕ, zero, suc, ◌+◌, ◌*◌, ◌<◌, ◌≤◌, List, [], ◌∷◌, ◌++◌, length, drop, append_assoc, refl, sym, ap, ◌∙◌, subst, ⊎_elim, arith, length-append}
+use Rattle.std.proofs.Common.{◌≡◌, ℕ, zero, suc, ◌+◌, ◌*◌, ◌<◌, ◌≤◌, List, [], ◌∷◌, ◌++◌, length, drop, append_assoc, refl, sym, ap, ◌∙◌, subst, ⊎_elim}
+use Rattle.std.proofs.Common.{arith, length-append}
 use Rattle.std.specs.Prelude.{true, false, cond, ◌==◌, nat_lt, count_by}
 use Rattle.std.proofs.lemmas.Bool.{cases_Bool, cases_lt, cond-true, cond-false, cond_both, or_from, or_left, or_right, eq-eqb, ne_eqb, lt-ltb, le-ltb, leb-true}
 use Rattle.std.proofs.lemmas.List.{drop-drop}
@@ -31,14 +32,17 @@ all_from t zero s len rs = tt
 all_from t (suc n) s len rs =
     go (all_from t n (s + len) len (drop 1 rs)) (all_from t n (s + 2 * len) (2 * len) rs)
   where
-    go : Each (IsFrom (s + len) t) (released (slots_from t n (s + len) len (drop 1 rs))) → Each (IsFrom (s + 2 * len) t) (released (slots_from t n (s + 2 * len) (2 * len) rs)) → Each (IsFrom s t) (released (slots_from t (suc n) s len rs))
+    go : Each (IsFrom (s + len) t) (released (slots_from t n (s + len) len (drop 1 rs)))
+        → Each (IsFrom (s + 2 * len) t) (released (slots_from t n (s + 2 * len) (2 * len) rs)) → Each (IsFrom s t) (released (slots_from t (suc n) s len rs))
     go a b =
         ⊎_elim
         (λ (late : t < s). subst (λ z. Each (IsFrom s t) (released z)) (sym (no_slots t (suc n) s len rs late)) tt)
         (λ (here : s ≤ t).
         ⊎_elim
-        (λ (d : is_due s rs ≡ true). subst (λ z. Each (IsFrom s t) (released z)) (sym (slot_due t n s len rs here d)) ((omega arith, here), from_later t s (s + len) (omega arith) (released (slots_from t n (s + len) len (drop 1 rs))) a))
-        (λ (d : is_due s rs ≡ false). subst (λ z. Each (IsFrom s t) (released z)) (sym (slot_free t n s len rs here d)) (from_later t s (s + 2 * len) (omega arith) (released (slots_from t n (s + 2 * len) (2 * len) rs)) b))
+        (λ (d : is_due s rs ≡ true). subst (λ z. Each (IsFrom s t) (released z)) (sym (slot_due t n s len rs here d)) ((omega arith, here),
+            from_later t s (s + len) (omega arith) (released (slots_from t n (s + len) len (drop 1 rs))) a))
+        (λ (d : is_due s rs ≡ false). subst (λ z. Each (IsFrom s t) (released z)) (sym (slot_free t n s len rs here d))
+            (from_later t s (s + 2 * len) (omega arith) (released (slots_from t n (s + 2 * len) (2 * len) rs)) b))
         (cases_Bool (is_due s rs)))
         (cases_lt t s)
 
@@ -47,13 +51,15 @@ all_rise t zero s len rs apart = tt
 all_rise t (suc n) s len rs apart =
     go (all_rise t n (s + len) len (drop 1 rs) apart) (all_rise t n (s + 2 * len) (2 * len) rs (omega arith))
   where
-    go : Rises (released (slots_from t n (s + len) len (drop 1 rs))) → Rises (released (slots_from t n (s + 2 * len) (2 * len) rs)) → Rises (released (slots_from t (suc n) s len rs))
+    go : Rises (released (slots_from t n (s + len) len (drop 1 rs))) → Rises (released (slots_from t n (s + 2 * len) (2 * len) rs))
+        → Rises (released (slots_from t (suc n) s len rs))
     go a b =
         ⊎_elim
         (λ (late : t < s). subst (λ z. Rises (released z)) (sym (no_slots t (suc n) s len rs late)) tt)
         (λ (here : s ≤ t).
         ⊎_elim
-        (λ (d : is_due s rs ≡ true). subst (λ z. Rises (released z)) (sym (slot_due t n s len rs here d)) (Each-of (IsFrom (s + len) t) (λ y. s < y) (λ y f. let l = f.0 in omega arith) (released (slots_from t n (s + len) len (drop 1 rs))) (all_from t n (s + len) len (drop 1 rs)), a))
+        (λ (d : is_due s rs ≡ true). subst (λ z. Rises (released z)) (sym (slot_due t n s len rs here d)) (Each-of (IsFrom (s + len) t) (λ y. s < y)
+            (λ y f. let l = f.0 in omega arith) (released (slots_from t n (s + len) len (drop 1 rs))) (all_from t n (s + len) len (drop 1 rs)), a))
         (λ (d : is_due s rs ≡ false). subst (λ z. Rises (released z)) (sym (slot_free t n s len rs here d)) b)
         (cases_Bool (is_due s rs)))
         (cases_lt t s)
@@ -71,13 +77,15 @@ in_order t (suc n) s len rs = go (in_order t n (s + len) len (drop 1 rs)) (in_or
     none [] = tt
     none (r ∷ rs) = tt
 
-    go : IsInOrder (drop 1 rs) (released (slots_from t n (s + len) len (drop 1 rs))) → IsInOrder rs (released (slots_from t n (s + 2 * len) (2 * len) rs)) → IsInOrder rs (released (slots_from t (suc n) s len rs))
+    go : IsInOrder (drop 1 rs) (released (slots_from t n (s + len) len (drop 1 rs))) → IsInOrder rs (released (slots_from t n (s + 2 * len) (2 * len) rs))
+        → IsInOrder rs (released (slots_from t (suc n) s len rs))
     go a b =
         ⊎_elim
         (λ (late : t < s). subst (λ z. IsInOrder rs (released z)) (sym (no_slots t (suc n) s len rs late)) (none rs))
         (λ (here : s ≤ t).
         ⊎_elim
-        (λ (d : is_due s rs ≡ true). subst (λ z. IsInOrder rs (released z)) (sym (slot_due t n s len rs here d)) (due_first s rs (released (slots_from t n (s + len) len (drop 1 rs))) d a))
+        (λ (d : is_due s rs ≡ true). subst (λ z. IsInOrder rs (released z)) (sym (slot_due t n s len rs here d))
+            (due_first s rs (released (slots_from t n (s + len) len (drop 1 rs))) d a))
         (λ (d : is_due s rs ≡ false). subst (λ z. IsInOrder rs (released z)) (sym (slot_free t n s len rs here d)) b)
         (cases_Bool (is_due s rs)))
         (cases_lt t s)
@@ -101,7 +109,8 @@ count_before s xs ys lower upper = sum_by-append (λ r. cond (nat_lt r s) 1 0) x
 
     none : (xs : List ℕ) → Each (λ r. s ≤ r) xs → count_by (λ r. nat_lt r s) xs ≡ 0
     none [] h = refl
-    none (x ∷ xs) h = let l = h.0 in sum_by-cons (λ r. cond (nat_lt r s) 1 0) x xs ∙ omega (arith, none xs h.1, cond-false {A = ℕ} (nat_lt x s) 1 0 (le-ltb x s l))
+    none (x ∷ xs) h = let l = h.0 in
+        sum_by-cons (λ r. cond (nat_lt r s) 1 0) x xs ∙ omega (arith, none xs h.1, cond-false {A = ℕ} (nat_lt x s) 1 0 (le-ltb x s l))
 
 -- the schedule at a slot: what was released before it
 pub record Reached (t : ℕ) (ready rs : List ℕ) (s len fuel : ℕ) (before : List ℕ) : Type 0 where
@@ -115,25 +124,31 @@ module _ (t : ℕ) (ready rs : List ℕ) where
   counted s len fuel before w =
       ap (count_by (λ r. nat_lt r s)) w.parts
       ∙ count_before s before (released (slots_from t fuel s len (drop (length before) ready))) w.lower
-      (Each-of (IsFrom s t) (λ r. s ≤ r) (λ r f. f.0) (released (slots_from t fuel s len (drop (length before) ready))) (all_from t fuel s len (drop (length before) ready)))
+      (Each-of (IsFrom s t) (λ r. s ≤ r) (λ r f. f.0) (released (slots_from t fuel s len (drop (length before) ready)))
+          (all_from t fuel s len (drop (length before) ready)))
 
   -- an event is released at the slot exactly where the next one is due
-  pub has_due : (s len n : ℕ) (before : List ℕ) → Reached t ready rs s len (suc n) before → s ≤ t → is_due s (drop (length before) ready) ≡ true → has rs s ≡ true
+  pub has_due : (s len n : ℕ) (before : List ℕ) → Reached t ready rs s len (suc n) before → s ≤ t
+      → is_due s (drop (length before) ready) ≡ true → has rs s ≡ true
   has_due s len n before w here d =
       ap (λ z. has z s) (w.parts ∙ ap (λ z. before ++ released z) (slot_due t n s len (drop (length before) ready) here d))
       ∙ list_any-append (λ r. r == s) before (s ∷ released (slots_from t n (s + len) len (drop 1 (drop (length before) ready))))
-      ∙ or_right (has before s) (has (s ∷ released (slots_from t n (s + len) len (drop 1 (drop (length before) ready)))) s) (or_left (s == s) (has (released (slots_from t n (s + len) len (drop 1 (drop (length before) ready)))) s) (eq-eqb s s refl))
+      ∙ or_right (has before s) (has (s ∷ released (slots_from t n (s + len) len (drop 1 (drop (length before) ready)))) s)
+          (or_left (s == s) (has (released (slots_from t n (s + len) len (drop 1 (drop (length before) ready)))) s) (eq-eqb s s refl))
 
-  pub has_free : (s len n : ℕ) (before : List ℕ) → Reached t ready rs s len (suc n) before → s ≤ t → is_due s (drop (length before) ready) ≡ false → has rs s ≡ false
+  pub has_free : (s len n : ℕ) (before : List ℕ) → Reached t ready rs s len (suc n) before → s ≤ t
+      → is_due s (drop (length before) ready) ≡ false → has rs s ≡ false
   has_free s len n before w here d =
       let a = w.apart in
       let later = released (slots_from t n (s + 2 * len) (2 * len) (drop (length before) ready)) in
       ap (λ z. has z s) (w.parts ∙ ap (λ z. before ++ released z) (slot_free t n s len (drop (length before) ready) here d))
       ∙ list_any-append (λ r. r == s) before later
       ∙ or_from (has before s) (has later s) (none_below s before w.lower)
-      (none_above s later (Each-of (IsFrom (s + 2 * len) t) (λ r. s < r) (λ r f. let l = f.0 in omega arith) later (all_from t n (s + 2 * len) (2 * len) (drop (length before) ready))))
+      (none_above s later (Each-of (IsFrom (s + 2 * len) t) (λ r. s < r) (λ r f. let l = f.0 in
+          omega arith) later (all_from t n (s + 2 * len) (2 * len) (drop (length before) ready))))
 
-  exact_at : (s len fuel : ℕ) (before : List ℕ) → Reached t ready rs s len fuel before → s ≤ t → has rs s ≡ is_due s (drop (count_by (λ r. nat_lt r s) rs) ready)
+  exact_at : (s len fuel : ℕ) (before : List ℕ) → Reached t ready rs s len fuel before → s ≤ t
+      → has rs s ≡ is_due s (drop (count_by (λ r. nat_lt r s) rs) ready)
   exact_at s len zero before w here = let e = w.enough in absurd (omega arith)
   exact_at s len (suc n) before w here =
       ⊎_elim
@@ -142,7 +157,8 @@ module _ (t : ℕ) (ready rs : List ℕ) where
       (cases_Bool (is_due s (drop (length before) ready)))
       ∙ ap (λ k. is_due s (drop k ready)) (sym (counted s len (suc n) before w))
 
-  pub next_due : (s len n : ℕ) (before : List ℕ) → Reached t ready rs s len (suc n) before → s ≤ t → is_due s (drop (length before) ready) ≡ true → Reached t ready rs (s + len) len n (before ++ s ∷ [])
+  pub next_due : (s len n : ℕ) (before : List ℕ) → Reached t ready rs s len (suc n) before → s ≤ t → is_due s (drop (length before) ready) ≡ true
+      → Reached t ready rs (s + len) len n (before ++ s ∷ [])
   next_due s len n before w here d =
       let a = w.apart in
       record {
@@ -151,12 +167,14 @@ module _ (t : ℕ) (ready rs : List ℕ) where
         parts =
             w.parts
             ∙ ap (λ z. before ++ released z) (slot_due t n s len (drop (length before) ready) here d)
-            ∙ ap (λ z. before ++ s ∷ released (slots_from t n (s + len) len z)) (drop-drop 1 (length before) ready ∙ ap (λ k. drop k ready) (sym (length-append before (s ∷ []))))
+            ∙ ap (λ z. before ++ s ∷ released (slots_from t n (s + len) len z)) (drop-drop 1 (length before) ready
+                ∙ ap (λ k. drop k ready) (sym (length-append before (s ∷ []))))
             ∙ sym (append_assoc before (s ∷ []) (released (slots_from t n (s + len) len (drop (length (before ++ s ∷ [])) ready))));
         lower = Each-append (λ r. r < s + len) before (s ∷ []) (Each-of (λ r. r < s) (λ r. r < s + len) (λ r l. omega arith) before w.lower) (omega arith, tt);
       }
 
-  pub next_free : (s len n : ℕ) (before : List ℕ) → Reached t ready rs s len (suc n) before → s ≤ t → is_due s (drop (length before) ready) ≡ false → Reached t ready rs (s + 2 * len) (2 * len) n before
+  pub next_free : (s len n : ℕ) (before : List ℕ) → Reached t ready rs s len (suc n) before → s ≤ t → is_due s (drop (length before) ready) ≡ false
+      → Reached t ready rs (s + 2 * len) (2 * len) n before
   next_free s len n before w here d =
       let a = w.apart in
       record {
@@ -187,7 +205,8 @@ module _ (t : ℕ) (ready rs : List ℕ) where
       (cases_Bool (is_due p.cycle (drop (length before) ready)))
 
   pub later_slot : (p : Place) → p.cycle ≤ (slot_after rs p).cycle
-  later_slot p = cond_both (has rs p.cycle) (record { cycle = p.cycle + p.apart; apart = p.apart }) (record { cycle = p.cycle + 2 * p.apart; apart = 2 * p.apart }) (λ (z : Place). p.cycle ≤ z.cycle) (λ e. omega arith) (λ e. omega arith)
+  later_slot p = cond_both (has rs p.cycle) (record { cycle = p.cycle + p.apart; apart = p.apart }) (record { cycle = p.cycle + 2 * p.apart; apart =
+      2 * p.apart }) (λ (z : Place). p.cycle ≤ z.cycle) (λ e. omega arith) (λ e. omega arith)
 
   reached : (q : ℕ) → Reached t ready rs q q t [] → (k : ℕ) → (nth_slot q rs k).cycle ≤ t → IsReached (nth_slot q rs k)
   reached q w zero here = (t, [], w)
@@ -200,7 +219,8 @@ module _ (t : ℕ) (ready rs : List ℕ) where
   IsAtSlot q r = (j : ℕ) × (r ≡ (nth_slot q rs j).cycle)
 
   -- each release from a slot on is at a slot
-  found : (q k : ℕ) (s len fuel : ℕ) (before : List ℕ) → nth_slot q rs k ≡ record { cycle = s; apart = len } → Reached t ready rs s len fuel before → Each (IsAtSlot q) (released (slots_from t fuel s len (drop (length before) ready)))
+  found : (q k : ℕ) (s len fuel : ℕ) (before : List ℕ) → nth_slot q rs k ≡ record { cycle = s; apart = len } → Reached t ready rs s len fuel before
+      → Each (IsAtSlot q) (released (slots_from t fuel s len (drop (length before) ready)))
   found q k s len zero before at w = tt
   found q k s len (suc n) before at w =
       ⊎_elim
@@ -210,12 +230,15 @@ module _ (t : ℕ) (ready rs : List ℕ) where
       (λ (d : is_due s (drop (length before) ready) ≡ true).
       subst (λ z. Each (IsAtSlot q) (released z)) (sym (slot_due t n s len (drop (length before) ready) here d)) (
         (k, ap (λ (p : Place). p.cycle) (sym at)),
-        subst (λ l. Each (IsAtSlot q) (released (slots_from t n (s + len) len l))) (ap (λ i. drop i ready) (length-append before (s ∷ [])) ∙ sym (drop-drop 1 (length before) ready))
-            (found q (suc k) (s + len) len n (before ++ s ∷ []) (ap (slot_after rs) at ∙ slot_with (record { cycle = s; apart = len }) (has_due s len n before w here d)) (next_due s len n before w here d)),
+        subst (λ l. Each (IsAtSlot q) (released (slots_from t n (s + len) len l))) (ap (λ i. drop i ready) (length-append before (s ∷ []))
+            ∙ sym (drop-drop 1 (length before) ready))
+            (found q (suc k) (s + len) len n (before ++ s ∷ []) (ap (slot_after rs) at
+                ∙ slot_with (record { cycle = s; apart = len }) (has_due s len n before w here d)) (next_due s len n before w here d)),
       ))
       (λ (d : is_due s (drop (length before) ready) ≡ false).
       subst (λ z. Each (IsAtSlot q) (released z)) (sym (slot_free t n s len (drop (length before) ready) here d))
-      (found q (suc k) (s + 2 * len) (2 * len) n before (ap (slot_after rs) at ∙ slot_without (record { cycle = s; apart = len }) (has_free s len n before w here d)) (next_free s len n before w here d)))
+      (found q (suc k) (s + 2 * len) (2 * len) n before (ap (slot_after rs) at
+          ∙ slot_without (record { cycle = s; apart = len }) (has_free s len n before w here d)) (next_free s len n before w here d)))
       (cases_Bool (is_due s (drop (length before) ready))))
       (cases_lt t s)
 

@@ -11,14 +11,17 @@ map_filter : {X V : Type 0} (see : X → V) (p : V → Bool) (xs : List X) → m
 map_filter see p [] = refl
 map_filter see p (x ∷ xs) = go (p (see x)) (map_filter see p xs)
   where
-    go : (b : Bool) → map see (filter (λ x. p (see x)) xs) ≡ filter p (map see xs) → map see (cond b (x ∷ filter (λ x. p (see x)) xs) (filter (λ x. p (see x)) xs)) ≡ cond b (see x ∷ filter p (map see xs)) (filter p (map see xs))
+    go : (b : Bool) → map see (filter (λ x. p (see x)) xs) ≡ filter p (map see xs)
+        → map see (cond b (x ∷ filter (λ x. p (see x)) xs) (filter (λ x. p (see x)) xs)) ≡ cond b (see x ∷ filter p (map see xs)) (filter p (map see xs))
     go true e = ap (λ t. see x ∷ t) e
     go false e = e
 
-pub map_distinct : {X V : Type 0} (see : X → V) (same : V → V → Bool) (xs : List X) → map see (distinct (λ x y. same (see x) (see y)) xs) ≡ distinct same (map see xs)
+pub map_distinct : {X V : Type 0} (see : X → V) (same : V → V → Bool) (xs : List X)
+    → map see (distinct (λ x y. same (see x) (see y)) xs) ≡ distinct same (map see xs)
 map_distinct see same [] = refl
 map_distinct see same (x ∷ xs) =
-    ap (λ t. see x ∷ t) (map_filter see (λ w. not (same (see x) w)) (distinct (λ x y. same (see x) (see y)) xs) ∙ ap (filter (λ w. not (same (see x) w))) (map_distinct see same xs))
+    ap (λ t. see x ∷ t) (map_filter see (λ w. not (same (see x) w)) (distinct (λ x y. same (see x) (see y)) xs)
+        ∙ ap (filter (λ w. not (same (see x) w))) (map_distinct see same xs))
 
 -- each is apart from all that follow
 abbrev Spread : {X : Type 0} → (X → X → Bool) → List X → Type 0
@@ -60,12 +63,14 @@ Spread-distinct same (x ∷ xs) = (
   Spread-filter same (λ y. not (same x y)) (distinct same xs) (Spread-distinct same xs),
 )
 
-module _ {X V : Type 0} (see : X → V) (number : X → ℕ) (m : ℕ) (below : (x : X) → number x < m) (same : V → V → Bool) (tests : Tests same) (determined : (x y : X) → number x ≡ number y → see x ≡ see y) where
+module _ {X V : Type 0} (see : X → V) (number : X → ℕ) (m : ℕ) (below : (x : X)
+    → number x < m) (same : V → V → Bool) (tests : Tests same) (determined : (x y : X) → number x ≡ number y → see x ≡ see y) where
   abbrev alike : X → X → Bool
   alike x y = same (see x) (see y)
 
   apart : (x y : X) → alike x y ≡ false → eqb (number x) (number y) ≡ false
-  apart x y h = false_from_ne_true (eqb (number x) (number y)) (λ t. both_ways (alike x y) h (tests.same_from (see x) (see y) (determined x y (eqb-true (number x) (number y) t))))
+  apart x y h = false_from_ne_true (eqb (number x) (number y))
+      (λ t. both_ways (alike x y) h (tests.same_from (see x) (see y) (determined x y (eqb-true (number x) (number y) t))))
 
   apart_all : (x : X) (ys : List X) → Each (λ y. alike x y ≡ false) ys → AllByRecursion (λ n. eqb (number x) n ≡ false) (map number ys)
   apart_all x [] h = tt
@@ -87,7 +92,8 @@ module _ {X V : Type 0} (see : X → V) (number : X → ℕ) (m : ℕ) (below : 
   pub count_few : (xs : List X) → distinct_count same (map see xs) ≤ m
   count_few xs =
       let kept = distinct alike xs in
-      let few : length (map number kept) ≤ m = length-le_from_distinct_below (map number kept) m (numbers_differ kept (Spread-distinct alike xs)) (all_below kept) in
+      let few : length (map number kept) ≤ m =
+          length-le_from_distinct_below (map number kept) m (numbers_differ kept (Spread-distinct alike xs)) (all_below kept) in
       let a = length-map kept number in
       let b = length-map kept see in
       let c = ap length (map_distinct see same xs) in

@@ -1,5 +1,6 @@
 -- How lines make runs.
-use Rattle.std.proofs.Common.{◌≡◌, ℕ, suc, ◌+◌, ◌<◌, ◌≤◌, List, [], ◌∷◌, ◌++◌, length, map, take, drop, set, get_or, append_assoc, append-nil, refl, sym, ap, ◌∙◌, subst, arith, Vec, vec_len}
+use Rattle.std.proofs.Common.{◌≡◌, ℕ, suc, ◌+◌, ◌<◌, ◌≤◌, List, [], ◌∷◌, ◌++◌, length, map, take, drop, set, get_or, append_assoc, append-nil, refl, sym, ap}
+use Rattle.std.proofs.Common.{◌∙◌, subst, arith, Vec, vec_len}
 use Rattle.std.specs.Prelude.{true, false, Option, Some, None, ◌==◌, nat_lt, if◌then◌else◌}
 use Rattle.std.specs.List.{slice_split}
 use Rattle.std.specs.declared.alloc.Global.{Global}
@@ -37,7 +38,8 @@ takes_last : (rs : List (List ℕ)) (r : List ℕ) (c : ℕ) → Takes (Ready c)
 takes_last rs r c = record {
   more =
       written-append rs ((r ++ c ∷ []) ∷ [])
-      ∙ ap (λ x. written rs ++ Run ∷ x) (append-nil (map Ready (r ++ c ∷ [])) ∙ map-append Ready r (c ∷ []) ∙ ap (λ x. x ++ Ready c ∷ []) (sym (append-nil (map Ready r))))
+      ∙ ap (λ x. written rs ++ Run ∷ x) (append-nil (map Ready (r ++ c ∷ [])) ∙ map-append Ready r (c ∷ [])
+          ∙ ap (λ x. x ++ Ready c ∷ []) (sym (append-nil (map Ready r))))
       ∙ sym (append_assoc (written rs) (Run ∷ (map Ready r ++ [])) (Ready c ∷ []))
       ∙ ap (λ x. x ++ Ready c ∷ []) (sym (written-append rs (r ∷ [])));
   good = λ n rest.
@@ -59,12 +61,15 @@ set_last vs i v long =
     let none : drop (suc i) vs ≡ [] = drop_all (suc i) vs (omega arith) in
     set_split vs i v (omega arith) ∙ ap (λ z. take i vs ++ v ∷ z) none
 
-pub takes_event : (vs : List Numbers) (i c : ℕ) (r v : Numbers) → length vs ≡ suc i → r ≡ get_or vs i r → v.items ≡ r.items ++ c ∷ [] → Takes (Ready c) (map (λ (x : Numbers). x.items) vs) (map (λ (x : Numbers). x.items) (set vs i v))
+pub takes_event : (vs : List Numbers) (i c : ℕ) (r v : Numbers) → length vs ≡ suc i → r ≡ get_or vs i r → v.items ≡ r.items ++ c ∷ []
+    → Takes (Ready c) (map (λ (x : Numbers). x.items) vs) (map (λ (x : Numbers). x.items) (set vs i v))
 takes_event vs i c r v long at e =
     let f : Numbers → List ℕ = λ x. x.items in
     let before : map f vs ≡ map f (take i vs) ++ r.items ∷ [] = ap (map f) (last_of vs i r long at) ∙ map-append f (take i vs) (r ∷ []) in
-    let after : map f (set vs i v) ≡ map f (take i vs) ++ (r.items ++ c ∷ []) ∷ [] = ap (map f) (set_last vs i v long) ∙ map-append f (take i vs) (v ∷ []) ∙ ap (λ z. map f (take i vs) ++ z ∷ []) e in
-    subst (λ z. Takes (Ready c) z (map f (set vs i v))) (sym before) (subst (λ z. Takes (Ready c) (map f (take i vs) ++ r.items ∷ []) z) (sym after) (takes_last (map f (take i vs)) r.items c))
+    let after : map f (set vs i v) ≡ map f (take i vs) ++ (r.items ++ c ∷ []) ∷ [] =
+        ap (map f) (set_last vs i v long) ∙ map-append f (take i vs) (v ∷ []) ∙ ap (λ z. map f (take i vs) ++ z ∷ []) e in
+    subst (λ z. Takes (Ready c) z (map f (set vs i v))) (sym before)
+        (subst (λ z. Takes (Ready c) (map f (take i vs) ++ r.items ∷ []) z) (sym after) (takes_last (map f (take i vs)) r.items c))
 
 -- ---- a file, line by line
 
@@ -84,10 +89,12 @@ pub record IsRead (all : List (List ℕ)) (n number : ℕ) (runs : List (List �
 pub read_none : (all : List (List ℕ)) → IsRead all 0 0 []
 read_none all = record { numbered = refl; short = omega arith; first = refl; kept = refl }
 
-next_line : (all : List (List ℕ)) (n : ℕ) (w : List ℕ) → n < length all → w ≡ get_or all n w → map line_of (drop n all) ≡ line_of w ∷ map line_of (drop (n + 1) all)
+next_line : (all : List (List ℕ)) (n : ℕ) (w : List ℕ) → n < length all → w ≡ get_or all n w
+    → map line_of (drop n all) ≡ line_of w ∷ map line_of (drop (n + 1) all)
 next_line all n w h e = ap (map line_of) (drop_more all n w h) ∙ ap (λ z. line_of z ∷ map line_of (drop (n + 1) all)) (sym e)
 
-pub read_more : (all : List (List ℕ)) (n number : ℕ) (runs new : List (List ℕ)) (w : List ℕ) → IsRead all n number runs → n < length all → w ≡ get_or all n w → Takes (line_of w) runs new → length new ≤ length runs + 1 → IsRead all (n + 1) (number + 1) new
+pub read_more : (all : List (List ℕ)) (n number : ℕ) (runs new : List (List ℕ)) (w : List ℕ) → IsRead all n number runs → n < length all → w ≡ get_or all n w
+    → Takes (line_of w) runs new → length new ≤ length runs + 1 → IsRead all (n + 1) (number + 1) new
 read_more all n number runs new w r h e takes long =
     let now = next_line all n w h e in
     record {
@@ -105,14 +112,17 @@ read_more all n number runs new w r h e takes long =
           ∙ r.kept;
     }
 
-pub read_bad : (all : List (List ℕ)) (n number : ℕ) (runs : List (List ℕ)) (w : List ℕ) → IsRead all n number runs → n < length all → w ≡ get_or all n w → ((rest : List Line) → first_bad (has_runs runs) (number + 1) (line_of w ∷ rest) ≡ Some (number + 1)) → first_bad false 1 (map line_of all) ≡ Some (number + 1)
+pub read_bad : (all : List (List ℕ)) (n number : ℕ) (runs : List (List ℕ)) (w : List ℕ) → IsRead all n number runs → n < length all → w ≡ get_or all n w
+    → ((rest : List Line) → first_bad (has_runs runs) (number + 1) (line_of w ∷ rest) ≡ Some (number + 1))
+    → first_bad false 1 (map line_of all) ≡ Some (number + 1)
 read_bad all n number runs w r h e bad =
     sym r.first
     ∙ ap (first_bad (has_runs runs) (n + 1)) (next_line all n w h e)
     ∙ ap (λ z. first_bad (has_runs runs) (z + 1) (line_of w ∷ map line_of (drop (n + 1) all))) (sym r.numbered)
     ∙ bad (map line_of (drop (n + 1) all))
 
-pub read_all : (all : List (List ℕ)) (n number : ℕ) (runs : List (List ℕ)) → IsRead all n number runs → n ≡ length all → (left (map line_of all) ≡ written runs) × (first_bad false 1 (map line_of all) ≡ None)
+pub read_all : (all : List (List ℕ)) (n number : ℕ) (runs : List (List ℕ)) → IsRead all n number runs → n ≡ length all → (left (map line_of all) ≡ written runs)
+    × (first_bad false 1 (map line_of all) ≡ None)
 read_all all n number runs r e =
     let none : map line_of (drop n all) ≡ [] = ap (map line_of) (drop_all n all (omega arith)) in (
       sym r.kept ∙ ap (λ z. written runs ++ left z) none ∙ append-nil (written runs),
@@ -151,21 +161,27 @@ module _ (bytes : List ℕ) where
   counted runs h = sym (count_left (lines_of bytes)) ∙ ap count_runs h ∙ count_written runs
 
   pub refused_empty : (runs : List (List ℕ)) → Holds bytes runs → first_bad false 1 (lines_of bytes) ≡ None → length runs ≡ 0 → refusal bytes ≡ Some NoRuns
-  refused_empty [] h good e = ap (λ z. refusal_of z (lines_of bytes)) good ∙ ap (λ z. if length z == 0 then Some NoRuns else (if nat_lt 4096 (count_runs (lines_of bytes)) then Some (TooMany (count_runs (lines_of bytes))) else None)) h
+  refused_empty [] h good e = ap (λ z. refusal_of z (lines_of bytes)) good ∙ ap (λ z. if length z == 0 then Some NoRuns else
+      (if nat_lt 4096 (count_runs (lines_of bytes)) then Some (TooMany (count_runs (lines_of bytes))) else None)) h
   refused_empty (r ∷ runs) h good e = absurd (omega arith)
 
-  some_left : (runs : List (List ℕ)) → Holds bytes runs → first_bad false 1 (lines_of bytes) ≡ None → 0 < length runs → refusal bytes ≡ (if nat_lt 4096 (length runs) then Some (TooMany (length runs)) else None)
+  some_left : (runs : List (List ℕ)) → Holds bytes runs → first_bad false 1 (lines_of bytes) ≡ None → 0 < length runs
+      → refusal bytes ≡ (if nat_lt 4096 (length runs) then Some (TooMany (length runs)) else None)
   some_left [] h good some = absurd (omega arith)
   some_left (r ∷ runs) h good some =
       ap (λ z. refusal_of z (lines_of bytes)) good
-      ∙ ap (λ z. if length z == 0 then Some NoRuns else (if nat_lt 4096 (count_runs (lines_of bytes)) then Some (TooMany (count_runs (lines_of bytes))) else None)) h
-      ∙ cond-false {A = Option ReadyFault} (length (written (r ∷ runs)) == 0) (Some NoRuns) (if nat_lt 4096 (count_runs (lines_of bytes)) then Some (TooMany (count_runs (lines_of bytes))) else None) (ne_eqb (length (written (r ∷ runs))) 0 (λ e. absurd (omega (arith, e))))
+      ∙ ap (λ z. if length z == 0 then Some NoRuns else
+          (if nat_lt 4096 (count_runs (lines_of bytes)) then Some (TooMany (count_runs (lines_of bytes))) else None)) h
+      ∙ cond-false {A = Option ReadyFault} (length (written (r ∷ runs)) == 0) (Some NoRuns) (if nat_lt 4096 (count_runs (lines_of bytes)) then
+          Some (TooMany (count_runs (lines_of bytes))) else None) (ne_eqb (length (written (r ∷ runs))) 0 (λ e. absurd (omega (arith, e))))
       ∙ ap (λ k. if nat_lt 4096 k then Some (TooMany k) else None) (counted (r ∷ runs) h)
 
-  pub refused_many : (runs : List (List ℕ)) → Holds bytes runs → first_bad false 1 (lines_of bytes) ≡ None → 4096 < length runs → refusal bytes ≡ Some (TooMany (length runs))
+  pub refused_many : (runs : List (List ℕ)) → Holds bytes runs → first_bad false 1 (lines_of bytes) ≡ None → 4096 < length runs
+      → refusal bytes ≡ Some (TooMany (length runs))
   refused_many runs h good many = some_left runs h good (omega arith) ∙ cond-true _ _ _ (lt-ltb 4096 (length runs) many)
 
-  pub accepted : (runs : List (List ℕ)) → Holds bytes runs → first_bad false 1 (lines_of bytes) ≡ None → 0 < length runs → length runs ≤ 4096 → refusal bytes ≡ None
+  pub accepted : (runs : List (List ℕ)) → Holds bytes runs → first_bad false 1 (lines_of bytes) ≡ None → 0 < length runs
+      → length runs ≤ 4096 → refusal bytes ≡ None
   accepted runs h good some few = some_left runs h good some ∙ cond-false _ _ _ (le-ltb 4096 (length runs) few)
 
 pub length-lists : (v : Vec (Vec ℕ Global) Global) → length (lists v) ≡ vec_len v

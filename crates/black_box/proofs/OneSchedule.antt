@@ -1,5 +1,6 @@
 -- No other list of releases is as the facts on the whole list say.
-use Rattle.std.proofs.Common.{◌≡◌, ℕ, zero, suc, ◌+◌, ◌-◌, ◌*◌, ◌<◌, ◌≤◌, List, [], ◌∷◌, ◌++◌, length, drop, append_assoc, refl, sym, ap, ◌∙◌, subst, ⊎_elim, arith, length-append}
+use Rattle.std.proofs.Common.{◌≡◌, ℕ, zero, suc, ◌+◌, ◌-◌, ◌*◌, ◌<◌, ◌≤◌, List, [], ◌∷◌, ◌++◌, length, drop, append_assoc, refl, sym, ap, ◌∙◌, subst, ⊎_elim}
+use Rattle.std.proofs.Common.{arith, length-append}
 use Rattle.std.specs.List.{AllZip}
 use Rattle.std.specs.Prelude.{map, true, false, ◌||◌, ◌==◌, nat_lt, count_by}
 use Rattle.std.proofs.lemmas.Bool.{cases_Bool, cases_lt, cases_eq, both_ways, or_parts, eqb-false}
@@ -39,8 +40,10 @@ module _ (q t : ℕ) (ready rs : List ℕ) (is : IsSchedule q t ready rs) where
   not_between : (k j : ℕ) → (nth_slot q rs k).cycle < (nth_slot q rs j).cycle → (nth_slot q rs (suc k)).cycle ≤ (nth_slot q rs j).cycle
   not_between k j h =
       ⊎_elim
-      (λ (lt : k < j). let e : suc k + (j - suc k) ≡ j = omega arith in subst (λ i. (nth_slot q rs (suc k)).cycle ≤ (nth_slot q rs i).cycle) e (slots_rise (suc k) (j - suc k)))
-      (λ (ge : j ≤ k). let e : j + (k - j) ≡ k = omega arith in let up : (nth_slot q rs j).cycle ≤ (nth_slot q rs k).cycle = subst (λ i. (nth_slot q rs j).cycle ≤ (nth_slot q rs i).cycle) e (slots_rise j (k - j)) in absurd (omega (arith, up)))
+      (λ (lt : k < j). let e : suc k + (j - suc k) ≡ j = omega arith in
+          subst (λ i. (nth_slot q rs (suc k)).cycle ≤ (nth_slot q rs i).cycle) e (slots_rise (suc k) (j - suc k)))
+      (λ (ge : j ≤ k). let e : j + (k - j) ≡ k = omega arith in let up : (nth_slot q rs j).cycle ≤ (nth_slot q rs k).cycle =
+          subst (λ i. (nth_slot q rs j).cycle ≤ (nth_slot q rs i).cycle) e (slots_rise j (k - j)) in absurd (omega (arith, up)))
       (cases_lt k j)
 
   abbrev IsOn : ℕ → Type 0
@@ -73,7 +76,8 @@ module _ (q t : ℕ) (ready rs : List ℕ) (is : IsSchedule q t ready rs) where
       absurd (both_ways (has (x ∷ xs) s) (none_above s (x ∷ xs) (lt, Each-of (λ y. x < y) (λ y. s < y) (λ y l. omega arith) xs r.0)) h))
       (cases_eq x s)
 
-  once_from : (m k s len : ℕ) (before tail : List ℕ) → nth_slot q rs k ≡ record { cycle = s; apart = len } → rs ≡ before ++ tail → Each (λ r. r < s) before → Each (λ r. s ≤ r) tail → t < s + m → 0 < len → tail ≡ released (slots_from t m s len (drop (length before) ready))
+  once_from : (m k s len : ℕ) (before tail : List ℕ) → nth_slot q rs k ≡ record { cycle = s; apart = len } → rs ≡ before ++ tail → Each (λ r. r < s) before
+      → Each (λ r. s ≤ r) tail → t < s + m → 0 < len → tail ≡ released (slots_from t m s len (drop (length before) ready))
   once_from zero k s len before tail at parts lower upper enough apart =
       nothing_left s t tail (omega arith) upper (Each-of IsOn (λ r. r ≤ t) (λ r o. o.0) tail (Each-back IsOn before tail (subst (Each IsOn) parts is.at_slots)))
   once_from (suc m) k s len before tail at parts lower upper enough apart =
@@ -83,8 +87,13 @@ module _ (q t : ℕ) (ready rs : List ℕ) (is : IsSchedule q t ready rs) where
       ∙ sym (ap released (no_slots t (suc m) s len (drop (length before) ready) late)))
       (λ (here : s ≤ t).
       ⊎_elim
-      (λ (d : is_due s (drop (length before) ready) ≡ true). due here d (λ xs p u. once_from m (suc k) (s + len) len (before ++ s ∷ []) xs (next_at_due here d) p (Each-append (λ r. r < s + len) before (s ∷ []) (Each-of (λ r. r < s) (λ r. r < s + len) (λ r l. omega arith) before lower) (omega arith, tt)) u (omega arith) apart))
-      (λ (d : is_due s (drop (length before) ready) ≡ false). free here d (λ u. once_from m (suc k) (s + 2 * len) (2 * len) before tail (next_at_free here d) parts (Each-of (λ r. r < s) (λ r. r < s + 2 * len) (λ r l. omega arith) before lower) u (omega arith) (omega arith)))
+      (λ (d : is_due s (drop (length before) ready) ≡ true). due here d
+          (λ xs p u. once_from m (suc k) (s + len) len (before ++ s ∷ []) xs (next_at_due here d) p
+          (Each-append (λ r. r < s + len) before (s ∷ []) (Each-of (λ r. r < s) (λ r. r < s + len) (λ r l. omega arith) before lower) (omega arith, tt)) u
+          (omega arith) apart))
+      (λ (d : is_due s (drop (length before) ready) ≡ false). free here d
+          (λ u. once_from m (suc k) (s + 2 * len) (2 * len) before tail (next_at_free here d) parts (Each-of (λ r. r < s) (λ r. r < s + 2 * len)
+          (λ r l. omega arith) before lower) u (omega arith) (omega arith)))
       (cases_Bool (is_due s (drop (length before) ready))))
       (cases_lt t s)
     where
@@ -114,21 +123,31 @@ module _ (q t : ℕ) (ready rs : List ℕ) (is : IsSchedule q t ready rs) where
       next_at_free : s ≤ t → is_due s (drop (length before) ready) ≡ false → nth_slot q rs (suc k) ≡ record { cycle = s + 2 * len; apart = 2 * len }
       next_at_free here d = ap (slot_after rs) at ∙ slot_without t ready rs (record { cycle = s; apart = len }) (has_is here ∙ d)
 
-      due : s ≤ t → is_due s (drop (length before) ready) ≡ true → ((xs : List ℕ) → rs ≡ (before ++ s ∷ []) ++ xs → Each (λ r. s + len ≤ r) xs → xs ≡ released (slots_from t m (s + len) len (drop (length (before ++ s ∷ [])) ready))) → tail ≡ released (slots_from t (suc m) s len (drop (length before) ready))
+      due : s ≤ t → is_due s (drop (length before) ready) ≡ true
+          → ((xs : List ℕ) → rs ≡ (before ++ s ∷ []) ++ xs → Each (λ r. s + len ≤ r) xs
+          → xs ≡ released (slots_from t m (s + len) len (drop (length (before ++ s ∷ [])) ready)))
+          → tail ≡ released (slots_from t (suc m) s len (drop (length before) ready))
       due here d rec =
           let b = begins s tail (sym tail_has ∙ has_is here ∙ d) upper climbs in
           let on_rest : Each IsOn b.0 = (subst (Each IsOn) b.1 on).1 in
-          let far : Each (λ r. s + len ≤ r) b.0 = subst (λ (p : Place). Each (λ r. p.cycle ≤ r) b.0) (next_at_due here d) (skip k b.0 on_rest (subst (λ z. Each (λ r. z < r) b.0) (sym cycle_is) b.2)) in
+          let far : Each (λ r. s + len ≤ r) b.0 =
+              subst (λ (p : Place). Each (λ r. p.cycle ≤ r) b.0) (next_at_due here d)
+              (skip k b.0 on_rest (subst (λ z. Each (λ r. z < r) b.0) (sym cycle_is) b.2)) in
           let all : rs ≡ (before ++ s ∷ []) ++ b.0 = parts ∙ ap (λ z. before ++ z) b.1 ∙ sym (append_assoc before (s ∷ []) b.0) in
           b.1
           ∙ ap (λ z. s ∷ z) (rec b.0 all far)
-          ∙ ap (λ l. s ∷ released (slots_from t m (s + len) len l)) (ap (λ i. drop i ready) (length-append before (s ∷ [])) ∙ sym (drop-drop 1 (length before) ready))
+          ∙ ap (λ l. s ∷ released (slots_from t m (s + len) len l)) (ap (λ i. drop i ready) (length-append before (s ∷ []))
+              ∙ sym (drop-drop 1 (length before) ready))
           ∙ sym (ap released (slot_due t m s len (drop (length before) ready) here d))
 
-      free : s ≤ t → is_due s (drop (length before) ready) ≡ false → (Each (λ r. s + 2 * len ≤ r) tail → tail ≡ released (slots_from t m (s + 2 * len) (2 * len) (drop (length before) ready))) → tail ≡ released (slots_from t (suc m) s len (drop (length before) ready))
+      free : s ≤ t → is_due s (drop (length before) ready) ≡ false
+          → (Each (λ r. s + 2 * len ≤ r) tail → tail ≡ released (slots_from t m (s + 2 * len) (2 * len) (drop (length before) ready)))
+          → tail ≡ released (slots_from t (suc m) s len (drop (length before) ready))
       free here d rec =
           let up = above s tail (sym tail_has ∙ has_is here ∙ d) upper in
-          let far : Each (λ r. s + 2 * len ≤ r) tail = subst (λ (p : Place). Each (λ r. p.cycle ≤ r) tail) (next_at_free here d) (skip k tail on (subst (λ z. Each (λ r. z < r) tail) (sym cycle_is) up)) in
+          let far : Each (λ r. s + 2 * len ≤ r) tail =
+              subst (λ (p : Place). Each (λ r. p.cycle ≤ r) tail) (next_at_free here d)
+              (skip k tail on (subst (λ z. Each (λ r. z < r) tail) (sym cycle_is) up)) in
           rec far ∙ sym (ap released (slot_free t m s len (drop (length before) ready) here d))
 
 first_slot : (q : ℕ) (rs : List ℕ) (j : ℕ) → q ≤ (nth_slot q rs j).cycle

@@ -1,5 +1,6 @@
 -- The schedule so far, and what is left of it.
-use Rattle.std.proofs.Common.{◌≡◌, ℕ, zero, suc, ◌+◌, ◌*◌, ◌^◌, ◌<◌, ◌≤◌, ⊎_elim, List, [], ◌∷◌, ◌++◌, length, drop, append_assoc, append-nil, refl, sym, ap, ◌∙◌, subst, arith, length-append}
+use Rattle.std.proofs.Common.{◌≡◌, ℕ, zero, suc, ◌+◌, ◌*◌, ◌^◌, ◌<◌, ◌≤◌, ⊎_elim, List, [], ◌∷◌, ◌++◌, length, drop, append_assoc, append-nil, refl, sym, ap}
+use Rattle.std.proofs.Common.{◌∙◌, subst, arith, length-append}
 use Rattle.std.specs.Prelude.{Bool, true, false, nat_le}
 use Rattle.std.proofs.lemmas.Bool.{cond-true, cond-false, le-leb, lt-leb, cases_lt}
 use Rattle.std.proofs.lemmas.List.{drop-drop}
@@ -15,10 +16,12 @@ pub no_slots : (t n s len : ℕ) (rs : List ℕ) → t < s → slots_from t n s 
 no_slots t zero s len rs h = refl
 no_slots t (suc n) s len rs h = cond-false (nat_le s t) _ [] (lt-leb s t h)
 
-pub slot_due : (t n s len : ℕ) (rs : List ℕ) → s ≤ t → is_due s rs ≡ true → slots_from t (suc n) s len rs ≡ slot_then s true (slots_from t n (s + len) len (drop 1 rs))
+pub slot_due : (t n s len : ℕ) (rs : List ℕ) → s ≤ t → is_due s rs ≡ true
+    → slots_from t (suc n) s len rs ≡ slot_then s true (slots_from t n (s + len) len (drop 1 rs))
 slot_due t n s len rs h d = cond-true (nat_le s t) _ [] (le-leb s t h) ∙ cond-true (is_due s rs) _ _ d
 
-pub slot_free : (t n s len : ℕ) (rs : List ℕ) → s ≤ t → is_due s rs ≡ false → slots_from t (suc n) s len rs ≡ slot_then s false (slots_from t n (s + 2 * len) (2 * len) rs)
+pub slot_free : (t n s len : ℕ) (rs : List ℕ) → s ≤ t → is_due s rs ≡ false
+    → slots_from t (suc n) s len rs ≡ slot_then s false (slots_from t n (s + 2 * len) (2 * len) rs)
 slot_free t n s len rs h d = cond-true (nat_le s t) _ [] (le-leb s t h) ∙ cond-false (is_due s rs) _ _ d
 
 pub record IsUnderWay (q t : ℕ) (ready : List ℕ) (s len count : ℕ) (at : List ℕ) : Type 0 where
@@ -42,7 +45,8 @@ begins q t ready h = record {
 }
 
 -- an event is released
-pub releases_one : (q t : ℕ) (ready : List ℕ) (s len count : ℕ) (at : List ℕ) → IsUnderWay q t ready s len count at → s ≤ t → is_due s (drop (length at) ready) ≡ true → IsUnderWay q t ready (s + len) len count (at ++ s ∷ [])
+pub releases_one : (q t : ℕ) (ready : List ℕ) (s len count : ℕ) (at : List ℕ) → IsUnderWay q t ready s len count at → s ≤ t
+    → is_due s (drop (length at) ready) ≡ true → IsUnderWay q t ready (s + len) len count (at ++ s ∷ [])
 releases_one q t ready s len count at w h d = go w.fuel w.enough w.all_released w.all_ended
   where
     next : drop (length at + 1) ready ≡ drop 1 (drop (length at) ready)
@@ -51,7 +55,9 @@ releases_one q t ready s len count at w h d = go w.fuel w.enough w.all_released 
     one_more : drop (length (at ++ s ∷ [])) ready ≡ drop 1 (drop (length at) ready)
     one_more = let e : length (at ++ s ∷ []) ≡ length at + 1 = length-append at (s ∷ []) in ap (λ k. drop k ready) e ∙ next
 
-    go : (n : ℕ) → t < s + n → at ++ released (slots_from t n s len (drop (length at) ready)) ≡ released (slots q t ready) → count + ended (slots_from t n s len (drop (length at) ready)) ≡ suc (ended (slots q t ready)) → IsUnderWay q t ready (s + len) len count (at ++ s ∷ [])
+    go : (n : ℕ) → t < s + n → at ++ released (slots_from t n s len (drop (length at) ready)) ≡ released (slots q t ready)
+        → count + ended (slots_from t n s len (drop (length at) ready)) ≡ suc (ended (slots q t ready))
+        → IsUnderWay q t ready (s + len) len count (at ++ s ∷ [])
     go zero lt r e = absurd (omega arith)
     go (suc n) lt r e =
         let now = slot_due t n s len (drop (length at) ready) h d in
@@ -73,14 +79,18 @@ releases_one q t ready s len count at w h d = go w.fuel w.enough w.all_released 
         }
 
 -- the epoch ends
-pub ends_one : (q t : ℕ) (ready : List ℕ) (s len count : ℕ) (at : List ℕ) → IsUnderWay q t ready s len count at → s ≤ t → is_due s (drop (length at) ready) ≡ false → IsUnderWay q t ready (s + 2 * len) (2 * len) (suc count) at
+pub ends_one : (q t : ℕ) (ready : List ℕ) (s len count : ℕ) (at : List ℕ) → IsUnderWay q t ready s len count at → s ≤ t
+    → is_due s (drop (length at) ready) ≡ false → IsUnderWay q t ready (s + 2 * len) (2 * len) (suc count) at
 ends_one q t ready s len count at w h d = go w.fuel w.enough w.all_released w.all_ended
   where
-    go : (n : ℕ) → t < s + n → at ++ released (slots_from t n s len (drop (length at) ready)) ≡ released (slots q t ready) → count + ended (slots_from t n s len (drop (length at) ready)) ≡ suc (ended (slots q t ready)) → IsUnderWay q t ready (s + 2 * len) (2 * len) (suc count) at
+    go : (n : ℕ) → t < s + n → at ++ released (slots_from t n s len (drop (length at) ready)) ≡ released (slots q t ready)
+        → count + ended (slots_from t n s len (drop (length at) ready)) ≡ suc (ended (slots q t ready))
+        → IsUnderWay q t ready (s + 2 * len) (2 * len) (suc count) at
     go zero lt r e = absurd (omega arith)
     go (suc n) lt r e =
         let now = slot_free t n s len (drop (length at) ready) h d in
-        let later : count + ended (slots_from t (suc n) s len (drop (length at) ready)) ≡ count + suc (ended (slots_from t n (s + 2 * len) (2 * len) (drop (length at) ready))) = ap (λ x. count + ended x) now in
+        let later : count + ended (slots_from t (suc n) s len (drop (length at) ready))
+            ≡ count + suc (ended (slots_from t n (s + 2 * len) (2 * len) (drop (length at) ready))) = ap (λ x. count + ended x) now in
         record {
           fuel = n;
           enough = let a = w.apart in omega arith;
@@ -92,7 +102,8 @@ ends_one q t ready s len count at w h d = go w.fuel w.enough w.all_released w.al
         }
 
 -- no slot is left
-pub is_over : (q t : ℕ) (ready : List ℕ) (s len count : ℕ) (at : List ℕ) → IsUnderWay q t ready s len count at → t < s → (at ≡ released (slots q t ready)) × (count ≡ suc (ended (slots q t ready)))
+pub is_over : (q t : ℕ) (ready : List ℕ) (s len count : ℕ) (at : List ℕ) → IsUnderWay q t ready s len count at → t < s → (at ≡ released (slots q t ready))
+    × (count ≡ suc (ended (slots q t ready)))
 is_over q t ready s len count at w h =
     let none = no_slots t w.fuel s len (drop (length at) ready) h in
     let a : at ++ released (slots_from t w.fuel s len (drop (length at) ready)) ≡ at ++ [] = ap (λ x. at ++ released x) none in
@@ -100,7 +111,8 @@ is_over q t ready s len count at w h =
     (sym (append-nil at) ∙ sym a ∙ w.all_released, let c = w.all_ended in omega (arith, b, c))
 
 -- equal numbers and lists have gone as far
-pub as_far : (q t : ℕ) (ready : List ℕ) (s s' len len' count count' : ℕ) (at at' : List ℕ) → s ≡ s' → len ≡ len' → count ≡ count' → at ≡ at' → IsUnderWay q t ready s len count at → IsUnderWay q t ready s' len' count' at'
+pub as_far : (q t : ℕ) (ready : List ℕ) (s s' len len' count count' : ℕ) (at at' : List ℕ) → s ≡ s' → len ≡ len' → count ≡ count' → at ≡ at'
+    → IsUnderWay q t ready s len count at → IsUnderWay q t ready s' len' count' at'
 as_far q t ready s s' len len' count count' at at' es el ec ea w =
     subst (λ z. IsUnderWay q t ready s' len' count' z) ea
     (subst (λ z. IsUnderWay q t ready s' len' z at) ec

@@ -1,5 +1,6 @@
 -- What the lines of a file of ready cycles say.
-use Rattle.std.specs.Prelude.{ℕ, ◌+◌, ◌-◌, ◌^◌, ◌==◌, ◌||◌, ◌&&◌, if◌then◌else◌, nat_le, Bool, true, List, [], ◌∷◌, length, map, take, drop, codes, Option, None, Some, bytes_eq}
+use Rattle.std.specs.Prelude.{ℕ, ◌+◌, ◌-◌, ◌^◌, ◌==◌, ◌||◌, ◌&&◌, if◌then◌else◌, nat_le, Bool, true, List, [], ◌∷◌, length, map, take, drop, codes, Option}
+use Rattle.std.specs.Prelude.{None, Some, bytes_eq}
 use Rattle.std.specs.Char.{is_ascii_digit}
 use Rattle.std.specs.List.{list_all, prefix_len, suffix_len, slice_split}
 use Rattle.std.specs.Str.Parse.{digits_value}

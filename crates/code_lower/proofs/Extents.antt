@@ -1,7 +1,8 @@
 -- Sizes and depths of a command and of the rest of its list.
 use Rattle.std.proofs.Common.{◌≡◌, ℕ, ◌+◌, ◌<◌, ◌≤◌, max, ap, ◌∙◌, List, length, get_or, drop, arith}
 use Rattle.mit_syntax.specs.declared.ast.Command.{Command}
-use Rattle.mit_syntax.specs.declared.ast.Form.{Form, Skip as FSkip, Assign as FAssign, Put as FPut, Sleep as FSleep, If' as FIf, While' as FWhile, Mitigate' as FMitigate}
+use Rattle.mit_syntax.specs.declared.ast.Form.{Form, Skip as FSkip, Assign as FAssign, Put as FPut, Sleep as FSleep, If' as FIf, While' as FWhile}
+use Rattle.mit_syntax.specs.declared.ast.Form.{Mitigate' as FMitigate}
 use Rattle.mit_syntax.specs.Expression.{Expression, Number, Variable, Binary, Element}
 use Rattle.mit_syntax.specs.Todo.{Todo, Done, Skip, Assign, Put, Sleep, If, While, Mitigate}
 use Rattle.mit_syntax.specs.Plan.{Written, Plan, form_plan, command_plan, list_plan}
@@ -42,10 +43,12 @@ module _ (cs : List Command) (i : ℕ) (c : Command) (h : i < length cs) (is : c
   cut_size = ap (λ z. size (list_plan z)) (cut cs i c h is) ∙ size-form c.form (record { pos = c.pos; labels = c.labels }) (list_plan (drop (i + 1) cs))
 
   pub cut_operands : most_operands (list_plan (drop i cs)) ≡ max (most_operands (command_plan c Done)) (most_operands (list_plan (drop (i + 1) cs)))
-  cut_operands = ap (λ z. most_operands (list_plan z)) (cut cs i c h is) ∙ operands-form c.form (record { pos = c.pos; labels = c.labels }) (list_plan (drop (i + 1) cs))
+  cut_operands = ap (λ z. most_operands (list_plan z)) (cut cs i c h is)
+      ∙ operands-form c.form (record { pos = c.pos; labels = c.labels }) (list_plan (drop (i + 1) cs))
 
   pub cut_deepest : deepest (list_plan (drop i cs)) ≡ max (deepest (command_plan c Done)) (deepest (list_plan (drop (i + 1) cs)))
-  cut_deepest = ap (λ z. deepest (list_plan z)) (cut cs i c h is) ∙ deepest-form c.form (record { pos = c.pos; labels = c.labels }) (list_plan (drop (i + 1) cs))
+  cut_deepest = ap (λ z. deepest (list_plan z)) (cut cs i c h is)
+      ∙ deepest-form c.form (record { pos = c.pos; labels = c.labels }) (list_plan (drop (i + 1) cs))
 
 -- no code is deeper than it is long
 pub expr_operands_within : (e : Expression) → expr_operands e ≤ expr_size e
@@ -60,7 +63,8 @@ operands_within (Skip m r) = let a = operands_within r in omega arith
 operands_within (Assign m x e r) = let a = operands_within r in let b = expr_operands_within e in omega arith
 operands_within (Put m f n i e r) = let a = operands_within r in let b = expr_operands_within e in let c = expr_operands_within i in omega arith
 operands_within (Sleep m e r) = let a = operands_within r in let b = expr_operands_within e in omega arith
-operands_within (If m e c d r) = let a = operands_within r in let b = expr_operands_within e in let x = operands_within c in let y = operands_within d in omega arith
+operands_within (If m e c d r) = let a = operands_within r in let b = expr_operands_within e in let x = operands_within c in let y =
+    operands_within d in omega arith
 operands_within (While m e c r) = let a = operands_within r in let b = expr_operands_within e in let x = operands_within c in omega arith
 operands_within (Mitigate m k l e c r) = let a = operands_within r in let b = expr_operands_within e in let x = operands_within c in omega arith
 

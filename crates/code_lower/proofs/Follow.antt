@@ -86,10 +86,12 @@ module _ {E : Type 0} (v : Env E) (lat : Lattice) (g : ℕ → ℕ) (image : Lis
   goes_after σ x y l (on d k m) = on d (leads_then v image x y _ l k) m
   goes_after σ x y l (over k d h n) = over (leads_then v image x y _ l k) d h n
 
-  pub meets : (p : Marked) (fs : List Frame) (a : ℕ) (os : List Opened) (s : Core E) → HasCode lat g image p a → Fits fs (a + size p) os → (σ : Source Marks ℕ) → σ ≡ source_at p fs s → Meets σ (at a [] os s)
+  pub meets : (p : Marked) (fs : List Frame) (a : ℕ) (os : List Opened) (s : Core E) → HasCode lat g image p a → Fits fs (a + size p) os → (σ : Source Marks ℕ)
+      → σ ≡ source_at p fs s → Meets σ (at a [] os s)
   meets p fs a os s code below σ e = record { list = p; frames = fs; place = a; opened = os; core = s; is = refl; code = code; below = below; same = e }
 
-  source_same : (t t' : Marked) (m m' : List ℤ) (n n' : List Note) → t ≡ t' → m ≡ m' → n ≡ n' → ◌≡◌ {A = Source Marks ℕ} (record { todo = t; memory = m; notes = n }) (record { todo = t'; memory = m'; notes = n' })
+  source_same : (t t' : Marked) (m m' : List ℤ) (n n' : List Note) → t ≡ t' → m ≡ m' → n ≡ n'
+      → ◌≡◌ {A = Source Marks ℕ} (record { todo = t; memory = m; notes = n }) (record { todo = t'; memory = m'; notes = n' })
   source_same t t' m m' n n' a b c =
       ap (λ z. let r : Source Marks ℕ = record { todo = z; memory = m; notes = n } in r) a
       ∙ ap (λ z. let r : Source Marks ℕ = record { todo = t'; memory = z; notes = n } in r) b
@@ -99,7 +101,8 @@ module _ {E : Type 0} (v : Env E) (lat : Lattice) (g : ℕ → ℕ) (image : Lis
   fits_at fs q q' os e f = subst (λ z. Fits fs z os) e f
 
   -- a command whose guard decides what is done next
-  if_goes : (m : Marks) (e : Expression) (c d r : Marked) (fs : List Frame) (a : ℕ) (os : List Opened) (s : Core E) → HasCode lat g image (If m e c d r) a → Fits fs (a + size (If m e c d r)) os → Goes (source_at (If m e c d r) fs s) (at a [] os s)
+  if_goes : (m : Marks) (e : Expression) (c d r : Marked) (fs : List Frame) (a : ℕ) (os : List Opened) (s : Core E) → HasCode lat g image (If m e c d r) a
+      → Fits fs (a + size (If m e c d r)) os → Goes (source_at (If m e c d r) fs s) (at a [] os s)
   if_goes m e c d r fs a os s code below = go (holds (value_of e s.memory)) refl
     where
       b : ℕ
@@ -117,14 +120,19 @@ module _ {E : Type 0} (v : Env E) (lat : Lattice) (g : ℕ → ℕ) (image : Lis
       leads : (w : Bool) → holds (value_of e s.memory) ≡ w → Leads v image (at a [] os s) (at (cond w (b + 1) (j + 1)) [] os s0)
       leads w f = leads_to v image _ _ _ (test_leads v image (Brz (j + 1)) e m a [] os s code.0 code.1) (ap (λ z. at (cond z (b + 1) (j + 1)) [] os s0) f)
 
-      stepped : (w : Bool) → holds (value_of e s.memory) ≡ w → source_step (source_at (If m e c d r) fs s) ≡ record { todo = cond w (then_todo c (then_todo r (rest_of fs))) (then_todo d (then_todo r (rest_of fs))); memory = s0.memory; notes = told s0.log }
-      stepped w f = source_same _ _ _ _ _ _ (ap (λ z. cond z (then_todo c (then_todo r (rest_of fs))) (then_todo d (then_todo r (rest_of fs)))) f) (sym (memory_same v m e a s)) (ap told (sym (log_same v m e a s)))
+      stepped : (w : Bool) → holds (value_of e s.memory) ≡ w
+          → source_step (source_at (If m e c d r) fs s) ≡ record { todo =
+          cond w (then_todo c (then_todo r (rest_of fs))) (then_todo d (then_todo r (rest_of fs))); memory = s0.memory; notes = told s0.log }
+      stepped w f = source_same _ _ _ _ _ _ (ap (λ z. cond z (then_todo c (then_todo r (rest_of fs))) (then_todo d (then_todo r (rest_of fs)))) f)
+          (sym (memory_same v m e a s)) (ap told (sym (log_same v m e a s)))
 
       go : (w : Bool) → holds (value_of e s.memory) ≡ w → Goes (source_at (If m e c d r) fs s) (at a [] os s)
-      go true f = on (λ z. cc) (leads true f) (meets c (Jumped r ∷ fs) (b + 1) os s0 code.2 (raised lat g e m, j + 1 + size d, code.3, code.5, fits_at fs _ _ os (sym end) below) _ (stepped true f))
+      go true f = on (λ z. cc) (leads true f) (meets c (Jumped r ∷ fs) (b + 1) os s0 code.2 (raised lat g e m, j + 1 + size d, code.3, code.5,
+          fits_at fs _ _ os (sym end) below) _ (stepped true f))
       go false f = on (λ z. cc) (leads false f) (meets d (After r ∷ fs) (j + 1) os s0 code.4 (code.5, fits_at fs _ _ os (sym end) below) _ (stepped false f))
 
-  while_goes : (m : Marks) (e : Expression) (c r : Marked) (fs : List Frame) (a : ℕ) (os : List Opened) (s : Core E) → HasCode lat g image (While m e c r) a → Fits fs (a + size (While m e c r)) os → Goes (source_at (While m e c r) fs s) (at a [] os s)
+  while_goes : (m : Marks) (e : Expression) (c r : Marked) (fs : List Frame) (a : ℕ) (os : List Opened) (s : Core E) → HasCode lat g image (While m e c r) a
+      → Fits fs (a + size (While m e c r)) os → Goes (source_at (While m e c r) fs s) (at a [] os s)
   while_goes m e c r fs a os s code below = go (holds (value_of e s.memory)) refl
     where
       b : ℕ
@@ -145,14 +153,19 @@ module _ {E : Type 0} (v : Env E) (lat : Lattice) (g : ℕ → ℕ) (image : Lis
       leads : (w : Bool) → holds (value_of e s.memory) ≡ w → Leads v image (at a [] os s) (at (cond w (b + 1) q) [] os s0)
       leads w f = leads_to v image _ _ _ (test_leads v image (Brz q) e m a [] os s code.0 code.1) (ap (λ z. at (cond z (b + 1) q) [] os s0) f)
 
-      stepped : (w : Bool) → holds (value_of e s.memory) ≡ w → source_step (source_at (While m e c r) fs s) ≡ record { todo = cond w (then_todo c (While m e c (then_todo r (rest_of fs)))) (then_todo r (rest_of fs)); memory = s0.memory; notes = told s0.log }
-      stepped w f = source_same _ _ _ _ _ _ (ap (λ z. cond z (then_todo c (While m e c (then_todo r (rest_of fs)))) (then_todo r (rest_of fs))) f) (sym (memory_same v m e a s)) (ap told (sym (log_same v m e a s)))
+      stepped : (w : Bool) → holds (value_of e s.memory) ≡ w
+          → source_step (source_at (While m e c r) fs s) ≡ record { todo =
+          cond w (then_todo c (While m e c (then_todo r (rest_of fs)))) (then_todo r (rest_of fs)); memory = s0.memory; notes = told s0.log }
+      stepped w f = source_same _ _ _ _ _ _ (ap (λ z. cond z (then_todo c (While m e c (then_todo r (rest_of fs)))) (then_todo r (rest_of fs))) f)
+          (sym (memory_same v m e a s)) (ap told (sym (log_same v m e a s)))
 
       go : (w : Bool) → holds (value_of e s.memory) ≡ w → Goes (source_at (While m e c r) fs s) (at a [] os s)
-      go true f = on (λ z. cc) (leads true f) (meets c (Again m e c r ∷ fs) (b + 1) os s0 code.2 (b + 1, refl, code.3, code.4, code.2, code.5, fits_at fs _ _ os (sym end) below) _ (stepped true f))
+      go true f = on (λ z. cc) (leads true f) (meets c (Again m e c r ∷ fs) (b + 1) os s0 code.2 (b + 1, refl, code.3, code.4, code.2, code.5,
+          fits_at fs _ _ os (sym end) below) _ (stepped true f))
       go false f = on (λ z. cc) (leads false f) (meets r fs q os s0 code.5 (fits_at fs _ _ os (sym end) below) _ (stepped false f))
 
-  again_goes : (m : Marks) (e : Expression) (c p : Marked) (fs : List Frame) (a : ℕ) (os : List Opened) (s : Core E) → Fits (Again m e c p ∷ fs) a os → Goes (source_at Done (Again m e c p ∷ fs) s) (at a [] os s)
+  again_goes : (m : Marks) (e : Expression) (c p : Marked) (fs : List Frame) (a : ℕ) (os : List Opened) (s : Core E) → Fits (Again m e c p ∷ fs) a os
+      → Goes (source_at Done (Again m e c p ∷ fs) s) (at a [] os s)
   again_goes m e c p fs a os s below = go (holds (value_of e s.memory)) refl
     where
       rm : Marks
@@ -170,15 +183,20 @@ module _ {E : Type 0} (v : Env E) (lat : Lattice) (g : ℕ → ℕ) (image : Lis
       leads : (w : Bool) → holds (value_of e s.memory) ≡ w → Leads v image (at a [] os s) (at (cond w b q) [] os s0)
       leads w f = leads_to v image _ _ _ (test_leads v image (Brnz b) e rm a [] os s below.2 below.3) (ap (λ z. at (cond z b q) [] os s0) f)
 
-      stepped : (w : Bool) → holds (value_of e s.memory) ≡ w → source_step (source_at Done (Again m e c p ∷ fs) s) ≡ record { todo = cond w (then_todo c (While m e c (then_todo p (rest_of fs)))) (then_todo p (rest_of fs)); memory = s0.memory; notes = told s0.log }
-      stepped w f = source_same _ _ _ _ _ _ (ap (λ z. cond z (then_todo c (While m e c (then_todo p (rest_of fs)))) (then_todo p (rest_of fs))) f) (sym (memory_same v rm e a s)) (ap told (sym (log_same v rm e a s)))
+      stepped : (w : Bool) → holds (value_of e s.memory) ≡ w
+          → source_step (source_at Done (Again m e c p ∷ fs) s) ≡ record { todo =
+          cond w (then_todo c (While m e c (then_todo p (rest_of fs)))) (then_todo p (rest_of fs)); memory = s0.memory; notes = told s0.log }
+      stepped w f = source_same _ _ _ _ _ _ (ap (λ z. cond z (then_todo c (While m e c (then_todo p (rest_of fs)))) (then_todo p (rest_of fs))) f)
+          (sym (memory_same v rm e a s)) (ap told (sym (log_same v rm e a s)))
 
       go : (w : Bool) → holds (value_of e s.memory) ≡ w → Goes (source_at Done (Again m e c p ∷ fs) s) (at a [] os s)
-      go true f = on (λ z. cc) (leads true f) (meets c (Again m e c p ∷ fs) b os s0 below.4 (fits_at (Again m e c p ∷ fs) a (b + size c) os (sym below.1) below) _ (stepped true f))
+      go true f = on (λ z. cc) (leads true f)
+          (meets c (Again m e c p ∷ fs) b os s0 below.4 (fits_at (Again m e c p ∷ fs) a (b + size c) os (sym below.1) below) _ (stepped true f))
       go false f = on (λ z. cc) (leads false f) (meets p fs q os s0 below.5 below.6 _ (stepped false f))
 
   -- the source's next step
-  pub goes : (fs : List Frame) (p : Marked) (a : ℕ) (os : List Opened) (s : Core E) → HasCode lat g image p a → Fits fs (a + size p) os → Goes (source_at p fs s) (at a [] os s)
+  pub goes : (fs : List Frame) (p : Marked) (a : ℕ) (os : List Opened) (s : Core E) → HasCode lat g image p a → Fits fs (a + size p) os
+      → Goes (source_at p fs s) (at a [] os s)
   goes fs (Skip m r) a os s code below =
       let e : a + size (Skip m r) ≡ a + 1 + size r = omega arith in
       on (λ z. cc) (one v image Nop m a [] os s code.0) (meets r fs (a + 1) os (fetched v m a s) code.1 (fits_at fs _ _ os e below) _ refl)
@@ -189,7 +207,8 @@ module _ {E : Type 0} (v : Env E) (lat : Lattice) (g : ℕ → ℕ) (image : Lis
       on (λ z. cc) (test_leads v image (Store x) e m a [] os s code.0 code.1)
       (meets r fs (a + expr_size e + 1) os s1 code.2 (fits_at fs _ _ os end below) _
       (source_same _ _ _ _ _ _ refl (ap (λ z. slice_set z x n) (sym (memory_same v m e a s)))
-      (ap (λ z. told z ++ Assigned x n ∷ []) (sym (log_same v m e a s)) ∙ sym (told-append (timed v m e a s).log (Wrote x n (touched v m x (tested v m e a s)).clock ∷ [])))))
+      (ap (λ z. told z ++ Assigned x n ∷ []) (sym (log_same v m e a s))
+          ∙ sym (told-append (timed v m e a s).log (Wrote x n (touched v m x (tested v m e a s)).clock ∷ [])))))
   goes fs (Put m f n i e r) a os s code below =
       let x = element f n (value_of i s.memory) in
       let y = value_of e s.memory in

@@ -14,7 +14,8 @@ pub keep_meaning : (p : LabelledProgram) → MeansSame (bare_of p) (plan_of p.pr
 keep_meaning p = same_commands (bare_of p) (plan_of p.program) (keep_commands p)
 
 -- what does what a program does does what each program does that means the same
-pub order_same : {E M L M' L' : Type 0} (v : Env E) (image : List Instr) (p : Todo M L) (q : Todo M' L') → MeansSame p q → KeepsOrder v image p → KeepsOrder v image q
+pub order_same : {E M L M' L' : Type 0} (v : Env E) (image : List Instr) (p : Todo M L) (q : Todo M' L') → MeansSame p q
+    → KeepsOrder v image p → KeepsOrder v image q
 order_same v image p q e k =
     record {
       follows = λ s t. let f = k.follows s t in (f.0, f.1 ∙ e.tells s.memory f.0, λ h. (e.ends s.memory f.0).0 (f.2 h));

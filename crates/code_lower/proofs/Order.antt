@@ -23,13 +23,15 @@ module _ {E : Type 0} (v : Env E) (image : List Instr) where
   steps_log (suc k) x h =
       let t = ticks v image x h in
       let n = t.news in
-      prefix_then (told x.core.log) (told (step v image x).core.log) _ (told n.0, sym (told-append x.core.log n.0) ∙ ap told (sym n.1)) (steps_log k (step v image x) t.sane)
+      prefix_then (told x.core.log) (told (step v image x).core.log) _ (told n.0,
+          sym (told-append x.core.log n.0) ∙ ap told (sym n.1)) (steps_log k (step v image x) t.sane)
 
   module _ (lat : Lattice) (g : ℕ → ℕ) where
     -- where the machine stands after n source steps, or that it has halted
     data Reached (n : ℕ) (σ : Source Marks ℕ) (x : Machine E) : Type 0 where
       there : (k : ℕ) {y : Machine E} → n ≤ k → steps v image k x ≡ y → Meets v lat g image (source_steps n σ) y → Reached n σ x
-      ended : (k : ℕ) {y : Machine E} → steps v image k x ≡ y → y.halted ≡ true → (source_steps n σ).todo ≡ Done → (source_steps n σ).notes ≡ told y.core.log → Reached n σ x
+      ended : (k : ℕ) {y : Machine E} → steps v image k x ≡ y → y.halted ≡ true → (source_steps n σ).todo ≡ Done
+          → (source_steps n σ).notes ≡ told y.core.log → Reached n σ x
 
     next_of : (σ : Source Marks ℕ) (x : Machine E) → Meets v lat g image σ x → Goes v lat g image σ x
     next_of σ x m =
@@ -86,7 +88,8 @@ module _ {E : Type 0} (v : Env E) (lat : Lattice) (g : ℕ → ℕ) (image : Lis
   one_end : (k k' : ℕ) (x : Machine E) → (steps v image k x).halted ≡ true → (steps v image k' x).halted ≡ true → steps v image k x ≡ steps v image k' x
   one_end k k' x h h' =
       let e : k + k' ≡ k' + k = omega arith in
-      sym (stays v image k' (steps v image k x) h) ∙ sym (steps-add v image k k' x) ∙ ap (λ z. steps v image z x) e ∙ steps-add v image k' k x ∙ stays v image k (steps v image k' x) h'
+      sym (stays v image k' (steps v image k x) h) ∙ sym (steps-add v image k k' x) ∙ ap (λ z. steps v image z x) e ∙ steps-add v image k' k x
+          ∙ stays v image k (steps v image k' x) h'
 
   -- up to a later point of the run
   ahead : (k k' : ℕ) (x : Machine E) → Sane x.opened x.core.clock → k ≤ k' → IsPrefix (told (steps v image k x).core.log) (told (steps v image k' x).core.log)
@@ -101,7 +104,8 @@ module _ {E : Type 0} (v : Env E) (lat : Lattice) (g : ℕ → ℕ) (image : Lis
     ended : x.halted ≡ true → HasEnded p s.memory count
 
   -- a point of the run that a later point's notes cover
-  covered : (s : Start E) (n k k' : ℕ) → k ≤ k' → (notes_of p s.memory n ≡ told (steps v image k' (start s.memory s.env)).core.log) → (steps v image k (start s.memory s.env)).halted ≡ false → Follows s (steps v image k (start s.memory s.env))
+  covered : (s : Start E) (n k k' : ℕ) → k ≤ k' → (notes_of p s.memory n ≡ told (steps v image k' (start s.memory s.env)).core.log)
+      → (steps v image k (start s.memory s.env)).halted ≡ false → Follows s (steps v image k (start s.memory s.env))
   covered s n k k' le e f =
       let x0 = start s.memory s.env in
       let q = ahead k k' x0 tt le in
@@ -109,7 +113,8 @@ module _ {E : Type 0} (v : Env E) (lat : Lattice) (g : ℕ → ℕ) (image : Lis
       record { count = r.0; notes = sym r.1; ended = λ h. absurd (both_ways (steps v image k x0).halted f h) }
 
   follows_at : (s : Start E) (k : ℕ) → Follows s (steps v image k (start s.memory s.env))
-  follows_at s k = go (steps v image k (start s.memory s.env)).halted refl (reach v image lat g k (source_start p s.memory) (start s.memory s.env) (starts_met s))
+  follows_at s k = go (steps v image k (start s.memory s.env)).halted refl
+      (reach v image lat g k (source_start p s.memory) (start s.memory s.env) (starts_met s))
     where
       x0 : Machine E
       x0 = start s.memory s.env
@@ -130,7 +135,8 @@ module _ {E : Type 0} (v : Env E) (lat : Lattice) (g : ℕ → ℕ) (image : Lis
           (λ (lt : k < k'). covered s k k k' (omega arith) (t ∙ sym (ap (λ z. told z.core.log) e)) h)
           (λ (le : k' ≤ k).
           let sum : k' + (k - k') ≡ k = omega arith in
-          let here = ap (λ z. steps v image z x0) (sym sum) ∙ steps-add v image k' (k - k') x0 ∙ stays v image (k - k') (steps v image k' x0) (ap (λ z. z.halted) e ∙ h') ∙ e in
+          let here = ap (λ z. steps v image z x0) (sym sum) ∙ steps-add v image k' (k - k') x0
+              ∙ stays v image (k - k') (steps v image k' x0) (ap (λ z. z.halted) e ∙ h') ∙ e in
           absurd (both_ways (steps v image k x0).halted h (ap (λ z. z.halted) here ∙ h')))
           (cases_lt k k')
 
@@ -140,13 +146,15 @@ module _ {E : Type 0} (v : Env E) (lat : Lattice) (g : ℕ → ℕ) (image : Lis
     notes : notes_of p s.memory n ++ later ≡ told (run_from v image by s).core.log
     ended : HasEnded p s.memory n → (run_from v image by s).halted ≡ true
 
-  comes_halted : (s : Start E) (n k : ℕ) (y : Machine E) → steps v image k (start s.memory s.env) ≡ y → y.halted ≡ true → notes_of p s.memory n ≡ told y.core.log → Comes s n
+  comes_halted : (s : Start E) (n k : ℕ) (y : Machine E) → steps v image k (start s.memory s.env) ≡ y → y.halted ≡ true
+      → notes_of p s.memory n ≡ told y.core.log → Comes s n
   comes_halted s n k y e h t =
       let x0 = start s.memory s.env in
       let c = ap (λ z. z.core.clock) e in
       let r = covers v image k y.core.clock y.core.clock x0 tt (omega arith) (omega arith) in
       let run = r.1 ∙ ap (steps v image r.0) e ∙ stays v image r.0 y h in
-      record { by = y.core.clock; later = []; notes = append-nil (notes_of p s.memory n) ∙ t ∙ sym (ap (λ z. told z.core.log) run); ended = λ z. ap (λ q. q.halted) run ∙ h }
+      record { by = y.core.clock; later = []; notes = append-nil (notes_of p s.memory n) ∙ t ∙ sym (ap (λ z. told z.core.log) run); ended =
+          λ z. ap (λ q. q.halted) run ∙ h }
 
   comes_at : (s : Start E) (n : ℕ) → Comes s n
   comes_at s n = go (reach v image lat g n (source_start p s.memory) (start s.memory s.env) (starts_met s))

@@ -36,7 +36,8 @@ module _ (ds : List Declaration) (shaped : AreShaped ds) (n : ℕ) where
       (((array_some ds k.0.0 f j k.0.1 shaped, array_below ds k.0.0 f j k.0.1), h.0, h.1), tt)
 
   -- an expression's code, and code after it
-  after : (m : Marks) (e : Expression) (is : List Instr) → AreBelow n m → IsKnown ds e → AllInRange (variables ds) n is → AllInRange (variables ds) n (expr_code m e ++ is)
+  after : (m : Marks) (e : Expression) (is : List Instr) → AreBelow n m → IsKnown ds e → AllInRange (variables ds) n is
+      → AllInRange (variables ds) n (expr_code m e ++ is)
   after m e is h k r = range_both (variables ds) n (expr_code m e) is (expr_range m e h k) r
 
   module _ (lat : Lattice) (g : ℕ → ℕ) (low : lat.bottom < n) (g_below : (x : ℕ) → g x < n) (closed : (a b : ℕ) → a < n → b < n → lat.join a b < n) where
@@ -82,7 +83,8 @@ module _ (ds : List Declaration) (shaped : AreShaped ds) (n : ℕ) where
             (tt, b.0, b.1),
             range_both (variables ds) n (code_of lat g c' (s + 1)) r2 (code_range c (i + 1) (s + 1) h.4) (
               (tt, rb.0, rb.1),
-              range_both (variables ds) n (code_of lat g d' (j + 1)) (code_of lat g p' q) (code_range d (i + 1 + count c) (j + 1) h.5) (code_range p (i + 1 + count c + count d) q h.6),
+              range_both (variables ds) n (code_of lat g d' (j + 1)) (code_of lat g p' q) (code_range d (i + 1 + count c) (j + 1) h.5)
+                  (code_range p (i + 1 + count c + count d) q h.6),
             ),
           )
       code_range (While w e c p) i a h =
@@ -115,4 +117,5 @@ module _ (ds : List Declaration) (shaped : AreShaped ds) (n : ℕ) where
 
       pub image_range : (p : Plan) (i : ℕ) → AreKnown n ds p → AllInRange (variables ds) n (image_of lat g (bare (labelled ms ls p i)))
       image_range p i h =
-          range_both (variables ds) n (code_of lat g (bare (labelled ms ls p i)) 0) (instr Halt (record { er = lat.bottom; ew = lat.bottom }) ∷ []) (code_range p i 0 h) ((tt, low, low), tt)
+          range_both (variables ds) n (code_of lat g (bare (labelled ms ls p i)) 0) (instr Halt (record { er = lat.bottom; ew = lat.bottom }) ∷ [])
+              (code_range p i 0 h) ((tt, low, low), tt)

@@ -59,7 +59,8 @@ expr_stands image m (Element f n i) a h =
     (expr_stands image m i a (has_front image a (expr_code m i) _ h), (has_back image a (expr_code m i) _ (expr_size i) (length-expr_code m i) h).0)
 
 -- where an expression's code and one more instruction stand, with what is below them
-after_test : (image : List Instr) (m : Marks) (e : Expression) (i : Instr) (js : List Instr) (a : ℕ) → HasAt image a (expr_code m e ++ (i ∷ js)) → HasExpr image m e a × (slice_get image (a + expr_size e) ≡ Some i) × HasAt image (a + expr_size e + 1) js
+after_test : (image : List Instr) (m : Marks) (e : Expression) (i : Instr) (js : List Instr) (a : ℕ) → HasAt image a (expr_code m e ++ (i ∷ js))
+    → HasExpr image m e a × (slice_get image (a + expr_size e) ≡ Some i) × HasAt image (a + expr_size e + 1) js
 after_test image m e i js a h =
     let back = has_back image a (expr_code m e) (i ∷ js) (expr_size e) (length-expr_code m e) h in
     (expr_stands image m e a (has_front image a (expr_code m e) (i ∷ js) h), back.0, back.1)
@@ -75,7 +76,8 @@ module _ (lat : Lattice) (g : ℕ → ℕ) where
   length-code_of (Put m f n i e r) a =
       let b = a + expr_size i + expr_size e in
       let t : List Instr = instr (StoreAt f n) m ∷ code_of lat g r (b + 1) in
-      omega (arith, length-append (expr_code m i) (expr_code m e ++ t), length-append (expr_code m e) t, length-expr_code m i, length-expr_code m e, length-code_of r (b + 1))
+      omega (arith, length-append (expr_code m i) (expr_code m e ++ t), length-append (expr_code m e) t, length-expr_code m i,
+          length-expr_code m e, length-code_of r (b + 1))
   length-code_of (Sleep m e r) a =
       let b = a + expr_size e in
       let t : List Instr = instr SleepWork m ∷ code_of lat g r (b + 1) in
@@ -89,7 +91,8 @@ module _ (lat : Lattice) (g : ℕ → ℕ) where
       let cr = code_of lat g r q in
       let t2 : List Instr = instr (Jmp q) (raised lat g e m) ∷ (cd ++ cr) in
       let t1 : List Instr = instr (Brz (j + 1)) m ∷ (cc_ ++ t2) in
-      omega (arith, length-append (expr_code m e) t1, length-append cc_ t2, length-append cd cr, length-expr_code m e, length-code_of c (b + 1), length-code_of d (j + 1), length-code_of r q)
+      omega (arith, length-append (expr_code m e) t1, length-append cc_ t2, length-append cd cr, length-expr_code m e, length-code_of c (b + 1),
+          length-code_of d (j + 1), length-code_of r q)
   length-code_of (While m e c r) a =
       let b = a + expr_size e in
       let t = b + 1 + size c in
@@ -100,7 +103,8 @@ module _ (lat : Lattice) (g : ℕ → ℕ) where
       let t3 : List Instr = instr (Brnz (b + 1)) rm ∷ cr in
       let t2 : List Instr = expr_code rm e ++ t3 in
       let t1 : List Instr = instr (Brz q) m ∷ (cc_ ++ t2) in
-      omega (arith, length-append (expr_code m e) t1, length-append cc_ t2, length-append (expr_code rm e) t3, length-expr_code m e, length-expr_code rm e, length-code_of c (b + 1), length-code_of r q)
+      omega (arith, length-append (expr_code m e) t1, length-append cc_ t2, length-append (expr_code rm e) t3, length-expr_code m e, length-expr_code rm e,
+          length-code_of c (b + 1), length-code_of r q)
   length-code_of (Mitigate m k l e c r) a =
       let b = a + expr_size e in
       let j = b + 1 + size c in
@@ -158,7 +162,8 @@ module _ (lat : Lattice) (g : ℕ → ℕ) where
       let all = has_all (code ++ halt) [] in
       let z : 0 + size p ≡ size p = omega arith in
       let back = has_back (code ++ halt) 0 code halt (size p) (length-code_of p 0) all in
-      (code_stands (code ++ halt) p 0 (has_front (code ++ halt) 0 code halt all), subst (λ n. Stands (code ++ halt) n Halt (record { er = lat.bottom; ew = lat.bottom })) z back.0)
+      (code_stands (code ++ halt) p 0 (has_front (code ++ halt) 0 code halt all),
+          subst (λ n. Stands (code ++ halt) n Halt (record { er = lat.bottom; ew = lat.bottom })) z back.0)
 
   -- the code of one list after another
   pub code-then : (p q : Marked) (a : ℕ) → code_of lat g (then_todo p q) a ≡ code_of lat g p a ++ code_of lat g q (a + size p)
@@ -186,18 +191,22 @@ module _ (lat : Lattice) (g : ℕ → ℕ) where
       let j = b + 1 + size c in
       let u = j + 1 + size d in
       let s : u + size r ≡ a + size (If m e c d r) = omega arith in
-      ap (λ z. expr_code m e ++ (instr (Brz (j + 1)) m ∷ (code_of lat g c (b + 1) ++ (instr (Jmp u) (raised lat g e m) ∷ (code_of lat g d (j + 1) ++ z))))) (code-then r q u ∙ ap (λ z. code_of lat g r u ++ code_of lat g q z) s)
+      ap (λ z. expr_code m e ++ (instr (Brz (j + 1)) m ∷ (code_of lat g c (b + 1) ++ (instr (Jmp u) (raised lat g e m) ∷ (code_of lat g d (j + 1) ++ z)))))
+          (code-then r q u ∙ ap (λ z. code_of lat g r u ++ code_of lat g q z) s)
       ∙ sym (simp append_assoc)
   code-then (While m e c r) q a =
       let b = a + expr_size e in
       let t = b + 1 + size c in
       let u = t + expr_size e + 1 in
       let s : u + size r ≡ a + size (While m e c r) = omega arith in
-      ap (λ z. expr_code m e ++ (instr (Brz u) m ∷ (code_of lat g c (b + 1) ++ (expr_code (raised lat g e m) e ++ (instr (Brnz (b + 1)) (raised lat g e m) ∷ z))))) (code-then r q u ∙ ap (λ z. code_of lat g r u ++ code_of lat g q z) s)
+      ap (λ z. expr_code m e ++ (instr (Brz u) m ∷ (code_of lat g c (b + 1)
+          ++ (expr_code (raised lat g e m) e ++ (instr (Brnz (b + 1)) (raised lat g e m) ∷ z))))) (code-then r q u
+          ∙ ap (λ z. code_of lat g r u ++ code_of lat g q z) s)
       ∙ sym (simp append_assoc)
   code-then (Mitigate m k l e c r) q a =
       let b = a + expr_size e in
       let j = b + 1 + size c in
       let s : j + 1 + size r ≡ a + size (Mitigate m k l e c r) = omega arith in
-      ap (λ z. expr_code m e ++ (instr (Mitb (label l) k) m ∷ (code_of lat g c (b + 1) ++ (instr Mite m ∷ z)))) (code-then r q (j + 1) ∙ ap (λ z. code_of lat g r (j + 1) ++ code_of lat g q z) s)
+      ap (λ z. expr_code m e ++ (instr (Mitb (label l) k) m ∷ (code_of lat g c (b + 1) ++ (instr Mite m ∷ z)))) (code-then r q (j + 1)
+          ∙ ap (λ z. code_of lat g r (j + 1) ++ code_of lat g q z) s)
       ∙ sym (simp append_assoc)

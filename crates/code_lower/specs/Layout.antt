@@ -6,7 +6,8 @@ use Rattle.mit_syntax.specs.Todo.{Todo, Marks, Marked, Done, Skip, Assign, Put, 
 use Rattle.label_lattice.specs.Lattice.{Lattice}
 use Rattle.timing_types.specs.Typing.{label_of}
 use Rattle.label_code.specs.declared.code.Work.{Work}
-use Rattle.label_code.specs.declared.code.Work.TheVariants.{Push, Load, Store, LoadAt, StoreAt, Apply, Brz, Brnz, Jmp, Sleep as SleepWork, Mitb, Mite, Nop, Halt}
+use Rattle.label_code.specs.declared.code.Work.TheVariants.{Push, Load, Store, LoadAt, StoreAt, Apply, Brz, Brnz, Jmp, Sleep as SleepWork, Mitb, Mite, Nop}
+use Rattle.label_code.specs.declared.code.Work.TheVariants.{Halt}
 use Rattle.label_code.specs.declared.code.Instr.{Instr}
 use Rattle.label_code.specs.Machine.{label, instr}
 

@@ -35,7 +35,8 @@ module _ {E : Type 0} (v : Env E) (serves : Order → E → Type 0) (p : Labelle
   may_cut (TooMuch count) h = tt
   may_cut Memory h = tt
 
-  pub is_report : Pairwise (AgreeFor v serves p o) ss → (s : Survey) → IsSurvey v p o t false ss s → (m : Measures) → IsMeasure p.program.order o t s.ended (views (sequence_from v p o t) ss) m
+  pub is_report : Pairwise (AgreeFor v serves p o) ss → (s : Survey) → IsSurvey v p o t false ss s → (m : Measures)
+      → IsMeasure p.program.order o t s.ended (views (sequence_from v p o t) ss) m
       → (r : CutReport) → Reports (length ss) s m r → IsReport v serves p o t ss r
   is_report agree s survey m measure r made = record {
     agree = agree;
@@ -46,9 +47,11 @@ module _ {E : Type 0} (v : Env E) (serves : Order → E → Type 0) (p : Labelle
     measures = measure_of p.program.order o t s.ended r.ended (views (sequence_from v p o t) ss) m r.measures (sym made.ended) (sym made.measures) measure;
   }
 
-  pub report_within : CutSound v p.program.order (serves p.program.order) (labels_of p) (levels_of p) (lowered p).instrs (plan_of p.program) → o < p.program.order.size → 0 < t
+  pub report_within : CutSound v p.program.order (serves p.program.order) (labels_of p) (levels_of p) (lowered p).instrs (plan_of p.program)
+      → o < p.program.order.size → 0 < t
       → (r : CutReport) → IsReport v serves p o t ss r → r.measures.distinct ≤ r.measures.base ^ r.measures.exponent
   report_within sound low some r is =
       let seqs = views (sequence_from v p o t) ss in
       let few = sound.few o low t some ss is.agree same_sequence tests_sequences in
-      within p.program.order o t r.ended seqs r.measures is.measures (subst (λ z. distinct_count same_sequence seqs ≤ bound p.program.order o t z) (sym is.ended) few)
+      within p.program.order o t r.ended seqs r.measures is.measures
+          (subst (λ z. distinct_count same_sequence seqs ≤ bound p.program.order o t z) (sym is.ended) few)

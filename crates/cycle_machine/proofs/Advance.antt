@@ -26,9 +26,12 @@ length_rest (x ∷ xs) h = omega arith
 
 -- an instruction leads to the depths of the next place
 act_there : {E : Type 0} (v : Env E) (m : Marks) (ds : Depths) (size : ℕ) (w : Work) (a : ℕ) (ops : List ℤ) (os : List Opened) (s : Core E) →
-    takes w ≤ length ops → closes w ≤ length os → length ops ≡ ds.operands a → length os ≡ ds.nesting a → Leads ds size a w → IsThere ds size (act v m w a ops os s)
-act_there v m ds size (Push n) a ops os s t c p q l = record { within = l.within; operands = omega (arith, l.operands, p); nesting = omega (arith, l.nesting, q) }
-act_there v m ds size (Load x) a ops os s t c p q l = record { within = l.within; operands = omega (arith, l.operands, p); nesting = omega (arith, l.nesting, q) }
+    takes w ≤ length ops → closes w ≤ length os → length ops ≡ ds.operands a → length os ≡ ds.nesting a → Leads ds size a w
+        → IsThere ds size (act v m w a ops os s)
+act_there v m ds size (Push n) a ops os s t c p q l =
+    record { within = l.within; operands = omega (arith, l.operands, p); nesting = omega (arith, l.nesting, q) }
+act_there v m ds size (Load x) a ops os s t c p q l =
+    record { within = l.within; operands = omega (arith, l.operands, p); nesting = omega (arith, l.nesting, q) }
 act_there v m ds size (Store x) a ops os s t c p q l =
     let r = length_rest ops t in record { within = l.within; operands = omega (arith, l.operands, p, r); nesting = omega (arith, l.nesting, q) }
 act_there v m ds size (LoadAt f n) a ops os s t c p q l =
@@ -53,18 +56,21 @@ act_there {E} v m ds size (Brnz b) a ops os s t c p q l =
       | true ↦ record { within = l.1.within; operands = omega (arith, l.1.operands, p, r); nesting = omega (arith, l.1.nesting, q) }
       | false ↦ record { within = l.0.within; operands = omega (arith, l.0.operands, p, r); nesting = omega (arith, l.0.nesting, q) }
     ]
-act_there v m ds size (Jmp b) a ops os s t c p q l = record { within = l.within; operands = omega (arith, l.operands, p); nesting = omega (arith, l.nesting, q) }
+act_there v m ds size (Jmp b) a ops os s t c p q l =
+    record { within = l.within; operands = omega (arith, l.operands, p); nesting = omega (arith, l.nesting, q) }
 act_there v m ds size Sleep a ops os s t c p q l =
     let r = length_rest ops t in record { within = l.within; operands = omega (arith, l.operands, p, r); nesting = omega (arith, l.nesting, q) }
 act_there v m ds size (Mitb k n) a ops os s t c p q l =
     let r = length_rest ops t in record { within = l.within; operands = omega (arith, l.operands, p, r); nesting = omega (arith, l.nesting, q) }
 act_there v m ds size Mite a ops [] s t c p q l = absurd (omega (arith, c))
-act_there v m ds size Mite a ops (o ∷ os) s t c p q l = record { within = l.within; operands = omega (arith, l.operands, p); nesting = omega (arith, l.nesting, q) }
+act_there v m ds size Mite a ops (o ∷ os) s t c p q l =
+    record { within = l.within; operands = omega (arith, l.operands, p); nesting = omega (arith, l.nesting, q) }
 act_there v m ds size Nop a ops os s t c p q l = record { within = l.within; operands = omega (arith, l.operands, p); nesting = omega (arith, l.nesting, q) }
 act_there v m ds size Halt a ops os s t c p q l = record { within = omega (arith, l); operands = p; nesting = q }
 
 -- no instruction ends before its fetch
-act_later : {E : Type 0} (v : Env E) (m : Marks) (limit : ℕ) (w : Work) (a : ℕ) (ops : List ℤ) (os : List Opened) (s : Core E) → limit < s.clock → limit < (act v m w a ops os s).core.clock
+act_later : {E : Type 0} (v : Env E) (m : Marks) (limit : ℕ) (w : Work) (a : ℕ) (ops : List ℤ) (os : List Opened) (s : Core E) → limit < s.clock
+    → limit < (act v m w a ops os s).core.clock
 act_later v m t (Push n) a ops os s h = h
 act_later v m t (Load x) a ops os s h = omega (arith, h)
 act_later v m t (Store x) a ops os s h = omega (arith, h)
@@ -81,7 +87,8 @@ act_later v m t Nop a ops os s h = h
 act_later v m t Halt a ops os s h = h
 
 -- there is room for what an instruction leaves
-room : (ds : Depths) (size most deepest a : ℕ) (w : Work) → ((b : ℕ) → b < size → (ds.operands b ≤ most) × (ds.nesting b ≤ deepest)) → Leads ds size a w → ds.operands a ≤ most → ds.nesting a ≤ deepest →
+room : (ds : Depths) (size most deepest a : ℕ) (w : Work) → ((b : ℕ) → b < size → (ds.operands b ≤ most) × (ds.nesting b ≤ deepest)) → Leads ds size a w
+    → ds.operands a ≤ most → ds.nesting a ≤ deepest →
     (ds.operands a + leaves w ≤ most + takes w) × (ds.nesting a + opens w ≤ deepest + closes w)
 room ds size most deepest a (Push n) h l p q = let x = h (a + 1) l.within in (omega (arith, l.operands, x.0), omega (arith, q))
 room ds size most deepest a (Load n) h l p q = let x = h (a + 1) l.within in (omega (arith, l.operands, x.0), omega (arith, q))
@@ -126,7 +133,8 @@ fits_from serves c i s h e lo lp lm =
     λ b l. let f = has.each b (get_or c.instrs b i) (slice_get-get_or c.instrs b i l) in (f.few, f.shallow) in
     let r = room ds (length c.instrs) c.operands c.nesting s.place i.work all fine.leads fine.few fine.shallow in
     let a : length s.operands.items ≡ ds.operands s.place = sym (length-reverse s.operands.items) ∙ there.operands in
-    let b : length s.opened.items ≡ ds.nesting s.place = sym (length-reverse s.opened.items) ∙ (sym (length-map (reverse s.opened.items) opened_of) ∙ there.nesting) in
+    let b : length s.opened.items ≡ ds.nesting s.place =
+        sym (length-reverse s.opened.items) ∙ (sym (length-map (reverse s.opened.items) opened_of) ∙ there.nesting) in
     record {
       place = omega (arith, there.within, has.small);
       operands = omega (arith, lo, a, fine.enough);
@@ -138,13 +146,15 @@ fits_from serves c i s h e lo lp lm =
     }
 
 -- the labels of an instruction are the environment's
-pub served_from : {E : Type 0} (serves : Order → E → Type 0) (c : Code) (i : Instr) (s : State E) → Stands serves c s → slice_get c.instrs s.place ≡ Some i → IsServed serves s.env i.er i.ew
+pub served_from : {E : Type 0} (serves : Order → E → Type 0) (c : Code) (i : Instr) (s : State E) → Stands serves c s → slice_get c.instrs s.place ≡ Some i
+    → IsServed serves s.env i.er i.ew
 served_from serves c i s h e =
     let has : HasDepths c h.depths.0 = h.depths.1 in
     let fine = has.each s.place i e in
     (c.order, (h.served, fine.er, fine.ew))
 
-stands_next : {E : Type 0} (v : Env E) (serves : Order → E → Type 0) (c : Code) (i : Instr) (old new : State E) (es : List Event) → Stands serves c old → slice_get c.instrs old.place ≡ Some i →
+stands_next : {E : Type 0} (v : Env E) (serves : Order → E → Type 0) (c : Code) (i : Instr) (old new : State E) (es : List Event) → Stands serves c old
+    → slice_get c.instrs old.place ≡ Some i →
     Keeps serves old new → after v i old ≡ with_log es (seen new) → Stands serves c new
 stands_next v serves c i old new es h e k q =
     let ds : Depths = h.depths.0 in
@@ -171,13 +181,18 @@ step_is v c i old e = ap (λ o. obey v o (seen old)) e
 later_of : {E : Type 0} (v : Env E) (i : Instr) (old new : State E) (m : Machine E) → after v i old ≡ m → old.clock < m.core.clock
 later_of v i old new m e =
     subst (λ m. old.clock < m.core.clock) e
-    (act_later v (marks_of i) old.clock i.work old.place (reverse old.operands.items) (map opened_of (reverse old.opened.items)) (fetched v (marks_of i) old.place (core_of old)) (omega arith))
+    (act_later v (marks_of i) old.clock i.work old.place (reverse old.operands.items) (map opened_of (reverse old.opened.items))
+        (fetched v (marks_of i) old.place (core_of old)) (omega arith))
 
-pub advance_is : {E : Type 0} (v : Env E) (serves : Order → E → Type 0) (c : Code) (i : Instr) (old new : State E) (limit : ℕ) (d : Outcome) → Stands serves c old → slice_get c.instrs old.place ≡ Some i →
+pub advance_is : {E : Type 0} (v : Env E) (serves : Order → E → Type 0) (c : Code) (i : Instr) (old new : State E) (limit : ℕ) (d : Outcome)
+    → Stands serves c old → slice_get c.instrs old.place ≡ Some i →
     Took v old i limit d new → Keeps serves old new → Stepped v serves c old limit d new
 advance_is v serves c i old new limit Went h e t k = (step_is v c i old e ∙ t.0, t.1, later_of v i old new _ t.0, stands_next v serves c i old new [] h e k t.0)
-advance_is v serves c i old new limit (DidWrite x n) h e t k = (step_is v c i old e ∙ t.0, t.1, later_of v i old new _ t.0, stands_next v serves c i old new _ h e k t.0)
-advance_is v serves c i old new limit (DidBegin m) h e t k = (step_is v c i old e ∙ t.0, t.1, later_of v i old new _ t.0, stands_next v serves c i old new _ h e k t.0)
-advance_is v serves c i old new limit (DidEnd m) h e t k = (step_is v c i old e ∙ t.0, t.1, later_of v i old new _ t.0, stands_next v serves c i old new _ h e k t.0)
+advance_is v serves c i old new limit (DidWrite x n) h e t k =
+    (step_is v c i old e ∙ t.0, t.1, later_of v i old new _ t.0, stands_next v serves c i old new _ h e k t.0)
+advance_is v serves c i old new limit (DidBegin m) h e t k =
+    (step_is v c i old e ∙ t.0, t.1, later_of v i old new _ t.0, stands_next v serves c i old new _ h e k t.0)
+advance_is v serves c i old new limit (DidEnd m) h e t k =
+    (step_is v c i old e ∙ t.0, t.1, later_of v i old new _ t.0, stands_next v serves c i old new _ h e k t.0)
 advance_is v serves c i old new limit DidHalt h e t k = (step_is v c i old e ∙ t.0, t.1, later_of v i old new (record (seen new) { halted = true }) t.0)
 advance_is v serves c i old new limit Late h e t k = (subst (λ m. limit < m.core.clock) (sym (step_is v c i old e)) t.0, t.1)

@@ -14,7 +14,8 @@ use Rattle.cycle_machine.specs.Took.{after}
 abbrev pub load_instr : ℕ → ℕ → Label → Label → Instr
 load_instr f n er ew = record { work = LoadAt f n; er = er; ew = ew }
 
-pub load_at_is : {E : Type 0} (v : Env E) (s : State E) (f n x : ℕ) (er ew : Label) (index : ℤ) (rest : List ℤ) → reverse s.operands.items ≡ index ∷ rest → x ≡ element f n index →
+pub load_at_is : {E : Type 0} (v : Env E) (s : State E) (f n x : ℕ) (er ew : Label) (index : ℤ) (rest : List ℤ)
+    → reverse s.operands.items ≡ index ∷ rest → x ≡ element f n index →
     after v (load_instr f n er ew) s
     ≡ at (s.place + 1) (read s.memory.items x ∷ rest) (map opened_of (reverse s.opened.items))
     (touched v (marks_of (load_instr f n er ew)) x (fetched v (marks_of (load_instr f n er ew)) s.place (core_of s)))

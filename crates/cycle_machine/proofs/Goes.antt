@@ -35,7 +35,8 @@ pub record Next {E : Type 0} (v : Env E) (shown : List Bool) (limit : ℕ) (old 
   pub rest : rest_of v limit old ≡ after_events (hidden ++ events_of turn) (rest_of v limit new)
   pub later : old.state.clock < new.state.clock
   pub within : new.state.clock ≤ limit
-  pub reaches : (from : Machine E) (events : List Event) → Reached v old.code.instrs limit from events old.state → Reached v old.code.instrs limit from (events ++ (hidden ++ events_of turn)) new.state
+  pub reaches : (from : Machine E) (events : List Event) → Reached v old.code.instrs limit from events old.state
+      → Reached v old.code.instrs limit from (events ++ (hidden ++ events_of turn)) new.state
 
 -- a turn that tells the end: there are no more events but those that are not shown
 pub record Last {E : Type 0} (v : Env E) (shown : List Bool) (limit : ℕ) (old new : Loaded E) (turn : Turn) (end : RunEnd) : Type 0 where
@@ -101,10 +102,12 @@ module _ {E : Type 0} (v : Env E) (shown : List Bool) (limit : ℕ) where
             ∙ ap (run_to v code limit) q.ends
       ]
 
-  same_rest : (code code' : Code) (s : State E) (o : Option Turn) → code' ≡ code → o ≡ None → rest_from v limit code'.instrs s o ≡ told_by (run_to v code.instrs limit (seen s))
+  same_rest : (code code' : Code) (s : State E) (o : Option Turn) → code' ≡ code → o ≡ None
+      → rest_from v limit code'.instrs s o ≡ told_by (run_to v code.instrs limit (seen s))
   same_rest code code' s o e f = ap (λ c. rest_from v limit c.instrs s o) e ∙ ap (rest_from v limit code.instrs s) f
 
-  pub next_turn : (old new : Loaded E) (turn : Turn) → IfSome old.stopped IsStop → CallWent v shown limit old turn new → end_of_turn turn ≡ None → Next v shown limit old new turn
+  pub next_turn : (old new : Loaded E) (turn : Turn) → IfSome old.stopped IsStop → CallWent v shown limit old turn new → end_of_turn turn ≡ None
+      → Next v shown limit old new turn
   next_turn old new turn is_stop went none = by_turn turn none (open_turn turn old.stopped refl is_stop went none)
     where
       open_turn : (t : Turn) (s : Option Turn) → old.stopped ≡ s → IfSome s IsStop → by_stopped v shown limit old t new s → end_of_turn t ≡ None →
@@ -135,17 +138,20 @@ module _ {E : Type 0} (v : Env E) (shown : List Bool) (limit : ℕ) where
                 ∙ ap (after_events (c.quiet.hidden ++ events_of t)) (sym (same_rest old.code new.code new.state new.stopped code is));
             later = omega (arith, later, quiet);
             within = within;
-            reaches = λ from events r. subst (λ z. Reached v old.code.instrs limit from (events ++ (c.quiet.hidden ++ z)) new.state) (sym told) (go_on v old.code.instrs shown limit from events old.state new.state e r c);
+            reaches = λ from events r. subst (λ z. Reached v old.code.instrs limit from (events ++ (c.quiet.hidden ++ z)) new.state) (sym told)
+                (go_on v old.code.instrs shown limit from events old.state new.state e r c);
           }
 
-      by_turn : (t : Turn) → end_of_turn t ≡ None → (old.stopped ≡ None) × Turned v old.code shown old.state limit t new.state × (new.stopped ≡ stops t) × (new.code ≡ old.code) → Next v shown limit old new t
+      by_turn : (t : Turn) → end_of_turn t ≡ None → (old.stopped ≡ None) × Turned v old.code shown old.state limit t new.state × (new.stopped ≡ stops t)
+          × (new.code ≡ old.code) → Next v shown limit old new t
       by_turn (AnEvent x k c) n w = one (AnEvent x k c) (Wrote x k c) refl w.0 w.2 w.3 w.1.0
       by_turn (HasBegun k c) n w = one (HasBegun k c) (Began k c) refl w.0 w.2 w.3 w.1.0
       by_turn (HasEnded k c) n w = one (HasEnded k c) (Ended k c) refl w.0 w.2 w.3 w.1.0
       by_turn (DidHalt c) n w = absurd cc
       by_turn (DidLimit c) n w = absurd cc
 
-  pub last_turn : (old new : Loaded E) (turn : Turn) (end : RunEnd) → IfSome old.stopped IsStop → CallWent v shown limit old turn new → end_of_turn turn ≡ Some end → Last v shown limit old new turn end
+  pub last_turn : (old new : Loaded E) (turn : Turn) (end : RunEnd) → IfSome old.stopped IsStop → CallWent v shown limit old turn new
+      → end_of_turn turn ≡ Some end → Last v shown limit old new turn end
   last_turn old new turn end is_stop went e = by_state old.stopped refl is_stop went
     where
       told_stop : (t : Turn) → end_of_turn t ≡ Some end → stopped_at t ≡ record { events = []; end = end }
@@ -158,16 +164,21 @@ module _ {E : Type 0} (v : Env E) (shown : List Bool) (limit : ℕ) where
       with_end : (a : RunEnd) → a ≡ end → (es : List Event) (r : Told) → r ≡ record { events = es; end = a } → r ≡ record { events = es; end = end }
       with_end a q es r s = s ∙ ap (λ z. let k : Told = record { events = es; end = z } in k) q
 
-      running : (t : Turn) → end_of_turn t ≡ Some end → old.stopped ≡ None → Turned v old.code shown old.state limit t new.state → new.stopped ≡ stops t → new.code ≡ old.code → Last v shown limit old new t end
+      running : (t : Turn) → end_of_turn t ≡ Some end → old.stopped ≡ None → Turned v old.code shown old.state limit t new.state → new.stopped ≡ stops t
+          → new.code ≡ old.code → Last v shown limit old new t end
       running (AnEvent x k c) q was w is code = absurd cc
       running (HasBegun k c) q was w is code = absurd cc
       running (HasEnded k c) q was w is code = absurd cc
       running (DidHalt c) q was w is code =
           let same : Halted new.state.clock ≡ end = ap (λ z. Halted z) (sym w.1) ∙ cc in
-          record { code = code; is = is; hidden = w.0.quiet.hidden; unseen = w.0.quiet.unseen; rest = with_end (Halted new.state.clock) same _ _ (same_rest old.code old.code old.state old.stopped refl was ∙ halts old.code.instrs old.state new.state w.0) }
+          record { code = code; is = is; hidden = w.0.quiet.hidden; unseen = w.0.quiet.unseen; rest =
+              with_end (Halted new.state.clock) same _ _ (same_rest old.code old.code old.state old.stopped refl was
+              ∙ halts old.code.instrs old.state new.state w.0) }
       running (DidLimit c) q was w is code =
           let same : Limit w.0.clock ≡ end = ap (λ z. Limit z) (sym w.3) ∙ cc in
-          record { code = code; is = is; hidden = w.1.hidden; unseen = w.1.unseen; rest = with_end (Limit w.0.clock) same _ _ (same_rest old.code old.code old.state old.stopped refl was ∙ ends_late old.code.instrs old.state w.0 w.1 w.2) }
+          record { code = code; is = is; hidden = w.1.hidden; unseen = w.1.unseen; rest =
+              with_end (Limit w.0.clock) same _ _ (same_rest old.code old.code old.state old.stopped refl was ∙ ends_late old.code.instrs old.state w.0 w.1 w.2)
+              }
 
       by_state : (s : Option Turn) → old.stopped ≡ s → IfSome s IsStop → by_stopped v shown limit old turn new s → Last v shown limit old new turn end
       by_state None q i w = running turn e q w.0 w.1 w.2
@@ -180,7 +191,8 @@ module _ {E : Type 0} (v : Env E) (shown : List Bool) (limit : ℕ) where
             rest = ap (rest_from v limit old.code.instrs old.state) q ∙ (ap stopped_at (sym w.0) ∙ told_stop turn e);
           }
 
-  pub turn_below : (old new : Loaded E) (turn : Turn) → IsShaped old.code → IfSome old.stopped IsStop → CallWent v shown limit old turn new → IsTurnBelow old.code.variables turn
+  pub turn_below : (old new : Loaded E) (turn : Turn) → IsShaped old.code → IfSome old.stopped IsStop → CallWent v shown limit old turn new
+      → IsTurnBelow old.code.variables turn
   turn_below old new turn shape is_stop went = by_state turn old.stopped is_stop went
     where
       by_state : (t : Turn) (s : Option Turn) → IfSome s IsStop → by_stopped v shown limit old t new s → IsTurnBelow old.code.variables t

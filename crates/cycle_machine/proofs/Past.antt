@@ -21,15 +21,18 @@ act_past : {E : Type 0} (v : Env E) (m : Marks) (l : List Event) (w : Work) (a :
     act v m w a ops os (core_past l s) ≡ past l (act v m w a ops os s)
 act_past v m l (Push n) a ops os s = refl
 act_past v m l (Load x) a ops os s = refl
-act_past v m l (Store x) a ops os s = ap (λ z. record (act v m (Store x) a ops os s) { core = record (act v m (Store x) a ops os s).core { log = z } }) (append_assoc l s.log _)
+act_past v m l (Store x) a ops os s =
+    ap (λ z. record (act v m (Store x) a ops os s) { core = record (act v m (Store x) a ops os s).core { log = z } }) (append_assoc l s.log _)
 act_past v m l (LoadAt f n) a ops os s = refl
-act_past v m l (StoreAt f n) a ops os s = ap (λ z. record (act v m (StoreAt f n) a ops os s) { core = record (act v m (StoreAt f n) a ops os s).core { log = z } }) (append_assoc l s.log _)
+act_past v m l (StoreAt f n) a ops os s =
+    ap (λ z. record (act v m (StoreAt f n) a ops os s) { core = record (act v m (StoreAt f n) a ops os s).core { log = z } }) (append_assoc l s.log _)
 act_past v m l (Apply o) a ops os s = refl
 act_past v m l (Brz b) a ops os s = refl
 act_past v m l (Brnz b) a ops os s = refl
 act_past v m l (Jmp b) a ops os s = refl
 act_past v m l Sleep a ops os s = refl
-act_past v m l (Mitb k n) a ops os s = ap (λ z. record (act v m (Mitb k n) a ops os s) { core = record (act v m (Mitb k n) a ops os s).core { log = z } }) (append_assoc l s.log _)
+act_past v m l (Mitb k n) a ops os s =
+    ap (λ z. record (act v m (Mitb k n) a ops os s) { core = record (act v m (Mitb k n) a ops os s).core { log = z } }) (append_assoc l s.log _)
 act_past v m l Mite a ops [] s = refl
 act_past v m l Mite a ops (o ∷ os) s = ap (λ z. at (a + 1) ops os (record (closed o s) { log = z })) (append_assoc l s.log _)
 act_past v m l Nop a ops os s = refl

@@ -15,7 +15,8 @@ steps_last v code zero s = refl
 steps_last v code (suc n) s = steps_last v code n (step v code s)
 
 -- after quiet steps one step more, which makes this of the state with an empty log
-pub one_more : {E : Type 0} (v : Env E) (code : List Instr) (shown : List Bool) (limit : ℕ) (old mid : State E) (m : Machine E) → (q : Quiet v code shown limit old mid) → step v code (seen mid) ≡ m →
+pub one_more : {E : Type 0} (v : Env E) (code : List Instr) (shown : List Bool) (limit : ℕ) (old mid : State E) (m : Machine E)
+    → (q : Quiet v code shown limit old mid) → step v code (seen mid) ≡ m →
     steps v code (suc q.count) (seen old) ≡ past q.hidden m
 one_more v code shown limit old mid m q e =
     steps_last v code q.count (seen old)
@@ -27,7 +28,8 @@ pub quiet_first : {E : Type 0} (v : Env E) (code : List Instr) (shown : List Boo
 quiet_first v code shown limit s = record { count = 0; hidden = []; unseen = All-nil (IsHidden shown); ends = refl; within = inl refl; later = omega arith }
 
 -- one step more, whose events are not shown
-pub quiet_more : {E : Type 0} (v : Env E) (code : List Instr) (shown : List Bool) (limit : ℕ) (old mid new : State E) (es : List Event) → Quiet v code shown limit old mid →
+pub quiet_more : {E : Type 0} (v : Env E) (code : List Instr) (shown : List Bool) (limit : ℕ) (old mid new : State E) (es : List Event)
+    → Quiet v code shown limit old mid →
     step v code (seen mid) ≡ with_log es (seen new) → All (IsHidden shown) es → new.clock ≤ limit → mid.clock < new.clock → Quiet v code shown limit old new
 quiet_more v code shown limit old mid new es q e h l t =
     record {
@@ -39,6 +41,7 @@ quiet_more v code shown limit old mid new es q e h l t =
       later = omega (arith, q.later, t);
     }
 
-pub comes_next : {E : Type 0} (v : Env E) (code : List Instr) (shown : List Bool) (limit : ℕ) (old mid new : State E) (m : Machine E) → Quiet v code shown limit old mid → step v code (seen mid) ≡ m → new.clock ≤ limit →
+pub comes_next : {E : Type 0} (v : Env E) (code : List Instr) (shown : List Bool) (limit : ℕ) (old mid new : State E) (m : Machine E)
+    → Quiet v code shown limit old mid → step v code (seen mid) ≡ m → new.clock ≤ limit →
     mid.clock < new.clock → Comes v code shown limit old new m
 comes_next v code shown limit old mid new m q e l t = record { mid = mid; quiet = q; next = e; within = l; later = t }

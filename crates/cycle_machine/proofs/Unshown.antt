@@ -8,7 +8,8 @@ use Rattle.label_code.specs.Machine.{Event, Wrote, Began, Ended}
 use Rattle.label_code.specs.Visible.{visible}
 use Rattle.cycle_machine.specs.Turned.{is_shown_in, IsHidden}
 
-pub none_visible : (list : List Bool) (lat : Lattice) (g : ℕ → ℕ) (o : ℕ) → ((x : ℕ) → is_shown_in list x ≡ false → lat.flows (g x) o ≡ false) → (es : List Event) → All (IsHidden list) es → visible lat g o es ≡ []
+pub none_visible : (list : List Bool) (lat : Lattice) (g : ℕ → ℕ) (o : ℕ) → ((x : ℕ) → is_shown_in list x ≡ false → lat.flows (g x) o ≡ false)
+    → (es : List Event) → All (IsHidden list) es → visible lat g o es ≡ []
 none_visible list lat g o hides [] h = refl
 none_visible list lat g o hides (Wrote x n c ∷ es) h =
     cond-false (lat.flows (g x) o) (Wrote x n c ∷ visible lat g o es) (visible lat g o es) (hides x (All-head (IsHidden list) (Wrote x n c) es h))

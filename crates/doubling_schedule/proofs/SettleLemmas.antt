@@ -1,6 +1,7 @@
 -- The least count whose prediction is above the elapsed time: it exists, there is one only, and
 -- counting up finds it.
-use Rattle.std.proofs.Common.{◌≡◌, ◌<◌, ◌≤◌, ◌+◌, ◌*◌, ◌^◌, ℕ, zero, suc, max, sym, ap, subst, ◌∙◌, arith, cond, inl, inr, ℤ, List, slice_index, slice_set, replicate}
+use Rattle.std.proofs.Common.{◌≡◌, ◌<◌, ◌≤◌, ◌+◌, ◌*◌, ◌^◌, ℕ, zero, suc, max, sym, ap, subst, ◌∙◌, arith, cond, inl, inr, ℤ, List, slice_index, slice_set}
+use Rattle.std.proofs.Common.{replicate}
 use Rattle.std.proofs.lemmas.Bool.{le-leb, lt-leb, cases_lt}
 use Rattle.std.proofs.Math.Pow.{pow_mono}
 use Rattle.std.proofs.Math.Nat.{pow-suc}
@@ -26,7 +27,8 @@ pub above_count : (estimate : ℤ) (k : ℕ) → k < prediction estimate k
 above_count n k = let a = above_power n k in let b = below_power k in omega (arith, a, b)
 
 -- a count to which all predictions were reached, and that is itself enough
-pub Missed-settles : (estimate : ℤ) (elapsed old count : ℕ) → Missed estimate elapsed old count → elapsed < prediction estimate count → Settles estimate elapsed old count
+pub Missed-settles : (estimate : ℤ) (elapsed old count : ℕ) → Missed estimate elapsed old count → elapsed < prediction estimate count
+    → Settles estimate elapsed old count
 Missed-settles n e m c s a =
     record {
       from = s.from;
@@ -88,7 +90,8 @@ small_prediction a k p h l e =
     product_bound a p (2 ^ 63) (2 ^ 64) h q
 
 -- the same for a count in a table
-pub count_is : (ms ms' : List ℕ) (i l : ℕ) (n n' : ℤ) (elapsed count : ℕ) → ms ≡ ms' → i ≡ l → n ≡ n' → Missed n elapsed (slice_index ms i) count → elapsed < prediction n' count →
+pub count_is : (ms ms' : List ℕ) (i l : ℕ) (n n' : ℤ) (elapsed count : ℕ) → ms ≡ ms' → i ≡ l → n ≡ n' → Missed n elapsed (slice_index ms i) count
+    → elapsed < prediction n' count →
     count ≡ misses_after n' elapsed (slice_index ms' l)
 count_is ms ms' i l n n' e c p q r s a =
     let missed : Missed n' e (slice_index ms i) c = subst (λ z. Missed z e (slice_index ms i) c) r s in

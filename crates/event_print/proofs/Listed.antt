@@ -37,12 +37,14 @@ all_events p list t (Began k c ∷ es) h = absurd (All-head (IsHidden list) (Beg
 all_events p list t (Ended k c ∷ es) h = absurd (All-head (IsHidden list) (Ended k c) es h)
 
 -- nothing is shown of events that are hidden by the list
-pub none_shown : (p : LabelledProgram) (o : Option Label) (list : List Bool) → TellsShown p o list → (es : List Event) → All (IsHidden list) es → shown p o es ≡ []
+pub none_shown : (p : LabelledProgram) (o : Option Label) (list : List Bool) → TellsShown p o list → (es : List Event)
+    → All (IsHidden list) es → shown p o es ≡ []
 none_shown p None list t es h = all_events p list t es h
 none_shown p (Some l) list t es h = none_visible list (order_of p) (labels_of p) l.number (not_shown p (Some l) list t) es h
 
 -- a turn that is shown by the list is shown
-pub turn_is_shown : (p : LabelledProgram) (o : Option Label) (list : List Bool) (turn : Turn) → TellsShown p o list → IsTurnBelow (variables p.program.declarations) turn → IsShownTurn list turn → IsShown p o turn
+pub turn_is_shown : (p : LabelledProgram) (o : Option Label) (list : List Bool) (turn : Turn) → TellsShown p o list
+    → IsTurnBelow (variables p.program.declarations) turn → IsShownTurn list turn → IsShown p o turn
 turn_is_shown p o list (AnEvent x n c) t l e = sym (t.each x l) ∙ e
 turn_is_shown p o list (HasBegun k c) t l e = tt
 turn_is_shown p o list (HasEnded k c) t l e = tt

@@ -1,5 +1,6 @@
 -- The first of the cheapest items of a list.
-use Rattle.std.proofs.Common.{◌≡◌, ℕ, zero, suc, ◌<◌, ◌≤◌, ◌+◌, refl, sym, ap, ◌∙◌, subst, List, [], ◌∷◌, ◌++◌, map, length, arith, append_assoc, append-nil, ⊎_elim, replicate, slice_set, length-set, get_or-set_same, get_or-set_other}
+use Rattle.std.proofs.Common.{◌≡◌, ℕ, zero, suc, ◌<◌, ◌≤◌, ◌+◌, refl, sym, ap, ◌∙◌, subst, List, [], ◌∷◌, ◌++◌, map, length, arith, append_assoc, append-nil}
+use Rattle.std.proofs.Common.{⊎_elim, replicate, slice_set, length-set, get_or-set_same, get_or-set_other}
 use Rattle.std.specs.Prelude.{Option, None, Some, Contains, slice_get, slice_index_or}
 use Rattle.std.proofs.lemmas.Option.{none-some, same_Some}
 use Rattle.std.proofs.lemmas.Bool.{cases_eq}
@@ -50,7 +51,8 @@ module _ (A : Type 0) (V : A → Cost → Type 0) where
     least = λ y d i v. ⊎_elim (λ (q : Contains xs y). f.least y d q v) (λ (q : Contains ys y). h y d q v) (Contains-append_cases xs ys y i);
   }
 
-  pub first_right : (xs ys : List A) (x : A) (c : Cost) → ((y : A) (d : Cost) → Contains xs y → V y d → IsLess c d) → IsFirst V ys x c → IsFirst V (xs ++ ys) x c
+  pub first_right : (xs ys : List A) (x : A) (c : Cost) → ((y : A) (d : Cost) → Contains xs y → V y d → IsLess c d)
+      → IsFirst V ys x c → IsFirst V (xs ++ ys) x c
   first_right xs ys x c h f = record {
     before = xs ++ f.before;
     after = f.after;
@@ -61,8 +63,10 @@ module _ (A : Type 0) (V : A → Cost → Type 0) where
   }
 
 -- the steps by one more condition
-module _ (V : Part → Cost → Type 0) (W : Step → Cost → Type 0) (g : Part → Step) (there : (p : Part) (d : Cost) → V p d → W (g p) d) (back : (p : Part) (d : Cost) → W (g p) d → V p d) where
-  up : (ps : List Part) (P : Cost → Type 0) → ((p : Part) (d : Cost) → Contains ps p → V p d → P d) → (y : Step) (d : Cost) → Contains (map g ps) y → W y d → P d
+module _ (V : Part → Cost → Type 0) (W : Step → Cost → Type 0) (g : Part → Step) (there : (p : Part) (d : Cost) → V p d
+    → W (g p) d) (back : (p : Part) (d : Cost) → W (g p) d → V p d) where
+  up : (ps : List Part) (P : Cost → Type 0) → ((p : Part) (d : Cost) → Contains ps p → V p d → P d) → (y : Step) (d : Cost)
+      → Contains (map g ps) y → W y d → P d
   up ps P h y d c w = let r = contains_map g ps y c in h r.0 d r.1 (back r.0 d (subst (λ z. W z d) (sym r.2) w))
 
   none_map : (ps : List Part) → HaveNone V ps → HaveNone W (map g ps)
@@ -85,10 +89,12 @@ module _ (V : Part → Cost → Type 0) (W : Step → Cost → Type 0) (g : Part
   pub then_first : (ss : List Step) (ps : List Part) (p : Part) (c : Cost) → HaveNone W ss → IsFirst V ps p c → IsFirst W (ss ++ map g ps) (g p) c
   then_first ss ps p c h f = first_right Step W ss (map g ps) (g p) c (λ y d i w. absurd (h y d i w)) (first_map ps p c f)
 
-  pub then_take : (ss : List Step) (ps : List Part) (p : Part) (c : Cost) (x : Step) (e : Cost) → IsFirst W ss x e → IsLess c e → IsFirst V ps p c → IsFirst W (ss ++ map g ps) (g p) c
+  pub then_take : (ss : List Step) (ps : List Part) (p : Part) (c : Cost) (x : Step) (e : Cost) → IsFirst W ss x e → IsLess c e → IsFirst V ps p c
+      → IsFirst W (ss ++ map g ps) (g p) c
   then_take ss ps p c x e k l f = first_right Step W ss (map g ps) (g p) c (λ y d i w. less_then c e d l (k.least y d i w)) (first_map ps p c f)
 
-  pub then_keep : (ss : List Step) (ps : List Part) (p : Part) (c : Cost) (x : Step) (e : Cost) → IsFirst W ss x e → IsLe e c → IsFirst V ps p c → IsFirst W (ss ++ map g ps) x e
+  pub then_keep : (ss : List Step) (ps : List Part) (p : Part) (c : Cost) (x : Step) (e : Cost) → IsFirst W ss x e → IsLe e c → IsFirst V ps p c
+      → IsFirst W (ss ++ map g ps) x e
   then_keep ss ps p c x e k l f = first_left Step W ss (map g ps) x e k (λ y d i w. le_trans e c d l ((first_map ps p c f).least y d i w))
 
 -- the parts of two lists
@@ -96,10 +102,12 @@ module _ (s : Syntax) (t : Target) (ds : List (Option Cost)) where
   abbrev V : Part → Cost → Type 0
   V = PartCosts s t ds
 
-  both_left : (ps qs : List Part) (b : Best) → IsBest s t ds ps (Some b) → ((y : Part) (d : Cost) → Contains qs y → PartCosts s t ds y d → IsLe b.cost d) → IsBest s t ds (ps ++ qs) (Some b)
+  both_left : (ps qs : List Part) (b : Best) → IsBest s t ds ps (Some b) → ((y : Part) (d : Cost) → Contains qs y → PartCosts s t ds y d → IsLe b.cost d)
+      → IsBest s t ds (ps ++ qs) (Some b)
   both_left ps qs b h k = first_left Part V ps qs b.part b.cost h k
 
-  both_right : (ps qs : List Part) (b : Best) → ((y : Part) (d : Cost) → Contains ps y → PartCosts s t ds y d → IsLess b.cost d) → IsBest s t ds qs (Some b) → IsBest s t ds (ps ++ qs) (Some b)
+  both_right : (ps qs : List Part) (b : Best) → ((y : Part) (d : Cost) → Contains ps y → PartCosts s t ds y d → IsLess b.cost d) → IsBest s t ds qs (Some b)
+      → IsBest s t ds (ps ++ qs) (Some b)
   both_right ps qs b k h = first_right Part V ps qs b.part b.cost k h
 
   -- a left side that is empty
@@ -110,10 +118,12 @@ module _ (s : Syntax) (t : Target) (ds : List (Option Cost)) where
   pub then_left : (ps qs : List Part) (b : Best) → IsBest s t ds ps (Some b) → HaveNone (PartCosts s t ds) qs → IsBest s t ds (ps ++ qs) (Some b)
   then_left ps qs b h k = both_left ps qs b h (λ y d c v. absurd (k y d c v))
 
-  pub the_less : (ps qs : List Part) (a b : Best) → IsBest s t ds ps (Some a) → IsBest s t ds qs (Some b) → IsLess b.cost a.cost → IsBest s t ds (ps ++ qs) (Some b)
+  pub the_less : (ps qs : List Part) (a b : Best) → IsBest s t ds ps (Some a) → IsBest s t ds qs (Some b) → IsLess b.cost a.cost
+      → IsBest s t ds (ps ++ qs) (Some b)
   the_less ps qs a b h k l = both_right ps qs b (λ y d c v. less_then b.cost a.cost d l (h.least y d c v)) k
 
-  pub the_same : (ps qs : List Part) (a b : Best) → IsBest s t ds ps (Some a) → IsBest s t ds qs (Some b) → IsLe a.cost b.cost → IsBest s t ds (ps ++ qs) (Some a)
+  pub the_same : (ps qs : List Part) (a b : Best) → IsBest s t ds ps (Some a) → IsBest s t ds qs (Some b) → IsLe a.cost b.cost
+      → IsBest s t ds (ps ++ qs) (Some a)
   the_same ps qs a b h k l = both_left ps qs a h (λ y d c v. le_trans a.cost b.cost d l (k.least y d c v))
 
   -- one part
@@ -146,7 +156,8 @@ abbrev pub step_at : Rule → Pos → Spot → Part → Step
 step_at r q side p = record { rule = r; pos = q; part = p; side = side }
 
 -- steps by a condition that has no cost
-pub then_skips : (W : Step → Cost → Type 0) (r : Rule) (q : Pos) (side : Spot) (ss : List Step) (ps : List Part) (o : Option Found) → ((p : Part) (d : Cost) → W (step_at r q side p) d → ⊥) → IsFound W ss o → IsFound W (ss ++ to r q side ps) o
+pub then_skips : (W : Step → Cost → Type 0) (r : Rule) (q : Pos) (side : Spot) (ss : List Step) (ps : List Part) (o : Option Found)
+    → ((p : Part) (d : Cost) → W (step_at r q side p) d → ⊥) → IsFound W ss o → IsFound W (ss ++ to r q side ps) o
 then_skips W r q side ss ps o h k = go o k
   where
     none : HaveNone W (map (step_at r q side) ps)
@@ -157,8 +168,10 @@ then_skips W r q side ss ps o h k = go o k
     go (Some f) k = first_left Step W ss (map (step_at r q side) ps) f.step f.cost k (λ y d i w. absurd (none y d i w))
 
 -- the steps by one more condition
-module _ (s : Syntax) (t : Target) (ds : List (Option Cost)) (ss : List Step) (ps : List Part) (r : Rule) (q : Pos) (side : Spot) (v : Sides) (S : AreSides s t ds ss v) (w : Sides) (goal : IsFound (GoalCosts s t ds) (ss ++ to r q side ps) w.goal) where
-  pub add_side : (y : ℕ) → side ≡ Variable y → y < length v.variables.items → (o : Option Found) → IsFound (SideCosts s t ds y) (ss ++ to r q side ps) o → w.variables.items ≡ slice_set v.variables.items y o → w.goal ≡ w.goal →
+module _ (s : Syntax) (t : Target) (ds : List (Option Cost)) (ss : List Step) (ps : List Part) (r : Rule) (q : Pos) (side : Spot) (v : Sides)
+    (S : AreSides s t ds ss v) (w : Sides) (goal : IsFound (GoalCosts s t ds) (ss ++ to r q side ps) w.goal) where
+  pub add_side : (y : ℕ) → side ≡ Variable y → y < length v.variables.items → (o : Option Found) → IsFound (SideCosts s t ds y) (ss ++ to r q side ps) o
+      → w.variables.items ≡ slice_set v.variables.items y o → w.goal ≡ w.goal →
       AreSides s t ds (ss ++ to r q side ps) w
   add_side y at l o found is _ = record {
     fit = ap length is ∙ length-set v.variables.items y o ∙ S.fit;
@@ -174,12 +187,14 @@ module _ (s : Syntax) (t : Target) (ds : List (Option Cost)) (ss : List Step) (p
         (cases_eq z y));
   }
 
-  pub skip_side : ((y : ℕ) → y < length v.variables.items → side ≡ Variable y → ⊥) → w.variables.items ≡ v.variables.items → w.goal ≡ w.goal → AreSides s t ds (ss ++ to r q side ps) w
+  pub skip_side : ((y : ℕ) → y < length v.variables.items → side ≡ Variable y → ⊥) → w.variables.items ≡ v.variables.items → w.goal ≡ w.goal
+      → AreSides s t ds (ss ++ to r q side ps) w
   skip_side none is _ = record {
     fit = ap length is ∙ S.fit;
     goal = goal;
     each = λ z i. subst (λ u. IsFound (SideCosts s t ds z) (ss ++ to r q side ps) (slice_index_or u z None)) (sym is)
-        (then_skips (SideCosts s t ds z) r q side ss ps (slice_index_or v.variables.items z None) (λ p d x. none z (let f = S.fit in omega (arith, i, f)) x.0) (S.each z i));
+        (then_skips (SideCosts s t ds z) r q side ss ps (slice_index_or v.variables.items z None)
+            (λ p d x. none z (let f = S.fit in omega (arith, i, f)) x.0) (S.each z i));
   }
 
 abbrev no_found : Option Found
@@ -191,11 +206,13 @@ none_at (suc n) zero = refl
 none_at (suc n) (suc y) = none_at n y
 
 -- those by no conditions
-pub sides_begin : (s : Syntax) (t : Target) (ds : List (Option Cost)) (n : ℕ) (v : Sides) → length ds ≡ n → v.goal ≡ None → v.variables.items ≡ replicate n None → AreSides s t ds [] v
+pub sides_begin : (s : Syntax) (t : Target) (ds : List (Option Cost)) (n : ℕ) (v : Sides) → length ds ≡ n → v.goal ≡ None
+    → v.variables.items ≡ replicate n None → AreSides s t ds [] v
 sides_begin s t ds n v e goal is = record {
   fit = ap length is ∙ length-replicate n None ∙ sym e;
   goal = subst (λ z. IsFound (GoalCosts s t ds) [] z) (sym goal) (λ y d c w. let q = c.1 in omega (arith, q));
-  each = λ y i. subst (λ z. IsFound (SideCosts s t ds y) [] (slice_index_or z y None)) (sym is) (subst (λ z. IsFound (SideCosts s t ds y) [] z) (sym (none_at n y)) (λ u d c w. let q = c.1 in omega (arith, q)));
+  each = λ y i. subst (λ z. IsFound (SideCosts s t ds y) [] (slice_index_or z y None)) (sym is)
+      (subst (λ z. IsFound (SideCosts s t ds y) [] z) (sym (none_at n y)) (λ u d c w. let q = c.1 in omega (arith, q)));
 }
 
 -- where a write label is written, the condition on it was added

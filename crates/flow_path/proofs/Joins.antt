@@ -74,7 +74,8 @@ unfolding tail_of
 same_tail x y xs ys e = ap (λ z. tail_of z) e
 
 -- one label more
-pub join_more : (lat : Lattice) (ws : List Origin) (i : ℕ) (w : Origin) (a b : ℕ) → i < length ws → a ≡ joined lat (drop (i + 1) ws) → b ≡ lat.join (get_or ws i w).label.number a → b ≡ joined lat (drop i ws)
+pub join_more : (lat : Lattice) (ws : List Origin) (i : ℕ) (w : Origin) (a b : ℕ) → i < length ws → a ≡ joined lat (drop (i + 1) ws)
+    → b ≡ lat.join (get_or ws i w).label.number a → b ≡ joined lat (drop i ws)
 join_more lat ws i w a b h e f = f ∙ ap (λ z. lat.join (get_or ws i w).label.number z) e ∙ sym (ap (λ z. joined lat z) (drop_more ws i w h))
 
 module _ (lat : Lattice) (ll : IsLattice lat) where
@@ -98,7 +99,8 @@ module _ (lat : Lattice) (ll : IsLattice lat) where
   pub joined_last : (xs : List Origin) (w : Origin) → Flows lat w.label.number (joined lat (xs ++ (w ∷ [])))
   joined_last xs w = let c = joined lat (xs ++ (w ∷ [])) in (every_parts (Low c) xs (w ∷ []) (joined_parts (xs ++ (w ∷ [])) c (ll.same c))).1.0
 
-  pub joined_more : (xs : List Origin) (w : Origin) (c : ℕ) → Flows lat (joined lat xs) c → Flows lat w.label.number c → Flows lat (joined lat (xs ++ (w ∷ []))) c
+  pub joined_more : (xs : List Origin) (w : Origin) (c : ℕ) → Flows lat (joined lat xs) c → Flows lat w.label.number c
+      → Flows lat (joined lat (xs ++ (w ∷ []))) c
   joined_more xs w c h k = joined_least (xs ++ (w ∷ [])) c (every_join (Low c) xs (w ∷ []) (joined_parts xs c h) (k, tt))
 
   pub sift_begins : (all : List Origin) → IsSifted lat all all []
@@ -114,7 +116,8 @@ module _ (lat : Lattice) (ll : IsLattice lat) where
   pub sift_ends : (all kept : List Origin) → IsSifted lat all [] kept → AreNeeded lat kept × (joined lat kept ≡ joined lat all) × All (Contains all) kept
   sift_ends all kept S =
       let k = joined lat kept in (
-        λ before after w e f. let o = joined lat (before ++ after) in S.needed before after w e (ll.chain w.label.number o (lat.join lat.bottom o) f (ll.right lat.bottom o)),
+        λ before after w e f. let o = joined lat (before ++ after) in
+            S.needed before after w e (ll.chain w.label.number o (lat.join lat.bottom o) f (ll.right lat.bottom o)),
         ll.anti k (lat.join lat.bottom k) (ll.right lat.bottom k) (ll.least lat.bottom k k (ll.lowest k) (ll.same k)) ∙ S.join,
         every_all (Contains all) kept S.kepts,
       )
@@ -154,7 +157,8 @@ module _ (lat : Lattice) (ll : IsLattice lat) where
         record {
           needed = λ before after v e g.
               let o = joined lat (before ++ after) in
-              S.needed before after v e (ll.chain v.label.number (lat.join m o) (lat.join l o) g (ll.least m o (lat.join l o) (ll.chain m l (lat.join l o) less_low (ll.left l o)) (ll.right l o)));
+              S.needed before after v e (ll.chain v.label.number (lat.join m o) (lat.join l o) g
+                  (ll.least m o (lat.join l o) (ll.chain m l (lat.join l o) less_low (ll.left l o)) (ll.right l o)));
           join =
               ll.anti (lat.join m k) (lat.join l k)
               (ll.least m k (lat.join l k) (ll.chain m l (lat.join l k) less_low (ll.left l k)) (ll.right l k))
@@ -171,20 +175,24 @@ module _ (lat : Lattice) (ll : IsLattice lat) where
           needed = go;
           join =
               ll.anti (lat.join m (lat.join a k)) (lat.join l k)
-              (ll.least m (lat.join a k) (lat.join l k) (ll.chain m l (lat.join l k) less_low (ll.left l k)) (ll.least a k (lat.join l k) (ll.chain a l (lat.join l k) last_low (ll.left l k)) (ll.right l k)))
+              (ll.least m (lat.join a k) (lat.join l k) (ll.chain m l (lat.join l k) less_low (ll.left l k))
+                  (ll.least a k (lat.join l k) (ll.chain a l (lat.join l k) last_low (ll.left l k)) (ll.right l k)))
               (ll.least l k (lat.join m (lat.join a k))
-              (left_low (lat.join m (lat.join a k)) (ll.left m (lat.join a k)) (ll.chain a (lat.join a k) (lat.join m (lat.join a k)) (ll.left a k) (ll.right m (lat.join a k))))
+              (left_low (lat.join m (lat.join a k)) (ll.left m (lat.join a k))
+                  (ll.chain a (lat.join a k) (lat.join m (lat.join a k)) (ll.left a k) (ll.right m (lat.join a k))))
               (ll.chain k (lat.join a k) (lat.join m (lat.join a k)) (ll.right a k) (ll.right m (lat.join a k))))
               ∙ S.join;
           lefts = lefts;
           kepts = (last, S.kepts);
         }
       where
-        go : (before after : List Origin) (v : Origin) → w ∷ kept ≡ before ++ (v ∷ after) → Flows lat v.label.number (lat.join (joined lat less) (joined lat (before ++ after))) → ⊥
+        go : (before after : List Origin) (v : Origin) → w ∷ kept ≡ before ++ (v ∷ after)
+            → Flows lat v.label.number (lat.join (joined lat less) (joined lat (before ++ after))) → ⊥
         go [] after v e g =
             let h : w ≡ v = same_head w v kept after e in
             let t : kept ≡ after = same_tail w v kept after e in
-            high (subst (λ (z : Origin). Flows lat z.label.number (lat.join m k)) (sym h) (subst (λ z. Flows lat v.label.number (lat.join m (joined lat z))) (sym t) g))
+            high (subst (λ (z : Origin). Flows lat z.label.number (lat.join m k)) (sym h)
+                (subst (λ z. Flows lat v.label.number (lat.join m (joined lat z))) (sym t) g))
         go (b ∷ before) after v e g =
             let h : w ≡ b = same_head w b kept (before ++ (v ∷ after)) e in
             let t : kept ≡ before ++ (v ∷ after) = same_tail w b kept (before ++ (v ∷ after)) e in
@@ -193,7 +201,8 @@ module _ (lat : Lattice) (ll : IsLattice lat) where
             let up : Flows lat n l = subst (λ (z : Origin). Flows lat z.label.number l) h last_low in
             S.needed before after v t
             (ll.chain v.label.number (lat.join m (lat.join n o)) (lat.join l o) g
-            (ll.least m (lat.join n o) (lat.join l o) (ll.chain m l (lat.join l o) less_low (ll.left l o)) (ll.least n o (lat.join l o) (ll.chain n l (lat.join l o) up (ll.left l o)) (ll.right l o))))
+            (ll.least m (lat.join n o) (lat.join l o) (ll.chain m l (lat.join l o) less_low (ll.left l o))
+                (ll.least n o (lat.join l o) (ll.chain n l (lat.join l o) up (ll.left l o)) (ll.right l o))))
 
 pub insert_first : {A : Type 0} (xs : List A) (x : A) → insert xs 0 x ≡ x ∷ xs
 insert_first [] x = refl

@@ -41,7 +41,8 @@ module _ (s : Syntax) (t : Target) (ds : List (Option Cost)) where
   pub comes_then : (b u r : Option Best) (p q o : Plan) → ComesTo s t ds b u p q → ComesTo s t ds u r q o → ComesTo s t ds b r p o
   comes_then b u r p q o h k T x = let a = h T x in let c = k a.0 a.1 in (c.0, c.1, a.2 ∙ c.2)
 
-  pub comes_by : (b r : Option Best) (p q : Plan) (f : List Part → List Part) → Turns b r f → ((T : List Part) → ends p T ≡ ends q (f T)) → ComesTo s t ds b r p q
+  pub comes_by : (b r : Option Best) (p q : Plan) (f : List Part → List Part) → Turns b r f
+      → ((T : List Part) → ends p T ≡ ends q (f T)) → ComesTo s t ds b r p q
   comes_by b r p q f m e T x = (f T, m T x, e T)
 
   pub comes_if : (b i one two r : Option Best) (p A B rest : Plan) (w : Written) (e : Expression) → p ≡ If w e A B rest → Turns b i (λ T. after T w e) →
@@ -53,14 +54,16 @@ module _ (s : Syntax) (t : Target) (ds : List (Option Cost)) where
       let d = hb S hs in
       (c.0 ++ d.0, j c.0 d.0 c.1 d.1, ap (λ z. ends z T) is ∙ ap (λ z. ends rest (z ++ ends B S)) c.2 ∙ ap (λ z. ends rest (c.0 ++ z)) d.2)
 
-  pub comes_while : (b i r : Option Best) (p C rest : Plan) (w : Written) (e : Expression) → p ≡ While w e C rest → Turns b i (λ T. after T w e) → ComesTo s t ds i r C Done → ComesTo s t ds b r p rest
+  pub comes_while : (b i r : Option Best) (p C rest : Plan) (w : Written) (e : Expression) → p ≡ While w e C rest → Turns b i (λ T. after T w e)
+      → ComesTo s t ds i r C Done → ComesTo s t ds b r p rest
   comes_while b i r p C rest w e is m h T x = let c = h (after T w e) (m T x) in (c.0, c.1, ap (λ z. ends z T) is ∙ ap (λ z. ends rest z) c.2)
 
   -- passes
   pub passes_none : (v : Sides) (pc b : Option Best) (p : Plan) → Passes s t ds v v pc b b p p
   passes_none v pc b p P T ss hp ht hv = (T, [], ht, subst (λ z. AreSides s t ds z v) (sym (append-nil ss)) hv, refl, refl)
 
-  pub passes_then : (v w x : Sides) (pc b u r : Option Best) (p q o : Plan) → Passes s t ds v w pc b u p q → Passes s t ds w x pc u r q o → Passes s t ds v x pc b r p o
+  pub passes_then : (v w x : Sides) (pc b u r : Option Best) (p q o : Plan) → Passes s t ds v w pc b u p q → Passes s t ds w x pc u r q o
+      → Passes s t ds v x pc b r p o
   passes_then v w x pc b u r p q o h k P T ss hp ht hv =
       let a = h P T ss hp ht hv in
       let c = k P a.0 (ss ++ a.1) hp a.2 a.3 in (
@@ -75,13 +78,17 @@ module _ (s : Syntax) (t : Target) (ds : List (Option Cost)) where
   -- a command with a condition on its write label alone
   pub passes_plain : (v w : Sides) (pc b h r : Option Best) (p rest : Plan) (rule : Rule) (q : Pos) (o : Option (Label × Label)) (H R : List Part → List Part) →
       Turns pc h H → Turns b r R → Gains h v w (to_write_label rule q o) →
-      ((P T : List Part) → steps p P T ≡ to_write_label rule q o (H P) ++ steps rest P (R T)) → ((T : List Part) → ends p T ≡ ends rest (R T)) → Passes s t ds v w pc b r p rest
-  passes_plain v w pc b h r p rest rule q o H R mh mr g es ee P T ss hp ht hv = (R T, to_write_label rule q o (H P), mr T ht, g ss (H P) (mh P hp) hv, ee T, es P T)
+      ((P T : List Part) → steps p P T ≡ to_write_label rule q o (H P) ++ steps rest P (R T)) → ((T : List Part) → ends p T ≡ ends rest (R T))
+          → Passes s t ds v w pc b r p rest
+  passes_plain v w pc b h r p rest rule q o H R mh mr g es ee P T ss hp ht hv =
+      (R T, to_write_label rule q o (H P), mr T ht, g ss (H P) (mh P hp) hv, ee T, es P T)
 
   -- an assignment
-  pub passes_set : (v w x : Sides) (pc b l h r : Option Best) (p rest : Plan) (q : Pos) (side : Spot) (o : Option (Label × Label)) (F : List Part → List Part → List Part) (H R : List Part → List Part) →
+  pub passes_set : (v w x : Sides) (pc b l h r : Option Best) (p rest : Plan) (q : Pos) (side : Spot) (o : Option (Label × Label))
+      (F : List Part → List Part → List Part) (H R : List Part → List Part) →
       TurnsTwo pc b l F → Turns pc h H → Turns b r R → Gains l v w (to RAsgn q side) → Gains h w x (to_write_label RAsgn q o) →
-      ((P T : List Part) → steps p P T ≡ to RAsgn q side (F P T) ++ (to_write_label RAsgn q o (H P) ++ steps rest P (R T))) → ((T : List Part) → ends p T ≡ ends rest (R T)) → Passes s t ds v x pc b r p rest
+      ((P T : List Part) → steps p P T ≡ to RAsgn q side (F P T) ++ (to_write_label RAsgn q o (H P) ++ steps rest P (R T)))
+          → ((T : List Part) → ends p T ≡ ends rest (R T)) → Passes s t ds v x pc b r p rest
   passes_set v w x pc b l h r p rest q side o F H R ml mh mr g1 g2 es ee P T ss hp ht hv =
       let A = to RAsgn q side (F P T) in
       let B = to_write_label RAsgn q o (H P) in (
@@ -121,7 +128,8 @@ module _ (s : Syntax) (t : Target) (ds : List (Option Cost)) where
 
   pub passes_while : (v0 v1 v2 : Sides) (pc b h i r g again : Option Best) (p C rest : Plan) (w : Written) (e : Expression) → p ≡ While w e C rest →
       Turns pc h (λ P. P ++ index_reads w.pos e) → Gains h v0 v1 (to_write_label RWhile w.pos w.labels) →
-      Turns b i (λ T. after T w e) → ComesTo s t ds i r C Done → Turns pc g (λ P. P ++ reads UnderGuard w.pos e) → Passes s t ds v1 v2 g r again C Done → Passes s t ds v0 v2 pc b r p rest
+      Turns b i (λ T. after T w e) → ComesTo s t ds i r C Done → Turns pc g (λ P. P ++ reads UnderGuard w.pos e) → Passes s t ds v1 v2 g r again C Done
+          → Passes s t ds v0 v2 pc b r p rest
   passes_while v0 v1 v2 pc b h i r g again p C rest w e is mh gh ms en mi wc P T ss hp ht hv =
       let X = to_write_label RWhile w.pos w.labels (P ++ index_reads w.pos e) in
       let G = P ++ reads UnderGuard w.pos e in
@@ -138,7 +146,8 @@ module _ (s : Syntax) (t : Target) (ds : List (Option Cost)) where
             ∙ ap (λ z. X ++ (z ++ K)) (c.5 ∙ append-nil c.1) ∙ sym (append_assoc X c.1 K),
       )
 
-  pub passes_mitigate : (v0 v1 v2 v3 : Sides) (pc b h i last : Option Best) (k : ℕ) (l : Option Label) (p C rest : Plan) (w : Written) (e : Expression) → p ≡ Mitigate w k l e C rest →
+  pub passes_mitigate : (v0 v1 v2 v3 : Sides) (pc b h i last : Option Best) (k : ℕ) (l : Option Label) (p C rest : Plan) (w : Written) (e : Expression)
+      → p ≡ Mitigate w k l e C rest →
       Turns pc h (λ P. P ++ index_reads w.pos e) → Gains h v0 v1 (to_write_label RMtg w.pos w.labels) →
       Turns b i (λ T. after T w e) → Passes s t ds v1 v2 pc i last C Done → Gains last v2 v3 (to RMtg w.pos (OfLevel k l)) → Passes s t ds v0 v3 pc b i p rest
   passes_mitigate v0 v1 v2 v3 pc b h i last k l p C rest w e is mh gh ms wc gl P T ss hp ht hv =
@@ -159,7 +168,8 @@ module _ (s : Syntax) (t : Target) (ds : List (Option Cost)) where
       )
 
   -- a pass over all commands
-  pub all_passed : (v w : Sides) (r : Option Best) (p : Plan) → p ≡ plan_of s → AreSides s t ds [] v → Passes s t ds v w None None r p Done → AreSides s t ds (steps_of s) w
+  pub all_passed : (v w : Sides) (r : Option Best) (p : Plan) → p ≡ plan_of s → AreSides s t ds [] v → Passes s t ds v w None None r p Done
+      → AreSides s t ds (steps_of s) w
   all_passed v w r p e hv h =
       let c = h [] [] [] (nothing_best s t ds) (nothing_best s t ds) hv in
       subst (λ z. AreSides s t ds z w) (sym (c.5 ∙ append-nil c.1) ∙ ap (λ z. steps z [] []) e) c.3

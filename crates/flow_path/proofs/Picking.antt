@@ -21,7 +21,8 @@ use Rattle.flow_path.specs.Costs.{nothing_yet, add, cost_of, plus, IsLe, IsLess}
 use Rattle.flow_path.specs.Targets.{IsGoalBy, is_high}
 use Rattle.flow_path.specs.Told.{StandsFirst}
 use Rattle.flow_path.specs.Search.{Where, Goes, BeginsAt, IsKnown}
-use Rattle.flow_path.specs.Distances.{IsFirst, HaveNone, start_cost, known_cost, cost_by, cost_to, and_then, PartCosts, SideCosts, GoalCosts, IsFound, AreSides, AreSettled, IsPicked, StartsWritten, IsPickedOf}
+use Rattle.flow_path.specs.Distances.{IsFirst, HaveNone, start_cost, known_cost, cost_by, cost_to, and_then, PartCosts, SideCosts, GoalCosts, IsFound}
+use Rattle.flow_path.specs.Distances.{AreSides, AreSettled, IsPicked, StartsWritten, IsPickedOf}
 use Rattle.flow_path.proofs.Base.{each_at}
 use Rattle.flow_path.proofs.Proper.{Own, IsOwn}
 use Rattle.flow_path.proofs.Found.{own}
@@ -43,7 +44,8 @@ cost_append : (xs ys : List Step) → cost_of (xs ++ ys) ≡ plus (cost_of xs) (
 cost_append xs ys = cost_is (cost_of (xs ++ ys)) (plus (cost_of xs) (cost_of ys)) (faint_append xs ys) (length-append xs ys)
 
 -- what the end of two chains that end alike leaves
-cost_back : (xs zs after : List Step) (x z : Step) → IsLe (cost_of (xs ++ (x ∷ after))) (cost_of (zs ++ (z ∷ after))) → IsLe (cost_of (xs ++ x ∷ [])) (cost_of (zs ++ z ∷ []))
+cost_back : (xs zs after : List Step) (x z : Step) → IsLe (cost_of (xs ++ (x ∷ after))) (cost_of (zs ++ (z ∷ after)))
+    → IsLe (cost_of (xs ++ x ∷ [])) (cost_of (zs ++ z ∷ []))
 cost_back xs zs after x z h =
     plus_back (cost_of (xs ++ x ∷ [])) (cost_of (zs ++ z ∷ [])) (cost_of after)
     (subst (λ w. IsLe w (plus (cost_of (zs ++ z ∷ [])) (cost_of after))) (cost_append (xs ++ x ∷ []) after)
@@ -64,10 +66,12 @@ omitted_own s (Level k l) w o = absurd o
 
 -- what the label of an omitted variable costs
 module _ (s : Syntax) (t : Target) (v : Sides) (A : AreSettled s t v) where
-  spot_costs : (p : Spot) (n : ℕ) (f : Found) → p ≡ Variable n → written s (Variable n) ≡ None → slice_index_or v.variables.items n None ≡ Some f → cost_to s t A.costs p ≡ Some f.cost
+  spot_costs : (p : Spot) (n : ℕ) (f : Found) → p ≡ Variable n → written s (Variable n) ≡ None → slice_index_or v.variables.items n None ≡ Some f
+      → cost_to s t A.costs p ≡ Some f.cost
   spot_costs p n f e w h = ap (λ z. cost_to s t A.costs z) e ∙ ap (λ z. cost_by s t A.costs (Variable n) z) w ∙ A.goes n f w h
 
-  pub less_steps : (st : Step) (c : Cost) (n : ℕ) (f : Found) → st.part.spot ≡ Variable n → written s (Variable n) ≡ None → slice_index_or v.variables.items n None ≡ Some f → PartCosts s t A.costs st.part c → f.cost.steps < c.steps
+  pub less_steps : (st : Step) (c : Cost) (n : ℕ) (f : Found) → st.part.spot ≡ Variable n → written s (Variable n) ≡ None
+      → slice_index_or v.variables.items n None ≡ Some f → PartCosts s t A.costs st.part c → f.cost.steps < c.steps
   less_steps st c n f e w h k =
       let q = step_from (cost_to s t A.costs st.part.spot) st.part.how c k in
       let same : q.0 ≡ f.cost = same_Some q.0 f.cost (sym q.1 ∙ spot_costs st.part.spot n f e w h) in
@@ -81,24 +85,32 @@ module _ (s : Syntax) (t : Target) (v : Sides) (A : AreSettled s t v) where
   pub goal_costs : (f : Found) → v.goal ≡ Some f → PartCosts s t A.costs f.step.part f.cost
   goal_costs f e = (subst (λ z. IsFound (GoalCosts s t A.costs) (steps_of s) z) e A.sides.goal).has.1
 
-  pub begins_written : (st : Step) (c : Cost) → PartCosts s t A.costs st.part c → ((n : ℕ) → st.part.spot ≡ Variable n → written s (Variable n) ≡ None → slice_index_or v.variables.items n None ≡ None) → (a : ℕ) × (written s st.part.spot ≡ Some a)
+  pub begins_written : (st : Step) (c : Cost) → PartCosts s t A.costs st.part c
+      → ((n : ℕ) → st.part.spot ≡ Variable n → written s (Variable n) ≡ None → slice_index_or v.variables.items n None ≡ None)
+      → (a : ℕ) × (written s st.part.spot ≡ Some a)
   begins_written st c k h =
       let q = step_from (cost_to s t A.costs st.part.spot) st.part.how c k in
       go st.part.spot refl (written s st.part.spot) refl q.0 q.1
     where
-      go : (p : Spot) → st.part.spot ≡ p → (o : Option ℕ) → written s st.part.spot ≡ o → (d : Cost) → cost_by s t A.costs st.part.spot (written s st.part.spot) ≡ Some d → (a : ℕ) × (written s st.part.spot ≡ Some a)
+      go : (p : Spot) → st.part.spot ≡ p → (o : Option ℕ) → written s st.part.spot ≡ o → (d : Cost)
+          → cost_by s t A.costs st.part.spot (written s st.part.spot) ≡ Some d → (a : ℕ) × (written s st.part.spot ≡ Some a)
       go p e (Some a) w d i = (a, w)
       go (Variable n) e None w d i =
           let wn : written s (Variable n) ≡ None = ap (λ z. written s z) (sym e) ∙ w in
-          let is : slice_index_or A.costs n None ≡ Some d = sym (ap (λ z. cost_by s t A.costs z None) e) ∙ (sym (ap (λ z. cost_by s t A.costs st.part.spot z) w) ∙ i) in
+          let is : slice_index_or A.costs n None ≡ Some d =
+              sym (ap (λ z. cost_by s t A.costs z None) e) ∙ (sym (ap (λ z. cost_by s t A.costs st.part.spot z) w) ∙ i) in
           let b = A.back n d wn is in
           absurd (none-some b.0 (sym (h n e wn) ∙ b.1))
-      go (Command l) e None w d i = absurd (none-some d (sym (ap (λ z. cost_by s t A.costs z None) e) ∙ (sym (ap (λ z. cost_by s t A.costs st.part.spot z) w) ∙ i)))
-      go (Level j l) e None w d i = absurd (none-some d (sym (ap (λ z. cost_by s t A.costs z None) e) ∙ (sym (ap (λ z. cost_by s t A.costs st.part.spot z) w) ∙ i)))
+      go (Command l) e None w d i = absurd
+          (none-some d (sym (ap (λ z. cost_by s t A.costs z None) e) ∙ (sym (ap (λ z. cost_by s t A.costs st.part.spot z) w) ∙ i)))
+      go (Level j l) e None w d i = absurd
+          (none-some d (sym (ap (λ z. cost_by s t A.costs z None) e) ∙ (sym (ap (λ z. cost_by s t A.costs st.part.spot z) w) ∙ i)))
 
 -- one step more in front
-pub picked_more : (s : Syntax) (v : Sides) (chain rest : List Step) (now f : Found) (n : ℕ) → chain ≡ now.step ∷ rest → now.step.part.spot ≡ Variable n → written s (Variable n) ≡ None → slice_index_or v.variables.items n None ≡ Some f → IsPicked s v chain → IsPicked s v (f.step ∷ chain)
-picked_more s v chain rest now f n is spot none at p = subst (λ z. IsPicked s v (f.step ∷ z)) (sym is) (n, f, spot, none, at, refl, subst (λ z. IsPicked s v z) is p)
+pub picked_more : (s : Syntax) (v : Sides) (chain rest : List Step) (now f : Found) (n : ℕ) → chain ≡ now.step ∷ rest → now.step.part.spot ≡ Variable n
+    → written s (Variable n) ≡ None → slice_index_or v.variables.items n None ≡ Some f → IsPicked s v chain → IsPicked s v (f.step ∷ chain)
+picked_more s v chain rest now f n is spot none at p =
+    subst (λ z. IsPicked s v (f.step ∷ z)) (sym is) (n, f, spot, none, at, refl, subst (λ z. IsPicked s v z) is p)
 
 module _ (x : Where) (valid : IsValid x.program) (v : Sides) (A : AreSettled x.program x.target v) where
   there : (t : Step) (ss : List Step) → Goes x (t ∷ ss) → Contains (steps_of x.program) t
@@ -110,17 +122,20 @@ module _ (x : Where) (valid : IsValid x.program) (v : Sides) (A : AreSettled x.p
   within y w = let h = omitted_within x.program y w in let f = A.fit in omega (arith, h, f)
 
   -- what the label of an omitted variable costs
-  to_variable : (p : Spot) (y : ℕ) (c : Cost) → p ≡ Variable y → written x.program (Variable y) ≡ None → slice_index_or A.costs y None ≡ Some c → cost_to x.program x.target A.costs p ≡ Some c
+  to_variable : (p : Spot) (y : ℕ) (c : Cost) → p ≡ Variable y → written x.program (Variable y) ≡ None → slice_index_or A.costs y None ≡ Some c
+      → cost_to x.program x.target A.costs p ≡ Some c
   to_variable p y c e w h = ap (λ z. cost_to x.program x.target A.costs z) e ∙ ap (λ z. cost_by x.program x.target A.costs (Variable y) z) w ∙ h
 
   -- a step costs what its part's label costs, and one more
-  costs_is : (st : Step) (c : Cost) → cost_to x.program x.target A.costs st.part.spot ≡ Some c → PartCosts x.program x.target A.costs st.part (add c st.part.how)
+  costs_is : (st : Step) (c : Cost) → cost_to x.program x.target A.costs st.part.spot ≡ Some c
+      → PartCosts x.program x.target A.costs st.part (add c st.part.how)
   costs_is st c e = ap (λ z. and_then z st.part.how) e
 
   costs_same : (st : Step) (c d : Cost) → PartCosts x.program x.target A.costs st.part c → PartCosts x.program x.target A.costs st.part d → c ≡ d
   costs_same st c d e f = same_Some c d (sym e ∙ f)
 
-  next : (st t : Step) (ss : List Step) (c : Cost) → Goes x (st ∷ (t ∷ ss)) → cost_to x.program x.target A.costs st.part.spot ≡ Some c → (d : Cost) × (cost_to x.program x.target A.costs t.part.spot ≡ Some d) × IsLe d (add c st.part.how)
+  next : (st t : Step) (ss : List Step) (c : Cost) → Goes x (st ∷ (t ∷ ss)) → cost_to x.program x.target A.costs st.part.spot ≡ Some c
+      → (d : Cost) × (cost_to x.program x.target A.costs t.part.spot ≡ Some d) × IsLe d (add c st.part.how)
   next st t ss c g e =
       let own_t = (each_at (IsOwn x.program.order.size (written_levels (plan_of x.program))) (steps_of x.program) t (own x.program valid) (there t ss g.3)).0 in
       let w : written x.program t.part.spot ≡ None = ap (λ z. written x.program z) g.2 ∙ g.1 in
@@ -129,13 +144,15 @@ module _ (x : Where) (valid : IsValid x.program) (v : Sides) (A : AreSettled x.p
       let f = found_some x.program x.target A.costs v A.sides y.0 st (add c st.part.how) (within y.0 wy) g.0 (sym g.2 ∙ y.1, costs_is st c e) in
       (f.0.cost, to_variable t.part.spot y.0 f.0.cost y.1 wy (A.goes y.0 f.0 wy f.1), f.2)
 
-  goal_by : (st : Step) (d : Cost) → Contains (steps_of x.program) st → GoalCosts x.program x.target A.costs st d → (o : Option Found) → IsFound (GoalCosts x.program x.target A.costs) (steps_of x.program) o → v.goal ≡ o →
+  goal_by : (st : Step) (d : Cost) → Contains (steps_of x.program) st → GoalCosts x.program x.target A.costs st d → (o : Option Found)
+      → IsFound (GoalCosts x.program x.target A.costs) (steps_of x.program) o → v.goal ≡ o →
       (f : Found) × (v.goal ≡ Some f) × IsLe f.cost d
   goal_by st d c h None i e = absurd (i st d c h)
   goal_by st d c h (Some f) i e = (f, e, i.least st d c h)
 
   -- no chain to where it is to end costs less than the step that was found
-  low : (st : Step) (ss : List Step) (c : Cost) → Goes x (st ∷ ss) → cost_to x.program x.target A.costs st.part.spot ≡ Some c → (f : Found) × (v.goal ≡ Some f) × IsLe f.cost (plus c (cost_of (st ∷ ss)))
+  low : (st : Step) (ss : List Step) (c : Cost) → Goes x (st ∷ ss) → cost_to x.program x.target A.costs st.part.spot ≡ Some c → (f : Found) × (v.goal ≡ Some f)
+      × IsLe f.cost (plus c (cost_of (st ∷ ss)))
   low st [] c g e =
       let r = goal_by st (add c st.part.how) g.0 (g.1, costs_is st c e) v.goal A.sides.goal refl in
       (r.0, r.1, subst (λ z. IsLe r.0.cost z) (plus_one c st) r.2)
@@ -158,16 +175,20 @@ module _ (x : Where) (valid : IsValid x.program) (v : Sides) (A : AreSettled x.p
   more_before y zs b c h r = record { cost = r.cost; costs = r.costs; low = le_trans r.cost b c r.low h; goes = r.goes }
 
   -- what a chain up to one of its steps costs
-  before : (xs : List Step) (y : Step) (zs : List Step) (c : Cost) → Goes x (xs ++ (y ∷ zs)) → cost_to x.program x.target A.costs (first_spot xs y) ≡ Some c → Before y zs (plus c (cost_of (xs ++ y ∷ [])))
-  before [] y zs c g e = record { cost = add c y.part.how; costs = costs_is y c e; low = le_is (add c y.part.how) (plus c (cost_of (y ∷ []))) (plus_one c y); goes = g }
+  before : (xs : List Step) (y : Step) (zs : List Step) (c : Cost) → Goes x (xs ++ (y ∷ zs)) → cost_to x.program x.target A.costs (first_spot xs y) ≡ Some c
+      → Before y zs (plus c (cost_of (xs ++ y ∷ [])))
+  before [] y zs c g e = record { cost = add c y.part.how; costs = costs_is y c e; low =
+      le_is (add c y.part.how) (plus c (cost_of (y ∷ []))) (plus_one c y); goes = g }
   before (st ∷ []) y zs c g e =
       let n = next st y zs c g e in
       more_before y zs (plus n.0 (cost_of (y ∷ []))) (plus c (cost_of (st ∷ (y ∷ []))))
-      (subst (λ z. IsLe (plus n.0 (cost_of (y ∷ []))) z) (plus_cons c st (y ∷ [])) (plus_le n.0 (add c st.part.how) (cost_of (y ∷ [])) n.2)) (before [] y zs n.0 g.3 n.1)
+      (subst (λ z. IsLe (plus n.0 (cost_of (y ∷ []))) z) (plus_cons c st (y ∷ [])) (plus_le n.0 (add c st.part.how) (cost_of (y ∷ [])) n.2))
+          (before [] y zs n.0 g.3 n.1)
   before (st ∷ (u ∷ us)) y zs c g e =
       let n = next st u (us ++ (y ∷ zs)) c g e in
       more_before y zs (plus n.0 (cost_of (u ∷ (us ++ y ∷ [])))) (plus c (cost_of (st ∷ (u ∷ (us ++ y ∷ [])))))
-      (subst (λ z. IsLe (plus n.0 (cost_of (u ∷ (us ++ y ∷ [])))) z) (plus_cons c st (u ∷ (us ++ y ∷ []))) (plus_le n.0 (add c st.part.how) (cost_of (u ∷ (us ++ y ∷ []))) n.2)) (before (u ∷ us) y zs n.0 g.3 n.1)
+      (subst (λ z. IsLe (plus n.0 (cost_of (u ∷ (us ++ y ∷ [])))) z) (plus_cons c st (u ∷ (us ++ y ∷ [])))
+          (plus_le n.0 (add c st.part.how) (cost_of (u ∷ (us ++ y ∷ []))) n.2)) (before (u ∷ us) y zs n.0 g.3 n.1)
 
   -- the chain that is picked
   record Picked (st t : Step) (c : Cost) : Type 0 where
@@ -203,7 +224,8 @@ module _ (x : Where) (valid : IsValid x.program) (v : Sides) (A : AreSettled x.p
   picked_goes st (t ∷ ss) p = let r = picked st t ss p in (r.1.has, r.1.omitted, r.1.spot, picked_goes t ss p.6)
 
   -- what the picked chain costs up to one of its steps
-  picked_cost : (xs : List Step) (y : Step) (zs : List Step) (c : Cost) → IsPicked x.program v (xs ++ (y ∷ zs)) → cost_to x.program x.target A.costs (first_spot xs y) ≡ Some c →
+  picked_cost : (xs : List Step) (y : Step) (zs : List Step) (c : Cost) → IsPicked x.program v (xs ++ (y ∷ zs))
+      → cost_to x.program x.target A.costs (first_spot xs y) ≡ Some c →
       PartCosts x.program x.target A.costs y.part (plus c (cost_of (xs ++ y ∷ []))) × IsPicked x.program v (y ∷ zs)
   picked_cost [] y zs c p e = (subst (λ z. PartCosts x.program x.target A.costs y.part z) (plus_one c y) (costs_is y c e), p)
   picked_cost (st ∷ []) y zs c p e =
@@ -218,7 +240,8 @@ module _ (x : Where) (valid : IsValid x.program) (v : Sides) (A : AreSettled x.p
       (subst (λ z. PartCosts x.program x.target A.costs y.part z) (plus_cons c st (u ∷ (us ++ y ∷ []))) q.0, q.1)
 
   -- and it is the first of those that are no dearer
-  stands : (V : Step → Cost → Type 0) (f : Found) (y z : Step) (d : Cost) → IsFirst V (steps_of x.program) f.step f.cost → f.step ≡ y → V z d → IsLe d f.cost → StandsFirst (steps_of x.program) y z
+  stands : (V : Step → Cost → Type 0) (f : Found) (y z : Step) (d : Cost) → IsFirst V (steps_of x.program) f.step f.cost → f.step ≡ y → V z d → IsLe d f.cost
+      → StandsFirst (steps_of x.program) y z
   stands V f y z d F is w l = record {
     before = F.before;
     after = F.after;
@@ -226,7 +249,8 @@ module _ (x : Where) (valid : IsValid x.program) (v : Sides) (A : AreSettled x.p
     none = λ c. not_less f.cost d (F.dearer z d c w) l;
   }
 
-  first : (y : Step) (zs : List Step) (c : Cost) → IsPicked x.program v (y ∷ zs) → PartCosts x.program x.target A.costs y.part c → (z : Step) (d : Cost) → Goes x (z ∷ zs) → PartCosts x.program x.target A.costs z.part d → IsLe d c → StandsFirst (steps_of x.program) y z
+  first : (y : Step) (zs : List Step) (c : Cost) → IsPicked x.program v (y ∷ zs) → PartCosts x.program x.target A.costs y.part c → (z : Step) (d : Cost)
+      → Goes x (z ∷ zs) → PartCosts x.program x.target A.costs z.part d → IsLe d c → StandsFirst (steps_of x.program) y z
   first y [] c (f, goal, is) e z d g w l =
       let F = goal_first f goal in
       let same : c ≡ f.cost = costs_same y c f.cost e (subst (λ (u : Step). PartCosts x.program x.target A.costs u.part f.cost) is F.has.1) in
@@ -237,7 +261,8 @@ module _ (x : Where) (valid : IsValid x.program) (v : Sides) (A : AreSettled x.p
       stands (SideCosts x.program x.target A.costs n) f y z d F is (sym g.2 ∙ spot, w) (subst (λ u. IsLe d u) same l)
 
   -- where a chain begins it costs nothing
-  begins_at : (xs : List Step) (y : Step) (zs : List Step) (a : ℕ) → BeginsAt x (xs ++ (y ∷ zs)) a → cost_to x.program x.target A.costs (first_spot xs y) ≡ Some nothing_yet
+  begins_at : (xs : List Step) (y : Step) (zs : List Step) (a : ℕ) → BeginsAt x (xs ++ (y ∷ zs)) a
+      → cost_to x.program x.target A.costs (first_spot xs y) ≡ Some nothing_yet
   begins_at [] y zs a b = ap (λ z. cost_by x.program x.target A.costs y.part.spot z) b.0 ∙ ap (λ z. cond z (Some nothing_yet) None) b.1
   begins_at (st ∷ xs) y zs a b = ap (λ z. cost_by x.program x.target A.costs st.part.spot z) b.0 ∙ ap (λ z. cond z (Some nothing_yet) None) b.1
 
@@ -253,34 +278,40 @@ module _ (x : Where) (valid : IsValid x.program) (v : Sides) (A : AreSettled x.p
   starts [] p b = absurd b
   starts (st ∷ ss) p b =
       let c = cost_of_first st ss p in
-      (b.0, (b.1, begins_high b.0 (is_high x.program x.target b.0) c.0 st.part.how (sym (ap (λ z. and_then (cost_by x.program x.target A.costs st.part.spot z) st.part.how) b.1) ∙ c.1)))
+      (b.0, (b.1, begins_high b.0 (is_high x.program x.target b.0) c.0 st.part.how
+          (sym (ap (λ z. and_then (cost_by x.program x.target A.costs st.part.spot z) st.part.how) b.1) ∙ c.1)))
 
   pub goes : (chain : List Step) → IsPicked x.program v chain → Goes x chain
   goes [] p = absurd p
   goes (st ∷ ss) p = picked_goes st ss p
 
-  pub earliest : (chain : List Step) → IsPicked x.program v chain → (a : ℕ) → BeginsAt x chain a → (xs zs after : List Step) (y z : Step) (b : ℕ) → chain ≡ xs ++ (y ∷ after) → Goes x (zs ++ (z ∷ after)) → BeginsAt x (zs ++ (z ∷ after)) b →
+  pub earliest : (chain : List Step) → IsPicked x.program v chain → (a : ℕ) → BeginsAt x chain a → (xs zs after : List Step) (y z : Step) (b : ℕ)
+      → chain ≡ xs ++ (y ∷ after) → Goes x (zs ++ (z ∷ after)) → BeginsAt x (zs ++ (z ∷ after)) b →
       IsLe (cost_of (zs ++ (z ∷ after))) (cost_of chain) → StandsFirst (steps_of x.program) y z
   earliest chain p a i xs zs after y z b e g j l =
       let own = picked_cost xs y after nothing_yet (subst (λ u. IsPicked x.program v u) e p) (begins_at xs y after a (subst (λ u. BeginsAt x u a) e i)) in
       let other = before zs z after nothing_yet g (begins_at zs z after b j) in
-      let up : IsLe (cost_of (zs ++ z ∷ [])) (cost_of (xs ++ y ∷ [])) = cost_back zs xs after z y (subst (λ u. IsLe (cost_of (zs ++ (z ∷ after))) (cost_of u)) e l) in
+      let up : IsLe (cost_of (zs ++ z ∷ [])) (cost_of (xs ++ y ∷ [])) =
+          cost_back zs xs after z y (subst (λ u. IsLe (cost_of (zs ++ (z ∷ after))) (cost_of u)) e l) in
       first y after (plus nothing_yet (cost_of (xs ++ y ∷ []))) own.1 own.0 z other.cost other.goes other.costs
       (le_trans other.cost (plus nothing_yet (cost_of (zs ++ z ∷ []))) (plus nothing_yet (cost_of (xs ++ y ∷ []))) other.low
       (subst (λ u. IsLe u (plus nothing_yet (cost_of (xs ++ y ∷ [])))) (sym (plus_nothing (cost_of (zs ++ z ∷ []))))
       (subst (λ u. IsLe (cost_of (zs ++ z ∷ [])) u) (sym (plus_nothing (cost_of (xs ++ y ∷ [])))) up)))
 
   -- what the last step costs
-  last_cost : (st : Step) (ss : List Step) (c : Cost) → IsPicked x.program v (st ∷ ss) → cost_to x.program x.target A.costs st.part.spot ≡ Some c → (f : Found) × (v.goal ≡ Some f) × (f.cost ≡ plus c (cost_of (st ∷ ss)))
+  last_cost : (st : Step) (ss : List Step) (c : Cost) → IsPicked x.program v (st ∷ ss) → cost_to x.program x.target A.costs st.part.spot ≡ Some c
+      → (f : Found) × (v.goal ≡ Some f) × (f.cost ≡ plus c (cost_of (st ∷ ss)))
   last_cost st [] c (f, goal, is) e =
-      (f, goal, costs_same st f.cost (add c st.part.how) (subst (λ (u : Step). PartCosts x.program x.target A.costs u.part f.cost) is (goal_first f goal).has.1) (costs_is st c e) ∙ plus_one c st)
+      (f, goal, costs_same st f.cost (add c st.part.how) (subst (λ (u : Step). PartCosts x.program x.target A.costs u.part f.cost) is (goal_first f goal).has.1)
+          (costs_is st c e) ∙ plus_one c st)
   last_cost st (t ∷ ss) c p e =
       let r = picked st t ss p in
       let same : r.0 ≡ add c st.part.how = costs_same st r.0 (add c st.part.how) r.1.costs (costs_is st c e) in
       let q = last_cost t ss (add c st.part.how) p.6 (r.1.cost ∙ ap Some same) in
       (q.0, q.1, q.2 ∙ plus_cons c st (t ∷ ss))
 
-  pub cheapest : (chain : List Step) → IsPicked x.program v chain → (a : ℕ) → BeginsAt x chain a → (q : List Step) (b : ℕ) → Goes x q → BeginsAt x q b → IsLe (cost_of chain) (cost_of q)
+  pub cheapest : (chain : List Step) → IsPicked x.program v chain → (a : ℕ) → BeginsAt x chain a → (q : List Step) (b : ℕ) → Goes x q → BeginsAt x q b
+      → IsLe (cost_of chain) (cost_of q)
   cheapest [] p a i q b g j = absurd p
   cheapest (st ∷ ss) p a i [] b g j = absurd g
   cheapest (st ∷ ss) p a i (u ∷ us) b g j =

@@ -1,5 +1,6 @@
 -- What each step of the search for the cheapest costs keeps.
-use Rattle.std.proofs.Common.{◌≡◌, ℕ, zero, suc, ◌+◌, ◌<◌, ◌≤◌, refl, sym, ap, ◌∙◌, subst, List, [], ◌∷◌, ◌++◌, map, length, arith, ⊎_elim, inl, inr, get_or, slice_set, length-append, length-set, get_or-set_same, get_or-set_other}
+use Rattle.std.proofs.Common.{◌≡◌, ℕ, zero, suc, ◌+◌, ◌<◌, ◌≤◌, refl, sym, ap, ◌∙◌, subst, List, [], ◌∷◌, ◌++◌, map, length, arith, ⊎_elim, inl, inr, get_or}
+use Rattle.std.proofs.Common.{slice_set, length-append, length-set, get_or-set_same, get_or-set_other}
 use Rattle.std.specs.Prelude.{Bool, true, false, cond, Option, None, Some, IfSome, Contains, slice_get, slice_index_or, option_map, ◌⊎◌}
 use Rattle.std.proofs.lemmas.Option.{none-some, same_Some}
 use Rattle.std.proofs.lemmas.Bool.{cases_lt, cases_eq}
@@ -19,7 +20,8 @@ use Rattle.flow_path.specs.Chains.{is_faint}
 use Rattle.flow_path.specs.Steps.{written, steps_of}
 use Rattle.flow_path.specs.Costs.{nothing_yet, add, IsLe, IsLess}
 use Rattle.flow_path.specs.Targets.{is_high}
-use Rattle.flow_path.specs.Distances.{IsFirst, HaveNone, start_cost, known_cost, cost_by, cost_to, and_then, PartCosts, SideCosts, count_none, IsKnownOf, AreFew, AreStarts, IsFound, AreSides, IsNew, IsNewAt, IsLeastNew, IsSetBy, IsDistance, AreSettled, Agrees}
+use Rattle.flow_path.specs.Distances.{IsFirst, HaveNone, start_cost, known_cost, cost_by, cost_to, and_then, PartCosts, SideCosts, count_none, IsKnownOf}
+use Rattle.flow_path.specs.Distances.{AreFew, AreStarts, IsFound, AreSides, IsNew, IsNewAt, IsLeastNew, IsSetBy, IsDistance, AreSettled, Agrees}
 use Rattle.flow_path.proofs.Writings.{omitted_within}
 use Rattle.flow_path.proofs.Searching.{get_same}
 use Rattle.flow_path.proofs.Indexing.{get_before, get_end}
@@ -39,7 +41,8 @@ pub within_some : {A : Type 0} (xs : List (Option A)) (y : ℕ) (c : A) → slic
 within_some xs y c e = ⊎_elim (λ (h : y < length xs). h) (λ (h : length xs ≤ y). absurd (none-some c (sym (past_none xs y h) ∙ e))) (cases_lt y (length xs))
 
 -- one more item
-pub more_each : {A : Type 0} (P : ℕ → Option A → Type 0) (xs : List (Option A)) (x : Option A) (n : ℕ) → length xs ≡ n → ((y : ℕ) → y < length xs → P y (slice_index_or xs y None)) → P n x →
+pub more_each : {A : Type 0} (P : ℕ → Option A → Type 0) (xs : List (Option A)) (x : Option A) (n : ℕ) → length xs ≡ n
+    → ((y : ℕ) → y < length xs → P y (slice_index_or xs y None)) → P n x →
     (y : ℕ) → y < length (xs ++ x ∷ []) → P y (slice_index_or (xs ++ x ∷ []) y None)
 more_each P xs x n e h k y l =
     let len = length-append xs (x ∷ []) in
@@ -52,7 +55,8 @@ more_each P xs x n e h k y l =
     (cases_lt y (length xs))
 
 -- one item set
-pub set_each : {A : Type 0} (P : ℕ → Option A → Type 0) (xs : List (Option A)) (x : Option A) (n : ℕ) → n < length xs → ((y : ℕ) → (y ≡ n → ⊥) → P y (slice_index_or xs y None)) → P n x → (y : ℕ) → P y (slice_index_or (slice_set xs n x) y None)
+pub set_each : {A : Type 0} (P : ℕ → Option A → Type 0) (xs : List (Option A)) (x : Option A) (n : ℕ) → n < length xs
+    → ((y : ℕ) → (y ≡ n → ⊥) → P y (slice_index_or xs y None)) → P n x → (y : ℕ) → P y (slice_index_or (slice_set xs n x) y None)
 set_each P xs x n l h k y = ⊎_elim
     (λ (q : y ≡ n). subst (λ z. P z (slice_index_or (slice_set xs n x) z None)) (sym q) (subst (λ z. P n z) (sym (get_or-set_same xs n x None l)) k))
     (λ (q : y ≡ n → ⊥). subst (λ z. P y z) (sym (get_or-set_other xs n y x None q)) (h y q))
@@ -72,15 +76,18 @@ count_stays (None ∷ xs) (Some d ∷ ys) e h = let q = count_stays xs ys (omega
 count_stays (Some c ∷ xs) (None ∷ ys) e h = let q = h 0 c refl in absurd (none-some q.0 q.1)
 count_stays (Some c ∷ xs) (Some d ∷ ys) e h = count_stays xs ys (omega (arith, e)) (λ y c f. h (suc y) c f)
 
-count_falls : (xs ys : List (Option Cost)) (y : ℕ) (c : Cost) → length ys ≡ length xs → Stay xs ys → slice_index_or xs y None ≡ None → slice_index_or ys y None ≡ Some c → y < length xs → count_none ys < count_none xs
+count_falls : (xs ys : List (Option Cost)) (y : ℕ) (c : Cost) → length ys ≡ length xs → Stay xs ys → slice_index_or xs y None ≡ None
+    → slice_index_or ys y None ≡ Some c → y < length xs → count_none ys < count_none xs
 unfolding Stay
 count_falls [] ys y c e h a b l = absurd (omega (arith, l))
 count_falls (x ∷ xs) [] y c e h a b l = absurd (omega (arith, e))
 count_falls (None ∷ xs) (Some d ∷ ys) zero c e h a b l = let q = count_stays xs ys (omega (arith, e)) (λ y c f. h (suc y) c f) in omega (arith, q)
 count_falls (None ∷ xs) (None ∷ ys) zero c e h a b l = absurd (none-some c b)
 count_falls (Some d ∷ xs) (z ∷ ys) zero c e h a b l = absurd (none-some d (sym a))
-count_falls (None ∷ xs) (None ∷ ys) (suc y) c e h a b l = let q = count_falls xs ys y c (omega (arith, e)) (λ y c f. h (suc y) c f) a b (omega (arith, l)) in omega (arith, q)
-count_falls (None ∷ xs) (Some d ∷ ys) (suc y) c e h a b l = let q = count_falls xs ys y c (omega (arith, e)) (λ y c f. h (suc y) c f) a b (omega (arith, l)) in omega (arith, q)
+count_falls (None ∷ xs) (None ∷ ys) (suc y) c e h a b l = let q = count_falls xs ys y c (omega (arith, e)) (λ y c f. h (suc y) c f) a b (omega (arith, l)) in
+    omega (arith, q)
+count_falls (None ∷ xs) (Some d ∷ ys) (suc y) c e h a b l = let q = count_falls xs ys y c (omega (arith, e)) (λ y c f. h (suc y) c f) a b (omega (arith, l)) in
+    omega (arith, q)
 count_falls (Some d ∷ xs) (None ∷ ys) (suc y) c e h a b l = let q = h 0 d refl in absurd (none-some q.0 q.1)
 count_falls (Some d ∷ xs) (Some d' ∷ ys) (suc y) c e h a b l = count_falls xs ys y c (omega (arith, e)) (λ y c f. h (suc y) c f) a b (omega (arith, l))
 
@@ -120,7 +127,9 @@ module _ (s : Syntax) (t : Target) (k : Known) (b : AreStarts s t k) where
   }
 
   pub few_begins : AreFew k.variables.items
-  few_begins y c e = let m = count_le k.variables.items in subst (λ (z : Cost). (z.faint ≤ z.steps) × (z.steps + count_none k.variables.items ≤ length k.variables.items)) (sym (starts_few y c e)) (omega arith, omega (arith, m))
+  few_begins y c e = let m = count_le k.variables.items in
+      subst (λ (z : Cost). (z.faint ≤ z.steps) × (z.steps + count_none k.variables.items ≤ length k.variables.items)) (sym (starts_few y c e)) (omega arith,
+      omega (arith, m))
 
   pub distance_begins : IsDistance s t k.variables.items nothing_yet
   distance_begins = record {
@@ -141,30 +150,37 @@ module _ (s : Syntax) (t : Target) (ds : List (Option Cost)) (v : Sides) (S : Ar
   pub found_first : (y : ℕ) (f : Found) → slice_index_or v.variables.items y None ≡ Some f → IsFirst (SideCosts s t ds y) (steps_of s) f.step f.cost
   found_first y f e = found_is y (Some f) e (found_within y f e)
 
-  found_by : (y : ℕ) (st : Step) (d : Cost) → Contains (steps_of s) st → SideCosts s t ds y st d → (o : Option Found) → IsFound (SideCosts s t ds y) (steps_of s) o → slice_index_or v.variables.items y None ≡ o →
+  found_by : (y : ℕ) (st : Step) (d : Cost) → Contains (steps_of s) st → SideCosts s t ds y st d → (o : Option Found)
+      → IsFound (SideCosts s t ds y) (steps_of s) o → slice_index_or v.variables.items y None ≡ o →
       (f : Found) × (slice_index_or v.variables.items y None ≡ Some f) × IsLe f.cost d
   found_by y st d c h None i e = absurd (i st d c h)
   found_by y st d c h (Some f) i e = (f, e, i.least st d c h)
 
   -- a step to the label of y
-  pub found_some : (y : ℕ) (st : Step) (d : Cost) → y < length ds → Contains (steps_of s) st → SideCosts s t ds y st d → (f : Found) × (slice_index_or v.variables.items y None ≡ Some f) × IsLe f.cost d
+  pub found_some : (y : ℕ) (st : Step) (d : Cost) → y < length ds → Contains (steps_of s) st → SideCosts s t ds y st d
+      → (f : Found) × (slice_index_or v.variables.items y None ≡ Some f) × IsLe f.cost d
   found_some y st d l c h = found_by y st d c h (slice_index_or v.variables.items y None) (S.each y l) refl
 
 -- more is known
-module _ (s : Syntax) (t : Target) (k k' : Known) (K : IsKnownOf s t k) (F : AreFew k.variables.items) (now : Cost) (D : IsDistance s t k.variables.items now) (v : Sides) (S : AreSides s t k.variables.items (steps_of s) v)
-    (m : Cost) (L : IsLeastNew s k.variables.items v.variables.items (length k.variables.items) (Some m)) (N : IsSetBy s k.variables.items v.variables.items m (length k.variables.items) k'.variables.items) (same : k'.lattice ≡ k.lattice) where
+module _ (s : Syntax) (t : Target) (k k' : Known) (K : IsKnownOf s t k) (F : AreFew k.variables.items) (now : Cost) (D : IsDistance s t k.variables.items now)
+    (v : Sides) (S : AreSides s t k.variables.items (steps_of s) v)
+    (m : Cost) (L : IsLeastNew s k.variables.items v.variables.items (length k.variables.items) (Some m))
+        (N : IsSetBy s k.variables.items v.variables.items m (length k.variables.items) k'.variables.items) (same : k'.lattice ≡ k.lattice) where
   -- a cost that was known
   old : (y : ℕ) (c : Cost) → slice_index_or k.variables.items y None ≡ Some c → slice_index_or k'.variables.items y None ≡ Some c
   old y c e = N.kept y (λ l n. none-some c (sym n.unknown ∙ e)) ∙ e
 
   -- which costs are known: those that were, and m
-  which : (y : ℕ) (c : Cost) → slice_index_or k'.variables.items y None ≡ Some c → (slice_index_or k.variables.items y None ≡ Some c) ⊎ ((c ≡ m) × ((y < length k.variables.items) × IsNew s k.variables.items v.variables.items y m))
+  which : (y : ℕ) (c : Cost) → slice_index_or k'.variables.items y None ≡ Some c → (slice_index_or k.variables.items y None ≡ Some c)
+      ⊎ ((c ≡ m) × ((y < length k.variables.items) × IsNew s k.variables.items v.variables.items y m))
   which y c e = go (slice_index_or k.variables.items y None) refl (slice_index_or v.variables.items y None) refl (written s (Variable y)) refl
     where
-      kept : (IsNew s k.variables.items v.variables.items y m → ⊥) → (slice_index_or k.variables.items y None ≡ Some c) ⊎ ((c ≡ m) × ((y < length k.variables.items) × IsNew s k.variables.items v.variables.items y m))
+      kept : (IsNew s k.variables.items v.variables.items y m → ⊥) → (slice_index_or k.variables.items y None ≡ Some c)
+          ⊎ ((c ≡ m) × ((y < length k.variables.items) × IsNew s k.variables.items v.variables.items y m))
       kept h = inl (sym (N.kept y (λ l n. h n)) ∙ e)
 
-      at : (f : Found) → slice_index_or k.variables.items y None ≡ None → slice_index_or v.variables.items y None ≡ Some f → written s (Variable y) ≡ None → (f.cost.faint ≡ m.faint) ⊎ (f.cost.faint ≡ m.faint → ⊥) → (f.cost.steps ≡ m.steps) ⊎ (f.cost.steps ≡ m.steps → ⊥) →
+      at : (f : Found) → slice_index_or k.variables.items y None ≡ None → slice_index_or v.variables.items y None ≡ Some f → written s (Variable y) ≡ None
+          → (f.cost.faint ≡ m.faint) ⊎ (f.cost.faint ≡ m.faint → ⊥) → (f.cost.steps ≡ m.steps) ⊎ (f.cost.steps ≡ m.steps → ⊥) →
           (slice_index_or k.variables.items y None ≡ Some c) ⊎ ((c ≡ m) × ((y < length k.variables.items) × IsNew s k.variables.items v.variables.items y m))
       at f a b w (inl g) (inl h) =
           let n : IsNew s k.variables.items v.variables.items y m = record { omitted = w; unknown = a; found = f; at = b; cost = cost_is f.cost m g h } in
@@ -173,7 +189,8 @@ module _ (s : Syntax) (t : Target) (k k' : Known) (K : IsKnownOf s t k) (F : Are
       at f a b w (inl g) (inr h) = kept (λ n. h (ap (λ (z : Found). z.cost.steps) (same_Some f n.found (sym b ∙ n.at)) ∙ ap (λ (z : Cost). z.steps) n.cost))
       at f a b w (inr g) h = kept (λ n. g (ap (λ (z : Found). z.cost.faint) (same_Some f n.found (sym b ∙ n.at)) ∙ ap (λ (z : Cost). z.faint) n.cost))
 
-      go : (o : Option Cost) → slice_index_or k.variables.items y None ≡ o → (q : Option Found) → slice_index_or v.variables.items y None ≡ q → (w : Option ℕ) → written s (Variable y) ≡ w →
+      go : (o : Option Cost) → slice_index_or k.variables.items y None ≡ o → (q : Option Found) → slice_index_or v.variables.items y None ≡ q → (w : Option ℕ)
+          → written s (Variable y) ≡ w →
           (slice_index_or k.variables.items y None ≡ Some c) ⊎ ((c ≡ m) × ((y < length k.variables.items) × IsNew s k.variables.items v.variables.items y m))
       go (Some d) a q b w g = kept (λ n. none-some d (sym n.unknown ∙ a))
       go None a None b w g = kept (λ n. none-some n.found (sym b ∙ n.at))
@@ -191,7 +208,8 @@ module _ (s : Syntax) (t : Target) (k k' : Known) (K : IsKnownOf s t k) (F : Are
   spots : (p : Spot) (c : Cost) → cost_to s t k'.variables.items p ≡ Some c → (cost_to s t k.variables.items p ≡ Some c) ⊎ (c ≡ m)
   spots p c e = go p (written s p) refl e
     where
-      go : (p : Spot) (o : Option ℕ) → written s p ≡ o → cost_by s t k'.variables.items p (written s p) ≡ Some c → (cost_by s t k.variables.items p (written s p) ≡ Some c) ⊎ (c ≡ m)
+      go : (p : Spot) (o : Option ℕ) → written s p ≡ o → cost_by s t k'.variables.items p (written s p) ≡ Some c
+          → (cost_by s t k.variables.items p (written s p) ≡ Some c) ⊎ (c ≡ m)
       go p (Some a) w e = inl (ap (λ z. cost_by s t k.variables.items p z) w ∙ (sym (ap (λ z. cost_by s t k'.variables.items p z) w) ∙ e))
       go (Variable y) None w e = ⊎_elim
           (λ (h : slice_index_or k.variables.items y None ≡ Some c). inl (ap (λ z. cost_by s t k.variables.items (Variable y) z) w ∙ h))
@@ -213,9 +231,11 @@ module _ (s : Syntax) (t : Target) (k k' : Known) (K : IsKnownOf s t k) (F : Are
   still_spot : (p : Spot) (c : Cost) → cost_to s t k.variables.items p ≡ Some c → cost_to s t k'.variables.items p ≡ Some c
   still_spot p c e = go p (written s p) refl e
     where
-      go : (p : Spot) (o : Option ℕ) → written s p ≡ o → cost_by s t k.variables.items p (written s p) ≡ Some c → cost_by s t k'.variables.items p (written s p) ≡ Some c
+      go : (p : Spot) (o : Option ℕ) → written s p ≡ o → cost_by s t k.variables.items p (written s p) ≡ Some c
+          → cost_by s t k'.variables.items p (written s p) ≡ Some c
       go p (Some a) w e = ap (λ z. cost_by s t k'.variables.items p z) w ∙ (sym (ap (λ z. cost_by s t k.variables.items p z) w) ∙ e)
-      go (Variable y) None w e = ap (λ z. cost_by s t k'.variables.items (Variable y) z) w ∙ old y c (sym (ap (λ z. cost_by s t k.variables.items (Variable y) z) w) ∙ e)
+      go (Variable y) None w e = ap (λ z. cost_by s t k'.variables.items (Variable y) z) w
+          ∙ old y c (sym (ap (λ z. cost_by s t k.variables.items (Variable y) z) w) ∙ e)
       go (Command l) None w e = absurd (none-some c (sym (ap (λ z. cost_by s t k.variables.items (Command l) z) w) ∙ e))
       go (Level j l) None w e = absurd (none-some c (sym (ap (λ z. cost_by s t k.variables.items (Level j l) z) w) ∙ e))
 
@@ -230,7 +250,8 @@ module _ (s : Syntax) (t : Target) (k k' : Known) (K : IsKnownOf s t k) (F : Are
       (n.found.step, first_in (steps_of s) f.before f.after n.found.step f.is, subst (λ z. SideCosts s t k.variables.items y n.found.step z) n.cost f.has)
 
   -- a step to a label that is not known costs m or more
-  late_old : (y : ℕ) (st : Step) (d : Cost) → written s (Variable y) ≡ None → slice_index_or k.variables.items y None ≡ None → y < length k.variables.items → Contains (steps_of s) st → SideCosts s t k.variables.items y st d → IsLe m d
+  late_old : (y : ℕ) (st : Step) (d : Cost) → written s (Variable y) ≡ None → slice_index_or k.variables.items y None ≡ None → y < length k.variables.items
+      → Contains (steps_of s) st → SideCosts s t k.variables.items y st d → IsLe m d
   late_old y st d w u l c h =
       let f = found_some s t k.variables.items v S y st d l c h in
       le_trans m f.0.cost d (L.1 y f.0.cost l (record { omitted = w; unknown = u; found = f.0; at = f.1; cost = refl })) f.2
@@ -248,7 +269,8 @@ module _ (s : Syntax) (t : Target) (k k' : Known) (K : IsKnownOf s t k) (F : Are
       least = λ y c d st w e i x. ⊎_elim
           (λ (h : PartCosts s t k.variables.items st.part d). ⊎_elim
           (λ (g : slice_index_or k.variables.items y None ≡ Some c). D.least y c d st w g i (x.0, h))
-          (λ (g : (c ≡ m) × ((y < length k.variables.items) × IsNew s k.variables.items v.variables.items y m)). subst (λ z. IsLe z d) (sym g.0) (late_old y st d w g.1.1.unknown g.1.0 i (x.0, h)))
+          (λ (g : (c ≡ m) × ((y < length k.variables.items) × IsNew s k.variables.items v.variables.items y m)). subst
+              (λ z. IsLe z d) (sym g.0) (late_old y st d w g.1.1.unknown g.1.0 i (x.0, h)))
           (which y c e))
           (λ (h : IsLe m d). ⊎_elim
           (λ (g : slice_index_or k.variables.items y None ≡ Some c). le_trans c m d (le_trans c now m (D.low y c w g) rises) h)
@@ -293,17 +315,22 @@ module _ (s : Syntax) (t : Target) (k k' : Known) (K : IsKnownOf s t k) (F : Are
       let few = u.1 in
       (subst (λ (z : Cost). z.faint ≤ z.steps) (sym is) (faint_add n.found.step.part.how q.0 u.0), omega (arith, steps, less, fit, few))
     where
-      start : (c : Cost) (b : Bool) → cond b (Some nothing_yet) None ≡ Some c → (c.faint ≤ c.steps) × (c.steps + count_none k.variables.items ≤ length k.variables.items)
-      start c true e = let o = count_le k.variables.items in subst (λ (z : Cost). (z.faint ≤ z.steps) × (z.steps + count_none k.variables.items ≤ length k.variables.items)) (same_Some nothing_yet c e) (omega arith, omega (arith, o))
+      start : (c : Cost) (b : Bool) → cond b (Some nothing_yet) None ≡ Some c
+          → (c.faint ≤ c.steps) × (c.steps + count_none k.variables.items ≤ length k.variables.items)
+      start c true e = let o = count_le k.variables.items in
+          subst (λ (z : Cost). (z.faint ≤ z.steps) × (z.steps + count_none k.variables.items ≤ length k.variables.items)) (same_Some nothing_yet c e)
+          (omega arith, omega (arith, o))
       start c false e = absurd (none-some c e)
 
-      by : (p : Spot) (c : Cost) (o : Option ℕ) → cost_by s t k.variables.items p o ≡ Some c → (c.faint ≤ c.steps) × (c.steps + count_none k.variables.items ≤ length k.variables.items)
+      by : (p : Spot) (c : Cost) (o : Option ℕ) → cost_by s t k.variables.items p o ≡ Some c
+          → (c.faint ≤ c.steps) × (c.steps + count_none k.variables.items ≤ length k.variables.items)
       by p c (Some a) e = start c (is_high s t a) e
       by (Variable y) c None e = F y c e
       by (Command l) c None e = absurd (none-some c e)
       by (Level j l) c None e = absurd (none-some c e)
 
-      spot_few : (p : Spot) (c : Cost) → cost_to s t k.variables.items p ≡ Some c → (c.faint ≤ c.steps) × (c.steps + count_none k.variables.items ≤ length k.variables.items)
+      spot_few : (p : Spot) (c : Cost) → cost_to s t k.variables.items p ≡ Some c
+          → (c.faint ≤ c.steps) × (c.steps + count_none k.variables.items ≤ length k.variables.items)
       spot_few p c e = by p c (written s p) e
 
   pub few_goes : AreFew k'.variables.items
@@ -334,12 +361,14 @@ module _ (s : Syntax) (t : Target) (k k' : Known) (K : IsKnownOf s t k) (F : Are
   }
 
 -- a cost that is known is not great
-pub few_at : (s : Syntax) (t : Target) (k : Known) → IsKnownOf s t k → (y : ℕ) (o : Option Cost) → y < length k.variables.items → o ≡ get_or k.variables.items y o → IfSome o (λ c. (c.faint ≤ c.steps) × (c.steps ≤ 4294967295))
+pub few_at : (s : Syntax) (t : Target) (k : Known) → IsKnownOf s t k → (y : ℕ) (o : Option Cost) → y < length k.variables.items
+    → o ≡ get_or k.variables.items y o → IfSome o (λ c. (c.faint ≤ c.steps) × (c.steps ≤ 4294967295))
 few_at s t k K y None l e = tt
 few_at s t k K y (Some c) l e = K.few y c (get_same k.variables.items y None (Some c) l ∙ sym e)
 
 -- a guess at the cost of an omitted label
-pub guessed : (s : Syntax) (t : Target) (k k' : Known) (y : ℕ) (c : Cost) → written s (Variable y) ≡ None → y < length k.variables.items → c.faint ≤ c.steps → c.steps ≤ 4294967295 → k'.variables.items ≡ slice_set k.variables.items y (Some c) → k'.lattice ≡ k.lattice →
+pub guessed : (s : Syntax) (t : Target) (k k' : Known) (y : ℕ) (c : Cost) → written s (Variable y) ≡ None → y < length k.variables.items → c.faint ≤ c.steps
+    → c.steps ≤ 4294967295 → k'.variables.items ≡ slice_set k.variables.items y (Some c) → k'.lattice ≡ k.lattice →
     IsKnownOf s t k → IsKnownOf s t k'
 guessed s t k k' y c w l h i is same K = record {
   lattice = same ∙ K.lattice;
@@ -359,13 +388,15 @@ guessed s t k k' y c w l h i is same K = record {
     other z q = ap (λ u. slice_index_or u z None) is ∙ get_or-set_other k.variables.items y z (Some c) None q
 
     own : (z : ℕ) → z ≡ y → slice_index_or k'.variables.items z None ≡ Some c
-    own z q = ap (λ u. slice_index_or k'.variables.items u None) q ∙ (ap (λ u. slice_index_or u y None) is ∙ get_or-set_same k.variables.items y (Some c) None l)
+    own z q = ap (λ u. slice_index_or k'.variables.items u None) q
+        ∙ (ap (λ u. slice_index_or u y None) is ∙ get_or-set_same k.variables.items y (Some c) None l)
 
     shorter : (z : ℕ) → z < length k'.variables.items → z < length k.variables.items
     shorter z j = subst (λ u. z < u) (ap length is ∙ length-set k.variables.items y (Some c)) j
 
 -- what is known is what was found
-pub agreed : (s : Syntax) (t : Target) (k : Known) (v : Sides) → IsKnownOf s t k → AreSides s t k.variables.items (steps_of s) v → ((y : ℕ) → y < length k.variables.items → Agrees s k.variables.items v.variables.items y) → AreSettled s t v
+pub agreed : (s : Syntax) (t : Target) (k : Known) (v : Sides) → IsKnownOf s t k → AreSides s t k.variables.items (steps_of s) v
+    → ((y : ℕ) → y < length k.variables.items → Agrees s k.variables.items v.variables.items y) → AreSettled s t v
 agreed s t k v K S A = record {
   costs = k.variables.items;
   fit = K.fit;
@@ -374,17 +405,22 @@ agreed s t k v K S A = record {
   back = λ y c w e. back y c (slice_index_or v.variables.items y None) refl (A y (within_some k.variables.items y c e) w ∙ e);
 }
   where
-    back : (y : ℕ) (c : Cost) (o : Option Found) → slice_index_or v.variables.items y None ≡ o → option_map (λ (u : Found). u.cost) (slice_index_or v.variables.items y None) ≡ Some c → (f : Found) × (slice_index_or v.variables.items y None ≡ Some f) × (f.cost ≡ c)
+    back : (y : ℕ) (c : Cost) (o : Option Found) → slice_index_or v.variables.items y None ≡ o
+        → option_map (λ (u : Found). u.cost) (slice_index_or v.variables.items y None) ≡ Some c
+        → (f : Found) × (slice_index_or v.variables.items y None ≡ Some f) × (f.cost ≡ c)
     back y c None a b = absurd (none-some c (sym (ap (λ z. option_map (λ (u : Found). u.cost) z) a) ∙ b))
     back y c (Some f) a b = (f, a, same_Some f.cost c (sym (ap (λ z. option_map (λ (u : Found). u.cost) z) a) ∙ b))
 
-pub agreed_by : (s : Syntax) (t : Target) (k : Known) (v : Sides) (ds : List (Option Cost)) (vs : List (Option Found)) → ds ≡ k.variables.items → vs ≡ v.variables.items → IsKnownOf s t k → AreSides s t k.variables.items (steps_of s) v →
+pub agreed_by : (s : Syntax) (t : Target) (k : Known) (v : Sides) (ds : List (Option Cost)) (vs : List (Option Found)) → ds ≡ k.variables.items
+    → vs ≡ v.variables.items → IsKnownOf s t k → AreSides s t k.variables.items (steps_of s) v →
     ((y : ℕ) → y < length ds → Agrees s ds vs y) → AreSettled s t v
 agreed_by s t k v ds vs e f K S A =
-    agreed s t k v K S (subst (λ z. (y : ℕ) → y < length k.variables.items → Agrees s k.variables.items z y) f (subst (λ z. (y : ℕ) → y < length z → Agrees s z vs y) e A))
+    agreed s t k v K S (subst (λ z. (y : ℕ) → y < length k.variables.items
+        → Agrees s k.variables.items z y) f (subst (λ z. (y : ℕ) → y < length z → Agrees s z vs y) e A))
 
 -- nothing more is found
-pub settles : (s : Syntax) (t : Target) (k : Known) (now : Cost) (v : Sides) → IsKnownOf s t k → IsDistance s t k.variables.items now → AreSides s t k.variables.items (steps_of s) v →
+pub settles : (s : Syntax) (t : Target) (k : Known) (now : Cost) (v : Sides) → IsKnownOf s t k → IsDistance s t k.variables.items now
+    → AreSides s t k.variables.items (steps_of s) v →
     IsLeastNew s k.variables.items v.variables.items (length k.variables.items) None → AreSettled s t v
 settles s t k now v K D S L = record {
   costs = k.variables.items;
@@ -397,8 +433,10 @@ settles s t k now v K D S L = record {
       (f.0, f.1, same_Some f.0.cost c (sym (goes y f.0 w f.1 (slice_index_or k.variables.items y None) refl) ∙ e));
 }
   where
-    goes : (y : ℕ) (f : Found) → written s (Variable y) ≡ None → slice_index_or v.variables.items y None ≡ Some f → (o : Option Cost) → slice_index_or k.variables.items y None ≡ o → slice_index_or k.variables.items y None ≡ Some f.cost
-    goes y f w e None a = absurd (L y f.cost (found_within s t k.variables.items v S y f e) (record { omitted = w; unknown = a; found = f; at = e; cost = refl }))
+    goes : (y : ℕ) (f : Found) → written s (Variable y) ≡ None → slice_index_or v.variables.items y None ≡ Some f → (o : Option Cost)
+        → slice_index_or k.variables.items y None ≡ o → slice_index_or k.variables.items y None ≡ Some f.cost
+    goes y f w e None a = absurd (L y f.cost (found_within s t k.variables.items v S y f e) (record { omitted = w; unknown =
+        a; found = f; at = e; cost = refl }))
     goes y f w e (Some c) a =
         let h = found_first s t k.variables.items v S y f e in
         let q = D.there y c w a in
@@ -441,7 +479,8 @@ module _ (s : Syntax) (ds : List (Option Cost)) (vs : List (Option Found)) (n : 
   pub less_takes : (a b : Cost) → IsLeastNew s ds vs n (Some a) → IsNew s ds vs n b → IsLess b a → IsLeastNew s ds vs (n + 1) (Some b)
   less_takes a b h k e = (
     (n, omega arith, k),
-    λ y c l w. cases_next (λ z. IsNew s ds vs z c → IsLe b c) (λ z q i. le_trans b a c (less_le b a e) (h.1 z c q i)) (λ i. le_is b c (same_new n b c k i)) y l w,
+    λ y c l w. cases_next (λ z. IsNew s ds vs z c → IsLe b c) (λ z q i. le_trans b a c (less_le b a e) (h.1 z c q i))
+        (λ i. le_is b c (same_new n b c k i)) y l w,
   )
 
   pub less_first : (o : Option Cost) → IsLeastNew s ds vs n None → IsNewAt s ds vs n o → IsLeastNew s ds vs (n + 1) o
@@ -462,7 +501,8 @@ module _ (s : Syntax) (ds : List (Option Cost)) (vs : List (Option Found)) (m : 
   pub set_skips : (IsNew s ds' vs n m → ⊥) → IsSetBy s ds vs m (n + 1) ds'
   set_skips h = record {
     fit = N.fit;
-    set = λ y l w. ⊎_elim (λ (q : y < n). N.set y q w) (λ (q : n ≤ y). let e : y ≡ n = omega (arith, q, l) in absurd (h (new_here (subst (λ z. IsNew s ds vs z m) e w)))) (cases_lt y n);
+    set = λ y l w. ⊎_elim (λ (q : y < n). N.set y q w) (λ (q : n ≤ y). let e : y ≡ n = omega (arith, q, l) in
+        absurd (h (new_here (subst (λ z. IsNew s ds vs z m) e w)))) (cases_lt y n);
     kept = λ y w. N.kept y (λ l i. w (omega (arith, l)) i);
   }
 
@@ -489,9 +529,12 @@ pub set_none : (s : Syntax) (ds : List (Option Cost)) (vs : List (Option Found))
 set_none s ds vs m = record { fit = refl; set = λ y l w. absurd (omega (arith, l)); kept = λ y w. refl }
 
 -- one turn of the search
-pub turned : (s : Syntax) (t : Target) (k k' : Known) (v : Sides) (m : Cost) (ds : List (Option Cost)) (vs vs' : List (Option Found)) (o : Option Cost) → ds ≡ k.variables.items → vs ≡ v.variables.items → vs' ≡ v.variables.items → o ≡ Some m →
-    IsLeastNew s ds vs (length ds) o → IsSetBy s k.variables.items vs' m (length k.variables.items) k'.variables.items → k'.lattice ≡ k.lattice → IsKnownOf s t k → AreFew k.variables.items → (now : Cost) × IsDistance s t k.variables.items now → AreSides s t k.variables.items (steps_of s) v →
-    IsKnownOf s t k' × AreFew k'.variables.items × ((now : Cost) × IsDistance s t k'.variables.items now) × (count_none k'.variables.items < count_none k.variables.items)
+pub turned : (s : Syntax) (t : Target) (k k' : Known) (v : Sides) (m : Cost) (ds : List (Option Cost)) (vs vs' : List (Option Found)) (o : Option Cost)
+    → ds ≡ k.variables.items → vs ≡ v.variables.items → vs' ≡ v.variables.items → o ≡ Some m →
+    IsLeastNew s ds vs (length ds) o → IsSetBy s k.variables.items vs' m (length k.variables.items) k'.variables.items → k'.lattice ≡ k.lattice
+        → IsKnownOf s t k → AreFew k.variables.items → (now : Cost) × IsDistance s t k.variables.items now → AreSides s t k.variables.items (steps_of s) v →
+    IsKnownOf s t k' × AreFew k'.variables.items × ((now : Cost) × IsDistance s t k'.variables.items now)
+        × (count_none k'.variables.items < count_none k.variables.items)
 turned s t k k' v m ds vs vs' o e f g h L N same K F D S =
     let L0 = subst (λ z. IsLeastNew s z vs (length z) o) e L in
     let L1 = subst (λ z. IsLeastNew s k.variables.items z (length k.variables.items) o) f L0 in
@@ -503,7 +546,8 @@ turned s t k k' v m ds vs vs' o e f g h L N same K F D S =
       count_goes s t k k' K F D.0 D.1 v S m L2 N1 same,
     )
 
-pub all_settled : (s : Syntax) (t : Target) (k : Known) (v : Sides) (ds : List (Option Cost)) (vs : List (Option Found)) (o : Option Cost) → ds ≡ k.variables.items → vs ≡ v.variables.items → o ≡ None → IsLeastNew s ds vs (length ds) o → IsKnownOf s t k →
+pub all_settled : (s : Syntax) (t : Target) (k : Known) (v : Sides) (ds : List (Option Cost)) (vs : List (Option Found)) (o : Option Cost)
+    → ds ≡ k.variables.items → vs ≡ v.variables.items → o ≡ None → IsLeastNew s ds vs (length ds) o → IsKnownOf s t k →
     (now : Cost) × IsDistance s t k.variables.items now → AreSides s t k.variables.items (steps_of s) v → AreSettled s t v
 all_settled s t k v ds vs o e f h L K D S =
     let L0 = subst (λ z. IsLeastNew s z vs (length z) o) e L in

@@ -39,14 +39,16 @@ pub told_first : (x : Where) (st : State) (h : Heads) → IsReady x st h [] → 
 told_first x st h r = record { labels = []; ready = r; flow = λ b c. absurd (nothing_told b c); told = tt }
 
 -- one chain more
-pub told_more : (x : Where) → IsLattice (lattice_of x.program.order) → (st st' : State) (h h' : Heads) (ws ws' : List Origin) (k : ℕ) (T : AreTold x st h ws) (n : IsNextStart x st' h' T.labels k) →
+pub told_more : (x : Where) → IsLattice (lattice_of x.program.order)
+    → (st st' : State) (h h' : Heads) (ws ws' : List Origin) (k : ℕ) (T : AreTold x st h ws) (n : IsNextStart x st' h' T.labels k) →
     Tells x (lattice_of x.program.order) n.link n.have ws ws' → AreTold x st' h' ws'
 told_more x ll st st' h h' ws ws' k T n t = go t
   where
     lat : Lattice
     lat = lattice_of x.program.order
 
-    flows : (vs : List Origin) → Flows (lattice_of x.program.order) n.have (joined (lattice_of x.program.order) vs) → Flows (lattice_of x.program.order) (joined (lattice_of x.program.order) ws) (joined (lattice_of x.program.order) vs) →
+    flows : (vs : List Origin) → Flows (lattice_of x.program.order) n.have (joined (lattice_of x.program.order) vs)
+        → Flows (lattice_of x.program.order) (joined (lattice_of x.program.order) ws) (joined (lattice_of x.program.order) vs) →
         (b : ℕ) → Contains (n.have ∷ T.labels) b → Flows (lattice_of x.program.order) b (joined (lattice_of x.program.order) vs)
     flows vs f g b c =
         let J = joined (lattice_of x.program.order) vs in
@@ -62,7 +64,8 @@ told_more x ll st st' h h' ws ws' k T n t = go t
         (record {
           labels = n.have ∷ T.labels;
           ready = n.ready;
-          flow = flows (ws ++ (w ∷ [])) (subst (λ z. Flows (lattice_of x.program.order) z (joined (lattice_of x.program.order) (ws ++ (w ∷ [])))) same (joined_last (lattice_of x.program.order) ll ws w)) (joined_left (lattice_of x.program.order) ll ws (w ∷ []));
+          flow = flows (ws ++ (w ∷ [])) (subst (λ z. Flows (lattice_of x.program.order) z (joined (lattice_of x.program.order) (ws ++ (w ∷ [])))) same
+              (joined_last (lattice_of x.program.order) ll ws w)) (joined_left (lattice_of x.program.order) ll ws (w ∷ []));
           told = every_join (IsTold x) ws (w ∷ []) T.told (one, tt);
         })
       where
@@ -71,7 +74,8 @@ told_more x ll st st' h h' ws ws' k T n t = go t
           goes = way.goes;
           begins = subst (λ z. BeginsAt x w.chain.items z) (sym same) (subst (λ z. BeginsAt x z n.have) (sym way.begins) (n.begins, n.high));
           cheapest = λ q g b. subst (λ z. IsLe z (cost_of q)) (sym way.cost)
-              (n.cheapest q w.label.number g b (λ c. high (subst (λ z. Flows (lattice_of x.program.order) z (joined (lattice_of x.program.order) ws)) same (T.flow w.label.number c))));
+              (n.cheapest q w.label.number g b
+                  (λ c. high (subst (λ z. Flows (lattice_of x.program.order) z (joined (lattice_of x.program.order) ws)) same (T.flow w.label.number c))));
         }
 
 pub told_all : (x : Where) (st : State) (h : Heads) (ws : List Origin) (T : AreTold x st h ws) → AreAllTold x T.labels → AreAll x ws
@@ -116,11 +120,13 @@ module _ (s : Syntax) (valid : IsValid s) (ns : List Node) (cs : List Condition)
   goes_of (t ∷ ts) a b = (goes_on b.first t ts b.leads (all_every Free (t ∷ ts) b.omitted), (ap (λ z. written s z) b.leads.1 ∙ b.begins, refl))
 
   origin_is : (w : Origin) → IsTold x w → IsOrigin s spot w
-  origin_is w h = record { brings = brings_of w.chain.items w.label.number h.goes h.begins; cheapest = λ other b. let g = goes_of other w.label.number b in h.cheapest other g.0 g.1 }
+  origin_is w h = record { brings = brings_of w.chain.items w.label.number h.goes h.begins; cheapest = λ other b. let g =
+      goes_of other w.label.number b in h.cheapest other g.0 g.1 }
 
   pub origins_are : (ws kept : List Origin) → AreAll x ws → All (Contains ws) kept → All (IsOrigin s spot) kept
   origins_are ws kept A c =
-      every_all (IsOrigin s spot) kept (every_map (Contains ws) (IsOrigin s spot) (λ w h. origin_is w (every_in (IsTold x) ws w A.told h)) kept (all_every (Contains ws) kept c))
+      every_all (IsOrigin s spot) kept (every_map (Contains ws) (IsOrigin s spot) (λ w h. origin_is w (every_in (IsTold x) ws w A.told h)) kept
+          (all_every (Contains ws) kept c))
 
   -- a chain leads to an omitted label
   last_of : (t : Step) (ts : List Step) → Goes x (t ∷ ts) → (st : Step) × Contains (steps_of s) st × (st.side ≡ spot)
@@ -137,7 +143,8 @@ module _ (s : Syntax) (valid : IsValid s) (ns : List Node) (cs : List Condition)
   goes_omitted [] g = absurd g
   goes_omitted (t ∷ ts) g =
       let r = last_of t ts g in
-      is_omitted spot free (subst (λ z. Proper s.order.size (written_levels (plan_of s)) z) r.2 (each_at (IsProper s.order.size (written_levels (plan_of s))) (steps_of s) r.0 (proper s valid) r.1).1)
+      is_omitted spot free (subst (λ z. Proper s.order.size (written_levels (plan_of s)) z) r.2
+          (each_at (IsProper s.order.size (written_levels (plan_of s))) (steps_of s) r.0 (proper s valid) r.1).1)
 
   none_told : (ws : List Origin) → AreAll x ws → (IsOmitted s spot → ⊥) → ws ≡ []
   none_told [] A h = refl
@@ -156,7 +163,8 @@ module _ (s : Syntax) (valid : IsValid s) (ns : List Node) (cs : List Condition)
     ll : IsLattice (lattice_of s.order)
     ll = lattice_laws s.order valid.order
 
-    came_from : (p : Spot) (b : ℕ) → IsOmitted s p → ((a : ℕ) → ComesFrom s p a → Flows (lattice_of s.order) a b) ↔ Flows (lattice_of s.order) (label_there (record { program = s; labels = l }) p) b
+    came_from : (p : Spot) (b : ℕ) → IsOmitted s p
+        → ((a : ℕ) → ComesFrom s p a → Flows (lattice_of s.order) a b) ↔ Flows (lattice_of s.order) (label_there (record { program = s; labels = l }) p) b
     came_from (Variable y) b h = variable_from s valid l least y b
     came_from (Command m) b h = absurd h
     came_from (Level k None) b h = level_from s valid l least k b h

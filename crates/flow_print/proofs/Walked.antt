@@ -23,10 +23,13 @@ put_three old a b c one two all e f g =
 
 -- a token that is passed by: r says whether it is the one
 module _ (T : List ℕ) (ts : List Token) (w : List ℕ) (i : ℕ) (t : Token) (h : i < length ts) (r : Bool) (no : r ≡ false) where
-  pub next_on : (q : Pos) → r ≡ (is_after (get_or ts i t).pos q && is_name T (get_or ts i t) w) → next_place T (drop i ts) q w ≡ next_place T (drop (i + 1) ts) q w
-  next_on q e = ap (λ z. next_place T z q w) (drop_more ts i t h) ∙ ap (λ (b : Bool). if b then (get_or ts i t).pos else next_place T (drop (i + 1) ts) q w) (sym e ∙ no)
+  pub next_on : (q : Pos) → r ≡ (is_after (get_or ts i t).pos q && is_name T (get_or ts i t) w)
+      → next_place T (drop i ts) q w ≡ next_place T (drop (i + 1) ts) q w
+  next_on q e = ap (λ z. next_place T z q w) (drop_more ts i t h) ∙ ap (λ (b : Bool). if b then (get_or ts i t).pos else
+      next_place T (drop (i + 1) ts) q w) (sym e ∙ no)
 
-  pub declared_on : (a b : Bool) → r ≡ (a && is_name T (get_or ts i t) w) → b ≡ is_var (get_or ts i t).kind → declared_from T a (drop i ts) w ≡ declared_from T b (drop (i + 1) ts) w
+  pub declared_on : (a b : Bool) → r ≡ (a && is_name T (get_or ts i t) w) → b ≡ is_var (get_or ts i t).kind
+      → declared_from T a (drop i ts) w ≡ declared_from T b (drop (i + 1) ts) w
   declared_on a b e v =
       ap (λ z. declared_from T a z w) (drop_more ts i t h)
       ∙ ap (λ (b : Bool). if b then Some (get_or ts i t).pos else declared_from T (is_var (get_or ts i t).kind) (drop (i + 1) ts) w) (sym e ∙ no)

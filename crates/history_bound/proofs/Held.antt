@@ -30,13 +30,15 @@ module _ (order : Order) (o : ℕ) (h h' : List Placed) where
   two_above : HoldAlike in_two_levels (lattice_of order) o h h' → AgreeBelow (part2_by_history order) (lattice_of order) o h h'
   two_above alike p l f = numbers_from_sets p l h h' (alike p refl l f)
 
-pub one_agrees : (order : Order) (g : ℕ → ℕ) (o : ℕ) (s s' : Start (List Placed)) → Agree (part_by_history order) (lattice_of order) (AnyHistory order) g o s s' ↔ AgreeInHeld in_one_level (lattice_of order) g o s s'
+pub one_agrees : (order : Order) (g : ℕ → ℕ) (o : ℕ) (s s' : Start (List Placed))
+    → Agree (part_by_history order) (lattice_of order) (AnyHistory order) g o s s' ↔ AgreeInHeld in_one_level (lattice_of order) g o s s'
 one_agrees order g o s s' = (
   λ a. record { long = a.long; low = a.low; held = one_below order o s.env s'.env a.parts },
   λ a. record { one = tt; other = tt; long = a.long; low = a.low; parts = one_above order o s.env s'.env a.held },
 )
 
-pub two_agree : (order : Order) (g : ℕ → ℕ) (o : ℕ) (s s' : Start (List Placed)) → Agree (part2_by_history order) (lattice_of order) (AnyHistory order) g o s s' ↔ AgreeInHeld in_two_levels (lattice_of order) g o s s'
+pub two_agree : (order : Order) (g : ℕ → ℕ) (o : ℕ) (s s' : Start (List Placed))
+    → Agree (part2_by_history order) (lattice_of order) (AnyHistory order) g o s s' ↔ AgreeInHeld in_two_levels (lattice_of order) g o s s'
 two_agree order g o s s' = (
   λ a. record { long = a.long; low = a.low; held = two_below order o s.env s'.env a.parts },
   λ a. record { one = tt; other = tt; long = a.long; low = a.low; parts = two_above order o s.env s'.env a.held },

@@ -39,22 +39,26 @@ does_back v w n related does =
       part = λ q l f e lt r. sym (does.part q l e f lt r);
     }
 
-pub paired_back : {E F : Type 0} (related : E → F → Type 0) (ss : List (Start E)) (rs : List (Start F)) → Paired related ss rs → Paired (λ f e. related e f) rs ss
+pub paired_back : {E F : Type 0} (related : E → F → Type 0) (ss : List (Start E)) (rs : List (Start F)) → Paired related ss rs
+    → Paired (λ f e. related e f) rs ss
 paired_back related [] [] p = tt
 paired_back related [] (r ∷ rs) p = p
 paired_back related (s ∷ ss) [] p = p
 paired_back related (s ∷ ss) (r ∷ rs) p = ((sym p.0.0, p.0.1), paired_back related ss rs p.1)
 
 -- what goes over from each start to its own goes over from all
-pub each_over : {E F : Type 0} (related : E → F → Type 0) (P : Start E → Type 0) (Q : Start F → Type 0) → ((s : Start E) (r : Start F) → Pair related s r → P s → Q r) → (ss : List (Start E)) (rs : List (Start F)) → Paired related ss rs → Each P ss → Each Q rs
+pub each_over : {E F : Type 0} (related : E → F → Type 0) (P : Start E → Type 0) (Q : Start F → Type 0)
+    → ((s : Start E) (r : Start F) → Pair related s r → P s → Q r) → (ss : List (Start E)) (rs : List (Start F)) → Paired related ss rs → Each P ss → Each Q rs
 each_over related P Q over [] [] p h = tt
 each_over related P Q over [] (r ∷ rs) p h = absurd p
 each_over related P Q over (s ∷ ss) [] p h = tt
 each_over related P Q over (s ∷ ss) (r ∷ rs) p h = (over s r p.0 h.0, each_over related P Q over ss rs p.1 h.1)
 
 -- one way
-module _ {E F : Type 0} (v : Env E) (w : Env F) (order : Order) (serves : E → Type 0) (serves' : F → Type 0) (related : E → F → Type 0) (does : DoesAs v w order.size related) (kept : (e : E) (f : F) → related e f → serves' f) (g : ℕ → ℕ) (o : ℕ) (low : o < order.size) where
-  pub agree_over : (s s' : Start E) (r r' : Start F) → Pair related s r → Pair related s' r' → Agree v (lattice_of order) serves g o s s' → Agree w (lattice_of order) serves' g o r r'
+module _ {E F : Type 0} (v : Env E) (w : Env F) (order : Order) (serves : E → Type 0) (serves' : F → Type 0) (related : E → F → Type 0)
+    (does : DoesAs v w order.size related) (kept : (e : E) (f : F) → related e f → serves' f) (g : ℕ → ℕ) (o : ℕ) (low : o < order.size) where
+  pub agree_over : (s s' : Start E) (r r' : Start F) → Pair related s r → Pair related s' r' → Agree v (lattice_of order) serves g o s s'
+      → Agree w (lattice_of order) serves' g o r r'
   agree_over s s' r r' p p' a =
       record {
         one = kept s.env r.env p.1;
@@ -66,13 +70,16 @@ module _ {E F : Type 0} (v : Env E) (w : Env F) (order : Order) (serves : E → 
             sym (does.part q l s.env r.env lt p.1) ∙ a.parts q l f ∙ does.part q l s'.env r'.env lt p'.1;
       }
 
-  pub pairwise_over : (ss : List (Start E)) (rs : List (Start F)) → Paired related ss rs → Pairwise (Agree v (lattice_of order) serves g o) ss → Pairwise (Agree w (lattice_of order) serves' g o) rs
+  pub pairwise_over : (ss : List (Start E)) (rs : List (Start F)) → Paired related ss rs → Pairwise (Agree v (lattice_of order) serves g o) ss
+      → Pairwise (Agree w (lattice_of order) serves' g o) rs
   pairwise_over ss rs p h =
       each_over related (λ s. Each (Agree v (lattice_of order) serves g o s) ss) (λ r. Each (Agree w (lattice_of order) serves' g o r) rs)
-      (λ s r q each. each_over related (Agree v (lattice_of order) serves g o s) (Agree w (lattice_of order) serves' g o r) (λ s' r' q' a. agree_over s s' r r' q q' a) ss rs p each)
+      (λ s r q each. each_over related (Agree v (lattice_of order) serves g o s) (Agree w (lattice_of order) serves' g o r)
+          (λ s' r' q' a. agree_over s s' r r' q q' a) ss rs p each)
       ss rs p h
 
-module _ {E F : Type 0} (v : Env E) (w : Env F) (order : Order) (related : E → F → Type 0) (does : DoesAs v w order.size related) (image : List Instr) (labels : HasLabelsBelow order.size image) (t : ℕ) where
+module _ {E F : Type 0} (v : Env E) (w : Env F) (order : Order) (related : E → F → Type 0) (does : DoesAs v w order.size related) (image : List Instr)
+    (labels : HasLabelsBelow order.size image) (t : ℕ) where
   pub pair_alike : (s : Start E) (r : Start F) → Pair related s r → AreAlike related (run_from v image t s) (run_from w image t r)
   pair_alike s r p =
       subst (λ m. AreAlike related (run_from v image t s) (run_from w image t (record { memory = m; env = r.env }))) p.0
@@ -87,7 +94,8 @@ module _ {E F : Type 0} (v : Env E) (w : Env F) (order : Order) (related : E →
   pub halted_same : (s : Start E) (r : Start F) → Pair related s r → (run_from v image t s).halted ≡ (run_from w image t r).halted
   halted_same s r p = sym (ap (λ (z : Machine F). z.halted) (pair_alike s r p).same)
 
-  pub seen_all : (g : ℕ → ℕ) (o : ℕ) (ss : List (Start E)) (rs : List (Start F)) → Paired related ss rs → views (seen_from v (lattice_of order) g image o t) ss ≡ views (seen_from w (lattice_of order) g image o t) rs
+  pub seen_all : (g : ℕ → ℕ) (o : ℕ) (ss : List (Start E)) (rs : List (Start F)) → Paired related ss rs
+      → views (seen_from v (lattice_of order) g image o t) ss ≡ views (seen_from w (lattice_of order) g image o t) rs
   seen_all g o [] [] p = refl
   seen_all g o [] (r ∷ rs) p = absurd p
   seen_all g o (s ∷ ss) [] p = absurd p
@@ -95,7 +103,8 @@ module _ {E F : Type 0} (v : Env E) (w : Env F) (order : Order) (related : E →
       let one = ap (visible (lattice_of order) g o) (log_same s r p.0) in
       let rest = seen_all g o ss rs p.1 in cc
 
-  pub ended_all : (rel : ℕ → Bool) (ss : List (Start E)) (rs : List (Start F)) → Paired related ss rs → most_ended v image rel t ss ≡ most_ended w image rel t rs
+  pub ended_all : (rel : ℕ → Bool) (ss : List (Start E)) (rs : List (Start F)) → Paired related ss rs
+      → most_ended v image rel t ss ≡ most_ended w image rel t rs
   ended_all rel [] [] p = refl
   ended_all rel [] (r ∷ rs) p = absurd p
   ended_all rel (s ∷ ss) [] p = absurd p
@@ -109,14 +118,17 @@ length-paired related [] (r ∷ rs) p = absurd p
 length-paired related (s ∷ ss) [] p = absurd p
 length-paired related (s ∷ ss) (r ∷ rs) p = ap suc (length-paired related ss rs p.1)
 
-pub begun_over : {E F M L : Type 0} (related : E → F → Type 0) (order : Order) (g ls : ℕ → ℕ) (o : ℕ) (p : Todo M L) (k : ℕ) (ss : List (Start E)) (rs : List (Start F)) → Paired related ss rs → FirstBegins (lattice_of order) g ls o p ss k → FirstBegins (lattice_of order) g ls o p rs k
+pub begun_over : {E F M L : Type 0} (related : E → F → Type 0) (order : Order) (g ls : ℕ → ℕ) (o : ℕ) (p : Todo M L) (k : ℕ) (ss : List (Start E))
+    (rs : List (Start F)) → Paired related ss rs → FirstBegins (lattice_of order) g ls o p ss k → FirstBegins (lattice_of order) g ls o p rs k
 begun_over related order g ls o p k [] [] q h = h
 begun_over related order g ls o p k [] (r ∷ rs) q h = absurd q
 begun_over related order g ls o p k (s ∷ ss) [] q h = absurd q
 begun_over related order g ls o p k (s ∷ ss) (r ∷ rs) q h = subst (λ m. Begins (lattice_of order) g ls o p m k) q.0.0 h
 
-pub tell_same : {E F : Type 0} (v : Env E) (w : Env F) (order : Order) (serves : E → Type 0) (serves' : F → Type 0) (related : E → F → Type 0) → DoesAs v w order.size related → ((e : E) (f : F) → related e f → serves e × serves' f) →
-    (g : ℕ → ℕ) (image : List Instr) → HasLabelsBelow order.size image → (o t : ℕ) → o < order.size → (ss : List (Start E)) (rs : List (Start F)) → Paired related ss rs →
+pub tell_same : {E F : Type 0} (v : Env E) (w : Env F) (order : Order) (serves : E → Type 0) (serves' : F → Type 0) (related : E → F → Type 0)
+    → DoesAs v w order.size related → ((e : E) (f : F) → related e f → serves e × serves' f) →
+    (g : ℕ → ℕ) (image : List Instr) → HasLabelsBelow order.size image → (o t : ℕ) → o < order.size
+        → (ss : List (Start E)) (rs : List (Start F)) → Paired related ss rs →
     TellSame v serves w serves' (lattice_of order) g image o t ss rs
 tell_same {E} {F} v w order serves serves' related does kept g image labels o t low ss rs p =
     record {

@@ -16,7 +16,8 @@ module _ (o : Order) (ds : List Declaration) (instrs : List Instr) where
   pub none_printed : (bytes : List ℕ) → bytes ≡ [] → PrintedTo bytes o ds 0 instrs
   none_printed bytes e = record { is = ap (λ b. b ++ lines_from o ds 0 instrs) e }
 
-  pub next_printed : (b c : List ℕ) (k : ℕ) (i : Instr) → slice_get instrs k ≡ Some i → PrintedTo b o ds k instrs → c ≡ b ++ line_text o ds k i → PrintedTo c o ds (k + 1) instrs
+  pub next_printed : (b c : List ℕ) (k : ℕ) (i : Instr) → slice_get instrs k ≡ Some i → PrintedTo b o ds k instrs → c ≡ b ++ line_text o ds k i
+      → PrintedTo c o ds (k + 1) instrs
   next_printed b c k i e so h =
       let rest : List Instr = drop (k + 1) instrs in
       let front : drop k instrs ≡ i ∷ rest = drop_more instrs k i (slice_get_within instrs k i e) ∙ ap (λ x. x ∷ rest) (get_or_from_slice_get instrs k i i e) in

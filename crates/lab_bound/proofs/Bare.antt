@@ -6,7 +6,8 @@ use Rattle.mit_syntax.specs.Values.{value_of, holds}
 use Rattle.source_meaning.specs.Source.{Note, Source, source_act, source_step, source_steps, source_start}
 use Rattle.level_counts.specs.Begun.{begins_next, begins_after}
 
-at : (t t' : Todo (Unit {0}) (Unit {0})) (m : List ℤ) (n : List Note) → t ≡ t' → ◌≡◌ {A = Source (Unit {0}) (Unit {0})} (record { todo = t; memory = m; notes = n }) (record { todo = t'; memory = m; notes = n })
+at : (t t' : Todo (Unit {0}) (Unit {0})) (m : List ℤ) (n : List Note) → t ≡ t'
+    → ◌≡◌ {A = Source (Unit {0}) (Unit {0})} (record { todo = t; memory = m; notes = n }) (record { todo = t'; memory = m; notes = n })
 at t t' m n e = ap (λ z. let r : Source (Unit {0}) (Unit {0}) = record { todo = z; memory = m; notes = n } in r) e
 
 module _ {M L : Type 0} where
@@ -31,7 +32,8 @@ module _ {M L : Type 0} where
   bare_act (Put l a k i e r) m n = refl
   bare_act (If l e a b r) m n = at _ _ m n (go (holds (value_of e m)))
     where
-      go : (w : Bool) → commands_of (cond w (then_todo a r) (then_todo b r)) ≡ cond w (then_todo (commands_of a) (commands_of r)) (then_todo (commands_of b) (commands_of r))
+      go : (w : Bool) → commands_of (cond w (then_todo a r) (then_todo b r))
+          ≡ cond w (then_todo (commands_of a) (commands_of r)) (then_todo (commands_of b) (commands_of r))
       go true = bare_then a r
       go false = bare_then b r
   bare_act (While l e c r) m n = at _ _ m n (go (holds (value_of e m)))

@@ -55,14 +55,16 @@ module _ {E : Type 0} (v : Env E) (image : List Instr) (lat : Lattice) (g : ℕ 
   ends zero σ x m h = absurd (both_ways x.halted (ap (λ z. z.halted) m.is) h)
   ends (suc n) σ x m h = go (next_of σ x m) (λ y z k. ends n (source_step σ) y z k)
     where
-      go : Goes v lat g image σ x → ((y : Machine E) → Meets v lat g image (source_step σ) y → (steps v image n y).halted ≡ true → (source_steps n (source_step σ)).todo ≡ Done) → (source_steps (suc n) σ).todo ≡ Done
+      go : Goes v lat g image σ x → ((y : Machine E) → Meets v lat g image (source_step σ) y → (steps v image n y).halted ≡ true
+          → (source_steps n (source_step σ)).todo ≡ Done) → (source_steps (suc n) σ).todo ≡ Done
       go (over l d e t) rec = ap (λ z. z.todo) (done_stays (suc n) σ d) ∙ d
       go (on {y = y} d l z) rec =
           let c = l.some in
           let sum : suc n + (l.count + n - suc n) ≡ l.count + n = omega arith in
           let far : steps v image (l.count + n) x ≡ steps v image n y = steps-add v image l.count n x ∙ ap (steps v image n) l.ends in
           let same : steps v image (l.count + n) x ≡ steps v image (suc n) x =
-          ap (λ k. steps v image k x) (sym sum) ∙ steps-add v image (suc n) (l.count + n - suc n) x ∙ stays v image (l.count + n - suc n) (steps v image (suc n) x) h in
+          ap (λ k. steps v image k x) (sym sum) ∙ steps-add v image (suc n) (l.count + n - suc n) x
+              ∙ stays v image (l.count + n - suc n) (steps v image (suc n) x) h in
           rec y z (ap (λ w. w.halted) (sym far ∙ same) ∙ h)
 
   -- a machine that has not halted has taken a cycle for each step
@@ -70,7 +72,8 @@ module _ {E : Type 0} (v : Env E) (image : List Instr) (lat : Lattice) (g : ℕ 
   late zero x s h = omega arith
   late (suc n) x s h = go x.halted refl (λ sane. late n (step v image x) sane h)
     where
-      go : (b : Bool) → x.halted ≡ b → (Sane (step v image x).opened (step v image x).core.clock → (step v image x).core.clock + n ≤ (steps v image n (step v image x)).core.clock) → x.core.clock + suc n ≤ (steps v image (suc n) x).core.clock
+      go : (b : Bool) → x.halted ≡ b → (Sane (step v image x).opened (step v image x).core.clock
+          → (step v image x).core.clock + n ≤ (steps v image n (step v image x)).core.clock) → x.core.clock + suc n ≤ (steps v image (suc n) x).core.clock
       go true e rec = absurd (both_ways (steps v image (suc n) x).halted h (ap (λ z. z.halted) (stays v image (suc n) x e) ∙ e))
       go false e rec =
           let t = ticks v image x s in
@@ -111,7 +114,8 @@ module _ {E : Type 0} (v : Env E) (image : List Instr) (lat : Lattice) (g : ℕ 
             (λ (lt : r.count < suc t).
             let sum : r.count + (suc t - r.count) ≡ suc t = omega (arith, lt) in
             absurd (both_ways (steps v image (suc t) x).halted e
-            (ap (λ k. (steps v image k x).halted) (sym sum) ∙ ap (λ z. z.halted) (steps-add v image r.count (suc t - r.count) x ∙ stays v image (suc t - r.count) (steps v image r.count x) stop) ∙ stop)))
+            (ap (λ k. (steps v image k x).halted) (sym sum)
+                ∙ ap (λ z. z.halted) (steps-add v image r.count (suc t - r.count) x ∙ stays v image (suc t - r.count) (steps v image r.count x) stop) ∙ stop)))
             (λ (le : suc t ≤ r.count).
             let sum : suc t + (r.count - suc t) ≡ r.count = omega (arith, le) in
             let c = steps_clock v image (r.count - suc t) (steps v image (suc t) x) (steps_sane v image (suc t) x tt) in
@@ -127,13 +131,15 @@ module _ {E : Type 0} (v : Env E) (made : Order → List Touch → E) (q : Label
       let a = ended_by v (lowered q).instrs (order_of q) (labels_of q) (bare_of q) (image_is (order_of q) (labels_of q) (bare_of q)) t s h in
       subst (HasEnded (plan_of q.program) s.memory) next (((keep_meaning q).ends s.memory (suc t)).0 a)
 
-  all_ended : (ss : List StartValue) → Each (Halts v (lowered q).instrs t) (starts_of made q.program.order ss) → All (λ s. HasEnded (plan_of q.program) s.memory (t + 1)) ss
+  all_ended : (ss : List StartValue) → Each (Halts v (lowered q).instrs t) (starts_of made q.program.order ss)
+      → All (λ s. HasEnded (plan_of q.program) s.memory (t + 1)) ss
   all_ended [] h k d lt = absurd (omega (arith, lt))
   all_ended (s ∷ ss) h zero d lt = one_ended (start_of made q.program.order s) h.0
   all_ended (s ∷ ss) h (suc k) d lt = all_ended ss h.1 k d (omega (arith, lt))
 
 -- runs of which there is a report
-pub reported_end : (e : EnvName) (q : LabelledProgram) (o t : ℕ) (ss : List StartValue) (r : AuditReport) → ReportsIn e q o t ss r → All (λ s. HasEnded (plan_of q.program) s.memory (t + 1)) ss
+pub reported_end : (e : EnvName) (q : LabelledProgram) (o t : ℕ) (ss : List StartValue) (r : AuditReport) → ReportsIn e q o t ss r
+    → All (λ s. HasEnded (plan_of q.program) s.memory (t + 1)) ss
 reported_end Flat q o t ss r h = all_ended flat_env flat_made q t ss h.halted
 reported_end Part q o t ss r h = all_ended (part_by_history q.program.order) history_made q t ss h.halted
 reported_end Part2 q o t ss r h = all_ended (part2_by_history q.program.order) history_made q t ss h.halted

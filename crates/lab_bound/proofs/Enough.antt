@@ -49,7 +49,8 @@ use Rattle.lab_bound.specs.Enough.{AllAreEnough}
 use Rattle.lab_bound.proofs.Bare.{bare_after}
 
 -- what no first prediction of a level is below is a first prediction for it
-predicts_next : {M L : Type 0} (rel : ℕ → Bool) (ls firsts : ℕ → ℕ) (p : Todo M L) (m : List ℤ) → ((k x : ℕ) → begins_next p m ≡ Some (k, x) → rel k ≡ true → firsts (ls k) ≤ x) → PredictsNext rel ls firsts p m
+predicts_next : {M L : Type 0} (rel : ℕ → Bool) (ls firsts : ℕ → ℕ) (p : Todo M L) (m : List ℤ)
+    → ((k x : ℕ) → begins_next p m ≡ Some (k, x) → rel k ≡ true → firsts (ls k) ≤ x) → PredictsNext rel ls firsts p m
 predicts_next rel ls firsts Done m h = tt
 predicts_next rel ls firsts (Skip w r) m h = tt
 predicts_next rel ls firsts (Assign w x e r) m h = tt
@@ -70,7 +71,8 @@ module _ (q : LabelledProgram) (o : ℕ) where
   -- a run begins one number of mitigates of each level
   pub begins_each_one : (m : List ℤ) (c d : ℕ → ℕ) → Each' m c → Each' m d → (l : ℕ) → c l ≡ d l
   begins_each_one m c d a b l =
-      sym (a.2 l) ∙ ap (λ z. count_by (relevant_at (order_of q) (labels_of q) (levels_of q) o (plan_of q.program) l) (started_in z)) (ended_same (plan_of q.program) m a.0 b.0 a.1 b.1) ∙ b.2 l
+      sym (a.2 l) ∙ ap (λ z. count_by (relevant_at (order_of q) (labels_of q) (levels_of q) o (plan_of q.program) l) (started_in z))
+          (ended_same (plan_of q.program) m a.0 b.0 a.1 b.1) ∙ b.2 l
 
   begins_each_with : (m : List ℤ) (c d : ℕ → ℕ) → ((l : ℕ) → c l ≡ d l) → Each' m c → Each' m d
   begins_each_with m c d same a = (a.0, a.1, λ l. a.2 l ∙ same l)
@@ -82,12 +84,17 @@ module _ {E : Type 0} (v : Env E) (serves : Order → E → Type 0) (made : Orde
   abbrev FirstsOf : List LevelRuns → ℕ → ℕ
   FirstsOf levels l = (told_of levels l).first
 
-  predicts_each : (ss : List StartValue) (levels : List LevelRuns) → ((l x : ℕ) → PredictedIn (relevant_at (order_of q) (labels_of q) (levels_of q) o (plan_of q.program) l) (plan_of q.program) (memories_of ss) x → FirstsOf levels l ≤ x) →
-      Each (λ s. PredictsBy v (order_of q) (labels_of q) (levels_of q) (lowered q).instrs (plan_of q.program) o t (FirstsOf levels) s) (starts_of made q.program.order ss)
+  predicts_each : (ss : List StartValue) (levels : List LevelRuns)
+      → ((l x : ℕ) → PredictedIn (relevant_at (order_of q) (labels_of q) (levels_of q) o (plan_of q.program) l) (plan_of q.program) (memories_of ss) x
+      → FirstsOf levels l ≤ x) →
+      Each (λ s. PredictsBy v (order_of q) (labels_of q) (levels_of q) (lowered q).instrs (plan_of q.program) o t (FirstsOf levels) s)
+          (starts_of made q.program.order ss)
   predicts_each [] levels h = tt
   predicts_each (s ∷ ss) levels h = (
-    λ n lt. predicts_next Rel (levels_of q) (FirstsOf levels) (source_steps n (source_start (commands_of (plan_of q.program)) s.memory)).todo (source_steps n (source_start (commands_of (plan_of q.program)) s.memory)).memory
-        (λ k x is in'. h (levels_of q k) x (inl (n, k, sym (bare_after (plan_of q.program) s.memory n) ∙ is, and_from (Rel k) (eqb (levels_of q k) (levels_of q k)) in' (eq-eqb (levels_of q k) (levels_of q k) refl)))),
+    λ n lt. predicts_next Rel (levels_of q) (FirstsOf levels) (source_steps n (source_start (commands_of (plan_of q.program)) s.memory)).todo
+        (source_steps n (source_start (commands_of (plan_of q.program)) s.memory)).memory
+        (λ k x is in'. h (levels_of q k) x (inl (n, k, sym (bare_after (plan_of q.program) s.memory n) ∙ is,
+            and_from (Rel k) (eqb (levels_of q k) (levels_of q k)) in' (eq-eqb (levels_of q k) (levels_of q k) refl)))),
     predicts_each ss levels (λ l x k. h l x (inr k)),
   )
 
@@ -95,12 +102,16 @@ module _ {E : Type 0} (v : Env E) (serves : Order → E → Type 0) (made : Orde
   each_memory P [] h = tt
   each_memory P (s ∷ ss) h = (h.0, each_memory P ss h.1)
 
-  counts_same : (ss : List StartValue) (levels : List LevelRuns) (counts : ℕ → ℕ) → Each (λ m. BeginsEach (order_of q) (labels_of q) (levels_of q) o (plan_of q.program) m counts) (memories_of ss) → FirstBeginsEach q o (memories_of ss) (counts_of levels) →
+  counts_same : (ss : List StartValue) (levels : List LevelRuns) (counts : ℕ → ℕ)
+      → Each (λ m. BeginsEach (order_of q) (labels_of q) (levels_of q) o (plan_of q.program) m counts) (memories_of ss)
+      → FirstBeginsEach q o (memories_of ss) (counts_of levels) →
       (ss ≡ []) ⊎ ((l : ℕ) → counts l ≡ counts_of levels l)
   counts_same [] levels counts h k = inl refl
   counts_same (s ∷ ss) levels counts h k = inr (begins_each_one q o s.memory counts (counts_of levels) h.0 k)
 
-  each_with : (ms : List (List ℤ)) (c d : ℕ → ℕ) → ((l : ℕ) → c l ≡ d l) → Each (λ m. BeginsEach (order_of q) (labels_of q) (levels_of q) o (plan_of q.program) m c) ms → Each (λ m. BeginsEach (order_of q) (labels_of q) (levels_of q) o (plan_of q.program) m d) ms
+  each_with : (ms : List (List ℤ)) (c d : ℕ → ℕ) → ((l : ℕ) → c l ≡ d l)
+      → Each (λ m. BeginsEach (order_of q) (labels_of q) (levels_of q) o (plan_of q.program) m c) ms
+      → Each (λ m. BeginsEach (order_of q) (labels_of q) (levels_of q) o (plan_of q.program) m d) ms
   each_with [] c d same h = tt
   each_with (m ∷ ms) c d same h = (begins_each_with q o m c d same h.0, each_with ms c d same h.1)
 
@@ -109,28 +120,37 @@ module _ {E : Type 0} (v : Env E) (serves : Order → E → Type 0) (made : Orde
     pub begun : Each (λ m. BeginsEach (order_of q) (labels_of q) (levels_of q) o (plan_of q.program) m (counts_of levels)) (memories_of ss)
     pub few : FewShown (sequence_from v q o t) same_sequence (starts_of made q.program.order ss) (sharp_of t levels)
 
-  found : SharpSound v q.program.order (serves q.program.order) (labels_of q) (levels_of q) (lowered q).instrs (plan_of q.program) → o < q.program.order.size → 0 < t →
-      (ss : List StartValue) (r : AuditReport) (levels : List LevelRuns) → IsReport v serves q o t (starts_of made q.program.order ss) r → AreTold q o (memories_of ss) levels → Found ss levels
+  found : SharpSound v q.program.order (serves q.program.order) (labels_of q) (levels_of q) (lowered q).instrs (plan_of q.program)
+      → o < q.program.order.size → 0 < t →
+      (ss : List StartValue) (r : AuditReport) (levels : List LevelRuns) → IsReport v serves q o t (starts_of made q.program.order ss) r
+          → AreTold q o (memories_of ss) levels → Found ss levels
   found sound low some ss r levels is h =
       let firsts = FirstsOf levels in
-      let few = sound.few o low t some (starts_of made q.program.order ss) is.agree is.halted firsts (predicts_each ss levels (λ l x k. (h.first l).least x k)) same_sequence tests_sequences in
+      let few = sound.few o low t some (starts_of made q.program.order ss) is.agree is.halted firsts (predicts_each ss levels (λ l x k. (h.first l).least x k))
+          same_sequence tests_sequences in
       let counts = few.0 in
       let each = each_memory (λ m. BeginsEach (order_of q) (labels_of q) (levels_of q) o (plan_of q.program) m counts) ss few.1 in
       let size : q.program.order.size ≡ length levels = sym h.size in
-      go ss levels counts h each (subst (λ n. FewShown (sequence_from v q o t) same_sequence (starts_of made q.program.order ss) (sharp (ends_by t firsts) n counts)) size few.2) (counts_same ss levels counts each h.begun)
+      go ss levels counts h each (subst
+          (λ n. FewShown (sequence_from v q o t) same_sequence (starts_of made q.program.order ss) (sharp (ends_by t firsts) n counts)) size few.2)
+          (counts_same ss levels counts each h.begun)
     where
-      go : (ss : List StartValue) (levels : List LevelRuns) (counts : ℕ → ℕ) → AreTold q o (memories_of ss) levels → Each (λ m. BeginsEach (order_of q) (labels_of q) (levels_of q) o (plan_of q.program) m counts) (memories_of ss) →
-          FewShown (sequence_from v q o t) same_sequence (starts_of made q.program.order ss) (sharp (ends_by t (FirstsOf levels)) (length levels) counts) → (ss ≡ []) ⊎ ((l : ℕ) → counts l ≡ counts_of levels l) → Found ss levels
+      go : (ss : List StartValue) (levels : List LevelRuns) (counts : ℕ → ℕ) → AreTold q o (memories_of ss) levels
+          → Each (λ m. BeginsEach (order_of q) (labels_of q) (levels_of q) o (plan_of q.program) m counts) (memories_of ss) →
+          FewShown (sequence_from v q o t) same_sequence (starts_of made q.program.order ss) (sharp (ends_by t (FirstsOf levels)) (length levels) counts)
+              → (ss ≡ []) ⊎ ((l : ℕ) → counts l ≡ counts_of levels l) → Found ss levels
       go ss levels counts h each few (inl none) =
           subst (λ (z : List StartValue). Found z levels) (sym none)
           (record { begun = tt; few = record { count = omega arith; best_few = λ w. omega arith; guess = λ w g. omega arith } })
       go ss levels counts h each few (inr same) =
           record {
             begun = each_with (memories_of ss) counts (counts_of levels) same each;
-            few = subst (FewShown (sequence_from v q o t) same_sequence (starts_of made q.program.order ss)) (same_product (ends_by t (FirstsOf levels)) counts (counts_of levels) (length levels) same) few;
+            few = subst (FewShown (sequence_from v q o t) same_sequence (starts_of made q.program.order ss))
+                (same_product (ends_by t (FirstsOf levels)) counts (counts_of levels) (length levels) same) few;
           }
 
-  counted : (ss : List StartValue) (r : AuditReport) (levels : List LevelRuns) → IsReport v serves q o t (starts_of made q.program.order ss) r → Found ss levels → (n : ℕ) → fitting (sharp_of t levels) ≡ Some n → r.measures.distinct ≤ n
+  counted : (ss : List StartValue) (r : AuditReport) (levels : List LevelRuns) → IsReport v serves q o t (starts_of made q.program.order ss) r → Found ss levels
+      → (n : ℕ) → fitting (sharp_of t levels) ≡ Some n → r.measures.distinct ≤ n
   counted ss r levels is f n e =
       let same = (told (sharp_of t levels) n (sym e)).0 in
       let c = f.few.count in
@@ -141,13 +161,15 @@ typed_with : (words : List Told) (p : Syntax) (q : LabelledProgram) → IsProgra
 typed_with words p q spelled types = typed_made words p q spelled types.program types.least.labels.keeps types.typed
 
 -- in each environment that `--env` names
-module _ (flat : LoweredSharpAll flat_env (λ order e. Unit {0})) (part : LoweredSharpOver part_by_history AnyHistory) (part2 : LoweredSharpOver part2_by_history AnyHistory) where
+module _ (flat : LoweredSharpAll flat_env (λ order e. Unit {0})) (part : LoweredSharpOver part_by_history AnyHistory)
+    (part2 : LoweredSharpOver part2_by_history AnyHistory) where
   below : (p : Syntax) (q : LabelledProgram) (o : ℕ) → Types p q → o < p.order.size → o < q.program.order.size
   below p q o types l = subst (λ (z : Syntax). o < z.order.size) (sym types.program) l
 
   pub all_enough : AllAreEnough
   all_enough Flat t some words p q o ss r levels spelled types low is h =
-      let f = found flat_env (λ order e. Unit {0}) flat_made q o t (flat q (typed_with words p q spelled types)) (below p q o types low) some ss r levels is h in
+      let f = found flat_env (λ order e. Unit {0}) flat_made q o t (flat q (typed_with words p q spelled types))
+          (below p q o types low) some ss r levels is h in
       record { begun = f.begun; few = f.few; counted = counted flat_env (λ order e. Unit {0}) flat_made q o t ss r levels is f }
   all_enough Part t some words p q o ss r levels spelled types low is h =
       let v = part_by_history q.program.order in

@@ -1,5 +1,6 @@
 -- Lines, one after another.
-use Rattle.std.proofs.Common.{◌≡◌, ◌<◌, ◌≤◌, ◌^◌, ℕ, ◌+◌, List, [], ◌∷◌, ◌++◌, length, append_assoc, append-nil, refl, sym, ap, ◌∙◌, subst, drop, drop-cons, add-one, Option, Some, codes}
+use Rattle.std.proofs.Common.{◌≡◌, ◌<◌, ◌≤◌, ◌^◌, ℕ, ◌+◌, List, [], ◌∷◌, ◌++◌, length, append_assoc, append-nil, refl, sym, ap, ◌∙◌, subst, drop, drop-cons}
+use Rattle.std.proofs.Common.{add-one, Option, Some, codes}
 use Rattle.std.specs.Prelude.{cond}
 use Rattle.std.proofs.lemmas.List.{drop_all}
 use Rattle.label_lattice.specs.Order.{Order, lattice_of}
@@ -17,9 +18,11 @@ module _ (order : Order) (o t : ℕ) (levels : List LevelRuns) (old : List ℕ) 
   none_put = record { is = refl }
 
   next_lines : (i : ℕ) → i < length levels →
-      level_lines order o t i (drop i levels) ≡ cond ((lattice_of order).flows i o) [] (level_line order t i (told_of levels i)) ++ level_lines order o t (i + 1) (drop (i + 1) levels)
+      level_lines order o t i (drop i levels) ≡ cond ((lattice_of order).flows i o) [] (level_line order t i (told_of levels i))
+          ++ level_lines order o t (i + 1) (drop (i + 1) levels)
   next_lines i lt =
-      ap (level_lines order o t i) (drop-cons levels i (record { mitigations = 0; first = 0 }) lt ∙ ap (λ n. told_of levels i ∷ drop n levels) (sym (add-one i)))
+      ap (level_lines order o t i) (drop-cons levels i (record { mitigations = 0; first = 0 }) lt
+          ∙ ap (λ n. told_of levels i ∷ drop n levels) (sym (add-one i)))
 
   -- one level more
   pub next_put : (i l : ℕ) (now new : List ℕ) → i < length levels → l ≡ i → LevelsPut order o t levels old i now →
@@ -35,7 +38,8 @@ module _ (order : Order) (o t : ℕ) (levels : List LevelRuns) (old : List ℕ) 
 
 -- the three lines of a count that is told
 pub count_put : (count : Option ℕ) (n b : ℕ) (old x y new : List ℕ) → count ≡ Some n → n ≤ 2 ^ b → ((c : ℕ) → n ≤ 2 ^ c → b ≤ c) →
-    x ≡ old ++ (number_text (codes "sharp ") n ++ codes "\n") → y ≡ x ++ (number_text (codes "bits ") b ++ codes "\n") → new ≡ y ++ (number_text (codes "guess at most ") n ++ codes " times as often\n") → SharpPut count old new
+    x ≡ old ++ (number_text (codes "sharp ") n ++ codes "\n") → y ≡ x ++ (number_text (codes "bits ") b ++ codes "\n")
+        → new ≡ y ++ (number_text (codes "guess at most ") n ++ codes " times as often\n") → SharpPut count old new
 count_put count n b old x y new is enough least e f g =
     let one = number_text (codes "sharp ") n ++ codes "\n" in
     let two = number_text (codes "bits ") b ++ codes "\n" in
@@ -43,11 +47,13 @@ count_put count n b old x y new is enough least e f g =
     subst (λ z. SharpPut z old new) (sym is) (
       one ++ (two ++ three),
       (b, record { enough = enough; least = least }, refl),
-      g ∙ ap (λ z. z ++ three) (f ∙ ap (λ z. z ++ two) e) ∙ ap (λ z. z ++ three) (append_assoc old one two) ∙ append_assoc old (one ++ two) three ∙ ap (λ z. old ++ z) (append_assoc one two three),
+      g ∙ ap (λ z. z ++ three) (f ∙ ap (λ z. z ++ two) e) ∙ ap (λ z. z ++ three) (append_assoc old one two) ∙ append_assoc old (one ++ two) three
+          ∙ ap (λ z. old ++ z) (append_assoc one two three),
     )
 
 -- the lines of the levels, and then those of the count
-pub bound_put : (order : Order) (o t : ℕ) (levels : List LevelRuns) (old x new : List ℕ) (count : Option ℕ) → x ≡ old ++ level_lines order o t 0 levels → count ≡ fitting (sharp_of t levels) → SharpPut count x new → BoundPut order o t levels old new
+pub bound_put : (order : Order) (o t : ℕ) (levels : List LevelRuns) (old x new : List ℕ) (count : Option ℕ) → x ≡ old ++ level_lines order o t 0 levels
+    → count ≡ fitting (sharp_of t levels) → SharpPut count x new → BoundPut order o t levels old new
 bound_put order o t levels old x new count e is put =
     let rest = put.0 in (
       level_lines order o t 0 levels ++ rest,

@@ -40,7 +40,8 @@ module _ (Rises : List ℕ → Type 0) (content : Content) (file starts : List �
   one_begin s u t x n m known kept one =
       one_in_lab (Begins Rises content file starts observer IsText) s u t x (λ y z. begins_one s u y z n m known kept one)
 
-  begin_done : (s : Status) (t : List ℕ) → CanBegin content file starts observer → (Rises file → ⊥) → (Rises starts → ⊥) → Begins Rises content file starts observer IsText s t → s ≡ status.Done
+  begin_done : (s : Status) (t : List ℕ) → CanBegin content file starts observer → (Rises file → ⊥) → (Rises starts → ⊥)
+      → Begins Rises content file starts observer IsText s t → s ≡ status.Done
   begin_done s t can n m h =
       compiles_go Rises content file observer (λ p q o. (ss : List StartValue) × StartsAre (content starts) p ss × ⊤) starts_next s t n can.known can.goes
       (λ p q o code image goes.

@@ -1,5 +1,6 @@
 -- The texts of runs, while they are written one after the other.
-use Rattle.std.proofs.Common.{◌≡◌, ◌<◌, ◌≤◌, ℕ, suc, ◌+◌, List, [], ◌∷◌, ◌++◌, length, map, take, drop, get_or, Option, sym, ap, ◌∙◌, subst, arith, add-one, append-nil, append_assoc}
+use Rattle.std.proofs.Common.{◌≡◌, ◌<◌, ◌≤◌, ℕ, suc, ◌+◌, List, [], ◌∷◌, ◌++◌, length, map, take, drop, get_or, Option, sym, ap, ◌∙◌, subst, arith, add-one}
+use Rattle.std.proofs.Common.{append-nil, append_assoc}
 use Rattle.std.proofs.lemmas.List.{drop-map, drop_all, length-take, take-append-drop}
 use Rattle.std.proofs.Math.Seq.{drop-cons, take-add}
 use Rattle.std.proofs.KnownBytes.{Appends-trans}
@@ -40,11 +41,13 @@ module _ {A : Type 0} (text : ℕ → A → List ℕ) where
         ∙ (ap (λ z. texts text (take i xs) ++ texts_from text (1 + length (take i xs)) z) (sym from)
         ∙ (sym (texts-append (take i xs) (drop i xs) 1) ∙ ap (texts text) (take-append-drop i xs)))
 
-    pub wrote_one : (old now new : Option (List ℕ)) → Appends old now (texts text (take i xs)) → Appends now new (text (i + 1) a) → Appends old new (texts text (take (i + 1) xs))
+    pub wrote_one : (old now new : Option (List ℕ)) → Appends old now (texts text (take i xs)) → Appends now new (text (i + 1) a)
+        → Appends old new (texts text (take (i + 1) xs))
     wrote_one old now new h k = subst (Appends old new) (sym one_more) (Appends-trans old now new (texts text (take i xs)) (text (i + 1) a) h k)
 
     -- a write failed in a text
-    pub broke_in : (old now new : Option (List ℕ)) → Appends old now (texts text (take i xs)) → AppendsPrefix now new (text (i + 1) a) → AppendsPrefix old new (texts text xs)
+    pub broke_in : (old now new : Option (List ℕ)) → Appends old now (texts text (take i xs)) → AppendsPrefix now new (text (i + 1) a)
+        → AppendsPrefix old new (texts text xs)
     broke_in old now new h k =
         let rest = texts_from text (i + 1 + 1) (drop (i + 1) xs) in
         prefix_after old now new (texts text (take i xs)) (text (i + 1) a ++ rest) (texts text xs) h (prefix_longer now new (text (i + 1) a) rest k) all_from

@@ -35,14 +35,16 @@ module _ {E : Type 0} (v : Env E) (made : Order → List Touch → E) (q : Label
   abbrev field_over : StartValue → List ℕ
   field_over s = seen_text q l (told_by (run_from v (lowered q).instrs t (start_of made q.program.order s)))
 
-  fields_of_views : (ss : List StartValue) → map field_over ss ≡ map (field_text q.program.declarations) (views (sequence_from v q l.number t) (starts_of made q.program.order ss))
+  fields_of_views : (ss : List StartValue)
+      → map field_over ss ≡ map (field_text q.program.declarations) (views (sequence_from v q l.number t) (starts_of made q.program.order ss))
   fields_of_views [] = refl
   fields_of_views (s ∷ ss) = ap (λ z. field_over s ∷ z) (fields_of_views ss)
 
   fields_few : (serves : Order → E → Type 0) → l.number < q.program.order.size → 0 < t
       → CutSound v q.program.order (serves q.program.order) (labels_of q) (levels_of q) (lowered q).instrs (plan_of q.program)
       → (ss : List StartValue) → Pairwise (AgreeFor v serves q l.number) (starts_of made q.program.order ss) → (same : List ℕ → List ℕ → Bool) → Tests same
-      → distinct_count same (map field_over ss) ≤ bound q.program.order l.number t (most_ended v (lowered q).instrs (relevant_for q l.number) t (starts_of made q.program.order ss))
+      → distinct_count same (map field_over ss) ≤ bound q.program.order l.number t
+      (most_ended v (lowered q).instrs (relevant_for q l.number) t (starts_of made q.program.order ss))
   fields_few serves low some sound ss agree same tests =
       let seqs = views (sequence_from v q l.number t) (starts_of made q.program.order ss) in
       let few = sound.few l.number low t some (starts_of made q.program.order ss) agree same_sequence tests_sequences in
@@ -53,7 +55,8 @@ module _ {E : Type 0} (v : Env E) (made : Order → List Touch → E) (q : Label
   -- with the bound of a report
   within_cut : (serves : Order → E → Type 0) → l.number < q.program.order.size → 0 < t
       → CutSound v q.program.order (serves q.program.order) (labels_of q) (levels_of q) (lowered q).instrs (plan_of q.program)
-      → (ss : List StartValue) (r : CutReport) → IsReport v serves q l.number t (starts_of made q.program.order ss) r → (same : List ℕ → List ℕ → Bool) → Tests same
+      → (ss : List StartValue) (r : CutReport) → IsReport v serves q l.number t (starts_of made q.program.order ss) r
+      → (same : List ℕ → List ℕ → Bool) → Tests same
       → distinct_count same (map field_over ss) ≤ r.measures.base ^ r.measures.exponent
   within_cut serves low some sound ss r is same tests =
       let seqs = views (sequence_from v q l.number t) (starts_of made q.program.order ss) in
@@ -67,14 +70,18 @@ pub fields_are_few : SpelledAreSound → FieldsAreFew
 fields_are_few sound words p q spelled types Flat t some l low ss agree same tests =
     fields_few flat_env flat_made q l t (λ order e. Unit {0}) (below p q l.number types low) some (sound words p q spelled types).flat.cut ss agree same tests
 fields_are_few sound words p q spelled types Part t some l low ss agree same tests =
-    fields_few (part_by_history q.program.order) history_made q l t AnyHistory (below p q l.number types low) some (sound words p q spelled types).part.cut ss agree same tests
+    fields_few (part_by_history q.program.order) history_made q l t AnyHistory (below p q l.number types low) some
+        (sound words p q spelled types).part.cut ss agree same tests
 fields_are_few sound words p q spelled types Part2 t some l low ss agree same tests =
-    fields_few (part2_by_history q.program.order) history_made q l t AnyHistory (below p q l.number types low) some (sound words p q spelled types).part2.cut ss agree same tests
+    fields_few (part2_by_history q.program.order) history_made q l t AnyHistory (below p q l.number types low) some
+        (sound words p q spelled types).part2.cut ss agree same tests
 
 pub fields_within_cut : SpelledAreSound → FieldsAreWithinCut
 fields_within_cut sound words p q spelled types Flat t some l low ss r is same tests =
     within_cut flat_env flat_made q l t (λ order e. Unit {0}) (below p q l.number types low) some (sound words p q spelled types).flat.cut ss r is same tests
 fields_within_cut sound words p q spelled types Part t some l low ss r is same tests =
-    within_cut (part_by_history q.program.order) history_made q l t AnyHistory (below p q l.number types low) some (sound words p q spelled types).part.cut ss r is same tests
+    within_cut (part_by_history q.program.order) history_made q l t AnyHistory (below p q l.number types low) some
+        (sound words p q spelled types).part.cut ss r is same tests
 fields_within_cut sound words p q spelled types Part2 t some l low ss r is same tests =
-    within_cut (part2_by_history q.program.order) history_made q l t AnyHistory (below p q l.number types low) some (sound words p q spelled types).part2.cut ss r is same tests
+    within_cut (part2_by_history q.program.order) history_made q l t AnyHistory (below p q l.number types low) some
+        (sound words p q spelled types).part2.cut ss r is same tests

@@ -18,7 +18,8 @@ filter_less : {X : Type 0} (p q : X → Bool) → ((x : X) → p x ≡ true → 
 filter_less p q f [] = omega arith
 filter_less p q f (x ∷ xs) = go (p x) (q x) refl refl (filter_less p q f xs)
   where
-    go : (b c : Bool) → p x ≡ b → q x ≡ c → length (filter p xs) ≤ length (filter q xs) → length (cond b (x ∷ filter p xs) (filter p xs)) ≤ length (cond c (x ∷ filter q xs) (filter q xs))
+    go : (b c : Bool) → p x ≡ b → q x ≡ c → length (filter p xs) ≤ length (filter q xs)
+        → length (cond b (x ∷ filter p xs) (filter p xs)) ≤ length (cond c (x ∷ filter q xs) (filter q xs))
     go true true e d h = omega (arith, h)
     go true false e d h = absurd (cc (f x e, d))
     go false true e d h = omega (arith, h)
@@ -52,18 +53,23 @@ module _ {V W : Type 0} (f : V → W) (same : V → V → Bool) (same' : W → W
 
   module _ (p : W → Bool) (v : V) (vs : List V) where
     rest : ((r : W → Bool) → length (filter r (distinct same' (map f vs))) ≤ length (filter (λ v. r (f v)) (distinct same vs)))
-        → length (filter p (filter (λ w. not (same' (f v) w)) (distinct same' (map f vs)))) ≤ length (filter (λ v. p (f v)) (filter (λ y. not (same v y)) (distinct same vs)))
+        → length (filter p (filter (λ w. not (same' (f v) w)) (distinct same' (map f vs)))) ≤ length
+        (filter (λ v. p (f v)) (filter (λ y. not (same v y)) (distinct same vs)))
     rest few =
         let one = ap length (filter_both p (λ w. not (same' (f v) w)) (distinct same' (map f vs))) in
         let two = few (λ w. not (same' (f v) w) && p w) in
         let three = filter_less (λ y. not (same' (f v) (f y)) && p (f y)) (λ y. not (same v y) && p (f y))
-        (λ y e. both_true (not (same v y)) (p (f y)) (apart v y (both_first (not (same' (f v) (f y))) (p (f y)) e)) (both_second (not (same' (f v) (f y))) (p (f y)) e)) (distinct same vs) in
+        (λ y e. both_true (not (same v y)) (p (f y)) (apart v y (both_first (not (same' (f v) (f y))) (p (f y)) e))
+            (both_second (not (same' (f v) (f y))) (p (f y)) e)) (distinct same vs) in
         let four = ap length (filter_both (λ v. p (f v)) (λ y. not (same v y)) (distinct same vs)) in
         omega (arith, one, two, three, four)
 
-    with_first : (b : Bool) → length (filter p (filter (λ w. not (same' (f v) w)) (distinct same' (map f vs)))) ≤ length (filter (λ v. p (f v)) (filter (λ y. not (same v y)) (distinct same vs)))
-        → length (cond b (f v ∷ filter p (filter (λ w. not (same' (f v) w)) (distinct same' (map f vs)))) (filter p (filter (λ w. not (same' (f v) w)) (distinct same' (map f vs)))))
-        ≤ length (cond b (v ∷ filter (λ v. p (f v)) (filter (λ y. not (same v y)) (distinct same vs))) (filter (λ v. p (f v)) (filter (λ y. not (same v y)) (distinct same vs))))
+    with_first : (b : Bool) → length (filter p (filter (λ w. not (same' (f v) w)) (distinct same' (map f vs)))) ≤ length
+        (filter (λ v. p (f v)) (filter (λ y. not (same v y)) (distinct same vs)))
+        → length (cond b (f v ∷ filter p (filter (λ w. not (same' (f v) w)) (distinct same' (map f vs))))
+        (filter p (filter (λ w. not (same' (f v) w)) (distinct same' (map f vs)))))
+        ≤ length (cond b (v ∷ filter (λ v. p (f v)) (filter (λ y. not (same v y)) (distinct same vs)))
+            (filter (λ v. p (f v)) (filter (λ y. not (same v y)) (distinct same vs))))
     with_first true h = omega (arith, h)
     with_first false h = h
 

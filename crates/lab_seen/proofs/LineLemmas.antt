@@ -13,7 +13,10 @@ module _ (head number field : List ℕ) (is : head ≡ number ++ codes "\t") whe
   broke_head a b h = subst (AppendsPrefix a b) whole (prefix_longer a b head (field ++ codes "\n") h)
 
   pub broke_field : (a b c : Option (List ℕ)) → Appends a b head → AppendsPrefix b c field → AppendsPrefix a c (number ++ (codes "\t" ++ (field ++ codes "\n")))
-  broke_field a b c h k = prefix_after a b c head (field ++ codes "\n") (number ++ (codes "\t" ++ (field ++ codes "\n"))) h (prefix_longer b c field (codes "\n") k) whole
+  broke_field a b c h k = prefix_after a b c head (field ++ codes "\n") (number ++ (codes "\t" ++ (field ++ codes "\n"))) h
+      (prefix_longer b c field (codes "\n") k) whole
 
-  pub broke_end : (a b c d : Option (List ℕ)) → Appends a b head → Appends b c field → AppendsPrefix c d (codes "\n") → AppendsPrefix a d (number ++ (codes "\t" ++ (field ++ codes "\n")))
-  broke_end a b c d h k q = prefix_after a c d (head ++ field) (codes "\n") (number ++ (codes "\t" ++ (field ++ codes "\n"))) (Appends-trans a b c head field h k) q (append_assoc head field (codes "\n") ∙ whole)
+  pub broke_end : (a b c d : Option (List ℕ)) → Appends a b head → Appends b c field → AppendsPrefix c d (codes "\n")
+      → AppendsPrefix a d (number ++ (codes "\t" ++ (field ++ codes "\n")))
+  broke_end a b c d h k q = prefix_after a c d (head ++ field) (codes "\n") (number ++ (codes "\t" ++ (field ++ codes "\n")))
+      (Appends-trans a b c head field h k) q (append_assoc head field (codes "\n") ∙ whole)

@@ -11,7 +11,8 @@ use Rattle.tool_stages.proofs.OneLemmas.{Same}
 use Rattle.lab_runs.proofs.BeginLemmas.{one_begin}
 use Rattle.lab_seen.specs.Seen.{AreLines, IsSeen}
 
-one_text : (e : EnvName) (budget : ℕ) (q : LabelledProgram) (o : Option Label) (code : Code) (ss : List StartValue) (y z : List ℕ) → AreLines e budget q o code ss y → AreLines e budget q o code ss z → y ≡ z
+one_text : (e : EnvName) (budget : ℕ) (q : LabelledProgram) (o : Option Label) (code : Code) (ss : List StartValue) (y z : List ℕ)
+    → AreLines e budget q o code ss y → AreLines e budget q o code ss z → y ≡ z
 one_text e budget q None code ss y z h k = absurd h
 one_text e budget q (Some l) code ss y z h k = h ∙ sym k
 

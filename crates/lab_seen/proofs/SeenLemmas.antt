@@ -28,13 +28,18 @@ module _ (Rises : List ℕ → Type 0) (content : Content) (file starts observer
   next p q o code ss s t = (s ≡ status.Done) × AreLines e budget q o code ss t
 
   -- what stops before the runs
-  pub seen_stops : (old new : Option (List ℕ)) (stop : Stop) (r : Status) → IsStop (PrepareStops Rises content file observer (Rises starts) (content starts)) stop
-      → (r ≢ status.WriteFault → (r ≡ status_of stop) × Appends old new (lab_text (status_of stop) (stop_text stop))) → (r ≡ status.WriteFault → AppendsPrefix old new (lab_text (status_of stop) (stop_text stop)))
+  pub seen_stops : (old new : Option (List ℕ)) (stop : Stop) (r : Status)
+      → IsStop (PrepareStops Rises content file observer (Rises starts) (content starts)) stop
+      → (r ≢ status.WriteFault → (r ≡ status_of stop) × Appends old new (lab_text (status_of stop) (stop_text stop)))
+      → (r ≡ status.WriteFault → AppendsPrefix old new (lab_text (status_of stop) (stop_text stop)))
       → EndsBy old new (SeenBefore content file starts observer e budget) (IsSeen Rises content file starts observer e budget) r
   seen_stops old new stop r h told prefix =
-      ends_finish old new (SeenBefore content file starts observer e budget) (IsSeen Rises content file starts observer e budget) (status_of stop) (lab_text (status_of stop) (stop_text stop)) r
-      (stop_in_lab (SeenBefore content file starts observer e budget) (PrepareStops Rises content file observer (Rises starts) (content starts)) (Begins Rises content file starts (Some observer) (AreLines e budget)) stop (inl refl)
-      (λ u. prepares_map Rises content file observer (Rises starts) (content starts) (λ p q o code ss. NoMore) next (status_of stop) u (λ p q o code ss n. absurd n)) h)
+      ends_finish old new (SeenBefore content file starts observer e budget) (IsSeen Rises content file starts observer e budget) (status_of stop)
+          (lab_text (status_of stop) (stop_text stop)) r
+      (stop_in_lab (SeenBefore content file starts observer e budget) (PrepareStops Rises content file observer (Rises starts) (content starts))
+          (Begins Rises content file starts (Some observer) (AreLines e budget)) stop (inl refl)
+      (λ u. prepares_map Rises content file observer (Rises starts) (content starts) (λ p q o code ss. NoMore) next (status_of stop) u
+          (λ p q o code ss n. absurd n)) h)
       told prefix
 
   module _ (q : LabelledProgram) (l : Label) (code : Code) (ss : List StartValue) (h : IsPrepared content file observer (content starts) q l code ss) where
@@ -45,11 +50,13 @@ module _ (Rises : List ℕ → Type 0) (content : Content) (file starts observer
     answer = (lines, prepared_goes Rises content file observer (Rises starts) (content starts) q l code ss next status.Done lines h (refl, refl), refl)
 
     -- all lines are written
-    pub seen_done : (old new : Option (List ℕ)) → Appends old new lines → EndsBy old new (SeenBefore content file starts observer e budget) (IsSeen Rises content file starts observer e budget) status.Done
+    pub seen_done : (old new : Option (List ℕ)) → Appends old new lines
+        → EndsBy old new (SeenBefore content file starts observer e budget) (IsSeen Rises content file starts observer e budget) status.Done
     seen_done old new w = (lines, answer, w)
 
     -- a write failed
-    pub seen_broke : (old new : Option (List ℕ)) → AppendsPrefix old new lines → EndsBy old new (SeenBefore content file starts observer e budget) (IsSeen Rises content file starts observer e budget) status.WriteFault
+    pub seen_broke : (old new : Option (List ℕ)) → AppendsPrefix old new lines
+        → EndsBy old new (SeenBefore content file starts observer e budget) (IsSeen Rises content file starts observer e budget) status.WriteFault
     seen_broke old new w = (status.Done, lines, answer, w)
 
     -- memory was wanting after some lines
@@ -58,5 +65,7 @@ module _ (Rises : List ℕ → Type 0) (content : Content) (file starts observer
         → EndsBy old new (SeenBefore content file starts observer e budget) (IsSeen Rises content file starts observer e budget) r
     seen_short old mid new r some told prefix =
         let few = texts (line_in e budget q l code) (take some.runs ss) in
-        ends_after old mid new (SeenBefore content file starts observer e budget) (IsSeen Rises content file starts observer e budget) few status.Memory memory_line r some.written
-        (few, inr (record { labelled = q; observed = Some l; code = code; compiled = h.compiled; all = ss; given = h.starts; runs = some.runs; told = refl }), refl) told prefix
+        ends_after old mid new (SeenBefore content file starts observer e budget) (IsSeen Rises content file starts observer e budget) few
+            status.Memory memory_line r some.written
+        (few, inr (record { labelled = q; observed = Some l; code = code; compiled = h.compiled; all = ss; given = h.starts; runs = some.runs; told = refl }),
+            refl) told prefix

@@ -1,5 +1,6 @@
 -- Where a walk over starts stands: the lines of the runs so far, and what is counted of them.
-use Rattle.std.proofs.Common.{◌≡◌, ◌<◌, ◌≤◌, ◌^◌, ℕ, zero, suc, ◌+◌, List, [], ◌∷◌, ◌++◌, length, take, drop, replicate, Option, refl, sym, ap, ◌∙◌, subst, arith, append-nil}
+use Rattle.std.proofs.Common.{◌≡◌, ◌<◌, ◌≤◌, ◌^◌, ℕ, zero, suc, ◌+◌, List, [], ◌∷◌, ◌++◌, length, take, drop, replicate, Option, refl, sym, ap, ◌∙◌, subst}
+use Rattle.std.proofs.Common.{arith, append-nil}
 use Rattle.std.specs.Io.KnownBytes.{Appends}
 use Rattle.std.specs.List.{AllZip}
 use Rattle.std.specs.Prelude.{Bool, true, false, cond, leb, not, ◌&&◌, slice_index_or}
@@ -48,7 +49,8 @@ module _ {E : Type 0} (v : Env E) (code : Code) (t : ℕ) where
   run_steps zero x = (0, refl)
   run_steps (suc k) x = goes (leb (step v code.instrs x).core.clock t && not x.halted) (run_steps k (step v code.instrs x))
     where
-      goes : (b : Bool) → ((j : ℕ) × (run_for v code.instrs t k (step v code.instrs x) ≡ steps v code.instrs j (step v code.instrs x))) → (j : ℕ) × (cond b (run_for v code.instrs t k (step v code.instrs x)) x ≡ steps v code.instrs j x)
+      goes : (b : Bool) → ((j : ℕ) × (run_for v code.instrs t k (step v code.instrs x) ≡ steps v code.instrs j (step v code.instrs x)))
+          → (j : ℕ) × (cond b (run_for v code.instrs t k (step v code.instrs x)) x ≡ steps v code.instrs j x)
       goes true h = (suc h.0, h.1)
       goes false h = (0, refl)
 
@@ -59,32 +61,39 @@ module _ {E : Type 0} (v : Env E) (code : Code) (t : ℕ) where
       let h = run_steps t x in
       (moments v code.instrs h.0 x, record { count = h.0; ends = sym h.1; tells = refl })
 
-  module _ (s : Start E) (q : LabelledProgram) (o : Option Label) (number : ℕ) (old mid new : Option (List ℕ)) (head : List ℕ) (is : head ≡ run_text number) where
+  module _ (s : Start E) (q : LabelledProgram) (o : Option Label) (number : ℕ) (old mid new : Option (List ℕ)) (head : List ℕ)
+      (is : head ≡ run_text number) where
     -- a write failed in the first line
     pub head_breaks : AppendsPrefix old new head → BreaksRun v code t s q o number old new
     head_breaks h =
         let run = has_timeline s in
         let end = end_of_run v code.instrs t s in
-        record { moments = run.0; timeline = run.1; written = prefix_longer old new (run_text number) (timeline_text q o run.0 end) (subst (AppendsPrefix old new) is h) }
+        record { moments = run.0; timeline = run.1; written =
+            prefix_longer old new (run_text number) (timeline_text q o run.0 end) (subst (AppendsPrefix old new) is h) }
 
     -- or after it
-    pub rest_breaks : (from : Start E) → from ≡ s → Appends old mid head → PrintedPart v code.instrs t from q o mid new → BreaksRun v code t s q o number old new
+    pub rest_breaks : (from : Start E) → from ≡ s → Appends old mid head → PrintedPart v code.instrs t from q o mid new
+        → BreaksRun v code t s q o number old new
     rest_breaks from same h part =
         let at : PrintedPart v code.instrs t s q o mid new = subst (λ (z : Start E). PrintedPart v code.instrs t z q o mid new) same part in
         record {
           moments = at.moments;
           timeline = at.timeline;
-          written = prefix_after old mid new (run_text number) (timeline_text q o at.moments (end_of_run v code.instrs t s)) (run_lines q o number (timed_by v code t s at.moments)) (subst (Appends old mid) is h) at.written refl;
+          written = prefix_after old mid new (run_text number) (timeline_text q o at.moments (end_of_run v code.instrs t s))
+              (run_lines q o number (timed_by v code t s at.moments)) (subst (Appends old mid) is h) at.written refl;
         }
 
     -- all of them are written
-    pub run_written : (from : Start E) (tallies more : List Tally) → from ≡ s → Appends old mid head → Printed v code.instrs t from q o mid new tallies more → WritesRun v code t s q o number old new tallies more
+    pub run_written : (from : Start E) (tallies more : List Tally) → from ≡ s → Appends old mid head → Printed v code.instrs t from q o mid new tallies more
+        → WritesRun v code t s q o number old new tallies more
     run_written from tallies more same h printed =
-        let at : Printed v code.instrs t s q o mid new tallies more = subst (λ (z : Start E). Printed v code.instrs t z q o mid new tallies more) same printed in
+        let at : Printed v code.instrs t s q o mid new tallies more =
+            subst (λ (z : Start E). Printed v code.instrs t z q o mid new tallies more) same printed in
         record {
           moments = at.moments;
           timeline = at.timeline;
-          written = Appends-trans old mid new (run_text number) (timeline_text q o at.moments (end_of_run v code.instrs t s)) (subst (Appends old mid) is h) at.written;
+          written = Appends-trans old mid new (run_text number) (timeline_text q o at.moments (end_of_run v code.instrs t s))
+              (subst (Appends old mid) is h) at.written;
           tallied = at.tallied;
         }
 
@@ -115,7 +124,8 @@ module _ (e : EnvName) (t : ℕ) (q : LabelledProgram) (o : Option Label) (code 
       timed = tt;
       written = Appends-nil old;
       tallied = record { each = nothing };
-      counted = λ k d lt. (let z = ap (λ y. y.ended) (nothing k d lt) in omega (arith, z), let y = ap (λ y. y.ended) (nothing k d lt) in let z = ap (λ y. y.missed) (nothing k d lt) in omega (arith, y, z));
+      counted = λ k d lt. (let z = ap (λ y. y.ended) (nothing k d lt) in omega (arith, z), let y = ap (λ y. y.ended) (nothing k d lt) in let z =
+          ap (λ y. y.missed) (nothing k d lt) in omega (arith, y, z));
       count = many;
     }
 
@@ -134,22 +144,28 @@ module _ (e : EnvName) (t : ℕ) (q : LabelledProgram) (o : Option Label) (code 
         let short = length-take i ss in
         omega (arith, long, short, lt)
 
-    timed_more : (runs : List Timed) (run : Timed) → AllZip (IsTimed e t q.program.order code) (take i ss) runs → IsTimed e t q.program.order code s run → AllZip (IsTimed e t q.program.order code) (take (i + 1) ss) (runs ++ run ∷ [])
+    timed_more : (runs : List Timed) (run : Timed) → AllZip (IsTimed e t q.program.order code) (take i ss) runs → IsTimed e t q.program.order code s run
+        → AllZip (IsTimed e t q.program.order code) (take (i + 1) ss) (runs ++ run ∷ [])
     timed_more runs run zip is =
-        subst (λ z. AllZip (IsTimed e t q.program.order code) z (runs ++ run ∷ [])) (sym (take_one ss i s from)) (zip_last (IsTimed e t q.program.order code) (take i ss) runs s run zip is)
+        subst (λ z. AllZip (IsTimed e t q.program.order code) z (runs ++ run ∷ [])) (sym (take_one ss i s from))
+            (zip_last (IsTimed e t q.program.order code) (take i ss) runs s run zip is)
 
-    texts_more : (runs : List Timed) (run : Timed) → AllZip (IsTimed e t q.program.order code) (take i ss) runs → texts (run_lines q o) runs ++ run_lines q o (i + 1) run ≡ texts (run_lines q o) (runs ++ run ∷ [])
+    texts_more : (runs : List Timed) (run : Timed) → AllZip (IsTimed e t q.program.order code) (take i ss) runs
+        → texts (run_lines q o) runs ++ run_lines q o (i + 1) run ≡ texts (run_lines q o) (runs ++ run ∷ [])
     texts_more runs run zip = ap (λ n. texts (run_lines q o) runs ++ run_lines q o n run) (sym (place runs zip)) ∙ sym (texts_last (run_lines q o) runs run)
 
-    module _ {E : Type 0} (v : Env E) (at : Start E) (named : (ms : List Moment) → IsTimeline v code.instrs t at ms → IsTimed e t q.program.order code s (timed_by v code t at ms)) where
-      pub walking_next : (old now new : Option (List ℕ)) (tallies more : List Tally) → Walking i old now tallies → WritesRun v code t at q o (i + 1) now new tallies more → Grown t tallies more → t ≤ 2 ^ 40
+    module _ {E : Type 0} (v : Env E) (at : Start E) (named : (ms : List Moment) → IsTimeline v code.instrs t at ms
+        → IsTimed e t q.program.order code s (timed_by v code t at ms)) where
+      pub walking_next : (old now new : Option (List ℕ)) (tallies more : List Tally) → Walking i old now tallies
+          → WritesRun v code t at q o (i + 1) now new tallies more → Grown t tallies more → t ≤ 2 ^ 40
           → Walking (i + 1) old new more
       walking_next old now new tallies more h w g few =
           let run = timed_by v code t at w.moments in
           record {
             runs = h.runs ++ run ∷ [];
             timed = timed_more h.runs run h.timed (named w.moments w.timeline);
-            written = subst (Appends old new) (texts_more h.runs run h.timed) (Appends-trans old now new (texts (run_lines q o) h.runs) (run_lines q o (i + 1) run) h.written w.written);
+            written = subst (Appends old new) (texts_more h.runs run h.timed)
+                (Appends-trans old now new (texts (run_lines q o) h.runs) (run_lines q o (i + 1) run) h.written w.written);
             tallied = subst (λ z. AreTallies z more) (sym (moments_last h.runs run)) (w.tallied (all_moments h.runs) h.tallied);
             counted = λ k d low.
                 let fit = g.fit in
@@ -163,14 +179,16 @@ module _ (e : EnvName) (t : ℕ) (q : LabelledProgram) (o : Option Label) (code 
           }
 
       -- a write failed in its lines
-      pub walking_breaks : (old now new : Option (List ℕ)) (tallies : List Tally) → Walking i old now tallies → BreaksRun v code t at q o (i + 1) now new → BreaksFew e t q o code ss old new
+      pub walking_breaks : (old now new : Option (List ℕ)) (tallies : List Tally) → Walking i old now tallies → BreaksRun v code t at q o (i + 1) now new
+          → BreaksFew e t q o code ss old new
       walking_breaks old now new tallies h w =
           let run = timed_by v code t at w.moments in
           record {
             count = i + 1;
             text = texts (run_lines q o) (h.runs ++ run ∷ []);
             runs = record { runs = h.runs ++ run ∷ []; timed = timed_more h.runs run h.timed (named w.moments w.timeline); text = refl };
-            written = prefix_after old now new (texts (run_lines q o) h.runs) (run_lines q o (i + 1) run) (texts (run_lines q o) (h.runs ++ run ∷ [])) h.written w.written (texts_more h.runs run h.timed);
+            written = prefix_after old now new (texts (run_lines q o) h.runs) (run_lines q o (i + 1) run) (texts (run_lines q o) (h.runs ++ run ∷ [])) h.written
+                w.written (texts_more h.runs run h.timed);
           }
 
   -- memory was wanting before a run
@@ -186,7 +204,8 @@ module _ (e : EnvName) (t : ℕ) (q : LabelledProgram) (o : Option Label) (code 
   none_written old = record { count = 0; text = []; runs = record { runs = []; timed = tt; text = refl }; written = Appends-nil old }
 
   -- after the last run
-  pub walking_ends : (i : ℕ) (old now : Option (List ℕ)) (tallies : List Tally) → Walking i old now tallies → length ss ≤ i → WritesRuns e t q o code ss old now tallies
+  pub walking_ends : (i : ℕ) (old now : Option (List ℕ)) (tallies : List Tally) → Walking i old now tallies → length ss ≤ i
+      → WritesRuns e t q o code ss old now tallies
   walking_ends i old now tallies h le = record {
     runs = h.runs;
     timed = subst (λ z. AllZip (IsTimed e t q.program.order code) z h.runs) (take_end ss i le) h.timed;
@@ -195,7 +214,8 @@ module _ (e : EnvName) (t : ℕ) (q : LabelledProgram) (o : Option Label) (code 
   }
 
   -- the lines of the mitigates after those of the runs
-  module _ (old now new : Option (List ℕ)) (tallies : List Tally) (h : WritesRuns e t q o code ss old now tallies) (count : length tallies ≡ mitigates (plan_of q.program)) where
+  module _ (old now new : Option (List ℕ)) (tallies : List Tally) (h : WritesRuns e t q o code ss old now tallies)
+      (count : length tallies ≡ mitigates (plan_of q.program)) where
     are_all : AreTimelines e t q o code ss (texts (run_lines q o) h.runs ++ summary_text (places (plan_of q.program)) tallies)
     are_all = record { runs = h.runs; timed = h.timed; tallies = tallies; count = count; tallied = h.tallied; text = refl }
 
@@ -210,5 +230,6 @@ module _ (e : EnvName) (t : ℕ) (q : LabelledProgram) (o : Option Label) (code 
     all_broken k = record {
       text = texts (run_lines q o) h.runs ++ summary_text (places (plan_of q.program)) tallies;
       timelines = are_all;
-      written = prefix_after old now new (texts (run_lines q o) h.runs) (summary_text (places (plan_of q.program)) tallies) (texts (run_lines q o) h.runs ++ summary_text (places (plan_of q.program)) tallies) h.written k refl;
+      written = prefix_after old now new (texts (run_lines q o) h.runs) (summary_text (places (plan_of q.program)) tallies) (texts (run_lines q o) h.runs
+          ++ summary_text (places (plan_of q.program)) tallies) h.written k refl;
     }

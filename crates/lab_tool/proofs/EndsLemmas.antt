@@ -17,7 +17,8 @@ use Rattle.lab_tool.specs.Complete.{CanEnd, IsDoneIf, Names, NoneRises}
 use Rattle.lab_tool.proofs.WhyLemmas.{origin_ends, why_ends}
 
 -- a call whose answer has one status, and whose writes do not fail
-ends_as : (old new : Option (List ℕ)) (Before : List ℕ → Type 0) (A : Status → List ℕ → Type 0) (r e : Status) → EndsBy old new Before A r → (r ≡ status.WriteFault → ⊥) → ((t : List ℕ) → A r t → r ≡ e) → (r ≡ e) ⊎ (r ≡ status.Memory)
+ends_as : (old new : Option (List ℕ)) (Before : List ℕ → Type 0) (A : Status → List ℕ → Type 0) (r e : Status) → EndsBy old new Before A r
+    → (r ≡ status.WriteFault → ⊥) → ((t : List ℕ) → A r t → r ≡ e) → (r ≡ e) ⊎ (r ≡ status.Memory)
 ends_as old new Before A status.Done e h n f = inl (f h.0 h.1)
 ends_as old new Before A status.Refused e h n f = inl (f h.0 h.1)
 ends_as old new Before A status.Syntax e h n f = inl (f h.0 h.1)
@@ -53,21 +54,25 @@ pub completes : (old new : Option (List ℕ)) (Rises : List ℕ → Type 0) (con
     → (e : Status) → CanEnd content a e → NoneRises Rises a → (Rose → ⊥) → (r ≡ e) ⊎ (r ≡ status.Memory)
 completes old new Rises content (why file None) r Rose ends write e can none n =
     let k = first_file Rises content file [] none can.known in
-    ends_as old new (Before content (why file None)) (IsAnswer Rises content (why file None)) r e ends (λ f. n (write f)) (λ t h. why_ends Rises content file r e t k.0 k.1 can.goes h)
+    ends_as old new (Before content (why file None)) (IsAnswer Rises content (why file None)) r e ends (λ f. n (write f))
+        (λ t h. why_ends Rises content file r e t k.0 k.1 can.goes h)
 completes old new Rises content (why file (Some name)) r Rose ends write e can none n =
     let k = first_file Rises content file [] none can.known in
     done_if (Names (content file) name) r e can.goes (λ goes.
-    ends_as old new (Before content (why file (Some name))) (IsAnswer Rises content (why file (Some name))) r status.Done ends (λ f. n (write f)) (λ t h. origin_ends Rises content file name r t k.0 k.1 goes h))
+    ends_as old new (Before content (why file (Some name))) (IsAnswer Rises content (why file (Some name))) r status.Done ends (λ f. n (write f))
+        (λ t h. origin_ends Rises content file name r t k.0 k.1 goes h))
 completes old new Rises content (seen file starts observer env budget) r Rose ends write e can none n =
     let k = first_file Rises content file (starts ∷ []) none can.known in
     let m = second_file Rises content file starts [] none can.known in
     done_if (CanBegin content file starts (Some observer)) r e can.goes (λ goes.
-    begin_completes Rises content file starts (Some observer) (AreLines env budget) old new (SeenBefore content file starts observer env budget) r Rose ends write goes k.0 m.0 n)
+    begin_completes Rises content file starts (Some observer) (AreLines env budget) old new (SeenBefore content file starts observer env budget) r
+        Rose ends write goes k.0 m.0 n)
 completes old new Rises content (timeline file starts observer env budget) r Rose ends write e can none n =
     let k = first_file Rises content file (starts ∷ []) none can.known in
     let m = second_file Rises content file starts [] none can.known in
     done_if (CanBegin content file starts observer) r e can.goes (λ goes.
-    begin_completes Rises content file starts observer (AreTimelines env budget) old new (TimelinesBefore content file starts observer env budget) r Rose ends write goes k.0 m.0 n)
+    begin_completes Rises content file starts observer (AreTimelines env budget) old new (TimelinesBefore content file starts observer env budget) r
+        Rose ends write goes k.0 m.0 n)
 completes old new Rises content (bound file starts observer env budget) r Rose ends write e can none n =
     let k = first_file Rises content file (starts ∷ []) none can.known in
     let m = second_file Rises content file starts [] none can.known in

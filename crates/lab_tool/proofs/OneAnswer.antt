@@ -35,7 +35,8 @@ then_status Stops Gives Next s u t x stop not one next (inr h) (inr k) =
 
 -- a program that a file holds, and one status after it
 reads_status : (R : Type 0) (c : Option (Option (List ℕ))) (Next : Syntax → Status → List ℕ → Type 0) (s u : Status) (t x : List ℕ) → (R → ⊥) → IsKnown c
-    → ((p : Syntax) → Next p s t → Next p u x → s ≡ u) → Then (ProgramStops R c) (Reads c) (λ p. Next p) s t → Then (ProgramStops R c) (Reads c) (λ p. Next p) u x → s ≡ u
+    → ((p : Syntax) → Next p s t → Next p u x → s ≡ u) → Then (ProgramStops R c) (Reads c) (λ p. Next p) s t
+    → Then (ProgramStops R c) (Reads c) (λ p. Next p) u x → s ≡ u
 reads_status R c Next s u t x n known next =
     then_status (ProgramStops R c) (Reads c) (λ p. Next p) s u t x (λ h k. (one_program_stop c known R s u t x n h k).0)
     (λ p v y reads h. program_goes R c p v y n known reads h) (one_program c known) next
@@ -59,16 +60,21 @@ origin_status c p w s u t x (inl h) (inr k) = absurd (none-some k.0 (sym (name_s
 origin_status c p w s u t x (inr h) (inl k) = absurd (none-some h.0 (sym (name_stops p w u x k).1 ∙ h.1))
 origin_status c p w s u t x (inr h) (inr k) = h.2.0 ∙ sym k.2.0
 
-pub answers_one : (content : Content) (before now : List ℕ → ℕ) (a : Asked) (s u : Status) (t x : List ℕ) → AreKnown content a → NoneRises (λ name. Rose (before name) (now name)) a
-    → IsAnswer (λ name. Rose (before name) (now name)) content a s t → IsAnswer (λ name. Rose (before name) (now name)) content a u x → (s ≡ u) × (HasOneText a → t ≡ x)
+pub answers_one : (content : Content) (before now : List ℕ → ℕ) (a : Asked) (s u : Status) (t x : List ℕ) → AreKnown content a
+    → NoneRises (λ name. Rose (before name) (now name)) a
+    → IsAnswer (λ name. Rose (before name) (now name)) content a s t → IsAnswer (λ name. Rose (before name) (now name)) content a u x
+    → (s ≡ u) × (HasOneText a → t ≡ x)
 answers_one content before now (why file None) s u t x known none h k =
     let rises = λ (name : List ℕ). Rose (before name) (now name) in
     let good = first_file rises content file [] none known in
-    (reads_status (rises file) (content file) (λ p. Then (ReasonStops (content file) p) (Types p) (λ q. IsAccepted p)) s u t x good.0 good.1 (λ p. reason_status (content file) p s u t x) h k, λ e. absurd e)
+    (reads_status (rises file) (content file) (λ p. Then (ReasonStops (content file) p) (Types p) (λ q. IsAccepted p)) s u t x good.0 good.1
+        (λ p. reason_status (content file) p s u t x) h k, λ e. absurd e)
 answers_one content before now (why file (Some name)) s u t x known none h k =
     let rises = λ (name : List ℕ). Rose (before name) (now name) in
     let good = first_file rises content file [] none known in (
-      reads_status (rises file) (content file) (λ p. Then (NameStops p name) (λ spot. named p name ≡ Some spot) (λ spot s t. (s ≡ Done) × HasOrigins (content file) p name spot t)) s u h.0 k.0 good.0 good.1
+      reads_status (rises file) (content file)
+          (λ p. Then (NameStops p name) (λ spot. named p name ≡ Some spot) (λ spot s t. (s ≡ Done) × HasOrigins (content file) p name spot t)) s u h.0 k.0
+          good.0 good.1
           (λ p. origin_status (content file) p name s u h.0 k.0) h.1 k.1,
       λ e. absurd e,
     )

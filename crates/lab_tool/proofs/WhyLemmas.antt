@@ -46,25 +46,32 @@ is_typable p q k =
     (q.labels, k.least.labels, subst HasType (same_labelled q.program p q.labels q.labels program refl) k.typed)
 
 -- a typable program is accepted
-accepted_ends : (c : Option (Option (List ℕ))) (p : Syntax) (s : Status) (t : List ℕ) → IsTypable p → Then (ReasonStops c p) (Types p) (λ q. IsAccepted p) s t → s ≡ status.Done
+accepted_ends : (c : Option (Option (List ℕ))) (p : Syntax) (s : Status) (t : List ℕ) → IsTypable p
+    → Then (ReasonStops c p) (Types p) (λ q. IsAccepted p) s t → s ≡ status.Done
 accepted_ends c p s t can (inl h) =
     let stop = reason_stops c p s t h in
     absurd (stop.1.refused.none can.0 can.1 can.2)
 accepted_ends c p s t can (inr h) = h.2.0
 
 -- any other one is refused
-refused_ends : (c : Option (Option (List ℕ))) (p : Syntax) (s : Status) (t : List ℕ) → (IsTypable p → ⊥) → Then (ReasonStops c p) (Types p) (λ q. IsAccepted p) s t → s ≡ status.Refused
+refused_ends : (c : Option (Option (List ℕ))) (p : Syntax) (s : Status) (t : List ℕ) → (IsTypable p → ⊥)
+    → Then (ReasonStops c p) (Types p) (λ q. IsAccepted p) s t → s ≡ status.Refused
 refused_ends c p s t not (inl h) = (reason_stops c p s t h).0
 refused_ends c p s t not (inr h) = absurd (not (is_typable p h.0 h.1))
 
-pub why_ends : (Rises : List ℕ → Type 0) (content : Content) (file : List ℕ) (s e : Status) (t : List ℕ) → (Rises file → ⊥) → IsKnown (content file) → WhyGoes (content file) e
+pub why_ends : (Rises : List ℕ → Type 0) (content : Content) (file : List ℕ) (s e : Status) (t : List ℕ) → (Rises file → ⊥)
+    → IsKnown (content file) → WhyGoes (content file) e
     → IsWhyAnswer Rises content file s t → s ≡ e
 why_ends Rises content file s status.Done t n known goes h =
-    then_ends (ProgramStops (Rises file) (content file)) (Reads (content file)) (λ p. Then (ReasonStops (content file) p) (Types p) (λ q. IsAccepted p)) s status.Done t
-    goes.0 goes.1 (one_program (content file) known) (program_goes (Rises file) (content file) goes.0 s t n known goes.1) (accepted_ends (content file) goes.0 s t goes.2) h
+    then_ends (ProgramStops (Rises file) (content file)) (Reads (content file))
+        (λ p. Then (ReasonStops (content file) p) (Types p) (λ q. IsAccepted p)) s status.Done t
+    goes.0 goes.1 (one_program (content file) known) (program_goes (Rises file) (content file) goes.0 s t n known goes.1)
+        (accepted_ends (content file) goes.0 s t goes.2) h
 why_ends Rises content file s status.Refused t n known goes h =
-    then_ends (ProgramStops (Rises file) (content file)) (Reads (content file)) (λ p. Then (ReasonStops (content file) p) (Types p) (λ q. IsAccepted p)) s status.Refused t
-    goes.0 goes.1 (one_program (content file) known) (program_goes (Rises file) (content file) goes.0 s t n known goes.1) (refused_ends (content file) goes.0 s t goes.2) h
+    then_ends (ProgramStops (Rises file) (content file)) (Reads (content file))
+        (λ p. Then (ReasonStops (content file) p) (Types p) (λ q. IsAccepted p)) s status.Refused t
+    goes.0 goes.1 (one_program (content file) known) (program_goes (Rises file) (content file) goes.0 s t n known goes.1)
+        (refused_ends (content file) goes.0 s t goes.2) h
 why_ends Rises content file s status.Syntax t n known goes h = absurd goes
 why_ends Rises content file s status.Starts t n known goes h = absurd goes
 why_ends Rises content file s status.Usage t n known goes h = absurd goes
@@ -98,9 +105,11 @@ told_ends c p w spot s t is (inl h) = absurd (none-some spot (sym (name_stops p 
 told_ends c p w spot s t is (inr h) = h.2.0
 
 -- `--of` a word that names something is done
-pub origin_ends : (Rises : List ℕ → Type 0) (content : Content) (file w : List ℕ) (s : Status) (t : List ℕ) → (Rises file → ⊥) → IsKnown (content file) → Names (content file) w
+pub origin_ends : (Rises : List ℕ → Type 0) (content : Content) (file w : List ℕ) (s : Status) (t : List ℕ) → (Rises file → ⊥)
+    → IsKnown (content file) → Names (content file) w
     → IsOriginAnswer Rises content file w s t → s ≡ status.Done
 origin_ends Rises content file w s t n known goes h =
     then_ends (ProgramStops (Rises file) (content file)) (Reads (content file))
     (λ p. Then (NameStops p w) (λ spot. named p w ≡ Some spot) (λ spot s t. (s ≡ status.Done) × HasOrigins (content file) p w spot t)) s status.Done h.0
-    goes.0 goes.1 (one_program (content file) known) (program_goes (Rises file) (content file) goes.0 s h.0 n known goes.1) (told_ends (content file) goes.0 w goes.2 s h.0 goes.3) h.1
+    goes.0 goes.1 (one_program (content file) known) (program_goes (Rises file) (content file) goes.0 s h.0 n known goes.1)
+        (told_ends (content file) goes.0 w goes.2 s h.0 goes.3) h.1

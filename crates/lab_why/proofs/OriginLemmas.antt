@@ -19,16 +19,19 @@ use Rattle.tool_stages.specs.Content.{Content}
 use Rattle.lab_why.specs.Names.{IsThere}
 use Rattle.lab_why.specs.Origins.{ComesFrom, HasOrigins, TellsOrigins}
 
-pub has_origins : (c : Option (Option (List ℕ))) (p : Syntax) (q : LabelledProgram) (x : Reads c p) (w : List ℕ) (spot : Spot) (text : List ℕ) (tokens : List Token) (t : List ℕ)
+pub has_origins : (c : Option (Option (List ℕ))) (p : Syntax) (q : LabelledProgram) (x : Reads c p) (w : List ℕ) (spot : Spot) (text : List ℕ)
+    (tokens : List Token) (t : List ℕ)
     → x.bytes ≡ text → x.tokens ≡ tokens → q.program ≡ p → IsLeast p q.labels → TellsOrigins text tokens q w spot t → HasOrigins c p w spot t
 has_origins c p q x w spot text tokens t bytes list program least told =
-    let whole : ◌≡◌ {A = LabelledProgram} q (record { program = p; labels = q.labels }) = ap (λ (z : Syntax). record { program = z; labels = q.labels }) program in
+    let whole : ◌≡◌ {A = LabelledProgram} q (record { program = p; labels = q.labels }) =
+        ap (λ (z : Syntax). record { program = z; labels = q.labels }) program in
     record {
       source = x;
       labels = q.labels;
       least = least;
       tells = subst (λ (z : LabelledProgram). TellsOrigins x.bytes x.tokens z w spot t) whole
-          (subst (λ (z : List Token). TellsOrigins x.bytes z q w spot t) (sym list) (subst (λ (z : List ℕ). TellsOrigins z tokens q w spot t) (sym bytes) told));
+          (subst (λ (z : List Token). TellsOrigins x.bytes z q w spot t) (sym list)
+              (subst (λ (z : List ℕ). TellsOrigins z tokens q w spot t) (sym bytes) told));
     }
 
 -- what stands in a program stands in the same program with its labels
@@ -36,7 +39,8 @@ pub still_there : (p : Syntax) (q : LabelledProgram) (spot : Spot) → q.program
 still_there p q spot e h = subst (λ (z : Syntax). IsThere z spot) (sym e) h
 
 -- what stops the reading stops the command
-pub program_stop : (Rises : List ℕ → Type 0) (content : Content) (file w : List ℕ) (e : Stop) → IsStop (ProgramStops (Rises file) (content file)) e → IsStop (ComesFrom Rises content file w) e
+pub program_stop : (Rises : List ℕ → Type 0) (content : Content) (file w : List ℕ) (e : Stop) → IsStop (ProgramStops (Rises file) (content file)) e
+    → IsStop (ComesFrom Rises content file w) e
 program_stop Rises content file w e h = broke_map (ProgramStops (Rises file) (content file)) (ComesFrom Rises content file w) (status_of e) (stop_text e) inl h
 
 -- no answer is a write fault
@@ -46,11 +50,14 @@ comes_no_fault Rises content file w t (inr (p, reads, inl h)) = h
 comes_no_fault Rises content file w t (inr (p, reads, inr (spot, is, h))) = let e : WriteFault ≡ Done = h.0 in cc
 
 -- the pieces that are written are those of the text
-pub tells_lines : (T : List ℕ) (ts : List Token) (q : LabelledProgram) (w : List ℕ) (spot : Spot) (ws shown : List Origin) (p : Syntax) (o : Order) (l : Label) (a n x t : List ℕ)
-    → a ≡ w → n ≡ name_of o l.number → o ≡ p.order → l.number ≡ label_there q spot → p ≡ q.program → shown ≡ ws → x ≡ origins_text T ts p shown → t ≡ a ++ (codes " is " ++ (n ++ (codes "\n" ++ x)))
+pub tells_lines : (T : List ℕ) (ts : List Token) (q : LabelledProgram) (w : List ℕ) (spot : Spot) (ws shown : List Origin) (p : Syntax) (o : Order)
+    (l : Label) (a n x t : List ℕ)
+    → a ≡ w → n ≡ name_of o l.number → o ≡ p.order → l.number ≡ label_there q spot → p ≡ q.program → shown ≡ ws → x ≡ origins_text T ts p shown
+    → t ≡ a ++ (codes " is " ++ (n ++ (codes "\n" ++ x)))
     → t ≡ w ++ (codes " is " ++ (name_of q.program.order (label_there q spot) ++ (codes "\n" ++ origins_text T ts q.program ws)))
 tells_lines T ts q w spot ws shown p o l a n x t word name order label program same lines is =
-    let named : n ≡ name_of q.program.order (label_there q spot) = name ∙ ap (λ (z : Order). name_of z l.number) (order ∙ ap (λ (z : Syntax). z.order) program) ∙ ap (name_of q.program.order) label in
+    let named : n ≡ name_of q.program.order (label_there q spot) = name ∙ ap (λ (z : Order). name_of z l.number) (order ∙ ap (λ (z : Syntax). z.order) program)
+        ∙ ap (name_of q.program.order) label in
     let told : x ≡ origins_text T ts q.program ws = lines ∙ ap (λ (z : Syntax). origins_text T ts z shown) program ∙ ap (origins_text T ts q.program) same in
     is ∙ ap (λ (z : List ℕ). z ++ (codes " is " ++ (n ++ (codes "\n" ++ x)))) word ∙ ap (λ (z : List ℕ). w ++ (codes " is " ++ (z ++ (codes "\n" ++ x)))) named
     ∙ ap (λ (z : List ℕ). w ++ (codes " is " ++ (name_of q.program.order (label_there q spot) ++ (codes "\n" ++ z)))) told

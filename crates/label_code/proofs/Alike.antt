@@ -27,7 +27,8 @@ module _ {E F : Type 0} (v : Env E) (w : Env F) (n : ℕ) (related : E → F →
   fetched_alike m a s f h r =
       record {
         env = w.next_of Code (4 * a) m.er m.ew f;
-        same = ap (λ c. record { memory = s.memory; env = w.next_of Code (4 * a) m.er m.ew f; clock = s.clock + (1 + c); misses = s.misses; log = s.log }) (sym (does.cost Code (4 * a) m.er m.ew s.env f h.0 h.1 r));
+        same = ap (λ c. record { memory = s.memory; env = w.next_of Code (4 * a) m.er m.ew f; clock = s.clock + (1 + c); misses = s.misses; log = s.log })
+            (sym (does.cost Code (4 * a) m.er m.ew s.env f h.0 h.1 r));
         envs = does.next Code (4 * a) m.er m.ew s.env f h.0 h.1 r;
       }
 
@@ -36,7 +37,8 @@ module _ {E F : Type 0} (v : Env E) (w : Env F) (n : ℕ) (related : E → F →
       let address = 2 ^ 20 + 8 * x in
       record {
         env = w.next_of Data address m.er m.ew f;
-        same = ap (λ c. record { memory = s.memory; env = w.next_of Data address m.er m.ew f; clock = s.clock + c; misses = s.misses; log = s.log }) (sym (does.cost Data address m.er m.ew s.env f h.0 h.1 r));
+        same = ap (λ c. record { memory = s.memory; env = w.next_of Data address m.er m.ew f; clock = s.clock + c; misses = s.misses; log = s.log })
+            (sym (does.cost Data address m.er m.ew s.env f h.0 h.1 r));
         envs = does.next Data address m.er m.ew s.env f h.0 h.1 r;
       }
 
@@ -44,14 +46,18 @@ module _ {E F : Type 0} (v : Env E) (w : Env F) (n : ℕ) (related : E → F →
   at_alike : (a : ℕ) (ops : List ℤ) (os : List Opened) (s : Core E) (r : Core F) → Cores s r → AreAlike related (at a ops os s) (at a ops os r)
   at_alike a ops os s r c = subst (λ z. AreAlike related (at a ops os s) (at a ops os z)) (sym c.same) (record { same = refl; envs = c.envs })
 
-  written_alike : (a : ℕ) (ops : List ℤ) (os : List Opened) (x : ℕ) (k : ℤ) (s : Core E) (r : Core F) → Cores s r → AreAlike related (at a ops os (written x k s)) (at a ops os (written x k r))
-  written_alike a ops os x k s r c = subst (λ z. AreAlike related (at a ops os (written x k s)) (at a ops os (written x k z))) (sym c.same) (record { same = refl; envs = c.envs })
+  written_alike : (a : ℕ) (ops : List ℤ) (os : List Opened) (x : ℕ) (k : ℤ) (s : Core E) (r : Core F) → Cores s r
+      → AreAlike related (at a ops os (written x k s)) (at a ops os (written x k r))
+  written_alike a ops os x k s r c =
+      subst (λ z. AreAlike related (at a ops os (written x k s)) (at a ops os (written x k z))) (sym c.same) (record { same = refl; envs = c.envs })
 
-  close_alike : (a : ℕ) (ops : List ℤ) (os : List Opened) (s : Core E) (f : F) → related s.env f → AreAlike related (close_first a ops os s) (close_first a ops os (core_in f s))
+  close_alike : (a : ℕ) (ops : List ℤ) (os : List Opened) (s : Core E) (f : F) → related s.env f
+      → AreAlike related (close_first a ops os s) (close_first a ops os (core_in f s))
   close_alike a ops [] s f r = record { same = refl; envs = r }
   close_alike a ops (o ∷ os) s f r = record { same = refl; envs = r }
 
-  act_alike : (work : Work) (m : Marks) (a : ℕ) (ops : List ℤ) (os : List Opened) (s : Core E) (f : F) → Labels m → related s.env f → AreAlike related (act v m work a ops os s) (act w m work a ops os (core_in f s))
+  act_alike : (work : Work) (m : Marks) (a : ℕ) (ops : List ℤ) (os : List Opened) (s : Core E) (f : F) → Labels m → related s.env f
+      → AreAlike related (act v m work a ops os s) (act w m work a ops os (core_in f s))
   act_alike (Push k) m a ops os s f h r = record { same = refl; envs = r }
   act_alike (Load x) m a ops os s f h r = at_alike (a + 1) (read s.memory x ∷ ops) os _ _ (touched_alike m x s f h r)
   act_alike (Store x) m a ops os s f h r = written_alike (a + 1) (rest ops) os x (first ops) _ _ (touched_alike m x s f h r)
@@ -82,10 +88,12 @@ module _ {E F : Type 0} (v : Env E) (w : Env F) (n : ℕ) (related : E → F →
         obeys (Some i) e =
             let m = marks_of i in
             let c = fetched_alike m x.place x.core f (labels x.place i e) alike.envs in
-            subst (λ z. AreAlike related (act v m i.work x.place x.operands x.opened (fetched v m x.place x.core)) (act w m i.work x.place x.operands x.opened z)) (sym c.same)
+            subst (λ z. AreAlike related (act v m i.work x.place x.operands x.opened (fetched v m x.place x.core))
+                (act w m i.work x.place x.operands x.opened z)) (sym c.same)
             (act_alike i.work m x.place x.operands x.opened (fetched v m x.place x.core) c.env (labels x.place i e) c.envs)
 
-        halts : (b : Bool) → AreAlike related (cond b x (obey v (slice_get image x.place) x)) (cond b (machine_in f x) (obey w (slice_get image x.place) (machine_in f x)))
+        halts : (b : Bool) → AreAlike related (cond b x (obey v (slice_get image x.place) x))
+            (cond b (machine_in f x) (obey w (slice_get image x.place) (machine_in f x)))
         halts true = record { same = refl; envs = alike.envs }
         halts false = obeys (slice_get image x.place) refl
 
@@ -98,10 +106,12 @@ module _ {E F : Type 0} (v : Env E) (w : Env F) (n : ℕ) (related : E → F →
         subst (λ b. AreAlike related (run_for v image t (suc k) x) (cond b (run_for w image t k (step w image y)) y)) (sym test)
         (goes (leb (step v image x).core.clock t && not x.halted) (run_for_alike t k (step v image x) (step w image y) next))
       where
-        goes : (b : Bool) → AreAlike related (run_for v image t k (step v image x)) (run_for w image t k (step w image y)) → AreAlike related (cond b (run_for v image t k (step v image x)) x) (cond b (run_for w image t k (step w image y)) y)
+        goes : (b : Bool) → AreAlike related (run_for v image t k (step v image x)) (run_for w image t k (step w image y))
+            → AreAlike related (cond b (run_for v image t k (step v image x)) x) (cond b (run_for w image t k (step w image y)) y)
         goes true r = r
         goes false r = alike
 
     -- the runs to T from equal memories and related states
-    pub run_alike : (t : ℕ) (memory : List ℤ) (e : E) (f : F) → related e f → AreAlike related (run_from v image t (record { memory = memory; env = e })) (run_from w image t (record { memory = memory; env = f }))
+    pub run_alike : (t : ℕ) (memory : List ℤ) (e : E) (f : F) → related e f
+        → AreAlike related (run_from v image t (record { memory = memory; env = e })) (run_from w image t (record { memory = memory; env = f }))
     run_alike t memory e f r = run_for_alike t t _ _ (record { same = refl; envs = r })

@@ -7,7 +7,8 @@ use Rattle.env_contract.specs.Env.{Env}
 use Rattle.label_code.specs.Machine.{Core, Machine, Opened, Event, closed, fetched, at, act, obey, start, step, steps, run_for, close_first, marks_of}
 use Rattle.label_code.specs.Run.{Start, run_from, RunsTo}
 use Rattle.label_code.specs.declared.code.Work.{Work}
-use Rattle.label_code.specs.declared.code.Work.TheVariants.{Push, Load, Store, LoadAt, StoreAt, Apply, Brz, Brnz, Jmp, Sleep as SleepWork, Mitb, Mite, Nop, Halt}
+use Rattle.label_code.specs.declared.code.Work.TheVariants.{Push, Load, Store, LoadAt, StoreAt, Apply, Brz, Brnz, Jmp, Sleep as SleepWork, Mitb, Mite, Nop}
+use Rattle.label_code.specs.declared.code.Work.TheVariants.{Halt}
 use Rattle.label_code.specs.declared.code.Instr.{Instr}
 use Rattle.label_code.proofs.Upto.{clock_of, upto, upto-append}
 use Rattle.label_code.proofs.Leads.{stays}
@@ -33,11 +34,13 @@ Dated c (e ∷ es) = (clock_of e ≡ c) × Dated c es
 
 dated_in : (lim c : ℕ) (es : List Event) → c ≤ lim → Dated c es → upto lim es ≡ es
 dated_in lim c [] h d = refl
-dated_in lim c (e ∷ es) h d = let q = d.0 in cond-true (leb (clock_of e) lim) (e ∷ upto lim es) (upto lim es) (le-leb (clock_of e) lim (omega arith)) ∙ ap (λ z. e ∷ z) (dated_in lim c es h d.1)
+dated_in lim c (e ∷ es) h d = let q = d.0 in cond-true (leb (clock_of e) lim) (e ∷ upto lim es) (upto lim es) (le-leb (clock_of e) lim (omega arith))
+    ∙ ap (λ z. e ∷ z) (dated_in lim c es h d.1)
 
 dated_out : (lim c : ℕ) (es : List Event) → lim < c → Dated c es → upto lim es ≡ []
 dated_out lim c [] h d = refl
-dated_out lim c (e ∷ es) h d = let q = d.0 in cond-false (leb (clock_of e) lim) (e ∷ upto lim es) (upto lim es) (lt-leb (clock_of e) lim (omega arith)) ∙ dated_out lim c es h d.1
+dated_out lim c (e ∷ es) h d = let q = d.0 in
+    cond-false (leb (clock_of e) lim) (e ∷ upto lim es) (upto lim es) (lt-leb (clock_of e) lim (omega arith)) ∙ dated_out lim c es h d.1
 
 -- what a log gets
 abbrev pub News : ℕ → List Event → List Event → Type 0
@@ -95,7 +98,8 @@ module _ {E : Type 0} (v : Env E) (image : List Instr) where
   ticks x h = go x.halted refl
     where
       obeys : (i : Option Instr) → Ticks x (obey v i x)
-      obeys None = record { sane = sane_later x.opened x.core.clock _ (omega arith) h; clock = omega arith; tick = λ f. omega arith; news = no_news _ x.core.log }
+      obeys None = record { sane = sane_later x.opened x.core.clock _ (omega arith) h; clock = omega arith; tick =
+          λ f. omega arith; news = no_news _ x.core.log }
       obeys (Some i) =
           let s = fetched v (marks_of i) x.place x.core in
           let r = acts i.work (marks_of i) x.place x.operands x.opened s (sane_later x.opened x.core.clock s.clock (omega arith) h) in
@@ -116,7 +120,8 @@ module _ {E : Type 0} (v : Env E) (image : List Instr) where
   steps_sane (suc k) x h = steps_sane k (step v image x) (ticks x h).sane
 
   -- up to a time before the cut no event is past it
-  pub steps_in : (lim k : ℕ) (x : Machine E) → Sane x.opened x.core.clock → upto lim x.core.log ≡ x.core.log → (steps v image k x).core.clock ≤ lim → upto lim (steps v image k x).core.log ≡ (steps v image k x).core.log
+  pub steps_in : (lim k : ℕ) (x : Machine E) → Sane x.opened x.core.clock → upto lim x.core.log ≡ x.core.log → (steps v image k x).core.clock ≤ lim
+      → upto lim (steps v image k x).core.log ≡ (steps v image k x).core.log
   steps_in lim zero x h e by = e
   steps_in lim (suc k) x h e by =
       let t = ticks x h in
@@ -125,7 +130,8 @@ module _ {E : Type 0} (v : Env E) (image : List Instr) where
       steps_in lim k y t.sane (news_in lim y.core.clock x.core.log y.core.log here t.news e) by
 
   -- past the cut nothing is added up to it
-  pub steps_out : (lim k : ℕ) (x : Machine E) → Sane x.opened x.core.clock → lim < (step v image x).core.clock → (lim < (steps v image (suc k) x).core.clock) × (upto lim (steps v image (suc k) x).core.log ≡ upto lim x.core.log)
+  pub steps_out : (lim k : ℕ) (x : Machine E) → Sane x.opened x.core.clock → lim < (step v image x).core.clock → (lim < (steps v image (suc k) x).core.clock)
+      × (upto lim (steps v image (suc k) x).core.log ≡ upto lim x.core.log)
   steps_out lim zero x h l = (l, news_out lim (step v image x).core.clock x.core.log (step v image x).core.log l (ticks x h).news)
   steps_out lim (suc k) x h l =
       let t = ticks x h in
@@ -149,7 +155,9 @@ module _ {E : Type 0} (v : Env E) (image : List Instr) where
       go false e = let c = (ticks x h).tick e in record { count = 0; is = refl; by = by; over = inr (e, omega arith) }
   ran t (suc n) x h by room = go (leb (step v image x).core.clock t) x.halted refl refl (λ le r. ran t n (step v image x) (ticks x h).sane le r)
     where
-      go : (b c : Bool) → leb (step v image x).core.clock t ≡ b → x.halted ≡ c → ((step v image x).core.clock ≤ t → t ≤ (step v image x).core.clock + n → Ran t (step v image x) (run_for v image t n (step v image x))) → Ran t x (cond (b && not c) (run_for v image t n (step v image x)) x)
+      go : (b c : Bool) → leb (step v image x).core.clock t ≡ b → x.halted ≡ c
+          → ((step v image x).core.clock ≤ t → t ≤ (step v image x).core.clock + n → Ran t (step v image x) (run_for v image t n (step v image x)))
+          → Ran t x (cond (b && not c) (run_for v image t n (step v image x)) x)
       go true false e f rec =
           let c = (ticks x h).tick f in
           let r = rec (leb-true (step v image x).core.clock t e) (omega arith) in
@@ -163,25 +171,31 @@ pub run_is : {E : Type 0} (v : Env E) (image : List Instr) (t n : ℕ) (x : Mach
 run_is v image t zero x = (0, refl)
 run_is v image t (suc n) x = go (leb (step v image x).core.clock t && not x.halted) (run_is v image t n (step v image x))
   where
-    go : (b : Bool) → (k : ℕ) × (run_for v image t n (step v image x) ≡ steps v image k (step v image x)) → (k : ℕ) × (cond b (run_for v image t n (step v image x)) x ≡ steps v image k x)
+    go : (b : Bool) → (k : ℕ) × (run_for v image t n (step v image x) ≡ steps v image k (step v image x))
+        → (k : ℕ) × (cond b (run_for v image t n (step v image x)) x ≡ steps v image k x)
     go true r = (suc r.0, r.1)
     go false r = (0, refl)
 
 module _ {E : Type 0} (v : Env E) (image : List Instr) where
   -- a run to T takes each number of steps whose clock is at most T
-  pub covers : (k t n : ℕ) (x : Machine E) → Sane x.opened x.core.clock → (steps v image k x).core.clock ≤ t → t ≤ x.core.clock + n → (j : ℕ) × (run_for v image t n x ≡ steps v image j (steps v image k x))
+  pub covers : (k t n : ℕ) (x : Machine E) → Sane x.opened x.core.clock → (steps v image k x).core.clock ≤ t → t ≤ x.core.clock + n
+      → (j : ℕ) × (run_for v image t n x ≡ steps v image j (steps v image k x))
   covers zero t n x h le room = run_is v image t n x
   covers (suc k) t n x h le room = go x.halted refl n room (λ m r. covers k t m (step v image x) (ticks v image x h).sane le r)
     where
       over : (n : ℕ) → x.halted ≡ true → run_for v image t n x ≡ x
       over zero e = refl
-      over (suc n) e = ap (λ b. cond b (run_for v image t n (step v image x)) x) (ap (λ b. leb (step v image x).core.clock t && not b) e ∙ falls (leb (step v image x).core.clock t))
+      over (suc n) e = ap (λ b. cond b (run_for v image t n (step v image x)) x) (ap (λ b. leb (step v image x).core.clock t && not b) e
+          ∙ falls (leb (step v image x).core.clock t))
         where
           falls : (b : Bool) → (b && false) ≡ false
           falls true = refl
           falls false = refl
 
-      go : (b : Bool) → x.halted ≡ b → (n : ℕ) → t ≤ x.core.clock + n → ((m : ℕ) → t ≤ (step v image x).core.clock + m → (j : ℕ) × (run_for v image t m (step v image x) ≡ steps v image j (steps v image k (step v image x)))) → (j : ℕ) × (run_for v image t n x ≡ steps v image j (steps v image (suc k) x))
+      go : (b : Bool) → x.halted ≡ b → (n : ℕ) → t ≤ x.core.clock + n
+          → ((m : ℕ) → t ≤ (step v image x).core.clock + m
+          → (j : ℕ) × (run_for v image t m (step v image x) ≡ steps v image j (steps v image k (step v image x))))
+          → (j : ℕ) × (run_for v image t n x ≡ steps v image j (steps v image (suc k) x))
       go true e n room next = (0, over n e ∙ sym (stays v image (suc k) x e))
       go false e zero room next =
           let c = (ticks v image x h).tick e in

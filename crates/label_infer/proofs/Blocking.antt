@@ -19,7 +19,8 @@ some_at (x ∷ xs) zero h = (x, refl)
 some_at (x ∷ xs) (suc k) h = some_at xs k (omega (arith, h))
 
 -- a row that is joined to that of a block
-pub union_grows : (rows : List Row) (i : ℕ) (r u : Row) (s : ℕ → Bool) → slice_get rows i ≡ Some r → has_in u.words ≡ (λ y. has_in r.words y || s y) → Grow rows (slice_set rows i u)
+pub union_grows : (rows : List Row) (i : ℕ) (r u : Row) (s : ℕ → Bool) → slice_get rows i ≡ Some r → has_in u.words ≡ (λ y. has_in r.words y || s y)
+    → Grow rows (slice_set rows i u)
 union_grows rows i r u s e h k p q a b x t = ⊎_elim
     (λ (m : k ≡ i).
     let old : p ≡ r = same_Some p r (sym a ∙ ap (slice_get rows) m ∙ e) in
@@ -30,19 +31,22 @@ union_grows rows i r u s e h k p q a b x t = ⊎_elim
     ap (λ (z : Row). has_in z.words x) (sym same) ∙ t)
     (cases_eq k i)
 
-pub union_here : (rows : List Row) (i : ℕ) (r u q : Row) (s : ℕ → Bool) → slice_get rows i ≡ Some r → has_in u.words ≡ (λ y. has_in r.words y || s y) → slice_get (slice_set rows i u) i ≡ Some q → Includes q s
+pub union_here : (rows : List Row) (i : ℕ) (r u q : Row) (s : ℕ → Bool) → slice_get rows i ≡ Some r → has_in u.words ≡ (λ y. has_in r.words y || s y)
+    → slice_get (slice_set rows i u) i ≡ Some q → Includes q s
 union_here rows i r u q s e h b x t =
     let new : q ≡ u = same_Some q u (sym b ∙ get_set_same rows i u (slice_get_within rows i r e)) in
     ap (λ (z : Row). has_in z.words x) new ∙ ap (λ (f : ℕ → Bool). f x) h ∙ or_right (has_in r.words x) (s x) t
 
 -- a row that is pushed
-pub push_here : (rows rows' : List Row) (i : ℕ) (r u q : Row) (s : ℕ → Bool) → rows' ≡ rows ++ u ∷ [] → i ≡ length rows → has_in u.words ≡ (λ y. has_in r.words y || s y) → slice_get rows' i ≡ Some q → Includes q s
+pub push_here : (rows rows' : List Row) (i : ℕ) (r u q : Row) (s : ℕ → Bool) → rows' ≡ rows ++ u ∷ [] → i ≡ length rows
+    → has_in u.words ≡ (λ y. has_in r.words y || s y) → slice_get rows' i ≡ Some q → Includes q s
 push_here rows rows' i r u q s e n h b x t =
     let new : u ≡ q = same_Some u q (sym (get_push_same rows u) ∙ ap (slice_get (rows ++ u ∷ [])) (sym n) ∙ ap (λ z. slice_get z i) (sym e) ∙ b) in
     ap (λ (z : Row). has_in z.words x) (sym new) ∙ ap (λ (f : ℕ → Bool). f x) h ∙ or_right (has_in r.words x) (s x) t
 
 -- one condition more
-pub cover_more : (cs : List Condition) (i : ℕ) (rows rows' : List Row) (c : Condition) → length rows ≡ (i + 63) / 64 → slice_get cs i ≡ Some c → Cover cs i rows → Grow rows rows' →
+pub cover_more : (cs : List Condition) (i : ℕ) (rows rows' : List Row) (c : Condition) → length rows ≡ (i + 63) / 64 → slice_get cs i ≡ Some c
+    → Cover cs i rows → Grow rows rows' →
     ((r : Row) → slice_get rows' (i / 64) ≡ Some r → Includes r (has_of c.have.variables)) → Cover cs (i + 1) rows'
 cover_more cs i rows rows' c fit e cover grow here k d r h a b = ⊎_elim
     (λ (l : k < i).
@@ -55,7 +59,8 @@ cover_more cs i rows rows' c fit e cover grow here k d r h a b = ⊎_elim
     (cases_lt k i)
 
 -- conditions that now wait too
-pub blocks_woken : (x : ℕ) (cs : List Condition) (ws ws' : List Bool) (b : Blocks) (t : Bool) → length ws ≡ length cs → ws' ≡ cond t ws (woken x cs ws) → AreBlocks cs ws b → AreBlocks cs ws' b
+pub blocks_woken : (x : ℕ) (cs : List Condition) (ws ws' : List Bool) (b : Blocks) (t : Bool) → length ws ≡ length cs → ws' ≡ cond t ws (woken x cs ws)
+    → AreBlocks cs ws b → AreBlocks cs ws' b
 blocks_woken x cs ws ws' b t fit e h = subst (λ z. AreBlocks cs z b) (sym e) (go t)
   where
     more : AreBlocks cs (woken x cs ws) b
@@ -78,7 +83,8 @@ blocks_woken x cs ws ws' b t fit e h = subst (λ z. AreBlocks cs z b) (sym e) (g
 pub blocks_same : (cs cs' : List Condition) (ws ws' : List Bool) (b : Blocks) → cs' ≡ cs → ws' ≡ ws → AreBlocks cs ws b → AreBlocks cs' ws' b
 blocks_same cs cs' ws ws' b ec ew h = subst (λ z. AreBlocks cs' z b) (sym ew) (subst (λ z. AreBlocks z ws b) (sym ec) h)
 
-pub blocks_raised : (x : ℕ) (cs cs' : List Condition) (ws ws' after now : List Bool) (b : Blocks) (t : Bool) → length ws ≡ length cs → cs' ≡ cs → ws' ≡ ws → after ≡ cond t ws' (woken x cs' ws') → now ≡ after →
+pub blocks_raised : (x : ℕ) (cs cs' : List Condition) (ws ws' after now : List Bool) (b : Blocks) (t : Bool) → length ws ≡ length cs → cs' ≡ cs → ws' ≡ ws
+    → after ≡ cond t ws' (woken x cs' ws') → now ≡ after →
     AreBlocks cs ws b → AreBlocks cs now b
 blocks_raised x cs cs' ws ws' after now b t fit ec ew ea en h =
     blocks_woken x cs ws now b t fit (en ∙ ea ∙ ap (λ z. cond t ws' (woken x z ws')) ec ∙ ap (λ z. cond t z (woken x cs z)) ew) h

@@ -1,5 +1,6 @@
 -- The steps of inference.
-use Rattle.std.proofs.Common.{◌≡◌, ℕ, zero, suc, ◌+◌, ◌-◌, ◌*◌, ◌<◌, ◌≤◌, refl, sym, ap, ◌∙◌, subst, List, [], ◌∷◌, length, slice_set, ⊎_elim, arith, length-set}
+use Rattle.std.proofs.Common.{◌≡◌, ℕ, zero, suc, ◌+◌, ◌-◌, ◌*◌, ◌<◌, ◌≤◌, refl, sym, ap, ◌∙◌, subst, List, [], ◌∷◌, length, slice_set, ⊎_elim, arith}
+use Rattle.std.proofs.Common.{length-set}
 use Rattle.std.specs.Prelude.{Bool, true, false, cond, ◌||◌, eqb, Some, slice_get}
 use Rattle.std.proofs.lemmas.Bool.{cases_Bool, cases_lt, cases_eq, both_ways, cond-true, cond-false, eq-eqb, ne_eqb}
 use Rattle.std.proofs.lemmas.Option.{none-some}
@@ -13,7 +14,8 @@ use Rattle.timing_types.specs.Labelling.{label_at}
 use Rattle.label_infer.specs.declared.constraints.Condition.{Condition}
 use Rattle.label_infer.specs.Forms.{value}
 use Rattle.label_infer.specs.Known.{constraint_of, constraints_in}
-use Rattle.label_infer.specs.Work.{Work, waits_at, have_in, woken, joined, taken_side, Takes, IsWorkOf, Climb, start, up, ChainsHaveUpTo, row_count, shares, score, row_left, steps_left, IsWithin}
+use Rattle.label_infer.specs.Work.{Work, waits_at, have_in, woken, joined, taken_side, Takes, IsWorkOf, Climb, start, up, ChainsHaveUpTo, row_count, shares}
+use Rattle.label_infer.specs.Work.{score, row_left, steps_left, IsWithin}
 use Rattle.label_infer.proofs.Completed.{lattice_laws}
 use Rattle.label_infer.specs.Least.{is_free}
 use Rattle.label_infer.specs.Given.{written_levels}
@@ -47,7 +49,8 @@ row_lt (suc n) has l l' y h k f g =
     (cases_lt y n)
 
 -- one condition, where y rises: it may wait again, and then its row has less left
-wait_le : (n : ℕ) (w : Bool) (has : ℕ → Bool) (l l' : ℕ → ℕ) (y : ℕ) → y < n → ((x : ℕ) → l' x ≤ l x) → l' y < l y → score (w || has y) + row_left n has l' ≤ score w + row_left n has l
+wait_le : (n : ℕ) (w : Bool) (has : ℕ → Bool) (l l' : ℕ → ℕ) (y : ℕ) → y < n → ((x : ℕ) → l' x ≤ l x) → l' y < l y
+    → score (w || has y) + row_left n has l' ≤ score w + row_left n has l
 wait_le n w has l l' y h f g = ⊎_elim
     (λ (k : has y ≡ true). omega (arith, row_lt n has l l' y h k f g, both_le w (has y)))
     (λ (k : has y ≡ false). let s : score (w || has y) ≡ score w = or_nothing w (has y) k in omega (arith, s, row_le n has l l' f))
@@ -67,7 +70,8 @@ left_le n l l' f [] ws = omega arith
 left_le n l l' f (c ∷ cs) [] = omega (arith, row_le n (constraint_of c).have.has l l' f, left_le n l l' f cs [])
 left_le n l l' f (c ∷ cs) (w ∷ ws) = omega (arith, row_le n (constraint_of c).have.has l l' f, left_le n l l' f cs ws)
 
-woken_le : (n : ℕ) (l l' : ℕ → ℕ) (y : ℕ) → y < n → ((x : ℕ) → l' x ≤ l x) → l' y < l y → (cs : List Condition) (ws : List Bool) → steps_left n l' cs (woken y cs ws) ≤ steps_left n l cs ws
+woken_le : (n : ℕ) (l l' : ℕ → ℕ) (y : ℕ) → y < n → ((x : ℕ) → l' x ≤ l x) → l' y < l y → (cs : List Condition) (ws : List Bool)
+    → steps_left n l' cs (woken y cs ws) ≤ steps_left n l cs ws
 woken_le n l l' y h f g [] ws = omega arith
 woken_le n l l' y h f g (c ∷ cs) [] = omega (arith, row_le n (constraint_of c).have.has l l' f, left_le n l l' f cs [])
 woken_le n l l' y h f g (c ∷ cs) (w ∷ ws) = omega (arith, wait_le n w (constraint_of c).have.has l l' y h f g, woken_le n l l' y h f g cs ws)
@@ -99,7 +103,8 @@ first_within w c below =
     let s = start_le (length w.variables) c (λ x. c - 1 - 0) (λ x. omega arith) w.conditions w.waits in
     record { rises = λ x. 0; climbs = λ x. start (below x); bound = omega (arith, s) }
 
-module _ (s : Syntax) (valid : IsValid s) (cs : List Condition) (ws : List Bool) (vs ls : List Label) (h : IsWorkOf s (work s.order cs ws vs ls)) (i : ℕ) (c : Condition) (e : slice_get cs i ≡ Some c) (wt : waits_at ws i ≡ true)
+module _ (s : Syntax) (valid : IsValid s) (cs : List Condition) (ws : List Bool) (vs ls : List Label) (h : IsWorkOf s (work s.order cs ws vs ls)) (i : ℕ)
+    (c : Condition) (e : slice_get cs i ≡ Some c) (wt : waits_at ws i ≡ true)
     (k used : ℕ) (upto : ChainsHaveUpTo s.order k) (b : IsWithin (work s.order cs ws vs ls) k used) where
   abbrev la : Lattice
   la = lattice_of s.order
@@ -122,7 +127,8 @@ module _ (s : Syntax) (valid : IsValid s) (cs : List Condition) (ws : List Bool)
   level_within : (ls' : List Label) → IsWithin (work s.order cs (slice_set ws i false) vs ls') k (1 + used)
   level_within ls' = let q = cleared in let p = b.bound in record { rises = b.rises; climbs = b.climbs; bound = omega (arith, q, p) }
 
-  variable_within : (x : ℕ) → (constraint_of c).side ≡ OfVariable x → la.flows v (g x) ≡ false → IsWithin (work s.order cs (woken x cs (slice_set ws i false)) (joined la s.order.bottom vs x v) ls) k (1 + used)
+  variable_within : (x : ℕ) → (constraint_of c).side ≡ OfVariable x → la.flows v (g x) ≡ false
+      → IsWithin (work s.order cs (woken x cs (slice_set ws i false)) (joined la s.order.bottom vs x v) ls) k (1 + used)
   variable_within x side rose =
       let ll = lattice_laws s.order valid.order in
       let free = subst (λ z. IsRight (is_free s.declarations) (written_levels (plan_of s)) z) side (is_open s valid cs ws vs ls h i c e).side in
@@ -135,7 +141,8 @@ module _ (s : Syntax) (valid : IsValid s) (cs : List Condition) (ws : List Bool)
       let r : ℕ → ℕ = b.rises in
       let r' : ℕ → ℕ = λ y. cond (eqb y x) (1 + r x) (r y) in
       let is : g' x ≡ new = set_same s.order.bottom vs x new l in
-      let below : new < s.order.size = subst (λ z. z < s.order.size) is (joined_below s valid cs ws vs ls h i c e vs x v l (v_below s valid cs ws vs ls h i c e) h.variables.below x) in
+      let below : new < s.order.size =
+          subst (λ z. z < s.order.size) is (joined_below s valid cs ws vs ls h i c e vs x v l (v_below s valid cs ws vs ls h i c e) h.variables.below x) in
       let differ : g x ≡ new → ⊥ = λ q. both_ways (la.flows v (g x)) rose (subst (λ z. Flows la v z) (sym q) (ll.right (g x) v)) in
       let climb : Climb la s.order.size new (1 + r x) = up (b.climbs x) below (ll.left (g x) v) differ in
       let top = upto new (1 + r x) climb in
@@ -148,12 +155,15 @@ module _ (s : Syntax) (valid : IsValid s) (cs : List Condition) (ws : List Bool)
       let w = woken_le (length vs) (left r) (left r') x l (λ y. let m = more y in omega (arith, m)) (omega (arith, rx, top)) cs (slice_set ws i false) in
       let q = cleared in
       let p = b.bound in
-      let fin : (1 + used) + steps_left (length vs) (left r') cs (woken x cs (slice_set ws i false)) ≤ shares (length vs) k (constraints_in cs) = omega (arith, w, q, p) in
+      let fin : (1 + used) + steps_left (length vs) (left r') cs (woken x cs (slice_set ws i false)) ≤ shares (length vs) k (constraints_in cs) =
+          omega (arith, w, q, p) in
       record {
         rises = r';
         climbs = λ y. ⊎_elim
-            (λ (q : y ≡ x). subst (λ z. Climb la s.order.size (g' z) (r' z)) (sym q) (subst (λ z. Climb la s.order.size (g' x) z) (sym rx) (subst (λ z. Climb la s.order.size z (1 + r x)) (sym is) climb)))
-            (λ (q : y ≡ x → ⊥). subst (λ z. Climb la s.order.size (g' y) z) (sym (ry y q)) (subst (λ z. Climb la s.order.size z (r y)) (sym (set_other s.order.bottom vs x y new q)) (b.climbs y)))
+            (λ (q : y ≡ x). subst (λ z. Climb la s.order.size (g' z) (r' z)) (sym q)
+                (subst (λ z. Climb la s.order.size (g' x) z) (sym rx) (subst (λ z. Climb la s.order.size z (1 + r x)) (sym is) climb)))
+            (λ (q : y ≡ x → ⊥). subst (λ z. Climb la s.order.size (g' y) z) (sym (ry y q))
+                (subst (λ z. Climb la s.order.size z (r y)) (sym (set_other s.order.bottom vs x y new q)) (b.climbs y)))
             (cases_eq y x);
         bound = subst (λ z. (1 + used) + steps_left z (left r') cs (woken x cs (slice_set ws i false)) ≤ shares z k (constraints_in cs)) (sym len) fin;
       }
@@ -168,13 +178,16 @@ module _ (s : Syntax) (valid : IsValid s) (cs : List Condition) (ws : List Bool)
       go OfCommand q = spent q
       go (OfVariable x) q = by (la.flows v (g x)) refl
         where
-          by : (t : Bool) → la.flows v (g x) ≡ t → IsWithin (cond t (work s.order cs (slice_set ws i false) vs ls) (work s.order cs (woken x cs (slice_set ws i false)) (joined la s.order.bottom vs x v) ls)) k (1 + used)
+          by : (t : Bool) → la.flows v (g x) ≡ t
+              → IsWithin (cond t (work s.order cs (slice_set ws i false) vs ls)
+              (work s.order cs (woken x cs (slice_set ws i false)) (joined la s.order.bottom vs x v) ls)) k (1 + used)
           by true f = rest_within
           by false f = variable_within x q f
       go (OfLevel j w) q = level_within (joined la s.order.bottom ls j v)
 
 -- one step uses one
-pub still_within : (s : Syntax) → IsValid s → (w w' : Work) (i : ℕ) (c : Condition) (k used : ℕ) → IsWorkOf s w → Takes w w' i c → ChainsHaveUpTo s.order k → IsWithin w k used → IsWithin w' k (1 + used)
+pub still_within : (s : Syntax) → IsValid s → (w w' : Work) (i : ℕ) (c : Condition) (k used : ℕ) → IsWorkOf s w → Takes w w' i c → ChainsHaveUpTo s.order k
+    → IsWithin w k used → IsWithin w' k (1 + used)
 still_within s valid w w' i c k used h t upto b =
     let q = same_work w s.order h.order in
     let h2 = subst (λ z. IsWorkOf s z) q h in
@@ -227,7 +240,8 @@ above_all lat (suc n) a = omega (arith, one (lat.flows a n), above_all lat n a)
 own_above : (lat : Lattice) → IsLattice lat → (n a : ℕ) → a < n → 0 < above lat n a
 own_above lat ll zero a h = absurd (omega (arith, h))
 own_above lat ll (suc n) a h = ⊎_elim
-    (λ (q : a ≡ n). let y : ◌≡◌ {A = ℕ} (cond (lat.flows a n) 1 0) 1 = ap (λ z. cond {A = ℕ} z 1 0) (subst (λ z. Flows lat a z) q (ll.same a)) in omega (arith, y))
+    (λ (q : a ≡ n). let y : ◌≡◌ {A = ℕ} (cond (lat.flows a n) 1 0) 1 = ap (λ z. cond {A = ℕ} z 1 0) (subst (λ z. Flows lat a z) q (ll.same a)) in
+        omega (arith, y))
     (λ (q : a ≡ n → ⊥). omega (arith, own_above lat ll n a (omega (arith, h, q))))
     (cases_eq a n)
 

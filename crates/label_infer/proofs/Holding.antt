@@ -1,5 +1,6 @@
 -- Rows that tell which variables have each label.
-use Rattle.std.proofs.Common.{◌≡◌, ℕ, zero, suc, ◌+◌, ◌<◌, ◌≤◌, refl, sym, ap, ◌∙◌, subst, List, [], ◌∷◌, ◌++◌, length, get_or, replicate, slice_set, arith, ⊎_elim}
+use Rattle.std.proofs.Common.{◌≡◌, ℕ, zero, suc, ◌+◌, ◌<◌, ◌≤◌, refl, sym, ap, ◌∙◌, subst, List, [], ◌∷◌, ◌++◌, length, get_or, replicate, slice_set, arith}
+use Rattle.std.proofs.Common.{⊎_elim}
 use Rattle.std.specs.Prelude.{Bool, true, false, not, ◌||◌, ◌&&◌, eqb, Option, None, Some, slice_get}
 use Rattle.std.proofs.lemmas.Bool.{cases_lt, cases_eq, eq-eqb, ne_eqb, eqb-true, both_ways}
 use Rattle.std.proofs.lemmas.Option.{none-some, same_Some, slice_get_within, slice_get-get_or, get_or_from_slice_get}
@@ -66,14 +67,16 @@ less_of p a x l y = p l y && not (eqb a l && eqb x y)
 pub tell_same : (p : ℕ → ℕ → Bool) (rows rows' : List Row) → rows' ≡ rows → Tell rows p → Tell rows' p
 tell_same p rows rows' e t = subst (λ z. Tell z p) (sym e) t
 
-pub room_same : (labels labels' : List Label) (m : ℕ) → labels' ≡ labels → ((x : ℕ) (a : Label) → slice_get labels x ≡ Some a → a.number < m) → (x : ℕ) (a : Label) → slice_get labels' x ≡ Some a → a.number < m
+pub room_same : (labels labels' : List Label) (m : ℕ) → labels' ≡ labels → ((x : ℕ) (a : Label) → slice_get labels x ≡ Some a → a.number < m)
+    → (x : ℕ) (a : Label) → slice_get labels' x ≡ Some a → a.number < m
 room_same labels labels' m e f x a g = f x a (ap (λ z. slice_get z x) (sym e) ∙ g)
 
 -- one row with one variable more or less
 set_is : (rows : List Row) (i l : ℕ) (r' s : Row) → i < length rows → l ≡ i → slice_get (slice_set rows i r') l ≡ Some s → r' ≡ s
 set_is rows i l r' s h q g = same_Some r' s (sym (get_set_same rows i r' h) ∙ ap (slice_get (slice_set rows i r')) (sym q) ∙ g)
 
-pub tell_more : (rows : List Row) (p : ℕ → ℕ → Bool) (i x : ℕ) (r r' : Row) → slice_get rows i ≡ Some r → has_in r'.words ≡ (λ y. has_in r.words y || eqb x y) → Tell rows p →
+pub tell_more : (rows : List Row) (p : ℕ → ℕ → Bool) (i x : ℕ) (r r' : Row) → slice_get rows i ≡ Some r
+    → has_in r'.words ≡ (λ y. has_in r.words y || eqb x y) → Tell rows p →
     Tell (slice_set rows i r') (more_of p i x)
 tell_more rows p i x r r' e h t l s g y = ⊎_elim
     (λ (q : l ≡ i).
@@ -84,7 +87,8 @@ tell_more rows p i x r r' e h t l s g y = ⊎_elim
     t l s (sym (get_set_other rows i l r' n) ∙ g) y ∙ sym (ap (λ z. p l y || (z && eqb x y)) (ne_eqb i l (λ q. n (sym q))) ∙ or_none (p l y)))
     (cases_eq l i)
 
-pub tell_less : (rows : List Row) (p : ℕ → ℕ → Bool) (i x : ℕ) (r r' : Row) → slice_get rows i ≡ Some r → has_in r'.words ≡ (λ y. has_in r.words y && not (eqb x y)) → Tell rows p →
+pub tell_less : (rows : List Row) (p : ℕ → ℕ → Bool) (i x : ℕ) (r r' : Row) → slice_get rows i ≡ Some r
+    → has_in r'.words ≡ (λ y. has_in r.words y && not (eqb x y)) → Tell rows p →
     Tell (slice_set rows i r') (less_of p i x)
 tell_less rows p i x r r' e h t l s g y = ⊎_elim
     (λ (q : l ≡ i).
@@ -99,14 +103,16 @@ tell_less rows p i x r r' e h t l s g y = ⊎_elim
 none_told : (n : ℕ) (r : Row) → has_in r.words ≡ (λ y. false) → Tell (replicate n r) (has_label [])
 none_told n r h l s e y = ap (λ (z : Row). has_in z.words y) (sym (get_same n r l s e)) ∙ ap (λ (f : ℕ → Bool). f y) h
 
-pub told_none : (n : ℕ) (r : Row) → has_in r.words ≡ (λ y. false) → (rows : List Row) (labels : List Label) → rows ≡ replicate n r → labels ≡ [] → Tell rows (has_label labels)
+pub told_none : (n : ℕ) (r : Row) → has_in r.words ≡ (λ y. false) → (rows : List Row) (labels : List Label) → rows ≡ replicate n r → labels ≡ []
+    → Tell rows (has_label labels)
 told_none n r h rows labels er el = subst (λ z. Tell z (has_label labels)) (sym er) (subst (λ z. Tell (replicate n r) (has_label z)) (sym el) (none_told n r h))
 
 pub room_none : (labels : List Label) (m : ℕ) → labels ≡ [] → (x : ℕ) (a : Label) → slice_get labels x ≡ Some a → a.number < m
 room_none labels m e x a g = absurd (none-some a (sym (ap (λ z. slice_get z x) e) ∙ g))
 
 -- one variable more
-told_end : (labels : List Label) (a : Label) (rows : List Row) → Tell rows (more_of (has_label labels) a.number (length labels)) → Tell rows (has_label (labels ++ a ∷ []))
+told_end : (labels : List Label) (a : Label) (rows : List Row) → Tell rows (more_of (has_label labels) a.number (length labels))
+    → Tell rows (has_label (labels ++ a ∷ []))
 told_end labels a rows t l r e y = t l r e y ∙ ⊎_elim
     (λ (q : y ≡ length labels).
     ap (λ z. has_label labels l y || (eqb a.number l && z)) (eq-eqb (length labels) y (sym q))
@@ -120,8 +126,10 @@ told_end labels a rows t l r e y = t l r e y ∙ ⊎_elim
     ∙ sym (ap (λ z. is_label z l) (get_push_other labels a y n)))
     (cases_eq y (length labels))
 
-pub told_push : (labels : List Label) (a : Label) (rows : List Row) → (n : ℕ) → n ≡ length labels → Tell rows (more_of (has_label labels) a.number n) → (labels' : List Label) → labels' ≡ labels ++ a ∷ [] → Tell rows (has_label labels')
-told_push labels a rows n en t0 labels' el = subst (λ z. Tell rows (has_label z)) (sym el) (told_end labels a rows (subst (λ z. Tell rows (more_of (has_label labels) a.number z)) en t0))
+pub told_push : (labels : List Label) (a : Label) (rows : List Row) → (n : ℕ) → n ≡ length labels → Tell rows (more_of (has_label labels) a.number n)
+    → (labels' : List Label) → labels' ≡ labels ++ a ∷ [] → Tell rows (has_label labels')
+told_push labels a rows n en t0 labels' el =
+    subst (λ z. Tell rows (has_label z)) (sym el) (told_end labels a rows (subst (λ z. Tell rows (more_of (has_label labels) a.number z)) en t0))
 
 pub room_push : (labels : List Label) (a : Label) (m m' : ℕ) → ((x : ℕ) (b : Label) → slice_get labels x ≡ Some b → b.number < m) → m ≤ m' → a.number < m' →
     (x : ℕ) (b : Label) → slice_get (labels ++ a ∷ []) x ≡ Some b → b.number < m'
@@ -161,7 +169,8 @@ told_set labels x old a rows is t l r e y = t l r e y ∙ ⊎_elim
     ∙ sym (ap (λ z. is_label z l) (get_set_other labels x y a n)))
     (cases_eq y x)
 
-pub room_set : (labels : List Label) (i : ℕ) (a : Label) (m m' : ℕ) → i < length labels → ((x : ℕ) (b : Label) → slice_get labels x ≡ Some b → b.number < m) → m ≤ m' → a.number < m' →
+pub room_set : (labels : List Label) (i : ℕ) (a : Label) (m m' : ℕ) → i < length labels → ((x : ℕ) (b : Label) → slice_get labels x ≡ Some b → b.number < m)
+    → m ≤ m' → a.number < m' →
     (x : ℕ) (b : Label) → slice_get (slice_set labels i a) x ≡ Some b → b.number < m'
 room_set labels i a m m' h f le new x b e = ⊎_elim
     (λ (q : x ≡ i).
@@ -195,7 +204,8 @@ module _ (lat : Lattice) (ll : IsLattice lat) (labels : List Label) (base : ℕ)
       go None e k = absurd (both_ways false refl k)
       go (Some a) e k = (a, e, eqb-true a.number l k)
 
-  pub met_more : (rows : List Row) (l v w : ℕ) (r : Row) → Tell rows (has_label labels) → slice_get rows l ≡ Some r → Met l v → Flows lat v w → (Meet has (has_in r.words) → Flows lat l w) → Met (l + 1) w
+  pub met_more : (rows : List Row) (l v w : ℕ) (r : Row) → Tell rows (has_label labels) → slice_get rows l ≡ Some r → Met l v → Flows lat v w
+      → (Meet has (has_in r.words) → Flows lat l w) → Met (l + 1) w
   met_more rows l v w r t g m up f x a e h i = ⊎_elim
       (λ (k : a.number < l). ll.chain a.number v w (m x a e k i) up)
       (λ (k : l ≤ a.number).
@@ -211,7 +221,8 @@ module _ (lat : Lattice) (ll : IsLattice lat) (labels : List Label) (base : ℕ)
       let s = label_of_some k.0 l (sym (t l r g k.0) ∙ k.2) in
       subst (λ z. Flows lat z u) s.2 (m k.0 s.0 s.1 k.1))
 
-  pub value_is : (bottom v n : ℕ) → ((x : ℕ) (a : Label) → slice_get labels x ≡ Some a → a.number < n) → Flows lat base v → Met n v → Least v → v ≡ value_from lat (label_at bottom labels) base has (length labels)
+  pub value_is : (bottom v n : ℕ) → ((x : ℕ) (a : Label) → slice_get labels x ≡ Some a → a.number < n) → Flows lat base v → Met n v → Least v
+      → v ≡ value_from lat (label_at bottom labels) base has (length labels)
   value_is bottom v n small up m least =
       let low : Label = record { number = bottom } in
       let g : ℕ → ℕ = label_at bottom labels in

@@ -14,7 +14,8 @@ pub if_all : {A E : Type 0} (r : Result A E) (P Q R T : A → Type 0) → ((a : 
 if_all (Ok a) P Q R T f p q t = f a p q t
 if_all (Err e) P Q R T f p q t = tt
 
-module _ (s : Syntax) (valid : IsValid s) (w : Work) (h : IsWorkOf s w) (done : IsDone w) (vs ls : List Label) (hv : vs ≡ w.variables) (hl : ls ≡ w.levels) where
+module _ (s : Syntax) (valid : IsValid s) (w : Work) (h : IsWorkOf s w) (done : IsDone w) (vs ls : List Label)
+    (hv : vs ≡ w.variables) (hl : ls ≡ w.levels) where
   pub is_least : (l : Labelling) → l.variables ≡ vs → l.levels ≡ ls → Labels s l → IsLeast s l
   is_least l ev el labels = least_done s valid w h done l labels (ev ∙ hv) (el ∙ hl)
 
@@ -22,7 +23,8 @@ module _ (s : Syntax) (valid : IsValid s) (w : Work) (h : IsWorkOf s w) (done : 
   types l ev el labels = types_most s valid l (is_least l ev el labels)
 
 -- one step, or none
-pub after_step : (took : Bool) (w w' : Work) → (took ≡ false → IsDone w × (w' ≡ w)) → (took ≡ true → (i : ℕ) × (c : Condition) × Takes w w' i c) → (s : Syntax) → IsValid s → IsWorkOf s w → IsWorkOf s w'
+pub after_step : (took : Bool) (w w' : Work) → (took ≡ false → IsDone w × (w' ≡ w)) → (took ≡ true → (i : ℕ) × (c : Condition) × Takes w w' i c) → (s : Syntax)
+    → IsValid s → IsWorkOf s w → IsWorkOf s w'
 after_step true w w' f g s valid h = let t = g refl in still_work s valid w w' t.0 t.1 h t.2
 after_step false w w' f g s valid h = subst (λ z. IsWorkOf s z) (sym (f refl).1) h
 

@@ -47,7 +47,8 @@ one_least p order a b ha hb =
     (ll.anti (marks_of o a i).ew (marks_of o b i).ew (up.writes i) (down.writes i))) in
     same_parts a.variables b.variables a.levels b.levels a.commands b.commands vs cs ls
 
-same_labelled : (p p' : Syntax) (l l' : Labelling) → p ≡ p' → l ≡ l' → ◌≡◌ {A = LabelledProgram} (record { program = p; labels = l }) (record { program = p'; labels = l' })
+same_labelled : (p p' : Syntax) (l l' : Labelling) → p ≡ p' → l ≡ l'
+    → ◌≡◌ {A = LabelledProgram} (record { program = p; labels = l }) (record { program = p'; labels = l' })
 same_labelled p p' l l' e f = ap (λ z. record { program = z; labels = l }) e ∙ ap (λ z. record { program = p'; labels = z }) f
 
 -- so a program has one labelled program with its least labelling

@@ -18,7 +18,8 @@ module _ (lat : Lattice) (g : ℕ → ℕ) where
   own_is o e pc li h m u x hl hh hm hu =
       hu ∙ ap (λ z. x ++ z ∷ []) (hm ∙ ap (own_pair o) (hh ∙ ap (lat.join pc) hl))
 
-  pub if_pairs : (w : Written) (e : Expression) (q a b rest : Plan) (pc le inner li h : ℕ) (m : Label × Label) (x u y z : List (Label × Label)) → q ≡ If w e a b rest →
+  pub if_pairs : (w : Written) (e : Expression) (q a b rest : Plan) (pc le inner li h : ℕ) (m : Label × Label) (x u y z : List (Label × Label))
+      → q ≡ If w e a b rest →
       le ≡ label_of lat g e → inner ≡ lat.join pc le → li ≡ index_label lat g e → h ≡ lat.join pc li → m ≡ own_pair w.labels h → u ≡ x ++ m ∷ [] →
       y ≡ u ++ C a inner → z ≡ y ++ C b inner → x ++ C q pc ≡ z ++ C rest pc
   if_pairs w e q a b rest pc le inner li h m x u y z hq hl hi hli hh hm hu hy hz =
@@ -34,7 +35,8 @@ module _ (lat : Lattice) (g : ℕ → ℕ) where
       ∙ sym (append_assoc y (C b inner) (C rest pc))
       ∙ ap (λ v. v ++ C rest pc) (sym hz)
 
-  pub while_pairs : (w : Written) (e : Expression) (q a rest : Plan) (pc le inner li h : ℕ) (m : Label × Label) (x u y : List (Label × Label)) → q ≡ While w e a rest →
+  pub while_pairs : (w : Written) (e : Expression) (q a rest : Plan) (pc le inner li h : ℕ) (m : Label × Label) (x u y : List (Label × Label))
+      → q ≡ While w e a rest →
       le ≡ label_of lat g e → inner ≡ lat.join pc le → li ≡ index_label lat g e → h ≡ lat.join pc li → m ≡ own_pair w.labels h → u ≡ x ++ m ∷ [] →
       y ≡ u ++ C a inner → x ++ C q pc ≡ y ++ C rest pc
   while_pairs w e q a rest pc le inner li h m x u y hq hl hi hli hh hm hu hy =
@@ -48,7 +50,8 @@ module _ (lat : Lattice) (g : ℕ → ℕ) where
       ∙ sym (append_assoc u (C a inner) (C rest pc))
       ∙ ap (λ v. v ++ C rest pc) (sym hy)
 
-  pub mitigate_pairs : (w : Written) (k : ℕ) (l : Option Label) (e : Expression) (q a rest : Plan) (pc li h : ℕ) (m : Label × Label) (x u y : List (Label × Label)) → q ≡ Mitigate w k l e a rest →
+  pub mitigate_pairs : (w : Written) (k : ℕ) (l : Option Label) (e : Expression) (q a rest : Plan) (pc li h : ℕ) (m : Label × Label)
+      (x u y : List (Label × Label)) → q ≡ Mitigate w k l e a rest →
       li ≡ index_label lat g e → h ≡ lat.join pc li → m ≡ own_pair w.labels h → u ≡ x ++ m ∷ [] → y ≡ u ++ C a pc → x ++ C q pc ≡ y ++ C rest pc
   mitigate_pairs w k l e q a rest pc li h m x u y hq hli hh hm hu hy =
       let own = own_pair w.labels (lat.join pc (index_label lat g e)) in

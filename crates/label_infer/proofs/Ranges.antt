@@ -18,12 +18,14 @@ use Rattle.label_infer.proofs.Placed.{from_both}
 pub joins_below : (o : Order) → IsOrder o → (a b : ℕ) → a < o.size → b < o.size → (lattice_of o).join a b < o.size
 joins_below o ho a b h k =
     let n = o.size in
-    subst (λ z. z < n) (sym (cond-true (ltb a n && ltb b n) (join_in o.joins a b) (max a b) (and_from (ltb a n) (ltb b n) (lt-ltb a n h) (lt-ltb b n k)))) (ho.table.closed a b h k)
+    subst (λ z. z < n) (sym (cond-true (ltb a n && ltb b n) (join_in o.joins a b) (max a b) (and_from (ltb a n) (ltb b n) (lt-ltb a n h) (lt-ltb b n k))))
+        (ho.table.closed a b h k)
 
 abbrev pub PairBelow : ℕ → ℕ → Label × Label → Type 0
 PairBelow n i m = (m.0.number < n) × (m.1.number < n)
 
-both : (n : ℕ) (xs ys : List (Label × Label)) (i : ℕ) → ((j : ℕ) → AllFrom (PairBelow n) j xs) → ((j : ℕ) → AllFrom (PairBelow n) j ys) → AllFrom (PairBelow n) i (xs ++ ys)
+both : (n : ℕ) (xs ys : List (Label × Label)) (i : ℕ) → ((j : ℕ) → AllFrom (PairBelow n) j xs) → ((j : ℕ) → AllFrom (PairBelow n) j ys)
+    → AllFrom (PairBelow n) i (xs ++ ys)
 both n xs ys i f h = from_both (PairBelow n) xs ys i (i + length xs) refl (f i) (h (i + length xs))
 
 module _ (lat : Lattice) (n : ℕ) (low : lat.bottom < n) (closed : (a b : ℕ) → a < n → b < n → lat.join a b < n) (g : ℕ → ℕ) (gb : (x : ℕ) → g x < n) where

@@ -11,7 +11,8 @@ use Rattle.timing_types.specs.declared.rule.Rule.TheVariants.{Mtg as RMtg}
 use Rattle.timing_types.specs.Typing.{label_of, index_label}
 use Rattle.timing_types.specs.Walk.{OfLevel, Condition, demand, put_index, here, after, loop_start, walk_end, conditions, Meets}
 use Rattle.label_infer.specs.Least.{own, is_free, is_omitted}
-use Rattle.label_infer.specs.Forms.{LeftSide, value, Constraint, both, variable_form, label_form, index_form, put_form, here_form, own_form, after_form, loop_form, demand_form, end_form, set_constraint, level_constraint, constraints, right_of, AllMet}
+use Rattle.label_infer.specs.Forms.{LeftSide, value, Constraint, both, variable_form, label_form, index_form, put_form, here_form, own_form, after_form}
+use Rattle.label_infer.specs.Forms.{loop_form, demand_form, end_form, set_constraint, level_constraint, constraints, right_of, AllMet}
 use Rattle.label_infer.proofs.Values.{fixed_value, join_value, variable_value, label_value, index_value, put_value, here_value}
 use Rattle.label_infer.proofs.Fill.{owned, fill}
 
@@ -118,10 +119,12 @@ module _ (lat : Lattice) (ll : IsLattice lat) (n : ℕ) (g lv : ℕ → ℕ) (ds
     inner_value e = j2 pc (le e) P (label_of lat g e) hp (lev e)
 
     after_value : (e : Expression) → val (after_form lat free written t (er e) e) ≡ after lat g T (owned w (here lat g P e)) e
-    after_value e = j2 (fo t (le e)) (er e) (lat.join T (label_of lat g e)) (own w.labels (here lat g P e)).er (j2 t (le e) T (label_of lat g e) ht (lev e)) (erv e)
+    after_value e = j2 (fo t (le e)) (er e) (lat.join T (label_of lat g e)) (own w.labels (here lat g P e)).er
+        (j2 t (le e) T (label_of lat g e) ht (lev e)) (erv e)
 
     loop_value : (e : Expression) → val (loop_form lat free written t (er e) e) ≡ loop_start lat g T (owned w (here lat g P e)) e
-    loop_value e = j2 (fo (le e) t) (er e) (lat.join (label_of lat g e) T) (own w.labels (here lat g P e)).er (j2 (le e) t (label_of lat g e) T (lev e) ht) (erv e)
+    loop_value e = j2 (fo (le e) t) (er e) (lat.join (label_of lat g e) T) (own w.labels (here lat g P e)).er
+        (j2 (le e) t (label_of lat g e) T (lev e) ht) (erv e)
 
     demand_value : (h : LeftSide) (H : ℕ) (l i : LeftSide) (L I : ℕ) → val h ≡ H → val l ≡ L → val i ≡ I →
         val (demand_form lat free written pc t (own_form w.labels h) l i) ≡ demand lat P T (owned w H) L I
@@ -130,15 +133,18 @@ module _ (lat : Lattice) (ll : IsLattice lat) (n : ℕ) (g lv : ℕ → ℕ) (ds
         j2 (fo (fo (fo l i) pc) t) o (lat.join (lat.join (lat.join L I) P) T) (own w.labels H).er
         (j2 (fo (fo l i) pc) t (lat.join (lat.join L I) P) T (j2 (fo l i) pc (lat.join L I) P (j2 l i L I hl hi) hp) ht) (own_value w.labels h H hh)
 
-    assign_value : (x : ℕ) (e : Expression) → val (demand_form lat free written pc t (er e) (le e) (li e)) ≡ demand lat P T (owned w (here lat g P e)) (label_of lat g e) (index_label lat g e)
+    assign_value : (x : ℕ) (e : Expression)
+        → val (demand_form lat free written pc t (er e) (le e) (li e)) ≡ demand lat P T (owned w (here lat g P e)) (label_of lat g e) (index_label lat g e)
     assign_value x e =
         demand_value (here_form lat free written pc e) (here lat g P e) (le e) (li e) (label_of lat g e) (index_label lat g e)
         (here_value lat ll n g free written small keeps pc P e hp) (lev e) (iev e)
 
-    put_is : (i e : Expression) → val (demand_form lat free written pc t (own_form w.labels (fo pc (put_form lat free written i e))) (le e) (put_form lat free written i e))
+    put_is : (i e : Expression) → val (demand_form lat free written pc t (own_form w.labels (fo pc (put_form lat free written i e))) (le e)
+        (put_form lat free written i e))
         ≡ demand lat P T (owned w (lat.join P (put_index lat g i e))) (label_of lat g e) (put_index lat g i e)
     put_is i e =
-        demand_value (fo pc (put_form lat free written i e)) (lat.join P (put_index lat g i e)) (le e) (put_form lat free written i e) (label_of lat g e) (put_index lat g i e)
+        demand_value (fo pc (put_form lat free written i e)) (lat.join P (put_index lat g i e)) (le e) (put_form lat free written i e)
+            (label_of lat g e) (put_index lat g i e)
         (j2 pc (put_form lat free written i e) P (put_index lat g i e) hp (pev i e)) (lev e) (pev i e)
 
     next_value : (x : ℕ) (d : LeftSide) (D : ℕ) → val d ≡ D → val (fo (variable_form lat free written x) d) ≡ lat.join (g x) D
@@ -158,10 +164,12 @@ module _ (lat : Lattice) (ll : IsLattice lat) (n : ℕ) (g lv : ℕ → ℕ) (ds
   end_value Done pc t P T hp ht = ht
   end_value (Skip w p) pc t P T hp ht = end_value p pc _ P _ hp (skip_value w pc t P T hp ht)
   end_value (Assign w x e p) pc t P T hp ht =
-      end_value p pc _ P _ hp (next_value w pc t P T hp ht x (demand_form lat free written pc t (er w pc t P T hp ht e) (le e) (li e)) _ (assign_value w pc t P T hp ht x e))
+      end_value p pc _ P _ hp (next_value w pc t P T hp ht x (demand_form lat free written pc t (er w pc t P T hp ht e) (le e) (li e)) _
+          (assign_value w pc t P T hp ht x e))
   end_value (Put w f k i e p) pc t P T hp ht =
       end_value p pc _ P _ hp (next_value w pc t P T hp ht f
-      (demand_form lat free written pc t (own_form w.labels (fo pc (put_form lat free written i e))) (le e) (put_form lat free written i e)) _ (put_is w pc t P T hp ht i e))
+      (demand_form lat free written pc t (own_form w.labels (fo pc (put_form lat free written i e))) (le e) (put_form lat free written i e)) _
+          (put_is w pc t P T hp ht i e))
   end_value (Sleep w e p) pc t P T hp ht = end_value p pc _ P _ hp (after_value w pc t P T hp ht e)
   end_value (If w e a b p) pc t P T hp ht =
       let i = fo pc (le e) in
@@ -235,7 +243,8 @@ module _ (lat : Lattice) (ll : IsLattice lat) (n : ℕ) (g lv : ℕ → ℕ) (ds
       let S = loop_start lat g T (owned w (here lat g P e)) e in
       let iv = inner_value w pc t P T hp ht e in
       let ev = end_value c i s I S iv (loop_value w pc t P T hp ht e) in
-      same_two (N c i (E c i s)) (N p pc (E c i s)) (conds c I (ends c I S)) (conds p P (ends c I S)) (constraints_seen c i (E c i s) I (ends c I S) iv ev) (constraints_seen p pc (E c i s) P (ends c I S) hp ev)
+      same_two (N c i (E c i s)) (N p pc (E c i s)) (conds c I (ends c I S)) (conds p P (ends c I S)) (constraints_seen c i (E c i s) I (ends c I S) iv ev)
+          (constraints_seen p pc (E c i s) P (ends c I S) hp ev)
   constraints_seen (Mitigate w k l e c p) pc t P T hp ht =
       let s = after_form lat free written t (er w pc t P T hp ht e) e in
       let S = after lat g T (owned w (here lat g P e)) e in

@@ -5,7 +5,8 @@ use Rattle.label_infer.specs.declared.row.Row.{Row}
 use Rattle.label_infer.specs.Rows.{has_in}
 
 -- a row that has the variables of two rows
-pub joined_rows : (m a b a' b' : Row) → has_in m.words ≡ (λ y. has_in a'.words y || has_in b'.words y) → a' ≡ a → b' ≡ b → has_in m.words ≡ (λ y. has_in a.words y || has_in b.words y)
+pub joined_rows : (m a b a' b' : Row) → has_in m.words ≡ (λ y. has_in a'.words y || has_in b'.words y) → a' ≡ a → b' ≡ b
+    → has_in m.words ≡ (λ y. has_in a.words y || has_in b.words y)
 joined_rows m a b a' b' h ea eb =
     h ∙ ap (λ (r : Row). λ y. has_in r.words y || has_in b'.words y) ea ∙ ap (λ (r : Row). λ y. has_in a.words y || has_in r.words y) eb
 

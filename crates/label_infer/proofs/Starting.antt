@@ -1,5 +1,6 @@
 -- The worklist before the first step is that of its program.
-use Rattle.std.proofs.Common.{◌≡◌, ℕ, zero, suc, ◌<◌, ◌≤◌, refl, sym, ap, ◌∙◌, subst, List, [], ◌∷◌, ◌++◌, length, get_or, map, replicate, arith, ⊎_elim, append-nil}
+use Rattle.std.proofs.Common.{◌≡◌, ℕ, zero, suc, ◌<◌, ◌≤◌, refl, sym, ap, ◌∙◌, subst, List, [], ◌∷◌, ◌++◌, length, get_or, map, replicate, arith, ⊎_elim}
+use Rattle.std.proofs.Common.{append-nil}
 use Rattle.std.specs.Prelude.{Bool, true, false, is_none, Option, None, Some, slice_get, slice_index_or}
 use Rattle.std.proofs.lemmas.Bool.{cases_Bool, cases_lt, both_ways}
 use mathlib.Core.Path.{fun_ext}
@@ -58,8 +59,10 @@ levels_below n ds (Sleep w e p) k = levels_below n ds p k.2
 levels_below n ds (If w e a b p) k =
     all_both (λ (o : Option Label). IsBelow n o) (written_levels a) (written_levels b ++ written_levels p) (levels_below n ds a k.4)
     (all_both (λ (o : Option Label). IsBelow n o) (written_levels b) (written_levels p) (levels_below n ds b k.5) (levels_below n ds p k.6))
-levels_below n ds (While w e c p) k = all_both (λ (o : Option Label). IsBelow n o) (written_levels c) (written_levels p) (levels_below n ds c k.3) (levels_below n ds p k.4)
-levels_below n ds (Mitigate w m l e c p) k = (k.1, all_both (λ (o : Option Label). IsBelow n o) (written_levels c) (written_levels p) (levels_below n ds c k.4) (levels_below n ds p k.5))
+levels_below n ds (While w e c p) k =
+    all_both (λ (o : Option Label). IsBelow n o) (written_levels c) (written_levels p) (levels_below n ds c k.3) (levels_below n ds p k.4)
+levels_below n ds (Mitigate w m l e c p) k =
+    (k.1, all_both (λ (o : Option Label). IsBelow n o) (written_levels c) (written_levels p) (levels_below n ds c k.4) (levels_below n ds p k.5))
 
 each_at : (n : ℕ) (os : List (Option Label)) (x : ℕ) → Each (λ (o : Option Label). IsBelow n o) os → IsBelow n (get_or os x None)
 each_at n [] x h = tt
@@ -128,16 +131,20 @@ module _ (s : Syntax) (valid : IsValid s) (k : Known) (ho : k.order ≡ s.order)
       let hb : k.order.bottom ≡ s.order.bottom = ap (λ (z : Order). z.bottom) ho in
       ⊎_elim
       (λ (i : x < variables ds). ap (λ o. label_or o k.order.bottom) (at x (Some low) i) ∙ ap (label_or (cell_at ds x).label) hb)
-      (λ (i : variables ds ≤ x). ap (λ o. label_or o k.order.bottom) (past_get k.written.items x (Some low) (omega (arith, fit, i))) ∙ hb ∙ sym (past_or b (cells ds) x nowhere i refl))
+      (λ (i : variables ds ≤ x). ap (λ o. label_or o k.order.bottom) (past_get k.written.items x (Some low) (omega (arith, fit, i))) ∙ hb
+          ∙ sym (past_or b (cells ds) x nowhere i refl))
       (cases_lt x (variables ds))
 
-  same_constraints : (pc t : LeftSide) → constraints_from k (plan_of s) pc t ≡ constraints (lattice_of s.order) (is_free s.declarations) (written_in s.declarations s.order.bottom) (plan_of s) pc t
+  same_constraints : (pc t : LeftSide)
+      → constraints_from k (plan_of s) pc t
+      ≡ constraints (lattice_of s.order) (is_free s.declarations) (written_in s.declarations s.order.bottom) (plan_of s) pc t
   same_constraints pc t =
       ap (λ (z : Order). constraints (lattice_of z) (free_of k) (written_of k) (plan_of s) pc t) ho
       ∙ ap (λ (z : ℕ → Bool). constraints (lattice_of s.order) z (written_of k) (plan_of s) pc t) (fun_ext same_free)
       ∙ ap (λ (z : ℕ → ℕ). constraints (lattice_of s.order) (is_free s.declarations) z (plan_of s) pc t) (fun_ext same_written)
 
-  module _ (cs : List Condition) (ws : List Bool) (vs ls : List Label) (low : LeftSide) (hl : low ≡ fixed s.order.bottom) (hc : constraints_in cs ≡ constraints_from k (plan_of s) low low)
+  module _ (cs : List Condition) (ws : List Bool) (vs ls : List Label) (low : LeftSide) (hl : low ≡ fixed s.order.bottom)
+      (hc : constraints_in cs ≡ constraints_from k (plan_of s) low low)
       (hw : ws ≡ replicate (length cs) true) (hv : vs ≡ map (first_of k.order.bottom) k.written.items) (hs : ls ≡ first_levels s.order.bottom (plan_of s)) where
     abbrev W : List (Option Label)
     W = written_levels (plan_of s)
@@ -158,7 +165,8 @@ module _ (s : Syntax) (valid : IsValid s) (k : Known) (ho : k.order ≡ s.order)
         record {
           fit = f;
           below = λ x. ⊎_elim
-              (λ (i : x < variables ds). subst (λ z. z < s.order.size) (sym (variable_is x i)) (or_below s.order.size b (cell_at ds x).label some (label_within s valid x)))
+              (λ (i : x < variables ds). subst
+                  (λ z. z < s.order.size) (sym (variable_is x i)) (or_below s.order.size b (cell_at ds x).label some (label_within s valid x)))
               (λ (i : variables ds ≤ x). subst (λ z. z < s.order.size) (sym (past_label b vs x (omega (arith, f, i)))) some)
               (cases_lt x (variables ds));
           kept = λ x i. or_kept b (cell_at ds x).label (label_at b vs x) (variable_is x i);
@@ -184,7 +192,8 @@ module _ (s : Syntax) (valid : IsValid s) (k : Known) (ho : k.order ≡ s.order)
         record {
           fit = f ∙ m;
           below = λ j. ⊎_elim
-              (λ (i : j < length W). subst (λ z. z < s.order.size) (sym (level_is j i)) (or_below s.order.size b (get_or W j None) some (each_at s.order.size W j (levels_below s.order.size ds (plan_of s) valid.known))))
+              (λ (i : j < length W). subst (λ z. z < s.order.size) (sym (level_is j i))
+                  (or_below s.order.size b (get_or W j None) some (each_at s.order.size W j (levels_below s.order.size ds (plan_of s) valid.known))))
               (λ (i : length W ≤ j). subst (λ z. z < s.order.size) (sym (past_label b ls j (omega (arith, f, i)))) some)
               (cases_lt j (length W));
           kept = from_map (λ j o. get_or W j None ≡ o) (λ j o. IsKept o (label_at b ls j)) level_kept W 0 (from_all W [] W [] 0 None (sym (append-nil W)) refl);
@@ -200,7 +209,8 @@ module _ (s : Syntax) (valid : IsValid s) (k : Known) (ho : k.order ≡ s.order)
     first = record {
       waits = λ i h. ap (λ z. waits_at z i) hw ∙ all_wait (length cs) i h;
       variables = λ x t. variable_is x (small_of ds x t) ∙ ap (λ o. label_or o b) (not_free s x t);
-      levels = from_map (λ j o. get_or W j None ≡ o) (λ j o. is_none o ≡ true → label_at b ls j ≡ b) level_first W 0 (from_all W [] W [] 0 None (sym (append-nil W)) refl);
+      levels = from_map (λ j o. get_or W j None ≡ o) (λ j o. is_none o ≡ true
+          → label_at b ls j ≡ b) level_first W 0 (from_all W [] W [] 0 None (sym (append-nil W)) refl);
     }
 
     pub starts : IsWorkOf s (work s.order cs ws vs ls)
@@ -218,7 +228,8 @@ module _ (s : Syntax) (valid : IsValid s) (k : Known) (ho : k.order ≡ s.order)
               absurd (both_ways (waits_at ws i) f (ap (λ z. waits_at z i) hw ∙ all_wait (length cs) i l));
           low_variables = λ l h m x. ⊎_elim
               (λ (t : is_free ds x ≡ true). ⊎_elim
-              (λ (i : x < variables ds). subst (λ z. Flows la z (variable_of s.order l x)) (sym (variable_is x i ∙ ap (λ o. label_or o b) (not_free s x t))) (ll.lowest (variable_of s.order l x)))
+              (λ (i : x < variables ds). subst (λ z. Flows la z (variable_of s.order l x)) (sym (variable_is x i ∙ ap (λ o. label_or o b) (not_free s x t)))
+                  (ll.lowest (variable_of s.order l x)))
               (λ (i : variables ds ≤ x). absurd (both_ways (is_free ds x) (past_free (cells ds) x i) t))
               (cases_lt x (variables ds)))
               (λ (t : is_free ds x ≡ false).
@@ -228,9 +239,11 @@ module _ (s : Syntax) (valid : IsValid s) (k : Known) (ho : k.order ≡ s.order)
               (cases_Bool (is_free ds x));
           low_levels = λ l h m j. ⊎_elim
               (λ (i : j < length W).
-              let kept = from_first (λ j o. IsKept o (level_of s.order l j)) W j None (levels_kept (marks_of s.order l) (level_of s.order l) (plan_of s) 0 0 h.keeps.written valid.numbered) i in
+              let kept = from_first (λ j o. IsKept o (level_of s.order l j)) W j None
+                  (levels_kept (marks_of s.order l) (level_of s.order l) (plan_of s) 0 0 h.keeps.written valid.numbered) i in
               subst (λ z. Flows la z (level_of s.order l j)) (sym (level_is j i)) (or_low (get_or W j None) (level_of s.order l j) kept))
-              (λ (i : length W ≤ j). let f = levels_fit in subst (λ z. Flows la z (level_of s.order l j)) (sym (past_label b ls j (omega (arith, f, i)))) (ll.lowest (level_of s.order l j)))
+              (λ (i : length W ≤ j). let f = levels_fit in
+                  subst (λ z. Flows la z (level_of s.order l j)) (sym (past_label b ls j (omega (arith, f, i)))) (ll.lowest (level_of s.order l j)))
               (cases_lt j (length W));
         }
       where
@@ -243,7 +256,8 @@ module _ (s : Syntax) (valid : IsValid s) (k : Known) (ho : k.order ≡ s.order)
         or_low (Some l) x h = subst (λ z. Flows (lattice_of s.order) z x) h ((lattice_laws s.order valid.order).same x)
 
 -- right sides are there
-pub targets_there : (s : Syntax) → IsValid s → (cs : List Condition) (ws : List Bool) (vs ls : List Label) → IsWorkOf s (work s.order cs ws vs ls) → (i : ℕ) (c : Condition) → slice_get cs i ≡ Some c → IsThere (length vs) (length ls) c.target
+pub targets_there : (s : Syntax) → IsValid s → (cs : List Condition) (ws : List Bool) (vs ls : List Label) → IsWorkOf s (work s.order cs ws vs ls)
+    → (i : ℕ) (c : Condition) → slice_get cs i ≡ Some c → IsThere (length vs) (length ls) c.target
 targets_there s valid cs ws vs ls h i c e = go c.target refl
   where
     W : List (Option Label)

@@ -1,5 +1,6 @@
 -- What one step keeps, and what holds once no condition waits.
-use Rattle.std.proofs.Common.{◌≡◌, ℕ, zero, suc, ◌+◌, ◌<◌, ◌≤◌, refl, sym, ap, ◌∙◌, subst, List, [], ◌∷◌, length, get_or, slice_set, arith, ⊎_elim, length-set, get_or-set_same, get_or-set_other, append-nil}
+use Rattle.std.proofs.Common.{◌≡◌, ℕ, zero, suc, ◌+◌, ◌<◌, ◌≤◌, refl, sym, ap, ◌∙◌, subst, List, [], ◌∷◌, length, get_or, slice_set, arith, ⊎_elim}
+use Rattle.std.proofs.Common.{length-set, get_or-set_same, get_or-set_other, append-nil}
 use Rattle.std.specs.Prelude.{Bool, true, false, cond, ◌||◌, Option, None, Some, slice_get, is_none}
 use Rattle.std.proofs.lemmas.Bool.{cases_lt, cases_eq, both_ways, or_parts}
 use Rattle.std.proofs.lemmas.Option.{none-some, same_Some, slice_get_within}
@@ -46,7 +47,8 @@ past_label bottom (l ∷ ls) zero h = absurd (omega (arith, h))
 past_label bottom (l ∷ ls) (suc x) h = past_label bottom ls x (omega (arith, h))
 
 -- the labels that keep what is written, at variables with a written label
-pub keeps_of : (s : Syntax) (vs : List Label) → KeepsVariables s vs → (x : ℕ) → is_free s.declarations x ≡ false → label_at s.order.bottom vs x ≡ written_in s.declarations s.order.bottom x
+pub keeps_of : (s : Syntax) (vs : List Label) → KeepsVariables s vs → (x : ℕ) → is_free s.declarations x ≡ false
+    → label_at s.order.bottom vs x ≡ written_in s.declarations s.order.bottom x
 keeps_of s vs kv x f =
     let d : Cell = record { name = []; label = None; place = None } in
     let fit = kv.fit in
@@ -116,12 +118,15 @@ constraint_at [] i c e = absurd (none-some c e)
 constraint_at (d ∷ cs) zero c e = ap (λ z. Some (constraint_of z)) (same_Some d c e)
 constraint_at (d ∷ cs) (suc i) c e = constraint_at cs i c e
 
-met_at : (lat : Lattice) (n : ℕ) (g lv : ℕ → ℕ) (ns : List Constraint) (i : ℕ) (x : Constraint) → AllMet lat n g lv ns → slice_get ns i ≡ Some x → Flows lat (value lat n g x.have) (right_of g lv x.side)
+met_at : (lat : Lattice) (n : ℕ) (g lv : ℕ → ℕ) (ns : List Constraint) (i : ℕ) (x : Constraint) → AllMet lat n g lv ns → slice_get ns i ≡ Some x
+    → Flows lat (value lat n g x.have) (right_of g lv x.side)
 met_at la n g lv [] i x h e = absurd (none-some x e)
 met_at la n g lv (y ∷ ns) zero x h e = subst (λ z. Flows la (value la n g z.have) (right_of g lv z.side)) (same_Some y x e) h.0
 met_at la n g lv (y ∷ ns) (suc i) x h e = met_at la n g lv ns i x h.1 e
 
-met_from : (lat : Lattice) (n : ℕ) (g lv : ℕ → ℕ) (cs : List Condition) → ((i : ℕ) (c : Condition) → slice_get cs i ≡ Some c → Flows lat (value lat n g (constraint_of c).have) (right_of g lv (constraint_of c).side)) → AllMet lat n g lv (constraints_in cs)
+met_from : (lat : Lattice) (n : ℕ) (g lv : ℕ → ℕ) (cs : List Condition)
+    → ((i : ℕ) (c : Condition) → slice_get cs i ≡ Some c → Flows lat (value lat n g (constraint_of c).have) (right_of g lv (constraint_of c).side))
+    → AllMet lat n g lv (constraints_in cs)
 met_from la n g lv [] h = tt
 met_from la n g lv (c ∷ cs) h = (h 0 c refl, met_from la n g lv cs (λ i d e. h (suc i) d e))
 
@@ -130,7 +135,8 @@ pub set_same : (b : ℕ) (ls : List Label) (x v : ℕ) → x < length ls → lab
 set_same b ls x v h = let low : Label = record { number = b } in let new : Label = record { number = v } in ap (λ z. z.number) (get_or-set_same ls x new low h)
 
 pub set_other : (b : ℕ) (ls : List Label) (x y v : ℕ) → (y ≡ x → ⊥) → label_at b (slice_set ls x (record { number = v })) y ≡ label_at b ls y
-set_other b ls x y v h = let low : Label = record { number = b } in let new : Label = record { number = v } in ap (λ z. z.number) (get_or-set_other ls x y new low h)
+set_other b ls x y v h = let low : Label = record { number = b } in let new : Label = record { number = v } in
+    ap (λ z. z.number) (get_or-set_other ls x y new low h)
 
 wait_same : (ws : List Bool) (i : ℕ) → i < length ws → waits_at (slice_set ws i false) i ≡ false
 wait_same ws i h = get_or-set_same ws i false false h
@@ -143,14 +149,16 @@ woken_length x [] ws = refl
 woken_length x (c ∷ cs) [] = refl
 woken_length x (c ∷ cs) (w ∷ ws) = ap suc (woken_length x cs ws)
 
-pub woken_at : (x : ℕ) (cs : List Condition) (ws : List Bool) (j : ℕ) (c : Condition) → slice_get cs j ≡ Some c → j < length ws → waits_at (woken x cs ws) j ≡ (waits_at ws j || (constraint_of c).have.has x)
+pub woken_at : (x : ℕ) (cs : List Condition) (ws : List Bool) (j : ℕ) (c : Condition) → slice_get cs j ≡ Some c → j < length ws
+    → waits_at (woken x cs ws) j ≡ (waits_at ws j || (constraint_of c).have.has x)
 woken_at x [] ws j c e h = absurd (none-some c e)
 woken_at x (d ∷ cs) [] j c e h = absurd (omega (arith, h))
 woken_at x (d ∷ cs) (w ∷ ws) zero c e h = ap (λ z. w || (constraint_of z).have.has x) (same_Some d c e)
 woken_at x (d ∷ cs) (w ∷ ws) (suc j) c e h = woken_at x cs ws j c e (omega (arith, h))
 
 -- a value is a label, where its parts are
-value_below : (lat : Lattice) (m : ℕ) (closed : (a b : ℕ) → a < m → b < m → lat.join a b < m) (g : ℕ → ℕ) (gb : (x : ℕ) → g x < m) (base : ℕ) (has : ℕ → Bool) (n : ℕ) → base < m → value_from lat g base has n < m
+value_below : (lat : Lattice) (m : ℕ) (closed : (a b : ℕ) → a < m → b < m → lat.join a b < m) (g : ℕ → ℕ) (gb : (x : ℕ)
+    → g x < m) (base : ℕ) (has : ℕ → Bool) (n : ℕ) → base < m → value_from lat g base has n < m
 value_below lat m closed g gb base has zero h = h
 value_below lat m closed g gb base has (suc n) h = go (has n) (value_below lat m closed g gb base has n h)
   where
@@ -166,7 +174,8 @@ one_below : (n : ℕ) (w : List ℕ) (l : Option Label) (k : Option ℕ) → IsB
 one_below n w l None h = (h, tt)
 one_below n w l (Some k) h = elements_below n w l 0 k h
 
-cells_below : (n : ℕ) (ds : List Declaration) → ((i : ℕ) (d : Declaration) → i < length ds → IsBelow n (get_or ds i d).1.label) → Each (λ (c : Cell). IsBelow n c.label) (cells ds)
+cells_below : (n : ℕ) (ds : List Declaration) → ((i : ℕ) (d : Declaration) → i < length ds → IsBelow n (get_or ds i d).1.label)
+    → Each (λ (c : Cell). IsBelow n c.label) (cells ds)
 cells_below n [] f = tt
 cells_below n (d ∷ ds) f =
     all_both (λ (c : Cell). IsBelow n c.label) (cells_of d.0 d.1.label d.1.length) (cells ds) (one_below n d.0 d.1.label d.1.length (f 0 d (omega arith)))
@@ -194,12 +203,15 @@ opens : (s : Syntax) → IsValid s → Each (IsOpen s.order.size (is_free s.decl
 opens s valid =
     let b = s.order.bottom in
     let some = valid.order.table.some in
-    all_open (lattice_of s.order) s.order.size some (joins_below s.order valid.order) (is_free s.declarations) (written_in s.declarations b) (written_below s valid) (written_levels (plan_of s))
+    all_open (lattice_of s.order) s.order.size some (joins_below s.order valid.order) (is_free s.declarations) (written_in s.declarations b)
+        (written_below s valid) (written_levels (plan_of s))
     s.declarations (plan_of s) (fixed b) (fixed b) 0 [] [] valid.known some some valid.numbered refl (sym (append-nil (written_levels (plan_of s))))
 
-pub open_at : (s : Syntax) → IsValid s → (cs : List Condition) → constraints_in cs ≡ constraints_of s → (i : ℕ) (c : Condition) → slice_get cs i ≡ Some c → IsOpen s.order.size (is_free s.declarations) (written_levels (plan_of s)) (constraint_of c)
+pub open_at : (s : Syntax) → IsValid s → (cs : List Condition) → constraints_in cs ≡ constraints_of s → (i : ℕ) (c : Condition) → slice_get cs i ≡ Some c
+    → IsOpen s.order.size (is_free s.declarations) (written_levels (plan_of s)) (constraint_of c)
 open_at s valid cs is i c e =
-    all_at (IsOpen s.order.size (is_free s.declarations) (written_levels (plan_of s))) (constraints_of s) i (constraint_of c) (opens s valid) (subst (λ z. slice_get z i ≡ Some (constraint_of c)) is (constraint_at cs i c e))
+    all_at (IsOpen s.order.size (is_free s.declarations) (written_levels (plan_of s))) (constraints_of s) i (constraint_of c) (opens s valid)
+        (subst (λ z. slice_get z i ≡ Some (constraint_of c)) is (constraint_at cs i c e))
 
 -- a written label is not that of an omitted one
 pub not_free : (s : Syntax) (x : ℕ) → is_free s.declarations x ≡ true → (cell_at s.declarations x).label ≡ None
@@ -218,7 +230,8 @@ abbrev pub work : Order → List Condition → List Bool → List Label → List
 work o cs ws vs ls = record { order = o; conditions = cs; waits = ws; variables = vs; levels = ls }
 
 -- one step of the work of a program
-module _ (s : Syntax) (valid : IsValid s) (cs : List Condition) (ws : List Bool) (vs ls : List Label) (h : IsWorkOf s (work s.order cs ws vs ls)) (i : ℕ) (c : Condition) (e : slice_get cs i ≡ Some c) where
+module _ (s : Syntax) (valid : IsValid s) (cs : List Condition) (ws : List Bool) (vs ls : List Label) (h : IsWorkOf s (work s.order cs ws vs ls)) (i : ℕ)
+    (c : Condition) (e : slice_get cs i ≡ Some c) where
   abbrev o : Order
   o = s.order
 
@@ -250,14 +263,17 @@ module _ (s : Syntax) (valid : IsValid s) (cs : List Condition) (ws : List Bool)
   is_open = open_at s valid cs h.conditions i c e
 
   pub v_below : v < s.order.size
-  v_below = value_below la s.order.size (joins_below s.order valid.order) g h.variables.below (constraint_of c).have.base (constraint_of c).have.has (length vs) is_open.base
+  v_below = value_below la s.order.size (joins_below s.order valid.order) g h.variables.below (constraint_of c).have.base
+      (constraint_of c).have.has (length vs) is_open.base
 
   -- the left side lies below the right side of each labelling that meets what is omitted
   v_low : (l : Labelling) → Labels s l → MeetsOmitted s l → Flows la v (right_of (variable_of s.order l) (level_of s.order l) (constraint_of c).side)
   v_low l hl m =
       let up = value_up la lw (length vs) g (variable_of s.order l) (h.low_variables l hl m) (constraint_of c).have in
-      let met = met_at la (variables s.declarations) (variable_of s.order l) (level_of s.order l) (constraints_of s) i (constraint_of c) (constraints_met s valid l hl m) at_constraints in
-      let met2 = subst (λ z. Flows la (value la z (variable_of s.order l) (constraint_of c).have) (right_of (variable_of s.order l) (level_of s.order l) (constraint_of c).side)) (sym h.variables.fit) met in
+      let met = met_at la (variables s.declarations) (variable_of s.order l) (level_of s.order l) (constraints_of s) i (constraint_of c)
+          (constraints_met s valid l hl m) at_constraints in
+      let met2 = subst (λ z. Flows la (value la z (variable_of s.order l) (constraint_of c).have)
+          (right_of (variable_of s.order l) (level_of s.order l) (constraint_of c).side)) (sym h.variables.fit) met in
       lw.chain v _ _ up met2
 
   within : i < length ws
@@ -287,20 +303,24 @@ module _ (s : Syntax) (valid : IsValid s) (cs : List Condition) (ws : List Bool)
   joined_up xs x u l y = ⊎_elim
       (λ (q : y ≡ x). subst (λ z. Flows la (label_at bot xs z) (label_at bot (joined la bot xs x u) z)) (sym q)
       (subst (λ z. Flows la (label_at bot xs x) z) (sym (set_same bot xs x (la.join (label_at bot xs x) u) l)) (lw.left (label_at bot xs x) u)))
-      (λ (q : y ≡ x → ⊥). subst (λ z. Flows la (label_at bot xs y) z) (sym (set_other bot xs x y (la.join (label_at bot xs x) u) q)) (lw.same (label_at bot xs y)))
+      (λ (q : y ≡ x → ⊥). subst (λ z. Flows la (label_at bot xs y) z) (sym (set_other bot xs x y (la.join (label_at bot xs x) u) q))
+          (lw.same (label_at bot xs y)))
       (cases_eq y x)
 
   joined_is : (xs : List Label) (x u : ℕ) → x < length xs → Flows la u (label_at bot (joined la bot xs x u) x)
   joined_is xs x u l = subst (λ z. Flows la u z) (sym (set_same bot xs x (la.join (label_at bot xs x) u) l)) (lw.right (label_at bot xs x) u)
 
-  pub joined_below : (xs : List Label) (x u : ℕ) → x < length xs → u < s.order.size → ((y : ℕ) → label_at bot xs y < s.order.size) → (y : ℕ) → label_at bot (joined la bot xs x u) y < s.order.size
+  pub joined_below : (xs : List Label) (x u : ℕ) → x < length xs → u < s.order.size → ((y : ℕ) → label_at bot xs y < s.order.size) → (y : ℕ)
+      → label_at bot (joined la bot xs x u) y < s.order.size
   joined_below xs x u l hu f y = ⊎_elim
       (λ (q : y ≡ x). subst (λ z. label_at bot (joined la bot xs x u) z < s.order.size) (sym q)
-      (subst (λ z. z < s.order.size) (sym (set_same bot xs x (la.join (label_at bot xs x) u) l)) (joins_below s.order valid.order (label_at bot xs x) u (f x) hu)))
+      (subst (λ z. z < s.order.size) (sym (set_same bot xs x (la.join (label_at bot xs x) u) l))
+          (joins_below s.order valid.order (label_at bot xs x) u (f x) hu)))
       (λ (q : y ≡ x → ⊥). subst (λ z. z < s.order.size) (sym (set_other bot xs x y (la.join (label_at bot xs x) u) q)) (f y))
       (cases_eq y x)
 
-  joined_low : (xs : List Label) (x u : ℕ) → x < length xs → (k : ℕ → ℕ) → ((y : ℕ) → Flows la (label_at bot xs y) (k y)) → Flows la u (k x) → (y : ℕ) → Flows la (label_at bot (joined la bot xs x u) y) (k y)
+  joined_low : (xs : List Label) (x u : ℕ) → x < length xs → (k : ℕ → ℕ) → ((y : ℕ) → Flows la (label_at bot xs y) (k y)) → Flows la u (k x) → (y : ℕ)
+      → Flows la (label_at bot (joined la bot xs x u) y) (k y)
   joined_low xs x u l k f fu y = ⊎_elim
       (λ (q : y ≡ x). subst (λ z. Flows la (label_at bot (joined la bot xs x u) z) (k z)) (sym q)
       (subst (λ z. Flows la z (k x)) (sym (set_same bot xs x (la.join (label_at bot xs x) u) l)) (lw.least (label_at bot xs x) u (k x) (f x) fu)))
@@ -338,7 +358,8 @@ module _ (s : Syntax) (valid : IsValid s) (cs : List Condition) (ws : List Bool)
         settled = λ j d f kk. ⊎_elim
             (λ (q : j ≡ i).
             let same : c ≡ d = same_Some c d (sym e ∙ subst (λ z. slice_get cs z ≡ Some d) q f) in
-            subst (λ z. Flows la (have (constraint_of z)) (right_of g lv' (constraint_of z).side)) same (subst (λ z. Flows la v (right_of g lv' z)) (sym side) (joined_is ls k v l)))
+            subst (λ z. Flows la (have (constraint_of z)) (right_of g lv' (constraint_of z).side)) same
+                (subst (λ z. Flows la v (right_of g lv' z)) (sym side) (joined_is ls k v l)))
             (λ (q : j ≡ i → ⊥). lw.chain _ _ _ (h.settled j d f (sym (wait_other ws i j q) ∙ kk)) (rup (constraint_of d).side))
             (cases_eq j i);
         low_variables = h.low_variables;
@@ -346,17 +367,20 @@ module _ (s : Syntax) (valid : IsValid s) (cs : List Condition) (ws : List Bool)
             (subst (λ z. Flows la v (right_of (variable_of s.order l') (level_of s.order l') z)) side (v_low l' hl m));
       }
     where
-      level_up : (d : Side) → ((y : ℕ) → Flows la (lv y) (label_at bot (joined la bot ls k v) y)) → Flows la (right_of g lv d) (right_of g (label_at bot (joined la bot ls k v)) d)
+      level_up : (d : Side) → ((y : ℕ) → Flows la (lv y) (label_at bot (joined la bot ls k v) y))
+          → Flows la (right_of g lv d) (right_of g (label_at bot (joined la bot ls k v)) d)
       level_up OfCommand f = lw.same 0
       level_up (OfVariable x) f = lw.same (g x)
       level_up (OfLevel j w) f = f j
 
-      from_both_map : (W : List (Option Label)) (P Q : ℕ → Option Label → Type 0) → ((j : ℕ) (o' : Option Label) → get_or W j None ≡ o' → P j o' → Q j o') → AllFrom P 0 W → AllFrom Q 0 W
+      from_both_map : (W : List (Option Label)) (P Q : ℕ → Option Label → Type 0) → ((j : ℕ) (o' : Option Label) → get_or W j None ≡ o' → P j o' → Q j o')
+          → AllFrom P 0 W → AllFrom Q 0 W
       from_both_map W P Q f a = from_map (λ j o'. (get_or W j None ≡ o') × P j o') Q (λ j o' r. f j o' r.0 r.1) W 0
           (from_pair (λ j o'. get_or W j None ≡ o') P W 0 (from_all W [] W [] 0 None (sym (append-nil W)) refl) a)
 
   -- it is on a variable's label, which rises
-  pub raises_variable : (x : ℕ) → (constraint_of c).side ≡ OfVariable x → IsWorkOf s (work s.order cs (woken x cs (slice_set ws i false)) (joined la bot vs x v) ls)
+  pub raises_variable : (x : ℕ) → (constraint_of c).side ≡ OfVariable x
+      → IsWorkOf s (work s.order cs (woken x cs (slice_set ws i false)) (joined la bot vs x v) ls)
   raises_variable x side =
       let ds = s.declarations in
       let free : is_free ds x ≡ true = subst (λ z. IsRight (is_free ds) (written_levels (plan_of s)) z) side is_open.side in
@@ -385,7 +409,8 @@ module _ (s : Syntax) (valid : IsValid s) (cs : List Condition) (ws : List Bool)
           below = joined_below vs x v l v_below h.variables.below;
           kept = λ y j. ⊎_elim
               (λ (q : y ≡ x). kept_none (cell_at ds y).label (g' y) 0 (subst (λ z. (cell_at ds z).label ≡ None) (sym q) (not_free s x free)))
-              (λ (q : y ≡ x → ⊥). subst (λ z. IsKept (cell_at ds y).label z) (sym (set_other bot vs x y (la.join (g x) v) q)) (h.variables.kept y j)) (cases_eq y x);
+              (λ (q : y ≡ x → ⊥). subst (λ z. IsKept (cell_at ds y).label z) (sym (set_other bot vs x y (la.join (g x) v) q)) (h.variables.kept y j))
+                  (cases_eq y x);
         };
         levels = h.levels;
         settled = λ j d f kk.
@@ -395,15 +420,18 @@ module _ (s : Syntax) (valid : IsValid s) (cs : List Condition) (ws : List Bool)
             lw.chain _ _ _ (same_have d parts.1) (⊎_elim
             (λ (q : j ≡ i).
             let same : c ≡ d = same_Some c d (sym e ∙ subst (λ z. slice_get cs z ≡ Some d) q f) in
-            subst (λ z. Flows la (have (constraint_of z)) (right_of g' lv (constraint_of z).side)) same (subst (λ z. Flows la v (right_of g' lv z)) (sym side) (joined_is vs x v l)))
-            (λ (q : j ≡ i → ⊥). lw.chain _ _ _ (h.settled j d f (sym (wait_other ws i j q) ∙ parts.0)) (variable_up (constraint_of d).side (joined_up vs x v l)))
+            subst (λ z. Flows la (have (constraint_of z)) (right_of g' lv (constraint_of z).side)) same
+                (subst (λ z. Flows la v (right_of g' lv z)) (sym side) (joined_is vs x v l)))
+            (λ (q : j ≡ i → ⊥). lw.chain _ _ _ (h.settled j d f (sym (wait_other ws i j q) ∙ parts.0))
+                (variable_up (constraint_of d).side (joined_up vs x v l)))
             (cases_eq j i));
         low_variables = λ l' hl m. joined_low vs x v l (variable_of s.order l') (h.low_variables l' hl m)
             (subst (λ z. Flows la v (right_of (variable_of s.order l') (level_of s.order l') z)) side (v_low l' hl m));
         low_levels = h.low_levels;
       }
     where
-      variable_up : (d : Side) → ((y : ℕ) → Flows la (g y) (label_at bot (joined la bot vs x v) y)) → Flows la (right_of g lv d) (right_of (label_at bot (joined la bot vs x v)) lv d)
+      variable_up : (d : Side) → ((y : ℕ) → Flows la (g y) (label_at bot (joined la bot vs x v) y))
+          → Flows la (right_of g lv d) (right_of (label_at bot (joined la bot vs x v)) lv d)
       variable_up OfCommand f = lw.same 0
       variable_up (OfVariable y) f = f y
       variable_up (OfLevel k w) f = lw.same (lv k)
@@ -415,7 +443,9 @@ module _ (s : Syntax) (valid : IsValid s) (cs : List Condition) (ws : List Bool)
       go OfCommand q = h
       go (OfVariable x) q = by (la.flows v (g x)) refl
         where
-          by : (t : Bool) → la.flows v (g x) ≡ t → IsWorkOf s (cond t (work s.order cs (slice_set ws i false) vs ls) (work s.order cs (woken x cs (slice_set ws i false)) (joined la bot vs x v) ls))
+          by : (t : Bool) → la.flows v (g x) ≡ t
+              → IsWorkOf s (cond t (work s.order cs (slice_set ws i false) vs ls)
+              (work s.order cs (woken x cs (slice_set ws i false)) (joined la bot vs x v) ls))
           by true k = rests (subst (λ z. Flows la v (right_of g lv z)) (sym q) k)
           by false k = raises_variable x q
       go (OfLevel k w) q = raises_level k w q
@@ -433,8 +463,10 @@ still_work s valid w w' i c h t =
     subst (λ z. IsWorkOf s z) (sym (t.taken ∙ ap (λ z. taken_side z i (have_in z (constraint_of c)) (constraint_of c).side) q)) r
 
 -- where no condition waits, the labels are those of the least labelling
-done_is : (s : Syntax) → IsValid s → (cs : List Condition) (ws : List Bool) (vs ls : List Label) → IsWorkOf s (work s.order cs ws vs ls) → IsDone (work s.order cs ws vs ls) →
-    (ms : List (Label × Label)) → Labels s (record { variables = vs; commands = ms; levels = ls }) → IsLeast s (record { variables = vs; commands = ms; levels = ls })
+done_is : (s : Syntax) → IsValid s → (cs : List Condition) (ws : List Bool) (vs ls : List Label) → IsWorkOf s (work s.order cs ws vs ls)
+    → IsDone (work s.order cs ws vs ls) →
+    (ms : List (Label × Label)) → Labels s (record { variables = vs; commands = ms; levels = ls })
+        → IsLeast s (record { variables = vs; commands = ms; levels = ls })
 done_is s valid cs ws vs ls h done ms labels =
     let la = lattice_of s.order in
     let g : ℕ → ℕ = label_at s.order.bottom vs in
@@ -445,13 +477,16 @@ done_is s valid cs ws vs ls h done ms labels =
     let met3 = subst (λ z. AllMet la z g lv (constraints_of s)) h.variables.fit met2 in
     least_from s valid l labels (constraints_back s valid l labels met3) (λ l' h' m'. (h.low_variables l' h' m', h.low_levels l' h' m'))
 
-pub least_done : (s : Syntax) → IsValid s → (w : Work) → IsWorkOf s w → IsDone w → (l : Labelling) → Labels s l → l.variables ≡ w.variables → l.levels ≡ w.levels → IsLeast s l
+pub least_done : (s : Syntax) → IsValid s → (w : Work) → IsWorkOf s w → IsDone w → (l : Labelling) → Labels s l → l.variables ≡ w.variables
+    → l.levels ≡ w.levels → IsLeast s l
 least_done s valid w h done l labels hv hl =
     let q = same_work w s.order h.order in
     let is : l ≡ record { variables = w.variables; commands = l.commands; levels = w.levels } =
-    ap (λ z. record { variables = z; commands = l.commands; levels = l.levels }) hv ∙ ap (λ z. record { variables = w.variables; commands = l.commands; levels = z }) hl in
+    ap (λ z. record { variables = z; commands = l.commands; levels = l.levels }) hv
+        ∙ ap (λ z. record { variables = w.variables; commands = l.commands; levels = z }) hl in
     subst (λ z. IsLeast s z) (sym is)
-    (done_is s valid w.conditions w.waits w.variables w.levels (subst (λ z. IsWorkOf s z) q h) (subst (λ z. IsDone z) q done) l.commands (subst (λ z. Labels s z) is labels))
+    (done_is s valid w.conditions w.waits w.variables w.levels (subst (λ z. IsWorkOf s z) q h) (subst (λ z. IsDone z) q done) l.commands
+        (subst (λ z. Labels s z) is labels))
 
 -- in particular they are the labels of each least labelling
 pub inferred : (s : Syntax) → IsValid s → (w : Work) → IsWorkOf s w → IsDone w → IsInferred s w
@@ -460,9 +495,12 @@ inferred s valid w h done =
     let ll = lattice_laws s.order valid.order in
     let g0 : ℕ → ℕ = label_at s.order.bottom w.variables in
     let full = labels_from s valid w.variables w.levels (own_pairs la g0 (plan_of s) s.order.bottom) h.variables h.levels refl in
-    let best = least_done s valid w h done (record { variables = w.variables; commands = own_pairs la g0 (plan_of s) s.order.bottom; levels = w.levels }) full refl refl in
-    let to : (o : Order) (x : ℕ) (xs : List Label) → o ≡ s.order → label_at o.bottom xs x ≡ label_at s.order.bottom xs x = λ o x xs q. ap (λ (z : Order). label_at z.bottom xs x) q in
+    let best = least_done s valid w h done (record { variables = w.variables; commands = own_pairs la g0 (plan_of s) s.order.bottom; levels =
+        w.levels }) full refl refl in
+    let to : (o : Order) (x : ℕ) (xs : List Label) → o ≡ s.order → label_at o.bottom xs x ≡ label_at s.order.bottom xs x =
+        λ o x xs q. ap (λ (z : Order). label_at z.bottom xs x) q in
     record {
-      variables = λ l b x. to w.order x w.variables h.order ∙ ll.anti _ _ ((best.least l b.labels b.meets).variables x) ((b.least _ full best.meets).variables x);
+      variables = λ l b x. to w.order x w.variables h.order
+          ∙ ll.anti _ _ ((best.least l b.labels b.meets).variables x) ((b.least _ full best.meets).variables x);
       levels = λ l b x. to w.order x w.levels h.order ∙ ll.anti _ _ ((best.least l b.labels b.meets).levels x) ((b.least _ full best.meets).levels x);
     }

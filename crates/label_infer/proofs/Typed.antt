@@ -22,7 +22,8 @@ use Rattle.label_infer.proofs.Meeting.{parts_meet, holds_meet, label_up, index_u
 use Rattle.label_infer.proofs.Completed.{lattice_laws, same_written}
 use Rattle.label_infer.proofs.Fill.{owned, fill, fills}
 
-module _ (lat : Lattice) (ll : IsLattice lat) (ds : List Declaration) (g h lv lw : ℕ → ℕ) (gh : (x : ℕ) → Flows lat (g x) (h x)) (vw : (k : ℕ) → Flows lat (lv k) (lw k))
+module _ (lat : Lattice) (ll : IsLattice lat) (ds : List Declaration) (g h lv lw : ℕ → ℕ) (gh : (x : ℕ)
+    → Flows lat (g x) (h x)) (vw : (k : ℕ) → Flows lat (lv k) (lw k))
     (same : (x : ℕ) → is_free ds x ≡ false → g x ≡ h x) (ms ms' : ℕ → Marks) where
   own_up : (o : Option (Label × Label)) (a b : ℕ) → Flows lat a b → Flows lat (own o a).er (own o b).er
   own_up None a b f = f
@@ -60,7 +61,8 @@ module _ (lat : Lattice) (ll : IsLattice lat) (ds : List Declaration) (g h lv lw
     loop_is : (e : Expression) → Flows lat (loop_start lat g T (owned w (here lat g P e)) e) (loop_start lat h T' (owned w (here lat h P' e)) e)
     loop_is e = three_up _ _ T T' _ _ (le e) ft (er_is e)
 
-    assign_is : (e : Expression) → Flows lat (demand lat P T (owned w (here lat g P e)) (label_of lat g e) (index_label lat g e)) (demand lat P' T' (owned w (here lat h P' e)) (label_of lat h e) (index_label lat h e))
+    assign_is : (e : Expression) → Flows lat (demand lat P T (owned w (here lat g P e)) (label_of lat g e) (index_label lat g e))
+        (demand lat P' T' (owned w (here lat h P' e)) (label_of lat h e) (index_label lat h e))
     assign_is e = demand_up P P' T T' _ _ _ _ _ _ fp ft (er_is e) (le e) (li e)
 
     put_here : (i e : Expression) → Flows lat (lat.join P (put_index lat g i e)) (lat.join P' (put_index lat h i e))
@@ -101,7 +103,8 @@ module _ (lat : Lattice) (ll : IsLattice lat) (ds : List Declaration) (g h lv lw
       (λ (y : is_free ds x ≡ true). m y)
       (λ (n : is_free ds x ≡ false). subst (λ z. Flows lat low z) (sym (same x n)) (ll.chain low high (h x) u t)) (cases_Bool (is_free ds x))
 
-  level_typed : (l : Option Label) (k low high : ℕ) → Flows lat low high → IsKept l (lv k) → IsKept l (lw k) → (not (is_some l) ≡ true → Flows lat low (lv k)) → Flows lat high (lw k) → Flows lat low (lv k)
+  level_typed : (l : Option Label) (k low high : ℕ) → Flows lat low high → IsKept l (lv k) → IsKept l (lw k) → (not (is_some l) ≡ true → Flows lat low (lv k))
+      → Flows lat high (lw k) → Flows lat low (lv k)
   level_typed None k low high u a b m t = m refl
   level_typed (Some l) k low high u a b m t = subst (λ z. Flows lat low z) (b ∙ sym a) (ll.chain low high (lw k) u t)
 
@@ -110,7 +113,8 @@ module _ (lat : Lattice) (ll : IsLattice lat) (ds : List Declaration) (g h lv lw
       Meets lat (is_omitted ds) (conds p P T) → AllHold lat (conds' p P' T') → AllHold lat (conds p P T)
   typed_low Done i P P' T T' kv kw fp ft m a = tt
   typed_low (Skip w p) i P P' T T' kv kw fp ft m a =
-      (own_holds w.labels P P' fp a.0, typed_low p (i + 1) P P' _ _ kv.1 kw.1 fp (join_up lat ll T (own w.labels P).er T' (own w.labels P').er ft (own_up w.labels P P' fp)) m.1 a.1)
+      (own_holds w.labels P P' fp a.0,
+          typed_low p (i + 1) P P' _ _ kv.1 kw.1 fp (join_up lat ll T (own w.labels P).er T' (own w.labels P').er ft (own_up w.labels P P' fp)) m.1 a.1)
   typed_low (Assign w x e p) i P P' T T' kv kw fp ft m a =
       let up = assign_is w P P' T T' fp ft e in (
         set_typed x _ _ up m.0 a.0,
@@ -196,7 +200,8 @@ types_most s valid l best l' h' ty =
     let all' = (holds_from lat ll h (tree_of o l' p 0) b b b ty.0 sb ty.1).0 in
     let met' : MeetsOmitted s l' = holds_meet lat (is_omitted ds) (conditions lat h (tree_of o l' p 0) b b) all' in
     let low = best.least l' h' met' in
-    let all = typed_low lat ll ds g h lv lw low.variables low.levels (λ x f. same_written s l l' best.labels.keeps h'.keeps x f) (marks_of o l) (marks_of o l') p 0 b b b b
+    let all = typed_low lat ll ds g h lv lw low.variables low.levels (λ x f. same_written s l l' best.labels.keeps h'.keeps x f)
+        (marks_of o l) (marks_of o l') p 0 b b b b
     best.labels.keeps.written h'.keeps.written sb sb
     (subst (λ z. Meets lat (is_omitted ds) (conditions lat g z b b)) tree best.meets)
     (subst (λ z. AllHold lat (conditions lat h z b b)) tree' all') in

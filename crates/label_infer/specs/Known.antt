@@ -11,7 +11,8 @@ use Rattle.label_infer.specs.declared.constraints.Condition.{Condition}
 use Rattle.label_infer.specs.declared.constraints.Target.{Target}
 use Rattle.label_infer.specs.declared.constraints.Target.TheVariants.{Variable, Level}
 use Rattle.label_infer.specs.LeftSideOf.{left_side_of}
-use Rattle.label_infer.specs.Forms.{LeftSide, Constraint, label_or, fixed, both, variable_form, label_form, index_form, put_form, after_form, loop_form, demand_form, set_constraint, end_form, constraints}
+use Rattle.label_infer.specs.Forms.{LeftSide, Constraint, label_or, fixed, both, variable_form, label_form, index_form, put_form, after_form, loop_form}
+use Rattle.label_infer.specs.Forms.{demand_form, set_constraint, end_form, constraints}
 
 abbrev pub lat_of : Known → Lattice
 lat_of k = lattice_of k.order

@@ -15,11 +15,13 @@ pub chain_empty : {a b : ℕ} → Chain [] a b → a ≡ b
 chain_empty none = refl
 chain_empty (more w r) = absurd w
 
-pub written_split : (xs : List (Label × Label)) (p : Label × Label) (a b : ℕ) → IsWritten (xs ++ p ∷ []) a b → IsWritten xs a b ⊎ ((p.0.number ≡ a) × (p.1.number ≡ b))
+pub written_split : (xs : List (Label × Label)) (p : Label × Label) (a b : ℕ) → IsWritten (xs ++ p ∷ []) a b
+    → IsWritten xs a b ⊎ ((p.0.number ≡ a) × (p.1.number ≡ b))
 written_split [] p a b w = ⊎_elim (λ (e : (p.0.number ≡ a) × (p.1.number ≡ b)). inr e) (λ (x : ⊥). absurd x) w
 written_split (x ∷ xs) p a b w = ⊎_elim
     (λ (e : (x.0.number ≡ a) × (x.1.number ≡ b)). inl (inl e))
-    (λ (r : IsWritten (xs ++ p ∷ []) a b). ⊎_elim (λ (l : IsWritten xs a b). inl (inr l)) (λ (e : (p.0.number ≡ a) × (p.1.number ≡ b)). inr e) (written_split xs p a b r)) w
+    (λ (r : IsWritten (xs ++ p ∷ []) a b). ⊎_elim (λ (l : IsWritten xs a b). inl (inr l)) (λ (e : (p.0.number ≡ a) × (p.1.number ≡ b)). inr e)
+        (written_split xs p a b r)) w
 
 pub written_more : (xs : List (Label × Label)) (p : Label × Label) (a b : ℕ) → IsWritten xs a b → IsWritten (xs ++ p ∷ []) a b
 written_more [] p a b w = absurd w
@@ -39,7 +41,8 @@ pub chain_by : (xs : List (Label × Label)) (p : Label × Label) {a b : ℕ} →
 chain_by xs p l r = chain_then (xs ++ p ∷ []) (chain_more xs p l) (more (written_last xs p) (chain_more xs p r))
 
 -- with one pair more, a chain is one of before or goes by way of the new pair
-pub chain_split : (xs : List (Label × Label)) (p : Label × Label) {a b : ℕ} → Chain (xs ++ p ∷ []) a b → Chain xs a b ⊎ (Chain xs a p.0.number × Chain xs p.1.number b)
+pub chain_split : (xs : List (Label × Label)) (p : Label × Label) {a b : ℕ} → Chain (xs ++ p ∷ []) a b
+    → Chain xs a b ⊎ (Chain xs a p.0.number × Chain xs p.1.number b)
 chain_split xs p none = inl none
 chain_split xs p (more {a} {b} {c} w r) = ⊎_elim
     (λ (l : Chain xs b c). ⊎_elim

@@ -35,11 +35,14 @@ module _ (n : ℕ) (P Q : ℕ → ℕ → Type 0) (to : (a b : ℕ) → a < n �
         first = λ c d l k q. f.first c d l k (from c d (omega (arith, l, k)) k q);
       }
 
-module _ (n : ℕ) (R : ℕ → ℕ → Type 0) (same : (a : ℕ) → a < n → R a a) (chain : (a b c : ℕ) → a < n → b < n → c < n → R a b → R b c → R a c) (known : (a b : ℕ) → a < n → b < n → R a b ⊎ (R a b → ⊥)) (no_cycle : IsNoPair n (IsCycle R)) (one_lowest : IsNoPair n (AreLowest n R)) (joined : IsNoPair n (HaveNoJoin n R)) where
+module _ (n : ℕ) (R : ℕ → ℕ → Type 0) (same : (a : ℕ) → a < n → R a a) (chain : (a b c : ℕ) → a < n → b < n → c < n → R a b → R b c → R a c) (known : (a b : ℕ)
+    → a < n → b < n → R a b ⊎ (R a b → ⊥)) (no_cycle : IsNoPair n (IsCycle R)) (one_lowest : IsNoPair n (AreLowest n R))
+    (joined : IsNoPair n (HaveNoJoin n R)) where
   pub anti : (a b : ℕ) → a < n → b < n → R a b → R b a → a ≡ b
   anti a b h k p q = ⊎_elim
       (λ (e : a ≡ b). e)
-      (λ (o : (a < b) ⊎ (b < a)). ⊎_elim (λ (l : a < b). absurd (no_cycle a b l k (p, q))) (λ (l : b < a). absurd (no_cycle b a l h (q, p))) o) (cases_order a b)
+      (λ (o : (a < b) ⊎ (b < a)). ⊎_elim (λ (l : a < b). absurd (no_cycle a b l k (p, q))) (λ (l : b < a). absurd (no_cycle b a l h (q, p))) o)
+          (cases_order a b)
 
   abbrev pub LowestBelow : ℕ → ℕ → ℕ → Type 0
   LowestBelow k a m = (m < n) × R m a × ((c : ℕ) → c < k → R c m → c ≡ m)
@@ -82,7 +85,8 @@ module _ (n : ℕ) (R : ℕ → ℕ → Type 0) (same : (a : ℕ) → a < n → 
   same_lowest : (a b : ℕ) → a < n → b < n → IsLowest n R a → IsLowest n R b → a ≡ b
   same_lowest a b h k p q = ⊎_elim
       (λ (e : a ≡ b). e)
-      (λ (o : (a < b) ⊎ (b < a)). ⊎_elim (λ (l : a < b). absurd (one_lowest a b l k (p, q))) (λ (l : b < a). absurd (one_lowest b a l h (q, p))) o) (cases_order a b)
+      (λ (o : (a < b) ⊎ (b < a)). ⊎_elim (λ (l : a < b). absurd (one_lowest a b l k (p, q))) (λ (l : b < a). absurd (one_lowest b a l h (q, p))) o)
+          (cases_order a b)
 
   -- the lowest label flows to all
   pub lowest_flows : (m : ℕ) → m < n → IsLowest n R m → (a : ℕ) → a < n → R m a

@@ -24,9 +24,12 @@ module _ (o : Order) (l : Labelling) (n : ℕ) (f : Form) (e e' : Expr) (he : ex
   wrote_if v u v' u' a b middle end is ha hb hm hn hv hu w rest =
       let there : n + 1 + count (list_plan a) + count (list_plan b) ≡ end = omega (arith, hm, hn) in
       ap (λ z. written_plan o l z n) (if_parts f e v u a b is ha hb w rest)
-      ∙ ap (λ z. If (now w) z (written_plan o l (list_plan a) (n + 1)) (written_plan o l (list_plan b) (n + 1 + count (list_plan a))) (written_plan o l rest (n + 1 + count (list_plan a) + count (list_plan b)))) (sym he)
-      ∙ ap (λ z. If (now w) (expression_of e') z (written_plan o l (list_plan b) (n + 1 + count (list_plan a))) (written_plan o l rest (n + 1 + count (list_plan a) + count (list_plan b)))) (sym hv)
-      ∙ ap (λ z. If (now w) (expression_of e') (list_plan v'.items) (written_plan o l (list_plan b) z) (written_plan o l rest (n + 1 + count (list_plan a) + count (list_plan b)))) (sym hm)
+      ∙ ap (λ z. If (now w) z (written_plan o l (list_plan a) (n + 1)) (written_plan o l (list_plan b) (n + 1 + count (list_plan a)))
+          (written_plan o l rest (n + 1 + count (list_plan a) + count (list_plan b)))) (sym he)
+      ∙ ap (λ z. If (now w) (expression_of e') z (written_plan o l (list_plan b) (n + 1 + count (list_plan a)))
+          (written_plan o l rest (n + 1 + count (list_plan a) + count (list_plan b)))) (sym hv)
+      ∙ ap (λ z. If (now w) (expression_of e') (list_plan v'.items) (written_plan o l (list_plan b) z)
+          (written_plan o l rest (n + 1 + count (list_plan a) + count (list_plan b)))) (sym hm)
       ∙ ap (λ z. If (now w) (expression_of e') (list_plan v'.items) z (written_plan o l rest (n + 1 + count (list_plan a) + count (list_plan b)))) (sym hu)
       ∙ ap (λ z. If (now w) (expression_of e') (list_plan v'.items) (list_plan u'.items) (written_plan o l rest z)) there
       ∙ sym (plan-If e' v' u' (now w) (written_plan o l rest end))
@@ -41,12 +44,14 @@ module _ (o : Order) (l : Labelling) (n : ℕ) (f : Form) (e e' : Expr) (he : ex
       ∙ ap (λ z. While (now w) (expression_of e') (list_plan v'.items) (written_plan o l rest z)) (sym hn)
       ∙ sym (plan-While e' v' (now w) (written_plan o l rest end))
 
-  pub wrote_mitigate : (k : ℕ) (old : Option Label) (level : Label) (v v' : Vec Command Global) (a : List Command) (end : ℕ) → f ≡ DMitigate k e old v → a ≡ v.items
+  pub wrote_mitigate : (k : ℕ) (old : Option Label) (level : Label) (v v' : Vec Command Global) (a : List Command) (end : ℕ)
+      → f ≡ DMitigate k e old v → a ≡ v.items
       → end ≡ n + 1 + count (list_plan a) → level.number ≡ level_of o l k → list_plan v'.items ≡ written_plan o l (list_plan a) (n + 1)
       → (w : Written) (rest : Plan) → written_plan o l (form_plan f w rest) n ≡ form_plan (DMitigate k e' (Some level) v') (now w) (written_plan o l rest end)
   wrote_mitigate k old level v v' a end is ha hn hl hv w rest =
       ap (λ z. written_plan o l z n) (mitigate_parts f k e old v a is ha w rest)
-      ∙ ap (λ z. Mitigate (now w) k (Some (as_label z)) (expression_of e) (written_plan o l (list_plan a) (n + 1)) (written_plan o l rest (n + 1 + count (list_plan a)))) (sym hl)
+      ∙ ap (λ z. Mitigate (now w) k (Some (as_label z)) (expression_of e) (written_plan o l (list_plan a) (n + 1))
+          (written_plan o l rest (n + 1 + count (list_plan a)))) (sym hl)
       ∙ ap (λ z. Mitigate (now w) k (Some level) z (written_plan o l (list_plan a) (n + 1)) (written_plan o l rest (n + 1 + count (list_plan a)))) (sym he)
       ∙ ap (λ z. Mitigate (now w) k (Some level) (expression_of e') z (written_plan o l rest (n + 1 + count (list_plan a)))) (sym hv)
       ∙ ap (λ z. Mitigate (now w) k (Some level) (expression_of e') (list_plan v'.items) (written_plan o l rest z)) (sym hn)

@@ -39,7 +39,8 @@ module _ (o : Order) (l : Labelling) (list : List Command) (number : ℕ) where
   pub none_written : WrittenSoFar o l list number 0 number []
   none_written = record { numbers = refl; is = refl }
 
-  module _ (x : Command) (i next : ℕ) (done : List Command) (within : i < length list) (at : x ≡ get_or list i x) (so : WrittenSoFar o l list number i next done) where
+  module _ (x : Command) (i next : ℕ) (done : List Command) (within : i < length list) (at : x ≡ get_or list i x)
+      (so : WrittenSoFar o l list number i next done) where
     front : drop i list ≡ x ∷ drop (i + 1) list
     front = front_of list x i within at
 
@@ -50,7 +51,8 @@ module _ (o : Order) (l : Labelling) (list : List Command) (number : ℕ) where
     next_fits = let a = counted in let b = so.numbers in omega (arith, a, b)
 
     pub next_written : (c : Command) (end : ℕ) (new : List Command) → new ≡ done ++ c ∷ [] → end ≡ next + count (command_plan x Done)
-        → ((rest : Plan) → written_plan o l (command_plan x rest) next ≡ command_plan c (written_plan o l rest end)) → WrittenSoFar o l list number (i + 1) end new
+        → ((rest : Plan) → written_plan o l (command_plan x rest) next ≡ command_plan c (written_plan o l rest end))
+        → WrittenSoFar o l list number (i + 1) end new
     next_written c end new pushed ends says =
         let a = counted in
         let b = so.numbers in
@@ -65,7 +67,8 @@ module _ (o : Order) (l : Labelling) (list : List Command) (number : ℕ) where
               ∙ ap (λ z. onto z (written_plan o l rest end)) (sym pushed);
         }
 
-  pub all_written : (i next : ℕ) (done : List Command) → length list ≤ i → WrittenSoFar o l list number i next done → list_plan done ≡ written_plan o l (list_plan list) number
+  pub all_written : (i next : ℕ) (done : List Command) → length list ≤ i → WrittenSoFar o l list number i next done
+      → list_plan done ≡ written_plan o l (list_plan list) number
   all_written i next done h so =
       let none : drop i list ≡ [] = drop_all i list h in
       sym (onto_done done) ∙ ap (λ z. onto done (written_plan o l (list_plan z) next)) (sym none) ∙ sym so.is

@@ -30,7 +30,8 @@ module _ (s : Syntax) (l : Labelling) (v : IsValid s) (h : IsLabelling s l) (b :
   abbrev labelled : Syntax
   labelled = syntax s.order s.pairs (written_declarations s.order l s.declarations 0) b
 
-  written_label : (x : ℕ) → x < variables s.declarations → (cell_at (written_declarations s.order l s.declarations 0) x).label ≡ Some (as_label (variable_of s.order l x))
+  written_label : (x : ℕ) → x < variables s.declarations
+      → (cell_at (written_declarations s.order l s.declarations 0) x).label ≡ Some (as_label (variable_of s.order l x))
   written_label x i = label_written s.order l s.declarations h.declared v.arrays x i
 
   counted : count (list_plan b) ≡ count (plan_of s)
@@ -48,7 +49,8 @@ module _ (s : Syntax) (l : Labelling) (v : IsValid s) (h : IsLabelling s l) (b :
     commands_below = h.commands_below;
     levels_below = h.levels_below;
     declared = λ x i.
-        subst (λ (z : Option Label). IsKept z (variable_of s.order l x)) (sym (written_label x (subst (λ n. x < n) (same_variables s.order l s.declarations 0) i))) refl;
+        subst (λ (z : Option Label). IsKept z (variable_of s.order l x))
+            (sym (written_label x (subst (λ n. x < n) (same_variables s.order l s.declarations 0) i))) refl;
     written = subst (λ z. Keeps (marks_of s.order l) (level_of s.order l) z 0) (sym e) (keeps_own s.order l (plan_of s) 0);
   }
 
@@ -68,7 +70,8 @@ module _ (s : Syntax) (l : Labelling) (v : IsValid s) (h : IsLabelling s l) (b :
     same_variable : (x : ℕ) → x < length m.variables → variable_of s.order m x ≡ variable_of s.order l x
     same_variable x i =
         let j : x < variables s.declarations = subst (λ n. x < n) variables_length i in
-        subst (λ (z : Option Label). IsKept z (variable_of s.order m x)) (written_label x j) (g.declared x (subst (λ n. x < n) (sym (same_variables s.order l s.declarations 0)) j))
+        subst (λ (z : Option Label). IsKept z (variable_of s.order m x)) (written_label x j)
+            (g.declared x (subst (λ n. x < n) (sym (same_variables s.order l s.declarations 0)) j))
 
     same_command : (i : ℕ) → i < length m.commands → marks_of s.order m i ≡ marks_of s.order l i
     same_command i a =
@@ -103,16 +106,20 @@ module _ (s : Syntax) (l : Labelling) (v : IsValid s) (h : IsLabelling s l) (b :
   has_only = λ m. (λ g. same m g, λ q. subst (λ z. IsLabelling labelled z) (sym q) has)
 
 -- the same of parts that are equal to a labelled program's
-module _ (p : LabelledProgram) (s : Syntax) (o : Order) (l : Labelling) (ps ps' : List (Label × Label)) (ds es : List Declaration) (cs b : List Command) (hs : s ≡ p.program)
-    (lab : IsLabelling p.program p.labels) (v : IsValid s) (ho : o ≡ s.order) (hl : l ≡ p.labels) (hp : ps ≡ ps') (hq : ps' ≡ s.pairs) (hd : ds ≡ s.declarations) (hc : list_plan cs ≡ plan_of s)
+module _ (p : LabelledProgram) (s : Syntax) (o : Order) (l : Labelling) (ps ps' : List (Label × Label)) (ds es : List Declaration)
+    (cs b : List Command) (hs : s ≡ p.program)
+    (lab : IsLabelling p.program p.labels) (v : IsValid s) (ho : o ≡ s.order) (hl : l ≡ p.labels) (hp : ps ≡ ps') (hq : ps' ≡ s.pairs)
+        (hd : ds ≡ s.declarations) (hc : list_plan cs ≡ plan_of s)
     (he : es ≡ written_declarations o l ds 0) (hb : list_plan b ≡ written_plan o l (list_plan cs) 0) where
   declared : es ≡ written_declarations s.order p.labels s.declarations 0
   declared =
-      he ∙ ap (λ z. written_declarations z l ds 0) ho ∙ ap (λ z. written_declarations s.order z ds 0) hl ∙ ap (λ z. written_declarations s.order p.labels z 0) hd
+      he ∙ ap (λ z. written_declarations z l ds 0) ho ∙ ap (λ z. written_declarations s.order z ds 0) hl
+          ∙ ap (λ z. written_declarations s.order p.labels z 0) hd
 
   planned : list_plan b ≡ written_plan s.order p.labels (plan_of s) 0
   planned =
-      hb ∙ ap (λ z. written_plan z l (list_plan cs) 0) ho ∙ ap (λ z. written_plan s.order z (list_plan cs) 0) hl ∙ ap (λ z. written_plan s.order p.labels z 0) hc
+      hb ∙ ap (λ z. written_plan z l (list_plan cs) 0) ho ∙ ap (λ z. written_plan s.order z (list_plan cs) 0) hl
+          ∙ ap (λ z. written_plan s.order p.labels z 0) hc
 
   fits : IsLabelling s p.labels
   fits = subst (λ z. IsLabelling z p.labels) (sym hs) lab

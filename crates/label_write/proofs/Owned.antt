@@ -51,7 +51,8 @@ module _ (o : Order) (l : Labelling) where
   same_first [] x (suc k) = refl
   same_first (d ∷ ds) x (suc k) = ap (λ n. size_of d.1 + n) (same_first ds (x + size_of d.1) k)
 
-  written_at : (ds : List Declaration) (x k : ℕ) (d : Declaration) → slice_get ds k ≡ Some d → slice_get (written_declarations o l ds x) k ≡ Some (d.0, with_label o l d (x + first_of ds k))
+  written_at : (ds : List Declaration) (x k : ℕ) (d : Declaration) → slice_get ds k ≡ Some d
+      → slice_get (written_declarations o l ds x) k ≡ Some (d.0, with_label o l d (x + first_of ds k))
   written_at [] x k d e = absurd (none-some d e)
   written_at (y ∷ ds) x zero d e =
       let same : y ≡ d = same_Some y d e in
@@ -81,11 +82,14 @@ module _ (o : Order) (l : Labelling) where
         subst (λ (z : Declaration). IsShaped z.1.label z.1.length) (get_or_from_slice_get ds k d d w.there) (shaped k d (slice_get_within ds k d w.there)) in
         let below = first_below ds k d w.there in
         let each : (j : ℕ) → j < size_of d.1 → IsKept d.1.label (variable_of o l (first_of ds k + j)) =
-        λ j b. subst (λ (z : Cell). IsKept z.label (variable_of o l (first_of ds k + j))) (cell_in ds k j d _ w.there b) (kept (first_of ds k + j) (omega (arith, below, b))) in
+        λ j b. subst (λ (z : Cell). IsKept z.label (variable_of o l (first_of ds k + j))) (cell_in ds k j d _ w.there b)
+            (kept (first_of ds k + j) (omega (arith, below, b))) in
         ap (λ y. (cell_at (written_declarations o l ds 0) y).label) (w.is ∙ ap (λ y. y + i) (sym (same_first ds 0 k)))
-        ∙ ap (λ (z : Cell). z.label) (cell_in (written_declarations o l ds 0) k i (d.0, with_label o l d (0 + first_of ds k)) _ (written_at ds 0 k d w.there) w.within)
+        ∙ ap (λ (z : Cell). z.label) (cell_in (written_declarations o l ds 0) k i (d.0,
+            with_label o l d (0 + first_of ds k)) _ (written_at ds 0 k d w.there) w.within)
         ∙ ap (λ z. Some (as_label z))
-        (ap (λ y. variable_of o l y) (flat (first_of ds k)) ∙ uniform (first_of ds k) i d.1.label d.1.length shape w.within each ∙ ap (λ y. variable_of o l y) (sym w.is))
+        (ap (λ y. variable_of o l y) (flat (first_of ds k)) ∙ uniform (first_of ds k) i d.1.label d.1.length shape w.within each
+            ∙ ap (λ y. variable_of o l y) (sym w.is))
       where
         flat : (n : ℕ) → 0 + n ≡ n
         flat n = omega arith

@@ -1,5 +1,6 @@
 -- Declarations with their labels, put into a table one after another.
-use Rattle.std.proofs.Common.{◌≡◌, refl, sym, ap, ◌∙◌, subst, ℕ, suc, ◌+◌, ◌≤◌, arith, List, [], ◌∷◌, ◌++◌, append_assoc, length, length-append, drop, get_or, None, Some}
+use Rattle.std.proofs.Common.{◌≡◌, refl, sym, ap, ◌∙◌, subst, ℕ, suc, ◌+◌, ◌≤◌, arith, List, [], ◌∷◌, ◌++◌, append_assoc, length, length-append, drop, get_or}
+use Rattle.std.proofs.Common.{None, Some}
 use Rattle.std.specs.Prelude.{Bool, true, false, map, slice_get}
 use Rattle.std.specs.Map.{lookup}
 use Rattle.std.specs.Str.{bytes_eq}
@@ -62,7 +63,8 @@ module _ (o : Order) (l : Labelling) (ds : List Declaration) where
       pub is_new : AllDiffer (names ds) → lookup (eq-value.it d.0) done ≡ None
       is_new h =
           lookup-none (eq-value.it d.0) done
-          (none_passes done (written_declarations o l (drop (k + 1) ds) (next + size_of d.1)) d.0 (record { label = Some (as_label (variable_of o l next)); length = d.1.length })
+          (none_passes done (written_declarations o l (drop (k + 1) ds) (next + size_of d.1)) d.0
+              (record { label = Some (as_label (variable_of o l next)); length = d.1.length })
           (subst (λ z. AllDiffer z) (sym (names_written o l ds 0) ∙ ap names all) h))
 
       pub next_put : (end : ℕ) → end ≡ next + size_of d.1
@@ -74,8 +76,10 @@ module _ (o : Order) (l : Labelling) (ds : List Declaration) where
             first = omega (arith, m, f, e);
             is =
                 all
-                ∙ sym (append_assoc done ((d.0, record { label = Some (as_label (variable_of o l next)); length = d.1.length }) ∷ []) (written_declarations o l (drop (k + 1) ds) (next + size_of d.1)))
-                ∙ ap (λ z. (done ++ (d.0, record { label = Some (as_label (variable_of o l next)); length = d.1.length }) ∷ []) ++ written_declarations o l (drop (k + 1) ds) z) (sym e);
+                ∙ sym (append_assoc done ((d.0, record { label = Some (as_label (variable_of o l next)); length = d.1.length }) ∷ [])
+                    (written_declarations o l (drop (k + 1) ds) (next + size_of d.1)))
+                ∙ ap (λ z. (done ++ (d.0, record { label = Some (as_label (variable_of o l next)); length = d.1.length }) ∷ [])
+                    ++ written_declarations o l (drop (k + 1) ds) z) (sym e);
           }
 
     pub all_put : length ds ≤ k → done ≡ written_declarations o l ds 0

@@ -9,7 +9,8 @@ use Rattle.label_lattice.specs.Order.{Order, AllDiffer}
 use Rattle.label_lattice.specs.Names.{IsName}
 use Rattle.mit_syntax.specs.declared.ast.Command.{Command}
 use Rattle.mit_syntax.specs.declared.declarations.Decl.{Decl}
-use Rattle.mit_syntax.specs.Declarations.{Declaration, size_of, length_in, elements_in, declared, scalar_from, scalar_in, array_from, array_in, find_scalar, find_array}
+use Rattle.mit_syntax.specs.Declarations.{Declaration, size_of, length_in, elements_in, declared, scalar_from, scalar_in, array_from, array_in, find_scalar}
+use Rattle.mit_syntax.specs.Declarations.{find_array}
 use Rattle.mit_syntax.specs.Expression.{Expression, Number, Variable, Binary, Element}
 use Rattle.mit_syntax.specs.Limits.{AreSmall}
 use Rattle.mit_syntax.specs.Todo.{Done, Skip, Assign, Put, Sleep, If, While, Mitigate}
@@ -75,12 +76,14 @@ module _ (o : Order) (l : Labelling) where
       )
   numbered_written n (While w e c p) i h = (
     numbered_written n c (i + 1) h.0,
-    subst (λ m. AreNumbered (n + m) (written_plan o l p (i + 1 + count c))) (sym (same_mitigates c (i + 1))) (numbered_written (n + mitigates c) p (i + 1 + count c) h.1),
+    subst (λ m. AreNumbered (n + m) (written_plan o l p (i + 1 + count c))) (sym (same_mitigates c (i + 1)))
+        (numbered_written (n + mitigates c) p (i + 1 + count c) h.1),
   )
   numbered_written n (Mitigate w k v e c p) i h = (
     h.0,
     numbered_written (n + 1) c (i + 1) h.1,
-    subst (λ m. AreNumbered (n + 1 + m) (written_plan o l p (i + 1 + count c))) (sym (same_mitigates c (i + 1))) (numbered_written (n + 1 + mitigates c) p (i + 1 + count c) h.2),
+    subst (λ m. AreNumbered (n + 1 + m) (written_plan o l p (i + 1 + count c))) (sym (same_mitigates c (i + 1)))
+        (numbered_written (n + 1 + mitigates c) p (i + 1 + count c) h.2),
   )
 
   small_written : (d : ℕ) (p : Plan) (i : ℕ) → AreSmall d p → AreSmall d (written_plan o l p i)
@@ -112,7 +115,8 @@ module _ (o : Order) (l : Labelling) where
   same_shape w [] x = refl
   same_shape w (d ∷ ds) x = by (same_shape w ds (x + size_of d.1)) (bytes_eq w d.0) refl
     where
-      by : shape (later d ds x w) ≡ shape (declared ds w) → (b : Bool) → bytes_eq w d.0 ≡ b → shape (declared (written_declarations o l (d ∷ ds) x) w) ≡ shape (declared (d ∷ ds) w)
+      by : shape (later d ds x w) ≡ shape (declared ds w) → (b : Bool) → bytes_eq w d.0 ≡ b
+          → shape (declared (written_declarations o l (d ∷ ds) x) w) ≡ shape (declared (d ∷ ds) w)
       by rest true h =
           ap shape (cond-true (bytes_eq w d.0) (Some (0, with_label d x)) (option_map (λ r. (size_of d.1 + r.0, r.1)) (later d ds x w)) h)
           ∙ sym (ap shape (cond-true (bytes_eq w d.0) (Some (0, d.1)) (option_map (λ r. (size_of d.1 + r.0, r.1)) (declared ds w)) h))
@@ -174,7 +178,8 @@ module _ (o : Order) (l : Labelling) where
         known_written b (i + 1 + count a) h.5,
         known_written p (i + 1 + count a + count b) h.6,
       )
-      known_written (While w e c p) i h = (marks i, expression_known e h.1, some_written c (i + 1) h.2, known_written c (i + 1) h.3, known_written p (i + 1 + count c) h.4)
+      known_written (While w e c p) i h = (marks i, expression_known e h.1, some_written c (i + 1) h.2, known_written c (i + 1) h.3,
+          known_written p (i + 1 + count c) h.4)
       known_written (Mitigate w k v e c p) i h =
           (marks i, levels k, expression_known e h.2, some_written c (i + 1) h.3, known_written c (i + 1) h.4, known_written p (i + 1 + count c) h.5)
 
@@ -194,7 +199,8 @@ module _ (o : Order) (l : Labelling) where
       → (ds : List Declaration) (x : ℕ) → All P ds → All Q (written_declarations o l ds x)
   all_written P Q each [] x h = λ k d i. absurd (omega (arith, i))
   all_written P Q each (d ∷ ds) x h =
-      All-cons Q _ (written_declarations o l ds (x + size_of d.1)) (each d x (All-head P d ds h)) (all_written P Q each ds (x + size_of d.1) (All-tail P d ds h))
+      All-cons Q _ (written_declarations o l ds (x + size_of d.1)) (each d x (All-head P d ds h))
+          (all_written P Q each ds (x + size_of d.1) (All-tail P d ds h))
 
 shaped_written : (a : Option Label) (b : Label) (n : Option ℕ) → IsShaped a n → IsShaped (Some b) n
 shaped_written a b None h = tt
@@ -218,7 +224,8 @@ valid_written s l v h b e =
       names = all_written o l (λ d. IsName d.0) (λ d. IsName d.0) (λ d x i. i) ds 0 v.names;
       differ = subst (λ z. AllDiffer z) (sym (names_written o l ds 0)) v.differ;
       labels = all_written o l (λ d. IsName d.0) (λ d. IsBelow o.size d.1.label) (λ d x i. h.variables_below x) ds 0 v.names;
-      arrays = all_written o l (λ d. IsShaped d.1.label d.1.length) (λ d. IsShaped d.1.label d.1.length) (λ d x i. shaped_written d.1.label (as_label (variable_of o l x)) d.1.length i) ds 0 v.arrays;
+      arrays = all_written o l (λ d. IsShaped d.1.label d.1.length) (λ d. IsShaped d.1.label d.1.length)
+          (λ d x i. shaped_written d.1.label (as_label (variable_of o l x)) d.1.length i) ds 0 v.arrays;
       some = subst (λ z. AreSome z) (sym e) (some_written o l p 0 v.some);
       count = subst (λ z. count z ≤ 2147483647) (sym e) (subst (λ n. n ≤ 2147483647) (sym (same_count o l p 0)) v.count);
       known = subst (λ z. AreKnown o.size (written_declarations o l ds 0) z) (sym e) (known_written o l ds h.commands_below h.levels_below p 0 v.known);

@@ -1,5 +1,6 @@
 -- Starts that agree with a first one, one after the other.
-use Rattle.std.proofs.Common.{◌≡◌, ◌<◌, ◌≤◌, ℕ, suc, ◌+◌, List, [], ◌∷◌, ◌++◌, length, map, drop, get_or, refl, sym, ap, ◌∙◌, subst, arith, add-one, append-nil, append_assoc, length-append}
+use Rattle.std.proofs.Common.{◌≡◌, ◌<◌, ◌≤◌, ℕ, suc, ◌+◌, List, [], ◌∷◌, ◌++◌, length, map, drop, get_or, refl, sym, ap, ◌∙◌, subst, arith, add-one}
+use Rattle.std.proofs.Common.{append-nil, append_assoc, length-append}
 use Rattle.std.specs.Prelude.{All}
 use Rattle.std.proofs.lemmas.List.{drop-map, drop_all, length-map, get_or-map}
 use Rattle.std.proofs.Math.Seq.{drop-cons}
@@ -51,7 +52,8 @@ module _ {E : Type 0} (v : Env E) (serves : Order → E → Type 0) (p : Labelle
   pub agree_first : (one : Start E) (ss : List (Start E)) (n : ℕ) → n ≡ 1 → AgreeTo one ss ss n
   agree_first one ss n e = record { before = []; are = refl; agree = tt; number = e }
 
-  pub agree_more : (one s : Start E) (ss rest more : List (Start E)) (n m : ℕ) → m ≡ n + 1 → rest ≡ s ∷ more → AgreeTo one ss rest n → Agrees one s → AgreeTo one ss more m
+  pub agree_more : (one s : Start E) (ss rest more : List (Start E)) (n m : ℕ) → m ≡ n + 1 → rest ≡ s ∷ more → AgreeTo one ss rest n
+      → Agrees one s → AgreeTo one ss more m
   agree_more one s ss rest more n m e is h a = record {
     before = h.before ++ s ∷ [];
     are = h.are ∙ (ap (λ z. h.before ++ z) is ∙ sym (append_assoc h.before (s ∷ []) more));
@@ -59,7 +61,8 @@ module _ {E : Type 0} (v : Env E) (serves : Order → E → Type 0) (p : Labelle
     number = omega (arith, e, h.number, length-append h.before (s ∷ []));
   }
 
-  pub apart_here : (one s : Start E) (ss rest more : List (Start E)) (n : ℕ) (w : What) → rest ≡ s ∷ more → AgreeTo one ss rest n → IsFirstDifference v p o one s w → IsFirstApart v serves p o one ss n w
+  pub apart_here : (one s : Start E) (ss rest more : List (Start E)) (n : ℕ) (w : What) → rest ≡ s ∷ more → AgreeTo one ss rest n
+      → IsFirstDifference v p o one s w → IsFirstApart v serves p o one ss n w
   apart_here one s ss rest more n w is h d =
       record { before = h.before; apart = s; after = more; are = h.are ∙ ap (λ z. h.before ++ z) is; agree = h.agree; number = h.number; differs = d }
 
@@ -79,5 +82,6 @@ module _ {E : Type 0} (v : Env E) (serves : Order → E → Type 0) (p : Labelle
         parts = λ q l f. sym (a.parts q l f) ∙ b.parts q l f;
       }
 
-  pub disagrees : (one : Start E) (ss rest : List (Start E)) (run : ℕ) (w : What) → ss ≡ one ∷ rest → IsFirstApart v serves p o one ss run w → Disagrees v serves p o ss run w
+  pub disagrees : (one : Start E) (ss rest : List (Start E)) (run : ℕ) (w : What) → ss ≡ one ∷ rest → IsFirstApart v serves p o one ss run w
+      → Disagrees v serves p o ss run w
   disagrees one ss rest run w e h = subst (λ z. Disagrees v serves p o z run w) (sym e) (subst (λ z. IsFirstApart v serves p o one z run w) e h)

@@ -1,5 +1,6 @@
 -- Different members in order of first appearance, one after the other.
-use Rattle.std.proofs.Common.{◌≡◌, ◌≤◌, ℕ, ◌+◌, List, [], ◌∷◌, ◌++◌, length, map, filter, Bool, true, false, not, cond, ◌&&◌, ◌||◌, if◌then◌else◌, ℤ, refl, sym, ap, ◌∙◌, subst, arith, length-append, append-nil}
+use Rattle.std.proofs.Common.{◌≡◌, ◌≤◌, ℕ, ◌+◌, List, [], ◌∷◌, ◌++◌, length, map, filter, Bool, true, false, not, cond, ◌&&◌, ◌||◌, if◌then◌else◌, ℤ, refl}
+use Rattle.std.proofs.Common.{sym, ap, ◌∙◌, subst, arith, length-append, append-nil}
 use Rattle.std.specs.List.{list_any, position_or_len}
 use Rattle.std.specs.Ordering.{int_eq}
 use Rattle.std.specs.Prelude.{nat_eq}
@@ -44,15 +45,18 @@ ended_same j k c d p q = cc
 same_event-is : (e f : Event) → same_event e f ≡ true → e ≡ f
 same_event-is (Wrote x n c) (Wrote y m d) h =
     let r = second_of (nat_eq x y) (int_eq n m && nat_eq c d) h in
-    wrote_same x y n m c d ((Decides-eqb x y).0 (first_of (nat_eq x y) (int_eq n m && nat_eq c d) h)) ((Decides-int_eq n m).0 (first_of (int_eq n m) (nat_eq c d) r)) ((Decides-eqb c d).0 (second_of (int_eq n m) (nat_eq c d) r))
+    wrote_same x y n m c d ((Decides-eqb x y).0 (first_of (nat_eq x y) (int_eq n m && nat_eq c d) h))
+        ((Decides-int_eq n m).0 (first_of (int_eq n m) (nat_eq c d) r)) ((Decides-eqb c d).0 (second_of (int_eq n m) (nat_eq c d) r))
 same_event-is (Wrote x n c) (Began k d) h = absurd cc
 same_event-is (Wrote x n c) (Ended k d) h = absurd cc
 same_event-is (Began j c) (Wrote y m d) h = absurd cc
-same_event-is (Began j c) (Began k d) h = began_same j k c d ((Decides-eqb j k).0 (first_of (nat_eq j k) (nat_eq c d) h)) ((Decides-eqb c d).0 (second_of (nat_eq j k) (nat_eq c d) h))
+same_event-is (Began j c) (Began k d) h =
+    began_same j k c d ((Decides-eqb j k).0 (first_of (nat_eq j k) (nat_eq c d) h)) ((Decides-eqb c d).0 (second_of (nat_eq j k) (nat_eq c d) h))
 same_event-is (Began j c) (Ended k d) h = absurd cc
 same_event-is (Ended j c) (Wrote y m d) h = absurd cc
 same_event-is (Ended j c) (Began k d) h = absurd cc
-same_event-is (Ended j c) (Ended k d) h = ended_same j k c d ((Decides-eqb j k).0 (first_of (nat_eq j k) (nat_eq c d) h)) ((Decides-eqb c d).0 (second_of (nat_eq j k) (nat_eq c d) h))
+same_event-is (Ended j c) (Ended k d) h =
+    ended_same j k c d ((Decides-eqb j k).0 (first_of (nat_eq j k) (nat_eq c d) h)) ((Decides-eqb c d).0 (second_of (nat_eq j k) (nat_eq c d) h))
 
 same_sequence-refl : (es : List Event) → same_sequence es es ≡ true
 same_sequence-refl [] = refl
@@ -100,7 +104,8 @@ module _ {V : Type 0} (same : V → V → Bool) (tests : Tests same) where
   any-filter y x e [] = refl
   any-filter y x e (d ∷ ds) = go (same y d) refl (any-filter y x e ds)
     where
-      go : (b : Bool) → same y d ≡ b → list_any (same x) (filter (apart y) ds) ≡ list_any (same x) ds → list_any (same x) (filter (apart y) (d ∷ ds)) ≡ list_any (same x) (d ∷ ds)
+      go : (b : Bool) → same y d ≡ b → list_any (same x) (filter (apart y) ds) ≡ list_any (same x) ds
+          → list_any (same x) (filter (apart y) (d ∷ ds)) ≡ list_any (same x) (d ∷ ds)
       go true f more =
           ap (λ c. list_any (same x) (cond (not c) (d ∷ filter (apart y) ds) (filter (apart y) ds))) f
           ∙ (more ∙ sym (ap (λ c. c || list_any (same x) ds) (same_across x y d e f (same x d) refl)))
@@ -120,22 +125,28 @@ module _ {V : Type 0} (same : V → V → Bool) (tests : Tests same) where
       ds : List V
       ds = distinct same ys
 
-      go : (b : Bool) → same y x ≡ b → (c : Bool) → list_any (same x) ds ≡ c → y ∷ filter (apart y) (insert_key same ds x) ≡ insert_key same (y ∷ filter (apart y) ds) x
+      go : (b : Bool) → same y x ≡ b → (c : Bool) → list_any (same x) ds ≡ c
+          → y ∷ filter (apart y) (insert_key same ds x) ≡ insert_key same (y ∷ filter (apart y) ds) x
       go true e true f =
           ap (λ c. y ∷ filter (apart y) (if c then ds else ds ++ x ∷ [])) f
-          ∙ sym (ap (λ c. if c || list_any (same x) (filter (apart y) ds) then y ∷ filter (apart y) ds else (y ∷ filter (apart y) ds) ++ x ∷ []) (same_back y x true e))
+          ∙ sym (ap (λ c. if c || list_any (same x) (filter (apart y) ds) then y ∷ filter (apart y) ds else
+              (y ∷ filter (apart y) ds) ++ x ∷ []) (same_back y x true e))
       go true e false f =
           ap (λ c. y ∷ filter (apart y) (if c then ds else ds ++ x ∷ [])) f
-          ∙ (ap (λ z. y ∷ z) (filter-append (apart y) ds (x ∷ []) ∙ (ap (λ z. filter (apart y) ds ++ z) (filter-one y x true e) ∙ append-nil (filter (apart y) ds)))
-          ∙ sym (ap (λ c. if c || list_any (same x) (filter (apart y) ds) then y ∷ filter (apart y) ds else (y ∷ filter (apart y) ds) ++ x ∷ []) (same_back y x true e)))
+          ∙ (ap (λ z. y ∷ z) (filter-append (apart y) ds (x ∷ [])
+              ∙ (ap (λ z. filter (apart y) ds ++ z) (filter-one y x true e) ∙ append-nil (filter (apart y) ds)))
+          ∙ sym (ap (λ c. if c || list_any (same x) (filter (apart y) ds) then y ∷ filter (apart y) ds else
+              (y ∷ filter (apart y) ds) ++ x ∷ []) (same_back y x true e)))
       go false e true f =
           ap (λ c. y ∷ filter (apart y) (if c then ds else ds ++ x ∷ [])) f
-          ∙ sym (ap (λ c. if c || list_any (same x) (filter (apart y) ds) then y ∷ filter (apart y) ds else (y ∷ filter (apart y) ds) ++ x ∷ []) (same_back y x false e)
+          ∙ sym (ap (λ c. if c || list_any (same x) (filter (apart y) ds) then y ∷ filter (apart y) ds else
+              (y ∷ filter (apart y) ds) ++ x ∷ []) (same_back y x false e)
           ∙ ap (λ c. if c then y ∷ filter (apart y) ds else (y ∷ filter (apart y) ds) ++ x ∷ []) (any-filter y x e ds ∙ f))
       go false e false f =
           ap (λ c. y ∷ filter (apart y) (if c then ds else ds ++ x ∷ [])) f
           ∙ (ap (λ z. y ∷ z) (filter-append (apart y) ds (x ∷ []) ∙ ap (λ z. filter (apart y) ds ++ z) (filter-one y x false e))
-          ∙ sym (ap (λ c. if c || list_any (same x) (filter (apart y) ds) then y ∷ filter (apart y) ds else (y ∷ filter (apart y) ds) ++ x ∷ []) (same_back y x false e)
+          ∙ sym (ap (λ c. if c || list_any (same x) (filter (apart y) ds) then y ∷ filter (apart y) ds else
+              (y ∷ filter (apart y) ds) ++ x ∷ []) (same_back y x false e)
           ∙ ap (λ c. if c then y ∷ filter (apart y) ds else (y ∷ filter (apart y) ds) ++ x ∷ []) (any-filter y x e ds ∙ f)))
 
   any-push : (p : V → Bool) (l : List V) (x : V) → list_any p l ≡ true → list_any p (l ++ x ∷ []) ≡ true
@@ -168,7 +179,8 @@ module _ {V : Type 0} (same : V → V → Bool) (tests : Tests same) where
   place-push p [] x h = absurd cc
   place-push p (d ∷ l) x h = by (p d) refl (λ e. place-push p l x e)
     where
-      by : (b : Bool) → p d ≡ b → (list_any p l ≡ true → place p (l ++ x ∷ []) ≡ place p l) → cond (p d) 0 (1 + place p (l ++ x ∷ [])) ≡ cond (p d) 0 (1 + place p l)
+      by : (b : Bool) → p d ≡ b → (list_any p l ≡ true → place p (l ++ x ∷ []) ≡ place p l)
+          → cond (p d) 0 (1 + place p (l ++ x ∷ [])) ≡ cond (p d) 0 (1 + place p l)
       by true f more = ap (λ c. cond c 0 (1 + place p (l ++ x ∷ []))) f ∙ sym (ap (λ c. cond c 0 (1 + place p l)) f)
       by false f more =
           ap (λ c. cond c 0 (1 + place p (l ++ x ∷ []))) f
@@ -220,7 +232,8 @@ module _ {V : Type 0} (same : V → V → Bool) (tests : Tests same) where
       go true e = omega (arith, ap (λ c. length (if c then ds else ds ++ x ∷ [])) e)
       go false e = omega (arith, ap (λ c. length (if c then ds else ds ++ x ∷ [])) e, length-append ds (x ∷ []))
 
-  pub one_classed : (xs ds : List V) (cs : List ℕ) (x : V) → Classed same xs ds cs → Classed same (xs ++ x ∷ []) (insert_key same ds x) (cs ++ (position_or_len (same x) ds + 1) ∷ [])
+  pub one_classed : (xs ds : List V) (cs : List ℕ) (x : V) → Classed same xs ds cs
+      → Classed same (xs ++ x ∷ []) (insert_key same ds x) (cs ++ (position_or_len (same x) ds + 1) ∷ [])
   one_classed xs ds cs x h =
       let own : position_or_len (same x) (insert_key same ds x) ≡ position_or_len (same x) ds =
       place_is (same x) (insert_key same ds x) ∙ (place-inserted ds x ∙ sym (place_is (same x) ds)) in
@@ -229,7 +242,8 @@ module _ {V : Type 0} (same : V → V → Bool) (tests : Tests same) where
         different = ap (λ z. insert_key same z x) h.different ∙ sym (distinct-push xs x);
         classes =
             ap (λ z. z ++ (position_or_len (same x) ds + 1) ∷ []) (h.classes ∙ sym (classes-insert ds x xs h.among))
-            ∙ (ap (λ n. classes_in same (insert_key same ds x) xs ++ (n + 1) ∷ []) (sym own) ∙ sym (map-append (λ z. position_or_len (same z) (insert_key same ds x) + 1) xs (x ∷ [])));
+            ∙ (ap (λ n. classes_in same (insert_key same ds x) xs ++ (n + 1) ∷ []) (sym own)
+                ∙ sym (map-append (λ z. position_or_len (same z) (insert_key same ds x) + 1) xs (x ∷ [])));
         among = among-push (insert_key same ds x) xs x (among-insert ds x xs h.among) (any-inserted ds x);
         few = omega (arith, insert-few ds x, length-append xs (x ∷ []));
       }

@@ -30,10 +30,12 @@ module _ {E : Type 0} (v : Env E) (p : LabelledProgram) (o : ℕ) (s u : Start E
       → ((q : Place) → place_number q < i → (k : ℕ) → Flows (order_of p) k o → v.part q k s.env ≡ v.part q k u.env)
       → ((k : ℕ) → k < l.number → Flows (lattice_of lattice) k o → v.part place k s.env ≡ v.part place k u.env)
       → IsFirstDifference v p o s u (Partition place l)
-  first_place lattice i place l is at flows apart equal earlier before = record { here = (subst (λ z. Flows (lattice_of z) l.number o) is flows, apart); first = first }
+  first_place lattice i place l is at flows apart equal earlier before =
+      record { here = (subst (λ z. Flows (lattice_of z) l.number o) is flows, apart); first = first }
     where
       first : (b : What) → IsBefore b (Partition place l) → Differs v p o s u b → ⊥
       first (Variable x) h d = d.1 (equal x d.0)
       first (Partition q k) (inl h) d = d.1 (earlier q (omega (arith, at, h)) k.number d.0)
       first (Partition q k) (inr h) d =
-          d.1 (subst (λ z. v.part z k.number s.env ≡ v.part z k.number u.env) (sym h.0) (before k.number h.1 (subst (λ z. Flows (lattice_of z) k.number o) (sym is) d.0)))
+          d.1 (subst (λ z. v.part z k.number s.env ≡ v.part z k.number u.env) (sym h.0)
+              (before k.number h.1 (subst (λ z. Flows (lattice_of z) k.number o) (sym is) d.0)))

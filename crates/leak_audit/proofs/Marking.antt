@@ -46,7 +46,8 @@ marks_told-one rel k = let e : 0 + k ≡ k = omega arith in marks_told-add rel 0
 
 module _ (lat : Lattice) (g ls : ℕ → ℕ) (o : ℕ) (rel : ℕ → Bool) where
   -- a test that tells which marks of a numbered list are relevant tells the list
-  pub relevances-told : (p : Marked) (pc n : ℕ) → MarksFrom n p → LevelsAre ls p → Tells lat g o rel pc p → relevances lat g ls o pc p ≡ marks_told rel n (mitigates p)
+  pub relevances-told : (p : Marked) (pc n : ℕ) → MarksFrom n p → LevelsAre ls p → Tells lat g o rel pc p
+      → relevances lat g ls o pc p ≡ marks_told rel n (mitigates p)
   relevances-told Done pc n m v t = refl
   relevances-told (Skip k r) pc n m v t = relevances-told r pc n m v t
   relevances-told (Assign k x e r) pc n m v t = relevances-told r pc n m v t
@@ -94,19 +95,27 @@ bare-mitigates ms ls (While w e c p) i = omega (arith, bare-mitigates ms ls c (i
 bare-mitigates ms ls (Mitigate w k l e c p) i = omega (arith, bare-mitigates ms ls c (i + 1), bare-mitigates ms ls p (i + 1 + count c))
 
 -- a labelled program that is typed, with the image that it is lowered to
-compiled_of : (p : LabelledProgram) → IsLattice (order_of p) → IsValid p.program → IsLabelling p.program p.labels → HasType p → IsCompiled p.program.order (labels_of p) (levels_of p) (lowered p).instrs (bare_of p)
-compiled_of p lattice valid kept typed = compiled p (lowered p).instrs lattice valid.numbered kept (valid_arrays p.program p.labels valid kept) typed (image_is (order_of p) (labels_of p) (bare_of p))
+compiled_of : (p : LabelledProgram) → IsLattice (order_of p) → IsValid p.program → IsLabelling p.program p.labels → HasType p
+    → IsCompiled p.program.order (labels_of p) (levels_of p) (lowered p).instrs (bare_of p)
+compiled_of p lattice valid kept typed =
+    compiled p (lowered p).instrs lattice valid.numbered kept (valid_arrays p.program p.labels valid kept) typed
+    (image_is (order_of p) (labels_of p) (bare_of p))
 
 -- a labelled program that is typed is one that the theorem speaks of
 pub typed_with : (p : LabelledProgram) → IsLattice (order_of p) → IsValid p.program → IsLabelling p.program p.labels → HasType p → IsTypedWith p
-typed_with p lattice valid kept typed = record { lattice = lattice; numbered = valid.numbered; labelling = kept; arrays = valid_arrays p.program p.labels valid kept; typed = typed }
+typed_with p lattice valid kept typed =
+    record { lattice = lattice; numbered = valid.numbered; labelling = kept; arrays = valid_arrays p.program p.labels valid kept; typed = typed }
 
 -- relevance by a mitigate's program-counter label and its level
 abbrev pub relevance_by : TypedProgram → ℕ → ℕ → Bool
-relevance_by p o k = (order_of p.labelled).flows (context_of p k) o && not ((order_of p.labelled).flows (level_of p.labelled.program.order p.labelled.labels k) o)
+relevance_by p o k = (order_of p.labelled).flows (context_of p k) o && not
+    ((order_of p.labelled).flows (level_of p.labelled.program.order p.labelled.labels k) o)
 
-pub all_marks : (p : TypedProgram) (o n : ℕ) → IsLattice (order_of p.labelled) → IsValid p.labelled.program → IsLabelling p.labelled.program p.labelled.labels → HasType p.labelled → AreContexts p.labelled p.contexts →
-    n ≡ mitigates (plan_of p.labelled.program) → marks_told (relevance_by p o) 0 n ≡ relevances (order_of p.labelled) (labels_of p.labelled) (levels_of p.labelled) o (order_of p.labelled).bottom (plan_of p.labelled.program)
+pub all_marks : (p : TypedProgram) (o n : ℕ) → IsLattice (order_of p.labelled) → IsValid p.labelled.program → IsLabelling p.labelled.program p.labelled.labels
+    → HasType p.labelled → AreContexts p.labelled p.contexts →
+    n ≡ mitigates (plan_of p.labelled.program)
+        → marks_told (relevance_by p o) 0 n ≡ relevances (order_of p.labelled) (labels_of p.labelled) (levels_of p.labelled) o
+        (order_of p.labelled).bottom (plan_of p.labelled.program)
 all_marks p o n lattice valid kept typed contexts count_is =
     let q = p.labelled in
     let made = compiled_of q lattice valid kept typed in

@@ -15,11 +15,13 @@ power_is order o t k seqs m is =
     ap (λ z. z ^ (count_not_below (lattice_of order) o order.size * digits t)) (sym is.base)
     ∙ ap (λ z. m.base ^ z) (ap (λ z. z * digits t) (sym is.levels) ∙ sym is.exponent)
 
-pub within : (order : Order) (o t k : ℕ) (seqs : List (List Event)) (m : Measures) → IsMeasure order o t k seqs m → distinct_count same_sequence seqs ≤ bound order o t k → m.distinct ≤ m.base ^ m.exponent
+pub within : (order : Order) (o t k : ℕ) (seqs : List (List Event)) (m : Measures) → IsMeasure order o t k seqs m
+    → distinct_count same_sequence seqs ≤ bound order o t k → m.distinct ≤ m.base ^ m.exponent
 within order o t k seqs m is few = subst (λ z. m.distinct ≤ z) (power_is order o t k seqs m is) (subst (λ z. z ≤ bound order o t k) (sym is.distinct) few)
 
 -- sequences have one measure
-pub same_measures : (order : Order) (o t k j : ℕ) (seqs : List (List Event)) (m n : Measures) → k ≡ j → IsMeasure order o t k seqs m → IsMeasure order o t j seqs n → SameMeasures m n
+pub same_measures : (order : Order) (o t k j : ℕ) (seqs : List (List Event)) (m n : Measures) → k ≡ j → IsMeasure order o t k seqs m
+    → IsMeasure order o t j seqs n → SameMeasures m n
 same_measures order o t k j seqs m n e a b =
     let levels : m.levels ≡ n.levels = a.levels ∙ sym b.levels in
     record {
@@ -31,5 +33,6 @@ same_measures order o t k j seqs m n e a b =
     }
 
 -- where the count of mitigations is the same, and the measures are
-pub measure_of : (order : Order) (o t k j : ℕ) (seqs : List (List Event)) (m n : Measures) → k ≡ j → m ≡ n → IsMeasure order o t k seqs m → IsMeasure order o t j seqs n
+pub measure_of : (order : Order) (o t k j : ℕ) (seqs : List (List Event)) (m n : Measures) → k ≡ j → m ≡ n → IsMeasure order o t k seqs m
+    → IsMeasure order o t j seqs n
 measure_of order o t k j seqs m n e f is = subst (λ z. IsMeasure order o t j seqs z) f (subst (λ z. IsMeasure order o t z seqs m) e is)

@@ -27,7 +27,8 @@ module _ {E : Type 0} (v : Env E) (serves : Order → E → Type 0) (p : Labelle
       record {
         runs = a.runs ∙ sym b.runs;
         mitigations = mitigations;
-        measures = same_measures p.program.order o t r.mitigations s.mitigations (views (sequence_from v p o t) ss) r.measures s.measures mitigations a.measures b.measures;
+        measures = same_measures p.program.order o t r.mitigations s.mitigations (views (sequence_from v p o t) ss) r.measures s.measures
+            mitigations a.measures b.measures;
       }
 
   pub same_fault : (f g : AuditFault) → IsAuditFault v serves p o t ss f → IsAuditFault v serves p o t ss g → f ≢ Memory → g ≢ Memory → f ≡ g
@@ -37,7 +38,8 @@ module _ {E : Type 0} (v : Env E) (serves : Order → E → Type 0) (p : Labelle
   same_fault (Disagree run w) (Unfinished run' c) a b n m = absurd (not_apart v serves p o ss run w b.0 a)
   same_fault (Disagree run w) (TooMuch k) a b n m = absurd (not_apart v serves p o ss run w b.0 a)
   same_fault (Unfinished run c) (Disagree run' w) a b n m = absurd (not_apart v serves p o ss run' w a.0 b)
-  same_fault (Unfinished run c) (Unfinished run' c') a b n m = ap fault_of_survey (refused_once v serves p o t true ss (IsUnfinished run c) (IsUnfinished run' c') a.1 b.1)
+  same_fault (Unfinished run c) (Unfinished run' c') a b n m =
+      ap fault_of_survey (refused_once v serves p o t true ss (IsUnfinished run c) (IsUnfinished run' c') a.1 b.1)
   same_fault (Unfinished run c) (TooMuch k) a b n m = ap fault_of_survey (refused_once v serves p o t true ss (IsUnfinished run c) (IsTooMuch k) a.1 b.1)
   same_fault (TooMuch k) (Disagree run w) a b n m = absurd (not_apart v serves p o ss run w a.0 b)
   same_fault (TooMuch k) (Unfinished run c) a b n m = ap fault_of_survey (refused_once v serves p o t true ss (IsTooMuch k) (IsUnfinished run c) a.1 b.1)
@@ -46,7 +48,8 @@ module _ {E : Type 0} (v : Env E) (serves : Order → E → Type 0) (p : Labelle
   same_fault f Memory a b n m = absurd (m refl)
 
   -- starts that agree and whose runs halt and show few enough assignments are refused for want of memory alone
-  pub no_audit_fault : (f : AuditFault) → Pairwise (AgreeFor v serves p o) ss → Each (Halts v (lowered p).instrs t) ss → shown_by_all v p o t ss ≤ 16777216 → IsAuditFault v serves p o t ss f → f ≡ Memory
+  pub no_audit_fault : (f : AuditFault) → Pairwise (AgreeFor v serves p o) ss → Each (Halts v (lowered p).instrs t) ss → shown_by_all v p o t ss ≤ 16777216
+      → IsAuditFault v serves p o t ss f → f ≡ Memory
   no_audit_fault (Disagree run w) agree halted few b = absurd (not_apart v serves p o ss run w agree b)
   no_audit_fault (Unfinished run c) agree halted few b = absurd (not_taken v serves p o t true ss (IsUnfinished run c) b.1 (λ m. halted) few)
   no_audit_fault (TooMuch k) agree halted few b = absurd (not_taken v serves p o t true ss (IsTooMuch k) b.1 (λ m. halted) few)

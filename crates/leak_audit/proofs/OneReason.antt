@@ -78,16 +78,21 @@ module _ {E : Type 0} (v : Env E) (serves : Order → E → Type 0) (p : Labelle
   not_both s s' (Partition q l) a d = d.1 (a.parts q l.number d.0)
 
   -- a start that does not agree is the first such one, and has one first difference
-  apart_once : (one : Start E) (ss : List (Start E)) (run run' : ℕ) (w w' : What) → IsFirstApart v serves p o one ss run w → IsFirstApart v serves p o one ss run' w' → (run ≡ run') × (w ≡ w')
+  apart_once : (one : Start E) (ss : List (Start E)) (run run' : ℕ) (w w' : What) → IsFirstApart v serves p o one ss run w
+      → IsFirstApart v serves p o one ss run' w' → (run ≡ run') × (w ≡ w')
   apart_once one ss run run' w w' a b = go (two_cuts a.before b.before a.after b.after a.apart b.apart (sym a.are ∙ b.are))
     where
       go : SameCut a.before a.apart b.before b.apart ⊎ (Earlier a.before a.apart b.before ⊎ Earlier b.before b.apart a.before) → (run ≡ run') × (w ≡ w')
       go (inl same) =
-          (a.number ∙ (ap (λ z. length z + 1) same.before ∙ sym b.number), first_same one b.apart w w' (subst (λ z. IsFirstDifference v p o one z w) same.at a.differs) b.differs)
-      go (inr (inl e)) = absurd (not_both one a.apart w (Each-at (AgreeFor v serves p o one) a.before e.between a.apart (subst (Each (AgreeFor v serves p o one)) e.are b.agree)) a.differs.here)
-      go (inr (inr e)) = absurd (not_both one b.apart w' (Each-at (AgreeFor v serves p o one) b.before e.between b.apart (subst (Each (AgreeFor v serves p o one)) e.are a.agree)) b.differs.here)
+          (a.number ∙ (ap (λ z. length z + 1) same.before ∙ sym b.number),
+              first_same one b.apart w w' (subst (λ z. IsFirstDifference v p o one z w) same.at a.differs) b.differs)
+      go (inr (inl e)) = absurd (not_both one a.apart w
+          (Each-at (AgreeFor v serves p o one) a.before e.between a.apart (subst (Each (AgreeFor v serves p o one)) e.are b.agree)) a.differs.here)
+      go (inr (inr e)) = absurd (not_both one b.apart w'
+          (Each-at (AgreeFor v serves p o one) b.before e.between b.apart (subst (Each (AgreeFor v serves p o one)) e.are a.agree)) b.differs.here)
 
-  pub disagrees_once : (ss : List (Start E)) (run run' : ℕ) (w w' : What) → Disagrees v serves p o ss run w → Disagrees v serves p o ss run' w' → (run ≡ run') × (w ≡ w')
+  pub disagrees_once : (ss : List (Start E)) (run run' : ℕ) (w w' : What) → Disagrees v serves p o ss run w
+      → Disagrees v serves p o ss run' w' → (run ≡ run') × (w ≡ w')
   disagrees_once [] run run' w w' a b = absurd a
   disagrees_once (s ∷ ss) run run' w w' a b = apart_once s (s ∷ ss) run run' w w' a b
 
@@ -105,7 +110,8 @@ module _ {E : Type 0} (v : Env E) (serves : Order → E → Type 0) (p : Labelle
     not_refused : (before r ss : List (Start E)) (s : Start E) (f : SurveyFault) → ss ≡ before ++ s ∷ r → IsRefused v p o t must before s f →
         (must ≡ true → Each (Halts v (lowered p).instrs t) ss) → shown_by_all v p o t ss ≤ 16777216 → ⊥
     not_refused before r ss s (Unfinished run cycle) e h halts few =
-        let halted : Halts v (lowered p).instrs t s = Each-at (Halts v (lowered p).instrs t) before r s (subst (Each (Halts v (lowered p).instrs t)) e (halts h.0)) in
+        let halted : Halts v (lowered p).instrs t s =
+            Each-at (Halts v (lowered p).instrs t) before r s (subst (Each (Halts v (lowered p).instrs t)) e (halts h.0)) in
         bool_apart _ halted h.1
     not_refused before r ss s (TooMuch count) e h halts few =
         let all : shown_by_all v p o t ss ≡ shown_by_all v p o t (before ++ s ∷ r) = ap (shown_by_all v p o t) e in
@@ -115,7 +121,8 @@ module _ {E : Type 0} (v : Env E) (serves : Order → E → Type 0) (p : Labelle
     not_refused before r ss s Memory e h halts few = h
 
     same_reason : (before : List (Start E)) (s : Start E) (f g : SurveyFault) → IsRefused v p o t must before s f → IsRefused v p o t must before s g → f ≡ g
-    same_reason before s (Unfinished run cycle) (Unfinished run' cycle') a b = ap (λ z. Unfinished z cycle) (a.2 ∙ sym b.2) ∙ ap (λ z. Unfinished run' z) (a.3 ∙ sym b.3)
+    same_reason before s (Unfinished run cycle) (Unfinished run' cycle') a b =
+        ap (λ z. Unfinished z cycle) (a.2 ∙ sym b.2) ∙ ap (λ z. Unfinished run' z) (a.3 ∙ sym b.3)
     same_reason before s (Unfinished run cycle) (TooMuch count) a b = bool_apart _ (b.0 a.0) a.1
     same_reason before s (TooMuch count) (Unfinished run cycle) a b = bool_apart _ (a.0 b.0) b.1
     same_reason before s (TooMuch count) (TooMuch count') a b = ap TooMuch (a.1 ∙ sym b.1)
@@ -126,9 +133,11 @@ module _ {E : Type 0} (v : Env E) (serves : Order → E → Type 0) (p : Labelle
     refused_once ss f g a b = go (two_cuts a.before b.before a.after b.after a.refused b.refused (sym a.are ∙ b.are))
       where
         go : SameCut a.before a.refused b.before b.refused ⊎ (Earlier a.before a.refused b.before ⊎ Earlier b.before b.refused a.before) → f ≡ g
-        go (inl same) = same_reason b.before b.refused f g (subst (λ z. IsRefused v p o t must z b.refused f) same.before (subst (λ z. IsRefused v p o t must a.before z f) same.at a.why)) b.why
+        go (inl same) = same_reason b.before b.refused f g
+            (subst (λ z. IsRefused v p o t must z b.refused f) same.before (subst (λ z. IsRefused v p o t must a.before z f) same.at a.why)) b.why
         go (inr (inl e)) = absurd (not_refused a.before e.between b.before a.refused f e.are a.why b.halt b.few)
         go (inr (inr e)) = absurd (not_refused b.before e.between a.before b.refused g e.are b.why a.halt a.few)
 
-    pub not_taken : (ss : List (Start E)) (f : SurveyFault) → IsFirstRefused v p o t must ss f → (must ≡ true → Each (Halts v (lowered p).instrs t) ss) → shown_by_all v p o t ss ≤ 16777216 → ⊥
+    pub not_taken : (ss : List (Start E)) (f : SurveyFault) → IsFirstRefused v p o t must ss f → (must ≡ true → Each (Halts v (lowered p).instrs t) ss)
+        → shown_by_all v p o t ss ≤ 16777216 → ⊥
     not_taken ss f a halts few = not_refused a.before a.after ss a.refused f a.are a.why halts few

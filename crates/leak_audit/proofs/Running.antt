@@ -19,7 +19,8 @@ use Rattle.leak_audit.specs.Observed.{event_of, TellsSeen, Tallies, CountsUp, Is
 use Rattle.leak_audit.proofs.Tallying.{same_more, hidden_more}
 
 -- these events of the run are in the tally, and the rest is what the machine still does; no count is above the clock
-pub record Observing {E : Type 0} (v : Env E) (limit : ℕ) (p : LabelledProgram) (o : ℕ) (marked : List Bool) (room : ℕ) (old new : Loaded E) (t : Tally) : Type 0 where
+pub record Observing {E : Type 0} (v : Env E) (limit : ℕ) (p : LabelledProgram) (o : ℕ) (marked : List Bool) (room : ℕ)
+    (old new : Loaded E) (t : Tally) : Type 0 where
   pub events : List Event
   pub rest : rest_of v limit old ≡ after_events events (rest_of v limit new)
   pub tallies : Tallies p o marked room events t
@@ -38,7 +39,8 @@ stop_tells (DidLimit c) end e = refl
 
 module _ {E : Type 0} (v : Env E) (limit : ℕ) (p : LabelledProgram) (o : ℕ) (marked : List Bool) (room : ℕ) where
   -- nothing is observed at first
-  pub none_observed : (m : Loaded E) (t : Tally) → m.state.clock ≡ 0 → t.shown ≡ 0 → t.begun ≡ 0 → t.ended ≡ 0 → t.events.items ≡ [] → Observing v limit p o marked room m m t
+  pub none_observed : (m : Loaded E) (t : Tally) → m.state.clock ≡ 0 → t.shown ≡ 0 → t.begun ≡ 0 → t.ended ≡ 0 → t.events.items ≡ []
+      → Observing v limit p o marked room m m t
   none_observed m t clock shown begun ended items = record {
     events = [];
     rest = refl;
@@ -51,8 +53,10 @@ module _ {E : Type 0} (v : Env E) (limit : ℕ) (p : LabelledProgram) (o : ℕ) 
   }
 
   module _ (list : List Bool) (seen : TellsSeen p o list) where
-    pub more_observed : (old mid new : Loaded E) (turn : Turn) (t u : Tally) → Observing v limit p o marked room old mid t → Next v list limit mid new turn → CountsUp t u →
-        ((events : List Event) → Tallies p o marked room events t → Tallies p o marked room (events ++ events_of turn) u) → Observing v limit p o marked room old new u
+    pub more_observed : (old mid new : Loaded E) (turn : Turn) (t u : Tally) → Observing v limit p o marked room old mid t
+        → Next v list limit mid new turn → CountsUp t u →
+        ((events : List Event) → Tallies p o marked room events t → Tallies p o marked room (events ++ events_of turn) u)
+            → Observing v limit p o marked room old new u
     more_observed old mid new turn t u r n up tells =
         let es : List Event = n.hidden ++ events_of turn in
         let passed : Tallies p o marked room (r.events ++ n.hidden) t = hidden_more p o list seen marked room r.events n.hidden t n.unseen r.tallies in
@@ -65,8 +69,10 @@ module _ {E : Type 0} (v : Env E) (limit : ℕ) (p : LabelledProgram) (o : ℕ) 
         let u3 = up.ended in
         record {
           events = r.events ++ es;
-          rest = r.rest ∙ (ap (after_events r.events) n.rest ∙ ap (λ z. let k : Told = record { events = z; end = (rest_of v limit new).end } in k) (sym (append_assoc r.events es (rest_of v limit new).events)));
-          tallies = same_more p o marked room ((r.events ++ n.hidden) ++ events_of turn) (r.events ++ es) u (append_assoc r.events n.hidden (events_of turn)) (tells (r.events ++ n.hidden) passed);
+          rest = r.rest ∙ (ap (after_events r.events) n.rest ∙ ap (λ z. let k : Told = record { events = z; end = (rest_of v limit new).end } in
+              k) (sym (append_assoc r.events es (rest_of v limit new).events)));
+          tallies = same_more p o marked room ((r.events ++ n.hidden) ++ events_of turn) (r.events ++ es) u (append_assoc r.events n.hidden (events_of turn))
+              (tells (r.events ++ n.hidden) passed);
           code = n.code ∙ r.code;
           shown = omega arith;
           begun = omega arith;
@@ -74,8 +80,10 @@ module _ {E : Type 0} (v : Env E) (limit : ℕ) (p : LabelledProgram) (o : ℕ) 
           by = n.within;
         }
 
-    pub all_observed : (old mid new : Loaded E) (turn : Turn) (end : RunEnd) (t u : Tally) → Observing v limit p o marked room old mid t → Last v list limit mid new turn end → end_of_turn turn ≡ Some end →
-        ((events : List Event) → Tallies p o marked room events t → Tallies p o marked room (events ++ events_of turn) u) → IsObserved p o marked room limit (rest_of v limit old) (record { tally = u; end = end })
+    pub all_observed : (old mid new : Loaded E) (turn : Turn) (end : RunEnd) (t u : Tally) → Observing v limit p o marked room old mid t
+        → Last v list limit mid new turn end → end_of_turn turn ≡ Some end →
+        ((events : List Event) → Tallies p o marked room events t → Tallies p o marked room (events ++ events_of turn) u)
+            → IsObserved p o marked room limit (rest_of v limit old) (record { tally = u; end = end })
     all_observed old mid new turn end t u r l e tells =
         let es : List Event = r.events ++ l.hidden in
         let passed : Tallies p o marked room es t = hidden_more p o list seen marked room r.events l.hidden t l.unseen r.tallies in
@@ -98,7 +106,8 @@ module _ {E : Type 0} (v : Env E) (limit : ℕ) (p : LabelledProgram) (o : ℕ) 
         }
 
 -- what a machine at its start still does is the run
-pub rest_start : {E : Type 0} (v : Env E) (limit : ℕ) (p : LabelledProgram) (m : Loaded E) (memory : List ℤ) (env : E) (s : Start E) → m.stopped ≡ None → m.code ≡ lowered p → seen m.state ≡ start memory env → record { memory = memory; env = env } ≡ s →
+pub rest_start : {E : Type 0} (v : Env E) (limit : ℕ) (p : LabelledProgram) (m : Loaded E) (memory : List ℤ) (env : E) (s : Start E) → m.stopped ≡ None
+    → m.code ≡ lowered p → seen m.state ≡ start memory env → record { memory = memory; env = env } ≡ s →
     rest_of v limit m ≡ told_by (run_from v (lowered p).instrs limit s)
 rest_start v limit p m memory env s going code at is =
     ap (rest_from v limit m.code.instrs m.state) going

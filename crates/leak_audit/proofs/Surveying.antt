@@ -1,5 +1,6 @@
 -- What is known of some runs of a list, one after the other.
-use Rattle.std.proofs.Common.{◌≡◌, ◌<◌, ◌≤◌, ℕ, suc, ◌+◌, ◌-◌, List, [], ◌∷◌, ◌++◌, length, max, Bool, true, false, cond, inl, inr, refl, sym, ap, ◌∙◌, subst, arith, append-nil, append_assoc, length-append, Some, None}
+use Rattle.std.proofs.Common.{◌≡◌, ◌<◌, ◌≤◌, ℕ, suc, ◌+◌, ◌-◌, List, [], ◌∷◌, ◌++◌, length, max, Bool, true, false, cond, inl, inr, refl, sym, ap, ◌∙◌, subst}
+use Rattle.std.proofs.Common.{arith, append-nil, append_assoc, length-append, Some, None}
 use Rattle.std.specs.Prelude.{◌⊎◌}
 use Rattle.std.proofs.lemmas.Bool.{cases_lt}
 use Rattle.std.proofs.lemmas.Bool.Decides.{nat_tests}
@@ -23,7 +24,8 @@ use Rattle.leak_audit.specs.Observed.{sequence_of, is_marked, ObservesRun}
 use Rattle.leak_audit.specs.declared.kinds.Kinds.{Kinds}
 use Rattle.leak_audit.specs.Kept.{AreKinds}
 use Rattle.leak_audit.proofs.Split.{Each-more}
-use Rattle.leak_audit.specs.Surveyed.{relevant_for, run_of, sequence_from, shown_by, shown_by_all, halted_count, begun_first, IsRefused, IsFirstRefused, IsSurveyFault, IsSurvey, unfinished, halts, of_first, Takes, Refuses}
+use Rattle.leak_audit.specs.Surveyed.{relevant_for, run_of, sequence_from, shown_by, shown_by_all, halted_count, begun_first, IsRefused, IsFirstRefused}
+use Rattle.leak_audit.specs.Surveyed.{IsSurveyFault, IsSurvey, unfinished, halts, of_first, Takes, Refuses}
 
 -- how a run ended
 abbrev end_of : Bool → ℕ → RunEnd
@@ -107,7 +109,8 @@ module _ {E : Type 0} (v : Env E) (p : LabelledProgram) (o t : ℕ) (must : Bool
   }
 
   module _ (s : Start E) (rest more : List (Start E)) (n : ℕ) (r : Survey) (from : rest ≡ s ∷ more) (h : Surveying rest n r) (w : Observed) (marked : List Bool)
-      (told : marked ≡ relevances (order_of p) (labels_of p) (levels_of p) o (order_of p).bottom (plan_of p.program)) (seen : ObservesRun v p o marked (16777216 - r.shown) t s w) where
+      (told : marked ≡ relevances (order_of p) (labels_of p) (levels_of p) o (order_of p).bottom (plan_of p.program))
+          (seen : ObservesRun v p o marked (16777216 - r.shown) t s w) where
     abbrev run : Machine E
     run = run_of v p t s
 
@@ -121,7 +124,8 @@ module _ {E : Type 0} (v : Env E) (p : LabelledProgram) (o t : ℕ) (must : Bool
     refused_now f k =
         let small = h.small in
         let shown = h.shown in
-        record { before = h.before; refused = s; after = more; are = h.are ∙ ap (λ z. h.before ++ z) from; halt = h.halts; few = omega (arith, small, shown); why = k }
+        record { before = h.before; refused = s; after = more; are = h.are ∙ ap (λ z. h.before ++ z) from; halt = h.halts; few =
+            omega (arith, small, shown); why = k }
 
     -- a run that is refused
     pub refuses : (f : SurveyFault) → Refuses r n must w f → IsSurveyFault v p o t must ss f
@@ -145,7 +149,8 @@ module _ {E : Type 0} (v : Env E) (p : LabelledProgram) (o t : ℕ) (must : Bool
         let halt = goes_halted must run.halted run.core.clock (ap (unfinished must) (sym seen.end) ∙ x.goes) in
         let halted : q.halted ≡ r.halted + cond run.halted 1 0 = x.halted ∙ ap (λ z. r.halted + z) (ap halts seen.end ∙ halts-end run.halted run.core.clock) in
         let halted_rest : halted_count v p t rest ≡ cond run.halted 1 0 + halted_count v p t more = ap (halted_count v p t) from in
-        let ended_rest : most_ended v (lowered p).instrs (relevant_for p o) t rest ≡ max (ended_count (relevant_for p o) run.core.log) (most_ended v (lowered p).instrs (relevant_for p o) t more) =
+        let ended_rest : most_ended v (lowered p).instrs (relevant_for p o) t rest
+            ≡ max (ended_count (relevant_for p o) run.core.log) (most_ended v (lowered p).instrs (relevant_for p o) t more) =
         ap (most_ended v (lowered p).instrs (relevant_for p o) t) from in
         let hs = h.shown in
         let hh = h.halted in
@@ -159,7 +164,8 @@ module _ {E : Type 0} (v : Env E) (p : LabelledProgram) (o t : ℕ) (must : Bool
           before = h.before ++ s ∷ [];
           kinds =
               subst (λ z. AreKinds z q.kinds)
-              (ap (λ z. views (sequence_from v p o t) h.before ++ z ∷ []) (seen.tallies.kept room) ∙ sym (views-append (sequence_from v p o t) h.before (s ∷ []))) (x.kinds (views (sequence_from v p o t) h.before) h.kinds);
+              (ap (λ z. views (sequence_from v p o t) h.before ++ z ∷ []) (seen.tallies.kept room)
+                  ∙ sym (views-append (sequence_from v p o t) h.before (s ∷ []))) (x.kinds (views (sequence_from v p o t) h.before) h.kinds);
           are = h.are ∙ (ap (λ z. h.before ++ z) from ∙ sym (append_assoc h.before (s ∷ []) more));
           number = omega (arith, next, h.number, length-append h.before (s ∷ []));
           halts = λ k. Each-more (Halts v (lowered p).instrs t) h.before s (h.halts k) (halt k);

@@ -1,5 +1,6 @@
 -- What one event more adds to a tally.
-use Rattle.std.proofs.Common.{◌≡◌, ◌≤◌, ℕ, ◌+◌, List, [], ◌∷◌, ◌++◌, length, map, Bool, true, false, cond, ℤ, refl, sym, ap, ◌∙◌, subst, arith, length-append, append-nil, ⊎_elim, ◌<◌}
+use Rattle.std.proofs.Common.{◌≡◌, ◌≤◌, ℕ, ◌+◌, List, [], ◌∷◌, ◌++◌, length, map, Bool, true, false, cond, ℤ, refl, sym, ap, ◌∙◌, subst, arith, length-append}
+use Rattle.std.proofs.Common.{append-nil, ⊎_elim, ◌<◌}
 use Rattle.std.specs.Prelude.{All}
 use Rattle.std.proofs.lemmas.Bool.{cases_lt}
 use Rattle.std.proofs.lemmas.List.{map-append}
@@ -27,7 +28,8 @@ visible-append lat g o [] fs = refl
 visible-append lat g o (Wrote x n c ∷ es) fs = go (lat.flows (g x) o) (visible-append lat g o es fs)
   where
     go : (b : Bool) → visible lat g o (es ++ fs) ≡ visible lat g o es ++ visible lat g o fs →
-        cond b (Wrote x n c ∷ visible lat g o (es ++ fs)) (visible lat g o (es ++ fs)) ≡ cond b (Wrote x n c ∷ visible lat g o es) (visible lat g o es) ++ visible lat g o fs
+        cond b (Wrote x n c ∷ visible lat g o (es ++ fs)) (visible lat g o (es ++ fs)) ≡ cond b (Wrote x n c ∷ visible lat g o es) (visible lat g o es)
+            ++ visible lat g o fs
     go true e = ap (λ z. Wrote x n c ∷ z) e
     go false e = e
 visible-append lat g o (Began k c ∷ es) fs = visible-append lat g o es fs
@@ -53,8 +55,10 @@ module _ (p : LabelledProgram) (o : ℕ) (marked : List Bool) (room : ℕ) (es :
   Follows turn new = Tallies p o marked room (es ++ events_of turn) new
 
   -- an assignment that the observer sees
-  pub seen_more : (turn : Turn) (x : ℕ) (n : ℤ) (c : ℕ) → turn ≡ AnEvent x n c → (order_of p).flows (labels_of p x) o ≡ true → (s : Sighting) (new : Tally) → event_of s ≡ Wrote x n c →
-      new.shown ≡ old.shown + 1 → (new.shown ≤ room → new.events.items ≡ old.events.items ++ s ∷ []) → new.begun ≡ old.begun → new.ended ≡ old.ended → Follows turn new
+  pub seen_more : (turn : Turn) (x : ℕ) (n : ℤ) (c : ℕ) → turn ≡ AnEvent x n c → (order_of p).flows (labels_of p x) o ≡ true
+      → (s : Sighting) (new : Tally) → event_of s ≡ Wrote x n c →
+      new.shown ≡ old.shown + 1 → (new.shown ≤ room → new.events.items ≡ old.events.items ++ s ∷ []) → new.begun ≡ old.begun
+          → new.ended ≡ old.ended → Follows turn new
   seen_more turn x n c told flows s new is shown kept begun ended =
       let all : sees (es ++ Wrote x n c ∷ []) ≡ sees es ++ Wrote x n c ∷ [] =
       visible-append (order_of p) (labels_of p) o es (Wrote x n c ∷ []) ∙ ap (λ b. sees es ++ cond b (Wrote x n c ∷ []) []) flows in
@@ -66,13 +70,15 @@ module _ (p : LabelledProgram) (o : ℕ) (marked : List Bool) (room : ℕ) (es :
         shown = omega (arith, shown, count, ap length all, length-append (sees es) (Wrote x n c ∷ []));
         kept = λ fits.
             let before : sequence_of old.events ≡ sees es = t.kept (omega (arith, shown)) in
-            ap (map event_of) (kept fits) ∙ (map-append event_of old.events.items (s ∷ []) ∙ (ap (λ z. z ++ event_of s ∷ []) before ∙ (ap (λ z. sees es ++ z ∷ []) is ∙ sym all)));
+            ap (map event_of) (kept fits) ∙ (map-append event_of old.events.items (s ∷ [])
+                ∙ (ap (λ z. z ++ event_of s ∷ []) before ∙ (ap (λ z. sees es ++ z ∷ []) is ∙ sym all)));
         begun = omega (arith, begun, b, begun_count-append (is_marked marked) es (Wrote x n c ∷ []));
         ended = omega (arith, ended, f, ended_count-append (is_marked marked) es (Wrote x n c ∷ []));
       })
 
   -- a mitigation that begins, and one that ends
-  pub begun_more : (turn : Turn) (k c : ℕ) → turn ≡ HasBegun k c → (n : ℕ) → n ≡ old.begun + cond (is_marked marked k) 1 0 → Follows turn (record old { begun = n })
+  pub begun_more : (turn : Turn) (k c : ℕ) → turn ≡ HasBegun k c → (n : ℕ) → n ≡ old.begun + cond (is_marked marked k) 1 0
+      → Follows turn (record old { begun = n })
   begun_more turn k c told n is =
       let all : sees (es ++ Began k c ∷ []) ≡ sees es = visible-append (order_of p) (labels_of p) o es (Began k c ∷ []) ∙ append-nil (sees es) in
       let b = t.begun in
@@ -85,7 +91,8 @@ module _ (p : LabelledProgram) (o : ℕ) (marked : List Bool) (room : ℕ) (es :
         ended = omega (arith, f, ended_count-append (is_marked marked) es (Began k c ∷ []));
       })
 
-  pub ended_more : (turn : Turn) (k c : ℕ) → turn ≡ HasEnded k c → (n : ℕ) → n ≡ old.ended + cond (is_marked marked k) 1 0 → Follows turn (record old { ended = n })
+  pub ended_more : (turn : Turn) (k c : ℕ) → turn ≡ HasEnded k c → (n : ℕ) → n ≡ old.ended + cond (is_marked marked k) 1 0
+      → Follows turn (record old { ended = n })
   ended_more turn k c told n is =
       let all : sees (es ++ Ended k c ∷ []) ≡ sees es = visible-append (order_of p) (labels_of p) o es (Ended k c ∷ []) ∙ append-nil (sees es) in
       let b = t.begun in
@@ -99,7 +106,8 @@ module _ (p : LabelledProgram) (o : ℕ) (marked : List Bool) (room : ℕ) (es :
       })
 
 -- the same events
-pub same_more : (p : LabelledProgram) (o : ℕ) (marked : List Bool) (room : ℕ) (es fs : List Event) (t : Tally) → es ≡ fs → Tallies p o marked room es t → Tallies p o marked room fs t
+pub same_more : (p : LabelledProgram) (o : ℕ) (marked : List Bool) (room : ℕ) (es fs : List Event) (t : Tally) → es ≡ fs → Tallies p o marked room es t
+    → Tallies p o marked room fs t
 same_more p o marked room es fs t e h = subst (λ z. Tallies p o marked room z t) e h
 
 -- hidden events begin and end nothing
@@ -123,11 +131,13 @@ module _ (p : LabelledProgram) (o : ℕ) (list : List Bool) (tells : TellsSeen p
       (cases_lt x (variables p.program.declarations))
 
   -- a tally of events is one of these with hidden ones behind them
-  pub hidden_more : (marked : List Bool) (room : ℕ) (es hs : List Event) (t : Tally) → All (IsHidden list) hs → Tallies p o marked room es t → Tallies p o marked room (es ++ hs) t
+  pub hidden_more : (marked : List Bool) (room : ℕ) (es hs : List Event) (t : Tally) → All (IsHidden list) hs → Tallies p o marked room es t
+      → Tallies p o marked room (es ++ hs) t
   hidden_more marked room es hs t h r =
       let all : visible (order_of p) (labels_of p) o (es ++ hs) ≡ visible (order_of p) (labels_of p) o es =
       visible-append (order_of p) (labels_of p) o es hs
-      ∙ (ap (λ z. visible (order_of p) (labels_of p) o es ++ z) (none_visible list (order_of p) (labels_of p) o unseen hs h) ∙ append-nil (visible (order_of p) (labels_of p) o es)) in
+      ∙ (ap (λ z. visible (order_of p) (labels_of p) o es ++ z) (none_visible list (order_of p) (labels_of p) o unseen hs h)
+          ∙ append-nil (visible (order_of p) (labels_of p) o es)) in
       let b = r.begun in
       let f = r.ended in
       record {

@@ -5,7 +5,8 @@ use Rattle.mit_syntax.specs.Todo.{Marks}
 use Rattle.env_contract.specs.Env.{Env}
 use Rattle.label_code.specs.Machine.{Core, Machine, Opened, Event, Wrote, Began, Ended, fetched, closed, act, obey, step, steps, close_first, marks_of}
 use Rattle.label_code.specs.declared.code.Work.{Work}
-use Rattle.label_code.specs.declared.code.Work.TheVariants.{Push, Load, Store, LoadAt, StoreAt, Apply, Brz, Brnz, Jmp, Sleep as SleepWork, Mitb, Mite, Nop, Halt}
+use Rattle.label_code.specs.declared.code.Work.TheVariants.{Push, Load, Store, LoadAt, StoreAt, Apply, Brz, Brnz, Jmp, Sleep as SleepWork, Mitb, Mite, Nop}
+use Rattle.label_code.specs.declared.code.Work.TheVariants.{Halt}
 use Rattle.label_code.specs.declared.code.Instr.{Instr}
 use Rattle.leak_bound.specs.Relevant.{begun_count, ended_count}
 
@@ -30,14 +31,17 @@ module _ {E : Type 0} (v : Env E) (image : List Instr) (rel : ℕ → Bool) wher
   abbrev Balanced : List Event → List Opened → Type 0
   Balanced es os = begun_count rel es ≡ ended_count rel es + open_count rel os
 
-  one_event : (es : List Event) (e : Event) (os os' : List Opened) → begun_count rel (e ∷ []) + open_count rel os ≡ ended_count rel (e ∷ []) + open_count rel os' → Balanced es os → Balanced (es ++ e ∷ []) os'
+  one_event : (es : List Event) (e : Event) (os os' : List Opened)
+      → begun_count rel (e ∷ []) + open_count rel os ≡ ended_count rel (e ∷ []) + open_count rel os' → Balanced es os → Balanced (es ++ e ∷ []) os'
   one_event es e os os' h b = let one : List Event = e ∷ [] in omega (arith, begun-append rel es one, ended-append rel es one)
 
-  close_balance : (a : ℕ) (ops : List ℤ) (os : List Opened) (s : Core E) → Balanced s.log os → Balanced (close_first a ops os s).core.log (close_first a ops os s).opened
+  close_balance : (a : ℕ) (ops : List ℤ) (os : List Opened) (s : Core E) → Balanced s.log os
+      → Balanced (close_first a ops os s).core.log (close_first a ops os s).opened
   close_balance a ops [] s b = b
   close_balance a ops (w ∷ os) s b = one_event s.log (Ended w.mark (closed w s).clock) (w ∷ os) os (omega arith) b
 
-  act_balance : (w : Work) (m : Marks) (a : ℕ) (ops : List ℤ) (os : List Opened) (s : Core E) → Balanced s.log os → Balanced (act v m w a ops os s).core.log (act v m w a ops os s).opened
+  act_balance : (w : Work) (m : Marks) (a : ℕ) (ops : List ℤ) (os : List Opened) (s : Core E) → Balanced s.log os
+      → Balanced (act v m w a ops os s).core.log (act v m w a ops os s).opened
   act_balance (Push n) m a ops os s b = b
   act_balance (Load x) m a ops os s b = b
   act_balance (Store x) m a ops os s b = one_event s.log _ os os (omega arith) b
@@ -69,7 +73,9 @@ module _ {E : Type 0} (v : Env E) (image : List Instr) (rel : ℕ → Bool) wher
   balance (suc k) x b = balance k (step v image x) (step_balance x b)
 
   -- where nothing is open
-  pub all_ended : (k : ℕ) (x y : Machine E) → Balanced x.core.log x.opened → steps v image k x ≡ y → y.opened ≡ [] → begun_count rel y.core.log ≡ ended_count rel y.core.log
+  pub all_ended : (k : ℕ) (x y : Machine E) → Balanced x.core.log x.opened → steps v image k x ≡ y → y.opened ≡ []
+      → begun_count rel y.core.log ≡ ended_count rel y.core.log
   all_ended k x y b e none =
       let c = balance k x b in
-      ap (λ z. begun_count rel z.core.log) (sym e) ∙ c ∙ ap (λ z. ended_count rel z.core.log + open_count rel z.opened) e ∙ ap (λ z. ended_count rel y.core.log + open_count rel z) none ∙ omega arith
+      ap (λ z. begun_count rel z.core.log) (sym e) ∙ c ∙ ap (λ z. ended_count rel z.core.log + open_count rel z.opened) e
+          ∙ ap (λ z. ended_count rel y.core.log + open_count rel z) none ∙ omega arith

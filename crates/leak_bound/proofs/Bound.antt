@@ -11,14 +11,17 @@ views_filter : {X V : Type 0} (see : X → V) (p : V → Bool) (xs : List X) →
 views_filter see p [] = refl
 views_filter see p (x ∷ xs) = go (p (see x)) (views_filter see p xs)
   where
-    go : (b : Bool) → views see (filter (λ x. p (see x)) xs) ≡ filter p (views see xs) → views see (cond b (x ∷ filter (λ x. p (see x)) xs) (filter (λ x. p (see x)) xs)) ≡ cond b (see x ∷ filter p (views see xs)) (filter p (views see xs))
+    go : (b : Bool) → views see (filter (λ x. p (see x)) xs) ≡ filter p (views see xs)
+        → views see (cond b (x ∷ filter (λ x. p (see x)) xs) (filter (λ x. p (see x)) xs)) ≡ cond b (see x ∷ filter p (views see xs)) (filter p (views see xs))
     go true e = ap (λ t. see x ∷ t) e
     go false e = e
 
-views_distinct : {X V : Type 0} (see : X → V) (same : V → V → Bool) (xs : List X) → views see (distinct (λ x y. same (see x) (see y)) xs) ≡ distinct same (views see xs)
+views_distinct : {X V : Type 0} (see : X → V) (same : V → V → Bool) (xs : List X)
+    → views see (distinct (λ x y. same (see x) (see y)) xs) ≡ distinct same (views see xs)
 views_distinct see same [] = refl
 views_distinct see same (x ∷ xs) =
-    ap (λ t. see x ∷ t) (views_filter see (λ w. not (same (see x) w)) (distinct (λ x y. same (see x) (see y)) xs) ∙ ap (filter (λ w. not (same (see x) w))) (views_distinct see same xs))
+    ap (λ t. see x ∷ t) (views_filter see (λ w. not (same (see x) w)) (distinct (λ x y. same (see x) (see y)) xs)
+        ∙ ap (filter (λ w. not (same (see x) w))) (views_distinct see same xs))
 
 length-views : {X V : Type 0} (see : X → V) (xs : List X) → length (views see xs) ≡ length xs
 length-views see [] = refl
@@ -64,7 +67,9 @@ Spread-distinct same (x ∷ xs) = (
 )
 
 -- with any number of thresholds
-module _ {X V : Type 0} (see : X → V) (record_of : X → List Entry) (same : V → V → Bool) (tests : Tests same) (ls : List ℕ) (d k : ℕ) (short : (x : X) → length (record_of x) ≤ k) (determined : (x y : X) → ((l j : ℕ) → IsIn l ls → 0 < j → j ≤ d → below l j (record_of x) ≡ below l j (record_of y)) → see x ≡ see y) where
+module _ {X V : Type 0} (see : X → V) (record_of : X → List Entry) (same : V → V → Bool) (tests : Tests same) (ls : List ℕ) (d k : ℕ) (short : (x : X)
+    → length (record_of x) ≤ k) (determined : (x y : X) → ((l j : ℕ) → IsIn l ls → 0 < j → j ≤ d → below l j (record_of x) ≡ below l j (record_of y))
+    → see x ≡ see y) where
   abbrev number : X → ℕ
   number x = code (k + 1) (questions ls d) (record_of x)
 
@@ -81,7 +86,8 @@ module _ {X V : Type 0} (see : X → V) (record_of : X → List Entry) (same : V
   alike x y = same (see x) (see y)
 
   apart : (x y : X) → alike x y ≡ false → eqb (number x) (number y) ≡ false
-  apart x y h = false_from_ne_true (eqb (number x) (number y)) (λ t. both_ways (alike x y) h (tests.same_from (see x) (see y) (same_number x y (eqb-true (number x) (number y) t))))
+  apart x y h = false_from_ne_true (eqb (number x) (number y))
+      (λ t. both_ways (alike x y) h (tests.same_from (see x) (see y) (same_number x y (eqb-true (number x) (number y) t))))
 
   apart_all : (x : X) (ys : List X) → Each (λ y. alike x y ≡ false) ys → AllByRecursion (λ n. eqb (number x) n ≡ false) (views number ys)
   apart_all x [] h = tt
@@ -103,20 +109,25 @@ module _ {X V : Type 0} (see : X → V) (record_of : X → List Entry) (same : V
   pub count_few : (xs : List X) → distinct_count same (views see xs) ≤ (k + 1) ^ (length ls * d)
   count_few xs =
       let kept = distinct alike xs in
-      let few : length (views number kept) ≤ (k + 1) ^ (length ls * d) = length-le_from_distinct_below (views number kept) _ (numbers_differ kept (Spread-distinct alike xs)) (all_below kept) in
+      let few : length (views number kept) ≤ (k + 1) ^ (length ls * d) =
+          length-le_from_distinct_below (views number kept) _ (numbers_differ kept (Spread-distinct alike xs)) (all_below kept) in
       let a = length-views number kept in
       let b = length-views see kept in
       let c = ap length (views_distinct see same xs) in
       omega arith
 
 -- records of one length
-pub count_bound : {X V : Type 0} (see : X → V) (record_of : X → List Entry) (same : V → V → Bool) → Tests same → (ls : List ℕ) (d k : ℕ) → ((x : X) → IsRecord ls d k (record_of x)) → ((x y : X) → levels_of (record_of x) ≡ levels_of (record_of y)) → ((x y : X) → record_of x ≡ record_of y → see x ≡ see y) → (xs : List X) → distinct_count same (views see xs) ≤ (k + 1) ^ (length ls * d)
+pub count_bound : {X V : Type 0} (see : X → V) (record_of : X → List Entry) (same : V → V → Bool) → Tests same → (ls : List ℕ) (d k : ℕ)
+    → ((x : X) → IsRecord ls d k (record_of x)) → ((x y : X) → levels_of (record_of x) ≡ levels_of (record_of y))
+    → ((x y : X) → record_of x ≡ record_of y → see x ≡ see y) → (xs : List X) → distinct_count same (views see xs) ≤ (k + 1) ^ (length ls * d)
 count_bound see record_of same tests ls d k good levels determined xs =
     count_few see record_of same tests ls d k (λ x. let long = (good x).long in omega arith)
     (λ x y s. determined x y (record_same ls d (record_of x) (record_of y) (levels x y) (good x).within (good y).within (good x).rises (good y).rises s)) xs
 
 -- records of which some may end early: one threshold more
-pub count_cut : {X V : Type 0} (see : X → V) (record_of : X → List Entry) (same : V → V → Bool) → Tests same → (ls : List ℕ) (d k : ℕ) → ((x : X) → IsCut ls d k (record_of x)) → ((x y : X) → Fits (record_of x) (record_of y)) → ((x y : X) → record_of x ≡ record_of y → see x ≡ see y) → (xs : List X) → distinct_count same (views see xs) ≤ (k + 1) ^ (length ls * suc d)
+pub count_cut : {X V : Type 0} (see : X → V) (record_of : X → List Entry) (same : V → V → Bool) → Tests same → (ls : List ℕ) (d k : ℕ)
+    → ((x : X) → IsCut ls d k (record_of x)) → ((x y : X) → Fits (record_of x) (record_of y)) → ((x y : X) → record_of x ≡ record_of y → see x ≡ see y)
+    → (xs : List X) → distinct_count same (views see xs) ≤ (k + 1) ^ (length ls * suc d)
 count_cut see record_of same tests ls d k good fits determined xs =
     count_few see record_of same tests ls (suc d) k (λ x. (good x).short)
     (λ x y s. determined x y (record_fits ls d (record_of x) (record_of y) (fits x y) (good x).within (good y).within (good x).rises (good y).rises s)) xs

@@ -45,16 +45,19 @@ module _ (ms : ℕ → Marks) (ls : ℕ → ℕ) where
         labelled_marks a (i + 1) n h.0,
         subst (λ z. MarksFrom (n + z) (bare (labelled ms ls b (i + 1 + count a)))) (sym ma) (labelled_marks b (i + 1 + count a) (n + mitigates a) h.1),
         subst (λ z. MarksFrom (n + z + mitigates (bare (labelled ms ls b (i + 1 + count a)))) (bare (labelled ms ls p (i + 1 + count a + count b)))) (sym ma)
-            (subst (λ z. MarksFrom (n + mitigates a + z) (bare (labelled ms ls p (i + 1 + count a + count b)))) (sym mb) (labelled_marks p (i + 1 + count a + count b) (n + mitigates a + mitigates b) h.2)),
+            (subst (λ z. MarksFrom (n + mitigates a + z) (bare (labelled ms ls p (i + 1 + count a + count b)))) (sym mb)
+                (labelled_marks p (i + 1 + count a + count b) (n + mitigates a + mitigates b) h.2)),
       )
   labelled_marks (While w e c p) i n h = (
     labelled_marks c (i + 1) n h.0,
-    subst (λ z. MarksFrom (n + z) (bare (labelled ms ls p (i + 1 + count c)))) (sym (same_mitigates c (i + 1))) (labelled_marks p (i + 1 + count c) (n + mitigates c) h.1),
+    subst (λ z. MarksFrom (n + z) (bare (labelled ms ls p (i + 1 + count c)))) (sym (same_mitigates c (i + 1)))
+        (labelled_marks p (i + 1 + count c) (n + mitigates c) h.1),
   )
   labelled_marks (Mitigate w k l e c p) i n h = (
     h.0,
     labelled_marks c (i + 1) (n + 1) h.1,
-    subst (λ z. MarksFrom (n + 1 + z) (bare (labelled ms ls p (i + 1 + count c)))) (sym (same_mitigates c (i + 1))) (labelled_marks p (i + 1 + count c) (n + 1 + mitigates c) h.2),
+    subst (λ z. MarksFrom (n + 1 + z) (bare (labelled ms ls p (i + 1 + count c)))) (sym (same_mitigates c (i + 1)))
+        (labelled_marks p (i + 1 + count c) (n + 1 + mitigates c) h.2),
   )
 
   labelled_levels : (p : Plan) (i n : ℕ) → ((k : ℕ) → ls k < n) → LevelsBelow n (bare (labelled ms ls p i))
@@ -63,7 +66,8 @@ module _ (ms : ℕ → Marks) (ls : ℕ → ℕ) where
   labelled_levels (Assign w x e p) i n h = labelled_levels p (i + 1) n h
   labelled_levels (Put w f k j e p) i n h = labelled_levels p (i + 1) n h
   labelled_levels (Sleep w e p) i n h = labelled_levels p (i + 1) n h
-  labelled_levels (If w e a b p) i n h = (labelled_levels a (i + 1) n h, labelled_levels b (i + 1 + count a) n h, labelled_levels p (i + 1 + count a + count b) n h)
+  labelled_levels (If w e a b p) i n h =
+      (labelled_levels a (i + 1) n h, labelled_levels b (i + 1 + count a) n h, labelled_levels p (i + 1 + count a + count b) n h)
   labelled_levels (While w e c p) i n h = (labelled_levels c (i + 1) n h, labelled_levels p (i + 1 + count c) n h)
   labelled_levels (Mitigate w k l e c p) i n h = (h k, labelled_levels c (i + 1) n h, labelled_levels p (i + 1 + count c) n h)
 
@@ -87,14 +91,16 @@ module _ (ms : ℕ → Marks) (ls : ℕ → ℕ) where
   contexts_tell lat g o at pc (Sleep w e p) i h = contexts_tell lat g o at pc p (i + 1) h
   contexts_tell lat g o at pc (If w e a b p) i h =
       let inner = lat.join pc (label_of lat g e) in
-      (contexts_tell lat g o at inner a (i + 1) h.0, contexts_tell lat g o at inner b (i + 1 + count a) h.1, contexts_tell lat g o at pc p (i + 1 + count a + count b) h.2)
+      (contexts_tell lat g o at inner a (i + 1) h.0, contexts_tell lat g o at inner b (i + 1 + count a) h.1,
+          contexts_tell lat g o at pc p (i + 1 + count a + count b) h.2)
   contexts_tell lat g o at pc (While w e c p) i h =
       (contexts_tell lat g o at (lat.join pc (label_of lat g e)) c (i + 1) h.0, contexts_tell lat g o at pc p (i + 1 + count c) h.1)
   contexts_tell lat g o at pc (Mitigate w k l e c p) i h =
       (ap (λ z. lat.flows z o && not (lat.flows (ls k) o)) h.0, contexts_tell lat g o at pc c (i + 1) h.1, contexts_tell lat g o at pc p (i + 1 + count c) h.2)
 
 -- a labelling of a numbered program that types it, with the image of its code
-pub compiled : (p : LabelledProgram) (image : List Instr) → IsLattice (order_of p) → AreNumbered 0 (plan_of p.program) → IsLabelling p.program p.labels → ArraysIn (labels_of p) (plan_of p.program) → HasType p → IsImage (order_of p) (labels_of p) image (bare_of p) →
+pub compiled : (p : LabelledProgram) (image : List Instr) → IsLattice (order_of p) → AreNumbered 0 (plan_of p.program) → IsLabelling p.program p.labels
+    → ArraysIn (labels_of p) (plan_of p.program) → HasType p → IsImage (order_of p) (labels_of p) image (bare_of p) →
     IsCompiled p.program.order (labels_of p) (levels_of p) image (bare_of p)
 compiled p image lattice numbered kept arrays typed code =
     let ms = marks_of p.program.order p.labels in

@@ -1,8 +1,10 @@
 -- Different sequences have different numbers below a power.
-use Rattle.std.proofs.Common.{◌≡◌, ℕ, zero, suc, ◌+◌, ◌*◌, ◌^◌, ◌<◌, ◌≤◌, List, [], ◌∷◌, ◌++◌, length, Bool, true, false, refl, sym, ap, subst, ◌⊎◌, inl, inr, ⊎_elim, arith, length-append}
+use Rattle.std.proofs.Common.{◌≡◌, ℕ, zero, suc, ◌+◌, ◌*◌, ◌^◌, ◌<◌, ◌≤◌, List, [], ◌∷◌, ◌++◌, length, Bool, true, false, refl, sym, ap, subst, ◌⊎◌, inl, inr}
+use Rattle.std.proofs.Common.{⊎_elim, arith, length-append}
 use Rattle.std.specs.Prelude.{cond, eqb, ltb, ◌&&◌}
 use Rattle.std.proofs.Math.Nat.{pow-zero, pow-succ', mul-le-mul_left}
-use Rattle.std.proofs.lemmas.Bool.{cases_eq, cases_order, cases_Bool, eqb-true, eq-eqb, ltb-true, lt-ltb, le-ltb, and_from, and_right, and_parts, cond-true, cond-false}
+use Rattle.std.proofs.lemmas.Bool.{cases_eq, cases_order, cases_Bool, eqb-true, eq-eqb, ltb-true, lt-ltb, le-ltb, and_from, and_right, and_parts, cond-true}
+use Rattle.std.proofs.lemmas.Bool.{cond-false}
 use Rattle.leak_bound.specs.Records.{Entry, Fits, levels_of, FromOn, NeverFalls, IsIn, Within, below}
 
 -- a question: a level and a threshold
@@ -42,10 +44,12 @@ abbrev pub SameAnswers : List Question → List Entry → List Entry → Type 0
 SameAnswers [] r r' = Unit {0}
 SameAnswers (q ∷ qs) r r' = (below q.0 q.1 r ≡ below q.0 q.1 r') × SameAnswers qs r r'
 
-pub same_answers : (k : ℕ) (qs : List Question) (r r' : List Entry) → length r ≤ k → length r' ≤ k → code (k + 1) qs r ≡ code (k + 1) qs r' → SameAnswers qs r r'
+pub same_answers : (k : ℕ) (qs : List Question) (r r' : List Entry) → length r ≤ k → length r' ≤ k
+    → code (k + 1) qs r ≡ code (k + 1) qs r' → SameAnswers qs r r'
 same_answers k [] r r' h h' e = tt
 same_answers k (q ∷ qs) r r' h h' e =
-    let d = digits_same (k + 1) (below q.0 q.1 r) (code (k + 1) qs r) (below q.0 q.1 r') (code (k + 1) qs r') (omega (arith, below_le q.0 q.1 r)) (omega (arith, below_le q.0 q.1 r')) e in
+    let d = digits_same (k + 1) (below q.0 q.1 r) (code (k + 1) qs r) (below q.0 q.1 r') (code (k + 1) qs r') (omega (arith, below_le q.0 q.1 r))
+        (omega (arith, below_le q.0 q.1 r')) e in
     (d.0, same_answers k qs r r' h h' d.1)
 
 abbrev thresholds : ℕ → ℕ → List Question
@@ -76,7 +80,8 @@ at_threshold l (suc d) r r' s j p h =
     (λ (ne : j ≡ suc d → ⊥). at_threshold l d r r' s.1 j p (omega arith))
     (cases_eq j (suc d))
 
-pub answer_at : (ls : List ℕ) (d : ℕ) (r r' : List Entry) → SameAnswers (questions ls d) r r' → (l j : ℕ) → IsIn l ls → 0 < j → j ≤ d → below l j r ≡ below l j r'
+pub answer_at : (ls : List ℕ) (d : ℕ) (r r' : List Entry) → SameAnswers (questions ls d) r r' → (l j : ℕ) → IsIn l ls → 0 < j
+    → j ≤ d → below l j r ≡ below l j r'
 answer_at [] d r r' s l j i p h = absurd i
 answer_at (m ∷ ls) d r r' s l j (inl e) p h =
     subst (λ n. below n j r ≡ below n j r') (sym e) (at_threshold m d r r' (same_parts (thresholds m d) (questions ls d) r r' s).0 j p h)
@@ -107,7 +112,8 @@ lower_head l m m' r r' f e lt =
 one_here : (x : Entry) (j : ℕ) (r : List Entry) → x.1 < j → 0 < below x.0 j (x ∷ r)
 one_here x j r h = omega (arith, cond-true {A = ℕ} (eqb x.0 x.0 && ltb x.1 j) 1 0 (and_from _ _ (eq-eqb x.0 x.0 refl) (lt-ltb x.1 j h)))
 
-pub record_same : (ls : List ℕ) (d : ℕ) (r r' : List Entry) → levels_of r ≡ levels_of r' → Within ls d r → Within ls d r' → NeverFalls r → NeverFalls r' → ((l j : ℕ) → IsIn l ls → 0 < j → j ≤ d → below l j r ≡ below l j r') → r ≡ r'
+pub record_same : (ls : List ℕ) (d : ℕ) (r r' : List Entry) → levels_of r ≡ levels_of r' → Within ls d r → Within ls d r' → NeverFalls r → NeverFalls r'
+    → ((l j : ℕ) → IsIn l ls → 0 < j → j ≤ d → below l j r ≡ below l j r') → r ≡ r'
 record_same ls d [] [] e w w' n n' s = refl
 record_same ls d [] (x ∷ r') e w w' n n' s = cc
 record_same ls d (x ∷ r) [] e w w' n n' s = cc
@@ -116,7 +122,8 @@ record_same ls d ((l, m) ∷ r) ((l', m') ∷ r') e w w' n n' s =
     let re : levels_of r ≡ levels_of r' = cc in
     go l' le n' s (cases_order m m') (λ t. record_same ls d r r' re w.2 w'.2 n.1 n'.1 t)
   where
-    go : (l' : ℕ) → l ≡ l' → NeverFalls ((l', m') ∷ r') → ((k j : ℕ) → IsIn k ls → 0 < j → j ≤ d → below k j ((l, m) ∷ r) ≡ below k j ((l', m') ∷ r')) → (m ≡ m') ⊎ ((m < m') ⊎ (m' < m)) → (((k j : ℕ) → IsIn k ls → 0 < j → j ≤ d → below k j r ≡ below k j r') → r ≡ r') → (l, m) ∷ r ≡ (l', m') ∷ r'
+    go : (l' : ℕ) → l ≡ l' → NeverFalls ((l', m') ∷ r') → ((k j : ℕ) → IsIn k ls → 0 < j → j ≤ d → below k j ((l, m) ∷ r) ≡ below k j ((l', m') ∷ r'))
+        → (m ≡ m') ⊎ ((m < m') ⊎ (m' < m)) → (((k j : ℕ) → IsIn k ls → 0 < j → j ≤ d → below k j r ≡ below k j r') → r ≡ r') → (l, m) ∷ r ≡ (l', m') ∷ r'
     go l' le n' s (inl me) rec =
         let rest = rec (λ k j i p h.
         let a = ap (λ x. cond {A = ℕ} (eqb k x && ltb m j) 1 0) le in
@@ -124,18 +131,23 @@ record_same ls d ((l, m) ∷ r) ((l', m') ∷ r') e w w' n n' s =
         omega (arith, s k j i p h, a, b)) in
         cc
     go l' le n' s (inr (inl lt)) rec =
-        absurd (lower_head l m m' r r' (subst (λ k. FromOn k m' r') (sym le) n'.0) (subst (λ k. below l m' ((l, m) ∷ r) ≡ below l m' ((k, m') ∷ r')) (sym le) (s l m' w.0 (omega arith) w'.1)) lt)
+        absurd (lower_head l m m' r r' (subst (λ k. FromOn k m' r') (sym le) n'.0)
+            (subst (λ k. below l m' ((l, m) ∷ r) ≡ below l m' ((k, m') ∷ r')) (sym le) (s l m' w.0 (omega arith) w'.1)) lt)
     go l' le n' s (inr (inr lt)) rec =
         absurd (lower_head l m' m r' r n.0 (sym (subst (λ k. below l m ((l, m) ∷ r) ≡ below l m ((k, m') ∷ r')) (sym le) (s l m w.0 (omega arith) w.1))) lt)
 
 -- records of which one may end before the other: the entry that the other lacks shows at the threshold above all
-pub record_fits : (ls : List ℕ) (d : ℕ) (r r' : List Entry) → Fits r r' → Within ls d r → Within ls d r' → NeverFalls r → NeverFalls r' → ((l j : ℕ) → IsIn l ls → 0 < j → j ≤ suc d → below l j r ≡ below l j r') → r ≡ r'
+pub record_fits : (ls : List ℕ) (d : ℕ) (r r' : List Entry) → Fits r r' → Within ls d r → Within ls d r' → NeverFalls r → NeverFalls r'
+    → ((l j : ℕ) → IsIn l ls → 0 < j → j ≤ suc d → below l j r ≡ below l j r') → r ≡ r'
 record_fits ls d [] [] e w w' n n' s = refl
-record_fits ls d [] (x ∷ r') e w w' n n' s = let up = w'.1 in absurd (omega (arith, one_here x (suc d) r' (omega arith), s x.0 (suc d) w'.0 (omega arith) (omega arith)))
-record_fits ls d (x ∷ r) [] e w w' n n' s = let up = w.1 in absurd (omega (arith, one_here x (suc d) r (omega arith), s x.0 (suc d) w.0 (omega arith) (omega arith)))
+record_fits ls d [] (x ∷ r') e w w' n n' s = let up = w'.1 in
+    absurd (omega (arith, one_here x (suc d) r' (omega arith), s x.0 (suc d) w'.0 (omega arith) (omega arith)))
+record_fits ls d (x ∷ r) [] e w w' n n' s = let up = w.1 in
+    absurd (omega (arith, one_here x (suc d) r (omega arith), s x.0 (suc d) w.0 (omega arith) (omega arith)))
 record_fits ls d ((l, m) ∷ r) ((l', m') ∷ r') e w w' n n' s = go l' e.0 n' s (cases_order m m') (λ t. record_fits ls d r r' e.1 w.2 w'.2 n.1 n'.1 t)
   where
-    go : (l' : ℕ) → l ≡ l' → NeverFalls ((l', m') ∷ r') → ((k j : ℕ) → IsIn k ls → 0 < j → j ≤ suc d → below k j ((l, m) ∷ r) ≡ below k j ((l', m') ∷ r')) → (m ≡ m') ⊎ ((m < m') ⊎ (m' < m)) → (((k j : ℕ) → IsIn k ls → 0 < j → j ≤ suc d → below k j r ≡ below k j r') → r ≡ r') → (l, m) ∷ r ≡ (l', m') ∷ r'
+    go : (l' : ℕ) → l ≡ l' → NeverFalls ((l', m') ∷ r') → ((k j : ℕ) → IsIn k ls → 0 < j → j ≤ suc d → below k j ((l, m) ∷ r) ≡ below k j ((l', m') ∷ r'))
+        → (m ≡ m') ⊎ ((m < m') ⊎ (m' < m)) → (((k j : ℕ) → IsIn k ls → 0 < j → j ≤ suc d → below k j r ≡ below k j r') → r ≡ r') → (l, m) ∷ r ≡ (l', m') ∷ r'
     go l' le n' s (inl me) rec =
         let rest = rec (λ k j i p h.
         let a = ap (λ x. cond {A = ℕ} (eqb k x && ltb m j) 1 0) le in
@@ -144,7 +156,9 @@ record_fits ls d ((l, m) ∷ r) ((l', m') ∷ r') e w w' n n' s = go l' e.0 n' s
         cc
     go l' le n' s (inr (inl lt)) rec =
         let up = w'.1 in
-        absurd (lower_head l m m' r r' (subst (λ k. FromOn k m' r') (sym le) n'.0) (subst (λ k. below l m' ((l, m) ∷ r) ≡ below l m' ((k, m') ∷ r')) (sym le) (s l m' w.0 (omega arith) (omega arith))) lt)
+        absurd (lower_head l m m' r r' (subst (λ k. FromOn k m' r') (sym le) n'.0)
+            (subst (λ k. below l m' ((l, m) ∷ r) ≡ below l m' ((k, m') ∷ r')) (sym le) (s l m' w.0 (omega arith) (omega arith))) lt)
     go l' le n' s (inr (inr lt)) rec =
         let up = w.1 in
-        absurd (lower_head l m' m r' r n.0 (sym (subst (λ k. below l m ((l, m) ∷ r) ≡ below l m ((k, m') ∷ r')) (sym le) (s l m w.0 (omega arith) (omega arith)))) lt)
+        absurd (lower_head l m' m r' r n.0
+            (sym (subst (λ k. below l m ((l, m) ∷ r) ≡ below l m ((k, m') ∷ r')) (sym le) (s l m w.0 (omega arith) (omega arith)))) lt)

@@ -32,7 +32,8 @@ tally_told rel [] = refl
 tally_told rel (Wrote x n c ∷ es) = tally_told rel es
 tally_told rel (Began k c ∷ es) = go (rel k) (tally_told rel es)
   where
-    go : (b : Bool) → begun_count rel es ≡ tally rel (started_in (told es)) → cond b 1 0 + begun_count rel es ≡ cond b (1 + tally rel (started_in (told es))) (tally rel (started_in (told es)))
+    go : (b : Bool) → begun_count rel es ≡ tally rel (started_in (told es))
+        → cond b 1 0 + begun_count rel es ≡ cond b (1 + tally rel (started_in (told es))) (tally rel (started_in (told es)))
     go true e = omega (arith, e)
     go false e = omega (arith, e)
 tally_told rel (Ended k c ∷ es) = tally_told rel es
@@ -42,7 +43,8 @@ pub begun-told : (rel : ℕ → Bool) (es : List Event) → begun_count rel es �
 begun-told rel es = tally_told rel es ∙ is_count_by (tally rel) rel refl (λ x xs. refl) (started_in (told es))
 
 -- there is one count
-pub begins_one : {M L : Type 0} (lat : Lattice) (g ls : ℕ → ℕ) (o : ℕ) (p : Todo M L) (m : List ℤ) (k k' : ℕ) → Begins lat g ls o p m k → Begins lat g ls o p m k' → k ≡ k'
+pub begins_one : {M L : Type 0} (lat : Lattice) (g ls : ℕ → ℕ) (o : ℕ) (p : Todo M L) (m : List ℤ) (k k' : ℕ) → Begins lat g ls o p m k
+    → Begins lat g ls o p m k' → k ≡ k'
 begins_one lat g ls o p m k k' b b' =
     sym b.2 ∙ ap (λ z. count_by (is_relevant lat g ls o p) (started_in z)) (ended_same p m b.0 b'.0 b.1 b'.1) ∙ b'.2
 
@@ -57,18 +59,22 @@ empties [] [] h h' = refl
 empties [] (x ∷ r') h h' = absurd (omega (arith, h'))
 empties (x ∷ r) r' h h' = absurd (omega (arith, h))
 
-module _ {E : Type 0} {serves : E → Type 0} (v : Env E) (order : Order) (g ls : ℕ → ℕ) (image : List Instr) (p : Marked) (made : IsCompiled order g ls image p) (laws : IsLawful v (lattice_of order) serves) where
+module _ {E : Type 0} {serves : E → Type 0} (v : Env E) (order : Order) (g ls : ℕ → ℕ) (image : List Instr) (p : Marked) (made : IsCompiled order g ls image p)
+    (laws : IsLawful v (lattice_of order) serves) where
   abbrev lat : Lattice
   lat = lattice_of order
 
   -- the count by the source is that of the log
-  pub begins_log : (o t : ℕ) (s : Start E) → Halts v image t s → Begins lat g ls o p s.memory (begun_count (is_relevant lat g ls o p) (run_from v image t s).core.log)
+  pub begins_log : (o t : ℕ) (s : Start E) → Halts v image t s
+      → Begins lat g ls o p s.memory (begun_count (is_relevant lat g ls o p) (run_from v image t s).core.log)
   begins_log o t s h =
       let f = (keeps_order v lat g image p made.code).follows s t in
-      (f.0, f.2 h, ap (λ z. count_by (is_relevant lat g ls o p) (started_in z)) (sym f.1) ∙ sym (begun-told (is_relevant lat g ls o p) (run_from v image t s).core.log))
+      (f.0, f.2 h, ap (λ z. count_by (is_relevant lat g ls o p) (started_in z)) (sym f.1)
+          ∙ sym (begun-told (is_relevant lat g ls o p) (run_from v image t s).core.log))
 
   -- and so it is by whatever tells which marks are relevant
-  pub begins_by : (o t : ℕ) (rel : ℕ → Bool) → Tells lat g o rel lat.bottom p → (s : Start E) → Halts v image t s → Begins lat g ls o p s.memory (begun_count rel (run_from v image t s).core.log)
+  pub begins_by : (o t : ℕ) (rel : ℕ → Bool) → Tells lat g o rel lat.bottom p → (s : Start E) → Halts v image t s
+      → Begins lat g ls o p s.memory (begun_count rel (run_from v image t s).core.log)
   begins_by o t rel other s h =
       let own = is_relevant lat g ls o p in
       let a = begun_is v lat made.lattice laws g image p made.arrays made.typed made.code o own (tells_relevant lat g ls o p made.marks made.told) t s h in
@@ -76,13 +82,15 @@ module _ {E : Type 0} {serves : E → Type 0} (v : Env E) (order : Order) (g ls 
       subst (λ z. Begins lat g ls o p s.memory z) (a ∙ sym b) (begins_log o t s h)
 
   -- as many relevant mitigations end
-  pub ended_by : (o t : ℕ) (rel : ℕ → Bool) → Tells lat g o rel lat.bottom p → (s : Start E) → ended_count rel (run_from v image t s).core.log ≡ ended_count (is_relevant lat g ls o p) (run_from v image t s).core.log
+  pub ended_by : (o t : ℕ) (rel : ℕ → Bool) → Tells lat g o rel lat.bottom p → (s : Start E)
+      → ended_count rel (run_from v image t s).core.log ≡ ended_count (is_relevant lat g ls o p) (run_from v image t s).core.log
   ended_by o t rel other s =
       let own = is_relevant lat g ls o p in
       ended_is v lat made.lattice laws g image p made.arrays made.typed made.code o rel other t s
       ∙ sym (ended_is v lat made.lattice laws g image p made.arrays made.typed made.code o own (tells_relevant lat g ls o p made.marks made.told) t s)
 
-  pub most_by : (o t : ℕ) (rel : ℕ → Bool) → Tells lat g o rel lat.bottom p → (starts : List (Start E)) → most_ended v image rel t starts ≡ most_ended v image (is_relevant lat g ls o p) t starts
+  pub most_by : (o t : ℕ) (rel : ℕ → Bool) → Tells lat g o rel lat.bottom p → (starts : List (Start E))
+      → most_ended v image rel t starts ≡ most_ended v image (is_relevant lat g ls o p) t starts
   most_by o t rel other [] = refl
   most_by o t rel other (s ∷ starts) =
       let own = is_relevant lat g ls o p in
@@ -104,18 +112,24 @@ module _ {E : Type 0} {serves : E → Type 0} (v : Env E) (order : Order) (g ls 
         few = λ o low t some starts agree halts same tests. go o t some starts agree halts same tests;
       }
     where
-      go : (o t : ℕ) → 0 < t → (starts : List (Start E)) → Pairwise (Agree v lat serves g o) starts → Each (Halts v image t) starts → (same : List Event → List Event → Bool) → Tests same → (k : ℕ) × FirstBegins lat g ls o p starts k × Each (λ s. Begins lat g ls o p s.memory k) starts × (distinct_count same (views (seen_from v lat g image o t) starts) ≤ bound order o t k)
+      go : (o t : ℕ) → 0 < t → (starts : List (Start E)) → Pairwise (Agree v lat serves g o) starts → Each (Halts v image t) starts
+          → (same : List Event → List Event → Bool) → Tests same → (k : ℕ) × FirstBegins lat g ls o p starts k
+          × Each (λ s. Begins lat g ls o p s.memory k) starts × (distinct_count same (views (seen_from v lat g image o t) starts) ≤ bound order o t k)
       go o t some [] agree halts same tests = (0, refl, tt, omega arith)
       go o t some (s ∷ starts) agree halts same tests =
           let rel = is_relevant lat g ls o p in
           let k = begun_count rel (run_from v image t s).core.log in
           let d = digits_is t some in
-          let few = few_halted_by v lat made.lattice laws g image p made.arrays made.typed made.code o rel (tells o) t (others lat o order.size) (has_levels lat o order.size p made.levels) same tests d.0 d.2 s starts agree.0 halts in (
+          let few = few_halted_by v lat made.lattice laws g image p made.arrays made.typed made.code o rel (tells o) t (others lat o order.size)
+              (has_levels lat o order.size p made.levels) same tests d.0 d.2 s starts agree.0 halts in (
             k,
             begins_log o t s halts.0,
             Each-map (λ s'. Agree v lat serves g o s s' × Halts v image t s') (λ s'. Begins lat g ls o p s'.memory k)
-                (λ s' a. subst (λ z. Begins lat g ls o p s'.memory z) (same_begun v lat made.lattice laws g image p made.arrays made.typed made.code o rel (tells o) t s' s (back o s s' a.0) a.1 halts.0) (begins_log o t s' a.1))
-                (s ∷ starts) (each_both v lat made.lattice laws g image p made.arrays made.typed made.code o rel (tells o) t (λ s'. Agree v lat serves g o s s') (Halts v image t) (s ∷ starts) agree.0 halts),
+                (λ s' a. subst (λ z. Begins lat g ls o p s'.memory z)
+                    (same_begun v lat made.lattice laws g image p made.arrays made.typed made.code o rel (tells o) t s' s (back o s s' a.0) a.1 halts.0)
+                    (begins_log o t s' a.1))
+                (s ∷ starts) (each_both v lat made.lattice laws g image p made.arrays made.typed made.code o rel (tells o) t
+                    (λ s'. Agree v lat serves g o s s') (Halts v image t) (s ∷ starts) agree.0 halts),
             by_digits o t _ k d.0 d.1 few,
           )
         where
@@ -127,8 +141,10 @@ module _ {E : Type 0} {serves : E → Type 0} (v : Env E) (order : Order) (g ls 
       let rel = is_relevant lat g ls o p in
       let r = record_from v lat made.lattice laws g image p made.arrays made.typed made.code o rel (tells o) t s in
       let r' = record_from v lat made.lattice laws g image p made.arrays made.typed made.code o rel (tells o) t s' in
-      let n : length r ≡ 0 = sym (ended_is v lat made.lattice laws g image p made.arrays made.typed made.code o rel (tells o) t s) ∙ none_ended rel none (run_from v image t s).core.log in
-      let n' : length r' ≡ 0 = sym (ended_is v lat made.lattice laws g image p made.arrays made.typed made.code o rel (tells o) t s') ∙ none_ended rel none (run_from v image t s').core.log in
+      let n : length r ≡ 0 = sym (ended_is v lat made.lattice laws g image p made.arrays made.typed made.code o rel (tells o) t s)
+          ∙ none_ended rel none (run_from v image t s).core.log in
+      let n' : length r' ≡ 0 = sym (ended_is v lat made.lattice laws g image p made.arrays made.typed made.code o rel (tells o) t s')
+          ∙ none_ended rel none (run_from v image t s').core.log in
       seen_same v lat made.lattice laws g image p made.arrays made.typed made.code o rel (tells o) t s s' a (empties r r' n n')
 
   pub is_cut_sound : CutSound v order serves g ls image p
@@ -138,5 +154,6 @@ module _ {E : Type 0} {serves : E → Type 0} (v : Env E) (order : Order) (g ls 
             let rel = is_relevant lat g ls o p in
             let d = digits_is t some in
             by_digits o t _ (most_ended v image rel t starts) d.0 d.1
-            (few_cut_by v lat made.lattice laws g image p made.arrays made.typed made.code o rel (tells o) t (others lat o order.size) (has_levels lat o order.size p made.levels) same tests d.0 d.2 starts agree);
+            (few_cut_by v lat made.lattice laws g image p made.arrays made.typed made.code o rel (tells o) t (others lat o order.size)
+                (has_levels lat o order.size p made.levels) same tests d.0 d.2 starts agree);
       }

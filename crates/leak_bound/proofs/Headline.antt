@@ -45,7 +45,8 @@ levels_in-cond false ls a f = tt
 
 -- a count whose power is below 2 ^ (d + 1) is at most d
 power_le : (m d c : ℕ) → 2 ^ m ≤ c → c < 2 ^ suc d → m ≤ d
-power_le m d c h lt = ⊎_elim (λ (a : d < m). let up : suc d ≤ m = omega arith in let two : 0 < 2 = omega arith in absurd (omega (arith, pow-le-pow_right two up))) (λ (b : m ≤ d). b) (cases_lt d m)
+power_le m d c h lt = ⊎_elim (λ (a : d < m). let up : suc d ≤ m = omega arith in let two : 0 < 2 = omega arith in
+    absurd (omega (arith, pow-le-pow_right two up))) (λ (b : m ≤ d). b) (cases_lt d m)
 
 within : (ls : List ℕ) (d c : ℕ) (r : List Entry) → c < 2 ^ suc d → LevelsIn ls r → Took c r → Within ls d r
 within ls d c [] lt f t = tt
@@ -55,7 +56,8 @@ length-levels_of : (r : List Entry) → length (levels_of r) ≡ length r
 length-levels_of [] = refl
 length-levels_of (e ∷ r) = ap suc (length-levels_of r)
 
-module _ {E : Type 0} {serves : E → Type 0} (v : Env E) (lat : Lattice) (ll : IsLattice lat) (laws : IsLawful v lat serves) (g : ℕ → ℕ) (o lim : ℕ) (ls : List ℕ) where
+module _ {E : Type 0} {serves : E → Type 0} (v : Env E) (lat : Lattice) (ll : IsLattice lat) (laws : IsLawful v lat serves) (g : ℕ → ℕ)
+    (o lim : ℕ) (ls : List ℕ) where
   abbrev HasJob : Job → Type 0
   HasJob (Do p a) = HasLevels lat o ls p
   HasJob (Loop m e c a) = HasLevels lat o ls c
@@ -87,7 +89,9 @@ pub Each-map : {X : Type 0} (P Q : X → Type 0) → ((x : X) → P x → Q x) �
 Each-map P Q f [] h = tt
 Each-map P Q f (x ∷ xs) h = (f x h.0, Each-map P Q f xs h.1)
 
-module _ {E : Type 0} {serves : E → Type 0} (v : Env E) (lat : Lattice) (ll : IsLattice lat) (laws : IsLawful v lat serves) (g : ℕ → ℕ) (image : List Instr) (p : Marked) (arrays : ArraysIn g p) (typed : IsTyped lat g p) (code : IsImage lat g image p) (o : ℕ) (rel : ℕ → Bool) (tells : Tells lat g o rel lat.bottom p) (t : ℕ) where
+module _ {E : Type 0} {serves : E → Type 0} (v : Env E) (lat : Lattice) (ll : IsLattice lat) (laws : IsLawful v lat serves) (g : ℕ → ℕ) (image : List Instr)
+    (p : Marked) (arrays : ArraysIn g p) (typed : IsTyped lat g p) (code : IsImage lat g image p) (o : ℕ) (rel : ℕ → Bool)
+    (tells : Tells lat g o rel lat.bottom p) (t : ℕ) where
   abbrev pub found : (s : Start E) → Whole v lat g image p code t s
   found s = whole v lat g image p code t s
 
@@ -105,9 +109,12 @@ module _ {E : Type 0} {serves : E → Type 0} (v : Env E) (lat : Lattice) (ll : 
   abbrev AgreeTo : Start E → Start E → Type 0
   AgreeTo s s' = Agree v lat serves g o s s'
 
-  both : (x y : Start E) → AgreeTo x y → Both v lat ll laws g o t lat.bottom typed.0 (first_core v lat g image p code t x) (found x).after (first_core v lat g image p code t y) (found y).after (record_from x) (record_from y)
+  both : (x y : Start E) → AgreeTo x y
+      → Both v lat ll laws g o t lat.bottom typed.0 (first_core v lat g image p code t x) (found x).after (first_core v lat g image p code t y) (found y).after
+      (record_from x) (record_from y)
   both x y a =
-      two_run v lat ll laws g o t lat.bottom typed.0 (lat.bottom, typed.1, arrays, ll.same lat.bottom, ll.lowest o) (record { memory = a.low; long = a.long; one = a.one; other = a.other; parts = a.parts }) (found x).run (found y).run
+      two_run v lat ll laws g o t lat.bottom typed.0 (lat.bottom, typed.1, arrays, ll.same lat.bottom,
+          ll.lowest o) (record { memory = a.low; long = a.long; one = a.one; other = a.other; parts = a.parts }) (found x).run (found y).run
 
   pub seen_same : (x y : Start E) → AgreeTo x y → record_from x ≡ record_from y → seen_from v lat g image o t x ≡ seen_from v lat g image o t y
   seen_same x y a e =
@@ -121,7 +128,8 @@ module _ {E : Type 0} {serves : E → Type 0} (v : Env E) (lat : Lattice) (ll : 
   agree_back s s' a = record { one = a.other; other = a.one; long = sym a.long; low = λ x h. sym (a.low x h); parts = λ q l h. sym (a.parts q l h) }
 
   agree_on : (s s1 s2 : Start E) → AgreeTo s s1 → AgreeTo s1 s2 → AgreeTo s s2
-  agree_on s s1 s2 a b = record { one = a.one; other = b.other; long = a.long ∙ b.long; low = λ x h. a.low x h ∙ b.low x h; parts = λ q l h. a.parts q l h ∙ b.parts q l h }
+  agree_on s s1 s2 a b = record { one = a.one; other = b.other; long = a.long ∙ b.long; low = λ x h. a.low x h ∙ b.low x h; parts =
+      λ q l h. a.parts q l h ∙ b.parts q l h }
 
   -- a start that agrees with a first one, and more
   record Member (P : Start E → Type 0) (s : Start E) : Type 0 where
@@ -136,7 +144,8 @@ module _ {E : Type 0} {serves : E → Type 0} (v : Env E) (lat : Lattice) (ll : 
   abbrev see : (P : Start E → Type 0) (s : Start E) → Member P s → List Event
   see P s x = seen_from v lat g image o t x.from
 
-  views-members : (P : Start E → Type 0) (s : Start E) (starts : List (Start E)) (a : Each (λ s'. AgreeTo s s') starts) (h : Each P starts) → views (see P s) (members P s starts a h) ≡ views (seen_from v lat g image o t) starts
+  views-members : (P : Start E → Type 0) (s : Start E) (starts : List (Start E)) (a : Each (λ s'. AgreeTo s s') starts) (h : Each P starts)
+      → views (see P s) (members P s starts a h) ≡ views (seen_from v lat g image o t) starts
   unfolding members
   views-members P s [] a h = refl
   views-members P s (s' ∷ starts) a h = ap (λ z. seen_from v lat g image o t s' ∷ z) (views-members P s starts a.1 h.1)
@@ -145,11 +154,14 @@ module _ {E : Type 0} {serves : E → Type 0} (v : Env E) (lat : Lattice) (ll : 
   pair P s x y = agree_on x.from s y.from (agree_back s x.from x.agrees) y.agrees
 
   -- runs that may be cut: at most k relevant mitigations ended in each
-  pub few_under : (ls : List ℕ) → HasLevels lat o ls p → (same : List Event → List Event → Bool) → Tests same → (d : ℕ) → t < 2 ^ suc d → (k : ℕ) (s : Start E) (starts : List (Start E)) → Each (λ s'. AgreeTo s s') starts → Each (λ s'. ended s' ≤ k) starts → distinct_count same (views (seen_from v lat g image o t) starts) ≤ (k + 1) ^ (length ls * suc d)
+  pub few_under : (ls : List ℕ) → HasLevels lat o ls p → (same : List Event → List Event → Bool) → Tests same → (d : ℕ) → t < 2 ^ suc d
+      → (k : ℕ) (s : Start E) (starts : List (Start E)) → Each (λ s'. AgreeTo s s') starts → Each (λ s'. ended s' ≤ k) starts
+      → distinct_count same (views (seen_from v lat g image o t) starts) ≤ (k + 1) ^ (length ls * suc d)
   few_under ls has same tests d lt k s starts a h =
       let P : Start E → Type 0 = λ s'. ended s' ≤ k in
       let bound = count_cut (see P s) (λ (x : Member P s). record_from x.from) same tests ls d k
-      (λ x. let m = x.more in record { short = omega (arith, ended_is x.from); within = within_from ls has d lt x.from; rises = (grows_run v lat g o t (found x.from).run).rises })
+      (λ x. let m = x.more in record { short = omega (arith, ended_is x.from); within = within_from ls has d lt x.from; rises =
+          (grows_run v lat g o t (found x.from).run).rises })
       (λ x y. (both x.from y.from (pair P s x y)).fits)
       (λ x y e. seen_same x.from y.from (pair P s x y) e)
       (members P s starts a h) in
@@ -163,9 +175,12 @@ module _ {E : Type 0} {serves : E → Type 0} (v : Env E) (lat : Lattice) (ll : 
       let r : rest ≤ max (ended s) rest = le-max_right (ended s) rest in
       (l, Each-map (λ s'. ended s' ≤ rest) (λ s'. ended s' ≤ max (ended s) rest) (λ s' h. omega arith) starts (under_most starts))
 
-  pub few_cut_by : (ls : List ℕ) → HasLevels lat o ls p → (same : List Event → List Event → Bool) → Tests same → (d : ℕ) → t < 2 ^ suc d → (starts : List (Start E)) → Each (λ s. Each (λ s'. AgreeTo s s') starts) starts → distinct_count same (views (seen_from v lat g image o t) starts) ≤ (most_ended v image rel t starts + 1) ^ (length ls * suc d)
+  pub few_cut_by : (ls : List ℕ) → HasLevels lat o ls p → (same : List Event → List Event → Bool) → Tests same → (d : ℕ) → t < 2 ^ suc d
+      → (starts : List (Start E)) → Each (λ s. Each (λ s'. AgreeTo s s') starts) starts
+      → distinct_count same (views (seen_from v lat g image o t) starts) ≤ (most_ended v image rel t starts + 1) ^ (length ls * suc d)
   few_cut_by ls has same tests d lt [] a = omega arith
-  few_cut_by ls has same tests d lt (s ∷ starts) a = few_under ls has same tests d lt (most_ended v image rel t (s ∷ starts)) s (s ∷ starts) a.0 (under_most (s ∷ starts))
+  few_cut_by ls has same tests d lt (s ∷ starts) a =
+      few_under ls has same tests d lt (most_ended v image rel t (s ∷ starts)) s (s ∷ starts) a.0 (under_most (s ∷ starts))
 
   -- runs that have halted
   abbrev Halts : Start E → Type 0
@@ -183,7 +198,8 @@ module _ {E : Type 0} {serves : E → Type 0} (v : Env E) (lat : Lattice) (ll : 
       let r = b.least ((found y).in_time h') in
       omega arith
 
-  pub same_begun : (x y : Start E) → AgreeTo x y → Halts x → Halts y → begun_count rel (run_from v image t x).core.log ≡ begun_count rel (run_from v image t y).core.log
+  pub same_begun : (x y : Start E) → AgreeTo x y → Halts x → Halts y
+      → begun_count rel (run_from v image t x).core.log ≡ begun_count rel (run_from v image t y).core.log
   same_begun x y a h h' = begun_is x h ∙ count_same x y a h h' ∙ sym (begun_is y h')
 
   pub each_both : (P Q : Start E → Type 0) (starts : List (Start E)) → Each P starts → Each Q starts → Each (λ s. P s × Q s) starts
@@ -191,7 +207,9 @@ module _ {E : Type 0} {serves : E → Type 0} (v : Env E) (lat : Lattice) (ll : 
   each_both P Q (s ∷ starts) a b = ((a.0, b.0), each_both P Q starts a.1 b.1)
 
   -- the halting theorem from the one for any cut
-  pub few_halted_by : (ls : List ℕ) → HasLevels lat o ls p → (same : List Event → List Event → Bool) → Tests same → (d : ℕ) → t < 2 ^ suc d → (s : Start E) (starts : List (Start E)) → Each (λ s'. AgreeTo s s') (s ∷ starts) → Each Halts (s ∷ starts) → distinct_count same (views (seen_from v lat g image o t) (s ∷ starts)) ≤ (begun_count rel (run_from v image t s).core.log + 1) ^ (length ls * suc d)
+  pub few_halted_by : (ls : List ℕ) → HasLevels lat o ls p → (same : List Event → List Event → Bool) → Tests same → (d : ℕ) → t < 2 ^ suc d
+      → (s : Start E) (starts : List (Start E)) → Each (λ s'. AgreeTo s s') (s ∷ starts) → Each Halts (s ∷ starts)
+      → distinct_count same (views (seen_from v lat g image o t) (s ∷ starts)) ≤ (begun_count rel (run_from v image t s).core.log + 1) ^ (length ls * suc d)
   few_halted_by ls has same tests d lt s starts a h =
       few_under ls has same tests d lt (begun_count rel (run_from v image t s).core.log) s (s ∷ starts) a
       (Each-map (λ s'. AgreeTo s s' × Halts s') (λ s'. ended s' ≤ begun_count rel (run_from v image t s).core.log)

@@ -109,7 +109,8 @@ module _ {E : Type 0} {serves : E → Type 0} (v : Env E) (lat : Lattice) (ll : 
         kept = λ c. c;
         parts = λ c q l low. refl;
         misses = λ l low. refl;
-        seen = shown-none lat g o lim s.log (Wrote x n s.clock) (cond-false (lat.flows (g x) o) (Wrote x n s.clock ∷ []) [] (false_from_ne_true (lat.flows (g x) o) h));
+        seen = shown-none lat g o lim s.log (Wrote x n s.clock)
+            (cond-false (lat.flows (g x) o) (Wrote x n s.clock ∷ []) [] (false_from_ne_true (lat.flows (g x) o) h));
       }
 
   pub begun_same : (k : ℕ) (s : Core E) → Unchanged s (begun k s)
@@ -130,7 +131,8 @@ module _ {E : Type 0} {serves : E → Type 0} (v : Env E) (lat : Lattice) (ll : 
         long = refl;
         kept = λ c. c;
         parts = λ c q l low. refl;
-        misses = λ l low. cond-false (eqb l w.level) (misses_after w.estimate (s.clock - w.since) (s.misses w.level)) (s.misses l) (ne_eqb l w.level (λ e. h (subst (λ z. Low z) e low)));
+        misses = λ l low. cond-false (eqb l w.level) (misses_after w.estimate (s.clock - w.since) (s.misses w.level)) (s.misses l)
+            (ne_eqb l w.level (λ e. h (subst (λ z. Low z) e low)));
         seen = shown-none lat g o lim s.log (Ended w.mark (closed w s).clock) refl;
       }
 
@@ -191,7 +193,8 @@ module _ {E : Type 0} {serves : E → Type 0} (v : Env E) (lat : Lattice) (ll : 
       let both = lat.join sec.3.0 sec.3.1 in
       let inner = inner_flows lat ll g pc sec.1 l m.er sec.4 in
       let to_end = flows_to_end lat ll g c (lat.join pc l) t1 sec.3.0 inner sec.3.3 in
-      let to : Flows lat pc both = ll.chain pc sec.1 both sec.4 (ll.chain sec.1 t1 both (start_flows lat ll g sec.1 l m.er) (ll.chain t1 sec.3.0 both to_end (ll.left sec.3.0 sec.3.1))) in
+      let to : Flows lat pc both = ll.chain pc sec.1 both sec.4
+          (ll.chain sec.1 t1 both (start_flows lat ll g sec.1 l m.er) (ll.chain t1 sec.3.0 both to_end (ll.left sec.3.0 sec.3.1))) in
       let s0 = tested v m e a s in
       let s2 = fetched v (raised lat g e m) (a + expr_size e + 1 + size c) s1 in
       unchanged_then s s0 _ (tested_high m e a s ew)
@@ -206,7 +209,8 @@ module _ {E : Type 0} {serves : E → Type 0} (v : Env E) (lat : Lattice) (ll : 
       let both = lat.join sec.3.0 sec.3.1 in
       let inner = inner_flows lat ll g pc sec.1 l m.er sec.4 in
       let to_end = flows_to_end lat ll g c (lat.join pc l) t1 sec.3.0 inner sec.3.3 in
-      let to : Flows lat pc both = ll.chain pc sec.1 both sec.4 (ll.chain sec.1 t1 both (start_flows lat ll g sec.1 l m.er) (ll.chain t1 sec.3.0 both to_end (ll.left sec.3.0 sec.3.1))) in
+      let to : Flows lat pc both = ll.chain pc sec.1 both sec.4
+          (ll.chain sec.1 t1 both (start_flows lat ll g sec.1 l m.er) (ll.chain t1 sec.3.0 both to_end (ll.left sec.3.0 sec.3.1))) in
       let s0 = tested v m e a s in
       unchanged_then s s0 _ (tested_high m e a s ew)
       (unchanged_then s0 s1 _ (high_run (lat.join pc l, t1, sec.3.1, sec.3.4, inner, sec.5.2, high_up pc (lat.join pc l) sec.6 (ll.left pc l)) b)
@@ -226,7 +230,8 @@ module _ {E : Type 0} {serves : E → Type 0} (v : Env E) (lat : Lattice) (ll : 
       let inner = ll.least pc l sec.3.0 to (from_left lat ll g l sec.1 sec.3.0 lt) in
       unchanged_then s (tested v m e a s) _ (tested_high m e a s ew)
       (unchanged_then (tested v m e a s) s1 _
-      (high_run (lat.join pc l, sec.3.0, sec.3.0, sec.3.3, inner, sec.5.1, high_up pc (lat.join pc l) sec.6 (ll.left pc l), high_up m.ew (lat.join m.ew l) ew (ll.left m.ew l)) b)
+      (high_run (lat.join pc l, sec.3.0, sec.3.0, sec.3.3, inner, sec.5.1, high_up pc (lat.join pc l) sec.6 (ll.left pc l),
+          high_up m.ew (lat.join m.ew l) ew (ll.left m.ew l)) b)
       (high_run (pc, sec.3.0, sec.2, sec.3.4, to, sec.5.2, sec.6) k))
   high_run {s = s} sec (mitigate {m = m} {k = mark} {l = level} {e = e} {c = c} {r = r} {a = a} {s1 = s1} b k) =
       let pc = sec.0 in
@@ -234,7 +239,8 @@ module _ {E : Type 0} {serves : E → Type 0} (v : Env E) (lat : Lattice) (ll : 
       let t1 = lat.join (lat.join sec.1 l) m.er in
       let ew = ew_up pc m e sec.6 sec.3.1 in
       let to = ll.chain pc sec.1 t1 sec.4 (start_flows lat ll g sec.1 l m.er) in
-      let level_high = high_up pc level sec.6 (ll.chain pc t1 level to (ll.chain t1 sec.3.0 level (flows_to_end lat ll g c pc t1 sec.3.0 to sec.3.2) sec.3.3)) in
+      let level_high = high_up pc level sec.6
+          (ll.chain pc t1 level to (ll.chain t1 sec.3.0 level (flows_to_end lat ll g c pc t1 sec.3.0 to sec.3.2) sec.3.3)) in
       let s0 = tested v m e a s in
       let w = opening (value_of e s.memory) level mark s0 in
       let s2 = fetched v m (a + expr_size e + 1 + size c) s1 in

@@ -63,7 +63,8 @@ fits_right (x ∷ a) (x' ∷ a') b l f = (f.0, fits_right a a' b (omega (arith, 
 module _ {E : Type 0} (v : Env E) (lat : Lattice) (g : ℕ → ℕ) (o lim : ℕ) where
   -- the entry of a mitigation that ends, from the state at its end instruction: none if its level is low or it ends past the cut
   abbrev pub entry_of : Opened → Core E → List Entry
-  entry_of w q = cond (lat.flows w.level o) [] (cond (leb (closed w q).clock lim) ((w.level, misses_after w.estimate (q.clock - w.since) (q.misses w.level)) ∷ []) [])
+  entry_of w q = cond (lat.flows w.level o) []
+      (cond (leb (closed w q).clock lim) ((w.level, misses_after w.estimate (q.clock - w.since) (q.misses w.level)) ∷ []) [])
 
   -- the part of the record that a run adds: the mitigations that ended and whose levels are not low, where the guards above are low
   abbrev pub record_of : {j : Job} {s s' : Core E} → Runs v lat g lim j s s' → List Entry
@@ -111,11 +112,14 @@ module _ {E : Type 0} {serves : E → Type 0} (v : Env E) (lat : Lattice) (ll : 
 
   pub fetched_low : (m : Marks) (a : ℕ) (s s' : Core E) → SameLow s s' → SameLow (fetched v m a s) (fetched v m a s')
   fetched_low m a s s' h =
-      record { memory = h.memory; long = h.long; one = laws.keeps Code (4 * a) m.er m.ew s.env h.one; other = laws.keeps Code (4 * a) m.er m.ew s'.env h.other; parts = laws.agreement Code (4 * a) m.er m.ew o s.env s'.env h.one h.other h.parts }
+      record { memory = h.memory; long = h.long; one = laws.keeps Code (4 * a) m.er m.ew s.env h.one; other =
+          laws.keeps Code (4 * a) m.er m.ew s'.env h.other; parts = laws.agreement Code (4 * a) m.er m.ew o s.env s'.env h.one h.other h.parts }
 
   pub touched_low : (m : Marks) (x : ℕ) (s s' : Core E) → SameLow s s' → SameLow (touched v m x s) (touched v m x s')
   touched_low m x s s' h =
-      record { memory = h.memory; long = h.long; one = laws.keeps Data (2 ^ 20 + 8 * x) m.er m.ew s.env h.one; other = laws.keeps Data (2 ^ 20 + 8 * x) m.er m.ew s'.env h.other; parts = laws.agreement Data (2 ^ 20 + 8 * x) m.er m.ew o s.env s'.env h.one h.other h.parts }
+      record { memory = h.memory; long = h.long; one = laws.keeps Data (2 ^ 20 + 8 * x) m.er m.ew s.env h.one; other =
+          laws.keeps Data (2 ^ 20 + 8 * x) m.er m.ew s'.env h.other; parts =
+          laws.agreement Data (2 ^ 20 + 8 * x) m.er m.ew o s.env s'.env h.one h.other h.parts }
 
   pub waited_low : (n n' : ℕ) (s s' : Core E) → SameLow s s' → SameLow (waited n s) (waited n' s')
   waited_low n n' s s' h = record { memory = h.memory; long = h.long; one = h.one; other = h.other; parts = h.parts }
@@ -140,7 +144,8 @@ module _ {E : Type 0} {serves : E → Type 0} (v : Env E) (lat : Lattice) (ll : 
       go false e = h (λ low. both_ways (lat.flows l o) e low)
 
   -- an access at a place that is the same, or whose label is not low and flows to the write label
-  pub touched_two : (m : Marks) (l x x' : ℕ) (s s' : Core E) → Flows lat l m.ew → (Low l → x ≡ x') → SameLow s s' → SameLow (touched v m x s) (touched v m x' s')
+  pub touched_two : (m : Marks) (l x x' : ℕ) (s s' : Core E) → Flows lat l m.ew → (Low l → x ≡ x') → SameLow s s'
+      → SameLow (touched v m x s) (touched v m x' s')
   touched_two m l x x' s s' f e h =
       by_label l (SameLow (touched v m x s) (touched v m x' s'))
       (λ low. subst (λ z. SameLow (touched v m x s) (touched v m z s')) (e low) (touched_low m x s s' h))
@@ -195,7 +200,8 @@ module _ {E : Type 0} {serves : E → Type 0} (v : Env E) (lat : Lattice) (ll : 
   timed_low m (Number n) a s s' k h = fetched_low m a s s' h
   timed_low m (Variable x) a s s' k h = touched_low m x _ _ (fetched_low m a s s' h)
   timed_low m (Binary op l r) a s s' k h =
-      waited_low _ _ _ _ (fetched_low m (a + expr_size l + expr_size r) _ _ (timed_low m r (a + expr_size l) _ _ (fit_right m l r k.0 k.1.1) (timed_low m l a s s' (fit_left m l r k.0 k.1.0) h)))
+      waited_low _ _ _ _ (fetched_low m (a + expr_size l + expr_size r) _ _
+          (timed_low m r (a + expr_size l) _ _ (fit_right m l r k.0 k.1.1) (timed_low m l a s s' (fit_left m l r k.0 k.1.0) h)))
   timed_low m (Element f n i) a s s' k h =
       touched_two m (label_of lat g i) _ _ _ _ k.0 (λ low. ap (element f n) (value_low i s s' k.1.1 h low))
       (fetched_low m (a + expr_size i) _ _ (timed_low m i a s s' (fit_index m i k.0 k.1.1) h))
@@ -203,24 +209,29 @@ module _ {E : Type 0} {serves : E → Type 0} (v : Env E) (lat : Lattice) (ll : 
   pub tested_low : (m : Marks) (e : Expression) (a : ℕ) (s s' : Core E) → Fit m e → SameLow s s' → SameLow (tested v m e a s) (tested v m e a s')
   tested_low m e a s s' k h = fetched_low m (a + expr_size e) _ _ (timed_low m e a s s' k h)
 
-  pub reached_low : (m : Marks) (i e : Expression) (a : ℕ) (s s' : Core E) → Fit m i → Fit m e → SameLow s s' → SameLow (reached v m i e a s) (reached v m i e a s')
+  pub reached_low : (m : Marks) (i e : Expression) (a : ℕ) (s s' : Core E) → Fit m i → Fit m e → SameLow s s'
+      → SameLow (reached v m i e a s) (reached v m i e a s')
   reached_low m i e a s s' k q h = tested_low m e (a + expr_size i) _ _ q (timed_low m i a s s' k h)
 
   -- costs of an access with a low read label
   pub cost_low : (k : Kind) (a er ew : ℕ) (s s' : Core E) → SameLow s s' → Low er → v.cost_of k a er ew s.env ≡ v.cost_of k a er ew s'.env
   cost_low k a er ew s s' h low = laws.read_label k a er ew s.env s'.env h.one h.other (λ q l f. h.parts q l (ll.chain l er o f low))
 
-  pub fetched_time : (m : Marks) (a : ℕ) (s s' : Core E) → SameLow s s' → Low m.er → Alike s.clock s'.clock → Alike (fetched v m a s).clock (fetched v m a s').clock
+  pub fetched_time : (m : Marks) (a : ℕ) (s s' : Core E) → SameLow s s' → Low m.er → Alike s.clock s'.clock
+      → Alike (fetched v m a s).clock (fetched v m a s').clock
   fetched_time m a s s' h low e = alike_add s.clock s'.clock _ _ (ap (λ z. 1 + z) (cost_low Code (4 * a) m.er m.ew s s' h low)) e
 
-  pub touched_time : (m : Marks) (x : ℕ) (s s' : Core E) → SameLow s s' → Low m.er → Alike s.clock s'.clock → Alike (touched v m x s).clock (touched v m x s').clock
+  pub touched_time : (m : Marks) (x : ℕ) (s s' : Core E) → SameLow s s' → Low m.er → Alike s.clock s'.clock
+      → Alike (touched v m x s).clock (touched v m x s').clock
   touched_time m x s s' h low e = alike_add s.clock s'.clock _ _ (cost_low Data (2 ^ 20 + 8 * x) m.er m.ew s s' h low) e
 
   -- the same access where the clocks are compared
-  pub touched_two_time : (m : Marks) (x x' : ℕ) (s s' : Core E) → x ≡ x' → SameLow s s' → Low m.er → Alike s.clock s'.clock → Alike (touched v m x s).clock (touched v m x' s').clock
+  pub touched_two_time : (m : Marks) (x x' : ℕ) (s s' : Core E) → x ≡ x' → SameLow s s' → Low m.er → Alike s.clock s'.clock
+      → Alike (touched v m x s).clock (touched v m x' s').clock
   touched_two_time m x x' s s' e h low c = subst (λ z. Alike (touched v m x s).clock (touched v m z s').clock) e (touched_time m x s s' h low c)
 
-  pub timed_time : (m : Marks) (e : Expression) (a : ℕ) (s s' : Core E) → Fit m e → SameLow s s' → Low m.er → Low (label_of lat g e) → Alike s.clock s'.clock → Alike (timed v m e a s).clock (timed v m e a s').clock
+  pub timed_time : (m : Marks) (e : Expression) (a : ℕ) (s s' : Core E) → Fit m e → SameLow s s' → Low m.er → Low (label_of lat g e) → Alike s.clock s'.clock
+      → Alike (timed v m e a s).clock (timed v m e a s').clock
   timed_time m (Number n) a s s' k h low le c = fetched_time m a s s' h low c
   timed_time m (Variable x) a s s' k h low le c = touched_time m x _ _ (fetched_low m a s s' h) low (fetched_time m a s s' h low c)
   timed_time m (Binary op l r) a s s' k h low le c =
@@ -242,9 +253,11 @@ module _ {E : Type 0} {serves : E → Type 0} (v : Env E) (lat : Lattice) (ll : 
       let ki = fit_index m i k.0 k.1.1 in
       let h1 = timed_low m i a s s' ki h in
       let c1 = timed_time m i a s s' ki h low low_i c in
-      touched_two_time m _ _ _ _ (ap (element f n) (value_low i s s' k.1.1 h low_i)) (fetched_low m (a + expr_size i) _ _ h1) low (fetched_time m (a + expr_size i) _ _ h1 low c1)
+      touched_two_time m _ _ _ _ (ap (element f n) (value_low i s s' k.1.1 h low_i)) (fetched_low m (a + expr_size i) _ _ h1) low
+          (fetched_time m (a + expr_size i) _ _ h1 low c1)
 
-  pub tested_time : (m : Marks) (e : Expression) (a : ℕ) (s s' : Core E) → Fit m e → SameLow s s' → Low m.er → Low (label_of lat g e) → Alike s.clock s'.clock → Alike (tested v m e a s).clock (tested v m e a s').clock
+  pub tested_time : (m : Marks) (e : Expression) (a : ℕ) (s s' : Core E) → Fit m e → SameLow s s' → Low m.er → Low (label_of lat g e) → Alike s.clock s'.clock
+      → Alike (tested v m e a s).clock (tested v m e a s').clock
   tested_time m e a s s' k h low le c = fetched_time m (a + expr_size e) _ _ (timed_low m e a s s' k h) low (timed_time m e a s s' k h low le c)
 
   -- an expression's code changes no memory, no misses and no log
@@ -261,25 +274,31 @@ module _ {E : Type 0} {serves : E → Type 0} (v : Env E) (lat : Lattice) (ll : 
   timed_misses m (Element f n i) a s = timed_misses m i a s
 
   -- after the code of an expression
-  pub timed_timing : (m : Marks) (e : Expression) (a t t1 : ℕ) (s s' : Core E) → Fit m e → SameLow s s' → Flows lat t t1 → Flows lat (label_of lat g e) t1 → Flows lat m.er t1 → Timing t s s' → Timing t1 (timed v m e a s) (timed v m e a s')
+  pub timed_timing : (m : Marks) (e : Expression) (a t t1 : ℕ) (s s' : Core E) → Fit m e → SameLow s s' → Flows lat t t1 → Flows lat (label_of lat g e) t1
+      → Flows lat m.er t1 → Timing t s s' → Timing t1 (timed v m e a s) (timed v m e a s')
   timed_timing m e a t t1 s s' k h ft fl fe w =
       record {
         seen = ap (shown lat g o lim) (timed_log v m e a s) ∙ w.seen ∙ sym (ap (shown lat g o lim) (timed_log v m e a s'));
-        misses = λ i i' l low. ap (λ f. f l) (timed_misses m e a s) ∙ w.misses (omega (arith, timed_clock v m e a s)) (omega (arith, timed_clock v m e a s')) l low ∙ sym (ap (λ f. f l) (timed_misses m e a s'));
+        misses = λ i i' l low. ap (λ f. f l) (timed_misses m e a s) ∙ w.misses (omega (arith, timed_clock v m e a s)) (omega (arith, timed_clock v m e a s')) l
+            low ∙ sym (ap (λ f. f l) (timed_misses m e a s'));
         clock = λ low. timed_time m e a s s' k h (ll.chain m.er t1 o fe low) (ll.chain (label_of lat g e) t1 o fl low) (w.clock (ll.chain t t1 o ft low));
       }
 
   -- after the code of an expression and the instruction below it
-  pub tested_timing : (m : Marks) (e : Expression) (a t t1 : ℕ) (s s' : Core E) → Fit m e → SameLow s s' → Flows lat t t1 → Flows lat (label_of lat g e) t1 → Flows lat m.er t1 → Timing t s s' → Timing t1 (tested v m e a s) (tested v m e a s')
+  pub tested_timing : (m : Marks) (e : Expression) (a t t1 : ℕ) (s s' : Core E) → Fit m e → SameLow s s' → Flows lat t t1 → Flows lat (label_of lat g e) t1
+      → Flows lat m.er t1 → Timing t s s' → Timing t1 (tested v m e a s) (tested v m e a s')
   tested_timing m e a t t1 s s' k h ft fl fe w =
       record {
         seen = ap (shown lat g o lim) (timed_log v m e a s) ∙ w.seen ∙ sym (ap (shown lat g o lim) (timed_log v m e a s'));
-        misses = λ i i' l low. ap (λ f. f l) (timed_misses m e a s) ∙ w.misses (omega (arith, tested_clock v m e a s)) (omega (arith, tested_clock v m e a s')) l low ∙ sym (ap (λ f. f l) (timed_misses m e a s'));
+        misses = λ i i' l low. ap (λ f. f l) (timed_misses m e a s) ∙ w.misses (omega (arith, tested_clock v m e a s)) (omega (arith, tested_clock v m e a s'))
+            l low ∙ sym (ap (λ f. f l) (timed_misses m e a s'));
         clock = λ low. tested_time m e a s s' k h (ll.chain m.er t1 o fe low) (ll.chain (label_of lat g e) t1 o fl low) (w.clock (ll.chain t t1 o ft low));
       }
 
   -- after the code of an index and a value and the instruction below them
-  pub reached_timing : (m : Marks) (i e : Expression) (a t t1 : ℕ) (s s' : Core E) → Fit m i → Fit m e → SameLow s s' → Flows lat t t1 → Flows lat (label_of lat g i) t1 → Flows lat (label_of lat g e) t1 → Flows lat m.er t1 → Timing t s s' → Timing t1 (reached v m i e a s) (reached v m i e a s')
+  pub reached_timing : (m : Marks) (i e : Expression) (a t t1 : ℕ) (s s' : Core E) → Fit m i → Fit m e → SameLow s s' → Flows lat t t1
+      → Flows lat (label_of lat g i) t1 → Flows lat (label_of lat g e) t1 → Flows lat m.er t1 → Timing t s s'
+      → Timing t1 (reached v m i e a s) (reached v m i e a s')
   reached_timing m i e a t t1 s s' k q h ft fi fl fe w =
       tested_timing m e (a + expr_size i) t1 t1 _ _ q (timed_low m i a s s' k h) (ll.same t1) fl fe (timed_timing m i a t t1 s s' k h ft fi fe w)
 
@@ -287,7 +306,8 @@ module _ {E : Type 0} {serves : E → Type 0} (v : Env E) (lat : Lattice) (ll : 
   written_low x n n' s s' h e =
       record {
         memory = λ y low. ⊎_elim
-            (λ (q : y ≡ x). subst (λ z. read (slice_set s.memory x n) z ≡ read (slice_set s'.memory x n') z) (sym q) (same (e (subst (λ z. Low (g z)) q low)) (h.memory x (subst (λ z. Low (g z)) q low)) (cases_lt x (length s.memory))))
+            (λ (q : y ≡ x). subst (λ z. read (slice_set s.memory x n) z ≡ read (slice_set s'.memory x n') z) (sym q)
+                (same (e (subst (λ z. Low (g z)) q low)) (h.memory x (subst (λ z. Low (g z)) q low)) (cases_lt x (length s.memory))))
             (λ (q : y ≡ x → ⊥). get_or-set_other s.memory x y n (pos 0) q ∙ h.memory y low ∙ sym (get_or-set_other s'.memory x y n' (pos 0) q))
             (cases_eq y x);
         long = length-set s.memory x n ∙ h.long ∙ sym (length-set s'.memory x n');
@@ -296,12 +316,14 @@ module _ {E : Type 0} {serves : E → Type 0} (v : Env E) (lat : Lattice) (ll : 
         parts = h.parts;
       }
     where
-      same : n ≡ n' → read s.memory x ≡ read s'.memory x → (x < length s.memory) ⊎ (length s.memory ≤ x) → read (slice_set s.memory x n) x ≡ read (slice_set s'.memory x n') x
+      same : n ≡ n' → read s.memory x ≡ read s'.memory x → (x < length s.memory) ⊎ (length s.memory ≤ x)
+          → read (slice_set s.memory x n) x ≡ read (slice_set s'.memory x n') x
       same q r (inl lt) = get_or-set_same s.memory x n (pos 0) lt ∙ q ∙ sym (get_or-set_same s'.memory x n' (pos 0) (subst (λ z. x < z) h.long lt))
       same q r (inr le) = ap (λ z. read z x) (set_past s.memory x n le) ∙ r ∙ sym (ap (λ z. read z x) (set_past s'.memory x n' (subst (λ z. z ≤ x) h.long le)))
 
   -- two variables with one label, which are one if the label is low
-  pub written_two : (l x x' : ℕ) (n n' : ℤ) (s s' : Core E) → g x ≡ l → g x' ≡ l → (Low l → x ≡ x') → (Low l → n ≡ n') → SameLow s s' → SameLow (written x n s) (written x' n' s')
+  pub written_two : (l x x' : ℕ) (n n' : ℤ) (s s' : Core E) → g x ≡ l → g x' ≡ l → (Low l → x ≡ x') → (Low l → n ≡ n') → SameLow s s'
+      → SameLow (written x n s) (written x' n' s')
   written_two l x x' n n' s s' is is' p e h =
       by_label l (SameLow (written x n s) (written x' n' s'))
       (λ low. subst (λ z. SameLow (written x n s) (written z n' s')) (p low) (written_low x n n' s s' h (λ y. e low)))
@@ -309,10 +331,12 @@ module _ {E : Type 0} {serves : E → Type 0} (v : Env E) (lat : Lattice) (ll : 
       still_same s s' _ _ h (written_high v lat ll laws g o lim x n s (λ y. high (subst (λ z. Low z) is y)))
       (written_high v lat ll laws g o lim x' n' s' (λ y. high (subst (λ z. Low z) is' y))))
 
-  pub written_timing : (l x x' i : ℕ) (n n' : ℤ) (s s' : Core E) → g x ≡ l → g x' ≡ l → (Low l → x ≡ x') → (Low l → n ≡ n') → (Low l → Alike s.clock s'.clock) → Timing i s s' → Timing l (written x n s) (written x' n' s')
+  pub written_timing : (l x x' i : ℕ) (n n' : ℤ) (s s' : Core E) → g x ≡ l → g x' ≡ l → (Low l → x ≡ x') → (Low l → n ≡ n') → (Low l → Alike s.clock s'.clock)
+      → Timing i s s' → Timing l (written x n s) (written x' n' s')
   written_timing l x x' i n n' s s' is is' p e c w =
       record {
-        seen = shown-append lat g o lim s.log (Wrote x n s.clock ∷ []) ∙ ap (λ z. z ++ shown lat g o lim (Wrote x n s.clock ∷ [])) w.seen ∙ ap (λ z. shown lat g o lim s'.log ++ z) (one (cases_Bool (lat.flows l o))) ∙ sym (shown-append lat g o lim s'.log (Wrote x' n' s'.clock ∷ []));
+        seen = shown-append lat g o lim s.log (Wrote x n s.clock ∷ []) ∙ ap (λ z. z ++ shown lat g o lim (Wrote x n s.clock ∷ [])) w.seen
+            ∙ ap (λ z. shown lat g o lim s'.log ++ z) (one (cases_Bool (lat.flows l o))) ∙ sym (shown-append lat g o lim s'.log (Wrote x' n' s'.clock ∷ []));
         misses = w.misses;
         clock = c;
       }
@@ -322,7 +346,8 @@ module _ {E : Type 0} {serves : E → Type 0} (v : Env E) (lat : Lattice) (ll : 
       none x n c false is q = refl
 
       same : x ≡ x' → n ≡ n' → Alike s.clock s'.clock → shown lat g o lim (Wrote x n s.clock ∷ []) ≡ shown lat g o lim (Wrote x' n' s'.clock ∷ [])
-      same p q (inl r) = ap (λ z. shown lat g o lim (Wrote z n s.clock ∷ [])) p ∙ ap (λ z. shown lat g o lim (Wrote x' z s.clock ∷ [])) q ∙ ap (λ z. shown lat g o lim (Wrote x' n' z ∷ [])) r
+      same p q (inl r) = ap (λ z. shown lat g o lim (Wrote z n s.clock ∷ [])) p ∙ ap (λ z. shown lat g o lim (Wrote x' z s.clock ∷ [])) q
+          ∙ ap (λ z. shown lat g o lim (Wrote x' n' z ∷ [])) r
       same p q (inr r) = shown-late lat g o lim (Wrote x n s.clock) r.0 ∙ sym (shown-late lat g o lim (Wrote x' n' s'.clock) r.1)
 
       one : (lat.flows l o ≡ true) ⊎ (lat.flows l o ≡ false) → shown lat g o lim (Wrote x n s.clock ∷ []) ≡ shown lat g o lim (Wrote x' n' s'.clock ∷ [])

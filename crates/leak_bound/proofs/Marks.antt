@@ -28,8 +28,10 @@ ended-append rel (Began k c ∷ es) fs = ended-append rel es fs
 ended-append rel (Ended k c ∷ es) fs = omega (arith, ended-append rel es fs)
 
 -- one more event
-one_more : (rel : ℕ → Bool) (lim : ℕ) (es : List Event) (e : Event) → ended_count rel (upto lim (es ++ e ∷ [])) ≡ ended_count rel (upto lim es) + cond (leb (clock_of e) lim) (ended_count rel (e ∷ [])) 0
-one_more rel lim es e = ap (ended_count rel) (upto-append lim es (e ∷ [])) ∙ ended-append rel (upto lim es) (upto lim (e ∷ [])) ∙ ap (λ z. ended_count rel (upto lim es) + z) (go (leb (clock_of e) lim))
+one_more : (rel : ℕ → Bool) (lim : ℕ) (es : List Event) (e : Event)
+    → ended_count rel (upto lim (es ++ e ∷ [])) ≡ ended_count rel (upto lim es) + cond (leb (clock_of e) lim) (ended_count rel (e ∷ [])) 0
+one_more rel lim es e = ap (ended_count rel) (upto-append lim es (e ∷ [])) ∙ ended-append rel (upto lim es) (upto lim (e ∷ []))
+    ∙ ap (λ z. ended_count rel (upto lim es) + z) (go (leb (clock_of e) lim))
   where
     go : (b : Bool) → ended_count rel (cond b (e ∷ []) []) ≡ cond b (ended_count rel (e ∷ [])) 0
     go true = refl
@@ -41,7 +43,8 @@ log_same v m (Variable x) a s = refl
 log_same v m (Binary op l r) a s = log_same v m r (a + expr_size l) _ ∙ log_same v m l a s
 log_same v m (Element f n i) a s = log_same v m i a s
 
-module _ {E : Type 0} {serves : E → Type 0} (v : Env E) (lat : Lattice) (ll : IsLattice lat) (laws : IsLawful v lat serves) (g : ℕ → ℕ) (o lim : ℕ) (rel : ℕ → Bool) where
+module _ {E : Type 0} {serves : E → Type 0} (v : Env E) (lat : Lattice) (ll : IsLattice lat) (laws : IsLawful v lat serves) (g : ℕ → ℕ)
+    (o lim : ℕ) (rel : ℕ → Bool) where
   abbrev TellsJob : ℕ → Job → Type 0
   TellsJob pc (Do p a) = Tells lat g o rel pc p
   TellsJob pc (Loop m e c a) = Tells lat g o rel pc c
@@ -108,14 +111,16 @@ module _ {E : Type 0} {serves : E → Type 0} (v : Env E) (lat : Lattice) (ll : 
       high_count pc t h k ∙ tested_count (raised lat g e m) e (a + size c) s1 ∙ high_count pc t h b
 
   -- what a guard decides
-  guard_count : (l n n' : ℕ) (r : List Entry) → (Flows lat l o → n' ≡ n + length r) → ((Flows lat l o → ⊥) → n' ≡ n) → n' ≡ n + length (cond (lat.flows l o) r [])
+  guard_count : (l n n' : ℕ) (r : List Entry) → (Flows lat l o → n' ≡ n + length r) → ((Flows lat l o → ⊥) → n' ≡ n)
+      → n' ≡ n + length (cond (lat.flows l o) r [])
   guard_count l n n' r low nope = go (lat.flows l o) refl
     where
       go : (b : Bool) → lat.flows l o ≡ b → n' ≡ n + length (cond b r [])
       go true e = low e
       go false e = let x = nope (λ t. both_ways (lat.flows l o) e t) in omega arith
 
-  pub low_count : {j : Job} {s s' : Core E} (pc : ℕ) → TellsJob pc j → Flows lat pc o → (d : Runs v lat g lim j s s') → count s' ≡ count s + length (record_of v lat g o lim d)
+  pub low_count : {j : Job} {s s' : Core E} (pc : ℕ) → TellsJob pc j → Flows lat pc o → (d : Runs v lat g lim j s s')
+      → count s' ≡ count s + length (record_of v lat g o lim d)
   low_count pc t h done = omega arith
   low_count pc t h (late x) = omega arith
   low_count pc t h (skip k) = low_count pc t h k
@@ -133,13 +138,15 @@ module _ {E : Type 0} {serves : E → Type 0} (v : Env E) (lat : Lattice) (ll : 
       let l = label_of lat g e in
       let q = tested_count m e a s in
       let r = record_of v lat g o lim b in
-      let p = guard_count l (count (tested v m e a s)) (count s1) r (λ y. low_count (lat.join pc l) t.0 (ll.least pc l o h y) b) (λ y. high_count (lat.join pc l) t.0 (high_join_right pc l y) b) in
+      let p = guard_count l (count (tested v m e a s)) (count s1) r (λ y. low_count (lat.join pc l) t.0 (ll.least pc l o h y) b)
+          (λ y. high_count (lat.join pc l) t.0 (high_join_right pc l y) b) in
       omega (arith, p, low_count pc t.2 h k, length-append (cond (lat.flows l o) r []) (record_of v lat g o lim k))
   low_count {s = s} pc t h (if_false {m = m} {e = e} {a = a} {s1 = s1} w b k) =
       let l = label_of lat g e in
       let q = tested_count m e a s in
       let r = record_of v lat g o lim b in
-      let p = guard_count l (count (tested v m e a s)) (count s1) r (λ y. low_count (lat.join pc l) t.1 (ll.least pc l o h y) b) (λ y. high_count (lat.join pc l) t.1 (high_join_right pc l y) b) in
+      let p = guard_count l (count (tested v m e a s)) (count s1) r (λ y. low_count (lat.join pc l) t.1 (ll.least pc l o h y) b)
+          (λ y. high_count (lat.join pc l) t.1 (high_join_right pc l y) b) in
       omega (arith, p, low_count pc t.2 h k, length-append (cond (lat.flows l o) r []) (record_of v lat g o lim k))
   low_count {s = s} pc t h (while_none {m = m} {e = e} {a = a} w k) =
       let l = label_of lat g e in
@@ -150,7 +157,8 @@ module _ {E : Type 0} {serves : E → Type 0} (v : Env E) (lat : Lattice) (ll : 
       let l = label_of lat g e in
       let q = tested_count m e a s in
       let r = record_of v lat g o lim b in
-      let p = guard_count l (count (tested v m e a s)) (count s1) r (λ y. low_count (lat.join pc l) t.0 (ll.least pc l o h y) b) (λ y. high_count (lat.join pc l) t.0 (high_join_right pc l y) b) in
+      let p = guard_count l (count (tested v m e a s)) (count s1) r (λ y. low_count (lat.join pc l) t.0 (ll.least pc l o h y) b)
+          (λ y. high_count (lat.join pc l) t.0 (high_join_right pc l y) b) in
       omega (arith, p, low_count pc t.1 h k, length-append (cond (lat.flows l o) r []) (record_of v lat g o lim k))
   low_count {s = s} pc t h (mitigate {m = m} {k = mark} {l = l} {e = e} {c = c} {a = a} {s1 = s1} b k) =
       let s0 = tested v m e a s in

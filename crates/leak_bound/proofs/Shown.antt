@@ -14,7 +14,9 @@ pub visible-append : (lat : Lattice) (g : ℕ → ℕ) (o : ℕ) (es fs : List E
 visible-append lat g o [] fs = refl
 visible-append lat g o (Wrote x n c ∷ es) fs = go (lat.flows (g x) o) (visible-append lat g o es fs)
   where
-    go : (b : Bool) → visible lat g o (es ++ fs) ≡ visible lat g o es ++ visible lat g o fs → cond b (Wrote x n c ∷ visible lat g o (es ++ fs)) (visible lat g o (es ++ fs)) ≡ cond b (Wrote x n c ∷ visible lat g o es) (visible lat g o es) ++ visible lat g o fs
+    go : (b : Bool) → visible lat g o (es ++ fs) ≡ visible lat g o es ++ visible lat g o fs
+        → cond b (Wrote x n c ∷ visible lat g o (es ++ fs)) (visible lat g o (es ++ fs)) ≡ cond b (Wrote x n c ∷ visible lat g o es) (visible lat g o es)
+        ++ visible lat g o fs
     go true e = ap (λ t. Wrote x n c ∷ t) e
     go false e = e
 visible-append lat g o (Began k c ∷ es) fs = visible-append lat g o es fs
@@ -27,8 +29,10 @@ pub shown-late : (lat : Lattice) (g : ℕ → ℕ) (o lim : ℕ) (e : Event) →
 shown-late lat g o lim e h = ap (visible lat g o) (cond-false (leb (clock_of e) lim) (e ∷ []) [] (lt-leb (clock_of e) lim h))
 
 -- an event that is not seen
-pub shown-none : (lat : Lattice) (g : ℕ → ℕ) (o lim : ℕ) (es : List Event) (e : Event) → visible lat g o (e ∷ []) ≡ [] → shown lat g o lim (es ++ e ∷ []) ≡ shown lat g o lim es
-shown-none lat g o lim es e h = shown-append lat g o lim es (e ∷ []) ∙ ap (λ z. shown lat g o lim es ++ z) (go (leb (clock_of e) lim)) ∙ append-nil (shown lat g o lim es)
+pub shown-none : (lat : Lattice) (g : ℕ → ℕ) (o lim : ℕ) (es : List Event) (e : Event) → visible lat g o (e ∷ []) ≡ []
+    → shown lat g o lim (es ++ e ∷ []) ≡ shown lat g o lim es
+shown-none lat g o lim es e h = shown-append lat g o lim es (e ∷ []) ∙ ap (λ z. shown lat g o lim es ++ z) (go (leb (clock_of e) lim))
+    ∙ append-nil (shown lat g o lim es)
   where
     go : (b : Bool) → visible lat g o (cond b (e ∷ []) []) ≡ []
     go true = h

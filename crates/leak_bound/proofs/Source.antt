@@ -69,7 +69,8 @@ module _ {M L M' L' : Type 0} (p : Todo M L) (q : Todo M' L') (e : commands_of p
   first_same [] k h = h
   first_same (s ∷ starts) k h = begins_same s.memory k h
 
-module _ {E M L M' L' : Type 0} (v : Env E) (order : Order) (serves : E → Type 0) (g ls : ℕ → ℕ) (image : List Instr) (p : Todo M L) (q : Todo M' L') (e : commands_of p ≡ commands_of q) where
+module _ {E M L M' L' : Type 0} (v : Env E) (order : Order) (serves : E → Type 0) (g ls : ℕ → ℕ) (image : List Instr) (p : Todo M L) (q : Todo M' L')
+    (e : commands_of p ≡ commands_of q) where
   pub sound_same : Sound v order serves g ls image p → Sound v order serves g ls image q
   sound_same s =
       record {
@@ -79,7 +80,8 @@ module _ {E M L M' L' : Type 0} (v : Env E) (order : Order) (serves : E → Type
             let r = s.few o low t some starts agree halts same tests in (
               r.0,
               first_same p q e lat g ls o starts r.0 r.1,
-              Each-map (λ (x : Start E). Begins lat g ls o p x.memory r.0) (λ x. Begins lat g ls o q x.memory r.0) (λ x b. begins_same p q e lat g ls o x.memory r.0 b) starts r.2,
+              Each-map (λ (x : Start E). Begins lat g ls o p x.memory r.0) (λ x. Begins lat g ls o q x.memory r.0)
+                  (λ x b. begins_same p q e lat g ls o x.memory r.0 b) starts r.2,
               r.3,
             );
       }
@@ -91,7 +93,8 @@ module _ {E M L M' L' : Type 0} (v : Env E) (order : Order) (serves : E → Type
   cut_sound_same s =
       record {
         few = λ o low t some starts agree same tests.
-            subst (λ z. distinct_count same (views (seen_from v (lattice_of order) g image o t) starts) ≤ bound order o t (most_ended v image z t starts)) (relevant-same p q e (lattice_of order) g ls o)
+            subst (λ z. distinct_count same (views (seen_from v (lattice_of order) g image o t) starts) ≤ bound order o t (most_ended v image z t starts))
+                (relevant-same p q e (lattice_of order) g ls o)
             (s.few o low t some starts agree same tests);
       }
 

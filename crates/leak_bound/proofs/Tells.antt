@@ -1,5 +1,6 @@
 -- What a choice of relevant marks, and a list of levels, have to do with a program.
-use Rattle.std.proofs.Common.{◌≡◌, ℕ, zero, suc, ◌+◌, ◌<◌, ◌≤◌, List, [], ◌∷◌, ◌++◌, length, get_or, refl, sym, ap, ◌∙◌, subst, ◌⊎◌, inl, inr, arith, append_assoc, length-append}
+use Rattle.std.proofs.Common.{◌≡◌, ℕ, zero, suc, ◌+◌, ◌<◌, ◌≤◌, List, [], ◌∷◌, ◌++◌, length, get_or, refl, sym, ap, ◌∙◌, subst, ◌⊎◌, inl, inr, arith}
+use Rattle.std.proofs.Common.{append_assoc, length-append}
 use Rattle.std.specs.Prelude.{Bool, true, false, cond, not, ◌&&◌}
 use Rattle.std.proofs.Math.Seq.{get_or-append_seam}
 use Rattle.std.proofs.lemmas.Bool.{both_ways, cases_lt}
@@ -47,10 +48,12 @@ length-relevances lat g ls o pc (If m e a b r) =
     let fa = relevances lat g ls o inner a in
     let fb = relevances lat g ls o inner b in
     let fr = relevances lat g ls o pc r in
-    omega (arith, length-append fa (fb ++ fr), length-append fb fr, length-relevances lat g ls o inner a, length-relevances lat g ls o inner b, length-relevances lat g ls o pc r)
+    omega (arith, length-append fa (fb ++ fr), length-append fb fr, length-relevances lat g ls o inner a, length-relevances lat g ls o inner b,
+        length-relevances lat g ls o pc r)
 length-relevances lat g ls o pc (While m e c r) =
     let inner = lat.join pc (label_of lat g e) in
-    omega (arith, length-append (relevances lat g ls o inner c) (relevances lat g ls o pc r), length-relevances lat g ls o inner c, length-relevances lat g ls o pc r)
+    omega (arith, length-append (relevances lat g ls o inner c) (relevances lat g ls o pc r), length-relevances lat g ls o inner c,
+        length-relevances lat g ls o pc r)
 length-relevances lat g ls o pc (Mitigate m k l e c r) =
     omega (arith, length-append (relevances lat g ls o pc c) (relevances lat g ls o pc r), length-relevances lat g ls o pc c, length-relevances lat g ls o pc r)
 
@@ -75,7 +78,8 @@ whole pre (f ∷ fs) =
     (get_or-append_seam pre f fs false, subst (λ m. StandsAt (pre ++ f ∷ fs) m fs) n rest)
 
 module _ (lat : Lattice) (g ls : ℕ → ℕ) (o : ℕ) (all : List Bool) where
-  tells_at : (p : Marked) (pc n : ℕ) → StandsAt all n (relevances lat g ls o pc p) → MarksFrom n p → LevelsAre ls p → Tells lat g o (λ k. get_or all k false) pc p
+  tells_at : (p : Marked) (pc n : ℕ) → StandsAt all n (relevances lat g ls o pc p) → MarksFrom n p → LevelsAre ls p
+      → Tells lat g o (λ k. get_or all k false) pc p
   tells_at Done pc n f h v = tt
   tells_at (Skip m r) pc n f h v = tells_at r pc n f h v
   tells_at (Assign m x e r) pc n f h v = tells_at r pc n f h v
@@ -88,7 +92,8 @@ module _ (lat : Lattice) (g ls : ℕ → ℕ) (o : ℕ) (all : List Bool) where
       let x = back all n (mitigates a) fa (fb ++ relevances lat g ls o pc r) (length-relevances lat g ls o inner a) f in (
         tells_at a inner n (front all n fa (fb ++ relevances lat g ls o pc r) f) h.0 v.0,
         tells_at b inner (n + mitigates a) (front all (n + mitigates a) fb (relevances lat g ls o pc r) x) h.1 v.1,
-        tells_at r pc (n + mitigates a + mitigates b) (back all (n + mitigates a) (mitigates b) fb (relevances lat g ls o pc r) (length-relevances lat g ls o inner b) x) h.2 v.2,
+        tells_at r pc (n + mitigates a + mitigates b)
+            (back all (n + mitigates a) (mitigates b) fb (relevances lat g ls o pc r) (length-relevances lat g ls o inner b) x) h.2 v.2,
       )
   tells_at (While m e c r) pc n f h v =
       let inner = lat.join pc (label_of lat g e) in
@@ -105,7 +110,8 @@ module _ (lat : Lattice) (g ls : ℕ → ℕ) (o : ℕ) (all : List Bool) where
       )
 
 -- the relevances of a numbered program tell of its marks
-pub tells_relevant : (lat : Lattice) (g ls : ℕ → ℕ) (o : ℕ) (p : Marked) → MarksFrom 0 p → LevelsAre ls p → Tells lat g o (is_relevant lat g ls o p) lat.bottom p
+pub tells_relevant : (lat : Lattice) (g ls : ℕ → ℕ) (o : ℕ) (p : Marked) → MarksFrom 0 p → LevelsAre ls p
+    → Tells lat g o (is_relevant lat g ls o p) lat.bottom p
 tells_relevant lat g ls o p h v = tells_at lat g ls o (relevances lat g ls o lat.bottom p) p lat.bottom 0 (whole [] (relevances lat g ls o lat.bottom p)) h v
 
 -- the labels below n that do not flow to the observer
@@ -117,7 +123,8 @@ pub length-others : (lat : Lattice) (o n : ℕ) → length (others lat o n) ≡ 
 length-others lat o zero = refl
 length-others lat o (suc n) = go (lat.flows n o) (length-others lat o n)
   where
-    go : (b : Bool) → length (others lat o n) ≡ count_not_below lat o n → length (cond b (others lat o n) (n ∷ others lat o n)) ≡ count_not_below lat o n + cond b 0 1
+    go : (b : Bool) → length (others lat o n) ≡ count_not_below lat o n
+        → length (cond b (others lat o n) (n ∷ others lat o n)) ≡ count_not_below lat o n + cond b 0 1
     go true e = omega (arith, e)
     go false e = omega (arith, e)
 

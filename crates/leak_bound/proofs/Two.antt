@@ -1,5 +1,6 @@
 -- Two runs of one typed list from states with equal low parts.
-use Rattle.std.proofs.Common.{◌≡◌, ℕ, ◌+◌, ◌-◌, ◌*◌, ◌^◌, ◌<◌, ◌≤◌, List, [], ◌∷◌, ◌++◌, length, append-nil, length-append, refl, sym, ap, ◌∙◌, subst, ◌⊎◌, inl, inr, ⊎_elim, arith}
+use Rattle.std.proofs.Common.{◌≡◌, ℕ, ◌+◌, ◌-◌, ◌*◌, ◌^◌, ◌<◌, ◌≤◌, List, [], ◌∷◌, ◌++◌, length, append-nil, length-append, refl, sym, ap, ◌∙◌, subst, ◌⊎◌}
+use Rattle.std.proofs.Common.{inl, inr, ⊎_elim, arith}
 use Rattle.std.specs.Prelude.{Bool, true, false, cond, ℤ, eqb, max, leb}
 use Rattle.std.proofs.lemmas.Bool.{cases_lt, both_ways, eqb-true, leb-true, leb-false}
 use Rattle.mit_syntax.specs.Expression.{Expression}
@@ -26,7 +27,9 @@ use Rattle.label_code.proofs.Ticks.{closed_clock}
 use Rattle.leak_bound.proofs.Record.{grows_run}
 use Rattle.leak_bound.proofs.Late.{From, Tail, tail}
 use Rattle.leak_bound.specs.Records.{Entry, Fits}
-use Rattle.leak_bound.proofs.Low.{same_parts, fits_nil, fits_both, fits_left, fits_right, entry_of, record_of, SameLow, Alike, alike_add, Timing, fetched_low, touched_low, waited_low, tested_low, value_low, cost_low, fetched_time, touched_two, touched_two_time, tested_timing, still_same, Fit, fit_of, fit_raised, fit_index, reached_low, reached_timing, written_low, written_two, written_timing}
+use Rattle.leak_bound.proofs.Low.{same_parts, fits_nil, fits_both, fits_left, fits_right, entry_of, record_of, SameLow, Alike, alike_add, Timing, fetched_low}
+use Rattle.leak_bound.proofs.Low.{touched_low, waited_low, tested_low, value_low, cost_low, fetched_time, touched_two, touched_two_time, tested_timing}
+use Rattle.leak_bound.proofs.Low.{still_same, Fit, fit_of, fit_raised, fit_index, reached_low, reached_timing, written_low, written_two, written_timing}
 
 only_count : (x y : Entry) → ◌≡◌ {A = List Entry} (x ∷ []) (y ∷ []) → x.1 ≡ y.1
 only_count x y e = let h : x ≡ y = cc in ap (λ (p : Entry). p.1) h
@@ -68,7 +71,8 @@ module _ {E : Type 0} {serves : E → Type 0} (v : Env E) (lat : Lattice) (ll : 
       }
 
   -- on from m1, which is past the cut, and from m2
-  past : (t end : ℕ) (m1 s1 m2 s2 : Core E) (b b' : List Entry) → lim < m1.clock → SleepWork t end m1 s1 b → SleepWork t end m2 s2 b' → Time t m1 m2 → Time end s1 s2
+  past : (t end : ℕ) (m1 s1 m2 s2 : Core E) (b b' : List Entry) → lim < m1.clock → SleepWork t end m1 s1 b → SleepWork t end m2 s2 b'
+      → Time t m1 m2 → Time end s1 s2
   past t end m1 s1 m2 s2 b b' h x y w = go (cases_lt lim m2.clock)
     where
       xc : m1.clock ≤ s1.clock
@@ -81,15 +85,19 @@ module _ {E : Type 0} {serves : E → Type 0} (v : Env E) (lat : Lattice) (ll : 
       first = ap (visible lat g o) (x.log h) ∙ w.seen
 
       go : (lim < m2.clock) ⊎ (m2.clock ≤ lim) → Time end s1 s2
-      go (inl l) = record { seen = first ∙ sym (ap (visible lat g o) (y.log l)); misses = λ i i'. absurd (omega arith); clock = λ low. inr (omega arith, omega arith) }
+      go (inl l) = record { seen = first ∙ sym (ap (visible lat g o) (y.log l)); misses = λ i i'. absurd (omega arith); clock =
+          λ low. inr (omega arith, omega arith) }
       go (inr l) =
-          let high : High t = λ low. ⊎_elim (λ (e : m1.clock ≡ m2.clock). omega arith) (λ (e : (lim < m1.clock) × (lim < m2.clock)). let z = e.1 in omega arith) (w.clock low) in
+          let high : High t = λ low. ⊎_elim (λ (e : m1.clock ≡ m2.clock). omega arith) (λ (e : (lim < m1.clock) × (lim < m2.clock)). let z = e.1 in
+              omega arith) (w.clock low) in
           record { seen = first ∙ sym (y.blind high); misses = λ i i'. absurd (omega arith); clock = λ low. absurd (high (ll.chain t end o x.to low)) }
 
-  past_right : (t end : ℕ) (m1 s1 m2 s2 : Core E) (b b' : List Entry) → lim < m2.clock → SleepWork t end m1 s1 b → SleepWork t end m2 s2 b' → Time t m1 m2 → Time end s1 s2
+  past_right : (t end : ℕ) (m1 s1 m2 s2 : Core E) (b b' : List Entry) → lim < m2.clock → SleepWork t end m1 s1 b → SleepWork t end m2 s2 b'
+      → Time t m1 m2 → Time end s1 s2
   past_right t end m1 s1 m2 s2 b b' h x y w = time_back end s2 s1 (past t end m2 s2 m1 s1 b' b h y x (time_back t m1 m2 w))
 
-  both_then : (t t1 t2 : ℕ) (s1 m1 s1' s2 m2 s2' : Core E) (a a' b b' : List Entry) → SleepWork t1 t2 m1 s1' b → SleepWork t1 t2 m2 s2' b' → Both t t1 s1 m1 s2 m2 a a' → (Same m1 m2 → Both t1 t2 m1 s1' m2 s2' b b') → Both t t2 s1 s1' s2 s2' (a ++ b) (a' ++ b')
+  both_then : (t t1 t2 : ℕ) (s1 m1 s1' s2 m2 s2' : Core E) (a a' b b' : List Entry) → SleepWork t1 t2 m1 s1' b → SleepWork t1 t2 m2 s2' b'
+      → Both t t1 s1 m1 s2 m2 a a' → (Same m1 m2 → Both t1 t2 m1 s1' m2 s2' b b') → Both t t2 s1 s1' s2 s2' (a ++ b) (a' ++ b')
   both_then t t1 t2 s1 m1 s1' s2 m2 s2' a a' b b' p q x next = go (cases_lt lim m1.clock) (cases_lt lim m2.clock)
     where
       pc : m1.clock ≤ s1'.clock
@@ -127,7 +135,8 @@ module _ {E : Type 0} {serves : E → Type 0} (v : Env E) (lat : Lattice) (ll : 
           let l' = ap length none' in
           record {
             low = λ i. absurd (omega arith);
-            fits = subst (λ z. Fits z (a' ++ b')) (sym (append-nil a) ∙ ap (λ z. a ++ z) (sym none)) (subst (λ z. Fits a z) (sym (append-nil a') ∙ ap (λ z. a' ++ z) (sym none')) x.fits);
+            fits = subst (λ z. Fits z (a' ++ b')) (sym (append-nil a) ∙ ap (λ z. a ++ z) (sym none))
+                (subst (λ z. Fits a z) (sym (append-nil a') ∙ ap (λ z. a' ++ z) (sym none')) x.fits);
             most = λ i. absurd (omega arith);
             least = λ i. absurd (omega arith);
             timed = λ r w. let m = ap length r in past t1 t2 m1 s1' m2 s2' b b' h p q (x.timed (split (omega (arith, n, n')) r) w);
@@ -156,7 +165,8 @@ module _ {E : Type 0} {serves : E → Type 0} (v : Env E) (lat : Lattice) (ll : 
           }
 
   -- a step that adds nothing to the records, before or after
-  quiet_then : (t t1 t2 : ℕ) (s1 m1 s1' s2 m2 s2' : Core E) (b b' : List Entry) → (Time t s1 s2 → Time t1 m1 m2) → Both t1 t2 m1 s1' m2 s2' b b' → Both t t2 s1 s1' s2 s2' b b'
+  quiet_then : (t t1 t2 : ℕ) (s1 m1 s1' s2 m2 s2' : Core E) (b b' : List Entry) → (Time t s1 s2 → Time t1 m1 m2) → Both t1 t2 m1 s1' m2 s2' b b'
+      → Both t t2 s1 s1' s2 s2' b b'
   quiet_then t t1 t2 s1 m1 s1' s2 m2 s2' b b' f y = record { low = y.low; fits = y.fits; most = y.most; least = y.least; timed = λ e w. y.timed e (f w) }
 
   quiet_rest : (t t1 : ℕ) (m s : Core E) → Flows lat t t1 → m.clock ≤ s.clock → s.log ≡ m.log → SleepWork t t1 m s []
@@ -166,10 +176,12 @@ module _ {E : Type 0} {serves : E → Type 0} (v : Env E) (lat : Lattice) (ll : 
   rest_after : (t end : ℕ) (m m1 s : Core E) (b : List Entry) → m.clock ≤ m1.clock → m1.log ≡ m.log → SleepWork t end m1 s b → SleepWork t end m s b
   rest_after t end m m1 s b c e y =
       let yc = y.clock in
-      record { to = y.to; clock = omega arith; ends = λ h. y.ends (omega arith); log = λ h. y.log (omega arith) ∙ ap (upto lim) e; blind = λ h. y.blind h ∙ ap (shown lat g o lim) e }
+      record { to = y.to; clock = omega arith; ends = λ h. y.ends (omega arith); log = λ h. y.log (omega arith) ∙ ap (upto lim) e; blind =
+          λ h. y.blind h ∙ ap (shown lat g o lim) e }
 
   emptied : (t end : ℕ) (s1 s1' s2 s2' : Core E) (b b' : List Entry) → Both t end s1 s1' s2 s2' (b ++ []) (b' ++ []) → Both t end s1 s1' s2 s2' b b'
-  emptied t end s1 s1' s2 s2' b b' x = subst (λ z. Both t end s1 s1' s2 s2' b z) (append-nil b') (subst (λ z. Both t end s1 s1' s2 s2' z (b' ++ [])) (append-nil b) x)
+  emptied t end s1 s1' s2 s2' b b' x =
+      subst (λ z. Both t end s1 s1' s2 s2' b z) (append-nil b') (subst (λ z. Both t end s1 s1' s2 s2' z (b' ++ [])) (append-nil b) x)
 
   emptied_left : (t end : ℕ) (s1 s1' s2 s2' : Core E) (b b' : List Entry) → Both t end s1 s1' s2 s2' (b ++ []) b' → Both t end s1 s1' s2 s2' b b'
   emptied_left t end s1 s1' s2 s2' b b' x = subst (λ z. Both t end s1 s1' s2 s2' z b') (append-nil b) x
@@ -178,9 +190,11 @@ module _ {E : Type 0} {serves : E → Type 0} (v : Env E) (lat : Lattice) (ll : 
   emptied_right t end s1 s1' s2 s2' b b' x = subst (λ z. Both t end s1 s1' s2 s2' b z) (append-nil b') x
 
   filled : (t end : ℕ) (s1 s1' s2 s2' : Core E) (b b' : List Entry) → Both t end s1 s1' s2 s2' b b' → Both t end s1 s1' s2 s2' (b ++ []) (b' ++ [])
-  filled t end s1 s1' s2 s2' b b' x = subst (λ z. Both t end s1 s1' s2 s2' (b ++ []) z) (sym (append-nil b')) (subst (λ z. Both t end s1 s1' s2 s2' z b') (sym (append-nil b)) x)
+  filled t end s1 s1' s2 s2' b b' x =
+      subst (λ z. Both t end s1 s1' s2 s2' (b ++ []) z) (sym (append-nil b')) (subst (λ z. Both t end s1 s1' s2 s2' z b') (sym (append-nil b)) x)
 
-  then_quiet : (t t1 t2 : ℕ) (s1 m1 s1' s2 m2 s2' : Core E) (b b' : List Entry) → SleepWork t1 t2 m1 s1' [] → SleepWork t1 t2 m2 s2' [] → Both t t1 s1 m1 s2 m2 b b' → (Same m1 m2 → Time t1 m1 m2 → Time t2 s1' s2') → (Same m1 m2 → Same s1' s2') → Both t t2 s1 s1' s2 s2' b b'
+  then_quiet : (t t1 t2 : ℕ) (s1 m1 s1' s2 m2 s2' : Core E) (b b' : List Entry) → SleepWork t1 t2 m1 s1' [] → SleepWork t1 t2 m2 s2' []
+      → Both t t1 s1 m1 s2 m2 b b' → (Same m1 m2 → Time t1 m1 m2 → Time t2 s1' s2') → (Same m1 m2 → Same s1' s2') → Both t t2 s1 s1' s2 s2' b b'
   then_quiet t t1 t2 s1 m1 s1' s2 m2 s2' b b' p q y f h =
       emptied t t2 s1 s1' s2 s2' b b'
       (both_then t t1 t2 s1 m1 s1' s2 m2 s2' b b' [] [] p q y
@@ -207,7 +221,8 @@ module _ {E : Type 0} {serves : E → Type 0} (v : Env E) (lat : Lattice) (ll : 
         timed = λ e w. past_right t end s1 s1' s2 s2 b [] h x (quiet_rest t end s2 s2 x.to (omega arith) refl) w;
       }
 
-  fetched_timing : (m : Marks) (a t t1 : ℕ) (s s' : Core E) → Same s s' → Flows lat t t1 → Flows lat m.er t1 → Time t s s' → Time t1 (fetched v m a s) (fetched v m a s')
+  fetched_timing : (m : Marks) (a t t1 : ℕ) (s s' : Core E) → Same s s' → Flows lat t t1 → Flows lat m.er t1 → Time t s s'
+      → Time t1 (fetched v m a s) (fetched v m a s')
   fetched_timing m a t t1 s s' h ft fe w =
       record {
         seen = w.seen;
@@ -215,7 +230,8 @@ module _ {E : Type 0} {serves : E → Type 0} (v : Env E) (lat : Lattice) (ll : 
         clock = λ low. fetched_time v lat ll laws g o lim m a s s' h (ll.chain m.er t1 o fe low) (w.clock (ll.chain t t1 o ft low));
       }
 
-  touched_timing : (m : Marks) (x x' t t1 : ℕ) (s s' : Core E) → (Low t1 → x ≡ x') → Same s s' → Flows lat t t1 → Flows lat m.er t1 → Time t s s' → Time t1 (touched v m x s) (touched v m x' s')
+  touched_timing : (m : Marks) (x x' t t1 : ℕ) (s s' : Core E) → (Low t1 → x ≡ x') → Same s s' → Flows lat t t1 → Flows lat m.er t1 → Time t s s'
+      → Time t1 (touched v m x s) (touched v m x' s')
   touched_timing m x x' t t1 s s' e h ft fe w =
       record {
         seen = w.seen;
@@ -240,7 +256,8 @@ module _ {E : Type 0} {serves : E → Type 0} (v : Env E) (lat : Lattice) (ll : 
       }
 
   -- what a guard decides: lockstep where its label is low, and nothing low otherwise
-  guarded : (le t t1 : ℕ) (s m s' m' : Core E) (a a' : List Entry) → Same s s' → Flows lat le t1 → (Low le → Both t t1 s m s' m' a a') → (High le → Still s m) → (High le → Still s' m') → Both t t1 s m s' m' (cond (lat.flows le o) a []) (cond (lat.flows le o) a' [])
+  guarded : (le t t1 : ℕ) (s m s' m' : Core E) (a a' : List Entry) → Same s s' → Flows lat le t1 → (Low le → Both t t1 s m s' m' a a') → (High le → Still s m)
+      → (High le → Still s' m') → Both t t1 s m s' m' (cond (lat.flows le o) a []) (cond (lat.flows le o) a' [])
   guarded le t t1 s m s' m' a a' h f low u u' = go (lat.flows le o) refl
     where
       go : (b : Bool) → lat.flows le o ≡ b → Both t t1 s m s' m' (cond b a []) (cond b a' [])
@@ -273,7 +290,8 @@ module _ {E : Type 0} {serves : E → Type 0} (v : Env E) (lat : Lattice) (ll : 
     pc_both : Flows lat pc both
     raised_both : Flows lat (lat.join m.er l) both
 
-  facts_of : (pc t l : ℕ) (m : Marks) (start both : ℕ) → Flows lat pc t → Flows lat t start → Flows lat l start → Flows lat m.er start → Flows lat start both → Facts pc t l m start both
+  facts_of : (pc t l : ℕ) (m : Marks) (start both : ℕ) → Flows lat pc t → Flows lat t start → Flows lat l start → Flows lat m.er start
+      → Flows lat start both → Facts pc t l m start both
   facts_of pc t l m start both pt ts ls es sb =
       record {
         from_start = ts;
@@ -287,14 +305,17 @@ module _ {E : Type 0} {serves : E → Type 0} (v : Env E) (lat : Lattice) (ll : 
       }
 
   -- at a start of the form t | l | er
-  start_facts : (pc t l : ℕ) (m : Marks) (both : ℕ) → Flows lat pc t → Flows lat (lat.join (lat.join t l) m.er) both → Facts pc t l m (lat.join (lat.join t l) m.er) both
+  start_facts : (pc t l : ℕ) (m : Marks) (both : ℕ) → Flows lat pc t → Flows lat (lat.join (lat.join t l) m.er) both
+      → Facts pc t l m (lat.join (lat.join t l) m.er) both
   start_facts pc t l m both pt sb =
       let tl = lat.join t l in
       facts_of pc t l m (lat.join tl m.er) both pt (start_flows lat ll g t l m.er)
       (ll.chain l tl (lat.join tl m.er) (ll.right t l) (ll.left tl m.er)) (ll.right tl m.er) sb
 
   -- a choice: both ends are joined
-  if_facts : (pc t : ℕ) (m : Marks) (e : Expression) (c : Marked) (ta tb : ℕ) → Flows lat pc t → Types lat g (lat.join pc (label_of lat g e)) (lat.join (lat.join t (label_of lat g e)) m.er) c ta → Facts pc t (label_of lat g e) m (lat.join (lat.join t (label_of lat g e)) m.er) (lat.join ta tb)
+  if_facts : (pc t : ℕ) (m : Marks) (e : Expression) (c : Marked) (ta tb : ℕ) → Flows lat pc t
+      → Types lat g (lat.join pc (label_of lat g e)) (lat.join (lat.join t (label_of lat g e)) m.er) c ta
+      → Facts pc t (label_of lat g e) m (lat.join (lat.join t (label_of lat g e)) m.er) (lat.join ta tb)
   if_facts pc t m e c ta tb pt ty =
       let l = label_of lat g e in
       let start = lat.join (lat.join t l) m.er in
@@ -307,17 +328,21 @@ module _ {E : Type 0} {serves : E → Type 0} (v : Env E) (lat : Lattice) (ll : 
       facts_of pc t l m t' t' pt (from_right lat ll g l t t' lt) (from_left lat ll g l t t' lt) (from_right lat ll g (lat.join l t) m.er t' f) (ll.same t')
 
   -- a branch whose guard is not low, and the jump below it
-  branch_still : (pc l t end j : ℕ) (m : Marks) (p : Marked) (a : ℕ) (s n : Core E) → Types lat g (lat.join pc l) t p end → ArraysIn g p → Flows lat (lat.join pc l) t → High l → Runs v lat g lim (Do p a) s n → Still s n
+  branch_still : (pc l t end j : ℕ) (m : Marks) (p : Marked) (a : ℕ) (s n : Core E) → Types lat g (lat.join pc l) t p end → ArraysIn g p
+      → Flows lat (lat.join pc l) t → High l → Runs v lat g lim (Do p a) s n → Still s n
   branch_still pc l t end j m p a s n ty k f high b =
-      (high_run v lat ll laws g o lim (lat.join pc l, t, end, ty, f, k, high_up v lat ll laws g o lim l (lat.join pc l) high (ll.right pc l)) b, (grows_run v lat g o lim b).clock)
+      (high_run v lat ll laws g o lim (lat.join pc l, t, end, ty, f, k, high_up v lat ll laws g o lim l (lat.join pc l) high (ll.right pc l)) b,
+          (grows_run v lat g o lim b).clock)
 
   jump_still : (l j : ℕ) (m : Marks) (s n : Core E) → High l → Still s n → Still s (fetched v (record { er = lat.join m.er l; ew = lat.join m.ew l }) j n)
   jump_still l j m s n high u =
       let c = u.1 in
-      (unchanged_then v lat ll laws g o lim s n _ u.0 (fetched_high v lat ll laws g o lim (record { er = lat.join m.er l; ew = lat.join m.ew l }) j n (high_up v lat ll laws g o lim l (lat.join m.ew l) high (ll.right m.ew l))), omega arith)
+      (unchanged_then v lat ll laws g o lim s n _ u.0 (fetched_high v lat ll laws g o lim (record { er = lat.join m.er l; ew = lat.join m.ew l }) j n
+          (high_up v lat ll laws g o lim l (lat.join m.ew l) high (ll.right m.ew l))), omega arith)
 
   -- a guard with a low label has one value
-  one_guard : (e : Expression) (s s' : Core E) → HasArrays g e → Same s s' → Low (label_of lat g e) → holds (value_of e s.memory) ≡ true → holds (value_of e s'.memory) ≡ false → ⊥
+  one_guard : (e : Expression) (s s' : Core E) → HasArrays g e → Same s s' → Low (label_of lat g e) → holds (value_of e s.memory) ≡ true
+      → holds (value_of e s'.memory) ≡ false → ⊥
   one_guard e s s' k h low y n = both_ways (holds (value_of e s'.memory)) n (sym (ap holds (value_low v lat ll laws g o lim e s s' k h low)) ∙ y)
 
   mirrored : (s s' : Core E) → Same s s' → Same s' s
@@ -327,16 +352,19 @@ module _ {E : Type 0} {serves : E → Type 0} (v : Env E) (lat : Lattice) (ll : 
   later : (t t1 : ℕ) (s s' : Core E) → Flows lat t t1 → Time t s s' → Time t1 s s'
   later t t1 s s' f w = record { seen = w.seen; misses = w.misses; clock = λ low. w.clock (ll.chain t t1 o f low) }
 
-  loop_still : (pc t' : ℕ) (m : Marks) (e : Expression) (c : Marked) (a : ℕ) (s n : Core E) → Types lat g (lat.join pc (label_of lat g e)) t' c t' → ArraysIn g c → Flows lat (lat.join pc (label_of lat g e)) t' → High (label_of lat g e) → Runs v lat g lim (Loop m e c a) s n → Still s n
+  loop_still : (pc t' : ℕ) (m : Marks) (e : Expression) (c : Marked) (a : ℕ) (s n : Core E) → Types lat g (lat.join pc (label_of lat g e)) t' c t'
+      → ArraysIn g c → Flows lat (lat.join pc (label_of lat g e)) t' → High (label_of lat g e) → Runs v lat g lim (Loop m e c a) s n → Still s n
   loop_still pc t' m e c a s n ty k f high b =
       let l = label_of lat g e in
-      (high_run v lat ll laws g o lim (lat.join pc l, t', t', ty, f, k, high_up v lat ll laws g o lim l (lat.join pc l) high (ll.right pc l), high_up v lat ll laws g o lim l (lat.join m.ew l) high (ll.right m.ew l)) b, (grows_run v lat g o lim b).clock)
+      (high_run v lat ll laws g o lim (lat.join pc l, t', t', ty, f, k, high_up v lat ll laws g o lim l (lat.join pc l) high (ll.right pc l),
+          high_up v lat ll laws g o lim l (lat.join m.ew l) high (ll.right m.ew l)) b, (grows_run v lat g o lim b).clock)
 
   unmoved : (s : Core E) → Still s s
   unmoved s = (unchanged_same v lat ll laws g o lim s, omega arith)
 
   at_end : (t end : ℕ) (s1 s1' s2 s2' : Core E) (r r' : List Entry) → t ≡ end → Both t t s1 s1' s2 s2' r r' → Both t end s1 s1' s2 s2' r r'
-  at_end t end s1 s1' s2 s2' r r' e x = record { low = x.low; fits = x.fits; most = x.most; least = x.least; timed = λ q w. subst (λ z. Time z s1' s2') e (x.timed q w) }
+  at_end t end s1 s1' s2 s2' r r' e x =
+      record { low = x.low; fits = x.fits; most = x.most; least = x.least; timed = λ q w. subst (λ z. Time z s1' s2') e (x.timed q w) }
 
   begun_low : (k : ℕ) (s s' : Core E) → Same s s' → Same (begun k s) (begun k s')
   begun_low k s s' h = record { memory = h.memory; long = h.long; one = h.one; other = h.other; parts = h.parts }
@@ -351,14 +379,16 @@ module _ {E : Type 0} {serves : E → Type 0} (v : Env E) (lat : Lattice) (ll : 
 
   counts_same : (c c' : ℕ) (n n' : ℤ) (s s' k k' : ℕ) → c ≡ c' → n ≡ n' → s ≡ s' → k ≡ k' → misses_after n (c - s) k ≡ misses_after n' (c' - s') k'
   counts_same c c' n n' s s' k k' a b d e =
-      ap (λ x. misses_after n (x - s) k) a ∙ ap (λ x. misses_after x (c' - s) k) b ∙ ap (λ x. misses_after n' (c' - x) k) d ∙ ap (λ x. misses_after n' (c' - s') x) e
+      ap (λ x. misses_after n (x - s) k) a ∙ ap (λ x. misses_after x (c' - s) k) b ∙ ap (λ x. misses_after n' (c' - x) k) d
+          ∙ ap (λ x. misses_after n' (c' - s') x) e
 
   ends_same : (s s' : ℕ) (n n' : ℤ) (c c' : ℕ) → s ≡ s' → n ≡ n' → c ≡ c' → s + max (at_least_zero n) 1 * 2 ^ c ≡ s' + max (at_least_zero n') 1 * 2 ^ c'
   ends_same s s' n n' c c' a b d =
       ap (λ x. x + max (at_least_zero n) 1 * 2 ^ c) a ∙ ap (λ x. s' + max (at_least_zero x) 1 * 2 ^ c) b ∙ ap (λ x. s' + max (at_least_zero n') 1 * 2 ^ x) d
 
   -- a mitigation that began at s0 and s0', from the ends of its bodies to its own
-  close_both : (m : Marks) (mark level start t' j : ℕ) (n n' : ℤ) (s0 n1 s0' n2 : Core E) (a a' : List Entry) → Flows lat m.er start → Flows lat start t' → Flows lat t' level → (Low start → n ≡ n') → s0.clock ≤ n1.clock → s0'.clock ≤ n2.clock → Both start t' (begun mark s0) n1 (begun mark s0') n2 a a' →
+  close_both : (m : Marks) (mark level start t' j : ℕ) (n n' : ℤ) (s0 n1 s0' n2 : Core E) (a a' : List Entry) → Flows lat m.er start → Flows lat start t'
+      → Flows lat t' level → (Low start → n ≡ n') → s0.clock ≤ n1.clock → s0'.clock ≤ n2.clock → Both start t' (begun mark s0) n1 (begun mark s0') n2 a a' →
       Both start start s0 (closed (opening n level mark s0) (fetched v m j n1)) s0' (closed (opening n' level mark s0') (fetched v m j n2))
       (a ++ entry_of v lat g o lim (opening n level mark s0) (fetched v m j n1))
       (a' ++ entry_of v lat g o lim (opening n' level mark s0') (fetched v m j n2))
@@ -401,7 +431,8 @@ module _ {E : Type 0} {serves : E → Type 0} (v : Env E) (lat : Lattice) (ll : 
       ended_late h h' z = record { seen = ended_seen z; misses = λ i. absurd (omega (arith, c1, c2)); clock = λ low. inr (h, h') }
 
       -- where the counts of a low level are equal, and those of any level if the start is low
-      ended : n1.clock ≤ lim → n2.clock ≤ lim → (Low level → count ≡ count') → (Low start → count ≡ count') → Time start s0 s0' → Time t' n1 n2 → Time start e1 e2
+      ended : n1.clock ≤ lim → n2.clock ≤ lim → (Low level → count ≡ count') → (Low start → count ≡ count') → Time start s0 s0'
+          → Time t' n1 n2 → Time start e1 e2
       ended h h' same_low same w z =
           record {
             seen = ended_seen z;
@@ -412,7 +443,8 @@ module _ {E : Type 0} {serves : E → Type 0} (v : Env E) (lat : Lattice) (ll : 
                 (w.clock low);
           }
         where
-          pick : (l : ℕ) (b : Bool) → (l ≡ level → count ≡ count') → n1.misses l ≡ n2.misses l → eqb l level ≡ b → cond b count (n1.misses l) ≡ cond b count' (n2.misses l)
+          pick : (l : ℕ) (b : Bool) → (l ≡ level → count ≡ count') → n1.misses l ≡ n2.misses l → eqb l level ≡ b
+              → cond b count (n1.misses l) ≡ cond b count' (n2.misses l)
           pick l true f e q = f (eqb-true l level q)
           pick l false f e q = e
 
@@ -434,8 +466,10 @@ module _ {E : Type 0} {serves : E → Type 0} (v : Env E) (lat : Lattice) (ll : 
               let here = x.low i i' in
               let cost = cost_low v lat ll laws g o lim Code (4 * j) m.er m.ew n1 n2 here (ll.chain m.er start o fe low_start) in
               let clocks : q1.clock ≡ q2.clock = omega (arith, c1, c2) in
-              let since : s0.clock ≡ s0'.clock = ⊎_elim (λ (e : s0.clock ≡ s0'.clock). e) (λ (e : (lim < s0.clock) × (lim < s0'.clock)). let y = e.0 in absurd (omega (arith, c1, c2))) (w.clock low_start) in
-              let same = counts_same q1.clock q2.clock n n' s0.clock s0'.clock (n1.misses level) (n2.misses level) clocks (val low_start) since (z.misses i i' level e) in
+              let since : s0.clock ≡ s0'.clock = ⊎_elim (λ (e : s0.clock ≡ s0'.clock). e) (λ (e : (lim < s0.clock) × (lim < s0'.clock)). let y = e.0 in
+                  absurd (omega (arith, c1, c2))) (w.clock low_start) in
+              let same = counts_same q1.clock q2.clock n n' s0.clock s0'.clock (n1.misses level) (n2.misses level) clocks (val low_start)
+                  since (z.misses i i' level e) in
               ended i i' (λ low. same) (λ low. same) w z
 
       la : (y : Entry) → length (a ++ y ∷ []) ≡ length a + 1
@@ -444,7 +478,8 @@ module _ {E : Type 0} {serves : E → Type 0} (v : Env E) (lat : Lattice) (ll : 
       la' : (y : Entry) → length (a' ++ y ∷ []) ≡ length a' + 1
       la' y = length-append a' (y ∷ [])
 
-      high_level : (lat.flows level o ≡ false) → (b b' : Bool) → leb e1.clock lim ≡ b → leb e2.clock lim ≡ b' → Both start start s0 e1 s0' e2 (a ++ cond b ((level, count) ∷ []) []) (a' ++ cond b' ((level, count') ∷ []) [])
+      high_level : (lat.flows level o ≡ false) → (b b' : Bool) → leb e1.clock lim ≡ b → leb e2.clock lim ≡ b'
+          → Both start start s0 e1 s0' e2 (a ++ cond b ((level, count) ∷ []) []) (a' ++ cond b' ((level, count') ∷ []) [])
       high_level e true true by by' =
           let h = leb-true e1.clock lim by in
           let h' = leb-true e2.clock lim by' in
@@ -500,7 +535,9 @@ module _ {E : Type 0} {serves : E → Type 0} (v : Env E) (lat : Lattice) (ll : 
             timed = λ q w. ended_late h h' (x.timed q (begun_timing mark start s0 s0' w));
           })
 
-      go : (b : Bool) → lat.flows level o ≡ b → Both start start s0 e1 s0' e2 (a ++ cond b [] (cond (leb e1.clock lim) ((level, count) ∷ []) [])) (a' ++ cond b [] (cond (leb e2.clock lim) ((level, count') ∷ []) []))
+      go : (b : Bool) → lat.flows level o ≡ b
+          → Both start start s0 e1 s0' e2 (a ++ cond b [] (cond (leb e1.clock lim) ((level, count) ∷ []) []))
+          (a' ++ cond b [] (cond (leb e2.clock lim) ((level, count') ∷ []) []))
       go true e =
           filled start start s0 e1 s0' e2 a a'
           (record {
@@ -523,7 +560,8 @@ module _ {E : Type 0} {serves : E → Type 0} (v : Env E) (lat : Lattice) (ll : 
   on : {j : Job} {s s' : Core E} (t end : ℕ) → (d : Runs v lat g lim j s s') → Public j t end → SleepWork t end s s' (record_of v lat g o lim d)
   on {j = j} t end d p = tail v lat ll laws g o lim t end (from_public j t end p) d
 
-  pub two_run : {j : Job} {s1 s1' s2 s2' : Core E} (t end : ℕ) → Public j t end → Same s1 s2 → (d : Runs v lat g lim j s1 s1') → (d' : Runs v lat g lim j s2 s2') → Both t end s1 s1' s2 s2' (record_of v lat g o lim d) (record_of v lat g o lim d')
+  pub two_run : {j : Job} {s1 s1' s2 s2' : Core E} (t end : ℕ) → Public j t end → Same s1 s2 → (d : Runs v lat g lim j s1 s1')
+      → (d' : Runs v lat g lim j s2 s2') → Both t end s1 s1' s2 s2' (record_of v lat g o lim d) (record_of v lat g o lim d')
   two_run {s1 = s1} {s2 = s2} t end pub_ h done done =
       record { low = λ i i'. h; fits = tt; most = λ i. omega arith; least = λ i. omega arith; timed = λ e w. subst (λ z. Time z s1 s2) pub_.1 w }
   two_run {s1 = s1} {s2 = s2} t end p h (skip {m = m} {a = a} k) (skip k') =
@@ -544,7 +582,8 @@ module _ {E : Type 0} {serves : E → Type 0} (v : Env E) (lat : Lattice) (ll : 
       let w1 = tested_timing v lat ll laws g o lim m e a t (g x) s1 s2 fit h q.time q.value q.read w in
       let w2 = touched_timing m x x (g x) (g x) _ _ (λ y. refl) h1 (ll.same (g x)) q.read w1 in
       written_timing v lat ll laws g o lim (g x) x x (g x) (value_of e s1.memory) (value_of e s2.memory) _ _ refl refl (λ y. refl) val w2.clock w2)
-      (two_run (g x) end (p.0, p.1.2, p.2.1, q.counter, p.4) (written_low v lat ll laws g o lim x (value_of e s1.memory) (value_of e s2.memory) _ _ h2 val) k k')
+      (two_run (g x) end (p.0, p.1.2, p.2.1, q.counter,
+          p.4) (written_low v lat ll laws g o lim x (value_of e s1.memory) (value_of e s2.memory) _ _ h2 val) k k')
   two_run {s1 = s1} {s2 = s2} t end p h (put {m = m} {f = f} {n = n} {i = i} {e = e} {a = a} k) (put k') =
       let l = label_of lat g e in
       let j = label_of lat g i in
@@ -562,7 +601,8 @@ module _ {E : Type 0} {serves : E → Type 0} (v : Env E) (lat : Lattice) (ll : 
       let is' = element_label g f n (value_of i s2.memory) p.2.0.0 in
       let place : Low j → x ≡ x' = λ y. ap (element f n) (value_low v lat ll laws g o lim i s1 s2 p.2.0.1 h y) in
       let here : Low (g f) → x ≡ x' = λ y. place (ll.chain j (g f) o to y) in
-      let val : Low (g f) → value_of e s1.memory ≡ value_of e s2.memory = λ y. value_low v lat ll laws g o lim e s1 s2 p.2.0.2 h (ll.chain l (g f) o q.value y) in
+      let val : Low (g f) → value_of e s1.memory ≡ value_of e s2.memory =
+          λ y. value_low v lat ll laws g o lim e s1 s2 p.2.0.2 h (ll.chain l (g f) o q.value y) in
       let h1 = reached_low v lat ll laws g o lim m i e a s1 s2 ki ke h in
       let h2 = touched_two v lat ll laws g o lim m j x x' _ _ iw place h1 in
       quiet_then t (g f) end s1 _ _ s2 _ _ _ _
@@ -570,7 +610,8 @@ module _ {E : Type 0} {serves : E → Type 0} (v : Env E) (lat : Lattice) (ll : 
       let w1 = reached_timing v lat ll laws g o lim m i e a t (g f) s1 s2 ki ke h q.time to q.value q.read w in
       let w2 = touched_timing m x x' (g f) (g f) _ _ here h1 (ll.same (g f)) q.read w1 in
       written_timing v lat ll laws g o lim (g f) x x' (g f) (value_of e s1.memory) (value_of e s2.memory) _ _ is is' here val w2.clock w2)
-      (two_run (g f) end (p.0, p.1.2, p.2.1, q.counter, p.4) (written_two v lat ll laws g o lim (g f) x x' (value_of e s1.memory) (value_of e s2.memory) _ _ is is' here val h2) k k')
+      (two_run (g f) end (p.0, p.1.2, p.2.1, q.counter,
+          p.4) (written_two v lat ll laws g o lim (g f) x x' (value_of e s1.memory) (value_of e s2.memory) _ _ is is' here val h2) k k')
   two_run {s1 = s1} {s2 = s2} t end p h (sleep {m = m} {e = e} {a = a} k) (sleep k') =
       let l = label_of lat g e in
       let fit = fit_of v lat ll laws g o lim p.0 m e p.1.0 p.2.0 in
@@ -586,7 +627,8 @@ module _ {E : Type 0} {serves : E → Type 0} (v : Env E) (lat : Lattice) (ll : 
       record {
         seen = w1.seen;
         misses = λ i i'. w1.misses (omega arith) (omega arith);
-        clock = λ low. alike_add v lat ll laws g o lim _ _ _ _ (ap at_least_zero (value_low v lat ll laws g o lim e s1 s2 fit.1 h (ll.chain l t1 o fl low))) (w1.clock low);
+        clock = λ low. alike_add v lat ll laws g o lim _ _ _ _ (ap at_least_zero (value_low v lat ll laws g o lim e s1 s2 fit.1 h (ll.chain l t1 o fl low)))
+            (w1.clock low);
       })
       (two_run t1 end (p.0, p.1.1, p.2.1, ll.chain p.0 t t1 p.3 ft, p.4) (waited_low v lat ll laws g o lim _ _ _ _ h1) k k')
   two_run {s1 = s1} {s2 = s2} t end p h (if_true {m = m} {e = e} {c = c} {d = d} {a = a} {s1 = n1} w b k) (if_true {s1 = n2} w' b' k') =
@@ -611,7 +653,8 @@ module _ {E : Type 0} {serves : E → Type 0} (v : Env E) (lat : Lattice) (ll : 
       (λ high. jump_still l j m s0' n2 high (branch_still p.0 l start p.1.0 j m c _ s0' n2 p.1.3 p.2.1 f.inner high b')) in
       quiet_then t start end s1 s0 _ s2 s0' _ _ _
       (tested_timing v lat ll laws g o lim m e a t start s1 s2 fit h f.from_start f.guard_start f.er_start)
-      (both_then start both end s0 _ _ s0' _ _ _ _ _ _ (on both end k (p.0, p.1.5, p.2.3, f.pc_both, p.4)) (on both end k' (p.0, p.1.5, p.2.3, f.pc_both, p.4)) part (λ same. two_run both end (p.0, p.1.5, p.2.3, f.pc_both, p.4) same k k'))
+      (both_then start both end s0 _ _ s0' _ _ _ _ _ _ (on both end k (p.0, p.1.5, p.2.3, f.pc_both, p.4)) (on both end k' (p.0, p.1.5, p.2.3, f.pc_both, p.4))
+          part (λ same. two_run both end (p.0, p.1.5, p.2.3, f.pc_both, p.4) same k k'))
   two_run {s1 = s1} {s2 = s2} t end p h (if_true {m = m} {e = e} {c = c} {d = d} {a = a} {s1 = n1} w b k) (if_false {s1 = n2} w' b' k') =
       let l = label_of lat g e in
       let fit = fit_of v lat ll laws g o lim p.0 m e p.1.2 p.2.0 in
@@ -628,7 +671,8 @@ module _ {E : Type 0} {serves : E → Type 0} (v : Env E) (lat : Lattice) (ll : 
       (λ high. branch_still p.0 l start p.1.1 j m d _ s0' n2 p.1.4 p.2.2 f.inner high b') in
       quiet_then t start end s1 s0 _ s2 s0' _ _ _
       (tested_timing v lat ll laws g o lim m e a t start s1 s2 fit h f.from_start f.guard_start f.er_start)
-      (both_then start both end s0 _ _ s0' _ _ _ _ _ _ (on both end k (p.0, p.1.5, p.2.3, f.pc_both, p.4)) (on both end k' (p.0, p.1.5, p.2.3, f.pc_both, p.4)) part (λ same. two_run both end (p.0, p.1.5, p.2.3, f.pc_both, p.4) same k k'))
+      (both_then start both end s0 _ _ s0' _ _ _ _ _ _ (on both end k (p.0, p.1.5, p.2.3, f.pc_both, p.4)) (on both end k' (p.0, p.1.5, p.2.3, f.pc_both, p.4))
+          part (λ same. two_run both end (p.0, p.1.5, p.2.3, f.pc_both, p.4) same k k'))
   two_run {s1 = s1} {s2 = s2} t end p h (if_false {m = m} {e = e} {c = c} {d = d} {a = a} {s1 = n1} w b k) (if_true {s1 = n2} w' b' k') =
       let l = label_of lat g e in
       let fit = fit_of v lat ll laws g o lim p.0 m e p.1.2 p.2.0 in
@@ -645,7 +689,8 @@ module _ {E : Type 0} {serves : E → Type 0} (v : Env E) (lat : Lattice) (ll : 
       (λ high. jump_still l j m s0' n2 high (branch_still p.0 l start p.1.0 j m c _ s0' n2 p.1.3 p.2.1 f.inner high b')) in
       quiet_then t start end s1 s0 _ s2 s0' _ _ _
       (tested_timing v lat ll laws g o lim m e a t start s1 s2 fit h f.from_start f.guard_start f.er_start)
-      (both_then start both end s0 _ _ s0' _ _ _ _ _ _ (on both end k (p.0, p.1.5, p.2.3, f.pc_both, p.4)) (on both end k' (p.0, p.1.5, p.2.3, f.pc_both, p.4)) part (λ same. two_run both end (p.0, p.1.5, p.2.3, f.pc_both, p.4) same k k'))
+      (both_then start both end s0 _ _ s0' _ _ _ _ _ _ (on both end k (p.0, p.1.5, p.2.3, f.pc_both, p.4)) (on both end k' (p.0, p.1.5, p.2.3, f.pc_both, p.4))
+          part (λ same. two_run both end (p.0, p.1.5, p.2.3, f.pc_both, p.4) same k k'))
   two_run {s1 = s1} {s2 = s2} t end p h (if_false {m = m} {e = e} {c = c} {d = d} {a = a} {s1 = n1} w b k) (if_false {s1 = n2} w' b' k') =
       let l = label_of lat g e in
       let fit = fit_of v lat ll laws g o lim p.0 m e p.1.2 p.2.0 in
@@ -659,12 +704,14 @@ module _ {E : Type 0} {serves : E → Type 0} (v : Env E) (lat : Lattice) (ll : 
       (λ low.
       let x = two_run start p.1.1 (lat.join p.0 l, p.1.4, p.2.2, f.inner, ll.least p.0 l o p.4 low) h1 b b' in
       let to = ll.right p.1.0 p.1.1 in
-      then_quiet start p.1.1 both s0 n1 _ s0' n2 _ _ _ (quiet_rest p.1.1 both n1 n1 to (omega arith) refl) (quiet_rest p.1.1 both n2 n2 to (omega arith) refl) x (λ same z. later p.1.1 both n1 n2 to z) (λ same. same))
+      then_quiet start p.1.1 both s0 n1 _ s0' n2 _ _ _ (quiet_rest p.1.1 both n1 n1 to (omega arith) refl) (quiet_rest p.1.1 both n2 n2 to (omega arith) refl) x
+          (λ same z. later p.1.1 both n1 n2 to z) (λ same. same))
       (λ high. branch_still p.0 l start p.1.1 0 m d _ s0 n1 p.1.4 p.2.2 f.inner high b)
       (λ high. branch_still p.0 l start p.1.1 0 m d _ s0' n2 p.1.4 p.2.2 f.inner high b') in
       quiet_then t start end s1 s0 _ s2 s0' _ _ _
       (tested_timing v lat ll laws g o lim m e a t start s1 s2 fit h f.from_start f.guard_start f.er_start)
-      (both_then start both end s0 _ _ s0' _ _ _ _ _ _ (on both end k (p.0, p.1.5, p.2.3, f.pc_both, p.4)) (on both end k' (p.0, p.1.5, p.2.3, f.pc_both, p.4)) part (λ same. two_run both end (p.0, p.1.5, p.2.3, f.pc_both, p.4) same k k'))
+      (both_then start both end s0 _ _ s0' _ _ _ _ _ _ (on both end k (p.0, p.1.5, p.2.3, f.pc_both, p.4)) (on both end k' (p.0, p.1.5, p.2.3, f.pc_both, p.4))
+          part (λ same. two_run both end (p.0, p.1.5, p.2.3, f.pc_both, p.4) same k k'))
   two_run {s1 = s1} {s2 = s2} t end p h (while_none {m = m} {e = e} {c = c} {a = a} w k) (while_none w' k') =
       let l = label_of lat g e in
       let fit = fit_of v lat ll laws g o lim p.0 m e p.1.1 p.2.0 in
@@ -673,10 +720,12 @@ module _ {E : Type 0} {serves : E → Type 0} (v : Env E) (lat : Lattice) (ll : 
       let s0 = tested v m e a s1 in
       let s0' = tested v m e a s2 in
       let h1 = tested_low v lat ll laws g o lim m e a s1 s2 fit h in
-      let part = guarded l t' t' s0 s0 s0' s0' [] [] h1 f.guard_start (λ low. record { low = λ i i'. h1; fits = tt; most = λ i. omega arith; least = λ i. omega arith; timed = λ q z. z }) (λ high. unmoved s0) (λ high. unmoved s0') in
+      let part = guarded l t' t' s0 s0 s0' s0' [] [] h1 f.guard_start (λ low. record { low = λ i i'. h1; fits = tt; most = λ i. omega arith; least =
+          λ i. omega arith; timed = λ q z. z }) (λ high. unmoved s0) (λ high. unmoved s0') in
       quiet_then t t' end s1 s0 _ s2 s0' _ _ _
       (tested_timing v lat ll laws g o lim m e a t t' s1 s2 fit h f.from_start f.guard_start f.er_start)
-      (both_then t' t' end s0 s0 _ s0' s0' _ _ _ _ _ (on t' end k (p.0, p.1.4, p.2.2, f.pc_both, p.4)) (on t' end k' (p.0, p.1.4, p.2.2, f.pc_both, p.4)) part (λ same. two_run t' end (p.0, p.1.4, p.2.2, f.pc_both, p.4) same k k'))
+      (both_then t' t' end s0 s0 _ s0' s0' _ _ _ _ _ (on t' end k (p.0, p.1.4, p.2.2, f.pc_both, p.4)) (on t' end k' (p.0, p.1.4, p.2.2, f.pc_both, p.4)) part
+          (λ same. two_run t' end (p.0, p.1.4, p.2.2, f.pc_both, p.4) same k k'))
   two_run {s1 = s1} {s2 = s2} t end p h (while_none {m = m} {e = e} {c = c} {a = a} w k) (while_some {s1 = n2} w' b' k') =
       let l = label_of lat g e in
       let fit = fit_of v lat ll laws g o lim p.0 m e p.1.1 p.2.0 in
@@ -685,10 +734,12 @@ module _ {E : Type 0} {serves : E → Type 0} (v : Env E) (lat : Lattice) (ll : 
       let s0 = tested v m e a s1 in
       let s0' = tested v m e a s2 in
       let h1 = tested_low v lat ll laws g o lim m e a s1 s2 fit h in
-      let part = guarded l t' t' s0 s0 s0' n2 [] _ h1 f.guard_start (λ low. absurd (one_guard e s2 s1 fit.1 (mirrored s1 s2 h) low w' w)) (λ high. unmoved s0) (λ high. loop_still p.0 t' m e c _ s0' n2 p.1.3 p.2.1 f.inner high b') in
+      let part = guarded l t' t' s0 s0 s0' n2 [] _ h1 f.guard_start (λ low. absurd (one_guard e s2 s1 fit.1 (mirrored s1 s2 h) low w' w)) (λ high. unmoved s0)
+          (λ high. loop_still p.0 t' m e c _ s0' n2 p.1.3 p.2.1 f.inner high b') in
       quiet_then t t' end s1 s0 _ s2 s0' _ _ _
       (tested_timing v lat ll laws g o lim m e a t t' s1 s2 fit h f.from_start f.guard_start f.er_start)
-      (both_then t' t' end s0 s0 _ s0' n2 _ _ _ _ _ (on t' end k (p.0, p.1.4, p.2.2, f.pc_both, p.4)) (on t' end k' (p.0, p.1.4, p.2.2, f.pc_both, p.4)) part (λ same. two_run t' end (p.0, p.1.4, p.2.2, f.pc_both, p.4) same k k'))
+      (both_then t' t' end s0 s0 _ s0' n2 _ _ _ _ _ (on t' end k (p.0, p.1.4, p.2.2, f.pc_both, p.4)) (on t' end k' (p.0, p.1.4, p.2.2, f.pc_both, p.4)) part
+          (λ same. two_run t' end (p.0, p.1.4, p.2.2, f.pc_both, p.4) same k k'))
   two_run {s1 = s1} {s2 = s2} t end p h (while_some {m = m} {e = e} {c = c} {a = a} {s1 = n1} w b k) (while_none w' k') =
       let l = label_of lat g e in
       let fit = fit_of v lat ll laws g o lim p.0 m e p.1.1 p.2.0 in
@@ -697,10 +748,12 @@ module _ {E : Type 0} {serves : E → Type 0} (v : Env E) (lat : Lattice) (ll : 
       let s0 = tested v m e a s1 in
       let s0' = tested v m e a s2 in
       let h1 = tested_low v lat ll laws g o lim m e a s1 s2 fit h in
-      let part = guarded l t' t' s0 n1 s0' s0' _ [] h1 f.guard_start (λ low. absurd (one_guard e s1 s2 fit.1 h low w w')) (λ high. loop_still p.0 t' m e c _ s0 n1 p.1.3 p.2.1 f.inner high b) (λ high. unmoved s0') in
+      let part = guarded l t' t' s0 n1 s0' s0' _ [] h1 f.guard_start (λ low. absurd (one_guard e s1 s2 fit.1 h low w w'))
+          (λ high. loop_still p.0 t' m e c _ s0 n1 p.1.3 p.2.1 f.inner high b) (λ high. unmoved s0') in
       quiet_then t t' end s1 s0 _ s2 s0' _ _ _
       (tested_timing v lat ll laws g o lim m e a t t' s1 s2 fit h f.from_start f.guard_start f.er_start)
-      (both_then t' t' end s0 n1 _ s0' s0' _ _ _ _ _ (on t' end k (p.0, p.1.4, p.2.2, f.pc_both, p.4)) (on t' end k' (p.0, p.1.4, p.2.2, f.pc_both, p.4)) part (λ same. two_run t' end (p.0, p.1.4, p.2.2, f.pc_both, p.4) same k k'))
+      (both_then t' t' end s0 n1 _ s0' s0' _ _ _ _ _ (on t' end k (p.0, p.1.4, p.2.2, f.pc_both, p.4)) (on t' end k' (p.0, p.1.4, p.2.2, f.pc_both, p.4)) part
+          (λ same. two_run t' end (p.0, p.1.4, p.2.2, f.pc_both, p.4) same k k'))
   two_run {s1 = s1} {s2 = s2} t end p h (while_some {m = m} {e = e} {c = c} {a = a} {s1 = n1} w b k) (while_some {s1 = n2} w' b' k') =
       let l = label_of lat g e in
       let fit = fit_of v lat ll laws g o lim p.0 m e p.1.1 p.2.0 in
@@ -715,7 +768,8 @@ module _ {E : Type 0} {serves : E → Type 0} (v : Env E) (lat : Lattice) (ll : 
       (λ high. loop_still p.0 t' m e c _ s0' n2 p.1.3 p.2.1 f.inner high b') in
       quiet_then t t' end s1 s0 _ s2 s0' _ _ _
       (tested_timing v lat ll laws g o lim m e a t t' s1 s2 fit h f.from_start f.guard_start f.er_start)
-      (both_then t' t' end s0 n1 _ s0' n2 _ _ _ _ _ (on t' end k (p.0, p.1.4, p.2.2, f.pc_both, p.4)) (on t' end k' (p.0, p.1.4, p.2.2, f.pc_both, p.4)) part (λ same. two_run t' end (p.0, p.1.4, p.2.2, f.pc_both, p.4) same k k'))
+      (both_then t' t' end s0 n1 _ s0' n2 _ _ _ _ _ (on t' end k (p.0, p.1.4, p.2.2, f.pc_both, p.4)) (on t' end k' (p.0, p.1.4, p.2.2, f.pc_both, p.4)) part
+          (λ same. two_run t' end (p.0, p.1.4, p.2.2, f.pc_both, p.4) same k k'))
   two_run {s1 = s1} {s2 = s2} t end p h (mitigate {m = m} {k = mark} {l = level} {e = e} {c = c} {a = a} {s1 = n1} b k) (mitigate {s1 = n2} b' k') =
       let l = label_of lat g e in
       let fit = fit_of v lat ll laws g o lim p.0 m e p.1.1 p.2.0 in
@@ -727,39 +781,46 @@ module _ {E : Type 0} {serves : E → Type 0} (v : Env E) (lat : Lattice) (ll : 
       let x = two_run start p.1.0 (p.0, p.1.2, p.2.1, f.pc_both, p.4) (begun_low mark s0 s0' h1) b b' in
       let whole = close_both m mark level start p.1.0 (a + expr_size e + 1 + size c) (value_of e s1.memory) (value_of e s2.memory) s0 n1 s0' n2 _ _ f.er_start
       (flows_to_end lat ll g c p.0 start p.1.0 f.pc_both p.1.2) p.1.3
-      (λ low. value_low v lat ll laws g o lim e s1 s2 fit.1 h (ll.chain l start o f.guard_start low)) (grows_run v lat g o lim b).clock (grows_run v lat g o lim b').clock x in
+      (λ low. value_low v lat ll laws g o lim e s1 s2 fit.1 h (ll.chain l start o f.guard_start low)) (grows_run v lat g o lim b).clock
+          (grows_run v lat g o lim b').clock x in
       quiet_then t start end s1 s0 _ s2 s0' _ _ _
       (tested_timing v lat ll laws g o lim m e a t start s1 s2 fit h f.from_start f.guard_start f.er_start)
-      (both_then start start end s0 _ _ s0' _ _ _ _ _ _ (on start end k (p.0, p.1.4, p.2.2, f.pc_both, p.4)) (on start end k' (p.0, p.1.4, p.2.2, f.pc_both, p.4)) whole (λ same. two_run start end (p.0, p.1.4, p.2.2, f.pc_both, p.4) same k k'))
+      (both_then start start end s0 _ _ s0' _ _ _ _ _ _ (on start end k (p.0, p.1.4, p.2.2, f.pc_both, p.4)) (on start end k' (p.0, p.1.4, p.2.2, f.pc_both,
+          p.4)) whole (λ same. two_run start end (p.0, p.1.4, p.2.2, f.pc_both, p.4) same k k'))
   two_run {s1 = s1} {s2 = s2} t end p h (last {m = m} {e = e} {c = c} {a = a} {s1 = n1} b w) (last {s1 = n2} b' w') =
       let x = two_run t t (p.0, p.1, p.2, p.3, p.4) h b b' in
       let rm = raised lat g e m in
       let q = a + size c in
       at_end t end s1 _ s2 _ _ _ p.5
       (then_quiet t t t s1 n1 _ s2 n2 _ _ _ (tested_rest t t n1 rm e q (ll.same t)) (tested_rest t t n2 rm e q (ll.same t)) x
-      (λ same. tested_timing v lat ll laws g o lim rm e q t t n1 n2 (fit_raised v lat ll laws g o lim m e p.8) same (ll.same t) p.6 (ll.least m.er (label_of lat g e) t p.7 p.6))
+      (λ same. tested_timing v lat ll laws g o lim rm e q t t n1 n2 (fit_raised v lat ll laws g o lim m e p.8) same (ll.same t) p.6
+          (ll.least m.er (label_of lat g e) t p.7 p.6))
       (λ same. tested_low v lat ll laws g o lim rm e q n1 n2 (fit_raised v lat ll laws g o lim m e p.8) same))
   two_run {s1 = s1} {s2 = s2} t end p h (last {m = m} {e = e} {c = c} {a = a} {s1 = n1} b w) (again {s1 = n2} b' w' k') =
       let x = two_run t t (p.0, p.1, p.2, p.3, p.4) h b b' in
       let rm = raised lat g e m in
       let q = a + size c in
       emptied_left t end s1 _ s2 _ _ _
-      (both_then t t end s1 n1 _ s2 n2 _ _ _ [] _ (tested_rest t end n1 rm e q (subst (λ z. Flows lat t z) p.5 (ll.same t))) (rest_after t end n2 _ _ _ (tested_clock v rm e q n2) (timed_log v rm e q n2) (on t end k' p)) x
+      (both_then t t end s1 n1 _ s2 n2 _ _ _ [] _ (tested_rest t end n1 rm e q (subst (λ z. Flows lat t z) p.5 (ll.same t)))
+          (rest_after t end n2 _ _ _ (tested_clock v rm e q n2) (timed_log v rm e q n2) (on t end k' p)) x
       (λ same. absurd (one_guard e n2 n1 p.8.1 (mirrored n1 n2 same) p.9 w' w)))
   two_run {s1 = s1} {s2 = s2} t end p h (again {m = m} {e = e} {c = c} {a = a} {s1 = n1} b w k) (last {s1 = n2} b' w') =
       let x = two_run t t (p.0, p.1, p.2, p.3, p.4) h b b' in
       let rm = raised lat g e m in
       let q = a + size c in
       emptied_right t end s1 _ s2 _ _ _
-      (both_then t t end s1 n1 _ s2 n2 _ _ _ _ [] (rest_after t end n1 _ _ _ (tested_clock v rm e q n1) (timed_log v rm e q n1) (on t end k p)) (tested_rest t end n2 rm e q (subst (λ z. Flows lat t z) p.5 (ll.same t))) x
+      (both_then t t end s1 n1 _ s2 n2 _ _ _ _ [] (rest_after t end n1 _ _ _ (tested_clock v rm e q n1) (timed_log v rm e q n1) (on t end k p))
+          (tested_rest t end n2 rm e q (subst (λ z. Flows lat t z) p.5 (ll.same t))) x
       (λ same. absurd (one_guard e n1 n2 p.8.1 same p.9 w w')))
   two_run {s1 = s1} {s2 = s2} t end p h (again {m = m} {e = e} {c = c} {a = a} {s1 = n1} b w k) (again {s1 = n2} b' w' k') =
       let x = two_run t t (p.0, p.1, p.2, p.3, p.4) h b b' in
       let rm = raised lat g e m in
       let q = a + size c in
-      both_then t t end s1 n1 _ s2 n2 _ _ _ _ _ (rest_after t end n1 _ _ _ (tested_clock v rm e q n1) (timed_log v rm e q n1) (on t end k p)) (rest_after t end n2 _ _ _ (tested_clock v rm e q n2) (timed_log v rm e q n2) (on t end k' p)) x
+      both_then t t end s1 n1 _ s2 n2 _ _ _ _ _ (rest_after t end n1 _ _ _ (tested_clock v rm e q n1) (timed_log v rm e q n1) (on t end k p))
+          (rest_after t end n2 _ _ _ (tested_clock v rm e q n2) (timed_log v rm e q n2) (on t end k' p)) x
       (λ same. quiet_then t t end n1 _ _ n2 _ _ _ _
-      (tested_timing v lat ll laws g o lim rm e q t t n1 n2 (fit_raised v lat ll laws g o lim m e p.8) same (ll.same t) p.6 (ll.least m.er (label_of lat g e) t p.7 p.6))
+      (tested_timing v lat ll laws g o lim rm e q t t n1 n2 (fit_raised v lat ll laws g o lim m e p.8) same (ll.same t) p.6
+          (ll.least m.er (label_of lat g e) t p.7 p.6))
       (two_run t end p (tested_low v lat ll laws g o lim rm e q n1 n2 (fit_raised v lat ll laws g o lim m e p.8) same) k k'))
   two_run {s1 = s1} {s2 = s2} t end p h (late x) d' = cut_left t end s1 s2 _ _ x (on t end d' p)
   two_run {s1 = s1} {s2 = s2} t end p h d (late x) = cut_right t end s1 _ s2 _ x (on t end d p)

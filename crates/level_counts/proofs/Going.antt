@@ -1,5 +1,6 @@
 -- What is told of the levels after each step of a walk.
-use Rattle.std.proofs.Common.{◌≡◌, ◌<◌, ◌≤◌, ℕ, zero, suc, ◌+◌, ◌-◌, ◌⊎◌, inl, inr, ⊎_elim, refl, sym, ap, ◌∙◌, subst, List, [], ◌∷◌, ◌++◌, length, append-nil, Option, Some, None, replicate, arith}
+use Rattle.std.proofs.Common.{◌≡◌, ◌<◌, ◌≤◌, ℕ, zero, suc, ◌+◌, ◌-◌, ◌⊎◌, inl, inr, ⊎_elim, refl, sym, ap, ◌∙◌, subst, List, [], ◌∷◌, ◌++◌, length}
+use Rattle.std.proofs.Common.{append-nil, Option, Some, None, replicate, arith}
 use Rattle.std.specs.Prelude.{ℤ, Bool, true, false, cond, eqb, ◌&&◌, slice_get, slice_set, slice_index_or}
 use Rattle.std.specs.List.{count_by}
 use Rattle.std.proofs.lemmas.Bool.{cases_lt, cases_eq, eq-eqb, ne_eqb, both_ways}
@@ -66,7 +67,8 @@ module _ (rel : ℕ → Bool) (ls : ℕ → ℕ) (p : Plan) (m : List ℤ) where
   counted_first size = record {
     few = λ l. let e = ap (λ t. t.mitigations) (none_told size l) in omega (arith, e);
     begun = λ l. sym (ap (λ t. t.mitigations) (none_told size l));
-    first = λ l. subst (IsLeast (Before 0 l)) (sym (ap (λ t. t.first) (none_told size l))) (record { least = λ y b. let c = b.1 in absurd (omega (arith, c)); one = inr (refl, λ y b. let c = b.1 in absurd (omega (arith, c))) });
+    first = λ l. subst (IsLeast (Before 0 l)) (sym (ap (λ t. t.first) (none_told size l))) (record { least = λ y b. let c = b.1 in
+        absurd (omega (arith, c)); one = inr (refl, λ y b. let c = b.1 in absurd (omega (arith, c))) });
   }
 
   before_some : (n l x : ℕ) → Before n l x → 0 < x
@@ -80,16 +82,19 @@ module _ (rel : ℕ → Bool) (ls : ℕ → ℕ) (p : Plan) (m : List ℤ) where
 
   -- a step that begins nothing of the level
   others : (n l : ℕ) → ((x : ℕ) (k : ℕ) → begins_after p m n ≡ Some (k, x) → at_level l k ≡ true → ⊥) → (x : ℕ) → Before (n + 1) l x → Before n l x
-  others n l never x b = ⊎_elim (λ (a : b.0 < n). (b.0, a, b.2, b.3, b.4)) (λ (e : b.0 ≡ n). absurd (never x b.2 (subst (λ z. begins_after p m z ≡ Some (b.2, x)) e b.3) b.4)) (earlier n b.0 b.1)
+  others n l never x b = ⊎_elim (λ (a : b.0 < n). (b.0, a, b.2, b.3, b.4))
+      (λ (e : b.0 ≡ n). absurd (never x b.2 (subst (λ z. begins_after p m z ≡ Some (b.2, x)) e b.3) b.4)) (earlier n b.0 b.1)
 
   quiet_next : (n : ℕ) (levels : List LevelRuns) → Counted n levels → begins_after p m n ≡ None → marks_of p m (n + 1) ≡ marks_of p m n → Counted (n + 1) levels
   quiet_next n levels h e same = record {
     few = λ l. let f = h.few l in omega (arith, f);
     begun = λ l. ap (count_by (at_level l)) same ∙ h.begun l;
-    first = λ l. least_same (Before n l) (Before (n + 1) l) (told_of levels l).first (later n l) (others n l (λ x k is y. let bad : None ≡ Some (k, x) = sym e ∙ is in absurd (cc))) (h.first l);
+    first = λ l. least_same (Before n l) (Before (n + 1) l) (told_of levels l).first (later n l) (others n l (λ x k is y. let bad : None ≡ Some (k, x) =
+        sym e ∙ is in absurd (cc))) (h.first l);
   }
 
-  module _ (n k x : ℕ) (levels : List LevelRuns) (h : Counted n levels) (is : begins_after p m n ≡ Some (k, x)) (marks : marks_of p m (n + 1) ≡ marks_of p m n ++ k ∷ []) (below : ls k < length levels) where
+  module _ (n k x : ℕ) (levels : List LevelRuns) (h : Counted n levels) (is : begins_after p m n ≡ Some (k, x)) (marks : marks_of p m (n + 1) ≡ marks_of p m n
+      ++ k ∷ []) (below : ls k < length levels) where
     abbrev new : List LevelRuns
     new = slice_set levels (ls k) (with_one (told_of levels (ls k)) x)
 
@@ -108,7 +113,8 @@ module _ (rel : ℕ → Bool) (ls : ℕ → ℕ) (p : Plan) (m : List ℤ) where
         (ap (λ z. z.0) t, ap (λ z. z.1) t)
 
     -- of another level, or not relevant
-    off : (l : ℕ) → at_level l k ≡ false → (t : LevelRuns) → t ≡ told_of levels l → (t.mitigations ≤ n + 1) × (count_by (at_level l) (marks_of p m (n + 1)) ≡ t.mitigations) × IsLeast (Before (n + 1) l) t.first
+    off : (l : ℕ) → at_level l k ≡ false → (t : LevelRuns) → t ≡ told_of levels l → (t.mitigations ≤ n + 1)
+        × (count_by (at_level l) (marks_of p m (n + 1)) ≡ t.mitigations) × IsLeast (Before (n + 1) l) t.first
     off l out t e =
         let f = h.few l in
         let c = ap (λ z. z.mitigations) e in
@@ -117,10 +123,12 @@ module _ (rel : ℕ → Bool) (ls : ℕ → ℕ) (p : Plan) (m : List ℤ) where
           omega (arith, f, c),
           (let r : count_by (at_level l) (marks_of p m (n + 1)) ≡ t.mitigations = omega (arith, o, z, c) in r),
           subst (IsLeast (Before (n + 1) l)) (sym (ap (λ z. z.first) e))
-              (least_same (Before n l) (Before (n + 1) l) (told_of levels l).first (later n l) (others n l (λ y j f in'. let s = only l y j f in both_ways (at_level l k) out (subst (λ z. at_level l z ≡ true) s.0 in'))) (h.first l)),
+              (least_same (Before n l) (Before (n + 1) l) (told_of levels l).first (later n l) (others n l (λ y j f in'. let s = only l y j f in
+                  both_ways (at_level l k) out (subst (λ z. at_level l z ≡ true) s.0 in'))) (h.first l)),
         )
 
-    on : (l : ℕ) → at_level l k ≡ true → (t : LevelRuns) → t ≡ with_one (told_of levels l) x → (t.mitigations ≤ n + 1) × (count_by (at_level l) (marks_of p m (n + 1)) ≡ t.mitigations) × IsLeast (Before (n + 1) l) t.first
+    on : (l : ℕ) → at_level l k ≡ true → (t : LevelRuns) → t ≡ with_one (told_of levels l) x → (t.mitigations ≤ n + 1)
+        × (count_by (at_level l) (marks_of p m (n + 1)) ≡ t.mitigations) × IsLeast (Before (n + 1) l) t.first
     on l in' t e =
         let f = h.few l in
         let c = ap (λ z. z.mitigations) e in
@@ -130,7 +138,8 @@ module _ (rel : ℕ → Bool) (ls : ℕ → ℕ) (p : Plan) (m : List ℤ) where
           (let r : count_by (at_level l) (marks_of p m (n + 1)) ≡ t.mitigations = omega (arith, o, z, c) in r),
           subst (IsLeast (Before (n + 1) l)) (sym (ap (λ z. z.first) e))
               (least_same (λ y. Before n l y ⊎ (y ≡ x)) (Before (n + 1) l) (lesser (told_of levels l).first x) to from
-              (least_both (Before n l) (λ y. y ≡ x) (before_some n l) (λ y e. subst (λ z. 0 < z) (sym e) some) (told_of levels l).first x (h.first l) (least_one x))),
+              (least_both (Before n l) (λ y. y ≡ x) (before_some n l) (λ y e. subst (λ z. 0 < z) (sym e) some) (told_of levels l).first
+                  x (h.first l) (least_one x))),
         )
       where
         some : 0 < x
@@ -141,7 +150,8 @@ module _ (rel : ℕ → Bool) (ls : ℕ → ℕ) (p : Plan) (m : List ℤ) where
         to y (inr e) = (n, omega arith, k, is ∙ ap (λ z. Some (k, z)) (sym e), in')
 
         from : (y : ℕ) → Before (n + 1) l y → Before n l y ⊎ (y ≡ x)
-        from y b = ⊎_elim (λ (a : b.0 < n). inl (b.0, a, b.2, b.3, b.4)) (λ (e : b.0 ≡ n). inr (only l y b.2 (subst (λ z. begins_after p m z ≡ Some (b.2, y)) e b.3)).1) (earlier n b.0 b.1)
+        from y b = ⊎_elim (λ (a : b.0 < n). inl (b.0, a, b.2, b.3, b.4))
+            (λ (e : b.0 ≡ n). inr (only l y b.2 (subst (λ z. begins_after p m z ≡ Some (b.2, y)) e b.3)).1) (earlier n b.0 b.1)
 
     abbrev Good : ℕ → LevelRuns → Type 0
     Good l t = (t.mitigations ≤ n + 1) × (count_by (at_level l) (marks_of p m (n + 1)) ≡ t.mitigations) × IsLeast (Before (n + 1) l) t.first
@@ -159,7 +169,8 @@ module _ (rel : ℕ → Bool) (ls : ℕ → ℕ) (p : Plan) (m : List ℤ) where
             same : (l : ℕ) → l ≡ ls k → Good l (told_of new l)
             same l q =
                 on l (ap (λ z. z && eqb (ls k) l) e ∙ eq-eqb (ls k) l (sym q)) (told_of new l)
-                (ap (told_of new) q ∙ get_or-set_same levels (ls k) (with_one (told_of levels (ls k)) x) none below ∙ ap (λ z. with_one (told_of levels z) x) (sym q))
+                (ap (told_of new) q ∙ get_or-set_same levels (ls k) (with_one (told_of levels (ls k)) x) none below
+                    ∙ ap (λ z. with_one (told_of levels z) x) (sym q))
 
             other : (l : ℕ) → (l ≡ ls k → ⊥) → Good l (told_of new l)
             other l q =
@@ -183,7 +194,8 @@ length_stored Silent m = refl
 length_stored Ended m = refl
 
 module _ (rel : ℕ → Bool) (ls : ℕ → ℕ) (s : Syntax) (m : List ℤ) where
-  pub going_first : (walker : Standing) (now : List ℤ) (levels : List LevelRuns) → IsValid s → source_start (plan_of s) m ≡ source_at walker [] → now ≡ m → length m ≡ variables s.declarations → levels ≡ replicate s.order.size none → Going rel ls s m 0 walker now levels
+  pub going_first : (walker : Standing) (now : List ℤ) (levels : List LevelRuns) → IsValid s → source_start (plan_of s) m ≡ source_at walker [] → now ≡ m
+      → length m ≡ variables s.declarations → levels ≡ replicate s.order.size none → Going rel ls s m 0 walker now levels
   going_first walker now levels valid e same long none_yet = record {
     stands = e;
     tells = subst (λ σ. Tells (estimates_of (plan_of s)) σ.todo) e (tells_first s valid);
@@ -198,11 +210,15 @@ module _ (rel : ℕ → Bool) (ls : ℕ → ℕ) (s : Syntax) (m : List ℤ) whe
       length-replicate (suc k) = let e = length-replicate k in omega (arith, e)
 
   -- of a program that is this one
-  pub going_begin : (r : Syntax) (walker : Standing) (now : List ℤ) (levels : List LevelRuns) → r ≡ s → IsValid r → source_start (plan_of r) m ≡ source_at walker [] → now ≡ m → length m ≡ variables s.declarations → levels ≡ replicate r.order.size none → Going rel ls s m 0 walker now levels
+  pub going_begin : (r : Syntax) (walker : Standing) (now : List ℤ) (levels : List LevelRuns) → r ≡ s → IsValid r
+      → source_start (plan_of r) m ≡ source_at walker [] → now ≡ m → length m ≡ variables s.declarations → levels ≡ replicate r.order.size none
+      → Going rel ls s m 0 walker now levels
   going_begin r walker now levels e valid begin same long none_yet =
-      going_first walker now levels (subst IsValid e valid) (subst (λ (z : Syntax). source_start (plan_of z) m ≡ source_at walker []) e begin) same long (none_yet ∙ ap (λ (z : Syntax). replicate z.order.size none) e)
+      going_first walker now levels (subst IsValid e valid) (subst (λ (z : Syntax). source_start (plan_of z) m ≡ source_at walker []) e begin) same long
+          (none_yet ∙ ap (λ (z : Syntax). replicate z.order.size none) e)
 
-  module _ (n : ℕ) (walker new : Standing) (walk : Walk) (now : List ℤ) (levels : List LevelRuns) (h : Going rel ls s m n walker now levels) (step : IsStep walker walk new) where
+  module _ (n : ℕ) (walker new : Standing) (walk : Walk) (now : List ℤ) (levels : List LevelRuns) (h : Going rel ls s m n walker now levels)
+      (step : IsStep walker walk new) where
     abbrev p : Plan
     p = plan_of s
 
@@ -227,18 +243,23 @@ module _ (rel : ℕ → Bool) (ls : ℕ → ℕ) (s : Syntax) (m : List ℤ) whe
     levels_after : List LevelRuns
     levels_after = noted rel ls (estimates_of p) walk walker.memory levels
 
-    counted_quiet : Quiet rel ls (estimates_of p) (todo_of walker.lists) walker.memory walk → Counted rel ls p m (n + 1) (noted rel ls (estimates_of p) walk walker.memory levels)
-    counted_quiet q = subst (Counted rel ls p m (n + 1)) (sym (q.same levels)) (quiet_next rel ls p m n levels h.counted (after_here None q.next) (marks_same q.marks))
+    counted_quiet : Quiet rel ls (estimates_of p) (todo_of walker.lists) walker.memory walk
+        → Counted rel ls p m (n + 1) (noted rel ls (estimates_of p) walk walker.memory levels)
+    counted_quiet q = subst (Counted rel ls p m (n + 1)) (sym (q.same levels))
+        (quiet_next rel ls p m n levels h.counted (after_here None q.next) (marks_same q.marks))
 
-    counted_begins : ((k : ℕ) → ls k < s.order.size) → Begins (estimates_of p) (todo_of walker.lists) walker.memory walk → Counted rel ls p m (n + 1) (noted rel ls (estimates_of p) walk walker.memory levels)
+    counted_begins : ((k : ℕ) → ls k < s.order.size) → Begins (estimates_of p) (todo_of walker.lists) walker.memory walk
+        → Counted rel ls p m (n + 1) (noted rel ls (estimates_of p) walk walker.memory levels)
     counted_begins below b =
         let x = prediction (value_of b.estimate walker.memory) 0 in
         let lt = below b.mark in
         let sz = h.size in
         let less : ls b.mark < length levels = omega (arith, lt, sz) in
-        let c = begins_next_counted rel ls p m n b.mark x levels h.counted (after_here (Some (b.mark, x)) b.next) (marks_more (b.mark ∷ []) (ap (λ w. started_in (told_by w)) b.walk_is)) less in
+        let c = begins_next_counted rel ls p m n b.mark x levels h.counted (after_here (Some (b.mark, x)) b.next)
+            (marks_more (b.mark ∷ []) (ap (λ w. started_in (told_by w)) b.walk_is)) less in
         subst (Counted rel ls p m (n + 1))
-        (sym (ap (λ w. noted rel ls (estimates_of p) w walker.memory levels) b.walk_is ∙ ap (λ o. cond (rel b.mark) (noted_at (ls b.mark) o walker.memory levels) levels) b.told)) c
+        (sym (ap (λ w. noted rel ls (estimates_of p) w walker.memory levels) b.walk_is
+            ∙ ap (λ o. cond (rel b.mark) (noted_at (ls b.mark) o walker.memory levels) levels) b.told)) c
 
     length_noted : (w : Walk) (es : List Expression) → length (noted rel ls es w walker.memory levels) ≡ length levels
     length_noted (DidAssign x k) es = refl
@@ -266,7 +287,8 @@ module _ (rel : ℕ → Bool) (ls : ℕ → ℕ) (s : Syntax) (m : List ℤ) whe
     }
 
     -- with what the code has noted
-    pub going_on : (table : List Expression) (now' : List ℤ) (levels' : List LevelRuns) → table ≡ estimates_of p → ((k : ℕ) → ls k < s.order.size) → now' ≡ stored walk now → levels' ≡ noted rel ls table walk now levels → Going rel ls s m (n + 1) new now' levels'
+    pub going_on : (table : List Expression) (now' : List ℤ) (levels' : List LevelRuns) → table ≡ estimates_of p → ((k : ℕ) → ls k < s.order.size)
+        → now' ≡ stored walk now → levels' ≡ noted rel ls table walk now levels → Going rel ls s m (n + 1) new now' levels'
     going_on table now' levels' e below a b =
         subst (λ z. Going rel ls s m (n + 1) new z levels') (sym a)
         (subst (Going rel ls s m (n + 1) new (stored walk now)) (sym (b ∙ ap (λ z. noted rel ls z walk now levels) e)) (going_next below))
@@ -288,12 +310,15 @@ module _ (q : LabelledProgram) (o : ℕ) (m : List ℤ) (n : ℕ) (ended : HasEn
   nothing_later i le =
       let stay = steps_stay n (i - n) (source_start (plan_of q.program) m) ended in
       let e : n + (i - n) ≡ i = omega (arith, le) in
-      ap (λ z. begins_after (plan_of q.program) m z) (sym e) ∙ ap (λ σ. begins_next σ.todo σ.memory) stay ∙ ap (λ z. begins_next z (source_steps n (source_start (plan_of q.program) m)).memory) ended
+      ap (λ z. begins_after (plan_of q.program) m z) (sym e) ∙ ap (λ σ. begins_next σ.todo σ.memory) stay
+          ∙ ap (λ z. begins_next z (source_steps n (source_start (plan_of q.program) m)).memory) ended
 
-  to : (l x : ℕ) → Before rel (levels_of q) (plan_of q.program) m n l x → PredictedIn (relevant_at (order_of q) (labels_of q) (levels_of q) o (plan_of q.program) l) (plan_of q.program) (m ∷ []) x
+  to : (l x : ℕ) → Before rel (levels_of q) (plan_of q.program) m n l x
+      → PredictedIn (relevant_at (order_of q) (labels_of q) (levels_of q) o (plan_of q.program) l) (plan_of q.program) (m ∷ []) x
   to l x b = inl (b.0, b.2, b.3, b.4)
 
-  from : (l x : ℕ) → PredictedIn (relevant_at (order_of q) (labels_of q) (levels_of q) o (plan_of q.program) l) (plan_of q.program) (m ∷ []) x → Before rel (levels_of q) (plan_of q.program) m n l x
+  from : (l x : ℕ) → PredictedIn (relevant_at (order_of q) (labels_of q) (levels_of q) o (plan_of q.program) l) (plan_of q.program) (m ∷ []) x
+      → Before rel (levels_of q) (plan_of q.program) m n l x
   from l x (inl b) =
       ⊎_elim
       (λ (lt : b.0 < n). (b.0, lt, b.1, b.2, b.3))
@@ -302,14 +327,18 @@ module _ (q : LabelledProgram) (o : ℕ) (m : List ℤ) (n : ℕ) (ended : HasEn
   from l x (inr b) = absurd b
 
   -- by a list that tells which mitigates are relevant
-  pub told_at_end : (levels : List LevelRuns) → length levels ≡ q.program.order.size → Counted rel (levels_of q) (plan_of q.program) m n levels → AreTold q o (m ∷ []) levels
+  pub told_at_end : (levels : List LevelRuns) → length levels ≡ q.program.order.size → Counted rel (levels_of q) (plan_of q.program) m n levels
+      → AreTold q o (m ∷ []) levels
   told_at_end levels size h = record {
     size = size;
     begun = (n, ended, h.begun);
-    first = λ l. least_same (Before rel (levels_of q) (plan_of q.program) m n l) (PredictedIn (relevant_at (order_of q) (labels_of q) (levels_of q) o (plan_of q.program) l) (plan_of q.program) (m ∷ [])) (told_of levels l).first (to l) (from l) (h.first l);
+    first = λ l. least_same (Before rel (levels_of q) (plan_of q.program) m n l)
+        (PredictedIn (relevant_at (order_of q) (labels_of q) (levels_of q) o (plan_of q.program) l) (plan_of q.program) (m ∷ []))
+        (told_of levels l).first (to l) (from l) (h.first l);
   }
 
-pub told_by_marks : (q : LabelledProgram) (o : ℕ) (m : List ℤ) (n : ℕ) (marks : List Bool) (levels : List LevelRuns) → HasEnded (plan_of q.program) m n → length levels ≡ q.program.order.size →
+pub told_by_marks : (q : LabelledProgram) (o : ℕ) (m : List ℤ) (n : ℕ) (marks : List Bool) (levels : List LevelRuns) → HasEnded (plan_of q.program) m n
+    → length levels ≡ q.program.order.size →
     Counted (λ k. slice_index_or marks k false) (levels_of q) (plan_of q.program) m n levels →
     marks ≡ relevances (order_of q) (labels_of q) (levels_of q) o (order_of q).bottom (plan_of q.program) → AreTold q o (m ∷ []) levels
 told_by_marks q o m n marks levels ended size h e =

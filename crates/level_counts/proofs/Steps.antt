@@ -48,7 +48,8 @@ module _ (rel : ℕ → Bool) (ls : ℕ → ℕ) (es : List Expression) (m : Lis
   starts Silent k e = absurd (cc)
   starts Ended k e = absurd (cc)
 
-  pub does : (p : Plan) (new : Standing) (walk : Walk) → Tells es p → source_act p m [] ≡ source_at new (told_by walk) → Quiet rel ls es p m walk ⊎ Begins es p m walk
+  pub does : (p : Plan) (new : Standing) (walk : Walk) → Tells es p → source_act p m [] ≡ source_at new (told_by walk)
+      → Quiet rel ls es p m walk ⊎ Begins es p m walk
   does Done new walk h s = inl (silent Done walk refl (ap (λ σ. σ.notes) s))
   does (Skip l r) new walk h s = inl (silent (Skip l r) walk refl (ap (λ σ. σ.notes) s))
   does (Assign l x e r) new walk h s = inl (assigns (Assign l x e r) walk x (value_of e m) refl (ap (λ σ. σ.notes) s))
@@ -82,7 +83,8 @@ pub memory_after : (p : Plan) (m : List ℤ) (new : Standing) (walk : Walk) → 
 memory_after Done m new walk s = sym (ap (λ σ. σ.memory) s) ∙ silent_memory m walk (ap (λ σ. σ.notes) s)
 memory_after (Skip l r) m new walk s = sym (ap (λ σ. σ.memory) s) ∙ silent_memory m walk (ap (λ σ. σ.notes) s)
 memory_after (Assign l x e r) m new walk s = sym (ap (λ σ. σ.memory) s) ∙ assigned_memory m walk x (value_of e m) (ap (λ σ. σ.notes) s)
-memory_after (Put l f n i e r) m new walk s = sym (ap (λ σ. σ.memory) s) ∙ assigned_memory m walk (element f n (value_of i m)) (value_of e m) (ap (λ σ. σ.notes) s)
+memory_after (Put l f n i e r) m new walk s =
+    sym (ap (λ σ. σ.memory) s) ∙ assigned_memory m walk (element f n (value_of i m)) (value_of e m) (ap (λ σ. σ.notes) s)
 memory_after (Sleep l e r) m new walk s = sym (ap (λ σ. σ.memory) s) ∙ silent_memory m walk (ap (λ σ. σ.notes) s)
 memory_after (If l e a b r) m new walk s = sym (ap (λ σ. σ.memory) s) ∙ silent_memory m walk (ap (λ σ. σ.notes) s)
 memory_after (While l e c r) m new walk s = sym (ap (λ σ. σ.memory) s) ∙ silent_memory m walk (ap (λ σ. σ.notes) s)

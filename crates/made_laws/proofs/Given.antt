@@ -37,7 +37,8 @@ declared p number n ps r = r.declarations
 made_spelled : (number n : ℕ) (words : List Told) (h : ToldAs words (program_words (suc n) number)) → Spells (program_tree number n h.positions) words
 made_spelled number n words h = (h.last, h.are ∙ program_spelled number n h.positions _)
 
-made_declares : (number n : ℕ) (words : List Told) (p : Syntax) → ToldAs words (program_words (suc n) number) → IsProgram words p → p.declarations ≡ declarations
+made_declares : (number n : ℕ) (words : List Told) (p : Syntax) → ToldAs words (program_words (suc n) number) → IsProgram words p
+    → p.declarations ≡ declarations
 made_declares number n words p h s =
     let P : ProgramTree → Type 0 = λ t. Resolves t p in
     declared p number n h.positions (subst P (one_tree words s.tree (program_tree number n h.positions) s.spells (made_spelled number n words h)) s.resolves)
@@ -56,7 +57,8 @@ has_starts words p s e =
     let g : starts_in p (Some document) ≡ Ok made_starts = starts_given p e in
     record { gives = (Some document, (starts_utf8, starts_document), sym g); valid = starts_for p (program_order words p s) document made_starts g }
 
-pub made_has_starts : (size number : ℕ) → 0 < size → HasWords (program_text size number) (program_words size number) → (p : Syntax) → IsMade size number p → HasMadeStarts p
+pub made_has_starts : (size number : ℕ) → 0 < size → HasWords (program_text size number) (program_words size number) → (p : Syntax)
+    → IsMade size number p → HasMadeStarts p
 made_has_starts zero number h w p m = absurd (omega (arith, h))
 made_has_starts (suc n) number h w p m =
     let words : List Told = told (program_text (suc n) number) m.0 in

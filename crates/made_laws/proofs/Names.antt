@@ -46,7 +46,8 @@ module _ (ps : ℕ → Pos) where
   below x n h = omega (arith, h)
 
   drawn_known : (s n : ℕ) → note_command (scope labels (ds ps)) (tree_of (unit_from s) ps n) None ≡ None
-  drawn_known s n = unit_known (kind_of (draw s 0)) (draw s 1 % 4) (draw s 2 % 4) (draw s 3 % 100) (below (draw s 1) 4 (omega arith)) (below (draw s 2) 4 (omega arith)) n
+  drawn_known s n = unit_known (kind_of (draw s 0)) (draw s 1 % 4) (draw s 2 % 4) (draw s 3 % 100) (below (draw s 1) 4 (omega arith))
+      (below (draw s 2) 4 (omega arith)) n
 
   units_known : (number n : ℕ) (m : More) → note_commands (scope labels (ds ps)) (units_tree number ps n m) None ≡ note_more (scope labels (ds ps)) m None
   units_known number zero m = ap (note_more (scope labels (ds ps)) m) (drawn_known (state_after number (4 * 0)) 40)

@@ -30,7 +30,8 @@ below : (x n : ℕ) → 0 < n → x % n < n
 below x n h = omega (arith, h)
 
 drawn_bytes : (s : ℕ) (q : List Chunk) → text (unit_part (unit_from s) q) ≡ unit_text (unit_from s) ++ text q
-drawn_bytes s q = unit_bytes (kind_of (draw s 0)) (draw s 1 % 4) (draw s 2 % 4) (draw s 3 % 100) (below (draw s 1) 4 (omega arith)) (below (draw s 2) 4 (omega arith)) q
+drawn_bytes s q = unit_bytes (kind_of (draw s 0)) (draw s 1 % 4) (draw s 2 % 4) (draw s 3 % 100) (below (draw s 1) 4 (omega arith))
+    (below (draw s 2) 4 (omega arith)) q
 
 separator_bytes : (n : ℕ) (q : List Chunk) → text (separator_part n q) ≡ separator n ++ text q
 separator_bytes zero q = refl

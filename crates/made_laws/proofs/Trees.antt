@@ -7,7 +7,11 @@ use Rattle.mit_syntax.specs.declared.token.Sign.TheVariants.{Semicolon}
 use Rattle.mit_parser.specs.Words.{Told, sign_at}
 use Rattle.mit_parser.specs.Limits.{CommandWithin, CommandsWithin, MoreWithin}
 use Rattle.mit_parser.specs.Operators.{modulo, plus, minus, greater}
-use Rattle.mit_parser.specs.Tree.{number_atom, name_atom, paren_atom, no_index, term_of, no_factor, and_factor, Sum as SumTree, sum_of, no_addend, and_addend, Whole, plain, compared, and_name, no_marks, CommandTree, assign_of, if_of, while_of, mitigate_of, Block, block_of, else_of, Commands, commands_of, More, no_more, and_more, no_header, label_of, scalar_of, DeclarationTree, declaration_of, Declarations, no_declarations, and_declaration, ProgramTree, front_command, front_commands, front_more, front_declarations, front_program}
+use Rattle.mit_parser.specs.Tree.{number_atom, name_atom, paren_atom, no_index, term_of, no_factor, and_factor, Sum as SumTree, sum_of, no_addend, and_addend}
+use Rattle.mit_parser.specs.Tree.{Whole, plain, compared, and_name, no_marks, CommandTree, assign_of, if_of, while_of, mitigate_of, Block, block_of, else_of}
+use Rattle.mit_parser.specs.Tree.{Commands, commands_of, More, no_more, and_more, no_header, label_of, scalar_of, DeclarationTree, declaration_of}
+use Rattle.mit_parser.specs.Tree.{Declarations, no_declarations, and_declaration, ProgramTree, front_command, front_commands, front_more, front_declarations}
+use Rattle.mit_parser.specs.Tree.{front_program}
 use Rattle.mit_gen.specs.declared.unit.Kind.{Kind}
 use Rattle.mit_gen.specs.declared.unit.Kind.TheVariants.{Sum, Masked, Countdown, Choice}
 use Rattle.mit_gen.specs.declared.unit.Unit.{Unit}
@@ -33,19 +37,22 @@ one_command p c q = block_of p (commands_of c no_more) q
 abbrev adds : List ℕ → List ℕ → ℕ → (ℕ → Pos) → ℕ → CommandTree
 adds x y c ps n =
     assign_of x (ps n) no_index (ps (suc n))
-    (plain (sum_of (term_of (name_atom y (ps (suc (suc n))) no_index) no_factor) (and_addend plus (ps (suc (suc (suc n)))) (term_of (number_atom (pos c) (ps (suc (suc (suc (suc n)))))) no_factor) no_addend)))
+    (plain (sum_of (term_of (name_atom y (ps (suc (suc n))) no_index) no_factor)
+        (and_addend plus (ps (suc (suc (suc n)))) (term_of (number_atom (pos c) (ps (suc (suc (suc (suc n)))))) no_factor) no_addend)))
     no_marks
 
 abbrev takes : List ℕ → List ℕ → ℕ → (ℕ → Pos) → ℕ → CommandTree
 takes x y c ps n =
     assign_of x (ps n) no_index (ps (suc n))
-    (plain (sum_of (term_of (name_atom y (ps (suc (suc n))) no_index) no_factor) (and_addend minus (ps (suc (suc (suc n)))) (term_of (number_atom (pos c) (ps (suc (suc (suc (suc n)))))) no_factor) no_addend)))
+    (plain (sum_of (term_of (name_atom y (ps (suc (suc n))) no_index) no_factor)
+        (and_addend minus (ps (suc (suc (suc n)))) (term_of (number_atom (pos c) (ps (suc (suc (suc (suc n)))))) no_factor) no_addend)))
     no_marks
 
 -- `x > n`
 abbrev above : List ℕ → ℕ → (ℕ → Pos) → ℕ → Whole
 above x c ps n =
-    compared (sum_of (term_of (name_atom x (ps n) no_index) no_factor) no_addend) greater (ps (suc n)) (sum_of (term_of (number_atom (pos c) (ps (suc (suc n)))) no_factor) no_addend)
+    compared (sum_of (term_of (name_atom x (ps n) no_index) no_factor) no_addend) greater (ps (suc n))
+        (sum_of (term_of (number_atom (pos c) (ps (suc (suc n)))) no_factor) no_addend)
 
 -- `x := (y + n) % 16`
 abbrev masks : List ℕ → List ℕ → ℕ → (ℕ → Pos) → ℕ → CommandTree
@@ -58,7 +65,8 @@ masks x y c ps n =
     (plain (sum_of (term_of (name_atom y (ps (suc (suc (suc n)))) no_index) no_factor)
     (and_addend plus (ps (suc (suc (suc (suc n))))) (term_of (number_atom (pos c) (ps (suc (suc (suc (suc (suc n))))))) no_factor) no_addend)))
     (ps (suc (suc (suc (suc (suc (suc n))))))))
-    (and_factor modulo (ps (suc (suc (suc (suc (suc (suc (suc n)))))))) (number_atom (pos 16) (ps (suc (suc (suc (suc (suc (suc (suc (suc n)))))))))) no_factor))
+    (and_factor modulo (ps (suc (suc (suc (suc (suc (suc (suc n)))))))) (number_atom (pos 16) (ps (suc (suc (suc (suc (suc (suc (suc (suc n))))))))))
+        no_factor))
     no_addend))
     no_marks
 
@@ -68,7 +76,8 @@ six n = suc (suc (suc (suc (suc (suc n)))))
 -- `mitigate (c, H)` and one command, which has so many words
 abbrev under : ℕ → (ℕ → Pos) → ℕ → CommandTree → ℕ → CommandTree
 under c ps n body last =
-    mitigate_of (ps n) (ps (suc n)) (plain (number_sum c (ps (suc (suc n))))) (and_name (ps (suc (suc (suc n)))) high_label (ps (suc (suc (suc (suc n)))))) (ps (suc (suc (suc (suc (suc n))))))
+    mitigate_of (ps n) (ps (suc n)) (plain (number_sum c (ps (suc (suc n))))) (and_name (ps (suc (suc (suc n)))) high_label (ps (suc (suc (suc (suc n))))))
+        (ps (suc (suc (suc (suc (suc n))))))
     no_marks (one_command (ps (six n)) body (ps last))
 
 abbrev pub unit_tree : Kind → ℕ → ℕ → ℕ → (ℕ → Pos) → ℕ → CommandTree
@@ -82,7 +91,8 @@ unit_tree Countdown a b c ps n =
 unit_tree Choice a b c ps n =
     if_of (ps n) (above (low_name a) c ps (suc n)) no_marks (ps (suc (suc (suc (suc n)))))
     (one_command (ps (suc (suc (suc (suc (suc n)))))) (takes (low_name b) (low_name a) c ps (six n)) (ps (suc (suc (suc (suc (suc (six n))))))))
-    (else_of (ps (six (six n))) (one_command (ps (suc (six (six n)))) (adds (low_name a) (low_name a) 1 ps (suc (suc (six (six n))))) (ps (suc (six (six (six n)))))))
+    (else_of (ps (six (six n))) (one_command (ps (suc (six (six n)))) (adds (low_name a) (low_name a) 1 ps (suc (suc (six (six n)))))
+        (ps (suc (six (six (six n)))))))
 
 -- the number of the word after a unit
 abbrev pub past_unit : Kind → ℕ → ℕ
@@ -99,15 +109,18 @@ unit_spelled Countdown a b c ps n q r = refl
 unit_spelled Choice a b c ps n q r = refl
 
 abbrev low_tree : ℕ → (ℕ → Pos) → ℕ → DeclarationTree
-low_tree a ps n = declaration_of (ps n) (low_name a) (ps (suc n)) (scalar_of (label_of (ps (suc (suc n))) low_label (ps (suc (suc (suc n)))))) (ps (suc (suc (suc (suc n)))))
+low_tree a ps n = declaration_of (ps n) (low_name a) (ps (suc n)) (scalar_of (label_of (ps (suc (suc n))) low_label (ps (suc (suc (suc n))))))
+    (ps (suc (suc (suc (suc n)))))
 
 abbrev high_tree : ℕ → (ℕ → Pos) → ℕ → DeclarationTree
-high_tree a ps n = declaration_of (ps n) (high_name a) (ps (suc n)) (scalar_of (label_of (ps (suc (suc n))) high_label (ps (suc (suc (suc n)))))) (ps (suc (suc (suc (suc n)))))
+high_tree a ps n = declaration_of (ps n) (high_name a) (ps (suc n)) (scalar_of (label_of (ps (suc (suc n))) high_label (ps (suc (suc (suc n))))))
+    (ps (suc (suc (suc (suc n)))))
 
 abbrev pub declarations_tree : (ℕ → Pos) → Declarations
 declarations_tree ps =
     and_declaration (low_tree 0 ps 0) (and_declaration (low_tree 1 ps 5) (and_declaration (low_tree 2 ps 10) (and_declaration (low_tree 3 ps 15)
-    (and_declaration (high_tree 0 ps 20) (and_declaration (high_tree 1 ps 25) (and_declaration (high_tree 2 ps 30) (and_declaration (high_tree 3 ps 35) no_declarations)))))))
+    (and_declaration (high_tree 0 ps 20)
+        (and_declaration (high_tree 1 ps 25) (and_declaration (high_tree 2 ps 30) (and_declaration (high_tree 3 ps 35) no_declarations)))))))
 
 declarations_spelled : (ps : ℕ → Pos) (q : List Chunk) (r : List Told)
     → front_declarations (declarations_tree ps) (onto (words_of q) ps 40 r) ≡ onto (words_of (declarations_part q)) ps 0 r
@@ -151,15 +164,19 @@ module _ (number : ℕ) (ps : ℕ → Pos) (r : List Told) where
 abbrev pub program_tree : ℕ → ℕ → (ℕ → Pos) → ProgramTree
 program_tree number n ps = record { header = no_header; declarations = declarations_tree ps; commands = units_tree number ps n no_more }
 
-pub program_spelled : (number n : ℕ) (ps : ℕ → Pos) (r : List Told) → onto (words_of (program_chunks (suc n) number)) ps 0 r ≡ front_program (program_tree number n ps) r
+pub program_spelled : (number n : ℕ) (ps : ℕ → Pos) (r : List Told)
+    → onto (words_of (program_chunks (suc n) number)) ps 0 r ≡ front_program (program_tree number n ps) r
 program_spelled number n ps r =
-    sym (ap (front_declarations (declarations_tree ps)) (units_spelled number ps r n (line ∷ []) no_more refl) ∙ declarations_spelled ps (units_part number (suc n) (line ∷ [])) r)
+    sym (ap (front_declarations (declarations_tree ps)) (units_spelled number ps r n (line ∷ []) no_more refl)
+        ∙ declarations_spelled ps (units_part number (suc n) (line ∷ [])) r)
 
 unit_within : (k : Kind) (a b c : ℕ) (ps : ℕ → Pos) (n : ℕ) → CommandWithin 0 (unit_tree k a b c ps n)
 unit_within Sum a b c ps n = (tt, (omega arith, omega arith))
 unit_within Masked a b c ps n = ((omega arith, omega arith), (omega arith, ((tt, (omega arith, omega arith)), tt)))
-unit_within Countdown a b c ps n = ((omega arith, omega arith), (omega arith, (((omega arith, omega arith), (omega arith, ((tt, (omega arith, omega arith)), tt))), tt)))
-unit_within Choice a b c ps n = ((omega arith, omega arith), (omega arith, ((tt, (omega arith, omega arith)), tt)), (omega arith, ((tt, (omega arith, omega arith)), tt)))
+unit_within Countdown a b c ps n =
+    ((omega arith, omega arith), (omega arith, (((omega arith, omega arith), (omega arith, ((tt, (omega arith, omega arith)), tt))), tt)))
+unit_within Choice a b c ps n =
+    ((omega arith, omega arith), (omega arith, ((tt, (omega arith, omega arith)), tt)), (omega arith, ((tt, (omega arith, omega arith)), tt)))
 
 pub units_within : (number : ℕ) (ps : ℕ → Pos) (n : ℕ) (m : More) → MoreWithin 0 m → CommandsWithin 0 (units_tree number ps n m)
 units_within number ps zero m h = let u : Unit = unit_at number 0 in (unit_within u.kind u.a u.b u.c ps 40, h)

@@ -27,4 +27,5 @@ words_spelled n number words h = record {
 pub made_spelled : (size number : ℕ) → 0 < size → HasWords (program_text size number) (program_words size number)
     → (tokens : List Token) → AreTokens (program_text size number) tokens → IsSpelled (told (program_text size number) tokens)
 made_spelled zero number h w tokens a = absurd (omega (arith, h))
-made_spelled (suc n) number h w tokens a = words_spelled n number (told (program_text (suc n) number) tokens) (told_as (program_text (suc n) number) (program_words (suc n) number) w tokens a)
+made_spelled (suc n) number h w tokens a =
+    words_spelled n number (told (program_text (suc n) number) tokens) (told_as (program_text (suc n) number) (program_words (suc n) number) w tokens a)

@@ -2,7 +2,8 @@
 use Rattle.std.specs.Prelude.{ℕ, ◌+◌, ◌*◌, List, [], ◌∷◌}
 use Rattle.std.proofs.Common.{zero, suc}
 use Rattle.mit_syntax.specs.declared.token.Keyword.TheVariants.{Var, If, Then, Else, While, Do, Mitigate}
-use Rattle.mit_syntax.specs.declared.token.Sign.TheVariants.{Assign, Colon, Semicolon, LeftRound, RightRound, LeftBrace, RightBrace, Plus, Minus, Percent, Greater}
+use Rattle.mit_syntax.specs.declared.token.Sign.TheVariants.{Assign, Colon, Semicolon, LeftRound, RightRound, LeftBrace, RightBrace, Plus, Minus, Percent}
+use Rattle.mit_syntax.specs.declared.token.Sign.TheVariants.{Greater}
 use Rattle.mit_syntax.specs.Chunks.{Word, Chunk, space, line}
 use Rattle.mit_syntax.specs.Layout.{Part, a_key, a_sign, a_number, a_name, a_comma, spaced, spaced_key}
 use Rattle.mit_gen.specs.declared.unit.Kind.{Kind}

@@ -1,5 +1,6 @@
 -- What a writer has taken where a text was handed to it, in whole or up to a fault.
-use Rattle.std.proofs.Common.{◌≡◌, ℕ, ◌≤◌, List, [], ◌++◌, length, take, Option, Some, None, refl, sym, ap, ◌∙◌, subst, append_assoc, append-nil, length-append, arith}
+use Rattle.std.proofs.Common.{◌≡◌, ℕ, ◌≤◌, List, [], ◌++◌, length, take, Option, Some, None, refl, sym, ap, ◌∙◌, subst, append_assoc, append-nil}
+use Rattle.std.proofs.Common.{length-append, arith}
 use Rattle.std.proofs.Math.Seq.{take-append_seam}
 use Rattle.std.proofs.lemmas.List.{append_cancel_left, length-take-le, take-take, take_all}
 use Rattle.std.specs.Io.KnownBytes.{Appends, Keeps, append_known}
@@ -27,7 +28,8 @@ prefix_prefix a c t k few p =
     (p.0, omega (arith, less, few), subst (Appends a c) (take-take p.0 k t less) p.2)
 
 -- the writer has taken what came before the text, and with a rest it makes the whole text
-pub cut : (old taken new : Option (List ℕ)) (rest t : List ℕ) → Grew old new → Keeps taken (append_known new rest) → Appends old taken t → AppendsPrefix old new t
+pub cut : (old taken new : Option (List ℕ)) (rest t : List ℕ) → Grew old new → Keeps taken (append_known new rest)
+    → Appends old taken t → AppendsPrefix old new t
 cut None taken new rest t g k p = (0, omega arith, tt)
 cut (Some x) None new rest t g k p = absurd p
 cut (Some x) (Some y) None rest t g k p = absurd k
@@ -38,7 +40,8 @@ cut (Some x) (Some y) (Some z) rest t g k p =
     let same : take (length xs) t ≡ xs = ap (take (length xs)) (sym is) ∙ take-append_seam xs rest in
     (length xs, few, g.1 ∙ ap (λ l. x ++ l) (sym same))
 
-pub cut_prefix : (old taken new : Option (List ℕ)) (rest t : List ℕ) → Grew old new → Keeps taken (append_known new rest) → AppendsPrefix old taken t → AppendsPrefix old new t
+pub cut_prefix : (old taken new : Option (List ℕ)) (rest t : List ℕ) → Grew old new → Keeps taken (append_known new rest)
+    → AppendsPrefix old taken t → AppendsPrefix old new t
 cut_prefix old taken new rest t g k p = prefix_prefix old new t p.0 p.1 (cut old taken new rest (take p.0 t) g k p.2)
 
 -- ---- how a call ends

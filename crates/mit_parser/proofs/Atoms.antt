@@ -2,7 +2,8 @@
 use Rattle.std.proofs.Common.{◌≡◌, ◌+◌, ◌-◌, ◌≤◌, refl, ap, ◌∙◌, sym, ℕ, ℤ, Bool, true, false, cond, List, [], ◌∷◌, Option, Some, None, arith}
 use Rattle.std.specs.Option.{option_map}
 use Rattle.text_base.specs.declared.pos.Pos.{Pos}
-use Rattle.mit_syntax.specs.declared.token.Sign.TheVariants.{LeftRound, RightRound, LeftSquare, RightSquare, Star, Slash, Percent, Plus, Minus, Equal, NotEqual, LessEqual, Less, GreaterEqual, Greater}
+use Rattle.mit_syntax.specs.declared.token.Sign.TheVariants.{LeftRound, RightRound, LeftSquare, RightSquare, Star, Slash, Percent, Plus, Minus, Equal}
+use Rattle.mit_syntax.specs.declared.token.Sign.TheVariants.{NotEqual, LessEqual, Less, GreaterEqual, Greater}
 use Rattle.mit_syntax.specs.declared.ast.Op.{Op}
 use Rattle.mit_syntax.specs.Expression.{Expression, Number as NumberOf, Variable as VariableOf, Binary as BinaryOf, Element as ElementOf}
 use Rattle.mit_syntax.specs.Declarations.{find_scalar, find_array}
@@ -10,14 +11,18 @@ use Rattle.mit_syntax.specs.Chunks.{key, sign, number, name}
 use Rattle.mit_parser.specs.declared.counts.Counts.{Counts}
 use Rattle.mit_parser.specs.declared.fault.ParseFault.{ParseFault}
 use Rattle.mit_parser.specs.Words.{Symbol, word, the_end, head_symbol, first_pos, is, sign_at, kind_of, symbol_of}
-use Rattle.mit_parser.specs.Operators.{Factor, Addend, Comparison, times, over, modulo, plus, minus, equal, not_equal, less, less_equal, greater, greater_equal, factor_of, addend_of, comparison_of, factor_sign, addend_sign, comparison_sign, factor_op, addend_op, comparison_op}
+use Rattle.mit_parser.specs.Operators.{Factor, Addend, Comparison, times, over, modulo, plus, minus, equal, not_equal, less, less_equal, greater}
+use Rattle.mit_parser.specs.Operators.{greater_equal, factor_of, addend_of, comparison_of, factor_sign, addend_sign, comparison_sign, factor_op, addend_op}
+use Rattle.mit_parser.specs.Operators.{comparison_op}
 use Rattle.mit_parser.specs.Counting.{count, past_left, past_right}
 use Rattle.mit_parser.specs.State.{State, with_fault}
 use Rattle.mit_parser.specs.Scope.{Scope, or_else, kept, scalar_fault, array_fault}
-use Rattle.mit_parser.specs.Tree.{Index, number_atom, name_atom, paren_atom, no_index, index_of, term_of, no_factor, and_factor, sum_of, no_addend, and_addend, plain, compared, front_atom, front_term, front_factors, front_sum, front_addends, front_whole}
+use Rattle.mit_parser.specs.Tree.{Index, number_atom, name_atom, paren_atom, no_index, index_of, term_of, no_factor, and_factor, sum_of, no_addend}
+use Rattle.mit_parser.specs.Tree.{and_addend, plain, compared, front_atom, front_term, front_factors, front_sum, front_addends, front_whole}
 use Rattle.mit_parser.specs.Meaning.{named_value, atom_value, index_value, term_value, factors_value, sum_value, addends_value}
 use Rattle.mit_parser.specs.Faults.{use_fault, note_atom, note_index, note_term, note_factors, note_sum, note_addends, note_whole}
-use Rattle.mit_parser.specs.Machine.{Part, want, an_atom, an_index, a_term, factors, a_sum, addends, an_expr, comparison, step, atom_step, after_index, verdict, choice}
+use Rattle.mit_parser.specs.Machine.{Part, want, an_atom, an_index, a_term, factors, a_sum, addends, an_expr, comparison, step, atom_step, after_index}
+use Rattle.mit_parser.specs.Machine.{verdict, choice}
 use Rattle.mit_parser.specs.Reads.{Refused, Passed, Over, Took, IsAtom, IsIndex, IsTerm, IsSum, IsWhole, TermSoFar, SumSoFar}
 use Rattle.mit_parser.proofs.Rules.{passed, passes, within, left_out, told_is, rule_term, rule_sum, rule_expr}
 
@@ -26,10 +31,12 @@ pub counts_are : (old new : State) (s : Symbol) → head_symbol old.words ≡ s 
 counts_are old new s e p = p.counts ∙ ap (count old.counts) (sym (ap head_symbol p.was) ∙ e)
 
 -- the words before and after it
-pub words_are : (old new : State) (s : Symbol) → head_symbol old.words ≡ s → (p : Passed old new) → old.words ≡ record { symbol = s; pos = p.first.pos } ∷ new.words
+pub words_are : (old new : State) (s : Symbol) → head_symbol old.words ≡ s → (p : Passed old new)
+    → old.words ≡ record { symbol = s; pos = p.first.pos } ∷ new.words
 words_are old new s e p = p.was ∙ ap (λ b. b ∷ new.words) (told_is p.first s (sym (ap head_symbol p.was) ∙ e))
 
-pub same_depth : (old new : State) (s : Symbol) → head_symbol old.words ≡ s → Passed old new → (count old.counts s).depth ≡ old.counts.depth → new.counts.depth ≡ old.counts.depth
+pub same_depth : (old new : State) (s : Symbol) → head_symbol old.words ≡ s → Passed old new → (count old.counts s).depth ≡ old.counts.depth
+    → new.counts.depth ≡ old.counts.depth
 same_depth old new s e p h = ap (λ c. c.depth) (counts_are old new s e p) ∙ h
 
 pub pos_is : (old new : State) (p : Pos) → p ≡ first_pos old.words → (q : Passed old new) → p ≡ q.first.pos
@@ -54,10 +61,12 @@ pub after_name : (old mid : State) (w : List ℕ) → head_symbol old.words ≡ 
     → verdict (an_atom ∷ s) old.counts old.words ≡ verdict (an_index ∷ s) mid.counts mid.words
 after_name old mid w e p s = passed (an_atom ∷ s) (an_index ∷ s) p (ap (λ w. atom_step w s) e)
 
-pub no_index_here : (now : State) (s : List Part) → is (word (sign LeftSquare)) (head_symbol now.words) ≡ false → verdict (an_index ∷ s) now.counts now.words ≡ verdict s now.counts now.words
+pub no_index_here : (now : State) (s : List Part) → is (word (sign LeftSquare)) (head_symbol now.words) ≡ false
+    → verdict (an_index ∷ s) now.counts now.words ≡ verdict s now.counts now.words
 no_index_here now s e = left_out (an_index ∷ s) s now.counts now.words (ap (λ b. cond b (Some (after_index s)) (step s (head_symbol now.words))) e)
 
-pub atom_scalar : (sc : Scope) (old mid : State) (w : List ℕ) (p : Pos) (x : ℕ) → head_symbol old.words ≡ word (name w) → p ≡ first_pos old.words → Passed old mid
+pub atom_scalar : (sc : Scope) (old mid : State) (w : List ℕ) (p : Pos) (x : ℕ) → head_symbol old.words ≡ word (name w)
+    → p ≡ first_pos old.words → Passed old mid
     → is (word (sign LeftSquare)) (head_symbol mid.words) ≡ false → x ≡ or_else 0 (find_scalar sc.declarations w)
     → IsAtom sc old (with_fault mid (kept mid.fault (scalar_fault sc.declarations w p))) (VariableOf x)
 atom_scalar sc old mid w p x e q h n v =
@@ -73,11 +82,13 @@ atom_scalar sc old mid w p x e q h n v =
       rises = omega (arith, d);
     }
 
-pub use_indexed : (sc : Scope) (w : List ℕ) (p : Pos) (i : Index) (x : Expression) → index_value sc i ≡ Some x → use_fault sc w p i ≡ array_fault sc.declarations w p
+pub use_indexed : (sc : Scope) (w : List ℕ) (p : Pos) (i : Index) (x : Expression) → index_value sc i ≡ Some x
+    → use_fault sc w p i ≡ array_fault sc.declarations w p
 use_indexed sc w p no_index x e = cc
 use_indexed sc w p (index_of q t r) x e = refl
 
-pub atom_element : (sc : Scope) (old mid new : State) (w : List ℕ) (p : Pos) (r : ℕ × ℕ) (b : Expression) → head_symbol old.words ≡ word (name w) → p ≡ first_pos old.words
+pub atom_element : (sc : Scope) (old mid new : State) (w : List ℕ) (p : Pos) (r : ℕ × ℕ) (b : Expression)
+    → head_symbol old.words ≡ word (name w) → p ≡ first_pos old.words
     → Passed old mid → IsIndex sc (with_fault mid (kept mid.fault (array_fault sc.declarations w p))) new b → r ≡ or_else (0, 0) (find_array sc.declarations w)
     → IsAtom sc old new (ElementOf r.0 r.1 b)
 atom_element sc old mid new w p r b e q h x v =
@@ -103,7 +114,8 @@ opened old mid e p s = passed (an_atom ∷ s) (an_expr ∷ want (word (sign Righ
 pub opened_depth : (old mid : State) → head_symbol old.words ≡ word (sign LeftRound) → Passed old mid → mid.counts.depth ≡ old.counts.depth + 1
 opened_depth old mid e p = ap (λ c. c.depth) (counts_are old mid (word (sign LeftRound)) e p)
 
-pub atom_paren : (sc : Scope) (old mid end new : State) (e : Expression) → head_symbol old.words ≡ word (sign LeftRound) → Passed old mid → IsWhole sc mid end e → Took (word (sign RightRound)) end new
+pub atom_paren : (sc : Scope) (old mid end new : State) (e : Expression) → head_symbol old.words ≡ word (sign LeftRound) → Passed old mid → IsWhole sc mid end e
+    → Took (word (sign RightRound)) end new
     → IsAtom sc old new e
 atom_paren sc old mid end new e h p x q =
     let d : new.counts.depth ≡ end.counts.depth - 1 = ap (λ c. c.depth) q.counts in
@@ -126,8 +138,10 @@ pub right_square : (c : Counts) → c.depth ≤ (count c (word (sign RightSquare
 right_square c = by c.marks refl
   where
     by : (b : Bool) → c.marks ≡ b → c.depth ≤ (count c (word (sign RightSquare))).depth + 1
-    by true e = let h = ap (λ b. (cond {A = Counts} b (record { depth = c.depth; operators = 0; at = false; marks = false }) (past_right c)).depth) e in omega (arith, h)
-    by false e = let h = ap (λ b. (cond {A = Counts} b (record { depth = c.depth; operators = 0; at = false; marks = false }) (past_right c)).depth) e in omega (arith, h)
+    by true e = let h = ap (λ b. (cond {A = Counts} b (record { depth = c.depth; operators = 0; at = false; marks = false }) (past_right c)).depth) e in
+        omega (arith, h)
+    by false e = let h = ap (λ b. (cond {A = Counts} b (record { depth = c.depth; operators = 0; at = false; marks = false }) (past_right c)).depth) e in
+        omega (arith, h)
 
 pub square_depth : (old mid : State) → old.counts.at ≡ false → Took (word (sign LeftSquare)) old mid → mid.counts.depth ≡ old.counts.depth + 1
 square_depth old mid h t = ap (λ c. c.depth) t.counts ∙ left_square old.counts h
@@ -251,30 +265,35 @@ comparison_goes_on (word w) op e = refl
 comparison_goes_on the_end op e = cc
 
 -- it changes no depth
-pub past_factor : (now mid : State) (op : Op) → Some op ≡ option_map factor_op (factor_of (head_symbol now.words)) → Passed now mid → mid.counts.depth ≡ now.counts.depth
+pub past_factor : (now mid : State) (op : Op) → Some op ≡ option_map factor_op (factor_of (head_symbol now.words)) → Passed now mid
+    → mid.counts.depth ≡ now.counts.depth
 past_factor now mid op e p =
     let o = some_of factor_op (factor_of (head_symbol now.words)) op e in
     same_depth now mid (word (sign (factor_sign o.0))) (factor_is (head_symbol now.words) o.0 o.1) p (factor_depth now.counts o.0)
 
-pub past_addend : (now mid : State) (op : Op) → Some op ≡ option_map addend_op (addend_of (head_symbol now.words)) → Passed now mid → mid.counts.depth ≡ now.counts.depth
+pub past_addend : (now mid : State) (op : Op) → Some op ≡ option_map addend_op (addend_of (head_symbol now.words)) → Passed now mid
+    → mid.counts.depth ≡ now.counts.depth
 past_addend now mid op e p =
     let o = some_of addend_op (addend_of (head_symbol now.words)) op e in
     same_depth now mid (word (sign (addend_sign o.0))) (addend_is (head_symbol now.words) o.0 o.1) p (addend_depth now.counts o.0)
 
-pub past_comparison : (now mid : State) (op : Op) → Some op ≡ option_map comparison_op (comparison_of (head_symbol now.words)) → Passed now mid → mid.counts.depth ≡ now.counts.depth
+pub past_comparison : (now mid : State) (op : Op) → Some op ≡ option_map comparison_op (comparison_of (head_symbol now.words)) → Passed now mid
+    → mid.counts.depth ≡ now.counts.depth
 past_comparison now mid op e p =
     let o = some_of comparison_op (comparison_of (head_symbol now.words)) op e in
     same_depth now mid (word (sign (comparison_sign o.0))) (comparison_is (head_symbol now.words) o.0 o.1) p (comparison_depth now.counts o.0)
 
 -- an operator that passes a limit
-pub factor_passes : (sc : Scope) (old now new : State) (left : Expression) (op : Op) (f : ParseFault) → TermSoFar sc old now left → Some op ≡ option_map factor_op (factor_of (head_symbol now.words))
+pub factor_passes : (sc : Scope) (old now new : State) (left : Expression) (op : Op) (f : ParseFault) → TermSoFar sc old now left
+    → Some op ≡ option_map factor_op (factor_of (head_symbol now.words))
     → Over now new f → Refused a_term old new f
 factor_passes sc old now new left op f t h v =
     let o = some_of factor_op (factor_of (head_symbol now.words)) op h in
     within old now new a_term factors (λ s. s) f t.goes
     (passes now new factors f (λ s. (an_atom ∷ factors ∷ s, ap (λ x. choice x (step s (head_symbol now.words)) (λ _. Some (an_atom ∷ factors ∷ s))) o.1)) v)
 
-pub addend_passes : (sc : Scope) (old now new : State) (left : Expression) (op : Op) (f : ParseFault) → SumSoFar sc old now left → Some op ≡ option_map addend_op (addend_of (head_symbol now.words))
+pub addend_passes : (sc : Scope) (old now new : State) (left : Expression) (op : Op) (f : ParseFault) → SumSoFar sc old now left
+    → Some op ≡ option_map addend_op (addend_of (head_symbol now.words))
     → Over now new f → Refused a_sum old new f
 addend_passes sc old now new left op f t h v =
     let o = some_of addend_op (addend_of (head_symbol now.words)) op h in
@@ -325,7 +344,8 @@ term_next sc old now mid new op l r t e p x =
     }
 
 -- no more factors
-pub term_last : (sc : Scope) (old now : State) (e : Expression) → TermSoFar sc old now e → None ≡ option_map factor_op (factor_of (head_symbol now.words)) → IsTerm sc old now e
+pub term_last : (sc : Scope) (old now : State) (e : Expression) → TermSoFar sc old now e → None ≡ option_map factor_op (factor_of (head_symbol now.words))
+    → IsTerm sc old now e
 term_last sc old now e t h =
     let b = t.builds no_factor now.words refl in
     record {
@@ -384,7 +404,8 @@ sum_next sc old now mid new op l r t e p x =
     }
 
 -- no more addends
-pub sum_last : (sc : Scope) (old now : State) (e : Expression) → SumSoFar sc old now e → None ≡ option_map addend_op (addend_of (head_symbol now.words)) → IsSum sc old now e
+pub sum_last : (sc : Scope) (old now : State) (e : Expression) → SumSoFar sc old now e → None ≡ option_map addend_op (addend_of (head_symbol now.words))
+    → IsSum sc old now e
 sum_last sc old now e t h =
     let b = t.builds no_addend now.words refl in
     record {
@@ -400,7 +421,8 @@ sum_last sc old now e t h =
     }
 
 -- an expression with no comparison
-pub expr_plain : (sc : Scope) (old new : State) (e : Expression) → IsSum sc old new e → None ≡ option_map comparison_op (comparison_of (head_symbol new.words)) → IsWhole sc old new e
+pub expr_plain : (sc : Scope) (old new : State) (e : Expression) → IsSum sc old new e → None ≡ option_map comparison_op (comparison_of (head_symbol new.words))
+    → IsWhole sc old new e
 expr_plain sc old new e x h =
     record {
       tree = plain x.tree;
@@ -415,7 +437,8 @@ expr_plain sc old new e x h =
     }
 
 -- the machine after a sum and a comparison's sign
-pub at_comparison : (sc : Scope) (old now mid : State) (e : Expression) (op : Op) → IsSum sc old now e → Some op ≡ option_map comparison_op (comparison_of (head_symbol now.words))
+pub at_comparison : (sc : Scope) (old now mid : State) (e : Expression) (op : Op) → IsSum sc old now e
+    → Some op ≡ option_map comparison_op (comparison_of (head_symbol now.words))
     → Passed now mid → (s : List Part) → verdict (an_expr ∷ s) old.counts old.words ≡ verdict (a_sum ∷ s) mid.counts mid.words
 at_comparison sc old now mid e op x h p s =
     let o = some_of comparison_op (comparison_of (head_symbol now.words)) op h in
@@ -423,7 +446,8 @@ at_comparison sc old now mid e op x h p s =
     ∙ passed (comparison ∷ s) (a_sum ∷ s) p (ap (λ x. choice x (step s (head_symbol now.words)) (λ _. Some (a_sum ∷ s))) o.1)
 
 -- a comparison's sign that passes a limit
-pub comparison_passes : (sc : Scope) (old now new : State) (e : Expression) (op : Op) (f : ParseFault) → IsSum sc old now e → Some op ≡ option_map comparison_op (comparison_of (head_symbol now.words))
+pub comparison_passes : (sc : Scope) (old now new : State) (e : Expression) (op : Op) (f : ParseFault) → IsSum sc old now e
+    → Some op ≡ option_map comparison_op (comparison_of (head_symbol now.words))
     → Over now new f → Refused an_expr old new f
 comparison_passes sc old now new e op f x h v =
     let o = some_of comparison_op (comparison_of (head_symbol now.words)) op h in

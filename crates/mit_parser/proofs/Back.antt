@@ -3,12 +3,23 @@ use Rattle.std.proofs.Common.{◌≡◌, refl, ap, ◌∙◌, sym, subst, ℕ, �
 use Rattle.std.specs.Prelude.{pos}
 use Rattle.text_base.specs.declared.pos.Pos.{Pos}
 use Rattle.mit_syntax.specs.declared.token.Keyword.TheVariants.{Labels, Order, Var, Skip, If, Then, Else, While, Do, Mitigate, Sleep}
-use Rattle.mit_syntax.specs.declared.token.Sign.TheVariants.{Assign, Colon, Semicolon, Comma, LeftRound, RightRound, LeftBrace, LeftSquare, RightSquare, At, Less}
+use Rattle.mit_syntax.specs.declared.token.Sign.TheVariants.{Assign, Colon, Semicolon, Comma, LeftRound, RightRound, LeftBrace, LeftSquare, RightSquare, At}
+use Rattle.mit_syntax.specs.declared.token.Sign.TheVariants.{Less}
 use Rattle.mit_syntax.specs.Chunks.{key, sign, number, name}
 use Rattle.mit_parser.specs.Words.{Symbol, word, the_end, Told, is, sign_at, key_at, name_at}
 use Rattle.mit_parser.specs.Operators.{factor_of, addend_of, comparison_of, Factor, Addend, Comparison, factor_sign, addend_sign, comparison_sign}
-use Rattle.mit_parser.specs.Tree.{Atom, Term, Sum, Whole, number_atom, name_atom, paren_atom, no_index, index_of, term_of, no_factor, and_factor, sum_of, no_addend, and_addend, plain, compared, front_atom, front_index, front_term, front_factors, front_sum, front_addends, front_whole, no_name, and_name, no_marks, marks_of, skip_of, assign_of, sleep_of, if_of, while_of, mitigate_of, block_of, no_else, else_of, Commands, commands_of, no_more, and_more, front_and_name, front_marks, front_command, front_block, front_else, front_commands, front_more, no_more_names, and_more_names, PairTree, pair_of, no_more_pairs, and_pair, no_ordering, ordering_of, no_header, header_of, no_label, label_of, scalar_of, array_of, declaration_of, no_declarations, and_declaration, front_more_names, front_names, front_pair, front_more_pairs, front_pairs, front_ordering, front_header, front_label, front_shape, front_declaration, front_declarations}
-use Rattle.mit_parser.specs.Machine.{Part, want, an_atom, an_index, a_term, factors, a_sum, addends, an_expr, comparison, a_name, a_number, marks, second, a_command, a_block, commands, more, otherwise, names, more_names, a_pair, pairs, more_pairs, ordering, header, a_label, a_shape, a_declaration, declarations, step, atom_step, name_step, number_step, command_step, choice, after_index, after_at, after_brace, after_order, after_labels, after_square, after_var}
+use Rattle.mit_parser.specs.Tree.{Atom, Term, Sum, Whole, number_atom, name_atom, paren_atom, no_index, index_of, term_of, no_factor, and_factor, sum_of}
+use Rattle.mit_parser.specs.Tree.{no_addend, and_addend, plain, compared, front_atom, front_index, front_term, front_factors, front_sum, front_addends}
+use Rattle.mit_parser.specs.Tree.{front_whole, no_name, and_name, no_marks, marks_of, skip_of, assign_of, sleep_of, if_of, while_of, mitigate_of, block_of}
+use Rattle.mit_parser.specs.Tree.{no_else, else_of, Commands, commands_of, no_more, and_more, front_and_name, front_marks, front_command, front_block}
+use Rattle.mit_parser.specs.Tree.{front_else, front_commands, front_more, no_more_names, and_more_names, PairTree, pair_of, no_more_pairs, and_pair}
+use Rattle.mit_parser.specs.Tree.{no_ordering, ordering_of, no_header, header_of, no_label, label_of, scalar_of, array_of, declaration_of, no_declarations}
+use Rattle.mit_parser.specs.Tree.{and_declaration, front_more_names, front_names, front_pair, front_more_pairs, front_pairs, front_ordering, front_header}
+use Rattle.mit_parser.specs.Tree.{front_label, front_shape, front_declaration, front_declarations}
+use Rattle.mit_parser.specs.Machine.{Part, want, an_atom, an_index, a_term, factors, a_sum, addends, an_expr, comparison, a_name, a_number, marks, second}
+use Rattle.mit_parser.specs.Machine.{a_command, a_block, commands, more, otherwise, names, more_names, a_pair, pairs, more_pairs, ordering, header, a_label}
+use Rattle.mit_parser.specs.Machine.{a_shape, a_declaration, declarations, step, atom_step, name_step, number_step, command_step, choice, after_index}
+use Rattle.mit_parser.specs.Machine.{after_at, after_brace, after_order, after_labels, after_square, after_var}
 use Rattle.mit_parser.specs.Reads.{symbol_at}
 use Rattle.mit_parser.specs.Headers.{front_name}
 use Rattle.mit_parser.proofs.Rules.{symbol_is, told_is}
@@ -82,7 +93,8 @@ module _ (s t : List Part) (w : List Told) where
       (name_atom x b.pos k.0, k.1, told_before b (word (name x)) w q ∙ ap (λ l. name_at x b.pos ∷ l) k.2, k.3)
   at_atom b (word (sign LeftRound)) q e h =
       let k = same_left e h in
-      (paren_atom b.pos k.0 k.3.0, k.3.1, told_before b (word (sign LeftRound)) w q ∙ ap (λ l. sign_at LeftRound b.pos ∷ l) (k.2 ∙ ap (front_whole k.0) k.3.2), k.3.3)
+      (paren_atom b.pos k.0 k.3.0, k.3.1, told_before b (word (sign LeftRound)) w q ∙ ap (λ l. sign_at LeftRound b.pos ∷ l) (k.2 ∙ ap (front_whole k.0) k.3.2),
+          k.3.3)
   at_atom b (word (sign _)) q e h = cc
   at_atom b (word (key k)) q e h = cc
   at_atom b the_end q e h = cc
@@ -115,7 +127,8 @@ module _ (s t : List Part) (w : List Told) where
         if_of b.pos k.0 m.0 u.0 x.0 o.0,
         o.1,
         told_before b (word (key If)) w q
-            ∙ ap (λ l. key_at If b.pos ∷ l) (k.2 ∙ ap (front_whole k.0) (m.2 ∙ ap (front_marks m.0) (u.2 ∙ ap (λ l. key_at Then u.0 ∷ l) (x.2 ∙ ap (front_block x.0) o.2)))),
+            ∙ ap (λ l. key_at If b.pos ∷ l)
+                (k.2 ∙ ap (front_whole k.0) (m.2 ∙ ap (front_marks m.0) (u.2 ∙ ap (λ l. key_at Then u.0 ∷ l) (x.2 ∙ ap (front_block x.0) o.2)))),
         o.3,
       )
   at_command b (word (key While)) q e h =
@@ -173,7 +186,8 @@ module _ (s t : List Part) (w : List Told) where
       let k = same_left e h in (
         index_of b.pos k.0 k.3.0,
         k.3.1,
-        told_before b (word (sign LeftSquare)) w (symbol_is (word (sign LeftSquare)) b.symbol q) ∙ ap (λ l. sign_at LeftSquare b.pos ∷ l) (k.2 ∙ ap (front_whole k.0) k.3.2),
+        told_before b (word (sign LeftSquare)) w (symbol_is (word (sign LeftSquare)) b.symbol q)
+            ∙ ap (λ l. sign_at LeftSquare b.pos ∷ l) (k.2 ∙ ap (front_whole k.0) k.3.2),
         k.3.3,
       )
 
@@ -224,7 +238,8 @@ module _ (s t : List Part) (w : List Told) where
         marks_of b.pos k.0 n.0.0 n.0.1 x.0 v.0,
         v.1,
         told_before b (word (sign At)) w (symbol_is (word (sign At)) b.symbol q)
-            ∙ ap (λ l. sign_at At b.pos ∷ l) (k.2 ∙ ap (λ l. sign_at LeftSquare k.0 ∷ l) (n.2 ∙ ap (λ l. name_at n.0.0 n.0.1 ∷ l) (x.2 ∙ ap (front_and_name x.0) v.2))),
+            ∙ ap (λ l. sign_at At b.pos ∷ l)
+                (k.2 ∙ ap (λ l. sign_at LeftSquare k.0 ∷ l) (n.2 ∙ ap (λ l. name_at n.0.0 n.0.1 ∷ l) (x.2 ∙ ap (front_and_name x.0) v.2))),
         v.3,
       )
 
@@ -233,7 +248,8 @@ module _ (s t : List Part) (w : List Told) where
   at_second b false q e h ih = (no_name, b ∷ w, refl, ih e)
   at_second b true q e h ih =
       let k = same_left e h in
-      (and_name b.pos k.0.0 k.0.1, k.1, told_before b (word (sign Comma)) w (symbol_is (word (sign Comma)) b.symbol q) ∙ ap (λ l. sign_at Comma b.pos ∷ l) k.2, k.3)
+      (and_name b.pos k.0.0 k.0.1, k.1, told_before b (word (sign Comma)) w (symbol_is (word (sign Comma)) b.symbol q) ∙ ap (λ l. sign_at Comma b.pos ∷ l) k.2,
+          k.3)
 
   at_block : (b : Told) (o : Bool) → is (word (sign LeftBrace)) b.symbol ≡ o → cond o (Some (after_brace s)) None ≡ Some t
       → Completes t w → With front_block (Completes s) (b ∷ w)
@@ -321,7 +337,8 @@ module _ (s t : List Part) (w : List Told) where
   at_label b false q e h ih = (no_label, b ∷ w, refl, ih e)
   at_label b true q e h ih =
       let k = same_left e h in
-      (label_of b.pos k.0.0 k.0.1, k.1, told_before b (word (sign Colon)) w (symbol_is (word (sign Colon)) b.symbol q) ∙ ap (λ l. sign_at Colon b.pos ∷ l) k.2, k.3)
+      (label_of b.pos k.0.0 k.0.1, k.1, told_before b (word (sign Colon)) w (symbol_is (word (sign Colon)) b.symbol q) ∙ ap (λ l. sign_at Colon b.pos ∷ l) k.2,
+          k.3)
 
   at_shape : (b : Told) (o : Bool) → is (word (sign LeftSquare)) b.symbol ≡ o → cond o (Some (after_square s)) (step (a_label ∷ s) b.symbol) ≡ Some t
       → Completes t w → (step (a_label ∷ s) b.symbol ≡ Some t → With front_label (Completes s) (b ∷ w)) → With front_shape (Completes s) (b ∷ w)
@@ -333,7 +350,8 @@ module _ (s t : List Part) (w : List Told) where
       let x = v.3 in (
         array_of b.pos n.0.0 n.0.1 u.0 v.0 x.0.0 x.0.1,
         x.1,
-        told_before b (word (sign LeftSquare)) w (symbol_is (word (sign LeftSquare)) b.symbol q) ∙ ap (λ l. sign_at LeftSquare b.pos ∷ l) (n.2 ∙ ap (number_front n.0) (u.2
+        told_before b (word (sign LeftSquare)) w (symbol_is (word (sign LeftSquare)) b.symbol q)
+            ∙ ap (λ l. sign_at LeftSquare b.pos ∷ l) (n.2 ∙ ap (number_front n.0) (u.2
             ∙ ap (λ l. sign_at RightSquare u.0 ∷ l) (v.2 ∙ ap (λ l. sign_at Colon v.0 ∷ l) x.2))),
         x.3,
       )
@@ -347,7 +365,8 @@ module _ (s t : List Part) (w : List Told) where
       let v = u.3 in (
         declaration_of b.pos n.0.0 n.0.1 u.0 v.0,
         v.1,
-        told_before b (word (key Var)) w (symbol_is (word (key Var)) b.symbol q) ∙ ap (λ l. key_at Var b.pos ∷ l) (n.2 ∙ ap (front_name n.0) (u.2 ∙ ap (front_shape u.0) v.2)),
+        told_before b (word (key Var)) w (symbol_is (word (key Var)) b.symbol q)
+            ∙ ap (λ l. key_at Var b.pos ∷ l) (n.2 ∙ ap (front_name n.0) (u.2 ∙ ap (front_shape u.0) v.2)),
         v.3,
       )
 
@@ -361,7 +380,8 @@ module _ (s t : List Part) (w : List Told) where
       let m = v.3 in (
         and_declaration (declaration_of b.pos n.0.0 n.0.1 u.0 v.0) m.0,
         m.1,
-        told_before b (word (key Var)) w (symbol_is (word (key Var)) b.symbol q) ∙ ap (λ l. key_at Var b.pos ∷ l) (n.2 ∙ ap (front_name n.0) (u.2 ∙ ap (front_shape u.0) (v.2
+        told_before b (word (key Var)) w (symbol_is (word (key Var)) b.symbol q)
+            ∙ ap (λ l. key_at Var b.pos ∷ l) (n.2 ∙ ap (front_name n.0) (u.2 ∙ ap (front_shape u.0) (v.2
             ∙ ap (λ l. sign_at Semicolon v.0 ∷ l) m.2))),
         m.3,
       )
@@ -450,7 +470,8 @@ back_all s t [] w e h = let same : s ≡ t = cc in subst (λ q. Completes q w) (
 back_all s t (b ∷ p) w e h = back_step s t b p w (step s b.symbol) refl e (λ u q. back_all u t p w q h)
 
 -- each list of parts can be completed
-one_more : {T : Type 0} (front_of : T → List Told → List Told) (Rest : List Told → Type 0) (t : T) → (w : List Told) × Rest w → (w : List Told) × With front_of Rest w
+one_more : {T : Type 0} (front_of : T → List Told → List Told) (Rest : List Told → Type 0) (t : T) → (w : List Told) × Rest w
+    → (w : List Told) × With front_of Rest w
 one_more front_of Rest t k = (front_of t k.0, (t, k.0, refl, k.1))
 
 abbrev here : Pos

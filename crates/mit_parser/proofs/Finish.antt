@@ -1,5 +1,6 @@
 -- A program as a whole.
-use Rattle.std.proofs.Common.{◌≡◌, ◌≤◌, ◌<◌, ◌^◌, refl, ap, ◌∙◌, sym, subst, ℕ, List, [], ◌∷◌, length, Bool, true, false, cond, Option, Some, None, inl, inr, arith}
+use Rattle.std.proofs.Common.{◌≡◌, ◌≤◌, ◌<◌, ◌^◌, refl, ap, ◌∙◌, sym, subst, ℕ, List, [], ◌∷◌, length, Bool, true, false, cond, Option, Some, None, inl, inr}
+use Rattle.std.proofs.Common.{arith}
 use Rattle.std.specs.Prelude.{map, ltb, nat_lt, ◌||◌, ◌⊎◌, ◌↔◌, All}
 use Rattle.std.proofs.lemmas.Bool.{ltb-false, le-ltb}
 use Rattle.std.proofs.lemmas.List.Elements.{All-cons}
@@ -23,7 +24,8 @@ use Rattle.mit_parser.specs.Limits.{CommandsWithin}
 use Rattle.mit_parser.specs.State.{State, begin}
 use Rattle.mit_parser.specs.Scope.{scope, labels_in, kept}
 use Rattle.mit_parser.specs.Meaning.{plan_commands}
-use Rattle.mit_parser.specs.Faults.{header_labels, header_numbers, header_pairs, labelled, add_labels, AreNumbersBelow, header_fault, declaring, declare_all, declared_by, many_fault, body_fault, note_commands, IsLatticeFault, IsNameFault}
+use Rattle.mit_parser.specs.Faults.{header_labels, header_numbers, header_pairs, labelled, add_labels, AreNumbersBelow, header_fault, declaring, declare_all}
+use Rattle.mit_parser.specs.Faults.{declared_by, many_fault, body_fault, note_commands, IsLatticeFault, IsNameFault}
 use Rattle.mit_parser.specs.Machine.{want, declarations, commands, verdict}
 use Rattle.mit_parser.specs.Reads.{OnlyEnd, IsCommands}
 use Rattle.mit_parser.specs.Headers.{Makes, IsHeader, AreVariables}
@@ -49,13 +51,16 @@ low_end c h = by (nat_lt 100 c.depth) (le-ltb 100 c.depth h)
     by false e = refl
 
 -- the machine after the header and the declarations
-pub to_commands : (words : List Told) (lattice : Option Order) (pairs : List (Label × Label)) (variables : List Declaration) (s1 s2 : State) → IsHeader lattice pairs (begin words) s1
+pub to_commands : (words : List Told) (lattice : Option Order) (pairs : List (Label × Label)) (variables : List Declaration) (s1 s2 : State)
+    → IsHeader lattice pairs (begin words) s1
     → AreVariables (labels_in lattice) variables s1 s2 → verdict start nothing_yet words ≡ verdict (commands ∷ want the_end ∷ []) s2.counts s2.words
 to_commands words lattice pairs variables s1 s2 h v =
-    h.goes (declarations ∷ commands ∷ want the_end ∷ []) ∙ v.read.taken.goes (commands ∷ want the_end ∷ []) ∙ ap (λ z. verdict (commands ∷ want the_end ∷ []) z.counts z.words) (sym v.tested)
+    h.goes (declarations ∷ commands ∷ want the_end ∷ []) ∙ v.read.taken.goes (commands ∷ want the_end ∷ [])
+        ∙ ap (λ z. verdict (commands ∷ want the_end ∷ []) z.counts z.words) (sym v.tested)
 
 module _ (words : List Told) (lattice : Option Order) (pairs : List (Label × Label)) (variables : List Declaration) (body : List Command) (s1 s2 s3 : State)
-    (h : IsHeader lattice pairs (begin words) s1) (v : AreVariables (labels_in lattice) variables s1 s2) (k : IsCommands (scope (labels_in lattice) variables) s2 s3 (list_plan body)) where
+    (h : IsHeader lattice pairs (begin words) s1) (v : AreVariables (labels_in lattice) variables s1 s2)
+        (k : IsCommands (scope (labels_in lattice) variables) s2 s3 (list_plan body)) where
   abbrev pub tree : ProgramTree
   tree = record { header = h.tree; declarations = v.read.taken.tree; commands = k.tree }
 
@@ -67,7 +72,8 @@ module _ (words : List Told) (lattice : Option Order) (pairs : List (Label × La
     same_words = sym (ap (λ z. z.words) v.tested)
 
     pub spelled : Spells tree words
-    spelled = (o.0, h.spelled ∙ ap (front_header h.tree) (v.read.taken.spelled ∙ ap (front_declarations v.read.taken.tree) (same_words ∙ k.spelled ∙ ap (front_commands k.tree) o.1)))
+    spelled = (o.0, h.spelled ∙ ap (front_header h.tree) (v.read.taken.spelled
+        ∙ ap (front_declarations v.read.taken.tree) (same_words ∙ k.spelled ∙ ap (front_commands k.tree) o.1)))
 
     pub within : CommandsWithin 0 tree.commands
     within = tree_within words tree spelled (all_fit words s3 goes_end o (low_end s3.counts low))
@@ -82,8 +88,10 @@ module _ (words : List Told) (lattice : Option Order) (pairs : List (Label × La
     module _ (f : ParseFault) (e : s1.fault ≡ Some f) where
       kept_fault : s3.fault ≡ Some f
       kept_fault =
-          let d : v.mid.fault ≡ Some f = ap (λ s. s.fault) (v.read.taken.means ∙ ap (λ u. declare_all (labels_in lattice) v.read.taken.tree (declaring [] u)) e ∙ keep_declared (labels_in lattice) v.read.taken.tree [] f) in
-          last_fault ∙ ap (λ u. note_commands (scope (labels_in lattice) variables) k.tree (kept u (many_fault v.list))) d ∙ keep_commands (scope (labels_in lattice) variables) f k.tree
+          let d : v.mid.fault ≡ Some f = ap (λ s. s.fault) (v.read.taken.means ∙ ap (λ u. declare_all (labels_in lattice) v.read.taken.tree (declaring [] u)) e
+              ∙ keep_declared (labels_in lattice) v.read.taken.tree [] f) in
+          last_fault ∙ ap (λ u. note_commands (scope (labels_in lattice) variables) k.tree (kept u (many_fault v.list))) d
+              ∙ keep_commands (scope (labels_in lattice) variables) f k.tree
 
     -- what is known where there is no fault of the header
     pub record HeaderFine : Type 0 where
@@ -96,13 +104,15 @@ module _ (words : List Told) (lattice : Option Order) (pairs : List (Label × La
 
     -- the header has a fault, or none
     data HeaderCase : Type 0 where
-      faulty : (f : ParseFault) → s1.fault ≡ Some f → (header_fault h.tree ≡ Some f) ⊎ ((header_fault h.tree ≡ None) × IsLatticeFault (header_labels h.tree).names (header_pairs h.tree) f) → HeaderCase
+      faulty : (f : ParseFault) → s1.fault ≡ Some f → (header_fault h.tree ≡ Some f)
+          ⊎ ((header_fault h.tree ≡ None) × IsLatticeFault (header_labels h.tree).names (header_pairs h.tree) f) → HeaderCase
       fine : HeaderFine → HeaderCase
 
     header_case : HeaderCase
     header_case = by lattice s1.fault refl refl h.means
       where
-        by : (l : Option Order) (u : Option ParseFault) → lattice ≡ l → s1.fault ≡ u → Makes (header_labels h.tree).names (header_pairs h.tree) (header_fault h.tree) l pairs u → HeaderCase
+        by : (l : Option Order) (u : Option ParseFault) → lattice ≡ l → s1.fault ≡ u
+            → Makes (header_labels h.tree).names (header_pairs h.tree) (header_fault h.tree) l pairs u → HeaderCase
         by (Some q) None el eu m = fine (record { order = q; there = el; none = m.0; built = m.1; kept_pairs = m.2; clean = eu })
         by (Some q) (Some f) el eu m = absurd m
         by None None el eu m = absurd m
@@ -131,7 +141,8 @@ module _ (words : List Told) (lattice : Option Order) (pairs : List (Label × La
       same_scope None e =
           ap (λ d. note_commands (scope (labels_in lattice) d) k.tree None) (few_listed (kept_split v.mid.fault (many_fault v.list) e).1)
           ∙ ap (λ l. note_commands (scope l v.list) k.tree None) named
-      same_scope (Some f) e = keep_commands (scope (labels_in lattice) variables) f k.tree ∙ sym (keep_commands (scope (header_labels h.tree).names v.list) f k.tree)
+      same_scope (Some f) e = keep_commands (scope (labels_in lattice) variables) f k.tree
+          ∙ sym (keep_commands (scope (header_labels h.tree).names v.list) f k.tree)
 
       pub body_is : s3.fault ≡ body_fault tree
       body_is =
@@ -157,7 +168,8 @@ module _ (words : List Told) (lattice : Option Order) (pairs : List (Label × La
             let same : q ≡ f = let z : Some q ≡ Some f = sym (kept_fault q u) ∙ e in cc in
             subst (Refuses words) same (of_case c)
           where
-            of_case : (header_fault h.tree ≡ Some q) ⊎ ((header_fault h.tree ≡ None) × IsLatticeFault (header_labels h.tree).names (header_pairs h.tree) q) → Refuses words q
+            of_case : (header_fault h.tree ≡ Some q) ⊎ ((header_fault h.tree ≡ None) × IsLatticeFault (header_labels h.tree).names (header_pairs h.tree) q)
+                → Refuses words q
             of_case (inl x) = misnamed_with q (subst IsOfNames x (of_header h.tree)) (inl x)
             of_case (inr x) = misnamed_with q (lattice_of_names (header_labels h.tree).names (header_pairs h.tree) q x.1) (inr (inl x))
         by (fine g) = misnamed_with f (subst IsOfNames e (last_of_names g)) (inr (inr (g.none, g.built.sound, sym (body_is g) ∙ e)))
@@ -188,7 +200,8 @@ module _ (words : List Told) (lattice : Option Order) (pairs : List (Label × La
 
         some_before : 0 < length (header_labels h.tree).names → kept v.mid.fault (many_fault v.list) ≡ None
         some_before some =
-            none_commands (scope (labels_in lattice) variables) (subst (λ l. 0 < length l) (sym (named header_fine)) some) k.tree (kept v.mid.fault (many_fault v.list)) (sym last_fault ∙ clean)
+            none_commands (scope (labels_in lattice) variables) (subst (λ l. 0 < length l) (sym (named header_fine)) some) k.tree
+                (kept v.mid.fault (many_fault v.list)) (sym last_fault ∙ clean)
 
         module _ (some : 0 < length (header_labels h.tree).names) where
           all_listed : variables ≡ v.list
@@ -214,7 +227,8 @@ module _ (words : List Told) (lattice : Option Order) (pairs : List (Label × La
               })
 
       -- the parts are those of a program
-      module _ (proper : AreProper words) (short : length words ≤ 2 ^ 31) (q : Order) (there : lattice ≡ Some q) (order : IsOrder q) (few : AreFew variables) (differ : AllDiffer (map (λ d. d.0) variables)) where
+      module _ (proper : AreProper words) (short : length words ≤ 2 ^ 31) (q : Order) (there : lattice ≡ Some q) (order : IsOrder q) (few : AreFew variables)
+          (differ : AllDiffer (map (λ d. d.0) variables)) where
         size : q.size ≡ length (header_labels h.tree).names
         size = (built q there).size
 
@@ -244,7 +258,8 @@ module _ (words : List Told) (lattice : Option Order) (pairs : List (Label × La
         plan_is : list_plan body ≡ plan_commands (scope (labels_in lattice) variables) 0 k.tree
         plan_is = k.means ∙ ap (λ n. plan_commands (scope (labels_in lattice) variables) n k.tree) (ap (λ z. z.marks) v.tested ∙ v.read.taken.next ∙ h.next)
 
-        known : KnownList (scope (labels_in lattice) variables) some_named (plan_commands (scope (labels_in lattice) variables) 0 k.tree) (kept v.mid.fault (many_fault v.list)) s3.words
+        known : KnownList (scope (labels_in lattice) variables) some_named (plan_commands (scope (labels_in lattice) variables) 0 k.tree)
+            (kept v.mid.fault (many_fault v.list)) s3.words
         known =
             known_commands (scope (labels_in lattice) variables) some_named k.tree 0 (kept v.mid.fault (many_fault v.list)) s3.words (sym last_fault ∙ clean)
             (subst AreProper (same_words ∙ k.spelled) of_list.proper)
@@ -264,7 +279,8 @@ module _ (words : List Told) (lattice : Option Order) (pairs : List (Label × La
             record {
               pairs =
                   subst (λ z. AreBelow q.size z) (sym header_fine.kept_pairs)
-                  (subst (λ n. AreBelow n (header_pairs h.tree)) (sym size) (as_labels_below (length (header_labels h.tree).names) (header_numbers h.tree) (header_below h.tree some_label)));
+                  (subst (λ n. AreBelow n (header_pairs h.tree)) (sym size)
+                      (as_labels_below (length (header_labels h.tree).names) (header_numbers h.tree) (header_below h.tree some_label)));
               flows = λ a b l m.
                   subst (λ z. Flows (lattice_of q) a b ↔ Chain z a b) (sym header_fine.kept_pairs)
                   ((built q there).flows a b (subst (λ n. a < n) size l) (subst (λ n. b < n) size m));
@@ -276,13 +292,15 @@ module _ (words : List Told) (lattice : Option Order) (pairs : List (Label × La
               arrays = arrays_all (length (labels_in lattice)) variables good;
               some = subst AreSome (sym plan_is) (some_commands (scope (labels_in lattice) variables) some_named k.tree 0);
               count = subst (λ p. count p ≤ 2147483647) (sym plan_is) few_commands;
-              known = subst (λ n. AreKnown n variables (list_plan body)) count_labels (subst (AreKnown (length (labels_in lattice)) variables) (sym plan_is) known.known);
+              known = subst (λ n. AreKnown n variables (list_plan body)) count_labels
+                  (subst (AreKnown (length (labels_in lattice)) variables) (sym plan_is) known.known);
               numbered = subst (AreNumbered 0) (sym plan_is) (numbered_commands (scope (labels_in lattice) variables) k.tree 0);
               small = subst (AreSmall 0) (sym plan_is) (small_commands (scope (labels_in lattice) variables) k.tree 0 0 within_commands);
             }
 
       pub parts : AreProper words → length words ≤ 2 ^ 31 → AreParts lattice pairs variables body
-      parts proper short = record { order = header_fine.order; there = header_fine.there; valid = λ order few differ. valid proper short header_fine.order header_fine.there order few differ }
+      parts proper short = record { order = header_fine.order; there = header_fine.there; valid =
+          λ order few differ. valid proper short header_fine.order header_fine.there order few differ }
 
       pub program : (s : Syntax) → IsAssembled lattice pairs variables body s → IsProgram words s
       program s made =

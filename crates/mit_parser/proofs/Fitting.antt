@@ -5,10 +5,14 @@ use Rattle.mit_syntax.specs.declared.token.Sign.TheVariants.{RightRound, RightSq
 use Rattle.mit_syntax.specs.Chunks.{sign}
 use Rattle.mit_parser.specs.declared.counts.Counts.{Counts}
 use Rattle.mit_parser.specs.Words.{Told, word, sign_at}
-use Rattle.mit_parser.specs.Operators.{Factor, Addend, Comparison, times, over, modulo, plus, minus, equal, not_equal, less, less_equal, greater, greater_equal, factor_sign, addend_sign, comparison_sign}
-use Rattle.mit_parser.specs.Tree.{Atom, Index, Term, Factors, Sum, Addends, Whole, number_atom, name_atom, paren_atom, no_index, index_of, term_of, no_factor, and_factor, sum_of, no_addend, and_addend, plain, compared, front_atom, front_index, front_term, front_factors, front_sum, front_addends, front_whole}
+use Rattle.mit_parser.specs.Operators.{Factor, Addend, Comparison, times, over, modulo, plus, minus, equal, not_equal, less, less_equal, greater}
+use Rattle.mit_parser.specs.Operators.{greater_equal, factor_sign, addend_sign, comparison_sign}
+use Rattle.mit_parser.specs.Tree.{Atom, Index, Term, Factors, Sum, Addends, Whole, number_atom, name_atom, paren_atom, no_index, index_of, term_of, no_factor}
+use Rattle.mit_parser.specs.Tree.{and_factor, sum_of, no_addend, and_addend, plain, compared, front_atom, front_index, front_term, front_factors, front_sum}
+use Rattle.mit_parser.specs.Tree.{front_addends, front_whole}
 use Rattle.mit_parser.specs.Counting.{count, is_over, Fits}
-use Rattle.mit_parser.specs.Limits.{atom_depth, index_depth, term_depth, factors_depth, sum_depth, addends_depth, whole_depth, atom_size, index_size, term_size, factors_size, sum_size, addends_size, whole_size}
+use Rattle.mit_parser.specs.Limits.{atom_depth, index_depth, term_depth, factors_depth, sum_depth, addends_depth, whole_depth, atom_size, index_size}
+use Rattle.mit_parser.specs.Limits.{term_size, factors_size, sum_size, addends_size, whole_size}
 
 abbrev pub counts : ℕ → ℕ → Counts
 counts d o = record { depth = d; operators = o; at = false; marks = false }
@@ -86,7 +90,8 @@ mutual
   within_factors no_factor d o r h k f = (omega arith, omega arith, along d o (o + 0) r (omega arith) f)
   within_factors (and_factor g p a fs) d o r h k f =
       let l = low d (o + 1) (subst (λ c. is_over c ≡ false) (count_factor g d o) f.0) in
-      let x = within_atom a d (o + 1) (front_factors fs r) l.depth l.operators (subst (λ c. Fits c (front_atom a (front_factors fs r))) (count_factor g d o) f.1) in
+      let x = within_atom a d (o + 1) (front_factors fs r) l.depth l.operators
+          (subst (λ c. Fits c (front_atom a (front_factors fs r))) (count_factor g d o) f.1) in
       let y = within_factors fs d (o + 1 + atom_size a) r h x.1 x.2 in
       (omega (arith, x.0, y.0), omega (arith, y.1), along d _ (o + (1 + (atom_size a + factors_size fs))) r (omega arith) y.2)
 
@@ -102,7 +107,8 @@ mutual
   within_addends no_addend d o r h k f = (omega arith, omega arith, along d o (o + 0) r (omega arith) f)
   within_addends (and_addend g p a fs) d o r h k f =
       let l = low d (o + 1) (subst (λ c. is_over c ≡ false) (count_addend g d o) f.0) in
-      let x = within_term a d (o + 1) (front_addends fs r) l.depth l.operators (subst (λ c. Fits c (front_term a (front_addends fs r))) (count_addend g d o) f.1) in
+      let x = within_term a d (o + 1) (front_addends fs r) l.depth l.operators
+          (subst (λ c. Fits c (front_term a (front_addends fs r))) (count_addend g d o) f.1) in
       let y = within_addends fs d (o + 1 + term_size a) r h x.1 x.2 in
       (omega (arith, x.0, y.0), omega (arith, y.1), along d _ (o + (1 + (term_size a + addends_size fs))) r (omega arith) y.2)
 

@@ -4,7 +4,13 @@ use Rattle.text_base.specs.declared.pos.Pos.{Pos}
 use Rattle.mit_syntax.specs.declared.token.Keyword.TheVariants.{Then, Do}
 use Rattle.mit_syntax.specs.declared.token.Sign.TheVariants.{RightRound, RightBrace, RightSquare, Assign, Semicolon}
 use Rattle.mit_parser.specs.Words.{Told, sign_at, key_at, end_at}
-use Rattle.mit_parser.specs.Tree.{front_whole, Index, no_index, index_of, front_index, AndName, no_name, and_name, Marks, no_marks, marks_of, CommandTree, skip_of, assign_of, sleep_of, if_of, while_of, mitigate_of, Block, block_of, ElsePart, no_else, else_of, Commands, commands_of, More, no_more, and_more, front_and_name, front_marks, front_command, front_block, front_else, front_commands, front_more, MoreNames, no_more_names, and_more_names, pair_of, MorePairs, no_more_pairs, and_pair, Ordering, no_ordering, ordering_of, Header, no_header, header_of, no_label, label_of, Shape, scalar_of, array_of, declaration_of, Declarations, no_declarations, and_declaration, ProgramTree, front_more_names, front_more_pairs, front_ordering, front_header, front_shape, front_declarations, front_program}
+use Rattle.mit_parser.specs.Tree.{front_whole, Index, no_index, index_of, front_index, AndName, no_name, and_name, Marks, no_marks, marks_of, CommandTree}
+use Rattle.mit_parser.specs.Tree.{skip_of, assign_of, sleep_of, if_of, while_of, mitigate_of, Block, block_of, ElsePart, no_else, else_of, Commands}
+use Rattle.mit_parser.specs.Tree.{commands_of, More, no_more, and_more, front_and_name, front_marks, front_command, front_block, front_else, front_commands}
+use Rattle.mit_parser.specs.Tree.{front_more, MoreNames, no_more_names, and_more_names, pair_of, MorePairs, no_more_pairs, and_pair, Ordering, no_ordering}
+use Rattle.mit_parser.specs.Tree.{ordering_of, Header, no_header, header_of, no_label, label_of, Shape, scalar_of, array_of, declaration_of, Declarations}
+use Rattle.mit_parser.specs.Tree.{no_declarations, and_declaration, ProgramTree, front_more_names, front_more_pairs, front_ordering, front_header}
+use Rattle.mit_parser.specs.Tree.{front_shape, front_declarations, front_program}
 use Rattle.mit_parser.specs.Counting.{Fits, nothing_yet}
 use Rattle.mit_parser.specs.Limits.{whole_size, IsIndexWithin, CommandWithin, BlockWithin, ElseWithin, CommandsWithin, MoreWithin}
 use Rattle.mit_parser.specs.Spells.{Spells}
@@ -26,7 +32,8 @@ some_second no_name d o r k f = record { operators = o; few = k; fit = f }
 some_second (and_name a y b) d o r k f = record { operators = 0; few = omega arith; fit = f.1.1 }
 
 -- the index of an assigned element, and then `:=`
-some_index : (i : Index) (d : ℕ) (q : Pos) (r : List Told) → d ≤ 100 → Fits (counts d 0) (front_index i (sign_at Assign q ∷ r)) → IsIndexWithin d i × Fits (counts d 0) r
+some_index : (i : Index) (d : ℕ) (q : Pos) (r : List Told) → d ≤ 100 → Fits (counts d 0) (front_index i (sign_at Assign q ∷ r))
+    → IsIndexWithin d i × Fits (counts d 0) r
 some_index no_index d q r h f = (tt, f.1)
 some_index (index_of p e u) d q r h f =
     let l = low (d + 1) 0 f.0 in
@@ -119,4 +126,5 @@ pub tree_within : (words : List Told) (t : ProgramTree) → Spells t words → F
 tree_within words t s f =
     let here : Fits (counts 0 0) (front_program t (end_at s.0 ∷ [])) = subst (Fits nothing_yet) s.1 f in
     (within_commands t.commands 0 (end_at s.0 ∷ []) (omega arith)
-    (after_declarations t.declarations (front_commands t.commands (end_at s.0 ∷ [])) (after_header t.header (front_declarations t.declarations (front_commands t.commands (end_at s.0 ∷ []))) here))).0
+    (after_declarations t.declarations (front_commands t.commands (end_at s.0 ∷ []))
+        (after_header t.header (front_declarations t.declarations (front_commands t.commands (end_at s.0 ∷ []))) here))).0

@@ -24,7 +24,8 @@ module _ (o : Order) (h : IsOrder o) (w : List ℕ) where
       let size = h.named in
       let before : (k : ℕ) → k < a → same (get_or o.names k []) ≡ false =
       λ k lt. not_true (same (get_or o.names k [])) (λ t. h.differ k a [] lt (omega arith) (sym ((bytes_eq-Decides w (get_or o.names k [])).0 t) ∙ sym e)) in
-      let here : position_or_len same o.names ≡ a = position_or_len_is same o.names a [] (omega arith) before (λ _. (bytes_eq-Decides w (get_or o.names a [])).1 (sym e)) in
+      let here : position_or_len same o.names ≡ a =
+          position_or_len_is same o.names a [] (omega arith) before (λ _. (bytes_eq-Decides w (get_or o.names a [])).1 (sym e)) in
       let within : nat_lt a (length o.names) ≡ true = grind (arith, nat_tests) in
       rw (here, within)
 
@@ -34,12 +35,14 @@ module _ (o : Order) (h : IsOrder o) (w : List ℕ) where
       let size = h.named in
       let before : (k : ℕ) → k < length o.names → same (get_or o.names k []) ≡ false =
       λ k lt. not_true (same (get_or o.names k [])) (λ t. n k (omega arith) (sym ((bytes_eq-Decides w (get_or o.names k [])).0 t))) in
-      let here : position_or_len same o.names ≡ length o.names = position_or_len_is same o.names (length o.names) [] (omega arith) before (λ lt. absurd (omega arith)) in
+      let here : position_or_len same o.names ≡ length o.names =
+          position_or_len_is same o.names (length o.names) [] (omega arith) before (λ lt. absurd (omega arith)) in
       let past : nat_lt (length o.names) (length o.names) ≡ false = grind (arith, nat_tests) in
       rw (here, past)
 
   -- what a look-up of the label finds
   pub label_found : (r : Option Label)
-      → MatchOption r ((k : ℕ) → k < o.size → name_of o k ≡ w → ⊥) (λ a. (a.number < o.size) × (name_of o a.number ≡ w)) → r ≡ option_map as_label (find_label o.names w)
+      → MatchOption r ((k : ℕ) → k < o.size → name_of o k ≡ w → ⊥) (λ a. (a.number < o.size) × (name_of o a.number ≡ w))
+      → r ≡ option_map as_label (find_label o.names w)
   label_found None f = sym (label_none f)
   label_found (Some a) f = sym (label_at a.number f.0 f.1)

@@ -1,5 +1,6 @@
 -- What each way through the functions of the header and of declarations gives.
-use Rattle.std.proofs.Common.{◌≡◌, ◌+◌, ◌≤◌, ◌<◌, refl, ap, ◌∙◌, sym, subst, ℕ, ℤ, List, [], ◌∷◌, ◌++◌, append_assoc, length, Bool, true, false, cond, Option, Some, None, arith}
+use Rattle.std.proofs.Common.{◌≡◌, ◌+◌, ◌≤◌, ◌<◌, refl, ap, ◌∙◌, sym, subst, ℕ, ℤ, List, [], ◌∷◌, ◌++◌, append_assoc, length, Bool, true, false, cond, Option}
+use Rattle.std.proofs.Common.{Some, None, arith}
 use Rattle.std.specs.Prelude.{is_some}
 use Rattle.std.proofs.lemmas.List.{append-nil}
 use Rattle.text_base.specs.declared.pos.Pos.{Pos}
@@ -13,11 +14,16 @@ use Rattle.mit_parser.specs.declared.fault.ParseFault.TheVariants.{Unknown}
 use Rattle.mit_parser.specs.Words.{word, Told, head_symbol, is, sign_at, key_at, name_at}
 use Rattle.mit_parser.specs.State.{State, with_fault}
 use Rattle.mit_parser.specs.Scope.{find_label, or_else, kept, label_fault}
-use Rattle.mit_parser.specs.Tree.{MoreNames, no_more_names, and_more_names, pair_of, no_more_pairs, and_pair, no_ordering, ordering_of, no_header, header_of, no_label, label_of, scalar_of, array_of, declaration_of, no_declarations, and_declaration, front_more_names, front_pair, front_more_pairs, front_pairs, front_shape, front_declaration}
-use Rattle.mit_parser.specs.Faults.{labelled, add_label, add_labels, pair_numbers, more_numbers, note_pair, note_more_pairs, declaring, declare, declare_all, add_declaration, shape_label, shape_length}
-use Rattle.mit_parser.specs.Machine.{Part, want, a_name, names, more_names, a_pair, pairs, more_pairs, ordering, a_label, a_shape, a_declaration, declarations, step, after_order, after_square, after_var, verdict}
+use Rattle.mit_parser.specs.Tree.{MoreNames, no_more_names, and_more_names, pair_of, no_more_pairs, and_pair, no_ordering, ordering_of, no_header, header_of}
+use Rattle.mit_parser.specs.Tree.{no_label, label_of, scalar_of, array_of, declaration_of, no_declarations, and_declaration, front_more_names, front_pair}
+use Rattle.mit_parser.specs.Tree.{front_more_pairs, front_pairs, front_shape, front_declaration}
+use Rattle.mit_parser.specs.Faults.{labelled, add_label, add_labels, pair_numbers, more_numbers, note_pair, note_more_pairs, declaring, declare, declare_all}
+use Rattle.mit_parser.specs.Faults.{add_declaration, shape_label, shape_length}
+use Rattle.mit_parser.specs.Machine.{Part, want, a_name, names, more_names, a_pair, pairs, more_pairs, ordering, a_label, a_shape, a_declaration}
+use Rattle.mit_parser.specs.Machine.{declarations, step, after_order, after_square, after_var, verdict}
 use Rattle.mit_parser.specs.Reads.{Took, TookName, TookNumber, symbol_at}
-use Rattle.mit_parser.specs.Headers.{AddsLabel, LabelsSoFar, AreLabels, IsNumber, IsPair, PairsSoFar, ArePairs, IsOrdering, IsShape, Declares, IsDeclaration, DeclarationsSoFar, AreDeclarations}
+use Rattle.mit_parser.specs.Headers.{AddsLabel, LabelsSoFar, AreLabels, IsNumber, IsPair, PairsSoFar, ArePairs, IsOrdering, IsShape, Declares, IsDeclaration}
+use Rattle.mit_parser.specs.Headers.{DeclarationsSoFar, AreDeclarations}
 use Rattle.mit_parser.proofs.Rules.{left_out}
 use Rattle.mit_parser.proofs.Listed.{after_word, not_there}
 
@@ -69,7 +75,8 @@ module _ (labels : List (List ℕ)) where
       → verdict (a_pair ∷ s) old.counts old.words ≡ verdict (a_name ∷ s) b.counts b.words
   pair_goes old a b n x t s = rule_pair s old.counts old.words ∙ x.goes (want (word (sign Less)) ∷ a_name ∷ s) ∙ t.goes (a_name ∷ s)
 
-  pub pair_all : (old a b new : State) (n m : ℕ) → IsNumber labels n old a → Took (word (sign Less)) a b → IsNumber labels m b new → IsPair labels (n, m) old new
+  pub pair_all : (old a b new : State) (n m : ℕ) → IsNumber labels n old a → Took (word (sign Less)) a b → IsNumber labels m b new
+      → IsPair labels (n, m) old new
   pair_all old a b new n m x t y =
       record {
         tree = pair_of x.tree.0 x.tree.1 t.place y.tree.0 y.tree.1;
@@ -97,7 +104,8 @@ module _ (labels : List (List ℕ)) where
         shorter = k.shorter;
       }
 
-  pub pairs_next : (old now a new : State) (n : ℕ × ℕ) (list next : List (ℕ × ℕ)) → PairsSoFar labels list old now → Took (word (sign Comma)) now a → IsPair labels n a new
+  pub pairs_next : (old now a new : State) (n : ℕ × ℕ) (list next : List (ℕ × ℕ)) → PairsSoFar labels list old now
+      → Took (word (sign Comma)) now a → IsPair labels n a new
       → next ≡ list ++ n ∷ [] → PairsSoFar labels next old new
   pairs_next old now a new n list next f t k e =
       record {
@@ -120,7 +128,8 @@ module _ (labels : List (List ℕ)) where
       → verdict (pairs ∷ s) old.counts old.words ≡ verdict (a_pair ∷ more_pairs ∷ s) a.counts a.words
   more_pairs_goes old now a list f t s = f.goes s ∙ after_word (word (sign Comma)) more_pairs (λ s. a_pair ∷ more_pairs ∷ s) now a (λ s. refl) t s
 
-  pub pairs_last : (old now : State) (list : List (ℕ × ℕ)) → PairsSoFar labels list old now → is (word (sign Comma)) (head_symbol now.words) ≡ false → ArePairs labels list old now
+  pub pairs_last : (old now : State) (list : List (ℕ × ℕ)) → PairsSoFar labels list old now → is (word (sign Comma)) (head_symbol now.words) ≡ false
+      → ArePairs labels list old now
   pairs_last old now list f e =
       let b = f.builds no_more_pairs now.words refl in
       record {
@@ -132,7 +141,8 @@ module _ (labels : List (List ℕ)) where
         shorter = f.shorter;
       }
 
-  pub ordering_some : (old a b new : State) (list : List (ℕ × ℕ)) → Took (word (key Order)) old a → ArePairs labels list a b → Took (word (sign Semicolon)) b new → IsOrdering labels list old new
+  pub ordering_some : (old a b new : State) (list : List (ℕ × ℕ)) → Took (word (key Order)) old a → ArePairs labels list a b
+      → Took (word (sign Semicolon)) b new → IsOrdering labels list old new
   ordering_some old a b new list t k u =
       record {
         tree = ordering_of t.place k.tree.0 k.tree.1 u.place;
@@ -154,9 +164,11 @@ module _ (labels : List (List ℕ)) where
         shorter = omega arith;
       }
 
-pub labels_first : (old a now : State) (w : List ℕ) (p : Pos) (before labels : List (List ℕ)) → before ≡ [] → TookName w p old a → AddsLabel w p before labels a now → LabelsSoFar labels old now
+pub labels_first : (old a now : State) (w : List ℕ) (p : Pos) (before labels : List (List ℕ)) → before ≡ [] → TookName w p old a
+    → AddsLabel w p before labels a now → LabelsSoFar labels old now
 labels_first old a now w p before labels n t k =
-    let s : labelled labels now.fault ≡ labelled (w ∷ []) old.fault = k.adds ∙ ap (λ l. add_label w p (labelled l a.fault)) n ∙ ap (λ u. labelled (w ∷ []) u) t.fault in
+    let s : labelled labels now.fault ≡ labelled (w ∷ []) old.fault =
+        k.adds ∙ ap (λ l. add_label w p (labelled l a.fault)) n ∙ ap (λ u. labelled (w ∷ []) u) t.fault in
     let one : length labels ≡ 1 = ap (λ z. length z.names) s in
     let size : length now.words ≡ length a.words = ap (λ z. length z.words) k.state in
     record {
@@ -178,10 +190,17 @@ grown labels w p u = by (is_some (find_label labels w)) refl
     size = Rattle.std.proofs.Common.length-append labels (w ∷ [])
 
     by : (b : Bool) → is_some (find_label labels w) ≡ b → length labels ≤ length (add_label w p (labelled labels u)).names
-    by true e = let h = ap (λ b. length (cond {A = Rattle.mit_parser.specs.Faults.Labelled} b (labelled labels (kept u (Some (Rattle.mit_parser.specs.declared.fault.ParseFault.TheVariants.Twice p)))) (labelled (labels ++ w ∷ []) u)).names) e in omega (arith, h)
-    by false e = let h = ap (λ b. length (cond {A = Rattle.mit_parser.specs.Faults.Labelled} b (labelled labels (kept u (Some (Rattle.mit_parser.specs.declared.fault.ParseFault.TheVariants.Twice p)))) (labelled (labels ++ w ∷ []) u)).names) e in omega (arith, h, size)
+    by true e = let h = ap (λ b. length
+        (cond {A = Rattle.mit_parser.specs.Faults.Labelled} b
+        (labelled labels (kept u (Some (Rattle.mit_parser.specs.declared.fault.ParseFault.TheVariants.Twice p)))) (labelled (labels ++ w ∷ []) u)).names) e in
+        omega (arith, h)
+    by false e = let h = ap (λ b. length
+        (cond {A = Rattle.mit_parser.specs.Faults.Labelled} b
+        (labelled labels (kept u (Some (Rattle.mit_parser.specs.declared.fault.ParseFault.TheVariants.Twice p)))) (labelled (labels ++ w ∷ []) u)).names) e in
+        omega (arith, h, size)
 
-pub labels_next : (old now a b new : State) (w : List ℕ) (p : Pos) (labels next : List (List ℕ)) → LabelsSoFar labels old now → Took (word (sign Comma)) now a → TookName w p a b → AddsLabel w p labels next b new
+pub labels_next : (old now a b new : State) (w : List ℕ) (p : Pos) (labels next : List (List ℕ)) → LabelsSoFar labels old now → Took (word (sign Comma)) now a
+    → TookName w p a b → AddsLabel w p labels next b new
     → LabelsSoFar next old new
 labels_next old now a b new w p labels next f t n k =
     let same : b.fault ≡ now.fault = n.fault ∙ t.fault in
@@ -199,7 +218,8 @@ labels_next old now a b new w p labels next f t n k =
       some = omega (arith, f.some, more, grown labels w p b.fault);
     }
 
-pub labels_last : (old now : State) (labels : List (List ℕ)) → LabelsSoFar labels old now → is (word (sign Comma)) (head_symbol now.words) ≡ false → AreLabels labels old now
+pub labels_last : (old now : State) (labels : List (List ℕ)) → LabelsSoFar labels old now
+    → is (word (sign Comma)) (head_symbol now.words) ≡ false → AreLabels labels old now
 labels_last old now labels f e =
     let b = f.builds no_more_names now.words refl in
     record {
@@ -216,25 +236,31 @@ labels_last old now labels f e =
     }
 
 -- shapes
-pub shape_array : (old a b c d new : State) (n : ℤ × Pos) (l : List ℕ × Pos) → Took (word (sign LeftSquare)) old a → TookNumber n.0 n.1 a b → Took (word (sign RightSquare)) b c
+pub shape_array : (old a b c d new : State) (n : ℤ × Pos) (l : List ℕ × Pos) → Took (word (sign LeftSquare)) old a → TookNumber n.0 n.1 a b
+    → Took (word (sign RightSquare)) b c
     → Took (word (sign Colon)) c d → TookName l.0 l.1 d new → IsShape (Some l) (Some n) old new
 shape_array old a b c d new n l t x u v y =
     record {
       tree = array_of t.place n.0 n.1 u.place v.place l.0 l.1;
-      spelled = t.was ∙ ap (λ z. sign_at LeftSquare t.place ∷ z) (x.was ∙ ap (λ z. symbol_at (word (number n.0)) n.1 ∷ z) (u.was ∙ ap (λ z. sign_at RightSquare u.place ∷ z)
+      spelled = t.was ∙ ap (λ z. sign_at LeftSquare t.place ∷ z)
+          (x.was ∙ ap (λ z. symbol_at (word (number n.0)) n.1 ∷ z) (u.was ∙ ap (λ z. sign_at RightSquare u.place ∷ z)
           (v.was ∙ ap (λ z. sign_at Colon v.place ∷ z) y.was)));
       means = (refl, refl, y.fault ∙ v.fault ∙ u.fault ∙ x.fault ∙ t.fault);
       next = y.marks ∙ v.marks ∙ u.marks ∙ x.marks ∙ t.marks;
-      goes = λ s. after_word (word (sign LeftSquare)) a_shape after_square old a (λ s. refl) t s ∙ x.goes (want (word (sign RightSquare)) ∷ want (word (sign Colon)) ∷ a_name ∷ s)
+      goes = λ s. after_word (word (sign LeftSquare)) a_shape after_square old a (λ s. refl) t s
+          ∙ x.goes (want (word (sign RightSquare)) ∷ want (word (sign Colon)) ∷ a_name ∷ s)
           ∙ u.goes (want (word (sign Colon)) ∷ a_name ∷ s) ∙ v.goes (a_name ∷ s) ∙ y.goes s;
       shorter = omega (arith, t.shorter, x.shorter, u.shorter, v.shorter, y.shorter);
     }
 
 -- the machine where no length is
-pub no_square : (now : State) → is (word (sign LeftSquare)) (head_symbol now.words) ≡ false → (s : List Part) → verdict (a_shape ∷ s) now.counts now.words ≡ verdict (a_label ∷ s) now.counts now.words
-no_square now e s = left_out (a_shape ∷ s) (a_label ∷ s) now.counts now.words (ap (λ b. cond b (Some (after_square s)) (step (a_label ∷ s) (head_symbol now.words))) e)
+pub no_square : (now : State) → is (word (sign LeftSquare)) (head_symbol now.words) ≡ false → (s : List Part)
+    → verdict (a_shape ∷ s) now.counts now.words ≡ verdict (a_label ∷ s) now.counts now.words
+no_square now e s = left_out (a_shape ∷ s) (a_label ∷ s) now.counts now.words
+    (ap (λ b. cond b (Some (after_square s)) (step (a_label ∷ s) (head_symbol now.words))) e)
 
-pub shape_scalar : (old a new : State) (l : List ℕ × Pos) → is (word (sign LeftSquare)) (head_symbol old.words) ≡ false → Took (word (sign Colon)) old a → TookName l.0 l.1 a new → IsShape (Some l) None old new
+pub shape_scalar : (old a new : State) (l : List ℕ × Pos) → is (word (sign LeftSquare)) (head_symbol old.words) ≡ false → Took (word (sign Colon)) old a
+    → TookName l.0 l.1 a new → IsShape (Some l) None old new
 shape_scalar old a new l e t y =
     record {
       tree = scalar_of (label_of t.place l.0 l.1);
@@ -245,7 +271,8 @@ shape_scalar old a new l e t y =
       shorter = omega (arith, t.shorter, y.shorter);
     }
 
-pub shape_none : (now : State) → is (word (sign LeftSquare)) (head_symbol now.words) ≡ false → is (word (sign Colon)) (head_symbol now.words) ≡ false → IsShape None None now now
+pub shape_none : (now : State) → is (word (sign LeftSquare)) (head_symbol now.words) ≡ false
+    → is (word (sign Colon)) (head_symbol now.words) ≡ false → IsShape None None now now
 shape_none now e h =
     record {
       tree = scalar_of no_label;
@@ -257,7 +284,8 @@ shape_none now e h =
     }
 
 module _ (labels : List (List ℕ)) where
-  pub declaration_all : (old a b c d new : State) (w : List ℕ) (p : Pos) (l : Option (List ℕ × Pos)) (n : Option (ℤ × Pos)) (before after : List Declaration) → Took (word (key Var)) old a → TookName w p a b → IsShape l n b c
+  pub declaration_all : (old a b c d new : State) (w : List ℕ) (p : Pos) (l : Option (List ℕ × Pos)) (n : Option (ℤ × Pos)) (before after : List Declaration)
+      → Took (word (key Var)) old a → TookName w p a b → IsShape l n b c
       → Took (word (sign Semicolon)) c d → Declares labels w p l n before after d new → IsDeclaration labels before after old new
   declaration_all old a b c d new w p l n before after t x y u k =
       let same : d.fault ≡ old.fault = u.fault ∙ y.means.2 ∙ x.fault ∙ t.fault in
@@ -266,11 +294,14 @@ module _ (labels : List (List ℕ)) where
       record {
         taken = record {
           tree = declaration_of t.place w p y.tree u.place;
-          spelled = t.was ∙ ap (λ z. key_at Var t.place ∷ z) (x.was ∙ ap (λ z. name_at w p ∷ z) (y.spelled ∙ ap (front_shape y.tree) (u.was ∙ ap (λ z. sign_at Semicolon u.place ∷ z) (sym here))));
+          spelled = t.was ∙ ap (λ z. key_at Var t.place ∷ z)
+              (x.was ∙ ap (λ z. name_at w p ∷ z) (y.spelled ∙ ap (front_shape y.tree) (u.was ∙ ap (λ z. sign_at Semicolon u.place ∷ z) (sym here))));
           means = k.adds ∙ ap (λ z. add_declaration labels w p l n (declaring before z)) same
-              ∙ ap (λ z. add_declaration labels w p z n (declaring before old.fault)) (sym y.means.0) ∙ ap (λ z. add_declaration labels w p (shape_label y.tree) z (declaring before old.fault)) (sym y.means.1);
+              ∙ ap (λ z. add_declaration labels w p z n (declaring before old.fault)) (sym y.means.0)
+                  ∙ ap (λ z. add_declaration labels w p (shape_label y.tree) z (declaring before old.fault)) (sym y.means.1);
           next = ap (λ z. z.marks) k.state ∙ u.marks ∙ y.next ∙ x.marks ∙ t.marks;
-          goes = λ s. after_word (word (key Var)) a_declaration after_var old a (λ s. refl) t s ∙ x.goes (a_shape ∷ want (word (sign Semicolon)) ∷ s) ∙ y.goes (want (word (sign Semicolon)) ∷ s) ∙ u.goes s
+          goes = λ s. after_word (word (key Var)) a_declaration after_var old a (λ s. refl) t s ∙ x.goes (a_shape ∷ want (word (sign Semicolon)) ∷ s)
+              ∙ y.goes (want (word (sign Semicolon)) ∷ s) ∙ u.goes s
               ∙ ap (λ z. verdict s z.counts z.words) (sym k.state);
           shorter = omega (arith, size, t.shorter, x.shorter, y.shorter, u.shorter);
         };
@@ -278,10 +309,12 @@ module _ (labels : List (List ℕ)) where
       }
 
   -- the machine where a declaration begins
-  pub one_more : (now : State) → is (word (key Var)) (head_symbol now.words) ≡ true → (s : List Part) → verdict (declarations ∷ s) now.counts now.words ≡ verdict (a_declaration ∷ declarations ∷ s) now.counts now.words
+  pub one_more : (now : State) → is (word (key Var)) (head_symbol now.words) ≡ true → (s : List Part)
+      → verdict (declarations ∷ s) now.counts now.words ≡ verdict (a_declaration ∷ declarations ∷ s) now.counts now.words
   one_more now e s =
       left_out (declarations ∷ s) (a_declaration ∷ declarations ∷ s) now.counts now.words
-      (ap (λ b. cond b (Some (after_var (declarations ∷ s))) (step s (head_symbol now.words))) e ∙ sym (ap (λ b. cond b (Some (after_var (declarations ∷ s))) None) e))
+      (ap (λ b. cond b (Some (after_var (declarations ∷ s))) (step s (head_symbol now.words))) e
+          ∙ sym (ap (λ b. cond b (Some (after_var (declarations ∷ s))) None) e))
 
   pub declarations_first : (old : State) (list : List Declaration) → list ≡ [] → DeclarationsSoFar labels list old old
   declarations_first old list e =
@@ -292,7 +325,8 @@ module _ (labels : List (List ℕ)) where
         few = let z = ap length e in omega (arith, z);
       }
 
-  pub declarations_next : (old now new : State) (list next : List Declaration) → DeclarationsSoFar labels list old now → is (word (key Var)) (head_symbol now.words) ≡ true → IsDeclaration labels list next now new
+  pub declarations_next : (old now new : State) (list next : List Declaration) → DeclarationsSoFar labels list old now
+      → is (word (key Var)) (head_symbol now.words) ≡ true → IsDeclaration labels list next now new
       → DeclarationsSoFar labels next old new
   declarations_next old now new list next f e k =
       record {
@@ -304,7 +338,8 @@ module _ (labels : List (List ℕ)) where
         few = omega (arith, f.few, k.few);
       }
 
-  pub declarations_last : (old now : State) (list : List Declaration) → DeclarationsSoFar labels list old now → is (word (key Var)) (head_symbol now.words) ≡ false → AreDeclarations labels list old now
+  pub declarations_last : (old now : State) (list : List Declaration) → DeclarationsSoFar labels list old now
+      → is (word (key Var)) (head_symbol now.words) ≡ false → AreDeclarations labels list old now
   declarations_last old now list f e =
       let b = f.builds no_declarations now.words refl in
       record {

@@ -13,9 +13,15 @@ use Rattle.mit_syntax.specs.declared.token.Keyword.TheVariants.{Then, Do}
 use Rattle.mit_syntax.specs.declared.token.Sign.TheVariants.{Assign, RightRound, RightBrace, RightSquare}
 use Rattle.mit_parser.specs.Operators.{factor_op, addend_op, comparison_sign}
 use Rattle.mit_parser.specs.Scope.{Scope, or_else, kept, scalar_fault, array_fault, label_fault}
-use Rattle.mit_parser.specs.Tree.{Atom, Term, Factors, Sum, Addends, Whole, number_atom, name_atom, paren_atom, no_index, index_of, term_of, no_factor, and_factor, sum_of, no_addend, and_addend, plain, compared, front_atom, front_term, front_factors, front_sum, front_addends, front_whole, AndName, no_name, and_name, Marks, no_marks, marks_of, CommandTree, skip_of, assign_of, sleep_of, if_of, while_of, mitigate_of, Block, block_of, ElsePart, no_else, else_of, Commands, commands_of, More, no_more, and_more, front_and_name, front_marks, front_command, front_block, front_else, front_commands, front_more}
-use Rattle.mit_parser.specs.Meaning.{atom_value, term_value, factors_value, sum_value, addends_value, whole_value, and_name_value, marks_value, next_command, next_block, plan_command, plan_block, plan_else, plan_commands, plan_more}
-use Rattle.mit_parser.specs.Faults.{note_atom, note_term, note_factors, note_sum, note_addends, note_whole, note_and_name, note_marks, note_command, note_block, note_else, note_commands, note_more}
+use Rattle.mit_parser.specs.Tree.{Atom, Term, Factors, Sum, Addends, Whole, number_atom, name_atom, paren_atom, no_index, index_of, term_of, no_factor}
+use Rattle.mit_parser.specs.Tree.{and_factor, sum_of, no_addend, and_addend, plain, compared, front_atom, front_term, front_factors, front_sum, front_addends}
+use Rattle.mit_parser.specs.Tree.{front_whole, AndName, no_name, and_name, Marks, no_marks, marks_of, CommandTree, skip_of, assign_of, sleep_of, if_of}
+use Rattle.mit_parser.specs.Tree.{while_of, mitigate_of, Block, block_of, ElsePart, no_else, else_of, Commands, commands_of, More, no_more, and_more}
+use Rattle.mit_parser.specs.Tree.{front_and_name, front_marks, front_command, front_block, front_else, front_commands, front_more}
+use Rattle.mit_parser.specs.Meaning.{atom_value, term_value, factors_value, sum_value, addends_value, whole_value, and_name_value, marks_value, next_command}
+use Rattle.mit_parser.specs.Meaning.{next_block, plan_command, plan_block, plan_else, plan_commands, plan_more}
+use Rattle.mit_parser.specs.Faults.{note_atom, note_term, note_factors, note_sum, note_addends, note_whole, note_and_name, note_marks, note_command}
+use Rattle.mit_parser.specs.Faults.{note_block, note_else, note_commands, note_more}
 use Rattle.mit_parser.proofs.Numbered.{label_below}
 
 pub kept_split : (u v : Option ParseFault) → kept u v ≡ None → (u ≡ None) × (v ≡ None)
@@ -76,7 +82,8 @@ module _ (sc : Scope) where
     none_atom : (a : Atom) (u : Option ParseFault) → note_atom sc a u ≡ None → u ≡ None
     none_atom (number_atom n p) u e = e
     none_atom (name_atom w p no_index) u e = (kept_split u (scalar_fault sc.declarations w p) e).0
-    none_atom (name_atom w p (index_of q x s)) u e = (kept_split u (array_fault sc.declarations w p) (none_whole x (kept u (array_fault sc.declarations w p)) e)).0
+    none_atom (name_atom w p (index_of q x s)) u e =
+        (kept_split u (array_fault sc.declarations w p) (none_whole x (kept u (array_fault sc.declarations w p)) e)).0
     none_atom (paren_atom p x q) u e = none_whole x u e
 
     none_term : (t : Term) (u : Option ParseFault) → note_term sc t u ≡ None → u ≡ None
@@ -93,7 +100,8 @@ module _ (sc : Scope) where
     none_whole (plain s) u e = none_sum s u e
     none_whole (compared s o p t) u e = none_sum s u (none_sum t (note_sum sc s u) e)
 
-    pub known_factors : (fs : Factors) (l : Expression) (u : Option ParseFault) (r : List Told) → note_factors sc fs u ≡ None → IsKnown sc.declarations l → AreProper (front_factors fs r)
+    pub known_factors : (fs : Factors) (l : Expression) (u : Option ParseFault) (r : List Told) → note_factors sc fs u ≡ None → IsKnown sc.declarations l
+        → AreProper (front_factors fs r)
         → Known (factors_value sc fs l) u r
     known_factors no_factor l u r e k h = record { known = k; none = e; proper = h }
     known_factors (and_factor o p a fs) l u r e k h =
@@ -109,7 +117,8 @@ module _ (sc : Scope) where
         let y = known_addends ts (term_value sc t) (note_term sc t u) r e x.known x.proper in
         record { known = y.known; none = x.none; proper = y.proper }
 
-    pub known_addends : (ts : Addends) (l : Expression) (u : Option ParseFault) (r : List Told) → note_addends sc ts u ≡ None → IsKnown sc.declarations l → AreProper (front_addends ts r)
+    pub known_addends : (ts : Addends) (l : Expression) (u : Option ParseFault) (r : List Told) → note_addends sc ts u ≡ None → IsKnown sc.declarations l
+        → AreProper (front_addends ts r)
         → Known (addends_value sc ts l) u r
     known_addends no_addend l u r e k h = record { known = k; none = e; proper = h }
     known_addends (and_addend o p t ts) l u r e k h =
@@ -118,7 +127,8 @@ module _ (sc : Scope) where
         let y = known_addends ts (Binary (addend_op o) l (term_value sc t)) (note_term sc t u) r e (k, x.known) x.proper in
         record { known = y.known; none = x.none; proper = y.proper }
 
-    pub known_whole : (t : Whole) (u : Option ParseFault) (r : List Told) → note_whole sc t u ≡ None → AreProper (front_whole t r) → Known (whole_value sc t) u r
+    pub known_whole : (t : Whole) (u : Option ParseFault) (r : List Told) → note_whole sc t u ≡ None → AreProper (front_whole t r)
+        → Known (whole_value sc t) u r
     known_whole (plain s) u r e h = known_sum s u r e h
     known_whole (compared s o p t) u r e h =
         let none = none_sum t (note_sum sc s u) e in
@@ -205,7 +215,8 @@ module _ (sc : Scope) where
       none_more (and_more p c m) u e = none_command c u (none_more m (note_command sc c u) e)
 
     mutual
-      known_command : (c : CommandTree) (k : ℕ) (rest : Plan) (u : Option ParseFault) (r : List Told) → note_command sc c u ≡ None → AreProper (front_command c r)
+      known_command : (c : CommandTree) (k : ℕ) (rest : Plan) (u : Option ParseFault) (r : List Told) → note_command sc c u ≡ None
+          → AreProper (front_command c r)
           → (AreProper r → AllKnown rest) → KnownList (plan_command sc k c rest) u r
       known_command (skip_of p m) k rest u r e h t =
           let z = proper_marks m r h.1 in
@@ -219,7 +230,8 @@ module _ (sc : Scope) where
       known_command (assign_of w p (index_of a i b) q x m) k rest u r e h t =
           let v = none_marks m (note_whole sc x (note_whole sc i (kept u (array_fault sc.declarations w p)))) e in
           let n = none_whole x (note_whole sc i (kept u (array_fault sc.declarations w p))) v in
-          let j = known_whole i (kept u (array_fault sc.declarations w p)) (sign_at RightSquare b ∷ sign_at Assign q ∷ front_whole x (front_marks m r)) n h.1.1 in
+          let j = known_whole i (kept u (array_fault sc.declarations w p)) (sign_at RightSquare b ∷ sign_at Assign q ∷ front_whole x (front_marks m r)) n
+              h.1.1 in
           let y = known_whole x (note_whole sc i (kept u (array_fault sc.declarations w p))) (front_marks m r) v j.proper.1.1 in
           let s = kept_split u (array_fault sc.declarations w p) j.none in
           let z = proper_marks m r y.proper in
@@ -238,7 +250,8 @@ module _ (sc : Scope) where
           let z = proper_marks m (key_at Then q ∷ front_block b (front_else o r)) y.proper in
           let f = known_block b k a (front_else o r) e1 z.1 in
           let g = known_else o p (next_block b k) (note_block sc b a) r e f.proper in
-          record { known = (marks_below m, y.known, some_block b k, some_else o p (next_block b k), f.known, g.known, t g.proper); none = y.none; proper = g.proper }
+          record { known = (marks_below m, y.known, some_block b k, some_else o p (next_block b k), f.known, g.known, t g.proper); none = y.none; proper =
+              g.proper }
       known_command (while_of p x m q b) k rest u r e h t =
           let a = note_marks sc.labels m (note_whole sc x u) in
           let e2 = none_block b a e in
@@ -259,26 +272,32 @@ module _ (sc : Scope) where
           let f = known_block b (k + 1) a r e z in
           record { known = (marks_below m, second_below l, y.known, some_block b (k + 1), f.known, t f.proper); none = y.none; proper = f.proper }
 
-      known_block : (b : Block) (k : ℕ) (u : Option ParseFault) (r : List Told) → note_block sc b u ≡ None → AreProper (front_block b r) → KnownList (plan_block sc k b) u r
+      known_block : (b : Block) (k : ℕ) (u : Option ParseFault) (r : List Told) → note_block sc b u ≡ None → AreProper (front_block b r)
+          → KnownList (plan_block sc k b) u r
       known_block (block_of p c q) k u r e h =
           let x = known_commands c k u (sign_at RightBrace q ∷ r) e h.1 in
           record { known = x.known; none = x.none; proper = x.proper.1 }
 
-      known_else : (o : ElsePart) (p : Pos) (k : ℕ) (u : Option ParseFault) (r : List Told) → note_else sc o u ≡ None → AreProper (front_else o r) → KnownList (plan_else sc p k o) u r
+      known_else : (o : ElsePart) (p : Pos) (k : ℕ) (u : Option ParseFault) (r : List Told) → note_else sc o u ≡ None → AreProper (front_else o r)
+          → KnownList (plan_else sc p k o) u r
       known_else no_else p k u r e h = record { known = (tt, tt); none = e; proper = h }
       known_else (else_of q b) p k u r e h = known_block b k u r e h.1
 
-      pub known_commands : (c : Commands) (k : ℕ) (u : Option ParseFault) (r : List Told) → note_commands sc c u ≡ None → AreProper (front_commands c r) → KnownList (plan_commands sc k c) u r
+      pub known_commands : (c : Commands) (k : ℕ) (u : Option ParseFault) (r : List Told) → note_commands sc c u ≡ None → AreProper (front_commands c r)
+          → KnownList (plan_commands sc k c) u r
       known_commands (commands_of c m) k u r e h =
           let none = none_more m (note_command sc c u) e in
-          let x = known_command c k (plan_more sc (next_command c k) m) u (front_more m r) none h (λ y. (known_more m (next_command c k) (note_command sc c u) r e y).known) in
+          let x = known_command c k (plan_more sc (next_command c k) m) u (front_more m r) none h
+              (λ y. (known_more m (next_command c k) (note_command sc c u) r e y).known) in
           let y = known_more m (next_command c k) (note_command sc c u) r e x.proper in
           record { known = x.known; none = x.none; proper = y.proper }
 
-      known_more : (m : More) (k : ℕ) (u : Option ParseFault) (r : List Told) → note_more sc m u ≡ None → AreProper (front_more m r) → KnownList (plan_more sc k m) u r
+      known_more : (m : More) (k : ℕ) (u : Option ParseFault) (r : List Told) → note_more sc m u ≡ None → AreProper (front_more m r)
+          → KnownList (plan_more sc k m) u r
       known_more no_more k u r e h = record { known = tt; none = e; proper = h }
       known_more (and_more p c m) k u r e h =
           let none = none_more m (note_command sc c u) e in
-          let x = known_command c k (plan_more sc (next_command c k) m) u (front_more m r) none h.1 (λ y. (known_more m (next_command c k) (note_command sc c u) r e y).known) in
+          let x = known_command c k (plan_more sc (next_command c k) m) u (front_more m r) none h.1
+              (λ y. (known_more m (next_command c k) (note_command sc c u) r e y).known) in
           let y = known_more m (next_command c k) (note_command sc c u) r e x.proper in
           record { known = x.known; none = x.none; proper = y.proper }

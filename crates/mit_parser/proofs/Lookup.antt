@@ -1,5 +1,6 @@
 -- Names are looked up.
-use Rattle.std.proofs.Common.{◌≡◌, ◌≤◌, ◌∙◌, refl, sym, ap, ℕ, zero, suc, ◌+◌, ◌<◌, List, [], ◌∷◌, ◌++◌, length, length-append, get_or, Bool, true, false, true≢false, cond, Option, None, Some, arith}
+use Rattle.std.proofs.Common.{◌≡◌, ◌≤◌, ◌∙◌, refl, sym, ap, ℕ, zero, suc, ◌+◌, ◌<◌, List, [], ◌∷◌, ◌++◌, length, length-append, get_or, Bool, true, false}
+use Rattle.std.proofs.Common.{true≢false, cond, Option, None, Some, arith}
 use Rattle.std.specs.Prelude.{nat_lt, is_some, option_map}
 use Rattle.std.specs.List.{position_or_len}
 use Rattle.std.specs.Str.{bytes_eq}
@@ -22,13 +23,17 @@ other w x n = not_true (bytes_eq w x) (λ t. n (sym ((bytes_eq-Decides w x).0 t)
 module _ (names : List (List ℕ)) (w : List ℕ) where
   pub found_at : (a : ℕ) → a < length names → get_or names a [] ≡ w → ((k : ℕ) → k < a → get_or names k [] ≡ w → ⊥) → find_label names w ≡ Some a
   found_at a l e n =
-      let here : position_or_len (bytes_eq w) names ≡ a = position_or_len_is (bytes_eq w) names a [] (omega (arith, l)) (λ k lt. other w (get_or names k []) (n k lt)) (λ _. (bytes_eq-Decides w (get_or names a [])).1 (sym e)) in
+      let here : position_or_len (bytes_eq w) names ≡ a =
+          position_or_len_is (bytes_eq w) names a [] (omega (arith, l)) (λ k lt. other w (get_or names k []) (n k lt))
+          (λ _. (bytes_eq-Decides w (get_or names a [])).1 (sym e)) in
       let within : nat_lt a (length names) ≡ true = grind (arith, nat_tests) in
       rw (here, within)
 
   pub found_none : ((k : ℕ) → k < length names → get_or names k [] ≡ w → ⊥) → find_label names w ≡ None
   found_none n =
-      let here : position_or_len (bytes_eq w) names ≡ length names = position_or_len_is (bytes_eq w) names (length names) [] (omega arith) (λ k lt. other w (get_or names k []) (n k lt)) (λ lt. absurd (omega (arith, lt))) in
+      let here : position_or_len (bytes_eq w) names ≡ length names =
+          position_or_len_is (bytes_eq w) names (length names) [] (omega arith) (λ k lt. other w (get_or names k []) (n k lt))
+          (λ lt. absurd (omega (arith, lt))) in
       let past : nat_lt (length names) (length names) ≡ false = grind (arith, nat_tests) in
       rw (here, past)
 
@@ -63,17 +68,20 @@ some_map n None = refl
 some_map n (Some q) = refl
 
 -- a name that is not declared differs from each that is
-pub apart_declared : (ds : List Declaration) (w : List ℕ) → is_some (declared ds w) ≡ false → (k : ℕ) (d : List ℕ) → k < length (declared_names ds) → get_or (declared_names ds) k d ≡ w → ⊥
+pub apart_declared : (ds : List Declaration) (w : List ℕ) → is_some (declared ds w) ≡ false → (k : ℕ) (d : List ℕ) → k < length (declared_names ds)
+    → get_or (declared_names ds) k d ≡ w → ⊥
 apart_declared [] w e k d l s = absurd (omega (arith, l))
 apart_declared (x ∷ ds) w e k d l s = by (apart_declared ds w) k l s (bytes_eq w x.0) refl
   where
     by : (is_some (declared ds w) ≡ false → (k : ℕ) (d : List ℕ) → k < length (declared_names ds) → get_or (declared_names ds) k d ≡ w → ⊥)
         → (k : ℕ) → k < length (declared_names (x ∷ ds)) → get_or (declared_names (x ∷ ds)) k d ≡ w → (b : Bool) → bytes_eq w x.0 ≡ b → ⊥
     by rest k l s true h =
-        let z : true ≡ false = sym (ap is_some (cond-true (bytes_eq w x.0) (Some (0, x.1)) (option_map (λ r. (size_of x.1 + r.0, r.1)) (declared ds w)) h)) ∙ e in
+        let z : true ≡ false = sym (ap is_some (cond-true (bytes_eq w x.0) (Some (0, x.1)) (option_map (λ r. (size_of x.1 + r.0, r.1)) (declared ds w)) h))
+            ∙ e in
         true≢false z
     by rest zero l s false h = true≢false (sym ((bytes_eq-Decides w x.0).1 (sym s)) ∙ h)
     by rest (suc k) l s false h =
         let z : is_some (declared ds w) ≡ false =
-        sym (some_map (size_of x.1) (declared ds w)) ∙ sym (ap is_some (cond-false (bytes_eq w x.0) (Some (0, x.1)) (option_map (λ r. (size_of x.1 + r.0, r.1)) (declared ds w)) h)) ∙ e in
+        sym (some_map (size_of x.1) (declared ds w))
+            ∙ sym (ap is_some (cond-false (bytes_eq w x.0) (Some (0, x.1)) (option_map (λ r. (size_of x.1 + r.0, r.1)) (declared ds w)) h)) ∙ e in
         rest z k d (omega (arith, l)) s

@@ -1,5 +1,6 @@
 -- The finder of the first fault finds none in a header and in declarations exactly where their names are right.
-use Rattle.std.proofs.Common.{◌≡◌, ◌≤◌, ◌<◌, ◌+◌, refl, ap, ◌∙◌, sym, subst, ℕ, zero, suc, ℤ, List, [], ◌∷◌, ◌++◌, append_assoc, append-nil, length, get_or, Bool, true, false, true≢false, Option, Some, None, cond, ◌==◌, ◌||◌, arith}
+use Rattle.std.proofs.Common.{◌≡◌, ◌≤◌, ◌<◌, ◌+◌, refl, ap, ◌∙◌, sym, subst, ℕ, zero, suc, ℤ, List, [], ◌∷◌, ◌++◌, append_assoc, append-nil, length, get_or}
+use Rattle.std.proofs.Common.{Bool, true, false, true≢false, Option, Some, None, cond, ◌==◌, ◌||◌, arith}
 use Rattle.std.specs.Prelude.{is_some, map, ltb}
 use Rattle.std.proofs.lemmas.Bool.{eqb-false}
 use Rattle.std.proofs.lemmas.List.{map-append}
@@ -11,9 +12,14 @@ use Rattle.mit_syntax.specs.Declarations.{Declaration, declared, length_in, elem
 use Rattle.mit_parser.specs.declared.fault.ParseFault.{ParseFault}
 use Rattle.mit_parser.specs.declared.fault.ParseFault.TheVariants.{Twice, Size}
 use Rattle.mit_parser.specs.Scope.{find_label, kept, label_fault}
-use Rattle.mit_parser.specs.Tree.{MoreNames, no_more_names, and_more_names, PairTree, pair_of, MorePairs, no_more_pairs, and_pair, Ordering, no_ordering, ordering_of, Header, no_header, header_of, no_label, label_of, Shape, scalar_of, array_of, declaration_of, Declarations, no_declarations, and_declaration}
-use Rattle.mit_parser.specs.Faults.{Labelled, labelled, add_label, add_labels, header_labels, ordering_numbers, as_labels, header_pairs, note_pair, note_more_pairs, note_ordering, header_fault, size_number, is_bad_size, length_fault, written_label_fault, twice_fault, declaration_fault, decl_of, shape_label, shape_length, written_length, Declared, declaring, added, declare_all}
-use Rattle.mit_parser.specs.Named.{more_labels, label_names, label_pairs, declarations_in, declared_names, PairNamed, PairsNamed, OrderingNamed, HeaderNamed, ShapeNamed, ShapesNamed}
+use Rattle.mit_parser.specs.Tree.{MoreNames, no_more_names, and_more_names, PairTree, pair_of, MorePairs, no_more_pairs, and_pair, Ordering, no_ordering}
+use Rattle.mit_parser.specs.Tree.{ordering_of, Header, no_header, header_of, no_label, label_of, Shape, scalar_of, array_of, declaration_of, Declarations}
+use Rattle.mit_parser.specs.Tree.{no_declarations, and_declaration}
+use Rattle.mit_parser.specs.Faults.{Labelled, labelled, add_label, add_labels, header_labels, ordering_numbers, as_labels, header_pairs, note_pair}
+use Rattle.mit_parser.specs.Faults.{note_more_pairs, note_ordering, header_fault, size_number, is_bad_size, length_fault, written_label_fault, twice_fault}
+use Rattle.mit_parser.specs.Faults.{declaration_fault, decl_of, shape_label, shape_length, written_length, Declared, declaring, added, declare_all}
+use Rattle.mit_parser.specs.Named.{more_labels, label_names, label_pairs, declarations_in, declared_names, PairNamed, PairsNamed, OrderingNamed, HeaderNamed}
+use Rattle.mit_parser.specs.Named.{ShapeNamed, ShapesNamed}
 use Rattle.mit_parser.proofs.Known.{kept_split}
 use Rattle.mit_parser.proofs.Noted.{keep_declared}
 use Rattle.mit_parser.proofs.Tabled.{elements_push, few_after}
@@ -30,11 +36,13 @@ one_named : (p : _) (w : List ℕ) (q : _) (m : MoreNames) (done : List (List �
     → ((more : List (List ℕ)) (v : Option ParseFault) → AllDiffer more → (add_labels m (labelled more v)).fault ≡ None → Named m more v)
     → (add_labels m (add_label w q (labelled done u))).fault ≡ None → (b : Bool) → is_some (find_label done w) ≡ b → Named (and_more_names p w q m) done u
 one_named p w q m done u d rest e true h =
-    let step : add_label w q (labelled done u) ≡ labelled done (kept u (Some (Twice q))) = ap (λ b. cond {A = Labelled} b (labelled done (kept u (Some (Twice q)))) (labelled (done ++ w ∷ []) u)) h in
+    let step : add_label w q (labelled done u) ≡ labelled done (kept u (Some (Twice q))) =
+        ap (λ b. cond {A = Labelled} b (labelled done (kept u (Some (Twice q)))) (labelled (done ++ w ∷ []) u)) h in
     let i = rest done (kept u (Some (Twice q))) d (ap (λ s. (add_labels m s).fault) (sym step) ∙ e) in
     absurd (none-some (Twice q) (sym (kept_split u (Some (Twice q)) i.before).1))
 one_named p w q m done u d rest e false h =
-    let step : add_label w q (labelled done u) ≡ labelled (done ++ w ∷ []) u = ap (λ b. cond {A = Labelled} b (labelled done (kept u (Some (Twice q)))) (labelled (done ++ w ∷ []) u)) h in
+    let step : add_label w q (labelled done u) ≡ labelled (done ++ w ∷ []) u =
+        ap (λ b. cond {A = Labelled} b (labelled done (kept u (Some (Twice q)))) (labelled (done ++ w ∷ []) u)) h in
     let more : AllDiffer (done ++ w ∷ []) = all_pairs_push (λ a b. a ≡ b → ⊥) done w d (λ k x l. apart_from done w h k x l) in
     let i = rest (done ++ w ∷ []) u more (ap (λ s. (add_labels m s).fault) (sym step) ∙ e) in
     record { before = i.before; differ = subst AllDiffer (append_assoc done (w ∷ []) (more_labels m)) i.differ }
@@ -43,7 +51,8 @@ labels_named : (m : MoreNames) (done : List (List ℕ)) (u : Option ParseFault) 
 labels_named no_more_names done u d e = record { before = e; differ = subst AllDiffer (sym (append-nil done)) d }
 labels_named (and_more_names p w q m) done u d e = one_named p w q m done u d (labels_named m) e (is_some (find_label done w)) refl
 
-labels_calm : (m : MoreNames) (done : List (List ℕ)) → AllDiffer (done ++ more_labels m) → add_labels m (labelled done None) ≡ labelled (done ++ more_labels m) None
+labels_calm : (m : MoreNames) (done : List (List ℕ)) → AllDiffer (done ++ more_labels m)
+    → add_labels m (labelled done None) ≡ labelled (done ++ more_labels m) None
 labels_calm no_more_names done h = ap (λ z. labelled z None) (sym (append-nil done))
 labels_calm (and_more_names p w q m) done h =
     let grouped : (done ++ w ∷ []) ++ more_labels m ≡ done ++ w ∷ more_labels m = append_assoc done (w ∷ []) (more_labels m) in
@@ -117,7 +126,8 @@ header_named (header_of p w q m u o) e =
 
 pub header_calm : (h : Header) → AllDiffer (label_names h) → HeaderNamed h → header_fault h ≡ None
 header_calm no_header d h = refl
-header_calm (header_of p w q m u o) d h = ap (λ (l : Labelled). note_ordering l.names o l.fault) (labels_calm m (w ∷ []) d) ∙ ordering_calm (w ∷ more_labels m) o h
+header_calm (header_of p w q m u o) d h = ap (λ (l : Labelled). note_ordering l.names o l.fault) (labels_calm m (w ∷ []) d)
+    ∙ ordering_calm (w ∷ more_labels m) o h
 
 -- ---- the declarations
 
@@ -148,12 +158,14 @@ names_push : (ds : List Declaration) (d : Declaration) → declared_names (ds ++
 names_push ds d = map-append (λ (x : Declaration). x.0) ds (d ∷ [])
 
 module _ (labels : List (List ℕ)) where
-  shape_named : (ds : List Declaration) (z : Shape) → length_fault ds (shape_length z) ≡ None → written_label_fault labels (shape_label z) ≡ None → ShapeNamed labels z
+  shape_named : (ds : List Declaration) (z : Shape) → length_fault ds (shape_length z) ≡ None
+      → written_label_fault labels (shape_label z) ≡ None → ShapeNamed labels z
   shape_named ds (scalar_of no_label) e f = tt
   shape_named ds (scalar_of (label_of p w q)) e f = label_named labels w q f
   shape_named ds (array_of p n q u v w x) e f = (not_zero ds n q e, label_named labels w x f)
 
-  length_calm : (ds : List Declaration) (z : Shape) → ShapeNamed labels z → elements_in ds + length_in (written_length (shape_length z)) ≤ 2048 → length_fault ds (shape_length z) ≡ None
+  length_calm : (ds : List Declaration) (z : Shape) → ShapeNamed labels z → elements_in ds + length_in (written_length (shape_length z)) ≤ 2048
+      → length_fault ds (shape_length z) ≡ None
   length_calm ds (scalar_of no_label) h f = refl
   length_calm ds (scalar_of (label_of p w q)) h f = refl
   length_calm ds (array_of p n q u v w x) h f = ap (λ b. cond b (Some (Size q)) None) (size_good (size_number n) (elements_in ds) h.0 f)
@@ -170,10 +182,13 @@ module _ (labels : List (List ℕ)) where
     pub once : AllDiffer (declared_names (done ++ declarations_in labels t))
     pub few : elements_in (done ++ declarations_in labels t) ≤ 2048
 
-  one_declared : (p : Pos) (w : List ℕ) (q : Pos) (z : Shape) (v : Pos) (m : Declarations) (done : List Declaration) (u : Option ParseFault) → AllDiffer (declared_names done) → elements_in done ≤ 2048
-      → ((more : List Declaration) (f : Option ParseFault) → AllDiffer (declared_names more) → elements_in more ≤ 2048 → (declare_all labels m (declaring more f)).fault ≡ None → AreDeclared m more f)
+  one_declared : (p : Pos) (w : List ℕ) (q : Pos) (z : Shape) (v : Pos) (m : Declarations) (done : List Declaration) (u : Option ParseFault)
+      → AllDiffer (declared_names done) → elements_in done ≤ 2048
+      → ((more : List Declaration) (f : Option ParseFault) → AllDiffer (declared_names more) → elements_in more ≤ 2048
+      → (declare_all labels m (declaring more f)).fault ≡ None → AreDeclared m more f)
       → (f : Option ParseFault) → kept u (declaration_fault labels done w q (shape_label z) (shape_length z)) ≡ f
-      → (declare_all labels m (added done (w, decl_of labels (shape_label z) (shape_length z)) f)).fault ≡ None → AreDeclared (and_declaration (declaration_of p w q z v) m) done u
+      → (declare_all labels m (added done (w, decl_of labels (shape_label z) (shape_length z)) f)).fault ≡ None
+      → AreDeclared (and_declaration (declaration_of p w q z v) m) done u
   one_declared p w q z v m done u d l rest (Some f) h e = absurd (none-some f (sym e ∙ ap (λ s. s.fault) (keep_declared labels m done f)))
   one_declared p w q z v m done u d l rest None h e =
       let x : Declaration = (w, decl_of labels (shape_label z) (shape_length z)) in
@@ -185,7 +200,8 @@ module _ (labels : List (List ℕ)) where
       subst AllDiffer (sym (names_push done x)) (all_pairs_push (λ a b. a ≡ b → ⊥) (declared_names done) w d (λ k y l. fresh k y l)) in
       let few : elements_in (done ++ x ∷ []) ≤ 2048 = subst (λ n. n ≤ 2048) (sym (elements_push done x)) (few_after done (shape_length z) l b.0) in
       let i = rest (done ++ x ∷ []) None differ few e in
-      let grouped : (done ++ x ∷ []) ++ declarations_in labels m ≡ done ++ x ∷ declarations_in labels m = append_assoc done (x ∷ []) (declarations_in labels m) in
+      let grouped : (done ++ x ∷ []) ++ declarations_in labels m ≡ done ++ x ∷ declarations_in labels m =
+          append_assoc done (x ∷ []) (declarations_in labels m) in
       record {
         before = k.0;
         shapes = (shape_named done z b.0 b.1, i.shapes);
@@ -193,7 +209,8 @@ module _ (labels : List (List ℕ)) where
         few = subst (λ (l : List Declaration). elements_in l ≤ 2048) grouped i.few;
       }
 
-  pub are_declared : (t : Declarations) (done : List Declaration) (u : Option ParseFault) → AllDiffer (declared_names done) → elements_in done ≤ 2048 → (declare_all labels t (declaring done u)).fault ≡ None → AreDeclared t done u
+  pub are_declared : (t : Declarations) (done : List Declaration) (u : Option ParseFault) → AllDiffer (declared_names done) → elements_in done ≤ 2048
+      → (declare_all labels t (declaring done u)).fault ≡ None → AreDeclared t done u
   are_declared no_declarations done u d l e =
       record {
         before = e;
@@ -208,7 +225,8 @@ module _ (labels : List (List ℕ)) where
   none_kept x y z e f g = cc
 
   -- declarations that are right are those that the finder keeps
-  pub declared_are : (t : Declarations) (done : List Declaration) → ShapesNamed labels t → AllDiffer (declared_names (done ++ declarations_in labels t)) → elements_in done + elements_in (declarations_in labels t) ≤ 2048
+  pub declared_are : (t : Declarations) (done : List Declaration) → ShapesNamed labels t → AllDiffer (declared_names (done ++ declarations_in labels t))
+      → elements_in done + elements_in (declarations_in labels t) ≤ 2048
       → declare_all labels t (declaring done None) ≡ declaring (done ++ declarations_in labels t) None
   declared_are no_declarations done s d l = ap (λ z. declaring z None) (sym (append-nil done))
   declared_are (and_declaration (declaration_of p w q z v) m) done s d l =
@@ -220,7 +238,8 @@ module _ (labels : List (List ℕ)) where
       let twice : twice_fault done w q ≡ None = ap (λ y. cond (is_some y) (Some (Twice q)) None) fresh in
       let size : length_fault done (shape_length z) ≡ None = length_calm done z s.0 (omega (arith, l)) in
       let here : added done x (kept None (declaration_fault labels done w q (shape_label z) (shape_length z))) ≡ declaring (done ++ x ∷ []) None =
-      ap (added done x) (none_kept (twice_fault done w q) (length_fault done (shape_length z)) (written_label_fault labels (shape_label z)) twice size (shape_calm z s.0)) in
+      ap (added done x) (none_kept (twice_fault done w q) (length_fault done (shape_length z)) (written_label_fault labels (shape_label z))
+          twice size (shape_calm z s.0)) in
       let push = elements_push done x in
       ap (declare_all labels m) here
       ∙ declared_are m (done ++ x ∷ []) s.1 (subst (λ (y : List Declaration). AllDiffer (declared_names y)) (sym grouped) d) (omega (arith, l, push))

@@ -6,9 +6,14 @@ use Rattle.mit_syntax.specs.Declarations.{Declaration, find_scalar, find_array}
 use Rattle.mit_parser.specs.declared.fault.ParseFault.{ParseFault}
 use Rattle.mit_parser.specs.declared.fault.ParseFault.TheVariants.{Unknown, Misuse}
 use Rattle.mit_parser.specs.Scope.{Scope, find_label, kept, label_fault, scalar_fault, array_fault}
-use Rattle.mit_parser.specs.Tree.{Atom, Index, Term, Factors, Sum, Addends, Whole, number_atom, name_atom, paren_atom, no_index, index_of, term_of, no_factor, and_factor, sum_of, no_addend, and_addend, plain, compared, AndName, no_name, and_name, Marks, no_marks, marks_of, CommandTree, skip_of, assign_of, sleep_of, if_of, while_of, mitigate_of, Block, block_of, ElsePart, no_else, else_of, Commands, commands_of, More, no_more, and_more}
-use Rattle.mit_parser.specs.Faults.{use_fault, note_atom, note_index, note_term, note_factors, note_sum, note_addends, note_whole, note_and_name, note_marks, note_command, note_block, note_else, note_commands, note_more}
-use Rattle.mit_parser.specs.Named.{IsLabelName, IsUsed, AtomNamed, IndexNamed, TermNamed, FactorsNamed, SumNamed, AddendsNamed, WholeNamed, SecondNamed, MarksNamed, CommandNamed, BlockNamed, ElseNamed, CommandsNamed, MoreNamed}
+use Rattle.mit_parser.specs.Tree.{Atom, Index, Term, Factors, Sum, Addends, Whole, number_atom, name_atom, paren_atom, no_index, index_of, term_of, no_factor}
+use Rattle.mit_parser.specs.Tree.{and_factor, sum_of, no_addend, and_addend, plain, compared, AndName, no_name, and_name, Marks, no_marks, marks_of}
+use Rattle.mit_parser.specs.Tree.{CommandTree, skip_of, assign_of, sleep_of, if_of, while_of, mitigate_of, Block, block_of, ElsePart, no_else, else_of}
+use Rattle.mit_parser.specs.Tree.{Commands, commands_of, More, no_more, and_more}
+use Rattle.mit_parser.specs.Faults.{use_fault, note_atom, note_index, note_term, note_factors, note_sum, note_addends, note_whole, note_and_name, note_marks}
+use Rattle.mit_parser.specs.Faults.{note_command, note_block, note_else, note_commands, note_more}
+use Rattle.mit_parser.specs.Named.{IsLabelName, IsUsed, AtomNamed, IndexNamed, TermNamed, FactorsNamed, SumNamed, AddendsNamed, WholeNamed, SecondNamed}
+use Rattle.mit_parser.specs.Named.{MarksNamed, CommandNamed, BlockNamed, ElseNamed, CommandsNamed, MoreNamed}
 use Rattle.mit_parser.proofs.Known.{kept_split}
 
 pub label_named : (labels : List (List ℕ)) (w : List ℕ) (p : Pos) → label_fault labels w p ≡ None → IsLabelName labels w
@@ -196,14 +201,18 @@ module _ (sc : Scope) where
     calm_command : (c : CommandTree) → CommandNamed sc c → note_command sc c None ≡ None
     calm_command (skip_of p m) h = calm_marks m h
     calm_command (assign_of w p i q t m) h =
-        ap (λ z. note_marks sc.labels m (note_whole sc t (note_index sc i z))) (use_calm w p i h.0) ∙ ap (λ z. note_marks sc.labels m (note_whole sc t z)) (calm_index i h.1)
+        ap (λ z. note_marks sc.labels m (note_whole sc t (note_index sc i z))) (use_calm w p i h.0)
+            ∙ ap (λ z. note_marks sc.labels m (note_whole sc t z)) (calm_index i h.1)
         ∙ ap (note_marks sc.labels m) (calm_whole t h.2) ∙ calm_marks m h.3
     calm_command (sleep_of p t m) h = ap (note_marks sc.labels m) (calm_whole t h.0) ∙ calm_marks m h.1
     calm_command (if_of p t m q b o) h =
-        ap (λ z. note_else sc o (note_block sc b (note_marks sc.labels m z))) (calm_whole t h.0) ∙ ap (λ z. note_else sc o (note_block sc b z)) (calm_marks m h.1) ∙ ap (note_else sc o) (calm_block b h.2) ∙ calm_else o h.3
-    calm_command (while_of p t m q b) h = ap (λ z. note_block sc b (note_marks sc.labels m z)) (calm_whole t h.0) ∙ ap (note_block sc b) (calm_marks m h.1) ∙ calm_block b h.2
+        ap (λ z. note_else sc o (note_block sc b (note_marks sc.labels m z))) (calm_whole t h.0)
+            ∙ ap (λ z. note_else sc o (note_block sc b z)) (calm_marks m h.1) ∙ ap (note_else sc o) (calm_block b h.2) ∙ calm_else o h.3
+    calm_command (while_of p t m q b) h =
+        ap (λ z. note_block sc b (note_marks sc.labels m z)) (calm_whole t h.0) ∙ ap (note_block sc b) (calm_marks m h.1) ∙ calm_block b h.2
     calm_command (mitigate_of p q t l r m b) h =
-        ap (λ z. note_block sc b (note_marks sc.labels m (note_and_name sc.labels l z))) (calm_whole t h.0) ∙ ap (λ z. note_block sc b (note_marks sc.labels m z)) (calm_second l h.1)
+        ap (λ z. note_block sc b (note_marks sc.labels m (note_and_name sc.labels l z))) (calm_whole t h.0)
+            ∙ ap (λ z. note_block sc b (note_marks sc.labels m z)) (calm_second l h.1)
         ∙ ap (note_block sc b) (calm_marks m h.2) ∙ calm_block b h.3
 
     calm_block : (b : Block) → BlockNamed sc b → note_block sc b None ≡ None

@@ -11,7 +11,8 @@ use Rattle.mit_parser.specs.declared.fault.ParseFault.TheVariants.{TooMany}
 use Rattle.mit_parser.specs.Scope.{scope, kept}
 use Rattle.mit_parser.specs.Tree.{ProgramTree}
 use Rattle.mit_parser.specs.Meaning.{plan_commands}
-use Rattle.mit_parser.specs.Faults.{Labelled, header_labels, header_pairs, header_fault, Declared, declaring, declared_by, many_fault, note_commands, body_fault}
+use Rattle.mit_parser.specs.Faults.{Labelled, header_labels, header_pairs, header_fault, Declared, declaring, declared_by, many_fault, note_commands}
+use Rattle.mit_parser.specs.Faults.{body_fault}
 use Rattle.mit_parser.specs.Named.{label_names, label_pairs, declarations_in, CommandsNamed, IsNamed}
 use Rattle.mit_parser.specs.Spells.{Resolves}
 use Rattle.mit_parser.proofs.Known.{kept_split}
@@ -99,7 +100,8 @@ resolves_of t s f =
     let names : (header_labels t.header).names ≡ label_names t.header = ap (λ (l : Labelled). l.names) (labels_kept t h) in
     record {
       named = h;
-      order = subst (λ (n : List (List ℕ)). IsBuilt n (label_pairs t.header) s.order) names (subst (λ (p : List (Label × Label)). IsBuilt (header_labels t.header).names p s.order) (pairs_kept t h) f.order);
+      order = subst (λ (n : List (List ℕ)). IsBuilt n (label_pairs t.header) s.order) names
+          (subst (λ (p : List (Label × Label)). IsBuilt (header_labels t.header).names p s.order) (pairs_kept t h) f.order);
       pairs = f.pairs ∙ pairs_kept t h;
       declarations = f.declarations ∙ declared_kept t h;
       plan = f.plan ∙ ap (λ (n : List (List ℕ)). plan_commands (scope n s.declarations) 0 t.commands) names;

@@ -7,8 +7,16 @@ use Rattle.mit_parser.specs.declared.fault.ParseFault.{ParseFault}
 use Rattle.mit_parser.specs.declared.fault.ParseFault.TheVariants.{Unexpected, TooDeep, TooMany, Unknown, Twice, Lattice, Memory, Size, Misuse}
 use Rattle.mit_parser.specs.Words.{Told}
 use Rattle.mit_parser.specs.Scope.{Scope, kept, find_label, label_fault}
-use Rattle.mit_parser.specs.Tree.{Atom, Index, Term, Factors, Sum, Addends, Whole, number_atom, name_atom, paren_atom, no_index, index_of, term_of, no_factor, and_factor, sum_of, no_addend, and_addend, plain, compared, AndName, no_name, and_name, Marks, no_marks, marks_of, CommandTree, skip_of, assign_of, sleep_of, if_of, while_of, mitigate_of, Block, block_of, ElsePart, no_else, else_of, Commands, commands_of, More, no_more, and_more, MoreNames, no_more_names, and_more_names, PairTree, pair_of, MorePairs, no_more_pairs, and_pair, Ordering, no_ordering, ordering_of, Header, no_header, header_of, declaration_of, Declarations, no_declarations, and_declaration}
-use Rattle.mit_parser.specs.Faults.{use_fault, note_atom, note_index, note_term, note_factors, note_sum, note_addends, note_whole, note_and_name, note_marks, note_command, note_block, note_else, note_commands, note_more, Labelled, labelled, add_label, add_labels, note_pair, note_more_pairs, note_ordering, header_fault, IsLatticeFault, is_bad_size, length_fault, written_label_fault, twice_fault, declaration_fault, Declared, declaring, added, declare, declare_all, many_fault}
+use Rattle.mit_parser.specs.Tree.{Atom, Index, Term, Factors, Sum, Addends, Whole, number_atom, name_atom, paren_atom, no_index, index_of, term_of, no_factor}
+use Rattle.mit_parser.specs.Tree.{and_factor, sum_of, no_addend, and_addend, plain, compared, AndName, no_name, and_name, Marks, no_marks, marks_of}
+use Rattle.mit_parser.specs.Tree.{CommandTree, skip_of, assign_of, sleep_of, if_of, while_of, mitigate_of, Block, block_of, ElsePart, no_else, else_of}
+use Rattle.mit_parser.specs.Tree.{Commands, commands_of, More, no_more, and_more, MoreNames, no_more_names, and_more_names, PairTree, pair_of, MorePairs}
+use Rattle.mit_parser.specs.Tree.{no_more_pairs, and_pair, Ordering, no_ordering, ordering_of, Header, no_header, header_of, declaration_of, Declarations}
+use Rattle.mit_parser.specs.Tree.{no_declarations, and_declaration}
+use Rattle.mit_parser.specs.Faults.{use_fault, note_atom, note_index, note_term, note_factors, note_sum, note_addends, note_whole, note_and_name, note_marks}
+use Rattle.mit_parser.specs.Faults.{note_command, note_block, note_else, note_commands, note_more, Labelled, labelled, add_label, add_labels, note_pair}
+use Rattle.mit_parser.specs.Faults.{note_more_pairs, note_ordering, header_fault, IsLatticeFault, is_bad_size, length_fault, written_label_fault, twice_fault}
+use Rattle.mit_parser.specs.Faults.{declaration_fault, Declared, declaring, added, declare, declare_all, many_fault}
 use Rattle.mit_parser.specs.Spells.{IsMisnamed, Refuses}
 
 abbrev pub IsOfNames : Option ParseFault → Type 0
@@ -89,7 +97,8 @@ module _ (sc : Scope) where
 
   of_marks : (m : Marks) (u : Option ParseFault) → IsOfNames u → IsOfNames (note_marks sc.labels m u)
   of_marks no_marks u h = h
-  of_marks (marks_of p q w r s v) u h = of_second s (kept u (label_fault sc.labels w r)) (kept_of u (label_fault sc.labels w r) h (label_of_names sc.labels w r))
+  of_marks (marks_of p q w r s v) u h =
+      of_second s (kept u (label_fault sc.labels w r)) (kept_of u (label_fault sc.labels w r) h (label_of_names sc.labels w r))
 
   mutual
     of_command : (c : CommandTree) (u : Option ParseFault) → IsOfNames u → IsOfNames (note_command sc c u)
@@ -99,10 +108,12 @@ module _ (sc : Scope) where
         (of_index i (kept u (use_fault sc w p i)) (kept_of u (use_fault sc w p i) h (used w p i))))
     of_command (sleep_of p e m) u h = of_marks m (note_whole sc e u) (of_whole e u h)
     of_command (if_of p e m q b o) u h =
-        of_else o (note_block sc b (note_marks sc.labels m (note_whole sc e u))) (of_block b (note_marks sc.labels m (note_whole sc e u)) (of_marks m (note_whole sc e u) (of_whole e u h)))
+        of_else o (note_block sc b (note_marks sc.labels m (note_whole sc e u)))
+            (of_block b (note_marks sc.labels m (note_whole sc e u)) (of_marks m (note_whole sc e u) (of_whole e u h)))
     of_command (while_of p e m q b) u h = of_block b (note_marks sc.labels m (note_whole sc e u)) (of_marks m (note_whole sc e u) (of_whole e u h))
     of_command (mitigate_of p q e l r m b) u h =
-        of_block b (note_marks sc.labels m (note_and_name sc.labels l (note_whole sc e u))) (of_marks m (note_and_name sc.labels l (note_whole sc e u)) (of_second l (note_whole sc e u) (of_whole e u h)))
+        of_block b (note_marks sc.labels m (note_and_name sc.labels l (note_whole sc e u)))
+            (of_marks m (note_and_name sc.labels l (note_whole sc e u)) (of_second l (note_whole sc e u) (of_whole e u h)))
 
     of_block : (b : Block) (u : Option ParseFault) → IsOfNames u → IsOfNames (note_block sc b u)
     of_block (block_of p c q) u h = of_commands c u h
@@ -157,13 +168,17 @@ module _ (sc : Scope) where
       keep_command : (c : CommandTree) → note_command sc c (Some f) ≡ Some f
       keep_command (skip_of p m) = keep_marks m
       keep_command (assign_of w p no_index q e m) = ap (note_marks sc.labels m) (keep_whole e) ∙ keep_marks m
-      keep_command (assign_of w p (index_of a i b) q e m) = ap (λ z. note_marks sc.labels m (note_whole sc e z)) (keep_whole i) ∙ ap (note_marks sc.labels m) (keep_whole e) ∙ keep_marks m
+      keep_command (assign_of w p (index_of a i b) q e m) =
+          ap (λ z. note_marks sc.labels m (note_whole sc e z)) (keep_whole i) ∙ ap (note_marks sc.labels m) (keep_whole e) ∙ keep_marks m
       keep_command (sleep_of p e m) = ap (note_marks sc.labels m) (keep_whole e) ∙ keep_marks m
       keep_command (if_of p e m q b o) =
-          ap (λ z. note_else sc o (note_block sc b (note_marks sc.labels m z))) (keep_whole e) ∙ ap (λ z. note_else sc o (note_block sc b z)) (keep_marks m) ∙ ap (note_else sc o) (keep_block b) ∙ keep_else o
-      keep_command (while_of p e m q b) = ap (λ z. note_block sc b (note_marks sc.labels m z)) (keep_whole e) ∙ ap (note_block sc b) (keep_marks m) ∙ keep_block b
+          ap (λ z. note_else sc o (note_block sc b (note_marks sc.labels m z))) (keep_whole e) ∙ ap (λ z. note_else sc o (note_block sc b z)) (keep_marks m)
+              ∙ ap (note_else sc o) (keep_block b) ∙ keep_else o
+      keep_command (while_of p e m q b) =
+          ap (λ z. note_block sc b (note_marks sc.labels m z)) (keep_whole e) ∙ ap (note_block sc b) (keep_marks m) ∙ keep_block b
       keep_command (mitigate_of p q e l r m b) =
-          ap (λ z. note_block sc b (note_marks sc.labels m (note_and_name sc.labels l z))) (keep_whole e) ∙ ap (λ z. note_block sc b (note_marks sc.labels m z)) (keep_second l)
+          ap (λ z. note_block sc b (note_marks sc.labels m (note_and_name sc.labels l z))) (keep_whole e)
+              ∙ ap (λ z. note_block sc b (note_marks sc.labels m z)) (keep_second l)
           ∙ ap (note_block sc b) (keep_marks m) ∙ keep_block b
 
       keep_block : (b : Block) → note_block sc b (Some f) ≡ Some f
@@ -209,10 +224,12 @@ module _ (labels : List (List ℕ)) where
   of_declared no_declarations s h = h
   of_declared (and_declaration (declaration_of p w q z u) m) s h =
       of_declared m (declare labels (declaration_of p w q z u) s)
-      (added_of s.list _ (kept s.fault (declaration_fault labels s.list w q (Rattle.mit_parser.specs.Faults.shape_label z) (Rattle.mit_parser.specs.Faults.shape_length z)))
+      (added_of s.list _ (kept s.fault
+          (declaration_fault labels s.list w q (Rattle.mit_parser.specs.Faults.shape_label z) (Rattle.mit_parser.specs.Faults.shape_length z)))
       (kept_of s.fault (declaration_fault labels s.list w q (Rattle.mit_parser.specs.Faults.shape_label z) (Rattle.mit_parser.specs.Faults.shape_length z)) h
       (kept_of (twice_fault s.list w q) _ (twice_of (is_some (declared s.list w)) q)
-      (kept_of (length_fault s.list (Rattle.mit_parser.specs.Faults.shape_length z)) _ (length_of s.list (Rattle.mit_parser.specs.Faults.shape_length z)) (label_of (Rattle.mit_parser.specs.Faults.shape_label z))))))
+      (kept_of (length_fault s.list (Rattle.mit_parser.specs.Faults.shape_length z)) _ (length_of s.list (Rattle.mit_parser.specs.Faults.shape_length z))
+          (label_of (Rattle.mit_parser.specs.Faults.shape_label z))))))
 
 many_if : (b : Bool) (n : ℕ) → IsOfNames (cond b (Some (TooMany n)) None)
 many_if true n = tt
@@ -221,7 +238,8 @@ many_if false n = tt
 pub many_of : (ds : List Declaration) → IsOfNames (many_fault ds)
 many_of ds = many_if (ltb 1024 (length ds)) (length ds)
 
-twice_added : (b : Bool) (names more : List (List ℕ)) (u : Option ParseFault) (p : Pos) → IsOfNames u → IsOfNames (cond {A = Labelled} b (labelled names (kept u (Some (Twice p)))) (labelled more u)).fault
+twice_added : (b : Bool) (names more : List (List ℕ)) (u : Option ParseFault) (p : Pos) → IsOfNames u
+    → IsOfNames (cond {A = Labelled} b (labelled names (kept u (Some (Twice p)))) (labelled more u)).fault
 twice_added true names more u p h = kept_of u (Some (Twice p)) h tt
 twice_added false names more u p h = h
 
@@ -232,7 +250,8 @@ of_labels (and_more_names p w q m) s h = of_labels m (add_label w q s) (twice_ad
 module _ (labels : List (List ℕ)) where
   of_pair : (x : PairTree) (u : Option ParseFault) → IsOfNames u → IsOfNames (note_pair labels x u)
   of_pair (pair_of a p q b r) u h =
-      kept_of (kept u (label_fault labels a p)) (label_fault labels b r) (kept_of u (label_fault labels a p) h (label_of_names labels a p)) (label_of_names labels b r)
+      kept_of (kept u (label_fault labels a p)) (label_fault labels b r) (kept_of u (label_fault labels a p) h (label_of_names labels a p))
+          (label_of_names labels b r)
 
   of_pairs : (m : MorePairs) (u : Option ParseFault) → IsOfNames u → IsOfNames (note_more_pairs labels m u)
   of_pairs no_more_pairs u h = h

@@ -15,10 +15,12 @@ use Rattle.mit_parser.specs.Scope.{find_label, or_else, as_label}
 use Rattle.mit_parser.specs.Tree.{PairTree, pair_of, MorePairs, no_more_pairs, and_pair, Ordering, no_ordering, ordering_of}
 use Rattle.mit_parser.specs.Faults.{as_labels, AreNumbersBelow, pair_numbers, more_numbers, ordering_numbers}
 
-pub as_take : (xs : List (ℕ × ℕ)) (i : ℕ) (d : ℕ × ℕ) → i < length xs → as_labels (take (i + 1) xs) ≡ as_labels (take i xs) ++ (as_label (get_or xs i d).0, as_label (get_or xs i d).1) ∷ []
+pub as_take : (xs : List (ℕ × ℕ)) (i : ℕ) (d : ℕ × ℕ) → i < length xs
+    → as_labels (take (i + 1) xs) ≡ as_labels (take i xs) ++ (as_label (get_or xs i d).0, as_label (get_or xs i d).1) ∷ []
 as_take xs i d h = rw add-one (by xs i h)
   where
-    by : (xs : List (ℕ × ℕ)) (i : ℕ) → i < length xs → as_labels (take (suc i) xs) ≡ as_labels (take i xs) ++ (as_label (get_or xs i d).0, as_label (get_or xs i d).1) ∷ []
+    by : (xs : List (ℕ × ℕ)) (i : ℕ) → i < length xs
+        → as_labels (take (suc i) xs) ≡ as_labels (take i xs) ++ (as_label (get_or xs i d).0, as_label (get_or xs i d).1) ∷ []
     by [] i h = absurd (omega (arith, h))
     by (x ∷ xs) zero h = refl
     by (x ∷ xs) (suc i) h = ap (λ l. (as_label x.0, as_label x.1) ∷ l) (by xs i (omega (arith, h)))
@@ -43,11 +45,13 @@ module _ (labels : List (List ℕ)) (some : 0 < length labels) where
 
   below_more : (m : MorePairs) → AreNumbersBelow (length labels) (more_numbers labels m)
   below_more no_more_pairs = λ k d h. absurd (omega (arith, h))
-  below_more (and_pair p x m) = All-cons (λ n. (n.0 < length labels) × (n.1 < length labels)) (pair_numbers labels x) (more_numbers labels m) (pair_below x) (below_more m)
+  below_more (and_pair p x m) = All-cons (λ n. (n.0 < length labels) × (n.1 < length labels)) (pair_numbers labels x) (more_numbers labels m)
+      (pair_below x) (below_more m)
 
   pub numbers_below : (o : Ordering) → AreNumbersBelow (length labels) (ordering_numbers labels o)
   numbers_below no_ordering = λ k d h. absurd (omega (arith, h))
-  numbers_below (ordering_of p x m q) = All-cons (λ n. (n.0 < length labels) × (n.1 < length labels)) (pair_numbers labels x) (more_numbers labels m) (pair_below x) (below_more m)
+  numbers_below (ordering_of p x m q) =
+      All-cons (λ n. (n.0 < length labels) × (n.1 < length labels)) (pair_numbers labels x) (more_numbers labels m) (pair_below x) (below_more m)
 
 pub as_labels_below : (n : ℕ) (ps : List (ℕ × ℕ)) → AreNumbersBelow n ps → AreBelow n (as_labels ps)
 as_labels_below n [] h = λ k d l. absurd (omega (arith, l))

@@ -11,10 +11,13 @@ use Rattle.mit_parser.specs.declared.fault.ParseFault.{ParseFault}
 use Rattle.mit_parser.specs.declared.fault.ParseFault.TheVariants.{Size}
 use Rattle.mit_parser.specs.Words.{Told, AreProper}
 use Rattle.mit_parser.specs.Scope.{kept}
-use Rattle.mit_parser.specs.Tree.{no_label, label_of, Shape, scalar_of, array_of, declaration_of, Declarations, no_declarations, and_declaration, front_shape, front_declarations, MoreNames, no_more_names, and_more_names, pair_of, MorePairs, no_more_pairs, and_pair, Ordering, no_ordering, ordering_of, Header, no_header, header_of, front_more_names, front_more_pairs, front_ordering, front_header}
+use Rattle.mit_parser.specs.Tree.{no_label, label_of, Shape, scalar_of, array_of, declaration_of, Declarations, no_declarations, and_declaration, front_shape}
+use Rattle.mit_parser.specs.Tree.{front_declarations, MoreNames, no_more_names, and_more_names, pair_of, MorePairs, no_more_pairs, and_pair, Ordering}
+use Rattle.mit_parser.specs.Tree.{no_ordering, ordering_of, Header, no_header, header_of, front_more_names, front_more_pairs, front_ordering, front_header}
 use Rattle.mit_syntax.specs.declared.token.Sign.TheVariants.{Semicolon}
 use Rattle.mit_parser.specs.Words.{sign_at}
-use Rattle.mit_parser.specs.Faults.{size_number, is_bad_size, length_fault, written_label_fault, twice_fault, declaration_fault, written_label, written_length, decl_of, shape_label, shape_length, Declared, declaring, added, declare_all}
+use Rattle.mit_parser.specs.Faults.{size_number, is_bad_size, length_fault, written_label_fault, twice_fault, declaration_fault, written_label}
+use Rattle.mit_parser.specs.Faults.{written_length, decl_of, shape_label, shape_length, Declared, declaring, added, declare_all}
 use Rattle.mit_parser.proofs.Numbered.{label_below}
 use Rattle.mit_parser.proofs.Known.{kept_split}
 use Rattle.mit_parser.proofs.Noted.{keep_declared}
@@ -49,7 +52,8 @@ module _ (labels : List (List ℕ)) (some : 0 < length labels) where
           let z = eqb-false (size_number n) 0 (first (size_number n == 0) (ltb 2048 (elements_in ds + size_number n)) q) in
           omega (arith, z)
 
-  shape_good : (ds : List Declaration) (s : Shape) → length_fault ds (shape_length s) ≡ None → IsShaped (written_label labels (shape_label s)) (written_length (shape_length s))
+  shape_good : (ds : List Declaration) (s : Shape) → length_fault ds (shape_length s) ≡ None
+      → IsShaped (written_label labels (shape_label s)) (written_length (shape_length s))
   shape_good ds (scalar_of no_label) e = tt
   shape_good ds (scalar_of (label_of p w q)) e = tt
   shape_good ds (array_of p n q u v w x) e = not_zero ds n q e
@@ -64,7 +68,8 @@ module _ (labels : List (List ℕ)) (some : 0 < length labels) where
     pub good : AreGood (length labels) s.list
     pub proper : AreProper r
 
-  one_good : (w : List ℕ) (z : Shape) → IsName w → (m : Declarations) (ds : List Declaration) (f : Option ParseFault) (r : List Told) → AreGood (length labels) ds
+  one_good : (w : List ℕ) (z : Shape) → IsName w → (m : Declarations) (ds : List Declaration) (f : Option ParseFault) (r : List Told)
+      → AreGood (length labels) ds
       → (f ≡ None → length_fault ds (shape_length z) ≡ None)
       → ((s : Declared) → AreGood (length labels) s.list → (declare_all labels m s).fault ≡ None → GoodAll (declare_all labels m s) r)
       → (declare_all labels m (added ds (w, decl_of labels (shape_label z) (shape_length z)) f)).fault ≡ None
@@ -74,7 +79,8 @@ module _ (labels : List (List ℕ)) (some : 0 < length labels) where
       (good_push (length labels) ds (w, decl_of labels (shape_label z) (shape_length z)) g (named, label_good (shape_label z), shape_good ds z (fine refl))) e
   one_good w z named m ds (Some f) r g fine rest e = let q = sym (ap (λ s. s.fault) (keep_declared labels m ds f)) ∙ e in cc
 
-  pub all_good : (t : Declarations) (s : Declared) (r : List Told) → AreGood (length labels) s.list → (declare_all labels t s).fault ≡ None → AreProper (front_declarations t r)
+  pub all_good : (t : Declarations) (s : Declared) (r : List Told) → AreGood (length labels) s.list → (declare_all labels t s).fault ≡ None
+      → AreProper (front_declarations t r)
       → GoodAll (declare_all labels t s) r
   all_good no_declarations s r g e h = record { good = g; proper = h }
   all_good (and_declaration (declaration_of p w q z u) m) s r g e h =

@@ -1,5 +1,6 @@
 -- The machine's rules, as equations of verdicts.
-use Rattle.std.proofs.Common.{◌≡◌, refl, ap, ◌∙◌, sym, ℕ, ℤ, List, [], ◌∷◌, true, false, Bool, cond, Some, None, Result, Ok, Err, MatchResult, length, take, drop, zero, suc, ◌+◌, ◌-◌, ◌≤◌, arith, get_or}
+use Rattle.std.proofs.Common.{◌≡◌, refl, ap, ◌∙◌, sym, ℕ, ℤ, List, [], ◌∷◌, true, false, Bool, cond, Some, None, Result, Ok, Err, MatchResult, length, take}
+use Rattle.std.proofs.Common.{drop, zero, suc, ◌+◌, ◌-◌, ◌≤◌, arith, get_or}
 use Rattle.std.specs.Prelude.{nat_lt, ◌||◌}
 use Rattle.std.proofs.lemmas.Bool.{eqb-true, ltb-false}
 use Rattle.mit_syntax.specs.declared.token.Token.{Token}
@@ -8,16 +9,20 @@ use Rattle.mit_syntax.specs.declared.token.TokenKind.TheVariants.{Key, Name, Num
 use Rattle.mit_syntax.specs.declared.token.Keyword.{Keyword}
 use Rattle.mit_syntax.specs.declared.token.Keyword.TheVariants.{Labels, Order, Var, Skip, If, Then, Else, While, Do, Mitigate, Sleep}
 use Rattle.mit_syntax.specs.declared.token.Sign.{Sign}
-use Rattle.mit_syntax.specs.declared.token.Sign.TheVariants.{Assign, Colon, Semicolon, Comma, LeftRound, RightRound, LeftBrace, RightBrace, LeftSquare, RightSquare, At, Plus, Minus, Star, Slash, Percent, Equal, NotEqual, LessEqual, Less, GreaterEqual, Greater}
+use Rattle.mit_syntax.specs.declared.token.Sign.TheVariants.{Assign, Colon, Semicolon, Comma, LeftRound, RightRound, LeftBrace, RightBrace, LeftSquare}
+use Rattle.mit_syntax.specs.declared.token.Sign.TheVariants.{RightSquare, At, Plus, Minus, Star, Slash, Percent, Equal, NotEqual, LessEqual, Less}
+use Rattle.mit_syntax.specs.declared.token.Sign.TheVariants.{GreaterEqual, Greater}
 use Rattle.mit_syntax.specs.Chunks.{key, sign, number, name}
 use Rattle.mit_syntax.specs.Cut.{token_bytes}
 use Rattle.mit_parser.specs.declared.counts.Counts.{Counts}
 use Rattle.mit_parser.specs.declared.fault.ParseFault.{ParseFault}
 use Rattle.mit_parser.specs.declared.fault.ParseFault.TheVariants.{Unexpected, TooDeep, TooMany, Unknown, Twice, Lattice, Memory, Size, Misuse}
-use Rattle.mit_parser.specs.Words.{Symbol, word, the_end, Told, told, symbol_of, kind_of, head_symbol, is, is_sign, is_key, is_end, sign_code, key_code, IsEnded}
+use Rattle.mit_parser.specs.Words.{Symbol, word, the_end, Told, told, symbol_of, kind_of, head_symbol, is, is_sign, is_key, is_end, sign_code, key_code}
+use Rattle.mit_parser.specs.Words.{IsEnded}
 use Rattle.mit_parser.specs.Counting.{count, is_over}
 use Rattle.mit_parser.specs.State.{State}
-use Rattle.mit_parser.specs.Machine.{Part, want, an_atom, a_term, factors, a_sum, addends, an_expr, comparison, a_command, commands, more, step, verdict, Bad, Deep, choice}
+use Rattle.mit_parser.specs.Machine.{Part, want, an_atom, a_term, factors, a_sum, addends, an_expr, comparison, a_command, commands, more, step, verdict, Bad}
+use Rattle.mit_parser.specs.Machine.{Deep, choice}
 use Rattle.mit_parser.specs.Reads.{Refused, Passed, Over, Found, Took, OnlyEnd}
 
 -- the word of a token
@@ -163,14 +168,16 @@ passed {old} {new} s t p e =
     ∙ ap (λ c. verdict t c new.words) (sym p.counts)
 
 -- the first word is refused
-pub found : (now : State) (part : Part) (f : ParseFault) → ((s : List Part) → step (part ∷ s) (head_symbol now.words) ≡ None) → Found f now → Refused part now now f
+pub found : (now : State) (part : Part) (f : ParseFault) → ((s : List Part) → step (part ∷ s) (head_symbol now.words) ≡ None)
+    → Found f now → Refused part now now f
 found now part (Unexpected p) refuses h =
     record {
       first = h.first;
       rest = h.rest;
       there = h.was;
       place = h.place;
-      is = λ s. ap (verdict (part ∷ s) now.counts) h.was ∙ bad_at (part ∷ s) now.counts h.first h.rest (ap (step (part ∷ s)) (sym (ap head_symbol h.was)) ∙ refuses s) ∙ ap Bad (sym h.was);
+      is = λ s. ap (verdict (part ∷ s) now.counts) h.was ∙ bad_at (part ∷ s) now.counts h.first h.rest (ap (step (part ∷ s)) (sym (ap head_symbol h.was))
+          ∙ refuses s) ∙ ap Bad (sym h.was);
     }
 found now part (TooDeep p) refuses h = absurd h
 found now part (TooMany n) refuses h = absurd h
@@ -193,7 +200,8 @@ passes old new part (TooDeep p) takes h =
       place = h.place;
       is = λ s.
           let k = takes s in
-          ap (verdict (part ∷ s) old.counts) h.was ∙ deep_at (part ∷ s) k.0 old.counts h.first h.rest (ap (step (part ∷ s)) (sym (ap head_symbol h.was)) ∙ k.1) h.passes
+          ap (verdict (part ∷ s) old.counts) h.was
+              ∙ deep_at (part ∷ s) k.0 old.counts h.first h.rest (ap (step (part ∷ s)) (sym (ap head_symbol h.was)) ∙ k.1) h.passes
           ∙ ap Deep (sym h.was ∙ sym (ap (λ s. s.words) h.stays));
     }
 passes old new part (TooMany n) takes h = absurd h
@@ -206,7 +214,8 @@ passes old new part (Misuse p) takes h = absurd h
 
 -- a fault in a part is a fault of the whole
 pub within : (old mid new : State) (part next : Part) (rest_of : List Part → List Part) (f : ParseFault)
-    → ((s : List Part) → verdict (part ∷ s) old.counts old.words ≡ verdict (next ∷ rest_of s) mid.counts mid.words) → Refused next mid new f → Refused part old new f
+    → ((s : List Part) → verdict (part ∷ s) old.counts old.words ≡ verdict (next ∷ rest_of s) mid.counts mid.words)
+    → Refused next mid new f → Refused part old new f
 within old mid new part next rest_of (Unexpected p) e h =
     record { first = h.first; rest = h.rest; there = h.there; place = h.place; is = λ s. e s ∙ h.is (rest_of s) }
 within old mid new part next rest_of (TooDeep p) e h =
@@ -221,7 +230,8 @@ within old mid new part next rest_of (Misuse p) e h = absurd h
 
 -- a sign and a keyword are known by their numbers
 signs : List Sign
-signs = Assign ∷ Colon ∷ Semicolon ∷ Comma ∷ LeftRound ∷ RightRound ∷ LeftBrace ∷ RightBrace ∷ LeftSquare ∷ RightSquare ∷ At ∷ Plus ∷ Minus ∷ Star ∷ Slash ∷ Percent ∷ Equal ∷ NotEqual ∷ LessEqual ∷ Less ∷ GreaterEqual ∷ Greater ∷ []
+signs = Assign ∷ Colon ∷ Semicolon ∷ Comma ∷ LeftRound ∷ RightRound ∷ LeftBrace ∷ RightBrace ∷ LeftSquare ∷ RightSquare ∷ At ∷ Plus ∷ Minus ∷ Star ∷ Slash ∷
+    Percent ∷ Equal ∷ NotEqual ∷ LessEqual ∷ Less ∷ GreaterEqual ∷ Greater ∷ []
 
 sign_again : (s : Sign) → get_or signs (sign_code s) At ≡ s
 unfolding signs

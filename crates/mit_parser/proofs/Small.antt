@@ -11,11 +11,18 @@ use Rattle.mit_syntax.specs.Valid.{AreNumbered}
 use Rattle.mit_parser.specs.Words.{Told, sign_at, key_at}
 use Rattle.mit_syntax.specs.declared.token.Keyword.TheVariants.{Then, Do}
 use Rattle.mit_syntax.specs.declared.token.Sign.TheVariants.{Assign, RightRound, RightBrace, RightSquare}
-use Rattle.mit_parser.specs.Operators.{Factor, Addend, Comparison, times, over, modulo, plus, minus, equal, not_equal, less, less_equal, greater, greater_equal, factor_op, addend_op, comparison_op, comparison_sign}
+use Rattle.mit_parser.specs.Operators.{Factor, Addend, Comparison, times, over, modulo, plus, minus, equal, not_equal, less, less_equal, greater}
+use Rattle.mit_parser.specs.Operators.{greater_equal, factor_op, addend_op, comparison_op, comparison_sign}
 use Rattle.mit_parser.specs.Scope.{Scope}
-use Rattle.mit_parser.specs.Tree.{Atom, Term, Factors, Sum, Addends, Whole, number_atom, name_atom, paren_atom, no_index, index_of, term_of, no_factor, and_factor, sum_of, no_addend, and_addend, plain, compared, front_atom, front_term, front_factors, front_sum, front_addends, front_whole, AndName, no_name, and_name, Marks, no_marks, marks_of, CommandTree, skip_of, assign_of, sleep_of, if_of, while_of, mitigate_of, Block, block_of, ElsePart, no_else, else_of, Commands, commands_of, More, no_more, and_more, front_and_name, front_marks, front_command, front_block, front_else, front_commands, front_more}
-use Rattle.mit_parser.specs.Limits.{atom_depth, term_depth, factors_depth, sum_depth, addends_depth, whole_depth, atom_size, term_size, factors_size, sum_size, addends_size, whole_size, IsWithin, CommandWithin, BlockWithin, ElseWithin, CommandsWithin, MoreWithin}
-use Rattle.mit_parser.specs.Meaning.{atom_value, term_value, factors_value, sum_value, addends_value, whole_value, next_command, next_block, next_else, next_more, plan_command, plan_block, plan_else, plan_commands, plan_more}
+use Rattle.mit_parser.specs.Tree.{Atom, Term, Factors, Sum, Addends, Whole, number_atom, name_atom, paren_atom, no_index, index_of, term_of, no_factor}
+use Rattle.mit_parser.specs.Tree.{and_factor, sum_of, no_addend, and_addend, plain, compared, front_atom, front_term, front_factors, front_sum, front_addends}
+use Rattle.mit_parser.specs.Tree.{front_whole, AndName, no_name, and_name, Marks, no_marks, marks_of, CommandTree, skip_of, assign_of, sleep_of, if_of}
+use Rattle.mit_parser.specs.Tree.{while_of, mitigate_of, Block, block_of, ElsePart, no_else, else_of, Commands, commands_of, More, no_more, and_more}
+use Rattle.mit_parser.specs.Tree.{front_and_name, front_marks, front_command, front_block, front_else, front_commands, front_more}
+use Rattle.mit_parser.specs.Limits.{atom_depth, term_depth, factors_depth, sum_depth, addends_depth, whole_depth, atom_size, term_size, factors_size}
+use Rattle.mit_parser.specs.Limits.{sum_size, addends_size, whole_size, IsWithin, CommandWithin, BlockWithin, ElseWithin, CommandsWithin, MoreWithin}
+use Rattle.mit_parser.specs.Meaning.{atom_value, term_value, factors_value, sum_value, addends_value, whole_value, next_command, next_block, next_else}
+use Rattle.mit_parser.specs.Meaning.{next_more, plan_command, plan_block, plan_else, plan_commands, plan_more}
 
 -- a place that needs more has no fewer brackets
 test_up : (a n m : ℕ) → n ≤ m → cond {A = ℕ} (ltb a n) 1 0 ≤ cond {A = ℕ} (ltb a m) 1 0
@@ -81,7 +88,8 @@ module _ (sc : Scope) where
     depth_factors : (fs : Factors) (l : Expression) (n : ℕ) → depth 3 l ≤ n → depth 3 (factors_value sc fs l) ≤ max n (factors_depth fs)
     depth_factors no_factor l n h = omega (arith, h)
     depth_factors (and_factor o p a fs) l n h =
-        let one : depth 3 (Binary (factor_op o) l (atom_value sc a)) ≤ max n (atom_depth a) = omega (arith, factor_depths o l (atom_value sc a), h, depth_atom a) in
+        let one : depth 3 (Binary (factor_op o) l (atom_value sc a)) ≤ max n (atom_depth a) =
+            omega (arith, factor_depths o l (atom_value sc a), h, depth_atom a) in
         let k = depth_factors fs (Binary (factor_op o) l (atom_value sc a)) (max n (atom_depth a)) one in
         omega (arith, k)
 
@@ -94,7 +102,8 @@ module _ (sc : Scope) where
     depth_addends : (ts : Addends) (l : Expression) (n : ℕ) → depth 2 l ≤ n → depth 2 (addends_value sc ts l) ≤ max n (addends_depth ts)
     depth_addends no_addend l n h = omega (arith, h)
     depth_addends (and_addend o p t ts) l n h =
-        let one : depth 2 (Binary (addend_op o) l (term_value sc t)) ≤ max n (term_depth t) = omega (arith, addend_depths o l (term_value sc t), h, depth_term t) in
+        let one : depth 2 (Binary (addend_op o) l (term_value sc t)) ≤ max n (term_depth t) =
+            omega (arith, addend_depths o l (term_value sc t), h, depth_term t) in
         let k = depth_addends ts (Binary (addend_op o) l (term_value sc t)) (max n (term_depth t)) one in
         omega (arith, k)
 
@@ -248,7 +257,8 @@ long_marks (marks_of p q w u s v) r = omega (arith, long_second s (sign_at Right
 
 module _ (sc : Scope) where
   mutual
-    count_command : (c : CommandTree) (k : ℕ) (rest : Plan) (r : List Told) → count (plan_command sc k c rest) + length r ≤ count rest + length (front_command c r)
+    count_command : (c : CommandTree) (k : ℕ) (rest : Plan) (r : List Told)
+        → count (plan_command sc k c rest) + length r ≤ count rest + length (front_command c r)
     count_command (skip_of p m) k rest r = omega (arith, long_marks m r)
     count_command (assign_of v p no_index q e m) k rest r = omega (arith, long_marks m r, long_whole e (front_marks m r))
     count_command (assign_of v p (index_of a i b) q e m) k rest r =
@@ -281,7 +291,8 @@ module _ (sc : Scope) where
     count_else (else_of q b) p k r = omega (arith, count_block b k r)
 
     pub count_commands : (c : Commands) (k : ℕ) (r : List Told) → count (plan_commands sc k c) + length r ≤ length (front_commands c r)
-    count_commands (commands_of c m) k r = omega (arith, count_command c k (plan_more sc (next_command c k) m) (front_more m r), count_more m (next_command c k) r)
+    count_commands (commands_of c m) k r =
+        omega (arith, count_command c k (plan_more sc (next_command c k) m) (front_more m r), count_more m (next_command c k) r)
 
     count_more : (m : More) (k : ℕ) (r : List Told) → count (plan_more sc k m) + length r ≤ length (front_more m r)
     count_more no_more k r = omega arith

@@ -19,7 +19,8 @@ pub looked_up : (ds : List Declaration) (w : List ℕ) → is_some (lookup (byte
 looked_up [] w = refl
 looked_up (d ∷ ds) w = by (looked_up ds w) (bytes_eq w d.0) refl
   where
-    by : is_some (lookup (bytes_eq w) ds) ≡ is_some (declared ds w) → (b : Bool) → bytes_eq w d.0 ≡ b → is_some (lookup (bytes_eq w) (d ∷ ds)) ≡ is_some (declared (d ∷ ds) w)
+    by : is_some (lookup (bytes_eq w) ds) ≡ is_some (declared ds w) → (b : Bool) → bytes_eq w d.0 ≡ b
+        → is_some (lookup (bytes_eq w) (d ∷ ds)) ≡ is_some (declared (d ∷ ds) w)
     by rest true e =
         ap is_some (cond-true (bytes_eq w d.0) (Some d.1) (lookup (bytes_eq w) ds) e)
         ∙ sym (ap is_some (cond-true (bytes_eq w d.0) (Some (0, d.1)) (option_map (λ r. (size_of d.1 + r.0, r.1)) (declared ds w)) e))
@@ -41,7 +42,8 @@ pub elements_push : (ds : List Declaration) (d : Declaration) → elements_in (d
 elements_push [] d = omega arith
 elements_push (x ∷ ds) d = omega (arith, elements_push ds d)
 
-pub few_after : (ds : List Declaration) (n : Option (ℤ × Pos)) → elements_in ds ≤ 2048 → length_fault ds n ≡ None → elements_in ds + length_in (written_length n) ≤ 2048
+pub few_after : (ds : List Declaration) (n : Option (ℤ × Pos)) → elements_in ds ≤ 2048 → length_fault ds n ≡ None
+    → elements_in ds + length_in (written_length n) ≤ 2048
 few_after ds None h e = omega (arith, h)
 few_after ds (Some n) h e = by (is_bad_size n.0 (elements_in ds)) refl
   where

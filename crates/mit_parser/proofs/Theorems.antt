@@ -41,12 +41,14 @@ after_one s left next [] b h e =
     ap (λ q. choice (step q b.symbol) None (λ t. Some t)) same ∙ ap (λ o. choice o None (λ t. Some t)) e
 after_one s left next (a ∷ p) b h e = after_step s left next p a b (step s a.symbol) refl h (λ u q. after_one u left next p b q e)
   where
-    after_step : (s left next : List Part) (p : List Told) (a b : Told) (o : Option (List Part)) → step s a.symbol ≡ o → choice o None (λ u. after u p) ≡ Some left
+    after_step : (s left next : List Part) (p : List Told) (a b : Told) (o : Option (List Part)) → step s a.symbol ≡ o
+        → choice o None (λ u. after u p) ≡ Some left
         → ((u : List Part) → after u p ≡ Some left → after u (p ++ b ∷ []) ≡ Some next) → after s (a ∷ (p ++ b ∷ [])) ≡ Some next
     after_step s left next p a b None q h ih = cc
     after_step s left next p a b (Some u) q h ih = ap (λ o. choice o None (λ t. after t (p ++ b ∷ []))) q ∙ ih u h
 
-pub unexpected : (words l : List Told) (pos : Pos) (b : Told) (r : List Told) → l ≡ b ∷ r → b.pos ≡ pos → verdict start nothing_yet words ≡ Bad l → IsUnexpected words pos
+pub unexpected : (words l : List Told) (pos : Pos) (b : Told) (r : List Told) → l ≡ b ∷ r → b.pos ≡ pos
+    → verdict start nothing_yet words ≡ Bad l → IsUnexpected words pos
 unexpected words l pos b r e place v =
     let k = tells_bad start nothing_yet words l v in
     record {
@@ -60,7 +62,8 @@ unexpected words l pos b r e place v =
       fit = k.fit;
     }
 
-pub too_deep : (words l : List Told) (pos : Pos) (b : Told) (r : List Told) → l ≡ b ∷ r → b.pos ≡ pos → verdict start nothing_yet words ≡ Deep l → IsTooDeep words pos
+pub too_deep : (words l : List Told) (pos : Pos) (b : Told) (r : List Told) → l ≡ b ∷ r → b.pos ≡ pos
+    → verdict start nothing_yet words ≡ Deep l → IsTooDeep words pos
 too_deep words l pos b r e place v =
     let k = tells_deep start nothing_yet words l v in
     let same : k.deep ≡ b = cc (k.there, e) in
@@ -76,7 +79,8 @@ too_deep words l pos b r e place v =
     }
 
 -- what refuses a part refuses the words
-pub refuses : (words : List Told) (old new : State) (part : Part) (rest : List Part) (f : ParseFault) → verdict start nothing_yet words ≡ verdict (part ∷ rest) old.counts old.words
+pub refuses : (words : List Told) (old new : State) (part : Part) (rest : List Part) (f : ParseFault)
+    → verdict start nothing_yet words ≡ verdict (part ∷ rest) old.counts old.words
     → Refused part old new f → Refuses words f
 refuses words old new part rest (Unexpected p) e h = unexpected words new.words p h.first h.rest h.there h.place (e ∙ h.is rest)
 refuses words old new part rest (TooDeep p) e h = too_deep words new.words p h.first h.rest h.there h.place (e ∙ h.is rest)
@@ -89,7 +93,8 @@ refuses words old new part rest (Size p) e h = absurd h
 refuses words old new part rest (Misuse p) e h = absurd h
 
 -- more than a program
-pub more_left : (words : List Told) (new : State) (f : ParseFault) → verdict start nothing_yet words ≡ verdict (want the_end ∷ []) new.counts new.words → is the_end (head_symbol new.words) ≡ false
+pub more_left : (words : List Told) (new : State) (f : ParseFault) → verdict start nothing_yet words ≡ verdict (want the_end ∷ []) new.counts new.words
+    → is the_end (head_symbol new.words) ≡ false
     → Found f new → Refuses words f
 more_left words new (Unexpected p) e n h =
     let stops : step (want the_end ∷ []) h.first.symbol ≡ None = ap (λ b. cond b (Some []) None) (sym (ap (λ l. is_end (head_symbol l)) h.was) ∙ n) in
@@ -105,7 +110,8 @@ more_left words new (Size p) e n h = absurd h
 more_left words new (Misuse p) e n h = absurd h
 
 -- the words pass no limit where the machine takes them all
-pub all_fit : (words : List Told) (new : State) → verdict start nothing_yet words ≡ verdict (want the_end ∷ []) new.counts new.words → OnlyEnd new.words → is_over (count new.counts the_end) ≡ false → Fits nothing_yet words
+pub all_fit : (words : List Told) (new : State) → verdict start nothing_yet words ≡ verdict (want the_end ∷ []) new.counts new.words → OnlyEnd new.words
+    → is_over (count new.counts the_end) ≡ false → Fits nothing_yet words
 all_fit words new e o low =
     let through : verdict start nothing_yet words ≡ Bad [] =
     e ∙ ap (verdict (want the_end ∷ []) new.counts) o.1 ∙ ap (λ b. cond b (Deep (end_at o.0 ∷ [])) (Bad [])) low in

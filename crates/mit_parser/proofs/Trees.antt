@@ -5,9 +5,20 @@ use Rattle.mit_syntax.specs.declared.token.Keyword.TheVariants.{Labels, Order, V
 use Rattle.mit_syntax.specs.declared.token.Sign.TheVariants.{Assign, Semicolon, Comma, RightRound, RightBrace, LeftSquare, RightSquare, At}
 use Rattle.mit_syntax.specs.Chunks.{key, sign}
 use Rattle.mit_parser.specs.Words.{Symbol, word, the_end, Told, head_symbol, is, is_sign, is_key, sign_at, key_at, end_at}
-use Rattle.mit_parser.specs.Operators.{Factor, Addend, Comparison, times, over, modulo, plus, minus, equal, not_equal, less, less_equal, greater, greater_equal, factor_of, addend_of, comparison_of, factor_sign, addend_sign, comparison_sign}
-use Rattle.mit_parser.specs.Tree.{Atom, Index, Term, Factors, Sum, Addends, Whole, number_atom, name_atom, paren_atom, no_index, index_of, term_of, no_factor, and_factor, sum_of, no_addend, and_addend, plain, compared, front_atom, front_index, front_term, front_factors, front_sum, front_addends, front_whole, AndName, no_name, and_name, Marks, no_marks, marks_of, CommandTree, skip_of, assign_of, sleep_of, if_of, while_of, mitigate_of, Block, block_of, ElsePart, no_else, else_of, Commands, commands_of, More, no_more, and_more, front_and_name, front_marks, front_command, front_block, front_else, front_commands, front_more, MoreNames, no_more_names, and_more_names, pair_of, MorePairs, no_more_pairs, and_pair, Ordering, no_ordering, ordering_of, Header, no_header, header_of, no_label, label_of, Shape, scalar_of, array_of, declaration_of, Declarations, no_declarations, and_declaration, ProgramTree, front_more_names, front_more_pairs, front_ordering, front_header, front_shape, front_declarations, front_program}
-use Rattle.mit_parser.specs.Machine.{Part, want, an_atom, an_index, a_term, factors, a_sum, addends, an_expr, comparison, a_name, marks, second, a_command, a_block, commands, more, otherwise, more_names, a_pair, more_pairs, ordering, header, a_shape, declarations, after_index, after_at, after_order, after_labels, after_var, step, choice}
+use Rattle.mit_parser.specs.Operators.{Factor, Addend, Comparison, times, over, modulo, plus, minus, equal, not_equal, less, less_equal, greater}
+use Rattle.mit_parser.specs.Operators.{greater_equal, factor_of, addend_of, comparison_of, factor_sign, addend_sign, comparison_sign}
+use Rattle.mit_parser.specs.Tree.{Atom, Index, Term, Factors, Sum, Addends, Whole, number_atom, name_atom, paren_atom, no_index, index_of, term_of, no_factor}
+use Rattle.mit_parser.specs.Tree.{and_factor, sum_of, no_addend, and_addend, plain, compared, front_atom, front_index, front_term, front_factors, front_sum}
+use Rattle.mit_parser.specs.Tree.{front_addends, front_whole, AndName, no_name, and_name, Marks, no_marks, marks_of, CommandTree, skip_of, assign_of}
+use Rattle.mit_parser.specs.Tree.{sleep_of, if_of, while_of, mitigate_of, Block, block_of, ElsePart, no_else, else_of, Commands, commands_of, More, no_more}
+use Rattle.mit_parser.specs.Tree.{and_more, front_and_name, front_marks, front_command, front_block, front_else, front_commands, front_more, MoreNames}
+use Rattle.mit_parser.specs.Tree.{no_more_names, and_more_names, pair_of, MorePairs, no_more_pairs, and_pair, Ordering, no_ordering, ordering_of, Header}
+use Rattle.mit_parser.specs.Tree.{no_header, header_of, no_label, label_of, Shape, scalar_of, array_of, declaration_of, Declarations, no_declarations}
+use Rattle.mit_parser.specs.Tree.{and_declaration, ProgramTree, front_more_names, front_more_pairs, front_ordering, front_header, front_shape}
+use Rattle.mit_parser.specs.Tree.{front_declarations, front_program}
+use Rattle.mit_parser.specs.Machine.{Part, want, an_atom, an_index, a_term, factors, a_sum, addends, an_expr, comparison, a_name, marks, second, a_command}
+use Rattle.mit_parser.specs.Machine.{a_block, commands, more, otherwise, more_names, a_pair, more_pairs, ordering, header, a_shape, declarations, after_index}
+use Rattle.mit_parser.specs.Machine.{after_at, after_order, after_labels, after_var, step, choice}
 use Rattle.mit_parser.proofs.Verdicts.{stuck}
 
 -- what may follow a part that is complete
@@ -119,7 +130,8 @@ mutual
   run_index (index_of p e q) s r h = run_whole e (want (word (sign RightSquare)) ∷ s) (sign_at RightSquare q ∷ r) (refl, refl, refl, refl)
 
   pub run_term : (t : Term) (s : List Part) (r : List Told) → EndsTerm (head_symbol r) → stuck (a_term ∷ s) (front_term t r) ≡ stuck s r
-  run_term (term_of a fs) s r h = is_term s (front_atom a (front_factors fs r)) ∙ run_atom a (factors ∷ s) (front_factors fs r) (factors_end fs r h) ∙ run_factors fs s r h
+  run_term (term_of a fs) s r h =
+      is_term s (front_atom a (front_factors fs r)) ∙ run_atom a (factors ∷ s) (front_factors fs r) (factors_end fs r h) ∙ run_factors fs s r h
 
   pub run_factors : (fs : Factors) (s : List Part) (r : List Told) → EndsTerm (head_symbol r) → stuck (factors ∷ s) (front_factors fs r) ≡ stuck s r
   run_factors no_factor s r h = no_factors s r h.1
@@ -205,11 +217,13 @@ mutual
   run_more (and_more p c m) s r h =
       run_command c (more ∷ s) (front_more m r) (more_ends m r h) ∙ run_more m s r h
 
-pub run_more_names : (m : MoreNames) (s : List Part) (r : List Told) → is_sign Comma (head_symbol r) ≡ false → stuck (more_names ∷ s) (front_more_names m r) ≡ stuck s r
+pub run_more_names : (m : MoreNames) (s : List Part) (r : List Told) → is_sign Comma (head_symbol r) ≡ false
+    → stuck (more_names ∷ s) (front_more_names m r) ≡ stuck s r
 run_more_names no_more_names s r h = no_word (word (sign Comma)) more_names (λ s. Some (a_name ∷ more_names ∷ s)) s r (λ w. refl) h
 run_more_names (and_more_names p w q m) s r h = run_more_names m s r h
 
-pub run_more_pairs : (m : MorePairs) (s : List Part) (r : List Told) → is_sign Comma (head_symbol r) ≡ false → stuck (more_pairs ∷ s) (front_more_pairs m r) ≡ stuck s r
+pub run_more_pairs : (m : MorePairs) (s : List Part) (r : List Told) → is_sign Comma (head_symbol r) ≡ false
+    → stuck (more_pairs ∷ s) (front_more_pairs m r) ≡ stuck s r
 run_more_pairs no_more_pairs s r h = no_word (word (sign Comma)) more_pairs (λ s. Some (a_pair ∷ more_pairs ∷ s)) s r (λ w. refl) h
 run_more_pairs (and_pair p (pair_of a u q b v) m) s r h = run_more_pairs m s r h
 
@@ -217,17 +231,20 @@ pub run_ordering : (o : Ordering) (s : List Part) (r : List Told) → is_key Ord
 run_ordering no_ordering s r h = no_word (word (key Order)) ordering (λ s. Some (after_order s)) s r (λ w. refl) h
 run_ordering (ordering_of p (pair_of a u q b v) m x) s r h = run_more_pairs m (want (word (sign Semicolon)) ∷ s) (sign_at Semicolon x ∷ r) refl
 
-pub run_header : (t : Header) (s : List Part) (r : List Told) → is_key Labels (head_symbol r) ≡ false → is_key Order (head_symbol r) ≡ false → stuck (header ∷ s) (front_header t r) ≡ stuck s r
+pub run_header : (t : Header) (s : List Part) (r : List Told) → is_key Labels (head_symbol r) ≡ false → is_key Order (head_symbol r) ≡ false
+    → stuck (header ∷ s) (front_header t r) ≡ stuck s r
 run_header no_header s r h k = no_word (word (key Labels)) header (λ s. Some (after_labels s)) s r (λ w. refl) h
 run_header (header_of p w q m u o) s r h k =
     run_more_names m (want (word (sign Semicolon)) ∷ ordering ∷ s) (sign_at Semicolon u ∷ front_ordering o r) refl ∙ run_ordering o s r k
 
-pub run_shape : (t : Shape) (s : List Part) (q : Pos) (r : List Told) → stuck (a_shape ∷ want (word (sign Semicolon)) ∷ s) (front_shape t (sign_at Semicolon q ∷ r)) ≡ stuck s r
+pub run_shape : (t : Shape) (s : List Part) (q : Pos) (r : List Told)
+    → stuck (a_shape ∷ want (word (sign Semicolon)) ∷ s) (front_shape t (sign_at Semicolon q ∷ r)) ≡ stuck s r
 run_shape (scalar_of no_label) s q r = refl
 run_shape (scalar_of (label_of p w u)) s q r = refl
 run_shape (array_of p n u v w x y) s q r = refl
 
-pub run_declarations : (t : Declarations) (s : List Part) (r : List Told) → is_key Var (head_symbol r) ≡ false → stuck (declarations ∷ s) (front_declarations t r) ≡ stuck s r
+pub run_declarations : (t : Declarations) (s : List Part) (r : List Told) → is_key Var (head_symbol r) ≡ false
+    → stuck (declarations ∷ s) (front_declarations t r) ≡ stuck s r
 run_declarations no_declarations s r h = no_word (word (key Var)) declarations (λ s. Some (after_var (declarations ∷ s))) s r (λ w. refl) h
 run_declarations (and_declaration (declaration_of p w q t u) m) s r h = run_shape t (declarations ∷ s) u (front_declarations m r) ∙ run_declarations m s r h
 
@@ -248,7 +265,8 @@ command_starts (mitigate_of p q e l u m b) r = record { labels = refl; order = r
 pub commands_start : (c : Commands) (r : List Told) → Starts (head_symbol (front_commands c r))
 commands_start (commands_of c m) r = command_starts c (front_more m r)
 
-pub declarations_start : (t : Declarations) (c : Commands) (r : List Told) → (is_key Labels (head_symbol (front_declarations t (front_commands c r))) ≡ false) × (is_key Order (head_symbol (front_declarations t (front_commands c r))) ≡ false)
+pub declarations_start : (t : Declarations) (c : Commands) (r : List Told) → (is_key Labels (head_symbol (front_declarations t (front_commands c r))) ≡ false)
+    × (is_key Order (head_symbol (front_declarations t (front_commands c r))) ≡ false)
 declarations_start no_declarations c r = let s = commands_start c r in (s.labels, s.order)
 declarations_start (and_declaration (declaration_of p w q t u) m) c r = (refl, refl)
 

@@ -1,7 +1,8 @@
 -- The limits, counted along the words: at most 100 brackets are open at once, and an expression has at most 256
 -- operators. The brackets are `(`, `{` and `[`, but for the `[` of marks.
 use Rattle.std.specs.Prelude.{◌≡◌, ◌+◌, ◌-◌, Bool, true, false, cond, ◌||◌, nat_lt, List, [], ◌∷◌}
-use Rattle.mit_syntax.specs.declared.token.Sign.TheVariants.{LeftRound, RightRound, LeftBrace, RightBrace, LeftSquare, RightSquare, At, Plus, Minus, Star, Slash, Percent, Equal, NotEqual, LessEqual, Less, GreaterEqual, Greater}
+use Rattle.mit_syntax.specs.declared.token.Sign.TheVariants.{LeftRound, RightRound, LeftBrace, RightBrace, LeftSquare, RightSquare, At, Plus, Minus, Star}
+use Rattle.mit_syntax.specs.declared.token.Sign.TheVariants.{Slash, Percent, Equal, NotEqual, LessEqual, Less, GreaterEqual, Greater}
 use Rattle.mit_syntax.specs.Chunks.{key, sign, number, name}
 use Rattle.mit_parser.specs.declared.counts.Counts.{Counts}
 use Rattle.mit_parser.specs.Words.{Symbol, word, the_end, Told}

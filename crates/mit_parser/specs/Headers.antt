@@ -9,9 +9,13 @@ use Rattle.mit_parser.specs.declared.fault.ParseFault.{ParseFault}
 use Rattle.mit_parser.specs.Words.{Told, name_at}
 use Rattle.mit_parser.specs.State.{State, with_fault}
 use Rattle.mit_parser.specs.Scope.{find_label, or_else, kept, label_fault}
-use Rattle.mit_parser.specs.Machine.{Part, a_name, names, more_names, a_pair, pairs, more_pairs, ordering, header, a_shape, a_declaration, declarations, verdict}
-use Rattle.mit_parser.specs.Tree.{MoreNames, PairTree, MorePairs, Declarations, front_more_names, front_names, front_pair, front_more_pairs, front_pairs, front_ordering, front_header, front_shape, front_declaration, front_declarations}
-use Rattle.mit_parser.specs.Faults.{labelled, add_label, add_labels, header_labels, pair_numbers, more_numbers, ordering_numbers, header_pairs, note_pair, note_more_pairs, note_ordering, header_fault, IsLatticeFault, shape_label, shape_length, declaring, many_fault, add_declaration, declare, declare_all}
+use Rattle.mit_parser.specs.Machine.{Part, a_name, names, more_names, a_pair, pairs, more_pairs, ordering, header, a_shape, a_declaration, declarations}
+use Rattle.mit_parser.specs.Machine.{verdict}
+use Rattle.mit_parser.specs.Tree.{MoreNames, PairTree, MorePairs, Declarations, front_more_names, front_names, front_pair, front_more_pairs, front_pairs}
+use Rattle.mit_parser.specs.Tree.{front_ordering, front_header, front_shape, front_declaration, front_declarations}
+use Rattle.mit_parser.specs.Faults.{labelled, add_label, add_labels, header_labels, pair_numbers, more_numbers, ordering_numbers, header_pairs, note_pair}
+use Rattle.mit_parser.specs.Faults.{note_more_pairs, note_ordering, header_fault, IsLatticeFault, shape_label, shape_length, declaring, many_fault}
+use Rattle.mit_parser.specs.Faults.{add_declaration, declare, declare_all}
 
 -- a part was read: a tree is spelled up to what is left
 pub record Taken {T : Type 0} (part : Part) (front_of : T → List Told → List Told) (Means : T → Type 0) (old new : State) : Type 0 where

@@ -1,6 +1,8 @@
 -- The limits, counted on a tree with all its written parentheses.
 use Rattle.std.specs.Prelude.{ℕ, ◌+◌, ◌≤◌, max}
-use Rattle.mit_parser.specs.Tree.{Atom, Index, Term, Factors, Sum, Addends, Whole, number_atom, name_atom, paren_atom, no_index, index_of, term_of, no_factor, and_factor, sum_of, no_addend, and_addend, plain, compared, CommandTree, skip_of, assign_of, sleep_of, if_of, while_of, mitigate_of, Block, block_of, ElsePart, no_else, else_of, Commands, commands_of, More, no_more, and_more}
+use Rattle.mit_parser.specs.Tree.{Atom, Index, Term, Factors, Sum, Addends, Whole, number_atom, name_atom, paren_atom, no_index, index_of, term_of, no_factor}
+use Rattle.mit_parser.specs.Tree.{and_factor, sum_of, no_addend, and_addend, plain, compared, CommandTree, skip_of, assign_of, sleep_of, if_of, while_of}
+use Rattle.mit_parser.specs.Tree.{mitigate_of, Block, block_of, ElsePart, no_else, else_of, Commands, commands_of, More, no_more, and_more}
 
 -- brackets that are open at once
 abbrev mutual

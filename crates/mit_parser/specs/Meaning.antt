@@ -9,7 +9,10 @@ use Rattle.mit_syntax.specs.Plan.{Plan, Written}
 use Rattle.mit_syntax.specs.Declarations.{find_scalar, find_array}
 use Rattle.mit_parser.specs.Operators.{factor_op, addend_op, comparison_op}
 use Rattle.mit_parser.specs.Scope.{Scope, find_label, as_label, or_else}
-use Rattle.mit_parser.specs.Tree.{Atom, Index, Term, Factors, Sum, Addends, Whole, number_atom, name_atom, paren_atom, no_index, index_of, term_of, no_factor, and_factor, sum_of, no_addend, and_addend, plain, compared, AndName, no_name, and_name, Marks, no_marks, marks_of, CommandTree, skip_of, assign_of, sleep_of, if_of, while_of, mitigate_of, Block, block_of, ElsePart, no_else, else_of, Commands, commands_of, More, no_more, and_more}
+use Rattle.mit_parser.specs.Tree.{Atom, Index, Term, Factors, Sum, Addends, Whole, number_atom, name_atom, paren_atom, no_index, index_of, term_of, no_factor}
+use Rattle.mit_parser.specs.Tree.{and_factor, sum_of, no_addend, and_addend, plain, compared, AndName, no_name, and_name, Marks, no_marks, marks_of}
+use Rattle.mit_parser.specs.Tree.{CommandTree, skip_of, assign_of, sleep_of, if_of, while_of, mitigate_of, Block, block_of, ElsePart, no_else, else_of}
+use Rattle.mit_parser.specs.Tree.{Commands, commands_of, More, no_more, and_more}
 
 -- a scalar, or an element
 abbrev pub named_value : Scope → List ℕ → Option Expression → Expression

@@ -6,7 +6,12 @@ use Rattle.label_lattice.specs.Order.{AllDiffer}
 use Rattle.mit_syntax.specs.Declarations.{Declaration, AreFew, find_scalar, find_array}
 use Rattle.mit_parser.specs.Scope.{Scope, scope, find_label}
 use Rattle.mit_parser.specs.Faults.{as_labels, ordering_numbers, size_number, shape_label, shape_length, decl_of}
-use Rattle.mit_parser.specs.Tree.{Atom, Index, Term, Factors, Sum, Addends, Whole, number_atom, name_atom, paren_atom, no_index, index_of, term_of, no_factor, and_factor, sum_of, no_addend, and_addend, plain, compared, AndName, no_name, and_name, Marks, no_marks, marks_of, CommandTree, skip_of, assign_of, sleep_of, if_of, while_of, mitigate_of, Block, block_of, ElsePart, no_else, else_of, Commands, commands_of, More, no_more, and_more, MoreNames, no_more_names, and_more_names, PairTree, pair_of, MorePairs, no_more_pairs, and_pair, Ordering, no_ordering, ordering_of, Header, no_header, header_of, no_label, label_of, Shape, scalar_of, array_of, declaration_of, Declarations, no_declarations, and_declaration, ProgramTree}
+use Rattle.mit_parser.specs.Tree.{Atom, Index, Term, Factors, Sum, Addends, Whole, number_atom, name_atom, paren_atom, no_index, index_of, term_of, no_factor}
+use Rattle.mit_parser.specs.Tree.{and_factor, sum_of, no_addend, and_addend, plain, compared, AndName, no_name, and_name, Marks, no_marks, marks_of}
+use Rattle.mit_parser.specs.Tree.{CommandTree, skip_of, assign_of, sleep_of, if_of, while_of, mitigate_of, Block, block_of, ElsePart, no_else, else_of}
+use Rattle.mit_parser.specs.Tree.{Commands, commands_of, More, no_more, and_more, MoreNames, no_more_names, and_more_names, PairTree, pair_of, MorePairs}
+use Rattle.mit_parser.specs.Tree.{no_more_pairs, and_pair, Ordering, no_ordering, ordering_of, Header, no_header, header_of, no_label, label_of, Shape}
+use Rattle.mit_parser.specs.Tree.{scalar_of, array_of, declaration_of, Declarations, no_declarations, and_declaration, ProgramTree}
 
 abbrev pub more_labels : MoreNames → List (List ℕ)
 more_labels no_more_names = []

@@ -13,10 +13,15 @@ use Rattle.mit_parser.specs.Words.{Symbol, word, Told, is, head_symbol, name_at,
 use Rattle.mit_parser.specs.Counting.{count, is_over}
 use Rattle.mit_parser.specs.State.{State, with_marks}
 use Rattle.mit_parser.specs.Scope.{Scope, scope, labels_in}
-use Rattle.mit_parser.specs.Machine.{Part, want, an_atom, an_index, a_term, factors, a_sum, addends, an_expr, a_name, a_number, marks, second, a_command, a_block, otherwise, commands, more, verdict, Verdict, Bad, Deep}
-use Rattle.mit_parser.specs.Tree.{Term, Factors, Sum, Addends, Commands, More, front_atom, front_index, front_term, front_factors, front_sum, front_addends, front_whole, front_and_name, front_marks, front_command, front_block, front_else, front_commands, front_more}
-use Rattle.mit_parser.specs.Meaning.{atom_value, index_value, term_value, factors_value, sum_value, addends_value, whole_value, and_name_value, marks_value, plan_command, plan_block, plan_else, plan_commands, plan_more, next_command, next_block, next_else, next_commands, next_more}
-use Rattle.mit_parser.specs.Faults.{note_atom, note_index, note_term, note_factors, note_sum, note_addends, note_whole, note_and_name, note_marks, note_command, note_block, note_else, note_commands, note_more}
+use Rattle.mit_parser.specs.Machine.{Part, want, an_atom, an_index, a_term, factors, a_sum, addends, an_expr, a_name, a_number, marks, second, a_command}
+use Rattle.mit_parser.specs.Machine.{a_block, otherwise, commands, more, verdict, Verdict, Bad, Deep}
+use Rattle.mit_parser.specs.Tree.{Term, Factors, Sum, Addends, Commands, More, front_atom, front_index, front_term, front_factors, front_sum, front_addends}
+use Rattle.mit_parser.specs.Tree.{front_whole, front_and_name, front_marks, front_command, front_block, front_else, front_commands, front_more}
+use Rattle.mit_parser.specs.Meaning.{atom_value, index_value, term_value, factors_value, sum_value, addends_value, whole_value, and_name_value, marks_value}
+use Rattle.mit_parser.specs.Meaning.{plan_command, plan_block, plan_else, plan_commands, plan_more, next_command, next_block, next_else, next_commands}
+use Rattle.mit_parser.specs.Meaning.{next_more}
+use Rattle.mit_parser.specs.Faults.{note_atom, note_index, note_term, note_factors, note_sum, note_addends, note_whole, note_and_name, note_marks}
+use Rattle.mit_parser.specs.Faults.{note_command, note_block, note_else, note_commands, note_more}
 
 -- one word is left, the end
 abbrev pub OnlyEnd : List Told → Type 0

@@ -19,7 +19,8 @@ Closes (Number n) rest = StopsAt is_ascii_digit rest
 Closes (SignKind s) rest = StopsAt (λ b. b == 61) rest × StopsAt (λ b. b == 47) rest
 Closes End rest = ⊥
 
-no_comment_word : (w rest : List ℕ) (test : ℕ → Bool) → test 47 ≡ false → (b : ℕ) (e : Bool) → (b == 47) ≡ e → test b ≡ true → starts_comment (b ∷ w ++ rest) ≡ false
+no_comment_word : (w rest : List ℕ) (test : ℕ → Bool) → test 47 ≡ false → (b : ℕ) (e : Bool) → (b == 47) ≡ e → test b ≡ true
+    → starts_comment (b ∷ w ++ rest) ≡ false
 no_comment_word [] [] test h b e q k = refl
 no_comment_word [] (c ∷ rest) test h b true q k = differ (sym k ∙ ap test (eqb-true b 47 q) ∙ h)
 no_comment_word [] (c ∷ rest) test h b false q k = ap (λ x. x && (c == 47)) q
@@ -37,7 +38,8 @@ digits_no_comment (b ∷ w) rest h = no_comment_word w rest is_ascii_digit refl 
 sign_closed : (s : Sign) (rest : List ℕ) → StopsAt (λ b. b == 61) rest → IsLongest (sign_text s) rest
 sign_closed s rest h =
     let front : sign_text s ++ rest ≡ sign_first s ∷ (sign_others s ++ rest) = ap (λ l. l ++ rest) (sign_parts s) in
-    sign_longest (sign_first s) (sign_others s ++ rest) (no_letter_first s) (no_digit_first s) s (length (sign_text s)) rest (ap taken (sym front) ∙ taken_closed rest h s) refl (sym front)
+    sign_longest (sign_first s) (sign_others s ++ rest) (no_letter_first s) (no_digit_first s) s (length (sign_text s)) rest (ap taken (sym front)
+        ∙ taken_closed rest h s) refl (sym front)
 
 pub closed_piece : (w : List ℕ) (k : TokenKind) (rest : List ℕ) → HasKind w k → Closes k rest → IsPiece (lexeme w k) rest
 closed_piece w (Key k) rest h c = let o = subst IsWord (sym h) (key_opens k) in (word_no_comment w rest o, h, word_longest w rest o c)

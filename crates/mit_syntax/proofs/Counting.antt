@@ -7,7 +7,8 @@ use Rattle.mit_syntax.specs.declared.ast.Form.{While as DWhile, If as DIf, Mitig
 use Rattle.mit_syntax.specs.declared.count.Counts.{Counts}
 use Rattle.mit_syntax.specs.Expression.{expression_of}
 use Rattle.mit_syntax.specs.Counted.{IsCount}
-use Rattle.mit_syntax.specs.declared.ast.Form.{Form, Skip as FSkip, Assign as FAssign, Put as FPut, Sleep as FSleep, If' as FIf, While' as FWhile, Mitigate' as FMitigate}
+use Rattle.mit_syntax.specs.declared.ast.Form.{Form, Skip as FSkip, Assign as FAssign, Put as FPut, Sleep as FSleep, If' as FIf, While' as FWhile}
+use Rattle.mit_syntax.specs.declared.ast.Form.{Mitigate' as FMitigate}
 use Rattle.mit_syntax.specs.declared.ast.Command.{Command}
 use Rattle.mit_syntax.specs.Todo.{Todo, Done, Skip, Assign, Put, Sleep, If, While, Mitigate}
 use Rattle.mit_syntax.specs.Plan.{Plan, Written, form_plan, list_plan, command_plan, count, mitigates, plan-If, plan-While, plan-Mitigate}
@@ -48,14 +49,17 @@ mitigates_below (Mitigate m k l e c p) = let r = mitigates_below c in let t = mi
 
 -- the counts of a command with lists inside
 module _ (k : Command) (e : Expr) (v : Vec Command Global) where
-  pub if_plan : (u : Vec Command Global) → k.form ≡ DIf e v u → command_plan k Done ≡ If (record { pos = k.pos; labels = k.labels }) (expression_of e) (list_plan v.items) (list_plan u.items) Done
+  pub if_plan : (u : Vec Command Global) → k.form ≡ DIf e v u
+      → command_plan k Done ≡ If (record { pos = k.pos; labels = k.labels }) (expression_of e) (list_plan v.items) (list_plan u.items) Done
   if_plan u h = ap (λ f. form_plan f (record { pos = k.pos; labels = k.labels }) Done) h ∙ plan-If e v u (record { pos = k.pos; labels = k.labels }) Done
 
   pub while_plan : k.form ≡ DWhile e v → command_plan k Done ≡ While (record { pos = k.pos; labels = k.labels }) (expression_of e) (list_plan v.items) Done
   while_plan h = ap (λ f. form_plan f (record { pos = k.pos; labels = k.labels }) Done) h ∙ plan-While e v (record { pos = k.pos; labels = k.labels }) Done
 
-  pub mitigate_plan : (m : ℕ) (l : Option Label) → k.form ≡ DMitigate m e l v → command_plan k Done ≡ Mitigate (record { pos = k.pos; labels = k.labels }) m l (expression_of e) (list_plan v.items) Done
-  mitigate_plan m l h = ap (λ f. form_plan f (record { pos = k.pos; labels = k.labels }) Done) h ∙ plan-Mitigate m e l v (record { pos = k.pos; labels = k.labels }) Done
+  pub mitigate_plan : (m : ℕ) (l : Option Label) → k.form ≡ DMitigate m e l v
+      → command_plan k Done ≡ Mitigate (record { pos = k.pos; labels = k.labels }) m l (expression_of e) (list_plan v.items) Done
+  mitigate_plan m l h = ap (λ f. form_plan f (record { pos = k.pos; labels = k.labels }) Done) h
+      ∙ plan-Mitigate m e l v (record { pos = k.pos; labels = k.labels }) Done
 
 pub front_of : (list : List Command) (x : Command) (i : ℕ) → i < length list → x ≡ get_or list i x → drop i list ≡ x ∷ drop (i + 1) list
 front_of list x i h e = drop_more list i x h ∙ ap (λ y. y ∷ drop (i + 1) list) (sym e)

@@ -7,7 +7,8 @@ use Rattle.std.proofs.lemmas.Option.{none-some, same_Some, slice_get_within, get
 use Rattle.std.proofs.lemmas.Slice.Eq.{bytes_eq-Decides}
 use Rattle.label_lattice.specs.declared.label.Label.{Label}
 use Rattle.mit_syntax.specs.declared.declarations.Decl.{Decl}
-use Rattle.mit_syntax.specs.Declarations.{Declaration, Cell, cells_of, cells, cell_at, place_in, size_in, size_of, variables, first_of, declared, scalar_from, scalar_in, find_scalar, array_from, array_in, find_array}
+use Rattle.mit_syntax.specs.Declarations.{Declaration, Cell, cells_of, cells, cell_at, place_in, size_in, size_of, variables, first_of, declared, scalar_from}
+use Rattle.mit_syntax.specs.Declarations.{scalar_in, find_scalar, array_from, array_in, find_array}
 use Rattle.mit_syntax.specs.Valid.{IsShaped, AreShaped}
 use Rattle.mit_syntax.proofs.Numbers.{cell_in, length-cells_of}
 
@@ -35,8 +36,10 @@ declared_place (x ∷ ds) w f d e = by (λ g. declared_place ds w g d) (bytes_eq
     by : ((g : ℕ) → declared ds w ≡ Some (g, d) → DeclaredAt ds w g d) → (b : Bool) → bytes_eq w x.0 ≡ b → DeclaredAt (x ∷ ds) w f d
     by rest true h =
         let name : w ≡ x.0 = (bytes_eq-Decides w x.0).0 h in
-        let q : (0, x.1) ≡ (f, d) = same_Some (0, x.1) (f, d) (sym (cond-true (bytes_eq w x.0) (Some (0, x.1)) (option_map (shift (size_of x.1)) (declared ds w)) h) ∙ e) in
-        record { place = 0; there = ap (λ z. Some (z, x.1)) (sym name) ∙ ap (λ z. Some (w, z)) (ap (λ (z : ℕ × Decl). z.1) q); first = ap (λ (z : ℕ × Decl). z.0) q }
+        let q : (0, x.1) ≡ (f, d) = same_Some (0, x.1) (f,
+            d) (sym (cond-true (bytes_eq w x.0) (Some (0, x.1)) (option_map (shift (size_of x.1)) (declared ds w)) h) ∙ e) in
+        record { place = 0; there = ap (λ z. Some (z, x.1)) (sym name) ∙ ap (λ z. Some (w, z)) (ap (λ (z : ℕ × Decl). z.1) q); first =
+            ap (λ (z : ℕ × Decl). z.0) q }
     by rest false h =
         declared_later ds w x f d (declared ds w) rest
         (sym (cond-false (bytes_eq w x.0) (Some (0, x.1)) (option_map (shift (size_of x.1)) (declared ds w)) h) ∙ e)
@@ -117,7 +120,8 @@ module _ (ds : List Declaration) (w : List ℕ) where
         let i : 0 < size_of s.decl = omega (arith, n) in
         let f = s.at.first in
         let z : x ≡ first_of ds s.at.place + 0 = omega (arith, f) in
-        ap (cell_at ds) z ∙ cell_in ds s.at.place 0 (w, s.decl) _ s.at.there i ∙ ap (λ m. record { name = w; label = s.decl.label; place = place_in m 0 }) s.scalar
+        ap (cell_at ds) z ∙ cell_in ds s.at.place 0 (w, s.decl) _ s.at.there i
+            ∙ ap (λ m. record { name = w; label = s.decl.label; place = place_in m 0 }) s.scalar
 
     pub scalar_name : (cell_at ds x).name ≡ w
     scalar_name = ap (λ (c : Cell). c.name) scalar_cell
@@ -143,7 +147,8 @@ module _ (ds : List Declaration) (w : List ℕ) where
         let i : k < size_of s.decl = omega (arith, m, h) in
         let g = s.at.first in
         let z : f + k ≡ first_of ds s.at.place + k = omega (arith, g) in
-        ap (cell_at ds) z ∙ cell_in ds s.at.place k (w, s.decl) _ s.at.there i ∙ ap (λ m. record { name = w; label = s.decl.label; place = place_in m k }) s.array
+        ap (cell_at ds) z ∙ cell_in ds s.at.place k (w, s.decl) _ s.at.there i
+            ∙ ap (λ m. record { name = w; label = s.decl.label; place = place_in m k }) s.array
 
     -- all have one label
     pub array_label : (k : ℕ) → k < n → (cell_at ds (f + k)).label ≡ (cell_at ds f).label

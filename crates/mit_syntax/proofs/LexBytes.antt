@@ -1,5 +1,6 @@
 -- Bytes of names and digits, and fronts of texts.
-use Rattle.std.proofs.Common.{◌≡◌, ◌⊎◌, inl, inr, ◌<◌, ◌≤◌, ◌+◌, ◌-◌, ◌*◌, refl, ap, ◌∙◌, sym, subst, ℕ, zero, suc, List, [], ◌∷◌, ◌++◌, take, drop, get_or, length, drop-cons, add-one, Bool, true, false, ◌&&◌, ◌||◌, ◌==◌, nat_le, arith}
+use Rattle.std.proofs.Common.{◌≡◌, ◌⊎◌, inl, inr, ◌<◌, ◌≤◌, ◌+◌, ◌-◌, ◌*◌, refl, ap, ◌∙◌, sym, subst, ℕ, zero, suc, List, [], ◌∷◌, ◌++◌, take, drop, get_or}
+use Rattle.std.proofs.Common.{length, drop-cons, add-one, Bool, true, false, ◌&&◌, ◌||◌, ◌==◌, nat_le, arith}
 use Rattle.std.proofs.lemmas.Bool.{leb-true}
 use Rattle.std.specs.Char.{is_ascii_digit, is_ascii_alphabetic}
 use Rattle.mit_syntax.specs.Lexemes.{is_name_byte, Each, StopsAt, value_after, IsWord, IsDigits}

@@ -1,5 +1,6 @@
 -- The longest lexeme at the front of a text.
-use Rattle.std.proofs.Common.{◌≡◌, ◌<◌, ◌≤◌, ◌+◌, ◌-◌, ◌*◌, ◌/◌, refl, ap, ◌∙◌, sym, subst, ℕ, zero, suc, List, [], ◌∷◌, ◌++◌, take, drop, get_or, length, drop-cons, length-take, Bool, true, false, Option, Some, None, arith}
+use Rattle.std.proofs.Common.{◌≡◌, ◌<◌, ◌≤◌, ◌+◌, ◌-◌, ◌*◌, ◌/◌, refl, ap, ◌∙◌, sym, subst, ℕ, zero, suc, List, [], ◌∷◌, ◌++◌, take, drop, get_or, length}
+use Rattle.std.proofs.Common.{drop-cons, length-take, Bool, true, false, Option, Some, None, arith}
 use Rattle.std.proofs.lemmas.List.{take-append-drop}
 use Rattle.std.specs.Char.{is_ascii_digit, is_ascii_alphabetic}
 use Rattle.mit_syntax.specs.declared.lexeme.Flaw.TheVariants.{Bad}
@@ -8,7 +9,8 @@ use Rattle.mit_syntax.specs.declared.token.TokenKind.{TokenKind}
 use Rattle.mit_syntax.specs.declared.token.TokenKind.TheVariants.{Sign as SignKind}
 use Rattle.mit_syntax.specs.Lexemes.{is_name_byte, Each, StopsAt, value, value_after, sign_text, IsWord, IsDigits, word, digits, sign, IsLongest, HasKind}
 use Rattle.mit_syntax.specs.TokenSteps.{IsToken, HasFlaw, second_is_equal, sign_front}
-use Rattle.mit_syntax.proofs.LexBytes.{differ, heads, not_longer, word_passes, digits_pass, each_name, not_both, letter_in_name, front_passes, rest_stops, grows}
+use Rattle.mit_syntax.proofs.LexBytes.{differ, heads, not_longer, word_passes, digits_pass, each_name, not_both, letter_in_name, front_passes, rest_stops}
+use Rattle.mit_syntax.proofs.LexBytes.{grows}
 use Rattle.mit_syntax.proofs.LexSigns.{no_sign, no_letter_first, no_digit_first, taken, takes, taken_there}
 
 pub word_longest : (w r : List ℕ) → IsWord w → StopsAt is_name_byte r → IsLongest w r
@@ -79,7 +81,8 @@ module _ (text : List ℕ) (n : ℕ) (fits : n ≤ length text) where
   pub both_parts : text ≡ take n text ++ drop n text
   both_parts = sym (take-append-drop n text)
 
-pub is_word : (text : List ℕ) (n : ℕ) → 0 < n → 0 < length text → is_ascii_alphabetic (get_or text 0 0) ≡ true → Each is_name_byte (take n text) → IsWord (take n text)
+pub is_word : (text : List ℕ) (n : ℕ) → 0 < n → 0 < length text → is_ascii_alphabetic (get_or text 0 0) ≡ true
+    → Each is_name_byte (take n text) → IsWord (take n text)
 is_word text zero h l e k = absurd (omega (arith, h))
 is_word [] (suc n) h l e k = absurd (omega (arith, l))
 is_word (x ∷ xs) (suc n) h l e k = (e, k.1)
@@ -110,8 +113,10 @@ digits_front text n l h fits before stops =
     (w, digits_longest (take n text) (drop n text) w (rest_stops is_ascii_digit text n fits stops))
 
 -- a token of n bytes
-pub token_of : (text : List ℕ) (kind : TokenKind) (n : ℕ) → n ≤ length text → HasKind (take n text) kind → IsLongest (take n text) (drop n text) → IsToken text kind n
-token_of text kind n fits h l = record { spelled = take n text; rest = drop n text; are = both_parts text n fits; size = front_size text n fits; has_kind = h; longest = l }
+pub token_of : (text : List ℕ) (kind : TokenKind) (n : ℕ) → n ≤ length text → HasKind (take n text) kind
+    → IsLongest (take n text) (drop n text) → IsToken text kind n
+token_of text kind n fits h l = record { spelled = take n text; rest = drop n text; are = both_parts text n fits; size =
+    front_size text n fits; has_kind = h; longest = l }
 
 pub at_sign : (text : List ℕ) (s : Sign) (n : ℕ) → 0 < length text → is_ascii_alphabetic (get_or text 0 0) ≡ false → is_ascii_digit (get_or text 0 0) ≡ false
     → Some (s, n) ≡ sign_front (get_or text 0 0) (second_is_equal text) → IsToken text (SignKind s) n
@@ -126,7 +131,8 @@ at_no_sign (x ∷ xs) l h k e = no_token x xs h k (sym e)
 past_max : (n d : ℕ) → (9223372036854775807 - d) / 10 < n → 9223372036854775807 < 10 * n + d
 past_max n d h = omega arith
 
-pub too_large : (n i : ℕ) (w : List ℕ) → i < length w → value_after n (drop i w) ≡ value w → (9223372036854775807 - (get_or w i 0 - 48)) / 10 < n → 9223372036854775807 < value w
+pub too_large : (n i : ℕ) (w : List ℕ) → i < length w → value_after n (drop i w) ≡ value w → (9223372036854775807 - (get_or w i 0 - 48)) / 10 < n
+    → 9223372036854775807 < value w
 too_large n i w l e h =
     let k = rw (drop-cons w i 0) at e in
     let g = grows (10 * n + (get_or w i 0 - 48)) (drop (suc i) w) in

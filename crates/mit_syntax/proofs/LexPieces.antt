@@ -1,5 +1,6 @@
 -- Pieces of a text and places.
-use Rattle.std.proofs.Common.{◌≡◌, ◌<◌, ◌≤◌, ◌+◌, refl, ap, ◌∙◌, sym, subst, ℕ, zero, suc, List, [], ◌∷◌, ◌++◌, append_assoc, take, drop, get_or, length, length-append, length-drop, Bool, true, false, cond, ◌&&◌, ◌==◌, Option, Some, None, arith}
+use Rattle.std.proofs.Common.{◌≡◌, ◌<◌, ◌≤◌, ◌+◌, refl, ap, ◌∙◌, sym, subst, ℕ, zero, suc, List, [], ◌∷◌, ◌++◌, append_assoc, take, drop, get_or, length}
+use Rattle.std.proofs.Common.{length-append, length-drop, Bool, true, false, cond, ◌&&◌, ◌==◌, Option, Some, None, arith}
 use Rattle.std.proofs.lemmas.List.{append-nil, take-append-drop}
 use Rattle.std.proofs.lemmas.Bool.{eqb-true}
 use Rattle.std.specs.Prelude.{IsUtf8}
@@ -14,7 +15,8 @@ use Rattle.mit_syntax.specs.declared.token.TokenKind.{TokenKind}
 use Rattle.mit_syntax.specs.declared.token.TokenKind.TheVariants.{Key, Name, Number, Sign as SignKind, End}
 use Rattle.mit_syntax.specs.declared.tokens.Place.{Place}
 use Rattle.mit_syntax.specs.Lexemes.{is_white, is_name_byte, Each, StopsAt, IsWord, IsDigits, key_text, HasKind, IsLongest}
-use Rattle.mit_syntax.specs.Cut.{start, past, moved, in_line, starts_comment, white, comment, lexeme, bytes_of, IsPiece, spread, and_then, tokens_of, end_at, AreTokens, BeginsNone, BeginsWide, BeginsLong, StopsBefore, IsFault}
+use Rattle.mit_syntax.specs.Cut.{start, past, moved, in_line, starts_comment, white, comment, lexeme, bytes_of, IsPiece, spread, and_then, tokens_of, end_at}
+use Rattle.mit_syntax.specs.Cut.{AreTokens, BeginsNone, BeginsWide, BeginsLong, StopsBefore, IsFault}
 use Rattle.mit_syntax.specs.TokenSteps.{IsToken, HasFlaw, State, TookPiece, StandsAtFlaw, NoPiece, CutSoFar}
 use Rattle.mit_syntax.proofs.LexBytes.{differ, letter_in_name}
 use Rattle.mit_syntax.proofs.LexSigns.{key_opens, sign_stays, sign_parts}
@@ -58,19 +60,26 @@ kind_some w (SignKind s) h = subst (λ l. 0 < length l) (sym (h ∙ sign_parts s
 kind_some w End h = absurd h
 
 -- within a line the column counts bytes
-past_in_line : (p : Place) (b : ℕ) (e : Bool) → (b == 10) ≡ e → in_line b ≡ true → past p b ≡ record { at = p.at + 1; pos = record { line = p.pos.line; column = p.pos.column + 1 } }
+past_in_line : (p : Place) (b : ℕ) (e : Bool) → (b == 10) ≡ e → in_line b ≡ true
+    → past p b ≡ record { at = p.at + 1; pos = record { line = p.pos.line; column = p.pos.column + 1 } }
 past_in_line p b true q h = differ (sym h ∙ ap (λ x. cond x false true) q)
-past_in_line p b false q h = ap (λ x. cond x (record { at = p.at + 1; pos = record { line = p.pos.line + 1; column = 1 } }) (record { at = p.at + 1; pos = record { line = p.pos.line; column = p.pos.column + 1 } })) q
+past_in_line p b false q h = ap
+    (λ x. cond x (record { at = p.at + 1; pos = record { line = p.pos.line + 1; column = 1 } }) (record { at = p.at + 1; pos =
+    record { line = p.pos.line; column = p.pos.column + 1 } })) q
 
-same_place : (a b l c d : ℕ) → a ≡ b → c ≡ d → ◌≡◌ {A = Place} (record { at = a; pos = record { line = l; column = c } }) (record { at = b; pos = record { line = l; column = d } })
-same_place a b l c d e f = ap (λ x. record { at = x; pos = record { line = l; column = c } }) e ∙ ap (λ x. record { at = b; pos = record { line = l; column = x } }) f
+same_place : (a b l c d : ℕ) → a ≡ b → c ≡ d
+    → ◌≡◌ {A = Place} (record { at = a; pos = record { line = l; column = c } }) (record { at = b; pos = record { line = l; column = d } })
+same_place a b l c d e f = ap (λ x. record { at = x; pos = record { line = l; column = c } }) e
+    ∙ ap (λ x. record { at = b; pos = record { line = l; column = x } }) f
 
-pub moved_in_line : (p : Place) (w : List ℕ) → Each in_line w → moved p w ≡ record { at = p.at + length w; pos = record { line = p.pos.line; column = p.pos.column + length w } }
+pub moved_in_line : (p : Place) (w : List ℕ) → Each in_line w
+    → moved p w ≡ record { at = p.at + length w; pos = record { line = p.pos.line; column = p.pos.column + length w } }
 moved_in_line p [] h = same_place p.at (p.at + 0) p.pos.line p.pos.column (p.pos.column + 0) (omega arith) (omega arith)
 moved_in_line p (b ∷ w) h =
     let q : Place = record { at = p.at + 1; pos = record { line = p.pos.line; column = p.pos.column + 1 } } in
     ap (λ x. moved x w) (past_in_line p b (b == 10) refl h.0) ∙ moved_in_line q w h.1
-    ∙ same_place (p.at + 1 + length w) (p.at + suc (length w)) p.pos.line (p.pos.column + 1 + length w) (p.pos.column + suc (length w)) (omega arith) (omega arith)
+    ∙ same_place (p.at + 1 + length w) (p.at + suc (length w)) p.pos.line (p.pos.column + 1 + length w)
+        (p.pos.column + suc (length w)) (omega arith) (omega arith)
 
 pub moved-append : (p : Place) (v w : List ℕ) → moved p (v ++ w) ≡ moved (moved p v) w
 moved-append p [] w = refl
@@ -91,7 +100,8 @@ token_front text k n t =
 pub token_stays : (text : List ℕ) (k : TokenKind) (n : ℕ) → IsToken text k n → Each in_line (take n text)
 token_stays text k n t = subst (Each in_line) (sym (token_front text k n t).0) (kind_stays t.spelled k t.has_kind)
 
-pub took_lexeme : (old new : State) (k : TokenKind) (n : ℕ) → IsToken old.1 k n → starts_comment old.1 ≡ false → new.1 ≡ drop n old.1 → new.0 ≡ moved old.0 (take n old.1)
+pub took_lexeme : (old new : State) (k : TokenKind) (n : ℕ) → IsToken old.1 k n → starts_comment old.1 ≡ false → new.1 ≡ drop n old.1
+    → new.0 ≡ moved old.0 (take n old.1)
     → TookPiece old new (Some (record { kind = k; from = old.0.at; to = old.0.at + n; pos = old.0.pos }))
 took_lexeme old new k n t c e f =
     let w = token_front old.1 k n t in
@@ -108,7 +118,8 @@ took_lexeme old new k n t c e f =
       shorter = omega (arith, some, size, left);
     }
 
-pub took_white : (old new : State) → 0 < length old.1 → is_white (get_or old.1 0 0) ≡ true → new.1 ≡ drop 1 old.1 → new.0 ≡ moved old.0 (take 1 old.1) → TookPiece old new None
+pub took_white : (old new : State) → 0 < length old.1 → is_white (get_or old.1 0 0) ≡ true → new.1 ≡ drop 1 old.1
+    → new.0 ≡ moved old.0 (take 1 old.1) → TookPiece old new None
 took_white (p, []) new h e r f = absurd (omega (arith, h))
 took_white (p, b ∷ w) new h e r f =
     let left : length new.1 ≡ length w = ap length r in
@@ -175,7 +186,8 @@ nothing_left : (text : List ℕ) → length text ≡ 0 → text ≡ []
 nothing_left [] e = refl
 nothing_left (b ∷ r) e = absurd (omega (arith, e))
 
-pub the_end : (text : List ℕ) (now : State) (list items : List Token) → IsUtf8 text → CutSoFar text now list → length now.1 ≡ 0 → items ≡ list ++ end_at now.0 ∷ [] → AreTokens text items
+pub the_end : (text : List ℕ) (now : State) (list items : List Token) → IsUtf8 text → CutSoFar text now list → length now.1 ≡ 0
+    → items ≡ list ++ end_at now.0 ∷ [] → AreTokens text items
 the_end text now list items u f h e =
     let k = f.builds [] [] (nothing_left now.1 h) tt in
     let whole : text ≡ spread k.0 = k.1 ∙ append-nil (spread k.0) in
@@ -184,7 +196,8 @@ the_end text now list items u f h e =
       pieces = k.0;
       are = whole;
       cut = k.2;
-      tokens_are = e ∙ ap (λ l. l ++ end_at now.0 ∷ []) (sym (k.3 ∙ append-nil list)) ∙ ap (λ p. tokens_of start k.0 ++ end_at p ∷ []) (sym (ap (moved start) whole ∙ k.4));
+      tokens_are = e ∙ ap (λ l. l ++ end_at now.0 ∷ []) (sym (k.3 ∙ append-nil list))
+          ∙ ap (λ p. tokens_of start k.0 ++ end_at p ∷ []) (sym (ap (moved start) whole ∙ k.4));
     }
 
 module _ (text : List ℕ) (now : State) (list : List Token) (utf8 : IsUtf8 text) (f : CutSoFar text now list) where

@@ -6,7 +6,8 @@ use Rattle.label_lattice.specs.Order.{Order}
 use Rattle.mit_syntax.specs.declared.token.Keyword.TheVariants.{Order as OrderKey}
 use Rattle.mit_syntax.specs.Chunks.{Chunk, text}
 use Rattle.mit_syntax.specs.Declarations.{Declaration}
-use Rattle.mit_syntax.specs.Layout.{Part, Puts, a_key, a_space, end_line, pair_part, order_part, comma_before, listed, more_listed, declaration_part, declarations_part}
+use Rattle.mit_syntax.specs.Layout.{Part, Puts, a_key, a_space, end_line, pair_part, order_part, comma_before, listed, more_listed, declaration_part}
+use Rattle.mit_syntax.specs.Layout.{declarations_part}
 use Rattle.mit_syntax.proofs.Putting.{puts_then, puts_none}
 
 -- what is left to put after i parts
@@ -28,7 +29,8 @@ left_next (suc i) part x rest q = refl
 left_more : {X : Type 0} (i : ℕ) (part : X → Part) (xs : List X) (q : List Chunk) → left_listed (i + 1) part xs q ≡ more_listed part xs q
 left_more i part xs q = rw add-one refl
 
-pub next_listed : {X : Type 0} {a b c e : List ℕ} (part : X → Part) (xs : List X) (x d : X) (i : ℕ) → i < length xs → x ≡ get_or xs i d → ListedSoFar a b part i xs
+pub next_listed : {X : Type 0} {a b c e : List ℕ} (part : X → Part) (xs : List X) (x d : X) (i : ℕ) → i < length xs
+    → x ≡ get_or xs i d → ListedSoFar a b part i xs
     → Puts b c (comma_before i) → Puts c e (part x) → ListedSoFar a e part (i + 1) xs
 next_listed {b} {e} part xs x d i h g so p1 p2 = record {
   is = λ q.
@@ -56,7 +58,8 @@ pub record DeclaredSoFar (a b : List ℕ) (o : Order) (k : ℕ) (ds : List Decla
 pub none_declared : (a : List ℕ) (o : Order) (ds : List Declaration) → DeclaredSoFar a a o 0 ds
 none_declared a o ds = record { is = λ q. refl }
 
-pub next_declared : {a b c : List ℕ} (o : Order) (ds : List Declaration) (d : Declaration) (k : ℕ) → k < length ds → d ≡ get_or ds k d → DeclaredSoFar a b o k ds
+pub next_declared : {a b c : List ℕ} (o : Order) (ds : List Declaration) (d : Declaration) (k : ℕ) → k < length ds
+    → d ≡ get_or ds k d → DeclaredSoFar a b o k ds
     → Puts b c (declaration_part o d) → DeclaredSoFar a c o (k + 1) ds
 next_declared {b} {c} o ds d k h g so p = record {
   is = λ q.
@@ -68,7 +71,8 @@ next_declared {b} {c} o ds d k h g so p = record {
 pub all_declared : {a b : List ℕ} (o : Order) (ds : List Declaration) (k : ℕ) → length ds ≤ k → DeclaredSoFar a b o k ds → Puts a b (declarations_part o ds)
 all_declared {b} o ds k h so = record { is = λ q. ap (λ l. b ++ text (declarations_part o l q)) (sym (drop_all k ds h)) ∙ so.is q }
 
-pub puts_order : {a z : List ℕ} (o : Order) (ps : List (Label × Label)) → 0 < length ps → Puts a z (λ q. a_key OrderKey (a_space (listed (pair_part o) ps (end_line q)))) → Puts a z (order_part o ps)
+pub puts_order : {a z : List ℕ} (o : Order) (ps : List (Label × Label)) → 0 < length ps
+    → Puts a z (λ q. a_key OrderKey (a_space (listed (pair_part o) ps (end_line q)))) → Puts a z (order_part o ps)
 puts_order o [] h p = absurd (omega (arith, h))
 puts_order o (x ∷ ps) h p = p
 

@@ -24,7 +24,8 @@ pub declared_first : (ds : List Declaration) (w : List ℕ) (k : ℕ) (d : Decla
 declared_first [] w k d e y n = absurd (none-some d e)
 declared_first (x ∷ ds) w zero d e y n =
     let same : x ≡ d = same_Some x d e in
-    subst (λ (z : Declaration). declared (z ∷ ds) w ≡ Some (0, d.1)) (sym same) (cond-true (bytes_eq w d.0) (Some (0, d.1)) (option_map (λ r. (size_of d.1 + r.0, r.1)) (declared ds w)) y)
+    subst (λ (z : Declaration). declared (z ∷ ds) w ≡ Some (0, d.1)) (sym same)
+        (cond-true (bytes_eq w d.0) (Some (0, d.1)) (option_map (λ r. (size_of d.1 + r.0, r.1)) (declared ds w)) y)
 declared_first (x ∷ ds) w (suc k) d e y n =
     cond-false (bytes_eq w x.0) (Some (0, x.1)) (option_map (λ r. (size_of x.1 + r.0, r.1)) (declared ds w)) (n 0 x (omega arith) refl)
     ∙ ap (option_map (λ r. (size_of x.1 + r.0, r.1))) (declared_first ds w k d e y (λ j z l h. n (suc j) z (omega (arith, l)) h))
@@ -50,7 +51,8 @@ absent test w same (d ∷ ds) h = by (absent test w same ds) (test d.0) refl
         cond-false (bytes_eq w d.0) (Some (0, d.1)) (option_map (λ r. (size_of d.1 + r.0, r.1)) (declared ds w)) (sym (same d.0) ∙ e)
         ∙ ap (option_map (λ r. (size_of d.1 + r.0, r.1))) (rest (sym (cond-false (test d.0) (Some d.1) (lookup test ds) e) ∙ h))
 
-pub declared_none : (test : List ℕ → Bool) (w : List ℕ) → ((v : List ℕ) → test v ≡ bytes_eq w v) → (ds : List Declaration) → None ≡ position test (keys_of ds) → declared ds w ≡ None
+pub declared_none : (test : List ℕ → Bool) (w : List ℕ) → ((v : List ℕ) → test v ≡ bytes_eq w v) → (ds : List Declaration)
+    → None ≡ position test (keys_of ds) → declared ds w ≡ None
 declared_none test w same ds h = absent test w same ds (Missing-position test ds (sym h)).value
 
 module _ (ds : List Declaration) (w : List ℕ) where

@@ -1,11 +1,13 @@
 -- The numbers of variables.
-use Rattle.std.proofs.Common.{◌≡◌, refl, sym, ap, ◌∙◌, subst, ℕ, zero, suc, ◌+◌, ◌-◌, ◌<◌, ◌≤◌, List, [], ◌∷◌, length, get_or, Option, None, Some, arith, length-append, set, ⊎_elim}
+use Rattle.std.proofs.Common.{◌≡◌, refl, sym, ap, ◌∙◌, subst, ℕ, zero, suc, ◌+◌, ◌-◌, ◌<◌, ◌≤◌, List, [], ◌∷◌, length, get_or, Option, None, Some, arith}
+use Rattle.std.proofs.Common.{length-append, set, ⊎_elim}
 use Rattle.std.specs.Prelude.{slice_get}
 use Rattle.std.proofs.lemmas.List.{get_or_append_left, get_or-append-add, get_or-set_same, get_or-set_other}
 use Rattle.std.proofs.lemmas.Bool.{cases_lt}
 use Rattle.std.proofs.lemmas.Option.{none-some, same_Some}
 use Rattle.label_lattice.specs.declared.label.Label.{Label}
-use Rattle.mit_syntax.specs.Declarations.{Declaration, Cell, elements, cells_of, cells, cell_at, cell_of, place_in, size_in, size_of, length_in, elements_in, variables, first_of, AreFew}
+use Rattle.mit_syntax.specs.Declarations.{Declaration, Cell, elements, cells_of, cells, cell_at, cell_of, place_in, size_in, size_of, length_in, elements_in}
+use Rattle.mit_syntax.specs.Declarations.{variables, first_of, AreFew}
 
 pub length-elements : (w : List ℕ) (l : Option Label) (i n : ℕ) → length (elements w l i n) ≡ n
 length-elements w l i zero = refl
@@ -15,14 +17,16 @@ pub length-cells_of : (w : List ℕ) (l : Option Label) (n : Option ℕ) → len
 length-cells_of w l None = refl
 length-cells_of w l (Some n) = length-elements w l 0 n
 
-pub elements_at : (w : List ℕ) (l : Option Label) (i n k : ℕ) (c : Cell) → k < n → get_or (elements w l i n) k c ≡ record { name = w; label = l; place = Some (i + k) }
+pub elements_at : (w : List ℕ) (l : Option Label) (i n k : ℕ) (c : Cell) → k < n
+    → get_or (elements w l i n) k c ≡ record { name = w; label = l; place = Some (i + k) }
 elements_at w l i zero k c h = absurd (omega (arith, h))
 elements_at w l i (suc n) zero c h = let e : i ≡ i + 0 = omega arith in ap (λ j. record { name = w; label = l; place = Some j }) e
 elements_at w l i (suc n) (suc k) c h =
     let e : (i + 1) + k ≡ i + suc k = omega arith in
     elements_at w l (i + 1) n k c (omega (arith, h)) ∙ ap (λ j. record { name = w; label = l; place = Some j }) e
 
-pub cells_at : (w : List ℕ) (l : Option Label) (n : Option ℕ) (k : ℕ) (c : Cell) → k < size_in n → get_or (cells_of w l n) k c ≡ record { name = w; label = l; place = place_in n k }
+pub cells_at : (w : List ℕ) (l : Option Label) (n : Option ℕ) (k : ℕ) (c : Cell) → k < size_in n
+    → get_or (cells_of w l n) k c ≡ record { name = w; label = l; place = place_in n k }
 cells_at w l None zero c h = refl
 cells_at w l None (suc k) c h = absurd (omega (arith, h))
 cells_at w l (Some n) k c h = let e : 0 + k ≡ k = omega arith in elements_at w l 0 n k c h ∙ ap (λ j. record { name = w; label = l; place = Some j }) e
@@ -66,7 +70,8 @@ few_cells ds few =
     let e : elements_in ds ≤ 2048 = few.elements in
     omega (arith, b, a, c, e)
 
-pub cell_in : (ds : List Declaration) (k i : ℕ) (d : Declaration) (c : Cell) → slice_get ds k ≡ Some d → i < size_of d.1 → get_or (cells ds) (first_of ds k + i) c ≡ cell_of d.0 d.1 i
+pub cell_in : (ds : List Declaration) (k i : ℕ) (d : Declaration) (c : Cell) → slice_get ds k ≡ Some d → i < size_of d.1
+    → get_or (cells ds) (first_of ds k + i) c ≡ cell_of d.0 d.1 i
 cell_in [] k i d c e h = absurd (none-some d e)
 cell_in (x ∷ ds) zero i d c e h =
     let same : x ≡ d = same_Some x d e in
@@ -110,7 +115,8 @@ some_declared [] x h = absurd (omega (arith, h))
 some_declared (d ∷ ds) x h = omega arith
 
 -- the variable with a number between two first ones
-pub owned : (ds : List Declaration) (k x : ℕ) (d : Declaration) → slice_get ds k ≡ Some d → first_of ds k ≤ x → x < first_of ds (k + 1) → cell_at ds x ≡ cell_of d.0 d.1 (x - first_of ds k)
+pub owned : (ds : List Declaration) (k x : ℕ) (d : Declaration) → slice_get ds k ≡ Some d → first_of ds k ≤ x → x < first_of ds (k + 1)
+    → cell_at ds x ≡ cell_of d.0 d.1 (x - first_of ds k)
 owned ds k x d e l h =
     let m = first_more ds k d e in
     let i : x - first_of ds k < size_of d.1 = omega (arith, m, l, h) in

@@ -11,7 +11,8 @@ use Rattle.mit_syntax.specs.declared.token.Token.{Token}
 use Rattle.mit_syntax.specs.declared.token.TokenKind.{TokenKind}
 use Rattle.mit_syntax.specs.declared.token.TokenKind.TheVariants.{Key, Name, Number, Sign as SignKind, End}
 use Rattle.mit_syntax.specs.Lexemes.{is_white, StopsAt, word, digits, IsWord, IsDigits, IsNoKeyword, value, IsLongest, HasKind}
-use Rattle.mit_syntax.specs.Cut.{start, moved, starts_comment, white, comment, lexeme, spread, AreTokens, BeginsNone, BeginsWide, BeginsLong, StopsBefore, IsFault}
+use Rattle.mit_syntax.specs.Cut.{start, moved, starts_comment, white, comment, lexeme, spread, AreTokens, BeginsNone, BeginsWide, BeginsLong, StopsBefore}
+use Rattle.mit_syntax.specs.Cut.{IsFault}
 use Rattle.mit_syntax.proofs.LexBytes.{differ}
 use Rattle.mit_syntax.proofs.LexSigns.{key_opens}
 use Rattle.mit_syntax.proofs.OneList.{as_lexeme, same_front, word_digits, word_sign, digits_sign, comment_goes_on, Stuck, stuck_end, one_cut, one_list}
@@ -66,7 +67,8 @@ module _ (text : List ℕ) (Flawed : List ℕ → Type 0) (pos : Pos) (none : (l
       omega (arith, some, none)
 
 -- two flaws of a text stand at one place, before the same bytes
-one_stop : (text : List ℕ) (F G : List ℕ → Type 0) (p q : Pos) → ((l : List ℕ) → F l → NoToken l) → ((l : List ℕ) → G l → NoToken l) → StopsBefore F text p → StopsBefore G text q
+one_stop : (text : List ℕ) (F G : List ℕ → Type 0) (p q : Pos) → ((l : List ℕ) → F l → NoToken l) → ((l : List ℕ) → G l → NoToken l)
+    → StopsBefore F text p → StopsBefore G text q
     → (p ≡ q) × (l : List ℕ) × F l × G l
 one_stop text F G p q n m f g =
     let same = one_cut f.pieces g.pieces f.left g.left (sym f.are ∙ g.are) f.cut g.cut (stuck text F p n f) (stuck text G q m g) in
@@ -91,7 +93,8 @@ none_long l f g = f g.spelled g.rest g.are (word g.is.0)
 wide_long : (l : List ℕ) → BeginsWide l → BeginsLong l → ⊥
 wide_long l f g =
     let both : f.spelled ++ f.rest ≡ g.spelled ++ g.rest = sym f.are ∙ g.are in
-    let same = (same_front f.spelled g.spelled f.rest g.rest both (g.longest f.spelled f.rest (sym both) (digits f.is.0)) (f.longest g.spelled g.rest both (word g.is.0))).0 in
+    let same = (same_front f.spelled g.spelled f.rest g.rest both (g.longest f.spelled f.rest (sym both) (digits f.is.0))
+        (f.longest g.spelled g.rest both (word g.is.0))).0 in
     word_digits g.spelled g.is.0 (subst IsDigits same f.is.0)
 
 -- but for want of memory, a text has one fault at most
@@ -106,13 +109,19 @@ one_fault text (BadByte p) (NotUtf8 m) h k x y = absurd (not_valid text m k h.ut
 one_fault text (WideNumber p) (NotUtf8 m) h k x y = absurd (not_valid text m k h.utf8)
 one_fault text (LongName p) (NotUtf8 m) h k x y = absurd (not_valid text m k h.utf8)
 one_fault text (BadByte p) (BadByte q) h k x y = ap BadByte (one_stop text BeginsNone BeginsNone p q none_no_token none_no_token h k).0
-one_fault text (BadByte p) (WideNumber q) h k x y = let s = one_stop text BeginsNone BeginsWide p q none_no_token wide_no_token h k in absurd (none_wide s.1 s.2 s.3)
-one_fault text (BadByte p) (LongName q) h k x y = let s = one_stop text BeginsNone BeginsLong p q none_no_token long_no_token h k in absurd (none_long s.1 s.2 s.3)
-one_fault text (WideNumber p) (BadByte q) h k x y = let s = one_stop text BeginsWide BeginsNone p q wide_no_token none_no_token h k in absurd (none_wide s.1 s.3 s.2)
+one_fault text (BadByte p) (WideNumber q) h k x y = let s = one_stop text BeginsNone BeginsWide p q none_no_token wide_no_token h k in
+    absurd (none_wide s.1 s.2 s.3)
+one_fault text (BadByte p) (LongName q) h k x y = let s = one_stop text BeginsNone BeginsLong p q none_no_token long_no_token h k in
+    absurd (none_long s.1 s.2 s.3)
+one_fault text (WideNumber p) (BadByte q) h k x y = let s = one_stop text BeginsWide BeginsNone p q wide_no_token none_no_token h k in
+    absurd (none_wide s.1 s.3 s.2)
 one_fault text (WideNumber p) (WideNumber q) h k x y = ap WideNumber (one_stop text BeginsWide BeginsWide p q wide_no_token wide_no_token h k).0
-one_fault text (WideNumber p) (LongName q) h k x y = let s = one_stop text BeginsWide BeginsLong p q wide_no_token long_no_token h k in absurd (wide_long s.1 s.2 s.3)
-one_fault text (LongName p) (BadByte q) h k x y = let s = one_stop text BeginsLong BeginsNone p q long_no_token none_no_token h k in absurd (none_long s.1 s.3 s.2)
-one_fault text (LongName p) (WideNumber q) h k x y = let s = one_stop text BeginsLong BeginsWide p q long_no_token wide_no_token h k in absurd (wide_long s.1 s.3 s.2)
+one_fault text (WideNumber p) (LongName q) h k x y = let s = one_stop text BeginsWide BeginsLong p q wide_no_token long_no_token h k in
+    absurd (wide_long s.1 s.2 s.3)
+one_fault text (LongName p) (BadByte q) h k x y = let s = one_stop text BeginsLong BeginsNone p q long_no_token none_no_token h k in
+    absurd (none_long s.1 s.3 s.2)
+one_fault text (LongName p) (WideNumber q) h k x y = let s = one_stop text BeginsLong BeginsWide p q long_no_token wide_no_token h k in
+    absurd (wide_long s.1 s.3 s.2)
 one_fault text (LongName p) (LongName q) h k x y = ap LongName (one_stop text BeginsLong BeginsLong p q long_no_token long_no_token h k).0
 
 -- what an answer says of all lists of tokens

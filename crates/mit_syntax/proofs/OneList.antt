@@ -8,7 +8,8 @@ use Rattle.mit_syntax.specs.declared.token.Token.{Token}
 use Rattle.mit_syntax.specs.declared.token.TokenKind.{TokenKind}
 use Rattle.mit_syntax.specs.declared.token.TokenKind.TheVariants.{Key, Name, Number, Sign as SignKind, End}
 use Rattle.mit_syntax.specs.Lexemes.{is_white, IsWord, IsDigits, Lexeme, word, digits, sign, sign_text, HasKind}
-use Rattle.mit_syntax.specs.Cut.{start, moved, in_line, starts_comment, Piece, white, comment, lexeme, bytes_of, IsPiece, spread, CutBefore, tokens_of, end_at, AreTokens}
+use Rattle.mit_syntax.specs.Cut.{start, moved, in_line, starts_comment, Piece, white, comment, lexeme, bytes_of, IsPiece, spread, CutBefore, tokens_of}
+use Rattle.mit_syntax.specs.Cut.{end_at, AreTokens}
 use Rattle.mit_syntax.proofs.LexBytes.{differ, not_longer, heads, tails, not_both}
 use Rattle.mit_syntax.proofs.LexSigns.{no_sign, no_letter_first, no_digit_first, no_white_first, key_opens, sign_parts, one_key, one_sign}
 
@@ -139,7 +140,8 @@ one_cut [] [] r s e h k f g = (refl, e)
 one_cut [] (q ∷ qs) r s e h k f g = absurd (f q (spread qs ++ s) (sym (e ∙ append_assoc (bytes_of q) (spread qs) s)) k.0)
 one_cut (p ∷ ps) [] r s e h k f g = absurd (g p (spread ps ++ r) (sym (append_assoc (bytes_of p) (spread ps) r) ∙ e) h.0)
 one_cut (p ∷ ps) (q ∷ qs) r s e h k f g =
-    let m = one_piece p q (spread ps ++ r) (spread qs ++ s) (sym (append_assoc (bytes_of p) (spread ps) r) ∙ e ∙ append_assoc (bytes_of q) (spread qs) s) h.0 k.0 in
+    let m = one_piece p q (spread ps ++ r) (spread qs ++ s) (sym (append_assoc (bytes_of p) (spread ps) r) ∙ e
+        ∙ append_assoc (bytes_of q) (spread qs) s) h.0 k.0 in
     let x = m.0 in
     let n = one_cut ps qs r s m.1 h.1 k.1 f g in
     let y = n.0 in

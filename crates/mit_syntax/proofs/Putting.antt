@@ -25,17 +25,21 @@ puts_indent {c} {e} (suc d) h x y z =
     record { is = λ q. k.is q ∙ y.is (indent d q) ∙ x.is (a_space (indent d q)) }
 
 pub puts_round : {a z : List ℕ} (ds : List Declaration) (need : ℕ) (o : Op) (l r : Expression) → rank o < need
-    → Puts a z (λ q. a_sign LeftRound (expression_part ds (left_need o) l (spaced (op_sign o) (expression_part ds (right_need o) r (a_sign RightRound q))))) → Puts a z (expression_part ds need (Binary o l r))
+    → Puts a z (λ q. a_sign LeftRound (expression_part ds (left_need o) l (spaced (op_sign o) (expression_part ds (right_need o) r (a_sign RightRound q)))))
+    → Puts a z (expression_part ds need (Binary o l r))
 puts_round {a} {z} ds need o l r h p =
-    subst (λ b. Puts a z (in_round b (λ q. expression_part ds (left_need o) l (spaced (op_sign o) (expression_part ds (right_need o) r q))))) (sym (lt-ltb (rank o) need h)) p
+    subst (λ b. Puts a z (in_round b (λ q. expression_part ds (left_need o) l (spaced (op_sign o) (expression_part ds (right_need o) r q)))))
+        (sym (lt-ltb (rank o) need h)) p
 
 -- the same part, from equal operands
-pub expression_as : {a b : List ℕ} (ds : List Declaration) (m n : ℕ) (e f : Expression) → m ≡ n → e ≡ f → Puts a b (expression_part ds m e) → Puts a b (expression_part ds n f)
+pub expression_as : {a b : List ℕ} (ds : List Declaration) (m n : ℕ) (e f : Expression) → m ≡ n → e ≡ f → Puts a b (expression_part ds m e)
+    → Puts a b (expression_part ds n f)
 expression_as {a} {b} ds m n e f h k p = subst (λ x. Puts a b (expression_part ds n x)) k (subst (λ x. Puts a b (expression_part ds x e)) h p)
 
 pub puts_binary : {a b c d f z : List ℕ} (ds : List Declaration) (need rk nl nr : ℕ) (s : Sign) (o : Op) (e l r l' r' : Expression)
     → e ≡ Binary o l r → rk ≡ rank o → rk < need → nl ≡ left_need o → s ≡ op_sign o → nr ≡ right_need o → l' ≡ l → r' ≡ r
-    → Puts a b (a_sign LeftRound) → Puts b c (expression_part ds nl l') → Puts c d (spaced s) → Puts d f (expression_part ds nr r') → Puts f z (a_sign RightRound)
+    → Puts a b (a_sign LeftRound) → Puts b c (expression_part ds nl l') → Puts c d (spaced s) → Puts d f (expression_part ds nr r')
+    → Puts f z (a_sign RightRound)
     → Puts a z (expression_part ds need e)
 puts_binary {a} {c} {d} {z} ds need rk nl nr s o e l r l' r' h1 h2 h3 h4 h5 h6 h7 h8 p1 p2 p3 p4 p5 =
     subst (λ x. Puts a z (expression_part ds need x)) (sym h1)

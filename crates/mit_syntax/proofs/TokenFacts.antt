@@ -1,5 +1,6 @@
 -- What the tokens of a text say of its bytes.
-use Rattle.std.proofs.Common.{◌≡◌, ◌<◌, ◌≤◌, ◌+◌, ◌-◌, ℤ, refl, ap, ◌∙◌, sym, subst, ℕ, zero, suc, List, [], ◌∷◌, ◌++◌, append_assoc, length, length-append, take, drop, get_or, Bool, true, false, cond, ◌==◌, arith}
+use Rattle.std.proofs.Common.{◌≡◌, ◌<◌, ◌≤◌, ◌+◌, ◌-◌, ℤ, refl, ap, ◌∙◌, sym, subst, ℕ, zero, suc, List, [], ◌∷◌, ◌++◌, append_assoc, length, length-append}
+use Rattle.std.proofs.Common.{take, drop, get_or, Bool, true, false, cond, ◌==◌, arith}
 use Rattle.std.proofs.lemmas.Bool.{eqb-true, eqb-false}
 use Rattle.std.proofs.lemmas.List.{append-nil}
 use Rattle.mit_syntax.specs.declared.token.Token.{Token}
@@ -35,8 +36,10 @@ pub record IsTokenOf (text : List ℕ) (t : Token) : Type 0 where
 
 -- a place counts the bytes before it
 past_at : (p : Place) (b : ℕ) (e : Bool) → (b == 10) ≡ e → (past p b).at ≡ p.at + 1
-past_at p b true q = ap (λ x. (cond {A = Place} x (record { at = p.at + 1; pos = record { line = p.pos.line + 1; column = 1 } }) (record { at = p.at + 1; pos = record { line = p.pos.line; column = p.pos.column + 1 } })).at) q
-past_at p b false q = ap (λ x. (cond {A = Place} x (record { at = p.at + 1; pos = record { line = p.pos.line + 1; column = 1 } }) (record { at = p.at + 1; pos = record { line = p.pos.line; column = p.pos.column + 1 } })).at) q
+past_at p b true q = ap (λ x. (cond {A = Place} x (record { at = p.at + 1; pos = record { line = p.pos.line + 1; column = 1 } }) (record { at = p.at + 1; pos =
+    record { line = p.pos.line; column = p.pos.column + 1 } })).at) q
+past_at p b false q = ap (λ x. (cond {A = Place} x (record { at = p.at + 1; pos = record { line = p.pos.line + 1; column = 1 } }) (record { at = p.at + 1; pos =
+    record { line = p.pos.line; column = p.pos.column + 1 } })).at) q
 
 pub moved_at : (p : Place) (w : List ℕ) → (moved p w).at ≡ p.at + length w
 moved_at p [] = omega arith
@@ -63,7 +66,8 @@ module _ (before : List ℕ) (x : Piece) (ps : List Piece) (rest : List ℕ) whe
   at_on p e = ap (λ q. moved q (bytes_of x)) e ∙ sym (moved-append start before (bytes_of x))
 
 -- the tokens of pieces have the bytes of the lexemes
-pub spelled_pieces : (ps : List Piece) (before rest : List ℕ) (p : Place) → p ≡ moved start before → spelled (before ++ (spread ps ++ rest)) (tokens_of p ps) ≡ lexemes_of ps
+pub spelled_pieces : (ps : List Piece) (before rest : List ℕ) (p : Place) → p ≡ moved start before
+    → spelled (before ++ (spread ps ++ rest)) (tokens_of p ps) ≡ lexemes_of ps
 spelled_pieces [] before rest p e = refl
 spelled_pieces (white b ∷ ps) before rest p e =
     let k = spelled_pieces ps (before ++ b ∷ []) rest (moved p (b ∷ [])) (at_on before (white b) ps rest p e) in
@@ -76,10 +80,12 @@ spelled_pieces (lexeme w t ∷ ps) before rest p e =
     let l = subst (λ l. spelled l (tokens_of (moved p w) ps) ≡ lexemes_of ps) (one_on before (lexeme w t) ps rest) k in
     let at : p.at ≡ length before = ap (λ q. q.at) e ∙ from_start before in
     let bytes : take (p.at + length w - p.at) (drop p.at (before ++ ((w ++ spread ps) ++ rest))) ≡ w =
-    ap (λ z. take (p.at + length w - p.at) (drop p.at (before ++ z))) (append_assoc w (spread ps) rest) ∙ middle before w (spread ps ++ rest) p.at (p.at + length w) at refl in
+    ap (λ z. take (p.at + length w - p.at) (drop p.at (before ++ z))) (append_assoc w (spread ps) rest)
+        ∙ middle before w (spread ps ++ rest) p.at (p.at + length w) at refl in
     ap (λ z. (t, z) ∷ spelled (before ++ ((w ++ spread ps) ++ rest)) (tokens_of (moved p w) ps)) bytes ∙ ap (λ z. (t, w) ∷ z) l
 
-each_piece : (ps : List Piece) (before rest : List ℕ) (p : Place) → p ≡ moved start before → CutBefore ps rest → EachToken (IsTokenOf (before ++ (spread ps ++ rest))) (tokens_of p ps)
+each_piece : (ps : List Piece) (before rest : List ℕ) (p : Place) → p ≡ moved start before → CutBefore ps rest
+    → EachToken (IsTokenOf (before ++ (spread ps ++ rest))) (tokens_of p ps)
 each_piece [] before rest p e c = tt
 each_piece (white b ∷ ps) before rest p e c =
     subst (λ l. EachToken (IsTokenOf l) (tokens_of (moved p (b ∷ [])) ps)) (one_on before (white b) ps rest)
@@ -91,7 +97,8 @@ each_piece (lexeme w t ∷ ps) before rest p e c =
     let at : p.at ≡ length before = ap (λ q. q.at) e ∙ from_start before in
     let whole = before ++ ((w ++ spread ps) ++ rest) in
     let split : whole ≡ before ++ (w ++ (spread ps ++ rest)) = ap (λ z. before ++ z) (append_assoc w (spread ps) rest) in
-    let bytes : take (p.at + length w - p.at) (drop p.at whole) ≡ w = ap (λ z. take (p.at + length w - p.at) (drop p.at z)) split ∙ middle before w (spread ps ++ rest) p.at (p.at + length w) at refl in
+    let bytes : take (p.at + length w - p.at) (drop p.at whole) ≡ w =
+        ap (λ z. take (p.at + length w - p.at) (drop p.at z)) split ∙ middle before w (spread ps ++ rest) p.at (p.at + length w) at refl in
     let some = kind_some w t c.0.1 in
     let size : length whole ≡ length before + (length w + length (spread ps ++ rest)) =
     ap length split ∙ length-append before (w ++ (spread ps ++ rest)) ∙ ap (λ n. length before + n) (length-append w (spread ps ++ rest)) in
@@ -114,7 +121,8 @@ pub record Told (text : List ℕ) (tokens : List Token) : Type 0 where
   pub end_from : (moved start text).at ≡ length text
 
 each_told : (text : List ℕ) (tokens : List Token) (h : AreTokens text tokens) → EachToken (IsTokenOf text) (tokens_of start h.pieces)
-each_told text tokens h = subst (λ l. EachToken (IsTokenOf l) (tokens_of start h.pieces)) (append-nil (spread h.pieces) ∙ sym h.are) (each_piece h.pieces [] [] start refl h.cut)
+each_told text tokens h = subst (λ l. EachToken (IsTokenOf l) (tokens_of start h.pieces)) (append-nil (spread h.pieces) ∙ sym h.are)
+    (each_piece h.pieces [] [] start refl h.cut)
 
 pub told : (text : List ℕ) (tokens : List Token) → AreTokens text tokens → Told text tokens
 told text tokens h =
@@ -150,7 +158,8 @@ module _ (text : List ℕ) (tokens : List Token) (h : AreTokens text tokens) whe
   pub token_told : (i : ℕ) (d : Token) → i + 1 < length tokens → IsTokenOf text (get_or tokens i d)
   token_told i d k =
       let s = size in
-      subst (λ l. IsTokenOf text (get_or l i d)) (sym h.tokens_are) (each_at (IsTokenOf text) (tokens_of start h.pieces) (end_at (moved start text) ∷ []) i d (each_told text tokens h) (omega (arith, s, k)))
+      subst (λ l. IsTokenOf text (get_or l i d)) (sym h.tokens_are) (each_at (IsTokenOf text) (tokens_of start h.pieces) (end_at (moved start text) ∷ []) i d
+          (each_told text tokens h) (omega (arith, s, k)))
 
   pub end_told : (i : ℕ) (d : Token) → i + 1 ≡ length tokens → get_or tokens i d ≡ end_at (moved start text)
   end_told i d k =
@@ -189,7 +198,8 @@ module _ (text : List ℕ) (tokens : List Token) (h : AreTokens text tokens) whe
   to_within i d k = (token_within i d k).1
 
   -- a token that is not the end has its kind's spelling
-  pub kind_told : (i : ℕ) (d : Token) → i < length tokens → ((get_or tokens i d).kind ≡ End → ⊥) → HasKind (token_bytes text (get_or tokens i d)) (get_or tokens i d).kind
+  pub kind_told : (i : ℕ) (d : Token) → i < length tokens → ((get_or tokens i d).kind ≡ End → ⊥)
+      → HasKind (token_bytes text (get_or tokens i d)) (get_or tokens i d).kind
   kind_told i d k e = at_last (i + 1 == length tokens) refl
     where
       at_last : (b : Bool) → (i + 1 == length tokens) ≡ b → HasKind (token_bytes text (get_or tokens i d)) (get_or tokens i d).kind
@@ -201,5 +211,6 @@ module _ (text : List ℕ) (tokens : List Token) (h : AreTokens text tokens) whe
   name_told i d k e = subst (HasKind (token_bytes text (get_or tokens i d))) e (kind_told i d k (λ h. let both : Name ≡ End = sym e ∙ h in cc))
 
   -- a number is no more than the greatest
-  pub number_told : (i : ℕ) (d : Token) (n : ℤ) → i < length tokens → (get_or tokens i d).kind ≡ Number n → HasKind (token_bytes text (get_or tokens i d)) (Number n)
+  pub number_told : (i : ℕ) (d : Token) (n : ℤ) → i < length tokens → (get_or tokens i d).kind ≡ Number n
+      → HasKind (token_bytes text (get_or tokens i d)) (Number n)
   number_told i d n k e = subst (HasKind (token_bytes text (get_or tokens i d))) e (kind_told i d k (λ h. let both : Number n ≡ End = sym e ∙ h in cc))

@@ -7,9 +7,12 @@ use Rattle.label_lattice.specs.Order.{Order, name_of}
 use Rattle.mit_syntax.specs.declared.ast.Op.{Op}
 use Rattle.mit_syntax.specs.declared.ast.Op.TheVariants.{Add, Sub, Mul, Div, Rem, Eq, Ne, Lt, Le, Gt, Ge}
 use Rattle.mit_syntax.specs.declared.token.Keyword.{Keyword}
-use Rattle.mit_syntax.specs.declared.token.Keyword.TheVariants.{Labels, Order as OrderKey, Var, Skip as SkipKey, If as IfKey, Then, Else, While as WhileKey, Do, Mitigate as MitigateKey, Sleep as SleepKey}
+use Rattle.mit_syntax.specs.declared.token.Keyword.TheVariants.{Labels, Order as OrderKey, Var, Skip as SkipKey, If as IfKey, Then, Else, While as WhileKey}
+use Rattle.mit_syntax.specs.declared.token.Keyword.TheVariants.{Do, Mitigate as MitigateKey, Sleep as SleepKey}
 use Rattle.mit_syntax.specs.declared.token.Sign.{Sign}
-use Rattle.mit_syntax.specs.declared.token.Sign.TheVariants.{Assign as AssignSign, Colon, Semicolon, Comma, LeftRound, RightRound, LeftBrace, RightBrace, LeftSquare, RightSquare, At, Plus, Minus, Star, Slash, Percent, Equal, NotEqual, LessEqual, Less, GreaterEqual, Greater}
+use Rattle.mit_syntax.specs.declared.token.Sign.TheVariants.{Assign as AssignSign, Colon, Semicolon, Comma, LeftRound, RightRound, LeftBrace, RightBrace}
+use Rattle.mit_syntax.specs.declared.token.Sign.TheVariants.{LeftSquare, RightSquare, At, Plus, Minus, Star, Slash, Percent, Equal, NotEqual, LessEqual, Less}
+use Rattle.mit_syntax.specs.declared.token.Sign.TheVariants.{GreaterEqual, Greater}
 use Rattle.mit_syntax.specs.Chunks.{Word, Chunk, space, line, word, key, sign, number, name, text}
 use Rattle.mit_syntax.specs.Expression.{Expression, Number, Variable, Binary, Element}
 use Rattle.mit_syntax.specs.Ranks.{rank, left_need, right_need}

@@ -6,8 +6,10 @@ use Rattle.text_base.specs.declared.pos.Pos.{Pos}
 use Rattle.mit_syntax.specs.declared.ast.Expr.{Expr}
 use Rattle.mit_syntax.specs.Expression.{expression_of}
 use Rattle.mit_syntax.specs.declared.ast.Command.{Command}
-use Rattle.mit_syntax.specs.declared.ast.Form.{Form, Row_of-Command, end_of-Command, more_of-Command, items-the_row-Command, items_hidden-the_row-Command-0, While as DWhile, If as DIf, Mitigate as DMitigate}
-use Rattle.mit_syntax.specs.declared.ast.Form.{Skip as FSkip, Assign as FAssign, Put as FPut, Sleep as FSleep, If' as FIf, While' as FWhile, Mitigate' as FMitigate}
+use Rattle.mit_syntax.specs.declared.ast.Form.{Form, Row_of-Command, end_of-Command, more_of-Command, items-the_row-Command, items_hidden-the_row-Command-0}
+use Rattle.mit_syntax.specs.declared.ast.Form.{While as DWhile, If as DIf, Mitigate as DMitigate}
+use Rattle.mit_syntax.specs.declared.ast.Form.{Skip as FSkip, Assign as FAssign, Put as FPut, Sleep as FSleep, If' as FIf, While' as FWhile}
+use Rattle.mit_syntax.specs.declared.ast.Form.{Mitigate' as FMitigate}
 use Rattle.mit_syntax.specs.declared.ast.Form.TheBlock.{hidden-the_row-Command-0}
 use Rattle.mit_syntax.specs.Todo.{Todo, Done, Skip, Assign, Put, Sleep, If, While, Mitigate}
 

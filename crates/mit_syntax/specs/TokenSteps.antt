@@ -7,12 +7,15 @@ use Rattle.mit_syntax.specs.declared.fault.TextFault.TheVariants.{NotUtf8, BadBy
 use Rattle.mit_syntax.specs.declared.lexeme.Flaw.{Flaw}
 use Rattle.mit_syntax.specs.declared.lexeme.Flaw.TheVariants.{Bad, Wide, Long}
 use Rattle.mit_syntax.specs.declared.token.Sign.{Sign}
-use Rattle.mit_syntax.specs.declared.token.Sign.TheVariants.{Assign, Colon, Semicolon, Comma, LeftRound, RightRound, LeftBrace, RightBrace, LeftSquare, RightSquare, At, Plus, Minus, Star, Slash, Percent, Equal, NotEqual, LessEqual, Less, GreaterEqual, Greater}
+use Rattle.mit_syntax.specs.declared.token.Sign.TheVariants.{Assign, Colon, Semicolon, Comma, LeftRound, RightRound, LeftBrace, RightBrace, LeftSquare}
+use Rattle.mit_syntax.specs.declared.token.Sign.TheVariants.{RightSquare, At, Plus, Minus, Star, Slash, Percent, Equal, NotEqual, LessEqual, Less}
+use Rattle.mit_syntax.specs.declared.token.Sign.TheVariants.{GreaterEqual, Greater}
 use Rattle.mit_syntax.specs.declared.token.Token.{Token}
 use Rattle.mit_syntax.specs.declared.token.TokenKind.{TokenKind}
 use Rattle.mit_syntax.specs.declared.tokens.Place.{Place}
 use Rattle.mit_syntax.specs.Lexemes.{is_white, StopsAt, HasKind, IsLongest}
-use Rattle.mit_syntax.specs.Cut.{start, moved, starts_comment, Piece, bytes_of, IsPiece, spread, CutBefore, token_at, tokens_of, BeginsNone, BeginsWide, BeginsLong}
+use Rattle.mit_syntax.specs.Cut.{start, moved, starts_comment, Piece, bytes_of, IsPiece, spread, CutBefore, token_at, tokens_of, BeginsNone, BeginsWide}
+use Rattle.mit_syntax.specs.Cut.{BeginsLong}
 
 -- the token at the front, of n bytes
 pub record IsToken (text : List ℕ) (kind : TokenKind) (n : ℕ) : Type 0 where

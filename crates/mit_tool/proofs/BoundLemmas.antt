@@ -31,32 +31,41 @@ below p q o types l = subst (λ (z : Syntax). o < z.order.size) (sym types.progr
 module _ (sound : SpelledAreSound) where
   audits_within : (e : EnvName) (t : ℕ) → AuditsAreWithin e t
   audits_within Flat t some words p q o ss r spelled types l is =
-      report_within flat_env (λ order e. Unit {0}) q o t (sound words p q spelled types).flat.halted (below p q o types l) some (starts_of flat_made q.program.order ss) r is
+      report_within flat_env (λ order e. Unit {0}) q o t (sound words p q spelled types).flat.halted (below p q o types l) some
+          (starts_of flat_made q.program.order ss) r is
   audits_within Part t some words p q o ss r spelled types l is =
-      report_within (part_by_history q.program.order) AnyHistory q o t (sound words p q spelled types).part.halted (below p q o types l) some (starts_of history_made q.program.order ss) r is
+      report_within (part_by_history q.program.order) AnyHistory q o t (sound words p q spelled types).part.halted (below p q o types l) some
+          (starts_of history_made q.program.order ss) r is
   audits_within Part2 t some words p q o ss r spelled types l is =
-      report_within (part2_by_history q.program.order) AnyHistory q o t (sound words p q spelled types).part2.halted (below p q o types l) some (starts_of history_made q.program.order ss) r is
+      report_within (part2_by_history q.program.order) AnyHistory q o t (sound words p q spelled types).part2.halted (below p q o types l) some
+          (starts_of history_made q.program.order ss) r is
 
   cuts_within : (e : EnvName) (t : ℕ) → CutsAreWithin e t
   cuts_within Flat t some words p q o ss r spelled types l is =
-      cut.report_within flat_env (λ order e. Unit {0}) q o t (starts_of flat_made q.program.order ss) (sound words p q spelled types).flat.cut (below p q o types l) some r is
+      cut.report_within flat_env (λ order e. Unit {0}) q o t (starts_of flat_made q.program.order ss) (sound words p q spelled types).flat.cut
+          (below p q o types l) some r is
   cuts_within Part t some words p q o ss r spelled types l is =
-      cut.report_within (part_by_history q.program.order) AnyHistory q o t (starts_of history_made q.program.order ss) (sound words p q spelled types).part.cut (below p q o types l) some r is
+      cut.report_within (part_by_history q.program.order) AnyHistory q o t (starts_of history_made q.program.order ss) (sound words p q spelled types).part.cut
+          (below p q o types l) some r is
   cuts_within Part2 t some words p q o ss r spelled types l is =
-      cut.report_within (part2_by_history q.program.order) AnyHistory q o t (starts_of history_made q.program.order ss) (sound words p q spelled types).part2.cut (below p q o types l) some r is
+      cut.report_within (part2_by_history q.program.order) AnyHistory q o t (starts_of history_made q.program.order ss)
+          (sound words p q spelled types).part2.cut (below p q o types l) some r is
 
 -- lists of releases are few
 abbrev pub FewLists : Type 0
-FewLists = (q t : ℕ) → 0 < q → 0 < t → (runs lists : List (List ℕ)) → AllZip (IsSchedule q t) runs lists → (same : List ℕ → List ℕ → Bool) → Tests same → distinct_count same lists ≤ box_bound t
+FewLists = (q t : ℕ) → 0 < q → 0 < t → (runs lists : List (List ℕ)) → AllZip (IsSchedule q t) runs lists → (same : List ℕ → List ℕ → Bool) → Tests same
+    → distinct_count same lists ≤ box_bound t
 
-schedules : (q t : ℕ) (runs : List (List ℕ)) (outcomes : List Outcome) → AllZip (IsOutcome q t) runs outcomes → AllZip (IsSchedule q t) runs (all_released outcomes)
+schedules : (q t : ℕ) (runs : List (List ℕ)) (outcomes : List Outcome) → AllZip (IsOutcome q t) runs outcomes
+    → AllZip (IsSchedule q t) runs (all_released outcomes)
 schedules q t [] [] h = h
 schedules q t [] (w ∷ ws) h = h
 schedules q t (r ∷ rs) [] h = h
 schedules q t (r ∷ rs) (w ∷ ws) h = (h.0.schedule, schedules q t rs ws h.1)
 
 releases_within : FewLists → (first t : ℕ) → ReleasesAreWithin first t
-releases_within few first t some more runs outcomes is = few first t some more runs (all_released outcomes) (schedules first t runs outcomes is) same_cycles cycles_test
+releases_within few first t some more runs outcomes is =
+    few first t some more runs (all_released outcomes) (schedules first t runs outcomes is) same_cycles cycles_test
 
 pub within : SpelledAreSound → FewLists → (a : Asked) → AreWithin a
 within sound few (check file) = tt

@@ -7,7 +7,8 @@ use Rattle.tool_stages.specs.Content.{Content}
 use Rattle.mit_tool.specs.Answers.{IsAnswer}
 use Rattle.mit_tool.specs.Complete.{CanGoOn}
 
-pub taken : (Rises : List ℕ → Type 0) (content : Content) (file certificate t : List ℕ) → IsAnswer Rises content (certify file) status.Done t → IsTold (content certificate) t → length t ≤ limit
+pub taken : (Rises : List ℕ → Type 0) (content : Content) (file certificate t : List ℕ) → IsAnswer Rises content (certify file) status.Done t
+    → IsTold (content certificate) t → length t ≤ limit
     → CanGoOn content (recheck file certificate)
 taken Rises content file certificate t (inl h) are short = absurd h
 taken Rises content file certificate t (inr (p, reads, inl h)) are short = absurd h

@@ -11,7 +11,8 @@ use Rattle.label_code.specs.Shaped.{Code}
 use Rattle.start_file.specs.Starts.{StartValue}
 use Rattle.tool_texts.specs.declared.status.Status.{Status}
 use Rattle.tool_texts.specs.declared.status.Status.TheVariants as status
-use Rattle.tool_stages.specs.Stages.{Then, Reads, ProgramStops, StartsAre, StartStops, FirstStart, FirstStops, ReadyStops, HoldsRuns, HoldsCertificate, Rechecks, CertificateStops}
+use Rattle.tool_stages.specs.Stages.{Then, Reads, ProgramStops, StartsAre, StartStops, FirstStart, FirstStops, ReadyStops, HoldsRuns, HoldsCertificate}
+use Rattle.tool_stages.specs.Stages.{Rechecks, CertificateStops}
 use Rattle.mit_tool.specs.Held.{Held}
 use Rattle.tool_stages.specs.Content.{Content}
 use Rattle.tool_stages.specs.Begins.{Compiles}
@@ -50,17 +51,23 @@ pub reads_held : (c : Option (Option (List ℕ))) (p : Syntax) → Reads c p →
 reads_held c p r =
     (Some r.bytes, fits_bytes c r.bytes r.are, record { bytes = r.bytes; are = refl; short = r.short; tokens = r.tokens; cut = r.cut; spelled = r.spelled })
 
-pub starts_held : (c : Option (Option (List ℕ))) (p : Syntax) (ss : List StartValue) → StartsAre c p ss → (h : Option (List ℕ)) × Fits c h × StartsAre (Some h) p ss
+pub starts_held : (c : Option (Option (List ℕ))) (p : Syntax) (ss : List StartValue) → StartsAre c p ss
+    → (h : Option (List ℕ)) × Fits c h × StartsAre (Some h) p ss
 starts_held c p ss r = (Some r.0, fits_bytes c r.0 r.1, (r.0, refl, r.2, r.3))
 
 pub runs_held : (c : Option (Option (List ℕ))) (runs : List (List ℕ)) → HoldsRuns c runs → (h : Option (List ℕ)) × Fits c h × HoldsRuns (Some h) runs
 runs_held c runs r = (Some r.bytes, fits_bytes c r.bytes r.are, record { bytes = r.bytes; are = refl; short = r.short; taken = r.taken; holds = r.holds })
 
-pub program_stop_held : (R : Type 0) (c : Option (Option (List ℕ))) (s : Status) (t : List ℕ) → ProgramStops R c s t → (h : Option (List ℕ)) × Fits c h × ProgramStops R (Some h) s t
+pub program_stop_held : (R : Type 0) (c : Option (Option (List ℕ))) (s : Status) (t : List ℕ) → ProgramStops R c s t → (h : Option (List ℕ)) × Fits c h
+    × ProgramStops R (Some h) s t
 program_stop_held R c status.Done t x = absurd x
 program_stop_held R c status.Refused t x = absurd x
-program_stop_held R c status.Syntax t (inl f) = (Some f.bytes, fits_bytes c f.bytes f.are, inl (record { bytes = f.bytes; are = refl; short = f.short; fault = f.fault; none = f.none; is = f.is; line = f.line }))
-program_stop_held R c status.Syntax t (inr f) = (Some f.bytes, fits_bytes c f.bytes f.are, inr (record { bytes = f.bytes; are = refl; short = f.short; tokens = f.tokens; cut = f.cut; fault = f.fault; none = f.none; is = f.is; line = f.line }))
+program_stop_held R c status.Syntax t (inl f) =
+    (Some f.bytes, fits_bytes c f.bytes f.are,
+    inl (record { bytes = f.bytes; are = refl; short = f.short; fault = f.fault; none = f.none; is = f.is; line = f.line }))
+program_stop_held R c status.Syntax t (inr f) =
+    (Some f.bytes, fits_bytes c f.bytes f.are,
+    inr (record { bytes = f.bytes; are = refl; short = f.short; tokens = f.tokens; cut = f.cut; fault = f.fault; none = f.none; is = f.is; line = f.line }))
 program_stop_held R c status.Starts t x = absurd x
 program_stop_held R c status.Usage t x = absurd x
 program_stop_held R c status.ReadFault t x = (held_of c, fits_held c, x)
@@ -72,11 +79,14 @@ program_stop_held R c status.Unfinished t x = absurd x
 program_stop_held R c status.Memory t x = absurd x
 program_stop_held R c status.Rejected t x = absurd x
 
-pub start_stop_held : (R : Type 0) (c : Option (Option (List ℕ))) (p : Syntax) (s : Status) (t : List ℕ) → StartStops R c p s t → (h : Option (List ℕ)) × Fits c h × StartStops R (Some h) p s t
+pub start_stop_held : (R : Type 0) (c : Option (Option (List ℕ))) (p : Syntax) (s : Status) (t : List ℕ) → StartStops R c p s t
+    → (h : Option (List ℕ)) × Fits c h × StartStops R (Some h) p s t
 start_stop_held R c p status.Done t x = absurd x
 start_stop_held R c p status.Refused t x = absurd x
 start_stop_held R c p status.Syntax t x = absurd x
-start_stop_held R c p status.Starts t f = (Some f.bytes, fits_bytes c f.bytes f.are, record { bytes = f.bytes; are = refl; short = f.short; fault = f.fault; none = f.none; is = f.is; line = f.line })
+start_stop_held R c p status.Starts t f =
+    (Some f.bytes, fits_bytes c f.bytes f.are,
+    record { bytes = f.bytes; are = refl; short = f.short; fault = f.fault; none = f.none; is = f.is; line = f.line })
 start_stop_held R c p status.Usage t x = absurd x
 start_stop_held R c p status.ReadFault t x = (held_of c, fits_held c, x)
 start_stop_held R c p status.WriteFault t x = absurd x
@@ -87,11 +97,14 @@ start_stop_held R c p status.Unfinished t x = absurd x
 start_stop_held R c p status.Memory t x = absurd x
 start_stop_held R c p status.Rejected t x = absurd x
 
-pub ready_stop_held : (R : Type 0) (c : Option (Option (List ℕ))) (s : Status) (t : List ℕ) → ReadyStops R c s t → (h : Option (List ℕ)) × Fits c h × ReadyStops R (Some h) s t
+pub ready_stop_held : (R : Type 0) (c : Option (Option (List ℕ))) (s : Status) (t : List ℕ) → ReadyStops R c s t
+    → (h : Option (List ℕ)) × Fits c h × ReadyStops R (Some h) s t
 ready_stop_held R c status.Done t x = absurd x
 ready_stop_held R c status.Refused t x = absurd x
 ready_stop_held R c status.Syntax t x = absurd x
-ready_stop_held R c status.Starts t f = (Some f.bytes, fits_bytes c f.bytes f.are, record { bytes = f.bytes; are = refl; short = f.short; fault = f.fault; none = f.none; is = f.is; line = f.line })
+ready_stop_held R c status.Starts t f =
+    (Some f.bytes, fits_bytes c f.bytes f.are,
+    record { bytes = f.bytes; are = refl; short = f.short; fault = f.fault; none = f.none; is = f.is; line = f.line })
 ready_stop_held R c status.Usage t x = absurd x
 ready_stop_held R c status.ReadFault t x = (held_of c, fits_held c, x)
 ready_stop_held R c status.WriteFault t x = absurd x
@@ -102,15 +115,18 @@ ready_stop_held R c status.Unfinished t x = absurd x
 ready_stop_held R c status.Memory t x = absurd x
 ready_stop_held R c status.Rejected t x = absurd x
 
-pub rechecks_held : (c : Option (Option (List ℕ))) (p : Syntax) (q : LabelledProgram) → Rechecks c p q → (h : Option (List ℕ)) × Fits c h × Rechecks (Some h) p q
+pub rechecks_held : (c : Option (Option (List ℕ))) (p : Syntax) (q : LabelledProgram) → Rechecks c p q
+    → (h : Option (List ℕ)) × Fits c h × Rechecks (Some h) p q
 rechecks_held c p q r =
     let k : HoldsCertificate c p q = r.holds in (
       Some k.bytes,
       fits_bytes c k.bytes k.are,
-      record { holds = record { bytes = k.bytes; are = refl; short = k.short; program = k.program; certifies = k.certifies }; labels = r.labels; typed = r.typed },
+      record { holds = record { bytes = k.bytes; are = refl; short = k.short; program = k.program; certifies = k.certifies }; labels = r.labels; typed =
+          r.typed },
     )
 
-pub certificate_stop_held : (R : Type 0) (c : Option (Option (List ℕ))) (p : Syntax) (s : Status) (t : List ℕ) → CertificateStops R c p s t → (h : Option (List ℕ)) × Fits c h × CertificateStops R (Some h) p s t
+pub certificate_stop_held : (R : Type 0) (c : Option (Option (List ℕ))) (p : Syntax) (s : Status) (t : List ℕ) → CertificateStops R c p s t
+    → (h : Option (List ℕ)) × Fits c h × CertificateStops R (Some h) p s t
 certificate_stop_held R c p status.Done t x = absurd x
 certificate_stop_held R c p status.Refused t x = absurd x
 certificate_stop_held R c p status.Syntax t x = absurd x
@@ -123,12 +139,14 @@ certificate_stop_held R c p status.Budget t x = absurd x
 certificate_stop_held R c p status.Disagree t x = absurd x
 certificate_stop_held R c p status.Unfinished t x = absurd x
 certificate_stop_held R c p status.Memory t x = absurd x
-certificate_stop_held R c p status.Rejected t f = (Some f.bytes, fits_bytes c f.bytes f.are, record { bytes = f.bytes; are = refl; short = f.short; number = f.number; first = f.first; line = f.line })
+certificate_stop_held R c p status.Rejected t f =
+    (Some f.bytes, fits_bytes c f.bytes f.are, record { bytes = f.bytes; are = refl; short = f.short; number = f.number; first = f.first; line = f.line })
 
 -- ---- chains of stages
 
 -- a stage that reads a file
-pub then_held : {A : Type 0} (c : Option (Option (List ℕ))) (Stops : Option (Option (List ℕ)) → Status → List ℕ → Type 0) (Gives : Option (Option (List ℕ)) → A → Type 0)
+pub then_held : {A : Type 0} (c : Option (Option (List ℕ))) (Stops : Option (Option (List ℕ)) → Status → List ℕ
+    → Type 0) (Gives : Option (Option (List ℕ)) → A → Type 0)
     (Next : A → Status → List ℕ → Type 0) (s : Status) (t : List ℕ)
     → (Stops c s t → (h : Option (List ℕ)) × Fits c h × Stops (Some h) s t) → ((a : A) → Gives c a → (h : Option (List ℕ)) × Fits c h × Gives (Some h) a)
     → Then (Stops c) (Gives c) Next s t → (h : Option (List ℕ)) × Fits c h × Then (Stops (Some h)) (Gives (Some h)) Next s t
@@ -150,7 +168,8 @@ pub compiles_later : (Rises : List ℕ → Type 0) (content : Content) (file : L
     → Compiles Rises content file observer Next s t → (h : Option (List ℕ)) × Fits c h × Compiles Rises content file observer (Later h) s t
 compiles_later Rises content file observer c Next Later s t f (inl x) = (held_of c, fits_held c, inl x)
 compiles_later Rises content file observer c Next Later s t f (inr (p, reads, inl x)) = (held_of c, fits_held c, inr (p, reads, inl x))
-compiles_later Rises content file observer c Next Later s t f (inr (p, reads, inr (o, sees, inl x))) = (held_of c, fits_held c, inr (p, reads, inr (o, sees, inl x)))
+compiles_later Rises content file observer c Next Later s t f (inr (p, reads, inr (o, sees, inl x))) =
+    (held_of c, fits_held c, inr (p, reads, inr (o, sees, inl x)))
 compiles_later Rises content file observer c Next Later s t f (inr (p, reads, inr (o, sees, inr (q, types, inl x)))) =
     (held_of c, fits_held c, inr (p, reads, inr (o, sees, inr (q, types, inl x))))
 compiles_later Rises content file observer c Next Later s t f (inr (p, reads, inr (o, sees, inr (q, types, inr (code, image, n))))) =
@@ -164,17 +183,21 @@ starts_then_held R c p Next s t =
     then_held c (λ z. StartStops R z p) (λ z. StartsAre z p) Next s t (start_stop_held R c p s t) (starts_held c p)
 
 -- the first start of a file, and the rest
-pub first_then_held : (Rises : List ℕ → Type 0) (content : Content) (name : List ℕ) (p : Syntax) (Next : StartValue → Status → List ℕ → Type 0) (s : Status) (t : List ℕ)
+pub first_then_held : (Rises : List ℕ → Type 0) (content : Content) (name : List ℕ) (p : Syntax)
+    (Next : StartValue → Status → List ℕ → Type 0) (s : Status) (t : List ℕ)
     → Then (FirstStops Rises content (Some name) p) (FirstStart content (Some name) p) Next s t
-    → (h : Option (List ℕ)) × Fits (content name) h × Then (StartStops (Rises name) (Some h) p) (λ start. (others : List StartValue) × StartsAre (Some h) p (start ∷ others)) Next s t
+    → (h : Option (List ℕ)) × Fits (content name) h
+    × Then (StartStops (Rises name) (Some h) p) (λ start. (others : List StartValue) × StartsAre (Some h) p (start ∷ others)) Next s t
 first_then_held Rises content name p Next s t =
     then_held (content name) (λ z. StartStops (Rises name) z p) (λ z start. (others : List StartValue) × StartsAre z p (start ∷ others)) Next s t
     (start_stop_held (Rises name) (content name) p s t)
     (λ start given. let k = starts_held (content name) p (start ∷ given.0) given.1 in (k.0, k.1, (given.0, k.2)))
 
 -- the certificate in a file, and the rest
-pub certificate_then_held : (R : Type 0) (c : Option (Option (List ℕ))) (p : Syntax) (Next : LabelledProgram → Status → List ℕ → Type 0) (s : Status) (t : List ℕ)
-    → Then (CertificateStops R c p) (Rechecks c p) Next s t → (h : Option (List ℕ)) × Fits c h × Then (CertificateStops R (Some h) p) (Rechecks (Some h) p) Next s t
+pub certificate_then_held : (R : Type 0) (c : Option (Option (List ℕ))) (p : Syntax) (Next : LabelledProgram → Status → List ℕ → Type 0) (s : Status)
+    (t : List ℕ)
+    → Then (CertificateStops R c p) (Rechecks c p) Next s t → (h : Option (List ℕ)) × Fits c h
+    × Then (CertificateStops R (Some h) p) (Rechecks (Some h) p) Next s t
 certificate_then_held R c p Next s t =
     then_held c (λ z. CertificateStops R z p) (λ z. Rechecks z p) Next s t (certificate_stop_held R c p s t) (rechecks_held c p)
 

@@ -1,5 +1,6 @@
 -- Which files a call has fetched at its end, and the pieces that it has written.
-use Rattle.std.proofs.Common.{◌≡◌, ◌≢◌, ◌⊎◌, ℕ, Bool, true, false, List, [], ◌∷◌, ◌++◌, Option, Some, None, Result, Ok, Err, Vec, Global, IfErr, OnOk, IsErrAnd, length, ◌^◌, inl, inr, refl, sym, ap, ◌∙◌, subst}
+use Rattle.std.proofs.Common.{◌≡◌, ◌≢◌, ◌⊎◌, ℕ, Bool, true, false, List, [], ◌∷◌, ◌++◌, Option, Some, None, Result, Ok, Err, Vec, Global, IfErr, OnOk}
+use Rattle.std.proofs.Common.{IsErrAnd, length, ◌^◌, inl, inr, refl, sym, ap, ◌∙◌, subst}
 use Rattle.std.specs.List.{All}
 use Rattle.std.proofs.lemmas.List.Elements.{All-nil, All-cons, All-append}
 use Rattle.tim_base.specs.Logs.{Fetched, Offered, Grows, HasSent, HasBroken}
@@ -113,7 +114,8 @@ fetched_nothing names old r n =
 -- ---- pieces
 
 -- a text is written as one piece
-pub one_piece : (Pieces : Status → List (List ℕ) → Type 0) (s r : Status) (text : List ℕ) (old new : Option (List Offered)) → Pieces s (text ∷ []) → (r ≢ status.WriteFault → r ≡ s)
+pub one_piece : (Pieces : Status → List (List ℕ) → Type 0) (s r : Status) (text : List ℕ) (old new : Option (List Offered)) → Pieces s (text ∷ [])
+    → (r ≢ status.WriteFault → r ≡ s)
     → (r ≢ status.WriteFault → HasSent old new (text ∷ [])) → (r ≡ status.WriteFault → HasBroken old new (text ∷ [])) → HasWritten Pieces r old new
 one_piece Pieces s r text old new p is sent broken =
     record { would = s; pieces = text ∷ []; are = p; sent = λ n. (is n, sent n); broken = broken }
@@ -124,7 +126,8 @@ all_one : (P : List ℕ → Type 0) (x : List ℕ) → P x → All P (x ∷ [])
 all_one P x h = All-cons P x [] h (All-nil P)
 
 -- a last line after lines
-pub line_after : (IsLine : List ℕ → Type 0) (s r : Status) (lines : List (List ℕ)) (text : List ℕ) (old now new : Option (List Offered)) → All IsLine lines → IsLine text
+pub line_after : (IsLine : List ℕ → Type 0) (s r : Status) (lines : List (List ℕ)) (text : List ℕ) (old now new : Option (List Offered))
+    → All IsLine lines → IsLine text
     → HasSent old now lines → (r ≢ status.WriteFault → r ≡ s)
     → (r ≢ status.WriteFault → HasSent now new (text ∷ [])) → (r ≡ status.WriteFault → HasBroken now new (text ∷ [])) → HasWritten (AreLines IsLine) r old new
 line_after IsLine s r lines text old now new each last before is sent broken =
@@ -137,7 +140,8 @@ line_after IsLine s r lines text old now new each last before is sent broken =
     }
 
 -- the text of a stop after lines
-pub stop_after : (IsLine : List ℕ → Type 0) (s r : Status) (lines : List (List ℕ)) (text : List ℕ) (old now new : Option (List Offered)) → All IsLine lines → s ≢ status.Done → s ≢ status.Budget
+pub stop_after : (IsLine : List ℕ → Type 0) (s r : Status) (lines : List (List ℕ)) (text : List ℕ) (old now new : Option (List Offered)) → All IsLine lines
+    → s ≢ status.Done → s ≢ status.Budget
     → HasSent old now lines → (r ≢ status.WriteFault → r ≡ s)
     → (r ≢ status.WriteFault → HasSent now new (text ∷ [])) → (r ≡ status.WriteFault → HasBroken now new (text ∷ [])) → HasWritten (AreLines IsLine) r old new
 stop_after IsLine s r lines text old now new each done budget before is sent broken =
@@ -150,12 +154,14 @@ stop_after IsLine s r lines text old now new each done budget before is sent bro
     }
 
 -- lines alone
-pub all_lines : (IsLine : List ℕ → Type 0) (s : Status) (pieces : List (List ℕ)) (old new : Option (List Offered)) → All IsLine pieces → s ≢ status.WriteFault → HasSent old new pieces → HasWritten (AreLines IsLine) s old new
+pub all_lines : (IsLine : List ℕ → Type 0) (s : Status) (pieces : List (List ℕ)) (old new : Option (List Offered)) → All IsLine pieces → s ≢ status.WriteFault
+    → HasSent old new pieces → HasWritten (AreLines IsLine) s old new
 all_lines IsLine s pieces old new each n sent =
     record { would = s; pieces = pieces; are = inl each; sent = λ k. (refl, sent); broken = λ e. absurd (n e) }
 
 -- a write failed in one of the lines
-pub broken_lines : (IsLine : List ℕ → Type 0) (pieces : List (List ℕ)) (old new : Option (List Offered)) → All IsLine pieces → HasBroken old new pieces → HasWritten (AreLines IsLine) status.WriteFault old new
+pub broken_lines : (IsLine : List ℕ → Type 0) (pieces : List (List ℕ)) (old new : Option (List Offered)) → All IsLine pieces → HasBroken old new pieces
+    → HasWritten (AreLines IsLine) status.WriteFault old new
 broken_lines IsLine pieces old new each broken =
     record { would = status.Done; pieces = pieces; are = inl each; sent = λ n. absurd (n refl); broken = λ e. broken }
 
@@ -163,10 +169,12 @@ broken_lines IsLine pieces old new each broken =
 pub run_lines : (ds : List Declaration) (pieces : List (List ℕ)) → All (λ d. IsName d.0) ds → All (IsLineOf ds) pieces → All IsRunLine pieces
 run_lines ds pieces names each = λ k d lt. (ds, names, each k d lt)
 
-pub run_sent : (ds : List Declaration) (s : Status) (old new : Option (List Offered)) → All (λ d. IsName d.0) ds → s ≢ status.WriteFault → SendsLines ds old new → HasWritten (AreLines IsRunLine) s old new
+pub run_sent : (ds : List Declaration) (s : Status) (old new : Option (List Offered)) → All (λ d. IsName d.0) ds → s ≢ status.WriteFault → SendsLines ds old new
+    → HasWritten (AreLines IsRunLine) s old new
 run_sent ds s old new names n h = all_lines IsRunLine s h.pieces old new (run_lines ds h.pieces names h.lines) n h.sent
 
-pub run_broken : (ds : List Declaration) (old new : Option (List Offered)) → All (λ d. IsName d.0) ds → BreaksLines ds old new → HasWritten (AreLines IsRunLine) status.WriteFault old new
+pub run_broken : (ds : List Declaration) (old new : Option (List Offered)) → All (λ d. IsName d.0) ds → BreaksLines ds old new
+    → HasWritten (AreLines IsRunLine) status.WriteFault old new
 run_broken ds old new names h = broken_lines IsRunLine h.pieces old new (run_lines ds h.pieces names h.lines) h.broken
 
 -- ---- the text of a stop is written as one piece, and is no line of a run or of a meaning
@@ -174,7 +182,8 @@ run_broken ds old new names h = broken_lines IsRunLine h.pieces old new (run_lin
 never_stops : (Stops : Status → List ℕ → Type 0) (s : Status) (e : Stop) → ((t : List ℕ) → Broke Stops s t → ⊥) → IsStop Stops e → status_of e ≡ s → ⊥
 never_stops Stops s e n h is = n (stop_text e) (subst (λ (z : Status). Broke Stops z (stop_text e)) is h)
 
-run_done : (Rises : List ℕ → Type 0) (content : Content) (file : List ℕ) (starts observer : Option (List ℕ)) (t : List ℕ) → RunStops Rises content file starts observer status.Done t → ⊥
+run_done : (Rises : List ℕ → Type 0) (content : Content) (file : List ℕ) (starts observer : Option (List ℕ)) (t : List ℕ)
+    → RunStops Rises content file starts observer status.Done t → ⊥
 run_done Rises content file starts observer t (inl h) = h
 run_done Rises content file starts observer t (inr (p, reads, inl h)) = h
 run_done Rises content file starts observer t (inr (p, reads, inr (o, observes, inl h))) = h
@@ -183,7 +192,8 @@ run_done Rises content file starts observer t (inr (p, reads, inr (o, observes, 
 run_done Rises content file None observer t (inr (p, reads, inr (o, observes, inr (q, types, inr (code, image, inl h))))) = h
 run_done Rises content file (Some starts) observer t (inr (p, reads, inr (o, observes, inr (q, types, inr (code, image, inl h))))) = h
 
-run_budget : (Rises : List ℕ → Type 0) (content : Content) (file : List ℕ) (starts observer : Option (List ℕ)) (t : List ℕ) → RunStops Rises content file starts observer status.Budget t → ⊥
+run_budget : (Rises : List ℕ → Type 0) (content : Content) (file : List ℕ) (starts observer : Option (List ℕ)) (t : List ℕ)
+    → RunStops Rises content file starts observer status.Budget t → ⊥
 run_budget Rises content file starts observer t (inl h) = h
 run_budget Rises content file starts observer t (inr (p, reads, inl h)) = h
 run_budget Rises content file starts observer t (inr (p, reads, inr (o, observes, inl h))) = h
@@ -192,13 +202,15 @@ run_budget Rises content file starts observer t (inr (p, reads, inr (o, observes
 run_budget Rises content file None observer t (inr (p, reads, inr (o, observes, inr (q, types, inr (code, image, inl h))))) = h
 run_budget Rises content file (Some starts) observer t (inr (p, reads, inr (o, observes, inr (q, types, inr (code, image, inl h))))) = h
 
-meaning_done : (Rises : List ℕ → Type 0) (content : Content) (file : List ℕ) (starts : Option (List ℕ)) (t : List ℕ) → MeaningStops Rises content file starts status.Done t → ⊥
+meaning_done : (Rises : List ℕ → Type 0) (content : Content) (file : List ℕ) (starts : Option (List ℕ)) (t : List ℕ)
+    → MeaningStops Rises content file starts status.Done t → ⊥
 meaning_done Rises content file starts t (inl h) = h
 meaning_done Rises content file starts t (inr (p, reads, inr (s, first, h))) = h
 meaning_done Rises content file None t (inr (p, reads, inl h)) = h
 meaning_done Rises content file (Some starts) t (inr (p, reads, inl h)) = h
 
-meaning_budget : (Rises : List ℕ → Type 0) (content : Content) (file : List ℕ) (starts : Option (List ℕ)) (t : List ℕ) → MeaningStops Rises content file starts status.Budget t → ⊥
+meaning_budget : (Rises : List ℕ → Type 0) (content : Content) (file : List ℕ) (starts : Option (List ℕ)) (t : List ℕ)
+    → MeaningStops Rises content file starts status.Budget t → ⊥
 meaning_budget Rises content file starts t (inl h) = h
 meaning_budget Rises content file starts t (inr (p, reads, inr (s, first, h))) = h
 meaning_budget Rises content file None t (inr (p, reads, inl h)) = h
@@ -208,13 +220,15 @@ meaning_budget Rises content file (Some starts) t (inr (p, reads, inl h)) = h
 abbrev IsStopped : Stop → Type 0
 IsStopped e = (status_of e ≢ status.Done) × (status_of e ≢ status.Budget)
 
-pub run_stopped : (Rises : List ℕ → Type 0) (content : Content) (file : List ℕ) (starts observer : Option (List ℕ)) (e : Stop) → IsStop (RunStops Rises content file starts observer) e → IsStopped e
+pub run_stopped : (Rises : List ℕ → Type 0) (content : Content) (file : List ℕ) (starts observer : Option (List ℕ)) (e : Stop)
+    → IsStop (RunStops Rises content file starts observer) e → IsStopped e
 run_stopped Rises content file starts observer e h = (
   never_stops (RunStops Rises content file starts observer) status.Done e (run_done Rises content file starts observer) h,
   never_stops (RunStops Rises content file starts observer) status.Budget e (run_budget Rises content file starts observer) h,
 )
 
-pub meaning_stopped : (Rises : List ℕ → Type 0) (content : Content) (file : List ℕ) (starts : Option (List ℕ)) (e : Stop) → IsStop (MeaningStops Rises content file starts) e → IsStopped e
+pub meaning_stopped : (Rises : List ℕ → Type 0) (content : Content) (file : List ℕ) (starts : Option (List ℕ)) (e : Stop)
+    → IsStop (MeaningStops Rises content file starts) e → IsStopped e
 meaning_stopped Rises content file starts e h = (
   never_stops (MeaningStops Rises content file starts) status.Done e (meaning_done Rises content file starts) h,
   never_stops (MeaningStops Rises content file starts) status.Budget e (meaning_budget Rises content file starts) h,
@@ -222,23 +236,28 @@ meaning_stopped Rises content file starts e h = (
 
 -- a stop alone
 pub stop_alone : (IsLine : List ℕ → Type 0) (e : Stop) (r : Status) (old new : Option (List Offered)) → IsStopped e → (r ≢ status.WriteFault → r ≡ status_of e)
-    → (r ≢ status.WriteFault → HasSent old new (stop_text e ∷ [])) → (r ≡ status.WriteFault → HasBroken old new (stop_text e ∷ [])) → HasWritten (AreLines IsLine) r old new
+    → (r ≢ status.WriteFault → HasSent old new (stop_text e ∷ [])) → (r ≡ status.WriteFault → HasBroken old new (stop_text e ∷ []))
+    → HasWritten (AreLines IsLine) r old new
 stop_alone IsLine e r old new n = stop_after IsLine (status_of e) r [] (stop_text e) old old new (All-nil IsLine) n.0 n.1 (sent_nothing old)
 
 -- ---- commands whose text is made before it is written
 
-pub told_fetched : (names : List (List ℕ)) (old new : Option (List Fetched)) (made : Result (Vec ℕ Global) Stop) (r : Status) → Fetches names old new made → (r ≢ status.WriteFault → r ≡ told_status made) → HasFetched names r old new
+pub told_fetched : (names : List (List ℕ)) (old new : Option (List Fetched)) (made : Result (Vec ℕ Global) Stop) (r : Status) → Fetches names old new made
+    → (r ≢ status.WriteFault → r ≡ told_status made) → HasFetched names r old new
 told_fetched names old new (Ok v) r h is = fetched_by names old new status.Done r (Ok v) (λ e. absurd cc) h is
 told_fetched names old new (Err e) r h is = fetched_by {A = Vec ℕ Global} names old new status.Done r (Err e) (λ e. absurd cc) h is
 
 pub told_piece : (made : Result (Vec ℕ Global) Stop) (r : Status) (old new : Option (List Offered)) → (r ≢ status.WriteFault → r ≡ told_status made)
-    → (r ≢ status.WriteFault → HasSent old new (told_text made ∷ [])) → (r ≡ status.WriteFault → HasBroken old new (told_text made ∷ [])) → HasWritten (λ s pieces. (text : List ℕ) × (pieces ≡ text ∷ [])) r old new
-told_piece made r old new is sent broken = one_piece (λ s pieces. (text : List ℕ) × (pieces ≡ text ∷ [])) (told_status made) r (told_text made) old new (told_text made, refl) is sent broken
+    → (r ≢ status.WriteFault → HasSent old new (told_text made ∷ [])) → (r ≡ status.WriteFault → HasBroken old new (told_text made ∷ []))
+    → HasWritten (λ s pieces. (text : List ℕ) × (pieces ≡ text ∷ [])) r old new
+told_piece made r old new is sent broken =
+    one_piece (λ s pieces. (text : List ℕ) × (pieces ≡ text ∷ [])) (told_status made) r (told_text made) old new (told_text made, refl) is sent broken
 
 pub never_read : (s r : Status) → s ≢ status.ReadFault → (r ≢ status.WriteFault → r ≡ s) → r ≢ status.ReadFault
 never_read s r n is e = n (sym (is (not_write r e)) ∙ e)
 
-pub told_nothing : (Stops : Status → List ℕ → Type 0) (old : Option (List Fetched)) (made : Result (Vec ℕ Global) Stop) (r : Status) → ((t : List ℕ) → Stops status.ReadFault t → ⊥) → IfErr made (IsStop Stops) → (r ≢ status.WriteFault → r ≡ told_status made)
+pub told_nothing : (Stops : Status → List ℕ → Type 0) (old : Option (List Fetched)) (made : Result (Vec ℕ Global) Stop) (r : Status)
+    → ((t : List ℕ) → Stops status.ReadFault t → ⊥) → IfErr made (IsStop Stops) → (r ≢ status.WriteFault → r ≡ told_status made)
     → HasFetched [] r old old
 told_nothing Stops old (Ok v) r n h is = fetched_nothing [] old r (never_read status.Done r (λ e. absurd cc) is)
 told_nothing Stops old (Err e) r n h is = fetched_nothing [] old r (never_read (status_of e) r (never_stops Stops status.ReadFault e n h) is)
@@ -259,7 +278,8 @@ memory_pieces (Some (recheck f k)) text = (text, refl)
 
 -- ---- no audit is a read fault
 
-pub audited_no_read : (e : EnvName) (n : ℕ) (q : LabelledProgram) (o : Option Label) (ss : List StartValue) (before t : List ℕ) → HasAudited e n q o ss before status.ReadFault t → ⊥
+pub audited_no_read : (e : EnvName) (n : ℕ) (q : LabelledProgram) (o : Option Label) (ss : List StartValue) (before t : List ℕ)
+    → HasAudited e n q o ss before status.ReadFault t → ⊥
 audited_no_read e n q None ss before t h = h
 audited_no_read e n q (Some l) ss before t (inl h) = h
 audited_no_read e n q (Some l) ss before t (inr (r, is, h)) = cc (h.0)
@@ -289,13 +309,17 @@ value_lines_are ds names Ended = All-nil IsMeaningLine
 pub no_lines : (a : Option (List Offered)) → SentLines a a
 no_lines a = ([], All-nil IsMeaningLine, sent_nothing a)
 
-pub lines_more : (ds : List Declaration) (walk : Walk) (a b c : Option (List Offered)) → All (λ d. IsName d.0) ds → SentLines a b → HasSent b c (pieces_of_walk ds walk) → SentLines a c
+pub lines_more : (ds : List Declaration) (walk : Walk) (a b c : Option (List Offered)) → All (λ d. IsName d.0) ds → SentLines a b
+    → HasSent b c (pieces_of_walk ds walk) → SentLines a c
 lines_more ds walk a b c names g h =
-    (g.0 ++ pieces_of_walk ds walk, All-append IsMeaningLine g.0 (pieces_of_walk ds walk) g.1 (value_lines_are ds names walk), sent_after a b c g.0 (pieces_of_walk ds walk) g.2 h)
+    (g.0 ++ pieces_of_walk ds walk, All-append IsMeaningLine g.0 (pieces_of_walk ds walk) g.1 (value_lines_are ds names walk),
+        sent_after a b c g.0 (pieces_of_walk ds walk) g.2 h)
 
-pub lines_break : (ds : List Declaration) (walk : Walk) (a b c : Option (List Offered)) → All (λ d. IsName d.0) ds → SentLines a b → HasBroken b c (pieces_of_walk ds walk) → BrokenLines a c
+pub lines_break : (ds : List Declaration) (walk : Walk) (a b c : Option (List Offered)) → All (λ d. IsName d.0) ds → SentLines a b
+    → HasBroken b c (pieces_of_walk ds walk) → BrokenLines a c
 lines_break ds walk a b c names g h =
-    (g.0 ++ pieces_of_walk ds walk, All-append IsMeaningLine g.0 (pieces_of_walk ds walk) g.1 (value_lines_are ds names walk), broken_after a b c g.0 (pieces_of_walk ds walk) g.2 h)
+    (g.0 ++ pieces_of_walk ds walk, All-append IsMeaningLine g.0 (pieces_of_walk ds walk) g.1 (value_lines_are ds names walk),
+        broken_after a b c g.0 (pieces_of_walk ds walk) g.2 h)
 
 -- ---- results
 
@@ -304,6 +328,7 @@ on_ok (Ok y) x P e h = h
 on_ok (Err y) x P e h = absurd cc
 
 -- a stop that is handed on has fetched as much
-pub fetched_on : {A : Type 0} (r : Result A Stop) (e : Stop) (names : List (List ℕ)) (a b : Option (List Fetched)) → IsErrAnd r (λ x. x ≡ e) → Fetches {A = A} names a b (Err e) → Fetches names a b r
+pub fetched_on : {A : Type 0} (r : Result A Stop) (e : Stop) (names : List (List ℕ)) (a b : Option (List Fetched)) → IsErrAnd r (λ x. x ≡ e)
+    → Fetches {A = A} names a b (Err e) → Fetches names a b r
 fetched_on (Ok x) e names a b h k = absurd h
 fetched_on {A} (Err x) e names a b h k = subst (λ z. Fetches {A = A} names a b (Err z)) (sym h) k

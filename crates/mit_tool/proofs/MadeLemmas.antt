@@ -58,19 +58,23 @@ no_bad_text size number t some (inr f) = no_parse_fault size number t some f
 pub made_goes : (size number : ℕ) (s : Status) (t : List ℕ) → 0 < size → size ≤ 10000 → ProgramStops ⊥ (Some (Some (program_text size number))) s t → ⊥
 made_goes size number s t some few h =
     let c : Option (Option (List ℕ)) = Some (Some (program_text size number)) in
-    file_goes ⊥ program c (BadText c) status.Syntax s t (λ n. n) (λ long. let short = program_short size number few in omega (arith, long, short)) (no_bad_text size number t some) (program_stops ⊥ c s t h)
+    file_goes ⊥ program c (BadText c) status.Syntax s t (λ n. n) (λ long. let short = program_short size number few in
+        omega (arith, long, short)) (no_bad_text size number t some) (program_stops ⊥ c s t h)
 
 -- ---- its labels
 
-made_header : (size number : ℕ) (tokens : List Token) (tree : ProgramTree) → 0 < size → AreTokens (program_text size number) tokens → Spells tree (told (program_text size number) tokens) → tree.header ≡ no_header
+made_header : (size number : ℕ) (tokens : List Token) (tree : ProgramTree) → 0 < size → AreTokens (program_text size number) tokens
+    → Spells tree (told (program_text size number) tokens) → tree.header ≡ no_header
 made_header zero number tokens tree some a s = absurd (omega (arith, some))
 made_header (suc n) number tokens tree some a s =
     let words : List Told = told (program_text (suc n) number) tokens in
-    let h : ToldAs words (program_words (suc n) number) = told_as (program_text (suc n) number) (program_words (suc n) number) (made_words (suc n) number) tokens a in
+    let h : ToldAs words (program_words (suc n) number) =
+        told_as (program_text (suc n) number) (program_words (suc n) number) (made_words (suc n) number) tokens a in
     let spells : Spells (program_tree number n h.positions) words = (h.last, h.are ∙ program_spelled number n h.positions _) in
     ap (λ (x : ProgramTree). x.header) (one_tree words tree (program_tree number n h.positions) s spells)
 
-first_is_low : (head : Header) (o : Order) → head ≡ no_header → o.size ≡ length (label_names head) → o.names ≡ label_names head → (0 < o.size) × (name_of o 0 ≡ codes "L")
+first_is_low : (head : Header) (o : Order) → head ≡ no_header → o.size ≡ length (label_names head) → o.names ≡ label_names head
+    → (0 < o.size) × (name_of o 0 ≡ codes "L")
 first_is_low head o is size named =
     let two : o.size ≡ 2 = size ∙ ap (λ (x : Header). length (label_names x)) is in
     let names : o.names ≡ (76 ∷ []) ∷ (72 ∷ []) ∷ [] = named ∙ ap (λ (x : Header). label_names x) is in
@@ -79,10 +83,13 @@ first_is_low head o is size named =
 made_low : (size number : ℕ) (p : Syntax) → 0 < size → Reads (Some (Some (program_text size number))) p → (0 < p.order.size) × (name_of p.order 0 ≡ codes "L")
 made_low size number p some r =
     let cut : AreTokens (program_text size number) r.tokens = subst (λ (z : List ℕ). AreTokens z r.tokens) r.are r.cut in
-    let spells : Spells r.spelled.tree (told (program_text size number) r.tokens) = subst (λ (z : List ℕ). Spells r.spelled.tree (told z r.tokens)) r.are r.spelled.spells in
-    first_is_low r.spelled.tree.header p.order (made_header size number r.tokens r.spelled.tree some cut spells) r.spelled.resolves.order.size r.spelled.resolves.order.named
+    let spells : Spells r.spelled.tree (told (program_text size number) r.tokens) =
+        subst (λ (z : List ℕ). Spells r.spelled.tree (told z r.tokens)) r.are r.spelled.spells in
+    first_is_low r.spelled.tree.header p.order (made_header size number r.tokens r.spelled.tree some cut spells) r.spelled.resolves.order.size
+        r.spelled.resolves.order.named
 
-pub made_observer_goes : (size number : ℕ) (p : Syntax) (s : Status) (t : List ℕ) → 0 < size → Reads (Some (Some (program_text size number))) p → ObserverStops p.order (Some (codes "L")) s t → ⊥
+pub made_observer_goes : (size number : ℕ) (p : Syntax) (s : Status) (t : List ℕ) → 0 < size → Reads (Some (Some (program_text size number))) p
+    → ObserverStops p.order (Some (codes "L")) s t → ⊥
 made_observer_goes size number p s t some r h =
     let k = made_low size number p some r in
     (observer_stops p.order (Some (codes "L")) s t h).1 0 k.0 k.1
@@ -97,7 +104,8 @@ made_observer size number p o P some r is h =
 
 -- ---- its starts
 
-pub made_starts_are : (size number : ℕ) (p : Syntax) → 0 < size → Reads (Some (Some (program_text size number))) p → StartsAre (Some (Some starts_text)) p made_starts
+pub made_starts_are : (size number : ℕ) (p : Syntax) → 0 < size → Reads (Some (Some (program_text size number))) p
+    → StartsAre (Some (Some starts_text)) p made_starts
 made_starts_are size number p some r =
     let text : List ℕ = program_text size number in
     let cut : AreTokens text r.tokens = subst (λ (z : List ℕ). AreTokens z r.tokens) r.are r.cut in

@@ -11,14 +11,16 @@ use Rattle.start_file.specs.Starts.{StartValue}
 use Rattle.tool_texts.specs.declared.status.Status.{Status}
 use Rattle.tool_texts.specs.declared.status.Status.TheVariants as status
 use Rattle.tool_words.specs.WordsAsked.{Asked, check, infer, compile, run, meaning, audit, gen, cut, blackbox, certify, recheck}
-use Rattle.tool_stages.specs.Stages.{Then, Reads, ProgramStops, Observes, ObserverStops, Types, TypeStops, HasImage, ImageStops, StartsAre, StartStops, FirstStart, FirstStops, ReadyStops, HoldsRuns, CertificateStops, Rechecks}
+use Rattle.tool_stages.specs.Stages.{Then, Reads, ProgramStops, Observes, ObserverStops, Types, TypeStops, HasImage, ImageStops, StartsAre, StartStops}
+use Rattle.tool_stages.specs.Stages.{FirstStart, FirstStops, ReadyStops, HoldsRuns, CertificateStops, Rechecks}
 use Rattle.mit_tool.specs.Audited.{HasAudited, HasCut, HasReleased}
 use Rattle.mit_tool.specs.Means.{HasMeant}
 use Rattle.tool_texts.specs.Ends.{Tells, EndsBy}
 use Rattle.mit_tool.specs.Answers.{HasChecked, HasInferred, HasListed, HasRun, HasCertified, HasRechecked, IsAnswer, HasBegun, Before}
 use Rattle.mit_tool.specs.Complete.{files_of}
 use Rattle.mit_tool.specs.Held.{Held, told_all, HoldsTold, AreReadAlike}
-use Rattle.mit_tool.proofs.HeldLemmas.{Fits, held_of, fits_held, reads_held, starts_held, runs_held, program_stop_held, ready_stop_held, then_held, then_later, compiles_later, starts_then_held, first_then_held, certificate_then_held, held_with}
+use Rattle.mit_tool.proofs.HeldLemmas.{Fits, held_of, fits_held, reads_held, starts_held, runs_held, program_stop_held, ready_stop_held, then_held}
+use Rattle.mit_tool.proofs.HeldLemmas.{then_later, compiles_later, starts_then_held, first_then_held, certificate_then_held, held_with}
 use Rattle.tool_stages.specs.Content.{Content}
 
 -- ---- what the files of a command hold
@@ -95,7 +97,8 @@ ready_then_held : (R : Type 0) (c : Option (Option (List ℕ))) (Next : List (Li
 ready_then_held R c Next s t = then_held c (ReadyStops R) HoldsRuns Next s t (ready_stop_held R c s t) (runs_held c)
 
 -- a file's text to an image, and the rest
-abbrev CompilesFrom : Type 0 → Option (Option (List ℕ)) → Option (List ℕ) → (Syntax → LabelledProgram → Option Label → Code → Status → List ℕ → Type 0) → Status → List ℕ → Type 0
+abbrev CompilesFrom : Type 0 → Option (Option (List ℕ)) → Option (List ℕ) → (Syntax → LabelledProgram → Option Label → Code → Status → List ℕ → Type 0) → Status
+    → List ℕ → Type 0
 CompilesFrom R c observer Next =
     Then (ProgramStops R c) (Reads c) (λ p.
     Then (ObserverStops p.order observer) (Observes p.order observer) (λ o.
@@ -103,10 +106,12 @@ CompilesFrom R c observer Next =
     Then (ImageStops q) (HasImage q) (λ code.
     Next p q o code))))
 
-compiles_then_held : (R : Type 0) (c : Option (Option (List ℕ))) (observer : Option (List ℕ)) (Next : Syntax → LabelledProgram → Option Label → Code → Status → List ℕ → Type 0) (s : Status) (t : List ℕ)
+compiles_then_held : (R : Type 0) (c : Option (Option (List ℕ))) (observer : Option (List ℕ))
+    (Next : Syntax → LabelledProgram → Option Label → Code → Status → List ℕ → Type 0) (s : Status) (t : List ℕ)
     → CompilesFrom R c observer Next s t → (h : Option (List ℕ)) × Fits c h × CompilesFrom R (Some h) observer Next s t
 compiles_then_held R c observer Next s t =
-    program_then_held R c (λ p. Then (ObserverStops p.order observer) (Observes p.order observer) (λ o. Then (TypeStops p) (Types p) (λ q. Then (ImageStops q) (HasImage q) (λ code. Next p q o code)))) s t
+    program_then_held R c (λ p. Then (ObserverStops p.order observer) (Observes p.order observer)
+        (λ o. Then (TypeStops p) (Types p) (λ q. Then (ImageStops q) (HasImage q) (λ code. Next p q o code)))) s t
 
 -- ---- the answer to a command
 
@@ -114,9 +119,11 @@ module _ (Rises : List ℕ → Type 0) (content : Content) (s : Status) (t : Lis
   -- with the starts of a second file
   starts_answer : (file observer starts : List ℕ) (Next : Syntax → LabelledProgram → Option Label → Code → List StartValue → Status → List ℕ → Type 0)
       → (file ≡ starts → IsSome (content file))
-      → CompilesFrom (Rises file) (content file) (Some observer) (λ p q o code. Then (StartStops (Rises starts) (content starts) p) (StartsAre (content starts) p) (λ ss. Next p q o code ss)) s t
+      → CompilesFrom (Rises file) (content file) (Some observer)
+      (λ p q o code. Then (StartStops (Rises starts) (content starts) p) (StartsAre (content starts) p) (λ ss. Next p q o code ss)) s t
       → (held : Held) × HoldsTold content held
-      × CompilesFrom (Rises file) (told_all held file) (Some observer) (λ p q o code. Then (StartStops (Rises starts) (told_all held starts) p) (StartsAre (told_all held starts) p) (λ ss. Next p q o code ss)) s t
+      × CompilesFrom (Rises file) (told_all held file) (Some observer)
+          (λ p q o code. Then (StartStops (Rises starts) (told_all held starts) p) (StartsAre (told_all held starts) p) (λ ss. Next p q o code ss)) s t
   starts_answer file observer starts Next alike x =
       let later = compiles_later Rises content file (Some observer) (content starts)
       (λ p q o code. Then (StartStops (Rises starts) (content starts) p) (StartsAre (content starts) p) (λ ss. Next p q o code ss))
@@ -129,45 +136,60 @@ module _ (Rises : List ℕ → Type 0) (content : Content) (s : Status) (t : Lis
       first.0 later.0 first.1 later.1 alike first.2
 
   -- with the first start of a second file
-  first_answer : (file starts : List ℕ) (observer : Option (List ℕ)) (Next : Syntax → LabelledProgram → Option Label → Code → StartValue → Status → List ℕ → Type 0)
+  first_answer : (file starts : List ℕ) (observer : Option (List ℕ))
+      (Next : Syntax → LabelledProgram → Option Label → Code → StartValue → Status → List ℕ → Type 0)
       → (file ≡ starts → IsSome (content file))
-      → CompilesFrom (Rises file) (content file) observer (λ p q o code. Then (FirstStops Rises content (Some starts) p) (FirstStart content (Some starts) p) (λ start. Next p q o code start)) s t
+      → CompilesFrom (Rises file) (content file) observer (λ p q o code. Then (FirstStops Rises content (Some starts) p) (FirstStart content (Some starts) p)
+      (λ start. Next p q o code start)) s t
       → (held : Held) × HoldsTold content held
-      × CompilesFrom (Rises file) (told_all held file) observer (λ p q o code. Then (FirstStops Rises (told_all held) (Some starts) p) (FirstStart (told_all held) (Some starts) p) (λ start. Next p q o code start)) s t
+      × CompilesFrom (Rises file) (told_all held file) observer
+          (λ p q o code. Then (FirstStops Rises (told_all held) (Some starts) p) (FirstStart (told_all held) (Some starts) p) (λ start. Next p q o code start))
+          s t
   first_answer file starts observer Next alike x =
       let later = compiles_later Rises content file observer (content starts)
       (λ p q o code. Then (FirstStops Rises content (Some starts) p) (FirstStart content (Some starts) p) (λ start. Next p q o code start))
-      (λ k p q o code. Then (StartStops (Rises starts) (Some k) p) (λ start. (others : List StartValue) × StartsAre (Some k) p (start ∷ others)) (λ start. Next p q o code start)) s t
+      (λ k p q o code. Then (StartStops (Rises starts) (Some k) p) (λ start. (others : List StartValue) × StartsAre (Some k) p (start ∷ others))
+          (λ start. Next p q o code start)) s t
       (λ p q o code. first_then_held Rises content starts p (λ start. Next p q o code start) s t) x in
       let first = compiles_then_held (Rises file) (content file) observer
-      (λ p q o code. Then (StartStops (Rises starts) (Some later.0) p) (λ start. (others : List StartValue) × StartsAre (Some later.0) p (start ∷ others)) (λ start. Next p q o code start)) s t later.2 in
+      (λ p q o code. Then (StartStops (Rises starts) (Some later.0) p) (λ start. (others : List StartValue) × StartsAre (Some later.0) p (start ∷ others))
+          (λ start. Next p q o code start)) s t later.2 in
       two_files content file starts
-      (λ c d. CompilesFrom (Rises file) c observer (λ p q o code. Then (StartStops (Rises starts) d p) (λ start. (others : List StartValue) × StartsAre d p (start ∷ others)) (λ start. Next p q o code start)) s t)
+      (λ c d. CompilesFrom (Rises file) c observer
+          (λ p q o code. Then (StartStops (Rises starts) d p) (λ start. (others : List StartValue) × StartsAre d p (start ∷ others))
+          (λ start. Next p q o code start)) s t)
       first.0 later.0 first.1 later.1 alike first.2
 
   -- the same of a run without its time
   meant_answer : (file starts : List ℕ) (Next : Syntax → StartValue → Status → List ℕ → Type 0)
       → (file ≡ starts → IsSome (content file))
-      → Then (ProgramStops (Rises file) (content file)) (Reads (content file)) (λ p. Then (FirstStops Rises content (Some starts) p) (FirstStart content (Some starts) p) (λ start. Next p start)) s t
+      → Then (ProgramStops (Rises file) (content file)) (Reads (content file))
+      (λ p. Then (FirstStops Rises content (Some starts) p) (FirstStart content (Some starts) p) (λ start. Next p start)) s t
       → (held : Held) × HoldsTold content held
-      × Then (ProgramStops (Rises file) (told_all held file)) (Reads (told_all held file)) (λ p. Then (FirstStops Rises (told_all held) (Some starts) p) (FirstStart (told_all held) (Some starts) p) (λ start. Next p start)) s t
+      × Then (ProgramStops (Rises file) (told_all held file)) (Reads (told_all held file))
+          (λ p. Then (FirstStops Rises (told_all held) (Some starts) p) (FirstStart (told_all held) (Some starts) p) (λ start. Next p start)) s t
   meant_answer file starts Next alike x =
       let later = then_later (content starts) (ProgramStops (Rises file) (content file)) (Reads (content file))
       (λ p. Then (FirstStops Rises content (Some starts) p) (FirstStart content (Some starts) p) (λ start. Next p start))
-      (λ k p. Then (StartStops (Rises starts) (Some k) p) (λ start. (others : List StartValue) × StartsAre (Some k) p (start ∷ others)) (λ start. Next p start)) s t
+      (λ k p. Then (StartStops (Rises starts) (Some k) p) (λ start. (others : List StartValue) × StartsAre (Some k) p (start ∷ others)) (λ start. Next p start))
+          s t
       (λ p. first_then_held Rises content starts p (λ start. Next p start) s t) x in
       let first = program_then_held (Rises file) (content file)
-      (λ p. Then (StartStops (Rises starts) (Some later.0) p) (λ start. (others : List StartValue) × StartsAre (Some later.0) p (start ∷ others)) (λ start. Next p start)) s t later.2 in
+      (λ p. Then (StartStops (Rises starts) (Some later.0) p) (λ start. (others : List StartValue) × StartsAre (Some later.0) p (start ∷ others))
+          (λ start. Next p start)) s t later.2 in
       two_files content file starts
-      (λ c d. Then (ProgramStops (Rises file) c) (Reads c) (λ p. Then (StartStops (Rises starts) d p) (λ start. (others : List StartValue) × StartsAre d p (start ∷ others)) (λ start. Next p start)) s t)
+      (λ c d. Then (ProgramStops (Rises file) c) (Reads c)
+          (λ p. Then (StartStops (Rises starts) d p) (λ start. (others : List StartValue) × StartsAre d p (start ∷ others)) (λ start. Next p start)) s t)
       first.0 later.0 first.1 later.1 alike first.2
 
   -- with the certificate of a second file
   certified_answer : (file certificate : List ℕ) (Next : Syntax → LabelledProgram → Status → List ℕ → Type 0)
       → (file ≡ certificate → IsSome (content file))
-      → Then (ProgramStops (Rises file) (content file)) (Reads (content file)) (λ p. Then (CertificateStops (Rises certificate) (content certificate) p) (Rechecks (content certificate) p) (λ q. Next p q)) s t
+      → Then (ProgramStops (Rises file) (content file)) (Reads (content file))
+      (λ p. Then (CertificateStops (Rises certificate) (content certificate) p) (Rechecks (content certificate) p) (λ q. Next p q)) s t
       → (held : Held) × HoldsTold content held
-      × Then (ProgramStops (Rises file) (told_all held file)) (Reads (told_all held file)) (λ p. Then (CertificateStops (Rises certificate) (told_all held certificate) p) (Rechecks (told_all held certificate) p) (λ q. Next p q)) s t
+      × Then (ProgramStops (Rises file) (told_all held file)) (Reads (told_all held file))
+          (λ p. Then (CertificateStops (Rises certificate) (told_all held certificate) p) (Rechecks (told_all held certificate) p) (λ q. Next p q)) s t
   certified_answer file certificate Next alike x =
       let later = then_later (content certificate) (ProgramStops (Rises file) (content file)) (Reads (content file))
       (λ p. Then (CertificateStops (Rises certificate) (content certificate) p) (Rechecks (content certificate) p) (λ q. Next p q))
@@ -180,7 +202,8 @@ module _ (Rises : List ℕ → Type 0) (content : Content) (s : Status) (t : Lis
       first.0 later.0 first.1 later.1 alike first.2
 
   -- the answer is one by what the files hold
-  pub answer_held : (a : Asked) → AreReadAlike content (files_of a) → IsAnswer Rises content a s t → (held : Held) × HoldsTold content held × IsAnswer Rises (told_all held) a s t
+  pub answer_held : (a : Asked) → AreReadAlike content (files_of a) → IsAnswer Rises content a s t → (held : Held) × HoldsTold content held
+      × IsAnswer Rises (told_all held) a s t
   answer_held (check file) alike x =
       let Next : Syntax → Status → List ℕ → Type 0 = λ p. Then (TypeStops p) (Types p) (λ q. HasChecked p) in
       one_file content file (λ c. Then (ProgramStops (Rises file) c) (Reads c) Next s t) (program_then_held (Rises file) (content file) Next s t x)
@@ -215,7 +238,8 @@ module _ (Rises : List ℕ → Type 0) (content : Content) (s : Status) (t : Lis
 
 -- ---- what stands before the line for memory
 
-begun_held : (content : Content) (file : List ℕ) (starts : Option (List ℕ)) (n : ℕ) (b : List ℕ) → AreReadAlike content (files_of (meaning file starts n)) → HasBegun content file starts n b
+begun_held : (content : Content) (file : List ℕ) (starts : Option (List ℕ)) (n : ℕ) (b : List ℕ) → AreReadAlike content (files_of (meaning file starts n))
+    → HasBegun content file starts n b
     → (held : Held) × HoldsTold content held × HasBegun (told_all held) file starts n b
 begun_held content file None n b alike x =
     let read = reads_held (content file) x.program x.reads in
@@ -225,10 +249,13 @@ begun_held content file (Some starts) n b alike x =
     let read = reads_held (content file) x.program x.reads in
     let first : FirstStart content (Some starts) x.program x.start = x.first in
     let begin = starts_held (content starts) x.program (x.start ∷ first.0) first.1 in
-    let made = two_files content file starts (λ c d. Reads c x.program × StartsAre d x.program (x.start ∷ first.0)) read.0 begin.0 read.1 begin.1 alike (read.2, begin.2) in
-    (made.0, made.1, record { program = x.program; reads = made.2.0; start = x.start; first = (first.0, made.2.1); steps = x.steps; within = x.within; lines = x.lines })
+    let made = two_files content file starts (λ c d. Reads c x.program × StartsAre d x.program (x.start ∷ first.0)) read.0 begin.0 read.1 begin.1 alike (read.2,
+        begin.2) in
+    (made.0, made.1, record { program = x.program; reads = made.2.0; start = x.start; first = (first.0, made.2.1); steps =
+        x.steps; within = x.within; lines = x.lines })
 
-before_held : (content : Content) (a : Asked) (b : List ℕ) → AreReadAlike content (files_of a) → Before content a b → (held : Held) × HoldsTold content held × Before (told_all held) a b
+before_held : (content : Content) (a : Asked) (b : List ℕ) → AreReadAlike content (files_of a) → Before content a b
+    → (held : Held) × HoldsTold content held × Before (told_all held) a b
 before_held content (check file) b alike x = (λ name. held_of (content name), λ name. fits_held (content name), x)
 before_held content (infer file) b alike x = (λ name. held_of (content name), λ name. fits_held (content name), x)
 before_held content (compile file) b alike x = (λ name. held_of (content name), λ name. fits_held (content name), x)
@@ -244,7 +271,8 @@ before_held content (recheck file certificate) b alike x = (λ name. held_of (co
 
 -- ---- the end of a call
 
-module _ {X : Type 0} (G : X → Type 0) (Earlier : List ℕ → Type 0) (Later : X → List ℕ → Type 0) (A : Status → List ℕ → Type 0) (B : X → Status → List ℕ → Type 0)
+module _ {X : Type 0} (G : X → Type 0) (Earlier : List ℕ → Type 0) (Later : X → List ℕ → Type 0) (A : Status → List ℕ → Type 0)
+    (B : X → Status → List ℕ → Type 0)
     (f : (b : List ℕ) → Earlier b → (x : X) × G x × Later x b) (g : (s : Status) (t : List ℕ) → A s t → (x : X) × G x × B x s t) where
   tells_some : (s : Status) (t : List ℕ) → Tells Earlier A s t → (x : X) × G x × Tells (Later x) (B x) s t
   tells_some status.Done t h = g status.Done t h

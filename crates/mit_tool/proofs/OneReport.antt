@@ -29,17 +29,22 @@ use Rattle.tool_stages.proofs.OneLemmas.{Same}
 
 -- ---- reports and faults in a named environment
 
-same_cut : (e : EnvName) (q : LabelledProgram) (o t : ℕ) (ss : List StartValue) (r s : CutReport) → CutReportsIn e q o t ss r → CutReportsIn e q o t ss s → SameCut r s
+same_cut : (e : EnvName) (q : LabelledProgram) (o t : ℕ) (ss : List StartValue) (r s : CutReport) → CutReportsIn e q o t ss r
+    → CutReportsIn e q o t ss s → SameCut r s
 same_cut Flat q o t ss r s h k = cut.same_report flat_env (λ order e. Unit {0}) q o t (starts_of flat_made q.program.order ss) r s h k
 same_cut Part q o t ss r s h k = cut.same_report (part_by_history q.program.order) AnyHistory q o t (starts_of history_made q.program.order ss) r s h k
 same_cut Part2 q o t ss r s h k = cut.same_report (part2_by_history q.program.order) AnyHistory q o t (starts_of history_made q.program.order ss) r s h k
 
-same_cut_fault : (e : EnvName) (q : LabelledProgram) (o t : ℕ) (ss : List StartValue) (f g : CutFault) → CutFaultsIn e q o t ss f → CutFaultsIn e q o t ss g → f ≢ cut_fault.Memory → g ≢ cut_fault.Memory → f ≡ g
+same_cut_fault : (e : EnvName) (q : LabelledProgram) (o t : ℕ) (ss : List StartValue) (f g : CutFault) → CutFaultsIn e q o t ss f → CutFaultsIn e q o t ss g
+    → f ≢ cut_fault.Memory → g ≢ cut_fault.Memory → f ≡ g
 same_cut_fault Flat q o t ss f g h k n m = cut.same_fault flat_env (λ order e. Unit {0}) q o t (starts_of flat_made q.program.order ss) f g h k n m
-same_cut_fault Part q o t ss f g h k n m = cut.same_fault (part_by_history q.program.order) AnyHistory q o t (starts_of history_made q.program.order ss) f g h k n m
-same_cut_fault Part2 q o t ss f g h k n m = cut.same_fault (part2_by_history q.program.order) AnyHistory q o t (starts_of history_made q.program.order ss) f g h k n m
+same_cut_fault Part q o t ss f g h k n m =
+    cut.same_fault (part_by_history q.program.order) AnyHistory q o t (starts_of history_made q.program.order ss) f g h k n m
+same_cut_fault Part2 q o t ss f g h k n m =
+    cut.same_fault (part2_by_history q.program.order) AnyHistory q o t (starts_of history_made q.program.order ss) f g h k n m
 
-not_cut_fault : (e : EnvName) (q : LabelledProgram) (o t : ℕ) (ss : List StartValue) (r : CutReport) (f : CutFault) → CutReportsIn e q o t ss r → CutFaultsIn e q o t ss f → f ≡ cut_fault.Memory
+not_cut_fault : (e : EnvName) (q : LabelledProgram) (o t : ℕ) (ss : List StartValue) (r : CutReport) (f : CutFault) → CutReportsIn e q o t ss r
+    → CutFaultsIn e q o t ss f → f ≡ cut_fault.Memory
 not_cut_fault Flat q o t ss r f h k = cut.not_fault flat_env (λ order e. Unit {0}) q o t (starts_of flat_made q.program.order ss) r f h k
 not_cut_fault Part q o t ss r f h k = cut.not_fault (part_by_history q.program.order) AnyHistory q o t (starts_of history_made q.program.order ss) r f h k
 not_cut_fault Part2 q o t ss r f h k = cut.not_fault (part2_by_history q.program.order) AnyHistory q o t (starts_of history_made q.program.order ss) r f h k
@@ -58,8 +63,10 @@ pub one_audit : (e : EnvName) (t : ℕ) (q : LabelledProgram) (o : Option Label)
     → HasAudited e t q o ss before s x → HasAudited e t q o ss before u y → Same s u x y
 one_audit e t q None ss before s u x y h k = absurd h
 one_audit e t q (Some l) ss before s u x y (inl h) (inl k) = one_audit_stop e t q l ss s u x y h k
-one_audit e t q (Some l) ss before s u x y (inl h) (inr k) = let a = audit_stops e t q l ss s x h in absurd (a.none (not_fault e q l.number t ss k.0 a.fault k.1 a.is))
-one_audit e t q (Some l) ss before s u x y (inr h) (inl k) = let a = audit_stops e t q l ss u y k in absurd (a.none (not_fault e q l.number t ss h.0 a.fault h.1 a.is))
+one_audit e t q (Some l) ss before s u x y (inl h) (inr k) = let a = audit_stops e t q l ss s x h in
+    absurd (a.none (not_fault e q l.number t ss k.0 a.fault k.1 a.is))
+one_audit e t q (Some l) ss before s u x y (inr h) (inl k) = let a = audit_stops e t q l ss u y k in
+    absurd (a.none (not_fault e q l.number t ss h.0 a.fault h.1 a.is))
 one_audit e t q (Some l) ss before s u x y (inr h) (inr k) =
     let lines = same_lines q.program.order l t h.0 k.0 (same_report e q l.number t ss h.0 k.0 h.1 k.1) in
     (h.2.0 ∙ sym k.2.0, h.2.1 ∙ ap (λ (z : List ℕ). before ++ z) lines ∙ sym k.2.1)
@@ -83,7 +90,8 @@ pub record HasCutFault (e : EnvName) (t : ℕ) (q : LabelledProgram) (l : Label)
   pub told : s ≡ cut_status fault
   pub line : x ≡ cut_line q.program fault
 
-pub cut_stops : (e : EnvName) (t : ℕ) (q : LabelledProgram) (l : Label) (ss : List StartValue) (s : Status) (x : List ℕ) → CutStops e t q l ss s x → HasCutFault e t q l ss s x
+pub cut_stops : (e : EnvName) (t : ℕ) (q : LabelledProgram) (l : Label) (ss : List StartValue) (s : Status) (x : List ℕ)
+    → CutStops e t q l ss s x → HasCutFault e t q l ss s x
 cut_stops e t q l ss status.Done x h = absurd h
 cut_stops e t q l ss status.Refused x h = absurd h
 cut_stops e t q l ss status.Syntax x h = absurd h
@@ -98,14 +106,16 @@ cut_stops e t q l ss status.Unfinished x h = absurd h
 cut_stops e t q l ss status.Memory x h = absurd h
 cut_stops e t q l ss status.Rejected x h = absurd h
 
-one_cut_stop : (e : EnvName) (t : ℕ) (q : LabelledProgram) (l : Label) (ss : List StartValue) (s u : Status) (x y : List ℕ) → CutStops e t q l ss s x → CutStops e t q l ss u y → Same s u x y
+one_cut_stop : (e : EnvName) (t : ℕ) (q : LabelledProgram) (l : Label) (ss : List StartValue) (s u : Status) (x y : List ℕ) → CutStops e t q l ss s x
+    → CutStops e t q l ss u y → Same s u x y
 one_cut_stop e t q l ss s u x y h k =
     let a = cut_stops e t q l ss s x h in
     let b = cut_stops e t q l ss u y k in
     let same : a.fault ≡ b.fault = same_cut_fault e q l.number t ss a.fault b.fault a.is b.is a.none b.none in
     (a.told ∙ ap cut_status same ∙ sym b.told, a.line ∙ ap (cut_line q.program) same ∙ sym b.line)
 
-pub one_cut : (e : EnvName) (t : ℕ) (q : LabelledProgram) (o : Option Label) (ss : List StartValue) (s u : Status) (x y : List ℕ) → HasCut e t q o ss s x → HasCut e t q o ss u y → Same s u x y
+pub one_cut : (e : EnvName) (t : ℕ) (q : LabelledProgram) (o : Option Label) (ss : List StartValue) (s u : Status) (x y : List ℕ) → HasCut e t q o ss s x
+    → HasCut e t q o ss u y → Same s u x y
 one_cut e t q None ss s u x y h k = absurd h
 one_cut e t q (Some l) ss s u x y (inl h) (inl k) = one_cut_stop e t q l ss s u x y h k
 one_cut e t q (Some l) ss s u x y (inl h) (inr k) = let a = cut_stops e t q l ss s x h in absurd (a.none (not_cut_fault e q l.number t ss k.0 a.fault k.1 a.is))
@@ -118,9 +128,11 @@ one_cut e t q (Some l) ss s u x y (inr h) (inr k) =
 
 -- runs have one list of outcomes
 abbrev pub OneOutcomes : Type 0
-OneOutcomes = (q t : ℕ) (runs : List (List ℕ)) (outcomes others : List Outcome) → AllZip (IsOutcome q t) runs outcomes → AllZip (IsOutcome q t) runs others → outcomes ≡ others
+OneOutcomes = (q t : ℕ) (runs : List (List ℕ)) (outcomes others : List Outcome) → AllZip (IsOutcome q t) runs outcomes
+    → AllZip (IsOutcome q t) runs others → outcomes ≡ others
 
-pub one_release : (one : OneOutcomes) (first t : ℕ) (runs : List (List ℕ)) (s u : Status) (x y : List ℕ) → HasReleased first t runs s x → HasReleased first t runs u y → Same s u x y
+pub one_release : (one : OneOutcomes) (first t : ℕ) (runs : List (List ℕ)) (s u : Status) (x y : List ℕ) → HasReleased first t runs s x
+    → HasReleased first t runs u y → Same s u x y
 one_release one first t runs s u x y h k =
     let same : h.1 ≡ k.1 = one first t runs h.1 k.1 h.2 k.2 in
     (h.0 ∙ sym k.0, h.3 ∙ ap (box_lines first t runs) same ∙ sym k.3)

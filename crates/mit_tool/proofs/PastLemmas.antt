@@ -42,13 +42,15 @@ module _ (sound : SpelledAreSound) where
   accepted : (c : Option (Option (List ℕ))) (p : Syntax) (q : LabelledProgram) → Reads c p → Types p q → IsAccepted c
   accepted c p q reads types = record { program = p; reads = reads; labelled = q; types = types; sound = sound _ p q reads.spelled types }
 
-  typed_past : (R : Type 0) (c : Option (Option (List ℕ))) (Next : Syntax → LabelledProgram → Status → List ℕ → Type 0) (s : Status) (t : List ℕ) → IsTrue (is_past_typing s)
+  typed_past : (R : Type 0) (c : Option (Option (List ℕ))) (Next : Syntax → LabelledProgram → Status → List ℕ → Type 0) (s : Status) (t : List ℕ)
+      → IsTrue (is_past_typing s)
       → Then (ProgramStops R c) (Reads c) (λ p. Then (TypeStops p) (Types p) (λ q. Next p q)) s t → IsAccepted c
   typed_past R c Next s t past (inl x) = absurd (not_late s (program_early R c s t x) past)
   typed_past R c Next s t past (inr (p, reads, inl x)) = absurd (not_late s (type_early p s t x) past)
   typed_past R c Next s t past (inr (p, reads, inr (q, types, n))) = accepted c p q reads types
 
-  compiled_past : (Rises : List ℕ → Type 0) (content : Content) (file : List ℕ) (observer : Option (List ℕ)) (Next : Syntax → LabelledProgram → Option Label → Code → Status → List ℕ → Type 0)
+  compiled_past : (Rises : List ℕ → Type 0) (content : Content) (file : List ℕ) (observer : Option (List ℕ))
+      (Next : Syntax → LabelledProgram → Option Label → Code → Status → List ℕ → Type 0)
       (s : Status) (t : List ℕ) → IsTrue (is_past_typing s) → Compiles Rises content file observer Next s t → IsAccepted (content file)
   compiled_past Rises content file observer Next s t past (inl x) = absurd (not_late s (program_early (Rises file) (content file) s t x) past)
   compiled_past Rises content file observer Next s t past (inr (p, reads, inl x)) = absurd (not_late s (observer_early p.order observer s t x) past)
@@ -61,15 +63,19 @@ module _ (sound : SpelledAreSound) where
     answer_past (infer file) x = typed_past (Rises file) (content file) (λ p q. HasInferred q) s t past x
     answer_past (compile file) x = compiled_past Rises content file None (λ p q o code. HasListed q code) s t past x
     answer_past (run file starts e budget observer) x =
-        compiled_past Rises content file observer (λ p q o code. Then (FirstStops Rises content starts p) (FirstStart content starts p) (λ start. HasRun e budget q o code start)) s t past x
+        compiled_past Rises content file observer
+            (λ p q o code. Then (FirstStops Rises content starts p) (FirstStart content starts p) (λ start. HasRun e budget q o code start)) s t past x
     answer_past (meaning file starts n) x = tt
     answer_past (audit file starts observer e budget) x =
-        compiled_past Rises content file (Some observer) (λ p q o code. Then (StartStops (Rises starts) (content starts) p) (StartsAre (content starts) p) (λ ss. HasAudited e budget q o ss [])) s t past x
+        compiled_past Rises content file (Some observer) (λ p q o code. Then (StartStops (Rises starts) (content starts) p) (StartsAre (content starts) p)
+            (λ ss. HasAudited e budget q o ss [])) s t past x
     answer_past (gen size number) x =
-        compiled_past (λ name. ⊥) (made_content size number) [] (Some (codes "L")) (λ p q o code. Then (StartStops ⊥ (Some (Some starts_text)) p) (StartsAre (Some (Some starts_text)) p) (λ ss.
+        compiled_past (λ name. ⊥) (made_content size number) [] (Some (codes "L"))
+            (λ p q o code. Then (StartStops ⊥ (Some (Some starts_text)) p) (StartsAre (Some (Some starts_text)) p) (λ ss.
         HasAudited Part (2 ^ 40) q o ss (made_lines size number (count (plan_of p)) (length code.instrs)))) s t past x
     answer_past (cut file starts observer e budget) x =
-        compiled_past Rises content file (Some observer) (λ p q o code. Then (StartStops (Rises starts) (content starts) p) (StartsAre (content starts) p) (λ ss. HasCut e budget q o ss)) s t past x
+        compiled_past Rises content file (Some observer) (λ p q o code. Then (StartStops (Rises starts) (content starts) p) (StartsAre (content starts) p)
+            (λ ss. HasCut e budget q o ss)) s t past x
     answer_past (blackbox file first budget) x = tt
     answer_past (certify file) x = typed_past (Rises file) (content file) (λ p q. HasCertified q) s t past x
     answer_past (recheck file certificate) x = tt
@@ -77,16 +83,21 @@ module _ (sound : SpelledAreSound) where
   -- a call that ended past the typing
   pub ends_past : (Rises : List ℕ → Type 0) (content : Content) (a : Asked) (old new : Option (List ℕ)) (Before : List ℕ → Type 0) (s : Status)
       → EndsBy old new Before (IsAnswer Rises content a) s → IsTrue (is_past_typing s) → IfSome (typed_content content a) IsAccepted
-  ends_past Rises content a old new Before s h past = ended_past old new Before (IsAnswer Rises content a) (IfSome (typed_content content a) IsAccepted) (λ s t late x. answer_past Rises content s t late a x) s h past
+  ends_past Rises content a old new Before s h past =
+      ended_past old new Before (IsAnswer Rises content a) (IfSome (typed_content content a) IsAccepted)
+      (λ s t late x. answer_past Rises content s t late a x) s h past
 
 -- ---- certificates
 
 module _ (sound : TypedAreSound) (Rises : List ℕ → Type 0) (content : Content) where
-  rechecked_past : (file certificate : List ℕ) (s : Status) (t : List ℕ) → IsTrue (is_past_typing s) → IsAnswer Rises content (recheck file certificate) s t → IsRechecked (content file) (content certificate)
+  rechecked_past : (file certificate : List ℕ) (s : Status) (t : List ℕ) → IsTrue (is_past_typing s) → IsAnswer Rises content (recheck file certificate) s t
+      → IsRechecked (content file) (content certificate)
   rechecked_past file certificate s t past (inl x) = absurd (not_late s (program_early (Rises file) (content file) s t x) past)
-  rechecked_past file certificate s t past (inr (p, reads, inl x)) = absurd (not_late s (certificate_early (Rises certificate) (content certificate) p s t x) past)
+  rechecked_past file certificate s t past (inr (p, reads, inl x)) =
+      absurd (not_late s (certificate_early (Rises certificate) (content certificate) p s t x) past)
   rechecked_past file certificate s t past (inr (p, reads, inr (q, rechecks, n))) =
-      record { program = p; reads = reads; labelled = q; rechecks = rechecks; sound = sound _ p q reads.spelled rechecks.holds.program rechecks.labels.keeps rechecks.typed }
+      record { program = p; reads = reads; labelled = q; rechecks = rechecks; sound =
+          sound _ p q reads.spelled rechecks.holds.program rechecks.labels.keeps rechecks.typed }
 
   held_past : (a : Asked) (s : Status) (t : List ℕ) → IsTrue (is_past_typing s) → IsAnswer Rises content a s t → HeldIsSound content a
   held_past (check file) s t past x = tt
@@ -103,4 +114,5 @@ module _ (sound : TypedAreSound) (Rises : List ℕ → Type 0) (content : Conten
 
   pub ends_rechecked : (a : Asked) (old new : Option (List ℕ)) (Before : List ℕ → Type 0) (s : Status)
       → EndsBy old new Before (IsAnswer Rises content a) s → IsTrue (is_past_typing s) → HeldIsSound content a
-  ends_rechecked a old new Before s h past = ended_past old new Before (IsAnswer Rises content a) (HeldIsSound content a) (λ s t late x. held_past a s t late x) s h past
+  ends_rechecked a old new Before s h past =
+      ended_past old new Before (IsAnswer Rises content a) (HeldIsSound content a) (λ s t late x. held_past a s t late x) s h past

@@ -32,7 +32,8 @@ pub compile_tells : (Rises : List ℕ → Type 0) (content : Content) (file : Li
     → HasCompiled content file None q o code → t ≡ image_text q.program code → IsAnswer Rises content (compile file) status.Done t
 compile_tells Rises content file q o code t h e = compiled_goes Rises content file None q o code listed status.Done t h (refl, e)
 
-pub compile_stops_text : (Rises : List ℕ → Type 0) (content : Content) (file : List ℕ) (e : Stop) → IsStop (CompileStops Rises content file None) e → IsStop (IsAnswer Rises content (compile file)) e
+pub compile_stops_text : (Rises : List ℕ → Type 0) (content : Content) (file : List ℕ) (e : Stop) → IsStop (CompileStops Rises content file None) e
+    → IsStop (IsAnswer Rises content (compile file)) e
 compile_stops_text Rises content file e h =
     broke_map (CompileStops Rises content file None) (IsAnswer Rises content (compile file)) (status_of e) (stop_text e)
     (compiles_map Rises content file None (λ p q o code. NoMore) listed (status_of e) (stop_text e) (λ p q o code n. absurd n)) h

@@ -25,57 +25,79 @@ use Rattle.tool_texts.proofs.EndLemmas.{broke_map, ends_after, prefix_longer}
 use Rattle.tool_stages.proofs.StopLemmas.{certificate_rise, compiled_goes, compiles_map, starts_next, then_map}
 
 abbrev run_next : (List ℕ → Type 0) → Content → Option (List ℕ) → EnvName → ℕ → Syntax → LabelledProgram → Option Label → Code → Status → List ℕ → Type 0
-run_next Rises content starts env budget p q o code = Then (FirstStops Rises content starts p) (FirstStart content starts p) (λ start. HasRun env budget q o code start)
+run_next Rises content starts env budget p q o code =
+    Then (FirstStops Rises content starts p) (FirstStart content starts p) (λ start. HasRun env budget q o code start)
 
 -- the run has what its answer tells
-pub ready_tells : (Rises : List ℕ → Type 0) (content : Content) (file : List ℕ) (starts observer : Option (List ℕ)) (env : EnvName) (budget : ℕ) (q : LabelledProgram) (o : Option Label) (code : Code) (start : StartValue) (s : Status) (t : List ℕ)
-    → IsReady content file starts observer q o code start → HasRun env budget q o code start s t → IsAnswer Rises content (run file starts env budget observer) s t
+pub ready_tells : (Rises : List ℕ → Type 0) (content : Content) (file : List ℕ) (starts observer : Option (List ℕ)) (env : EnvName) (budget : ℕ)
+    (q : LabelledProgram) (o : Option Label) (code : Code) (start : StartValue) (s : Status) (t : List ℕ)
+    → IsReady content file starts observer q o code start → HasRun env budget q o code start s t
+    → IsAnswer Rises content (run file starts env budget observer) s t
 ready_tells Rises content file starts observer env budget q o code start s t h told =
-    let first : FirstStart content starts h.compiled.program start = subst (λ (z : Syntax). FirstStart content starts z start) h.compiled.types.program h.first in
+    let first : FirstStart content starts h.compiled.program start =
+        subst (λ (z : Syntax). FirstStart content starts z start) h.compiled.types.program h.first in
     compiled_goes Rises content file observer q o code (run_next Rises content starts env budget) s t h.compiled (inr (start, first, told))
 
-pub run_stops : (Rises : List ℕ → Type 0) (content : Content) (file : List ℕ) (starts observer : Option (List ℕ)) (env : EnvName) (budget : ℕ) (s : Status) (t : List ℕ)
+pub run_stops : (Rises : List ℕ → Type 0) (content : Content) (file : List ℕ) (starts observer : Option (List ℕ)) (env : EnvName)
+    (budget : ℕ) (s : Status) (t : List ℕ)
     → RunStops Rises content file starts observer s t → IsAnswer Rises content (run file starts env budget observer) s t
 run_stops Rises content file starts observer env budget s t =
-    compiles_map Rises content file observer (starts_next Rises content starts) (run_next Rises content starts env budget) s t (λ p q o code. then_map (FirstStops Rises content starts p) (FirstStart content starts p) (λ start. NoMore) (λ start. HasRun env budget q o code start) s t (λ start n. absurd n))
+    compiles_map Rises content file observer (starts_next Rises content starts) (run_next Rises content starts env budget) s t
+        (λ p q o code. then_map (FirstStops Rises content starts p) (FirstStart content starts p) (λ start. NoMore)
+        (λ start. HasRun env budget q o code start) s t (λ start n. absurd n))
 
 -- ---- a run without its time
 
-pub meaning_stops : (Rises : List ℕ → Type 0) (content : Content) (file : List ℕ) (starts : Option (List ℕ)) (n : ℕ) (s : Status) (t : List ℕ) → MeaningStops Rises content file starts s t → IsAnswer Rises content (meaning file starts n) s t
+pub meaning_stops : (Rises : List ℕ → Type 0) (content : Content) (file : List ℕ) (starts : Option (List ℕ)) (n : ℕ) (s : Status) (t : List ℕ)
+    → MeaningStops Rises content file starts s t → IsAnswer Rises content (meaning file starts n) s t
 meaning_stops Rises content file starts n s t (inl h) = inl h
 meaning_stops Rises content file starts n s t (inr (p, reads, inl h)) = inr (p, reads, inl h)
 meaning_stops Rises content file starts n s t (inr (p, reads, inr (start, first, h))) = absurd h
 
-pub source_tells : (Rises : List ℕ → Type 0) (content : Content) (file : List ℕ) (starts : Option (List ℕ)) (n : ℕ) (p : Syntax) (start : StartValue) (last : List ℕ)
-    → HasSource content file starts p start → IsLastLine (plan_of p) start.memory n last → IsAnswer Rises content (meaning file starts n) Done (lines_after p start.memory n ++ last)
+pub source_tells : (Rises : List ℕ → Type 0) (content : Content) (file : List ℕ) (starts : Option (List ℕ)) (n : ℕ) (p : Syntax)
+    (start : StartValue) (last : List ℕ)
+    → HasSource content file starts p start → IsLastLine (plan_of p) start.memory n last
+    → IsAnswer Rises content (meaning file starts n) Done (lines_after p start.memory n ++ last)
 source_tells Rises content file starts n p start last h is = inr (p, h.reads, inr (start, h.first, (refl, last, is, refl)))
 
-pub source_begins : (content : Content) (file : List ℕ) (starts : Option (List ℕ)) (n k : ℕ) (p : Syntax) (start : StartValue) → HasSource content file starts p start → k ≤ n → HasBegun content file starts n (lines_after p start.memory k)
+pub source_begins : (content : Content) (file : List ℕ) (starts : Option (List ℕ)) (n k : ℕ) (p : Syntax) (start : StartValue)
+    → HasSource content file starts p start → k ≤ n → HasBegun content file starts n (lines_after p start.memory k)
 source_begins content file starts n k p start h l = record { program = p; reads = h.reads; start = start; first = h.first; steps = k; within = l; lines = refl }
 
 -- the last line was written after the others, or a write failed
-pub meaning_done : (Rises : List ℕ → Type 0) (content : Content) (file : List ℕ) (starts : Option (List ℕ)) (n : ℕ) (p : Syntax) (start : StartValue) (memory : List ℤ) (line text : List ℕ) (old mid new : Option (List ℕ)) (r : Status)
-    → HasSource content file starts p start → memory ≡ start.memory → IsLastLine (plan_of p) memory n line → Appends old mid (lines_after p memory n) → text ≡ line
-    → (r ≢ WriteFault → (r ≡ Done) × Appends mid new text) → (r ≡ WriteFault → AppendsPrefix mid new text) → EndsBy old new (Before content (meaning file starts n)) (IsAnswer Rises content (meaning file starts n)) r
+pub meaning_done : (Rises : List ℕ → Type 0) (content : Content) (file : List ℕ) (starts : Option (List ℕ)) (n : ℕ) (p : Syntax) (start : StartValue)
+    (memory : List ℤ) (line text : List ℕ) (old mid new : Option (List ℕ)) (r : Status)
+    → HasSource content file starts p start → memory ≡ start.memory → IsLastLine (plan_of p) memory n line
+    → Appends old mid (lines_after p memory n) → text ≡ line
+    → (r ≢ WriteFault → (r ≡ Done) × Appends mid new text) → (r ≡ WriteFault → AppendsPrefix mid new text)
+    → EndsBy old new (Before content (meaning file starts n)) (IsAnswer Rises content (meaning file starts n)) r
 meaning_done Rises content file starts n p start memory line text old mid new r h is last lines same told prefix =
-    let last' : IsLastLine (plan_of p) start.memory n text = subst (λ (l : List ℕ). IsLastLine (plan_of p) start.memory n l) (sym same) (subst (λ (m : List ℤ). IsLastLine (plan_of p) m n line) is last) in
+    let last' : IsLastLine (plan_of p) start.memory n text =
+        subst (λ (l : List ℕ). IsLastLine (plan_of p) start.memory n l) (sym same) (subst (λ (m : List ℤ). IsLastLine (plan_of p) m n line) is last) in
     let lines' : Appends old mid (lines_after p start.memory n) = subst (λ (m : List ℤ). Appends old mid (lines_after p m n)) is lines in
-    ends_after old mid new (Before content (meaning file starts n)) (IsAnswer Rises content (meaning file starts n)) (lines_after p start.memory n) Done text r lines' (source_tells Rises content file starts n p start text h last') told prefix
+    ends_after old mid new (Before content (meaning file starts n)) (IsAnswer Rises content (meaning file starts n)) (lines_after p start.memory n) Done text r
+        lines' (source_tells Rises content file starts n p start text h last') told prefix
 
 -- memory was wanting after some lines
-pub meaning_short : (Rises : List ℕ → Type 0) (content : Content) (file : List ℕ) (starts : Option (List ℕ)) (n : ℕ) (p : Syntax) (start : StartValue) (memory : List ℤ) (old mid new : Option (List ℕ)) (r : Status)
+pub meaning_short : (Rises : List ℕ → Type 0) (content : Content) (file : List ℕ) (starts : Option (List ℕ)) (n : ℕ) (p : Syntax) (start : StartValue)
+    (memory : List ℤ) (old mid new : Option (List ℕ)) (r : Status)
     → HasSource content file starts p start → memory ≡ start.memory → WritesSome old mid p memory n
-    → (r ≢ WriteFault → (r ≡ Memory) × Appends mid new memory_line) → (r ≡ WriteFault → AppendsPrefix mid new memory_line) → EndsBy old new (Before content (meaning file starts n)) (IsAnswer Rises content (meaning file starts n)) r
+    → (r ≢ WriteFault → (r ≡ Memory) × Appends mid new memory_line) → (r ≡ WriteFault → AppendsPrefix mid new memory_line)
+    → EndsBy old new (Before content (meaning file starts n)) (IsAnswer Rises content (meaning file starts n)) r
 meaning_short Rises content file starts n p start memory old mid new r h is some told prefix =
     let lines' : Appends old mid (lines_after p start.memory some.steps) = subst (λ (m : List ℤ). Appends old mid (lines_after p m some.steps)) is some.lines in
-    ends_after old mid new (Before content (meaning file starts n)) (IsAnswer Rises content (meaning file starts n)) (lines_after p start.memory some.steps) Memory memory_line r lines'
+    ends_after old mid new (Before content (meaning file starts n)) (IsAnswer Rises content (meaning file starts n))
+        (lines_after p start.memory some.steps) Memory memory_line r lines'
     (lines_after p start.memory some.steps, inr (source_begins content file starts n some.steps p start h some.within), refl) told prefix
 
 -- a write failed in a line
-pub meaning_broke : (Rises : List ℕ → Type 0) (content : Content) (file : List ℕ) (starts : Option (List ℕ)) (n : ℕ) (p : Syntax) (start : StartValue) (memory : List ℤ) (old new : Option (List ℕ))
-    → HasSource content file starts p start → memory ≡ start.memory → BreaksOff old new p memory n → EndsBy old new (Before content (meaning file starts n)) (IsAnswer Rises content (meaning file starts n)) WriteFault
+pub meaning_broke : (Rises : List ℕ → Type 0) (content : Content) (file : List ℕ) (starts : Option (List ℕ)) (n : ℕ) (p : Syntax) (start : StartValue)
+    (memory : List ℤ) (old new : Option (List ℕ))
+    → HasSource content file starts p start → memory ≡ start.memory → BreaksOff old new p memory n
+    → EndsBy old new (Before content (meaning file starts n)) (IsAnswer Rises content (meaning file starts n)) WriteFault
 meaning_broke Rises content file starts n p start memory old new h is some =
-    let prefix' : AppendsPrefix old new (lines_after p start.memory some.steps) = subst (λ (m : List ℤ). AppendsPrefix old new (lines_after p m some.steps)) is some.prefix in (
+    let prefix' : AppendsPrefix old new (lines_after p start.memory some.steps) =
+        subst (λ (m : List ℤ). AppendsPrefix old new (lines_after p m some.steps)) is some.prefix in (
       Memory,
       lines_after p start.memory some.steps ++ memory_line,
       (lines_after p start.memory some.steps, inr (source_begins content file starts n some.steps p start h some.within), refl),
@@ -84,7 +106,8 @@ meaning_broke Rises content file starts n p start memory old new h is some =
 
 -- ---- `check`
 
-pub check_stops : (Rises : List ℕ → Type 0) (content : Content) (file : List ℕ) (s : Status) (t : List ℕ) → CheckStops Rises content file s t → IsAnswer Rises content (check file) s t
+pub check_stops : (Rises : List ℕ → Type 0) (content : Content) (file : List ℕ) (s : Status) (t : List ℕ) → CheckStops Rises content file s t
+    → IsAnswer Rises content (check file) s t
 check_stops Rises content file s t (inl h) = inl h
 check_stops Rises content file s t (inr (p, reads, inl h)) = inr (p, reads, inl h)
 check_stops Rises content file s t (inr (p, reads, inr (q, types, h))) = absurd h

@@ -1,5 +1,6 @@
 -- Steps of a run without its time, and the lines that they write.
-use Rattle.std.proofs.Common.{◌≡◌, ℕ, zero, suc, ◌+◌, ◌-◌, ◌<◌, ◌≤◌, List, [], ◌∷◌, ◌++◌, append_assoc, ◌⊎◌, refl, sym, ap, subst, ◌∙◌, inl, inr, arith, Bool, true, false, Option, ⊎_elim}
+use Rattle.std.proofs.Common.{◌≡◌, ℕ, zero, suc, ◌+◌, ◌-◌, ◌<◌, ◌≤◌, List, [], ◌∷◌, ◌++◌, append_assoc, ◌⊎◌, refl, sym, ap, subst, ◌∙◌, inl, inr, arith, Bool}
+use Rattle.std.proofs.Common.{true, false, Option, ⊎_elim}
 use Rattle.std.specs.Prelude.{ℤ, pos, negsuc, cond}
 use Rattle.std.specs.Io.KnownBytes.{Appends}
 use Rattle.std.proofs.KnownBytes.{Appends-nil, Appends-trans}
@@ -97,7 +98,8 @@ assigned_in-append (Started j ∷ a) b = assigned_in-append a b
 
 value_lines-append : (ds : List Declaration) (a b : List (ℕ × ℤ)) → value_lines ds (a ++ b) ≡ value_lines ds a ++ value_lines ds b
 value_lines-append ds [] b = refl
-value_lines-append ds (e ∷ a) b = ap (λ l. value_line ds e.0 e.1 ++ l) (value_lines-append ds a b) ∙ sym (append_assoc (value_line ds e.0 e.1) (value_lines ds a) (value_lines ds b))
+value_lines-append ds (e ∷ a) b =
+    ap (λ l. value_line ds e.0 e.1 ++ l) (value_lines-append ds a b) ∙ sym (append_assoc (value_line ds e.0 e.1) (value_lines ds a) (value_lines ds b))
 
 told_lines : (ds : List Declaration) (walk : Walk) → value_lines ds (assigned_in (told_by walk)) ≡ text_of_walk ds walk
 told_lines ds (DidAssign x n) = append-nil (value_line ds x n)
@@ -126,13 +128,16 @@ walking_first p memory steps walker old valid e =
     }
 
 -- the notes are those that are told
-stands_told : (p : Plan) (memory : List ℤ) (n : ℕ) (walker : Standing) (notes : List Note) → source_steps n (source_start p memory) ≡ source_at walker notes → source_steps n (source_start p memory) ≡ source_at walker (notes_of p memory n)
+stands_told : (p : Plan) (memory : List ℤ) (n : ℕ) (walker : Standing) (notes : List Note) → source_steps n (source_start p memory) ≡ source_at walker notes
+    → source_steps n (source_start p memory) ≡ source_at walker (notes_of p memory n)
 stands_told p memory n walker notes e = e ∙ ap (source_at walker) (sym (ap (λ σ. σ.notes) e))
 
-not_yet : (p : Plan) (memory : List ℤ) (n : ℕ) (old new : Standing) (notes : List Note) (walk : Walk) → source_steps n (source_start p memory) ≡ source_at old notes → IsStep old walk new → (walk ≡ Ended → ⊥) → HasEnded p memory n → ⊥
+not_yet : (p : Plan) (memory : List ℤ) (n : ℕ) (old new : Standing) (notes : List Note) (walk : Walk)
+    → source_steps n (source_start p memory) ≡ source_at old notes → IsStep old walk new → (walk ≡ Ended → ⊥) → HasEnded p memory n → ⊥
 not_yet p memory n old new notes walk e s n' done = n' (s.going (sym (ap (λ σ. σ.todo) e) ∙ done))
 
-lines_more : (p : Syntax) (memory : List ℤ) (taken : ℕ) (walker new : Standing) (walk : Walk) → source_steps taken (source_start (plan_of p) memory) ≡ source_at walker (notes_of (plan_of p) memory taken) → IsStep walker walk new
+lines_more : (p : Syntax) (memory : List ℤ) (taken : ℕ) (walker new : Standing) (walk : Walk)
+    → source_steps taken (source_start (plan_of p) memory) ≡ source_at walker (notes_of (plan_of p) memory taken) → IsStep walker walk new
     → lines_after p memory (taken + 1) ≡ lines_after p memory taken ++ text_of_walk p.declarations walk
 lines_more p memory taken walker new walk e s =
     let plan = plan_of p in
@@ -142,8 +147,10 @@ lines_more p memory taken walker new walk e s =
     ∙ value_lines-append p.declarations (assigned_in notes) (assigned_in (told_by walk))
     ∙ ap (λ l. lines_after p memory taken ++ l) (told_lines p.declarations walk)
 
-pub walking_next : (p : Syntax) (memory : List ℤ) (steps taken : ℕ) (walker new : Standing) (walk : Walk) (old now now' : Option (List ℕ)) → Walking p memory steps taken walker old now
-    → IsStep walker walk new → (walk ≡ Ended → ⊥) → taken < steps → Appends now now' (text_of_walk p.declarations walk) → Walking p memory steps (taken + 1) new old now'
+pub walking_next : (p : Syntax) (memory : List ℤ) (steps taken : ℕ) (walker new : Standing) (walk : Walk) (old now now' : Option (List ℕ))
+    → Walking p memory steps taken walker old now
+    → IsStep walker walk new → (walk ≡ Ended → ⊥) → taken < steps → Appends now now' (text_of_walk p.declarations walk)
+    → Walking p memory steps (taken + 1) new old now'
 walking_next p memory steps taken walker new walk old now now' h s n less line =
     let plan = plan_of p in
     let notes = notes_of plan memory taken in
@@ -162,7 +169,8 @@ walking_next p memory steps taken walker new walk old now now' h s n less line =
 
     still : (k : ℕ) → (k < taken) ⊎ (k ≡ taken) → HasEnded (plan_of p) memory k → ⊥
     still k (inl l) done = h.going k l done
-    still k (inr e) done = not_yet (plan_of p) memory taken walker new (notes_of (plan_of p) memory taken) walk h.stands s n (subst (HasEnded (plan_of p) memory) e done)
+    still k (inr e) done = not_yet (plan_of p) memory taken walker new (notes_of (plan_of p) memory taken) walk h.stands s n
+        (subst (HasEnded (plan_of p) memory) e done)
 
 -- ---- the end of a walk
 
@@ -175,7 +183,8 @@ lines_stay p memory n steps l h =
     let e : steps ≡ n + (steps - n) = omega (arith, l) in
     ap (lines_after p memory) e ∙ ap (λ ns. value_lines p.declarations (assigned_in ns)) (notes_stay (steps - n) (source_start (plan_of p) memory) n h)
 
-module _ (p : Syntax) (memory : List ℤ) (steps taken : ℕ) (walker new : Standing) (walk : Walk) (old now : Option (List ℕ)) (h : Walking p memory steps taken walker old now) (s : IsStep walker walk new) where
+module _ (p : Syntax) (memory : List ℤ) (steps taken : ℕ) (walker new : Standing) (walk : Walk) (old now : Option (List ℕ))
+    (h : Walking p memory steps taken walker old now) (s : IsStep walker walk new) where
   ended_here : walk ≡ Ended → HasEnded (plan_of p) memory taken
   ended_here e = ap (λ σ. σ.todo) h.stands ∙ (s.ended e).0
 
@@ -190,19 +199,24 @@ module _ (p : Syntax) (memory : List ℤ) (steps taken : ℕ) (walker new : Stan
 
   pub stops_last : (walk ≡ Ended → ⊥) → steps ≤ taken → (line : List ℕ) → line ≡ not_ended_line steps → IsLastLine (plan_of p) memory steps line
   stops_last n l line is =
-      inr ((λ done. not_yet (plan_of p) memory taken walker new (notes_of (plan_of p) memory taken) walk h.stands s n (subst (HasEnded (plan_of p) memory) (sym (all_taken l)) done)), is)
+      inr ((λ done. not_yet (plan_of p) memory taken walker new (notes_of (plan_of p) memory taken) walk h.stands s n
+          (subst (HasEnded (plan_of p) memory) (sym (all_taken l)) done)), is)
 
   pub stops_lines : steps ≤ taken → Appends old now (lines_after p memory steps)
   stops_lines l = subst (λ k. Appends old now (lines_after p memory k)) (all_taken l) h.written
 
 -- a write failed in the line of a step
-pub breaks_off : (p : Syntax) (memory : List ℤ) (steps taken : ℕ) (walker new : Standing) (walk : Walk) (old now now' : Option (List ℕ)) → Walking p memory steps taken walker old now
+pub breaks_off : (p : Syntax) (memory : List ℤ) (steps taken : ℕ) (walker new : Standing) (walk : Walk) (old now now' : Option (List ℕ))
+    → Walking p memory steps taken walker old now
     → IsStep walker walk new → taken < steps → AppendsPrefix now now' (text_of_walk p.declarations walk) → BreaksOff old now' p memory steps
 breaks_off p memory steps taken walker new walk old now now' h s less line =
-    let more : lines_after p memory taken ++ text_of_walk p.declarations walk ≡ lines_after p memory (taken + 1) = sym (lines_more p memory taken walker new walk h.stands s) in
-    record { steps = taken + 1; within = omega (arith, less); prefix = prefix_after old now now' (lines_after p memory taken) (text_of_walk p.declarations walk) (lines_after p memory (taken + 1)) h.written line more }
+    let more : lines_after p memory taken ++ text_of_walk p.declarations walk ≡ lines_after p memory (taken + 1) =
+        sym (lines_more p memory taken walker new walk h.stands s) in
+    record { steps = taken + 1; within = omega (arith, less); prefix =
+        prefix_after old now now' (lines_after p memory taken) (text_of_walk p.declarations walk) (lines_after p memory (taken + 1)) h.written line more }
 
-pub writes_some : (p : Syntax) (memory : List ℤ) (steps taken : ℕ) (walker : Standing) (old now : Option (List ℕ)) → Walking p memory steps taken walker old now → WritesSome old now p memory steps
+pub writes_some : (p : Syntax) (memory : List ℤ) (steps taken : ℕ) (walker : Standing) (old now : Option (List ℕ)) → Walking p memory steps taken walker old now
+    → WritesSome old now p memory steps
 writes_some p memory steps taken walker old now h = record { steps = taken; within = h.within; lines = h.written }
 
 pub writes_none : (p : Syntax) (memory : List ℤ) (steps : ℕ) (old : Option (List ℕ)) → WritesSome old old p memory steps

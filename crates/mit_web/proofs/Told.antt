@@ -8,7 +8,8 @@ use Rattle.tool_stages.specs.Content.{Content}
 use Rattle.mit_web.specs.declared.call.Program.{Program}
 use Rattle.mit_web.specs.Calls.{Answered, IsAnswerOf}
 
-module _ (program : Program) (words : List (List ℕ)) (held : List ℕ → Option (List ℕ)) (content : Content) (before after : List ℕ → ℕ) (status : Status) (old new : MemorySink) (room : ℕ) where
+module _ (program : Program) (words : List (List ℕ)) (held : List ℕ → Option (List ℕ)) (content : Content) (before after : List ℕ → ℕ) (status : Status)
+    (old new : MemorySink) (room : ℕ) where
   pub answer_of : old ≡ empty_sink room → ((name : List ℕ) → content name ≡ Some (held name))
       → Answered program old.bytes words content (λ name. Rose (before name) (after name)) new.bytes status
       → (number : ℕ) → number ≡ exit_number status → IsAnswerOf program words held number new.bytes

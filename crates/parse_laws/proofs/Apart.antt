@@ -8,7 +8,9 @@ use Rattle.mit_syntax.specs.declared.token.TokenKind.TheVariants.{Key, Name, Num
 use Rattle.mit_syntax.specs.declared.token.Keyword.{Keyword}
 use Rattle.mit_syntax.specs.declared.token.Keyword.TheVariants.{Labels, Order, Var, Skip, If, Then, Else, While, Do, Mitigate, Sleep}
 use Rattle.mit_syntax.specs.declared.token.Sign.{Sign}
-use Rattle.mit_syntax.specs.declared.token.Sign.TheVariants.{Assign, Colon, Semicolon, Comma, LeftRound, RightRound, LeftBrace, RightBrace, LeftSquare, RightSquare, At, Plus, Minus, Star, Slash, Percent, Equal, NotEqual, LessEqual, Less, GreaterEqual, Greater}
+use Rattle.mit_syntax.specs.declared.token.Sign.TheVariants.{Assign, Colon, Semicolon, Comma, LeftRound, RightRound, LeftBrace, RightBrace, LeftSquare}
+use Rattle.mit_syntax.specs.declared.token.Sign.TheVariants.{RightSquare, At, Plus, Minus, Star, Slash, Percent, Equal, NotEqual, LessEqual, Less}
+use Rattle.mit_syntax.specs.declared.token.Sign.TheVariants.{GreaterEqual, Greater}
 use Rattle.mit_syntax.specs.Lexemes.{StopsAt, IsWord, is_name_byte, key_text, sign_text, HasKind}
 use Rattle.mit_syntax.specs.Chunks.{Word, key, sign, number, name, Chunk, space, line, word, word_text, text}
 use Rattle.mit_syntax.specs.Cut.{Piece, white, lexeme, spread, CutBefore}
@@ -149,7 +151,8 @@ sign_calm Less q r h = (refl, refl)
 sign_calm GreaterEqual q r h = (refl, refl)
 sign_calm Greater q r h = (refl, refl)
 
-stops : (test : ℕ → Bool) → test 32 ≡ false → test 10 ≡ false → ((s : Sign) (r : List ℕ) → StopsAt test (sign_text s ++ r)) → (q : List Chunk) → opens_no_word q ≡ true → StopsAt test (text q)
+stops : (test : ℕ → Bool) → test 32 ≡ false → test 10 ≡ false → ((s : Sign) (r : List ℕ) → StopsAt test (sign_text s ++ r)) → (q : List Chunk)
+    → opens_no_word q ≡ true → StopsAt test (text q)
 stops test a b c [] h = tt
 stops test a b c (space ∷ q) h = a
 stops test a b c (line ∷ q) h = b

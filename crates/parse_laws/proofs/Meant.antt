@@ -36,7 +36,8 @@ same t s u a b =
     ap (λ o. program o s.pairs s.declarations s.plan) (one_order names (label_pairs t.header) s.order u.order a.order b.order)
     ∙ ap (λ ps. program u.order ps s.declarations s.plan) (a.pairs ∙ sym b.pairs)
     ∙ ap (λ ds. program u.order u.pairs ds s.plan) declarations
-    ∙ ap (λ p. program u.order u.pairs u.declarations p) (a.plan ∙ ap (λ (ds : List Declaration). plan_commands (scope names ds) 0 t.commands) declarations ∙ sym b.plan)
+    ∙ ap (λ p. program u.order u.pairs u.declarations p) (a.plan ∙ ap (λ (ds : List Declaration). plan_commands (scope names ds) 0 t.commands) declarations
+        ∙ sym b.plan)
 
 pub one_meaning : (words : List Told) (s u : Syntax) → IsProgram words s → IsProgram words u → s ≡ u
 one_meaning words s u p q =
@@ -48,7 +49,8 @@ pub program_order : (words : List Told) (s : Syntax) → IsProgram words s → I
 program_order words s p = p.resolves.order.order
 
 -- whatever program the canonical text is, it is the one that was written, but for positions
-pub canonical_means : (s : Syntax) → IsValid s → (tokens : List Token) → AreTokens (canonical s) tokens → (u : Syntax) → IsProgram (told (canonical s) tokens) u → Same u s
+pub canonical_means : (s : Syntax) → IsValid s → (tokens : List Token) → AreTokens (canonical s) tokens → (u : Syntax)
+    → IsProgram (told (canonical s) tokens) u → Same u s
 canonical_means s v tokens a u p =
     let r = reads_back s v in
     let Q : List Token → Type 0 = λ l. IsProgram (told (canonical s) l) u in

@@ -1,11 +1,15 @@
 -- One tree at most spells the words: each tree is told by its first words, as the grammar needs no more than one word ahead.
 use Rattle.std.proofs.Common.{◌≡◌, ◌≤◌, refl, sym, ap, ◌∙◌, ℕ, ℤ, List, [], ◌∷◌, Some, arith}
 use Rattle.std.specs.Prelude.{pos}
-use Rattle.mit_syntax.specs.declared.token.Sign.TheVariants.{RightRound, LeftSquare, RightSquare, Plus, Minus, Star, Slash, Percent, Equal, NotEqual, LessEqual, Less, GreaterEqual, Greater}
+use Rattle.mit_syntax.specs.declared.token.Sign.TheVariants.{RightRound, LeftSquare, RightSquare, Plus, Minus, Star, Slash, Percent, Equal, NotEqual}
+use Rattle.mit_syntax.specs.declared.token.Sign.TheVariants.{LessEqual, Less, GreaterEqual, Greater}
 use Rattle.mit_syntax.specs.Chunks.{sign, number, name}
 use Rattle.mit_parser.specs.Words.{Symbol, word, Told, sign_at, head_symbol, first_pos}
-use Rattle.mit_parser.specs.Operators.{Factor, times, over, modulo, factor_sign, factor_of, Addend, plus, minus, addend_sign, addend_of, Comparison, equal, not_equal, less, less_equal, greater, greater_equal, comparison_sign, comparison_of}
-use Rattle.mit_parser.specs.Tree.{Atom, Index, Term, Factors, Sum, Addends, Whole, number_atom, name_atom, paren_atom, no_index, index_of, term_of, no_factor, and_factor, sum_of, no_addend, and_addend, plain, compared, front_atom, front_index, front_term, front_factors, front_sum, front_addends, front_whole}
+use Rattle.mit_parser.specs.Operators.{Factor, times, over, modulo, factor_sign, factor_of, Addend, plus, minus, addend_sign, addend_of, Comparison, equal}
+use Rattle.mit_parser.specs.Operators.{not_equal, less, less_equal, greater, greater_equal, comparison_sign, comparison_of}
+use Rattle.mit_parser.specs.Tree.{Atom, Index, Term, Factors, Sum, Addends, Whole, number_atom, name_atom, paren_atom, no_index, index_of, term_of, no_factor}
+use Rattle.mit_parser.specs.Tree.{and_factor, sum_of, no_addend, and_addend, plain, compared, front_atom, front_index, front_term, front_factors, front_sum}
+use Rattle.mit_parser.specs.Tree.{front_addends, front_whole}
 
 -- how far an expression may go on with a word
 abbrev level : Symbol → ℕ
@@ -208,7 +212,8 @@ mutual
   one_whole (compared a o p t) (compared b u q v) r s h k e =
       let i = comparison_level o in
       let j = comparison_level u in
-      let x = one_sum a b (sign_at (comparison_sign o) p ∷ front_sum t r) (sign_at (comparison_sign u) q ∷ front_sum v s) (omega (arith, i)) (omega (arith, j)) e in
+      let x = one_sum a b (sign_at (comparison_sign o) p ∷ front_sum t r) (sign_at (comparison_sign u) q ∷ front_sum v s)
+          (omega (arith, i)) (omega (arith, j)) e in
       let l : o ≡ u = one_comparison o u (ap head_symbol x.1) in
       let m : p ≡ q = ap first_pos x.1 in
       let y = one_sum t v r s (omega (arith, h)) (omega (arith, k)) (ap rest x.1) in

@@ -5,7 +5,13 @@ use Rattle.mit_syntax.specs.declared.token.Keyword.TheVariants.{Labels, Order, V
 use Rattle.mit_syntax.specs.declared.token.Sign.TheVariants.{Assign, Colon, Semicolon, Comma, RightRound, RightBrace, LeftSquare, RightSquare, At}
 use Rattle.mit_syntax.specs.Chunks.{key, sign, name}
 use Rattle.mit_parser.specs.Words.{Symbol, word, Told, sign_at, key_at, end_at, head_symbol, first_pos}
-use Rattle.mit_parser.specs.Tree.{Whole, AndName, no_name, and_name, Marks, no_marks, marks_of, CommandTree, skip_of, assign_of, sleep_of, if_of, while_of, mitigate_of, Block, block_of, ElsePart, no_else, else_of, Commands, commands_of, More, no_more, and_more, MoreNames, no_more_names, and_more_names, PairTree, pair_of, MorePairs, no_more_pairs, and_pair, Ordering, no_ordering, ordering_of, Header, no_header, header_of, LabelTree, no_label, label_of, Shape, scalar_of, array_of, DeclarationTree, declaration_of, Declarations, no_declarations, and_declaration, ProgramTree, front_whole, front_and_name, front_marks, front_command, front_block, front_else, front_commands, front_more, front_more_names, front_pair, front_more_pairs, front_ordering, front_header, front_label, front_shape, front_declaration, front_declarations, front_program}
+use Rattle.mit_parser.specs.Tree.{Whole, AndName, no_name, and_name, Marks, no_marks, marks_of, CommandTree, skip_of, assign_of, sleep_of, if_of, while_of}
+use Rattle.mit_parser.specs.Tree.{mitigate_of, Block, block_of, ElsePart, no_else, else_of, Commands, commands_of, More, no_more, and_more, MoreNames}
+use Rattle.mit_parser.specs.Tree.{no_more_names, and_more_names, PairTree, pair_of, MorePairs, no_more_pairs, and_pair, Ordering, no_ordering, ordering_of}
+use Rattle.mit_parser.specs.Tree.{Header, no_header, header_of, LabelTree, no_label, label_of, Shape, scalar_of, array_of, DeclarationTree, declaration_of}
+use Rattle.mit_parser.specs.Tree.{Declarations, no_declarations, and_declaration, ProgramTree, front_whole, front_and_name, front_marks, front_command}
+use Rattle.mit_parser.specs.Tree.{front_block, front_else, front_commands, front_more, front_more_names, front_pair, front_more_pairs, front_ordering}
+use Rattle.mit_parser.specs.Tree.{front_header, front_label, front_shape, front_declaration, front_declarations, front_program}
 use Rattle.mit_parser.specs.Spells.{Spells}
 use Rattle.parse_laws.proofs.OneExpression.{lev, name_first, number_first, rest, Same, one_index, one_whole}
 
@@ -100,7 +106,8 @@ pub record SameMarked (x y : Whole) (m n : Marks) (r s : List Told) : Type 0 whe
   pub marks : m ≡ n
   pub rest : r ≡ s
 
-one_marked : (x y : Whole) (m n : Marks) (r s : List Told) → 4 ≤ lev r → 4 ≤ lev s → 1 ≤ tags r → 1 ≤ tags s → front_whole x (front_marks m r) ≡ front_whole y (front_marks n s) → SameMarked x y m n r s
+one_marked : (x y : Whole) (m n : Marks) (r s : List Told) → 4 ≤ lev r → 4 ≤ lev s → 1 ≤ tags r → 1 ≤ tags s
+    → front_whole x (front_marks m r) ≡ front_whole y (front_marks n s) → SameMarked x y m n r s
 one_marked x y m n r s h k i j e =
     let a = one_whole x y (front_marks m r) (front_marks n s) (lev_marks m r h) (lev_marks n s k) e in
     let b = one_marks m n r s i j a.1 in
@@ -128,7 +135,8 @@ mutual
   one_command (assign_of w p x q a m) (assign_of w' p' x' q' a' m') r s h k i j e =
       let e1 : w ≡ w' = ap name_first e in
       let e2 : p ≡ p' = ap first_pos e in
-      let t = one_index x x' (sign_at Assign q ∷ front_whole a (front_marks m r)) (sign_at Assign q' ∷ front_whole a' (front_marks m' s)) (omega arith) (omega arith) (ap rest e) in
+      let t = one_index x x' (sign_at Assign q ∷ front_whole a (front_marks m r)) (sign_at Assign q' ∷ front_whole a' (front_marks m' s))
+          (omega arith) (omega arith) (ap rest e) in
       let e3 : x ≡ x' = t.0 in
       let e4 : q ≡ q' = ap first_pos t.1 in
       let u = one_marked a a' m m' r s h k (omega (arith, i)) (omega (arith, j)) (ap rest t.1) in
@@ -143,7 +151,8 @@ mutual
       (cc, u.rest)
   one_command (if_of p a m q b x) (if_of p' a' m' q' b' x') r s h k i j e =
       let e1 : p ≡ p' = ap first_pos e in
-      let u = one_marked a a' m m' (key_at Then q ∷ front_block b (front_else x r)) (key_at Then q' ∷ front_block b' (front_else x' s)) (omega arith) (omega arith) (omega arith) (omega arith) (ap rest e) in
+      let u = one_marked a a' m m' (key_at Then q ∷ front_block b (front_else x r)) (key_at Then q' ∷ front_block b' (front_else x' s)) (omega arith)
+          (omega arith) (omega arith) (omega arith) (ap rest e) in
       let e2 : a ≡ a' = u.expression in
       let e3 : m ≡ m' = u.marks in
       let e4 : q ≡ q' = ap first_pos u.rest in
@@ -154,7 +163,8 @@ mutual
       (cc, v.1)
   one_command (while_of p a m q b) (while_of p' a' m' q' b') r s h k i j e =
       let e1 : p ≡ p' = ap first_pos e in
-      let u = one_marked a a' m m' (key_at Do q ∷ front_block b r) (key_at Do q' ∷ front_block b' s) (omega arith) (omega arith) (omega arith) (omega arith) (ap rest e) in
+      let u = one_marked a a' m m' (key_at Do q ∷ front_block b r) (key_at Do q' ∷ front_block b' s) (omega arith) (omega arith)
+          (omega arith) (omega arith) (ap rest e) in
       let e2 : a ≡ a' = u.expression in
       let e3 : m ≡ m' = u.marks in
       let e4 : q ≡ q' = ap first_pos u.rest in
@@ -166,7 +176,8 @@ mutual
       let e2 : q ≡ q' = ap (λ z. first_pos (rest z)) e in
       let r1 : List Told = sign_at RightRound u ∷ front_marks m (front_block b r) in
       let s1 : List Told = sign_at RightRound u' ∷ front_marks m' (front_block b' s) in
-      let t = one_whole a a' (front_and_name l r1) (front_and_name l' s1) (lev_and_name l r1 (omega arith)) (lev_and_name l' s1 (omega arith)) (ap (λ z. rest (rest z)) e) in
+      let t = one_whole a a' (front_and_name l r1) (front_and_name l' s1) (lev_and_name l r1 (omega arith)) (lev_and_name l' s1 (omega arith))
+          (ap (λ z. rest (rest z)) e) in
       let e3 : a ≡ a' = t.0 in
       let v = one_and_name l l' r1 s1 (omega arith) (omega arith) t.1 in
       let e4 : l ≡ l' = v.0 in
@@ -299,7 +310,8 @@ one_header (header_of p w q m u x) (header_of p' w' q' m' u' x') r s h k e =
     let e1 : p ≡ p' = ap first_pos e in
     let e2 : w ≡ w' = ap (λ l. name_first (rest l)) e in
     let e3 : q ≡ q' = ap (λ l. first_pos (rest l)) e in
-    let t = one_names m m' (sign_at Semicolon u ∷ front_ordering x r) (sign_at Semicolon u' ∷ front_ordering x' s) (omega arith) (omega arith) (ap (λ l. rest (rest l)) e) in
+    let t = one_names m m' (sign_at Semicolon u ∷ front_ordering x r) (sign_at Semicolon u' ∷ front_ordering x' s) (omega arith) (omega arith)
+        (ap (λ l. rest (rest l)) e) in
     let e4 : m ≡ m' = t.0 in
     let e5 : u ≡ u' = ap first_pos t.1 in
     let v = one_ordering x x' r s h k (ap rest t.1) in
@@ -352,8 +364,10 @@ top_declaration (declaration_of p w q x u) r = refl
 
 one_declarations : (x y : Declarations) (r s : List Told) → 3 ≤ tops r → 3 ≤ tops s → front_declarations x r ≡ front_declarations y s → Same x y r s
 one_declarations no_declarations no_declarations r s h k e = (refl, e)
-one_declarations no_declarations (and_declaration d m) r s h k e = let c = differ tops 3 2 r _ h e (top_declaration d (front_declarations m s)) in absurd (omega (arith, c))
-one_declarations (and_declaration d m) no_declarations r s h k e = let c = differ tops 3 2 s _ k (sym e) (top_declaration d (front_declarations m r)) in absurd (omega (arith, c))
+one_declarations no_declarations (and_declaration d m) r s h k e = let c = differ tops 3 2 r _ h e (top_declaration d (front_declarations m s)) in
+    absurd (omega (arith, c))
+one_declarations (and_declaration d m) no_declarations r s h k e = let c = differ tops 3 2 s _ k (sym e) (top_declaration d (front_declarations m r)) in
+    absurd (omega (arith, c))
 one_declarations (and_declaration d m) (and_declaration f n) r s h k e =
     let t = one_declaration d f (front_declarations m r) (front_declarations n s) e in
     let a : d ≡ f = t.0 in

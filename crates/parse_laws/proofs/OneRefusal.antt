@@ -1,5 +1,6 @@
 -- Words are refused for one reason, want of memory aside.
-use Rattle.std.proofs.Common.{◌≡◌, ◌<◌, ◌≤◌, refl, sym, ap, ◌∙◌, subst, ℕ, List, [], ◌∷◌, ◌++◌, append_assoc, true, Option, Some, ◌⊎◌, inl, inr, ⊎_elim, length, arith}
+use Rattle.std.proofs.Common.{◌≡◌, ◌<◌, ◌≤◌, refl, sym, ap, ◌∙◌, subst, ℕ, List, [], ◌∷◌, ◌++◌, append_assoc, true, Option, Some, ◌⊎◌, inl, inr, ⊎_elim}
+use Rattle.std.proofs.Common.{length, arith}
 use Rattle.std.proofs.lemmas.Option.{none-some}
 use Rattle.text_base.specs.declared.pos.Pos.{Pos}
 use Rattle.label_lattice.specs.declared.label.Label.{Label}
@@ -57,7 +58,8 @@ one_lattice_fault n flows (NoJoin a b) (NoBottom c d) h i = absurd (none_and_fir
 one_lattice_fault n flows (NoJoin a b) (NoJoin c d) h i = same_two NoJoin a b c d (first_is_one n _ a.number b.number c.number d.number h.3 i.3)
 
 -- a fault of labels is one of a lattice
-lattice_fault_is : (labels : List (List ℕ)) (pairs : List (Label × Label)) (f : ParseFault) → IsLatticeFault labels pairs f → (l : LatticeFault) × (f ≡ Lattice l) × IsFault (length labels) (Chain pairs) l
+lattice_fault_is : (labels : List (List ℕ)) (pairs : List (Label × Label)) (f : ParseFault) → IsLatticeFault labels pairs f
+    → (l : LatticeFault) × (f ≡ Lattice l) × IsFault (length labels) (Chain pairs) l
 lattice_fault_is labels pairs (Lattice l) h = (l, refl, h)
 lattice_fault_is labels pairs (Unexpected p) h = absurd h
 lattice_fault_is labels pairs (TooDeep p) h = absurd h

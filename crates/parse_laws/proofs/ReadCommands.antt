@@ -2,8 +2,10 @@
 use Rattle.std.proofs.Common.{◌≡◌, ◌≤◌, ◌<◌, ◌+◌, refl, sym, ap, ◌∙◌, ℕ, zero, suc, List, ◌∷◌, Option, Some, None, arith}
 use Rattle.label_lattice.specs.declared.label.Label.{Label}
 use Rattle.label_lattice.specs.Order.{Order, name_of}
-use Rattle.mit_syntax.specs.declared.token.Keyword.TheVariants.{Skip as SkipKey, If as IfKey, Then, Else, While as WhileKey, Do, Mitigate as MitigateKey, Sleep as SleepKey}
-use Rattle.mit_syntax.specs.declared.token.Sign.TheVariants.{Assign as AssignSign, Semicolon, Comma, LeftRound, RightRound, LeftBrace, RightBrace, LeftSquare, At}
+use Rattle.mit_syntax.specs.declared.token.Keyword.TheVariants.{Skip as SkipKey, If as IfKey, Then, Else, While as WhileKey, Do, Mitigate as MitigateKey}
+use Rattle.mit_syntax.specs.declared.token.Keyword.TheVariants.{Sleep as SleepKey}
+use Rattle.mit_syntax.specs.declared.token.Sign.TheVariants.{Assign as AssignSign, Semicolon, Comma, LeftRound, RightRound, LeftBrace, RightBrace, LeftSquare}
+use Rattle.mit_syntax.specs.declared.token.Sign.TheVariants.{At}
 use Rattle.mit_syntax.specs.Chunks.{Chunk, space}
 use Rattle.mit_syntax.specs.Expression.{Expression}
 use Rattle.mit_syntax.specs.Declarations.{Declaration, cell_at, find_scalar, find_array}
@@ -14,10 +16,13 @@ use Rattle.mit_syntax.specs.Limits.{depth, operators, IsSmall, AreSmall}
 use Rattle.mit_syntax.specs.Layout.{a_sign, spaced, spaced_key, expression_part, marks_part, level_part, indent, new_line, in_braces, after, commands_part}
 use Rattle.mit_parser.specs.declared.fault.ParseFault.{ParseFault}
 use Rattle.mit_parser.specs.Words.{Told, sign_at, key_at, name_at}
-use Rattle.mit_parser.specs.Tree.{Whole, Index, no_index, AndName, no_name, and_name, Marks, no_marks, marks_of, CommandTree, skip_of, assign_of, sleep_of, if_of, while_of, mitigate_of, Block, block_of, else_of, commands_of, More, no_more, and_more, front_whole, front_index, front_and_name, front_marks, front_command, front_block, front_more}
+use Rattle.mit_parser.specs.Tree.{Whole, Index, no_index, AndName, no_name, and_name, Marks, no_marks, marks_of, CommandTree, skip_of, assign_of, sleep_of}
+use Rattle.mit_parser.specs.Tree.{if_of, while_of, mitigate_of, Block, block_of, else_of, commands_of, More, no_more, and_more, front_whole, front_index}
+use Rattle.mit_parser.specs.Tree.{front_and_name, front_marks, front_command, front_block, front_more}
 use Rattle.mit_parser.specs.Limits.{IsWithin, IsIndexWithin, CommandWithin, BlockWithin, MoreWithin}
 use Rattle.mit_parser.specs.Scope.{Scope, find_label, or_else, kept, label_fault}
-use Rattle.mit_parser.specs.Meaning.{label, and_name_value, marks_value, written, assigned, whole_value, next_command, next_block, next_more, plan_command, plan_block, plan_more}
+use Rattle.mit_parser.specs.Meaning.{label, and_name_value, marks_value, written, assigned, whole_value, next_command, next_block, next_more, plan_command}
+use Rattle.mit_parser.specs.Meaning.{plan_block, plan_more}
 use Rattle.mit_parser.specs.Faults.{note_and_name, note_marks, note_command, note_block, note_more}
 use Rattle.parse_laws.specs.ReadBack.{unplaced}
 use Rattle.parse_laws.proofs.Saying.{Says}
@@ -29,7 +34,8 @@ indent_says zero ws q s = s
 indent_says (suc d) ws q s = indent_says d ws q s
 
 -- one after the other changes nothing
-quiet : {f g : Option ParseFault → Option ParseFault} → ((u : Option ParseFault) → f u ≡ u) → ((u : Option ParseFault) → g u ≡ u) → (u : Option ParseFault) → f (g u) ≡ u
+quiet : {f g : Option ParseFault → Option ParseFault} → ((u : Option ParseFault) → f u ≡ u) → ((u : Option ParseFault) → g u ≡ u)
+    → (u : Option ParseFault) → f (g u) ≡ u
 quiet {f} {g} a b u = ap f (b u) ∙ a u
 
 module _ {M L : Type 0} where
@@ -51,14 +57,17 @@ module _ {M L : Type 0} where
   while_same : (m n : M) (e f : Expression) (x y p q : Todo M L) → m ≡ n → e ≡ f → x ≡ y → p ≡ q → While m e x p ≡ While n f y q
   while_same m n e f x y p q a b c d = cc
 
-  mitigate_same : (m n : M) (j k : ℕ) (l h : L) (e f : Expression) (x y p q : Todo M L) → m ≡ n → j ≡ k → l ≡ h → e ≡ f → x ≡ y → p ≡ q → Mitigate m j l e x p ≡ Mitigate n k h f y q
+  mitigate_same : (m n : M) (j k : ℕ) (l h : L) (e f : Expression) (x y p q : Todo M L) → m ≡ n → j ≡ k → l ≡ h → e ≡ f → x ≡ y → p ≡ q
+      → Mitigate m j l e x p ≡ Mitigate n k h f y q
   mitigate_same m n j k l h e f x y p q a b c d g i = cc
 
 -- a command and those behind it
 abbrev pub front_list : CommandTree × More → List Told → List Told
 front_list t r = front_command t.0 (front_more t.1 r)
 
-module _ (o : Order) (ds : List Declaration) (label_found : (n : ℕ) → n < o.size → find_label o.names (name_of o n) ≡ Some n) (scalar_found : (x : ℕ) → IsScalar ds x → find_scalar ds (cell_at ds x).name ≡ Some x) (array_found : (f n : ℕ) → IsDeclaredArray ds f n → find_array ds (cell_at ds f).name ≡ Some (f, n)) where
+module _ (o : Order) (ds : List Declaration) (label_found : (n : ℕ) → n < o.size → find_label o.names (name_of o n) ≡ Some n) (scalar_found : (x : ℕ)
+    → IsScalar ds x → find_scalar ds (cell_at ds x).name ≡ Some x) (array_found : (f n : ℕ) → IsDeclaredArray ds f n
+    → find_array ds (cell_at ds f).name ≡ Some (f, n)) where
   abbrev sc : Scope
   sc = record { labels = o.names; declarations = ds }
 
@@ -81,8 +90,10 @@ module _ (o : Order) (ds : List Declaration) (label_found : (n : ℕ) → n < o.
             (c.2 ∙ ap (λ l. sign_at Comma c.0 ∷ l) (d.2 ∙ ap (λ l. name_at (name_of o m.1.number) d.0 ∷ l) e.2))));
         says = e.3;
         is = record {
-          value = ap (λ (x : Label). Some (x, label o.names (name_of o m.1.number))) (number_is o label_found m.0 h.0) ∙ ap (λ (x : Label). Some (m.0, x)) (number_is o label_found m.1 h.1);
-          calm = λ u. ap (λ v. kept v (label_fault o.names (name_of o m.1.number) d.0)) (label_calm o label_found m.0 h.0 b.0 u) ∙ label_calm o label_found m.1 h.1 d.0 u;
+          value = ap (λ (x : Label). Some (x, label o.names (name_of o m.1.number))) (number_is o label_found m.0 h.0)
+              ∙ ap (λ (x : Label). Some (m.0, x)) (number_is o label_found m.1 h.1);
+          calm = λ u. ap (λ v. kept v (label_fault o.names (name_of o m.1.number) d.0)) (label_calm o label_found m.0 h.0 b.0 u)
+              ∙ label_calm o label_found m.1 h.1 d.0 u;
         };
       }
 
@@ -142,7 +153,8 @@ module _ (o : Order) (ds : List Declaration) (label_found : (n : ℕ) → n < o.
     pub next : next_block t k ≡ k + mitigates r
 
   module _ (r : Plan) (d k : ℕ) where
-    more_reader : Reader front_list (AreList d k r) (commands_part o ds d r) → Reader front_more (AreMore d k r) (λ q. a_sign Semicolon (new_line d (commands_part o ds d r q)))
+    more_reader : Reader front_list (AreList d k r) (commands_part o ds d r)
+        → Reader front_more (AreMore d k r) (λ q. a_sign Semicolon (new_line d (commands_part o ds d r q)))
     more_reader f ws q s =
         let a = f s.1 q (indent_says d s.1 (commands_part o ds d r q) s.3) in
         record {
@@ -153,7 +165,8 @@ module _ (o : Order) (ds : List Declaration) (label_found : (n : ℕ) → n < o.
           is = record { read = a.is.read; plan = a.is.plan; same = a.is.same; within = a.is.within; calm = a.is.calm; next = a.is.next };
         }
 
-    block_reader : d + 1 ≤ 100 → Reader front_list (AreList (d + 1) k r) (commands_part o ds (d + 1) r) → Reader front_block (IsBlock d k r) (in_braces d (commands_part o ds (d + 1) r))
+    block_reader : d + 1 ≤ 100 → Reader front_list (AreList (d + 1) k r) (commands_part o ds (d + 1) r)
+        → Reader front_block (IsBlock d k r) (in_braces d (commands_part o ds (d + 1) r))
     block_reader h f ws q s =
         let q1 : List Chunk = new_line d (a_sign RightBrace q) in
         let a = f s.1 q1 (indent_says (d + 1) s.1 (commands_part o ds (d + 1) r q1) s.3) in
@@ -175,7 +188,8 @@ module _ (o : Order) (ds : List Declaration) (label_found : (n : ℕ) → n < o.
   plan_reads Done d k h g m =
       record {
         first = λ s. absurd s;
-        more = λ ws q s. record { tree = no_more; rest = ws; are = refl; says = s; is = record { read = Done; plan = refl; same = refl; within = tt; calm = λ u. refl; next = omega arith } };
+        more = λ ws q s. record { tree = no_more; rest = ws; are = refl; says = s; is =
+            record { read = Done; plan = refl; same = refl; within = tt; calm = λ u. refl; next = omega arith } };
       }
   plan_reads (Skip wr r) d k h g m =
       let f : Reader front_list (AreList d k (Skip wr r)) (commands_part o ds d (Skip wr r)) =
@@ -190,7 +204,8 @@ module _ (o : Order) (ds : List Declaration) (label_found : (n : ℕ) → n < o.
         says = R.says;
         is = record {
           read = Skip (record { pos = s.0; labels = wr.labels }) R.is.read;
-          plan = skip_same (written sc s.0 y.tree) (record { pos = s.0; labels = wr.labels }) _ _ (ap (λ x. record { pos = s.0; labels = x }) y.is.value) R.is.plan;
+          plan = skip_same (written sc s.0 y.tree) (record { pos = s.0; labels = wr.labels }) _ _
+              (ap (λ x. record { pos = s.0; labels = x }) y.is.value) R.is.plan;
           same = skip_same wr.labels wr.labels _ _ refl R.is.same;
           within = (tt, R.is.within);
           calm = quiet R.is.calm y.is.calm;
@@ -210,11 +225,13 @@ module _ (o : Order) (ds : List Declaration) (label_found : (n : ℕ) → n < o.
       record {
         tree = (assign_of w s.0 no_index a.0 x.tree y.tree, R.tree);
         rest = R.rest;
-        are = s.2 ∙ ap (λ z. name_at w s.0 ∷ z) (a.2 ∙ ap (λ z. sign_at AssignSign a.0 ∷ z) (x.are ∙ ap (front_whole x.tree) (y.are ∙ ap (front_marks y.tree) R.are)));
+        are = s.2 ∙ ap (λ z. name_at w s.0 ∷ z)
+            (a.2 ∙ ap (λ z. sign_at AssignSign a.0 ∷ z) (x.are ∙ ap (front_whole x.tree) (y.are ∙ ap (front_marks y.tree) R.are)));
         says = R.says;
         is = record {
           read = Assign (record { pos = s.0; labels = wr.labels }) v e R.is.read;
-          plan = assign_same (written sc s.0 y.tree) (record { pos = s.0; labels = wr.labels }) _ _ _ _ _ _ (ap (λ x. record { pos = s.0; labels = x }) y.is.value) (ap (or_else 0) (scalar_found v h.1)) x.is.value R.is.plan;
+          plan = assign_same (written sc s.0 y.tree) (record { pos = s.0; labels = wr.labels }) _ _ _ _ _ _
+              (ap (λ x. record { pos = s.0; labels = x }) y.is.value) (ap (or_else 0) (scalar_found v h.1)) x.is.value R.is.plan;
           same = assign_same wr.labels wr.labels v v e e _ _ refl refl refl R.is.same;
           within = ((tt, within d e x.tree m.0 x.is), R.is.within);
           calm = quiet R.is.calm (quiet y.is.calm (quiet x.is.calm (λ u. scalar_calm o.names ds scalar_found array_found v h.1 s.0 u)));
@@ -227,7 +244,8 @@ module _ (o : Order) (ds : List Declaration) (label_found : (n : ℕ) → n < o.
       λ ws q s.
       let q1 : List Chunk = after d r (commands_part o ds d r) q in
       let q2 : List Chunk = expression_part ds 1 e (marks_part o wr.labels q1) in
-      let i = index_reader sc (expression_part ds 1 j) j (depth 1 j) (operators j) (reads o.names ds scalar_found array_found j h.2).whole s.1 (spaced AssignSign q2) s.3 in
+      let i = index_reader sc (expression_part ds 1 j) j (depth 1 j) (operators j) (reads o.names ds scalar_found array_found j h.2).whole s.1
+          (spaced AssignSign q2) s.3 in
       let a = i.says in
       let x = (reads o.names ds scalar_found array_found e h.3).whole a.1 (marks_part o wr.labels q1) a.3 in
       let y = marks_reader wr.labels h.0 x.rest q1 x.says in
@@ -236,16 +254,21 @@ module _ (o : Order) (ds : List Declaration) (label_found : (n : ℕ) → n < o.
       record {
         tree = (assign_of w s.0 i.tree a.0 x.tree y.tree, R.tree);
         rest = R.rest;
-        are = s.2 ∙ ap (λ z. name_at w s.0 ∷ z) (i.are ∙ ap (front_index i.tree) (a.2 ∙ ap (λ z. sign_at AssignSign a.0 ∷ z) (x.are ∙ ap (front_whole x.tree) (y.are ∙ ap (front_marks y.tree) R.are))));
+        are = s.2 ∙ ap (λ z. name_at w s.0 ∷ z)
+            (i.are ∙ ap (front_index i.tree)
+            (a.2 ∙ ap (λ z. sign_at AssignSign a.0 ∷ z) (x.are ∙ ap (front_whole x.tree) (y.are ∙ ap (front_marks y.tree) R.are))));
         says = R.says;
         is = record {
           read = Put (record { pos = s.0; labels = wr.labels }) v n j e R.is.read;
           plan = ap (λ z. assigned sc (written sc s.0 y.tree) w z (whole_value sc x.tree) (plan_more sc k R.tree)) i.is.value
-              ∙ put_same (written sc s.0 y.tree) (record { pos = s.0; labels = wr.labels }) _ _ _ _ _ _ _ _ _ _ (ap (λ x. record { pos = s.0; labels = x }) y.is.value)
-              (ap (λ (z : Option (ℕ × ℕ)). (or_else {A = ℕ × ℕ} (0, 0) z).0) (array_found v n h.1)) (ap (λ (z : Option (ℕ × ℕ)). (or_else {A = ℕ × ℕ} (0, 0) z).1) (array_found v n h.1)) refl x.is.value R.is.plan;
+              ∙ put_same (written sc s.0 y.tree) (record { pos = s.0; labels = wr.labels }) _ _ _ _ _ _ _ _ _ _
+                  (ap (λ x. record { pos = s.0; labels = x }) y.is.value)
+              (ap (λ (z : Option (ℕ × ℕ)). (or_else {A = ℕ × ℕ} (0, 0) z).0) (array_found v n h.1))
+                  (ap (λ (z : Option (ℕ × ℕ)). (or_else {A = ℕ × ℕ} (0, 0) z).1) (array_found v n h.1)) refl x.is.value R.is.plan;
           same = put_same wr.labels wr.labels v v n n j j e e _ _ refl refl refl refl refl R.is.same;
           within = ((index_within d j i.tree m.0 i.is, within d e x.tree m.1 x.is), R.is.within);
-          calm = quiet R.is.calm (quiet y.is.calm (quiet x.is.calm (quiet i.is.calm (λ u. ap (kept u) (i.is.used w s.0) ∙ array_calm o.names ds scalar_found array_found v n h.1 s.0 u))));
+          calm = quiet R.is.calm (quiet y.is.calm
+              (quiet x.is.calm (quiet i.is.calm (λ u. ap (kept u) (i.is.used w s.0) ∙ array_calm o.names ds scalar_found array_found v n h.1 s.0 u))));
           next = R.is.next;
         };
       } in
@@ -264,7 +287,8 @@ module _ (o : Order) (ds : List Declaration) (label_found : (n : ℕ) → n < o.
         says = R.says;
         is = record {
           read = Sleep (record { pos = s.0; labels = wr.labels }) e R.is.read;
-          plan = sleep_same (written sc s.0 y.tree) (record { pos = s.0; labels = wr.labels }) _ _ _ _ (ap (λ x. record { pos = s.0; labels = x }) y.is.value) x.is.value R.is.plan;
+          plan = sleep_same (written sc s.0 y.tree) (record { pos = s.0; labels = wr.labels }) _ _ _ _
+              (ap (λ x. record { pos = s.0; labels = x }) y.is.value) x.is.value R.is.plan;
           same = sleep_same wr.labels wr.labels e e _ _ refl refl R.is.same;
           within = (within d e x.tree m.0 x.is, R.is.within);
           calm = quiet R.is.calm (quiet y.is.calm x.is.calm);
@@ -293,12 +317,14 @@ module _ (o : Order) (ds : List Declaration) (label_found : (n : ℕ) → n < o.
       record {
         tree = (if_of s.0 x.tree y.tree t.0 A.tree (else_of v.0 B.tree), R.tree);
         rest = R.rest;
-        are = s.2 ∙ ap (λ z. key_at IfKey s.0 ∷ z) (x.are ∙ ap (front_whole x.tree) (y.are ∙ ap (front_marks y.tree) (t.2 ∙ ap (λ z. key_at Then t.0 ∷ z) (A.are ∙ ap (front_block A.tree)
+        are = s.2 ∙ ap (λ z. key_at IfKey s.0 ∷ z)
+            (x.are ∙ ap (front_whole x.tree) (y.are ∙ ap (front_marks y.tree) (t.2 ∙ ap (λ z. key_at Then t.0 ∷ z) (A.are ∙ ap (front_block A.tree)
             (v.2 ∙ ap (λ z. key_at Else v.0 ∷ z) (B.are ∙ ap (front_block B.tree) R.are))))));
         says = R.says;
         is = record {
           read = If (record { pos = s.0; labels = wr.labels }) e A.is.read B.is.read R.is.read;
-          plan = if_same (written sc s.0 y.tree) (record { pos = s.0; labels = wr.labels }) _ _ _ _ _ _ _ _ (ap (λ x. record { pos = s.0; labels = x }) y.is.value) x.is.value A.is.plan
+          plan = if_same (written sc s.0 y.tree) (record { pos = s.0; labels = wr.labels }) _ _ _ _ _ _ _ _
+              (ap (λ x. record { pos = s.0; labels = x }) y.is.value) x.is.value A.is.plan
               (ap (λ z. plan_block sc z B.tree) A.is.next ∙ B.is.plan) (ap (λ z. plan_more sc z R.tree) next ∙ R.is.plan);
           same = if_same wr.labels wr.labels e e _ _ _ _ _ _ refl refl A.is.same B.is.same R.is.same;
           within = ((within d e x.tree m.0 x.is, A.is.within, B.is.within), R.is.within);
@@ -323,11 +349,13 @@ module _ (o : Order) (ds : List Declaration) (label_found : (n : ℕ) → n < o.
       record {
         tree = (while_of s.0 x.tree y.tree t.0 A.tree, R.tree);
         rest = R.rest;
-        are = s.2 ∙ ap (λ z. key_at WhileKey s.0 ∷ z) (x.are ∙ ap (front_whole x.tree) (y.are ∙ ap (front_marks y.tree) (t.2 ∙ ap (λ z. key_at Do t.0 ∷ z) (A.are ∙ ap (front_block A.tree) R.are))));
+        are = s.2 ∙ ap (λ z. key_at WhileKey s.0 ∷ z)
+            (x.are ∙ ap (front_whole x.tree) (y.are ∙ ap (front_marks y.tree) (t.2 ∙ ap (λ z. key_at Do t.0 ∷ z) (A.are ∙ ap (front_block A.tree) R.are))));
         says = R.says;
         is = record {
           read = While (record { pos = s.0; labels = wr.labels }) e A.is.read R.is.read;
-          plan = while_same (written sc s.0 y.tree) (record { pos = s.0; labels = wr.labels }) _ _ _ _ _ _ (ap (λ x. record { pos = s.0; labels = x }) y.is.value) x.is.value A.is.plan
+          plan = while_same (written sc s.0 y.tree) (record { pos = s.0; labels = wr.labels }) _ _ _ _ _ _
+              (ap (λ x. record { pos = s.0; labels = x }) y.is.value) x.is.value A.is.plan
               (ap (λ z. plan_more sc z R.tree) A.is.next ∙ R.is.plan);
           same = while_same wr.labels wr.labels e e _ _ _ _ refl refl A.is.same R.is.same;
           within = ((within d e x.tree m.0 x.is, A.is.within), R.is.within);
@@ -355,12 +383,14 @@ module _ (o : Order) (ds : List Declaration) (label_found : (n : ℕ) → n < o.
       record {
         tree = (mitigate_of s.0 b.0 x.tree v.tree t.0 y.tree A.tree, R.tree);
         rest = R.rest;
-        are = s.2 ∙ ap (λ z. key_at MitigateKey s.0 ∷ z) (b.2 ∙ ap (λ z. sign_at LeftRound b.0 ∷ z) (x.are ∙ ap (front_whole x.tree) (v.are ∙ ap (front_and_name v.tree)
+        are = s.2 ∙ ap (λ z. key_at MitigateKey s.0 ∷ z)
+            (b.2 ∙ ap (λ z. sign_at LeftRound b.0 ∷ z) (x.are ∙ ap (front_whole x.tree) (v.are ∙ ap (front_and_name v.tree)
             (t.2 ∙ ap (λ z. sign_at RightRound t.0 ∷ z) (y.are ∙ ap (front_marks y.tree) (A.are ∙ ap (front_block A.tree) R.are))))));
         says = R.says;
         is = record {
           read = Mitigate (record { pos = s.0; labels = wr.labels }) j w e A.is.read R.is.read;
-          plan = mitigate_same (written sc s.0 y.tree) (record { pos = s.0; labels = wr.labels }) _ _ _ _ _ _ _ _ _ _ (ap (λ x. record { pos = s.0; labels = x }) y.is.value) (sym g.0) v.is.value x.is.value A.is.plan
+          plan = mitigate_same (written sc s.0 y.tree) (record { pos = s.0; labels = wr.labels }) _ _ _ _ _ _ _ _ _ _
+              (ap (λ x. record { pos = s.0; labels = x }) y.is.value) (sym g.0) v.is.value x.is.value A.is.plan
               (ap (λ z. plan_more sc z R.tree) A.is.next ∙ R.is.plan);
           same = mitigate_same wr.labels wr.labels j j w w e e _ _ _ _ refl refl refl refl A.is.same R.is.same;
           within = ((within (d + 1) e x.tree m.0 x.is, A.is.within), R.is.within);

@@ -1,5 +1,6 @@
 -- The words of a printed header and of printed declarations are those of trees that mean them.
-use Rattle.std.proofs.Common.{◌≡◌, ◌≤◌, ◌<◌, ◌+◌, refl, sym, ap, ◌∙◌, subst, ℕ, List, [], ◌∷◌, ◌++◌, append_assoc, length, false, ◌==◌, ◌||◌, Option, Some, None, arith}
+use Rattle.std.proofs.Common.{◌≡◌, ◌≤◌, ◌<◌, ◌+◌, refl, sym, ap, ◌∙◌, subst, ℕ, List, [], ◌∷◌, ◌++◌, append_assoc, length, false, ◌==◌, ◌||◌, Option, Some}
+use Rattle.std.proofs.Common.{None, arith}
 use Rattle.std.specs.Prelude.{is_some, cond, ltb, map, pos}
 use Rattle.std.proofs.lemmas.List.{append-nil, map-append}
 use Rattle.text_base.specs.declared.pos.Pos.{Pos}
@@ -14,16 +15,22 @@ use Rattle.mit_syntax.specs.Layout.{a_name, listed, more_listed, end_line, pair_
 use Rattle.mit_parser.specs.declared.fault.ParseFault.{ParseFault}
 use Rattle.mit_parser.specs.declared.fault.ParseFault.TheVariants.{Unknown, Twice, Size}
 use Rattle.mit_parser.specs.Words.{word, sign_at, key_at, name_at}
-use Rattle.mit_parser.specs.Tree.{no_more_names, and_more_names, PairTree, pair_of, MorePairs, no_more_pairs, and_pair, Ordering, no_ordering, ordering_of, Header, header_of, no_label, label_of, scalar_of, array_of, DeclarationTree, declaration_of, no_declarations, and_declaration, front_more_names, front_pair, front_more_pairs, front_ordering, front_header, front_declaration, front_declarations}
+use Rattle.mit_parser.specs.Tree.{no_more_names, and_more_names, PairTree, pair_of, MorePairs, no_more_pairs, and_pair, Ordering, no_ordering, ordering_of}
+use Rattle.mit_parser.specs.Tree.{Header, header_of, no_label, label_of, scalar_of, array_of, DeclarationTree, declaration_of, no_declarations}
+use Rattle.mit_parser.specs.Tree.{and_declaration, front_more_names, front_pair, front_more_pairs, front_ordering, front_header, front_declaration}
+use Rattle.mit_parser.specs.Tree.{front_declarations}
 use Rattle.mit_parser.specs.Scope.{find_label, as_label, or_else, kept, label_fault}
-use Rattle.mit_parser.specs.Faults.{Labelled, labelled, add_label, add_labels, header_labels, pair_numbers, more_numbers, ordering_numbers, as_labels, header_pairs, note_pair, note_more_pairs, note_ordering, header_fault, length_fault, twice_fault, decl_of, declaring, added, declare, declare_all}
+use Rattle.mit_parser.specs.Faults.{Labelled, labelled, add_label, add_labels, header_labels, pair_numbers, more_numbers, ordering_numbers, as_labels}
+use Rattle.mit_parser.specs.Faults.{header_pairs, note_pair, note_more_pairs, note_ordering, header_fault, length_fault, twice_fault, decl_of, declaring}
+use Rattle.mit_parser.specs.Faults.{added, declare, declare_all}
 use Rattle.parse_laws.proofs.Saying.{Says}
 use Rattle.parse_laws.proofs.Parted.{Every}
 use Rattle.mit_parser.proofs.Lookup.{found_none, apart_before, absent}
 use Rattle.parse_laws.proofs.ReadExpression.{Reader, kept_none}
 
 -- names behind others are added to them
-names_reader : (done xs : List (List ℕ)) → AllDiffer (done ++ xs) → Reader front_more_names (λ t. add_labels t (labelled done None) ≡ labelled (done ++ xs) None) (more_listed a_name xs)
+names_reader : (done xs : List (List ℕ)) → AllDiffer (done ++ xs)
+    → Reader front_more_names (λ t. add_labels t (labelled done None) ≡ labelled (done ++ xs) None) (more_listed a_name xs)
 names_reader done [] h ws q s = record { tree = no_more_names; rest = ws; are = refl; says = s; is = ap (λ z. labelled z None) (sym (append-nil done)) }
 names_reader done (x ∷ xs) h ws q s =
     let a = s.3 in
@@ -58,7 +65,8 @@ elements_more (x ∷ done) d = let h = elements_more done d in omega (arith, h)
 abbrev names_of : List Declaration → List (List ℕ)
 names_of ds = map (λ (d : Declaration). d.0) ds
 
-pub are_new : (n : ℕ) (done ds : List Declaration) → AllDiffer (names_of (done ++ ds)) → Every (λ (d : Declaration). IsBelow n d.1.label × IsShaped d.1.label d.1.length) ds → elements_in done + elements_in ds ≤ 2048 → AreNew n done ds
+pub are_new : (n : ℕ) (done ds : List Declaration) → AllDiffer (names_of (done ++ ds))
+    → Every (λ (d : Declaration). IsBelow n d.1.label × IsShaped d.1.label d.1.length) ds → elements_in done + elements_in ds ≤ 2048 → AreNew n done ds
 are_new n done [] h k f = tt
 are_new n done (d ∷ ds) h k f =
     let grouped : (done ++ d ∷ []) ++ ds ≡ done ++ d ∷ ds = append_assoc done (d ∷ []) ds in
@@ -104,7 +112,8 @@ module _ (o : Order) (label_found : (n : ℕ) → n < o.size → find_label o.na
         are = s.2 ∙ ap (λ l. name_at (name_of o p.0.number) s.0 ∷ l) (a.2 ∙ ap (λ l. sign_at Less a.0 ∷ l) b.2);
         says = b.3;
         is = record {
-          value = ap (λ (x : Label). (x, as_label (or_else 0 (find_label o.names (name_of o p.1.number))))) (number_is p.0 h.0) ∙ ap (λ (x : Label). (p.0, x)) (number_is p.1 h.1);
+          value = ap (λ (x : Label). (x, as_label (or_else 0 (find_label o.names (name_of o p.1.number))))) (number_is p.0 h.0)
+              ∙ ap (λ (x : Label). (p.0, x)) (number_is p.1 h.1);
           calm = λ u. ap (λ z. kept z (label_fault o.names (name_of o p.1.number) b.0)) (label_calm p.0 h.0 s.0 u) ∙ label_calm p.1 h.1 b.0 u;
         };
       }
@@ -156,7 +165,8 @@ module _ (o : Order) (label_found : (n : ℕ) → n < o.size → find_label o.na
     pub pairs : header_pairs t ≡ ps
     pub calm : header_fault t ≡ None
 
-  header_by : (w : List ℕ) (xs : List (List ℕ)) → o.names ≡ w ∷ xs → AllDiffer o.names → (ps : List (Label × Label)) → Every Below ps → Reader front_header (IsHeader ps) (λ q. labels_part o (order_part o ps q))
+  header_by : (w : List ℕ) (xs : List (List ℕ)) → o.names ≡ w ∷ xs → AllDiffer o.names → (ps : List (Label × Label)) → Every Below ps
+      → Reader front_header (IsHeader ps) (λ q. labels_part o (order_part o ps q))
   header_by w xs e h ps k ws q s =
       let q1 : List Chunk = order_part o ps q in
       let t : Says s.1 (listed a_name (w ∷ xs) (end_line q1)) = subst (λ z. Says s.1 (listed a_name z (end_line q1))) e s.3 in
@@ -167,7 +177,8 @@ module _ (o : Order) (label_found : (n : ℕ) → n < o.size → find_label o.na
       record {
         tree = header_of s.0 w t.0 a.tree z.0 r.tree;
         rest = r.rest;
-        are = s.2 ∙ ap (λ l. key_at Labels s.0 ∷ l) (t.2 ∙ ap (λ l. name_at w t.0 ∷ l) (a.are ∙ ap (front_more_names a.tree) (z.2 ∙ ap (λ l. sign_at Semicolon z.0 ∷ l) r.are)));
+        are = s.2 ∙ ap (λ l. key_at Labels s.0 ∷ l)
+            (t.2 ∙ ap (λ l. name_at w t.0 ∷ l) (a.are ∙ ap (front_more_names a.tree) (z.2 ∙ ap (λ l. sign_at Semicolon z.0 ∷ l) r.are)));
         says = r.says;
         is = record {
           labels = labels;
@@ -176,7 +187,8 @@ module _ (o : Order) (label_found : (n : ℕ) → n < o.size → find_label o.na
         };
       }
 
-  pub header_reader : 0 < length o.names → AllDiffer o.names → (ps : List (Label × Label)) → Every Below ps → Reader front_header (IsHeader ps) (λ q. labels_part o (order_part o ps q))
+  pub header_reader : 0 < length o.names → AllDiffer o.names → (ps : List (Label × Label)) → Every Below ps
+      → Reader front_header (IsHeader ps) (λ q. labels_part o (order_part o ps q))
   header_reader n h ps k = by o.names refl n
     where
       by : (l : List (List ℕ)) → o.names ≡ l → 0 < length l → Reader front_header (IsHeader ps) (λ q. labels_part o (order_part o ps q))
@@ -214,9 +226,11 @@ module _ (o : Order) (label_found : (n : ℕ) → n < o.size → find_label o.na
       record {
         tree = declaration_of s.0 w a.0 (scalar_of (label_of b.0 v c.0)) z.0;
         rest = z.1;
-        are = s.2 ∙ ap (λ l. key_at Var s.0 ∷ l) (a.2 ∙ ap (λ l. name_at w a.0 ∷ l) (b.2 ∙ ap (λ l. sign_at Colon b.0 ∷ l) (c.2 ∙ ap (λ l. name_at v c.0 ∷ l) z.2)));
+        are = s.2 ∙ ap (λ l. key_at Var s.0 ∷ l)
+            (a.2 ∙ ap (λ l. name_at w a.0 ∷ l) (b.2 ∙ ap (λ l. sign_at Colon b.0 ∷ l) (c.2 ∙ ap (λ l. name_at v c.0 ∷ l) z.2)));
         says = z.3;
-        is = ap (added done (w, decl_of o.names (Some (v, c.0)) None)) (none_kept (twice_fault done w a.0) None (label_fault o.names v c.0) (no_twice done w a.0 h.fresh) refl (no_label_fault l h.label c.0))
+        is = ap (added done (w, decl_of o.names (Some (v, c.0)) None))
+            (none_kept (twice_fault done w a.0) None (label_fault o.names v c.0) (no_twice done w a.0 h.fresh) refl (no_label_fault l h.label c.0))
             ∙ ap (λ (x : Label). declaring (done ++ (w, record { label = Some x; length = None }) ∷ []) None) (number_is l h.label);
       }
   declaration_by done w None (Some n) h ws q s = absurd h.shape
@@ -233,15 +247,21 @@ module _ (o : Order) (label_found : (n : ℕ) → n < o.size → find_label o.na
       record {
         tree = declaration_of s.0 w a.0 (array_of b.0 (pos n) c.0 d.0 e.0 v f.0) z.0;
         rest = z.1;
-        are = s.2 ∙ ap (λ l. key_at Var s.0 ∷ l) (a.2 ∙ ap (λ l. name_at w a.0 ∷ l) (b.2 ∙ ap (λ l. sign_at LeftSquare b.0 ∷ l) (c.2 ∙ ap (λ l. record { symbol = word (number (pos n)); pos = c.0 } ∷ l)
+        are = s.2 ∙ ap (λ l. key_at Var s.0 ∷ l)
+            (a.2 ∙ ap (λ l. name_at w a.0 ∷ l)
+            (b.2 ∙ ap (λ l. sign_at LeftSquare b.0 ∷ l) (c.2 ∙ ap (λ l. record { symbol = word (number (pos n)); pos = c.0 } ∷ l)
             (d.2 ∙ ap (λ l. sign_at RightSquare d.0 ∷ l) (e.2 ∙ ap (λ l. sign_at Colon e.0 ∷ l) (f.2 ∙ ap (λ l. name_at v f.0 ∷ l) z.2))))));
         says = z.3;
-        is = ap (added done (w, decl_of o.names (Some (v, f.0)) (Some (pos n, c.0)))) (none_kept (twice_fault done w a.0) (length_fault done (Some (pos n, c.0))) (label_fault o.names v f.0) (no_twice done w a.0 h.fresh) size (no_label_fault l h.label f.0))
+        is = ap (added done (w, decl_of o.names (Some (v, f.0)) (Some (pos n, c.0))))
+            (none_kept (twice_fault done w a.0) (length_fault done (Some (pos n, c.0))) (label_fault o.names v f.0) (no_twice done w a.0 h.fresh) size
+            (no_label_fault l h.label f.0))
             ∙ ap (λ (x : Label). declaring (done ++ (w, record { label = Some x; length = Some n }) ∷ []) None) (number_is l h.label);
       }
 
-  pub declarations_reader : (done ds : List Declaration) → AreNew o.size done ds → Reader front_declarations (λ t. declare_all o.names t (declaring done None) ≡ declaring (done ++ ds) None) (declarations_part o ds)
-  declarations_reader done [] h ws q s = record { tree = no_declarations; rest = ws; are = refl; says = s; is = ap (λ z. declaring z None) (sym (append-nil done)) }
+  pub declarations_reader : (done ds : List Declaration) → AreNew o.size done ds
+      → Reader front_declarations (λ t. declare_all o.names t (declaring done None) ≡ declaring (done ++ ds) None) (declarations_part o ds)
+  declarations_reader done [] h ws q s =
+      record { tree = no_declarations; rest = ws; are = refl; says = s; is = ap (λ z. declaring z None) (sym (append-nil done)) }
   declarations_reader done (d ∷ ds) h ws q s =
       let a = declaration_by done d.0 d.1.label d.1.length h.0 ws (declarations_part o ds q) s in
       let r = declarations_reader (done ++ d ∷ []) ds h.1 a.rest q a.says in

@@ -33,7 +33,8 @@ no_fault n flows s (Cycle a b) h = s.no_cycle a.number b.number h.1.ordered h.1.
 no_fault n flows s (NoBottom a b) h = s.one_lowest a.number b.number h.2.ordered h.2.within h.2.holds
 no_fault n flows s (NoJoin a b) h = s.joined a.number b.number h.3.ordered h.3.within h.3.holds
 
-pub no_lattice_fault : (labels : List (List ℕ)) (pairs : List (Label × Label)) → IsSound (length labels) (Chain pairs) → (f : ParseFault) → IsLatticeFault labels pairs f → ⊥
+pub no_lattice_fault : (labels : List (List ℕ)) (pairs : List (Label × Label)) → IsSound (length labels) (Chain pairs) → (f : ParseFault)
+    → IsLatticeFault labels pairs f → ⊥
 no_lattice_fault labels pairs s (Lattice l) h = no_fault (length labels) (Chain pairs) s l h
 no_lattice_fault labels pairs s (Unexpected p) h = h
 no_lattice_fault labels pairs s (TooDeep p) h = h

@@ -44,7 +44,8 @@ says_told t (token w ∷ q) [] p e = absurd (cc)
 says_told t (token w ∷ q) (x ∷ ts) p e =
     let here : (x.kind, token_bytes t x) ≡ (word_kind w, word_text w) = ap (λ l. first l (word_kind w, word_text w)) e in
     let said : symbol_of x.kind (token_bytes t x) ≡ word w = ap (λ (y : Said). symbol_of y.0 y.1) here ∙ told_word w in
-    (x.pos, told t (ts ++ end_token p ∷ []), ap (λ s. record { symbol = s; pos = x.pos } ∷ told t (ts ++ end_token p ∷ [])) said, says_told t q ts p (ap others e))
+    (x.pos, told t (ts ++ end_token p ∷ []), ap (λ s. record { symbol = s; pos = x.pos } ∷ told t (ts ++ end_token p ∷ [])) said,
+        says_told t q ts p (ap others e))
 
 -- the tokens of the text of such chunks say them
 pub record AreSaid (q : List Chunk) : Type 0 where
@@ -56,6 +57,7 @@ pub are_said : (q : List Chunk) → Apart q → AreSaid q
 are_said q h =
     record {
       tokens = tokens_of start (pieces q) ++ end_token (moved start (text q)) ∷ [];
-      are = subst (λ t. AreTokens t (tokens_of start (pieces q) ++ end_token (moved start t) ∷ [])) (spread_text q) (plain_tokens (pieces q) (cut q h) (plain q));
+      are = subst (λ t. AreTokens t (tokens_of start (pieces q) ++ end_token (moved start t) ∷ [])) (spread_text q)
+          (plain_tokens (pieces q) (cut q h) (plain q));
       says = says_told (text q) q (tokens_of start (pieces q)) (moved start (text q)) (spelled_whole (text q) (pieces q) (sym (spread_text q)));
     }

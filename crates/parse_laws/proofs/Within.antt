@@ -5,7 +5,13 @@ use Rattle.mit_syntax.specs.declared.token.Sign.TheVariants.{Assign, Semicolon, 
 use Rattle.mit_parser.specs.Words.{Told, sign_at, key_at, end_at}
 use Rattle.mit_parser.specs.Counting.{nothing_yet, is_over, Fits}
 use Rattle.mit_parser.specs.Limits.{whole_size, IsWithin, IsIndexWithin, CommandWithin, BlockWithin, ElseWithin, CommandsWithin, MoreWithin}
-use Rattle.mit_parser.specs.Tree.{Index, Whole, no_index, index_of, AndName, no_name, and_name, Marks, no_marks, marks_of, CommandTree, skip_of, assign_of, sleep_of, if_of, while_of, mitigate_of, Block, block_of, ElsePart, no_else, else_of, Commands, commands_of, More, no_more, and_more, MoreNames, no_more_names, and_more_names, pair_of, MorePairs, no_more_pairs, and_pair, Ordering, no_ordering, ordering_of, Header, no_header, header_of, no_label, label_of, Shape, scalar_of, array_of, declaration_of, Declarations, no_declarations, and_declaration, ProgramTree, front_whole, front_index, front_and_name, front_marks, front_command, front_block, front_else, front_commands, front_more, front_more_names, front_more_pairs, front_ordering, front_header, front_shape, front_declarations}
+use Rattle.mit_parser.specs.Tree.{Index, Whole, no_index, index_of, AndName, no_name, and_name, Marks, no_marks, marks_of, CommandTree, skip_of, assign_of}
+use Rattle.mit_parser.specs.Tree.{sleep_of, if_of, while_of, mitigate_of, Block, block_of, ElsePart, no_else, else_of, Commands, commands_of, More, no_more}
+use Rattle.mit_parser.specs.Tree.{and_more, MoreNames, no_more_names, and_more_names, pair_of, MorePairs, no_more_pairs, and_pair, Ordering, no_ordering}
+use Rattle.mit_parser.specs.Tree.{ordering_of, Header, no_header, header_of, no_label, label_of, Shape, scalar_of, array_of, declaration_of, Declarations}
+use Rattle.mit_parser.specs.Tree.{no_declarations, and_declaration, ProgramTree, front_whole, front_index, front_and_name, front_marks, front_command}
+use Rattle.mit_parser.specs.Tree.{front_block, front_else, front_commands, front_more, front_more_names, front_more_pairs, front_ordering, front_header}
+use Rattle.mit_parser.specs.Tree.{front_shape, front_declarations}
 use Rattle.mit_parser.specs.Spells.{Spells}
 use Rattle.parse_laws.proofs.Counted.{st, calm, closes, fits_index, fits_whole}
 
@@ -50,7 +56,8 @@ mutual
   fits_command (sleep_of p e m) d r l h f = (calm d 0 l (omega arith), fits_marked e m d r h f)
   fits_command (if_of p e m q b x) d r l h f =
       let c = calm d 0 l (omega arith) in
-      (c, fits_marked e m d (key_at Then q ∷ front_block b (front_else x r)) h.0 (λ o k. (c, fits_block b d 0 (front_else x r) l h.1 (fits_else x d r l h.2 (f 0 (omega arith))))))
+      (c, fits_marked e m d (key_at Then q ∷ front_block b (front_else x r)) h.0
+          (λ o k. (c, fits_block b d 0 (front_else x r) l h.1 (fits_else x d r l h.2 (f 0 (omega arith))))))
   fits_command (while_of p e m q b) d r l h f =
       let c = calm d 0 l (omega arith) in
       (c, fits_marked e m d (key_at Do q ∷ front_block b r) h.0 (λ o k. (c, fits_block b d 0 r l h.1 (f 0 (omega arith)))))

@@ -1,5 +1,6 @@
 -- A touch of a set of the body is a touch of the table.
-use Rattle.std.proofs.Common.{◌≡◌, ℕ, zero, suc, ◌+◌, ◌*◌, ◌%◌, ◌<◌, ◌≤◌, List, [], ◌∷◌, ◌++◌, length, get_or, set, Bool, true, false, refl, sym, ap, ◌∙◌, subst, ◌⊎◌, inl, inr, arith, length-set, length-take}
+use Rattle.std.proofs.Common.{◌≡◌, ℕ, zero, suc, ◌+◌, ◌*◌, ◌%◌, ◌<◌, ◌≤◌, List, [], ◌∷◌, ◌++◌, length, get_or, set, Bool, true, false, refl, sym, ap, ◌∙◌}
+use Rattle.std.proofs.Common.{subst, ◌⊎◌, inl, inr, arith, length-set, length-take}
 use Rattle.std.specs.Prelude.{map, eqb, cond, not, ◌&&◌, replicate}
 use Rattle.std.specs.List.{All, filter, list_any}
 use Rattle.std.specs.Vec.{with_item}
@@ -44,7 +45,8 @@ place_in c good label tag lt = omega (arith, good.long, mul-add-lt label c.sets 
 pub place_is : (first label sets sets' set tag : ℕ) → first ≡ label → sets ≡ sets' → set ≡ tag % sets → first * sets + set ≡ label * sets' + tag % sets'
 place_is first label sets sets' set tag f n s = ap (λ l. l * sets + set) f ∙ ap (λ s. label * sets + s) s ∙ ap (λ n. label * n + tag % n) n
 
-module _ (c : Inside) (good : IsBody c) (v : Rows) (is : rows_view c ≡ v) (tag label : ℕ) (in_range : label < v.order.size) (row : ℕ) (row_is : row ≡ label * c.sets + tag % c.sets) where
+module _ (c : Inside) (good : IsBody c) (v : Rows) (is : rows_view c ≡ v) (tag label : ℕ) (in_range : label < v.order.size) (row : ℕ)
+    (row_is : row ≡ label * c.sets + tag % c.sets) where
   pub row_in : row < length c.slots.items
   row_in = omega (arith, row_is, place_in c good label tag (subst (λ (v : Rows). label < v.order.size) (sym is) in_range))
 
@@ -97,37 +99,45 @@ module _ (c : Inside) (good : IsBody c) (v : Rows) (is : rows_view c ≡ v) (tag
           ∙ set-get_or (map holds c.slots.items) row [])
           ∙ is
 
-      module _ (held : Bool) (brought : (ways : ℕ) → length (held_tags old.tags) ≤ ways → held_tags new.tags ≡ cond held (to_front ways tag (held_tags old.tags)) (held_tags old.tags)) where
+      module _ (held : Bool) (brought : (ways : ℕ) → length (held_tags old.tags) ≤ ways
+          → held_tags new.tags ≡ cond held (to_front ways tag (held_tags old.tags)) (held_tags old.tags)) where
         pub brought_body : AreWays new.tags → IsBody after
         brought_body set = body_after set (short held (brought c.ways old_few))
           where
-            short : (b : Bool) → held_tags new.tags ≡ cond b (to_front c.ways tag (held_tags old.tags)) (held_tags old.tags) → length (held_tags new.tags) ≤ c.ways
+            short : (b : Bool) → held_tags new.tags ≡ cond b (to_front c.ways tag (held_tags old.tags)) (held_tags old.tags)
+                → length (held_tags new.tags) ≤ c.ways
             short true e = omega (arith, ap length e, length-take c.ways (tag ∷ filter (λ y. not (eqb tag y)) (held_tags old.tags)))
             short false e = omega (arith, ap length e, old_few)
 
         pub brought_view : rows_view after ≡ cond held (touched v tag label) v
         brought_view = go held (brought c.ways old_few)
           where
-            go : (b : Bool) → held_tags new.tags ≡ cond b (to_front c.ways tag (held_tags old.tags)) (held_tags old.tags) → rows_view after ≡ cond b (touched v tag label) v
+            go : (b : Bool) → held_tags new.tags ≡ cond b (to_front c.ways tag (held_tags old.tags)) (held_tags old.tags)
+                → rows_view after ≡ cond b (touched v tag label) v
             go true e = view_touched e
             go false e = view_kept e
 
 -- ---- a touch and the history
-pub touched_history : (v w : Rows) (c : Inside) → rows_view c ≡ v → IsBody c → (tag ew : ℕ) → ew < v.order.size → w ≡ touched v tag ew → (h : List Touched) → StandsFor v h → StandsFor w (h ++ record { label = ew; tag = tag } ∷ [])
-touched_history v w c is good tag ew lt e h s = subst (λ w. StandsFor w (h ++ record { label = ew; tag = tag } ∷ [])) (sym e) (StandsFor-touched v (subst IsCache is (body_cache c good)) tag ew h lt s)
+pub touched_history : (v w : Rows) (c : Inside) → rows_view c ≡ v → IsBody c → (tag ew : ℕ) → ew < v.order.size → w ≡ touched v tag ew → (h : List Touched)
+    → StandsFor v h → StandsFor w (h ++ record { label = ew; tag = tag } ∷ [])
+touched_history v w c is good tag ew lt e h s =
+    subst (λ w. StandsFor w (h ++ record { label = ew; tag = tag } ∷ [])) (sym e) (StandsFor-touched v (subst IsCache is (body_cache c good)) tag ew h lt s)
 
 -- ---- a lookup
-pub look_found : (v : Rows) (c : Inside) → rows_view c ≡ v → (tag er label size : ℕ) → size ≡ c.lattice.size → label < size → (lattice_of c.lattice).flows label er ≡ true → has v tag label ≡ true → found v tag er ≡ true
+pub look_found : (v : Rows) (c : Inside) → rows_view c ≡ v → (tag er label size : ℕ) → size ≡ c.lattice.size → label < size
+    → (lattice_of c.lattice).flows label er ≡ true → has v tag label ≡ true → found v tag er ≡ true
 look_found v c e tag er label size s lt f h =
     let o : c.lattice ≡ v.order = ap (λ v. v.order) e in
     let n : c.lattice.size ≡ v.order.size = ap (λ v. v.order.size) e in
     some_below_at v.order.size (λ label. (lattice_of v.order).flows label er && has v tag label) label (omega arith)
     (and_from ((lattice_of v.order).flows label er) (has v tag label) (subst (λ o. (lattice_of o).flows label er ≡ true) o f) h)
 
-pub look_own : (v : Rows) (c : Inside) → rows_view c ≡ v → (tag er : ℕ) → er < v.order.size → (lattice_of c.lattice).flows er er ≡ true → has v tag er ≡ true → found v tag er ≡ true
+pub look_own : (v : Rows) (c : Inside) → rows_view c ≡ v → (tag er : ℕ) → er < v.order.size → (lattice_of c.lattice).flows er er ≡ true
+    → has v tag er ≡ true → found v tag er ≡ true
 look_own v c e tag er lt = look_found v c e tag er er c.lattice.size refl (subst (λ (v : Rows). er < v.order.size) (sym e) lt)
 
-pub look_history : (v : Rows) (c : Inside) → rows_view c ≡ v → IsBody c → (tag er : ℕ) (r : Bool) → r ≡ found v tag er → (h : List Touched) → StandsFor v h → r ≡ hits v.order v.sets v.ways h er tag
+pub look_history : (v : Rows) (c : Inside) → rows_view c ≡ v → IsBody c → (tag er : ℕ) (r : Bool) → r ≡ found v tag er → (h : List Touched) → StandsFor v h
+    → r ≡ hits v.order v.sets v.ways h er tag
 look_history v c e good tag er r f h s = f ∙ found_is v (subst IsCache e (body_cache c good)) tag er h s
 
 -- ---- a new cache
@@ -152,5 +162,6 @@ module _ (c : Inside) (n : ℕ) (w : Ways) (empty : held_tags w.tags ≡ []) (fi
         ways_below = few';
         long = ap length filled ∙ length-replicate n w ∙ many;
         ways_are = subst (All (λ (w : Ways). AreWays w.tags)) (sym filled) (All-replicate (λ (w : Ways). AreWays w.tags) n w set);
-        few = subst (All (λ (w : Ways). length (held_tags w.tags) ≤ c.ways)) (sym filled) (All-replicate (λ (w : Ways). length (held_tags w.tags) ≤ c.ways) n w (omega (arith, ap length empty)));
+        few = subst (All (λ (w : Ways). length (held_tags w.tags) ≤ c.ways)) (sym filled)
+            (All-replicate (λ (w : Ways). length (held_tags w.tags) ≤ c.ways) n w (omega (arith, ap length empty)));
       }

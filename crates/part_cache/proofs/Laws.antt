@@ -1,5 +1,6 @@
 -- The laws of one cache: what a touch leaves, and what two caches with equal parts answer.
-use Rattle.std.proofs.Common.{◌≡◌, ℕ, zero, suc, ◌+◌, ◌*◌, ◌%◌, ◌<◌, ◌≤◌, List, [], ◌∷◌, ◌++◌, length, take, drop, get_or, Bool, true, false, refl, sym, ap, ◌∙◌, subst, ◌⊎◌, inl, inr, ⊎_elim, arith}
+use Rattle.std.proofs.Common.{◌≡◌, ℕ, zero, suc, ◌+◌, ◌*◌, ◌%◌, ◌<◌, ◌≤◌, List, [], ◌∷◌, ◌++◌, length, take, drop, get_or, Bool, true, false, refl, sym, ap}
+use Rattle.std.proofs.Common.{◌∙◌, subst, ◌⊎◌, inl, inr, ⊎_elim, arith}
 use Rattle.std.specs.Prelude.{map, eqb, ◌&&◌, ◌↔◌}
 use Rattle.std.specs.List.{list_any, range_with_len}
 use Rattle.std.proofs.lemmas.List.{take_at, drop_at, set_past}
@@ -22,12 +23,14 @@ rows_from_numbers (x ∷ xs) (y ∷ ys) e =
     let n : length x ≡ length y = cc in
     let rest : x ++ numbers_of xs ≡ y ++ numbers_of ys = cc in
     let first : x ≡ y = sym (take_at x (numbers_of xs) (length x) refl) ∙ ap (take (length x)) rest ∙ take_at y (numbers_of ys) (length x) (sym n) in
-    let others : numbers_of xs ≡ numbers_of ys = sym (drop_at x (numbers_of xs) (length x) refl) ∙ ap (drop (length x)) rest ∙ drop_at y (numbers_of ys) (length x) (sym n) in
+    let others : numbers_of xs ≡ numbers_of ys = sym (drop_at x (numbers_of xs) (length x) refl) ∙ ap (drop (length x)) rest
+        ∙ drop_at y (numbers_of ys) (length x) (sym n) in
     let tails = rows_from_numbers xs ys others in
     cc
 
 -- equal parts are equal rows
-pub rows_same : (c d : Rows) (label : ℕ) → c.sets ≡ d.sets → part_of label c ≡ part_of label d → (set : ℕ) → set < c.sets → tags_at c label set ≡ tags_at d label set
+pub rows_same : (c d : Rows) (label : ℕ) → c.sets ≡ d.sets → part_of label c ≡ part_of label d → (set : ℕ) → set < c.sets
+    → tags_at c label set ≡ tags_at d label set
 rows_same c d label n e set h =
     sym (get_or-map-range_with_len (tags_at c label) 0 c.sets set set [] h (omega arith))
     ∙ ap (λ rs. get_or rs set []) (rows_from_numbers (tag_rows c label) (tag_rows d label) e)
@@ -37,7 +40,8 @@ map_same : (f g : ℕ → List ℕ) (a n : ℕ) → ((k : ℕ) → k < a + n →
 map_same f g a zero h = refl
 map_same f g a (suc n) h = rw (h a (omega arith), map_same f g (a + 1) n (λ k lt. h k (omega arith))) refl
 
-pub part_same : (c d : Rows) (label label' : ℕ) → c.sets ≡ d.sets → ((set : ℕ) → set < c.sets → tags_at c label set ≡ tags_at d label' set) → part_of label c ≡ part_of label' d
+pub part_same : (c d : Rows) (label label' : ℕ) → c.sets ≡ d.sets → ((set : ℕ) → set < c.sets → tags_at c label set ≡ tags_at d label' set)
+    → part_of label c ≡ part_of label' d
 part_same c d label label' n h =
     ap numbers_of (map_same (tags_at c label) (tags_at d label') 0 c.sets (λ k lt. h k (omega arith)) ∙ ap (λ m. map (tags_at d label') (range_with_len 0 m)) n)
 
@@ -46,11 +50,13 @@ module _ (order : Order) (sets ways : ℕ) where
   touched_serves c tag ew s = record { same_order = s.same_order; same_sets = s.same_sets; same_ways = s.same_ways; cache = IsCache-touched c s.cache tag ew }
 
   -- each part is what the history says is held
-  pub part_of_held : (c : Rows) (label : ℕ) (h : List Touched) → IsCacheOf order sets ways c → label < order.size → StandsFor c h → part_of label c ≡ numbers_of (map (held sets ways h label) (range_with_len 0 sets))
+  pub part_of_held : (c : Rows) (label : ℕ) (h : List Touched) → IsCacheOf order sets ways c → label < order.size → StandsFor c h
+      → part_of label c ≡ numbers_of (map (held sets ways h label) (range_with_len 0 sets))
   part_of_held c label h s lt stands =
       ap numbers_of
       (map_same (tags_at c label) (held sets ways h label) 0 c.sets
-      (λ k below. stands.each label k (subst (λ (o : Order). label < o.size) (sym s.same_order) lt) (omega arith) ∙ ap (λ n. held n c.ways h label k) s.same_sets ∙ ap (λ n. held sets n h label k) s.same_ways)
+      (λ k below. stands.each label k (subst (λ (o : Order). label < o.size) (sym s.same_order) lt) (omega arith)
+          ∙ ap (λ n. held n c.ways h label k) s.same_sets ∙ ap (λ n. held sets n h label k) s.same_ways)
       ∙ ap (λ m. map (held sets ways h label) (range_with_len 0 m)) s.same_sets)
 
   -- the parts of other labels stay
@@ -58,27 +64,34 @@ module _ (order : Order) (sets ways : ℕ) where
   part_elsewhere c tag ew label s ne = part_same (touched c tag ew) c label label refl (λ set h. tags_elsewhere c s.cache tag ew label set h (λ p. ne p.0))
 
   -- a lookup reads the parts that flow to er
-  pub found_same : (c d : Rows) (tag er : ℕ) → IsCacheOf order sets ways c → IsCacheOf order sets ways d → ((l : ℕ) → Flows (lattice_of order) l er → part_of l c ≡ part_of l d) → found c tag er ≡ found d tag er
+  pub found_same : (c d : Rows) (tag er : ℕ) → IsCacheOf order sets ways c → IsCacheOf order sets ways d
+      → ((l : ℕ) → Flows (lattice_of order) l er → part_of l c ≡ part_of l d) → found c tag er ≡ found d tag er
   found_same c d tag er s t agree =
       let n : c.sets ≡ d.sets = s.same_sets ∙ sym t.same_sets in
       let o : c.order ≡ d.order = s.same_order ∙ sym t.same_order in
-      some_below_same c s.cache c.order.size (λ label. (lattice_of c.order).flows label er && has c tag label) (λ label. (lattice_of d.order).flows label er && has d tag label)
+      some_below_same c s.cache c.order.size (λ label. (lattice_of c.order).flows label er && has c tag label)
+          (λ label. (lattice_of d.order).flows label er && has d tag label)
       (λ label lt. go n o label (cases_Bool ((lattice_of c.order).flows label er)))
       ∙ ap (λ (o : Order). some_below o.size (λ label. (lattice_of d.order).flows label er && has d tag label)) o
     where
-      go : (c.sets ≡ d.sets) → (c.order ≡ d.order) → (label : ℕ) → (((lattice_of c.order).flows label er ≡ true) ⊎ ((lattice_of c.order).flows label er ≡ false)) → ((lattice_of c.order).flows label er && has c tag label) ≡ ((lattice_of d.order).flows label er && has d tag label)
+      go : (c.sets ≡ d.sets) → (c.order ≡ d.order) → (label : ℕ)
+          → (((lattice_of c.order).flows label er ≡ true) ⊎ ((lattice_of c.order).flows label er ≡ false))
+          → ((lattice_of c.order).flows label er && has c tag label) ≡ ((lattice_of d.order).flows label er && has d tag label)
       go n o label (inl f) =
           let e : (lattice_of c.order).flows label er ≡ (lattice_of d.order).flows label er = ap (λ (o : Order). (lattice_of o).flows label er) o in
           let flows : Flows (lattice_of order) label er = ap (λ (o : Order). (lattice_of o).flows label er) (sym s.same_order) ∙ f in
-          let row : tags_at c label (tag % c.sets) ≡ tags_at d label (tag % c.sets) = rows_same c d label n (agree label flows) (tag % c.sets) (mod_below tag c.sets s.cache.some_set) in
-          ap (λ b. b && has c tag label) e ∙ ap (λ b. (lattice_of d.order).flows label er && b) (ap (list_any (eqb tag)) (row ∙ ap (λ m. tags_at d label (tag % m)) n))
+          let row : tags_at c label (tag % c.sets) ≡ tags_at d label (tag % c.sets) =
+              rows_same c d label n (agree label flows) (tag % c.sets) (mod_below tag c.sets s.cache.some_set) in
+          ap (λ b. b && has c tag label) e
+              ∙ ap (λ b. (lattice_of d.order).flows label er && b) (ap (list_any (eqb tag)) (row ∙ ap (λ m. tags_at d label (tag % m)) n))
       go n o label (inr f) =
           let e : (lattice_of c.order).flows label er ≡ (lattice_of d.order).flows label er = ap (λ (o : Order). (lattice_of o).flows label er) o in
           let g : (lattice_of d.order).flows label er ≡ false = sym e ∙ f in
           ap (λ b. b && has c tag label) f ∙ sym (ap (λ b. b && has d tag label) g)
 
   -- the touched rows of two caches whose rows there are equal
-  pub part_here : (c d : Rows) (tag ew : ℕ) → IsCacheOf order sets ways c → IsCacheOf order sets ways d → part_of ew c ≡ part_of ew d → part_of ew (touched c tag ew) ≡ part_of ew (touched d tag ew)
+  pub part_here : (c d : Rows) (tag ew : ℕ) → IsCacheOf order sets ways c → IsCacheOf order sets ways d → part_of ew c ≡ part_of ew d
+      → part_of ew (touched c tag ew) ≡ part_of ew (touched d tag ew)
   part_here c d tag ew s t e =
       let n : c.sets ≡ d.sets = s.same_sets ∙ sym t.same_sets in
       let w : c.ways ≡ d.ways = s.same_ways ∙ sym t.same_ways in
@@ -87,9 +100,11 @@ module _ (order : Order) (sets ways : ℕ) where
     where
       -- a label that is none is not touched
       past : (x : Rows) → IsCache x → x.order.size ≤ ew → (set : ℕ) → tags_at (touched x tag ew) ew set ≡ tags_at x ew set
-      past x good ge set = ap (λ rs. get_or rs (ew * x.sets + set) []) (set_past x.rows (ew * x.sets + tag % x.sets) (to_front x.ways tag (tags_at x ew (tag % x.sets))) (grind (arith, good.each_set)))
+      past x good ge set = ap (λ rs. get_or rs (ew * x.sets + set) [])
+          (set_past x.rows (ew * x.sets + tag % x.sets) (to_front x.ways tag (tags_at x ew (tag % x.sets))) (grind (arith, good.each_set)))
 
-      row : (c.sets ≡ d.sets) → (c.ways ≡ d.ways) → (c.order.size ≡ d.order.size) → (set : ℕ) → set < c.sets → ((ew < c.order.size) ⊎ (c.order.size ≤ ew)) → ((set ≡ tag % c.sets) ⊎ (set ≡ tag % c.sets → ⊥)) → tags_at (touched c tag ew) ew set ≡ tags_at (touched d tag ew) ew set
+      row : (c.sets ≡ d.sets) → (c.ways ≡ d.ways) → (c.order.size ≡ d.order.size) → (set : ℕ) → set < c.sets → ((ew < c.order.size) ⊎ (c.order.size ≤ ew))
+          → ((set ≡ tag % c.sets) ⊎ (set ≡ tag % c.sets → ⊥)) → tags_at (touched c tag ew) ew set ≡ tags_at (touched d tag ew) ew set
       row n w z set h (inr ge) q =
           past c s.cache ge set ∙ rows_same c d ew n e set h ∙ sym (past d t.cache (omega arith) set)
       row n w z set h (inl lt) (inr ne) =
@@ -97,24 +112,29 @@ module _ (order : Order) (sets ways : ℕ) where
           ∙ sym (tags_elsewhere d t.cache tag ew ew set (omega arith) (λ p. ne (p.1 ∙ ap (λ m. tag % m) (sym n))))
       row n w z set h (inl lt) (inl q) =
           let same : tag % c.sets ≡ tag % d.sets = ap (λ m. tag % m) n in
-          let old : tags_at c ew (tag % c.sets) ≡ tags_at d ew (tag % d.sets) = rows_same c d ew n e (tag % c.sets) (mod_below tag c.sets s.cache.some_set) ∙ ap (tags_at d ew) same in
+          let old : tags_at c ew (tag % c.sets) ≡ tags_at d ew (tag % d.sets) =
+              rows_same c d ew n e (tag % c.sets) (mod_below tag c.sets s.cache.some_set) ∙ ap (tags_at d ew) same in
           ap (tags_at (touched c tag ew) ew) q
           ∙ tags_here c s.cache tag ew lt
           ∙ ap (to_front c.ways tag) old ∙ ap (λ m. to_front m tag (tags_at d ew (tag % d.sets))) w
           ∙ sym (tags_here d t.cache tag ew (omega arith))
           ∙ ap (tags_at (touched d tag ew) ew) (sym (q ∙ same))
 
-  pub part_agrees : (c d : Rows) (tag ew label : ℕ) → IsCacheOf order sets ways c → IsCacheOf order sets ways d → part_of label c ≡ part_of label d → part_of label (touched c tag ew) ≡ part_of label (touched d tag ew)
+  pub part_agrees : (c d : Rows) (tag ew label : ℕ) → IsCacheOf order sets ways c → IsCacheOf order sets ways d → part_of label c ≡ part_of label d
+      → part_of label (touched c tag ew) ≡ part_of label (touched d tag ew)
   part_agrees c d tag ew label s t e =
       ⊎_elim
-      (λ (q : label ≡ ew). subst (λ l. part_of l c ≡ part_of l d → part_of l (touched c tag ew) ≡ part_of l (touched d tag ew)) (sym q) (part_here c d tag ew s t) e)
+      (λ (q : label ≡ ew). subst (λ l. part_of l c ≡ part_of l d → part_of l (touched c tag ew) ≡ part_of l (touched d tag ew)) (sym q)
+          (part_here c d tag ew s t) e)
       (λ (ne : label ≡ ew → ⊥). part_elsewhere c tag ew label s ne ∙ e ∙ sym (part_elsewhere d tag ew label t ne))
       (cases_eq label ew)
 
 -- ---- a loop that compares the rows
-pub differ_at : (c d : Rows) (label set : ℕ) (same : Bool) → c.sets ≡ d.sets → set < c.sets → ((same ≡ true) ↔ (tags_at c label set ≡ tags_at d label set)) → same ≡ false → (r : Bool) → r ≡ false → (r ≡ true) ↔ (part_of label c ≡ part_of label d)
+pub differ_at : (c d : Rows) (label set : ℕ) (same : Bool) → c.sets ≡ d.sets → set < c.sets → ((same ≡ true) ↔ (tags_at c label set ≡ tags_at d label set))
+    → same ≡ false → (r : Bool) → r ≡ false → (r ≡ true) ↔ (part_of label c ≡ part_of label d)
 differ_at c d label set same n h iff failed r f =
     (λ t. absurd (both_ways r f t), λ e. absurd (both_ways same failed (iff.1 (rows_same c d label n e set h))))
 
-pub same_to_end : (c d : Rows) (label end : ℕ) → c.sets ≡ d.sets → c.sets ≤ end → ((k : ℕ) → k < end → tags_at c label k ≡ tags_at d label k) → part_of label c ≡ part_of label d
+pub same_to_end : (c d : Rows) (label end : ℕ) → c.sets ≡ d.sets → c.sets ≤ end → ((k : ℕ) → k < end → tags_at c label k ≡ tags_at d label k)
+    → part_of label c ≡ part_of label d
 same_to_end c d label end n le h = part_same c d label label n (λ set lt. h set (omega arith))

@@ -1,5 +1,6 @@
 -- What is near is the front of the list of different tags.
-use Rattle.std.proofs.Common.{◌≡◌, ℕ, zero, suc, ◌<◌, ◌≤◌, List, [], ◌∷◌, length, take, Bool, true, false, refl, sym, ap, ◌∙◌, subst, ⊎_elim, arith, Option, Some, None}
+use Rattle.std.proofs.Common.{◌≡◌, ℕ, zero, suc, ◌<◌, ◌≤◌, List, [], ◌∷◌, length, take, Bool, true, false, refl, sym, ap, ◌∙◌, subst, ⊎_elim, arith, Option}
+use Rattle.std.proofs.Common.{Some, None}
 use Rattle.std.specs.Prelude.{not, cond, eqb, ltb, ◌||◌}
 use Rattle.std.specs.List.{filter, list_any}
 use Rattle.std.specs.Option.{option_map, option_map_or}
@@ -14,7 +15,8 @@ pub filter_swap : (p q : ℕ → Bool) (xs : List ℕ) → filter p (filter q xs
 filter_swap p q [] = refl
 filter_swap p q (x ∷ xs) = go (p x) (q x) refl refl (filter_swap p q xs)
   where
-    go : (a b : Bool) → p x ≡ a → q x ≡ b → filter p (filter q xs) ≡ filter q (filter p xs) → filter p (cond b (x ∷ filter q xs) (filter q xs)) ≡ filter q (cond a (x ∷ filter p xs) (filter p xs))
+    go : (a b : Bool) → p x ≡ a → q x ≡ b → filter p (filter q xs) ≡ filter q (filter p xs)
+        → filter p (cond b (x ∷ filter q xs) (filter q xs)) ≡ filter q (cond a (x ∷ filter p xs) (filter p xs))
     go true true e f h = rw (e, f) (ap (λ t. x ∷ t) h)
     go true false e f h = rw f h
     go false true e f h = rw e h
@@ -24,7 +26,8 @@ pub filter_twice : (p : ℕ → Bool) (xs : List ℕ) → filter p (filter p xs)
 filter_twice p [] = refl
 filter_twice p (x ∷ xs) = go (p x) refl (filter_twice p xs)
   where
-    go : (a : Bool) → p x ≡ a → filter p (filter p xs) ≡ filter p xs → filter p (cond a (x ∷ filter p xs) (filter p xs)) ≡ cond a (x ∷ filter p xs) (filter p xs)
+    go : (a : Bool) → p x ≡ a → filter p (filter p xs) ≡ filter p xs
+        → filter p (cond a (x ∷ filter p xs) (filter p xs)) ≡ cond a (x ∷ filter p xs) (filter p xs)
     go true e h = rw e (ap (λ t. x ∷ t) h)
     go false e h = h
 
@@ -46,11 +49,13 @@ distinct-filter p (x ∷ xs) = go (p x) refl (distinct-filter p xs)
     skip e [] = refl
     skip e (y ∷ ys) = at (eqb x y) refl (skip e ys)
       where
-        at : (b : Bool) → eqb x y ≡ b → filter p (filter (other x) ys) ≡ filter p ys → filter p (cond (not b) (y ∷ filter (other x) ys) (filter (other x) ys)) ≡ cond (p y) (y ∷ filter p ys) (filter p ys)
+        at : (b : Bool) → eqb x y ≡ b → filter p (filter (other x) ys) ≡ filter p ys
+            → filter p (cond (not b) (y ∷ filter (other x) ys) (filter (other x) ys)) ≡ cond (p y) (y ∷ filter p ys) (filter p ys)
         at true f h = let q : p y ≡ false = ap p (sym (eqb-true x y f)) ∙ e in rw q h
         at false f h = ap (λ t. cond (p y) (y ∷ t) t) h
 
-    go : (a : Bool) → p x ≡ a → distinct (filter p xs) ≡ filter p (distinct xs) → distinct (cond a (x ∷ filter p xs) (filter p xs)) ≡ cond a (x ∷ filter p (filter (other x) (distinct xs))) (filter p (filter (other x) (distinct xs)))
+    go : (a : Bool) → p x ≡ a → distinct (filter p xs) ≡ filter p (distinct xs)
+        → distinct (cond a (x ∷ filter p xs) (filter p xs)) ≡ cond a (x ∷ filter p (filter (other x) (distinct xs))) (filter p (filter (other x) (distinct xs)))
     go true e h = ap (λ t. x ∷ t) (ap (filter (other x)) h ∙ filter_swap (other x) p (distinct xs))
     go false e h = h ∙ sym (skip e (distinct xs))
 
@@ -59,7 +64,8 @@ pub since-filter : (p : ℕ → Bool) (tag : ℕ) → p tag ≡ true → (xs : L
 since-filter p tag passes [] = refl
 since-filter p tag passes (x ∷ xs) = go (p x) (eqb x tag) refl refl (since-filter p tag passes xs)
   where
-    onto : (o : Option (List ℕ)) → p x ≡ true → option_map (λ later. x ∷ later) (option_map (filter p) o) ≡ option_map (filter p) (option_map (λ later. x ∷ later) o)
+    onto : (o : Option (List ℕ)) → p x ≡ true
+        → option_map (λ later. x ∷ later) (option_map (filter p) o) ≡ option_map (filter p) (option_map (λ later. x ∷ later) o)
     onto None e = refl
     onto (Some l) e = rw e refl
 
@@ -67,7 +73,8 @@ since-filter p tag passes (x ∷ xs) = go (p x) (eqb x tag) refl refl (since-fil
     past None e = refl
     past (Some l) e = rw e refl
 
-    go : (a b : Bool) → p x ≡ a → eqb x tag ≡ b → since tag (filter p xs) ≡ option_map (filter p) (since tag xs) → since tag (cond a (x ∷ filter p xs) (filter p xs)) ≡ option_map (filter p) (cond b (Some []) (option_map (λ later. x ∷ later) (since tag xs)))
+    go : (a b : Bool) → p x ≡ a → eqb x tag ≡ b → since tag (filter p xs) ≡ option_map (filter p) (since tag xs)
+        → since tag (cond a (x ∷ filter p xs) (filter p xs)) ≡ option_map (filter p) (cond b (Some []) (option_map (λ later. x ∷ later) (since tag xs)))
     go true true e f h = rw f refl
     go true false e f h = rw f (ap (option_map (λ later. x ∷ later)) h ∙ onto (since tag xs) e)
     go false true e f h = absurd (both_ways (p x) e (ap p (eqb-true x tag f) ∙ passes))
@@ -84,7 +91,8 @@ pub is_near-cons : (ways : ℕ) (x : ℕ) (xs : List ℕ) (u : ℕ) → eqb x u 
 is_near-cons ways x xs u e =
     rw e (at (since u xs) ∙ ap (λ o. option_map_or (λ later. ltb (length (distinct later)) ways) o false) (sym (since-filter (other x) u (ap not e) xs)))
   where
-    at : (o : Option (List ℕ)) → option_map_or (λ later. ltb (length (distinct later)) (suc ways)) (option_map (λ later. x ∷ later) o) false ≡ option_map_or (λ later. ltb (length (distinct later)) ways) (option_map (filter (other x)) o) false
+    at : (o : Option (List ℕ)) → option_map_or (λ later. ltb (length (distinct later)) (suc ways)) (option_map (λ later. x ∷ later) o) false ≡ option_map_or
+        (λ later. ltb (length (distinct later)) ways) (option_map (filter (other x)) o) false
     at None = refl
     at (Some l) = ltb_suc (length (filter (other x) (distinct l))) ways ∙ ap (λ t. ltb (length t) ways) (sym (distinct-filter (other x) l))
 
@@ -93,7 +101,8 @@ pub filter_same : (p p' q : ℕ → Bool) → ((u : ℕ) → q u ≡ true → p 
 filter_same p p' q same [] = refl
 filter_same p p' q same (x ∷ xs) = go (q x) refl (filter_same p p' q same xs)
   where
-    go : (a : Bool) → q x ≡ a → filter p (filter q xs) ≡ filter p' (filter q xs) → filter p (cond a (x ∷ filter q xs) (filter q xs)) ≡ filter p' (cond a (x ∷ filter q xs) (filter q xs))
+    go : (a : Bool) → q x ≡ a → filter p (filter q xs) ≡ filter p' (filter q xs)
+        → filter p (cond a (x ∷ filter q xs) (filter q xs)) ≡ filter p' (cond a (x ∷ filter q xs) (filter q xs))
     go true e h = rw (same x e) (ap (λ t. cond (p' x) (x ∷ t) t) h)
     go false e h = h
 
@@ -114,10 +123,13 @@ near_by n (suc ways) [] h = refl
 near_by zero (suc ways) (x ∷ xs) h = absurd (omega arith)
 near_by (suc n) (suc ways) (x ∷ xs) h =
     let same : eqb x x ≡ true = eq-eqb x x refl in
-    let rest : filter (is_near (suc ways) (x ∷ xs)) (filter (other x) (distinct xs)) ≡ filter (is_near ways (filter (other x) xs)) (filter (other x) (distinct xs)) =
-    filter_same (is_near (suc ways) (x ∷ xs)) (is_near ways (filter (other x) xs)) (other x) (λ u e. is_near-cons ways x xs u (not-true (eqb x u) e)) (distinct xs) in
+    let rest : filter (is_near (suc ways) (x ∷ xs)) (filter (other x) (distinct xs))
+        ≡ filter (is_near ways (filter (other x) xs)) (filter (other x) (distinct xs)) =
+    filter_same (is_near (suc ways) (x ∷ xs)) (is_near ways (filter (other x) xs)) (other x)
+        (λ u e. is_near-cons ways x xs u (not-true (eqb x u) e)) (distinct xs) in
     let ih = near_by n ways (filter (other x) xs) (omega (arith, length-filter_le (other x) xs)) in
-    rw (same, lt-ltb 0 (suc ways) (omega arith)) (ap (λ t. x ∷ t) (rest ∙ ap (filter (is_near ways (filter (other x) xs))) (sym (distinct-filter (other x) xs)) ∙ ih ∙ ap (take ways) (distinct-filter (other x) xs)))
+    rw (same, lt-ltb 0 (suc ways) (omega arith)) (ap (λ t. x ∷ t) (rest ∙ ap (filter (is_near ways (filter (other x) xs))) (sym (distinct-filter (other x) xs))
+        ∙ ih ∙ ap (take ways) (distinct-filter (other x) xs)))
 
 -- the tags that are near are the first of the different ones
 pub near_is : (ways : ℕ) (xs : List ℕ) → filter (is_near ways xs) (distinct xs) ≡ take ways (distinct xs)
@@ -173,7 +185,8 @@ take-filter_other (suc n) x [] h = refl
 take-filter_other (suc n) x (y ∷ ys) h = go (eqb x y) refl (take-filter_other n x ys h.1)
   where
     go : (b : Bool) → eqb x y ≡ b → take n (filter (other x) (take (suc n) ys)) ≡ take n (filter (other x) ys) →
-        take (suc n) (cond (not b) (y ∷ filter (other x) (take (suc n) ys)) (filter (other x) (take (suc n) ys))) ≡ take (suc n) (cond (not b) (y ∷ filter (other x) ys) (filter (other x) ys))
+        take (suc n) (cond (not b) (y ∷ filter (other x) (take (suc n) ys)) (filter (other x) (take (suc n) ys)))
+            ≡ take (suc n) (cond (not b) (y ∷ filter (other x) ys) (filter (other x) ys))
     go true e k =
         let a : absent x ys = subst (λ t. absent t ys) (sym (eqb-true x y e)) h.0 in
         rw (filter_absent x (take (suc n) ys) (absent-take x (suc n) ys a), filter_absent x ys a) (twice (suc n) ys)
@@ -193,7 +206,8 @@ any-filter : (x : ℕ) (p : ℕ → Bool) → p x ≡ true → (zs : List ℕ) �
 any-filter x p e [] = refl
 any-filter x p e (z ∷ zs) = go (p z) refl (any-filter x p e zs)
   where
-    go : (b : Bool) → p z ≡ b → list_any (eqb x) (filter p zs) ≡ list_any (eqb x) zs → list_any (eqb x) (cond b (z ∷ filter p zs) (filter p zs)) ≡ (eqb x z || list_any (eqb x) zs)
+    go : (b : Bool) → p z ≡ b → list_any (eqb x) (filter p zs) ≡ list_any (eqb x) zs
+        → list_any (eqb x) (cond b (z ∷ filter p zs) (filter p zs)) ≡ (eqb x z || list_any (eqb x) zs)
     go true f h = ap (λ t. eqb x z || t) h
     go false f h =
         let ne : eqb x z ≡ false = false_from_ne_true (eqb x z) (λ q. both_ways (p z) f (ap p (sym (eqb-true x z q)) ∙ e)) in
@@ -203,7 +217,8 @@ pub any-distinct : (x : ℕ) (xs : List ℕ) → list_any (eqb x) (distinct xs) 
 any-distinct x [] = refl
 any-distinct x (y ∷ ys) = go (eqb x y) refl (any-distinct x ys)
   where
-    go : (b : Bool) → eqb x y ≡ b → list_any (eqb x) (distinct ys) ≡ list_any (eqb x) ys → (b || list_any (eqb x) (filter (other y) (distinct ys))) ≡ (b || list_any (eqb x) ys)
+    go : (b : Bool) → eqb x y ≡ b → list_any (eqb x) (distinct ys) ≡ list_any (eqb x) ys
+        → (b || list_any (eqb x) (filter (other y) (distinct ys))) ≡ (b || list_any (eqb x) ys)
     go true e h = refl
     go false e h =
         let ne : eqb y x ≡ false = false_from_ne_true (eqb y x) (λ q. both_ways (eqb x y) e (eq-eqb x y (sym (eqb-true y x q)))) in

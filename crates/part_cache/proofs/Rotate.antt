@@ -1,8 +1,11 @@
 -- A tag comes to the front of a set, and the ways before the one that had it, or before the last, go one on.
-use Rattle.std.proofs.Common.{◌≡◌, ℕ, zero, suc, ◌+◌, ◌-◌, ◌^◌, ◌<◌, ◌≤◌, List, [], ◌∷◌, ◌++◌, length, take, drop, get_or, set, true, false, refl, sym, ap, ◌∙◌, subst, arith}
+use Rattle.std.proofs.Common.{◌≡◌, ℕ, zero, suc, ◌+◌, ◌-◌, ◌^◌, ◌<◌, ◌≤◌, List, [], ◌∷◌, ◌++◌, length, take, drop, get_or, set, true, false, refl, sym, ap}
+use Rattle.std.proofs.Common.{◌∙◌, subst, arith}
 use Rattle.std.specs.Prelude.{eqb, replicate}
 use Rattle.std.specs.List.{filter, list_any}
-use Rattle.std.proofs.lemmas.List.{append_assoc, length-append, length-take, length-drop, length-set, take-append-drop, take-append-le, drop-append-le, take-replicate, drop-replicate, replicate-append-replicate, take_all, take_more, take_more_set, drop_more, drop-set-lt, same_from_push}
+use Rattle.std.proofs.lemmas.List.{append_assoc, length-append, length-take, length-drop, length-set, take-append-drop, take-append-le, drop-append-le}
+use Rattle.std.proofs.lemmas.List.{take-replicate, drop-replicate, replicate-append-replicate, take_all, take_more, take_more_set, drop_more, drop-set-lt}
+use Rattle.std.proofs.lemmas.List.{same_from_push}
 use Rattle.std.proofs.lemmas.List.Elements.{All-cons, All-take, All-filter}
 use Rattle.std.proofs.lemmas.Bool.{eq-eqb, ne_eqb, both_ways}
 use Rattle.part_cache.specs.Ways.{empty_way, held_tags, absent, Apart, AreWays, to_front}
@@ -18,7 +21,8 @@ pub record Carried (first tags : List ℕ) (tag last way : ℕ) : Type 0 where
 pub Carried-start : (first : List ℕ) (tag : ℕ) → Carried first first tag tag 0
 Carried-start first tag = record { front = refl; rest = refl; long = refl }
 
-pub Carried-more : (first tags : List ℕ) (tag last way next : ℕ) → Carried first tags tag last way → way < length first → next ≡ get_or tags way 0 → Carried first (set tags way last) tag next (way + 1)
+pub Carried-more : (first tags : List ℕ) (tag last way next : ℕ) → Carried first tags tag last way → way < length first → next ≡ get_or tags way 0
+    → Carried first (set tags way last) tag next (way + 1)
 Carried-more first tags tag last way next c lt is =
     record {
       front =
@@ -43,10 +47,12 @@ Carried-more first tags tag last way next c lt is =
     later = let h = heads in cc
 
 -- at the end of the loop
-pub carried_all : (first tags : List ℕ) (tag last way end : ℕ) → Carried first tags tag last end → end ≡ way + 1 → way < length first → tags ≡ tag ∷ (take way first ++ drop (way + 1) first)
+pub carried_all : (first tags : List ℕ) (tag last way end : ℕ) → Carried first tags tag last end → end ≡ way + 1 → way < length first
+    → tags ≡ tag ∷ (take way first ++ drop (way + 1) first)
 carried_all first tags tag last way end c is lt =
     let d : Carried first tags tag last (way + 1) = subst (Carried first tags tag last) is c in
-    let front : (tag ∷ take way first) ++ get_or first way 0 ∷ [] ≡ take (way + 1) tags ++ last ∷ [] = ap (λ t. tag ∷ t) (sym (take_more first way 0 lt)) ∙ d.front in
+    let front : (tag ∷ take way first) ++ get_or first way 0 ∷ [] ≡ take (way + 1) tags ++ last ∷ [] =
+        ap (λ t. tag ∷ t) (sym (take_more first way 0 lt)) ∙ d.front in
     let heads = same_from_push (tag ∷ take way first) (take (way + 1) tags) (get_or first way 0) last front in
     sym (take-append-drop (way + 1) tags) ∙ ap (λ t. t ++ drop (way + 1) tags) (sym heads.0) ∙ ap (λ t. (tag ∷ take way first) ++ t) d.rest
 
@@ -71,7 +77,8 @@ Apart-take (suc n) (x ∷ xs) a = (absent-take x n xs a.0, Apart-take n xs a.1)
 
 -- an empty way goes, or the last tag where there is none
 shifted : (xs : List ℕ) (w m : ℕ) → length xs ≤ suc w → suc w ≤ length xs + m →
-    take w (xs ++ replicate m empty_way) ++ drop (suc w) (xs ++ replicate m empty_way) ≡ take w xs ++ replicate (length xs + m - suc (length (take w xs))) empty_way
+    take w (xs ++ replicate m empty_way) ++ drop (suc w) (xs ++ replicate m empty_way) ≡ take w xs
+        ++ replicate (length xs + m - suc (length (take w xs))) empty_way
 shifted [] zero m few fits = drop-replicate 1 m empty_way ∙ ap (λ n. replicate n empty_way) (omega arith)
 shifted [] (suc w) m few fits =
     ap (λ t. t ++ drop (suc (suc w)) (replicate m empty_way)) (take-replicate (suc w) m empty_way (omega arith))
@@ -98,11 +105,13 @@ module _ (tags : List ℕ) (s : AreWays tags) (tag ways : ℕ) (small : tag < 2 
         held = front;
         are = is;
         few = short;
-        small = All-take (λ t. t < 2 ^ 32) ways (tag ∷ filter (other tag) s.held) (All-cons (λ t. t < 2 ^ 32) tag (filter (other tag) s.held) small (All-filter (other tag) (λ t. t < 2 ^ 32) s.held s.small));
+        small = All-take (λ t. t < 2 ^ 32) ways (tag ∷ filter (other tag) s.held)
+            (All-cons (λ t. t < 2 ^ 32) tag (filter (other tag) s.held) small (All-filter (other tag) (λ t. t < 2 ^ 32) s.held s.small));
         apart = Apart-take ways (tag ∷ filter (other tag) s.held) (absent-filter tag s.held, Apart-filter (other tag) s.held s.apart);
       }
 
-  front_row : (after : List ℕ) → after ≡ front ++ replicate (8 - length front) empty_way → length front ≤ 8 → held_tags after ≡ to_front ways tag (held_tags tags)
+  front_row : (after : List ℕ) → after ≡ front ++ replicate (8 - length front) empty_way → length front ≤ 8
+      → held_tags after ≡ to_front ways tag (held_tags tags)
   unfolding front_set
   front_row after is short = held_is after (front_set after is short) ∙ ap (to_front ways tag) (sym (held_is tags s))
 
@@ -159,7 +168,8 @@ module _ (tags : List ℕ) (s : AreWays tags) (tag ways : ℕ) (small : tag < 2 
     ways_is = omega arith
 
     cut : front ≡ tag ∷ take last s.held
-    cut = ap (λ n. take n (tag ∷ filter (other tag) s.held)) ways_is ∙ ap (λ t. tag ∷ take last t) (filter_absent tag s.held (subst (absent tag) (held_is tags s) none))
+    cut = ap (λ n. take n (tag ∷ filter (other tag) s.held)) ways_is
+        ∙ ap (λ t. tag ∷ take last t) (filter_absent tag s.held (subst (absent tag) (held_is tags s) none))
 
     length-cut : length (take last s.held) ≤ last
     length-cut = omega (arith, length-take last s.held)

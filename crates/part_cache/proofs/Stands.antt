@@ -1,5 +1,6 @@
 -- A cache that stands for a history answers by it, and stands for the longer one after a touch.
-use Rattle.std.proofs.Common.{◌≡◌, ℕ, zero, suc, ◌+◌, ◌*◌, ◌%◌, ◌<◌, ◌≤◌, List, [], ◌∷◌, ◌++◌, length, take, get_or, Bool, true, false, refl, sym, ap, ◌∙◌, subst, ◌⊎◌, inl, inr, arith}
+use Rattle.std.proofs.Common.{◌≡◌, ℕ, zero, suc, ◌+◌, ◌*◌, ◌%◌, ◌<◌, ◌≤◌, List, [], ◌∷◌, ◌++◌, length, take, get_or, Bool, true, false, refl, sym, ap, ◌∙◌}
+use Rattle.std.proofs.Common.{subst, ◌⊎◌, inl, inr, arith}
 use Rattle.std.specs.Prelude.{not, cond, eqb, ◌&&◌, ◌||◌, reverse, slice_set}
 use Rattle.std.specs.List.{filter, list_any}
 use Rattle.std.proofs.Common.{get_or-set_same, get_or-set_other, length-take, length-set}
@@ -16,22 +17,26 @@ use Rattle.part_cache.proofs.Near.{near_is, front_is, any_near}
 abbrev pub is_at : ℕ → ℕ → ℕ → Touched → Bool
 is_at sets label set x = eqb x.label label && eqb (x.tag % sets) set
 
-tags_in-push : (sets label set : ℕ) (h : List Touched) (x : Touched) → tags_in sets label set (h ++ x ∷ []) ≡ tags_in sets label set h ++ cond (is_at sets label set x) (x.tag ∷ []) []
+tags_in-push : (sets label set : ℕ) (h : List Touched) (x : Touched)
+    → tags_in sets label set (h ++ x ∷ []) ≡ tags_in sets label set h ++ cond (is_at sets label set x) (x.tag ∷ []) []
 tags_in-push sets label set [] x = refl
 tags_in-push sets label set (y ∷ h) x = go (is_at sets label set y) (tags_in-push sets label set h x)
   where
     go : (b : Bool) → tags_in sets label set (h ++ x ∷ []) ≡ tags_in sets label set h ++ cond (is_at sets label set x) (x.tag ∷ []) [] →
-        cond b (y.tag ∷ tags_in sets label set (h ++ x ∷ [])) (tags_in sets label set (h ++ x ∷ [])) ≡ cond b (y.tag ∷ tags_in sets label set h) (tags_in sets label set h) ++ cond (is_at sets label set x) (x.tag ∷ []) []
+        cond b (y.tag ∷ tags_in sets label set (h ++ x ∷ [])) (tags_in sets label set (h ++ x ∷ []))
+            ≡ cond b (y.tag ∷ tags_in sets label set h) (tags_in sets label set h) ++ cond (is_at sets label set x) (x.tag ∷ []) []
     go true e = ap (λ t. y.tag ∷ t) e
     go false e = e
 
 -- looking back, the touch comes first
-back_here : (sets label set : ℕ) (h : List Touched) (x : Touched) → is_at sets label set x ≡ true → reverse (tags_in sets label set (h ++ x ∷ [])) ≡ x.tag ∷ reverse (tags_in sets label set h)
+back_here : (sets label set : ℕ) (h : List Touched) (x : Touched) → is_at sets label set x ≡ true
+    → reverse (tags_in sets label set (h ++ x ∷ [])) ≡ x.tag ∷ reverse (tags_in sets label set h)
 back_here sets label set h x e =
     ap reverse (tags_in-push sets label set h x ∙ ap (λ b. tags_in sets label set h ++ cond b (x.tag ∷ []) []) e)
     ∙ reverse-append (tags_in sets label set h) (x.tag ∷ [])
 
-back_elsewhere : (sets label set : ℕ) (h : List Touched) (x : Touched) → is_at sets label set x ≡ false → reverse (tags_in sets label set (h ++ x ∷ [])) ≡ reverse (tags_in sets label set h)
+back_elsewhere : (sets label set : ℕ) (h : List Touched) (x : Touched) → is_at sets label set x ≡ false
+    → reverse (tags_in sets label set (h ++ x ∷ [])) ≡ reverse (tags_in sets label set h)
 back_elsewhere sets label set h x e =
     ap reverse (tags_in-push sets label set h x ∙ ap (λ b. tags_in sets label set h ++ cond b (x.tag ∷ []) []) e ∙ append-nil (tags_in sets label set h))
 
@@ -42,7 +47,8 @@ pub held_here : (sets ways : ℕ) (h : List Touched) (label tag : ℕ) → 0 < w
     held sets ways (h ++ record { label = label; tag = tag } ∷ []) label (tag % sets) ≡ to_front ways tag (held sets ways h label (tag % sets))
 held_here sets ways h label tag some =
     let x : Touched = record { label = label; tag = tag } in
-    let here : is_at sets label (tag % sets) x ≡ true = and_from (eqb label label) (eqb (tag % sets) (tag % sets)) (eq-eqb label label refl) (eq-eqb (tag % sets) (tag % sets) refl) in
+    let here : is_at sets label (tag % sets) x ≡ true =
+        and_from (eqb label label) (eqb (tag % sets) (tag % sets)) (eq-eqb label label refl) (eq-eqb (tag % sets) (tag % sets) refl) in
     held_is sets ways (h ++ x ∷ []) label (tag % sets)
     ∙ ap (λ b. take ways (distinct b)) (back_here sets label (tag % sets) h x here)
     ∙ front_is ways tag (reverse (tags_in sets label (tag % sets) h)) some
@@ -70,7 +76,8 @@ module _ (c : Rows) (good : IsCache c) where
       get_or-set_same c.rows (ew * c.sets + tag % c.sets) (to_front c.ways tag (tags_at c ew (tag % c.sets))) []
       (place_below tag ew h)
 
-  pub tags_elsewhere : (tag ew label set : ℕ) → set < c.sets → ((label ≡ ew) × (set ≡ tag % c.sets) → ⊥) → tags_at (touched c tag ew) label set ≡ tags_at c label set
+  pub tags_elsewhere : (tag ew label set : ℕ) → set < c.sets → ((label ≡ ew) × (set ≡ tag % c.sets) → ⊥)
+      → tags_at (touched c tag ew) label set ≡ tags_at c label set
   tags_elsewhere tag ew label set h ne =
       get_or-set_other c.rows (ew * c.sets + tag % c.sets) (label * c.sets + set) (to_front c.ways tag (tags_at c ew (tag % c.sets))) []
       (λ e. ne (same_from_place label set ew (tag % c.sets) c.sets h (set_below tag) e))
@@ -93,15 +100,20 @@ module _ (c : Rows) (good : IsCache c) where
       row : List ℕ
       row = to_front c.ways tag (tags_at c ew (tag % c.sets))
 
-      short : (k : ℕ) → ((k ≡ place) ⊎ (k ≡ place → ⊥)) → ((k < length c.rows) ⊎ (length c.rows ≤ k)) → length (get_or (slice_set c.rows place row) k []) ≤ c.ways
+      short : (k : ℕ) → ((k ≡ place) ⊎ (k ≡ place → ⊥)) → ((k < length c.rows) ⊎ (length c.rows ≤ k))
+          → length (get_or (slice_set c.rows place row) k []) ≤ c.ways
       short k (inr ne) q = rw (get_or-set_other c.rows place k row [] ne) (good.few k)
-      short k (inl e) (inl lt) = let l : place < length c.rows = omega arith in rw (e, get_or-set_same c.rows place row [] l) (length-to_front tag (tags_at c ew (tag % c.sets)))
+      short k (inl e) (inl lt) = let l : place < length c.rows = omega arith in
+          rw (e, get_or-set_same c.rows place row [] l) (length-to_front tag (tags_at c ew (tag % c.sets)))
       short k (inl e) (inr ge) = let l : length c.rows ≤ place = omega arith in rw (set_past c.rows place row l) (good.few k)
 
-  pub StandsFor-touched : (tag ew : ℕ) (h : List Touched) → ew < c.order.size → StandsFor c h → StandsFor (touched c tag ew) (h ++ record { label = ew; tag = tag } ∷ [])
-  StandsFor-touched tag ew h in_range stands = record { each = λ label set lb sb. go label set lb sb (cases_Bool (is_at c.sets label set (record { label = ew; tag = tag }))) }
+  pub StandsFor-touched : (tag ew : ℕ) (h : List Touched) → ew < c.order.size → StandsFor c h
+      → StandsFor (touched c tag ew) (h ++ record { label = ew; tag = tag } ∷ [])
+  StandsFor-touched tag ew h in_range stands =
+      record { each = λ label set lb sb. go label set lb sb (cases_Bool (is_at c.sets label set (record { label = ew; tag = tag }))) }
     where
-      go : (label set : ℕ) → label < c.order.size → set < c.sets → ((is_at c.sets label set (record { label = ew; tag = tag }) ≡ true) ⊎ (is_at c.sets label set (record { label = ew; tag = tag }) ≡ false)) →
+      go : (label set : ℕ) → label < c.order.size → set < c.sets
+          → ((is_at c.sets label set (record { label = ew; tag = tag }) ≡ true) ⊎ (is_at c.sets label set (record { label = ew; tag = tag }) ≡ false)) →
           tags_at (touched c tag ew) label set ≡ held c.sets c.ways (h ++ record { label = ew; tag = tag } ∷ []) label set
       go label set lb sb (inl e) =
           let p = and_parts (eqb ew label) (eqb (tag % c.sets) set) e in
@@ -109,10 +121,14 @@ module _ (c : Rows) (good : IsCache c) where
           let same_set : tag % c.sets ≡ set = eqb-true (tag % c.sets) set p.1 in
           subst (λ l. tags_at (touched c tag ew) l set ≡ held c.sets c.ways (h ++ record { label = ew; tag = tag } ∷ []) l set) same_label
           (subst (λ s. tags_at (touched c tag ew) ew s ≡ held c.sets c.ways (h ++ record { label = ew; tag = tag } ∷ []) ew s) same_set
-          (tags_here tag ew in_range ∙ ap (to_front c.ways tag) (stands.each ew (tag % c.sets) in_range (set_below tag)) ∙ sym (held_here c.sets c.ways h ew tag good.some_way)))
+          (tags_here tag ew in_range ∙ ap (to_front c.ways tag) (stands.each ew (tag % c.sets) in_range (set_below tag))
+              ∙ sym (held_here c.sets c.ways h ew tag good.some_way)))
       go label set lb sb (inr e) =
-          let apart : (label ≡ ew) × (set ≡ tag % c.sets) → ⊥ = λ p. both_ways (is_at c.sets label set (record { label = ew; tag = tag })) e (and_from (eqb ew label) (eqb (tag % c.sets) set) (eq-eqb ew label (sym p.0)) (eq-eqb (tag % c.sets) set (sym p.1))) in
-          tags_elsewhere tag ew label set sb apart ∙ stands.each label set lb sb ∙ sym (held_elsewhere c.sets c.ways h (record { label = ew; tag = tag }) label set e)
+          let apart : (label ≡ ew) × (set ≡ tag % c.sets) → ⊥ =
+              λ p. both_ways (is_at c.sets label set (record { label = ew; tag = tag })) e
+              (and_from (eqb ew label) (eqb (tag % c.sets) set) (eq-eqb ew label (sym p.0)) (eq-eqb (tag % c.sets) set (sym p.1))) in
+          tags_elsewhere tag ew label set sb apart ∙ stands.each label set lb sb
+              ∙ sym (held_elsewhere c.sets c.ways h (record { label = ew; tag = tag }) label set e)
 
   pub some_below_same : (n : ℕ) (p q : ℕ → Bool) → ((k : ℕ) → k < n → p k ≡ q k) → some_below n p ≡ some_below n q
   some_below_same zero p q h = refl

@@ -12,12 +12,15 @@ use Rattle.part_tlb.specs.declared.part.PartEnv.{PartEnv}
 use Rattle.part_tlb.specs.declared.part2.Part2Env.{Part2Env}
 use Rattle.part_tlb.specs.Histories.{Placed, touches_at, history_of, part_by_history, part2_by_history}
 use Rattle.part_tlb.specs.Structures.{Keeps, part_at, warmed}
-use Rattle.part_tlb.specs.Envs.{part_structure, part_touched, part_penalty, part_after, empty_part, part2_structure, part2_touched, part2_penalty, part2_after, empty_part2, part_env, part2_env}
+use Rattle.part_tlb.specs.Envs.{part_structure, part_touched, part_penalty, part_after, empty_part, part2_structure, part2_touched, part2_penalty}
+use Rattle.part_tlb.specs.Envs.{part2_after, empty_part2, part_env, part2_env}
 use Rattle.part_tlb.specs.Laws.{part_moves, part2_moves, part_keeps, part2_keeps}
-use Rattle.part_tlb.proofs.History.{warmed_serves, warmed_stands, part_penalty_is, part_after_stands, part2_penalty_is, part2_after_stands, part_serves, part_stands, part2_serves, part2_stands}
+use Rattle.part_tlb.proofs.History.{warmed_serves, warmed_stands, part_penalty_is, part_after_stands, part2_penalty_is, part2_after_stands, part_serves}
+use Rattle.part_tlb.proofs.History.{part_stands, part2_serves, part2_stands}
 
 -- ---- one level
-one_part : (order : Order) (q : Place) (l : ℕ) (e : PartEnv) (h : List Placed) → l < order.size → Keeps part_structure order e h → part_at part_structure q l e ≡ (part_by_history order).part q l h
+one_part : (order : Order) (q : Place) (l : ℕ) (e : PartEnv) (h : List Placed) → l < order.size → Keeps part_structure order e h
+    → part_at part_structure q l e ≡ (part_by_history order).part q l h
 one_part order Page l e h lt k = part_of_held order 1 4 e.buffer l (touches_at Page h) (k.made.each Page) lt (k.stands.each Page)
 one_part order Code l e h lt k = part_of_held order 8 2 e.code_cache l (touches_at Code h) (k.made.each Code) lt (k.stands.each Code)
 one_part order Data l e h lt k = part_of_held order 8 2 e.data_cache l (touches_at Data h) (k.made.each Data) lt (k.stands.each Data)
@@ -38,11 +41,13 @@ one_level order =
 empty_keeps : (order : Order) → Keeps part_structure order (empty_part order) []
 empty_keeps order =
     record {
-      made = part_serves order (empty_part order) (IsCacheOf-empty order 1 4 (omega arith) (omega arith)) (IsCacheOf-empty order 8 2 (omega arith) (omega arith)) (IsCacheOf-empty order 8 2 (omega arith) (omega arith));
+      made = part_serves order (empty_part order) (IsCacheOf-empty order 1 4 (omega arith) (omega arith))
+          (IsCacheOf-empty order 8 2 (omega arith) (omega arith)) (IsCacheOf-empty order 8 2 (omega arith) (omega arith));
       stands = part_stands (empty_part order) (StandsFor-empty_cache order 1 4) (StandsFor-empty_cache order 8 2) (StandsFor-empty_cache order 8 2);
     }
 
-pub one_start : (order : Order) (touches : List Touch) → All (λ t. t.label.number < order.size) touches → Keeps part_structure order (warmed part_touched (empty_part order) touches) (history_of touches)
+pub one_start : (order : Order) (touches : List Touch) → All (λ t. t.label.number < order.size) touches
+    → Keeps part_structure order (warmed part_touched (empty_part order) touches) (history_of touches)
 one_start order touches below =
     let k = empty_keeps order in
     record {
@@ -51,7 +56,8 @@ one_start order touches below =
     }
 
 -- ---- two levels
-two_part : (order : Order) (q : Place) (l : ℕ) (e : Part2Env) (h : List Placed) → l < order.size → Keeps part2_structure order e h → part_at part2_structure q l e ≡ (part2_by_history order).part q l h
+two_part : (order : Order) (q : Place) (l : ℕ) (e : Part2Env) (h : List Placed) → l < order.size → Keeps part2_structure order e h
+    → part_at part2_structure q l e ≡ (part2_by_history order).part q l h
 two_part order Page l e h lt k = part_of_held order 1 4 e.first.buffer l (touches_at Page h) (k.made.each Page) lt (k.stands.each Page)
 two_part order Code l e h lt k = part_of_held order 8 2 e.first.code_cache l (touches_at Code h) (k.made.each Code) lt (k.stands.each Code)
 two_part order Data l e h lt k = part_of_held order 8 2 e.first.data_cache l (touches_at Data h) (k.made.each Data) lt (k.stands.each Data)
@@ -77,7 +83,8 @@ empty2_keeps order =
       stands = part2_stands (empty_part2 order) k.stands (StandsFor-empty_cache order 32 4);
     }
 
-pub two_start : (order : Order) (touches : List Touch) → All (λ t. t.label.number < order.size) touches → Keeps part2_structure order (warmed part2_touched (empty_part2 order) touches) (history_of touches)
+pub two_start : (order : Order) (touches : List Touch) → All (λ t. t.label.number < order.size) touches
+    → Keeps part2_structure order (warmed part2_touched (empty_part2 order) touches) (history_of touches)
 two_start order touches below =
     let k = empty2_keeps order in
     record {

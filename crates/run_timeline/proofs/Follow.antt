@@ -48,7 +48,8 @@ module _ {E : Type 0} (v : Env E) (code : List Instr) (limit : ℕ) (from : Star
       ap (told v code) (r.ends ∙ sym (none_after (map event_of ms) (seen old))) ∙ (told_past v code (map event_of ms) (seen old) ∙ e) in
       ap (λ z. z ++ more) r.tells ∙ (ap (λ z. moments v code r.count x ++ z) (sym last) ∙ sym (moments_last v code r.count x))
 
-  pub follow : (ms more : List Moment) (old new : State E) → Followed v code limit from ms old → step v code (seen old) ≡ with_log (map event_of more) (seen new) →
+  pub follow : (ms more : List Moment) (old new : State E) → Followed v code limit from ms old
+      → step v code (seen old) ≡ with_log (map event_of more) (seen new) →
       told v code (seen old) ≡ more → new.clock ≤ limit → Followed v code limit from (ms ++ more) new
   follow ms more old new r e t w =
       record {
@@ -65,7 +66,8 @@ module _ {E : Type 0} (v : Env E) (code : List Instr) (limit : ℕ) (from : Star
   pub late_is : (ms : List Moment) (s : State E) → Followed v code limit from ms s → limit < (step v code (seen s)).core.clock →
       (run_from v code limit from ≡ with_log (map event_of ms) (seen s)) × IsTimeline v code limit from ms
   late_is ms s r late =
-      let run : run_from v code limit from ≡ with_log (map event_of ms) (seen s) = limit_is v code limit from.memory from.env (map event_of ms) s (reached ms s r) late in
+      let run : run_from v code limit from ≡ with_log (map event_of ms) (seen s) =
+          limit_is v code limit from.memory from.env (map event_of ms) s (reached ms s r) late in
       (run, record { count = r.count; ends = r.ends ∙ sym run; tells = r.tells })
 
   -- and after HALT
@@ -75,9 +77,11 @@ module _ {E : Type 0} (v : Env E) (code : List Instr) (limit : ℕ) (from : Star
   halted_is ms old new r e t w l =
       let y : Machine E = record (seen new) { halted = true } in
       let empty : with_log (map event_of ms ++ []) y ≡ with_log (map event_of ms) y = none_after (map event_of ms) y in
-      let quiet : Quiet v code [] limit old old = record { count = 0; hidden = []; unseen = All-nil (IsHidden []); ends = refl; within = inl refl; later = omega arith } in
+      let quiet : Quiet v code [] limit old old =
+          record { count = 0; hidden = []; unseen = All-nil (IsHidden []); ends = refl; within = inl refl; later = omega arith } in
       let comes : Comes v code [] limit old new y = record { mid = old; quiet = quiet; next = e; within = w; later = l } in
-      let run : run_from v code limit from ≡ record (with_log (map event_of ms) (seen new)) { halted = true } = halt_is v code [] limit from.memory from.env (map event_of ms) old new (reached ms old r) comes ∙ empty in
+      let run : run_from v code limit from ≡ record (with_log (map event_of ms) (seen new)) { halted = true } =
+          halt_is v code [] limit from.memory from.env (map event_of ms) old new (reached ms old r) comes ∙ empty in
       let ends : steps v code (suc r.count) (start from.memory from.env) ≡ record (with_log (map event_of ms) (seen new)) { halted = true } =
       ends_next ms old y r e ∙ empty in
       (run, record { count = suc r.count; ends = ends ∙ sym run; tells = sym (append-nil ms) ∙ tells_next ms [] old r t })

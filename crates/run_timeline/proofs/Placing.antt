@@ -8,7 +8,8 @@ use Rattle.mit_syntax.specs.Todo.{Todo, Done, Skip, Assign, Put, Sleep, If, Whil
 use Rattle.mit_syntax.specs.Plan.{Written, Plan, mitigates}
 use Rattle.run_timeline.specs.Places.{places}
 
-pub if_places : (w : Written) (e : Expression) (q a b rest : Plan) (x y z : List Pos) → q ≡ If w e a b rest → y ≡ x ++ places a → z ≡ y ++ places b → x ++ places q ≡ z ++ places rest
+pub if_places : (w : Written) (e : Expression) (q a b rest : Plan) (x y z : List Pos) → q ≡ If w e a b rest → y ≡ x ++ places a → z ≡ y ++ places b
+    → x ++ places q ≡ z ++ places rest
 if_places w e q a b rest x y z hq hy hz =
     ap (λ u. x ++ places u) hq
     ∙ sym (append_assoc x (places a) (places b ++ places rest))
@@ -16,7 +17,8 @@ if_places w e q a b rest x y z hq hy hz =
     ∙ sym (append_assoc y (places b) (places rest))
     ∙ ap (λ u. u ++ places rest) (sym hz)
 
-pub while_places : (w : Written) (e : Expression) (q a rest : Plan) (x y : List Pos) → q ≡ While w e a rest → y ≡ x ++ places a → x ++ places q ≡ y ++ places rest
+pub while_places : (w : Written) (e : Expression) (q a rest : Plan) (x y : List Pos) → q ≡ While w e a rest → y ≡ x ++ places a
+    → x ++ places q ≡ y ++ places rest
 while_places w e q a rest x y hq hy =
     ap (λ u. x ++ places u) hq
     ∙ sym (append_assoc x (places a) (places rest))

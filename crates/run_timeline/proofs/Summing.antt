@@ -26,7 +26,8 @@ module _ (ps : List Pos) (ts : List Tally) where
   next_line : (i : ℕ) (t : Tally) → i < length ts → t ≡ get_or ts i t → summary_from ps i (drop i ts) ≡ line ps i t ++ summary_from ps (i + 1) (drop (i + 1) ts)
   next_line i t l e = ap (summary_from ps i) (drop_more ts i t l ∙ ap (λ z. z ∷ drop (i + 1) ts) (sym e))
 
-  pub sum_more : (a b c : Option (List ℕ)) (i : ℕ) (t : Tally) → Summed ps ts a b i → i < length ts → t ≡ get_or ts i t → Appends b c (line ps i t) → Summed ps ts a c (i + 1)
+  pub sum_more : (a b c : Option (List ℕ)) (i : ℕ) (t : Tally) → Summed ps ts a b i → i < length ts → t ≡ get_or ts i t
+      → Appends b c (line ps i t) → Summed ps ts a c (i + 1)
   sum_more a b c i t s l e q = record {
     text = s.text ++ line ps i t;
     written = Appends-trans a b c s.text (line ps i t) s.written q;
@@ -36,6 +37,8 @@ module _ (ps : List Pos) (ts : List Tally) where
   pub sum_all : (a b : Option (List ℕ)) (i : ℕ) → Summed ps ts a b i → length ts ≤ i → Appends a b (summary_text ps ts)
   sum_all a b i s l = subst (Appends a b) (sym (append-nil s.text) ∙ (ap (λ z. s.text ++ summary_from ps i z) (sym (drop_all i ts l)) ∙ s.rest)) s.written
 
-  pub sum_part : (a b c : Option (List ℕ)) (i : ℕ) (t : Tally) → Summed ps ts a b i → i < length ts → t ≡ get_or ts i t → AppendsPrefix b c (line ps i t) → AppendsPrefix a c (summary_text ps ts)
+  pub sum_part : (a b c : Option (List ℕ)) (i : ℕ) (t : Tally) → Summed ps ts a b i → i < length ts → t ≡ get_or ts i t → AppendsPrefix b c (line ps i t)
+      → AppendsPrefix a c (summary_text ps ts)
   sum_part a b c i t s l e q =
-      prefix_then a b c s.text (line ps i t) (summary_from ps (i + 1) (drop (i + 1) ts)) (summary_text ps ts) s.written q (ap (λ z. s.text ++ z) (sym (next_line i t l e)) ∙ s.rest)
+      prefix_then a b c s.text (line ps i t) (summary_from ps (i + 1) (drop (i + 1) ts)) (summary_text ps ts) s.written q
+          (ap (λ z. s.text ++ z) (sym (next_line i t l e)) ∙ s.rest)

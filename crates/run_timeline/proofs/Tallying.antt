@@ -1,5 +1,6 @@
 -- Tallies of moments, one after another.
-use Rattle.std.proofs.Common.{◌≡◌, ℕ, zero, suc, ◌+◌, ◌<◌, ◌≤◌, ◌^◌, ◌⊎◌, inl, inr, List, [], ◌∷◌, ◌++◌, length, get_or, refl, sym, ap, ◌∙◌, subst, arith, append-nil}
+use Rattle.std.proofs.Common.{◌≡◌, ℕ, zero, suc, ◌+◌, ◌<◌, ◌≤◌, ◌^◌, ◌⊎◌, inl, inr, List, [], ◌∷◌, ◌++◌, length, get_or, refl, sym, ap, ◌∙◌, subst, arith}
+use Rattle.std.proofs.Common.{append-nil}
 use Rattle.std.specs.Prelude.{Bool, true, false, cond, ◌&&◌, min, max, eqb, ltb, slice_set, slice_index_or, All}
 use Rattle.std.proofs.lemmas.Bool.{cases_eq, eq-eqb, ne_eqb}
 use Rattle.std.proofs.lemmas.List.{length-set, length_push, get_or-set_same, get_or-set_other, get_or_default}
@@ -15,7 +16,8 @@ works-append k (Assigned x n c ∷ ms) ns = works-append k ms ns
 works-append k (Begins j n d m c ∷ ms) ns = works-append k ms ns
 works-append k (Ends j w d m n c ∷ ms) ns = go (eqb j k) (works-append k ms ns)
   where
-    go : (b : Bool) → works k (ms ++ ns) ≡ works k ms ++ works k ns → cond b (w ∷ works k (ms ++ ns)) (works k (ms ++ ns)) ≡ cond b (w ∷ works k ms) (works k ms) ++ works k ns
+    go : (b : Bool) → works k (ms ++ ns) ≡ works k ms ++ works k ns
+        → cond b (w ∷ works k (ms ++ ns)) (works k (ms ++ ns)) ≡ cond b (w ∷ works k ms) (works k ms) ++ works k ns
     go true e = ap (λ z. w ∷ z) e
     go false e = e
 
@@ -61,7 +63,8 @@ tally_noted k ms w d m n c =
     plus a b = omega arith
 
     parts : (xs : List ℕ) (z : ℕ) →
-        tally (length (xs ++ w ∷ [])) (shortest (xs ++ w ∷ [])) (longest (xs ++ w ∷ [])) z ≡ tally (length xs + 1) (cond (eqb (length xs) 0) w (min (shortest xs) w)) (max (longest xs) w) z
+        tally (length (xs ++ w ∷ [])) (shortest (xs ++ w ∷ [])) (longest (xs ++ w ∷ [])) z
+            ≡ tally (length xs + 1) (cond (eqb (length xs) 0) w (min (shortest xs) w)) (max (longest xs) w) z
     parts xs z =
         ap (λ y. tally y (shortest (xs ++ w ∷ [])) (longest (xs ++ w ∷ [])) z) (length_push xs w)
         ∙ (ap (λ y. tally (length xs + 1) y (longest (xs ++ w ∷ [])) z) (shortest_more xs w)
@@ -92,7 +95,8 @@ tally_quiet k ms ns e f =
 pub tallied_more : (ms : List Moment) (ts : List Tally) (m : Moment) → AreTallies ms ts → AreTallies (ms ++ m ∷ []) (noted_moment ts m)
 tallied_more ms ts (Assigned x n c) h = record { each = λ k d l. h.each k d l ∙ sym (tally_quiet k ms (Assigned x n c ∷ []) refl refl) }
 tallied_more ms ts (Begins j n d m c) h = record { each = λ k e l. h.each k e l ∙ sym (tally_quiet k ms (Begins j n d m c ∷ []) refl refl) }
-tallied_more ms ts (Ends j w d m n c) h = record { each = λ k e l. at k e (omega (arith, l, length-set ts j (noted (slice_index_or ts j no_tally) w (ltb m n)))) (cases_eq k j) }
+tallied_more ms ts (Ends j w d m n c) h =
+    record { each = λ k e l. at k e (omega (arith, l, length-set ts j (noted (slice_index_or ts j no_tally) w (ltb m n)))) (cases_eq k j) }
   where
     at : (k : ℕ) (e : Tally) → k < length ts → (k ≡ j) ⊎ (k ≡ j → ⊥) → slice_index_or (noted_at ts j w (ltb m n)) k e ≡ tally_of k (ms ++ Ends j w d m n c ∷ [])
     at k e l (inl q) =
@@ -112,7 +116,8 @@ grown_more a b old ts (Ends j w d m n c) l g = record {
   each = λ k e h. at k e h (cases_eq k j);
 }
   where
-    up : (t : Tally) (o : ℕ) → (t.ended ≤ o + a) × (t.missed ≤ t.ended) → ((noted t w (ltb m n)).ended ≤ o + b) × ((noted t w (ltb m n)).missed ≤ (noted t w (ltb m n)).ended)
+    up : (t : Tally) (o : ℕ) → (t.ended ≤ o + a) × (t.missed ≤ t.ended) → ((noted t w (ltb m n)).ended ≤ o + b)
+        × ((noted t w (ltb m n)).missed ≤ (noted t w (ltb m n)).ended)
     up t o r = let p = r.0 in let q = r.1 in (omega (arith, p, l), missed (ltb m n))
       where
         missed : (x : Bool) → cond x (t.missed + 1) t.missed ≤ t.ended + 1
@@ -120,15 +125,19 @@ grown_more a b old ts (Ends j w d m n c) l g = record {
         missed false = let q = r.1 in omega (arith, q)
 
     at : (k : ℕ) (e : Tally) → k < length old → (k ≡ j) ⊎ (k ≡ j → ⊥) →
-        ((slice_index_or (noted_at ts j w (ltb m n)) k e).ended ≤ (slice_index_or old k e).ended + b) × ((slice_index_or (noted_at ts j w (ltb m n)) k e).missed ≤ (slice_index_or (noted_at ts j w (ltb m n)) k e).ended)
+        ((slice_index_or (noted_at ts j w (ltb m n)) k e).ended ≤ (slice_index_or old k e).ended + b)
+            × ((slice_index_or (noted_at ts j w (ltb m n)) k e).missed ≤ (slice_index_or (noted_at ts j w (ltb m n)) k e).ended)
     at k e h (inl q) =
         let l' : j < length ts = omega (arith, h, q, g.fit) in
-        let r : ((slice_index_or ts j no_tally).ended ≤ (slice_index_or old j no_tally).ended + a) × ((slice_index_or ts j no_tally).missed ≤ (slice_index_or ts j no_tally).ended) = g.each j no_tally (omega (arith, h, q)) in
+        let r : ((slice_index_or ts j no_tally).ended ≤ (slice_index_or old j no_tally).ended + a)
+            × ((slice_index_or ts j no_tally).missed ≤ (slice_index_or ts j no_tally).ended) = g.each j no_tally (omega (arith, h, q)) in
         let u = up (slice_index_or ts j no_tally) (slice_index_or old j no_tally).ended r in
-        let same : slice_index_or old j no_tally ≡ slice_index_or old k e = get_or_default old j no_tally e (omega (arith, h, q)) ∙ ap (λ z. slice_index_or old z e) (sym q) in
+        let same : slice_index_or old j no_tally ≡ slice_index_or old k e =
+            get_or_default old j no_tally e (omega (arith, h, q)) ∙ ap (λ z. slice_index_or old z e) (sym q) in
         subst (λ t. (t.ended ≤ (slice_index_or old k e).ended + b) × (t.missed ≤ t.ended))
         (sym (ap (λ z. slice_index_or (noted_at ts j w (ltb m n)) z e) q ∙ get_or-set_same ts j (noted (slice_index_or ts j no_tally) w (ltb m n)) e l'))
-        (subst (λ t. ((noted (slice_index_or ts j no_tally) w (ltb m n)).ended ≤ t.ended + b) × ((noted (slice_index_or ts j no_tally) w (ltb m n)).missed ≤ (noted (slice_index_or ts j no_tally) w (ltb m n)).ended)) same u)
+        (subst (λ t. ((noted (slice_index_or ts j no_tally) w (ltb m n)).ended ≤ t.ended + b)
+            × ((noted (slice_index_or ts j no_tally) w (ltb m n)).missed ≤ (noted (slice_index_or ts j no_tally) w (ltb m n)).ended)) same u)
     at k e h (inr q) =
         let r = g.each k e h in
         subst (λ t. (t.ended ≤ (slice_index_or old k e).ended + b) × (t.missed ≤ t.ended))
@@ -142,7 +151,8 @@ pub grown_first : (n c : ℕ) (ts : List Tally) → HaveRoom n ts → Grown c ts
 grown_first n c ts h = record { fit = refl; each = λ k d l. let r = h k d l in (omega arith, r.1) }
 
 -- where tallies have grown by less than there is room for, there is room for one more
-pub room_left : (n a : ℕ) (old ts : List Tally) → a < n → HaveRoom n old → Grown a old ts → (k : ℕ) (d : Tally) → k < length ts → HasRoom 1 (slice_index_or ts k d)
+pub room_left : (n a : ℕ) (old ts : List Tally) → a < n → HaveRoom n old → Grown a old ts → (k : ℕ) (d : Tally) → k < length ts
+    → HasRoom 1 (slice_index_or ts k d)
 room_left n a old ts l h g k d q =
     let q' : k < length old = omega (arith, q, g.fit) in
     let r = g.each k d q' in

@@ -14,7 +14,8 @@ use Rattle.cycle_machine.proofs.Past.{core_past, past, step_past}
 use Rattle.run_timeline.specs.declared.moment.Moment.{Moment}
 use Rattle.run_timeline.specs.Timeline.{telling, told_at, told, moments, event_of, IsTimeline}
 
-telling_past : {E : Type 0} (l : List Event) (w : Work) (ops : List ℤ) (os : List Opened) (s : Core E) (c : ℕ) → telling w ops os (core_past l s) c ≡ telling w ops os s c
+telling_past : {E : Type 0} (l : List Event) (w : Work) (ops : List ℤ) (os : List Opened) (s : Core E) (c : ℕ)
+    → telling w ops os (core_past l s) c ≡ telling w ops os s c
 telling_past l (Push n) ops os s c = refl
 telling_past l (Load x) ops os s c = refl
 telling_past l (Store x) ops os s c = refl
@@ -63,14 +64,16 @@ module _ {E : Type 0} (v : Env E) (code : List Instr) where
   step_told : (x : Machine E) → (step v code x).core.log ≡ x.core.log ++ map event_of (told v code x)
   step_told x = go x.halted (slice_get code x.place)
     where
-      go : (b : Bool) (o : Option Instr) → (cond b x (obey v o x)).core.log ≡ x.core.log ++ map event_of (cond b [] (told_at v o x (cond b x (obey v o x)).core.clock))
+      go : (b : Bool) (o : Option Instr)
+          → (cond b x (obey v o x)).core.log ≡ x.core.log ++ map event_of (cond b [] (told_at v o x (cond b x (obey v o x)).core.clock))
       go true o = sym (append-nil x.core.log)
       go false None = sym (append-nil x.core.log)
       go false (Some i) = act_told v i.work (marks_of i) x.place x.operands x.opened (fetched v (marks_of i) x.place x.core)
 
   pub moments_last : (k : ℕ) (x : Machine E) → moments v code (suc k) x ≡ moments v code k x ++ told v code (steps v code k x)
   moments_last zero x = append-nil (told v code x)
-  moments_last (suc k) x = ap (λ z. told v code x ++ z) (moments_last k (step v code x)) ∙ sym (append_assoc (told v code x) (moments v code k (step v code x)) (told v code (steps v code k (step v code x))))
+  moments_last (suc k) x = ap (λ z. told v code x ++ z) (moments_last k (step v code x))
+      ∙ sym (append_assoc (told v code x) (moments v code k (step v code x)) (told v code (steps v code k (step v code x))))
 
   pub moments_add : (k j : ℕ) (x : Machine E) → moments v code (k + j) x ≡ moments v code k x ++ moments v code j (steps v code k x)
   moments_add zero j x = ap (λ n. moments v code n x) (zero-add j)

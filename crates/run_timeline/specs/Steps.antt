@@ -9,7 +9,8 @@ use Rattle.label_code.specs.Machine.{step, fetched, marks_of}
 use Rattle.label_code.specs.Shaped.{Code}
 use Rattle.cycle_machine.specs.declared.state.State.{State}
 use Rattle.cycle_machine.specs.declared.state.Outcome.{Outcome}
-use Rattle.cycle_machine.specs.declared.state.Outcome.TheVariants.{Went as DidGo, Wrote as DidWrite, Began as DidBegin, Ended as DidEnd, Halted as DidHalt, Late}
+use Rattle.cycle_machine.specs.declared.state.Outcome.TheVariants.{Went as DidGo, Wrote as DidWrite, Began as DidBegin, Ended as DidEnd, Halted as DidHalt}
+use Rattle.cycle_machine.specs.declared.state.Outcome.TheVariants.{Late}
 use Rattle.cycle_machine.specs.Seen.{seen, with_log, core_of, opened_of}
 use Rattle.cycle_machine.specs.Took.{Took, Stands}
 use Rattle.cycle_machine.specs.declared.end.RunEnd.{RunEnd}

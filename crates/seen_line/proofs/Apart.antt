@@ -1,5 +1,6 @@
 -- A field tells which assignments it is of.
-use Rattle.std.proofs.Common.{◌≡◌, ℕ, zero, suc, ◌+◌, ◌<◌, ◌^◌, List, [], ◌∷◌, ◌++◌, length, refl, sym, ap, ◌∙◌, subst, arith, append_assoc, append-nil, get_or, Option, Some, None, ℤ}
+use Rattle.std.proofs.Common.{◌≡◌, ℕ, zero, suc, ◌+◌, ◌<◌, ◌^◌, List, [], ◌∷◌, ◌++◌, length, refl, sym, ap, ◌∙◌, subst, arith, append_assoc, append-nil}
+use Rattle.std.proofs.Common.{get_or, Option, Some, None, ℤ}
 use Rattle.std.specs.Prelude.{true, false, ◌||◌, ◌==◌, map, codes, decimal, ◌↔◌}
 use Rattle.std.specs.Fmt.{signed_decimal}
 use Rattle.std.specs.Char.{is_ascii_alphabetic, is_ascii_digit}
@@ -36,14 +37,16 @@ piece_free (b ∷ r) h = h.1
 
 piece_front : (w rest : List ℕ) → IsWord w → Free 32 w → Free 32 rest → IsPiece (w ++ rest)
 piece_front [] rest h f g = absurd h
-piece_front (b ∷ r) rest h f g = (λ e. both_ways (is_ascii_alphabetic 45) refl (subst (λ z. is_ascii_alphabetic z ≡ true) e h.0), free-append 32 (b ∷ r) rest f g)
+piece_front (b ∷ r) rest h f g = (λ e. both_ways (is_ascii_alphabetic 45) refl (subst (λ z. is_ascii_alphabetic z ≡ true) e h.0),
+    free-append 32 (b ∷ r) rest f g)
 
 piece_not_dash : (w rest : List ℕ) → IsPiece w → codes "-" ≡ w ++ rest → ⊥
 piece_not_dash [] rest h e = h
 piece_not_dash (b ∷ r) rest h e = h.0 (sym (heads 45 b [] (r ++ rest) e))
 
 -- pieces are told by their field
-spaced_same : (w w' : List ℕ) (ws ws' : List (List ℕ)) → IsPiece w → IsPiece w' → ArePieces ws → ArePieces ws' → w ++ spaced ws ≡ w' ++ spaced ws' → w ∷ ws ≡ w' ∷ ws'
+spaced_same : (w w' : List ℕ) (ws ws' : List (List ℕ)) → IsPiece w → IsPiece w' → ArePieces ws → ArePieces ws'
+    → w ++ spaced ws ≡ w' ++ spaced ws' → w ∷ ws ≡ w' ∷ ws'
 spaced_same w w' [] [] p p' q q' e = ap (λ z. z ∷ []) (sym (append-nil w) ∙ (e ∙ append-nil w'))
 spaced_same w w' [] (u ∷ us) p p' q q' e = absurd (no_split 32 w w' (u ++ spaced us) (piece_free w p) (sym (append-nil w) ∙ e))
 spaced_same w w' (u ∷ us) [] p p' q q' e = absurd (no_split 32 w' w (u ++ spaced us) (piece_free w' p') (sym (append-nil w') ∙ sym e))
@@ -57,7 +60,8 @@ field_same [] (w ∷ ws) p q e = absurd (piece_not_dash w (spaced ws) q.0 e)
 field_same (w ∷ ws) [] p q e = absurd (piece_not_dash w (spaced ws) p.0 (sym e))
 field_same (w ∷ ws) (w' ∷ ws') p q e = spaced_same w w' ws ws' p.0 q.0 p.1 q.1 e
 
-place_free : (c : ℕ) (o : Option ℕ) → (91 ≡ c → ⊥) → (93 ≡ c → ⊥) → ((d : ℕ) → d < 10 → 48 + d ≡ c → ⊥) → ((k : ℕ) → o ≡ Some k → k < 2 ^ 64) → Free c (place_text o)
+place_free : (c : ℕ) (o : Option ℕ) → (91 ≡ c → ⊥) → (93 ≡ c → ⊥) → ((d : ℕ) → d < 10 → 48 + d ≡ c → ⊥)
+    → ((k : ℕ) → o ≡ Some k → k < 2 ^ 64) → Free c (place_text o)
 place_free c None a b without small = tt
 place_free c (Some k) a b without small = (a, free-append c (decimal k) (codes "]") (free-decimal c k (small k refl) without) (b, tt))
 
@@ -86,7 +90,9 @@ module _ (s : Syntax) (valid : IsValid s) where
   ds = s.declarations
 
   is_word : (x : ℕ) → x < variables ds → IsWord (cell_at ds x).name
-  is_word x h = cell_named IsWord ds (λ j d l. subst IsWord (name_at ds j d (omega (arith, l, length-map ds (λ z. z.0)))) (valid.names j nothing (omega (arith, l, length-map ds (λ z. z.0)))).0) x h
+  is_word x h = cell_named IsWord ds
+      (λ j d l. subst IsWord (name_at ds j d (omega (arith, l, length-map ds (λ z. z.0))))
+      (valid.names j nothing (omega (arith, l, length-map ds (λ z. z.0)))).0) x h
 
   small_place : (x : ℕ) → x < variables ds → (k : ℕ) → (cell_at ds x).place ≡ Some k → k < 2 ^ 64
   small_place x h k e = let few = few_variables s valid in let l = placed ds x k h e in omega (arith, few, l, h)
@@ -94,12 +100,16 @@ module _ (s : Syntax) (valid : IsValid s) where
   name_free : (c x : ℕ) → x < variables ds → is_name_byte c ≡ false → Free c (cell_at ds x).name
   name_free c x h without = free-name c (cell_at ds x).name without (word_bytes (cell_at ds x).name (is_word x h))
 
-  cell_free : (c x : ℕ) → x < variables ds → is_name_byte c ≡ false → (91 ≡ c → ⊥) → (93 ≡ c → ⊥) → ((d : ℕ) → d < 10 → 48 + d ≡ c → ⊥) → Free c (cell_text (cell_at ds x))
-  cell_free c x h without a b digit = free-append c (cell_at ds x).name (place_text (cell_at ds x).place) (name_free c x h without) (place_free c (cell_at ds x).place a b digit (small_place x h))
+  cell_free : (c x : ℕ) → x < variables ds → is_name_byte c ≡ false → (91 ≡ c → ⊥) → (93 ≡ c → ⊥) → ((d : ℕ) → d < 10 → 48 + d ≡ c → ⊥)
+      → Free c (cell_text (cell_at ds x))
+  cell_free c x h without a b digit =
+      free-append c (cell_at ds x).name (place_text (cell_at ds x).place) (name_free c x h without)
+      (place_free c (cell_at ds x).place a b digit (small_place x h))
 
   cell_told : (x y : ℕ) → x < variables ds → y < variables ds → cell_text (cell_at ds x) ≡ cell_text (cell_at ds y) → x ≡ y
   cell_told x y h k e =
-      let r = place_same (cell_at ds x).name (cell_at ds y).name (cell_at ds x).place (cell_at ds y).place (name_free 91 x h refl) (name_free 91 y k refl) (small_place x h) (small_place y k) e in
+      let r = place_same (cell_at ds x).name (cell_at ds y).name (cell_at ds x).place (cell_at ds y).place (name_free 91 x h refl) (name_free 91 y k refl)
+          (small_place x h) (small_place y k) e in
       same_cell ds valid.differ x y h k r.0 r.1
 
   equals_digit : (d : ℕ) → d < 10 → 48 + d ≡ 61 → ⊥
@@ -119,14 +129,17 @@ module _ (s : Syntax) (valid : IsValid s) where
         free-append 32 (signed_decimal n) (codes "@" ++ decimal c) (free-signed 32 n p.1 (λ e. absurd (omega (arith, e))) space_digit)
             (λ e. absurd (omega (arith, e)), free-decimal 32 c p.2 space_digit),
       ) in
-      let place : Free 32 (place_text cell.place) = place_free 32 cell.place (λ e. absurd (omega (arith, e))) (λ e. absurd (omega (arith, e))) space_digit (small_place x p.0) in
+      let place : Free 32 (place_text cell.place) =
+          place_free 32 cell.place (λ e. absurd (omega (arith, e))) (λ e. absurd (omega (arith, e))) space_digit (small_place x p.0) in
       subst IsPiece (sym (append_assoc cell.name (place_text cell.place) (codes "=" ++ (signed_decimal n ++ (codes "@" ++ decimal c)))))
       (piece_front cell.name (place_text cell.place ++ (codes "=" ++ (signed_decimal n ++ (codes "@" ++ decimal c)))) (is_word x p.0) (name_free 32 x p.0 refl)
       (free-append 32 (place_text cell.place) (codes "=" ++ (signed_decimal n ++ (codes "@" ++ decimal c))) place after))
 
-  item_told : (x y : ℕ) (n m : ℤ) (c d : ℕ) → IsPrintable (variables ds) (Wrote x n c) → IsPrintable (variables ds) (Wrote y m d) → item ds x n c ≡ item ds y m d → Wrote x n c ≡ Wrote y m d
+  item_told : (x y : ℕ) (n m : ℤ) (c d : ℕ) → IsPrintable (variables ds) (Wrote x n c) → IsPrintable (variables ds) (Wrote y m d)
+      → item ds x n c ≡ item ds y m d → Wrote x n c ≡ Wrote y m d
   item_told x y n m c d p q e =
-      let one = split 61 (cell_text (cell_at ds x)) (signed_decimal n ++ (codes "@" ++ decimal c)) (cell_text (cell_at ds y)) (signed_decimal m ++ (codes "@" ++ decimal d))
+      let one = split 61 (cell_text (cell_at ds x)) (signed_decimal n ++ (codes "@" ++ decimal c)) (cell_text (cell_at ds y))
+          (signed_decimal m ++ (codes "@" ++ decimal d))
       (cell_free 61 x p.0 refl (λ e. absurd (omega (arith, e))) (λ e. absurd (omega (arith, e))) equals_digit)
       (cell_free 61 y q.0 refl (λ e. absurd (omega (arith, e))) (λ e. absurd (omega (arith, e))) equals_digit) e in
       let two = split 64 (signed_decimal n) (decimal c) (signed_decimal m) (decimal d)
@@ -160,4 +173,5 @@ module _ (s : Syntax) (valid : IsValid s) where
       ∙ ap (λ z. f ∷ z) (items_told es fs p.1 q.1 (tails (item_of ds e) (item_of ds f) (map (item_of ds) es) (map (item_of ds) fs) h))
 
   pub tells_apart : (es fs : List Event) → ArePrintable (variables ds) es → ArePrintable (variables ds) fs → (field_text ds es ≡ field_text ds fs) ↔ (es ≡ fs)
-  tells_apart es fs p q = (λ h. items_told es fs p q (field_same (map (item_of ds) es) (map (item_of ds) fs) (pieces es p) (pieces fs q) h), λ h. ap (field_text ds) h)
+  tells_apart es fs p q = (λ h. items_told es fs p q (field_same (map (item_of ds) es) (map (item_of ds) fs) (pieces es p) (pieces fs q) h),
+      λ h. ap (field_text ds) h)

@@ -32,7 +32,8 @@ visible-append lat g o [] fs = refl
 visible-append lat g o (Wrote x n c ∷ es) fs = go (lat.flows (g x) o) (visible-append lat g o es fs)
   where
     go : (b : Bool) → visible lat g o (es ++ fs) ≡ visible lat g o es ++ visible lat g o fs →
-        cond b (Wrote x n c ∷ visible lat g o (es ++ fs)) (visible lat g o (es ++ fs)) ≡ cond b (Wrote x n c ∷ visible lat g o es) (visible lat g o es) ++ visible lat g o fs
+        cond b (Wrote x n c ∷ visible lat g o (es ++ fs)) (visible lat g o (es ++ fs)) ≡ cond b (Wrote x n c ∷ visible lat g o es) (visible lat g o es)
+            ++ visible lat g o fs
     go true e = ap (λ z. Wrote x n c ∷ z) e
     go false e = e
 visible-append lat g o (Began k c ∷ es) fs = visible-append lat g o es fs
@@ -67,7 +68,8 @@ prefix_then : (a b c : Option (List ℕ)) (xs ys zs all : List ℕ) → Appends 
 prefix_then a b c xs ys zs all p q e =
     let k : ℕ = q.0 in
     let short : k ≤ length ys = q.1 in
-    let whole : length all ≡ length xs + (length ys + length zs) = ap length (sym e) ∙ (length-append xs (ys ++ zs) ∙ ap (λ n. length xs + n) (length-append ys zs)) in
+    let whole : length all ≡ length xs + (length ys + length zs) =
+        ap length (sym e) ∙ (length-append xs (ys ++ zs) ∙ ap (λ n. length xs + n) (length-append ys zs)) in
     let taken : xs ++ take k ys ≡ take (length xs + k) all =
     ap (λ z. xs ++ z) (sym (take-append-le k ys zs short)) ∙ sym (take-append-add xs (ys ++ zs) k) ∙ ap (take (length xs + k)) e in
     (length xs + k, omega (arith, whole, short), subst (Appends a c) taken (Appends-trans a b c xs (take k ys) p q.2))
@@ -102,7 +104,8 @@ module _ (p : LabelledProgram) (o : Label) where
   -- a turn with an event that is seen adds its item
   module _ (ws : List (List ℕ)) where
     turn_adds : (t : Turn) → IsShown p (Some o) t → is_last t ≡ false → part (ws ++ items (events_of t)) ≡ part ws ++ piece p.program.declarations (is_nil ws) t
-    turn_adds (AnEvent x n c) s e = ap (λ z. part (ws ++ map (item_of p.program.declarations) z)) (one_seen x n c s) ∙ part_more ws (item p.program.declarations x n c)
+    turn_adds (AnEvent x n c) s e = ap (λ z. part (ws ++ map (item_of p.program.declarations) z)) (one_seen x n c s)
+        ∙ part_more ws (item p.program.declarations x n c)
     turn_adds (HasBegun k c) s e = ap part (append-nil ws) ∙ sym (append-nil (part ws))
     turn_adds (HasEnded k c) s e = ap part (append-nil ws) ∙ sym (append-nil (part ws))
     turn_adds (DidHalt c) s e = absurd cc
@@ -152,7 +155,8 @@ told_end (DidHalt c) e = (Halted c, refl)
 told_end (DidLimit c) e = (Limit c, refl)
 
 -- the items of these events of the run are written, and the rest is what the machine still does
-pub record Fields {E : Type 0} (v : Env E) (limit : ℕ) (p : LabelledProgram) (o : Label) (old new : Loaded E) (none : Bool) (taken taken' : Option (List ℕ)) : Type 0 where
+pub record Fields {E : Type 0} (v : Env E) (limit : ℕ) (p : LabelledProgram) (o : Label) (old new : Loaded E) (none : Bool)
+    (taken taken' : Option (List ℕ)) : Type 0 where
   pub events : List Event
   pub rest : rest_of v limit old ≡ after_events events (rest_of v limit new)
   pub code : new.code ≡ old.code
@@ -164,8 +168,10 @@ module _ {E : Type 0} (v : Env E) (limit : ℕ) (p : LabelledProgram) (o : Label
   pub first_field : (m : Loaded E) (taken : Option (List ℕ)) → Fields v limit p o m m true taken taken
   first_field m taken = record { events = []; rest = refl; code = refl; nothing = refl; written = Appends-nil taken; printable = tt }
 
-  pub more_field : (old mid new : Loaded E) (turn : Turn) (none none' : Bool) (a b c : Option (List ℕ)) → Fields v limit p o old mid none a b → is_last turn ≡ false →
-      IfSome mid.stopped IsStop → CallWent v list limit mid turn new → IsShown p (Some o) turn → none' ≡ next_none none turn → Appends b c (piece p.program.declarations none turn) →
+  pub more_field : (old mid new : Loaded E) (turn : Turn) (none none' : Bool) (a b c : Option (List ℕ))
+      → Fields v limit p o old mid none a b → is_last turn ≡ false →
+      IfSome mid.stopped IsStop → CallWent v list limit mid turn new → IsShown p (Some o) turn → none' ≡ next_none none turn
+          → Appends b c (piece p.program.declarations none turn) →
       IsTurnBelow (variables p.program.declarations) turn → IsPrintableTurn turn → Fields v limit p o old new none' a c
   more_field old mid new turn none none' a b c r last is_stop went is next w below printable =
       let n = next_turn v list limit mid new turn is_stop went (none_more turn last) in
@@ -177,7 +183,8 @@ module _ {E : Type 0} (v : Env E) (limit : ℕ) (p : LabelledProgram) (o : Label
       seen-append p o r.events es ∙ ap (λ z. seen_of p o r.events ++ z) (seen_passed p o list tells n.hidden (events_of turn) n.unseen) in
       record {
         events = r.events ++ es;
-        rest = r.rest ∙ (ap (after_events r.events) n.rest ∙ ap (λ z. let k : Told = record { events = z; end = (rest_of v limit new).end } in k) (sym (append_assoc r.events es (rest_of v limit new).events)));
+        rest = r.rest ∙ (ap (after_events r.events) n.rest ∙ ap (λ z. let k : Told = record { events = z; end = (rest_of v limit new).end } in
+            k) (sym (append_assoc r.events es (rest_of v limit new).events)));
         code = n.code ∙ r.code;
         nothing = next ∙ (ap (λ z. next_none z turn) r.nothing ∙ (turn_nil p o ws turn is last ∙ ap is_nil (sym all)));
         written =
@@ -185,7 +192,8 @@ module _ {E : Type 0} (v : Env E) (limit : ℕ) (p : LabelledProgram) (o : Label
             (Appends-trans a b c (part ws) (piece p.program.declarations none turn) r.written w);
         printable =
             subst (ArePrintable (variables p.program.declarations)) (sym sees)
-            (printable-append (variables p.program.declarations) (seen_of p o r.events) (seen_of p o (events_of turn)) r.printable (turn_printable p o (variables p.program.declarations) turn below printable last));
+            (printable-append (variables p.program.declarations) (seen_of p o r.events) (seen_of p o (events_of turn)) r.printable
+                (turn_printable p o (variables p.program.declarations) turn below printable last));
       }
 
   -- where the run ends, the field is whole
@@ -195,24 +203,31 @@ module _ {E : Type 0} (v : Env E) (limit : ℕ) (p : LabelledProgram) (o : Label
       let end = told_end turn last in
       let l = last_turn v list limit mid new turn end.0 is_stop went end.1 in
       ap (λ t. seen_of p o t.events) (r.rest ∙ ap (after_events r.events) l.rest)
-      ∙ (seen-append p o r.events l.hidden ∙ (ap (λ z. seen_of p o r.events ++ z) (none_shown p (Some o) list tells l.hidden l.unseen) ∙ append-nil (seen_of p o r.events)))
+      ∙ (seen-append p o r.events l.hidden ∙ (ap (λ z. seen_of p o r.events ++ z) (none_shown p (Some o) list tells l.hidden l.unseen)
+          ∙ append-nil (seen_of p o r.events)))
 
-  pub whole_field : (old mid new : Loaded E) (turn : Turn) (none : Bool) (a b c : Option (List ℕ)) (r : Fields v limit p o old mid none a b) → is_last turn ≡ true →
-      IfSome mid.stopped IsStop → CallWent v list limit mid turn new → Appends b c (piece p.program.declarations none turn) → Appends a c (seen_text p o (rest_of v limit old))
+  pub whole_field : (old mid new : Loaded E) (turn : Turn) (none : Bool) (a b c : Option (List ℕ)) (r : Fields v limit p o old mid none a b)
+      → is_last turn ≡ true →
+      IfSome mid.stopped IsStop → CallWent v list limit mid turn new → Appends b c (piece p.program.declarations none turn)
+          → Appends a c (seen_text p o (rest_of v limit old))
   whole_field old mid new turn none a b c r last is_stop went w =
       subst (Appends a c)
       (ap (λ z. part (items p o r.events) ++ piece p.program.declarations z turn) r.nothing
-      ∙ (last_adds p o (items p o r.events) turn last ∙ ap (λ es. field_of (map (item_of p.program.declarations) es)) (sym (last_seen old mid new turn none a b r last is_stop went))))
+      ∙ (last_adds p o (items p o r.events) turn last
+          ∙ ap (λ es. field_of (map (item_of p.program.declarations) es)) (sym (last_seen old mid new turn none a b r last is_stop went))))
       (Appends-trans a b c (part (items p o r.events)) (piece p.program.declarations none turn) r.written w)
 
-  pub whole_printable : (old mid new : Loaded E) (turn : Turn) (none : Bool) (a b : Option (List ℕ)) (r : Fields v limit p o old mid none a b) → is_last turn ≡ true →
-      IfSome mid.stopped IsStop → CallWent v list limit mid turn new → ArePrintable (variables p.program.declarations) (seen_of p o (rest_of v limit old).events)
+  pub whole_printable : (old mid new : Loaded E) (turn : Turn) (none : Bool) (a b : Option (List ℕ)) (r : Fields v limit p o old mid none a b)
+      → is_last turn ≡ true →
+      IfSome mid.stopped IsStop → CallWent v list limit mid turn new
+          → ArePrintable (variables p.program.declarations) (seen_of p o (rest_of v limit old).events)
   whole_printable old mid new turn none a b r last is_stop went =
       subst (ArePrintable (variables p.program.declarations)) (sym (last_seen old mid new turn none a b r last is_stop went)) r.printable
 
   -- where the sink fails, a prefix of the field is written
   pub prefix_field : (old mid new : Loaded E) (turn : Turn) (none : Bool) (a b c : Option (List ℕ)) (r : Fields v limit p o old mid none a b) →
-      IfSome mid.stopped IsStop → CallWent v list limit mid turn new → IsShown p (Some o) turn → AppendsPrefix b c (piece p.program.declarations none turn) → AppendsPrefix a c (seen_text p o (rest_of v limit old))
+      IfSome mid.stopped IsStop → CallWent v list limit mid turn new → IsShown p (Some o) turn → AppendsPrefix b c (piece p.program.declarations none turn)
+          → AppendsPrefix a c (seen_text p o (rest_of v limit old))
   prefix_field old mid new turn none a b c r is_stop went is q = by (is_last turn) refl
     where
       ws : List (List ℕ)
@@ -223,7 +238,8 @@ module _ {E : Type 0} (v : Env E) (limit : ℕ) (p : LabelledProgram) (o : Label
           prefix_then a b c (part ws) (piece p.program.declarations none turn) [] _ r.written q
           (ap (λ z. part ws ++ z) (append-nil (piece p.program.declarations none turn))
           ∙ (ap (λ z. part ws ++ piece p.program.declarations z turn) r.nothing
-          ∙ (last_adds p o ws turn last ∙ ap (λ es. field_of (map (item_of p.program.declarations) es)) (sym (last_seen old mid new turn none a b r last is_stop went)))))
+          ∙ (last_adds p o ws turn last ∙ ap (λ es. field_of (map (item_of p.program.declarations) es))
+              (sym (last_seen old mid new turn none a b r last is_stop went)))))
       by false last =
           let n = next_turn v list limit mid new turn is_stop went (none_more turn last) in
           let es : List Event = n.hidden ++ events_of turn in
@@ -232,7 +248,8 @@ module _ {E : Type 0} (v : Env E) (limit : ℕ) (p : LabelledProgram) (o : Label
           let rest = goes (ws ++ its) us in
           let all : (rest_of v limit old).events ≡ (r.events ++ es) ++ (rest_of v limit new).events =
           ap (λ t. t.events) r.rest ∙ (ap (λ z. r.events ++ z.events) n.rest ∙ sym (append_assoc r.events es (rest_of v limit new).events)) in
-          let mine : items p o (r.events ++ es) ≡ ws ++ its = items-append p o r.events es ∙ ap (λ z. ws ++ z) (items_passed p o list tells n.hidden (events_of turn) n.unseen) in
+          let mine : items p o (r.events ++ es) ≡ ws ++ its =
+              items-append p o r.events es ∙ ap (λ z. ws ++ z) (items_passed p o list tells n.hidden (events_of turn) n.unseen) in
           let same : items p o (rest_of v limit old).events ≡ (ws ++ its) ++ us =
           ap (items p o) all ∙ (items-append p o (r.events ++ es) (rest_of v limit new).events ∙ ap (λ z. z ++ us) mine) in
           prefix_then a b c (part ws) (piece p.program.declarations none turn) rest.0 _ r.written q

@@ -1,5 +1,6 @@
 -- A variable is told by its name and its place.
-use Rattle.std.proofs.Common.{◌≡◌, ℕ, zero, suc, ◌+◌, ◌-◌, ◌<◌, ◌≤◌, ◌⊎◌, inl, inr, List, [], ◌∷◌, ◌++◌, length, refl, sym, ap, ◌∙◌, subst, arith, get_or, Option, Some, None}
+use Rattle.std.proofs.Common.{◌≡◌, ℕ, zero, suc, ◌+◌, ◌-◌, ◌<◌, ◌≤◌, ◌⊎◌, inl, inr, List, [], ◌∷◌, ◌++◌, length, refl, sym, ap, ◌∙◌, subst, arith, get_or}
+use Rattle.std.proofs.Common.{Option, Some, None}
 use Rattle.std.specs.Prelude.{map}
 use Rattle.std.proofs.lemmas.Bool.{cases_lt}
 use Rattle.std.proofs.lemmas.List.{length-append, get_or_append_left, get_or-append_right}
@@ -36,13 +37,15 @@ names ds = map (λ d. d.0) ds
 not_named : (ds : List Declaration) (w : List ℕ) → ((j : ℕ) (d : List ℕ) → j < length (names ds) → get_or (names ds) j d ≡ w → ⊥) →
     (y : ℕ) → y < length (cells ds) → (get_or (cells ds) y nowhere).name ≡ w → ⊥
 not_named [] w without y h e = absurd (omega (arith, h))
-not_named (d ∷ ds) w without y h e = by (cases_lt y (length (cells_of d.0 d.1.label d.1.length))) (not_named ds w (λ j x l q. without (suc j) x (omega (arith, l)) q))
+not_named (d ∷ ds) w without y h e =
+    by (cases_lt y (length (cells_of d.0 d.1.label d.1.length))) (not_named ds w (λ j x l q. without (suc j) x (omega (arith, l)) q))
   where
     head : List Cell
     head = cells_of d.0 d.1.label d.1.length
 
     by : (y < length head) ⊎ (length head ≤ y) → ((z : ℕ) → z < length (cells ds) → (get_or (cells ds) z nowhere).name ≡ w → ⊥) → ⊥
-    by (inl l) rest = without 0 [] (omega arith) (sym (one_name d.0 d.1.label d.1.length y l) ∙ (ap (λ c. c.name) (sym (get_or_append_left head (cells ds) nowhere y l)) ∙ e))
+    by (inl l) rest = without 0 [] (omega arith) (sym (one_name d.0 d.1.label d.1.length y l)
+        ∙ (ap (λ c. c.name) (sym (get_or_append_left head (cells ds) nowhere y l)) ∙ e))
     by (inr l) rest =
         let both = length-append head (cells ds) in
         rest (y - length head) (omega (arith, h, l, both)) (ap (λ c. c.name) (sym (get_or-append_right head (cells ds) (length head) y nowhere refl l)) ∙ e)
@@ -70,7 +73,8 @@ same_cell (d ∷ ds) differ x y h k e f =
     right z l = get_or-append_right head (cells ds) (length head) z nowhere refl l
 
     by : (x < length head) ⊎ (length head ≤ x) → (y < length head) ⊎ (length head ≤ y) →
-        ((a b : ℕ) → a < length (cells ds) → b < length (cells ds) → (cell_at ds a).name ≡ (cell_at ds b).name → (cell_at ds a).place ≡ (cell_at ds b).place → a ≡ b) → x ≡ y
+        ((a b : ℕ) → a < length (cells ds) → b < length (cells ds) → (cell_at ds a).name ≡ (cell_at ds b).name
+            → (cell_at ds a).place ≡ (cell_at ds b).place → a ≡ b) → x ≡ y
     by (inl l) (inl m) rest =
         one_place d.0 d.1.label d.1.length x y l m (ap (λ c. c.place) (sym (left x l)) ∙ (f ∙ ap (λ c. c.place) (left y m)))
     by (inl l) (inr m) rest =
@@ -102,7 +106,8 @@ cell_named P (d ∷ ds) each x h = by (cases_lt x (length head)) (cell_named P d
         subst P (sym (ap (λ c. c.name) (get_or_append_left head (cells ds) nowhere x l) ∙ one_name d.0 d.1.label d.1.length x l)) (each 0 [] (omega arith))
     by (inr l) rest =
         let both = length-append head (cells ds) in
-        subst P (ap (λ c. c.name) (sym (get_or-append_right head (cells ds) (length head) x nowhere refl l))) (rest (x - length head) (omega (arith, h, l, both)))
+        subst P (ap (λ c. c.name) (sym (get_or-append_right head (cells ds) (length head) x nowhere refl l)))
+            (rest (x - length head) (omega (arith, h, l, both)))
 
 one_placed : (w : List ℕ) (l : Option Label) (o : Option ℕ) (x k : ℕ) → x < length (cells_of w l o) → (get_or (cells_of w l o) x nowhere).place ≡ Some k → k ≤ x
 one_placed w l None zero k h e = absurd cc
@@ -123,7 +128,8 @@ placed (d ∷ ds) x k h e = by (cases_lt x (length head)) (λ z. placed ds z k)
     by (inl l) rest = one_placed d.0 d.1.label d.1.length x k l (ap (λ c. c.place) (sym (get_or_append_left head (cells ds) nowhere x l)) ∙ e)
     by (inr l) rest =
         let both = length-append head (cells ds) in
-        let r = rest (x - length head) (omega (arith, h, l, both)) (ap (λ c. c.place) (sym (get_or-append_right head (cells ds) (length head) x nowhere refl l)) ∙ e) in
+        let r = rest (x - length head) (omega (arith, h, l, both)) (ap (λ c. c.place) (sym (get_or-append_right head (cells ds) (length head) x nowhere refl l))
+            ∙ e) in
         omega (arith, r)
 
 size_few : (n : Option ℕ) → size_in n ≤ 1 + length_in n

@@ -42,7 +42,8 @@ each_pass P t (x ∷ xs) h = go (t x) refl (each_pass P t xs h.1)
     go false e r = r
 
 -- two of a list that passed
-pub pairs_pass : {X : Type 0} (R : X → X → Type 0) (t : X → Bool) (xs : List X) → Pairwise R xs → Pairwise (λ x y. R x y × (t x ≡ true) × (t y ≡ true)) (filter t xs)
+pub pairs_pass : {X : Type 0} (R : X → X → Type 0) (t : X → Bool) (xs : List X) → Pairwise R xs
+    → Pairwise (λ x y. R x y × (t x ≡ true) × (t y ≡ true)) (filter t xs)
 pairs_pass R t xs h =
     Each-map (λ x. Each (R x) xs × (t x ≡ true)) (λ x. Each (λ y. R x y × (t x ≡ true) × (t y ≡ true)) (filter t xs))
     (λ x a. Each-map (λ y. R x y × (t y ≡ true)) (λ y. R x y × (t x ≡ true) × (t y ≡ true)) (λ y b. (b.0, a.1, b.1)) (filter t xs) (each_pass (R x) t xs a.0))
@@ -69,7 +70,8 @@ sharp-mono values zero ks ks' h = omega arith
 sharp-mono values (suc n) ks ks' h = mul-le _ _ _ _ (rising-up_to (values n) (ks n) (ks' n) (h n)) (sharp-mono values n ks ks' h)
 
 -- fewer starts, fewer ends
-most_filter : {E X : Type 0} (v : Env E) (image : List Instr) (rel : ℕ → Bool) (t : ℕ) (f : X → Start E) (pick : X → Bool) (xs : List X) → most_ended v image rel t (views f (filter pick xs)) ≤ most_ended v image rel t (views f xs)
+most_filter : {E X : Type 0} (v : Env E) (image : List Instr) (rel : ℕ → Bool) (t : ℕ) (f : X → Start E) (pick : X → Bool) (xs : List X)
+    → most_ended v image rel t (views f (filter pick xs)) ≤ most_ended v image rel t (views f xs)
 most_filter v image rel t f pick [] = omega arith
 most_filter v image rel t f pick (x ∷ xs) = go (pick x) (most_filter v image rel t f pick xs)
   where
@@ -79,7 +81,8 @@ most_filter v image rel t f pick (x ∷ xs) = go (pick x) (most_filter v image r
     most : ℕ
     most = most_ended v image rel t (views f xs)
 
-    go : (b : Bool) → most_ended v image rel t (views f (filter pick xs)) ≤ most → most_ended v image rel t (views f (cond b (x ∷ filter pick xs) (filter pick xs))) ≤ max here most
+    go : (b : Bool) → most_ended v image rel t (views f (filter pick xs)) ≤ most
+        → most_ended v image rel t (views f (cond b (x ∷ filter pick xs) (filter pick xs))) ≤ max here most
     go true r = max-le (le-max_left here most) (omega (arith, r, le-max_right here most))
     go false r = omega (arith, r, le-max_right here most)
 
@@ -93,31 +96,43 @@ module _ {E X M L : Type 0} (serves : E → Type 0) (v : Env E) (order : Order) 
   agree-views : (o : ℕ) (f : X → Start E) (xs : List X) → Pairwise (Agrees o f) xs → Pairwise (Agree v (lattice_of order) serves g o) (views f xs)
   agree-views o f xs h =
       each-views (λ s. Each (Agree v (lattice_of order) serves g o s) (views f xs)) f xs
-      (Each-map (λ x. Each (Agrees o f x) xs) (λ x. Each (Agree v (lattice_of order) serves g o (f x)) (views f xs)) (λ x a. each-views (Agree v (lattice_of order) serves g o (f x)) f xs a) xs h)
+      (Each-map (λ x. Each (Agrees o f x) xs) (λ x. Each (Agree v (lattice_of order) serves g o (f x)) (views f xs))
+          (λ x a. each-views (Agree v (lattice_of order) serves g o (f x)) f xs a) xs h)
 
   abbrev shows : ℕ → ℕ → (X → Start E) → X → List Event
   shows o t f x = seen_from v (lattice_of order) g image o t (f x)
 
-  pub halted_by : SharpSound v order serves g ls image p → (o : ℕ) → o < order.size → (t : ℕ) → 0 < t → (f : X → Start E) (xs : List X) (firsts : ℕ → ℕ) (n : ℕ) → Pairwise (Agrees o f) xs → Each (λ x. Covers v order g ls image p o t firsts n (f x)) xs → FewShown (shows o t f) same_events xs n
+  pub halted_by : SharpSound v order serves g ls image p → (o : ℕ) → o < order.size → (t : ℕ) → 0 < t → (f : X → Start E) (xs : List X) (firsts : ℕ → ℕ) (n : ℕ)
+      → Pairwise (Agrees o f) xs → Each (λ x. Covers v order g ls image p o t firsts n (f x)) xs → FewShown (shows o t f) same_events xs n
   halted_by sound o low t some f [] firsts n agree h = few_shown (shows o t f) same_events tests_events [] n (omega arith)
   halted_by sound o low t some f (x ∷ xs) firsts n agree h =
       let C : X → Type 0 = λ x. Covers v order g ls image p o t firsts n (f x) in
       let halts = each-views (Halts v image t) f (x ∷ xs) (Each-map C (λ x. Halts v image t (f x)) (λ x a. a.halts) (x ∷ xs) h) in
-      let predicts = each-views (PredictsFrom v order g ls image p o t firsts) f (x ∷ xs) (Each-map C (λ x. PredictsFrom v order g ls image p o t firsts (f x)) (λ x a. a.predicts) (x ∷ xs) h) in
+      let predicts = each-views (PredictsFrom v order g ls image p o t firsts) f (x ∷ xs) (Each-map C (λ x. PredictsFrom v order g ls image p o t firsts (f x))
+          (λ x a. a.predicts) (x ∷ xs) h) in
       let r = sound.few o low t some (views f (x ∷ xs)) (agree-views o f (x ∷ xs) agree) halts firsts predicts same_events tests_events in
-      let count : distinct_count same_events (views (shows o t f) (x ∷ xs)) ≤ sharp (ends_by t firsts) order.size r.0 = subst (λ z. distinct_count same_events z ≤ sharp (ends_by t firsts) order.size r.0) (views-views f (seen_from v (lattice_of order) g image o t) (x ∷ xs)) r.2.count in
+      let count : distinct_count same_events (views (shows o t f) (x ∷ xs)) ≤ sharp (ends_by t firsts) order.size r.0 =
+          subst (λ z. distinct_count same_events z ≤ sharp (ends_by t firsts) order.size r.0)
+          (views-views f (seen_from v (lattice_of order) g image o t) (x ∷ xs)) r.2.count in
       few_shown (shows o t f) same_events tests_events (x ∷ xs) n (omega (arith, count, h.0.counts r.0 r.1.0))
 
-  pub cut_by : SharpCut v order serves g ls image p → (o : ℕ) → o < order.size → (t : ℕ) → 0 < t → (f : X → Start E) (xs : List X) (firsts : ℕ → ℕ) → Pairwise (Agrees o f) xs → Each (λ x. PredictsFrom v order g ls image p o t firsts (f x)) xs → FewShown (shows o t f) same_events xs (cut_count v order g ls image p o t firsts (views f xs))
+  pub cut_by : SharpCut v order serves g ls image p → (o : ℕ) → o < order.size → (t : ℕ) → 0 < t → (f : X → Start E) (xs : List X) (firsts : ℕ → ℕ)
+      → Pairwise (Agrees o f) xs → Each (λ x. PredictsFrom v order g ls image p o t firsts (f x)) xs
+      → FewShown (shows o t f) same_events xs (cut_count v order g ls image p o t firsts (views f xs))
   cut_by sound o low t some f xs firsts agree predicts =
-      let r = sound.few o low t some (views f xs) (agree-views o f xs agree) firsts (each-views (PredictsFrom v order g ls image p o t firsts) f xs predicts) same_events tests_events in
+      let r = sound.few o low t some (views f xs) (agree-views o f xs agree) firsts (each-views (PredictsFrom v order g ls image p o t firsts) f xs predicts)
+          same_events tests_events in
       let n = cut_count v order g ls image p o t firsts (views f xs) in
-      few_shown (shows o t f) same_events tests_events xs n (subst (λ z. distinct_count same_events z ≤ n) (views-views f (seen_from v (lattice_of order) g image o t) xs) r.0.count)
+      few_shown (shows o t f) same_events tests_events xs n
+          (subst (λ z. distinct_count same_events z ≤ n) (views-views f (seen_from v (lattice_of order) g image o t) xs) r.0.count)
 
-  pub cut_less : (o t : ℕ) (firsts : ℕ → ℕ) (f : X → Start E) (pick : X → Bool) (xs : List X) → cut_count v order g ls image p o t firsts (views f (filter pick xs)) ≤ cut_count v order g ls image p o t firsts (views f xs)
-  cut_less o t firsts f pick xs = sharp-mono (ends_by t firsts) order.size _ _ (λ l. most_filter v image (relevant_at (lattice_of order) g ls o p l) t f pick xs)
+  pub cut_less : (o t : ℕ) (firsts : ℕ → ℕ) (f : X → Start E) (pick : X → Bool) (xs : List X)
+      → cut_count v order g ls image p o t firsts (views f (filter pick xs)) ≤ cut_count v order g ls image p o t firsts (views f xs)
+  cut_less o t firsts f pick xs =
+      sharp-mono (ends_by t firsts) order.size _ _ (λ l. most_filter v image (relevant_at (lattice_of order) g ls o p l) t f pick xs)
 
-module _ {E X : Type 0} (serves : E → Type 0) (v : Env E) (order : Order) (g : ℕ → ℕ) (image : List Instr) (g' : ℕ → ℕ) (image' : List Instr) (o t t' : ℕ) (first : X → Start E) (second : List Event → X → Start E) (xs : List X) where
+module _ {E X : Type 0} (serves : E → Type 0) (v : Env E) (order : Order) (g : ℕ → ℕ) (image : List Instr) (g' : ℕ → ℕ) (image' : List Instr) (o t t' : ℕ)
+    (first : X → Start E) (second : List Event → X → Start E) (xs : List X) where
   abbrev see : X → List Event
   see x = seen_from v (lattice_of order) g image o t (first x)
 
@@ -131,7 +146,8 @@ module _ {E X : Type 0} (serves : E → Type 0) (v : Env E) (order : Order) (g :
   those w = that_show see same_events w xs
 
   -- the second starts of those that showed w
-  those_agree : Pairwise (λ x y. see x ≡ see y → Agree v (lattice_of order) serves g' o (later x) (later y)) xs → (w : List Event) → Pairwise (λ x y. Agree v (lattice_of order) serves g' o (second w x) (second w y)) (those w)
+  those_agree : Pairwise (λ x y. see x ≡ see y → Agree v (lattice_of order) serves g' o (later x) (later y)) xs → (w : List Event)
+      → Pairwise (λ x y. Agree v (lattice_of order) serves g' o (second w x) (second w y)) (those w)
   those_agree h w =
       let R : X → X → Type 0 = λ x y. see x ≡ see y → Agree v (lattice_of order) serves g' o (later x) (later y) in
       let t : X → Bool = λ x. same_events w (see x) in
@@ -161,27 +177,37 @@ module _ {E X : Type 0} (serves : E → Type 0) (v : Env E) (order : Order) (g :
       go (y ∷ ys) = one (same_events w (see y)) refl (go ys)
         where
           one : (b : Bool) → same_events w (see y) ≡ b → views (second w) (that_show see same_events w ys) ≡ views later (that_show see same_events w ys) →
-              views (second w) (cond b (y ∷ that_show see same_events w ys) (that_show see same_events w ys)) ≡ views later (cond b (y ∷ that_show see same_events w ys) (that_show see same_events w ys))
+              views (second w) (cond b (y ∷ that_show see same_events w ys) (that_show see same_events w ys))
+                  ≡ views later (cond b (y ∷ that_show see same_events w ys) (that_show see same_events w ys))
           one true e r = ap (λ z. second z y ∷ views (second w) (that_show see same_events w ys)) (tests_events.same_to w (see y) e) ∙ ap (λ z. later y ∷ z) r
           one false e r = r
 
-pub is_sharp_twice : {E X M L M' L' : Type 0} {serves : E → Type 0} (v : Env E) (order : Order) (g ls : ℕ → ℕ) (image : List Instr) (p : Todo M L) (g' ls' : ℕ → ℕ) (image' : List Instr) (p' : Todo M' L') →
-    SharpSound v order serves g ls image p → SharpSound v order serves g' ls' image' p' → SharpCut v order serves g ls image p → SharpCut v order serves g' ls' image' p' → SharpTwice X v order serves g ls image p g' ls' image' p'
+pub is_sharp_twice : {E X M L M' L' : Type 0} {serves : E → Type 0} (v : Env E) (order : Order) (g ls : ℕ → ℕ) (image : List Instr) (p : Todo M L)
+    (g' ls' : ℕ → ℕ) (image' : List Instr) (p' : Todo M' L') →
+    SharpSound v order serves g ls image p → SharpSound v order serves g' ls' image' p' → SharpCut v order serves g ls image p
+        → SharpCut v order serves g' ls' image' p' → SharpTwice X v order serves g ls image p g' ls' image' p'
 is_sharp_twice {serves = serves} v order g ls image p g' ls' image' p' sound sound' cut cut' =
     record {
       halted = λ o low t t' some some' first second xs firsts firsts' n m agree later_agree holds later_holds alike tests.
-          few_twice _ _ _ (see serves v order g image g' image' o t t' first second xs) (next serves v order g image g' image' o t t' first second xs) same_events same_events alike tests_events tests_events tests xs n m
+          few_twice _ _ _ (see serves v order g image g' image' o t t' first second xs) (next serves v order g image g' image' o t t' first second xs)
+              same_events same_events alike tests_events tests_events tests xs n m
           (halted_by serves v order g ls image p sound o low t some first xs firsts n agree holds)
-          (λ w. halted_by serves v order g' ls' image' p' sound' o low t' some' (second w) (those serves v order g image g' image' o t t' first second xs w) firsts' m
+          (λ w. halted_by serves v order g' ls' image' p' sound' o low t' some' (second w) (those serves v order g image g' image' o t t' first second xs w)
+              firsts' m
           (those_agree serves v order g image g' image' o t t' first second xs later_agree w)
           (those_hold serves v order g image g' image' o t t' first second xs (λ s. Covers v order g' ls' image' p' o t' firsts' m s) later_holds w));
       cut = λ o low t t' some some' first second xs firsts firsts' agree later_agree holds later_holds alike tests.
-          few_twice _ _ _ (see serves v order g image g' image' o t t' first second xs) (next serves v order g image g' image' o t t' first second xs) same_events same_events alike tests_events tests_events tests xs _ _
+          few_twice _ _ _ (see serves v order g image g' image' o t t' first second xs) (next serves v order g image g' image' o t t' first second xs)
+              same_events same_events alike tests_events tests_events tests xs _ _
           (cut_by serves v order g ls image p cut o low t some first xs firsts agree holds)
           (λ w.
           let ys = those serves v order g image g' image' o t t' first second xs w in
           let P : Start _ → Type 0 = λ s. PredictsBy v (lattice_of order) g' ls' image' p' o t' firsts' s in
-          let r = cut_by serves v order g' ls' image' p' cut' o low t' some' (second w) ys firsts' (those_agree serves v order g image g' image' o t t' first second xs later_agree w) (those_hold serves v order g image g' image' o t t' first second xs P later_holds w) in
+          let r = cut_by serves v order g' ls' image' p' cut' o low t' some' (second w) ys firsts'
+              (those_agree serves v order g image g' image' o t t' first second xs later_agree w)
+              (those_hold serves v order g image g' image' o t t' first second xs P later_holds w) in
           let e = ap (cut_count v order g' ls' image' p' o t' firsts') (later-views serves v order g image g' image' o t t' first second xs w) in
-          few_shown _ same_events tests_events ys _ (omega (arith, r.count, e, cut_less serves v order g' ls' image' p' o t' firsts' (later serves v order g image g' image' o t t' first second xs) (λ x. same_events w (see serves v order g image g' image' o t t' first second xs x)) xs)));
+          few_shown _ same_events tests_events ys _ (omega (arith, r.count, e,
+              cut_less serves v order g' ls' image' p' o t' firsts' (later serves v order g image g' image' o t t' first second xs)
+              (λ x. same_events w (see serves v order g image g' image' o t t' first second xs x)) xs)));
     }

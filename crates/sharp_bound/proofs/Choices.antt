@@ -1,5 +1,6 @@
 -- A record as a choice of miss counts for each level.
-use Rattle.std.proofs.Common.{◌≡◌, ℕ, zero, suc, ◌+◌, ◌*◌, ◌^◌, ◌<◌, ◌≤◌, List, [], ◌∷◌, ◌++◌, length, Bool, true, false, refl, sym, ap, ◌∙◌, subst, inl, inr, ⊎_elim, arith}
+use Rattle.std.proofs.Common.{◌≡◌, ℕ, zero, suc, ◌+◌, ◌*◌, ◌^◌, ◌<◌, ◌≤◌, List, [], ◌∷◌, ◌++◌, length, Bool, true, false, refl, sym, ap, ◌∙◌, subst, inl, inr}
+use Rattle.std.proofs.Common.{⊎_elim, arith}
 use Rattle.std.specs.Prelude.{cond, eqb, max}
 use Rattle.std.proofs.lemmas.Bool.{cases_eq, eqb-true, eq-eqb}
 use Rattle.leak_bound.specs.Records.{Entry, Fits, FromOn, NeverFalls}
@@ -25,12 +26,15 @@ abbrev pub choice_of : ℕ → List Entry → List (List ℕ)
 choice_of zero r = []
 choice_of (suc l) r = counts_at l r ∷ choice_of l r
 
-falling : (vs : ℕ → ℕ) (l m k : ℕ) (r : List Entry) → Under vs r → NeverFalls r → FromOn l m r → picked (is_at l) r ≡ k → NeverFalling m (vs l) k (counts_at l r)
+falling : (vs : ℕ → ℕ) (l m k : ℕ) (r : List Entry) → Under vs r → NeverFalls r → FromOn l m r → picked (is_at l) r ≡ k
+    → NeverFalling m (vs l) k (counts_at l r)
 falling vs l m zero [] u n f e = refl
 falling vs l m (suc k) [] u n f e = absurd (omega (arith, e))
 falling vs l m k (x ∷ r) u n f e = go (eqb x.0 l) refl k e (λ m' k' f' e'. falling vs l m' k' r u.1 n.1 f' e')
   where
-    go : (b : Bool) → eqb x.0 l ≡ b → (k : ℕ) → cond b 1 0 + picked (is_at l) r ≡ k → ((m' k' : ℕ) → FromOn l m' r → picked (is_at l) r ≡ k' → NeverFalling m' (vs l) k' (counts_at l r)) → NeverFalling m (vs l) k (cond b (x.1 ∷ counts_at l r) (counts_at l r))
+    go : (b : Bool) → eqb x.0 l ≡ b → (k : ℕ) → cond b 1 0 + picked (is_at l) r ≡ k
+        → ((m' k' : ℕ) → FromOn l m' r → picked (is_at l) r ≡ k' → NeverFalling m' (vs l) k' (counts_at l r))
+        → NeverFalling m (vs l) k (cond b (x.1 ∷ counts_at l r) (counts_at l r))
     go false q k e rec = rec m k f.1 (omega (arith, e))
     go true q zero e rec = absurd (omega (arith, e))
     go true q (suc k) e rec =
@@ -48,14 +52,16 @@ is_choice vs ks zero r u n h = refl
 is_choice vs ks (suc l) r u n h = (falling vs l 0 (ks l) r u n (from_zero l r) (h l), is_choice vs ks l r u n h)
 
 -- one entry more adds its cycles to its level
-more_cycles : (firsts : ℕ → ℕ) (l : ℕ) (e : Entry) (r : List Entry) → (e.0 ≡ l → ⊥) → cycles_of (firsts l) (counts_at l (e ∷ r)) ≡ cycles_of (firsts l) (counts_at l r)
+more_cycles : (firsts : ℕ → ℕ) (l : ℕ) (e : Entry) (r : List Entry) → (e.0 ≡ l → ⊥)
+    → cycles_of (firsts l) (counts_at l (e ∷ r)) ≡ cycles_of (firsts l) (counts_at l r)
 more_cycles firsts l e r ne = go (eqb e.0 l) refl
   where
     go : (b : Bool) → eqb e.0 l ≡ b → cycles_of (firsts l) (cond b (e.1 ∷ counts_at l r) (counts_at l r)) ≡ cycles_of (firsts l) (counts_at l r)
     go true q = absurd (ne (eqb-true e.0 l q))
     go false q = refl
 
-same_cycles : (firsts : ℕ → ℕ) (l : ℕ) (e : Entry) (r : List Entry) → e.0 ≡ l → cycles_of (firsts l) (counts_at l (e ∷ r)) ≡ 2 ^ e.1 * max (firsts e.0) 1 + cycles_of (firsts l) (counts_at l r)
+same_cycles : (firsts : ℕ → ℕ) (l : ℕ) (e : Entry) (r : List Entry) → e.0 ≡ l
+    → cycles_of (firsts l) (counts_at l (e ∷ r)) ≡ 2 ^ e.1 * max (firsts e.0) 1 + cycles_of (firsts l) (counts_at l r)
 same_cycles firsts l e r q =
     ap (λ b. cycles_of (firsts l) (cond b (e.1 ∷ counts_at l r) (counts_at l r))) (eq-eqb e.0 l q)
     ∙ ap (λ z. 2 ^ e.1 * max (firsts z) 1 + cycles_of (firsts l) (counts_at l r)) (sym q)
@@ -64,7 +70,8 @@ above : (firsts : ℕ → ℕ) (n : ℕ) (e : Entry) (r : List Entry) → n ≤ 
 above firsts zero e r h = refl
 above firsts (suc l) e r h = omega (arith, more_cycles firsts l e r (λ q. absurd (omega (arith, q, h))), above firsts l e r (omega arith))
 
-one_entry : (firsts : ℕ → ℕ) (n : ℕ) (e : Entry) (r : List Entry) → cycles_in firsts n (choice_of n (e ∷ r)) ≤ 2 ^ e.1 * max (firsts e.0) 1 + cycles_in firsts n (choice_of n r)
+one_entry : (firsts : ℕ → ℕ) (n : ℕ) (e : Entry) (r : List Entry)
+    → cycles_in firsts n (choice_of n (e ∷ r)) ≤ 2 ^ e.1 * max (firsts e.0) 1 + cycles_in firsts n (choice_of n r)
 one_entry firsts zero e r = omega arith
 one_entry firsts (suc l) e r =
     ⊎_elim
@@ -108,9 +115,11 @@ same_counts n [] (y ∷ r') f e u h = absurd (omega (arith, e))
 same_counts n (x ∷ r) [] f e u h = absurd (omega (arith, e))
 same_counts n ((l, c) ∷ r) ((l', c') ∷ r') f e u h = go l' f.0 h (λ t. same_counts n r r' f.1 (omega (arith, e)) u.1 t)
   where
-    go : (l' : ℕ) → l ≡ l' → ((q : ℕ) → q < n → counts_at q ((l, c) ∷ r) ≡ counts_at q ((l', c') ∷ r')) → (((q : ℕ) → q < n → counts_at q r ≡ counts_at q r') → r ≡ r') → (l, c) ∷ r ≡ (l', c') ∷ r'
+    go : (l' : ℕ) → l ≡ l' → ((q : ℕ) → q < n → counts_at q ((l, c) ∷ r) ≡ counts_at q ((l', c') ∷ r'))
+        → (((q : ℕ) → q < n → counts_at q r ≡ counts_at q r') → r ≡ r') → (l, c) ∷ r ≡ (l', c') ∷ r'
     go l' le h rec =
-        let h' : (q : ℕ) → q < n → counts_at q ((l, c) ∷ r) ≡ counts_at q ((l, c') ∷ r') = subst (λ z. (q : ℕ) → q < n → counts_at q ((l, c) ∷ r) ≡ counts_at q ((z, c') ∷ r')) (sym le) h in
+        let h' : (q : ℕ) → q < n → counts_at q ((l, c) ∷ r) ≡ counts_at q ((l, c') ∷ r') =
+            subst (λ z. (q : ℕ) → q < n → counts_at q ((l, c) ∷ r) ≡ counts_at q ((z, c') ∷ r')) (sym le) h in
         let one : c ≡ c' = first_of (eqb l l) c c' (counts_at l r) (counts_at l r') (eq-eqb l l refl) (h' l u.0) in
         let rest : r ≡ r' = rec (λ q lt. rest_of (eqb l q) c c' (counts_at q r) (counts_at q r') (h' q lt)) in
         let x : Entry = (l, c) in

@@ -24,7 +24,8 @@ power-one : (b : ℕ) → b ^ 1 ≡ b
 power-one b = let z = ap (λ x. b * x) (pow-zero b) in omega (arith, z, pow-succ' b 0)
 
 -- what is determined by a number below n is one of n things
-pub count_numbered : {X V : Type 0} (see : X → V) (num : X → ℕ) (same : V → V → Bool) → Tests same → (n : ℕ) → 0 < n → ((x : X) → num x < n) → ((x y : X) → num x ≡ num y → see x ≡ see y) → (xs : List X) → distinct_count same (views see xs) ≤ n
+pub count_numbered : {X V : Type 0} (see : X → V) (num : X → ℕ) (same : V → V → Bool) → Tests same → (n : ℕ) → 0 < n → ((x : X) → num x < n)
+    → ((x y : X) → num x ≡ num y → see x ≡ see y) → (xs : List X) → distinct_count same (views see xs) ≤ n
 count_numbered see num same tests n some low determined xs =
     let k = n - 1 in
     let few = count_few see (λ x. tokens (num x)) same tests (0 ∷ []) 1 k
@@ -42,11 +43,17 @@ pub record IsCounted (n : ℕ) (ds ks : ℕ → ℕ) (r : List Entry) : Type 0 w
   pub levels : LevelsUnder n r
   pub short : (l : ℕ) → picked (is_at l) r ≤ ks l
 
-pub count_sharp : {X V : Type 0} (see : X → V) (record_of : X → List Entry) (same : V → V → Bool) → Tests same → (n : ℕ) (ds ks : ℕ → ℕ) → ((x : X) → IsCounted n ds ks (record_of x)) → ((x y : X) → Fits (record_of x) (record_of y)) → ((x y : X) → (length (record_of x) ≡ length (record_of y)) ⊎ (Under ds (record_of x) × Under ds (record_of y))) → ((x y : X) → record_of x ≡ record_of y → see x ≡ see y) → 0 < sharp (λ l. suc (ds l)) n ks → (xs : List X) → distinct_count same (views see xs) ≤ sharp (λ l. suc (ds l)) n ks
+pub count_sharp : {X V : Type 0} (see : X → V) (record_of : X → List Entry) (same : V → V → Bool) → Tests same → (n : ℕ) (ds ks : ℕ → ℕ)
+    → ((x : X) → IsCounted n ds ks (record_of x)) → ((x y : X) → Fits (record_of x) (record_of y))
+    → ((x y : X) → (length (record_of x) ≡ length (record_of y)) ⊎ (Under ds (record_of x) × Under ds (record_of y)))
+    → ((x y : X) → record_of x ≡ record_of y → see x ≡ see y) → 0 < sharp (λ l. suc (ds l)) n ks → (xs : List X)
+    → distinct_count same (views see xs) ≤ sharp (λ l. suc (ds l)) n ks
 count_sharp see record_of same tests n ds ks good fits ends determined some xs =
     count_numbered see (λ x. number ds ks n (record_of x)) same tests (sharp (λ l. suc (ds l)) n ks) some
     (λ x. number_below ds ks n (record_of x) (good x).up (good x).rises (good x).short)
     (λ x y e. determined x y
-    (same_ranks n ds ks (record_of x) (record_of y) (fits x y) (ends x y) (good x).up (good y).up (good x).rises (good y).rises (good x).levels (good y).levels (good x).short (good y).short
-    (number_same ds ks n (record_of x) (record_of y) (λ l. rank_under ds l (ks l) (record_of x) (good x).up (good x).rises ((good x).short l)) (λ l. rank_under ds l (ks l) (record_of y) (good y).up (good y).rises ((good y).short l)) e)))
+    (same_ranks n ds ks (record_of x) (record_of y) (fits x y) (ends x y) (good x).up (good y).up (good x).rises (good y).rises (good x).levels (good y).levels
+        (good x).short (good y).short
+    (number_same ds ks n (record_of x) (record_of y) (λ l. rank_under ds l (ks l) (record_of x) (good x).up (good x).rises ((good x).short l))
+        (λ l. rank_under ds l (ks l) (record_of y) (good y).up (good y).rises ((good y).short l)) e)))
     xs

@@ -1,5 +1,6 @@
 -- Few sequences are seen, by the sharper count.
-use Rattle.std.proofs.Common.{◌≡◌, ℕ, zero, suc, ◌+◌, ◌-◌, ◌*◌, ◌/◌, ◌^◌, ◌<◌, ◌≤◌, List, [], ◌∷◌, length, refl, sym, ap, ◌∙◌, subst, ◌⊎◌, inl, inr, ⊎_elim, arith}
+use Rattle.std.proofs.Common.{◌≡◌, ℕ, zero, suc, ◌+◌, ◌-◌, ◌*◌, ◌/◌, ◌^◌, ◌<◌, ◌≤◌, List, [], ◌∷◌, length, refl, sym, ap, ◌∙◌, subst, ◌⊎◌, inl, inr, ⊎_elim}
+use Rattle.std.proofs.Common.{arith}
 use Rattle.std.specs.Prelude.{Bool, true, false, cond, eqb, ltb, not, max, ◌&&◌}
 use Rattle.std.specs.List.{count_by}
 use Rattle.std.proofs.lemmas.Bool.{cases_lt, ltb-true, eqb-true, both_ways}
@@ -138,7 +139,8 @@ max_le a b c d h k = max-le (omega (arith, h, le-max_left c d)) (omega (arith, k
 sharp-some : (ds : ℕ → ℕ) (n : ℕ) (ks : ℕ → ℕ) → 0 < sharp (λ l. suc (ds l)) n ks
 sharp-some ds n ks = omega (arith, number_below ds ks n [] tt tt (λ l. omega arith))
 
-module _ {E : Type 0} {serves : E → Type 0} (v : Env E) (order : Order) (g ls : ℕ → ℕ) (image : List Instr) (p : Marked) (made : IsCompiled order g ls image p) (laws : IsLawful v (lattice_of order) serves) where
+module _ {E : Type 0} {serves : E → Type 0} (v : Env E) (order : Order) (g ls : ℕ → ℕ) (image : List Instr) (p : Marked) (made : IsCompiled order g ls image p)
+    (laws : IsLawful v (lattice_of order) serves) where
   abbrev lat : Lattice
   lat = lattice_of order
 
@@ -162,7 +164,8 @@ module _ {E : Type 0} {serves : E → Type 0} (v : Env E) (order : Order) (g ls 
   ended_of o t pick s =
       let of : ℕ → Bool = λ k. rel o k && pick (ls k) in
       let w = (found t s).whole in
-      let c = low_count v lat made.lattice laws g o t pick of lat.bottom (tells_both lat g o pick (rel o) ls lat.bottom p (tells o) made.told) (made.lattice.lowest o) w.run in
+      let c = low_count v lat made.lattice laws g o t pick of lat.bottom (tells_both lat g o pick (rel o) ls lat.bottom p (tells o) made.told)
+          (made.lattice.lowest o) w.run in
       ap (ended_count of) w.log ∙ c ∙ omega arith
 
   levels_at : (o t : ℕ) → (s : Start E) → LevelsUnder order.size (record_at o t s)
@@ -170,7 +173,8 @@ module _ {E : Type 0} {serves : E → Type 0} (v : Env E) (order : Order) (g ls 
       let pick : ℕ → Bool = λ l. not (ltb l order.size) in
       let of : ℕ → Bool = λ k. false in
       let w = (found t s).whole in
-      let c = low_count v lat made.lattice laws g o t pick of lat.bottom (tells_above lat g o order.size lat.bottom p made.levels) (made.lattice.lowest o) w.run in
+      let c = low_count v lat made.lattice laws g o t pick of lat.bottom (tells_above lat g o order.size lat.bottom p made.levels)
+          (made.lattice.lowest o) w.run in
       levels_under order.size (record_at o t s) (omega (arith, c, sym (ap (ended_count of) w.log) ∙ all_false (log_at t s)))
 
   -- the record has no entry of a level that flows to the observer
@@ -198,12 +202,17 @@ module _ {E : Type 0} {serves : E → Type 0} (v : Env E) (order : Order) (g ls 
   agree_back o s s' a = record { one = a.other; other = a.one; long = sym a.long; low = λ x h. sym (a.low x h); parts = λ q l h. sym (a.parts q l h) }
 
   agree_on : (o : ℕ) (s s1 s2 : Start E) → AgreeTo o s s1 → AgreeTo o s1 s2 → AgreeTo o s s2
-  agree_on o s s1 s2 a b = record { one = a.one; other = b.other; long = a.long ∙ b.long; low = λ x h. a.low x h ∙ b.low x h; parts = λ q l h. a.parts q l h ∙ b.parts q l h }
+  agree_on o s s1 s2 a b = record { one = a.one; other = b.other; long = a.long ∙ b.long; low = λ x h. a.low x h ∙ b.low x h; parts =
+      λ q l h. a.parts q l h ∙ b.parts q l h }
 
   -- two runs from starts that agree, typed to this end label
-  pair_of : (o t : ℕ) (typed : IsTyped lat g p) (x y : Start E) → AgreeTo o x y → Both v lat made.lattice laws g o t lat.bottom typed.0 (first_core v lat g image p made.code t x) (found t x).whole.after (first_core v lat g image p made.code t y) (found t y).whole.after (record_at o t x) (record_at o t y)
+  pair_of : (o t : ℕ) (typed : IsTyped lat g p) (x y : Start E) → AgreeTo o x y
+      → Both v lat made.lattice laws g o t lat.bottom typed.0 (first_core v lat g image p made.code t x) (found t x).whole.after
+      (first_core v lat g image p made.code t y) (found t y).whole.after (record_at o t x) (record_at o t y)
   pair_of o t typed x y a =
-      two_run v lat made.lattice laws g o t lat.bottom typed.0 (lat.bottom, typed.1, made.arrays, made.lattice.same lat.bottom, made.lattice.lowest o) (record { memory = a.low; long = a.long; one = a.one; other = a.other; parts = a.parts }) (found t x).whole.run (found t y).whole.run
+      two_run v lat made.lattice laws g o t lat.bottom typed.0 (lat.bottom, typed.1, made.arrays, made.lattice.same lat.bottom,
+          made.lattice.lowest o) (record { memory = a.low; long = a.long; one = a.one; other = a.other; parts = a.parts })
+          (found t x).whole.run (found t y).whole.run
 
   fits_at : (o t : ℕ) (x y : Start E) → AgreeTo o x y → Fits (record_at o t x) (record_at o t y)
   fits_at o t x y a = (pair_of o t made.typed x y a).fits
@@ -212,7 +221,8 @@ module _ {E : Type 0} {serves : E → Type 0} (v : Env E) (order : Order) (g ls 
   abbrev Told : {V : Type 0} → ℕ → ℕ → (Start E → V) → Type 0
   Told o t view = (x y : Start E) → AgreeTo o x y → record_at o t x ≡ record_at o t y → view x ≡ view y
 
-  timed_at : (o t : ℕ) (typed : IsTyped lat g p) (x y : Start E) → AgreeTo o x y → record_at o t x ≡ record_at o t y → Timing v lat made.lattice laws g o t typed.0 (found t x).whole.after (found t y).whole.after
+  timed_at : (o t : ℕ) (typed : IsTyped lat g p) (x y : Start E) → AgreeTo o x y → record_at o t x ≡ record_at o t y
+      → Timing v lat made.lattice laws g o t typed.0 (found t x).whole.after (found t y).whole.after
   timed_at o t typed x y a e = (pair_of o t typed x y a).timed e (record { seen = refl; misses = λ h h' l low. refl; clock = λ low. inl refl })
 
   told_seen : (o t : ℕ) → Told o t (seen_from v lat g image o t)
@@ -222,7 +232,8 @@ module _ {E : Type 0} {serves : E → Type 0} (v : Env E) (order : Order) (g ls 
   end_at t s = (past_halt v lat g image p made.code t (found t s).whole.after).clock
 
   -- with a low end label the ends are alike: at one cycle, or both past T
-  ends_alike : (o t : ℕ) → EndsLow lat g p o → (x y : Start E) → AgreeTo o x y → record_at o t x ≡ record_at o t y → (end_at t x ≡ end_at t y) ⊎ ((t < end_at t x) × (t < end_at t y))
+  ends_alike : (o t : ℕ) → EndsLow lat g p o → (x y : Start E) → AgreeTo o x y → record_at o t x ≡ record_at o t y → (end_at t x ≡ end_at t y)
+      ⊎ ((t < end_at t x) × (t < end_at t y))
   ends_alike o t ends x y a e =
       let typed : IsTyped lat g p = (ends.0, ends.1) in
       let s = (found t x).whole.after in
@@ -231,7 +242,8 @@ module _ {E : Type 0} {serves : E → Type 0} (v : Env E) (order : Order) (g ls 
       ⊎_elim
       (λ (c : s.clock ≡ s'.clock). ⊎_elim
       (λ (far : t < s.clock). inr (omega arith, omega arith))
-      (λ (by : s.clock ≤ t). fetched_time v lat made.lattice laws g o t (record { er = lat.bottom; ew = lat.bottom }) (size p) s s' ((pair_of o t typed x y a).low by (omega arith)) (made.lattice.lowest o) alike)
+      (λ (by : s.clock ≤ t). fetched_time v lat made.lattice laws g o t (record { er = lat.bottom; ew = lat.bottom }) (size p) s s'
+          ((pair_of o t typed x y a).low by (omega arith)) (made.lattice.lowest o) alike)
       (cases_lt t s.clock))
       (λ (far : (t < s.clock) × (t < s'.clock)). let u = far.0 in let u' = far.1 in inr (omega arith, omega arith))
       alike
@@ -245,7 +257,8 @@ module _ {E : Type 0} {serves : E → Type 0} (v : Env E) (order : Order) (g ls 
       w : ToEnd v lat g image p made.code t y
       w = found t y
 
-      go : (b b' : Bool) → (run_from v image t x).halted ≡ b → (run_from v image t y).halted ≡ b' → (end_at t x ≡ end_at t y) ⊎ ((t < end_at t x) × (t < end_at t y)) →
+      go : (b b' : Bool) → (run_from v image t x).halted ≡ b → (run_from v image t y).halted ≡ b' → (end_at t x ≡ end_at t y)
+          ⊎ ((t < end_at t x) × (t < end_at t y)) →
           cond b ((run_from v image t x).core.clock ∷ []) [] ≡ cond b' ((run_from v image t y).core.clock ∷ []) []
       go true true h h' (inl q) = ap (λ z. z ∷ []) (u.at_clock h ∙ q ∙ sym (w.at_clock h'))
       go true true h h' (inr q) = absurd (omega (arith, u.by h, q.0))
@@ -255,7 +268,8 @@ module _ {E : Type 0} {serves : E → Type 0} (v : Env E) (order : Order) (g ls 
       go false true h h' (inr q) = absurd (omega (arith, w.by h', q.1))
       go false false h h' q = refl
 
-  told_both : {V W : Type 0} (o t : ℕ) (view : Start E → V) (view' : Start E → W) → Told o t view → Told o t view' → Told {V = V × W} o t (λ s. (view s, view' s))
+  told_both : {V W : Type 0} (o t : ℕ) (view : Start E → V) (view' : Start E → W) → Told o t view → Told o t view'
+      → Told {V = V × W} o t (λ s. (view s, view' s))
   told_both o t view view' h h' x y a e = ap (λ z. (z, view' x)) (h x y a e) ∙ ap (λ z. (view y, z)) (h' x y a e)
 
   length_at : (o t : ℕ) (x y : Start E) → AgreeTo o x y → Halts v image t x → Halts v image t y → length (record_at o t x) ≡ length (record_at o t y)
@@ -277,7 +291,8 @@ module _ {E : Type 0} {serves : E → Type 0} (v : Env E) (order : Order) (g ls 
       (took v lat g o t (rel o) ls firsts total lat.bottom made.lattice (tells o) made.told (made.lattice.lowest o) w.run Done
       (from_start v lat g o t (rel o) ls firsts total p (first_core v lat g image p made.code t s) refl h) (omega (arith, told_all)))
 
-  counted_at : (o t : ℕ) (ds ks : ℕ → ℕ) (s : Start E) → AtMost ds (record_at o t s) → ((l : ℕ) → picked (is_at l) (record_at o t s) ≤ ks l) → IsCounted order.size ds ks (record_at o t s)
+  counted_at : (o t : ℕ) (ds ks : ℕ → ℕ) (s : Start E) → AtMost ds (record_at o t s) → ((l : ℕ) → picked (is_at l) (record_at o t s) ≤ ks l)
+      → IsCounted order.size ds ks (record_at o t s)
   counted_at o t ds ks s up h =
       record { up = up; rises = (grows_run v lat g o t (found t s).whole.run).rises; levels = levels_at o t s; short = h }
 
@@ -291,7 +306,8 @@ module _ {E : Type 0} {serves : E → Type 0} (v : Env E) (order : Order) (g ls 
   members o P s [] a h = []
   members o P s (s' ∷ starts) a h = record { from = s'; agrees = a.0; more = h.0 } ∷ members o P s starts a.1 h.1
 
-  views-members : {V : Type 0} (view : Start E → V) (o : ℕ) (P : Start E → Type 0) (s : Start E) (starts : List (Start E)) (a : Each (λ s'. AgreeTo o s s') starts) (h : Each P starts) → views (λ (x : Member o P s). view x.from) (members o P s starts a h) ≡ views view starts
+  views-members : {V : Type 0} (view : Start E → V) (o : ℕ) (P : Start E → Type 0) (s : Start E) (starts : List (Start E))
+      (a : Each (λ s'. AgreeTo o s s') starts) (h : Each P starts) → views (λ (x : Member o P s). view x.from) (members o P s starts a h) ≡ views view starts
   unfolding members
   views-members view o P s [] a h = refl
   views-members view o P s (s' ∷ starts) a h = ap (λ z. view s' ∷ z) (views-members view o P s starts a.1 h.1)
@@ -299,7 +315,10 @@ module _ {E : Type 0} {serves : E → Type 0} (v : Env E) (order : Order) (g ls 
   pair : (o : ℕ) (P : Start E → Type 0) (s : Start E) (x y : Member o P s) → AgreeTo o x.from y.from
   pair o P s x y = agree_on o x.from s y.from (agree_back o s x.from x.agrees) y.agrees
 
-  few_of : {V : Type 0} (o t : ℕ) (ds ks : ℕ → ℕ) (P : Start E → Type 0) → ((s : Start E) → P s → IsCounted order.size ds ks (record_at o t s)) → ((x y : Start E) → P x → P y → (length (record_at o t x) ≡ length (record_at o t y)) ⊎ (Under ds (record_at o t x) × Under ds (record_at o t y))) → (view : Start E → V) → Told o t view → (same : V → V → Bool) → Tests same → (s : Start E) (starts : List (Start E)) → Each (λ s'. AgreeTo o s s') starts → Each P starts → distinct_count same (views view starts) ≤ sharp (λ l. suc (ds l)) order.size ks
+  few_of : {V : Type 0} (o t : ℕ) (ds ks : ℕ → ℕ) (P : Start E → Type 0) → ((s : Start E) → P s → IsCounted order.size ds ks (record_at o t s))
+      → ((x y : Start E) → P x → P y → (length (record_at o t x) ≡ length (record_at o t y)) ⊎ (Under ds (record_at o t x) × Under ds (record_at o t y)))
+      → (view : Start E → V) → Told o t view → (same : V → V → Bool) → Tests same → (s : Start E) (starts : List (Start E)) → Each (λ s'. AgreeTo o s s') starts
+      → Each P starts → distinct_count same (views view starts) ≤ sharp (λ l. suc (ds l)) order.size ks
   few_of o t ds ks P good ends view told same tests s starts a h =
       let few = count_sharp (λ (x : Member o P s). view x.from) (λ (x : Member o P s). record_at o t x.from) same tests order.size ds ks
       (λ x. good x.from x.more)
@@ -314,22 +333,26 @@ module _ {E : Type 0} {serves : E → Type 0} (v : Env E) (order : Order) (g ls 
   begun_of : (o t l : ℕ) (s : Start E) → Halts v image t s → begun_count (relevant_at lat g ls o p l) (log_at t s) ≡ picked (is_at l) (record_at o t s)
   begun_of o t l s h =
       let r = ran v image t t (start s.memory s.env) tt (omega arith) (omega arith) in
-      all_ended v image (relevant_at lat g ls o p l) r.count (start s.memory s.env) (run_from v image t s) (omega arith) r.is ((found t s).whole.none_open h) ∙ ended_of o t (is_at l) s
+      all_ended v image (relevant_at lat g ls o p l) r.count (start s.memory s.env) (run_from v image t s) (omega arith) r.is ((found t s).whole.none_open h)
+          ∙ ended_of o t (is_at l) s
 
   -- all of them
   begun_is : (o t : ℕ) (s : Start E) → Halts v image t s → begun_count (rel o) (log_at t s) ≡ length (record_at o t s)
   begun_is o t s h =
       let r = ran v image t t (start s.memory s.env) tt (omega arith) (omega arith) in
       let c = count_low v lat made.lattice laws g o t (rel o) lat.bottom (tells o) (made.lattice.lowest o) (found t s).whole.run in
-      all_ended v image (rel o) r.count (start s.memory s.env) (run_from v image t s) (omega arith) r.is ((found t s).whole.none_open h) ∙ ap (ended_count (rel o)) (found t s).whole.log ∙ c ∙ omega arith
+      all_ended v image (rel o) r.count (start s.memory s.env) (run_from v image t s) (omega arith) r.is ((found t s).whole.none_open h)
+          ∙ ap (ended_count (rel o)) (found t s).whole.log ∙ c ∙ omega arith
 
   length_of : (o t k : ℕ) (s : Start E) → Halts v image t s → FirstBegins lat g ls o p (s ∷ []) k → length (record_at o t s) ≡ k
   length_of o t k s h b = sym (begun_is o t s h) ∙ begins_one lat g ls o p s.memory _ k (begins_log v order g ls image p made laws o t s h) b
 
-  begins_each : (o t : ℕ) (counts : ℕ → ℕ) (s : Start E) → Halts v image t s → ((l : ℕ) → picked (is_at l) (record_at o t s) ≡ counts l) → BeginsEach lat g ls o p s.memory counts
+  begins_each : (o t : ℕ) (counts : ℕ → ℕ) (s : Start E) → Halts v image t s → ((l : ℕ) → picked (is_at l) (record_at o t s) ≡ counts l)
+      → BeginsEach lat g ls o p s.memory counts
   begins_each o t counts s h e =
       let f = (keeps_order v lat g image p made.code).follows s t in
-      (f.0, f.2 h, λ l. ap (λ z. count_by (relevant_at lat g ls o p l) (started_in z)) (sym f.1) ∙ sym (begun-told (relevant_at lat g ls o p l) (log_at t s)) ∙ begun_of o t l s h ∙ e l)
+      (f.0, f.2 h, λ l. ap (λ z. count_by (relevant_at lat g ls o p l) (started_in z)) (sym f.1)
+          ∙ sym (begun-told (relevant_at lat g ls o p l) (log_at t s)) ∙ begun_of o t l s h ∙ e l)
 
   -- no level has more miss counts than T has binary digits
   few_values : (t : ℕ) (firsts : ℕ → ℕ) (l : ℕ) → 0 < t → ends_by t firsts l ≤ digits t
@@ -339,7 +362,8 @@ module _ {E : Type 0} {serves : E → Type 0} (v : Env E) (order : Order) (g ls 
       let low : c < 2 ^ suc d.0 = omega (arith, div-le_self t (max (firsts l) 1), d.2) in
       omega (arith, digits_few c (suc d.0) low, d.1)
 
-  to_closer : (o t k : ℕ) (firsts counts : ℕ → ℕ) → 0 < t → ((l : ℕ) → counts l ≤ k) → ((l : ℕ) → lat.flows l o ≡ true → counts l ≡ 0) → sharp (ends_by t firsts) order.size counts ≤ closer order o t k
+  to_closer : (o t k : ℕ) (firsts counts : ℕ → ℕ) → 0 < t → ((l : ℕ) → counts l ≤ k) → ((l : ℕ) → lat.flows l o ≡ true → counts l ≡ 0)
+      → sharp (ends_by t firsts) order.size counts ≤ closer order o t k
   to_closer o t k firsts counts some h low =
       let d = digits_is t some in
       let back : d.0 ≡ digits t - 1 = omega (arith, d.1) in
@@ -364,7 +388,8 @@ module _ {E : Type 0} {serves : E → Type 0} (v : Env E) (order : Order) (g ls 
   few_halted o t some view told (s ∷ starts) agree halts firsts predicts same tests =
       let counts : ℕ → ℕ = λ l. picked (is_at l) (record_at o t s) in
       let vs : ℕ → ℕ = ends_by t firsts in
-      let P : Start E → Type 0 = λ s'. ((l : ℕ) → picked (is_at l) (record_at o t s') ≡ counts l) × (length (record_at o t s') ≡ length (record_at o t s)) × Halts v image t s' × PredictsTo o t firsts s' in
+      let P : Start E → Type 0 = λ s'. ((l : ℕ) → picked (is_at l) (record_at o t s') ≡ counts l) × (length (record_at o t s') ≡ length (record_at o t s))
+          × Halts v image t s' × PredictsTo o t firsts s' in
       let each : Each P (s ∷ starts) = Each-map (λ s'. AgreeTo o s s' × Halts v image t s' × PredictsTo o t firsts s') P
       (λ s' a.
       let e = length_at o t s s' a.0 halts.0 a.1 in
@@ -373,13 +398,15 @@ module _ {E : Type 0} {serves : E → Type 0} (v : Env E) (order : Order) (g ls 
       let few = few_of o t (λ l. vs l - 1) counts P
       (λ s' h. counted_at o t (λ l. vs l - 1) counts s' (at_most_less vs (record_at o t s') (under_at o t firsts s' h.3)) (λ l. omega (arith, h.0 l)))
       (λ x y h h'. inl (h.1 ∙ sym h'.1)) view told same tests s (s ∷ starts) agree.0 each in
-      let all = sharp_same order.size (λ l. suc (vs l - 1)) vs counts (λ l. same_factor (vs l) (counts l) (has_value vs l (record_at o t s) (under_at o t firsts s predicts.0))) in (
+      let all = sharp_same order.size (λ l. suc (vs l - 1)) vs counts
+          (λ l. same_factor (vs l) (counts l) (has_value vs l (record_at o t s) (under_at o t firsts s predicts.0))) in (
         counts,
         Each-map P (λ s'. BeginsEach lat g ls o p s'.memory counts) (λ s' h. begins_each o t counts s' h.2 h.0) (s ∷ starts) each,
         few_shown view same tests (s ∷ starts) (sharp vs order.size counts)
             (subst (λ z. distinct_count same (views view (s ∷ starts)) ≤ z) all few),
         λ k b. (
-          to_closer o t k firsts counts some (λ l. omega (arith, length_of o t k s halts.0 b, picked_length (is_at l) (record_at o t s))) (λ l f. none_low o t l f s),
+          to_closer o t k firsts counts some (λ l. omega (arith, length_of o t k s halts.0 b, picked_length (is_at l) (record_at o t s)))
+              (λ l f. none_low o t l f s),
           closer_within o t k,
         ),
       )
@@ -391,7 +418,8 @@ module _ {E : Type 0} {serves : E → Type 0} (v : Env E) (order : Order) (g ls 
   under_most o t [] = tt
   under_most o t (s ∷ starts) = (
     (λ l. omega (arith, ended_of o t (is_at l) s, le-max_left (ended_count (relevant_at lat g ls o p l) (log_at t s)) (most o t starts l))),
-    Each-map (λ s'. (l : ℕ) → picked (is_at l) (record_at o t s') ≤ most o t starts l) (λ s'. (l : ℕ) → picked (is_at l) (record_at o t s') ≤ most o t (s ∷ starts) l)
+    Each-map (λ s'. (l : ℕ) → picked (is_at l) (record_at o t s') ≤ most o t starts l) (λ s'. (l : ℕ)
+        → picked (is_at l) (record_at o t s') ≤ most o t (s ∷ starts) l)
         (λ s' h l. omega (arith, h l, le-max_right (ended_count (relevant_at lat g ls o p l) (log_at t s)) (most o t starts l))) starts (under_most o t starts),
   )
 
@@ -404,10 +432,15 @@ module _ {E : Type 0} {serves : E → Type 0} (v : Env E) (order : Order) (g ls 
   most_none o t l f (s ∷ starts) =
       ap (λ z. max z (most o t starts l)) (ended_of o t (is_at l) s ∙ none_low o t l f s) ∙ ap (λ z. max 0 z) (most_none o t l f starts)
 
-  cut_within : (o t : ℕ) (firsts : ℕ → ℕ) (starts : List (Start E)) → 0 < t → sharp (λ l. ends_by t firsts l + 1) order.size (most o t starts) ≤ bound order o t (most_ended v image (rel o) t starts)
-  cut_within o t firsts starts some = sharp_within lat o (digits t) (most_ended v image (rel o) t starts) order.size (λ l. ends_by t firsts l + 1) (most o t starts) (λ l. omega (arith, few_values t firsts l some)) (λ l. most_less o t l starts) (λ l f. most_none o t l f starts)
+  cut_within : (o t : ℕ) (firsts : ℕ → ℕ) (starts : List (Start E)) → 0 < t
+      → sharp (λ l. ends_by t firsts l + 1) order.size (most o t starts) ≤ bound order o t (most_ended v image (rel o) t starts)
+  cut_within o t firsts starts some =
+      sharp_within lat o (digits t) (most_ended v image (rel o) t starts) order.size (λ l. ends_by t firsts l + 1) (most o t starts)
+      (λ l. omega (arith, few_values t firsts l some)) (λ l. most_less o t l starts) (λ l f. most_none o t l f starts)
 
-  cut_under : {V : Type 0} (o t : ℕ) → (view : Start E → V) → Told o t view → (starts : List (Start E)) → Pairwise (Agree v lat serves g o) starts → (firsts : ℕ → ℕ) → Each (PredictsTo o t firsts) starts → (same : V → V → Bool) → Tests same → distinct_count same (views view starts) ≤ sharp (λ l. ends_by t firsts l + 1) order.size (most o t starts)
+  cut_under : {V : Type 0} (o t : ℕ) → (view : Start E → V) → Told o t view → (starts : List (Start E)) → Pairwise (Agree v lat serves g o) starts
+      → (firsts : ℕ → ℕ) → Each (PredictsTo o t firsts) starts → (same : V → V → Bool) → Tests same
+      → distinct_count same (views view starts) ≤ sharp (λ l. ends_by t firsts l + 1) order.size (most o t starts)
   cut_under o t view told [] agree firsts predicts same tests = omega arith
   cut_under o t view told (s ∷ starts) agree firsts predicts same tests =
       let vs : ℕ → ℕ = ends_by t firsts in
@@ -423,18 +456,23 @@ module _ {E : Type 0} {serves : E → Type 0} (v : Env E) (order : Order) (g ls 
 
   few_cut : {V : Type 0} (o t : ℕ) → 0 < t → (view : Start E → V) → Told o t view → FewCut v order serves g ls image p o t view
   few_cut o t some view told starts agree firsts predicts same tests =
-      (few_shown view same tests starts (sharp (λ l. ends_by t firsts l + 1) order.size (most o t starts)) (cut_under o t view told starts agree firsts predicts same tests), cut_within o t firsts starts some)
+      (few_shown view same tests starts (sharp (λ l. ends_by t firsts l + 1) order.size (most o t starts))
+          (cut_under o t view told starts agree firsts predicts same tests), cut_within o t firsts starts some)
 
-  spent_by : (o t : ℕ) (firsts : ℕ → ℕ) (s : Start E) → StandApart (rel o) (commands_of p) → PredictsTo o t firsts s → Halts v image t s → spent firsts (record_at o t s) ≤ t
+  spent_by : (o t : ℕ) (firsts : ℕ → ℕ) (s : Start E) → StandApart (rel o) (commands_of p) → PredictsTo o t firsts s → Halts v image t s
+      → spent firsts (record_at o t s) ≤ t
   spent_by o t firsts s apart predicts halts =
       let w = (found t s).whole in
       let by = w.in_time halts in
       let total = notes_to v image t s in
       let told_all = ap (λ z. length (told z)) w.log in
-      omega (arith, by, fits_run v lat made.lattice laws g o t (rel o) ls firsts total lat.bottom (tells o) made.told apart (made.lattice.lowest o) w.run Done (from_start v lat g o t (rel o) ls firsts total p (first_core v lat g image p made.code t s) refl predicts) by (omega (arith, told_all)))
+      omega (arith, by, fits_run v lat made.lattice laws g o t (rel o) ls firsts total lat.bottom (tells o) made.told apart (made.lattice.lowest o) w.run Done
+          (from_start v lat g o t (rel o) ls firsts total p (first_core v lat g image p made.code t s) refl predicts) by (omega (arith, told_all)))
 
   -- a start's choice is one of the ways
-  its_way : (o t : ℕ) (firsts counts : ℕ → ℕ) (ways : List (List (List ℕ))) → AreWays t firsts order.size counts ways → StandApart (rel o) (commands_of p) → (s : Start E) → PredictsTo o t firsts s → Halts v image t s → ((l : ℕ) → picked (is_at l) (record_at o t s) ≡ counts l) → IsAmong (choice_of order.size (record_at o t s)) ways
+  its_way : (o t : ℕ) (firsts counts : ℕ → ℕ) (ways : List (List (List ℕ))) → AreWays t firsts order.size counts ways → StandApart (rel o) (commands_of p)
+      → (s : Start E) → PredictsTo o t firsts s → Halts v image t s → ((l : ℕ) → picked (is_at l) (record_at o t s) ≡ counts l)
+      → IsAmong (choice_of order.size (record_at o t s)) ways
   its_way o t firsts counts ways are apart s predicts halts h =
       let r = record_at o t s in
       are.whole (choice_of order.size r)
@@ -445,7 +483,8 @@ module _ {E : Type 0} {serves : E → Type 0} (v : Env E) (order : Order) (g ls 
   few_shared o t view told apart [] agree halts firsts predicts same tests = (λ l. 0, tt, λ ways are. few_shown view same tests [] (length ways) (omega arith))
   few_shared o t view told apart (s ∷ starts) agree halts firsts predicts same tests =
       let counts : ℕ → ℕ = λ l. picked (is_at l) (record_at o t s) in
-      let P : Start E → Type 0 = λ s'. ((l : ℕ) → picked (is_at l) (record_at o t s') ≡ counts l) × (length (record_at o t s') ≡ length (record_at o t s)) × Halts v image t s' × PredictsTo o t firsts s' in
+      let P : Start E → Type 0 = λ s'. ((l : ℕ) → picked (is_at l) (record_at o t s') ≡ counts l) × (length (record_at o t s') ≡ length (record_at o t s))
+          × Halts v image t s' × PredictsTo o t firsts s' in
       let each : Each P (s ∷ starts) = Each-map (λ s'. AgreeTo o s s' × Halts v image t s' × PredictsTo o t firsts s') P
       (λ s' a.
       let e = length_at o t s s' a.0 halts.0 a.1 in
@@ -454,13 +493,16 @@ module _ {E : Type 0} {serves : E → Type 0} (v : Env E) (order : Order) (g ls 
         counts,
         Each-map P (λ s'. BeginsEach lat g ls o p s'.memory counts) (λ s' h. begins_each o t counts s' h.2 h.0) (s ∷ starts) each,
         λ ways are.
-            let way : (x : Member o P s) → IsAmong (choice_of order.size (record_at o t x.from)) ways = λ x. its_way o t firsts counts ways are apart x.from x.more.3 x.more.2 x.more.0 in
+            let way : (x : Member o P s) → IsAmong (choice_of order.size (record_at o t x.from)) ways =
+                λ x. its_way o t firsts counts ways are apart x.from x.more.3 x.more.2 x.more.0 in
             let own = its_way o t firsts counts ways are apart s each.0.3 each.0.2 each.0.0 in
-            let few = count_numbered (λ (x : Member o P s). view x.from) (λ x. place (choice_of order.size (record_at o t x.from)) ways (way x)) same tests (length ways)
+            let few = count_numbered (λ (x : Member o P s). view x.from)
+                (λ x. place (choice_of order.size (record_at o t x.from)) ways (way x)) same tests (length ways)
             (omega (arith, place_below (choice_of order.size (record_at o t s)) ways own))
             (λ x. place_below (choice_of order.size (record_at o t x.from)) ways (way x))
             (λ x y e. told x.from y.from (pair o P s x y)
-            (same_choice order.size (record_at o t x.from) (record_at o t y.from) (fits_at o t x.from y.from (pair o P s x y)) (x.more.1 ∙ sym y.more.1) (levels_at o t x.from)
+            (same_choice order.size (record_at o t x.from) (record_at o t y.from) (fits_at o t x.from y.from (pair o P s x y))
+                (x.more.1 ∙ sym y.more.1) (levels_at o t x.from)
             (place_same _ _ ways (way x) (way y) e)))
             (members o P s (s ∷ starts) agree.0 each) in
             few_shown view same tests (s ∷ starts) (length ways)
@@ -491,6 +533,8 @@ module _ {E : Type 0} {serves : E → Type 0} (v : Env E) (order : Order) (g ls 
       let u = found t x in
       let w = found t y in
       let bottoms : Marks = record { er = lat.bottom; ew = lat.bottom } in
-      let same = fetched_low v lat made.lattice laws g o t bottoms (size p) u.whole.after w.whole.after ((pair_of o t made.typed x y a).low (u.whole.in_time h) (w.whole.in_time h')) in
-      let both = subst (λ c. SameLow v lat made.lattice laws g o t c (run_from v image t y).core) (sym (u.at_core h)) (subst (λ c. SameLow v lat made.lattice laws g o t (past_halt v lat g image p made.code t u.whole.after) c) (sym (w.at_core h')) same) in
+      let same = fetched_low v lat made.lattice laws g o t bottoms (size p) u.whole.after w.whole.after
+          ((pair_of o t made.typed x y a).low (u.whole.in_time h) (w.whole.in_time h')) in
+      let both = subst (λ c. SameLow v lat made.lattice laws g o t c (run_from v image t y).core) (sym (u.at_core h))
+          (subst (λ c. SameLow v lat made.lattice laws g o t (past_halt v lat g image p made.code t u.whole.after) c) (sym (w.at_core h')) same) in
       record { one = both.one; other = both.other; long = both.long; low = both.memory; parts = both.parts }

@@ -8,7 +8,8 @@ use Rattle.leak_bound.specs.Relevant.{LevelsAre}
 use Rattle.leak_bound.proofs.Tells.{Tells}
 use Rattle.sharp_bound.proofs.Picks.{TellsOf}
 
-pub tells_both : (lat : Lattice) (g : ℕ → ℕ) (o : ℕ) (pick rel : ℕ → Bool) (ls : ℕ → ℕ) (pc : ℕ) (p : Marked) → Tells lat g o rel pc p → LevelsAre ls p → TellsOf lat g o pick (λ k. rel k && pick (ls k)) pc p
+pub tells_both : (lat : Lattice) (g : ℕ → ℕ) (o : ℕ) (pick rel : ℕ → Bool) (ls : ℕ → ℕ) (pc : ℕ) (p : Marked) → Tells lat g o rel pc p → LevelsAre ls p
+    → TellsOf lat g o pick (λ k. rel k && pick (ls k)) pc p
 tells_both lat g o pick rel ls pc Done t h = tt
 tells_both lat g o pick rel ls pc (Skip m r) t h = tells_both lat g o pick rel ls pc r t h
 tells_both lat g o pick rel ls pc (Assign m x e r) t h = tells_both lat g o pick rel ls pc r t h

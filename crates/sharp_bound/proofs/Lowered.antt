@@ -29,10 +29,12 @@ use Rattle.sharp_bound.proofs.Many.{is_sharp_many}
 use Rattle.sharp_bound.specs.Lowered.{LoweredSharpAll, LoweredSharpCutAll, LoweredSharpEndAll, LoweredSharedAll, LoweredManyAll, LoweredLeavesAgree}
 
 module _ {M L M' L' : Type 0} (p : Todo M L) (q : Todo M' L') (e : commands_of p ≡ commands_of q) (lat : Lattice) (g ls : ℕ → ℕ) (o : ℕ) where
-  predicts_same : (firsts : ℕ → ℕ) (m : List ℤ) (total : ℕ) → Predicts (is_relevant lat g ls o q) ls firsts q m total → Predicts (is_relevant lat g ls o p) ls firsts p m total
+  predicts_same : (firsts : ℕ → ℕ) (m : List ℤ) (total : ℕ) → Predicts (is_relevant lat g ls o q) ls firsts q m total
+      → Predicts (is_relevant lat g ls o p) ls firsts p m total
   predicts_same firsts m total h =
       subst (λ rel. Predicts rel ls firsts p m total) (sym (relevant-same p q e lat g ls o))
-      (subst (λ c. (n : ℕ) → length (notes_of c m n) < total → PredictsNext (is_relevant lat g ls o q) ls firsts (source_steps n (source_start c m)).todo (source_steps n (source_start c m)).memory) (sym e) h)
+      (subst (λ c. (n : ℕ) → length (notes_of c m n) < total
+          → PredictsNext (is_relevant lat g ls o q) ls firsts (source_steps n (source_start c m)).todo (source_steps n (source_start c m)).memory) (sym e) h)
 
   begins_each_same : (m : List ℤ) (counts : ℕ → ℕ) → BeginsEach lat g ls o p m counts → BeginsEach lat g ls o q m counts
   begins_each_same m counts b =
@@ -48,17 +50,20 @@ module _ {M L M' L' : Type 0} (p : Todo M L) (q : Todo M' L') (e : commands_of p
   first_same [] k h = h
   first_same (s ∷ starts) k h = begins_same p q e lat g ls o s.memory k h
 
-module _ {E V M L M' L' : Type 0} (v : Env E) (order : Order) (serves : E → Type 0) (g ls : ℕ → ℕ) (image : List Instr) (p : Todo M L) (q : Todo M' L') (e : commands_of p ≡ commands_of q) (o t : ℕ) (view : Start E → V) where
+module _ {E V M L M' L' : Type 0} (v : Env E) (order : Order) (serves : E → Type 0) (g ls : ℕ → ℕ) (image : List Instr) (p : Todo M L) (q : Todo M' L')
+    (e : commands_of p ≡ commands_of q) (o t : ℕ) (view : Start E → V) where
   abbrev lat : Lattice
   lat = lattice_of order
 
   pub few_halted_same : FewHalted v order serves g ls image p o t view → FewHalted v order serves g ls image q o t view
   few_halted_same few starts agree halts firsts predicts same tests =
       let r = few starts agree halts firsts
-      (Each-map (PredictsBy v lat g ls image q o t firsts) (PredictsBy v lat g ls image p o t firsts) (λ s a. predicts_same p q e lat g ls o firsts s.memory (notes_to v image t s) a) starts predicts)
+      (Each-map (PredictsBy v lat g ls image q o t firsts) (PredictsBy v lat g ls image p o t firsts)
+          (λ s a. predicts_same p q e lat g ls o firsts s.memory (notes_to v image t s) a) starts predicts)
       same tests in (
         r.0,
-        Each-map (λ (s : Start E). BeginsEach lat g ls o p s.memory r.0) (λ s. BeginsEach lat g ls o q s.memory r.0) (λ s b. begins_each_same p q e lat g ls o s.memory r.0 b) starts r.1,
+        Each-map (λ (s : Start E). BeginsEach lat g ls o p s.memory r.0) (λ s. BeginsEach lat g ls o q s.memory r.0)
+            (λ s b. begins_each_same p q e lat g ls o s.memory r.0 b) starts r.1,
         r.2,
         λ k b. r.3 k (first_same q p (sym e) lat g ls o starts k b),
       )
@@ -68,20 +73,25 @@ module _ {E V M L M' L' : Type 0} (v : Env E) (order : Order) (serves : E → Ty
       subst
       (λ rel.
       FewShown view same starts (sharp (λ l. ends_by t firsts l + 1) order.size (λ l. most_ended v image (λ k. rel k && eqb (ls k) l) t starts))
-      × (sharp (λ l. ends_by t firsts l + 1) order.size (λ l. most_ended v image (λ k. rel k && eqb (ls k) l) t starts) ≤ bound order o t (most_ended v image rel t starts)))
+      × (sharp (λ l. ends_by t firsts l + 1) order.size (λ l. most_ended v image (λ k. rel k && eqb (ls k) l) t starts) ≤ bound order o t
+          (most_ended v image rel t starts)))
       (relevant-same p q e lat g ls o)
       (few starts agree firsts
-      (Each-map (PredictsBy v lat g ls image q o t firsts) (PredictsBy v lat g ls image p o t firsts) (λ s a. predicts_same p q e lat g ls o firsts s.memory (notes_to v image t s) a) starts predicts)
+      (Each-map (PredictsBy v lat g ls image q o t firsts) (PredictsBy v lat g ls image p o t firsts)
+          (λ s a. predicts_same p q e lat g ls o firsts s.memory (notes_to v image t s) a) starts predicts)
       same tests)
 
   pub few_shared_same : FewShared v order serves g ls image p o t view → FewShared v order serves g ls image q o t view
   few_shared_same few apart starts agree halts firsts predicts same tests =
-      let apart' : StandApart (is_relevant lat g ls o p) (commands_of p) = subst (λ rel. StandApart rel (commands_of p)) (sym (relevant-same p q e lat g ls o)) (subst (StandApart (is_relevant lat g ls o q)) (sym e) apart) in
+      let apart' : StandApart (is_relevant lat g ls o p) (commands_of p) =
+          subst (λ rel. StandApart rel (commands_of p)) (sym (relevant-same p q e lat g ls o)) (subst (StandApart (is_relevant lat g ls o q)) (sym e) apart) in
       let r = few apart' starts agree halts firsts
-      (Each-map (PredictsBy v lat g ls image q o t firsts) (PredictsBy v lat g ls image p o t firsts) (λ s a. predicts_same p q e lat g ls o firsts s.memory (notes_to v image t s) a) starts predicts)
+      (Each-map (PredictsBy v lat g ls image q o t firsts) (PredictsBy v lat g ls image p o t firsts)
+          (λ s a. predicts_same p q e lat g ls o firsts s.memory (notes_to v image t s) a) starts predicts)
       same tests in (
         r.0,
-        Each-map (λ (s : Start E). BeginsEach lat g ls o p s.memory r.0) (λ s. BeginsEach lat g ls o q s.memory r.0) (λ s b. begins_each_same p q e lat g ls o s.memory r.0 b) starts r.1,
+        Each-map (λ (s : Start E). BeginsEach lat g ls o p s.memory r.0) (λ s. BeginsEach lat g ls o q s.memory r.0)
+            (λ s b. begins_each_same p q e lat g ls o s.memory r.0 b) starts r.1,
         r.2,
       )
 
@@ -89,31 +99,38 @@ module _ {E : Type 0} (v : Env E) (serves : Order → E → Type 0) where
   pub lowered_sharp : SharpSoundAll v serves → LoweredSharpAll v serves
   lowered_sharp all q is =
       let few = (all q.program.order (labels_of q) (levels_of q) (lowered q).instrs (bare_of q) (made_of q is)).few in
-      record { few = λ o low t some. few_halted_same v q.program.order (serves q.program.order) (labels_of q) (levels_of q) (lowered q).instrs (bare_of q) (plan_of q.program) (keep_commands q) o t _ (few o low t some) }
+      record { few = λ o low t some. few_halted_same v q.program.order (serves q.program.order) (labels_of q) (levels_of q) (lowered q).instrs (bare_of q)
+          (plan_of q.program) (keep_commands q) o t _ (few o low t some) }
 
   pub lowered_cut : SharpCutAll v serves → LoweredSharpCutAll v serves
   lowered_cut all q is =
       let few = (all q.program.order (labels_of q) (levels_of q) (lowered q).instrs (bare_of q) (made_of q is)).few in
-      record { few = λ o low t some. few_cut_same v q.program.order (serves q.program.order) (labels_of q) (levels_of q) (lowered q).instrs (bare_of q) (plan_of q.program) (keep_commands q) o t _ (few o low t some) }
+      record { few = λ o low t some. few_cut_same v q.program.order (serves q.program.order) (labels_of q) (levels_of q) (lowered q).instrs (bare_of q)
+          (plan_of q.program) (keep_commands q) o t _ (few o low t some) }
 
   pub lowered_end : SharpEndAll v serves → LoweredSharpEndAll v serves
   lowered_end all q is =
       let both = all q.program.order (labels_of q) (levels_of q) (lowered q).instrs (bare_of q) (made_of q is) in
       record {
-        halted = λ o low ends t some. few_halted_same v q.program.order (serves q.program.order) (labels_of q) (levels_of q) (lowered q).instrs (bare_of q) (plan_of q.program) (keep_commands q) o t _ (both.halted o low ends t some);
-        cut = λ o low ends t some. few_cut_same v q.program.order (serves q.program.order) (labels_of q) (levels_of q) (lowered q).instrs (bare_of q) (plan_of q.program) (keep_commands q) o t _ (both.cut o low ends t some);
+        halted = λ o low ends t some. few_halted_same v q.program.order (serves q.program.order) (labels_of q) (levels_of q) (lowered q).instrs (bare_of q)
+            (plan_of q.program) (keep_commands q) o t _ (both.halted o low ends t some);
+        cut = λ o low ends t some. few_cut_same v q.program.order (serves q.program.order) (labels_of q) (levels_of q) (lowered q).instrs (bare_of q)
+            (plan_of q.program) (keep_commands q) o t _ (both.cut o low ends t some);
       }
 
   pub lowered_shared : SharpSharedAll v serves → LoweredSharedAll v serves
   lowered_shared all q is =
       let few = (all q.program.order (labels_of q) (levels_of q) (lowered q).instrs (bare_of q) (made_of q is)).few in
-      record { few = λ o low t some. few_shared_same v q.program.order (serves q.program.order) (labels_of q) (levels_of q) (lowered q).instrs (bare_of q) (plan_of q.program) (keep_commands q) o t _ (few o low t some) }
+      record { few = λ o low t some. few_shared_same v q.program.order (serves q.program.order) (labels_of q) (levels_of q) (lowered q).instrs (bare_of q)
+          (plan_of q.program) (keep_commands q) o t _ (few o low t some) }
 
   pub lowered_many : (X : Type 0) → SharpSoundAll v serves → SharpCutAll v serves → LoweredManyAll X v serves
   lowered_many X all all_cut order q is =
       is_sharp_many v order (λ i. labels_of (q i)) (λ i. levels_of (q i)) (λ i. (lowered (q i)).instrs) (λ i. plan_of (q i).program)
-      (λ i. subst (λ z. SharpSound v z (serves z) (labels_of (q i)) (levels_of (q i)) (lowered (q i)).instrs (plan_of (q i).program)) (is i).1 (lowered_sharp all (q i) (is i).0))
-      (λ i. subst (λ z. SharpCut v z (serves z) (labels_of (q i)) (levels_of (q i)) (lowered (q i)).instrs (plan_of (q i).program)) (is i).1 (lowered_cut all_cut (q i) (is i).0))
+      (λ i. subst (λ z. SharpSound v z (serves z) (labels_of (q i)) (levels_of (q i)) (lowered (q i)).instrs (plan_of (q i).program)) (is i).1
+          (lowered_sharp all (q i) (is i).0))
+      (λ i. subst (λ z. SharpCut v z (serves z) (labels_of (q i)) (levels_of (q i)) (lowered (q i)).instrs (plan_of (q i).program)) (is i).1
+          (lowered_cut all_cut (q i) (is i).0))
 
   pub lowered_left : LeavesAgree v serves → LoweredLeavesAgree v serves
   lowered_left all q is = all q.program.order (labels_of q) (levels_of q) (lowered q).instrs (bare_of q) (made_of q is)

@@ -24,7 +24,8 @@ filter_views : {V W : Type 0} (f : V → W) (t : W → Bool) (vs : List V) → f
 filter_views f t [] = refl
 filter_views f t (v ∷ vs) = go (t (f v)) (filter_views f t vs)
   where
-    go : (b : Bool) → filter t (views f vs) ≡ views f (filter (λ v. t (f v)) vs) → cond b (f v ∷ filter t (views f vs)) (filter t (views f vs)) ≡ views f (cond b (v ∷ filter (λ v. t (f v)) vs) (filter (λ v. t (f v)) vs))
+    go : (b : Bool) → filter t (views f vs) ≡ views f (filter (λ v. t (f v)) vs)
+        → cond b (f v ∷ filter t (views f vs)) (filter t (views f vs)) ≡ views f (cond b (v ∷ filter (λ v. t (f v)) vs) (filter (λ v. t (f v)) vs))
     go true e = ap (λ z. f v ∷ z) e
     go false e = e
 
@@ -42,7 +43,8 @@ views-on : {X V W : Type 0} (f : V → W) (see : X → V) (xs : List X) → view
 views-on f see [] = refl
 views-on f see (x ∷ xs) = ap (λ z. f (see x) ∷ z) (views-on f see xs)
 
-count_on : {X V W : Type 0} (f : V → W) (same : W → W → Bool) (see : X → V) (xs : List X) → distinct_count same (views (λ x. f (see x)) xs) ≡ distinct_count (λ a b. same (f a) (f b)) (views see xs)
+count_on : {X V W : Type 0} (f : V → W) (same : W → W → Bool) (see : X → V) (xs : List X)
+    → distinct_count same (views (λ x. f (see x)) xs) ≡ distinct_count (λ a b. same (f a) (f b)) (views see xs)
 count_on f same see xs =
     ap (distinct_count same) (views-on f see xs)
     ∙ ap length (distinct_views f same (views see xs))
@@ -69,12 +71,14 @@ few_many X V view same alike tests tests' xs ms zero h = few_shown (seen_in view
   where
     none : (ys : List X) → filter (λ z. not (alike [] z)) (views (seen_in view 0) ys) ≡ []
     none [] = refl
-    none (y ∷ ys) = ap (λ b. cond (not b) ([] ∷ filter (λ z. not (alike [] z)) (views (seen_in view 0) ys)) (filter (λ z. not (alike [] z)) (views (seen_in view 0) ys))) (tests'.same_from [] [] refl) ∙ none ys
+    none (y ∷ ys) = ap (λ b. cond (not b) ([] ∷ filter (λ z. not (alike [] z)) (views (seen_in view 0) ys))
+        (filter (λ z. not (alike [] z)) (views (seen_in view 0) ys))) (tests'.same_from [] [] refl) ∙ none ys
 
     same_distinct : (ys : List X) → filter (λ z. not (alike [] z)) (distinct alike (views (seen_in view 0) ys)) ≡ []
     same_distinct [] = refl
     same_distinct (y ∷ ys) =
-        ap (λ b. cond (not b) ([] ∷ filter (λ z. not (alike [] z)) (filter (λ z. not (alike [] z)) (distinct alike (views (seen_in view 0) ys)))) (filter (λ z. not (alike [] z)) (filter (λ z. not (alike [] z)) (distinct alike (views (seen_in view 0) ys))))) (tests'.same_from [] [] refl)
+        ap (λ b. cond (not b) ([] ∷ filter (λ z. not (alike [] z)) (filter (λ z. not (alike [] z)) (distinct alike (views (seen_in view 0) ys))))
+            (filter (λ z. not (alike [] z)) (filter (λ z. not (alike [] z)) (distinct alike (views (seen_in view 0) ys))))) (tests'.same_from [] [] refl)
         ∙ ap (filter (λ z. not (alike [] z))) (same_distinct ys)
 
     one : (ys : List X) → distinct_count alike (views (seen_in view 0) ys) ≤ 1
@@ -82,16 +86,20 @@ few_many X V view same alike tests tests' xs ms zero h = few_shown (seen_in view
     one (y ∷ ys) = let e = ap length (same_distinct ys) in omega (arith, e)
 few_many X V view same alike tests tests' xs ms (suc n) h =
     let before = few_many X V view same alike tests tests' xs ms n (λ i lt. h i (omega arith)) in
-    let two = few_twice X (List V) V (seen_in view n) (view n) alike same (λ a b. alike (joined a) (joined b)) tests' tests (tests_joined alike tests') xs (product_of ms n) (ms n) before (h n (omega arith)) in
+    let two = few_twice X (List V) V (seen_in view n) (view n) alike same (λ a b. alike (joined a) (joined b)) tests' tests (tests_joined alike tests') xs
+        (product_of ms n) (ms n) before (h n (omega arith)) in
     few_shown (seen_in view (suc n)) alike tests' xs (product_of ms n * ms n)
     (subst (λ z. z ≤ product_of ms n * ms n) (sym (count_on joined alike (both (seen_in view n) (view n)) xs)) two.count)
 
 -- those that have shown the same
-those_agree : {X V S : Type 0} (see : X → V) (same : V → V → Bool) → Tests same → (start : V → X → S) (R : S → S → Type 0) (xs : List X) → Pairwise (λ x y. see x ≡ see y → R (start (see x) x) (start (see y) y)) xs → (w : V) → Pairwise (λ x y. R (start w x) (start w y)) (that_show see same w xs)
+those_agree : {X V S : Type 0} (see : X → V) (same : V → V → Bool) → Tests same → (start : V → X → S) (R : S → S → Type 0) (xs : List X)
+    → Pairwise (λ x y. see x ≡ see y → R (start (see x) x) (start (see y) y)) xs → (w : V)
+    → Pairwise (λ x y. R (start w x) (start w y)) (that_show see same w xs)
 those_agree {X} see same tests start R xs h w =
     let P : X → X → Type 0 = λ x y. see x ≡ see y → R (start (see x) x) (start (see y) y) in
     let t : X → Bool = λ x. same w (see x) in
-    Each-map (λ x. Each (λ y. P x y × (t x ≡ true) × (t y ≡ true)) (that_show see same w xs)) (λ x. Each (λ y. R (start w x) (start w y)) (that_show see same w xs))
+    Each-map (λ x. Each (λ y. P x y × (t x ≡ true) × (t y ≡ true)) (that_show see same w xs))
+        (λ x. Each (λ y. R (start w x) (start w y)) (that_show see same w xs))
     (λ x a. Each-map (λ y. P x y × (t x ≡ true) × (t y ≡ true)) (λ y. R (start w x) (start w y))
     (λ y b.
     let e : w ≡ see x = tests.same_to w (see x) b.1 in
@@ -101,29 +109,34 @@ those_agree {X} see same tests start R xs h w =
     (that_show see same w xs) a)
     (that_show see same w xs) (pairs_pass P t xs h)
 
-those_hold : {X V S : Type 0} (see : X → V) (same : V → V → Bool) → Tests same → (start : V → X → S) (P : S → Type 0) (xs : List X) → Each (λ x. P (start (see x) x)) xs → (w : V) → Each (λ x. P (start w x)) (that_show see same w xs)
+those_hold : {X V S : Type 0} (see : X → V) (same : V → V → Bool) → Tests same → (start : V → X → S) (P : S → Type 0) (xs : List X)
+    → Each (λ x. P (start (see x) x)) xs → (w : V) → Each (λ x. P (start w x)) (that_show see same w xs)
 those_hold see same tests start P xs h w =
     Each-map (λ x. P (start (see x) x) × (same w (see x) ≡ true)) (λ x. P (start w x))
     (λ x a. subst (λ z. P (start z x)) (sym (tests.same_to w (see x) a.1)) a.0)
     (that_show see same w xs) (each_pass (λ x. P (start (see x) x)) (λ x. same w (see x)) xs h)
 
-those_views : {X V S : Type 0} (see : X → V) (same : V → V → Bool) → Tests same → (start : V → X → S) (w : V) (xs : List X) → views (start w) (that_show see same w xs) ≡ views (λ x. start (see x) x) (that_show see same w xs)
+those_views : {X V S : Type 0} (see : X → V) (same : V → V → Bool) → Tests same → (start : V → X → S) (w : V) (xs : List X)
+    → views (start w) (that_show see same w xs) ≡ views (λ x. start (see x) x) (that_show see same w xs)
 those_views see same tests start w [] = refl
 those_views see same tests start w (y ∷ ys) = one (same w (see y)) refl (those_views see same tests start w ys)
   where
     one : (b : Bool) → same w (see y) ≡ b → views (start w) (that_show see same w ys) ≡ views (λ x. start (see x) x) (that_show see same w ys) →
-        views (start w) (cond b (y ∷ that_show see same w ys) (that_show see same w ys)) ≡ views (λ x. start (see x) x) (cond b (y ∷ that_show see same w ys) (that_show see same w ys))
+        views (start w) (cond b (y ∷ that_show see same w ys) (that_show see same w ys))
+            ≡ views (λ x. start (see x) x) (cond b (y ∷ that_show see same w ys) (that_show see same w ys))
     one true e r = ap (λ z. start z y ∷ views (start w) (that_show see same w ys)) (tests.same_to w (see y) e) ∙ ap (λ z. start (see y) y ∷ z) r
     one false e r = r
 
 pub is_sharp_many : {E X M L : Type 0} {serves : E → Type 0} (v : Env E) (order : Order) (g ls : ℕ → ℕ → ℕ) (image : ℕ → List Instr) (p : ℕ → Todo M L) →
-    ((i : ℕ) → SharpSound v order serves (g i) (ls i) (image i) (p i)) → ((i : ℕ) → SharpCut v order serves (g i) (ls i) (image i) (p i)) → SharpMany X v order serves g ls image p
+    ((i : ℕ) → SharpSound v order serves (g i) (ls i) (image i) (p i)) → ((i : ℕ) → SharpCut v order serves (g i) (ls i) (image i) (p i))
+        → SharpMany X v order serves g ls image p
 is_sharp_many {E} {X} {M} {L} {serves} v order g ls image p sound cut =
     record {
       halted = λ o low t some start xs firsts ms n agree holds alike tests.
           let view : ℕ → List (List Event) → X → List Event = λ i w x. seen_from v (lattice_of order) (g i) (image i) o (t i) (start i w x) in
           few_many X (List Event) view same_events alike tests_events tests xs ms n
-          (λ i lt w. halted_by serves v order (g i) (ls i) (image i) (p i) (sound i) o low (t i) (some i) (start i w) (that_show (seen_in view i) alike w xs) (firsts i) (ms i)
+          (λ i lt w. halted_by serves v order (g i) (ls i) (image i) (p i) (sound i) o low (t i) (some i) (start i w)
+              (that_show (seen_in view i) alike w xs) (firsts i) (ms i)
           (those_agree (seen_in view i) alike tests (start i) (Agree v (lattice_of order) serves (g i) o) xs (agree i lt) w)
           (those_hold (seen_in view i) alike tests (start i) (λ s. Covers v order (g i) (ls i) (image i) (p i) o (t i) (firsts i) (ms i) s) xs (holds i lt) w));
       cut = λ o low t some start xs firsts n agree holds alike tests.
@@ -133,8 +146,10 @@ is_sharp_many {E} {X} {M} {L} {serves} v order g ls image p sound cut =
           let ys = that_show (seen_in view i) alike w xs in
           let r = cut_by serves v order (g i) (ls i) (image i) (p i) (cut i) o low (t i) (some i) (start i w) ys (firsts i)
           (those_agree (seen_in view i) alike tests (start i) (Agree v (lattice_of order) serves (g i) o) xs (agree i lt) w)
-          (those_hold (seen_in view i) alike tests (start i) (λ s. PredictsBy v (lattice_of order) (g i) (ls i) (image i) (p i) o (t i) (firsts i) s) xs (holds i lt) w) in
+          (those_hold (seen_in view i) alike tests (start i)
+              (λ s. PredictsBy v (lattice_of order) (g i) (ls i) (image i) (p i) o (t i) (firsts i) s) xs (holds i lt) w) in
           let e = ap (cut_count v order (g i) (ls i) (image i) (p i) o (t i) (firsts i)) (those_views (seen_in view i) alike tests (start i) w xs) in
-          let less = cut_less serves v order (g i) (ls i) (image i) (p i) o (t i) (firsts i) (λ x. start i (seen_in view i x) x) (λ x. alike w (seen_in view i x)) xs in
+          let less = cut_less serves v order (g i) (ls i) (image i) (p i) o (t i) (firsts i) (λ x. start i (seen_in view i x) x)
+              (λ x. alike w (seen_in view i x)) xs in
           few_shown _ same_events tests_events ys _ (omega (arith, r.count, e, less)));
     }

@@ -42,7 +42,8 @@ use Rattle.sharp_bound.proofs.Firsts.{at_least_one}
 use Rattle.mit_syntax.specs.Todo.{Marked}
 
 -- a run that halts by T is the run to T
-pub halts_there : {E : Type 0} (v : Env E) (image : List Instr) (t k : ℕ) (s : Start E) → (steps v image k (start s.memory s.env)).halted ≡ true → (steps v image k (start s.memory s.env)).core.clock ≤ t → run_from v image t s ≡ steps v image k (start s.memory s.env)
+pub halts_there : {E : Type 0} (v : Env E) (image : List Instr) (t k : ℕ) (s : Start E) → (steps v image k (start s.memory s.env)).halted ≡ true
+    → (steps v image k (start s.memory s.env)).core.clock ≤ t → run_from v image t s ≡ steps v image k (start s.memory s.env)
 halts_there {E = E} v image t k s h by = ⊎_elim earlier later (cases_lt r.count k)
   where
     x : Machine E
@@ -63,7 +64,8 @@ halts_there {E = E} v image t k s h by = ⊎_elim earlier later (cases_lt r.coun
     earlier lt =
         let m = k - r.count - 1 in
         let e : k ≡ r.count + suc m = omega arith in
-        let on : steps v image k x ≡ steps v image (suc m) y = ap (λ n. steps v image n x) e ∙ steps-add v image r.count (suc m) x ∙ ap (steps v image (suc m)) r.is in
+        let on : steps v image k x ≡ steps v image (suc m) y =
+            ap (λ n. steps v image n x) e ∙ steps-add v image r.count (suc m) x ∙ ap (steps v image (suc m)) r.is in
         let sane = ticks v image y (subst (λ z. Sane z.opened z.core.clock) r.is (steps_sane v image r.count x tt)) in
         let up = steps_clock v image m (step v image y) sane.sane in
         let same = ap (λ z. z.core.clock) on in
@@ -73,7 +75,8 @@ halts_there {E = E} v image t k s h by = ⊎_elim earlier later (cases_lt r.coun
         r.over
 
 -- and one that has halted is where those steps lead
-halted_there : {E : Type 0} (v : Env E) (image : List Instr) (t k : ℕ) (s : Start E) → (steps v image k (start s.memory s.env)).halted ≡ true → (run_from v image t s).halted ≡ true → run_from v image t s ≡ steps v image k (start s.memory s.env)
+halted_there : {E : Type 0} (v : Env E) (image : List Instr) (t k : ℕ) (s : Start E) → (steps v image k (start s.memory s.env)).halted ≡ true
+    → (run_from v image t s).halted ≡ true → run_from v image t s ≡ steps v image k (start s.memory s.env)
 halted_there {E = E} v image t k s h h' = ⊎_elim earlier later (cases_lt r.count k)
   where
     x : Machine E
@@ -93,7 +96,8 @@ halted_there {E = E} v image t k s h h' = ⊎_elim earlier later (cases_lt r.cou
     earlier : r.count < k → y ≡ steps v image k x
     earlier lt =
         let e : k ≡ r.count + (k - r.count) = omega arith in
-        sym (ap (λ n. steps v image n x) e ∙ steps-add v image r.count (k - r.count) x ∙ ap (steps v image (k - r.count)) r.is ∙ stays v image (k - r.count) y h')
+        sym (ap (λ n. steps v image n x) e ∙ steps-add v image r.count (k - r.count) x ∙ ap (steps v image (k - r.count)) r.is
+            ∙ stays v image (k - r.count) y h')
 
 -- one mitigate of one level
 sharp-none : (values : ℕ → ℕ) (n high : ℕ) (counts : ℕ → ℕ) → ((l : ℕ) → counts l ≡ cond (eqb high l) 1 0) → n ≤ high → sharp values n counts ≡ 1
@@ -119,9 +123,11 @@ sharp-one values (suc n) high counts h lt =
     omega (arith, times, sharp-one values n high counts h (omega arith)))
     (cases_eq high n)
 
-each_first : {E : Type 0} (v : Env E) (lat : Lattice) (g ls : ℕ → ℕ) (image : List Instr) (p : Marked) (o t : ℕ) (starts : List (Start E)) → Each (λ s. PredictsBy v lat g ls image p o t (λ l. 1) s) starts
+each_first : {E : Type 0} (v : Env E) (lat : Lattice) (g ls : ℕ → ℕ) (image : List Instr) (p : Marked) (o t : ℕ) (starts : List (Start E))
+    → Each (λ s. PredictsBy v lat g ls image p o t (λ l. 1) s) starts
 each_first v lat g ls image p o t [] = tt
-each_first v lat g ls image p o t (s ∷ starts) = (at_least_one _ _ (is_relevant lat g ls o p) ls p s.memory (notes_to v image t s), each_first v lat g ls image p o t starts)
+each_first v lat g ls image p o t (s ∷ starts) =
+    (at_least_one _ _ (is_relevant lat g ls o p) ls p s.memory (notes_to v image t s), each_first v lat g ls image p o t starts)
 
 div_one : (n : ℕ) → n / 1 ≡ n
 div_one n = omega arith
@@ -135,11 +141,13 @@ from_digits (suc t) m h =
     let low = d.3 in
     omega (arith, mono, low)
 
-filter_all : {X V : Type 0} (see : X → V) (same : V → V → Bool) → Tests same → (x : X) (xs : List X) → Each (λ y. see x ≡ see y → ⊥) xs → filter (λ w. not (same (see x) w)) (views see xs) ≡ views see xs
+filter_all : {X V : Type 0} (see : X → V) (same : V → V → Bool) → Tests same → (x : X) (xs : List X) → Each (λ y. see x ≡ see y → ⊥) xs
+    → filter (λ w. not (same (see x) w)) (views see xs) ≡ views see xs
 filter_all see same tests x [] h = refl
 filter_all see same tests x (y ∷ xs) h =
     let other : same (see x) (see y) ≡ false = false_from_ne_true (same (see x) (see y)) (λ e. h.0 (tests.same_to (see x) (see y) e)) in
-    ap (λ b. cond (not b) (see y ∷ filter (λ w. not (same (see x) w)) (views see xs)) (filter (λ w. not (same (see x) w)) (views see xs))) other ∙ ap (λ z. see y ∷ z) (filter_all see same tests x xs h.1)
+    ap (λ b. cond (not b) (see y ∷ filter (λ w. not (same (see x) w)) (views see xs)) (filter (λ w. not (same (see x) w)) (views see xs))) other
+        ∙ ap (λ z. see y ∷ z) (filter_all see same tests x xs h.1)
 
 -- where no two show the same, all are different
 all_apart : {X V : Type 0} (see : X → V) (same : V → V → Bool) → Tests same → (xs : List X) → ShowApart see xs → distinct same (views see xs) ≡ views see xs
@@ -152,10 +160,13 @@ length-views see [] = refl
 length-views see (x ∷ xs) = ap suc (length-views see xs)
 
 -- an environment without penalties and without change is lawful
-flat_laws : {E : Type 0} (part : Place → ℕ → E → List ℕ) (lat : Lattice) (serves : E → Type 0) → IsLawful (record { cost_of = λ k a er ew e. 0; next_of = λ k a er ew e. e; part = part }) lat serves
-flat_laws part lat serves = record { keeps = λ k a er ew e s. s; write_label = λ k a er ew e s q l h. refl; read_label = λ k a er ew e e' s s' h. refl; agreement = λ k a er ew h e e' s s' f. f }
+flat_laws : {E : Type 0} (part : Place → ℕ → E → List ℕ) (lat : Lattice) (serves : E → Type 0)
+    → IsLawful (record { cost_of = λ k a er ew e. 0; next_of = λ k a er ew e. e; part = part }) lat serves
+flat_laws part lat serves = record { keeps = λ k a er ew e s. s; write_label = λ k a er ew e s q l h. refl; read_label =
+    λ k a er ew e e' s s' h. refl; agreement = λ k a er ew h e e' s s' f. f }
 
-module _ {E : Type 0} (serves : E → Type 0) (part : Place → ℕ → E → List ℕ) (order : Order) (ll : IsLattice (lattice_of order)) (o high : ℕ) (apart : Flows (lattice_of order) high o → ⊥) where
+module _ {E : Type 0} (serves : E → Type 0) (part : Place → ℕ → E → List ℕ) (order : Order) (ll : IsLattice (lattice_of order)) (o high : ℕ)
+    (apart : Flows (lattice_of order) high o → ⊥) where
   abbrev v : Env E
   v = record { cost_of = λ k a er ew e. 0; next_of = λ k a er ew e. e; part = part }
 
@@ -194,7 +205,8 @@ module _ {E : Type 0} (serves : E → Type 0) (part : Place → ℕ → E → Li
   code = ((refl, refl, (refl, refl, tt), refl, (refl, refl, tt)), refl)
 
   compiled : high < order.size → IsCompiled order g ls image (naps lat high)
-  compiled h = record { lattice = ll; levels = (h, tt, tt); told = (refl, tt, tt); marks = (refl, tt, tt); arrays = (tt, (tt, tt), (tt, tt)); typed = typed; code = code }
+  compiled h = record { lattice = ll; levels = (h, tt, tt); told = (refl, tt, tt); marks = (refl, tt, tt); arrays =
+      (tt, (tt, tt), (tt, tt)); typed = typed; code = code }
 
   agree : (e : E) → serves e → (a b : ℕ) → Agree v lat serves g o (power e a) (power e b)
   agree e s a b =
@@ -224,7 +236,8 @@ module _ {E : Type 0} (serves : E → Type 0) (part : Place → ℕ → E → Li
       (record {
         from = omega arith;
         above = omega (arith, four, twice);
-        least = λ k low above. ⊎_elim (λ (lt : k < suc n). let less : k ≤ n = omega arith in let up : 2 ^ k ≤ 2 ^ n = pow_mono less in absurd (omega (arith, up, above))) (λ (le : suc n ≤ k). le) (cases_lt k (suc n));
+        least = λ k low above. ⊎_elim (λ (lt : k < suc n). let less : k ≤ n = omega arith in let up : 2 ^ k ≤ 2 ^ n = pow_mono less in
+            absurd (omega (arith, up, above))) (λ (le : suc n ≤ k). le) (cases_lt k (suc n));
       })
 
   -- h = 1 and h = 2 end as h = 4 does
@@ -263,7 +276,8 @@ module _ {E : Type 0} (serves : E → Type 0) (part : Place → ℕ → E → Li
 
     differ : (e : E) (n m : ℕ) → 2 ≤ n → n < m → m + 3 ≤ digits t → see (power e n) ≡ see (power e m) → ⊥
     differ e n m two lt le same =
-        let lists : Wrote 1 (pos 1) (2 ^ suc n + 4) ∷ [] ≡ Wrote 1 (pos 1) (2 ^ suc m + 4) ∷ [] = sym (shows e n two (omega arith)) ∙ same ∙ shows e m (omega arith) le in
+        let lists : Wrote 1 (pos 1) (2 ^ suc n + 4) ∷ [] ≡ Wrote 1 (pos 1) (2 ^ suc m + 4) ∷ [] =
+            sym (shows e n two (omega arith)) ∙ same ∙ shows e m (omega arith) le in
         let cycles : 2 ^ suc n + 4 ≡ 2 ^ suc m + 4 = cc in
         let up : suc n < suc m = omega arith in
         absurd (omega (arith, cycles, pow_below (suc n) (suc m) up))
@@ -313,7 +327,8 @@ module _ {E : Type 0} (serves : E → Type 0) (part : Place → ℕ → E → Li
   -- one relevant mitigate begins, of the level high
   relevant : (l : ℕ) → relevant_at lat g ls o (naps lat high) l 0 ≡ eqb high l
   relevant l =
-      ap (λ b. (b && not (lat.flows high o)) && eqb high l) (ll.lowest o) ∙ ap (λ b. (true && not b) && eqb high l) (false_from_ne_true (lat.flows high o) apart)
+      ap (λ b. (b && not (lat.flows high o)) && eqb high l) (ll.lowest o)
+          ∙ ap (λ b. (true && not b) && eqb high l) (false_from_ne_true (lat.flows high o) apart)
 
   begins : (memory : List ℤ) → BeginsEach lat g ls o (naps lat high) memory (λ l. cond (eqb high l) 1 0)
   begins memory = (3, refl, λ l. let r = ap (λ b. cond {A = ℕ} b 1 0) (relevant l) in omega (arith, r))
@@ -321,14 +336,18 @@ module _ {E : Type 0} (serves : E → Type 0) (part : Place → ℕ → E → Li
   begins_one : (memory : List ℤ) (counts : ℕ → ℕ) → BeginsEach lat g ls o (naps lat high) memory counts → (l : ℕ) → counts l ≡ cond (eqb high l) 1 0
   begins_one memory counts b l =
       let own = begins memory in
-      sym (b.2 l) ∙ ap (λ z. count_by (relevant_at lat g ls o (naps lat high) l) (started_in z)) (ended_same (naps lat high) memory b.0 own.0 b.1 own.1) ∙ own.2 l
+      sym (b.2 l) ∙ ap (λ z. count_by (relevant_at lat g ls o (naps lat high) l) (started_in z)) (ended_same (naps lat high) memory b.0 own.0 b.1 own.1)
+          ∙ own.2 l
 
-  most : o < order.size → high < order.size → SharpSound v order serves g ls image (naps lat high) → (t : ℕ) → 0 < t → (starts : List (Start E)) → Pairwise (Agree v lat serves g o) starts → Each (Halts v image t) starts → (same : List Event → List Event → Bool) → Tests same → FewShown (seen_from v lat g image o t) same starts (digits t)
+  most : o < order.size → high < order.size → SharpSound v order serves g ls image (naps lat high) → (t : ℕ) → 0 < t → (starts : List (Start E))
+      → Pairwise (Agree v lat serves g o) starts → Each (Halts v image t) starts → (same : List Event → List Event → Bool) → Tests same
+      → FewShown (seen_from v lat g image o t) same starts (digits t)
   most low below sound t some [] agree halts same tests = few_shown (seen_from v lat g image o t) same tests [] (digits t) (omega arith)
   most low below sound t some (s ∷ starts) agree halts same tests =
       let r = sound.few o low t some (s ∷ starts) agree halts (λ l. 1) (each_first v lat g ls image (naps lat high) o t (s ∷ starts)) same tests in
       let whole : ends_by t (λ l. 1) high ≡ digits t = ap digits (div_one t) in
-      subst (FewShown (seen_from v lat g image o t) same (s ∷ starts)) (sharp-one (ends_by t (λ l. 1)) order.size high r.0 (begins_one s.memory r.0 r.1.0) below ∙ whole) r.2
+      subst (FewShown (seen_from v lat g image o t) same (s ∷ starts)) (sharp-one (ends_by t (λ l. 1)) order.size high r.0 (begins_one s.memory r.0 r.1.0) below
+          ∙ whole) r.2
 
   -- the sequences that starts h = 2 ^ n show: those at the ends after n + 1 misses and so on, k of them
   abbrev ends : ℕ → ℕ → List (List Event)
@@ -339,7 +358,8 @@ module _ {E : Type 0} (serves : E → Type 0) (part : Place → ℕ → E → Li
   length-ends n zero = refl
   length-ends n (suc k) = ap suc (length-ends (suc n) k)
 
-  has_end : (same : List Event → List Event → Bool) → Tests same → (w : List Event) (j n k : ℕ) → w ≡ Wrote 1 (pos 1) (2 ^ suc j + 4) ∷ [] → n ≤ j → j < n + k → Has (λ u. same u w) (ends n k)
+  has_end : (same : List Event → List Event → Bool) → Tests same → (w : List Event) (j n k : ℕ) → w ≡ Wrote 1 (pos 1) (2 ^ suc j + 4) ∷ [] → n ≤ j → j < n + k
+      → Has (λ u. same u w) (ends n k)
   has_end same tests w j n zero e le lt = absurd (omega arith)
   has_end same tests w j n (suc k) e le lt =
       ⊎_elim
@@ -352,7 +372,8 @@ module _ {E : Type 0} (serves : E → Type 0) (part : Place → ℕ → E → Li
     shown_by s = seen_from v lat g image o (2 ^ d) s
 
     -- such a start that halts by 2 ^ d shows one of d - 3
-    one_of : (same : List Event → List Event → Bool) → Tests same → (e : E) (n : ℕ) → Halts v image (2 ^ d) (power e n) → Has (λ u. same u (shown_by (power e n))) (ends 2 (d - 3))
+    one_of : (same : List Event → List Event → Bool) → Tests same → (e : E) (n : ℕ) → Halts v image (2 ^ d) (power e n)
+        → Has (λ u. same u (shown_by (power e n))) (ends 2 (d - 3))
     one_of same tests e n h =
         let q = settled n in
         let there = halted_there v image (2 ^ d) 8 (power e n) refl h in
@@ -360,23 +381,28 @@ module _ {E : Type 0} (serves : E → Type 0) (part : Place → ℕ → E → Li
         let by : (run_from v image (2 ^ d) (power e n)).core.clock ≤ 2 ^ d = r.by in
         let clock = ap (λ y. y.core.clock) there in
         let less : 2 ^ suc q.0 < 2 ^ d = omega (arith, by, clock, clock_of e n q.0 q.2) in
-        let below : suc q.0 < d = ⊎_elim (λ (lt : suc q.0 < d). lt) (λ (le : d ≤ suc q.0). let up : 2 ^ d ≤ 2 ^ suc q.0 = pow_mono le in absurd (omega (arith, up, less))) (cases_lt (suc q.0) d) in
+        let below : suc q.0 < d = ⊎_elim (λ (lt : suc q.0 < d). lt) (λ (le : d ≤ suc q.0). let up : 2 ^ d ≤ 2 ^ suc q.0 = pow_mono le in
+            absurd (omega (arith, up, less))) (cases_lt (suc q.0) d) in
         let two = q.1 in
         has_end same tests (shown_by (power e n)) q.0 2 (d - 3) (ap (λ y. visible lat g o y.core.log) there ∙ seen_is e n q.0 q.2) two (omega arith)
 
-    each_one : (same : List Event → List Event → Bool) → Tests same → (e : E) (starts : List (Start E)) → Each (λ s. (n : ℕ) × (s ≡ power e n)) starts → Each (Halts v image (2 ^ d)) starts → Each (λ w. Has (λ u. same u w) (ends 2 (d - 3))) (views shown_by starts)
+    each_one : (same : List Event → List Event → Bool) → Tests same → (e : E) (starts : List (Start E)) → Each (λ s. (n : ℕ) × (s ≡ power e n)) starts
+        → Each (Halts v image (2 ^ d)) starts → Each (λ w. Has (λ u. same u w) (ends 2 (d - 3))) (views shown_by starts)
     each_one same tests e [] p h = tt
     each_one same tests e (s ∷ starts) p h =
         let is = p.0.1 in
-        (subst (λ z. Has (λ u. same u (shown_by z)) (ends 2 (d - 3))) (sym is) (one_of same tests e p.0.0 (subst (Halts v image (2 ^ d)) is h.0)), each_one same tests e starts p.1 h.1)
+        (subst (λ z. Has (λ u. same u (shown_by z)) (ends 2 (d - 3))) (sym is) (one_of same tests e p.0.0 (subst (Halts v image (2 ^ d)) is h.0)),
+            each_one same tests e starts p.1 h.1)
 
-    four : (e : E) (starts : List (Start E)) → Each (λ s. (n : ℕ) × (s ≡ power e n)) starts → Each (Halts v image (2 ^ d)) starts → (same : List Event → List Event → Bool) → Tests same → distinct_count same (views shown_by starts) ≤ digits (2 ^ d) - 4
+    four : (e : E) (starts : List (Start E)) → Each (λ s. (n : ℕ) × (s ≡ power e n)) starts → Each (Halts v image (2 ^ d)) starts
+        → (same : List Event → List Event → Bool) → Tests same → distinct_count same (views shown_by starts) ≤ digits (2 ^ d) - 4
     four e starts p h same tests =
         let few = distinct_few same tests (views shown_by starts) (ends 2 (d - 3)) (each_one same tests e starts p h) in
         let long : digits (2 ^ d) ≡ suc d = digits_of (2 ^ d) d (record { from = omega arith; below = omega (arith, pow-succ' 2 d, pow_pos d) }) in
         omega (arith, few, long, length-ends 2 (d - 3))
 
-pub nearly_reached : {E : Type 0} (serves : Order → E → Type 0) (part : Place → ℕ → E → List ℕ) → NearlyReached (record { cost_of = λ k a er ew e. 0; next_of = λ k a er ew e. e; part = part }) serves
+pub nearly_reached : {E : Type 0} (serves : Order → E → Type 0) (part : Place → ℕ → E → List ℕ)
+    → NearlyReached (record { cost_of = λ k a er ew e. 0; next_of = λ k a er ew e. e; part = part }) serves
 nearly_reached serves part order ll o high low below apart =
     let made = compiled (serves order) part order ll o high apart below in
     record {

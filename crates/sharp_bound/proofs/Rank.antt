@@ -1,5 +1,6 @@
 -- A record's number: for each level, how many lists of miss counts come before those of the level.
-use Rattle.std.proofs.Common.{◌≡◌, ℕ, zero, suc, ◌+◌, ◌-◌, ◌*◌, ◌<◌, ◌≤◌, List, [], ◌∷◌, length, Bool, true, false, refl, sym, ap, ◌∙◌, subst, ◌⊎◌, inl, inr, ⊎_elim, arith}
+use Rattle.std.proofs.Common.{◌≡◌, ℕ, zero, suc, ◌+◌, ◌-◌, ◌*◌, ◌<◌, ◌≤◌, List, [], ◌∷◌, length, Bool, true, false, refl, sym, ap, ◌∙◌, subst, ◌⊎◌, inl, inr}
+use Rattle.std.proofs.Common.{⊎_elim, arith}
 use Rattle.std.specs.Prelude.{cond, eqb}
 use Rattle.std.proofs.Math.Nat.{mul-le-mul_left}
 use Rattle.std.proofs.lemmas.Bool.{cases_eq, cases_order, eqb-true, eq-eqb}
@@ -36,11 +37,14 @@ abbrev pub rank : ℕ → ℕ → ℕ → List Entry → ℕ
 rank d l k [] = 0
 rank d l k (e ∷ r) = cond (eqb e.0 l) (rising (d - e.1) k + rank d l (k - 1) r) (rank d l k r)
 
-pub rank_below : (ds : ℕ → ℕ) (l m k : ℕ) (r : List Entry) → AtMost ds r → NeverFalls r → FromOn l m r → picked (is_at l) r ≤ k → m ≤ ds l → rank (ds l) l k r < rising (suc (ds l) - m) k
+pub rank_below : (ds : ℕ → ℕ) (l m k : ℕ) (r : List Entry) → AtMost ds r → NeverFalls r → FromOn l m r → picked (is_at l) r ≤ k → m ≤ ds l
+    → rank (ds l) l k r < rising (suc (ds l) - m) k
 rank_below ds l m k [] up n f h le = some-at (ds l) m k le
 rank_below ds l m k (x ∷ r) up n f h le = go (eqb x.0 l) refl k h (λ m' k' f' h' le'. rank_below ds l m' k' r up.1 n.1 f' h' le')
   where
-    go : (b : Bool) → eqb x.0 l ≡ b → (k : ℕ) → cond b 1 0 + picked (is_at l) r ≤ k → ((m' k' : ℕ) → FromOn l m' r → picked (is_at l) r ≤ k' → m' ≤ ds l → rank (ds l) l k' r < rising (suc (ds l) - m') k') → cond b (rising (ds l - x.1) k + rank (ds l) l (k - 1) r) (rank (ds l) l k r) < rising (suc (ds l) - m) k
+    go : (b : Bool) → eqb x.0 l ≡ b → (k : ℕ) → cond b 1 0 + picked (is_at l) r ≤ k
+        → ((m' k' : ℕ) → FromOn l m' r → picked (is_at l) r ≤ k' → m' ≤ ds l → rank (ds l) l k' r < rising (suc (ds l) - m') k')
+        → cond b (rising (ds l - x.1) k + rank (ds l) l (k - 1) r) (rank (ds l) l k r) < rising (suc (ds l) - m) k
     go false e k h rec = rec m k f.1 (omega (arith, h)) le
     go true e zero h rec = absurd (omega (arith, h))
     go true e (suc k) h rec =
@@ -54,7 +58,8 @@ rank_below ds l m k (x ∷ r) up n f h le = go (eqb x.0 l) refl k h (λ m' k' f'
         omega (arith, ih, s, pascal-at (ds l) x.1 k top, rising-le (suc (ds l) - x.1) (suc (ds l) - m) (suc k) down)
 
 -- a lower head gives a greater rank
-lower_head : (ds : ℕ → ℕ) (l m m' k : ℕ) (r r' : List Entry) → AtMost ds ((l, m') ∷ r') → NeverFalls ((l, m') ∷ r') → picked (is_at l) ((l, m') ∷ r') ≤ k → rank (ds l) l k ((l, m) ∷ r) ≡ rank (ds l) l k ((l, m') ∷ r') → m < m' → ⊥
+lower_head : (ds : ℕ → ℕ) (l m m' k : ℕ) (r r' : List Entry) → AtMost ds ((l, m') ∷ r') → NeverFalls ((l, m') ∷ r') → picked (is_at l) ((l, m') ∷ r') ≤ k
+    → rank (ds l) l k ((l, m) ∷ r) ≡ rank (ds l) l k ((l, m') ∷ r') → m < m' → ⊥
 lower_head ds l m m' k r r' up n h e lt =
     let same = eq-eqb l l refl in
     let a = ap (λ b. cond {A = ℕ} b (rising (ds l - m) k + rank (ds l) l (k - 1) r) (rank (ds l) l k r)) same in
@@ -78,11 +83,14 @@ less x ks l = ks l - cond (eqb x l) 1 0
 rest_fits : (x : Entry) (r : List Entry) (ks : ℕ → ℕ) → ((l : ℕ) → picked (is_at l) (x ∷ r) ≤ ks l) → (l : ℕ) → picked (is_at l) r ≤ less x.0 ks l
 rest_fits x r ks h l = let a = h l in omega (arith, a)
 
-rest_rank : (d l k a : ℕ) (b : Bool) (r r' : List Entry) → cond b (a + rank d l (k - 1) r) (rank d l k r) ≡ cond b (a + rank d l (k - 1) r') (rank d l k r') → rank d l (k - cond b 1 0) r ≡ rank d l (k - cond b 1 0) r'
+rest_rank : (d l k a : ℕ) (b : Bool) (r r' : List Entry) → cond b (a + rank d l (k - 1) r) (rank d l k r) ≡ cond b (a + rank d l (k - 1) r') (rank d l k r')
+    → rank d l (k - cond b 1 0) r ≡ rank d l (k - cond b 1 0) r'
 rest_rank d l k a true r r' e = omega (arith, e)
 rest_rank d l k a false r r' e = let z : k - 0 ≡ k = omega arith in subst (λ z. rank d l z r ≡ rank d l z r') (sym z) e
 
-pub same_ranks : (n : ℕ) (ds ks : ℕ → ℕ) (r r' : List Entry) → Fits r r' → (length r ≡ length r') ⊎ (Under ds r × Under ds r') → AtMost ds r → AtMost ds r' → NeverFalls r → NeverFalls r' → LevelsUnder n r → LevelsUnder n r' → ((l : ℕ) → picked (is_at l) r ≤ ks l) → ((l : ℕ) → picked (is_at l) r' ≤ ks l) → ((l : ℕ) → l < n → rank (ds l) l (ks l) r ≡ rank (ds l) l (ks l) r') → r ≡ r'
+pub same_ranks : (n : ℕ) (ds ks : ℕ → ℕ) (r r' : List Entry) → Fits r r' → (length r ≡ length r') ⊎ (Under ds r × Under ds r') → AtMost ds r → AtMost ds r'
+    → NeverFalls r → NeverFalls r' → LevelsUnder n r → LevelsUnder n r' → ((l : ℕ) → picked (is_at l) r ≤ ks l) → ((l : ℕ) → picked (is_at l) r' ≤ ks l)
+    → ((l : ℕ) → l < n → rank (ds l) l (ks l) r ≡ rank (ds l) l (ks l) r') → r ≡ r'
 same_ranks n ds ks [] [] f ends up up' m m' in_ in' h h' s = refl
 same_ranks n ds ks [] (x ∷ r') f (inl e) up up' m m' in_ in' h h' s = absurd (omega (arith, e))
 same_ranks n ds ks [] (x ∷ r') f (inr u) up up' m m' in_ in' h h' s = absurd (omega (arith, s x.0 in'.0, one_more (ds x.0) x.0 (ks x.0) x r' u.1.0 refl))
@@ -90,13 +98,17 @@ same_ranks n ds ks (x ∷ r) [] f (inl e) up up' m m' in_ in' h h' s = absurd (o
 same_ranks n ds ks (x ∷ r) [] f (inr u) up up' m m' in_ in' h h' s = absurd (omega (arith, s x.0 in_.0, one_more (ds x.0) x.0 (ks x.0) x r u.0.0 refl))
 same_ranks n ds ks ((l, c) ∷ r) ((l', c') ∷ r') f ends up up' m m' in_ in' h h' s =
     go l' f.0 up' m' h' s (cases_order c c')
-    (λ t. same_ranks n ds (less l ks) r r' f.1 (tails ends) up.1 up'.1 m.1 m'.1 in_.1 in'.1 (rest_fits (l, c) r ks h) (subst (λ z. (q : ℕ) → picked (is_at q) r' ≤ less z ks q) (sym f.0) (rest_fits (l', c') r' ks h')) t)
+    (λ t. same_ranks n ds (less l ks) r r' f.1 (tails ends) up.1 up'.1 m.1 m'.1 in_.1 in'.1 (rest_fits (l, c) r ks h)
+        (subst (λ z. (q : ℕ) → picked (is_at q) r' ≤ less z ks q) (sym f.0) (rest_fits (l', c') r' ks h')) t)
   where
-    tails : (length ((l, c) ∷ r) ≡ length ((l', c') ∷ r')) ⊎ (Under ds ((l, c) ∷ r) × Under ds ((l', c') ∷ r')) → (length r ≡ length r') ⊎ (Under ds r × Under ds r')
+    tails : (length ((l, c) ∷ r) ≡ length ((l', c') ∷ r')) ⊎ (Under ds ((l, c) ∷ r) × Under ds ((l', c') ∷ r'))
+        → (length r ≡ length r') ⊎ (Under ds r × Under ds r')
     tails (inl e) = inl (omega (arith, e))
     tails (inr u) = inr (u.0.1, u.1.1)
 
-    go : (l' : ℕ) → l ≡ l' → AtMost ds ((l', c') ∷ r') → NeverFalls ((l', c') ∷ r') → ((q : ℕ) → picked (is_at q) ((l', c') ∷ r') ≤ ks q) → ((q : ℕ) → q < n → rank (ds q) q (ks q) ((l, c) ∷ r) ≡ rank (ds q) q (ks q) ((l', c') ∷ r')) → (c ≡ c') ⊎ ((c < c') ⊎ (c' < c)) → (((q : ℕ) → q < n → rank (ds q) q (less l ks q) r ≡ rank (ds q) q (less l ks q) r') → r ≡ r') → (l, c) ∷ r ≡ (l', c') ∷ r'
+    go : (l' : ℕ) → l ≡ l' → AtMost ds ((l', c') ∷ r') → NeverFalls ((l', c') ∷ r') → ((q : ℕ) → picked (is_at q) ((l', c') ∷ r') ≤ ks q)
+        → ((q : ℕ) → q < n → rank (ds q) q (ks q) ((l, c) ∷ r) ≡ rank (ds q) q (ks q) ((l', c') ∷ r')) → (c ≡ c') ⊎ ((c < c') ⊎ (c' < c))
+        → (((q : ℕ) → q < n → rank (ds q) q (less l ks q) r ≡ rank (ds q) q (less l ks q) r') → r ≡ r') → (l, c) ∷ r ≡ (l', c') ∷ r'
     go l' le up' m' h' s (inl ce) rec =
         let x : Entry = (l, c) in
         let y : Entry = (l', c') in
@@ -105,9 +117,12 @@ same_ranks n ds ks ((l, c) ∷ r) ((l', c') ∷ r') f ends up up' m m' in_ in' h
         (s q lt ∙ ap (λ (y : Entry). rank (ds q) q (ks q) (y ∷ r')) (sym heads))) in
         cc
     go l' le up' m' h' s (inr (inl lt)) rec =
-        absurd (lower_head ds l c c' (ks l) r r' (subst (λ z. AtMost ds ((z, c') ∷ r')) (sym le) up') (subst (λ z. NeverFalls ((z, c') ∷ r')) (sym le) m') (subst (λ z. picked (is_at l) ((z, c') ∷ r') ≤ ks l) (sym le) (h' l)) (subst (λ z. rank (ds l) l (ks l) ((l, c) ∷ r) ≡ rank (ds l) l (ks l) ((z, c') ∷ r')) (sym le) (s l in_.0)) lt)
+        absurd (lower_head ds l c c' (ks l) r r' (subst (λ z. AtMost ds ((z, c') ∷ r')) (sym le) up') (subst (λ z. NeverFalls ((z, c') ∷ r')) (sym le) m')
+            (subst (λ z. picked (is_at l) ((z, c') ∷ r') ≤ ks l) (sym le) (h' l))
+            (subst (λ z. rank (ds l) l (ks l) ((l, c) ∷ r) ≡ rank (ds l) l (ks l) ((z, c') ∷ r')) (sym le) (s l in_.0)) lt)
     go l' le up' m' h' s (inr (inr lt)) rec =
-        absurd (lower_head ds l c' c (ks l) r' r up m (h l) (sym (subst (λ z. rank (ds l) l (ks l) ((l, c) ∷ r) ≡ rank (ds l) l (ks l) ((z, c') ∷ r')) (sym le) (s l in_.0))) lt)
+        absurd (lower_head ds l c' c (ks l) r' r up m (h l)
+            (sym (subst (λ z. rank (ds l) l (ks l) ((l, c) ∷ r) ≡ rank (ds l) l (ks l) ((z, c') ∷ r')) (sym le) (s l in_.0))) lt)
 
 -- the ranks of the levels below n as one number
 abbrev pub number : (ℕ → ℕ) → (ℕ → ℕ) → ℕ → List Entry → ℕ
@@ -123,7 +138,8 @@ rank_under ds l k r up m h =
     let e : suc (ds l) - 0 ≡ suc (ds l) = omega arith in
     subst (λ z. rank (ds l) l k r < rising z k) e (rank_below ds l 0 k r up m (from_zero l r) h (omega arith))
 
-pub number_below : (ds ks : ℕ → ℕ) (n : ℕ) (r : List Entry) → AtMost ds r → NeverFalls r → ((l : ℕ) → picked (is_at l) r ≤ ks l) → number ds ks n r < sharp (λ l. suc (ds l)) n ks
+pub number_below : (ds ks : ℕ → ℕ) (n : ℕ) (r : List Entry) → AtMost ds r → NeverFalls r → ((l : ℕ) → picked (is_at l) r ≤ ks l)
+    → number ds ks n r < sharp (λ l. suc (ds l)) n ks
 number_below ds ks zero r up m h = omega arith
 number_below ds ks (suc l) r up m h =
     let b = rising (suc (ds l)) (ks l) in
@@ -140,7 +156,9 @@ digits_same b x c x' c' h h' e =
     (λ (lt : c' < c). let up : c' + 1 ≤ c = omega arith in absurd (omega (arith, mul-le-mul_left b up))))
     (cases_order c c')
 
-pub number_same : (ds ks : ℕ → ℕ) (n : ℕ) (r r' : List Entry) → ((l : ℕ) → rank (ds l) l (ks l) r < rising (suc (ds l)) (ks l)) → ((l : ℕ) → rank (ds l) l (ks l) r' < rising (suc (ds l)) (ks l)) → number ds ks n r ≡ number ds ks n r' → (l : ℕ) → l < n → rank (ds l) l (ks l) r ≡ rank (ds l) l (ks l) r'
+pub number_same : (ds ks : ℕ → ℕ) (n : ℕ) (r r' : List Entry) → ((l : ℕ) → rank (ds l) l (ks l) r < rising (suc (ds l)) (ks l))
+    → ((l : ℕ) → rank (ds l) l (ks l) r' < rising (suc (ds l)) (ks l)) → number ds ks n r ≡ number ds ks n r' → (l : ℕ) → l < n
+    → rank (ds l) l (ks l) r ≡ rank (ds l) l (ks l) r'
 number_same ds ks zero r r' h h' e l lt = absurd (omega arith)
 number_same ds ks (suc n) r r' h h' e l lt =
     let p = digits_same (rising (suc (ds n)) (ks n)) (rank (ds n) n (ks n) r) (number ds ks n r) (rank (ds n) n (ks n) r') (number ds ks n r') (h n) (h' n) e in

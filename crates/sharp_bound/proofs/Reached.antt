@@ -19,7 +19,8 @@ unfolding down
 unseen zero v h = refl
 unseen (suc n) v h = go (eqb v n) refl (unseen n v (omega arith))
   where
-    go : (b : Bool) → eqb v n ≡ b → filter (λ y. not (eqb v y)) (down n) ≡ down n → cond (not b) (n ∷ filter (λ y. not (eqb v y)) (down n)) (filter (λ y. not (eqb v y)) (down n)) ≡ n ∷ down n
+    go : (b : Bool) → eqb v n ≡ b → filter (λ y. not (eqb v y)) (down n) ≡ down n
+        → cond (not b) (n ∷ filter (λ y. not (eqb v y)) (down n)) (filter (λ y. not (eqb v y)) (down n)) ≡ n ∷ down n
     go true e r = absurd (omega (arith, eqb-true v n e))
     go false e r = ap (λ z. n ∷ z) r
 
@@ -51,7 +52,8 @@ unfolding down
 found zero v h = absurd (omega arith)
 found (suc n) v h = go (eqb v n) refl (λ lt. found n v lt)
   where
-    go : (b : Bool) → eqb v n ≡ b → (v < n → 1 ≤ greatest (λ x. 1) (filter (λ x. eqb v x) (down n))) → 1 ≤ greatest (λ x. 1) (cond b (n ∷ filter (λ x. eqb v x) (down n)) (filter (λ x. eqb v x) (down n)))
+    go : (b : Bool) → eqb v n ≡ b → (v < n → 1 ≤ greatest (λ x. 1) (filter (λ x. eqb v x) (down n)))
+        → 1 ≤ greatest (λ x. 1) (cond b (n ∷ filter (λ x. eqb v x) (down n)) (filter (λ x. eqb v x) (down n)))
     go true e r = omega arith
     go false e r = let ne = eqb-false v n e in r (omega (arith, ne))
 

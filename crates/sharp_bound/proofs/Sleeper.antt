@@ -18,7 +18,8 @@ use Rattle.sharp_bound.specs.Near.{h_high, ShowApart}
 use Rattle.sharp_bound.specs.Sleeper.{sleeps, sleeps_image, asleep, sleepers, SleeperTells, EndTells}
 use Rattle.sharp_bound.proofs.Near.{halts_there}
 
-module _ {E : Type 0} (serves : E → Type 0) (part : Place → ℕ → E → List ℕ) (order : Order) (ll : IsLattice (lattice_of order)) (o high : ℕ) (apart : Flows (lattice_of order) high o → ⊥) where
+module _ {E : Type 0} (serves : E → Type 0) (part : Place → ℕ → E → List ℕ) (order : Order) (ll : IsLattice (lattice_of order)) (o high : ℕ)
+    (apart : Flows (lattice_of order) high o → ⊥) where
   abbrev v : Env E
   v = record { cost_of = λ k a er ew e. 0; next_of = λ k a er ew e. e; part = part }
 
@@ -39,7 +40,8 @@ module _ {E : Type 0} (serves : E → Type 0) (part : Place → ℕ → E → Li
 
   ends_high : EndsLow lat g (sleeps lat) o → ⊥
   ends_high h =
-      let there : Flows lat high h.0 = ap (λ z. lat.flows high z) (sym h.1.1) ∙ ll.chain high _ _ (ll.right lat.bottom high) (ll.left (lat.join lat.bottom high) lat.bottom) in
+      let there : Flows lat high h.0 =
+          ap (λ z. lat.flows high z) (sym h.1.1) ∙ ll.chain high _ _ (ll.right lat.bottom high) (ll.left (lat.join lat.bottom high) lat.bottom) in
       apart (ll.chain high h.0 o there h.2)
 
   agree_two : (e : E) → serves e → (a b : ℕ) → Agree v lat serves g o (asleep e a) (asleep e b)
@@ -79,7 +81,8 @@ module _ {E : Type 0} (serves : E → Type 0) (part : Place → ℕ → E → Li
       let cycles : n + 3 ≡ m + 3 = cc in
       absurd (omega (arith, cycles))
 
-  apart_from : (e : E) (n m t : ℕ) → m ≤ n → n + 3 ≤ t → Each (λ s. seen_to_end v lat g image o t (asleep e n) ≡ seen_to_end v lat g image o t s → ⊥) (sleepers e m)
+  apart_from : (e : E) (n m t : ℕ) → m ≤ n → n + 3 ≤ t
+      → Each (λ s. seen_to_end v lat g image o t (asleep e n) ≡ seen_to_end v lat g image o t s → ⊥) (sleepers e m)
   apart_from e n zero t lt le = tt
   apart_from e n (suc m) t lt le = (differ e n m t (omega arith) le, apart_from e n m t (omega arith) le)
 
@@ -103,5 +106,6 @@ module _ {E : Type 0} (serves : E → Type 0) (part : Place → ℕ → E → Li
         apart = all_apart;
       }
 
-pub end_tells : {E : Type 0} (serves : Order → E → Type 0) (part : Place → ℕ → E → List ℕ) → EndTells (record { cost_of = λ k a er ew e. 0; next_of = λ k a er ew e. e; part = part }) serves
+pub end_tells : {E : Type 0} (serves : Order → E → Type 0) (part : Place → ℕ → E → List ℕ)
+    → EndTells (record { cost_of = λ k a er ew e. 0; next_of = λ k a er ew e. e; part = part }) serves
 end_tells serves part order ll o high low below apart = tells (serves order) part order ll o high apart

@@ -14,13 +14,15 @@ use Rattle.sharp_count.proofs.Choose.{rising-power, rising-none, rising-le}
 use Rattle.sharp_bound.proofs.Rank.{picked, is_at}
 use Rattle.sharp_bound.proofs.Picks.{TellsOf}
 
-pub sharp_within : (lat : Lattice) (o c k n : ℕ) (values counts : ℕ → ℕ) → ((l : ℕ) → values l ≤ suc c) → ((l : ℕ) → counts l ≤ k) → ((l : ℕ) → lat.flows l o ≡ true → counts l ≡ 0) → sharp values n counts ≤ (k + 1) ^ (count_not_below lat o n * c)
+pub sharp_within : (lat : Lattice) (o c k n : ℕ) (values counts : ℕ → ℕ) → ((l : ℕ) → values l ≤ suc c) → ((l : ℕ) → counts l ≤ k)
+    → ((l : ℕ) → lat.flows l o ≡ true → counts l ≡ 0) → sharp values n counts ≤ (k + 1) ^ (count_not_below lat o n * c)
 sharp_within lat o c k zero values counts few h low =
     let e : 0 ≡ 0 * c = omega arith in
     subst (λ z. 1 ≤ (k + 1) ^ z) e (omega (arith, pow-zero (k + 1)))
 sharp_within lat o c k (suc n) values counts few h low = go (lat.flows n o) refl (sharp_within lat o c k n values counts few h low)
   where
-    go : (b : Bool) → lat.flows n o ≡ b → sharp values n counts ≤ (k + 1) ^ (count_not_below lat o n * c) → rising (values n) (counts n) * sharp values n counts ≤ (k + 1) ^ ((count_not_below lat o n + cond b 0 1) * c)
+    go : (b : Bool) → lat.flows n o ≡ b → sharp values n counts ≤ (k + 1) ^ (count_not_below lat o n * c)
+        → rising (values n) (counts n) * sharp values n counts ≤ (k + 1) ^ ((count_not_below lat o n + cond b 0 1) * c)
     go true e ih =
         let m = count_not_below lat o n in
         let one : rising (values n) (counts n) ≡ 1 = ap (λ z. rising (values n) z) (low n e) ∙ rising-none (values n) in
@@ -30,14 +32,16 @@ sharp_within lat o c k (suc n) values counts few h low = go (lat.flows n o) refl
     go false e ih =
         let m = count_not_below lat o n in
         let up : counts n + 1 ≤ k + 1 = omega (arith, h n) in
-        let one : rising (values n) (counts n) ≤ (k + 1) ^ c = omega (arith, rising-le (values n) (suc c) (counts n) (few n), rising-power c (counts n), pow-le-pow_left up c) in
+        let one : rising (values n) (counts n) ≤ (k + 1) ^ c =
+            omega (arith, rising-le (values n) (suc c) (counts n) (few n), rising-power c (counts n), pow-le-pow_left up c) in
         let same : c + m * c ≡ (m + 1) * c = omega arith in
         subst (λ z. rising (values n) (counts n) * sharp values n counts ≤ (k + 1) ^ z) same
         (subst (λ z. rising (values n) (counts n) * sharp values n counts ≤ z) (sym (pow-add (k + 1) c (m * c)))
         (mul-le (rising (values n) (counts n)) (sharp values n counts) ((k + 1) ^ c) ((k + 1) ^ (m * c)) one ih))
 
 -- equal factors, equal products
-pub sharp_same : (n : ℕ) (values values' counts : ℕ → ℕ) → ((l : ℕ) → rising (values l) (counts l) ≡ rising (values' l) (counts l)) → sharp values n counts ≡ sharp values' n counts
+pub sharp_same : (n : ℕ) (values values' counts : ℕ → ℕ) → ((l : ℕ) → rising (values l) (counts l) ≡ rising (values' l) (counts l))
+    → sharp values n counts ≡ sharp values' n counts
 sharp_same zero values values' counts h = refl
 sharp_same (suc n) values values' counts h =
     ap (λ z. z * sharp values n counts) (h n) ∙ ap (λ z. rising (values' n) (counts n) * z) (sharp_same n values values' counts h)
@@ -55,7 +59,8 @@ pub picked_low : (lat : Lattice) (o l : ℕ) → lat.flows l o ≡ true → (r :
 picked_low lat o l f [] = omega arith
 picked_low lat o l f (e ∷ r) = go (eqb e.0 l) refl (picked_low lat o l f r)
   where
-    go : (b : Bool) → eqb e.0 l ≡ b → picked (is_at l) r ≤ picked (λ x. lat.flows x o) r → cond b 1 0 + picked (is_at l) r ≤ cond (lat.flows e.0 o) 1 0 + picked (λ x. lat.flows x o) r
+    go : (b : Bool) → eqb e.0 l ≡ b → picked (is_at l) r ≤ picked (λ x. lat.flows x o) r
+        → cond b 1 0 + picked (is_at l) r ≤ cond (lat.flows e.0 o) 1 0 + picked (λ x. lat.flows x o) r
     go true q ih =
         let here = ap (λ z. cond {A = ℕ} (lat.flows z o) 1 0) (eqb-true e.0 l q) ∙ ap (λ z. cond {A = ℕ} z 1 0) f in
         omega (arith, ih, here)

@@ -39,7 +39,8 @@ grows zero (suc c) k le = absurd (omega arith)
 grows zero zero (suc k) le = absurd (omega arith)
 grows (suc n) (suc c) zero le = record { value = no_entry (suc c); entry = more_values c 0 (grows n c 0 (omega arith)) }
 grows (suc n) zero (suc k) le = record { value = more_entries 0 k (grows n 0 k (omega arith)); entry = one_value (suc k) }
-grows (suc n) (suc c) (suc k) le = record { value = more_entries (suc c) k (grows n (suc c) k (omega arith)); entry = more_values c (suc k) (grows n c (suc k) (omega arith)) }
+grows (suc n) (suc c) (suc k) le =
+    record { value = more_entries (suc c) k (grows n (suc c) k (omega arith)); entry = more_values c (suc k) (grows n c (suc k) (omega arith)) }
 
 one_more_value : (c k : ℕ) → 0 < c → rising (c + 1) k * c ≡ rising c k * (k + c)
 one_more_value zero k h = absurd (omega arith)

@@ -25,7 +25,8 @@ pub length-listing : (m c k : ℕ) → length (listing m c k) ≡ rising c k
 length-listing m c zero = sym (rising-none c)
 length-listing m zero (suc k) = sym (rising-zero k)
 length-listing m (suc c) (suc k) =
-    omega (arith, length-append (cons_all m (listing m (suc c) k)) (listing (suc m) c (suc k)), length-cons_all m (listing m (suc c) k), length-listing m (suc c) k, length-listing (suc m) c (suc k), pascal c k)
+    omega (arith, length-append (cons_all m (listing m (suc c) k)) (listing (suc m) c (suc k)), length-cons_all m (listing m (suc c) k),
+        length-listing m (suc c) k, length-listing (suc m) c (suc k), pascal c k)
 
 each-append : (P : List ℕ → Type 0) (a b : List (List ℕ)) → Each P a → Each P b → Each P (a ++ b)
 each-append P [] b h k = k
@@ -44,8 +45,10 @@ each_falls b m c zero e = (refl, tt)
 each_falls b m zero (suc k) e = tt
 each_falls b m (suc c) (suc k) e =
     each-append (NeverFalling m b (suc k)) (cons_all m (listing m (suc c) k)) (listing (suc m) c (suc k))
-    (each-cons_all (NeverFalling m b k) (NeverFalling m b (suc k)) m (λ xs h. (omega arith, omega (arith, e), h)) (listing m (suc c) k) (each_falls b m (suc c) k e))
-    (Each-map (NeverFalling (suc m) b (suc k)) (NeverFalling m b (suc k)) (lower m b k) (listing (suc m) c (suc k)) (each_falls b (suc m) c (suc k) (omega (arith, e))))
+    (each-cons_all (NeverFalling m b k) (NeverFalling m b (suc k)) m (λ xs h. (omega arith, omega (arith, e), h)) (listing m (suc c) k)
+        (each_falls b m (suc c) k e))
+    (Each-map (NeverFalling (suc m) b (suc k)) (NeverFalling m b (suc k)) (lower m b k) (listing (suc m) c (suc k))
+        (each_falls b (suc m) c (suc k) (omega (arith, e))))
 
 among_left : (xs : List ℕ) (a b : List (List ℕ)) → IsAmong xs a → IsAmong xs (a ++ b)
 among_left xs [] b h = absurd h
@@ -84,7 +87,8 @@ differ-append (xs ∷ a) b h k d = (each-append (λ ys. xs ≡ ys → ⊥) a b h
 
 differ-cons_all : (m : ℕ) (all : List (List ℕ)) → AllDiffer all → AllDiffer (cons_all m all)
 differ-cons_all m [] h = tt
-differ-cons_all m (xs ∷ all) h = (each-cons_all (λ ys. xs ≡ ys → ⊥) (λ ys. m ∷ xs ≡ ys → ⊥) m (λ ys ne e. ne (tails m xs ys e)) all h.0, differ-cons_all m all h.1)
+differ-cons_all m (xs ∷ all) h =
+    (each-cons_all (λ ys. xs ≡ ys → ⊥) (λ ys. m ∷ xs ≡ ys → ⊥) m (λ ys ne e. ne (tails m xs ys e)) all h.0, differ-cons_all m all h.1)
   where
     tails : (m : ℕ) (xs ys : List ℕ) → m ∷ xs ≡ m ∷ ys → xs ≡ ys
     tails m xs ys e = cc

@@ -1,5 +1,6 @@
 -- The ways of one level, counted by powers of two.
-use Rattle.std.proofs.Common.{◌≡◌, ℕ, zero, suc, ◌+◌, ◌-◌, ◌*◌, ◌/◌, ◌%◌, ◌^◌, ◌<◌, ◌≤◌, max, List, [], ◌∷◌, length, Bool, true, false, refl, sym, ap, ◌∙◌, subst, arith, length-append, pow-add}
+use Rattle.std.proofs.Common.{◌≡◌, ℕ, zero, suc, ◌+◌, ◌-◌, ◌*◌, ◌/◌, ◌%◌, ◌^◌, ◌<◌, ◌≤◌, max, List, [], ◌∷◌, length, Bool, true, false, refl, sym, ap, ◌∙◌}
+use Rattle.std.proofs.Common.{subst, arith, length-append, pow-add}
 use Rattle.std.specs.Prelude.{cond, leb}
 use Rattle.std.specs.List.{filter}
 use Rattle.std.proofs.lemmas.Bool.{leb-true, leb-false, le-leb, lt-leb}
@@ -31,14 +32,16 @@ same_test a b c d f g = go (leb a b) (leb c d) refl refl
     go false false p q = refl
 
 module _ {X Y : Type 0} where
-  one_more : (b b' : Bool) (x : X) (y : Y) (xs : List X) (ys : List Y) → b ≡ b' → length xs ≡ length ys → length (cond b (x ∷ xs) xs) ≡ length (cond b' (y ∷ ys) ys)
+  one_more : (b b' : Bool) (x : X) (y : Y) (xs : List X) (ys : List Y) → b ≡ b' → length xs ≡ length ys
+      → length (cond b (x ∷ xs) xs) ≡ length (cond b' (y ∷ ys) ys)
   one_more true true x y xs ys p e = ap suc e
   one_more true false x y xs ys p e = absurd (cc)
   one_more false true x y xs ys p e = absurd (cc)
   one_more false false x y xs ys p e = e
 
 -- tests that answer alike let equally many pass
-alike : {X : Type 0} (P : X → Type 0) (t t' : X → Bool) → ((x : X) → P x → t x ≡ t' x) → (xs : List X) → Each P xs → length (filter t xs) ≡ length (filter t' xs)
+alike : {X : Type 0} (P : X → Type 0) (t t' : X → Bool) → ((x : X) → P x → t x ≡ t' x) → (xs : List X) → Each P xs
+    → length (filter t xs) ≡ length (filter t' xs)
 alike P t t' f [] h = refl
 alike P t t' f (x ∷ xs) h = one_more (t x) (t' x) x x (filter t xs) (filter t' xs) (f x h.0) (alike P t t' f xs h.1)
 
@@ -66,7 +69,8 @@ first_spent : (most i spent : ℕ) (all : List (List ℕ)) → length (filter (f
 first_spent most i spent [] = refl
 first_spent most i spent (ms ∷ all) =
     let sum : spent + (2 ^ i + twos ms) ≡ spent + 2 ^ i + twos ms = omega arith in
-    one_more (fits most spent (i ∷ ms)) (fits most (spent + 2 ^ i) ms) (i ∷ ms) ms (filter (fits most spent) (cons_all i all)) (filter (fits most (spent + 2 ^ i)) all)
+    one_more (fits most spent (i ∷ ms)) (fits most (spent + 2 ^ i) ms) (i ∷ ms) ms (filter (fits most spent) (cons_all i all))
+        (filter (fits most (spent + 2 ^ i)) all)
     (ap (λ z. leb z most) sum) (first_spent most i spent all)
 
 split : (most i d k spent : ℕ) → count most i (suc d) (suc k) spent ≡ count most i (suc d) k (spent + 2 ^ i) + count most (suc i) d (suc k) spent
@@ -105,17 +109,20 @@ half_fits most p spent s some =
     same_test (spent * p + s * (p * 2)) most (h * (p * 2) + s * (p * 2)) most
     (λ le.
     let sum : (spent + 2 * s) * p ≤ most = omega (arith, le) in
-    let small = (le-div_iff_mul-le {k = p} {x = 2 * (h + s)} {y = most} some).0 (halved (most / p) spent s ((le-div_iff_mul-le {k = p} {x = spent + 2 * s} {y = most} some).1 sum)) in
+    let small = (le-div_iff_mul-le {k = p} {x = 2 * (h + s)} {y = most} some).0
+        (halved (most / p) spent s ((le-div_iff_mul-le {k = p} {x = spent + 2 * s} {y = most} some).1 sum)) in
     omega (arith, small))
     (λ le.
     let sum : 2 * (h + s) * p ≤ most = omega (arith, le) in
-    let small = (le-div_iff_mul-le {k = p} {x = spent + 2 * s} {y = most} some).0 (doubled (most / p) spent s ((le-div_iff_mul-le {k = p} {x = 2 * (h + s)} {y = most} some).1 sum)) in
+    let small = (le-div_iff_mul-le {k = p} {x = spent + 2 * s} {y = most} some).0
+        (doubled (most / p) spent s ((le-div_iff_mul-le {k = p} {x = 2 * (h + s)} {y = most} some).1 sum)) in
     omega (arith, small))
 
 -- of lists of numbers above i, what is spent may be counted in the next power
 next_power : (most i d k spent : ℕ) → count most (suc i) d k (spent * 2 ^ i) ≡ count most (suc i) d k ((spent + 1 - (most / 2 ^ i) % 2) / 2 * 2 ^ suc i)
 next_power most i d k spent =
-    alike (NeverFalling (suc i) (suc i + d) k) (fits most (spent * 2 ^ i)) (fits most ((spent + 1 - (most / 2 ^ i) % 2) / 2 * 2 ^ suc i)) one (listing (suc i) d k) (each_falls (suc i + d) (suc i) d k refl)
+    alike (NeverFalling (suc i) (suc i + d) k) (fits most (spent * 2 ^ i)) (fits most ((spent + 1 - (most / 2 ^ i) % 2) / 2 * 2 ^ suc i)) one
+        (listing (suc i) d k) (each_falls (suc i + d) (suc i) d k refl)
   where
     one : (ms : List ℕ) → NeverFalling (suc i) (suc i + d) k ms → fits most (spent * 2 ^ i) ms ≡ fits most ((spent + 1 - (most / 2 ^ i) % 2) / 2 * 2 ^ suc i) ms
     one ms falls =
@@ -168,7 +175,8 @@ from_zero : (d k most : ℕ) → shares d k most 0 ≡ count most 0 d k (0 * 2 ^
 from_zero d k most = let e : most / 2 ^ 0 ≡ most = ap (λ z. most / z) (pow-zero 2) ∙ div-one most in ap (λ z. shares d k z 0) (sym e) ∙ counts d k 0 most 0
 
 -- and so the ways
-pub ways_of_level : (t first k : ℕ) (all : List (List (List ℕ))) → AreWays t (λ l. first) 1 (λ l. k) all → shares (miss_counts t first) k (t / max first 1) 0 ≡ length all
+pub ways_of_level : (t first k : ℕ) (all : List (List (List ℕ))) → AreWays t (λ l. first) 1 (λ l. k) all
+    → shares (miss_counts t first) k (t / max first 1) 0 ≡ length all
 ways_of_level t first k all h =
     let most = t / max first 1 in
     let d = miss_counts t first in
@@ -176,12 +184,14 @@ ways_of_level t first k all h =
     let P : List (List ℕ) → Type 0 = λ c. IsChoice (λ l. d) 1 (λ l. k) c × (cycles_in (λ l. first) 1 c ≤ t) in
     let same : length all ≡ length (ways t (λ l. first) 1 (λ l. k)) =
     same_length P all (ways t (λ l. first) 1 (λ l. k)) h.each (λ c p. h.whole c p.0 p.1) h.differ known.each (λ c p. known.whole c p.0 p.1) known.differ in
-    let tests = alike (NeverFalling 0 d k) (λ ms. leb (cycles_of first ms + 0) t) (fits most (0 * 2 ^ 0)) (λ ms f. level_test t first ms) (listing 0 d k) (each_falls d 0 d k (omega arith)) in
+    let tests = alike (NeverFalling 0 d k) (λ ms. leb (cycles_of first ms + 0) t) (fits most (0 * 2 ^ 0))
+        (λ ms f. level_test t first ms) (listing 0 d k) (each_falls d 0 d k (omega arith)) in
     from_zero d k most ∙ sym tests ∙ sym (length-one_level t first k) ∙ sym same
 
 pub power_below : (n x : ℕ) → x < digits n → 2 ^ x ≤ n
 power_below zero x h = absurd (omega arith)
-power_below (suc n) x h = let r = digits_is (suc n) (omega arith) in let le : x ≤ r.0 = omega (arith, r.1) in let up : 2 ^ x ≤ 2 ^ r.0 = pow_mono le in omega (arith, up, r.3)
+power_below (suc n) x h = let r = digits_is (suc n) (omega arith) in let le : x ≤ r.0 = omega (arith, r.1) in let up : 2 ^ x ≤ 2 ^ r.0 =
+    pow_mono le in omega (arith, up, r.3)
 
 -- of one mitigation they are the miss counts
 pub ways_of_one : (most : ℕ) → shares (digits most) 1 most 0 ≡ digits most
@@ -242,7 +252,8 @@ one_cell most (suc k) spent some entries =
     subst
     (λ d. shares d (suc k) most spent ≡ shares (digits (most / 2)) (suc k) (most / 2) ((spent + 1 - most % 2) / 2) + shares d (suc k - 1) most (spent + 1))
     (sym (digits_more most some))
-    (subst (λ z. shares (suc (digits (most / 2))) (suc k) most spent ≡ shares (digits (most / 2)) (suc k) (most / 2) ((spent + 1 - most % 2) / 2) + shares (suc (digits (most / 2))) z most (spent + 1)) (sym back) (cell most spent (digits (most / 2)) k))
+    (subst (λ z. shares (suc (digits (most / 2))) (suc k) most spent ≡ shares (digits (most / 2)) (suc k) (most / 2) ((spent + 1 - most % 2) / 2) + shares
+        (suc (digits (most / 2))) z most (spent + 1)) (sym back) (cell most spent (digits (most / 2)) k))
 
 pub none_fits : (d most spent : ℕ) → spent ≤ most → shares d 0 most spent ≡ 1
 unfolding shares

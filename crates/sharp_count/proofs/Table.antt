@@ -1,5 +1,6 @@
 -- The table of the ways of one level.
-use Rattle.std.proofs.Common.{◌≡◌, ◌≢◌, ℕ, zero, suc, ◌+◌, ◌-◌, ◌/◌, ◌%◌, ◌^◌, ◌<◌, ◌≤◌, List, [], length, set, replicate, get_or, sym, ap, ◌∙◌, subst, arith, below_more, get_or-set_same, get_or-set_other}
+use Rattle.std.proofs.Common.{◌≡◌, ◌≢◌, ℕ, zero, suc, ◌+◌, ◌-◌, ◌/◌, ◌%◌, ◌^◌, ◌<◌, ◌≤◌, List, [], length, set, replicate, get_or, sym, ap, ◌∙◌, subst, arith}
+use Rattle.std.proofs.Common.{below_more, get_or-set_same, get_or-set_other}
 use Rattle.std.proofs.lemmas.List.{get_or-replicate}
 use Rattle.std.proofs.Math.ListN.{length-replicate}
 use Rattle.std.proofs.Math.Nat.{le-div_iff_mul-le, div-div-eq-div-mul, div-eq_of_lt, pow-suc, zero-div}
@@ -10,7 +11,8 @@ use Rattle.sharp_count.specs.Shares.{shares, IsRow, IsTable}
 use Rattle.sharp_count.proofs.Binary.{digits_few}
 use Rattle.sharp_count.proofs.Shares.{shares_fit, one_cell, nothing_left, power_below}
 
-pub row_more : (f : ℕ → ℕ) (row : List ℕ) (i x : ℕ) → i < length row → ((j : ℕ) → j < i → get_or row j 0 ≡ f j) → x ≡ f i → (j : ℕ) → j < i + 1 → get_or (set row i x) j 0 ≡ f j
+pub row_more : (f : ℕ → ℕ) (row : List ℕ) (i x : ℕ) → i < length row → ((j : ℕ) → j < i → get_or row j 0 ≡ f j) → x ≡ f i → (j : ℕ) → j < i + 1
+    → get_or (set row i x) j 0 ≡ f j
 row_more f row i x lt h e =
     below_more (λ j. get_or (set row i x) j 0 ≡ f j) i
     (λ j less. let ne : j ≢ i = omega arith in get_or-set_other row i j x 0 ne ∙ h j less)
@@ -29,18 +31,22 @@ pub record Renewed (most i : ℕ) (table : List (List ℕ)) : Type 0 where
   pub made : (k : ℕ) → k < i → IsRow most k (get_or table k [])
   pub left : (k : ℕ) → i ≤ k → k ≤ 64 → IsRow (most / 2) k (get_or table k [])
 
-pub first_row : (most : ℕ) (table : List (List ℕ)) (row : List ℕ) → 0 < length table → IsTable (most / 2) table → IsRow most 0 row → Renewed most 1 (set table 0 row)
+pub first_row : (most : ℕ) (table : List (List ℕ)) (row : List ℕ) → 0 < length table → IsTable (most / 2) table → IsRow most 0 row
+    → Renewed most 1 (set table 0 row)
 first_row most table row some h r = record {
-  made = λ k lt. let z : 0 ≡ k = omega arith in subst (λ k. IsRow most k (get_or (set table 0 row) k [])) z (subst (λ z. IsRow most 0 z) (sym (get_or-set_same table 0 row [] some)) r);
+  made = λ k lt. let z : 0 ≡ k = omega arith in
+      subst (λ k. IsRow most k (get_or (set table 0 row) k [])) z (subst (λ z. IsRow most 0 z) (sym (get_or-set_same table 0 row [] some)) r);
   left = λ k low le. let ne : k ≢ 0 = omega arith in subst (λ z. IsRow (most / 2) k z) (sym (get_or-set_other table 0 k row [] ne)) (h k le);
 }
 
-pub next_row : (most i : ℕ) (table : List (List ℕ)) (row : List ℕ) → i < length table → Renewed most i table → IsRow most i row → Renewed most (i + 1) (set table i row)
+pub next_row : (most i : ℕ) (table : List (List ℕ)) (row : List ℕ) → i < length table → Renewed most i table → IsRow most i row
+    → Renewed most (i + 1) (set table i row)
 next_row most i table row lt h r = record {
   made = below_more (λ k. IsRow most k (get_or (set table i row) k [])) i
       (λ k less. let ne : k ≢ i = omega arith in subst (λ z. IsRow most k z) (sym (get_or-set_other table i k row [] ne)) (h.made k less))
       (subst (λ z. IsRow most i z) (sym (get_or-set_same table i row [] lt)) r);
-  left = λ k low le. let ne : k ≢ i = omega arith in let more : i ≤ k = omega arith in subst (λ z. IsRow (most / 2) k z) (sym (get_or-set_other table i k row [] ne)) (h.left k more le);
+  left = λ k low le. let ne : k ≢ i = omega arith in let more : i ≤ k = omega arith in
+      subst (λ z. IsRow (most / 2) k z) (sym (get_or-set_other table i k row [] ne)) (h.left k more le);
 }
 
 -- with nothing to spend there is the empty list alone

@@ -1,5 +1,6 @@
 -- All choices, and those whose cycles add up to at most T.
-use Rattle.std.proofs.Common.{◌≡◌, ℕ, zero, suc, ◌+◌, ◌*◌, ◌≤◌, List, [], ◌∷◌, ◌++◌, length, Bool, true, false, refl, sym, ap, ◌∙◌, subst, inl, inr, arith, length-append}
+use Rattle.std.proofs.Common.{◌≡◌, ℕ, zero, suc, ◌+◌, ◌*◌, ◌≤◌, List, [], ◌∷◌, ◌++◌, length, Bool, true, false, refl, sym, ap, ◌∙◌, subst, inl, inr, arith}
+use Rattle.std.proofs.Common.{length-append}
 use Rattle.std.specs.Prelude.{cond, leb}
 use Rattle.std.specs.List.{filter}
 use Rattle.std.proofs.lemmas.Bool.{leb-true, le-leb}
@@ -92,9 +93,11 @@ each-before_all : (P Q : Choice → Type 0) (ms : List ℕ) → ((c : Choice) �
 each-before_all P Q ms f [] h = tt
 each-before_all P Q ms f (c ∷ cs) h = (f c h.0, each-before_all P Q ms f cs h.1)
 
-each-pairs : (R : List ℕ → Type 0) (P Q : Choice → Type 0) → ((ms : List ℕ) (c : Choice) → R ms → P c → Q (ms ∷ c)) → (all : List (List ℕ)) (cs : List Choice) → Each R all → Each P cs → Each Q (pairs all cs)
+each-pairs : (R : List ℕ → Type 0) (P Q : Choice → Type 0) → ((ms : List ℕ) (c : Choice) → R ms → P c → Q (ms ∷ c)) → (all : List (List ℕ)) (cs : List Choice)
+    → Each R all → Each P cs → Each Q (pairs all cs)
 each-pairs R P Q f [] cs h k = tt
-each-pairs R P Q f (ms ∷ all) cs h k = each-append Q (before_all ms cs) (pairs all cs) (each-before_all P Q ms (λ c p. f ms c h.0 p) cs k) (each-pairs R P Q f all cs h.1 k)
+each-pairs R P Q f (ms ∷ all) cs h k =
+    each-append Q (before_all ms cs) (pairs all cs) (each-before_all P Q ms (λ c p. f ms c h.0 p) cs k) (each-pairs R P Q f all cs h.1 k)
 
 among-before_all : (ms : List ℕ) (c : Choice) (cs : List Choice) → IsAmong c cs → IsAmong (ms ∷ c) (before_all ms cs)
 among-before_all ms c [] h = absurd h
@@ -103,7 +106,8 @@ among-before_all ms c (d ∷ cs) (inr h) = inr (among-before_all ms c cs h)
 
 among-pairs : (ms : List ℕ) (c : Choice) (all : List (List ℕ)) (cs : List Choice) → IsAmong ms all → IsAmong c cs → IsAmong (ms ∷ c) (pairs all cs)
 among-pairs ms c [] cs h k = absurd h
-among-pairs ms c (ns ∷ all) cs (inl e) k = among_left (ms ∷ c) (before_all ns cs) (pairs all cs) (subst (λ z. IsAmong (z ∷ c) (before_all ns cs)) (sym e) (among-before_all ns c cs k))
+among-pairs ms c (ns ∷ all) cs (inl e) k =
+    among_left (ms ∷ c) (before_all ns cs) (pairs all cs) (subst (λ z. IsAmong (z ∷ c) (before_all ns cs)) (sym e) (among-before_all ns c cs k))
 among-pairs ms c (ns ∷ all) cs (inr h) k = among_right (ms ∷ c) (before_all ns cs) (pairs all cs) (among-pairs ms c all cs h k)
 
 tails : (ms ns : List ℕ) (c d : Choice) → ms ∷ c ≡ ns ∷ d → c ≡ d
@@ -114,7 +118,8 @@ heads ms ns c d e = cc
 
 differ-before_all : (ms : List ℕ) (cs : List Choice) → AllDiffer cs → AllDiffer (before_all ms cs)
 differ-before_all ms [] h = tt
-differ-before_all ms (c ∷ cs) h = (each-before_all (λ d. c ≡ d → ⊥) (λ d. ms ∷ c ≡ d → ⊥) ms (λ d ne e. ne (tails ms ms c d e)) cs h.0, differ-before_all ms cs h.1)
+differ-before_all ms (c ∷ cs) h =
+    (each-before_all (λ d. c ≡ d → ⊥) (λ d. ms ∷ c ≡ d → ⊥) ms (λ d ne e. ne (tails ms ms c d e)) cs h.0, differ-before_all ms cs h.1)
 
 each_all : (P : Choice → Type 0) → ((c : Choice) → P c) → (cs : List Choice) → Each P cs
 each_all P f [] = tt
@@ -123,13 +128,15 @@ each_all P f (c ∷ cs) = (f c, each_all P f cs)
 -- what begins with another list is another
 differ_from : (ms : List ℕ) (all : List (List ℕ)) (cs : List Choice) → Each (λ ns. ms ≡ ns → ⊥) all → (c : Choice) → Each (λ d. ms ∷ c ≡ d → ⊥) (pairs all cs)
 differ_from ms all cs h c =
-    each-pairs (λ ns. ms ≡ ns → ⊥) (λ d. Unit {0}) (λ d. ms ∷ c ≡ d → ⊥) (λ ns d ne u e. ne (heads ms ns c d e)) all cs h (each_all (λ d. Unit {0}) (λ d. tt) cs)
+    each-pairs (λ ns. ms ≡ ns → ⊥) (λ d. Unit {0}) (λ d. ms ∷ c ≡ d
+        → ⊥) (λ ns d ne u e. ne (heads ms ns c d e)) all cs h (each_all (λ d. Unit {0}) (λ d. tt) cs)
 
 differ-pairs : (all : List (List ℕ)) (cs : List Choice) → AllDiffer all → AllDiffer cs → AllDiffer (pairs all cs)
 differ-pairs [] cs h k = tt
 differ-pairs (ms ∷ all) cs h k =
     differ-append (before_all ms cs) (pairs all cs) (differ-before_all ms cs k) (differ-pairs all cs h.1 k)
-    (each-before_all (λ d. Unit {0}) (λ c. Each (λ d. c ≡ d → ⊥) (pairs all cs)) ms (λ c u. differ_from ms all cs h.0 c) cs (each_all (λ d. Unit {0}) (λ d. tt) cs))
+    (each-before_all (λ d. Unit {0}) (λ c. Each (λ d. c ≡ d → ⊥) (pairs all cs)) ms
+        (λ c u. differ_from ms all cs h.0 c) cs (each_all (λ d. Unit {0}) (λ d. tt) cs))
 
 -- all choices
 abbrev choices : (ℕ → ℕ) → ℕ → (ℕ → ℕ) → List Choice
@@ -158,7 +165,8 @@ whole_choices values (suc l) counts (ms ∷ c) h =
 
 differ_choices : (values : ℕ → ℕ) (n : ℕ) (counts : ℕ → ℕ) → AllDiffer (choices values n counts)
 differ_choices values zero counts = (tt, tt)
-differ_choices values (suc l) counts = differ-pairs (listing 0 (values l) (counts l)) (choices values l counts) (all_differ 0 (values l) (counts l)) (differ_choices values l counts)
+differ_choices values (suc l) counts =
+    differ-pairs (listing 0 (values l) (counts l)) (choices values l counts) (all_differ 0 (values l) (counts l)) (differ_choices values l counts)
 
 -- those whose cycles add up to at most T
 abbrev pub ways : ℕ → (ℕ → ℕ) → ℕ → (ℕ → ℕ) → List Choice
@@ -170,7 +178,9 @@ are_ways t firsts n counts =
     let fits : Choice → Bool = λ c. leb (cycles_in firsts n c) t in
     let all = choices values n counts in
     record {
-      each = Each-map (λ c. IsChoice values n counts c × (fits c ≡ true)) (λ c. IsChoice values n counts c × (cycles_in firsts n c ≤ t)) (λ c h. (h.0, leb-true (cycles_in firsts n c) t h.1)) (filter fits all) (each_passed (IsChoice values n counts) fits all (each_choice values n counts));
+      each = Each-map (λ c. IsChoice values n counts c × (fits c ≡ true)) (λ c. IsChoice values n counts c × (cycles_in firsts n c ≤ t))
+          (λ c h. (h.0, leb-true (cycles_in firsts n c) t h.1)) (filter fits all)
+          (each_passed (IsChoice values n counts) fits all (each_choice values n counts));
       whole = λ c h le. among_passed fits c all (le-leb (cycles_in firsts n c) t le) (whole_choices values n counts c h);
       differ = differ_passed fits all (differ_choices values n counts);
     }
@@ -190,9 +200,11 @@ length-singles fits [] = refl
 length-singles fits (ms ∷ all) = go (fits (ms ∷ [])) (length-singles fits all)
   where
     go : (b : Bool) → length (filter fits (pairs all ([] ∷ []))) ≡ length (filter (λ ns. fits (ns ∷ [])) all) →
-        length (cond b ((ms ∷ []) ∷ filter fits (pairs all ([] ∷ []))) (filter fits (pairs all ([] ∷ [])))) ≡ length (cond b (ms ∷ filter (λ ns. fits (ns ∷ [])) all) (filter (λ ns. fits (ns ∷ [])) all))
+        length (cond b ((ms ∷ []) ∷ filter fits (pairs all ([] ∷ []))) (filter fits (pairs all ([] ∷ []))))
+            ≡ length (cond b (ms ∷ filter (λ ns. fits (ns ∷ [])) all) (filter (λ ns. fits (ns ∷ [])) all))
     go true e = ap suc e
     go false e = e
 
-pub length-one_level : (t first k : ℕ) → length (ways t (λ l. first) 1 (λ l. k)) ≡ length (filter (λ ms. leb (cycles_of first ms + 0) t) (listing 0 (miss_counts t first) k))
+pub length-one_level : (t first k : ℕ)
+    → length (ways t (λ l. first) 1 (λ l. k)) ≡ length (filter (λ ms. leb (cycles_of first ms + 0) t) (listing 0 (miss_counts t first) k))
 length-one_level t first k = length-singles (λ c. leb (cycles_in (λ l. first) 1 c) t) (listing 0 (miss_counts t first) k)

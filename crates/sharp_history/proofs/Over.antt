@@ -17,14 +17,16 @@ module _ {E : Type 0} (v : Order → Env E) (serves : Order → E → Type 0) (l
       let order = q.program.order in
       let made = made_of q is in
       let few = (is_sharp (v order) order (labels_of q) (levels_of q) (lowered q).instrs (bare_of q) made (laws order made.lattice)).few in
-      record { few = λ o low t some. few_halted_same (v order) order (serves order) (labels_of q) (levels_of q) (lowered q).instrs (bare_of q) (plan_of q.program) (keep_commands q) o t _ (few o low t some) }
+      record { few = λ o low t some. few_halted_same (v order) order (serves order) (labels_of q) (levels_of q) (lowered q).instrs (bare_of q)
+          (plan_of q.program) (keep_commands q) o t _ (few o low t some) }
 
   pub lowered_cut : LoweredSharpCutOver v serves
   lowered_cut q is =
       let order = q.program.order in
       let made = made_of q is in
       let few = (is_sharp_cut (v order) order (labels_of q) (levels_of q) (lowered q).instrs (bare_of q) made (laws order made.lattice)).few in
-      record { few = λ o low t some. few_cut_same (v order) order (serves order) (labels_of q) (levels_of q) (lowered q).instrs (bare_of q) (plan_of q.program) (keep_commands q) o t _ (few o low t some) }
+      record { few = λ o low t some. few_cut_same (v order) order (serves order) (labels_of q) (levels_of q) (lowered q).instrs (bare_of q) (plan_of q.program)
+          (keep_commands q) o t _ (few o low t some) }
 
   pub lowered_end : LoweredSharpEndOver v serves
   lowered_end q is =
@@ -32,8 +34,10 @@ module _ {E : Type 0} (v : Order → Env E) (serves : Order → E → Type 0) (l
       let made = made_of q is in
       let both = is_sharp_end (v order) order (labels_of q) (levels_of q) (lowered q).instrs (bare_of q) made (laws order made.lattice) in
       record {
-        halted = λ o low ends t some. few_halted_same (v order) order (serves order) (labels_of q) (levels_of q) (lowered q).instrs (bare_of q) (plan_of q.program) (keep_commands q) o t _ (both.halted o low ends t some);
-        cut = λ o low ends t some. few_cut_same (v order) order (serves order) (labels_of q) (levels_of q) (lowered q).instrs (bare_of q) (plan_of q.program) (keep_commands q) o t _ (both.cut o low ends t some);
+        halted = λ o low ends t some. few_halted_same (v order) order (serves order) (labels_of q) (levels_of q) (lowered q).instrs (bare_of q)
+            (plan_of q.program) (keep_commands q) o t _ (both.halted o low ends t some);
+        cut = λ o low ends t some. few_cut_same (v order) order (serves order) (labels_of q) (levels_of q) (lowered q).instrs (bare_of q) (plan_of q.program)
+            (keep_commands q) o t _ (both.cut o low ends t some);
       }
 
   pub lowered_shared : LoweredSharedOver v serves
@@ -41,4 +45,5 @@ module _ {E : Type 0} (v : Order → Env E) (serves : Order → E → Type 0) (l
       let order = q.program.order in
       let made = made_of q is in
       let few = (is_shared (v order) order (labels_of q) (levels_of q) (lowered q).instrs (bare_of q) made (laws order made.lattice)).few in
-      record { few = λ o low t some. few_shared_same (v order) order (serves order) (labels_of q) (levels_of q) (lowered q).instrs (bare_of q) (plan_of q.program) (keep_commands q) o t _ (few o low t some) }
+      record { few = λ o low t some. few_shared_same (v order) order (serves order) (labels_of q) (levels_of q) (lowered q).instrs (bare_of q)
+          (plan_of q.program) (keep_commands q) o t _ (few o low t some) }

@@ -36,7 +36,8 @@ module _ {A B : Type 0} (f : A → B) where
   pub last_put : (xs : List A) (n : ℕ) (x : A) → n ≡ length xs → 0 < n → map f (slice_set xs (n - 1) x) ≡ take (length (map f xs) - 1) (map f xs) ++ f x ∷ []
   last_put xs n x e h = put_last xs (n - 1) x (omega (arith, e, h)) ∙ ap (λ l. l ++ f x ∷ []) (at_last xs n e h)
 
-  pub last_two : (xs all : List A) (n : ℕ) (x b : A) → all ≡ xs ++ b ∷ [] → n ≡ length xs → 0 < n → map f (slice_set all (n - 1) x) ≡ take (length (map f xs) - 1) (map f xs) ++ (f x ∷ f b ∷ [])
+  pub last_two : (xs all : List A) (n : ℕ) (x b : A) → all ≡ xs ++ b ∷ [] → n ≡ length xs → 0 < n
+      → map f (slice_set all (n - 1) x) ≡ take (length (map f xs) - 1) (map f xs) ++ (f x ∷ f b ∷ [])
   last_two xs all n x b is e h =
       ap (λ l. map f (slice_set l (n - 1) x)) is ∙ (put_before xs (n - 1) x b (omega (arith, e, h)) ∙ ap (λ l. l ++ (f x ∷ f b ∷ [])) (at_last xs n e h))
 
@@ -47,7 +48,8 @@ module _ {A B : Type 0} (f : A → B) where
   last_at (y ∷ xs) (suc k) x e is = ap (λ l. f y ∷ l) (last_at xs k x (omega (arith, e)) is)
 
   -- a stack is what is below its last element, and that
-  pub last_there : (xs : List A) (n : ℕ) (x : A) → n ≡ length xs → 0 < n → x ≡ get_or xs (n - 1) x → map f xs ≡ take (length (map f xs) - 1) (map f xs) ++ f x ∷ []
+  pub last_there : (xs : List A) (n : ℕ) (x : A) → n ≡ length xs → 0 < n → x ≡ get_or xs (n - 1) x
+      → map f xs ≡ take (length (map f xs) - 1) (map f xs) ++ f x ∷ []
   last_there xs n x e h is = last_at xs (n - 1) x (omega (arith, e, h)) is ∙ ap (λ l. l ++ f x ∷ []) (at_last xs n e h)
 
 pub All-last : {X : Type 0} (P : X → Type 0) (xs : List X) (x : X) → All P (xs ++ x ∷ []) → P x

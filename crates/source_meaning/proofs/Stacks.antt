@@ -15,7 +15,8 @@ pub todo_some : (fs : List (List Command)) (f : List Command) → todo_of (fs ++
 todo_some fs [] = ap todo_of (append-nil fs)
 todo_some fs (c ∷ cs) = todo_last Done fs (c ∷ cs)
 
-pub todo_two : (fs : List (List Command)) (f g : List Command) → todo_of (fs ++ (some_list f ++ g ∷ [])) ≡ then_todo (list_plan g) (then_todo (list_plan f) (todo_of fs))
+pub todo_two : (fs : List (List Command)) (f g : List Command)
+    → todo_of (fs ++ (some_list f ++ g ∷ [])) ≡ then_todo (list_plan g) (then_todo (list_plan f) (todo_of fs))
 todo_two fs f g =
     ap todo_of (sym (append_assoc fs (some_list f) (g ∷ [])))
     ∙ (todo_last Done (fs ++ some_list f) g ∙ ap (then_todo (list_plan g)) (todo_some fs f))

@@ -20,7 +20,8 @@ module _ {M L M' L' : Type 0} (f : M → M') (g : L → L') where
   abbrev pub map_source : Source M L → Source M' L'
   map_source s = record { todo = map_todo f g s.todo; memory = s.memory; notes = s.notes }
 
-  with_todo : (t t' : Todo M' L') (m : List ℤ) (n : List Note) → t ≡ t' → ◌≡◌ {A = Source M' L'} (record { todo = t; memory = m; notes = n }) (record { todo = t'; memory = m; notes = n })
+  with_todo : (t t' : Todo M' L') (m : List ℤ) (n : List Note) → t ≡ t'
+      → ◌≡◌ {A = Source M' L'} (record { todo = t; memory = m; notes = n }) (record { todo = t'; memory = m; notes = n })
   with_todo t t' m n e = ap (λ z. let r : Source M' L' = record { todo = z; memory = m; notes = n } in r) e
 
   map-act : (t : Todo M L) (m : List ℤ) (n : List Note) → map_source (source_act t m n) ≡ source_act (map_todo f g t) m n
@@ -31,12 +32,14 @@ module _ {M L M' L' : Type 0} (f : M → M') (g : L → L') where
   map-act (Put l a k i e r) m n = refl
   map-act (If l e a b r) m n = with_todo _ _ m n (go (holds (value_of e m)))
     where
-      go : (w : Bool) → map_todo f g (cond w (then_todo a r) (then_todo b r)) ≡ cond w (then_todo (map_todo f g a) (map_todo f g r)) (then_todo (map_todo f g b) (map_todo f g r))
+      go : (w : Bool) → map_todo f g (cond w (then_todo a r) (then_todo b r))
+          ≡ cond w (then_todo (map_todo f g a) (map_todo f g r)) (then_todo (map_todo f g b) (map_todo f g r))
       go true = map-then a r
       go false = map-then b r
   map-act (While l e c r) m n = with_todo _ _ m n (go (holds (value_of e m)))
     where
-      go : (w : Bool) → map_todo f g (cond w (then_todo c (While l e c r)) r) ≡ cond w (then_todo (map_todo f g c) (map_todo f g (While l e c r))) (map_todo f g r)
+      go : (w : Bool) → map_todo f g (cond w (then_todo c (While l e c r)) r)
+          ≡ cond w (then_todo (map_todo f g c) (map_todo f g (While l e c r))) (map_todo f g r)
       go true = map-then c (While l e c r)
       go false = refl
   map-act (Mitigate l k v e c r) m n = with_todo _ _ m _ (map-then c r)

@@ -1,5 +1,6 @@
 -- The starts of a file have a value for each variable, and touches of labels.
-use Rattle.std.proofs.Common.{◌≡◌, refl, subst, ℕ, ℤ, ◌+◌, ◌<◌, List, [], ◌∷◌, Bool, true, false, cond, length, Option, None, Some, Result, Ok, Err, codes, arith}
+use Rattle.std.proofs.Common.{◌≡◌, refl, subst, ℕ, ℤ, ◌+◌, ◌<◌, List, [], ◌∷◌, Bool, true, false, cond, length, Option, None, Some, Result, Ok, Err, codes}
+use Rattle.std.proofs.Common.{arith}
 use Rattle.std.specs.Prelude.{All, ◌==◌, nat_lt, option_map, option_and_then, position}
 use Rattle.std.specs.Str.{bytes_eq}
 use Rattle.std.proofs.lemmas.List.Elements.{All-nil, All-cons}
@@ -19,7 +20,8 @@ use Rattle.start_file.specs.Tables.{keys_pass, members_in, count_items}
 use Rattle.start_file.specs.Versions.{version_of}
 use Rattle.start_file.specs.Values.{memory_passes, memory_of}
 use Rattle.start_file.specs.Touches.{is_touch_key, place_of, label_of, address_of, touch_from, touch_of, touches_of, touches_in}
-use Rattle.start_file.specs.Starts.{StartValue, IsFor, is_top_key, run_keys_pass, with_touches, run_in, run_of, with_first, runs_from, counted_runs, runs_of, versioned, starts_in}
+use Rattle.start_file.specs.Starts.{StartValue, IsFor, is_top_key, run_keys_pass, with_touches, run_in, run_of, with_first, runs_from, counted_runs, runs_of}
+use Rattle.start_file.specs.Starts.{versioned, starts_in}
 use Rattle.start_file.proofs.Written.{length-memory_of}
 
 module _ (o : Order) (h : IsOrder o) where
@@ -58,7 +60,8 @@ module _ (o : Order) (h : IsOrder o) where
 
   touch_below : (v : Version) (d : Data) (t : Touch) → touch_of v o d ≡ Some t → Below t
   touch_below v (table ms) t e =
-      from_parts (keys_pass is_touch_key ms) (place_of v (get_member (codes "place") ms)) (label_of o (get_member (codes "label") ms)) (address_of (get_member (codes "address") ms)) t
+      from_parts (keys_pass is_touch_key ms) (place_of v (get_member (codes "place") ms)) (label_of o (get_member (codes "label") ms))
+          (address_of (get_member (codes "address") ms)) t
       (label_below (get_member (codes "label") ms)) e
   touch_below v (string z) t e = absurd (none-some t e)
   touch_below v (integer z) t e = absurd (none-some t e)
@@ -71,7 +74,8 @@ module _ (o : Order) (h : IsOrder o) where
   touches_below v no_items ts e = subst (All Below) (same_Some [] ts e) (All-nil Below)
   touches_below v (item d ds) ts e = by (touches_below v ds) (touch_of v o d) (touches_of v o ds) refl refl e
     where
-      by : ((us : List Touch) → touches_of v o ds ≡ Some us → All Below us) → (r : Option Touch) (q : Option (List Touch)) → touch_of v o d ≡ r → touches_of v o ds ≡ q
+      by : ((us : List Touch) → touches_of v o ds ≡ Some us → All Below us) → (r : Option Touch) (q : Option (List Touch))
+          → touch_of v o d ≡ r → touches_of v o ds ≡ q
           → option_and_then (λ t. option_map (λ us. t ∷ us) q) r ≡ Some ts → All Below ts
       by more None q f g k = absurd (none-some ts k)
       by more (Some t) None f g k = absurd (none-some ts k)
@@ -109,9 +113,11 @@ module _ (p : Syntax) (h : IsOrder p.order) where
       let m = memory_of p.declarations (members_in memory) in
       let f = touches_in v p.order (get_member (codes "touch") ms) in
       let known = after_then (run_keys_pass p v ms) (cond (memory_passes p.declarations memory) (with_touches n m f) (Err (NotNumber n))) (UnknownKey n) s e in
-      by f refl m (length-memory_of p.declarations (members_in memory)) (after_then (memory_passes p.declarations memory) (with_touches n m f) (NotNumber n) s known)
+      by f refl m (length-memory_of p.declarations (members_in memory))
+          (after_then (memory_passes p.declarations memory) (with_touches n m f) (NotNumber n) s known)
     where
-      by : (f : Option (List Touch)) → touches_in v p.order (get_member (codes "touch") ms) ≡ f → (m : List ℤ) → length m ≡ variables p.declarations → with_touches n m f ≡ Ok s → IsFor p s
+      by : (f : Option (List Touch)) → touches_in v p.order (get_member (codes "touch") ms) ≡ f → (m : List ℤ) → length m ≡ variables p.declarations
+          → with_touches n m f ≡ Ok s → IsFor p s
       by None g m l k = absurd (err_ok (BadTouch n) s k)
       by (Some ts) g m l k =
           subst (IsFor p) (same_Ok (record { memory = m; touches = ts }) s k)
@@ -130,7 +136,8 @@ module _ (p : Syntax) (h : IsOrder p.order) where
   runs_for v n no_items ss e = subst (All (IsFor p)) (same_Ok [] ss e) (All-nil (IsFor p))
   runs_for v n (item d ds) ss e = by (runs_for v (n + 1) ds) (run_of p v n d) (runs_from p v (n + 1) ds) refl refl e
     where
-      by : ((us : List StartValue) → runs_from p v (n + 1) ds ≡ Ok us → All (IsFor p) us) → (r : Result StartValue StartFault) (q : Result (List StartValue) StartFault)
+      by : ((us : List StartValue) → runs_from p v (n + 1) ds ≡ Ok us → All (IsFor p) us)
+          → (r : Result StartValue StartFault) (q : Result (List StartValue) StartFault)
           → run_of p v n d ≡ r → runs_from p v (n + 1) ds ≡ q → with_first r q ≡ Ok ss → All (IsFor p) ss
       by more (Err f) q g k i = absurd (err_ok f ss i)
       by more (Ok s) (Err f) g k i = absurd (err_ok f ss i)
@@ -155,7 +162,8 @@ module _ (p : Syntax) (h : IsOrder p.order) where
 
   versioned_for : (v : Option Version) (ms : Members) (ss : List StartValue) → versioned p v ms ≡ Ok ss → All (IsFor p) ss
   versioned_for None ms ss e = absurd (err_ok BadVersion ss e)
-  versioned_for (Some v) ms ss e = array_for v (get_member (codes "run") ms) ss (after_then (keys_pass is_top_key ms) (runs_of p v (get_member (codes "run") ms)) (UnknownKey 0) ss e)
+  versioned_for (Some v) ms ss e =
+      array_for v (get_member (codes "run") ms) ss (after_then (keys_pass is_top_key ms) (runs_of p v (get_member (codes "run") ms)) (UnknownKey 0) ss e)
 
   -- what a document gives
   pub starts_for : (ms : Members) (ss : List StartValue) → starts_in p (Some ms) ≡ Ok ss → All (IsFor p) ss

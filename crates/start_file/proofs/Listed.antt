@@ -1,5 +1,6 @@
 -- The touches and the runs, one more at a time.
-use Rattle.std.proofs.Common.{◌≡◌, ◌∙◌, refl, sym, ap, ℕ, ◌+◌, ◌<◌, ◌≤◌, List, [], ◌∷◌, ◌++◌, length, drop, get_or, Option, None, Some, Result, Ok, Err, codes, drop_of_length-le, append_assoc, append-nil, arith}
+use Rattle.std.proofs.Common.{◌≡◌, ◌∙◌, refl, sym, ap, ℕ, ◌+◌, ◌<◌, ◌≤◌, List, [], ◌∷◌, ◌++◌, length, drop, get_or, Option, None, Some, Result, Ok, Err}
+use Rattle.std.proofs.Common.{codes, drop_of_length-le, append_assoc, append-nil, arith}
 use Rattle.std.specs.Prelude.{true, false, ◌==◌, nat_lt, option_map, option_and_then}
 use Rattle.std.proofs.lemmas.Bool.Decides.{nat_tests}
 use Rattle.toml.specs.Data.{Items, Members, get_member}
@@ -30,9 +31,11 @@ touch_first : (t : Touch) (o : Option (List Touch)) (ts : List Touch) → after 
 touch_first t None ts = refl
 touch_first t (Some us) ts = ap (λ (l : List Touch). Some l) (sym (append_assoc ts (t ∷ []) us))
 
-module _ (v : Version) (o : Order) (all : Option (List Touch)) (vs : List Value) (i : ℕ) (ts : List Touch) (so_far : all ≡ after ts (touches_of v o (items_view (drop i vs)))) where
+module _ (v : Version) (o : Order) (all : Option (List Touch)) (vs : List Value) (i : ℕ) (ts : List Touch)
+    (so_far : all ≡ after ts (touches_of v o (items_view (drop i vs)))) where
   -- a touch more
-  pub touch_more : (d : Value) (t : Touch) → i < length vs → Some t ≡ touch_of v o (view (get_or vs i d)) → all ≡ after (ts ++ t ∷ []) (touches_of v o (items_view (drop (i + 1) vs)))
+  pub touch_more : (d : Value) (t : Touch) → i < length vs → Some t ≡ touch_of v o (view (get_or vs i d))
+      → all ≡ after (ts ++ t ∷ []) (touches_of v o (items_view (drop (i + 1) vs)))
   touch_more d t lt is =
       let rest = touches_of v o (items_view (drop (i + 1) vs)) in
       so_far ∙ ap (λ (x : Items). after ts (touches_of v o x)) (items_view-drop vs i d lt)
@@ -49,7 +52,8 @@ module _ (v : Version) (o : Order) (all : Option (List Touch)) (vs : List Value)
   -- no touch is left
   pub touches_over : length vs ≤ i → all ≡ Some ts
   touches_over le =
-      so_far ∙ ap (λ (l : List Value). after ts (touches_of v o (items_view l))) (drop_of_length-le vs {i = i} le) ∙ ap (λ (l : List Touch). Some l) (append-nil ts)
+      so_far ∙ ap (λ (l : List Value). after ts (touches_of v o (items_view l))) (drop_of_length-le vs {i = i} le)
+          ∙ ap (λ (l : List Touch). Some l) (append-nil ts)
 
 -- these starts, and then the rest
 abbrev pub onto : List StartValue → Result (List StartValue) StartFault → Result (List StartValue) StartFault
@@ -64,9 +68,11 @@ start_first : (s : StartValue) (r : Result (List StartValue) StartFault) (ss : L
 start_first s (Ok rest) ss = ap (λ (l : List StartValue). Ok l) (sym (append_assoc ss (s ∷ []) rest))
 start_first s (Err e) ss = refl
 
-module _ (p : Syntax) (v : Version) (all : Result (List StartValue) StartFault) (vs : List Value) (i : ℕ) (ss : List StartValue) (so_far : all ≡ onto ss (runs_from p v (i + 1) (items_view (drop i vs)))) where
+module _ (p : Syntax) (v : Version) (all : Result (List StartValue) StartFault) (vs : List Value) (i : ℕ) (ss : List StartValue)
+    (so_far : all ≡ onto ss (runs_from p v (i + 1) (items_view (drop i vs)))) where
   -- a run more
-  pub run_more : (d : Value) (s : StartValue) → i < length vs → run_of p v (i + 1) (view (get_or vs i d)) ≡ Ok s → all ≡ onto (ss ++ s ∷ []) (runs_from p v (i + 1 + 1) (items_view (drop (i + 1) vs)))
+  pub run_more : (d : Value) (s : StartValue) → i < length vs → run_of p v (i + 1) (view (get_or vs i d)) ≡ Ok s
+      → all ≡ onto (ss ++ s ∷ []) (runs_from p v (i + 1 + 1) (items_view (drop (i + 1) vs)))
   run_more d s lt is =
       let rest = runs_from p v (i + 1 + 1) (items_view (drop (i + 1) vs)) in
       so_far ∙ ap (λ (x : Items). onto ss (runs_from p v (i + 1) x)) (items_view-drop vs i d lt)
@@ -83,7 +89,8 @@ module _ (p : Syntax) (v : Version) (all : Result (List StartValue) StartFault) 
   -- no run is left
   pub runs_over : length vs ≤ i → all ≡ Ok ss
   runs_over le =
-      so_far ∙ ap (λ (l : List Value). onto ss (runs_from p v (i + 1) (items_view l))) (drop_of_length-le vs {i = i} le) ∙ ap (λ (l : List StartValue). Ok l) (append-nil ss)
+      so_far ∙ ap (λ (l : List Value). onto ss (runs_from p v (i + 1) (items_view l))) (drop_of_length-le vs {i = i} le)
+          ∙ ap (λ (l : List StartValue). Ok l) (append-nil ss)
 
 module _ (p : Syntax) (v : Version) (vs : List Value) where
   -- a number of runs that may be

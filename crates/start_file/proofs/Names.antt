@@ -42,7 +42,8 @@ module _ (o : Order) (h : IsOrder o) (w : List ℕ) where
       let size = h.named in
       let before : (k : ℕ) → k < a → same (get_or o.names k []) ≡ false =
       λ k lt. not_true (same (get_or o.names k [])) (λ t. h.differ k a [] lt (omega arith) ((bytes_eq-Decides (get_or o.names k []) w).0 t ∙ sym e)) in
-      let here : position_or_len same o.names ≡ a = position_or_len_is same o.names a [] (omega arith) before (λ _. (bytes_eq-Decides (get_or o.names a []) w).1 e) in
+      let here : position_or_len same o.names ≡ a =
+          position_or_len_is same o.names a [] (omega arith) before (λ _. (bytes_eq-Decides (get_or o.names a []) w).1 e) in
       let within : nat_lt a (length o.names) ≡ true = grind (arith, nat_tests) in
       rw (here, within)
 
@@ -52,7 +53,8 @@ module _ (o : Order) (h : IsOrder o) (w : List ℕ) where
       let size = h.named in
       let before : (k : ℕ) → k < length o.names → same (get_or o.names k []) ≡ false =
       λ k lt. not_true (same (get_or o.names k [])) (λ t. n k (omega arith) ((bytes_eq-Decides (get_or o.names k []) w).0 t)) in
-      let here : position_or_len same o.names ≡ length o.names = position_or_len_is same o.names (length o.names) [] (omega arith) before (λ lt. absurd (omega arith)) in
+      let here : position_or_len same o.names ≡ length o.names =
+          position_or_len_is same o.names (length o.names) [] (omega arith) before (λ lt. absurd (omega arith)) in
       let past : nat_lt (length o.names) (length o.names) ≡ false = grind (arith, nat_tests) in
       rw (here, past)
 
@@ -69,7 +71,8 @@ module _ (o : Order) (h : IsOrder o) (w : List ℕ) where
 pub slot_below : (ds : List Declaration) (w : List ℕ) (s : Slot) → slot_of ds w ≡ Some s → s.first + size_in s.length ≤ variables ds
 slot_below ds w s e = by (declared ds w) refl e
   where
-    by : (r : Option (ℕ × Decl)) → declared ds w ≡ r → option_map (λ (p : ℕ × Decl). record { first = p.0; length = p.1.length }) r ≡ Some s → s.first + size_in s.length ≤ variables ds
+    by : (r : Option (ℕ × Decl)) → declared ds w ≡ r → option_map (λ (p : ℕ × Decl). record { first = p.0; length = p.1.length }) r ≡ Some s
+        → s.first + size_in s.length ≤ variables ds
     by None h k = absurd (none-some s k)
     by (Some r) h k =
         let at = declared_place ds w r.0 r.1 h in

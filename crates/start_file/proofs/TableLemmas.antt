@@ -1,5 +1,6 @@
 -- What holds of the tables and arrays of a document, seen as data.
-use Rattle.std.proofs.Common.{◌≡◌, ◌∙◌, ℕ, ◌<◌, ◌≤◌, List, [], ◌∷◌, Bool, false, ◌&&◌, length, refl, sym, ap, le-leb, Option, Some, String, Vec, Global, string_bytes, arith}
+use Rattle.std.proofs.Common.{◌≡◌, ◌∙◌, ℕ, ◌<◌, ◌≤◌, List, [], ◌∷◌, Bool, false, ◌&&◌, length, refl, sym, ap, le-leb, Option, Some, String, Vec, Global}
+use Rattle.std.proofs.Common.{string_bytes, arith}
 use Rattle.std.specs.Prelude.{nat_le}
 use Rattle.std.proofs.lemmas.Bool.Decides.{nat_tests}
 use Rattle.std.specs.List.{list_all}
@@ -11,7 +12,8 @@ use Rattle.start_file.specs.Tables.{keys_pass, count_items}
 use Rattle.start_file.specs.Values.{is_integer, are_integers, is_filling}
 
 -- each key of a table passes
-pub keys_pass_view : (test : List ℕ → Bool) (es : List (String Global × Value)) → list_all (λ k. test (string_bytes k)) (keys_of es) ≡ keys_pass test (members_view es)
+pub keys_pass_view : (test : List ℕ → Bool) (es : List (String Global × Value))
+    → list_all (λ k. test (string_bytes k)) (keys_of es) ≡ keys_pass test (members_view es)
 keys_pass_view test [] = refl
 keys_pass_view test (e ∷ es) = ap (λ (b : Bool). test (string_bytes e.0) && b) (keys_pass_view test es)
 
@@ -38,5 +40,6 @@ module _ (v : Value) (a : Vec Value Global) (length_of : Option ℕ) (n : ℕ) (
       array_filling ∙ ap (λ (b : Bool). b && list_all (λ x. is_integer (view x)) a.items) e
 
 -- what a test of all keys tells
-pub keys_told : (test : List ℕ → Bool) (es : List (String Global × Value)) (r b : Bool) → r ≡ list_all (λ k. test (string_bytes k)) (keys_of es) → r ≡ b → keys_pass test (members_view es) ≡ b
+pub keys_told : (test : List ℕ → Bool) (es : List (String Global × Value)) (r b : Bool) → r ≡ list_all (λ k. test (string_bytes k)) (keys_of es) → r ≡ b
+    → keys_pass test (members_view es) ≡ b
 keys_told test es r b is told = sym (keys_pass_view test es) ∙ sym is ∙ told

@@ -1,5 +1,7 @@
 -- What is written for one name more is the memory of one name more.
-use Rattle.std.proofs.Common.{◌≡◌, ◌∙◌, refl, sym, ap, subst, ℕ, ℤ, pos, zero, suc, ◌+◌, ◌-◌, ◌<◌, ◌≤◌, List, [], ◌∷◌, ◌++◌, Bool, true, false, cond, ◌&&◌, length, get_or, take, drop, set, replicate, append-nil, map, ap₂, Option, None, Some, String, Global, string_bytes, append_assoc, length-append, length-take, length-drop, arith}
+use Rattle.std.proofs.Common.{◌≡◌, ◌∙◌, refl, sym, ap, subst, ℕ, ℤ, pos, zero, suc, ◌+◌, ◌-◌, ◌<◌, ◌≤◌, List, [], ◌∷◌, ◌++◌, Bool, true, false, cond, ◌&&◌}
+use Rattle.std.proofs.Common.{length, get_or, take, drop, set, replicate, append-nil, map, ap₂, Option, None, Some, String, Global, string_bytes}
+use Rattle.std.proofs.Common.{append_assoc, length-append, length-take, length-drop, arith}
 use Rattle.std.specs.Prelude.{option_map}
 use Rattle.std.proofs.lemmas.List.{replicate-append-replicate}
 use Rattle.std.specs.Cmp.Lexicographic.{slice_cmp}
@@ -50,7 +52,8 @@ last_new : (w : List ℕ) (d : Data) (ms : Members) → get_member w ms ≡ None
 last_new w d no_members h = get_more w w d no_members ∙ cond-true (bytes_eq w w) (Some d) None (same_bytes w)
 last_new w d (member l e ms) h = by (last_new w d ms) (bytes_eq w l) refl
   where
-    by : (get_member w ms ≡ None → get_member w (with_last ms w d) ≡ Some d) → (b : Bool) → bytes_eq w l ≡ b → get_member w (with_last (member l e ms) w d) ≡ Some d
+    by : (get_member w ms ≡ None → get_member w (with_last ms w d) ≡ Some d) → (b : Bool) → bytes_eq w l ≡ b
+        → get_member w (with_last (member l e ms) w d) ≡ Some d
     by more true s = absurd (none-some e (sym h ∙ get_more w l e ms ∙ cond-true (bytes_eq w l) (Some e) (get_member w ms) s))
     by more false s =
         get_more w l e (with_last ms w d) ∙ cond-false (bytes_eq w l) (Some e) (get_member w (with_last ms w d)) s
@@ -122,9 +125,11 @@ memory_apart (x ∷ ds) w d ms n =
 rest_differ : (x : Declaration) (ds : List Declaration) → AllDiffer (names (x ∷ ds)) → AllDiffer (names ds)
 rest_differ x ds h i j d l k = h (suc i) (suc j) d (omega arith) (omega arith)
 
-first_apart : (x : Declaration) (ds : List Declaration) → AllDiffer (names (x ∷ ds)) → (j : ℕ) → j < length (names ds) → bytes_eq (get_or (names ds) j []) x.0 ≡ false
+first_apart : (x : Declaration) (ds : List Declaration) → AllDiffer (names (x ∷ ds)) → (j : ℕ) → j < length (names ds)
+    → bytes_eq (get_or (names ds) j []) x.0 ≡ false
 first_apart x ds h j l =
-    not_true (bytes_eq (get_or (names ds) j []) x.0) (λ t. h 0 (suc j) [] (omega arith) (omega arith) (sym ((bytes_eq-Decides (get_or (names ds) j []) x.0).0 t)))
+    not_true (bytes_eq (get_or (names ds) j []) x.0)
+        (λ t. h 0 (suc j) [] (omega arith) (omega arith) (sym ((bytes_eq-Decides (get_or (names ds) j []) x.0).0 t)))
 
 other_way : (a b : List ℕ) → bytes_eq a b ≡ false → bytes_eq b a ≡ false
 other_way a b n = not_true (bytes_eq b a) (λ t. by (sym n ∙ (bytes_eq-Decides a b).1 (sym ((bytes_eq-Decides b a).0 t))))
@@ -141,7 +146,8 @@ later n r = (n + r.0, r.1)
 written_after : (r : Option (ℕ × Decl)) (d : Data) (n : ℕ) (xs ys : List ℤ) → length xs ≡ n
     → xs ++ written (option_map slot_at r) d ys ≡ written (option_map slot_at (option_map (later n) r)) d (xs ++ ys)
 written_after None d n xs ys e = refl
-written_after (Some r) d n xs ys e = let k : n + r.0 ≡ length xs + r.0 = omega (arith, e) in sym (splice_after xs ys (values_of r.1.length (Some d)) r.0 (n + r.0) k)
+written_after (Some r) d n xs ys e = let k : n + r.0 ≡ length xs + r.0 = omega (arith, e) in
+    sym (splice_after xs ys (values_of r.1.length (Some d)) r.0 (n + r.0) k)
 
 pub put_last : (ds : List Declaration) (w : List ℕ) (d : Data) (ms : Members) → AllDiffer (names ds) → get_member w ms ≡ None
     → memory_of ds (with_last ms w d) ≡ written (slot_of ds w) d (memory_of ds ms)
@@ -174,7 +180,8 @@ put_last (x ∷ ds) w d ms h none = by (put_last ds w d ms (rest_differ x ds h) 
         ∙ ap (λ s. written s d (old ++ memory_of ds ms)) (sym slot)
 
 -- a list that has at each place the number of an item, or 0
-pub elements_from : (xs : List ℤ) (n : ℕ) (ds : Items) → length xs ≡ n → ((k : ℕ) → k < n → get_or xs k (pos 0) ≡ number_of (get_item k ds)) → xs ≡ elements_of n ds
+pub elements_from : (xs : List ℤ) (n : ℕ) (ds : Items) → length xs ≡ n → ((k : ℕ) → k < n → get_or xs k (pos 0) ≡ number_of (get_item k ds))
+    → xs ≡ elements_of n ds
 elements_from [] zero ds e h = refl
 elements_from [] (suc n) ds e h = absurd (omega (arith, e))
 elements_from (x ∷ xs) zero ds e h = absurd (omega (arith, e))
@@ -221,20 +228,24 @@ module _ (m : List ℤ) (s : Slot) (d : Data) (fits : s.first + size_in s.length
 abbrev Entry : Type 0
 Entry = String Global × Value
 
-below_later : (x : Entry) (es : List Entry) (e : Entry) (more : List Entry) → AllByRecursion (λ y. string_cmp x.0 y ≡ Less) (keys_of (es ++ e ∷ more)) → string_cmp x.0 e.0 ≡ Less
+below_later : (x : Entry) (es : List Entry) (e : Entry) (more : List Entry) → AllByRecursion (λ y. string_cmp x.0 y ≡ Less) (keys_of (es ++ e ∷ more))
+    → string_cmp x.0 e.0 ≡ Less
 below_later x [] e more h = h.0
 below_later x (y ∷ es) e more h = below_later x es e more h.1
 
 -- the key of an entry stands in none before it
-new_key : (es : List Entry) (e : Entry) (more : List Entry) → IsStrictlySortedBy string_cmp (keys_of (es ++ e ∷ more)) → get_member (string_bytes e.0) (members_view es) ≡ None
+new_key : (es : List Entry) (e : Entry) (more : List Entry) → IsStrictlySortedBy string_cmp (keys_of (es ++ e ∷ more))
+    → get_member (string_bytes e.0) (members_view es) ≡ None
 unfolding IsStrictlySortedBy
 new_key [] e more h = refl
 new_key (x ∷ es) e more h =
-    let above : string_cmp e.0 x.0 ≡ Greater = nat_list_cmp_total.antisymm (string_bytes e.0) (string_bytes x.0) ∙ ap ordering_reverse (below_later x es e more h.0) in
+    let above : string_cmp e.0 x.0 ≡ Greater =
+        nat_list_cmp_total.antisymm (string_bytes e.0) (string_bytes x.0) ∙ ap ordering_reverse (below_later x es e more h.0) in
     rw above (new_key es e more h.1)
 
 -- one entry of a table more
-pub put_entry : (ds : List Declaration) (es : List Entry) (e : Entry) (more : List Entry) → AllDiffer (names ds) → IsStrictlySortedBy string_cmp (keys_of (es ++ e ∷ more))
+pub put_entry : (ds : List Declaration) (es : List Entry) (e : Entry) (more : List Entry) → AllDiffer (names ds)
+    → IsStrictlySortedBy string_cmp (keys_of (es ++ e ∷ more))
     → memory_of ds (members_view (es ++ e ∷ [])) ≡ written (slot_of ds (string_bytes e.0)) (view e.1) (memory_of ds (members_view es))
 put_entry ds es e more h sorted =
     ap (memory_of ds) (members_view-last es e.0 e.1) ∙ put_last ds (string_bytes e.0) (view e.1) (members_view es) h (new_key es e more sorted)
@@ -251,7 +262,8 @@ module _ (ds : List Declaration) (it rest : List Entry) (e : Entry) (w : List �
   memory_more all done m new differ sorted parts h put =
       let whole : all ≡ done ++ e ∷ rest = parts ∙ ap (λ l. done ++ l) front in
       let ordered : IsStrictlySortedBy string_cmp (keys_of (done ++ e ∷ rest)) = subst (λ l. IsStrictlySortedBy string_cmp (keys_of l)) whole sorted in
-      put ∙ ap (λ b. written (slot_of ds b) (view e.1) m) key ∙ ap (written (slot_of ds (string_bytes e.0)) (view e.1)) h ∙ sym (put_entry ds done e rest differ ordered)
+      put ∙ ap (λ b. written (slot_of ds b) (view e.1) m) key ∙ ap (written (slot_of ds (string_bytes e.0)) (view e.1)) h
+          ∙ sym (put_entry ds done e rest differ ordered)
 
 zero_elements : (n : ℕ) → elements_of n no_items ≡ replicate n (pos 0)
 zero_elements zero = refl

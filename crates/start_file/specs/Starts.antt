@@ -1,5 +1,6 @@
 -- The starts that a file gives for a program, or the first refusal.
-use Rattle.std.specs.Prelude.{◌≡◌, ℕ, ◌+◌, ◌<◌, ℤ, ◌||◌, ◌&&◌, ◌==◌, if◌then◌else◌, nat_lt, Bool, List, [], ◌∷◌, All, length, Option, None, Some, Result, Ok, Err, codes, IsUtf8}
+use Rattle.std.specs.Prelude.{◌≡◌, ℕ, ◌+◌, ◌<◌, ℤ, ◌||◌, ◌&&◌, ◌==◌, if◌then◌else◌, nat_lt, Bool, List, [], ◌∷◌, All, length, Option, None, Some, Result, Ok}
+use Rattle.std.specs.Prelude.{Err, codes, IsUtf8}
 use Rattle.std.specs.Str.{bytes_eq}
 use Rattle.toml.specs.Data.{Data, Items, no_items, item, Members, get_member, array, table}
 use Rattle.toml.specs.Parse.{parse_document}

@@ -21,7 +21,8 @@ Takes-more bytes (o ∷ ws) rest n h some few =
     (h.0, (h.1.0, h.1.1, h.1.2, h.1.3, Takes-more (drop h.1.0 bytes) ws rest n h.1.4 some few))
 
 -- the pieces of one log after those of another
-pub SendsAll-append : (ps : List (List ℕ)) (a : List Offered) (qs : List (List ℕ)) (b : List Offered) → SendsAll ps a → SendsAll qs b → SendsAll (ps ++ qs) (a ++ b)
+pub SendsAll-append : (ps : List (List ℕ)) (a : List Offered) (qs : List (List ℕ)) (b : List Offered) → SendsAll ps a → SendsAll qs b
+    → SendsAll (ps ++ qs) (a ++ b)
 SendsAll-append [] a qs b e h = subst (λ l. SendsAll qs (l ++ b)) (sym e) h
 SendsAll-append (p ∷ ps) a qs b g h =
     (g.0, g.1 ++ b, ap (λ l. l ++ b) g.2 ∙ append_assoc g.0 g.1 b, g.3, SendsAll-append ps g.1 qs b g.4 h)

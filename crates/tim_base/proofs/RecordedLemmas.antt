@@ -1,5 +1,6 @@
 -- What is recorded.
-use Rattle.std.proofs.Common.{◌≡◌, ℕ, ◌<◌, ◌≤◌, Bool, true, false, List, [], ◌∷◌, ◌++◌, map, length, drop, refl, sym, ap, ap₂, ◌∙◌, subst, append_assoc, Option, Some, None, arith}
+use Rattle.std.proofs.Common.{◌≡◌, ℕ, ◌<◌, ◌≤◌, Bool, true, false, List, [], ◌∷◌, ◌++◌, map, length, drop, refl, sym, ap, ap₂, ◌∙◌, subst, append_assoc}
+use Rattle.std.proofs.Common.{Option, Some, None, arith}
 use Rattle.std.specs.Prelude.{flat_map, unwrap_or}
 use Rattle.std.specs.List.{All, concat}
 use Rattle.std.specs.Io.KnownBytes.{Appends}
@@ -72,14 +73,17 @@ sent_by (p ∷ ps) log h all =
     h.2 ∙ ap₂ (λ x l. x ++ l) (sent_once p h.0 h.3 (All-front h.0 h.1 each)) (sent_by ps h.1 h.4 (All-back h.0 h.1 each))
 
 -- where the record is whole the pieces make up the text that was taken
-joined : (old new : List Offered) (pieces : List (List ℕ)) (text : List ℕ) → new ≡ old ++ writes_of pieces → taken_by new ≡ taken_by old ++ text → concat pieces ≡ text
+joined : (old new : List Offered) (pieces : List (List ℕ)) (text : List ℕ) → new ≡ old ++ writes_of pieces
+    → taken_by new ≡ taken_by old ++ text → concat pieces ≡ text
 joined old new pieces text e h =
     sym (taken-writes_of pieces)
     ∙ append_cancel_left (taken_by old) (taken_by (writes_of pieces)) text (sym (flat_map-append taken_of old (writes_of pieces)) ∙ ap taken_by (sym e) ∙ h)
 
 -- what a record grows by where pieces are sent and make up a text
-pub records : (w w' : Bool) (old new : List Offered) (pieces : List (List ℕ)) (text : List ℕ) (more : List Offered) → HasSent (told_if w old) (told_if w' new) pieces
-    → All TakesAll new → Appends (Some (taken_by old)) (Some (taken_by new)) text → (concat pieces ≡ text → writes_of pieces ≡ more) → Grows (told_if w old) (told_if w' new) more
+pub records : (w w' : Bool) (old new : List Offered) (pieces : List (List ℕ)) (text : List ℕ) (more : List Offered)
+    → HasSent (told_if w old) (told_if w' new) pieces
+    → All TakesAll new → Appends (Some (taken_by old)) (Some (taken_by new)) text → (concat pieces ≡ text → writes_of pieces ≡ more)
+    → Grows (told_if w old) (told_if w' new) more
 records w false old new pieces text more h all t f = tt
 records false true old new pieces text more h all t f = absurd h.grows
 records true true old new pieces text more h all t f =

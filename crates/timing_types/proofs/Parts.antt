@@ -5,7 +5,8 @@ use Rattle.mit_syntax.specs.declared.ast.Expr.{Expr}
 use Rattle.mit_syntax.specs.Expression.{expression_of}
 use Rattle.mit_syntax.specs.declared.ast.Command.{Command}
 use Rattle.mit_syntax.specs.declared.ast.Form.{Form, While as DWhile, If as DIf, Mitigate as DMitigate}
-use Rattle.mit_syntax.specs.declared.ast.Form.{Skip as FSkip, Assign as FAssign, Put as FPut, Sleep as FSleep, If' as FIf, While' as FWhile, Mitigate' as FMitigate}
+use Rattle.mit_syntax.specs.declared.ast.Form.{Skip as FSkip, Assign as FAssign, Put as FPut, Sleep as FSleep, If' as FIf, While' as FWhile}
+use Rattle.mit_syntax.specs.declared.ast.Form.{Mitigate' as FMitigate}
 use Rattle.mit_syntax.specs.Todo.{Done, If, While, Mitigate}
 use Rattle.mit_syntax.specs.Plan.{Written, Plan, form_plan, list_plan, count, form_count, plan-If, plan-While, plan-Mitigate}
 
@@ -30,10 +31,12 @@ pub if_count : (f : Form) (e : Expr) (v u : Vec Command Global) (a b : List Comm
     (w : Written) → form_count f w ≡ 1 + count (list_plan a) + count (list_plan b)
 if_count f e v u a b is ha hb w = let h = ap count (if_parts f e v u a b is ha hb w Done) in omega (arith, h)
 
-pub while_count : (f : Form) (e : Expr) (v : Vec Command Global) (a : List Command) → f ≡ DWhile e v → a ≡ v.items → (w : Written) → form_count f w ≡ 1 + count (list_plan a)
+pub while_count : (f : Form) (e : Expr) (v : Vec Command Global) (a : List Command) → f ≡ DWhile e v → a ≡ v.items → (w : Written)
+    → form_count f w ≡ 1 + count (list_plan a)
 while_count f e v a is ha w = let h = ap count (while_parts f e v a is ha w Done) in omega (arith, h)
 
-pub mitigate_count : (f : Form) (k : ℕ) (e : Expr) (l : Option Label) (v : Vec Command Global) (a : List Command) → f ≡ DMitigate k e l v → a ≡ v.items → (w : Written) → form_count f w ≡ 1 + count (list_plan a)
+pub mitigate_count : (f : Form) (k : ℕ) (e : Expr) (l : Option Label) (v : Vec Command Global) (a : List Command) → f ≡ DMitigate k e l v → a ≡ v.items
+    → (w : Written) → form_count f w ≡ 1 + count (list_plan a)
 mitigate_count f k e l v a is ha w = let h = ap count (mitigate_parts f k e l v a is ha w Done) in omega (arith, h)
 
 -- a command, and then the rest

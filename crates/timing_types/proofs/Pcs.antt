@@ -55,7 +55,8 @@ module _ (lat : Lattice) (g : ℕ → ℕ) where
         let cb = contexts lat g b inner in
         let cp = contexts lat g p pc in
         let s1 : all ≡ pre ++ (ca ++ ((cb ++ cp) ++ post)) = is ∙ ap (λ z. pre ++ z) (append_assoc ca (cb ++ cp) post) in
-        let s2 : all ≡ (pre ++ ca) ++ (cb ++ (cp ++ post)) = s1 ∙ ap (λ z. pre ++ (ca ++ z)) (append_assoc cb cp post) ∙ sym (append_assoc pre ca (cb ++ (cp ++ post))) in
+        let s2 : all ≡ (pre ++ ca) ++ (cb ++ (cp ++ post)) =
+            s1 ∙ ap (λ z. pre ++ (ca ++ z)) (append_assoc cb cp post) ∙ sym (append_assoc pre ca (cb ++ (cp ++ post))) in
         let s3 : all ≡ ((pre ++ ca) ++ cb) ++ (cp ++ post) = s2 ∙ sym (append_assoc (pre ++ ca) cb (cp ++ post)) in
         let n1 = longer pre ca k (mitigates a) len (length_contexts a inner) in
         let n2 = longer (pre ++ ca) cb (k + mitigates a) (mitigates b) n1 (length_contexts b inner) in (
@@ -83,7 +84,8 @@ module _ (lat : Lattice) (g : ℕ → ℕ) where
         let n0 = longer pre (own ∷ []) k 1 len refl in
         let n1 = longer (pre ++ own ∷ []) cc' (k + 1) (mitigates c) n0 (length_contexts c pc) in
         let at : j ≡ length pre = num.0 ∙ sym len in (
-          ap (λ z. label_at bottom z j) s0 ∙ ap (λ z. label_at bottom (pre ++ (own ∷ ((cc' ++ cp) ++ post))) z) at ∙ ap (λ z. z.number) (get_or-append_seam pre own ((cc' ++ cp) ++ post) low),
+          ap (λ z. label_at bottom z j) s0 ∙ ap (λ z. label_at bottom (pre ++ (own ∷ ((cc' ++ cp) ++ post))) z) at
+              ∙ ap (λ z. z.number) (get_or-append_seam pre own ((cc' ++ cp) ++ post) low),
           has_contexts c (i + 1) (k + 1) pc (pre ++ own ∷ []) (cp ++ post) num.1 n0 s1,
           has_contexts p (i + 1 + count c) (k + 1 + mitigates c) pc ((pre ++ own ∷ []) ++ cc') post num.2 n1 s2,
         )

@@ -29,10 +29,12 @@ module _ (lat : Lattice) (g : ℕ → ℕ) (ms : ℕ → Marks) (ls : ℕ → �
   moved a n n' pc pc' t t' end h1 h2 h3 h = subst (λ z. Walked a n' pc' z end) h3 (subst (λ z. Walked a n' z t end) h2 (subst (λ z. Walked a z pc t end) h1 h))
 
   moved_broken : (a : Plan) (n n' pc pc' t t' : ℕ) (r : TypeFault) → n ≡ n' → pc ≡ pc' → t ≡ t' → broken_at a n pc t ≡ Some r → broken_at a n' pc' t' ≡ Some r
-  moved_broken a n n' pc pc' t t' r h1 h2 h3 h = subst (λ z. broken_at a n' pc' z ≡ Some r) h3 (subst (λ z. broken_at a n' z t ≡ Some r) h2 (subst (λ z. broken_at a z pc t ≡ Some r) h1 h))
+  moved_broken a n n' pc pc' t t' r h1 h2 h3 h =
+      subst (λ z. broken_at a n' pc' z ≡ Some r) h3 (subst (λ z. broken_at a n' z t ≡ Some r) h2 (subst (λ z. broken_at a z pc t ≡ Some r) h1 h))
 
   moved_end : (a : Plan) (n n' pc pc' t t' end : ℕ) → n ≡ n' → pc ≡ pc' → t ≡ t' → end ≡ walk_end lat g (T a n) pc t → end ≡ walk_end lat g (T a n') pc' t'
-  moved_end a n n' pc pc' t t' end h1 h2 h3 h = h ∙ ap (λ z. walk_end lat g (T a z) pc t) h1 ∙ ap (λ z. walk_end lat g (T a n') z t) h2 ∙ ap (λ z. walk_end lat g (T a n') pc' z) h3
+  moved_end a n n' pc pc' t t' end h1 h2 h3 h = h ∙ ap (λ z. walk_end lat g (T a z) pc t) h1 ∙ ap (λ z. walk_end lat g (T a n') z t) h2
+      ∙ ap (λ z. walk_end lat g (T a n') pc' z) h3
 
   -- the first condition holds
   first_holds : (c : Condition) (cs : List Condition) → Flows lat c.have c.allowed → first_broken lat (c ∷ cs) ≡ first_broken lat cs
@@ -79,12 +81,14 @@ module _ (lat : Lattice) (g : ℕ → ℕ) (ms : ℕ → Marks) (ls : ℕ → �
         walk_end lat g (T q i) pc t ≡ walk_end lat g (T rest k) pc end
     while_ends q a rest k inner start end hq hi hs hk ha =
         let one = moved_end a (i + 1) (i + 1) inner I start Z end refl (inner_is inner hi) (loop_is start hs) ha in
-        ap (λ z. walk_end lat g (T z i) pc t) hq ∙ ap (λ z. walk_end lat g (T rest z) pc (walk_end lat g (T a (i + 1)) I Z)) (sym hk) ∙ ap (walk_end lat g (T rest k) pc) (sym one)
+        ap (λ z. walk_end lat g (T z i) pc t) hq ∙ ap (λ z. walk_end lat g (T rest z) pc (walk_end lat g (T a (i + 1)) I Z)) (sym hk)
+            ∙ ap (walk_end lat g (T rest k) pc) (sym one)
 
     pub mitigate_ends : (q a rest : Plan) (j k start : ℕ) (l : Option Label) → q ≡ Mitigate w j l e a rest → start ≡ lat.join (lat.join t le) er →
         k ≡ i + 1 + count a → walk_end lat g (T q i) pc t ≡ walk_end lat g (T rest k) pc start
     mitigate_ends q a rest j k start l hq hs hk =
-        ap (λ z. walk_end lat g (T z i) pc t) hq ∙ ap (λ z. walk_end lat g (T rest z) pc S) (sym hk) ∙ ap (walk_end lat g (T rest k) pc) (sym (start_is start hs))
+        ap (λ z. walk_end lat g (T z i) pc t) hq ∙ ap (λ z. walk_end lat g (T rest z) pc S) (sym hk)
+            ∙ ap (walk_end lat g (T rest k) pc) (sym (start_is start hs))
 
     -- the same where its own condition holds: h is `pc | li`, and ew the write label
     module _ (li ew h : ℕ) (hli : li ≡ index_label lat g e) (hew : ew ≡ (ms i).ew) (hh : h ≡ lat.join pc li) (low : Flows lat h ew) where
@@ -110,17 +114,20 @@ module _ (lat : Lattice) (g : ℕ → ℕ) (ms : ℕ → Marks) (ls : ℕ → �
         other_moved : (eb : ℕ) → n ≡ i + 1 + count a → Walked b n inner start eb → Walked b (i + 1 + count a) I S eb
         other_moved eb hn = moved b n (i + 1 + count a) inner I start S eb hn (inner_is inner hi) (start_is start hs)
 
-        pub if_passes : (k ea eb end : ℕ) → n ≡ i + 1 + count a → k ≡ n + count b → Walked a (i + 1) inner start ea → Walked b n inner start eb → end ≡ lat.join ea eb →
+        pub if_passes : (k ea eb end : ℕ) → n ≡ i + 1 + count a → k ≡ n + count b → Walked a (i + 1) inner start ea
+            → Walked b n inner start eb → end ≡ lat.join ea eb →
             Passes lat g pc (T q i) t (T rest k) end
         if_passes k ea eb end hn hk ha hb he =
             let one = one_moved ea ha in
             let other = other_moved eb hn hb in
-            let j : lat.join (walk_end lat g A I S) (walk_end lat g B I S) ≡ end = ap (λ z. lat.join z (walk_end lat g B I S)) one.0 ∙ ap (lat.join ea) other.0 ∙ sym he in
+            let j : lat.join (walk_end lat g A I S) (walk_end lat g B I S) ≡ end =
+                ap (λ z. lat.join z (walk_end lat g B I S)) one.0 ∙ ap (lat.join ea) other.0 ∙ sym he in
             let last : i + 1 + count a + count b ≡ k = ap (λ z. z + count b) (sym hn) ∙ sym hk in (
               ap (λ z. walk_end lat g (T z i) pc t) hq ∙ ap (walk_end lat g R pc) j ∙ ap (λ z. walk_end lat g (T rest z) pc end) last,
               ap (λ z. first_broken lat (conditions lat g (T z i) pc t)) hq
                   ∙ first_holds (writes RIf m (here lat g pc e)) (conditions lat g A I S ++ (conditions lat g B I S ++ after_both)) f
-                  ∙ broken_none lat (conditions lat g A I S) (conditions lat g B I S ++ after_both) one.1 ∙ broken_none lat (conditions lat g B I S) after_both other.1
+                  ∙ broken_none lat (conditions lat g A I S) (conditions lat g B I S ++ after_both) one.1
+                      ∙ broken_none lat (conditions lat g B I S) after_both other.1
                   ∙ ap (λ z. first_broken lat (conditions lat g R pc z)) j ∙ ap (λ z. first_broken lat (conditions lat g (T rest z) pc end)) last,
             )
 
@@ -128,7 +135,8 @@ module _ (lat : Lattice) (g : ℕ → ℕ) (ms : ℕ → Marks) (ls : ℕ → �
         if_broken_one r h1 =
             ap (λ z. first_broken lat (conditions lat g (T z i) pc t)) hq
             ∙ first_holds (writes RIf m (here lat g pc e)) (conditions lat g A I S ++ (conditions lat g B I S ++ after_both)) f
-            ∙ broken_some lat (conditions lat g A I S) (conditions lat g B I S ++ after_both) r (moved_broken a (i + 1) (i + 1) inner I start S r refl (inner_is inner hi) (start_is start hs) h1)
+            ∙ broken_some lat (conditions lat g A I S) (conditions lat g B I S ++ after_both) r
+                (moved_broken a (i + 1) (i + 1) inner I start S r refl (inner_is inner hi) (start_is start hs) h1)
 
         pub if_broken_other : (ea : ℕ) (r : TypeFault) → n ≡ i + 1 + count a → Walked a (i + 1) inner start ea → broken_at b n inner start ≡ Some r →
             first_broken lat (conditions lat g (T q i) pc t) ≡ Some r
@@ -136,7 +144,8 @@ module _ (lat : Lattice) (g : ℕ → ℕ) (ms : ℕ → Marks) (ls : ℕ → �
             ap (λ z. first_broken lat (conditions lat g (T z i) pc t)) hq
             ∙ first_holds (writes RIf m (here lat g pc e)) (conditions lat g A I S ++ (conditions lat g B I S ++ after_both)) f
             ∙ broken_none lat (conditions lat g A I S) (conditions lat g B I S ++ after_both) (one_moved ea ha).1
-            ∙ broken_some lat (conditions lat g B I S) after_both r (moved_broken b n (i + 1 + count a) inner I start S r hn (inner_is inner hi) (start_is start hs) h1)
+            ∙ broken_some lat (conditions lat g B I S) after_both r
+                (moved_broken b n (i + 1 + count a) inner I start S r hn (inner_is inner hi) (start_is start hs) h1)
 
       module _ (q a rest : Plan) (inner start stay : ℕ) (hq : q ≡ While w e a rest) (hi : inner ≡ lat.join pc le) (hs : start ≡ lat.join (lat.join le t) er)
           (hstay : stay ≡ walk_end lat g (T a (i + 1)) inner start) where
@@ -159,14 +168,16 @@ module _ (lat : Lattice) (g : ℕ → ℕ) (ms : ℕ → Marks) (ls : ℕ → �
               ap (λ z. first_broken lat (conditions lat g (T z i) pc t)) hq
                   ∙ first_holds (writes RWhile m (here lat g pc e)) (conditions lat g C I Y ++ conditions lat g X pc Y) f
                   ∙ broken_none lat (conditions lat g C I Y) (conditions lat g X pc Y) body.1
-                  ∙ ap (λ z. first_broken lat (conditions lat g X pc z)) (sym stay_is) ∙ ap (λ z. first_broken lat (conditions lat g (T rest z) pc stay)) (sym hk),
+                  ∙ ap (λ z. first_broken lat (conditions lat g X pc z)) (sym stay_is)
+                      ∙ ap (λ z. first_broken lat (conditions lat g (T rest z) pc stay)) (sym hk),
             )
 
         pub while_broken : (r : TypeFault) → broken_at a (i + 1) inner stay ≡ Some r → first_broken lat (conditions lat g (T q i) pc t) ≡ Some r
         while_broken r h1 =
             ap (λ z. first_broken lat (conditions lat g (T z i) pc t)) hq
             ∙ first_holds (writes RWhile m (here lat g pc e)) (conditions lat g C I Y ++ conditions lat g X pc Y) f
-            ∙ broken_some lat (conditions lat g C I Y) (conditions lat g X pc Y) r (moved_broken a (i + 1) (i + 1) inner I stay Y r refl (inner_is inner hi) stay_is h1)
+            ∙ broken_some lat (conditions lat g C I Y) (conditions lat g X pc Y) r
+                (moved_broken a (i + 1) (i + 1) inner I stay Y r refl (inner_is inner hi) stay_is h1)
 
       module _ (q a rest : Plan) (j : ℕ) (l : Option Label) (start : ℕ) (hq : q ≡ Mitigate w j l e a rest) (hs : start ≡ lat.join (lat.join t le) er) where
         abbrev D : Tree
@@ -184,7 +195,8 @@ module _ (lat : Lattice) (g : ℕ → ℕ) (ms : ℕ → Marks) (ls : ℕ → �
         part_moved : (end : ℕ) → Walked a (i + 1) pc start end → Walked a (i + 1) pc S end
         part_moved end = moved a (i + 1) (i + 1) pc pc start S end refl refl (start_is start hs)
 
-        pub mitigate_passes : (k end lv : ℕ) → k ≡ i + 1 + count a → Walked a (i + 1) pc start end → lv ≡ ls j → Flows lat end lv → Passes lat g pc (T q i) t (T rest k) start
+        pub mitigate_passes : (k end lv : ℕ) → k ≡ i + 1 + count a → Walked a (i + 1) pc start end → lv ≡ ls j → Flows lat end lv
+            → Passes lat g pc (T q i) t (T rest k) start
         mitigate_passes k end lv hk ha hl hf =
             let body = part_moved end ha in
             let below : Flows lat (walk_end lat g D pc S) (ls j) = subst (λ z. Flows lat z (ls j)) (sym body.0) (subst (λ z. Flows lat end z) hl hf) in
@@ -206,7 +218,8 @@ module _ (lat : Lattice) (g : ℕ → ℕ) (ms : ℕ → Marks) (ls : ℕ → �
             r ≡ Refused RMtg w.pos (record { number = end }) (record { number = lv }) → first_broken lat (conditions lat g (T q i) pc t) ≡ Some r
         mitigate_high end lv r ha hl high is =
             let body = part_moved end ha in
-            let above : lat.flows (walk_end lat g D pc S) (ls j) ≡ false = subst (λ z. lat.flows z (ls j) ≡ false) (sym body.0) (subst (λ z. lat.flows end z ≡ false) hl high) in
+            let above : lat.flows (walk_end lat g D pc S) (ls j) ≡ false =
+                subst (λ z. lat.flows z (ls j) ≡ false) (sym body.0) (subst (λ z. lat.flows end z ≡ false) hl high) in
             ap (λ z. first_broken lat (conditions lat g (T z i) pc t)) hq
             ∙ first_holds (writes RMtg m (here lat g pc e)) (conditions lat g D pc S ++ tail) f ∙ broken_none lat (conditions lat g D pc S) tail body.1
             ∙ cond-false (lat.flows (walk_end lat g D pc S) (ls j)) (first_broken lat (conditions lat g U pc S)) (Some (told last)) above

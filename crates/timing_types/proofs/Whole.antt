@@ -29,11 +29,13 @@ module _ (q : LabelledProgram) where
       let plan = plan_of q.program in
       record {
         fit = ap length is ∙ length_contexts lat g plan o.bottom;
-        have = has_contexts lat g (marks_of o q.labels) (level_of o q.labels) o.bottom cs plan 0 0 o.bottom [] [] valid.numbered refl (is ∙ sym (append-nil (contexts lat g plan o.bottom)));
+        have = has_contexts lat g (marks_of o q.labels) (level_of o q.labels) o.bottom cs plan 0 0 o.bottom [] [] valid.numbered refl
+            (is ∙ sym (append-nil (contexts lat g plan o.bottom)));
       }
 
   -- as code reads the parts of a labelled program
-  module _ (s s' : Syntax) (o : Order) (l : Labelling) (cs : List Command) (b : Label) (hs : s ≡ q.program) (hs' : s' ≡ q.program) (ho : o ≡ s.order) (hl : l ≡ q.labels)
+  module _ (s s' : Syntax) (o : Order) (l : Labelling) (cs : List Command) (b : Label) (hs : s ≡ q.program) (hs' : s' ≡ q.program)
+      (ho : o ≡ s.order) (hl : l ≡ q.labels)
       (hc : list_plan cs ≡ plan_of s') (hb : b.number ≡ o.bottom) where
     order_is : o ≡ q.program.order
     order_is = ho ∙ ap (λ (z : Syntax). z.order) hs
@@ -54,13 +56,16 @@ module _ (q : LabelledProgram) where
     pub unbroken : (end : ℕ) → Passes (lattice_of o) (variable_of o l) b.number (tree_of o l (list_plan cs) 0) b.number Done end → first_broken_of q ≡ None
     unbroken end h = sym broken_is ∙ h.1
 
-    pub walked : (end : ℕ) → IsLattice (lattice_of o) → Passes (lattice_of o) (variable_of o l) b.number (tree_of o l (list_plan cs) 0) b.number Done end → HasType q
+    pub walked : (end : ℕ) → IsLattice (lattice_of o) → Passes (lattice_of o) (variable_of o l) b.number (tree_of o l (list_plan cs) 0) b.number Done end
+        → HasType q
     walked end ll h = has_type (subst (λ z. IsLattice (lattice_of z)) order_is ll) (unbroken end h)
 
-    pub refused : (r : TypeFault) → IsLattice (lattice_of o) → broken_of o l (list_plan cs) 0 b.number b.number ≡ Some r → (first_broken_of q ≡ Some r) × (HasType q → ⊥)
+    pub refused : (r : TypeFault) → IsLattice (lattice_of o) → broken_of o l (list_plan cs) 0 b.number b.number ≡ Some r
+        → (first_broken_of q ≡ Some r) × (HasType q → ⊥)
     refused r ll h =
         let e = sym broken_is ∙ h in
-        (e, λ ty. none_or_some (first_broken_of q) r (not_broken (order_of q) (subst (λ z. IsLattice (lattice_of z)) order_is ll) (labels_of q) (placed_of q) ty) e)
+        (e, λ ty. none_or_some (first_broken_of q) r
+            (not_broken (order_of q) (subst (λ z. IsLattice (lattice_of z)) order_is ll) (labels_of q) (placed_of q) ty) e)
 
     pub collected : (none pcs : List Label) → none ≡ [] → IsValid s' → pcs ≡ none ++ contexts_of o l (list_plan cs) b → AreContexts q pcs
     collected none pcs hn valid h =

@@ -50,7 +50,8 @@ cut_last = (
   ),
 )
 
-cut_sleep : CutBefore (lexeme (codes "sleep") (Key Sleep) ∷ white 32 ∷ lexeme (codes "h") Name ∷ white 32 ∷ lexeme (codes "}") (SignKind RightBrace) ∷ lexeme (codes ";") (SignKind Semicolon) ∷ white 10 ∷ last) []
+cut_sleep : CutBefore (lexeme (codes "sleep") (Key Sleep) ∷ white 32 ∷ lexeme (codes "h") Name ∷ white 32 ∷ lexeme (codes "}") (SignKind RightBrace) ∷ lexeme
+    (codes ";") (SignKind Semicolon) ∷ white 10 ∷ last) []
 cut_sleep = (
   closed_piece (codes "sleep") (Key Sleep) _ refl refl,
   (
@@ -59,7 +60,8 @@ cut_sleep = (
       closed_piece (codes "h") Name _ name_h refl,
       (
         refl,
-        (closed_piece (codes "}") (SignKind RightBrace) _ refl (refl, refl), (closed_piece (codes ";") (SignKind Semicolon) _ refl (refl, refl), (refl, cut_last))),
+        (closed_piece (codes "}") (SignKind RightBrace) _ refl (refl, refl),
+            (closed_piece (codes ";") (SignKind Semicolon) _ refl (refl, refl), (refl, cut_last))),
       ),
     ),
   ),

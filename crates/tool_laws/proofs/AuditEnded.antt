@@ -22,7 +22,8 @@ asked = audit program_file starts_file (codes "L") Part budget
 pub call_ends : HasOneAnswer → (content : Content) (before now : List ℕ → ℕ) (old new : Option (List ℕ)) (s : Status) (words : List (List ℕ)) (Fails : Type 0)
     → words ≡ audit_words → HoldsProgram (content program_file) → HoldsStarts (content starts_file)
     → (Rose (before program_file) (now program_file) → ⊥) → (Rose (before starts_file) (now starts_file) → ⊥) → (Fails → ⊥) → (s ≡ status.WriteFault → Fails)
-    → IfSome (command_of words) (λ a. EndsBy old new (Before content a) (IsAnswer (λ name. Rose (before name) (now name)) content a) s) → Ended audit_answer old new s
+    → IfSome (command_of words) (λ a. EndsBy old new (Before content a) (IsAnswer (λ name. Rose (before name) (now name)) content a) s)
+    → Ended audit_answer old new s
 call_ends law content before now old new s words Fails e h k n m w write a =
     let P : Asked → Type 0 = λ x. EndsBy old new (Before content x) (IsAnswer (λ name. Rose (before name) (now name)) content x) s in
     let N : List ℕ → Type 0 = λ name. Rose (before name) (now name) → ⊥ in

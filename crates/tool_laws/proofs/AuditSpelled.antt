@@ -1,7 +1,9 @@
 -- The tokens spell the program.
 use Rattle.std.proofs.Common.{refl, pos, codes, arith}
 use Rattle.mit_parser.specs.Words.{told}
-use Rattle.mit_parser.specs.Tree.{number_atom, name_atom, no_index, term_of, no_factor, sum_of, no_addend, plain, Whole, and_name, no_marks, CommandTree, assign_of, sleep_of, mitigate_of, block_of, commands_of, no_more, and_more, no_header, label_of, scalar_of, DeclarationTree, declaration_of, no_declarations, and_declaration, ProgramTree, Atom}
+use Rattle.mit_parser.specs.Tree.{number_atom, name_atom, no_index, term_of, no_factor, sum_of, no_addend, plain, Whole, and_name, no_marks, CommandTree}
+use Rattle.mit_parser.specs.Tree.{assign_of, sleep_of, mitigate_of, block_of, commands_of, no_more, and_more, no_header, label_of, scalar_of, DeclarationTree}
+use Rattle.mit_parser.specs.Tree.{declaration_of, no_declarations, and_declaration, ProgramTree, Atom}
 use Rattle.mit_parser.specs.Limits.{CommandsWithin}
 use Rattle.mit_parser.specs.Spells.{Spells, Resolves, IsProgram}
 use Rattle.mit_parser.proofs.NamedWhole.{named_of}

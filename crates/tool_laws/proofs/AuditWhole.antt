@@ -54,13 +54,16 @@ eight = refl
 goes_on : (q : LabelledProgram) → Types program q → GoesOn q
 goes_on q y = subst GoesOn (one_typed program labelled q two_order types y) (omega (arith, eight), can_be_audited)
 
-pub can_be_done : (content : Content) (file starts : List ℕ) → HoldsProgram (content file) → HoldsStarts (content starts) → CanBeDone content (asked file starts)
+pub can_be_done : (content : Content) (file starts : List ℕ) → HoldsProgram (content file) → HoldsStarts (content starts)
+    → CanBeDone content (asked file starts)
 can_be_done content file starts h k = record {
   known = known content file starts h k;
-  goes = (program, reads (content file) h, Some low, observes, (typable, λ q y. let g = goes_on q y in (g.0, (both_starts, starts_are (content starts) k, g.1))));
+  goes = (program, reads (content file) h, Some low, observes,
+      (typable, λ q y. let g = goes_on q y in (g.0, (both_starts, starts_are (content starts) k, g.1))));
 }
 
-pub has_answer : (Rises : List ℕ → Type 0) (content : Content) (file starts : List ℕ) → HoldsProgram (content file) → HoldsStarts (content starts) → IsAnswer Rises content (asked file starts) Done audit_answer
+pub has_answer : (Rises : List ℕ → Type 0) (content : Content) (file starts : List ℕ) → HoldsProgram (content file) → HoldsStarts (content starts)
+    → IsAnswer Rises content (asked file starts) Done audit_answer
 has_answer Rises content file starts h k =
     inr (
       program,

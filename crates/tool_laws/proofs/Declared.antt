@@ -30,7 +30,8 @@ abbrev labelled : List ℕ → List Piece → List Piece
 labelled label after = lexeme label Name ∷ lexeme (codes ";") (SignKind Semicolon) ∷ white 10 ∷ after
 
 abbrev pub declared : List ℕ → List ℕ → List Piece → List Piece
-declared name label after = lexeme (codes "var") (Key Var) ∷ white 32 ∷ lexeme name Name ∷ white 32 ∷ lexeme (codes ":") (SignKind Colon) ∷ white 32 ∷ labelled label after
+declared name label after = lexeme (codes "var") (Key Var) ∷ white 32 ∷ lexeme name Name ∷ white 32 ∷ lexeme (codes ":") (SignKind Colon) ∷
+    white 32 ∷ labelled label after
 
 cut_labelled : (label : List ℕ) (after : List Piece) → IsName label → CutBefore after [] → CutBefore (labelled label after) []
 cut_labelled label after l cut = (closed_piece label Name _ l refl, (closed_piece (codes ";") (SignKind Semicolon) _ refl (refl, refl), (refl, cut)))

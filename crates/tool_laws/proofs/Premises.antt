@@ -52,7 +52,8 @@ same_low h h' (suc zero) f = refl
 same_low h h' (suc (suc x)) f = refl
 
 -- starts with the same environment agree
-agree : {E : Type 0} (v : Env E) (serves : E → Type 0) (e : E) → serves e → (h h' : ℤ) → Agree v (order_of labelled) serves (labels_of labelled) observer (with_secret e h) (with_secret e h')
+agree : {E : Type 0} (v : Env E) (serves : E → Type 0) (e : E) → serves e → (h h' : ℤ)
+    → Agree v (order_of labelled) serves (labels_of labelled) observer (with_secret e h) (with_secret e h')
 agree v serves e s h h' = record { one = s; other = s; long = refl; low = same_low h h'; parts = λ q l f. refl }
 
 -- what is seen of both is known, and halts

@@ -2,7 +2,8 @@
 use Rattle.std.proofs.Common.{refl, ℕ, pos, codes, arith}
 use Rattle.text_base.specs.declared.pos.Pos.{Pos}
 use Rattle.mit_parser.specs.Words.{told}
-use Rattle.mit_parser.specs.Tree.{number_atom, no_index, term_of, no_factor, sum_of, no_addend, plain, no_marks, CommandTree, assign_of, commands_of, no_more, no_header, label_of, scalar_of, DeclarationTree, declaration_of, no_declarations, and_declaration, ProgramTree}
+use Rattle.mit_parser.specs.Tree.{number_atom, no_index, term_of, no_factor, sum_of, no_addend, plain, no_marks, CommandTree, assign_of, commands_of, no_more}
+use Rattle.mit_parser.specs.Tree.{no_header, label_of, scalar_of, DeclarationTree, declaration_of, no_declarations, and_declaration, ProgramTree}
 use Rattle.mit_parser.specs.Limits.{CommandsWithin}
 use Rattle.mit_parser.specs.Spells.{Spells, Resolves, IsProgram}
 use Rattle.mit_parser.proofs.NamedWhole.{named_of}

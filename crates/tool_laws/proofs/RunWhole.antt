@@ -75,7 +75,8 @@ runs t h =
     let e = sym (tells labels t h) in
     (ap (λ (x : Told). status_at x.end) e, sym (shows labels) ∙ ap (λ (x : Told). text_of labelled None x) e)
 
-pub has_answer : (Rises : List ℕ → Type 0) (content : Content) (file : List ℕ) (t : ℕ) → HoldsText (content file) → 3 ≤ t → IsAnswer Rises content (run file None Flat t None) Done first_answer
+pub has_answer : (Rises : List ℕ → Type 0) (content : Content) (file : List ℕ) (t : ℕ) → HoldsText (content file) → 3 ≤ t
+    → IsAnswer Rises content (run file None Flat t None) Done first_answer
 has_answer Rises content file t h k =
     inr (
       program,
@@ -95,7 +96,8 @@ has_answer Rises content file t h k =
       ),
     )
 
-pub has_one : HasOneAnswer → (content : Content) (before now : List ℕ → ℕ) (file : List ℕ) (t : ℕ) → HoldsText (content file) → 3 ≤ t → (Rose (before file) (now file) → ⊥)
+pub has_one : HasOneAnswer → (content : Content) (before now : List ℕ → ℕ) (file : List ℕ) (t : ℕ) → HoldsText (content file) → 3 ≤ t
+    → (Rose (before file) (now file) → ⊥)
     → (s : Status) (x : List ℕ) → IsAnswer (λ name. Rose (before name) (now name)) content (run file None Flat t None) s x → (s ≡ Done) × (x ≡ first_answer)
 has_one law content before now file t h k n s x a =
     let P : List ℕ → Type 0 = λ name. Rose (before name) (now name) → ⊥ in

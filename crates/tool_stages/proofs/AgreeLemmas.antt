@@ -21,7 +21,8 @@ has_halted true c h = refl
 has_halted false c h = absurd h
 
 pub all_halt : {E : Type 0} (v : Env E) (made : Order → List Touch → E) (p : LabelledProgram) (t : ℕ) (ss : List StartValue)
-    → All (λ s. IsHalted (told_by (run_of v p t (start_of made p.program.order s))).end) ss → Each (Halts v (lowered p).instrs t) (starts_of made p.program.order ss)
+    → All (λ s. IsHalted (told_by (run_of v p t (start_of made p.program.order s))).end) ss
+    → Each (Halts v (lowered p).instrs t) (starts_of made p.program.order ss)
 all_halt {E} v made p t [] h = tt
 all_halt {E} v made p t (s ∷ ss) h =
     let P : StartValue → Type 0 = λ z. IsHalted (told_by (run_of v p t (start_of made p.program.order z))).end in

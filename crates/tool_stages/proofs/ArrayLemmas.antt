@@ -9,20 +9,27 @@ use Rattle.mit_syntax.specs.Program.{Syntax, plan_of}
 use Rattle.mit_syntax.specs.Valid.{IsShaped, AreShaped}
 use Rattle.mit_parser.specs.Words.{Told}
 use Rattle.mit_parser.specs.Operators.{factor_op, addend_op}
-use Rattle.mit_parser.specs.Tree.{Atom, Term, Factors, Sum, Addends, Whole, number_atom, name_atom, paren_atom, no_index, index_of, term_of, no_factor, and_factor, sum_of, no_addend, and_addend, plain, compared, CommandTree, skip_of, assign_of, sleep_of, if_of, while_of, mitigate_of, Block, block_of, ElsePart, no_else, else_of, Commands, commands_of, More, no_more, and_more, no_label, label_of, Shape, scalar_of, array_of as array_shape, declaration_of, Declarations, no_declarations, and_declaration}
+use Rattle.mit_parser.specs.Tree.{Atom, Term, Factors, Sum, Addends, Whole, number_atom, name_atom, paren_atom, no_index, index_of, term_of, no_factor}
+use Rattle.mit_parser.specs.Tree.{and_factor, sum_of, no_addend, and_addend, plain, compared, CommandTree, skip_of, assign_of, sleep_of, if_of, while_of}
+use Rattle.mit_parser.specs.Tree.{mitigate_of, Block, block_of, ElsePart, no_else, else_of, Commands, commands_of, More, no_more, and_more, no_label}
+use Rattle.mit_parser.specs.Tree.{label_of, Shape, scalar_of, array_of as array_shape, declaration_of, Declarations, no_declarations, and_declaration}
 use Rattle.mit_parser.specs.Scope.{Scope, scope, or_else}
-use Rattle.mit_parser.specs.Meaning.{atom_value, term_value, factors_value, sum_value, addends_value, whole_value, next_command, next_block, plan_command, plan_block, plan_else, plan_commands, plan_more}
+use Rattle.mit_parser.specs.Meaning.{atom_value, term_value, factors_value, sum_value, addends_value, whole_value, next_command, next_block, plan_command}
+use Rattle.mit_parser.specs.Meaning.{plan_block, plan_else, plan_commands, plan_more}
 use Rattle.mit_parser.specs.Faults.{shape_label, shape_length, written_label, written_length, decl_of}
-use Rattle.mit_parser.specs.Named.{label_names, declarations_in, AtomNamed, TermNamed, FactorsNamed, SumNamed, AddendsNamed, WholeNamed, CommandNamed, BlockNamed, ElseNamed, CommandsNamed, MoreNamed, ShapeNamed, ShapesNamed}
+use Rattle.mit_parser.specs.Named.{label_names, declarations_in, AtomNamed, TermNamed, FactorsNamed, SumNamed, AddendsNamed, WholeNamed, CommandNamed}
+use Rattle.mit_parser.specs.Named.{BlockNamed, ElseNamed, CommandsNamed, MoreNamed, ShapeNamed, ShapesNamed}
 use Rattle.mit_parser.specs.Spells.{IsProgram}
 use Rattle.timing_types.specs.Arrays.{IsArray, HasArrays, ArraysIn}
 use Rattle.timing_types.specs.Labelling.{Labelling, variable_of, IsKept, IsLabelling}
 use Rattle.timing_types.proofs.Arrays.{array_of}
 
-module _ (sc : Scope) (g : ℕ → ℕ) (shaped : AreShaped sc.declarations) (kept : (x : ℕ) → x < variables sc.declarations → IsKept (cell_at sc.declarations x).label (g x)) where
+module _ (sc : Scope) (g : ℕ → ℕ) (shaped : AreShaped sc.declarations) (kept : (x : ℕ) → x < variables sc.declarations
+    → IsKept (cell_at sc.declarations x).label (g x)) where
   array_named : (w : List ℕ) (a : ℕ × ℕ) → find_array sc.declarations w ≡ Some a
       → IsArray g (or_else (0, 0) (find_array sc.declarations w)).0 (or_else (0, 0) (find_array sc.declarations w)).1
-  array_named w a e = subst (λ (z : Option (ℕ × ℕ)). IsArray g (or_else (0, 0) z).0 (or_else (0, 0) z).1) (sym e) (array_of sc.declarations g shaped kept a.0 a.1 (w, e))
+  array_named w a e = subst (λ (z : Option (ℕ × ℕ)). IsArray g (or_else (0, 0) z).0 (or_else (0, 0) z).1) (sym e)
+      (array_of sc.declarations g shaped kept a.0 a.1 (w, e))
 
   mutual
     arrays_atom : (a : Atom) → AtomNamed sc.declarations a → HasArrays g (atom_value sc a)
@@ -83,7 +90,8 @@ module _ (labels : List (List ℕ)) where
   shaped_all : (t : Declarations) → ShapesNamed labels t → AreShaped (declarations_in labels t)
   shaped_all no_declarations h = All-nil (λ (d : Declaration). IsShaped d.1.label d.1.length)
   shaped_all (and_declaration (declaration_of p w q s u) m) h =
-      All-cons (λ (d : Declaration). IsShaped d.1.label d.1.length) (w, decl_of labels (shape_label s) (shape_length s)) (declarations_in labels m) (shaped_one s h.0) (shaped_all m h.1)
+      All-cons (λ (d : Declaration). IsShaped d.1.label d.1.length) (w, decl_of labels (shape_label s) (shape_length s)) (declarations_in labels m)
+          (shaped_one s h.0) (shaped_all m h.1)
 
 pub spelled_arrays : (words : List Told) (p : Syntax) (l : Labelling) → IsProgram words p → IsLabelling p l → ArraysIn (variable_of p.order l) (plan_of p)
 spelled_arrays words p l spelled labelling =
@@ -92,4 +100,5 @@ spelled_arrays words p l spelled labelling =
     let labels = label_names t.header in
     let shaped = subst AreShaped (sym r.declarations) (shaped_all labels t.declarations r.named.shapes) in
     let uses = subst (λ z. CommandsNamed (scope labels z) t.commands) (sym r.declarations) r.named.uses in
-    subst (λ z. ArraysIn (variable_of p.order l) z) (sym r.plan) (arrays_commands (scope labels p.declarations) (variable_of p.order l) shaped labelling.declared t.commands 0 uses)
+    subst (λ z. ArraysIn (variable_of p.order l) z) (sym r.plan)
+        (arrays_commands (scope labels p.declarations) (variable_of p.order l) shaped labelling.declared t.commands 0 uses)

@@ -13,7 +13,8 @@ use Rattle.tool_texts.proofs.EndLemmas.{broke_map}
 use Rattle.tool_stages.specs.Stages.{Rechecks, CertificateStops}
 use Rattle.tool_stages.proofs.StopLemmas.{certificate_rise}
 
-pub rechecks : HeldLabellingTypes → (p : Syntax) (q : LabelledProgram) (bytes : List ℕ) (c : Option (Option (List ℕ))) → IsValid p → q.program ≡ p → IsCertificate q bytes → length bytes ≤ limit → IsTold c bytes → Rechecks c p q
+pub rechecks : HeldLabellingTypes → (p : Syntax) (q : LabelledProgram) (bytes : List ℕ) (c : Option (Option (List ℕ))) → IsValid p → q.program ≡ p
+    → IsCertificate q bytes → length bytes ≤ limit → IsTold c bytes → Rechecks c p q
 rechecks law p q bytes c valid is certifies short are =
     let held = law q bytes (subst IsValid (sym is) valid) certifies in
     record {
@@ -22,6 +23,8 @@ rechecks law p q bytes c valid is certifies short are =
       typed = held.1;
     }
 
-pub certificate_stop_of : (R : Type 0) (c : Option (Option (List ℕ))) (p : Syntax) (e : Stop) → IsStop (CertificateStops ⊥ c p) e → IsStop (CertificateStops R c p) e
+pub certificate_stop_of : (R : Type 0) (c : Option (Option (List ℕ))) (p : Syntax) (e : Stop) → IsStop (CertificateStops ⊥ c p) e
+    → IsStop (CertificateStops R c p) e
 certificate_stop_of R c p e h =
-    broke_map (CertificateStops ⊥ c p) (CertificateStops R c p) (status_of e) (stop_text e) (certificate_rise ⊥ R c p (status_of e) (stop_text e) (λ n. absurd n)) h
+    broke_map (CertificateStops ⊥ c p) (CertificateStops R c p) (status_of e) (stop_text e)
+        (certificate_rise ⊥ R c p (status_of e) (stop_text e) (λ n. absurd n)) h

@@ -7,7 +7,8 @@ use Rattle.mit_syntax.specs.Program.{Syntax}
 use Rattle.timing_types.specs.Labelled.{LabelledProgram}
 use Rattle.label_code.specs.Shaped.{Code}
 use Rattle.tool_texts.specs.declared.status.Status.{Status}
-use Rattle.tool_texts.specs.declared.status.Status.TheVariants.{Done, Refused, Syntax as BadSyntax, Starts, Usage, ReadFault, WriteFault, TooLong, Budget, Disagree, Unfinished, Memory, Rejected}
+use Rattle.tool_texts.specs.declared.status.Status.TheVariants.{Done, Refused, Syntax as BadSyntax, Starts, Usage, ReadFault, WriteFault, TooLong, Budget}
+use Rattle.tool_texts.specs.declared.status.Status.TheVariants.{Disagree, Unfinished, Memory, Rejected}
 use Rattle.tool_texts.specs.declared.stop.Stop.{Stop}
 use Rattle.tool_texts.specs.Texts.{File, program as program_file, certificate as certificate_file}
 use Rattle.tool_texts.specs.Ends.{Broke, IsStop, status_of, stop_text, told_status}
@@ -61,7 +62,8 @@ refused_early = record { early = refl; no_fault = λ e. cc }
 
 -- ---- stages
 
-file_early : (R : Type 0) (f : File) (c : Option (Option (List ℕ))) (Faulty : List ℕ → Type 0) (v s : Status) (t : List ℕ) → IsEarly v → FileStops R f c Faulty v s t → IsEarly s
+file_early : (R : Type 0) (f : File) (c : Option (Option (List ℕ))) (Faulty : List ℕ → Type 0) (v s : Status) (t : List ℕ) → IsEarly v
+    → FileStops R f c Faulty v s t → IsEarly s
 file_early R f c Faulty v s t early (inl h) = subst IsEarly (sym h.0) read_early
 file_early R f c Faulty v s t early (inr (inl h)) = subst IsEarly (sym h.0) long_early
 file_early R f c Faulty v s t early (inr (inr h)) = subst IsEarly (sym h.0) early
@@ -84,28 +86,35 @@ rejected_early = record { early = refl; no_fault = λ e. cc }
 pub certificate_early : (R : Type 0) (c : Option (Option (List ℕ))) (p : Syntax) (s : Status) (t : List ℕ) → CertificateStops R c p s t → IsEarly s
 certificate_early R c p s t h = file_early R certificate_file c (HasWrongLine c p) Rejected s t rejected_early (certificate_stops R c p s t h)
 
-compiles_early : (Rises : List ℕ → Type 0) (content : Content) (file : List ℕ) (observer : Option (List ℕ)) (Next : Syntax → LabelledProgram → Option Label → Code → Status → List ℕ → Type 0) (s : Status) (t : List ℕ)
-    → ((p : Syntax) (q : LabelledProgram) (o : Option Label) (code : Code) → Next p q o code s t → IsEarly s) → Compiles Rises content file observer Next s t → IsEarly s
+compiles_early : (Rises : List ℕ → Type 0) (content : Content) (file : List ℕ) (observer : Option (List ℕ))
+    (Next : Syntax → LabelledProgram → Option Label → Code → Status → List ℕ → Type 0) (s : Status) (t : List ℕ)
+    → ((p : Syntax) (q : LabelledProgram) (o : Option Label) (code : Code) → Next p q o code s t → IsEarly s)
+    → Compiles Rises content file observer Next s t → IsEarly s
 compiles_early Rises content file observer Next s t f (inl h) = program_early (Rises file) (content file) s t h
 compiles_early Rises content file observer Next s t f (inr (p, reads, inl h)) = observer_early p.order observer s t h
 compiles_early Rises content file observer Next s t f (inr (p, reads, inr (o, sees, inl h))) = type_early p s t h
 compiles_early Rises content file observer Next s t f (inr (p, reads, inr (o, sees, inr (q, types, inl h)))) = image_early q s t h
 compiles_early Rises content file observer Next s t f (inr (p, reads, inr (o, sees, inr (q, types, inr (code, image, h))))) = f p q o code h
 
-compile_early : (Rises : List ℕ → Type 0) (content : Content) (file : List ℕ) (observer : Option (List ℕ)) (s : Status) (t : List ℕ) → CompileStops Rises content file observer s t → IsEarly s
+compile_early : (Rises : List ℕ → Type 0) (content : Content) (file : List ℕ) (observer : Option (List ℕ)) (s : Status) (t : List ℕ)
+    → CompileStops Rises content file observer s t → IsEarly s
 compile_early Rises content file observer s t = compiles_early Rises content file observer (λ p q o code. NoMore) s t (λ p q o code h. absurd h)
 
 pub not_late : (s : Status) → IsEarly s → IsTrue (is_past_typing s) → ⊥
 not_late s h late = cc (h.early)
 
 pub program_not_late : (R : Type 0) (held : Option (Option (List ℕ))) (e : Stop) → IsStop (ProgramStops R held) e → IsTrue (is_past_typing (status_of e)) → ⊥
-program_not_late R held e h = not_late (status_of e) (broke_early (ProgramStops R held) (status_of e) (stop_text e) (program_early R held (status_of e) (stop_text e)) h)
+program_not_late R held e h = not_late (status_of e)
+    (broke_early (ProgramStops R held) (status_of e) (stop_text e) (program_early R held (status_of e) (stop_text e)) h)
 
 pub type_not_late : (p : Syntax) (e : Stop) → IsStop (TypeStops p) e → IsTrue (is_past_typing (status_of e)) → ⊥
 type_not_late p e h = not_late (status_of e) (broke_early (TypeStops p) (status_of e) (stop_text e) (type_early p (status_of e) (stop_text e)) h)
 
-pub compile_not_late : (Rises : List ℕ → Type 0) (content : Content) (file : List ℕ) (observer : Option (List ℕ)) (e : Stop) → IsStop (CompileStops Rises content file observer) e → IsTrue (is_past_typing (status_of e)) → ⊥
-compile_not_late Rises content file observer e h = not_late (status_of e) (broke_early (CompileStops Rises content file observer) (status_of e) (stop_text e) (compile_early Rises content file observer (status_of e) (stop_text e)) h)
+pub compile_not_late : (Rises : List ℕ → Type 0) (content : Content) (file : List ℕ) (observer : Option (List ℕ)) (e : Stop)
+    → IsStop (CompileStops Rises content file observer) e → IsTrue (is_past_typing (status_of e)) → ⊥
+compile_not_late Rises content file observer e h =
+    not_late (status_of e) (broke_early (CompileStops Rises content file observer) (status_of e) (stop_text e)
+    (compile_early Rises content file observer (status_of e) (stop_text e)) h)
 
 -- ---- what was written
 
@@ -120,18 +129,23 @@ past_told r s told past =
 
 check_early : (Rises : List ℕ → Type 0) (content : Content) (file : List ℕ) (s : Status) (t : List ℕ) → CheckStops Rises content file s t → IsEarly s
 check_early Rises content file s t =
-    then_early (ProgramStops (Rises file) (content file)) (Reads (content file)) (λ p. Then (TypeStops p) (Types p) (λ q. NoMore)) s t (program_early (Rises file) (content file) s t)
+    then_early (ProgramStops (Rises file) (content file)) (Reads (content file)) (λ p. Then (TypeStops p) (Types p) (λ q. NoMore)) s t
+        (program_early (Rises file) (content file) s t)
     (λ p. then_early (TypeStops p) (Types p) (λ q. NoMore) s t (type_early p s t) (λ q n. absurd n))
 
 -- what stops `check` and is written did not come past the typing
-pub check_stopped : (Rises : List ℕ → Type 0) (content : Content) (file : List ℕ) (e : Stop) (r : Status) (W : Type 0) → IsStop (CheckStops Rises content file) e → (r ≢ WriteFault → (r ≡ status_of e) × W) → IsTrue (is_past_typing r) → ⊥
+pub check_stopped : (Rises : List ℕ → Type 0) (content : Content) (file : List ℕ) (e : Stop) (r : Status) (W : Type 0)
+    → IsStop (CheckStops Rises content file) e → (r ≢ WriteFault → (r ≡ status_of e) × W) → IsTrue (is_past_typing r) → ⊥
 check_stopped Rises content file e r W h told past =
-    not_late (status_of e) (broke_early (CheckStops Rises content file) (status_of e) (stop_text e) (check_early Rises content file (status_of e) (stop_text e)) h) (past_told r (status_of e) (λ n. (told n).0) past)
+    not_late (status_of e) (broke_early (CheckStops Rises content file) (status_of e) (stop_text e) (check_early Rises content file (status_of e) (stop_text e))
+        h) (past_told r (status_of e) (λ n. (told n).0) past)
 
 -- what is true of each result that came past the typing is true where the status tells so
-pub told_sound : (r : Result (Vec ℕ Global) Stop) (A : Type 0) (s : Status) → OnOk r A → IfErr r (λ e. IsTrue (is_past_typing (status_of e)) → A) → (s ≢ WriteFault → s ≡ told_status r) → IsTrue (is_past_typing s) → A
+pub told_sound : (r : Result (Vec ℕ Global) Stop) (A : Type 0) (s : Status) → OnOk r A → IfErr r (λ e. IsTrue (is_past_typing (status_of e)) → A)
+    → (s ≢ WriteFault → s ≡ told_status r) → IsTrue (is_past_typing s) → A
 told_sound r A s ok stop told past = of_result r ok stop (past_told s (told_status r) told past)
   where
-    of_result : (r : Result (Vec ℕ Global) Stop) → OnOk r A → IfErr r (λ e. IsTrue (is_past_typing (status_of e)) → A) → IsTrue (is_past_typing (told_status r)) → A
+    of_result : (r : Result (Vec ℕ Global) Stop) → OnOk r A → IfErr r (λ e. IsTrue (is_past_typing (status_of e)) → A)
+        → IsTrue (is_past_typing (told_status r)) → A
     of_result (Ok v) h k p = h
     of_result (Err e) h k p = k p

@@ -21,18 +21,24 @@ use Rattle.cut_audit.specs.declared.report.CutFault.{CutFault}
 use Rattle.tool_stages.specs.Begins.{CanAudit}
 
 module _ {E F : Type 0} (v : Env E) (made : Order → List Touch → E) (w : Order → Env F) (made' : Order → List Touch → F) where
-  pub told_alike : RunsTellAlike v made w made' → (q : LabelledProgram) (code : Code) → code ≡ lowered q → IsShaped code → (s : StartValue) → IsFor q.program s → (t : ℕ) →
-      told_by (run_from v code.instrs t (start_of made q.program.order s)) ≡ told_by (run_from (w q.program.order) code.instrs t (start_of made' q.program.order s))
+  pub told_alike : RunsTellAlike v made w made' → (q : LabelledProgram) (code : Code) → code ≡ lowered q → IsShaped code → (s : StartValue)
+      → IsFor q.program s → (t : ℕ) →
+      told_by (run_from v code.instrs t (start_of made q.program.order s))
+          ≡ told_by (run_from (w q.program.order) code.instrs t (start_of made' q.program.order s))
   told_alike alike q code is shaped s fits t =
-      subst (λ (z : Code). IsShaped z → told_by (run_from v z.instrs t (start_of made q.program.order s)) ≡ told_by (run_from (w q.program.order) z.instrs t (start_of made' q.program.order s))) (sym is)
+      subst (λ (z : Code). IsShaped z
+          → told_by (run_from v z.instrs t (start_of made q.program.order s))
+          ≡ told_by (run_from (w q.program.order) z.instrs t (start_of made' q.program.order s))) (sym is)
       (λ shaped. alike (lowered q) shaped s fits.touches t) shaped
 
   module _ (serves : Order → E → Type 0) (serves' : Order → F → Type 0) where
-    pub alike_for : AuditsTellAlike v made w made' serves serves' → (q : LabelledProgram) (l : Label) (code : Code) (ss : List StartValue) (t : ℕ) → CanAudit q l code ss → IsShaped code →
+    pub alike_for : AuditsTellAlike v made w made' serves serves' → (q : LabelledProgram) (l : Label) (code : Code) (ss : List StartValue) (t : ℕ)
+        → CanAudit q l code ss → IsShaped code →
         AuditAlike v serves (w q.program.order) serves' q l.number t (starts_of made q.program.order ss) (starts_of made' q.program.order ss)
     alike_for alike q l code ss t can shaped = alike q (subst IsShaped can.image shaped) l.number t can.observer ss can.starts
 
-module _ {E F : Type 0} (v : Env E) (serves : Order → E → Type 0) (w : Env F) (serves' : Order → F → Type 0) (q : LabelledProgram) (o t : ℕ) (ss : List (Start E)) (rs : List (Start F)) (alike : AuditAlike v serves w serves' q o t ss rs) where
+module _ {E F : Type 0} (v : Env E) (serves : Order → E → Type 0) (w : Env F) (serves' : Order → F → Type 0) (q : LabelledProgram) (o t : ℕ)
+    (ss : List (Start E)) (rs : List (Start F)) (alike : AuditAlike v serves w serves' q o t ss rs) where
   pub report_by : (r : Result AuditReport AuditFault) → IfOk r (IsReport v serves q o t ss) → IfOk r (IsReport w serves' q o t rs)
   report_by (Ok r) h = (alike.report r).0 h
   report_by (Err f) h = tt

@@ -44,24 +44,28 @@ begun_more (name ∷ names) more f log (inr (inr h)) = inr (inr (h.0, h.1, h.2, 
 
 module _ {A B : Type 0} where
   -- the next stage gives a value or stops
-  pub fetch_then : (names more : List (List ℕ)) (a b c : Option (List Fetched)) (x : A) (r : Result B Stop) → Fetches {A = A} names a b (Ok x) → Fetches more b c r → Fetches (names ++ more) a c r
+  pub fetch_then : (names more : List (List ℕ)) (a b c : Option (List Fetched)) (x : A) (r : Result B Stop) → Fetches {A = A} names a b (Ok x)
+      → Fetches more b c r → Fetches (names ++ more) a c r
   fetch_then names more a b c x (Ok y) g h =
       (g.0 ++ h.0, Grows-trans a b c g.0 h.0 g.1 h.1, given_then names more g.0 h.0 g.2 h.2)
   fetch_then names more a b c x (Err e) g h =
       (g.0 ++ h.0, Grows-trans a b c g.0 h.0 g.1 h.1, begun_then names more (is_read_fault (status_of e)) g.0 h.0 g.2 h.2)
 
 -- a stop comes before other files
-pub fetch_stop : (A B : Type 0) (names more : List (List ℕ)) (a b : Option (List Fetched)) (e : Stop) → Fetches {A = A} names a b (Err e) → Fetches {A = B} (names ++ more) a b (Err e)
+pub fetch_stop : (A B : Type 0) (names more : List (List ℕ)) (a b : Option (List Fetched)) (e : Stop) → Fetches {A = A} names a b (Err e)
+    → Fetches {A = B} (names ++ more) a b (Err e)
 fetch_stop A B names more a b e h = (h.0, h.1, begun_more names more (is_read_fault (status_of e)) h.0 h.2)
 
 -- a stage after it that fetches nothing stops
-pub fetch_stops : (A B : Type 0) (names : List (List ℕ)) (a b : Option (List Fetched)) (x : A) (e : Stop) → is_read_fault (status_of e) ≡ false → Fetches names a b (Ok x) → Fetches {A = B} names a b (Err e)
+pub fetch_stops : (A B : Type 0) (names : List (List ℕ)) (a b : Option (List Fetched)) (x : A) (e : Stop) → is_read_fault (status_of e) ≡ false
+    → Fetches names a b (Ok x) → Fetches {A = B} names a b (Err e)
 fetch_stops A B names a b x e n h = (h.0, h.1, subst (λ f. AreBegun names f h.0) (sym n) (given_begun names h.0 h.2))
 
 -- ---- stops that are not read faults
 
 -- where no read fault stops, the status is none
-pub not_read : (Stops : Status → List ℕ → Type 0) → ((t : List ℕ) → Stops status.ReadFault t → ⊥) → (e : Stop) → IsStop Stops e → is_read_fault (status_of e) ≡ false
+pub not_read : (Stops : Status → List ℕ → Type 0) → ((t : List ℕ) → Stops status.ReadFault t → ⊥) → (e : Stop) → IsStop Stops e
+    → is_read_fault (status_of e) ≡ false
 not_read Stops never e h = none (status_of e) (stop_text e) h
   where
     none : (s : Status) (t : List ℕ) → Broke Stops s t → is_read_fault s ≡ false
@@ -82,7 +86,8 @@ not_read Stops never e h = none (status_of e) (stop_text e) h
 -- ---- why a file gives no bytes
 
 file_goes : (R : Type 0) (c : Option (Option (List ℕ))) (f : File) (Stops : Status → List ℕ → Type 0) (s : Status) (t : List ℕ)
-    → (R × (t ≡ read_fault_line f) → Stops status.ReadFault t) → (IsTooLong c × (t ≡ too_long_line f) → Stops status.TooLong t) → FileStops R c f s t → Stops s t
+    → (R × (t ≡ read_fault_line f) → Stops status.ReadFault t) → (IsTooLong c × (t ≡ too_long_line f) → Stops status.TooLong t)
+    → FileStops R c f s t → Stops s t
 file_goes R c f Stops status.Done t a b h = absurd h
 file_goes R c f Stops status.Refused t a b h = absurd h
 file_goes R c f Stops status.Syntax t a b h = absurd h
@@ -99,6 +104,7 @@ file_goes R c f Stops status.Rejected t a b h = absurd h
 
 -- a stage stops where its file gives no bytes
 pub file_stops : (R : Type 0) (c : Option (Option (List ℕ))) (f : File) (Stops : Status → List ℕ → Type 0) (e : Stop)
-    → ((t : List ℕ) → R × (t ≡ read_fault_line f) → Stops status.ReadFault t) → ((t : List ℕ) → IsTooLong c × (t ≡ too_long_line f) → Stops status.TooLong t) → IsStop (FileStops R c f) e → IsStop Stops e
+    → ((t : List ℕ) → R × (t ≡ read_fault_line f) → Stops status.ReadFault t) → ((t : List ℕ) → IsTooLong c × (t ≡ too_long_line f) → Stops status.TooLong t)
+    → IsStop (FileStops R c f) e → IsStop Stops e
 file_stops R c f Stops e a b h =
     broke_map (FileStops R c f) Stops (status_of e) (stop_text e) (file_goes R c f Stops (status_of e) (stop_text e) (a (stop_text e)) (b (stop_text e))) h

@@ -21,10 +21,13 @@ use Rattle.black_box.specs.Files.{refusal}
 use Rattle.tool_texts.specs.declared.status.Status.{Status}
 use Rattle.tool_texts.specs.declared.status.Status.TheVariants as status
 use Rattle.tool_texts.specs.Texts.{program, starts, ready, certificate}
-use Rattle.tool_stages.specs.Stages.{Then, Reads, HasTextFault, HasParseFault, ProgramStops, Observes, IsUnknown, ObserverStops, TypeStops, ImageStops, StartsAre, HasStartFault, StartStops, FirstStart, ReadyStops, HasReadyFault, HoldsCertificate, HasWrongLine, CertificateStops}
+use Rattle.tool_stages.specs.Stages.{Then, Reads, HasTextFault, HasParseFault, ProgramStops, Observes, IsUnknown, ObserverStops, TypeStops, ImageStops}
+use Rattle.tool_stages.specs.Stages.{StartsAre, HasStartFault, StartStops, FirstStart, ReadyStops, HasReadyFault, HoldsCertificate, HasWrongLine}
+use Rattle.tool_stages.specs.Stages.{CertificateStops}
 use Rattle.tool_stages.specs.Content.{IsKnown}
 use Rattle.tool_stages.specs.Goes.{IsTypable}
-use Rattle.tool_stages.proofs.StageStops.{BadText, file_goes, program_stops, observer_stops, type_stops, image_stops, start_stops, ready_stops, certificate_stops}
+use Rattle.tool_stages.proofs.StageStops.{BadText, file_goes, program_stops, observer_stops, type_stops, image_stops, start_stops, ready_stops}
+use Rattle.tool_stages.proofs.StageStops.{certificate_stops}
 
 -- a stage that does not stop
 pub then_goes : {A : Type 0} (Stops : Status → List ℕ → Type 0) (Gives : A → Type 0) (Next : A → Status → List ℕ → Type 0) (s : Status) (t : List ℕ)
@@ -65,14 +68,17 @@ no_parse_fault c p t known r f =
     let same : f.bytes ≡ r.bytes = one_told c f.bytes r.bytes known f.are r.are in
     let list : f.tokens ≡ r.tokens = one_list r.bytes f.tokens r.tokens (subst (λ (z : List ℕ). AreTokens z f.tokens) same f.cut) r.cut in
     let words : told f.bytes f.tokens ≡ told r.bytes r.tokens = ap (λ (z : List ℕ). told z f.tokens) same ∙ ap (told r.bytes) list in
-    f.none (not_refused (told r.bytes r.tokens) (program_spelled (told r.bytes r.tokens) p r.spelled) f.fault (subst (λ (w : List Told). Refuses w f.fault) words f.is))
+    f.none (not_refused (told r.bytes r.tokens) (program_spelled (told r.bytes r.tokens) p r.spelled) f.fault
+        (subst (λ (w : List Told). Refuses w f.fault) words f.is))
 
 no_bad_text : (c : Option (Option (List ℕ))) (p : Syntax) (t : List ℕ) → IsKnown c → Reads c p → BadText c t → ⊥
 no_bad_text c p t known r (inl f) = no_text_fault c p t known r f
 no_bad_text c p t known r (inr f) = no_parse_fault c p t known r f
 
-pub program_goes : (R : Type 0) (c : Option (Option (List ℕ))) (p : Syntax) (s : Status) (t : List ℕ) → (R → ⊥) → IsKnown c → Reads c p → ProgramStops R c s t → ⊥
-program_goes R c p s t n known r h = file_goes R program c (BadText c) status.Syntax s t n (not_long c r.bytes known r.are r.short) (no_bad_text c p t known r) (program_stops R c s t h)
+pub program_goes : (R : Type 0) (c : Option (Option (List ℕ))) (p : Syntax) (s : Status) (t : List ℕ) → (R → ⊥) → IsKnown c
+    → Reads c p → ProgramStops R c s t → ⊥
+program_goes R c p s t n known r h =
+    file_goes R program c (BadText c) status.Syntax s t n (not_long c r.bytes known r.are r.short) (no_bad_text c p t known r) (program_stops R c s t h)
 
 -- ---- an observer
 
@@ -100,8 +106,10 @@ no_start_fault c p ss t known r f =
     let e = one_answer p r.0 (Err f.fault) (Ok ss) (subst (λ (z : List ℕ). Gives p z (Err f.fault)) same f.is) r.3 in
     absurd (cc e)
 
-pub starts_go : (R : Type 0) (c : Option (Option (List ℕ))) (p : Syntax) (ss : List StartValue) (s : Status) (t : List ℕ) → (R → ⊥) → IsKnown c → StartsAre c p ss → StartStops R c p s t → ⊥
-starts_go R c p ss s t n known r h = file_goes R starts c (HasStartFault c p) status.Starts s t n (not_long c r.0 known r.1 r.2) (no_start_fault c p ss t known r) (start_stops R c p s t h)
+pub starts_go : (R : Type 0) (c : Option (Option (List ℕ))) (p : Syntax) (ss : List StartValue) (s : Status) (t : List ℕ) → (R → ⊥) → IsKnown c
+    → StartsAre c p ss → StartStops R c p s t → ⊥
+starts_go R c p ss s t n known r h =
+    file_goes R starts c (HasStartFault c p) status.Starts s t n (not_long c r.0 known r.1 r.2) (no_start_fault c p ss t known r) (start_stops R c p s t h)
 
 -- ---- a file of ready cycles
 
@@ -110,8 +118,10 @@ no_ready_fault c bytes t known are none f =
     let same : f.bytes ≡ bytes = one_told c f.bytes bytes known f.are are in
     none-some f.fault (sym none ∙ ap refusal (sym same) ∙ f.is)
 
-pub ready_goes : (R : Type 0) (c : Option (Option (List ℕ))) (bytes : List ℕ) (s : Status) (t : List ℕ) → (R → ⊥) → IsKnown c → IsTold c bytes → length bytes ≤ limit → refusal bytes ≡ None → ReadyStops R c s t → ⊥
-ready_goes R c bytes s t n known are short k h = file_goes R ready c (HasReadyFault c) status.Starts s t n (not_long c bytes known are short) (no_ready_fault c bytes t known are k) (ready_stops R c s t h)
+pub ready_goes : (R : Type 0) (c : Option (Option (List ℕ))) (bytes : List ℕ) (s : Status) (t : List ℕ) → (R → ⊥) → IsKnown c → IsTold c bytes
+    → length bytes ≤ limit → refusal bytes ≡ None → ReadyStops R c s t → ⊥
+ready_goes R c bytes s t n known are short k h =
+    file_goes R ready c (HasReadyFault c) status.Starts s t n (not_long c bytes known are short) (no_ready_fault c bytes t known are k) (ready_stops R c s t h)
 
 -- ---- a certificate
 
@@ -125,12 +135,16 @@ no_wrong_line c p q t known k f =
     let is : IsCertificate (with_program q p) k.bytes = subst (λ (z : Syntax). IsCertificate (with_program q z) k.bytes) k.program k.certifies in
     f.first.none q.labels (subst (λ (z : List ℕ). IsCertificate (with_program q p) z) same is)
 
-pub certificate_goes : (R : Type 0) (c : Option (Option (List ℕ))) (p : Syntax) (q : LabelledProgram) (s : Status) (t : List ℕ) → (R → ⊥) → IsKnown c → HoldsCertificate c p q → CertificateStops R c p s t → ⊥
-certificate_goes R c p q s t n known k h = file_goes R certificate c (HasWrongLine c p) status.Rejected s t n (not_long c k.bytes known k.are k.short) (no_wrong_line c p q t known k) (certificate_stops R c p s t h)
+pub certificate_goes : (R : Type 0) (c : Option (Option (List ℕ))) (p : Syntax) (q : LabelledProgram) (s : Status) (t : List ℕ) → (R → ⊥) → IsKnown c
+    → HoldsCertificate c p q → CertificateStops R c p s t → ⊥
+certificate_goes R c p q s t n known k h =
+    file_goes R certificate c (HasWrongLine c p) status.Rejected s t n (not_long c k.bytes known k.are k.short) (no_wrong_line c p q t known k)
+    (certificate_stops R c p s t h)
 
 -- ---- a first start of files that are read later
 
-pub first_at : (content content' : List ℕ → Option (Option (List ℕ))) (starts : Option (List ℕ)) (p p' : Syntax) (start : StartValue) → ((name : List ℕ) → content name ≡ content' name) → p ≡ p'
+pub first_at : (content content' : List ℕ → Option (Option (List ℕ))) (starts : Option (List ℕ)) (p p' : Syntax) (start : StartValue)
+    → ((name : List ℕ) → content name ≡ content' name) → p ≡ p'
     → FirstStart content starts p start → FirstStart content' starts p' start
 first_at content content' None p p' start same is h = subst (λ (z : Syntax). FirstStart content' None z start) is h
 first_at content content' (Some name) p p' start same is h =

@@ -40,12 +40,14 @@ module _ (content : List ℕ → Option (Option (List ℕ))) (p : Syntax) where
   one_first None a b k f g = f ∙ sym g
   one_first (Some name) a b k f g = first_of a b f.0 g.0 (one_list_of_starts (content name) (k name refl) p (a ∷ f.0) (b ∷ g.0) f.1 g.1)
 
-  pub first_or_not : (Rises : List ℕ → Type 0) (starts : Option (List ℕ)) (a : StartValue) (s : Status) (t : List ℕ) → ((name : List ℕ) → starts ≡ Some name → Rises name → ⊥) → OtherIsKnown starts
+  pub first_or_not : (Rises : List ℕ → Type 0) (starts : Option (List ℕ)) (a : StartValue) (s : Status) (t : List ℕ)
+      → ((name : List ℕ) → starts ≡ Some name → Rises name → ⊥) → OtherIsKnown starts
       → FirstStart content starts p a → FirstStops Rises content starts p s t → ⊥
   first_or_not Rises None a s t n k f h = h
   first_or_not Rises (Some name) a s t n k f h = starts_go (Rises name) (content name) p (a ∷ f.0) s t (n name refl) (k name refl) f.1 h
 
-  pub one_first_stop : (Rises : List ℕ → Type 0) (starts : Option (List ℕ)) (s u : Status) (t x : List ℕ) → ((name : List ℕ) → starts ≡ Some name → Rises name → ⊥) → OtherIsKnown starts
+  pub one_first_stop : (Rises : List ℕ → Type 0) (starts : Option (List ℕ)) (s u : Status) (t x : List ℕ)
+      → ((name : List ℕ) → starts ≡ Some name → Rises name → ⊥) → OtherIsKnown starts
       → FirstStops Rises content starts p s t → FirstStops Rises content starts p u x → Same s u t x
   one_first_stop Rises None s u t x n k f g = absurd f
   one_first_stop Rises (Some name) s u t x n k f g = one_start_stop (content name) (k name refl) p (Rises name) s u t x (n name refl) f g

@@ -25,11 +25,14 @@ use Rattle.type_cert.proofs.FirstWrong.{one_wrong}
 use Rattle.black_box.specs.Files.{refusal}
 use Rattle.tool_texts.specs.declared.status.Status.{Status}
 use Rattle.tool_texts.specs.declared.status.Status.TheVariants as status
-use Rattle.tool_texts.specs.Texts.{File, program, starts, ready, certificate, text_fault_line, parse_fault_line, start_fault_line, refused_line, rejected_line, header_name}
+use Rattle.tool_texts.specs.Texts.{File, program, starts, ready, certificate, text_fault_line, parse_fault_line, start_fault_line, refused_line}
+use Rattle.tool_texts.specs.Texts.{rejected_line, header_name}
 use Rattle.tool_texts.specs.Reports.{ready_fault_line}
-use Rattle.tool_stages.specs.Stages.{Then, Reads, ProgramStops, ObserverStops, Types, HasNoType, TypeStops, HasImage, ImageStops, StartsAre, HasStartFault, StartStops, HoldsRuns, HasReadyFault, ReadyStops, HasWrongLine, CertificateStops}
+use Rattle.tool_stages.specs.Stages.{Then, Reads, ProgramStops, ObserverStops, Types, HasNoType, TypeStops, HasImage, ImageStops, StartsAre, HasStartFault}
+use Rattle.tool_stages.specs.Stages.{StartStops, HoldsRuns, HasReadyFault, ReadyStops, HasWrongLine, CertificateStops}
 use Rattle.tool_stages.specs.Content.{IsKnown}
-use Rattle.tool_stages.proofs.StageStops.{FileStops, BadText, program_stops, observer_stops, type_stops, image_stops, start_stops, ready_stops, certificate_stops}
+use Rattle.tool_stages.proofs.StageStops.{FileStops, BadText, program_stops, observer_stops, type_stops, image_stops, start_stops, ready_stops}
+use Rattle.tool_stages.proofs.StageStops.{certificate_stops}
 use Rattle.tool_stages.proofs.GoesLemmas.{one_told, not_long, image_goes, ready_goes}
 
 -- two answers are one
@@ -60,7 +63,8 @@ then_same Stops Gives Next s u t x stop not next (inr h) (inr k) = next h.2 k.2
 
 -- a file that is read stops with one fault at most, and a faulty file is not too long
 file_stop : (R : Type 0) (f : File) (c : Option (Option (List ℕ))) (Faulty : List ℕ → Type 0) (v s u : Status) (t x : List ℕ)
-    → (R → ⊥) → ((t : List ℕ) → Faulty t → IsTooLong c → ⊥) → ((t x : List ℕ) → Faulty t → Faulty x → t ≡ x) → FileStops R f c Faulty v s t → FileStops R f c Faulty v u x → Same s u t x
+    → (R → ⊥) → ((t : List ℕ) → Faulty t → IsTooLong c → ⊥) → ((t x : List ℕ) → Faulty t → Faulty x → t ≡ x) → FileStops R f c Faulty v s t
+    → FileStops R f c Faulty v u x → Same s u t x
 file_stop R f c Faulty v s u t x n short one (inl h) k = absurd (n h.1)
 file_stop R f c Faulty v s u t x n short one (inr h) (inl k) = absurd (n k.1)
 file_stop R f c Faulty v s u t x n short one (inr (inl h)) (inr (inl k)) = (h.0 ∙ sym k.0, h.2 ∙ sym k.2)
@@ -94,7 +98,8 @@ module _ (c : Option (Option (List ℕ))) (known : IsKnown c) where
       absurd (g.none (no_tokens g.bytes g.fault f.tokens g.is (subst (λ (z : List ℕ). AreTokens z f.tokens) bytes f.cut)))
   one_text t x (inr f) (inr g) =
       let same = same_words f.bytes g.bytes f.tokens g.tokens f.are g.are f.cut g.cut in
-      let fault : f.fault ≡ g.fault = one_refusal (told g.bytes g.tokens) f.fault g.fault (subst (λ (w : List Told). Refuses w f.fault) same.2 f.is) g.is f.none g.none in
+      let fault : f.fault ≡ g.fault =
+          one_refusal (told g.bytes g.tokens) f.fault g.fault (subst (λ (w : List Told). Refuses w f.fault) same.2 f.is) g.is f.none g.none in
       let line : parse_fault_line (header_name f.bytes f.tokens) f.fault ≡ parse_fault_line (header_name g.bytes g.tokens) g.fault =
       ap (λ (z : List ℕ). parse_fault_line (header_name z f.tokens) f.fault) same.0
       ∙ ap (λ (z : List Token). parse_fault_line (header_name g.bytes z) f.fault) same.1
@@ -120,7 +125,8 @@ one_observer_stop o w s u t x h k =
 
 -- ---- labels
 
-pub same_labelled : (p r : Syntax) (l m : Labelling) → p ≡ r → l ≡ m → ◌≡◌ {A = LabelledProgram} (record { program = p; labels = l }) (record { program = r; labels = m })
+pub same_labelled : (p r : Syntax) (l m : Labelling) → p ≡ r → l ≡ m
+    → ◌≡◌ {A = LabelledProgram} (record { program = p; labels = l }) (record { program = r; labels = m })
 same_labelled p r l m e f = ap (λ z. record { program = z; labels = l }) e ∙ ap (λ z. record { program = r; labels = z }) f
 
 pub one_typed : (p : Syntax) (a b : LabelledProgram) → IsOrder p.order → Types p a → Types p b → a ≡ b
@@ -174,7 +180,8 @@ module _ (c : Option (Option (List ℕ))) (known : IsKnown c) (p : Syntax) where
   one_start_fault : (t x : List ℕ) → HasStartFault c p t → HasStartFault c p x → t ≡ x
   one_start_fault t x f g =
       let bytes : f.bytes ≡ g.bytes = one_told c f.bytes g.bytes known f.are g.are in
-      let same : Err f.fault ≡ Err g.fault = one_answer p g.bytes (Err f.fault) (Err g.fault) (subst (λ (z : List ℕ). Gives p z (Err f.fault)) bytes f.is) g.is in
+      let same : Err f.fault ≡ Err g.fault =
+          one_answer p g.bytes (Err f.fault) (Err g.fault) (subst (λ (z : List ℕ). Gives p z (Err f.fault)) bytes f.is) g.is in
       let fault : f.fault ≡ g.fault = cc in
       f.line ∙ ap start_fault_line fault ∙ sym g.line
 
@@ -200,7 +207,8 @@ module _ (c : Option (Option (List ℕ))) (known : IsKnown c) where
 
   pub one_ready_stop : (R : Type 0) (s u : Status) (t x : List ℕ) → (R → ⊥) → ReadyStops R c s t → ReadyStops R c u x → Same s u t x
   one_ready_stop R s u t x n h k =
-      file_stop R ready c (HasReadyFault c) status.Starts s u t x n (λ t f l. not_long c f.bytes known f.are f.short l) one_ready_fault (ready_stops R c s t h) (ready_stops R c u x k)
+      file_stop R ready c (HasReadyFault c) status.Starts s u t x n (λ t f l. not_long c f.bytes known f.are f.short l) one_ready_fault
+          (ready_stops R c s t h) (ready_stops R c u x k)
 
   pub runs_or_not : (runs : List (List ℕ)) (R : Type 0) (s : Status) (t : List ℕ) → (R → ⊥) → HoldsRuns c runs → ReadyStops R c s t → ⊥
   runs_or_not runs R s t n k h = ready_goes R c k.bytes s t n known k.are k.short k.taken h
@@ -216,4 +224,5 @@ module _ (c : Option (Option (List ℕ))) (known : IsKnown c) (p : Syntax) where
 
   pub one_certificate_stop : (R : Type 0) (s u : Status) (t x : List ℕ) → (R → ⊥) → CertificateStops R c p s t → CertificateStops R c p u x → Same s u t x
   one_certificate_stop R s u t x n h k =
-      file_stop R certificate c (HasWrongLine c p) status.Rejected s u t x n (λ t f l. not_long c f.bytes known f.are f.short l) one_wrong_line (certificate_stops R c p s t h) (certificate_stops R c p u x k)
+      file_stop R certificate c (HasWrongLine c p) status.Rejected s u t x n (λ t f l. not_long c f.bytes known f.are f.short l) one_wrong_line
+          (certificate_stops R c p s t h) (certificate_stops R c p u x k)

@@ -14,7 +14,8 @@ use Rattle.cycle_machine.specs.Rest.{told_by, rest_of, rest_from}
 use Rattle.tool_stages.specs.Stages.{Observes}
 
 -- a machine that was loaded does the run
-pub loaded_runs : {E : Type 0} (v : Env E) (limit : ℕ) (m : Loaded E) (code : Code) (memory : List ℤ) (env env' : E) → m.stopped ≡ None → m.code ≡ code → seen m.state ≡ start memory env → env ≡ env'
+pub loaded_runs : {E : Type 0} (v : Env E) (limit : ℕ) (m : Loaded E) (code : Code) (memory : List ℤ) (env env' : E) → m.stopped ≡ None → m.code ≡ code
+    → seen m.state ≡ start memory env → env ≡ env'
     → rest_of v limit m ≡ told_by (run_from v code.instrs limit (record { memory = memory; env = env' }))
 loaded_runs {E} v limit m code memory env env' going is at same =
     ap (λ (o : Option Turn). rest_from v limit m.code.instrs m.state o) going

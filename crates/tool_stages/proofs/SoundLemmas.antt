@@ -43,7 +43,8 @@ sound_in v serves halted cut p q valid types =
 -- a program that words spell
 pub typed_made : (words : List Told) (p : Syntax) (q : LabelledProgram) → IsProgram words p → q.program ≡ p → IsLabelling p q.labels → HasType q → IsTypedWith q
 typed_made words p q spelled is labelling typed =
-    let numbered = subst (AreNumbered 0) (sym spelled.resolves.plan) (numbered_commands (scope (label_names spelled.tree.header) p.declarations) spelled.tree.commands 0) in
+    let numbered = subst (AreNumbered 0) (sym spelled.resolves.plan)
+        (numbered_commands (scope (label_names spelled.tree.header) p.declarations) spelled.tree.commands 0) in
     record {
       lattice = subst (λ (s : Syntax). IsLattice (lattice_of s.order)) (sym is) (order_is p.order (program_order words p spelled));
       numbered = subst (λ (s : Syntax). AreNumbered 0 (plan_of s)) (sym is) numbered;
@@ -53,7 +54,8 @@ typed_made words p q spelled is labelling typed =
     }
 
 pub typed_in : {E : Type 0} (v : Order → Env E) (serves : Order → E → Type 0) → LoweredSoundOver v serves → LoweredCutSoundOver v serves
-    → (words : List Told) (p : Syntax) (q : LabelledProgram) → IsProgram words p → q.program ≡ p → IsLabelling p q.labels → HasType q → IsSoundIn (v q.program.order) serves q
+    → (words : List Told) (p : Syntax) (q : LabelledProgram) → IsProgram words p → q.program ≡ p → IsLabelling p q.labels → HasType q
+    → IsSoundIn (v q.program.order) serves q
 typed_in v serves halted cut words p q spelled is labelling typed =
     let made = typed_made words p q spelled is labelling typed in
     record { halted = halted q made; cut = cut q made }

@@ -8,7 +8,8 @@ use Rattle.code_lower.specs.Lowered.{lowered}
 use Rattle.tool_texts.specs.declared.status.Status.{Status}
 use Rattle.tool_texts.specs.declared.status.Status.TheVariants as status
 use Rattle.tool_texts.specs.Texts.{File, program, starts, ready, certificate, usage_text, read_fault_line, too_long_line, number_line}
-use Rattle.tool_stages.specs.Stages.{HasTextFault, HasParseFault, ProgramStops, IsUnknown, ObserverStops, HasNoType, TypeStops, ImageStops, HasStartFault, StartStops, HasReadyFault, ReadyStops, HasWrongLine, CertificateStops}
+use Rattle.tool_stages.specs.Stages.{HasTextFault, HasParseFault, ProgramStops, IsUnknown, ObserverStops, HasNoType, TypeStops, ImageStops, HasStartFault}
+use Rattle.tool_stages.specs.Stages.{StartStops, HasReadyFault, ReadyStops, HasWrongLine, CertificateStops}
 
 -- ---- a file: it was not read, is too long, or is faulty
 
@@ -17,7 +18,8 @@ FileStops R f c Faulty v s t =
     ((s ≡ status.ReadFault) × R × (t ≡ read_fault_line f)) ⊎ (((s ≡ status.TooLong) × IsTooLong c × (t ≡ too_long_line f)) ⊎ ((s ≡ v) × Faulty t))
 
 -- a file that is read, not too long and without fault
-pub file_goes : (R : Type 0) (f : File) (c : Option (Option (List ℕ))) (Faulty : List ℕ → Type 0) (v s : Status) (t : List ℕ) → (R → ⊥) → (IsTooLong c → ⊥) → (Faulty t → ⊥) → FileStops R f c Faulty v s t → ⊥
+pub file_goes : (R : Type 0) (f : File) (c : Option (Option (List ℕ))) (Faulty : List ℕ → Type 0) (v s : Status) (t : List ℕ) → (R → ⊥) → (IsTooLong c → ⊥)
+    → (Faulty t → ⊥) → FileStops R f c Faulty v s t → ⊥
 file_goes R f c Faulty v s t n short good (inl h) = n h.1
 file_goes R f c Faulty v s t n short good (inr (inl h)) = short h.1
 file_goes R f c Faulty v s t n short good (inr (inr h)) = good h.1
@@ -25,7 +27,8 @@ file_goes R f c Faulty v s t n short good (inr (inr h)) = good h.1
 abbrev pub BadText : Option (Option (List ℕ)) → List ℕ → Type 0
 BadText c t = HasTextFault c t ⊎ HasParseFault c t
 
-pub program_stops : (R : Type 0) (c : Option (Option (List ℕ))) (s : Status) (t : List ℕ) → ProgramStops R c s t → FileStops R program c (BadText c) status.Syntax s t
+pub program_stops : (R : Type 0) (c : Option (Option (List ℕ))) (s : Status) (t : List ℕ) → ProgramStops R c s t
+    → FileStops R program c (BadText c) status.Syntax s t
 program_stops R c status.Done t h = absurd h
 program_stops R c status.Refused t h = absurd h
 program_stops R c status.Syntax t h = inr (inr (refl, h))
@@ -40,7 +43,8 @@ program_stops R c status.Unfinished t h = absurd h
 program_stops R c status.Memory t h = absurd h
 program_stops R c status.Rejected t h = absurd h
 
-pub start_stops : (R : Type 0) (c : Option (Option (List ℕ))) (p : Syntax) (s : Status) (t : List ℕ) → StartStops R c p s t → FileStops R starts c (HasStartFault c p) status.Starts s t
+pub start_stops : (R : Type 0) (c : Option (Option (List ℕ))) (p : Syntax) (s : Status) (t : List ℕ) → StartStops R c p s t
+    → FileStops R starts c (HasStartFault c p) status.Starts s t
 start_stops R c p status.Done t h = absurd h
 start_stops R c p status.Refused t h = absurd h
 start_stops R c p status.Syntax t h = absurd h
@@ -55,7 +59,8 @@ start_stops R c p status.Unfinished t h = absurd h
 start_stops R c p status.Memory t h = absurd h
 start_stops R c p status.Rejected t h = absurd h
 
-pub ready_stops : (R : Type 0) (c : Option (Option (List ℕ))) (s : Status) (t : List ℕ) → ReadyStops R c s t → FileStops R ready c (HasReadyFault c) status.Starts s t
+pub ready_stops : (R : Type 0) (c : Option (Option (List ℕ))) (s : Status) (t : List ℕ) → ReadyStops R c s t
+    → FileStops R ready c (HasReadyFault c) status.Starts s t
 ready_stops R c status.Done t h = absurd h
 ready_stops R c status.Refused t h = absurd h
 ready_stops R c status.Syntax t h = absurd h
@@ -70,7 +75,8 @@ ready_stops R c status.Unfinished t h = absurd h
 ready_stops R c status.Memory t h = absurd h
 ready_stops R c status.Rejected t h = absurd h
 
-pub certificate_stops : (R : Type 0) (c : Option (Option (List ℕ))) (p : Syntax) (s : Status) (t : List ℕ) → CertificateStops R c p s t → FileStops R certificate c (HasWrongLine c p) status.Rejected s t
+pub certificate_stops : (R : Type 0) (c : Option (Option (List ℕ))) (p : Syntax) (s : Status) (t : List ℕ) → CertificateStops R c p s t
+    → FileStops R certificate c (HasWrongLine c p) status.Rejected s t
 certificate_stops R c p status.Done t h = absurd h
 certificate_stops R c p status.Refused t h = absurd h
 certificate_stops R c p status.Syntax t h = absurd h
@@ -117,7 +123,8 @@ type_stops p status.Unfinished t h = absurd h
 type_stops p status.Memory t h = absurd h
 type_stops p status.Rejected t h = absurd h
 
-pub image_stops : (q : LabelledProgram) (s : Status) (t : List ℕ) → ImageStops q s t → (s ≡ status.TooLong) × (200000 < length (lowered q).instrs) × (t ≡ number_line (codes "too long: image ") (length (lowered q).instrs))
+pub image_stops : (q : LabelledProgram) (s : Status) (t : List ℕ) → ImageStops q s t → (s ≡ status.TooLong) × (200000 < length (lowered q).instrs)
+    × (t ≡ number_line (codes "too long: image ") (length (lowered q).instrs))
 image_stops q status.Done t h = absurd h
 image_stops q status.Refused t h = absurd h
 image_stops q status.Syntax t h = absurd h

@@ -1,5 +1,6 @@
 -- A start file that is taken has a first start, and the stops of a file that was read.
-use Rattle.std.proofs.Common.{◌≡◌, refl, sym, ap, subst, ℕ, ◌+◌, ◌<◌, ◌≤◌, ◌==◌, Bool, true, false, cond, nat_lt, List, [], ◌∷◌, length, map, All, get_or, Option, Some, None, Result, Ok, Err, arith, codes}
+use Rattle.std.proofs.Common.{◌≡◌, refl, sym, ap, subst, ℕ, ◌+◌, ◌<◌, ◌≤◌, ◌==◌, Bool, true, false, cond, nat_lt, List, [], ◌∷◌, length, map, All, get_or}
+use Rattle.std.proofs.Common.{Option, Some, None, Result, Ok, Err, arith, codes}
 use Rattle.std.proofs.lemmas.Bool.{ltb-false}
 use Rattle.std.proofs.lemmas.List.{length-map}
 use Rattle.toml.specs.Data.{Data, Items, no_items, item, Members, get_member, array}
@@ -40,7 +41,8 @@ else_test : (b : Bool) (ss : List StartValue) (r : Runs) (f : StartFault) → Ok
 else_test true ss r f e = absurd cc
 else_test false ss r f e = refl
 
-one_more : (ss : List StartValue) (a : Result StartValue StartFault) (b : Runs) (k : ℕ) → ((rest : List StartValue) → Ok rest ≡ b → length rest ≡ k) → Ok ss ≡ with_first a b → length ss ≡ 1 + k
+one_more : (ss : List StartValue) (a : Result StartValue StartFault) (b : Runs) (k : ℕ) → ((rest : List StartValue) → Ok rest ≡ b → length rest ≡ k)
+    → Ok ss ≡ with_first a b → length ss ≡ 1 + k
 one_more ss (Err f) b k h e = absurd cc
 one_more ss (Ok s) (Err f) k h e = absurd cc
 one_more ss (Ok s) (Ok r) k h e = let same : ss ≡ s ∷ r = cc in let n = h r refl in omega (arith, ap length same, n)
@@ -57,7 +59,8 @@ some_counted : (p : Syntax) (v : Version) (ds : Items) (ss : List StartValue) �
 some_counted p v no_items ss e = absurd cc
 some_counted p v (item d ds) ss e =
     let many = else_part (count_items (item d ds) == 0) ss _ NoRuns e in
-    let few = ltb-false 4096 (count_items (item d ds)) (else_test (nat_lt 4096 (count_items (item d ds))) ss (runs_from p v 1 (item d ds)) (TooMany (count_items (item d ds))) many) in
+    let few = ltb-false 4096 (count_items (item d ds))
+        (else_test (nat_lt 4096 (count_items (item d ds))) ss (runs_from p v 1 (item d ds)) (TooMany (count_items (item d ds))) many) in
     let all = else_part (nat_lt 4096 (count_items (item d ds))) ss (runs_from p v 1 (item d ds)) (TooMany (count_items (item d ds))) many in
     let n = as_many p v 1 (item d ds) ss all in
     (some_first ss (run_of p v 1 d) (runs_from p v 2 ds) all, omega (arith, few, n))
@@ -100,6 +103,8 @@ first_fits p [] s h k e = absurd (omega (arith, k))
 first_fits p (t ∷ ts) s h k e = subst (λ (z : Start). IsFor p (seen z)) (sym e) (h 0 (seen t) (omega arith))
 
 -- where a file was read, its stops are those of its starts
-pub start_stops : (R : Type 0) (content : Option (Option (List ℕ))) (p : Syntax) (e : Stop) → IsStop (StartStops ⊥ content p) e → IsStop (StartStops R content p) e
+pub start_stops : (R : Type 0) (content : Option (Option (List ℕ))) (p : Syntax) (e : Stop) → IsStop (StartStops ⊥ content p) e
+    → IsStop (StartStops R content p) e
 start_stops R content p e h =
-    broke_map (StartStops ⊥ content p) (StartStops R content p) (status_of e) (stop_text e) (start_rise ⊥ R content p (status_of e) (stop_text e) (λ n. absurd n)) h
+    broke_map (StartStops ⊥ content p) (StartStops R content p) (status_of e) (stop_text e)
+        (start_rise ⊥ R content p (status_of e) (stop_text e) (λ n. absurd n)) h

@@ -7,7 +7,8 @@ use Rattle.label_code.specs.Shaped.{Code}
 use Rattle.code_lower.specs.Lowered.{lowered}
 use Rattle.start_file.specs.Starts.{StartValue, IsFor}
 use Rattle.tool_texts.specs.declared.status.Status.{Status}
-use Rattle.tool_stages.specs.Stages.{Then, Reads, ProgramStops, Observes, ObserverStops, Types, TypeStops, HasImage, ImageStops, StartsAre, StartStops, FirstStart, FirstStops}
+use Rattle.tool_stages.specs.Stages.{Then, Reads, ProgramStops, Observes, ObserverStops, Types, TypeStops, HasImage, ImageStops, StartsAre, StartStops}
+use Rattle.tool_stages.specs.Stages.{FirstStart, FirstStops}
 use Rattle.tool_stages.specs.Content.{Content}
 
 -- From a file to an image, and an observer's name to a label; then the rest goes on.

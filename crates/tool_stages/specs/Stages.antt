@@ -31,7 +31,8 @@ use Rattle.black_box.specs.declared.fault.ReadyFault.TheVariants.{Memory}
 use Rattle.black_box.specs.Files.{Holds, refusal}
 use Rattle.tool_texts.specs.declared.status.Status.{Status}
 use Rattle.tool_texts.specs.declared.status.Status.TheVariants as status
-use Rattle.tool_texts.specs.Texts.{program, starts, usage_text, read_fault_line, too_long_line, text_fault_line, parse_fault_line, refused_line, start_fault_line, number_line, header_name, ready, certificate, rejected_line}
+use Rattle.tool_texts.specs.Texts.{program, starts, usage_text, read_fault_line, too_long_line, text_fault_line, parse_fault_line, refused_line}
+use Rattle.tool_texts.specs.Texts.{start_fault_line, number_line, header_name, ready, certificate, rejected_line}
 use Rattle.tool_texts.specs.Reports.{ready_fault_line}
 
 -- A stage stops with a status and a text, or gives a value, from which the rest goes on.

@@ -7,7 +7,8 @@ use Rattle.mit_syntax.specs.declared.token.TokenKind.TheVariants.{Key, Name, Num
 use Rattle.mit_syntax.specs.Cut.{token_bytes}
 use Rattle.tool_texts.specs.Texts.{named_at}
 
-pub of_five : (x₀ x₁ x₂ x₃ x₄ x₅ a b c d e : List ℕ) → x₀ ≡ [] → x₁ ≡ x₀ ++ a → x₂ ≡ x₁ ++ b → x₃ ≡ x₂ ++ c → x₄ ≡ x₃ ++ d → x₅ ≡ x₄ ++ e → x₅ ≡ a ++ (b ++ (c ++ (d ++ e)))
+pub of_five : (x₀ x₁ x₂ x₃ x₄ x₅ a b c d e : List ℕ) → x₀ ≡ [] → x₁ ≡ x₀ ++ a → x₂ ≡ x₁ ++ b → x₃ ≡ x₂ ++ c → x₄ ≡ x₃ ++ d → x₅ ≡ x₄ ++ e
+    → x₅ ≡ a ++ (b ++ (c ++ (d ++ e)))
 of_five x₀ x₁ x₂ x₃ x₄ x₅ a b c d e e₀ e₁ e₂ e₃ e₄ e₅ =
     let one : x₁ ≡ a = e₁ ∙ ap (λ l. l ++ a) e₀ in
     let two : x₂ ≡ a ++ b = e₂ ∙ ap (λ l. l ++ b) one in
@@ -15,7 +16,8 @@ of_five x₀ x₁ x₂ x₃ x₄ x₅ a b c d e e₀ e₁ e₂ e₃ e₄ e₅ =
     let four : x₄ ≡ a ++ (b ++ (c ++ d)) = e₄ ∙ ap (λ l. l ++ d) three ∙ simp append_assoc in
     e₅ ∙ ap (λ l. l ++ e) four ∙ simp append_assoc
 
-pub of_seven : (x₀ x₁ x₂ x₃ x₄ x₅ x₆ x₇ a b c d e f g : List ℕ) → x₀ ≡ [] → x₁ ≡ x₀ ++ a → x₂ ≡ x₁ ++ b → x₃ ≡ x₂ ++ c → x₄ ≡ x₃ ++ d → x₅ ≡ x₄ ++ e → x₆ ≡ x₅ ++ f → x₇ ≡ x₆ ++ g
+pub of_seven : (x₀ x₁ x₂ x₃ x₄ x₅ x₆ x₇ a b c d e f g : List ℕ) → x₀ ≡ [] → x₁ ≡ x₀ ++ a → x₂ ≡ x₁ ++ b → x₃ ≡ x₂ ++ c → x₄ ≡ x₃ ++ d → x₅ ≡ x₄ ++ e
+    → x₆ ≡ x₅ ++ f → x₇ ≡ x₆ ++ g
     → x₇ ≡ a ++ (b ++ (c ++ (d ++ (e ++ (f ++ g)))))
 of_seven x₀ x₁ x₂ x₃ x₄ x₅ x₆ x₇ a b c d e f g e₀ e₁ e₂ e₃ e₄ e₅ e₆ e₇ =
     let five : x₅ ≡ a ++ (b ++ (c ++ (d ++ e))) = of_five x₀ x₁ x₂ x₃ x₄ x₅ a b c d e e₀ e₁ e₂ e₃ e₄ e₅ in

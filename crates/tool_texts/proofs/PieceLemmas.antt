@@ -19,7 +19,8 @@ module _ {A : Type 0} (line : ℕ → A → List ℕ) (xs : List A) where
   pub none_put : (old bytes : List ℕ) → bytes ≡ old → PutTo line old bytes 0 xs
   none_put old bytes e = record { is = ap (λ b. b ++ numbered line 1 xs) e }
 
-  pub next_put : (old b c : List ℕ) (k : ℕ) (x d : A) → k < length xs → x ≡ get_or xs k d → PutTo line old b k xs → c ≡ b ++ line (k + 1) x → PutTo line old c (k + 1) xs
+  pub next_put : (old b c : List ℕ) (k : ℕ) (x d : A) → k < length xs → x ≡ get_or xs k d → PutTo line old b k xs → c ≡ b ++ line (k + 1) x
+      → PutTo line old c (k + 1) xs
   next_put old b c k x d l e so h =
       let rest : List A = drop (k + 1) xs in
       let front : drop k xs ≡ x ∷ rest = drop_more xs k d l ∙ ap (λ z. z ∷ rest) (sym e) in
@@ -70,7 +71,8 @@ module _ (vs : List (Vec ℕ Global)) (rs : List Releases) (cs : List ℕ) where
   pub no_run_put : (old bytes : List ℕ) → bytes ≡ old → RunsPut old bytes 0 vs rs cs
   no_run_put old bytes e = record { is = ap (λ b. b ++ runs_text 1 vs rs cs) e }
 
-  pub next_run_put : (old b c : List ℕ) (k : ℕ) (v dv : Vec ℕ Global) (r dr : Releases) (x d : ℕ) → k < length vs → length rs ≡ length vs → length cs ≡ length vs
+  pub next_run_put : (old b c : List ℕ) (k : ℕ) (v dv : Vec ℕ Global) (r dr : Releases) (x d : ℕ) → k < length vs
+      → length rs ≡ length vs → length cs ≡ length vs
       → v ≡ get_or vs k dv → r ≡ get_or rs k dr → x ≡ get_or cs k d
       → RunsPut old b k vs rs cs → c ≡ b ++ run_text (k + 1) (length v.items) (seen r) x → RunsPut old c (k + 1) vs rs cs
   next_run_put old b c k v dv r dr x d l lr lc ev er ex so h =

@@ -1,5 +1,6 @@
 -- Numbers of one to twenty digits.
-use Rattle.std.proofs.Common.{◌≡◌, refl, sym, ap, subst, ℕ, zero, suc, ◌==◌, OkIff, false-eqb, ◌<◌, ◌^◌, Bool, true, false, cond, ◌&&◌, List, length, leb, leb-true, le-leb, arith, Result, Err, Some, None}
+use Rattle.std.proofs.Common.{◌≡◌, refl, sym, ap, subst, ℕ, zero, suc, ◌==◌, OkIff, false-eqb, ◌<◌, ◌^◌, Bool, true, false, cond, ◌&&◌, List, length, leb}
+use Rattle.std.proofs.Common.{leb-true, le-leb, arith, Result, Err, Some, None}
 use Rattle.std.specs.Char.{is_ascii_digit}
 use Rattle.std.specs.List.{list_all}
 use Rattle.std.specs.Str.Parse.{digits_value, ParsesUnsigned}
@@ -10,7 +11,8 @@ use Rattle.tool_words.specs.WordsAsked.{is_number, number_in}
 tells_digits : IsDigitsTest (λ ds. list_all is_ascii_digit ds ≡ true)
 tells_digits = record {
   empty = refl;
-  parts = λ c cs e. let k = both (is_ascii_digit c) (list_all is_ascii_digit cs) e in let m = both (leb 48 c) (leb c 57) k.0 in ((leb-true 48 c m.0, leb-true c 57 m.1), k.1);
+  parts = λ c cs e. let k = both (is_ascii_digit c) (list_all is_ascii_digit cs) e in let m = both (leb 48 c) (leb c 57) k.0 in
+      ((leb-true 48 c m.0, leb-true c 57 m.1), k.1);
   more = λ c cs k e i. (le-leb 48 c k.0 i && le-leb c 57 k.1 i) && e i;
 }
 
@@ -35,4 +37,5 @@ refused {E = E} least most text r e is digits some small h =
     let wide = subst (λ (x : Result ℕ E). OkIff x ((0 < length text) × (digits_value 10 text < 2 ^ 64)) (digits_value 10 text)) is told in
     let present : 0 < length text = at_least (length text) some in
     let over : leb (digits_value 10 text) most ≡ false = ruled_out _ (λ t. wide (present, omega (arith, leb-true (digits_value 10 text) most t, small))) in
-    sym (ap (λ (b : Bool). cond b (Some (digits_value 10 text)) None) (last_false (is_number text) (leb least (digits_value 10 text)) (leb (digits_value 10 text) most) over))
+    sym (ap (λ (b : Bool). cond b (Some (digits_value 10 text)) None)
+        (last_false (is_number text) (leb least (digits_value 10 text)) (leb (digits_value 10 text) most) over))

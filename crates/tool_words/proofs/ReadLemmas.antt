@@ -16,6 +16,7 @@ taken_asks verb words a rows t app taken found e =
     let at : rows ≡ matches_of (form_app verb) words = found ∙ ap (λ (x : App). matches_of x words) app in
     ap (λ (b : Bool). cond b (given verb (matches_of (form_app verb) words)) None) free ∙ sym (e ∙ ap (given verb) at)
 
-pub ok_asks : (t : Option Asked) (r : Option Command) (e : WordsFault) (res : Result Command WordsFault) → res ≡ ok_or r e → t ≡ option_map asked_of r → IfOk res (λ c. t ≡ Some (asked_of c))
+pub ok_asks : (t : Option Asked) (r : Option Command) (e : WordsFault) (res : Result Command WordsFault) → res ≡ ok_or r e → t ≡ option_map asked_of r
+    → IfOk res (λ c. t ≡ Some (asked_of c))
 ok_asks t None e res p q = subst (λ (x : Result Command WordsFault). IfOk x (λ c. t ≡ Some (asked_of c))) (sym p) tt
 ok_asks t (Some x) e res p q = subst (λ (x : Result Command WordsFault). IfOk x (λ c. t ≡ Some (asked_of c))) (sym p) q

@@ -1,5 +1,6 @@
 -- Where no right line follows, no longer beginning is right.
-use Rattle.std.proofs.Common.{◌≡◌, ℕ, ◌+◌, ◌<◌, ◌≤◌, refl, sym, ap, ◌∙◌, subst, List, [], ◌∷◌, ◌++◌, length, length-append, append_assoc, append-nil, drop, get_or, arith, inr, ⊎_elim}
+use Rattle.std.proofs.Common.{◌≡◌, ℕ, ◌+◌, ◌<◌, ◌≤◌, refl, sym, ap, ◌∙◌, subst, List, [], ◌∷◌, ◌++◌, length, length-append, append_assoc, append-nil, drop}
+use Rattle.std.proofs.Common.{get_or, arith, inr, ⊎_elim}
 use Rattle.std.specs.Prelude.{codes}
 use Rattle.std.proofs.lemmas.Bool.{cases_lt}
 use Rattle.std.proofs.lemmas.List.{append_cancel_left, get_or_append_left, drop_more}
@@ -68,11 +69,13 @@ module _ (s : Syntax) (valid : IsValid s) where
   looks_back ls = all_back lat (label_at b (spread ds ls)) s.order.size ds (plan_of s) 0 b First Open valid.known tt tt
 
   -- the text after the first line
-  text_is : (ls : List Label) (xs : List Line) (bytes rest : List ℕ) → BeginsWith s ls xs bytes rest → bytes ≡ codes "certificate 1\n" ++ (V ls ++ (L xs ++ rest))
+  text_is : (ls : List Label) (xs : List Line) (bytes rest : List ℕ) → BeginsWith s ls xs bytes rest
+      → bytes ≡ codes "certificate 1\n" ++ (V ls ++ (L xs ++ rest))
   text_is ls xs bytes rest h =
       h.text ∙ append_assoc (codes "certificate 1\n") (V ls ++ L xs) rest ∙ ap (λ z. codes "certificate 1\n" ++ z) (append_assoc (V ls) (L xs) rest)
 
-  both_texts : (ls ms : List Label) (xs ys : List Line) (bytes q r : List ℕ) → BeginsWith s ls xs bytes q → BeginsWith s ms ys bytes r → V ls ++ (L xs ++ q) ≡ V ms ++ (L ys ++ r)
+  both_texts : (ls ms : List Label) (xs ys : List Line) (bytes q r : List ℕ) → BeginsWith s ls xs bytes q → BeginsWith s ms ys bytes r
+      → V ls ++ (L xs ++ q) ≡ V ms ++ (L ys ++ r)
   both_texts ls ms xs ys bytes q r h k =
       append_cancel_left (codes "certificate 1\n") (V ls ++ (L xs ++ q)) (V ms ++ (L ys ++ r)) (sym (text_is ls xs bytes q h) ∙ text_is ms ys bytes r k)
 
@@ -83,10 +86,12 @@ module _ (s : Syntax) (valid : IsValid s) where
   few_lines ls xs bytes rest h = let f = fit_length (FitsPlace s xs) (places_of s ls) xs h.commands in let n = count_places ls in omega (arith, f, n)
 
   -- where all labels of declarations are there, they are one, and so is what follows
-  one_head : (ls ms : List Label) (xs ys : List Line) (bytes q r : List ℕ) → BeginsWith s ls xs bytes q → BeginsWith s ms ys bytes r → length ls ≡ length ds → length ms ≡ length ds →
+  one_head : (ls ms : List Label) (xs ys : List Line) (bytes q r : List ℕ) → BeginsWith s ls xs bytes q → BeginsWith s ms ys bytes r
+      → length ls ≡ length ds → length ms ≡ length ds →
       (ms ≡ ls) × (L xs ++ q ≡ L ys ++ r)
   one_head ls ms xs ys bytes q r h k el em =
-      let m = more_labels o valid.order ds ls ms (L xs ++ q) (L ys ++ r) h.variables k.variables (omega (arith, el, em)) (both_texts ls ms xs ys bytes q r h k) in
+      let m = more_labels o valid.order ds ls ms (L xs ++ q) (L ys ++ r) h.variables k.variables (omega (arith, el, em))
+          (both_texts ls ms xs ys bytes q r h k) in
       let none = same_length ls ms m.more m.is (el ∙ sym em) in (
         m.is ∙ ap (λ z. ls ++ z) none ∙ append-nil ls,
         m.rest ∙ ap (λ z. variables_text o (drop (length ls) ds) z ++ (L ys ++ r)) none ∙ ap (λ z. z ++ (L ys ++ r)) (no_text o (drop (length ls) ds)),
@@ -95,12 +100,15 @@ module _ (s : Syntax) (valid : IsValid s) where
   formed : (xs : List Line) (p : Place) (x : Line) → FitsPlace s xs p x → IsFormed s.order.size p.act x
   formed xs p x h = h.0
 
-  lines_after : (ls : List Label) (xs ys : List Line) (q r : List ℕ) → AllFit (FitsPlace s xs) (places_of s ls) xs → AllFit (FitsPlace s ys) (places_of s ls) ys → length xs ≤ length ys → L xs ++ q ≡ L ys ++ r →
+  lines_after : (ls : List Label) (xs ys : List Line) (q r : List ℕ) → AllFit (FitsPlace s xs) (places_of s ls) xs → AllFit (FitsPlace s ys) (places_of s ls) ys
+      → length xs ≤ length ys → L xs ++ q ≡ L ys ++ r →
       MoreLines o valid.order (FitsPlace s xs) (FitsPlace s ys) (formed xs) (formed ys) (places_of s ls) 0 xs ys q r
-  lines_after ls xs ys q r hx hy le e = more_lines o valid.order (FitsPlace s xs) (FitsPlace s ys) (formed xs) (formed ys) (places_of s ls) 0 xs ys q r hx hy le e
+  lines_after ls xs ys q r hx hy le e =
+      more_lines o valid.order (FitsPlace s xs) (FitsPlace s ys) (formed xs) (formed ys) (places_of s ls) 0 xs ys q r hx hy le e
 
   -- two whole certificates are one
-  pub one_whole : (ls ms : List Label) (xs ys : List Line) (bytes q r : List ℕ) → BeginsWith s ls xs bytes q → BeginsWith s ms ys bytes r → length ls ≡ length ds → length ms ≡ length ds →
+  pub one_whole : (ls ms : List Label) (xs ys : List Line) (bytes q r : List ℕ) → BeginsWith s ls xs bytes q → BeginsWith s ms ys bytes r
+      → length ls ≡ length ds → length ms ≡ length ds →
       length xs ≡ count (plan_of s) → length ys ≡ count (plan_of s) → (ms ≡ ls) × (ys ≡ xs) × (q ≡ r)
   one_whole ls ms xs ys bytes q r h k el em ex ey =
       let head = one_head ls ms xs ys bytes q r h k el em in
@@ -112,7 +120,8 @@ module _ (s : Syntax) (valid : IsValid s) where
         m.rest ∙ ap (λ z. lines_text o (0 + length xs) z ++ r) none,
       )
 
-  first_of_more : {A B : Type 0} (R : A → B → Type 0) (as' : List A) (n : ℕ) (a : A) (more : List B) → n < length as' → a ≡ get_or as' n a → 0 < length more → AllFit R (drop n as') more →
+  first_of_more : {A B : Type 0} (R : A → B → Type 0) (as' : List A) (n : ℕ) (a : A) (more : List B) → n < length as' → a ≡ get_or as' n a → 0 < length more
+      → AllFit R (drop n as') more →
       (x : B) × (us : List B) × (more ≡ x ∷ us) × R a x
   first_of_more R as' n a [] h e some f = absurd (omega (arith, some))
   first_of_more R as' n a (x ∷ us) h e some f =
@@ -123,8 +132,10 @@ module _ (s : Syntax) (valid : IsValid s) where
   more_than xs ys more e h = let l = ap length e ∙ length-append xs more in omega (arith, l, h)
 
   -- no right line of the next command follows
-  pub no_command : (ls ms : List Label) (xs ys : List Line) (bytes q r : List ℕ) (p : Place) → BeginsWith s ls xs bytes q → BeginsWith s ms ys bytes r → length ls ≡ length ds →
-      length xs < length (places_of s ls) → p ≡ get_or (places_of s ls) (length xs) p → ((x : Line) (u : List ℕ) → ReadsLine o (length xs) p.act q x u → Meets lat (line_at b xs) p x → ⊥) →
+  pub no_command : (ls ms : List Label) (xs ys : List Line) (bytes q r : List ℕ) (p : Place) → BeginsWith s ls xs bytes q
+      → BeginsWith s ms ys bytes r → length ls ≡ length ds →
+      length xs < length (places_of s ls) → p ≡ get_or (places_of s ls) (length xs) p
+          → ((x : Line) (u : List ℕ) → ReadsLine o (length xs) p.act q x u → Meets lat (line_at b xs) p x → ⊥) →
       length ls + length xs < length ms + length ys → ⊥
   no_command ls ms xs ys bytes q r p h k el within at none more =
       let few = few_labels ms ys bytes r k in
@@ -133,14 +144,17 @@ module _ (s : Syntax) (valid : IsValid s) where
       let head = one_head ls ms xs ys bytes q r h k el em in
       let k2 = subst (λ z. AllFit (FitsPlace s ys) (places_of s z) ys) head.0 k.commands in
       let m = lines_after ls xs ys q r h.commands k2 (omega (arith, el, em, more)) head.1 in
-      let f = first_of_more (FitsPlace s ys) (places_of s ls) (length xs) p m.more within at (more_than xs ys m.more m.is (omega (arith, el, em, more))) m.fit in
+      let f = first_of_more (FitsPlace s ys) (places_of s ls) (length xs) p m.more within at
+          (more_than xs ys m.more m.is (omega (arith, el, em, more))) m.fit in
       let x = f.0 in
       let us = f.1 in
       let z : 0 + length xs ≡ length xs = omega arith in
       let text : q ≡ line_text o (length xs) x ++ (lines_text o (length xs + 1) us ++ r) =
-      m.rest ∙ ap (λ v. lines_text o (0 + length xs) v ++ r) f.2 ∙ ap (λ v. lines_text o v (x ∷ us) ++ r) z ∙ append_assoc (line_text o (length xs) x) (lines_text o (length xs + 1) us) r in
+      m.rest ∙ ap (λ v. lines_text o (0 + length xs) v ++ r) f.2 ∙ ap (λ v. lines_text o v (x ∷ us) ++ r) z
+          ∙ append_assoc (line_text o (length xs) x) (lines_text o (length xs + 1) us) r in
       let back = from_first LooksBack (places_of s ls) (length xs) p (looks_back ls) within in
-      let same : (j : ℕ) → j < length xs → line_at b ys j ≡ line_at b xs j = λ j l. ap (λ v. get_or v j (no_line b)) m.is ∙ get_or_append_left xs m.more (no_line b) j l in
+      let same : (j : ℕ) → j < length xs → line_at b ys j ≡ line_at b xs j =
+          λ j l. ap (λ v. get_or v j (no_line b)) m.is ∙ get_or_append_left xs m.more (no_line b) j l in
       none x (lines_text o (length xs + 1) us ++ r) (record { formed = f.3.0; is = text })
       (meets_same lat (line_at b ys) (line_at b xs) (length xs) same p x (subst (λ v. LooksBack (length xs) v) (sym at) back) f.3.1)
 
@@ -151,7 +165,8 @@ module _ (s : Syntax) (valid : IsValid s) where
   no_variable ls ms ys bytes q r d h k within at none more =
       let longer : length ls < length ms =
       ⊎_elim (λ (x : length ls < length ms). x)
-      (λ (x : length ms ≤ length ls). let some : 0 < length ys = omega (arith, x, more) in let em = k.complete some in omega (arith, em, within, x)) (cases_lt (length ls) (length ms)) in
+      (λ (x : length ms ≤ length ls). let some : 0 < length ys = omega (arith, x, more) in let em = k.complete some in
+          omega (arith, em, within, x)) (cases_lt (length ls) (length ms)) in
       let m = more_labels o valid.order ds ls ms q (L ys ++ r) h.variables k.variables (omega (arith, longer)) (both_texts ls ms [] ys bytes q r h k) in
       let f = first_of_more (FitsDeclaration s.order.size) ds (length ls) d m.more within at (more_than ls ms m.more m.is longer) m.fit in
       let l = f.0 in
@@ -159,11 +174,13 @@ module _ (s : Syntax) (valid : IsValid s) where
       let dr : drop (length ls) ds ≡ d ∷ drop (length ls + 1) ds = drop_more ds (length ls) d within ∙ ap (λ z. z ∷ drop (length ls + 1) ds) (sym at) in
       let rest = variables_text o (drop (length ls + 1) ds) us in
       let text : q ≡ variable_text o d.0 l ++ (rest ++ (L ys ++ r)) =
-      m.rest ∙ ap (λ v. variables_text o (drop (length ls) ds) v ++ (L ys ++ r)) f.2 ∙ ap (λ v. variables_text o v (l ∷ us) ++ (L ys ++ r)) dr ∙ append_assoc (variable_text o d.0 l) rest (L ys ++ r) in
+      m.rest ∙ ap (λ v. variables_text o (drop (length ls) ds) v ++ (L ys ++ r)) f.2 ∙ ap (λ v. variables_text o v (l ∷ us) ++ (L ys ++ r)) dr
+          ∙ append_assoc (variable_text o d.0 l) rest (L ys ++ r) in
       none l (rest ++ (L ys ++ r)) (record { below = f.3.0; is = text }) f.3.1
 
   -- the first line is wrong
-  pub no_first : (ms : List Label) (ys : List Line) (bytes r : List ℕ) → ((q : List ℕ) → bytes ≡ codes "certificate 1\n" ++ q → ⊥) → BeginsWith s ms ys bytes r → ⊥
+  pub no_first : (ms : List Label) (ys : List Line) (bytes r : List ℕ) → ((q : List ℕ) → bytes ≡ codes "certificate 1\n" ++ q → ⊥)
+      → BeginsWith s ms ys bytes r → ⊥
   no_first ms ys bytes r none k = none (V ms ++ (L ys ++ r)) (text_is ms ys bytes r k)
 
   -- so the line after k right ones is the first wrong one
@@ -177,7 +194,8 @@ module _ (s : Syntax) (valid : IsValid s) where
       }
 
   -- and where more follows a whole certificate, that is the line after its last
-  pub is_surplus : (ls : List Label) (xs : List Line) (bytes q : List ℕ) (n : ℕ) → BeginsWith s ls xs bytes q → length ls ≡ length ds → length xs ≡ count (plan_of s) → 0 < length q →
+  pub is_surplus : (ls : List Label) (xs : List Line) (bytes q : List ℕ) (n : ℕ) → BeginsWith s ls xs bytes q → length ls ≡ length ds
+      → length xs ≡ count (plan_of s) → 0 < length q →
       n ≡ length ls + length xs + 2 → IsFirstWrong s bytes n
   is_surplus ls xs bytes q n h el ex some en =
       record {

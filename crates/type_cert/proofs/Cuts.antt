@@ -1,5 +1,6 @@
 -- What stands at the front of a text, and what follows it, are one.
-use Rattle.std.proofs.Common.{◌≡◌, ℕ, ◌<◌, refl, sym, ap, ◌∙◌, subst, List, [], ◌∷◌, ◌++◌, append_assoc, true, false, get_or, length, length-drop, take, drop, ◌-◌, arith, None, Some, ⊎_elim, ◌≤◌}
+use Rattle.std.proofs.Common.{◌≡◌, ℕ, ◌<◌, refl, sym, ap, ◌∙◌, subst, List, [], ◌∷◌, ◌++◌, append_assoc, true, false, get_or, length, length-drop, take, drop}
+use Rattle.std.proofs.Common.{◌-◌, arith, None, Some, ⊎_elim, ◌≤◌}
 use Rattle.std.specs.Prelude.{Option, codes, decimal}
 use Rattle.std.proofs.lemmas.List.{append_cancel_left, take-append-drop, take_all}
 use Rattle.std.proofs.lemmas.Bool.{cases_lt}
@@ -21,7 +22,8 @@ differ : {X : Type 0} → true ≡ false → X
 differ e = cc
 
 -- bytes of names, and then something else
-pub same_names : (n m q r : List ℕ) → Each is_name_byte n → Each is_name_byte m → StopsAt is_name_byte q → StopsAt is_name_byte r → n ++ q ≡ m ++ r → (n ≡ m) × (q ≡ r)
+pub same_names : (n m q r : List ℕ) → Each is_name_byte n → Each is_name_byte m → StopsAt is_name_byte q → StopsAt is_name_byte r
+    → n ++ q ≡ m ++ r → (n ≡ m) × (q ≡ r)
 same_names [] [] q r hn hm hq hr e = (refl, e)
 same_names [] (b ∷ m) q r hn hm hq hr e = differ (sym hm.0 ∙ subst (StopsAt is_name_byte) e hq)
 same_names (a ∷ n) [] q r hn hm hq hr e = differ (sym hn.0 ∙ subst (StopsAt is_name_byte) (sym e) hr)
@@ -71,8 +73,10 @@ module _ (o : Order) (ok : IsOrder o) where
 
       some : (l m : Label) → v ≡ Some l → w ≡ Some m → (v ≡ w) × (q ≡ r)
       some l m a b =
-          let x : ReadsLabel o (codes " level ") text l q = record { below = subst (IsBelow o.size) a h.below; is = h.is ∙ ap (λ z. level_text o z ++ q) a; stops = h.stops } in
-          let y : ReadsLabel o (codes " level ") text m r = record { below = subst (IsBelow o.size) b k.below; is = k.is ∙ ap (λ z. level_text o z ++ r) b; stops = k.stops } in
+          let x : ReadsLabel o (codes " level ") text l q =
+              record { below = subst (IsBelow o.size) a h.below; is = h.is ∙ ap (λ z. level_text o z ++ q) a; stops = h.stops } in
+          let y : ReadsLabel o (codes " level ") text m r =
+              record { below = subst (IsBelow o.size) b k.below; is = k.is ∙ ap (λ z. level_text o z ++ r) b; stops = k.stops } in
           let z = cut_label (codes " level ") text l m q r x y in
           (a ∙ ap Some z.0 ∙ sym b, z.1)
 
@@ -193,17 +197,21 @@ module _ (o : Order) (ok : IsOrder o) where
       let pc = to_pc i act text x q h (after_head y r) e0 y.pc (after_pc y r) h1 in
       let start = to_start i act text x q h (after_head y r) e0 y.pc (after_pc y r) h1 y.start (after_start y r) h2 in
       let read = to_read i act text x q h (after_head y r) e0 y.pc (after_pc y r) h1 y.start (after_start y r) h2 y.read (after_read y r) h3 in
-      let write = to_write i act text x q h (after_head y r) e0 y.pc (after_pc y r) h1 y.start (after_start y r) h2 y.read (after_read y r) h3 y.write (after_write y r) h4 in
-      let end = to_end i act text x q h (after_head y r) e0 y.pc (after_pc y r) h1 y.start (after_start y r) h2 y.read (after_read y r) h3 y.write (after_write y r) h4 y.end (after_end y r) h5 in
+      let write = to_write i act text x q h (after_head y r) e0 y.pc (after_pc y r) h1 y.start (after_start y r) h2 y.read (after_read y r) h3
+          y.write (after_write y r) h4 in
+      let end = to_end i act text x q h (after_head y r) e0 y.pc (after_pc y r) h1 y.start (after_start y r) h2 y.read (after_read y r) h3 y.write
+          (after_write y r) h4 y.end (after_end y r) h5 in
       let level =
-      to_level i act text x q h (after_head y r) e0 y.pc (after_pc y r) h1 y.start (after_start y r) h2 y.read (after_read y r) h3 y.write (after_write y r) h4 y.end (after_end y r) h5 y.level (after_level r) h6 in
+      to_level i act text x q h (after_head y r) e0 y.pc (after_pc y r) h1 y.start (after_start y r) h2 y.read (after_read y r) h3 y.write (after_write y r) h4
+          y.end (after_end y r) h5 y.level (after_level r) h6 in
       let rule = h.formed.rule ∙ sym k.formed.rule in
       (same_line x y rule pc.0 start.0 read.0 write.0 end.0 level.0, append_cancel_left (codes "\n") q r level.1)
     where
       the_line : Rule → Label → Label → Label → Label → Label → Option Label → Line
       the_line r a b c d e v = record { rule = r; pc = a; start = b; read = c; write = d; end = e; level = v }
 
-      same_line : (x y : Line) → x.rule ≡ y.rule → x.pc ≡ y.pc → x.start ≡ y.start → x.read ≡ y.read → x.write ≡ y.write → x.end ≡ y.end → x.level ≡ y.level → x ≡ y
+      same_line : (x y : Line) → x.rule ≡ y.rule → x.pc ≡ y.pc → x.start ≡ y.start → x.read ≡ y.read → x.write ≡ y.write
+          → x.end ≡ y.end → x.level ≡ y.level → x ≡ y
       same_line x y a b c d e f g =
           ap (λ z. the_line z x.pc x.start x.read x.write x.end x.level) a ∙ ap (λ z. the_line y.rule z x.start x.read x.write x.end x.level) b
           ∙ ap (λ z. the_line y.rule y.pc z x.read x.write x.end x.level) c ∙ ap (λ z. the_line y.rule y.pc y.start z x.write x.end x.level) d
@@ -215,7 +223,8 @@ module _ (o : Order) (ok : IsOrder o) where
     pub at_name : text ≡ codes "var " ++ (w ++ (named o (codes " ") l ++ (codes "\n" ++ q)))
     at_name =
         h.is ∙ append_assoc (codes "var ") (w ++ (named o (codes " ") l ++ codes "\n")) q
-        ∙ ap (λ z. codes "var " ++ z) (append_assoc w (named o (codes " ") l ++ codes "\n") q ∙ ap (λ z. w ++ z) (append_assoc (named o (codes " ") l) (codes "\n") q))
+        ∙ ap (λ z. codes "var " ++ z) (append_assoc w (named o (codes " ") l ++ codes "\n") q
+            ∙ ap (λ z. w ++ z) (append_assoc (named o (codes " ") l) (codes "\n") q))
 
     pub past_name : (r0 r1 : List ℕ) → text ≡ codes "var " ++ r0 → r0 ≡ w ++ r1 → r1 ≡ named o (codes " ") l ++ (codes "\n" ++ q)
     past_name r0 r1 e f =
@@ -236,19 +245,24 @@ module _ (o : Order) (ok : IsOrder o) where
 -- a label behind words, and the label alone
 pub behind : (o : Order) (words text rest : List ℕ) (l : Label) (q : List ℕ) → text ≡ words ++ rest → ReadsLabel o words text l q → ReadsLabel o [] rest l q
 behind o words text rest l q e h =
-    record { below = h.below; is = append_cancel_left words rest (name_of o l.number ++ q) (sym e ∙ h.is ∙ append_assoc words (name_of o l.number) q); stops = h.stops }
+    record { below = h.below; is = append_cancel_left words rest (name_of o l.number ++ q) (sym e ∙ h.is ∙ append_assoc words (name_of o l.number) q); stops =
+        h.stops }
 
 pub before_it : (o : Order) (words text rest : List ℕ) (l : Label) (q : List ℕ) → text ≡ words ++ rest → ReadsLabel o [] rest l q → ReadsLabel o words text l q
-before_it o words text rest l q e h = record { below = h.below; is = e ∙ ap (λ z. words ++ z) h.is ∙ sym (append_assoc words (name_of o l.number) q); stops = h.stops }
+before_it o words text rest l q e h =
+    record { below = h.below; is = e ∙ ap (λ z. words ++ z) h.is ∙ sym (append_assoc words (name_of o l.number) q); stops = h.stops }
 
 -- a text from the number of bytes of names at its front
-module _ (o : Order) (ok : IsOrder o) (text : List ℕ) (n : ℕ) (within : n ≤ length text) (passes : (k : ℕ) → k < n → is_name_byte (get_or text k 0) ≡ true) (stops : n < length text → is_name_byte (get_or text n 0) ≡ false) where
+module _ (o : Order) (ok : IsOrder o) (text : List ℕ) (n : ℕ) (within : n ≤ length text) (passes : (k : ℕ) → k < n
+    → is_name_byte (get_or text k 0) ≡ true) (stops : n < length text → is_name_byte (get_or text n 0) ≡ false) where
   pub front_is : (l : Label) (q : List ℕ) → ReadsLabel o [] text l q → (take n text ≡ name_of o l.number) × (drop n text ≡ q)
   front_is l q h =
-      same_names (take n text) (name_of o l.number) (drop n text) q (front_passes is_name_byte text n within passes) (name_is o ok l h.below) (rest_stops is_name_byte text n within stops) h.stops
+      same_names (take n text) (name_of o l.number) (drop n text) q (front_passes is_name_byte text n within passes) (name_is o ok l h.below)
+          (rest_stops is_name_byte text n within stops) h.stops
       (take-append-drop n text ∙ h.is)
 
-  pub front_reads : (l : Label) (name : List ℕ) → l.number < o.size → name_of o l.number ≡ name → name ≡ take n text → ReadsLabel o [] text l (take (length text - n) (drop n text))
+  pub front_reads : (l : Label) (name : List ℕ) → l.number < o.size → name_of o l.number ≡ name → name ≡ take n text
+      → ReadsLabel o [] text l (take (length text - n) (drop n text))
   front_reads l name below e f =
       let d = length-drop n text in
       let rest : take (length text - n) (drop n text) ≡ drop n text = take_all (length text - n) (drop n text) (omega (arith, d)) in
@@ -262,8 +276,10 @@ module _ (o : Order) (ok : IsOrder o) (text : List ℕ) (n : ℕ) (within : n �
   front_named l q h = let f = ok.named in let b = h.below in subst IsName (sym (front_is l q h).0) (ok.names l.number [] (omega (arith, b, f)))
 
 -- a line from its parts, as code reads them
-pub line_from : (o : Order) (i : ℕ) (act : Act) (text r0 r1 r2 r3 r4 r5 r6 r7 : List ℕ) (rule : Rule) (pc start read write end : Label) (level : Option Label) → rule ≡ rule_of act →
-    text ≡ head_text i rule ++ r0 → ReadsLabel o (codes " pc ") r0 pc r1 → ReadsLabel o (codes " start ") r1 start r2 → ReadsLabel o (codes " er ") r2 read r3 → ReadsLabel o (codes " ew ") r3 write r4 →
+pub line_from : (o : Order) (i : ℕ) (act : Act) (text r0 r1 r2 r3 r4 r5 r6 r7 : List ℕ) (rule : Rule) (pc start read write end : Label) (level : Option Label)
+    → rule ≡ rule_of act →
+    text ≡ head_text i rule ++ r0 → ReadsLabel o (codes " pc ") r0 pc r1 → ReadsLabel o (codes " start ") r1 start r2 → ReadsLabel o (codes " er ") r2 read r3
+        → ReadsLabel o (codes " ew ") r3 write r4 →
     ReadsLabel o (codes " end ") r4 end r5 → ReadsLevel o act r5 level r6 → r6 ≡ codes "\n" ++ r7 →
     ReadsLine o i act text (record { rule = rule; pc = pc; start = start; read = read; write = write; end = end; level = level }) r7
 line_from o i act text r0 r1 r2 r3 r4 r5 r6 r7 rule pc start read write end level er e0 h1 h2 h3 h4 h5 h6 e7 =
@@ -296,9 +312,11 @@ head_parts i rule text r0 q e h =
     append_cancel_left (decimal i) r0 (codes " " ++ (rule_name rule ++ q))
     (sym e ∙ h ∙ append_assoc (decimal i) (codes " " ++ rule_name rule) q ∙ ap (λ z. decimal i ++ z) (append_assoc (codes " ") (rule_name rule) q))
 
-pub head_from : (i : ℕ) (rule : Rule) (text r0 r1 r2 : List ℕ) → text ≡ decimal i ++ r0 → r0 ≡ codes " " ++ r1 → r1 ≡ rule_name rule ++ r2 → text ≡ head_text i rule ++ r2
+pub head_from : (i : ℕ) (rule : Rule) (text r0 r1 r2 : List ℕ) → text ≡ decimal i ++ r0 → r0 ≡ codes " " ++ r1 → r1 ≡ rule_name rule ++ r2
+    → text ≡ head_text i rule ++ r2
 head_from i rule text r0 r1 r2 e0 e1 e2 =
-    e0 ∙ ap (λ z. decimal i ++ z) (e1 ∙ ap (λ z. codes " " ++ z) e2 ∙ sym (append_assoc (codes " ") (rule_name rule) r2)) ∙ sym (append_assoc (decimal i) (codes " " ++ rule_name rule) r2)
+    e0 ∙ ap (λ z. decimal i ++ z) (e1 ∙ ap (λ z. codes " " ++ z) e2 ∙ sym (append_assoc (codes " ") (rule_name rule) r2))
+        ∙ sym (append_assoc (decimal i) (codes " " ++ rule_name rule) r2)
 
 pub head_rule : (rule : Rule) (r0 r1 q : List ℕ) → r0 ≡ codes " " ++ r1 → r0 ≡ codes " " ++ (rule_name rule ++ q) → r1 ≡ rule_name rule ++ q
 head_rule rule r0 r1 q e h = append_cancel_left (codes " ") r1 (rule_name rule ++ q) (sym e ∙ h)

@@ -33,7 +33,8 @@ module _ (lat : Lattice) (ll : IsLattice lat) (g : ℕ → ℕ) where
 
   -- the left sides of assignments, with fewer joins
   pub assign_end : (pc t x : ℕ) (m : Placed) (e : Expression) →
-      lat.join (g x) (lat.join (lat.join (lat.join (label_of lat g e) pc) t) m.marks.er) ≡ lat.join (g x) (demand lat pc t m (label_of lat g e) (index_label lat g e))
+      lat.join (g x) (lat.join (lat.join (lat.join (label_of lat g e) pc) t) m.marks.er)
+          ≡ lat.join (g x) (demand lat pc t m (label_of lat g e) (index_label lat g e))
   assign_end pc t x m e = ap (λ z. lat.join (g x) (lat.join (lat.join (lat.join z pc) t) m.marks.er)) (sym (both_read e))
 
   put_read : (i e : Expression) → lat.join (label_of lat g e) (label_of lat g i) ≡ lat.join (label_of lat g e) (put_index lat g i e)
@@ -45,7 +46,8 @@ module _ (lat : Lattice) (ll : IsLattice lat) (g : ℕ → ℕ) where
       sym (absorbs lat ll x (lat.join le li) f) ∙ assoc lat ll le li x
 
   pub put_end : (pc t x : ℕ) (m : Placed) (i e : Expression) →
-      lat.join (g x) (lat.join (lat.join (lat.join (lat.join (label_of lat g e) (label_of lat g i)) pc) t) m.marks.er) ≡ lat.join (g x) (demand lat pc t m (label_of lat g e) (put_index lat g i e))
+      lat.join (g x) (lat.join (lat.join (lat.join (lat.join (label_of lat g e) (label_of lat g i)) pc) t) m.marks.er)
+          ≡ lat.join (g x) (demand lat pc t m (label_of lat g e) (put_index lat g i e))
   put_end pc t x m i e = ap (λ z. lat.join (g x) (lat.join (lat.join (lat.join z pc) t) m.marks.er)) (put_read i e)
 
 module _ (lat : Lattice) (g : ℕ → ℕ) (ms : ℕ → Marks) (ls : ℕ → ℕ) where
@@ -65,7 +67,8 @@ module _ (lat : Lattice) (g : ℕ → ℕ) (ms : ℕ → Marks) (ls : ℕ → �
   moved_end : (p : Plan) (i j pc pc' t t' : ℕ) → i ≡ j → pc ≡ pc' → t ≡ t' → W p i pc t ≡ W p j pc' t'
   moved_end p i j pc pc' t t' a b c = ap (λ z. W p z pc t) a ∙ ap (λ z. W p j z t) b ∙ ap (λ z. W p j pc' z) c
 
-  module _ (w : Written) (e : Expression) (pc t le read write : Label) (x : List Line) (k : ℕ) (hk : k ≡ length x) (hle : le.number ≡ label_of lat g e) (her : read.number ≡ (ms k).er) (hew : write.number ≡ (ms k).ew) where
+  module _ (w : Written) (e : Expression) (pc t le read write : Label) (x : List Line) (k : ℕ) (hk : k ≡ length x) (hle : le.number ≡ label_of lat g e)
+      (her : read.number ≡ (ms k).er) (hew : write.number ≡ (ms k).ew) where
     abbrev n : ℕ
     n = length x
 
@@ -102,8 +105,10 @@ module _ (lat : Lattice) (g : ℕ → ℕ) (ms : ℕ → Marks) (ls : ℕ → �
         ∙ ap (λ (z : Label). record { rule = r; pc = pc; start = t; read = read; write = write; end = z; level = v }) (sym (ap label h))
 
     -- a command that has no parts
-    alone : (q rest : Plan) (r : Rule) (end : Label) (end' : ℕ) (l : Line) (u : List Line) → D q n pc.number t.number ≡ line_of r pc.number t.number (placed ms w n) end' None ∷ D rest (n + 1) pc.number end' →
-        W q n pc.number t.number ≡ W rest (n + 1) pc.number end' → end.number ≡ end' → l ≡ record { rule = r; pc = pc; start = t; read = read; write = write; end = end; level = None } → u ≡ x ++ l ∷ [] →
+    alone : (q rest : Plan) (r : Rule) (end : Label) (end' : ℕ) (l : Line) (u : List Line)
+        → D q n pc.number t.number ≡ line_of r pc.number t.number (placed ms w n) end' None ∷ D rest (n + 1) pc.number end' →
+        W q n pc.number t.number ≡ W rest (n + 1) pc.number end' → end.number ≡ end'
+            → l ≡ record { rule = r; pc = pc; start = t; read = read; write = write; end = end; level = None } → u ≡ x ++ l ∷ [] →
         (x ++ D q n pc.number t.number ≡ u ++ D rest (length u) pc.number end.number) × (W q n pc.number t.number ≡ W rest (length u) pc.number end.number)
     alone q rest r end end' l u hd hw he hl hu =
         let lu = ap length hu ∙ length-append x (l ∷ []) in
@@ -116,7 +121,8 @@ module _ (lat : Lattice) (g : ℕ → ℕ) (ms : ℕ → Marks) (ls : ℕ → �
         )
 
     pub assign_lines : (ll : IsLattice lat) (q rest : Plan) (v : ℕ) (end : Label) (l : Line) (u : List Line) → q ≡ Assign w v e rest →
-        end.number ≡ lat.join (g v) (lat.join (lat.join (lat.join le.number pc.number) t.number) read.number) → l ≡ record { rule = RAsgn; pc = pc; start = t; read = read; write = write; end = end; level = None } → u ≡ x ++ l ∷ [] →
+        end.number ≡ lat.join (g v) (lat.join (lat.join (lat.join le.number pc.number) t.number) read.number)
+            → l ≡ record { rule = RAsgn; pc = pc; start = t; read = read; write = write; end = end; level = None } → u ≡ x ++ l ∷ [] →
         (x ++ D q n pc.number t.number ≡ u ++ D rest (length u) pc.number end.number) × (W q n pc.number t.number ≡ W rest (length u) pc.number end.number)
     assign_lines ll q rest v end l u hq he hl hu =
         let end' = lat.join (g v) (demand lat pc.number t.number (placed ms w n) (label_of lat g e) (index_label lat g e)) in
@@ -126,8 +132,10 @@ module _ (lat : Lattice) (g : ℕ → ℕ) (ms : ℕ → Marks) (ls : ℕ → �
         ∙ assign_end lat ll g pc.number t.number v (placed ms w n) e in
         alone q rest RAsgn end end' l u (ap (λ z. D z n pc.number t.number) hq) (ap (λ z. W z n pc.number t.number) hq) e2 hl hu
 
-    pub put_lines : (ll : IsLattice lat) (q rest : Plan) (f m : ℕ) (i : Expression) (li end : Label) (l : Line) (u : List Line) → q ≡ Put w f m i e rest → li.number ≡ label_of lat g i →
-        end.number ≡ lat.join (g f) (lat.join (lat.join (lat.join (lat.join le.number li.number) pc.number) t.number) read.number) → l ≡ record { rule = RAsgn; pc = pc; start = t; read = read; write = write; end = end; level = None } → u ≡ x ++ l ∷ [] →
+    pub put_lines : (ll : IsLattice lat) (q rest : Plan) (f m : ℕ) (i : Expression) (li end : Label) (l : Line) (u : List Line) → q ≡ Put w f m i e rest
+        → li.number ≡ label_of lat g i →
+        end.number ≡ lat.join (g f) (lat.join (lat.join (lat.join (lat.join le.number li.number) pc.number) t.number) read.number)
+            → l ≡ record { rule = RAsgn; pc = pc; start = t; read = read; write = write; end = end; level = None } → u ≡ x ++ l ∷ [] →
         (x ++ D q n pc.number t.number ≡ u ++ D rest (length u) pc.number end.number) × (W q n pc.number t.number ≡ W rest (length u) pc.number end.number)
     put_lines ll q rest f m i li end l u hq hli he hl hu =
         let end' = lat.join (g f) (demand lat pc.number t.number (placed ms w n) (label_of lat g e) (put_index lat g i e)) in
@@ -138,12 +146,16 @@ module _ (lat : Lattice) (g : ℕ → ℕ) (ms : ℕ → Marks) (ls : ℕ → �
         ∙ put_end lat ll g pc.number t.number f (placed ms w n) i e in
         alone q rest RAsgn end end' l u (ap (λ z. D z n pc.number t.number) hq) (ap (λ z. W z n pc.number t.number) hq) e2 hl hu
 
-    pub if_lines : (q a b rest : Plan) (inner start one other end : Label) (l l' : Line) (u y z f : List Line) → q ≡ If w e a b rest → inner.number ≡ lat.join pc.number le.number →
-        start.number ≡ lat.join (lat.join t.number le.number) read.number → l' ≡ record { rule = RIf; pc = pc; start = t; read = read; write = write; end = end; level = None } → u ≡ x ++ l ∷ [] →
-        y ≡ u ++ D a (length u) inner.number start.number → one.number ≡ W a (length u) inner.number start.number → z ≡ y ++ D b (length y) inner.number start.number →
+    pub if_lines : (q a b rest : Plan) (inner start one other end : Label) (l l' : Line) (u y z f : List Line) → q ≡ If w e a b rest
+        → inner.number ≡ lat.join pc.number le.number →
+        start.number ≡ lat.join (lat.join t.number le.number) read.number
+            → l' ≡ record { rule = RIf; pc = pc; start = t; read = read; write = write; end = end; level = None } → u ≡ x ++ l ∷ [] →
+        y ≡ u ++ D a (length u) inner.number start.number → one.number ≡ W a (length u) inner.number start.number
+            → z ≡ y ++ D b (length y) inner.number start.number →
         other.number ≡ W b (length y) inner.number start.number → end.number ≡ lat.join one.number other.number →
         f ≡ x ++ l' ∷ (D a (length u) inner.number start.number ++ D b (length y) inner.number start.number) →
-        (length f ≡ n + 1 + count a + count b) × (x ++ D q n pc.number t.number ≡ f ++ D rest (length f) pc.number end.number) × (W q n pc.number t.number ≡ W rest (length f) pc.number end.number)
+        (length f ≡ n + 1 + count a + count b) × (x ++ D q n pc.number t.number ≡ f ++ D rest (length f) pc.number end.number)
+            × (W q n pc.number t.number ≡ W rest (length f) pc.number end.number)
     if_lines q a b rest inner start one other end l l' u y z f hq hi hs hl hu hy h1 hz h2 he hf =
         let A = D a (length u) inner.number start.number in
         let B = D b (length y) inner.number start.number in
@@ -176,14 +188,18 @@ module _ (lat : Lattice) (g : ℕ → ℕ) (ms : ℕ → Marks) (ls : ℕ → �
               ∙ ap (λ v. x ++ l' ∷ v) (sym (append_assoc A B R))
               ∙ sym (append_assoc x (l' ∷ (A ++ B)) R)
               ∙ ap (λ v. v ++ R) (sym hf),
-          ap (λ v. W v n pc.number t.number) hq ∙ moved_end rest (n + 1 + count a + count b) (length f) pc.number pc.number ends end.number (sym nf) refl (sym e2),
+          ap (λ v. W v n pc.number t.number) hq ∙ moved_end rest (n + 1 + count a + count b) (length f) pc.number pc.number ends
+              end.number (sym nf) refl (sym e2),
         )
 
-    pub while_lines : (ll : IsLattice lat) (q d rest : Plan) (inner start end : Label) (l l' : Line) (u y f : List Line) → q ≡ While w e d rest → inner.number ≡ lat.join pc.number le.number →
-        start.number ≡ lat.join (lat.join le.number t.number) read.number → l' ≡ record { rule = RWhile; pc = pc; start = t; read = read; write = write; end = end; level = None } → u ≡ x ++ l ∷ [] →
+    pub while_lines : (ll : IsLattice lat) (q d rest : Plan) (inner start end : Label) (l l' : Line) (u y f : List Line) → q ≡ While w e d rest
+        → inner.number ≡ lat.join pc.number le.number →
+        start.number ≡ lat.join (lat.join le.number t.number) read.number
+            → l' ≡ record { rule = RWhile; pc = pc; start = t; read = read; write = write; end = end; level = None } → u ≡ x ++ l ∷ [] →
         y ≡ u ++ D d (length u) inner.number start.number → end.number ≡ W d (length u) inner.number start.number →
         f ≡ x ++ l' ∷ map (raised lat end.number) (D d (length u) inner.number start.number) →
-        (length f ≡ n + 1 + count d) × (x ++ D q n pc.number t.number ≡ f ++ D rest (length f) pc.number end.number) × (W q n pc.number t.number ≡ W rest (length f) pc.number end.number)
+        (length f ≡ n + 1 + count d) × (x ++ D q n pc.number t.number ≡ f ++ D rest (length f) pc.number end.number)
+            × (W q n pc.number t.number ≡ W rest (length f) pc.number end.number)
     while_lines ll q d rest inner start end l l' u y f hq hi hs hl hu hy he hf =
         let C = D d (length u) inner.number start.number in
         let M = map (raised lat end.number) C in
@@ -214,9 +230,11 @@ module _ (lat : Lattice) (g : ℕ → ℕ) (ms : ℕ → Marks) (ls : ℕ → �
         )
 
     pub mitigate_lines : (j : ℕ) (v : Option Label) (q d rest : Plan) (end lev : Label) (l : Line) (u y : List Line) → q ≡ Mitigate w j v e d rest →
-        end.number ≡ lat.join (lat.join t.number le.number) read.number → lev.number ≡ ls j → l ≡ record { rule = RMtg; pc = pc; start = t; read = read; write = write; end = end; level = Some lev } → u ≡ x ++ l ∷ [] →
+        end.number ≡ lat.join (lat.join t.number le.number) read.number → lev.number ≡ ls j
+            → l ≡ record { rule = RMtg; pc = pc; start = t; read = read; write = write; end = end; level = Some lev } → u ≡ x ++ l ∷ [] →
         y ≡ u ++ D d (length u) pc.number end.number →
-        (length y ≡ n + 1 + count d) × (x ++ D q n pc.number t.number ≡ y ++ D rest (length y) pc.number end.number) × (W q n pc.number t.number ≡ W rest (length y) pc.number end.number)
+        (length y ≡ n + 1 + count d) × (x ++ D q n pc.number t.number ≡ y ++ D rest (length y) pc.number end.number)
+            × (W q n pc.number t.number ≡ W rest (length y) pc.number end.number)
     mitigate_lines j v q d rest end lev l u y hq hs hv hl hu hy =
         let C = D d (length u) pc.number end.number in
         let lu = ap length hu ∙ length-append x (l ∷ []) in

@@ -61,12 +61,17 @@ last_below (While w e d p) i last h = let q = last_below p (i + 1 + count d) i (
 last_below (Mitigate w k l e d p) i last h = let q = last_below p (i + 1 + count d) i (inr (omega arith)) in omega (arith, q)
 
 module _ (lat : Lattice) (g : ℕ → ℕ) (size : ℕ) (ds : List Declaration) where
-  pub all_back : (p : Plan) (i pc : ℕ) (s : Start) (c : Close) → AreKnown size ds p → StartsBack i s → ClosesBack i c → AllFrom LooksBack i (places lat g p i pc s c)
+  pub all_back : (p : Plan) (i pc : ℕ) (s : Start) (c : Close) → AreKnown size ds p → StartsBack i s → ClosesBack i c
+      → AllFrom LooksBack i (places lat g p i pc s c)
   all_back Done i pc s c kn hs hc = tt
-  all_back (Skip w p) i pc s c kn hs hc = ((hs, closing_back i p c hc), all_back p (i + 1) pc (After i) c kn.1 (omega arith) (later_close i (i + 1) c (omega arith) hc))
-  all_back (Assign w x e p) i pc s c kn hs hc = ((hs, closing_back i p c hc), all_back p (i + 1) pc (After i) c kn.3 (omega arith) (later_close i (i + 1) c (omega arith) hc))
-  all_back (Put w f n j e p) i pc s c kn hs hc = ((hs, closing_back i p c hc), all_back p (i + 1) pc (After i) c kn.4 (omega arith) (later_close i (i + 1) c (omega arith) hc))
-  all_back (Sleep w e p) i pc s c kn hs hc = ((hs, closing_back i p c hc), all_back p (i + 1) pc (After i) c kn.2 (omega arith) (later_close i (i + 1) c (omega arith) hc))
+  all_back (Skip w p) i pc s c kn hs hc =
+      ((hs, closing_back i p c hc), all_back p (i + 1) pc (After i) c kn.1 (omega arith) (later_close i (i + 1) c (omega arith) hc))
+  all_back (Assign w x e p) i pc s c kn hs hc =
+      ((hs, closing_back i p c hc), all_back p (i + 1) pc (After i) c kn.3 (omega arith) (later_close i (i + 1) c (omega arith) hc))
+  all_back (Put w f n j e p) i pc s c kn hs hc =
+      ((hs, closing_back i p c hc), all_back p (i + 1) pc (After i) c kn.4 (omega arith) (later_close i (i + 1) c (omega arith) hc))
+  all_back (Sleep w e p) i pc s c kn hs hc =
+      ((hs, closing_back i p c hc), all_back p (i + 1) pc (After i) c kn.2 (omega arith) (later_close i (i + 1) c (omega arith) hc))
   all_back (If w e a b p) i pc s c kn hs hc =
       let inner = lat.join pc (label_of lat g e) in
       let start = Within i (label (label_of lat g e)) in
@@ -81,7 +86,8 @@ module _ (lat : Lattice) (g : ℕ → ℕ) (size : ℕ) (ds : List Declaration) 
       let rb = all_back b ib inner start joins kn.5 (omega arith) (omega arith, omega (arith, last)) in
       let rp = all_back p ip pc (After i) c kn.6 (omega arith) (later_close i ip c (omega arith) hc) in (
         (hs, closing_back i p c hc),
-        from_both LooksBack (places lat g a ia inner start Open) (places lat g b ib inner start joins ++ places lat g p ip pc (After i) c) ia ib (omega (arith, na)) ra
+        from_both LooksBack (places lat g a ia inner start Open) (places lat g b ib inner start joins
+            ++ places lat g p ip pc (After i) c) ia ib (omega (arith, na)) ra
             (from_both LooksBack (places lat g b ib inner start joins) (places lat g p ip pc (After i) c) ib ip (omega (arith, nb)) rb rp),
       )
   all_back (While w e d p) i pc s c kn hs hc =

@@ -19,7 +19,8 @@ module _ (o : Order) (ok : IsOrder o) where
     pub rest : q ≡ variables_text o (drop (length ls) ds) more ++ r
     pub fit : AllFit (FitsDeclaration o.size) (drop (length ls) ds) more
 
-  pub more_labels : (ds : List Declaration) (ls ms : List Label) (q r : List ℕ) → AllFit (FitsDeclaration o.size) ds ls → AllFit (FitsDeclaration o.size) ds ms → length ls ≤ length ms →
+  pub more_labels : (ds : List Declaration) (ls ms : List Label) (q r : List ℕ) → AllFit (FitsDeclaration o.size) ds ls
+      → AllFit (FitsDeclaration o.size) ds ms → length ls ≤ length ms →
       variables_text o ds ls ++ q ≡ variables_text o ds ms ++ r → MoreLabels ds ls ms q r
   more_labels [] [] ms q r hl hm le e = record { more = ms; is = refl; rest = e; fit = hm }
   more_labels [] (l ∷ ls) ms q r hl hm le e = absurd hl
@@ -36,7 +37,8 @@ module _ (o : Order) (ok : IsOrder o) where
       record { more = k.more; is = ap (λ z. z ∷ ms) (sym c.0) ∙ ap (λ z. l ∷ z) k.is; rest = k.rest; fit = k.fit }
 
   -- the lines of commands in two texts
-  module _ (R S : Place → Line → Type 0) (formed : (p : Place) (x : Line) → R p x → IsFormed o.size p.act x) (formed' : (p : Place) (x : Line) → S p x → IsFormed o.size p.act x) where
+  module _ (R S : Place → Line → Type 0) (formed : (p : Place) (x : Line) → R p x → IsFormed o.size p.act x) (formed' : (p : Place) (x : Line) → S p x
+      → IsFormed o.size p.act x) where
     pub record MoreLines (ps : List Place) (i : ℕ) (xs ys : List Line) (q r : List ℕ) : Type 0 where
       pub more : List Line
       pub is : ys ≡ xs ++ more
@@ -46,7 +48,8 @@ module _ (o : Order) (ok : IsOrder o) where
     no_lines : (ps : List Place) (i : ℕ) (ys : List Line) (q r : List ℕ) → AllFit S ps ys → q ≡ lines_text o i ys ++ r → MoreLines ps i [] ys q r
     no_lines ps i ys q r hy e = let z : i ≡ i + 0 = omega arith in record { more = ys; is = refl; rest = e ∙ ap (λ j. lines_text o j ys ++ r) z; fit = hy }
 
-    pub more_lines : (ps : List Place) (i : ℕ) (xs ys : List Line) (q r : List ℕ) → AllFit R ps xs → AllFit S ps ys → length xs ≤ length ys → lines_text o i xs ++ q ≡ lines_text o i ys ++ r → MoreLines ps i xs ys q r
+    pub more_lines : (ps : List Place) (i : ℕ) (xs ys : List Line) (q r : List ℕ) → AllFit R ps xs → AllFit S ps ys → length xs ≤ length ys
+        → lines_text o i xs ++ q ≡ lines_text o i ys ++ r → MoreLines ps i xs ys q r
     more_lines ps i [] ys q r hx hy le e = no_lines ps i ys q r hy e
     more_lines [] i (x ∷ xs) ys q r hx hy le e = absurd hx
     more_lines (p ∷ ps) i (x ∷ xs) [] q r hx hy le e = absurd (omega (arith, le))

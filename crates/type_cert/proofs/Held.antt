@@ -1,5 +1,6 @@
 -- The lines of a walk hold the labelling that is walked.
-use Rattle.std.proofs.Common.{◌≡◌, ℕ, suc, ◌+◌, ◌-◌, ◌<◌, ◌≤◌, refl, sym, ap, ◌∙◌, subst, List, [], ◌∷◌, ◌++◌, length, length-append, take, get_or, map, arith, ⊎_elim}
+use Rattle.std.proofs.Common.{◌≡◌, ℕ, suc, ◌+◌, ◌-◌, ◌<◌, ◌≤◌, refl, sym, ap, ◌∙◌, subst, List, [], ◌∷◌, ◌++◌, length, length-append, take, get_or, map}
+use Rattle.std.proofs.Common.{arith, ⊎_elim}
 use Rattle.std.specs.Prelude.{Option, None, Some, replicate}
 use Rattle.std.proofs.lemmas.Bool.{cases_lt}
 use Rattle.std.proofs.lemmas.List.{get_or_append_left, get_or-append-add, get_or-replicate, length-replicate, take_more, map_more}
@@ -67,9 +68,11 @@ module _ (n b : ℕ) (all : List Label) where
       let m = length-cells_of d.0 d.1.label d.1.length in
       let l = length-append cd (cells ds) in
       let e : size_of d.1 + y ≡ length cd + y = omega (arith, m) in
-      let a : get_or (cells (d ∷ ds)) (size_of d.1 + y) c ≡ get_or (cells ds) y c = ap (λ z. get_or (cd ++ cells ds) z c) e ∙ get_or-append-add cd (cells ds) y c in
+      let a : get_or (cells (d ∷ ds)) (size_of d.1 + y) c ≡ get_or (cells ds) y c =
+          ap (λ z. get_or (cd ++ cells ds) z c) e ∙ get_or-append-add cd (cells ds) y c in
       let f : x + (size_of d.1 + y) ≡ x + size_of d.1 + y = omega arith in
-      subst (λ z. IsKept (get_or (cells ds) y c).label (g z)) f (subst (λ (z : Cell). IsKept z.label (g (x + (size_of d.1 + y)))) a (h (size_of d.1 + y) (omega (arith, m, i, l)) c))
+      subst (λ z. IsKept (get_or (cells ds) y c).label (g z)) f
+          (subst (λ (z : Cell). IsKept z.label (g (x + (size_of d.1 + y)))) a (h (size_of d.1 + y) (omega (arith, m, i, l)) c))
 
   pub declared_fit : (ds : List Declaration) (x : ℕ) → AreShaped ds → ((y : ℕ) → g y < n) → Kept ds x → AllFit (FitsDeclaration n) ds (declared_labels g x ds)
   declared_fit [] x sh gb h = tt
@@ -81,7 +84,8 @@ module _ (n b : ℕ) (all : List Label) where
       )
 
   -- the labels of the declarations give back those of the variables, one by one
-  pub spread_at : (ds : List Declaration) (x k : ℕ) → AreShaped ds → Kept ds x → k < variables ds → (get_or (spread ds (declared_labels g x ds)) k low).number ≡ g (x + k)
+  pub spread_at : (ds : List Declaration) (x k : ℕ) → AreShaped ds → Kept ds x → k < variables ds
+      → (get_or (spread ds (declared_labels g x ds)) k low).number ≡ g (x + k)
   spread_at [] x k sh h i = absurd (omega (arith, i))
   spread_at (d ∷ ds) x k sh h i =
       let shape = All-head (λ (z : Declaration). IsShaped z.1.label z.1.length) d ds sh in
@@ -93,15 +97,18 @@ module _ (n b : ℕ) (all : List Label) where
       let lc = length-append (cells_of d.0 d.1.label d.1.length) (cells ds) in
       ⊎_elim
       (λ (j : k < size).
-      let e : get_or (replicate size l ++ rest) k low ≡ l = get_or_append_left (replicate size l) rest low k (omega (arith, m, j)) ∙ get_or-replicate size k l low j in
+      let e : get_or (replicate size l ++ rest) k low ≡ l =
+          get_or_append_left (replicate size l) rest low k (omega (arith, m, j)) ∙ get_or-replicate size k l low j in
       let z : x + 0 ≡ x = omega arith in
       let first = subst (λ v. IsKept d.1.label (g v)) z (kept_here d ds x 0 h (omega (arith, j))) in
-      ap (λ (v : Label). v.number) e ∙ one_kept d.1.label d.1.length k (g x) (g (x + k)) shape j first (kept_here d ds x k h j) (λ f. ap (λ v. g v) (omega (arith, f))))
+      ap (λ (v : Label). v.number) e ∙ one_kept d.1.label d.1.length k (g x) (g (x + k)) shape j first (kept_here d ds x k h j)
+          (λ f. ap (λ v. g v) (omega (arith, f))))
       (λ (j : size ≤ k).
       let e : k ≡ length (replicate size l) + (k - size) = omega (arith, m, j) in
       let w : x + size + (k - size) ≡ x + k = omega (arith, j) in
       ap (λ v. (get_or (replicate size l ++ rest) v low).number) e ∙ ap (λ (v : Label). v.number) (get_or-append-add (replicate size l) rest (k - size) low)
-      ∙ spread_at ds (x + size) (k - size) (All-tail (λ (z : Declaration). IsShaped z.1.label z.1.length) d ds sh) (kept_later d ds x h) (omega (arith, i, mc, lc, j)) ∙ ap g w)
+      ∙ spread_at ds (x + size) (k - size) (All-tail (λ (z : Declaration). IsShaped z.1.label z.1.length) d ds sh) (kept_later d ds x h)
+          (omega (arith, i, mc, lc, j)) ∙ ap g w)
       (cases_lt k size)
 
 -- ---- the labels of commands, and the levels
@@ -147,12 +154,14 @@ module _ (lat : Lattice) (g : ℕ → ℕ) (ms : ℕ → Marks) (ls : ℕ → �
       let end = W d (i + 1) inner (loop_start lat g t (placed ms w i) e) in
       let ip = i + 1 + count d in
       let nd = length_derived lat g ms ls d (i + 1) inner end in
-      ((refl, refl), from_both HasMarks (D d (i + 1) inner end) (D p ip pc end) (i + 1) ip (omega (arith, nd)) (lines_marked d (i + 1) inner end) (lines_marked p ip pc end))
+      ((refl, refl), from_both HasMarks (D d (i + 1) inner end) (D p ip pc end) (i + 1) ip (omega (arith, nd))
+          (lines_marked d (i + 1) inner end) (lines_marked p ip pc end))
   lines_marked (Mitigate w k l e d p) i pc t =
       let start = after lat g t (placed ms w i) e in
       let ip = i + 1 + count d in
       let nd = length_derived lat g ms ls d (i + 1) pc start in
-      ((refl, refl), from_both HasMarks (D d (i + 1) pc start) (D p ip pc start) (i + 1) ip (omega (arith, nd)) (lines_marked d (i + 1) pc start) (lines_marked p ip pc start))
+      ((refl, refl), from_both HasMarks (D d (i + 1) pc start) (D p ip pc start) (i + 1) ip (omega (arith, nd)) (lines_marked d (i + 1) pc start)
+          (lines_marked p ip pc start))
 
   abbrev pub HasLevelAt : ℕ → Label → Type 0
   HasLevelAt k l = l ≡ label (ls k)
@@ -176,10 +185,13 @@ module _ (lat : Lattice) (g : ℕ → ℕ) (ms : ℕ → Marks) (ls : ℕ → �
   lines_levelled Done i k pc t num = record { have = tt; count = refl }
   lines_levelled (Skip w p) i k pc t num = let q = lines_levelled p (i + 1) k pc (lat.join t (ms i).er) num in record { have = q.have; count = q.count }
   lines_levelled (Assign w x e p) i k pc t num =
-      let q = lines_levelled p (i + 1) k pc (lat.join (g x) (demand lat pc t (placed ms w i) (label_of lat g e) (index_label lat g e))) num in record { have = q.have; count = q.count }
+      let q = lines_levelled p (i + 1) k pc (lat.join (g x) (demand lat pc t (placed ms w i) (label_of lat g e) (index_label lat g e))) num in
+          record { have = q.have; count = q.count }
   lines_levelled (Put w f n j e p) i k pc t num =
-      let q = lines_levelled p (i + 1) k pc (lat.join (g f) (demand lat pc t (placed ms w i) (label_of lat g e) (put_index lat g j e))) num in record { have = q.have; count = q.count }
-  lines_levelled (Sleep w e p) i k pc t num = let q = lines_levelled p (i + 1) k pc (after lat g t (placed ms w i) e) num in record { have = q.have; count = q.count }
+      let q = lines_levelled p (i + 1) k pc (lat.join (g f) (demand lat pc t (placed ms w i) (label_of lat g e) (put_index lat g j e))) num in
+          record { have = q.have; count = q.count }
+  lines_levelled (Sleep w e p) i k pc t num = let q = lines_levelled p (i + 1) k pc (after lat g t (placed ms w i) e) num in
+      record { have = q.have; count = q.count }
   lines_levelled (If w e a b p) i k pc t num =
       let inner = lat.join pc (label_of lat g e) in
       let start = after lat g t (placed ms w i) e in
@@ -191,7 +203,8 @@ module _ (lat : Lattice) (g : ℕ → ℕ) (ms : ℕ → Marks) (ls : ℕ → �
       let qp = lines_levelled p ip (k + mitigates a + mitigates b) pc end num.2 in
       let q2 = both_levels (D b ib inner start) (D p ip pc end) (k + mitigates a) (mitigates b) (mitigates p) (mitigates b + mitigates p) qb qp refl in
       let q =
-      both_levels (D a (i + 1) inner start) (D b ib inner start ++ D p ip pc end) k (mitigates a) (mitigates b + mitigates p) (mitigates a + mitigates b + mitigates p) qa q2 (omega arith) in
+      both_levels (D a (i + 1) inner start) (D b ib inner start ++ D p ip pc end) k (mitigates a) (mitigates b + mitigates p)
+          (mitigates a + mitigates b + mitigates p) qa q2 (omega arith) in
       record { have = q.have; count = q.count }
   lines_levelled (While w e d p) i k pc t num =
       let inner = lat.join pc (label_of lat g e) in
@@ -222,15 +235,20 @@ pcs-append (x ∷ xs) ys = go x.level (pcs-append xs ys)
     go None h = h
     go (Some l) h = ap (λ z. x.pc ∷ z) h
 
-pub pcs_more : (xs : List Line) (i : ℕ) (d : Line) → i < length xs → pcs_in (take (i + 1) xs) ≡ pcs_in (take i xs) ++ pc_before (get_or xs i d).level (get_or xs i d).pc []
+pub pcs_more : (xs : List Line) (i : ℕ) (d : Line) → i < length xs
+    → pcs_in (take (i + 1) xs) ≡ pcs_in (take i xs) ++ pc_before (get_or xs i d).level (get_or xs i d).pc []
 pcs_more xs i d h = ap pcs_in (take_more xs i d h) ∙ pcs-append (take i xs) (get_or xs i d ∷ [])
 
-pub commands_step : (xs : List Line) (i : ℕ) (d : Line) (old new : List (Label × Label)) → i < length xs → old ≡ map (λ (x : Line). (x.read, x.write)) (take i xs) →
+pub commands_step : (xs : List Line) (i : ℕ) (d : Line) (old new : List (Label × Label)) → i < length xs
+    → old ≡ map (λ (x : Line). (x.read, x.write)) (take i xs) →
     new ≡ old ++ ((get_or xs i d).read, (get_or xs i d).write) ∷ [] → new ≡ map (λ (x : Line). (x.read, x.write)) (take (i + 1) xs)
-commands_step xs i d old new h e n = n ∙ ap (λ z. z ++ ((get_or xs i d).read, (get_or xs i d).write) ∷ []) e ∙ sym (map_more (λ (x : Line). (x.read, x.write)) xs i d h)
+commands_step xs i d old new h e n =
+    n ∙ ap (λ z. z ++ ((get_or xs i d).read, (get_or xs i d).write) ∷ []) e ∙ sym (map_more (λ (x : Line). (x.read, x.write)) xs i d h)
 
-pub levels_step : (xs : List Line) (i : ℕ) (d : Line) (old new : List Label) → i < length xs → old ≡ levels_in (take i xs) → new ≡ old ++ before (get_or xs i d).level [] → new ≡ levels_in (take (i + 1) xs)
+pub levels_step : (xs : List Line) (i : ℕ) (d : Line) (old new : List Label) → i < length xs → old ≡ levels_in (take i xs)
+    → new ≡ old ++ before (get_or xs i d).level [] → new ≡ levels_in (take (i + 1) xs)
 levels_step xs i d old new h e n = n ∙ ap (λ z. z ++ before (get_or xs i d).level []) e ∙ sym (levels_more xs i d h)
 
-pub pcs_step : (xs : List Line) (i : ℕ) (d : Line) (old new : List Label) → i < length xs → old ≡ pcs_in (take i xs) → new ≡ old ++ pc_before (get_or xs i d).level (get_or xs i d).pc [] → new ≡ pcs_in (take (i + 1) xs)
+pub pcs_step : (xs : List Line) (i : ℕ) (d : Line) (old new : List Label) → i < length xs → old ≡ pcs_in (take i xs)
+    → new ≡ old ++ pc_before (get_or xs i d).level (get_or xs i d).pc [] → new ≡ pcs_in (take (i + 1) xs)
 pcs_step xs i d old new h e n = n ∙ ap (λ z. z ++ pc_before (get_or xs i d).level (get_or xs i d).pc []) e ∙ sym (pcs_more xs i d h)

@@ -1,5 +1,6 @@
 -- Lists of lines that are written in place.
-use Rattle.std.proofs.Common.{◌≡◌, ℕ, ◌+◌, ◌<◌, ◌≤◌, refl, sym, ap, ◌∙◌, List, [], ◌∷◌, ◌++◌, length, map, append_assoc, append-nil, length-append, get_or, arith}
+use Rattle.std.proofs.Common.{◌≡◌, ℕ, ◌+◌, ◌<◌, ◌≤◌, refl, sym, ap, ◌∙◌, List, [], ◌∷◌, ◌++◌, length, map, append_assoc, append-nil, length-append, get_or}
+use Rattle.std.proofs.Common.{arith}
 use Rattle.std.specs.Prelude.{slice_set}
 use Rattle.std.proofs.Math.Seq.{get_or-append_seam, set-append_seam}
 use Rattle.std.proofs.lemmas.List.{map-append, length-map}
@@ -16,7 +17,8 @@ module _ {A : Type 0} (R : A → A) where
   pub none_done : (x y zs : List A) (i : ℕ) → zs ≡ x ++ y → length x ≡ i → IsDone x y zs i
   none_done x y zs i e n = record { front = []; rest = y; parts = refl; count = omega (arith, n); items = e }
 
-  pub one_done : (x y zs zs' : List A) (i : ℕ) (v d : A) → i < length zs → v ≡ R (get_or zs i d) → zs' ≡ slice_set zs i v → IsDone x y zs i → IsDone x y zs' (i + 1)
+  pub one_done : (x y zs zs' : List A) (i : ℕ) (v d : A) → i < length zs → v ≡ R (get_or zs i d) → zs' ≡ slice_set zs i v
+      → IsDone x y zs i → IsDone x y zs' (i + 1)
   one_done x y zs zs' i v d h hv hz k = go k.rest k.parts k.items
     where
       go : (b : List A) → y ≡ k.front ++ b → zs ≡ x ++ (map R k.front ++ b) → IsDone x y zs' (i + 1)
@@ -35,7 +37,8 @@ module _ {A : Type 0} (R : A → A) where
           let is : zs ≡ (x ++ F) ++ l ∷ b = items ∙ sym (append_assoc x F (l ∷ b)) in
           let got : get_or zs i d ≡ l = ap (λ z. get_or z i d) is ∙ ap (λ z. get_or ((x ++ F) ++ l ∷ b) z d) at ∙ get_or-append_seam (x ++ F) l b d in
           let put : zs' ≡ (x ++ F) ++ R l ∷ b =
-          hz ∙ ap (λ z. slice_set zs i z) (hv ∙ ap R got) ∙ ap (λ z. slice_set z i (R l)) is ∙ ap (λ z. slice_set ((x ++ F) ++ l ∷ b) z (R l)) at ∙ set-append_seam (x ++ F) l b (R l) in
+          hz ∙ ap (λ z. slice_set zs i z) (hv ∙ ap R got) ∙ ap (λ z. slice_set z i (R l)) is ∙ ap (λ z. slice_set ((x ++ F) ++ l ∷ b) z (R l)) at
+              ∙ set-append_seam (x ++ F) l b (R l) in
           let p = length-append k.front (l ∷ []) in
           record {
             front = k.front ++ l ∷ [];

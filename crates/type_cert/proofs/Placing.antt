@@ -7,7 +7,8 @@ use Rattle.mit_syntax.specs.Expression.{Expression}
 use Rattle.mit_syntax.specs.Todo.{Done, Skip, Assign, Put, Sleep, If, While, Mitigate}
 use Rattle.mit_syntax.specs.declared.ast.Command.{Command}
 use Rattle.mit_syntax.specs.declared.ast.Form.{Form}
-use Rattle.mit_syntax.specs.declared.ast.Form.{Skip as FSkip, Assign as FAssign, Put as FPut, Sleep as FSleep, If' as FIf, While' as FWhile, Mitigate' as FMitigate}
+use Rattle.mit_syntax.specs.declared.ast.Form.{Skip as FSkip, Assign as FAssign, Put as FPut, Sleep as FSleep, If' as FIf, While' as FWhile}
+use Rattle.mit_syntax.specs.declared.ast.Form.{Mitigate' as FMitigate}
 use Rattle.mit_syntax.specs.Plan.{Written, Plan, form_plan, list_plan, count}
 use Rattle.timing_types.specs.Typing.{label_of, index_label}
 use Rattle.timing_types.specs.Walk.{here}
@@ -63,19 +64,24 @@ module _ (lat : Lattice) (g : ℕ → ℕ) where
   -- the place of a command that reads e, as code writes it
   own_place : (w : Written) (e : Expression) (pc h li : Label) (act : Act) (s : Start) (own c : Close) (rest : Plan) →
       li.number ≡ index_label lat g e → h.number ≡ lat.join pc.number li.number → own ≡ closing rest c →
-      record { written = w.labels; pc = pc; here = h; act = act; start = s; close = own } ≡ place w.labels pc.number (here lat g pc.number e) act s (closing rest c)
+      record { written = w.labels; pc = pc; here = h; act = act; start = s; close = own }
+          ≡ place w.labels pc.number (here lat g pc.number e) act s (closing rest c)
   own_place w e pc h li act s own c rest hl hh hc =
-      ap (λ (z : Label). record { written = w.labels; pc = pc; here = z; act = act; start = s; close = own }) (label_is h (here lat g pc.number e) (hh ∙ ap (lat.join pc.number) hl))
+      ap (λ (z : Label). record { written = w.labels; pc = pc; here = z; act = act; start = s; close = own })
+          (label_is h (here lat g pc.number e) (hh ∙ ap (lat.join pc.number) hl))
       ∙ ap (λ (z : Close). place w.labels pc.number (here lat g pc.number e) act s z) hc
 
-  module _ (w : Written) (e : Expression) (pc le h li : Label) (s : Start) (own : Close) (x : List Place) (hle : le.number ≡ label_of lat g e) (hli : li.number ≡ index_label lat g e)
+  module _ (w : Written) (e : Expression) (pc le h li : Label) (s : Start) (own : Close) (x : List Place) (hle : le.number ≡ label_of lat g e)
+      (hli : li.number ≡ index_label lat g e)
       (hh : h.number ≡ lat.join pc.number li.number) (k : ℕ) (hk : k ≡ length x) where
     abbrev n : ℕ
     n = length x
 
     pub if_places : (q a b rest : Plan) (inner : Label) (pl : Place) (u y z : List Place) (c : Close) (last : ℕ) → q ≡ If w e a b rest → own ≡ closing rest c →
-        inner.number ≡ lat.join pc.number le.number → pl ≡ record { written = w.labels; pc = pc; here = h; act = Branches le; start = s; close = own } → u ≡ x ++ pl ∷ [] →
-        y ≡ u ++ P a (length u) inner.number (Within k le) Open → last ≡ last_of a (length u) (length u) → z ≡ y ++ P b (length y) inner.number (Within k le) (ClosesIf k last) →
+        inner.number ≡ lat.join pc.number le.number → pl ≡ record { written = w.labels; pc = pc; here = h; act = Branches le; start = s; close = own }
+            → u ≡ x ++ pl ∷ [] →
+        y ≡ u ++ P a (length u) inner.number (Within k le) Open → last ≡ last_of a (length u) (length u)
+            → z ≡ y ++ P b (length y) inner.number (Within k le) (ClosesIf k last) →
         x ++ P q n pc.number s c ≡ z ++ P rest (length z) pc.number (After n) c
     if_places q a b rest inner pl u y z c last hq hc hi hp hu hy hlast hz =
         let lu = ap length hu ∙ length-append x (pl ∷ []) in
@@ -96,7 +102,8 @@ module _ (lat : Lattice) (g : ℕ → ℕ) where
         ∙ sym (own_place w e pc h li (Branches le) s own c rest hli hh hc) ∙ sym hp in
         let pa = moved a (n + 1) (length u) (lat.join pc.number l2) inner.number (Within n (label l2)) (Within k le) Open Open (sym nu) i2 from refl in
         let pb =
-        moved b (n + 1 + count a) (length y) (lat.join pc.number l2) inner.number (Within n (label l2)) (Within k le) (ClosesIf n (last_of a (n + 1) (n + 1))) (ClosesIf k last) (sym ny) i2 from (ap (λ (v : ℕ). ClosesIf v (last_of a (n + 1) (n + 1))) (sym hk) ∙ ap (λ (v : ℕ). ClosesIf k v) last2) in
+        moved b (n + 1 + count a) (length y) (lat.join pc.number l2) inner.number (Within n (label l2)) (Within k le) (ClosesIf n (last_of a (n + 1) (n + 1)))
+            (ClosesIf k last) (sym ny) i2 from (ap (λ (v : ℕ). ClosesIf v (last_of a (n + 1) (n + 1))) (sym hk) ∙ ap (λ (v : ℕ). ClosesIf k v) last2) in
         let pr = moved rest (n + 1 + count a + count b) (length z) pc.number pc.number (After n) (After n) c c (sym nz) refl refl refl in
         let A = P a (length u) inner.number (Within k le) Open in
         let B = P b (length y) inner.number (Within k le) (ClosesIf k last) in
@@ -116,10 +123,13 @@ module _ (lat : Lattice) (g : ℕ → ℕ) where
         ∙ sym (append_assoc y B R)
         ∙ ap (λ v. v ++ R) (sym hz)
 
-    pub one_places : (d rest : Plan) (inner pc2 : ℕ) (act act2 : Act) (from from2 : Start) (closes closes2 : Close) (pl : Place) (u y : List Place) (c : Close) → own ≡ closing rest c →
-        pc2 ≡ inner → act2 ≡ act → from2 ≡ from → closes2 ≡ closes → pl ≡ record { written = w.labels; pc = pc; here = h; act = act; start = s; close = own } → u ≡ x ++ pl ∷ [] →
+    pub one_places : (d rest : Plan) (inner pc2 : ℕ) (act act2 : Act) (from from2 : Start) (closes closes2 : Close) (pl : Place) (u y : List Place) (c : Close)
+        → own ≡ closing rest c →
+        pc2 ≡ inner → act2 ≡ act → from2 ≡ from → closes2 ≡ closes → pl ≡ record { written = w.labels; pc = pc; here = h; act = act; start = s; close = own }
+            → u ≡ x ++ pl ∷ [] →
         y ≡ u ++ P d (length u) inner from closes →
-        x ++ (place w.labels pc.number (here lat g pc.number e) act2 s (closing rest c) ∷ (P d (n + 1) pc2 from2 closes2 ++ P rest (n + 1 + count d) pc.number (After n) c)) ≡ y ++ P rest (length y) pc.number (After n) c
+        x ++ (place w.labels pc.number (here lat g pc.number e) act2 s (closing rest c) ∷ (P d (n + 1) pc2 from2 closes2
+            ++ P rest (n + 1 + count d) pc.number (After n) c)) ≡ y ++ P rest (length y) pc.number (After n) c
     one_places d rest inner pc2 act act2 from from2 closes closes2 pl u y c hc hi ha hf hcl hp hu hy =
         let lu = ap length hu ∙ length-append x (pl ∷ []) in
         let ly = ap length hy ∙ length-append u (P d (length u) inner from closes) in
@@ -143,7 +153,8 @@ module _ (lat : Lattice) (g : ℕ → ℕ) where
         ∙ ap (λ v. v ++ R) (sym hy)
 
     pub while_places : (q d rest : Plan) (inner : Label) (pl : Place) (u y : List Place) (c : Close) → q ≡ While w e d rest → own ≡ closing rest c →
-        inner.number ≡ lat.join pc.number le.number → pl ≡ record { written = w.labels; pc = pc; here = h; act = Loops le; start = s; close = own } → u ≡ x ++ pl ∷ [] →
+        inner.number ≡ lat.join pc.number le.number → pl ≡ record { written = w.labels; pc = pc; here = h; act = Loops le; start = s; close = own }
+            → u ≡ x ++ pl ∷ [] →
         y ≡ u ++ P d (length u) inner.number (Around k) (ClosesWhile k) →
         x ++ P q n pc.number s c ≡ y ++ P rest (length y) pc.number (After n) c
     while_places q d rest inner pl u y c hq hc hi hp hu hy =
@@ -151,9 +162,11 @@ module _ (lat : Lattice) (g : ℕ → ℕ) where
         let le2 : le ≡ label l2 = label_is le l2 hle in
         let i2 : lat.join pc.number l2 ≡ inner.number = sym (hi ∙ ap (lat.join pc.number) hle) in
         ap (λ v. x ++ P v n pc.number s c) hq
-        ∙ one_places d rest inner.number (lat.join pc.number l2) (Loops le) (Loops (label l2)) (Around k) (Around n) (ClosesWhile k) (ClosesWhile n) pl u y c hc i2 (ap (λ (v : Label). Loops v) (sym le2)) (ap (λ (v : ℕ). Around v) (sym hk)) (ap (λ (v : ℕ). ClosesWhile v) (sym hk)) hp hu hy
+        ∙ one_places d rest inner.number (lat.join pc.number l2) (Loops le) (Loops (label l2)) (Around k) (Around n) (ClosesWhile k) (ClosesWhile n) pl u y c hc
+            i2 (ap (λ (v : Label). Loops v) (sym le2)) (ap (λ (v : ℕ). Around v) (sym hk)) (ap (λ (v : ℕ). ClosesWhile v) (sym hk)) hp hu hy
 
-    pub mitigate_places : (j : ℕ) (l : Option Label) (q d rest : Plan) (pl : Place) (u y : List Place) (c : Close) → q ≡ Mitigate w j l e d rest → own ≡ closing rest c →
+    pub mitigate_places : (j : ℕ) (l : Option Label) (q d rest : Plan) (pl : Place) (u y : List Place) (c : Close)
+        → q ≡ Mitigate w j l e d rest → own ≡ closing rest c →
         pl ≡ record { written = w.labels; pc = pc; here = h; act = Mitigates le l; start = s; close = own } → u ≡ x ++ pl ∷ [] →
         y ≡ u ++ P d (length u) pc.number (Within k le) (ClosesMitigate k) →
         x ++ P q n pc.number s c ≡ y ++ P rest (length y) pc.number (After n) c
@@ -161,17 +174,22 @@ module _ (lat : Lattice) (g : ℕ → ℕ) where
         let l2 = label_of lat g e in
         let le2 : le ≡ label l2 = label_is le l2 hle in
         ap (λ v. x ++ P v n pc.number s c) hq
-        ∙ one_places d rest pc.number pc.number (Mitigates le l) (Mitigates (label l2) l) (Within k le) (Within n (label l2)) (ClosesMitigate k) (ClosesMitigate n) pl u y c hc refl
-        (ap (λ (v : Label). Mitigates v l) (sym le2)) (ap (λ (v : Label). Within n v) (sym le2) ∙ ap (λ (v : ℕ). Within v le) (sym hk)) (ap (λ (v : ℕ). ClosesMitigate v) (sym hk)) hp hu hy
+        ∙ one_places d rest pc.number pc.number (Mitigates le l) (Mitigates (label l2) l) (Within k le) (Within n (label l2)) (ClosesMitigate k)
+            (ClosesMitigate n) pl u y c hc refl
+        (ap (λ (v : Label). Mitigates v l) (sym le2)) (ap (λ (v : Label). Within n v) (sym le2) ∙ ap (λ (v : ℕ). Within v le) (sym hk))
+            (ap (λ (v : ℕ). ClosesMitigate v) (sym hk)) hp hu hy
 
 -- the last number of a list after a command that has parts
-pub if_last : (w : Written) (e : Expression) (q a b rest : Plan) (n k last : ℕ) → q ≡ If w e a b rest → k ≡ n + 1 + count a + count b → last_of q n last ≡ last_of rest k n
+pub if_last : (w : Written) (e : Expression) (q a b rest : Plan) (n k last : ℕ) → q ≡ If w e a b rest → k ≡ n + 1 + count a + count b
+    → last_of q n last ≡ last_of rest k n
 if_last w e q a b rest n k last hq hk = ap (λ z. last_of z n last) hq ∙ ap (λ z. last_of rest z n) (sym hk)
 
-pub while_last : (w : Written) (e : Expression) (q d rest : Plan) (n k last : ℕ) → q ≡ While w e d rest → k ≡ n + 1 + count d → last_of q n last ≡ last_of rest k n
+pub while_last : (w : Written) (e : Expression) (q d rest : Plan) (n k last : ℕ) → q ≡ While w e d rest → k ≡ n + 1 + count d
+    → last_of q n last ≡ last_of rest k n
 while_last w e q d rest n k last hq hk = ap (λ z. last_of z n last) hq ∙ ap (λ z. last_of rest z n) (sym hk)
 
-pub mitigate_last : (w : Written) (j : ℕ) (l : Option Label) (e : Expression) (q d rest : Plan) (n k last : ℕ) → q ≡ Mitigate w j l e d rest → k ≡ n + 1 + count d → last_of q n last ≡ last_of rest k n
+pub mitigate_last : (w : Written) (j : ℕ) (l : Option Label) (e : Expression) (q d rest : Plan) (n k last : ℕ) → q ≡ Mitigate w j l e d rest
+    → k ≡ n + 1 + count d → last_of q n last ≡ last_of rest k n
 mitigate_last w j l e q d rest n k last hq hk = ap (λ z. last_of z n last) hq ∙ ap (λ z. last_of rest z n) (sym hk)
 
 -- a list that goes on

@@ -19,7 +19,8 @@ use Rattle.type_cert.specs.Certificate.{places_of, no_line, line_at, AllFit, Fit
 use Rattle.type_cert.proofs.Earlier.{LooksBack, meets_same}
 use Rattle.type_cert.proofs.Apart.{looks_back}
 
-pub fit_push : {A B : Type 0} (R : A → B → Type 0) (as' : List A) (bs : List B) (a : A) (x : B) → length bs < length as' → a ≡ get_or as' (length bs) a → AllFit R as' bs → R a x → AllFit R as' (bs ++ x ∷ [])
+pub fit_push : {A B : Type 0} (R : A → B → Type 0) (as' : List A) (bs : List B) (a : A) (x : B) → length bs < length as' → a ≡ get_or as' (length bs) a
+    → AllFit R as' bs → R a x → AllFit R as' (bs ++ x ∷ [])
 fit_push R [] bs a x h e f k = absurd (omega (arith, h))
 fit_push R (c ∷ as') [] a x h e f k = (subst (λ z. R z x) e k, tt)
 fit_push R (c ∷ as') (y ∷ bs) a x h e f k = (f.0, fit_push R as' bs a x (omega (arith, h)) e f.1 k)
@@ -34,13 +35,15 @@ lines_push o i (y ∷ xs) x =
 pub variables_push : (o : Order) (ds : List Declaration) (ls : List Label) (d : Declaration) (l : Label) → length ls < length ds → d ≡ get_or ds (length ls) d →
     variables_text o ds (ls ++ l ∷ []) ≡ variables_text o ds ls ++ variable_text o d.0 l
 variables_push o [] ls d l h e = absurd (omega (arith, h))
-variables_push o (c ∷ ds) [] d l h e = ap (λ z. variable_text o c.0 l ++ z) (none ds) ∙ append-nil (variable_text o c.0 l) ∙ ap (λ (z : Declaration). variable_text o z.0 l) (sym e)
+variables_push o (c ∷ ds) [] d l h e = ap (λ z. variable_text o c.0 l ++ z) (none ds) ∙ append-nil (variable_text o c.0 l)
+    ∙ ap (λ (z : Declaration). variable_text o z.0 l) (sym e)
   where
     none : (ds : List Declaration) → variables_text o ds [] ≡ []
     none [] = refl
     none (d ∷ ds) = refl
 variables_push o (c ∷ ds) (m ∷ ls) d l h e =
-    ap (λ t. variable_text o c.0 m ++ t) (variables_push o ds ls d l (omega (arith, h)) e) ∙ sym (append_assoc (variable_text o c.0 m) (variables_text o ds ls) (variable_text o d.0 l))
+    ap (λ t. variable_text o c.0 m ++ t) (variables_push o ds ls d l (omega (arith, h)) e)
+        ∙ sym (append_assoc (variable_text o c.0 m) (variables_text o ds ls) (variable_text o d.0 l))
 
 module _ (s : Syntax) (valid : IsValid s) where
   abbrev o : Order
@@ -49,7 +52,8 @@ module _ (s : Syntax) (valid : IsValid s) where
   abbrev b : ℕ
   b = s.order.bottom
 
-  pub push_variable : (ls : List Label) (l : Label) (d : Declaration) (bytes q r : List ℕ) → BeginsWith s ls [] bytes q → length ls < length s.declarations → d ≡ get_or s.declarations (length ls) d →
+  pub push_variable : (ls : List Label) (l : Label) (d : Declaration) (bytes q r : List ℕ) → BeginsWith s ls [] bytes q → length ls < length s.declarations
+      → d ≡ get_or s.declarations (length ls) d →
       ReadsVariable o d.0 q l r → IsKept d.1.label l.number → BeginsWith s (ls ++ l ∷ []) [] bytes r
   push_variable ls l d bytes q r h within at reads kept =
       let F = codes "certificate 1\n" in
@@ -58,21 +62,27 @@ module _ (s : Syntax) (valid : IsValid s) where
         text =
             h.text ∙ ap (λ z. (F ++ (V ++ [])) ++ z) reads.is ∙ ap (λ z. (F ++ z) ++ (variable_text o d.0 l ++ r)) (append-nil V)
             ∙ sym (append_assoc (F ++ V) (variable_text o d.0 l) r) ∙ ap (λ z. z ++ r) (append_assoc F V (variable_text o d.0 l))
-            ∙ ap (λ z. (F ++ z) ++ r) (sym (variables_push o s.declarations ls d l within at) ∙ sym (append-nil (variables_text o s.declarations (ls ++ l ∷ []))));
+            ∙ ap (λ z. (F ++ z) ++ r) (sym (variables_push o s.declarations ls d l within at)
+                ∙ sym (append-nil (variables_text o s.declarations (ls ++ l ∷ []))));
         variables = fit_push (FitsDeclaration s.order.size) s.declarations ls d l within at h.variables (reads.below, kept);
         complete = λ z. absurd (omega (arith, z));
         commands = tt;
       }
 
-  again : (xs : List Line) (x : Line) (ps : List Place) (ys : List Line) (i : ℕ) → AllFrom LooksBack i ps → i + length ys ≤ length xs → AllFit (FitsPlace s xs) ps ys → AllFit (FitsPlace s (xs ++ x ∷ [])) ps ys
+  again : (xs : List Line) (x : Line) (ps : List Place) (ys : List Line) (i : ℕ) → AllFrom LooksBack i ps → i + length ys ≤ length xs
+      → AllFit (FitsPlace s xs) ps ys → AllFit (FitsPlace s (xs ++ x ∷ [])) ps ys
   again xs x ps [] i back le f = tt
   again xs x [] (y ∷ ys) i back le f = absurd f
   again xs x (p ∷ ps) (y ∷ ys) i back le f =
-      let same : (j : ℕ) → j < i → line_at b xs j ≡ line_at b (xs ++ x ∷ []) j = λ j l. sym (get_or_append_left xs (x ∷ []) (no_line b) j (omega (arith, l, le))) in
-      ((f.0.0, meets_same (lattice_of s.order) (line_at b xs) (line_at b (xs ++ x ∷ [])) i same p y back.0 f.0.1), again xs x ps ys (i + 1) back.1 (omega (arith, le)) f.1)
+      let same : (j : ℕ) → j < i → line_at b xs j ≡ line_at b (xs ++ x ∷ []) j =
+          λ j l. sym (get_or_append_left xs (x ∷ []) (no_line b) j (omega (arith, l, le))) in
+      ((f.0.0, meets_same (lattice_of s.order) (line_at b xs) (line_at b (xs ++ x ∷ [])) i same p y back.0 f.0.1),
+          again xs x ps ys (i + 1) back.1 (omega (arith, le)) f.1)
 
-  pub push_line : (ls : List Label) (xs : List Line) (x : Line) (p : Place) (bytes q r : List ℕ) → BeginsWith s ls xs bytes q → length ls ≡ length s.declarations → length xs < length (places_of s ls) →
-      p ≡ get_or (places_of s ls) (length xs) p → ReadsLine o (length xs) p.act q x r → Meets (lattice_of s.order) (line_at b xs) p x → BeginsWith s ls (xs ++ x ∷ []) bytes r
+  pub push_line : (ls : List Label) (xs : List Line) (x : Line) (p : Place) (bytes q r : List ℕ) → BeginsWith s ls xs bytes q
+      → length ls ≡ length s.declarations → length xs < length (places_of s ls) →
+      p ≡ get_or (places_of s ls) (length xs) p → ReadsLine o (length xs) p.act q x r → Meets (lattice_of s.order) (line_at b xs) p x
+          → BeginsWith s ls (xs ++ x ∷ []) bytes r
   push_line ls xs x p bytes q r h all within at reads meets =
       let F = codes "certificate 1\n" in
       let V = variables_text o s.declarations ls in

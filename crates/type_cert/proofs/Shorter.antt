@@ -1,5 +1,6 @@
 -- Bytes that begin with right lines begin with fewer of them.
-use Rattle.std.proofs.Common.{◌≡◌, ℕ, zero, suc, ◌+◌, ◌-◌, ◌<◌, ◌≤◌, refl, sym, ap, ◌∙◌, subst, List, [], ◌∷◌, ◌++◌, length, length-append, append_assoc, append-nil, take, drop, arith, inl, inr, ⊎_elim}
+use Rattle.std.proofs.Common.{◌≡◌, ℕ, zero, suc, ◌+◌, ◌-◌, ◌<◌, ◌≤◌, refl, sym, ap, ◌∙◌, subst, List, [], ◌∷◌, ◌++◌, length, length-append, append_assoc}
+use Rattle.std.proofs.Common.{append-nil, take, drop, arith, inl, inr, ⊎_elim}
 use Rattle.std.specs.Prelude.{codes}
 use Rattle.std.proofs.lemmas.Bool.{cases_lt}
 use Rattle.std.proofs.lemmas.List.{get_or_append_left, take-append-drop, length-take-le}
@@ -29,11 +30,13 @@ no_more : (o : Order) (ds : List Declaration) → variables_text o ds [] ≡ []
 no_more o [] = refl
 no_more o (d ∷ ds) = refl
 
-variables_cut : (o : Order) (ds : List Declaration) (ls ms : List Label) → variables_text o ds (ls ++ ms) ≡ variables_text o ds ls ++ variables_text o (drop (length ls) ds) ms
+variables_cut : (o : Order) (ds : List Declaration) (ls ms : List Label)
+    → variables_text o ds (ls ++ ms) ≡ variables_text o ds ls ++ variables_text o (drop (length ls) ds) ms
 variables_cut o ds [] ms = sym (ap (λ z. z ++ variables_text o ds ms) (no_more o ds))
 variables_cut o [] (l ∷ ls) ms = refl
 variables_cut o (d ∷ ds) (l ∷ ls) ms =
-    ap (λ t. variable_text o d.0 l ++ t) (variables_cut o ds ls ms) ∙ sym (append_assoc (variable_text o d.0 l) (variables_text o ds ls) (variables_text o (drop (length ls) ds) ms))
+    ap (λ t. variable_text o d.0 l ++ t) (variables_cut o ds ls ms)
+        ∙ sym (append_assoc (variable_text o d.0 l) (variables_text o ds ls) (variables_text o (drop (length ls) ds) ms))
 
 fit_front : {A B : Type 0} (R : A → B → Type 0) (as' : List A) (bs cs : List B) → AllFit R as' (bs ++ cs) → AllFit R as' bs
 fit_front R as' [] cs h = tt
@@ -51,21 +54,25 @@ module _ (s : Syntax) (valid : IsValid s) where
   V ls = variables_text s.order s.declarations ls
 
   -- a line that is right with those before it is right where others follow no more
-  fewer : (xs ys : List Line) (ps : List Place) (zs : List Line) (i : ℕ) → AllFrom LooksBack i ps → i + length zs ≤ length xs → AllFit (FitsPlace s (xs ++ ys)) ps zs → AllFit (FitsPlace s xs) ps zs
+  fewer : (xs ys : List Line) (ps : List Place) (zs : List Line) (i : ℕ) → AllFrom LooksBack i ps → i + length zs ≤ length xs
+      → AllFit (FitsPlace s (xs ++ ys)) ps zs → AllFit (FitsPlace s xs) ps zs
   fewer xs ys ps [] i back le f = tt
   fewer xs ys [] (z ∷ zs) i back le f = absurd f
   fewer xs ys (p ∷ ps) (z ∷ zs) i back le f =
       let b = s.order.bottom in
       let same : (j : ℕ) → j < i → line_at b (xs ++ ys) j ≡ line_at b xs j = λ j l. get_or_append_left xs ys (no_line b) j (omega (arith, l, le)) in
-      ((f.0.0, meets_same (lattice_of s.order) (line_at b (xs ++ ys)) (line_at b xs) i same p z back.0 f.0.1), fewer xs ys ps zs (i + 1) back.1 (omega (arith, le)) f.1)
+      ((f.0.0, meets_same (lattice_of s.order) (line_at b (xs ++ ys)) (line_at b xs) i same p z back.0 f.0.1),
+          fewer xs ys ps zs (i + 1) back.1 (omega (arith, le)) f.1)
 
-  cut_lines : (ls : List Label) (xs ys : List Line) (bytes rest : List ℕ) → BeginsWith s ls (xs ++ ys) bytes rest → BeginsWith s ls xs bytes (lines_text s.order (0 + length xs) ys ++ rest)
+  cut_lines : (ls : List Label) (xs ys : List Line) (bytes rest : List ℕ) → BeginsWith s ls (xs ++ ys) bytes rest
+      → BeginsWith s ls xs bytes (lines_text s.order (0 + length xs) ys ++ rest)
   cut_lines ls xs ys bytes rest h =
       let L = lines_text s.order 0 xs in
       let M = lines_text s.order (0 + length xs) ys in
       let n = length-append xs ys in
       let back : AllFrom LooksBack 0 (places_of s ls) =
-      all_back (lattice_of s.order) (label_at s.order.bottom (spread s.declarations ls)) s.order.size s.declarations (plan_of s) 0 s.order.bottom First Open valid.known tt tt in
+      all_back (lattice_of s.order) (label_at s.order.bottom (spread s.declarations ls)) s.order.size s.declarations (plan_of s) 0 s.order.bottom
+          First Open valid.known tt tt in
       record {
         text =
             h.text ∙ ap (λ t. (F ++ (V ls ++ t)) ++ rest) (lines_cut s.order 0 xs ys)
@@ -76,7 +83,8 @@ module _ (s : Syntax) (valid : IsValid s) where
         commands = fewer xs ys (places_of s ls) xs 0 back (omega arith) (fit_front (FitsPlace s (xs ++ ys)) (places_of s ls) xs ys h.commands);
       }
 
-  cut_labels : (ls ms : List Label) (bytes rest : List ℕ) → BeginsWith s (ls ++ ms) [] bytes rest → BeginsWith s ls [] bytes (variables_text s.order (drop (length ls) s.declarations) ms ++ rest)
+  cut_labels : (ls ms : List Label) (bytes rest : List ℕ) → BeginsWith s (ls ++ ms) [] bytes rest
+      → BeginsWith s ls [] bytes (variables_text s.order (drop (length ls) s.declarations) ms ++ rest)
   cut_labels ls ms bytes rest h =
       let W = variables_text s.order (drop (length ls) s.declarations) ms in
       record {
@@ -99,7 +107,8 @@ module _ (s : Syntax) (valid : IsValid s) where
       let is = take-append-drop j ls in
       let some = cut_lines ls [] xs bytes rest h in
       let size = length-take-le j ls (omega (arith, l)) in
-      inr (take j ls, [], _, cut_labels (take j ls) (drop j ls) bytes _ (subst (λ z. BeginsWith s z [] bytes (lines_text s.order (0 + 0) xs ++ rest)) (sym is) some), omega (arith, size)))
+      inr (take j ls, [], _, cut_labels (take j ls) (drop j ls) bytes _
+          (subst (λ z. BeginsWith s z [] bytes (lines_text s.order (0 + 0) xs ++ rest)) (sym is) some), omega (arith, size)))
       (λ (l : length ls ≤ j).
       let m = j - length ls in
       let is = take-append-drop m xs in

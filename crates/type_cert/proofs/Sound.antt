@@ -62,7 +62,8 @@ module _ (lat : Lattice) (g : ℕ → ℕ) (lines : ℕ → Line) (ls : ℕ → 
   last_end (Mitigate w k l e d p) i last t h = last_end p (i + 1 + count d) i (lines i).end.number (inr refl)
 
   -- a list closes what its last command does
-  list_closes : (p : Plan) (c : Close) (j e : ℕ) → Closes lat lines (closing p c) e → (AreSome p → Closes lat lines c (list_end p j e)) → Closes lat lines c (list_end p j e)
+  list_closes : (p : Plan) (c : Close) (j e : ℕ) → Closes lat lines (closing p c) e → (AreSome p → Closes lat lines c (list_end p j e))
+      → Closes lat lines c (list_end p j e)
   list_closes Done c j e h k = h
   list_closes (Skip w p) c j e h k = k tt
   list_closes (Assign w x f p) c j e h k = k tt
@@ -86,9 +87,11 @@ module _ (lat : Lattice) (g : ℕ → ℕ) (lines : ℕ → Line) (ls : ℕ → 
   -- the parts of a command's places
   pub if_parts_at : (Q : ℕ → Place → Type 0) (e : Expression) (a b p : Plan) (i pc : ℕ) (c : Close) →
       AllFrom Q (i + 1) (P a (i + 1) (lat.join pc (label_of lat g e)) (Within i (label (label_of lat g e))) Open
-      ++ (P b (i + 1 + count a) (lat.join pc (label_of lat g e)) (Within i (label (label_of lat g e))) (ClosesIf i (last_of a (i + 1) (i + 1))) ++ P p (i + 1 + count a + count b) pc (After i) c)) →
+      ++ (P b (i + 1 + count a) (lat.join pc (label_of lat g e)) (Within i (label (label_of lat g e))) (ClosesIf i (last_of a (i + 1) (i + 1)))
+          ++ P p (i + 1 + count a + count b) pc (After i) c)) →
       AllFrom Q (i + 1) (P a (i + 1) (lat.join pc (label_of lat g e)) (Within i (label (label_of lat g e))) Open)
-      × AllFrom Q (i + 1 + count a) (P b (i + 1 + count a) (lat.join pc (label_of lat g e)) (Within i (label (label_of lat g e))) (ClosesIf i (last_of a (i + 1) (i + 1))))
+      × AllFrom Q (i + 1 + count a) (P b (i + 1 + count a) (lat.join pc (label_of lat g e)) (Within i (label (label_of lat g e)))
+          (ClosesIf i (last_of a (i + 1) (i + 1))))
       × AllFrom Q (i + 1 + count a + count b) (P p (i + 1 + count a + count b) pc (After i) c)
   if_parts_at Q e a b p i pc c h =
       let inner = lat.join pc (label_of lat g e) in
@@ -96,18 +99,22 @@ module _ (lat : Lattice) (g : ℕ → ℕ) (lines : ℕ → Line) (ls : ℕ → 
       let joins = ClosesIf i (last_of a (i + 1) (i + 1)) in
       let na = length_places lat g a (i + 1) inner start Open in
       let nb = length_places lat g b (i + 1 + count a) inner start joins in
-      let x = from_parts Q (P a (i + 1) inner start Open) (P b (i + 1 + count a) inner start joins ++ P p (i + 1 + count a + count b) pc (After i) c) (i + 1) (i + 1 + count a) (omega (arith, na)) h in
-      let y = from_parts Q (P b (i + 1 + count a) inner start joins) (P p (i + 1 + count a + count b) pc (After i) c) (i + 1 + count a) (i + 1 + count a + count b) (omega (arith, nb)) x.1 in
+      let x = from_parts Q (P a (i + 1) inner start Open) (P b (i + 1 + count a) inner start joins ++ P p (i + 1 + count a + count b) pc (After i) c) (i + 1)
+          (i + 1 + count a) (omega (arith, na)) h in
+      let y = from_parts Q (P b (i + 1 + count a) inner start joins) (P p (i + 1 + count a + count b) pc (After i) c) (i + 1 + count a)
+          (i + 1 + count a + count b) (omega (arith, nb)) x.1 in
       (x.0, y.0, y.1)
 
-  pub one_part_at : (Q : ℕ → Place → Type 0) (d p : Plan) (i inner pc : ℕ) (s : Start) (k c : Close) → AllFrom Q (i + 1) (P d (i + 1) inner s k ++ P p (i + 1 + count d) pc (After i) c) →
+  pub one_part_at : (Q : ℕ → Place → Type 0) (d p : Plan) (i inner pc : ℕ) (s : Start) (k c : Close)
+      → AllFrom Q (i + 1) (P d (i + 1) inner s k ++ P p (i + 1 + count d) pc (After i) c) →
       AllFrom Q (i + 1) (P d (i + 1) inner s k) × AllFrom Q (i + 1 + count d) (P p (i + 1 + count d) pc (After i) c)
   one_part_at Q d p i inner pc s k c h =
       let nd = length_places lat g d (i + 1) inner s k in
       from_parts Q (P d (i + 1) inner s k) (P p (i + 1 + count d) pc (After i) c) (i + 1) (i + 1 + count d) (omega (arith, nd)) h
 
   module _ (size : ℕ) (ds : List Declaration) where
-    pub sound : (p : Plan) (i pc : ℕ) (s : Start) (c : Close) (t : ℕ) → AllFrom MeetsAt i (P p i pc s c) → HasLevels p i → AreKnown size ds p → t ≡ start_of lat lines s →
+    pub sound : (p : Plan) (i pc : ℕ) (s : Start) (c : Close) (t : ℕ) → AllFrom MeetsAt i (P p i pc s c) → HasLevels p i
+        → AreKnown size ds p → t ≡ start_of lat lines s →
         Types lat g pc t (bare (labelled ms ls p i)) (list_end p i t) × (AreSome p → Closes lat lines c (list_end p i t))
     sound Done i pc s c t h v kn e = (refl, λ x. absurd x)
     sound (Skip w p) i pc s c t h v kn e =
@@ -146,7 +153,8 @@ module _ (lat : Lattice) (g : ℕ → ℕ) (lines : ℕ → Line) (ls : ℕ → 
         let m = h.0 in
         let l = label_of lat g f in
         let from : (lines i).start.number ≡ t = m.start ∙ sym e in
-        let end : (lines i).end.number ≡ lat.join (lat.join t l) (lines i).read.number = m.rule ∙ ap (λ z. lat.join (lat.join z l) (lines i).read.number) from in
+        let end : (lines i).end.number ≡ lat.join (lat.join t l) (lines i).read.number =
+            m.rule ∙ ap (λ z. lat.join (lat.join z l) (lines i).read.number) from in
         let q = sound p (i + 1) pc (After i) c (lines i).end.number h.1 v kn.2 refl in (
           (m.writes, subst (λ z. Types lat g pc z (bare (labelled ms ls p (i + 1))) (list_end p (i + 1) (lines i).end.number)) end q.0),
           λ _. list_closes p c (i + 1) (lines i).end.number m.close q.1,
@@ -221,7 +229,8 @@ module _ (lat : Lattice) (g : ℕ → ℕ) (lines : ℕ → Line) (ls : ℕ → 
       let inner = lat.join pc (label_of lat g e) in
       let start = Within i (label (label_of lat g e)) in
       let parts = if_parts_at MeetsAt e a b p i pc c h.1 in
-      (h.0.marks, owns a (i + 1) inner start Open parts.0, owns b (i + 1 + count a) inner start (ClosesIf i (last_of a (i + 1) (i + 1))) parts.1, owns p (i + 1 + count a + count b) pc (After i) c parts.2)
+      (h.0.marks, owns a (i + 1) inner start Open parts.0, owns b (i + 1 + count a) inner start (ClosesIf i (last_of a (i + 1) (i + 1))) parts.1,
+          owns p (i + 1 + count a + count b) pc (After i) c parts.2)
   owns (While w e d p) i pc s c h =
       let inner = lat.join pc (label_of lat g e) in
       let parts = one_part_at MeetsAt d p i inner pc (Around i) (ClosesWhile i) c h.1 in
@@ -250,7 +259,8 @@ module _ (lat : Lattice) (g : ℕ → ℕ) (lines : ℕ → Line) (ls : ℕ → 
   kept (While w e d p) i pc s c h v =
       let inner = lat.join pc (label_of lat g e) in
       let parts = one_part_at MeetsAt d p i inner pc (Around i) (ClosesWhile i) c h.1 in
-      (own_kept w.labels (here lat g pc e) (ms i) h.0.marks, kept d (i + 1) inner (Around i) (ClosesWhile i) parts.0 v.0, kept p (i + 1 + count d) pc (After i) c parts.1 v.1)
+      (own_kept w.labels (here lat g pc e) (ms i) h.0.marks, kept d (i + 1) inner (Around i) (ClosesWhile i) parts.0 v.0,
+          kept p (i + 1 + count d) pc (After i) c parts.1 v.1)
   kept (Mitigate w k l e d p) i pc s c h v =
       let start = Within i (label (label_of lat g e)) in
       let parts = one_part_at MeetsAt d p i pc pc start (ClosesMitigate i) c h.1 in (
@@ -272,7 +282,8 @@ module _ (lat : Lattice) (g : ℕ → ℕ) (lines : ℕ → Line) (ls : ℕ → 
     HasPcs (While w e d p) i = HasPcs d (i + 1) × HasPcs p (i + 1 + count d)
     HasPcs (Mitigate w k l e d p) i = (at k ≡ (lines i).pc.number) × HasPcs d (i + 1) × HasPcs p (i + 1 + count d)
 
-    pub in_contexts : (p : Plan) (i pc : ℕ) (s : Start) (c : Close) → AllFrom MeetsAt i (P p i pc s c) → HasPcs p i → HasContexts lat g at pc (bare (labelled ms ls p i))
+    pub in_contexts : (p : Plan) (i pc : ℕ) (s : Start) (c : Close) → AllFrom MeetsAt i (P p i pc s c) → HasPcs p i
+        → HasContexts lat g at pc (bare (labelled ms ls p i))
     in_contexts Done i pc s c h v = tt
     in_contexts (Skip w p) i pc s c h v = in_contexts p (i + 1) pc (After i) c h.1 v
     in_contexts (Assign w x e p) i pc s c h v = in_contexts p (i + 1) pc (After i) c h.1 v

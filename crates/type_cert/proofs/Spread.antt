@@ -1,5 +1,6 @@
 -- The labels of variables, from those of the declarations.
-use Rattle.std.proofs.Common.{◌≡◌, ℕ, ◌+◌, ◌-◌, ◌<◌, ◌≤◌, refl, sym, ap, ◌∙◌, subst, List, [], ◌∷◌, ◌++◌, length, length-append, append_assoc, append-nil, take, drop, get_or, arith, ⊎_elim}
+use Rattle.std.proofs.Common.{◌≡◌, ℕ, ◌+◌, ◌-◌, ◌<◌, ◌≤◌, refl, sym, ap, ◌∙◌, subst, List, [], ◌∷◌, ◌++◌, length, length-append, append_assoc, append-nil}
+use Rattle.std.proofs.Common.{take, drop, get_or, arith, ⊎_elim}
 use Rattle.std.specs.Prelude.{Option, None, Some, replicate, unwrap_or, slice_get}
 use Rattle.std.proofs.lemmas.Bool.{cases_lt}
 use Rattle.std.proofs.lemmas.List.{get_or_append_left, get_or-append-add, get_or-replicate, length-replicate, drop_more, drop_all, take_all}
@@ -23,7 +24,8 @@ length_spread (d ∷ ds) (l ∷ ls) h =
 
 module _ (n : ℕ) where
   -- a place is one of the first declaration's, or one of the others
-  first_there : (d : Declaration) (ds : List Declaration) (l : Label) (ls : List Label) (x : ℕ) (low : Label) → x < size_of d.1 → get_or (spread (d ∷ ds) (l ∷ ls)) x low ≡ l
+  first_there : (d : Declaration) (ds : List Declaration) (l : Label) (ls : List Label) (x : ℕ) (low : Label) → x < size_of d.1
+      → get_or (spread (d ∷ ds) (l ∷ ls)) x low ≡ l
   first_there d ds l ls x low h =
       let m = length-replicate (size_of d.1) l in
       get_or_append_left (replicate (size_of d.1) l) (spread ds ls) low x (omega (arith, m, h)) ∙ get_or-replicate (size_of d.1) x l low h
@@ -45,7 +47,8 @@ module _ (n : ℕ) where
       (λ (i : size_of d.1 ≤ x). subst (λ (z : Label). z.number < n) (sym (later_there d ds l ls x low i)) (spread_below ds ls b (x - size_of d.1) hb h.1))
       (cases_lt x (size_of d.1))
 
-  pub spread_kept : (ds : List Declaration) (ls : List Label) (b x : ℕ) (c : Cell) → AllFit (FitsDeclaration n) ds ls → length ls ≡ length ds → x < variables ds →
+  pub spread_kept : (ds : List Declaration) (ls : List Label) (b x : ℕ) (c : Cell) → AllFit (FitsDeclaration n) ds ls
+      → length ls ≡ length ds → x < variables ds →
       IsKept (get_or (cells ds) x c).label (label_at b (spread ds ls) x)
   spread_kept [] ls b x c h e i = absurd (omega (arith, i))
   spread_kept (d ∷ ds) [] b x c h e i = absurd (omega (arith, e))
@@ -58,7 +61,8 @@ module _ (n : ℕ) where
       (λ (k : x < size_of d.1).
       let a : (get_or (cells (d ∷ ds)) x c).label ≡ d.1.label =
       ap (λ (z : Cell). z.label) (get_or_append_left cd (cells ds) c x (omega (arith, m, k)) ∙ cells_at d.0 d.1.label d.1.length x c k) in
-      subst (λ z. IsKept z (label_at b (spread (d ∷ ds) (l ∷ ls)) x)) (sym a) (subst (λ (z : Label). IsKept d.1.label z.number) (sym (first_there d ds l ls x low k)) h.0.1))
+      subst (λ z. IsKept z (label_at b (spread (d ∷ ds) (l ∷ ls)) x)) (sym a)
+          (subst (λ (z : Label). IsKept d.1.label z.number) (sym (first_there d ds l ls x low k)) h.0.1))
       (λ (k : size_of d.1 ≤ x).
       let w : x ≡ length cd + (x - size_of d.1) = omega (arith, m, k) in
       let a : (get_or (cells (d ∷ ds)) x c).label ≡ (get_or (cells ds) (x - size_of d.1) c).label =
@@ -73,7 +77,8 @@ pub size_is : (v : Option ℕ) → unwrap_or v 1 ≡ size_in v
 size_is None = refl
 size_is (Some n) = refl
 
-pub spread_next : (ds : List Declaration) (ls all found new : List Label) (k size : ℕ) (d : Declaration) (l : Label) → slice_get ds k ≡ Some d → k < length ls → l ≡ get_or ls k l → size ≡ size_of d.1 →
+pub spread_next : (ds : List Declaration) (ls all found new : List Label) (k size : ℕ) (d : Declaration) (l : Label) → slice_get ds k ≡ Some d → k < length ls
+    → l ≡ get_or ls k l → size ≡ size_of d.1 →
     new ≡ found ++ replicate size l → all ≡ found ++ spread (drop k ds) (drop k ls) → all ≡ new ++ spread (drop (k + 1) ds) (drop (k + 1) ls)
 spread_next ds ls all found new k size d l there h at es en so =
     let hd = slice_get_within ds k d there in
@@ -86,7 +91,8 @@ spread_next ds ls all found new k size d l there h at es en so =
 pub spread_all : (ds : List Declaration) (ls all found : List Label) (k : ℕ) → length ds ≤ k → all ≡ found ++ spread (drop k ds) (drop k ls) → found ≡ all
 spread_all ds ls all found k h so = sym (so ∙ ap (λ z. found ++ spread z (drop k ls)) (drop_all k ds h) ∙ append-nil found)
 
-pub resized : (found : List Label) (n size len : ℕ) (l : Label) (new : List Label) → len ≡ length found → n ≡ len + size → new ≡ take n found ++ replicate (n - len) l → new ≡ found ++ replicate size l
+pub resized : (found : List Label) (n size len : ℕ) (l : Label) (new : List Label) → len ≡ length found → n ≡ len + size
+    → new ≡ take n found ++ replicate (n - len) l → new ≡ found ++ replicate size l
 resized found n size len l new el en is =
     let a : length found ≤ n = omega (arith, el, en) in
     let b : n - len ≡ size = omega (arith, en) in

@@ -1,5 +1,6 @@
 -- What a whole certificate gives: a labelling of the program, a derivation, and the labels of its mitigates.
-use Rattle.std.proofs.Common.{◌≡◌, ℕ, zero, suc, ◌+◌, ◌<◌, ◌≤◌, refl, sym, ap, ◌∙◌, subst, List, [], ◌∷◌, ◌++◌, length, length-append, append_assoc, take, get_or, map, arith, ⊎_elim}
+use Rattle.std.proofs.Common.{◌≡◌, ℕ, zero, suc, ◌+◌, ◌<◌, ◌≤◌, refl, sym, ap, ◌∙◌, subst, List, [], ◌∷◌, ◌++◌, length, length-append, append_assoc, take}
+use Rattle.std.proofs.Common.{get_or, map, arith, ⊎_elim}
 use Rattle.std.specs.Prelude.{Option, None, Some}
 use Rattle.std.proofs.Math.Path.{fun_ext}
 use Rattle.std.proofs.Math.Seq.{get_or-append_seam}
@@ -54,15 +55,18 @@ levels_below n b xs hb h k = go xs 0 h k
     go (x ∷ xs) i h k = one x.level (levels_in xs) h.0 (go xs (i + 1) h.1) k
 
 -- the second list's items, by their numbers
-pub fit_at : {A B : Type 0} (R : A → B → Type 0) (as' : List A) (all pre bs : List B) (d : B) (i : ℕ) → all ≡ pre ++ bs → length pre ≡ i → length as' ≡ length bs → AllFit R as' bs → AllFrom (λ j a. R a (get_or all j d)) i as'
+pub fit_at : {A B : Type 0} (R : A → B → Type 0) (as' : List A) (all pre bs : List B) (d : B) (i : ℕ) → all ≡ pre ++ bs → length pre ≡ i
+    → length as' ≡ length bs → AllFit R as' bs → AllFrom (λ j a. R a (get_or all j d)) i as'
 fit_at R [] all pre bs d i is len e h = tt
 fit_at R (a ∷ as') all pre [] d i is len e h = absurd (omega (arith, e))
 fit_at R (a ∷ as') all pre (b ∷ bs) d i is len e h =
     let at : get_or all i d ≡ b = ap (λ z. get_or z i d) is ∙ ap (λ z. get_or (pre ++ b ∷ bs) z d) (sym len) ∙ get_or-append_seam pre b bs d in
     let l = length-append pre (b ∷ []) in
-    (subst (λ z. R a z) (sym at) h.0, fit_at R as' all (pre ++ b ∷ []) bs d (i + 1) (is ∙ sym (append_assoc pre (b ∷ []) bs)) (omega (arith, l, len)) (omega (arith, e)) h.1)
+    (subst (λ z. R a z) (sym at) h.0,
+        fit_at R as' all (pre ++ b ∷ []) bs d (i + 1) (is ∙ sym (append_assoc pre (b ∷ []) bs)) (omega (arith, l, len)) (omega (arith, e)) h.1)
 
-module _ (s : Syntax) (valid : IsValid s) (ls : List Label) (xs : List Line) (bytes : List ℕ) (begins : BeginsWith s ls xs bytes []) (all_variables : length ls ≡ length s.declarations) (all_commands : length xs ≡ count (plan_of s)) where
+module _ (s : Syntax) (valid : IsValid s) (ls : List Label) (xs : List Line) (bytes : List ℕ) (begins : BeginsWith s ls xs bytes [])
+    (all_variables : length ls ≡ length s.declarations) (all_commands : length xs ≡ count (plan_of s)) where
   abbrev b : ℕ
   b = s.order.bottom
 
@@ -114,7 +118,8 @@ module _ (s : Syntax) (valid : IsValid s) (ls : List Label) (xs : List Line) (by
   at_below i =
       ⊎_elim
       (λ (h : i < length xs). let q = from_first (λ _ x. HasLabels s.order.size x) xs i (no_line b) lines_below h in (q.read, q.write))
-      (λ (h : length xs ≤ i). subst (λ (z : Line). (z.read.number < s.order.size) × (z.write.number < s.order.size)) (sym (get_or_past xs i (no_line b) h)) (some, some))
+      (λ (h : length xs ≤ i). subst (λ (z : Line). (z.read.number < s.order.size)
+          × (z.write.number < s.order.size)) (sym (get_or_past xs i (no_line b) h)) (some, some))
       (cases_lt i (length xs))
 
   same_marks : (λ (i : ℕ). marks_in (E i)) ≡ marks_of s.order held
@@ -132,7 +137,8 @@ module _ (s : Syntax) (valid : IsValid s) (ls : List Label) (xs : List Line) (by
         levels_fit = levels_count m;
         variables_below = λ x. spread_below s.order.size s.declarations ls b x some begins.variables;
         commands_below = λ i. subst (λ (z : Label × Label). (z.0.number < s.order.size) × (z.1.number < s.order.size)) (sym (both_at b xs i)) (at_below i);
-        levels_below = levels_below s.order.size b xs some (from_map (λ _ x. HasLabels s.order.size x) (λ _ x. IsBelow s.order.size x.level) (λ _ x h. h.level) xs 0 lines_below);
+        levels_below = levels_below s.order.size b xs some (from_map (λ _ x. HasLabels s.order.size x) (λ _ x. IsBelow s.order.size x.level)
+            (λ _ x h. h.level) xs 0 lines_below);
         declared = λ x h. spread_kept s.order.size s.declarations ls b x _ begins.variables all_variables h;
         written = subst (λ z. Keeps z lv (plan_of s) 0) same_marks (kept lat g E lv (plan_of s) 0 b First Open all_meet all_marks.levels);
       }
@@ -169,19 +175,23 @@ pub record IsMade (s : Syntax) (bytes : List ℕ) (l : Labelling) (pcs : List La
   pub contexts : AreContexts (record { program = s; labels = l }) pcs
   pub certificate : IsCertificate (record { program = s; labels = l }) bytes
 
-pub made_of : (s : Syntax) → IsValid s → (bytes : List ℕ) (vs : List Label) (xs seen : List Line) (cs : List (Label × Label)) (lvs pcs : List Label) → AreContents s bytes vs xs → seen ≡ xs →
-    cs ≡ map (λ (x : Line). (x.read, x.write)) seen → lvs ≡ levels_in seen → pcs ≡ pcs_in seen → IsMade s bytes (record { variables = vs; commands = cs; levels = lvs }) pcs
+pub made_of : (s : Syntax) → IsValid s → (bytes : List ℕ) (vs : List Label) (xs seen : List Line) (cs : List (Label × Label)) (lvs pcs : List Label)
+    → AreContents s bytes vs xs → seen ≡ xs →
+    cs ≡ map (λ (x : Line). (x.read, x.write)) seen → lvs ≡ levels_in seen → pcs ≡ pcs_in seen
+        → IsMade s bytes (record { variables = vs; commands = cs; levels = lvs }) pcs
 made_of s valid bytes vs xs seen cs lvs pcs h es hc hl hp =
     let ls = h.declared in
     let same : held_in s ls xs ≡ made vs cs lvs =
-    sym (ap (λ z. made z cs lvs) h.spreads ∙ ap (λ z. made (spread s.declarations ls) z lvs) (hc ∙ ap (λ z. map both_labels z) es) ∙ ap (λ z. made (spread s.declarations ls) (map both_labels xs) z) (hl ∙ ap levels_in es)) in
+    sym (ap (λ z. made z cs lvs) h.spreads ∙ ap (λ z. made (spread s.declarations ls) z lvs) (hc ∙ ap (λ z. map both_labels z) es)
+        ∙ ap (λ z. made (spread s.declarations ls) (map both_labels xs) z) (hl ∙ ap levels_in es)) in
     let pcs_are : pcs_in xs ≡ pcs = sym (hp ∙ ap pcs_in es) in
     record {
       labelling = subst (λ z. IsLabelling s z) same (is_labelling s valid ls xs bytes h.begins h.all_variables h.all_commands);
       typed = subst (λ z. HasType (record { program = s; labels = z })) same (has_type s valid ls xs bytes h.begins h.all_variables h.all_commands);
       contexts =
           subst (λ z. AreContexts (record { program = s; labels = made vs cs lvs }) z) pcs_are
-          (subst (λ z. AreContexts (record { program = s; labels = z }) (pcs_in xs)) same (are_contexts s valid ls xs bytes h.begins h.all_variables h.all_commands));
+          (subst (λ z. AreContexts (record { program = s; labels = z }) (pcs_in xs)) same
+              (are_contexts s valid ls xs bytes h.begins h.all_variables h.all_commands));
       certificate = record { variables = ls; lines = xs; begins = h.begins; all_variables = h.all_variables; all_commands = h.all_commands; labels = sym same };
     }
   where

@@ -30,13 +30,15 @@ size_room (Some n) = omega arith
 next_drop : (ds : List Declaration) (k : ℕ) (d : Declaration) → slice_get ds k ≡ Some d → drop k ds ≡ d ∷ drop (k + 1) ds
 next_drop ds k d h = drop_more ds k d (slice_get_within ds k d h) ∙ ap (λ z. z ∷ drop (k + 1) ds) (get_or_from_slice_get ds k d d h)
 
-pub next_room : (ds : List Declaration) (k first size most : ℕ) (d : Declaration) → slice_get ds k ≡ Some d → size ≡ size_of d.1 → first + room (drop k ds) ≤ most → first + size + room (drop (k + 1) ds) ≤ most
+pub next_room : (ds : List Declaration) (k first size most : ℕ) (d : Declaration) → slice_get ds k ≡ Some d → size ≡ size_of d.1
+    → first + room (drop k ds) ≤ most → first + size + room (drop (k + 1) ds) ≤ most
 next_room ds k first size most d h es r =
     let e = ap room (next_drop ds k d h) in
     let m = size_room d.1.length in
     omega (arith, e, m, es, r)
 
-pub next_variable : (o : Order) (ds : List Declaration) (g : ℕ → ℕ) (out new all : List ℕ) (k first size : ℕ) (d : Declaration) (l : Label) → slice_get ds k ≡ Some d → l.number ≡ g first → size ≡ size_of d.1 →
+pub next_variable : (o : Order) (ds : List Declaration) (g : ℕ → ℕ) (out new all : List ℕ) (k first size : ℕ) (d : Declaration) (l : Label)
+    → slice_get ds k ≡ Some d → l.number ≡ g first → size ≡ size_of d.1 →
     new ≡ out ++ variable_text o d.0 l → all ≡ out ++ variables_text o (drop k ds) (declared_labels g first (drop k ds)) →
     all ≡ new ++ variables_text o (drop (k + 1) ds) (declared_labels g (first + size) (drop (k + 1) ds))
 next_variable o ds g out new all k first size d l h hl es en so =
@@ -47,7 +49,8 @@ next_variable o ds g out new all k first size d l h hl es en so =
     ∙ sym (append_assoc out (variable_text o d.0 l) (variables_text o r (declared_labels g (first + size) r)))
     ∙ ap (λ z. z ++ variables_text o r (declared_labels g (first + size) r)) (sym en)
 
-pub last_variable : (o : Order) (ds : List Declaration) (g : ℕ → ℕ) (out all : List ℕ) (k first : ℕ) → length ds ≤ k → all ≡ out ++ variables_text o (drop k ds) (declared_labels g first (drop k ds)) → out ≡ all
+pub last_variable : (o : Order) (ds : List Declaration) (g : ℕ → ℕ) (out all : List ℕ) (k first : ℕ) → length ds ≤ k
+    → all ≡ out ++ variables_text o (drop k ds) (declared_labels g first (drop k ds)) → out ≡ all
 last_variable o ds g out all k first h so = sym (so ∙ ap (λ z. out ++ variables_text o z (declared_labels g first z)) (drop_all k ds h) ∙ append-nil out)
 
 pub next_line : (o : Order) (xs : List Line) (out new all : List ℕ) (k : ℕ) (x : Line) → k < length xs → x ≡ get_or xs k x → new ≡ out ++ line_text o k x →
@@ -62,10 +65,12 @@ last_line o xs out all k h so = sym (so ∙ ap (λ z. out ++ lines_text o k z) (
 
 -- the labels of the lines that a labelling gives are labels of its lattice
 pub lines_below : (s : Syntax) (l : Labelling) (xs : List Line) → IsValid s → IsLabelling s l →
-    (let q : LabelledProgram = record { program = s; labels = l } in xs ≡ derived (order_of q) (labels_of q) (placed_of q) (order_of q).bottom (order_of q).bottom) →
+    (let q : LabelledProgram = record { program = s; labels = l } in
+        xs ≡ derived (order_of q) (labels_of q) (placed_of q) (order_of q).bottom (order_of q).bottom) →
     AllFrom (λ (i : ℕ) (x : Line). HasLabels s.order.size x) 0 xs
 lines_below s l xs valid keeps is =
     let q : LabelledProgram = record { program = s; labels = l } in
     let low = valid.order.table.some in
     subst (λ z. AllFrom (λ (i : ℕ) (x : Line). HasLabels s.order.size x) 0 z) (sym is)
-    (derived_below (order_of q) (variable_of s.order l) (marks_of s.order l) (level_of s.order l) s.order.size low (joins_below s.order valid.order) keeps.variables_below keeps.commands_below keeps.levels_below (plan_of s) 0 s.order.bottom s.order.bottom low low)
+    (derived_below (order_of q) (variable_of s.order l) (marks_of s.order l) (level_of s.order l) s.order.size low (joins_below s.order valid.order)
+        keeps.variables_below keeps.commands_below keeps.levels_below (plan_of s) 0 s.order.bottom s.order.bottom low low)

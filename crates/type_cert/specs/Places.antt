@@ -8,7 +8,8 @@ use Rattle.mit_syntax.specs.Plan.{Plan, count}
 use Rattle.timing_types.specs.Typing.{label_of, index_label}
 use Rattle.timing_types.specs.Walk.{put_index, here}
 use Rattle.type_cert.specs.declared.place.Act.{Act}
-use Rattle.type_cert.specs.declared.place.Act.TheVariants.{Skip as Skips, Assign as Assigns, Sleep as Sleeps, If as Branches, While as Loops, Mitigate as Mitigates}
+use Rattle.type_cert.specs.declared.place.Act.TheVariants.{Skip as Skips, Assign as Assigns, Sleep as Sleeps, If as Branches, While as Loops}
+use Rattle.type_cert.specs.declared.place.Act.TheVariants.{Mitigate as Mitigates}
 use Rattle.type_cert.specs.declared.place.Start.{Start}
 use Rattle.type_cert.specs.declared.place.Start.TheVariants.{After, Within, Around}
 use Rattle.type_cert.specs.declared.place.Close.{Close}

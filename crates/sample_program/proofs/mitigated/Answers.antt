@@ -14,7 +14,8 @@ use Rattle.sample_program.proofs.mitigated.Goals as goal
 abbrev sample : Pos → Pos → Plan
 sample p q = Mitigate (record { pos = p; labels = None }) 0 None (Number (pos 1)) (Skip (record { pos = q; labels = None }) Done) Done
 
-sample_plan : (p q p' q' : Pos) (inner : Vec Command Global) (xs : List Command) → p ≡ p' → q ≡ q' → inner.items ≡ record { pos = q; labels = None; form = FSkip } ∷ [] →
+sample_plan : (p q p' q' : Pos) (inner : Vec Command Global) (xs : List Command) → p ≡ p' → q ≡ q'
+    → inner.items ≡ record { pos = q; labels = None; form = FSkip } ∷ [] →
     xs ≡ record { pos = p; labels = None; form = DMitigate 0 (ENumber (pos 1)) None inner } ∷ [] → list_plan xs ≡ sample p' q'
 sample_plan p q p' q' inner xs hp hq hi hx =
     ap list_plan hx ∙ plan-Mitigate 0 (ENumber (pos 1)) None inner (record { pos = p; labels = None }) Done

@@ -23,7 +23,8 @@ at_outcome q t (r ∷ runs) = ap (λ z. releases q t r ∷ z) (at_outcome q t ru
 all_shown : (q t : ℕ) (rs : List Releases) (runs : List (List ℕ)) → map seen rs ≡ map (outcome q t) runs → shown rs ≡ map (releases q t) runs
 all_shown q t rs runs e = sym (at_seen rs) ∙ ap (map (λ (o : Outcome). o.at)) e ∙ at_outcome q t runs
 
-all_outcomes : (q t : ℕ) → 0 < q → (rs : List Releases) (runs : List (List ℕ)) → map seen rs ≡ map (outcome q t) runs → AllZip (IsOutcome q t) runs (map seen rs)
+all_outcomes : (q t : ℕ) → 0 < q → (rs : List Releases) (runs : List (List ℕ)) → map seen rs ≡ map (outcome q t) runs
+    → AllZip (IsOutcome q t) runs (map seen rs)
 all_outcomes q t pq rs runs e = subst (AllZip (IsOutcome q t) runs) (sym e) (go runs)
   where
     go : (runs : List (List ℕ)) → AllZip (IsOutcome q t) runs (map (outcome q t) runs)

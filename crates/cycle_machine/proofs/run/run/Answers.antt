@@ -21,15 +21,18 @@ pub run-preserved-in-Went : goal.run-preserved-in-Went
 run-preserved-in-Went g c =
     let v : Env g.row.E.Denot = g.E.MachineEnv.env in (
       c.in-Went.ensures.3,
-      quiet_more v c.args.image.now.instrs c.args.shown.now c.args.limit c.args.state.now c.run.state c.advance.new.state [] c.run.invariant.1 c.in-Went.ensures.0 (All-nil (IsHidden c.args.shown.now)) c.in-Went.ensures.1 c.in-Went.ensures.2,
+      quiet_more v c.args.image.now.instrs c.args.shown.now c.args.limit c.args.state.now c.run.state c.advance.new.state [] c.run.invariant.1
+          c.in-Went.ensures.0 (All-nil (IsHidden c.args.shown.now)) c.in-Went.ensures.1 c.in-Went.ensures.2,
     )
 
 pub run-preserved : goal.run-preserved
 run-preserved g c =
     let v : Env g.row.E.Denot = g.E.MachineEnv.env in (
       c.in-Wrote.ensures.3,
-      quiet_more v c.args.image.now.instrs c.args.shown.now c.args.limit c.args.state.now c.run.state c.advance.new.state _ c.run.invariant.1 c.in-Wrote.ensures.0
-          (one_hidden c.args.shown.now c.in-Wrote.variable c.in-Wrote.value c.advance.new.state.clock (sym c.is_shown.ensures ∙ c.if-is_shown.false)) c.in-Wrote.ensures.1 c.in-Wrote.ensures.2,
+      quiet_more v c.args.image.now.instrs c.args.shown.now c.args.limit c.args.state.now c.run.state c.advance.new.state _
+          c.run.invariant.1 c.in-Wrote.ensures.0
+          (one_hidden c.args.shown.now c.in-Wrote.variable c.in-Wrote.value c.advance.new.state.clock (sym c.is_shown.ensures ∙ c.if-is_shown.false))
+              c.in-Wrote.ensures.1 c.in-Wrote.ensures.2,
     )
 
 pub returns-then-is_shown-clause-turned : goal.returns-then-is_shown-clause-turned
@@ -37,19 +40,26 @@ returns-then-is_shown-clause-turned g c =
     let v : Env g.row.E.Denot = g.E.MachineEnv.env in
     let n : to_z w64 (of_z w64 c.in-Wrote.value) ≡ c.in-Wrote.value = search (rules, to_z-of_z) in (
       comes_next v c.args.image.now.instrs c.args.shown.now c.args.limit c.args.state.now c.run.state c.advance.new.state _ c.run.invariant.1
-          (c.in-Wrote.ensures.0 ∙ ap (λ z. with_log (Wrote c.in-Wrote.variable z c.advance.new.state.clock ∷ []) (seen c.advance.new.state)) (sym n)) c.in-Wrote.ensures.1 c.in-Wrote.ensures.2,
+          (c.in-Wrote.ensures.0 ∙ ap (λ z. with_log (Wrote c.in-Wrote.variable z c.advance.new.state.clock ∷ []) (seen c.advance.new.state)) (sym n))
+              c.in-Wrote.ensures.1 c.in-Wrote.ensures.2,
       refl,
       sym c.is_shown.ensures ∙ c.if-is_shown.true,
     )
 
 pub returns-in-Began-clause-turned : goal.returns-in-Began-clause-turned
 returns-in-Began-clause-turned g c =
-    let v : Env g.row.E.Denot = g.E.MachineEnv.env in (comes_next v c.args.image.now.instrs c.args.shown.now c.args.limit c.args.state.now c.run.state c.advance.new.state _ c.run.invariant.1 c.in-Began.ensures.0 c.in-Began.ensures.1 c.in-Began.ensures.2, refl)
+    let v : Env g.row.E.Denot = g.E.MachineEnv.env in
+        (comes_next v c.args.image.now.instrs c.args.shown.now c.args.limit c.args.state.now c.run.state c.advance.new.state _ c.run.invariant.1
+        c.in-Began.ensures.0 c.in-Began.ensures.1 c.in-Began.ensures.2, refl)
 
 pub returns-in-Ended-clause-turned : goal.returns-in-Ended-clause-turned
 returns-in-Ended-clause-turned g c =
-    let v : Env g.row.E.Denot = g.E.MachineEnv.env in (comes_next v c.args.image.now.instrs c.args.shown.now c.args.limit c.args.state.now c.run.state c.advance.new.state _ c.run.invariant.1 c.in-Ended.ensures.0 c.in-Ended.ensures.1 c.in-Ended.ensures.2, refl)
+    let v : Env g.row.E.Denot = g.E.MachineEnv.env in
+        (comes_next v c.args.image.now.instrs c.args.shown.now c.args.limit c.args.state.now c.run.state c.advance.new.state _ c.run.invariant.1
+        c.in-Ended.ensures.0 c.in-Ended.ensures.1 c.in-Ended.ensures.2, refl)
 
 pub returns-in-Halted-clause-turned : goal.returns-in-Halted-clause-turned
 returns-in-Halted-clause-turned g c =
-    let v : Env g.row.E.Denot = g.E.MachineEnv.env in (comes_next v c.args.image.now.instrs c.args.shown.now c.args.limit c.args.state.now c.run.state c.advance.new.state _ c.run.invariant.1 c.in-Halted.ensures.0 c.in-Halted.ensures.1 c.in-Halted.ensures.2, refl)
+    let v : Env g.row.E.Denot = g.E.MachineEnv.env in
+        (comes_next v c.args.image.now.instrs c.args.shown.now c.args.limit c.args.state.now c.run.state c.advance.new.state _ c.run.invariant.1
+        c.in-Halted.ensures.0 c.in-Halted.ensures.1 c.in-Halted.ensures.2, refl)

@@ -9,11 +9,13 @@ use Rattle.event_print.specs.Pieces.{SendsLines, BreaksLines}
 use Rattle.event_print.proofs.Pieced.{one_line, one_breaks}
 use Rattle.event_print.proofs.print.print_turn.Goals as goal
 
-sends : {T E : Type 0} (r : Result T E) (ds : List Declaration) (a b : Option (List Offered)) (end : RunEnd) → OnOk r (HasSent a b (last_line end ∷ [])) → OnOk r (SendsLines ds a b)
+sends : {T E : Type 0} (r : Result T E) (ds : List Declaration) (a b : Option (List Offered)) (end : RunEnd)
+    → OnOk r (HasSent a b (last_line end ∷ [])) → OnOk r (SendsLines ds a b)
 sends (Ok x) ds a b end h = one_line ds a b (last_line end) (inr (end, refl)) h
 sends (Err e) ds a b end h = tt
 
-breaks : {T E : Type 0} (r : Result T E) (ds : List Declaration) (a b : Option (List Offered)) (end : RunEnd) → OnErr r (HasBroken a b (last_line end ∷ [])) → OnErr r (BreaksLines ds a b)
+breaks : {T E : Type 0} (r : Result T E) (ds : List Declaration) (a b : Option (List Offered)) (end : RunEnd) → OnErr r (HasBroken a b (last_line end ∷ []))
+    → OnErr r (BreaksLines ds a b)
 breaks (Ok x) ds a b end h = tt
 breaks (Err e) ds a b end h = one_breaks ds a b (last_line end) (inr (end, refl)) h
 
@@ -27,4 +29,5 @@ pub returns-in-Limit-clause-sent : goal.returns-in-Limit-clause-sent
 returns-in-Limit-clause-sent g c = sends c.print_end-in-Limit.result c.args.p.now.declarations _ _ (Limit c.in-Limit.cycle) c.print_end-in-Limit.ensures.sent
 
 pub returns-in-Limit-clause-broken : goal.returns-in-Limit-clause-broken
-returns-in-Limit-clause-broken g c = breaks c.print_end-in-Limit.result c.args.p.now.declarations _ _ (Limit c.in-Limit.cycle) c.print_end-in-Limit.ensures.broken
+returns-in-Limit-clause-broken g c =
+    breaks c.print_end-in-Limit.result c.args.p.now.declarations _ _ (Limit c.in-Limit.cycle) c.print_end-in-Limit.ensures.broken

@@ -6,5 +6,7 @@ use Rattle.flow_path.proofs.parts.after.Goals as goal
 
 pub returns : goal.returns
 returns c = λ T h.
-    c.better.ensures c.args.p.now c.args.target.now c.args.known.now.variables.items T (reads AfterReading c.args.pos (expression_of c.args.e.now) ++ read_label AfterReadLabel c.args.pos c.args.labels.now) h
-    (c.better-own.ensures c.args.p.now c.args.target.now c.args.known.now.variables.items (reads AfterReading c.args.pos (expression_of c.args.e.now)) (read_label AfterReadLabel c.args.pos c.args.labels.now) c.reads-read.ensures c.read_label-label.ensures)
+    c.better.ensures c.args.p.now c.args.target.now c.args.known.now.variables.items T (reads AfterReading c.args.pos (expression_of c.args.e.now)
+        ++ read_label AfterReadLabel c.args.pos c.args.labels.now) h
+    (c.better-own.ensures c.args.p.now c.args.target.now c.args.known.now.variables.items (reads AfterReading c.args.pos (expression_of c.args.e.now))
+        (read_label AfterReadLabel c.args.pos c.args.labels.now) c.reads-read.ensures c.read_label-label.ensures)

@@ -5,4 +5,6 @@ use Rattle.flow_path.proofs.parts.around.Goals as goal
 
 pub returns : goal.returns
 returns c = λ P T h k.
-    c.better.ensures c.args.p.now c.args.target.now c.args.known.now.variables.items P (read_label HasReadLabel c.args.pos c.args.labels.now ++ T) h (c.better-time.ensures c.args.p.now c.args.target.now c.args.known.now.variables.items (read_label HasReadLabel c.args.pos c.args.labels.now) T c.read_label-label.ensures k)
+    c.better.ensures c.args.p.now c.args.target.now c.args.known.now.variables.items P (read_label HasReadLabel c.args.pos c.args.labels.now ++ T) h
+        (c.better-time.ensures c.args.p.now c.args.target.now c.args.known.now.variables.items (read_label HasReadLabel c.args.pos c.args.labels.now) T
+        c.read_label-label.ensures k)

@@ -6,5 +6,7 @@ use Rattle.flow_path.proofs.parts.put_here.Goals as goal
 
 pub returns : goal.returns
 returns c = λ P h.
-    c.better.ensures c.args.p.now c.args.target.now c.args.known.now.variables.items P (reads ReadsInIndex c.args.pos (expression_of c.args.index.now) ++ index_reads c.args.pos (expression_of c.args.e.now)) h
-    (c.better-own.ensures c.args.p.now c.args.target.now c.args.known.now.variables.items (reads ReadsInIndex c.args.pos (expression_of c.args.index.now)) (index_reads c.args.pos (expression_of c.args.e.now)) c.reads-place.ensures c.index_reads-read.ensures)
+    c.better.ensures c.args.p.now c.args.target.now c.args.known.now.variables.items P (reads ReadsInIndex c.args.pos (expression_of c.args.index.now)
+        ++ index_reads c.args.pos (expression_of c.args.e.now)) h
+    (c.better-own.ensures c.args.p.now c.args.target.now c.args.known.now.variables.items (reads ReadsInIndex c.args.pos (expression_of c.args.index.now))
+        (index_reads c.args.pos (expression_of c.args.e.now)) c.reads-place.ensures c.index_reads-read.ensures)

@@ -5,7 +5,8 @@ use Rattle.flow_path.specs.Distances.{Passes}
 use Rattle.flow_path.proofs.pass.+steps.Given as goal
 
 abbrev pub invariant-list_pass-loop-c : goal.invariant-list_pass-loop-c
-invariant-list_pass-loop-c l = Passes l.p l.target l.known.variables.items l.initial.sides l.sides l.pc l.fn.t l.end (list_plan l.commands) (list_plan (drop l.c-index l.commands))
+invariant-list_pass-loop-c l = Passes l.p l.target l.known.variables.items l.initial.sides l.sides l.pc l.fn.t l.end (list_plan l.commands)
+    (list_plan (drop l.c-index l.commands))
 
 abbrev pub decreases-command_pass : goal.decreases-command_pass
 decreases-command_pass l = 2 * count (command_plan l.c.now Done)

@@ -25,5 +25,6 @@ returns c = λ x st e.
       now = nothing_yet;
       search = T;
       few = omega (arith, links, none);
-      goals = λ d k g. reached_by x (state_of c.reach_goals.new.self) nowhere T d.parts nothing_yet (r.reached d (subst (λ z. Contains z d) e k) (goal_stands x c.args.p.now c.args.nodes.now c.args.target.now d st g)) (le_refl nothing_yet);
+      goals = λ d k g. reached_by x (state_of c.reach_goals.new.self) nowhere T d.parts nothing_yet
+          (r.reached d (subst (λ z. Contains z d) e k) (goal_stands x c.args.p.now c.args.nodes.now c.args.target.now d st g)) (le_refl nothing_yet);
     }

@@ -3,4 +3,5 @@ use Rattle.flow_print.proofs.Walked.{kind_on}
 use Rattle.flow_print.proofs.places.kind_at.Goals as goal
 
 pub loop-t-preserved : goal.loop-t-preserved
-loop-t-preserved c = c.loop-t.invariant ∙ kind_on [] c.args.tokens.now [] c.loop-t.t-index _ c.loop-t-test.true c.is_same.result c.if-is_same.false c.args.q c.is_same.ensures
+loop-t-preserved c = c.loop-t.invariant ∙ kind_on [] c.args.tokens.now [] c.loop-t.t-index _ c.loop-t-test.true c.is_same.result
+    c.if-is_same.false c.args.q c.is_same.ensures

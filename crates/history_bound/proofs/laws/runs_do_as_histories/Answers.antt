@@ -7,4 +7,5 @@ pub returns-clause-one_level : goal.returns-clause-one_level
 returns-clause-one_level c = runs_by_history _ part_structure _ part_by_history c.caches_do_as_histories.ensures.costs c.caches_do_as_histories.ensures.start
 
 pub returns-clause-two_levels : goal.returns-clause-two_levels
-returns-clause-two_levels c = runs_by_history _ part2_structure _ part2_by_history c.caches_do_as_histories.ensures.costs_of_two c.caches_do_as_histories.ensures.start_of_two
+returns-clause-two_levels c = runs_by_history _ part2_structure _ part2_by_history c.caches_do_as_histories.ensures.costs_of_two
+    c.caches_do_as_histories.ensures.start_of_two

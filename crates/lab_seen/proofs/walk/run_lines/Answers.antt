@@ -15,19 +15,22 @@ up_to : (a b c : ℕ) → a ≤ b → b ≤ c → a ≤ c
 up_to a b c p q = omega arith
 
 -- the start at a place of the list
-from_here : (xs items : List Stored) (i : ℕ) (x : Stored) → xs ≡ items → i < length xs → x ≡ get_or xs i x → drop i (map seen items) ≡ seen x ∷ drop (i + 1) (map seen items)
+from_here : (xs items : List Stored) (i : ℕ) (x : Stored) → xs ≡ items → i < length xs → x ≡ get_or xs i x
+    → drop i (map seen items) ≡ seen x ∷ drop (i + 1) (map seen items)
 from_here xs items i x same lt is = subst (λ z. drop i (map seen z) ≡ seen x ∷ drop (i + 1) (map seen z)) same (map-from seen xs i x lt is)
 
 within : (xs items : List Stored) (i : ℕ) → xs ≡ items → i < length xs → i < length (map seen items)
 within xs items i same lt = subst (λ z. i < length (map seen z)) same (omega (arith, lt, length-map xs seen))
 
-fits_here : (P : StartValue → Type 0) (xs items : List Stored) (i : ℕ) (x : Stored) → All P (map seen items) → xs ≡ items → i < length xs → x ≡ get_or xs i x → P (seen x)
+fits_here : (P : StartValue → Type 0) (xs items : List Stored) (i : ℕ) (x : Stored) → All P (map seen items) → xs ≡ items → i < length xs
+    → x ≡ get_or xs i x → P (seen x)
 fits_here P xs items i x h same lt is = All-seen P xs i x (subst (λ z. All P (map seen z)) (sym same) h) lt is
 
 pub run_line-requires-clause-start : goal.run_line-requires-clause-start
 run_line-requires-clause-start g c =
     let lt : c.loop-i.i < length c.as_slice-starts.result.now = omega arith in
-    fits_here (IsFor c.args.p.now.compiled.typed.labelled.program) c.as_slice-starts.result.now c.args.p.now.starts.items c.loop-i.i c.index-starts-i.result c.requires.fit.starts c.as_slice-starts.ensures.value lt c.index-starts-i.is
+    fits_here (IsFor c.args.p.now.compiled.typed.labelled.program) c.as_slice-starts.result.now c.args.p.now.starts.items c.loop-i.i c.index-starts-i.result
+        c.requires.fit.starts c.as_slice-starts.ensures.value lt c.index-starts-i.is
 
 pub returns-in-Err-clause-prefix : goal.returns-in-Err-clause-prefix
 returns-in-Err-clause-prefix g c = λ e.
@@ -37,9 +40,12 @@ returns-in-Err-clause-prefix g c = λ e.
     let q = c.args.p.now.compiled.typed.labelled in
     let same = c.as_slice-starts.ensures.value in
     let fits = fits_here (IsFor q.program) c.as_slice-starts.result.now items c.loop-i.i x c.requires.fit.starts same lt c.index-starts-i.is in
-    broke_in (line_in c.args.setting.env c.args.setting.budget q c.args.p.now.observer c.args.p.now.compiled.image) (map seen items) c.loop-i.i (seen x) (within c.as_slice-starts.result.now items c.loop-i.i same lt)
-    (from_here c.as_slice-starts.result.now items c.loop-i.i x same lt c.index-starts-i.is) (g.W.Sink.taken c.args.out.now) (g.W.Sink.taken c.loop-i.out) (g.W.Sink.taken c.run_line.new.out) c.loop-i.invariant.written
-    (subst (λ (z : Told). AppendsPrefix (g.W.Sink.taken c.loop-i.out) (g.W.Sink.taken c.run_line.new.out) (line_text q c.args.p.now.observer (c.loop-i.i + 1) z)) (c.requires.named (seen x) fits) (c.in-Err.ensures.prefix e))
+    broke_in (line_in c.args.setting.env c.args.setting.budget q c.args.p.now.observer c.args.p.now.compiled.image) (map seen items) c.loop-i.i (seen x)
+        (within c.as_slice-starts.result.now items c.loop-i.i same lt)
+    (from_here c.as_slice-starts.result.now items c.loop-i.i x same lt c.index-starts-i.is) (g.W.Sink.taken c.args.out.now) (g.W.Sink.taken c.loop-i.out)
+        (g.W.Sink.taken c.run_line.new.out) c.loop-i.invariant.written
+    (subst (λ (z : Told). AppendsPrefix (g.W.Sink.taken c.loop-i.out) (g.W.Sink.taken c.run_line.new.out)
+        (line_text q c.args.p.now.observer (c.loop-i.i + 1) z)) (c.requires.named (seen x) fits) (c.in-Err.ensures.prefix e))
 
 pub loop-i-preserved : goal.loop-i-preserved
 loop-i-preserved g c =
@@ -51,8 +57,11 @@ loop-i-preserved g c =
     let fits = fits_here (IsFor q.program) c.as_slice-starts.result.now items c.loop-i.i x c.requires.fit.starts same lt c.index-starts-i.is in
     record {
       written =
-          wrote_one (line_in c.args.setting.env c.args.setting.budget q c.args.p.now.observer c.args.p.now.compiled.image) (map seen items) c.loop-i.i (seen x) (within c.as_slice-starts.result.now items c.loop-i.i same lt)
-          (from_here c.as_slice-starts.result.now items c.loop-i.i x same lt c.index-starts-i.is) (g.W.Sink.taken c.args.out.now) (g.W.Sink.taken c.loop-i.out) (g.W.Sink.taken c.run_line.new.out) c.loop-i.invariant.written
-          (subst (λ (z : Told). Appends (g.W.Sink.taken c.loop-i.out) (g.W.Sink.taken c.run_line.new.out) (line_text q c.args.p.now.observer (c.loop-i.i + 1) z)) (c.requires.named (seen x) fits) c.in-Ok.ensures.text);
+          wrote_one (line_in c.args.setting.env c.args.setting.budget q c.args.p.now.observer c.args.p.now.compiled.image) (map seen items) c.loop-i.i (seen x)
+              (within c.as_slice-starts.result.now items c.loop-i.i same lt)
+          (from_here c.as_slice-starts.result.now items c.loop-i.i x same lt c.index-starts-i.is) (g.W.Sink.taken c.args.out.now) (g.W.Sink.taken c.loop-i.out)
+              (g.W.Sink.taken c.run_line.new.out) c.loop-i.invariant.written
+          (subst (λ (z : Told). Appends (g.W.Sink.taken c.loop-i.out) (g.W.Sink.taken c.run_line.new.out)
+              (line_text q c.args.p.now.observer (c.loop-i.i + 1) z)) (c.requires.named (seen x) fits) c.in-Ok.ensures.text);
       later = up_to _ _ _ c.loop-i.invariant.later c.run_line.ensures.later;
     }

@@ -14,19 +14,22 @@ up_to : (a b c : ℕ) → a ≤ b → b ≤ c → a ≤ c
 up_to a b c p q = omega arith
 
 -- the start at a place of the list
-from_here : (xs items : List Stored) (i : ℕ) (x : Stored) → xs ≡ items → i < length xs → x ≡ get_or xs i x → drop i (map seen items) ≡ seen x ∷ drop (i + 1) (map seen items)
+from_here : (xs items : List Stored) (i : ℕ) (x : Stored) → xs ≡ items → i < length xs → x ≡ get_or xs i x
+    → drop i (map seen items) ≡ seen x ∷ drop (i + 1) (map seen items)
 from_here xs items i x same lt is = subst (λ z. drop i (map seen z) ≡ seen x ∷ drop (i + 1) (map seen z)) same (map-from seen xs i x lt is)
 
 within : (xs items : List Stored) (i : ℕ) → xs ≡ items → i < length xs → i < length (map seen items)
 within xs items i same lt = subst (λ z. i < length (map seen z)) same (omega (arith, lt, length-map xs seen))
 
-fits_here : (P : StartValue → Type 0) (xs items : List Stored) (i : ℕ) (x : Stored) → All P (map seen items) → xs ≡ items → i < length xs → x ≡ get_or xs i x → P (seen x)
+fits_here : (P : StartValue → Type 0) (xs items : List Stored) (i : ℕ) (x : Stored) → All P (map seen items) → xs ≡ items → i < length xs
+    → x ≡ get_or xs i x → P (seen x)
 fits_here P xs items i x h same lt is = All-seen P xs i x (subst (λ z. All P (map seen z)) (sym same) h) lt is
 
 pub loop-i-init : goal.loop-i-init
 loop-i-init g c = record {
   walking =
-      walking_first c.args.setting.env c.args.setting.budget c.args.p.now.compiled.typed.labelled c.args.p.now.compiled.observer c.args.p.now.compiled.image (map seen c.args.p.now.starts.items)
+      walking_first c.args.setting.env c.args.setting.budget c.args.p.now.compiled.typed.labelled c.args.p.now.compiled.observer c.args.p.now.compiled.image
+          (map seen c.args.p.now.starts.items)
       c.args.listing.now.tallies.items c.requires.none (g.W.Sink.taken c.args.out.now);
   places = refl;
   later = omega arith;
@@ -35,7 +38,8 @@ loop-i-init g c = record {
 pub write_run-requires-clause-start : goal.write_run-requires-clause-start
 write_run-requires-clause-start g c =
     let lt : c.loop-i.i < length c.as_slice-starts.result.now = omega arith in
-    fits_here (IsFor c.args.p.now.compiled.typed.labelled.program) c.as_slice-starts.result.now c.args.p.now.starts.items c.loop-i.i c.index-starts-i.result c.requires.fit.starts c.as_slice-starts.ensures.value lt c.index-starts-i.is
+    fits_here (IsFor c.args.p.now.compiled.typed.labelled.program) c.as_slice-starts.result.now c.args.p.now.starts.items c.loop-i.i c.index-starts-i.result
+        c.requires.fit.starts c.as_slice-starts.ensures.value lt c.index-starts-i.is
 
 pub returns-in-Err-clause-prefix : goal.returns-in-Err-clause-prefix
 returns-in-Err-clause-prefix g c = λ e.
@@ -46,9 +50,12 @@ returns-in-Err-clause-prefix g c = λ e.
     let q = c.args.p.now.compiled.typed.labelled in
     let same = c.as_slice-starts.ensures.value in
     let fits = fits_here (IsFor q.program) c.as_slice-starts.result.now items c.loop-i.i x c.requires.fit.starts same lt c.index-starts-i.is in
-    walking_breaks c.args.setting.env c.args.setting.budget q c.args.p.now.compiled.observer c.args.p.now.compiled.image (map seen items) c.loop-i.i (seen x) (within c.as_slice-starts.result.now items c.loop-i.i same lt)
-    (from_here c.as_slice-starts.result.now items c.loop-i.i x same lt c.index-starts-i.is) v (start_of g.M.MakeEnv.made q.program.order (seen x)) (λ ms. c.requires.named (seen x) ms fits)
-    (g.W.Sink.taken c.args.out.now) (g.W.Sink.taken c.loop-i.out) (g.W.Sink.taken c.write_run.new.out) c.loop-i.listing.tallies.items c.loop-i.invariant.walking (c.in-Err.ensures.prefix e)
+    walking_breaks c.args.setting.env c.args.setting.budget q c.args.p.now.compiled.observer c.args.p.now.compiled.image (map seen items) c.loop-i.i (seen x)
+        (within c.as_slice-starts.result.now items c.loop-i.i same lt)
+    (from_here c.as_slice-starts.result.now items c.loop-i.i x same lt c.index-starts-i.is) v (start_of g.M.MakeEnv.made q.program.order (seen x))
+        (λ ms. c.requires.named (seen x) ms fits)
+    (g.W.Sink.taken c.args.out.now) (g.W.Sink.taken c.loop-i.out) (g.W.Sink.taken c.write_run.new.out) c.loop-i.listing.tallies.items
+        c.loop-i.invariant.walking (c.in-Err.ensures.prefix e)
 
 pub loop-i-preserved : goal.loop-i-preserved
 loop-i-preserved g c =
@@ -61,9 +68,12 @@ loop-i-preserved g c =
     let fits = fits_here (IsFor q.program) c.as_slice-starts.result.now items c.loop-i.i x c.requires.fit.starts same lt c.index-starts-i.is in
     record {
       walking =
-          walking_next c.args.setting.env c.args.setting.budget q c.args.p.now.compiled.observer c.args.p.now.compiled.image (map seen items) c.loop-i.i (seen x) (within c.as_slice-starts.result.now items c.loop-i.i same lt)
-          (from_here c.as_slice-starts.result.now items c.loop-i.i x same lt c.index-starts-i.is) v (start_of g.M.MakeEnv.made q.program.order (seen x)) (λ ms. c.requires.named (seen x) ms fits)
-          (g.W.Sink.taken c.args.out.now) (g.W.Sink.taken c.loop-i.out) (g.W.Sink.taken c.write_run.new.out) c.loop-i.listing.tallies.items c.write_run.new.listing.tallies.items c.loop-i.invariant.walking c.in-Ok.ensures.written c.write_run.ensures.grown c.requires.cycles.1;
+          walking_next c.args.setting.env c.args.setting.budget q c.args.p.now.compiled.observer c.args.p.now.compiled.image (map seen items) c.loop-i.i
+              (seen x) (within c.as_slice-starts.result.now items c.loop-i.i same lt)
+          (from_here c.as_slice-starts.result.now items c.loop-i.i x same lt c.index-starts-i.is) v (start_of g.M.MakeEnv.made q.program.order (seen x))
+              (λ ms. c.requires.named (seen x) ms fits)
+          (g.W.Sink.taken c.args.out.now) (g.W.Sink.taken c.loop-i.out) (g.W.Sink.taken c.write_run.new.out) c.loop-i.listing.tallies.items
+              c.write_run.new.listing.tallies.items c.loop-i.invariant.walking c.in-Ok.ensures.written c.write_run.ensures.grown c.requires.cycles.1;
       places = c.write_run.ensures.places ∙ c.loop-i.invariant.places;
       later = up_to _ _ _ c.loop-i.invariant.later c.write_run.ensures.later;
     }

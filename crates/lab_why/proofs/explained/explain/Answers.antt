@@ -12,7 +12,8 @@ returns-in_default-checked-clause-told g c =
     let types : Types c.in_ok-text.field-0.program c.in-Ok.labelled = record {
       program = c.in-Ok.ensures.program;
       least = c.in-Ok.ensures.least;
-      typed = of_ok c.in-Ok-check_why.checked c.in_default-checked.field-0 (λ _. HasType c.in-Ok.labelled) c.in_default-checked.is c.in-Ok-check_why.ensures.typed;
+      typed = of_ok c.in-Ok-check_why.checked c.in_default-checked.field-0 (λ _. HasType c.in-Ok.labelled) c.in_default-checked.is
+          c.in-Ok-check_why.ensures.typed;
     } in
     inr (c.in_ok-text.field-0.program, reads.0, inr (c.in-Ok.labelled, types, (refl, line)))
 
@@ -32,6 +33,7 @@ returns-in-Ok-refusal_text-clause-told g c =
       c.in_ok-text.field-0.program,
       reads.0,
       inl (tells_reason _ c.in_ok-text.field-0.program c.in-Ok.labelled refusal.labelled refusal.fault refusal.chain.items reads.0 _ _ _
-          (reads.1 ∙ sym c.as_slice-2.ensures.value) (list ∙ sym c.as_slice-3.ensures.value) c.in-Ok.ensures.program refused.0 c.in-Ok.ensures.least c.in-Ok.ensures.types none refused.1 reason cheapest earliest
+          (reads.1 ∙ sym c.as_slice-2.ensures.value) (list ∙ sym c.as_slice-3.ensures.value) c.in-Ok.ensures.program refused.0 c.in-Ok.ensures.least
+              c.in-Ok.ensures.types none refused.1 reason cheapest earliest
           c.in-Ok-refusal_text.ensures),
     )

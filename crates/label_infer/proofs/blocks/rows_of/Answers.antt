@@ -18,5 +18,6 @@ loop-i-preserved c =
     let n = e.fit in
     record {
       fit = omega (arith, n);
-      cover = cover_more cs i c.loop-i.rows.items c.add_set.new.rows.items d c.loop-i.invariant.fit there c.loop-i.invariant.cover e.grow (λ r g. subst (λ (z : Condition). Includes r (has_of z.have.variables)) (sym c.index-conditions-i.is) (e.here r g));
+      cover = cover_more cs i c.loop-i.rows.items c.add_set.new.rows.items d c.loop-i.invariant.fit there c.loop-i.invariant.cover e.grow
+          (λ r g. subst (λ (z : Condition). Includes r (has_of z.have.variables)) (sym c.index-conditions-i.is) (e.here r g));
     }

@@ -18,7 +18,8 @@ high = Some (record { number = 1 }, record { number = 1 })
 abbrev sample : Pos → Pos → Plan
 sample p q = Mitigate (record { pos = p; labels = None }) 0 None (Number (pos 1)) (Skip (record { pos = q; labels = high }) Done) Done
 
-sample_plan : (p q p' q' : Pos) (inner : Vec Command Global) (xs : List Command) → p ≡ p' → q ≡ q' → inner.items ≡ record { pos = q; labels = high; form = FSkip } ∷ [] →
+sample_plan : (p q p' q' : Pos) (inner : Vec Command Global) (xs : List Command) → p ≡ p' → q ≡ q'
+    → inner.items ≡ record { pos = q; labels = high; form = FSkip } ∷ [] →
     xs ≡ record { pos = p; labels = None; form = DMitigate 0 (ENumber (pos 1)) None inner } ∷ [] → list_plan xs ≡ sample p' q'
 sample_plan p q p' q' inner xs hp hq hi hx =
     ap list_plan hx ∙ plan-Mitigate 0 (ENumber (pos 1)) None inner (record { pos = p; labels = None }) Done
@@ -41,7 +42,8 @@ of-requires c =
       arrays = search rules;
       some = subst (λ z. AreSome z) (sym q) tt;
       count = subst (λ z. count z ≤ 2147483647) (sym q) (omega arith);
-      known = subst (λ z. AreKnown c.args.lattice.size c.new.result.entries z) (sym q) (tt, tt, omega arith, tt, ((omega (arith, c.requires.size), omega (arith, c.requires.size)), tt), tt);
+      known = subst (λ z. AreKnown c.args.lattice.size c.new.result.entries z) (sym q) (tt, tt, omega arith, tt,
+          ((omega (arith, c.requires.size), omega (arith, c.requires.size)), tt), tt);
       numbered = subst (λ z. AreNumbered 0 z) (sym q) (refl, tt, tt);
       small = subst (λ z. AreSmall 0 z) (sym q) (record { depth = omega arith; operators = omega arith }, tt, tt);
     }

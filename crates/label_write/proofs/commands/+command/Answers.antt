@@ -12,7 +12,8 @@ write_form-overflow_add-next t c = let r = c.requires in omega (arith, r)
 pub write_form-write_list-requires : goal.write_form-write_list-requires
 write_form-write_list-requires t c =
     let w : Written = record { pos = c.args.c.now.pos; labels = c.args.c.now.labels } in
-    let n = if_count c.args.c.now.form c.in-If.guard c.in-If.then_part c.in-If.else_part c.deref.result.now c.in-If.else_part.items c.in-If.is c.deref.ensures.value refl w in
+    let n = if_count c.args.c.now.form c.in-If.guard c.in-If.then_part c.in-If.else_part c.deref.result.now c.in-If.else_part.items c.in-If.is
+        c.deref.ensures.value refl w in
     let r = c.requires in
     let d = c.decreases in
     let smaller : 3 * count (list_plan c.deref.result.now) + 2 < 3 * count (command_plan c.args.c.now Done) = omega arith in
@@ -21,7 +22,8 @@ write_form-write_list-requires t c =
 pub write_form-write_list-requires-in-If : goal.write_form-write_list-requires-in-If
 write_form-write_list-requires-in-If t c =
     let w : Written = record { pos = c.args.c.now.pos; labels = c.args.c.now.labels } in
-    let n = if_count c.args.c.now.form c.in-If.guard c.in-If.then_part c.in-If.else_part c.deref.result.now c.deref-in-If.result.now c.in-If.is c.deref.ensures.value c.deref-in-If.ensures.value w in
+    let n = if_count c.args.c.now.form c.in-If.guard c.in-If.then_part c.in-If.else_part c.deref.result.now c.deref-in-If.result.now c.in-If.is
+        c.deref.ensures.value c.deref-in-If.ensures.value w in
     let r = c.requires in
     let d = c.decreases in
     let m = c.in_ok-middle-in-If.ensures.number in
@@ -40,7 +42,8 @@ write_form-write_list-requires-in-While t c =
 pub write_form-write_list-requires-in-Mitigate : goal.write_form-write_list-requires-in-Mitigate
 write_form-write_list-requires-in-Mitigate t c =
     let w : Written = record { pos = c.args.c.now.pos; labels = c.args.c.now.labels } in
-    let n = mitigate_count c.args.c.now.form c.in-Mitigate.mark c.in-Mitigate.estimate c.in-Mitigate.level c.in-Mitigate.body c.deref-in-Mitigate.result.now c.in-Mitigate.is c.deref-in-Mitigate.ensures.value w in
+    let n = mitigate_count c.args.c.now.form c.in-Mitigate.mark c.in-Mitigate.estimate c.in-Mitigate.level c.in-Mitigate.body c.deref-in-Mitigate.result.now
+        c.in-Mitigate.is c.deref-in-Mitigate.ensures.value w in
     let r = c.requires in
     let d = c.decreases in
     let smaller : 3 * count (list_plan c.deref-in-Mitigate.result.now) + 2 < 3 * count (command_plan c.args.c.now Done) = omega arith in
@@ -49,7 +52,8 @@ write_form-write_list-requires-in-Mitigate t c =
 pub write_form-returns-in_ok-end-in-If-clause-number : goal.write_form-returns-in_ok-end-in-If-clause-number
 write_form-returns-in_ok-end-in-If-clause-number t c =
     let w : Written = record { pos = c.args.c.now.pos; labels = c.args.c.now.labels } in
-    let n = if_count c.args.c.now.form c.in-If.guard c.in-If.then_part c.in-If.else_part c.deref.result.now c.deref-in-If.result.now c.in-If.is c.deref.ensures.value c.deref-in-If.ensures.value w in
+    let n = if_count c.args.c.now.form c.in-If.guard c.in-If.then_part c.in-If.else_part c.deref.result.now c.deref-in-If.result.now c.in-If.is
+        c.deref.ensures.value c.deref-in-If.ensures.value w in
     let m = c.in_ok-middle-in-If.ensures.number in
     let e = c.in_ok-end-in-If.ensures.number in
     omega (arith, n, m, e)
@@ -58,8 +62,10 @@ pub write_form-returns-in_ok-end-in-If-clause-form : goal.write_form-returns-in_
 write_form-returns-in_ok-end-in-If-clause-form t c =
     let w : Written = record { pos = c.args.c.now.pos; labels = c.args.c.now.labels } in
     wrote_if c.args.order.now c.args.labels.now c.args.number c.args.c.now.form c.in-If.guard c.in_ok-guard-in-If.guard c.in_ok-guard-in-If.ensures
-    c.in-If.then_part c.in-If.else_part c.in_ok-middle-in-If.then_part c.in_ok-end-in-If.else_part c.deref.result.now c.deref-in-If.result.now c.in_ok-middle-in-If.middle c.in_ok-end-in-If.end
-    c.in-If.is c.deref.ensures.value c.deref-in-If.ensures.value c.in_ok-middle-in-If.ensures.number c.in_ok-end-in-If.ensures.number c.in_ok-middle-in-If.ensures.commands c.in_ok-end-in-If.ensures.commands w
+    c.in-If.then_part c.in-If.else_part c.in_ok-middle-in-If.then_part c.in_ok-end-in-If.else_part c.deref.result.now c.deref-in-If.result.now
+        c.in_ok-middle-in-If.middle c.in_ok-end-in-If.end
+    c.in-If.is c.deref.ensures.value c.deref-in-If.ensures.value c.in_ok-middle-in-If.ensures.number c.in_ok-end-in-If.ensures.number
+        c.in_ok-middle-in-If.ensures.commands c.in_ok-end-in-If.ensures.commands w
 
 pub write_form-returns-in_ok-end-in-While-clause-number : goal.write_form-returns-in_ok-end-in-While-clause-number
 write_form-returns-in_ok-end-in-While-clause-number t c =
@@ -78,15 +84,18 @@ write_form-returns-in_ok-end-in-While-clause-form t c =
 pub write_form-returns-in_ok-end-in-Mitigate-clause-number : goal.write_form-returns-in_ok-end-in-Mitigate-clause-number
 write_form-returns-in_ok-end-in-Mitigate-clause-number t c =
     let w : Written = record { pos = c.args.c.now.pos; labels = c.args.c.now.labels } in
-    let n = mitigate_count c.args.c.now.form c.in-Mitigate.mark c.in-Mitigate.estimate c.in-Mitigate.level c.in-Mitigate.body c.deref-in-Mitigate.result.now c.in-Mitigate.is c.deref-in-Mitigate.ensures.value w in
+    let n = mitigate_count c.args.c.now.form c.in-Mitigate.mark c.in-Mitigate.estimate c.in-Mitigate.level c.in-Mitigate.body c.deref-in-Mitigate.result.now
+        c.in-Mitigate.is c.deref-in-Mitigate.ensures.value w in
     let e = c.in_ok-end-in-Mitigate.ensures.number in
     omega (arith, n, e)
 
 pub write_form-returns-in_ok-end-in-Mitigate-clause-form : goal.write_form-returns-in_ok-end-in-Mitigate-clause-form
 write_form-returns-in_ok-end-in-Mitigate-clause-form t c =
     let w : Written = record { pos = c.args.c.now.pos; labels = c.args.c.now.labels } in
-    wrote_mitigate c.args.order.now c.args.labels.now c.args.number c.args.c.now.form c.in-Mitigate.estimate c.in_ok-estimate-in-Mitigate.estimate c.in_ok-estimate-in-Mitigate.ensures
-    c.in-Mitigate.mark c.in-Mitigate.level c.level.result c.in-Mitigate.body c.in_ok-end-in-Mitigate.body c.deref-in-Mitigate.result.now c.in_ok-end-in-Mitigate.end c.in-Mitigate.is c.deref-in-Mitigate.ensures.value
+    wrote_mitigate c.args.order.now c.args.labels.now c.args.number c.args.c.now.form c.in-Mitigate.estimate c.in_ok-estimate-in-Mitigate.estimate
+        c.in_ok-estimate-in-Mitigate.ensures
+    c.in-Mitigate.mark c.in-Mitigate.level c.level.result c.in-Mitigate.body c.in_ok-end-in-Mitigate.body c.deref-in-Mitigate.result.now
+        c.in_ok-end-in-Mitigate.end c.in-Mitigate.is c.deref-in-Mitigate.ensures.value
     c.in_ok-end-in-Mitigate.ensures.number c.level.ensures c.in_ok-end-in-Mitigate.ensures.commands w
 
 pub write_list-write_command-requires : goal.write_list-write_command-requires
@@ -95,8 +104,10 @@ write_list-write_command-requires t c =
     let l = c.args.labels.now in
     let r = c.requires in
     let d = c.decreases in
-    let one : count (command_plan c.c-item.result Done) ≤ count (list_plan c.args.commands.now) = count_within c.args.commands.now c.c-item.result c.loop-c.c-index c.loop-c-test.true c.c-item.is in
-    let all = next_fits o l c.args.commands.now c.args.number c.c-item.result c.loop-c.c-index c.loop-c.next c.loop-c.written.items c.loop-c-test.true c.c-item.is c.loop-c.invariant in
+    let one : count (command_plan c.c-item.result Done) ≤ count (list_plan c.args.commands.now) =
+        count_within c.args.commands.now c.c-item.result c.loop-c.c-index c.loop-c-test.true c.c-item.is in
+    let all = next_fits o l c.args.commands.now c.args.number c.c-item.result c.loop-c.c-index c.loop-c.next c.loop-c.written.items c.loop-c-test.true
+        c.c-item.is c.loop-c.invariant in
     let smaller : 3 * count (command_plan c.c-item.result Done) + 1 < 3 * count (list_plan c.args.commands.now) + 2 = omega (arith, one) in
     (search rules, omega (arith, all, r))
 
@@ -108,4 +119,5 @@ write_list-loop-c-preserved t c =
 
 pub write_list-returns-clause-commands : goal.write_list-returns-clause-commands
 write_list-returns-clause-commands t c =
-    all_written c.args.order.now c.args.labels.now c.args.commands.now c.args.number c.loop-c.c-index c.loop-c.next c.loop-c.written.items c.loop-c-test.false c.loop-c.invariant
+    all_written c.args.order.now c.args.labels.now c.args.commands.now c.args.number c.loop-c.c-index c.loop-c.next c.loop-c.written.items
+        c.loop-c-test.false c.loop-c.invariant

@@ -13,11 +13,14 @@ use Rattle.leak_audit.specs.declared.what.What.{What}
 use Rattle.leak_audit.proofs.agreement.all_agree.Goals as goal
 
 -- touches of a start are of labels of the lattice
-touches_below : (p : Syntax) (order : Order) (s : Stored) (ts : List Touch) → IsFor p (seen s) → order ≡ p.order → ts ≡ s.touches.items → All (λ (t : Touch). t.label.number < order.size) ts
-touches_below p order s ts h e f = subst (λ z. All (λ (t : Touch). t.label.number < z.size) ts) (sym e) (subst (All (λ (t : Touch). t.label.number < p.order.size)) (sym f) h.touches)
+touches_below : (p : Syntax) (order : Order) (s : Stored) (ts : List Touch) → IsFor p (seen s) → order ≡ p.order → ts ≡ s.touches.items
+    → All (λ (t : Touch). t.label.number < order.size) ts
+touches_below p order s ts h e f =
+    subst (λ z. All (λ (t : Touch). t.label.number < z.size) ts) (sym e) (subst (All (λ (t : Touch). t.label.number < p.order.size)) (sym f) h.touches)
 
 -- a start and its environment, however they are written
-started : {E : Type 0} (made : Order → List Touch → E) (order order' : Order) (s : Stored) (m : List ℤ) (ts : List Touch) (e : E) → order ≡ order' → m ≡ s.memory.items → ts ≡ s.touches.items → e ≡ made order ts →
+started : {E : Type 0} (made : Order → List Touch → E) (order order' : Order) (s : Stored) (m : List ℤ) (ts : List Touch) (e : E) → order ≡ order'
+    → m ≡ s.memory.items → ts ≡ s.touches.items → e ≡ made order ts →
     record { memory = m; env = e } ≡ start_of made order' (seen s)
 started made order order' s m ts e p q r h = cc
 
@@ -37,14 +40,17 @@ make-requires g c =
     let some = has_first c.args.starts.now first (sym c.in-Some.ensures.value) in
     let first_is = sym (get_or_from_slice_get c.args.starts.now 0 first first (sym c.in-Some.ensures.value)) in
     let order = c.lattice-lattice.ensures ∙ ap (λ z. z.order) c.program.ensures.program in
-    touches_below p.program c.lattice-lattice.result first c.as_slice.result.now (All-seen (IsFor p.program) c.args.starts.now 0 first c.requires.starts some first_is) order c.as_slice.ensures.value
+    touches_below p.program c.lattice-lattice.result first c.as_slice.result.now
+        (All-seen (IsFor p.program) c.args.starts.now 0 first c.requires.starts some first_is) order c.as_slice.ensures.value
 
 pub make-requires-in-loop-i : goal.make-requires-in-loop-i
 make-requires-in-loop-i g c =
     let p = c.args.p.now in
     let order = c.lattice-lattice.ensures ∙ ap (λ z. z.order) c.program.ensures.program in
     let lt : c.loop-i.i < length c.args.starts.now = omega arith in
-    touches_below p.program c.lattice-lattice.result c.index-starts-i.result c.as_slice-in-loop-i.result.now (All-seen (IsFor p.program) c.args.starts.now c.loop-i.i c.index-starts-i.result c.requires.starts lt c.index-starts-i.is) order c.as_slice-in-loop-i.ensures.value
+    touches_below p.program c.lattice-lattice.result c.index-starts-i.result c.as_slice-in-loop-i.result.now
+        (All-seen (IsFor p.program) c.args.starts.now c.loop-i.i c.index-starts-i.result c.requires.starts lt c.index-starts-i.is) order
+        c.as_slice-in-loop-i.ensures.value
 
 pub first_difference-requires-clause-one : goal.first_difference-requires-clause-one
 first_difference-requires-clause-one g c =
@@ -60,7 +66,8 @@ pub first_difference-requires-clause-other : goal.first_difference-requires-clau
 first_difference-requires-clause-other g c =
     let p = c.args.p.now in
     let lt : c.loop-i.i < length c.args.starts.now = omega arith in
-    ap length c.as_slice-two.ensures.value ∙ (All-seen (IsFor p.program) c.args.starts.now c.loop-i.i c.index-starts-i.result c.requires.starts lt c.index-starts-i.is).memory
+    ap length c.as_slice-two.ensures.value
+        ∙ (All-seen (IsFor p.program) c.args.starts.now c.loop-i.i c.index-starts-i.result c.requires.starts lt c.index-starts-i.is).memory
 
 pub returns-in-Some-first_difference-clause-differ : goal.returns-in-Some-first_difference-clause-differ
 returns-in-Some-first_difference-clause-differ g c =
@@ -77,11 +84,16 @@ returns-in-Some-first_difference-clause-differ g c =
     let one = started g.M.MakeEnv.made _ _ first _ _ _ order c.as_slice-one.ensures.value c.as_slice.ensures.value c.in_ok-env.ensures.value in
     let two = started g.M.MakeEnv.made _ _ start _ _ _ order c.as_slice-two.ensures.value c.as_slice-in-loop-i.ensures.value c.in_ok-other.ensures.value in
     let w = c.in-Some-first_difference.what in
-    let d : IsFirstDifference v p c.args.observer.number (start_of g.M.MakeEnv.made p.program.order (seen first)) (start_of g.M.MakeEnv.made p.program.order (seen start)) w =
+    let d : IsFirstDifference v p c.args.observer.number (start_of g.M.MakeEnv.made p.program.order (seen first))
+        (start_of g.M.MakeEnv.made p.program.order (seen start)) w =
     subst (λ z. IsFirstDifference v p c.args.observer.number (start_of g.M.MakeEnv.made p.program.order (seen first)) z w) two
-    (subst (λ z. IsFirstDifference v p c.args.observer.number z (record { memory = c.as_slice-two.result.now; env = c.in_ok-other.other }) w) one c.in-Some-first_difference.ensures) in
-    disagrees v g.E.MachineEnv.serves p c.args.observer.number (start_of g.M.MakeEnv.made p.program.order (seen first)) ss (drop (0 + 1) ss) (c.loop-i.i + 1) w (starts-from g.M.MakeEnv.made p.program.order c.args.starts.now 0 first some first_is)
-    (apart_here v g.E.MachineEnv.serves p c.args.observer.number (start_of g.M.MakeEnv.made p.program.order (seen first)) (start_of g.M.MakeEnv.made p.program.order (seen start)) ss (drop c.loop-i.i ss) (drop (c.loop-i.i + 1) ss) (c.loop-i.i + 1) w from c.loop-i.invariant d)
+    (subst (λ z. IsFirstDifference v p c.args.observer.number z (record { memory = c.as_slice-two.result.now; env = c.in_ok-other.other }) w) one
+        c.in-Some-first_difference.ensures) in
+    disagrees v g.E.MachineEnv.serves p c.args.observer.number (start_of g.M.MakeEnv.made p.program.order (seen first)) ss (drop (0 + 1) ss) (c.loop-i.i + 1) w
+        (starts-from g.M.MakeEnv.made p.program.order c.args.starts.now 0 first some first_is)
+    (apart_here v g.E.MachineEnv.serves p c.args.observer.number (start_of g.M.MakeEnv.made p.program.order (seen first))
+        (start_of g.M.MakeEnv.made p.program.order (seen start)) ss (drop c.loop-i.i ss) (drop (c.loop-i.i + 1) ss)
+        (c.loop-i.i + 1) w from c.loop-i.invariant d)
 
 pub loop-i-preserved : goal.loop-i-preserved
 loop-i-preserved g c =
@@ -97,11 +109,19 @@ loop-i-preserved g c =
     let from = starts-from g.M.MakeEnv.made p.program.order c.args.starts.now c.loop-i.i start lt c.index-starts-i.is in
     let one = started g.M.MakeEnv.made _ _ first _ _ _ order c.as_slice-one.ensures.value c.as_slice.ensures.value c.in_ok-env.ensures.value in
     let two = started g.M.MakeEnv.made _ _ start _ _ _ order c.as_slice-two.ensures.value c.as_slice-in-loop-i.ensures.value c.in_ok-other.ensures.value in
-    let same = none_case c.first_difference.result (AgreeFor v g.E.MachineEnv.serves p c.args.observer.number (record { memory = c.as_slice-one.result.now; env = c.in_ok-env.env }) (record { memory = c.as_slice-two.result.now; env = c.in_ok-other.other })) (IsFirstDifference v p c.args.observer.number (record { memory = c.as_slice-one.result.now; env = c.in_ok-env.env }) (record { memory = c.as_slice-two.result.now; env = c.in_ok-other.other })) c.first_difference.ensures c.in_default-first_difference.not-Some in
-    let a : AgreeFor v g.E.MachineEnv.serves p c.args.observer.number (start_of g.M.MakeEnv.made p.program.order (seen first)) (start_of g.M.MakeEnv.made p.program.order (seen start)) =
+    let same = none_case c.first_difference.result
+        (AgreeFor v g.E.MachineEnv.serves p c.args.observer.number (record { memory = c.as_slice-one.result.now; env = c.in_ok-env.env })
+        (record { memory = c.as_slice-two.result.now; env = c.in_ok-other.other }))
+        (IsFirstDifference v p c.args.observer.number (record { memory = c.as_slice-one.result.now; env = c.in_ok-env.env })
+        (record { memory = c.as_slice-two.result.now; env = c.in_ok-other.other })) c.first_difference.ensures c.in_default-first_difference.not-Some in
+    let a : AgreeFor v g.E.MachineEnv.serves p c.args.observer.number (start_of g.M.MakeEnv.made p.program.order (seen first))
+        (start_of g.M.MakeEnv.made p.program.order (seen start)) =
     subst (λ z. AgreeFor v g.E.MachineEnv.serves p c.args.observer.number (start_of g.M.MakeEnv.made p.program.order (seen first)) z) two
-    (subst (λ z. AgreeFor v g.E.MachineEnv.serves p c.args.observer.number z (record { memory = c.as_slice-two.result.now; env = c.in_ok-other.other })) one same) in
-    agree_more v g.E.MachineEnv.serves p c.args.observer.number (start_of g.M.MakeEnv.made p.program.order (seen first)) (start_of g.M.MakeEnv.made p.program.order (seen start)) ss (drop c.loop-i.i ss) (drop (c.loop-i.i + 1) ss) (c.loop-i.i + 1) (c.loop-i.i + 1 + 1) refl from c.loop-i.invariant a
+    (subst (λ z. AgreeFor v g.E.MachineEnv.serves p c.args.observer.number z (record { memory = c.as_slice-two.result.now; env = c.in_ok-other.other })) one
+        same) in
+    agree_more v g.E.MachineEnv.serves p c.args.observer.number (start_of g.M.MakeEnv.made p.program.order (seen first))
+        (start_of g.M.MakeEnv.made p.program.order (seen start)) ss (drop c.loop-i.i ss) (drop (c.loop-i.i + 1) ss) (c.loop-i.i + 1) (c.loop-i.i + 1 + 1)
+        refl from c.loop-i.invariant a
 
 pub returns-clause-agree : goal.returns-clause-agree
 returns-clause-agree g c =

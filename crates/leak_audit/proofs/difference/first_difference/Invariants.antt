@@ -6,4 +6,5 @@ use Rattle.leak_audit.specs.Agreement.{place_number}
 use Rattle.leak_audit.proofs.difference.first_difference.Given as goal
 
 abbrev pub invariant-loop-place : goal.invariant-loop-place
-invariant-loop-place g l = (q : Place) → place_number q < l.place-index → (k : ℕ) → Flows (order_of l.p) k l.observer.number → g.E.MachineEnv.env.part q k l.one_env ≡ g.E.MachineEnv.env.part q k l.other_env
+invariant-loop-place g l = (q : Place) → place_number q < l.place-index → (k : ℕ) → Flows (order_of l.p) k l.observer.number
+    → g.E.MachineEnv.env.part q k l.one_env ≡ g.E.MachineEnv.env.part q k l.other_env

@@ -4,4 +4,5 @@ use Rattle.mit_tool.proofs.OneAnswer.{answers_one}
 use Rattle.mit_tool.proofs.laws.one_answer.Goals as goal
 
 pub returns : goal.returns
-returns c = λ content before now a s u t x known none h k. answers_one s u t x c.one_list_of_outcomes.ensures (λ (name : List ℕ). Rose (before name) (now name)) content a none known h k
+returns c = λ content before now a s u t x known none h k. answers_one s u t x c.one_list_of_outcomes.ensures
+    (λ (name : List ℕ). Rose (before name) (now name)) content a none known h k

@@ -3,7 +3,8 @@ use Rattle.std.specs.Prelude.{Option}
 use Rattle.sharp_count.specs.Count.{rising, sharp, fitting}
 use Rattle.sharp_count.proofs.count.sharp_count.Goals as goal
 
-one_level : (values counts : ℕ → ℕ) (l : ℕ) (r : Option ℕ) → r ≡ fitting (rising (values l) (counts l) * sharp values l counts) → r ≡ fitting (sharp values (l + 1) counts)
+one_level : (values counts : ℕ → ℕ) (l : ℕ) (r : Option ℕ) → r ≡ fitting (rising (values l) (counts l) * sharp values l counts)
+    → r ≡ fitting (sharp values (l + 1) counts)
 one_level values counts l r e = let next : suc l ≡ l + 1 = omega arith in subst (λ z. r ≡ fitting (sharp values z counts)) next e
 
 pub loop-level-preserved : goal.loop-level-preserved

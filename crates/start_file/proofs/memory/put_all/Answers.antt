@@ -9,7 +9,8 @@ use Rattle.start_file.proofs.Written.{length-memory_of, passes_more, memory_more
 use Rattle.start_file.proofs.memory.put_all.Goals as goal
 
 pub put-requires-clause-size : goal.put-requires-clause-size
-put-requires-clause-size c = ap length c.loop-key.invariant.memory ∙ length-memory_of c.args.program.now.declarations (members_view (map deref_pair c.loop-key.yielded))
+put-requires-clause-size c = ap length c.loop-key.invariant.memory
+    ∙ length-memory_of c.args.program.now.declarations (members_view (map deref_pair c.loop-key.yielded))
 
 pub loop-key-preserved : goal.loop-key-preserved
 loop-key-preserved c =
@@ -21,8 +22,10 @@ loop-key-preserved c =
     let parts = sym gives.0 ∙ rest_so_far deref_pair c.loop-key.yielded c.into_iter-key-iterator.result c.loop-key.key-iterator c.loop-key.yielded_by in
     let one = map-append deref_pair c.loop-key.yielded ((c.in-Some.key, c.in-Some.value) ∷ []) in
     record {
-      passes = passes_more ds c.loop-key.key-iterator c.next.new.self e c.as_str.result.now front c.as_str.ensures.value _ (sym c.put.ensures.value ∙ c.if-not-put.false) c.loop-key.invariant.passes;
-      memory = memory_more ds c.loop-key.key-iterator c.next.new.self e c.as_str.result.now front c.as_str.ensures.value c.args.table.now.entries done c.loop-key.memory c.put.new.memory
+      passes = passes_more ds c.loop-key.key-iterator c.next.new.self e c.as_str.result.now front c.as_str.ensures.value _ (sym c.put.ensures.value
+          ∙ c.if-not-put.false) c.loop-key.invariant.passes;
+      memory = memory_more ds c.loop-key.key-iterator c.next.new.self e c.as_str.result.now front c.as_str.ensures.value c.args.table.now.entries done
+          c.loop-key.memory c.put.new.memory
           c.requires.valid.differ gives.5 parts c.loop-key.invariant.memory (c.put.ensures.written c.if-not-put.false)
           ∙ ap (λ l. memory_of ds (members_view l)) (sym one);
     }

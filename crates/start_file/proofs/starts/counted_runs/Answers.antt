@@ -6,7 +6,8 @@ use Rattle.start_file.proofs.Listed.{counted_some, counted_many}
 use Rattle.start_file.proofs.starts.counted_runs.Goals as goal
 
 pub returns-then-are_too_many-clause-refused : goal.returns-then-are_too_many-clause-refused
-returns-then-are_too_many-clause-refused c _ = counted_many c.args.program.now c.args.version c.args.values.now (MatchBool-at_true _ _ c.if-are_too_many.true c.are_too_many.ensures)
+returns-then-are_too_many-clause-refused c _ =
+    counted_many c.args.program.now c.args.version c.args.values.now (MatchBool-at_true _ _ c.if-are_too_many.true c.are_too_many.ensures)
 
 pub returns-clause-ok : goal.returns-clause-ok
 returns-clause-ok c =

@@ -10,4 +10,5 @@ returns-in_err-name c =
     c.from_residual.ensures ∙ sym (label_unnamed c.args.lattice.now c.laws.ensures.order c.args.word.now none)
 
 pub returns : goal.returns
-returns c = label_found c.args.lattice.now c.laws.ensures.order c.args.word.now c.in_ok-name.name c.find.result (c.in_ok-name.ensures.text ∙ c.as_bytes.ensures.value) c.find.ensures
+returns c = label_found c.args.lattice.now c.laws.ensures.order c.args.word.now c.in_ok-name.name c.find.result (c.in_ok-name.ensures.text
+    ∙ c.as_bytes.ensures.value) c.find.ensures

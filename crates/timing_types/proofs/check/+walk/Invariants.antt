@@ -8,7 +8,8 @@ use Rattle.timing_types.proofs.check.+walk.Given as goal
 abbrev pub invariant-list_walk-loop-c : goal.invariant-list_walk-loop-c
 invariant-list_walk-loop-c l = record {
   count : l.next + count (list_plan (drop l.c-index l.commands)) ≡ l.number + count (list_plan l.commands);
-  passes : Passes (lattice_of l.order) (variable_of l.order l.p) l.pc.number (tree_of l.order l.p (list_plan l.commands) l.number) l.fn.t.number (tree_of l.order l.p (list_plan (drop l.c-index l.commands)) l.next) l.end.number;
+  passes : Passes (lattice_of l.order) (variable_of l.order l.p) l.pc.number (tree_of l.order l.p (list_plan l.commands) l.number) l.fn.t.number
+      (tree_of l.order l.p (list_plan (drop l.c-index l.commands)) l.next) l.end.number;
 }
 
 abbrev pub decreases-command_walk : goal.decreases-command_walk

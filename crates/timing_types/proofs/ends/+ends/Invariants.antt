@@ -6,7 +6,8 @@ use Rattle.timing_types.proofs.ends.+ends.Given as goal
 abbrev pub invariant-list_end-loop-c : goal.invariant-list_end-loop-c
 invariant-list_end-loop-c l = record {
   count : l.next + count (list_plan (drop l.c-index l.commands)) ≡ l.number + count (list_plan l.commands);
-  end : end_of l.order l.p (list_plan (drop l.c-index l.commands)) l.next l.pc.number l.end.number ≡ end_of l.order l.p (list_plan l.commands) l.number l.pc.number l.fn.t.number;
+  end : end_of l.order l.p (list_plan (drop l.c-index l.commands)) l.next l.pc.number l.end.number
+      ≡ end_of l.order l.p (list_plan l.commands) l.number l.pc.number l.fn.t.number;
 }
 
 abbrev pub decreases-command_end : goal.decreases-command_end

@@ -13,7 +13,8 @@ bytes-requires-clause-within c = to_within _ _ c.requires _ _ c.if-place-tokens.
 pub returns-in-Name-clause-name : goal.returns-in-Name-clause-name
 returns-in-Name-clause-name c =
     let place : 2 * c.from.result + 1 ≡ 2 * c.args.a.number + 1 = omega (arith, c.from.ensures, c.number.ensures) in
-    c.bytes.ensures ∙ sym (name_at c.args.text.now c.args.tokens.now (2 * c.from.result + 1) _ c.if-place-tokens.false c.in-Name.is) ∙ ap (named_at c.args.text.now c.args.tokens.now) place
+    c.bytes.ensures ∙ sym (name_at c.args.text.now c.args.tokens.now (2 * c.from.result + 1) _ c.if-place-tokens.false c.in-Name.is)
+        ∙ ap (named_at c.args.text.now c.args.tokens.now) place
 
 pub returns-in-Name-clause-short : goal.returns-in-Name-clause-short
 returns-in-Name-clause-short c =
@@ -24,6 +25,7 @@ pub returns-in_default : goal.returns-in_default
 returns-in_default c =
     let place : 2 * c.from.result + 1 ≡ 2 * c.args.a.number + 1 = omega (arith, c.from.ensures, c.number.ensures) in
     record {
-      name = sym (no_name_at c.args.text.now c.args.tokens.now (2 * c.from.result + 1) _ c.if-place-tokens.false c.in_default.not-Name) ∙ ap (named_at c.args.text.now c.args.tokens.now) place;
+      name = sym (no_name_at c.args.text.now c.args.tokens.now (2 * c.from.result + 1) _ c.if-place-tokens.false c.in_default.not-Name)
+          ∙ ap (named_at c.args.text.now c.args.tokens.now) place;
       short = omega arith;
     }

@@ -8,9 +8,12 @@ use Rattle.type_cert.proofs.derive.+lines.Given as goal
 abbrev pub invariant-list_lines-loop-c : goal.invariant-list_lines-loop-c
 invariant-list_lines-loop-c l = record {
   count : length l.found.items + count (list_plan (drop l.c-index l.commands)) ≡ length l.fn.found.items + count (list_plan l.commands);
-  lines : l.fn.found.items ++ derived (lattice_of l.order) (variable_of l.order l.p) (tree_of l.order l.p (list_plan l.commands) (length l.fn.found.items)) l.pc.number l.fn.start.number
-      ≡ l.found.items ++ derived (lattice_of l.order) (variable_of l.order l.p) (tree_of l.order l.p (list_plan (drop l.c-index l.commands)) (length l.found.items)) l.pc.number l.end.number;
-  end : end_of l.order l.p (list_plan (drop l.c-index l.commands)) (length l.found.items) l.pc.number l.end.number ≡ end_of l.order l.p (list_plan l.commands) (length l.fn.found.items) l.pc.number l.fn.start.number;
+  lines : l.fn.found.items ++ derived (lattice_of l.order) (variable_of l.order l.p) (tree_of l.order l.p (list_plan l.commands) (length l.fn.found.items))
+      l.pc.number l.fn.start.number
+      ≡ l.found.items ++ derived (lattice_of l.order) (variable_of l.order l.p)
+          (tree_of l.order l.p (list_plan (drop l.c-index l.commands)) (length l.found.items)) l.pc.number l.end.number;
+  end : end_of l.order l.p (list_plan (drop l.c-index l.commands)) (length l.found.items) l.pc.number l.end.number
+      ≡ end_of l.order l.p (list_plan l.commands) (length l.fn.found.items) l.pc.number l.fn.start.number;
 }
 
 abbrev pub decreases-command_lines : goal.decreases-command_lines

@@ -8,7 +8,10 @@ use Rattle.type_cert.proofs.places.+places.Given as goal
 abbrev pub invariant-list_places-loop-k : goal.invariant-list_places-loop-k
 invariant-list_places-loop-k l = record {
   count : length l.found.items + count (list_plan (drop l.k l.commands)) ≡ length l.fn.found.items + count (list_plan l.commands);
-  places : l.fn.found.items ++ places (lattice_of l.order) (label_at l.order.bottom l.variables) (list_plan l.commands) (length l.fn.found.items) l.pc.number l.fn.start l.close
-      ≡ l.found.items ++ places (lattice_of l.order) (label_at l.order.bottom l.variables) (list_plan (drop l.k l.commands)) (length l.found.items) l.pc.number l.from l.close;
-  last : last_of (list_plan l.commands) (length l.fn.found.items) (length l.fn.found.items) ≡ last_of (list_plan (drop l.k l.commands)) (length l.found.items) l.last;
+  places : l.fn.found.items ++ places (lattice_of l.order) (label_at l.order.bottom l.variables) (list_plan l.commands) (length l.fn.found.items)
+      l.pc.number l.fn.start l.close
+      ≡ l.found.items ++ places (lattice_of l.order) (label_at l.order.bottom l.variables) (list_plan (drop l.k l.commands))
+          (length l.found.items) l.pc.number l.from l.close;
+  last : last_of (list_plan l.commands) (length l.fn.found.items) (length l.fn.found.items)
+      ≡ last_of (list_plan (drop l.k l.commands)) (length l.found.items) l.last;
 }

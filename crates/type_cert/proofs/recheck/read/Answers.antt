@@ -35,7 +35,9 @@ pub returns-in_err-declared-clause-contents : goal.returns-in_err-declared-claus
 returns-in_err-declared-clause-contents c = no_value c.from_residual.result c.in_err-declared.field-0.0 _ c.from_residual.ensures.1
 
 pub returns-in_err-declared-clause-fault : goal.returns-in_err-declared-clause-fault
-returns-in_err-declared-clause-fault c = same_fault c.from_residual.result c.in_err-declared.field-0.0 (IsCertFault c.args.p.now c.args.bytes.now) c.from_residual.ensures.1 c.in_err-declared.ensures.fault
+returns-in_err-declared-clause-fault c =
+    same_fault c.from_residual.result c.in_err-declared.field-0.0 (IsCertFault c.args.p.now c.args.bytes.now) c.from_residual.ensures.1
+    c.in_err-declared.ensures.fault
 
 pub spread-requires : goal.spread-requires
 spread-requires c = ap length c.deref.ensures.value ∙ c.in_ok-declared.ensures.complete
@@ -44,22 +46,26 @@ pub returns-in_err-variables-clause-contents : goal.returns-in_err-variables-cla
 returns-in_err-variables-clause-contents c = no_value c.from_residual-in_err-variables.result Memory _ c.from_residual-in_err-variables.ensures.1
 
 pub returns-in_err-variables-clause-fault : goal.returns-in_err-variables-clause-fault
-returns-in_err-variables-clause-fault c = same_fault c.from_residual-in_err-variables.result Memory (IsCertFault c.args.p.now c.args.bytes.now) c.from_residual-in_err-variables.ensures.1 tt
+returns-in_err-variables-clause-fault c =
+    same_fault c.from_residual-in_err-variables.result Memory (IsCertFault c.args.p.now c.args.bytes.now) c.from_residual-in_err-variables.ensures.1 tt
 
 pub places-requires : goal.places-requires
-places-requires c = c.deref-3.ensures.value ∙ c.in_ok-variables.ensures ∙ ap (spread c.args.p.now.declarations) (c.deref.ensures.value ∙ sym c.deref-2.ensures.value)
+places-requires c = c.deref-3.ensures.value ∙ c.in_ok-variables.ensures
+    ∙ ap (spread c.args.p.now.declarations) (c.deref.ensures.value ∙ sym c.deref-2.ensures.value)
 
 pub returns-in_err-places-clause-contents : goal.returns-in_err-places-clause-contents
 returns-in_err-places-clause-contents c = no_value c.from_residual-in_err-places.result Memory _ c.from_residual-in_err-places.ensures.1
 
 pub returns-in_err-places-clause-fault : goal.returns-in_err-places-clause-fault
-returns-in_err-places-clause-fault c = same_fault c.from_residual-in_err-places.result Memory (IsCertFault c.args.p.now c.args.bytes.now) c.from_residual-in_err-places.ensures.1 tt
+returns-in_err-places-clause-fault c =
+    same_fault c.from_residual-in_err-places.result Memory (IsCertFault c.args.p.now c.args.bytes.now) c.from_residual-in_err-places.ensures.1 tt
 
 pub returns-in_err-push-clause-contents : goal.returns-in_err-push-clause-contents
 returns-in_err-push-clause-contents c = no_value c.from_residual-in_err-push.result Memory _ c.from_residual-in_err-push.ensures.1
 
 pub returns-in_err-push-clause-fault : goal.returns-in_err-push-clause-fault
-returns-in_err-push-clause-fault c = same_fault c.from_residual-in_err-push.result Memory (IsCertFault c.args.p.now c.args.bytes.now) c.from_residual-in_err-push.ensures.1 tt
+returns-in_err-push-clause-fault c =
+    same_fault c.from_residual-in_err-push.result Memory (IsCertFault c.args.p.now c.args.bytes.now) c.from_residual-in_err-push.ensures.1 tt
 
 pub offset_bounds-place-items-number : goal.offset_bounds-place-items-number
 offset_bounds-place-items-number c = search rules
@@ -71,20 +77,23 @@ pub line_number-requires : goal.line_number-requires
 line_number-requires c =
     let ep = c.deref-place-items.ensures.value ∙ c.in_ok-places.ensures ∙ ap (places_of c.args.p.now) c.deref-2.ensures.value in
     let test = c.loop-number-test.true in
-    line_small c.args.p.now c.laws-2.ensures.valid c.in_ok-declared.declared.items c.deref-place-items.result.now c.len.result c.loop-number.number c.in_ok-declared.ensures.complete ep
+    line_small c.args.p.now c.laws-2.ensures.valid c.in_ok-declared.declared.items c.deref-place-items.result.now c.len.result c.loop-number.number
+        c.in_ok-declared.ensures.complete ep
     (c.len.ensures ∙ c.in_ok-declared.declared.ok.0) (omega (arith, test))
 
 pub line_number-requires-then-not-is_empty : goal.line_number-requires-then-not-is_empty
 line_number-requires-then-not-is_empty c =
     let ep = c.in_ok-places.ensures ∙ ap (places_of c.args.p.now) c.deref-2.ensures.value in
     let n = c.len-then-not-is_empty-2.ensures ∙ c.in_ok-places.places.ok.0 in
-    line_small c.args.p.now c.laws-2.ensures.valid c.in_ok-declared.declared.items c.in_ok-places.places.items c.len-then-not-is_empty.result c.len-then-not-is_empty-2.result c.in_ok-declared.ensures.complete ep
+    line_small c.args.p.now c.laws-2.ensures.valid c.in_ok-declared.declared.items c.in_ok-places.places.items c.len-then-not-is_empty.result
+        c.len-then-not-is_empty-2.result c.in_ok-declared.ensures.complete ep
     (c.len-then-not-is_empty.ensures ∙ c.in_ok-declared.declared.ok.0) (omega (arith, n))
 
 pub loop-number-init : goal.loop-number-init
 loop-number-init c =
     record {
-      begins = subst (λ z. BeginsWith c.args.p.now c.in_ok-declared.declared.items z c.args.bytes.now c.in_ok-declared.text.now) (sym c.new-lines.ensures.items) c.in_ok-declared.ensures.begins;
+      begins = subst (λ z. BeginsWith c.args.p.now c.in_ok-declared.declared.items z c.args.bytes.now c.in_ok-declared.text.now) (sym c.new-lines.ensures.items)
+          c.in_ok-declared.ensures.begins;
       count = ap length c.new-lines.ensures.items;
     }
 
@@ -96,8 +105,10 @@ loop-number-preserved c =
     let ep = c.deref-place-items.ensures.value ∙ c.in_ok-places.ensures ∙ ap (places_of c.args.p.now) c.deref-2.ensures.value in
     record {
       begins =
-          next_line c.args.p.now c.laws-2.ensures.valid c.args.bytes.now c.lattice-order.result c.lattice-order.ensures c.in_ok-declared.declared.items c.in_ok-declared.ensures.complete ps ep k
-          c.loop-number.lines.items c.loop-number.invariant.count c.loop-number.rest.now c.loop-number.invariant.begins c.deref-in-loop-number.result.now c.deref-in-loop-number.ensures.value _ h (get_or_default ps k _ _ h)
+          next_line c.args.p.now c.laws-2.ensures.valid c.args.bytes.now c.lattice-order.result c.lattice-order.ensures c.in_ok-declared.declared.items
+              c.in_ok-declared.ensures.complete ps ep k
+          c.loop-number.lines.items c.loop-number.invariant.count c.loop-number.rest.now c.loop-number.invariant.begins c.deref-in-loop-number.result.now
+              c.deref-in-loop-number.ensures.value _ h (get_or_default ps k _ _ h)
           c.in-Some.line c.in-Some.next.now c.push.new.self.items c.in_ok-push.ensures.items c.in-Some.ensures.0 c.in-Some.ensures.1;
       count = pushed c.loop-number.lines.items c.push.new.self.items _ c.in_ok-push.ensures.items ∙ ap (λ z. z + 1) c.loop-number.invariant.count;
     }
@@ -108,8 +119,10 @@ returns-in_default-clause-fault c =
     let k = c.loop-number.number in
     let h = c.loop-number-test.true in
     let ep = c.deref-place-items.ensures.value ∙ c.in_ok-places.ensures ∙ ap (places_of c.args.p.now) c.deref-2.ensures.value in
-    wrong_line c.args.p.now c.laws-2.ensures.valid c.args.bytes.now c.lattice-order.result c.lattice-order.ensures c.in_ok-declared.declared.items c.in_ok-declared.ensures.complete ps ep k
-    c.loop-number.lines.items c.loop-number.invariant.count c.loop-number.rest.now c.loop-number.invariant.begins c.deref-in-loop-number.result.now c.deref-in-loop-number.ensures.value _ h (get_or_default ps k _ _ h)
+    wrong_line c.args.p.now c.laws-2.ensures.valid c.args.bytes.now c.lattice-order.result c.lattice-order.ensures c.in_ok-declared.declared.items
+        c.in_ok-declared.ensures.complete ps ep k
+    c.loop-number.lines.items c.loop-number.invariant.count c.loop-number.rest.now c.loop-number.invariant.begins c.deref-in-loop-number.result.now
+        c.deref-in-loop-number.ensures.value _ h (get_or_default ps k _ _ h)
     c.line_number.result (c.line_number.ensures ∙ ap (λ z. z + k + 2) (c.len.ensures ∙ c.in_ok-declared.declared.ok.0)) c.in_default.ensures
 
 pub returns-then-not-is_empty-clause-fault : goal.returns-then-not-is_empty-clause-fault
@@ -119,14 +132,20 @@ returns-then-not-is_empty-clause-fault c =
     let n = c.line_number-then-not-is_empty.ensures in
     let a = c.len-then-not-is_empty.ensures ∙ c.in_ok-declared.declared.ok.0 in
     let b = c.len-then-not-is_empty-2.ensures ∙ c.in_ok-places.places.ok.0 ∙ ap length (sym c.deref-place-items.ensures.value) in
-    wrong_rest c.args.p.now c.laws-2.ensures.valid c.args.bytes.now c.lattice-order.result c.lattice-order.ensures c.in_ok-declared.declared.items c.in_ok-declared.ensures.complete ps ep c.loop-number.number
-    c.loop-number.lines.items c.loop-number.invariant.count c.loop-number.rest.now c.loop-number.invariant.begins c.loop-number-test.false c.loop-number.auto.number-end
-    c.line_number-then-not-is_empty.result (omega (arith, n, a, b)) (some_bytes c.loop-number.rest.now c.is_empty.result c.is_empty.ensures c.if-not-is_empty.true)
+    wrong_rest c.args.p.now c.laws-2.ensures.valid c.args.bytes.now c.lattice-order.result c.lattice-order.ensures c.in_ok-declared.declared.items
+        c.in_ok-declared.ensures.complete ps ep c.loop-number.number
+    c.loop-number.lines.items c.loop-number.invariant.count c.loop-number.rest.now c.loop-number.invariant.begins c.loop-number-test.false
+        c.loop-number.auto.number-end
+    c.line_number-then-not-is_empty.result (omega (arith, n, a, b))
+        (some_bytes c.loop-number.rest.now c.is_empty.result c.is_empty.ensures c.if-not-is_empty.true)
 
 pub returns-clause-contents : goal.returns-clause-contents
 returns-clause-contents c =
     let ps = c.deref-place-items.result.now in
     let ep = c.deref-place-items.ensures.value ∙ c.in_ok-places.ensures ∙ ap (places_of c.args.p.now) c.deref-2.ensures.value in
-    contents c.args.p.now c.laws-2.ensures.valid c.args.bytes.now c.lattice-order.result c.lattice-order.ensures c.in_ok-declared.declared.items c.in_ok-declared.ensures.complete ps ep c.loop-number.number
-    c.loop-number.lines.items c.loop-number.invariant.count c.loop-number.rest.now c.loop-number.invariant.begins c.loop-number-test.false c.loop-number.auto.number-end
-    c.in_ok-variables.variables.items (c.in_ok-variables.ensures ∙ ap (spread c.args.p.now.declarations) c.deref.ensures.value) (no_bytes c.loop-number.rest.now c.is_empty.result c.is_empty.ensures c.if-not-is_empty.false)
+    contents c.args.p.now c.laws-2.ensures.valid c.args.bytes.now c.lattice-order.result c.lattice-order.ensures c.in_ok-declared.declared.items
+        c.in_ok-declared.ensures.complete ps ep c.loop-number.number
+    c.loop-number.lines.items c.loop-number.invariant.count c.loop-number.rest.now c.loop-number.invariant.begins c.loop-number-test.false
+        c.loop-number.auto.number-end
+    c.in_ok-variables.variables.items (c.in_ok-variables.ensures ∙ ap (spread c.args.p.now.declarations) c.deref.ensures.value)
+        (no_bytes c.loop-number.rest.now c.is_empty.result c.is_empty.ensures c.if-not-is_empty.false)

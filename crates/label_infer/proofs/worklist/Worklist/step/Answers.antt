@@ -13,7 +13,8 @@ use Rattle.label_infer.proofs.worklist.Worklist.step.Goals as goal
 pub raise-requires-clause-blocks : goal.raise-requires-clause-blocks
 raise-requires-clause-blocks g c =
     let v = c.self.inside in
-    blocks_same v.conditions.items c.deref-in-Variable.result.now (slice_set v.waits.items c.in-Some.i false) c.deref_mut.result.now c.take.new.self c.deref-in-Variable.ensures.value c.deref_mut.ensures.value
+    blocks_same v.conditions.items c.deref-in-Variable.result.now (slice_set v.waits.items c.in-Some.i false) c.deref_mut.result.now c.take.new.self
+        c.deref-in-Variable.ensures.value c.deref_mut.ensures.value
     (c.take.ensures v.conditions.items v.waits.items c.self.invariant.in_blocks)
 
 pub invariant_of-self : goal.invariant_of-self
@@ -22,17 +23,20 @@ invariant_of-self g c =
     let i = c.in-Some.i in
     let x = c.in-Variable.x in
     let t = (lattice_of v.order).flows c.value-have.result.number (label_at v.order.bottom v.variables x) in
-    let lw : length c.raise.new.waits ≡ v.waits.len = waits_length t x c.deref-in-Variable.result.now c.deref_mut.result.now c.raise.new.waits c.raise.ensures.waits ∙ c.deref_mut.ensures.len in
+    let lw : length c.raise.new.waits ≡ v.waits.len =
+        waits_length t x c.deref-in-Variable.result.now c.deref_mut.result.now c.raise.new.waits c.raise.ensures.waits ∙ c.deref_mut.ensures.len in
     let items = with_items_is (with_item v.waits i false) c.raise.new.waits lw in
     let w : length c.raise.new.waits ≡ length v.waits.items =
-    waits_length t x c.deref-in-Variable.result.now c.deref_mut.result.now c.raise.new.waits c.raise.ensures.waits ∙ ap length c.deref_mut.ensures.value ∙ length-set v.waits.items i false in
+    waits_length t x c.deref-in-Variable.result.now c.deref_mut.result.now c.raise.new.waits c.raise.ensures.waits ∙ ap length c.deref_mut.ensures.value
+        ∙ length-set v.waits.items i false in
     let n : length c.raise.new.variables ≡ length v.variables = labels_length t x _ v.variables c.raise.new.variables c.raise.ensures.variables in
     let same = ap length items ∙ w in
     let q = c.in-Some.ensures.0 in
     let d = ap length c.deref.ensures.value in
     record {
       fit = same ∙ c.self.invariant.fit;
-      in_blocks = blocks_raised x v.conditions.items c.deref-in-Variable.result.now (slice_set v.waits.items i false) c.deref_mut.result.now c.raise.new.waits _ c.take.new.self t
+      in_blocks = blocks_raised x v.conditions.items c.deref-in-Variable.result.now (slice_set v.waits.items i false) c.deref_mut.result.now
+          c.raise.new.waits _ c.take.new.self t
           (length-set v.waits.items i false ∙ c.self.invariant.fit) c.deref-in-Variable.ensures.value c.deref_mut.ensures.value c.raise.ensures.waits items
           (c.take.ensures v.conditions.items v.waits.items c.self.invariant.in_blocks);
       cursor = omega (arith, q, d, same);
@@ -43,7 +47,8 @@ invariant_of-self g c =
 pub invariant_of-self-in-Level : goal.invariant_of-self-in-Level
 invariant_of-self-in-Level g c =
     let v = c.self.inside in
-    let len0 : length c.lift.new.labels ≡ v.levels.len = ap length c.lift.ensures ∙ length-set c.deref_mut-in-Level.result.now c.in-Level.k _ ∙ c.deref_mut-in-Level.ensures.len in
+    let len0 : length c.lift.new.labels ≡ v.levels.len = ap length c.lift.ensures ∙ length-set c.deref_mut-in-Level.result.now c.in-Level.k _
+        ∙ c.deref_mut-in-Level.ensures.len in
     let items = with_items_is v.levels c.lift.new.labels len0 in
     let len : length (with_items v.levels c.lift.new.labels).items ≡ length v.levels.items =
     ap length items ∙ ap length c.lift.ensures ∙ length-set c.deref_mut-in-Level.result.now c.in-Level.k _ ∙ ap length c.deref_mut-in-Level.ensures.value in
@@ -65,7 +70,8 @@ returns-in-Variable-clause-taken g c =
     let have = c.value-have.result.number in
     let V = v.variables in
     let t = (lattice_of v.order).flows have (label_at v.order.bottom V x) in
-    let lw : length c.raise.new.waits ≡ v.waits.len = waits_length t x c.deref-in-Variable.result.now c.deref_mut.result.now c.raise.new.waits c.raise.ensures.waits ∙ c.deref_mut.ensures.len in
+    let lw : length c.raise.new.waits ≡ v.waits.len =
+        waits_length t x c.deref-in-Variable.result.now c.deref_mut.result.now c.raise.new.waits c.raise.ensures.waits ∙ c.deref_mut.ensures.len in
     let W = (with_items (with_item v.waits i false) c.raise.new.waits).items in
     let U = c.raise.new.variables in
     let ew = with_items_is (with_item v.waits i false) c.raise.new.waits lw ∙ c.raise.ensures.waits in
@@ -92,7 +98,8 @@ returns-in-Level-clause-taken g c =
     λ _. (
       i,
       c.condition_at-condition.result.now,
-      subst (λ z. Takes z (work v.order v.conditions.items (slice_set v.waits.items i false) v.variables U) i c.condition_at-condition.result.now) c.self.view_is
+      subst (λ z. Takes z (work v.order v.conditions.items (slice_set v.waits.items i false) v.variables U) i c.condition_at-condition.result.now)
+          c.self.view_is
           (took_level v.order v.conditions.items v.waits.items v.variables v.levels.items i c.condition_at-condition.result.now c.value-have.result.number
           c.deref-2.result.now c.deref.result.now v.variables c.deref-2.ensures.value c.deref.ensures.value refl
           c.in-Some.ensures.1 c.condition_at-condition.ensures c.value-have.ensures

@@ -15,16 +15,21 @@ closure-flows-requires c = below_more (length c.args.names.now) row c.args.pairs
 pub returns-in-Some-first_pair-clause-fault : goal.returns-in-Some-first_pair-clause-fault
 returns-in-Some-first_pair-clause-fault c = (
   few c.if-are_too_many.false c.are_too_many.ensures,
-  chained_no_cycle (length c.args.names.now) (few c.if-are_too_many.false c.are_too_many.ensures) c.args.pairs.now c.closure-flows.result c.closure-flows.ensures c.in_default.ensures,
-  chained_lowest (length c.args.names.now) (few c.if-are_too_many.false c.are_too_many.ensures) c.args.pairs.now c.closure-flows.result c.closure-flows.ensures c.in-Some-first_pair.a.number c.in-Some-first_pair.b.number c.in-Some-first_pair.ensures,
+  chained_no_cycle (length c.args.names.now) (few c.if-are_too_many.false c.are_too_many.ensures) c.args.pairs.now c.closure-flows.result
+      c.closure-flows.ensures c.in_default.ensures,
+  chained_lowest (length c.args.names.now) (few c.if-are_too_many.false c.are_too_many.ensures) c.args.pairs.now c.closure-flows.result c.closure-flows.ensures
+      c.in-Some-first_pair.a.number c.in-Some-first_pair.b.number c.in-Some-first_pair.ensures,
 )
 
 pub returns-in-Some-first_pair-2-clause-fault : goal.returns-in-Some-first_pair-2-clause-fault
 returns-in-Some-first_pair-2-clause-fault c = (
   few c.if-are_too_many.false c.are_too_many.ensures,
-  chained_no_cycle (length c.args.names.now) (few c.if-are_too_many.false c.are_too_many.ensures) c.args.pairs.now c.closure-flows.result c.closure-flows.ensures c.in_default.ensures,
-  chained_one_lowest (length c.args.names.now) (few c.if-are_too_many.false c.are_too_many.ensures) c.args.pairs.now c.closure-flows.result c.closure-flows.ensures c.in_default-first_pair.ensures,
-  chained_no_join (length c.args.names.now) (few c.if-are_too_many.false c.are_too_many.ensures) c.args.pairs.now c.closure-flows.result c.closure-flows.ensures c.in-Some-first_pair-2.a.number c.in-Some-first_pair-2.b.number c.in-Some-first_pair-2.ensures,
+  chained_no_cycle (length c.args.names.now) (few c.if-are_too_many.false c.are_too_many.ensures) c.args.pairs.now c.closure-flows.result
+      c.closure-flows.ensures c.in_default.ensures,
+  chained_one_lowest (length c.args.names.now) (few c.if-are_too_many.false c.are_too_many.ensures) c.args.pairs.now c.closure-flows.result
+      c.closure-flows.ensures c.in_default-first_pair.ensures,
+  chained_no_join (length c.args.names.now) (few c.if-are_too_many.false c.are_too_many.ensures) c.args.pairs.now c.closure-flows.result c.closure-flows.ensures
+      c.in-Some-first_pair-2.a.number c.in-Some-first_pair-2.b.number c.in-Some-first_pair-2.ensures,
 )
 
 pub unreachable-requires : goal.unreachable-requires
@@ -34,15 +39,20 @@ unreachable-requires c =
 
 pub invariant_of-result : goal.invariant_of-result
 invariant_of-result c =
-    kept c.args.names.now c.with_room.result c.closure-flows.result c.joins.result c.in-Some-lowest.bottom c.with_room.ensures c.requires.some (few c.if-are_too_many.false c.are_too_many.ensures) c.are_names.ensures c.requires.differ
+    kept c.args.names.now c.with_room.result c.closure-flows.result c.joins.result c.in-Some-lowest.bottom c.with_room.ensures c.requires.some
+        (few c.if-are_too_many.false c.are_too_many.ensures) c.are_names.ensures c.requires.differ
     (table_is (length c.args.names.now) (few c.if-are_too_many.false c.are_too_many.ensures) c.args.pairs.now c.closure-flows.result c.closure-flows.ensures
-    c.in_default.ensures c.in_default-first_pair.ensures c.in_default-first_pair-2.ensures c.joins.result c.joins.ensures c.in-Some-lowest.bottom c.in-Some-lowest.ensures.0 c.in-Some-lowest.ensures.1)
+    c.in_default.ensures c.in_default-first_pair.ensures c.in_default-first_pair-2.ensures c.joins.result c.joins.ensures c.in-Some-lowest.bottom
+        c.in-Some-lowest.ensures.0 c.in-Some-lowest.ensures.1)
     c.args.pairs.now c.requires.pairs c.closure-flows.ensures c.joins.ensures (search rules, search rules)
 
 pub returns-clause-built : goal.returns-clause-built
 returns-clause-built c =
-    built c.args.names.now c.with_room.result c.closure-flows.result c.joins.result c.in-Some-lowest.bottom c.with_room.ensures c.requires.some (few c.if-are_too_many.false c.are_too_many.ensures) c.are_names.ensures c.requires.differ
+    built c.args.names.now c.with_room.result c.closure-flows.result c.joins.result c.in-Some-lowest.bottom c.with_room.ensures c.requires.some
+        (few c.if-are_too_many.false c.are_too_many.ensures) c.are_names.ensures c.requires.differ
     (table_is (length c.args.names.now) (few c.if-are_too_many.false c.are_too_many.ensures) c.args.pairs.now c.closure-flows.result c.closure-flows.ensures
-    c.in_default.ensures c.in_default-first_pair.ensures c.in_default-first_pair-2.ensures c.joins.result c.joins.ensures c.in-Some-lowest.bottom c.in-Some-lowest.ensures.0 c.in-Some-lowest.ensures.1)
+    c.in_default.ensures c.in_default-first_pair.ensures c.in_default-first_pair-2.ensures c.joins.result c.joins.ensures c.in-Some-lowest.bottom
+        c.in-Some-lowest.ensures.0 c.in-Some-lowest.ensures.1)
     c.args.pairs.now c.requires.pairs c.closure-flows.ensures c.joins.ensures (search rules, search rules)
-    (sound (length c.args.names.now) (few c.if-are_too_many.false c.are_too_many.ensures) c.args.pairs.now c.closure-flows.result c.closure-flows.ensures c.in_default.ensures c.in_default-first_pair.ensures c.in_default-first_pair-2.ensures)
+    (sound (length c.args.names.now) (few c.if-are_too_many.false c.are_too_many.ensures) c.args.pairs.now c.closure-flows.result c.closure-flows.ensures
+        c.in_default.ensures c.in_default-first_pair.ensures c.in_default-first_pair-2.ensures)

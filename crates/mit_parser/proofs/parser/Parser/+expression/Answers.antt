@@ -7,7 +7,9 @@ use Rattle.mit_parser.specs.Words.{word}
 use Rattle.mit_parser.specs.Machine.{want, an_atom, an_index, a_term, factors, a_sum, addends, an_expr, comparison, after_index}
 use Rattle.mit_parser.specs.Reads.{scope_of}
 use Rattle.mit_parser.proofs.Rules.{within, rule_term, rule_sum, rule_expr, shows_number, shows_sign}
-use Rattle.mit_parser.proofs.Atoms.{atom_number, atom_scalar, atom_element, after_name, atom_paren, at_index, index_whole, term_first, term_next, term_last, at_factor, sum_first, sum_next, sum_last, at_addend, expr_plain, expr_compare, at_comparison, comparison_passes, factor_passes, addend_passes, factor_goes_on, addend_goes_on, comparison_goes_on, past_factor, past_addend, past_comparison}
+use Rattle.mit_parser.proofs.Atoms.{atom_number, atom_scalar, atom_element, after_name, atom_paren, at_index, index_whole, term_first, term_next, term_last}
+use Rattle.mit_parser.proofs.Atoms.{at_factor, sum_first, sum_next, sum_last, at_addend, expr_plain, expr_compare, at_comparison, comparison_passes}
+use Rattle.mit_parser.proofs.Atoms.{factor_passes, addend_passes, factor_goes_on, addend_goes_on, comparison_goes_on, past_factor, past_addend, past_comparison}
 use Rattle.mit_parser.proofs.parser.Parser.+expression.Goals as goal
 
 pub atom-returns-in_ok-advance-in-Number : goal.atom-returns-in_ok-advance-in-Number
@@ -17,11 +19,13 @@ atom-returns-in_ok-advance-in-Number t c =
 
 pub atom-returns-in_ok-sign-in-Sign-LeftRound : goal.atom-returns-in_ok-sign-in-Sign-LeftRound
 atom-returns-in_ok-sign-in-Sign-LeftRound t c =
-    atom_paren _ _ _ _ _ _ (shows_sign _ LeftRound (rw c.in-Sign-LeftRound.field-0-is at c.in-Sign-LeftRound.ensures)) c.in_ok-advance-in-Sign-LeftRound.ensures c.in_ok-inner-in-Sign-LeftRound.ensures c.in_ok-sign-in-Sign-LeftRound.ensures
+    atom_paren _ _ _ _ _ _ (shows_sign _ LeftRound (rw c.in-Sign-LeftRound.field-0-is at c.in-Sign-LeftRound.ensures)) c.in_ok-advance-in-Sign-LeftRound.ensures
+        c.in_ok-inner-in-Sign-LeftRound.ensures c.in_ok-sign-in-Sign-LeftRound.ensures
 
 pub named-returns-then-not-at_sign : goal.named-returns-then-not-at_sign
 named-returns-then-not-at_sign t c =
-    rw (c.note.ensures, c.scalar_use-fault.ensures.fault) (atom_scalar (scope_of c.args.names.now) c.args.self.now c.advance.new.self c.name_here-name.result c.pos-pos.result _ c.name_here-name.ensures c.pos-pos.ensures c.in_ok-advance.ensures
+    rw (c.note.ensures, c.scalar_use-fault.ensures.fault) (atom_scalar (scope_of c.args.names.now) c.args.self.now c.advance.new.self c.name_here-name.result
+        c.pos-pos.result _ c.name_here-name.ensures c.pos-pos.ensures c.in_ok-advance.ensures
     (sym c.at_sign.ensures ∙ c.if-not-at_sign.true) c.scalar_use-fault.ensures.number)
 
 pub named-returns-in_err-index : goal.named-returns-in_err-index
@@ -32,7 +36,8 @@ named-returns-in_err-index t c =
 
 pub named-returns : goal.named-returns
 named-returns t c =
-    atom_element (scope_of c.args.names.now) c.args.self.now c.advance.new.self _ c.name_here-name.result c.pos-pos.result c.array_use-fault.result.1 _ c.name_here-name.ensures c.pos-pos.ensures c.in_ok-advance.ensures
+    atom_element (scope_of c.args.names.now) c.args.self.now c.advance.new.self _ c.name_here-name.result c.pos-pos.result c.array_use-fault.result.1 _
+        c.name_here-name.ensures c.pos-pos.ensures c.in_ok-advance.ensures
     (rw c.in_ok-new.ensures.ok (rw (c.note-2.ensures, c.array_use-fault.ensures.fault) at c.in_ok-index.ensures)) c.array_use-fault.ensures.place
 
 pub index-returns-in_err-sign : goal.index-returns-in_err-sign
@@ -75,7 +80,8 @@ term-returns-in_err-right t c =
 
 pub term-loop-op-preserved : goal.term-loop-op-preserved
 term-loop-op-preserved t c =
-    term_next _ _ c.loop-op.self _ _ c.in-Some.op _ _ (rw c.in_ok-new.ensures.ok c.loop-op.invariant) c.in-Some.ensures c.in_ok-advance.ensures (rw c.in_ok-new-2.ensures.ok c.in_ok-right.ensures)
+    term_next _ _ c.loop-op.self _ _ c.in-Some.op _ _ (rw c.in_ok-new.ensures.ok c.loop-op.invariant) c.in-Some.ensures c.in_ok-advance.ensures
+        (rw c.in_ok-new-2.ensures.ok c.in_ok-right.ensures)
 
 pub term-returns : goal.term-returns
 term-returns t c = term_last _ _ _ _ c.loop-op.invariant c.in_default.ensures
@@ -111,7 +117,8 @@ sum-returns-in_err-right t c =
 
 pub sum-loop-op-preserved : goal.sum-loop-op-preserved
 sum-loop-op-preserved t c =
-    sum_next _ _ c.loop-op.self _ _ c.in-Some.op _ _ (rw c.in_ok-new.ensures.ok c.loop-op.invariant) c.in-Some.ensures c.in_ok-advance.ensures (rw c.in_ok-new-2.ensures.ok c.in_ok-right.ensures)
+    sum_next _ _ c.loop-op.self _ _ c.in-Some.op _ _ (rw c.in_ok-new.ensures.ok c.loop-op.invariant) c.in-Some.ensures c.in_ok-advance.ensures
+        (rw c.in_ok-new-2.ensures.ok c.in_ok-right.ensures)
 
 pub sum-returns : goal.sum-returns
 sum-returns t c = sum_last _ _ _ _ c.loop-op.invariant c.in_default.ensures

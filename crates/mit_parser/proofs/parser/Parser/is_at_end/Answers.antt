@@ -6,4 +6,5 @@ use Rattle.mit_parser.proofs.parser.Parser.is_at_end.Goals as goal
 pub returns-in-End : goal.returns-in-End
 returns-in-End c =
     at_end c.args.self.now.words (subst (λ s. IsEnded s.words) c.self.view_is c.self.invariant.sound.ended)
-    (sym c.in-End.is ∙ kind_first c.self.inside.text.now c.self.inside.rest.now no_token c.self.invariant.sound.ended ∙ ap (λ s. kind_of (head_symbol s.words)) c.self.view_is)
+    (sym c.in-End.is ∙ kind_first c.self.inside.text.now c.self.inside.rest.now no_token c.self.invariant.sound.ended
+        ∙ ap (λ s. kind_of (head_symbol s.words)) c.self.view_is)

@@ -29,5 +29,6 @@ loop-k-preserved c =
     record {
       next = omega (arith, m, n, s);
       room = search (rules, r);
-      firsts = subst (λ (v : ℕ). (j : ℕ) → j < k + 1 → get_or (set c.loop-k.firsts k v) j 0 ≡ first_of ds j) (sym n) (table_more ds c.loop-k.firsts k (omega (arith, h, t, l, r)) c.loop-k.invariant.firsts);
+      firsts = subst (λ (v : ℕ). (j : ℕ) → j < k + 1 → get_or (set c.loop-k.firsts k v) j 0 ≡ first_of ds j) (sym n)
+          (table_more ds c.loop-k.firsts k (omega (arith, h, t, l, r)) c.loop-k.invariant.firsts);
     }

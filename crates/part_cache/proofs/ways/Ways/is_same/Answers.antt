@@ -10,6 +10,8 @@ returns c = (
   λ t. ap held_tags (same_text c.args.self.now.tags c.args.other.now.tags (sym t ∙ c.eq.ensures)),
   λ e. ⊎_elim
       (λ (t : c.eq.result ≡ true). t)
-      (λ (f : c.eq.result ≡ false). absurd (other_text c.args.self.now.tags c.args.other.now.tags (sym f ∙ c.eq.ensures) (ways_same c.args.self.now.tags c.args.other.now.tags c.requires.here c.requires.there e)))
+      (λ (f : c.eq.result ≡ false). absurd
+          (other_text c.args.self.now.tags c.args.other.now.tags (sym f ∙ c.eq.ensures)
+          (ways_same c.args.self.now.tags c.args.other.now.tags c.requires.here c.requires.there e)))
       (cases_Bool c.eq.result),
 )

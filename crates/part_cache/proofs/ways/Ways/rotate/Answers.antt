@@ -7,4 +7,5 @@ loop-to-preserved c =
     Carried-more c.args.self.now.tags c.loop-to.self.tags c.args.tag c.loop-to.last c.loop-to.to _ c.loop-to.invariant (omega arith) refl
 
 pub returns : goal.returns
-returns c = carried_all c.args.self.now.tags c.loop-to.self.tags c.args.tag c.loop-to.last c.args.way c.loop-to.to c.loop-to.invariant (omega arith) (omega arith)
+returns c = carried_all c.args.self.now.tags c.loop-to.self.tags c.args.tag c.loop-to.last c.args.way c.loop-to.to
+    c.loop-to.invariant (omega arith) (omega arith)

@@ -16,10 +16,12 @@ pub look_and_touch-line-requires-clause-write : goal.look_and_touch-line-require
 look_and_touch-line-requires-clause-write c = label_in c.requires.0 8 2 c.args.self.now.code_cache c.args.ew.number (c.requires.1.0.each Code) c.requires.1.2
 
 pub look_and_touch-line-requires-in-Data-clause-read : goal.look_and_touch-line-requires-in-Data-clause-read
-look_and_touch-line-requires-in-Data-clause-read c = label_in c.requires.0 8 2 c.args.self.now.data_cache c.args.er.number (c.requires.1.0.each Data) c.requires.1.1
+look_and_touch-line-requires-in-Data-clause-read c =
+    label_in c.requires.0 8 2 c.args.self.now.data_cache c.args.er.number (c.requires.1.0.each Data) c.requires.1.1
 
 pub look_and_touch-line-requires-in-Data-clause-write : goal.look_and_touch-line-requires-in-Data-clause-write
-look_and_touch-line-requires-in-Data-clause-write c = label_in c.requires.0 8 2 c.args.self.now.data_cache c.args.ew.number (c.requires.1.0.each Data) c.requires.1.2
+look_and_touch-line-requires-in-Data-clause-write c =
+    label_in c.requires.0 8 2 c.args.self.now.data_cache c.args.ew.number (c.requires.1.0.each Data) c.requires.1.2
 
 pub look_and_touch-page-requires-clause-sets : goal.look_and_touch-page-requires-clause-sets
 look_and_touch-page-requires-clause-sets c = sym (c.requires.1.0.each Page).same_sets

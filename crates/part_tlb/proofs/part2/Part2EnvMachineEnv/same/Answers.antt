@@ -10,7 +10,9 @@ pub same_part-requires-clause-there : goal.same_part-requires-clause-there
 same_part-requires-clause-there c = label_in c.requires.0 32 4 c.args.other.now.second c.args.label.number (c.requires.1.1.each Second) c.requires.1.2
 
 pub same_part-requires-clause-sets : goal.same_part-requires-clause-sets
-same_part-requires-clause-sets c = sets_same c.requires.0 32 4 c.args.self.now.second c.args.other.now.second (c.requires.1.0.each Second) (c.requires.1.1.each Second)
+same_part-requires-clause-sets c =
+    sets_same c.requires.0 32 4 c.args.self.now.second c.args.other.now.second (c.requires.1.0.each Second) (c.requires.1.1.each Second)
 
 pub same-requires : goal.same-requires
-same-requires c = (c.requires.0, (first_serves c.requires.0 c.args.self.now c.requires.1.0, first_serves c.requires.0 c.args.other.now c.requires.1.1, c.requires.1.2))
+same-requires c = (c.requires.0,
+    (first_serves c.requires.0 c.args.self.now c.requires.1.0, first_serves c.requires.0 c.args.other.now c.requires.1.1, c.requires.1.2))
