@@ -62,6 +62,18 @@ stops (HasEnded k t) = None
 stops (Halted t) = Some (Halted t)
 stops (Limit t) = Some (Limit t)
 
+-- a turn whose machine goes on where it did not stop: of `run`, and of the loop in it
+pub record HasTurned {E : Type 0} (v : Env E) (serves : Serves E) (c : Code) (shown : List Bool) (old : State E) (limit : ℕ) (turn : Turn) (new : State E)
+    : Type 0 where
+  pub turned : Turned v c shown old limit turn new
+  pub stands : stops turn ≡ None → Stands serves c new
+
+-- quiet steps, with which a clock has come past a cycle: of the loop in `run`
+pub record WentOn {E : Type 0} (v : Env E) (serves : Serves E) (c : Code) (shown : List Bool) (old : State E) (limit last : ℕ) (new : State E) : Type 0 where
+  pub quiet : Quiet v c.instrs shown limit old new
+  pub stands : Stands serves c new
+  pub past : last < new.clock
+
 abbrev pub IsStop : Turn → Type 0
 IsStop turn = stops turn ≡ Some turn
 

@@ -1,8 +1,8 @@
 //! Steps, one after another, to the end of a turn.
 
-ghost use Rattle.std.specs.Prelude.{◌≡◌, None, length, vec_len};
+ghost use Rattle.std.specs.Prelude.{◌≡◌, ◌≤◌, MatchOption, length, vec_len};
 ghost use Rattle.cycle_machine.specs.Took.{Stands, Stepped};
-ghost use Rattle.cycle_machine.specs.Turned.{Turned, is_shown_in, stops};
+ghost use Rattle.cycle_machine.specs.Turned.{HasTurned, WentOn, is_shown_in};
 
 use crate::state::{Outcome, State};
 use crate::turn::Turn;
@@ -47,31 +47,74 @@ fn is_shown(shown: &[bool], variable: u32) -> bool
 }
 
 // The last cycle of a stage, of 2^24 cycles, in which a clock stands.
-fn last_of_stage(clock: u64) -> u64 {
-    clock | 16_777_215
+fn last_of_stage(clock: u64) -> u64
+    ensures { clock ≤ result }
+{
+    (clock - clock % 16_777_216).saturating_add(16_777_215)
 }
 
-// Tells a watch that a stage has ended, and answers the last cycle of the next one.
-#[inline(never)]
-fn tell_stage<W: Watch>(clock: u64, limit: u64, watch: &Watched<'_, W>) -> u64 {
+// Tells a watch how far a turn has come, and answers the last cycle of the stage in which it stands.
+fn tell_stage<W: Watch>(clock: u64, limit: u64, watch: &Watched<'_, W>) -> u64
+    ensures { clock ≤ result }
+{
     watch.tell(clock, limit);
     last_of_stage(clock)
 }
 
-// Tells a watch where the clock has come past the last cycle of a stage, and answers the last one of its stage.
-#[inline(always)]
-fn heed<W: Watch>(last: u64, clock: u64, limit: u64, watch: &Watched<'_, W>) -> u64 {
-    if clock <= last {
-        last
-    } else {
-        tell_stage(clock, limit, watch)
+/// Tells a watch where a turn has come into another stage, of 2^24 cycles, than that in which it began.
+pub fn tell_turn<W: Watch>(begun: u64, clock: u64, limit: u64, watch: &Watched<'_, W>) {
+    if last_of_stage(begun) < clock {
+        watch.tell(clock, limit);
     }
 }
 
-/// Tells a watch where a turn has come into another stage, of 2^24 cycles, than that in which it began.
-#[inline(always)]
-pub fn tell_turn<W: Watch>(begun: u64, clock: u64, limit: u64, watch: &Watched<'_, W>) {
-    let _ = heed(last_of_stage(begun), clock, limit, watch);
+/// Steps to the end of a turn, past assignments that are not shown, or until the clock is past a cycle. No watch has a
+/// part in it: so there is one such loop for each environment, whoever watches, and a step is a part of it.
+fn run_stage<E: MachineEnv>(
+    image: &Image,
+    state: &mut State<E>,
+    limit: u64,
+    shown: &[bool],
+    last: u64,
+) -> Option<Turn>
+    requires { Stands E.serves image.now state.old }
+    ensures { MatchOption result
+        (WentOn E.env E.serves image.now shown.now state.old limit last state.new)
+        (λ turn. HasTurned E.env E.serves image.now shown.now state.old limit turn state.new) }
+{
+    'stage: while state.clock <= last {
+        match advance(image, state, limit) {
+            Outcome::Went => {}
+            Outcome::Wrote(variable, value) => {
+                if is_shown(shown, variable) {
+                    return Some(Turn::Event {
+                        variable,
+                        value,
+                        cycle: state.clock,
+                    });
+                }
+            }
+            Outcome::Began(mark) => {
+                return Some(Turn::Began {
+                    mark,
+                    cycle: state.clock,
+                });
+            }
+            Outcome::Ended(mark) => {
+                return Some(Turn::Ended {
+                    mark,
+                    cycle: state.clock,
+                });
+            }
+            Outcome::Halted => {
+                return Some(Turn::Halted { cycle: state.clock });
+            }
+            Outcome::Late => {
+                return Some(Turn::Limit { cycle: state.clock });
+            }
+        }
+    }
+    None
 }
 
 /// Steps to the end of a turn, past assignments that are not shown. A watch is told at each step that comes into another
@@ -84,41 +127,13 @@ pub fn run<E: MachineEnv, W: Watch>(
     watch: &Watched<'_, W>,
 ) -> Turn
     requires { Stands E.serves image.now state.old }
-    ensures turned { Turned E.env image.now shown.now state.old limit result state.new }
-    ensures stands { stops result ≡ None → Stands E.serves image.now state.new }
+    ensures { HasTurned E.env E.serves image.now shown.now state.old limit result state.new }
 {
     let mut last = last_of_stage(state.clock);
     'run: loop {
-        last = heed(last, state.clock, limit, watch);
-        match advance(image, state, limit) {
-            Outcome::Went => {}
-            Outcome::Wrote(variable, value) => {
-                if is_shown(shown, variable) {
-                    return Turn::Event {
-                        variable,
-                        value,
-                        cycle: state.clock,
-                    };
-                }
-            }
-            Outcome::Began(mark) => {
-                return Turn::Began {
-                    mark,
-                    cycle: state.clock,
-                };
-            }
-            Outcome::Ended(mark) => {
-                return Turn::Ended {
-                    mark,
-                    cycle: state.clock,
-                };
-            }
-            Outcome::Halted => {
-                return Turn::Halted { cycle: state.clock };
-            }
-            Outcome::Late => {
-                return Turn::Limit { cycle: state.clock };
-            }
+        if let Some(turn) = run_stage(image, state, limit, shown, last) {
+            return turn;
         }
+        last = tell_stage(state.clock, limit, watch);
     }
 }

@@ -7,6 +7,7 @@ ghost use Rattle.mit_syntax.specs.Plan.{Plan, command_plan, list_plan, form_coun
 ghost use Rattle.timing_types.specs.Typing.{label_of, index_label};
 ghost use Rattle.timing_types.specs.Labelling.{variable_of, end_of};
 
+use crate::expressions;
 use crate::labels::Labels;
 use label_lattice::label::Label;
 use label_lattice::lattice::Lattice;
@@ -23,34 +24,14 @@ pub(crate) fn join3(order: &Lattice, a: Label, b: Label, c: Label) -> Label
 pub fn label(e: &Expr, p: &Labels, order: &Lattice) -> Label
     ensures { result.number ≡ label_of (lattice_of order.now) (variable_of order.now p.now) (expression_of e.now) }
 {
-    match e {
-        Expr::Number(_) => order.bottom(),
-        Expr::Variable(x) => p.variable(*x, order),
-        Expr::Binary(_, left, right) => order.join(label(left, p, order), label(right, p, order)),
-        Expr::Element {
-            first,
-            length: _,
-            index,
-        } => order.join(p.variable(*first, order), label(index, p, order)),
-    }
+    expressions::label(e, p.variables(), order)
 }
 
 /// The join of the labels of the variables and arrays that stand in an index of an expression.
 pub(crate) fn index_label(e: &Expr, p: &Labels, order: &Lattice) -> Label
     ensures { result.number ≡ index_label (lattice_of order.now) (variable_of order.now p.now) (expression_of e.now) }
 {
-    match e {
-        Expr::Number(_) | Expr::Variable(_) => order.bottom(),
-        Expr::Binary(_, left, right) => order.join(
-            index_label(left, p, order),
-            index_label(right, p, order),
-        ),
-        Expr::Element {
-            first: _,
-            length: _,
-            index,
-        } => label(index, p, order),
-    }
+    expressions::index_label(e, p.variables(), order)
 }
 
 /// The number after a command's last part, and its end label.

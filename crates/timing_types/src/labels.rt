@@ -3,6 +3,7 @@
 ghost use Rattle.std.specs.Prelude.{◌≡◌};
 ghost use Rattle.timing_types.specs.Labelling.{variable_of, marks_of, level_of};
 
+use crate::expressions::variable_label;
 use label_lattice::label::Label;
 use label_lattice::lattice::Lattice;
 use std::marker::Model;
@@ -41,14 +42,18 @@ impl Labels {
         }
     }
 
+    /// The labels of variables, by their numbers.
+    pub(crate) fn variables(&self) -> &[Label]
+        ensures { result.now ≡ self.now.variables }
+    {
+        &self.variables
+    }
+
     /// The label of a variable.
     pub fn variable(&self, x: u32, order: &Lattice) -> Label
         ensures { result.number ≡ variable_of order.now self.now x }
     {
-        match self.variables.get(x as usize) {
-            Some(label) => *label,
-            None => order.bottom(),
-        }
+        variable_label(&self.variables, x, order)
     }
 
     /// The read label and the write label of a command.

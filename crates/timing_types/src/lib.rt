@@ -4,6 +4,7 @@
 pub mod check;
 mod contexts;
 pub mod ends;
+pub mod expressions;
 pub mod labelled;
 pub mod labels;
 pub mod laws;

@@ -5,7 +5,6 @@
 pub mod certificate;
 mod demands;
 pub mod derive;
-mod expressions;
 pub mod fault;
 pub mod laws;
 pub mod line;

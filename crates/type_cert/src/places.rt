@@ -8,12 +8,12 @@ ghost use Rattle.type_cert.specs.declared.place.Close.{Close};
 ghost use Rattle.type_cert.specs.declared.place.Start.TheVariants.{After};
 ghost use Rattle.type_cert.specs.Places.{places, closing, last_of};
 
-use crate::expressions::{index_label, label, variable_label};
 use crate::place::{Act, Close, Place, Start};
 use label_lattice::label::Label;
 use label_lattice::lattice::Lattice;
 use mit_syntax::ast::{Command, Form};
 use std::alloc::AllocError;
+use timing_types::expressions::{index_label, label, variable_label};
 
 /// Appends the places of a command and of those inside it, in order of the text.
 #[cycle(places)]

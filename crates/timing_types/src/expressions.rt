@@ -1,4 +1,4 @@
-//! The labels of expressions, from those of variables.
+//! The labels of expressions, from a table of those of variables.
 
 ghost use Rattle.std.specs.Prelude.{◌≡◌};
 ghost use Rattle.label_lattice.specs.Order.{lattice_of};
@@ -11,7 +11,7 @@ use label_lattice::lattice::Lattice;
 use mit_syntax::ast::Expr;
 
 /// The label of a variable; past the end of the table it is bottom.
-pub(crate) fn variable_label(variables: &[Label], x: u32, order: &Lattice) -> Label
+pub fn variable_label(variables: &[Label], x: u32, order: &Lattice) -> Label
     ensures { result.number ≡ label_at order.now.bottom variables.now x }
 {
     match variables.get(x as usize) {
@@ -21,7 +21,7 @@ pub(crate) fn variable_label(variables: &[Label], x: u32, order: &Lattice) -> La
 }
 
 /// The join of the labels of an expression's variables and arrays, those in indices included.
-pub(crate) fn label(e: &Expr, variables: &[Label], order: &Lattice) -> Label
+pub fn label(e: &Expr, variables: &[Label], order: &Lattice) -> Label
     ensures { result.number ≡ label_of (lattice_of order.now) (label_at order.now.bottom variables.now) (expression_of e.now) }
 {
     match e {
@@ -43,7 +43,7 @@ pub(crate) fn label(e: &Expr, variables: &[Label], order: &Lattice) -> Label
 }
 
 /// The join of the labels of the variables and arrays that stand in an index of an expression.
-pub(crate) fn index_label(e: &Expr, variables: &[Label], order: &Lattice) -> Label
+pub fn index_label(e: &Expr, variables: &[Label], order: &Lattice) -> Label
     ensures { result.number ≡ index_label (lattice_of order.now) (label_at order.now.bottom variables.now) (expression_of e.now) }
 {
     match e {
