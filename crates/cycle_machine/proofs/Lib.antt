@@ -10,3 +10,4 @@ pub mod Goes
 pub mod Runs
 pub mod Wrote
 pub mod Unshown
+pub mod Stages

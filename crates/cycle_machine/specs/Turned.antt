@@ -1,5 +1,6 @@
 -- A loaded machine, and what a turn did.
 use Rattle.std.specs.Prelude.{◌≡◌, ◌≤◌, ◌<◌, ◌⊎◌, true, false, ℕ, ◌+◌, List, [], ◌∷◌, Bool, Option, Some, None, All, slice_index_or}
+use Rattle.label_lattice.specs.Order.{Order}
 use Rattle.env_contract.specs.Env.{Env}
 use Rattle.label_code.specs.Machine.{Event, Wrote, Began, Ended, Machine, step, steps}
 use Rattle.label_code.specs.Shaped.{Code}
@@ -8,6 +9,7 @@ use Rattle.cycle_machine.specs.declared.state.State.{State}
 use Rattle.cycle_machine.specs.declared.turn.Turn.{Turn}
 use Rattle.cycle_machine.specs.declared.turn.Turn.TheVariants.{Event as AnEvent, Began as HasBegun, Ended as HasEnded, Halted, Limit}
 use Rattle.cycle_machine.specs.Seen.{seen, with_log}
+use Rattle.cycle_machine.specs.Took.{Stands}
 
 -- an image, where its run stands, and once the machine is stopped its answer
 pub record Loaded (E : Type 0) : Type 0 where
@@ -62,14 +64,9 @@ stops (HasEnded k t) = None
 stops (Halted t) = Some (Halted t)
 stops (Limit t) = Some (Limit t)
 
--- a turn whose machine goes on where it did not stop: of `run`, and of the loop in it
-pub record HasTurned {E : Type 0} (v : Env E) (serves : Serves E) (c : Code) (shown : List Bool) (old : State E) (limit : ℕ) (turn : Turn) (new : State E)
-    : Type 0 where
-  pub turned : Turned v c shown old limit turn new
-  pub stands : stops turn ≡ None → Stands serves c new
-
--- quiet steps, with which a clock has come past a cycle: of the loop in `run`
-pub record WentOn {E : Type 0} (v : Env E) (serves : Serves E) (c : Code) (shown : List Bool) (old : State E) (limit last : ℕ) (new : State E) : Type 0 where
+-- quiet steps, with which the clock has come past a cycle: of the loop in `run`
+pub record WentOn {E : Type 0} (v : Env E) (serves : Order → E → Type 0) (c : Code) (shown : List Bool) (old : State E) (limit last : ℕ)
+    (new : State E) : Type 0 where
   pub quiet : Quiet v c.instrs shown limit old new
   pub stands : Stands serves c new
   pub past : last < new.clock

@@ -1,8 +1,8 @@
 //! Steps, one after another, to the end of a turn.
 
-ghost use Rattle.std.specs.Prelude.{◌≡◌, ◌≤◌, MatchOption, length, vec_len};
+ghost use Rattle.std.specs.Prelude.{◌≡◌, ◌≤◌, None, MatchOption, length, vec_len};
 ghost use Rattle.cycle_machine.specs.Took.{Stands, Stepped};
-ghost use Rattle.cycle_machine.specs.Turned.{HasTurned, WentOn, is_shown_in};
+ghost use Rattle.cycle_machine.specs.Turned.{Turned, WentOn, is_shown_in, stops};
 
 use crate::state::{Outcome, State};
 use crate::turn::Turn;
@@ -80,7 +80,7 @@ fn run_stage<E: MachineEnv>(
     requires { Stands E.serves image.now state.old }
     ensures { MatchOption result
         (WentOn E.env E.serves image.now shown.now state.old limit last state.new)
-        (λ turn. HasTurned E.env E.serves image.now shown.now state.old limit turn state.new) }
+        (λ turn. Turned E.env image.now shown.now state.old limit turn state.new × (stops turn ≡ None → Stands E.serves image.now state.new)) }
 {
     'stage: while state.clock <= last {
         match advance(image, state, limit) {
@@ -127,7 +127,8 @@ pub fn run<E: MachineEnv, W: Watch>(
     watch: &Watched<'_, W>,
 ) -> Turn
     requires { Stands E.serves image.now state.old }
-    ensures { HasTurned E.env E.serves image.now shown.now state.old limit result state.new }
+    ensures turned { Turned E.env image.now shown.now state.old limit result state.new }
+    ensures stands { stops result ≡ None → Stands E.serves image.now state.new }
 {
     let mut last = last_of_stage(state.clock);
     'run: loop {

@@ -1,6 +1,7 @@
 //! The text of `bound`.
 
-ghost use Rattle.std.specs.Prelude.{◌≡◌, ◌≤◌, ◌++◌, ℕ, List, Some, IfOk, IfErr, length, map, OnOk, IsTrue};
+ghost use Rattle.std.specs.Prelude.{◌≡◌, ◌++◌, Some, IfOk, IfErr, length, map, OnOk, IsTrue};
+ghost use Rattle.tim_base.specs.Kept.{KeepsFiles, NoCountFalls};
 ghost use Rattle.tim_base.specs.Faults.{Rose};
 ghost use Rattle.start_file.specs.Starts.{seen};
 ghost use Rattle.tool_words.specs.WordsAsked.{IsCycles};
@@ -89,8 +90,8 @@ pub fn bound_text<S: Shelf, W: Watch>(
     watch: &W,
 ) -> Result<Vec<u8>, Stop>
     requires { IsCycles setting.budget }
-    ensures same { (name : List ℕ) → S.content shelf.new name ≡ S.content shelf.old name }
-    ensures later { (name : List ℕ) → S.faults shelf.old name ≤ S.faults shelf.new name }
+    ensures same { KeepsFiles (S.content shelf.old) (S.content shelf.new) }
+    ensures later { NoCountFalls (S.faults shelf.old) (S.faults shelf.new) }
     ensures text { IfOk result (λ v. Bounds (λ name. Rose (S.faults shelf.old name) (S.faults shelf.new name)) (S.content shelf.old) file.now starts.now
         name.now setting.env setting.budget status.Done v.items) }
     ensures stop { IfErr result (IsStop (Bounds (λ name. Rose (S.faults shelf.old name) (S.faults shelf.new name)) (S.content shelf.old) file.now starts.now

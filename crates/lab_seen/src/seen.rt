@@ -1,6 +1,7 @@
 //! `seen`: the call.
 
-ghost use Rattle.std.specs.Prelude.{◌≡◌, ◌≤◌, ◌⊎◌, ℕ, List, IsTrue, Some};
+ghost use Rattle.std.specs.Prelude.{◌≡◌, ◌≤◌, ◌⊎◌, IsTrue, Some};
+ghost use Rattle.tim_base.specs.Kept.{KeepsFiles, NoCountFalls};
 ghost use Rattle.tim_base.specs.Faults.{Rose};
 ghost use Rattle.tool_texts.specs.Ends.{EndsBy};
 ghost use Rattle.tool_stages.specs.Accepted.{is_past_typing, IsAccepted};
@@ -28,8 +29,8 @@ fn show<S: Shelf, W: Sink>(
     observer: &str,
     setting: Setting,
 ) -> Status
-    ensures same { (name : List ℕ) → S.content shelf.new name ≡ S.content shelf.old name }
-    ensures later { (name : List ℕ) → S.faults shelf.old name ≤ S.faults shelf.new name }
+    ensures same { KeepsFiles (S.content shelf.old) (S.content shelf.new) }
+    ensures later { NoCountFalls (S.faults shelf.old) (S.faults shelf.new) }
     ensures later_out { W.faults out.old ≤ W.faults out.new }
     ensures answered { EndsBy (W.taken out.old) (W.taken out.new) (SeenBefore (S.content shelf.old) file.now starts.now observer.now setting.env setting.budget)
         (IsSeen (λ name. Rose (S.faults shelf.old name) (S.faults shelf.new name)) (S.content shelf.old) file.now starts.now observer.now setting.env
@@ -66,8 +67,8 @@ pub fn seen<S: Shelf, W: Sink>(
     observer: &str,
     setting: Setting,
 ) -> Status
-    ensures same { (name : List ℕ) → S.content shelf.new name ≡ S.content shelf.old name }
-    ensures later { (name : List ℕ) → S.faults shelf.old name ≤ S.faults shelf.new name }
+    ensures same { KeepsFiles (S.content shelf.old) (S.content shelf.new) }
+    ensures later { NoCountFalls (S.faults shelf.old) (S.faults shelf.new) }
     ensures later_out { W.faults out.old ≤ W.faults out.new }
     ensures answered { EndsBy (W.taken out.old) (W.taken out.new) (SeenBefore (S.content shelf.old) file.now starts.now observer.now setting.env setting.budget)
         (IsSeen (λ name. Rose (S.faults shelf.old name) (S.faults shelf.new name)) (S.content shelf.old) file.now starts.now observer.now setting.env

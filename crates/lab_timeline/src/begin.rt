@@ -1,6 +1,7 @@
 //! What runs begin with, where an observer may be left out.
 
-ghost use Rattle.std.specs.Prelude.{◌≡◌, ◌≤◌, ℕ, List, IfOk, IfErr, OnOk, IsTrue, map, option_map};
+ghost use Rattle.std.specs.Prelude.{IfOk, IfErr, OnOk, IsTrue, map, option_map};
+ghost use Rattle.tim_base.specs.Kept.{KeepsFiles, NoCountFalls};
 ghost use Rattle.tim_base.specs.Faults.{Rose};
 ghost use Rattle.start_file.specs.Starts.{seen};
 ghost use Rattle.tool_texts.specs.Ends.{IsStop, status_of};
@@ -32,8 +33,8 @@ pub fn begin<S: Shelf>(
     starts: &str,
     name: Option<&str>,
 ) -> Result<Begun, Stop>
-    ensures same { (name : List ℕ) → S.content shelf.new name ≡ S.content shelf.old name }
-    ensures later { (name : List ℕ) → S.faults shelf.old name ≤ S.faults shelf.new name }
+    ensures same { KeepsFiles (S.content shelf.old) (S.content shelf.new) }
+    ensures later { NoCountFalls (S.faults shelf.old) (S.faults shelf.new) }
     ensures ok { IfOk result (λ r. IsBegun (S.content shelf.old) file.now starts.now (option_map (λ s. s.now) name.entry) r.compiled.typed.labelled
         r.compiled.observer r.compiled.image (map seen r.starts.items)) }
     ensures fit { IfOk result (λ r. CanRun r.compiled.typed.labelled r.compiled.observer r.compiled.image (map seen r.starts.items)) }

@@ -1,6 +1,7 @@
 //! The top call: from the words of a command line to the text that is written, and a status.
 
-ghost use Rattle.std.specs.Prelude.{◌≡◌, ◌≤◌, ◌⊎◌, ℕ, List, None, IfSome, map, string_bytes};
+ghost use Rattle.std.specs.Prelude.{◌≡◌, ◌≤◌, ◌⊎◌, None, IfSome, map, string_bytes};
+ghost use Rattle.tim_base.specs.Kept.{KeepsFiles, NoCountFalls};
 ghost use Rattle.tim_base.specs.Faults.{Rose};
 ghost use Rattle.tool_texts.specs.Ends.{EndsBy, Nothing};
 ghost use Rattle.lab_words.specs.QuestionAsked.{IsInRange, question_of};
@@ -32,8 +33,8 @@ fn obey<S: Shelf, W: Sink>(
     question: Question<'_>,
 ) -> Status
     requires { IsInRange (asked_of question) }
-    ensures same { (name : List ℕ) → S.content shelf.new name ≡ S.content shelf.old name }
-    ensures later { (name : List ℕ) → S.faults shelf.old name ≤ S.faults shelf.new name }
+    ensures same { KeepsFiles (S.content shelf.old) (S.content shelf.new) }
+    ensures later { NoCountFalls (S.faults shelf.old) (S.faults shelf.new) }
     ensures later_out { W.faults out.old ≤ W.faults out.new }
     ensures answered { EndsBy (W.taken out.old) (W.taken out.new) (Before (S.content shelf.old) (asked_of question.entry))
         (IsAnswer (λ name. Rose (S.faults shelf.old name) (S.faults shelf.new name)) (S.content shelf.old) (asked_of question.entry)) result }
@@ -106,8 +107,8 @@ pub fn lab_main<S: Shelf, W: Sink>(
     ensures write { result ≡ Status.WriteFault → Rose (W.faults out.old) (W.faults out.new) }
 
     // No file changes, and no count of faults falls.
-    ensures same { (name : List ℕ) → S.content shelf.new name ≡ S.content shelf.old name }
-    ensures later { (name : List ℕ) → S.faults shelf.old name ≤ S.faults shelf.new name }
+    ensures same { KeepsFiles (S.content shelf.old) (S.content shelf.new) }
+    ensures later { NoCountFalls (S.faults shelf.old) (S.faults shelf.new) }
     ensures later_out { W.faults out.old ≤ W.faults out.new }
 {
     match read_question(alloc, words) {

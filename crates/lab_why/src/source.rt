@@ -1,6 +1,7 @@
 //! From a file to its text and the program that it spells.
 
-ghost use Rattle.std.specs.Prelude.{◌≡◌, ◌≤◌, ℕ, List, IfOk, IfErr};
+ghost use Rattle.std.specs.Prelude.{◌≡◌, IfOk, IfErr};
+ghost use Rattle.tim_base.specs.Kept.{KeepsFiles, NoCountFalls};
 ghost use Rattle.tim_base.specs.Faults.{Rose};
 ghost use Rattle.tool_texts.specs.Ends.{IsStop};
 ghost use Rattle.tool_stages.specs.Stages.{ProgramStops, Reads};
@@ -25,8 +26,8 @@ pub struct Source {
 /// # Errors
 /// Stops with `ReadFault`, `TooLong`, `Syntax` or `Memory`.
 pub fn read_source<S: Shelf>(alloc: Global, shelf: &mut S, file: &str) -> Result<Source, Stop>
-    ensures same { (name : List ℕ) → S.content shelf.new name ≡ S.content shelf.old name }
-    ensures later { (name : List ℕ) → S.faults shelf.old name ≤ S.faults shelf.new name }
+    ensures same { KeepsFiles (S.content shelf.old) (S.content shelf.new) }
+    ensures later { NoCountFalls (S.faults shelf.old) (S.faults shelf.new) }
     ensures ok { IfOk result (λ x. (reads : Reads (S.content shelf.old file.now) x.program) × (reads.bytes ≡ x.text.items)) }
     ensures stop { IfErr result (IsStop (ProgramStops (Rose (S.faults shelf.old file.now) (S.faults shelf.new file.now)) (S.content shelf.old file.now))) }
 {

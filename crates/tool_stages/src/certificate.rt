@@ -1,6 +1,7 @@
 //! From a certificate's file to the labelling that it holds.
 
-ghost use Rattle.std.specs.Prelude.{◌≡◌, ◌≤◌, ◌∷◌, [], ℕ, List, Option, length, IfOk, IfErr};
+ghost use Rattle.std.specs.Prelude.{◌≤◌, ◌∷◌, [], ℕ, List, Option, length, IfOk, IfErr};
+ghost use Rattle.tim_base.specs.Kept.{KeepsFiles, NoCountFalls};
 ghost use Rattle.tim_base.specs.Faults.{Rose};
 ghost use Rattle.tim_base.specs.Told.{limit, IsTold};
 ghost use Rattle.mit_syntax.specs.Program.{Syntax};
@@ -62,8 +63,8 @@ pub fn rechecked_by<S: Shelf>(
     file: &str,
     p: Program,
 ) -> Result<Typed, Stop>
-    ensures same { (name : List ℕ) → S.content shelf.new name ≡ S.content shelf.old name }
-    ensures later { (name : List ℕ) → S.faults shelf.old name ≤ S.faults shelf.new name }
+    ensures same { KeepsFiles (S.content shelf.old) (S.content shelf.new) }
+    ensures later { NoCountFalls (S.faults shelf.old) (S.faults shelf.new) }
     ensures log { Fetches (file.now ∷ []) (S.log shelf.old) (S.log shelf.new) result }
     ensures ok { IfOk result (λ q. Rechecks (S.content shelf.old file.now) p q.labelled) }
     ensures stop { IfErr result (IsStop (CertificateStops

@@ -1,6 +1,7 @@
 //! From a file to its bytes.
 
 ghost use Rattle.std.specs.Prelude.{◌≡◌, ◌≤◌, ◌∷◌, [], ℕ, List, Option, length, IfOk, IfErr};
+ghost use Rattle.tim_base.specs.Kept.{KeepsFiles, NoCountFalls};
 ghost use Rattle.tim_base.specs.Faults.{Rose};
 ghost use Rattle.tim_base.specs.Told.{limit, IsTold, IsTooLong};
 ghost use Rattle.tool_texts.specs.Ends.{IsStop, status_of};
@@ -45,8 +46,8 @@ pub fn bytes_of<S: Shelf>(
     kind: &[u8],
 ) -> Result<Vec<u8>, Stop>
     requires { length kind.now ≤ 32 }
-    ensures same { (name : List ℕ) → S.content shelf.new name ≡ S.content shelf.old name }
-    ensures later { (name : List ℕ) → S.faults shelf.old name ≤ S.faults shelf.new name }
+    ensures same { KeepsFiles (S.content shelf.old) (S.content shelf.new) }
+    ensures later { NoCountFalls (S.faults shelf.old) (S.faults shelf.new) }
     ensures log { Fetches (file.now ∷ []) (S.log shelf.old) (S.log shelf.new) result }
     ensures ok { IfOk result (λ v. IsTold (S.content shelf.old file.now) v.items) }
     ensures short { IfOk result (λ v. length v.items ≤ limit) }

@@ -1,6 +1,7 @@
 //! What audits of a program begin with.
 
-ghost use Rattle.std.specs.Prelude.{◌≡◌, ◌≤◌, ◌∷◌, [], ℕ, List, Some, IfOk, IfErr, OnOk, IsTrue, map};
+ghost use Rattle.std.specs.Prelude.{◌∷◌, [], Some, IfOk, IfErr, OnOk, IsTrue, map};
+ghost use Rattle.tim_base.specs.Kept.{KeepsFiles, NoCountFalls};
 ghost use Rattle.tim_base.specs.Faults.{Rose};
 ghost use Rattle.start_file.specs.Starts.{seen};
 ghost use Rattle.tool_texts.specs.Ends.{IsStop, status_of};
@@ -35,8 +36,8 @@ pub fn prepare<S: Shelf>(
     starts: &str,
     name: &str,
 ) -> Result<Prepared, Stop>
-    ensures same { (name : List ℕ) → S.content shelf.new name ≡ S.content shelf.old name }
-    ensures later { (name : List ℕ) → S.faults shelf.old name ≤ S.faults shelf.new name }
+    ensures same { KeepsFiles (S.content shelf.old) (S.content shelf.new) }
+    ensures later { NoCountFalls (S.faults shelf.old) (S.faults shelf.new) }
     ensures log { Fetches (file.now ∷ starts.now ∷ []) (S.log shelf.old) (S.log shelf.new) result }
     ensures ok { IfOk result (λ r. IsPrepared (S.content shelf.old) file.now name.now (S.content shelf.old starts.now) r.compiled.typed.labelled r.observer
         r.compiled.image (map seen r.starts.items)) }

@@ -1,6 +1,7 @@
 //! From a file to a program.
 
-ghost use Rattle.std.specs.Prelude.{◌≡◌, ◌≤◌, ◌∷◌, [], ℕ, List, Option, length, IfOk, IfErr};
+ghost use Rattle.std.specs.Prelude.{◌≤◌, ◌∷◌, [], ℕ, List, Option, length, IfOk, IfErr};
+ghost use Rattle.tim_base.specs.Kept.{KeepsFiles, NoCountFalls};
 ghost use Rattle.tim_base.specs.Faults.{Rose};
 ghost use Rattle.tim_base.specs.Told.{limit, IsTold};
 ghost use Rattle.mit_syntax.specs.Cut.{AreTokens, IsFault};
@@ -77,8 +78,8 @@ pub fn program_of(alloc: Global, text: &[u8]) -> Result<Program, Stop>
 /// # Errors
 /// Stops with `ReadFault`, `TooLong`, `Syntax` or `Memory`.
 pub fn read_program<S: Shelf>(alloc: Global, shelf: &mut S, file: &str) -> Result<Program, Stop>
-    ensures same { (name : List ℕ) → S.content shelf.new name ≡ S.content shelf.old name }
-    ensures later { (name : List ℕ) → S.faults shelf.old name ≤ S.faults shelf.new name }
+    ensures same { KeepsFiles (S.content shelf.old) (S.content shelf.new) }
+    ensures later { NoCountFalls (S.faults shelf.old) (S.faults shelf.new) }
     ensures log { Fetches (file.now ∷ []) (S.log shelf.old) (S.log shelf.new) result }
     ensures ok { IfOk result (Reads (S.content shelf.old file.now)) }
     ensures stop { IfErr result (IsStop (ProgramStops (Rose (S.faults shelf.old file.now) (S.faults shelf.new file.now)) (S.content shelf.old file.now))) }

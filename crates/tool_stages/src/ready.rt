@@ -1,6 +1,7 @@
 //! From a file of ready cycles to its runs.
 
 ghost use Rattle.std.specs.Prelude.{◌≡◌, ◌≢◌, ◌≤◌, ◌∷◌, [], ℕ, List, Option, Some, length, IfOk, IfErr, vec_len};
+ghost use Rattle.tim_base.specs.Kept.{KeepsFiles, NoCountFalls};
 ghost use Rattle.tim_base.specs.Faults.{Rose};
 ghost use Rattle.tim_base.specs.Told.{limit, IsTold};
 ghost use Rattle.black_box.specs.declared.fault.ReadyFault.TheVariants as ready;
@@ -38,8 +39,8 @@ fn ready_stop(fault: ReadyFault) -> Stop
 /// # Errors
 /// Stops with `ReadFault`, `TooLong`, `Starts` or `Memory`.
 pub fn ready_runs<S: Shelf>(alloc: Global, shelf: &mut S, file: &str) -> Result<Vec<Vec<u64>>, Stop>
-    ensures same { (name : List ℕ) → S.content shelf.new name ≡ S.content shelf.old name }
-    ensures later { (name : List ℕ) → S.faults shelf.old name ≤ S.faults shelf.new name }
+    ensures same { KeepsFiles (S.content shelf.old) (S.content shelf.new) }
+    ensures later { NoCountFalls (S.faults shelf.old) (S.faults shelf.new) }
     ensures log { Fetches (file.now ∷ []) (S.log shelf.old) (S.log shelf.new) result }
     ensures ok { IfOk result (λ v. HoldsRuns (S.content shelf.old file.now) (lists v)) }
     ensures few { IfOk result (λ v. vec_len v ≤ MAX_RUNS) }

@@ -1,6 +1,7 @@
 //! What runs begin with: a program and its first start.
 
-ghost use Rattle.std.specs.Prelude.{◌≡◌, ◌≤◌, ◌∷◌, ℕ, List, IfOk, IfErr, OnOk, IsTrue, option_map};
+ghost use Rattle.std.specs.Prelude.{◌∷◌, IfOk, IfErr, OnOk, IsTrue, option_map};
+ghost use Rattle.tim_base.specs.Kept.{KeepsFiles, NoCountFalls};
 ghost use Rattle.tim_base.specs.Faults.{Rose};
 ghost use Rattle.start_file.specs.Starts.{seen, IsFor};
 ghost use Rattle.tool_texts.specs.Ends.{IsStop, status_of};
@@ -28,8 +29,8 @@ pub fn ready<S: Shelf>(
     starts: Option<&str>,
     name: Option<&str>,
 ) -> Result<(Compiled, Start), Stop>
-    ensures same { (name : List ℕ) → S.content shelf.new name ≡ S.content shelf.old name }
-    ensures later { (name : List ℕ) → S.faults shelf.old name ≤ S.faults shelf.new name }
+    ensures same { KeepsFiles (S.content shelf.old) (S.content shelf.new) }
+    ensures later { NoCountFalls (S.faults shelf.old) (S.faults shelf.new) }
     ensures log { Fetches (file.now ∷ named (option_map (λ s. s.now) starts.entry)) (S.log shelf.old) (S.log shelf.new) result }
     ensures ok { IfOk result (λ r. IsReady (S.content shelf.old) file.now (option_map (λ s. s.now) starts.entry) (option_map (λ s. s.now) name.entry)
         r.0.typed.labelled r.0.observer r.0.image (seen r.1)) }
@@ -59,8 +60,8 @@ pub fn source<S: Shelf>(
     file: &str,
     starts: Option<&str>,
 ) -> Result<(Program, Start), Stop>
-    ensures same { (name : List ℕ) → S.content shelf.new name ≡ S.content shelf.old name }
-    ensures later { (name : List ℕ) → S.faults shelf.old name ≤ S.faults shelf.new name }
+    ensures same { KeepsFiles (S.content shelf.old) (S.content shelf.new) }
+    ensures later { NoCountFalls (S.faults shelf.old) (S.faults shelf.new) }
     ensures log { Fetches (file.now ∷ named (option_map (λ s. s.now) starts.entry)) (S.log shelf.old) (S.log shelf.new) result }
     ensures ok { IfOk result (λ r. HasSource (S.content shelf.old) file.now (option_map (λ s. s.now) starts.entry) r.0 (seen r.1)) }
     ensures valid { IfOk result (λ r. IsFor r.0 (seen r.1)) }

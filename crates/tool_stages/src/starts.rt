@@ -1,6 +1,7 @@
 //! From a start file to starts.
 
 ghost use Rattle.std.specs.Prelude.{◌≡◌, ◌≢◌, ◌≤◌, ◌∷◌, [], ℕ, List, Option, Err, All, IfOk, IfErr, length, map, option_map};
+ghost use Rattle.tim_base.specs.Kept.{KeepsFiles, NoCountFalls};
 ghost use Rattle.tim_base.specs.Faults.{Rose};
 ghost use Rattle.tim_base.specs.Told.{limit, IsTold};
 ghost use Rattle.mit_syntax.specs.Program.{Syntax};
@@ -61,8 +62,8 @@ pub fn all_starts<S: Shelf>(
     file: &str,
     p: &Program,
 ) -> Result<Vec<Start>, Stop>
-    ensures same { (name : List ℕ) → S.content shelf.new name ≡ S.content shelf.old name }
-    ensures later { (name : List ℕ) → S.faults shelf.old name ≤ S.faults shelf.new name }
+    ensures same { KeepsFiles (S.content shelf.old) (S.content shelf.new) }
+    ensures later { NoCountFalls (S.faults shelf.old) (S.faults shelf.new) }
     ensures log { Fetches (file.now ∷ []) (S.log shelf.old) (S.log shelf.new) result }
     ensures ok { IfOk result (λ ss. StartsAre (S.content shelf.old file.now) p.now (map seen ss.items)) }
     ensures valid { IfOk result (λ ss. All (IsFor p.now) (map seen ss.items)) }
@@ -100,8 +101,8 @@ pub fn first_start<S: Shelf>(
     file: Option<&str>,
     p: &Program,
 ) -> Result<Start, Stop>
-    ensures same { (name : List ℕ) → S.content shelf.new name ≡ S.content shelf.old name }
-    ensures later { (name : List ℕ) → S.faults shelf.old name ≤ S.faults shelf.new name }
+    ensures same { KeepsFiles (S.content shelf.old) (S.content shelf.new) }
+    ensures later { NoCountFalls (S.faults shelf.old) (S.faults shelf.new) }
     ensures log { Fetches (named (option_map (λ f. f.now) file.entry)) (S.log shelf.old) (S.log shelf.new) result }
     ensures ok { IfOk result (λ s. FirstStart (S.content shelf.old) (option_map (λ f. f.now) file.entry) p.now (seen s)) }
     ensures valid { IfOk result (λ s. IsFor p.now (seen s)) }

@@ -1,6 +1,7 @@
 //! `blackbox`: the releases of a black box for the runs of a file.
 
-ghost use Rattle.std.specs.Prelude.{◌≡◌, ◌≤◌, ℕ, List, IfOk, IfErr, length, ◌∷◌, []};
+ghost use Rattle.std.specs.Prelude.{◌≤◌, IfOk, IfErr, length, ◌∷◌, []};
+ghost use Rattle.tim_base.specs.Kept.{KeepsFiles, NoCountFalls};
 ghost use Rattle.tim_base.specs.Faults.{Rose};
 ghost use Rattle.black_box.specs.Files.{ready_lists};
 ghost use Rattle.tool_words.specs.WordsAsked.{IsCycles, blackbox};
@@ -48,8 +49,8 @@ pub fn blackbox_text<S: Shelf>(
 ) -> Result<Vec<u8>, Stop>
     requires first { IsCycles first }
     requires budget { IsCycles budget }
-    ensures same { (name : List ℕ) → S.content shelf.new name ≡ S.content shelf.old name }
-    ensures later { (name : List ℕ) → S.faults shelf.old name ≤ S.faults shelf.new name }
+    ensures same { KeepsFiles (S.content shelf.old) (S.content shelf.new) }
+    ensures later { NoCountFalls (S.faults shelf.old) (S.faults shelf.new) }
     ensures log { Fetches (file.now ∷ []) (S.log shelf.old) (S.log shelf.new) result }
     ensures text { IfOk result (λ v. IsAnswer (λ name. Rose (S.faults shelf.old name) (S.faults shelf.new name)) (S.content shelf.old)
         (blackbox file.now first budget) Status.Done v.items) }

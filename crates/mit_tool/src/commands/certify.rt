@@ -1,6 +1,7 @@
 //! `certify`: a certificate of a program's least labelling.
 
-ghost use Rattle.std.specs.Prelude.{◌≡◌, ◌≤◌, ℕ, List, IfOk, IfErr, OnOk, IsTrue, ◌∷◌, []};
+ghost use Rattle.std.specs.Prelude.{IfOk, IfErr, OnOk, IsTrue, ◌∷◌, []};
+ghost use Rattle.tim_base.specs.Kept.{KeepsFiles, NoCountFalls};
 ghost use Rattle.tim_base.specs.Faults.{Rose};
 ghost use Rattle.tool_words.specs.WordsAsked.{certify};
 ghost use Rattle.tool_texts.specs.Ends.{IsStop, status_of};
@@ -23,8 +24,8 @@ use type_cert::laws::derived_texts_are_certificates;
 /// # Errors
 /// Stops with the first refusal, or with `Memory`.
 pub fn certify_text<S: Shelf>(alloc: Global, shelf: &mut S, file: &str) -> Result<Vec<u8>, Stop>
-    ensures same { (name : List ℕ) → S.content shelf.new name ≡ S.content shelf.old name }
-    ensures later { (name : List ℕ) → S.faults shelf.old name ≤ S.faults shelf.new name }
+    ensures same { KeepsFiles (S.content shelf.old) (S.content shelf.new) }
+    ensures later { NoCountFalls (S.faults shelf.old) (S.faults shelf.new) }
     ensures log { Fetches (file.now ∷ []) (S.log shelf.old) (S.log shelf.new) result }
     ensures text { IfOk result (λ v. IsAnswer (λ name. Rose (S.faults shelf.old name) (S.faults shelf.new name)) (S.content shelf.old)
         (certify file.now) Status.Done v.items) }

@@ -1,6 +1,7 @@
 //! `check`: whether a program is accepted.
 
-ghost use Rattle.std.specs.Prelude.{◌≡◌, ◌≤◌, ℕ, List, IfOk, IfErr, OnOk, ◌∷◌, []};
+ghost use Rattle.std.specs.Prelude.{IfOk, IfErr, OnOk, ◌∷◌, []};
+ghost use Rattle.tim_base.specs.Kept.{KeepsFiles, NoCountFalls};
 ghost use Rattle.tim_base.specs.Faults.{Rose};
 ghost use Rattle.tool_words.specs.WordsAsked.{check};
 ghost use Rattle.tool_texts.specs.Ends.{IsStop};
@@ -24,8 +25,8 @@ use tool_texts::stop::Stop;
 /// # Errors
 /// Stops with the first refusal, or with `Memory`.
 pub fn check_line<S: Shelf>(alloc: Global, shelf: &mut S, file: &str) -> Result<Line, Stop>
-    ensures same { (name : List ℕ) → S.content shelf.new name ≡ S.content shelf.old name }
-    ensures later { (name : List ℕ) → S.faults shelf.old name ≤ S.faults shelf.new name }
+    ensures same { KeepsFiles (S.content shelf.old) (S.content shelf.new) }
+    ensures later { NoCountFalls (S.faults shelf.old) (S.faults shelf.new) }
     ensures log { Fetches (file.now ∷ []) (S.log shelf.old) (S.log shelf.new) result }
     ensures line { IfOk result (IsAnswer (λ name. Rose (S.faults shelf.old name) (S.faults shelf.new name)) (S.content shelf.old)
         (check file.now) Status.Done) }

@@ -1,6 +1,7 @@
 //! `cut`: how many different sequences an observer can tell apart by a cycle, whether or not the runs have halted.
 
-ghost use Rattle.std.specs.Prelude.{◌≡◌, ◌≤◌, ℕ, List, Some, IfOk, IfErr, OnOk, IsTrue, map, ◌∷◌, []};
+ghost use Rattle.std.specs.Prelude.{◌≡◌, ℕ, List, Some, IfOk, IfErr, OnOk, IsTrue, map, ◌∷◌, []};
+ghost use Rattle.tim_base.specs.Kept.{KeepsFiles, NoCountFalls};
 ghost use Rattle.tim_base.specs.Faults.{Rose};
 ghost use Rattle.label_lattice.specs.declared.label.Label.{Label};
 ghost use Rattle.timing_types.specs.Labelled.{LabelledProgram};
@@ -120,8 +121,8 @@ pub fn cut_text<S: Shelf, W: Watch>(
     watch: &W,
 ) -> Result<Vec<u8>, Stop>
     requires { IsCycles setting.budget }
-    ensures same { (name : List ℕ) → S.content shelf.new name ≡ S.content shelf.old name }
-    ensures later { (name : List ℕ) → S.faults shelf.old name ≤ S.faults shelf.new name }
+    ensures same { KeepsFiles (S.content shelf.old) (S.content shelf.new) }
+    ensures later { NoCountFalls (S.faults shelf.old) (S.faults shelf.new) }
     ensures log { Fetches (file.now ∷ starts.now ∷ []) (S.log shelf.old) (S.log shelf.new) result }
     ensures text { IfOk result (λ v. IsAnswer (λ name. Rose (S.faults shelf.old name) (S.faults shelf.new name)) (S.content shelf.old)
         (cut file.now starts.now name.now setting.env setting.budget) Status.Done v.items) }

@@ -1,6 +1,7 @@
 //! `recheck`: whether a certificate is one of a program.
 
-ghost use Rattle.std.specs.Prelude.{◌≡◌, ◌≤◌, ℕ, List, IfOk, IfErr, ◌∷◌, []};
+ghost use Rattle.std.specs.Prelude.{IfOk, IfErr, ◌∷◌, []};
+ghost use Rattle.tim_base.specs.Kept.{KeepsFiles, NoCountFalls};
 ghost use Rattle.tim_base.specs.Faults.{Rose};
 ghost use Rattle.tool_words.specs.WordsAsked.{recheck};
 ghost use Rattle.tool_texts.specs.Ends.{IsStop};
@@ -26,8 +27,8 @@ pub fn recheck_line<S: Shelf>(
     file: &str,
     certificate: &str,
 ) -> Result<Line, Stop>
-    ensures same { (name : List ℕ) → S.content shelf.new name ≡ S.content shelf.old name }
-    ensures later { (name : List ℕ) → S.faults shelf.old name ≤ S.faults shelf.new name }
+    ensures same { KeepsFiles (S.content shelf.old) (S.content shelf.new) }
+    ensures later { NoCountFalls (S.faults shelf.old) (S.faults shelf.new) }
     ensures log { Fetches (file.now ∷ certificate.now ∷ []) (S.log shelf.old) (S.log shelf.new) result }
     ensures line { IfOk result (IsAnswer (λ name. Rose (S.faults shelf.old name) (S.faults shelf.new name)) (S.content shelf.old)
         (recheck file.now certificate.now) Status.Done) }
