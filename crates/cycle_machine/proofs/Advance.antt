@@ -27,7 +27,7 @@ length_rest (x ∷ xs) h = omega arith
 -- an instruction leads to the depths of the next place
 act_there : {E : Type 0} (v : Env E) (m : Marks) (ds : Depths) (size : ℕ) (w : Work) (a : ℕ) (ops : List ℤ) (os : List Opened) (s : Core E) →
     takes w ≤ length ops → closes w ≤ length os → length ops ≡ ds.operands a → length os ≡ ds.nesting a → Leads ds size a w
-        → IsThere ds size (act v m w a ops os s)
+    → IsThere ds size (act v m w a ops os s)
 act_there v m ds size (Push n) a ops os s t c p q l =
     record { within = l.within; operands = omega (arith, l.operands, p); nesting = omega (arith, l.nesting, q) }
 act_there v m ds size (Load x) a ops os s t c p q l =
@@ -134,7 +134,7 @@ fits_from serves c i s h e lo lp lm =
     let r = room ds (length c.instrs) c.operands c.nesting s.place i.work all fine.leads fine.few fine.shallow in
     let a : length s.operands.items ≡ ds.operands s.place = sym (length-reverse s.operands.items) ∙ there.operands in
     let b : length s.opened.items ≡ ds.nesting s.place =
-        sym (length-reverse s.opened.items) ∙ (sym (length-map (reverse s.opened.items) opened_of) ∙ there.nesting) in
+    sym (length-reverse s.opened.items) ∙ (sym (length-map (reverse s.opened.items) opened_of) ∙ there.nesting) in
     record {
       place = omega (arith, there.within, has.small);
       operands = omega (arith, lo, a, fine.enough);
@@ -182,7 +182,7 @@ later_of : {E : Type 0} (v : Env E) (i : Instr) (old new : State E) (m : Machine
 later_of v i old new m e =
     subst (λ m. old.clock < m.core.clock) e
     (act_later v (marks_of i) old.clock i.work old.place (reverse old.operands.items) (map opened_of (reverse old.opened.items))
-        (fetched v (marks_of i) old.place (core_of old)) (omega arith))
+    (fetched v (marks_of i) old.place (core_of old)) (omega arith))
 
 pub advance_is : {E : Type 0} (v : Env E) (serves : Order → E → Type 0) (c : Code) (i : Instr) (old new : State E) (limit : ℕ) (d : Outcome)
     → Stands serves c old → slice_get c.instrs old.place ≡ Some i →

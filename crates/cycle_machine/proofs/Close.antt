@@ -62,7 +62,7 @@ pub late_first : {E : Type 0} (v : Env E) (s : State E) (er ew : Label) (limit f
     limit < s.clock + (1 + fetch) → limit < (after v (end_instr er ew) s).core.clock
 late_first v s er ew limit fetch e h =
     close_later (s.place + 1) limit (reverse s.operands.items) (map opened_of (reverse s.opened.items))
-        (fetched v (marks_of (end_instr er ew)) s.place (core_of s)) (omega (arith, e, h))
+    (fetched v (marks_of (end_instr er ew)) s.place (core_of s)) (omega (arith, e, h))
 
 pub end_is : {E : Type 0} (v : Env E) (s : State E) (er ew : Label) (rest : List Open) (o : Open) (est : ℤ) (fetch now elapsed p : ℕ) (table : List ℕ) →
     fetch ≡ v.cost_of Code (4 * s.place) er.number ew.number s.env → now ≡ s.clock + (1 + fetch) → elapsed ≡ now - o.since →
@@ -84,5 +84,5 @@ end_is v s er ew rest o est fetch now elapsed p table a b d i l n t q =
     let count : slice_index table level ≡ misses_after o.estimate (clock - o.since) (counts s.misses level) =
     ap (λ z. slice_index z level) t' ∙ get_or-set_same s.misses level (misses_after o.estimate (clock - o.since) (counts s.misses level)) 0 l in
     close_last (s.place + 1) (reverse s.operands.items) s.opened.items rest o s.memory.items (v.next_of Code (4 * s.place) er.number ew.number s.env)
-        clock s.misses table p i l t'
+    clock s.misses table p i l t'
     (q ∙ (ap (λ z. prediction z (slice_index table level)) n ∙ ap (prediction o.estimate) count))

@@ -171,14 +171,25 @@ module _ {E : Type 0} (v : Env E) (shown : List Bool) (limit : ℕ) where
       running (HasEnded k c) q was w is code = absurd cc
       running (DidHalt c) q was w is code =
           let same : Halted new.state.clock ≡ end = ap (λ z. Halted z) (sym w.1) ∙ cc in
-          record { code = code; is = is; hidden = w.0.quiet.hidden; unseen = w.0.quiet.unseen; rest =
-              with_end (Halted new.state.clock) same _ _ (same_rest old.code old.code old.state old.stopped refl was
-              ∙ halts old.code.instrs old.state new.state w.0) }
+          record {
+            code = code;
+            is = is;
+            hidden = w.0.quiet.hidden;
+            unseen = w.0.quiet.unseen;
+            rest =
+                with_end (Halted new.state.clock) same _ _ (same_rest old.code old.code old.state old.stopped refl was
+                ∙ halts old.code.instrs old.state new.state w.0);
+          }
       running (DidLimit c) q was w is code =
           let same : Limit w.0.clock ≡ end = ap (λ z. Limit z) (sym w.3) ∙ cc in
-          record { code = code; is = is; hidden = w.1.hidden; unseen = w.1.unseen; rest =
-              with_end (Limit w.0.clock) same _ _ (same_rest old.code old.code old.state old.stopped refl was ∙ ends_late old.code.instrs old.state w.0 w.1 w.2)
-              }
+          record {
+            code = code;
+            is = is;
+            hidden = w.1.hidden;
+            unseen = w.1.unseen;
+            rest =
+                with_end (Limit w.0.clock) same _ _ (same_rest old.code old.code old.state old.stopped refl was ∙ ends_late old.code.instrs old.state w.0 w.1 w.2);
+          }
 
       by_state : (s : Option Turn) → old.stopped ≡ s → IfSome s IsStop → by_stopped v shown limit old turn new s → Last v shown limit old new turn end
       by_state None q i w = running turn e q w.0 w.1 w.2

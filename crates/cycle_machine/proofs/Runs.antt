@@ -80,7 +80,7 @@ module _ {E : Type 0} (v : Env E) (code : List Instr) where
     where
       go : (h : Bool) → x.halted ≡ h → (k : ℕ) → t ≤ x.core.clock + k →
           ((j : ℕ) → t ≤ (step v code x).core.clock + n → t ≤ (step v code x).core.clock + j
-              → run_for v code t n (step v code x) ≡ run_for v code t j (step v code x)) →
+          → run_for v code t n (step v code x) ≡ run_for v code t j (step v code x)) →
           run_for v code t (suc n) x ≡ run_for v code t k x
       go true e k r next = halted_stays t (suc n) x e ∙ sym (halted_stays t k x e)
       go false e zero r next = late_stays t (suc n) x (omega (arith, ticks x e))

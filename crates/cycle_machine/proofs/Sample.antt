@@ -25,25 +25,88 @@ moved : (n a : ℕ) (i j : Instr) → i ≡ j → Fine n a i → Fine n a j
 moved n a i j e h = subst (Fine n a) e h
 
 fine : (n : ℕ) (l : Label) → l.number < n → (a : ℕ) (i : Instr) → slice_get (sample l) a ≡ Some i → Fine n a i
-fine n l h zero i e = moved n 0 (made l (Push (pos 64))) i (cc) (record { enough = omega arith; opened = omega arith; few = omega arith; shallow =
-    omega arith; range = tt; er = h; ew = h; leads = record { within = omega arith; operands = omega arith; nesting = omega arith } })
-fine n l h (suc zero) i e = moved n 1 (made l (Mitb l 0)) i (cc) (record { enough = omega arith; opened = omega arith; few = omega arith; shallow =
-    omega arith; range = h; er = h; ew = h; leads = record { within = omega arith; operands = omega arith; nesting = omega arith } })
+fine n l h zero i e = moved n 0 (made l (Push (pos 64))) i (cc) (record {
+  enough = omega arith;
+  opened = omega arith;
+  few = omega arith;
+  shallow =
+      omega arith;
+  range = tt;
+  er = h;
+  ew = h;
+  leads = record { within = omega arith; operands = omega arith; nesting = omega arith };
+})
+fine n l h (suc zero) i e = moved n 1 (made l (Mitb l 0)) i (cc) (record {
+  enough = omega arith;
+  opened = omega arith;
+  few = omega arith;
+  shallow =
+      omega arith;
+  range = h;
+  er = h;
+  ew = h;
+  leads = record { within = omega arith; operands = omega arith; nesting = omega arith };
+})
 fine n l h (suc (suc zero)) i e =
-    moved n 2 (made l (Push (pos 5))) i (cc) (record { enough = omega arith; opened = omega arith; few = omega arith; shallow = omega arith; range = tt; er =
-    h; ew = h; leads = record { within = omega arith; operands = omega arith; nesting = omega arith } })
+    moved n 2 (made l (Push (pos 5))) i (cc) (record {
+      enough = omega arith;
+      opened = omega arith;
+      few = omega arith;
+      shallow = omega arith;
+      range = tt;
+      er =
+          h;
+      ew = h;
+      leads = record { within = omega arith; operands = omega arith; nesting = omega arith };
+    })
 fine n l h (suc (suc (suc zero))) i e =
-    moved n 3 (made l (Push (pos 7))) i (cc) (record { enough = omega arith; opened = omega arith; few = omega arith; shallow = omega arith; range = tt; er =
-    h; ew = h; leads = record { within = omega arith; operands = omega arith; nesting = omega arith } })
+    moved n 3 (made l (Push (pos 7))) i (cc) (record {
+      enough = omega arith;
+      opened = omega arith;
+      few = omega arith;
+      shallow = omega arith;
+      range = tt;
+      er =
+          h;
+      ew = h;
+      leads = record { within = omega arith; operands = omega arith; nesting = omega arith };
+    })
 fine n l h (suc (suc (suc (suc zero)))) i e =
-    moved n 4 (made l (StoreAt 0 4)) i (cc) (record { enough = omega arith; opened = omega arith; few = omega arith; shallow = omega arith; range =
-    (omega arith, omega arith); er = h; ew = h; leads = record { within = omega arith; operands = omega arith; nesting = omega arith } })
+    moved n 4 (made l (StoreAt 0 4)) i (cc) (record {
+      enough = omega arith;
+      opened = omega arith;
+      few = omega arith;
+      shallow = omega arith;
+      range =
+          (omega arith, omega arith);
+      er = h;
+      ew = h;
+      leads = record { within = omega arith; operands = omega arith; nesting = omega arith };
+    })
 fine n l h (suc (suc (suc (suc (suc zero))))) i e =
-    moved n 5 (made l Mite) i (cc) (record { enough = omega arith; opened = omega arith; few = omega arith; shallow = omega arith; range = tt; er = h; ew =
-    h; leads = record { within = omega arith; operands = omega arith; nesting = omega arith } })
+    moved n 5 (made l Mite) i (cc) (record {
+      enough = omega arith;
+      opened = omega arith;
+      few = omega arith;
+      shallow = omega arith;
+      range = tt;
+      er = h;
+      ew =
+          h;
+      leads = record { within = omega arith; operands = omega arith; nesting = omega arith };
+    })
 fine n l h (suc (suc (suc (suc (suc (suc zero)))))) i e =
-    moved n 6 (made l Halt) i (cc) (record { enough = omega arith; opened = omega arith; few = omega arith; shallow = omega arith; range = tt; er =
-    h; ew = h; leads = omega arith })
+    moved n 6 (made l Halt) i (cc) (record {
+      enough = omega arith;
+      opened = omega arith;
+      few = omega arith;
+      shallow = omega arith;
+      range = tt;
+      er =
+          h;
+      ew = h;
+      leads = omega arith;
+    })
 fine n l h (suc (suc (suc (suc (suc (suc (suc a))))))) i e = absurd (cc)
 
 pub sample_shaped : (order : Order) (l : Label) → l.number < order.size

@@ -1,5 +1,5 @@
 -- Quiet steps, and a turn or quiet steps after them.
-use Rattle.std.proofs.Common.{◌≡◌, ◌≤◌, ◌<◌, ◌+◌, ◌⊎◌, ℕ, List, [], ◌++◌, Bool, sym, ap, ◌∙◌, inl, inr, arith}
+use Rattle.std.proofs.Common.{◌≡◌, ◌≤◌, ◌+◌, ◌⊎◌, ℕ, List, ◌++◌, Bool, sym, ap, ◌∙◌, inl, inr, arith}
 use Rattle.std.proofs.lemmas.List.Elements.{All-append}
 use Rattle.label_code.specs.declared.code.Instr.{Instr}
 use Rattle.label_code.specs.Shaped.{Code}
@@ -9,7 +9,7 @@ use Rattle.label_code.specs.Machine.{Machine, steps}
 use Rattle.cycle_machine.specs.declared.state.State.{State}
 use Rattle.cycle_machine.specs.declared.turn.Turn.{Turn}
 use Rattle.cycle_machine.specs.declared.turn.Turn.TheVariants.{Event, Began, Ended, Halted, Limit}
-use Rattle.cycle_machine.specs.Seen.{seen, with_log}
+use Rattle.cycle_machine.specs.Seen.{seen}
 use Rattle.cycle_machine.specs.Turned.{IsHidden, Quiet, Comes, Turned}
 use Rattle.cycle_machine.proofs.Past.{past, steps_past, none_after}
 
@@ -17,12 +17,6 @@ use Rattle.cycle_machine.proofs.Past.{past, steps_past, none_after}
 same_clock : {E : Type 0} (v : Env E) (code : List Instr) (shown : List Bool) (limit : ℕ) (old mid : State E) (q : Quiet v code shown limit old mid)
     → q.count ≡ 0 → old.clock ≡ mid.clock
 same_clock v code shown limit old mid q z = ap (λ m. m.core.clock) (ap (λ k. steps v code k (seen old)) (sym z) ∙ q.ends)
-
--- where the clock has gone on it is within the limit
-pub later_is_within : {E : Type 0} (v : Env E) (code : List Instr) (shown : List Bool) (limit : ℕ) (old mid : State E)
-    → Quiet v code shown limit old mid → old.clock < mid.clock → mid.clock ≤ limit
-later_is_within v code shown limit old mid q h =
-    elim q.within [ inl z ↦ absurd (omega (arith, h, same_clock v code shown limit old mid q z)) | inr by ↦ by ]
 
 pub quiet_then : {E : Type 0} (v : Env E) (code : List Instr) (shown : List Bool) (limit : ℕ) (old mid new : State E)
     → Quiet v code shown limit old mid → Quiet v code shown limit mid new → Quiet v code shown limit old new
@@ -51,8 +45,8 @@ comes_then v code shown limit old mid new m q x =
 -- a turn after quiet steps is a turn from where they began
 pub turned_then : {E : Type 0} (v : Env E) (c : Code) (shown : List Bool) (old mid : State E) (limit : ℕ) (turn : Turn) (new : State E)
     → Quiet v c.instrs shown limit old mid → Turned v c shown mid limit turn new → Turned v c shown old limit turn new
-turned_then v c shown old mid limit (Event x n t) new q h = (comes_then v c.instrs shown limit old mid new _ q h.0, h.1)
+turned_then v c shown old mid limit (Event x n t) new q h = (comes_then v c.instrs shown limit old mid new _ q h.0, h.1, h.2)
 turned_then v c shown old mid limit (Began k t) new q h = (comes_then v c.instrs shown limit old mid new _ q h.0, h.1)
 turned_then v c shown old mid limit (Ended k t) new q h = (comes_then v c.instrs shown limit old mid new _ q h.0, h.1)
 turned_then v c shown old mid limit (Halted t) new q h = (comes_then v c.instrs shown limit old mid new _ q h.0, h.1)
-turned_then v c shown old mid limit (Limit t) new q h = (h.0, quiet_then v c.instrs shown limit old mid h.0 q h.1.0, h.1.1)
+turned_then v c shown old mid limit (Limit t) new q h = (h.0, quiet_then v c.instrs shown limit old mid h.0 q h.1, h.2, h.3)

@@ -15,7 +15,7 @@ use Rattle.cycle_machine.proofs.Quiet.{one_more}
 pub go_on : {E : Type 0} (v : Env E) (code : List Instr) (shown : List Bool) (limit : ℕ) (from : Machine E) (events : List Event)
     (old new : State E) (e : Event) →
     Reached v code limit from events old → (c : Comes v code shown limit old new (with_log (e ∷ []) (seen new)))
-        → Reached v code limit from (events ++ (c.quiet.hidden ++ e ∷ [])) new
+    → Reached v code limit from (events ++ (c.quiet.hidden ++ e ∷ [])) new
 go_on v code shown limit from events old new e r c =
     let k : ℕ = suc c.quiet.count in
     record {
@@ -71,7 +71,7 @@ limit_is {E} v code limit memory e events s r late =
     at_count : (j : ℕ) → run_for v code limit limit (start memory e) ≡ steps v code j (with_log events (seen s))
         → (run_for v code limit limit (start memory e)).core.clock ≤ limit →
         Sane (with_log events (seen s)).opened s.clock → limit < (step v code (with_log events (seen s))).core.clock
-            → run_to v code limit (start memory e) ≡ with_log events (seen s)
+        → run_to v code limit (start memory e) ≡ with_log events (seen s)
     at_count zero is by sane after = is
     at_count (suc j) is by sane after =
         let out = (steps_out v code limit j (with_log events (seen s)) sane after).0 in

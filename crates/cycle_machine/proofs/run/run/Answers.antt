@@ -1,65 +1,15 @@
-use Rattle.std.proofs.Common.{rules, ◌≡◌, ℕ, List, [], ◌∷◌, Bool, false, ℤ, refl, sym, ap, ◌∙◌, to_z, of_z, w64}
-use Rattle.std.specs.Prelude.{All}
-use Rattle.std.proofs.lemmas.List.Elements.{All-nil, All-cons}
-use Rattle.std.proofs.lemmas.Int.{to_z-of_z}
-use Rattle.env_contract.specs.Env.{Env}
-use Rattle.label_code.specs.Machine.{Wrote}
-use Rattle.cycle_machine.specs.Seen.{seen, with_log}
-use Rattle.cycle_machine.specs.Turned.{IsHidden, is_shown_in}
-use Rattle.cycle_machine.proofs.Quiet.{quiet_first, quiet_more, comes_next}
+use Rattle.cycle_machine.proofs.Stages.{quiet_then, turned_then}
 use Rattle.cycle_machine.proofs.run.run.Goals as goal
 
--- one assignment that is not shown
-one_hidden : (shown : List Bool) (x : ℕ) (n : ℤ) (t : ℕ) → is_shown_in shown x ≡ false → All (IsHidden shown) (Wrote x n t ∷ [])
-one_hidden shown x n t e = All-cons (IsHidden shown) (Wrote x n t) [] e (All-nil (IsHidden shown))
-
-pub run-init : goal.run-init
-run-init g c =
-    let v : Env g.row.E.Denot = g.E.MachineEnv.env in (c.requires, quiet_first v c.args.image.now.instrs c.args.shown.now c.args.limit c.args.state.now)
-
-pub run-preserved-in-Went : goal.run-preserved-in-Went
-run-preserved-in-Went g c =
-    let v : Env g.row.E.Denot = g.E.MachineEnv.env in (
-      c.in-Went.ensures.3,
-      quiet_more v c.args.image.now.instrs c.args.shown.now c.args.limit c.args.state.now c.run.state c.advance.new.state [] c.run.invariant.1
-          c.in-Went.ensures.0 (All-nil (IsHidden c.args.shown.now)) c.in-Went.ensures.1 c.in-Went.ensures.2,
-    )
+pub returns-in-Some-clause-turned : goal.returns-in-Some-clause-turned
+returns-in-Some-clause-turned g c =
+    turned_then g.E.MachineEnv.env c.args.image.now c.args.shown.now c.args.state.now c.run.state c.args.limit c.in-Some.turn c.run_stage.new.state
+    c.run.invariant.1 c.in-Some.ensures.0
 
 pub run-preserved : goal.run-preserved
-run-preserved g c =
-    let v : Env g.row.E.Denot = g.E.MachineEnv.env in (
-      c.in-Wrote.ensures.3,
-      quiet_more v c.args.image.now.instrs c.args.shown.now c.args.limit c.args.state.now c.run.state c.advance.new.state _
-          c.run.invariant.1 c.in-Wrote.ensures.0
-          (one_hidden c.args.shown.now c.in-Wrote.variable c.in-Wrote.value c.advance.new.state.clock (sym c.is_shown.ensures ∙ c.if-is_shown.false))
-              c.in-Wrote.ensures.1 c.in-Wrote.ensures.2,
-    )
-
-pub returns-then-is_shown-clause-turned : goal.returns-then-is_shown-clause-turned
-returns-then-is_shown-clause-turned g c =
-    let v : Env g.row.E.Denot = g.E.MachineEnv.env in
-    let n : to_z w64 (of_z w64 c.in-Wrote.value) ≡ c.in-Wrote.value = search (rules, to_z-of_z) in (
-      comes_next v c.args.image.now.instrs c.args.shown.now c.args.limit c.args.state.now c.run.state c.advance.new.state _ c.run.invariant.1
-          (c.in-Wrote.ensures.0 ∙ ap (λ z. with_log (Wrote c.in-Wrote.variable z c.advance.new.state.clock ∷ []) (seen c.advance.new.state)) (sym n))
-              c.in-Wrote.ensures.1 c.in-Wrote.ensures.2,
-      refl,
-      sym c.is_shown.ensures ∙ c.if-is_shown.true,
-    )
-
-pub returns-in-Began-clause-turned : goal.returns-in-Began-clause-turned
-returns-in-Began-clause-turned g c =
-    let v : Env g.row.E.Denot = g.E.MachineEnv.env in
-        (comes_next v c.args.image.now.instrs c.args.shown.now c.args.limit c.args.state.now c.run.state c.advance.new.state _ c.run.invariant.1
-        c.in-Began.ensures.0 c.in-Began.ensures.1 c.in-Began.ensures.2, refl)
-
-pub returns-in-Ended-clause-turned : goal.returns-in-Ended-clause-turned
-returns-in-Ended-clause-turned g c =
-    let v : Env g.row.E.Denot = g.E.MachineEnv.env in
-        (comes_next v c.args.image.now.instrs c.args.shown.now c.args.limit c.args.state.now c.run.state c.advance.new.state _ c.run.invariant.1
-        c.in-Ended.ensures.0 c.in-Ended.ensures.1 c.in-Ended.ensures.2, refl)
-
-pub returns-in-Halted-clause-turned : goal.returns-in-Halted-clause-turned
-returns-in-Halted-clause-turned g c =
-    let v : Env g.row.E.Denot = g.E.MachineEnv.env in
-        (comes_next v c.args.image.now.instrs c.args.shown.now c.args.limit c.args.state.now c.run.state c.advance.new.state _ c.run.invariant.1
-        c.in-Halted.ensures.0 c.in-Halted.ensures.1 c.in-Halted.ensures.2, refl)
+run-preserved g c = (
+  c.in_default.ensures.stands,
+  quiet_then g.E.MachineEnv.env c.args.image.now.instrs c.args.shown.now c.args.limit c.args.state.now c.run.state c.run_stage.new.state
+      c.run.invariant.1 c.in_default.ensures.quiet,
+  c.tell_stage-last.ensures,
+)

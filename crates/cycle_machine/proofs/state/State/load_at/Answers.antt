@@ -10,7 +10,7 @@ use Rattle.cycle_machine.proofs.state.State.load_at.Goals as goal
 pub returns-clause-took : goal.returns-clause-took
 returns-clause-took g c =
     let ops : reverse c.args.self.now.operands.items ≡ c.in-Some.index ∷ reverse c.pop.new.self.items =
-        ap reverse (c.in-Some.ensures).items ∙ reverse-append c.pop.new.self.items (c.in-Some.index ∷ []) in
+    ap reverse (c.in-Some.ensures).items ∙ reverse-append c.pop.new.self.items (c.in-Some.index ∷ []) in
     let index : to_z w64 (of_z w64 c.in-Some.index) ≡ c.in-Some.index = search (rules, to_z-of_z) in
     let is = load_at_is g.E.MachineEnv.env c.args.self.now c.args.first c.args.length c.element-x.result c.args.er c.args.ew
     c.in-Some.index (reverse c.pop.new.self.items) ops (c.element-x.ensures.value ∙ ap (element c.args.first c.args.length) index) in
