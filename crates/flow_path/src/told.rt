@@ -52,9 +52,10 @@ fn chain_to(alloc: Global, p: &Program, all: &Sides, last: Found) -> Result<Vec<
     chain.push(last.step)?;
     let mut now = last;
     while let Some(next) = step_to(p, all, &now.step.part.spot) {
-        chain.insert(0, next.step)?;
+        chain.push(next.step)?;
         now = next;
     }
+    chain.reverse();
     Ok(chain)
 }
 

@@ -6,27 +6,25 @@ ghost use Rattle.flow_path.specs.Steps.{written};
 ghost use Rattle.flow_path.specs.declared.step.Spot.TheVariants.{Variable as AVariable};
 ghost use Rattle.flow_print.specs.Lines.{label_text, place_text, line, reads_line, time_line, label_line, reader_line, part_lines, variable_text, variable_line, command_line, level_line, side_line, step_lines, first_line, place_if};
 
-use crate::places::{declared_place, kind_at, next_place};
+use crate::places::Spelling;
 use crate::words::{bound, noun, put_label, put_line, put_place, put_variable, reader, spot_text};
 use flow_path::step::{How, Spot, Step};
 use flow_path::written::written_at;
 use label_lattice::label::Label;
 use mit_syntax::program::Program;
-use mit_syntax::token::Token;
 use std::alloc::{AllocError, Global};
 use text_base::pos::Pos;
 
 fn put_reads(
     out: &mut Vec<u8>,
-    text: &[u8],
-    tokens: &[Token],
+    spelling: &Spelling,
     q: Pos,
     words: &[u8],
     name: &[u8],
 ) -> Result<(), AllocError>
-    ensures { OnOk result (out.new.items ≡ out.old.items ++ reads_line text.now tokens.now q words.now name.now) }
+    ensures { OnOk result (out.new.items ≡ out.old.items ++ reads_line spelling.now.text.now spelling.now.tokens.now q words.now name.now) }
 {
-    put_place(out, next_place(text, tokens, q, name))?;
+    put_place(out, spelling.next_place(q, name))?;
     put_line(out, words, name)?;
     Ok(())
 }
@@ -80,39 +78,33 @@ fn put_about_label(
     Ok(())
 }
 
-fn put_time(out: &mut Vec<u8>, tokens: &[Token], q: Pos, first: &[u8]) -> Result<(), AllocError>
-    ensures { OnOk result (out.new.items ≡ out.old.items ++ time_line tokens.now q first.now) }
+fn put_time(out: &mut Vec<u8>, spelling: &Spelling, q: Pos, first: &[u8]) -> Result<(), AllocError>
+    ensures { OnOk result (out.new.items ≡ out.old.items ++ time_line spelling.now.tokens.now q first.now) }
 {
-    let command = noun(kind_at(tokens, q));
+    let command = noun(spelling.kind_at(q));
     put_about_at(out, q, b"so how long this ", command, b" takes is ", first)?;
     Ok(())
 }
 
 fn put_read_label(
     out: &mut Vec<u8>,
-    tokens: &[Token],
+    spelling: &Spelling,
     q: Pos,
     name: &[u8],
 ) -> Result<(), AllocError>
-    ensures { OnOk result (out.new.items ≡ out.old.items ++ label_line tokens.now q name.now) }
+    ensures { OnOk result (out.new.items ≡ out.old.items ++ label_line spelling.now.tokens.now q name.now) }
 {
-    let command = noun(kind_at(tokens, q));
+    let command = noun(spelling.kind_at(q));
     put_place(out, q)?;
     put_about(out, b"this ", command, b" has the read label ", name)?;
     Ok(())
 }
 
-fn put_reader(
-    out: &mut Vec<u8>,
-    text: &[u8],
-    tokens: &[Token],
-    q: Pos,
-    name: &[u8],
-) -> Result<(), AllocError>
-    ensures { OnOk result (out.new.items ≡ out.old.items ++ reader_line text.now tokens.now q name.now) }
+fn put_reader(out: &mut Vec<u8>, spelling: &Spelling, q: Pos, name: &[u8]) -> Result<(), AllocError>
+    ensures { OnOk result (out.new.items ≡ out.old.items ++ reader_line spelling.now.text.now spelling.now.tokens.now q name.now) }
 {
-    let reads = reader(kind_at(tokens, q));
-    put_place(out, next_place(text, tokens, q, name))?;
+    let reads = reader(spelling.kind_at(q));
+    put_place(out, spelling.next_place(q, name))?;
     put_about(out, b"this ", reads, b" reads ", name)?;
     Ok(())
 }
@@ -145,28 +137,27 @@ fn put_two_at(
 /// Puts how a part comes into the left side.
 fn put_part(
     out: &mut Vec<u8>,
-    text: &[u8],
-    tokens: &[Token],
+    spelling: &Spelling,
     how: How,
     q: Pos,
     name: &[u8],
     first: &[u8],
 ) -> Result<(), AllocError>
-    ensures { OnOk result (out.new.items ≡ out.old.items ++ part_lines text.now tokens.now how q name.now first.now) }
+    ensures { OnOk result (out.new.items ≡ out.old.items ++ part_lines spelling.now.text.now spelling.now.tokens.now how q name.now first.now) }
 {
     match how {
-        How::Reads => put_reads(out, text, tokens, q, b"this value reads ", name),
-        How::ReadsInIndex => put_reads(out, text, tokens, q, b"this index reads ", name),
-        How::HasReadLabel => put_read_label(out, tokens, q, name),
-        How::UnderGuard => put_reads(out, text, tokens, q, b"this guard reads ", name),
+        How::Reads => put_reads(out, spelling, q, b"this value reads ", name),
+        How::ReadsInIndex => put_reads(out, spelling, q, b"this index reads ", name),
+        How::HasReadLabel => put_read_label(out, spelling, q, name),
+        How::UnderGuard => put_reads(out, spelling, q, b"this guard reads ", name),
         How::AfterReading => {
-            put_reader(out, text, tokens, q, name)?;
-            put_time(out, tokens, q, first)?;
+            put_reader(out, spelling, q, name)?;
+            put_time(out, spelling, q, first)?;
             Ok(())
         }
         How::AfterReadLabel => {
-            put_read_label(out, tokens, q, name)?;
-            put_time(out, tokens, q, first)?;
+            put_read_label(out, spelling, q, name)?;
+            put_time(out, spelling, q, first)?;
             Ok(())
         }
         How::AfterAssigning => {
@@ -252,15 +243,15 @@ fn put_level_side(
 
 fn put_command_side(
     out: &mut Vec<u8>,
-    tokens: &[Token],
+    spelling: &Spelling,
     p: &Program,
     q: Pos,
     label: Label,
     bound: &[u8],
 ) -> Result<(), AllocError>
-    ensures { OnOk result (out.new.items ≡ out.old.items ++ command_line tokens.now q (label_text p.now.order label.number) bound.now) }
+    ensures { OnOk result (out.new.items ≡ out.old.items ++ command_line spelling.now.tokens.now q (label_text p.now.order label.number) bound.now) }
 {
-    let command = noun(kind_at(tokens, q));
+    let command = noun(spelling.kind_at(q));
     out.extend_from_slice(b"this ")?;
     out.extend_from_slice(command)?;
     put_about_label(out, p, b", whose write label is ", label, b", runs ", bound)?;
@@ -270,14 +261,14 @@ fn put_command_side(
 /// Puts the right side.
 fn put_side(
     out: &mut Vec<u8>,
-    tokens: &[Token],
+    spelling: &Spelling,
     p: &Program,
     q: Pos,
     side: &Spot,
     bound: &[u8],
     first: &[u8],
 ) -> Result<(), AllocError>
-    ensures { OnOk result (out.new.items ≡ out.old.items ++ side_line tokens.now p.now q side.now bound.now first.now) }
+    ensures { OnOk result (out.new.items ≡ out.old.items ++ side_line spelling.now.tokens.now p.now q side.now bound.now first.now) }
 {
     match side {
         Spot::Variable(y) => {
@@ -285,7 +276,7 @@ fn put_side(
             Ok(())
         }
         Spot::Command(label) => {
-            put_command_side(out, tokens, p, q, *label, bound)?;
+            put_command_side(out, spelling, p, q, *label, bound)?;
             Ok(())
         }
         Spot::Level(_, level) => {
@@ -299,28 +290,19 @@ fn put_side(
 pub(crate) fn put_step(
     alloc: Global,
     out: &mut Vec<u8>,
-    text: &[u8],
-    tokens: &[Token],
+    spelling: &Spelling,
     p: &Program,
     step: &Step,
     first: &[u8],
 ) -> Result<(), AllocError>
-    ensures { OnOk result (out.new.items ≡ out.old.items ++ step_lines text.now tokens.now p.now step.now first.now) }
+    ensures { OnOk result (out.new.items ≡ out.old.items ++ step_lines spelling.now.text.now spelling.now.tokens.now p.now step.now first.now) }
 {
     let name = spot_text(alloc, p, &step.part.spot)?;
-    put_part(
-        out,
-        text,
-        tokens,
-        step.part.how,
-        step.part.pos,
-        &name,
-        first,
-    )?;
+    put_part(out, spelling, step.part.how, step.part.pos, &name, first)?;
     put_place(out, step.pos)?;
     put_side(
         out,
-        tokens,
+        spelling,
         p,
         step.pos,
         &step.side,
@@ -345,17 +327,16 @@ fn put_place_if(out: &mut Vec<u8>, place: Option<Pos>) -> Result<(), AllocError>
 /// Puts where a chain begins.
 pub(crate) fn put_first(
     out: &mut Vec<u8>,
-    text: &[u8],
-    tokens: &[Token],
+    spelling: &Spelling,
     spot: &Spot,
     name: &[u8],
     first: &[u8],
 ) -> Result<(), AllocError>
-    ensures { OnOk result (out.new.items ≡ out.old.items ++ first_line text.now tokens.now spot.now name.now first.now) }
+    ensures { OnOk result (out.new.items ≡ out.old.items ++ first_line spelling.now.text.now spelling.now.tokens.now spot.now name.now first.now) }
 {
     match spot {
         Spot::Variable(_) => {
-            put_place_if(out, declared_place(text, tokens, name))?;
+            put_place_if(out, spelling.declared_place(name))?;
             out.extend_from_slice(name)?;
             put_line(out, b" is declared ", first)?;
             Ok(())

@@ -1,6 +1,8 @@
 //! Where words stand in a text.
 
-ghost use Rattle.std.specs.Prelude.{◌≡◌, ◌&&◌};
+ghost use Rattle.std.specs.Prelude.{◌≡◌, ◌≤◌, ◌&&◌, ℕ, List, true, length, IsTrue};
+ghost use Rattle.std.specs.List.{AllAdjacentBelow, AllWithin};
+ghost use Rattle.mit_syntax.specs.declared.token.Token.{Token as AToken};
 ghost use Rattle.flow_print.specs.Places.{is_after, is_same, spelled, is_name_kind, is_name, next_place, is_var, declared_place, kind_at};
 
 use mit_syntax::token::{Keyword, Token, TokenKind};
@@ -67,8 +69,8 @@ fn is_declared(text: &[u8], after: bool, t: &Token, name: &[u8]) -> bool
     after && is_name(text, t, name)
 }
 
-/// The first place of a name after a position, or else that position.
-pub(crate) fn next_place(text: &[u8], tokens: &[Token], q: Pos, name: &[u8]) -> Pos
+/// The first place of a name after a position among tokens, or else that position.
+fn next_among(text: &[u8], tokens: &[Token], q: Pos, name: &[u8]) -> Pos
     ensures { result ≡ next_place text.now tokens.now q name.now }
 {
     for t in tokens {
@@ -79,22 +81,8 @@ pub(crate) fn next_place(text: &[u8], tokens: &[Token], q: Pos, name: &[u8]) -> 
     q
 }
 
-/// Where a name is declared: its first place after `var`.
-pub(crate) fn declared_place(text: &[u8], tokens: &[Token], name: &[u8]) -> Option<Pos>
-    ensures { result ≡ declared_place text.now tokens.now name.now }
-{
-    let mut after = false;
-    for t in tokens {
-        if is_declared(text, after, t, name) {
-            return Some(t.pos);
-        }
-        after = is_var(t.kind);
-    }
-    None
-}
-
-/// The kind of the token at a position.
-pub(crate) fn kind_at(tokens: &[Token], q: Pos) -> TokenKind
+/// The kind of the token at a position among tokens.
+fn kind_among(tokens: &[Token], q: Pos) -> TokenKind
     ensures { result ≡ kind_at tokens.now q }
 {
     for t in tokens {
@@ -103,4 +91,74 @@ pub(crate) fn kind_at(tokens: &[Token], q: Pos) -> TokenKind
         }
     }
     TokenKind::End
+}
+
+/// A text and its tokens, among which places are found. Where the positions of the tokens rise, as those of a text do,
+/// a search begins near its place.
+#[derive(Drop)]
+pub(crate) struct Spelling<'a> {
+    pub(crate) text: &'a [u8],
+    pub(crate) tokens: &'a [Token],
+    rise: bool,
+    ghost risen: { IsTrue rise → AllAdjacentBelow (λ (a b : AToken). is_after b.pos a.pos ≡ true) tokens.now (length tokens.now) },
+}
+
+impl<'a> Spelling<'a> {
+    /// Goes once through the tokens, to see whether their positions rise.
+    pub(crate) fn new(text: &'a [u8], tokens: &'a [Token]) -> Spelling<'a>
+        ensures text { result.text.now ≡ text.now }
+        ensures tokens { result.tokens.now ≡ tokens.now }
+    {
+        let rise = tokens.is_sorted_by(|a, b| is_after(b.pos, a.pos));
+        Spelling { text, tokens, rise }
+    }
+
+    /// How many tokens a search for a position passes over. Each of them stands before it.
+    fn passed(&self, q: Pos) -> usize
+        ensures within { result ≤ length self.now.tokens.now }
+        ensures before { AllWithin (λ (t : AToken). is_after q t.pos ≡ true) self.now.tokens.now 0 result }
+    {
+        if self.rise {
+            self.tokens.partition_point(|t| is_after(q, t.pos))
+        } else {
+            0
+        }
+    }
+
+    /// The tokens among which a search for a position goes on.
+    fn near(&self, q: Pos) -> &[Token]
+        ensures next { (text name : List ℕ) → next_place text result.now q name ≡ next_place text self.now.tokens.now q name }
+        ensures kind { kind_at result.now q ≡ kind_at self.now.tokens.now q }
+    {
+        let passed = self.passed(q);
+        &self.tokens[passed..]
+    }
+
+    /// The first place of a name after a position, or else that position.
+    pub(crate) fn next_place(&self, q: Pos, name: &[u8]) -> Pos
+        ensures { result ≡ next_place self.now.text.now self.now.tokens.now q name.now }
+    {
+        next_among(self.text, self.near(q), q, name)
+    }
+
+    /// The kind of the token at a position.
+    pub(crate) fn kind_at(&self, q: Pos) -> TokenKind
+        ensures { result ≡ kind_at self.now.tokens.now q }
+    {
+        kind_among(self.near(q), q)
+    }
+
+    /// Where a name is declared: its first place after `var`.
+    pub(crate) fn declared_place(&self, name: &[u8]) -> Option<Pos>
+        ensures { result ≡ declared_place self.now.text.now self.now.tokens.now name.now }
+    {
+        let mut after = false;
+        for t in self.tokens {
+            if is_declared(self.text, after, t, name) {
+                return Some(t.pos);
+            }
+            after = is_var(t.kind);
+        }
+        None
+    }
 }

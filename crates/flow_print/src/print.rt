@@ -4,6 +4,7 @@ ghost use Rattle.std.specs.Prelude.{◌≡◌, ◌++◌, OnOk, IfOk};
 ghost use Rattle.flow_print.specs.Lines.{steps_lines, chain_text, origins_text};
 
 use crate::lines::{put_first, put_step};
+use crate::places::Spelling;
 use crate::words::{spot_text, written_text};
 use flow_path::origins::Origin;
 use flow_path::step::Step;
@@ -15,16 +16,15 @@ use text_base::pos::Memory;
 fn put_steps(
     alloc: Global,
     out: &mut Vec<u8>,
-    text: &[u8],
-    tokens: &[Token],
+    spelling: &Spelling,
     p: &Program,
     chain: &[Step],
     first: &[u8],
 ) -> Result<(), AllocError>
-    ensures { OnOk result (out.new.items ≡ out.old.items ++ steps_lines text.now tokens.now p.now chain.now first.now) }
+    ensures { OnOk result (out.new.items ≡ out.old.items ++ steps_lines spelling.now.text.now spelling.now.tokens.now p.now chain.now first.now) }
 {
     for step in chain {
-        put_step(alloc, out, text, tokens, p, step, first)?;
+        put_step(alloc, out, spelling, p, step, first)?;
     }
     Ok(())
 }
@@ -32,20 +32,19 @@ fn put_steps(
 fn put_chain(
     alloc: Global,
     out: &mut Vec<u8>,
-    text: &[u8],
-    tokens: &[Token],
+    spelling: &Spelling,
     p: &Program,
     chain: &[Step],
 ) -> Result<(), AllocError>
-    ensures { OnOk result (out.new.items ≡ out.old.items ++ chain_text text.now tokens.now p.now chain.now) }
+    ensures { OnOk result (out.new.items ≡ out.old.items ++ chain_text spelling.now.text.now spelling.now.tokens.now p.now chain.now) }
 {
     match chain {
         [] => Ok(()),
         [begin, ..] => {
             let name = spot_text(alloc, p, &begin.part.spot)?;
             let first = written_text(alloc, p, &begin.part.spot)?;
-            put_first(out, text, tokens, &begin.part.spot, &name, &first)?;
-            put_steps(alloc, out, text, tokens, p, chain, &first)?;
+            put_first(out, spelling, &begin.part.spot, &name, &first)?;
+            put_steps(alloc, out, spelling, p, chain, &first)?;
             Ok(())
         }
     }
@@ -54,15 +53,14 @@ fn put_chain(
 fn put_origins(
     alloc: Global,
     out: &mut Vec<u8>,
-    text: &[u8],
-    tokens: &[Token],
+    spelling: &Spelling,
     p: &Program,
     origins: &[Origin],
 ) -> Result<(), AllocError>
-    ensures { OnOk result (out.new.items ≡ out.old.items ++ origins_text text.now tokens.now p.now origins.now) }
+    ensures { OnOk result (out.new.items ≡ out.old.items ++ origins_text spelling.now.text.now spelling.now.tokens.now p.now origins.now) }
 {
     for origin in origins {
-        put_chain(alloc, out, text, tokens, p, &origin.chain)?;
+        put_chain(alloc, out, spelling, p, &origin.chain)?;
     }
     Ok(())
 }
@@ -82,7 +80,7 @@ pub fn chain_text(
     ensures { IfOk result (λ v. v.items ≡ chain_text text.now tokens.now p.now chain.now) }
 {
     let mut out = Vec::new(alloc);
-    put_chain(alloc, &mut out, text, tokens, p, chain)?;
+    put_chain(alloc, &mut out, &Spelling::new(text, tokens), p, chain)?;
     Ok(out)
 }
 
@@ -100,6 +98,6 @@ pub fn origins_text(
     ensures { IfOk result (λ v. v.items ≡ origins_text text.now tokens.now p.now origins.now) }
 {
     let mut out = Vec::new(alloc);
-    put_origins(alloc, &mut out, text, tokens, p, origins)?;
+    put_origins(alloc, &mut out, &Spelling::new(text, tokens), p, origins)?;
     Ok(out)
 }

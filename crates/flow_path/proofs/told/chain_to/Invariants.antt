@@ -1,4 +1,4 @@
-use Rattle.std.proofs.Common.{◌≡◌, List, ◌∷◌}
+use Rattle.std.proofs.Common.{◌≡◌, List, ◌∷◌, reverse}
 use Rattle.flow_path.specs.declared.step.Step.{Step}
 use Rattle.flow_path.specs.Distances.{AreSettled, IsPicked, PartCosts}
 use Rattle.flow_path.specs.declared.target.Target.{Target}
@@ -6,8 +6,8 @@ use Rattle.flow_path.proofs.told.chain_to.Given as goal
 
 abbrev pub invariant-loop-next : goal.invariant-loop-next
 invariant-loop-next l = record {
-  begins : (rest : List Step) × (l.chain.items ≡ l.now.step ∷ rest);
-  picked : IsPicked l.p l.all l.chain.items;
+  begins : (rest : List Step) × (reverse l.chain.items ≡ l.now.step ∷ rest);
+  picked : IsPicked l.p l.all (reverse l.chain.items);
   costs : (t : Target) (A : AreSettled l.p t l.all) → PartCosts l.p t A.costs l.now.step.part l.now.cost;
 }
 

@@ -8,4 +8,4 @@ pub returns : goal.returns
 returns c =
     c.in_ok-put_about_at.ensures
     ∙ ap (λ z. c.args.out.now.items ++ (place_text c.args.q ++ (codes "so how long this " ++ (z ++ line (codes " takes is ") c.args.first.now))))
-        (c.noun-command.ensures ∙ ap noun c.kind_at.ensures)
+    (c.noun-command.ensures ∙ ap noun c.kind_at.ensures)

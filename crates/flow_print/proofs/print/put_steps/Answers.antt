@@ -3,6 +3,6 @@ use Rattle.flow_print.proofs.print.put_steps.Goals as goal
 
 pub loop-step-preserved : goal.loop-step-preserved
 loop-step-preserved c =
-    steps_on c.args.text.now c.args.tokens.now c.args.p.now c.args.first.now c.args.chain.now c.loop-step.step-index _ c.loop-step.out.items
-        c.put_step.new.out.items _ c.loop-step-test.true
-    c.in_ok-put_step.ensures c.loop-step.invariant
+    let s = c.args.spelling.now in
+    steps_on s.text.now s.tokens.now c.args.p.now c.args.first.now c.args.chain.now c.loop-step.step-index _ c.loop-step.out.items
+    c.put_step.new.out.items _ c.loop-step-test.true c.in_ok-put_step.ensures c.loop-step.invariant

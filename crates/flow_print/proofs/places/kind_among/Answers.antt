@@ -1,6 +1,6 @@
 use Rattle.std.proofs.Common.{◌∙◌, []}
 use Rattle.flow_print.proofs.Walked.{kind_on}
-use Rattle.flow_print.proofs.places.kind_at.Goals as goal
+use Rattle.flow_print.proofs.places.kind_among.Goals as goal
 
 pub loop-t-preserved : goal.loop-t-preserved
 loop-t-preserved c = c.loop-t.invariant ∙ kind_on [] c.args.tokens.now [] c.loop-t.t-index _ c.loop-t-test.true c.is_same.result
