@@ -1,16 +1,17 @@
 -- A list of slots is told by one number below (t + 1) ^ digits t: how many events each epoch releases.
 use Rattle.std.proofs.Common.{◌≡◌, ℕ, zero, suc, ◌+◌, ◌-◌, ◌*◌, ◌^◌, ◌<◌, ◌≤◌, List, [], ◌∷◌, drop, map, refl, sym, ap, ◌∙◌, subst, ⊎_elim, arith}
 use Rattle.std.specs.Prelude.{Bool, true, false, cond}
-use Rattle.std.proofs.lemmas.Bool.{cases_lt, cases_order, cases_Bool}
+use Rattle.std.proofs.lemmas.Bool.{cases_lt, cases_Bool}
 use Rattle.std.proofs.Math.Nat.{pow-zero, pow-succ', mul-le-mul_left, mul-le-mul_right, mul_assoc, mul_comm}
 use Rattle.leak_bound.specs.Records.{Tests, distinct_count}
 use Rattle.leak_bound.specs.Digits.{digits}
 use Rattle.leak_bound.proofs.Digits.{digits_is}
+use Rattle.leak_bound.proofs.Counting.{digits_same}
+use Rattle.leak_bound.proofs.Few.{count_few}
 use Rattle.black_box.specs.Schedule.{is_due}
 use Rattle.black_box.specs.Computed.{Slot, slots_from, slots, released, releases}
 use Rattle.black_box.specs.Bound.{box_bound}
 use Rattle.black_box.proofs.UnderWay.{slot_then, no_slots, slot_due, slot_free}
-use Rattle.black_box.proofs.Few.{count_few}
 
 -- the counts of the epochs, as digits in base b, that of the first epoch lowest
 abbrev pub number : ℕ → List Slot → ℕ
@@ -73,15 +74,6 @@ number_below t (suc n) s len rs e j apart early jt js far =
     (λ d p. number_below t n (s + 2 * len) (2 * len) rs d 0 (omega arith) (omega arith) (omega arith) (omega arith) p)
 
 -- ---- it tells the slots
-
-digits_same : (b x c x' c' : ℕ) → x < b → x' < b → x + b * c ≡ x' + b * c' → (x ≡ x') × (c ≡ c')
-digits_same b x c x' c' h h' e =
-    ⊎_elim
-    (λ (eq : c ≡ c'). let m = ap (λ n. b * n) eq in (omega (arith, m), eq))
-    (⊎_elim
-    (λ (lt : c < c'). let up : c + 1 ≤ c' = omega arith in absurd (omega (arith, mul-le-mul_left b up)))
-    (λ (lt : c' < c). let up : c' + 1 ≤ c = omega arith in absurd (omega (arith, mul-le-mul_left b up))))
-    (cases_order c c')
 
 -- the lowest digit counts slots from s to t
 abbrev Leads : ℕ → ℕ → List Slot → Type 0

@@ -7,17 +7,10 @@ use Rattle.std.proofs.lemmas.List.{drop-drop}
 use Rattle.std.proofs.lemmas.List.Folds.{list_any-append}
 use Rattle.std.proofs.lemmas.List.Sums.{sum_by-append, sum_by-cons}
 use Rattle.leak_bound.specs.Records.{Each}
+use Rattle.leak_bound.proofs.Few.{Each-map, Each-both, Each-append}
 use Rattle.black_box.specs.Schedule.{is_due, Place, has, slot_after, nth_slot, Rises, IsSchedule, IsInOrder}
 use Rattle.black_box.specs.Computed.{slots_from, released, releases}
 use Rattle.black_box.proofs.UnderWay.{no_slots, slot_due, slot_free}
-
-pub Each-of : {X : Type 0} (P Q : X → Type 0) → ((x : X) → P x → Q x) → (xs : List X) → Each P xs → Each Q xs
-Each-of P Q f [] h = tt
-Each-of P Q f (x ∷ xs) h = (f x h.0, Each-of P Q f xs h.1)
-
-pub Each-append : {X : Type 0} (P : X → Type 0) (xs ys : List X) → Each P xs → Each P ys → Each P (xs ++ ys)
-Each-append P [] ys h k = k
-Each-append P (x ∷ xs) ys h k = (h.0, Each-append P xs ys h.1 k)
 
 -- ---- what is released from a slot on
 
@@ -25,7 +18,7 @@ abbrev pub IsFrom : ℕ → ℕ → ℕ → Type 0
 IsFrom s t r = (s ≤ r) × (r ≤ t)
 
 from_later : (t s s' : ℕ) → s ≤ s' → (xs : List ℕ) → Each (IsFrom s' t) xs → Each (IsFrom s t) xs
-from_later t s s' h xs e = Each-of (IsFrom s' t) (IsFrom s t) (λ r f. (let a = f.0 in omega arith, f.1)) xs e
+from_later t s s' h xs e = Each-map (IsFrom s' t) (IsFrom s t) (λ r f. (let a = f.0 in omega arith, f.1)) xs e
 
 pub all_from : (t n s len : ℕ) (rs : List ℕ) → Each (IsFrom s t) (released (slots_from t n s len rs))
 all_from t zero s len rs = tt
@@ -58,7 +51,7 @@ all_rise t (suc n) s len rs apart =
         (λ (late : t < s). subst (λ z. Rises (released z)) (sym (no_slots t (suc n) s len rs late)) tt)
         (λ (here : s ≤ t).
         ⊎_elim
-        (λ (d : is_due s rs ≡ true). subst (λ z. Rises (released z)) (sym (slot_due t n s len rs here d)) (Each-of (IsFrom (s + len) t) (λ y. s < y)
+        (λ (d : is_due s rs ≡ true). subst (λ z. Rises (released z)) (sym (slot_due t n s len rs here d)) (Each-map (IsFrom (s + len) t) (λ y. s < y)
             (λ y f. let l = f.0 in omega arith) (released (slots_from t n (s + len) len (drop 1 rs))) (all_from t n (s + len) len (drop 1 rs)), a))
         (λ (d : is_due s rs ≡ false). subst (λ z. Rises (released z)) (sym (slot_free t n s len rs here d)) b)
         (cases_Bool (is_due s rs)))
@@ -124,7 +117,7 @@ module _ (t : ℕ) (ready rs : List ℕ) where
   counted s len fuel before w =
       ap (count_by (λ r. nat_lt r s)) w.parts
       ∙ count_before s before (released (slots_from t fuel s len (drop (length before) ready))) w.lower
-      (Each-of (IsFrom s t) (λ r. s ≤ r) (λ r f. f.0) (released (slots_from t fuel s len (drop (length before) ready)))
+      (Each-map (IsFrom s t) (λ r. s ≤ r) (λ r f. f.0) (released (slots_from t fuel s len (drop (length before) ready)))
           (all_from t fuel s len (drop (length before) ready)))
 
   -- an event is released at the slot exactly where the next one is due
@@ -144,7 +137,7 @@ module _ (t : ℕ) (ready rs : List ℕ) where
       ap (λ z. has z s) (w.parts ∙ ap (λ z. before ++ released z) (slot_free t n s len (drop (length before) ready) here d))
       ∙ list_any-append (λ r. r == s) before later
       ∙ or_from (has before s) (has later s) (none_below s before w.lower)
-      (none_above s later (Each-of (IsFrom (s + 2 * len) t) (λ r. s < r) (λ r f. let l = f.0 in
+      (none_above s later (Each-map (IsFrom (s + 2 * len) t) (λ r. s < r) (λ r f. let l = f.0 in
           omega arith) later (all_from t n (s + 2 * len) (2 * len) (drop (length before) ready))))
 
   exact_at : (s len fuel : ℕ) (before : List ℕ) → Reached t ready rs s len fuel before → s ≤ t
@@ -170,7 +163,7 @@ module _ (t : ℕ) (ready rs : List ℕ) where
             ∙ ap (λ z. before ++ s ∷ released (slots_from t n (s + len) len z)) (drop-drop 1 (length before) ready
                 ∙ ap (λ k. drop k ready) (sym (length-append before (s ∷ []))))
             ∙ sym (append_assoc before (s ∷ []) (released (slots_from t n (s + len) len (drop (length (before ++ s ∷ [])) ready))));
-        lower = Each-append (λ r. r < s + len) before (s ∷ []) (Each-of (λ r. r < s) (λ r. r < s + len) (λ r l. omega arith) before w.lower) (omega arith, tt);
+        lower = Each-append (λ r. r < s + len) before (s ∷ []) (Each-map (λ r. r < s) (λ r. r < s + len) (λ r l. omega arith) before w.lower) (omega arith, tt);
       }
 
   pub next_free : (s len n : ℕ) (before : List ℕ) → Reached t ready rs s len (suc n) before → s ≤ t → is_due s (drop (length before) ready) ≡ false
@@ -181,7 +174,7 @@ module _ (t : ℕ) (ready rs : List ℕ) where
         enough = let e = w.enough in omega arith;
         apart = omega arith;
         parts = w.parts ∙ ap (λ z. before ++ released z) (slot_free t n s len (drop (length before) ready) here d);
-        lower = Each-of (λ r. r < s) (λ r. r < s + 2 * len) (λ r l. omega arith) before w.lower;
+        lower = Each-map (λ r. r < s) (λ r. r < s + 2 * len) (λ r l. omega arith) before w.lower;
       }
 
   -- some fuel and some releases before the slot
@@ -242,17 +235,13 @@ module _ (t : ℕ) (ready rs : List ℕ) where
       (cases_Bool (is_due s (drop (length before) ready))))
       (cases_lt t s)
 
-Each-both : {X : Type 0} (P Q : X → Type 0) (xs : List X) → Each P xs → Each Q xs → Each (λ x. P x × Q x) xs
-Each-both P Q [] h k = tt
-Each-both P Q (x ∷ xs) h k = ((h.0, k.0), Each-both P Q xs h.1 k.1)
-
 pub is_schedule : (q t : ℕ) → 0 < q → (ready : List ℕ) → IsSchedule q t ready (releases q t ready)
 is_schedule q t pq ready =
     record {
       rises = all_rise t t q q ready pq;
       at_slots =
           Each-both (λ s. s ≤ t) (λ s. (k : ℕ) × (s ≡ (nth_slot q (releases q t ready) k).cycle)) (releases q t ready)
-          (Each-of (IsFrom q t) (λ s. s ≤ t) (λ r f. f.1) (releases q t ready) (all_from t t q q ready))
+          (Each-map (IsFrom q t) (λ s. s ≤ t) (λ r f. f.1) (releases q t ready) (all_from t t q q ready))
           (found t ready (releases q t ready) q 0 q q t [] refl start);
       exactly = λ k here.
           let r = reached t ready (releases q t ready) q start k here in

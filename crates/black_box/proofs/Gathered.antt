@@ -8,6 +8,7 @@ use Rattle.std.proofs.lemmas.Bool.{not_from_true, not_from_false}
 use Rattle.std.proofs.lemmas.List.{map-append, take_more, take_all}
 use Rattle.indexmap.specs.IndexSet.{insert_key}
 use Rattle.leak_bound.specs.Records.{distinct, distinct_count, Tests, Each}
+use Rattle.leak_bound.proofs.Few.{Each-map}
 use Rattle.black_box.specs.Audits.{same_cycles, place_in, classes_of}
 use Rattle.std.specs.Cmp.Lexicographic.{bytes_decides}
 
@@ -34,16 +35,12 @@ module _ {X : Type 0} (same : X → X → Bool) (tests : Tests same) where
       (λ (n : same z y ≡ false). or_right (same z y) (list_any (same z) (filter (λ w. not (same y w)) ds)) (kept_after z y ds n h))
       (cases_Bool (same z y))
 
-  Each-of : (P Q : X → Type 0) → ((x : X) → P x → Q x) → (xs : List X) → Each P xs → Each Q xs
-  Each-of P Q f [] h = tt
-  Each-of P Q f (x ∷ xs) h = (f x h.0, Each-of P Q f xs h.1)
-
   -- each member is among the different ones
   all_found : (xs : List X) → Each (λ z. list_any (same z) (distinct same xs) ≡ true) xs
   all_found [] = tt
   all_found (x ∷ xs) = (
     or_left (same x x) (list_any (same x) (filter (λ w. not (same x w)) (distinct same xs))) (tests.same_from x x refl),
-    Each-of (λ z. list_any (same z) (distinct same xs) ≡ true) (λ z. list_any (same z) (distinct same (x ∷ xs)) ≡ true)
+    Each-map (λ z. list_any (same z) (distinct same xs) ≡ true) (λ z. list_any (same z) (distinct same (x ∷ xs)) ≡ true)
         (λ z h. kept z x (distinct same xs) h) xs (all_found xs),
   )
 
@@ -172,7 +169,7 @@ gather_more all i keys places x place g h at p =
 
     stay : Each (λ z. place_in keys z ≡ place_in (insert_key same_cycles keys x) z) (take i all)
     stay =
-        Each-of same_cycles cycles_test
+        Each-map
         (λ z. list_any (same_cycles z) (distinct same_cycles (take i all)) ≡ true) (λ z. place_in keys z ≡ place_in (insert_key same_cycles keys x) z)
         (λ z f. ap (λ n. n + 1) (sym (position-insert same_cycles cycles_test keys x z
             (or_left (list_any (same_cycles z) keys) (same_cycles z x) (ap (list_any (same_cycles z)) g.keys_are ∙ f)))))

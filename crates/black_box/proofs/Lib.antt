@@ -1,5 +1,4 @@
 pub mod UnderWay
-pub mod Few
 pub mod Encoded
 pub mod LineLemmas
 pub mod FileLemmas

@@ -7,10 +7,11 @@ use Rattle.std.proofs.lemmas.Bool.{cases_Bool, cases_lt, cases_eq, both_ways, or
 use Rattle.std.proofs.lemmas.List.{drop-drop}
 use Rattle.std.proofs.lemmas.List.Folds.{list_any-append}
 use Rattle.leak_bound.specs.Records.{Each}
+use Rattle.leak_bound.proofs.Few.{Each-map, Each-append}
 use Rattle.black_box.specs.Schedule.{is_due, Place, has, slot_after, nth_slot, Rises, IsSchedule}
 use Rattle.black_box.specs.Computed.{slots_from, released, releases}
 use Rattle.black_box.proofs.UnderWay.{no_slots, slot_due, slot_free}
-use Rattle.black_box.proofs.FactsMet.{Each-of, Each-append, none_below, none_above, count_before, slot_with, slot_without, later_slot}
+use Rattle.black_box.proofs.FactsMet.{none_below, none_above, count_before, slot_with, slot_without, later_slot}
 
 abbrev Late : ℕ → ℕ → ℕ → Type 0
 Late s t r = (s ≤ r) × (r ≤ t)
@@ -73,26 +74,27 @@ module _ (q t : ℕ) (ready rs : List ℕ) (is : IsSchedule q t ready rs) where
       (λ (ne : x ≡ s → ⊥).
       let le = up.0 in
       let lt : s < x = omega (arith, ne, le) in
-      absurd (both_ways (has (x ∷ xs) s) (none_above s (x ∷ xs) (lt, Each-of (λ y. x < y) (λ y. s < y) (λ y l. omega arith) xs r.0)) h))
+      absurd (both_ways (has (x ∷ xs) s) (none_above s (x ∷ xs) (lt, Each-map (λ y. x < y) (λ y. s < y) (λ y l. omega arith) xs r.0)) h))
       (cases_eq x s)
 
   once_from : (m k s len : ℕ) (before tail : List ℕ) → nth_slot q rs k ≡ record { cycle = s; apart = len } → rs ≡ before ++ tail → Each (λ r. r < s) before
       → Each (λ r. s ≤ r) tail → t < s + m → 0 < len → tail ≡ released (slots_from t m s len (drop (length before) ready))
   once_from zero k s len before tail at parts lower upper enough apart =
-      nothing_left s t tail (omega arith) upper (Each-of IsOn (λ r. r ≤ t) (λ r o. o.0) tail (Each-back IsOn before tail (subst (Each IsOn) parts is.at_slots)))
+      nothing_left s t tail (omega arith) upper
+          (Each-map IsOn (λ r. r ≤ t) (λ r o. o.0) tail (Each-back IsOn before tail (subst (Each IsOn) parts is.at_slots)))
   once_from (suc m) k s len before tail at parts lower upper enough apart =
       ⊎_elim
       (λ (late : t < s).
-      nothing_left s t tail late upper (Each-of IsOn (λ r. r ≤ t) (λ r o. o.0) tail on)
+      nothing_left s t tail late upper (Each-map IsOn (λ r. r ≤ t) (λ r o. o.0) tail on)
       ∙ sym (ap released (no_slots t (suc m) s len (drop (length before) ready) late)))
       (λ (here : s ≤ t).
       ⊎_elim
       (λ (d : is_due s (drop (length before) ready) ≡ true). due here d
           (λ xs p u. once_from m (suc k) (s + len) len (before ++ s ∷ []) xs (next_at_due here d) p
-          (Each-append (λ r. r < s + len) before (s ∷ []) (Each-of (λ r. r < s) (λ r. r < s + len) (λ r l. omega arith) before lower) (omega arith, tt)) u
+          (Each-append (λ r. r < s + len) before (s ∷ []) (Each-map (λ r. r < s) (λ r. r < s + len) (λ r l. omega arith) before lower) (omega arith, tt)) u
           (omega arith) apart))
       (λ (d : is_due s (drop (length before) ready) ≡ false). free here d
-          (λ u. once_from m (suc k) (s + 2 * len) (2 * len) before tail (next_at_free here d) parts (Each-of (λ r. r < s) (λ r. r < s + 2 * len)
+          (λ u. once_from m (suc k) (s + 2 * len) (2 * len) before tail (next_at_free here d) parts (Each-map (λ r. r < s) (λ r. r < s + 2 * len)
           (λ r l. omega arith) before lower) u (omega arith) (omega arith)))
       (cases_Bool (is_due s (drop (length before) ready))))
       (cases_lt t s)

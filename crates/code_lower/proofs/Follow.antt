@@ -14,7 +14,7 @@ use Rattle.label_code.specs.declared.code.Work.TheVariants.{Brz, Brnz, Jmp, Stor
 use Rattle.label_code.specs.declared.code.Instr.{Instr}
 use Rattle.code_lower.specs.Layout.{Stands, expr_size, size, HasExpr, raised, HasCode}
 use Rattle.code_lower.specs.Follows.{told}
-use Rattle.code_lower.proofs.Timed.{timed, tested, reached, stored, begun, opening}
+use Rattle.code_lower.proofs.Timed.{timed, timed_log, timed_memory, tested, reached, stored, begun, opening}
 use Rattle.label_code.proofs.Leads.{Leads, leads_then, leads_to}
 use Rattle.code_lower.proofs.Stretches.{one, test_leads, put_leads}
 
@@ -23,18 +23,6 @@ told-append [] fs = refl
 told-append (Wrote x n c ∷ es) fs = ap (λ t. Assigned x n ∷ t) (told-append es fs)
 told-append (Began k c ∷ es) fs = ap (λ t. Started k ∷ t) (told-append es fs)
 told-append (Ended k c ∷ es) fs = told-append es fs
-
-memory_same : {E : Type 0} (v : Env E) (m : Marks) (e : Expression) (a : ℕ) (s : Core E) → (timed v m e a s).memory ≡ s.memory
-memory_same v m (Number n) a s = refl
-memory_same v m (Variable x) a s = refl
-memory_same v m (Binary op l r) a s = memory_same v m r (a + expr_size l) _ ∙ memory_same v m l a s
-memory_same v m (Element f n i) a s = memory_same v m i a s
-
-log_same : {E : Type 0} (v : Env E) (m : Marks) (e : Expression) (a : ℕ) (s : Core E) → (timed v m e a s).log ≡ s.log
-log_same v m (Number n) a s = refl
-log_same v m (Variable x) a s = refl
-log_same v m (Binary op l r) a s = log_same v m r (a + expr_size l) _ ∙ log_same v m l a s
-log_same v m (Element f n i) a s = log_same v m i a s
 
 -- what is done below the current list: the rest of a list, also behind a jump; a loop again, and the rest; the end of a mitigation, and the rest
 pub data Frame : Type 0 where
@@ -124,7 +112,7 @@ module _ {E : Type 0} (v : Env E) (lat : Lattice) (g : ℕ → ℕ) (image : Lis
           → source_step (source_at (If m e c d r) fs s) ≡ record { todo =
           cond w (then_todo c (then_todo r (rest_of fs))) (then_todo d (then_todo r (rest_of fs))); memory = s0.memory; notes = told s0.log }
       stepped w f = source_same _ _ _ _ _ _ (ap (λ z. cond z (then_todo c (then_todo r (rest_of fs))) (then_todo d (then_todo r (rest_of fs)))) f)
-          (sym (memory_same v m e a s)) (ap told (sym (log_same v m e a s)))
+          (sym (timed_memory v m e a s)) (ap told (sym (timed_log v m e a s)))
 
       go : (w : Bool) → holds (value_of e s.memory) ≡ w → Goes (source_at (If m e c d r) fs s) (at a [] os s)
       go true f = on (λ z. cc) (leads true f) (meets c (Jumped r ∷ fs) (b + 1) os s0 code.2 (raised lat g e m, j + 1 + size d, code.3, code.5,
@@ -157,7 +145,7 @@ module _ {E : Type 0} (v : Env E) (lat : Lattice) (g : ℕ → ℕ) (image : Lis
           → source_step (source_at (While m e c r) fs s) ≡ record { todo =
           cond w (then_todo c (While m e c (then_todo r (rest_of fs)))) (then_todo r (rest_of fs)); memory = s0.memory; notes = told s0.log }
       stepped w f = source_same _ _ _ _ _ _ (ap (λ z. cond z (then_todo c (While m e c (then_todo r (rest_of fs)))) (then_todo r (rest_of fs))) f)
-          (sym (memory_same v m e a s)) (ap told (sym (log_same v m e a s)))
+          (sym (timed_memory v m e a s)) (ap told (sym (timed_log v m e a s)))
 
       go : (w : Bool) → holds (value_of e s.memory) ≡ w → Goes (source_at (While m e c r) fs s) (at a [] os s)
       go true f = on (λ z. cc) (leads true f) (meets c (Again m e c r ∷ fs) (b + 1) os s0 code.2 (b + 1, refl, code.3, code.4, code.2, code.5,
@@ -187,7 +175,7 @@ module _ {E : Type 0} (v : Env E) (lat : Lattice) (g : ℕ → ℕ) (image : Lis
           → source_step (source_at Done (Again m e c p ∷ fs) s) ≡ record { todo =
           cond w (then_todo c (While m e c (then_todo p (rest_of fs)))) (then_todo p (rest_of fs)); memory = s0.memory; notes = told s0.log }
       stepped w f = source_same _ _ _ _ _ _ (ap (λ z. cond z (then_todo c (While m e c (then_todo p (rest_of fs)))) (then_todo p (rest_of fs))) f)
-          (sym (memory_same v rm e a s)) (ap told (sym (log_same v rm e a s)))
+          (sym (timed_memory v rm e a s)) (ap told (sym (timed_log v rm e a s)))
 
       go : (w : Bool) → holds (value_of e s.memory) ≡ w → Goes (source_at Done (Again m e c p ∷ fs) s) (at a [] os s)
       go true f = on (λ z. cc) (leads true f)
@@ -206,8 +194,8 @@ module _ {E : Type 0} (v : Env E) (lat : Lattice) (g : ℕ → ℕ) (image : Lis
       let end : a + size (Assign m x e r) ≡ a + expr_size e + 1 + size r = omega arith in
       on (λ z. cc) (test_leads v image (Store x) e m a [] os s code.0 code.1)
       (meets r fs (a + expr_size e + 1) os s1 code.2 (fits_at fs _ _ os end below) _
-      (source_same _ _ _ _ _ _ refl (ap (λ z. slice_set z x n) (sym (memory_same v m e a s)))
-      (ap (λ z. told z ++ Assigned x n ∷ []) (sym (log_same v m e a s))
+      (source_same _ _ _ _ _ _ refl (ap (λ z. slice_set z x n) (sym (timed_memory v m e a s)))
+      (ap (λ z. told z ++ Assigned x n ∷ []) (sym (timed_log v m e a s))
           ∙ sym (told-append (timed v m e a s).log (Wrote x n (touched v m x (tested v m e a s)).clock ∷ [])))))
   goes fs (Put m f n i e r) a os s code below =
       let x = element f n (value_of i s.memory) in
@@ -216,8 +204,8 @@ module _ {E : Type 0} (v : Env E) (lat : Lattice) (g : ℕ → ℕ) (image : Lis
       let s1 = touched v m x s0 in
       let b = a + expr_size i in
       let end : a + size (Put m f n i e r) ≡ b + expr_size e + 1 + size r = omega arith in
-      let memory : s0.memory ≡ s.memory = memory_same v m e b (timed v m i a s) ∙ memory_same v m i a s in
-      let log : s0.log ≡ s.log = log_same v m e b (timed v m i a s) ∙ log_same v m i a s in
+      let memory : s0.memory ≡ s.memory = timed_memory v m e b (timed v m i a s) ∙ timed_memory v m i a s in
+      let log : s0.log ≡ s.log = timed_log v m e b (timed v m i a s) ∙ timed_log v m i a s in
       on (λ z. cc) (put_leads v image f n i e m a [] os s code.0 code.1 code.2)
       (meets r fs (b + expr_size e + 1) os (stored v m f n i e a s) code.3 (fits_at fs _ _ os end below) _
       (source_same _ _ _ _ _ _ refl (ap (λ z. slice_set z x y) (sym memory))
@@ -227,7 +215,7 @@ module _ {E : Type 0} (v : Env E) (lat : Lattice) (g : ℕ → ℕ) (image : Lis
       let end : a + size (Sleep m e r) ≡ a + expr_size e + 1 + size r = omega arith in
       on (λ z. cc) (test_leads v image SleepWork e m a [] os s code.0 code.1)
       (meets r fs (a + expr_size e + 1) os s1 code.2 (fits_at fs _ _ os end below) _
-      (source_same _ _ _ _ _ _ refl (sym (memory_same v m e a s)) (ap told (sym (log_same v m e a s)))))
+      (source_same _ _ _ _ _ _ refl (sym (timed_memory v m e a s)) (ap told (sym (timed_log v m e a s)))))
   goes fs (If m e c d r) a os s code below = if_goes m e c d r fs a os s code below
   goes fs (While m e c r) a os s code below = while_goes m e c r fs a os s code below
   goes fs (Mitigate m k l e c r) a os s code below =
@@ -237,8 +225,8 @@ module _ {E : Type 0} (v : Env E) (lat : Lattice) (g : ℕ → ℕ) (image : Lis
       let end : a + size (Mitigate m k l e c r) ≡ j + 1 + size r = omega arith in
       on (λ z. cc) (test_leads v image (Mitb (label l) k) e m a [] os s code.0 code.1)
       (meets c (Closing r ∷ fs) (a + expr_size e + 1) (w ∷ os) (begun k s0) code.2 (m, code.3, code.4, fits_at fs _ _ os end below) _
-      (source_same _ _ _ _ _ _ refl (sym (memory_same v m e a s))
-      (ap (λ z. told z ++ Started k ∷ []) (sym (log_same v m e a s)) ∙ sym (told-append (timed v m e a s).log (Began k s0.clock ∷ [])))))
+      (source_same _ _ _ _ _ _ refl (sym (timed_memory v m e a s))
+      (ap (λ z. told z ++ Started k ∷ []) (sym (timed_log v m e a s)) ∙ sym (told-append (timed v m e a s).log (Began k s0.clock ∷ [])))))
   goes [] Done a os s code below =
       let e : a + 0 ≡ a = omega arith in
       over (one v image Halt below.0 a [] os s (subst (λ z. Stands image z Halt below.0) e below.1)) refl refl refl

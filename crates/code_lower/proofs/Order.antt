@@ -2,7 +2,8 @@
 use Rattle.std.proofs.Common.{◌≡◌, ℕ, zero, suc, ◌+◌, ◌-◌, ◌<◌, ◌≤◌, List, [], ◌++◌, append-nil, refl, sym, ap, ◌∙◌, subst, ⊎_elim, arith}
 use Rattle.std.specs.Prelude.{Bool, true, false, ℤ}
 use Rattle.std.proofs.lemmas.Bool.{cases_lt, both_ways}
-use Rattle.mit_syntax.specs.Todo.{Marks, Marked, Done, Skip, Assign, Put, Sleep, If, While, Mitigate, then_todo}
+use Rattle.mit_syntax.specs.Todo.{Marks, Marked, Done}
+use Rattle.source_meaning.proofs.Begins.{then_done}
 use Rattle.source_meaning.proofs.Told.{IsPrefix, prefix_then, prefix_same, between, done_stays}
 use Rattle.source_meaning.specs.Source.{Note, Source, source_step, source_steps, source_start, notes_of, HasEnded}
 use Rattle.label_lattice.specs.Lattice.{Lattice}
@@ -33,7 +34,7 @@ module _ {E : Type 0} (v : Env E) (image : List Instr) where
       ended : (k : ℕ) {y : Machine E} → steps v image k x ≡ y → y.halted ≡ true → (source_steps n σ).todo ≡ Done
           → (source_steps n σ).notes ≡ told y.core.log → Reached n σ x
 
-    next_of : (σ : Source Marks ℕ) (x : Machine E) → Meets v lat g image σ x → Goes v lat g image σ x
+    pub next_of : (σ : Source Marks ℕ) (x : Machine E) → Meets v lat g image σ x → Goes v lat g image σ x
     next_of σ x m =
         let r = goes v lat g image m.frames m.list m.place m.opened m.core m.code m.below in
         let r1 = subst (λ z. Goes v lat g image z (at m.place [] m.opened m.core)) (sym m.same) r in
@@ -56,7 +57,7 @@ module _ {E : Type 0} (v : Env E) (image : List Instr) where
             ended l.count l.ends h (ap (λ z. z.todo) s ∙ d) (ap (λ z. z.notes) s ∙ t)
 
 module _ {E : Type 0} (v : Env E) (lat : Lattice) (g : ℕ → ℕ) (image : List Instr) (p : Marked) (code : IsImage lat g image p) where
-  starts_met : (s : Start E) → Meets v lat g image (source_start p s.memory) (start s.memory s.env)
+  pub starts_met : (s : Start E) → Meets v lat g image (source_start p s.memory) (start s.memory s.env)
   starts_met s =
       let e : size p ≡ 0 + size p = omega arith in
       record {
@@ -68,21 +69,8 @@ module _ {E : Type 0} (v : Env E) (lat : Lattice) (g : ℕ → ℕ) (image : Lis
         is = refl;
         code = code.0;
         below = subst (λ z. (m : Marks) × Stands image z Halt m) e (record { er = lat.bottom; ew = lat.bottom }, code.1);
-        same = source_id p s.memory;
+        same = ap (λ t. let r : Source Marks ℕ = record { todo = t; memory = s.memory; notes = [] } in r) (sym (then_done p));
       }
-    where
-      then_done : (q : Marked) → q ≡ then_todo q Done
-      then_done Done = refl
-      then_done (Skip m r) = ap (λ z. Skip m z) (then_done r)
-      then_done (Assign m x e r) = ap (λ z. Assign m x e z) (then_done r)
-      then_done (Put m f n i e r) = ap (λ z. Put m f n i e z) (then_done r)
-      then_done (Sleep m e r) = ap (λ z. Sleep m e z) (then_done r)
-      then_done (If m e a b r) = ap (λ z. If m e a b z) (then_done r)
-      then_done (While m e c r) = ap (λ z. While m e c z) (then_done r)
-      then_done (Mitigate m k l e c r) = ap (λ z. Mitigate m k l e c z) (then_done r)
-
-      source_id : (q : Marked) (m : List ℤ) → source_start q m ≡ record { todo = then_todo q Done; memory = m; notes = [] }
-      source_id q m = ap (λ t. let r : Source Marks ℕ = record { todo = t; memory = m; notes = [] } in r) (then_done q)
 
   -- two halted points of one run are the same
   one_end : (k k' : ℕ) (x : Machine E) → (steps v image k x).halted ≡ true → (steps v image k' x).halted ≡ true → steps v image k x ≡ steps v image k' x

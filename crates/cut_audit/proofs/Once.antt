@@ -1,11 +1,11 @@
 -- An audit has one answer.
-use Rattle.std.proofs.Common.{◌≡◌, ℕ, ◌≤◌, List, false, refl, sym, ap, ◌∙◌}
+use Rattle.std.proofs.Common.{◌≡◌, ℕ, ◌≤◌, List, false, refl, sym, ap, ◌∙◌, map}
 use Rattle.std.specs.Prelude.{◌≢◌}
 use Rattle.label_lattice.specs.Order.{Order}
 use Rattle.timing_types.specs.Labelled.{LabelledProgram}
 use Rattle.env_contract.specs.Env.{Env}
 use Rattle.label_code.specs.Run.{Start}
-use Rattle.leak_bound.specs.Records.{Pairwise, views}
+use Rattle.leak_bound.specs.Records.{Pairwise}
 use Rattle.leak_audit.specs.declared.survey.SurveyFault.TheVariants.{TooMuch as IsTooMuch}
 use Rattle.leak_audit.specs.Agreement.{AgreeFor}
 use Rattle.leak_audit.specs.OneAnswer.{HasOneAnswer}
@@ -25,7 +25,7 @@ module _ {E : Type 0} (v : Env E) (serves : Order → E → Type 0) (p : Labelle
         runs = a.runs ∙ sym b.runs;
         ended = ended;
         halted = a.halted ∙ sym b.halted;
-        measures = same_measures p.program.order o t r.ended s.ended (views (sequence_from v p o t) ss) r.measures s.measures ended a.measures b.measures;
+        measures = same_measures p.program.order o t r.ended s.ended (map (sequence_from v p o t) ss) r.measures s.measures ended a.measures b.measures;
       }
 
   pub same_fault : (f g : CutFault) → IsCutFault v serves p o t ss f → IsCutFault v serves p o t ss g → f ≢ Memory → g ≢ Memory → f ≡ g

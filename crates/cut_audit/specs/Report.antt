@@ -1,11 +1,11 @@
 -- The report of an audit of runs that may not have halted, and why there is none.
-use Rattle.std.specs.Prelude.{◌≡◌, ◌≤◌, ℕ, List, length, false}
+use Rattle.std.specs.Prelude.{◌≡◌, ◌≤◌, ℕ, List, length, map, false}
 use Rattle.label_lattice.specs.Order.{Order}
 use Rattle.timing_types.specs.Labelled.{LabelledProgram}
 use Rattle.env_contract.specs.Env.{Env}
 use Rattle.label_code.specs.Run.{Start}
 use Rattle.code_lower.specs.Lowered.{lowered}
-use Rattle.leak_bound.specs.Records.{Pairwise, views}
+use Rattle.leak_bound.specs.Records.{Pairwise}
 use Rattle.leak_bound.specs.Sound.{most_ended}
 use Rattle.leak_audit.specs.declared.agreement.Disagreement.{Disagreement}
 use Rattle.leak_audit.specs.declared.agreement.Disagreement.TheVariants.{Differs, Memory as NoRoom}
@@ -28,7 +28,7 @@ pub record IsReport {E : Type 0} (v : Env E) (serves : Order → E → Type 0) (
   pub runs : r.runs ≡ length ss
   pub ended : r.ended ≡ most_ended v (lowered p).instrs (relevant_for p o) t ss
   pub halted : r.halted ≡ halted_count v p t ss
-  pub measures : IsMeasure p.program.order o t r.ended (views (sequence_from v p o t) ss) r.measures
+  pub measures : IsMeasure p.program.order o t r.ended (map (sequence_from v p o t) ss) r.measures
 
 -- some start does not agree with the first one; or all agree, and then the first run decides that shows too much
 abbrev pub IsCutFault : {E : Type 0} → Env E → (Order → E → Type 0) → LabelledProgram → ℕ → ℕ → List (Start E) → CutFault → Type 0

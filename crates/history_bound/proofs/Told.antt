@@ -1,5 +1,5 @@
 -- Where one environment does what another does, pairs of starts are told the same.
-use Rattle.std.proofs.Common.{◌≡◌, ℕ, suc, ◌<◌, ◌≤◌, List, [], ◌∷◌, length, Bool, true, false, refl, sym, ap, ◌∙◌, subst, ⊎_elim, arith}
+use Rattle.std.proofs.Common.{◌≡◌, ℕ, suc, ◌<◌, ◌≤◌, List, [], ◌∷◌, length, map, Bool, true, false, refl, sym, ap, ◌∙◌, subst, ⊎_elim, arith}
 use Rattle.std.specs.Prelude.{cond, ltb, leb, ◌&&◌, max, ℤ}
 use Rattle.std.proofs.lemmas.Bool.{cases_lt, le-ltb, leb-true}
 use Rattle.mit_syntax.specs.Todo.{Todo}
@@ -15,7 +15,7 @@ use Rattle.label_code.specs.Alike.{AreAlike, HasLabelsBelow}
 use Rattle.label_code.specs.Visible.{visible}
 use Rattle.label_code.proofs.Alike.{run_alike}
 use Rattle.leak_bound.specs.Relevant.{Begins, ended_count}
-use Rattle.leak_bound.specs.Records.{Each, Pairwise, views}
+use Rattle.leak_bound.specs.Records.{Each, Pairwise}
 use Rattle.leak_bound.specs.Sound.{Agree, seen_from, Halts, FirstBegins, most_ended}
 use Rattle.history_bound.specs.Told.{Pair, Paired, TellSame}
 
@@ -95,7 +95,7 @@ module _ {E F : Type 0} (v : Env E) (w : Env F) (order : Order) (related : E →
   halted_same s r p = sym (ap (λ (z : Machine F). z.halted) (pair_alike s r p).same)
 
   pub seen_all : (g : ℕ → ℕ) (o : ℕ) (ss : List (Start E)) (rs : List (Start F)) → Paired related ss rs
-      → views (seen_from v (lattice_of order) g image o t) ss ≡ views (seen_from w (lattice_of order) g image o t) rs
+      → map (seen_from v (lattice_of order) g image o t) ss ≡ map (seen_from w (lattice_of order) g image o t) rs
   seen_all g o [] [] p = refl
   seen_all g o [] (r ∷ rs) p = absurd p
   seen_all g o (s ∷ ss) [] p = absurd p

@@ -1,5 +1,5 @@
 -- Lists of starts in two environments, and what is told of both.
-use Rattle.std.specs.Prelude.{◌≡◌, ◌↔◌, ℕ, ◌<◌, List, [], ◌∷◌, length, Bool}
+use Rattle.std.specs.Prelude.{◌≡◌, ◌↔◌, ℕ, ◌<◌, List, [], ◌∷◌, length, map, Bool}
 use Rattle.mit_syntax.specs.Todo.{Marked}
 use Rattle.mit_syntax.specs.Plan.{Plan}
 use Rattle.label_lattice.specs.Lattice.{Lattice}
@@ -8,7 +8,7 @@ use Rattle.env_contract.specs.Env.{Env}
 use Rattle.label_code.specs.declared.code.Instr.{Instr}
 use Rattle.label_code.specs.Run.{Start}
 use Rattle.label_code.specs.Alike.{HasLabelsBelow}
-use Rattle.leak_bound.specs.Records.{Each, Pairwise, views}
+use Rattle.leak_bound.specs.Records.{Each, Pairwise}
 use Rattle.leak_bound.specs.Sound.{Agree, seen_from, Halts, FirstBegins, most_ended}
 
 module _ {E F : Type 0} (related : E → F → Type 0) where
@@ -30,7 +30,7 @@ pub record TellSame {E F : Type 0} (v : Env E) (serves : E → Type 0) (w : Env 
   pub long : length ss ≡ length rs
   pub agree : Pairwise (Agree v lat serves g o) ss ↔ Pairwise (Agree w lat serves' g o) rs
   pub halt : Each (Halts v image t) ss ↔ Each (Halts w image t) rs
-  pub seen : views (seen_from v lat g image o t) ss ≡ views (seen_from w lat g image o t) rs
+  pub seen : map (seen_from v lat g image o t) ss ≡ map (seen_from w lat g image o t) rs
   pub begun : (ls : ℕ → ℕ) (p : Marked) (k : ℕ) → FirstBegins lat g ls o p ss k ↔ FirstBegins lat g ls o p rs k
   pub begun_in_plan : (ls : ℕ → ℕ) (p : Plan) (k : ℕ) → FirstBegins lat g ls o p ss k ↔ FirstBegins lat g ls o p rs k
   pub ended : (rel : ℕ → Bool) → most_ended v image rel t ss ≡ most_ended w image rel t rs

@@ -1,5 +1,5 @@
 -- Where one environment does what another does, audits of pairs of starts tell the same.
-use Rattle.std.proofs.Common.{◌≡◌, ℕ, ◌+◌, ◌<◌, ◌≤◌, List, [], ◌∷◌, ◌++◌, length, Bool, true, false, refl, sym, ap, ap₂, ◌∙◌, subst}
+use Rattle.std.proofs.Common.{◌≡◌, ℕ, ◌+◌, ◌<◌, ◌≤◌, List, [], ◌∷◌, ◌++◌, length, map, Bool, true, false, refl, sym, ap, ap₂, ◌∙◌, subst}
 use Rattle.std.specs.Prelude.{cond, ℤ, All}
 use Rattle.std.proofs.lemmas.List.Elements.{All-head, All-tail}
 use Rattle.mit_syntax.specs.Values.{read}
@@ -15,7 +15,7 @@ use Rattle.label_code.specs.Visible.{visible}
 use Rattle.label_code.specs.Run.{Start, run_from}
 use Rattle.label_code.specs.Alike.{HasLabelsBelow}
 use Rattle.code_lower.specs.Lowered.{lowered}
-use Rattle.leak_bound.specs.Records.{Each, Pairwise, views}
+use Rattle.leak_bound.specs.Records.{Each, Pairwise}
 use Rattle.leak_bound.specs.Sound.{Halts}
 use Rattle.start_file.specs.Starts.{StartValue, IsFor}
 use Rattle.cycle_machine.specs.declared.end.RunEnd.TheVariants.{Halted, Limit}
@@ -122,7 +122,7 @@ module _ {E F : Type 0} (v : Env E) (w : Env F) (p : LabelledProgram) (serves : 
 
   -- ---- runs
   module _ (labels : HasLabelsBelow p.program.order.size (lowered p).instrs) (t : ℕ) where
-    seen_same : (ss : List (Start E)) (rs : List (Start F)) → Paired related ss rs → views (sequence_from v p o t) ss ≡ views (sequence_from w p o t) rs
+    seen_same : (ss : List (Start E)) (rs : List (Start F)) → Paired related ss rs → map (sequence_from v p o t) ss ≡ map (sequence_from w p o t) rs
     seen_same ss rs q = seen_all v w p.program.order related does (lowered p).instrs labels t (labels_of p) o ss rs q
 
     halted_is : (s : Start E) (r : Start F) → Pair related s r → (run_from v (lowered p).instrs t s).halted ≡ (run_from w (lowered p).instrs t r).halted

@@ -19,7 +19,8 @@ use Rattle.label_code.proofs.Leads.{stays, steps-add}
 use Rattle.label_code.proofs.Ticks.{Sane, ticks, steps_sane, steps_clock, runs_to}
 use Rattle.code_lower.specs.Layout.{Stands, size, IsImage}
 use Rattle.code_lower.specs.Lowered.{lowered}
-use Rattle.code_lower.proofs.Follow.{Meets, Goes, on, over, goes}
+use Rattle.code_lower.proofs.Follow.{Meets, Goes, on, over}
+use Rattle.code_lower.proofs.Order.{next_of, starts_met}
 use Rattle.code_lower.proofs.Stands.{image_is}
 use Rattle.code_lower.proofs.Meaning.{keep_meaning}
 use Rattle.leak_bound.specs.Records.{Each}
@@ -34,26 +35,11 @@ use Rattle.tool_words.specs.declared.words.EnvName.TheVariants.{Flat, Part, Part
 use Rattle.tool_stages.specs.Envs.{flat_made, ReportsIn}
 use Rattle.env_contract.specs.Flat.{flat_env}
 
-then_done : (p : Marked) → p ≡ then_todo p Done
-then_done Done = refl
-then_done (Skip m p) = ap (λ z. Skip m z) (then_done p)
-then_done (Assign m x e p) = ap (λ z. Assign m x e z) (then_done p)
-then_done (Put m f n i e p) = ap (λ z. Put m f n i e z) (then_done p)
-then_done (Sleep m e p) = ap (λ z. Sleep m e z) (then_done p)
-then_done (If m e a b p) = ap (λ z. If m e a b z) (then_done p)
-then_done (While m e c p) = ap (λ z. While m e c z) (then_done p)
-then_done (Mitigate m k l e c p) = ap (λ z. Mitigate m k l e c z) (then_done p)
-
 module _ {E : Type 0} (v : Env E) (image : List Instr) (lat : Lattice) (g : ℕ → ℕ) where
-  next_of : (σ : Source Marks ℕ) (x : Machine E) → Meets v lat g image σ x → Goes v lat g image σ x
-  next_of σ x m =
-      let r = goes v lat g image m.frames m.list m.place m.opened m.core m.code m.below in
-      subst (λ z. Goes v lat g image σ z) (sym m.is) (subst (λ z. Goes v lat g image z (at m.place [] m.opened m.core)) (sym m.same) r)
-
   -- each step of the source takes a step of the machine, or more
   ends : (n : ℕ) (σ : Source Marks ℕ) (x : Machine E) → Meets v lat g image σ x → (steps v image n x).halted ≡ true → (source_steps n σ).todo ≡ Done
   ends zero σ x m h = absurd (both_ways x.halted (ap (λ z. z.halted) m.is) h)
-  ends (suc n) σ x m h = go (next_of σ x m) (λ y z k. ends n (source_step σ) y z k)
+  ends (suc n) σ x m h = go (next_of v image lat g σ x m) (λ y z k. ends n (source_step σ) y z k)
     where
       go : Goes v lat g image σ x → ((y : Machine E) → Meets v lat g image (source_step σ) y → (steps v image n y).halted ≡ true
           → (source_steps n (source_step σ)).todo ≡ Done) → (source_steps (suc n) σ).todo ≡ Done
@@ -82,23 +68,8 @@ module _ {E : Type 0} (v : Env E) (image : List Instr) (lat : Lattice) (g : ℕ 
           omega (arith, c, r)
 
   module _ (p : Marked) (code : IsImage lat g image p) where
-    meets_first : (s : Start E) → Meets v lat g image (source_start p s.memory) (start s.memory s.env)
-    meets_first s =
-        let e : size p ≡ 0 + size p = omega arith in
-        record {
-          list = p;
-          frames = [];
-          place = 0;
-          opened = [];
-          core = (start s.memory s.env).core;
-          is = refl;
-          code = code.0;
-          below = subst (λ z. (m : Marks) × Stands image z Halt m) e (record { er = lat.bottom; ew = lat.bottom }, code.1);
-          same = ap (λ t. let r : Source Marks ℕ = record { todo = t; memory = s.memory; notes = [] } in r) (then_done p);
-        }
-
     ended_by : (t : ℕ) (s : Start E) → Halts v image t s → HasEnded p s.memory (suc t)
-    ended_by t s h = ends (suc t) (source_start p s.memory) x (meets_first s) (halted (steps v image (suc t) x).halted refl)
+    ended_by t s h = ends (suc t) (source_start p s.memory) x (starts_met v lat g image p code s) (halted (steps v image (suc t) x).halted refl)
       where
         x : Machine E
         x = start s.memory s.env

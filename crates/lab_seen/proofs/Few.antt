@@ -10,7 +10,7 @@ use Rattle.label_code.specs.Run.{run_from}
 use Rattle.code_lower.specs.Lowered.{lowered}
 use Rattle.cycle_machine.specs.Rest.{told_by}
 use Rattle.start_file.specs.Starts.{StartValue}
-use Rattle.leak_bound.specs.Records.{Pairwise, Tests, views, distinct_count}
+use Rattle.leak_bound.specs.Records.{Pairwise, Tests, distinct_count}
 use Rattle.leak_bound.specs.Sound.{CutSound, bound, most_ended}
 use Rattle.leak_audit.specs.Agreement.{AgreeFor, start_of, starts_of}
 use Rattle.leak_audit.specs.Sequences.{same_sequence}
@@ -36,7 +36,7 @@ module _ {E : Type 0} (v : Env E) (made : Order → List Touch → E) (q : Label
   field_over s = seen_text q l (told_by (run_from v (lowered q).instrs t (start_of made q.program.order s)))
 
   fields_of_views : (ss : List StartValue)
-      → map field_over ss ≡ map (field_text q.program.declarations) (views (sequence_from v q l.number t) (starts_of made q.program.order ss))
+      → map field_over ss ≡ map (field_text q.program.declarations) (map (sequence_from v q l.number t) (starts_of made q.program.order ss))
   fields_of_views [] = refl
   fields_of_views (s ∷ ss) = ap (λ z. field_over s ∷ z) (fields_of_views ss)
 
@@ -46,7 +46,7 @@ module _ {E : Type 0} (v : Env E) (made : Order → List Touch → E) (q : Label
       → distinct_count same (map field_over ss) ≤ bound q.program.order l.number t
       (most_ended v (lowered q).instrs (relevant_for q l.number) t (starts_of made q.program.order ss))
   fields_few serves low some sound ss agree same tests =
-      let seqs = views (sequence_from v q l.number t) (starts_of made q.program.order ss) in
+      let seqs = map (sequence_from v q l.number t) (starts_of made q.program.order ss) in
       let few = sound.few l.number low t some (starts_of made q.program.order ss) agree same_sequence tests_sequences in
       let images = few_images (field_text q.program.declarations) same_sequence same tests_sequences tests seqs in
       let are = ap (distinct_count same) (fields_of_views ss) in
@@ -59,7 +59,7 @@ module _ {E : Type 0} (v : Env E) (made : Order → List Touch → E) (q : Label
       → (same : List ℕ → List ℕ → Bool) → Tests same
       → distinct_count same (map field_over ss) ≤ r.measures.base ^ r.measures.exponent
   within_cut serves low some sound ss r is same tests =
-      let seqs = views (sequence_from v q l.number t) (starts_of made q.program.order ss) in
+      let seqs = map (sequence_from v q l.number t) (starts_of made q.program.order ss) in
       let power = ap (bound q.program.order l.number t) (sym is.ended) ∙ power_is q.program.order l.number t r.ended seqs r.measures is.measures in
       subst (λ z. distinct_count same (map field_over ss) ≤ z) power (fields_few serves low some sound ss is.agree same tests)
 

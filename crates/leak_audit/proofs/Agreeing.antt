@@ -12,7 +12,7 @@ use Rattle.label_code.specs.Run.{Start}
 use Rattle.start_file.specs.declared.start.Start.{Start as Stored}
 use Rattle.start_file.specs.Starts.{StartValue, seen}
 use Rattle.leak_bound.specs.Records.{Each, Pairwise}
-use Rattle.leak_bound.proofs.Headline.{Each-map}
+use Rattle.leak_bound.proofs.Few.{Each-map}
 use Rattle.leak_audit.specs.declared.what.What.{What}
 use Rattle.leak_audit.specs.Agreement.{start_of, starts_of, AgreeFor, IsFirstDifference, IsFirstApart, Disagrees}
 use Rattle.leak_audit.proofs.Split.{Each-more}

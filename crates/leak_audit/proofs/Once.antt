@@ -1,12 +1,12 @@
 -- An audit has one answer.
-use Rattle.std.proofs.Common.{◌≡◌, ℕ, ◌≤◌, List, true, refl, sym, ap, ◌∙◌}
+use Rattle.std.proofs.Common.{◌≡◌, ℕ, ◌≤◌, List, true, refl, sym, ap, ◌∙◌, map}
 use Rattle.std.specs.Prelude.{◌≢◌}
 use Rattle.label_lattice.specs.Order.{Order}
 use Rattle.timing_types.specs.Labelled.{LabelledProgram}
 use Rattle.env_contract.specs.Env.{Env}
 use Rattle.label_code.specs.Run.{Start}
 use Rattle.code_lower.specs.Lowered.{lowered}
-use Rattle.leak_bound.specs.Records.{Each, Pairwise, views}
+use Rattle.leak_bound.specs.Records.{Each, Pairwise}
 use Rattle.leak_bound.specs.Sound.{Halts}
 use Rattle.leak_audit.specs.declared.survey.SurveyFault.TheVariants.{Unfinished as IsUnfinished, TooMuch as IsTooMuch}
 use Rattle.leak_audit.specs.Agreement.{AgreeFor}
@@ -27,7 +27,7 @@ module _ {E : Type 0} (v : Env E) (serves : Order → E → Type 0) (p : Labelle
       record {
         runs = a.runs ∙ sym b.runs;
         mitigations = mitigations;
-        measures = same_measures p.program.order o t r.mitigations s.mitigations (views (sequence_from v p o t) ss) r.measures s.measures
+        measures = same_measures p.program.order o t r.mitigations s.mitigations (map (sequence_from v p o t) ss) r.measures s.measures
             mitigations a.measures b.measures;
       }
 

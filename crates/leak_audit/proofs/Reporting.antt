@@ -1,5 +1,5 @@
 -- Why the report is true, and its count within the bound.
-use Rattle.std.proofs.Common.{◌≡◌, ◌<◌, ◌≤◌, ℕ, ◌^◌, List, [], ◌∷◌, length, true, refl, sym, ap, ◌∙◌, subst}
+use Rattle.std.proofs.Common.{◌≡◌, ◌<◌, ◌≤◌, ℕ, ◌^◌, List, [], ◌∷◌, length, map, true, refl, sym, ap, ◌∙◌, subst}
 use Rattle.std.specs.List.{count_by}
 use Rattle.label_lattice.specs.Order.{Order}
 use Rattle.mit_syntax.specs.Program.{plan_of}
@@ -9,7 +9,7 @@ use Rattle.env_contract.specs.Env.{Env}
 use Rattle.label_code.specs.Run.{Start}
 use Rattle.code_lower.specs.Lowered.{lowered}
 use Rattle.leak_bound.specs.Relevant.{Begins}
-use Rattle.leak_bound.specs.Records.{Each, Pairwise, views, distinct_count}
+use Rattle.leak_bound.specs.Records.{Each, Pairwise, distinct_count}
 use Rattle.leak_bound.specs.Sound.{Halts, FirstBegins, Sound, bound}
 use Rattle.leak_bound.proofs.Final.{begun-told, begins_one}
 use Rattle.leak_audit.specs.declared.measure.Measures.{Measures}
@@ -51,7 +51,7 @@ module _ {E : Type 0} (v : Env E) (serves : Order → E → Type 0) (p : Labelle
   first_begins (s ∷ ss) k h e = subst (λ z. Begins (order_of p) (labels_of p) (levels_of p) o (plan_of p.program) s.memory z) (sym e) (begins s h.0)
 
   pub is_report : (ss : List (Start E)) → Pairwise (AgreeFor v serves p o) ss → (s : Survey) → IsSurvey v p o t true ss s → (m : Measures)
-      → IsMeasure p.program.order o t s.begun (views (sequence_from v p o t) ss) m
+      → IsMeasure p.program.order o t s.begun (map (sequence_from v p o t) ss) m
       → (r : AuditReport) → Reports (length ss) s m r → IsReport v serves p o t ss r
   is_report ss agree s survey m measure r made = record {
     agree = agree;
@@ -59,14 +59,14 @@ module _ {E : Type 0} (v : Env E) (serves : Order → E → Type 0) (p : Labelle
     few = survey.few;
     runs = made.runs;
     mitigations = first_begins ss r.mitigations (survey.halts refl) (made.mitigations ∙ survey.begun);
-    measures = measure_of p.program.order o t s.begun r.mitigations (views (sequence_from v p o t) ss) m r.measures
+    measures = measure_of p.program.order o t s.begun r.mitigations (map (sequence_from v p o t) ss) m r.measures
         (sym made.mitigations) (sym made.measures) measure;
   }
 
   pub report_within : o < p.program.order.size → 0 < t → (ss : List (Start E)) (r : AuditReport) → IsReport v serves p o t ss r
       → r.measures.distinct ≤ r.measures.base ^ r.measures.exponent
   report_within low some ss r is =
-      let seqs = views (sequence_from v p o t) ss in
+      let seqs = map (sequence_from v p o t) ss in
       let few = sound.few o low t some ss is.agree is.halted same_sequence tests_sequences in
       let same : few.0 ≡ r.mitigations = first_one p o ss few.0 r.mitigations few.1 is.mitigations in
       within p.program.order o t r.mitigations seqs r.measures is.measures

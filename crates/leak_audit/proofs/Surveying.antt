@@ -4,7 +4,7 @@ use Rattle.std.proofs.Common.{arith, append-nil, append_assoc, length-append, So
 use Rattle.std.specs.Prelude.{◌⊎◌}
 use Rattle.std.proofs.lemmas.Bool.{cases_lt}
 use Rattle.std.proofs.lemmas.Bool.Decides.{nat_tests}
-use Rattle.std.proofs.lemmas.List.{length-map}
+use Rattle.std.proofs.lemmas.List.{length-map, map-append}
 use Rattle.mit_syntax.specs.Program.{plan_of}
 use Rattle.timing_types.specs.Labelled.{LabelledProgram, order_of, labels_of, levels_of}
 use Rattle.env_contract.specs.Env.{Env}
@@ -14,7 +14,7 @@ use Rattle.code_lower.specs.Lowered.{lowered}
 use Rattle.cycle_machine.specs.declared.end.RunEnd.{RunEnd}
 use Rattle.cycle_machine.specs.declared.end.RunEnd.TheVariants.{Halted, Limit}
 use Rattle.leak_bound.specs.Relevant.{relevances, begun_count, ended_count}
-use Rattle.leak_bound.specs.Records.{Each, views}
+use Rattle.leak_bound.specs.Records.{Each}
 use Rattle.leak_bound.specs.Sound.{Halts, most_ended}
 use Rattle.leak_audit.specs.declared.observe.Observed.{Observed}
 use Rattle.leak_audit.specs.declared.survey.Survey.{Survey}
@@ -54,17 +54,9 @@ of_first-more n a b lt = grind (arith, nat_tests)
 cases_le : (n m : ℕ) → (n ≤ m) ⊎ (m < n)
 cases_le n m = elim (cases_lt m n) [ inl lt ↦ inr lt | inr le ↦ inl le ]
 
-views-append : {X V : Type 0} (f : X → V) (xs ys : List X) → views f (xs ++ ys) ≡ views f xs ++ views f ys
-views-append f [] ys = refl
-views-append f (x ∷ xs) ys = ap (λ z. f x ∷ z) (views-append f xs ys)
-
-length-views : {X V : Type 0} (f : X → V) (xs : List X) → length (views f xs) ≡ length xs
-length-views f [] = refl
-length-views f (x ∷ xs) = ap suc (length-views f xs)
-
 -- of a list there are at most as many kinds as it has members
-pub few_kinds : {E : Type 0} (f : Start E → List Event) (xs : List (Start E)) (k : Kinds) → AreKinds (views f xs) k → length k.different.keys ≤ length xs
-few_kinds f xs k h = let few = h.few in omega (arith, few, length-map k.different.keys sequence_of, length-views f xs)
+pub few_kinds : {E : Type 0} (f : Start E → List Event) (xs : List (Start E)) (k : Kinds) → AreKinds (map f xs) k → length k.different.keys ≤ length xs
+few_kinds f xs k h = let few = h.few in omega (arith, few, length-map k.different.keys sequence_of, length-map xs f)
 
 module _ {E : Type 0} (v : Env E) (p : LabelledProgram) (o t : ℕ) (must : Bool) (ss : List (Start E)) where
   shown_more : (xs : List (Start E)) (x : Start E) → shown_by_all v p o t (xs ++ x ∷ []) ≡ shown_by_all v p o t xs + shown_by v p o t x
@@ -74,7 +66,7 @@ module _ {E : Type 0} (v : Env E) (p : LabelledProgram) (o t : ℕ) (must : Bool
   -- the runs from n on are left
   pub record Surveying (rest : List (Start E)) (n : ℕ) (r : Survey) : Type 0 where
     pub before : List (Start E)
-    pub kinds : AreKinds (views (sequence_from v p o t) before) r.kinds
+    pub kinds : AreKinds (map (sequence_from v p o t) before) r.kinds
     pub are : ss ≡ before ++ rest
     pub number : n ≡ length before + 1
     pub halts : must ≡ true → Each (Halts v (lowered p).instrs t) before
@@ -164,8 +156,8 @@ module _ {E : Type 0} (v : Env E) (p : LabelledProgram) (o t : ℕ) (must : Bool
           before = h.before ++ s ∷ [];
           kinds =
               subst (λ z. AreKinds z q.kinds)
-              (ap (λ z. views (sequence_from v p o t) h.before ++ z ∷ []) (seen.tallies.kept room)
-                  ∙ sym (views-append (sequence_from v p o t) h.before (s ∷ []))) (x.kinds (views (sequence_from v p o t) h.before) h.kinds);
+              (ap (λ z. map (sequence_from v p o t) h.before ++ z ∷ []) (seen.tallies.kept room)
+                  ∙ sym (map-append (sequence_from v p o t) h.before (s ∷ []))) (x.kinds (map (sequence_from v p o t) h.before) h.kinds);
           are = h.are ∙ (ap (λ z. h.before ++ z) from ∙ sym (append_assoc h.before (s ∷ []) more));
           number = omega (arith, next, h.number, length-append h.before (s ∷ []));
           halts = λ k. Each-more (Halts v (lowered p).instrs t) h.before s (h.halts k) (halt k);
@@ -221,7 +213,7 @@ module _ {E : Type 0} (v : Env E) (p : LabelledProgram) (o t : ℕ) (must : Bool
       let hh = h.halted in
       let he = h.ended in
       record {
-        kinds = subst (λ z. AreKinds (views (sequence_from v p o t) z) r.kinds) (sym all) h.kinds;
+        kinds = subst (λ z. AreKinds (map (sequence_from v p o t) z) r.kinds) (sym all) h.kinds;
         halts = λ m. subst (Each (Halts v (lowered p).instrs t)) (sym all) (h.halts m);
         few = omega (arith, hs, small, ap (shown_by_all v p o t) all);
         halted = omega arith;

@@ -14,6 +14,8 @@ use Rattle.cycle_machine.specs.declared.turn.Turn.{Turn}
 use Rattle.cycle_machine.specs.declared.turn.Turn.TheVariants.{Event as AnEvent, Began as HasBegun, Ended as HasEnded}
 use Rattle.cycle_machine.specs.Rest.{events_of}
 use Rattle.leak_bound.specs.Relevant.{begun_count, ended_count}
+use Rattle.leak_bound.proofs.Balance.{begun-append, ended-append}
+use Rattle.leak_bound.proofs.Shown.{visible-append}
 use Rattle.leak_audit.specs.declared.sighting.Sighting.{Sighting}
 use Rattle.leak_audit.specs.declared.observe.Tally.{Tally}
 use Rattle.cycle_machine.specs.declared.turn.Turn.TheVariants.{Halted as DidHalt, Limit as DidLimit}
@@ -22,30 +24,6 @@ use Rattle.cycle_machine.specs.Rest.{IsTurnBelow}
 use Rattle.cycle_machine.proofs.Goes.{IsShownTurn}
 use Rattle.cycle_machine.proofs.Unshown.{none_visible}
 use Rattle.leak_audit.specs.Observed.{event_of, sequence_of, is_marked, TellsSeen, SeesTurn, Tallies}
-
-visible-append : (lat : Lattice) (g : ℕ → ℕ) (o : ℕ) (es fs : List Event) → visible lat g o (es ++ fs) ≡ visible lat g o es ++ visible lat g o fs
-visible-append lat g o [] fs = refl
-visible-append lat g o (Wrote x n c ∷ es) fs = go (lat.flows (g x) o) (visible-append lat g o es fs)
-  where
-    go : (b : Bool) → visible lat g o (es ++ fs) ≡ visible lat g o es ++ visible lat g o fs →
-        cond b (Wrote x n c ∷ visible lat g o (es ++ fs)) (visible lat g o (es ++ fs)) ≡ cond b (Wrote x n c ∷ visible lat g o es) (visible lat g o es)
-            ++ visible lat g o fs
-    go true e = ap (λ z. Wrote x n c ∷ z) e
-    go false e = e
-visible-append lat g o (Began k c ∷ es) fs = visible-append lat g o es fs
-visible-append lat g o (Ended k c ∷ es) fs = visible-append lat g o es fs
-
-begun_count-append : (rel : ℕ → Bool) (es fs : List Event) → begun_count rel (es ++ fs) ≡ begun_count rel es + begun_count rel fs
-begun_count-append rel [] fs = omega arith
-begun_count-append rel (Wrote x n c ∷ es) fs = begun_count-append rel es fs
-begun_count-append rel (Began k c ∷ es) fs = omega (arith, begun_count-append rel es fs)
-begun_count-append rel (Ended k c ∷ es) fs = begun_count-append rel es fs
-
-ended_count-append : (rel : ℕ → Bool) (es fs : List Event) → ended_count rel (es ++ fs) ≡ ended_count rel es + ended_count rel fs
-ended_count-append rel [] fs = omega arith
-ended_count-append rel (Wrote x n c ∷ es) fs = ended_count-append rel es fs
-ended_count-append rel (Began k c ∷ es) fs = ended_count-append rel es fs
-ended_count-append rel (Ended k c ∷ es) fs = omega (arith, ended_count-append rel es fs)
 
 module _ (p : LabelledProgram) (o : ℕ) (marked : List Bool) (room : ℕ) (es : List Event) (old : Tally) (t : Tallies p o marked room es old) where
   abbrev sees : List Event → List Event
@@ -72,8 +50,8 @@ module _ (p : LabelledProgram) (o : ℕ) (marked : List Bool) (room : ℕ) (es :
             let before : sequence_of old.events ≡ sees es = t.kept (omega (arith, shown)) in
             ap (map event_of) (kept fits) ∙ (map-append event_of old.events.items (s ∷ [])
                 ∙ (ap (λ z. z ++ event_of s ∷ []) before ∙ (ap (λ z. sees es ++ z ∷ []) is ∙ sym all)));
-        begun = omega (arith, begun, b, begun_count-append (is_marked marked) es (Wrote x n c ∷ []));
-        ended = omega (arith, ended, f, ended_count-append (is_marked marked) es (Wrote x n c ∷ []));
+        begun = omega (arith, begun, b, begun-append (is_marked marked) es (Wrote x n c ∷ []));
+        ended = omega (arith, ended, f, ended-append (is_marked marked) es (Wrote x n c ∷ []));
       })
 
   -- a mitigation that begins, and one that ends
@@ -87,8 +65,8 @@ module _ (p : LabelledProgram) (o : ℕ) (marked : List Bool) (room : ℕ) (es :
       (record {
         shown = t.shown ∙ ap length (sym all);
         kept = λ fits. t.kept fits ∙ sym all;
-        begun = omega (arith, is, b, begun_count-append (is_marked marked) es (Began k c ∷ []));
-        ended = omega (arith, f, ended_count-append (is_marked marked) es (Began k c ∷ []));
+        begun = omega (arith, is, b, begun-append (is_marked marked) es (Began k c ∷ []));
+        ended = omega (arith, f, ended-append (is_marked marked) es (Began k c ∷ []));
       })
 
   pub ended_more : (turn : Turn) (k c : ℕ) → turn ≡ HasEnded k c → (n : ℕ) → n ≡ old.ended + cond (is_marked marked k) 1 0
@@ -101,8 +79,8 @@ module _ (p : LabelledProgram) (o : ℕ) (marked : List Bool) (room : ℕ) (es :
       (record {
         shown = t.shown ∙ ap length (sym all);
         kept = λ fits. t.kept fits ∙ sym all;
-        begun = omega (arith, b, begun_count-append (is_marked marked) es (Ended k c ∷ []));
-        ended = omega (arith, is, f, ended_count-append (is_marked marked) es (Ended k c ∷ []));
+        begun = omega (arith, b, begun-append (is_marked marked) es (Ended k c ∷ []));
+        ended = omega (arith, is, f, ended-append (is_marked marked) es (Ended k c ∷ []));
       })
 
 -- the same events
@@ -143,8 +121,8 @@ module _ (p : LabelledProgram) (o : ℕ) (list : List Bool) (tells : TellsSeen p
       record {
         shown = r.shown ∙ ap length (sym all);
         kept = λ fits. r.kept fits ∙ sym all;
-        begun = omega (arith, b, begun_count-append (is_marked marked) es hs, none_begun (is_marked marked) list hs h);
-        ended = omega (arith, f, ended_count-append (is_marked marked) es hs, none_ended (is_marked marked) list hs h);
+        begun = omega (arith, b, begun-append (is_marked marked) es hs, none_begun (is_marked marked) list hs h);
+        ended = omega (arith, f, ended-append (is_marked marked) es hs, none_ended (is_marked marked) list hs h);
       }
 
   -- the observer sees the assignment of a turn that is shown by the list

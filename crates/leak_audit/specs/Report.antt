@@ -1,12 +1,12 @@
 -- The report of an audit, and why there is none.
-use Rattle.std.specs.Prelude.{◌≡◌, ◌≤◌, ℕ, List, length, true}
+use Rattle.std.specs.Prelude.{◌≡◌, ◌≤◌, ℕ, List, length, map, true}
 use Rattle.label_lattice.specs.Order.{Order}
 use Rattle.mit_syntax.specs.Program.{plan_of}
 use Rattle.timing_types.specs.Labelled.{LabelledProgram, order_of, labels_of, levels_of}
 use Rattle.env_contract.specs.Env.{Env}
 use Rattle.label_code.specs.Run.{Start}
 use Rattle.code_lower.specs.Lowered.{lowered}
-use Rattle.leak_bound.specs.Records.{Each, Pairwise, views}
+use Rattle.leak_bound.specs.Records.{Each, Pairwise}
 use Rattle.leak_bound.specs.Sound.{Halts, FirstBegins}
 use Rattle.leak_audit.specs.declared.agreement.Disagreement.{Disagreement}
 use Rattle.leak_audit.specs.declared.agreement.Disagreement.TheVariants.{Differs, Memory as NoRoom}
@@ -30,7 +30,7 @@ pub record IsReport {E : Type 0} (v : Env E) (serves : Order → E → Type 0) (
   pub few : shown_by_all v p o t ss ≤ 16777216
   pub runs : r.runs ≡ length ss
   pub mitigations : FirstBegins (order_of p) (labels_of p) (levels_of p) o (plan_of p.program) ss r.mitigations
-  pub measures : IsMeasure p.program.order o t r.mitigations (views (sequence_from v p o t) ss) r.measures
+  pub measures : IsMeasure p.program.order o t r.mitigations (map (sequence_from v p o t) ss) r.measures
 
 -- Some start does not agree with the first one; or all agree, and then the first run decides that has not
 -- halted by T or shows too much.

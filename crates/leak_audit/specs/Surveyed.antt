@@ -1,5 +1,5 @@
 -- What is known of the runs of a program's image from a list of starts.
-use Rattle.std.specs.Prelude.{◌≡◌, ◌<◌, ◌≤◌, ◌+◌, ◌++◌, ℕ, List, [], ◌∷◌, max, length, Bool, true, false, cond, nat_eq, Option, None, Some}
+use Rattle.std.specs.Prelude.{◌≡◌, ◌<◌, ◌≤◌, ◌+◌, ◌++◌, ℕ, List, [], ◌∷◌, max, length, map, Bool, true, false, cond, nat_eq, Option, None, Some}
 use Rattle.mit_syntax.specs.Program.{plan_of}
 use Rattle.timing_types.specs.Labelled.{LabelledProgram, order_of, labels_of, levels_of}
 use Rattle.env_contract.specs.Env.{Env}
@@ -9,7 +9,7 @@ use Rattle.code_lower.specs.Lowered.{lowered}
 use Rattle.cycle_machine.specs.declared.end.RunEnd.{RunEnd}
 use Rattle.cycle_machine.specs.declared.end.RunEnd.TheVariants.{Halted, Limit}
 use Rattle.leak_bound.specs.Relevant.{is_relevant, begun_count}
-use Rattle.leak_bound.specs.Records.{Each, views}
+use Rattle.leak_bound.specs.Records.{Each}
 use Rattle.leak_bound.specs.Sound.{seen_from, Halts, most_ended}
 use Rattle.leak_audit.specs.declared.observe.Observed.{Observed}
 use Rattle.leak_audit.specs.declared.survey.Survey.{Survey}
@@ -75,7 +75,7 @@ module _ {E : Type 0} (v : Env E) (p : LabelledProgram) where
 
   -- none is refused
   pub record IsSurvey (o t : ℕ) (must : Bool) (ss : List (Start E)) (r : Survey) : Type 0 where
-    pub kinds : AreKinds (views (sequence_from o t) ss) r.kinds
+    pub kinds : AreKinds (map (sequence_from o t) ss) r.kinds
     pub halts : must ≡ true → Each (Halts v (lowered p).instrs t) ss
     pub few : shown_by_all o t ss ≤ 16777216
     pub halted : r.halted ≡ halted_count t ss

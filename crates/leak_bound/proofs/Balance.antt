@@ -14,13 +14,13 @@ abbrev open_count : (ℕ → Bool) → List Opened → ℕ
 open_count rel [] = 0
 open_count rel (w ∷ os) = cond (rel w.mark) 1 0 + open_count rel os
 
-begun-append : (rel : ℕ → Bool) (es fs : List Event) → begun_count rel (es ++ fs) ≡ begun_count rel es + begun_count rel fs
+pub begun-append : (rel : ℕ → Bool) (es fs : List Event) → begun_count rel (es ++ fs) ≡ begun_count rel es + begun_count rel fs
 begun-append rel [] fs = omega arith
 begun-append rel (Wrote x n c ∷ es) fs = begun-append rel es fs
 begun-append rel (Began k c ∷ es) fs = omega (arith, begun-append rel es fs)
 begun-append rel (Ended k c ∷ es) fs = begun-append rel es fs
 
-ended-append : (rel : ℕ → Bool) (es fs : List Event) → ended_count rel (es ++ fs) ≡ ended_count rel es + ended_count rel fs
+pub ended-append : (rel : ℕ → Bool) (es fs : List Event) → ended_count rel (es ++ fs) ≡ ended_count rel es + ended_count rel fs
 ended-append rel [] fs = omega arith
 ended-append rel (Wrote x n c ∷ es) fs = ended-append rel es fs
 ended-append rel (Began k c ∷ es) fs = ended-append rel es fs

@@ -31,7 +31,7 @@ code_below k (q ∷ qs) r h =
     let ih : c + 1 ≤ (k + 1) ^ length qs = omega (arith, code_below k qs r h) in
     omega (arith, mul-le-mul_left (k + 1) ih, below_le q.0 q.1 r, pow-succ' (k + 1) (length qs))
 
-digits_same : (b x c x' c' : ℕ) → x < b → x' < b → x + b * c ≡ x' + b * c' → (x ≡ x') × (c ≡ c')
+pub digits_same : (b x c x' c' : ℕ) → x < b → x' < b → x + b * c ≡ x' + b * c' → (x ≡ x') × (c ≡ c')
 digits_same b x c x' c' h h' e =
     ⊎_elim
     (λ (eq : c ≡ c'). let m = ap (λ n. b * n) eq in (omega (arith, m), eq))

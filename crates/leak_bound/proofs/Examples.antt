@@ -1,5 +1,5 @@
 -- Small programs worked out by the definitions alone, in an environment without penalties and with two labels.
-use Rattle.std.proofs.Common.{◌≡◌, List, [], ◌∷◌, ◌++◌, refl}
+use Rattle.std.proofs.Common.{◌≡◌, List, [], ◌∷◌, ◌++◌, refl, map}
 use Rattle.std.specs.Prelude.{ℕ, pos, negsuc, leb, max, true, false}
 use Rattle.mit_syntax.specs.declared.ast.Op.TheVariants.{Add, Lt}
 use Rattle.mit_syntax.specs.Expression.{Number, Variable, Binary, Element}
@@ -15,7 +15,7 @@ use Rattle.code_lower.specs.Code.{code_of}
 use Rattle.leak_bound.specs.Digits.{digits}
 use Rattle.leak_bound.specs.Relevant.{is_relevant, Begins}
 use Rattle.leak_bound.specs.Sound.{seen_from, most_ended}
-use Rattle.leak_bound.specs.Records.{views, distinct_count}
+use Rattle.leak_bound.specs.Records.{distinct_count}
 use Rattle.leak_bound.proofs.Same.{same_events}
 
 -- label 0 flows to label 1; variable x has label x
@@ -72,7 +72,7 @@ cut_second = refl
 cut_ended : most_ended flat (image waits) (is_relevant two own all_high 0 waits) 20 (from 0 ∷ from 3 ∷ []) ≡ 1
 cut_ended = refl
 
-cut_distinct : distinct_count same_events (views (seen_from flat two own (image waits) 0 20) (from 0 ∷ from 3 ∷ [])) ≡ 2
+cut_distinct : distinct_count same_events (map (seen_from flat two own (image waits) 0 20) (from 0 ∷ from 3 ∷ [])) ≡ 2
 cut_distinct = refl
 
 cut_digits : digits 20 ≡ 5
@@ -88,7 +88,7 @@ spins_halted = refl
 spins_on : (run_from flat (image spins) 50 (from 1)).halted ≡ false
 spins_on = refl
 
-spins_distinct : distinct_count same_events (views (seen_from flat two own (image spins) 0 50) (from 0 ∷ from 1 ∷ [])) ≡ 1
+spins_distinct : distinct_count same_events (map (seen_from flat two own (image spins) 0 50) (from 0 ∷ from 1 ∷ [])) ≡ 1
 spins_distinct = refl
 
 -- var a[4] : L; a[5] := 7; a[0 + -1] := 8

@@ -1,5 +1,5 @@
 -- The main theorem.
-use Rattle.std.proofs.Common.{◌≡◌, ℕ, suc, ◌+◌, ◌*◌, ◌^◌, ◌<◌, ◌≤◌, List, [], ◌∷◌, length, refl, sym, ap, ◌∙◌, subst, arith}
+use Rattle.std.proofs.Common.{◌≡◌, ℕ, suc, ◌+◌, ◌*◌, ◌^◌, ◌<◌, ◌≤◌, List, [], ◌∷◌, length, map, refl, sym, ap, ◌∙◌, subst, arith}
 use Rattle.std.specs.Prelude.{Bool, true, false, cond, max, ℤ}
 use Rattle.std.specs.List.{count_by}
 use Rattle.std.proofs.lemmas.List.Recursion.{is_count_by}
@@ -17,11 +17,12 @@ use Rattle.code_lower.specs.Follows.{told}
 use Rattle.code_lower.proofs.Order.{keeps_order}
 use Rattle.leak_bound.specs.Digits.{digits}
 use Rattle.leak_bound.specs.Relevant.{is_relevant, Begins, begun_count, ended_count}
-use Rattle.leak_bound.specs.Records.{Entry, Each, Pairwise, Tests, views, distinct_count}
+use Rattle.leak_bound.specs.Records.{Entry, Each, Pairwise, Tests, distinct_count}
 use Rattle.leak_bound.specs.Sound.{Agree, seen_from, Halts, bound, FirstBegins, Sound, ShowsOne, most_ended, CutSound, IsCompiled}
 use Rattle.leak_bound.proofs.Tells.{Tells, others, length-others, has_levels, tells_relevant}
 use Rattle.leak_bound.proofs.Digits.{digits_is}
-use Rattle.leak_bound.proofs.Headline.{Each-map, each_both, ended_is, begun_is, record_from, seen_same, few_cut_by, few_halted_by, same_begun}
+use Rattle.leak_bound.proofs.Few.{Each-map, Each-both}
+use Rattle.leak_bound.proofs.Headline.{ended_is, begun_is, record_from, seen_same, few_cut_by, few_halted_by, same_begun}
 
 abbrev tally : (ℕ → Bool) → List ℕ → ℕ
 tally rel [] = 0
@@ -48,7 +49,7 @@ pub begins_one : {M L : Type 0} (lat : Lattice) (g ls : ℕ → ℕ) (o : ℕ) (
 begins_one lat g ls o p m k k' b b' =
     sym b.2 ∙ ap (λ z. count_by (is_relevant lat g ls o p) (started_in z)) (ended_same p m b.0 b'.0 b.1 b'.1) ∙ b'.2
 
-none_ended : (rel : ℕ → Bool) → ((k : ℕ) → rel k ≡ false) → (es : List Event) → ended_count rel es ≡ 0
+pub none_ended : (rel : ℕ → Bool) → ((k : ℕ) → rel k ≡ false) → (es : List Event) → ended_count rel es ≡ 0
 none_ended rel h [] = refl
 none_ended rel h (Wrote x n c ∷ es) = none_ended rel h es
 none_ended rel h (Began k c ∷ es) = none_ended rel h es
@@ -114,7 +115,7 @@ module _ {E : Type 0} {serves : E → Type 0} (v : Env E) (order : Order) (g ls 
     where
       go : (o t : ℕ) → 0 < t → (starts : List (Start E)) → Pairwise (Agree v lat serves g o) starts → Each (Halts v image t) starts
           → (same : List Event → List Event → Bool) → Tests same → (k : ℕ) × FirstBegins lat g ls o p starts k
-          × Each (λ s. Begins lat g ls o p s.memory k) starts × (distinct_count same (views (seen_from v lat g image o t) starts) ≤ bound order o t k)
+          × Each (λ s. Begins lat g ls o p s.memory k) starts × (distinct_count same (map (seen_from v lat g image o t) starts) ≤ bound order o t k)
       go o t some [] agree halts same tests = (0, refl, tt, omega arith)
       go o t some (s ∷ starts) agree halts same tests =
           let rel = is_relevant lat g ls o p in
@@ -128,8 +129,7 @@ module _ {E : Type 0} {serves : E → Type 0} (v : Env E) (order : Order) (g ls 
                 (λ s' a. subst (λ z. Begins lat g ls o p s'.memory z)
                     (same_begun v lat made.lattice laws g image p made.arrays made.typed made.code o rel (tells o) t s' s (back o s s' a.0) a.1 halts.0)
                     (begins_log o t s' a.1))
-                (s ∷ starts) (each_both v lat made.lattice laws g image p made.arrays made.typed made.code o rel (tells o) t
-                    (λ s'. Agree v lat serves g o s s') (Halts v image t) (s ∷ starts) agree.0 halts),
+                (s ∷ starts) (Each-both (λ s'. Agree v lat serves g o s s') (Halts v image t) (s ∷ starts) agree.0 halts),
             by_digits o t _ k d.0 d.1 few,
           )
         where

@@ -1,5 +1,5 @@
 -- Few sequences are seen.
-use Rattle.std.proofs.Common.{◌≡◌, ℕ, suc, ◌+◌, ◌*◌, ◌^◌, ◌<◌, ◌≤◌, List, [], ◌∷◌, ◌++◌, length, refl, sym, ap, ◌∙◌, subst, inl, ⊎_elim, arith}
+use Rattle.std.proofs.Common.{◌≡◌, ℕ, suc, ◌+◌, ◌*◌, ◌^◌, ◌<◌, ◌≤◌, List, [], ◌∷◌, ◌++◌, length, map, refl, sym, ap, ◌∙◌, subst, inl, ⊎_elim, arith}
 use Rattle.std.specs.Prelude.{Bool, true, false, cond, leb, max}
 use Rattle.std.proofs.lemmas.Bool.{cases_lt}
 use Rattle.std.proofs.Math.Nat.{pow-le-pow_right, le-max_left, le-max_right}
@@ -18,7 +18,8 @@ use Rattle.leak_bound.specs.Relevant.{begun_count, ended_count}
 use Rattle.leak_bound.proofs.Tells.{Tells, HasLevels}
 use Rattle.label_code.specs.Run.{Start, run_from}
 use Rattle.leak_bound.specs.Sound.{Agree, seen_from, most_ended}
-use Rattle.leak_bound.specs.Records.{Entry, levels_of, IsIn, Within, Tests, Each, views, distinct_count}
+use Rattle.leak_bound.specs.Records.{Entry, levels_of, IsIn, Within, Tests, Each, distinct_count}
+use Rattle.leak_bound.proofs.Few.{Each-map, Each-both}
 use Rattle.leak_bound.proofs.Bound.{count_cut}
 use Rattle.code_lower.proofs.Timed.{tested, opening}
 use Rattle.leak_bound.proofs.Runs.{Job, Do, Loop, Runs, done, skip, assign, put, sleep, if_true, if_false, while_none, while_some, mitigate, last, again, late}
@@ -85,10 +86,6 @@ module _ {E : Type 0} {serves : E → Type 0} (v : Env E) (lat : Lattice) (ll : 
   levels_in h (last b w) = levels_in h b
   levels_in h (again b w k) = levels_in-append ls _ _ (levels_in h b) (levels_in h k)
 
-pub Each-map : {X : Type 0} (P Q : X → Type 0) → ((x : X) → P x → Q x) → (xs : List X) → Each P xs → Each Q xs
-Each-map P Q f [] h = tt
-Each-map P Q f (x ∷ xs) h = (f x h.0, Each-map P Q f xs h.1)
-
 module _ {E : Type 0} {serves : E → Type 0} (v : Env E) (lat : Lattice) (ll : IsLattice lat) (laws : IsLawful v lat serves) (g : ℕ → ℕ) (image : List Instr)
     (p : Marked) (arrays : ArraysIn g p) (typed : IsTyped lat g p) (code : IsImage lat g image p) (o : ℕ) (rel : ℕ → Bool)
     (tells : Tells lat g o rel lat.bottom p) (t : ℕ) where
@@ -145,7 +142,7 @@ module _ {E : Type 0} {serves : E → Type 0} (v : Env E) (lat : Lattice) (ll : 
   see P s x = seen_from v lat g image o t x.from
 
   views-members : (P : Start E → Type 0) (s : Start E) (starts : List (Start E)) (a : Each (λ s'. AgreeTo s s') starts) (h : Each P starts)
-      → views (see P s) (members P s starts a h) ≡ views (seen_from v lat g image o t) starts
+      → map (see P s) (members P s starts a h) ≡ map (seen_from v lat g image o t) starts
   unfolding members
   views-members P s [] a h = refl
   views-members P s (s' ∷ starts) a h = ap (λ z. seen_from v lat g image o t s' ∷ z) (views-members P s starts a.1 h.1)
@@ -156,7 +153,7 @@ module _ {E : Type 0} {serves : E → Type 0} (v : Env E) (lat : Lattice) (ll : 
   -- runs that may be cut: at most k relevant mitigations ended in each
   pub few_under : (ls : List ℕ) → HasLevels lat o ls p → (same : List Event → List Event → Bool) → Tests same → (d : ℕ) → t < 2 ^ suc d
       → (k : ℕ) (s : Start E) (starts : List (Start E)) → Each (λ s'. AgreeTo s s') starts → Each (λ s'. ended s' ≤ k) starts
-      → distinct_count same (views (seen_from v lat g image o t) starts) ≤ (k + 1) ^ (length ls * suc d)
+      → distinct_count same (map (seen_from v lat g image o t) starts) ≤ (k + 1) ^ (length ls * suc d)
   few_under ls has same tests d lt k s starts a h =
       let P : Start E → Type 0 = λ s'. ended s' ≤ k in
       let bound = count_cut (see P s) (λ (x : Member P s). record_from x.from) same tests ls d k
@@ -177,7 +174,7 @@ module _ {E : Type 0} {serves : E → Type 0} (v : Env E) (lat : Lattice) (ll : 
 
   pub few_cut_by : (ls : List ℕ) → HasLevels lat o ls p → (same : List Event → List Event → Bool) → Tests same → (d : ℕ) → t < 2 ^ suc d
       → (starts : List (Start E)) → Each (λ s. Each (λ s'. AgreeTo s s') starts) starts
-      → distinct_count same (views (seen_from v lat g image o t) starts) ≤ (most_ended v image rel t starts + 1) ^ (length ls * suc d)
+      → distinct_count same (map (seen_from v lat g image o t) starts) ≤ (most_ended v image rel t starts + 1) ^ (length ls * suc d)
   few_cut_by ls has same tests d lt [] a = omega arith
   few_cut_by ls has same tests d lt (s ∷ starts) a =
       few_under ls has same tests d lt (most_ended v image rel t (s ∷ starts)) s (s ∷ starts) a.0 (under_most (s ∷ starts))
@@ -202,15 +199,11 @@ module _ {E : Type 0} {serves : E → Type 0} (v : Env E) (lat : Lattice) (ll : 
       → begun_count rel (run_from v image t x).core.log ≡ begun_count rel (run_from v image t y).core.log
   same_begun x y a h h' = begun_is x h ∙ count_same x y a h h' ∙ sym (begun_is y h')
 
-  pub each_both : (P Q : Start E → Type 0) (starts : List (Start E)) → Each P starts → Each Q starts → Each (λ s. P s × Q s) starts
-  each_both P Q [] a b = tt
-  each_both P Q (s ∷ starts) a b = ((a.0, b.0), each_both P Q starts a.1 b.1)
-
   -- the halting theorem from the one for any cut
   pub few_halted_by : (ls : List ℕ) → HasLevels lat o ls p → (same : List Event → List Event → Bool) → Tests same → (d : ℕ) → t < 2 ^ suc d
       → (s : Start E) (starts : List (Start E)) → Each (λ s'. AgreeTo s s') (s ∷ starts) → Each Halts (s ∷ starts)
-      → distinct_count same (views (seen_from v lat g image o t) (s ∷ starts)) ≤ (begun_count rel (run_from v image t s).core.log + 1) ^ (length ls * suc d)
+      → distinct_count same (map (seen_from v lat g image o t) (s ∷ starts)) ≤ (begun_count rel (run_from v image t s).core.log + 1) ^ (length ls * suc d)
   few_halted_by ls has same tests d lt s starts a h =
       few_under ls has same tests d lt (begun_count rel (run_from v image t s).core.log) s (s ∷ starts) a
       (Each-map (λ s'. AgreeTo s s' × Halts s') (λ s'. ended s' ≤ begun_count rel (run_from v image t s).core.log)
-      (λ s' x. omega (arith, ended_is s', count_same s s' x.0 h.0 x.1, begun_is s h.0)) (s ∷ starts) (each_both (λ s'. AgreeTo s s') Halts (s ∷ starts) a h))
+      (λ s' x. omega (arith, ended_is s', count_same s s' x.0 h.0 x.1, begun_is s h.0)) (s ∷ starts) (Each-both (λ s'. AgreeTo s s') Halts (s ∷ starts) a h))

@@ -1,4 +1,5 @@
 pub mod Counting
+pub mod Few
 pub mod Bound
 pub mod Tells
 pub mod Shown

@@ -14,21 +14,16 @@ use Rattle.doubling_schedule.specs.Doubling.{misses_after}
 use Rattle.code_lower.specs.Layout.{expr_size, size, raised}
 use Rattle.env_contract.specs.Laws.{IsLawful}
 use Rattle.leak_bound.specs.Relevant.{ended_count}
+use Rattle.leak_bound.proofs.Balance.{ended-append}
 use Rattle.leak_bound.proofs.Tells.{Tells}
 use Rattle.leak_bound.specs.Records.{Entry}
-use Rattle.code_lower.proofs.Timed.{timed, tested, reached, reached_log, begun, opening}
+use Rattle.code_lower.proofs.Timed.{timed_log, tested, reached, reached_log, begun, opening}
 use Rattle.leak_bound.proofs.Runs.{Job, Do, Loop, Runs, done, skip, assign, put, sleep, if_true, if_false, while_none, while_some, mitigate, last, again, late}
 use Rattle.leak_bound.proofs.Low.{entry_of, record_of}
 use Rattle.label_code.proofs.Upto.{clock_of, upto, upto-append}
 
-ended-append : (rel : ℕ → Bool) (es fs : List Event) → ended_count rel (es ++ fs) ≡ ended_count rel es + ended_count rel fs
-ended-append rel [] fs = omega arith
-ended-append rel (Wrote x n c ∷ es) fs = ended-append rel es fs
-ended-append rel (Began k c ∷ es) fs = ended-append rel es fs
-ended-append rel (Ended k c ∷ es) fs = omega (arith, ended-append rel es fs)
-
 -- one more event
-one_more : (rel : ℕ → Bool) (lim : ℕ) (es : List Event) (e : Event)
+pub one_more : (rel : ℕ → Bool) (lim : ℕ) (es : List Event) (e : Event)
     → ended_count rel (upto lim (es ++ e ∷ [])) ≡ ended_count rel (upto lim es) + cond (leb (clock_of e) lim) (ended_count rel (e ∷ [])) 0
 one_more rel lim es e = ap (ended_count rel) (upto-append lim es (e ∷ [])) ∙ ended-append rel (upto lim es) (upto lim (e ∷ []))
     ∙ ap (λ z. ended_count rel (upto lim es) + z) (go (leb (clock_of e) lim))
@@ -37,11 +32,9 @@ one_more rel lim es e = ap (ended_count rel) (upto-append lim es (e ∷ [])) ∙
     go true = refl
     go false = refl
 
-log_same : {E : Type 0} (v : Env E) (m : Marks) (e : Expression) (a : ℕ) (s : Core E) → (timed v m e a s).log ≡ s.log
-log_same v m (Number n) a s = refl
-log_same v m (Variable x) a s = refl
-log_same v m (Binary op l r) a s = log_same v m r (a + expr_size l) _ ∙ log_same v m l a s
-log_same v m (Element f n i) a s = log_same v m i a s
+pub nought : (b : Bool) → cond {A = ℕ} b 0 0 ≡ 0
+nought true = refl
+nought false = refl
 
 module _ {E : Type 0} {serves : E → Type 0} (v : Env E) (lat : Lattice) (ll : IsLattice lat) (laws : IsLawful v lat serves) (g : ℕ → ℕ)
     (o lim : ℕ) (rel : ℕ → Bool) where
@@ -53,14 +46,10 @@ module _ {E : Type 0} {serves : E → Type 0} (v : Env E) (lat : Lattice) (ll : 
   count s = ended_count rel (upto lim s.log)
 
   tested_count : (m : Marks) (e : Expression) (a : ℕ) (s : Core E) → count (tested v m e a s) ≡ count s
-  tested_count m e a s = ap (λ z. ended_count rel (upto lim z)) (log_same v m e a s)
+  tested_count m e a s = ap (λ z. ended_count rel (upto lim z)) (timed_log v m e a s)
 
   reached_count : (m : Marks) (i e : Expression) (a : ℕ) (s : Core E) → count (reached v m i e a s) ≡ count s
   reached_count m i e a s = ap (λ z. ended_count rel (upto lim z)) (reached_log v m i e a s)
-
-  nought : (b : Bool) → cond {A = ℕ} b 0 0 ≡ 0
-  nought true = refl
-  nought false = refl
 
   written_count : (x : ℕ) (n : ℤ) (s : Core E) → count (written x n s) ≡ count s
   written_count x n s = omega (arith, one_more rel lim s.log (Wrote x n s.clock), nought (leb s.clock lim))

@@ -1,5 +1,5 @@
 -- What is true of commands with labels is true of the same commands without them.
-use Rattle.std.proofs.Common.{◌≡◌, ◌≤◌, ℕ, List, [], ◌∷◌, ◌++◌, refl, sym, ap, ◌∙◌, subst}
+use Rattle.std.proofs.Common.{◌≡◌, ◌≤◌, ℕ, List, [], ◌∷◌, ◌++◌, refl, sym, ap, ◌∙◌, subst, map}
 use Rattle.std.specs.Prelude.{false, not, ◌&&◌, ℤ, slice_index_or}
 use Rattle.std.specs.List.{count_by}
 use Rattle.mit_syntax.specs.Todo.{Todo, Done, Skip, Assign, Put, Sleep, If, While, Mitigate, map_todo, commands_of}
@@ -17,12 +17,12 @@ use Rattle.label_code.specs.declared.code.Instr.{Instr}
 use Rattle.code_lower.specs.Lowered.{lowered}
 use Rattle.code_lower.proofs.Stands.{image_is}
 use Rattle.code_lower.proofs.Meaning.{order_same}
-use Rattle.leak_bound.specs.Records.{views, distinct_count}
+use Rattle.leak_bound.specs.Records.{distinct_count}
 use Rattle.leak_bound.specs.Relevant.{relevances, is_relevant, Begins}
 use Rattle.leak_bound.specs.Sound.{seen_from, bound, FirstBegins, Sound, ShowsOne, CutSound, most_ended, IsCompiled}
 use Rattle.leak_bound.specs.Source.{SameCounts, IsTypedWith}
 use Rattle.leak_bound.proofs.Compiled.{compiled}
-use Rattle.leak_bound.proofs.Headline.{Each-map}
+use Rattle.leak_bound.proofs.Few.{Each-map}
 
 module _ {M L M' L' : Type 0} (f : M → M') (h : L → L') (lat : Lattice) (g ls : ℕ → ℕ) (o : ℕ) where
   relevances-map : (p : Todo M L) (pc : ℕ) → relevances lat g ls o pc (map_todo f h p) ≡ relevances lat g ls o pc p
@@ -93,7 +93,7 @@ module _ {E M L M' L' : Type 0} (v : Env E) (order : Order) (serves : E → Type
   cut_sound_same s =
       record {
         few = λ o low t some starts agree same tests.
-            subst (λ z. distinct_count same (views (seen_from v (lattice_of order) g image o t) starts) ≤ bound order o t (most_ended v image z t starts))
+            subst (λ z. distinct_count same (map (seen_from v (lattice_of order) g image o t) starts) ≤ bound order o t (most_ended v image z t starts))
                 (relevant-same p q e (lattice_of order) g ls o)
             (s.few o low t some starts agree same tests);
       }

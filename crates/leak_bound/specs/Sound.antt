@@ -1,5 +1,5 @@
 -- The main theorem's statement.
-use Rattle.std.specs.Prelude.{◌≡◌, ℕ, ◌+◌, ◌*◌, ◌^◌, ◌<◌, ◌≤◌, List, [], ◌∷◌, length, max, Bool, true, false}
+use Rattle.std.specs.Prelude.{◌≡◌, ℕ, ◌+◌, ◌*◌, ◌^◌, ◌<◌, ◌≤◌, List, [], ◌∷◌, length, map, max, Bool, true, false}
 use Rattle.mit_syntax.specs.Todo.{Todo, Marked}
 use Rattle.mit_syntax.specs.MarkOrder.{MarksFrom}
 use Rattle.mit_syntax.specs.Values.{read}
@@ -17,7 +17,7 @@ use Rattle.code_lower.specs.Follows.{KeepsOrder}
 use Rattle.leak_bound.specs.Digits.{digits}
 use Rattle.label_code.specs.Visible.{visible}
 use Rattle.leak_bound.specs.Relevant.{is_relevant, Begins, ended_count, LevelsBelow, LevelsAre}
-use Rattle.leak_bound.specs.Records.{Each, Pairwise, views, Tests, distinct_count}
+use Rattle.leak_bound.specs.Records.{Each, Pairwise, Tests, distinct_count}
 
 -- Two starts agree for an observer: variables whose labels flow to it have equal values, and the
 -- environments, which serve the lattice, are equal in the parts of labels that flow to it.
@@ -56,7 +56,7 @@ pub record Sound {E M L : Type 0} (v : Env E) (order : Order) (serves : E → Ty
       (k : ℕ)
       × FirstBegins (lattice_of order) g ls o p starts k
       × Each (λ s. Begins (lattice_of order) g ls o p s.memory k) starts
-      × (distinct_count same (views (seen_from v (lattice_of order) g image o t) starts) ≤ bound order o t k)
+      × (distinct_count same (map (seen_from v (lattice_of order) g image o t) starts) ≤ bound order o t k)
 
 -- where no mitigate is relevant, starts that agree show one sequence, whether or not their runs have halted
 abbrev pub ShowsOne : {E M L : Type 0} → Env E → Order → (E → Type 0) → (ℕ → ℕ) → (ℕ → ℕ) → List Instr → Todo M L → Type 0
@@ -75,7 +75,7 @@ pub record CutSound {E M L : Type 0} (v : Env E) (order : Order) (serves : E →
   pub few : (o : ℕ) → o < order.size → (t : ℕ) → 0 < t → (starts : List (Start E)) →
       Pairwise (Agree v (lattice_of order) serves g o) starts →
       (same : List Event → List Event → Bool) → Tests same →
-      distinct_count same (views (seen_from v (lattice_of order) g image o t) starts) ≤ bound order o t
+      distinct_count same (map (seen_from v (lattice_of order) g image o t) starts) ≤ bound order o t
       (most_ended v image (is_relevant (lattice_of order) g ls o p) t starts)
 
 -- an accepted program, whose arrays have one label each, with its labels and its image

@@ -1,6 +1,6 @@
 -- Few sequences are seen, by the sharper count.
 use Rattle.std.proofs.Common.{◌≡◌, ℕ, zero, suc, ◌+◌, ◌-◌, ◌*◌, ◌/◌, ◌^◌, ◌<◌, ◌≤◌, List, [], ◌∷◌, length, refl, sym, ap, ◌∙◌, subst, ◌⊎◌, inl, inr, ⊎_elim}
-use Rattle.std.proofs.Common.{arith}
+use Rattle.std.proofs.Common.{arith, map}
 use Rattle.std.specs.Prelude.{Bool, true, false, cond, eqb, ltb, not, max, ◌&&◌}
 use Rattle.std.specs.List.{count_by}
 use Rattle.std.proofs.lemmas.Bool.{cases_lt, ltb-true, eqb-true, both_ways}
@@ -24,7 +24,7 @@ use Rattle.code_lower.specs.Follows.{told}
 use Rattle.code_lower.proofs.Order.{keeps_order}
 use Rattle.leak_bound.specs.Digits.{digits}
 use Rattle.leak_bound.specs.Relevant.{is_relevant, begun_count, ended_count}
-use Rattle.leak_bound.specs.Records.{Entry, Fits, Each, Pairwise, Tests, views, distinct_count}
+use Rattle.leak_bound.specs.Records.{Entry, Fits, Each, Pairwise, Tests, distinct_count}
 use Rattle.leak_bound.specs.Sound.{Agree, seen_from, Halts, bound, FirstBegins, most_ended, IsCompiled}
 use Rattle.leak_bound.proofs.Tells.{Tells, tells_relevant}
 use Rattle.leak_bound.proofs.Digits.{digits_is}
@@ -34,8 +34,8 @@ use Rattle.leak_bound.proofs.Low.{Timing, SameLow, record_of, fetched_low, fetch
 use Rattle.leak_bound.proofs.Marks.{low_count as count_low}
 use Rattle.leak_bound.proofs.Two.{Both, two_run}
 use Rattle.leak_bound.proofs.Whole.{first_core}
-use Rattle.leak_bound.proofs.Headline.{Each-map}
-use Rattle.leak_bound.proofs.Final.{begun-told, begins_one, begins_log}
+use Rattle.leak_bound.proofs.Few.{Each-map, Each-both, count_few}
+use Rattle.leak_bound.proofs.Final.{begun-told, none_ended, begins_one, begins_log}
 use Rattle.sharp_count.specs.Count.{rising, sharp}
 use Rattle.sharp_count.proofs.Choose.{rising-none}
 use Rattle.sharp_count.proofs.Binary.{digits_few}
@@ -44,13 +44,13 @@ use Rattle.sharp_bound.specs.Sharp.{closer, ends_by, relevant_at, BeginsEach, Fe
 use Rattle.sharp_bound.specs.End.{end_from, seen_to_end, EndsLow, SharpEnd}
 use Rattle.sharp_bound.specs.Twice.{left_by}
 use Rattle.sharp_bound.proofs.Ends.{ToEnd, to_end, past_halt}
-use Rattle.sharp_bound.proofs.Rank.{picked, is_at, AtMost, Under, LevelsUnder, number_below}
+use Rattle.sharp_bound.proofs.Rank.{picked, is_at, AtMost, Under, LevelsUnder}
 use Rattle.sharp_bound.proofs.Picks.{low_count}
 use Rattle.sharp_bound.proofs.Levels.{tells_both}
 use Rattle.sharp_bound.proofs.Firsts.{TookFirst, took, from_start}
 use Rattle.sharp_bound.proofs.Within.{sharp_within, sharp_same, picked_length, picked_low, tells_none, tells_above}
 use Rattle.sharp_bound.proofs.Guess.{few_shown}
-use Rattle.sharp_bound.proofs.Few.{IsCounted, count_numbered, count_sharp}
+use Rattle.sharp_bound.proofs.Few.{IsCounted, count_sharp}
 use Rattle.sharp_count.specs.Lists.{IsAmong}
 use Rattle.sharp_count.specs.Ways.{AreWays}
 use Rattle.sharp_bound.specs.Shared.{StandApart, FewShared, SharpShared}
@@ -112,12 +112,6 @@ picked_fits pick (x ∷ r) (y ∷ r') f e =
     let a = ap (λ z. cond {A = ℕ} (pick z) 1 0) f.0 in
     omega (arith, a, picked_fits pick r r' f.1 (omega (arith, e)))
 
-none_ended : (rel : ℕ → Bool) → ((k : ℕ) → rel k ≡ false) → (es : List Event) → ended_count rel es ≡ 0
-none_ended rel h [] = refl
-none_ended rel h (Wrote x n c ∷ es) = none_ended rel h es
-none_ended rel h (Began k c ∷ es) = none_ended rel h es
-none_ended rel h (Ended k c ∷ es) = ap (λ b. cond {A = ℕ} b 1 0 + ended_count rel es) (h k) ∙ omega (arith, none_ended rel h es)
-
 all_false : (es : List Event) → ended_count (λ k. false) es ≡ 0
 all_false es = none_ended (λ k. false) (λ k. refl) es
 
@@ -135,9 +129,6 @@ ended_less rel at (Ended k c ∷ es) = omega (arith, go (rel k) (at k), ended_le
 
 max_le : (a b c d : ℕ) → a ≤ c → b ≤ d → max a b ≤ max c d
 max_le a b c d h k = max-le (omega (arith, h, le-max_left c d)) (omega (arith, k, le-max_right c d))
-
-sharp-some : (ds : ℕ → ℕ) (n : ℕ) (ks : ℕ → ℕ) → 0 < sharp (λ l. suc (ds l)) n ks
-sharp-some ds n ks = omega (arith, number_below ds ks n [] tt tt (λ l. omega arith))
 
 module _ {E : Type 0} {serves : E → Type 0} (v : Env E) (order : Order) (g ls : ℕ → ℕ) (image : List Instr) (p : Marked) (made : IsCompiled order g ls image p)
     (laws : IsLawful v (lattice_of order) serves) where
@@ -307,7 +298,7 @@ module _ {E : Type 0} {serves : E → Type 0} (v : Env E) (order : Order) (g ls 
   members o P s (s' ∷ starts) a h = record { from = s'; agrees = a.0; more = h.0 } ∷ members o P s starts a.1 h.1
 
   views-members : {V : Type 0} (view : Start E → V) (o : ℕ) (P : Start E → Type 0) (s : Start E) (starts : List (Start E))
-      (a : Each (λ s'. AgreeTo o s s') starts) (h : Each P starts) → views (λ (x : Member o P s). view x.from) (members o P s starts a h) ≡ views view starts
+      (a : Each (λ s'. AgreeTo o s s') starts) (h : Each P starts) → map (λ (x : Member o P s). view x.from) (members o P s starts a h) ≡ map view starts
   unfolding members
   views-members view o P s [] a h = refl
   views-members view o P s (s' ∷ starts) a h = ap (λ z. view s' ∷ z) (views-members view o P s starts a.1 h.1)
@@ -318,14 +309,13 @@ module _ {E : Type 0} {serves : E → Type 0} (v : Env E) (order : Order) (g ls 
   few_of : {V : Type 0} (o t : ℕ) (ds ks : ℕ → ℕ) (P : Start E → Type 0) → ((s : Start E) → P s → IsCounted order.size ds ks (record_at o t s))
       → ((x y : Start E) → P x → P y → (length (record_at o t x) ≡ length (record_at o t y)) ⊎ (Under ds (record_at o t x) × Under ds (record_at o t y)))
       → (view : Start E → V) → Told o t view → (same : V → V → Bool) → Tests same → (s : Start E) (starts : List (Start E)) → Each (λ s'. AgreeTo o s s') starts
-      → Each P starts → distinct_count same (views view starts) ≤ sharp (λ l. suc (ds l)) order.size ks
+      → Each P starts → distinct_count same (map view starts) ≤ sharp (λ l. suc (ds l)) order.size ks
   few_of o t ds ks P good ends view told same tests s starts a h =
       let few = count_sharp (λ (x : Member o P s). view x.from) (λ (x : Member o P s). record_at o t x.from) same tests order.size ds ks
       (λ x. good x.from x.more)
       (λ x y. fits_at o t x.from y.from (pair o P s x y))
       (λ x y. ends x.from y.from x.more y.more)
       (λ x y e. told x.from y.from (pair o P s x y) e)
-      (sharp-some ds order.size ks)
       (members o P s starts a h) in
       subst (λ z. distinct_count same z ≤ sharp (λ l. suc (ds l)) order.size ks) (views-members view o P s starts a h) few
 
@@ -374,10 +364,6 @@ module _ {E : Type 0} {serves : E → Type 0} (v : Env E) (order : Order) (g ls 
   all_hold P Q R [] a b c = tt
   all_hold P Q R (s ∷ starts) a b c = ((a.0, b.0, c.0), all_hold P Q R starts a.1 b.1 c.1)
 
-  both_hold : (P Q : Start E → Type 0) (starts : List (Start E)) → Each P starts → Each Q starts → Each (λ s. P s × Q s) starts
-  both_hold P Q [] a b = tt
-  both_hold P Q (s ∷ starts) a b = ((a.0, b.0), both_hold P Q starts a.1 b.1)
-
   few_halted : {V : Type 0} (o t : ℕ) → 0 < t → (view : Start E → V) → Told o t view → FewHalted v order serves g ls image p o t view
   few_halted o t some view told [] agree halts firsts predicts same tests = (
     λ l. 0,
@@ -403,7 +389,7 @@ module _ {E : Type 0} {serves : E → Type 0} (v : Env E) (order : Order) (g ls 
         counts,
         Each-map P (λ s'. BeginsEach lat g ls o p s'.memory counts) (λ s' h. begins_each o t counts s' h.2 h.0) (s ∷ starts) each,
         few_shown view same tests (s ∷ starts) (sharp vs order.size counts)
-            (subst (λ z. distinct_count same (views view (s ∷ starts)) ≤ z) all few),
+            (subst (λ z. distinct_count same (map view (s ∷ starts)) ≤ z) all few),
         λ k b. (
           to_closer o t k firsts counts some (λ l. omega (arith, length_of o t k s halts.0 b, picked_length (is_at l) (record_at o t s)))
               (λ l f. none_low o t l f s),
@@ -440,7 +426,7 @@ module _ {E : Type 0} {serves : E → Type 0} (v : Env E) (order : Order) (g ls 
 
   cut_under : {V : Type 0} (o t : ℕ) → (view : Start E → V) → Told o t view → (starts : List (Start E)) → Pairwise (Agree v lat serves g o) starts
       → (firsts : ℕ → ℕ) → Each (PredictsTo o t firsts) starts → (same : V → V → Bool) → Tests same
-      → distinct_count same (views view starts) ≤ sharp (λ l. ends_by t firsts l + 1) order.size (most o t starts)
+      → distinct_count same (map view starts) ≤ sharp (λ l. ends_by t firsts l + 1) order.size (most o t starts)
   cut_under o t view told [] agree firsts predicts same tests = omega arith
   cut_under o t view told (s ∷ starts) agree firsts predicts same tests =
       let vs : ℕ → ℕ = ends_by t firsts in
@@ -450,9 +436,9 @@ module _ {E : Type 0} {serves : E → Type 0} (v : Env E) (order : Order) (g ls 
       (λ s' h. counted_at o t vs ks s' (at_most_same vs (record_at o t s') (under_at o t firsts s' h.1)) h.0)
       (λ x y h h'. inr (under_at o t firsts x h.1, under_at o t firsts y h'.1))
       view told same tests s (s ∷ starts) agree.0
-      (both_hold (λ s'. (l : ℕ) → picked (is_at l) (record_at o t s') ≤ ks l) (PredictsTo o t firsts) (s ∷ starts) (under_most o t (s ∷ starts)) predicts) in
+      (Each-both (λ s'. (l : ℕ) → picked (is_at l) (record_at o t s') ≤ ks l) (PredictsTo o t firsts) (s ∷ starts) (under_most o t (s ∷ starts)) predicts) in
       let all = sharp_same order.size (λ l. suc (vs l)) (λ l. vs l + 1) ks (λ l. let e : suc (vs l) ≡ vs l + 1 = omega arith in ap (λ z. rising z (ks l)) e) in
-      subst (λ z. distinct_count same (views view (s ∷ starts)) ≤ z) all few
+      subst (λ z. distinct_count same (map view (s ∷ starts)) ≤ z) all few
 
   few_cut : {V : Type 0} (o t : ℕ) → 0 < t → (view : Start E → V) → Told o t view → FewCut v order serves g ls image p o t view
   few_cut o t some view told starts agree firsts predicts same tests =
@@ -495,11 +481,9 @@ module _ {E : Type 0} {serves : E → Type 0} (v : Env E) (order : Order) (g ls 
         λ ways are.
             let way : (x : Member o P s) → IsAmong (choice_of order.size (record_at o t x.from)) ways =
                 λ x. its_way o t firsts counts ways are apart x.from x.more.3 x.more.2 x.more.0 in
-            let own = its_way o t firsts counts ways are apart s each.0.3 each.0.2 each.0.0 in
-            let few = count_numbered (λ (x : Member o P s). view x.from)
-                (λ x. place (choice_of order.size (record_at o t x.from)) ways (way x)) same tests (length ways)
-            (omega (arith, place_below (choice_of order.size (record_at o t s)) ways own))
-            (λ x. place_below (choice_of order.size (record_at o t x.from)) ways (way x))
+            let few = count_few (λ (x : Member o P s). view x.from)
+                (λ x. place (choice_of order.size (record_at o t x.from)) ways (way x)) (length ways)
+            (λ x. place_below (choice_of order.size (record_at o t x.from)) ways (way x)) same tests
             (λ x y e. told x.from y.from (pair o P s x y)
             (same_choice order.size (record_at o t x.from) (record_at o t y.from) (fits_at o t x.from y.from (pair o P s x y))
                 (x.more.1 ∙ sym y.more.1) (levels_at o t x.from)

@@ -10,6 +10,7 @@ use Rattle.mit_syntax.specs.Values.{element, value_of, holds}
 use Rattle.doubling_schedule.specs.Doubling.{at_least_zero, prediction, misses_after}
 use Rattle.label_lattice.specs.Lattice.{Lattice, Flows, IsLattice}
 use Rattle.timing_types.specs.Typing.{label_of}
+use Rattle.source_meaning.proofs.Begins.{then_done}
 use Rattle.source_meaning.specs.Source.{Note, Assigned, Started, Source, source_steps}
 use Rattle.env_contract.specs.Env.{Env}
 use Rattle.label_code.specs.Machine.{Core, Opened, Event, Wrote, Began, Ended, fetched, touched, written, closed}
@@ -23,22 +24,13 @@ use Rattle.leak_bound.specs.Records.{Entry}
 use Rattle.leak_bound.proofs.Tells.{Tells}
 use Rattle.leak_bound.proofs.Runs.{Job, Do, Loop, Runs, done, skip, assign, put, sleep, if_true, if_false, while_none, while_some, mitigate, last, again, late}
 use Rattle.leak_bound.proofs.Low.{entry_of, record_of}
+use Rattle.leak_bound.proofs.Marks.{nought}
 use Rattle.leak_bound.proofs.Record.{closed_grows, grows_run}
 use Rattle.sharp_bound.specs.Firsts.{PredictsNext, Predicts, AtLeastOne}
 
 -- commands without marks and levels
 abbrev pub Bare : Type 0
 Bare = Todo (Unit {0}) (Unit {0})
-
-pub then_done : (p : Bare) → p ≡ then_todo p Done
-then_done Done = refl
-then_done (Skip m p) = ap (λ z. Skip m z) (then_done p)
-then_done (Assign m x e p) = ap (λ z. Assign m x e z) (then_done p)
-then_done (Put m f n i e p) = ap (λ z. Put m f n i e z) (then_done p)
-then_done (Sleep m e p) = ap (λ z. Sleep m e z) (then_done p)
-then_done (If m e a b p) = ap (λ z. If m e a b z) (then_done p)
-then_done (While m e c p) = ap (λ z. While m e c z) (then_done p)
-then_done (Mitigate m k l e c p) = ap (λ z. Mitigate m k l e c z) (then_done p)
 
 -- each entry, with the first prediction of its level, took its cycles by c
 abbrev pub TookFirst : (ℕ → ℕ) → ℕ → List Entry → Type 0
@@ -124,10 +116,6 @@ module _ {E : Type 0} (v : Env E) (lat : Lattice) (g : ℕ → ℕ) (o lim : ℕ
 
   pub reached_tally : (m : Marks) (i e : Expression) (a : ℕ) (s : Core E) → tally (reached v m i e a s) ≡ tally s
   reached_tally m i e a s = ap (λ z. length (told (upto lim z))) (reached_log v m i e a s)
-
-  nought : (b : Bool) → cond {A = ℕ} b 0 0 ≡ 0
-  nought true = refl
-  nought false = refl
 
   pub closed_tally : (w : Opened) (q : Core E) → tally (closed w q) ≡ tally q
   closed_tally w q = omega (arith, noted q.log (Ended w.mark (closed w q).clock), nought (leb (closed w q).clock lim))
@@ -421,7 +409,7 @@ pub from_start : {E : Type 0} (v : Env E) (lat : Lattice) (g : ℕ → ℕ) (o l
     → s.log ≡ [] → Predicts rel ls firsts p s.memory total → Here v lat g o lim rel ls firsts total (then_todo (commands_of p) Done) s
 from_start v lat g o lim rel ls firsts total p s none h =
     let start : 0 ≡ length (told (upto lim s.log)) = ap (λ z. length (told (upto lim z))) (sym none) in
-    subst (λ z. Here v lat g o lim rel ls firsts total z s) (then_done (commands_of p)) ([], start, h)
+    subst (λ z. Here v lat g o lim rel ls firsts total z s) (sym (then_done (commands_of p))) ([], start, h)
 
 one_next : {M L : Type 0} (rel : ℕ → Bool) (ls : ℕ → ℕ) (p : Todo M L) (m : List ℤ) → PredictsNext rel ls (λ l. 1) p m
 one_next rel ls Done m = tt

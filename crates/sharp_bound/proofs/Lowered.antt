@@ -16,7 +16,7 @@ use Rattle.label_code.specs.declared.code.Instr.{Instr}
 use Rattle.code_lower.specs.Lowered.{lowered}
 use Rattle.leak_bound.specs.Relevant.{is_relevant}
 use Rattle.leak_bound.specs.Sound.{bound, FirstBegins, most_ended}
-use Rattle.leak_bound.proofs.Headline.{Each-map}
+use Rattle.leak_bound.proofs.Few.{Each-map}
 use Rattle.leak_bound.proofs.Source.{relevant-same, begins_same, made_of}
 use Rattle.sharp_count.specs.Count.{sharp}
 use Rattle.sharp_bound.specs.Firsts.{PredictsNext, Predicts, PredictsBy, notes_to}

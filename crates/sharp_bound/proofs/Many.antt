@@ -1,54 +1,33 @@
 -- Any number of views after each other: the product.
-use Rattle.std.proofs.Common.{◌≡◌, ℕ, zero, suc, ◌*◌, ◌≤◌, List, [], ◌∷◌, length, Bool, true, false, refl, sym, ap, ◌∙◌, subst, arith}
+use Rattle.std.proofs.Common.{◌≡◌, ℕ, zero, suc, ◌*◌, ◌≤◌, List, [], ◌∷◌, length, map, Bool, true, false, refl, sym, ap, ◌∙◌, subst, arith}
 use Rattle.std.specs.Prelude.{cond, not}
 use Rattle.std.specs.List.{filter}
+use Rattle.std.proofs.lemmas.List.{length-map}
+use Rattle.std.proofs.lemmas.Simd.{map-map}
 use Rattle.mit_syntax.specs.Todo.{Todo}
 use Rattle.label_lattice.specs.Order.{Order, lattice_of}
 use Rattle.env_contract.specs.Env.{Env}
 use Rattle.label_code.specs.Machine.{Event}
 use Rattle.label_code.specs.declared.code.Instr.{Instr}
-use Rattle.leak_bound.specs.Records.{distinct, distinct_count, views, Tests, Each, Pairwise}
+use Rattle.leak_bound.specs.Records.{distinct, distinct_count, Tests, Each, Pairwise}
 use Rattle.leak_bound.specs.Sound.{Agree, seen_from}
 use Rattle.leak_bound.proofs.Same.{same_events, tests_events}
-use Rattle.leak_bound.proofs.Headline.{Each-map}
+use Rattle.leak_bound.proofs.Few.{map_distinct}
 use Rattle.sharp_bound.specs.Firsts.{PredictsBy}
 use Rattle.sharp_bound.specs.Sharp.{cut_count, SharpSound, SharpCut}
 use Rattle.sharp_bound.specs.Twice.{both, that_show, Covers}
 use Rattle.sharp_bound.specs.Many.{seen_in, product_of, FewMany, SharpMany}
 use Rattle.sharp_bound.proofs.Guess.{few_shown}
 use Rattle.sharp_bound.proofs.Twice.{few_twice}
-use Rattle.sharp_bound.proofs.Both.{each_pass, pairs_pass, halted_by, cut_by, cut_less}
+use Rattle.sharp_bound.proofs.Both.{those_agree, those_hold, those_views, halted_by, cut_by, cut_less}
 
 -- what is written in another way is as often different
-filter_views : {V W : Type 0} (f : V → W) (t : W → Bool) (vs : List V) → filter t (views f vs) ≡ views f (filter (λ v. t (f v)) vs)
-filter_views f t [] = refl
-filter_views f t (v ∷ vs) = go (t (f v)) (filter_views f t vs)
-  where
-    go : (b : Bool) → filter t (views f vs) ≡ views f (filter (λ v. t (f v)) vs)
-        → cond b (f v ∷ filter t (views f vs)) (filter t (views f vs)) ≡ views f (cond b (v ∷ filter (λ v. t (f v)) vs) (filter (λ v. t (f v)) vs))
-    go true e = ap (λ z. f v ∷ z) e
-    go false e = e
-
-distinct_views : {V W : Type 0} (f : V → W) (same : W → W → Bool) (vs : List V) → distinct same (views f vs) ≡ views f (distinct (λ a b. same (f a) (f b)) vs)
-distinct_views f same [] = refl
-distinct_views f same (v ∷ vs) =
-    ap (λ z. f v ∷ filter (λ y. not (same (f v) y)) z) (distinct_views f same vs)
-    ∙ ap (λ z. f v ∷ z) (filter_views f (λ y. not (same (f v) y)) (distinct (λ a b. same (f a) (f b)) vs))
-
-length-views : {V W : Type 0} (f : V → W) (vs : List V) → length (views f vs) ≡ length vs
-length-views f [] = refl
-length-views f (v ∷ vs) = ap suc (length-views f vs)
-
-views-on : {X V W : Type 0} (f : V → W) (see : X → V) (xs : List X) → views (λ x. f (see x)) xs ≡ views f (views see xs)
-views-on f see [] = refl
-views-on f see (x ∷ xs) = ap (λ z. f (see x) ∷ z) (views-on f see xs)
-
 count_on : {X V W : Type 0} (f : V → W) (same : W → W → Bool) (see : X → V) (xs : List X)
-    → distinct_count same (views (λ x. f (see x)) xs) ≡ distinct_count (λ a b. same (f a) (f b)) (views see xs)
+    → distinct_count same (map (λ x. f (see x)) xs) ≡ distinct_count (λ a b. same (f a) (f b)) (map see xs)
 count_on f same see xs =
-    ap (distinct_count same) (views-on f see xs)
-    ∙ ap length (distinct_views f same (views see xs))
-    ∙ length-views f (distinct (λ a b. same (f a) (f b)) (views see xs))
+    ap (distinct_count same) (sym (map-map f see xs))
+    ∙ ap length (sym (map_distinct f same (map see xs)))
+    ∙ length-map (distinct (λ a b. same (f a) (f b)) (map see xs)) f
 
 -- a list is its first and the rest
 joined : {V : Type 0} → List V × V → List V
@@ -69,19 +48,19 @@ pub few_many : (X V : Type 0) → FewMany X V
 unfolding joined
 few_many X V view same alike tests tests' xs ms zero h = few_shown (seen_in view 0) alike tests' xs 1 (one xs)
   where
-    none : (ys : List X) → filter (λ z. not (alike [] z)) (views (seen_in view 0) ys) ≡ []
+    none : (ys : List X) → filter (λ z. not (alike [] z)) (map (seen_in view 0) ys) ≡ []
     none [] = refl
-    none (y ∷ ys) = ap (λ b. cond (not b) ([] ∷ filter (λ z. not (alike [] z)) (views (seen_in view 0) ys))
-        (filter (λ z. not (alike [] z)) (views (seen_in view 0) ys))) (tests'.same_from [] [] refl) ∙ none ys
+    none (y ∷ ys) = ap (λ b. cond (not b) ([] ∷ filter (λ z. not (alike [] z)) (map (seen_in view 0) ys))
+        (filter (λ z. not (alike [] z)) (map (seen_in view 0) ys))) (tests'.same_from [] [] refl) ∙ none ys
 
-    same_distinct : (ys : List X) → filter (λ z. not (alike [] z)) (distinct alike (views (seen_in view 0) ys)) ≡ []
+    same_distinct : (ys : List X) → filter (λ z. not (alike [] z)) (distinct alike (map (seen_in view 0) ys)) ≡ []
     same_distinct [] = refl
     same_distinct (y ∷ ys) =
-        ap (λ b. cond (not b) ([] ∷ filter (λ z. not (alike [] z)) (filter (λ z. not (alike [] z)) (distinct alike (views (seen_in view 0) ys))))
-            (filter (λ z. not (alike [] z)) (filter (λ z. not (alike [] z)) (distinct alike (views (seen_in view 0) ys))))) (tests'.same_from [] [] refl)
+        ap (λ b. cond (not b) ([] ∷ filter (λ z. not (alike [] z)) (filter (λ z. not (alike [] z)) (distinct alike (map (seen_in view 0) ys))))
+            (filter (λ z. not (alike [] z)) (filter (λ z. not (alike [] z)) (distinct alike (map (seen_in view 0) ys))))) (tests'.same_from [] [] refl)
         ∙ ap (filter (λ z. not (alike [] z))) (same_distinct ys)
 
-    one : (ys : List X) → distinct_count alike (views (seen_in view 0) ys) ≤ 1
+    one : (ys : List X) → distinct_count alike (map (seen_in view 0) ys) ≤ 1
     one [] = omega arith
     one (y ∷ ys) = let e = ap length (same_distinct ys) in omega (arith, e)
 few_many X V view same alike tests tests' xs ms (suc n) h =
@@ -90,42 +69,6 @@ few_many X V view same alike tests tests' xs ms (suc n) h =
         (product_of ms n) (ms n) before (h n (omega arith)) in
     few_shown (seen_in view (suc n)) alike tests' xs (product_of ms n * ms n)
     (subst (λ z. z ≤ product_of ms n * ms n) (sym (count_on joined alike (both (seen_in view n) (view n)) xs)) two.count)
-
--- those that have shown the same
-those_agree : {X V S : Type 0} (see : X → V) (same : V → V → Bool) → Tests same → (start : V → X → S) (R : S → S → Type 0) (xs : List X)
-    → Pairwise (λ x y. see x ≡ see y → R (start (see x) x) (start (see y) y)) xs → (w : V)
-    → Pairwise (λ x y. R (start w x) (start w y)) (that_show see same w xs)
-those_agree {X} see same tests start R xs h w =
-    let P : X → X → Type 0 = λ x y. see x ≡ see y → R (start (see x) x) (start (see y) y) in
-    let t : X → Bool = λ x. same w (see x) in
-    Each-map (λ x. Each (λ y. P x y × (t x ≡ true) × (t y ≡ true)) (that_show see same w xs))
-        (λ x. Each (λ y. R (start w x) (start w y)) (that_show see same w xs))
-    (λ x a. Each-map (λ y. P x y × (t x ≡ true) × (t y ≡ true)) (λ y. R (start w x) (start w y))
-    (λ y b.
-    let e : w ≡ see x = tests.same_to w (see x) b.1 in
-    let e' : w ≡ see y = tests.same_to w (see y) b.2 in
-    subst (λ z. R (start w x) (start z y)) (sym e')
-    (subst (λ z. R (start z x) (start (see y) y)) (sym e) (b.0 (sym e ∙ e'))))
-    (that_show see same w xs) a)
-    (that_show see same w xs) (pairs_pass P t xs h)
-
-those_hold : {X V S : Type 0} (see : X → V) (same : V → V → Bool) → Tests same → (start : V → X → S) (P : S → Type 0) (xs : List X)
-    → Each (λ x. P (start (see x) x)) xs → (w : V) → Each (λ x. P (start w x)) (that_show see same w xs)
-those_hold see same tests start P xs h w =
-    Each-map (λ x. P (start (see x) x) × (same w (see x) ≡ true)) (λ x. P (start w x))
-    (λ x a. subst (λ z. P (start z x)) (sym (tests.same_to w (see x) a.1)) a.0)
-    (that_show see same w xs) (each_pass (λ x. P (start (see x) x)) (λ x. same w (see x)) xs h)
-
-those_views : {X V S : Type 0} (see : X → V) (same : V → V → Bool) → Tests same → (start : V → X → S) (w : V) (xs : List X)
-    → views (start w) (that_show see same w xs) ≡ views (λ x. start (see x) x) (that_show see same w xs)
-those_views see same tests start w [] = refl
-those_views see same tests start w (y ∷ ys) = one (same w (see y)) refl (those_views see same tests start w ys)
-  where
-    one : (b : Bool) → same w (see y) ≡ b → views (start w) (that_show see same w ys) ≡ views (λ x. start (see x) x) (that_show see same w ys) →
-        views (start w) (cond b (y ∷ that_show see same w ys) (that_show see same w ys))
-            ≡ views (λ x. start (see x) x) (cond b (y ∷ that_show see same w ys) (that_show see same w ys))
-    one true e r = ap (λ z. start z y ∷ views (start w) (that_show see same w ys)) (tests.same_to w (see y) e) ∙ ap (λ z. start (see y) y ∷ z) r
-    one false e r = r
 
 pub is_sharp_many : {E X M L : Type 0} {serves : E → Type 0} (v : Env E) (order : Order) (g ls : ℕ → ℕ → ℕ) (image : ℕ → List Instr) (p : ℕ → Todo M L) →
     ((i : ℕ) → SharpSound v order serves (g i) (ls i) (image i) (p i)) → ((i : ℕ) → SharpCut v order serves (g i) (ls i) (image i) (p i))

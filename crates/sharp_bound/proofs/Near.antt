@@ -1,8 +1,9 @@
 -- A program that nearly reaches the count.
 use Rattle.std.proofs.Common.{◌≡◌, ℕ, zero, suc, ◌+◌, ◌-◌, ◌*◌, ◌/◌, ◌^◌, ◌<◌, ◌≤◌, List, [], ◌∷◌, length, refl, sym, ap, ◌∙◌, subst, inl, inr, ⊎_elim, arith}
-use Rattle.std.specs.Prelude.{Bool, true, false, cond, eqb, not, ◌&&◌, ℤ, pos}
+use Rattle.std.specs.Prelude.{Bool, true, false, cond, eqb, not, ◌&&◌, ℤ, pos, map}
 use Rattle.std.specs.List.{filter, count_by}
 use Rattle.std.proofs.lemmas.Bool.{cases_lt, cases_eq, cond-true, cond-false, eq-eqb, ne_eqb, false_from_ne_true}
+use Rattle.std.proofs.lemmas.List.{length-map}
 use Rattle.std.proofs.lemmas.Nat.{pow_below, pow_pos}
 use Rattle.std.proofs.Math.Nat.{pow-succ'}
 use Rattle.std.proofs.Math.Pow.{pow_mono}
@@ -25,7 +26,7 @@ use Rattle.label_code.proofs.Ticks.{Sane, Ran, ran, ticks, steps_sane, steps_clo
 use Rattle.code_lower.specs.Layout.{IsImage}
 use Rattle.leak_bound.specs.Digits.{digits}
 use Rattle.leak_bound.specs.Relevant.{is_relevant}
-use Rattle.leak_bound.specs.Records.{Each, Pairwise, Tests, distinct, distinct_count, views}
+use Rattle.leak_bound.specs.Records.{Each, Pairwise, Tests, distinct, distinct_count}
 use Rattle.leak_bound.specs.Sound.{Agree, seen_from, Halts, IsCompiled}
 use Rattle.label_code.specs.Visible.{visible}
 use Rattle.leak_bound.proofs.Digits.{digits_is, digits_of}
@@ -142,22 +143,18 @@ from_digits (suc t) m h =
     omega (arith, mono, low)
 
 filter_all : {X V : Type 0} (see : X → V) (same : V → V → Bool) → Tests same → (x : X) (xs : List X) → Each (λ y. see x ≡ see y → ⊥) xs
-    → filter (λ w. not (same (see x) w)) (views see xs) ≡ views see xs
+    → filter (λ w. not (same (see x) w)) (map see xs) ≡ map see xs
 filter_all see same tests x [] h = refl
 filter_all see same tests x (y ∷ xs) h =
     let other : same (see x) (see y) ≡ false = false_from_ne_true (same (see x) (see y)) (λ e. h.0 (tests.same_to (see x) (see y) e)) in
-    ap (λ b. cond (not b) (see y ∷ filter (λ w. not (same (see x) w)) (views see xs)) (filter (λ w. not (same (see x) w)) (views see xs))) other
+    ap (λ b. cond (not b) (see y ∷ filter (λ w. not (same (see x) w)) (map see xs)) (filter (λ w. not (same (see x) w)) (map see xs))) other
         ∙ ap (λ z. see y ∷ z) (filter_all see same tests x xs h.1)
 
 -- where no two show the same, all are different
-all_apart : {X V : Type 0} (see : X → V) (same : V → V → Bool) → Tests same → (xs : List X) → ShowApart see xs → distinct same (views see xs) ≡ views see xs
+all_apart : {X V : Type 0} (see : X → V) (same : V → V → Bool) → Tests same → (xs : List X) → ShowApart see xs → distinct same (map see xs) ≡ map see xs
 all_apart see same tests [] h = refl
 all_apart see same tests (x ∷ xs) h =
     ap (λ z. see x ∷ filter (λ w. not (same (see x) w)) z) (all_apart see same tests xs h.1) ∙ ap (λ z. see x ∷ z) (filter_all see same tests x xs h.0)
-
-length-views : {X V : Type 0} (see : X → V) (xs : List X) → length (views see xs) ≡ length xs
-length-views see [] = refl
-length-views see (x ∷ xs) = ap suc (length-views see xs)
 
 -- an environment without penalties and without change is lawful
 flat_laws : {E : Type 0} (part : Place → ℕ → E → List ℕ) (lat : Lattice) (serves : E → Type 0)
@@ -321,7 +318,7 @@ module _ {E : Type 0} (serves : E → Type 0) (part : Place → ℕ → E → Li
           agree = agree_all e s 2 k 2 k;
           halt = halts e 2 k (omega arith) (λ some. omega arith);
           apart = apart;
-          count = λ same tests. ap length (all_apart see same tests (powers e 2 k) apart) ∙ length-views see (powers e 2 k) ∙ long e 2 k;
+          count = λ same tests. ap length (all_apart see same tests (powers e 2 k) apart) ∙ length-map (powers e 2 k) see ∙ long e 2 k;
         }
 
   -- one relevant mitigate begins, of the level high
@@ -387,7 +384,7 @@ module _ {E : Type 0} (serves : E → Type 0) (part : Place → ℕ → E → Li
         has_end same tests (shown_by (power e n)) q.0 2 (d - 3) (ap (λ y. visible lat g o y.core.log) there ∙ seen_is e n q.0 q.2) two (omega arith)
 
     each_one : (same : List Event → List Event → Bool) → Tests same → (e : E) (starts : List (Start E)) → Each (λ s. (n : ℕ) × (s ≡ power e n)) starts
-        → Each (Halts v image (2 ^ d)) starts → Each (λ w. Has (λ u. same u w) (ends 2 (d - 3))) (views shown_by starts)
+        → Each (Halts v image (2 ^ d)) starts → Each (λ w. Has (λ u. same u w) (ends 2 (d - 3))) (map shown_by starts)
     each_one same tests e [] p h = tt
     each_one same tests e (s ∷ starts) p h =
         let is = p.0.1 in
@@ -395,9 +392,9 @@ module _ {E : Type 0} (serves : E → Type 0) (part : Place → ℕ → E → Li
             each_one same tests e starts p.1 h.1)
 
     four : (e : E) (starts : List (Start E)) → Each (λ s. (n : ℕ) × (s ≡ power e n)) starts → Each (Halts v image (2 ^ d)) starts
-        → (same : List Event → List Event → Bool) → Tests same → distinct_count same (views shown_by starts) ≤ digits (2 ^ d) - 4
+        → (same : List Event → List Event → Bool) → Tests same → distinct_count same (map shown_by starts) ≤ digits (2 ^ d) - 4
     four e starts p h same tests =
-        let few = distinct_few same tests (views shown_by starts) (ends 2 (d - 3)) (each_one same tests e starts p h) in
+        let few = distinct_few same tests (map shown_by starts) (ends 2 (d - 3)) (each_one same tests e starts p h) in
         let long : digits (2 ^ d) ≡ suc d = digits_of (2 ^ d) d (record { from = omega arith; below = omega (arith, pow-succ' 2 d, pow_pos d) }) in
         omega (arith, few, long, length-ends 2 (d - 3))
 

@@ -5,6 +5,7 @@ use Rattle.std.specs.Prelude.{cond, eqb}
 use Rattle.std.proofs.Math.Nat.{mul-le-mul_left}
 use Rattle.std.proofs.lemmas.Bool.{cases_eq, cases_order, eqb-true, eq-eqb}
 use Rattle.leak_bound.specs.Records.{Entry, Fits, FromOn, NeverFalls}
+use Rattle.leak_bound.proofs.Counting.{digits_same}
 use Rattle.sharp_count.specs.Count.{rising, sharp}
 use Rattle.sharp_count.proofs.Choose.{pascal-at, some-at, rising-le}
 
@@ -146,15 +147,6 @@ number_below ds ks (suc l) r up m h =
     let c = number ds ks l r in
     let ih : c + 1 ≤ sharp (λ z. suc (ds z)) l ks = omega (arith, number_below ds ks l r up m h) in
     omega (arith, rank_under ds l (ks l) r up m (h l), mul-le-mul_left b ih)
-
-digits_same : (b x c x' c' : ℕ) → x < b → x' < b → x + b * c ≡ x' + b * c' → (x ≡ x') × (c ≡ c')
-digits_same b x c x' c' h h' e =
-    ⊎_elim
-    (λ (eq : c ≡ c'). let m = ap (λ n. b * n) eq in (omega (arith, m), eq))
-    (⊎_elim
-    (λ (lt : c < c'). let up : c + 1 ≤ c' = omega arith in absurd (omega (arith, mul-le-mul_left b up)))
-    (λ (lt : c' < c). let up : c' + 1 ≤ c = omega arith in absurd (omega (arith, mul-le-mul_left b up))))
-    (cases_order c c')
 
 pub number_same : (ds ks : ℕ → ℕ) (n : ℕ) (r r' : List Entry) → ((l : ℕ) → rank (ds l) l (ks l) r < rising (suc (ds l)) (ks l))
     → ((l : ℕ) → rank (ds l) l (ks l) r' < rising (suc (ds l)) (ks l)) → number ds ks n r ≡ number ds ks n r' → (l : ℕ) → l < n

@@ -1,9 +1,10 @@
 -- A guess that is right as often as the count allows.
-use Rattle.std.proofs.Common.{◌≡◌, ℕ, zero, suc, ◌<◌, ◌≤◌, List, [], ◌∷◌, length, Bool, true, false, refl, sym, ap, ◌∙◌, subst, arith, eq-eqb}
+use Rattle.std.proofs.Common.{◌≡◌, ℕ, zero, suc, ◌<◌, ◌≤◌, List, [], ◌∷◌, length, map, Bool, true, false, refl, sym, ap, ◌∙◌, subst, arith, eq-eqb}
 use Rattle.std.specs.Prelude.{cond, eqb, not}
 use Rattle.std.specs.List.{filter}
 use Rattle.std.proofs.lemmas.Bool.{eqb-true, eqb-false}
-use Rattle.leak_bound.specs.Records.{distinct, views, Tests}
+use Rattle.std.proofs.lemmas.List.{map-id}
+use Rattle.leak_bound.specs.Records.{distinct, Tests}
 use Rattle.sharp_bound.specs.Guess.{greatest, best_sum, GuessReached}
 use Rattle.sharp_bound.proofs.Guess.{few_shown}
 
@@ -24,18 +25,13 @@ unseen (suc n) v h = go (eqb v n) refl (unseen n v (omega arith))
     go true e r = absurd (omega (arith, eqb-true v n e))
     go false e r = ap (λ z. n ∷ z) r
 
-own_views : (n : ℕ) → views (λ x. x) (down n) ≡ down n
-unfolding down
-own_views zero = refl
-own_views (suc n) = ap (λ z. n ∷ z) (own_views n)
-
 all_distinct : (n : ℕ) → distinct eqb (down n) ≡ down n
 unfolding down
 all_distinct zero = refl
 all_distinct (suc n) = ap (λ z. n ∷ filter (λ y. not (eqb n y)) z) (all_distinct n) ∙ ap (λ z. n ∷ z) (unseen n n (omega arith))
 
-all_shown : (n : ℕ) → distinct eqb (views (λ x. x) (down n)) ≡ down n
-all_shown n = ap (λ z. distinct eqb z) (own_views n) ∙ all_distinct n
+all_shown : (n : ℕ) → distinct eqb (map (λ x. x) (down n)) ≡ down n
+all_shown n = ap (λ z. distinct eqb z) (map-id (down n)) ∙ all_distinct n
 
 length-down : (n : ℕ) → length (down n) ≡ n
 unfolding down

@@ -1,12 +1,12 @@
 -- Any number of runs after each other of one secret: all that was seen before decides which run is the next.
-use Rattle.std.specs.Prelude.{◌≡◌, ℕ, zero, suc, ◌*◌, ◌<◌, List, [], ◌∷◌, Bool}
+use Rattle.std.specs.Prelude.{◌≡◌, ℕ, zero, suc, ◌*◌, ◌<◌, List, [], ◌∷◌, Bool, map}
 use Rattle.mit_syntax.specs.Todo.{Todo, Marked}
 use Rattle.label_lattice.specs.Order.{Order, lattice_of}
 use Rattle.env_contract.specs.Env.{Env}
 use Rattle.label_code.specs.Machine.{Event}
 use Rattle.label_code.specs.Run.{Start}
 use Rattle.label_code.specs.declared.code.Instr.{Instr}
-use Rattle.leak_bound.specs.Records.{Each, Pairwise, Tests, views}
+use Rattle.leak_bound.specs.Records.{Each, Pairwise, Tests}
 use Rattle.leak_bound.specs.Sound.{Agree, seen_from, IsCompiled}
 use Rattle.sharp_bound.specs.Firsts.{PredictsBy}
 use Rattle.sharp_bound.specs.Guess.{FewShown}
@@ -53,7 +53,7 @@ pub record SharpMany {E M L : Type 0} (X : Type 0) (v : Env E) (order : Order) (
       ((i : ℕ) → i < n → Pairwise (λ x y. seen_in view i x ≡ seen_in view i y → Agree v (lattice_of order) serves (g i) o (next i x) (next i y)) xs) →
       ((i : ℕ) → i < n → Each (λ x. PredictsBy v (lattice_of order) (g i) (ls i) (image i) (p i) o (t i) (firsts i) (next i x)) xs) →
       (alike : List (List Event) → List (List Event) → Bool) → Tests alike →
-      FewShown (seen_in view n) alike xs (product_of (λ i. cut_count v order (g i) (ls i) (image i) (p i) o (t i) (firsts i) (views (next i) xs)) n)
+      FewShown (seen_in view n) alike xs (product_of (λ i. cut_count v order (g i) (ls i) (image i) (p i) o (t i) (firsts i) (map (next i) xs)) n)
 
 abbrev pub SharpManyAll : {E : Type 0} → Type 0 → Env E → (Order → E → Type 0) → Type 0
 SharpManyAll X v serves =

@@ -1,5 +1,5 @@
 -- A program that nearly reaches the count: mitigate (1, high) { sleep h }; l := 1.
-use Rattle.std.specs.Prelude.{◌≡◌, ℕ, zero, suc, ◌-◌, ◌^◌, ◌<◌, ◌≤◌, List, [], ◌∷◌, ◌++◌, length, replicate, Bool, true, false, cond, eqb, ℤ, pos}
+use Rattle.std.specs.Prelude.{◌≡◌, ℕ, zero, suc, ◌-◌, ◌^◌, ◌<◌, ◌≤◌, List, [], ◌∷◌, ◌++◌, length, map, replicate, Bool, true, false, cond, eqb, ℤ, pos}
 use Rattle.mit_syntax.specs.Expression.{Number, Variable}
 use Rattle.mit_syntax.specs.Todo.{Marks, Marked, Done, Assign, Sleep, Mitigate}
 use Rattle.label_lattice.specs.Lattice.{Lattice, Flows, IsLattice}
@@ -10,7 +10,7 @@ use Rattle.label_code.specs.Run.{Start}
 use Rattle.label_code.specs.declared.code.Instr.{Instr}
 use Rattle.code_lower.specs.Code.{image_of}
 use Rattle.leak_bound.specs.Digits.{digits}
-use Rattle.leak_bound.specs.Records.{Each, Pairwise, Tests, views, distinct_count}
+use Rattle.leak_bound.specs.Records.{Each, Pairwise, Tests, distinct_count}
 use Rattle.leak_bound.specs.Sound.{Agree, seen_from, Halts, IsCompiled}
 use Rattle.sharp_bound.specs.Guess.{FewShown}
 use Rattle.sharp_bound.specs.Sharp.{BeginsEach}
@@ -54,7 +54,7 @@ pub record Nearly {E : Type 0} (v : Env E) (lat : Lattice) (serves : E → Type 
   pub halt : Each (Halts v (naps_image lat high o) t) starts
   pub apart : ShowApart (seen_from v lat (h_high high o) (naps_image lat high o) o t) starts
   pub count : (same : List Event → List Event → Bool) → Tests same →
-      distinct_count same (views (seen_from v lat (h_high high o) (naps_image lat high o) o t) starts) ≡ digits t - 4
+      distinct_count same (map (seen_from v lat (h_high high o) (naps_image lat high o) o t) starts) ≡ digits t - 4
 
 -- What this program tells an observer o to whom the label high does not flow.
 pub record NapsTell {E : Type 0} (v : Env E) (order : Order) (serves : E → Type 0) (o high : ℕ) : Type 0 where
@@ -74,7 +74,7 @@ pub record NapsTell {E : Type 0} (v : Env E) (order : Order) (serves : E → Typ
   pub four : (e : E) (d : ℕ) (starts : List (Start E)) → Each (λ s. (n : ℕ) × (s ≡ power e n)) starts
       → Each (Halts v (naps_image (lattice_of order) high o) (2 ^ d)) starts →
       (same : List Event → List Event → Bool) → Tests same →
-      distinct_count same (views (seen_from v (lattice_of order) (h_high high o) (naps_image (lattice_of order) high o) o (2 ^ d)) starts) ≤ digits (2 ^ d) - 4
+      distinct_count same (map (seen_from v (lattice_of order) (h_high high o) (naps_image (lattice_of order) high o) o (2 ^ d)) starts) ≤ digits (2 ^ d) - 4
 
 -- so it is in every lattice, for every observer to whom some label does not flow
 abbrev pub NearlyReached : {E : Type 0} → Env E → (Order → E → Type 0) → Type 0

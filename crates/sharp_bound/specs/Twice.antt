@@ -1,5 +1,5 @@
 -- Two runs after each other of one secret: what the first shows decides which run is the second.
-use Rattle.std.specs.Prelude.{◌≡◌, ℕ, ◌*◌, ◌<◌, ◌≤◌, List, Bool}
+use Rattle.std.specs.Prelude.{◌≡◌, ℕ, ◌*◌, ◌<◌, ◌≤◌, List, Bool, map}
 use Rattle.std.specs.List.{filter}
 use Rattle.mit_syntax.specs.Todo.{Todo, Marked}
 use Rattle.label_lattice.specs.Order.{Order, lattice_of}
@@ -7,7 +7,7 @@ use Rattle.env_contract.specs.Env.{Env}
 use Rattle.label_code.specs.Machine.{Event}
 use Rattle.label_code.specs.Run.{Start, run_from}
 use Rattle.label_code.specs.declared.code.Instr.{Instr}
-use Rattle.leak_bound.specs.Records.{Each, Pairwise, Tests, views}
+use Rattle.leak_bound.specs.Records.{Each, Pairwise, Tests}
 use Rattle.leak_bound.specs.Sound.{Agree, seen_from, Halts, IsCompiled}
 use Rattle.sharp_bound.specs.Guess.{FewShown}
 use Rattle.sharp_count.specs.Count.{sharp}
@@ -67,7 +67,7 @@ pub record SharpTwice {E M L M' L' : Type 0} (X : Type 0) (v : Env E) (order : O
       Each (λ x. PredictsBy v (lattice_of order) g' ls' image' p' o t' firsts' (later x)) xs →
       (alike : List Event × List Event → List Event × List Event → Bool) → Tests alike →
       FewShown (both see (λ w x. seen_from v (lattice_of order) g' image' o t' (second w x))) alike xs
-      (cut_count v order g ls image p o t firsts (views first xs) * cut_count v order g' ls' image' p' o t' firsts' (views later xs))
+      (cut_count v order g ls image p o t firsts (map first xs) * cut_count v order g' ls' image' p' o t' firsts' (map later xs))
 
 abbrev pub SharpTwiceAll : {E : Type 0} → Type 0 → Env E → (Order → E → Type 0) → Type 0
 SharpTwiceAll X v serves =

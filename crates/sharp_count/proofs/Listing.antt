@@ -2,7 +2,7 @@
 use Rattle.std.proofs.Common.{◌≡◌, ℕ, zero, suc, ◌+◌, List, [], ◌∷◌, ◌++◌, length, refl, sym, ap, subst, inl, inr, ⊎_elim, arith, length-append}
 use Rattle.std.proofs.lemmas.Bool.{cases_eq}
 use Rattle.leak_bound.specs.Records.{Each}
-use Rattle.leak_bound.proofs.Headline.{Each-map}
+use Rattle.leak_bound.proofs.Few.{Each-map, Each-append}
 use Rattle.sharp_count.specs.Count.{rising}
 use Rattle.sharp_count.specs.Lists.{NeverFalling, IsAmong, AllDiffer, RisingCounts}
 use Rattle.sharp_count.proofs.Choose.{pascal, rising-none, rising-zero}
@@ -28,10 +28,6 @@ length-listing m (suc c) (suc k) =
     omega (arith, length-append (cons_all m (listing m (suc c) k)) (listing (suc m) c (suc k)), length-cons_all m (listing m (suc c) k),
         length-listing m (suc c) k, length-listing (suc m) c (suc k), pascal c k)
 
-each-append : (P : List ℕ → Type 0) (a b : List (List ℕ)) → Each P a → Each P b → Each P (a ++ b)
-each-append P [] b h k = k
-each-append P (x ∷ a) b h k = (h.0, each-append P a b h.1 k)
-
 each-cons_all : (P Q : List ℕ → Type 0) (m : ℕ) → ((xs : List ℕ) → P xs → Q (m ∷ xs)) → (all : List (List ℕ)) → Each P all → Each Q (cons_all m all)
 each-cons_all P Q m f [] h = tt
 each-cons_all P Q m f (xs ∷ all) h = (f xs h.0, each-cons_all P Q m f all h.1)
@@ -44,20 +40,20 @@ pub each_falls : (b m c k : ℕ) → m + c ≡ b → Each (NeverFalling m b k) (
 each_falls b m c zero e = (refl, tt)
 each_falls b m zero (suc k) e = tt
 each_falls b m (suc c) (suc k) e =
-    each-append (NeverFalling m b (suc k)) (cons_all m (listing m (suc c) k)) (listing (suc m) c (suc k))
+    Each-append (NeverFalling m b (suc k)) (cons_all m (listing m (suc c) k)) (listing (suc m) c (suc k))
     (each-cons_all (NeverFalling m b k) (NeverFalling m b (suc k)) m (λ xs h. (omega arith, omega (arith, e), h)) (listing m (suc c) k)
         (each_falls b m (suc c) k e))
     (Each-map (NeverFalling (suc m) b (suc k)) (NeverFalling m b (suc k)) (lower m b k) (listing (suc m) c (suc k))
         (each_falls b (suc m) c (suc k) (omega (arith, e))))
 
-among_left : (xs : List ℕ) (a b : List (List ℕ)) → IsAmong xs a → IsAmong xs (a ++ b)
-among_left xs [] b h = absurd h
-among_left xs (ys ∷ a) b (inl e) = inl e
-among_left xs (ys ∷ a) b (inr h) = inr (among_left xs a b h)
+pub among_left : {X : Type 0} (x : X) (a b : List X) → IsAmong x a → IsAmong x (a ++ b)
+among_left x [] b h = absurd h
+among_left x (y ∷ a) b (inl e) = inl e
+among_left x (y ∷ a) b (inr h) = inr (among_left x a b h)
 
-among_right : (xs : List ℕ) (a b : List (List ℕ)) → IsAmong xs b → IsAmong xs (a ++ b)
-among_right xs [] b h = h
-among_right xs (ys ∷ a) b h = inr (among_right xs a b h)
+pub among_right : {X : Type 0} (x : X) (a b : List X) → IsAmong x b → IsAmong x (a ++ b)
+among_right x [] b h = h
+among_right x (y ∷ a) b h = inr (among_right x a b h)
 
 among-cons_all : (m : ℕ) (xs : List ℕ) (all : List (List ℕ)) → IsAmong xs all → IsAmong (m ∷ xs) (cons_all m all)
 among-cons_all m xs [] h = absurd h
@@ -81,9 +77,9 @@ has_all b m (suc c) (suc k) (x ∷ xs) e h =
     (has_all b (suc m) c (suc k) (x ∷ xs) (omega (arith, e)) (omega arith, h.1, h.2)))
     (cases_eq x m)
 
-differ-append : (a b : List (List ℕ)) → AllDiffer a → AllDiffer b → Each (λ xs. Each (λ ys. xs ≡ ys → ⊥) b) a → AllDiffer (a ++ b)
+pub differ-append : {X : Type 0} (a b : List X) → AllDiffer a → AllDiffer b → Each (λ x. Each (λ y. x ≡ y → ⊥) b) a → AllDiffer (a ++ b)
 differ-append [] b h k d = k
-differ-append (xs ∷ a) b h k d = (each-append (λ ys. xs ≡ ys → ⊥) a b h.0 d.0, differ-append a b h.1 k d.1)
+differ-append (x ∷ a) b h k d = (Each-append (λ y. x ≡ y → ⊥) a b h.0 d.0, differ-append a b h.1 k d.1)
 
 differ-cons_all : (m : ℕ) (all : List (List ℕ)) → AllDiffer all → AllDiffer (cons_all m all)
 differ-cons_all m [] h = tt
@@ -97,9 +93,9 @@ differ-cons_all m (xs ∷ all) h =
 apart : (b m k : ℕ) (xs ys : List ℕ) → NeverFalling (suc m) b (suc k) ys → m ∷ xs ≡ ys → ⊥
 apart b m k xs ys h e = let g = subst (λ z. NeverFalling (suc m) b (suc k) z) (sym e) h in let low = g.0 in omega arith
 
-each_true : (P : List ℕ → Type 0) → ((xs : List ℕ) → P xs) → (all : List (List ℕ)) → Each P all
+pub each_true : {X : Type 0} (P : X → Type 0) → ((x : X) → P x) → (all : List X) → Each P all
 each_true P f [] = tt
-each_true P f (xs ∷ all) = (f xs, each_true P f all)
+each_true P f (x ∷ all) = (f x, each_true P f all)
 
 pub all_differ : (m c k : ℕ) → AllDiffer (listing m c k)
 all_differ m c zero = (tt, tt)

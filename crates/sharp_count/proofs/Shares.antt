@@ -11,7 +11,7 @@ use Rattle.std.proofs.Math.Pow.{pow_mono}
 use Rattle.leak_bound.specs.Records.{Each}
 use Rattle.leak_bound.specs.Digits.{digits}
 use Rattle.leak_bound.proofs.Digits.{digits_is, digits_of}
-use Rattle.leak_bound.proofs.Headline.{Each-map}
+use Rattle.leak_bound.proofs.Few.{Each-map}
 use Rattle.sharp_count.specs.Count.{choose, rising}
 use Rattle.sharp_count.specs.Levels.{miss_counts}
 use Rattle.sharp_count.specs.Lists.{NeverFalling}

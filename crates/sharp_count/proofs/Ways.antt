@@ -4,46 +4,19 @@ use Rattle.std.proofs.Common.{length-append}
 use Rattle.std.specs.Prelude.{cond, leb}
 use Rattle.std.specs.List.{filter}
 use Rattle.std.proofs.lemmas.Bool.{leb-true, le-leb}
+use Rattle.std.proofs.lemmas.List.Sums.{length-filter, count_by-le-length}
 use Rattle.leak_bound.specs.Records.{Each}
-use Rattle.leak_bound.proofs.Headline.{Each-map}
+use Rattle.leak_bound.proofs.Few.{Each-map, Each-append, Each-pass, Each-filter}
 use Rattle.sharp_count.specs.Count.{rising, sharp}
 use Rattle.sharp_count.specs.Levels.{miss_counts}
 use Rattle.sharp_count.specs.Lists.{NeverFalling, IsAmong, AllDiffer}
 use Rattle.sharp_count.specs.Ways.{IsChoice, cycles_of, cycles_in, AreWays, WaysAreFew}
-use Rattle.sharp_count.proofs.Listing.{listing, length-listing, each_falls, has_all, all_differ}
+use Rattle.sharp_count.proofs.Listing.{listing, length-listing, each_falls, has_all, all_differ, among_left, among_right, differ-append, each_true}
 
 abbrev Choice : Type 0
 Choice = List (List ℕ)
 
 module _ {X : Type 0} where
-  each-append : (P : X → Type 0) (a b : List X) → Each P a → Each P b → Each P (a ++ b)
-  each-append P [] b h k = k
-  each-append P (x ∷ a) b h k = (h.0, each-append P a b h.1 k)
-
-  among_left : (x : X) (a b : List X) → IsAmong x a → IsAmong x (a ++ b)
-  among_left x [] b h = absurd h
-  among_left x (y ∷ a) b (inl e) = inl e
-  among_left x (y ∷ a) b (inr h) = inr (among_left x a b h)
-
-  among_right : (x : X) (a b : List X) → IsAmong x b → IsAmong x (a ++ b)
-  among_right x [] b h = h
-  among_right x (y ∷ a) b h = inr (among_right x a b h)
-
-  differ-append : (a b : List X) → AllDiffer a → AllDiffer b → Each (λ x. Each (λ y. x ≡ y → ⊥) b) a → AllDiffer (a ++ b)
-  differ-append [] b h k d = k
-  differ-append (x ∷ a) b h k d = (each-append (λ y. x ≡ y → ⊥) a b h.0 d.0, differ-append a b h.1 k d.1)
-
-  each_passed : (P : X → Type 0) (t : X → Bool) (xs : List X) → Each P xs → Each (λ x. P x × (t x ≡ true)) (filter t xs)
-  each_passed P t [] h = tt
-  each_passed P t (x ∷ xs) h = go (t x) refl (each_passed P t xs h.1)
-    where
-      go : (b : Bool) → t x ≡ b → Each (λ x. P x × (t x ≡ true)) (filter t xs) → Each (λ x. P x × (t x ≡ true)) (cond b (x ∷ filter t xs) (filter t xs))
-      go true e r = ((h.0, e), r)
-      go false e r = r
-
-  each_kept : (P : X → Type 0) (t : X → Bool) (xs : List X) → Each P xs → Each P (filter t xs)
-  each_kept P t xs h = Each-map (λ x. P x × (t x ≡ true)) P (λ x a. a.0) (filter t xs) (each_passed P t xs h)
-
   among_passed : (t : X → Bool) (x : X) (xs : List X) → t x ≡ true → IsAmong x xs → IsAmong x (filter t xs)
   among_passed t x [] e h = h
   among_passed t x (y ∷ xs) e (inl q) = subst (λ b. IsAmong x (cond b (y ∷ filter t xs) (filter t xs))) (sym (ap t (sym q) ∙ e)) (inl q)
@@ -58,16 +31,8 @@ module _ {X : Type 0} where
   differ_passed t (x ∷ xs) h = go (t x) (differ_passed t xs h.1)
     where
       go : (b : Bool) → AllDiffer (filter t xs) → AllDiffer (cond b (x ∷ filter t xs) (filter t xs))
-      go true r = (each_kept (λ y. x ≡ y → ⊥) t xs h.0, r)
+      go true r = (Each-filter (λ y. x ≡ y → ⊥) t xs h.0, r)
       go false r = r
-
-  length_passed : (t : X → Bool) (xs : List X) → length (filter t xs) ≤ length xs
-  length_passed t [] = omega arith
-  length_passed t (x ∷ xs) = go (t x) (length_passed t xs)
-    where
-      go : (b : Bool) → length (filter t xs) ≤ length xs → length (cond b (x ∷ filter t xs) (filter t xs)) ≤ suc (length xs)
-      go true r = omega (arith, r)
-      go false r = omega (arith, r)
 
 -- a list of miss counts before each choice
 abbrev before_all : List ℕ → List Choice → List Choice
@@ -97,7 +62,7 @@ each-pairs : (R : List ℕ → Type 0) (P Q : Choice → Type 0) → ((ms : List
     → Each R all → Each P cs → Each Q (pairs all cs)
 each-pairs R P Q f [] cs h k = tt
 each-pairs R P Q f (ms ∷ all) cs h k =
-    each-append Q (before_all ms cs) (pairs all cs) (each-before_all P Q ms (λ c p. f ms c h.0 p) cs k) (each-pairs R P Q f all cs h.1 k)
+    Each-append Q (before_all ms cs) (pairs all cs) (each-before_all P Q ms (λ c p. f ms c h.0 p) cs k) (each-pairs R P Q f all cs h.1 k)
 
 among-before_all : (ms : List ℕ) (c : Choice) (cs : List Choice) → IsAmong c cs → IsAmong (ms ∷ c) (before_all ms cs)
 among-before_all ms c [] h = absurd h
@@ -121,22 +86,18 @@ differ-before_all ms [] h = tt
 differ-before_all ms (c ∷ cs) h =
     (each-before_all (λ d. c ≡ d → ⊥) (λ d. ms ∷ c ≡ d → ⊥) ms (λ d ne e. ne (tails ms ms c d e)) cs h.0, differ-before_all ms cs h.1)
 
-each_all : (P : Choice → Type 0) → ((c : Choice) → P c) → (cs : List Choice) → Each P cs
-each_all P f [] = tt
-each_all P f (c ∷ cs) = (f c, each_all P f cs)
-
 -- what begins with another list is another
 differ_from : (ms : List ℕ) (all : List (List ℕ)) (cs : List Choice) → Each (λ ns. ms ≡ ns → ⊥) all → (c : Choice) → Each (λ d. ms ∷ c ≡ d → ⊥) (pairs all cs)
 differ_from ms all cs h c =
     each-pairs (λ ns. ms ≡ ns → ⊥) (λ d. Unit {0}) (λ d. ms ∷ c ≡ d
-        → ⊥) (λ ns d ne u e. ne (heads ms ns c d e)) all cs h (each_all (λ d. Unit {0}) (λ d. tt) cs)
+        → ⊥) (λ ns d ne u e. ne (heads ms ns c d e)) all cs h (each_true (λ d. Unit {0}) (λ d. tt) cs)
 
 differ-pairs : (all : List (List ℕ)) (cs : List Choice) → AllDiffer all → AllDiffer cs → AllDiffer (pairs all cs)
 differ-pairs [] cs h k = tt
 differ-pairs (ms ∷ all) cs h k =
     differ-append (before_all ms cs) (pairs all cs) (differ-before_all ms cs k) (differ-pairs all cs h.1 k)
     (each-before_all (λ d. Unit {0}) (λ c. Each (λ d. c ≡ d → ⊥) (pairs all cs)) ms
-        (λ c u. differ_from ms all cs h.0 c) cs (each_all (λ d. Unit {0}) (λ d. tt) cs))
+        (λ c u. differ_from ms all cs h.0 c) cs (each_true (λ d. Unit {0}) (λ d. tt) cs))
 
 -- all choices
 abbrev choices : (ℕ → ℕ) → ℕ → (ℕ → ℕ) → List Choice
@@ -180,7 +141,7 @@ are_ways t firsts n counts =
     record {
       each = Each-map (λ c. IsChoice values n counts c × (fits c ≡ true)) (λ c. IsChoice values n counts c × (cycles_in firsts n c ≤ t))
           (λ c h. (h.0, leb-true (cycles_in firsts n c) t h.1)) (filter fits all)
-          (each_passed (IsChoice values n counts) fits all (each_choice values n counts));
+          (Each-pass (IsChoice values n counts) fits all (each_choice values n counts));
       whole = λ c h le. among_passed fits c all (le-leb (cycles_in firsts n c) t le) (whole_choices values n counts c h);
       differ = differ_passed fits all (differ_choices values n counts);
     }
@@ -191,7 +152,7 @@ ways_are_few t firsts n counts =
     let fits : Choice → Bool = λ c. leb (cycles_in firsts n c) t in (
       ways t firsts n counts,
       are_ways t firsts n counts,
-      omega (arith, length_passed fits (choices values n counts), length-choices values n counts),
+      omega (arith, length-filter fits (choices values n counts), count_by-le-length fits (choices values n counts), length-choices values n counts),
     )
 
 -- of one level these are the lists of miss counts whose cycles add up to at most T

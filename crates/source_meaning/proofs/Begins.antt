@@ -2,7 +2,7 @@
 use Rattle.std.proofs.Common.{◌≡◌, ◌≤◌, ℕ, List, [], ◌∷◌, length, subst, refl, sym, ap, arith}
 use Rattle.mit_syntax.specs.declared.ast.Command.{Command}
 use Rattle.mit_syntax.specs.Expression.{Expression, Number, Variable, Binary, Element}
-use Rattle.mit_syntax.specs.Todo.{Done, Skip, Assign, Put, Sleep, If, While, Mitigate, then_todo}
+use Rattle.mit_syntax.specs.Todo.{Todo, Done, Skip, Assign, Put, Sleep, If, While, Mitigate, then_todo}
 use Rattle.mit_syntax.specs.Plan.{Plan, list_plan}
 use Rattle.mit_syntax.specs.Declarations.{Declaration, variables}
 use Rattle.mit_syntax.specs.Program.{Syntax, plan_of}
@@ -45,7 +45,7 @@ going_first s b k same v e =
       few = omega (arith, few, e);
     }
 
-pub then_done : (p : Plan) → then_todo p Done ≡ p
+pub then_done : {M L : Type 0} (p : Todo M L) → then_todo p Done ≡ p
 then_done Done = refl
 then_done (Skip w p) = ap (Skip w) (then_done p)
 then_done (Assign w x e p) = ap (Assign w x e) (then_done p)

@@ -44,7 +44,7 @@ module _ {M L M' L' : Type 0} (f : M → M') (g : L → L') where
       go false = refl
   map-act (Mitigate l k v e c r) m n = with_todo _ _ m _ (map-then c r)
 
-  map-steps : (k : ℕ) (s : Source M L) → map_source (source_steps k s) ≡ source_steps k (map_source s)
+  pub map-steps : (k : ℕ) (s : Source M L) → map_source (source_steps k s) ≡ source_steps k (map_source s)
   map-steps zero s = refl
   map-steps (suc k) s = map-steps k (source_step s) ∙ ap (source_steps k) (map-act s.todo s.memory s.notes)
 

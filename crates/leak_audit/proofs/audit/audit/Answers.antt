@@ -9,7 +9,7 @@ use Rattle.timing_types.specs.Labelling.{IsLabelling}
 use Rattle.timing_types.specs.Labelled.{labels_of, levels_of}
 use Rattle.code_lower.specs.Lowered.{lowered}
 use Rattle.start_file.specs.Starts.{seen}
-use Rattle.leak_bound.specs.Records.{Pairwise, views}
+use Rattle.leak_bound.specs.Records.{Pairwise}
 use Rattle.leak_bound.specs.Sound.{Sound}
 use Rattle.leak_audit.specs.Agreement.{start_of, starts_of, AgreeFor}
 use Rattle.leak_audit.specs.Measured.{IsMeasure}
@@ -37,8 +37,8 @@ returns-clause-report g c =
         c.in_ok-all_agree.ensures.agree in
     let survey = subst (λ z. IsSurvey v z o t true (starts_of g.M.MakeEnv.made z.program.order stored) c.in_ok-survey.survey) same
         c.in_ok-survey.ensures.survey in
-    let measure = subst (λ z. IsMeasure z o t c.in_ok-survey.survey.begun (views (sequence_from v p o t) ss) c.measure-measures.result) order
-        (c.measure-measures.ensures (views (sequence_from v p o t) ss) survey.kinds) in
+    let measure = subst (λ z. IsMeasure z o t c.in_ok-survey.survey.begun (map (sequence_from v p o t) ss) c.measure-measures.result) order
+        (c.measure-measures.ensures (map (sequence_from v p o t) ss) survey.kinds) in
     let count : length c.args.starts.now ≡ length ss =
         sym (length-map stored (start_of g.M.MakeEnv.made p.program.order) ∙ length-map c.args.starts.now seen) in
     is_report v g.E.MachineEnv.serves p o t sound ss agree c.in_ok-survey.survey survey c.measure-measures.result measure _

@@ -1,5 +1,5 @@
 -- Of things that numbers below m tell apart there are at most m different ones.
-use Rattle.std.proofs.Common.{◌≡◌, ℕ, ◌<◌, ◌≤◌, List, [], ◌∷◌, length, map, Bool, true, false, refl, sym, ap, ◌∙◌, subst, ⊎_elim, arith}
+use Rattle.std.proofs.Common.{◌≡◌, ℕ, ◌<◌, ◌≤◌, List, [], ◌∷◌, ◌++◌, length, map, Bool, true, false, refl, sym, ap, ◌∙◌, subst, ⊎_elim, arith}
 use Rattle.std.specs.Prelude.{not, cond, eqb}
 use Rattle.std.specs.List.{filter, list_any, IsDistinct, AllByRecursion}
 use Rattle.std.proofs.lemmas.Bool.{or_cases, eqb-true, both_ways, not-true, false_from_ne_true}
@@ -24,17 +24,33 @@ map_distinct see same (x ∷ xs) =
         ∙ ap (filter (λ w. not (same (see x) w))) (map_distinct see same xs))
 
 -- each is apart from all that follow
-abbrev Spread : {X : Type 0} → (X → X → Bool) → List X → Type 0
+abbrev pub Spread : {X : Type 0} → (X → X → Bool) → List X → Type 0
 Spread same [] = Unit {0}
 Spread same (x ∷ xs) = Each (λ y. same x y ≡ false) xs × Spread same xs
 
-Each-filter : {X : Type 0} (P : X → Type 0) (t : X → Bool) (xs : List X) → Each P xs → Each P (filter t xs)
-Each-filter P t [] h = tt
-Each-filter P t (x ∷ xs) h = go (t x) (Each-filter P t xs h.1)
+pub Each-map : {X : Type 0} (P Q : X → Type 0) → ((x : X) → P x → Q x) → (xs : List X) → Each P xs → Each Q xs
+Each-map P Q f [] h = tt
+Each-map P Q f (x ∷ xs) h = (f x h.0, Each-map P Q f xs h.1)
+
+pub Each-both : {X : Type 0} (P Q : X → Type 0) (xs : List X) → Each P xs → Each Q xs → Each (λ x. P x × Q x) xs
+Each-both P Q [] h k = tt
+Each-both P Q (x ∷ xs) h k = ((h.0, k.0), Each-both P Q xs h.1 k.1)
+
+pub Each-append : {X : Type 0} (P : X → Type 0) (xs ys : List X) → Each P xs → Each P ys → Each P (xs ++ ys)
+Each-append P [] ys h k = k
+Each-append P (x ∷ xs) ys h k = (h.0, Each-append P xs ys h.1 k)
+
+-- what holds of all holds of those that pass
+pub Each-pass : {X : Type 0} (P : X → Type 0) (t : X → Bool) (xs : List X) → Each P xs → Each (λ x. P x × (t x ≡ true)) (filter t xs)
+Each-pass P t [] h = tt
+Each-pass P t (x ∷ xs) h = go (t x) refl (Each-pass P t xs h.1)
   where
-    go : (b : Bool) → Each P (filter t xs) → Each P (cond b (x ∷ filter t xs) (filter t xs))
-    go true r = (h.0, r)
-    go false r = r
+    go : (b : Bool) → t x ≡ b → Each (λ x. P x × (t x ≡ true)) (filter t xs) → Each (λ x. P x × (t x ≡ true)) (cond b (x ∷ filter t xs) (filter t xs))
+    go true e r = ((h.0, e), r)
+    go false e r = r
+
+pub Each-filter : {X : Type 0} (P : X → Type 0) (t : X → Bool) (xs : List X) → Each P xs → Each P (filter t xs)
+Each-filter P t xs h = Each-map (λ x. P x × (t x ≡ true)) P (λ x a. a.0) (filter t xs) (Each-pass P t xs h)
 
 passes : {X : Type 0} (t : X → Bool) (xs : List X) → Each (λ x. t x ≡ true) (filter t xs)
 passes t [] = tt
@@ -44,10 +60,6 @@ passes t (x ∷ xs) = go (t x) refl (passes t xs)
     go true e r = (e, r)
     go false e r = r
 
-Each-map : {X : Type 0} (P Q : X → Type 0) → ((x : X) → P x → Q x) → (xs : List X) → Each P xs → Each Q xs
-Each-map P Q f [] h = tt
-Each-map P Q f (x ∷ xs) h = (f x h.0, Each-map P Q f xs h.1)
-
 Spread-filter : {X : Type 0} (same : X → X → Bool) (t : X → Bool) (xs : List X) → Spread same xs → Spread same (filter t xs)
 Spread-filter same t [] h = tt
 Spread-filter same t (x ∷ xs) h = go (t x) (Spread-filter same t xs h.1)
@@ -56,7 +68,7 @@ Spread-filter same t (x ∷ xs) h = go (t x) (Spread-filter same t xs h.1)
     go true r = (Each-filter (λ y. same x y ≡ false) t xs h.0, r)
     go false r = r
 
-Spread-distinct : {X : Type 0} (same : X → X → Bool) (xs : List X) → Spread same (distinct same xs)
+pub Spread-distinct : {X : Type 0} (same : X → X → Bool) (xs : List X) → Spread same (distinct same xs)
 Spread-distinct same [] = tt
 Spread-distinct same (x ∷ xs) = (
   Each-map (λ y. not (same x y) ≡ true) (λ y. same x y ≡ false) (λ y h. not-true (same x y) h) _ (passes (λ y. not (same x y)) (distinct same xs)),
