@@ -1,5 +1,5 @@
 -- A question has one answer.
-use Rattle.std.specs.Prelude.{◌≡◌, ℕ, List}
+use Rattle.std.specs.Prelude.{◌≡◌, ℕ, List, None, Some}
 use Rattle.std.specs.Bool.{⊤}
 use Rattle.tim_base.specs.Faults.{Rose}
 use Rattle.tool_texts.specs.declared.status.Status.{Status}
@@ -8,15 +8,16 @@ use Rattle.lab_words.specs.QuestionAsked.{Asked, why, seen, timeline, bound}
 use Rattle.lab_tool.specs.Answers.{IsAnswer}
 use Rattle.lab_tool.specs.Complete.{AreKnown, NoneRises}
 
--- one text answers it; of several chains that cost as little, `why` may tell any
+-- one text answers it; of several chains to one label that cost as little, `why --of` may tell any
 abbrev pub HasOneText : Asked → Type 0
-HasOneText (why file of) = ⊥
+HasOneText (why file None) = ⊤
+HasOneText (why file (Some name)) = ⊥
 HasOneText (seen file starts observer e budget) = ⊤
 HasOneText (timeline file starts observer e budget) = ⊤
 HasOneText (bound file starts observer e budget) = ⊤
 
 -- Where each file that the question names is told to hold bytes, and none of their counts of faults rose, two answers to
--- it have the same status, and the same text but for the chains of `why`.
+-- it have the same status, and the same text but for the chains of `why --of`.
 abbrev pub HasOneAnswer : Type 0
 HasOneAnswer =
     (content : Content) (before now : List ℕ → ℕ) (a : Asked) (s u : Status) (t x : List ℕ) →
