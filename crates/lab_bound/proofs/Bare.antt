@@ -1,5 +1,5 @@
 -- The steps of a program's commands alone begin what its own steps begin.
-use Rattle.std.proofs.Common.{◌≡◌, ℕ, refl, sym, ap, ◌∙◌}
+use Rattle.std.proofs.Common.{◌≡◌, ℕ, List, refl, sym, ap, ◌∙◌}
 use Rattle.std.specs.Prelude.{ℤ}
 use Rattle.mit_syntax.specs.Todo.{Todo, Done, Skip, Assign, Put, Sleep, If, While, Mitigate, commands_of}
 use Rattle.source_meaning.specs.Source.{source_steps, source_start}
