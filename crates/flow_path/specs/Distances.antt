@@ -11,6 +11,7 @@ use Rattle.flow_path.specs.declared.step.Step.{Step}
 use Rattle.flow_path.specs.declared.cost.Cost.{Cost}
 use Rattle.flow_path.specs.declared.target.Target.{Target}
 use Rattle.flow_path.specs.declared.known.Known.{Known}
+use Rattle.flow_path.specs.declared.known.Round.{Round}
 use Rattle.flow_path.specs.declared.best.Best.{Best}
 use Rattle.flow_path.specs.declared.sides.Found.{Found}
 use Rattle.flow_path.specs.declared.sides.Sides.{Sides}
@@ -185,3 +186,16 @@ pub record IsPickedOf (s : Syntax) (t : Target) (chain : List Step) : Type 0 whe
   pub settled : AreSettled s t sides
   pub picked : IsPicked s sides chain
   pub begins : StartsWritten s chain
+
+-- the same by what a round goes by
+abbrev pub IsKnownIn : Round → Type 0
+IsKnownIn r = IsKnownOf r.program.now r.target.now r.known.now
+
+abbrev pub IsBestIn : Round → List Part → Option Best → Type 0
+IsBestIn r ps b = IsBest r.program.now r.target.now r.known.now.variables.items ps b
+
+abbrev pub ComesIn : Round → Option Best → Option Best → Plan → Plan → Type 0
+ComesIn r b c p q = ComesTo r.program.now r.target.now r.known.now.variables.items b c p q
+
+abbrev pub PassesIn : Round → Sides → Sides → Option Best → Option Best → Option Best → Plan → Plan → Type 0
+PassesIn r v w pc b c p q = Passes r.program.now r.target.now r.known.now.variables.items v w pc b c p q

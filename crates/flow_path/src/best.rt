@@ -5,13 +5,11 @@ ghost use Rattle.mit_syntax.specs.Program.{Syntax};
 ghost use Rattle.flow_path.specs.declared.cost.Cost.{Cost as ACost};
 ghost use Rattle.flow_path.specs.declared.step.Part.{Part as APart};
 ghost use Rattle.flow_path.specs.declared.target.Target.{Target as ATarget};
-ghost use Rattle.flow_path.specs.Distances.{IsKnownOf, IsBest, best_by, and_then};
+ghost use Rattle.flow_path.specs.Distances.{IsKnownIn, IsBest, IsBestIn, best_by, and_then};
 
 use crate::cost::Cost;
-use crate::known::Known;
+use crate::known::Round;
 use crate::step::Part;
-use crate::target::Target;
-use mit_syntax::program::Program;
 
 /// The first of the cheapest parts of a list, and what a chain costs that ends by a step from it.
 #[derive(Clone, Copy)]
@@ -35,11 +33,14 @@ fn only(part: Part, cost: Option<Cost>) -> Option<Best>
 }
 
 /// That of the list of one part.
-pub(crate) fn single(part: Part, p: &Program, known: &Known, target: &Target) -> Option<Best>
-    requires { IsKnownOf p.now target.now known.now }
-    ensures { IsBest p.now target.now known.now.variables.items (part ∷ []) result }
+pub(crate) fn single(part: Part, round: &Round) -> Option<Best>
+    requires { IsKnownIn round.now }
+    ensures { IsBestIn round.now (part ∷ []) result }
 {
-    only(part, known.cost_to(p, target, &part.spot))
+    only(
+        part,
+        round.known.cost_to(round.program, round.target, &part.spot),
+    )
 }
 
 /// That of two lists, one after the other.

@@ -22,6 +22,14 @@ pub(crate) struct Known {
     pub(crate) lattice: Lattice,
 }
 
+/// What a round of the search goes by: the program, what is known of what chains in it cost, and where they are to end.
+#[derive(Drop)]
+pub(crate) struct Round<'a> {
+    pub(crate) program: &'a Program,
+    pub(crate) known: &'a Known,
+    pub(crate) target: &'a Target,
+}
+
 /// What a chain costs before its first step, if it may begin at a spot.
 fn start_at(p: &Program, lattice: &Lattice, target: &Target, spot: &Spot) -> Option<Cost>
     requires { lattice.now ≡ p.now.order }

@@ -5,28 +5,19 @@ ghost use Rattle.mit_syntax.specs.Expression.{expression_of};
 ghost use Rattle.flow_path.specs.declared.step.Part.{Part as APart};
 ghost use Rattle.flow_path.specs.declared.step.How.TheVariants.{Reads as WhenReads, ReadsInIndex as WhenIndex, HasReadLabel as WhenLabel, UnderGuard as WhenGuard, AfterReadLabel as WhenAfter};
 ghost use Rattle.flow_path.specs.Steps.{reads, index_reads, read_label, after, after_set, after_put};
-ghost use Rattle.flow_path.specs.Distances.{IsKnownOf, IsBest};
+ghost use Rattle.flow_path.specs.Distances.{IsKnownIn, IsBestIn};
 
 use crate::best::{Best, better, single};
-use crate::known::Known;
+use crate::known::Round;
 use crate::step::{How, Part, Spot};
-use crate::target::Target;
 use label_lattice::label::Label;
 use mit_syntax::ast::Expr;
-use mit_syntax::program::Program;
 use text_base::pos::Pos;
 
 /// Of the variables and arrays of an expression.
-pub(crate) fn reads(
-    e: &Expr,
-    how: How,
-    pos: Pos,
-    p: &Program,
-    known: &Known,
-    target: &Target,
-) -> Option<Best>
-    requires { IsKnownOf p.now target.now known.now }
-    ensures { IsBest p.now target.now known.now.variables.items (reads how pos (expression_of e.now)) result }
+pub(crate) fn reads(e: &Expr, how: How, pos: Pos, round: &Round) -> Option<Best>
+    requires { IsKnownIn round.now }
+    ensures { IsBestIn round.now (reads how pos (expression_of e.now)) result }
 {
     match e {
         Expr::Number(_) => None,
@@ -36,13 +27,11 @@ pub(crate) fn reads(
                 pos,
                 spot: Spot::Variable(*x),
             },
-            p,
-            known,
-            target,
+            round,
         ),
         Expr::Binary(_, left, right) => {
-            let a = reads(left, how, pos, p, known, target);
-            let b = reads(right, how, pos, p, known, target);
+            let a = reads(left, how, pos, round);
+            let b = reads(right, how, pos, round);
             better(a, b)
         }
         Expr::Element {
@@ -55,36 +44,30 @@ pub(crate) fn reads(
                 pos,
                 spot: Spot::Variable(*first),
             };
-            let a = single(part, p, known, target);
-            let b = reads(index, how, pos, p, known, target);
+            let a = single(part, round);
+            let b = reads(index, how, pos, round);
             better(a, b)
         }
     }
 }
 
 /// Of those that stand in an index.
-pub(crate) fn index_reads(
-    e: &Expr,
-    pos: Pos,
-    p: &Program,
-    known: &Known,
-    target: &Target,
-) -> Option<Best>
-    requires { IsKnownOf p.now target.now known.now }
-    ensures { IsBest p.now target.now known.now.variables.items (index_reads pos (expression_of e.now)) result }
+pub(crate) fn index_reads(e: &Expr, pos: Pos, round: &Round) -> Option<Best>
+    requires { IsKnownIn round.now }
+    ensures { IsBestIn round.now (index_reads pos (expression_of e.now)) result }
 {
     match e {
         Expr::Number(_) | Expr::Variable(_) => None,
         Expr::Binary(_, left, right) => {
-            let a = index_reads(left, pos, p, known, target);
-            let b = index_reads(right, pos, p, known, target);
+            let a = index_reads(left, pos, round);
+            let b = index_reads(right, pos, round);
             better(a, b)
         }
         Expr::Element {
             first: _,
             length: _,
             index,
-        } => reads(index, How::ReadsInIndex, pos, p, known, target),
+        } => reads(index, How::ReadsInIndex, pos, round),
     }
 }
 
@@ -93,12 +76,10 @@ pub(crate) fn read_label(
     labels: &Option<(Label, Label)>,
     how: How,
     pos: Pos,
-    p: &Program,
-    known: &Known,
-    target: &Target,
+    round: &Round,
 ) -> Option<Best>
-    requires { IsKnownOf p.now target.now known.now }
-    ensures { IsBest p.now target.now known.now.variables.items (read_label how pos labels.now) result }
+    requires { IsKnownIn round.now }
+    ensures { IsBestIn round.now (read_label how pos labels.now) result }
 {
     match labels {
         None => None,
@@ -108,9 +89,7 @@ pub(crate) fn read_label(
                 pos,
                 spot: Spot::Command(pair.0),
             },
-            p,
-            known,
-            target,
+            round,
         ),
     }
 }
@@ -120,15 +99,12 @@ pub(crate) fn after_skip(
     t: Option<Best>,
     pos: Pos,
     labels: &Option<(Label, Label)>,
-    p: &Program,
-    known: &Known,
-    target: &Target,
+    round: &Round,
 ) -> Option<Best>
-    requires { IsKnownOf p.now target.now known.now }
-    ensures { (T : List APart) → IsBest p.now target.now known.now.variables.items T t
-        → IsBest p.now target.now known.now.variables.items (T ++ read_label WhenAfter pos labels.now) result }
+    requires { IsKnownIn round.now }
+    ensures { (T : List APart) → IsBestIn round.now T t → IsBestIn round.now (T ++ read_label WhenAfter pos labels.now) result }
 {
-    let label = read_label(labels, How::AfterReadLabel, pos, p, known, target);
+    let label = read_label(labels, How::AfterReadLabel, pos, round);
     better(t, label)
 }
 
@@ -138,16 +114,14 @@ pub(crate) fn after(
     pos: Pos,
     labels: &Option<(Label, Label)>,
     e: &Expr,
-    p: &Program,
-    known: &Known,
-    target: &Target,
+    round: &Round,
 ) -> Option<Best>
-    requires { IsKnownOf p.now target.now known.now }
-    ensures { (T : List APart) → IsBest p.now target.now known.now.variables.items T t
-        → IsBest p.now target.now known.now.variables.items (after T (record { pos = pos; labels = labels.now }) (expression_of e.now)) result }
+    requires { IsKnownIn round.now }
+    ensures { (T : List APart) → IsBestIn round.now T t
+        → IsBestIn round.now (after T (record { pos = pos; labels = labels.now }) (expression_of e.now)) result }
 {
-    let read = reads(e, How::AfterReading, pos, p, known, target);
-    let label = read_label(labels, How::AfterReadLabel, pos, p, known, target);
+    let read = reads(e, How::AfterReading, pos, round);
+    let label = read_label(labels, How::AfterReadLabel, pos, round);
     let own = better(read, label);
     better(t, own)
 }
@@ -159,21 +133,19 @@ pub(crate) fn after_set(
     labels: &Option<(Label, Label)>,
     x: u32,
     e: &Expr,
-    p: &Program,
-    known: &Known,
-    target: &Target,
+    round: &Round,
 ) -> Option<Best>
-    requires { IsKnownOf p.now target.now known.now }
-    ensures { (T : List APart) → IsBest p.now target.now known.now.variables.items T t
-        → IsBest p.now target.now known.now.variables.items (after_set T (record { pos = pos; labels = labels.now }) x (expression_of e.now)) result }
+    requires { IsKnownIn round.now }
+    ensures { (T : List APart) → IsBestIn round.now T t
+        → IsBestIn round.now (after_set T (record { pos = pos; labels = labels.now }) x (expression_of e.now)) result }
 {
-    let read = after(t, pos, labels, e, p, known, target);
+    let read = after(t, pos, labels, e, round);
     let part = Part {
         how: How::AfterAssigning,
         pos,
         spot: Spot::Variable(x),
     };
-    let set = single(part, p, known, target);
+    let set = single(part, round);
     better(read, set)
 }
 
@@ -185,51 +157,32 @@ pub(crate) fn after_put(
     first: u32,
     index: &Expr,
     e: &Expr,
-    p: &Program,
-    known: &Known,
-    target: &Target,
+    round: &Round,
 ) -> Option<Best>
-    requires { IsKnownOf p.now target.now known.now }
-    ensures { (T : List APart) → IsBest p.now target.now known.now.variables.items T t
-        → IsBest p.now target.now known.now.variables.items
-        (after_put T (record { pos = pos; labels = labels.now }) first (expression_of index.now) (expression_of e.now)) result }
+    requires { IsKnownIn round.now }
+    ensures { (T : List APart) → IsBestIn round.now T t
+        → IsBestIn round.now (after_put T (record { pos = pos; labels = labels.now }) first (expression_of index.now) (expression_of e.now)) result }
 {
-    let set = after_set(t, pos, labels, first, e, p, known, target);
-    let read = reads(index, How::AfterReading, pos, p, known, target);
+    let set = after_set(t, pos, labels, first, e, round);
+    let read = reads(index, How::AfterReading, pos, round);
     better(set, read)
 }
 
 /// Of the guards around the parts of a command.
-pub(crate) fn inside(
-    pc: Option<Best>,
-    pos: Pos,
-    guard: &Expr,
-    p: &Program,
-    known: &Known,
-    target: &Target,
-) -> Option<Best>
-    requires { IsKnownOf p.now target.now known.now }
-    ensures { (P : List APart) → IsBest p.now target.now known.now.variables.items P pc
-        → IsBest p.now target.now known.now.variables.items (P ++ reads WhenGuard pos (expression_of guard.now)) result }
+pub(crate) fn inside(pc: Option<Best>, pos: Pos, guard: &Expr, round: &Round) -> Option<Best>
+    requires { IsKnownIn round.now }
+    ensures { (P : List APart) → IsBestIn round.now P pc → IsBestIn round.now (P ++ reads WhenGuard pos (expression_of guard.now)) result }
 {
-    let read = reads(guard, How::UnderGuard, pos, p, known, target);
+    let read = reads(guard, How::UnderGuard, pos, round);
     better(pc, read)
 }
 
 /// Of the left side of the condition on a write label.
-pub(crate) fn here(
-    pc: Option<Best>,
-    pos: Pos,
-    e: &Expr,
-    p: &Program,
-    known: &Known,
-    target: &Target,
-) -> Option<Best>
-    requires { IsKnownOf p.now target.now known.now }
-    ensures { (P : List APart) → IsBest p.now target.now known.now.variables.items P pc
-        → IsBest p.now target.now known.now.variables.items (P ++ index_reads pos (expression_of e.now)) result }
+pub(crate) fn here(pc: Option<Best>, pos: Pos, e: &Expr, round: &Round) -> Option<Best>
+    requires { IsKnownIn round.now }
+    ensures { (P : List APart) → IsBestIn round.now P pc → IsBestIn round.now (P ++ index_reads pos (expression_of e.now)) result }
 {
-    let read = index_reads(e, pos, p, known, target);
+    let read = index_reads(e, pos, round);
     better(pc, read)
 }
 
@@ -239,17 +192,14 @@ pub(crate) fn put_here(
     pos: Pos,
     index: &Expr,
     e: &Expr,
-    p: &Program,
-    known: &Known,
-    target: &Target,
+    round: &Round,
 ) -> Option<Best>
-    requires { IsKnownOf p.now target.now known.now }
-    ensures { (P : List APart) → IsBest p.now target.now known.now.variables.items P pc
-        → IsBest p.now target.now known.now.variables.items
-        (P ++ (reads WhenIndex pos (expression_of index.now) ++ index_reads pos (expression_of e.now))) result }
+    requires { IsKnownIn round.now }
+    ensures { (P : List APart) → IsBestIn round.now P pc
+        → IsBestIn round.now (P ++ (reads WhenIndex pos (expression_of index.now) ++ index_reads pos (expression_of e.now))) result }
 {
-    let place = reads(index, How::ReadsInIndex, pos, p, known, target);
-    let read = index_reads(e, pos, p, known, target);
+    let place = reads(index, How::ReadsInIndex, pos, round);
+    let read = index_reads(e, pos, round);
     let own = better(place, read);
     better(pc, own)
 }
@@ -260,15 +210,13 @@ fn around(
     t: Option<Best>,
     pos: Pos,
     labels: &Option<(Label, Label)>,
-    p: &Program,
-    known: &Known,
-    target: &Target,
+    round: &Round,
 ) -> Option<Best>
-    requires { IsKnownOf p.now target.now known.now }
-    ensures { (P T : List APart) → IsBest p.now target.now known.now.variables.items P pc → IsBest p.now target.now known.now.variables.items T t
-        → IsBest p.now target.now known.now.variables.items (P ++ (read_label WhenLabel pos labels.now ++ T)) result }
+    requires { IsKnownIn round.now }
+    ensures { (P T : List APart) → IsBestIn round.now P pc → IsBestIn round.now T t
+        → IsBestIn round.now (P ++ (read_label WhenLabel pos labels.now ++ T)) result }
 {
-    let label = read_label(labels, How::HasReadLabel, pos, p, known, target);
+    let label = read_label(labels, How::HasReadLabel, pos, round);
     let time = better(label, t);
     better(pc, time)
 }
@@ -280,17 +228,14 @@ pub(crate) fn set_left(
     pos: Pos,
     labels: &Option<(Label, Label)>,
     e: &Expr,
-    p: &Program,
-    known: &Known,
-    target: &Target,
+    round: &Round,
 ) -> Option<Best>
-    requires { IsKnownOf p.now target.now known.now }
-    ensures { (P T : List APart) → IsBest p.now target.now known.now.variables.items P pc → IsBest p.now target.now known.now.variables.items T t
-        → IsBest p.now target.now known.now.variables.items
-        (reads WhenReads pos (expression_of e.now) ++ (P ++ (read_label WhenLabel pos labels.now ++ T))) result }
+    requires { IsKnownIn round.now }
+    ensures { (P T : List APart) → IsBestIn round.now P pc → IsBestIn round.now T t
+        → IsBestIn round.now (reads WhenReads pos (expression_of e.now) ++ (P ++ (read_label WhenLabel pos labels.now ++ T))) result }
 {
-    let read = reads(e, How::Reads, pos, p, known, target);
-    let rest = around(pc, t, pos, labels, p, known, target);
+    let read = reads(e, How::Reads, pos, round);
+    let rest = around(pc, t, pos, labels, round);
     better(read, rest)
 }
 
@@ -302,19 +247,16 @@ pub(crate) fn put_left(
     labels: &Option<(Label, Label)>,
     index: &Expr,
     e: &Expr,
-    p: &Program,
-    known: &Known,
-    target: &Target,
+    round: &Round,
 ) -> Option<Best>
-    requires { IsKnownOf p.now target.now known.now }
-    ensures { (P T : List APart) → IsBest p.now target.now known.now.variables.items P pc → IsBest p.now target.now known.now.variables.items T t
-        → IsBest p.now target.now known.now.variables.items
-        (reads WhenReads pos (expression_of e.now) ++ (reads WhenIndex pos (expression_of index.now) ++ (P ++ (read_label WhenLabel pos labels.now ++ T))))
-        result }
+    requires { IsKnownIn round.now }
+    ensures { (P T : List APart) → IsBestIn round.now P pc → IsBestIn round.now T t
+        → IsBestIn round.now (reads WhenReads pos (expression_of e.now)
+        ++ (reads WhenIndex pos (expression_of index.now) ++ (P ++ (read_label WhenLabel pos labels.now ++ T)))) result }
 {
-    let read = reads(e, How::Reads, pos, p, known, target);
-    let place = reads(index, How::ReadsInIndex, pos, p, known, target);
-    let rest = around(pc, t, pos, labels, p, known, target);
+    let read = reads(e, How::Reads, pos, round);
+    let place = reads(index, How::ReadsInIndex, pos, round);
+    let rest = around(pc, t, pos, labels, round);
     let indexed = better(place, rest);
     better(read, indexed)
 }

@@ -3,82 +3,68 @@
 ghost use Rattle.std.specs.Prelude.{◌++◌};
 ghost use Rattle.mit_syntax.specs.Plan.{Plan, command_plan, list_plan};
 ghost use Rattle.mit_syntax.specs.Todo.{Done};
-ghost use Rattle.flow_path.specs.Distances.{IsKnownOf, ComesTo, Passes};
+ghost use Rattle.flow_path.specs.Distances.{IsKnownIn, ComesIn, PassesIn};
 
 use crate::best::{Best, better};
-use crate::known::Known;
+use crate::known::Round;
 use crate::parts::{
     after, after_put, after_set, after_skip, here, inside, put_here, put_left, set_left,
 };
 use crate::sides::Sides;
 use crate::step::Spot;
-use crate::target::Target;
 use mit_syntax::ast::{Command, Form};
-use mit_syntax::program::Program;
 use timing_types::rule::Rule;
 
 /// The first of the cheapest parts of the time after a command.
 #[cycle(ends)]
-fn command_end(
-    c: &Command,
-    t: Option<Best>,
-    p: &Program,
-    known: &Known,
-    target: &Target,
-) -> Option<Best>
-    requires { IsKnownOf p.now target.now known.now }
-    ensures { (rest : Plan) → ComesTo p.now target.now known.now.variables.items t result (command_plan c.now rest) rest }
+fn command_end(c: &Command, t: Option<Best>, round: &Round) -> Option<Best>
+    requires { IsKnownIn round.now }
+    ensures { (rest : Plan) → ComesIn round.now t result (command_plan c.now rest) rest }
 {
     match &c.form {
-        Form::Skip => after_skip(t, c.pos, &c.labels, p, known, target),
+        Form::Skip => after_skip(t, c.pos, &c.labels, round),
         Form::Assign { variable, value } => {
-            after_set(t, c.pos, &c.labels, *variable, value, p, known, target)
+            after_set(t, c.pos, &c.labels, *variable, value, round)
         }
         Form::Put {
             first,
             length: _,
             index,
             value,
-        } => after_put(t, c.pos, &c.labels, *first, index, value, p, known, target),
-        Form::Sleep { time } => after(t, c.pos, &c.labels, time, p, known, target),
+        } => after_put(t, c.pos, &c.labels, *first, index, value, round),
+        Form::Sleep { time } => after(t, c.pos, &c.labels, time, round),
         Form::If {
             guard,
             then_part,
             else_part,
         } => {
-            let start = after(t, c.pos, &c.labels, guard, p, known, target);
-            let one = list_end(then_part, start, p, known, target);
-            let other = list_end(else_part, start, p, known, target);
+            let start = after(t, c.pos, &c.labels, guard, round);
+            let one = list_end(then_part, start, round);
+            let other = list_end(else_part, start, round);
             better(one, other)
         }
         Form::While { guard, body } => {
-            let start = after(t, c.pos, &c.labels, guard, p, known, target);
-            list_end(body, start, p, known, target)
+            let start = after(t, c.pos, &c.labels, guard, round);
+            list_end(body, start, round)
         }
         Form::Mitigate {
             mark: _,
             estimate,
             level: _,
             body: _,
-        } => after(t, c.pos, &c.labels, estimate, p, known, target),
+        } => after(t, c.pos, &c.labels, estimate, round),
     }
 }
 
 /// That of the time after a list.
 #[cycle(ends)]
-fn list_end(
-    commands: &[Command],
-    t: Option<Best>,
-    p: &Program,
-    known: &Known,
-    target: &Target,
-) -> Option<Best>
-    requires { IsKnownOf p.now target.now known.now }
-    ensures { ComesTo p.now target.now known.now.variables.items t result (list_plan commands.now) Done }
+fn list_end(commands: &[Command], t: Option<Best>, round: &Round) -> Option<Best>
+    requires { IsKnownIn round.now }
+    ensures { ComesIn round.now t result (list_plan commands.now) Done }
 {
     let mut end = t;
     for c in commands {
-        end = command_end(c, end, p, known, target);
+        end = command_end(c, end, round);
     }
     end
 }
@@ -90,25 +76,37 @@ fn command_pass(
     pc: Option<Best>,
     t: Option<Best>,
     sides: &mut Sides,
-    p: &Program,
-    known: &Known,
-    target: &Target,
+    round: &Round,
 ) -> Option<Best>
-    requires { IsKnownOf p.now target.now known.now }
-    ensures { (rest : Plan) → Passes p.now target.now known.now.variables.items sides.old sides.new pc t result (command_plan c.now rest) rest }
+    requires { IsKnownIn round.now }
+    ensures { (rest : Plan) → PassesIn round.now sides.old sides.new pc t result (command_plan c.now rest) rest }
 {
     match &c.form {
         Form::Skip => {
-            sides.add_label(Rule::Skip, c.pos, &c.labels, pc, p, target);
-            after_skip(t, c.pos, &c.labels, p, known, target)
+            sides.add_label(
+                Rule::Skip,
+                c.pos,
+                &c.labels,
+                pc,
+                round.program,
+                round.target,
+            );
+            after_skip(t, c.pos, &c.labels, round)
         }
         Form::Assign { variable, value } => {
-            let left = set_left(pc, t, c.pos, &c.labels, value, p, known, target);
-            let own = here(pc, c.pos, value, p, known, target);
+            let left = set_left(pc, t, c.pos, &c.labels, value, round);
+            let own = here(pc, c.pos, value, round);
             let side = Spot::Variable(*variable);
-            sides.add(Rule::Asgn, c.pos, side, left, p, target);
-            sides.add_label(Rule::Asgn, c.pos, &c.labels, own, p, target);
-            after_set(t, c.pos, &c.labels, *variable, value, p, known, target)
+            sides.add(Rule::Asgn, c.pos, side, left, round.program, round.target);
+            sides.add_label(
+                Rule::Asgn,
+                c.pos,
+                &c.labels,
+                own,
+                round.program,
+                round.target,
+            );
+            after_set(t, c.pos, &c.labels, *variable, value, round)
         }
         Form::Put {
             first,
@@ -116,38 +114,59 @@ fn command_pass(
             index,
             value,
         } => {
-            let left = put_left(pc, t, c.pos, &c.labels, index, value, p, known, target);
-            let own = put_here(pc, c.pos, index, value, p, known, target);
+            let left = put_left(pc, t, c.pos, &c.labels, index, value, round);
+            let own = put_here(pc, c.pos, index, value, round);
             let side = Spot::Variable(*first);
-            sides.add(Rule::Asgn, c.pos, side, left, p, target);
-            sides.add_label(Rule::Asgn, c.pos, &c.labels, own, p, target);
-            after_put(t, c.pos, &c.labels, *first, index, value, p, known, target)
+            sides.add(Rule::Asgn, c.pos, side, left, round.program, round.target);
+            sides.add_label(
+                Rule::Asgn,
+                c.pos,
+                &c.labels,
+                own,
+                round.program,
+                round.target,
+            );
+            after_put(t, c.pos, &c.labels, *first, index, value, round)
         }
         Form::Sleep { time } => {
-            let own = here(pc, c.pos, time, p, known, target);
-            sides.add_label(Rule::Sleep, c.pos, &c.labels, own, p, target);
-            after(t, c.pos, &c.labels, time, p, known, target)
+            let own = here(pc, c.pos, time, round);
+            sides.add_label(
+                Rule::Sleep,
+                c.pos,
+                &c.labels,
+                own,
+                round.program,
+                round.target,
+            );
+            after(t, c.pos, &c.labels, time, round)
         }
         Form::If {
             guard,
             then_part,
             else_part,
         } => {
-            let own = here(pc, c.pos, guard, p, known, target);
-            sides.add_label(Rule::If, c.pos, &c.labels, own, p, target);
-            let start = after(t, c.pos, &c.labels, guard, p, known, target);
-            let inner = inside(pc, c.pos, guard, p, known, target);
-            let one = list_pass(then_part, inner, start, sides, p, known, target);
-            let other = list_pass(else_part, inner, start, sides, p, known, target);
+            let own = here(pc, c.pos, guard, round);
+            sides.add_label(Rule::If, c.pos, &c.labels, own, round.program, round.target);
+            let start = after(t, c.pos, &c.labels, guard, round);
+            let inner = inside(pc, c.pos, guard, round);
+            let one = list_pass(then_part, inner, start, sides, round);
+            let other = list_pass(else_part, inner, start, sides, round);
             better(one, other)
         }
         Form::While { guard, body } => {
-            let own = here(pc, c.pos, guard, p, known, target);
-            sides.add_label(Rule::While, c.pos, &c.labels, own, p, target);
-            let start = after(t, c.pos, &c.labels, guard, p, known, target);
-            let end = list_end(body, start, p, known, target);
-            let inner = inside(pc, c.pos, guard, p, known, target);
-            let _again = list_pass(body, inner, end, sides, p, known, target);
+            let own = here(pc, c.pos, guard, round);
+            sides.add_label(
+                Rule::While,
+                c.pos,
+                &c.labels,
+                own,
+                round.program,
+                round.target,
+            );
+            let start = after(t, c.pos, &c.labels, guard, round);
+            let end = list_end(body, start, round);
+            let inner = inside(pc, c.pos, guard, round);
+            let _again = list_pass(body, inner, end, sides, round);
             end
         }
         Form::Mitigate {
@@ -156,12 +175,19 @@ fn command_pass(
             level,
             body,
         } => {
-            let own = here(pc, c.pos, estimate, p, known, target);
-            sides.add_label(Rule::Mtg, c.pos, &c.labels, own, p, target);
-            let start = after(t, c.pos, &c.labels, estimate, p, known, target);
-            let last = list_pass(body, pc, start, sides, p, known, target);
+            let own = here(pc, c.pos, estimate, round);
+            sides.add_label(
+                Rule::Mtg,
+                c.pos,
+                &c.labels,
+                own,
+                round.program,
+                round.target,
+            );
+            let start = after(t, c.pos, &c.labels, estimate, round);
+            let last = list_pass(body, pc, start, sides, round);
             let side = Spot::Level(*mark, *level);
-            sides.add(Rule::Mtg, c.pos, side, last, p, target);
+            sides.add(Rule::Mtg, c.pos, side, last, round.program, round.target);
             start
         }
     }
@@ -175,16 +201,14 @@ pub(crate) fn list_pass(
     pc: Option<Best>,
     t: Option<Best>,
     sides: &mut Sides,
-    p: &Program,
-    known: &Known,
-    target: &Target,
+    round: &Round,
 ) -> Option<Best>
-    requires { IsKnownOf p.now target.now known.now }
-    ensures { Passes p.now target.now known.now.variables.items sides.old sides.new pc t result (list_plan commands.now) Done }
+    requires { IsKnownIn round.now }
+    ensures { PassesIn round.now sides.old sides.new pc t result (list_plan commands.now) Done }
 {
     let mut end = t;
     for c in commands {
-        end = command_pass(c, pc, end, sides, p, known, target);
+        end = command_pass(c, pc, end, sides, round);
     }
     end
 }

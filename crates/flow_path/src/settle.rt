@@ -8,7 +8,7 @@ ghost use Rattle.flow_path.specs.Steps.{steps_of};
 ghost use Rattle.flow_path.specs.Distances.{IsKnownOf, IsNew, IsNewAt, IsLeastNew, IsSetBy, AreSides, AreSettled, Agrees};
 
 use crate::cost::Cost;
-use crate::known::{Known, starts};
+use crate::known::{Known, Round, starts};
 use crate::nearest::nearest;
 use crate::pass::list_pass;
 use crate::sides::{Found, Sides, no_sides};
@@ -136,7 +136,12 @@ fn found_with(
     ensures { IfOk result (λ v. AreSides p.now target.now known.now.variables.items (steps_of p.now) v) }
 {
     let mut sides = no_sides(alloc, count_of(&known.variables))?;
-    let _end = list_pass(p.body(), None, None, &mut sides, p, known, target);
+    let round = Round {
+        program: p,
+        known,
+        target,
+    };
+    let _end = list_pass(p.body(), None, None, &mut sides, &round);
     Ok(sides)
 }
 

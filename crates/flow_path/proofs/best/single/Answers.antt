@@ -5,6 +5,7 @@ use Rattle.flow_path.proofs.best.single.Goals as goal
 
 pub returns : goal.returns
 returns c =
-    subst (λ z. IsBest c.args.p.now c.args.target.now c.args.known.now.variables.items (c.args.part ∷ []) z)
-        (sym (c.only.ensures ∙ ap (λ z. best_by c.args.part (and_then z c.args.part.how)) c.cost_to.ensures.cost))
-    (single_best c.args.p.now c.args.target.now c.args.known.now.variables.items c.args.part)
+    let r = c.args.round.now in
+    subst (λ z. IsBest r.program.now r.target.now r.known.now.variables.items (c.args.part ∷ []) z)
+    (sym (c.only.ensures ∙ ap (λ z. best_by c.args.part (and_then z c.args.part.how)) c.cost_to.ensures.cost))
+    (single_best r.program.now r.target.now r.known.now.variables.items c.args.part)

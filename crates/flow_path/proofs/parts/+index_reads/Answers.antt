@@ -6,10 +6,11 @@ use Rattle.flow_path.proofs.parts.+index_reads.Goals as goal
 
 pub returns-in-Binary : goal.returns-in-Binary
 returns-in-Binary t c =
+    let r = c.args.round.now in
     let q = c.args.pos in
-    subst (λ z. IsBest c.args.p.now c.args.target.now c.args.known.now.variables.items z c.better.result)
+    subst (λ z. IsBest r.program.now r.target.now r.known.now.variables.items z c.better.result)
     (sym (ap (λ z. index_reads c.args.pos (expression_of z)) c.in-Binary.is
     ∙ (ap (λ z. index_reads c.args.pos (expression_of z) ++ index_reads c.args.pos (expression_of c.in-Binary.right.value)) (sym c.deref.ensures)
     ∙ ap (λ z. index_reads c.args.pos (expression_of c.deref.result.now) ++ index_reads c.args.pos (expression_of z)) (sym c.deref-in-Binary.ensures))))
-    (c.better.ensures c.args.p.now c.args.target.now c.args.known.now.variables.items (index_reads q (expression_of c.deref.result.now))
-        (index_reads q (expression_of c.deref-in-Binary.result.now)) c.index_reads-a.ensures c.index_reads-b.ensures)
+    (c.better.ensures r.program.now r.target.now r.known.now.variables.items (index_reads q (expression_of c.deref.result.now))
+    (index_reads q (expression_of c.deref-in-Binary.result.now)) c.index_reads-a.ensures c.index_reads-b.ensures)

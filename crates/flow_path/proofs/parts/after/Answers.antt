@@ -5,8 +5,10 @@ use Rattle.flow_path.specs.Steps.{reads, read_label}
 use Rattle.flow_path.proofs.parts.after.Goals as goal
 
 pub returns : goal.returns
-returns c = λ T h.
-    c.better.ensures c.args.p.now c.args.target.now c.args.known.now.variables.items T (reads AfterReading c.args.pos (expression_of c.args.e.now)
-        ++ read_label AfterReadLabel c.args.pos c.args.labels.now) h
-    (c.better-own.ensures c.args.p.now c.args.target.now c.args.known.now.variables.items (reads AfterReading c.args.pos (expression_of c.args.e.now))
-        (read_label AfterReadLabel c.args.pos c.args.labels.now) c.reads-read.ensures c.read_label-label.ensures)
+returns c =
+    let r = c.args.round.now in
+    λ T h.
+    c.better.ensures r.program.now r.target.now r.known.now.variables.items T (reads AfterReading c.args.pos (expression_of c.args.e.now)
+    ++ read_label AfterReadLabel c.args.pos c.args.labels.now) h
+    (c.better-own.ensures r.program.now r.target.now r.known.now.variables.items (reads AfterReading c.args.pos (expression_of c.args.e.now))
+    (read_label AfterReadLabel c.args.pos c.args.labels.now) c.reads-read.ensures c.read_label-label.ensures)

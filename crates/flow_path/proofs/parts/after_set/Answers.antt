@@ -6,7 +6,9 @@ use Rattle.flow_path.specs.Steps.{after, one}
 use Rattle.flow_path.proofs.parts.after_set.Goals as goal
 
 pub returns : goal.returns
-returns c = λ T h.
-    c.better.ensures c.args.p.now c.args.target.now c.args.known.now.variables.items
-        (after T (record { pos = c.args.pos; labels = c.args.labels.now }) (expression_of c.args.e.now)) (one AfterAssigning c.args.pos (Variable c.args.x))
-        (c.after-read.ensures T h) c.single-set.ensures
+returns c =
+    let r = c.args.round.now in
+    λ T h.
+    c.better.ensures r.program.now r.target.now r.known.now.variables.items
+    (after T (record { pos = c.args.pos; labels = c.args.labels.now }) (expression_of c.args.e.now)) (one AfterAssigning c.args.pos (Variable c.args.x))
+    (c.after-read.ensures T h) c.single-set.ensures

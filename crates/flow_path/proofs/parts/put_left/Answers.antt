@@ -5,9 +5,11 @@ use Rattle.flow_path.specs.Steps.{reads, read_label}
 use Rattle.flow_path.proofs.parts.put_left.Goals as goal
 
 pub returns : goal.returns
-returns c = λ P T h k.
-    c.better.ensures c.args.p.now c.args.target.now c.args.known.now.variables.items (reads Reads c.args.pos (expression_of c.args.e.now))
-        (reads ReadsInIndex c.args.pos (expression_of c.args.index.now) ++ (P ++ (read_label HasReadLabel c.args.pos c.args.labels.now ++ T)))
-        c.reads-read.ensures
-    (c.better-indexed.ensures c.args.p.now c.args.target.now c.args.known.now.variables.items (reads ReadsInIndex c.args.pos (expression_of c.args.index.now))
-        (P ++ (read_label HasReadLabel c.args.pos c.args.labels.now ++ T)) c.reads-place.ensures (c.around-rest.ensures P T h k))
+returns c =
+    let r = c.args.round.now in
+    λ P T h k.
+    c.better.ensures r.program.now r.target.now r.known.now.variables.items (reads Reads c.args.pos (expression_of c.args.e.now))
+    (reads ReadsInIndex c.args.pos (expression_of c.args.index.now) ++ (P ++ (read_label HasReadLabel c.args.pos c.args.labels.now ++ T)))
+    c.reads-read.ensures
+    (c.better-indexed.ensures r.program.now r.target.now r.known.now.variables.items (reads ReadsInIndex c.args.pos (expression_of c.args.index.now))
+    (P ++ (read_label HasReadLabel c.args.pos c.args.labels.now ++ T)) c.reads-place.ensures (c.around-rest.ensures P T h k))

@@ -14,120 +14,131 @@ use Rattle.flow_path.proofs.pass.+steps.Goals as goal
 
 pub command_pass-returns-in-Skip : goal.command_pass-returns-in-Skip
 command_pass-returns-in-Skip t c =
+    let r = c.args.round.now in
     let w : Written = record { pos = c.args.c.now.pos; labels = c.args.c.now.labels } in
     λ rest.
     let q = ap (λ z. form_plan z w rest) c.in-Skip.is in
-    passes_plain c.args.p.now c.args.target.now c.args.known.now.variables.items c.args.sides.now c.add_label.new.self c.args.pc c.args.t c.args.pc
-        c.after_skip.result (command_plan c.args.c.now rest) rest RSkip w.pos w.labels
-    (λ P. P) (λ T. T ++ read_label AfterReadLabel w.pos w.labels) (λ P h. h) c.after_skip.ensures (c.add_label.ensures c.args.known.now.variables.items)
+    passes_plain r.program.now r.target.now r.known.now.variables.items c.args.sides.now c.add_label.new.self c.args.pc c.args.t c.args.pc
+    c.after_skip.result (command_plan c.args.c.now rest) rest RSkip w.pos w.labels
+    (λ P. P) (λ T. T ++ read_label AfterReadLabel w.pos w.labels) (λ P h. h) c.after_skip.ensures (c.add_label.ensures r.known.now.variables.items)
     (λ P T. ap (λ z. steps z P T) q) (λ T. ap (λ z. ends z T) q)
 
 pub command_pass-returns-in-Sleep : goal.command_pass-returns-in-Sleep
 command_pass-returns-in-Sleep t c =
+    let r = c.args.round.now in
     let w : Written = record { pos = c.args.c.now.pos; labels = c.args.c.now.labels } in
     let e = expression_of c.in-Sleep.time in
     λ rest.
     let q = ap (λ z. form_plan z w rest) c.in-Sleep.is in
-    passes_plain c.args.p.now c.args.target.now c.args.known.now.variables.items c.args.sides.now c.add_label-in-Sleep.new.self c.args.pc c.args.t
-        c.here-own-in-Sleep.result c.after.result (command_plan c.args.c.now rest) rest RSleep w.pos w.labels
+    passes_plain r.program.now r.target.now r.known.now.variables.items c.args.sides.now c.add_label-in-Sleep.new.self c.args.pc c.args.t
+    c.here-own-in-Sleep.result c.after.result (command_plan c.args.c.now rest) rest RSleep w.pos w.labels
     (λ P. P ++ index_reads w.pos e) (λ T. after T w e) c.here-own-in-Sleep.ensures c.after.ensures
-        (c.add_label-in-Sleep.ensures c.args.known.now.variables.items)
+    (c.add_label-in-Sleep.ensures r.known.now.variables.items)
     (λ P T. ap (λ z. steps z P T) q) (λ T. ap (λ z. ends z T) q)
 
 pub command_pass-returns-in-Assign : goal.command_pass-returns-in-Assign
 command_pass-returns-in-Assign t c =
+    let r = c.args.round.now in
     let w : Written = record { pos = c.args.c.now.pos; labels = c.args.c.now.labels } in
     let e = expression_of c.in-Assign.value in
     λ rest.
     let q = ap (λ z. form_plan z w rest) c.in-Assign.is in
-    passes_set c.args.p.now c.args.target.now c.args.known.now.variables.items c.args.sides.now c.add.new.self c.add_label-in-Assign.new.self c.args.pc c.args.t
-        c.set_left-left.result c.here-own.result c.after_set.result
+    passes_set r.program.now r.target.now r.known.now.variables.items c.args.sides.now c.add.new.self c.add_label-in-Assign.new.self c.args.pc c.args.t
+    c.set_left-left.result c.here-own.result c.after_set.result
     (command_plan c.args.c.now rest) rest w.pos (OfVariable c.in-Assign.variable) w.labels
     (λ P T. reads Reads w.pos e ++ (P ++ (read_label HasReadLabel w.pos w.labels ++ T))) (λ P. P ++ index_reads w.pos e)
-        (λ T. after_set T w c.in-Assign.variable e)
-    c.set_left-left.ensures c.here-own.ensures c.after_set.ensures (c.add.ensures c.args.known.now.variables.items)
-        (c.add_label-in-Assign.ensures c.args.known.now.variables.items)
+    (λ T. after_set T w c.in-Assign.variable e)
+    c.set_left-left.ensures c.here-own.ensures c.after_set.ensures (c.add.ensures r.known.now.variables.items)
+    (c.add_label-in-Assign.ensures r.known.now.variables.items)
     (λ P T. ap (λ z. steps z P T) q) (λ T. ap (λ z. ends z T) q)
 
 pub command_pass-returns-in-Put : goal.command_pass-returns-in-Put
 command_pass-returns-in-Put t c =
+    let r = c.args.round.now in
     let w : Written = record { pos = c.args.c.now.pos; labels = c.args.c.now.labels } in
     let n = expression_of c.in-Put.index in
     let e = expression_of c.in-Put.value in
     λ rest.
     let q = ap (λ z. form_plan z w rest) c.in-Put.is in
-    passes_set c.args.p.now c.args.target.now c.args.known.now.variables.items c.args.sides.now c.add-in-Put.new.self c.add_label-in-Put.new.self c.args.pc
-        c.args.t c.put_left-left.result c.put_here-own.result c.after_put.result
+    passes_set r.program.now r.target.now r.known.now.variables.items c.args.sides.now c.add-in-Put.new.self c.add_label-in-Put.new.self c.args.pc
+    c.args.t c.put_left-left.result c.put_here-own.result c.after_put.result
     (command_plan c.args.c.now rest) rest w.pos (OfVariable c.in-Put.first) w.labels
     (λ P T. reads Reads w.pos e ++ (reads ReadsInIndex w.pos n ++ (P ++ (read_label HasReadLabel w.pos w.labels ++ T))))
-        (λ P. P ++ (reads ReadsInIndex w.pos n ++ index_reads w.pos e)) (λ T. after_put T w c.in-Put.first n e)
-    c.put_left-left.ensures c.put_here-own.ensures c.after_put.ensures (c.add-in-Put.ensures c.args.known.now.variables.items)
-        (c.add_label-in-Put.ensures c.args.known.now.variables.items)
+    (λ P. P ++ (reads ReadsInIndex w.pos n ++ index_reads w.pos e)) (λ T. after_put T w c.in-Put.first n e)
+    c.put_left-left.ensures c.put_here-own.ensures c.after_put.ensures (c.add-in-Put.ensures r.known.now.variables.items)
+    (c.add_label-in-Put.ensures r.known.now.variables.items)
     (λ P T. ap (λ z. steps z P T) q) (λ T. ap (λ z. ends z T) q)
 
 pub command_pass-returns-in-If : goal.command_pass-returns-in-If
 command_pass-returns-in-If t c =
+    let r = c.args.round.now in
     let w : Written = record { pos = c.args.c.now.pos; labels = c.args.c.now.labels } in
     λ rest.
     let q = if_parts c.args.c.now.form c.in-If.guard c.in-If.then_part c.in-If.else_part c.deref.result.now c.deref-in-If.result.now c.in-If.is
-        c.deref.ensures.value c.deref-in-If.ensures.value w rest in
-    passes_if c.args.p.now c.args.target.now c.args.known.now.variables.items c.args.sides.now c.add_label-in-If.new.self
-        c.list_pass-one.new.sides c.list_pass-other.new.sides
+    c.deref.ensures.value c.deref-in-If.ensures.value w rest in
+    passes_if r.program.now r.target.now r.known.now.variables.items c.args.sides.now c.add_label-in-If.new.self
+    c.list_pass-one.new.sides c.list_pass-other.new.sides
     c.args.pc c.args.t c.here-own-in-If.result c.after-start.result c.inside-inner.result c.list_pass-one.result c.list_pass-other.result c.better.result
     (command_plan c.args.c.now rest) (list_plan c.deref.result.now) (list_plan c.deref-in-If.result.now) rest w (expression_of c.in-If.guard) q
-    c.here-own-in-If.ensures (c.add_label-in-If.ensures c.args.known.now.variables.items) c.after-start.ensures c.inside-inner.ensures c.list_pass-one.ensures
-        c.list_pass-other.ensures (c.better.ensures c.args.p.now c.args.target.now c.args.known.now.variables.items)
+    c.here-own-in-If.ensures (c.add_label-in-If.ensures r.known.now.variables.items) c.after-start.ensures c.inside-inner.ensures c.list_pass-one.ensures
+    c.list_pass-other.ensures (c.better.ensures r.program.now r.target.now r.known.now.variables.items)
 
 pub command_pass-returns-in-While : goal.command_pass-returns-in-While
 command_pass-returns-in-While t c =
+    let r = c.args.round.now in
     let w : Written = record { pos = c.args.c.now.pos; labels = c.args.c.now.labels } in
     let body = c.deref-in-While-2.result.now in
     let same = c.deref-in-While.ensures.value ∙ sym c.deref-in-While-2.ensures.value in
-    let en = subst (λ z. ComesTo c.args.p.now c.args.target.now c.args.known.now.variables.items c.after-start-in-While.result c.list_end-end.result
-        (list_plan z) Done) same c.list_end-end.ensures in
+    let en = subst (λ z. ComesTo r.program.now r.target.now r.known.now.variables.items c.after-start-in-While.result c.list_end-end.result
+    (list_plan z) Done) same c.list_end-end.ensures in
     λ rest.
     let q = while_parts c.args.c.now.form c.in-While.guard c.in-While.body c.deref-in-While-2.result.now c.in-While.is
-        c.deref-in-While-2.ensures.value w rest in
-    passes_while c.args.p.now c.args.target.now c.args.known.now.variables.items c.args.sides.now c.add_label-in-While.new.self c.list_pass-again.new.sides
+    c.deref-in-While-2.ensures.value w rest in
+    passes_while r.program.now r.target.now r.known.now.variables.items c.args.sides.now c.add_label-in-While.new.self c.list_pass-again.new.sides
     c.args.pc c.args.t c.here-own-in-While.result c.after-start-in-While.result c.list_end-end.result c.inside-inner-in-While.result c.list_pass-again.result
     (command_plan c.args.c.now rest) (list_plan body) rest w (expression_of c.in-While.guard) q
-    c.here-own-in-While.ensures (c.add_label-in-While.ensures c.args.known.now.variables.items) c.after-start-in-While.ensures en
-        c.inside-inner-in-While.ensures c.list_pass-again.ensures
+    c.here-own-in-While.ensures (c.add_label-in-While.ensures r.known.now.variables.items) c.after-start-in-While.ensures en
+    c.inside-inner-in-While.ensures c.list_pass-again.ensures
 
 pub command_pass-returns-in-Mitigate : goal.command_pass-returns-in-Mitigate
 command_pass-returns-in-Mitigate t c =
+    let r = c.args.round.now in
     let w : Written = record { pos = c.args.c.now.pos; labels = c.args.c.now.labels } in
     λ rest.
     let q = mitigate_parts c.args.c.now.form c.in-Mitigate.mark c.in-Mitigate.estimate c.in-Mitigate.level c.in-Mitigate.body c.deref-in-Mitigate.result.now
-        c.in-Mitigate.is c.deref-in-Mitigate.ensures.value w rest in
-    passes_mitigate c.args.p.now c.args.target.now c.args.known.now.variables.items c.args.sides.now c.add_label-in-Mitigate.new.self
-        c.list_pass-last.new.sides c.add-in-Mitigate.new.self
+    c.in-Mitigate.is c.deref-in-Mitigate.ensures.value w rest in
+    passes_mitigate r.program.now r.target.now r.known.now.variables.items c.args.sides.now c.add_label-in-Mitigate.new.self
+    c.list_pass-last.new.sides c.add-in-Mitigate.new.self
     c.args.pc c.args.t c.here-own-in-Mitigate.result c.after-start-in-Mitigate.result c.list_pass-last.result c.in-Mitigate.mark c.in-Mitigate.level
     (command_plan c.args.c.now rest) (list_plan c.deref-in-Mitigate.result.now) rest w (expression_of c.in-Mitigate.estimate) q
-    c.here-own-in-Mitigate.ensures (c.add_label-in-Mitigate.ensures c.args.known.now.variables.items) c.after-start-in-Mitigate.ensures c.list_pass-last.ensures
-        (c.add-in-Mitigate.ensures c.args.known.now.variables.items)
+    c.here-own-in-Mitigate.ensures (c.add_label-in-Mitigate.ensures r.known.now.variables.items) c.after-start-in-Mitigate.ensures c.list_pass-last.ensures
+    (c.add-in-Mitigate.ensures r.known.now.variables.items)
 
 pub list_pass-loop-c-init : goal.list_pass-loop-c-init
-list_pass-loop-c-init t c = passes_none c.args.p.now c.args.target.now c.args.known.now.variables.items c.args.sides.now c.args.pc c.args.t
+list_pass-loop-c-init t c =
+    let r = c.args.round.now in
+    passes_none r.program.now r.target.now r.known.now.variables.items c.args.sides.now c.args.pc c.args.t
     (list_plan c.args.commands.now)
 
 pub list_pass-loop-c-preserved : goal.list_pass-loop-c-preserved
 list_pass-loop-c-preserved t c =
+    let r = c.args.round.now in
     let cs = c.args.commands.now in
     let more = list_plan (drop (c.loop-c.c-index + 1) c.args.commands.now) in
     let e : list_plan (drop c.loop-c.c-index c.args.commands.now) ≡ command_plan c.c-item.result (list_plan (drop (c.loop-c.c-index + 1) c.args.commands.now)) =
-        ap list_plan (cut cs c.loop-c.c-index c.c-item.result c.loop-c-test.true c.c-item.is) in
-    let h = subst (λ z. Passes c.args.p.now c.args.target.now c.args.known.now.variables.items c.args.sides.now c.loop-c.sides c.args.pc c.args.t c.loop-c.end
-        (list_plan c.args.commands.now) z) e c.loop-c.invariant in
-    passes_then c.args.p.now c.args.target.now c.args.known.now.variables.items c.args.sides.now c.loop-c.sides c.command_pass-end.new.sides c.args.pc c.args.t
-        c.loop-c.end c.command_pass-end.result
+    ap list_plan (cut cs c.loop-c.c-index c.c-item.result c.loop-c-test.true c.c-item.is) in
+    let h = subst (λ z. Passes r.program.now r.target.now r.known.now.variables.items c.args.sides.now c.loop-c.sides c.args.pc c.args.t c.loop-c.end
+    (list_plan c.args.commands.now) z) e c.loop-c.invariant in
+    passes_then r.program.now r.target.now r.known.now.variables.items c.args.sides.now c.loop-c.sides c.command_pass-end.new.sides c.args.pc c.args.t
+    c.loop-c.end c.command_pass-end.result
     (list_plan c.args.commands.now) (command_plan c.c-item.result more) more h (c.command_pass-end.ensures more)
 
 pub list_pass-returns : goal.list_pass-returns
 list_pass-returns t c =
+    let r = c.args.round.now in
     subst
-    (λ z. Passes c.args.p.now c.args.target.now c.args.known.now.variables.items c.args.sides.now c.loop-c.sides c.args.pc c.args.t c.loop-c.end
-        (list_plan c.args.commands.now) (list_plan z))
+    (λ z. Passes r.program.now r.target.now r.known.now.variables.items c.args.sides.now c.loop-c.sides c.args.pc c.args.t c.loop-c.end
+    (list_plan c.args.commands.now) (list_plan z))
     (drop_all c.loop-c.c-index c.args.commands.now c.loop-c-test.false) c.loop-c.invariant
 
 pub command_pass-list_pass-one-requires : goal.command_pass-list_pass-one-requires
@@ -135,7 +146,7 @@ command_pass-list_pass-one-requires t c =
     let w : Written = record { pos = c.args.c.now.pos; labels = c.args.c.now.labels } in
     let d = c.decreases in
     let n = if_count c.args.c.now.form c.in-If.guard c.in-If.then_part c.in-If.else_part c.deref.result.now c.in-If.else_part.items c.in-If.is
-        c.deref.ensures.value refl w in
+    c.deref.ensures.value refl w in
     let smaller : 2 * count (list_plan c.deref.result.now) + 1 < 2 * form_count c.args.c.now.form w = omega arith in
     (search rules, c.requires)
 
@@ -144,7 +155,7 @@ command_pass-list_pass-other-requires t c =
     let w : Written = record { pos = c.args.c.now.pos; labels = c.args.c.now.labels } in
     let d = c.decreases in
     let n = if_count c.args.c.now.form c.in-If.guard c.in-If.then_part c.in-If.else_part c.deref.result.now c.deref-in-If.result.now c.in-If.is
-        c.deref.ensures.value c.deref-in-If.ensures.value w in
+    c.deref.ensures.value c.deref-in-If.ensures.value w in
     let smaller : 2 * count (list_plan c.deref-in-If.result.now) + 1 < 2 * form_count c.args.c.now.form w = omega arith in
     (search rules, c.requires)
 
@@ -161,7 +172,7 @@ command_pass-list_pass-last-requires t c =
     let w : Written = record { pos = c.args.c.now.pos; labels = c.args.c.now.labels } in
     let d = c.decreases in
     let n = mitigate_count c.args.c.now.form c.in-Mitigate.mark c.in-Mitigate.estimate c.in-Mitigate.level c.in-Mitigate.body c.deref-in-Mitigate.result.now
-        c.in-Mitigate.is c.deref-in-Mitigate.ensures.value w in
+    c.in-Mitigate.is c.deref-in-Mitigate.ensures.value w in
     let smaller : 2 * count (list_plan c.deref-in-Mitigate.result.now) + 1 < 2 * form_count c.args.c.now.form w = omega arith in
     (search rules, c.requires)
 
