@@ -2,7 +2,6 @@
 use Rattle.std.proofs.Common.{◌≡◌, ℕ, List, [], ◌∷◌, Option, Some, None, sym, subst, ◌∙◌, inl, inr}
 use Rattle.std.proofs.lemmas.Option.{none-some}
 use Rattle.tim_base.specs.Faults.{Rose}
-use Rattle.label_lattice.specs.Order.{IsOrder}
 use Rattle.mit_syntax.specs.Program.{Syntax}
 use Rattle.tool_texts.specs.declared.status.Status.{Status}
 use Rattle.tool_texts.specs.declared.status.Status.TheVariants.{Done}
@@ -18,6 +17,7 @@ use Rattle.lab_timeline.proofs.OneTimeline.{timeline_once}
 use Rattle.lab_why.proofs.OneReason.{one_reason}
 use Rattle.lab_why.specs.Answers.{ReasonStops, IsAccepted}
 use Rattle.lab_why.specs.Names.{named}
+use Rattle.lab_why.specs.Reasons.{HasReason}
 use Rattle.lab_why.specs.Origins.{HasOrigins, NameStops}
 use Rattle.lab_tool.specs.Answers.{IsAnswer}
 use Rattle.lab_tool.specs.Complete.{AreKnown, NoneRises}
@@ -43,19 +43,20 @@ reads_status R c Next s u t x n known next =
     then_status (ProgramStops R c) (Reads c) (λ p. Next p) s u t x (λ h k. (one_program_stop c known R s u t x n h k).0)
     (λ p v y reads h. program_goes R c p v y n known reads h) (one_program c known) next
 
-reason_one : (c : Option (Option (List ℕ))) (p : Syntax) (s u : Status) (t x : List ℕ) → IsKnown c → IsOrder p.order
-    → Then (ReasonStops c p) (Types p) (λ q. IsAccepted p) s t → Then (ReasonStops c p) (Types p) (λ q. IsAccepted p) u x → (s ≡ u) × (t ≡ x)
-reason_one c p s u t x known o (inl h) (inl k) =
+reason_one : (c : Option (Option (List ℕ))) (p : Syntax) (s u : Status) (t x : List ℕ)
+    → (HasReason c p t → HasReason c p x → t ≡ x) → Then (ReasonStops c p) (Types p) (λ q. IsAccepted p) s t
+    → Then (ReasonStops c p) (Types p) (λ q. IsAccepted p) u x → (s ≡ u) × (t ≡ x)
+reason_one c p s u t x same (inl h) (inl k) =
     let one = reason_stops c p s t h in
     let other = reason_stops c p u x k in
-    (one.0 ∙ sym other.0, one_reason c p t x known o one.1 other.1)
-reason_one c p s u t x known o (inl h) (inr k) =
+    (one.0 ∙ sym other.0, same one.1 other.1)
+reason_one c p s u t x same (inl h) (inr k) =
     let can = is_typable p k.0 k.1 in
     absurd ((reason_stops c p s t h).1.refused.none can.0 can.1 can.2)
-reason_one c p s u t x known o (inr h) (inl k) =
+reason_one c p s u t x same (inr h) (inl k) =
     let can = is_typable p h.0 h.1 in
     absurd ((reason_stops c p u x k).1.refused.none can.0 can.1 can.2)
-reason_one c p s u t x known o (inr h) (inr k) = (h.2.0 ∙ sym k.2.0, h.2.1 ∙ sym k.2.1)
+reason_one c p s u t x same (inr h) (inr k) = (h.2.0 ∙ sym k.2.0, h.2.1 ∙ sym k.2.1)
 
 origin_status : (c : Option (Option (List ℕ))) (p : Syntax) (w : List ℕ) (s u : Status) (t x : List ℕ)
     → Then (NameStops p w) (λ spot. named p w ≡ Some spot) (λ spot s t. (s ≡ Done) × HasOrigins c p w spot t) s t
@@ -73,7 +74,7 @@ answers_one content before now (why file None) s u t x known none h k =
     let rises = λ (name : List ℕ). Rose (before name) (now name) in
     let good = first_file rises content file [] none known in
     let one = reads_one s u t x (rises file) (content file) (λ p. Then (ReasonStops (content file) p) (Types p) (λ q. IsAccepted p)) good.0 good.1
-        (λ p o. reason_one (content file) p s u t x good.1 o) h k in
+        (λ p o. reason_one (content file) p s u t x (one_reason (content file) p t x good.1 o)) h k in
     (one.0, λ i. one.1)
 answers_one content before now (why file (Some name)) s u t x known none h k =
     let rises = λ (name : List ℕ). Rose (before name) (now name) in
