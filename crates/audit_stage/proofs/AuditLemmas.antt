@@ -17,4 +17,4 @@ pub faults_in : (e name : EnvName) (t : ℕ) (q : LabelledProgram) (l : Label) (
     → e ≡ name → xs ≡ ss → IfErr r (AuditFaultsIn name q l.number t xs) → IfErr r (AuditFaultsIn e q l.number t ss)
 faults_in e name t q l xs ss r is same h =
     subst (λ (z : EnvName). IfErr r (AuditFaultsIn z q l.number t ss)) (sym is)
-        (subst (λ (z : List StartValue). IfErr r (AuditFaultsIn name q l.number t z)) same h)
+    (subst (λ (z : List StartValue). IfErr r (AuditFaultsIn name q l.number t z)) same h)

@@ -44,23 +44,23 @@ below_step t n s len rs e j apart early jt js far due free =
     on_due : s ≤ t → is_due s rs ≡ true → j + number (t + 1) (slots_from t (suc n) s len rs) < (t + 1) ^ suc e
     on_due here d =
         let now : number (t + 1) (slots_from t (suc n) s len rs) ≡ suc (number (t + 1) (slots_from t n (s + len) len (drop 1 rs))) =
-            ap (number (t + 1)) (slot_due t n s len rs here d) in
+        ap (number (t + 1)) (slot_due t n s len rs here d) in
         omega (arith, now, due (omega arith) (omega arith))
 
     on_free : s ≤ t → (e : ℕ) → t < len * 2 ^ suc e → is_due s rs ≡ false → j + number (t + 1) (slots_from t (suc n) s len rs) < (t + 1) ^ suc e
     on_free here zero far d =
         let now : number (t + 1) (slots_from t (suc n) s len rs) ≡ (t + 1) * number (t + 1) (slots_from t n (s + 2 * len) (2 * len) rs) =
-            ap (number (t + 1)) (slot_free t n s len rs here d) in
+        ap (number (t + 1)) (slot_free t n s len rs here d) in
         let two : len * 2 ^ 1 ≡ len * 2 = ap (λ z. len * z) refl in
         let none : number (t + 1) (slots_from t n (s + 2 * len) (2 * len) rs) ≡ 0 =
-            ap (number (t + 1)) (no_slots t n (s + 2 * len) (2 * len) rs (omega (arith, two, far))) in
+        ap (number (t + 1)) (no_slots t n (s + 2 * len) (2 * len) rs (omega (arith, two, far))) in
         let gone : (t + 1) * number (t + 1) (slots_from t n (s + 2 * len) (2 * len) rs) ≡ (t + 1) * 0 = ap (λ z. (t + 1) * z) none in
         omega (arith, now, gone, base_le (t + 1) 0 (omega arith))
     on_free here (suc e) far d =
         let now : number (t + 1) (slots_from t (suc n) s len rs) ≡ (t + 1) * number (t + 1) (slots_from t n (s + 2 * len) (2 * len) rs) =
-            ap (number (t + 1)) (slot_free t n s len rs here d) in
+        ap (number (t + 1)) (slot_free t n s len rs here d) in
         let twice : len * 2 ^ suc (suc e) ≡ 2 * len * 2 ^ suc e = ap (λ z. len * z) (pow-succ' 2 (suc e)) ∙ sym (mul_assoc len 2 (2 ^ suc e))
-            ∙ ap (λ z. z * 2 ^ suc e) (mul_comm len 2) in
+        ∙ ap (λ z. z * 2 ^ suc e) (mul_comm len 2) in
         let x = number (t + 1) (slots_from t n (s + 2 * len) (2 * len) rs) in
         let less : x + 1 ≤ (t + 1) ^ suc e = let f = free e (subst (λ z. t < z) twice far) in omega (arith, f) in
         omega (arith, now, mul-le-mul_left (t + 1) less, pow-succ' (t + 1) (suc e))
@@ -87,8 +87,12 @@ leads t (suc n) s len rs apart =
     (λ (here : s ≤ t).
     ⊎_elim
     (λ (d : is_due s rs ≡ true). subst (Leads t s) (sym (slot_due t n s len rs here d)) (one_more here (leads t n (s + len) len (drop 1 rs) apart)))
-    (λ (d : is_due s rs ≡ false). subst (Leads t s) (sym (slot_free t n s len rs here d)) (0,
-        number (t + 1) (slots_from t n (s + 2 * len) (2 * len) rs), omega arith, omega arith))
+    (λ (d : is_due s rs ≡ false). subst (Leads t s) (sym (slot_free t n s len rs here d)) (
+      0,
+      number (t + 1) (slots_from t n (s + 2 * len) (2 * len) rs),
+      omega arith,
+      omega arith,
+    ))
     (cases_Bool (is_due s rs)))
     (cases_lt t s)
   where
@@ -133,7 +137,7 @@ same_step t n s len rs rs' apart ps due free e =
         → number (t + 1) (slots_from t (suc n) s len l) ≡ number (t + 1) (slots_from t (suc n) s len l') → ⊥
     one_due l l' here d f same =
         clash t s len (number (t + 1) (slots_from t n (s + len) len (drop 1 l))) (number (t + 1) (slots_from t n (s + 2 * len) (2 * len) l'))
-            (slots_from t n (s + len) len (drop 1 l))
+        (slots_from t n (s + len) len (drop 1 l))
         ps here apart (leads t n (s + len) len (drop 1 l) apart) refl
         (sym (due_number l here d) ∙ same ∙ free_number l' here f)
 

@@ -30,7 +30,7 @@ module _ (q t : ℕ) (ready rs : List ℕ) where
   none_late zero k h = refl
   none_late (suc m) k h =
       let here = cond-false {A = ℕ} (nat_le (nth_slot q rs k).cycle t && not (has rs (nth_slot q rs k).cycle)) 1 0
-          (and_left (nat_le (nth_slot q rs k).cycle t) (not (has rs (nth_slot q rs k).cycle)) (lt-leb (nth_slot q rs k).cycle t h)) in
+      (and_left (nat_le (nth_slot q rs k).cycle t) (not (has rs (nth_slot q rs k).cycle)) (lt-leb (nth_slot q rs k).cycle t h)) in
       let up = later_slot t ready rs (nth_slot q rs k) in
       omega (arith, here, none_late m (suc k) (omega (arith, up, h)))
 
@@ -55,16 +55,16 @@ module _ (q t : ℕ) (ready rs : List ℕ) where
       let h = has_due t ready rs s len m before w here d in
       let now = ap ended (slot_due t m s len (drop (length before) ready) here d) in
       let left = ap (λ l. ended (slots_from t m (s + len) len l)) (drop-drop 1 (length before) ready
-          ∙ ap (λ i. drop i ready) (sym (length-append before (s ∷ [])))) in
+      ∙ ap (λ i. drop i ready) (sym (length-append before (s ∷ [])))) in
       let rest = ended_is m (suc k) (s + len) len (before ++ s ∷ []) (ap (slot_after rs) at ∙ slot_with t ready rs (record { cycle = s; apart = len }) h)
-          (next_due t ready rs s len m before w here d) in
+      (next_due t ready rs s len m before w here d) in
       let none = ap (is_empty t rs) at ∙ full s len h in
       omega (arith, now, left, rest, none))
       (λ (d : is_due s (drop (length before) ready) ≡ false).
       let h = has_free t ready rs s len m before w here d in
       let now = ap ended (slot_free t m s len (drop (length before) ready) here d) in
       let rest = ended_is m (suc k) (s + 2 * len) (2 * len) before (ap (slot_after rs) at ∙ slot_without t ready rs (record { cycle = s; apart = len }) h)
-          (next_free t ready rs s len m before w here d) in
+      (next_free t ready rs s len m before w here d) in
       let one = ap (is_empty t rs) at ∙ bare s len here h in
       omega (arith, now, rest, one))
       (cases_Bool (is_due s (drop (length before) ready))))
@@ -77,7 +77,7 @@ epochs_are q t pq ready =
     let a = ended_is q t ready rs t 0 q q [] refl start in
     let e : 0 + t ≡ t = omega arith in
     let b : empty_slots q t (releases q t ready) t ≡ 0 + empty_from q t (releases q t ready) 0 t =
-        subst (λ z. empty_slots q t (releases q t ready) z ≡ 0 + empty_from q t (releases q t ready) 0 t) e (empty_more q t rs t 0) in
+    subst (λ z. empty_slots q t (releases q t ready) z ≡ 0 + empty_from q t (releases q t ready) 0 t) e (empty_more q t rs t 0) in
     omega (arith, a, b)
 
 pub is_outcome : (q t : ℕ) → 0 < q → (ready : List ℕ) → IsOutcome q t ready (outcome q t ready)

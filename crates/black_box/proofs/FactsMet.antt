@@ -32,10 +32,12 @@ all_from t (suc n) s len rs =
         (λ (late : t < s). subst (λ z. Each (IsFrom s t) (released z)) (sym (no_slots t (suc n) s len rs late)) tt)
         (λ (here : s ≤ t).
         ⊎_elim
-        (λ (d : is_due s rs ≡ true). subst (λ z. Each (IsFrom s t) (released z)) (sym (slot_due t n s len rs here d)) ((omega arith, here),
-            from_later t s (s + len) (omega arith) (released (slots_from t n (s + len) len (drop 1 rs))) a))
+        (λ (d : is_due s rs ≡ true). subst (λ z. Each (IsFrom s t) (released z)) (sym (slot_due t n s len rs here d)) (
+          (omega arith, here),
+          from_later t s (s + len) (omega arith) (released (slots_from t n (s + len) len (drop 1 rs))) a,
+        ))
         (λ (d : is_due s rs ≡ false). subst (λ z. Each (IsFrom s t) (released z)) (sym (slot_free t n s len rs here d))
-            (from_later t s (s + 2 * len) (omega arith) (released (slots_from t n (s + 2 * len) (2 * len) rs)) b))
+        (from_later t s (s + 2 * len) (omega arith) (released (slots_from t n (s + 2 * len) (2 * len) rs)) b))
         (cases_Bool (is_due s rs)))
         (cases_lt t s)
 
@@ -51,8 +53,11 @@ all_rise t (suc n) s len rs apart =
         (λ (late : t < s). subst (λ z. Rises (released z)) (sym (no_slots t (suc n) s len rs late)) tt)
         (λ (here : s ≤ t).
         ⊎_elim
-        (λ (d : is_due s rs ≡ true). subst (λ z. Rises (released z)) (sym (slot_due t n s len rs here d)) (Each-map (IsFrom (s + len) t) (λ y. s < y)
-            (λ y f. let l = f.0 in omega arith) (released (slots_from t n (s + len) len (drop 1 rs))) (all_from t n (s + len) len (drop 1 rs)), a))
+        (λ (d : is_due s rs ≡ true). subst (λ z. Rises (released z)) (sym (slot_due t n s len rs here d)) (
+          Each-map (IsFrom (s + len) t) (λ y. s < y)
+              (λ y f. let l = f.0 in omega arith) (released (slots_from t n (s + len) len (drop 1 rs))) (all_from t n (s + len) len (drop 1 rs)),
+          a,
+        ))
         (λ (d : is_due s rs ≡ false). subst (λ z. Rises (released z)) (sym (slot_free t n s len rs here d)) b)
         (cases_Bool (is_due s rs)))
         (cases_lt t s)
@@ -78,7 +83,7 @@ in_order t (suc n) s len rs = go (in_order t n (s + len) len (drop 1 rs)) (in_or
         (λ (here : s ≤ t).
         ⊎_elim
         (λ (d : is_due s rs ≡ true). subst (λ z. IsInOrder rs (released z)) (sym (slot_due t n s len rs here d))
-            (due_first s rs (released (slots_from t n (s + len) len (drop 1 rs))) d a))
+        (due_first s rs (released (slots_from t n (s + len) len (drop 1 rs))) d a))
         (λ (d : is_due s rs ≡ false). subst (λ z. IsInOrder rs (released z)) (sym (slot_free t n s len rs here d)) b)
         (cases_Bool (is_due s rs)))
         (cases_lt t s)
@@ -118,7 +123,7 @@ module _ (t : ℕ) (ready rs : List ℕ) where
       ap (count_by (λ r. nat_lt r s)) w.parts
       ∙ count_before s before (released (slots_from t fuel s len (drop (length before) ready))) w.lower
       (Each-map (IsFrom s t) (λ r. s ≤ r) (λ r f. f.0) (released (slots_from t fuel s len (drop (length before) ready)))
-          (all_from t fuel s len (drop (length before) ready)))
+      (all_from t fuel s len (drop (length before) ready)))
 
   -- an event is released at the slot exactly where the next one is due
   pub has_due : (s len n : ℕ) (before : List ℕ) → Reached t ready rs s len (suc n) before → s ≤ t
@@ -127,7 +132,7 @@ module _ (t : ℕ) (ready rs : List ℕ) where
       ap (λ z. has z s) (w.parts ∙ ap (λ z. before ++ released z) (slot_due t n s len (drop (length before) ready) here d))
       ∙ list_any-append (λ r. r == s) before (s ∷ released (slots_from t n (s + len) len (drop 1 (drop (length before) ready))))
       ∙ or_right (has before s) (has (s ∷ released (slots_from t n (s + len) len (drop 1 (drop (length before) ready)))) s)
-          (or_left (s == s) (has (released (slots_from t n (s + len) len (drop 1 (drop (length before) ready)))) s) (eq-eqb s s refl))
+      (or_left (s == s) (has (released (slots_from t n (s + len) len (drop 1 (drop (length before) ready)))) s) (eq-eqb s s refl))
 
   pub has_free : (s len n : ℕ) (before : List ℕ) → Reached t ready rs s len (suc n) before → s ≤ t
       → is_due s (drop (length before) ready) ≡ false → has rs s ≡ false
@@ -138,7 +143,7 @@ module _ (t : ℕ) (ready rs : List ℕ) where
       ∙ list_any-append (λ r. r == s) before later
       ∙ or_from (has before s) (has later s) (none_below s before w.lower)
       (none_above s later (Each-map (IsFrom (s + 2 * len) t) (λ r. s < r) (λ r f. let l = f.0 in
-          omega arith) later (all_from t n (s + 2 * len) (2 * len) (drop (length before) ready))))
+      omega arith) later (all_from t n (s + 2 * len) (2 * len) (drop (length before) ready))))
 
   exact_at : (s len fuel : ℕ) (before : List ℕ) → Reached t ready rs s len fuel before → s ≤ t
       → has rs s ≡ is_due s (drop (count_by (λ r. nat_lt r s) rs) ready)
@@ -161,7 +166,7 @@ module _ (t : ℕ) (ready rs : List ℕ) where
             w.parts
             ∙ ap (λ z. before ++ released z) (slot_due t n s len (drop (length before) ready) here d)
             ∙ ap (λ z. before ++ s ∷ released (slots_from t n (s + len) len z)) (drop-drop 1 (length before) ready
-                ∙ ap (λ k. drop k ready) (sym (length-append before (s ∷ []))))
+            ∙ ap (λ k. drop k ready) (sym (length-append before (s ∷ []))))
             ∙ sym (append_assoc before (s ∷ []) (released (slots_from t n (s + len) len (drop (length (before ++ s ∷ [])) ready))));
         lower = Each-append (λ r. r < s + len) before (s ∷ []) (Each-map (λ r. r < s) (λ r. r < s + len) (λ r l. omega arith) before w.lower) (omega arith, tt);
       }
@@ -198,8 +203,11 @@ module _ (t : ℕ) (ready rs : List ℕ) where
       (cases_Bool (is_due p.cycle (drop (length before) ready)))
 
   pub later_slot : (p : Place) → p.cycle ≤ (slot_after rs p).cycle
-  later_slot p = cond_both (has rs p.cycle) (record { cycle = p.cycle + p.apart; apart = p.apart }) (record { cycle = p.cycle + 2 * p.apart; apart =
-      2 * p.apart }) (λ (z : Place). p.cycle ≤ z.cycle) (λ e. omega arith) (λ e. omega arith)
+  later_slot p = cond_both (has rs p.cycle) (record { cycle = p.cycle + p.apart; apart = p.apart }) (record {
+    cycle = p.cycle + 2 * p.apart;
+    apart =
+        2 * p.apart;
+  }) (λ (z : Place). p.cycle ≤ z.cycle) (λ e. omega arith) (λ e. omega arith)
 
   reached : (q : ℕ) → Reached t ready rs q q t [] → (k : ℕ) → (nth_slot q rs k).cycle ≤ t → IsReached (nth_slot q rs k)
   reached q w zero here = (t, [], w)
@@ -226,12 +234,12 @@ module _ (t : ℕ) (ready rs : List ℕ) where
         subst (λ l. Each (IsAtSlot q) (released (slots_from t n (s + len) len l))) (ap (λ i. drop i ready) (length-append before (s ∷ []))
             ∙ sym (drop-drop 1 (length before) ready))
             (found q (suc k) (s + len) len n (before ++ s ∷ []) (ap (slot_after rs) at
-                ∙ slot_with (record { cycle = s; apart = len }) (has_due s len n before w here d)) (next_due s len n before w here d)),
+            ∙ slot_with (record { cycle = s; apart = len }) (has_due s len n before w here d)) (next_due s len n before w here d)),
       ))
       (λ (d : is_due s (drop (length before) ready) ≡ false).
       subst (λ z. Each (IsAtSlot q) (released z)) (sym (slot_free t n s len (drop (length before) ready) here d))
       (found q (suc k) (s + 2 * len) (2 * len) n before (ap (slot_after rs) at
-          ∙ slot_without (record { cycle = s; apart = len }) (has_free s len n before w here d)) (next_free s len n before w here d)))
+      ∙ slot_without (record { cycle = s; apart = len }) (has_free s len n before w here d)) (next_free s len n before w here d)))
       (cases_Bool (is_due s (drop (length before) ready))))
       (cases_lt t s)
 

@@ -39,7 +39,7 @@ takes_last rs r c = record {
   more =
       written-append rs ((r ++ c ∷ []) ∷ [])
       ∙ ap (λ x. written rs ++ Run ∷ x) (append-nil (map Ready (r ++ c ∷ [])) ∙ map-append Ready r (c ∷ [])
-          ∙ ap (λ x. x ++ Ready c ∷ []) (sym (append-nil (map Ready r))))
+      ∙ ap (λ x. x ++ Ready c ∷ []) (sym (append-nil (map Ready r))))
       ∙ sym (append_assoc (written rs) (Run ∷ (map Ready r ++ [])) (Ready c ∷ []))
       ∙ ap (λ x. x ++ Ready c ∷ []) (sym (written-append rs (r ∷ [])));
   good = λ n rest.
@@ -67,9 +67,9 @@ takes_event vs i c r v long at e =
     let f : Numbers → List ℕ = λ x. x.items in
     let before : map f vs ≡ map f (take i vs) ++ r.items ∷ [] = ap (map f) (last_of vs i r long at) ∙ map-append f (take i vs) (r ∷ []) in
     let after : map f (set vs i v) ≡ map f (take i vs) ++ (r.items ++ c ∷ []) ∷ [] =
-        ap (map f) (set_last vs i v long) ∙ map-append f (take i vs) (v ∷ []) ∙ ap (λ z. map f (take i vs) ++ z ∷ []) e in
+    ap (map f) (set_last vs i v long) ∙ map-append f (take i vs) (v ∷ []) ∙ ap (λ z. map f (take i vs) ++ z ∷ []) e in
     subst (λ z. Takes (Ready c) z (map f (set vs i v))) (sym before)
-        (subst (λ z. Takes (Ready c) (map f (take i vs) ++ r.items ∷ []) z) (sym after) (takes_last (map f (take i vs)) r.items c))
+    (subst (λ z. Takes (Ready c) (map f (take i vs) ++ r.items ∷ []) z) (sym after) (takes_last (map f (take i vs)) r.items c))
 
 -- ---- a file, line by line
 
@@ -171,9 +171,9 @@ module _ (bytes : List ℕ) where
   some_left (r ∷ runs) h good some =
       ap (λ z. refusal_of z (lines_of bytes)) good
       ∙ ap (λ z. if length z == 0 then Some NoRuns else
-          (if nat_lt 4096 (count_runs (lines_of bytes)) then Some (TooMany (count_runs (lines_of bytes))) else None)) h
+      (if nat_lt 4096 (count_runs (lines_of bytes)) then Some (TooMany (count_runs (lines_of bytes))) else None)) h
       ∙ cond-false {A = Option ReadyFault} (length (written (r ∷ runs)) == 0) (Some NoRuns) (if nat_lt 4096 (count_runs (lines_of bytes)) then
-          Some (TooMany (count_runs (lines_of bytes))) else None) (ne_eqb (length (written (r ∷ runs))) 0 (λ e. absurd (omega (arith, e))))
+      Some (TooMany (count_runs (lines_of bytes))) else None) (ne_eqb (length (written (r ∷ runs))) 0 (λ e. absurd (omega (arith, e))))
       ∙ ap (λ k. if nat_lt 4096 k then Some (TooMany k) else None) (counted (r ∷ runs) h)
 
   pub refused_many : (runs : List (List ℕ)) → Holds bytes runs → first_bad false 1 (lines_of bytes) ≡ None → 4096 < length runs

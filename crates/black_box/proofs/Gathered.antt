@@ -72,7 +72,7 @@ module _ {X : Type 0} (same : X → X → Bool) (tests : Tests same) where
       (λ (h : list_any (same x) ds ≡ true).
       ap (λ z. y ∷ filter (λ w. not (same y w)) z) (cond-true (list_any (same x) ds) ds (ds ++ x ∷ []) h)
       ∙ sym (cond-true (list_any (same x) (y ∷ filter (λ w. not (same y w)) ds)) (y ∷ filter (λ w. not (same y w)) ds)
-          ((y ∷ filter (λ w. not (same y w)) ds) ++ x ∷ []) (kept x y ds h)))
+      ((y ∷ filter (λ w. not (same y w)) ds) ++ x ∷ []) (kept x y ds h)))
       (λ (h : list_any (same x) ds ≡ false).
       ap (λ z. y ∷ filter (λ w. not (same y w)) z) (cond-false (list_any (same x) ds) ds (ds ++ x ∷ []) h)
       ∙ ap (λ z. y ∷ z) (filter-push (λ w. not (same y w)) ds x)
@@ -115,7 +115,7 @@ module _ {X : Type 0} (same : X → X → Bool) (tests : Tests same) where
       ⊎_elim
       (λ (f : list_any (same x) ks ≡ true). ap (position_or_len (same z)) (cond-true (list_any (same x) ks) ks (ks ++ x ∷ []) f))
       (λ (n : list_any (same x) ks ≡ false). ap (position_or_len (same z)) (cond-false (list_any (same x) ks) ks (ks ++ x ∷ []) n)
-          ∙ position-push (same z) ks x h)
+      ∙ position-push (same z) ks x h)
       (cases_Bool (list_any (same x) ks))
 
   -- keys that show members
@@ -172,7 +172,7 @@ gather_more all i keys places x place g h at p =
         Each-map
         (λ z. list_any (same_cycles z) (distinct same_cycles (take i all)) ≡ true) (λ z. place_in keys z ≡ place_in (insert_key same_cycles keys x) z)
         (λ z f. ap (λ n. n + 1) (sym (position-insert same_cycles cycles_test keys x z
-            (or_left (list_any (same_cycles z) keys) (same_cycles z x) (ap (list_any (same_cycles z)) g.keys_are ∙ f)))))
+        (or_left (list_any (same_cycles z) keys) (same_cycles z x) (ap (list_any (same_cycles z)) g.keys_are ∙ f)))))
         (take i all) (all_found same_cycles cycles_test (take i all))
 
     own : place + 1 ≡ place_in (insert_key same_cycles keys x) x

@@ -25,15 +25,15 @@ pub value_of_digit : (n b : ℕ) (w : List ℕ) → is_ascii_digit b ≡ true �
 value_of_digit n b w h =
     let next : n * 10 + digit_value b ≡ 10 * n + (b - 48) = omega (arith, digit_is b h) in
     ap (λ t. cond ((t && list_all is_ascii_digit w) && leb (digits_value_after 10 (n * 10 + digit_value b) w) (2 ^ 40))
-        (Some (digits_value_after 10 (n * 10 + digit_value b) w)) None) h
+    (Some (digits_value_after 10 (n * 10 + digit_value b) w)) None) h
     ∙ ap (λ m. value_left m w) next
 
 pub value_of_other : (n b : ℕ) (w : List ℕ) → is_ascii_digit b ≡ false → value_left n (b ∷ w) ≡ None
 value_of_other n b w h =
     cond-false {A = Option ℕ} ((is_ascii_digit b && list_all is_ascii_digit w) && leb (digits_value_after 10 n (b ∷ w)) (2 ^ 40))
-        (Some (digits_value_after 10 n (b ∷ w))) None
+    (Some (digits_value_after 10 n (b ∷ w))) None
     (and_left (is_ascii_digit b && list_all is_ascii_digit w) (leb (digits_value_after 10 n (b ∷ w)) (2 ^ 40))
-        (and_left (is_ascii_digit b) (list_all is_ascii_digit w) h))
+    (and_left (is_ascii_digit b) (list_all is_ascii_digit w) h))
 
 value_grows : (n : ℕ) (w : List ℕ) → n ≤ digits_value_after 10 n w
 value_grows n [] = omega arith

@@ -42,9 +42,9 @@ module _ (q t : ℕ) (ready rs : List ℕ) (is : IsSchedule q t ready rs) where
   not_between k j h =
       ⊎_elim
       (λ (lt : k < j). let e : suc k + (j - suc k) ≡ j = omega arith in
-          subst (λ i. (nth_slot q rs (suc k)).cycle ≤ (nth_slot q rs i).cycle) e (slots_rise (suc k) (j - suc k)))
+      subst (λ i. (nth_slot q rs (suc k)).cycle ≤ (nth_slot q rs i).cycle) e (slots_rise (suc k) (j - suc k)))
       (λ (ge : j ≤ k). let e : j + (k - j) ≡ k = omega arith in let up : (nth_slot q rs j).cycle ≤ (nth_slot q rs k).cycle =
-          subst (λ i. (nth_slot q rs j).cycle ≤ (nth_slot q rs i).cycle) e (slots_rise j (k - j)) in absurd (omega (arith, up)))
+      subst (λ i. (nth_slot q rs j).cycle ≤ (nth_slot q rs i).cycle) e (slots_rise j (k - j)) in absurd (omega (arith, up)))
       (cases_lt k j)
 
   abbrev IsOn : ℕ → Type 0
@@ -81,7 +81,7 @@ module _ (q t : ℕ) (ready rs : List ℕ) (is : IsSchedule q t ready rs) where
       → Each (λ r. s ≤ r) tail → t < s + m → 0 < len → tail ≡ released (slots_from t m s len (drop (length before) ready))
   once_from zero k s len before tail at parts lower upper enough apart =
       nothing_left s t tail (omega arith) upper
-          (Each-map IsOn (λ r. r ≤ t) (λ r o. o.0) tail (Each-back IsOn before tail (subst (Each IsOn) parts is.at_slots)))
+      (Each-map IsOn (λ r. r ≤ t) (λ r o. o.0) tail (Each-back IsOn before tail (subst (Each IsOn) parts is.at_slots)))
   once_from (suc m) k s len before tail at parts lower upper enough apart =
       ⊎_elim
       (λ (late : t < s).
@@ -90,12 +90,12 @@ module _ (q t : ℕ) (ready rs : List ℕ) (is : IsSchedule q t ready rs) where
       (λ (here : s ≤ t).
       ⊎_elim
       (λ (d : is_due s (drop (length before) ready) ≡ true). due here d
-          (λ xs p u. once_from m (suc k) (s + len) len (before ++ s ∷ []) xs (next_at_due here d) p
-          (Each-append (λ r. r < s + len) before (s ∷ []) (Each-map (λ r. r < s) (λ r. r < s + len) (λ r l. omega arith) before lower) (omega arith, tt)) u
-          (omega arith) apart))
+      (λ xs p u. once_from m (suc k) (s + len) len (before ++ s ∷ []) xs (next_at_due here d) p
+      (Each-append (λ r. r < s + len) before (s ∷ []) (Each-map (λ r. r < s) (λ r. r < s + len) (λ r l. omega arith) before lower) (omega arith, tt)) u
+      (omega arith) apart))
       (λ (d : is_due s (drop (length before) ready) ≡ false). free here d
-          (λ u. once_from m (suc k) (s + 2 * len) (2 * len) before tail (next_at_free here d) parts (Each-map (λ r. r < s) (λ r. r < s + 2 * len)
-          (λ r l. omega arith) before lower) u (omega arith) (omega arith)))
+      (λ u. once_from m (suc k) (s + 2 * len) (2 * len) before tail (next_at_free here d) parts (Each-map (λ r. r < s) (λ r. r < s + 2 * len)
+      (λ r l. omega arith) before lower) u (omega arith) (omega arith)))
       (cases_Bool (is_due s (drop (length before) ready))))
       (cases_lt t s)
     where
@@ -133,13 +133,13 @@ module _ (q t : ℕ) (ready rs : List ℕ) (is : IsSchedule q t ready rs) where
           let b = begins s tail (sym tail_has ∙ has_is here ∙ d) upper climbs in
           let on_rest : Each IsOn b.0 = (subst (Each IsOn) b.1 on).1 in
           let far : Each (λ r. s + len ≤ r) b.0 =
-              subst (λ (p : Place). Each (λ r. p.cycle ≤ r) b.0) (next_at_due here d)
-              (skip k b.0 on_rest (subst (λ z. Each (λ r. z < r) b.0) (sym cycle_is) b.2)) in
+          subst (λ (p : Place). Each (λ r. p.cycle ≤ r) b.0) (next_at_due here d)
+          (skip k b.0 on_rest (subst (λ z. Each (λ r. z < r) b.0) (sym cycle_is) b.2)) in
           let all : rs ≡ (before ++ s ∷ []) ++ b.0 = parts ∙ ap (λ z. before ++ z) b.1 ∙ sym (append_assoc before (s ∷ []) b.0) in
           b.1
           ∙ ap (λ z. s ∷ z) (rec b.0 all far)
           ∙ ap (λ l. s ∷ released (slots_from t m (s + len) len l)) (ap (λ i. drop i ready) (length-append before (s ∷ []))
-              ∙ sym (drop-drop 1 (length before) ready))
+          ∙ sym (drop-drop 1 (length before) ready))
           ∙ sym (ap released (slot_due t m s len (drop (length before) ready) here d))
 
       free : s ≤ t → is_due s (drop (length before) ready) ≡ false
@@ -148,8 +148,8 @@ module _ (q t : ℕ) (ready rs : List ℕ) (is : IsSchedule q t ready rs) where
       free here d rec =
           let up = above s tail (sym tail_has ∙ has_is here ∙ d) upper in
           let far : Each (λ r. s + 2 * len ≤ r) tail =
-              subst (λ (p : Place). Each (λ r. p.cycle ≤ r) tail) (next_at_free here d)
-              (skip k tail on (subst (λ z. Each (λ r. z < r) tail) (sym cycle_is) up)) in
+          subst (λ (p : Place). Each (λ r. p.cycle ≤ r) tail) (next_at_free here d)
+          (skip k tail on (subst (λ z. Each (λ r. z < r) tail) (sym cycle_is) up)) in
           rec far ∙ sym (ap released (slot_free t m s len (drop (length before) ready) here d))
 
 first_slot : (q : ℕ) (rs : List ℕ) (j : ℕ) → q ≤ (nth_slot q rs j).cycle

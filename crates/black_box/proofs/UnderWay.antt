@@ -90,7 +90,7 @@ ends_one q t ready s len count at w h d = go w.fuel w.enough w.all_released w.al
     go (suc n) lt r e =
         let now = slot_free t n s len (drop (length at) ready) h d in
         let later : count + ended (slots_from t (suc n) s len (drop (length at) ready))
-            ≡ count + suc (ended (slots_from t n (s + 2 * len) (2 * len) (drop (length at) ready))) = ap (λ x. count + ended x) now in
+        ≡ count + suc (ended (slots_from t n (s + 2 * len) (2 * len) (drop (length at) ready))) = ap (λ x. count + ended x) now in
         record {
           fuel = n;
           enough = let a = w.apart in omega arith;

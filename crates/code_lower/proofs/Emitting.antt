@@ -90,7 +90,7 @@ module _ (ms : ℕ → Marks) (ls : ℕ → ℕ) where
 pub list_step : (o : Order) (l : Labelling) (old new : List Instr) (cs : List Command) (i : ℕ) (c : Command) (n n' : ℕ) → i < length cs → c ≡ get_or cs i c →
     Adds o l old new (command_plan c Done) n → n' ≡ n + count (command_plan c Done) →
     (new ++ code_of (lattice_of o) (variable_of o l) (marked_of o l (list_plan (drop (i + 1) cs)) n') (length new) ≡ old
-        ++ code_of (lattice_of o) (variable_of o l) (marked_of o l (list_plan (drop i cs)) n) (length old))
+    ++ code_of (lattice_of o) (variable_of o l) (marked_of o l (list_plan (drop i cs)) n) (length old))
     × (n' + count (list_plan (drop (i + 1) cs)) ≡ n + count (list_plan (drop i cs)))
     × (length new + size (list_plan (drop (i + 1) cs)) ≡ length old + size (list_plan (drop i cs)))
 list_step o l old new cs i c n n' h is e num =
@@ -105,7 +105,7 @@ list_step o l old new cs i c n n' h is e num =
     let todo : marked_of o l (list_plan (drop i cs)) n ≡ then_todo f r =
     ap (λ z. marked_of o l (list_plan z) n) (cut cs i c h is) ∙ labelled-then ms ls c.form w rest n n' num in
     let long : length new ≡ length old + size f =
-        omega (arith, ap length e, length-append old (code_of lat g f (length old)), length-code_of lat g f (length old)) in
+    omega (arith, ap length e, length-append old (code_of lat g f (length old)), length-code_of lat g f (length old)) in
     let same : size f ≡ size (command_plan c Done) = size-labelled ms ls (command_plan c Done) n in
     let sizes = cut_size cs i c h is in
     let counts = cut_count cs i c h is in (
@@ -122,8 +122,13 @@ list_step o l old new cs i c n n' h is e num =
 pub added_length : (o : Order) (l : Labelling) (old new : List Instr) (p : Plan) (n : ℕ) → Adds o l old new p n → length new ≡ length old + size p
 added_length o l old new p n e =
     let q = marked_of o l p n in
-    omega (arith, ap length e, length-append old (code_of (lattice_of o) (variable_of o l) q (length old)),
-        length-code_of (lattice_of o) (variable_of o l) q (length old), size-labelled (marks_of o l) (level_of o l) p n)
+    omega (
+      arith,
+      ap length e,
+      length-append old (code_of (lattice_of o) (variable_of o l) q (length old)),
+      length-code_of (lattice_of o) (variable_of o l) q (length old),
+      size-labelled (marks_of o l) (level_of o l) p n,
+    )
 
 -- labels that are read one by one
 pub same_marks : (a b : Marks) → a.er ≡ b.er → a.ew ≡ b.ew → a ≡ b

@@ -109,14 +109,23 @@ module _ {E : Type 0} (v : Env E) (lat : Lattice) (g : ℕ → ℕ) (image : Lis
       leads w f = leads_to v image _ _ _ (test_leads v image (Brz (j + 1)) e m a [] os s code.0 code.1) (ap (λ z. at (cond z (b + 1) (j + 1)) [] os s0) f)
 
       stepped : (w : Bool) → holds (value_of e s.memory) ≡ w
-          → source_step (source_at (If m e c d r) fs s) ≡ record { todo =
-          cond w (then_todo c (then_todo r (rest_of fs))) (then_todo d (then_todo r (rest_of fs))); memory = s0.memory; notes = told s0.log }
+          → source_step (source_at (If m e c d r) fs s) ≡ record {
+            todo =
+                cond w (then_todo c (then_todo r (rest_of fs))) (then_todo d (then_todo r (rest_of fs)));
+            memory = s0.memory;
+            notes = told s0.log;
+          }
       stepped w f = source_same _ _ _ _ _ _ (ap (λ z. cond z (then_todo c (then_todo r (rest_of fs))) (then_todo d (then_todo r (rest_of fs)))) f)
           (sym (timed_memory v m e a s)) (ap told (sym (timed_log v m e a s)))
 
       go : (w : Bool) → holds (value_of e s.memory) ≡ w → Goes (source_at (If m e c d r) fs s) (at a [] os s)
-      go true f = on (λ z. cc) (leads true f) (meets c (Jumped r ∷ fs) (b + 1) os s0 code.2 (raised lat g e m, j + 1 + size d, code.3, code.5,
-          fits_at fs _ _ os (sym end) below) _ (stepped true f))
+      go true f = on (λ z. cc) (leads true f) (meets c (Jumped r ∷ fs) (b + 1) os s0 code.2 (
+        raised lat g e m,
+        j + 1 + size d,
+        code.3,
+        code.5,
+        fits_at fs _ _ os (sym end) below,
+      ) _ (stepped true f))
       go false f = on (λ z. cc) (leads false f) (meets d (After r ∷ fs) (j + 1) os s0 code.4 (code.5, fits_at fs _ _ os (sym end) below) _ (stepped false f))
 
   while_goes : (m : Marks) (e : Expression) (c r : Marked) (fs : List Frame) (a : ℕ) (os : List Opened) (s : Core E) → HasCode lat g image (While m e c r) a
@@ -142,14 +151,25 @@ module _ {E : Type 0} (v : Env E) (lat : Lattice) (g : ℕ → ℕ) (image : Lis
       leads w f = leads_to v image _ _ _ (test_leads v image (Brz q) e m a [] os s code.0 code.1) (ap (λ z. at (cond z (b + 1) q) [] os s0) f)
 
       stepped : (w : Bool) → holds (value_of e s.memory) ≡ w
-          → source_step (source_at (While m e c r) fs s) ≡ record { todo =
-          cond w (then_todo c (While m e c (then_todo r (rest_of fs)))) (then_todo r (rest_of fs)); memory = s0.memory; notes = told s0.log }
+          → source_step (source_at (While m e c r) fs s) ≡ record {
+            todo =
+                cond w (then_todo c (While m e c (then_todo r (rest_of fs)))) (then_todo r (rest_of fs));
+            memory = s0.memory;
+            notes = told s0.log;
+          }
       stepped w f = source_same _ _ _ _ _ _ (ap (λ z. cond z (then_todo c (While m e c (then_todo r (rest_of fs)))) (then_todo r (rest_of fs))) f)
           (sym (timed_memory v m e a s)) (ap told (sym (timed_log v m e a s)))
 
       go : (w : Bool) → holds (value_of e s.memory) ≡ w → Goes (source_at (While m e c r) fs s) (at a [] os s)
-      go true f = on (λ z. cc) (leads true f) (meets c (Again m e c r ∷ fs) (b + 1) os s0 code.2 (b + 1, refl, code.3, code.4, code.2, code.5,
-          fits_at fs _ _ os (sym end) below) _ (stepped true f))
+      go true f = on (λ z. cc) (leads true f) (meets c (Again m e c r ∷ fs) (b + 1) os s0 code.2 (
+        b + 1,
+        refl,
+        code.3,
+        code.4,
+        code.2,
+        code.5,
+        fits_at fs _ _ os (sym end) below,
+      ) _ (stepped true f))
       go false f = on (λ z. cc) (leads false f) (meets r fs q os s0 code.5 (fits_at fs _ _ os (sym end) below) _ (stepped false f))
 
   again_goes : (m : Marks) (e : Expression) (c p : Marked) (fs : List Frame) (a : ℕ) (os : List Opened) (s : Core E) → Fits (Again m e c p ∷ fs) a os
@@ -172,8 +192,12 @@ module _ {E : Type 0} (v : Env E) (lat : Lattice) (g : ℕ → ℕ) (image : Lis
       leads w f = leads_to v image _ _ _ (test_leads v image (Brnz b) e rm a [] os s below.2 below.3) (ap (λ z. at (cond z b q) [] os s0) f)
 
       stepped : (w : Bool) → holds (value_of e s.memory) ≡ w
-          → source_step (source_at Done (Again m e c p ∷ fs) s) ≡ record { todo =
-          cond w (then_todo c (While m e c (then_todo p (rest_of fs)))) (then_todo p (rest_of fs)); memory = s0.memory; notes = told s0.log }
+          → source_step (source_at Done (Again m e c p ∷ fs) s) ≡ record {
+            todo =
+                cond w (then_todo c (While m e c (then_todo p (rest_of fs)))) (then_todo p (rest_of fs));
+            memory = s0.memory;
+            notes = told s0.log;
+          }
       stepped w f = source_same _ _ _ _ _ _ (ap (λ z. cond z (then_todo c (While m e c (then_todo p (rest_of fs)))) (then_todo p (rest_of fs))) f)
           (sym (timed_memory v rm e a s)) (ap told (sym (timed_log v rm e a s)))
 
@@ -196,7 +220,7 @@ module _ {E : Type 0} (v : Env E) (lat : Lattice) (g : ℕ → ℕ) (image : Lis
       (meets r fs (a + expr_size e + 1) os s1 code.2 (fits_at fs _ _ os end below) _
       (source_same _ _ _ _ _ _ refl (ap (λ z. slice_set z x n) (sym (timed_memory v m e a s)))
       (ap (λ z. told z ++ Assigned x n ∷ []) (sym (timed_log v m e a s))
-          ∙ sym (told-append (timed v m e a s).log (Wrote x n (touched v m x (tested v m e a s)).clock ∷ [])))))
+      ∙ sym (told-append (timed v m e a s).log (Wrote x n (touched v m x (tested v m e a s)).clock ∷ [])))))
   goes fs (Put m f n i e r) a os s code below =
       let x = element f n (value_of i s.memory) in
       let y = value_of e s.memory in

@@ -24,8 +24,10 @@ module _ {E : Type 0} (v : Env E) (image : List Instr) where
   steps_log (suc k) x h =
       let t = ticks v image x h in
       let n = t.news in
-      prefix_then (told x.core.log) (told (step v image x).core.log) _ (told n.0,
-          sym (told-append x.core.log n.0) ∙ ap told (sym n.1)) (steps_log k (step v image x) t.sane)
+      prefix_then (told x.core.log) (told (step v image x).core.log) _ (
+        told n.0,
+        sym (told-append x.core.log n.0) ∙ ap told (sym n.1),
+      ) (steps_log k (step v image x) t.sane)
 
   module _ (lat : Lattice) (g : ℕ → ℕ) where
     -- where the machine stands after n source steps, or that it has halted
@@ -77,7 +79,7 @@ module _ {E : Type 0} (v : Env E) (lat : Lattice) (g : ℕ → ℕ) (image : Lis
   one_end k k' x h h' =
       let e : k + k' ≡ k' + k = omega arith in
       sym (stays v image k' (steps v image k x) h) ∙ sym (steps-add v image k k' x) ∙ ap (λ z. steps v image z x) e ∙ steps-add v image k' k x
-          ∙ stays v image k (steps v image k' x) h'
+      ∙ stays v image k (steps v image k' x) h'
 
   -- up to a later point of the run
   ahead : (k k' : ℕ) (x : Machine E) → Sane x.opened x.core.clock → k ≤ k' → IsPrefix (told (steps v image k x).core.log) (told (steps v image k' x).core.log)
@@ -124,7 +126,7 @@ module _ {E : Type 0} (v : Env E) (lat : Lattice) (g : ℕ → ℕ) (image : Lis
           (λ (le : k' ≤ k).
           let sum : k' + (k - k') ≡ k = omega arith in
           let here = ap (λ z. steps v image z x0) (sym sum) ∙ steps-add v image k' (k - k') x0
-              ∙ stays v image (k - k') (steps v image k' x0) (ap (λ z. z.halted) e ∙ h') ∙ e in
+          ∙ stays v image (k - k') (steps v image k' x0) (ap (λ z. z.halted) e ∙ h') ∙ e in
           absurd (both_ways (steps v image k x0).halted h (ap (λ z. z.halted) here ∙ h')))
           (cases_lt k k')
 
@@ -141,8 +143,13 @@ module _ {E : Type 0} (v : Env E) (lat : Lattice) (g : ℕ → ℕ) (image : Lis
       let c = ap (λ z. z.core.clock) e in
       let r = covers v image k y.core.clock y.core.clock x0 tt (omega arith) (omega arith) in
       let run = r.1 ∙ ap (steps v image r.0) e ∙ stays v image r.0 y h in
-      record { by = y.core.clock; later = []; notes = append-nil (notes_of p s.memory n) ∙ t ∙ sym (ap (λ z. told z.core.log) run); ended =
-          λ z. ap (λ q. q.halted) run ∙ h }
+      record {
+        by = y.core.clock;
+        later = [];
+        notes = append-nil (notes_of p s.memory n) ∙ t ∙ sym (ap (λ z. told z.core.log) run);
+        ended =
+            λ z. ap (λ q. q.halted) run ∙ h;
+      }
 
   comes_at : (s : Start E) (n : ℕ) → Comes s n
   comes_at s n = go (reach v image lat g n (source_start p s.memory) (start s.memory s.env) (starts_met s))

@@ -21,9 +21,9 @@ two_writes c a b x y i j =
 module _ (lat : Lattice) (g : ℕ → ℕ) where
   pub if_emitted : (base : List Instr) (m : Marks) (e : Expression) (c d : Marked) (c1 c2 c3 c4 c5 : List Instr) (x y : Instr) (n1 n2 : ℕ) →
       c1 ≡ base ++ expr_code m e → n1 ≡ length c1 → c2 ≡ c1 ++ x ∷ [] → c3 ≡ c2 ++ code_of lat g c (length c2) → n2 ≡ length c3 → c4 ≡ c3 ++ y ∷ []
-          → c5 ≡ c4 ++ code_of lat g d (length c4) →
+      → c5 ≡ c4 ++ code_of lat g d (length c4) →
       slice_set (slice_set c5 n1 (instr (Brz (n2 + 1)) m)) n2 (instr (Jmp (length c5)) (raised lat g e m)) ≡ base
-          ++ code_of lat g (If m e c d Done) (length base)
+      ++ code_of lat g (If m e c d Done) (length base)
   if_emitted base m e c d c1 c2 c3 c4 c5 x y n1 n2 e1 m1 e2 e3 m2 e4 e5 =
       let te = expr_code m e in
       let b = length base + expr_size e in
@@ -57,7 +57,7 @@ module _ (lat : Lattice) (g : ℕ → ℕ) where
 
   pub while_emitted : (base : List Instr) (m : Marks) (e : Expression) (c : Marked) (c1 c2 c3 c4 c5 : List Instr) (x : Instr) (n1 : ℕ) →
       c1 ≡ base ++ expr_code m e → n1 ≡ length c1 → c2 ≡ c1 ++ x ∷ [] → c3 ≡ c2 ++ code_of lat g c (length c2) → c4 ≡ c3 ++ expr_code (raised lat g e m) e
-          → c5 ≡ c4 ++ instr (Brnz (n1 + 1)) (raised lat g e m) ∷ [] →
+      → c5 ≡ c4 ++ instr (Brnz (n1 + 1)) (raised lat g e m) ∷ [] →
       slice_set c5 n1 (instr (Brz (length c5)) m) ≡ base ++ code_of lat g (While m e c Done) (length base)
   while_emitted base m e c c1 c2 c3 c4 c5 x n1 e1 m1 e2 e3 e4 e5 =
       let te = expr_code m e in

@@ -80,8 +80,13 @@ length-expr_spots (Number x) d n = refl
 length-expr_spots (Variable x) d n = refl
 length-expr_spots (Binary o l r) d n =
     let t : List Spot = spot (d + 2) n ∷ [] in
-    omega (arith, length-append (expr_spots l d n) (expr_spots r (d + 1) n ++ t), length-append (expr_spots r (d + 1) n) t, length-expr_spots l d n,
-        length-expr_spots r (d + 1) n)
+    omega (
+      arith,
+      length-append (expr_spots l d n) (expr_spots r (d + 1) n ++ t),
+      length-append (expr_spots r (d + 1) n) t,
+      length-expr_spots l d n,
+      length-expr_spots r (d + 1) n,
+    )
 length-expr_spots (Element f k i) d n =
     let t : List Spot = spot (d + 1) n ∷ [] in omega (arith, length-append (expr_spots i d n) t, length-expr_spots i d n)
 
@@ -95,13 +100,25 @@ expr_start ds (Element f k i) a d n h = expr_start ds i a d n (front ds a (expr_
 deep_expr : (ds : Depths) (t : ℕ) (m : Marks) (e : Expression) (a d n b : ℕ) → a + expr_size e ≡ b → HasSpots ds a (expr_spots e d n) → At ds b (d + 1) n
     → b < t → DeepAt ds t a (expr_code m e)
 deep_expr ds t m (Number x) a d n b q h k l =
-    let k' : At ds (a + 1) (d + 1) n = subst (λ z. At ds z (d + 1) n) (sym q) k in
-    (record { enough = omega arith; opened = omega arith; leads =
-        record { within = omega (arith, q, l); operands = omega (arith, h.0.operands, k'.operands); nesting = omega (arith, h.0.nesting, k'.nesting) } }, tt)
+    let k' : At ds (a + 1) (d + 1) n = subst (λ z. At ds z (d + 1) n) (sym q) k in (
+      record {
+        enough = omega arith;
+        opened = omega arith;
+        leads =
+            record { within = omega (arith, q, l); operands = omega (arith, h.0.operands, k'.operands); nesting = omega (arith, h.0.nesting, k'.nesting) };
+      },
+      tt,
+    )
 deep_expr ds t m (Variable x) a d n b q h k l =
-    let k' : At ds (a + 1) (d + 1) n = subst (λ z. At ds z (d + 1) n) (sym q) k in
-    (record { enough = omega arith; opened = omega arith; leads =
-        record { within = omega (arith, q, l); operands = omega (arith, h.0.operands, k'.operands); nesting = omega (arith, h.0.nesting, k'.nesting) } }, tt)
+    let k' : At ds (a + 1) (d + 1) n = subst (λ z. At ds z (d + 1) n) (sym q) k in (
+      record {
+        enough = omega arith;
+        opened = omega arith;
+        leads =
+            record { within = omega (arith, q, l); operands = omega (arith, h.0.operands, k'.operands); nesting = omega (arith, h.0.nesting, k'.nesting) };
+      },
+      tt,
+    )
 deep_expr ds t m (Binary o x r) a d n b q h k l =
     let hx = front ds a (expr_spots x d n) _ h in
     let hr' = back ds a (expr_spots x d n) _ (a + expr_size x) (omega (arith, length-expr_spots x d n)) h in
@@ -113,41 +130,80 @@ deep_expr ds t m (Binary o x r) a d n b q h k l =
     joined ds t a (expr_code m x) _ (a + expr_size x) (omega (arith, length-expr_code m x))
     (deep_expr ds t m x a d n (a + expr_size x) refl hx (expr_start ds r (a + expr_size x) (d + 1) n hr) (omega (arith, q, l)))
     (joined ds t (a + expr_size x) (expr_code m r) _ c (omega (arith, length-expr_code m r))
-    (deep_expr ds t m r (a + expr_size x) (d + 1) n c refl hr ho2 (omega (arith, q, l)))
-    (record { enough = omega (arith, ho.0.operands); opened = omega arith; leads =
-        record { within = omega (arith, q, l); operands = omega (arith, ho.0.operands, k'.operands); nesting = omega (arith, ho.0.nesting, k'.nesting) } }, tt))
+    (deep_expr ds t m r (a + expr_size x) (d + 1) n c refl hr ho2 (omega (arith, q, l))) (
+      record {
+        enough = omega (arith, ho.0.operands);
+        opened = omega arith;
+        leads =
+            record { within = omega (arith, q, l); operands = omega (arith, ho.0.operands, k'.operands); nesting = omega (arith, ho.0.nesting, k'.nesting) };
+      },
+      tt,
+    ))
 deep_expr ds t m (Element f j i) a d n b q h k l =
     let hi = front ds a (expr_spots i d n) _ h in
     let c : ℕ = a + expr_size i in
     let ho = back ds a (expr_spots i d n) _ c (omega (arith, length-expr_spots i d n)) h in
     let k' : At ds (c + 1) (d + 1) n = subst (λ z. At ds z (d + 1) n) (omega (arith, q)) k in
     joined ds t a (expr_code m i) _ c (omega (arith, length-expr_code m i))
-    (deep_expr ds t m i a d n c refl hi ho.0 (omega (arith, q, l)))
-    (record { enough = omega (arith, ho.0.operands); opened = omega arith; leads =
-        record { within = omega (arith, q, l); operands = omega (arith, ho.0.operands, k'.operands); nesting = omega (arith, ho.0.nesting, k'.nesting) } }, tt)
+    (deep_expr ds t m i a d n c refl hi ho.0 (omega (arith, q, l))) (
+      record {
+        enough = omega (arith, ho.0.operands);
+        opened = omega arith;
+        leads =
+            record { within = omega (arith, q, l); operands = omega (arith, ho.0.operands, k'.operands); nesting = omega (arith, ho.0.nesting, k'.nesting) };
+      },
+      tt,
+    )
 
 length-spots : (p : Marked) (n : ℕ) → length (spots p n) ≡ size p
 length-spots Done n = refl
 length-spots (Skip m r) n = omega (arith, length-spots r n)
 length-spots (Assign m x e r) n = omega (arith, length-append (expr_spots e 0 n) (spot 1 n ∷ spots r n), length-expr_spots e 0 n, length-spots r n)
 length-spots (Put m f k i e r) n =
-    omega (arith, length-append (expr_spots i 0 n) (expr_spots e 1 n ++ (spot 2 n ∷ spots r n)), length-append (expr_spots e 1 n) (spot 2 n ∷ spots r n),
-        length-expr_spots i 0 n, length-expr_spots e 1 n, length-spots r n)
+    omega (
+      arith,
+      length-append (expr_spots i 0 n) (expr_spots e 1 n ++ (spot 2 n ∷ spots r n)),
+      length-append (expr_spots e 1 n) (spot 2 n ∷ spots r n),
+      length-expr_spots i 0 n,
+      length-expr_spots e 1 n,
+      length-spots r n,
+    )
 length-spots (Sleep m e r) n = omega (arith, length-append (expr_spots e 0 n) (spot 1 n ∷ spots r n), length-expr_spots e 0 n, length-spots r n)
 length-spots (If m e c d r) n =
     let s3 : List Spot = spots d n ++ spots r n in
     let s2 : List Spot = spots c n ++ (spot 0 n ∷ s3) in
-    omega (arith, length-append (expr_spots e 0 n) (spot 1 n ∷ s2), length-append (spots c n) (spot 0 n ∷ s3), length-append (spots d n) (spots r n),
-        length-expr_spots e 0 n, length-spots c n, length-spots d n, length-spots r n)
+    omega (
+      arith,
+      length-append (expr_spots e 0 n) (spot 1 n ∷ s2),
+      length-append (spots c n) (spot 0 n ∷ s3),
+      length-append (spots d n) (spots r n),
+      length-expr_spots e 0 n,
+      length-spots c n,
+      length-spots d n,
+      length-spots r n,
+    )
 length-spots (While m e c r) n =
     let s3 : List Spot = expr_spots e 0 n ++ (spot 1 n ∷ spots r n) in
     let s2 : List Spot = spots c n ++ s3 in
-    omega (arith, length-append (expr_spots e 0 n) (spot 1 n ∷ s2), length-append (spots c n) s3, length-append (expr_spots e 0 n) (spot 1 n ∷ spots r n),
-        length-expr_spots e 0 n, length-spots c n, length-spots r n)
+    omega (
+      arith,
+      length-append (expr_spots e 0 n) (spot 1 n ∷ s2),
+      length-append (spots c n) s3,
+      length-append (expr_spots e 0 n) (spot 1 n ∷ spots r n),
+      length-expr_spots e 0 n,
+      length-spots c n,
+      length-spots r n,
+    )
 length-spots (Mitigate m k l e c r) n =
     let s2 : List Spot = spots c (n + 1) ++ (spot 0 (n + 1) ∷ spots r n) in
-    omega (arith, length-append (expr_spots e 0 n) (spot 1 n ∷ s2), length-append (spots c (n + 1)) (spot 0 (n + 1) ∷ spots r n), length-expr_spots e 0 n,
-        length-spots c (n + 1), length-spots r n)
+    omega (
+      arith,
+      length-append (expr_spots e 0 n) (spot 1 n ∷ s2),
+      length-append (spots c (n + 1)) (spot 0 (n + 1) ∷ spots r n),
+      length-expr_spots e 0 n,
+      length-spots c (n + 1),
+      length-spots r n,
+    )
 
 -- commands begin with no operand
 start_at : (ds : Depths) (p : Marked) (a n b : ℕ) → a + size p ≡ b → HasSpots ds a (spots p n) → At ds b 0 n → At ds a 0 n
@@ -168,17 +224,24 @@ module _ (lat : Lattice) (g : ℕ → ℕ) (ds : Depths) (t : ℕ) where
   deep_todo : (p : Marked) (a n b : ℕ) → a + size p ≡ b → HasSpots ds a (spots p n) → At ds b 0 n → b < t → DeepAt ds t a (code_of lat g p a)
   deep_todo Done a n b q h k l = tt
   deep_todo (Skip m r) a n b q h k l =
-      let kr = start_at ds r (a + 1) n b (omega (arith, q)) h.1 k in
-      (record { enough = omega arith; opened = omega arith; leads = arrives ds t a (a + 1) 0 n 0 n Nop h.0 kr (omega (arith, q, l)) refl refl },
-          deep_todo r (a + 1) n b (omega (arith, q)) h.1 k l)
+      let kr = start_at ds r (a + 1) n b (omega (arith, q)) h.1 k in (
+        record { enough = omega arith; opened = omega arith; leads = arrives ds t a (a + 1) 0 n 0 n Nop h.0 kr (omega (arith, q, l)) refl refl },
+        deep_todo r (a + 1) n b (omega (arith, q)) h.1 k l,
+      )
   deep_todo (Assign m x e r) a n b q h k l =
       let c : ℕ = a + expr_size e in
       let hs = back ds a (expr_spots e 0 n) _ c (omega (arith, length-expr_spots e 0 n)) h in
       let kr = start_at ds r (c + 1) n b (omega (arith, q)) hs.1 k in
       joined ds t a (expr_code m e) _ c (omega (arith, length-expr_code m e))
-      (deep_expr ds t m e a 0 n c refl (front ds a (expr_spots e 0 n) _ h) hs.0 (omega (arith, q, l)))
-      (record { enough = omega (arith, hs.0.operands); opened = omega arith; leads =
-          arrives ds t c (c + 1) 1 n 0 n (Store x) hs.0 kr (omega (arith, q, l)) refl refl }, deep_todo r (c + 1) n b (omega (arith, q)) hs.1 k l)
+      (deep_expr ds t m e a 0 n c refl (front ds a (expr_spots e 0 n) _ h) hs.0 (omega (arith, q, l))) (
+        record {
+          enough = omega (arith, hs.0.operands);
+          opened = omega arith;
+          leads =
+              arrives ds t c (c + 1) 1 n 0 n (Store x) hs.0 kr (omega (arith, q, l)) refl refl;
+        },
+        deep_todo r (c + 1) n b (omega (arith, q)) hs.1 k l,
+      )
   deep_todo (Put m f j i e r) a n b q h k l =
       let c' : ℕ = a + expr_size i in
       let c : ℕ = a + expr_size i + expr_size e in
@@ -189,17 +252,29 @@ module _ (lat : Lattice) (g : ℕ → ℕ) (ds : Depths) (t : ℕ) where
       joined ds t a (expr_code m i) _ c' (omega (arith, length-expr_code m i))
       (deep_expr ds t m i a 0 n c' refl (front ds a (expr_spots i 0 n) _ h) (expr_start ds e c' 1 n he) (omega (arith, q, l)))
       (joined ds t c' (expr_code m e) _ c (omega (arith, length-expr_code m e))
-      (deep_expr ds t m e c' 1 n c refl he hs.0 (omega (arith, q, l)))
-      (record { enough = omega (arith, hs.0.operands); opened = omega arith; leads =
-          arrives ds t c (c + 1) 2 n 0 n (StoreAt f j) hs.0 kr (omega (arith, q, l)) refl refl }, deep_todo r (c + 1) n b (omega (arith, q)) hs.1 k l))
+      (deep_expr ds t m e c' 1 n c refl he hs.0 (omega (arith, q, l))) (
+        record {
+          enough = omega (arith, hs.0.operands);
+          opened = omega arith;
+          leads =
+              arrives ds t c (c + 1) 2 n 0 n (StoreAt f j) hs.0 kr (omega (arith, q, l)) refl refl;
+        },
+        deep_todo r (c + 1) n b (omega (arith, q)) hs.1 k l,
+      ))
   deep_todo (Sleep m e r) a n b q h k l =
       let c : ℕ = a + expr_size e in
       let hs = back ds a (expr_spots e 0 n) _ c (omega (arith, length-expr_spots e 0 n)) h in
       let kr = start_at ds r (c + 1) n b (omega (arith, q)) hs.1 k in
       joined ds t a (expr_code m e) _ c (omega (arith, length-expr_code m e))
-      (deep_expr ds t m e a 0 n c refl (front ds a (expr_spots e 0 n) _ h) hs.0 (omega (arith, q, l)))
-      (record { enough = omega (arith, hs.0.operands); opened = omega arith; leads =
-          arrives ds t c (c + 1) 1 n 0 n SleepWork hs.0 kr (omega (arith, q, l)) refl refl }, deep_todo r (c + 1) n b (omega (arith, q)) hs.1 k l)
+      (deep_expr ds t m e a 0 n c refl (front ds a (expr_spots e 0 n) _ h) hs.0 (omega (arith, q, l))) (
+        record {
+          enough = omega (arith, hs.0.operands);
+          opened = omega arith;
+          leads =
+              arrives ds t c (c + 1) 1 n 0 n SleepWork hs.0 kr (omega (arith, q, l)) refl refl;
+        },
+        deep_todo r (c + 1) n b (omega (arith, q)) hs.1 k l,
+      )
   deep_todo (If m e c d r) a n b q h k l =
       let b0 : ℕ = a + expr_size e in
       let j : ℕ = b0 + 1 + size c in
@@ -278,12 +353,20 @@ module _ (lat : Lattice) (g : ℕ → ℕ) (ds : Depths) (t : ℕ) where
       let kc = start_at ds c (b0 + 1) (n + 1) j refl hc h3.0 in
       joined ds t a (expr_code m e) _ b0 (omega (arith, length-expr_code m e))
       (deep_expr ds t m e a 0 n b0 refl (front ds a (expr_spots e 0 n) _ h) h1.0 (omega (arith, q, l))) (
-        record { enough = omega (arith, h1.0.operands); opened = omega arith; leads =
-            arrives ds t b0 (b0 + 1) 1 n 0 (n + 1) (Mitb (label v) y) h1.0 kc (omega (arith, q, l)) refl (omega arith) },
+        record {
+          enough = omega (arith, h1.0.operands);
+          opened = omega arith;
+          leads =
+              arrives ds t b0 (b0 + 1) 1 n 0 (n + 1) (Mitb (label v) y) h1.0 kc (omega (arith, q, l)) refl (omega arith);
+        },
         joined ds t (b0 + 1) (code_of lat g c (b0 + 1)) _ j (omega (arith, length-code_of lat g c (b0 + 1)))
             (deep_todo c (b0 + 1) (n + 1) j refl hc h3.0 (omega (arith, q, l))) (
-              record { enough = omega arith; opened = omega (arith, h3.0.nesting); leads =
-                  arrives ds t j (j + 1) 0 (n + 1) 0 n Mite h3.0 kr (omega (arith, q, l)) refl (omega arith) },
+              record {
+                enough = omega arith;
+                opened = omega (arith, h3.0.nesting);
+                leads =
+                    arrives ds t j (j + 1) 0 (n + 1) 0 n Mite h3.0 kr (omega (arith, q, l)) refl (omega arith);
+              },
               deep_todo r (j + 1) n b (omega (arith, q)) h3.1 k l,
             ),
       )
@@ -319,8 +402,10 @@ expr_within most deep (Variable x) d n h k = ((omega (arith, h), k), tt)
 expr_within most deep (Binary o l r) d n h k =
     let p = one_operand r in
     within_both most deep (expr_spots l d n) (expr_spots r (d + 1) n ++ spot (d + 2) n ∷ []) (expr_within most deep l d n (omega (arith, h)) k)
-    (within_both most deep (expr_spots r (d + 1) n) (spot (d + 2) n ∷ []) (expr_within most deep r (d + 1) n (omega (arith, h)) k) ((omega (arith, h, p), k),
-        tt))
+    (within_both most deep (expr_spots r (d + 1) n) (spot (d + 2) n ∷ []) (expr_within most deep r (d + 1) n (omega (arith, h)) k) (
+      (omega (arith, h, p), k),
+      tt,
+    ))
 expr_within most deep (Element f j i) d n h k =
     let p = one_operand i in
     within_both most deep (expr_spots i d n) (spot (d + 1) n ∷ []) (expr_within most deep i d n h k) ((omega (arith, h, p), k), tt)
@@ -348,7 +433,7 @@ module _ (most deep : ℕ) where
   spots_within (If m e c d r) n h k =
       let p = one_operand e in
       both (expr_spots e 0 n) (spot 1 n ∷ (spots c n ++ (spot 0 n ∷ (spots d n ++ spots r n))))
-          (expr_within most deep e 0 n (omega (arith, h)) (omega (arith, k))) (
+      (expr_within most deep e 0 n (omega (arith, h)) (omega (arith, k))) (
         (omega (arith, h, p), omega (arith, k)),
         both (spots c n) (spot 0 n ∷ (spots d n ++ spots r n)) (spots_within c n (omega (arith, h)) (omega (arith, k))) (
           (omega arith, omega (arith, k)),
@@ -361,13 +446,14 @@ module _ (most deep : ℕ) where
       both (expr_spots e 0 n) (spot 1 n ∷ (spots c n ++ (expr_spots e 0 n ++ (spot 1 n ∷ spots r n)))) t (
         (omega (arith, h, p), omega (arith, k)),
         both (spots c n) (expr_spots e 0 n ++ (spot 1 n ∷ spots r n)) (spots_within c n (omega (arith, h)) (omega (arith, k)))
-            (both (expr_spots e 0 n) (spot 1 n ∷ spots r n) t ((omega (arith, h, p), omega (arith, k)),
-                spots_within r n (omega (arith, h)) (omega (arith, k)))),
+            (both (expr_spots e 0 n) (spot 1 n ∷ spots r n) t (
+              (omega (arith, h, p), omega (arith, k)),
+              spots_within r n (omega (arith, h)) (omega (arith, k)),
+            )),
       )
   spots_within (Mitigate m y v e c r) n h k =
       let p = one_operand e in
-      both (expr_spots e 0 n) (spot 1 n ∷ (spots c (n + 1) ++ (spot 0 (n + 1) ∷ spots r n))) (expr_within most deep e 0 n (omega (arith, h)) (omega (arith, k)))
-          (
+      both (expr_spots e 0 n) (spot 1 n ∷ (spots c (n + 1) ++ (spot 0 (n + 1) ∷ spots r n))) (expr_within most deep e 0 n (omega (arith, h)) (omega (arith, k))) (
         (omega (arith, h, p), omega (arith, k)),
         both (spots c (n + 1)) (spot 0 (n + 1) ∷ spots r n) (spots_within c (n + 1) (omega (arith, h)) (omega (arith, k)))
             ((omega arith, omega (arith, k)), spots_within r n (omega (arith, h)) (omega (arith, k))),
@@ -389,7 +475,7 @@ each_is ds t vars labels a (x ∷ xs) h r zero i e =
     let same : x ≡ i = cc in
     let place : a ≡ a + 0 = omega arith in
     subst (λ z. Deep ds t (a + 0) z × (InRange vars labels z.work × (z.er.number < labels) × (z.ew.number < labels))) same
-        (subst (λ z. Deep ds t z x) place h.0, r.0)
+    (subst (λ z. Deep ds t z x) place h.0, r.0)
 each_is ds t vars labels a (x ∷ xs) h r (suc k) i e =
     let place : a + 1 + k ≡ a + suc k = omega arith in
     let b = each_is ds t vars labels (a + 1) xs h.1 r.1 k i e in
@@ -409,14 +495,14 @@ image_shaped lat g p vars order v small range =
     let stand = spots_stand all [] 0 refl in
     let last = back ds 0 (spots p 0) (spot 0 0 ∷ []) (size p) (omega (arith, length-spots p 0)) stand in
     let body = deep_todo lat g ds (length (image_of lat g p)) p 0 0 (size p) (omega arith) (front ds 0 (spots p 0) (spot 0 0 ∷ []) stand)
-        last.0 (omega (arith, long)) in
+    last.0 (omega (arith, long)) in
     let deep : DeepAt ds (length (image_of lat g p)) 0 (image_of lat g p) =
     joined ds (length (image_of lat g p)) 0 code (halt ∷ []) (size p) (omega (arith, length-code_of lat g p 0)) body
     (record { enough = omega arith; opened = omega arith; leads = omega (arith, long) }, tt) in
     let begin = start_at ds p 0 0 (size p) (omega arith) (front ds 0 (spots p 0) (spot 0 0 ∷ []) stand) last.0 in
     let within : AreWithin (most_operands p) (deepest p) all =
     within_both (most_operands p) (deepest p) (spots p 0) (spot 0 0 ∷ []) (spots_within (most_operands p) (deepest p) p 0 (omega arith) (omega arith))
-        ((omega arith, omega arith), tt) in (
+    ((omega arith, omega arith), tt) in (
       ds,
       record {
         some = omega (arith, long);

@@ -118,4 +118,4 @@ module _ (ds : List Declaration) (shaped : AreShaped ds) (n : ℕ) where
       pub image_range : (p : Plan) (i : ℕ) → AreKnown n ds p → AllInRange (variables ds) n (image_of lat g (bare (labelled ms ls p i)))
       image_range p i h =
           range_both (variables ds) n (code_of lat g (bare (labelled ms ls p i)) 0) (instr Halt (record { er = lat.bottom; ew = lat.bottom }) ∷ [])
-              (code_range p i 0 h) ((tt, low, low), tt)
+          (code_range p i 0 h) ((tt, low, low), tt)

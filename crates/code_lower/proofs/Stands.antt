@@ -76,8 +76,14 @@ module _ (lat : Lattice) (g : ℕ → ℕ) where
   length-code_of (Put m f n i e r) a =
       let b = a + expr_size i + expr_size e in
       let t : List Instr = instr (StoreAt f n) m ∷ code_of lat g r (b + 1) in
-      omega (arith, length-append (expr_code m i) (expr_code m e ++ t), length-append (expr_code m e) t, length-expr_code m i,
-          length-expr_code m e, length-code_of r (b + 1))
+      omega (
+        arith,
+        length-append (expr_code m i) (expr_code m e ++ t),
+        length-append (expr_code m e) t,
+        length-expr_code m i,
+        length-expr_code m e,
+        length-code_of r (b + 1),
+      )
   length-code_of (Sleep m e r) a =
       let b = a + expr_size e in
       let t : List Instr = instr SleepWork m ∷ code_of lat g r (b + 1) in
@@ -91,8 +97,16 @@ module _ (lat : Lattice) (g : ℕ → ℕ) where
       let cr = code_of lat g r q in
       let t2 : List Instr = instr (Jmp q) (raised lat g e m) ∷ (cd ++ cr) in
       let t1 : List Instr = instr (Brz (j + 1)) m ∷ (cc_ ++ t2) in
-      omega (arith, length-append (expr_code m e) t1, length-append cc_ t2, length-append cd cr, length-expr_code m e, length-code_of c (b + 1),
-          length-code_of d (j + 1), length-code_of r q)
+      omega (
+        arith,
+        length-append (expr_code m e) t1,
+        length-append cc_ t2,
+        length-append cd cr,
+        length-expr_code m e,
+        length-code_of c (b + 1),
+        length-code_of d (j + 1),
+        length-code_of r q,
+      )
   length-code_of (While m e c r) a =
       let b = a + expr_size e in
       let t = b + 1 + size c in
@@ -103,8 +117,16 @@ module _ (lat : Lattice) (g : ℕ → ℕ) where
       let t3 : List Instr = instr (Brnz (b + 1)) rm ∷ cr in
       let t2 : List Instr = expr_code rm e ++ t3 in
       let t1 : List Instr = instr (Brz q) m ∷ (cc_ ++ t2) in
-      omega (arith, length-append (expr_code m e) t1, length-append cc_ t2, length-append (expr_code rm e) t3, length-expr_code m e, length-expr_code rm e,
-          length-code_of c (b + 1), length-code_of r q)
+      omega (
+        arith,
+        length-append (expr_code m e) t1,
+        length-append cc_ t2,
+        length-append (expr_code rm e) t3,
+        length-expr_code m e,
+        length-expr_code rm e,
+        length-code_of c (b + 1),
+        length-code_of r q,
+      )
   length-code_of (Mitigate m k l e c r) a =
       let b = a + expr_size e in
       let j = b + 1 + size c in
@@ -161,9 +183,10 @@ module _ (lat : Lattice) (g : ℕ → ℕ) where
       let halt : List Instr = instr Halt (record { er = lat.bottom; ew = lat.bottom }) ∷ [] in
       let all = has_all (code ++ halt) [] in
       let z : 0 + size p ≡ size p = omega arith in
-      let back = has_back (code ++ halt) 0 code halt (size p) (length-code_of p 0) all in
-      (code_stands (code ++ halt) p 0 (has_front (code ++ halt) 0 code halt all),
-          subst (λ n. Stands (code ++ halt) n Halt (record { er = lat.bottom; ew = lat.bottom })) z back.0)
+      let back = has_back (code ++ halt) 0 code halt (size p) (length-code_of p 0) all in (
+        code_stands (code ++ halt) p 0 (has_front (code ++ halt) 0 code halt all),
+        subst (λ n. Stands (code ++ halt) n Halt (record { er = lat.bottom; ew = lat.bottom })) z back.0,
+      )
 
   -- the code of one list after another
   pub code-then : (p q : Marked) (a : ℕ) → code_of lat g (then_todo p q) a ≡ code_of lat g p a ++ code_of lat g q (a + size p)
@@ -192,7 +215,7 @@ module _ (lat : Lattice) (g : ℕ → ℕ) where
       let u = j + 1 + size d in
       let s : u + size r ≡ a + size (If m e c d r) = omega arith in
       ap (λ z. expr_code m e ++ (instr (Brz (j + 1)) m ∷ (code_of lat g c (b + 1) ++ (instr (Jmp u) (raised lat g e m) ∷ (code_of lat g d (j + 1) ++ z)))))
-          (code-then r q u ∙ ap (λ z. code_of lat g r u ++ code_of lat g q z) s)
+      (code-then r q u ∙ ap (λ z. code_of lat g r u ++ code_of lat g q z) s)
       ∙ sym (simp append_assoc)
   code-then (While m e c r) q a =
       let b = a + expr_size e in
@@ -200,13 +223,13 @@ module _ (lat : Lattice) (g : ℕ → ℕ) where
       let u = t + expr_size e + 1 in
       let s : u + size r ≡ a + size (While m e c r) = omega arith in
       ap (λ z. expr_code m e ++ (instr (Brz u) m ∷ (code_of lat g c (b + 1)
-          ++ (expr_code (raised lat g e m) e ++ (instr (Brnz (b + 1)) (raised lat g e m) ∷ z))))) (code-then r q u
-          ∙ ap (λ z. code_of lat g r u ++ code_of lat g q z) s)
+      ++ (expr_code (raised lat g e m) e ++ (instr (Brnz (b + 1)) (raised lat g e m) ∷ z))))) (code-then r q u
+      ∙ ap (λ z. code_of lat g r u ++ code_of lat g q z) s)
       ∙ sym (simp append_assoc)
   code-then (Mitigate m k l e c r) q a =
       let b = a + expr_size e in
       let j = b + 1 + size c in
       let s : j + 1 + size r ≡ a + size (Mitigate m k l e c r) = omega arith in
       ap (λ z. expr_code m e ++ (instr (Mitb (label l) k) m ∷ (code_of lat g c (b + 1) ++ (instr Mite m ∷ z)))) (code-then r q (j + 1)
-          ∙ ap (λ z. code_of lat g r (j + 1) ++ code_of lat g q z) s)
+      ∙ ap (λ z. code_of lat g r (j + 1) ++ code_of lat g q z) s)
       ∙ sym (simp append_assoc)

@@ -33,7 +33,7 @@ module _ {E : Type 0} (v : Env E) (image : List Instr) where
       let x = value_of l s.memory in
       let y = value_of r s.memory in
       let right = leads_to v image (at b (x ∷ ops) os s1) (at c (value_of r s1.memory ∷ x ∷ ops) os s2) (at c (y ∷ x ∷ ops) os s2)
-          (expr_leads r m b (x ∷ ops) os s1 h.1) (ap (λ z. at c (value_of r z ∷ x ∷ ops) os s2) (timed_memory v m l a s)) in
+      (expr_leads r m b (x ∷ ops) os s1 h.1) (ap (λ z. at c (value_of r z ∷ x ∷ ops) os s2) (timed_memory v m l a s)) in
       let here : c + 1 ≡ a + (expr_size l + expr_size r + 1) = omega arith in
       leads_then v image (at a ops os s) (at b (x ∷ ops) os s1) _ (expr_leads l m a ops os s h.0)
       (leads_then v image (at b (x ∷ ops) os s1) (at c (y ∷ x ∷ ops) os s2) _ right

@@ -43,8 +43,12 @@ module _ (p : LabelledProgram) where
       let l = p.labels in
       let halt : List Instr = instr Halt (record { er = o.bottom; ew = o.bottom }) ∷ [] in
       let code = code_of (order_of p) (labels_of p) (bare_of p) 0 in
-      omega (arith, length-append code halt, length-code_of (order_of p) (labels_of p) (bare_of p) 0,
-          size-labelled (marks_of o l) (level_of o l) (plan_of p.program) 0)
+      omega (
+        arith,
+        length-append code halt,
+        length-code_of (order_of p) (labels_of p) (bare_of p) 0,
+        size-labelled (marks_of o l) (level_of o l) (plan_of p.program) 0,
+      )
 
   pub operands_is : (lowered p).operands ≡ most_operands (plan_of p.program)
   operands_is = operands-labelled (marks_of p.program.order p.labels) (level_of p.program.order p.labels) (plan_of p.program) 0
@@ -84,7 +88,7 @@ module _ (p : LabelledProgram) where
   pub built_is : (is : List Instr) (vars : ℕ) (o : Order) (x : Extent) (body : List Command) → is ≡ (lowered p).instrs
       → vars ≡ variables p.program.declarations → o ≡ p.program.order →
       list_plan body ≡ plan_of p.program → IsExtent x (list_plan body)
-          → record { instrs = is; variables = vars; order = o; operands = x.operands; nesting = x.nesting } ≡ lowered p
+      → record { instrs = is; variables = vars; order = o; operands = x.operands; nesting = x.nesting } ≡ lowered p
   built_is is vars o x body hi hv ho hb e =
       let most : x.operands ≡ (lowered p).operands = e.operands ∙ ap (λ z. most_operands z) hb ∙ sym operands_is in
       let deep : x.nesting ≡ (lowered p).nesting = e.nesting ∙ ap (λ z. deepest z) hb ∙ sym nesting_is in

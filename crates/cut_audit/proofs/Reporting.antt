@@ -54,4 +54,4 @@ module _ {E : Type 0} (v : Env E) (serves : Order → E → Type 0) (p : Labelle
       let seqs = map (sequence_from v p o t) ss in
       let few = sound.few o low t some ss is.agree same_sequence tests_sequences in
       within p.program.order o t r.ended seqs r.measures is.measures
-          (subst (λ z. distinct_count same_sequence seqs ≤ bound p.program.order o t z) (sym is.ended) few)
+      (subst (λ z. distinct_count same_sequence seqs ≤ bound p.program.order o t z) (sym is.ended) few)

@@ -41,7 +41,7 @@ visible-append lat g o (Wrote x n c ∷ es) fs = go (lat.flows (g x) o) (visible
   where
     go : (b : Bool) → visible lat g o (es ++ fs) ≡ visible lat g o es ++ visible lat g o fs →
         cond b (Wrote x n c ∷ visible lat g o (es ++ fs)) (visible lat g o (es ++ fs)) ≡ cond b (Wrote x n c ∷ visible lat g o es) (visible lat g o es)
-            ++ visible lat g o fs
+        ++ visible lat g o fs
     go true e = ap (λ z. Wrote x n c ∷ z) e
     go false e = e
 visible-append lat g o (Began k c ∷ es) fs = visible-append lat g o es fs
@@ -110,7 +110,7 @@ prefix_then a b c xs ys zs all p q e =
     let k : ℕ = q.0 in
     let short : k ≤ length ys = q.1 in
     let whole : length all ≡ length xs + (length ys + length zs) =
-        ap length (sym e) ∙ (length-append xs (ys ++ zs) ∙ ap (λ n. length xs + n) (length-append ys zs)) in
+    ap length (sym e) ∙ (length-append xs (ys ++ zs) ∙ ap (λ n. length xs + n) (length-append ys zs)) in
     let taken : xs ++ take k ys ≡ take (length xs + k) all =
     ap (λ z. xs ++ z) (sym (take-append-le k ys zs short)) ∙ sym (take-append-add xs (ys ++ zs) k) ∙ ap (take (length xs + k)) e in
     (length xs + k, omega (arith, whole, short), subst (Appends a c) taken (Appends-trans a b c xs (take k ys) p q.2))
@@ -140,7 +140,7 @@ module _ {E : Type 0} (v : Env E) (limit : ℕ) where
   pub more_printed : (p : LabelledProgram) (o : Option Label) (list : List Bool) (old mid new : Loaded E) (turn : Turn) (a b c : Option (List ℕ))
       → TellsShown p o list → Printed v limit p o old mid a b →
       Next v list limit mid new turn → IsShown p o turn → end_of_turn turn ≡ None → Appends b c (text_of_turn p.program.declarations turn)
-          → Printed v limit p o old new a c
+      → Printed v limit p o old new a c
   more_printed p o list old mid new turn a b c tells r n is none w =
       let es : List Event = n.hidden ++ events_of turn in
       record {
@@ -150,7 +150,7 @@ module _ {E : Type 0} (v : Env E) (limit : ℕ) where
         written =
             subst (Appends a c)
             (ap (λ z. lines p o r.events ++ z) (turn_text p o turn is none ∙ sym (passed p o list tells n.hidden (events_of turn) n.unseen))
-                ∙ sym (both p o r.events es))
+            ∙ sym (both p o r.events es))
             (Appends-trans a b c _ _ r.written w);
       }
 
@@ -201,7 +201,7 @@ module _ {E : Type 0} (v : Env E) (limit : ℕ) where
   pub all_printed : (p : LabelledProgram) (o : Option Label) (list : List Bool) (old mid new : Loaded E) (turn : Turn) (end : RunEnd) (a b c : Option (List ℕ))
       → TellsShown p o list → Printed v limit p o old mid a b →
       Last v list limit mid new turn end → end_of_turn turn ≡ Some end → Appends b c (text_of_turn p.program.declarations turn)
-          → Appends a c (text_of p o (rest_of v limit old))
+      → Appends a c (text_of p o (rest_of v limit old))
   all_printed p o list old mid new turn end a b c tells r l e w =
       subst (Appends a c)
       (ap (λ z. lines p o r.events ++ z) (last_text p o list mid new turn end tells e l)
@@ -212,7 +212,7 @@ module _ {E : Type 0} (v : Env E) (limit : ℕ) where
   pub prefix_printed : (p : LabelledProgram) (o : Option Label) (list : List Bool) (old mid new : Loaded E) (turn : Turn) (a b c : Option (List ℕ))
       → TellsShown p o list → Printed v limit p o old mid a b →
       IfSome mid.stopped IsStop → CallWent v list limit mid turn new → IsShown p o turn → AppendsPrefix b c (text_of_turn p.program.declarations turn)
-          → AppendsPrefix a c (text_of p o (rest_of v limit old))
+      → AppendsPrefix a c (text_of p o (rest_of v limit old))
   prefix_printed p o list old mid new turn a b c tells r is_stop went is q = by (end_of_turn turn) refl
     where
       whole : lines p o r.events ++ text_of p o (rest_of v limit mid) ≡ text_of p o (rest_of v limit old)
@@ -223,16 +223,16 @@ module _ {E : Type 0} (v : Env E) (limit : ℕ) where
           let n = next_turn v list limit mid new turn is_stop went none in
           let es : List Event = n.hidden ++ events_of turn in
           let here : text_of_turn p.program.declarations turn ≡ lines p o es =
-              turn_text p o turn is none ∙ sym (passed p o list tells n.hidden (events_of turn) n.unseen) in
+          turn_text p o turn is none ∙ sym (passed p o list tells n.hidden (events_of turn) n.unseen) in
           let then : text_of_turn p.program.declarations turn ++ text_of p o (rest_of v limit new) ≡ text_of p o (rest_of v limit mid) =
           ap (λ z. z ++ text_of p o (rest_of v limit new)) here ∙ (sym (text_after p o es (rest_of v limit new)) ∙ ap (text_of p o) (sym n.rest)) in
           prefix_then a b c (lines p o r.events) (text_of_turn p.program.declarations turn) (text_of p o (rest_of v limit new)) _ r.written q
-              (ap (λ z. lines p o r.events ++ z) then ∙ whole)
+          (ap (λ z. lines p o r.events ++ z) then ∙ whole)
       by (Some end) some =
           let l = last_turn v list limit mid new turn end is_stop went some in
           let text : text_of_turn p.program.declarations turn ≡ text_of p o (rest_of v limit mid) = last_text p o list mid new turn end tells some l in
           prefix_then a b c (lines p o r.events) (text_of_turn p.program.declarations turn) [] _ r.written q
-              (ap (λ z. lines p o r.events ++ z) (append-nil (text_of_turn p.program.declarations turn) ∙ text) ∙ whole)
+          (ap (λ z. lines p o r.events ++ z) (append-nil (text_of_turn p.program.declarations turn) ∙ text) ∙ whole)
 
   pub stands_turn : (p : LabelledProgram) (o : Option Label) (list : List Bool) (old mid new : Loaded E) (turn : Turn) (a b : Option (List ℕ))
       → Printed v limit p o old mid a b → StandsAfter v limit old mid →

@@ -71,9 +71,9 @@ module _ (s : Syntax) (fault : TypeFault) (xs ys : List Step) (a : IsTold s faul
       let px : xs ≡ p.before ++ (p.step ∷ after) = e ∙ ap (λ z. z ++ after) p.is ∙ append_one p.before p.step after in
       let qy : ys ≡ q.before ++ (q.step ∷ after) = f ∙ ap (λ z. z ++ after) q.is ∙ append_one q.before q.step after in
       let one = a.earliest p.before q.before after p.step q.step px (subst (λ z. IsReason s fault z) qy b.reason)
-          (subst (λ z. CostsNoMore z xs) qy (b.cheapest xs a.reason)) in
+      (subst (λ z. CostsNoMore z xs) qy (b.cheapest xs a.reason)) in
       let two = b.earliest q.before p.before after q.step p.step qy (subst (λ z. IsReason s fault z) px a.reason)
-          (subst (λ z. CostsNoMore z ys) px (a.cheapest ys b.reason)) in
+      (subst (λ z. CostsNoMore z ys) px (a.cheapest ys b.reason)) in
       let here : p.step ≡ q.step = both_first (steps_of s) p.step q.step one two in
       same n p.before q.before (p.step ∷ after) px (subst (λ z. ys ≡ q.before ++ (z ∷ after)) (sym here) qy) p.count q.count
 

@@ -194,7 +194,7 @@ module _ (s : Syntax) (t : Target) (ds : List (Option Cost)) (ss : List Step) (p
     goal = goal;
     each = λ z i. subst (λ u. IsFound (SideCosts s t ds z) (ss ++ to r q side ps) (slice_index_or u z None)) (sym is)
         (then_skips (SideCosts s t ds z) r q side ss ps (slice_index_or v.variables.items z None)
-            (λ p d x. none z (let f = S.fit in omega (arith, i, f)) x.0) (S.each z i));
+        (λ p d x. none z (let f = S.fit in omega (arith, i, f)) x.0) (S.each z i));
   }
 
 abbrev no_found : Option Found

@@ -158,7 +158,7 @@ module _ (lat : Lattice) (ll : IsLattice lat) where
           needed = λ before after v e g.
               let o = joined lat (before ++ after) in
               S.needed before after v e (ll.chain v.label.number (lat.join m o) (lat.join l o) g
-                  (ll.least m o (lat.join l o) (ll.chain m l (lat.join l o) less_low (ll.left l o)) (ll.right l o)));
+              (ll.least m o (lat.join l o) (ll.chain m l (lat.join l o) less_low (ll.left l o)) (ll.right l o)));
           join =
               ll.anti (lat.join m k) (lat.join l k)
               (ll.least m k (lat.join l k) (ll.chain m l (lat.join l k) less_low (ll.left l k)) (ll.right l k))
@@ -176,10 +176,10 @@ module _ (lat : Lattice) (ll : IsLattice lat) where
           join =
               ll.anti (lat.join m (lat.join a k)) (lat.join l k)
               (ll.least m (lat.join a k) (lat.join l k) (ll.chain m l (lat.join l k) less_low (ll.left l k))
-                  (ll.least a k (lat.join l k) (ll.chain a l (lat.join l k) last_low (ll.left l k)) (ll.right l k)))
+              (ll.least a k (lat.join l k) (ll.chain a l (lat.join l k) last_low (ll.left l k)) (ll.right l k)))
               (ll.least l k (lat.join m (lat.join a k))
               (left_low (lat.join m (lat.join a k)) (ll.left m (lat.join a k))
-                  (ll.chain a (lat.join a k) (lat.join m (lat.join a k)) (ll.left a k) (ll.right m (lat.join a k))))
+              (ll.chain a (lat.join a k) (lat.join m (lat.join a k)) (ll.left a k) (ll.right m (lat.join a k))))
               (ll.chain k (lat.join a k) (lat.join m (lat.join a k)) (ll.right a k) (ll.right m (lat.join a k))))
               ∙ S.join;
           lefts = lefts;
@@ -192,7 +192,7 @@ module _ (lat : Lattice) (ll : IsLattice lat) where
             let h : w ≡ v = same_head w v kept after e in
             let t : kept ≡ after = same_tail w v kept after e in
             high (subst (λ (z : Origin). Flows lat z.label.number (lat.join m k)) (sym h)
-                (subst (λ z. Flows lat v.label.number (lat.join m (joined lat z))) (sym t) g))
+            (subst (λ z. Flows lat v.label.number (lat.join m (joined lat z))) (sym t) g))
         go (b ∷ before) after v e g =
             let h : w ≡ b = same_head w b kept (before ++ (v ∷ after)) e in
             let t : kept ≡ before ++ (v ∷ after) = same_tail w b kept (before ++ (v ∷ after)) e in
@@ -202,7 +202,7 @@ module _ (lat : Lattice) (ll : IsLattice lat) where
             S.needed before after v t
             (ll.chain v.label.number (lat.join m (lat.join n o)) (lat.join l o) g
             (ll.least m (lat.join n o) (lat.join l o) (ll.chain m l (lat.join l o) less_low (ll.left l o))
-                (ll.least n o (lat.join l o) (ll.chain n l (lat.join l o) up (ll.left l o)) (ll.right l o))))
+            (ll.least n o (lat.join l o) (ll.chain n l (lat.join l o) up (ll.left l o)) (ll.right l o))))
 
 pub insert_first : {A : Type 0} (xs : List A) (x : A) → insert xs 0 x ≡ x ∷ xs
 insert_first [] x = refl

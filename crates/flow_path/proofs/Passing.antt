@@ -79,7 +79,7 @@ module _ (s : Syntax) (t : Target) (ds : List (Option Cost)) where
   pub passes_plain : (v w : Sides) (pc b h r : Option Best) (p rest : Plan) (rule : Rule) (q : Pos) (o : Option (Label × Label)) (H R : List Part → List Part) →
       Turns pc h H → Turns b r R → Gains h v w (to_write_label rule q o) →
       ((P T : List Part) → steps p P T ≡ to_write_label rule q o (H P) ++ steps rest P (R T)) → ((T : List Part) → ends p T ≡ ends rest (R T))
-          → Passes s t ds v w pc b r p rest
+      → Passes s t ds v w pc b r p rest
   passes_plain v w pc b h r p rest rule q o H R mh mr g es ee P T ss hp ht hv =
       (R T, to_write_label rule q o (H P), mr T ht, g ss (H P) (mh P hp) hv, ee T, es P T)
 
@@ -88,7 +88,7 @@ module _ (s : Syntax) (t : Target) (ds : List (Option Cost)) where
       (F : List Part → List Part → List Part) (H R : List Part → List Part) →
       TurnsTwo pc b l F → Turns pc h H → Turns b r R → Gains l v w (to RAsgn q side) → Gains h w x (to_write_label RAsgn q o) →
       ((P T : List Part) → steps p P T ≡ to RAsgn q side (F P T) ++ (to_write_label RAsgn q o (H P) ++ steps rest P (R T)))
-          → ((T : List Part) → ends p T ≡ ends rest (R T)) → Passes s t ds v x pc b r p rest
+      → ((T : List Part) → ends p T ≡ ends rest (R T)) → Passes s t ds v x pc b r p rest
   passes_set v w x pc b l h r p rest q side o F H R ml mh mr g1 g2 es ee P T ss hp ht hv =
       let A = to RAsgn q side (F P T) in
       let B = to_write_label RAsgn q o (H P) in (
@@ -129,7 +129,7 @@ module _ (s : Syntax) (t : Target) (ds : List (Option Cost)) where
   pub passes_while : (v0 v1 v2 : Sides) (pc b h i r g again : Option Best) (p C rest : Plan) (w : Written) (e : Expression) → p ≡ While w e C rest →
       Turns pc h (λ P. P ++ index_reads w.pos e) → Gains h v0 v1 (to_write_label RWhile w.pos w.labels) →
       Turns b i (λ T. after T w e) → ComesTo s t ds i r C Done → Turns pc g (λ P. P ++ reads UnderGuard w.pos e) → Passes s t ds v1 v2 g r again C Done
-          → Passes s t ds v0 v2 pc b r p rest
+      → Passes s t ds v0 v2 pc b r p rest
   passes_while v0 v1 v2 pc b h i r g again p C rest w e is mh gh ms en mi wc P T ss hp ht hv =
       let X = to_write_label RWhile w.pos w.labels (P ++ index_reads w.pos e) in
       let G = P ++ reads UnderGuard w.pos e in

@@ -98,7 +98,7 @@ module _ (s : Syntax) (t : Target) (v : Sides) (A : AreSettled s t v) where
       go (Variable n) e None w d i =
           let wn : written s (Variable n) ≡ None = ap (λ z. written s z) (sym e) ∙ w in
           let is : slice_index_or A.costs n None ≡ Some d =
-              sym (ap (λ z. cost_by s t A.costs z None) e) ∙ (sym (ap (λ z. cost_by s t A.costs st.part.spot z) w) ∙ i) in
+          sym (ap (λ z. cost_by s t A.costs z None) e) ∙ (sym (ap (λ z. cost_by s t A.costs st.part.spot z) w) ∙ i) in
           let b = A.back n d wn is in
           absurd (none-some b.0 (sym (h n e wn) ∙ b.1))
       go (Command l) e None w d i = absurd
@@ -177,18 +177,23 @@ module _ (x : Where) (valid : IsValid x.program) (v : Sides) (A : AreSettled x.p
   -- what a chain up to one of its steps costs
   before : (xs : List Step) (y : Step) (zs : List Step) (c : Cost) → Goes x (xs ++ (y ∷ zs)) → cost_to x.program x.target A.costs (first_spot xs y) ≡ Some c
       → Before y zs (plus c (cost_of (xs ++ y ∷ [])))
-  before [] y zs c g e = record { cost = add c y.part.how; costs = costs_is y c e; low =
-      le_is (add c y.part.how) (plus c (cost_of (y ∷ []))) (plus_one c y); goes = g }
+  before [] y zs c g e = record {
+    cost = add c y.part.how;
+    costs = costs_is y c e;
+    low =
+        le_is (add c y.part.how) (plus c (cost_of (y ∷ []))) (plus_one c y);
+    goes = g;
+  }
   before (st ∷ []) y zs c g e =
       let n = next st y zs c g e in
       more_before y zs (plus n.0 (cost_of (y ∷ []))) (plus c (cost_of (st ∷ (y ∷ []))))
       (subst (λ z. IsLe (plus n.0 (cost_of (y ∷ []))) z) (plus_cons c st (y ∷ [])) (plus_le n.0 (add c st.part.how) (cost_of (y ∷ [])) n.2))
-          (before [] y zs n.0 g.3 n.1)
+      (before [] y zs n.0 g.3 n.1)
   before (st ∷ (u ∷ us)) y zs c g e =
       let n = next st u (us ++ (y ∷ zs)) c g e in
       more_before y zs (plus n.0 (cost_of (u ∷ (us ++ y ∷ [])))) (plus c (cost_of (st ∷ (u ∷ (us ++ y ∷ [])))))
       (subst (λ z. IsLe (plus n.0 (cost_of (u ∷ (us ++ y ∷ [])))) z) (plus_cons c st (u ∷ (us ++ y ∷ [])))
-          (plus_le n.0 (add c st.part.how) (cost_of (u ∷ (us ++ y ∷ []))) n.2)) (before (u ∷ us) y zs n.0 g.3 n.1)
+      (plus_le n.0 (add c st.part.how) (cost_of (u ∷ (us ++ y ∷ []))) n.2)) (before (u ∷ us) y zs n.0 g.3 n.1)
 
   -- the chain that is picked
   record Picked (st t : Step) (c : Cost) : Type 0 where
@@ -277,9 +282,14 @@ module _ (x : Where) (valid : IsValid x.program) (v : Sides) (A : AreSettled x.p
   pub starts : (chain : List Step) → IsPicked x.program v chain → StartsWritten x.program chain → (a : ℕ) × BeginsAt x chain a
   starts [] p b = absurd b
   starts (st ∷ ss) p b =
-      let c = cost_of_first st ss p in
-      (b.0, (b.1, begins_high b.0 (is_high x.program x.target b.0) c.0 st.part.how
-          (sym (ap (λ z. and_then (cost_by x.program x.target A.costs st.part.spot z) st.part.how) b.1) ∙ c.1)))
+      let c = cost_of_first st ss p in (
+        b.0,
+        (
+          b.1,
+          begins_high b.0 (is_high x.program x.target b.0) c.0 st.part.how
+              (sym (ap (λ z. and_then (cost_by x.program x.target A.costs st.part.spot z) st.part.how) b.1) ∙ c.1),
+        ),
+      )
 
   pub goes : (chain : List Step) → IsPicked x.program v chain → Goes x chain
   goes [] p = absurd p
@@ -292,7 +302,7 @@ module _ (x : Where) (valid : IsValid x.program) (v : Sides) (A : AreSettled x.p
       let own = picked_cost xs y after nothing_yet (subst (λ u. IsPicked x.program v u) e p) (begins_at xs y after a (subst (λ u. BeginsAt x u a) e i)) in
       let other = before zs z after nothing_yet g (begins_at zs z after b j) in
       let up : IsLe (cost_of (zs ++ z ∷ [])) (cost_of (xs ++ y ∷ [])) =
-          cost_back zs xs after z y (subst (λ u. IsLe (cost_of (zs ++ (z ∷ after))) (cost_of u)) e l) in
+      cost_back zs xs after z y (subst (λ u. IsLe (cost_of (zs ++ (z ∷ after))) (cost_of u)) e l) in
       first y after (plus nothing_yet (cost_of (xs ++ y ∷ []))) own.1 own.0 z other.cost other.goes other.costs
       (le_trans other.cost (plus nothing_yet (cost_of (zs ++ z ∷ []))) (plus nothing_yet (cost_of (xs ++ y ∷ []))) other.low
       (subst (λ u. IsLe u (plus nothing_yet (cost_of (xs ++ y ∷ [])))) (sym (plus_nothing (cost_of (zs ++ z ∷ []))))
@@ -301,9 +311,12 @@ module _ (x : Where) (valid : IsValid x.program) (v : Sides) (A : AreSettled x.p
   -- what the last step costs
   last_cost : (st : Step) (ss : List Step) (c : Cost) → IsPicked x.program v (st ∷ ss) → cost_to x.program x.target A.costs st.part.spot ≡ Some c
       → (f : Found) × (v.goal ≡ Some f) × (f.cost ≡ plus c (cost_of (st ∷ ss)))
-  last_cost st [] c (f, goal, is) e =
-      (f, goal, costs_same st f.cost (add c st.part.how) (subst (λ (u : Step). PartCosts x.program x.target A.costs u.part f.cost) is (goal_first f goal).has.1)
-          (costs_is st c e) ∙ plus_one c st)
+  last_cost st [] c (f, goal, is) e = (
+    f,
+    goal,
+    costs_same st f.cost (add c st.part.how) (subst (λ (u : Step). PartCosts x.program x.target A.costs u.part f.cost) is (goal_first f goal).has.1)
+        (costs_is st c e) ∙ plus_one c st,
+  )
   last_cost st (t ∷ ss) c p e =
       let r = picked st t ss p in
       let same : r.0 ≡ add c st.part.how = costs_same st r.0 (add c st.part.how) r.1.costs (costs_is st c e) in

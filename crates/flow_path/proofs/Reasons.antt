@@ -55,8 +55,16 @@ module _ (s : Syntax) (ns : List Node) (cs : List Condition) (rule : Rule) (pos 
   whole t [] g = record { last = t.side; leads = (g.0, refl, refl); step = t; ends = refl; goal = g.1; side = refl; omitted = tt }
   whole t (u ∷ ts) g =
       let r = whole u ts g.3 in
-      record { last = r.last; leads = (g.0, refl, subst (λ z. Leads s z (u ∷ ts) r.last) g.2 r.leads); step = r.step; ends = r.ends; goal = r.goal; side =
-          r.side; omitted = (g.1, r.omitted) }
+      record {
+        last = r.last;
+        leads = (g.0, refl, subst (λ z. Leads s z (u ∷ ts) r.last) g.2 r.leads);
+        step = r.step;
+        ends = r.ends;
+        goal = r.goal;
+        side =
+            r.side;
+        omitted = (g.1, r.omitted);
+      }
 
   to_reason : (chain : List Step) (a : ℕ) → Goes x chain → BeginsAt x chain a → IsReason s (Refused rule pos have allowed) chain
   to_reason [] a g b = absurd g
@@ -79,10 +87,17 @@ module _ (s : Syntax) (ns : List Node) (cs : List Condition) (rule : Rule) (pos 
 
   goes_of : (p : Spot) (t : Step) (ts : List Step) (q : Spot) → Leads s p (t ∷ ts) q → GoesByOmitted s (t ∷ ts)
       → GoesBy s (t ∷ ts) rule pos allowed → Goes x (t ∷ ts)
-  goes_of p t [] q l o e = (l.0, subst (λ (z : Step). (z.rule ≡ rule) × (z.pos ≡ pos) × (written s z.side ≡ Some allowed.number))
-      (sym (same_Some t e.step e.last)) (e.rule, e.pos, e.side))
-  goes_of p t (u ∷ ts) q l o e = (l.0, o.0, l.2.1,
-      goes_of t.side u ts q l.2 o.1 (record { step = e.step; last = e.last; rule = e.rule; pos = e.pos; side = e.side }))
+  goes_of p t [] q l o e = (
+    l.0,
+    subst (λ (z : Step). (z.rule ≡ rule) × (z.pos ≡ pos) × (written s z.side ≡ Some allowed.number))
+        (sym (same_Some t e.step e.last)) (e.rule, e.pos, e.side),
+  )
+  goes_of p t (u ∷ ts) q l o e = (
+    l.0,
+    o.0,
+    l.2.1,
+    goes_of t.side u ts q l.2 o.1 (record { step = e.step; last = e.last; rule = e.rule; pos = e.pos; side = e.side }),
+  )
 
   from_reason : (chain : List Step) → IsReason s (Refused rule pos have allowed) chain → Goes x chain × ((a : ℕ) × BeginsAt x chain a)
   from_reason [] r = absurd (none-some r.ends.step r.ends.last)
@@ -92,8 +107,13 @@ module _ (s : Syntax) (ns : List Node) (cs : List Condition) (rule : Rule) (pos 
       let side = last_side s w.first (t ∷ ts) w.last e.step w.leads e.last in
       let same : w.allowed ≡ allowed.number = same_Some w.allowed allowed.number (sym w.ends ∙ ap (λ z. written s z) (sym side) ∙ e.side) in (
         goes_of w.first t ts w.last w.leads r.omitted e,
-        (w.have, (ap (λ z. written s z) w.leads.1 ∙ w.begins,
-            high_is ((lattice_of s.order).flows w.have allowed.number) (λ f. w.high (ap (λ z. (lattice_of s.order).flows w.have z) same ∙ f)))),
+        (
+          w.have,
+          (
+            ap (λ z. written s z) w.leads.1 ∙ w.begins,
+            high_is ((lattice_of s.order).flows w.have allowed.number) (λ f. w.high (ap (λ z. (lattice_of s.order).flows w.have z) same ∙ f)),
+          ),
+        ),
       )
 
   -- a chain of which each step is picked is the one that is told

@@ -128,8 +128,10 @@ module _ (s : Syntax) (t : Target) (k : Known) (b : AreStarts s t k) where
 
   pub few_begins : AreFew k.variables.items
   few_begins y c e = let m = count_le k.variables.items in
-      subst (λ (z : Cost). (z.faint ≤ z.steps) × (z.steps + count_none k.variables.items ≤ length k.variables.items)) (sym (starts_few y c e)) (omega arith,
-      omega (arith, m))
+      subst (λ (z : Cost). (z.faint ≤ z.steps) × (z.steps + count_none k.variables.items ≤ length k.variables.items)) (sym (starts_few y c e)) (
+        omega arith,
+        omega (arith, m),
+      )
 
   pub distance_begins : IsDistance s t k.variables.items nothing_yet
   distance_begins = record {
@@ -165,7 +167,7 @@ module _ (s : Syntax) (t : Target) (ds : List (Option Cost)) (v : Sides) (S : Ar
 module _ (s : Syntax) (t : Target) (k k' : Known) (K : IsKnownOf s t k) (F : AreFew k.variables.items) (now : Cost) (D : IsDistance s t k.variables.items now)
     (v : Sides) (S : AreSides s t k.variables.items (steps_of s) v)
     (m : Cost) (L : IsLeastNew s k.variables.items v.variables.items (length k.variables.items) (Some m))
-        (N : IsSetBy s k.variables.items v.variables.items m (length k.variables.items) k'.variables.items) (same : k'.lattice ≡ k.lattice) where
+    (N : IsSetBy s k.variables.items v.variables.items m (length k.variables.items) k'.variables.items) (same : k'.lattice ≡ k.lattice) where
   -- a cost that was known
   old : (y : ℕ) (c : Cost) → slice_index_or k.variables.items y None ≡ Some c → slice_index_or k'.variables.items y None ≡ Some c
   old y c e = N.kept y (λ l n. none-some c (sym n.unknown ∙ e)) ∙ e
@@ -270,7 +272,7 @@ module _ (s : Syntax) (t : Target) (k k' : Known) (K : IsKnownOf s t k) (F : Are
           (λ (h : PartCosts s t k.variables.items st.part d). ⊎_elim
           (λ (g : slice_index_or k.variables.items y None ≡ Some c). D.least y c d st w g i (x.0, h))
           (λ (g : (c ≡ m) × ((y < length k.variables.items) × IsNew s k.variables.items v.variables.items y m)). subst
-              (λ z. IsLe z d) (sym g.0) (late_old y st d w g.1.1.unknown g.1.0 i (x.0, h)))
+          (λ z. IsLe z d) (sym g.0) (late_old y st d w g.1.1.unknown g.1.0 i (x.0, h)))
           (which y c e))
           (λ (h : IsLe m d). ⊎_elim
           (λ (g : slice_index_or k.variables.items y None ≡ Some c). le_trans c m d (le_trans c now m (D.low y c w g) rises) h)
@@ -416,7 +418,7 @@ pub agreed_by : (s : Syntax) (t : Target) (k : Known) (v : Sides) (ds : List (Op
     ((y : ℕ) → y < length ds → Agrees s ds vs y) → AreSettled s t v
 agreed_by s t k v ds vs e f K S A =
     agreed s t k v K S (subst (λ z. (y : ℕ) → y < length k.variables.items
-        → Agrees s k.variables.items z y) f (subst (λ z. (y : ℕ) → y < length z → Agrees s z vs y) e A))
+    → Agrees s k.variables.items z y) f (subst (λ z. (y : ℕ) → y < length z → Agrees s z vs y) e A))
 
 -- nothing more is found
 pub settles : (s : Syntax) (t : Target) (k : Known) (now : Cost) (v : Sides) → IsKnownOf s t k → IsDistance s t k.variables.items now
@@ -435,8 +437,14 @@ settles s t k now v K D S L = record {
   where
     goes : (y : ℕ) (f : Found) → written s (Variable y) ≡ None → slice_index_or v.variables.items y None ≡ Some f → (o : Option Cost)
         → slice_index_or k.variables.items y None ≡ o → slice_index_or k.variables.items y None ≡ Some f.cost
-    goes y f w e None a = absurd (L y f.cost (found_within s t k.variables.items v S y f e) (record { omitted = w; unknown =
-        a; found = f; at = e; cost = refl }))
+    goes y f w e None a = absurd (L y f.cost (found_within s t k.variables.items v S y f e) (record {
+      omitted = w;
+      unknown =
+          a;
+      found = f;
+      at = e;
+      cost = refl;
+    }))
     goes y f w e (Some c) a =
         let h = found_first s t k.variables.items v S y f e in
         let q = D.there y c w a in
@@ -532,9 +540,9 @@ set_none s ds vs m = record { fit = refl; set = λ y l w. absurd (omega (arith, 
 pub turned : (s : Syntax) (t : Target) (k k' : Known) (v : Sides) (m : Cost) (ds : List (Option Cost)) (vs vs' : List (Option Found)) (o : Option Cost)
     → ds ≡ k.variables.items → vs ≡ v.variables.items → vs' ≡ v.variables.items → o ≡ Some m →
     IsLeastNew s ds vs (length ds) o → IsSetBy s k.variables.items vs' m (length k.variables.items) k'.variables.items → k'.lattice ≡ k.lattice
-        → IsKnownOf s t k → AreFew k.variables.items → (now : Cost) × IsDistance s t k.variables.items now → AreSides s t k.variables.items (steps_of s) v →
+    → IsKnownOf s t k → AreFew k.variables.items → (now : Cost) × IsDistance s t k.variables.items now → AreSides s t k.variables.items (steps_of s) v →
     IsKnownOf s t k' × AreFew k'.variables.items × ((now : Cost) × IsDistance s t k'.variables.items now)
-        × (count_none k'.variables.items < count_none k.variables.items)
+    × (count_none k'.variables.items < count_none k.variables.items)
 turned s t k k' v m ds vs vs' o e f g h L N same K F D S =
     let L0 = subst (λ z. IsLeastNew s z vs (length z) o) e L in
     let L1 = subst (λ z. IsLeastNew s k.variables.items z (length k.variables.items) o) f L0 in

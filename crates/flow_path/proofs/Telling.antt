@@ -75,7 +75,7 @@ told_more x ll st st' h h' ws ws' k T n t = go t
           begins = subst (λ z. BeginsAt x w.chain.items z) (sym same) (subst (λ z. BeginsAt x z n.have) (sym way.begins) (n.begins, n.high));
           cheapest = λ q g b. subst (λ z. IsLe z (cost_of q)) (sym way.cost)
               (n.cheapest q w.label.number g b
-                  (λ c. high (subst (λ z. Flows (lattice_of x.program.order) z (joined (lattice_of x.program.order) ws)) same (T.flow w.label.number c))));
+              (λ c. high (subst (λ z. Flows (lattice_of x.program.order) z (joined (lattice_of x.program.order) ws)) same (T.flow w.label.number c))));
         }
 
 pub told_all : (x : Where) (st : State) (h : Heads) (ws : List Origin) (T : AreTold x st h ws) → AreAllTold x T.labels → AreAll x ws
@@ -120,13 +120,16 @@ module _ (s : Syntax) (valid : IsValid s) (ns : List Node) (cs : List Condition)
   goes_of (t ∷ ts) a b = (goes_on b.first t ts b.leads (all_every Free (t ∷ ts) b.omitted), (ap (λ z. written s z) b.leads.1 ∙ b.begins, refl))
 
   origin_is : (w : Origin) → IsTold x w → IsOrigin s spot w
-  origin_is w h = record { brings = brings_of w.chain.items w.label.number h.goes h.begins; cheapest = λ other b. let g =
-      goes_of other w.label.number b in h.cheapest other g.0 g.1 }
+  origin_is w h = record {
+    brings = brings_of w.chain.items w.label.number h.goes h.begins;
+    cheapest = λ other b. let g =
+        goes_of other w.label.number b in h.cheapest other g.0 g.1;
+  }
 
   pub origins_are : (ws kept : List Origin) → AreAll x ws → All (Contains ws) kept → All (IsOrigin s spot) kept
   origins_are ws kept A c =
       every_all (IsOrigin s spot) kept (every_map (Contains ws) (IsOrigin s spot) (λ w h. origin_is w (every_in (IsTold x) ws w A.told h)) kept
-          (all_every (Contains ws) kept c))
+      (all_every (Contains ws) kept c))
 
   -- a chain leads to an omitted label
   last_of : (t : Step) (ts : List Step) → Goes x (t ∷ ts) → (st : Step) × Contains (steps_of s) st × (st.side ≡ spot)
@@ -144,7 +147,7 @@ module _ (s : Syntax) (valid : IsValid s) (ns : List Node) (cs : List Condition)
   goes_omitted (t ∷ ts) g =
       let r = last_of t ts g in
       is_omitted spot free (subst (λ z. Proper s.order.size (written_levels (plan_of s)) z) r.2
-          (each_at (IsProper s.order.size (written_levels (plan_of s))) (steps_of s) r.0 (proper s valid) r.1).1)
+      (each_at (IsProper s.order.size (written_levels (plan_of s))) (steps_of s) r.0 (proper s valid) r.1).1)
 
   none_told : (ws : List Origin) → AreAll x ws → (IsOmitted s spot → ⊥) → ws ≡ []
   none_told [] A h = refl

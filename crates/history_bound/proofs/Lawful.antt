@@ -74,7 +74,7 @@ two_keep order good =
       read_label = λ k a er ew h h' s s' agree.
           let line = at_line order er h h' (agree Code) (agree Data) k in
           ap (λ n. n + cond (line_hits order k a er ew h || hits_at order Second (part_history k a ew h) er a) 0 30)
-              (cost_same order k a er ew h h' (agree Page) line)
+          (cost_same order k a er ew h h' (agree Page) line)
           ∙ ap (λ b. part_cost order k a er ew h' + cond (b || hits_at order Second (part_history k a ew h) er a) 0 30) (line_same order k a er ew h h' line)
           ∙ ap (λ b. part_cost order k a er ew h' + cond (line_hits order k a er ew h' || b) 0 30)
           (hits_same order Second er a (part_history k a ew h) (part_history k a ew h') (λ l f. part_agrees Second k a ew l h h' (agree Second l f)));

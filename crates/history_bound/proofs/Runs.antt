@@ -16,7 +16,7 @@ pub runs_by_history : {E : Type 0} (v : Env E) (structure : Place → Option (E 
     →
     ((order : Order) → DoesAs v (by_history order) order.size (Keeps structure order)) →
     ((order : Order) (touches : List Touch) → All (λ t. t.label.number < order.size) touches → Keeps structure order (made order touches) (history_of touches))
-        →
+    →
     RunsByHistory v structure made by_history
 runs_by_history v structure made by_history does starts c shaped memory touches below t =
     run_alike v (by_history c.order) c.order.size (Keeps structure c.order) (does c.order) c.instrs

@@ -75,7 +75,7 @@ module _ {E F : Type 0} (v : Env E) (w : Env F) (order : Order) (serves : E → 
   pairwise_over ss rs p h =
       each_over related (λ s. Each (Agree v (lattice_of order) serves g o s) ss) (λ r. Each (Agree w (lattice_of order) serves' g o r) rs)
       (λ s r q each. each_over related (Agree v (lattice_of order) serves g o s) (Agree w (lattice_of order) serves' g o r)
-          (λ s' r' q' a. agree_over s s' r r' q q' a) ss rs p each)
+      (λ s' r' q' a. agree_over s s' r r' q q' a) ss rs p each)
       ss rs p h
 
 module _ {E F : Type 0} (v : Env E) (w : Env F) (order : Order) (related : E → F → Type 0) (does : DoesAs v w order.size related) (image : List Instr)
@@ -128,7 +128,7 @@ begun_over related order g ls o p k (s ∷ ss) (r ∷ rs) q h = subst (λ m. Beg
 pub tell_same : {E F : Type 0} (v : Env E) (w : Env F) (order : Order) (serves : E → Type 0) (serves' : F → Type 0) (related : E → F → Type 0)
     → DoesAs v w order.size related → ((e : E) (f : F) → related e f → serves e × serves' f) →
     (g : ℕ → ℕ) (image : List Instr) → HasLabelsBelow order.size image → (o t : ℕ) → o < order.size
-        → (ss : List (Start E)) (rs : List (Start F)) → Paired related ss rs →
+    → (ss : List (Start E)) (rs : List (Start F)) → Paired related ss rs →
     TellSame v serves w serves' (lattice_of order) g image o t ss rs
 tell_same {E} {F} v w order serves serves' related does kept g image labels o t low ss rs p =
     record {

@@ -41,7 +41,7 @@ pub sets_from_numbers : (p : Place) (l : ℕ) (h h' : List Placed) → held_at p
 sets_from_numbers p l h h' e set below =
     sym (get_or-map-range_with_len (held_in p h l) 0 (sets_at p) set set [] below (omega arith))
     ∙ ap (λ rows. get_or rows set [])
-        (rows_from_numbers (map (held_in p h l) (range_with_len 0 (sets_at p))) (map (held_in p h' l) (range_with_len 0 (sets_at p))) e)
+    (rows_from_numbers (map (held_in p h l) (range_with_len 0 (sets_at p))) (map (held_in p h' l) (range_with_len 0 (sets_at p))) e)
     ∙ get_or-map-range_with_len (held_in p h' l) 0 (sets_at p) set set [] below (omega arith)
 
 pub numbers_from_sets : (p : Place) (l : ℕ) (h h' : List Placed) → ((set : ℕ) → set < sets_at p → held_in p h l set ≡ held_in p h' l set)
@@ -112,7 +112,7 @@ touch_agrees p q a ew l h h' e = go (cases_eq l ew) (sets_from_numbers p l h h' 
     go (inl same) alike =
         ap (λ n. held_at p n (touch_at q a ew h)) same
         ∙ numbers_from_sets p ew (touch_at q a ew h) (touch_at q a ew h')
-            (λ set below. in_own p q a ew h h' set below (λ s lt. ap (λ n. held_in p h n s) (sym same) ∙ alike s lt ∙ ap (λ n. held_in p h' n s) same))
+        (λ set below. in_own p q a ew h h' set below (λ s lt. ap (λ n. held_in p h n s) (sym same) ∙ alike s lt ∙ ap (λ n. held_in p h' n s) same))
         ∙ ap (λ n. held_at p n (touch_at q a ew h')) (sym same)
     go (inr ne) alike = touch_elsewhere p q a ew l h ne ∙ e ∙ sym (touch_elsewhere p q a ew l h' ne)
 

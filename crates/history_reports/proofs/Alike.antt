@@ -44,7 +44,7 @@ use Rattle.history_reports.specs.Reports.{AuditAlike, RunsTellAlike, AuditsTellA
 pub paired_made : {E F : Type 0} (related : E → F → Type 0) (made : Order → List Touch → E) (made' : Order → List Touch → F) (order : Order) →
     ((touches : List Touch) → All (λ t. t.label.number < order.size) touches → related (made order touches) (made' order touches)) →
     (vs : List StartValue) → All (λ s. All (λ t. t.label.number < order.size) s.touches) vs
-        → Paired related (starts_of made order vs) (starts_of made' order vs)
+    → Paired related (starts_of made order vs) (starts_of made' order vs)
 paired_made related made made' order both [] all = tt
 paired_made related made made' order both (s ∷ vs) all = (
   (refl, both s.touches (All-head (λ (s : StartValue). All (λ (t : Touch). t.label.number < order.size) s.touches) s vs all)),
@@ -219,19 +219,27 @@ audit_alike : {E F : Type 0} (v : Env E) (w : Env F) (p : LabelledProgram) (serv
     (related : E → F → Type 0) → DoesAs v w p.program.order.size related
     → ((e : E) (f : F) → related e f → serves p.program.order e × serves' p.program.order f) →
     HasLabelsBelow p.program.order.size (lowered p).instrs → (o t : ℕ) → o < p.program.order.size → (ss : List (Start E)) (rs : List (Start F))
-        → Paired related ss rs → AuditAlike v serves w serves' p o t ss rs
+    → Paired related ss rs → AuditAlike v serves w serves' p o t ss rs
 audit_alike {E} {F} v w p serves serves' related does kept labels o t low ss rs q =
     record {
       agree = (all_agree v w p serves serves' related does there o low ss rs q, all_agree w v p serves' serves back does' here o low rs ss q');
       shown = show_all v w p serves serves' related does there o low labels t ss rs q;
-      report = λ r. (report_over v w p serves serves' related does there o low labels t ss rs q r,
-          report_over w v p serves' serves back does' here o low labels t rs ss q' r);
-      fault = λ f. (fault_over v w p serves serves' related does there o low labels t ss rs q f,
-          fault_over w v p serves' serves back does' here o low labels t rs ss q' f);
-      cut_report = λ r. (cut_report_over v w p serves serves' related does there o low labels t ss rs q r,
-          cut_report_over w v p serves' serves back does' here o low labels t rs ss q' r);
-      cut_fault = λ f. (cut_fault_over v w p serves serves' related does there o low labels t ss rs q f,
-          cut_fault_over w v p serves' serves back does' here o low labels t rs ss q' f);
+      report = λ r. (
+        report_over v w p serves serves' related does there o low labels t ss rs q r,
+        report_over w v p serves' serves back does' here o low labels t rs ss q' r,
+      );
+      fault = λ f. (
+        fault_over v w p serves serves' related does there o low labels t ss rs q f,
+        fault_over w v p serves' serves back does' here o low labels t rs ss q' f,
+      );
+      cut_report = λ r. (
+        cut_report_over v w p serves serves' related does there o low labels t ss rs q r,
+        cut_report_over w v p serves' serves back does' here o low labels t rs ss q' r,
+      );
+      cut_fault = λ f. (
+        cut_fault_over v w p serves serves' related does there o low labels t ss rs q f,
+        cut_fault_over w v p serves' serves back does' here o low labels t rs ss q' f,
+      );
     }
   where
     back : F → E → Type 0
@@ -273,7 +281,7 @@ module _ {E F : Type 0} (v : Env E) (made : Order → List Touch → E) (w : Ord
       → ((order : Order) (e : E) (f : F) → related order e f → serves order e × serves' order f) → AuditsTellAlike v made w made' serves serves'
   audits_tell_alike serves serves' kept p shaped o t low vs all =
       audit_alike v (w p.program.order) p serves serves' (related p.program.order) (does p.program.order) (kept p.program.order)
-          (labels_below (lowered p) shaped) o t low
+      (labels_below (lowered p) shaped) o t low
       (starts_of made p.program.order vs) (starts_of made' p.program.order vs)
       (paired_made (related p.program.order) made made' p.program.order (starts p.program.order) vs (touches_of vs all))
     where

@@ -33,15 +33,25 @@ bound_next e t p q o code ss = HasBound e t q o ss
 pub bound_tells : (e : EnvName) (t : ℕ) (q : LabelledProgram) (l : Label) (xs ss : List StartValue) (r : AuditReport) (levels found : List LevelRuns)
     (order : Order) (none audited x : List ℕ) →
     ReportsIn e q l.number t ss r → xs ≡ ss → AreTold q l.number (memories_of xs) levels → order ≡ q.program.order → none ≡ []
-        → audited ≡ none ++ audit_lines order l t r → found ≡ levels → BoundPut order l.number t found audited x →
+    → audited ≡ none ++ audit_lines order l t r → found ≡ levels → BoundPut order l.number t found audited x →
     HasBound e t q (Some l) ss status.Done x
 bound_tells e t q l xs ss r levels found order none audited x reports same told is empty a e' put =
     let rest = put.0 in
     let text : IsBoundText q.program.order l.number t levels rest =
-        subst (λ (z : Order). IsBoundText z l.number t levels rest) is (subst (λ z. IsBoundText order l.number t z rest) e' put.1) in
+    subst (λ (z : Order). IsBoundText z l.number t levels rest) is (subst (λ z. IsBoundText order l.number t z rest) e' put.1) in
     let before : audited ≡ audit_lines q.program.order l t r = a ∙ ap (λ z. z ++ audit_lines order l t r) empty ∙ ap (λ (z : Order). audit_lines z l t r) is in
-    inr (r, reports, (refl, levels, subst (λ (z : List StartValue). AreTold q l.number (memories_of z) levels) same told, rest, text,
-        put.2 ∙ ap (λ z. z ++ rest) before))
+    inr (
+      r,
+      reports,
+      (
+        refl,
+        levels,
+        subst (λ (z : List StartValue). AreTold q l.number (memories_of z) levels) same told,
+        rest,
+        text,
+        put.2 ∙ ap (λ z. z ++ rest) before,
+      ),
+    )
 
 pub bound_stop : (e : EnvName) (t : ℕ) (q : LabelledProgram) (l : Label) (ss : List StartValue) (s : Stop) → IsStop (AuditStops e t q l ss) s
     → IsStop (HasBound e t q (Some l) ss) s
@@ -74,5 +84,5 @@ pub completes : (old new : Option (List ℕ)) (Rises : List ℕ → Type 0) (con
 completes old new Rises content file starts observer e t r Rose ends write can one other n =
     ends_done old new Nothing (IsBoundAnswer Rises content file starts observer e t) r ends (λ w. n (write w))
     (λ x h. prepared_done r h.0 Rises content file observer (Rises starts) (content starts)
-        (λ q o ss. OfObserver (λ l. CanBeAudited e t q l ss) o) (bound_next e t)
+    (λ q o ss. OfObserver (λ l. CanBeAudited e t q l ss) o) (bound_next e t)
     one can.known other can.known_starts can.goes (λ p q o code ss good next. bound_done e t q o ss r h.0 good next) h.1)

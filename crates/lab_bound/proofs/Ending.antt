@@ -50,7 +50,7 @@ module _ {E : Type 0} (v : Env E) (image : List Instr) (lat : Lattice) (g : ℕ 
           let far : steps v image (l.count + n) x ≡ steps v image n y = steps-add v image l.count n x ∙ ap (steps v image n) l.ends in
           let same : steps v image (l.count + n) x ≡ steps v image (suc n) x =
           ap (λ k. steps v image k x) (sym sum) ∙ steps-add v image (suc n) (l.count + n - suc n) x
-              ∙ stays v image (l.count + n - suc n) (steps v image (suc n) x) h in
+          ∙ stays v image (l.count + n - suc n) (steps v image (suc n) x) h in
           rec y z (ap (λ w. w.halted) (sym far ∙ same) ∙ h)
 
   -- a machine that has not halted has taken a cycle for each step
@@ -86,7 +86,7 @@ module _ {E : Type 0} (v : Env E) (image : List Instr) (lat : Lattice) (g : ℕ 
             let sum : r.count + (suc t - r.count) ≡ suc t = omega (arith, lt) in
             absurd (both_ways (steps v image (suc t) x).halted e
             (ap (λ k. (steps v image k x).halted) (sym sum)
-                ∙ ap (λ z. z.halted) (steps-add v image r.count (suc t - r.count) x ∙ stays v image (suc t - r.count) (steps v image r.count x) stop) ∙ stop)))
+            ∙ ap (λ z. z.halted) (steps-add v image r.count (suc t - r.count) x ∙ stays v image (suc t - r.count) (steps v image r.count x) stop) ∙ stop)))
             (λ (le : suc t ≤ r.count).
             let sum : suc t + (r.count - suc t) ≡ r.count = omega (arith, le) in
             let c = steps_clock v image (r.count - suc t) (steps v image (suc t) x) (steps_sane v image (suc t) x tt) in

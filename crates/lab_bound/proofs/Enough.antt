@@ -72,7 +72,7 @@ module _ (q : LabelledProgram) (o : ℕ) where
   pub begins_each_one : (m : List ℤ) (c d : ℕ → ℕ) → Each' m c → Each' m d → (l : ℕ) → c l ≡ d l
   begins_each_one m c d a b l =
       sym (a.2 l) ∙ ap (λ z. count_by (relevant_at (order_of q) (labels_of q) (levels_of q) o (plan_of q.program) l) (started_in z))
-          (ended_same (plan_of q.program) m a.0 b.0 a.1 b.1) ∙ b.2 l
+      (ended_same (plan_of q.program) m a.0 b.0 a.1 b.1) ∙ b.2 l
 
   begins_each_with : (m : List ℤ) (c d : ℕ → ℕ) → ((l : ℕ) → c l ≡ d l) → Each' m c → Each' m d
   begins_each_with m c d same a = (a.0, a.1, λ l. a.2 l ∙ same l)
@@ -88,13 +88,17 @@ module _ {E : Type 0} (v : Env E) (serves : Order → E → Type 0) (made : Orde
       → ((l x : ℕ) → PredictedIn (relevant_at (order_of q) (labels_of q) (levels_of q) o (plan_of q.program) l) (plan_of q.program) (memories_of ss) x
       → FirstsOf levels l ≤ x) →
       Each (λ s. PredictsBy v (order_of q) (labels_of q) (levels_of q) (lowered q).instrs (plan_of q.program) o t (FirstsOf levels) s)
-          (starts_of made q.program.order ss)
+      (starts_of made q.program.order ss)
   predicts_each [] levels h = tt
   predicts_each (s ∷ ss) levels h = (
     λ n lt. predicts_next Rel (levels_of q) (FirstsOf levels) (source_steps n (source_start (commands_of (plan_of q.program)) s.memory)).todo
         (source_steps n (source_start (commands_of (plan_of q.program)) s.memory)).memory
-        (λ k x is in'. h (levels_of q k) x (inl (n, k, sym (bare_after (plan_of q.program) s.memory n) ∙ is,
-            and_from (Rel k) (eqb (levels_of q k) (levels_of q k)) in' (eq-eqb (levels_of q k) (levels_of q k) refl)))),
+        (λ k x is in'. h (levels_of q k) x (inl (
+          n,
+          k,
+          sym (bare_after (plan_of q.program) s.memory n) ∙ is,
+          and_from (Rel k) (eqb (levels_of q k) (levels_of q k)) in' (eq-eqb (levels_of q k) (levels_of q k) refl),
+        ))),
     predicts_each ss levels (λ l x k. h l x (inr k)),
   )
 
@@ -123,22 +127,22 @@ module _ {E : Type 0} (v : Env E) (serves : Order → E → Type 0) (made : Orde
   found : SharpSound v q.program.order (serves q.program.order) (labels_of q) (levels_of q) (lowered q).instrs (plan_of q.program)
       → o < q.program.order.size → 0 < t →
       (ss : List StartValue) (r : AuditReport) (levels : List LevelRuns) → IsReport v serves q o t (starts_of made q.program.order ss) r
-          → AreTold q o (memories_of ss) levels → Found ss levels
+      → AreTold q o (memories_of ss) levels → Found ss levels
   found sound low some ss r levels is h =
       let firsts = FirstsOf levels in
       let few = sound.few o low t some (starts_of made q.program.order ss) is.agree is.halted firsts (predicts_each ss levels (λ l x k. (h.first l).least x k))
-          same_sequence tests_sequences in
+      same_sequence tests_sequences in
       let counts = few.0 in
       let each = each_memory (λ m. BeginsEach (order_of q) (labels_of q) (levels_of q) o (plan_of q.program) m counts) ss few.1 in
       let size : q.program.order.size ≡ length levels = sym h.size in
       go ss levels counts h each (subst
-          (λ n. FewShown (sequence_from v q o t) same_sequence (starts_of made q.program.order ss) (sharp (ends_by t firsts) n counts)) size few.2)
-          (counts_same ss levels counts each h.begun)
+      (λ n. FewShown (sequence_from v q o t) same_sequence (starts_of made q.program.order ss) (sharp (ends_by t firsts) n counts)) size few.2)
+      (counts_same ss levels counts each h.begun)
     where
       go : (ss : List StartValue) (levels : List LevelRuns) (counts : ℕ → ℕ) → AreTold q o (memories_of ss) levels
           → Each (λ m. BeginsEach (order_of q) (labels_of q) (levels_of q) o (plan_of q.program) m counts) (memories_of ss) →
           FewShown (sequence_from v q o t) same_sequence (starts_of made q.program.order ss) (sharp (ends_by t (FirstsOf levels)) (length levels) counts)
-              → (ss ≡ []) ⊎ ((l : ℕ) → counts l ≡ counts_of levels l) → Found ss levels
+          → (ss ≡ []) ⊎ ((l : ℕ) → counts l ≡ counts_of levels l) → Found ss levels
       go ss levels counts h each few (inl none) =
           subst (λ (z : List StartValue). Found z levels) (sym none)
           (record { begun = tt; few = record { count = omega arith; best_few = λ w. omega arith; guess = λ w g. omega arith } })
@@ -169,7 +173,7 @@ module _ (flat : LoweredSharpAll flat_env (λ order e. Unit {0})) (part : Lowere
   pub all_enough : AllAreEnough
   all_enough Flat t some words p q o ss r levels spelled types low is h =
       let f = found flat_env (λ order e. Unit {0}) flat_made q o t (flat q (typed_with words p q spelled types))
-          (below p q o types low) some ss r levels is h in
+      (below p q o types low) some ss r levels is h in
       record { begun = f.begun; few = f.few; counted = counted flat_env (λ order e. Unit {0}) flat_made q o t ss r levels is f }
   all_enough Part t some words p q o ss r levels spelled types low is h =
       let v = part_by_history q.program.order in

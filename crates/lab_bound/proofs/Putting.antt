@@ -19,10 +19,10 @@ module _ (order : Order) (o t : ℕ) (levels : List LevelRuns) (old : List ℕ) 
 
   next_lines : (i : ℕ) → i < length levels →
       level_lines order o t i (drop i levels) ≡ cond ((lattice_of order).flows i o) [] (level_line order t i (told_of levels i))
-          ++ level_lines order o t (i + 1) (drop (i + 1) levels)
+      ++ level_lines order o t (i + 1) (drop (i + 1) levels)
   next_lines i lt =
       ap (level_lines order o t i) (drop-cons levels i (record { mitigations = 0; first = 0 }) lt
-          ∙ ap (λ n. told_of levels i ∷ drop n levels) (sym (add-one i)))
+      ∙ ap (λ n. told_of levels i ∷ drop n levels) (sym (add-one i)))
 
   -- one level more
   pub next_put : (i l : ℕ) (now new : List ℕ) → i < length levels → l ≡ i → LevelsPut order o t levels old i now →
@@ -39,7 +39,7 @@ module _ (order : Order) (o t : ℕ) (levels : List LevelRuns) (old : List ℕ) 
 -- the three lines of a count that is told
 pub count_put : (count : Option ℕ) (n b : ℕ) (old x y new : List ℕ) → count ≡ Some n → n ≤ 2 ^ b → ((c : ℕ) → n ≤ 2 ^ c → b ≤ c) →
     x ≡ old ++ (number_text (codes "sharp ") n ++ codes "\n") → y ≡ x ++ (number_text (codes "bits ") b ++ codes "\n")
-        → new ≡ y ++ (number_text (codes "guess at most ") n ++ codes " times as often\n") → SharpPut count old new
+    → new ≡ y ++ (number_text (codes "guess at most ") n ++ codes " times as often\n") → SharpPut count old new
 count_put count n b old x y new is enough least e f g =
     let one = number_text (codes "sharp ") n ++ codes "\n" in
     let two = number_text (codes "bits ") b ++ codes "\n" in

@@ -35,7 +35,7 @@ same_list (x ∷ a) (y ∷ b) e h = ap (λ z. z ∷ a) (h 0) ∙ ap (λ z. y ∷
 same_told : (t u : LevelRuns) → t.mitigations ≡ u.mitigations → t.first ≡ u.first → t ≡ u
 same_told t u e f =
     ap (λ z. let r : LevelRuns = record { mitigations = z; first = t.first } in r) e
-        ∙ ap (λ z. let r : LevelRuns = record { mitigations = u.mitigations; first = z } in r) f
+    ∙ ap (λ z. let r : LevelRuns = record { mitigations = u.mitigations; first = z } in r) f
 
 same_counts : (q : LabelledProgram) (o : ℕ) (ms : List (List ℤ)) (c d : ℕ → ℕ) → FirstBeginsEach q o ms c → FirstBeginsEach q o ms d → (l : ℕ) → c l ≡ d l
 same_counts q o [] c d h k l = h l ∙ sym (k l)
@@ -47,7 +47,7 @@ one_told q o ms a b h k =
     same_list a b (h.size ∙ sym k.size)
     (λ l. same_told (told_of a l) (told_of b l) (same_counts q o ms (counts_of a) (counts_of b) h.begun k.begun l)
     (one_least (PredictedIn (relevant_at (order_of q) (labels_of q) (levels_of q) o (plan_of q.program) l) (plan_of q.program) ms) (told_of a l).first
-        (told_of b l).first (h.first l) (k.first l)))
+    (told_of b l).first (h.first l) (k.first l)))
 
 one_bits : (n b c : ℕ) → IsBits n b → IsBits n c → b ≡ c
 one_bits n b c h k = let x = h.least c k.enough in let y = k.least b h.enough in omega (arith, x, y)
@@ -56,8 +56,8 @@ one_sharp : (count : Option ℕ) (x y : List ℕ) → IsSharpText count x → Is
 one_sharp None x y h k = h ∙ sym k
 one_sharp (Some n) x y h k =
     h.2 ∙ ap (λ b. (number_text (codes "sharp ") n ++ codes "\n")
-        ++ ((number_text (codes "bits ") b ++ codes "\n") ++ (number_text (codes "guess at most ") n ++ codes " times as often\n")))
-        (one_bits n h.0 k.0 h.1 k.1) ∙ sym k.2
+    ++ ((number_text (codes "bits ") b ++ codes "\n") ++ (number_text (codes "guess at most ") n ++ codes " times as often\n")))
+    (one_bits n h.0 k.0 h.1 k.1) ∙ sym k.2
 
 one_text : (order : Order) (o t : ℕ) (a b : List LevelRuns) (x y : List ℕ) → a ≡ b → IsBoundText order o t a x → IsBoundText order o t b y → x ≡ y
 one_text order o t a b x y e h k =
@@ -81,4 +81,4 @@ one_bound_in_lab content before now file starts observer e t s u x y known known
     let rises = λ (name : List ℕ). Rose (before name) (now name) in
     one_in_lab (Bounds rises content file starts observer e t) s u x y
     (λ m n a b. prepares_one s u m n rises content file observer (rises starts) (content starts) (bound_next e t) one known other known_starts
-        (λ p q o code ss. one_bound e t q o ss s u m n) a b) h k
+    (λ p q o code ss. one_bound e t q o ss s u m n) a b) h k

@@ -71,17 +71,17 @@ fields_are_few sound words p q spelled types Flat t some l low ss agree same tes
     fields_few flat_env flat_made q l t (λ order e. Unit {0}) (below p q l.number types low) some (sound words p q spelled types).flat.cut ss agree same tests
 fields_are_few sound words p q spelled types Part t some l low ss agree same tests =
     fields_few (part_by_history q.program.order) history_made q l t AnyHistory (below p q l.number types low) some
-        (sound words p q spelled types).part.cut ss agree same tests
+    (sound words p q spelled types).part.cut ss agree same tests
 fields_are_few sound words p q spelled types Part2 t some l low ss agree same tests =
     fields_few (part2_by_history q.program.order) history_made q l t AnyHistory (below p q l.number types low) some
-        (sound words p q spelled types).part2.cut ss agree same tests
+    (sound words p q spelled types).part2.cut ss agree same tests
 
 pub fields_within_cut : SpelledAreSound → FieldsAreWithinCut
 fields_within_cut sound words p q spelled types Flat t some l low ss r is same tests =
     within_cut flat_env flat_made q l t (λ order e. Unit {0}) (below p q l.number types low) some (sound words p q spelled types).flat.cut ss r is same tests
 fields_within_cut sound words p q spelled types Part t some l low ss r is same tests =
     within_cut (part_by_history q.program.order) history_made q l t AnyHistory (below p q l.number types low) some
-        (sound words p q spelled types).part.cut ss r is same tests
+    (sound words p q spelled types).part.cut ss r is same tests
 fields_within_cut sound words p q spelled types Part2 t some l low ss r is same tests =
     within_cut (part2_by_history q.program.order) history_made q l t AnyHistory (below p q l.number types low) some
-        (sound words p q spelled types).part2.cut ss r is same tests
+    (sound words p q spelled types).part2.cut ss r is same tests

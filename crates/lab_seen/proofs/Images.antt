@@ -60,7 +60,7 @@ module _ {V W : Type 0} (f : V → W) (same : V → V → Bool) (same' : W → W
         let two = few (λ w. not (same' (f v) w) && p w) in
         let three = filter_less (λ y. not (same' (f v) (f y)) && p (f y)) (λ y. not (same v y) && p (f y))
         (λ y e. both_true (not (same v y)) (p (f y)) (apart v y (both_first (not (same' (f v) (f y))) (p (f y)) e))
-            (both_second (not (same' (f v) (f y))) (p (f y)) e)) (distinct same vs) in
+        (both_second (not (same' (f v) (f y))) (p (f y)) e)) (distinct same vs) in
         let four = ap length (filter_both (λ v. p (f v)) (λ y. not (same v y)) (distinct same vs)) in
         omega (arith, one, two, three, four)
 
@@ -69,7 +69,7 @@ module _ {V W : Type 0} (f : V → W) (same : V → V → Bool) (same' : W → W
         → length (cond b (f v ∷ filter p (filter (λ w. not (same' (f v) w)) (distinct same' (map f vs))))
         (filter p (filter (λ w. not (same' (f v) w)) (distinct same' (map f vs)))))
         ≤ length (cond b (v ∷ filter (λ v. p (f v)) (filter (λ y. not (same v y)) (distinct same vs)))
-            (filter (λ v. p (f v)) (filter (λ y. not (same v y)) (distinct same vs))))
+        (filter (λ v. p (f v)) (filter (λ y. not (same v y)) (distinct same vs))))
     with_first true h = omega (arith, h)
     with_first false h = h
 

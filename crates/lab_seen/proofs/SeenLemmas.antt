@@ -35,11 +35,11 @@ module _ (Rises : List ℕ → Type 0) (content : Content) (file starts observer
       → EndsBy old new (SeenBefore content file starts observer e budget) (IsSeen Rises content file starts observer e budget) r
   seen_stops old new stop r h told prefix =
       ends_finish old new (SeenBefore content file starts observer e budget) (IsSeen Rises content file starts observer e budget) (status_of stop)
-          (lab_text (status_of stop) (stop_text stop)) r
+      (lab_text (status_of stop) (stop_text stop)) r
       (stop_in_lab (SeenBefore content file starts observer e budget) (PrepareStops Rises content file observer (Rises starts) (content starts))
-          (Begins Rises content file starts (Some observer) (AreLines e budget)) stop (inl refl)
+      (Begins Rises content file starts (Some observer) (AreLines e budget)) stop (inl refl)
       (λ u. prepares_map Rises content file observer (Rises starts) (content starts) (λ p q o code ss. NoMore) next (status_of stop) u
-          (λ p q o code ss n. absurd n)) h)
+      (λ p q o code ss n. absurd n)) h)
       told prefix
 
   module _ (q : LabelledProgram) (l : Label) (code : Code) (ss : List StartValue) (h : IsPrepared content file observer (content starts) q l code ss) where
@@ -66,6 +66,8 @@ module _ (Rises : List ℕ → Type 0) (content : Content) (file starts observer
     seen_short old mid new r some told prefix =
         let few = texts (line_in e budget q l code) (take some.runs ss) in
         ends_after old mid new (SeenBefore content file starts observer e budget) (IsSeen Rises content file starts observer e budget) few
-            status.Memory memory_line r some.written
-        (few, inr (record { labelled = q; observed = Some l; code = code; compiled = h.compiled; all = ss; given = h.starts; runs = some.runs; told = refl }),
-            refl) told prefix
+        status.Memory memory_line r some.written (
+          few,
+          inr (record { labelled = q; observed = Some l; code = code; compiled = h.compiled; all = ss; given = h.starts; runs = some.runs; told = refl }),
+          refl,
+        ) told prefix

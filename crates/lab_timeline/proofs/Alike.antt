@@ -70,7 +70,7 @@ module _ {E F : Type 0} (v : Env E) (w : Env F) (n : ℕ) (related : E → F →
           let clock : (fetched v m x.place x.core).clock ≡ (fetched w m x.place (core_in f x.core)).clock =
           ap (λ z. x.core.clock + (1 + z)) (does.cost InCode (4 * x.place) m.er m.ew x.core.env f low.0 low.1 r) in
           telling_same i.work x.operands x.opened (fetched v m x.place x.core) (fetched w m x.place (core_in f x.core)) (step v image x).core.clock
-              (step w image (machine_in f x)).core.clock clock refl after
+          (step w image (machine_in f x)).core.clock clock refl after
 
   told_alike : (x : Machine E) (y : Machine F) → AreAlike related x y → told v image x ≡ told w image y
   told_alike x y a = told_same x y.core.env a.envs ∙ ap (told w image) (sym a.same)
@@ -90,7 +90,7 @@ module _ {E F : Type 0} (v : Env E) (w : Env F) (n : ℕ) (related : E → F →
       let test : (leb (step w image y).core.clock t && not y.halted) ≡ (leb (step v image x).core.clock t && not x.halted) =
       ap (λ z. leb z.core.clock t && not y.halted) next.same ∙ ap (λ z. leb (step v image x).core.clock t && not z.halted) a.same in
       subst (λ b. (j : ℕ) × (run_for v image t (suc k) x ≡ steps v image j x)
-          × (cond b (run_for w image t k (step w image y)) y ≡ steps w image j y)) (sym test)
+      × (cond b (run_for w image t k (step w image y)) y ≡ steps w image j y)) (sym test)
       (goes (leb (step v image x).core.clock t && not x.halted) (together t k (step v image x) (step w image y) next))
     where
       goes : (b : Bool) → ((j : ℕ) × (run_for v image t k (step v image x) ≡ steps v image j (step v image x))
@@ -117,7 +117,7 @@ module _ {E F : Type 0} (v : Env E) (made : Order → List Touch → E) (w : Ord
       → TimelinesTellAlike v made w made'
   timelines_tell_alike related does starts c shaped s below t ms h =
       timeline_over v (w c.order) c.order.size (related c.order) (does c.order) c.instrs (λ a i e. let fine = shaped.1.each a i e in
-          (fine.er, fine.ew)) t s.memory (made c.order s.touches) (made' c.order s.touches) ms
+      (fine.er, fine.ew)) t s.memory (made c.order s.touches) (made' c.order s.touches) ms
       (starts c.order s.touches below) h
 
   -- of the image of a program
@@ -126,5 +126,5 @@ module _ {E F : Type 0} (v : Env E) (made : Order → List Touch → E) (w : Ord
       → IsTimeline v code.instrs t (start_of made q.program.order s) ms → IsTimeline (w q.program.order) code.instrs t (start_of made' q.program.order s) ms
   timeline_of_image alike q code is shaped s fits t ms h =
       subst (λ (z : Code). IsShaped z → IsTimeline v z.instrs t (start_of made q.program.order s) ms
-          → IsTimeline (w q.program.order) z.instrs t (start_of made' q.program.order s) ms) (sym is)
+      → IsTimeline (w q.program.order) z.instrs t (start_of made' q.program.order s) ms) (sym is)
       (λ shaped k. alike (lowered q) shaped s fits.touches t ms k) shaped h

@@ -37,10 +37,10 @@ module _ (Rises : List ℕ → Type 0) (content : Content) (file starts : List �
   starts_stop_runs R held q o code p e f same is h stop =
       let at : IsStop (StartStops R (content starts) h.program) e =
       subst (λ (z : Syntax). IsStop (StartStops R (content starts) z) e) (is ∙ h.types.program)
-          (subst (λ (z : Option (Option (List ℕ))). IsStop (StartStops R z p) e) same stop) in
+      (subst (λ (z : Option (Option (List ℕ))). IsStop (StartStops R z p) e) same stop) in
       broke_map (StartStops R (content starts) h.program) (BeginStops Rises content file starts observer) (status_of e) (stop_text e)
       (λ k. compiled_goes Rises content file observer q o code stop_next (status_of e) (stop_text e) h
-          (inl (start_rise R (Rises starts) (content starts) h.program (status_of e) (stop_text e) f k))) at
+      (inl (start_rise R (Rises starts) (content starts) h.program (status_of e) (stop_text e) f k))) at
 
   module _ (IsText : OfRuns) where
     abbrev text_next : Syntax → LabelledProgram → Option Label → Code → Status → List ℕ → Type 0
@@ -52,7 +52,7 @@ module _ (Rises : List ℕ → Type 0) (content : Content) (file starts : List �
     stops_command s t =
         compiles_map Rises content file observer stop_next text_next s t
         (λ p q o code. then_map (StartStops (Rises starts) (content starts) p) (StartsAre (content starts) p) (λ ss. NoMore) (λ ss s t. (s ≡ status.Done)
-            × IsText q o code ss t) s t (λ ss n. absurd n))
+        × IsText q o code ss t) s t (λ ss n. absurd n))
 
     -- the text of the runs is the answer
     pub begun_answers : (q : LabelledProgram) (o : Option Label) (code : Code) (ss : List StartValue) (t : List ℕ)
@@ -60,7 +60,7 @@ module _ (Rises : List ℕ → Type 0) (content : Content) (file starts : List �
         → Begins Rises content file starts observer IsText status.Done t
     begun_answers q o code ss t h is =
         let given : StartsAre (content starts) h.compiled.program ss =
-            subst (λ (z : Syntax). StartsAre (content starts) z ss) h.compiled.types.program h.given in
+        subst (λ (z : Syntax). StartsAre (content starts) z ss) h.compiled.types.program h.given in
         compiled_goes Rises content file observer q o code text_next status.Done t h.compiled (inr (ss, given, (refl, is)))
 
 pub begun_of : (content : Content) (file starts : List ℕ) (observer : Option (List ℕ)) (held : Option (Option (List ℕ))) (q : LabelledProgram)
@@ -68,8 +68,11 @@ pub begun_of : (content : Content) (file starts : List ℕ) (observer : Option (
     → held ≡ content starts → p ≡ q.program → HasCompiled content file observer q o code → StartsAre held p ss
     → IsBegun content file starts observer q o code ss
 begun_of content file starts observer held q o code p ss same is h are =
-    record { compiled = h; given = subst (λ (z : Syntax). StartsAre (content starts) z ss) is
-        (subst (λ (z : Option (Option (List ℕ))). StartsAre z p ss) same are) }
+    record {
+      compiled = h;
+      given = subst (λ (z : Syntax). StartsAre (content starts) z ss) is
+          (subst (λ (z : Option (Option (List ℕ))). StartsAre z p ss) same are);
+    }
 
 pub begun_fits : (content : Content) (file starts : List ℕ) (observer : Option (List ℕ)) (q : LabelledProgram) (o : Option Label) (code : Code)
     (p : Syntax) (ss : List StartValue)

@@ -30,9 +30,9 @@ module _ (Rises : List ℕ → Type 0) (content : Content) (file starts : List �
       → EndsBy old new (TimelinesBefore content file starts observer e budget) (TellsTimelines Rises content file starts observer e budget) r
   timeline_stops old new stop r h told prefix =
       ends_finish old new (TimelinesBefore content file starts observer e budget) (TellsTimelines Rises content file starts observer e budget) (status_of stop)
-          (lab_text (status_of stop) (stop_text stop)) r
+      (lab_text (status_of stop) (stop_text stop)) r
       (stop_in_lab (TimelinesBefore content file starts observer e budget) (BeginStops Rises content file starts observer)
-          (Begins Rises content file starts observer (AreTimelines e budget)) stop (inl refl)
+      (Begins Rises content file starts observer (AreTimelines e budget)) stop (inl refl)
       (λ u. stops_command Rises content file starts observer (AreTimelines e budget) (status_of stop) u) h)
       told prefix
 
@@ -55,12 +55,16 @@ module _ (Rises : List ℕ → Type 0) (content : Content) (file starts : List �
         → EndsBy old new (TimelinesBefore content file starts observer e budget) (TellsTimelines Rises content file starts observer e budget) r
     timeline_short mid new r w told prefix =
         ends_after old mid new (TimelinesBefore content file starts observer e budget) (TellsTimelines Rises content file starts observer e budget) w.text
-            status.Memory memory_line r w.written
+        status.Memory memory_line r w.written
         (w.text, begun w.count w.text w.runs, refl) told prefix
 
     -- a write failed
     pub timeline_broke : (new : Option (List ℕ)) → BreaksFew e budget q o code ss old new ⊎ BreaksAll e budget q o code ss old new
         → EndsBy old new (TimelinesBefore content file starts observer e budget) (TellsTimelines Rises content file starts observer e budget) status.WriteFault
-    timeline_broke new (inl w) = (status.Memory, w.text ++ memory_line, (w.text, begun w.count w.text w.runs, refl),
-        prefix_longer old new w.text memory_line w.written)
+    timeline_broke new (inl w) = (
+      status.Memory,
+      w.text ++ memory_line,
+      (w.text, begun w.count w.text w.runs, refl),
+      prefix_longer old new w.text memory_line w.written,
+    )
     timeline_broke new (inr w) = (status.Done, w.text, answer w.text w.timelines, w.written)

@@ -68,8 +68,12 @@ module _ {E : Type 0} (v : Env E) (code : Code) (t : ℕ) where
     head_breaks h =
         let run = has_timeline s in
         let end = end_of_run v code.instrs t s in
-        record { moments = run.0; timeline = run.1; written =
-            prefix_longer old new (run_text number) (timeline_text q o run.0 end) (subst (AppendsPrefix old new) is h) }
+        record {
+          moments = run.0;
+          timeline = run.1;
+          written =
+              prefix_longer old new (run_text number) (timeline_text q o run.0 end) (subst (AppendsPrefix old new) is h);
+        }
 
     -- or after it
     pub rest_breaks : (from : Start E) → from ≡ s → Appends old mid head → PrintedPart v code.instrs t from q o mid new
@@ -88,7 +92,7 @@ module _ {E : Type 0} (v : Env E) (code : Code) (t : ℕ) where
         → WritesRun v code t s q o number old new tallies more
     run_written from tallies more same h printed =
         let at : Printed v code.instrs t s q o mid new tallies more =
-            subst (λ (z : Start E). Printed v code.instrs t z q o mid new tallies more) same printed in
+        subst (λ (z : Start E). Printed v code.instrs t z q o mid new tallies more) same printed in
         record {
           moments = at.moments;
           timeline = at.timeline;
@@ -124,8 +128,11 @@ module _ (e : EnvName) (t : ℕ) (q : LabelledProgram) (o : Option Label) (code 
       timed = tt;
       written = Appends-nil old;
       tallied = record { each = nothing };
-      counted = λ k d lt. (let z = ap (λ y. y.ended) (nothing k d lt) in omega (arith, z), let y = ap (λ y. y.ended) (nothing k d lt) in let z =
-          ap (λ y. y.missed) (nothing k d lt) in omega (arith, y, z));
+      counted = λ k d lt. (
+        let z = ap (λ y. y.ended) (nothing k d lt) in omega (arith, z),
+        let y = ap (λ y. y.ended) (nothing k d lt) in let z =
+            ap (λ y. y.missed) (nothing k d lt) in omega (arith, y, z),
+      );
       count = many;
     }
 
@@ -148,7 +155,7 @@ module _ (e : EnvName) (t : ℕ) (q : LabelledProgram) (o : Option Label) (code 
         → AllZip (IsTimed e t q.program.order code) (take (i + 1) ss) (runs ++ run ∷ [])
     timed_more runs run zip is =
         subst (λ z. AllZip (IsTimed e t q.program.order code) z (runs ++ run ∷ [])) (sym (take_one ss i s from))
-            (zip_last (IsTimed e t q.program.order code) (take i ss) runs s run zip is)
+        (zip_last (IsTimed e t q.program.order code) (take i ss) runs s run zip is)
 
     texts_more : (runs : List Timed) (run : Timed) → AllZip (IsTimed e t q.program.order code) (take i ss) runs
         → texts (run_lines q o) runs ++ run_lines q o (i + 1) run ≡ texts (run_lines q o) (runs ++ run ∷ [])

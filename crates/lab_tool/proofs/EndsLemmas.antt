@@ -55,24 +55,24 @@ pub completes : (old new : Option (List ℕ)) (Rises : List ℕ → Type 0) (con
 completes old new Rises content (why file None) r Rose ends write e can none n =
     let k = first_file Rises content file [] none can.known in
     ends_as old new (Before content (why file None)) (IsAnswer Rises content (why file None)) r e ends (λ f. n (write f))
-        (λ t h. why_ends Rises content file r e t k.0 k.1 can.goes h)
+    (λ t h. why_ends Rises content file r e t k.0 k.1 can.goes h)
 completes old new Rises content (why file (Some name)) r Rose ends write e can none n =
     let k = first_file Rises content file [] none can.known in
     done_if (Names (content file) name) r e can.goes (λ goes.
     ends_as old new (Before content (why file (Some name))) (IsAnswer Rises content (why file (Some name))) r status.Done ends (λ f. n (write f))
-        (λ t h. origin_ends Rises content file name r t k.0 k.1 goes h))
+    (λ t h. origin_ends Rises content file name r t k.0 k.1 goes h))
 completes old new Rises content (seen file starts observer env budget) r Rose ends write e can none n =
     let k = first_file Rises content file (starts ∷ []) none can.known in
     let m = second_file Rises content file starts [] none can.known in
     done_if (CanBegin content file starts (Some observer)) r e can.goes (λ goes.
     begin_completes Rises content file starts (Some observer) (AreLines env budget) old new (SeenBefore content file starts observer env budget) r
-        Rose ends write goes k.0 m.0 n)
+    Rose ends write goes k.0 m.0 n)
 completes old new Rises content (timeline file starts observer env budget) r Rose ends write e can none n =
     let k = first_file Rises content file (starts ∷ []) none can.known in
     let m = second_file Rises content file starts [] none can.known in
     done_if (CanBegin content file starts observer) r e can.goes (λ goes.
     begin_completes Rises content file starts observer (AreTimelines env budget) old new (TimelinesBefore content file starts observer env budget) r
-        Rose ends write goes k.0 m.0 n)
+    Rose ends write goes k.0 m.0 n)
 completes old new Rises content (bound file starts observer env budget) r Rose ends write e can none n =
     let k = first_file Rises content file (starts ∷ []) none can.known in
     let m = second_file Rises content file starts [] none can.known in

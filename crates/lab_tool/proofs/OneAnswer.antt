@@ -74,7 +74,7 @@ answers_one content before now (why file None) s u t x known none h k =
     let rises = λ (name : List ℕ). Rose (before name) (now name) in
     let good = first_file rises content file [] none known in
     let one = reads_one s u t x (rises file) (content file) (λ p. Then (ReasonStops (content file) p) (Types p) (λ q. IsAccepted p)) good.0 good.1
-        (λ p o. reason_one (content file) p s u t x (one_reason (content file) p t x good.1 o)) h k in
+    (λ p o. reason_one (content file) p s u t x (one_reason (content file) p t x good.1 o)) h k in
     (one.0, λ i. one.1)
 answers_one content before now (why file (Some name)) s u t x known none h k =
     let rises = λ (name : List ℕ). Rose (before name) (now name) in

@@ -64,14 +64,14 @@ pub why_ends : (Rises : List ℕ → Type 0) (content : Content) (file : List �
     → IsWhyAnswer Rises content file s t → s ≡ e
 why_ends Rises content file s status.Done t n known goes h =
     then_ends (ProgramStops (Rises file) (content file)) (Reads (content file))
-        (λ p. Then (ReasonStops (content file) p) (Types p) (λ q. IsAccepted p)) s status.Done t
+    (λ p. Then (ReasonStops (content file) p) (Types p) (λ q. IsAccepted p)) s status.Done t
     goes.0 goes.1 (one_program (content file) known) (program_goes (Rises file) (content file) goes.0 s t n known goes.1)
-        (accepted_ends (content file) goes.0 s t goes.2) h
+    (accepted_ends (content file) goes.0 s t goes.2) h
 why_ends Rises content file s status.Refused t n known goes h =
     then_ends (ProgramStops (Rises file) (content file)) (Reads (content file))
-        (λ p. Then (ReasonStops (content file) p) (Types p) (λ q. IsAccepted p)) s status.Refused t
+    (λ p. Then (ReasonStops (content file) p) (Types p) (λ q. IsAccepted p)) s status.Refused t
     goes.0 goes.1 (one_program (content file) known) (program_goes (Rises file) (content file) goes.0 s t n known goes.1)
-        (refused_ends (content file) goes.0 s t goes.2) h
+    (refused_ends (content file) goes.0 s t goes.2) h
 why_ends Rises content file s status.Syntax t n known goes h = absurd goes
 why_ends Rises content file s status.Starts t n known goes h = absurd goes
 why_ends Rises content file s status.Usage t n known goes h = absurd goes
@@ -112,4 +112,4 @@ origin_ends Rises content file w s t n known goes h =
     then_ends (ProgramStops (Rises file) (content file)) (Reads (content file))
     (λ p. Then (NameStops p w) (λ spot. named p w ≡ Some spot) (λ spot s t. (s ≡ status.Done) × HasOrigins (content file) p w spot t)) s status.Done h.0
     goes.0 goes.1 (one_program (content file) known) (program_goes (Rises file) (content file) goes.0 s h.0 n known goes.1)
-        (told_ends (content file) goes.0 w goes.2 s h.0 goes.3) h.1
+    (told_ends (content file) goes.0 w goes.2 s h.0 goes.3) h.1

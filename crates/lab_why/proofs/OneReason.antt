@@ -26,7 +26,7 @@ one_fault : (p : Syntax) (t x : List ℕ) → IsOrder p.order → (f : HasNoType
 one_fault p t x o f g =
     let labels : f.labels ≡ g.labels = one_least p o f.labels g.labels f.least g.least in
     let same : Some (fault_of f) ≡ Some (fault_of g) =
-        sym f.first ∙ ap (λ (l : Labelling). first_broken_of (record { program = p; labels = l })) labels ∙ g.first in
+    sym f.first ∙ ap (λ (l : Labelling). first_broken_of (record { program = p; labels = l })) labels ∙ g.first in
     cc
 
 is_told : {c : Option (Option (List ℕ))} {p : Syntax} {t : List ℕ} (h : HasReason c p t) → IsTold p (fault_of h.refused) h.chain
@@ -36,10 +36,10 @@ pub one_reason : (c : Option (Option (List ℕ))) (p : Syntax) (t x : List ℕ) 
 one_reason c p t x known o h k =
     let bytes : h.source.bytes ≡ k.source.bytes = one_told c h.source.bytes k.source.bytes known h.source.are k.source.are in
     let tokens : h.source.tokens ≡ k.source.tokens =
-        one_list k.source.bytes h.source.tokens k.source.tokens (subst (λ (z : List ℕ). AreTokens z h.source.tokens) bytes h.source.cut) k.source.cut in
+    one_list k.source.bytes h.source.tokens k.source.tokens (subst (λ (z : List ℕ). AreTokens z h.source.tokens) bytes h.source.cut) k.source.cut in
     let fault : fault_of h.refused ≡ fault_of k.refused = one_fault p h.line k.line o h.refused k.refused in
     let chain : h.chain ≡ k.chain =
-        one_chain p (fault_of k.refused) h.chain k.chain (subst (λ (z : TypeFault). IsTold p z h.chain) fault (is_told h)) (is_told k) in
+    one_chain p (fault_of k.refused) h.chain k.chain (subst (λ (z : TypeFault). IsTold p z h.chain) fault (is_told h)) (is_told k) in
     h.text
     ∙ ap (λ (z : List ℕ). refusal_text z h.source.tokens p (fault_of h.refused) h.chain) bytes
     ∙ ap (λ (z : List Token). refusal_text k.source.bytes z p (fault_of h.refused) h.chain) tokens

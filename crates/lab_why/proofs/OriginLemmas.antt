@@ -24,14 +24,14 @@ pub has_origins : (c : Option (Option (List ℕ))) (p : Syntax) (q : LabelledPro
     → x.bytes ≡ text → x.tokens ≡ tokens → q.program ≡ p → IsLeast p q.labels → TellsOrigins text tokens q w spot t → HasOrigins c p w spot t
 has_origins c p q x w spot text tokens t bytes list program least told =
     let whole : ◌≡◌ {A = LabelledProgram} q (record { program = p; labels = q.labels }) =
-        ap (λ (z : Syntax). record { program = z; labels = q.labels }) program in
+    ap (λ (z : Syntax). record { program = z; labels = q.labels }) program in
     record {
       source = x;
       labels = q.labels;
       least = least;
       tells = subst (λ (z : LabelledProgram). TellsOrigins x.bytes x.tokens z w spot t) whole
           (subst (λ (z : List Token). TellsOrigins x.bytes z q w spot t) (sym list)
-              (subst (λ (z : List ℕ). TellsOrigins z tokens q w spot t) (sym bytes) told));
+          (subst (λ (z : List ℕ). TellsOrigins z tokens q w spot t) (sym bytes) told));
     }
 
 -- what stands in a program stands in the same program with its labels
@@ -57,7 +57,7 @@ pub tells_lines : (T : List ℕ) (ts : List Token) (q : LabelledProgram) (w : Li
     → t ≡ w ++ (codes " is " ++ (name_of q.program.order (label_there q spot) ++ (codes "\n" ++ origins_text T ts q.program ws)))
 tells_lines T ts q w spot ws shown p o l a n x t word name order label program same lines is =
     let named : n ≡ name_of q.program.order (label_there q spot) = name ∙ ap (λ (z : Order). name_of z l.number) (order ∙ ap (λ (z : Syntax). z.order) program)
-        ∙ ap (name_of q.program.order) label in
+    ∙ ap (name_of q.program.order) label in
     let told : x ≡ origins_text T ts q.program ws = lines ∙ ap (λ (z : Syntax). origins_text T ts z shown) program ∙ ap (origins_text T ts q.program) same in
     is ∙ ap (λ (z : List ℕ). z ++ (codes " is " ++ (n ++ (codes "\n" ++ x)))) word ∙ ap (λ (z : List ℕ). w ++ (codes " is " ++ (z ++ (codes "\n" ++ x)))) named
     ∙ ap (λ (z : List ℕ). w ++ (codes " is " ++ (name_of q.program.order (label_there q spot) ++ (codes "\n" ++ z)))) told

@@ -66,11 +66,11 @@ pub tells_reason : (c : Option (Option (List ℕ))) (p : Syntax) (q r : Labelled
     → t ≡ refusal_text text tokens r.program f chain → HasReason c p t
 tells_reason c p q r f chain x text tokens t bytes list program kept least most none first reason cheapest earliest is =
     let whole : ◌≡◌ {A = LabelledProgram} q (record { program = p; labels = q.labels }) =
-        ap (λ (z : Syntax). record { program = z; labels = q.labels }) program in
+    ap (λ (z : Syntax). record { program = z; labels = q.labels }) program in
     let told = has_reason c p q.labels f chain x least most (subst (λ (z : LabelledProgram). HasType z → ⊥) whole none)
-        (subst (λ (z : LabelledProgram). first_broken_of z ≡ Some f) whole first)
+    (subst (λ (z : LabelledProgram). first_broken_of z ≡ Some f) whole first)
     (subst (λ (z : Syntax). IsReason z f chain) program reason) (subst (λ (z : Syntax). AreNoCheaper z f chain) program cheapest)
-        (subst (λ (z : Syntax). IsEarliest z f chain) program earliest) in
+    (subst (λ (z : Syntax). IsEarliest z f chain) program earliest) in
     let same : r.program ≡ p = ap (λ (z : LabelledProgram). z.program) kept ∙ program in
     let line : t ≡ refusal_text x.bytes x.tokens p f chain =
     is ∙ ap (λ (z : List ℕ). refusal_text z tokens r.program f chain) (sym bytes) ∙ ap (λ (z : List Token). refusal_text x.bytes z r.program f chain) (sym list)

@@ -89,7 +89,7 @@ module _ {E F : Type 0} (v : Env E) (w : Env F) (n : ℕ) (related : E → F →
             let m = marks_of i in
             let c = fetched_alike m x.place x.core f (labels x.place i e) alike.envs in
             subst (λ z. AreAlike related (act v m i.work x.place x.operands x.opened (fetched v m x.place x.core))
-                (act w m i.work x.place x.operands x.opened z)) (sym c.same)
+            (act w m i.work x.place x.operands x.opened z)) (sym c.same)
             (act_alike i.work m x.place x.operands x.opened (fetched v m x.place x.core) c.env (labels x.place i e) c.envs)
 
         halts : (b : Bool) → AreAlike related (cond b x (obey v (slice_get image x.place) x))

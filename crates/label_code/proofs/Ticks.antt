@@ -98,8 +98,13 @@ module _ {E : Type 0} (v : Env E) (image : List Instr) where
   ticks x h = go x.halted refl
     where
       obeys : (i : Option Instr) → Ticks x (obey v i x)
-      obeys None = record { sane = sane_later x.opened x.core.clock _ (omega arith) h; clock = omega arith; tick =
-          λ f. omega arith; news = no_news _ x.core.log }
+      obeys None = record {
+        sane = sane_later x.opened x.core.clock _ (omega arith) h;
+        clock = omega arith;
+        tick =
+            λ f. omega arith;
+        news = no_news _ x.core.log;
+      }
       obeys (Some i) =
           let s = fetched v (marks_of i) x.place x.core in
           let r = acts i.work (marks_of i) x.place x.operands x.opened s (sane_later x.opened x.core.clock s.clock (omega arith) h) in

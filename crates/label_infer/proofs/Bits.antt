@@ -46,7 +46,7 @@ union_has a b c la lb lc h = fun_ext (λ y. at (y / 64) (y % 64))
         let zc = past c k (omega (arith, lc, j)) in
         ap (λ z. eqb (bit_at z i) 1) zc ∙ ap (λ z. eqb z 1) (bit_at-zero i)
         ∙ sym (ap (λ z. eqb (bit_at z i) 1 || eqb (bit_at (get_or b k 0) i) 1) za ∙ ap (λ z. eqb (bit_at 0 i) 1 || eqb (bit_at z i) 1) zb
-            ∙ ap (λ z. eqb z 1 || eqb z 1) (bit_at-zero i)))
+        ∙ ap (λ z. eqb z 1 || eqb z 1) (bit_at-zero i)))
         (cases_lt k 48)
 
 -- numbers by word and bit
@@ -72,7 +72,7 @@ with_has a x la hx = fun_ext (λ y. at y)
         ⊎_elim
         (λ (e : x ≡ y).
         let one : has_in (slice_set a k v) x ≡ true =
-            ap (λ z. eqb (bit_at z i) 1) (get_or-set_same a k v 0 within) ∙ ap (λ z. eqb z 1) (bit_at_set_same w64 (get_or a k 0) i small) in
+        ap (λ z. eqb (bit_at z i) 1) (get_or-set_same a k v 0 within) ∙ ap (λ z. eqb z 1) (bit_at_set_same w64 (get_or a k 0) i small) in
         subst (λ z. has_in (slice_set a k v) z ≡ (has_in a z || eqb x z)) e (one ∙ sym (or_right (has_in a x) (eqb x x) (eq-eqb x x refl))))
         (λ (n : x ≡ y → ⊥).
         let rest : (has_in a y || false) ≡ has_in a y = or_none (has_in a y) in
@@ -93,7 +93,7 @@ with_has a x la hx = fun_ext (λ y. at y)
 
 pub without_has : (a : List ℕ) (x : ℕ) → length a ≡ 48 → x < 3072 →
     has_in (slice_set a (x / 64) (bit_and (get_or a (x / 64) 0) (18446744073709551615 - 1 * 2 ^ (x % 64) % 18446744073709551616)))
-        ≡ (λ y. has_in a y && not (eqb x y))
+    ≡ (λ y. has_in a y && not (eqb x y))
 without_has a x la hx = fun_ext (λ y. at y)
   where
     v : ℕ
@@ -108,9 +108,9 @@ without_has a x la hx = fun_ext (λ y. at y)
         ⊎_elim
         (λ (e : x ≡ y).
         let zero : has_in (slice_set a k v) x ≡ false =
-            ap (λ z. eqb (bit_at z i) 1) (get_or-set_same a k v 0 within) ∙ ap (λ z. eqb z 1) (bit_at_clear_same w64 (get_or a k 0) i small) in
+        ap (λ z. eqb (bit_at z i) 1) (get_or-set_same a k v 0 within) ∙ ap (λ z. eqb z 1) (bit_at_clear_same w64 (get_or a k 0) i small) in
         subst (λ z. has_in (slice_set a k v) z ≡ (has_in a z && not (eqb x z))) e
-            (zero ∙ sym (and_right (has_in a x) (not (eqb x x)) (ap not (eq-eqb x x refl)))))
+        (zero ∙ sym (and_right (has_in a x) (not (eqb x x)) (ap not (eq-eqb x x refl)))))
         (λ (n : x ≡ y → ⊥).
         let rest : (has_in a y && true) ≡ has_in a y = and_all (has_in a y) in
         let within64 : y % 64 < 64 = omega arith in
@@ -160,7 +160,7 @@ apart a b la h (x, p, q) =
     let k = x / 64 in
     let i = x % 64 in
     let one : bit_at (bit_and (get_or a k 0) (get_or b k 0)) i ≡ 1 =
-        bit_at_and (get_or a k 0) (get_or b k 0) i ∙ both_bits (bit_at (get_or a k 0) i) (bit_at (get_or b k 0) i) p q in
+    bit_at_and (get_or a k 0) (get_or b k 0) i ∙ both_bits (bit_at (get_or a k 0) i) (bit_at (get_or b k 0) i) p q in
     ⊎_elim
     (λ (j : k < 48). let z : bit_at (bit_and (get_or a k 0) (get_or b k 0)) i ≡ 0 = ap (λ z. bit_at z i) (h k j) ∙ bit_at-zero i in omega (arith, one, z))
     (λ (j : 48 ≤ k).

@@ -142,7 +142,7 @@ module _ (s : Syntax) (valid : IsValid s) (cs : List Condition) (ws : List Bool)
       let r' : ℕ → ℕ = λ y. cond (eqb y x) (1 + r x) (r y) in
       let is : g' x ≡ new = set_same s.order.bottom vs x new l in
       let below : new < s.order.size =
-          subst (λ z. z < s.order.size) is (joined_below s valid cs ws vs ls h i c e vs x v l (v_below s valid cs ws vs ls h i c e) h.variables.below x) in
+      subst (λ z. z < s.order.size) is (joined_below s valid cs ws vs ls h i c e vs x v l (v_below s valid cs ws vs ls h i c e) h.variables.below x) in
       let differ : g x ≡ new → ⊥ = λ q. both_ways (la.flows v (g x)) rose (subst (λ z. Flows la v z) (sym q) (ll.right (g x) v)) in
       let climb : Climb la s.order.size new (1 + r x) = up (b.climbs x) below (ll.left (g x) v) differ in
       let top = upto new (1 + r x) climb in
@@ -156,14 +156,14 @@ module _ (s : Syntax) (valid : IsValid s) (cs : List Condition) (ws : List Bool)
       let q = cleared in
       let p = b.bound in
       let fin : (1 + used) + steps_left (length vs) (left r') cs (woken x cs (slice_set ws i false)) ≤ shares (length vs) k (constraints_in cs) =
-          omega (arith, w, q, p) in
+      omega (arith, w, q, p) in
       record {
         rises = r';
         climbs = λ y. ⊎_elim
             (λ (q : y ≡ x). subst (λ z. Climb la s.order.size (g' z) (r' z)) (sym q)
-                (subst (λ z. Climb la s.order.size (g' x) z) (sym rx) (subst (λ z. Climb la s.order.size z (1 + r x)) (sym is) climb)))
+            (subst (λ z. Climb la s.order.size (g' x) z) (sym rx) (subst (λ z. Climb la s.order.size z (1 + r x)) (sym is) climb)))
             (λ (q : y ≡ x → ⊥). subst (λ z. Climb la s.order.size (g' y) z) (sym (ry y q))
-                (subst (λ z. Climb la s.order.size z (r y)) (sym (set_other s.order.bottom vs x y new q)) (b.climbs y)))
+            (subst (λ z. Climb la s.order.size z (r y)) (sym (set_other s.order.bottom vs x y new q)) (b.climbs y)))
             (cases_eq y x);
         bound = subst (λ z. (1 + used) + steps_left z (left r') cs (woken x cs (slice_set ws i false)) ≤ shares z k (constraints_in cs)) (sym len) fin;
       }
@@ -241,7 +241,7 @@ own_above : (lat : Lattice) → IsLattice lat → (n a : ℕ) → a < n → 0 < 
 own_above lat ll zero a h = absurd (omega (arith, h))
 own_above lat ll (suc n) a h = ⊎_elim
     (λ (q : a ≡ n). let y : ◌≡◌ {A = ℕ} (cond (lat.flows a n) 1 0) 1 = ap (λ z. cond {A = ℕ} z 1 0) (subst (λ z. Flows lat a z) q (ll.same a)) in
-        omega (arith, y))
+    omega (arith, y))
     (λ (q : a ≡ n → ⊥). omega (arith, own_above lat ll n a (omega (arith, h, q))))
     (cases_eq a n)
 

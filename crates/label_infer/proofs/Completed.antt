@@ -91,7 +91,7 @@ module _ (s : Syntax) (valid : IsValid s) where
   -- a labelling whose variables and levels lie at or below all others
   pub least_from : (l : Labelling) → Labels s l → MeetsOmitted s l →
       ((l' : Labelling) → Labels s l' → MeetsOmitted s l' → ((x : ℕ) → Flows lat (variable_of s.order l x) (variable_of s.order l' x))
-          × ((k : ℕ) → Flows lat (level_of s.order l k) (level_of s.order l' k))) →
+      × ((k : ℕ) → Flows lat (level_of s.order l k) (level_of s.order l' k))) →
       IsLeast s l
   least_from l h m f =
       record {
@@ -105,11 +105,11 @@ module _ (s : Syntax) (valid : IsValid s) where
             let ll = lattice_laws s.order valid.order in
             let up = pairs_up lat ll g g' q.0 (plan_of s) b b (ll.same b) in
             let at : (i : ℕ) → Flows lat (marks_of s.order l i).er (marks_of s.order l' i).er × Flows lat (marks_of s.order l i).ew (marks_of s.order l' i).ew =
-                λ i.
+            λ i.
             let r = rising_at lat ll (own_pairs lat g (plan_of s) b) (own_pairs lat g' (plan_of s) b) i (low_of s.order) up in
             let P : Marks → Marks → Type 0 = λ x y. Flows lat x.er y.er × Flows lat x.ew y.ew in
             subst (λ z. P z (marks_of s.order l' i)) (sym (own_at l h i))
-                (subst (λ z. P (marks_from (get_or (own_pairs lat g (plan_of s) b) i (low_of s.order))) z) (sym (own_at l' h' i)) r) in
+            (subst (λ z. P (marks_from (get_or (own_pairs lat g (plan_of s) b) i (low_of s.order))) z) (sym (own_at l' h' i)) r) in
             record { variables = q.0; reads = λ i. (at i).0; writes = λ i. (at i).1; levels = q.1 };
       }
 
@@ -140,9 +140,9 @@ same_written s l l' h h' x f =
     let fit' = h'.variables_fit in
     ⊎_elim
     (λ (i : x < variables s.declarations). let w = written_at (cells s.declarations) x d i f in
-        kept_same (cell_at s.declarations x).label w.0 (variable_of s.order l x) (variable_of s.order l' x) w.1 (h.declared x i) (h'.declared x i))
+    kept_same (cell_at s.declarations x).label w.0 (variable_of s.order l x) (variable_of s.order l' x) w.1 (h.declared x i) (h'.declared x i))
     (λ (i : variables s.declarations ≤ x). ap (λ z. z.number) (get_past l.variables x low (omega (arith, i, fit))
-        ∙ sym (get_past l'.variables x low (omega (arith, i, fit'))))) (cases_lt x (variables s.declarations))
+    ∙ sym (get_past l'.variables x low (omega (arith, i, fit'))))) (cases_lt x (variables s.declarations))
 
 is_there : (v : Option Label) → is_some v ≡ true → (l : Label) × (v ≡ Some l)
 is_there None h = absurd (both_ways true (sym h) refl)
@@ -165,7 +165,7 @@ same_levels s valid l l' h h' all k =
     kept_same (get_or W k None) w.0 (level_of s.order l k) (level_of s.order l' k) w.1
     (from_first (λ j v. IsKept v (level_of s.order l j)) W k None m i) (from_first (λ j v. IsKept v (level_of s.order l' j)) W k None m' i))
     (λ (i : length W ≤ k). ap (λ z. z.number) (get_past l.levels k low (omega (arith, i, len, fit))
-        ∙ sym (get_past l'.levels k low (omega (arith, i, len, fit'))))) (cases_lt k (length W))
+    ∙ sym (get_past l'.levels k low (omega (arith, i, len, fit'))))) (cases_lt k (length W))
 
 -- where nothing is omitted, nothing is to be met
 module _ (lat : Lattice) (g : ℕ → ℕ) (ms : ℕ → Marks) (ls : ℕ → ℕ) (ds : List Declaration) (none : (x : ℕ) → is_free ds x ≡ false) where
@@ -204,7 +204,7 @@ module _ (lat : Lattice) (g : ℕ → ℕ) (ms : ℕ → Marks) (ls : ℕ → �
       let end = lat.join (walk_end lat g (labelled ms ls a ja) inner start) (walk_end lat g (labelled ms ls b jb) inner start) in
       let q = from_parts P (written_levels a) (written_levels b ++ written_levels p) k (k + length (written_levels a)) refl h in
       let r = from_parts P (written_levels b) (written_levels p) (k + length (written_levels a))
-          (k + length (written_levels a) + length (written_levels b)) refl q.1 in (
+      (k + length (written_levels a) + length (written_levels b)) refl q.1 in (
         (λ z. cc),
         both_meet lat (is_omitted ds) (conds a ja inner start) (conds b jb inner start ++ conds p jp pc end) (nothing_met a ja k inner start q.0)
             (both_meet lat (is_omitted ds) (conds b jb inner start) (conds p jp pc end) (nothing_met b jb (k + length (written_levels a)) inner start r.0)
@@ -217,17 +217,25 @@ module _ (lat : Lattice) (g : ℕ → ℕ) (ms : ℕ → Marks) (ls : ℕ → �
       let jc = i + 1 in
       let jp = i + 1 + count c in
       let end = walk_end lat g (labelled ms ls c jc) inner (loop_start lat g t m e) in
-      let q = from_parts P (written_levels c) (written_levels p) k (k + length (written_levels c)) refl h in
-      ((λ z. cc), both_meet lat (is_omitted ds) (conds c jc inner end) (conds p jp pc end) (nothing_met c jc k inner end q.0)
-          (nothing_met p jp (k + length (written_levels c)) pc end q.1))
+      let q = from_parts P (written_levels c) (written_levels p) k (k + length (written_levels c)) refl h in (
+        (λ z. cc),
+        both_meet lat (is_omitted ds) (conds c jc inner end) (conds p jp pc end) (nothing_met c jc k inner end q.0)
+            (nothing_met p jp (k + length (written_levels c)) pc end q.1),
+      )
   nothing_met (Mitigate w n l e c p) i k pc t h =
       let P : ℕ → Option Label → Type 0 = λ j v. is_some v ≡ true in
       let m = placed ms w i in
       let start = after lat g t m e in
       let jc = i + 1 in
       let jp = i + 1 + count c in
-      let last : Condition = record { rule = RMtg; pos = w.pos; have = walk_end lat g (labelled ms ls c jc) pc start; allowed =
-          ls n; side = OfLevel n (is_some l) } in
+      let last : Condition = record {
+        rule = RMtg;
+        pos = w.pos;
+        have = walk_end lat g (labelled ms ls c jc) pc start;
+        allowed =
+            ls n;
+        side = OfLevel n (is_some l);
+      } in
       let q = from_parts P (written_levels c) (written_levels p) (k + 1) (k + 1 + length (written_levels c)) refl h.1 in (
         (λ z. cc),
         both_meet lat (is_omitted ds) (conds c jc pc start) (last ∷ conds p jp pc start) (nothing_met c jc (k + 1) pc start q.0)

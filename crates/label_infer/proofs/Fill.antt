@@ -40,13 +40,13 @@ module _ (lat : Lattice) (g : ℕ → ℕ) (lv : ℕ → ℕ) where
     fills (Skip w p) i pc h = with_marks w (ms i) (own w.labels pc) (λ m. Skip m (L p (i + 1))) h.0 ∙ ap (λ z. Skip (owned w pc) z) (fills p (i + 1) pc h.1)
     fills (Assign w x e p) i pc h =
         with_marks w (ms i) (own w.labels (here lat g pc e)) (λ m. Assign m x e (L p (i + 1))) h.0
-            ∙ ap (λ z. Assign (owned w (here lat g pc e)) x e z) (fills p (i + 1) pc h.1)
+        ∙ ap (λ z. Assign (owned w (here lat g pc e)) x e z) (fills p (i + 1) pc h.1)
     fills (Put w f n j e p) i pc h =
         let own' = lat.join pc (put_index lat g j e) in
         with_marks w (ms i) (own w.labels own') (λ m. Put m f n j e (L p (i + 1))) h.0 ∙ ap (λ z. Put (owned w own') f n j e z) (fills p (i + 1) pc h.1)
     fills (Sleep w e p) i pc h =
         with_marks w (ms i) (own w.labels (here lat g pc e)) (λ m. Sleep m e (L p (i + 1))) h.0
-            ∙ ap (λ z. Sleep (owned w (here lat g pc e)) e z) (fills p (i + 1) pc h.1)
+        ∙ ap (λ z. Sleep (owned w (here lat g pc e)) e z) (fills p (i + 1) pc h.1)
     fills (If w e a b p) i pc h =
         let m = owned w (here lat g pc e) in
         let n = lat.join pc (label_of lat g e) in

@@ -94,7 +94,7 @@ module _ (k : Known) (w : Written) (pc t : LeftSide) where
   pub if_constraints : (e : Expression) (q a b rest : Plan) (inner start one other r : LeftSide) (m0 m1 m2 : List Constraint) → q ≡ If w e a b rest
       → inner ≡ inner_of k pc e → start ≡ after_of k w.labels pc t e →
       one ≡ E a inner start → other ≡ E b inner start → r ≡ both (lat_of k) one other → m1 ≡ m0 ++ N a inner start → m2 ≡ m1 ++ N b inner start
-          → m0 ++ N q pc t ≡ m2 ++ N rest pc r
+      → m0 ++ N q pc t ≡ m2 ++ N rest pc r
   if_constraints e q a b rest inner start one other r m0 m1 m2 hq hi hs h1 h2 hr hm1 hm2 =
       let i = inner_of k pc e in
       let s = after_of k w.labels pc t e in

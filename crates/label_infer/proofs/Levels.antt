@@ -22,7 +22,7 @@ module _ (b : ℕ) where
       ∙ ap (λ u. x ++ u) (map-append (first_of b) (written_levels a) (written_levels c ++ written_levels rest))
       ∙ ap (λ u. x ++ (F a ++ u)) (map-append (first_of b) (written_levels c) (written_levels rest))
       ∙ sym (append_assoc x (F a) (F c ++ F rest)) ∙ ap (λ u. u ++ (F c ++ F rest)) (sym hy) ∙ sym (append_assoc y (F c) (F rest))
-          ∙ ap (λ u. u ++ F rest) (sym hz)
+      ∙ ap (λ u. u ++ F rest) (sym hz)
 
   pub while_levels : (w : Written) (e : Expression) (q a rest : Plan) (x y : List Label) → q ≡ While w e a rest → y ≡ x ++ F a → x ++ F q ≡ y ++ F rest
   while_levels w e q a rest x y hq hy =
@@ -37,4 +37,4 @@ module _ (b : ℕ) where
       ∙ ap (λ u. x ++ first_of b l ∷ u) (map-append (first_of b) (written_levels a) (written_levels rest))
       ∙ ap (λ u. x ++ u ∷ (F a ++ F rest)) (sym hm)
       ∙ sym (append_assoc x (m ∷ []) (F a ++ F rest)) ∙ ap (λ u. u ++ (F a ++ F rest)) (sym hy) ∙ sym (append_assoc y (F a) (F rest))
-          ∙ ap (λ u. u ++ F rest) (sym hz)
+      ∙ ap (λ u. u ++ F rest) (sym hz)

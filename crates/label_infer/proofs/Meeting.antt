@@ -77,9 +77,11 @@ module _ (lat : Lattice) (ll : IsLattice lat) (g h : ℕ → ℕ) (gh : (x : ℕ
   pairs_up Done pc pc' f = tt
   pairs_up (Skip w p) pc pc' f = (pair_up w.labels pc pc' f, pairs_up p pc pc' f)
   pairs_up (Assign w x e p) pc pc' f = (pair_up w.labels (here lat g pc e) (here lat h pc' e) (here_up pc pc' e f), pairs_up p pc pc' f)
-  pairs_up (Put w b n i e p) pc pc' f =
-      (pair_up w.labels (lat.join pc (put_index lat g i e)) (lat.join pc' (put_index lat h i e))
-          (join_up lat ll pc (put_index lat g i e) pc' (put_index lat h i e) f (put_up i e)), pairs_up p pc pc' f)
+  pairs_up (Put w b n i e p) pc pc' f = (
+    pair_up w.labels (lat.join pc (put_index lat g i e)) (lat.join pc' (put_index lat h i e))
+        (join_up lat ll pc (put_index lat g i e) pc' (put_index lat h i e) f (put_up i e)),
+    pairs_up p pc pc' f,
+  )
   pairs_up (Sleep w e p) pc pc' f = (pair_up w.labels (here lat g pc e) (here lat h pc' e) (here_up pc pc' e f), pairs_up p pc pc' f)
   pairs_up (If w e a b p) pc pc' f =
       let i = lat.join pc (label_of lat g e) in
@@ -89,7 +91,7 @@ module _ (lat : Lattice) (ll : IsLattice lat) (g h : ℕ → ℕ) (gh : (x : ℕ
         rising_both lat (own_pairs lat g a i) (own_pairs lat h a i') (own_pairs lat g b i ++ own_pairs lat g p pc) (own_pairs lat h b i'
             ++ own_pairs lat h p pc') (pairs_up a i i' u)
             (rising_both lat (own_pairs lat g b i) (own_pairs lat h b i') (own_pairs lat g p pc) (own_pairs lat h p pc')
-                (pairs_up b i i' u) (pairs_up p pc pc' f)),
+            (pairs_up b i i' u) (pairs_up p pc pc' f)),
       )
   pairs_up (While w e c p) pc pc' f =
       let i = lat.join pc (label_of lat g e) in

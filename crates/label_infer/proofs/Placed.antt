@@ -163,7 +163,7 @@ module _ (lat : Lattice) (g : ℕ → ℕ) (ms : ℕ → Marks) where
         from_both P (own_pairs lat g a n) (own_pairs lat g b n ++ own_pairs lat g p pc) (i + 1) (i + 1 + count a)
             (omega (arith, la)) (own_listed a (i + 1) n h.1)
             (from_both P (own_pairs lat g b n) (own_pairs lat g p pc) (i + 1 + count a) (i + 1 + count a + count b) (omega (arith, lb))
-                (own_listed b (i + 1 + count a) n h.2)
+            (own_listed b (i + 1 + count a) n h.2)
             (own_listed p (i + 1 + count a + count b) pc h.3)),
       )
   own_listed (While w e c p) i pc h =
@@ -211,9 +211,12 @@ module _ (lat : Lattice) (g : ℕ → ℕ) (ms : ℕ → Marks) where
       let P : ℕ → Option Label → Type 0 = λ j l. IsKept l (ls j) in
       let lc = length_levels c in
       let q = from_parts P (written_levels c) (written_levels p) (k + 1) (k + 1 + mitigates c) (omega (arith, lc)) v.1 in
-      let here_kept : IsKept l (ls j) = subst (λ z. IsKept l (ls z)) (sym num.0) v.0 in
-      (own_kept w.labels (here lat g pc e) (ms i) h.0, here_kept, keeps ls c (i + 1) (k + 1) pc h.1 num.1 q.0,
-          keeps ls p (i + 1 + count c) (k + 1 + mitigates c) pc h.2 num.2 q.1)
+      let here_kept : IsKept l (ls j) = subst (λ z. IsKept l (ls z)) (sym num.0) v.0 in (
+        own_kept w.labels (here lat g pc e) (ms i) h.0,
+        here_kept,
+        keeps ls c (i + 1) (k + 1) pc h.1 num.1 q.0,
+        keeps ls p (i + 1 + count c) (k + 1 + mitigates c) pc h.2 num.2 q.1,
+      )
 
 -- the written levels are kept, by their marks
 pub levels_kept : (ms : ℕ → Marks) (ls : ℕ → ℕ) (p : Plan) (i k : ℕ) → Keeps ms ls p i → AreNumbered k p → LevelsKept ls k p
@@ -228,7 +231,7 @@ levels_kept ms ls (If w e a b p) i k h num =
     let lb = length_levels b in
     from_both P (written_levels a) (written_levels b ++ written_levels p) k (k + mitigates a) (omega (arith, la)) (levels_kept ms ls a (i + 1) k h.1 num.0)
     (from_both P (written_levels b) (written_levels p) (k + mitigates a) (k + mitigates a + mitigates b) (omega (arith, lb))
-        (levels_kept ms ls b (i + 1 + count a) (k + mitigates a) h.2 num.1)
+    (levels_kept ms ls b (i + 1 + count a) (k + mitigates a) h.2 num.1)
     (levels_kept ms ls p (i + 1 + count a + count b) (k + mitigates a + mitigates b) h.3 num.2))
 levels_kept ms ls (While w e c p) i k h num =
     let P : ℕ → Option Label → Type 0 = λ j l. IsKept l (ls j) in

@@ -19,7 +19,7 @@ pub joins_below : (o : Order) → IsOrder o → (a b : ℕ) → a < o.size → b
 joins_below o ho a b h k =
     let n = o.size in
     subst (λ z. z < n) (sym (cond-true (ltb a n && ltb b n) (join_in o.joins a b) (max a b) (and_from (ltb a n) (ltb b n) (lt-ltb a n h) (lt-ltb b n k))))
-        (ho.table.closed a b h k)
+    (ho.table.closed a b h k)
 
 abbrev pub PairBelow : ℕ → ℕ → Label × Label → Type 0
 PairBelow n i m = (m.0.number < n) × (m.1.number < n)

@@ -77,15 +77,15 @@ module _ (lat : Lattice) (n : ℕ) (low : lat.bottom < n) (closed : (a b : ℕ) 
 
   assign_base : (o : Option (Label × Label)) (pc t : LeftSide) (e : Expression) → AreMarksBelow n o → pc.base < n → t.base < n →
       (demand_form lat free written pc t (own_form o (here_form lat free written pc e)) (label_form lat free written e) (index_form lat free written e)).base <
-          n
+      n
   assign_base o pc t e k hp ht = five _ _ pc.base t.base _ (label_base e) (index_base e) hp ht (er_base o pc e k hp)
 
   put_have : (o : Option (Label × Label)) (pc t : LeftSide) (i e : Expression) → AreMarksBelow n o → pc.base < n → t.base < n →
       (demand_form lat free written pc t (own_form o (both lat pc (put_form lat free written i e))) (label_form lat free written e)
-          (put_form lat free written i e)).base < n
+      (put_form lat free written i e)).base < n
   put_have o pc t i e k hp ht =
       five _ _ pc.base t.base _ (label_base e) (put_base i e) hp ht
-          (own_base o (both lat pc (put_form lat free written i e)) k (closed pc.base _ hp (put_base i e)))
+      (own_base o (both lat pc (put_form lat free written i e)) k (closed pc.base _ hp (put_base i e)))
 
   after_base : (o : Option (Label × Label)) (pc t : LeftSide) (e : Expression) → AreMarksBelow n o → pc.base < n → t.base < n
       → (after_form lat free written t (own_form o (here_form lat free written pc e)) e).base < n
@@ -127,9 +127,17 @@ module _ (lat : Lattice) (n : ℕ) (low : lat.bottom < n) (closed : (a b : ℕ) 
   level_open : (l : Option Label) (j : ℕ) (f : LeftSide) (pre post : List (Option Label)) → f.base < n → j ≡ length pre → W ≡ pre ++ (l ∷ post)
       → Each O (level_constraint l j f)
   level_open None j f pre post h e is =
-      let len : length W ≡ length pre + length (None ∷ post) = ap length is ∙ length-append pre (None ∷ post) in
-      (record { base = h; side = (omega (arith, e, len), ap (λ z. get_or z j None) is ∙ ap (λ z. get_or (pre ++ (None ∷ post)) z None) e
-          ∙ get_or-append_seam pre None post None) }, tt)
+      let len : length W ≡ length pre + length (None ∷ post) = ap length is ∙ length-append pre (None ∷ post) in (
+        record {
+          base = h;
+          side = (
+            omega (arith, e, len),
+            ap (λ z. get_or z j None) is ∙ ap (λ z. get_or (pre ++ (None ∷ post)) z None) e
+                ∙ get_or-append_seam pre None post None,
+          );
+        },
+        tt,
+      )
   level_open (Some l) j f pre post h e is = tt
 
   longer : (pre a : List (Option Label)) (k m : ℕ) → length pre ≡ k → length a ≡ m → length (pre ++ a) ≡ k + m
@@ -157,7 +165,7 @@ module _ (lat : Lattice) (n : ℕ) (low : lat.bottom < n) (closed : (a b : ℕ) 
       let wp = written_levels p in
       let s1 : W ≡ pre ++ (wa ++ ((wb ++ wp) ++ post)) = is ∙ ap (λ z. pre ++ z) (append_assoc wa (wb ++ wp) post) in
       let s2 : W ≡ (pre ++ wa) ++ (wb ++ (wp ++ post)) =
-          s1 ∙ ap (λ z. pre ++ (wa ++ z)) (append_assoc wb wp post) ∙ sym (append_assoc pre wa (wb ++ (wp ++ post))) in
+      s1 ∙ ap (λ z. pre ++ (wa ++ z)) (append_assoc wb wp post) ∙ sym (append_assoc pre wa (wb ++ (wp ++ post))) in
       let s3 : W ≡ ((pre ++ wa) ++ wb) ++ (wp ++ post) = s2 ∙ sym (append_assoc (pre ++ wa) wb (wp ++ post)) in
       let n1 = longer pre wa j (mitigates a) len (length_levels a) in
       let n2 = longer (pre ++ wa) wb (j + mitigates a) (mitigates b) n1 (length_levels b) in
@@ -175,18 +183,18 @@ module _ (lat : Lattice) (n : ℕ) (low : lat.bottom < n) (closed : (a b : ℕ) 
       let s2 : W ≡ (pre ++ wc) ++ (wp ++ post) = s1 ∙ sym (append_assoc pre wc (wp ++ post)) in
       let n1 = longer pre wc j (mitigates c) len (length_levels c) in
       all_both O (N c i (E c i s)) (N p pc (E c i s)) (all_open d c i (E c i s) j pre (wp ++ post) k.3 hi he num.0 len s1)
-          (all_open d p pc (E c i s) (j + mitigates c) (pre ++ wc) post k.4 hp he num.1 n1 s2)
+      (all_open d p pc (E c i s) (j + mitigates c) (pre ++ wc) post k.4 hp he num.1 n1 s2)
   all_open d (Mitigate w m l e c p) pc t j pre post k hp ht num len is =
       let s = after_form lat free written t (own_form w.labels (here_form lat free written pc e)) e in
       let hs = after_base w.labels pc t e k.0 hp ht in
       let wc = written_levels c in
       let wp = written_levels p in
       let s1 : W ≡ (pre ++ l ∷ []) ++ (wc ++ (wp ++ post)) =
-          is ∙ ap (λ z. pre ++ (l ∷ z)) (append_assoc wc wp post) ∙ sym (append_assoc pre (l ∷ []) (wc ++ (wp ++ post))) in
+      is ∙ ap (λ z. pre ++ (l ∷ z)) (append_assoc wc wp post) ∙ sym (append_assoc pre (l ∷ []) (wc ++ (wp ++ post))) in
       let s2 : W ≡ ((pre ++ l ∷ []) ++ wc) ++ (wp ++ post) = s1 ∙ sym (append_assoc (pre ++ l ∷ []) wc (wp ++ post)) in
       let n0 = longer pre (l ∷ []) j 1 len refl in
       let n1 = longer (pre ++ l ∷ []) wc (j + 1) (mitigates c) n0 (length_levels c) in
       all_both O (N c pc s) (level_constraint l m (E c pc s) ++ N p pc s) (all_open d c pc s (j + 1) (pre ++ l ∷ []) (wp ++ post) k.4 hp hs num.1 n0 s1)
       (all_both O (level_constraint l m (E c pc s)) (N p pc s)
-          (level_open l m (E c pc s) pre ((wc ++ wp) ++ post) (end_base d c pc s k.4 hp hs) (num.0 ∙ sym len) is)
+      (level_open l m (E c pc s) pre ((wc ++ wp) ++ post) (end_base d c pc s k.4 hp hs) (num.0 ∙ sym len) is)
       (all_open d p pc s (j + 1 + mitigates c) ((pre ++ l ∷ []) ++ wc) post k.5 hp hs num.2 n1 s2))

@@ -144,7 +144,7 @@ module _ (lat : Lattice) (ll : IsLattice lat) (n : ℕ) (g lv : ℕ → ℕ) (ds
         ≡ demand lat P T (owned w (lat.join P (put_index lat g i e))) (label_of lat g e) (put_index lat g i e)
     put_is i e =
         demand_value (fo pc (put_form lat free written i e)) (lat.join P (put_index lat g i e)) (le e) (put_form lat free written i e)
-            (label_of lat g e) (put_index lat g i e)
+        (label_of lat g e) (put_index lat g i e)
         (j2 pc (put_form lat free written i e) P (put_index lat g i e) hp (pev i e)) (lev e) (pev i e)
 
     next_value : (x : ℕ) (d : LeftSide) (D : ℕ) → val d ≡ D → val (fo (variable_form lat free written x) d) ≡ lat.join (g x) D
@@ -165,11 +165,11 @@ module _ (lat : Lattice) (ll : IsLattice lat) (n : ℕ) (g lv : ℕ → ℕ) (ds
   end_value (Skip w p) pc t P T hp ht = end_value p pc _ P _ hp (skip_value w pc t P T hp ht)
   end_value (Assign w x e p) pc t P T hp ht =
       end_value p pc _ P _ hp (next_value w pc t P T hp ht x (demand_form lat free written pc t (er w pc t P T hp ht e) (le e) (li e)) _
-          (assign_value w pc t P T hp ht x e))
+      (assign_value w pc t P T hp ht x e))
   end_value (Put w f k i e p) pc t P T hp ht =
       end_value p pc _ P _ hp (next_value w pc t P T hp ht f
       (demand_form lat free written pc t (own_form w.labels (fo pc (put_form lat free written i e))) (le e) (put_form lat free written i e)) _
-          (put_is w pc t P T hp ht i e))
+      (put_is w pc t P T hp ht i e))
   end_value (Sleep w e p) pc t P T hp ht = end_value p pc _ P _ hp (after_value w pc t P T hp ht e)
   end_value (If w e a b p) pc t P T hp ht =
       let i = fo pc (le e) in
@@ -244,7 +244,7 @@ module _ (lat : Lattice) (ll : IsLattice lat) (n : ℕ) (g lv : ℕ → ℕ) (ds
       let iv = inner_value w pc t P T hp ht e in
       let ev = end_value c i s I S iv (loop_value w pc t P T hp ht e) in
       same_two (N c i (E c i s)) (N p pc (E c i s)) (conds c I (ends c I S)) (conds p P (ends c I S)) (constraints_seen c i (E c i s) I (ends c I S) iv ev)
-          (constraints_seen p pc (E c i s) P (ends c I S) hp ev)
+      (constraints_seen p pc (E c i s) P (ends c I S) hp ev)
   constraints_seen (Mitigate w k l e c p) pc t P T hp ht =
       let s = after_form lat free written t (er w pc t P T hp ht e) e in
       let S = after lat g T (owned w (here lat g P e)) e in

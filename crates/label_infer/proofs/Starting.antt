@@ -132,7 +132,7 @@ module _ (s : Syntax) (valid : IsValid s) (k : Known) (ho : k.order ≡ s.order)
       ⊎_elim
       (λ (i : x < variables ds). ap (λ o. label_or o k.order.bottom) (at x (Some low) i) ∙ ap (label_or (cell_at ds x).label) hb)
       (λ (i : variables ds ≤ x). ap (λ o. label_or o k.order.bottom) (past_get k.written.items x (Some low) (omega (arith, fit, i))) ∙ hb
-          ∙ sym (past_or b (cells ds) x nowhere i refl))
+      ∙ sym (past_or b (cells ds) x nowhere i refl))
       (cases_lt x (variables ds))
 
   same_constraints : (pc t : LeftSide)
@@ -166,7 +166,7 @@ module _ (s : Syntax) (valid : IsValid s) (k : Known) (ho : k.order ≡ s.order)
           fit = f;
           below = λ x. ⊎_elim
               (λ (i : x < variables ds). subst
-                  (λ z. z < s.order.size) (sym (variable_is x i)) (or_below s.order.size b (cell_at ds x).label some (label_within s valid x)))
+              (λ z. z < s.order.size) (sym (variable_is x i)) (or_below s.order.size b (cell_at ds x).label some (label_within s valid x)))
               (λ (i : variables ds ≤ x). subst (λ z. z < s.order.size) (sym (past_label b vs x (omega (arith, f, i)))) some)
               (cases_lt x (variables ds));
           kept = λ x i. or_kept b (cell_at ds x).label (label_at b vs x) (variable_is x i);
@@ -193,7 +193,7 @@ module _ (s : Syntax) (valid : IsValid s) (k : Known) (ho : k.order ≡ s.order)
           fit = f ∙ m;
           below = λ j. ⊎_elim
               (λ (i : j < length W). subst (λ z. z < s.order.size) (sym (level_is j i))
-                  (or_below s.order.size b (get_or W j None) some (each_at s.order.size W j (levels_below s.order.size ds (plan_of s) valid.known))))
+              (or_below s.order.size b (get_or W j None) some (each_at s.order.size W j (levels_below s.order.size ds (plan_of s) valid.known))))
               (λ (i : length W ≤ j). subst (λ z. z < s.order.size) (sym (past_label b ls j (omega (arith, f, i)))) some)
               (cases_lt j (length W));
           kept = from_map (λ j o. get_or W j None ≡ o) (λ j o. IsKept o (label_at b ls j)) level_kept W 0 (from_all W [] W [] 0 None (sym (append-nil W)) refl);
@@ -229,7 +229,7 @@ module _ (s : Syntax) (valid : IsValid s) (k : Known) (ho : k.order ≡ s.order)
           low_variables = λ l h m x. ⊎_elim
               (λ (t : is_free ds x ≡ true). ⊎_elim
               (λ (i : x < variables ds). subst (λ z. Flows la z (variable_of s.order l x)) (sym (variable_is x i ∙ ap (λ o. label_or o b) (not_free s x t)))
-                  (ll.lowest (variable_of s.order l x)))
+              (ll.lowest (variable_of s.order l x)))
               (λ (i : variables ds ≤ x). absurd (both_ways (is_free ds x) (past_free (cells ds) x i) t))
               (cases_lt x (variables ds)))
               (λ (t : is_free ds x ≡ false).
@@ -240,10 +240,10 @@ module _ (s : Syntax) (valid : IsValid s) (k : Known) (ho : k.order ≡ s.order)
           low_levels = λ l h m j. ⊎_elim
               (λ (i : j < length W).
               let kept = from_first (λ j o. IsKept o (level_of s.order l j)) W j None
-                  (levels_kept (marks_of s.order l) (level_of s.order l) (plan_of s) 0 0 h.keeps.written valid.numbered) i in
+              (levels_kept (marks_of s.order l) (level_of s.order l) (plan_of s) 0 0 h.keeps.written valid.numbered) i in
               subst (λ z. Flows la z (level_of s.order l j)) (sym (level_is j i)) (or_low (get_or W j None) (level_of s.order l j) kept))
               (λ (i : length W ≤ j). let f = levels_fit in
-                  subst (λ z. Flows la z (level_of s.order l j)) (sym (past_label b ls j (omega (arith, f, i)))) (ll.lowest (level_of s.order l j)))
+              subst (λ z. Flows la z (level_of s.order l j)) (sym (past_label b ls j (omega (arith, f, i)))) (ll.lowest (level_of s.order l j)))
               (cases_lt j (length W));
         }
       where

@@ -204,14 +204,14 @@ opens s valid =
     let b = s.order.bottom in
     let some = valid.order.table.some in
     all_open (lattice_of s.order) s.order.size some (joins_below s.order valid.order) (is_free s.declarations) (written_in s.declarations b)
-        (written_below s valid) (written_levels (plan_of s))
+    (written_below s valid) (written_levels (plan_of s))
     s.declarations (plan_of s) (fixed b) (fixed b) 0 [] [] valid.known some some valid.numbered refl (sym (append-nil (written_levels (plan_of s))))
 
 pub open_at : (s : Syntax) → IsValid s → (cs : List Condition) → constraints_in cs ≡ constraints_of s → (i : ℕ) (c : Condition) → slice_get cs i ≡ Some c
     → IsOpen s.order.size (is_free s.declarations) (written_levels (plan_of s)) (constraint_of c)
 open_at s valid cs is i c e =
     all_at (IsOpen s.order.size (is_free s.declarations) (written_levels (plan_of s))) (constraints_of s) i (constraint_of c) (opens s valid)
-        (subst (λ z. slice_get z i ≡ Some (constraint_of c)) is (constraint_at cs i c e))
+    (subst (λ z. slice_get z i ≡ Some (constraint_of c)) is (constraint_at cs i c e))
 
 -- a written label is not that of an omitted one
 pub not_free : (s : Syntax) (x : ℕ) → is_free s.declarations x ≡ true → (cell_at s.declarations x).label ≡ None
@@ -271,9 +271,9 @@ module _ (s : Syntax) (valid : IsValid s) (cs : List Condition) (ws : List Bool)
   v_low l hl m =
       let up = value_up la lw (length vs) g (variable_of s.order l) (h.low_variables l hl m) (constraint_of c).have in
       let met = met_at la (variables s.declarations) (variable_of s.order l) (level_of s.order l) (constraints_of s) i (constraint_of c)
-          (constraints_met s valid l hl m) at_constraints in
+      (constraints_met s valid l hl m) at_constraints in
       let met2 = subst (λ z. Flows la (value la z (variable_of s.order l) (constraint_of c).have)
-          (right_of (variable_of s.order l) (level_of s.order l) (constraint_of c).side)) (sym h.variables.fit) met in
+      (right_of (variable_of s.order l) (level_of s.order l) (constraint_of c).side)) (sym h.variables.fit) met in
       lw.chain v _ _ up met2
 
   within : i < length ws
@@ -304,7 +304,7 @@ module _ (s : Syntax) (valid : IsValid s) (cs : List Condition) (ws : List Bool)
       (λ (q : y ≡ x). subst (λ z. Flows la (label_at bot xs z) (label_at bot (joined la bot xs x u) z)) (sym q)
       (subst (λ z. Flows la (label_at bot xs x) z) (sym (set_same bot xs x (la.join (label_at bot xs x) u) l)) (lw.left (label_at bot xs x) u)))
       (λ (q : y ≡ x → ⊥). subst (λ z. Flows la (label_at bot xs y) z) (sym (set_other bot xs x y (la.join (label_at bot xs x) u) q))
-          (lw.same (label_at bot xs y)))
+      (lw.same (label_at bot xs y)))
       (cases_eq y x)
 
   joined_is : (xs : List Label) (x u : ℕ) → x < length xs → Flows la u (label_at bot (joined la bot xs x u) x)
@@ -315,7 +315,7 @@ module _ (s : Syntax) (valid : IsValid s) (cs : List Condition) (ws : List Bool)
   joined_below xs x u l hu f y = ⊎_elim
       (λ (q : y ≡ x). subst (λ z. label_at bot (joined la bot xs x u) z < s.order.size) (sym q)
       (subst (λ z. z < s.order.size) (sym (set_same bot xs x (la.join (label_at bot xs x) u) l))
-          (joins_below s.order valid.order (label_at bot xs x) u (f x) hu)))
+      (joins_below s.order valid.order (label_at bot xs x) u (f x) hu)))
       (λ (q : y ≡ x → ⊥). subst (λ z. z < s.order.size) (sym (set_other bot xs x y (la.join (label_at bot xs x) u) q)) (f y))
       (cases_eq y x)
 
@@ -359,7 +359,7 @@ module _ (s : Syntax) (valid : IsValid s) (cs : List Condition) (ws : List Bool)
             (λ (q : j ≡ i).
             let same : c ≡ d = same_Some c d (sym e ∙ subst (λ z. slice_get cs z ≡ Some d) q f) in
             subst (λ z. Flows la (have (constraint_of z)) (right_of g lv' (constraint_of z).side)) same
-                (subst (λ z. Flows la v (right_of g lv' z)) (sym side) (joined_is ls k v l)))
+            (subst (λ z. Flows la v (right_of g lv' z)) (sym side) (joined_is ls k v l)))
             (λ (q : j ≡ i → ⊥). lw.chain _ _ _ (h.settled j d f (sym (wait_other ws i j q) ∙ kk)) (rup (constraint_of d).side))
             (cases_eq j i);
         low_variables = h.low_variables;
@@ -410,7 +410,7 @@ module _ (s : Syntax) (valid : IsValid s) (cs : List Condition) (ws : List Bool)
           kept = λ y j. ⊎_elim
               (λ (q : y ≡ x). kept_none (cell_at ds y).label (g' y) 0 (subst (λ z. (cell_at ds z).label ≡ None) (sym q) (not_free s x free)))
               (λ (q : y ≡ x → ⊥). subst (λ z. IsKept (cell_at ds y).label z) (sym (set_other bot vs x y (la.join (g x) v) q)) (h.variables.kept y j))
-                  (cases_eq y x);
+              (cases_eq y x);
         };
         levels = h.levels;
         settled = λ j d f kk.
@@ -421,9 +421,9 @@ module _ (s : Syntax) (valid : IsValid s) (cs : List Condition) (ws : List Bool)
             (λ (q : j ≡ i).
             let same : c ≡ d = same_Some c d (sym e ∙ subst (λ z. slice_get cs z ≡ Some d) q f) in
             subst (λ z. Flows la (have (constraint_of z)) (right_of g' lv (constraint_of z).side)) same
-                (subst (λ z. Flows la v (right_of g' lv z)) (sym side) (joined_is vs x v l)))
+            (subst (λ z. Flows la v (right_of g' lv z)) (sym side) (joined_is vs x v l)))
             (λ (q : j ≡ i → ⊥). lw.chain _ _ _ (h.settled j d f (sym (wait_other ws i j q) ∙ parts.0))
-                (variable_up (constraint_of d).side (joined_up vs x v l)))
+            (variable_up (constraint_of d).side (joined_up vs x v l)))
             (cases_eq j i));
         low_variables = λ l' hl m. joined_low vs x v l (variable_of s.order l') (h.low_variables l' hl m)
             (subst (λ z. Flows la v (right_of (variable_of s.order l') (level_of s.order l') z)) side (v_low l' hl m));
@@ -466,7 +466,7 @@ still_work s valid w w' i c h t =
 done_is : (s : Syntax) → IsValid s → (cs : List Condition) (ws : List Bool) (vs ls : List Label) → IsWorkOf s (work s.order cs ws vs ls)
     → IsDone (work s.order cs ws vs ls) →
     (ms : List (Label × Label)) → Labels s (record { variables = vs; commands = ms; levels = ls })
-        → IsLeast s (record { variables = vs; commands = ms; levels = ls })
+    → IsLeast s (record { variables = vs; commands = ms; levels = ls })
 done_is s valid cs ws vs ls h done ms labels =
     let la = lattice_of s.order in
     let g : ℕ → ℕ = label_at s.order.bottom vs in
@@ -483,10 +483,10 @@ least_done s valid w h done l labels hv hl =
     let q = same_work w s.order h.order in
     let is : l ≡ record { variables = w.variables; commands = l.commands; levels = w.levels } =
     ap (λ z. record { variables = z; commands = l.commands; levels = l.levels }) hv
-        ∙ ap (λ z. record { variables = w.variables; commands = l.commands; levels = z }) hl in
+    ∙ ap (λ z. record { variables = w.variables; commands = l.commands; levels = z }) hl in
     subst (λ z. IsLeast s z) (sym is)
     (done_is s valid w.conditions w.waits w.variables w.levels (subst (λ z. IsWorkOf s z) q h) (subst (λ z. IsDone z) q done) l.commands
-        (subst (λ z. Labels s z) is labels))
+    (subst (λ z. Labels s z) is labels))
 
 -- in particular they are the labels of each least labelling
 pub inferred : (s : Syntax) → IsValid s → (w : Work) → IsWorkOf s w → IsDone w → IsInferred s w
@@ -495,10 +495,14 @@ inferred s valid w h done =
     let ll = lattice_laws s.order valid.order in
     let g0 : ℕ → ℕ = label_at s.order.bottom w.variables in
     let full = labels_from s valid w.variables w.levels (own_pairs la g0 (plan_of s) s.order.bottom) h.variables h.levels refl in
-    let best = least_done s valid w h done (record { variables = w.variables; commands = own_pairs la g0 (plan_of s) s.order.bottom; levels =
-        w.levels }) full refl refl in
+    let best = least_done s valid w h done (record {
+      variables = w.variables;
+      commands = own_pairs la g0 (plan_of s) s.order.bottom;
+      levels =
+          w.levels;
+    }) full refl refl in
     let to : (o : Order) (x : ℕ) (xs : List Label) → o ≡ s.order → label_at o.bottom xs x ≡ label_at s.order.bottom xs x =
-        λ o x xs q. ap (λ (z : Order). label_at z.bottom xs x) q in
+    λ o x xs q. ap (λ (z : Order). label_at z.bottom xs x) q in
     record {
       variables = λ l b x. to w.order x w.variables h.order
           ∙ ll.anti _ _ ((best.least l b.labels b.meets).variables x) ((b.least _ full best.meets).variables x);

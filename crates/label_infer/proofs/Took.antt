@@ -29,18 +29,18 @@ module _ (o : Order) (cs : List Condition) (ws : List Bool) (vs ls : List Label)
   pub took_variable : (x : ℕ) (cs1 : List Condition) (ws1 ws' : List Bool) (vs1 vs' : List Label) → c.target ≡ Variable x → cs1 ≡ cs
       → ws1 ≡ slice_set ws i false → vs1 ≡ vs →
       ws' ≡ cond ((lattice_of o).flows v (label_at o.bottom vs1 x)) ws1 (woken x cs1 ws1)
-          → vs' ≡ cond ((lattice_of o).flows v (label_at o.bottom vs1 x)) vs1 (joined (lattice_of o) o.bottom vs1 x v) →
+      → vs' ≡ cond ((lattice_of o).flows v (label_at o.bottom vs1 x)) vs1 (joined (lattice_of o) o.bottom vs1 x v) →
       Takes w (work o cs ws' vs' ls) i c
   took_variable x cs1 ws1 ws' vs1 vs' t hc1 hw1 hv1 ew evs =
       let la = lattice_of o in
       let f = la.flows v (label_at o.bottom vs x) in
       let s = slice_set ws i false in
       let ew2 : ws' ≡ cond f s (woken x cs s) = ew ∙ ap (λ z. cond (la.flows v (label_at o.bottom z x)) ws1 (woken x cs1 ws1)) hv1
-          ∙ ap (λ z. cond f z (woken x cs1 z)) hw1 ∙ ap (λ z. cond f s (woken x z s)) hc1 in
+      ∙ ap (λ z. cond f z (woken x cs1 z)) hw1 ∙ ap (λ z. cond f s (woken x z s)) hc1 in
       let ev2 : vs' ≡ cond f vs (joined la o.bottom vs x v) = evs ∙ ap (λ z. cond (la.flows v (label_at o.bottom z x)) z (joined la o.bottom z x v)) hv1 in
       let is : work o cs ws' vs' ls ≡ taken_side w i v (side_of (Variable x)) =
       ap (λ z. work o cs z vs' ls) ew2 ∙ ap (λ z. work o cs (cond f s (woken x cs s)) z ls) ev2
-          ∙ split_work o cs ws vs ls i f s (woken x cs s) vs (joined la o.bottom vs x v) in
+      ∙ split_work o cs ws vs ls i f s (woken x cs s) vs (joined la o.bottom vs x v) in
       record {
         waits = subst (λ z. waits_at z i ≡ true) hw wt;
         there = subst (λ z. slice_get z i ≡ Some c) hc e;
@@ -52,7 +52,7 @@ module _ (o : Order) (cs : List Condition) (ws : List Bool) (vs ls : List Label)
   took_level k ls1 ls' t hl el =
       let la = lattice_of o in
       let is : work o cs (slice_set ws i false) vs ls' ≡ taken_side w i v (side_of (Level k)) =
-          ap (λ z. work o cs (slice_set ws i false) vs z) (el ∙ ap (λ z. joined la o.bottom z k v) hl) in
+      ap (λ z. work o cs (slice_set ws i false) vs z) (el ∙ ap (λ z. joined la o.bottom z k v) hl) in
       record {
         waits = subst (λ z. waits_at z i ≡ true) hw wt;
         there = subst (λ z. slice_get z i ≡ Some c) hc e;

@@ -112,9 +112,10 @@ module _ (lat : Lattice) (ll : IsLattice lat) (ds : List Declaration) (g h lv lw
   pub typed_low : (p : Plan) (i P P' T T' : ℕ) → Keeps ms lv p i → Keeps ms' lw p i → Flows lat P P' → Flows lat T T' →
       Meets lat (is_omitted ds) (conds p P T) → AllHold lat (conds' p P' T') → AllHold lat (conds p P T)
   typed_low Done i P P' T T' kv kw fp ft m a = tt
-  typed_low (Skip w p) i P P' T T' kv kw fp ft m a =
-      (own_holds w.labels P P' fp a.0,
-          typed_low p (i + 1) P P' _ _ kv.1 kw.1 fp (join_up lat ll T (own w.labels P).er T' (own w.labels P').er ft (own_up w.labels P P' fp)) m.1 a.1)
+  typed_low (Skip w p) i P P' T T' kv kw fp ft m a = (
+    own_holds w.labels P P' fp a.0,
+    typed_low p (i + 1) P P' _ _ kv.1 kw.1 fp (join_up lat ll T (own w.labels P).er T' (own w.labels P').er ft (own_up w.labels P P' fp)) m.1 a.1,
+  )
   typed_low (Assign w x e p) i P P' T T' kv kw fp ft m a =
       let up = assign_is w P P' T T' fp ft e in (
         set_typed x _ _ up m.0 a.0,
@@ -201,7 +202,7 @@ types_most s valid l best l' h' ty =
     let met' : MeetsOmitted s l' = holds_meet lat (is_omitted ds) (conditions lat h (tree_of o l' p 0) b b) all' in
     let low = best.least l' h' met' in
     let all = typed_low lat ll ds g h lv lw low.variables low.levels (λ x f. same_written s l l' best.labels.keeps h'.keeps x f)
-        (marks_of o l) (marks_of o l') p 0 b b b b
+    (marks_of o l) (marks_of o l') p 0 b b b b
     best.labels.keeps.written h'.keeps.written sb sb
     (subst (λ z. Meets lat (is_omitted ds) (conditions lat g z b b)) tree best.meets)
     (subst (λ z. AllHold lat (conditions lat h z b b)) tree' all') in

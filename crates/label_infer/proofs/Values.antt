@@ -26,7 +26,7 @@ module _ (lat : Lattice) (ll : IsLattice lat) where
       let t : has n ≡ true = subst (λ z. has z ≡ true) s e in
       let v = value_from lat g b has n in
       let up : Flows lat (g n) (cond (has n) (lat.join v (g n)) v) =
-          subst (λ z. Flows lat (g n) z) (sym (cond-true (has n) (lat.join v (g n)) v t)) (ll.right v (g n)) in
+      subst (λ z. Flows lat (g n) z) (sym (cond-true (has n) (lat.join v (g n)) v t)) (ll.right v (g n)) in
       subst (λ z. Flows lat (g z) (cond (has n) (lat.join v (g n)) v)) (sym s) up)
       (cases_lt x n)
     where
@@ -74,16 +74,16 @@ module _ (lat : Lattice) (ll : IsLattice lat) where
         (or_cases (f.has x) (h.has x) e)))
         (ll.least (val f) (val h) (val c)
         (value_least g f.base f.has n (val c) (ll.chain f.base c.base (val c) (ll.left f.base h.base) (base_up g c.base c.has n))
-            (λ x i e. has_up g c.base c.has n x i (or_left (f.has x) (h.has x) e)))
+        (λ x i e. has_up g c.base c.has n x i (or_left (f.has x) (h.has x) e)))
         (value_least g h.base h.has n (val c) (ll.chain h.base c.base (val c) (ll.right f.base h.base) (base_up g c.base c.has n))
-            (λ x i e. has_up g c.base c.has n x i (or_right (f.has x) (h.has x) e))))
+        (λ x i e. has_up g c.base c.has n x i (or_right (f.has x) (h.has x) e))))
 
     one_value : (x : ℕ) → x < n → val (record { base = lat.bottom; has = λ y. false || eqb x y }) ≡ g x
     one_value x h =
         let has : ℕ → Bool = λ y. false || eqb x y in
         ll.anti (value_from lat g lat.bottom has n) (g x)
         (value_least g lat.bottom has n (g x) (ll.lowest (g x))
-            (λ y i e. let s : x ≡ y = eqb-true x y e in subst (λ z. Flows lat (g z) (g x)) s (ll.same (g x))))
+        (λ y i e. let s : x ≡ y = eqb-true x y e in subst (λ z. Flows lat (g z) (g x)) s (ll.same (g x))))
         (has_up g lat.bottom has n x h (eq-eqb x x refl))
 
     -- a label, joined with that of one variable
@@ -93,7 +93,7 @@ module _ (lat : Lattice) (ll : IsLattice lat) where
         let v = value_from lat g b has n in
         ll.anti v (lat.join b (g x))
         (value_least g b has n (lat.join b (g x)) (ll.left b (g x))
-            (λ y i e. subst (λ z. Flows lat (g z) (lat.join b (g x))) (eqb-true x y e) (ll.right b (g x))))
+        (λ y i e. subst (λ z. Flows lat (g z) (lat.join b (g x))) (eqb-true x y e) (ll.right b (g x))))
         (ll.least b (g x) v (base_up g b has n) (has_up g b has n x h (eq-eqb x x refl)))
 
     pub without_one : (b x : ℕ) → n ≤ x → value_from lat g b (λ y. eqb x y) n ≡ b

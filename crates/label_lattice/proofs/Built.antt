@@ -76,13 +76,13 @@ module _ (n : ℕ) (few : n ≤ row) (ps : List (Label × Label)) (t : List Bool
       unfolding join_in
       join_is a b k l =
           let P : ℕ → ℕ → Type 0 = λ x y. (HaveNoJoin n (IsSet t) x y × (get_or js (a * row + b) 0 ≡ 0))
-              ⊎ ((get_or js (a * row + b) 0 < n) × IsJoin n (IsSet t) x y (get_or js (a * row + b) 0)) in
+          ⊎ ((get_or js (a * row + b) 0 < n) × IsJoin n (IsSet t) x y (get_or js (a * row + b) 0)) in
           let l' : b < row = omega (arith, l, few) in
           let f : P ((a * row + b) / row) ((a * row + b) % row) = joins (a * row + b) (cell_below a b (omega (arith, k, few)) l') in
           let g : P a b = subst (λ (x : ℕ). P x b) (div-mul-add a row b l') (subst (λ (y : ℕ). P ((a * row + b) / row) y) (mod-mul-add a row b l') f) in
           ⊎_elim
           (λ (x : HaveNoJoin n (IsSet t) a b × (get_or js (a * row + b) 0 ≡ 0)). absurd
-              (have_join n (IsSet t) same chain known no_cycle one_lowest joined a b k l x.0))
+          (have_join n (IsSet t) same chain known no_cycle one_lowest joined a b k l x.0))
           (λ (y : (get_or js (a * row + b) 0 < n) × IsJoin n (IsSet t) a b (get_or js (a * row + b) 0)). y) g
 
       pub table_is : IsTable n (λ a b. get_or t (a * row + b) false) (λ a b. get_or js (a * row + b) 0) m
@@ -115,19 +115,19 @@ module _ (n : ℕ) (few : n ≤ row) (ps : List (Label × Label)) (below : AreBe
     no_join_there a b j k l f i x = ⊎_elim
         (λ (p : a < n). let e : b ≡ j = alone b j l (omega (arith, i, few)) (λ u v. f p u) x.right in f p (omega (arith, e, i)))
         (λ (p : n ≤ a). let e : a ≡ j = alone a j k (omega (arith, i, few)) (λ u v. absurd (omega (arith, u, p))) x.left in
-            absurd (omega (arith, e, i, p))) (cases_lt a n)
+        absurd (omega (arith, e, i, p))) (cases_lt a n)
 
     pub joins_none : (a b : ℕ) → a < row → b < row → (a < n → b < n → ⊥) → get_or js (a * row + b) 0 ≡ 0
     joins_none a b k l f =
         let j : ℕ = get_or js (a * row + b) 0 in
         let P : ℕ → ℕ → Type 0 = λ x y. (HaveNoJoin n (IsSet t) x y × (get_or js (a * row + b) 0 ≡ 0))
-            ⊎ ((get_or js (a * row + b) 0 < n) × IsJoin n (IsSet t) x y (get_or js (a * row + b) 0)) in
+        ⊎ ((get_or js (a * row + b) 0 < n) × IsJoin n (IsSet t) x y (get_or js (a * row + b) 0)) in
         let g : P ((a * row + b) / row) ((a * row + b) % row) = joins (a * row + b) (cell_below a b k l) in
         let q : P a b = subst (λ (x : ℕ). P x b) (div-mul-add a row b l) (subst (λ (y : ℕ). P ((a * row + b) / row) y) (mod-mul-add a row b l) g) in
         ⊎_elim
         (λ (x : HaveNoJoin n (IsSet t) a b × (get_or js (a * row + b) 0 ≡ 0)). x.1)
         (λ (y : (get_or js (a * row + b) 0 < n) × IsJoin n (IsSet t) a b (get_or js (a * row + b) 0)). absurd
-            (no_join_there a b (get_or js (a * row + b) 0) k l f y.0 y.1)) q
+        (no_join_there a b (get_or js (a * row + b) 0) k l f y.0 y.1)) q
 
 module _ (names room : List (List ℕ)) (t : List Bool) (js : List ℕ) (m : ℕ) (is_room : room ≡ filled names (length names)) where
   front : take (length names) room ≡ names
@@ -139,7 +139,7 @@ module _ (names room : List (List ℕ)) (t : List Bool) (js : List ℕ) (m : ℕ
   module _ (z : 0 < length names) (few : length names ≤ row) (all : All IsName names) (differ : AllDiffer names)
       (table : IsTable (length names) (λ a b. get_or t (a * row + b) false) (λ a b. get_or js (a * row + b) 0) m)
       (ps : List (Label × Label)) (below : AreBelow (length names) ps) (h : IsClosure t ps) (joins : (i : ℕ) → i < row * row
-          → IsJoinOf (length names) t i (get_or js i 0)) (sizes : (length t ≡ row * row) × (length js ≡ row * row)) where
+      → IsJoinOf (length names) t i (get_or js i 0)) (sizes : (length t ≡ row * row) × (length js ≡ row * row)) where
     order : IsOrder there
     order =
         record {
@@ -168,9 +168,10 @@ module _ (names room : List (List ℕ)) (t : List Bool) (js : List ℕ) (m : ℕ
           named = front;
           flows = λ a b k l.
               let two : (ltb a (length names) && ltb b (length names)) ≡ true =
-                  and_from (ltb a (length names)) (ltb b (length names)) (lt-ltb a (length names) k) (lt-ltb b (length names) l) in
+              and_from (ltb a (length names)) (ltb b (length names)) (lt-ltb a (length names) k) (lt-ltb b (length names) l) in
               let e : cond (ltb a (length names) && ltb b (length names)) (get_or t (a * row + b) false) (leb a b) ≡ get_or t (a * row + b) false =
-                  cond-true (ltb a (length names) && ltb b (length names)) (get_or t (a * row + b) false) (leb a b) two in
-              (λ f. h.sets a b (omega (arith, k, s.few)) (omega (arith, l, s.few)) (sym e ∙ f),
-                  λ c. e ∙ h.set a b (omega (arith, k, s.few)) (omega (arith, l, s.few)) c);
+              cond-true (ltb a (length names) && ltb b (length names)) (get_or t (a * row + b) false) (leb a b) two in (
+                λ f. h.sets a b (omega (arith, k, s.few)) (omega (arith, l, s.few)) (sym e ∙ f),
+                λ c. e ∙ h.set a b (omega (arith, k, s.few)) (omega (arith, l, s.few)) c,
+              );
         }

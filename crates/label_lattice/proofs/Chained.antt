@@ -21,7 +21,7 @@ written_split [] p a b w = ⊎_elim (λ (e : (p.0.number ≡ a) × (p.1.number �
 written_split (x ∷ xs) p a b w = ⊎_elim
     (λ (e : (x.0.number ≡ a) × (x.1.number ≡ b)). inl (inl e))
     (λ (r : IsWritten (xs ++ p ∷ []) a b). ⊎_elim (λ (l : IsWritten xs a b). inl (inr l)) (λ (e : (p.0.number ≡ a) × (p.1.number ≡ b)). inr e)
-        (written_split xs p a b r)) w
+    (written_split xs p a b r)) w
 
 pub written_more : (xs : List (Label × Label)) (p : Label × Label) (a b : ℕ) → IsWritten xs a b → IsWritten (xs ++ p ∷ []) a b
 written_more [] p a b w = absurd w

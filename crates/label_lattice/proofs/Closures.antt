@@ -16,7 +16,7 @@ cell_below a b h k = omega arith
 pub diagonal_is : (t : List Bool) → ((i : ℕ) → i < row * row → get_or t i false ≡ on_diagonal i) → IsClosure t []
 diagonal_is t f =
     let at : (a b : ℕ) → a < row → b < row → get_or t (a * row + b) false ≡ eqb a b =
-        λ a b h k. f (a * row + b) (cell_below a b h k) ∙ ap₂ (λ (x y : ℕ). eqb x y) (div-mul-add a row b k) (mod-mul-add a row b k) in
+    λ a b h k. f (a * row + b) (cell_below a b h k) ∙ ap₂ (λ (x y : ℕ). eqb x y) (div-mul-add a row b k) (mod-mul-add a row b k) in
     record {
       sets = λ a b h k s. chain_same [] a b (eqb-true a b (sym (at a b h k) ∙ s));
       set = λ a b h k c. at a b h k ∙ eq-eqb a b (chain_empty c);
@@ -42,7 +42,7 @@ module _ (t : List Bool) (ps : List (Label × Label)) (p : Label × Label) (h : 
       (λ (s : Chain ps a p.0.number × Chain ps p.1.number b).
       or_right (get_or t (a * row + b) false) (get_or t (a * row + p.0.number) false && get_or t (p.1.number * row + b) false)
       (and_from (get_or t (a * row + p.0.number) false) (get_or t (p.1.number * row + b) false) (h.set a p.0.number k below.0 s.0)
-          (h.set p.1.number b below.1 l s.1)))
+      (h.set p.1.number b below.1 l s.1)))
       (chain_split ps p c)
 
   pub closure_more : (u : List Bool) → ((i : ℕ) → i < row * row → get_or u i false ≡ extended t p.0.number p.1.number i) → IsClosure u (ps ++ p ∷ [])
@@ -50,8 +50,8 @@ module _ (t : List Bool) (ps : List (Label × Label)) (p : Label × Label) (h : 
   closure_more u f =
       let at : (a b : ℕ) → a < row → b < row → get_or u (a * row + b) false ≡ by_way a b =
       λ a b k l. f (a * row + b) (cell_below a b k l)
-          ∙ ap₂ (λ (x y : ℕ). get_or t (a * row + b) false || (get_or t (x * row + p.0.number) false && get_or t (p.1.number * row + y) false))
-          (div-mul-add a row b l) (mod-mul-add a row b l) in
+      ∙ ap₂ (λ (x y : ℕ). get_or t (a * row + b) false || (get_or t (x * row + p.0.number) false && get_or t (p.1.number * row + y) false))
+      (div-mul-add a row b l) (mod-mul-add a row b l) in
       record {
         sets = λ a b k l s. to_chain a b k l (sym (at a b k l) ∙ s);
         set = λ a b k l c. at a b k l ∙ from_chain a b k l c;
@@ -64,7 +64,7 @@ module _ (t : List Bool) (ps : List (Label × Label)) (p : Label × Label) (h : 
         set = λ a b k l c. ⊎_elim
             (λ (x : Chain ps a b). h.set a b k l x)
             (λ (s : Chain ps a p.0.number × Chain ps p.1.number b). h.set a b k l
-                (chain_then ps s.0 (chain_then ps (h.sets p.0.number p.1.number below.0 below.1 e) s.1)))
+            (chain_then ps s.0 (chain_then ps (h.sets p.0.number p.1.number below.0 below.1 e) s.1)))
             (chain_split ps p c);
       }
 

@@ -13,7 +13,7 @@ pub padded_front : (bs new : List ℕ) → length bs ≤ 32 → IsName bs → ne
     → IsPadded (record { room = new ++ drop (length bs) (replicate 32 0); len = length bs })
 padded_front bs new h n e =
     let front : take (length bs) (new ++ drop (length bs) (replicate 32 0)) ≡ bs =
-        ap (λ (l : List ℕ). take (length bs) (l ++ drop (length bs) (replicate 32 0))) e ∙ take-append_seam bs _ in
+    ap (λ (l : List ℕ). take (length bs) (l ++ drop (length bs) (replicate 32 0))) e ∙ take-append_seam bs _ in
     record {
       short = h;
       room = ap₂ (λ (x y : List ℕ). x ++ y) (e ∙ sym front) (drop-replicate (length bs) 32 0);

@@ -76,7 +76,7 @@ module _ (names : List (List ℕ)) (pairs : List (Label × Label)) (o u : Order)
   split : (P : Type 0) (a b : ℕ) → (a < length names → b < length names → P) → ((a < length names → b < length names → ⊥) → P) → P
   split P a b f g = ⊎_elim
       (λ (i : a < length names). ⊎_elim (λ (j : b < length names). f i j)
-          (λ (j : length names ≤ b). g (λ x y. absurd (omega (arith, j, y)))) (cases_lt b (length names)))
+      (λ (j : length names ≤ b). g (λ x y. absurd (omega (arith, j, y)))) (cases_lt b (length names)))
       (λ (i : length names ≤ a). g (λ x y. absurd (omega (arith, i, x)))) (cases_lt a (length names))
 
   outside : (v : Order) → v.size ≡ length names → (a b : ℕ) → (a < length names → b < length names → ⊥) → a < v.size → b < v.size → ⊥
@@ -95,12 +95,12 @@ module _ (names : List (List ℕ)) (pairs : List (Label × Label)) (o u : Order)
   same_flows : o.flows ≡ u.flows
   same_flows = ext_get_or false o.flows u.flows (h.order.room.flows ∙ sym k.order.room.flows)
       (λ i l. let c = cell_at i (omega (arith, l, h.order.room.flows)) in
-          subst (λ (z : ℕ). get_or o.flows z false ≡ get_or u.flows z false) c.2 (flow_there (i / row) (i % row) c.0 c.1))
+      subst (λ (z : ℕ). get_or o.flows z false ≡ get_or u.flows z false) c.2 (flow_there (i / row) (i % row) c.0 c.1))
 
   same_joins : o.joins ≡ u.joins
   same_joins = ext_get_or 0 o.joins u.joins (h.order.room.joins ∙ sym k.order.room.joins)
       (λ i l. let c = cell_at i (omega (arith, l, h.order.room.joins)) in
-          subst (λ (z : ℕ). get_or o.joins z 0 ≡ get_or u.joins z 0) c.2 (join_there (i / row) (i % row) c.0 c.1))
+      subst (λ (z : ℕ). get_or o.joins z 0 ≡ get_or u.joins z 0) c.2 (join_there (i / row) (i % row) c.0 c.1))
 
   same_bottom : o.bottom ≡ u.bottom
   same_bottom =

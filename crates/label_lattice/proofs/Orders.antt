@@ -14,7 +14,7 @@ order_is o h = over_all_is o.size (flows_in o.flows) (join_in o.joins) o.bottom 
 pub join_below : (o : Order) → IsOrder o → (a b : ℕ) → a < o.size → b < o.size → (lattice_of o).join a b < o.size
 join_below o h a b p q =
     rw (cond-true (ltb a o.size && ltb b o.size) (join_in o.joins a b) (max a b)
-        (and_from (ltb a o.size) (ltb b o.size) (lt-ltb a o.size p) (lt-ltb b o.size q)))
+    (and_from (ltb a o.size) (ltb b o.size) (lt-ltb a o.size p) (lt-ltb b o.size q)))
     (h.table.closed a b p q)
 
 -- what holds of the fields' order holds of the value

@@ -67,20 +67,20 @@ module _ (n : ℕ) (flows : ℕ → ℕ → Bool) (join : ℕ → ℕ → ℕ) (
             (λ (q : (n ≤ a) × (b ≤ a)). let e : a ≡ b = omega (arith, p.1, q.1) in e) (parts b a k)) (parts a b f);
         left = λ a b. ⊎_elim
             (λ (p : (a < n) × (b < n) × (lat.join a b ≡ join a b)). subst
-                (λ z. Flows lat a z) (sym p.2) (inside a (join a b) p.0 (table.closed a b p.0 p.1) (table.left a b p.0 p.1)))
+            (λ z. Flows lat a z) (sym p.2) (inside a (join a b) p.0 (table.closed a b p.0 p.1) (table.left a b p.0 p.1)))
             (λ (p : (n ≤ max a b) × (lat.join a b ≡ max a b)). subst (λ z. Flows lat a z) (sym p.1) (up a (max a b) p.0 (omega arith))) (joined a b);
         right = λ a b. ⊎_elim
             (λ (p : (a < n) × (b < n) × (lat.join a b ≡ join a b)). subst
-                (λ z. Flows lat b z) (sym p.2) (inside b (join a b) p.1 (table.closed a b p.0 p.1) (table.right a b p.0 p.1)))
+            (λ z. Flows lat b z) (sym p.2) (inside b (join a b) p.1 (table.closed a b p.0 p.1) (table.right a b p.0 p.1)))
             (λ (p : (n ≤ max a b) × (lat.join a b ≡ max a b)). subst (λ z. Flows lat b z) (sym p.1) (up b (max a b) p.0 (omega arith))) (joined a b);
         least = λ a b c f k. ⊎_elim
             (λ (p : (a < n) × (b < n) × (lat.join a b ≡ join a b)). ⊎_elim
             (λ (x : (a < n) × (c < n) × (flows a c ≡ true)). ⊎_elim
             (λ (y : (b < n) × (c < n) × (flows b c ≡ true)). subst
-                (λ z. Flows lat z c) (sym p.2) (inside (join a b) c (table.closed a b p.0 p.1) x.1 (table.least a b c p.0 p.1 x.1 x.2 y.2)))
+            (λ z. Flows lat z c) (sym p.2) (inside (join a b) c (table.closed a b p.0 p.1) x.1 (table.least a b c p.0 p.1 x.1 x.2 y.2)))
             (λ (y : (n ≤ c) × (b ≤ c)). absurd (omega (arith, x.1, y.0))) (parts b c k))
             (λ (x : (n ≤ c) × (a ≤ c)). subst (λ z. Flows lat z c) (sym p.2) (up (join a b) c x.0 (omega (arith, table.closed a b p.0 p.1, x.0))))
-                (parts a c f))
+            (parts a c f))
             (λ (p : (n ≤ max a b) × (lat.join a b ≡ max a b)). ⊎_elim
             (λ (x : (a < n) × (c < n) × (flows a c ≡ true)). ⊎_elim
             (λ (y : (b < n) × (c < n) × (flows b c ≡ true)). absurd (omega (arith, p.0, x.0, y.0)))
@@ -88,7 +88,7 @@ module _ (n : ℕ) (flows : ℕ → ℕ → Bool) (join : ℕ → ℕ → ℕ) (
             (λ (x : (n ≤ c) × (a ≤ c)). ⊎_elim
             (λ (y : (b < n) × (c < n) × (flows b c ≡ true)). absurd (omega (arith, x.0, y.1)))
             (λ (y : (n ≤ c) × (b ≤ c)). subst (λ z. Flows lat z c) (sym p.1) (up (max a b) c x.0 (omega (arith, x.1, y.1)))) (parts b c k)) (parts a c f))
-                (joined a b);
+            (joined a b);
         lowest = λ a. ⊎_elim (λ (h : a < n). inside bottom a table.some h (table.lowest a h))
             (λ (h : n ≤ a). up bottom a h (omega (arith, table.some))) (cases_lt a n);
       }

@@ -42,7 +42,7 @@ module _ (n : ℕ) (R : ℕ → ℕ → Type 0) (same : (a : ℕ) → a < n → 
   anti a b h k p q = ⊎_elim
       (λ (e : a ≡ b). e)
       (λ (o : (a < b) ⊎ (b < a)). ⊎_elim (λ (l : a < b). absurd (no_cycle a b l k (p, q))) (λ (l : b < a). absurd (no_cycle b a l h (q, p))) o)
-          (cases_order a b)
+      (cases_order a b)
 
   abbrev pub LowestBelow : ℕ → ℕ → ℕ → Type 0
   LowestBelow k a m = (m < n) × R m a × ((c : ℕ) → c < k → R c m → c ≡ m)
@@ -86,7 +86,7 @@ module _ (n : ℕ) (R : ℕ → ℕ → Type 0) (same : (a : ℕ) → a < n → 
   same_lowest a b h k p q = ⊎_elim
       (λ (e : a ≡ b). e)
       (λ (o : (a < b) ⊎ (b < a)). ⊎_elim (λ (l : a < b). absurd (one_lowest a b l k (p, q))) (λ (l : b < a). absurd (one_lowest b a l h (q, p))) o)
-          (cases_order a b)
+      (cases_order a b)
 
   -- the lowest label flows to all
   pub lowest_flows : (m : ℕ) → m < n → IsLowest n R m → (a : ℕ) → a < n → R m a

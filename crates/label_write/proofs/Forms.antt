@@ -25,11 +25,11 @@ module _ (o : Order) (l : Labelling) (n : ℕ) (f : Form) (e e' : Expr) (he : ex
       let there : n + 1 + count (list_plan a) + count (list_plan b) ≡ end = omega (arith, hm, hn) in
       ap (λ z. written_plan o l z n) (if_parts f e v u a b is ha hb w rest)
       ∙ ap (λ z. If (now w) z (written_plan o l (list_plan a) (n + 1)) (written_plan o l (list_plan b) (n + 1 + count (list_plan a)))
-          (written_plan o l rest (n + 1 + count (list_plan a) + count (list_plan b)))) (sym he)
+      (written_plan o l rest (n + 1 + count (list_plan a) + count (list_plan b)))) (sym he)
       ∙ ap (λ z. If (now w) (expression_of e') z (written_plan o l (list_plan b) (n + 1 + count (list_plan a)))
-          (written_plan o l rest (n + 1 + count (list_plan a) + count (list_plan b)))) (sym hv)
+      (written_plan o l rest (n + 1 + count (list_plan a) + count (list_plan b)))) (sym hv)
       ∙ ap (λ z. If (now w) (expression_of e') (list_plan v'.items) (written_plan o l (list_plan b) z)
-          (written_plan o l rest (n + 1 + count (list_plan a) + count (list_plan b)))) (sym hm)
+      (written_plan o l rest (n + 1 + count (list_plan a) + count (list_plan b)))) (sym hm)
       ∙ ap (λ z. If (now w) (expression_of e') (list_plan v'.items) z (written_plan o l rest (n + 1 + count (list_plan a) + count (list_plan b)))) (sym hu)
       ∙ ap (λ z. If (now w) (expression_of e') (list_plan v'.items) (list_plan u'.items) (written_plan o l rest z)) there
       ∙ sym (plan-If e' v' u' (now w) (written_plan o l rest end))
@@ -51,7 +51,7 @@ module _ (o : Order) (l : Labelling) (n : ℕ) (f : Form) (e e' : Expr) (he : ex
   wrote_mitigate k old level v v' a end is ha hn hl hv w rest =
       ap (λ z. written_plan o l z n) (mitigate_parts f k e old v a is ha w rest)
       ∙ ap (λ z. Mitigate (now w) k (Some (as_label z)) (expression_of e) (written_plan o l (list_plan a) (n + 1))
-          (written_plan o l rest (n + 1 + count (list_plan a)))) (sym hl)
+      (written_plan o l rest (n + 1 + count (list_plan a)))) (sym hl)
       ∙ ap (λ z. Mitigate (now w) k (Some level) z (written_plan o l (list_plan a) (n + 1)) (written_plan o l rest (n + 1 + count (list_plan a)))) (sym he)
       ∙ ap (λ z. Mitigate (now w) k (Some level) (expression_of e') z (written_plan o l rest (n + 1 + count (list_plan a)))) (sym hv)
       ∙ ap (λ z. Mitigate (now w) k (Some level) (expression_of e') (list_plan v'.items) (written_plan o l rest z)) (sym hn)

@@ -39,7 +39,7 @@ module _ (o : Order) (l : Labelling) (ms : ℕ → Marks) (ls : ℕ → ℕ) whe
     third h =
         subst (λ n. Keeps ms ls (written_plan o l p (i + 1 + count a + count b)) (i + 1 + count a + n)) (same_count o l b (i + 1 + count a))
         (subst (λ n. Keeps ms ls (written_plan o l p (i + 1 + count a + count b)) (i + 1 + n + count (written_plan o l b (i + 1 + count a))))
-            (same_count o l a (i + 1)) h)
+        (same_count o l a (i + 1)) h)
 
   abbrev SameMarks : ℕ → Type 0
   SameMarks j = ms j ≡ marks_of o l j
@@ -52,7 +52,7 @@ module _ (o : Order) (l : Labelling) (ms : ℕ → Marks) (ls : ℕ → ℕ) whe
       let a : (ms i).er ≡ (marks_of o l i).er = h.0 in
       let b : (ms i).ew ≡ (marks_of o l i).ew = h.1 in
       ap (λ (z : ℕ). let m : Marks = record { er = z; ew = (ms i).ew } in m) a ∙ ap (λ (z : ℕ). let m : Marks =
-          record { er = (marks_of o l i).er; ew = z } in m) b
+      record { er = (marks_of o l i).er; ew = z } in m) b
 
   pub marks_same : (p : Plan) (i : ℕ) → Keeps ms ls (written_plan o l p i) i → Range SameMarks i (i + count p)
   marks_same Done i h = λ j a b. absurd (omega (arith, a, b))
@@ -68,19 +68,19 @@ module _ (o : Order) (l : Labelling) (ms : ℕ → Marks) (ls : ℕ → ℕ) whe
       one SameMarks i (i + (1 + count a + count b + count p)) (kept i h.0)
       (join SameMarks (i + 1) (i + 1 + count a) (i + (1 + count a + count b + count p)) (marks_same a (i + 1) h.1)
       (join SameMarks (i + 1 + count a) (i + 1 + count a + count b) (i + (1 + count a + count b + count p))
-          (marks_same b (i + 1 + count a) (second a b p i h.2))
+      (marks_same b (i + 1 + count a) (second a b p i h.2))
       (upto SameMarks (i + 1 + count a + count b) (i + 1 + count a + count b + count p) (i + (1 + count a + count b + count p)) (omega arith)
-          (marks_same p (i + 1 + count a + count b) (third a b p i h.3)))))
+      (marks_same p (i + 1 + count a + count b) (third a b p i h.3)))))
   marks_same (While w e c p) i h =
       one SameMarks i (i + (1 + count c + count p)) (kept i h.0)
       (join SameMarks (i + 1) (i + 1 + count c) (i + (1 + count c + count p)) (marks_same c (i + 1) h.1)
       (upto SameMarks (i + 1 + count c) (i + 1 + count c + count p) (i + (1 + count c + count p)) (omega arith)
-          (marks_same p (i + 1 + count c) (second c p p i h.2))))
+      (marks_same p (i + 1 + count c) (second c p p i h.2))))
   marks_same (Mitigate w k v e c p) i h =
       one SameMarks i (i + (1 + count c + count p)) (kept i h.0)
       (join SameMarks (i + 1) (i + 1 + count c) (i + (1 + count c + count p)) (marks_same c (i + 1) h.2)
       (upto SameMarks (i + 1 + count c) (i + 1 + count c + count p) (i + (1 + count c + count p)) (omega arith)
-          (marks_same p (i + 1 + count c) (second c p p i h.3))))
+      (marks_same p (i + 1 + count c) (second c p p i h.3))))
 
   pub levels_same : (p : Plan) (i n : ℕ) → AreNumbered n p → Keeps ms ls (written_plan o l p i) i → Range SameLevel n (n + mitigates p)
   levels_same Done i n q h = λ j a b. absurd (omega (arith, a, b))
@@ -91,14 +91,14 @@ module _ (o : Order) (l : Labelling) (ms : ℕ → Marks) (ls : ℕ → ℕ) whe
   levels_same (If w e a b p) i n q h =
       join SameLevel n (n + mitigates a) (n + (mitigates a + mitigates b + mitigates p)) (levels_same a (i + 1) n q.0 h.1)
       (join SameLevel (n + mitigates a) (n + mitigates a + mitigates b) (n + (mitigates a + mitigates b + mitigates p))
-          (levels_same b (i + 1 + count a) (n + mitigates a) q.1 (second a b p i h.2))
+      (levels_same b (i + 1 + count a) (n + mitigates a) q.1 (second a b p i h.2))
       (upto SameLevel (n + mitigates a + mitigates b) (n + mitigates a + mitigates b + mitigates p)
-          (n + (mitigates a + mitigates b + mitigates p)) (omega arith)
+      (n + (mitigates a + mitigates b + mitigates p)) (omega arith)
       (levels_same p (i + 1 + count a + count b) (n + mitigates a + mitigates b) q.2 (third a b p i h.3))))
   levels_same (While w e c p) i n q h =
       join SameLevel n (n + mitigates c) (n + (mitigates c + mitigates p)) (levels_same c (i + 1) n q.0 h.1)
       (upto SameLevel (n + mitigates c) (n + mitigates c + mitigates p) (n + (mitigates c + mitigates p)) (omega arith)
-          (levels_same p (i + 1 + count c) (n + mitigates c) q.1 (second c p p i h.2)))
+      (levels_same p (i + 1 + count c) (n + mitigates c) q.1 (second c p p i h.2)))
   levels_same (Mitigate w k v e c p) i n q h =
       one SameLevel n (n + (1 + mitigates c + mitigates p)) (subst SameLevel q.0 h.1)
       (join SameLevel (n + 1) (n + 1 + mitigates c) (n + (1 + mitigates c + mitigates p)) (levels_same c (i + 1) (n + 1) q.1 h.2)
@@ -118,7 +118,7 @@ module _ (o : Order) (l : Labelling) where
       → Own (written_plan o l p (i + 1 + count a + count b)) (i + 1 + count (written_plan o l a (i + 1)) + count (written_plan o l b (i + 1 + count a)))
   own_third a b p i h =
       subst (λ n. Own (written_plan o l p (i + 1 + count a + count b)) (i + 1 + n + count (written_plan o l b (i + 1 + count a))))
-          (sym (same_count o l a (i + 1)))
+      (sym (same_count o l a (i + 1)))
       (subst (λ n. Own (written_plan o l p (i + 1 + count a + count b)) (i + 1 + count a + n)) (sym (same_count o l b (i + 1 + count a))) h)
 
   pub keeps_own : (p : Plan) (i : ℕ) → Own (written_plan o l p i) i

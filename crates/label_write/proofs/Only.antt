@@ -50,7 +50,7 @@ module _ (s : Syntax) (l : Labelling) (v : IsValid s) (h : IsLabelling s l) (b :
     levels_below = h.levels_below;
     declared = λ x i.
         subst (λ (z : Option Label). IsKept z (variable_of s.order l x))
-            (sym (written_label x (subst (λ n. x < n) (same_variables s.order l s.declarations 0) i))) refl;
+        (sym (written_label x (subst (λ n. x < n) (same_variables s.order l s.declarations 0) i))) refl;
     written = subst (λ z. Keeps (marks_of s.order l) (level_of s.order l) z 0) (sym e) (keeps_own s.order l (plan_of s) 0);
   }
 
@@ -71,7 +71,7 @@ module _ (s : Syntax) (l : Labelling) (v : IsValid s) (h : IsLabelling s l) (b :
     same_variable x i =
         let j : x < variables s.declarations = subst (λ n. x < n) variables_length i in
         subst (λ (z : Option Label). IsKept z (variable_of s.order m x)) (written_label x j)
-            (g.declared x (subst (λ n. x < n) (sym (same_variables s.order l s.declarations 0)) j))
+        (g.declared x (subst (λ n. x < n) (sym (same_variables s.order l s.declarations 0)) j))
 
     same_command : (i : ℕ) → i < length m.commands → marks_of s.order m i ≡ marks_of s.order l i
     same_command i a =
@@ -109,17 +109,17 @@ module _ (s : Syntax) (l : Labelling) (v : IsValid s) (h : IsLabelling s l) (b :
 module _ (p : LabelledProgram) (s : Syntax) (o : Order) (l : Labelling) (ps ps' : List (Label × Label)) (ds es : List Declaration)
     (cs b : List Command) (hs : s ≡ p.program)
     (lab : IsLabelling p.program p.labels) (v : IsValid s) (ho : o ≡ s.order) (hl : l ≡ p.labels) (hp : ps ≡ ps') (hq : ps' ≡ s.pairs)
-        (hd : ds ≡ s.declarations) (hc : list_plan cs ≡ plan_of s)
+    (hd : ds ≡ s.declarations) (hc : list_plan cs ≡ plan_of s)
     (he : es ≡ written_declarations o l ds 0) (hb : list_plan b ≡ written_plan o l (list_plan cs) 0) where
   declared : es ≡ written_declarations s.order p.labels s.declarations 0
   declared =
       he ∙ ap (λ z. written_declarations z l ds 0) ho ∙ ap (λ z. written_declarations s.order z ds 0) hl
-          ∙ ap (λ z. written_declarations s.order p.labels z 0) hd
+      ∙ ap (λ z. written_declarations s.order p.labels z 0) hd
 
   planned : list_plan b ≡ written_plan s.order p.labels (plan_of s) 0
   planned =
       hb ∙ ap (λ z. written_plan z l (list_plan cs) 0) ho ∙ ap (λ z. written_plan s.order z (list_plan cs) 0) hl
-          ∙ ap (λ z. written_plan s.order p.labels z 0) hc
+      ∙ ap (λ z. written_plan s.order p.labels z 0) hc
 
   fits : IsLabelling s p.labels
   fits = subst (λ z. IsLabelling z p.labels) (sym hs) lab

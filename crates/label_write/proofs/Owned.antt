@@ -83,13 +83,15 @@ module _ (o : Order) (l : Labelling) where
         let below = first_below ds k d w.there in
         let each : (j : ℕ) → j < size_of d.1 → IsKept d.1.label (variable_of o l (first_of ds k + j)) =
         λ j b. subst (λ (z : Cell). IsKept z.label (variable_of o l (first_of ds k + j))) (cell_in ds k j d _ w.there b)
-            (kept (first_of ds k + j) (omega (arith, below, b))) in
+        (kept (first_of ds k + j) (omega (arith, below, b))) in
         ap (λ y. (cell_at (written_declarations o l ds 0) y).label) (w.is ∙ ap (λ y. y + i) (sym (same_first ds 0 k)))
-        ∙ ap (λ (z : Cell). z.label) (cell_in (written_declarations o l ds 0) k i (d.0,
-            with_label o l d (0 + first_of ds k)) _ (written_at ds 0 k d w.there) w.within)
+        ∙ ap (λ (z : Cell). z.label) (cell_in (written_declarations o l ds 0) k i (
+          d.0,
+          with_label o l d (0 + first_of ds k),
+        ) _ (written_at ds 0 k d w.there) w.within)
         ∙ ap (λ z. Some (as_label z))
         (ap (λ y. variable_of o l y) (flat (first_of ds k)) ∙ uniform (first_of ds k) i d.1.label d.1.length shape w.within each
-            ∙ ap (λ y. variable_of o l y) (sym w.is))
+        ∙ ap (λ y. variable_of o l y) (sym w.is))
       where
         flat : (n : ℕ) → 0 + n ≡ n
         flat n = omega arith

@@ -64,7 +64,7 @@ module _ (o : Order) (l : Labelling) (ds : List Declaration) where
       is_new h =
           lookup-none (eq-value.it d.0) done
           (none_passes done (written_declarations o l (drop (k + 1) ds) (next + size_of d.1)) d.0
-              (record { label = Some (as_label (variable_of o l next)); length = d.1.length })
+          (record { label = Some (as_label (variable_of o l next)); length = d.1.length })
           (subst (λ z. AllDiffer z) (sym (names_written o l ds 0) ∙ ap names all) h))
 
       pub next_put : (end : ℕ) → end ≡ next + size_of d.1
@@ -77,9 +77,9 @@ module _ (o : Order) (l : Labelling) (ds : List Declaration) where
             is =
                 all
                 ∙ sym (append_assoc done ((d.0, record { label = Some (as_label (variable_of o l next)); length = d.1.length }) ∷ [])
-                    (written_declarations o l (drop (k + 1) ds) (next + size_of d.1)))
+                (written_declarations o l (drop (k + 1) ds) (next + size_of d.1)))
                 ∙ ap (λ z. (done ++ (d.0, record { label = Some (as_label (variable_of o l next)); length = d.1.length }) ∷ [])
-                    ++ written_declarations o l (drop (k + 1) ds) z) (sym e);
+                ++ written_declarations o l (drop (k + 1) ds) z) (sym e);
           }
 
     pub all_put : length ds ≤ k → done ≡ written_declarations o l ds 0

@@ -178,8 +178,13 @@ module _ (o : Order) (l : Labelling) where
         known_written b (i + 1 + count a) h.5,
         known_written p (i + 1 + count a + count b) h.6,
       )
-      known_written (While w e c p) i h = (marks i, expression_known e h.1, some_written c (i + 1) h.2, known_written c (i + 1) h.3,
-          known_written p (i + 1 + count c) h.4)
+      known_written (While w e c p) i h = (
+        marks i,
+        expression_known e h.1,
+        some_written c (i + 1) h.2,
+        known_written c (i + 1) h.3,
+        known_written p (i + 1 + count c) h.4,
+      )
       known_written (Mitigate w k v e c p) i h =
           (marks i, levels k, expression_known e h.2, some_written c (i + 1) h.3, known_written c (i + 1) h.4, known_written p (i + 1 + count c) h.5)
 
@@ -200,7 +205,7 @@ module _ (o : Order) (l : Labelling) where
   all_written P Q each [] x h = λ k d i. absurd (omega (arith, i))
   all_written P Q each (d ∷ ds) x h =
       All-cons Q _ (written_declarations o l ds (x + size_of d.1)) (each d x (All-head P d ds h))
-          (all_written P Q each ds (x + size_of d.1) (All-tail P d ds h))
+      (all_written P Q each ds (x + size_of d.1) (All-tail P d ds h))
 
 shaped_written : (a : Option Label) (b : Label) (n : Option ℕ) → IsShaped a n → IsShaped (Some b) n
 shaped_written a b None h = tt

@@ -46,7 +46,7 @@ same_event-is : (e f : Event) → same_event e f ≡ true → e ≡ f
 same_event-is (Wrote x n c) (Wrote y m d) h =
     let r = second_of (nat_eq x y) (int_eq n m && nat_eq c d) h in
     wrote_same x y n m c d ((Decides-eqb x y).0 (first_of (nat_eq x y) (int_eq n m && nat_eq c d) h))
-        ((Decides-int_eq n m).0 (first_of (int_eq n m) (nat_eq c d) r)) ((Decides-eqb c d).0 (second_of (int_eq n m) (nat_eq c d) r))
+    ((Decides-int_eq n m).0 (first_of (int_eq n m) (nat_eq c d) r)) ((Decides-eqb c d).0 (second_of (int_eq n m) (nat_eq c d) r))
 same_event-is (Wrote x n c) (Began k d) h = absurd cc
 same_event-is (Wrote x n c) (Ended k d) h = absurd cc
 same_event-is (Began j c) (Wrote y m d) h = absurd cc
@@ -130,23 +130,23 @@ module _ {V : Type 0} (same : V → V → Bool) (tests : Tests same) where
       go true e true f =
           ap (λ c. y ∷ filter (apart y) (if c then ds else ds ++ x ∷ [])) f
           ∙ sym (ap (λ c. if c || list_any (same x) (filter (apart y) ds) then y ∷ filter (apart y) ds else
-              (y ∷ filter (apart y) ds) ++ x ∷ []) (same_back y x true e))
+          (y ∷ filter (apart y) ds) ++ x ∷ []) (same_back y x true e))
       go true e false f =
           ap (λ c. y ∷ filter (apart y) (if c then ds else ds ++ x ∷ [])) f
           ∙ (ap (λ z. y ∷ z) (filter-append (apart y) ds (x ∷ [])
-              ∙ (ap (λ z. filter (apart y) ds ++ z) (filter-one y x true e) ∙ append-nil (filter (apart y) ds)))
+          ∙ (ap (λ z. filter (apart y) ds ++ z) (filter-one y x true e) ∙ append-nil (filter (apart y) ds)))
           ∙ sym (ap (λ c. if c || list_any (same x) (filter (apart y) ds) then y ∷ filter (apart y) ds else
-              (y ∷ filter (apart y) ds) ++ x ∷ []) (same_back y x true e)))
+          (y ∷ filter (apart y) ds) ++ x ∷ []) (same_back y x true e)))
       go false e true f =
           ap (λ c. y ∷ filter (apart y) (if c then ds else ds ++ x ∷ [])) f
           ∙ sym (ap (λ c. if c || list_any (same x) (filter (apart y) ds) then y ∷ filter (apart y) ds else
-              (y ∷ filter (apart y) ds) ++ x ∷ []) (same_back y x false e)
+          (y ∷ filter (apart y) ds) ++ x ∷ []) (same_back y x false e)
           ∙ ap (λ c. if c then y ∷ filter (apart y) ds else (y ∷ filter (apart y) ds) ++ x ∷ []) (any-filter y x e ds ∙ f))
       go false e false f =
           ap (λ c. y ∷ filter (apart y) (if c then ds else ds ++ x ∷ [])) f
           ∙ (ap (λ z. y ∷ z) (filter-append (apart y) ds (x ∷ []) ∙ ap (λ z. filter (apart y) ds ++ z) (filter-one y x false e))
           ∙ sym (ap (λ c. if c || list_any (same x) (filter (apart y) ds) then y ∷ filter (apart y) ds else
-              (y ∷ filter (apart y) ds) ++ x ∷ []) (same_back y x false e)
+          (y ∷ filter (apart y) ds) ++ x ∷ []) (same_back y x false e)
           ∙ ap (λ c. if c then y ∷ filter (apart y) ds else (y ∷ filter (apart y) ds) ++ x ∷ []) (any-filter y x e ds ∙ f)))
 
   any-push : (p : V → Bool) (l : List V) (x : V) → list_any p l ≡ true → list_any p (l ++ x ∷ []) ≡ true
@@ -243,7 +243,7 @@ module _ {V : Type 0} (same : V → V → Bool) (tests : Tests same) where
         classes =
             ap (λ z. z ++ (position_or_len (same x) ds + 1) ∷ []) (h.classes ∙ sym (classes-insert ds x xs h.among))
             ∙ (ap (λ n. classes_in same (insert_key same ds x) xs ++ (n + 1) ∷ []) (sym own)
-                ∙ sym (map-append (λ z. position_or_len (same z) (insert_key same ds x) + 1) xs (x ∷ [])));
+            ∙ sym (map-append (λ z. position_or_len (same z) (insert_key same ds x) + 1) xs (x ∷ [])));
         among = among-push (insert_key same ds x) xs x (among-insert ds x xs h.among) (any-inserted ds x);
         few = omega (arith, insert-few ds x, length-append xs (x ∷ []));
       }

@@ -38,4 +38,4 @@ module _ {E : Type 0} (v : Env E) (p : LabelledProgram) (o : ℕ) (s u : Start E
       first (Partition q k) (inl h) d = d.1 (earlier q (omega (arith, at, h)) k.number d.0)
       first (Partition q k) (inr h) d =
           d.1 (subst (λ z. v.part z k.number s.env ≡ v.part z k.number u.env) (sym h.0)
-              (before k.number h.1 (subst (λ z. Flows (lattice_of z) k.number o) (sym is) d.0)))
+          (before k.number h.1 (subst (λ z. Flows (lattice_of z) k.number o) (sym is) d.0)))

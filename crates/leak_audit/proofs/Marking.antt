@@ -114,8 +114,8 @@ relevance_by p o k = (order_of p.labelled).flows (context_of p k) o && not
 pub all_marks : (p : TypedProgram) (o n : ℕ) → IsLattice (order_of p.labelled) → IsValid p.labelled.program → IsLabelling p.labelled.program p.labelled.labels
     → HasType p.labelled → AreContexts p.labelled p.contexts →
     n ≡ mitigates (plan_of p.labelled.program)
-        → marks_told (relevance_by p o) 0 n ≡ relevances (order_of p.labelled) (labels_of p.labelled) (levels_of p.labelled) o
-        (order_of p.labelled).bottom (plan_of p.labelled.program)
+    → marks_told (relevance_by p o) 0 n ≡ relevances (order_of p.labelled) (labels_of p.labelled) (levels_of p.labelled) o
+    (order_of p.labelled).bottom (plan_of p.labelled.program)
 all_marks p o n lattice valid kept typed contexts count_is =
     let q = p.labelled in
     let made = compiled_of q lattice valid kept typed in

@@ -83,9 +83,10 @@ module _ {E : Type 0} (v : Env E) (serves : Order → E → Type 0) (p : Labelle
   apart_once one ss run run' w w' a b = go (two_cuts a.before b.before a.after b.after a.apart b.apart (sym a.are ∙ b.are))
     where
       go : SameCut a.before a.apart b.before b.apart ⊎ (Earlier a.before a.apart b.before ⊎ Earlier b.before b.apart a.before) → (run ≡ run') × (w ≡ w')
-      go (inl same) =
-          (a.number ∙ (ap (λ z. length z + 1) same.before ∙ sym b.number),
-              first_same one b.apart w w' (subst (λ z. IsFirstDifference v p o one z w) same.at a.differs) b.differs)
+      go (inl same) = (
+        a.number ∙ (ap (λ z. length z + 1) same.before ∙ sym b.number),
+        first_same one b.apart w w' (subst (λ z. IsFirstDifference v p o one z w) same.at a.differs) b.differs,
+      )
       go (inr (inl e)) = absurd (not_both one a.apart w
           (Each-at (AgreeFor v serves p o one) a.before e.between a.apart (subst (Each (AgreeFor v serves p o one)) e.are b.agree)) a.differs.here)
       go (inr (inr e)) = absurd (not_both one b.apart w'
@@ -111,7 +112,7 @@ module _ {E : Type 0} (v : Env E) (serves : Order → E → Type 0) (p : Labelle
         (must ≡ true → Each (Halts v (lowered p).instrs t) ss) → shown_by_all v p o t ss ≤ 16777216 → ⊥
     not_refused before r ss s (Unfinished run cycle) e h halts few =
         let halted : Halts v (lowered p).instrs t s =
-            Each-at (Halts v (lowered p).instrs t) before r s (subst (Each (Halts v (lowered p).instrs t)) e (halts h.0)) in
+        Each-at (Halts v (lowered p).instrs t) before r s (subst (Each (Halts v (lowered p).instrs t)) e (halts h.0)) in
         bool_apart _ halted h.1
     not_refused before r ss s (TooMuch count) e h halts few =
         let all : shown_by_all v p o t ss ≡ shown_by_all v p o t (before ++ s ∷ r) = ap (shown_by_all v p o t) e in

@@ -70,4 +70,4 @@ module _ {E : Type 0} (v : Env E) (serves : Order → E → Type 0) (p : Labelle
       let few = sound.few o low t some ss is.agree is.halted same_sequence tests_sequences in
       let same : few.0 ≡ r.mitigations = first_one p o ss few.0 r.mitigations few.1 is.mitigations in
       within p.program.order o t r.mitigations seqs r.measures is.measures
-          (subst (λ z. distinct_count same_sequence seqs ≤ bound p.program.order o t z) same few.3)
+      (subst (λ z. distinct_count same_sequence seqs ≤ bound p.program.order o t z) same few.3)

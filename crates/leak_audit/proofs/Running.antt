@@ -56,7 +56,7 @@ module _ {E : Type 0} (v : Env E) (limit : ℕ) (p : LabelledProgram) (o : ℕ) 
     pub more_observed : (old mid new : Loaded E) (turn : Turn) (t u : Tally) → Observing v limit p o marked room old mid t
         → Next v list limit mid new turn → CountsUp t u →
         ((events : List Event) → Tallies p o marked room events t → Tallies p o marked room (events ++ events_of turn) u)
-            → Observing v limit p o marked room old new u
+        → Observing v limit p o marked room old new u
     more_observed old mid new turn t u r n up tells =
         let es : List Event = n.hidden ++ events_of turn in
         let passed : Tallies p o marked room (r.events ++ n.hidden) t = hidden_more p o list seen marked room r.events n.hidden t n.unseen r.tallies in
@@ -83,7 +83,7 @@ module _ {E : Type 0} (v : Env E) (limit : ℕ) (p : LabelledProgram) (o : ℕ) 
     pub all_observed : (old mid new : Loaded E) (turn : Turn) (end : RunEnd) (t u : Tally) → Observing v limit p o marked room old mid t
         → Last v list limit mid new turn end → end_of_turn turn ≡ Some end →
         ((events : List Event) → Tallies p o marked room events t → Tallies p o marked room (events ++ events_of turn) u)
-            → IsObserved p o marked room limit (rest_of v limit old) (record { tally = u; end = end })
+        → IsObserved p o marked room limit (rest_of v limit old) (record { tally = u; end = end })
     all_observed old mid new turn end t u r l e tells =
         let es : List Event = r.events ++ l.hidden in
         let passed : Tallies p o marked room es t = hidden_more p o list seen marked room r.events l.hidden t l.unseen r.tallies in

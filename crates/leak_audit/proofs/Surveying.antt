@@ -102,7 +102,7 @@ module _ {E : Type 0} (v : Env E) (p : LabelledProgram) (o t : ℕ) (must : Bool
 
   module _ (s : Start E) (rest more : List (Start E)) (n : ℕ) (r : Survey) (from : rest ≡ s ∷ more) (h : Surveying rest n r) (w : Observed) (marked : List Bool)
       (told : marked ≡ relevances (order_of p) (labels_of p) (levels_of p) o (order_of p).bottom (plan_of p.program))
-          (seen : ObservesRun v p o marked (16777216 - r.shown) t s w) where
+      (seen : ObservesRun v p o marked (16777216 - r.shown) t s w) where
     abbrev run : Machine E
     run = run_of v p t s
 
@@ -116,8 +116,16 @@ module _ {E : Type 0} (v : Env E) (p : LabelledProgram) (o t : ℕ) (must : Bool
     refused_now f k =
         let small = h.small in
         let shown = h.shown in
-        record { before = h.before; refused = s; after = more; are = h.are ∙ ap (λ z. h.before ++ z) from; halt = h.halts; few =
-            omega (arith, small, shown); why = k }
+        record {
+          before = h.before;
+          refused = s;
+          after = more;
+          are = h.are ∙ ap (λ z. h.before ++ z) from;
+          halt = h.halts;
+          few =
+              omega (arith, small, shown);
+          why = k;
+        }
 
     -- a run that is refused
     pub refuses : (f : SurveyFault) → Refuses r n must w f → IsSurveyFault v p o t must ss f
@@ -142,7 +150,7 @@ module _ {E : Type 0} (v : Env E) (p : LabelledProgram) (o t : ℕ) (must : Bool
         let halted : q.halted ≡ r.halted + cond run.halted 1 0 = x.halted ∙ ap (λ z. r.halted + z) (ap halts seen.end ∙ halts-end run.halted run.core.clock) in
         let halted_rest : halted_count v p t rest ≡ cond run.halted 1 0 + halted_count v p t more = ap (halted_count v p t) from in
         let ended_rest : most_ended v (lowered p).instrs (relevant_for p o) t rest
-            ≡ max (ended_count (relevant_for p o) run.core.log) (most_ended v (lowered p).instrs (relevant_for p o) t more) =
+        ≡ max (ended_count (relevant_for p o) run.core.log) (most_ended v (lowered p).instrs (relevant_for p o) t more) =
         ap (most_ended v (lowered p).instrs (relevant_for p o) t) from in
         let hs = h.shown in
         let hh = h.halted in
@@ -157,7 +165,7 @@ module _ {E : Type 0} (v : Env E) (p : LabelledProgram) (o t : ℕ) (must : Bool
           kinds =
               subst (λ z. AreKinds z q.kinds)
               (ap (λ z. map (sequence_from v p o t) h.before ++ z ∷ []) (seen.tallies.kept room)
-                  ∙ sym (map-append (sequence_from v p o t) h.before (s ∷ []))) (x.kinds (map (sequence_from v p o t) h.before) h.kinds);
+              ∙ sym (map-append (sequence_from v p o t) h.before (s ∷ []))) (x.kinds (map (sequence_from v p o t) h.before) h.kinds);
           are = h.are ∙ (ap (λ z. h.before ++ z) from ∙ sym (append_assoc h.before (s ∷ []) more));
           number = omega (arith, next, h.number, length-append h.before (s ∷ []));
           halts = λ k. Each-more (Halts v (lowered p).instrs t) h.before s (h.halts k) (halt k);

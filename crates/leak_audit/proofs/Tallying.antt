@@ -36,7 +36,7 @@ module _ (p : LabelledProgram) (o : ℕ) (marked : List Bool) (room : ℕ) (es :
   pub seen_more : (turn : Turn) (x : ℕ) (n : ℤ) (c : ℕ) → turn ≡ AnEvent x n c → (order_of p).flows (labels_of p x) o ≡ true
       → (s : Sighting) (new : Tally) → event_of s ≡ Wrote x n c →
       new.shown ≡ old.shown + 1 → (new.shown ≤ room → new.events.items ≡ old.events.items ++ s ∷ []) → new.begun ≡ old.begun
-          → new.ended ≡ old.ended → Follows turn new
+      → new.ended ≡ old.ended → Follows turn new
   seen_more turn x n c told flows s new is shown kept begun ended =
       let all : sees (es ++ Wrote x n c ∷ []) ≡ sees es ++ Wrote x n c ∷ [] =
       visible-append (order_of p) (labels_of p) o es (Wrote x n c ∷ []) ∙ ap (λ b. sees es ++ cond b (Wrote x n c ∷ []) []) flows in
@@ -49,7 +49,7 @@ module _ (p : LabelledProgram) (o : ℕ) (marked : List Bool) (room : ℕ) (es :
         kept = λ fits.
             let before : sequence_of old.events ≡ sees es = t.kept (omega (arith, shown)) in
             ap (map event_of) (kept fits) ∙ (map-append event_of old.events.items (s ∷ [])
-                ∙ (ap (λ z. z ++ event_of s ∷ []) before ∙ (ap (λ z. sees es ++ z ∷ []) is ∙ sym all)));
+            ∙ (ap (λ z. z ++ event_of s ∷ []) before ∙ (ap (λ z. sees es ++ z ∷ []) is ∙ sym all)));
         begun = omega (arith, begun, b, begun-append (is_marked marked) es (Wrote x n c ∷ []));
         ended = omega (arith, ended, f, ended-append (is_marked marked) es (Wrote x n c ∷ []));
       })
@@ -115,7 +115,7 @@ module _ (p : LabelledProgram) (o : ℕ) (list : List Bool) (tells : TellsSeen p
       let all : visible (order_of p) (labels_of p) o (es ++ hs) ≡ visible (order_of p) (labels_of p) o es =
       visible-append (order_of p) (labels_of p) o es hs
       ∙ (ap (λ z. visible (order_of p) (labels_of p) o es ++ z) (none_visible list (order_of p) (labels_of p) o unseen hs h)
-          ∙ append-nil (visible (order_of p) (labels_of p) o es)) in
+      ∙ append-nil (visible (order_of p) (labels_of p) o es)) in
       let b = r.begun in
       let f = r.ended in
       record {

@@ -45,7 +45,7 @@ module _ {E : Type 0} (v : Env E) (image : List Instr) where
         go (inl lt) =
             let sum : n + suc (l.count - n - 1) ≡ l.count = omega arith in
             let z_is = sym l.ends ∙ ap (λ k. steps v image k x) (sym sum) ∙ steps-add v image n (suc (l.count - n - 1)) x
-                ∙ ap (steps v image (suc (l.count - n - 1))) e in
+            ∙ ap (steps v image (suc (l.count - n - 1))) e in
             ⊎_elim
             (λ (h : y.halted ≡ true). absurd (both_ways z.halted f (ap (λ q. q.halted) (z_is ∙ stays v image (suc (l.count - n - 1)) y h) ∙ h)))
             (λ (h : (y.halted ≡ false) × (lim < (step v image y).core.clock)).
@@ -56,7 +56,7 @@ module _ {E : Type 0} (v : Env E) (image : List Instr) where
             let p = l.some in
             let sum : l.count + (n - l.count) ≡ n = omega arith in
             on (n - l.count) (omega arith) (ap (steps v image (n - l.count)) (sym l.ends) ∙ sym (steps-add v image l.count (n - l.count) x)
-                ∙ ap (λ k. steps v image k x) sum ∙ e)
+            ∙ ap (λ k. steps v image k x) sum ∙ e)
 
     -- the same from where a part ended
     through : (n : ℕ) (x z : Machine E) → Leads v image x z → z.halted ≡ false → x.core.clock ≤ z.core.clock
@@ -170,7 +170,7 @@ module _ {E : Type 0} (v : Env E) (image : List Instr) where
             let s2 = fetched v (raised lat g e m) j x.after in
             joined (If m e c d r) r a q ops os n s s2 (omega arith) (λ s' z. if_true f x.run z)
             (beyond r q ops os n s2 pr (through n (at j ops os x.after) (at q ops os s2) (one v image (Jmp q) (raised lat g e m) j ops os x.after code.3) refl
-                (omega arith) (λ l. refl) x.rest))
+            (omega arith) (λ l. refl) x.rest))
         turn false f =
             let x = beyond d (j + 1) ops os n s0 pd (test false f) in
             joined (If m e c d r) r a q ops os n s x.after (omega arith) (λ s' z. if_false f x.run z) (inside r q ops os n x.after pr x.rest)
@@ -207,31 +207,31 @@ module _ {E : Type 0} (v : Env E) (image : List Instr) where
         let s1 = fetched v m a s in
         joined (Skip m r) r a (a + 1) ops os n s s1 (omega arith) (λ s' k. skip k)
         (beyond r (a + 1) ops os n s1 (taken_apart r (a + 1) code.1 ops os)
-            (passed n (at a ops os s) (at (a + 1) ops os s1) h (one v image Nop m a ops os s code.0) refl))
+        (passed n (at a ops os s) (at (a + 1) ops os s1) h (one v image Nop m a ops os s code.0) refl))
     taken_apart (Assign m z e r) a code ops os n s h =
         let b = a + expr_size e in
         let s1 = written z (value_of e s.memory) (touched v m z (tested v m e a s)) in
         joined (Assign m z e r) r a (b + 1) ops os n s s1 (omega arith) (λ s' k. assign k)
         (beyond r (b + 1) ops os n s1 (taken_apart r (b + 1) code.2 ops os)
-            (passed n (at a ops os s) (at (b + 1) ops os s1) h (test_leads v image (Store z) e m a ops os s code.0 code.1) refl))
+        (passed n (at a ops os s) (at (b + 1) ops os s1) h (test_leads v image (Store z) e m a ops os s code.0 code.1) refl))
     taken_apart (Put m f i j e r) a code ops os n s h =
         let b = a + expr_size j + expr_size e in
         let s1 = stored v m f i j e a s in
         joined (Put m f i j e r) r a (b + 1) ops os n s s1 (omega arith) (λ s' k. put k)
         (beyond r (b + 1) ops os n s1 (taken_apart r (b + 1) code.3 ops os)
-            (passed n (at a ops os s) (at (b + 1) ops os s1) h (put_leads v image f i j e m a ops os s code.0 code.1 code.2) refl))
+        (passed n (at a ops os s) (at (b + 1) ops os s1) h (put_leads v image f i j e m a ops os s code.0 code.1 code.2) refl))
     taken_apart (Sleep m e r) a code ops os n s h =
         let b = a + expr_size e in
         let s1 = waited (at_least_zero (value_of e s.memory)) (tested v m e a s) in
         joined (Sleep m e r) r a (b + 1) ops os n s s1 (omega arith) (λ s' k. sleep k)
         (beyond r (b + 1) ops os n s1 (taken_apart r (b + 1) code.2 ops os)
-            (passed n (at a ops os s) (at (b + 1) ops os s1) h (test_leads v image SleepWork e m a ops os s code.0 code.1) refl))
+        (passed n (at a ops os s) (at (b + 1) ops os s1) h (test_leads v image SleepWork e m a ops os s code.0 code.1) refl))
     taken_apart (If m e c d r) a code ops os n s h =
         if_apart m e c d r a code ops os (taken_apart c (a + expr_size e + 1) code.2 ops os) (taken_apart d (a + expr_size e + 1 + size c + 1) code.4 ops os)
-            (taken_apart r (a + expr_size e + 1 + size c + 1 + size d) code.5 ops os) n s h
+        (taken_apart r (a + expr_size e + 1 + size c + 1 + size d) code.5 ops os) n s h
     taken_apart (While m e c r) a code ops os n s h =
         while_apart m e c r a code ops os (taken_apart c (a + expr_size e + 1) code.2 ops os)
-            (taken_apart r (a + expr_size e + 1 + size c + expr_size e + 1) code.5 ops os) n s h
+        (taken_apart r (a + expr_size e + 1 + size c + expr_size e + 1) code.5 ops os) n s h
     taken_apart (Mitigate m mark l e c r) a code ops os n s h =
         let b = a + expr_size e in
         let j = b + 1 + size c in
@@ -246,4 +246,4 @@ module _ {E : Type 0} (v : Env E) (image : List Instr) where
         joined (Mitigate m mark l e c r) r a (j + 1) ops os n s s2 (omega arith) (λ s' z. mitigate x.run z)
         (beyond r (j + 1) ops os n s2 (taken_apart r (j + 1) code.4 ops os)
         (through n (at j ops (w ∷ os) x.after) (at (j + 1) ops os s2) (one v image Mite m j ops (w ∷ os) x.after code.3) refl
-            (omega (arith, closed_clock w q since)) (λ far. upto-late lim q.log (Ended mark s2.clock) far) x.rest))
+        (omega (arith, closed_clock w q since)) (λ far. upto-late lim q.log (Ended mark s2.clock) far) x.rest))

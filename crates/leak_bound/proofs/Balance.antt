@@ -78,4 +78,4 @@ module _ {E : Type 0} (v : Env E) (image : List Instr) (rel : ℕ → Bool) wher
   all_ended k x y b e none =
       let c = balance k x b in
       ap (λ z. begun_count rel z.core.log) (sym e) ∙ c ∙ ap (λ z. ended_count rel z.core.log + open_count rel z.opened) e
-          ∙ ap (λ z. ended_count rel y.core.log + open_count rel z) none ∙ omega arith
+      ∙ ap (λ z. ended_count rel y.core.log + open_count rel z) none ∙ omega arith

@@ -46,7 +46,7 @@ module _ (ms : ℕ → Marks) (ls : ℕ → ℕ) where
         subst (λ z. MarksFrom (n + z) (bare (labelled ms ls b (i + 1 + count a)))) (sym ma) (labelled_marks b (i + 1 + count a) (n + mitigates a) h.1),
         subst (λ z. MarksFrom (n + z + mitigates (bare (labelled ms ls b (i + 1 + count a)))) (bare (labelled ms ls p (i + 1 + count a + count b)))) (sym ma)
             (subst (λ z. MarksFrom (n + mitigates a + z) (bare (labelled ms ls p (i + 1 + count a + count b)))) (sym mb)
-                (labelled_marks p (i + 1 + count a + count b) (n + mitigates a + mitigates b) h.2)),
+            (labelled_marks p (i + 1 + count a + count b) (n + mitigates a + mitigates b) h.2)),
       )
   labelled_marks (While w e c p) i n h = (
     labelled_marks c (i + 1) n h.0,
@@ -90,9 +90,11 @@ module _ (ms : ℕ → Marks) (ls : ℕ → ℕ) where
   contexts_tell lat g o at pc (Put w f k j e p) i h = contexts_tell lat g o at pc p (i + 1) h
   contexts_tell lat g o at pc (Sleep w e p) i h = contexts_tell lat g o at pc p (i + 1) h
   contexts_tell lat g o at pc (If w e a b p) i h =
-      let inner = lat.join pc (label_of lat g e) in
-      (contexts_tell lat g o at inner a (i + 1) h.0, contexts_tell lat g o at inner b (i + 1 + count a) h.1,
-          contexts_tell lat g o at pc p (i + 1 + count a + count b) h.2)
+      let inner = lat.join pc (label_of lat g e) in (
+        contexts_tell lat g o at inner a (i + 1) h.0,
+        contexts_tell lat g o at inner b (i + 1 + count a) h.1,
+        contexts_tell lat g o at pc p (i + 1 + count a + count b) h.2,
+      )
   contexts_tell lat g o at pc (While w e c p) i h =
       (contexts_tell lat g o at (lat.join pc (label_of lat g e)) c (i + 1) h.0, contexts_tell lat g o at pc p (i + 1 + count c) h.1)
   contexts_tell lat g o at pc (Mitigate w k l e c p) i h =

@@ -49,7 +49,7 @@ pub same_answers : (k : ℕ) (qs : List Question) (r r' : List Entry) → length
 same_answers k [] r r' h h' e = tt
 same_answers k (q ∷ qs) r r' h h' e =
     let d = digits_same (k + 1) (below q.0 q.1 r) (code (k + 1) qs r) (below q.0 q.1 r') (code (k + 1) qs r') (omega (arith, below_le q.0 q.1 r))
-        (omega (arith, below_le q.0 q.1 r')) e in
+    (omega (arith, below_le q.0 q.1 r')) e in
     (d.0, same_answers k qs r r' h h' d.1)
 
 abbrev thresholds : ℕ → ℕ → List Question
@@ -132,7 +132,7 @@ record_same ls d ((l, m) ∷ r) ((l', m') ∷ r') e w w' n n' s =
         cc
     go l' le n' s (inr (inl lt)) rec =
         absurd (lower_head l m m' r r' (subst (λ k. FromOn k m' r') (sym le) n'.0)
-            (subst (λ k. below l m' ((l, m) ∷ r) ≡ below l m' ((k, m') ∷ r')) (sym le) (s l m' w.0 (omega arith) w'.1)) lt)
+        (subst (λ k. below l m' ((l, m) ∷ r) ≡ below l m' ((k, m') ∷ r')) (sym le) (s l m' w.0 (omega arith) w'.1)) lt)
     go l' le n' s (inr (inr lt)) rec =
         absurd (lower_head l m' m r' r n.0 (sym (subst (λ k. below l m ((l, m) ∷ r) ≡ below l m ((k, m') ∷ r')) (sym le) (s l m w.0 (omega arith) w.1))) lt)
 
@@ -157,8 +157,8 @@ record_fits ls d ((l, m) ∷ r) ((l', m') ∷ r') e w w' n n' s = go l' e.0 n' s
     go l' le n' s (inr (inl lt)) rec =
         let up = w'.1 in
         absurd (lower_head l m m' r r' (subst (λ k. FromOn k m' r') (sym le) n'.0)
-            (subst (λ k. below l m' ((l, m) ∷ r) ≡ below l m' ((k, m') ∷ r')) (sym le) (s l m' w.0 (omega arith) (omega arith))) lt)
+        (subst (λ k. below l m' ((l, m) ∷ r) ≡ below l m' ((k, m') ∷ r')) (sym le) (s l m' w.0 (omega arith) (omega arith))) lt)
     go l' le n' s (inr (inr lt)) rec =
         let up = w.1 in
         absurd (lower_head l m' m r' r n.0
-            (sym (subst (λ k. below l m ((l, m) ∷ r) ≡ below l m ((k, m') ∷ r')) (sym le) (s l m w.0 (omega arith) (omega arith)))) lt)
+        (sym (subst (λ k. below l m ((l, m) ∷ r) ≡ below l m ((k, m') ∷ r')) (sym le) (s l m w.0 (omega arith) (omega arith)))) lt)

@@ -35,7 +35,7 @@ digits_least (suc fuel) n t d le low high far = go (ltb t (2 ^ n)) refl (λ l f.
     go true e next =
         ⊎_elim
         (λ (lt : n < suc d). let two : 0 < 2 = omega arith in let up : n ≤ d = omega arith in
-            absurd (omega (arith, pow-le-pow_right two up, low, ltb-true t (2 ^ n) e)))
+        absurd (omega (arith, pow-le-pow_right two up, low, ltb-true t (2 ^ n) e)))
         (λ (ge : suc d ≤ n). omega arith)
         (cases_lt n (suc d))
     go false e next =

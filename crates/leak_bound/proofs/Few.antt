@@ -21,7 +21,7 @@ pub map_distinct : {X V : Type 0} (see : X → V) (same : V → V → Bool) (xs 
 map_distinct see same [] = refl
 map_distinct see same (x ∷ xs) =
     ap (λ t. see x ∷ t) (map_filter see (λ w. not (same (see x) w)) (distinct (λ x y. same (see x) (see y)) xs)
-        ∙ ap (filter (λ w. not (same (see x) w))) (map_distinct see same xs))
+    ∙ ap (filter (λ w. not (same (see x) w))) (map_distinct see same xs))
 
 -- each is apart from all that follow
 abbrev pub Spread : {X : Type 0} → (X → X → Bool) → List X → Type 0
@@ -105,7 +105,7 @@ module _ {X V : Type 0} (see : X → V) (number : X → ℕ) (m : ℕ) (below : 
   count_few xs =
       let kept = distinct alike xs in
       let few : length (map number kept) ≤ m =
-          length-le_from_distinct_below (map number kept) m (numbers_differ kept (Spread-distinct alike xs)) (all_below kept) in
+      length-le_from_distinct_below (map number kept) m (numbers_differ kept (Spread-distinct alike xs)) (all_below kept) in
       let a = length-map kept number in
       let b = length-map kept see in
       let c = ap length (map_distinct see same xs) in

@@ -69,9 +69,12 @@ module _ {E : Type 0} {serves : E → Type 0} (v : Env E) (order : Order) (g ls 
   pub begins_log : (o t : ℕ) (s : Start E) → Halts v image t s
       → Begins lat g ls o p s.memory (begun_count (is_relevant lat g ls o p) (run_from v image t s).core.log)
   begins_log o t s h =
-      let f = (keeps_order v lat g image p made.code).follows s t in
-      (f.0, f.2 h, ap (λ z. count_by (is_relevant lat g ls o p) (started_in z)) (sym f.1)
-          ∙ sym (begun-told (is_relevant lat g ls o p) (run_from v image t s).core.log))
+      let f = (keeps_order v lat g image p made.code).follows s t in (
+        f.0,
+        f.2 h,
+        ap (λ z. count_by (is_relevant lat g ls o p) (started_in z)) (sym f.1)
+            ∙ sym (begun-told (is_relevant lat g ls o p) (run_from v image t s).core.log),
+      )
 
   -- and so it is by whatever tells which marks are relevant
   pub begins_by : (o t : ℕ) (rel : ℕ → Bool) → Tells lat g o rel lat.bottom p → (s : Start E) → Halts v image t s
@@ -122,13 +125,13 @@ module _ {E : Type 0} {serves : E → Type 0} (v : Env E) (order : Order) (g ls 
           let k = begun_count rel (run_from v image t s).core.log in
           let d = digits_is t some in
           let few = few_halted_by v lat made.lattice laws g image p made.arrays made.typed made.code o rel (tells o) t (others lat o order.size)
-              (has_levels lat o order.size p made.levels) same tests d.0 d.2 s starts agree.0 halts in (
+          (has_levels lat o order.size p made.levels) same tests d.0 d.2 s starts agree.0 halts in (
             k,
             begins_log o t s halts.0,
             Each-map (λ s'. Agree v lat serves g o s s' × Halts v image t s') (λ s'. Begins lat g ls o p s'.memory k)
                 (λ s' a. subst (λ z. Begins lat g ls o p s'.memory z)
-                    (same_begun v lat made.lattice laws g image p made.arrays made.typed made.code o rel (tells o) t s' s (back o s s' a.0) a.1 halts.0)
-                    (begins_log o t s' a.1))
+                (same_begun v lat made.lattice laws g image p made.arrays made.typed made.code o rel (tells o) t s' s (back o s s' a.0) a.1 halts.0)
+                (begins_log o t s' a.1))
                 (s ∷ starts) (Each-both (λ s'. Agree v lat serves g o s s') (Halts v image t) (s ∷ starts) agree.0 halts),
             by_digits o t _ k d.0 d.1 few,
           )
@@ -142,9 +145,9 @@ module _ {E : Type 0} {serves : E → Type 0} (v : Env E) (order : Order) (g ls 
       let r = record_from v lat made.lattice laws g image p made.arrays made.typed made.code o rel (tells o) t s in
       let r' = record_from v lat made.lattice laws g image p made.arrays made.typed made.code o rel (tells o) t s' in
       let n : length r ≡ 0 = sym (ended_is v lat made.lattice laws g image p made.arrays made.typed made.code o rel (tells o) t s)
-          ∙ none_ended rel none (run_from v image t s).core.log in
+      ∙ none_ended rel none (run_from v image t s).core.log in
       let n' : length r' ≡ 0 = sym (ended_is v lat made.lattice laws g image p made.arrays made.typed made.code o rel (tells o) t s')
-          ∙ none_ended rel none (run_from v image t s').core.log in
+      ∙ none_ended rel none (run_from v image t s').core.log in
       seen_same v lat made.lattice laws g image p made.arrays made.typed made.code o rel (tells o) t s s' a (empties r r' n n')
 
   pub is_cut_sound : CutSound v order serves g ls image p
@@ -155,5 +158,5 @@ module _ {E : Type 0} {serves : E → Type 0} (v : Env E) (order : Order) (g ls 
             let d = digits_is t some in
             by_digits o t _ (most_ended v image rel t starts) d.0 d.1
             (few_cut_by v lat made.lattice laws g image p made.arrays made.typed made.code o rel (tells o) t (others lat o order.size)
-                (has_levels lat o order.size p made.levels) same tests d.0 d.2 starts agree);
+            (has_levels lat o order.size p made.levels) same tests d.0 d.2 starts agree);
       }

@@ -110,8 +110,13 @@ module _ {E : Type 0} {serves : E → Type 0} (v : Env E) (lat : Lattice) (ll : 
       → Both v lat ll laws g o t lat.bottom typed.0 (first_core v lat g image p code t x) (found x).after (first_core v lat g image p code t y) (found y).after
       (record_from x) (record_from y)
   both x y a =
-      two_run v lat ll laws g o t lat.bottom typed.0 (lat.bottom, typed.1, arrays, ll.same lat.bottom,
-          ll.lowest o) (record { memory = a.low; long = a.long; one = a.one; other = a.other; parts = a.parts }) (found x).run (found y).run
+      two_run v lat ll laws g o t lat.bottom typed.0 (
+        lat.bottom,
+        typed.1,
+        arrays,
+        ll.same lat.bottom,
+        ll.lowest o,
+      ) (record { memory = a.low; long = a.long; one = a.one; other = a.other; parts = a.parts }) (found x).run (found y).run
 
   pub seen_same : (x y : Start E) → AgreeTo x y → record_from x ≡ record_from y → seen_from v lat g image o t x ≡ seen_from v lat g image o t y
   seen_same x y a e =
@@ -125,8 +130,14 @@ module _ {E : Type 0} {serves : E → Type 0} (v : Env E) (lat : Lattice) (ll : 
   agree_back s s' a = record { one = a.other; other = a.one; long = sym a.long; low = λ x h. sym (a.low x h); parts = λ q l h. sym (a.parts q l h) }
 
   agree_on : (s s1 s2 : Start E) → AgreeTo s s1 → AgreeTo s1 s2 → AgreeTo s s2
-  agree_on s s1 s2 a b = record { one = a.one; other = b.other; long = a.long ∙ b.long; low = λ x h. a.low x h ∙ b.low x h; parts =
-      λ q l h. a.parts q l h ∙ b.parts q l h }
+  agree_on s s1 s2 a b = record {
+    one = a.one;
+    other = b.other;
+    long = a.long ∙ b.long;
+    low = λ x h. a.low x h ∙ b.low x h;
+    parts =
+        λ q l h. a.parts q l h ∙ b.parts q l h;
+  }
 
   -- a start that agrees with a first one, and more
   record Member (P : Start E → Type 0) (s : Start E) : Type 0 where
@@ -157,8 +168,12 @@ module _ {E : Type 0} {serves : E → Type 0} (v : Env E) (lat : Lattice) (ll : 
   few_under ls has same tests d lt k s starts a h =
       let P : Start E → Type 0 = λ s'. ended s' ≤ k in
       let bound = count_cut (see P s) (λ (x : Member P s). record_from x.from) same tests ls d k
-      (λ x. let m = x.more in record { short = omega (arith, ended_is x.from); within = within_from ls has d lt x.from; rises =
-          (grows_run v lat g o t (found x.from).run).rises })
+      (λ x. let m = x.more in record {
+        short = omega (arith, ended_is x.from);
+        within = within_from ls has d lt x.from;
+        rises =
+            (grows_run v lat g o t (found x.from).run).rises;
+      })
       (λ x y. (both x.from y.from (pair P s x y)).fits)
       (λ x y e. seen_same x.from y.from (pair P s x y) e)
       (members P s starts a h) in

@@ -194,7 +194,7 @@ module _ {E : Type 0} {serves : E → Type 0} (v : Env E) (lat : Lattice) (ll : 
       let inner = inner_flows lat ll g pc sec.1 l m.er sec.4 in
       let to_end = flows_to_end lat ll g c (lat.join pc l) t1 sec.3.0 inner sec.3.3 in
       let to : Flows lat pc both = ll.chain pc sec.1 both sec.4
-          (ll.chain sec.1 t1 both (start_flows lat ll g sec.1 l m.er) (ll.chain t1 sec.3.0 both to_end (ll.left sec.3.0 sec.3.1))) in
+      (ll.chain sec.1 t1 both (start_flows lat ll g sec.1 l m.er) (ll.chain t1 sec.3.0 both to_end (ll.left sec.3.0 sec.3.1))) in
       let s0 = tested v m e a s in
       let s2 = fetched v (raised lat g e m) (a + expr_size e + 1 + size c) s1 in
       unchanged_then s s0 _ (tested_high m e a s ew)
@@ -210,7 +210,7 @@ module _ {E : Type 0} {serves : E → Type 0} (v : Env E) (lat : Lattice) (ll : 
       let inner = inner_flows lat ll g pc sec.1 l m.er sec.4 in
       let to_end = flows_to_end lat ll g c (lat.join pc l) t1 sec.3.0 inner sec.3.3 in
       let to : Flows lat pc both = ll.chain pc sec.1 both sec.4
-          (ll.chain sec.1 t1 both (start_flows lat ll g sec.1 l m.er) (ll.chain t1 sec.3.0 both to_end (ll.left sec.3.0 sec.3.1))) in
+      (ll.chain sec.1 t1 both (start_flows lat ll g sec.1 l m.er) (ll.chain t1 sec.3.0 both to_end (ll.left sec.3.0 sec.3.1))) in
       let s0 = tested v m e a s in
       unchanged_then s s0 _ (tested_high m e a s ew)
       (unchanged_then s0 s1 _ (high_run (lat.join pc l, t1, sec.3.1, sec.3.4, inner, sec.5.2, high_up pc (lat.join pc l) sec.6 (ll.left pc l)) b)
@@ -230,8 +230,16 @@ module _ {E : Type 0} {serves : E → Type 0} (v : Env E) (lat : Lattice) (ll : 
       let inner = ll.least pc l sec.3.0 to (from_left lat ll g l sec.1 sec.3.0 lt) in
       unchanged_then s (tested v m e a s) _ (tested_high m e a s ew)
       (unchanged_then (tested v m e a s) s1 _
-      (high_run (lat.join pc l, sec.3.0, sec.3.0, sec.3.3, inner, sec.5.1, high_up pc (lat.join pc l) sec.6 (ll.left pc l),
-          high_up m.ew (lat.join m.ew l) ew (ll.left m.ew l)) b)
+      (high_run (
+        lat.join pc l,
+        sec.3.0,
+        sec.3.0,
+        sec.3.3,
+        inner,
+        sec.5.1,
+        high_up pc (lat.join pc l) sec.6 (ll.left pc l),
+        high_up m.ew (lat.join m.ew l) ew (ll.left m.ew l),
+      ) b)
       (high_run (pc, sec.3.0, sec.2, sec.3.4, to, sec.5.2, sec.6) k))
   high_run {s = s} sec (mitigate {m = m} {k = mark} {l = level} {e = e} {c = c} {r = r} {a = a} {s1 = s1} b k) =
       let pc = sec.0 in
@@ -240,7 +248,7 @@ module _ {E : Type 0} {serves : E → Type 0} (v : Env E) (lat : Lattice) (ll : 
       let ew = ew_up pc m e sec.6 sec.3.1 in
       let to = ll.chain pc sec.1 t1 sec.4 (start_flows lat ll g sec.1 l m.er) in
       let level_high = high_up pc level sec.6
-          (ll.chain pc t1 level to (ll.chain t1 sec.3.0 level (flows_to_end lat ll g c pc t1 sec.3.0 to sec.3.2) sec.3.3)) in
+      (ll.chain pc t1 level to (ll.chain t1 sec.3.0 level (flows_to_end lat ll g c pc t1 sec.3.0 to sec.3.2) sec.3.3)) in
       let s0 = tested v m e a s in
       let w = opening (value_of e s.memory) level mark s0 in
       let s2 = fetched v m (a + expr_size e + 1 + size c) s1 in

@@ -48,7 +48,7 @@ module _ {E : Type 0} {serves : E → Type 0} (v : Env E) (lat : Lattice) (ll : 
       let s1 = touched v m x (tested v m e a s) in
       blind_run (g x) end (f.0, f.1.2, f.2.1, ll.chain f.0 i (g x) f.3 to) (up i (g x) h to) k
       ∙ shown-none lat g o lim s1.log (Wrote x n s1.clock)
-          (cond-false (lat.flows (g x) o) (Wrote x n s1.clock ∷ []) [] (false_from_ne_true (lat.flows (g x) o) (up i (g x) h to)))
+      (cond-false (lat.flows (g x) o) (Wrote x n s1.clock ∷ []) [] (false_from_ne_true (lat.flows (g x) o) (up i (g x) h to)))
       ∙ tested_see m e a s
   blind_run {s = s} i end f h (put {m = m} {f = b} {n = n} {i = j} {e = e} {a = a} k) =
       let to = (parts lat ll g (label_of lat g e) (lat.join (label_of lat g j) (index_label lat g e)) f.0 i m.er (g b) f.1.0).time in
@@ -58,8 +58,8 @@ module _ {E : Type 0} {serves : E → Type 0} (v : Env E) (lat : Lattice) (ll : 
       let s1 = touched v m x (reached v m j e a s) in
       blind_run (g b) end (f.0, f.1.2, f.2.1, ll.chain f.0 i (g b) f.3 to) (up i (g b) h to) k
       ∙ shown-none lat g o lim s1.log (Wrote x w s1.clock)
-          (cond-false (lat.flows (g x) o) (Wrote x w s1.clock ∷ []) [] (ap (λ z. lat.flows z o) same
-          ∙ false_from_ne_true (lat.flows (g b) o) (up i (g b) h to)))
+      (cond-false (lat.flows (g x) o) (Wrote x w s1.clock ∷ []) [] (ap (λ z. lat.flows z o) same
+      ∙ false_from_ne_true (lat.flows (g b) o) (up i (g b) h to)))
       ∙ ap (shown lat g o lim) (reached_log v m j e a s)
   blind_run {s = s} i end f h (sleep {m = m} {e = e} {a = a} k) =
       let to = start_flows lat ll g i (label_of lat g e) m.er in
@@ -92,8 +92,13 @@ module _ {E : Type 0} {serves : E → Type 0} (v : Env E) (lat : Lattice) (ll : 
       let to = from_right lat ll g l i f.1.0 li in
       let pt = ll.chain f.0 i f.1.0 f.3 to in
       blind_run f.1.0 end (f.0, f.1.4, f.2.2, pt) (up i f.1.0 h to) k
-      ∙ blind_run f.1.0 f.1.0 (lat.join f.0 l, f.1.3, f.2.1, ll.least f.0 l f.1.0 pt (from_left lat ll g l i f.1.0 li),
-          refl) (up i f.1.0 h to) b ∙ tested_see m e a s
+      ∙ blind_run f.1.0 f.1.0 (
+        lat.join f.0 l,
+        f.1.3,
+        f.2.1,
+        ll.least f.0 l f.1.0 pt (from_left lat ll g l i f.1.0 li),
+        refl,
+      ) (up i f.1.0 h to) b ∙ tested_see m e a s
   blind_run {s = s} i end f h (mitigate {m = m} {k = mark} {l = l} {e = e} {c = c} {a = a} {s1 = s1} b k) =
       let start = lat.join (lat.join i (label_of lat g e)) m.er in
       let to = start_flows lat ll g i (label_of lat g e) m.er in

@@ -112,14 +112,26 @@ module _ {E : Type 0} {serves : E → Type 0} (v : Env E) (lat : Lattice) (ll : 
 
   pub fetched_low : (m : Marks) (a : ℕ) (s s' : Core E) → SameLow s s' → SameLow (fetched v m a s) (fetched v m a s')
   fetched_low m a s s' h =
-      record { memory = h.memory; long = h.long; one = laws.keeps Code (4 * a) m.er m.ew s.env h.one; other =
-          laws.keeps Code (4 * a) m.er m.ew s'.env h.other; parts = laws.agreement Code (4 * a) m.er m.ew o s.env s'.env h.one h.other h.parts }
+      record {
+        memory = h.memory;
+        long = h.long;
+        one = laws.keeps Code (4 * a) m.er m.ew s.env h.one;
+        other =
+            laws.keeps Code (4 * a) m.er m.ew s'.env h.other;
+        parts = laws.agreement Code (4 * a) m.er m.ew o s.env s'.env h.one h.other h.parts;
+      }
 
   pub touched_low : (m : Marks) (x : ℕ) (s s' : Core E) → SameLow s s' → SameLow (touched v m x s) (touched v m x s')
   touched_low m x s s' h =
-      record { memory = h.memory; long = h.long; one = laws.keeps Data (2 ^ 20 + 8 * x) m.er m.ew s.env h.one; other =
-          laws.keeps Data (2 ^ 20 + 8 * x) m.er m.ew s'.env h.other; parts =
-          laws.agreement Data (2 ^ 20 + 8 * x) m.er m.ew o s.env s'.env h.one h.other h.parts }
+      record {
+        memory = h.memory;
+        long = h.long;
+        one = laws.keeps Data (2 ^ 20 + 8 * x) m.er m.ew s.env h.one;
+        other =
+            laws.keeps Data (2 ^ 20 + 8 * x) m.er m.ew s'.env h.other;
+        parts =
+            laws.agreement Data (2 ^ 20 + 8 * x) m.er m.ew o s.env s'.env h.one h.other h.parts;
+      }
 
   pub waited_low : (n n' : ℕ) (s s' : Core E) → SameLow s s' → SameLow (waited n s) (waited n' s')
   waited_low n n' s s' h = record { memory = h.memory; long = h.long; one = h.one; other = h.other; parts = h.parts }
@@ -201,7 +213,7 @@ module _ {E : Type 0} {serves : E → Type 0} (v : Env E) (lat : Lattice) (ll : 
   timed_low m (Variable x) a s s' k h = touched_low m x _ _ (fetched_low m a s s' h)
   timed_low m (Binary op l r) a s s' k h =
       waited_low _ _ _ _ (fetched_low m (a + expr_size l + expr_size r) _ _
-          (timed_low m r (a + expr_size l) _ _ (fit_right m l r k.0 k.1.1) (timed_low m l a s s' (fit_left m l r k.0 k.1.0) h)))
+      (timed_low m r (a + expr_size l) _ _ (fit_right m l r k.0 k.1.1) (timed_low m l a s s' (fit_left m l r k.0 k.1.0) h)))
   timed_low m (Element f n i) a s s' k h =
       touched_two m (label_of lat g i) _ _ _ _ k.0 (λ low. ap (element f n) (value_low i s s' k.1.1 h low))
       (fetched_low m (a + expr_size i) _ _ (timed_low m i a s s' (fit_index m i k.0 k.1.1) h))
@@ -254,7 +266,7 @@ module _ {E : Type 0} {serves : E → Type 0} (v : Env E) (lat : Lattice) (ll : 
       let h1 = timed_low m i a s s' ki h in
       let c1 = timed_time m i a s s' ki h low low_i c in
       touched_two_time m _ _ _ _ (ap (element f n) (value_low i s s' k.1.1 h low_i)) (fetched_low m (a + expr_size i) _ _ h1) low
-          (fetched_time m (a + expr_size i) _ _ h1 low c1)
+      (fetched_time m (a + expr_size i) _ _ h1 low c1)
 
   pub tested_time : (m : Marks) (e : Expression) (a : ℕ) (s s' : Core E) → Fit m e → SameLow s s' → Low m.er → Low (label_of lat g e) → Alike s.clock s'.clock
       → Alike (tested v m e a s).clock (tested v m e a s').clock
@@ -307,7 +319,7 @@ module _ {E : Type 0} {serves : E → Type 0} (v : Env E) (lat : Lattice) (ll : 
       record {
         memory = λ y low. ⊎_elim
             (λ (q : y ≡ x). subst (λ z. read (slice_set s.memory x n) z ≡ read (slice_set s'.memory x n') z) (sym q)
-                (same (e (subst (λ z. Low (g z)) q low)) (h.memory x (subst (λ z. Low (g z)) q low)) (cases_lt x (length s.memory))))
+            (same (e (subst (λ z. Low (g z)) q low)) (h.memory x (subst (λ z. Low (g z)) q low)) (cases_lt x (length s.memory))))
             (λ (q : y ≡ x → ⊥). get_or-set_other s.memory x y n (pos 0) q ∙ h.memory y low ∙ sym (get_or-set_other s'.memory x y n' (pos 0) q))
             (cases_eq y x);
         long = length-set s.memory x n ∙ h.long ∙ sym (length-set s'.memory x n');

@@ -128,14 +128,14 @@ module _ {E : Type 0} {serves : E → Type 0} (v : Env E) (lat : Lattice) (ll : 
       let q = tested_count m e a s in
       let r = record_of v lat g o lim b in
       let p = guard_count l (count (tested v m e a s)) (count s1) r (λ y. low_count (lat.join pc l) t.0 (ll.least pc l o h y) b)
-          (λ y. high_count (lat.join pc l) t.0 (high_join_right pc l y) b) in
+      (λ y. high_count (lat.join pc l) t.0 (high_join_right pc l y) b) in
       omega (arith, p, low_count pc t.2 h k, length-append (cond (lat.flows l o) r []) (record_of v lat g o lim k))
   low_count {s = s} pc t h (if_false {m = m} {e = e} {a = a} {s1 = s1} w b k) =
       let l = label_of lat g e in
       let q = tested_count m e a s in
       let r = record_of v lat g o lim b in
       let p = guard_count l (count (tested v m e a s)) (count s1) r (λ y. low_count (lat.join pc l) t.1 (ll.least pc l o h y) b)
-          (λ y. high_count (lat.join pc l) t.1 (high_join_right pc l y) b) in
+      (λ y. high_count (lat.join pc l) t.1 (high_join_right pc l y) b) in
       omega (arith, p, low_count pc t.2 h k, length-append (cond (lat.flows l o) r []) (record_of v lat g o lim k))
   low_count {s = s} pc t h (while_none {m = m} {e = e} {a = a} w k) =
       let l = label_of lat g e in
@@ -147,7 +147,7 @@ module _ {E : Type 0} {serves : E → Type 0} (v : Env E) (lat : Lattice) (ll : 
       let q = tested_count m e a s in
       let r = record_of v lat g o lim b in
       let p = guard_count l (count (tested v m e a s)) (count s1) r (λ y. low_count (lat.join pc l) t.0 (ll.least pc l o h y) b)
-          (λ y. high_count (lat.join pc l) t.0 (high_join_right pc l y) b) in
+      (λ y. high_count (lat.join pc l) t.0 (high_join_right pc l y) b) in
       omega (arith, p, low_count pc t.1 h k, length-append (cond (lat.flows l o) r []) (record_of v lat g o lim k))
   low_count {s = s} pc t h (mitigate {m = m} {k = mark} {l = l} {e = e} {c = c} {a = a} {s1 = s1} b k) =
       let s0 = tested v m e a s in

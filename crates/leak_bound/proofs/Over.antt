@@ -24,17 +24,17 @@ module _ {E : Type 0} (v : Order → Env E) (serves : Order → E → Type 0) wh
   pub lowered_sound : SoundOver v serves → LoweredSoundOver v serves
   lowered_sound h q is =
       sound_same (v q.program.order) q.program.order (serves q.program.order) (labels_of q) (levels_of q) (lowered q).instrs (bare_of q)
-          (plan_of q.program) (keep_commands q)
+      (plan_of q.program) (keep_commands q)
       (h q.program.order (labels_of q) (levels_of q) (lowered q).instrs (bare_of q) (made_of q is))
 
   pub lowered_shows_one : ShowsOneOver v serves → LoweredShowsOneOver v serves
   lowered_shows_one h q is =
       shows_one_same (v q.program.order) q.program.order (serves q.program.order) (labels_of q) (levels_of q) (lowered q).instrs (bare_of q)
-          (plan_of q.program) (keep_commands q)
+      (plan_of q.program) (keep_commands q)
       (h q.program.order (labels_of q) (levels_of q) (lowered q).instrs (bare_of q) (made_of q is))
 
   pub lowered_cut_sound : CutSoundOver v serves → LoweredCutSoundOver v serves
   lowered_cut_sound h q is =
       cut_sound_same (v q.program.order) q.program.order (serves q.program.order) (labels_of q) (levels_of q) (lowered q).instrs (bare_of q)
-          (plan_of q.program) (keep_commands q)
+      (plan_of q.program) (keep_commands q)
       (h q.program.order (labels_of q) (levels_of q) (lowered q).instrs (bare_of q) (made_of q is))

@@ -105,14 +105,32 @@ then_quiet lim s s1 s2 a x e h q =
     }
 
 grows_same : {E : Type 0} (lim : ℕ) (s : Core E) → Grows lim s s []
-grows_same lim s = record { misses = λ l. omega arith; clock = omega arith; above = λ l. tt; under = λ l. tt; rises = tt; took = tt; none =
-    λ far. refl; log = λ far. refl }
+grows_same lim s = record {
+  misses = λ l. omega arith;
+  clock = omega arith;
+  above = λ l. tt;
+  under = λ l. tt;
+  rises = tt;
+  took = tt;
+  none =
+      λ far. refl;
+  log = λ far. refl;
+}
 
 -- a part that a guard may leave out
 grows_cond : {E : Type 0} (lim : ℕ) (b : Bool) (s s' : Core E) (a : List Entry) → Grows lim s s' a → Grows lim s s' (cond b a [])
 grows_cond lim true s s' a x = x
-grows_cond lim false s s' a x = record { misses = x.misses; clock = x.clock; above = λ l. tt; under = λ l. tt; rises = tt; took =
-    tt; none = λ far. refl; log = x.log }
+grows_cond lim false s s' a x = record {
+  misses = x.misses;
+  clock = x.clock;
+  above = λ l. tt;
+  under = λ l. tt;
+  rises = tt;
+  took =
+      tt;
+  none = λ far. refl;
+  log = x.log;
+}
 
 timed_miss : {E : Type 0} (v : Env E) (m : Marks) (e : Expression) (a : ℕ) (s : Core E) → (timed v m e a s).misses ≡ s.misses
 timed_miss v m (Number n) a s = refl
@@ -157,8 +175,17 @@ closed_grows lim w q h = go (leb (closed w q).clock lim) refl
           none = λ far. absurd (omega (arith, in_time, enough));
           log = λ far. upto-late lim q.log (Ended w.mark (closed w q).clock) (omega (arith, enough));
         }
-    go false by = record { misses = λ l. up l (eqb l w.level) refl; clock = omega (arith, enough); above = λ l. tt; under = λ l. tt; rises = tt; took =
-        tt; none = λ far. refl; log = λ far. upto-late lim q.log (Ended w.mark (closed w q).clock) (omega (arith, enough)) }
+    go false by = record {
+      misses = λ l. up l (eqb l w.level) refl;
+      clock = omega (arith, enough);
+      above = λ l. tt;
+      under = λ l. tt;
+      rises = tt;
+      took =
+          tt;
+      none = λ far. refl;
+      log = λ far. upto-late lim q.log (Ended w.mark (closed w q).clock) (omega (arith, enough));
+    }
 
 module _ {E : Type 0} (v : Env E) (lat : Lattice) (g : ℕ → ℕ) (o lim : ℕ) where
   tested_upto : (m : Marks) (e : Expression) (a : ℕ) (s : Core E) → upto lim (tested v m e a s).log ≡ upto lim s.log
@@ -171,16 +198,16 @@ module _ {E : Type 0} (v : Env E) (lat : Lattice) (g : ℕ → ℕ) (o lim : ℕ
   grows_run {s = s} {s' = s'} (assign {m = m} {x = x} {e = e} {a = a} k) =
       grows_quiet lim s (written x (value_of e s.memory) (touched v m x (tested v m e a s))) s' _ (timed_miss v m e a s) (omega (arith, timed_clock v m e a s))
       (λ far. upto-late lim (tested v m e a s).log (Wrote x (value_of e s.memory) (touched v m x (tested v m e a s)).clock)
-          (omega (arith, timed_clock v m e a s)) ∙ tested_upto m e a s) (grows_run k)
+      (omega (arith, timed_clock v m e a s)) ∙ tested_upto m e a s) (grows_run k)
   grows_run {s = s} {s' = s'} (put {m = m} {f = f} {n = n} {i = i} {e = e} {a = a} k) =
       let x = element f n (value_of i s.memory) in
       let s1 = touched v m x (reached v m i e a s) in
       grows_quiet lim s (stored v m f n i e a s) s' _ (reached_miss v m i e a s) (omega (arith, reached_clock v m i e a s))
       (λ far. upto-late lim s1.log (Wrote x (value_of e s.memory) s1.clock) (omega (arith, reached_clock v m i e a s))
-          ∙ ap (upto lim) (reached_log v m i e a s)) (grows_run k)
+      ∙ ap (upto lim) (reached_log v m i e a s)) (grows_run k)
   grows_run {s = s} {s' = s'} (sleep {m = m} {e = e} {a = a} k) =
       grows_quiet lim s (waited (at_least_zero (value_of e s.memory)) (tested v m e a s)) s' _ (timed_miss v m e a s) (omega (arith, timed_clock v m e a s))
-          (λ far. tested_upto m e a s) (grows_run k)
+      (λ far. tested_upto m e a s) (grows_run k)
   grows_run {s = s} {s' = s'} (if_true {m = m} {e = e} {c = c} {a = a} {s1 = s1} w b k) =
       let s0 = tested v m e a s in
       grows_quiet lim s s0 s' _ (timed_miss v m e a s) (tested_clock v m e a s) (λ far. tested_upto m e a s)
@@ -207,18 +234,27 @@ module _ {E : Type 0} (v : Env E) (lat : Lattice) (g : ℕ → ℕ) (o lim : ℕ
       grows_quiet lim s s0 s' _ (timed_miss v m e a s) (tested_clock v m e a s) (λ far. tested_upto m e a s)
       (grows_then lim s0 (closed w s2) s' _ _
       (grows_then lim s0 s2 (closed w s2) _ _
-          (then_quiet lim s0 s1 s2 _ (grows_quiet lim s0 (begun mark s0) s1 _ refl (omega arith) (λ far. upto-late lim s0.log (Began mark s0.clock) far) body)
-          refl (omega arith) refl) (part (lat.flows l o) (closed w s2) s2 _ (closed_grows lim w s2 (omega arith))))
+      (then_quiet lim s0 s1 s2 _ (grows_quiet lim s0 (begun mark s0) s1 _ refl (omega arith) (λ far. upto-late lim s0.log (Began mark s0.clock) far) body)
+      refl (omega arith) refl) (part (lat.flows l o) (closed w s2) s2 _ (closed_grows lim w s2 (omega arith))))
       (grows_run k))
     where
       part : (b : Bool) (s2 s1 : Core E) (a : List Entry) → Grows lim s1 s2 a → Grows lim s1 s2 (cond b [] a)
-      part true s2 s1 a x = record { misses = x.misses; clock = x.clock; above = λ l. tt; under = λ l. tt; rises = tt; took =
-          tt; none = λ far. refl; log = x.log }
+      part true s2 s1 a x = record {
+        misses = x.misses;
+        clock = x.clock;
+        above = λ l. tt;
+        under = λ l. tt;
+        rises = tt;
+        took =
+            tt;
+        none = λ far. refl;
+        log = x.log;
+      }
       part false s2 s1 a x = x
   grows_run {s = s} (last {m = m} {e = e} {c = c} {a = a} {s1 = s1} b w) =
       then_quiet lim s s1 (tested v (raised lat g e m) e (a + size c) s1) _ (grows_run b) (timed_miss v (raised lat g e m) e (a + size c) s1)
-          (tested_clock v (raised lat g e m) e (a + size c) s1) (tested_upto (raised lat g e m) e (a + size c) s1)
+      (tested_clock v (raised lat g e m) e (a + size c) s1) (tested_upto (raised lat g e m) e (a + size c) s1)
   grows_run {s = s} {s' = s'} (again {m = m} {e = e} {c = c} {a = a} {s1 = s1} b w k) =
       grows_then lim s s1 s' _ _ (grows_run b)
       (grows_quiet lim s1 (tested v (raised lat g e m) e (a + size c) s1) s' _ (timed_miss v (raised lat g e m) e (a + size c) s1)
-          (tested_clock v (raised lat g e m) e (a + size c) s1) (λ far. tested_upto (raised lat g e m) e (a + size c) s1) (grows_run k))
+      (tested_clock v (raised lat g e m) e (a + size c) s1) (λ far. tested_upto (raised lat g e m) e (a + size c) s1) (grows_run k))

@@ -94,7 +94,7 @@ module _ {E M L M' L' : Type 0} (v : Env E) (order : Order) (serves : E → Type
       record {
         few = λ o low t some starts agree same tests.
             subst (λ z. distinct_count same (map (seen_from v (lattice_of order) g image o t) starts) ≤ bound order o t (most_ended v image z t starts))
-                (relevant-same p q e (lattice_of order) g ls o)
+            (relevant-same p q e (lattice_of order) g ls o)
             (s.few o low t some starts agree same tests);
       }
 

@@ -48,12 +48,22 @@ length-relevances lat g ls o pc (If m e a b r) =
     let fa = relevances lat g ls o inner a in
     let fb = relevances lat g ls o inner b in
     let fr = relevances lat g ls o pc r in
-    omega (arith, length-append fa (fb ++ fr), length-append fb fr, length-relevances lat g ls o inner a, length-relevances lat g ls o inner b,
-        length-relevances lat g ls o pc r)
+    omega (
+      arith,
+      length-append fa (fb ++ fr),
+      length-append fb fr,
+      length-relevances lat g ls o inner a,
+      length-relevances lat g ls o inner b,
+      length-relevances lat g ls o pc r,
+    )
 length-relevances lat g ls o pc (While m e c r) =
     let inner = lat.join pc (label_of lat g e) in
-    omega (arith, length-append (relevances lat g ls o inner c) (relevances lat g ls o pc r), length-relevances lat g ls o inner c,
-        length-relevances lat g ls o pc r)
+    omega (
+      arith,
+      length-append (relevances lat g ls o inner c) (relevances lat g ls o pc r),
+      length-relevances lat g ls o inner c,
+      length-relevances lat g ls o pc r,
+    )
 length-relevances lat g ls o pc (Mitigate m k l e c r) =
     omega (arith, length-append (relevances lat g ls o pc c) (relevances lat g ls o pc r), length-relevances lat g ls o pc c, length-relevances lat g ls o pc r)
 

@@ -85,11 +85,15 @@ module _ {E : Type 0} {serves : E → Type 0} (v : Env E) (lat : Lattice) (ll : 
       first = ap (visible lat g o) (x.log h) ∙ w.seen
 
       go : (lim < m2.clock) ⊎ (m2.clock ≤ lim) → Time end s1 s2
-      go (inl l) = record { seen = first ∙ sym (ap (visible lat g o) (y.log l)); misses = λ i i'. absurd (omega arith); clock =
-          λ low. inr (omega arith, omega arith) }
+      go (inl l) = record {
+        seen = first ∙ sym (ap (visible lat g o) (y.log l));
+        misses = λ i i'. absurd (omega arith);
+        clock =
+            λ low. inr (omega arith, omega arith);
+      }
       go (inr l) =
           let high : High t = λ low. ⊎_elim (λ (e : m1.clock ≡ m2.clock). omega arith) (λ (e : (lim < m1.clock) × (lim < m2.clock)). let z = e.1 in
-              omega arith) (w.clock low) in
+          omega arith) (w.clock low) in
           record { seen = first ∙ sym (y.blind high); misses = λ i i'. absurd (omega arith); clock = λ low. absurd (high (ll.chain t end o x.to low)) }
 
   past_right : (t end : ℕ) (m1 s1 m2 s2 : Core E) (b b' : List Entry) → lim < m2.clock → SleepWork t end m1 s1 b → SleepWork t end m2 s2 b'
@@ -176,8 +180,14 @@ module _ {E : Type 0} {serves : E → Type 0} (v : Env E) (lat : Lattice) (ll : 
   rest_after : (t end : ℕ) (m m1 s : Core E) (b : List Entry) → m.clock ≤ m1.clock → m1.log ≡ m.log → SleepWork t end m1 s b → SleepWork t end m s b
   rest_after t end m m1 s b c e y =
       let yc = y.clock in
-      record { to = y.to; clock = omega arith; ends = λ h. y.ends (omega arith); log = λ h. y.log (omega arith) ∙ ap (upto lim) e; blind =
-          λ h. y.blind h ∙ ap (shown lat g o lim) e }
+      record {
+        to = y.to;
+        clock = omega arith;
+        ends = λ h. y.ends (omega arith);
+        log = λ h. y.log (omega arith) ∙ ap (upto lim) e;
+        blind =
+            λ h. y.blind h ∙ ap (shown lat g o lim) e;
+      }
 
   emptied : (t end : ℕ) (s1 s1' s2 s2' : Core E) (b b' : List Entry) → Both t end s1 s1' s2 s2' (b ++ []) (b' ++ []) → Both t end s1 s1' s2 s2' b b'
   emptied t end s1 s1' s2 s2' b b' x =
@@ -330,15 +340,18 @@ module _ {E : Type 0} {serves : E → Type 0} (v : Env E) (lat : Lattice) (ll : 
   -- a branch whose guard is not low, and the jump below it
   branch_still : (pc l t end j : ℕ) (m : Marks) (p : Marked) (a : ℕ) (s n : Core E) → Types lat g (lat.join pc l) t p end → ArraysIn g p
       → Flows lat (lat.join pc l) t → High l → Runs v lat g lim (Do p a) s n → Still s n
-  branch_still pc l t end j m p a s n ty k f high b =
-      (high_run v lat ll laws g o lim (lat.join pc l, t, end, ty, f, k, high_up v lat ll laws g o lim l (lat.join pc l) high (ll.right pc l)) b,
-          (grows_run v lat g o lim b).clock)
+  branch_still pc l t end j m p a s n ty k f high b = (
+    high_run v lat ll laws g o lim (lat.join pc l, t, end, ty, f, k, high_up v lat ll laws g o lim l (lat.join pc l) high (ll.right pc l)) b,
+    (grows_run v lat g o lim b).clock,
+  )
 
   jump_still : (l j : ℕ) (m : Marks) (s n : Core E) → High l → Still s n → Still s (fetched v (record { er = lat.join m.er l; ew = lat.join m.ew l }) j n)
   jump_still l j m s n high u =
-      let c = u.1 in
-      (unchanged_then v lat ll laws g o lim s n _ u.0 (fetched_high v lat ll laws g o lim (record { er = lat.join m.er l; ew = lat.join m.ew l }) j n
-          (high_up v lat ll laws g o lim l (lat.join m.ew l) high (ll.right m.ew l))), omega arith)
+      let c = u.1 in (
+        unchanged_then v lat ll laws g o lim s n _ u.0 (fetched_high v lat ll laws g o lim (record { er = lat.join m.er l; ew = lat.join m.ew l }) j n
+            (high_up v lat ll laws g o lim l (lat.join m.ew l) high (ll.right m.ew l))),
+        omega arith,
+      )
 
   -- a guard with a low label has one value
   one_guard : (e : Expression) (s s' : Core E) → HasArrays g e → Same s s' → Low (label_of lat g e) → holds (value_of e s.memory) ≡ true
@@ -355,9 +368,19 @@ module _ {E : Type 0} {serves : E → Type 0} (v : Env E) (lat : Lattice) (ll : 
   loop_still : (pc t' : ℕ) (m : Marks) (e : Expression) (c : Marked) (a : ℕ) (s n : Core E) → Types lat g (lat.join pc (label_of lat g e)) t' c t'
       → ArraysIn g c → Flows lat (lat.join pc (label_of lat g e)) t' → High (label_of lat g e) → Runs v lat g lim (Loop m e c a) s n → Still s n
   loop_still pc t' m e c a s n ty k f high b =
-      let l = label_of lat g e in
-      (high_run v lat ll laws g o lim (lat.join pc l, t', t', ty, f, k, high_up v lat ll laws g o lim l (lat.join pc l) high (ll.right pc l),
-          high_up v lat ll laws g o lim l (lat.join m.ew l) high (ll.right m.ew l)) b, (grows_run v lat g o lim b).clock)
+      let l = label_of lat g e in (
+        high_run v lat ll laws g o lim (
+          lat.join pc l,
+          t',
+          t',
+          ty,
+          f,
+          k,
+          high_up v lat ll laws g o lim l (lat.join pc l) high (ll.right pc l),
+          high_up v lat ll laws g o lim l (lat.join m.ew l) high (ll.right m.ew l),
+        ) b,
+        (grows_run v lat g o lim b).clock,
+      )
 
   unmoved : (s : Core E) → Still s s
   unmoved s = (unchanged_same v lat ll laws g o lim s, omega arith)
@@ -380,7 +403,7 @@ module _ {E : Type 0} {serves : E → Type 0} (v : Env E) (lat : Lattice) (ll : 
   counts_same : (c c' : ℕ) (n n' : ℤ) (s s' k k' : ℕ) → c ≡ c' → n ≡ n' → s ≡ s' → k ≡ k' → misses_after n (c - s) k ≡ misses_after n' (c' - s') k'
   counts_same c c' n n' s s' k k' a b d e =
       ap (λ x. misses_after n (x - s) k) a ∙ ap (λ x. misses_after x (c' - s) k) b ∙ ap (λ x. misses_after n' (c' - x) k) d
-          ∙ ap (λ x. misses_after n' (c' - s') x) e
+      ∙ ap (λ x. misses_after n' (c' - s') x) e
 
   ends_same : (s s' : ℕ) (n n' : ℤ) (c c' : ℕ) → s ≡ s' → n ≡ n' → c ≡ c' → s + max (at_least_zero n) 1 * 2 ^ c ≡ s' + max (at_least_zero n') 1 * 2 ^ c'
   ends_same s s' n n' c c' a b d =
@@ -467,9 +490,9 @@ module _ {E : Type 0} {serves : E → Type 0} (v : Env E) (lat : Lattice) (ll : 
               let cost = cost_low v lat ll laws g o lim Code (4 * j) m.er m.ew n1 n2 here (ll.chain m.er start o fe low_start) in
               let clocks : q1.clock ≡ q2.clock = omega (arith, c1, c2) in
               let since : s0.clock ≡ s0'.clock = ⊎_elim (λ (e : s0.clock ≡ s0'.clock). e) (λ (e : (lim < s0.clock) × (lim < s0'.clock)). let y = e.0 in
-                  absurd (omega (arith, c1, c2))) (w.clock low_start) in
+              absurd (omega (arith, c1, c2))) (w.clock low_start) in
               let same = counts_same q1.clock q2.clock n n' s0.clock s0'.clock (n1.misses level) (n2.misses level) clocks (val low_start)
-                  since (z.misses i i' level e) in
+              since (z.misses i i' level e) in
               ended i i' (λ low. same) (λ low. same) w z
 
       la : (y : Entry) → length (a ++ y ∷ []) ≡ length a + 1
@@ -582,8 +605,13 @@ module _ {E : Type 0} {serves : E → Type 0} (v : Env E) (lat : Lattice) (ll : 
       let w1 = tested_timing v lat ll laws g o lim m e a t (g x) s1 s2 fit h q.time q.value q.read w in
       let w2 = touched_timing m x x (g x) (g x) _ _ (λ y. refl) h1 (ll.same (g x)) q.read w1 in
       written_timing v lat ll laws g o lim (g x) x x (g x) (value_of e s1.memory) (value_of e s2.memory) _ _ refl refl (λ y. refl) val w2.clock w2)
-      (two_run (g x) end (p.0, p.1.2, p.2.1, q.counter,
-          p.4) (written_low v lat ll laws g o lim x (value_of e s1.memory) (value_of e s2.memory) _ _ h2 val) k k')
+      (two_run (g x) end (
+        p.0,
+        p.1.2,
+        p.2.1,
+        q.counter,
+        p.4,
+      ) (written_low v lat ll laws g o lim x (value_of e s1.memory) (value_of e s2.memory) _ _ h2 val) k k')
   two_run {s1 = s1} {s2 = s2} t end p h (put {m = m} {f = f} {n = n} {i = i} {e = e} {a = a} k) (put k') =
       let l = label_of lat g e in
       let j = label_of lat g i in
@@ -602,7 +630,7 @@ module _ {E : Type 0} {serves : E → Type 0} (v : Env E) (lat : Lattice) (ll : 
       let place : Low j → x ≡ x' = λ y. ap (element f n) (value_low v lat ll laws g o lim i s1 s2 p.2.0.1 h y) in
       let here : Low (g f) → x ≡ x' = λ y. place (ll.chain j (g f) o to y) in
       let val : Low (g f) → value_of e s1.memory ≡ value_of e s2.memory =
-          λ y. value_low v lat ll laws g o lim e s1 s2 p.2.0.2 h (ll.chain l (g f) o q.value y) in
+      λ y. value_low v lat ll laws g o lim e s1 s2 p.2.0.2 h (ll.chain l (g f) o q.value y) in
       let h1 = reached_low v lat ll laws g o lim m i e a s1 s2 ki ke h in
       let h2 = touched_two v lat ll laws g o lim m j x x' _ _ iw place h1 in
       quiet_then t (g f) end s1 _ _ s2 _ _ _ _
@@ -610,8 +638,13 @@ module _ {E : Type 0} {serves : E → Type 0} (v : Env E) (lat : Lattice) (ll : 
       let w1 = reached_timing v lat ll laws g o lim m i e a t (g f) s1 s2 ki ke h q.time to q.value q.read w in
       let w2 = touched_timing m x x' (g f) (g f) _ _ here h1 (ll.same (g f)) q.read w1 in
       written_timing v lat ll laws g o lim (g f) x x' (g f) (value_of e s1.memory) (value_of e s2.memory) _ _ is is' here val w2.clock w2)
-      (two_run (g f) end (p.0, p.1.2, p.2.1, q.counter,
-          p.4) (written_two v lat ll laws g o lim (g f) x x' (value_of e s1.memory) (value_of e s2.memory) _ _ is is' here val h2) k k')
+      (two_run (g f) end (
+        p.0,
+        p.1.2,
+        p.2.1,
+        q.counter,
+        p.4,
+      ) (written_two v lat ll laws g o lim (g f) x x' (value_of e s1.memory) (value_of e s2.memory) _ _ is is' here val h2) k k')
   two_run {s1 = s1} {s2 = s2} t end p h (sleep {m = m} {e = e} {a = a} k) (sleep k') =
       let l = label_of lat g e in
       let fit = fit_of v lat ll laws g o lim p.0 m e p.1.0 p.2.0 in
@@ -654,7 +687,7 @@ module _ {E : Type 0} {serves : E → Type 0} (v : Env E) (lat : Lattice) (ll : 
       quiet_then t start end s1 s0 _ s2 s0' _ _ _
       (tested_timing v lat ll laws g o lim m e a t start s1 s2 fit h f.from_start f.guard_start f.er_start)
       (both_then start both end s0 _ _ s0' _ _ _ _ _ _ (on both end k (p.0, p.1.5, p.2.3, f.pc_both, p.4)) (on both end k' (p.0, p.1.5, p.2.3, f.pc_both, p.4))
-          part (λ same. two_run both end (p.0, p.1.5, p.2.3, f.pc_both, p.4) same k k'))
+      part (λ same. two_run both end (p.0, p.1.5, p.2.3, f.pc_both, p.4) same k k'))
   two_run {s1 = s1} {s2 = s2} t end p h (if_true {m = m} {e = e} {c = c} {d = d} {a = a} {s1 = n1} w b k) (if_false {s1 = n2} w' b' k') =
       let l = label_of lat g e in
       let fit = fit_of v lat ll laws g o lim p.0 m e p.1.2 p.2.0 in
@@ -672,7 +705,7 @@ module _ {E : Type 0} {serves : E → Type 0} (v : Env E) (lat : Lattice) (ll : 
       quiet_then t start end s1 s0 _ s2 s0' _ _ _
       (tested_timing v lat ll laws g o lim m e a t start s1 s2 fit h f.from_start f.guard_start f.er_start)
       (both_then start both end s0 _ _ s0' _ _ _ _ _ _ (on both end k (p.0, p.1.5, p.2.3, f.pc_both, p.4)) (on both end k' (p.0, p.1.5, p.2.3, f.pc_both, p.4))
-          part (λ same. two_run both end (p.0, p.1.5, p.2.3, f.pc_both, p.4) same k k'))
+      part (λ same. two_run both end (p.0, p.1.5, p.2.3, f.pc_both, p.4) same k k'))
   two_run {s1 = s1} {s2 = s2} t end p h (if_false {m = m} {e = e} {c = c} {d = d} {a = a} {s1 = n1} w b k) (if_true {s1 = n2} w' b' k') =
       let l = label_of lat g e in
       let fit = fit_of v lat ll laws g o lim p.0 m e p.1.2 p.2.0 in
@@ -690,7 +723,7 @@ module _ {E : Type 0} {serves : E → Type 0} (v : Env E) (lat : Lattice) (ll : 
       quiet_then t start end s1 s0 _ s2 s0' _ _ _
       (tested_timing v lat ll laws g o lim m e a t start s1 s2 fit h f.from_start f.guard_start f.er_start)
       (both_then start both end s0 _ _ s0' _ _ _ _ _ _ (on both end k (p.0, p.1.5, p.2.3, f.pc_both, p.4)) (on both end k' (p.0, p.1.5, p.2.3, f.pc_both, p.4))
-          part (λ same. two_run both end (p.0, p.1.5, p.2.3, f.pc_both, p.4) same k k'))
+      part (λ same. two_run both end (p.0, p.1.5, p.2.3, f.pc_both, p.4) same k k'))
   two_run {s1 = s1} {s2 = s2} t end p h (if_false {m = m} {e = e} {c = c} {d = d} {a = a} {s1 = n1} w b k) (if_false {s1 = n2} w' b' k') =
       let l = label_of lat g e in
       let fit = fit_of v lat ll laws g o lim p.0 m e p.1.2 p.2.0 in
@@ -705,13 +738,13 @@ module _ {E : Type 0} {serves : E → Type 0} (v : Env E) (lat : Lattice) (ll : 
       let x = two_run start p.1.1 (lat.join p.0 l, p.1.4, p.2.2, f.inner, ll.least p.0 l o p.4 low) h1 b b' in
       let to = ll.right p.1.0 p.1.1 in
       then_quiet start p.1.1 both s0 n1 _ s0' n2 _ _ _ (quiet_rest p.1.1 both n1 n1 to (omega arith) refl) (quiet_rest p.1.1 both n2 n2 to (omega arith) refl) x
-          (λ same z. later p.1.1 both n1 n2 to z) (λ same. same))
+      (λ same z. later p.1.1 both n1 n2 to z) (λ same. same))
       (λ high. branch_still p.0 l start p.1.1 0 m d _ s0 n1 p.1.4 p.2.2 f.inner high b)
       (λ high. branch_still p.0 l start p.1.1 0 m d _ s0' n2 p.1.4 p.2.2 f.inner high b') in
       quiet_then t start end s1 s0 _ s2 s0' _ _ _
       (tested_timing v lat ll laws g o lim m e a t start s1 s2 fit h f.from_start f.guard_start f.er_start)
       (both_then start both end s0 _ _ s0' _ _ _ _ _ _ (on both end k (p.0, p.1.5, p.2.3, f.pc_both, p.4)) (on both end k' (p.0, p.1.5, p.2.3, f.pc_both, p.4))
-          part (λ same. two_run both end (p.0, p.1.5, p.2.3, f.pc_both, p.4) same k k'))
+      part (λ same. two_run both end (p.0, p.1.5, p.2.3, f.pc_both, p.4) same k k'))
   two_run {s1 = s1} {s2 = s2} t end p h (while_none {m = m} {e = e} {c = c} {a = a} w k) (while_none w' k') =
       let l = label_of lat g e in
       let fit = fit_of v lat ll laws g o lim p.0 m e p.1.1 p.2.0 in
@@ -720,12 +753,18 @@ module _ {E : Type 0} {serves : E → Type 0} (v : Env E) (lat : Lattice) (ll : 
       let s0 = tested v m e a s1 in
       let s0' = tested v m e a s2 in
       let h1 = tested_low v lat ll laws g o lim m e a s1 s2 fit h in
-      let part = guarded l t' t' s0 s0 s0' s0' [] [] h1 f.guard_start (λ low. record { low = λ i i'. h1; fits = tt; most = λ i. omega arith; least =
-          λ i. omega arith; timed = λ q z. z }) (λ high. unmoved s0) (λ high. unmoved s0') in
+      let part = guarded l t' t' s0 s0 s0' s0' [] [] h1 f.guard_start (λ low. record {
+        low = λ i i'. h1;
+        fits = tt;
+        most = λ i. omega arith;
+        least =
+            λ i. omega arith;
+        timed = λ q z. z;
+      }) (λ high. unmoved s0) (λ high. unmoved s0') in
       quiet_then t t' end s1 s0 _ s2 s0' _ _ _
       (tested_timing v lat ll laws g o lim m e a t t' s1 s2 fit h f.from_start f.guard_start f.er_start)
       (both_then t' t' end s0 s0 _ s0' s0' _ _ _ _ _ (on t' end k (p.0, p.1.4, p.2.2, f.pc_both, p.4)) (on t' end k' (p.0, p.1.4, p.2.2, f.pc_both, p.4)) part
-          (λ same. two_run t' end (p.0, p.1.4, p.2.2, f.pc_both, p.4) same k k'))
+      (λ same. two_run t' end (p.0, p.1.4, p.2.2, f.pc_both, p.4) same k k'))
   two_run {s1 = s1} {s2 = s2} t end p h (while_none {m = m} {e = e} {c = c} {a = a} w k) (while_some {s1 = n2} w' b' k') =
       let l = label_of lat g e in
       let fit = fit_of v lat ll laws g o lim p.0 m e p.1.1 p.2.0 in
@@ -735,11 +774,11 @@ module _ {E : Type 0} {serves : E → Type 0} (v : Env E) (lat : Lattice) (ll : 
       let s0' = tested v m e a s2 in
       let h1 = tested_low v lat ll laws g o lim m e a s1 s2 fit h in
       let part = guarded l t' t' s0 s0 s0' n2 [] _ h1 f.guard_start (λ low. absurd (one_guard e s2 s1 fit.1 (mirrored s1 s2 h) low w' w)) (λ high. unmoved s0)
-          (λ high. loop_still p.0 t' m e c _ s0' n2 p.1.3 p.2.1 f.inner high b') in
+      (λ high. loop_still p.0 t' m e c _ s0' n2 p.1.3 p.2.1 f.inner high b') in
       quiet_then t t' end s1 s0 _ s2 s0' _ _ _
       (tested_timing v lat ll laws g o lim m e a t t' s1 s2 fit h f.from_start f.guard_start f.er_start)
       (both_then t' t' end s0 s0 _ s0' n2 _ _ _ _ _ (on t' end k (p.0, p.1.4, p.2.2, f.pc_both, p.4)) (on t' end k' (p.0, p.1.4, p.2.2, f.pc_both, p.4)) part
-          (λ same. two_run t' end (p.0, p.1.4, p.2.2, f.pc_both, p.4) same k k'))
+      (λ same. two_run t' end (p.0, p.1.4, p.2.2, f.pc_both, p.4) same k k'))
   two_run {s1 = s1} {s2 = s2} t end p h (while_some {m = m} {e = e} {c = c} {a = a} {s1 = n1} w b k) (while_none w' k') =
       let l = label_of lat g e in
       let fit = fit_of v lat ll laws g o lim p.0 m e p.1.1 p.2.0 in
@@ -749,11 +788,11 @@ module _ {E : Type 0} {serves : E → Type 0} (v : Env E) (lat : Lattice) (ll : 
       let s0' = tested v m e a s2 in
       let h1 = tested_low v lat ll laws g o lim m e a s1 s2 fit h in
       let part = guarded l t' t' s0 n1 s0' s0' _ [] h1 f.guard_start (λ low. absurd (one_guard e s1 s2 fit.1 h low w w'))
-          (λ high. loop_still p.0 t' m e c _ s0 n1 p.1.3 p.2.1 f.inner high b) (λ high. unmoved s0') in
+      (λ high. loop_still p.0 t' m e c _ s0 n1 p.1.3 p.2.1 f.inner high b) (λ high. unmoved s0') in
       quiet_then t t' end s1 s0 _ s2 s0' _ _ _
       (tested_timing v lat ll laws g o lim m e a t t' s1 s2 fit h f.from_start f.guard_start f.er_start)
       (both_then t' t' end s0 n1 _ s0' s0' _ _ _ _ _ (on t' end k (p.0, p.1.4, p.2.2, f.pc_both, p.4)) (on t' end k' (p.0, p.1.4, p.2.2, f.pc_both, p.4)) part
-          (λ same. two_run t' end (p.0, p.1.4, p.2.2, f.pc_both, p.4) same k k'))
+      (λ same. two_run t' end (p.0, p.1.4, p.2.2, f.pc_both, p.4) same k k'))
   two_run {s1 = s1} {s2 = s2} t end p h (while_some {m = m} {e = e} {c = c} {a = a} {s1 = n1} w b k) (while_some {s1 = n2} w' b' k') =
       let l = label_of lat g e in
       let fit = fit_of v lat ll laws g o lim p.0 m e p.1.1 p.2.0 in
@@ -769,7 +808,7 @@ module _ {E : Type 0} {serves : E → Type 0} (v : Env E) (lat : Lattice) (ll : 
       quiet_then t t' end s1 s0 _ s2 s0' _ _ _
       (tested_timing v lat ll laws g o lim m e a t t' s1 s2 fit h f.from_start f.guard_start f.er_start)
       (both_then t' t' end s0 n1 _ s0' n2 _ _ _ _ _ (on t' end k (p.0, p.1.4, p.2.2, f.pc_both, p.4)) (on t' end k' (p.0, p.1.4, p.2.2, f.pc_both, p.4)) part
-          (λ same. two_run t' end (p.0, p.1.4, p.2.2, f.pc_both, p.4) same k k'))
+      (λ same. two_run t' end (p.0, p.1.4, p.2.2, f.pc_both, p.4) same k k'))
   two_run {s1 = s1} {s2 = s2} t end p h (mitigate {m = m} {k = mark} {l = level} {e = e} {c = c} {a = a} {s1 = n1} b k) (mitigate {s1 = n2} b' k') =
       let l = label_of lat g e in
       let fit = fit_of v lat ll laws g o lim p.0 m e p.1.1 p.2.0 in
@@ -782,11 +821,16 @@ module _ {E : Type 0} {serves : E → Type 0} (v : Env E) (lat : Lattice) (ll : 
       let whole = close_both m mark level start p.1.0 (a + expr_size e + 1 + size c) (value_of e s1.memory) (value_of e s2.memory) s0 n1 s0' n2 _ _ f.er_start
       (flows_to_end lat ll g c p.0 start p.1.0 f.pc_both p.1.2) p.1.3
       (λ low. value_low v lat ll laws g o lim e s1 s2 fit.1 h (ll.chain l start o f.guard_start low)) (grows_run v lat g o lim b).clock
-          (grows_run v lat g o lim b').clock x in
+      (grows_run v lat g o lim b').clock x in
       quiet_then t start end s1 s0 _ s2 s0' _ _ _
       (tested_timing v lat ll laws g o lim m e a t start s1 s2 fit h f.from_start f.guard_start f.er_start)
-      (both_then start start end s0 _ _ s0' _ _ _ _ _ _ (on start end k (p.0, p.1.4, p.2.2, f.pc_both, p.4)) (on start end k' (p.0, p.1.4, p.2.2, f.pc_both,
-          p.4)) whole (λ same. two_run start end (p.0, p.1.4, p.2.2, f.pc_both, p.4) same k k'))
+      (both_then start start end s0 _ _ s0' _ _ _ _ _ _ (on start end k (p.0, p.1.4, p.2.2, f.pc_both, p.4)) (on start end k' (
+        p.0,
+        p.1.4,
+        p.2.2,
+        f.pc_both,
+        p.4,
+      )) whole (λ same. two_run start end (p.0, p.1.4, p.2.2, f.pc_both, p.4) same k k'))
   two_run {s1 = s1} {s2 = s2} t end p h (last {m = m} {e = e} {c = c} {a = a} {s1 = n1} b w) (last {s1 = n2} b' w') =
       let x = two_run t t (p.0, p.1, p.2, p.3, p.4) h b b' in
       let rm = raised lat g e m in
@@ -794,7 +838,7 @@ module _ {E : Type 0} {serves : E → Type 0} (v : Env E) (lat : Lattice) (ll : 
       at_end t end s1 _ s2 _ _ _ p.5
       (then_quiet t t t s1 n1 _ s2 n2 _ _ _ (tested_rest t t n1 rm e q (ll.same t)) (tested_rest t t n2 rm e q (ll.same t)) x
       (λ same. tested_timing v lat ll laws g o lim rm e q t t n1 n2 (fit_raised v lat ll laws g o lim m e p.8) same (ll.same t) p.6
-          (ll.least m.er (label_of lat g e) t p.7 p.6))
+      (ll.least m.er (label_of lat g e) t p.7 p.6))
       (λ same. tested_low v lat ll laws g o lim rm e q n1 n2 (fit_raised v lat ll laws g o lim m e p.8) same))
   two_run {s1 = s1} {s2 = s2} t end p h (last {m = m} {e = e} {c = c} {a = a} {s1 = n1} b w) (again {s1 = n2} b' w' k') =
       let x = two_run t t (p.0, p.1, p.2, p.3, p.4) h b b' in
@@ -802,7 +846,7 @@ module _ {E : Type 0} {serves : E → Type 0} (v : Env E) (lat : Lattice) (ll : 
       let q = a + size c in
       emptied_left t end s1 _ s2 _ _ _
       (both_then t t end s1 n1 _ s2 n2 _ _ _ [] _ (tested_rest t end n1 rm e q (subst (λ z. Flows lat t z) p.5 (ll.same t)))
-          (rest_after t end n2 _ _ _ (tested_clock v rm e q n2) (timed_log v rm e q n2) (on t end k' p)) x
+      (rest_after t end n2 _ _ _ (tested_clock v rm e q n2) (timed_log v rm e q n2) (on t end k' p)) x
       (λ same. absurd (one_guard e n2 n1 p.8.1 (mirrored n1 n2 same) p.9 w' w)))
   two_run {s1 = s1} {s2 = s2} t end p h (again {m = m} {e = e} {c = c} {a = a} {s1 = n1} b w k) (last {s1 = n2} b' w') =
       let x = two_run t t (p.0, p.1, p.2, p.3, p.4) h b b' in
@@ -810,17 +854,17 @@ module _ {E : Type 0} {serves : E → Type 0} (v : Env E) (lat : Lattice) (ll : 
       let q = a + size c in
       emptied_right t end s1 _ s2 _ _ _
       (both_then t t end s1 n1 _ s2 n2 _ _ _ _ [] (rest_after t end n1 _ _ _ (tested_clock v rm e q n1) (timed_log v rm e q n1) (on t end k p))
-          (tested_rest t end n2 rm e q (subst (λ z. Flows lat t z) p.5 (ll.same t))) x
+      (tested_rest t end n2 rm e q (subst (λ z. Flows lat t z) p.5 (ll.same t))) x
       (λ same. absurd (one_guard e n1 n2 p.8.1 same p.9 w w')))
   two_run {s1 = s1} {s2 = s2} t end p h (again {m = m} {e = e} {c = c} {a = a} {s1 = n1} b w k) (again {s1 = n2} b' w' k') =
       let x = two_run t t (p.0, p.1, p.2, p.3, p.4) h b b' in
       let rm = raised lat g e m in
       let q = a + size c in
       both_then t t end s1 n1 _ s2 n2 _ _ _ _ _ (rest_after t end n1 _ _ _ (tested_clock v rm e q n1) (timed_log v rm e q n1) (on t end k p))
-          (rest_after t end n2 _ _ _ (tested_clock v rm e q n2) (timed_log v rm e q n2) (on t end k' p)) x
+      (rest_after t end n2 _ _ _ (tested_clock v rm e q n2) (timed_log v rm e q n2) (on t end k' p)) x
       (λ same. quiet_then t t end n1 _ _ n2 _ _ _ _
       (tested_timing v lat ll laws g o lim rm e q t t n1 n2 (fit_raised v lat ll laws g o lim m e p.8) same (ll.same t) p.6
-          (ll.least m.er (label_of lat g e) t p.7 p.6))
+      (ll.least m.er (label_of lat g e) t p.7 p.6))
       (two_run t end p (tested_low v lat ll laws g o lim rm e q n1 n2 (fit_raised v lat ll laws g o lim m e p.8) same) k k'))
   two_run {s1 = s1} {s2 = s2} t end p h (late x) d' = cut_left t end s1 s2 _ _ x (on t end d' p)
   two_run {s1 = s1} {s2 = s2} t end p h d (late x) = cut_right t end s1 _ s2 _ x (on t end d p)

@@ -76,5 +76,11 @@ module _ {E : Type 0} (v : Env E) (lat : Lattice) (g : ℕ → ℕ) (image : Lis
                 in_time = λ h. omega arith;
                 none_open = λ h. sym (ap (λ z. z.opened) e1) ∙ b.opened;
               }
-          go (cut i l e) = record { after = q.after; run = q.run; log = stamped ∙ sym e; in_time = λ h. absurd (both_ways y.halted i h); none_open =
-              λ h. absurd (both_ways y.halted i h) }
+          go (cut i l e) = record {
+            after = q.after;
+            run = q.run;
+            log = stamped ∙ sym e;
+            in_time = λ h. absurd (both_ways y.halted i h);
+            none_open =
+                λ h. absurd (both_ways y.halted i h);
+          }

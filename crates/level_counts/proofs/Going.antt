@@ -67,8 +67,11 @@ module _ (rel : ℕ → Bool) (ls : ℕ → ℕ) (p : Plan) (m : List ℤ) where
   counted_first size = record {
     few = λ l. let e = ap (λ t. t.mitigations) (none_told size l) in omega (arith, e);
     begun = λ l. sym (ap (λ t. t.mitigations) (none_told size l));
-    first = λ l. subst (IsLeast (Before 0 l)) (sym (ap (λ t. t.first) (none_told size l))) (record { least = λ y b. let c = b.1 in
-        absurd (omega (arith, c)); one = inr (refl, λ y b. let c = b.1 in absurd (omega (arith, c))) });
+    first = λ l. subst (IsLeast (Before 0 l)) (sym (ap (λ t. t.first) (none_told size l))) (record {
+      least = λ y b. let c = b.1 in
+          absurd (omega (arith, c));
+      one = inr (refl, λ y b. let c = b.1 in absurd (omega (arith, c)));
+    });
   }
 
   before_some : (n l x : ℕ) → Before n l x → 0 < x
@@ -124,7 +127,7 @@ module _ (rel : ℕ → Bool) (ls : ℕ → ℕ) (p : Plan) (m : List ℤ) where
           (let r : count_by (at_level l) (marks_of p m (n + 1)) ≡ t.mitigations = omega (arith, o, z, c) in r),
           subst (IsLeast (Before (n + 1) l)) (sym (ap (λ z. z.first) e))
               (least_same (Before n l) (Before (n + 1) l) (told_of levels l).first (later n l) (others n l (λ y j f in'. let s = only l y j f in
-                  both_ways (at_level l k) out (subst (λ z. at_level l z ≡ true) s.0 in'))) (h.first l)),
+              both_ways (at_level l k) out (subst (λ z. at_level l z ≡ true) s.0 in'))) (h.first l)),
         )
 
     on : (l : ℕ) → at_level l k ≡ true → (t : LevelRuns) → t ≡ with_one (told_of levels l) x → (t.mitigations ≤ n + 1)
@@ -139,7 +142,7 @@ module _ (rel : ℕ → Bool) (ls : ℕ → ℕ) (p : Plan) (m : List ℤ) where
           subst (IsLeast (Before (n + 1) l)) (sym (ap (λ z. z.first) e))
               (least_same (λ y. Before n l y ⊎ (y ≡ x)) (Before (n + 1) l) (lesser (told_of levels l).first x) to from
               (least_both (Before n l) (λ y. y ≡ x) (before_some n l) (λ y e. subst (λ z. 0 < z) (sym e) some) (told_of levels l).first
-                  x (h.first l) (least_one x))),
+              x (h.first l) (least_one x))),
         )
       where
         some : 0 < x
@@ -170,7 +173,7 @@ module _ (rel : ℕ → Bool) (ls : ℕ → ℕ) (p : Plan) (m : List ℤ) where
             same l q =
                 on l (ap (λ z. z && eqb (ls k) l) e ∙ eq-eqb (ls k) l (sym q)) (told_of new l)
                 (ap (told_of new) q ∙ get_or-set_same levels (ls k) (with_one (told_of levels (ls k)) x) none below
-                    ∙ ap (λ z. with_one (told_of levels z) x) (sym q))
+                ∙ ap (λ z. with_one (told_of levels z) x) (sym q))
 
             other : (l : ℕ) → (l ≡ ls k → ⊥) → Good l (told_of new l)
             other l q =
@@ -215,7 +218,7 @@ module _ (rel : ℕ → Bool) (ls : ℕ → ℕ) (s : Syntax) (m : List ℤ) whe
       → Going rel ls s m 0 walker now levels
   going_begin r walker now levels e valid begin same long none_yet =
       going_first walker now levels (subst IsValid e valid) (subst (λ (z : Syntax). source_start (plan_of z) m ≡ source_at walker []) e begin) same long
-          (none_yet ∙ ap (λ (z : Syntax). replicate z.order.size none) e)
+      (none_yet ∙ ap (λ (z : Syntax). replicate z.order.size none) e)
 
   module _ (n : ℕ) (walker new : Standing) (walk : Walk) (now : List ℤ) (levels : List LevelRuns) (h : Going rel ls s m n walker now levels)
       (step : IsStep walker walk new) where
@@ -256,10 +259,10 @@ module _ (rel : ℕ → Bool) (ls : ℕ → ℕ) (s : Syntax) (m : List ℤ) whe
         let sz = h.size in
         let less : ls b.mark < length levels = omega (arith, lt, sz) in
         let c = begins_next_counted rel ls p m n b.mark x levels h.counted (after_here (Some (b.mark, x)) b.next)
-            (marks_more (b.mark ∷ []) (ap (λ w. started_in (told_by w)) b.walk_is)) less in
+        (marks_more (b.mark ∷ []) (ap (λ w. started_in (told_by w)) b.walk_is)) less in
         subst (Counted rel ls p m (n + 1))
         (sym (ap (λ w. noted rel ls (estimates_of p) w walker.memory levels) b.walk_is
-            ∙ ap (λ o. cond (rel b.mark) (noted_at (ls b.mark) o walker.memory levels) levels) b.told)) c
+        ∙ ap (λ o. cond (rel b.mark) (noted_at (ls b.mark) o walker.memory levels) levels) b.told)) c
 
     length_noted : (w : Walk) (es : List Expression) → length (noted rel ls es w walker.memory levels) ≡ length levels
     length_noted (DidAssign x k) es = refl
@@ -311,7 +314,7 @@ module _ (q : LabelledProgram) (o : ℕ) (m : List ℤ) (n : ℕ) (ended : HasEn
       let stay = steps_stay n (i - n) (source_start (plan_of q.program) m) ended in
       let e : n + (i - n) ≡ i = omega (arith, le) in
       ap (λ z. begins_after (plan_of q.program) m z) (sym e) ∙ ap (λ σ. begins_next σ.todo σ.memory) stay
-          ∙ ap (λ z. begins_next z (source_steps n (source_start (plan_of q.program) m)).memory) ended
+      ∙ ap (λ z. begins_next z (source_steps n (source_start (plan_of q.program) m)).memory) ended
 
   to : (l x : ℕ) → Before rel (levels_of q) (plan_of q.program) m n l x
       → PredictedIn (relevant_at (order_of q) (labels_of q) (levels_of q) o (plan_of q.program) l) (plan_of q.program) (m ∷ []) x

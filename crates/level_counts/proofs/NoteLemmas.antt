@@ -26,9 +26,9 @@ told_at f xs k x lt is = slice_get-map f xs k ∙ ap (λ o. option_map f o) (sli
 pub noted_is : {X : Type 0} (f : X → Expression) (rel : ℕ → Bool) (ls : ℕ → ℕ) (xs : List X) (k l : ℕ) (x : X) (walk : Walk) (m : List ℤ)
     (levels new : List LevelRuns) (first : ℕ) →
     walk ≡ Began k → rel k ≡ true → k < length xs → x ≡ get_or xs k x → l ≡ ls k → first ≡ prediction (value_of (f x) m) 0
-        → new ≡ slice_set levels l (with_one (told_of levels l) first) → new ≡ noted rel ls (map f xs) walk m levels
+    → new ≡ slice_set levels l (with_one (told_of levels l) first) → new ≡ noted rel ls (map f xs) walk m levels
 noted_is f rel ls xs k l x walk m levels new first is yes' lt at level e n =
     n ∙ ap (λ z. slice_set levels l (with_one (told_of levels l) z)) e
     ∙ ap (λ z. slice_set levels z (with_one (told_of levels z) (prediction (value_of (f x) m) 0))) level
     ∙ sym (ap (λ w. noted rel ls (map f xs) w m levels) is ∙ ap (λ b. cond b (noted_at (ls k) (slice_get (map f xs) k) m levels) levels) yes'
-        ∙ ap (λ o. noted_at (ls k) o m levels) (told_at f xs k x lt at))
+    ∙ ap (λ o. noted_at (ls k) o m levels) (told_at f xs k x lt at))

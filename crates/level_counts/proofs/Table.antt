@@ -61,7 +61,7 @@ module _ (all : List Expression) where
       let ep = estimates_of p in
       let s1 : all ≡ pre ++ (ea ++ ((eb ++ ep) ++ post)) = is ∙ ap (λ z. pre ++ z) (append_assoc ea (eb ++ ep) post) in
       let s2 : all ≡ (pre ++ ea) ++ (eb ++ (ep ++ post)) =
-          s1 ∙ ap (λ z. pre ++ (ea ++ z)) (append_assoc eb ep post) ∙ sym (append_assoc pre ea (eb ++ (ep ++ post))) in
+      s1 ∙ ap (λ z. pre ++ (ea ++ z)) (append_assoc eb ep post) ∙ sym (append_assoc pre ea (eb ++ (ep ++ post))) in
       let s3 : all ≡ ((pre ++ ea) ++ eb) ++ (ep ++ post) = s2 ∙ sym (append_assoc (pre ++ ea) eb (ep ++ post)) in
       let n1 = longer pre ea k (mitigates a) len (length-estimates a) in
       let n2 = longer (pre ++ ea) eb (k + mitigates a) (mitigates b) n1 (length-estimates b) in (
@@ -86,7 +86,7 @@ module _ (all : List Expression) where
       let n1 = longer pre (e ∷ []) k 1 len refl in
       let n2 = longer (pre ++ e ∷ []) ec (k + 1) (mitigates c) n1 (length-estimates c) in
       let here : slice_get all j ≡ Some e = ap (λ z. slice_get z j) s0 ∙ ap (slice_get (pre ++ (e ∷ ((ec ++ ep) ++ post)))) (num.0 ∙ sym len)
-          ∙ get_seam pre e ((ec ++ ep) ++ post) in
+      ∙ get_seam pre e ((ec ++ ep) ++ post) in
       (here, tells_at c (k + 1) (pre ++ e ∷ []) (ep ++ post) num.1 n1 s1, tells_at p (k + 1 + mitigates c) ((pre ++ e ∷ []) ++ ec) post num.2 n2 s2)
 
 -- the list of a program's estimates does
@@ -140,12 +140,12 @@ module _ (ds : List Declaration) (shaped : AreShaped ds) (n : ℕ) where
   known_all (If w e a b p) h =
       let P = IsIn (variables ds) in
       All-append P (estimates_of a) (estimates_of b ++ estimates_of p) (known_all a h.4)
-          (All-append P (estimates_of b) (estimates_of p) (known_all b h.5) (known_all p h.6))
+      (All-append P (estimates_of b) (estimates_of p) (known_all b h.5) (known_all p h.6))
   known_all (While w e c p) h = All-append (IsIn (variables ds)) (estimates_of c) (estimates_of p) (known_all c h.3) (known_all p h.4)
   known_all (Mitigate w k l e c p) h =
       let P = IsIn (variables ds) in
       All-append P (e ∷ []) (estimates_of c ++ estimates_of p) (All-one P e (known_in e h.2))
-          (All-append P (estimates_of c) (estimates_of p) (known_all c h.4) (known_all p h.5))
+      (All-append P (estimates_of c) (estimates_of p) (known_all c h.4) (known_all p h.5))
 
 pub all_in : (s : Syntax) → IsValid s → All (IsIn (variables s.declarations)) (estimates_of (plan_of s))
 all_in s v = known_all s.declarations v.arrays s.order.size (plan_of s) v.known

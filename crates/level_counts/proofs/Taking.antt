@@ -43,7 +43,7 @@ taken_more old run new i t h l e = record {
     same k q =
         let sz = h.size in
         ap (told_of (slice_set new i t)) q ∙ get_or-set_same new i t none (omega (arith, l, sz)) ∙ e
-            ∙ ap (λ z. with_first z (told_of run i)) (h.after i (omega arith)) ∙ ap (λ z. with_first (told_of old z) (told_of run z)) (sym q)
+        ∙ ap (λ z. with_first z (told_of run i)) (h.after i (omega arith)) ∙ ap (λ z. with_first (told_of old z) (told_of run z)) (sym q)
 
     other : (k : ℕ) → k < i + 1 → (k ≡ i → ⊥) → told_of (slice_set new i t) k ≡ with_first (told_of old k) (told_of run k)
     other k lt q = get_or-set_other new i k t none q ∙ h.before k (⊎_elim (λ (a : k < i). a) (λ (b : i ≤ k). absurd (q (omega (arith, b, lt)))) (cases_lt k i))
@@ -57,8 +57,8 @@ taken_all old run new i h same all k =
     ⊎_elim
     (λ (lt : k < i). h.before k lt)
     (λ (le : i ≤ k). h.after k le ∙ (past old k (omega (arith, le, same, all))
-        ∙ sym (ap (λ z. with_first z (told_of run k)) (past old k (omega (arith, le, same, all)))
-        ∙ ap (with_first none) (past run k (omega (arith, le, all))))))
+    ∙ sym (ap (λ z. with_first z (told_of run k)) (past old k (omega (arith, le, same, all)))
+    ∙ ap (with_first none) (past run k (omega (arith, le, all))))))
     (cases_lt k i)
 
 -- ---- what is told of one run more
@@ -99,7 +99,7 @@ module _ (q : LabelledProgram) (o : ℕ) where
     first = λ l.
         subst (IsLeast (In l (ms ++ n ∷ []))) (sym (ap (λ z. z.first) (is l)))
         (least_same (λ x. In l ms x ⊎ In l (n ∷ []) x) (In l (ms ++ n ∷ [])) (lesser (told_of old l).first (told_of run l).first)
-            (to l ms (n ∷ [])) (from l ms (n ∷ []))
+        (to l ms (n ∷ [])) (from l ms (n ∷ []))
         (least_both (In l ms) (In l (n ∷ [])) (in_some l ms) (in_some l (n ∷ [])) (told_of old l).first (told_of run l).first (h.first l) (k.first l)));
   }
 
@@ -110,7 +110,7 @@ memory_more : (starts : List Start) (i : ℕ) (x : Start) → i < length starts 
 memory_more starts i x lt is =
     take_more_at (memories_of (map seen starts)) i x.memory.items (omega (arith, lt, length-map (map seen starts) (λ s. s.memory), length-map starts seen))
     (get_or-map (λ (s : StartValue). s.memory) (map seen starts) i (seen x) x.memory.items (omega (arith, lt, length-map starts seen))
-        ∙ ap (λ (s : StartValue). s.memory) (get_or-map seen starts i x (seen x) lt) ∙ sym (ap (λ (s : Start). s.memory.items) is))
+    ∙ ap (λ (s : StartValue). s.memory) (get_or-map seen starts i x (seen x) lt) ∙ sym (ap (λ (s : Start). s.memory.items) is))
   where
     take_more_at : (xs : List (List ℤ)) (j : ℕ) (y : List ℤ) → j < length xs → get_or xs j y ≡ y → take (j + 1) xs ≡ take j xs ++ y ∷ []
     take_more_at xs j y l e = take_more xs j y l ∙ ap (λ z. take j xs ++ z ∷ []) e
@@ -123,12 +123,12 @@ module _ (q : LabelledProgram) (o : ℕ) (starts : List Start) where
   pub told_next : (i : ℕ) (x : Start) (n : List ℤ) (old run new : List LevelRuns) → 0 < i → i < length starts → x ≡ get_or starts i x → n ≡ x.memory.items
       → AreTold q o (take i (memories_of (map seen starts))) old → AreTold q o (n ∷ []) run →
       length new ≡ length old → ((l : ℕ) → told_of new l ≡ with_first (told_of old l) (told_of run l))
-          → AreTold q o (take (i + 1) (memories_of (map seen starts))) new
+      → AreTold q o (take (i + 1) (memories_of (map seen starts))) new
   told_next i x n old run new some lt is e h k size told =
       let ms = memories_of (map seen starts) in
       let long : 0 < length (take i ms) = omega (arith, some, lt, length-take i ms, length-map (map seen starts) (λ s. s.memory), length-map starts seen) in
       subst (λ z. AreTold q o z new) (sym (memory_more starts i x lt is ∙ ap (λ z. take i ms ++ z ∷ []) (sym e)))
-          (told_more q o n (take i ms) old run new long h k size told)
+      (told_more q o n (take i ms) old run new long h k size told)
 
 -- what is told by marks that tell which mitigates are relevant
 abbrev pub ByMarks : List Bool → List (List ℤ) → List LevelRuns → LabelledProgram → Type 0

@@ -11,7 +11,7 @@ use Rattle.mit_gen.specs.Made.{starts_text}
 abbrev values : ℕ → Data
 values r =
     table (member (codes "h0") (integer (pos r))
-        (member (codes "h1") (integer (pos (2 * r))) (member (codes "h2") (integer (pos (3 * r))) (member (codes "h3") (integer (pos (5 * r))) no_members))))
+    (member (codes "h1") (integer (pos (2 * r))) (member (codes "h2") (integer (pos (3 * r))) (member (codes "h3") (integer (pos (5 * r))) no_members))))
 
 abbrev run : ℕ → Data
 run r = table (member (codes "memory") (values r) no_members)

@@ -77,35 +77,181 @@ next_below c h = omega (arith, h)
 unit_apart : (k : Kind) (a b c : ℕ) → a < 4 → b < 4 → c < 100 → (q : List Chunk) → Ends q → Apart (part_by_kind k a b c q)
 unit_apart Sum a b c ha hb hc q e =
     (low_name a ha, refl, (refl, (refl, refl), (low_name b hb, refl, (refl, (refl, refl), (number_kind c (small c hc), e.digit, e.apart)))))
-unit_apart Masked a b c ha hb hc q e =
-    (refl, refl, (refl, (decimal_differs 61 (c + 1) _ (next_below c hc) refl, decimal_differs 47 (c + 1) _ (next_below c hc) refl),
-    (number_kind (c + 1) (next_small c hc), refl,
-    (refl, (refl, refl), (label_high, refl,
-    (refl, (refl, refl), (refl, (refl, refl),
-    (high_name a ha, refl, (refl, (refl, refl),
-    (refl, (refl, refl), (high_name b hb, refl,
-    (refl, (refl, refl), (number_kind c (small c hc), refl,
-    (refl, (refl, refl), (refl, (refl, refl), (number_kind 16 (omega arith), refl, (refl, (e.equal, e.slash), e.apart)))))))))))))))))
-unit_apart Countdown a b c ha hb hc q e =
-    (refl, refl, (refl, (decimal_differs 61 (c + 1) _ (next_below c hc) refl, decimal_differs 47 (c + 1) _ (next_below c hc) refl),
-    (number_kind (c + 1) (next_small c hc), refl,
-    (refl, (refl, refl), (label_high, refl,
-    (refl, (refl, refl), (refl, (refl, refl),
-    (refl, refl, (high_name a ha, refl,
-    (refl, (refl, refl), (number_kind 0 (omega arith), refl,
-    (refl, refl, (refl, (refl, refl),
-    (high_name a ha, refl, (refl, (refl, refl),
-    (high_name a ha, refl, (refl, (refl, refl), (number_kind 1 (omega arith), refl, (refl, (refl, refl), (refl, (e.equal, e.slash), e.apart))))))))))))))))))))
-unit_apart Choice a b c ha hb hc q e =
-    (refl, refl, (low_name a ha, refl,
-    (refl, (refl, refl), (number_kind c (small c hc), refl,
-    (refl, refl, (refl, (refl, refl),
-    (low_name b hb, refl, (refl, (refl, refl),
-    (low_name a ha, refl, (refl, (refl, refl),
-    (number_kind c (small c hc), refl,
-    (refl, (refl, refl), (refl, refl,
-    (refl, (refl, refl), (low_name a ha, refl,
-    (refl, (refl, refl), (low_name a ha, refl, (refl, (refl, refl), (number_kind 1 (omega arith), refl, (refl, (e.equal, e.slash), e.apart))))))))))))))))))))
+unit_apart Masked a b c ha hb hc q e = (
+  refl,
+  refl,
+  (
+    refl,
+    (decimal_differs 61 (c + 1) _ (next_below c hc) refl, decimal_differs 47 (c + 1) _ (next_below c hc) refl),
+    (
+      number_kind (c + 1) (next_small c hc),
+      refl,
+      (
+        refl,
+        (refl, refl),
+        (
+          label_high,
+          refl,
+          (
+            refl,
+            (refl, refl),
+            (
+              refl,
+              (refl, refl),
+              (
+                high_name a ha,
+                refl,
+                (
+                  refl,
+                  (refl, refl),
+                  (
+                    refl,
+                    (refl, refl),
+                    (
+                      high_name b hb,
+                      refl,
+                      (
+                        refl,
+                        (refl, refl),
+                        (
+                          number_kind c (small c hc),
+                          refl,
+                          (refl, (refl, refl), (refl, (refl, refl), (number_kind 16 (omega arith), refl, (refl, (e.equal, e.slash), e.apart)))),
+                        ),
+                      ),
+                    ),
+                  ),
+                ),
+              ),
+            ),
+          ),
+        ),
+      ),
+    ),
+  ),
+)
+unit_apart Countdown a b c ha hb hc q e = (
+  refl,
+  refl,
+  (
+    refl,
+    (decimal_differs 61 (c + 1) _ (next_below c hc) refl, decimal_differs 47 (c + 1) _ (next_below c hc) refl),
+    (
+      number_kind (c + 1) (next_small c hc),
+      refl,
+      (
+        refl,
+        (refl, refl),
+        (
+          label_high,
+          refl,
+          (
+            refl,
+            (refl, refl),
+            (
+              refl,
+              (refl, refl),
+              (
+                refl,
+                refl,
+                (
+                  high_name a ha,
+                  refl,
+                  (
+                    refl,
+                    (refl, refl),
+                    (
+                      number_kind 0 (omega arith),
+                      refl,
+                      (
+                        refl,
+                        refl,
+                        (
+                          refl,
+                          (refl, refl),
+                          (
+                            high_name a ha,
+                            refl,
+                            (
+                              refl,
+                              (refl, refl),
+                              (high_name a ha, refl, (refl, (refl, refl), (number_kind 1 (omega arith), refl, (refl, (refl, refl), (refl, (e.equal, e.slash), e.apart))))),
+                            ),
+                          ),
+                        ),
+                      ),
+                    ),
+                  ),
+                ),
+              ),
+            ),
+          ),
+        ),
+      ),
+    ),
+  ),
+)
+unit_apart Choice a b c ha hb hc q e = (
+  refl,
+  refl,
+  (
+    low_name a ha,
+    refl,
+    (
+      refl,
+      (refl, refl),
+      (
+        number_kind c (small c hc),
+        refl,
+        (
+          refl,
+          refl,
+          (
+            refl,
+            (refl, refl),
+            (
+              low_name b hb,
+              refl,
+              (
+                refl,
+                (refl, refl),
+                (
+                  low_name a ha,
+                  refl,
+                  (
+                    refl,
+                    (refl, refl),
+                    (
+                      number_kind c (small c hc),
+                      refl,
+                      (
+                        refl,
+                        (refl, refl),
+                        (
+                          refl,
+                          refl,
+                          (
+                            refl,
+                            (refl, refl),
+                            (
+                              low_name a ha,
+                              refl,
+                              (refl, (refl, refl), (low_name a ha, refl, (refl, (refl, refl), (number_kind 1 (omega arith), refl, (refl, (e.equal, e.slash), e.apart))))),
+                            ),
+                          ),
+                        ),
+                      ),
+                    ),
+                  ),
+                ),
+              ),
+            ),
+          ),
+        ),
+      ),
+    ),
+  ),
+)
 
 below : (x n : ℕ) → 0 < n → x % n < n
 below x n h = omega (arith, h)
@@ -113,7 +259,7 @@ below x n h = omega (arith, h)
 drawn_apart : (s : ℕ) (q : List Chunk) → Ends q → Apart (unit_part (unit_from s) q)
 drawn_apart s q e =
     unit_apart (kind_of (draw s 0)) (draw s 1 % 4) (draw s 2 % 4) (draw s 3 % 100) (below (draw s 1) 4 (omega arith)) (below (draw s 2) 4 (omega arith))
-        (below (draw s 3) 100 (omega arith)) q e
+    (below (draw s 3) 100 (omega arith)) q e
 
 separator_ends : (q : List Chunk) → Apart q → Ends (separator_part 1 q)
 separator_ends q h = record { digit = refl; equal = refl; slash = refl; apart = (refl, (refl, refl), h) }
@@ -144,4 +290,4 @@ declarations_apart q e =
 pub program_apart : (size number : ℕ) → Apart (program_chunks size number)
 program_apart size number =
     declarations_apart (units_part number size (line ∷ []))
-        (units_apart number size (line ∷ []) (record { digit = refl; equal = refl; slash = refl; apart = tt }))
+    (units_apart number size (line ∷ []) (record { digit = refl; equal = refl; slash = refl; apart = tt }))

@@ -38,21 +38,21 @@ abbrev adds : List ℕ → List ℕ → ℕ → (ℕ → Pos) → ℕ → Comman
 adds x y c ps n =
     assign_of x (ps n) no_index (ps (suc n))
     (plain (sum_of (term_of (name_atom y (ps (suc (suc n))) no_index) no_factor)
-        (and_addend plus (ps (suc (suc (suc n)))) (term_of (number_atom (pos c) (ps (suc (suc (suc (suc n)))))) no_factor) no_addend)))
+    (and_addend plus (ps (suc (suc (suc n)))) (term_of (number_atom (pos c) (ps (suc (suc (suc (suc n)))))) no_factor) no_addend)))
     no_marks
 
 abbrev takes : List ℕ → List ℕ → ℕ → (ℕ → Pos) → ℕ → CommandTree
 takes x y c ps n =
     assign_of x (ps n) no_index (ps (suc n))
     (plain (sum_of (term_of (name_atom y (ps (suc (suc n))) no_index) no_factor)
-        (and_addend minus (ps (suc (suc (suc n)))) (term_of (number_atom (pos c) (ps (suc (suc (suc (suc n)))))) no_factor) no_addend)))
+    (and_addend minus (ps (suc (suc (suc n)))) (term_of (number_atom (pos c) (ps (suc (suc (suc (suc n)))))) no_factor) no_addend)))
     no_marks
 
 -- `x > n`
 abbrev above : List ℕ → ℕ → (ℕ → Pos) → ℕ → Whole
 above x c ps n =
     compared (sum_of (term_of (name_atom x (ps n) no_index) no_factor) no_addend) greater (ps (suc n))
-        (sum_of (term_of (number_atom (pos c) (ps (suc (suc n)))) no_factor) no_addend)
+    (sum_of (term_of (number_atom (pos c) (ps (suc (suc n)))) no_factor) no_addend)
 
 -- `x := (y + n) % 16`
 abbrev masks : List ℕ → List ℕ → ℕ → (ℕ → Pos) → ℕ → CommandTree
@@ -66,7 +66,7 @@ masks x y c ps n =
     (and_addend plus (ps (suc (suc (suc (suc n))))) (term_of (number_atom (pos c) (ps (suc (suc (suc (suc (suc n))))))) no_factor) no_addend)))
     (ps (suc (suc (suc (suc (suc (suc n))))))))
     (and_factor modulo (ps (suc (suc (suc (suc (suc (suc (suc n)))))))) (number_atom (pos 16) (ps (suc (suc (suc (suc (suc (suc (suc (suc n))))))))))
-        no_factor))
+    no_factor))
     no_addend))
     no_marks
 
@@ -77,7 +77,7 @@ six n = suc (suc (suc (suc (suc (suc n)))))
 abbrev under : ℕ → (ℕ → Pos) → ℕ → CommandTree → ℕ → CommandTree
 under c ps n body last =
     mitigate_of (ps n) (ps (suc n)) (plain (number_sum c (ps (suc (suc n))))) (and_name (ps (suc (suc (suc n)))) high_label (ps (suc (suc (suc (suc n))))))
-        (ps (suc (suc (suc (suc (suc n))))))
+    (ps (suc (suc (suc (suc (suc n))))))
     no_marks (one_command (ps (six n)) body (ps last))
 
 abbrev pub unit_tree : Kind → ℕ → ℕ → ℕ → (ℕ → Pos) → ℕ → CommandTree
@@ -92,7 +92,7 @@ unit_tree Choice a b c ps n =
     if_of (ps n) (above (low_name a) c ps (suc n)) no_marks (ps (suc (suc (suc (suc n)))))
     (one_command (ps (suc (suc (suc (suc (suc n)))))) (takes (low_name b) (low_name a) c ps (six n)) (ps (suc (suc (suc (suc (suc (six n))))))))
     (else_of (ps (six (six n))) (one_command (ps (suc (six (six n)))) (adds (low_name a) (low_name a) 1 ps (suc (suc (six (six n)))))
-        (ps (suc (six (six (six n)))))))
+    (ps (suc (six (six (six n)))))))
 
 -- the number of the word after a unit
 abbrev pub past_unit : Kind → ℕ → ℕ
@@ -120,7 +120,7 @@ abbrev pub declarations_tree : (ℕ → Pos) → Declarations
 declarations_tree ps =
     and_declaration (low_tree 0 ps 0) (and_declaration (low_tree 1 ps 5) (and_declaration (low_tree 2 ps 10) (and_declaration (low_tree 3 ps 15)
     (and_declaration (high_tree 0 ps 20)
-        (and_declaration (high_tree 1 ps 25) (and_declaration (high_tree 2 ps 30) (and_declaration (high_tree 3 ps 35) no_declarations)))))))
+    (and_declaration (high_tree 1 ps 25) (and_declaration (high_tree 2 ps 30) (and_declaration (high_tree 3 ps 35) no_declarations)))))))
 
 declarations_spelled : (ps : ℕ → Pos) (q : List Chunk) (r : List Told)
     → front_declarations (declarations_tree ps) (onto (words_of q) ps 40 r) ≡ onto (words_of (declarations_part q)) ps 0 r
@@ -168,7 +168,7 @@ pub program_spelled : (number n : ℕ) (ps : ℕ → Pos) (r : List Told)
     → onto (words_of (program_chunks (suc n) number)) ps 0 r ≡ front_program (program_tree number n ps) r
 program_spelled number n ps r =
     sym (ap (front_declarations (declarations_tree ps)) (units_spelled number ps r n (line ∷ []) no_more refl)
-        ∙ declarations_spelled ps (units_part number (suc n) (line ∷ [])) r)
+    ∙ declarations_spelled ps (units_part number (suc n) (line ∷ [])) r)
 
 unit_within : (k : Kind) (a b c : ℕ) (ps : ℕ → Pos) (n : ℕ) → CommandWithin 0 (unit_tree k a b c ps n)
 unit_within Sum a b c ps n = (tt, (omega arith, omega arith))

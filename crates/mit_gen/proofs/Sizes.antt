@@ -44,12 +44,22 @@ units_short number (suc n) = next (units number n) (separator n) (unit_text (uni
     next xs ys zs h1 h2 h3 = omega (arith, length-append xs (ys ++ zs), length-append ys zs, h1, h2, h3)
 
 pub program_short : (size number : ℕ) → size ≤ 10000 → length (program_text size number) ≤ 1048576
-program_short size number h = omega (arith, length-append declarations (units number size ++ codes "\n"),
-    length-append (units number size) (codes "\n"), units_short number size, h)
+program_short size number h = omega (
+  arith,
+  length-append declarations (units number size ++ codes "\n"),
+  length-append (units number size) (codes "\n"),
+  units_short number size,
+  h,
+)
 
 start_short : (r : ℕ) → r < 4 → length (start_text r) ≤ 100
-start_short r h = simp length-append (omega (arith, one r (omega (arith, h)), one (2 * r) (omega (arith, h)), one (3 * r) (omega (arith, h)),
-    two (5 * r) (omega (arith, h))))
+start_short r h = simp length-append (omega (
+  arith,
+  one r (omega (arith, h)),
+  one (2 * r) (omega (arith, h)),
+  one (3 * r) (omega (arith, h)),
+  two (5 * r) (omega (arith, h)),
+))
 
 runs_short : (n : ℕ) → n ≤ 4 → length (runs n) ≤ 100 * n
 runs_short zero h = omega arith

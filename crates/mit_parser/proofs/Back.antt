@@ -92,9 +92,12 @@ module _ (s t : List Part) (w : List Told) where
       let k = same_left e h in
       (name_atom x b.pos k.0, k.1, told_before b (word (name x)) w q ∙ ap (λ l. name_at x b.pos ∷ l) k.2, k.3)
   at_atom b (word (sign LeftRound)) q e h =
-      let k = same_left e h in
-      (paren_atom b.pos k.0 k.3.0, k.3.1, told_before b (word (sign LeftRound)) w q ∙ ap (λ l. sign_at LeftRound b.pos ∷ l) (k.2 ∙ ap (front_whole k.0) k.3.2),
-          k.3.3)
+      let k = same_left e h in (
+        paren_atom b.pos k.0 k.3.0,
+        k.3.1,
+        told_before b (word (sign LeftRound)) w q ∙ ap (λ l. sign_at LeftRound b.pos ∷ l) (k.2 ∙ ap (front_whole k.0) k.3.2),
+        k.3.3,
+      )
   at_atom b (word (sign _)) q e h = cc
   at_atom b (word (key k)) q e h = cc
   at_atom b the_end q e h = cc
@@ -128,7 +131,7 @@ module _ (s t : List Part) (w : List Told) where
         o.1,
         told_before b (word (key If)) w q
             ∙ ap (λ l. key_at If b.pos ∷ l)
-                (k.2 ∙ ap (front_whole k.0) (m.2 ∙ ap (front_marks m.0) (u.2 ∙ ap (λ l. key_at Then u.0 ∷ l) (x.2 ∙ ap (front_block x.0) o.2)))),
+            (k.2 ∙ ap (front_whole k.0) (m.2 ∙ ap (front_marks m.0) (u.2 ∙ ap (λ l. key_at Then u.0 ∷ l) (x.2 ∙ ap (front_block x.0) o.2)))),
         o.3,
       )
   at_command b (word (key While)) q e h =
@@ -239,7 +242,7 @@ module _ (s t : List Part) (w : List Told) where
         v.1,
         told_before b (word (sign At)) w (symbol_is (word (sign At)) b.symbol q)
             ∙ ap (λ l. sign_at At b.pos ∷ l)
-                (k.2 ∙ ap (λ l. sign_at LeftSquare k.0 ∷ l) (n.2 ∙ ap (λ l. name_at n.0.0 n.0.1 ∷ l) (x.2 ∙ ap (front_and_name x.0) v.2))),
+            (k.2 ∙ ap (λ l. sign_at LeftSquare k.0 ∷ l) (n.2 ∙ ap (λ l. name_at n.0.0 n.0.1 ∷ l) (x.2 ∙ ap (front_and_name x.0) v.2))),
         v.3,
       )
 
@@ -247,9 +250,12 @@ module _ (s t : List Part) (w : List Told) where
       → Completes t w → (step s b.symbol ≡ Some t → Completes s (b ∷ w)) → With front_and_name (Completes s) (b ∷ w)
   at_second b false q e h ih = (no_name, b ∷ w, refl, ih e)
   at_second b true q e h ih =
-      let k = same_left e h in
-      (and_name b.pos k.0.0 k.0.1, k.1, told_before b (word (sign Comma)) w (symbol_is (word (sign Comma)) b.symbol q) ∙ ap (λ l. sign_at Comma b.pos ∷ l) k.2,
-          k.3)
+      let k = same_left e h in (
+        and_name b.pos k.0.0 k.0.1,
+        k.1,
+        told_before b (word (sign Comma)) w (symbol_is (word (sign Comma)) b.symbol q) ∙ ap (λ l. sign_at Comma b.pos ∷ l) k.2,
+        k.3,
+      )
 
   at_block : (b : Told) (o : Bool) → is (word (sign LeftBrace)) b.symbol ≡ o → cond o (Some (after_brace s)) None ≡ Some t
       → Completes t w → With front_block (Completes s) (b ∷ w)
@@ -336,9 +342,12 @@ module _ (s t : List Part) (w : List Told) where
       → Completes t w → (step s b.symbol ≡ Some t → Completes s (b ∷ w)) → With front_label (Completes s) (b ∷ w)
   at_label b false q e h ih = (no_label, b ∷ w, refl, ih e)
   at_label b true q e h ih =
-      let k = same_left e h in
-      (label_of b.pos k.0.0 k.0.1, k.1, told_before b (word (sign Colon)) w (symbol_is (word (sign Colon)) b.symbol q) ∙ ap (λ l. sign_at Colon b.pos ∷ l) k.2,
-          k.3)
+      let k = same_left e h in (
+        label_of b.pos k.0.0 k.0.1,
+        k.1,
+        told_before b (word (sign Colon)) w (symbol_is (word (sign Colon)) b.symbol q) ∙ ap (λ l. sign_at Colon b.pos ∷ l) k.2,
+        k.3,
+      )
 
   at_shape : (b : Told) (o : Bool) → is (word (sign LeftSquare)) b.symbol ≡ o → cond o (Some (after_square s)) (step (a_label ∷ s) b.symbol) ≡ Some t
       → Completes t w → (step (a_label ∷ s) b.symbol ≡ Some t → With front_label (Completes s) (b ∷ w)) → With front_shape (Completes s) (b ∷ w)

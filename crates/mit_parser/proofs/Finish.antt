@@ -56,11 +56,11 @@ pub to_commands : (words : List Told) (lattice : Option Order) (pairs : List (La
     → AreVariables (labels_in lattice) variables s1 s2 → verdict start nothing_yet words ≡ verdict (commands ∷ want the_end ∷ []) s2.counts s2.words
 to_commands words lattice pairs variables s1 s2 h v =
     h.goes (declarations ∷ commands ∷ want the_end ∷ []) ∙ v.read.taken.goes (commands ∷ want the_end ∷ [])
-        ∙ ap (λ z. verdict (commands ∷ want the_end ∷ []) z.counts z.words) (sym v.tested)
+    ∙ ap (λ z. verdict (commands ∷ want the_end ∷ []) z.counts z.words) (sym v.tested)
 
 module _ (words : List Told) (lattice : Option Order) (pairs : List (Label × Label)) (variables : List Declaration) (body : List Command) (s1 s2 s3 : State)
     (h : IsHeader lattice pairs (begin words) s1) (v : AreVariables (labels_in lattice) variables s1 s2)
-        (k : IsCommands (scope (labels_in lattice) variables) s2 s3 (list_plan body)) where
+    (k : IsCommands (scope (labels_in lattice) variables) s2 s3 (list_plan body)) where
   abbrev pub tree : ProgramTree
   tree = record { header = h.tree; declarations = v.read.taken.tree; commands = k.tree }
 
@@ -72,8 +72,11 @@ module _ (words : List Told) (lattice : Option Order) (pairs : List (Label × La
     same_words = sym (ap (λ z. z.words) v.tested)
 
     pub spelled : Spells tree words
-    spelled = (o.0, h.spelled ∙ ap (front_header h.tree) (v.read.taken.spelled
-        ∙ ap (front_declarations v.read.taken.tree) (same_words ∙ k.spelled ∙ ap (front_commands k.tree) o.1)))
+    spelled = (
+      o.0,
+      h.spelled ∙ ap (front_header h.tree) (v.read.taken.spelled
+          ∙ ap (front_declarations v.read.taken.tree) (same_words ∙ k.spelled ∙ ap (front_commands k.tree) o.1)),
+    )
 
     pub within : CommandsWithin 0 tree.commands
     within = tree_within words tree spelled (all_fit words s3 goes_end o (low_end s3.counts low))
@@ -89,9 +92,9 @@ module _ (words : List Told) (lattice : Option Order) (pairs : List (Label × La
       kept_fault : s3.fault ≡ Some f
       kept_fault =
           let d : v.mid.fault ≡ Some f = ap (λ s. s.fault) (v.read.taken.means ∙ ap (λ u. declare_all (labels_in lattice) v.read.taken.tree (declaring [] u)) e
-              ∙ keep_declared (labels_in lattice) v.read.taken.tree [] f) in
+          ∙ keep_declared (labels_in lattice) v.read.taken.tree [] f) in
           last_fault ∙ ap (λ u. note_commands (scope (labels_in lattice) variables) k.tree (kept u (many_fault v.list))) d
-              ∙ keep_commands (scope (labels_in lattice) variables) f k.tree
+          ∙ keep_commands (scope (labels_in lattice) variables) f k.tree
 
     -- what is known where there is no fault of the header
     pub record HeaderFine : Type 0 where
@@ -201,7 +204,7 @@ module _ (words : List Told) (lattice : Option Order) (pairs : List (Label × La
         some_before : 0 < length (header_labels h.tree).names → kept v.mid.fault (many_fault v.list) ≡ None
         some_before some =
             none_commands (scope (labels_in lattice) variables) (subst (λ l. 0 < length l) (sym (named header_fine)) some) k.tree
-                (kept v.mid.fault (many_fault v.list)) (sym last_fault ∙ clean)
+            (kept v.mid.fault (many_fault v.list)) (sym last_fault ∙ clean)
 
         module _ (some : 0 < length (header_labels h.tree).names) where
           all_listed : variables ≡ v.list
@@ -280,7 +283,7 @@ module _ (words : List Told) (lattice : Option Order) (pairs : List (Label × La
               pairs =
                   subst (λ z. AreBelow q.size z) (sym header_fine.kept_pairs)
                   (subst (λ n. AreBelow n (header_pairs h.tree)) (sym size)
-                      (as_labels_below (length (header_labels h.tree).names) (header_numbers h.tree) (header_below h.tree some_label)));
+                  (as_labels_below (length (header_labels h.tree).names) (header_numbers h.tree) (header_below h.tree some_label)));
               flows = λ a b l m.
                   subst (λ z. Flows (lattice_of q) a b ↔ Chain z a b) (sym header_fine.kept_pairs)
                   ((built q there).flows a b (subst (λ n. a < n) size l) (subst (λ n. b < n) size m));
@@ -299,8 +302,12 @@ module _ (words : List Told) (lattice : Option Order) (pairs : List (Label × La
             }
 
       pub parts : AreProper words → length words ≤ 2 ^ 31 → AreParts lattice pairs variables body
-      parts proper short = record { order = header_fine.order; there = header_fine.there; valid =
-          λ order few differ. valid proper short header_fine.order header_fine.there order few differ }
+      parts proper short = record {
+        order = header_fine.order;
+        there = header_fine.there;
+        valid =
+            λ order few differ. valid proper short header_fine.order header_fine.there order few differ;
+      }
 
       pub program : (s : Syntax) → IsAssembled lattice pairs variables body s → IsProgram words s
       program s made =

@@ -91,7 +91,7 @@ mutual
   within_factors (and_factor g p a fs) d o r h k f =
       let l = low d (o + 1) (subst (λ c. is_over c ≡ false) (count_factor g d o) f.0) in
       let x = within_atom a d (o + 1) (front_factors fs r) l.depth l.operators
-          (subst (λ c. Fits c (front_atom a (front_factors fs r))) (count_factor g d o) f.1) in
+      (subst (λ c. Fits c (front_atom a (front_factors fs r))) (count_factor g d o) f.1) in
       let y = within_factors fs d (o + 1 + atom_size a) r h x.1 x.2 in
       (omega (arith, x.0, y.0), omega (arith, y.1), along d _ (o + (1 + (atom_size a + factors_size fs))) r (omega arith) y.2)
 
@@ -108,7 +108,7 @@ mutual
   within_addends (and_addend g p a fs) d o r h k f =
       let l = low d (o + 1) (subst (λ c. is_over c ≡ false) (count_addend g d o) f.0) in
       let x = within_term a d (o + 1) (front_addends fs r) l.depth l.operators
-          (subst (λ c. Fits c (front_term a (front_addends fs r))) (count_addend g d o) f.1) in
+      (subst (λ c. Fits c (front_term a (front_addends fs r))) (count_addend g d o) f.1) in
       let y = within_addends fs d (o + 1 + term_size a) r h x.1 x.2 in
       (omega (arith, x.0, y.0), omega (arith, y.1), along d _ (o + (1 + (term_size a + addends_size fs))) r (omega arith) y.2)
 

@@ -127,4 +127,4 @@ tree_within words t s f =
     let here : Fits (counts 0 0) (front_program t (end_at s.0 ∷ [])) = subst (Fits nothing_yet) s.1 f in
     (within_commands t.commands 0 (end_at s.0 ∷ []) (omega arith)
     (after_declarations t.declarations (front_commands t.commands (end_at s.0 ∷ []))
-        (after_header t.header (front_declarations t.declarations (front_commands t.commands (end_at s.0 ∷ []))) here))).0
+    (after_header t.header (front_declarations t.declarations (front_commands t.commands (end_at s.0 ∷ []))) here))).0

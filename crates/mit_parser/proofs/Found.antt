@@ -25,7 +25,7 @@ module _ (o : Order) (h : IsOrder o) (w : List ℕ) where
       let before : (k : ℕ) → k < a → same (get_or o.names k []) ≡ false =
       λ k lt. not_true (same (get_or o.names k [])) (λ t. h.differ k a [] lt (omega arith) (sym ((bytes_eq-Decides w (get_or o.names k [])).0 t) ∙ sym e)) in
       let here : position_or_len same o.names ≡ a =
-          position_or_len_is same o.names a [] (omega arith) before (λ _. (bytes_eq-Decides w (get_or o.names a [])).1 (sym e)) in
+      position_or_len_is same o.names a [] (omega arith) before (λ _. (bytes_eq-Decides w (get_or o.names a [])).1 (sym e)) in
       let within : nat_lt a (length o.names) ≡ true = grind (arith, nat_tests) in
       rw (here, within)
 
@@ -36,7 +36,7 @@ module _ (o : Order) (h : IsOrder o) (w : List ℕ) where
       let before : (k : ℕ) → k < length o.names → same (get_or o.names k []) ≡ false =
       λ k lt. not_true (same (get_or o.names k [])) (λ t. n k (omega arith) (sym ((bytes_eq-Decides w (get_or o.names k [])).0 t))) in
       let here : position_or_len same o.names ≡ length o.names =
-          position_or_len_is same o.names (length o.names) [] (omega arith) before (λ lt. absurd (omega arith)) in
+      position_or_len_is same o.names (length o.names) [] (omega arith) before (λ lt. absurd (omega arith)) in
       let past : nat_lt (length o.names) (length o.names) ≡ false = grind (arith, nat_tests) in
       rw (here, past)
 

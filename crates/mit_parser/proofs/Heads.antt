@@ -168,7 +168,7 @@ pub labels_first : (old a now : State) (w : List ℕ) (p : Pos) (before labels :
     → AddsLabel w p before labels a now → LabelsSoFar labels old now
 labels_first old a now w p before labels n t k =
     let s : labelled labels now.fault ≡ labelled (w ∷ []) old.fault =
-        k.adds ∙ ap (λ l. add_label w p (labelled l a.fault)) n ∙ ap (λ u. labelled (w ∷ []) u) t.fault in
+    k.adds ∙ ap (λ l. add_label w p (labelled l a.fault)) n ∙ ap (λ u. labelled (w ∷ []) u) t.fault in
     let one : length labels ≡ 1 = ap (λ z. length z.names) s in
     let size : length now.words ≡ length a.words = ap (λ z. length z.words) k.state in
     record {
@@ -298,7 +298,7 @@ module _ (labels : List (List ℕ)) where
               (x.was ∙ ap (λ z. name_at w p ∷ z) (y.spelled ∙ ap (front_shape y.tree) (u.was ∙ ap (λ z. sign_at Semicolon u.place ∷ z) (sym here))));
           means = k.adds ∙ ap (λ z. add_declaration labels w p l n (declaring before z)) same
               ∙ ap (λ z. add_declaration labels w p z n (declaring before old.fault)) (sym y.means.0)
-                  ∙ ap (λ z. add_declaration labels w p (shape_label y.tree) z (declaring before old.fault)) (sym y.means.1);
+              ∙ ap (λ z. add_declaration labels w p (shape_label y.tree) z (declaring before old.fault)) (sym y.means.1);
           next = ap (λ z. z.marks) k.state ∙ u.marks ∙ y.next ∙ x.marks ∙ t.marks;
           goes = λ s. after_word (word (key Var)) a_declaration after_var old a (λ s. refl) t s ∙ x.goes (a_shape ∷ want (word (sign Semicolon)) ∷ s)
               ∙ y.goes (want (word (sign Semicolon)) ∷ s) ∙ u.goes s
@@ -314,7 +314,7 @@ module _ (labels : List (List ℕ)) where
   one_more now e s =
       left_out (declarations ∷ s) (a_declaration ∷ declarations ∷ s) now.counts now.words
       (ap (λ b. cond b (Some (after_var (declarations ∷ s))) (step s (head_symbol now.words))) e
-          ∙ sym (ap (λ b. cond b (Some (after_var (declarations ∷ s))) None) e))
+      ∙ sym (ap (λ b. cond b (Some (after_var (declarations ∷ s))) None) e))
 
   pub declarations_first : (old : State) (list : List Declaration) → list ≡ [] → DeclarationsSoFar labels list old old
   declarations_first old list e =

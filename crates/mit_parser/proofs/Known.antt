@@ -231,7 +231,7 @@ module _ (sc : Scope) where
           let v = none_marks m (note_whole sc x (note_whole sc i (kept u (array_fault sc.declarations w p)))) e in
           let n = none_whole x (note_whole sc i (kept u (array_fault sc.declarations w p))) v in
           let j = known_whole i (kept u (array_fault sc.declarations w p)) (sign_at RightSquare b ∷ sign_at Assign q ∷ front_whole x (front_marks m r)) n
-              h.1.1 in
+          h.1.1 in
           let y = known_whole x (note_whole sc i (kept u (array_fault sc.declarations w p))) (front_marks m r) v j.proper.1.1 in
           let s = kept_split u (array_fault sc.declarations w p) j.none in
           let z = proper_marks m r y.proper in
@@ -250,8 +250,12 @@ module _ (sc : Scope) where
           let z = proper_marks m (key_at Then q ∷ front_block b (front_else o r)) y.proper in
           let f = known_block b k a (front_else o r) e1 z.1 in
           let g = known_else o p (next_block b k) (note_block sc b a) r e f.proper in
-          record { known = (marks_below m, y.known, some_block b k, some_else o p (next_block b k), f.known, g.known, t g.proper); none = y.none; proper =
-              g.proper }
+          record {
+            known = (marks_below m, y.known, some_block b k, some_else o p (next_block b k), f.known, g.known, t g.proper);
+            none = y.none;
+            proper =
+                g.proper;
+          }
       known_command (while_of p x m q b) k rest u r e h t =
           let a = note_marks sc.labels m (note_whole sc x u) in
           let e2 = none_block b a e in
@@ -288,7 +292,7 @@ module _ (sc : Scope) where
       known_commands (commands_of c m) k u r e h =
           let none = none_more m (note_command sc c u) e in
           let x = known_command c k (plan_more sc (next_command c k) m) u (front_more m r) none h
-              (λ y. (known_more m (next_command c k) (note_command sc c u) r e y).known) in
+          (λ y. (known_more m (next_command c k) (note_command sc c u) r e y).known) in
           let y = known_more m (next_command c k) (note_command sc c u) r e x.proper in
           record { known = x.known; none = x.none; proper = y.proper }
 
@@ -298,6 +302,6 @@ module _ (sc : Scope) where
       known_more (and_more p c m) k u r e h =
           let none = none_more m (note_command sc c u) e in
           let x = known_command c k (plan_more sc (next_command c k) m) u (front_more m r) none h.1
-              (λ y. (known_more m (next_command c k) (note_command sc c u) r e y).known) in
+          (λ y. (known_more m (next_command c k) (note_command sc c u) r e y).known) in
           let y = known_more m (next_command c k) (note_command sc c u) r e x.proper in
           record { known = x.known; none = x.none; proper = y.proper }

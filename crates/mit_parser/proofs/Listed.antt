@@ -195,7 +195,7 @@ module _ (sc : Scope) (old : State) (p : Pos) (at : p ≡ first_pos old.words) w
         means = λ rest. ap (λ z. TAssign (record { pos = z; labels = m }) v x rest) (pos_is old a p at h)
             ∙ ap (λ z. TAssign (record { pos = h.first.pos; labels = z }) v x rest) (sym k.means)
             ∙ ap (λ z. TAssign (written sc h.first.pos k.tree) z x rest) i
-                ∙ ap (λ z. TAssign (written sc h.first.pos k.tree) (or_else 0 (find_scalar sc.declarations w)) z rest) (sym y.means);
+            ∙ ap (λ z. TAssign (written sc h.first.pos k.tree) (or_else 0 (find_scalar sc.declarations w)) z rest) (sym y.means);
         notes = k.notes ∙ ap (note_marks sc.labels k.tree) (y.notes ∙ ap (note_whole sc y.tree) (t.fault
             ∙ ap (λ z. kept z (scalar_fault sc.declarations w p)) h.fault ∙ ap (λ z. kept old.fault (scalar_fault sc.declarations w z)) (pos_is old a p at h)));
         next = k.next ∙ y.next ∙ t.marks ∙ h.marks;
@@ -225,7 +225,7 @@ module _ (sc : Scope) (old : State) (p : Pos) (at : p ≡ first_pos old.words) w
             ∙ ap (λ z. assigned sc (written sc h.first.pos k.tree) w z (whole_value sc y.tree) rest) (sym o.means);
         notes = k.notes ∙ ap (note_marks sc.labels k.tree) (y.notes ∙ ap (note_whole sc y.tree) (t.fault ∙ o.notes ∙ ap (note_index sc o.tree)
             (ap (λ z. kept z (array_fault sc.declarations w p)) h.fault ∙ ap (λ z. kept old.fault (array_fault sc.declarations w z)) (pos_is old a p at h)
-                ∙ ap (kept old.fault) (sym ind))));
+            ∙ ap (kept old.fault) (sym ind))));
         next = k.next ∙ y.next ∙ t.marks ∙ o.next ∙ h.marks;
         goes = λ s. after_target a w e h s ∙ o.goes (want (word (sign Assign)) ∷ an_expr ∷ marks ∷ s) ∙ t.goes (an_expr ∷ marks ∷ s)
             ∙ y.goes (marks ∷ s) ∙ k.goes s;
@@ -253,16 +253,16 @@ module _ (sc : Scope) (old : State) (p : Pos) (at : p ≡ first_pos old.words) w
             ∙ ap (λ l. key_at Then t.place ∷ l) (x.spelled ∙ ap (front_block x.tree) o.spelled))));
         means = λ rest. plan-If v xs ys (record { pos = p; labels = m }) rest
             ∙ ap (λ z. TIf (record { pos = p; labels = m }) (expression_of v) (list_plan xs.items) z rest)
-                (o.means ∙ ap (λ z. plan_else sc p z o.tree) (x.next ∙ ap (next_block x.tree) same)
-                ∙ ap (λ z. plan_else sc z (next_block x.tree old.marks) o.tree) (pos_is old a p at h))
+            (o.means ∙ ap (λ z. plan_else sc p z o.tree) (x.next ∙ ap (next_block x.tree) same)
+            ∙ ap (λ z. plan_else sc z (next_block x.tree old.marks) o.tree) (pos_is old a p at h))
             ∙ ap (λ z. TIf (record { pos = p; labels = m }) (expression_of v) z (plan_else sc h.first.pos (next_block x.tree old.marks) o.tree) rest)
-                (x.means ∙ ap (λ z. plan_block sc z x.tree) same)
+            (x.means ∙ ap (λ z. plan_block sc z x.tree) same)
             ∙ ap (λ z. TIf (record { pos = z; labels = m }) (expression_of v) (plan_block sc old.marks x.tree)
-                (plan_else sc h.first.pos (next_block x.tree old.marks) o.tree) rest) (pos_is old a p at h)
+            (plan_else sc h.first.pos (next_block x.tree old.marks) o.tree) rest) (pos_is old a p at h)
             ∙ ap (λ z. TIf (record { pos = h.first.pos; labels = z }) (expression_of v) (plan_block sc old.marks x.tree)
-                (plan_else sc h.first.pos (next_block x.tree old.marks) o.tree) rest) (sym k.means)
+            (plan_else sc h.first.pos (next_block x.tree old.marks) o.tree) rest) (sym k.means)
             ∙ ap (λ z. TIf (written sc h.first.pos k.tree) z (plan_block sc old.marks x.tree) (plan_else sc h.first.pos (next_block x.tree old.marks) o.tree)
-                rest) (sym y.means);
+            rest) (sym y.means);
         notes = o.notes ∙ ap (note_else sc o.tree)
             (x.notes ∙ ap (note_block sc x.tree) (t.fault ∙ k.notes ∙ ap (note_marks sc.labels k.tree) (y.notes ∙ ap (note_whole sc y.tree) h.fault)));
         next = o.next ∙ ap (next_else o.tree) (x.next ∙ ap (next_block x.tree) same);
@@ -324,18 +324,18 @@ module _ (sc : Scope) (old : State) (p : Pos) (at : p ≡ first_pos old.words) w
         spelled = words_are old (with_marks a n) (word (key Mitigate)) e h.passed
             ∙ ap (λ l. key_at Mitigate h.passed.first.pos ∷ l) (t.was ∙ ap (λ l. sign_at LeftRound t.place ∷ l) (y.spelled
             ∙ ap (front_whole y.tree) (q.0.spelled
-                ∙ ap (front_and_name q.0.tree) (r.was ∙ ap (λ l. sign_at RightRound r.place ∷ l) (k.spelled ∙ ap (front_marks k.tree) x.spelled)))));
+            ∙ ap (front_and_name q.0.tree) (r.was ∙ ap (λ l. sign_at RightRound r.place ∷ l) (k.spelled ∙ ap (front_marks k.tree) x.spelled)))));
         means = λ rest. plan-Mitigate n v l xs (record { pos = p; labels = m }) rest
             ∙ ap (λ z. TMitigate (record { pos = p; labels = m }) n l (expression_of v) z rest) (x.means ∙ ap (λ z. plan_block sc z x.tree) same)
             ∙ ap (λ z. TMitigate (record { pos = z; labels = m }) n l (expression_of v) (plan_block sc (old.marks + 1) x.tree) rest)
-                (pos_is old (with_marks a n) p at h.passed)
+            (pos_is old (with_marks a n) p at h.passed)
             ∙ ap (λ z. TMitigate (record { pos = h.passed.first.pos; labels = z }) n l (expression_of v) (plan_block sc (old.marks + 1) x.tree) rest)
-                (sym k.means)
+            (sym k.means)
             ∙ ap (λ z. TMitigate (written sc h.passed.first.pos k.tree) z l (expression_of v) (plan_block sc (old.marks + 1) x.tree) rest) h.number
             ∙ ap (λ z. TMitigate (written sc h.passed.first.pos k.tree) old.marks z (expression_of v) (plan_block sc (old.marks + 1) x.tree) rest)
-                (sym q.0.means)
+            (sym q.0.means)
             ∙ ap (λ z. TMitigate (written sc h.passed.first.pos k.tree) old.marks (and_name_value sc.labels q.0.tree) z
-                (plan_block sc (old.marks + 1) x.tree) rest) (sym y.means);
+            (plan_block sc (old.marks + 1) x.tree) rest) (sym y.means);
         notes = x.notes ∙ ap (note_block sc x.tree)
             (k.notes ∙ ap (note_marks sc.labels k.tree) (r.fault ∙ q.0.notes
             ∙ ap (note_and_name sc.labels q.0.tree) (y.notes ∙ ap (note_whole sc y.tree) (t.fault ∙ h.passed.fault))));

@@ -24,16 +24,16 @@ module _ (names : List (List ℕ)) (w : List ℕ) where
   pub found_at : (a : ℕ) → a < length names → get_or names a [] ≡ w → ((k : ℕ) → k < a → get_or names k [] ≡ w → ⊥) → find_label names w ≡ Some a
   found_at a l e n =
       let here : position_or_len (bytes_eq w) names ≡ a =
-          position_or_len_is (bytes_eq w) names a [] (omega (arith, l)) (λ k lt. other w (get_or names k []) (n k lt))
-          (λ _. (bytes_eq-Decides w (get_or names a [])).1 (sym e)) in
+      position_or_len_is (bytes_eq w) names a [] (omega (arith, l)) (λ k lt. other w (get_or names k []) (n k lt))
+      (λ _. (bytes_eq-Decides w (get_or names a [])).1 (sym e)) in
       let within : nat_lt a (length names) ≡ true = grind (arith, nat_tests) in
       rw (here, within)
 
   pub found_none : ((k : ℕ) → k < length names → get_or names k [] ≡ w → ⊥) → find_label names w ≡ None
   found_none n =
       let here : position_or_len (bytes_eq w) names ≡ length names =
-          position_or_len_is (bytes_eq w) names (length names) [] (omega arith) (λ k lt. other w (get_or names k []) (n k lt))
-          (λ lt. absurd (omega (arith, lt))) in
+      position_or_len_is (bytes_eq w) names (length names) [] (omega arith) (λ k lt. other w (get_or names k []) (n k lt))
+      (λ lt. absurd (omega (arith, lt))) in
       let past : nat_lt (length names) (length names) ≡ false = grind (arith, nat_tests) in
       rw (here, past)
 
@@ -77,11 +77,11 @@ apart_declared (x ∷ ds) w e k d l s = by (apart_declared ds w) k l s (bytes_eq
         → (k : ℕ) → k < length (declared_names (x ∷ ds)) → get_or (declared_names (x ∷ ds)) k d ≡ w → (b : Bool) → bytes_eq w x.0 ≡ b → ⊥
     by rest k l s true h =
         let z : true ≡ false = sym (ap is_some (cond-true (bytes_eq w x.0) (Some (0, x.1)) (option_map (λ r. (size_of x.1 + r.0, r.1)) (declared ds w)) h))
-            ∙ e in
+        ∙ e in
         true≢false z
     by rest zero l s false h = true≢false (sym ((bytes_eq-Decides w x.0).1 (sym s)) ∙ h)
     by rest (suc k) l s false h =
         let z : is_some (declared ds w) ≡ false =
         sym (some_map (size_of x.1) (declared ds w))
-            ∙ sym (ap is_some (cond-false (bytes_eq w x.0) (Some (0, x.1)) (option_map (λ r. (size_of x.1 + r.0, r.1)) (declared ds w)) h)) ∙ e in
+        ∙ sym (ap is_some (cond-false (bytes_eq w x.0) (Some (0, x.1)) (option_map (λ r. (size_of x.1 + r.0, r.1)) (declared ds w)) h)) ∙ e in
         rest z k d (omega (arith, l)) s

@@ -37,12 +37,12 @@ one_named : (p : _) (w : List ℕ) (q : _) (m : MoreNames) (done : List (List �
     → (add_labels m (add_label w q (labelled done u))).fault ≡ None → (b : Bool) → is_some (find_label done w) ≡ b → Named (and_more_names p w q m) done u
 one_named p w q m done u d rest e true h =
     let step : add_label w q (labelled done u) ≡ labelled done (kept u (Some (Twice q))) =
-        ap (λ b. cond {A = Labelled} b (labelled done (kept u (Some (Twice q)))) (labelled (done ++ w ∷ []) u)) h in
+    ap (λ b. cond {A = Labelled} b (labelled done (kept u (Some (Twice q)))) (labelled (done ++ w ∷ []) u)) h in
     let i = rest done (kept u (Some (Twice q))) d (ap (λ s. (add_labels m s).fault) (sym step) ∙ e) in
     absurd (none-some (Twice q) (sym (kept_split u (Some (Twice q)) i.before).1))
 one_named p w q m done u d rest e false h =
     let step : add_label w q (labelled done u) ≡ labelled (done ++ w ∷ []) u =
-        ap (λ b. cond {A = Labelled} b (labelled done (kept u (Some (Twice q)))) (labelled (done ++ w ∷ []) u)) h in
+    ap (λ b. cond {A = Labelled} b (labelled done (kept u (Some (Twice q)))) (labelled (done ++ w ∷ []) u)) h in
     let more : AllDiffer (done ++ w ∷ []) = all_pairs_push (λ a b. a ≡ b → ⊥) done w d (λ k x l. apart_from done w h k x l) in
     let i = rest (done ++ w ∷ []) u more (ap (λ s. (add_labels m s).fault) (sym step) ∙ e) in
     record { before = i.before; differ = subst AllDiffer (append_assoc done (w ∷ []) (more_labels m)) i.differ }
@@ -201,7 +201,7 @@ module _ (labels : List (List ℕ)) where
       let few : elements_in (done ++ x ∷ []) ≤ 2048 = subst (λ n. n ≤ 2048) (sym (elements_push done x)) (few_after done (shape_length z) l b.0) in
       let i = rest (done ++ x ∷ []) None differ few e in
       let grouped : (done ++ x ∷ []) ++ declarations_in labels m ≡ done ++ x ∷ declarations_in labels m =
-          append_assoc done (x ∷ []) (declarations_in labels m) in
+      append_assoc done (x ∷ []) (declarations_in labels m) in
       record {
         before = k.0;
         shapes = (shape_named done z b.0 b.1, i.shapes);
@@ -239,7 +239,7 @@ module _ (labels : List (List ℕ)) where
       let size : length_fault done (shape_length z) ≡ None = length_calm done z s.0 (omega (arith, l)) in
       let here : added done x (kept None (declaration_fault labels done w q (shape_label z) (shape_length z))) ≡ declaring (done ++ x ∷ []) None =
       ap (added done x) (none_kept (twice_fault done w q) (length_fault done (shape_length z)) (written_label_fault labels (shape_label z))
-          twice size (shape_calm z s.0)) in
+      twice size (shape_calm z s.0)) in
       let push = elements_push done x in
       ap (declare_all labels m) here
       ∙ declared_are m (done ++ x ∷ []) s.1 (subst (λ (y : List Declaration). AllDiffer (declared_names y)) (sym grouped) d) (omega (arith, l, push))

@@ -202,17 +202,17 @@ module _ (sc : Scope) where
     calm_command (skip_of p m) h = calm_marks m h
     calm_command (assign_of w p i q t m) h =
         ap (λ z. note_marks sc.labels m (note_whole sc t (note_index sc i z))) (use_calm w p i h.0)
-            ∙ ap (λ z. note_marks sc.labels m (note_whole sc t z)) (calm_index i h.1)
+        ∙ ap (λ z. note_marks sc.labels m (note_whole sc t z)) (calm_index i h.1)
         ∙ ap (note_marks sc.labels m) (calm_whole t h.2) ∙ calm_marks m h.3
     calm_command (sleep_of p t m) h = ap (note_marks sc.labels m) (calm_whole t h.0) ∙ calm_marks m h.1
     calm_command (if_of p t m q b o) h =
         ap (λ z. note_else sc o (note_block sc b (note_marks sc.labels m z))) (calm_whole t h.0)
-            ∙ ap (λ z. note_else sc o (note_block sc b z)) (calm_marks m h.1) ∙ ap (note_else sc o) (calm_block b h.2) ∙ calm_else o h.3
+        ∙ ap (λ z. note_else sc o (note_block sc b z)) (calm_marks m h.1) ∙ ap (note_else sc o) (calm_block b h.2) ∙ calm_else o h.3
     calm_command (while_of p t m q b) h =
         ap (λ z. note_block sc b (note_marks sc.labels m z)) (calm_whole t h.0) ∙ ap (note_block sc b) (calm_marks m h.1) ∙ calm_block b h.2
     calm_command (mitigate_of p q t l r m b) h =
         ap (λ z. note_block sc b (note_marks sc.labels m (note_and_name sc.labels l z))) (calm_whole t h.0)
-            ∙ ap (λ z. note_block sc b (note_marks sc.labels m z)) (calm_second l h.1)
+        ∙ ap (λ z. note_block sc b (note_marks sc.labels m z)) (calm_second l h.1)
         ∙ ap (note_block sc b) (calm_marks m h.2) ∙ calm_block b h.3
 
     calm_block : (b : Block) → BlockNamed sc b → note_block sc b None ≡ None

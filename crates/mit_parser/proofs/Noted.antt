@@ -109,11 +109,11 @@ module _ (sc : Scope) where
     of_command (sleep_of p e m) u h = of_marks m (note_whole sc e u) (of_whole e u h)
     of_command (if_of p e m q b o) u h =
         of_else o (note_block sc b (note_marks sc.labels m (note_whole sc e u)))
-            (of_block b (note_marks sc.labels m (note_whole sc e u)) (of_marks m (note_whole sc e u) (of_whole e u h)))
+        (of_block b (note_marks sc.labels m (note_whole sc e u)) (of_marks m (note_whole sc e u) (of_whole e u h)))
     of_command (while_of p e m q b) u h = of_block b (note_marks sc.labels m (note_whole sc e u)) (of_marks m (note_whole sc e u) (of_whole e u h))
     of_command (mitigate_of p q e l r m b) u h =
         of_block b (note_marks sc.labels m (note_and_name sc.labels l (note_whole sc e u)))
-            (of_marks m (note_and_name sc.labels l (note_whole sc e u)) (of_second l (note_whole sc e u) (of_whole e u h)))
+        (of_marks m (note_and_name sc.labels l (note_whole sc e u)) (of_second l (note_whole sc e u) (of_whole e u h)))
 
     of_block : (b : Block) (u : Option ParseFault) → IsOfNames u → IsOfNames (note_block sc b u)
     of_block (block_of p c q) u h = of_commands c u h
@@ -173,12 +173,12 @@ module _ (sc : Scope) where
       keep_command (sleep_of p e m) = ap (note_marks sc.labels m) (keep_whole e) ∙ keep_marks m
       keep_command (if_of p e m q b o) =
           ap (λ z. note_else sc o (note_block sc b (note_marks sc.labels m z))) (keep_whole e) ∙ ap (λ z. note_else sc o (note_block sc b z)) (keep_marks m)
-              ∙ ap (note_else sc o) (keep_block b) ∙ keep_else o
+          ∙ ap (note_else sc o) (keep_block b) ∙ keep_else o
       keep_command (while_of p e m q b) =
           ap (λ z. note_block sc b (note_marks sc.labels m z)) (keep_whole e) ∙ ap (note_block sc b) (keep_marks m) ∙ keep_block b
       keep_command (mitigate_of p q e l r m b) =
           ap (λ z. note_block sc b (note_marks sc.labels m (note_and_name sc.labels l z))) (keep_whole e)
-              ∙ ap (λ z. note_block sc b (note_marks sc.labels m z)) (keep_second l)
+          ∙ ap (λ z. note_block sc b (note_marks sc.labels m z)) (keep_second l)
           ∙ ap (note_block sc b) (keep_marks m) ∙ keep_block b
 
       keep_block : (b : Block) → note_block sc b (Some f) ≡ Some f
@@ -225,11 +225,11 @@ module _ (labels : List (List ℕ)) where
   of_declared (and_declaration (declaration_of p w q z u) m) s h =
       of_declared m (declare labels (declaration_of p w q z u) s)
       (added_of s.list _ (kept s.fault
-          (declaration_fault labels s.list w q (Rattle.mit_parser.specs.Faults.shape_label z) (Rattle.mit_parser.specs.Faults.shape_length z)))
+      (declaration_fault labels s.list w q (Rattle.mit_parser.specs.Faults.shape_label z) (Rattle.mit_parser.specs.Faults.shape_length z)))
       (kept_of s.fault (declaration_fault labels s.list w q (Rattle.mit_parser.specs.Faults.shape_label z) (Rattle.mit_parser.specs.Faults.shape_length z)) h
       (kept_of (twice_fault s.list w q) _ (twice_of (is_some (declared s.list w)) q)
       (kept_of (length_fault s.list (Rattle.mit_parser.specs.Faults.shape_length z)) _ (length_of s.list (Rattle.mit_parser.specs.Faults.shape_length z))
-          (label_of (Rattle.mit_parser.specs.Faults.shape_label z))))))
+      (label_of (Rattle.mit_parser.specs.Faults.shape_label z))))))
 
 many_if : (b : Bool) (n : ℕ) → IsOfNames (cond b (Some (TooMany n)) None)
 many_if true n = tt
@@ -251,7 +251,7 @@ module _ (labels : List (List ℕ)) where
   of_pair : (x : PairTree) (u : Option ParseFault) → IsOfNames u → IsOfNames (note_pair labels x u)
   of_pair (pair_of a p q b r) u h =
       kept_of (kept u (label_fault labels a p)) (label_fault labels b r) (kept_of u (label_fault labels a p) h (label_of_names labels a p))
-          (label_of_names labels b r)
+      (label_of_names labels b r)
 
   of_pairs : (m : MorePairs) (u : Option ParseFault) → IsOfNames u → IsOfNames (note_more_pairs labels m u)
   of_pairs no_more_pairs u h = h

@@ -26,7 +26,7 @@ pub header_some : (old a b c d new : State) (labels : List (List ℕ)) (numbers 
 header_some old a b c d new labels numbers lattice kept_pairs n t l u o e m =
     let k = l.taken in
     let s : labelled labels b.fault ≡ add_labels k.tree.1 (labelled (k.tree.0.0 ∷ []) None) =
-        k.means ∙ ap (λ z. add_labels k.tree.1 (labelled (k.tree.0.0 ∷ []) z)) (t.fault ∙ n) in
+    k.means ∙ ap (λ z. add_labels k.tree.1 (labelled (k.tree.0.0 ∷ []) z)) (t.fault ∙ n) in
     let f : d.fault ≡ note_ordering labels o.tree b.fault = o.means.1 ∙ ap (note_ordering labels o.tree) u.fault in
     let v : Makes labels (as_labels (ordering_numbers labels o.tree)) (note_ordering labels o.tree b.fault) lattice kept_pairs new.fault =
     subst (λ z. Makes labels (as_labels (ordering_numbers labels o.tree)) z lattice kept_pairs new.fault) f

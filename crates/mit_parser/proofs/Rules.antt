@@ -201,7 +201,7 @@ passes old new part (TooDeep p) takes h =
       is = λ s.
           let k = takes s in
           ap (verdict (part ∷ s) old.counts) h.was
-              ∙ deep_at (part ∷ s) k.0 old.counts h.first h.rest (ap (step (part ∷ s)) (sym (ap head_symbol h.was)) ∙ k.1) h.passes
+          ∙ deep_at (part ∷ s) k.0 old.counts h.first h.rest (ap (step (part ∷ s)) (sym (ap head_symbol h.was)) ∙ k.1) h.passes
           ∙ ap Deep (sym h.was ∙ sym (ap (λ s. s.words) h.stays));
     }
 passes old new part (TooMany n) takes h = absurd h

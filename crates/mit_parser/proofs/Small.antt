@@ -89,7 +89,7 @@ module _ (sc : Scope) where
     depth_factors no_factor l n h = omega (arith, h)
     depth_factors (and_factor o p a fs) l n h =
         let one : depth 3 (Binary (factor_op o) l (atom_value sc a)) ≤ max n (atom_depth a) =
-            omega (arith, factor_depths o l (atom_value sc a), h, depth_atom a) in
+        omega (arith, factor_depths o l (atom_value sc a), h, depth_atom a) in
         let k = depth_factors fs (Binary (factor_op o) l (atom_value sc a)) (max n (atom_depth a)) one in
         omega (arith, k)
 
@@ -103,7 +103,7 @@ module _ (sc : Scope) where
     depth_addends no_addend l n h = omega (arith, h)
     depth_addends (and_addend o p t ts) l n h =
         let one : depth 2 (Binary (addend_op o) l (term_value sc t)) ≤ max n (term_depth t) =
-            omega (arith, addend_depths o l (term_value sc t), h, depth_term t) in
+        omega (arith, addend_depths o l (term_value sc t), h, depth_term t) in
         let k = depth_addends ts (Binary (addend_op o) l (term_value sc t)) (max n (term_depth t)) one in
         omega (arith, k)
 

@@ -39,7 +39,7 @@ sign_closed : (s : Sign) (rest : List ℕ) → StopsAt (λ b. b == 61) rest → 
 sign_closed s rest h =
     let front : sign_text s ++ rest ≡ sign_first s ∷ (sign_others s ++ rest) = ap (λ l. l ++ rest) (sign_parts s) in
     sign_longest (sign_first s) (sign_others s ++ rest) (no_letter_first s) (no_digit_first s) s (length (sign_text s)) rest (ap taken (sym front)
-        ∙ taken_closed rest h s) refl (sym front)
+    ∙ taken_closed rest h s) refl (sym front)
 
 pub closed_piece : (w : List ℕ) (k : TokenKind) (rest : List ℕ) → HasKind w k → Closes k rest → IsPiece (lexeme w k) rest
 closed_piece w (Key k) rest h c = let o = subst IsWord (sym h) (key_opens k) in (word_no_comment w rest o, h, word_longest w rest o c)

@@ -83,13 +83,21 @@ form_small d (FMitigate k e l s c) w rest h = ((h.0, h.1, tt), h.2)
 module _ (n : ℕ) (ds : List Declaration) (d : ℕ) (x : Command) (rest : List Command) (h : IsPrintable n ds d (list_plan (x ∷ rest))) where
   pub printable_first : IsPrintable n ds d (command_plan x Done)
   printable_first =
-      record { known = (form_known n ds x.form (written x) (list_plan rest) h.known).0; arrays = h.arrays; small =
-          (form_small d x.form (written x) (list_plan rest) h.small).0 }
+      record {
+        known = (form_known n ds x.form (written x) (list_plan rest) h.known).0;
+        arrays = h.arrays;
+        small =
+            (form_small d x.form (written x) (list_plan rest) h.small).0;
+      }
 
   pub printable_rest : IsPrintable n ds d (list_plan rest)
   printable_rest =
-      record { known = (form_known n ds x.form (written x) (list_plan rest) h.known).1; arrays = h.arrays; small =
-          (form_small d x.form (written x) (list_plan rest) h.small).1 }
+      record {
+        known = (form_known n ds x.form (written x) (list_plan rest) h.known).1;
+        arrays = h.arrays;
+        small =
+            (form_small d x.form (written x) (list_plan rest) h.small).1;
+      }
 
 -- the parts of a command with lists inside
 module _ (n : ℕ) (ds : List Declaration) (d : ℕ) (k : Command) (e : Expr) (v : Vec Command Global) (h : IsPrintable n ds d (command_plan k Done)) where
@@ -187,8 +195,10 @@ module _ (o : Order) (ds : List Declaration) (d : ℕ) where
 
   pub all_put : {a b : List ℕ} (list : List Command) (i : ℕ) → length list ≤ i → PutSoFar a b o ds d i list → Puts a b (commands_part o ds d (list_plan list))
   all_put {b} list i h so =
-      record { is = λ q. ap (λ l. b ++ text l) (sym (left_none i q)) ∙ ap (λ l. b ++ text (left_commands o ds d i (list_plan l) q)) (sym (drop_all i list h))
-          ∙ so.is q }
+      record {
+        is = λ q. ap (λ l. b ++ text l) (sym (left_none i q)) ∙ ap (λ l. b ++ text (left_commands o ds d i (list_plan l) q)) (sym (drop_all i list h))
+            ∙ so.is q;
+      }
 
 block_as : {b c : List ℕ} (o : Order) (ds : List Declaration) (d : ℕ) (ls ms : List Command) → ls ≡ ms
     → Puts b c (in_braces d (commands_part o ds (d + 1) (list_plan ls)))
@@ -224,7 +234,7 @@ module _ {a z : List ℕ} (o : Order) (ds : List Declaration) (d : ℕ) (k : Com
   puts_if x xs ys ls ms h e1 e2 p1 p2 p3 p4 p5 p6 p7 p8 =
       puts_form o ds d k _ (if_plan k x xs ys h)
       (puts_then p1 (puts_then p2 (puts_then p3
-          (puts_then p4 (puts_then p5 (puts_then (block_as o ds d ls xs.items e1 p6) (puts_then p7 (block_as o ds d ms ys.items e2 p8))))))))
+      (puts_then p4 (puts_then p5 (puts_then (block_as o ds d ls xs.items e1 p6) (puts_then p7 (block_as o ds d ms ys.items e2 p8))))))))
 
   pub puts_while : {b c e f g : List ℕ} (x : Expr) (xs : Vec Command Global) (ls : List Command) → k.form ≡ DWhile x xs → ls ≡ xs.items
       → Puts a b (a_key WhileKey) → Puts b c a_space → Puts c e (expression_part ds 1 (expression_of x))
@@ -242,7 +252,7 @@ module _ {a z : List ℕ} (o : Order) (ds : List Declaration) (d : ℕ) (k : Com
   puts_mitigate m x l xs ls h e1 p1 p2 p3 p4 p5 p6 p7 p8 p9 =
       puts_form o ds d k _ (mitigate_plan k x xs m l h)
       (puts_then p1 (puts_then p2 (puts_then p3
-          (puts_then p4 (puts_then p5 (puts_then p6 (puts_then p7 (puts_then p8 (block_as o ds d ls xs.items e1 p9)))))))))
+      (puts_then p4 (puts_then p5 (puts_then p6 (puts_then p7 (puts_then p8 (block_as o ds d ls xs.items e1 p9)))))))))
 
 -- the variables of assignments
 module _ (n : ℕ) (ds : List Declaration) (d : ℕ) (k : Command) (h : IsPrintable n ds d (command_plan k Done)) where

@@ -36,10 +36,16 @@ declared_place (x ∷ ds) w f d e = by (λ g. declared_place ds w g d) (bytes_eq
     by : ((g : ℕ) → declared ds w ≡ Some (g, d) → DeclaredAt ds w g d) → (b : Bool) → bytes_eq w x.0 ≡ b → DeclaredAt (x ∷ ds) w f d
     by rest true h =
         let name : w ≡ x.0 = (bytes_eq-Decides w x.0).0 h in
-        let q : (0, x.1) ≡ (f, d) = same_Some (0, x.1) (f,
-            d) (sym (cond-true (bytes_eq w x.0) (Some (0, x.1)) (option_map (shift (size_of x.1)) (declared ds w)) h) ∙ e) in
-        record { place = 0; there = ap (λ z. Some (z, x.1)) (sym name) ∙ ap (λ z. Some (w, z)) (ap (λ (z : ℕ × Decl). z.1) q); first =
-            ap (λ (z : ℕ × Decl). z.0) q }
+        let q : (0, x.1) ≡ (f, d) = same_Some (0, x.1) (
+          f,
+          d,
+        ) (sym (cond-true (bytes_eq w x.0) (Some (0, x.1)) (option_map (shift (size_of x.1)) (declared ds w)) h) ∙ e) in
+        record {
+          place = 0;
+          there = ap (λ z. Some (z, x.1)) (sym name) ∙ ap (λ z. Some (w, z)) (ap (λ (z : ℕ × Decl). z.1) q);
+          first =
+              ap (λ (z : ℕ × Decl). z.0) q;
+        }
     by rest false h =
         declared_later ds w x f d (declared ds w) rest
         (sym (cond-false (bytes_eq w x.0) (Some (0, x.1)) (option_map (shift (size_of x.1)) (declared ds w)) h) ∙ e)
@@ -121,7 +127,7 @@ module _ (ds : List Declaration) (w : List ℕ) where
         let f = s.at.first in
         let z : x ≡ first_of ds s.at.place + 0 = omega (arith, f) in
         ap (cell_at ds) z ∙ cell_in ds s.at.place 0 (w, s.decl) _ s.at.there i
-            ∙ ap (λ m. record { name = w; label = s.decl.label; place = place_in m 0 }) s.scalar
+        ∙ ap (λ m. record { name = w; label = s.decl.label; place = place_in m 0 }) s.scalar
 
     pub scalar_name : (cell_at ds x).name ≡ w
     scalar_name = ap (λ (c : Cell). c.name) scalar_cell
@@ -148,7 +154,7 @@ module _ (ds : List Declaration) (w : List ℕ) where
         let g = s.at.first in
         let z : f + k ≡ first_of ds s.at.place + k = omega (arith, g) in
         ap (cell_at ds) z ∙ cell_in ds s.at.place k (w, s.decl) _ s.at.there i
-            ∙ ap (λ m. record { name = w; label = s.decl.label; place = place_in m k }) s.array
+        ∙ ap (λ m. record { name = w; label = s.decl.label; place = place_in m k }) s.array
 
     -- all have one label
     pub array_label : (k : ℕ) → k < n → (cell_at ds (f + k)).label ≡ (cell_at ds f).label

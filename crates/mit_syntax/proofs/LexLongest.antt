@@ -115,8 +115,15 @@ digits_front text n l h fits before stops =
 -- a token of n bytes
 pub token_of : (text : List ℕ) (kind : TokenKind) (n : ℕ) → n ≤ length text → HasKind (take n text) kind
     → IsLongest (take n text) (drop n text) → IsToken text kind n
-token_of text kind n fits h l = record { spelled = take n text; rest = drop n text; are = both_parts text n fits; size =
-    front_size text n fits; has_kind = h; longest = l }
+token_of text kind n fits h l = record {
+  spelled = take n text;
+  rest = drop n text;
+  are = both_parts text n fits;
+  size =
+      front_size text n fits;
+  has_kind = h;
+  longest = l;
+}
 
 pub at_sign : (text : List ℕ) (s : Sign) (n : ℕ) → 0 < length text → is_ascii_alphabetic (get_or text 0 0) ≡ false → is_ascii_digit (get_or text 0 0) ≡ false
     → Some (s, n) ≡ sign_front (get_or text 0 0) (second_is_equal text) → IsToken text (SignKind s) n

@@ -64,8 +64,11 @@ past_in_line : (p : Place) (b : ℕ) (e : Bool) → (b == 10) ≡ e → in_line 
     → past p b ≡ record { at = p.at + 1; pos = record { line = p.pos.line; column = p.pos.column + 1 } }
 past_in_line p b true q h = differ (sym h ∙ ap (λ x. cond x false true) q)
 past_in_line p b false q h = ap
-    (λ x. cond x (record { at = p.at + 1; pos = record { line = p.pos.line + 1; column = 1 } }) (record { at = p.at + 1; pos =
-    record { line = p.pos.line; column = p.pos.column + 1 } })) q
+    (λ x. cond x (record { at = p.at + 1; pos = record { line = p.pos.line + 1; column = 1 } }) (record {
+      at = p.at + 1;
+      pos =
+          record { line = p.pos.line; column = p.pos.column + 1 };
+    })) q
 
 same_place : (a b l c d : ℕ) → a ≡ b → c ≡ d
     → ◌≡◌ {A = Place} (record { at = a; pos = record { line = l; column = c } }) (record { at = b; pos = record { line = l; column = d } })
@@ -79,7 +82,7 @@ moved_in_line p (b ∷ w) h =
     let q : Place = record { at = p.at + 1; pos = record { line = p.pos.line; column = p.pos.column + 1 } } in
     ap (λ x. moved x w) (past_in_line p b (b == 10) refl h.0) ∙ moved_in_line q w h.1
     ∙ same_place (p.at + 1 + length w) (p.at + suc (length w)) p.pos.line (p.pos.column + 1 + length w)
-        (p.pos.column + suc (length w)) (omega arith) (omega arith)
+    (p.pos.column + suc (length w)) (omega arith) (omega arith)
 
 pub moved-append : (p : Place) (v w : List ℕ) → moved p (v ++ w) ≡ moved (moved p v) w
 moved-append p [] w = refl

@@ -56,10 +56,19 @@ each_key P h Sleep = h.10
 
 -- a keyword is a word
 pub key_opens : (k : Keyword) → IsWord (key_text k)
-key_opens = each_key (λ k. IsWord (key_text k)) ((refl, (refl, (refl, (refl, (refl, (refl, tt)))))), (refl, (refl, (refl, (refl, (refl, tt))))),
-    (refl, (refl, (refl, tt))), (refl, (refl, (refl, (refl, tt)))), (refl, (refl, tt)), (refl, (refl, (refl, (refl, tt)))), (refl, (refl, (refl, (refl, tt)))),
-    (refl, (refl, (refl, (refl, (refl, tt))))), (refl, (refl, tt)), (refl, (refl, (refl, (refl, (refl, (refl, (refl, (refl, tt)))))))),
-    (refl, (refl, (refl, (refl, (refl, tt))))))
+key_opens = each_key (λ k. IsWord (key_text k)) (
+  (refl, (refl, (refl, (refl, (refl, (refl, tt)))))),
+  (refl, (refl, (refl, (refl, (refl, tt))))),
+  (refl, (refl, (refl, tt))),
+  (refl, (refl, (refl, (refl, tt)))),
+  (refl, (refl, tt)),
+  (refl, (refl, (refl, (refl, tt)))),
+  (refl, (refl, (refl, (refl, tt)))),
+  (refl, (refl, (refl, (refl, (refl, tt))))),
+  (refl, (refl, tt)),
+  (refl, (refl, (refl, (refl, (refl, (refl, (refl, (refl, tt)))))))),
+  (refl, (refl, (refl, (refl, (refl, tt))))),
+)
 
 -- the first byte of a sign, and those after it
 abbrev pub sign_first : Sign → ℕ
@@ -69,27 +78,136 @@ abbrev pub sign_others : Sign → List ℕ
 sign_others s = tail_of (sign_text s)
 
 pub sign_parts : (s : Sign) → sign_text s ≡ sign_first s ∷ sign_others s
-sign_parts = each_sign (λ s. sign_text s ≡ sign_first s ∷ sign_others s) (refl, refl, refl, refl, refl, refl, refl, refl, refl, refl, refl, refl, refl, refl,
-    refl, refl, refl, refl, refl, refl, refl, refl)
+sign_parts = each_sign (λ s. sign_text s ≡ sign_first s ∷ sign_others s) (
+  refl,
+  refl,
+  refl,
+  refl,
+  refl,
+  refl,
+  refl,
+  refl,
+  refl,
+  refl,
+  refl,
+  refl,
+  refl,
+  refl,
+  refl,
+  refl,
+  refl,
+  refl,
+  refl,
+  refl,
+  refl,
+  refl,
+)
 
 -- no sign begins with a letter, a digit or white space
 pub no_letter_first : (s : Sign) → is_ascii_alphabetic (sign_first s) ≡ false
-no_letter_first = each_sign (λ s. is_ascii_alphabetic (sign_first s) ≡ false) (refl, refl, refl, refl, refl, refl, refl, refl, refl, refl, refl, refl, refl,
-    refl, refl, refl, refl, refl, refl, refl, refl, refl)
+no_letter_first = each_sign (λ s. is_ascii_alphabetic (sign_first s) ≡ false) (
+  refl,
+  refl,
+  refl,
+  refl,
+  refl,
+  refl,
+  refl,
+  refl,
+  refl,
+  refl,
+  refl,
+  refl,
+  refl,
+  refl,
+  refl,
+  refl,
+  refl,
+  refl,
+  refl,
+  refl,
+  refl,
+  refl,
+)
 
 pub no_digit_first : (s : Sign) → is_ascii_digit (sign_first s) ≡ false
-no_digit_first = each_sign (λ s. is_ascii_digit (sign_first s) ≡ false) (refl, refl, refl, refl, refl, refl, refl, refl, refl, refl, refl, refl, refl, refl,
-    refl, refl, refl, refl, refl, refl, refl, refl)
+no_digit_first = each_sign (λ s. is_ascii_digit (sign_first s) ≡ false) (
+  refl,
+  refl,
+  refl,
+  refl,
+  refl,
+  refl,
+  refl,
+  refl,
+  refl,
+  refl,
+  refl,
+  refl,
+  refl,
+  refl,
+  refl,
+  refl,
+  refl,
+  refl,
+  refl,
+  refl,
+  refl,
+  refl,
+)
 
 pub no_white_first : (s : Sign) → is_white (sign_first s) ≡ false
-no_white_first = each_sign (λ s. is_white (sign_first s) ≡ false) (refl, refl, refl, refl, refl, refl, refl, refl, refl, refl, refl, refl, refl, refl, refl,
-    refl, refl, refl, refl, refl, refl, refl)
+no_white_first = each_sign (λ s. is_white (sign_first s) ≡ false) (
+  refl,
+  refl,
+  refl,
+  refl,
+  refl,
+  refl,
+  refl,
+  refl,
+  refl,
+  refl,
+  refl,
+  refl,
+  refl,
+  refl,
+  refl,
+  refl,
+  refl,
+  refl,
+  refl,
+  refl,
+  refl,
+  refl,
+)
 
 -- a sign keeps to its line
 pub sign_stays : (s : Sign) → Each in_line (sign_text s)
-sign_stays = each_sign (λ s. Each in_line (sign_text s)) ((refl, (refl, tt)), (refl, tt), (refl, tt), (refl, tt), (refl, tt), (refl, tt), (refl, tt),
-    (refl, tt), (refl, tt), (refl, tt), (refl, tt), (refl, tt), (refl, tt), (refl, tt), (refl, tt), (refl, tt), (refl, (refl, tt)), (refl, (refl, tt)),
-    (refl, (refl, tt)), (refl, tt), (refl, (refl, tt)), (refl, tt))
+sign_stays = each_sign (λ s. Each in_line (sign_text s)) (
+  (refl, (refl, tt)),
+  (refl, tt),
+  (refl, tt),
+  (refl, tt),
+  (refl, tt),
+  (refl, tt),
+  (refl, tt),
+  (refl, tt),
+  (refl, tt),
+  (refl, tt),
+  (refl, tt),
+  (refl, tt),
+  (refl, tt),
+  (refl, tt),
+  (refl, tt),
+  (refl, tt),
+  (refl, (refl, tt)),
+  (refl, (refl, tt)),
+  (refl, (refl, tt)),
+  (refl, tt),
+  (refl, (refl, tt)),
+  (refl, tt),
+)
 
 pub no_sign : {X : Type 0} (test : ℕ → Bool) (s : Sign) (a : ℕ) (w q : List ℕ) → test (sign_first s) ≡ false → test a ≡ true → a ∷ w ≡ sign_text s ++ q → X
 no_sign test s a w q never h e =
@@ -107,9 +225,30 @@ not_equal c (b ∷ rest) h = h
 -- where no `=` follows, it takes the sign itself
 pub taken_closed : (rest : List ℕ) → StopsAt (λ b. b == 61) rest → (s : Sign) → taken (sign_text s ++ rest) ≡ Some (s, length (sign_text s))
 taken_closed rest h =
-    each_sign (λ s. taken (sign_text s ++ rest) ≡ Some (s, length (sign_text s)))
-    (refl, ap (sign_front 58) (not_equal 58 rest h), refl, refl, refl, refl, refl, refl, refl, refl, refl, refl, refl, refl, refl, refl, refl, refl, refl,
-        ap (sign_front 60) (not_equal 60 rest h), refl, ap (sign_front 62) (not_equal 62 rest h))
+    each_sign (λ s. taken (sign_text s ++ rest) ≡ Some (s, length (sign_text s))) (
+      refl,
+      ap (sign_front 58) (not_equal 58 rest h),
+      refl,
+      refl,
+      refl,
+      refl,
+      refl,
+      refl,
+      refl,
+      refl,
+      refl,
+      refl,
+      refl,
+      refl,
+      refl,
+      refl,
+      refl,
+      refl,
+      refl,
+      ap (sign_front 60) (not_equal 60 rest h),
+      refl,
+      ap (sign_front 62) (not_equal 62 rest h),
+    )
 
 -- what it takes is no shorter than any sign at the front
 abbrev pub TakesEnough : List ℕ → Sign → Type 0
@@ -129,13 +268,30 @@ takes_greater false = ((Greater, 1), refl, omega arith)
 
 pub takes : (q : List ℕ) (s : Sign) → TakesEnough (sign_text s ++ q) s
 takes q =
-    each_sign (λ s. TakesEnough (sign_text s ++ q) s)
-    (((Assign, 2), refl, omega arith), takes_colon (second_is_equal (58 ∷ q)), ((Semicolon, 1), refl, omega arith), ((Comma, 1), refl, omega arith),
-        ((LeftRound, 1), refl, omega arith), ((RightRound, 1), refl, omega arith), ((LeftBrace, 1), refl, omega arith), ((RightBrace, 1), refl, omega arith),
-        ((LeftSquare, 1), refl, omega arith), ((RightSquare, 1), refl, omega arith), ((At, 1), refl, omega arith), ((Plus, 1), refl, omega arith),
-        ((Minus, 1), refl, omega arith), ((Star, 1), refl, omega arith), ((Slash, 1), refl, omega arith), ((Percent, 1), refl, omega arith),
-        ((Equal, 2), refl, omega arith), ((NotEqual, 2), refl, omega arith), ((LessEqual, 2), refl, omega arith), takes_less (second_is_equal (60 ∷ q)),
-        ((GreaterEqual, 2), refl, omega arith), takes_greater (second_is_equal (62 ∷ q)))
+    each_sign (λ s. TakesEnough (sign_text s ++ q) s) (
+      ((Assign, 2), refl, omega arith),
+      takes_colon (second_is_equal (58 ∷ q)),
+      ((Semicolon, 1), refl, omega arith),
+      ((Comma, 1), refl, omega arith),
+      ((LeftRound, 1), refl, omega arith),
+      ((RightRound, 1), refl, omega arith),
+      ((LeftBrace, 1), refl, omega arith),
+      ((RightBrace, 1), refl, omega arith),
+      ((LeftSquare, 1), refl, omega arith),
+      ((RightSquare, 1), refl, omega arith),
+      ((At, 1), refl, omega arith),
+      ((Plus, 1), refl, omega arith),
+      ((Minus, 1), refl, omega arith),
+      ((Star, 1), refl, omega arith),
+      ((Slash, 1), refl, omega arith),
+      ((Percent, 1), refl, omega arith),
+      ((Equal, 2), refl, omega arith),
+      ((NotEqual, 2), refl, omega arith),
+      ((LessEqual, 2), refl, omega arith),
+      takes_less (second_is_equal (60 ∷ q)),
+      ((GreaterEqual, 2), refl, omega arith),
+      takes_greater (second_is_equal (62 ∷ q)),
+    )
 
 -- the sign that it takes is there
 abbrev pub IsThere : List ℕ → Sign × ℕ → Type 0
@@ -171,18 +327,18 @@ double x xs c r e h = single x xs c e ∙ ap (λ l. c ∷ l) h
 pub taken_there : (x : ℕ) (xs : List ℕ) → AllThere (x ∷ xs) (taken (x ∷ xs))
 taken_there x xs =
     one_of x xs 58 _ _ (x == 58) refl
-        (λ e. two_of x xs (Some (Assign, 2)) (Some (Colon, 1)) (second_is_equal (x ∷ xs)) refl
-        (λ r h. there (x ∷ xs) (Assign, 2) (r, double x xs 58 r e h, refl)) (there (x ∷ xs) (Colon, 1) (xs, single x xs 58 e, refl))) (
+    (λ e. two_of x xs (Some (Assign, 2)) (Some (Colon, 1)) (second_is_equal (x ∷ xs)) refl
+    (λ r h. there (x ∷ xs) (Assign, 2) (r, double x xs 58 r e h, refl)) (there (x ∷ xs) (Colon, 1) (xs, single x xs 58 e, refl))) (
     one_of x xs 60 _ _ (x == 60) refl (λ e. two_of x xs (Some (LessEqual, 2)) (Some (Less, 1)) (second_is_equal (x ∷ xs)) refl
-        (λ r h. there (x ∷ xs) (LessEqual, 2) (r, double x xs 60 r e h, refl)) (there (x ∷ xs) (Less, 1) (xs, single x xs 60 e, refl))) (
+    (λ r h. there (x ∷ xs) (LessEqual, 2) (r, double x xs 60 r e h, refl)) (there (x ∷ xs) (Less, 1) (xs, single x xs 60 e, refl))) (
     one_of x xs 62 _ _ (x == 62) refl (λ e. two_of x xs (Some (GreaterEqual, 2)) (Some (Greater, 1)) (second_is_equal (x ∷ xs)) refl
-        (λ r h. there (x ∷ xs) (GreaterEqual, 2) (r, double x xs 62 r e h, refl)) (there (x ∷ xs) (Greater, 1) (xs, single x xs 62 e, refl))) (
+    (λ r h. there (x ∷ xs) (GreaterEqual, 2) (r, double x xs 62 r e h, refl)) (there (x ∷ xs) (Greater, 1) (xs, single x xs 62 e, refl))) (
     one_of x xs 61 _ _ (x == 61) refl
-        (λ e. two_of x xs (Some (Equal, 2)) None (second_is_equal (x ∷ xs)) refl
-        (λ r h. there (x ∷ xs) (Equal, 2) (r, double x xs 61 r e h, refl)) (none_there (x ∷ xs))) (
+    (λ e. two_of x xs (Some (Equal, 2)) None (second_is_equal (x ∷ xs)) refl
+    (λ r h. there (x ∷ xs) (Equal, 2) (r, double x xs 61 r e h, refl)) (none_there (x ∷ xs))) (
     one_of x xs 33 _ _ (x == 33) refl
-        (λ e. two_of x xs (Some (NotEqual, 2)) None (second_is_equal (x ∷ xs)) refl
-        (λ r h. there (x ∷ xs) (NotEqual, 2) (r, double x xs 33 r e h, refl)) (none_there (x ∷ xs))) (
+    (λ e. two_of x xs (Some (NotEqual, 2)) None (second_is_equal (x ∷ xs)) refl
+    (λ r h. there (x ∷ xs) (NotEqual, 2) (r, double x xs 33 r e h, refl)) (none_there (x ∷ xs))) (
     one_of x xs 59 _ _ (x == 59) refl (λ e. there (x ∷ xs) (Semicolon, 1) (xs, single x xs 59 e, refl)) (
     one_of x xs 44 _ _ (x == 44) refl (λ e. there (x ∷ xs) (Comma, 1) (xs, single x xs 44 e, refl)) (
     one_of x xs 40 _ _ (x == 40) refl (λ e. there (x ∷ xs) (LeftRound, 1) (xs, single x xs 40 e, refl)) (
@@ -209,18 +365,38 @@ other_alone c [] h = refl
 other_alone c (b ∷ rest) h = ap (λ x. x && (b == 47)) h
 
 pub sign_no_comment : (rest : List ℕ) → StopsAt (λ b. b == 47) rest → (s : Sign) → starts_comment (sign_text s ++ rest) ≡ false
-sign_no_comment rest h = each_sign (λ s. starts_comment (sign_text s ++ rest) ≡ false) (refl, other_alone 58 rest refl, other_alone 59 rest refl,
-    other_alone 44 rest refl, other_alone 40 rest refl, other_alone 41 rest refl, other_alone 123 rest refl, other_alone 125 rest refl,
-    other_alone 91 rest refl, other_alone 93 rest refl, other_alone 64 rest refl, other_alone 43 rest refl, other_alone 45 rest refl, other_alone 42 rest refl,
-    slash_alone rest h, other_alone 37 rest refl, refl, refl, refl, other_alone 60 rest refl, refl, other_alone 62 rest refl)
+sign_no_comment rest h = each_sign (λ s. starts_comment (sign_text s ++ rest) ≡ false) (
+  refl,
+  other_alone 58 rest refl,
+  other_alone 59 rest refl,
+  other_alone 44 rest refl,
+  other_alone 40 rest refl,
+  other_alone 41 rest refl,
+  other_alone 123 rest refl,
+  other_alone 125 rest refl,
+  other_alone 91 rest refl,
+  other_alone 93 rest refl,
+  other_alone 64 rest refl,
+  other_alone 43 rest refl,
+  other_alone 45 rest refl,
+  other_alone 42 rest refl,
+  slash_alone rest h,
+  other_alone 37 rest refl,
+  refl,
+  refl,
+  refl,
+  other_alone 60 rest refl,
+  refl,
+  other_alone 62 rest refl,
+)
 
 -- a keyword or a sign is known by its text
 abbrev key_front : List ℕ → Keyword
 key_front [] = Labels
 key_front (b ∷ w) =
     cond (b == 108) Labels (cond (b == 111) Order
-        (cond (b == 118) Var (cond (b == 105) If
-        (cond (b == 116) Then (cond (b == 101) Else (cond (b == 119) While (cond (b == 100) Do (cond (b == 109) Mitigate
+    (cond (b == 118) Var (cond (b == 105) If
+    (cond (b == 116) Then (cond (b == 101) Else (cond (b == 119) While (cond (b == 100) Do (cond (b == 109) Mitigate
     (cond (head_of w == 107) Skip Sleep)))))))))
 
 pub one_key : (a b : Keyword) → key_text a ≡ key_text b → a ≡ b
@@ -238,5 +414,27 @@ pub one_sign : (s t : Sign) → sign_text s ≡ sign_text t → s ≡ t
 one_sign s t e = sym (again s) ∙ ap (λ l. sign_named (taken l)) e ∙ again t
   where
     again : (s : Sign) → sign_named (taken (sign_text s)) ≡ s
-    again = each_sign (λ s. sign_named (taken (sign_text s)) ≡ s) (refl, refl, refl, refl, refl, refl, refl, refl, refl, refl, refl, refl, refl, refl, refl,
-        refl, refl, refl, refl, refl, refl, refl)
+    again = each_sign (λ s. sign_named (taken (sign_text s)) ≡ s) (
+      refl,
+      refl,
+      refl,
+      refl,
+      refl,
+      refl,
+      refl,
+      refl,
+      refl,
+      refl,
+      refl,
+      refl,
+      refl,
+      refl,
+      refl,
+      refl,
+      refl,
+      refl,
+      refl,
+      refl,
+      refl,
+      refl,
+    )

@@ -25,7 +25,7 @@ declared_first [] w k d e y n = absurd (none-some d e)
 declared_first (x ∷ ds) w zero d e y n =
     let same : x ≡ d = same_Some x d e in
     subst (λ (z : Declaration). declared (z ∷ ds) w ≡ Some (0, d.1)) (sym same)
-        (cond-true (bytes_eq w d.0) (Some (0, d.1)) (option_map (λ r. (size_of d.1 + r.0, r.1)) (declared ds w)) y)
+    (cond-true (bytes_eq w d.0) (Some (0, d.1)) (option_map (λ r. (size_of d.1 + r.0, r.1)) (declared ds w)) y)
 declared_first (x ∷ ds) w (suc k) d e y n =
     cond-false (bytes_eq w x.0) (Some (0, x.1)) (option_map (λ r. (size_of x.1 + r.0, r.1)) (declared ds w)) (n 0 x (omega arith) refl)
     ∙ ap (option_map (λ r. (size_of x.1 + r.0, r.1))) (declared_first ds w k d e y (λ j z l h. n (suc j) z (omega (arith, l)) h))

@@ -94,7 +94,7 @@ wide_long : (l : List ℕ) → BeginsWide l → BeginsLong l → ⊥
 wide_long l f g =
     let both : f.spelled ++ f.rest ≡ g.spelled ++ g.rest = sym f.are ∙ g.are in
     let same = (same_front f.spelled g.spelled f.rest g.rest both (g.longest f.spelled f.rest (sym both) (digits f.is.0))
-        (f.longest g.spelled g.rest both (word g.is.0))).0 in
+    (f.longest g.spelled g.rest both (word g.is.0))).0 in
     word_digits g.spelled g.is.0 (subst IsDigits same f.is.0)
 
 -- but for want of memory, a text has one fault at most

@@ -141,7 +141,7 @@ one_cut [] (q ∷ qs) r s e h k f g = absurd (f q (spread qs ++ s) (sym (e ∙ a
 one_cut (p ∷ ps) [] r s e h k f g = absurd (g p (spread ps ++ r) (sym (append_assoc (bytes_of p) (spread ps) r) ∙ e) h.0)
 one_cut (p ∷ ps) (q ∷ qs) r s e h k f g =
     let m = one_piece p q (spread ps ++ r) (spread qs ++ s) (sym (append_assoc (bytes_of p) (spread ps) r) ∙ e
-        ∙ append_assoc (bytes_of q) (spread qs) s) h.0 k.0 in
+    ∙ append_assoc (bytes_of q) (spread qs) s) h.0 k.0 in
     let x = m.0 in
     let n = one_cut ps qs r s m.1 h.1 k.1 f g in
     let y = n.0 in

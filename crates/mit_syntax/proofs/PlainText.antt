@@ -57,10 +57,30 @@ each_low p f [] h = tt
 each_low p f (b ∷ w) h = (f b h.0, each_low p f w h.1)
 
 sign_low : (s : Sign) → EachLow (sign_text s)
-sign_low = each_sign (λ s. EachLow (sign_text s)) ((omega arith, (omega arith, tt)), (omega arith, tt), (omega arith, tt), (omega arith, tt), (omega arith, tt),
-    (omega arith, tt), (omega arith, tt), (omega arith, tt), (omega arith, tt), (omega arith, tt), (omega arith, tt), (omega arith, tt), (omega arith, tt),
-    (omega arith, tt), (omega arith, tt), (omega arith, tt), (omega arith, (omega arith, tt)), (omega arith, (omega arith, tt)),
-    (omega arith, (omega arith, tt)), (omega arith, tt), (omega arith, (omega arith, tt)), (omega arith, tt))
+sign_low = each_sign (λ s. EachLow (sign_text s)) (
+  (omega arith, (omega arith, tt)),
+  (omega arith, tt),
+  (omega arith, tt),
+  (omega arith, tt),
+  (omega arith, tt),
+  (omega arith, tt),
+  (omega arith, tt),
+  (omega arith, tt),
+  (omega arith, tt),
+  (omega arith, tt),
+  (omega arith, tt),
+  (omega arith, tt),
+  (omega arith, tt),
+  (omega arith, tt),
+  (omega arith, tt),
+  (omega arith, tt),
+  (omega arith, (omega arith, tt)),
+  (omega arith, (omega arith, tt)),
+  (omega arith, (omega arith, tt)),
+  (omega arith, tt),
+  (omega arith, (omega arith, tt)),
+  (omega arith, tt),
+)
 
 kind_low : (w : List ℕ) (k : TokenKind) → HasKind w k → EachLow w
 kind_low w (Key k) h = subst EachLow (sym h) (each_low is_name_byte name_low (key_text k) (word_passes (key_text k) (key_opens k)))

@@ -29,7 +29,7 @@ pub puts_round : {a z : List ℕ} (ds : List Declaration) (need : ℕ) (o : Op) 
     → Puts a z (expression_part ds need (Binary o l r))
 puts_round {a} {z} ds need o l r h p =
     subst (λ b. Puts a z (in_round b (λ q. expression_part ds (left_need o) l (spaced (op_sign o) (expression_part ds (right_need o) r q)))))
-        (sym (lt-ltb (rank o) need h)) p
+    (sym (lt-ltb (rank o) need h)) p
 
 -- the same part, from equal operands
 pub expression_as : {a b : List ℕ} (ds : List Declaration) (m n : ℕ) (e f : Expression) → m ≡ n → e ≡ f → Puts a b (expression_part ds m e)

@@ -36,10 +36,16 @@ pub record IsTokenOf (text : List ℕ) (t : Token) : Type 0 where
 
 -- a place counts the bytes before it
 past_at : (p : Place) (b : ℕ) (e : Bool) → (b == 10) ≡ e → (past p b).at ≡ p.at + 1
-past_at p b true q = ap (λ x. (cond {A = Place} x (record { at = p.at + 1; pos = record { line = p.pos.line + 1; column = 1 } }) (record { at = p.at + 1; pos =
-    record { line = p.pos.line; column = p.pos.column + 1 } })).at) q
-past_at p b false q = ap (λ x. (cond {A = Place} x (record { at = p.at + 1; pos = record { line = p.pos.line + 1; column = 1 } }) (record { at = p.at + 1; pos =
-    record { line = p.pos.line; column = p.pos.column + 1 } })).at) q
+past_at p b true q = ap (λ x. (cond {A = Place} x (record { at = p.at + 1; pos = record { line = p.pos.line + 1; column = 1 } }) (record {
+  at = p.at + 1;
+  pos =
+      record { line = p.pos.line; column = p.pos.column + 1 };
+})).at) q
+past_at p b false q = ap (λ x. (cond {A = Place} x (record { at = p.at + 1; pos = record { line = p.pos.line + 1; column = 1 } }) (record {
+  at = p.at + 1;
+  pos =
+      record { line = p.pos.line; column = p.pos.column + 1 };
+})).at) q
 
 pub moved_at : (p : Place) (w : List ℕ) → (moved p w).at ≡ p.at + length w
 moved_at p [] = omega arith
@@ -81,7 +87,7 @@ spelled_pieces (lexeme w t ∷ ps) before rest p e =
     let at : p.at ≡ length before = ap (λ q. q.at) e ∙ from_start before in
     let bytes : take (p.at + length w - p.at) (drop p.at (before ++ ((w ++ spread ps) ++ rest))) ≡ w =
     ap (λ z. take (p.at + length w - p.at) (drop p.at (before ++ z))) (append_assoc w (spread ps) rest)
-        ∙ middle before w (spread ps ++ rest) p.at (p.at + length w) at refl in
+    ∙ middle before w (spread ps ++ rest) p.at (p.at + length w) at refl in
     ap (λ z. (t, z) ∷ spelled (before ++ ((w ++ spread ps) ++ rest)) (tokens_of (moved p w) ps)) bytes ∙ ap (λ z. (t, w) ∷ z) l
 
 each_piece : (ps : List Piece) (before rest : List ℕ) (p : Place) → p ≡ moved start before → CutBefore ps rest
@@ -98,7 +104,7 @@ each_piece (lexeme w t ∷ ps) before rest p e c =
     let whole = before ++ ((w ++ spread ps) ++ rest) in
     let split : whole ≡ before ++ (w ++ (spread ps ++ rest)) = ap (λ z. before ++ z) (append_assoc w (spread ps) rest) in
     let bytes : take (p.at + length w - p.at) (drop p.at whole) ≡ w =
-        ap (λ z. take (p.at + length w - p.at) (drop p.at z)) split ∙ middle before w (spread ps ++ rest) p.at (p.at + length w) at refl in
+    ap (λ z. take (p.at + length w - p.at) (drop p.at z)) split ∙ middle before w (spread ps ++ rest) p.at (p.at + length w) at refl in
     let some = kind_some w t c.0.1 in
     let size : length whole ≡ length before + (length w + length (spread ps ++ rest)) =
     ap length split ∙ length-append before (w ++ (spread ps ++ rest)) ∙ ap (λ n. length before + n) (length-append w (spread ps ++ rest)) in
@@ -159,7 +165,7 @@ module _ (text : List ℕ) (tokens : List Token) (h : AreTokens text tokens) whe
   token_told i d k =
       let s = size in
       subst (λ l. IsTokenOf text (get_or l i d)) (sym h.tokens_are) (each_at (IsTokenOf text) (tokens_of start h.pieces) (end_at (moved start text) ∷ []) i d
-          (each_told text tokens h) (omega (arith, s, k)))
+      (each_told text tokens h) (omega (arith, s, k)))
 
   pub end_told : (i : ℕ) (d : Token) → i + 1 ≡ length tokens → get_or tokens i d ≡ end_at (moved start text)
   end_told i d k =

@@ -11,4 +11,4 @@ pub text_as : (o o' : Order) (ps ps' : List (Label × Label)) (ds ds' : List Dec
     → text (chunks_of o ps ds b) ≡ text (chunks_of o' ps' ds' b')
 text_as o o' ps ps' ds ds' b b' h1 h2 h3 h4 =
     ap (λ x. text (chunks_of x ps ds b)) h1 ∙ ap (λ x. text (chunks_of o' x ds b)) h2 ∙ ap (λ x. text (chunks_of o' ps' x b)) h3
-        ∙ ap (λ x. text (chunks_of o' ps' ds' x)) h4
+    ∙ ap (λ x. text (chunks_of o' ps' ds' x)) h4

@@ -32,24 +32,24 @@ module _ (sound : SpelledAreSound) where
   audits_within : (e : EnvName) (t : ℕ) → AuditsAreWithin e t
   audits_within Flat t some words p q o ss r spelled types l is =
       report_within flat_env (λ order e. Unit {0}) q o t (sound words p q spelled types).flat.halted (below p q o types l) some
-          (starts_of flat_made q.program.order ss) r is
+      (starts_of flat_made q.program.order ss) r is
   audits_within Part t some words p q o ss r spelled types l is =
       report_within (part_by_history q.program.order) AnyHistory q o t (sound words p q spelled types).part.halted (below p q o types l) some
-          (starts_of history_made q.program.order ss) r is
+      (starts_of history_made q.program.order ss) r is
   audits_within Part2 t some words p q o ss r spelled types l is =
       report_within (part2_by_history q.program.order) AnyHistory q o t (sound words p q spelled types).part2.halted (below p q o types l) some
-          (starts_of history_made q.program.order ss) r is
+      (starts_of history_made q.program.order ss) r is
 
   cuts_within : (e : EnvName) (t : ℕ) → CutsAreWithin e t
   cuts_within Flat t some words p q o ss r spelled types l is =
       cut.report_within flat_env (λ order e. Unit {0}) q o t (starts_of flat_made q.program.order ss) (sound words p q spelled types).flat.cut
-          (below p q o types l) some r is
+      (below p q o types l) some r is
   cuts_within Part t some words p q o ss r spelled types l is =
       cut.report_within (part_by_history q.program.order) AnyHistory q o t (starts_of history_made q.program.order ss) (sound words p q spelled types).part.cut
-          (below p q o types l) some r is
+      (below p q o types l) some r is
   cuts_within Part2 t some words p q o ss r spelled types l is =
       cut.report_within (part2_by_history q.program.order) AnyHistory q o t (starts_of history_made q.program.order ss)
-          (sound words p q spelled types).part2.cut (below p q o types l) some r is
+      (sound words p q spelled types).part2.cut (below p q o types l) some r is
 
 -- lists of releases are few
 abbrev pub FewLists : Type 0

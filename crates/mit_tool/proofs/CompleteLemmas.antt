@@ -72,14 +72,14 @@ audited_done : (e : EnvName) (t : ℕ) (q : LabelledProgram) (o : Option Label) 
 audited_done e t q None ss before s x k h = absurd h
 audited_done e t q (Some l) ss before s x k h =
     then_goes (AuditStops e t q l ss) (ReportsIn e q l.number t ss) (λ r s x. (s ≡ status.Done) × (x ≡ before ++ audit_lines q.program.order l t r)) s x
-        (audit_goes e t q l ss s x k) (λ r a n. n.0) h
+    (audit_goes e t q l ss s x k) (λ r a n. n.0) h
 
 cut_done : (e : EnvName) (t : ℕ) (q : LabelledProgram) (o : Option Label) (ss : List StartValue) (s : Status) (x : List ℕ)
     → OfObserver (λ l. CanCut e t q l ss) o → HasCut e t q o ss s x → s ≡ status.Done
 cut_done e t q None ss s x k h = absurd h
 cut_done e t q (Some l) ss s x k h =
     then_goes (CutStops e t q l ss) (CutReportsIn e q l.number t ss) (λ r s x. (s ≡ status.Done) × (x ≡ cut_lines q.program.order l t r)) s x
-        (cut_goes e t q l ss s x k) (λ r a n. n.0) h
+    (cut_goes e t q l ss s x k) (λ r a n. n.0) h
 
 -- ---- commands
 
@@ -94,7 +94,7 @@ module _ (Rises : List ℕ → Type 0) (content : Content) (s : Status) (t : Lis
       let start : StartValue = goes.0 in
       first_done Rises content s t starts p (λ start. HasRun e budget q o code start) start others goes.1 (λ told.
       let same : s ≡ status_at (told_in e q.program.order (lowered q) start budget).end =
-          told.0 ∙ ap (λ (z : Code). status_at (told_in e q.program.order z start budget).end) image in
+      told.0 ∙ ap (λ (z : Code). status_at (told_in e q.program.order z start budget).end) image in
       same ∙ halted_done (told_in e q.program.order (lowered q) start budget).end goes.2)) h
 
   meaning_done : (file : List ℕ) (starts : Option (List ℕ)) (steps : ℕ) → (Rises file → ⊥) → IsKnown (content file)
@@ -103,7 +103,7 @@ module _ (Rises : List ℕ → Type 0) (content : Content) (s : Status) (t : Lis
   meaning_done file starts steps n known others can h =
       let p : Syntax = can.0 in
       then_goes_from (ProgramStops (Rises file) (content file)) (Reads (content file))
-          (λ p. Then (FirstStops Rises content starts p) (FirstStart content starts p) (λ start. HasMeant p start steps)) s t
+      (λ p. Then (FirstStops Rises content starts p) (FirstStart content starts p) (λ start. HasMeant p start steps)) s t
       p can.1 (one_program (content file) known) (program_goes (Rises file) (content file) p s t n known can.1)
       (first_done Rises content s t starts p (λ start. HasMeant p start steps) can.2 others can.3 (λ meant. meant.0)) h
 
@@ -111,20 +111,20 @@ module _ (Rises : List ℕ → Type 0) (content : Content) (s : Status) (t : Lis
   gen_done size number some few can h =
       let c : Option (Option (List ℕ)) = Some (Some (program_text size number)) in
       let last = λ (p : Syntax) (q : LabelledProgram) (o : Option Label) (code : Code). Then (StartStops ⊥ (Some (Some starts_text)) p)
-          (StartsAre (Some (Some starts_text)) p) (λ ss. HasAudited Part (2 ^ 40) q o ss (made_lines size number (count (plan_of p)) (length code.instrs))) in
+      (StartsAre (Some (Some starts_text)) p) (λ ss. HasAudited Part (2 ^ 40) q o ss (made_lines size number (count (plan_of p)) (length code.instrs))) in
       then_goes (ProgramStops ⊥ c) (Reads c)
       (λ p. Then (ObserverStops p.order (Some (codes "L"))) (Observes p.order (Some (codes "L")))
-          (λ o. Then (TypeStops p) (Types p) (λ q. Then (ImageStops q) (HasImage q) (λ code. last p q o code)))) s t
+      (λ o. Then (TypeStops p) (Types p) (λ q. Then (ImageStops q) (HasImage q) (λ code. last p q o code)))) s t
       (made_goes size number s t some few) (λ p reads.
       then_goes (ObserverStops p.order (Some (codes "L"))) (Observes p.order (Some (codes "L")))
-          (λ o. Then (TypeStops p) (Types p) (λ q. Then (ImageStops q) (HasImage q) (λ code. last p q o code))) s t
+      (λ o. Then (TypeStops p) (Types p) (λ q. Then (ImageStops q) (HasImage q) (λ code. last p q o code))) s t
       (made_observer_goes size number p s t some reads) (λ o is.
       lower_goes p (λ q. CanBeAudited Part (2 ^ 40) q 0 made_starts) (λ q code. last p q o code) s t (can p reads) (λ q code image goes.
       let before : List ℕ = made_lines size number (count (plan_of p)) (length code.instrs) in
       starts_done s t ⊥ (Some (Some starts_text)) p (λ ss. HasAudited Part (2 ^ 40) q o ss before) made_starts
-          (λ n. n) tt (made_starts_are size number p some reads)
+      (λ n. n) tt (made_starts_are size number p some reads)
       (audited_done Part (2 ^ 40) q o made_starts before s t
-          (made_observer size number p o (λ l. CanBeAudited Part (2 ^ 40) q l made_starts) some reads is goes))))) h
+      (made_observer size number p o (λ l. CanBeAudited Part (2 ^ 40) q l made_starts) some reads is goes))))) h
 
   -- the answer to a command that can go on, of files that are told and read
   pub answers_done : (a : Asked) → IsInRange a → NoneRises Rises a → AreKnown content a → CanGoOn content a → IsAnswer Rises content a s t → s ≡ status.Done
@@ -153,14 +153,14 @@ module _ (Rises : List ℕ → Type 0) (content : Content) (s : Status) (t : Lis
       let k = first_file Rises content file (starts ∷ []) n known in
       let m = second_file Rises content file starts [] n known in
       prepared_done s t Rises content file observer (Rises starts) (content starts) (λ q o ss. OfObserver (λ l. CanBeAudited e budget q l ss) o)
-          (λ p q o code ss. HasAudited e budget q o ss [])
+      (λ p q o code ss. HasAudited e budget q o ss [])
       k.0 k.1 m.0 m.1 can (λ p q o code ss good next. audited_done e budget q o ss [] s t good next) h
   answers_done (gen size number) range n known can h = gen_done size number range.0 range.1 can h
   answers_done (cut file starts observer e budget) range n known can h =
       let k = first_file Rises content file (starts ∷ []) n known in
       let m = second_file Rises content file starts [] n known in
       prepared_done s t Rises content file observer (Rises starts) (content starts) (λ q o ss. OfObserver (λ l. CanCut e budget q l ss) o)
-          (λ p q o code ss. HasCut e budget q o ss)
+      (λ p q o code ss. HasCut e budget q o ss)
       k.0 k.1 m.0 m.1 can (λ p q o code ss good next. cut_done e budget q o ss s t good next) h
   answers_done (blackbox file first budget) range n known can h =
       let k = first_file Rises content file [] n known in
@@ -184,4 +184,4 @@ pub completes : (old new : Option (List ℕ)) (Rises : List ℕ → Type 0) (con
     → IsInRange a → CanBeDone content a → NoneRises Rises a → (Rose → ⊥) → (r ≡ status.Done) ⊎ (r ≡ status.Memory)
 completes old new Rises content a r Rose ends write range can none n =
     ends_done old new (Before content a) (IsAnswer Rises content a) r ends (λ e. n (write e))
-        (λ t h. answers_done Rises content r t a range none can.known can.goes h)
+    (λ t h. answers_done Rises content r t a range none can.known can.goes h)

@@ -62,12 +62,16 @@ pub program_stop_held : (R : Type 0) (c : Option (Option (List ℕ))) (s : Statu
     × ProgramStops R (Some h) s t
 program_stop_held R c status.Done t x = absurd x
 program_stop_held R c status.Refused t x = absurd x
-program_stop_held R c status.Syntax t (inl f) =
-    (Some f.bytes, fits_bytes c f.bytes f.are,
-    inl (record { bytes = f.bytes; are = refl; short = f.short; fault = f.fault; none = f.none; is = f.is; line = f.line }))
-program_stop_held R c status.Syntax t (inr f) =
-    (Some f.bytes, fits_bytes c f.bytes f.are,
-    inr (record { bytes = f.bytes; are = refl; short = f.short; tokens = f.tokens; cut = f.cut; fault = f.fault; none = f.none; is = f.is; line = f.line }))
+program_stop_held R c status.Syntax t (inl f) = (
+  Some f.bytes,
+  fits_bytes c f.bytes f.are,
+  inl (record { bytes = f.bytes; are = refl; short = f.short; fault = f.fault; none = f.none; is = f.is; line = f.line }),
+)
+program_stop_held R c status.Syntax t (inr f) = (
+  Some f.bytes,
+  fits_bytes c f.bytes f.are,
+  inr (record { bytes = f.bytes; are = refl; short = f.short; tokens = f.tokens; cut = f.cut; fault = f.fault; none = f.none; is = f.is; line = f.line }),
+)
 program_stop_held R c status.Starts t x = absurd x
 program_stop_held R c status.Usage t x = absurd x
 program_stop_held R c status.ReadFault t x = (held_of c, fits_held c, x)
@@ -84,9 +88,11 @@ pub start_stop_held : (R : Type 0) (c : Option (Option (List ℕ))) (p : Syntax)
 start_stop_held R c p status.Done t x = absurd x
 start_stop_held R c p status.Refused t x = absurd x
 start_stop_held R c p status.Syntax t x = absurd x
-start_stop_held R c p status.Starts t f =
-    (Some f.bytes, fits_bytes c f.bytes f.are,
-    record { bytes = f.bytes; are = refl; short = f.short; fault = f.fault; none = f.none; is = f.is; line = f.line })
+start_stop_held R c p status.Starts t f = (
+  Some f.bytes,
+  fits_bytes c f.bytes f.are,
+  record { bytes = f.bytes; are = refl; short = f.short; fault = f.fault; none = f.none; is = f.is; line = f.line },
+)
 start_stop_held R c p status.Usage t x = absurd x
 start_stop_held R c p status.ReadFault t x = (held_of c, fits_held c, x)
 start_stop_held R c p status.WriteFault t x = absurd x
@@ -102,9 +108,11 @@ pub ready_stop_held : (R : Type 0) (c : Option (Option (List ℕ))) (s : Status)
 ready_stop_held R c status.Done t x = absurd x
 ready_stop_held R c status.Refused t x = absurd x
 ready_stop_held R c status.Syntax t x = absurd x
-ready_stop_held R c status.Starts t f =
-    (Some f.bytes, fits_bytes c f.bytes f.are,
-    record { bytes = f.bytes; are = refl; short = f.short; fault = f.fault; none = f.none; is = f.is; line = f.line })
+ready_stop_held R c status.Starts t f = (
+  Some f.bytes,
+  fits_bytes c f.bytes f.are,
+  record { bytes = f.bytes; are = refl; short = f.short; fault = f.fault; none = f.none; is = f.is; line = f.line },
+)
 ready_stop_held R c status.Usage t x = absurd x
 ready_stop_held R c status.ReadFault t x = (held_of c, fits_held c, x)
 ready_stop_held R c status.WriteFault t x = absurd x
@@ -121,8 +129,12 @@ rechecks_held c p q r =
     let k : HoldsCertificate c p q = r.holds in (
       Some k.bytes,
       fits_bytes c k.bytes k.are,
-      record { holds = record { bytes = k.bytes; are = refl; short = k.short; program = k.program; certifies = k.certifies }; labels = r.labels; typed =
-          r.typed },
+      record {
+        holds = record { bytes = k.bytes; are = refl; short = k.short; program = k.program; certifies = k.certifies };
+        labels = r.labels;
+        typed =
+            r.typed;
+      },
     )
 
 pub certificate_stop_held : (R : Type 0) (c : Option (Option (List ℕ))) (p : Syntax) (s : Status) (t : List ℕ) → CertificateStops R c p s t

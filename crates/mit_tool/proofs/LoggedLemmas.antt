@@ -311,15 +311,19 @@ no_lines a = ([], All-nil IsMeaningLine, sent_nothing a)
 
 pub lines_more : (ds : List Declaration) (walk : Walk) (a b c : Option (List Offered)) → All (λ d. IsName d.0) ds → SentLines a b
     → HasSent b c (pieces_of_walk ds walk) → SentLines a c
-lines_more ds walk a b c names g h =
-    (g.0 ++ pieces_of_walk ds walk, All-append IsMeaningLine g.0 (pieces_of_walk ds walk) g.1 (value_lines_are ds names walk),
-        sent_after a b c g.0 (pieces_of_walk ds walk) g.2 h)
+lines_more ds walk a b c names g h = (
+  g.0 ++ pieces_of_walk ds walk,
+  All-append IsMeaningLine g.0 (pieces_of_walk ds walk) g.1 (value_lines_are ds names walk),
+  sent_after a b c g.0 (pieces_of_walk ds walk) g.2 h,
+)
 
 pub lines_break : (ds : List Declaration) (walk : Walk) (a b c : Option (List Offered)) → All (λ d. IsName d.0) ds → SentLines a b
     → HasBroken b c (pieces_of_walk ds walk) → BrokenLines a c
-lines_break ds walk a b c names g h =
-    (g.0 ++ pieces_of_walk ds walk, All-append IsMeaningLine g.0 (pieces_of_walk ds walk) g.1 (value_lines_are ds names walk),
-        broken_after a b c g.0 (pieces_of_walk ds walk) g.2 h)
+lines_break ds walk a b c names g h = (
+  g.0 ++ pieces_of_walk ds walk,
+  All-append IsMeaningLine g.0 (pieces_of_walk ds walk) g.1 (value_lines_are ds names walk),
+  broken_after a b c g.0 (pieces_of_walk ds walk) g.2 h,
+)
 
 -- ---- results
 

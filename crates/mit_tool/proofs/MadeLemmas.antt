@@ -59,7 +59,7 @@ pub made_goes : (size number : ℕ) (s : Status) (t : List ℕ) → 0 < size →
 made_goes size number s t some few h =
     let c : Option (Option (List ℕ)) = Some (Some (program_text size number)) in
     file_goes ⊥ program c (BadText c) status.Syntax s t (λ n. n) (λ long. let short = program_short size number few in
-        omega (arith, long, short)) (no_bad_text size number t some) (program_stops ⊥ c s t h)
+    omega (arith, long, short)) (no_bad_text size number t some) (program_stops ⊥ c s t h)
 
 -- ---- its labels
 
@@ -69,7 +69,7 @@ made_header zero number tokens tree some a s = absurd (omega (arith, some))
 made_header (suc n) number tokens tree some a s =
     let words : List Told = told (program_text (suc n) number) tokens in
     let h : ToldAs words (program_words (suc n) number) =
-        told_as (program_text (suc n) number) (program_words (suc n) number) (made_words (suc n) number) tokens a in
+    told_as (program_text (suc n) number) (program_words (suc n) number) (made_words (suc n) number) tokens a in
     let spells : Spells (program_tree number n h.positions) words = (h.last, h.are ∙ program_spelled number n h.positions _) in
     ap (λ (x : ProgramTree). x.header) (one_tree words tree (program_tree number n h.positions) s spells)
 
@@ -84,9 +84,9 @@ made_low : (size number : ℕ) (p : Syntax) → 0 < size → Reads (Some (Some (
 made_low size number p some r =
     let cut : AreTokens (program_text size number) r.tokens = subst (λ (z : List ℕ). AreTokens z r.tokens) r.are r.cut in
     let spells : Spells r.spelled.tree (told (program_text size number) r.tokens) =
-        subst (λ (z : List ℕ). Spells r.spelled.tree (told z r.tokens)) r.are r.spelled.spells in
+    subst (λ (z : List ℕ). Spells r.spelled.tree (told z r.tokens)) r.are r.spelled.spells in
     first_is_low r.spelled.tree.header p.order (made_header size number r.tokens r.spelled.tree some cut spells) r.spelled.resolves.order.size
-        r.spelled.resolves.order.named
+    r.spelled.resolves.order.named
 
 pub made_observer_goes : (size number : ℕ) (p : Syntax) (s : Status) (t : List ℕ) → 0 < size → Reads (Some (Some (program_text size number))) p
     → ObserverStops p.order (Some (codes "L")) s t → ⊥

@@ -37,8 +37,8 @@ module _ (s u : Status) (t x : List ℕ) where
         → IsAnswer Rises content (run file starts e budget observer) s t → IsAnswer Rises content (run file starts e budget observer) u x → Same s u t x
     run_one file starts e budget observer n known others =
         compiles_one s u t x Rises content file observer
-            (λ p q o code. Then (FirstStops Rises content starts p) (FirstStart content starts p) (λ start. HasRun e budget q o code start)) n known
-            (λ p q o code.
+        (λ p q o code. Then (FirstStops Rises content starts p) (FirstStart content starts p) (λ start. HasRun e budget q o code start)) n known
+        (λ p q o code.
         then_one (FirstStops Rises content starts p) (FirstStart content starts p) (λ start. HasRun e budget q o code start) s u t x
         (one_first_stop content p Rises starts s u t x (others_fall starts others) (others_known starts others))
         (λ start v y. first_or_not content p Rises starts start v y (others_fall starts others) (others_known starts others))
@@ -49,7 +49,7 @@ module _ (s u : Status) (t x : List ℕ) where
         → IsAnswer Rises content (meaning file starts steps) s t → IsAnswer Rises content (meaning file starts steps) u x → Same s u t x
     meaning_one file starts steps n known others =
         reads_one s u t x (Rises file) (content file)
-            (λ p. Then (FirstStops Rises content starts p) (FirstStart content starts p) (λ start. HasMeant p start steps)) n known (λ p order.
+        (λ p. Then (FirstStops Rises content starts p) (FirstStart content starts p) (λ start. HasMeant p start steps)) n known (λ p order.
         then_one (FirstStops Rises content starts p) (FirstStart content starts p) (λ start. HasMeant p start steps) s u t x
         (one_first_stop content p Rises starts s u t x (others_fall starts others) (others_known starts others))
         (λ start v y. first_or_not content p Rises starts start v y (others_fall starts others) (others_known starts others))
@@ -59,11 +59,11 @@ module _ (s u : Status) (t x : List ℕ) where
     answers_one (check file) n known =
         let k = first_file Rises content file [] n known in
         reads_one s u t x (Rises file) (content file) (λ p. Then (TypeStops p) (Types p) (λ q. HasChecked p)) k.0 k.1
-            (λ p order. types_one s u t x p (λ q. HasChecked p) order (λ q. usage_one s u t x))
+        (λ p order. types_one s u t x p (λ q. HasChecked p) order (λ q. usage_one s u t x))
     answers_one (infer file) n known =
         let k = first_file Rises content file [] n known in
         reads_one s u t x (Rises file) (content file) (λ p. Then (TypeStops p) (Types p) (λ q. HasInferred q)) k.0 k.1
-            (λ p order. types_one s u t x p (λ q. HasInferred q) order (λ q. usage_one s u t x))
+        (λ p order. types_one s u t x p (λ q. HasInferred q) order (λ q. usage_one s u t x))
     answers_one (compile file) n known =
         let k = first_file Rises content file [] n known in
         compiles_one s u t x Rises content file None (λ p q o code. HasListed q code) k.0 k.1 (λ p q o code. usage_one s u t x)
@@ -83,7 +83,7 @@ module _ (s u : Status) (t x : List ℕ) where
         let k = first_file Rises content file (starts ∷ []) n known in
         let m = second_file Rises content file starts [] n known in
         prepares_one s u t x Rises content file observer (Rises starts) (content starts) (λ p q o code ss. HasAudited e budget q o ss []) k.0 k.1 m.0 m.1
-            (λ p q o code ss. one_audit e budget q o ss [] s u t x)
+        (λ p q o code ss. one_audit e budget q o ss [] s u t x)
     answers_one (gen size number) n known =
         prepares_one s u t x (λ name. ⊥) (made_content size number) [] (codes "L") ⊥ (Some (Some starts_text))
         (λ p q o code ss. HasAudited Part (2 ^ 40) q o ss (made_lines size number (count (plan_of p)) (length code.instrs))) (λ h. h) tt (λ h. h) tt
@@ -92,12 +92,12 @@ module _ (s u : Status) (t x : List ℕ) where
         let k = first_file Rises content file (starts ∷ []) n known in
         let m = second_file Rises content file starts [] n known in
         prepares_one s u t x Rises content file observer (Rises starts) (content starts) (λ p q o code ss. HasCut e budget q o ss) k.0 k.1 m.0 m.1
-            (λ p q o code ss. one_cut e budget q o ss s u t x)
+        (λ p q o code ss. one_cut e budget q o ss s u t x)
     answers_one (blackbox file first budget) n known =
         let k = first_file Rises content file [] n known in
         then_one (ReadyStops (Rises file) (content file)) (HoldsRuns (content file)) (λ runs. HasReleased first budget runs) s u t x
         (one_ready_stop (content file) k.1 (Rises file) s u t x k.0) (λ runs v y holds. runs_or_not (content file) k.1 runs (Rises file) v y k.0 holds)
-            (λ a b. one_run_list s u t x (content file) a b k.1)
+        (λ a b. one_run_list s u t x (content file) a b k.1)
         (λ runs holds. one_release outcomes first budget runs s u t x)
     answers_one (certify file) n known =
         let k = first_file Rises content file [] n known in
@@ -107,9 +107,9 @@ module _ (s u : Status) (t x : List ℕ) where
         let k = first_file Rises content file (certificate ∷ []) n known in
         let m = second_file Rises content file certificate [] n known in
         reads_one s u t x (Rises file) (content file)
-            (λ p. Then (CertificateStops (Rises certificate) (content certificate) p) (Rechecks (content certificate) p) (λ q. HasRechecked p)) k.0 k.1
-            (λ p order.
+        (λ p. Then (CertificateStops (Rises certificate) (content certificate) p) (Rechecks (content certificate) p) (λ q. HasRechecked p)) k.0 k.1
+        (λ p order.
         then_same (CertificateStops (Rises certificate) (content certificate) p) (Rechecks (content certificate) p) (HasRechecked p) s u t x
         (one_certificate_stop (content certificate) m.1 p (Rises certificate) s u t x m.0)
-            (λ q v y r. certificate_goes (Rises certificate) (content certificate) p q v y m.0 m.1 r.holds)
+        (λ q v y r. certificate_goes (Rises certificate) (content certificate) p q v y m.0 m.1 r.holds)
         (usage_one s u t x))

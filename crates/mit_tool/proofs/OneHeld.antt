@@ -111,7 +111,7 @@ compiles_then_held : (R : Type 0) (c : Option (Option (List ℕ))) (observer : O
     → CompilesFrom R c observer Next s t → (h : Option (List ℕ)) × Fits c h × CompilesFrom R (Some h) observer Next s t
 compiles_then_held R c observer Next s t =
     program_then_held R c (λ p. Then (ObserverStops p.order observer) (Observes p.order observer)
-        (λ o. Then (TypeStops p) (Types p) (λ q. Then (ImageStops q) (HasImage q) (λ code. Next p q o code)))) s t
+    (λ o. Then (TypeStops p) (Types p) (λ q. Then (ImageStops q) (HasImage q) (λ code. Next p q o code)))) s t
 
 -- ---- the answer to a command
 
@@ -123,7 +123,7 @@ module _ (Rises : List ℕ → Type 0) (content : Content) (s : Status) (t : Lis
       (λ p q o code. Then (StartStops (Rises starts) (content starts) p) (StartsAre (content starts) p) (λ ss. Next p q o code ss)) s t
       → (held : Held) × HoldsTold content held
       × CompilesFrom (Rises file) (told_all held file) (Some observer)
-          (λ p q o code. Then (StartStops (Rises starts) (told_all held starts) p) (StartsAre (told_all held starts) p) (λ ss. Next p q o code ss)) s t
+      (λ p q o code. Then (StartStops (Rises starts) (told_all held starts) p) (StartsAre (told_all held starts) p) (λ ss. Next p q o code ss)) s t
   starts_answer file observer starts Next alike x =
       let later = compiles_later Rises content file (Some observer) (content starts)
       (λ p q o code. Then (StartStops (Rises starts) (content starts) p) (StartsAre (content starts) p) (λ ss. Next p q o code ss))
@@ -143,21 +143,21 @@ module _ (Rises : List ℕ → Type 0) (content : Content) (s : Status) (t : Lis
       (λ start. Next p q o code start)) s t
       → (held : Held) × HoldsTold content held
       × CompilesFrom (Rises file) (told_all held file) observer
-          (λ p q o code. Then (FirstStops Rises (told_all held) (Some starts) p) (FirstStart (told_all held) (Some starts) p) (λ start. Next p q o code start))
-          s t
+      (λ p q o code. Then (FirstStops Rises (told_all held) (Some starts) p) (FirstStart (told_all held) (Some starts) p) (λ start. Next p q o code start))
+      s t
   first_answer file starts observer Next alike x =
       let later = compiles_later Rises content file observer (content starts)
       (λ p q o code. Then (FirstStops Rises content (Some starts) p) (FirstStart content (Some starts) p) (λ start. Next p q o code start))
       (λ k p q o code. Then (StartStops (Rises starts) (Some k) p) (λ start. (others : List StartValue) × StartsAre (Some k) p (start ∷ others))
-          (λ start. Next p q o code start)) s t
+      (λ start. Next p q o code start)) s t
       (λ p q o code. first_then_held Rises content starts p (λ start. Next p q o code start) s t) x in
       let first = compiles_then_held (Rises file) (content file) observer
       (λ p q o code. Then (StartStops (Rises starts) (Some later.0) p) (λ start. (others : List StartValue) × StartsAre (Some later.0) p (start ∷ others))
-          (λ start. Next p q o code start)) s t later.2 in
+      (λ start. Next p q o code start)) s t later.2 in
       two_files content file starts
       (λ c d. CompilesFrom (Rises file) c observer
-          (λ p q o code. Then (StartStops (Rises starts) d p) (λ start. (others : List StartValue) × StartsAre d p (start ∷ others))
-          (λ start. Next p q o code start)) s t)
+      (λ p q o code. Then (StartStops (Rises starts) d p) (λ start. (others : List StartValue) × StartsAre d p (start ∷ others))
+      (λ start. Next p q o code start)) s t)
       first.0 later.0 first.1 later.1 alike first.2
 
   -- the same of a run without its time
@@ -167,19 +167,19 @@ module _ (Rises : List ℕ → Type 0) (content : Content) (s : Status) (t : Lis
       (λ p. Then (FirstStops Rises content (Some starts) p) (FirstStart content (Some starts) p) (λ start. Next p start)) s t
       → (held : Held) × HoldsTold content held
       × Then (ProgramStops (Rises file) (told_all held file)) (Reads (told_all held file))
-          (λ p. Then (FirstStops Rises (told_all held) (Some starts) p) (FirstStart (told_all held) (Some starts) p) (λ start. Next p start)) s t
+      (λ p. Then (FirstStops Rises (told_all held) (Some starts) p) (FirstStart (told_all held) (Some starts) p) (λ start. Next p start)) s t
   meant_answer file starts Next alike x =
       let later = then_later (content starts) (ProgramStops (Rises file) (content file)) (Reads (content file))
       (λ p. Then (FirstStops Rises content (Some starts) p) (FirstStart content (Some starts) p) (λ start. Next p start))
       (λ k p. Then (StartStops (Rises starts) (Some k) p) (λ start. (others : List StartValue) × StartsAre (Some k) p (start ∷ others)) (λ start. Next p start))
-          s t
+      s t
       (λ p. first_then_held Rises content starts p (λ start. Next p start) s t) x in
       let first = program_then_held (Rises file) (content file)
       (λ p. Then (StartStops (Rises starts) (Some later.0) p) (λ start. (others : List StartValue) × StartsAre (Some later.0) p (start ∷ others))
-          (λ start. Next p start)) s t later.2 in
+      (λ start. Next p start)) s t later.2 in
       two_files content file starts
       (λ c d. Then (ProgramStops (Rises file) c) (Reads c)
-          (λ p. Then (StartStops (Rises starts) d p) (λ start. (others : List StartValue) × StartsAre d p (start ∷ others)) (λ start. Next p start)) s t)
+      (λ p. Then (StartStops (Rises starts) d p) (λ start. (others : List StartValue) × StartsAre d p (start ∷ others)) (λ start. Next p start)) s t)
       first.0 later.0 first.1 later.1 alike first.2
 
   -- with the certificate of a second file
@@ -189,7 +189,7 @@ module _ (Rises : List ℕ → Type 0) (content : Content) (s : Status) (t : Lis
       (λ p. Then (CertificateStops (Rises certificate) (content certificate) p) (Rechecks (content certificate) p) (λ q. Next p q)) s t
       → (held : Held) × HoldsTold content held
       × Then (ProgramStops (Rises file) (told_all held file)) (Reads (told_all held file))
-          (λ p. Then (CertificateStops (Rises certificate) (told_all held certificate) p) (Rechecks (told_all held certificate) p) (λ q. Next p q)) s t
+      (λ p. Then (CertificateStops (Rises certificate) (told_all held certificate) p) (Rechecks (told_all held certificate) p) (λ q. Next p q)) s t
   certified_answer file certificate Next alike x =
       let later = then_later (content certificate) (ProgramStops (Rises file) (content file)) (Reads (content file))
       (λ p. Then (CertificateStops (Rises certificate) (content certificate) p) (Rechecks (content certificate) p) (λ q. Next p q))
@@ -249,10 +249,23 @@ begun_held content file (Some starts) n b alike x =
     let read = reads_held (content file) x.program x.reads in
     let first : FirstStart content (Some starts) x.program x.start = x.first in
     let begin = starts_held (content starts) x.program (x.start ∷ first.0) first.1 in
-    let made = two_files content file starts (λ c d. Reads c x.program × StartsAre d x.program (x.start ∷ first.0)) read.0 begin.0 read.1 begin.1 alike (read.2,
-        begin.2) in
-    (made.0, made.1, record { program = x.program; reads = made.2.0; start = x.start; first = (first.0, made.2.1); steps =
-        x.steps; within = x.within; lines = x.lines })
+    let made = two_files content file starts (λ c d. Reads c x.program × StartsAre d x.program (x.start ∷ first.0)) read.0 begin.0 read.1 begin.1 alike (
+      read.2,
+      begin.2,
+    ) in (
+      made.0,
+      made.1,
+      record {
+        program = x.program;
+        reads = made.2.0;
+        start = x.start;
+        first = (first.0, made.2.1);
+        steps =
+            x.steps;
+        within = x.within;
+        lines = x.lines;
+      },
+    )
 
 before_held : (content : Content) (a : Asked) (b : List ℕ) → AreReadAlike content (files_of a) → Before content a b
     → (held : Held) × HoldsTold content held × Before (told_all held) a b

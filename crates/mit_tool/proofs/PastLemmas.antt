@@ -64,18 +64,18 @@ module _ (sound : SpelledAreSound) where
     answer_past (compile file) x = compiled_past Rises content file None (λ p q o code. HasListed q code) s t past x
     answer_past (run file starts e budget observer) x =
         compiled_past Rises content file observer
-            (λ p q o code. Then (FirstStops Rises content starts p) (FirstStart content starts p) (λ start. HasRun e budget q o code start)) s t past x
+        (λ p q o code. Then (FirstStops Rises content starts p) (FirstStart content starts p) (λ start. HasRun e budget q o code start)) s t past x
     answer_past (meaning file starts n) x = tt
     answer_past (audit file starts observer e budget) x =
         compiled_past Rises content file (Some observer) (λ p q o code. Then (StartStops (Rises starts) (content starts) p) (StartsAre (content starts) p)
-            (λ ss. HasAudited e budget q o ss [])) s t past x
+        (λ ss. HasAudited e budget q o ss [])) s t past x
     answer_past (gen size number) x =
         compiled_past (λ name. ⊥) (made_content size number) [] (Some (codes "L"))
-            (λ p q o code. Then (StartStops ⊥ (Some (Some starts_text)) p) (StartsAre (Some (Some starts_text)) p) (λ ss.
+        (λ p q o code. Then (StartStops ⊥ (Some (Some starts_text)) p) (StartsAre (Some (Some starts_text)) p) (λ ss.
         HasAudited Part (2 ^ 40) q o ss (made_lines size number (count (plan_of p)) (length code.instrs)))) s t past x
     answer_past (cut file starts observer e budget) x =
         compiled_past Rises content file (Some observer) (λ p q o code. Then (StartStops (Rises starts) (content starts) p) (StartsAre (content starts) p)
-            (λ ss. HasCut e budget q o ss)) s t past x
+        (λ ss. HasCut e budget q o ss)) s t past x
     answer_past (blackbox file first budget) x = tt
     answer_past (certify file) x = typed_past (Rises file) (content file) (λ p q. HasCertified q) s t past x
     answer_past (recheck file certificate) x = tt
@@ -96,8 +96,14 @@ module _ (sound : TypedAreSound) (Rises : List ℕ → Type 0) (content : Conten
   rechecked_past file certificate s t past (inr (p, reads, inl x)) =
       absurd (not_late s (certificate_early (Rises certificate) (content certificate) p s t x) past)
   rechecked_past file certificate s t past (inr (p, reads, inr (q, rechecks, n))) =
-      record { program = p; reads = reads; labelled = q; rechecks = rechecks; sound =
-          sound _ p q reads.spelled rechecks.holds.program rechecks.labels.keeps rechecks.typed }
+      record {
+        program = p;
+        reads = reads;
+        labelled = q;
+        rechecks = rechecks;
+        sound =
+            sound _ p q reads.spelled rechecks.holds.program rechecks.labels.keeps rechecks.typed;
+      }
 
   held_past : (a : Asked) (s : Status) (t : List ℕ) → IsTrue (is_past_typing s) → IsAnswer Rises content a s t → HeldIsSound content a
   held_past (check file) s t past x = tt

@@ -35,7 +35,7 @@ pub ready_tells : (Rises : List ℕ → Type 0) (content : Content) (file : List
     → IsAnswer Rises content (run file starts env budget observer) s t
 ready_tells Rises content file starts observer env budget q o code start s t h told =
     let first : FirstStart content starts h.compiled.program start =
-        subst (λ (z : Syntax). FirstStart content starts z start) h.compiled.types.program h.first in
+    subst (λ (z : Syntax). FirstStart content starts z start) h.compiled.types.program h.first in
     compiled_goes Rises content file observer q o code (run_next Rises content starts env budget) s t h.compiled (inr (start, first, told))
 
 pub run_stops : (Rises : List ℕ → Type 0) (content : Content) (file : List ℕ) (starts observer : Option (List ℕ)) (env : EnvName)
@@ -43,8 +43,8 @@ pub run_stops : (Rises : List ℕ → Type 0) (content : Content) (file : List �
     → RunStops Rises content file starts observer s t → IsAnswer Rises content (run file starts env budget observer) s t
 run_stops Rises content file starts observer env budget s t =
     compiles_map Rises content file observer (starts_next Rises content starts) (run_next Rises content starts env budget) s t
-        (λ p q o code. then_map (FirstStops Rises content starts p) (FirstStart content starts p) (λ start. NoMore)
-        (λ start. HasRun env budget q o code start) s t (λ start n. absurd n))
+    (λ p q o code. then_map (FirstStops Rises content starts p) (FirstStart content starts p) (λ start. NoMore)
+    (λ start. HasRun env budget q o code start) s t (λ start n. absurd n))
 
 -- ---- a run without its time
 
@@ -73,10 +73,10 @@ pub meaning_done : (Rises : List ℕ → Type 0) (content : Content) (file : Lis
     → EndsBy old new (Before content (meaning file starts n)) (IsAnswer Rises content (meaning file starts n)) r
 meaning_done Rises content file starts n p start memory line text old mid new r h is last lines same told prefix =
     let last' : IsLastLine (plan_of p) start.memory n text =
-        subst (λ (l : List ℕ). IsLastLine (plan_of p) start.memory n l) (sym same) (subst (λ (m : List ℤ). IsLastLine (plan_of p) m n line) is last) in
+    subst (λ (l : List ℕ). IsLastLine (plan_of p) start.memory n l) (sym same) (subst (λ (m : List ℤ). IsLastLine (plan_of p) m n line) is last) in
     let lines' : Appends old mid (lines_after p start.memory n) = subst (λ (m : List ℤ). Appends old mid (lines_after p m n)) is lines in
     ends_after old mid new (Before content (meaning file starts n)) (IsAnswer Rises content (meaning file starts n)) (lines_after p start.memory n) Done text r
-        lines' (source_tells Rises content file starts n p start text h last') told prefix
+    lines' (source_tells Rises content file starts n p start text h last') told prefix
 
 -- memory was wanting after some lines
 pub meaning_short : (Rises : List ℕ → Type 0) (content : Content) (file : List ℕ) (starts : Option (List ℕ)) (n : ℕ) (p : Syntax) (start : StartValue)
@@ -87,7 +87,7 @@ pub meaning_short : (Rises : List ℕ → Type 0) (content : Content) (file : Li
 meaning_short Rises content file starts n p start memory old mid new r h is some told prefix =
     let lines' : Appends old mid (lines_after p start.memory some.steps) = subst (λ (m : List ℤ). Appends old mid (lines_after p m some.steps)) is some.lines in
     ends_after old mid new (Before content (meaning file starts n)) (IsAnswer Rises content (meaning file starts n))
-        (lines_after p start.memory some.steps) Memory memory_line r lines'
+    (lines_after p start.memory some.steps) Memory memory_line r lines'
     (lines_after p start.memory some.steps, inr (source_begins content file starts n some.steps p start h some.within), refl) told prefix
 
 -- a write failed in a line
@@ -97,7 +97,7 @@ pub meaning_broke : (Rises : List ℕ → Type 0) (content : Content) (file : Li
     → EndsBy old new (Before content (meaning file starts n)) (IsAnswer Rises content (meaning file starts n)) WriteFault
 meaning_broke Rises content file starts n p start memory old new h is some =
     let prefix' : AppendsPrefix old new (lines_after p start.memory some.steps) =
-        subst (λ (m : List ℤ). AppendsPrefix old new (lines_after p m some.steps)) is some.prefix in (
+    subst (λ (m : List ℤ). AppendsPrefix old new (lines_after p m some.steps)) is some.prefix in (
       Memory,
       lines_after p start.memory some.steps ++ memory_line,
       (lines_after p start.memory some.steps, inr (source_begins content file starts n some.steps p start h some.within), refl),

@@ -199,8 +199,11 @@ module _ (p : Syntax) (memory : List ℤ) (steps taken : ℕ) (walker new : Stan
 
   pub stops_last : (walk ≡ Ended → ⊥) → steps ≤ taken → (line : List ℕ) → line ≡ not_ended_line steps → IsLastLine (plan_of p) memory steps line
   stops_last n l line is =
-      inr ((λ done. not_yet (plan_of p) memory taken walker new (notes_of (plan_of p) memory taken) walk h.stands s n
-          (subst (HasEnded (plan_of p) memory) (sym (all_taken l)) done)), is)
+      inr (
+        (λ done. not_yet (plan_of p) memory taken walker new (notes_of (plan_of p) memory taken) walk h.stands s n
+            (subst (HasEnded (plan_of p) memory) (sym (all_taken l)) done)),
+        is,
+      )
 
   pub stops_lines : steps ≤ taken → Appends old now (lines_after p memory steps)
   stops_lines l = subst (λ k. Appends old now (lines_after p memory k)) (all_taken l) h.written
@@ -211,9 +214,13 @@ pub breaks_off : (p : Syntax) (memory : List ℤ) (steps taken : ℕ) (walker ne
     → IsStep walker walk new → taken < steps → AppendsPrefix now now' (text_of_walk p.declarations walk) → BreaksOff old now' p memory steps
 breaks_off p memory steps taken walker new walk old now now' h s less line =
     let more : lines_after p memory taken ++ text_of_walk p.declarations walk ≡ lines_after p memory (taken + 1) =
-        sym (lines_more p memory taken walker new walk h.stands s) in
-    record { steps = taken + 1; within = omega (arith, less); prefix =
-        prefix_after old now now' (lines_after p memory taken) (text_of_walk p.declarations walk) (lines_after p memory (taken + 1)) h.written line more }
+    sym (lines_more p memory taken walker new walk h.stands s) in
+    record {
+      steps = taken + 1;
+      within = omega (arith, less);
+      prefix =
+          prefix_after old now now' (lines_after p memory taken) (text_of_walk p.declarations walk) (lines_after p memory (taken + 1)) h.written line more;
+    }
 
 pub writes_some : (p : Syntax) (memory : List ℤ) (steps taken : ℕ) (walker : Standing) (old now : Option (List ℕ)) → Walking p memory steps taken walker old now
     → WritesSome old now p memory steps

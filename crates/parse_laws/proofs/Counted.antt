@@ -55,23 +55,25 @@ mutual
       → Fits (st d o) (front_atom a r)
   fits_atom (number_atom n p) d o r h k f = (calm d o (omega (arith, h)) (omega (arith, k)), same_operators d (o + 0) o r (omega arith) f)
   fits_atom (name_atom w p i) d o r h k f = (calm d o (omega (arith, h)) (omega (arith, k)), fits_index i d o r h k f)
-  fits_atom (paren_atom p e q) d o r h k f =
-      (calm (d + 1) o (omega (arith, h)) (omega (arith, k)),
-          fits_whole e (d + 1) o (sign_at RightRound q ∷ r) (omega (arith, h)) k (closes d (o + whole_size e) r (omega (arith, h)) k f))
+  fits_atom (paren_atom p e q) d o r h k f = (
+    calm (d + 1) o (omega (arith, h)) (omega (arith, k)),
+    fits_whole e (d + 1) o (sign_at RightRound q ∷ r) (omega (arith, h)) k (closes d (o + whole_size e) r (omega (arith, h)) k f),
+  )
 
   pub fits_index : (i : Index) (d o : ℕ) (r : List Told) → d + index_depth i ≤ 100 → o + index_size i ≤ 256 → Fits (st d (o + index_size i)) r
       → Fits (st d o) (front_index i r)
   fits_index no_index d o r h k f = same_operators d (o + 0) o r (omega arith) f
-  fits_index (index_of p e q) d o r h k f =
-      (calm (d + 1) o (omega (arith, h)) (omega (arith, k)),
-          fits_whole e (d + 1) o (sign_at RightSquare q ∷ r) (omega (arith, h)) k (closes d (o + whole_size e) r (omega (arith, h)) k f))
+  fits_index (index_of p e q) d o r h k f = (
+    calm (d + 1) o (omega (arith, h)) (omega (arith, k)),
+    fits_whole e (d + 1) o (sign_at RightSquare q ∷ r) (omega (arith, h)) k (closes d (o + whole_size e) r (omega (arith, h)) k f),
+  )
 
   pub fits_term : (t : Term) (d o : ℕ) (r : List Told) → d + term_depth t ≤ 100 → o + term_size t ≤ 256 → Fits (st d (o + term_size t)) r
       → Fits (st d o) (front_term t r)
   fits_term (term_of a fs) d o r h k f =
       fits_atom a d o (front_factors fs r) (omega (arith, h)) (omega (arith, k))
       (fits_factors fs d (o + atom_size a) r (omega (arith, h)) (omega (arith, k))
-          (same_operators d (o + (atom_size a + factors_size fs)) (o + atom_size a + factors_size fs) r (omega arith) f))
+      (same_operators d (o + (atom_size a + factors_size fs)) (o + atom_size a + factors_size fs) r (omega arith) f))
 
   pub fits_factors : (fs : Factors) (d o : ℕ) (r : List Told) → d + factors_depth fs ≤ 100 → o + factors_size fs ≤ 256 → Fits (st d (o + factors_size fs)) r
       → Fits (st d o) (front_factors fs r)
@@ -89,7 +91,7 @@ mutual
   fits_sum (sum_of t ts) d o r h k f =
       fits_term t d o (front_addends ts r) (omega (arith, h)) (omega (arith, k))
       (fits_addends ts d (o + term_size t) r (omega (arith, h)) (omega (arith, k))
-          (same_operators d (o + (term_size t + addends_size ts)) (o + term_size t + addends_size ts) r (omega arith) f))
+      (same_operators d (o + (term_size t + addends_size ts)) (o + term_size t + addends_size ts) r (omega arith) f))
 
   pub fits_addends : (ts : Addends) (d o : ℕ) (r : List Told) → d + addends_depth ts ≤ 100 → o + addends_size ts ≤ 256 → Fits (st d (o + addends_size ts)) r
       → Fits (st d o) (front_addends ts r)
@@ -108,7 +110,7 @@ mutual
   fits_whole (compared s c p t) d o r h k f =
       fits_sum s d o (sign_at (comparison_sign c) p ∷ front_sum t r) (omega (arith, h)) (omega (arith, k))
       (operates (st d (o + sum_size s + 1)) (count (st d (o + sum_size s)) (word (sign (comparison_sign c)))) (front_sum t r)
-          (comparison_counts c (st d (o + sum_size s))) (
+      (comparison_counts c (st d (o + sum_size s))) (
         calm d (o + sum_size s + 1) (omega (arith, h)) (omega (arith, k)),
         fits_sum t d (o + sum_size s + 1) r (omega (arith, h)) (omega (arith, k))
             (same_operators d (o + (sum_size s + (1 + sum_size t))) (o + sum_size s + 1 + sum_size t) r (omega arith) f),

@@ -37,7 +37,7 @@ same t s u a b =
     ∙ ap (λ ps. program u.order ps s.declarations s.plan) (a.pairs ∙ sym b.pairs)
     ∙ ap (λ ds. program u.order u.pairs ds s.plan) declarations
     ∙ ap (λ p. program u.order u.pairs u.declarations p) (a.plan ∙ ap (λ (ds : List Declaration). plan_commands (scope names ds) 0 t.commands) declarations
-        ∙ sym b.plan)
+    ∙ sym b.plan)
 
 pub one_meaning : (words : List Told) (s u : Syntax) → IsProgram words s → IsProgram words u → s ≡ u
 one_meaning words s u p q =

@@ -213,7 +213,7 @@ mutual
       let i = comparison_level o in
       let j = comparison_level u in
       let x = one_sum a b (sign_at (comparison_sign o) p ∷ front_sum t r) (sign_at (comparison_sign u) q ∷ front_sum v s)
-          (omega (arith, i)) (omega (arith, j)) e in
+      (omega (arith, i)) (omega (arith, j)) e in
       let l : o ≡ u = one_comparison o u (ap head_symbol x.1) in
       let m : p ≡ q = ap first_pos x.1 in
       let y = one_sum t v r s (omega (arith, h)) (omega (arith, k)) (ap rest x.1) in

@@ -136,7 +136,7 @@ mutual
       let e1 : w ≡ w' = ap name_first e in
       let e2 : p ≡ p' = ap first_pos e in
       let t = one_index x x' (sign_at Assign q ∷ front_whole a (front_marks m r)) (sign_at Assign q' ∷ front_whole a' (front_marks m' s))
-          (omega arith) (omega arith) (ap rest e) in
+      (omega arith) (omega arith) (ap rest e) in
       let e3 : x ≡ x' = t.0 in
       let e4 : q ≡ q' = ap first_pos t.1 in
       let u = one_marked a a' m m' r s h k (omega (arith, i)) (omega (arith, j)) (ap rest t.1) in
@@ -152,7 +152,7 @@ mutual
   one_command (if_of p a m q b x) (if_of p' a' m' q' b' x') r s h k i j e =
       let e1 : p ≡ p' = ap first_pos e in
       let u = one_marked a a' m m' (key_at Then q ∷ front_block b (front_else x r)) (key_at Then q' ∷ front_block b' (front_else x' s)) (omega arith)
-          (omega arith) (omega arith) (omega arith) (ap rest e) in
+      (omega arith) (omega arith) (omega arith) (ap rest e) in
       let e2 : a ≡ a' = u.expression in
       let e3 : m ≡ m' = u.marks in
       let e4 : q ≡ q' = ap first_pos u.rest in
@@ -164,7 +164,7 @@ mutual
   one_command (while_of p a m q b) (while_of p' a' m' q' b') r s h k i j e =
       let e1 : p ≡ p' = ap first_pos e in
       let u = one_marked a a' m m' (key_at Do q ∷ front_block b r) (key_at Do q' ∷ front_block b' s) (omega arith) (omega arith)
-          (omega arith) (omega arith) (ap rest e) in
+      (omega arith) (omega arith) (ap rest e) in
       let e2 : a ≡ a' = u.expression in
       let e3 : m ≡ m' = u.marks in
       let e4 : q ≡ q' = ap first_pos u.rest in
@@ -177,7 +177,7 @@ mutual
       let r1 : List Told = sign_at RightRound u ∷ front_marks m (front_block b r) in
       let s1 : List Told = sign_at RightRound u' ∷ front_marks m' (front_block b' s) in
       let t = one_whole a a' (front_and_name l r1) (front_and_name l' s1) (lev_and_name l r1 (omega arith)) (lev_and_name l' s1 (omega arith))
-          (ap (λ z. rest (rest z)) e) in
+      (ap (λ z. rest (rest z)) e) in
       let e3 : a ≡ a' = t.0 in
       let v = one_and_name l l' r1 s1 (omega arith) (omega arith) t.1 in
       let e4 : l ≡ l' = v.0 in
@@ -311,7 +311,7 @@ one_header (header_of p w q m u x) (header_of p' w' q' m' u' x') r s h k e =
     let e2 : w ≡ w' = ap (λ l. name_first (rest l)) e in
     let e3 : q ≡ q' = ap (λ l. first_pos (rest l)) e in
     let t = one_names m m' (sign_at Semicolon u ∷ front_ordering x r) (sign_at Semicolon u' ∷ front_ordering x' s) (omega arith) (omega arith)
-        (ap (λ l. rest (rest l)) e) in
+    (ap (λ l. rest (rest l)) e) in
     let e4 : m ≡ m' = t.0 in
     let e5 : u ≡ u' = ap first_pos t.1 in
     let v = one_ordering x x' r s h k (ap rest t.1) in

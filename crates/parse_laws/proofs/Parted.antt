@@ -125,8 +125,11 @@ module _ (o : Order) (label_name : (n : ℕ) → n < o.size → IsName (name_of 
 
   marks_shut : (m : Option (Label × Label)) → AreMarksBelow o.size m → (q : List Chunk) → IsShut q → IsShut (marks_part o m q)
   marks_shut None h q c = c
-  marks_shut (Some m) h q c = (refl, refl,
-      (refl, refl, (refl, refl, (label_name m.0.number h.0, refl, (refl, refl, (label_name m.1.number h.1, refl, (refl, c.1, c.2)))))))
+  marks_shut (Some m) h q c = (
+    refl,
+    refl,
+    (refl, refl, (refl, refl, (label_name m.0.number h.0, refl, (refl, refl, (label_name m.1.number h.1, refl, (refl, c.1, c.2)))))),
+  )
 
   level_shut : (l : Option Label) → IsBelow o.size l → (q : List Chunk) → IsShut q → IsShut (level_part o l q)
   level_shut None h q c = c
@@ -140,8 +143,11 @@ module _ (o : Order) (label_name : (n : ℕ) → n < o.size → IsName (name_of 
     expression_apart need (Variable x) h q c = ((scalar_name x h, c.0, c.2), refl)
     expression_apart need (Binary o l r) h q c =
         round_apart (ltb (rank o) need) (λ p. expression_part ds (left_need o) l (spaced (op_sign o) (expression_part ds (right_need o) r p)))
-        (λ p d. expression_apart (left_need o) l h.0 (spaced (op_sign o) (expression_part ds (right_need o) r p)) (refl, refl,
-            op_apart o (expression_part ds (right_need o) r p) (expression_apart (right_need o) r h.1 p d).0)) q c
+        (λ p d. expression_apart (left_need o) l h.0 (spaced (op_sign o) (expression_part ds (right_need o) r p)) (
+          refl,
+          refl,
+          op_apart o (expression_part ds (right_need o) r p) (expression_apart (right_need o) r h.1 p d).0,
+        )) q c
     expression_apart need (Element f n i) h q c =
         let k = expression_apart 1 i h.1 (a_sign RightSquare q) (refl, refl, (refl, c.1, c.2)) in
         ((array_name f n h.0, refl, (refl, k.1, k.0)), refl)
@@ -169,8 +175,11 @@ module _ (o : Order) (label_name : (n : ℕ) → n < o.size → IsName (name_of 
         let k = marks_shut m.labels h.0 _ (after_shut d r (commands_apart d r h.4) q c) in
         let v = (expression_apart 1 e h.3 _ k).0 in
         let j = expression_apart 1 i h.2
-            (a_sign RightSquare (spaced AssignSign (expression_part ds 1 e (marks_part o m.labels (after d r (commands_part o ds d r) q))))) (refl, refl,
-            (refl, refl, (refl, refl, v))) in
+        (a_sign RightSquare (spaced AssignSign (expression_part ds 1 e (marks_part o m.labels (after d r (commands_part o ds d r) q))))) (
+          refl,
+          refl,
+          (refl, refl, (refl, refl, v)),
+        ) in
         (array_name f n h.1, refl, (refl, j.1, j.0))
     commands_apart d (Sleep m e r) h s q c =
         let k = marks_shut m.labels h.0 _ (after_shut d r (commands_apart d r h.2) q c) in
@@ -179,24 +188,30 @@ module _ (o : Order) (label_name : (n : ℕ) → n < o.size → IsName (name_of 
         let k = after_shut d r (commands_apart d r h.6) q c in
         let v = braces_apart d (commands_part o ds (d + 1) b) (commands_apart (d + 1) b h.5 h.3) _ k.1 k.2 in
         let u = braces_apart d (commands_part o ds (d + 1) a) (commands_apart (d + 1) a h.4 h.2)
-            (spaced_key Else (in_braces d (commands_part o ds (d + 1) b) (after d r (commands_part o ds d r) q))) refl (refl, refl, v) in
+        (spaced_key Else (in_braces d (commands_part o ds (d + 1) b) (after d r (commands_part o ds d r) q))) refl (refl, refl, v) in
         let w = marks_shut m.labels h.0
-            (spaced_key Then (in_braces d (commands_part o ds (d + 1) a)
-            (spaced_key Else (in_braces d (commands_part o ds (d + 1) b) (after d r (commands_part o ds d r) q))))) (refl, refl, (refl, refl, u)) in
+        (spaced_key Then (in_braces d (commands_part o ds (d + 1) a)
+        (spaced_key Else (in_braces d (commands_part o ds (d + 1) b) (after d r (commands_part o ds d r) q))))) (refl, refl, (refl, refl, u)) in
         (refl, refl, (expression_apart 1 e h.1 _ w).0)
     commands_apart d (While m e a r) h s q c =
         let k = after_shut d r (commands_apart d r h.4) q c in
         let u = braces_apart d (commands_part o ds (d + 1) a) (commands_apart (d + 1) a h.3 h.2) _ k.1 k.2 in
-        let w = marks_shut m.labels h.0 (spaced_key Do (in_braces d (commands_part o ds (d + 1) a) (after d r (commands_part o ds d r) q))) (refl, refl,
-            (refl, refl, u)) in
+        let w = marks_shut m.labels h.0 (spaced_key Do (in_braces d (commands_part o ds (d + 1) a) (after d r (commands_part o ds d r) q))) (
+          refl,
+          refl,
+          (refl, refl, u),
+        ) in
         (refl, refl, (expression_apart 1 e h.1 _ w).0)
     commands_apart d (Mitigate m j l e a r) h s q c =
         let k = after_shut d r (commands_apart d r h.5) q c in
         let u = braces_apart d (commands_part o ds (d + 1) a) (commands_apart (d + 1) a h.4 h.3) _ k.1 k.2 in
         let w = marks_shut m.labels h.0 (space ∷ in_braces d (commands_part o ds (d + 1) a) (after d r (commands_part o ds d r) q)) (refl, refl, u) in
         let x = level_shut l h.1 (a_sign RightRound
-            (marks_part o m.labels (space ∷ in_braces d (commands_part o ds (d + 1) a) (after d r (commands_part o ds d r) q)))) (refl, refl,
-            (refl, w.1, w.2)) in
+        (marks_part o m.labels (space ∷ in_braces d (commands_part o ds (d + 1) a) (after d r (commands_part o ds d r) q)))) (
+          refl,
+          refl,
+          (refl, w.1, w.2),
+        ) in
         let v = expression_apart 1 e h.2 _ x in
         (refl, refl, (refl, v.1, v.0))
 

@@ -188,8 +188,14 @@ module _ (o : Order) (ds : List Declaration) (label_found : (n : ℕ) → n < o.
   plan_reads Done d k h g m =
       record {
         first = λ s. absurd s;
-        more = λ ws q s. record { tree = no_more; rest = ws; are = refl; says = s; is =
-            record { read = Done; plan = refl; same = refl; within = tt; calm = λ u. refl; next = omega arith } };
+        more = λ ws q s. record {
+          tree = no_more;
+          rest = ws;
+          are = refl;
+          says = s;
+          is =
+              record { read = Done; plan = refl; same = refl; within = tt; calm = λ u. refl; next = omega arith };
+        };
       }
   plan_reads (Skip wr r) d k h g m =
       let f : Reader front_list (AreList d k (Skip wr r)) (commands_part o ds d (Skip wr r)) =
@@ -245,7 +251,7 @@ module _ (o : Order) (ds : List Declaration) (label_found : (n : ℕ) → n < o.
       let q1 : List Chunk = after d r (commands_part o ds d r) q in
       let q2 : List Chunk = expression_part ds 1 e (marks_part o wr.labels q1) in
       let i = index_reader sc (expression_part ds 1 j) j (depth 1 j) (operators j) (reads o.names ds scalar_found array_found j h.2).whole s.1
-          (spaced AssignSign q2) s.3 in
+      (spaced AssignSign q2) s.3 in
       let a = i.says in
       let x = (reads o.names ds scalar_found array_found e h.3).whole a.1 (marks_part o wr.labels q1) a.3 in
       let y = marks_reader wr.labels h.0 x.rest q1 x.says in
@@ -262,9 +268,9 @@ module _ (o : Order) (ds : List Declaration) (label_found : (n : ℕ) → n < o.
           read = Put (record { pos = s.0; labels = wr.labels }) v n j e R.is.read;
           plan = ap (λ z. assigned sc (written sc s.0 y.tree) w z (whole_value sc x.tree) (plan_more sc k R.tree)) i.is.value
               ∙ put_same (written sc s.0 y.tree) (record { pos = s.0; labels = wr.labels }) _ _ _ _ _ _ _ _ _ _
-                  (ap (λ x. record { pos = s.0; labels = x }) y.is.value)
+              (ap (λ x. record { pos = s.0; labels = x }) y.is.value)
               (ap (λ (z : Option (ℕ × ℕ)). (or_else {A = ℕ × ℕ} (0, 0) z).0) (array_found v n h.1))
-                  (ap (λ (z : Option (ℕ × ℕ)). (or_else {A = ℕ × ℕ} (0, 0) z).1) (array_found v n h.1)) refl x.is.value R.is.plan;
+              (ap (λ (z : Option (ℕ × ℕ)). (or_else {A = ℕ × ℕ} (0, 0) z).1) (array_found v n h.1)) refl x.is.value R.is.plan;
           same = put_same wr.labels wr.labels v v n n j j e e _ _ refl refl refl refl refl R.is.same;
           within = ((index_within d j i.tree m.0 i.is, within d e x.tree m.1 x.is), R.is.within);
           calm = quiet R.is.calm (quiet y.is.calm

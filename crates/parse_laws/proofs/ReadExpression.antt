@@ -178,22 +178,40 @@ module _ (sc : Scope) where
         let a = f ws q s in
         let h = a.is.deep in
         let k = a.is.size in
-        record { tree = term_of a.tree no_factor; rest = a.rest; are = a.are; says = a.says; is =
-            record { value = a.is.value; deep = omega (arith, h); size = omega (arith, k); calm = a.is.calm } }
+        record {
+          tree = term_of a.tree no_factor;
+          rest = a.rest;
+          are = a.are;
+          says = a.says;
+          is =
+              record { value = a.is.value; deep = omega (arith, h); size = omega (arith, k); calm = a.is.calm };
+        }
 
     sum_by : Reader front_term (IsTerm e d n) part → Reader front_sum (IsSum e d n) part
     sum_by f ws q s =
         let a = f ws q s in
         let h = a.is.deep in
         let k = a.is.size in
-        record { tree = sum_of a.tree no_addend; rest = a.rest; are = a.are; says = a.says; is =
-            record { value = a.is.value; deep = omega (arith, h); size = omega (arith, k); calm = a.is.calm } }
+        record {
+          tree = sum_of a.tree no_addend;
+          rest = a.rest;
+          are = a.are;
+          says = a.says;
+          is =
+              record { value = a.is.value; deep = omega (arith, h); size = omega (arith, k); calm = a.is.calm };
+        }
 
     whole_by : Reader front_sum (IsSum e d n) part → Reader front_whole (IsWhole e d n) part
     whole_by f ws q s =
         let a = f ws q s in
-        record { tree = plain a.tree; rest = a.rest; are = a.are; says = a.says; is =
-            record { value = a.is.value; deep = a.is.deep; size = a.is.size; calm = a.is.calm } }
+        record {
+          tree = plain a.tree;
+          rest = a.rest;
+          are = a.are;
+          says = a.says;
+          is =
+              record { value = a.is.value; deep = a.is.deep; size = a.is.size; calm = a.is.calm };
+        }
 
     -- in parentheses
     paren : Reader front_whole (IsWhole e d n) part → Reader front_atom (IsAtom e (1 + d) n) (in_round true part)
@@ -335,79 +353,134 @@ module _ (sc : Scope) where
           let t = product times in
           let u = sum_by (factor_part times) (Binary Mul l r) (max (depth 3 l) (depth 4 r)) size t in
           let w = whole_by (factor_part times) (Binary Mul l r) (max (depth 3 l) (depth 4 r)) size u in
-          record { atom = paren (factor_part times) (Binary Mul l r) (max (depth 3 l) (depth 4 r)) size w; term =
-              no_deeper front_term (λ k. IsTerm (Binary Mul l r) k size) (factor_part times) (max (depth 3 l) (depth 4 r)) t; sum =
-              no_deeper front_sum (λ k. IsSum (Binary Mul l r) k size) (factor_part times) (max (depth 3 l) (depth 4 r)) u; whole =
-              no_deeper front_whole (λ k. IsWhole (Binary Mul l r) k size) (factor_part times) (max (depth 3 l) (depth 4 r)) w }
+          record {
+            atom = paren (factor_part times) (Binary Mul l r) (max (depth 3 l) (depth 4 r)) size w;
+            term =
+                no_deeper front_term (λ k. IsTerm (Binary Mul l r) k size) (factor_part times) (max (depth 3 l) (depth 4 r)) t;
+            sum =
+                no_deeper front_sum (λ k. IsSum (Binary Mul l r) k size) (factor_part times) (max (depth 3 l) (depth 4 r)) u;
+            whole =
+                no_deeper front_whole (λ k. IsWhole (Binary Mul l r) k size) (factor_part times) (max (depth 3 l) (depth 4 r)) w;
+          }
       joined Div =
           let t = product over in
           let u = sum_by (factor_part over) (Binary Div l r) (max (depth 3 l) (depth 4 r)) size t in
           let w = whole_by (factor_part over) (Binary Div l r) (max (depth 3 l) (depth 4 r)) size u in
-          record { atom = paren (factor_part over) (Binary Div l r) (max (depth 3 l) (depth 4 r)) size w; term =
-              no_deeper front_term (λ k. IsTerm (Binary Div l r) k size) (factor_part over) (max (depth 3 l) (depth 4 r)) t; sum =
-              no_deeper front_sum (λ k. IsSum (Binary Div l r) k size) (factor_part over) (max (depth 3 l) (depth 4 r)) u; whole =
-              no_deeper front_whole (λ k. IsWhole (Binary Div l r) k size) (factor_part over) (max (depth 3 l) (depth 4 r)) w }
+          record {
+            atom = paren (factor_part over) (Binary Div l r) (max (depth 3 l) (depth 4 r)) size w;
+            term =
+                no_deeper front_term (λ k. IsTerm (Binary Div l r) k size) (factor_part over) (max (depth 3 l) (depth 4 r)) t;
+            sum =
+                no_deeper front_sum (λ k. IsSum (Binary Div l r) k size) (factor_part over) (max (depth 3 l) (depth 4 r)) u;
+            whole =
+                no_deeper front_whole (λ k. IsWhole (Binary Div l r) k size) (factor_part over) (max (depth 3 l) (depth 4 r)) w;
+          }
       joined Rem =
           let t = product modulo in
           let u = sum_by (factor_part modulo) (Binary Rem l r) (max (depth 3 l) (depth 4 r)) size t in
           let w = whole_by (factor_part modulo) (Binary Rem l r) (max (depth 3 l) (depth 4 r)) size u in
-          record { atom = paren (factor_part modulo) (Binary Rem l r) (max (depth 3 l) (depth 4 r)) size w; term =
-              no_deeper front_term (λ k. IsTerm (Binary Rem l r) k size) (factor_part modulo) (max (depth 3 l) (depth 4 r)) t; sum =
-              no_deeper front_sum (λ k. IsSum (Binary Rem l r) k size) (factor_part modulo) (max (depth 3 l) (depth 4 r)) u; whole =
-              no_deeper front_whole (λ k. IsWhole (Binary Rem l r) k size) (factor_part modulo) (max (depth 3 l) (depth 4 r)) w }
+          record {
+            atom = paren (factor_part modulo) (Binary Rem l r) (max (depth 3 l) (depth 4 r)) size w;
+            term =
+                no_deeper front_term (λ k. IsTerm (Binary Rem l r) k size) (factor_part modulo) (max (depth 3 l) (depth 4 r)) t;
+            sum =
+                no_deeper front_sum (λ k. IsSum (Binary Rem l r) k size) (factor_part modulo) (max (depth 3 l) (depth 4 r)) u;
+            whole =
+                no_deeper front_whole (λ k. IsWhole (Binary Rem l r) k size) (factor_part modulo) (max (depth 3 l) (depth 4 r)) w;
+          }
       joined Add =
           let u = total plus in
           let w = whole_by (addend_part plus) (Binary Add l r) (max (depth 2 l) (depth 3 r)) size u in
           let t = paren (addend_part plus) (Binary Add l r) (max (depth 2 l) (depth 3 r)) size w in
-          record { atom = t; term = term_by (in_round true (addend_part plus)) (Binary Add l r) (1 + max (depth 2 l) (depth 3 r)) size t; sum =
-              no_deeper front_sum (λ k. IsSum (Binary Add l r) k size) (addend_part plus) (max (depth 2 l) (depth 3 r)) u; whole =
-              no_deeper front_whole (λ k. IsWhole (Binary Add l r) k size) (addend_part plus) (max (depth 2 l) (depth 3 r)) w }
+          record {
+            atom = t;
+            term = term_by (in_round true (addend_part plus)) (Binary Add l r) (1 + max (depth 2 l) (depth 3 r)) size t;
+            sum =
+                no_deeper front_sum (λ k. IsSum (Binary Add l r) k size) (addend_part plus) (max (depth 2 l) (depth 3 r)) u;
+            whole =
+                no_deeper front_whole (λ k. IsWhole (Binary Add l r) k size) (addend_part plus) (max (depth 2 l) (depth 3 r)) w;
+          }
       joined Sub =
           let u = total minus in
           let w = whole_by (addend_part minus) (Binary Sub l r) (max (depth 2 l) (depth 3 r)) size u in
           let t = paren (addend_part minus) (Binary Sub l r) (max (depth 2 l) (depth 3 r)) size w in
-          record { atom = t; term = term_by (in_round true (addend_part minus)) (Binary Sub l r) (1 + max (depth 2 l) (depth 3 r)) size t; sum =
-              no_deeper front_sum (λ k. IsSum (Binary Sub l r) k size) (addend_part minus) (max (depth 2 l) (depth 3 r)) u; whole =
-              no_deeper front_whole (λ k. IsWhole (Binary Sub l r) k size) (addend_part minus) (max (depth 2 l) (depth 3 r)) w }
+          record {
+            atom = t;
+            term = term_by (in_round true (addend_part minus)) (Binary Sub l r) (1 + max (depth 2 l) (depth 3 r)) size t;
+            sum =
+                no_deeper front_sum (λ k. IsSum (Binary Sub l r) k size) (addend_part minus) (max (depth 2 l) (depth 3 r)) u;
+            whole =
+                no_deeper front_whole (λ k. IsWhole (Binary Sub l r) k size) (addend_part minus) (max (depth 2 l) (depth 3 r)) w;
+          }
       joined Eq =
           let w = test equal in
           let a' = paren (comparison_part equal) (Binary Eq l r) (max (depth 2 l) (depth 2 r)) size w in
           let t = term_by (in_round true (comparison_part equal)) (Binary Eq l r) (1 + max (depth 2 l) (depth 2 r)) size a' in
-          record { atom = a'; term = t; sum = sum_by (in_round true (comparison_part equal)) (Binary Eq l r) (1 + max (depth 2 l) (depth 2 r)) size t; whole =
-              no_deeper front_whole (λ k. IsWhole (Binary Eq l r) k size) (comparison_part equal) (max (depth 2 l) (depth 2 r)) w }
+          record {
+            atom = a';
+            term = t;
+            sum = sum_by (in_round true (comparison_part equal)) (Binary Eq l r) (1 + max (depth 2 l) (depth 2 r)) size t;
+            whole =
+                no_deeper front_whole (λ k. IsWhole (Binary Eq l r) k size) (comparison_part equal) (max (depth 2 l) (depth 2 r)) w;
+          }
       joined Ne =
           let w = test not_equal in
           let a' = paren (comparison_part not_equal) (Binary Ne l r) (max (depth 2 l) (depth 2 r)) size w in
           let t = term_by (in_round true (comparison_part not_equal)) (Binary Ne l r) (1 + max (depth 2 l) (depth 2 r)) size a' in
-          record { atom = a'; term = t; sum =
-              sum_by (in_round true (comparison_part not_equal)) (Binary Ne l r) (1 + max (depth 2 l) (depth 2 r)) size t; whole =
-              no_deeper front_whole (λ k. IsWhole (Binary Ne l r) k size) (comparison_part not_equal) (max (depth 2 l) (depth 2 r)) w }
+          record {
+            atom = a';
+            term = t;
+            sum =
+                sum_by (in_round true (comparison_part not_equal)) (Binary Ne l r) (1 + max (depth 2 l) (depth 2 r)) size t;
+            whole =
+                no_deeper front_whole (λ k. IsWhole (Binary Ne l r) k size) (comparison_part not_equal) (max (depth 2 l) (depth 2 r)) w;
+          }
       joined Lt =
           let w = test less in
           let a' = paren (comparison_part less) (Binary Lt l r) (max (depth 2 l) (depth 2 r)) size w in
           let t = term_by (in_round true (comparison_part less)) (Binary Lt l r) (1 + max (depth 2 l) (depth 2 r)) size a' in
-          record { atom = a'; term = t; sum = sum_by (in_round true (comparison_part less)) (Binary Lt l r) (1 + max (depth 2 l) (depth 2 r)) size t; whole =
-              no_deeper front_whole (λ k. IsWhole (Binary Lt l r) k size) (comparison_part less) (max (depth 2 l) (depth 2 r)) w }
+          record {
+            atom = a';
+            term = t;
+            sum = sum_by (in_round true (comparison_part less)) (Binary Lt l r) (1 + max (depth 2 l) (depth 2 r)) size t;
+            whole =
+                no_deeper front_whole (λ k. IsWhole (Binary Lt l r) k size) (comparison_part less) (max (depth 2 l) (depth 2 r)) w;
+          }
       joined Le =
           let w = test less_equal in
           let a' = paren (comparison_part less_equal) (Binary Le l r) (max (depth 2 l) (depth 2 r)) size w in
           let t = term_by (in_round true (comparison_part less_equal)) (Binary Le l r) (1 + max (depth 2 l) (depth 2 r)) size a' in
-          record { atom = a'; term = t; sum =
-              sum_by (in_round true (comparison_part less_equal)) (Binary Le l r) (1 + max (depth 2 l) (depth 2 r)) size t; whole =
-              no_deeper front_whole (λ k. IsWhole (Binary Le l r) k size) (comparison_part less_equal) (max (depth 2 l) (depth 2 r)) w }
+          record {
+            atom = a';
+            term = t;
+            sum =
+                sum_by (in_round true (comparison_part less_equal)) (Binary Le l r) (1 + max (depth 2 l) (depth 2 r)) size t;
+            whole =
+                no_deeper front_whole (λ k. IsWhole (Binary Le l r) k size) (comparison_part less_equal) (max (depth 2 l) (depth 2 r)) w;
+          }
       joined Gt =
           let w = test greater in
           let a' = paren (comparison_part greater) (Binary Gt l r) (max (depth 2 l) (depth 2 r)) size w in
           let t = term_by (in_round true (comparison_part greater)) (Binary Gt l r) (1 + max (depth 2 l) (depth 2 r)) size a' in
-          record { atom = a'; term = t; sum = sum_by (in_round true (comparison_part greater)) (Binary Gt l r) (1 + max (depth 2 l) (depth 2 r)) size t; whole =
-              no_deeper front_whole (λ k. IsWhole (Binary Gt l r) k size) (comparison_part greater) (max (depth 2 l) (depth 2 r)) w }
+          record {
+            atom = a';
+            term = t;
+            sum = sum_by (in_round true (comparison_part greater)) (Binary Gt l r) (1 + max (depth 2 l) (depth 2 r)) size t;
+            whole =
+                no_deeper front_whole (λ k. IsWhole (Binary Gt l r) k size) (comparison_part greater) (max (depth 2 l) (depth 2 r)) w;
+          }
       joined Ge =
           let w = test greater_equal in
           let a' = paren (comparison_part greater_equal) (Binary Ge l r) (max (depth 2 l) (depth 2 r)) size w in
           let t = term_by (in_round true (comparison_part greater_equal)) (Binary Ge l r) (1 + max (depth 2 l) (depth 2 r)) size a' in
-          record { atom = a'; term = t; sum =
-              sum_by (in_round true (comparison_part greater_equal)) (Binary Ge l r) (1 + max (depth 2 l) (depth 2 r)) size t; whole =
-              no_deeper front_whole (λ k. IsWhole (Binary Ge l r) k size) (comparison_part greater_equal) (max (depth 2 l) (depth 2 r)) w }
+          record {
+            atom = a';
+            term = t;
+            sum =
+                sum_by (in_round true (comparison_part greater_equal)) (Binary Ge l r) (1 + max (depth 2 l) (depth 2 r)) size t;
+            whole =
+                no_deeper front_whole (λ k. IsWhole (Binary Ge l r) k size) (comparison_part greater_equal) (max (depth 2 l) (depth 2 r)) w;
+          }
 
     -- what is an atom can be read wherever an expression may stand
     module _ (part : Part) (e : Expression) (d : ℕ) where
@@ -420,8 +493,14 @@ module _ (sc : Scope) where
 
     number_reader : (n : ℤ) → Reader front_atom (IsAtom (Number n) 0 0) (expression_part ds 4 (Number n))
     number_reader n ws q s =
-        record { tree = number_atom n s.0; rest = s.1; are = s.2; says = s.3; is =
-            record { value = refl; deep = omega arith; size = omega arith; calm = λ u. refl } }
+        record {
+          tree = number_atom n s.0;
+          rest = s.1;
+          are = s.2;
+          says = s.3;
+          is =
+              record { value = refl; deep = omega arith; size = omega arith; calm = λ u. refl };
+        }
 
 module _ (labels : List (List ℕ)) (ds : List Declaration) (scalar_found : (x : ℕ) → IsScalar ds x
     → find_scalar ds (cell_at ds x).name ≡ Some x) (array_found : (f n : ℕ) → IsDeclaredArray ds f n → find_array ds (cell_at ds f).name ≡ Some (f, n)) where
@@ -431,12 +510,12 @@ module _ (labels : List (List ℕ)) (ds : List Declaration) (scalar_found : (x :
   pub scalar_calm : (x : ℕ) → IsScalar ds x → (p : Pos) (u : Option ParseFault) → kept u (scalar_fault ds (cell_at ds x).name p) ≡ u
   scalar_calm x h p u =
       ap (λ z. kept u (cond (is_some z) None (Some (cond (is_some (find_array ds (cell_at ds x).name)) (Misuse p) (Unknown p))))) (scalar_found x h)
-          ∙ kept_none u
+      ∙ kept_none u
 
   pub array_calm : (f n : ℕ) → IsDeclaredArray ds f n → (p : Pos) (u : Option ParseFault) → kept u (array_fault ds (cell_at ds f).name p) ≡ u
   array_calm f n h p u =
       ap (λ z. kept u (cond (is_some z) None (Some (cond (is_some (find_scalar ds (cell_at ds f).name)) (Misuse p) (Unknown p))))) (array_found f n h)
-          ∙ kept_none u
+      ∙ kept_none u
 
   variable_reader : (x : ℕ) → IsScalar ds x → Reader front_atom (IsAtom sc (Variable x) 0 0) (expression_part ds 4 (Variable x))
   variable_reader x h ws q s =

@@ -43,9 +43,12 @@ says_told t (line ∷ q) ts p e = says_told t q ts p e
 says_told t (token w ∷ q) [] p e = absurd (cc)
 says_told t (token w ∷ q) (x ∷ ts) p e =
     let here : (x.kind, token_bytes t x) ≡ (word_kind w, word_text w) = ap (λ l. first l (word_kind w, word_text w)) e in
-    let said : symbol_of x.kind (token_bytes t x) ≡ word w = ap (λ (y : Said). symbol_of y.0 y.1) here ∙ told_word w in
-    (x.pos, told t (ts ++ end_token p ∷ []), ap (λ s. record { symbol = s; pos = x.pos } ∷ told t (ts ++ end_token p ∷ [])) said,
-        says_told t q ts p (ap others e))
+    let said : symbol_of x.kind (token_bytes t x) ≡ word w = ap (λ (y : Said). symbol_of y.0 y.1) here ∙ told_word w in (
+      x.pos,
+      told t (ts ++ end_token p ∷ []),
+      ap (λ s. record { symbol = s; pos = x.pos } ∷ told t (ts ++ end_token p ∷ [])) said,
+      says_told t q ts p (ap others e),
+    )
 
 -- the tokens of the text of such chunks say them
 pub record AreSaid (q : List Chunk) : Type 0 where

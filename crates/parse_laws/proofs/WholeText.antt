@@ -141,7 +141,7 @@ module _ (s : Syntax) (v : IsValid s) where
   apart =
       chunks_apart o label_name ds scalar_is_name array_is_name (every IsLabelName IsName lexed_name o.names v.order.names) ps pairs_below
       (writable o.size ds (both (λ (d : Declaration). IsName d.0) (λ (d : Declaration). IsBelow o.size d.1.label) ds declared_names labels_below)
-          v.few.elements) (plan_of s) v.known v.some
+      v.few.elements) (plan_of s) v.known v.some
 
   pub reads_back : ReadsBack (canonical s) s
   reads_back =
@@ -150,7 +150,7 @@ module _ (s : Syntax) (v : IsValid s) where
       let q1 : List Chunk = commands_part o ds 0 (plan_of s) (line ∷ []) in
       let H = header_reader o label_found some_name v.order.differ ps pairs_below (told (canonical s) t.tokens) (declarations_part o ds q1) t.says in
       let fresh = are_new o.size [] ds v.differ (both (λ (d : Declaration). IsBelow o.size d.1.label) (λ (d : Declaration). IsShaped d.1.label d.1.length) ds
-          labels_below shapes) (omega (arith, v.few.elements)) in
+      labels_below shapes) (omega (arith, v.few.elements)) in
       let D = declarations_reader o label_found [] ds fresh H.rest q1 H.says in
       let C = (plan_reads o ds label_found scalar_found array_found (plan_of s) 0 0 v.known v.numbered v.small).first v.some D.rest (line ∷ []) D.says in
       let e = C.says in
@@ -172,7 +172,7 @@ module _ (s : Syntax) (v : IsValid s) where
             declarations = sym (ap (λ (l : Labelled). (declared_by l.names D.tree).list) H.is.labels ∙ ap (λ (x : Declared). x.list) D.is);
             body =
                 ap (λ (l : Labelled). note_commands (scope l.names (declared_by l.names D.tree).list) cs
-                    (kept (declared_by l.names D.tree).fault (many_fault (declared_by l.names D.tree).list))) H.is.labels
+                (kept (declared_by l.names D.tree).fault (many_fault (declared_by l.names D.tree).list))) H.is.labels
                 ∙ ap (λ (x : Declared). note_commands (scope o.names x.list) cs (kept x.fault (many_fault x.list))) D.is
                 ∙ ap (note_commands (scope o.names ds) cs) (not_many ds v.few.count)
                 ∙ C.is.calm None;

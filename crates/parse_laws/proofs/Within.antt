@@ -55,9 +55,11 @@ mutual
       (c, assigned_index i d (sign_at Assign q ∷ front_whole e (front_marks m r)) l h.0 (λ o k. (c, fits_marked e m d r h.1 f)))
   fits_command (sleep_of p e m) d r l h f = (calm d 0 l (omega arith), fits_marked e m d r h f)
   fits_command (if_of p e m q b x) d r l h f =
-      let c = calm d 0 l (omega arith) in
-      (c, fits_marked e m d (key_at Then q ∷ front_block b (front_else x r)) h.0
-          (λ o k. (c, fits_block b d 0 (front_else x r) l h.1 (fits_else x d r l h.2 (f 0 (omega arith))))))
+      let c = calm d 0 l (omega arith) in (
+        c,
+        fits_marked e m d (key_at Then q ∷ front_block b (front_else x r)) h.0
+            (λ o k. (c, fits_block b d 0 (front_else x r) l h.1 (fits_else x d r l h.2 (f 0 (omega arith))))),
+      )
   fits_command (while_of p e m q b) d r l h f =
       let c = calm d 0 l (omega arith) in
       (c, fits_marked e m d (key_at Do q ∷ front_block b r) h.0 (λ o k. (c, fits_block b d 0 r l h.1 (f 0 (omega arith)))))

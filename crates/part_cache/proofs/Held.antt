@@ -69,7 +69,7 @@ pub none_held : (tags : List ℕ) → AreWays tags → (tag : ℕ) → ((k : ℕ
 none_held tags s tag h =
     sym (ap (list_any (eqb tag)) (held_is tags s)
     ∙ any_none tag s.held (λ k lt e. h k (omega (arith, s.few)) (ap (λ t. get_or t k 0) s.are
-        ∙ get_or_append_left s.held (replicate (8 - length s.held) empty_way) 0 k lt ∙ e)))
+    ∙ get_or_append_left s.held (replicate (8 - length s.held) empty_way) 0 k lt ∙ e)))
 
 -- a way has the tag
 pub some_held : (tags : List ℕ) → AreWays tags → (tag k : ℕ) → tag < 2 ^ 32 → k < 8 → get_or tags k 0 ≡ tag → true ≡ list_any (eqb tag) (held_tags tags)

@@ -24,7 +24,7 @@ rows_from_numbers (x ∷ xs) (y ∷ ys) e =
     let rest : x ++ numbers_of xs ≡ y ++ numbers_of ys = cc in
     let first : x ≡ y = sym (take_at x (numbers_of xs) (length x) refl) ∙ ap (take (length x)) rest ∙ take_at y (numbers_of ys) (length x) (sym n) in
     let others : numbers_of xs ≡ numbers_of ys = sym (drop_at x (numbers_of xs) (length x) refl) ∙ ap (drop (length x)) rest
-        ∙ drop_at y (numbers_of ys) (length x) (sym n) in
+    ∙ drop_at y (numbers_of ys) (length x) (sym n) in
     let tails = rows_from_numbers xs ys others in
     cc
 
@@ -56,7 +56,7 @@ module _ (order : Order) (sets ways : ℕ) where
       ap numbers_of
       (map_same (tags_at c label) (held sets ways h label) 0 c.sets
       (λ k below. stands.each label k (subst (λ (o : Order). label < o.size) (sym s.same_order) lt) (omega arith)
-          ∙ ap (λ n. held n c.ways h label k) s.same_sets ∙ ap (λ n. held sets n h label k) s.same_ways)
+      ∙ ap (λ n. held n c.ways h label k) s.same_sets ∙ ap (λ n. held sets n h label k) s.same_ways)
       ∙ ap (λ m. map (held sets ways h label) (range_with_len 0 m)) s.same_sets)
 
   -- the parts of other labels stay
@@ -70,7 +70,7 @@ module _ (order : Order) (sets ways : ℕ) where
       let n : c.sets ≡ d.sets = s.same_sets ∙ sym t.same_sets in
       let o : c.order ≡ d.order = s.same_order ∙ sym t.same_order in
       some_below_same c s.cache c.order.size (λ label. (lattice_of c.order).flows label er && has c tag label)
-          (λ label. (lattice_of d.order).flows label er && has d tag label)
+      (λ label. (lattice_of d.order).flows label er && has d tag label)
       (λ label lt. go n o label (cases_Bool ((lattice_of c.order).flows label er)))
       ∙ ap (λ (o : Order). some_below o.size (λ label. (lattice_of d.order).flows label er && has d tag label)) o
     where
@@ -81,9 +81,9 @@ module _ (order : Order) (sets ways : ℕ) where
           let e : (lattice_of c.order).flows label er ≡ (lattice_of d.order).flows label er = ap (λ (o : Order). (lattice_of o).flows label er) o in
           let flows : Flows (lattice_of order) label er = ap (λ (o : Order). (lattice_of o).flows label er) (sym s.same_order) ∙ f in
           let row : tags_at c label (tag % c.sets) ≡ tags_at d label (tag % c.sets) =
-              rows_same c d label n (agree label flows) (tag % c.sets) (mod_below tag c.sets s.cache.some_set) in
+          rows_same c d label n (agree label flows) (tag % c.sets) (mod_below tag c.sets s.cache.some_set) in
           ap (λ b. b && has c tag label) e
-              ∙ ap (λ b. (lattice_of d.order).flows label er && b) (ap (list_any (eqb tag)) (row ∙ ap (λ m. tags_at d label (tag % m)) n))
+          ∙ ap (λ b. (lattice_of d.order).flows label er && b) (ap (list_any (eqb tag)) (row ∙ ap (λ m. tags_at d label (tag % m)) n))
       go n o label (inr f) =
           let e : (lattice_of c.order).flows label er ≡ (lattice_of d.order).flows label er = ap (λ (o : Order). (lattice_of o).flows label er) o in
           let g : (lattice_of d.order).flows label er ≡ false = sym e ∙ f in
@@ -113,7 +113,7 @@ module _ (order : Order) (sets ways : ℕ) where
       row n w z set h (inl lt) (inl q) =
           let same : tag % c.sets ≡ tag % d.sets = ap (λ m. tag % m) n in
           let old : tags_at c ew (tag % c.sets) ≡ tags_at d ew (tag % d.sets) =
-              rows_same c d ew n e (tag % c.sets) (mod_below tag c.sets s.cache.some_set) ∙ ap (tags_at d ew) same in
+          rows_same c d ew n e (tag % c.sets) (mod_below tag c.sets s.cache.some_set) ∙ ap (tags_at d ew) same in
           ap (tags_at (touched c tag ew) ew) q
           ∙ tags_here c s.cache tag ew lt
           ∙ ap (to_front c.ways tag) old ∙ ap (λ m. to_front m tag (tags_at d ew (tag % d.sets))) w
@@ -125,7 +125,7 @@ module _ (order : Order) (sets ways : ℕ) where
   part_agrees c d tag ew label s t e =
       ⊎_elim
       (λ (q : label ≡ ew). subst (λ l. part_of l c ≡ part_of l d → part_of l (touched c tag ew) ≡ part_of l (touched d tag ew)) (sym q)
-          (part_here c d tag ew s t) e)
+      (part_here c d tag ew s t) e)
       (λ (ne : label ≡ ew → ⊥). part_elsewhere c tag ew label s ne ∙ e ∙ sym (part_elsewhere d tag ew label t ne))
       (cases_eq label ew)
 

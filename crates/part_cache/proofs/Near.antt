@@ -124,12 +124,12 @@ near_by zero (suc ways) (x ∷ xs) h = absurd (omega arith)
 near_by (suc n) (suc ways) (x ∷ xs) h =
     let same : eqb x x ≡ true = eq-eqb x x refl in
     let rest : filter (is_near (suc ways) (x ∷ xs)) (filter (other x) (distinct xs))
-        ≡ filter (is_near ways (filter (other x) xs)) (filter (other x) (distinct xs)) =
+    ≡ filter (is_near ways (filter (other x) xs)) (filter (other x) (distinct xs)) =
     filter_same (is_near (suc ways) (x ∷ xs)) (is_near ways (filter (other x) xs)) (other x)
-        (λ u e. is_near-cons ways x xs u (not-true (eqb x u) e)) (distinct xs) in
+    (λ u e. is_near-cons ways x xs u (not-true (eqb x u) e)) (distinct xs) in
     let ih = near_by n ways (filter (other x) xs) (omega (arith, length-filter_le (other x) xs)) in
     rw (same, lt-ltb 0 (suc ways) (omega arith)) (ap (λ t. x ∷ t) (rest ∙ ap (filter (is_near ways (filter (other x) xs))) (sym (distinct-filter (other x) xs))
-        ∙ ih ∙ ap (take ways) (distinct-filter (other x) xs)))
+    ∙ ih ∙ ap (take ways) (distinct-filter (other x) xs)))
 
 -- the tags that are near are the first of the different ones
 pub near_is : (ways : ℕ) (xs : List ℕ) → filter (is_near ways xs) (distinct xs) ≡ take ways (distinct xs)
@@ -186,7 +186,7 @@ take-filter_other (suc n) x (y ∷ ys) h = go (eqb x y) refl (take-filter_other 
   where
     go : (b : Bool) → eqb x y ≡ b → take n (filter (other x) (take (suc n) ys)) ≡ take n (filter (other x) ys) →
         take (suc n) (cond (not b) (y ∷ filter (other x) (take (suc n) ys)) (filter (other x) (take (suc n) ys)))
-            ≡ take (suc n) (cond (not b) (y ∷ filter (other x) ys) (filter (other x) ys))
+        ≡ take (suc n) (cond (not b) (y ∷ filter (other x) ys) (filter (other x) ys))
     go true e k =
         let a : absent x ys = subst (λ t. absent t ys) (sym (eqb-true x y e)) h.0 in
         rw (filter_absent x (take (suc n) ys) (absent-take x (suc n) ys a), filter_absent x ys a) (twice (suc n) ys)

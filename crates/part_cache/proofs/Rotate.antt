@@ -52,7 +52,7 @@ pub carried_all : (first tags : List ℕ) (tag last way end : ℕ) → Carried f
 carried_all first tags tag last way end c is lt =
     let d : Carried first tags tag last (way + 1) = subst (Carried first tags tag last) is c in
     let front : (tag ∷ take way first) ++ get_or first way 0 ∷ [] ≡ take (way + 1) tags ++ last ∷ [] =
-        ap (λ t. tag ∷ t) (sym (take_more first way 0 lt)) ∙ d.front in
+    ap (λ t. tag ∷ t) (sym (take_more first way 0 lt)) ∙ d.front in
     let heads = same_from_push (tag ∷ take way first) (take (way + 1) tags) (get_or first way 0) last front in
     sym (take-append-drop (way + 1) tags) ∙ ap (λ t. t ++ drop (way + 1) tags) (sym heads.0) ∙ ap (λ t. (tag ∷ take way first) ++ t) d.rest
 
@@ -78,7 +78,7 @@ Apart-take (suc n) (x ∷ xs) a = (absent-take x n xs a.0, Apart-take n xs a.1)
 -- an empty way goes, or the last tag where there is none
 shifted : (xs : List ℕ) (w m : ℕ) → length xs ≤ suc w → suc w ≤ length xs + m →
     take w (xs ++ replicate m empty_way) ++ drop (suc w) (xs ++ replicate m empty_way) ≡ take w xs
-        ++ replicate (length xs + m - suc (length (take w xs))) empty_way
+    ++ replicate (length xs + m - suc (length (take w xs))) empty_way
 shifted [] zero m few fits = drop-replicate 1 m empty_way ∙ ap (λ n. replicate n empty_way) (omega arith)
 shifted [] (suc w) m few fits =
     ap (λ t. t ++ drop (suc (suc w)) (replicate m empty_way)) (take-replicate (suc w) m empty_way (omega arith))

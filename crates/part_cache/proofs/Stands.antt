@@ -24,7 +24,7 @@ tags_in-push sets label set (y ∷ h) x = go (is_at sets label set y) (tags_in-p
   where
     go : (b : Bool) → tags_in sets label set (h ++ x ∷ []) ≡ tags_in sets label set h ++ cond (is_at sets label set x) (x.tag ∷ []) [] →
         cond b (y.tag ∷ tags_in sets label set (h ++ x ∷ [])) (tags_in sets label set (h ++ x ∷ []))
-            ≡ cond b (y.tag ∷ tags_in sets label set h) (tags_in sets label set h) ++ cond (is_at sets label set x) (x.tag ∷ []) []
+        ≡ cond b (y.tag ∷ tags_in sets label set h) (tags_in sets label set h) ++ cond (is_at sets label set x) (x.tag ∷ []) []
     go true e = ap (λ t. y.tag ∷ t) e
     go false e = e
 
@@ -48,7 +48,7 @@ pub held_here : (sets ways : ℕ) (h : List Touched) (label tag : ℕ) → 0 < w
 held_here sets ways h label tag some =
     let x : Touched = record { label = label; tag = tag } in
     let here : is_at sets label (tag % sets) x ≡ true =
-        and_from (eqb label label) (eqb (tag % sets) (tag % sets)) (eq-eqb label label refl) (eq-eqb (tag % sets) (tag % sets) refl) in
+    and_from (eqb label label) (eqb (tag % sets) (tag % sets)) (eq-eqb label label refl) (eq-eqb (tag % sets) (tag % sets) refl) in
     held_is sets ways (h ++ x ∷ []) label (tag % sets)
     ∙ ap (λ b. take ways (distinct b)) (back_here sets label (tag % sets) h x here)
     ∙ front_is ways tag (reverse (tags_in sets label (tag % sets) h)) some
@@ -122,13 +122,13 @@ module _ (c : Rows) (good : IsCache c) where
           subst (λ l. tags_at (touched c tag ew) l set ≡ held c.sets c.ways (h ++ record { label = ew; tag = tag } ∷ []) l set) same_label
           (subst (λ s. tags_at (touched c tag ew) ew s ≡ held c.sets c.ways (h ++ record { label = ew; tag = tag } ∷ []) ew s) same_set
           (tags_here tag ew in_range ∙ ap (to_front c.ways tag) (stands.each ew (tag % c.sets) in_range (set_below tag))
-              ∙ sym (held_here c.sets c.ways h ew tag good.some_way)))
+          ∙ sym (held_here c.sets c.ways h ew tag good.some_way)))
       go label set lb sb (inr e) =
           let apart : (label ≡ ew) × (set ≡ tag % c.sets) → ⊥ =
-              λ p. both_ways (is_at c.sets label set (record { label = ew; tag = tag })) e
-              (and_from (eqb ew label) (eqb (tag % c.sets) set) (eq-eqb ew label (sym p.0)) (eq-eqb (tag % c.sets) set (sym p.1))) in
+          λ p. both_ways (is_at c.sets label set (record { label = ew; tag = tag })) e
+          (and_from (eqb ew label) (eqb (tag % c.sets) set) (eq-eqb ew label (sym p.0)) (eq-eqb (tag % c.sets) set (sym p.1))) in
           tags_elsewhere tag ew label set sb apart ∙ stands.each label set lb sb
-              ∙ sym (held_elsewhere c.sets c.ways h (record { label = ew; tag = tag }) label set e)
+          ∙ sym (held_elsewhere c.sets c.ways h (record { label = ew; tag = tag }) label set e)
 
   pub some_below_same : (n : ℕ) (p q : ℕ → Bool) → ((k : ℕ) → k < n → p k ≡ q k) → some_below n p ≡ some_below n q
   some_below_same zero p q h = refl

@@ -30,8 +30,8 @@ touches_at-push p (y ∷ h) x = go (is_place p y.place) (touches_at-push p h x)
   where
     go : (b : Bool) → touches_at p (h ++ x ∷ []) ≡ touches_at p h ++ cond (is_place p x.place) (record { label = x.label; tag = x.tag } ∷ []) [] →
         cond b (record { label = y.label; tag = y.tag } ∷ touches_at p (h ++ x ∷ [])) (touches_at p (h ++ x ∷ []))
-            ≡ cond b (record { label = y.label; tag = y.tag } ∷ touches_at p h) (touches_at p h)
-            ++ cond (is_place p x.place) (record { label = x.label; tag = x.tag } ∷ []) []
+        ≡ cond b (record { label = y.label; tag = y.tag } ∷ touches_at p h) (touches_at p h)
+        ++ cond (is_place p x.place) (record { label = x.label; tag = x.tag } ∷ []) []
     go true e = ap (λ t. record { label = y.label; tag = y.tag } ∷ t) e
     go false e = e
 
@@ -57,12 +57,12 @@ module _ {E : Type 0} (structure : Place → Option (E → Rows)) (touched_at : 
       moved p at c d (touches same t) =
           subst (λ v. StandsFor v (touches_at p (h ++ x ∷ []))) (sym (t tag ew e))
           (subst (StandsFor (touched (at e) tag ew))
-              (sym (touches_at-push p h x ∙ ap (λ b. touches_at p h ++ cond b (record { label = ew; tag = tag } ∷ []) []) same))
+          (sym (touches_at-push p h x ∙ ap (λ b. touches_at p h ++ cond b (record { label = ew; tag = tag } ∷ []) []) same))
           (StandsFor-touched (at e) c.cache tag ew (touches_at p h) (subst (λ (o : Order). ew < o.size) (sym c.same_order) in_range) d))
       moved p at c d (leaves apart t) =
           subst (λ v. StandsFor v (touches_at p (h ++ x ∷ []))) (sym (t tag ew e))
           (subst (StandsFor (at e)) (sym (touches_at-push p h x ∙ ap (λ b. touches_at p h ++ cond b (record { label = ew; tag = tag } ∷ []) []) apart
-              ∙ append-nil (touches_at p h))) d)
+          ∙ append-nil (touches_at p h))) d)
 
       go : (p : Place) (o : Option (E → Rows)) → IfSome o (λ at. IsCacheOf order (sets_at p) (ways_at p) (at e))
           → IfSome o (λ at. StandsFor (at e) (touches_at p h)) → IfSome o (Moves touched_at p q)
@@ -84,7 +84,7 @@ module _ {E : Type 0} (structure : Place → Option (E → Rows)) (touched_at : 
       let next : E = touched_at t.place (tag_at t.place t.address) t.label.number e in
       subst (StandsForAll structure (warmed touched_at next ts)) (append_assoc h (x ∷ []) (history_of ts))
       (warmed_stands next ts (h ++ x ∷ []) (touch_serves structure touched_at moves order t.place (tag_at t.place t.address) t.label.number e s)
-          (All-tail (λ t. t.label.number < order.size) t ts all)
+      (All-tail (λ t. t.label.number < order.size) t ts all)
       (touch_stands t.place (tag_at t.place t.address) t.label.number e h s (All-head (λ t. t.label.number < order.size) t ts all) stands))
 
 -- one touch of the list
@@ -93,7 +93,7 @@ pub warm_step : {E : Type 0} (touched_at : Place → ℕ → ℕ → E → E) (e
     warmed touched_at e (drop i ts) ≡ w → warmed touched_at e' (drop (i + 1) ts) ≡ w
 warm_step touched_at e e' w ts i d tag h t s r =
     ap (λ x. warmed touched_at x (drop (i + 1) ts)) (s ∙ ap (λ n. touched_at (get_or ts i d).place n (get_or ts i d).label.number e) t)
-        ∙ ap (warmed touched_at e) (sym (drop_more ts i d h)) ∙ r
+    ∙ ap (warmed touched_at e) (sym (drop_more ts i d h)) ∙ r
 
 -- ---- look-ups
 pub found_hits : (order : Order) (sets ways : ℕ) (c : Rows) (tag er : ℕ) (h : List Touched) → IsCacheOf order sets ways c → StandsFor c h
@@ -118,7 +118,7 @@ pub part_penalty_is : (order : Order) (k : Kind) (a er ew : ℕ) (e : PartEnv) (
     → StandsForAll part_structure e h → part_penalty k a er ew e ≡ part_cost order k a er ew h
 part_penalty_is order k a er ew e h s stands =
     ap (λ b. cond b 0 20 + cond (found (line_cache k e) (a / 32) er) 0 (line_cost k))
-        (found_hits order 1 4 e.buffer (a / 1024) er (touches_at Page h) (s.each Page) (stands.each Page))
+    (found_hits order 1 4 e.buffer (a / 1024) er (touches_at Page h) (s.each Page) (stands.each Page))
     ∙ ap (λ b. cond (hits_at order Page h er a) 0 20 + cond b 0 (line_cost k)) (line_found order k a er ew e h s stands)
 
 tag_of_line : (k : Kind) (a : ℕ) → tag_at (line_place k) a ≡ a / 32
@@ -131,7 +131,7 @@ part_after_stands order k a er ew e h s in_range stands =
     let paged : PartEnv = part_touched Page (a / 1024) ew e in
     subst (λ tag. StandsForAll part_structure (part_touched (line_place k) tag ew paged) (part_history k a ew h)) (tag_of_line k a)
     (touch_stands part_structure part_touched part_moves order (line_place k) (tag_at (line_place k) a) ew paged (touch_at Page a ew h)
-        (touch_serves part_structure part_touched part_moves order Page (a / 1024) ew e s) in_range
+    (touch_serves part_structure part_touched part_moves order Page (a / 1024) ew e s) in_range
     (touch_stands part_structure part_touched part_moves order Page (a / 1024) ew e h s in_range stands))
 
 -- ---- two levels
@@ -167,7 +167,7 @@ part2_after_stands order k a er ew e h s in_range stands =
     let lined : Part2Env = part2_touched (line_place k) (a / 32) ew paged in
     let paged_serves : IsMadeFor part2_structure order paged = touch_serves part2_structure part2_touched part2_moves order Page (a / 1024) ew e s in
     touch_stands part2_structure part2_touched part2_moves order Second (a / 32) ew lined (part_history k a ew h)
-        (touch_serves part2_structure part2_touched part2_moves order (line_place k) (a / 32) ew paged paged_serves) in_range
+    (touch_serves part2_structure part2_touched part2_moves order (line_place k) (a / 32) ew paged paged_serves) in_range
     (subst (λ tag. StandsForAll part2_structure (part2_touched (line_place k) tag ew paged) (part_history k a ew h)) (tag_of_line k a)
     (touch_stands part2_structure part2_touched part2_moves order (line_place k) (tag_at (line_place k) a) ew paged (touch_at Page a ew h) paged_serves in_range
     (touch_stands part2_structure part2_touched part2_moves order Page (a / 1024) ew e h s in_range stands)))

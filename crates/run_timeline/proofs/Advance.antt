@@ -23,7 +23,7 @@ use Rattle.run_timeline.specs.Steps.{Tells, Stepped}
 module _ {E : Type 0} (v : Env E) (serves : Order → E → Type 0) (c : Code) (i : Instr) (old new : State E) (limit : ℕ) where
   told_is : slice_get c.instrs old.place ≡ Some i → (n : ℕ) → (step v c.instrs (seen old)).core.clock ≡ n →
       told v c.instrs (seen old) ≡ telling i.work (reverse old.operands.items) (map opened_of (reverse old.opened.items))
-          (fetched v (marks_of i) old.place (core_of old)) n
+      (fetched v (marks_of i) old.place (core_of old)) n
   told_is e n q = ap (λ o. told_at v o (seen old) (step v c.instrs (seen old)).core.clock) e ∙ ap (told_at v (Some i) (seen old)) q
 
   pub stepped : (d : Step) → Stands serves c old → slice_get c.instrs old.place ≡ Some i → Tells v old i limit d new → Keeps serves old new

@@ -67,7 +67,7 @@ module _ {E : Type 0} (v : Env E) (code : List Instr) (limit : ℕ) (from : Star
       (run_from v code limit from ≡ with_log (map event_of ms) (seen s)) × IsTimeline v code limit from ms
   late_is ms s r late =
       let run : run_from v code limit from ≡ with_log (map event_of ms) (seen s) =
-          limit_is v code limit from.memory from.env (map event_of ms) s (reached ms s r) late in
+      limit_is v code limit from.memory from.env (map event_of ms) s (reached ms s r) late in
       (run, record { count = r.count; ends = r.ends ∙ sym run; tells = r.tells })
 
   -- and after HALT
@@ -78,10 +78,10 @@ module _ {E : Type 0} (v : Env E) (code : List Instr) (limit : ℕ) (from : Star
       let y : Machine E = record (seen new) { halted = true } in
       let empty : with_log (map event_of ms ++ []) y ≡ with_log (map event_of ms) y = none_after (map event_of ms) y in
       let quiet : Quiet v code [] limit old old =
-          record { count = 0; hidden = []; unseen = All-nil (IsHidden []); ends = refl; within = inl refl; later = omega arith } in
+      record { count = 0; hidden = []; unseen = All-nil (IsHidden []); ends = refl; within = inl refl; later = omega arith } in
       let comes : Comes v code [] limit old new y = record { mid = old; quiet = quiet; next = e; within = w; later = l } in
       let run : run_from v code limit from ≡ record (with_log (map event_of ms) (seen new)) { halted = true } =
-          halt_is v code [] limit from.memory from.env (map event_of ms) old new (reached ms old r) comes ∙ empty in
+      halt_is v code [] limit from.memory from.env (map event_of ms) old new (reached ms old r) comes ∙ empty in
       let ends : steps v code (suc r.count) (start from.memory from.env) ≡ record (with_log (map event_of ms) (seen new)) { halted = true } =
       ends_next ms old y r e ∙ empty in
       (run, record { count = suc r.count; ends = ends ∙ sym run; tells = sym (append-nil ms) ∙ tells_next ms [] old r t })

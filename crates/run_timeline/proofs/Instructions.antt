@@ -54,7 +54,7 @@ module _ {E : Type 0} (v : Env E) (old new : State E) (level : Label) (mark : �
       Tells v old (begin_instr level mark er ew) limit (Told (Begins mark' n predicts misses new.clock)) new
   begin_tells mark' n predicts misses t last predicted count =
       let log : (Began mark (old.clock + (1 + v.cost_of Code (4 * old.place) er.number ew.number old.env)) ∷ []) ≡ (Began mark' new.clock ∷ []) =
-          ap (λ m. m.core.log) t.0 in
+      ap (λ m. m.core.log) t.0 in
       let same : mark ≡ mark' = cc in
       let estimate : first (reverse old.operands.items) ≡ n = last_first old.operands.items n last in
       let missed : counts old.misses level.number ≡ misses = ap (λ m. m.core.misses level.number) t.0 ∙ sym count in
@@ -63,7 +63,7 @@ module _ {E : Type 0} (v : Env E) (old new : State E) (level : Label) (mark : �
         clock = refl;
         tells =
             ap (λ z. Begins z (first (reverse old.operands.items)) (prediction (first (reverse old.operands.items)) (counts old.misses level.number))
-                (counts old.misses level.number) new.clock ∷ []) same
+            (counts old.misses level.number) new.clock ∷ []) same
             ∙ (ap (λ z. Begins mark' z (prediction z (counts old.misses level.number)) (counts old.misses level.number) new.clock ∷ []) estimate
             ∙ (ap (λ z. Begins mark' n (prediction n z) z new.clock ∷ []) missed
             ∙ ap (λ z. Begins mark' n z misses new.clock ∷ []) (sym predicted)));
@@ -77,13 +77,13 @@ pub end_tells : {E : Type 0} (v : Env E) (old : State E) (er ew : Label) (os : L
     old.opened.items ≡ os ++ o ∷ [] → worked ≡ old.clock + (1 + v.cost_of Code (4 * old.place) er.number ew.number old.env) - o.since →
     before ≡ counts old.misses o.level.number → after ≡ misses_after o.estimate worked before → lasts ≡ prediction o.estimate after → cycle ≡ o.since + lasts →
     ending (map opened_of (reverse old.opened.items)) (fetched v (marks_of (end_instr er ew)) old.place (core_of old))
-        ≡ Ends o.mark worked lasts before after cycle ∷ []
+    ≡ Ends o.mark worked lasts before after cycle ∷ []
 end_tells {E} v old er ew os o worked before after lasts cycle is w b a l c =
     let s : Core E = fetched v (marks_of (end_instr er ew)) old.place (core_of old) in
     let last : map opened_of (reverse old.opened.items) ≡ opened_of o ∷ map opened_of (reverse os) =
-        ap (λ z. map opened_of (reverse z)) is ∙ last_opened os o in
+    ap (λ z. map opened_of (reverse z)) is ∙ last_opened os o in
     let whole : ℕ → ℕ → List Moment = λ x y. let z = misses_after o.estimate x y in
-        Ends o.mark x (prediction o.estimate z) y z (o.since + prediction o.estimate z) ∷ [] in
+    Ends o.mark x (prediction o.estimate z) y z (o.since + prediction o.estimate z) ∷ [] in
     ap (λ z. ending z s) last
     ∙ (ap (λ x. whole x (counts old.misses o.level.number)) (sym w)
     ∙ (ap (whole worked) (sym b)

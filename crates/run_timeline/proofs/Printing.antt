@@ -45,7 +45,7 @@ prefix_then a b c xs ys zs all p q e =
     let k : ℕ = q.0 in
     let short : k ≤ length ys = q.1 in
     let whole : length all ≡ length xs + (length ys + length zs) =
-        ap length (sym e) ∙ (length-append xs (ys ++ zs) ∙ ap (λ n. length xs + n) (length-append ys zs)) in
+    ap length (sym e) ∙ (length-append xs (ys ++ zs) ∙ ap (λ n. length xs + n) (length-append ys zs)) in
     let taken : xs ++ take k ys ≡ take (length xs + k) all =
     ap (λ z. xs ++ z) (sym (take-append-le k ys zs short)) ∙ sym (take-append-add xs (ys ++ zs) k) ∙ ap (take (length xs + k)) e in
     (length xs + k, omega (arith, whole, short), subst (Appends a c) taken (Appends-trans a b c xs (take k ys) p q.2))
@@ -105,7 +105,7 @@ module _ {E : Type 0} (v : Env E) (code : List Instr) (limit : ℕ) (from : Star
   pub told_printing : (s s' : State E) (m : Moment) (a b c : Option (List ℕ)) (old now now' : List Tally) → Printing v code limit from p o s a b old now
       → step v code (seen s) ≡ with_log (event_of m ∷ []) (seen s') →
       told v code (seen s) ≡ m ∷ [] → s'.clock ≤ limit → s.clock < s'.clock → now' ≡ noted_moment now m
-          → Appends b c (moment_text p (places (plan_of p.program)) o m) →
+      → Appends b c (moment_text p (places (plan_of p.program)) o m) →
       Printing v code limit from p o s' a c old now'
   told_printing s s' m a b c old now now' r e t w l n q = record {
     moments = r.moments ++ m ∷ [];
@@ -123,7 +123,7 @@ module _ {E : Type 0} (v : Env E) (code : List Instr) (limit : ℕ) (from : Star
   completes ms s r =
       let x : Machine E = start from.memory from.env in
       let clock : (steps v code r.count x).core.clock ≤ limit =
-          elim (r.within) [ inl z ↦ first_clock z | inr l ↦ subst (λ m. m.core.clock ≤ limit) (sym r.ends) l ] in
+      elim (r.within) [ inl z ↦ first_clock z | inr l ↦ subst (λ m. m.core.clock ≤ limit) (sym r.ends) l ] in
       let c = covers v code r.count limit limit x tt clock (omega arith) in (
         moments v code c.0 (steps v code r.count x),
         record {
@@ -140,7 +140,7 @@ module _ {E : Type 0} (v : Env E) (code : List Instr) (limit : ℕ) (from : Star
   pub part_printed : (s s' : State E) (m : Moment) (a b c : Option (List ℕ)) (old now : List Tally) → Printing v code limit from p o s a b old now
       → step v code (seen s) ≡ with_log (event_of m ∷ []) (seen s') →
       told v code (seen s) ≡ m ∷ [] → s'.clock ≤ limit → AppendsPrefix b c (moment_text p (places (plan_of p.program)) o m)
-          → PrintedPart v code limit from p o a c
+      → PrintedPart v code limit from p o a c
   part_printed s s' m a b c old now r e t w q =
       let more = completes (r.moments ++ m ∷ []) s' (told_followed s s' m r.moments r.followed e t w) in
       let end : List ℕ = last_line (end_of_run v code limit from) in

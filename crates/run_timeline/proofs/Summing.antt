@@ -41,4 +41,4 @@ module _ (ps : List Pos) (ts : List Tally) where
       → AppendsPrefix a c (summary_text ps ts)
   sum_part a b c i t s l e q =
       prefix_then a b c s.text (line ps i t) (summary_from ps (i + 1) (drop (i + 1) ts)) (summary_text ps ts) s.written q
-          (ap (λ z. s.text ++ z) (sym (next_line i t l e)) ∙ s.rest)
+      (ap (λ z. s.text ++ z) (sym (next_line i t l e)) ∙ s.rest)

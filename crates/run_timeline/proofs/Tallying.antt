@@ -64,7 +64,7 @@ tally_noted k ms w d m n c =
 
     parts : (xs : List ℕ) (z : ℕ) →
         tally (length (xs ++ w ∷ [])) (shortest (xs ++ w ∷ [])) (longest (xs ++ w ∷ [])) z
-            ≡ tally (length xs + 1) (cond (eqb (length xs) 0) w (min (shortest xs) w)) (max (longest xs) w) z
+        ≡ tally (length xs + 1) (cond (eqb (length xs) 0) w (min (shortest xs) w)) (max (longest xs) w) z
     parts xs z =
         ap (λ y. tally y (shortest (xs ++ w ∷ [])) (longest (xs ++ w ∷ [])) z) (length_push xs w)
         ∙ (ap (λ y. tally (length xs + 1) y (longest (xs ++ w ∷ [])) z) (shortest_more xs w)
@@ -126,18 +126,18 @@ grown_more a b old ts (Ends j w d m n c) l g = record {
 
     at : (k : ℕ) (e : Tally) → k < length old → (k ≡ j) ⊎ (k ≡ j → ⊥) →
         ((slice_index_or (noted_at ts j w (ltb m n)) k e).ended ≤ (slice_index_or old k e).ended + b)
-            × ((slice_index_or (noted_at ts j w (ltb m n)) k e).missed ≤ (slice_index_or (noted_at ts j w (ltb m n)) k e).ended)
+        × ((slice_index_or (noted_at ts j w (ltb m n)) k e).missed ≤ (slice_index_or (noted_at ts j w (ltb m n)) k e).ended)
     at k e h (inl q) =
         let l' : j < length ts = omega (arith, h, q, g.fit) in
         let r : ((slice_index_or ts j no_tally).ended ≤ (slice_index_or old j no_tally).ended + a)
-            × ((slice_index_or ts j no_tally).missed ≤ (slice_index_or ts j no_tally).ended) = g.each j no_tally (omega (arith, h, q)) in
+        × ((slice_index_or ts j no_tally).missed ≤ (slice_index_or ts j no_tally).ended) = g.each j no_tally (omega (arith, h, q)) in
         let u = up (slice_index_or ts j no_tally) (slice_index_or old j no_tally).ended r in
         let same : slice_index_or old j no_tally ≡ slice_index_or old k e =
-            get_or_default old j no_tally e (omega (arith, h, q)) ∙ ap (λ z. slice_index_or old z e) (sym q) in
+        get_or_default old j no_tally e (omega (arith, h, q)) ∙ ap (λ z. slice_index_or old z e) (sym q) in
         subst (λ t. (t.ended ≤ (slice_index_or old k e).ended + b) × (t.missed ≤ t.ended))
         (sym (ap (λ z. slice_index_or (noted_at ts j w (ltb m n)) z e) q ∙ get_or-set_same ts j (noted (slice_index_or ts j no_tally) w (ltb m n)) e l'))
         (subst (λ t. ((noted (slice_index_or ts j no_tally) w (ltb m n)).ended ≤ t.ended + b)
-            × ((noted (slice_index_or ts j no_tally) w (ltb m n)).missed ≤ (noted (slice_index_or ts j no_tally) w (ltb m n)).ended)) same u)
+        × ((noted (slice_index_or ts j no_tally) w (ltb m n)).missed ≤ (noted (slice_index_or ts j no_tally) w (ltb m n)).ended)) same u)
     at k e h (inr q) =
         let r = g.each k e h in
         subst (λ t. (t.ended ≤ (slice_index_or old k e).ended + b) × (t.missed ≤ t.ended))

@@ -37,8 +37,10 @@ piece_free (b ∷ r) h = h.1
 
 piece_front : (w rest : List ℕ) → IsWord w → Free 32 w → Free 32 rest → IsPiece (w ++ rest)
 piece_front [] rest h f g = absurd h
-piece_front (b ∷ r) rest h f g = (λ e. both_ways (is_ascii_alphabetic 45) refl (subst (λ z. is_ascii_alphabetic z ≡ true) e h.0),
-    free-append 32 (b ∷ r) rest f g)
+piece_front (b ∷ r) rest h f g = (
+  λ e. both_ways (is_ascii_alphabetic 45) refl (subst (λ z. is_ascii_alphabetic z ≡ true) e h.0),
+  free-append 32 (b ∷ r) rest f g,
+)
 
 piece_not_dash : (w rest : List ℕ) → IsPiece w → codes "-" ≡ w ++ rest → ⊥
 piece_not_dash [] rest h e = h
@@ -109,7 +111,7 @@ module _ (s : Syntax) (valid : IsValid s) where
   cell_told : (x y : ℕ) → x < variables ds → y < variables ds → cell_text (cell_at ds x) ≡ cell_text (cell_at ds y) → x ≡ y
   cell_told x y h k e =
       let r = place_same (cell_at ds x).name (cell_at ds y).name (cell_at ds x).place (cell_at ds y).place (name_free 91 x h refl) (name_free 91 y k refl)
-          (small_place x h) (small_place y k) e in
+      (small_place x h) (small_place y k) e in
       same_cell ds valid.differ x y h k r.0 r.1
 
   equals_digit : (d : ℕ) → d < 10 → 48 + d ≡ 61 → ⊥
@@ -130,7 +132,7 @@ module _ (s : Syntax) (valid : IsValid s) where
             (λ e. absurd (omega (arith, e)), free-decimal 32 c p.2 space_digit),
       ) in
       let place : Free 32 (place_text cell.place) =
-          place_free 32 cell.place (λ e. absurd (omega (arith, e))) (λ e. absurd (omega (arith, e))) space_digit (small_place x p.0) in
+      place_free 32 cell.place (λ e. absurd (omega (arith, e))) (λ e. absurd (omega (arith, e))) space_digit (small_place x p.0) in
       subst IsPiece (sym (append_assoc cell.name (place_text cell.place) (codes "=" ++ (signed_decimal n ++ (codes "@" ++ decimal c)))))
       (piece_front cell.name (place_text cell.place ++ (codes "=" ++ (signed_decimal n ++ (codes "@" ++ decimal c)))) (is_word x p.0) (name_free 32 x p.0 refl)
       (free-append 32 (place_text cell.place) (codes "=" ++ (signed_decimal n ++ (codes "@" ++ decimal c))) place after))
@@ -139,7 +141,7 @@ module _ (s : Syntax) (valid : IsValid s) where
       → item ds x n c ≡ item ds y m d → Wrote x n c ≡ Wrote y m d
   item_told x y n m c d p q e =
       let one = split 61 (cell_text (cell_at ds x)) (signed_decimal n ++ (codes "@" ++ decimal c)) (cell_text (cell_at ds y))
-          (signed_decimal m ++ (codes "@" ++ decimal d))
+      (signed_decimal m ++ (codes "@" ++ decimal d))
       (cell_free 61 x p.0 refl (λ e. absurd (omega (arith, e))) (λ e. absurd (omega (arith, e))) equals_digit)
       (cell_free 61 y q.0 refl (λ e. absurd (omega (arith, e))) (λ e. absurd (omega (arith, e))) equals_digit) e in
       let two = split 64 (signed_decimal n) (decimal c) (signed_decimal m) (decimal d)
@@ -173,5 +175,7 @@ module _ (s : Syntax) (valid : IsValid s) where
       ∙ ap (λ z. f ∷ z) (items_told es fs p.1 q.1 (tails (item_of ds e) (item_of ds f) (map (item_of ds) es) (map (item_of ds) fs) h))
 
   pub tells_apart : (es fs : List Event) → ArePrintable (variables ds) es → ArePrintable (variables ds) fs → (field_text ds es ≡ field_text ds fs) ↔ (es ≡ fs)
-  tells_apart es fs p q = (λ h. items_told es fs p q (field_same (map (item_of ds) es) (map (item_of ds) fs) (pieces es p) (pieces fs q) h),
-      λ h. ap (field_text ds) h)
+  tells_apart es fs p q = (
+    λ h. items_told es fs p q (field_same (map (item_of ds) es) (map (item_of ds) fs) (pieces es p) (pieces fs q) h),
+    λ h. ap (field_text ds) h,
+  )

@@ -33,7 +33,7 @@ visible-append lat g o (Wrote x n c ∷ es) fs = go (lat.flows (g x) o) (visible
   where
     go : (b : Bool) → visible lat g o (es ++ fs) ≡ visible lat g o es ++ visible lat g o fs →
         cond b (Wrote x n c ∷ visible lat g o (es ++ fs)) (visible lat g o (es ++ fs)) ≡ cond b (Wrote x n c ∷ visible lat g o es) (visible lat g o es)
-            ++ visible lat g o fs
+        ++ visible lat g o fs
     go true e = ap (λ z. Wrote x n c ∷ z) e
     go false e = e
 visible-append lat g o (Began k c ∷ es) fs = visible-append lat g o es fs
@@ -69,7 +69,7 @@ prefix_then a b c xs ys zs all p q e =
     let k : ℕ = q.0 in
     let short : k ≤ length ys = q.1 in
     let whole : length all ≡ length xs + (length ys + length zs) =
-        ap length (sym e) ∙ (length-append xs (ys ++ zs) ∙ ap (λ n. length xs + n) (length-append ys zs)) in
+    ap length (sym e) ∙ (length-append xs (ys ++ zs) ∙ ap (λ n. length xs + n) (length-append ys zs)) in
     let taken : xs ++ take k ys ≡ take (length xs + k) all =
     ap (λ z. xs ++ z) (sym (take-append-le k ys zs short)) ∙ sym (take-append-add xs (ys ++ zs) k) ∙ ap (take (length xs + k)) e in
     (length xs + k, omega (arith, whole, short), subst (Appends a c) taken (Appends-trans a b c xs (take k ys) p q.2))
@@ -171,7 +171,7 @@ module _ {E : Type 0} (v : Env E) (limit : ℕ) (p : LabelledProgram) (o : Label
   pub more_field : (old mid new : Loaded E) (turn : Turn) (none none' : Bool) (a b c : Option (List ℕ))
       → Fields v limit p o old mid none a b → is_last turn ≡ false →
       IfSome mid.stopped IsStop → CallWent v list limit mid turn new → IsShown p (Some o) turn → none' ≡ next_none none turn
-          → Appends b c (piece p.program.declarations none turn) →
+      → Appends b c (piece p.program.declarations none turn) →
       IsTurnBelow (variables p.program.declarations) turn → IsPrintableTurn turn → Fields v limit p o old new none' a c
   more_field old mid new turn none none' a b c r last is_stop went is next w below printable =
       let n = next_turn v list limit mid new turn is_stop went (none_more turn last) in
@@ -193,7 +193,7 @@ module _ {E : Type 0} (v : Env E) (limit : ℕ) (p : LabelledProgram) (o : Label
         printable =
             subst (ArePrintable (variables p.program.declarations)) (sym sees)
             (printable-append (variables p.program.declarations) (seen_of p o r.events) (seen_of p o (events_of turn)) r.printable
-                (turn_printable p o (variables p.program.declarations) turn below printable last));
+            (turn_printable p o (variables p.program.declarations) turn below printable last));
       }
 
   -- where the run ends, the field is whole
@@ -204,30 +204,30 @@ module _ {E : Type 0} (v : Env E) (limit : ℕ) (p : LabelledProgram) (o : Label
       let l = last_turn v list limit mid new turn end.0 is_stop went end.1 in
       ap (λ t. seen_of p o t.events) (r.rest ∙ ap (after_events r.events) l.rest)
       ∙ (seen-append p o r.events l.hidden ∙ (ap (λ z. seen_of p o r.events ++ z) (none_shown p (Some o) list tells l.hidden l.unseen)
-          ∙ append-nil (seen_of p o r.events)))
+      ∙ append-nil (seen_of p o r.events)))
 
   pub whole_field : (old mid new : Loaded E) (turn : Turn) (none : Bool) (a b c : Option (List ℕ)) (r : Fields v limit p o old mid none a b)
       → is_last turn ≡ true →
       IfSome mid.stopped IsStop → CallWent v list limit mid turn new → Appends b c (piece p.program.declarations none turn)
-          → Appends a c (seen_text p o (rest_of v limit old))
+      → Appends a c (seen_text p o (rest_of v limit old))
   whole_field old mid new turn none a b c r last is_stop went w =
       subst (Appends a c)
       (ap (λ z. part (items p o r.events) ++ piece p.program.declarations z turn) r.nothing
       ∙ (last_adds p o (items p o r.events) turn last
-          ∙ ap (λ es. field_of (map (item_of p.program.declarations) es)) (sym (last_seen old mid new turn none a b r last is_stop went))))
+      ∙ ap (λ es. field_of (map (item_of p.program.declarations) es)) (sym (last_seen old mid new turn none a b r last is_stop went))))
       (Appends-trans a b c (part (items p o r.events)) (piece p.program.declarations none turn) r.written w)
 
   pub whole_printable : (old mid new : Loaded E) (turn : Turn) (none : Bool) (a b : Option (List ℕ)) (r : Fields v limit p o old mid none a b)
       → is_last turn ≡ true →
       IfSome mid.stopped IsStop → CallWent v list limit mid turn new
-          → ArePrintable (variables p.program.declarations) (seen_of p o (rest_of v limit old).events)
+      → ArePrintable (variables p.program.declarations) (seen_of p o (rest_of v limit old).events)
   whole_printable old mid new turn none a b r last is_stop went =
       subst (ArePrintable (variables p.program.declarations)) (sym (last_seen old mid new turn none a b r last is_stop went)) r.printable
 
   -- where the sink fails, a prefix of the field is written
   pub prefix_field : (old mid new : Loaded E) (turn : Turn) (none : Bool) (a b c : Option (List ℕ)) (r : Fields v limit p o old mid none a b) →
       IfSome mid.stopped IsStop → CallWent v list limit mid turn new → IsShown p (Some o) turn → AppendsPrefix b c (piece p.program.declarations none turn)
-          → AppendsPrefix a c (seen_text p o (rest_of v limit old))
+      → AppendsPrefix a c (seen_text p o (rest_of v limit old))
   prefix_field old mid new turn none a b c r is_stop went is q = by (is_last turn) refl
     where
       ws : List (List ℕ)
@@ -239,7 +239,7 @@ module _ {E : Type 0} (v : Env E) (limit : ℕ) (p : LabelledProgram) (o : Label
           (ap (λ z. part ws ++ z) (append-nil (piece p.program.declarations none turn))
           ∙ (ap (λ z. part ws ++ piece p.program.declarations z turn) r.nothing
           ∙ (last_adds p o ws turn last ∙ ap (λ es. field_of (map (item_of p.program.declarations) es))
-              (sym (last_seen old mid new turn none a b r last is_stop went)))))
+          (sym (last_seen old mid new turn none a b r last is_stop went)))))
       by false last =
           let n = next_turn v list limit mid new turn is_stop went (none_more turn last) in
           let es : List Event = n.hidden ++ events_of turn in
@@ -249,7 +249,7 @@ module _ {E : Type 0} (v : Env E) (limit : ℕ) (p : LabelledProgram) (o : Label
           let all : (rest_of v limit old).events ≡ (r.events ++ es) ++ (rest_of v limit new).events =
           ap (λ t. t.events) r.rest ∙ (ap (λ z. r.events ++ z.events) n.rest ∙ sym (append_assoc r.events es (rest_of v limit new).events)) in
           let mine : items p o (r.events ++ es) ≡ ws ++ its =
-              items-append p o r.events es ∙ ap (λ z. ws ++ z) (items_passed p o list tells n.hidden (events_of turn) n.unseen) in
+          items-append p o r.events es ∙ ap (λ z. ws ++ z) (items_passed p o list tells n.hidden (events_of turn) n.unseen) in
           let same : items p o (rest_of v limit old).events ≡ (ws ++ its) ++ us =
           ap (items p o) all ∙ (items-append p o (r.events ++ es) (rest_of v limit new).events ∙ ap (λ z. z ++ us) mine) in
           prefix_then a b c (part ws) (piece p.program.declarations none turn) rest.0 _ r.written q

@@ -74,7 +74,7 @@ same_cell (d ∷ ds) differ x y h k e f =
 
     by : (x < length head) ⊎ (length head ≤ x) → (y < length head) ⊎ (length head ≤ y) →
         ((a b : ℕ) → a < length (cells ds) → b < length (cells ds) → (cell_at ds a).name ≡ (cell_at ds b).name
-            → (cell_at ds a).place ≡ (cell_at ds b).place → a ≡ b) → x ≡ y
+        → (cell_at ds a).place ≡ (cell_at ds b).place → a ≡ b) → x ≡ y
     by (inl l) (inl m) rest =
         one_place d.0 d.1.label d.1.length x y l m (ap (λ c. c.place) (sym (left x l)) ∙ (f ∙ ap (λ c. c.place) (left y m)))
     by (inl l) (inr m) rest =
@@ -107,7 +107,7 @@ cell_named P (d ∷ ds) each x h = by (cases_lt x (length head)) (cell_named P d
     by (inr l) rest =
         let both = length-append head (cells ds) in
         subst P (ap (λ c. c.name) (sym (get_or-append_right head (cells ds) (length head) x nowhere refl l)))
-            (rest (x - length head) (omega (arith, h, l, both)))
+        (rest (x - length head) (omega (arith, h, l, both)))
 
 one_placed : (w : List ℕ) (l : Option Label) (o : Option ℕ) (x k : ℕ) → x < length (cells_of w l o) → (get_or (cells_of w l o) x nowhere).place ≡ Some k → k ≤ x
 one_placed w l None zero k h e = absurd cc
@@ -129,7 +129,7 @@ placed (d ∷ ds) x k h e = by (cases_lt x (length head)) (λ z. placed ds z k)
     by (inr l) rest =
         let both = length-append head (cells ds) in
         let r = rest (x - length head) (omega (arith, h, l, both)) (ap (λ c. c.place) (sym (get_or-append_right head (cells ds) (length head) x nowhere refl l))
-            ∙ e) in
+        ∙ e) in
         omega (arith, r)
 
 size_few : (n : Option ℕ) → size_in n ≤ 1 + length_in n

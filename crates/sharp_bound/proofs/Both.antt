@@ -45,7 +45,7 @@ those_agree {X} see same tests start R xs h w =
     let P : X → X → Type 0 = λ x y. see x ≡ see y → R (start (see x) x) (start (see y) y) in
     let t : X → Bool = λ x. same w (see x) in
     Each-map (λ x. Each (λ y. P x y × (t x ≡ true) × (t y ≡ true)) (that_show see same w xs))
-        (λ x. Each (λ y. R (start w x) (start w y)) (that_show see same w xs))
+    (λ x. Each (λ y. R (start w x) (start w y)) (that_show see same w xs))
     (λ x a. Each-map (λ y. P x y × (t x ≡ true) × (t y ≡ true)) (λ y. R (start w x) (start w y))
     (λ y b.
     let e : w ≡ see x = tests.same_to w (see x) b.1 in
@@ -69,7 +69,7 @@ those_views see same tests start w (y ∷ ys) = one (same w (see y)) refl (those
   where
     one : (b : Bool) → same w (see y) ≡ b → map (start w) (that_show see same w ys) ≡ map (λ x. start (see x) x) (that_show see same w ys) →
         map (start w) (cond b (y ∷ that_show see same w ys) (that_show see same w ys))
-            ≡ map (λ x. start (see x) x) (cond b (y ∷ that_show see same w ys) (that_show see same w ys))
+        ≡ map (λ x. start (see x) x) (cond b (y ∷ that_show see same w ys) (that_show see same w ys))
     one true e r = ap (λ z. start z y ∷ map (start w) (that_show see same w ys)) (tests.same_to w (see y) e) ∙ ap (λ z. start (see y) y ∷ z) r
     one false e r = r
 
@@ -121,7 +121,7 @@ module _ {E X M L : Type 0} (serves : E → Type 0) (v : Env E) (order : Order) 
   agree-views o f xs h =
       each-mapped (λ s. Each (Agree v (lattice_of order) serves g o s) (map f xs)) f xs
       (Each-map (λ x. Each (Agrees o f x) xs) (λ x. Each (Agree v (lattice_of order) serves g o (f x)) (map f xs))
-          (λ x a. each-mapped (Agree v (lattice_of order) serves g o (f x)) f xs a) xs h)
+      (λ x a. each-mapped (Agree v (lattice_of order) serves g o (f x)) f xs a) xs h)
 
   abbrev shows : ℕ → ℕ → (X → Start E) → X → List Event
   shows o t f x = seen_from v (lattice_of order) g image o t (f x)
@@ -133,11 +133,11 @@ module _ {E X M L : Type 0} (serves : E → Type 0) (v : Env E) (order : Order) 
       let C : X → Type 0 = λ x. Covers v order g ls image p o t firsts n (f x) in
       let halts = each-mapped (Halts v image t) f (x ∷ xs) (Each-map C (λ x. Halts v image t (f x)) (λ x a. a.halts) (x ∷ xs) h) in
       let predicts = each-mapped (PredictsFrom v order g ls image p o t firsts) f (x ∷ xs) (Each-map C (λ x. PredictsFrom v order g ls image p o t firsts (f x))
-          (λ x a. a.predicts) (x ∷ xs) h) in
+      (λ x a. a.predicts) (x ∷ xs) h) in
       let r = sound.few o low t some (map f (x ∷ xs)) (agree-views o f (x ∷ xs) agree) halts firsts predicts same_events tests_events in
       let count : distinct_count same_events (map (shows o t f) (x ∷ xs)) ≤ sharp (ends_by t firsts) order.size r.0 =
-          subst (λ z. distinct_count same_events z ≤ sharp (ends_by t firsts) order.size r.0)
-          (map-map (seen_from v (lattice_of order) g image o t) f (x ∷ xs)) r.2.count in
+      subst (λ z. distinct_count same_events z ≤ sharp (ends_by t firsts) order.size r.0)
+      (map-map (seen_from v (lattice_of order) g image o t) f (x ∷ xs)) r.2.count in
       few_shown (shows o t f) same_events tests_events (x ∷ xs) n (omega (arith, count, h.0.counts r.0 r.1.0))
 
   pub cut_by : SharpCut v order serves g ls image p → (o : ℕ) → o < order.size → (t : ℕ) → 0 < t → (f : X → Start E) (xs : List X) (firsts : ℕ → ℕ)
@@ -145,10 +145,10 @@ module _ {E X M L : Type 0} (serves : E → Type 0) (v : Env E) (order : Order) 
       → FewShown (shows o t f) same_events xs (cut_count v order g ls image p o t firsts (map f xs))
   cut_by sound o low t some f xs firsts agree predicts =
       let r = sound.few o low t some (map f xs) (agree-views o f xs agree) firsts (each-mapped (PredictsFrom v order g ls image p o t firsts) f xs predicts)
-          same_events tests_events in
+      same_events tests_events in
       let n = cut_count v order g ls image p o t firsts (map f xs) in
       few_shown (shows o t f) same_events tests_events xs n
-          (subst (λ z. distinct_count same_events z ≤ n) (map-map (seen_from v (lattice_of order) g image o t) f xs) r.0.count)
+      (subst (λ z. distinct_count same_events z ≤ n) (map-map (seen_from v (lattice_of order) g image o t) f xs) r.0.count)
 
   pub cut_less : (o t : ℕ) (firsts : ℕ → ℕ) (f : X → Start E) (pick : X → Bool) (xs : List X)
       → cut_count v order g ls image p o t firsts (map f (filter pick xs)) ≤ cut_count v order g ls image p o t firsts (map f xs)
@@ -172,33 +172,37 @@ module _ {E X : Type 0} (serves : E → Type 0) (v : Env E) (order : Order) (g :
 pub is_sharp_twice : {E X M L M' L' : Type 0} {serves : E → Type 0} (v : Env E) (order : Order) (g ls : ℕ → ℕ) (image : List Instr) (p : Todo M L)
     (g' ls' : ℕ → ℕ) (image' : List Instr) (p' : Todo M' L') →
     SharpSound v order serves g ls image p → SharpSound v order serves g' ls' image' p' → SharpCut v order serves g ls image p
-        → SharpCut v order serves g' ls' image' p' → SharpTwice X v order serves g ls image p g' ls' image' p'
+    → SharpCut v order serves g' ls' image' p' → SharpTwice X v order serves g ls image p g' ls' image' p'
 is_sharp_twice {serves = serves} v order g ls image p g' ls' image' p' sound sound' cut cut' =
     record {
       halted = λ o low t t' some some' first second xs firsts firsts' n m agree later_agree holds later_holds alike tests.
           few_twice _ _ _ (see serves v order g image g' image' o t t' first second xs) (next serves v order g image g' image' o t t' first second xs)
-              same_events same_events alike tests_events tests_events tests xs n m
+          same_events same_events alike tests_events tests_events tests xs n m
           (halted_by serves v order g ls image p sound o low t some first xs firsts n agree holds)
           (λ w. halted_by serves v order g' ls' image' p' sound' o low t' some' (second w) (those serves v order g image g' image' o t t' first second xs w)
-              firsts' m
+          firsts' m
           (those_agree (see serves v order g image g' image' o t t' first second xs) same_events tests_events second
-              (Agree v (lattice_of order) serves g' o) xs later_agree w)
+          (Agree v (lattice_of order) serves g' o) xs later_agree w)
           (those_hold (see serves v order g image g' image' o t t' first second xs) same_events tests_events second
-              (λ s. Covers v order g' ls' image' p' o t' firsts' m s) xs later_holds w));
+          (λ s. Covers v order g' ls' image' p' o t' firsts' m s) xs later_holds w));
       cut = λ o low t t' some some' first second xs firsts firsts' agree later_agree holds later_holds alike tests.
           few_twice _ _ _ (see serves v order g image g' image' o t t' first second xs) (next serves v order g image g' image' o t t' first second xs)
-              same_events same_events alike tests_events tests_events tests xs _ _
+          same_events same_events alike tests_events tests_events tests xs _ _
           (cut_by serves v order g ls image p cut o low t some first xs firsts agree holds)
           (λ w.
           let ys = those serves v order g image g' image' o t t' first second xs w in
           let P : Start _ → Type 0 = λ s. PredictsBy v (lattice_of order) g' ls' image' p' o t' firsts' s in
           let r = cut_by serves v order g' ls' image' p' cut' o low t' some' (second w) ys firsts'
-              (those_agree (see serves v order g image g' image' o t t' first second xs) same_events tests_events second
-                  (Agree v (lattice_of order) serves g' o) xs later_agree w)
-              (those_hold (see serves v order g image g' image' o t t' first second xs) same_events tests_events second P xs later_holds w) in
+          (those_agree (see serves v order g image g' image' o t t' first second xs) same_events tests_events second
+          (Agree v (lattice_of order) serves g' o) xs later_agree w)
+          (those_hold (see serves v order g image g' image' o t t' first second xs) same_events tests_events second P xs later_holds w) in
           let e = ap (cut_count v order g' ls' image' p' o t' firsts')
-              (those_views (see serves v order g image g' image' o t t' first second xs) same_events tests_events second w xs) in
-          few_shown _ same_events tests_events ys _ (omega (arith, r.count, e,
-              cut_less serves v order g' ls' image' p' o t' firsts' (later serves v order g image g' image' o t t' first second xs)
-              (λ x. same_events w (see serves v order g image g' image' o t t' first second xs x)) xs)));
+          (those_views (see serves v order g image g' image' o t t' first second xs) same_events tests_events second w xs) in
+          few_shown _ same_events tests_events ys _ (omega (
+            arith,
+            r.count,
+            e,
+            cut_less serves v order g' ls' image' p' o t' firsts' (later serves v order g image g' image' o t t' first second xs)
+                (λ x. same_events w (see serves v order g image g' image' o t t' first second xs x)) xs,
+          )));
     }

@@ -119,7 +119,7 @@ same_counts n ((l, c) ∷ r) ((l', c') ∷ r') f e u h = go l' f.0 h (λ t. same
         → (((q : ℕ) → q < n → counts_at q r ≡ counts_at q r') → r ≡ r') → (l, c) ∷ r ≡ (l', c') ∷ r'
     go l' le h rec =
         let h' : (q : ℕ) → q < n → counts_at q ((l, c) ∷ r) ≡ counts_at q ((l, c') ∷ r') =
-            subst (λ z. (q : ℕ) → q < n → counts_at q ((l, c) ∷ r) ≡ counts_at q ((z, c') ∷ r')) (sym le) h in
+        subst (λ z. (q : ℕ) → q < n → counts_at q ((l, c) ∷ r) ≡ counts_at q ((z, c') ∷ r')) (sym le) h in
         let one : c ≡ c' = first_of (eqb l l) c c' (counts_at l r) (counts_at l r') (eq-eqb l l refl) (h' l u.0) in
         let rest : r ≡ r' = rec (λ q lt. rest_of (eqb l q) c c' (counts_at q r) (counts_at q r') (h' q lt)) in
         let x : Entry = (l, c) in

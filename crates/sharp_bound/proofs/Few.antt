@@ -24,7 +24,7 @@ count_sharp see record_of same tests n ds ks good fits ends determined xs =
     (λ x. number_below ds ks n (record_of x) (good x).up (good x).rises (good x).short) same tests
     (λ x y e. determined x y
     (same_ranks n ds ks (record_of x) (record_of y) (fits x y) (ends x y) (good x).up (good y).up (good x).rises (good y).rises (good x).levels (good y).levels
-        (good x).short (good y).short
+    (good x).short (good y).short
     (number_same ds ks n (record_of x) (record_of y) (λ l. rank_under ds l (ks l) (record_of x) (good x).up (good x).rises ((good x).short l))
-        (λ l. rank_under ds l (ks l) (record_of y) (good y).up (good y).rises ((good y).short l)) e)))
+    (λ l. rank_under ds l (ks l) (record_of y) (good y).up (good y).rises ((good y).short l)) e)))
     xs

@@ -156,7 +156,7 @@ module _ {E : Type 0} {serves : E → Type 0} (v : Env E) (order : Order) (g ls 
       let of : ℕ → Bool = λ k. rel o k && pick (ls k) in
       let w = (found t s).whole in
       let c = low_count v lat made.lattice laws g o t pick of lat.bottom (tells_both lat g o pick (rel o) ls lat.bottom p (tells o) made.told)
-          (made.lattice.lowest o) w.run in
+      (made.lattice.lowest o) w.run in
       ap (ended_count of) w.log ∙ c ∙ omega arith
 
   levels_at : (o t : ℕ) → (s : Start E) → LevelsUnder order.size (record_at o t s)
@@ -165,7 +165,7 @@ module _ {E : Type 0} {serves : E → Type 0} (v : Env E) (order : Order) (g ls 
       let of : ℕ → Bool = λ k. false in
       let w = (found t s).whole in
       let c = low_count v lat made.lattice laws g o t pick of lat.bottom (tells_above lat g o order.size lat.bottom p made.levels)
-          (made.lattice.lowest o) w.run in
+      (made.lattice.lowest o) w.run in
       levels_under order.size (record_at o t s) (omega (arith, c, sym (ap (ended_count of) w.log) ∙ all_false (log_at t s)))
 
   -- the record has no entry of a level that flows to the observer
@@ -193,17 +193,28 @@ module _ {E : Type 0} {serves : E → Type 0} (v : Env E) (order : Order) (g ls 
   agree_back o s s' a = record { one = a.other; other = a.one; long = sym a.long; low = λ x h. sym (a.low x h); parts = λ q l h. sym (a.parts q l h) }
 
   agree_on : (o : ℕ) (s s1 s2 : Start E) → AgreeTo o s s1 → AgreeTo o s1 s2 → AgreeTo o s s2
-  agree_on o s s1 s2 a b = record { one = a.one; other = b.other; long = a.long ∙ b.long; low = λ x h. a.low x h ∙ b.low x h; parts =
-      λ q l h. a.parts q l h ∙ b.parts q l h }
+  agree_on o s s1 s2 a b = record {
+    one = a.one;
+    other = b.other;
+    long = a.long ∙ b.long;
+    low = λ x h. a.low x h ∙ b.low x h;
+    parts =
+        λ q l h. a.parts q l h ∙ b.parts q l h;
+  }
 
   -- two runs from starts that agree, typed to this end label
   pair_of : (o t : ℕ) (typed : IsTyped lat g p) (x y : Start E) → AgreeTo o x y
       → Both v lat made.lattice laws g o t lat.bottom typed.0 (first_core v lat g image p made.code t x) (found t x).whole.after
       (first_core v lat g image p made.code t y) (found t y).whole.after (record_at o t x) (record_at o t y)
   pair_of o t typed x y a =
-      two_run v lat made.lattice laws g o t lat.bottom typed.0 (lat.bottom, typed.1, made.arrays, made.lattice.same lat.bottom,
-          made.lattice.lowest o) (record { memory = a.low; long = a.long; one = a.one; other = a.other; parts = a.parts })
-          (found t x).whole.run (found t y).whole.run
+      two_run v lat made.lattice laws g o t lat.bottom typed.0 (
+        lat.bottom,
+        typed.1,
+        made.arrays,
+        made.lattice.same lat.bottom,
+        made.lattice.lowest o,
+      ) (record { memory = a.low; long = a.long; one = a.one; other = a.other; parts = a.parts })
+      (found t x).whole.run (found t y).whole.run
 
   fits_at : (o t : ℕ) (x y : Start E) → AgreeTo o x y → Fits (record_at o t x) (record_at o t y)
   fits_at o t x y a = (pair_of o t made.typed x y a).fits
@@ -234,7 +245,7 @@ module _ {E : Type 0} {serves : E → Type 0} (v : Env E) (order : Order) (g ls 
       (λ (c : s.clock ≡ s'.clock). ⊎_elim
       (λ (far : t < s.clock). inr (omega arith, omega arith))
       (λ (by : s.clock ≤ t). fetched_time v lat made.lattice laws g o t (record { er = lat.bottom; ew = lat.bottom }) (size p) s s'
-          ((pair_of o t typed x y a).low by (omega arith)) (made.lattice.lowest o) alike)
+      ((pair_of o t typed x y a).low by (omega arith)) (made.lattice.lowest o) alike)
       (cases_lt t s.clock))
       (λ (far : (t < s.clock) × (t < s'.clock)). let u = far.0 in let u' = far.1 in inr (omega arith, omega arith))
       alike
@@ -324,7 +335,7 @@ module _ {E : Type 0} {serves : E → Type 0} (v : Env E) (order : Order) (g ls 
   begun_of o t l s h =
       let r = ran v image t t (start s.memory s.env) tt (omega arith) (omega arith) in
       all_ended v image (relevant_at lat g ls o p l) r.count (start s.memory s.env) (run_from v image t s) (omega arith) r.is ((found t s).whole.none_open h)
-          ∙ ended_of o t (is_at l) s
+      ∙ ended_of o t (is_at l) s
 
   -- all of them
   begun_is : (o t : ℕ) (s : Start E) → Halts v image t s → begun_count (rel o) (log_at t s) ≡ length (record_at o t s)
@@ -332,7 +343,7 @@ module _ {E : Type 0} {serves : E → Type 0} (v : Env E) (order : Order) (g ls 
       let r = ran v image t t (start s.memory s.env) tt (omega arith) (omega arith) in
       let c = count_low v lat made.lattice laws g o t (rel o) lat.bottom (tells o) (made.lattice.lowest o) (found t s).whole.run in
       all_ended v image (rel o) r.count (start s.memory s.env) (run_from v image t s) (omega arith) r.is ((found t s).whole.none_open h)
-          ∙ ap (ended_count (rel o)) (found t s).whole.log ∙ c ∙ omega arith
+      ∙ ap (ended_count (rel o)) (found t s).whole.log ∙ c ∙ omega arith
 
   length_of : (o t k : ℕ) (s : Start E) → Halts v image t s → FirstBegins lat g ls o p (s ∷ []) k → length (record_at o t s) ≡ k
   length_of o t k s h b = sym (begun_is o t s h) ∙ begins_one lat g ls o p s.memory _ k (begins_log v order g ls image p made laws o t s h) b
@@ -340,9 +351,12 @@ module _ {E : Type 0} {serves : E → Type 0} (v : Env E) (order : Order) (g ls 
   begins_each : (o t : ℕ) (counts : ℕ → ℕ) (s : Start E) → Halts v image t s → ((l : ℕ) → picked (is_at l) (record_at o t s) ≡ counts l)
       → BeginsEach lat g ls o p s.memory counts
   begins_each o t counts s h e =
-      let f = (keeps_order v lat g image p made.code).follows s t in
-      (f.0, f.2 h, λ l. ap (λ z. count_by (relevant_at lat g ls o p l) (started_in z)) (sym f.1)
-          ∙ sym (begun-told (relevant_at lat g ls o p l) (log_at t s)) ∙ begun_of o t l s h ∙ e l)
+      let f = (keeps_order v lat g image p made.code).follows s t in (
+        f.0,
+        f.2 h,
+        λ l. ap (λ z. count_by (relevant_at lat g ls o p l) (started_in z)) (sym f.1)
+            ∙ sym (begun-told (relevant_at lat g ls o p l) (log_at t s)) ∙ begun_of o t l s h ∙ e l,
+      )
 
   -- no level has more miss counts than T has binary digits
   few_values : (t : ℕ) (firsts : ℕ → ℕ) (l : ℕ) → 0 < t → ends_by t firsts l ≤ digits t
@@ -375,7 +389,7 @@ module _ {E : Type 0} {serves : E → Type 0} (v : Env E) (order : Order) (g ls 
       let counts : ℕ → ℕ = λ l. picked (is_at l) (record_at o t s) in
       let vs : ℕ → ℕ = ends_by t firsts in
       let P : Start E → Type 0 = λ s'. ((l : ℕ) → picked (is_at l) (record_at o t s') ≡ counts l) × (length (record_at o t s') ≡ length (record_at o t s))
-          × Halts v image t s' × PredictsTo o t firsts s' in
+      × Halts v image t s' × PredictsTo o t firsts s' in
       let each : Each P (s ∷ starts) = Each-map (λ s'. AgreeTo o s s' × Halts v image t s' × PredictsTo o t firsts s') P
       (λ s' a.
       let e = length_at o t s s' a.0 halts.0 a.1 in
@@ -385,7 +399,7 @@ module _ {E : Type 0} {serves : E → Type 0} (v : Env E) (order : Order) (g ls 
       (λ s' h. counted_at o t (λ l. vs l - 1) counts s' (at_most_less vs (record_at o t s') (under_at o t firsts s' h.3)) (λ l. omega (arith, h.0 l)))
       (λ x y h h'. inl (h.1 ∙ sym h'.1)) view told same tests s (s ∷ starts) agree.0 each in
       let all = sharp_same order.size (λ l. suc (vs l - 1)) vs counts
-          (λ l. same_factor (vs l) (counts l) (has_value vs l (record_at o t s) (under_at o t firsts s predicts.0))) in (
+      (λ l. same_factor (vs l) (counts l) (has_value vs l (record_at o t s) (under_at o t firsts s predicts.0))) in (
         counts,
         Each-map P (λ s'. BeginsEach lat g ls o p s'.memory counts) (λ s' h. begins_each o t counts s' h.2 h.0) (s ∷ starts) each,
         few_shown view same tests (s ∷ starts) (sharp vs order.size counts)
@@ -441,9 +455,11 @@ module _ {E : Type 0} {serves : E → Type 0} (v : Env E) (order : Order) (g ls 
       subst (λ z. distinct_count same (map view (s ∷ starts)) ≤ z) all few
 
   few_cut : {V : Type 0} (o t : ℕ) → 0 < t → (view : Start E → V) → Told o t view → FewCut v order serves g ls image p o t view
-  few_cut o t some view told starts agree firsts predicts same tests =
-      (few_shown view same tests starts (sharp (λ l. ends_by t firsts l + 1) order.size (most o t starts))
-          (cut_under o t view told starts agree firsts predicts same tests), cut_within o t firsts starts some)
+  few_cut o t some view told starts agree firsts predicts same tests = (
+    few_shown view same tests starts (sharp (λ l. ends_by t firsts l + 1) order.size (most o t starts))
+        (cut_under o t view told starts agree firsts predicts same tests),
+    cut_within o t firsts starts some,
+  )
 
   spent_by : (o t : ℕ) (firsts : ℕ → ℕ) (s : Start E) → StandApart (rel o) (commands_of p) → PredictsTo o t firsts s → Halts v image t s
       → spent firsts (record_at o t s) ≤ t
@@ -452,8 +468,12 @@ module _ {E : Type 0} {serves : E → Type 0} (v : Env E) (order : Order) (g ls 
       let by = w.in_time halts in
       let total = notes_to v image t s in
       let told_all = ap (λ z. length (told z)) w.log in
-      omega (arith, by, fits_run v lat made.lattice laws g o t (rel o) ls firsts total lat.bottom (tells o) made.told apart (made.lattice.lowest o) w.run Done
-          (from_start v lat g o t (rel o) ls firsts total p (first_core v lat g image p made.code t s) refl predicts) by (omega (arith, told_all)))
+      omega (
+        arith,
+        by,
+        fits_run v lat made.lattice laws g o t (rel o) ls firsts total lat.bottom (tells o) made.told apart (made.lattice.lowest o) w.run Done
+            (from_start v lat g o t (rel o) ls firsts total p (first_core v lat g image p made.code t s) refl predicts) by (omega (arith, told_all)),
+      )
 
   -- a start's choice is one of the ways
   its_way : (o t : ℕ) (firsts counts : ℕ → ℕ) (ways : List (List (List ℕ))) → AreWays t firsts order.size counts ways → StandApart (rel o) (commands_of p)
@@ -470,7 +490,7 @@ module _ {E : Type 0} {serves : E → Type 0} (v : Env E) (order : Order) (g ls 
   few_shared o t view told apart (s ∷ starts) agree halts firsts predicts same tests =
       let counts : ℕ → ℕ = λ l. picked (is_at l) (record_at o t s) in
       let P : Start E → Type 0 = λ s'. ((l : ℕ) → picked (is_at l) (record_at o t s') ≡ counts l) × (length (record_at o t s') ≡ length (record_at o t s))
-          × Halts v image t s' × PredictsTo o t firsts s' in
+      × Halts v image t s' × PredictsTo o t firsts s' in
       let each : Each P (s ∷ starts) = Each-map (λ s'. AgreeTo o s s' × Halts v image t s' × PredictsTo o t firsts s') P
       (λ s' a.
       let e = length_at o t s s' a.0 halts.0 a.1 in
@@ -480,13 +500,13 @@ module _ {E : Type 0} {serves : E → Type 0} (v : Env E) (order : Order) (g ls 
         Each-map P (λ s'. BeginsEach lat g ls o p s'.memory counts) (λ s' h. begins_each o t counts s' h.2 h.0) (s ∷ starts) each,
         λ ways are.
             let way : (x : Member o P s) → IsAmong (choice_of order.size (record_at o t x.from)) ways =
-                λ x. its_way o t firsts counts ways are apart x.from x.more.3 x.more.2 x.more.0 in
+            λ x. its_way o t firsts counts ways are apart x.from x.more.3 x.more.2 x.more.0 in
             let few = count_few (λ (x : Member o P s). view x.from)
-                (λ x. place (choice_of order.size (record_at o t x.from)) ways (way x)) (length ways)
+            (λ x. place (choice_of order.size (record_at o t x.from)) ways (way x)) (length ways)
             (λ x. place_below (choice_of order.size (record_at o t x.from)) ways (way x)) same tests
             (λ x y e. told x.from y.from (pair o P s x y)
             (same_choice order.size (record_at o t x.from) (record_at o t y.from) (fits_at o t x.from y.from (pair o P s x y))
-                (x.more.1 ∙ sym y.more.1) (levels_at o t x.from)
+            (x.more.1 ∙ sym y.more.1) (levels_at o t x.from)
             (place_same _ _ ways (way x) (way y) e)))
             (members o P s (s ∷ starts) agree.0 each) in
             few_shown view same tests (s ∷ starts) (length ways)
@@ -518,7 +538,7 @@ module _ {E : Type 0} {serves : E → Type 0} (v : Env E) (order : Order) (g ls 
       let w = found t y in
       let bottoms : Marks = record { er = lat.bottom; ew = lat.bottom } in
       let same = fetched_low v lat made.lattice laws g o t bottoms (size p) u.whole.after w.whole.after
-          ((pair_of o t made.typed x y a).low (u.whole.in_time h) (w.whole.in_time h')) in
+      ((pair_of o t made.typed x y a).low (u.whole.in_time h) (w.whole.in_time h')) in
       let both = subst (λ c. SameLow v lat made.lattice laws g o t c (run_from v image t y).core) (sym (u.at_core h))
-          (subst (λ c. SameLow v lat made.lattice laws g o t (past_halt v lat g image p made.code t u.whole.after) c) (sym (w.at_core h')) same) in
+      (subst (λ c. SameLow v lat made.lattice laws g o t (past_halt v lat g image p made.code t u.whole.after) c) (sym (w.at_core h')) same) in
       record { one = both.one; other = both.other; long = both.long; low = both.memory; parts = both.parts }

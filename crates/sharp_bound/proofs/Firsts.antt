@@ -69,7 +69,7 @@ module _ {E : Type 0} (v : Env E) (lat : Lattice) (g : ℕ → ℕ) (o lim : ℕ
   From todo memory c =
       (notes : List Note) × (length notes ≡ c)
       × ((n : ℕ) → length (source_steps n (at todo memory notes)).notes < total
-          → PredictsNext rel ls firsts (source_steps n (at todo memory notes)).todo (source_steps n (at todo memory notes)).memory)
+      → PredictsNext rel ls firsts (source_steps n (at todo memory notes)).todo (source_steps n (at todo memory notes)).memory)
 
   abbrev pub Here : Bare → Core E → Type 0
   Here todo s = From todo s.memory (tally s)
@@ -136,9 +136,11 @@ module _ {E : Type 0} (v : Env E) (lat : Lattice) (g : ℕ → ℕ) (o lim : ℕ
 
   pub from_put : (m : Unit {0}) (f k : ℕ) (i e : Expression) (r : Bare) (memory : List ℤ) (t : ℕ) → From (Put m f k i e r) memory t
       → From r (slice_set memory (element f k (value_of i memory)) (value_of e memory)) (t + 1)
-  from_put m f k i e r memory t h =
-      (h.0 ++ Assigned (element f k (value_of i memory)) (value_of e memory) ∷ [],
-          one_longer h.0 (Assigned (element f k (value_of i memory)) (value_of e memory)) t h.1, λ n. h.2 (suc n))
+  from_put m f k i e r memory t h = (
+    h.0 ++ Assigned (element f k (value_of i memory)) (value_of e memory) ∷ [],
+    one_longer h.0 (Assigned (element f k (value_of i memory)) (value_of e memory)) t h.1,
+    λ n. h.2 (suc n),
+  )
 
   pub from_if : (m : Unit {0}) (e : Expression) (a b r : Bare) (memory : List ℤ) (t : ℕ) (w : Bool) → holds (value_of e memory) ≡ w
       → From (If m e a b r) memory t → From (cond w (then_todo a r) (then_todo b r)) memory t
@@ -208,23 +210,23 @@ module _ {E : Type 0} (v : Env E) (lat : Lattice) (g : ℕ → ℕ) (o lim : ℕ
   goes_on {s = s} (skip {r = r} k) rest h = goes_on k rest (from_skip tt (then_todo (commands_of r) rest) s.memory (tally s) h)
   goes_on {s = s} (assign {m = m} {x = x} {e = e} {r = r} {a = a} k) rest h =
       then_on rest (then_todo (commands_of r) rest) k (goes_on k rest)
-          (wrote x (value_of e s.memory) (touched v m x (tested v m e a s)) (then_todo (commands_of r) rest)
-          (from_same (then_todo (commands_of r) rest) _ _ _ _ (ap (λ z. slice_set z x (value_of e s.memory)) (tested_memory m e a s))
-          (ap (λ z. z + 1) (tested_tally m e a s)) (from_assign tt x e (then_todo (commands_of r) rest) s.memory (tally s) h)))
+      (wrote x (value_of e s.memory) (touched v m x (tested v m e a s)) (then_todo (commands_of r) rest)
+      (from_same (then_todo (commands_of r) rest) _ _ _ _ (ap (λ z. slice_set z x (value_of e s.memory)) (tested_memory m e a s))
+      (ap (λ z. z + 1) (tested_tally m e a s)) (from_assign tt x e (then_todo (commands_of r) rest) s.memory (tally s) h)))
   goes_on {s = s} (put {m = m} {f = f} {n = n} {i = i} {e = e} {r = r} {a = a} k) rest h =
       then_on rest (then_todo (commands_of r) rest) k (goes_on k rest)
-          (wrote (element f n (value_of i s.memory)) (value_of e s.memory) (touched v m (element f n (value_of i s.memory)) (reached v m i e a s))
-          (then_todo (commands_of r) rest)
-          (from_same (then_todo (commands_of r) rest) _ _ _ _
-          (ap (λ z. slice_set z (element f n (value_of i s.memory)) (value_of e s.memory)) (reached_memory m i e a s))
-          (ap (λ z. z + 1) (reached_tally m i e a s)) (from_put tt f n i e (then_todo (commands_of r) rest) s.memory (tally s) h)))
+      (wrote (element f n (value_of i s.memory)) (value_of e s.memory) (touched v m (element f n (value_of i s.memory)) (reached v m i e a s))
+      (then_todo (commands_of r) rest)
+      (from_same (then_todo (commands_of r) rest) _ _ _ _
+      (ap (λ z. slice_set z (element f n (value_of i s.memory)) (value_of e s.memory)) (reached_memory m i e a s))
+      (ap (λ z. z + 1) (reached_tally m i e a s)) (from_put tt f n i e (then_todo (commands_of r) rest) s.memory (tally s) h)))
   goes_on {s = s} (sleep {m = m} {e = e} {r = r} {a = a} k) rest h =
       goes_on k rest (from_same (then_todo (commands_of r) rest) _ _ _ _ (tested_memory m e a s) (tested_tally m e a s)
-          (from_sleep tt e (then_todo (commands_of r) rest) s.memory (tally s) h))
+      (from_sleep tt e (then_todo (commands_of r) rest) s.memory (tally s) h))
   goes_on {s = s} (if_true {m = m} {e = e} {c = c} {d = d} {r = r} {a = a} {s1 = s1} w b k) rest h =
       let more = then_todo (commands_of r) rest in
       let here = goes_on b more (from_same (then_todo (commands_of c) more) _ _ _ _ (tested_memory m e a s) (tested_tally m e a s)
-          (from_if tt e (commands_of c) (commands_of d) more s.memory (tally s) true w h)) in
+      (from_if tt e (commands_of c) (commands_of d) more s.memory (tally s) true w h)) in
       then_on rest more k (goes_on k rest) (late_fetch (raised lat g e m) (a + expr_size e + 1 + size c) more s1 here)
     where
       late_fetch : (m' : Marks) (n : ℕ) (todo : Bare) (s1 : Core E) → After todo s1 → After todo (fetched v m' n s1)
@@ -233,8 +235,8 @@ module _ {E : Type 0} (v : Env E) (lat : Lattice) (g : ℕ → ℕ) (o lim : ℕ
   goes_on {s = s} (if_false {m = m} {e = e} {c = c} {d = d} {r = r} {a = a} w b k) rest h =
       let more = then_todo (commands_of r) rest in
       then_on rest more k (goes_on k rest)
-          (goes_on b more (from_same (then_todo (commands_of d) more) _ _ _ _ (tested_memory m e a s) (tested_tally m e a s)
-          (from_if tt e (commands_of c) (commands_of d) more s.memory (tally s) false w h)))
+      (goes_on b more (from_same (then_todo (commands_of d) more) _ _ _ _ (tested_memory m e a s) (tested_tally m e a s)
+      (from_if tt e (commands_of c) (commands_of d) more s.memory (tally s) false w h)))
   goes_on {s = s} (while_none {m = m} {e = e} {c = c} {r = r} {a = a} w k) rest h =
       let more = then_todo (commands_of r) rest in
       goes_on k rest (from_same more _ _ _ _ (tested_memory m e a s) (tested_tally m e a s) (from_while tt e (commands_of c) more s.memory (tally s) false w h))
@@ -242,7 +244,7 @@ module _ {E : Type 0} (v : Env E) (lat : Lattice) (g : ℕ → ℕ) (o lim : ℕ
       let more = then_todo (commands_of r) rest in
       then_on rest more k (goes_on k rest)
       (goes_on b more (from_same (then_todo (commands_of c) (While tt e (commands_of c) more)) _ _ _ _ (tested_memory m e a s) (tested_tally m e a s)
-          (from_while tt e (commands_of c) more s.memory (tally s) true w h)))
+      (from_while tt e (commands_of c) more s.memory (tally s) true w h)))
   goes_on {s = s} (mitigate {m = m} {k = mark} {l = l} {e = e} {c = c} {r = r} {a = a} {s1 = s1} b k) rest h =
       let more = then_todo (commands_of r) rest in
       let s0 = tested v m e a s in
@@ -250,10 +252,10 @@ module _ {E : Type 0} (v : Env E) (lat : Lattice) (g : ℕ → ℕ) (o lim : ℕ
       let end = ends_after m mark l (value_of e s.memory) (a + expr_size e + 1 + size c) s0 s1 up in
       then_on rest more k (goes_on k rest)
       (closing (opening (value_of e s.memory) l mark s0) m (a + expr_size e + 1 + size c) more s1 end
-          (then_on more (then_todo (commands_of c) more) b (goes_on b more)
-          (began mark s0 (then_todo (commands_of c) more)
-          (from_same (then_todo (commands_of c) more) _ _ _ _ (tested_memory m e a s) (ap (λ z. z + 1) (tested_tally m e a s))
-          (from_mitigate tt tt mark e (commands_of c) more s.memory (tally s) h)))))
+      (then_on more (then_todo (commands_of c) more) b (goes_on b more)
+      (began mark s0 (then_todo (commands_of c) more)
+      (from_same (then_todo (commands_of c) more) _ _ _ _ (tested_memory m e a s) (ap (λ z. z + 1) (tested_tally m e a s))
+      (from_mitigate tt tt mark e (commands_of c) more s.memory (tally s) h)))))
     where
       closing : (w : Opened) (m' : Marks) (n : ℕ) (todo : Bare) (s1 : Core E) → s1.clock ≤ (closed w (fetched v m' n s1)).clock → After todo s1
           → After todo (closed w (fetched v m' n s1))
@@ -308,7 +310,7 @@ module _ {E : Type 0} (v : Env E) (lat : Lattice) (g : ℕ → ℕ) (o lim : ℕ
       go false q1 true q2 =
           let relevant : rel mark ≡ true = tells ∙ ap (λ f. f && not (lat.flows l o)) low ∙ ap (λ f. true && not f) q1 in
           let least : firsts l ≤ prediction (value_of e memory) 0 =
-              subst (λ z. firsts z ≤ prediction (value_of e memory) 0) (sym level) (first (leb-true (closed w q).clock lim q2) relevant) in
+          subst (λ z. firsts z ≤ prediction (value_of e memory) 0) (sym level) (first (leb-true (closed w q).clock lim q2) relevant) in
           let by : since + prediction (value_of e memory) count ≤ lim = leb-true (closed w q).clock lim q2 in
           (omega (arith, by, doubled (value_of e memory) count (firsts l) least), tt)
 
@@ -319,25 +321,25 @@ module _ {E : Type 0} (v : Env E) (lat : Lattice) (g : ℕ → ℕ) (o lim : ℕ
   took {s = s} pc ll t l low (skip {r = r} k) rest h fin = took pc ll t l low k rest (from_skip tt (then_todo (commands_of r) rest) s.memory (tally s) h) fin
   took {s = s} pc ll t l low (assign {m = m} {x = x} {e = e} {r = r} {a = a} k) rest h fin =
       took_on (then_todo (commands_of r) rest) k
-          (λ q. took pc ll t l low k rest q fin) (wrote x (value_of e s.memory) (touched v m x (tested v m e a s)) (then_todo (commands_of r) rest)
-          (from_same (then_todo (commands_of r) rest) _ _ _ _ (ap (λ z. slice_set z x (value_of e s.memory)) (tested_memory m e a s))
-          (ap (λ z. z + 1) (tested_tally m e a s)) (from_assign tt x e (then_todo (commands_of r) rest) s.memory (tally s) h)))
+      (λ q. took pc ll t l low k rest q fin) (wrote x (value_of e s.memory) (touched v m x (tested v m e a s)) (then_todo (commands_of r) rest)
+      (from_same (then_todo (commands_of r) rest) _ _ _ _ (ap (λ z. slice_set z x (value_of e s.memory)) (tested_memory m e a s))
+      (ap (λ z. z + 1) (tested_tally m e a s)) (from_assign tt x e (then_todo (commands_of r) rest) s.memory (tally s) h)))
   took {s = s} pc ll t l low (put {m = m} {f = f} {n = n} {i = i} {e = e} {r = r} {a = a} k) rest h fin =
       took_on (then_todo (commands_of r) rest) k
-          (λ q. took pc ll t l low k rest q fin)
-          (wrote (element f n (value_of i s.memory)) (value_of e s.memory) (touched v m (element f n (value_of i s.memory)) (reached v m i e a s))
-          (then_todo (commands_of r) rest)
-          (from_same (then_todo (commands_of r) rest) _ _ _ _
-          (ap (λ z. slice_set z (element f n (value_of i s.memory)) (value_of e s.memory)) (reached_memory m i e a s))
-          (ap (λ z. z + 1) (reached_tally m i e a s)) (from_put tt f n i e (then_todo (commands_of r) rest) s.memory (tally s) h)))
+      (λ q. took pc ll t l low k rest q fin)
+      (wrote (element f n (value_of i s.memory)) (value_of e s.memory) (touched v m (element f n (value_of i s.memory)) (reached v m i e a s))
+      (then_todo (commands_of r) rest)
+      (from_same (then_todo (commands_of r) rest) _ _ _ _
+      (ap (λ z. slice_set z (element f n (value_of i s.memory)) (value_of e s.memory)) (reached_memory m i e a s))
+      (ap (λ z. z + 1) (reached_tally m i e a s)) (from_put tt f n i e (then_todo (commands_of r) rest) s.memory (tally s) h)))
   took {s = s} pc ll t l low (sleep {m = m} {e = e} {r = r} {a = a} k) rest h fin =
       took pc ll t l low k rest (from_same (then_todo (commands_of r) rest) _ _ _ _ (tested_memory m e a s) (tested_tally m e a s)
-          (from_sleep tt e (then_todo (commands_of r) rest) s.memory (tally s) h)) fin
+      (from_sleep tt e (then_todo (commands_of r) rest) s.memory (tally s) h)) fin
   took {s = s} pc ll t l low (if_true {m = m} {e = e} {c = c} {d = d} {r = r} {a = a} {s1 = s1} w b k) rest h fin =
       let more = then_todo (commands_of r) rest in
       let x = label_of lat g e in
       let here = from_same (then_todo (commands_of c) more) _ _ _ _ (tested_memory m e a s) (tested_tally m e a s)
-          (from_if tt e (commands_of c) (commands_of d) more s.memory (tally s) true w h) in
+      (from_if tt e (commands_of c) (commands_of d) more s.memory (tally s) true w h) in
       took_append firsts lim _ _
       (took_cond firsts lim (lat.flows x o) _ (λ f. took (lat.join pc x) ll t.0 l.0 (ll.least pc x o low f) b more here (omega (arith, mono k, fin))))
       (took_on more k (λ q. took pc ll t.2 l.2 low k rest q fin) (late_fetch (raised lat g e m) (a + expr_size e + 1 + size c) more s1 (goes_on b more here)))
@@ -349,7 +351,7 @@ module _ {E : Type 0} (v : Env E) (lat : Lattice) (g : ℕ → ℕ) (o lim : ℕ
       let more = then_todo (commands_of r) rest in
       let x = label_of lat g e in
       let here = from_same (then_todo (commands_of d) more) _ _ _ _ (tested_memory m e a s) (tested_tally m e a s)
-          (from_if tt e (commands_of c) (commands_of d) more s.memory (tally s) false w h) in
+      (from_if tt e (commands_of c) (commands_of d) more s.memory (tally s) false w h) in
       took_append firsts lim _ _
       (took_cond firsts lim (lat.flows x o) _ (λ f. took (lat.join pc x) ll t.1 l.1 (ll.least pc x o low f) b more here (omega (arith, mono k, fin))))
       (took_on more k (λ q. took pc ll t.2 l.2 low k rest q fin) (goes_on b more here))
@@ -357,12 +359,12 @@ module _ {E : Type 0} (v : Env E) (lat : Lattice) (g : ℕ → ℕ) (o lim : ℕ
       let more = then_todo (commands_of r) rest in
       took_append firsts lim _ _ (took_cond firsts lim (lat.flows (label_of lat g e) o) [] (λ f. tt))
       (took pc ll t.1 l.1 low k rest (from_same more _ _ _ _ (tested_memory m e a s) (tested_tally m e a s)
-          (from_while tt e (commands_of c) more s.memory (tally s) false w h)) fin)
+      (from_while tt e (commands_of c) more s.memory (tally s) false w h)) fin)
   took {s = s} pc ll t l low (while_some {m = m} {e = e} {c = c} {r = r} {a = a} w b k) rest h fin =
       let more = then_todo (commands_of r) rest in
       let x = label_of lat g e in
       let here = from_same (then_todo (commands_of c) (While tt e (commands_of c) more)) _ _ _ _ (tested_memory m e a s) (tested_tally m e a s)
-          (from_while tt e (commands_of c) more s.memory (tally s) true w h) in
+      (from_while tt e (commands_of c) more s.memory (tally s) true w h) in
       took_append firsts lim _ _
       (took_cond firsts lim (lat.flows x o) _ (λ f. took (lat.join pc x) ll t.0 l.0 (ll.least pc x o low f) b more here (omega (arith, mono k, fin))))
       (took_on more k (λ q. took pc ll t.1 l.1 low k rest q fin) (goes_on b more here))
@@ -372,8 +374,8 @@ module _ {E : Type 0} (v : Env E) (lat : Lattice) (g : ℕ → ℕ) (o lim : ℕ
       let s2 = fetched v m (a + expr_size e + 1 + size c) s1 in
       let w = opening (value_of e s.memory) level mark s0 in
       let here = began mark s0 (then_todo (commands_of c) more)
-          (from_same (then_todo (commands_of c) more) _ _ _ _ (tested_memory m e a s) (ap (λ z. z + 1) (tested_tally m e a s))
-          (from_mitigate tt tt mark e (commands_of c) more s.memory (tally s) h)) in
+      (from_same (then_todo (commands_of c) more) _ _ _ _ (tested_memory m e a s) (ap (λ z. z + 1) (tested_tally m e a s))
+      (from_mitigate tt tt mark e (commands_of c) more s.memory (tally s) h)) in
       let up = (grows_run v lat g o lim b).clock in
       let inner : tally s1 ≤ total = omega (arith, closed_tally w s2, mono k, fin) in
       let begin = noted_in s0.log (Began mark s0.clock) in
@@ -381,9 +383,9 @@ module _ {E : Type 0} (v : Env E) (lat : Lattice) (g : ℕ → ℕ) (o lim : ℕ
       took_append firsts lim _ _
       (took_append firsts lim _ _ (took_on (then_todo (commands_of c) more) b (λ q. took pc ll t.1 l.1 low b more q inner) here)
       (took_entry pc level mark e s.memory s0.clock s2 low t.0 l.0
-          (λ by. h.2 0 (omega (arith, h.1, tested_tally m e a s, begin (omega (arith, by, end, up)) refl, mono b, inner)))))
+      (λ by. h.2 0 (omega (arith, h.1, tested_tally m e a s, begin (omega (arith, by, end, up)) refl, mono b, inner)))))
       (took_on more k (λ q. took pc ll t.2 l.2 low k rest q fin) (closing (opening (value_of e s.memory) level mark s0) m (a + expr_size e + 1 + size c) more s1
-          end (then_on more (then_todo (commands_of c) more) b (goes_on b more) here)))
+      end (then_on more (then_todo (commands_of c) more) b (goes_on b more) here)))
     where
       closing : (w : Opened) (m' : Marks) (n : ℕ) (todo : Bare) (s1 : Core E) → s1.clock ≤ (closed w (fetched v m' n s1)).clock → After todo s1
           → After todo (closed w (fetched v m' n s1))
@@ -395,7 +397,7 @@ module _ {E : Type 0} (v : Env E) (lat : Lattice) (g : ℕ → ℕ) (o lim : ℕ
       let more = then_todo (commands_of c) (While tt e (commands_of c) rest) in
       let up = tested_clock v (raised lat g e m) e (a + size c) s1 in
       took_append firsts lim _ _ (took pc ll t l low b (While tt e (commands_of c) rest) h
-          (omega (arith, tested_tally (raised lat g e m) e (a + size c) s1, mono k, fin)))
+      (omega (arith, tested_tally (raised lat g e m) e (a + size c) s1, mono k, fin)))
       (took_on more k (λ q. took pc ll t l low k rest q fin) (go up (goes_on b (While tt e (commands_of c) rest) h)))
     where
       go : s1.clock ≤ (tested v (raised lat g e m) e (a + size c) s1).clock → After (While tt e (commands_of c) rest) s1

@@ -34,7 +34,7 @@ module _ {M L M' L' : Type 0} (p : Todo M L) (q : Todo M' L') (e : commands_of p
   predicts_same firsts m total h =
       subst (λ rel. Predicts rel ls firsts p m total) (sym (relevant-same p q e lat g ls o))
       (subst (λ c. (n : ℕ) → length (notes_of c m n) < total
-          → PredictsNext (is_relevant lat g ls o q) ls firsts (source_steps n (source_start c m)).todo (source_steps n (source_start c m)).memory) (sym e) h)
+      → PredictsNext (is_relevant lat g ls o q) ls firsts (source_steps n (source_start c m)).todo (source_steps n (source_start c m)).memory) (sym e) h)
 
   begins_each_same : (m : List ℤ) (counts : ℕ → ℕ) → BeginsEach lat g ls o p m counts → BeginsEach lat g ls o q m counts
   begins_each_same m counts b =
@@ -59,7 +59,7 @@ module _ {E V M L M' L' : Type 0} (v : Env E) (order : Order) (serves : E → Ty
   few_halted_same few starts agree halts firsts predicts same tests =
       let r = few starts agree halts firsts
       (Each-map (PredictsBy v lat g ls image q o t firsts) (PredictsBy v lat g ls image p o t firsts)
-          (λ s a. predicts_same p q e lat g ls o firsts s.memory (notes_to v image t s) a) starts predicts)
+      (λ s a. predicts_same p q e lat g ls o firsts s.memory (notes_to v image t s) a) starts predicts)
       same tests in (
         r.0,
         Each-map (λ (s : Start E). BeginsEach lat g ls o p s.memory r.0) (λ s. BeginsEach lat g ls o q s.memory r.0)
@@ -74,20 +74,20 @@ module _ {E V M L M' L' : Type 0} (v : Env E) (order : Order) (serves : E → Ty
       (λ rel.
       FewShown view same starts (sharp (λ l. ends_by t firsts l + 1) order.size (λ l. most_ended v image (λ k. rel k && eqb (ls k) l) t starts))
       × (sharp (λ l. ends_by t firsts l + 1) order.size (λ l. most_ended v image (λ k. rel k && eqb (ls k) l) t starts) ≤ bound order o t
-          (most_ended v image rel t starts)))
+      (most_ended v image rel t starts)))
       (relevant-same p q e lat g ls o)
       (few starts agree firsts
       (Each-map (PredictsBy v lat g ls image q o t firsts) (PredictsBy v lat g ls image p o t firsts)
-          (λ s a. predicts_same p q e lat g ls o firsts s.memory (notes_to v image t s) a) starts predicts)
+      (λ s a. predicts_same p q e lat g ls o firsts s.memory (notes_to v image t s) a) starts predicts)
       same tests)
 
   pub few_shared_same : FewShared v order serves g ls image p o t view → FewShared v order serves g ls image q o t view
   few_shared_same few apart starts agree halts firsts predicts same tests =
       let apart' : StandApart (is_relevant lat g ls o p) (commands_of p) =
-          subst (λ rel. StandApart rel (commands_of p)) (sym (relevant-same p q e lat g ls o)) (subst (StandApart (is_relevant lat g ls o q)) (sym e) apart) in
+      subst (λ rel. StandApart rel (commands_of p)) (sym (relevant-same p q e lat g ls o)) (subst (StandApart (is_relevant lat g ls o q)) (sym e) apart) in
       let r = few apart' starts agree halts firsts
       (Each-map (PredictsBy v lat g ls image q o t firsts) (PredictsBy v lat g ls image p o t firsts)
-          (λ s a. predicts_same p q e lat g ls o firsts s.memory (notes_to v image t s) a) starts predicts)
+      (λ s a. predicts_same p q e lat g ls o firsts s.memory (notes_to v image t s) a) starts predicts)
       same tests in (
         r.0,
         Each-map (λ (s : Start E). BeginsEach lat g ls o p s.memory r.0) (λ s. BeginsEach lat g ls o q s.memory r.0)
@@ -99,14 +99,18 @@ module _ {E : Type 0} (v : Env E) (serves : Order → E → Type 0) where
   pub lowered_sharp : SharpSoundAll v serves → LoweredSharpAll v serves
   lowered_sharp all q is =
       let few = (all q.program.order (labels_of q) (levels_of q) (lowered q).instrs (bare_of q) (made_of q is)).few in
-      record { few = λ o low t some. few_halted_same v q.program.order (serves q.program.order) (labels_of q) (levels_of q) (lowered q).instrs (bare_of q)
-          (plan_of q.program) (keep_commands q) o t _ (few o low t some) }
+      record {
+        few = λ o low t some. few_halted_same v q.program.order (serves q.program.order) (labels_of q) (levels_of q) (lowered q).instrs (bare_of q)
+            (plan_of q.program) (keep_commands q) o t _ (few o low t some);
+      }
 
   pub lowered_cut : SharpCutAll v serves → LoweredSharpCutAll v serves
   lowered_cut all q is =
       let few = (all q.program.order (labels_of q) (levels_of q) (lowered q).instrs (bare_of q) (made_of q is)).few in
-      record { few = λ o low t some. few_cut_same v q.program.order (serves q.program.order) (labels_of q) (levels_of q) (lowered q).instrs (bare_of q)
-          (plan_of q.program) (keep_commands q) o t _ (few o low t some) }
+      record {
+        few = λ o low t some. few_cut_same v q.program.order (serves q.program.order) (labels_of q) (levels_of q) (lowered q).instrs (bare_of q)
+            (plan_of q.program) (keep_commands q) o t _ (few o low t some);
+      }
 
   pub lowered_end : SharpEndAll v serves → LoweredSharpEndAll v serves
   lowered_end all q is =
@@ -121,16 +125,18 @@ module _ {E : Type 0} (v : Env E) (serves : Order → E → Type 0) where
   pub lowered_shared : SharpSharedAll v serves → LoweredSharedAll v serves
   lowered_shared all q is =
       let few = (all q.program.order (labels_of q) (levels_of q) (lowered q).instrs (bare_of q) (made_of q is)).few in
-      record { few = λ o low t some. few_shared_same v q.program.order (serves q.program.order) (labels_of q) (levels_of q) (lowered q).instrs (bare_of q)
-          (plan_of q.program) (keep_commands q) o t _ (few o low t some) }
+      record {
+        few = λ o low t some. few_shared_same v q.program.order (serves q.program.order) (labels_of q) (levels_of q) (lowered q).instrs (bare_of q)
+            (plan_of q.program) (keep_commands q) o t _ (few o low t some);
+      }
 
   pub lowered_many : (X : Type 0) → SharpSoundAll v serves → SharpCutAll v serves → LoweredManyAll X v serves
   lowered_many X all all_cut order q is =
       is_sharp_many v order (λ i. labels_of (q i)) (λ i. levels_of (q i)) (λ i. (lowered (q i)).instrs) (λ i. plan_of (q i).program)
       (λ i. subst (λ z. SharpSound v z (serves z) (labels_of (q i)) (levels_of (q i)) (lowered (q i)).instrs (plan_of (q i).program)) (is i).1
-          (lowered_sharp all (q i) (is i).0))
+      (lowered_sharp all (q i) (is i).0))
       (λ i. subst (λ z. SharpCut v z (serves z) (labels_of (q i)) (levels_of (q i)) (lowered (q i)).instrs (plan_of (q i).program)) (is i).1
-          (lowered_cut all_cut (q i) (is i).0))
+      (lowered_cut all_cut (q i) (is i).0))
 
   pub lowered_left : LeavesAgree v serves → LoweredLeavesAgree v serves
   lowered_left all q is = all q.program.order (labels_of q) (levels_of q) (lowered q).instrs (bare_of q) (made_of q is)

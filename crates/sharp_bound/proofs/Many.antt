@@ -57,7 +57,7 @@ few_many X V view same alike tests tests' xs ms zero h = few_shown (seen_in view
     same_distinct [] = refl
     same_distinct (y ∷ ys) =
         ap (λ b. cond (not b) ([] ∷ filter (λ z. not (alike [] z)) (filter (λ z. not (alike [] z)) (distinct alike (map (seen_in view 0) ys))))
-            (filter (λ z. not (alike [] z)) (filter (λ z. not (alike [] z)) (distinct alike (map (seen_in view 0) ys))))) (tests'.same_from [] [] refl)
+        (filter (λ z. not (alike [] z)) (filter (λ z. not (alike [] z)) (distinct alike (map (seen_in view 0) ys))))) (tests'.same_from [] [] refl)
         ∙ ap (filter (λ z. not (alike [] z))) (same_distinct ys)
 
     one : (ys : List X) → distinct_count alike (map (seen_in view 0) ys) ≤ 1
@@ -66,20 +66,20 @@ few_many X V view same alike tests tests' xs ms zero h = few_shown (seen_in view
 few_many X V view same alike tests tests' xs ms (suc n) h =
     let before = few_many X V view same alike tests tests' xs ms n (λ i lt. h i (omega arith)) in
     let two = few_twice X (List V) V (seen_in view n) (view n) alike same (λ a b. alike (joined a) (joined b)) tests' tests (tests_joined alike tests') xs
-        (product_of ms n) (ms n) before (h n (omega arith)) in
+    (product_of ms n) (ms n) before (h n (omega arith)) in
     few_shown (seen_in view (suc n)) alike tests' xs (product_of ms n * ms n)
     (subst (λ z. z ≤ product_of ms n * ms n) (sym (count_on joined alike (both (seen_in view n) (view n)) xs)) two.count)
 
 pub is_sharp_many : {E X M L : Type 0} {serves : E → Type 0} (v : Env E) (order : Order) (g ls : ℕ → ℕ → ℕ) (image : ℕ → List Instr) (p : ℕ → Todo M L) →
     ((i : ℕ) → SharpSound v order serves (g i) (ls i) (image i) (p i)) → ((i : ℕ) → SharpCut v order serves (g i) (ls i) (image i) (p i))
-        → SharpMany X v order serves g ls image p
+    → SharpMany X v order serves g ls image p
 is_sharp_many {E} {X} {M} {L} {serves} v order g ls image p sound cut =
     record {
       halted = λ o low t some start xs firsts ms n agree holds alike tests.
           let view : ℕ → List (List Event) → X → List Event = λ i w x. seen_from v (lattice_of order) (g i) (image i) o (t i) (start i w x) in
           few_many X (List Event) view same_events alike tests_events tests xs ms n
           (λ i lt w. halted_by serves v order (g i) (ls i) (image i) (p i) (sound i) o low (t i) (some i) (start i w)
-              (that_show (seen_in view i) alike w xs) (firsts i) (ms i)
+          (that_show (seen_in view i) alike w xs) (firsts i) (ms i)
           (those_agree (seen_in view i) alike tests (start i) (Agree v (lattice_of order) serves (g i) o) xs (agree i lt) w)
           (those_hold (seen_in view i) alike tests (start i) (λ s. Covers v order (g i) (ls i) (image i) (p i) o (t i) (firsts i) (ms i) s) xs (holds i lt) w));
       cut = λ o low t some start xs firsts n agree holds alike tests.
@@ -90,9 +90,9 @@ is_sharp_many {E} {X} {M} {L} {serves} v order g ls image p sound cut =
           let r = cut_by serves v order (g i) (ls i) (image i) (p i) (cut i) o low (t i) (some i) (start i w) ys (firsts i)
           (those_agree (seen_in view i) alike tests (start i) (Agree v (lattice_of order) serves (g i) o) xs (agree i lt) w)
           (those_hold (seen_in view i) alike tests (start i)
-              (λ s. PredictsBy v (lattice_of order) (g i) (ls i) (image i) (p i) o (t i) (firsts i) s) xs (holds i lt) w) in
+          (λ s. PredictsBy v (lattice_of order) (g i) (ls i) (image i) (p i) o (t i) (firsts i) s) xs (holds i lt) w) in
           let e = ap (cut_count v order (g i) (ls i) (image i) (p i) o (t i) (firsts i)) (those_views (seen_in view i) alike tests (start i) w xs) in
           let less = cut_less serves v order (g i) (ls i) (image i) (p i) o (t i) (firsts i) (λ x. start i (seen_in view i x) x)
-              (λ x. alike w (seen_in view i x)) xs in
+          (λ x. alike w (seen_in view i x)) xs in
           few_shown _ same_events tests_events ys _ (omega (arith, r.count, e, less)));
     }

@@ -66,7 +66,7 @@ halts_there {E = E} v image t k s h by = ⊎_elim earlier later (cases_lt r.coun
         let m = k - r.count - 1 in
         let e : k ≡ r.count + suc m = omega arith in
         let on : steps v image k x ≡ steps v image (suc m) y =
-            ap (λ n. steps v image n x) e ∙ steps-add v image r.count (suc m) x ∙ ap (steps v image (suc m)) r.is in
+        ap (λ n. steps v image n x) e ∙ steps-add v image r.count (suc m) x ∙ ap (steps v image (suc m)) r.is in
         let sane = ticks v image y (subst (λ z. Sane z.opened z.core.clock) r.is (steps_sane v image r.count x tt)) in
         let up = steps_clock v image m (step v image y) sane.sane in
         let same = ap (λ z. z.core.clock) on in
@@ -98,7 +98,7 @@ halted_there {E = E} v image t k s h h' = ⊎_elim earlier later (cases_lt r.cou
     earlier lt =
         let e : k ≡ r.count + (k - r.count) = omega arith in
         sym (ap (λ n. steps v image n x) e ∙ steps-add v image r.count (k - r.count) x ∙ ap (steps v image (k - r.count)) r.is
-            ∙ stays v image (k - r.count) y h')
+        ∙ stays v image (k - r.count) y h')
 
 -- one mitigate of one level
 sharp-none : (values : ℕ → ℕ) (n high : ℕ) (counts : ℕ → ℕ) → ((l : ℕ) → counts l ≡ cond (eqb high l) 1 0) → n ≤ high → sharp values n counts ≡ 1
@@ -148,7 +148,7 @@ filter_all see same tests x [] h = refl
 filter_all see same tests x (y ∷ xs) h =
     let other : same (see x) (see y) ≡ false = false_from_ne_true (same (see x) (see y)) (λ e. h.0 (tests.same_to (see x) (see y) e)) in
     ap (λ b. cond (not b) (see y ∷ filter (λ w. not (same (see x) w)) (map see xs)) (filter (λ w. not (same (see x) w)) (map see xs))) other
-        ∙ ap (λ z. see y ∷ z) (filter_all see same tests x xs h.1)
+    ∙ ap (λ z. see y ∷ z) (filter_all see same tests x xs h.1)
 
 -- where no two show the same, all are different
 all_apart : {X V : Type 0} (see : X → V) (same : V → V → Bool) → Tests same → (xs : List X) → ShowApart see xs → distinct same (map see xs) ≡ map see xs
@@ -159,8 +159,13 @@ all_apart see same tests (x ∷ xs) h =
 -- an environment without penalties and without change is lawful
 flat_laws : {E : Type 0} (part : Place → ℕ → E → List ℕ) (lat : Lattice) (serves : E → Type 0)
     → IsLawful (record { cost_of = λ k a er ew e. 0; next_of = λ k a er ew e. e; part = part }) lat serves
-flat_laws part lat serves = record { keeps = λ k a er ew e s. s; write_label = λ k a er ew e s q l h. refl; read_label =
-    λ k a er ew e e' s s' h. refl; agreement = λ k a er ew h e e' s s' f. f }
+flat_laws part lat serves = record {
+  keeps = λ k a er ew e s. s;
+  write_label = λ k a er ew e s q l h. refl;
+  read_label =
+      λ k a er ew e e' s s' h. refl;
+  agreement = λ k a er ew h e e' s s' f. f;
+}
 
 module _ {E : Type 0} (serves : E → Type 0) (part : Place → ℕ → E → List ℕ) (order : Order) (ll : IsLattice (lattice_of order)) (o high : ℕ)
     (apart : Flows (lattice_of order) high o → ⊥) where
@@ -202,8 +207,16 @@ module _ {E : Type 0} (serves : E → Type 0) (part : Place → ℕ → E → Li
   code = ((refl, refl, (refl, refl, tt), refl, (refl, refl, tt)), refl)
 
   compiled : high < order.size → IsCompiled order g ls image (naps lat high)
-  compiled h = record { lattice = ll; levels = (h, tt, tt); told = (refl, tt, tt); marks = (refl, tt, tt); arrays =
-      (tt, (tt, tt), (tt, tt)); typed = typed; code = code }
+  compiled h = record {
+    lattice = ll;
+    levels = (h, tt, tt);
+    told = (refl, tt, tt);
+    marks = (refl, tt, tt);
+    arrays =
+        (tt, (tt, tt), (tt, tt));
+    typed = typed;
+    code = code;
+  }
 
   agree : (e : E) → serves e → (a b : ℕ) → Agree v lat serves g o (power e a) (power e b)
   agree e s a b =
@@ -274,7 +287,7 @@ module _ {E : Type 0} (serves : E → Type 0) (part : Place → ℕ → E → Li
     differ : (e : E) (n m : ℕ) → 2 ≤ n → n < m → m + 3 ≤ digits t → see (power e n) ≡ see (power e m) → ⊥
     differ e n m two lt le same =
         let lists : Wrote 1 (pos 1) (2 ^ suc n + 4) ∷ [] ≡ Wrote 1 (pos 1) (2 ^ suc m + 4) ∷ [] =
-            sym (shows e n two (omega arith)) ∙ same ∙ shows e m (omega arith) le in
+        sym (shows e n two (omega arith)) ∙ same ∙ shows e m (omega arith) le in
         let cycles : 2 ^ suc n + 4 ≡ 2 ^ suc m + 4 = cc in
         let up : suc n < suc m = omega arith in
         absurd (omega (arith, cycles, pow_below (suc n) (suc m) up))
@@ -325,7 +338,7 @@ module _ {E : Type 0} (serves : E → Type 0) (part : Place → ℕ → E → Li
   relevant : (l : ℕ) → relevant_at lat g ls o (naps lat high) l 0 ≡ eqb high l
   relevant l =
       ap (λ b. (b && not (lat.flows high o)) && eqb high l) (ll.lowest o)
-          ∙ ap (λ b. (true && not b) && eqb high l) (false_from_ne_true (lat.flows high o) apart)
+      ∙ ap (λ b. (true && not b) && eqb high l) (false_from_ne_true (lat.flows high o) apart)
 
   begins : (memory : List ℤ) → BeginsEach lat g ls o (naps lat high) memory (λ l. cond (eqb high l) 1 0)
   begins memory = (3, refl, λ l. let r = ap (λ b. cond {A = ℕ} b 1 0) (relevant l) in omega (arith, r))
@@ -334,7 +347,7 @@ module _ {E : Type 0} (serves : E → Type 0) (part : Place → ℕ → E → Li
   begins_one memory counts b l =
       let own = begins memory in
       sym (b.2 l) ∙ ap (λ z. count_by (relevant_at lat g ls o (naps lat high) l) (started_in z)) (ended_same (naps lat high) memory b.0 own.0 b.1 own.1)
-          ∙ own.2 l
+      ∙ own.2 l
 
   most : o < order.size → high < order.size → SharpSound v order serves g ls image (naps lat high) → (t : ℕ) → 0 < t → (starts : List (Start E))
       → Pairwise (Agree v lat serves g o) starts → Each (Halts v image t) starts → (same : List Event → List Event → Bool) → Tests same
@@ -344,7 +357,7 @@ module _ {E : Type 0} (serves : E → Type 0) (part : Place → ℕ → E → Li
       let r = sound.few o low t some (s ∷ starts) agree halts (λ l. 1) (each_first v lat g ls image (naps lat high) o t (s ∷ starts)) same tests in
       let whole : ends_by t (λ l. 1) high ≡ digits t = ap digits (div_one t) in
       subst (FewShown (seen_from v lat g image o t) same (s ∷ starts)) (sharp-one (ends_by t (λ l. 1)) order.size high r.0 (begins_one s.memory r.0 r.1.0) below
-          ∙ whole) r.2
+      ∙ whole) r.2
 
   -- the sequences that starts h = 2 ^ n show: those at the ends after n + 1 misses and so on, k of them
   abbrev ends : ℕ → ℕ → List (List Event)
@@ -379,7 +392,7 @@ module _ {E : Type 0} (serves : E → Type 0) (part : Place → ℕ → E → Li
         let clock = ap (λ y. y.core.clock) there in
         let less : 2 ^ suc q.0 < 2 ^ d = omega (arith, by, clock, clock_of e n q.0 q.2) in
         let below : suc q.0 < d = ⊎_elim (λ (lt : suc q.0 < d). lt) (λ (le : d ≤ suc q.0). let up : 2 ^ d ≤ 2 ^ suc q.0 = pow_mono le in
-            absurd (omega (arith, up, less))) (cases_lt (suc q.0) d) in
+        absurd (omega (arith, up, less))) (cases_lt (suc q.0) d) in
         let two = q.1 in
         has_end same tests (shown_by (power e n)) q.0 2 (d - 3) (ap (λ y. visible lat g o y.core.log) there ∙ seen_is e n q.0 q.2) two (omega arith)
 
@@ -387,9 +400,10 @@ module _ {E : Type 0} (serves : E → Type 0) (part : Place → ℕ → E → Li
         → Each (Halts v image (2 ^ d)) starts → Each (λ w. Has (λ u. same u w) (ends 2 (d - 3))) (map shown_by starts)
     each_one same tests e [] p h = tt
     each_one same tests e (s ∷ starts) p h =
-        let is = p.0.1 in
-        (subst (λ z. Has (λ u. same u (shown_by z)) (ends 2 (d - 3))) (sym is) (one_of same tests e p.0.0 (subst (Halts v image (2 ^ d)) is h.0)),
-            each_one same tests e starts p.1 h.1)
+        let is = p.0.1 in (
+          subst (λ z. Has (λ u. same u (shown_by z)) (ends 2 (d - 3))) (sym is) (one_of same tests e p.0.0 (subst (Halts v image (2 ^ d)) is h.0)),
+          each_one same tests e starts p.1 h.1,
+        )
 
     four : (e : E) (starts : List (Start E)) → Each (λ s. (n : ℕ) × (s ≡ power e n)) starts → Each (Halts v image (2 ^ d)) starts
         → (same : List Event → List Event → Bool) → Tests same → distinct_count same (map shown_by starts) ≤ digits (2 ^ d) - 4

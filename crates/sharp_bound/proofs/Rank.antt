@@ -100,7 +100,7 @@ same_ranks n ds ks (x ∷ r) [] f (inr u) up up' m m' in_ in' h h' s = absurd (o
 same_ranks n ds ks ((l, c) ∷ r) ((l', c') ∷ r') f ends up up' m m' in_ in' h h' s =
     go l' f.0 up' m' h' s (cases_order c c')
     (λ t. same_ranks n ds (less l ks) r r' f.1 (tails ends) up.1 up'.1 m.1 m'.1 in_.1 in'.1 (rest_fits (l, c) r ks h)
-        (subst (λ z. (q : ℕ) → picked (is_at q) r' ≤ less z ks q) (sym f.0) (rest_fits (l', c') r' ks h')) t)
+    (subst (λ z. (q : ℕ) → picked (is_at q) r' ≤ less z ks q) (sym f.0) (rest_fits (l', c') r' ks h')) t)
   where
     tails : (length ((l, c) ∷ r) ≡ length ((l', c') ∷ r')) ⊎ (Under ds ((l, c) ∷ r) × Under ds ((l', c') ∷ r'))
         → (length r ≡ length r') ⊎ (Under ds r × Under ds r')
@@ -119,11 +119,11 @@ same_ranks n ds ks ((l, c) ∷ r) ((l', c') ∷ r') f ends up up' m m' in_ in' h
         cc
     go l' le up' m' h' s (inr (inl lt)) rec =
         absurd (lower_head ds l c c' (ks l) r r' (subst (λ z. AtMost ds ((z, c') ∷ r')) (sym le) up') (subst (λ z. NeverFalls ((z, c') ∷ r')) (sym le) m')
-            (subst (λ z. picked (is_at l) ((z, c') ∷ r') ≤ ks l) (sym le) (h' l))
-            (subst (λ z. rank (ds l) l (ks l) ((l, c) ∷ r) ≡ rank (ds l) l (ks l) ((z, c') ∷ r')) (sym le) (s l in_.0)) lt)
+        (subst (λ z. picked (is_at l) ((z, c') ∷ r') ≤ ks l) (sym le) (h' l))
+        (subst (λ z. rank (ds l) l (ks l) ((l, c) ∷ r) ≡ rank (ds l) l (ks l) ((z, c') ∷ r')) (sym le) (s l in_.0)) lt)
     go l' le up' m' h' s (inr (inr lt)) rec =
         absurd (lower_head ds l c' c (ks l) r' r up m (h l)
-            (sym (subst (λ z. rank (ds l) l (ks l) ((l, c) ∷ r) ≡ rank (ds l) l (ks l) ((z, c') ∷ r')) (sym le) (s l in_.0))) lt)
+        (sym (subst (λ z. rank (ds l) l (ks l) ((l, c) ∷ r) ≡ rank (ds l) l (ks l) ((z, c') ∷ r')) (sym le) (s l in_.0))) lt)
 
 -- the ranks of the levels below n as one number
 abbrev pub number : (ℕ → ℕ) → (ℕ → ℕ) → ℕ → List Entry → ℕ

@@ -85,7 +85,7 @@ module _ {E : Type 0} {serves : E → Type 0} (v : Env E) (lat : Lattice) (ll : 
   entry_fits : (pc l mark : ℕ) (e : Expression) (memory : List ℤ) (since : ℕ) (q : Core E) → Flows lat pc o → rel mark ≡ (lat.flows pc o && not (lat.flows l o))
       → l ≡ ls mark → (rel mark ≡ true → firsts (ls mark) ≤ prediction (value_of e memory) 0) →
       since + spent firsts (entry_of v lat g o lim (record { estimate = value_of e memory; level = l; mark = mark; since = since }) q) ≤
-          (closed (record { estimate = value_of e memory; level = l; mark = mark; since = since }) q).clock
+      (closed (record { estimate = value_of e memory; level = l; mark = mark; since = since }) q).clock
   entry_fits pc l mark e memory since q low tells level first = go (lat.flows l o) refl (leb (closed w q).clock lim)
     where
       w : Opened
@@ -124,64 +124,82 @@ module _ {E : Type 0} {serves : E → Type 0} (v : Env E) (lat : Lattice) (ll : 
   fits_run pc t l u low done rest h by fin = omega arith
   fits_run pc t l u low (late far) rest h by fin = absurd (omega arith)
   fits_run {s = s} pc t l u low (skip {r = r} k) rest h by fin =
-      omega (arith, fits_run pc t l u low k rest (from_skip v lat g o lim rel ls firsts total tt (then_todo (commands_of r) rest) s.memory
-          (tally v lat g o lim rel ls firsts total s) h) by fin)
+      omega (
+        arith,
+        fits_run pc t l u low k rest (from_skip v lat g o lim rel ls firsts total tt (then_todo (commands_of r) rest) s.memory
+            (tally v lat g o lim rel ls firsts total s) h) by fin,
+      )
   fits_run {s = s} pc t l u low (assign {m = m} {x = x} {e = e} {r = r} {a = a} k) rest h by fin =
-      omega (arith, timed_clock v m e a s,
-          fits_run pc t l u low k rest (still (then_todo (commands_of r) rest) (written x (value_of e s.memory) (touched v m x (tested v m e a s)))
-          (wrote v lat g o lim rel ls firsts total x (value_of e s.memory) (touched v m x (tested v m e a s)) (then_todo (commands_of r) rest)
-          (from_same v lat g o lim rel ls firsts total (then_todo (commands_of r) rest) _ _ _ _
-          (ap (λ z. slice_set z x (value_of e s.memory)) (tested_memory v lat g o lim rel ls firsts total m e a s))
-          (ap (λ z. z + 1) (tested_tally v lat g o lim rel ls firsts total m e a s))
-          (from_assign v lat g o lim rel ls firsts total tt x e (then_todo (commands_of r) rest) s.memory (tally v lat g o lim rel ls firsts total s) h)))
-          (omega (arith, (grows_run v lat g o lim k).clock, by))) by fin)
+      omega (
+        arith,
+        timed_clock v m e a s,
+        fits_run pc t l u low k rest (still (then_todo (commands_of r) rest) (written x (value_of e s.memory) (touched v m x (tested v m e a s)))
+            (wrote v lat g o lim rel ls firsts total x (value_of e s.memory) (touched v m x (tested v m e a s)) (then_todo (commands_of r) rest)
+            (from_same v lat g o lim rel ls firsts total (then_todo (commands_of r) rest) _ _ _ _
+            (ap (λ z. slice_set z x (value_of e s.memory)) (tested_memory v lat g o lim rel ls firsts total m e a s))
+            (ap (λ z. z + 1) (tested_tally v lat g o lim rel ls firsts total m e a s))
+            (from_assign v lat g o lim rel ls firsts total tt x e (then_todo (commands_of r) rest) s.memory (tally v lat g o lim rel ls firsts total s) h)))
+            (omega (arith, (grows_run v lat g o lim k).clock, by))) by fin,
+      )
   fits_run {s = s} pc t l u low (put {m = m} {f = f} {n = n} {i = i} {e = e} {r = r} {a = a} k) rest h by fin =
-      omega (arith, reached_clock v m i e a s,
-          fits_run pc t l u low k rest (still (then_todo (commands_of r) rest)
-          (written (element f n (value_of i s.memory)) (value_of e s.memory) (touched v m (element f n (value_of i s.memory)) (reached v m i e a s)))
-          (wrote v lat g o lim rel ls firsts total (element f n (value_of i s.memory)) (value_of e s.memory)
-          (touched v m (element f n (value_of i s.memory)) (reached v m i e a s)) (then_todo (commands_of r) rest)
-          (from_same v lat g o lim rel ls firsts total (then_todo (commands_of r) rest) _ _ _ _
-          (ap (λ z. slice_set z (element f n (value_of i s.memory)) (value_of e s.memory)) (reached_memory v lat g o lim rel ls firsts total m i e a s))
-          (ap (λ z. z + 1) (reached_tally v lat g o lim rel ls firsts total m i e a s))
-          (from_put v lat g o lim rel ls firsts total tt f n i e (then_todo (commands_of r) rest) s.memory (tally v lat g o lim rel ls firsts total s) h)))
-          (omega (arith, (grows_run v lat g o lim k).clock, by))) by fin)
+      omega (
+        arith,
+        reached_clock v m i e a s,
+        fits_run pc t l u low k rest (still (then_todo (commands_of r) rest)
+            (written (element f n (value_of i s.memory)) (value_of e s.memory) (touched v m (element f n (value_of i s.memory)) (reached v m i e a s)))
+            (wrote v lat g o lim rel ls firsts total (element f n (value_of i s.memory)) (value_of e s.memory)
+            (touched v m (element f n (value_of i s.memory)) (reached v m i e a s)) (then_todo (commands_of r) rest)
+            (from_same v lat g o lim rel ls firsts total (then_todo (commands_of r) rest) _ _ _ _
+            (ap (λ z. slice_set z (element f n (value_of i s.memory)) (value_of e s.memory)) (reached_memory v lat g o lim rel ls firsts total m i e a s))
+            (ap (λ z. z + 1) (reached_tally v lat g o lim rel ls firsts total m i e a s))
+            (from_put v lat g o lim rel ls firsts total tt f n i e (then_todo (commands_of r) rest) s.memory (tally v lat g o lim rel ls firsts total s) h)))
+            (omega (arith, (grows_run v lat g o lim k).clock, by))) by fin,
+      )
   fits_run {s = s} pc t l u low (sleep {m = m} {e = e} {r = r} {a = a} k) rest h by fin =
-      omega (arith, timed_clock v m e a s,
-          fits_run pc t l u low k rest (from_same v lat g o lim rel ls firsts total (then_todo (commands_of r) rest) _ _ _ _
-          (tested_memory v lat g o lim rel ls firsts total m e a s) (tested_tally v lat g o lim rel ls firsts total m e a s)
-          (from_sleep v lat g o lim rel ls firsts total tt e (then_todo (commands_of r) rest) s.memory (tally v lat g o lim rel ls firsts total s) h)) by fin)
+      omega (
+        arith,
+        timed_clock v m e a s,
+        fits_run pc t l u low k rest (from_same v lat g o lim rel ls firsts total (then_todo (commands_of r) rest) _ _ _ _
+            (tested_memory v lat g o lim rel ls firsts total m e a s) (tested_tally v lat g o lim rel ls firsts total m e a s)
+            (from_sleep v lat g o lim rel ls firsts total tt e (then_todo (commands_of r) rest) s.memory (tally v lat g o lim rel ls firsts total s) h)) by fin,
+      )
   fits_run {s = s} {s' = s'} pc t l u low (if_true {m = m} {e = e} {c = c} {d = d} {r = r} {a = a} {s1 = s1} w b k) rest h by fin =
       let more = then_todo (commands_of r) rest in
       let x = label_of lat g e in
       let here = from_same v lat g o lim rel ls firsts total (then_todo (commands_of c) more) _ _ _ _ (tested_memory v lat g o lim rel ls firsts total m e a s)
-          (tested_tally v lat g o lim rel ls firsts total m e a s) (from_if v lat g o lim rel ls firsts total tt e (commands_of c) (commands_of d) more s.memory
-          (tally v lat g o lim rel ls firsts total s) true w h) in
+      (tested_tally v lat g o lim rel ls firsts total m e a s) (from_if v lat g o lim rel ls firsts total tt e (commands_of c) (commands_of d) more s.memory
+      (tally v lat g o lim rel ls firsts total s) true w h) in
       let after = (grows_run v lat g o lim k).clock in
       let inside = (grows_run v lat g o lim b).clock in
       let in_time : s1.clock ≤ lim = omega (arith, after, by) in
       chained s.clock s1.clock (fetched v (raised lat g e m) (a + expr_size e + 1 + size c) s1).clock s'.clock
-          (cond (lat.flows x o) (record_of v lat g o lim b) []) (record_of v lat g o lim k)
+      (cond (lat.flows x o) (record_of v lat g o lim b) []) (record_of v lat g o lim k)
       (guarded (lat.flows x o) s.clock s1.clock (record_of v lat g o lim b)
-          (λ f. omega (arith, tested_clock v m e a s,
-          fits_run (lat.join pc x) t.0 l.0 u.0 (ll.least pc x o low f) b more here in_time (omega (arith, mono v lat g o lim rel ls firsts total k, fin))))
-          (omega (arith, tested_clock v m e a s, inside)))
+      (λ f. omega (
+        arith,
+        tested_clock v m e a s,
+        fits_run (lat.join pc x) t.0 l.0 u.0 (ll.least pc x o low f) b more here in_time (omega (arith, mono v lat g o lim rel ls firsts total k, fin)),
+      ))
+      (omega (arith, tested_clock v m e a s, inside)))
       (omega arith)
       (fits_run pc t.2 l.2 u.2 low k rest (still more s1 (goes_on v lat g o lim rel ls firsts total b more here) in_time) by fin)
   fits_run {s = s} {s' = s'} pc t l u low (if_false {m = m} {e = e} {c = c} {d = d} {r = r} {a = a} {s1 = s1} w b k) rest h by fin =
       let more = then_todo (commands_of r) rest in
       let x = label_of lat g e in
       let here = from_same v lat g o lim rel ls firsts total (then_todo (commands_of d) more) _ _ _ _ (tested_memory v lat g o lim rel ls firsts total m e a s)
-          (tested_tally v lat g o lim rel ls firsts total m e a s) (from_if v lat g o lim rel ls firsts total tt e (commands_of c) (commands_of d) more s.memory
-          (tally v lat g o lim rel ls firsts total s) false w h) in
+      (tested_tally v lat g o lim rel ls firsts total m e a s) (from_if v lat g o lim rel ls firsts total tt e (commands_of c) (commands_of d) more s.memory
+      (tally v lat g o lim rel ls firsts total s) false w h) in
       let after = (grows_run v lat g o lim k).clock in
       let inside = (grows_run v lat g o lim b).clock in
       let in_time : s1.clock ≤ lim = omega (arith, after, by) in
       chained s.clock s1.clock s1.clock s'.clock (cond (lat.flows x o) (record_of v lat g o lim b) []) (record_of v lat g o lim k)
       (guarded (lat.flows x o) s.clock s1.clock (record_of v lat g o lim b)
-          (λ f. omega (arith, tested_clock v m e a s,
-          fits_run (lat.join pc x) t.1 l.1 u.1 (ll.least pc x o low f) b more here in_time (omega (arith, mono v lat g o lim rel ls firsts total k, fin))))
-          (omega (arith, tested_clock v m e a s, inside)))
+      (λ f. omega (
+        arith,
+        tested_clock v m e a s,
+        fits_run (lat.join pc x) t.1 l.1 u.1 (ll.least pc x o low f) b more here in_time (omega (arith, mono v lat g o lim rel ls firsts total k, fin)),
+      ))
+      (omega (arith, tested_clock v m e a s, inside)))
       (omega arith)
       (fits_run pc t.2 l.2 u.2 low k rest (still more s1 (goes_on v lat g o lim rel ls firsts total b more here) in_time) by fin)
   fits_run {s = s} {s' = s'} pc t l u low (while_none {m = m} {e = e} {c = c} {r = r} {a = a} w k) rest h by fin =
@@ -191,22 +209,25 @@ module _ {E : Type 0} {serves : E → Type 0} (v : Env E) (lat : Lattice) (ll : 
       (guarded (lat.flows (label_of lat g e) o) s.clock s0.clock [] (λ f. omega (arith, tested_clock v m e a s)) (tested_clock v m e a s))
       (omega arith)
       (fits_run pc t.1 l.1 u.1 low k rest (from_same v lat g o lim rel ls firsts total more _ _ _ _ (tested_memory v lat g o lim rel ls firsts total m e a s)
-          (tested_tally v lat g o lim rel ls firsts total m e a s)
-          (from_while v lat g o lim rel ls firsts total tt e (commands_of c) more s.memory (tally v lat g o lim rel ls firsts total s) false w h)) by fin)
+      (tested_tally v lat g o lim rel ls firsts total m e a s)
+      (from_while v lat g o lim rel ls firsts total tt e (commands_of c) more s.memory (tally v lat g o lim rel ls firsts total s) false w h)) by fin)
   fits_run {s = s} {s' = s'} pc t l u low (while_some {m = m} {e = e} {c = c} {r = r} {a = a} {s1 = s1} w b k) rest h by fin =
       let more = then_todo (commands_of r) rest in
       let x = label_of lat g e in
       let here = from_same v lat g o lim rel ls firsts total (then_todo (commands_of c) (While tt e (commands_of c) more)) _ _ _ _
-          (tested_memory v lat g o lim rel ls firsts total m e a s) (tested_tally v lat g o lim rel ls firsts total m e a s)
-          (from_while v lat g o lim rel ls firsts total tt e (commands_of c) more s.memory (tally v lat g o lim rel ls firsts total s) true w h) in
+      (tested_memory v lat g o lim rel ls firsts total m e a s) (tested_tally v lat g o lim rel ls firsts total m e a s)
+      (from_while v lat g o lim rel ls firsts total tt e (commands_of c) more s.memory (tally v lat g o lim rel ls firsts total s) true w h) in
       let after = (grows_run v lat g o lim k).clock in
       let inside = (grows_run v lat g o lim b).clock in
       let in_time : s1.clock ≤ lim = omega (arith, after, by) in
       chained s.clock s1.clock s1.clock s'.clock (cond (lat.flows x o) (record_of v lat g o lim b) []) (record_of v lat g o lim k)
       (guarded (lat.flows x o) s.clock s1.clock (record_of v lat g o lim b)
-          (λ f. omega (arith, tested_clock v m e a s,
-          fits_run (lat.join pc x) t.0 l.0 u.0 (ll.least pc x o low f) b more here in_time (omega (arith, mono v lat g o lim rel ls firsts total k, fin))))
-          (omega (arith, tested_clock v m e a s, inside)))
+      (λ f. omega (
+        arith,
+        tested_clock v m e a s,
+        fits_run (lat.join pc x) t.0 l.0 u.0 (ll.least pc x o low f) b more here in_time (omega (arith, mono v lat g o lim rel ls firsts total k, fin)),
+      ))
+      (omega (arith, tested_clock v m e a s, inside)))
       (omega arith)
       (fits_run pc t.1 l.1 u.1 low k rest (still more s1 (goes_on v lat g o lim rel ls firsts total b more here) in_time) by fin)
   fits_run {s = s} {s' = s'} pc t l u low (mitigate {m = m} {k = mark} {l = level} {e = e} {c = c} {r = r} {a = a} {s1 = s1} b k) rest h by fin =
@@ -215,9 +236,9 @@ module _ {E : Type 0} {serves : E → Type 0} (v : Env E) (lat : Lattice) (ll : 
       let s2 = fetched v m (a + expr_size e + 1 + size c) s1 in
       let w = opening (value_of e s.memory) level mark s0 in
       let begins = began v lat g o lim rel ls firsts total mark s0 (then_todo (commands_of c) more)
-          (from_same v lat g o lim rel ls firsts total (then_todo (commands_of c) more) _ _ _ _ (tested_memory v lat g o lim rel ls firsts total m e a s)
-          (ap (λ z. z + 1) (tested_tally v lat g o lim rel ls firsts total m e a s))
-          (from_mitigate v lat g o lim rel ls firsts total tt tt mark e (commands_of c) more s.memory (tally v lat g o lim rel ls firsts total s) h)) in
+      (from_same v lat g o lim rel ls firsts total (then_todo (commands_of c) more) _ _ _ _ (tested_memory v lat g o lim rel ls firsts total m e a s)
+      (ap (λ z. z + 1) (tested_tally v lat g o lim rel ls firsts total m e a s))
+      (from_mitigate v lat g o lim rel ls firsts total tt tt mark e (commands_of c) more s.memory (tally v lat g o lim rel ls firsts total s) h)) in
       let inside = (grows_run v lat g o lim b).clock in
       let after = (grows_run v lat g o lim k).clock in
       let closing = ends_after v lat g o lim rel ls firsts total m mark level (value_of e s.memory) (a + expr_size e + 1 + size c) s0 s1 inside in
@@ -225,23 +246,23 @@ module _ {E : Type 0} {serves : E → Type 0} (v : Env E) (lat : Lattice) (ll : 
       let start_in : s0.clock ≤ lim = omega (arith, inside, in_time) in
       let here = still (then_todo (commands_of c) more) (begun mark s0) begins start_in in
       let inner : tally v lat g o lim rel ls firsts total s1 ≤ total =
-          omega (arith, closed_tally v lat g o lim rel ls firsts total w s2, mono v lat g o lim rel ls firsts total k, fin) in
+      omega (arith, closed_tally v lat g o lim rel ls firsts total w s2, mono v lat g o lim rel ls firsts total k, fin) in
       let counted = noted_in v lat g o lim rel ls firsts total s0.log (Began mark s0.clock) start_in refl in
       let own = record_of v lat g o lim b in
       let entry = entry_of v lat g o lim w s2 in
       let fits = entry_fits pc level mark e s.memory s0.clock s2 low t.0 l.0
-          (h.2 0 (omega (arith, h.1, tested_tally v lat g o lim rel ls firsts total m e a s, counted, mono v lat g o lim rel ls firsts total b, inner))) in
+      (h.2 0 (omega (arith, h.1, tested_tally v lat g o lim rel ls firsts total m e a s, counted, mono v lat g o lim rel ls firsts total b, inner))) in
       chained s.clock (closed w s2).clock (closed w s2).clock s'.clock (own ++ entry) (record_of v lat g o lim k)
       (omega (
         arith,
         tested_clock v m e a s,
         both (rel mark) refl s0.clock s1.clock (closed w s2).clock own entry closing
             (λ q. none_record pc t.1 (u.0 q) low b) (λ q. no_own pc level mark w s2 refl low t.0 q) fits
-                (λ q. fits_run pc t.1 l.1 u.1 low b more here in_time inner),
+            (λ q. fits_run pc t.1 l.1 u.1 low b more here in_time inner),
       ))
       (omega arith)
       (fits_run pc t.2 l.2 u.2 low k rest (from_same v lat g o lim rel ls firsts total more _ _ _ _ refl (closed_tally v lat g o lim rel ls firsts total w s2)
-          (still more s1 (goes_on v lat g o lim rel ls firsts total b more here) in_time)) by fin)
+      (still more s1 (goes_on v lat g o lim rel ls firsts total b more here) in_time)) by fin)
     where
       both : (x : Bool) → rel mark ≡ x → (c0 c1 c2 : ℕ) (own entry : List Entry) → c1 ≤ c2 → (rel mark ≡ true → own ≡ []) → (rel mark ≡ false → entry ≡ [])
           → c0 + spent firsts entry ≤ c2 → (rel mark ≡ false → c0 + spent firsts own ≤ c1) → c0 + spent firsts (own ++ entry) ≤ c2
@@ -250,19 +271,27 @@ module _ {E : Type 0} {serves : E → Type 0} (v : Env E) (lat : Lattice) (ll : 
           omega (arith, e, spent-append firsts own entry, body q, le)
   fits_run pc t l u low (last {m = m} {e = e} {c = c} {a = a} {s1 = s1} b w) rest h by fin =
       let up = tested_clock v (raised lat g e m) e (a + size c) s1 in
-      omega (arith, up, fits_run pc t l u low b (While tt e (commands_of c) rest) h (omega (arith, up, by))
-          (omega (arith, tested_tally v lat g o lim rel ls firsts total (raised lat g e m) e (a + size c) s1, fin)))
+      omega (
+        arith,
+        up,
+        fits_run pc t l u low b (While tt e (commands_of c) rest) h (omega (arith, up, by))
+            (omega (arith, tested_tally v lat g o lim rel ls firsts total (raised lat g e m) e (a + size c) s1, fin)),
+      )
   fits_run {s = s} {s' = s'} pc t l u low (again {m = m} {e = e} {c = c} {a = a} {s1 = s1} b w k) rest h by fin =
       let todo = While tt e (commands_of c) rest in
       let up = tested_clock v (raised lat g e m) e (a + size c) s1 in
       let after = (grows_run v lat g o lim k).clock in
       let in_time : s1.clock ≤ lim = omega (arith, after, by, up) in
       let there = from_same v lat g o lim rel ls firsts total (then_todo (commands_of c) todo) _ _ _ _
-          (tested_memory v lat g o lim rel ls firsts total (raised lat g e m) e (a + size c) s1)
-          (tested_tally v lat g o lim rel ls firsts total (raised lat g e m) e (a + size c) s1)
-          (from_while v lat g o lim rel ls firsts total tt e (commands_of c) rest s1.memory (tally v lat g o lim rel ls firsts total s1) true w
-          (still todo s1 (goes_on v lat g o lim rel ls firsts total b todo h) in_time)) in
+      (tested_memory v lat g o lim rel ls firsts total (raised lat g e m) e (a + size c) s1)
+      (tested_tally v lat g o lim rel ls firsts total (raised lat g e m) e (a + size c) s1)
+      (from_while v lat g o lim rel ls firsts total tt e (commands_of c) rest s1.memory (tally v lat g o lim rel ls firsts total s1) true w
+      (still todo s1 (goes_on v lat g o lim rel ls firsts total b todo h) in_time)) in
       chained s.clock s1.clock (tested v (raised lat g e m) e (a + size c) s1).clock s'.clock (record_of v lat g o lim b) (record_of v lat g o lim k)
-      (fits_run pc t l u low b todo h in_time (omega (arith, tested_tally v lat g o lim rel ls firsts total (raised lat g e m) e (a + size c) s1,
-          mono v lat g o lim rel ls firsts total k, fin))) up
+      (fits_run pc t l u low b todo h in_time (omega (
+        arith,
+        tested_tally v lat g o lim rel ls firsts total (raised lat g e m) e (a + size c) s1,
+        mono v lat g o lim rel ls firsts total k,
+        fin,
+      ))) up
       (fits_run pc t l u low k rest there by fin)

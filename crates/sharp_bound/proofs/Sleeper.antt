@@ -41,7 +41,7 @@ module _ {E : Type 0} (serves : E → Type 0) (part : Place → ℕ → E → Li
   ends_high : EndsLow lat g (sleeps lat) o → ⊥
   ends_high h =
       let there : Flows lat high h.0 =
-          ap (λ z. lat.flows high z) (sym h.1.1) ∙ ll.chain high _ _ (ll.right lat.bottom high) (ll.left (lat.join lat.bottom high) lat.bottom) in
+      ap (λ z. lat.flows high z) (sym h.1.1) ∙ ll.chain high _ _ (ll.right lat.bottom high) (ll.left (lat.join lat.bottom high) lat.bottom) in
       apart (ll.chain high h.0 o there h.2)
 
   agree_two : (e : E) → serves e → (a b : ℕ) → Agree v lat serves g o (asleep e a) (asleep e b)

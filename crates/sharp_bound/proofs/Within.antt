@@ -33,7 +33,7 @@ sharp_within lat o c k (suc n) values counts few h low = go (lat.flows n o) refl
         let m = count_not_below lat o n in
         let up : counts n + 1 ≤ k + 1 = omega (arith, h n) in
         let one : rising (values n) (counts n) ≤ (k + 1) ^ c =
-            omega (arith, rising-le (values n) (suc c) (counts n) (few n), rising-power c (counts n), pow-le-pow_left up c) in
+        omega (arith, rising-le (values n) (suc c) (counts n) (few n), rising-power c (counts n), pow-le-pow_left up c) in
         let same : c + m * c ≡ (m + 1) * c = omega arith in
         subst (λ z. rising (values n) (counts n) * sharp values n counts ≤ (k + 1) ^ z) same
         (subst (λ z. rising (values n) (counts n) * sharp values n counts ≤ z) (sym (pow-add (k + 1) c (m * c)))

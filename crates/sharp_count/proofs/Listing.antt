@@ -25,8 +25,14 @@ pub length-listing : (m c k : ℕ) → length (listing m c k) ≡ rising c k
 length-listing m c zero = sym (rising-none c)
 length-listing m zero (suc k) = sym (rising-zero k)
 length-listing m (suc c) (suc k) =
-    omega (arith, length-append (cons_all m (listing m (suc c) k)) (listing (suc m) c (suc k)), length-cons_all m (listing m (suc c) k),
-        length-listing m (suc c) k, length-listing (suc m) c (suc k), pascal c k)
+    omega (
+      arith,
+      length-append (cons_all m (listing m (suc c) k)) (listing (suc m) c (suc k)),
+      length-cons_all m (listing m (suc c) k),
+      length-listing m (suc c) k,
+      length-listing (suc m) c (suc k),
+      pascal c k,
+    )
 
 each-cons_all : (P Q : List ℕ → Type 0) (m : ℕ) → ((xs : List ℕ) → P xs → Q (m ∷ xs)) → (all : List (List ℕ)) → Each P all → Each Q (cons_all m all)
 each-cons_all P Q m f [] h = tt
@@ -42,9 +48,9 @@ each_falls b m zero (suc k) e = tt
 each_falls b m (suc c) (suc k) e =
     Each-append (NeverFalling m b (suc k)) (cons_all m (listing m (suc c) k)) (listing (suc m) c (suc k))
     (each-cons_all (NeverFalling m b k) (NeverFalling m b (suc k)) m (λ xs h. (omega arith, omega (arith, e), h)) (listing m (suc c) k)
-        (each_falls b m (suc c) k e))
+    (each_falls b m (suc c) k e))
     (Each-map (NeverFalling (suc m) b (suc k)) (NeverFalling m b (suc k)) (lower m b k) (listing (suc m) c (suc k))
-        (each_falls b (suc m) c (suc k) (omega (arith, e))))
+    (each_falls b (suc m) c (suc k) (omega (arith, e))))
 
 pub among_left : {X : Type 0} (x : X) (a b : List X) → IsAmong x a → IsAmong x (a ++ b)
 among_left x [] b h = absurd h

@@ -70,7 +70,7 @@ first_spent most i spent [] = refl
 first_spent most i spent (ms ∷ all) =
     let sum : spent + (2 ^ i + twos ms) ≡ spent + 2 ^ i + twos ms = omega arith in
     one_more (fits most spent (i ∷ ms)) (fits most (spent + 2 ^ i) ms) (i ∷ ms) ms (filter (fits most spent) (cons_all i all))
-        (filter (fits most (spent + 2 ^ i)) all)
+    (filter (fits most (spent + 2 ^ i)) all)
     (ap (λ z. leb z most) sum) (first_spent most i spent all)
 
 split : (most i d k spent : ℕ) → count most i (suc d) (suc k) spent ≡ count most i (suc d) k (spent + 2 ^ i) + count most (suc i) d (suc k) spent
@@ -110,19 +110,19 @@ half_fits most p spent s some =
     (λ le.
     let sum : (spent + 2 * s) * p ≤ most = omega (arith, le) in
     let small = (le-div_iff_mul-le {k = p} {x = 2 * (h + s)} {y = most} some).0
-        (halved (most / p) spent s ((le-div_iff_mul-le {k = p} {x = spent + 2 * s} {y = most} some).1 sum)) in
+    (halved (most / p) spent s ((le-div_iff_mul-le {k = p} {x = spent + 2 * s} {y = most} some).1 sum)) in
     omega (arith, small))
     (λ le.
     let sum : 2 * (h + s) * p ≤ most = omega (arith, le) in
     let small = (le-div_iff_mul-le {k = p} {x = spent + 2 * s} {y = most} some).0
-        (doubled (most / p) spent s ((le-div_iff_mul-le {k = p} {x = 2 * (h + s)} {y = most} some).1 sum)) in
+    (doubled (most / p) spent s ((le-div_iff_mul-le {k = p} {x = 2 * (h + s)} {y = most} some).1 sum)) in
     omega (arith, small))
 
 -- of lists of numbers above i, what is spent may be counted in the next power
 next_power : (most i d k spent : ℕ) → count most (suc i) d k (spent * 2 ^ i) ≡ count most (suc i) d k ((spent + 1 - (most / 2 ^ i) % 2) / 2 * 2 ^ suc i)
 next_power most i d k spent =
     alike (NeverFalling (suc i) (suc i + d) k) (fits most (spent * 2 ^ i)) (fits most ((spent + 1 - (most / 2 ^ i) % 2) / 2 * 2 ^ suc i)) one
-        (listing (suc i) d k) (each_falls (suc i + d) (suc i) d k refl)
+    (listing (suc i) d k) (each_falls (suc i + d) (suc i) d k refl)
   where
     one : (ms : List ℕ) → NeverFalling (suc i) (suc i + d) k ms → fits most (spent * 2 ^ i) ms ≡ fits most ((spent + 1 - (most / 2 ^ i) % 2) / 2 * 2 ^ suc i) ms
     one ms falls =
@@ -185,7 +185,7 @@ ways_of_level t first k all h =
     let same : length all ≡ length (ways t (λ l. first) 1 (λ l. k)) =
     same_length P all (ways t (λ l. first) 1 (λ l. k)) h.each (λ c p. h.whole c p.0 p.1) h.differ known.each (λ c p. known.whole c p.0 p.1) known.differ in
     let tests = alike (NeverFalling 0 d k) (λ ms. leb (cycles_of first ms + 0) t) (fits most (0 * 2 ^ 0))
-        (λ ms f. level_test t first ms) (listing 0 d k) (each_falls d 0 d k (omega arith)) in
+    (λ ms f. level_test t first ms) (listing 0 d k) (each_falls d 0 d k (omega arith)) in
     from_zero d k most ∙ sym tests ∙ sym (length-one_level t first k) ∙ sym same
 
 pub power_below : (n x : ℕ) → x < digits n → 2 ^ x ≤ n
@@ -253,7 +253,7 @@ one_cell most (suc k) spent some entries =
     (λ d. shares d (suc k) most spent ≡ shares (digits (most / 2)) (suc k) (most / 2) ((spent + 1 - most % 2) / 2) + shares d (suc k - 1) most (spent + 1))
     (sym (digits_more most some))
     (subst (λ z. shares (suc (digits (most / 2))) (suc k) most spent ≡ shares (digits (most / 2)) (suc k) (most / 2) ((spent + 1 - most % 2) / 2) + shares
-        (suc (digits (most / 2))) z most (spent + 1)) (sym back) (cell most spent (digits (most / 2)) k))
+    (suc (digits (most / 2))) z most (spent + 1)) (sym back) (cell most spent (digits (most / 2)) k))
 
 pub none_fits : (d most spent : ℕ) → spent ≤ most → shares d 0 most spent ≡ 1
 unfolding shares

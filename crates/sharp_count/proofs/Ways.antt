@@ -90,14 +90,14 @@ differ-before_all ms (c ∷ cs) h =
 differ_from : (ms : List ℕ) (all : List (List ℕ)) (cs : List Choice) → Each (λ ns. ms ≡ ns → ⊥) all → (c : Choice) → Each (λ d. ms ∷ c ≡ d → ⊥) (pairs all cs)
 differ_from ms all cs h c =
     each-pairs (λ ns. ms ≡ ns → ⊥) (λ d. Unit {0}) (λ d. ms ∷ c ≡ d
-        → ⊥) (λ ns d ne u e. ne (heads ms ns c d e)) all cs h (each_true (λ d. Unit {0}) (λ d. tt) cs)
+    → ⊥) (λ ns d ne u e. ne (heads ms ns c d e)) all cs h (each_true (λ d. Unit {0}) (λ d. tt) cs)
 
 differ-pairs : (all : List (List ℕ)) (cs : List Choice) → AllDiffer all → AllDiffer cs → AllDiffer (pairs all cs)
 differ-pairs [] cs h k = tt
 differ-pairs (ms ∷ all) cs h k =
     differ-append (before_all ms cs) (pairs all cs) (differ-before_all ms cs k) (differ-pairs all cs h.1 k)
     (each-before_all (λ d. Unit {0}) (λ c. Each (λ d. c ≡ d → ⊥) (pairs all cs)) ms
-        (λ c u. differ_from ms all cs h.0 c) cs (each_true (λ d. Unit {0}) (λ d. tt) cs))
+    (λ c u. differ_from ms all cs h.0 c) cs (each_true (λ d. Unit {0}) (λ d. tt) cs))
 
 -- all choices
 abbrev choices : (ℕ → ℕ) → ℕ → (ℕ → ℕ) → List Choice
@@ -162,7 +162,7 @@ length-singles fits (ms ∷ all) = go (fits (ms ∷ [])) (length-singles fits al
   where
     go : (b : Bool) → length (filter fits (pairs all ([] ∷ []))) ≡ length (filter (λ ns. fits (ns ∷ [])) all) →
         length (cond b ((ms ∷ []) ∷ filter fits (pairs all ([] ∷ []))) (filter fits (pairs all ([] ∷ []))))
-            ≡ length (cond b (ms ∷ filter (λ ns. fits (ns ∷ [])) all) (filter (λ ns. fits (ns ∷ [])) all))
+        ≡ length (cond b (ms ∷ filter (λ ns. fits (ns ∷ [])) all) (filter (λ ns. fits (ns ∷ [])) all))
     go true e = ap suc e
     go false e = e
 

@@ -17,16 +17,20 @@ module _ {E : Type 0} (v : Order → Env E) (serves : Order → E → Type 0) (l
       let order = q.program.order in
       let made = made_of q is in
       let few = (is_sharp (v order) order (labels_of q) (levels_of q) (lowered q).instrs (bare_of q) made (laws order made.lattice)).few in
-      record { few = λ o low t some. few_halted_same (v order) order (serves order) (labels_of q) (levels_of q) (lowered q).instrs (bare_of q)
-          (plan_of q.program) (keep_commands q) o t _ (few o low t some) }
+      record {
+        few = λ o low t some. few_halted_same (v order) order (serves order) (labels_of q) (levels_of q) (lowered q).instrs (bare_of q)
+            (plan_of q.program) (keep_commands q) o t _ (few o low t some);
+      }
 
   pub lowered_cut : LoweredSharpCutOver v serves
   lowered_cut q is =
       let order = q.program.order in
       let made = made_of q is in
       let few = (is_sharp_cut (v order) order (labels_of q) (levels_of q) (lowered q).instrs (bare_of q) made (laws order made.lattice)).few in
-      record { few = λ o low t some. few_cut_same (v order) order (serves order) (labels_of q) (levels_of q) (lowered q).instrs (bare_of q) (plan_of q.program)
-          (keep_commands q) o t _ (few o low t some) }
+      record {
+        few = λ o low t some. few_cut_same (v order) order (serves order) (labels_of q) (levels_of q) (lowered q).instrs (bare_of q) (plan_of q.program)
+            (keep_commands q) o t _ (few o low t some);
+      }
 
   pub lowered_end : LoweredSharpEndOver v serves
   lowered_end q is =
@@ -45,5 +49,7 @@ module _ {E : Type 0} (v : Order → Env E) (serves : Order → E → Type 0) (l
       let order = q.program.order in
       let made = made_of q is in
       let few = (is_shared (v order) order (labels_of q) (levels_of q) (lowered q).instrs (bare_of q) made (laws order made.lattice)).few in
-      record { few = λ o low t some. few_shared_same (v order) order (serves order) (labels_of q) (levels_of q) (lowered q).instrs (bare_of q)
-          (plan_of q.program) (keep_commands q) o t _ (few o low t some) }
+      record {
+        few = λ o low t some. few_shared_same (v order) order (serves order) (labels_of q) (levels_of q) (lowered q).instrs (bare_of q)
+            (plan_of q.program) (keep_commands q) o t _ (few o low t some);
+      }

@@ -27,7 +27,7 @@ not_done (Mitigate w k l i c p) q h e = absurd cc
 pub is_step : {R : Type 0} (fs : List (List Command)) (m : List ℤ) (list : List Command) (new : Standing) (r : Result Walk R)
     → fs ≡ without_last fs ++ list ∷ [] → AreSome (list_plan list) →
     IfOk r (λ walk. source_act (then_todo (list_plan list) (todo_of (without_last fs))) m [] ≡ source_at new (told_by walk))
-        → IfOk r (λ walk. walk ≡ Ended → ⊥) →
+    → IfOk r (λ walk. walk ≡ Ended → ⊥) →
     IfOk r (λ walk. IsStep (record { lists = fs; memory = m }) walk new)
 is_step fs m list new (Err e) is some h told = tt
 is_step fs m list new (Ok walk) is some h told =

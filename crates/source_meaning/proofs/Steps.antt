@@ -102,7 +102,7 @@ left fs list rest new x m m' t is e h =
     let q = todo_of (without_last fs) in
     ap (λ p. source_act (then_todo p q) m []) is
     ∙ (h q ∙ ap (λ z. let r : Source Written (Option Label) = record { todo = z; memory = m'; notes = t } in
-        r) (sym (ap todo_of e ∙ todo_some (without_last fs) rest)))
+    r) (sym (ap todo_of e ∙ todo_some (without_last fs) rest)))
 
 -- a step into a list inside its command
 pub entered : (fs : List (List Command)) (list rest body : List Command) (new : List (List Command)) (x : Plan) (m : List ℤ) (t : List Note)
@@ -114,7 +114,7 @@ entered fs list rest body new x m t is e h =
     let q = todo_of (without_last fs) in
     ap (λ p. source_act (then_todo p q) m []) is
     ∙ (h q ∙ ap (λ z. let r : Source Written (Option Label) = record { todo = z; memory = m; notes = t } in
-        r) (sym (ap todo_of e ∙ todo_two (without_last fs) rest body)))
+    r) (sym (ap todo_of e ∙ todo_two (without_last fs) rest body)))
 
 abbrev at : Plan → List ℤ → List Note → Source Written (Option Label)
 at p m t = record { todo = p; memory = m; notes = t }
@@ -131,7 +131,7 @@ module _ (fs : List (List Command)) (list : List Command) (k : Command) (rest : 
 
   pub assign_step : (x : ℕ) (i : Expr) (z : ℤ) → k.form ≡ FAssign x i → z ≡ value_of (expression_of i) m → new ≡ without_last fs ++ some_list rest →
       source_act (then_todo (list_plan list) (todo_of (without_last fs))) m []
-          ≡ source_at (record { lists = new; memory = slice_set m x z }) (Assigned x z ∷ [])
+      ≡ source_at (record { lists = new; memory = slice_set m x z }) (Assigned x z ∷ [])
   assign_step x i z f v e =
       left fs list rest new _ m (slice_set m x z) (Assigned x z ∷ []) (assign_front list k rest is x i f) e
       (λ q. ap (λ y. at (then_todo (list_plan rest) q) (slice_set m x y) (Assigned x y ∷ [])) (sym v))
@@ -139,11 +139,11 @@ module _ (fs : List (List Command)) (list : List Command) (k : Command) (rest : 
   pub put_step : (a n : ℕ) (j i : Expr) (x : ℕ) (z : ℤ) → k.form ≡ FPut a n j i → x ≡ element a n (value_of (expression_of j) m)
       → z ≡ value_of (expression_of i) m → new ≡ without_last fs ++ some_list rest →
       source_act (then_todo (list_plan list) (todo_of (without_last fs))) m []
-          ≡ source_at (record { lists = new; memory = slice_set m x z }) (Assigned x z ∷ [])
+      ≡ source_at (record { lists = new; memory = slice_set m x z }) (Assigned x z ∷ [])
   put_step a n j i x z f w v e =
       left fs list rest new _ m (slice_set m x z) (Assigned x z ∷ []) (put_front list k rest is a n j i f) e
       (λ q. ap (λ y. at (then_todo (list_plan rest) q) (slice_set m (element a n (value_of (expression_of j) m)) y)
-          (Assigned (element a n (value_of (expression_of j) m)) y ∷ [])) (sym v)
+      (Assigned (element a n (value_of (expression_of j) m)) y ∷ [])) (sym v)
       ∙ ap (λ y. at (then_todo (list_plan rest) q) (slice_set m y z) (Assigned y z ∷ [])) (sym w))
 
   pub then_step : (i : Expr) (v u : Vec Command Global) (body : List Command) (z : ℤ) → k.form ≡ DIf i v u → z ≡ value_of (expression_of i) m
@@ -153,7 +153,7 @@ module _ (fs : List (List Command)) (list : List Command) (k : Command) (rest : 
   then_step i v u body z f w n b e =
       entered fs list rest body new _ m [] (if_front list k rest is i v u f) e
       (λ q. ap (λ y. at (cond y (then_todo (list_plan v.items) (then_todo (list_plan rest) q)) (then_todo (list_plan u.items) (then_todo (list_plan rest) q))) m
-          []) (ap holds (sym w) ∙ holds_not z n)
+      []) (ap holds (sym w) ∙ holds_not z n)
       ∙ ap (λ y. at (then_todo (list_plan y) (then_todo (list_plan rest) q)) m []) (sym b))
 
   pub else_step : (i : Expr) (v u : Vec Command Global) (body : List Command) (z : ℤ) → k.form ≡ DIf i v u → z ≡ value_of (expression_of i) m
@@ -163,7 +163,7 @@ module _ (fs : List (List Command)) (list : List Command) (k : Command) (rest : 
   else_step i v u body z f w n b e =
       entered fs list rest body new _ m [] (if_front list k rest is i v u f) e
       (λ q. ap (λ y. at (cond y (then_todo (list_plan v.items) (then_todo (list_plan rest) q)) (then_todo (list_plan u.items) (then_todo (list_plan rest) q))) m
-          []) (ap holds (sym w) ∙ ap holds n)
+      []) (ap holds (sym w) ∙ ap holds n)
       ∙ ap (λ y. at (then_todo (list_plan y) (then_todo (list_plan rest) q)) m []) (sym b))
 
   pub turn_step : (i : Expr) (v : Vec Command Global) (body : List Command) (z : ℤ) → k.form ≡ DWhile i v → z ≡ value_of (expression_of i) m
@@ -174,7 +174,7 @@ module _ (fs : List (List Command)) (list : List Command) (k : Command) (rest : 
       let front = while_front list k rest is i v f in
       entered fs list list body new _ m [] front e
       (λ q. ap (λ y. at (cond y (then_todo (list_plan v.items) (While (written_of k) (expression_of i) (list_plan v.items) (then_todo (list_plan rest) q)))
-          (then_todo (list_plan rest) q)) m [])
+      (then_todo (list_plan rest) q)) m [])
       (ap holds (sym w) ∙ holds_not z n)
       ∙ (ap (λ y. at (then_todo (list_plan v.items) (then_todo y q)) m []) (sym front)
       ∙ ap (λ y. at (then_todo (list_plan y) (then_todo (list_plan list) q)) m []) (sym b)))
@@ -185,7 +185,7 @@ module _ (fs : List (List Command)) (list : List Command) (k : Command) (rest : 
   done_step i v z f w n e =
       left fs list rest new _ m m [] (while_front list k rest is i v f) e
       (λ q. ap (λ y. at (cond y (then_todo (list_plan v.items) (While (written_of k) (expression_of i) (list_plan v.items) (then_todo (list_plan rest) q)))
-          (then_todo (list_plan rest) q)) m [])
+      (then_todo (list_plan rest) q)) m [])
       (ap holds (sym w) ∙ ap holds n))
 
   pub mitigate_step : (j : ℕ) (i : Expr) (l : Option Label) (v : Vec Command Global) (body : List Command) → k.form ≡ DMitigate j i l v → body ≡ v.items →

@@ -45,7 +45,7 @@ pub between : {M L : Type 0} (n : ℕ) (σ : Source M L) (more later : List Note
 between n σ [] later e = (0, sym (append-nil σ.notes))
 between zero σ (d ∷ more) later e =
     let p : d ∷ (more ++ later) ≡ [] =
-        same_rest σ.notes (d ∷ (more ++ later)) [] (sym (append_assoc σ.notes (d ∷ more) later) ∙ e ∙ sym (append-nil σ.notes)) in
+    same_rest σ.notes (d ∷ (more ++ later)) [] (sym (append_assoc σ.notes (d ∷ more) later) ∙ e ∙ sym (append-nil σ.notes)) in
     absurd (cc)
 between (suc n) σ (d ∷ more) later e =
     ⊎_elim
@@ -67,7 +67,7 @@ pub done_stays : {M L : Type 0} (n : ℕ) (σ : Source M L) → σ.todo ≡ Done
 done_stays zero σ e = refl
 done_stays {M} {L} (suc n) σ e =
     let s : source_step σ ≡ σ = ap (λ t. source_act t σ.memory σ.notes) e
-        ∙ ap (λ t. let r : Source M L = record { todo = t; memory = σ.memory; notes = σ.notes } in r) (sym e) in
+    ∙ ap (λ t. let r : Source M L = record { todo = t; memory = σ.memory; notes = σ.notes } in r) (sym e) in
     ap (source_steps n) s ∙ done_stays n σ e
 
 later_same : {M L : Type 0} (k : ℕ) (σ : Source M L) (n : ℕ) → (source_steps n σ).todo ≡ Done → (source_steps (n + k) σ).notes ≡ (source_steps n σ).notes

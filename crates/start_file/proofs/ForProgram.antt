@@ -61,7 +61,7 @@ module _ (o : Order) (h : IsOrder o) where
   touch_below : (v : Version) (d : Data) (t : Touch) → touch_of v o d ≡ Some t → Below t
   touch_below v (table ms) t e =
       from_parts (keys_pass is_touch_key ms) (place_of v (get_member (codes "place") ms)) (label_of o (get_member (codes "label") ms))
-          (address_of (get_member (codes "address") ms)) t
+      (address_of (get_member (codes "address") ms)) t
       (label_below (get_member (codes "label") ms)) e
   touch_below v (string z) t e = absurd (none-some t e)
   touch_below v (integer z) t e = absurd (none-some t e)
@@ -114,7 +114,7 @@ module _ (p : Syntax) (h : IsOrder p.order) where
       let f = touches_in v p.order (get_member (codes "touch") ms) in
       let known = after_then (run_keys_pass p v ms) (cond (memory_passes p.declarations memory) (with_touches n m f) (Err (NotNumber n))) (UnknownKey n) s e in
       by f refl m (length-memory_of p.declarations (members_in memory))
-          (after_then (memory_passes p.declarations memory) (with_touches n m f) (NotNumber n) s known)
+      (after_then (memory_passes p.declarations memory) (with_touches n m f) (NotNumber n) s known)
     where
       by : (f : Option (List Touch)) → touches_in v p.order (get_member (codes "touch") ms) ≡ f → (m : List ℤ) → length m ≡ variables p.declarations
           → with_touches n m f ≡ Ok s → IsFor p s

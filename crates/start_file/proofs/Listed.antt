@@ -53,7 +53,7 @@ module _ (v : Version) (o : Order) (all : Option (List Touch)) (vs : List Value)
   pub touches_over : length vs ≤ i → all ≡ Some ts
   touches_over le =
       so_far ∙ ap (λ (l : List Value). after ts (touches_of v o (items_view l))) (drop_of_length-le vs {i = i} le)
-          ∙ ap (λ (l : List Touch). Some l) (append-nil ts)
+      ∙ ap (λ (l : List Touch). Some l) (append-nil ts)
 
 -- these starts, and then the rest
 abbrev pub onto : List StartValue → Result (List StartValue) StartFault → Result (List StartValue) StartFault
@@ -90,7 +90,7 @@ module _ (p : Syntax) (v : Version) (all : Result (List StartValue) StartFault) 
   pub runs_over : length vs ≤ i → all ≡ Ok ss
   runs_over le =
       so_far ∙ ap (λ (l : List Value). onto ss (runs_from p v (i + 1) (items_view l))) (drop_of_length-le vs {i = i} le)
-          ∙ ap (λ (l : List StartValue). Ok l) (append-nil ss)
+      ∙ ap (λ (l : List StartValue). Ok l) (append-nil ss)
 
 module _ (p : Syntax) (v : Version) (vs : List Value) where
   -- a number of runs that may be

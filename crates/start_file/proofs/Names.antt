@@ -43,7 +43,7 @@ module _ (o : Order) (h : IsOrder o) (w : List ℕ) where
       let before : (k : ℕ) → k < a → same (get_or o.names k []) ≡ false =
       λ k lt. not_true (same (get_or o.names k [])) (λ t. h.differ k a [] lt (omega arith) ((bytes_eq-Decides (get_or o.names k []) w).0 t ∙ sym e)) in
       let here : position_or_len same o.names ≡ a =
-          position_or_len_is same o.names a [] (omega arith) before (λ _. (bytes_eq-Decides (get_or o.names a []) w).1 e) in
+      position_or_len_is same o.names a [] (omega arith) before (λ _. (bytes_eq-Decides (get_or o.names a []) w).1 e) in
       let within : nat_lt a (length o.names) ≡ true = grind (arith, nat_tests) in
       rw (here, within)
 
@@ -54,7 +54,7 @@ module _ (o : Order) (h : IsOrder o) (w : List ℕ) where
       let before : (k : ℕ) → k < length o.names → same (get_or o.names k []) ≡ false =
       λ k lt. not_true (same (get_or o.names k [])) (λ t. n k (omega arith) ((bytes_eq-Decides (get_or o.names k []) w).0 t)) in
       let here : position_or_len same o.names ≡ length o.names =
-          position_or_len_is same o.names (length o.names) [] (omega arith) before (λ lt. absurd (omega arith)) in
+      position_or_len_is same o.names (length o.names) [] (omega arith) before (λ lt. absurd (omega arith)) in
       let past : nat_lt (length o.names) (length o.names) ≡ false = grind (arith, nat_tests) in
       rw (here, past)
 

@@ -129,7 +129,7 @@ first_apart : (x : Declaration) (ds : List Declaration) → AllDiffer (names (x 
     → bytes_eq (get_or (names ds) j []) x.0 ≡ false
 first_apart x ds h j l =
     not_true (bytes_eq (get_or (names ds) j []) x.0)
-        (λ t. h 0 (suc j) [] (omega arith) (omega arith) (sym ((bytes_eq-Decides (get_or (names ds) j []) x.0).0 t)))
+    (λ t. h 0 (suc j) [] (omega arith) (omega arith) (sym ((bytes_eq-Decides (get_or (names ds) j []) x.0).0 t)))
 
 other_way : (a b : List ℕ) → bytes_eq a b ≡ false → bytes_eq b a ≡ false
 other_way a b n = not_true (bytes_eq b a) (λ t. by (sym n ∙ (bytes_eq-Decides a b).1 (sym ((bytes_eq-Decides b a).0 t))))
@@ -240,7 +240,7 @@ unfolding IsStrictlySortedBy
 new_key [] e more h = refl
 new_key (x ∷ es) e more h =
     let above : string_cmp e.0 x.0 ≡ Greater =
-        nat_list_cmp_total.antisymm (string_bytes e.0) (string_bytes x.0) ∙ ap ordering_reverse (below_later x es e more h.0) in
+    nat_list_cmp_total.antisymm (string_bytes e.0) (string_bytes x.0) ∙ ap ordering_reverse (below_later x es e more h.0) in
     rw above (new_key es e more h.1)
 
 -- one entry of a table more
@@ -263,7 +263,7 @@ module _ (ds : List Declaration) (it rest : List Entry) (e : Entry) (w : List �
       let whole : all ≡ done ++ e ∷ rest = parts ∙ ap (λ l. done ++ l) front in
       let ordered : IsStrictlySortedBy string_cmp (keys_of (done ++ e ∷ rest)) = subst (λ l. IsStrictlySortedBy string_cmp (keys_of l)) whole sorted in
       put ∙ ap (λ b. written (slot_of ds b) (view e.1) m) key ∙ ap (written (slot_of ds (string_bytes e.0)) (view e.1)) h
-          ∙ sym (put_entry ds done e rest differ ordered)
+      ∙ sym (put_entry ds done e rest differ ordered)
 
 zero_elements : (n : ℕ) → elements_of n no_items ≡ replicate n (pos 0)
 zero_elements zero = refl

@@ -16,7 +16,7 @@ module _ (ms : ℕ → Marks) (ls : ℕ → ℕ) where
   commands-labelled (Sleep w e p) i = ap (Sleep tt e) (commands-labelled p (i + 1))
   commands-labelled (If w e a b p) i =
       ap (λ z. If tt e z (commands_of (bare (labelled ms ls b (i + 1 + count a)))) (commands_of (bare (labelled ms ls p (i + 1 + count a + count b)))))
-          (commands-labelled a (i + 1))
+      (commands-labelled a (i + 1))
       ∙ ap (λ z. If tt e (commands_of a) z (commands_of (bare (labelled ms ls p (i + 1 + count a + count b))))) (commands-labelled b (i + 1 + count a))
       ∙ ap (If tt e (commands_of a) (commands_of b)) (commands-labelled p (i + 1 + count a + count b))
   commands-labelled (While w e c p) i =

@@ -29,8 +29,14 @@ module _ (lat : Lattice) (ll : IsLattice lat) (g : ℕ → ℕ) where
       let h4 = from_left four er to h in
       let h3 = from_left three t to h4 in
       let h2 = from_left two pc to h3 in
-      record { value = from_left l li to h2; index = from_right l li to h2; counter = from_right two pc to h3; time =
-          from_right three t to h4; read = from_right four er to h }
+      record {
+        value = from_left l li to h2;
+        index = from_right l li to h2;
+        counter = from_right two pc to h3;
+        time =
+            from_right three t to h4;
+        read = from_right four er to h;
+      }
 
   -- of pc | li <= ew, the part on pc
   pub pc_to_ew : (pc : ℕ) (m : Marks) (e : Expression) → Flows lat (lat.join pc (index_label lat g e)) m.ew → Flows lat pc m.ew

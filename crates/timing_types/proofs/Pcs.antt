@@ -56,7 +56,7 @@ module _ (lat : Lattice) (g : ℕ → ℕ) where
         let cp = contexts lat g p pc in
         let s1 : all ≡ pre ++ (ca ++ ((cb ++ cp) ++ post)) = is ∙ ap (λ z. pre ++ z) (append_assoc ca (cb ++ cp) post) in
         let s2 : all ≡ (pre ++ ca) ++ (cb ++ (cp ++ post)) =
-            s1 ∙ ap (λ z. pre ++ (ca ++ z)) (append_assoc cb cp post) ∙ sym (append_assoc pre ca (cb ++ (cp ++ post))) in
+        s1 ∙ ap (λ z. pre ++ (ca ++ z)) (append_assoc cb cp post) ∙ sym (append_assoc pre ca (cb ++ (cp ++ post))) in
         let s3 : all ≡ ((pre ++ ca) ++ cb) ++ (cp ++ post) = s2 ∙ sym (append_assoc (pre ++ ca) cb (cp ++ post)) in
         let n1 = longer pre ca k (mitigates a) len (length_contexts a inner) in
         let n2 = longer (pre ++ ca) cb (k + mitigates a) (mitigates b) n1 (length_contexts b inner) in (

@@ -82,13 +82,13 @@ module _ (lat : Lattice) (g : ℕ → ℕ) (ms : ℕ → Marks) (ls : ℕ → �
     while_ends q a rest k inner start end hq hi hs hk ha =
         let one = moved_end a (i + 1) (i + 1) inner I start Z end refl (inner_is inner hi) (loop_is start hs) ha in
         ap (λ z. walk_end lat g (T z i) pc t) hq ∙ ap (λ z. walk_end lat g (T rest z) pc (walk_end lat g (T a (i + 1)) I Z)) (sym hk)
-            ∙ ap (walk_end lat g (T rest k) pc) (sym one)
+        ∙ ap (walk_end lat g (T rest k) pc) (sym one)
 
     pub mitigate_ends : (q a rest : Plan) (j k start : ℕ) (l : Option Label) → q ≡ Mitigate w j l e a rest → start ≡ lat.join (lat.join t le) er →
         k ≡ i + 1 + count a → walk_end lat g (T q i) pc t ≡ walk_end lat g (T rest k) pc start
     mitigate_ends q a rest j k start l hq hs hk =
         ap (λ z. walk_end lat g (T z i) pc t) hq ∙ ap (λ z. walk_end lat g (T rest z) pc S) (sym hk)
-            ∙ ap (walk_end lat g (T rest k) pc) (sym (start_is start hs))
+        ∙ ap (walk_end lat g (T rest k) pc) (sym (start_is start hs))
 
     -- the same where its own condition holds: h is `pc | li`, and ew the write label
     module _ (li ew h : ℕ) (hli : li ≡ index_label lat g e) (hew : ew ≡ (ms i).ew) (hh : h ≡ lat.join pc li) (low : Flows lat h ew) where
@@ -121,13 +121,13 @@ module _ (lat : Lattice) (g : ℕ → ℕ) (ms : ℕ → Marks) (ls : ℕ → �
             let one = one_moved ea ha in
             let other = other_moved eb hn hb in
             let j : lat.join (walk_end lat g A I S) (walk_end lat g B I S) ≡ end =
-                ap (λ z. lat.join z (walk_end lat g B I S)) one.0 ∙ ap (lat.join ea) other.0 ∙ sym he in
+            ap (λ z. lat.join z (walk_end lat g B I S)) one.0 ∙ ap (lat.join ea) other.0 ∙ sym he in
             let last : i + 1 + count a + count b ≡ k = ap (λ z. z + count b) (sym hn) ∙ sym hk in (
               ap (λ z. walk_end lat g (T z i) pc t) hq ∙ ap (walk_end lat g R pc) j ∙ ap (λ z. walk_end lat g (T rest z) pc end) last,
               ap (λ z. first_broken lat (conditions lat g (T z i) pc t)) hq
                   ∙ first_holds (writes RIf m (here lat g pc e)) (conditions lat g A I S ++ (conditions lat g B I S ++ after_both)) f
                   ∙ broken_none lat (conditions lat g A I S) (conditions lat g B I S ++ after_both) one.1
-                      ∙ broken_none lat (conditions lat g B I S) after_both other.1
+                  ∙ broken_none lat (conditions lat g B I S) after_both other.1
                   ∙ ap (λ z. first_broken lat (conditions lat g R pc z)) j ∙ ap (λ z. first_broken lat (conditions lat g (T rest z) pc end)) last,
             )
 
@@ -136,7 +136,7 @@ module _ (lat : Lattice) (g : ℕ → ℕ) (ms : ℕ → Marks) (ls : ℕ → �
             ap (λ z. first_broken lat (conditions lat g (T z i) pc t)) hq
             ∙ first_holds (writes RIf m (here lat g pc e)) (conditions lat g A I S ++ (conditions lat g B I S ++ after_both)) f
             ∙ broken_some lat (conditions lat g A I S) (conditions lat g B I S ++ after_both) r
-                (moved_broken a (i + 1) (i + 1) inner I start S r refl (inner_is inner hi) (start_is start hs) h1)
+            (moved_broken a (i + 1) (i + 1) inner I start S r refl (inner_is inner hi) (start_is start hs) h1)
 
         pub if_broken_other : (ea : ℕ) (r : TypeFault) → n ≡ i + 1 + count a → Walked a (i + 1) inner start ea → broken_at b n inner start ≡ Some r →
             first_broken lat (conditions lat g (T q i) pc t) ≡ Some r
@@ -145,7 +145,7 @@ module _ (lat : Lattice) (g : ℕ → ℕ) (ms : ℕ → Marks) (ls : ℕ → �
             ∙ first_holds (writes RIf m (here lat g pc e)) (conditions lat g A I S ++ (conditions lat g B I S ++ after_both)) f
             ∙ broken_none lat (conditions lat g A I S) (conditions lat g B I S ++ after_both) (one_moved ea ha).1
             ∙ broken_some lat (conditions lat g B I S) after_both r
-                (moved_broken b n (i + 1 + count a) inner I start S r hn (inner_is inner hi) (start_is start hs) h1)
+            (moved_broken b n (i + 1 + count a) inner I start S r hn (inner_is inner hi) (start_is start hs) h1)
 
       module _ (q a rest : Plan) (inner start stay : ℕ) (hq : q ≡ While w e a rest) (hi : inner ≡ lat.join pc le) (hs : start ≡ lat.join (lat.join le t) er)
           (hstay : stay ≡ walk_end lat g (T a (i + 1)) inner start) where
@@ -169,7 +169,7 @@ module _ (lat : Lattice) (g : ℕ → ℕ) (ms : ℕ → Marks) (ls : ℕ → �
                   ∙ first_holds (writes RWhile m (here lat g pc e)) (conditions lat g C I Y ++ conditions lat g X pc Y) f
                   ∙ broken_none lat (conditions lat g C I Y) (conditions lat g X pc Y) body.1
                   ∙ ap (λ z. first_broken lat (conditions lat g X pc z)) (sym stay_is)
-                      ∙ ap (λ z. first_broken lat (conditions lat g (T rest z) pc stay)) (sym hk),
+                  ∙ ap (λ z. first_broken lat (conditions lat g (T rest z) pc stay)) (sym hk),
             )
 
         pub while_broken : (r : TypeFault) → broken_at a (i + 1) inner stay ≡ Some r → first_broken lat (conditions lat g (T q i) pc t) ≡ Some r
@@ -177,7 +177,7 @@ module _ (lat : Lattice) (g : ℕ → ℕ) (ms : ℕ → Marks) (ls : ℕ → �
             ap (λ z. first_broken lat (conditions lat g (T z i) pc t)) hq
             ∙ first_holds (writes RWhile m (here lat g pc e)) (conditions lat g C I Y ++ conditions lat g X pc Y) f
             ∙ broken_some lat (conditions lat g C I Y) (conditions lat g X pc Y) r
-                (moved_broken a (i + 1) (i + 1) inner I stay Y r refl (inner_is inner hi) stay_is h1)
+            (moved_broken a (i + 1) (i + 1) inner I stay Y r refl (inner_is inner hi) stay_is h1)
 
       module _ (q a rest : Plan) (j : ℕ) (l : Option Label) (start : ℕ) (hq : q ≡ Mitigate w j l e a rest) (hs : start ≡ lat.join (lat.join t le) er) where
         abbrev D : Tree
@@ -219,7 +219,7 @@ module _ (lat : Lattice) (g : ℕ → ℕ) (ms : ℕ → Marks) (ls : ℕ → �
         mitigate_high end lv r ha hl high is =
             let body = part_moved end ha in
             let above : lat.flows (walk_end lat g D pc S) (ls j) ≡ false =
-                subst (λ z. lat.flows z (ls j) ≡ false) (sym body.0) (subst (λ z. lat.flows end z ≡ false) hl high) in
+            subst (λ z. lat.flows z (ls j) ≡ false) (sym body.0) (subst (λ z. lat.flows end z ≡ false) hl high) in
             ap (λ z. first_broken lat (conditions lat g (T z i) pc t)) hq
             ∙ first_holds (writes RMtg m (here lat g pc e)) (conditions lat g D pc S ++ tail) f ∙ broken_none lat (conditions lat g D pc S) tail body.1
             ∙ cond-false (lat.flows (walk_end lat g D pc S) (ls j)) (first_broken lat (conditions lat g U pc S)) (Some (told last)) above

@@ -55,7 +55,7 @@ module _ (lat : Lattice) (ll : IsLattice lat) (g : ℕ → ℕ) where
   twice : (x y u : ℕ) → lat.join (lat.join x u) (lat.join y u) ≡ lat.join (lat.join x y) u
   twice x y u =
       assoc lat ll x u (lat.join y u) ∙ ap (lat.join x) (sym (assoc lat ll u y u) ∙ ap (λ z. lat.join z u) (comm lat ll u y) ∙ assoc lat ll y u u
-          ∙ ap (lat.join y) (idem lat ll u))
+      ∙ ap (lat.join y) (idem lat ll u))
       ∙ sym (assoc lat ll x y u)
 
   start_moves : (t u l a : ℕ) → lat.join (lat.join (lat.join t u) l) a ≡ lat.join (lat.join (lat.join t l) a) u
@@ -145,13 +145,23 @@ module _ (lat : Lattice) (ll : IsLattice lat) (g : ℕ → ℕ) where
       let inner = lat.join pc (label_of lat g e) in
       let start = loop_start lat g t m e in
       let end = walk_end lat g c inner start in
-      let y = parts_hold lat (conditions lat g c inner end) (conditions lat g r pc end) h.1 in
-      (end, h.0, walk_grows c inner start, subst (λ z. Types lat g inner end (bare c) z) (walk_stays c inner start) (typed_from c inner end y.0),
-          typed_from r pc end y.1)
+      let y = parts_hold lat (conditions lat g c inner end) (conditions lat g r pc end) h.1 in (
+        end,
+        h.0,
+        walk_grows c inner start,
+        subst (λ z. Types lat g inner end (bare c) z) (walk_stays c inner start) (typed_from c inner end y.0),
+        typed_from r pc end y.1,
+      )
   typed_from (Mitigate m k l e c r) pc t h =
       let start = after lat g t m e in
-      let y = parts_hold lat (conditions lat g c pc start) (record { rule = RMtg; pos = m.pos; have = walk_end lat g c pc start; allowed = l.label; side =
-          OfLevel k l.written } ∷ conditions lat g r pc start) h.1 in
+      let y = parts_hold lat (conditions lat g c pc start) (record {
+        rule = RMtg;
+        pos = m.pos;
+        have = walk_end lat g c pc start;
+        allowed = l.label;
+        side =
+            OfLevel k l.written;
+      } ∷ conditions lat g r pc start) h.1 in
       (walk_end lat g c pc start, h.0, typed_from c pc start y.0, y.1.0, typed_from r pc start y.1.1)
 
   demand_up : (pc t t2 : ℕ) (m : Placed) (l li : ℕ) → Flows lat t t2 → Flows lat (demand lat pc t m l li) (demand lat pc t2 m l li)
@@ -193,15 +203,20 @@ module _ (lat : Lattice) (ll : IsLattice lat) (g : ℕ → ℕ) where
       let ea = walk_end lat g a inner start in
       let eb = walk_end lat g b inner start in
       let z = holds_from r pc (lat.join ea eb) (lat.join ty.0 ty.1) end (join_up lat ll ea eb ty.0 ty.1 x.1 y.1) ty.5 in
-      let rest = conditions lat g r pc (lat.join ea eb) in
-      ((ty.2, both_hold lat (conditions lat g a inner start) (conditions lat g b inner start ++ rest) x.0
-          (both_hold lat (conditions lat g b inner start) rest y.0 z.0)), z.1)
+      let rest = conditions lat g r pc (lat.join ea eb) in (
+        (
+          ty.2,
+          both_hold lat (conditions lat g a inner start) (conditions lat g b inner start ++ rest) x.0
+              (both_hold lat (conditions lat g b inner start) rest y.0 z.0),
+        ),
+        z.1,
+      )
   holds_from (While m e c r) pc t t2 end f ty =
       let l = label_of lat g e in
       let inner = lat.join pc l in
       let start = loop_start lat g t m e in
       let up = ll.chain start (loop_start lat g t2 m e) ty.0
-          (join_up lat ll (lat.join l t) m.marks.er (lat.join l t2) m.marks.er (join_up lat ll l t l t2 (ll.same l) f) (ll.same m.marks.er)) ty.2 in
+      (join_up lat ll (lat.join l t) m.marks.er (lat.join l t2) m.marks.er (join_up lat ll l t l t2 (ll.same l) f) (ll.same m.marks.er)) ty.2 in
       let first = holds_from c inner start ty.0 ty.0 up ty.3 in
       let stay = walk_end lat g c inner start in
       let body = holds_from c inner stay ty.0 ty.0 first.1 ty.3 in
@@ -212,9 +227,14 @@ module _ (lat : Lattice) (ll : IsLattice lat) (g : ℕ → ℕ) where
       let up = start_up t t2 (label_of lat g e) m.marks.er f in
       let body = holds_from c pc start (after lat g t2 m e) ty.0 up ty.2 in
       let z = holds_from r pc start (after lat g t2 m e) end up ty.4 in
-      let last : Condition = record { rule = RMtg; pos = m.pos; have = walk_end lat g c pc start; allowed = l.label; side = OfLevel k l.written } in
-      ((ty.1, both_hold lat (conditions lat g c pc start) (last ∷ conditions lat g r pc start) body.0
-          (ll.chain (walk_end lat g c pc start) ty.0 l.label body.1 ty.3, z.0)), z.1)
+      let last : Condition = record { rule = RMtg; pos = m.pos; have = walk_end lat g c pc start; allowed = l.label; side = OfLevel k l.written } in (
+        (
+          ty.1,
+          both_hold lat (conditions lat g c pc start) (last ∷ conditions lat g r pc start) body.0
+              (ll.chain (walk_end lat g c pc start) ty.0 l.label body.1 ty.3, z.0),
+        ),
+        z.1,
+      )
 
   -- a program is typed exactly where no condition is broken
   pub typed : (p : Tree) → first_broken lat (conditions lat g p lat.bottom lat.bottom) ≡ None → IsTyped lat g (bare p)

@@ -63,9 +63,11 @@ module _ (q : LabelledProgram) where
     pub refused : (r : TypeFault) → IsLattice (lattice_of o) → broken_of o l (list_plan cs) 0 b.number b.number ≡ Some r
         → (first_broken_of q ≡ Some r) × (HasType q → ⊥)
     refused r ll h =
-        let e = sym broken_is ∙ h in
-        (e, λ ty. none_or_some (first_broken_of q) r
-            (not_broken (order_of q) (subst (λ z. IsLattice (lattice_of z)) order_is ll) (labels_of q) (placed_of q) ty) e)
+        let e = sym broken_is ∙ h in (
+          e,
+          λ ty. none_or_some (first_broken_of q) r
+              (not_broken (order_of q) (subst (λ z. IsLattice (lattice_of z)) order_is ll) (labels_of q) (placed_of q) ty) e,
+        )
 
     pub collected : (none pcs : List Label) → none ≡ [] → IsValid s' → pcs ≡ none ++ contexts_of o l (list_plan cs) b → AreContexts q pcs
     collected none pcs hn valid h =

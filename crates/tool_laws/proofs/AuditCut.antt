@@ -60,8 +60,10 @@ cut_sleep = (
       closed_piece (codes "h") Name _ name_h refl,
       (
         refl,
-        (closed_piece (codes "}") (SignKind RightBrace) _ refl (refl, refl),
-            (closed_piece (codes ";") (SignKind Semicolon) _ refl (refl, refl), (refl, cut_last))),
+        (
+          closed_piece (codes "}") (SignKind RightBrace) _ refl (refl, refl),
+          (closed_piece (codes ";") (SignKind Semicolon) _ refl (refl, refl), (refl, cut_last)),
+        ),
       ),
     ),
   ),

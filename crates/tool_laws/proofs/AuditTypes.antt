@@ -56,8 +56,10 @@ unfolding table flow_table join_table
 are_labels = record { keeps = keeps; own = (refl, (refl, tt), (refl, tt)) }
 
 meets : MeetsOmitted program labels
-meets = ((λ e. absurd (false≢true e)),
-    ((λ e. absurd (false≢true e)), ((λ e. absurd (false≢true e)), ((λ e. absurd (false≢true e)), ((λ e. absurd (false≢true e)), tt)))))
+meets = (
+  (λ e. absurd (false≢true e)),
+  ((λ e. absurd (false≢true e)), ((λ e. absurd (false≢true e)), ((λ e. absurd (false≢true e)), ((λ e. absurd (false≢true e)), tt)))),
+)
 
 same_flows : (a b : ℕ) → b ≡ a → Flows lattice a b
 same_flows a b e = subst (λ (x : ℕ). Flows lattice a x) (sym e) (two_lattice.same a)

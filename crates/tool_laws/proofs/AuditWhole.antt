@@ -58,8 +58,13 @@ pub can_be_done : (content : Content) (file starts : List ℕ) → HoldsProgram 
     → CanBeDone content (asked file starts)
 can_be_done content file starts h k = record {
   known = known content file starts h k;
-  goes = (program, reads (content file) h, Some low, observes,
-      (typable, λ q y. let g = goes_on q y in (g.0, (both_starts, starts_are (content starts) k, g.1))));
+  goes = (
+    program,
+    reads (content file) h,
+    Some low,
+    observes,
+    (typable, λ q y. let g = goes_on q y in (g.0, (both_starts, starts_are (content starts) k, g.1))),
+  );
 }
 
 pub has_answer : (Rises : List ℕ → Type 0) (content : Content) (file starts : List ℕ) → HoldsProgram (content file) → HoldsStarts (content starts)

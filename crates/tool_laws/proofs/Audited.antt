@@ -30,8 +30,16 @@ pub can_be_audited : CanBeAudited Part budget labelled observer both_starts
 can_be_audited = record { cut = record { agree = part.agree; few = omega (arith, shown) }; halt = halts }
 
 abbrev classes : Vec ℕ Global
-classes = record { ptr = null_ptr; len = 2; cap = 2; alloc = record { memory = record { seal = tt } }; items = 1 ∷ 2 ∷ []; ok =
-    (refl, omega arith); small = omega arith }
+classes = record {
+  ptr = null_ptr;
+  len = 2;
+  cap = 2;
+  alloc = record { memory = record { seal = tt } };
+  items = 1 ∷ 2 ∷ [];
+  ok =
+      (refl, omega arith);
+  small = omega arith;
+}
 
 abbrev pub report : AuditReport
 report = record { runs = 2; mitigations = 1; measures = record { levels = 1; distinct = 2; base = 2; exponent = 10; classes = classes } }

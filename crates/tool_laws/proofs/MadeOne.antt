@@ -30,10 +30,23 @@ meant t =
 is_program : (n number : ℕ) (words : List Told) → ToldAs words (program_words (suc n) number) → (p : Syntax) × IsProgram words p
 is_program n number words h =
     let t : ProgramTree = program_tree number n h.positions in
-    let r : Resolves t (meant t) = record { named = named_of t refl (program_known h.positions number n); order = two_built two_sound; pairs =
-        refl; declarations = refl; plan = refl } in
-    (meant t, record { tree = t; spells = (h.last, h.are ∙ program_spelled number n h.positions _); within =
-        units_within number h.positions n no_more tt; resolves = r })
+    let r : Resolves t (meant t) = record {
+      named = named_of t refl (program_known h.positions number n);
+      order = two_built two_sound;
+      pairs =
+          refl;
+      declarations = refl;
+      plan = refl;
+    } in (
+      meant t,
+      record {
+        tree = t;
+        spells = (h.last, h.are ∙ program_spelled number n h.positions _);
+        within =
+            units_within number h.positions n no_more tt;
+        resolves = r;
+      },
+    )
 
 pub made_one : (size number : ℕ) → 0 < size → HasWords (program_text size number) (program_words size number) → (p : Syntax) × IsMade size number p
 made_one zero number h w = absurd (omega (arith, h))

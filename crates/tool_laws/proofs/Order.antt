@@ -176,8 +176,10 @@ up = more (inl (refl, refl)) none
 chains : IsSound 2 (Chain pairs) → (a b : ℕ) → a < 2 → b < 2 → Flows (lattice_of two) a b ↔ Chain pairs a b
 chains s zero zero h k = (λ f. none, λ c. flow_is 0 0 h k)
 chains s zero (suc zero) h k = (λ f. up, λ c. flow_is 0 1 h k)
-chains s (suc zero) zero h k = (λ f. absurd (both_ways (flows_in flow_table 1 0) (flow_is 1 0 h k) f),
-    λ c. absurd (s.no_cycle 0 1 (omega arith) (omega arith) (up, c)))
+chains s (suc zero) zero h k = (
+  λ f. absurd (both_ways (flows_in flow_table 1 0) (flow_is 1 0 h k) f),
+  λ c. absurd (s.no_cycle 0 1 (omega arith) (omega arith) (up, c)),
+)
 chains s (suc zero) (suc zero) h k = (λ f. none, λ c. flow_is 1 1 h k)
 chains s (suc (suc a)) b h k = absurd (omega (arith, h))
 chains s a (suc (suc b)) h k = absurd (omega (arith, k))

@@ -22,7 +22,7 @@ pub run_ends : HasOneAnswer → (content : Content) (before now : List ℕ → �
     → s ≢ status.WriteFault → Ended first_answer old new s
 run_ends law content before now file t h k n old new s e w =
     ends first_answer old new (IsAnswer (λ name. Rose (before name) (now name)) content (run file None Flat t None))
-        (has_one law content before now file t h k n) s e w
+    (has_one law content before now file t h k n) s e w
 
 -- the same of the first words
 pub call_ends : HasOneAnswer → (content : Content) (before now : List ℕ → ℕ) (old new : Option (List ℕ)) (s : Status) (words : List (List ℕ)) (Fails : Type 0)

@@ -32,5 +32,9 @@ abbrev pub both_starts : List StartValue
 both_starts = untouched 0 ∷ untouched 100 ∷ []
 
 pub starts_are : (c : Option (Option (List ℕ))) → c ≡ Some (Some starts_text) → StartsAre c program both_starts
-starts_are c h = (starts_text, subst (λ (x : Option (Option (List ℕ))). IsTold x starts_text) (sym h) refl, omega arith,
-    (Some document, (text_utf8, writes), refl))
+starts_are c h = (
+  starts_text,
+  subst (λ (x : Option (Option (List ℕ))). IsTold x starts_text) (sym h) refl,
+  omega arith,
+  (Some document, (text_utf8, writes), refl),
+)

@@ -91,7 +91,7 @@ module _ (labels : List (List ℕ)) where
   shaped_all no_declarations h = All-nil (λ (d : Declaration). IsShaped d.1.label d.1.length)
   shaped_all (and_declaration (declaration_of p w q s u) m) h =
       All-cons (λ (d : Declaration). IsShaped d.1.label d.1.length) (w, decl_of labels (shape_label s) (shape_length s)) (declarations_in labels m)
-          (shaped_one s h.0) (shaped_all m h.1)
+      (shaped_one s h.0) (shaped_all m h.1)
 
 pub spelled_arrays : (words : List Told) (p : Syntax) (l : Labelling) → IsProgram words p → IsLabelling p l → ArraysIn (variable_of p.order l) (plan_of p)
 spelled_arrays words p l spelled labelling =
@@ -101,4 +101,4 @@ spelled_arrays words p l spelled labelling =
     let shaped = subst AreShaped (sym r.declarations) (shaped_all labels t.declarations r.named.shapes) in
     let uses = subst (λ z. CommandsNamed (scope labels z) t.commands) (sym r.declarations) r.named.uses in
     subst (λ z. ArraysIn (variable_of p.order l) z) (sym r.plan)
-        (arrays_commands (scope labels p.declarations) (variable_of p.order l) shaped labelling.declared t.commands 0 uses)
+    (arrays_commands (scope labels p.declarations) (variable_of p.order l) shaped labelling.declared t.commands 0 uses)

@@ -27,4 +27,4 @@ pub certificate_stop_of : (R : Type 0) (c : Option (Option (List ℕ))) (p : Syn
     → IsStop (CertificateStops R c p) e
 certificate_stop_of R c p e h =
     broke_map (CertificateStops ⊥ c p) (CertificateStops R c p) (status_of e) (stop_text e)
-        (certificate_rise ⊥ R c p (status_of e) (stop_text e) (λ n. absurd n)) h
+    (certificate_rise ⊥ R c p (status_of e) (stop_text e) (λ n. absurd n)) h

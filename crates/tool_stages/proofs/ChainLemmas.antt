@@ -67,7 +67,7 @@ lower_goes p Can Next s t can f h =
 
 pub compiles_go : (Rises : List ℕ → Type 0) (content : Content) (file : List ℕ) (observer : Option (List ℕ))
     (Can : Syntax → LabelledProgram → Option Label → Type 0) (Next : Syntax → LabelledProgram → Option Label → Code → Status → List ℕ → Type 0) (s : Status)
-        (t : List ℕ)
+    (t : List ℕ)
     → (Rises file → ⊥) → IsKnown (content file) → CanCompile (content file) observer Can
     → ((p : Syntax) (q : LabelledProgram) (o : Option Label) (code : Code) → code ≡ lowered q → Can p q o → Next p q o code s t → s ≡ status.Done)
     → Compiles Rises content file observer Next s t → s ≡ status.Done
@@ -76,10 +76,10 @@ compiles_go Rises content file observer Can Next s t n known can f h =
     let o : Option Label = can.2 in
     then_goes_from (ProgramStops (Rises file) (content file)) (Reads (content file))
     (λ p. Then (ObserverStops p.order observer) (Observes p.order observer)
-        (λ o. Then (TypeStops p) (Types p) (λ q. Then (ImageStops q) (HasImage q) (λ code. Next p q o code)))) s t
+    (λ o. Then (TypeStops p) (Types p) (λ q. Then (ImageStops q) (HasImage q) (λ code. Next p q o code)))) s t
     p can.1 (one_program (content file) known) (program_goes (Rises file) (content file) p s t n known can.1)
     (then_goes_from (ObserverStops p.order observer) (Observes p.order observer)
-        (λ o. Then (TypeStops p) (Types p) (λ q. Then (ImageStops q) (HasImage q) (λ code. Next p q o code))) s t
+    (λ o. Then (TypeStops p) (Types p) (λ q. Then (ImageStops q) (HasImage q) (λ code. Next p q o code))) s t
     o can.3 (λ a b. one_observer p.order observer a b (program_order _ p can.1.spelled)) (observer_goes p.order observer o s t can.3)
     (lower_goes p (λ q. Can p q o) (λ q code. Next p q o code) s t can.4 (λ q code. f p q o code))) h
 
@@ -114,7 +114,7 @@ module _ (s : Status) (t : List ℕ) where
 
   pub prepared_done : (files : List ℕ → Type 0) (content' : Content) (file observer : List ℕ) (Rose : Type 0) (c : Option (Option (List ℕ)))
       (Can : LabelledProgram → Option Label → List StartValue → Type 0)
-          (Next : Syntax → LabelledProgram → Option Label → Code → List StartValue → Status → List ℕ → Type 0)
+      (Next : Syntax → LabelledProgram → Option Label → Code → List StartValue → Status → List ℕ → Type 0)
       → (files file → ⊥) → IsKnown (content' file) → (Rose → ⊥) → IsKnown c
       → CanCompile (content' file) (Some observer) (λ p q o. (ss : List StartValue) × StartsAre c p ss × Can q o ss)
       → ((p : Syntax) (q : LabelledProgram) (o : Option Label) (code : Code) (ss : List StartValue) → Can q o ss → Next p q o code ss s t → s ≡ status.Done)
@@ -132,7 +132,7 @@ module _ (s u : Status) (t x : List ℕ) where
       → Then (ProgramStops R c) (Reads c) (λ p. Next p) s t → Then (ProgramStops R c) (Reads c) (λ p. Next p) u x → Same s u t x
   reads_one R c Next n known next =
       then_one (ProgramStops R c) (Reads c) (λ p. Next p) s u t x (one_program_stop c known R s u t x n)
-          (λ p v y r. program_goes R c p v y n known r) (one_program c known)
+      (λ p v y r. program_goes R c p v y n known r) (one_program c known)
       (λ p r. next p (program_order _ p r.spelled))
 
   pub types_one : (p : Syntax) (Next : LabelledProgram → Status → List ℕ → Type 0) → IsOrder p.order
@@ -140,7 +140,7 @@ module _ (s u : Status) (t x : List ℕ) where
       → Then (TypeStops p) (Types p) (λ q. Next q) s t → Then (TypeStops p) (Types p) (λ q. Next q) u x → Same s u t x
   types_one p Next o next =
       then_one (TypeStops p) (Types p) (λ q. Next q) s u t x (one_type_stop p s u t x o) (λ q v y. typed_or_not p q v y)
-          (λ a b. one_typed p a b o) (λ q typed. next q)
+      (λ a b. one_typed p a b o) (λ q typed. next q)
 
   pub lower_one : (p : Syntax) (Next : LabelledProgram → Code → Status → List ℕ → Type 0) → IsOrder p.order
       → ((q : LabelledProgram) (code : Code) → Next q code s t → Next q code u x → Same s u t x)
@@ -149,7 +149,7 @@ module _ (s u : Status) (t x : List ℕ) where
   lower_one p Next o next =
       types_one p (λ q. Then (ImageStops q) (HasImage q) (λ code. Next q code)) o (λ q.
       then_one (ImageStops q) (HasImage q) (λ code. Next q code) s u t x (one_image_stop q s u t x) (λ code v y. image_or_not q code v y)
-          (λ a b h k. h.0 ∙ sym k.0) (λ code image. next q code))
+      (λ a b h k. h.0 ∙ sym k.0) (λ code image. next q code))
 
   pub compiles_one : (Rises : List ℕ → Type 0) (content : Content) (file : List ℕ) (observer : Option (List ℕ))
       (Next : Syntax → LabelledProgram → Option Label → Code → Status → List ℕ → Type 0)
@@ -159,9 +159,9 @@ module _ (s u : Status) (t x : List ℕ) where
   compiles_one Rises content file observer Next n known next =
       reads_one (Rises file) (content file)
       (λ p. Then (ObserverStops p.order observer) (Observes p.order observer)
-          (λ o. Then (TypeStops p) (Types p) (λ q. Then (ImageStops q) (HasImage q) (λ code. Next p q o code)))) n known (λ p order.
+      (λ o. Then (TypeStops p) (Types p) (λ q. Then (ImageStops q) (HasImage q) (λ code. Next p q o code)))) n known (λ p order.
       then_one (ObserverStops p.order observer) (Observes p.order observer)
-          (λ o. Then (TypeStops p) (Types p) (λ q. Then (ImageStops q) (HasImage q) (λ code. Next p q o code))) s u t x
+      (λ o. Then (TypeStops p) (Types p) (λ q. Then (ImageStops q) (HasImage q) (λ code. Next p q o code))) s u t x
       (one_observer_stop p.order observer s u t x) (λ o v y. observer_goes p.order observer o v y) (λ a b. one_observer p.order observer a b order) (λ o sees.
       lower_one p (λ q code. Next p q o code) order (λ q code. next p q o code)))
 
@@ -173,9 +173,9 @@ module _ (s u : Status) (t x : List ℕ) where
       → Prepares Rises content file observer Rose c Next s t → Prepares Rises content file observer Rose c Next u x → Same s u t x
   prepares_one Rises content file observer Rose c Next n known m kept next =
       compiles_one Rises content file (Some observer) (λ p q o code. Then (StartStops Rose c p) (StartsAre c p) (λ ss. Next p q o code ss)) n known
-          (λ p q o code.
+      (λ p q o code.
       then_one (StartStops Rose c p) (StartsAre c p) (λ ss. Next p q o code ss) s u t x (one_start_stop c kept p Rose s u t x m)
-          (λ ss v y are. starts_go Rose c p ss v y m kept are)
+      (λ ss v y are. starts_go Rose c p ss v y m kept are)
       (one_list_of_starts c kept p) (λ ss are. next p q o code ss))
 
   pub one_run_list : (c : Option (Option (List ℕ))) (a b : List (List ℕ)) → IsKnown c → HoldsRuns c a → HoldsRuns c b → a ≡ b

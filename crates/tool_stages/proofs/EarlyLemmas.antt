@@ -130,7 +130,7 @@ past_told r s told past =
 check_early : (Rises : List ℕ → Type 0) (content : Content) (file : List ℕ) (s : Status) (t : List ℕ) → CheckStops Rises content file s t → IsEarly s
 check_early Rises content file s t =
     then_early (ProgramStops (Rises file) (content file)) (Reads (content file)) (λ p. Then (TypeStops p) (Types p) (λ q. NoMore)) s t
-        (program_early (Rises file) (content file) s t)
+    (program_early (Rises file) (content file) s t)
     (λ p. then_early (TypeStops p) (Types p) (λ q. NoMore) s t (type_early p s t) (λ q n. absurd n))
 
 -- what stops `check` and is written did not come past the typing
@@ -138,7 +138,7 @@ pub check_stopped : (Rises : List ℕ → Type 0) (content : Content) (file : Li
     → IsStop (CheckStops Rises content file) e → (r ≢ WriteFault → (r ≡ status_of e) × W) → IsTrue (is_past_typing r) → ⊥
 check_stopped Rises content file e r W h told past =
     not_late (status_of e) (broke_early (CheckStops Rises content file) (status_of e) (stop_text e) (check_early Rises content file (status_of e) (stop_text e))
-        h) (past_told r (status_of e) (λ n. (told n).0) past)
+    h) (past_told r (status_of e) (λ n. (told n).0) past)
 
 -- what is true of each result that came past the typing is true where the status tells so
 pub told_sound : (r : Result (Vec ℕ Global) Stop) (A : Type 0) (s : Status) → OnOk r A → IfErr r (λ e. IsTrue (is_past_typing (status_of e)) → A)

@@ -24,11 +24,11 @@ module _ {E F : Type 0} (v : Env E) (made : Order → List Touch → E) (w : Ord
   pub told_alike : RunsTellAlike v made w made' → (q : LabelledProgram) (code : Code) → code ≡ lowered q → IsShaped code → (s : StartValue)
       → IsFor q.program s → (t : ℕ) →
       told_by (run_from v code.instrs t (start_of made q.program.order s))
-          ≡ told_by (run_from (w q.program.order) code.instrs t (start_of made' q.program.order s))
+      ≡ told_by (run_from (w q.program.order) code.instrs t (start_of made' q.program.order s))
   told_alike alike q code is shaped s fits t =
       subst (λ (z : Code). IsShaped z
-          → told_by (run_from v z.instrs t (start_of made q.program.order s))
-          ≡ told_by (run_from (w q.program.order) z.instrs t (start_of made' q.program.order s))) (sym is)
+      → told_by (run_from v z.instrs t (start_of made q.program.order s))
+      ≡ told_by (run_from (w q.program.order) z.instrs t (start_of made' q.program.order s))) (sym is)
       (λ shaped. alike (lowered q) shaped s fits.touches t) shaped
 
   module _ (serves : Order → E → Type 0) (serves' : Order → F → Type 0) where

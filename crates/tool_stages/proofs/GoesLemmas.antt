@@ -69,7 +69,7 @@ no_parse_fault c p t known r f =
     let list : f.tokens ≡ r.tokens = one_list r.bytes f.tokens r.tokens (subst (λ (z : List ℕ). AreTokens z f.tokens) same f.cut) r.cut in
     let words : told f.bytes f.tokens ≡ told r.bytes r.tokens = ap (λ (z : List ℕ). told z f.tokens) same ∙ ap (told r.bytes) list in
     f.none (not_refused (told r.bytes r.tokens) (program_spelled (told r.bytes r.tokens) p r.spelled) f.fault
-        (subst (λ (w : List Told). Refuses w f.fault) words f.is))
+    (subst (λ (w : List Told). Refuses w f.fault) words f.is))
 
 no_bad_text : (c : Option (Option (List ℕ))) (p : Syntax) (t : List ℕ) → IsKnown c → Reads c p → BadText c t → ⊥
 no_bad_text c p t known r (inl f) = no_text_fault c p t known r f

@@ -99,7 +99,7 @@ module _ (c : Option (Option (List ℕ))) (known : IsKnown c) where
   one_text t x (inr f) (inr g) =
       let same = same_words f.bytes g.bytes f.tokens g.tokens f.are g.are f.cut g.cut in
       let fault : f.fault ≡ g.fault =
-          one_refusal (told g.bytes g.tokens) f.fault g.fault (subst (λ (w : List Told). Refuses w f.fault) same.2 f.is) g.is f.none g.none in
+      one_refusal (told g.bytes g.tokens) f.fault g.fault (subst (λ (w : List Told). Refuses w f.fault) same.2 f.is) g.is f.none g.none in
       let line : parse_fault_line (header_name f.bytes f.tokens) f.fault ≡ parse_fault_line (header_name g.bytes g.tokens) g.fault =
       ap (λ (z : List ℕ). parse_fault_line (header_name z f.tokens) f.fault) same.0
       ∙ ap (λ (z : List Token). parse_fault_line (header_name g.bytes z) f.fault) same.1
@@ -181,7 +181,7 @@ module _ (c : Option (Option (List ℕ))) (known : IsKnown c) (p : Syntax) where
   one_start_fault t x f g =
       let bytes : f.bytes ≡ g.bytes = one_told c f.bytes g.bytes known f.are g.are in
       let same : Err f.fault ≡ Err g.fault =
-          one_answer p g.bytes (Err f.fault) (Err g.fault) (subst (λ (z : List ℕ). Gives p z (Err f.fault)) bytes f.is) g.is in
+      one_answer p g.bytes (Err f.fault) (Err g.fault) (subst (λ (z : List ℕ). Gives p z (Err f.fault)) bytes f.is) g.is in
       let fault : f.fault ≡ g.fault = cc in
       f.line ∙ ap start_fault_line fault ∙ sym g.line
 
@@ -208,7 +208,7 @@ module _ (c : Option (Option (List ℕ))) (known : IsKnown c) where
   pub one_ready_stop : (R : Type 0) (s u : Status) (t x : List ℕ) → (R → ⊥) → ReadyStops R c s t → ReadyStops R c u x → Same s u t x
   one_ready_stop R s u t x n h k =
       file_stop R ready c (HasReadyFault c) status.Starts s u t x n (λ t f l. not_long c f.bytes known f.are f.short l) one_ready_fault
-          (ready_stops R c s t h) (ready_stops R c u x k)
+      (ready_stops R c s t h) (ready_stops R c u x k)
 
   pub runs_or_not : (runs : List (List ℕ)) (R : Type 0) (s : Status) (t : List ℕ) → (R → ⊥) → HoldsRuns c runs → ReadyStops R c s t → ⊥
   runs_or_not runs R s t n k h = ready_goes R c k.bytes s t n known k.are k.short k.taken h
@@ -225,4 +225,4 @@ module _ (c : Option (Option (List ℕ))) (known : IsKnown c) (p : Syntax) where
   pub one_certificate_stop : (R : Type 0) (s u : Status) (t x : List ℕ) → (R → ⊥) → CertificateStops R c p s t → CertificateStops R c p u x → Same s u t x
   one_certificate_stop R s u t x n h k =
       file_stop R certificate c (HasWrongLine c p) status.Rejected s u t x n (λ t f l. not_long c f.bytes known f.are f.short l) one_wrong_line
-          (certificate_stops R c p s t h) (certificate_stops R c p u x k)
+      (certificate_stops R c p s t h) (certificate_stops R c p u x k)

@@ -57,7 +57,7 @@ pub compile_stops_audit : (Rises : List ℕ → Type 0) (content : Content) (fil
 compile_stops_audit Rises content file observer R starts e h =
     broke_map (CompileStops Rises content file (Some observer)) (PrepareStops Rises content file observer R starts) (status_of e) (stop_text e)
     (compiles_map Rises content file (Some observer) (λ p q o code. NoMore) (starts_next R starts (λ p q o code ss. NoMore)) (status_of e) (stop_text e)
-        (λ p q o code n. absurd n)) h
+    (λ p q o code n. absurd n)) h
 
 -- a program that is none stops the audit
 pub program_stops_audit : (Rises : List ℕ → Type 0) (content : Content) (file observer : List ℕ) (R : Type 0) (starts : Option (Option (List ℕ))) (e : Stop)
@@ -73,10 +73,10 @@ pub starts_stop_audit : (Rises : List ℕ → Type 0) (content : Content) (file 
 starts_stop_audit Rises content file observer R R' held starts q o code p e f same is h stop =
     let at : IsStop (StartStops R starts h.program) e =
     subst (λ (z : Syntax). IsStop (StartStops R starts z) e) (is ∙ h.types.program)
-        (subst (λ (z : Option (Option (List ℕ))). IsStop (StartStops R z p) e) same stop) in
+    (subst (λ (z : Option (Option (List ℕ))). IsStop (StartStops R z p) e) same stop) in
     broke_map (StartStops R starts h.program) (PrepareStops Rises content file observer R' starts) (status_of e) (stop_text e)
     (λ k. compiled_goes Rises content file (Some observer) q o code (starts_next R' starts (λ p q o code ss. NoMore)) (status_of e) (stop_text e) h
-        (inl (start_rise R R' starts h.program (status_of e) (stop_text e) f k))) at
+    (inl (start_rise R R' starts h.program (status_of e) (stop_text e) f k))) at
 
 pub prepared_of : (content : Content) (file observer : List ℕ) (held starts : Option (Option (List ℕ))) (q : LabelledProgram) (o : Option Label) (l : Label)
     (code : Code) (p : Syntax) (ss : List StartValue)

@@ -44,7 +44,7 @@ sound_in v serves halted cut p q valid types =
 pub typed_made : (words : List Told) (p : Syntax) (q : LabelledProgram) → IsProgram words p → q.program ≡ p → IsLabelling p q.labels → HasType q → IsTypedWith q
 typed_made words p q spelled is labelling typed =
     let numbered = subst (AreNumbered 0) (sym spelled.resolves.plan)
-        (numbered_commands (scope (label_names spelled.tree.header) p.declarations) spelled.tree.commands 0) in
+    (numbered_commands (scope (label_names spelled.tree.header) p.declarations) spelled.tree.commands 0) in
     record {
       lattice = subst (λ (s : Syntax). IsLattice (lattice_of s.order)) (sym is) (order_is p.order (program_order words p spelled));
       numbered = subst (λ (s : Syntax). AreNumbered 0 (plan_of s)) (sym is) numbered;

@@ -60,7 +60,7 @@ some_counted p v no_items ss e = absurd cc
 some_counted p v (item d ds) ss e =
     let many = else_part (count_items (item d ds) == 0) ss _ NoRuns e in
     let few = ltb-false 4096 (count_items (item d ds))
-        (else_test (nat_lt 4096 (count_items (item d ds))) ss (runs_from p v 1 (item d ds)) (TooMany (count_items (item d ds))) many) in
+    (else_test (nat_lt 4096 (count_items (item d ds))) ss (runs_from p v 1 (item d ds)) (TooMany (count_items (item d ds))) many) in
     let all = else_part (nat_lt 4096 (count_items (item d ds))) ss (runs_from p v 1 (item d ds)) (TooMany (count_items (item d ds))) many in
     let n = as_many p v 1 (item d ds) ss all in
     (some_first ss (run_of p v 1 d) (runs_from p v 2 ds) all, omega (arith, few, n))
@@ -107,4 +107,4 @@ pub start_stops : (R : Type 0) (content : Option (Option (List ℕ))) (p : Synta
     → IsStop (StartStops R content p) e
 start_stops R content p e h =
     broke_map (StartStops ⊥ content p) (StartStops R content p) (status_of e) (stop_text e)
-        (start_rise ⊥ R content p (status_of e) (stop_text e) (λ n. absurd n)) h
+    (start_rise ⊥ R content p (status_of e) (stop_text e) (λ n. absurd n)) h

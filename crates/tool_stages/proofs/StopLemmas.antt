@@ -71,7 +71,7 @@ pub image_stops : (Rises : List ℕ → Type 0) (content : Content) (file : List
 image_stops Rises content file observer p order o q e reads is sees types h =
     let seen : Observes p.order observer o = subst (λ (z : Order). Observes z observer o) is sees in
     broke_map (ImageStops q) (CompileStops Rises content file observer) (status_of e) (stop_text e)
-        (λ k. inr (p, reads, inr (o, seen, inr (q, types, inl k)))) h
+    (λ k. inr (p, reads, inr (o, seen, inr (q, types, inl k)))) h
 
 -- what stops the image stops the run
 pub compile_stops : (Rises Rises' : List ℕ → Type 0) (content : Content) (file : List ℕ) (starts observer : Option (List ℕ)) (e : Stop)
@@ -80,7 +80,7 @@ compile_stops Rises Rises' content file starts observer e rise h =
     broke_map (CompileStops Rises content file observer) (RunStops Rises' content file starts observer) (status_of e) (stop_text e)
     (λ k. compiles_rise Rises Rises' content file observer (starts_next Rises' content starts) (status_of e) (stop_text e) rise
     (compiles_map Rises content file observer (λ p q o code. NoMore) (starts_next Rises' content starts) (status_of e) (stop_text e)
-        (λ p q o code n. absurd n) k)) h
+    (λ p q o code n. absurd n) k)) h
 
 -- the starts stop the run
 pub first_stops : (Rises : List ℕ → Type 0) (content : Content) (file : List ℕ) (starts observer : Option (List ℕ)) (q : LabelledProgram)
@@ -144,7 +144,7 @@ later_first_stops Rises Rises' content content' file starts observer q o code p 
     let at : IsStop (FirstStops Rises content starts q.program) e = subst (λ (z : Syntax). IsStop (FirstStops Rises content starts z) e) is stop in
     first_stops Rises' content' file starts observer q o code e h
     (broke_map (FirstStops Rises content starts q.program) (FirstStops Rises' content' starts q.program) (status_of e) (stop_text e)
-        (first_rise Rises Rises' content content' starts q.program (status_of e) (stop_text e) f same) at)
+    (first_rise Rises Rises' content content' starts q.program (status_of e) (stop_text e) f same) at)
 
 -- ---- a run without its time
 

@@ -149,7 +149,7 @@ pub ends_after : (old mid new : Option (List ℕ)) (Before : List ℕ → Type 0
     → (r ≢ WriteFault → (r ≡ s) × Appends mid new ys) → (r ≡ WriteFault → AppendsPrefix mid new ys) → EndsBy old new Before A r
 ends_after old mid new Before A xs s ys r first h told prefix =
     ends_finish old new Before A s (xs ++ ys) r h (λ n. let k = told n in (k.0, Appends-trans old mid new xs ys first k.1))
-        (λ e. prefix_after old mid new xs ys (xs ++ ys) first (prefix e) refl)
+    (λ e. prefix_after old mid new xs ys (xs ++ ys) first (prefix e) refl)
 
 -- a call whose answer is done, and whose writes do not fail
 pub ends_done : (old new : Option (List ℕ)) (Before : List ℕ → Type 0) (A : Status → List ℕ → Type 0) (r : Status) → EndsBy old new Before A r

@@ -38,4 +38,4 @@ refused {E = E} least most text r e is digits some small h =
     let present : 0 < length text = at_least (length text) some in
     let over : leb (digits_value 10 text) most ≡ false = ruled_out _ (λ t. wide (present, omega (arith, leb-true (digits_value 10 text) most t, small))) in
     sym (ap (λ (b : Bool). cond b (Some (digits_value 10 text)) None)
-        (last_false (is_number text) (leb least (digits_value 10 text)) (leb (digits_value 10 text) most) over))
+    (last_false (is_number text) (leb least (digits_value 10 text)) (leb (digits_value 10 text) most) over))

@@ -91,7 +91,7 @@ module _ (s : Syntax) (valid : IsValid s) where
       (ms ≡ ls) × (L xs ++ q ≡ L ys ++ r)
   one_head ls ms xs ys bytes q r h k el em =
       let m = more_labels o valid.order ds ls ms (L xs ++ q) (L ys ++ r) h.variables k.variables (omega (arith, el, em))
-          (both_texts ls ms xs ys bytes q r h k) in
+      (both_texts ls ms xs ys bytes q r h k) in
       let none = same_length ls ms m.more m.is (el ∙ sym em) in (
         m.is ∙ ap (λ z. ls ++ z) none ∙ append-nil ls,
         m.rest ∙ ap (λ z. variables_text o (drop (length ls) ds) z ++ (L ys ++ r)) none ∙ ap (λ z. z ++ (L ys ++ r)) (no_text o (drop (length ls) ds)),
@@ -135,7 +135,7 @@ module _ (s : Syntax) (valid : IsValid s) where
   pub no_command : (ls ms : List Label) (xs ys : List Line) (bytes q r : List ℕ) (p : Place) → BeginsWith s ls xs bytes q
       → BeginsWith s ms ys bytes r → length ls ≡ length ds →
       length xs < length (places_of s ls) → p ≡ get_or (places_of s ls) (length xs) p
-          → ((x : Line) (u : List ℕ) → ReadsLine o (length xs) p.act q x u → Meets lat (line_at b xs) p x → ⊥) →
+      → ((x : Line) (u : List ℕ) → ReadsLine o (length xs) p.act q x u → Meets lat (line_at b xs) p x → ⊥) →
       length ls + length xs < length ms + length ys → ⊥
   no_command ls ms xs ys bytes q r p h k el within at none more =
       let few = few_labels ms ys bytes r k in
@@ -145,16 +145,16 @@ module _ (s : Syntax) (valid : IsValid s) where
       let k2 = subst (λ z. AllFit (FitsPlace s ys) (places_of s z) ys) head.0 k.commands in
       let m = lines_after ls xs ys q r h.commands k2 (omega (arith, el, em, more)) head.1 in
       let f = first_of_more (FitsPlace s ys) (places_of s ls) (length xs) p m.more within at
-          (more_than xs ys m.more m.is (omega (arith, el, em, more))) m.fit in
+      (more_than xs ys m.more m.is (omega (arith, el, em, more))) m.fit in
       let x = f.0 in
       let us = f.1 in
       let z : 0 + length xs ≡ length xs = omega arith in
       let text : q ≡ line_text o (length xs) x ++ (lines_text o (length xs + 1) us ++ r) =
       m.rest ∙ ap (λ v. lines_text o (0 + length xs) v ++ r) f.2 ∙ ap (λ v. lines_text o v (x ∷ us) ++ r) z
-          ∙ append_assoc (line_text o (length xs) x) (lines_text o (length xs + 1) us) r in
+      ∙ append_assoc (line_text o (length xs) x) (lines_text o (length xs + 1) us) r in
       let back = from_first LooksBack (places_of s ls) (length xs) p (looks_back ls) within in
       let same : (j : ℕ) → j < length xs → line_at b ys j ≡ line_at b xs j =
-          λ j l. ap (λ v. get_or v j (no_line b)) m.is ∙ get_or_append_left xs m.more (no_line b) j l in
+      λ j l. ap (λ v. get_or v j (no_line b)) m.is ∙ get_or_append_left xs m.more (no_line b) j l in
       none x (lines_text o (length xs + 1) us ++ r) (record { formed = f.3.0; is = text })
       (meets_same lat (line_at b ys) (line_at b xs) (length xs) same p x (subst (λ v. LooksBack (length xs) v) (sym at) back) f.3.1)
 
@@ -166,7 +166,7 @@ module _ (s : Syntax) (valid : IsValid s) where
       let longer : length ls < length ms =
       ⊎_elim (λ (x : length ls < length ms). x)
       (λ (x : length ms ≤ length ls). let some : 0 < length ys = omega (arith, x, more) in let em = k.complete some in
-          omega (arith, em, within, x)) (cases_lt (length ls) (length ms)) in
+      omega (arith, em, within, x)) (cases_lt (length ls) (length ms)) in
       let m = more_labels o valid.order ds ls ms q (L ys ++ r) h.variables k.variables (omega (arith, longer)) (both_texts ls ms [] ys bytes q r h k) in
       let f = first_of_more (FitsDeclaration s.order.size) ds (length ls) d m.more within at (more_than ls ms m.more m.is longer) m.fit in
       let l = f.0 in
@@ -175,7 +175,7 @@ module _ (s : Syntax) (valid : IsValid s) where
       let rest = variables_text o (drop (length ls + 1) ds) us in
       let text : q ≡ variable_text o d.0 l ++ (rest ++ (L ys ++ r)) =
       m.rest ∙ ap (λ v. variables_text o (drop (length ls) ds) v ++ (L ys ++ r)) f.2 ∙ ap (λ v. variables_text o v (l ∷ us) ++ (L ys ++ r)) dr
-          ∙ append_assoc (variable_text o d.0 l) rest (L ys ++ r) in
+      ∙ append_assoc (variable_text o d.0 l) rest (L ys ++ r) in
       none l (rest ++ (L ys ++ r)) (record { below = f.3.0; is = text }) f.3.1
 
   -- the first line is wrong

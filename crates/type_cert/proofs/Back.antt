@@ -41,9 +41,11 @@ fit_all R as' all pre [] d i is len e h = tt
 fit_all R [] all pre (b ∷ bs) d i is len e h = absurd (omega (arith, e))
 fit_all R (a ∷ as') all pre (b ∷ bs) d i is len e h =
     let at : get_or all i d ≡ b = ap (λ z. get_or z i d) is ∙ ap (λ z. get_or (pre ++ b ∷ bs) z d) (sym len) ∙ get_or-append_seam pre b bs d in
-    let l = length-append pre (b ∷ []) in
-    (subst (λ z. R a z) at h.0, fit_all R as' all (pre ++ b ∷ []) bs d (i + 1) (is ∙ sym (append_assoc pre (b ∷ []) bs))
-        (omega (arith, l, len)) (omega (arith, e)) h.1)
+    let l = length-append pre (b ∷ []) in (
+      subst (λ z. R a z) at h.0,
+      fit_all R as' all (pre ++ b ∷ []) bs d (i + 1) (is ∙ sym (append_assoc pre (b ∷ []) bs))
+          (omega (arith, l, len)) (omega (arith, e)) h.1,
+    )
 
 module _ (s : Syntax) (valid : IsValid s) (l : Labelling) (labels : Labels s l) (type : HasType (record { program = s; labels = l })) where
   abbrev q : LabelledProgram
@@ -99,7 +101,7 @@ module _ (s : Syntax) (valid : IsValid s) (l : Labelling) (labels : Labels s l) 
       let n = length_spread ds vs (length_declared g 0 ds) in
       let f = labels.keeps.variables_fit in
       ext_get_or low (spread ds vs) l.variables (n ∙ sym f)
-          (λ i h. ap label (spread_at s.order.size b l.variables ds 0 i valid.arrays kept (subst (λ z. i < z) n h)) ∙ ap (λ z. label (g z)) (zero_add i))
+      (λ i h. ap label (spread_at s.order.size b l.variables ds 0 i valid.arrays kept (subst (λ z. i < z) n h)) ∙ ap (λ z. label (g z)) (zero_add i))
 
   lines_count : length es ≡ count (plan_of s)
   lines_count = length_derived lat g ms lv (plan_of s) 0 b b
@@ -121,11 +123,18 @@ module _ (s : Syntax) (valid : IsValid s) (l : Labelling) (labels : Labels s l) 
   below : (j : ℕ) → HasLabels s.order.size (E j)
   below j =
       let d = derived_below lat g ms lv s.order.size some (joins_below s.order valid.order) labels.keeps.variables_below labels.keeps.commands_below
-          labels.keeps.levels_below (plan_of s) 0 b b some some in
+      labels.keeps.levels_below (plan_of s) 0 b b some some in
       ⊎_elim
       (λ (h : j < length es). from_first _ es j (no_line b) d h)
-      (λ (h : length es ≤ j). subst (λ z. HasLabels s.order.size z) (sym (get_or_past es j (no_line b) h)) (record { pc = some; start = some; read =
-          some; write = some; end = some; level = tt }))
+      (λ (h : length es ≤ j). subst (λ z. HasLabels s.order.size z) (sym (get_or_past es j (no_line b) h)) (record {
+        pc = some;
+        start = some;
+        read =
+            some;
+        write = some;
+        end = some;
+        level = tt;
+      }))
       (cases_lt j (length es))
 
   hold : AllHold lat (conditions lat g (placed_of q) b b)
@@ -136,7 +145,7 @@ module _ (s : Syntax) (valid : IsValid s) (l : Labelling) (labels : Labels s l) 
       let at = from_all es [] es [] 0 (no_line b) (sym (append-nil es)) refl in
       let c = complete lat g ms lv E ll s.order.size ds below (plan_of s) 0 b First Open b at hold labels.own labels.keeps.written valid.known refl (λ _. tt) in
       let c2 = subst (λ z. AllFrom (λ j p. IsFormed s.order.size p.act (E j) × Meets lat E p (E j)) 0 (places lat (label_at b z) (plan_of s) 0 b First Open))
-          (sym spread_is) c in
+      (sym spread_is) c in
       let n = length_places lat (label_at b (spread ds vs)) (plan_of s) 0 b First Open in
       fit_all (FitsPlace s es) (places_of s vs) es [] es (no_line b) 0 refl refl (n ∙ sym lines_count) c2
 
@@ -155,7 +164,7 @@ module _ (s : Syntax) (valid : IsValid s) (l : Labelling) (labels : Labels s l) 
         all_commands = lines_count;
         labels =
             sym (ap (λ z. made z (map both_labels es) (levels_in es)) spread_is ∙ ap (λ z. made l.variables z (levels_in es)) commands_are
-                ∙ ap (λ z. made l.variables l.commands z) levels_are);
+            ∙ ap (λ z. made l.variables l.commands z) levels_are);
       }
     where
       made : List Label → List (Label × Label) → List Label → Labelling

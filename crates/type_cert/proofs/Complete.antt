@@ -82,14 +82,14 @@ module _ (lat : Lattice) (g : ℕ → ℕ) (ms : ℕ → Marks) (ls : ℕ → �
   if_lines : (Q : ℕ → Line → Type 0) (a b p : Plan) (i inner start pc end : ℕ)
       → AllFrom Q (i + 1) (D a (i + 1) inner start ++ (D b (i + 1 + count a) inner start ++ D p (i + 1 + count a + count b) pc end)) →
       AllFrom Q (i + 1) (D a (i + 1) inner start) × AllFrom Q (i + 1 + count a) (D b (i + 1 + count a) inner start)
-          × AllFrom Q (i + 1 + count a + count b) (D p (i + 1 + count a + count b) pc end)
+      × AllFrom Q (i + 1 + count a + count b) (D p (i + 1 + count a + count b) pc end)
   if_lines Q a b p i inner start pc end h =
       let na = length_derived a (i + 1) inner start in
       let nb = length_derived b (i + 1 + count a) inner start in
       let x = from_parts Q (D a (i + 1) inner start) (D b (i + 1 + count a) inner start ++ D p (i + 1 + count a + count b) pc end) (i + 1)
-          (i + 1 + count a) (omega (arith, na)) h in
+      (i + 1 + count a) (omega (arith, na)) h in
       let y = from_parts Q (D b (i + 1 + count a) inner start) (D p (i + 1 + count a + count b) pc end) (i + 1 + count a)
-          (i + 1 + count a + count b) (omega (arith, nb)) x.1 in
+      (i + 1 + count a + count b) (omega (arith, nb)) x.1 in
       (x.0, y.0, y.1)
 
   one_lines : (Q : ℕ → Line → Type 0) (d p : Plan) (i inner start pc end : ℕ) → AllFrom Q (i + 1) (D d (i + 1) inner start ++ D p (i + 1 + count d) pc end) →
@@ -144,14 +144,22 @@ module _ (lat : Lattice) (g : ℕ → ℕ) (ms : ℕ → Marks) (ls : ℕ → �
       fits : (i : ℕ) (w : Written) (pc h t end : ℕ) (r : Rule) (v : Option Label) (act : Act) (s : Start) (c : Close)
           → E i ≡ line_of r pc t (placed ms w i) end v → r ≡ rule_of act → HasLevel act v →
           t ≡ start_of lat E s → ms i ≡ own w.labels h → KeepsLevel lat.bottom act v → Flows lat h (ms i).ew
-              → KeepsRule lat act (line_of r pc t (placed ms w i) end v) → Closes lat E c end →
+          → KeepsRule lat act (line_of r pc t (placed ms w i) end v) → Closes lat E c end →
           Fit i (record { written = w.labels; pc = label pc; here = label h; act = act; start = s; close = c })
       fits i w pc h t end r v act s c is rule has start marks level writes keeps closes =
           let pl : Place = record { written = w.labels; pc = label pc; here = label h; act = act; start = s; close = c } in
           let x = line_of r pc t (placed ms w i) end v in (
             record { rule = ap (λ (z : Line). z.rule) is ∙ rule; labels = below i; level = subst (λ (z : Line). HasLevel act z.level) (sym is) has },
-            subst (λ z. Meets lat E pl z) (sym is) (record { pc = refl; start = start; marks = marks; level = level; writes =
-                writes; rule = keeps; close = closes }),
+            subst (λ z. Meets lat E pl z) (sym is) (record {
+              pc = refl;
+              start = start;
+              marks = marks;
+              level = level;
+              writes =
+                  writes;
+              rule = keeps;
+              close = closes;
+            }),
           )
 
       pub complete : (p : Plan) (i pc : ℕ) (s : Start) (c : Close) (t : ℕ) → AllFrom IsAt i (D p i pc t) → AllHold lat (conditions lat g (T p i) pc t)
@@ -166,15 +174,19 @@ module _ (lat : Lattice) (g : ℕ → ℕ) (ms : ℕ → Marks) (ls : ℕ → �
       complete (Assign w x f p) i pc s c t d h o k kn e q =
           let dm = demand lat pc t (placed ms w i) (label_of lat g f) (index_label lat g f) in
           let end = lat.join (g x) dm in (
-            fits i w pc (here lat g pc f) t end RAsgn None _ s (closing p c) d.0 refl refl e o.0 tt h.1.0 (h.0,
-                absorbs lat ll dm (g x) h.0) (close_here p c (i + 1) pc end (q tt)),
+            fits i w pc (here lat g pc f) t end RAsgn None _ s (closing p c) d.0 refl refl e o.0 tt h.1.0 (
+              h.0,
+              absorbs lat ll dm (g x) h.0,
+            ) (close_here p c (i + 1) pc end (q tt)),
             complete p (i + 1) pc (After i) c end d.1 h.1.1 o.1 k.1 kn.3 (sym (ap (λ (z : Line). z.end.number) d.0)) (λ _. q tt),
           )
       complete (Put w x n j f p) i pc s c t d h o k kn e q =
           let dm = demand lat pc t (placed ms w i) (label_of lat g f) (put_index lat g j f) in
           let end = lat.join (g x) dm in (
-            fits i w pc (lat.join pc (put_index lat g j f)) t end RAsgn None _ s (closing p c) d.0 refl refl e o.0 tt h.1.0 (h.0,
-                absorbs lat ll dm (g x) h.0) (close_here p c (i + 1) pc end (q tt)),
+            fits i w pc (lat.join pc (put_index lat g j f)) t end RAsgn None _ s (closing p c) d.0 refl refl e o.0 tt h.1.0 (
+              h.0,
+              absorbs lat ll dm (g x) h.0,
+            ) (close_here p c (i + 1) pc end (q tt)),
             complete p (i + 1) pc (After i) c end d.1 h.1.1 o.1 k.1 kn.4 (sym (ap (λ (z : Line). z.end.number) d.0)) (λ _. q tt),
           )
       complete (Sleep w f p) i pc s c t d h o k kn e q =
@@ -199,7 +211,7 @@ module _ (lat : Lattice) (g : ℕ → ℕ) (ms : ℕ → Marks) (ls : ℕ → �
           let from : start ≡ start_of lat E (Within i (label l)) = ap (λ (v : Line). lat.join (lat.join v.start.number l) v.read.number) (sym d.0) in
           let ends : (E i).end.number ≡ end = ap (λ (v : Line). v.end.number) d.0 in
           let closes : (E i).end.number ≡ lat.join (E (last_of a ia ia)).end.number wb =
-              ends ∙ ap (λ v. lat.join v wb) (sym (last_walk a ia ia inner start dd.0 (inl kn.2))) in
+          ends ∙ ap (λ v. lat.join v wb) (sym (last_walk a ia ia inner start dd.0 (inl kn.2))) in
           let ra = complete a ia inner (Within i (label l)) Open start dd.0 y.0 o.1 k.1 kn.4 from (λ _. tt) in
           let rb = complete b ib inner (Within i (label l)) joins start dd.1 z.0 o.2 k.2 kn.5 from (λ _. closes) in
           let rp = complete p ip pc (After i) c end dd.2 z.1 o.3 k.3 kn.6 (sym ends) (λ _. q tt) in
@@ -239,12 +251,14 @@ module _ (lat : Lattice) (g : ℕ → ℕ) (ms : ℕ → Marks) (ls : ℕ → �
           let from : start ≡ start_of lat E (Within i (label l)) = ap (λ (z : Line). lat.join (lat.join z.start.number l) z.read.number) (sym d.0) in
           let ends : (E i).end.number ≡ start = ap (λ (z : Line). z.end.number) d.0 in
           let closes : Flows lat (W b ib pc start) (level_in lat.bottom (E i).level) =
-              subst (λ (z : Line). Flows lat (W b ib pc start) (level_in lat.bottom z.level)) (sym d.0) y.1.0 in
+          subst (λ (z : Line). Flows lat (W b ib pc start) (level_in lat.bottom z.level)) (sym d.0) y.1.0 in
           let rb = complete b ib pc (Within i (label l)) (ClosesMitigate i) start dd.0 y.0 o.1 k.2 kn.4 from (λ _. closes) in
           let rp = complete p ip pc (After i) c start dd.1 y.1.1 o.2 k.3 kn.5 (sym ends) (λ _. q tt) in
           let nb = length_places lat g b ib pc (Within i (label l)) (ClosesMitigate i) in (
-            fits i w pc (here lat g pc f) t start RMtg (Some (label (ls n))) _ s (closing p c) d.0 refl (label (ls n),
-                refl) e o.0 k.1 h.0 refl (close_here p c ip pc start (q tt)),
+            fits i w pc (here lat g pc f) t start RMtg (Some (label (ls n))) _ s (closing p c) d.0 refl (
+              label (ls n),
+              refl,
+            ) e o.0 k.1 h.0 refl (close_here p c ip pc start (q tt)),
             from_both Fit (places lat g b ib pc (Within i (label l)) (ClosesMitigate i)) (places lat g p ip pc (After i) c) ib ip (omega (arith, nb)) rb rp,
           )
 
@@ -285,10 +299,10 @@ module _ (lat : Lattice) (g : ℕ → ℕ) (ms : ℕ → Marks) (ls : ℕ → �
         let hi = closed pc (label_of lat g e) hp (expression_below e) in
         let hs = after_below w i t e ht in
         walk_below p (i + 1 + count a + count b) pc _ hp
-            (closed _ _ (walk_below a (i + 1) inner start hi hs) (walk_below b (i + 1 + count a) inner start hi hs))
+        (closed _ _ (walk_below a (i + 1) inner start hi hs) (walk_below b (i + 1 + count a) inner start hi hs))
     walk_below (While w e d p) i pc t hp ht =
         walk_below p (i + 1 + count d) pc _ hp (walk_below d (i + 1) (lat.join pc (label_of lat g e)) (loop_start lat g t (placed ms w i) e)
-            (closed pc (label_of lat g e) hp (expression_below e)) (loop_below w i t e ht))
+        (closed pc (label_of lat g e) hp (expression_below e)) (loop_below w i t e ht))
     walk_below (Mitigate w k l e d p) i pc t hp ht = walk_below p (i + 1 + count d) pc _ hp (after_below w i t e ht)
 
     line_below : (r : Rule) (w : Written) (i pc t end : ℕ) → pc < n → t < n → end < n → HasLabels n (line_of r pc t (placed ms w i) end None)
@@ -319,7 +333,7 @@ module _ (lat : Lattice) (g : ℕ → ℕ) (ms : ℕ → Marks) (ls : ℕ → �
           from_both Low (D a (i + 1) inner start) (D b ib inner start ++ D p ip pc end) (i + 1) ib (omega (arith, na))
               (derived_below a (i + 1) inner start hi hs)
               (from_both Low (D b ib inner start) (D p ip pc end) ib ip (omega (arith, nb)) (derived_below b ib inner start hi hs)
-                  (derived_below p ip pc end hp he)),
+              (derived_below p ip pc end hp he)),
         )
     derived_below (While w f d p) i pc t hp ht =
         let inner = lat.join pc (label_of lat g f) in

@@ -74,9 +74,9 @@ module _ (o : Order) (ok : IsOrder o) where
       some : (l m : Label) → v ≡ Some l → w ≡ Some m → (v ≡ w) × (q ≡ r)
       some l m a b =
           let x : ReadsLabel o (codes " level ") text l q =
-              record { below = subst (IsBelow o.size) a h.below; is = h.is ∙ ap (λ z. level_text o z ++ q) a; stops = h.stops } in
+          record { below = subst (IsBelow o.size) a h.below; is = h.is ∙ ap (λ z. level_text o z ++ q) a; stops = h.stops } in
           let y : ReadsLabel o (codes " level ") text m r =
-              record { below = subst (IsBelow o.size) b k.below; is = k.is ∙ ap (λ z. level_text o z ++ r) b; stops = k.stops } in
+          record { below = subst (IsBelow o.size) b k.below; is = k.is ∙ ap (λ z. level_text o z ++ r) b; stops = k.stops } in
           let z = cut_label (codes " level ") text l m q r x y in
           (a ∙ ap Some z.0 ∙ sym b, z.1)
 
@@ -198,12 +198,12 @@ module _ (o : Order) (ok : IsOrder o) where
       let start = to_start i act text x q h (after_head y r) e0 y.pc (after_pc y r) h1 y.start (after_start y r) h2 in
       let read = to_read i act text x q h (after_head y r) e0 y.pc (after_pc y r) h1 y.start (after_start y r) h2 y.read (after_read y r) h3 in
       let write = to_write i act text x q h (after_head y r) e0 y.pc (after_pc y r) h1 y.start (after_start y r) h2 y.read (after_read y r) h3
-          y.write (after_write y r) h4 in
+      y.write (after_write y r) h4 in
       let end = to_end i act text x q h (after_head y r) e0 y.pc (after_pc y r) h1 y.start (after_start y r) h2 y.read (after_read y r) h3 y.write
-          (after_write y r) h4 y.end (after_end y r) h5 in
+      (after_write y r) h4 y.end (after_end y r) h5 in
       let level =
       to_level i act text x q h (after_head y r) e0 y.pc (after_pc y r) h1 y.start (after_start y r) h2 y.read (after_read y r) h3 y.write (after_write y r) h4
-          y.end (after_end y r) h5 y.level (after_level r) h6 in
+      y.end (after_end y r) h5 y.level (after_level r) h6 in
       let rule = h.formed.rule ∙ sym k.formed.rule in
       (same_line x y rule pc.0 start.0 read.0 write.0 end.0 level.0, append_cancel_left (codes "\n") q r level.1)
     where
@@ -224,7 +224,7 @@ module _ (o : Order) (ok : IsOrder o) where
     at_name =
         h.is ∙ append_assoc (codes "var ") (w ++ (named o (codes " ") l ++ codes "\n")) q
         ∙ ap (λ z. codes "var " ++ z) (append_assoc w (named o (codes " ") l ++ codes "\n") q
-            ∙ ap (λ z. w ++ z) (append_assoc (named o (codes " ") l) (codes "\n") q))
+        ∙ ap (λ z. w ++ z) (append_assoc (named o (codes " ") l) (codes "\n") q))
 
     pub past_name : (r0 r1 : List ℕ) → text ≡ codes "var " ++ r0 → r0 ≡ w ++ r1 → r1 ≡ named o (codes " ") l ++ (codes "\n" ++ q)
     past_name r0 r1 e f =
@@ -245,8 +245,12 @@ module _ (o : Order) (ok : IsOrder o) where
 -- a label behind words, and the label alone
 pub behind : (o : Order) (words text rest : List ℕ) (l : Label) (q : List ℕ) → text ≡ words ++ rest → ReadsLabel o words text l q → ReadsLabel o [] rest l q
 behind o words text rest l q e h =
-    record { below = h.below; is = append_cancel_left words rest (name_of o l.number ++ q) (sym e ∙ h.is ∙ append_assoc words (name_of o l.number) q); stops =
-        h.stops }
+    record {
+      below = h.below;
+      is = append_cancel_left words rest (name_of o l.number ++ q) (sym e ∙ h.is ∙ append_assoc words (name_of o l.number) q);
+      stops =
+          h.stops;
+    }
 
 pub before_it : (o : Order) (words text rest : List ℕ) (l : Label) (q : List ℕ) → text ≡ words ++ rest → ReadsLabel o [] rest l q → ReadsLabel o words text l q
 before_it o words text rest l q e h =
@@ -258,7 +262,7 @@ module _ (o : Order) (ok : IsOrder o) (text : List ℕ) (n : ℕ) (within : n �
   pub front_is : (l : Label) (q : List ℕ) → ReadsLabel o [] text l q → (take n text ≡ name_of o l.number) × (drop n text ≡ q)
   front_is l q h =
       same_names (take n text) (name_of o l.number) (drop n text) q (front_passes is_name_byte text n within passes) (name_is o ok l h.below)
-          (rest_stops is_name_byte text n within stops) h.stops
+      (rest_stops is_name_byte text n within stops) h.stops
       (take-append-drop n text ∙ h.is)
 
   pub front_reads : (l : Label) (name : List ℕ) → l.number < o.size → name_of o l.number ≡ name → name ≡ take n text
@@ -279,7 +283,7 @@ module _ (o : Order) (ok : IsOrder o) (text : List ℕ) (n : ℕ) (within : n �
 pub line_from : (o : Order) (i : ℕ) (act : Act) (text r0 r1 r2 r3 r4 r5 r6 r7 : List ℕ) (rule : Rule) (pc start read write end : Label) (level : Option Label)
     → rule ≡ rule_of act →
     text ≡ head_text i rule ++ r0 → ReadsLabel o (codes " pc ") r0 pc r1 → ReadsLabel o (codes " start ") r1 start r2 → ReadsLabel o (codes " er ") r2 read r3
-        → ReadsLabel o (codes " ew ") r3 write r4 →
+    → ReadsLabel o (codes " ew ") r3 write r4 →
     ReadsLabel o (codes " end ") r4 end r5 → ReadsLevel o act r5 level r6 → r6 ≡ codes "\n" ++ r7 →
     ReadsLine o i act text (record { rule = rule; pc = pc; start = start; read = read; write = write; end = end; level = level }) r7
 line_from o i act text r0 r1 r2 r3 r4 r5 r6 r7 rule pc start read write end level er e0 h1 h2 h3 h4 h5 h6 e7 =
@@ -316,7 +320,7 @@ pub head_from : (i : ℕ) (rule : Rule) (text r0 r1 r2 : List ℕ) → text ≡ 
     → text ≡ head_text i rule ++ r2
 head_from i rule text r0 r1 r2 e0 e1 e2 =
     e0 ∙ ap (λ z. decimal i ++ z) (e1 ∙ ap (λ z. codes " " ++ z) e2 ∙ sym (append_assoc (codes " ") (rule_name rule) r2))
-        ∙ sym (append_assoc (decimal i) (codes " " ++ rule_name rule) r2)
+    ∙ sym (append_assoc (decimal i) (codes " " ++ rule_name rule) r2)
 
 pub head_rule : (rule : Rule) (r0 r1 q : List ℕ) → r0 ≡ codes " " ++ r1 → r0 ≡ codes " " ++ (rule_name rule ++ q) → r1 ≡ rule_name rule ++ q
 head_rule rule r0 r1 q e h = append_cancel_left (codes " ") r1 (rule_name rule ++ q) (sym e ∙ h)

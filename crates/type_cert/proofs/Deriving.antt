@@ -34,7 +34,7 @@ module _ (lat : Lattice) (ll : IsLattice lat) (g : ℕ → ℕ) where
   -- the left sides of assignments, with fewer joins
   pub assign_end : (pc t x : ℕ) (m : Placed) (e : Expression) →
       lat.join (g x) (lat.join (lat.join (lat.join (label_of lat g e) pc) t) m.marks.er)
-          ≡ lat.join (g x) (demand lat pc t m (label_of lat g e) (index_label lat g e))
+      ≡ lat.join (g x) (demand lat pc t m (label_of lat g e) (index_label lat g e))
   assign_end pc t x m e = ap (λ z. lat.join (g x) (lat.join (lat.join (lat.join z pc) t) m.marks.er)) (sym (both_read e))
 
   put_read : (i e : Expression) → lat.join (label_of lat g e) (label_of lat g i) ≡ lat.join (label_of lat g e) (put_index lat g i e)
@@ -47,7 +47,7 @@ module _ (lat : Lattice) (ll : IsLattice lat) (g : ℕ → ℕ) where
 
   pub put_end : (pc t x : ℕ) (m : Placed) (i e : Expression) →
       lat.join (g x) (lat.join (lat.join (lat.join (lat.join (label_of lat g e) (label_of lat g i)) pc) t) m.marks.er)
-          ≡ lat.join (g x) (demand lat pc t m (label_of lat g e) (put_index lat g i e))
+      ≡ lat.join (g x) (demand lat pc t m (label_of lat g e) (put_index lat g i e))
   put_end pc t x m i e = ap (λ z. lat.join (g x) (lat.join (lat.join (lat.join z pc) t) m.marks.er)) (put_read i e)
 
 module _ (lat : Lattice) (g : ℕ → ℕ) (ms : ℕ → Marks) (ls : ℕ → ℕ) where
@@ -108,7 +108,7 @@ module _ (lat : Lattice) (g : ℕ → ℕ) (ms : ℕ → Marks) (ls : ℕ → �
     alone : (q rest : Plan) (r : Rule) (end : Label) (end' : ℕ) (l : Line) (u : List Line)
         → D q n pc.number t.number ≡ line_of r pc.number t.number (placed ms w n) end' None ∷ D rest (n + 1) pc.number end' →
         W q n pc.number t.number ≡ W rest (n + 1) pc.number end' → end.number ≡ end'
-            → l ≡ record { rule = r; pc = pc; start = t; read = read; write = write; end = end; level = None } → u ≡ x ++ l ∷ [] →
+        → l ≡ record { rule = r; pc = pc; start = t; read = read; write = write; end = end; level = None } → u ≡ x ++ l ∷ [] →
         (x ++ D q n pc.number t.number ≡ u ++ D rest (length u) pc.number end.number) × (W q n pc.number t.number ≡ W rest (length u) pc.number end.number)
     alone q rest r end end' l u hd hw he hl hu =
         let lu = ap length hu ∙ length-append x (l ∷ []) in
@@ -122,7 +122,7 @@ module _ (lat : Lattice) (g : ℕ → ℕ) (ms : ℕ → Marks) (ls : ℕ → �
 
     pub assign_lines : (ll : IsLattice lat) (q rest : Plan) (v : ℕ) (end : Label) (l : Line) (u : List Line) → q ≡ Assign w v e rest →
         end.number ≡ lat.join (g v) (lat.join (lat.join (lat.join le.number pc.number) t.number) read.number)
-            → l ≡ record { rule = RAsgn; pc = pc; start = t; read = read; write = write; end = end; level = None } → u ≡ x ++ l ∷ [] →
+        → l ≡ record { rule = RAsgn; pc = pc; start = t; read = read; write = write; end = end; level = None } → u ≡ x ++ l ∷ [] →
         (x ++ D q n pc.number t.number ≡ u ++ D rest (length u) pc.number end.number) × (W q n pc.number t.number ≡ W rest (length u) pc.number end.number)
     assign_lines ll q rest v end l u hq he hl hu =
         let end' = lat.join (g v) (demand lat pc.number t.number (placed ms w n) (label_of lat g e) (index_label lat g e)) in
@@ -135,7 +135,7 @@ module _ (lat : Lattice) (g : ℕ → ℕ) (ms : ℕ → Marks) (ls : ℕ → �
     pub put_lines : (ll : IsLattice lat) (q rest : Plan) (f m : ℕ) (i : Expression) (li end : Label) (l : Line) (u : List Line) → q ≡ Put w f m i e rest
         → li.number ≡ label_of lat g i →
         end.number ≡ lat.join (g f) (lat.join (lat.join (lat.join (lat.join le.number li.number) pc.number) t.number) read.number)
-            → l ≡ record { rule = RAsgn; pc = pc; start = t; read = read; write = write; end = end; level = None } → u ≡ x ++ l ∷ [] →
+        → l ≡ record { rule = RAsgn; pc = pc; start = t; read = read; write = write; end = end; level = None } → u ≡ x ++ l ∷ [] →
         (x ++ D q n pc.number t.number ≡ u ++ D rest (length u) pc.number end.number) × (W q n pc.number t.number ≡ W rest (length u) pc.number end.number)
     put_lines ll q rest f m i li end l u hq hli he hl hu =
         let end' = lat.join (g f) (demand lat pc.number t.number (placed ms w n) (label_of lat g e) (put_index lat g i e)) in
@@ -149,13 +149,13 @@ module _ (lat : Lattice) (g : ℕ → ℕ) (ms : ℕ → Marks) (ls : ℕ → �
     pub if_lines : (q a b rest : Plan) (inner start one other end : Label) (l l' : Line) (u y z f : List Line) → q ≡ If w e a b rest
         → inner.number ≡ lat.join pc.number le.number →
         start.number ≡ lat.join (lat.join t.number le.number) read.number
-            → l' ≡ record { rule = RIf; pc = pc; start = t; read = read; write = write; end = end; level = None } → u ≡ x ++ l ∷ [] →
+        → l' ≡ record { rule = RIf; pc = pc; start = t; read = read; write = write; end = end; level = None } → u ≡ x ++ l ∷ [] →
         y ≡ u ++ D a (length u) inner.number start.number → one.number ≡ W a (length u) inner.number start.number
-            → z ≡ y ++ D b (length y) inner.number start.number →
+        → z ≡ y ++ D b (length y) inner.number start.number →
         other.number ≡ W b (length y) inner.number start.number → end.number ≡ lat.join one.number other.number →
         f ≡ x ++ l' ∷ (D a (length u) inner.number start.number ++ D b (length y) inner.number start.number) →
         (length f ≡ n + 1 + count a + count b) × (x ++ D q n pc.number t.number ≡ f ++ D rest (length f) pc.number end.number)
-            × (W q n pc.number t.number ≡ W rest (length f) pc.number end.number)
+        × (W q n pc.number t.number ≡ W rest (length f) pc.number end.number)
     if_lines q a b rest inner start one other end l l' u y z f hq hi hs hl hu hy h1 hz h2 he hf =
         let A = D a (length u) inner.number start.number in
         let B = D b (length y) inner.number start.number in
@@ -195,11 +195,11 @@ module _ (lat : Lattice) (g : ℕ → ℕ) (ms : ℕ → Marks) (ls : ℕ → �
     pub while_lines : (ll : IsLattice lat) (q d rest : Plan) (inner start end : Label) (l l' : Line) (u y f : List Line) → q ≡ While w e d rest
         → inner.number ≡ lat.join pc.number le.number →
         start.number ≡ lat.join (lat.join le.number t.number) read.number
-            → l' ≡ record { rule = RWhile; pc = pc; start = t; read = read; write = write; end = end; level = None } → u ≡ x ++ l ∷ [] →
+        → l' ≡ record { rule = RWhile; pc = pc; start = t; read = read; write = write; end = end; level = None } → u ≡ x ++ l ∷ [] →
         y ≡ u ++ D d (length u) inner.number start.number → end.number ≡ W d (length u) inner.number start.number →
         f ≡ x ++ l' ∷ map (raised lat end.number) (D d (length u) inner.number start.number) →
         (length f ≡ n + 1 + count d) × (x ++ D q n pc.number t.number ≡ f ++ D rest (length f) pc.number end.number)
-            × (W q n pc.number t.number ≡ W rest (length f) pc.number end.number)
+        × (W q n pc.number t.number ≡ W rest (length f) pc.number end.number)
     while_lines ll q d rest inner start end l l' u y f hq hi hs hl hu hy he hf =
         let C = D d (length u) inner.number start.number in
         let M = map (raised lat end.number) C in
@@ -231,10 +231,10 @@ module _ (lat : Lattice) (g : ℕ → ℕ) (ms : ℕ → Marks) (ls : ℕ → �
 
     pub mitigate_lines : (j : ℕ) (v : Option Label) (q d rest : Plan) (end lev : Label) (l : Line) (u y : List Line) → q ≡ Mitigate w j v e d rest →
         end.number ≡ lat.join (lat.join t.number le.number) read.number → lev.number ≡ ls j
-            → l ≡ record { rule = RMtg; pc = pc; start = t; read = read; write = write; end = end; level = Some lev } → u ≡ x ++ l ∷ [] →
+        → l ≡ record { rule = RMtg; pc = pc; start = t; read = read; write = write; end = end; level = Some lev } → u ≡ x ++ l ∷ [] →
         y ≡ u ++ D d (length u) pc.number end.number →
         (length y ≡ n + 1 + count d) × (x ++ D q n pc.number t.number ≡ y ++ D rest (length y) pc.number end.number)
-            × (W q n pc.number t.number ≡ W rest (length y) pc.number end.number)
+        × (W q n pc.number t.number ≡ W rest (length y) pc.number end.number)
     mitigate_lines j v q d rest end lev l u y hq hs hv hl hu hy =
         let C = D d (length u) pc.number end.number in
         let lu = ap length hu ∙ length-append x (l ∷ []) in

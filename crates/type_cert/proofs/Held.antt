@@ -69,10 +69,10 @@ module _ (n b : ℕ) (all : List Label) where
       let l = length-append cd (cells ds) in
       let e : size_of d.1 + y ≡ length cd + y = omega (arith, m) in
       let a : get_or (cells (d ∷ ds)) (size_of d.1 + y) c ≡ get_or (cells ds) y c =
-          ap (λ z. get_or (cd ++ cells ds) z c) e ∙ get_or-append-add cd (cells ds) y c in
+      ap (λ z. get_or (cd ++ cells ds) z c) e ∙ get_or-append-add cd (cells ds) y c in
       let f : x + (size_of d.1 + y) ≡ x + size_of d.1 + y = omega arith in
       subst (λ z. IsKept (get_or (cells ds) y c).label (g z)) f
-          (subst (λ (z : Cell). IsKept z.label (g (x + (size_of d.1 + y)))) a (h (size_of d.1 + y) (omega (arith, m, i, l)) c))
+      (subst (λ (z : Cell). IsKept z.label (g (x + (size_of d.1 + y)))) a (h (size_of d.1 + y) (omega (arith, m, i, l)) c))
 
   pub declared_fit : (ds : List Declaration) (x : ℕ) → AreShaped ds → ((y : ℕ) → g y < n) → Kept ds x → AllFit (FitsDeclaration n) ds (declared_labels g x ds)
   declared_fit [] x sh gb h = tt
@@ -98,17 +98,17 @@ module _ (n b : ℕ) (all : List Label) where
       ⊎_elim
       (λ (j : k < size).
       let e : get_or (replicate size l ++ rest) k low ≡ l =
-          get_or_append_left (replicate size l) rest low k (omega (arith, m, j)) ∙ get_or-replicate size k l low j in
+      get_or_append_left (replicate size l) rest low k (omega (arith, m, j)) ∙ get_or-replicate size k l low j in
       let z : x + 0 ≡ x = omega arith in
       let first = subst (λ v. IsKept d.1.label (g v)) z (kept_here d ds x 0 h (omega (arith, j))) in
       ap (λ (v : Label). v.number) e ∙ one_kept d.1.label d.1.length k (g x) (g (x + k)) shape j first (kept_here d ds x k h j)
-          (λ f. ap (λ v. g v) (omega (arith, f))))
+      (λ f. ap (λ v. g v) (omega (arith, f))))
       (λ (j : size ≤ k).
       let e : k ≡ length (replicate size l) + (k - size) = omega (arith, m, j) in
       let w : x + size + (k - size) ≡ x + k = omega (arith, j) in
       ap (λ v. (get_or (replicate size l ++ rest) v low).number) e ∙ ap (λ (v : Label). v.number) (get_or-append-add (replicate size l) rest (k - size) low)
       ∙ spread_at ds (x + size) (k - size) (All-tail (λ (z : Declaration). IsShaped z.1.label z.1.length) d ds sh) (kept_later d ds x h)
-          (omega (arith, i, mc, lc, j)) ∙ ap g w)
+      (omega (arith, i, mc, lc, j)) ∙ ap g w)
       (cases_lt k size)
 
 -- ---- the labels of commands, and the levels
@@ -153,15 +153,19 @@ module _ (lat : Lattice) (g : ℕ → ℕ) (ms : ℕ → Marks) (ls : ℕ → �
       let inner = lat.join pc (label_of lat g e) in
       let end = W d (i + 1) inner (loop_start lat g t (placed ms w i) e) in
       let ip = i + 1 + count d in
-      let nd = length_derived lat g ms ls d (i + 1) inner end in
-      ((refl, refl), from_both HasMarks (D d (i + 1) inner end) (D p ip pc end) (i + 1) ip (omega (arith, nd))
-          (lines_marked d (i + 1) inner end) (lines_marked p ip pc end))
+      let nd = length_derived lat g ms ls d (i + 1) inner end in (
+        (refl, refl),
+        from_both HasMarks (D d (i + 1) inner end) (D p ip pc end) (i + 1) ip (omega (arith, nd))
+            (lines_marked d (i + 1) inner end) (lines_marked p ip pc end),
+      )
   lines_marked (Mitigate w k l e d p) i pc t =
       let start = after lat g t (placed ms w i) e in
       let ip = i + 1 + count d in
-      let nd = length_derived lat g ms ls d (i + 1) pc start in
-      ((refl, refl), from_both HasMarks (D d (i + 1) pc start) (D p ip pc start) (i + 1) ip (omega (arith, nd)) (lines_marked d (i + 1) pc start)
-          (lines_marked p ip pc start))
+      let nd = length_derived lat g ms ls d (i + 1) pc start in (
+        (refl, refl),
+        from_both HasMarks (D d (i + 1) pc start) (D p ip pc start) (i + 1) ip (omega (arith, nd)) (lines_marked d (i + 1) pc start)
+            (lines_marked p ip pc start),
+      )
 
   abbrev pub HasLevelAt : ℕ → Label → Type 0
   HasLevelAt k l = l ≡ label (ls k)
@@ -186,10 +190,10 @@ module _ (lat : Lattice) (g : ℕ → ℕ) (ms : ℕ → Marks) (ls : ℕ → �
   lines_levelled (Skip w p) i k pc t num = let q = lines_levelled p (i + 1) k pc (lat.join t (ms i).er) num in record { have = q.have; count = q.count }
   lines_levelled (Assign w x e p) i k pc t num =
       let q = lines_levelled p (i + 1) k pc (lat.join (g x) (demand lat pc t (placed ms w i) (label_of lat g e) (index_label lat g e))) num in
-          record { have = q.have; count = q.count }
+      record { have = q.have; count = q.count }
   lines_levelled (Put w f n j e p) i k pc t num =
       let q = lines_levelled p (i + 1) k pc (lat.join (g f) (demand lat pc t (placed ms w i) (label_of lat g e) (put_index lat g j e))) num in
-          record { have = q.have; count = q.count }
+      record { have = q.have; count = q.count }
   lines_levelled (Sleep w e p) i k pc t num = let q = lines_levelled p (i + 1) k pc (after lat g t (placed ms w i) e) num in
       record { have = q.have; count = q.count }
   lines_levelled (If w e a b p) i k pc t num =
@@ -204,7 +208,7 @@ module _ (lat : Lattice) (g : ℕ → ℕ) (ms : ℕ → Marks) (ls : ℕ → �
       let q2 = both_levels (D b ib inner start) (D p ip pc end) (k + mitigates a) (mitigates b) (mitigates p) (mitigates b + mitigates p) qb qp refl in
       let q =
       both_levels (D a (i + 1) inner start) (D b ib inner start ++ D p ip pc end) k (mitigates a) (mitigates b + mitigates p)
-          (mitigates a + mitigates b + mitigates p) qa q2 (omega arith) in
+      (mitigates a + mitigates b + mitigates p) qa q2 (omega arith) in
       record { have = q.have; count = q.count }
   lines_levelled (While w e d p) i k pc t num =
       let inner = lat.join pc (label_of lat g e) in

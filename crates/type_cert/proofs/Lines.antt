@@ -38,7 +38,7 @@ module _ {A : Type 0} (R : A → A) where
           let got : get_or zs i d ≡ l = ap (λ z. get_or z i d) is ∙ ap (λ z. get_or ((x ++ F) ++ l ∷ b) z d) at ∙ get_or-append_seam (x ++ F) l b d in
           let put : zs' ≡ (x ++ F) ++ R l ∷ b =
           hz ∙ ap (λ z. slice_set zs i z) (hv ∙ ap R got) ∙ ap (λ z. slice_set z i (R l)) is ∙ ap (λ z. slice_set ((x ++ F) ++ l ∷ b) z (R l)) at
-              ∙ set-append_seam (x ++ F) l b (R l) in
+          ∙ set-append_seam (x ++ F) l b (R l) in
           let p = length-append k.front (l ∷ []) in
           record {
             front = k.front ++ l ∷ [];

@@ -50,7 +50,7 @@ module _ (s : Syntax) (valid : IsValid s) (bytes : List ℕ) where
           → IsFirstWrong s bytes n
       wrong_variable n en none =
           let none2 : (l : Label) (q : List ℕ) → ReadsVariable s.order d.0 rest l q → IsKept d.1.label l.number → ⊥ =
-              λ l q h. none l q (subst (λ z. ReadsVariable z d.0 rest l q) (sym eo) h) in
+          λ l q h. none l q (subst (λ z. ReadsVariable z d.0 rest l q) (sym eo) h) in
           let w = within in
           is_first_wrong s valid bytes n (k + 1) (omega (arith, en)) (omega (arith, w, ek)) (inr (found, [], rest, begins, omega (arith, ek)))
           (λ ms ys r b le. no_variable s valid found ms ys bytes rest r d begins b w at none2 (omega (arith, le, ek)))
@@ -59,7 +59,7 @@ module _ (s : Syntax) (valid : IsValid s) (bytes : List ℕ) where
           → BeginsWith s new [] bytes q
       next_variable l q new en reads kept =
           subst (λ z. BeginsWith s z [] bytes q) (sym en)
-              (push_variable s valid found l d bytes rest q begins within at (subst (λ z. ReadsVariable z d.0 rest l q) eo reads) kept)
+          (push_variable s valid found l d bytes rest q begins within at (subst (λ z. ReadsVariable z d.0 rest l q) eo reads) kept)
 
     -- commands
     module _ (ls : List Label) (all : length ls ≡ length s.declarations) (ps : List Place) (ep : ps ≡ places_of s ls) (k : ℕ) (xs : List Line)
@@ -75,14 +75,14 @@ module _ (s : Syntax) (valid : IsValid s) (bytes : List ℕ) where
             → ((x : Line) (q : List ℕ) → ReadsLine o k p.act rest x q → Meets (lattice_of o) (line_at o.bottom seen) p x → ⊥) → IsFirstWrong s bytes n
         wrong_line n en none =
             let none2 : (x : Line) (q : List ℕ) → ReadsLine s.order (length xs) p.act rest x q
-                → Meets (lattice_of s.order) (line_at s.order.bottom xs) p x → ⊥ =
+            → Meets (lattice_of s.order) (line_at s.order.bottom xs) p x → ⊥ =
             λ x q h m. none x q (subst (λ (z : Order). ReadsLine z k p.act rest x q) (sym eo) (subst (λ z. ReadsLine s.order z p.act rest x q) ek h))
             (subst (λ z. Meets (lattice_of o) (line_at o.bottom z) p x) (sym es)
-                (subst (λ (z : Order). Meets (lattice_of z) (line_at z.bottom xs) p x) (sym eo) m)) in
+            (subst (λ (z : Order). Meets (lattice_of z) (line_at z.bottom xs) p x) (sym eo) m)) in
             let c = count_places s valid ls in
             let w = inside_all in
             is_first_wrong s valid bytes n (length ls + k + 1) (omega (arith, en)) (omega (arith, w, ek, c, all))
-                (inr (ls, xs, rest, begins, omega (arith, ek)))
+            (inr (ls, xs, rest, begins, omega (arith, ek)))
             (λ ms ys r b le. no_command s valid ls ms xs ys bytes rest r p begins b all w there_all none2 (omega (arith, le, ek)))
 
         pub next_line : (x : Line) (q : List ℕ) (new : List Line) → new ≡ xs ++ x ∷ [] → ReadsLine o k p.act rest x q

@@ -73,14 +73,14 @@ module _ (b : ℕ) where
   level_there (x ∷ xs) zero f e = ap (λ z. get_or (before z (levels_in xs)) 0 low) e
   level_there (x ∷ xs) (suc i) f e =
       ap (λ z. get_or (before x.level (levels_in xs)) z low) (before_length x.level (levels_in (take i xs)))
-          ∙ before_some low x.level (levels_in xs) (marked xs i) ∙ level_there xs i f e
+      ∙ before_some low x.level (levels_in xs) (marked xs i) ∙ level_there xs i f e
 
   pub pc_there : (xs : List Line) (i : ℕ) (f : Label) → (line_at b xs i).level ≡ Some f → get_or (pcs_in xs) (marked xs i) low ≡ (line_at b xs i).pc
   pc_there [] i f e = none_here f e
   pc_there (x ∷ xs) zero f e = ap (λ z. get_or (pc_before z x.pc (pcs_in xs)) 0 low) e
   pc_there (x ∷ xs) (suc i) f e =
       ap (λ z. get_or (pcs_in (x ∷ xs)) z low) (before_length x.level (levels_in (take i xs)))
-          ∙ pc_some low x.pc x.level (pcs_in xs) (marked xs i) ∙ pc_there xs i f e
+      ∙ pc_some low x.pc x.level (pcs_in xs) (marked xs i) ∙ pc_there xs i f e
 
 pub same_lengths : (xs : List Line) → length (pcs_in xs) ≡ length (levels_in xs)
 same_lengths [] = refl
@@ -139,20 +139,36 @@ module _ (lat : Lattice) (g : ℕ → ℕ) (xs : List Line) where
   marks Done i k pc s c num h m = record { levels = tt; pcs = tt; next = at_end i (i + 0) k (k + 0) (omega arith) m (omega arith) }
   marks (Skip w p) i k pc s c num h m =
       let q = marks p (i + 1) k pc (After i) c num h.1 (no_mark i k h.0 m) in
-      record { levels = q.levels; pcs = q.pcs; next =
-          at_end (i + 1 + count p) (i + (1 + count p)) (k + mitigates p) (k + mitigates p) (omega arith) q.next refl }
+      record {
+        levels = q.levels;
+        pcs = q.pcs;
+        next =
+            at_end (i + 1 + count p) (i + (1 + count p)) (k + mitigates p) (k + mitigates p) (omega arith) q.next refl;
+      }
   marks (Assign w x e p) i k pc s c num h m =
       let q = marks p (i + 1) k pc (After i) c num h.1 (no_mark i k h.0 m) in
-      record { levels = q.levels; pcs = q.pcs; next =
-          at_end (i + 1 + count p) (i + (1 + count p)) (k + mitigates p) (k + mitigates p) (omega arith) q.next refl }
+      record {
+        levels = q.levels;
+        pcs = q.pcs;
+        next =
+            at_end (i + 1 + count p) (i + (1 + count p)) (k + mitigates p) (k + mitigates p) (omega arith) q.next refl;
+      }
   marks (Put w f n j e p) i k pc s c num h m =
       let q = marks p (i + 1) k pc (After i) c num h.1 (no_mark i k h.0 m) in
-      record { levels = q.levels; pcs = q.pcs; next =
-          at_end (i + 1 + count p) (i + (1 + count p)) (k + mitigates p) (k + mitigates p) (omega arith) q.next refl }
+      record {
+        levels = q.levels;
+        pcs = q.pcs;
+        next =
+            at_end (i + 1 + count p) (i + (1 + count p)) (k + mitigates p) (k + mitigates p) (omega arith) q.next refl;
+      }
   marks (Sleep w e p) i k pc s c num h m =
       let q = marks p (i + 1) k pc (After i) c num h.1 (no_mark i k h.0 m) in
-      record { levels = q.levels; pcs = q.pcs; next =
-          at_end (i + 1 + count p) (i + (1 + count p)) (k + mitigates p) (k + mitigates p) (omega arith) q.next refl }
+      record {
+        levels = q.levels;
+        pcs = q.pcs;
+        next =
+            at_end (i + 1 + count p) (i + (1 + count p)) (k + mitigates p) (k + mitigates p) (omega arith) q.next refl;
+      }
   marks (If w e a b p) i k pc s c num h m =
       let inner = lat.join pc (label_of lat g e) in
       let start = Within i (label (label_of lat g e)) in

@@ -65,10 +65,10 @@ module _ (lat : Lattice) (g : ℕ → ℕ) where
   own_place : (w : Written) (e : Expression) (pc h li : Label) (act : Act) (s : Start) (own c : Close) (rest : Plan) →
       li.number ≡ index_label lat g e → h.number ≡ lat.join pc.number li.number → own ≡ closing rest c →
       record { written = w.labels; pc = pc; here = h; act = act; start = s; close = own }
-          ≡ place w.labels pc.number (here lat g pc.number e) act s (closing rest c)
+      ≡ place w.labels pc.number (here lat g pc.number e) act s (closing rest c)
   own_place w e pc h li act s own c rest hl hh hc =
       ap (λ (z : Label). record { written = w.labels; pc = pc; here = z; act = act; start = s; close = own })
-          (label_is h (here lat g pc.number e) (hh ∙ ap (lat.join pc.number) hl))
+      (label_is h (here lat g pc.number e) (hh ∙ ap (lat.join pc.number) hl))
       ∙ ap (λ (z : Close). place w.labels pc.number (here lat g pc.number e) act s z) hc
 
   module _ (w : Written) (e : Expression) (pc le h li : Label) (s : Start) (own : Close) (x : List Place) (hle : le.number ≡ label_of lat g e)
@@ -79,9 +79,9 @@ module _ (lat : Lattice) (g : ℕ → ℕ) where
 
     pub if_places : (q a b rest : Plan) (inner : Label) (pl : Place) (u y z : List Place) (c : Close) (last : ℕ) → q ≡ If w e a b rest → own ≡ closing rest c →
         inner.number ≡ lat.join pc.number le.number → pl ≡ record { written = w.labels; pc = pc; here = h; act = Branches le; start = s; close = own }
-            → u ≡ x ++ pl ∷ [] →
+        → u ≡ x ++ pl ∷ [] →
         y ≡ u ++ P a (length u) inner.number (Within k le) Open → last ≡ last_of a (length u) (length u)
-            → z ≡ y ++ P b (length y) inner.number (Within k le) (ClosesIf k last) →
+        → z ≡ y ++ P b (length y) inner.number (Within k le) (ClosesIf k last) →
         x ++ P q n pc.number s c ≡ z ++ P rest (length z) pc.number (After n) c
     if_places q a b rest inner pl u y z c last hq hc hi hp hu hy hlast hz =
         let lu = ap length hu ∙ length-append x (pl ∷ []) in
@@ -103,7 +103,7 @@ module _ (lat : Lattice) (g : ℕ → ℕ) where
         let pa = moved a (n + 1) (length u) (lat.join pc.number l2) inner.number (Within n (label l2)) (Within k le) Open Open (sym nu) i2 from refl in
         let pb =
         moved b (n + 1 + count a) (length y) (lat.join pc.number l2) inner.number (Within n (label l2)) (Within k le) (ClosesIf n (last_of a (n + 1) (n + 1)))
-            (ClosesIf k last) (sym ny) i2 from (ap (λ (v : ℕ). ClosesIf v (last_of a (n + 1) (n + 1))) (sym hk) ∙ ap (λ (v : ℕ). ClosesIf k v) last2) in
+        (ClosesIf k last) (sym ny) i2 from (ap (λ (v : ℕ). ClosesIf v (last_of a (n + 1) (n + 1))) (sym hk) ∙ ap (λ (v : ℕ). ClosesIf k v) last2) in
         let pr = moved rest (n + 1 + count a + count b) (length z) pc.number pc.number (After n) (After n) c c (sym nz) refl refl refl in
         let A = P a (length u) inner.number (Within k le) Open in
         let B = P b (length y) inner.number (Within k le) (ClosesIf k last) in
@@ -126,10 +126,10 @@ module _ (lat : Lattice) (g : ℕ → ℕ) where
     pub one_places : (d rest : Plan) (inner pc2 : ℕ) (act act2 : Act) (from from2 : Start) (closes closes2 : Close) (pl : Place) (u y : List Place) (c : Close)
         → own ≡ closing rest c →
         pc2 ≡ inner → act2 ≡ act → from2 ≡ from → closes2 ≡ closes → pl ≡ record { written = w.labels; pc = pc; here = h; act = act; start = s; close = own }
-            → u ≡ x ++ pl ∷ [] →
+        → u ≡ x ++ pl ∷ [] →
         y ≡ u ++ P d (length u) inner from closes →
         x ++ (place w.labels pc.number (here lat g pc.number e) act2 s (closing rest c) ∷ (P d (n + 1) pc2 from2 closes2
-            ++ P rest (n + 1 + count d) pc.number (After n) c)) ≡ y ++ P rest (length y) pc.number (After n) c
+        ++ P rest (n + 1 + count d) pc.number (After n) c)) ≡ y ++ P rest (length y) pc.number (After n) c
     one_places d rest inner pc2 act act2 from from2 closes closes2 pl u y c hc hi ha hf hcl hp hu hy =
         let lu = ap length hu ∙ length-append x (pl ∷ []) in
         let ly = ap length hy ∙ length-append u (P d (length u) inner from closes) in
@@ -154,7 +154,7 @@ module _ (lat : Lattice) (g : ℕ → ℕ) where
 
     pub while_places : (q d rest : Plan) (inner : Label) (pl : Place) (u y : List Place) (c : Close) → q ≡ While w e d rest → own ≡ closing rest c →
         inner.number ≡ lat.join pc.number le.number → pl ≡ record { written = w.labels; pc = pc; here = h; act = Loops le; start = s; close = own }
-            → u ≡ x ++ pl ∷ [] →
+        → u ≡ x ++ pl ∷ [] →
         y ≡ u ++ P d (length u) inner.number (Around k) (ClosesWhile k) →
         x ++ P q n pc.number s c ≡ y ++ P rest (length y) pc.number (After n) c
     while_places q d rest inner pl u y c hq hc hi hp hu hy =
@@ -163,7 +163,7 @@ module _ (lat : Lattice) (g : ℕ → ℕ) where
         let i2 : lat.join pc.number l2 ≡ inner.number = sym (hi ∙ ap (lat.join pc.number) hle) in
         ap (λ v. x ++ P v n pc.number s c) hq
         ∙ one_places d rest inner.number (lat.join pc.number l2) (Loops le) (Loops (label l2)) (Around k) (Around n) (ClosesWhile k) (ClosesWhile n) pl u y c hc
-            i2 (ap (λ (v : Label). Loops v) (sym le2)) (ap (λ (v : ℕ). Around v) (sym hk)) (ap (λ (v : ℕ). ClosesWhile v) (sym hk)) hp hu hy
+        i2 (ap (λ (v : Label). Loops v) (sym le2)) (ap (λ (v : ℕ). Around v) (sym hk)) (ap (λ (v : ℕ). ClosesWhile v) (sym hk)) hp hu hy
 
     pub mitigate_places : (j : ℕ) (l : Option Label) (q d rest : Plan) (pl : Place) (u y : List Place) (c : Close)
         → q ≡ Mitigate w j l e d rest → own ≡ closing rest c →
@@ -175,9 +175,9 @@ module _ (lat : Lattice) (g : ℕ → ℕ) where
         let le2 : le ≡ label l2 = label_is le l2 hle in
         ap (λ v. x ++ P v n pc.number s c) hq
         ∙ one_places d rest pc.number pc.number (Mitigates le l) (Mitigates (label l2) l) (Within k le) (Within n (label l2)) (ClosesMitigate k)
-            (ClosesMitigate n) pl u y c hc refl
+        (ClosesMitigate n) pl u y c hc refl
         (ap (λ (v : Label). Mitigates v l) (sym le2)) (ap (λ (v : Label). Within n v) (sym le2) ∙ ap (λ (v : ℕ). Within v le) (sym hk))
-            (ap (λ (v : ℕ). ClosesMitigate v) (sym hk)) hp hu hy
+        (ap (λ (v : ℕ). ClosesMitigate v) (sym hk)) hp hu hy
 
 -- the last number of a list after a command that has parts
 pub if_last : (w : Written) (e : Expression) (q a b rest : Plan) (n k last : ℕ) → q ≡ If w e a b rest → k ≡ n + 1 + count a + count b

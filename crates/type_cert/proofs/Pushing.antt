@@ -43,7 +43,7 @@ variables_push o (c ∷ ds) [] d l h e = ap (λ z. variable_text o c.0 l ++ z) (
     none (d ∷ ds) = refl
 variables_push o (c ∷ ds) (m ∷ ls) d l h e =
     ap (λ t. variable_text o c.0 m ++ t) (variables_push o ds ls d l (omega (arith, h)) e)
-        ∙ sym (append_assoc (variable_text o c.0 m) (variables_text o ds ls) (variable_text o d.0 l))
+    ∙ sym (append_assoc (variable_text o c.0 m) (variables_text o ds ls) (variable_text o d.0 l))
 
 module _ (s : Syntax) (valid : IsValid s) where
   abbrev o : Order
@@ -63,7 +63,7 @@ module _ (s : Syntax) (valid : IsValid s) where
             h.text ∙ ap (λ z. (F ++ (V ++ [])) ++ z) reads.is ∙ ap (λ z. (F ++ z) ++ (variable_text o d.0 l ++ r)) (append-nil V)
             ∙ sym (append_assoc (F ++ V) (variable_text o d.0 l) r) ∙ ap (λ z. z ++ r) (append_assoc F V (variable_text o d.0 l))
             ∙ ap (λ z. (F ++ z) ++ r) (sym (variables_push o s.declarations ls d l within at)
-                ∙ sym (append-nil (variables_text o s.declarations (ls ++ l ∷ []))));
+            ∙ sym (append-nil (variables_text o s.declarations (ls ++ l ∷ []))));
         variables = fit_push (FitsDeclaration s.order.size) s.declarations ls d l within at h.variables (reads.below, kept);
         complete = λ z. absurd (omega (arith, z));
         commands = tt;
@@ -75,14 +75,15 @@ module _ (s : Syntax) (valid : IsValid s) where
   again xs x [] (y ∷ ys) i back le f = absurd f
   again xs x (p ∷ ps) (y ∷ ys) i back le f =
       let same : (j : ℕ) → j < i → line_at b xs j ≡ line_at b (xs ++ x ∷ []) j =
-          λ j l. sym (get_or_append_left xs (x ∷ []) (no_line b) j (omega (arith, l, le))) in
-      ((f.0.0, meets_same (lattice_of s.order) (line_at b xs) (line_at b (xs ++ x ∷ [])) i same p y back.0 f.0.1),
-          again xs x ps ys (i + 1) back.1 (omega (arith, le)) f.1)
+      λ j l. sym (get_or_append_left xs (x ∷ []) (no_line b) j (omega (arith, l, le))) in (
+        (f.0.0, meets_same (lattice_of s.order) (line_at b xs) (line_at b (xs ++ x ∷ [])) i same p y back.0 f.0.1),
+        again xs x ps ys (i + 1) back.1 (omega (arith, le)) f.1,
+      )
 
   pub push_line : (ls : List Label) (xs : List Line) (x : Line) (p : Place) (bytes q r : List ℕ) → BeginsWith s ls xs bytes q
       → length ls ≡ length s.declarations → length xs < length (places_of s ls) →
       p ≡ get_or (places_of s ls) (length xs) p → ReadsLine o (length xs) p.act q x r → Meets (lattice_of s.order) (line_at b xs) p x
-          → BeginsWith s ls (xs ++ x ∷ []) bytes r
+      → BeginsWith s ls (xs ++ x ∷ []) bytes r
   push_line ls xs x p bytes q r h all within at reads meets =
       let F = codes "certificate 1\n" in
       let V = variables_text o s.declarations ls in

@@ -21,7 +21,7 @@ module _ (lat : Lattice) (ll : IsLattice lat) (g : ℕ → ℕ) where
   twice : (x y u : ℕ) → lat.join (lat.join x u) (lat.join y u) ≡ lat.join (lat.join x y) u
   twice x y u =
       assoc lat ll x u (lat.join y u) ∙ ap (lat.join x) (sym (assoc lat ll u y u) ∙ ap (λ z. lat.join z u) (comm lat ll u y) ∙ assoc lat ll y u u
-          ∙ ap (lat.join y) (idem lat ll u))
+      ∙ ap (lat.join y) (idem lat ll u))
       ∙ sym (assoc lat ll x y u)
 
   start_moves : (t u l a : ℕ) → lat.join (lat.join (lat.join t u) l) a ≡ lat.join (lat.join (lat.join t l) a) u

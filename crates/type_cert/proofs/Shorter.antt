@@ -36,7 +36,7 @@ variables_cut o ds [] ms = sym (ap (λ z. z ++ variables_text o ds ms) (no_more 
 variables_cut o [] (l ∷ ls) ms = refl
 variables_cut o (d ∷ ds) (l ∷ ls) ms =
     ap (λ t. variable_text o d.0 l ++ t) (variables_cut o ds ls ms)
-        ∙ sym (append_assoc (variable_text o d.0 l) (variables_text o ds ls) (variables_text o (drop (length ls) ds) ms))
+    ∙ sym (append_assoc (variable_text o d.0 l) (variables_text o ds ls) (variables_text o (drop (length ls) ds) ms))
 
 fit_front : {A B : Type 0} (R : A → B → Type 0) (as' : List A) (bs cs : List B) → AllFit R as' (bs ++ cs) → AllFit R as' bs
 fit_front R as' [] cs h = tt
@@ -60,9 +60,10 @@ module _ (s : Syntax) (valid : IsValid s) where
   fewer xs ys [] (z ∷ zs) i back le f = absurd f
   fewer xs ys (p ∷ ps) (z ∷ zs) i back le f =
       let b = s.order.bottom in
-      let same : (j : ℕ) → j < i → line_at b (xs ++ ys) j ≡ line_at b xs j = λ j l. get_or_append_left xs ys (no_line b) j (omega (arith, l, le)) in
-      ((f.0.0, meets_same (lattice_of s.order) (line_at b (xs ++ ys)) (line_at b xs) i same p z back.0 f.0.1),
-          fewer xs ys ps zs (i + 1) back.1 (omega (arith, le)) f.1)
+      let same : (j : ℕ) → j < i → line_at b (xs ++ ys) j ≡ line_at b xs j = λ j l. get_or_append_left xs ys (no_line b) j (omega (arith, l, le)) in (
+        (f.0.0, meets_same (lattice_of s.order) (line_at b (xs ++ ys)) (line_at b xs) i same p z back.0 f.0.1),
+        fewer xs ys ps zs (i + 1) back.1 (omega (arith, le)) f.1,
+      )
 
   cut_lines : (ls : List Label) (xs ys : List Line) (bytes rest : List ℕ) → BeginsWith s ls (xs ++ ys) bytes rest
       → BeginsWith s ls xs bytes (lines_text s.order (0 + length xs) ys ++ rest)
@@ -72,7 +73,7 @@ module _ (s : Syntax) (valid : IsValid s) where
       let n = length-append xs ys in
       let back : AllFrom LooksBack 0 (places_of s ls) =
       all_back (lattice_of s.order) (label_at s.order.bottom (spread s.declarations ls)) s.order.size s.declarations (plan_of s) 0 s.order.bottom
-          First Open valid.known tt tt in
+      First Open valid.known tt tt in
       record {
         text =
             h.text ∙ ap (λ t. (F ++ (V ls ++ t)) ++ rest) (lines_cut s.order 0 xs ys)
@@ -107,8 +108,14 @@ module _ (s : Syntax) (valid : IsValid s) where
       let is = take-append-drop j ls in
       let some = cut_lines ls [] xs bytes rest h in
       let size = length-take-le j ls (omega (arith, l)) in
-      inr (take j ls, [], _, cut_labels (take j ls) (drop j ls) bytes _
-          (subst (λ z. BeginsWith s z [] bytes (lines_text s.order (0 + 0) xs ++ rest)) (sym is) some), omega (arith, size)))
+      inr (
+        take j ls,
+        [],
+        _,
+        cut_labels (take j ls) (drop j ls) bytes _
+            (subst (λ z. BeginsWith s z [] bytes (lines_text s.order (0 + 0) xs ++ rest)) (sym is) some),
+        omega (arith, size),
+      ))
       (λ (l : length ls ≤ j).
       let m = j - length ls in
       let is = take-append-drop m xs in

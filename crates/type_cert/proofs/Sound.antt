@@ -88,10 +88,10 @@ module _ (lat : Lattice) (g : ℕ → ℕ) (lines : ℕ → Line) (ls : ℕ → 
   pub if_parts_at : (Q : ℕ → Place → Type 0) (e : Expression) (a b p : Plan) (i pc : ℕ) (c : Close) →
       AllFrom Q (i + 1) (P a (i + 1) (lat.join pc (label_of lat g e)) (Within i (label (label_of lat g e))) Open
       ++ (P b (i + 1 + count a) (lat.join pc (label_of lat g e)) (Within i (label (label_of lat g e))) (ClosesIf i (last_of a (i + 1) (i + 1)))
-          ++ P p (i + 1 + count a + count b) pc (After i) c)) →
+      ++ P p (i + 1 + count a + count b) pc (After i) c)) →
       AllFrom Q (i + 1) (P a (i + 1) (lat.join pc (label_of lat g e)) (Within i (label (label_of lat g e))) Open)
       × AllFrom Q (i + 1 + count a) (P b (i + 1 + count a) (lat.join pc (label_of lat g e)) (Within i (label (label_of lat g e)))
-          (ClosesIf i (last_of a (i + 1) (i + 1))))
+      (ClosesIf i (last_of a (i + 1) (i + 1))))
       × AllFrom Q (i + 1 + count a + count b) (P p (i + 1 + count a + count b) pc (After i) c)
   if_parts_at Q e a b p i pc c h =
       let inner = lat.join pc (label_of lat g e) in
@@ -100,9 +100,9 @@ module _ (lat : Lattice) (g : ℕ → ℕ) (lines : ℕ → Line) (ls : ℕ → 
       let na = length_places lat g a (i + 1) inner start Open in
       let nb = length_places lat g b (i + 1 + count a) inner start joins in
       let x = from_parts Q (P a (i + 1) inner start Open) (P b (i + 1 + count a) inner start joins ++ P p (i + 1 + count a + count b) pc (After i) c) (i + 1)
-          (i + 1 + count a) (omega (arith, na)) h in
+      (i + 1 + count a) (omega (arith, na)) h in
       let y = from_parts Q (P b (i + 1 + count a) inner start joins) (P p (i + 1 + count a + count b) pc (After i) c) (i + 1 + count a)
-          (i + 1 + count a + count b) (omega (arith, nb)) x.1 in
+      (i + 1 + count a + count b) (omega (arith, nb)) x.1 in
       (x.0, y.0, y.1)
 
   pub one_part_at : (Q : ℕ → Place → Type 0) (d p : Plan) (i inner pc : ℕ) (s : Start) (k c : Close)
@@ -154,7 +154,7 @@ module _ (lat : Lattice) (g : ℕ → ℕ) (lines : ℕ → Line) (ls : ℕ → 
         let l = label_of lat g f in
         let from : (lines i).start.number ≡ t = m.start ∙ sym e in
         let end : (lines i).end.number ≡ lat.join (lat.join t l) (lines i).read.number =
-            m.rule ∙ ap (λ z. lat.join (lat.join z l) (lines i).read.number) from in
+        m.rule ∙ ap (λ z. lat.join (lat.join z l) (lines i).read.number) from in
         let q = sound p (i + 1) pc (After i) c (lines i).end.number h.1 v kn.2 refl in (
           (m.writes, subst (λ z. Types lat g pc z (bare (labelled ms ls p (i + 1))) (list_end p (i + 1) (lines i).end.number)) end q.0),
           λ _. list_closes p c (i + 1) (lines i).end.number m.close q.1,
@@ -228,9 +228,12 @@ module _ (lat : Lattice) (g : ℕ → ℕ) (lines : ℕ → Line) (ls : ℕ → 
   owns (If w e a b p) i pc s c h =
       let inner = lat.join pc (label_of lat g e) in
       let start = Within i (label (label_of lat g e)) in
-      let parts = if_parts_at MeetsAt e a b p i pc c h.1 in
-      (h.0.marks, owns a (i + 1) inner start Open parts.0, owns b (i + 1 + count a) inner start (ClosesIf i (last_of a (i + 1) (i + 1))) parts.1,
-          owns p (i + 1 + count a + count b) pc (After i) c parts.2)
+      let parts = if_parts_at MeetsAt e a b p i pc c h.1 in (
+        h.0.marks,
+        owns a (i + 1) inner start Open parts.0,
+        owns b (i + 1 + count a) inner start (ClosesIf i (last_of a (i + 1) (i + 1))) parts.1,
+        owns p (i + 1 + count a + count b) pc (After i) c parts.2,
+      )
   owns (While w e d p) i pc s c h =
       let inner = lat.join pc (label_of lat g e) in
       let parts = one_part_at MeetsAt d p i inner pc (Around i) (ClosesWhile i) c h.1 in
@@ -258,9 +261,11 @@ module _ (lat : Lattice) (g : ℕ → ℕ) (lines : ℕ → Line) (ls : ℕ → 
       )
   kept (While w e d p) i pc s c h v =
       let inner = lat.join pc (label_of lat g e) in
-      let parts = one_part_at MeetsAt d p i inner pc (Around i) (ClosesWhile i) c h.1 in
-      (own_kept w.labels (here lat g pc e) (ms i) h.0.marks, kept d (i + 1) inner (Around i) (ClosesWhile i) parts.0 v.0,
-          kept p (i + 1 + count d) pc (After i) c parts.1 v.1)
+      let parts = one_part_at MeetsAt d p i inner pc (Around i) (ClosesWhile i) c h.1 in (
+        own_kept w.labels (here lat g pc e) (ms i) h.0.marks,
+        kept d (i + 1) inner (Around i) (ClosesWhile i) parts.0 v.0,
+        kept p (i + 1 + count d) pc (After i) c parts.1 v.1,
+      )
   kept (Mitigate w k l e d p) i pc s c h v =
       let start = Within i (label (label_of lat g e)) in
       let parts = one_part_at MeetsAt d p i pc pc start (ClosesMitigate i) c h.1 in (

@@ -62,7 +62,7 @@ module _ (n : ℕ) where
       let a : (get_or (cells (d ∷ ds)) x c).label ≡ d.1.label =
       ap (λ (z : Cell). z.label) (get_or_append_left cd (cells ds) c x (omega (arith, m, k)) ∙ cells_at d.0 d.1.label d.1.length x c k) in
       subst (λ z. IsKept z (label_at b (spread (d ∷ ds) (l ∷ ls)) x)) (sym a)
-          (subst (λ (z : Label). IsKept d.1.label z.number) (sym (first_there d ds l ls x low k)) h.0.1))
+      (subst (λ (z : Label). IsKept d.1.label z.number) (sym (first_there d ds l ls x low k)) h.0.1))
       (λ (k : size_of d.1 ≤ x).
       let w : x ≡ length cd + (x - size_of d.1) = omega (arith, m, k) in
       let a : (get_or (cells (d ∷ ds)) x c).label ≡ (get_or (cells ds) (x - size_of d.1) c).label =

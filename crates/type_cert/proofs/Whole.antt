@@ -61,9 +61,10 @@ fit_at R [] all pre bs d i is len e h = tt
 fit_at R (a ∷ as') all pre [] d i is len e h = absurd (omega (arith, e))
 fit_at R (a ∷ as') all pre (b ∷ bs) d i is len e h =
     let at : get_or all i d ≡ b = ap (λ z. get_or z i d) is ∙ ap (λ z. get_or (pre ++ b ∷ bs) z d) (sym len) ∙ get_or-append_seam pre b bs d in
-    let l = length-append pre (b ∷ []) in
-    (subst (λ z. R a z) (sym at) h.0,
-        fit_at R as' all (pre ++ b ∷ []) bs d (i + 1) (is ∙ sym (append_assoc pre (b ∷ []) bs)) (omega (arith, l, len)) (omega (arith, e)) h.1)
+    let l = length-append pre (b ∷ []) in (
+      subst (λ z. R a z) (sym at) h.0,
+      fit_at R as' all (pre ++ b ∷ []) bs d (i + 1) (is ∙ sym (append_assoc pre (b ∷ []) bs)) (omega (arith, l, len)) (omega (arith, e)) h.1,
+    )
 
 module _ (s : Syntax) (valid : IsValid s) (ls : List Label) (xs : List Line) (bytes : List ℕ) (begins : BeginsWith s ls xs bytes [])
     (all_variables : length ls ≡ length s.declarations) (all_commands : length xs ≡ count (plan_of s)) where
@@ -119,7 +120,7 @@ module _ (s : Syntax) (valid : IsValid s) (ls : List Label) (xs : List Line) (by
       ⊎_elim
       (λ (h : i < length xs). let q = from_first (λ _ x. HasLabels s.order.size x) xs i (no_line b) lines_below h in (q.read, q.write))
       (λ (h : length xs ≤ i). subst (λ (z : Line). (z.read.number < s.order.size)
-          × (z.write.number < s.order.size)) (sym (get_or_past xs i (no_line b) h)) (some, some))
+      × (z.write.number < s.order.size)) (sym (get_or_past xs i (no_line b) h)) (some, some))
       (cases_lt i (length xs))
 
   same_marks : (λ (i : ℕ). marks_in (E i)) ≡ marks_of s.order held
@@ -178,12 +179,12 @@ pub record IsMade (s : Syntax) (bytes : List ℕ) (l : Labelling) (pcs : List La
 pub made_of : (s : Syntax) → IsValid s → (bytes : List ℕ) (vs : List Label) (xs seen : List Line) (cs : List (Label × Label)) (lvs pcs : List Label)
     → AreContents s bytes vs xs → seen ≡ xs →
     cs ≡ map (λ (x : Line). (x.read, x.write)) seen → lvs ≡ levels_in seen → pcs ≡ pcs_in seen
-        → IsMade s bytes (record { variables = vs; commands = cs; levels = lvs }) pcs
+    → IsMade s bytes (record { variables = vs; commands = cs; levels = lvs }) pcs
 made_of s valid bytes vs xs seen cs lvs pcs h es hc hl hp =
     let ls = h.declared in
     let same : held_in s ls xs ≡ made vs cs lvs =
     sym (ap (λ z. made z cs lvs) h.spreads ∙ ap (λ z. made (spread s.declarations ls) z lvs) (hc ∙ ap (λ z. map both_labels z) es)
-        ∙ ap (λ z. made (spread s.declarations ls) (map both_labels xs) z) (hl ∙ ap levels_in es)) in
+    ∙ ap (λ z. made (spread s.declarations ls) (map both_labels xs) z) (hl ∙ ap levels_in es)) in
     let pcs_are : pcs_in xs ≡ pcs = sym (hp ∙ ap pcs_in es) in
     record {
       labelling = subst (λ z. IsLabelling s z) same (is_labelling s valid ls xs bytes h.begins h.all_variables h.all_commands);
@@ -191,7 +192,7 @@ made_of s valid bytes vs xs seen cs lvs pcs h es hc hl hp =
       contexts =
           subst (λ z. AreContexts (record { program = s; labels = made vs cs lvs }) z) pcs_are
           (subst (λ z. AreContexts (record { program = s; labels = z }) (pcs_in xs)) same
-              (are_contexts s valid ls xs bytes h.begins h.all_variables h.all_commands));
+          (are_contexts s valid ls xs bytes h.begins h.all_variables h.all_commands));
       certificate = record { variables = ls; lines = xs; begins = h.begins; all_variables = h.all_variables; all_commands = h.all_commands; labels = sym same };
     }
   where

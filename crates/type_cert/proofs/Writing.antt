@@ -66,11 +66,11 @@ last_line o xs out all k h so = sym (so ∙ ap (λ z. out ++ lines_text o k z) (
 -- the labels of the lines that a labelling gives are labels of its lattice
 pub lines_below : (s : Syntax) (l : Labelling) (xs : List Line) → IsValid s → IsLabelling s l →
     (let q : LabelledProgram = record { program = s; labels = l } in
-        xs ≡ derived (order_of q) (labels_of q) (placed_of q) (order_of q).bottom (order_of q).bottom) →
+    xs ≡ derived (order_of q) (labels_of q) (placed_of q) (order_of q).bottom (order_of q).bottom) →
     AllFrom (λ (i : ℕ) (x : Line). HasLabels s.order.size x) 0 xs
 lines_below s l xs valid keeps is =
     let q : LabelledProgram = record { program = s; labels = l } in
     let low = valid.order.table.some in
     subst (λ z. AllFrom (λ (i : ℕ) (x : Line). HasLabels s.order.size x) 0 z) (sym is)
     (derived_below (order_of q) (variable_of s.order l) (marks_of s.order l) (level_of s.order l) s.order.size low (joins_below s.order valid.order)
-        keeps.variables_below keeps.commands_below keeps.levels_below (plan_of s) 0 s.order.bottom s.order.bottom low low)
+    keeps.variables_below keeps.commands_below keeps.levels_below (plan_of s) 0 s.order.bottom s.order.bottom low low)

@@ -33,11 +33,11 @@ returns-in-Part g c =
     let same : xs ≡ ss = ap (map seen) c.as_slice-starts.ensures.value in
     let can = subst (CanAudit q p.observer p.compiled.image) (sym same) c.requires.fit in
     let alike = alike_for _ _ part_by_history history_made (IsMadeFor part_structure) AnyHistory c.reports_are_the_same.ensures.audits q p.observer
-        p.compiled.image xs t can c.laws.ensures.shaped in
+    p.compiled.image xs t can c.laws.ensures.shaped in
     let report = report_by _ (IsMadeFor part_structure) (part_by_history q.program.order) AnyHistory q p.observer.number t _ _ alike c.audit-in-Part.result
-        c.audit-in-Part.ensures.report in
+    c.audit-in-Part.ensures.report in
     let fault = fault_by _ (IsMadeFor part_structure) (part_by_history q.program.order) AnyHistory q p.observer.number t _ _ alike c.audit-in-Part.result
-        c.audit-in-Part.ensures.fault in
+    c.audit-in-Part.ensures.fault in
     record {
       report = audits_in c.args.setting.env Part t q p.observer xs ss c.audit-in-Part.result c.in-Part.is same report;
       fault = faults_in c.args.setting.env Part t q p.observer xs ss c.audit-in-Part.result c.in-Part.is same fault;
@@ -53,11 +53,11 @@ returns-in-Part2 g c =
     let same : xs ≡ ss = ap (map seen) c.as_slice-starts.ensures.value in
     let can = subst (CanAudit q p.observer p.compiled.image) (sym same) c.requires.fit in
     let alike = alike_for _ _ part2_by_history history_made (IsMadeFor part2_structure) AnyHistory c.reports_are_the_same.ensures.audits_in_two q p.observer
-        p.compiled.image xs t can c.laws.ensures.shaped in
+    p.compiled.image xs t can c.laws.ensures.shaped in
     let report = report_by _ (IsMadeFor part2_structure) (part2_by_history q.program.order) AnyHistory q p.observer.number t _ _ alike c.audit-in-Part2.result
-        c.audit-in-Part2.ensures.report in
+    c.audit-in-Part2.ensures.report in
     let fault = fault_by _ (IsMadeFor part2_structure) (part2_by_history q.program.order) AnyHistory q p.observer.number t _ _ alike c.audit-in-Part2.result
-        c.audit-in-Part2.ensures.fault in
+    c.audit-in-Part2.ensures.fault in
     record {
       report = audits_in c.args.setting.env Part2 t q p.observer xs ss c.audit-in-Part2.result c.in-Part2.is same report;
       fault = faults_in c.args.setting.env Part2 t q p.observer xs ss c.audit-in-Part2.result c.in-Part2.is same fault;

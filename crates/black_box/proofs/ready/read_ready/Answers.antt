@@ -9,8 +9,12 @@ pub returns-then-are_too_many-clause-refused : goal.returns-then-are_too_many-cl
 returns-then-are_too_many-clause-refused c = λ _.
     let long = length-lists c.in_ok-runs.runs in
     let here : length (lists c.in_ok-runs.runs) ≡ c.len-then-are_too_many.result = long ∙ sym c.len-then-are_too_many.ensures in
-    refused_many c.args.bytes.now (lists c.in_ok-runs.runs) c.in_ok-runs.ensures.holds c.in_ok-runs.ensures.good (omega (arith, long, c.len.ensures,
-        MatchBool-at_true _ _ c.if-are_too_many.true c.are_too_many.ensures))
+    refused_many c.args.bytes.now (lists c.in_ok-runs.runs) c.in_ok-runs.ensures.holds c.in_ok-runs.ensures.good (omega (
+      arith,
+      long,
+      c.len.ensures,
+      MatchBool-at_true _ _ c.if-are_too_many.true c.are_too_many.ensures,
+    ))
     ∙ ap (λ k. Some (TooMany k)) here
 
 pub returns-clause-accepted : goal.returns-clause-accepted
@@ -18,4 +22,4 @@ returns-clause-accepted c =
     let long = length-lists c.in_ok-runs.runs in
     let some = eqb-false (vec_len c.in_ok-runs.runs) 0 (sym c.is_empty.ensures ∙ c.if-is_empty.false) in
     accepted c.args.bytes.now (lists c.in_ok-runs.runs) c.in_ok-runs.ensures.holds c.in_ok-runs.ensures.good (omega (arith, long, some))
-        (omega (arith, long, c.len.ensures, MatchBool-at_false _ _ c.if-are_too_many.false c.are_too_many.ensures))
+    (omega (arith, long, c.len.ensures, MatchBool-at_false _ _ c.if-are_too_many.false c.are_too_many.ensures))

@@ -13,9 +13,9 @@ abbrev pub invariant-emit_list-loop-c : goal.invariant-emit_list-loop-c
 invariant-emit_list-loop-c l = record {
   code :
       l.code.items ++ code_of (lattice_of l.order) (variable_of l.order l.p) (marked_of l.order l.p (list_plan (drop l.c-index l.commands)) l.next)
-          (length l.code.items)
+      (length l.code.items)
       ≡ l.initial.code.items ++ code_of (lattice_of l.order) (variable_of l.order l.p) (marked_of l.order l.p (list_plan l.commands) l.number)
-          (length l.initial.code.items);
+      (length l.initial.code.items);
   count : l.next + count (list_plan (drop l.c-index l.commands)) ≡ l.number + count (list_plan l.commands);
   room : length l.code.items + size (list_plan (drop l.c-index l.commands)) ≡ length l.initial.code.items + size (list_plan l.commands);
 }

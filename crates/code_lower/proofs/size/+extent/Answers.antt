@@ -22,10 +22,10 @@ command_extent-list_extent-requires t c =
     let w : Written = record { pos = c.args.c.now.pos; labels = c.args.c.now.labels } in
     let r = c.requires in
     let p = if_parts c.args.c.now.form c.in-If.guard c.in-If.then_part c.in-If.else_part c.deref.result.now c.in-If.else_part.items c.in-If.is
-        c.deref.ensures.value refl w Done in
+    c.deref.ensures.value refl w Done in
     let s = ap size p in
     let n = if_count c.args.c.now.form c.in-If.guard c.in-If.then_part c.in-If.else_part c.deref.result.now c.in-If.else_part.items c.in-If.is
-        c.deref.ensures.value refl w in
+    c.deref.ensures.value refl w in
     let d = c.decreases in
     let smaller : 2 * count (list_plan c.deref.result.now) + 1 < 2 * form_count c.args.c.now.form w = omega arith in
     (search rules, omega arith)
@@ -35,7 +35,7 @@ command_extent-followed_by-chosen-requires t c =
     let w : Written = record { pos = c.args.c.now.pos; labels = c.args.c.now.labels } in
     let r = c.requires in
     let p = if_parts c.args.c.now.form c.in-If.guard c.in-If.then_part c.in-If.else_part c.deref.result.now c.in-If.else_part.items c.in-If.is
-        c.deref.ensures.value refl w Done in
+    c.deref.ensures.value refl w Done in
     let s = ap size p in
     let a = c.list_extent.ensures.size in
     omega arith
@@ -45,7 +45,7 @@ command_extent-followed_by-requires-in-If t c =
     let w : Written = record { pos = c.args.c.now.pos; labels = c.args.c.now.labels } in
     let r = c.requires in
     let p = if_parts c.args.c.now.form c.in-If.guard c.in-If.then_part c.in-If.else_part c.deref.result.now c.in-If.else_part.items c.in-If.is
-        c.deref.ensures.value refl w Done in
+    c.deref.ensures.value refl w Done in
     let s = ap size p in
     let a = c.list_extent.ensures.size in
     let b = c.expr_extent-in-If.ensures.size in
@@ -58,10 +58,10 @@ command_extent-list_extent-requires-in-If t c =
     let w : Written = record { pos = c.args.c.now.pos; labels = c.args.c.now.labels } in
     let r = c.requires in
     let p = if_parts c.args.c.now.form c.in-If.guard c.in-If.then_part c.in-If.else_part c.deref.result.now c.deref-in-If.result.now c.in-If.is
-        c.deref.ensures.value c.deref-in-If.ensures.value w Done in
+    c.deref.ensures.value c.deref-in-If.ensures.value w Done in
     let s = ap size p in
     let n = if_count c.args.c.now.form c.in-If.guard c.in-If.then_part c.in-If.else_part c.deref.result.now c.deref-in-If.result.now c.in-If.is
-        c.deref.ensures.value c.deref-in-If.ensures.value w in
+    c.deref.ensures.value c.deref-in-If.ensures.value w in
     let d = c.decreases in
     let smaller : 2 * count (list_plan c.deref-in-If.result.now) + 1 < 2 * form_count c.args.c.now.form w = omega arith in
     (search rules, omega arith)
@@ -71,7 +71,7 @@ command_extent-followed_by-requires-in-If-2 t c =
     let w : Written = record { pos = c.args.c.now.pos; labels = c.args.c.now.labels } in
     let r = c.requires in
     let p = if_parts c.args.c.now.form c.in-If.guard c.in-If.then_part c.in-If.else_part c.deref.result.now c.deref-in-If.result.now c.in-If.is
-        c.deref.ensures.value c.deref-in-If.ensures.value w Done in
+    c.deref.ensures.value c.deref-in-If.ensures.value w Done in
     let s = ap size p in
     let a = c.list_extent.ensures.size in
     let b = c.expr_extent-in-If.ensures.size in
@@ -120,10 +120,10 @@ command_extent-list_extent-requires-in-Mitigate t c =
     let w : Written = record { pos = c.args.c.now.pos; labels = c.args.c.now.labels } in
     let r = c.requires in
     let p = mitigate_parts c.args.c.now.form c.in-Mitigate.mark c.in-Mitigate.estimate c.in-Mitigate.level c.in-Mitigate.body c.deref-in-Mitigate.result.now
-        c.in-Mitigate.is c.deref-in-Mitigate.ensures.value w Done in
+    c.in-Mitigate.is c.deref-in-Mitigate.ensures.value w Done in
     let s = ap size p in
     let n = mitigate_count c.args.c.now.form c.in-Mitigate.mark c.in-Mitigate.estimate c.in-Mitigate.level c.in-Mitigate.body c.deref-in-Mitigate.result.now
-        c.in-Mitigate.is c.deref-in-Mitigate.ensures.value w in
+    c.in-Mitigate.is c.deref-in-Mitigate.ensures.value w in
     let d = c.decreases in
     let smaller : 2 * count (list_plan c.deref-in-Mitigate.result.now) + 1 < 2 * form_count c.args.c.now.form w = omega arith in
     (search rules, omega arith)
@@ -133,7 +133,7 @@ command_extent-mitigated-requires t c =
     let w : Written = record { pos = c.args.c.now.pos; labels = c.args.c.now.labels } in
     let r = c.requires in
     let p = mitigate_parts c.args.c.now.form c.in-Mitigate.mark c.in-Mitigate.estimate c.in-Mitigate.level c.in-Mitigate.body c.deref-in-Mitigate.result.now
-        c.in-Mitigate.is c.deref-in-Mitigate.ensures.value w Done in
+    c.in-Mitigate.is c.deref-in-Mitigate.ensures.value w Done in
     let s = ap size p in
     let a = c.list_extent-in-Mitigate.ensures.nesting in
     let q = deepest_within (list_plan c.deref-in-Mitigate.result.now) in
@@ -144,7 +144,7 @@ command_extent-followed_by-inner-requires t c =
     let w : Written = record { pos = c.args.c.now.pos; labels = c.args.c.now.labels } in
     let r = c.requires in
     let p = mitigate_parts c.args.c.now.form c.in-Mitigate.mark c.in-Mitigate.estimate c.in-Mitigate.level c.in-Mitigate.body c.deref-in-Mitigate.result.now
-        c.in-Mitigate.is c.deref-in-Mitigate.ensures.value w Done in
+    c.in-Mitigate.is c.deref-in-Mitigate.ensures.value w Done in
     let s = ap size p in
     let a = c.list_extent-in-Mitigate.ensures.size in
     let b = c.mitigated.ensures.size in
@@ -155,7 +155,7 @@ command_extent-followed_by-requires-in-Mitigate t c =
     let w : Written = record { pos = c.args.c.now.pos; labels = c.args.c.now.labels } in
     let r = c.requires in
     let p = mitigate_parts c.args.c.now.form c.in-Mitigate.mark c.in-Mitigate.estimate c.in-Mitigate.level c.in-Mitigate.body c.deref-in-Mitigate.result.now
-        c.in-Mitigate.is c.deref-in-Mitigate.ensures.value w Done in
+    c.in-Mitigate.is c.deref-in-Mitigate.ensures.value w Done in
     let s = ap size p in
     let a = c.list_extent-in-Mitigate.ensures.size in
     let b = c.mitigated.ensures.size in
@@ -169,7 +169,7 @@ command_extent-returns-in-If t c =
     let w : Written = record { pos = c.args.c.now.pos; labels = c.args.c.now.labels } in
     let r = c.requires in
     let p = if_parts c.args.c.now.form c.in-If.guard c.in-If.then_part c.in-If.else_part c.deref.result.now c.deref-in-If.result.now c.in-If.is
-        c.deref.ensures.value c.deref-in-If.ensures.value w Done in
+    c.deref.ensures.value c.deref-in-If.ensures.value w Done in
     record {
       size = let a = c.list_extent.ensures.size in let b = c.expr_extent-in-If.ensures.size in let e = c.followed_by-test.ensures.size in let f =
           c.followed_by-chosen.ensures.size in let g = c.followed_by-in-If.ensures.size in let h = c.list_extent-in-If.ensures.size in let j =
@@ -203,7 +203,7 @@ command_extent-returns-in-Mitigate t c =
     let w : Written = record { pos = c.args.c.now.pos; labels = c.args.c.now.labels } in
     let r = c.requires in
     let p = mitigate_parts c.args.c.now.form c.in-Mitigate.mark c.in-Mitigate.estimate c.in-Mitigate.level c.in-Mitigate.body c.deref-in-Mitigate.result.now
-        c.in-Mitigate.is c.deref-in-Mitigate.ensures.value w Done in
+    c.in-Mitigate.is c.deref-in-Mitigate.ensures.value w Done in
     record {
       size = let a = c.list_extent-in-Mitigate.ensures.size in let b = c.mitigated.ensures.size in let e = c.expr_extent-in-Mitigate.ensures.size in let f =
           c.followed_by-start.ensures.size in let g = c.followed_by-inner.ensures.size in let h = c.followed_by-in-Mitigate.ensures.size in

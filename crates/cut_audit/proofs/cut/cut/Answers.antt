@@ -30,14 +30,19 @@ returns-clause-report g c =
     let program = c.program-program.ensures.program ∙ ap (λ z. z.program) same in
     let order = c.lattice-order.ensures ∙ ap (λ z. z.order) program in
     let agree = subst (λ z. Pairwise (AgreeFor v g.E.MachineEnv.serves z o) (starts_of g.M.MakeEnv.made z.program.order stored)) same
-        c.in_ok-all_agree.ensures.agree in
+    c.in_ok-all_agree.ensures.agree in
     let survey = subst (λ z. IsSurvey v z o t false (starts_of g.M.MakeEnv.made z.program.order stored) c.in-Ok.survey) same c.in-Ok.ensures.survey in
     let measure = subst (λ z. IsMeasure z o t c.in-Ok.survey.ended (map (sequence_from v p o t) ss) c.measure-measures.result) order
-        (c.measure-measures.ensures (map (sequence_from v p o t) ss) survey.kinds) in
+    (c.measure-measures.ensures (map (sequence_from v p o t) ss) survey.kinds) in
     let count : length c.args.starts.now ≡ length ss =
-        sym (length-map stored (start_of g.M.MakeEnv.made p.program.order) ∙ length-map c.args.starts.now seen) in
-    is_report v g.E.MachineEnv.serves p o t ss agree c.in-Ok.survey survey c.measure-measures.result measure _ (record { runs = count; ended =
-        refl; halted = refl; measures = refl })
+    sym (length-map stored (start_of g.M.MakeEnv.made p.program.order) ∙ length-map c.args.starts.now seen) in
+    is_report v g.E.MachineEnv.serves p o t ss agree c.in-Ok.survey survey c.measure-measures.result measure _ (record {
+      runs = count;
+      ended =
+          refl;
+      halted = refl;
+      measures = refl;
+    })
 
 pub returns-clause-bound : goal.returns-clause-bound
 returns-clause-bound g c =
@@ -51,9 +56,9 @@ returns-clause-bound g c =
     let program = c.program-program.ensures.program ∙ ap (λ z. z.program) same in
     let order = c.lattice-order.ensures ∙ ap (λ z. z.order) program in
     let made = typed_with p (subst (λ z. IsLattice (lattice_of z)) order c.laws.ensures.lattice) (subst IsValid program c.laws-2.ensures.valid)
-        (subst (λ z. IsLabelling z.program z.labels) same c.program-program.ensures.labelling) c.labelled-labelled.ensures.typed in
+    (subst (λ z. IsLabelling z.program z.labels) same c.program-program.ensures.labelling) c.labelled-labelled.ensures.typed in
     let sound : CutSound v p.program.order (g.E.MachineEnv.serves p.program.order) (labels_of p) (levels_of p) (lowered p).instrs (plan_of p.program) =
-        c.lowered_few_sequences.ensures.cut p made in
+    c.lowered_few_sequences.ensures.cut p made in
     report_within v g.E.MachineEnv.serves p o t ss sound c.requires.observer c.requires.cycles _ (returns-clause-report g c)
 
 pub of-requires : goal.of-requires

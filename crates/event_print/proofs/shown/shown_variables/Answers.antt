@@ -14,7 +14,7 @@ all_true (suc n) (suc x) = all_true n x
 tells_some : (p : LabelledProgram) (o : Option Label) (l : Label) (list first : List Bool) → o ≡ Some l →
     ((x : ℕ) → x < variables p.program.declarations → slice_index_or list x true ≡ (order_of p).flows (labels_of p x) l.number) →
     ((x : ℕ) → variables p.program.declarations ≤ x → slice_index_or list x true ≡ slice_index_or first x true)
-        → ((x : ℕ) → slice_index_or first x true ≡ true) → TellsShown p o list
+    → ((x : ℕ) → slice_index_or first x true ≡ true) → TellsShown p o list
 tells_some p o l list first e each kept all = subst (λ z. TellsShown p z list) (sym e) (record { each = each; others = λ x m. kept x m ∙ all x })
 
 tells_all : (p : LabelledProgram) (o : Option Label) (list : List Bool) → ((l : Label) → o ≡ Some l → ⊥)

@@ -6,12 +6,12 @@ use Rattle.flow_path.proofs.best.better.Goals as goal
 pub returns-then-is_less : goal.returns-then-is_less
 returns-then-is_less c = λ s t ds ps qs h k.
     the_less s t ds ps qs c.in-Some.one c.in-Some-b.other (subst (λ z. IsBest s t ds ps z) c.in-Some.is h) (subst (λ z. IsBest s t ds qs z) c.in-Some-b.is k)
-        (c.is_less.ensures.less c.if-is_less.true)
+    (c.is_less.ensures.less c.if-is_less.true)
 
 pub returns-else-is_less : goal.returns-else-is_less
 returns-else-is_less c = λ s t ds ps qs h k.
     the_same s t ds ps qs c.in-Some.one c.in-Some-b.other (subst (λ z. IsBest s t ds ps z) c.in-Some.is h) (subst (λ z. IsBest s t ds qs z) c.in-Some-b.is k)
-        (c.is_less.ensures.le c.if-is_less.false)
+    (c.is_less.ensures.le c.if-is_less.false)
 
 pub returns-in-None-b : goal.returns-in-None-b
 returns-in-None-b c = λ s t ds ps qs h k.

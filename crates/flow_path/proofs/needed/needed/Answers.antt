@@ -10,8 +10,10 @@ use Rattle.flow_path.proofs.needed.needed.Goals as goal
 pub loop-origin-init : goal.loop-origin-init
 loop-origin-init c =
     let lat = lattice_of c.args.lattice.now in
-    record { sifted = subst (λ z. IsSifted (lattice_of c.args.lattice.now) c.args.told.items c.args.told.items z) (sym c.new-kept.ensures.items)
-        (sift_begins lat c.laws.ensures.lattice c.args.told.items) }
+    record {
+      sifted = subst (λ z. IsSifted (lattice_of c.args.lattice.now) c.args.told.items c.args.told.items z) (sym c.new-kept.ensures.items)
+          (sift_begins lat c.laws.ensures.lattice c.args.told.items);
+    }
 
 pub loop-origin-preserved-in-Continue-1 : goal.loop-origin-preserved-in-Continue-1
 loop-origin-preserved-in-Continue-1 c =
@@ -28,8 +30,10 @@ loop-origin-preserved-in-Continue-1 c =
     let no : c.flows.result ≡ false = search rules in
     let here = sift_keeps lat c.laws.ensures.lattice c.args.told.items c.loop-origin.left.items less kept w is c.loop-origin.invariant.sifted
     (λ g. both_ways (lat.flows w.label.number (lat.join (joined lat less) (joined lat kept))) (sym flows ∙ no) g) in
-    record { sifted = subst (λ z. IsSifted (lattice_of c.args.lattice.now) c.args.told.items c.pop.new.self.items z)
-        (sym (c.in_ok-insert.ensures.items ∙ insert_first kept w)) here }
+    record {
+      sifted = subst (λ z. IsSifted (lattice_of c.args.lattice.now) c.args.told.items c.pop.new.self.items z)
+          (sym (c.in_ok-insert.ensures.items ∙ insert_first kept w)) here;
+    }
 
 pub loop-origin-preserved : goal.loop-origin-preserved
 loop-origin-preserved c =
@@ -44,15 +48,17 @@ loop-origin-preserved c =
     ∙ ap (λ z. lat.join (joined lat less) z) (c.join_of-in-Some.ensures ∙ ap (λ z. joined lat z) c.deref-in-Some.ensures.value) in
     let flows = c.flows.ensures ∙ ap (λ z. lat.flows w.label.number z) others in
     let yes : c.flows.result ≡ true = search rules in
-    record { sifted = sift_drops lat c.laws.ensures.lattice c.args.told.items c.loop-origin.left.items less kept w is
-        c.loop-origin.invariant.sifted (sym flows ∙ yes) }
+    record {
+      sifted = sift_drops lat c.laws.ensures.lattice c.args.told.items c.loop-origin.left.items less kept w is
+          c.loop-origin.invariant.sifted (sym flows ∙ yes);
+    }
 
 pub returns-clause-needed : goal.returns-clause-needed
 returns-clause-needed c =
     let lat = lattice_of c.args.lattice.now in
     let none : length c.loop-origin.left.items ≡ 0 = search rules in
     let S = subst (λ z. IsSifted (lattice_of c.args.lattice.now) c.args.told.items z c.loop-origin.kept.items) (empty_is c.loop-origin.left.items none)
-        c.loop-origin.invariant.sifted in
+    c.loop-origin.invariant.sifted in
     (sift_ends lat c.laws.ensures.lattice c.args.told.items c.loop-origin.kept.items S).0
 
 pub returns-clause-join : goal.returns-clause-join
@@ -60,7 +66,7 @@ returns-clause-join c =
     let lat = lattice_of c.args.lattice.now in
     let none : length c.loop-origin.left.items ≡ 0 = search rules in
     let S = subst (λ z. IsSifted (lattice_of c.args.lattice.now) c.args.told.items z c.loop-origin.kept.items) (empty_is c.loop-origin.left.items none)
-        c.loop-origin.invariant.sifted in
+    c.loop-origin.invariant.sifted in
     (sift_ends lat c.laws.ensures.lattice c.args.told.items c.loop-origin.kept.items S).1
 
 pub returns-clause-among : goal.returns-clause-among
@@ -68,5 +74,5 @@ returns-clause-among c =
     let lat = lattice_of c.args.lattice.now in
     let none : length c.loop-origin.left.items ≡ 0 = search rules in
     let S = subst (λ z. IsSifted (lattice_of c.args.lattice.now) c.args.told.items z c.loop-origin.kept.items) (empty_is c.loop-origin.left.items none)
-        c.loop-origin.invariant.sifted in
+    c.loop-origin.invariant.sifted in
     (sift_ends lat c.laws.ensures.lattice c.args.told.items c.loop-origin.kept.items S).2

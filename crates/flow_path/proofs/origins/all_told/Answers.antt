@@ -14,31 +14,36 @@ pub next_start-requires : goal.next_start-requires
 next_start-requires c =
     let q = c.requires in
     let set : IsSet q.0 c.args.p.now c.args.nodes.now c.args.conditions.now c.args.target.now c.in_ok-index.index =
-        record { stands = q.1; same = q.2; is_index = c.in_ok-index.ensures.index; fit = c.in_ok-index.ensures.fit ∙ c.variables.ensures.value } in
+    record { stands = q.1; same = q.2; is_index = c.in_ok-index.ensures.index; fit = c.in_ok-index.ensures.fit ∙ c.variables.ensures.value } in
     let T = c.loop-told.invariant.told q.0 set in
     (q.0, T.labels, set, T.ready)
 
 pub loop-told-init : goal.loop-told-init
-loop-told-init c = record { told =
-    λ x set. subst (λ z. AreTold x (state_of c.in_ok-found.found) (record { head = 0; plain = 0; faint = 0 }) z) (sym c.new-told.ensures.items)
-    (told_first x (state_of c.in_ok-found.found) (record { head = 0; plain = 0; faint = 0 }) (c.in_ok-found.ensures x set.stands set.same)) }
+loop-told-init c = record {
+  told =
+      λ x set. subst (λ z. AreTold x (state_of c.in_ok-found.found) (record { head = 0; plain = 0; faint = 0 }) z) (sym c.new-told.ensures.items)
+      (told_first x (state_of c.in_ok-found.found) (record { head = 0; plain = 0; faint = 0 }) (c.in_ok-found.ensures x set.stands set.same));
+}
 
 pub tell-requires : goal.tell-requires
 tell-requires c =
     let q = c.requires in
     let set : IsSet q.0 c.args.p.now c.args.nodes.now c.args.conditions.now c.args.target.now c.in_ok-index.index =
-        record { stands = q.1; same = q.2; is_index = c.in_ok-index.ensures.index; fit = c.in_ok-index.ensures.fit ∙ c.variables.ensures.value } in
+    record { stands = q.1; same = q.2; is_index = c.in_ok-index.ensures.index; fit = c.in_ok-index.ensures.fit ∙ c.variables.ensures.value } in
     let T = c.loop-told.invariant.told q.0 set in
     let start = some_from _ c.in_ok-link.field-0 c.in-Some.link c.in-Some.is c.in_ok-link.ensures.start in
-    let n = start q.0 T.labels set T.ready in
-    (q.0, reach_at c.next_start.new.at n.ready.now (n.have ∷ T.labels), n.ready.search,
-        slice_get_within c.next_start.new.self.links.items c.in-Some.link n.link n.at)
+    let n = start q.0 T.labels set T.ready in (
+      q.0,
+      reach_at c.next_start.new.at n.ready.now (n.have ∷ T.labels),
+      n.ready.search,
+      slice_get_within c.next_start.new.self.links.items c.in-Some.link n.link n.at,
+    )
 
 pub loop-told-smaller : goal.loop-told-smaller
 loop-told-smaller c =
     let q = c.requires in
     let set : IsSet q.0 c.args.p.now c.args.nodes.now c.args.conditions.now c.args.target.now c.in_ok-index.index =
-        record { stands = q.1; same = q.2; is_index = c.in_ok-index.ensures.index; fit = c.in_ok-index.ensures.fit ∙ c.variables.ensures.value } in
+    record { stands = q.1; same = q.2; is_index = c.in_ok-index.ensures.index; fit = c.in_ok-index.ensures.fit ∙ c.variables.ensures.value } in
     let T = c.loop-told.invariant.told q.0 set in
     let start = some_from _ c.in_ok-link.field-0 c.in-Some.link c.in-Some.is c.in_ok-link.ensures.start in
     let further = some_from _ c.in_ok-link.field-0 c.in-Some.link c.in-Some.is c.in_ok-link.ensures.further in
@@ -63,14 +68,14 @@ loop-told-preserved c =
           let t = c.in_ok-tell.ensures x (reach_at c.next_start.new.at n.ready.now (n.have ∷ T.labels)) n.link n.have n.ready.search n.at begins in
           let order = c.lattice-lattice.ensures ∙ ap (λ (z : Syntax). z.order) (sym set.stands.0) in
           told_more x (lattice_laws x.program.order set.stands.3.valid.order) (state_of c.loop-told.found) (state_of c.next_start.new.self) c.loop-told.at
-              c.next_start.new.at c.loop-told.told.items c.tell.new.told.items c.in-Some.link T n
+          c.next_start.new.at c.loop-told.told.items c.tell.new.told.items c.in-Some.link T n
           (subst (λ z. Tells x (lattice_of z) n.link n.have c.loop-told.told.items c.tell.new.told.items) order t);
     }
 
 pub returns : goal.returns
 returns c = λ x st e.
     let set : IsSet x c.args.p.now c.args.nodes.now c.args.conditions.now c.args.target.now c.in_ok-index.index =
-        record { stands = st; same = e; is_index = c.in_ok-index.ensures.index; fit = c.in_ok-index.ensures.fit ∙ c.variables.ensures.value } in
+    record { stands = st; same = e; is_index = c.in_ok-index.ensures.index; fit = c.in_ok-index.ensures.fit ∙ c.variables.ensures.value } in
     let T = c.loop-told.invariant.told x set in
     let none = none_from _ c.in_ok-link.field-0 c.in_default.is c.in_ok-link.ensures.none in
     told_all x (state_of c.loop-told.found) c.loop-told.at c.loop-told.told.items T (none x T.labels set T.ready)

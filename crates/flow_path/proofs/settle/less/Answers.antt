@@ -13,9 +13,9 @@ returns-in-None-b c = λ s ds vs n h k. less_old s ds vs n c.in-Some.x (subst (�
 pub returns-then-is_less : goal.returns-then-is_less
 returns-then-is_less c = λ s ds vs n h k.
     less_takes s ds vs n c.in-Some.x c.in-Some-b.y (subst (λ z. IsLeastNew s ds vs n z) c.in-Some.is h) (subst (λ z. IsNewAt s ds vs n z) c.in-Some-b.is k)
-        (c.is_less.ensures.less c.if-is_less.true)
+    (c.is_less.ensures.less c.if-is_less.true)
 
 pub returns-else-is_less : goal.returns-else-is_less
 returns-else-is_less c = λ s ds vs n h k.
     less_keeps s ds vs n c.in-Some.x c.in-Some-b.y (subst (λ z. IsLeastNew s ds vs n z) c.in-Some.is h) (subst (λ z. IsNewAt s ds vs n z) c.in-Some-b.is k)
-        (c.is_less.ensures.le c.if-is_less.false)
+    (c.is_less.ensures.le c.if-is_less.false)

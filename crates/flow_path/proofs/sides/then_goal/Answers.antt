@@ -11,4 +11,4 @@ returns-then-is_goal c = λ ds ss ps h k. c.then.ensures.goal c.args.p.now c.arg
 pub returns-else-is_goal : goal.returns-else-is_goal
 returns-else-is_goal c = λ ds ss ps h k.
     then_skips (GoalCosts c.args.p.now c.args.target.now ds) c.args.rule c.args.pos c.args.side ss ps c.args.slot
-        (λ p d w. both_ways c.is_goal.result c.if-is_goal.false (c.is_goal.ensures.only w.0)) k
+    (λ p d w. both_ways c.is_goal.result c.if-is_goal.false (c.is_goal.ensures.only w.0)) k

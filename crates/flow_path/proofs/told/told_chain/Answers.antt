@@ -8,5 +8,5 @@ pub unreachable-requires : goal.unreachable-requires
 unreachable-requires c =
     let q = c.requires.known in
     let settled = subst (λ z. AreSettled z q.0.target c.in_ok-all.all) (sym q.1)
-        (subst (λ z. AreSettled c.args.p.now z c.in_ok-all.all) (sym q.2) c.in_ok-all.ensures) in
+    (subst (λ z. AreSettled c.args.p.now z c.in_ok-all.all) (sym q.2) c.in_ok-all.ensures) in
     goal_is q.0 (subst (λ z. IsValid z) (sym q.1) c.requires.valid) c.in_ok-all.all settled q.3 c.in-None.is

@@ -17,10 +17,10 @@ returns-clause-audits c =
 pub returns-clause-runs_in_two : goal.returns-clause-runs_in_two
 returns-clause-runs_in_two c =
     runs_tell_alike _ _ part2_by_history history_made (Keeps part2_structure) c.caches_do_as_histories.ensures.costs_of_two
-        c.caches_do_as_histories.ensures.start_of_two
+    c.caches_do_as_histories.ensures.start_of_two
 
 pub returns-clause-audits_in_two : goal.returns-clause-audits_in_two
 returns-clause-audits_in_two c =
     audits_tell_alike _ _ part2_by_history history_made (Keeps part2_structure) c.caches_do_as_histories.ensures.costs_of_two
-        c.caches_do_as_histories.ensures.start_of_two
+    c.caches_do_as_histories.ensures.start_of_two
     (IsMadeFor part2_structure) AnyHistory (λ order e h keeps. (keeps.made, tt))

@@ -7,4 +7,4 @@ pub of-requires : goal.of-requires
 of-requires c =
     let low : c.new-low.result.number < c.args.lattice.size = omega (arith, c.requires, c.new-low.ensures) in
     subst (λ z. IsShaped (record { instrs = z; variables = 0; order = c.args.lattice; operands = 2; nesting = 1 })) (sym c.in_ok-instrs.ensures.items)
-        (sample_shaped c.args.lattice c.new-low.result low)
+    (sample_shaped c.args.lattice c.new-low.result low)

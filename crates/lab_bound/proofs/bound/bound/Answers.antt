@@ -15,8 +15,8 @@ tell-requires g c =
     let content = g.S.Shelf.content c.args.shelf.now in
     let rises = λ (name : List ℕ). Rose (g.S.Shelf.faults c.args.shelf.now name) (g.S.Shelf.faults c.bound_text-text.new.shelf name) in
     no_fault (Bounds rises content c.args.file.now c.args.starts.now c.args.observer.now c.args.setting.env c.args.setting.budget) c.bound_text-text.result
-        (bound_no_fault rises content c.args.file.now c.args.starts.now c.args.observer.now c.args.setting.env c.args.setting.budget)
-        c.bound_text-text.ensures.stop
+    (bound_no_fault rises content c.args.file.now c.args.starts.now c.args.observer.now c.args.setting.env c.args.setting.budget)
+    c.bound_text-text.ensures.stop
 
 pub returns-clause-answered : goal.returns-clause-answered
 returns-clause-answered g c =
@@ -24,10 +24,10 @@ returns-clause-answered g c =
     let rises = λ (name : List ℕ). Rose (g.S.Shelf.faults c.args.shelf.now name) (g.S.Shelf.faults c.bound_text-text.new.shelf name) in
     let r = c.bound_text-text.result in
     ends_finish (g.W.Sink.taken c.args.out.now) (g.W.Sink.taken c.tell.new.out) Nothing
-        (IsBoundAnswer rises content c.args.file.now c.args.starts.now c.args.observer.now c.args.setting.env c.args.setting.budget)
+    (IsBoundAnswer rises content c.args.file.now c.args.starts.now c.args.observer.now c.args.setting.env c.args.setting.budget)
     (told_status r) (lab_text (told_status r) (told_text r)) c.tell.result
     (result_tells_in_lab (Bounds rises content c.args.file.now c.args.starts.now c.args.observer.now c.args.setting.env c.args.setting.budget) r
-        c.bound_text-text.ensures.text c.bound_text-text.ensures.stop) c.tell.ensures.told c.tell.ensures.prefix
+    c.bound_text-text.ensures.text c.bound_text-text.ensures.stop) c.tell.ensures.told c.tell.ensures.prefix
 
 pub returns-clause-complete : goal.returns-clause-complete
 returns-clause-complete g c =
@@ -35,12 +35,12 @@ returns-clause-complete g c =
     let rises = λ (name : List ℕ). Rose (g.S.Shelf.faults c.args.shelf.now name) (g.S.Shelf.faults c.bound_text-text.new.shelf name) in
     let r = c.bound_text-text.result in
     completes (g.W.Sink.taken c.args.out.now) (g.W.Sink.taken c.tell.new.out) rises content c.args.file.now c.args.starts.now c.args.observer.now
-        c.args.setting.env c.args.setting.budget c.tell.result (Rose (g.W.Sink.faults c.args.out.now) (g.W.Sink.faults c.tell.new.out))
+    c.args.setting.env c.args.setting.budget c.tell.result (Rose (g.W.Sink.faults c.args.out.now) (g.W.Sink.faults c.tell.new.out))
     (ends_finish (g.W.Sink.taken c.args.out.now) (g.W.Sink.taken c.tell.new.out) Nothing
-        (IsBoundAnswer rises content c.args.file.now c.args.starts.now c.args.observer.now c.args.setting.env c.args.setting.budget)
+    (IsBoundAnswer rises content c.args.file.now c.args.starts.now c.args.observer.now c.args.setting.env c.args.setting.budget)
     (told_status r) (lab_text (told_status r) (told_text r)) c.tell.result
     (result_tells_in_lab (Bounds rises content c.args.file.now c.args.starts.now c.args.observer.now c.args.setting.env c.args.setting.budget) r
-        c.bound_text-text.ensures.text c.bound_text-text.ensures.stop) c.tell.ensures.told c.tell.ensures.prefix)
+    c.bound_text-text.ensures.text c.bound_text-text.ensures.stop) c.tell.ensures.told c.tell.ensures.prefix)
     c.tell.ensures.fault
 
 pub returns-clause-enough : goal.returns-clause-enough
@@ -49,4 +49,4 @@ returns-clause-enough g c = c.sharp_counts_are_enough.ensures c.args.setting.env
 pub returns-clause-sound : goal.returns-clause-sound
 returns-clause-sound g c =
     told_sound c.bound_text-text.result (IsAccepted (g.S.Shelf.content c.args.shelf.now c.args.file.now)) c.tell.result c.bound_text-text.ensures.sound
-        c.bound_text-text.ensures.sound_stop (λ n. (c.tell.ensures.told n).0)
+    c.bound_text-text.ensures.sound_stop (λ n. (c.tell.ensures.told n).0)

@@ -10,5 +10,5 @@ returns c =
     let firsts = firsts_text c.args.t c.args.told in
     of_five c.new-line.result c.put_text.new.self c.put_text-2.new.self c.put_number.new.line c.put_firsts.new.line c.put_text-3.new.self
     (codes "level ") c.bytes.result.now number firsts (codes "\n") c.new-line.ensures c.put_text.ensures c.put_text-2.ensures c.put_number.ensures.text
-        c.put_firsts.ensures.text c.put_text-3.ensures
+    c.put_firsts.ensures.text c.put_text-3.ensures
     ∙ ap (λ z. codes "level " ++ (z ++ (number ++ (firsts ++ codes "\n")))) (c.bytes.ensures.value ∙ c.name-name.ensures)

@@ -7,7 +7,7 @@ use Rattle.lab_seen.proofs.seen.seen.Goals as goal
 pub returns-clause-complete : goal.returns-clause-complete
 returns-clause-complete g c = λ can n m k.
     begin_completes (λ (name : List ℕ). Rose (g.S.Shelf.faults c.args.shelf.now name) (g.S.Shelf.faults c.show.new.shelf name))
-        (g.S.Shelf.content c.args.shelf.now) c.args.file.now c.args.starts.now (Some c.args.observer.now)
+    (g.S.Shelf.content c.args.shelf.now) c.args.file.now c.args.starts.now (Some c.args.observer.now)
     (AreLines c.args.setting.env c.args.setting.budget) (g.W.Sink.taken c.args.out.now) (g.W.Sink.taken c.show.new.out)
-        (SeenBefore (g.S.Shelf.content c.args.shelf.now) c.args.file.now c.args.starts.now c.args.observer.now c.args.setting.env c.args.setting.budget)
+    (SeenBefore (g.S.Shelf.content c.args.shelf.now) c.args.file.now c.args.starts.now c.args.observer.now c.args.setting.env c.args.setting.budget)
     c.show.result (Rose (g.W.Sink.faults c.args.out.now) (g.W.Sink.faults c.show.new.out)) c.show.ensures.answered c.show.ensures.write can n m k

@@ -9,34 +9,34 @@ use Rattle.lab_seen.proofs.seen.show.Goals as goal
 pub returns-in-Err-clause-answered : goal.returns-in-Err-clause-answered
 returns-in-Err-clause-answered g c =
     seen_stops (λ (name : List ℕ). Rose (g.S.Shelf.faults c.args.shelf.now name) (g.S.Shelf.faults c.prepare.new.shelf name))
-        (g.S.Shelf.content c.args.shelf.now) c.args.file.now c.args.starts.now c.args.observer.now
+    (g.S.Shelf.content c.args.shelf.now) c.args.file.now c.args.starts.now c.args.observer.now
     c.args.setting.env c.args.setting.budget (g.W.Sink.taken c.args.out.now) (g.W.Sink.taken c.stop.new.out) c.in-Err.e c.stop.result c.in-Err.ensures.stop
-        c.stop.ensures.told c.stop.ensures.prefix
+    c.stop.ensures.told c.stop.ensures.prefix
 
 pub returns-in-Ok-write_lines-clause-answered : goal.returns-in-Ok-write_lines-clause-answered
 returns-in-Ok-write_lines-clause-answered g c =
     let p = c.in-Ok.prepared in
     seen_done (λ (name : List ℕ). Rose (g.S.Shelf.faults c.args.shelf.now name) (g.S.Shelf.faults c.prepare.new.shelf name))
-        (g.S.Shelf.content c.args.shelf.now) c.args.file.now c.args.starts.now c.args.observer.now
+    (g.S.Shelf.content c.args.shelf.now) c.args.file.now c.args.starts.now c.args.observer.now
     c.args.setting.env c.args.setting.budget p.compiled.typed.labelled p.observer p.compiled.image (map seen p.starts.items) c.in-Ok.ensures.ok
-        (g.W.Sink.taken c.args.out.now) (g.W.Sink.taken c.write_lines.new.out) c.in-Ok-write_lines.ensures.text
+    (g.W.Sink.taken c.args.out.now) (g.W.Sink.taken c.write_lines.new.out) c.in-Ok-write_lines.ensures.text
 
 pub returns-in-Err-Memory-clause-answered : goal.returns-in-Err-Memory-clause-answered
 returns-in-Err-Memory-clause-answered g c =
     let p = c.in-Ok.prepared in
     seen_short (λ (name : List ℕ). Rose (g.S.Shelf.faults c.args.shelf.now name) (g.S.Shelf.faults c.prepare.new.shelf name))
-        (g.S.Shelf.content c.args.shelf.now) c.args.file.now c.args.starts.now c.args.observer.now
+    (g.S.Shelf.content c.args.shelf.now) c.args.file.now c.args.starts.now c.args.observer.now
     c.args.setting.env c.args.setting.budget p.compiled.typed.labelled p.observer p.compiled.image (map seen p.starts.items) c.in-Ok.ensures.ok
-        (g.W.Sink.taken c.args.out.now) (g.W.Sink.taken c.write_lines.new.out)
+    (g.W.Sink.taken c.args.out.now) (g.W.Sink.taken c.write_lines.new.out)
     (g.W.Sink.taken c.finish.new.out) c.finish.result (c.write_lines.ensures.some (cc)) c.finish.ensures.told c.finish.ensures.prefix
 
 pub returns-clause-answered : goal.returns-clause-answered
 returns-clause-answered g c =
     let p = c.in-Ok.prepared in
     seen_broke (λ (name : List ℕ). Rose (g.S.Shelf.faults c.args.shelf.now name) (g.S.Shelf.faults c.prepare.new.shelf name))
-        (g.S.Shelf.content c.args.shelf.now) c.args.file.now c.args.starts.now c.args.observer.now
+    (g.S.Shelf.content c.args.shelf.now) c.args.file.now c.args.starts.now c.args.observer.now
     c.args.setting.env c.args.setting.budget p.compiled.typed.labelled p.observer p.compiled.image (map seen p.starts.items) c.in-Ok.ensures.ok
-        (g.W.Sink.taken c.args.out.now) (g.W.Sink.taken c.write_lines.new.out) (c.write_lines.ensures.prefix (cc))
+    (g.W.Sink.taken c.args.out.now) (g.W.Sink.taken c.write_lines.new.out) (c.write_lines.ensures.prefix (cc))
 
 pub returns-in-Err-clause-sound : goal.returns-in-Err-clause-sound
 returns-in-Err-clause-sound g c = λ past. c.in-Err.ensures.sound_stop (past_told c.stop.result (status_of c.in-Err.e) (λ n. (c.stop.ensures.told n).0) past)

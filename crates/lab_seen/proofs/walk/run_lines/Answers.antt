@@ -30,7 +30,7 @@ pub run_line-requires-clause-start : goal.run_line-requires-clause-start
 run_line-requires-clause-start g c =
     let lt : c.loop-i.i < length c.as_slice-starts.result.now = omega arith in
     fits_here (IsFor c.args.p.now.compiled.typed.labelled.program) c.as_slice-starts.result.now c.args.p.now.starts.items c.loop-i.i c.index-starts-i.result
-        c.requires.fit.starts c.as_slice-starts.ensures.value lt c.index-starts-i.is
+    c.requires.fit.starts c.as_slice-starts.ensures.value lt c.index-starts-i.is
 
 pub returns-in-Err-clause-prefix : goal.returns-in-Err-clause-prefix
 returns-in-Err-clause-prefix g c = λ e.
@@ -41,11 +41,11 @@ returns-in-Err-clause-prefix g c = λ e.
     let same = c.as_slice-starts.ensures.value in
     let fits = fits_here (IsFor q.program) c.as_slice-starts.result.now items c.loop-i.i x c.requires.fit.starts same lt c.index-starts-i.is in
     broke_in (line_in c.args.setting.env c.args.setting.budget q c.args.p.now.observer c.args.p.now.compiled.image) (map seen items) c.loop-i.i (seen x)
-        (within c.as_slice-starts.result.now items c.loop-i.i same lt)
+    (within c.as_slice-starts.result.now items c.loop-i.i same lt)
     (from_here c.as_slice-starts.result.now items c.loop-i.i x same lt c.index-starts-i.is) (g.W.Sink.taken c.args.out.now) (g.W.Sink.taken c.loop-i.out)
-        (g.W.Sink.taken c.run_line.new.out) c.loop-i.invariant.written
+    (g.W.Sink.taken c.run_line.new.out) c.loop-i.invariant.written
     (subst (λ (z : Told). AppendsPrefix (g.W.Sink.taken c.loop-i.out) (g.W.Sink.taken c.run_line.new.out)
-        (line_text q c.args.p.now.observer (c.loop-i.i + 1) z)) (c.requires.named (seen x) fits) (c.in-Err.ensures.prefix e))
+    (line_text q c.args.p.now.observer (c.loop-i.i + 1) z)) (c.requires.named (seen x) fits) (c.in-Err.ensures.prefix e))
 
 pub loop-i-preserved : goal.loop-i-preserved
 loop-i-preserved g c =
@@ -58,10 +58,10 @@ loop-i-preserved g c =
     record {
       written =
           wrote_one (line_in c.args.setting.env c.args.setting.budget q c.args.p.now.observer c.args.p.now.compiled.image) (map seen items) c.loop-i.i (seen x)
-              (within c.as_slice-starts.result.now items c.loop-i.i same lt)
+          (within c.as_slice-starts.result.now items c.loop-i.i same lt)
           (from_here c.as_slice-starts.result.now items c.loop-i.i x same lt c.index-starts-i.is) (g.W.Sink.taken c.args.out.now) (g.W.Sink.taken c.loop-i.out)
-              (g.W.Sink.taken c.run_line.new.out) c.loop-i.invariant.written
+          (g.W.Sink.taken c.run_line.new.out) c.loop-i.invariant.written
           (subst (λ (z : Told). Appends (g.W.Sink.taken c.loop-i.out) (g.W.Sink.taken c.run_line.new.out)
-              (line_text q c.args.p.now.observer (c.loop-i.i + 1) z)) (c.requires.named (seen x) fits) c.in-Ok.ensures.text);
+          (line_text q c.args.p.now.observer (c.loop-i.i + 1) z)) (c.requires.named (seen x) fits) c.in-Ok.ensures.text);
       later = up_to _ _ _ c.loop-i.invariant.later c.run_line.ensures.later;
     }

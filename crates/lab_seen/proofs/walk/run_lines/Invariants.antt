@@ -10,6 +10,6 @@ invariant-loop-i g l = record {
   written :
       Appends (g.W.Sink.taken l.fn.out) (g.W.Sink.taken l.out)
       (texts (line_in l.fn.setting.env l.fn.setting.budget l.fn.p.compiled.typed.labelled l.fn.p.observer l.fn.p.compiled.image)
-          (take l.i (map seen l.fn.p.starts.items)));
+      (take l.i (map seen l.fn.p.starts.items)));
   later : g.W.Sink.faults l.fn.out ≤ g.W.Sink.faults l.out;
 }

@@ -12,4 +12,4 @@ returns-clause-one_level c =
 pub returns-clause-two_levels : goal.returns-clause-two_levels
 returns-clause-two_levels c =
     timelines_tell_alike _ _ part2_by_history history_made (Keeps part2_structure) c.caches_do_as_histories.ensures.costs_of_two
-        c.caches_do_as_histories.ensures.start_of_two
+    c.caches_do_as_histories.ensures.start_of_two

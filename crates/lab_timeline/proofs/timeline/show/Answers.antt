@@ -9,35 +9,35 @@ use Rattle.lab_timeline.proofs.timeline.show.Goals as goal
 pub returns-in-Err-clause-answered : goal.returns-in-Err-clause-answered
 returns-in-Err-clause-answered g c =
     timeline_stops (λ (name : List ℕ). Rose (g.S.Shelf.faults c.args.shelf.now name) (g.S.Shelf.faults c.begin.new.shelf name))
-        (g.S.Shelf.content c.args.shelf.now) c.args.file.now c.args.starts.now (option_map (λ s. s.now) c.args.observer)
+    (g.S.Shelf.content c.args.shelf.now) c.args.file.now c.args.starts.now (option_map (λ s. s.now) c.args.observer)
     c.args.setting.env c.args.setting.budget (g.W.Sink.taken c.args.out.now) (g.W.Sink.taken c.stop.new.out) c.in-Err.e c.stop.result c.in-Err.ensures.stop
-        c.stop.ensures.told c.stop.ensures.prefix
+    c.stop.ensures.told c.stop.ensures.prefix
 
 pub returns-in-Ok-write_timelines-clause-answered : goal.returns-in-Ok-write_timelines-clause-answered
 returns-in-Ok-write_timelines-clause-answered g c =
     let p = c.in-Ok.begun in
     timeline_done (λ (name : List ℕ). Rose (g.S.Shelf.faults c.args.shelf.now name) (g.S.Shelf.faults c.begin.new.shelf name))
-        (g.S.Shelf.content c.args.shelf.now) c.args.file.now c.args.starts.now (option_map (λ s. s.now) c.args.observer)
+    (g.S.Shelf.content c.args.shelf.now) c.args.file.now c.args.starts.now (option_map (λ s. s.now) c.args.observer)
     c.args.setting.env c.args.setting.budget p.compiled.typed.labelled p.compiled.observer p.compiled.image (map seen p.starts.items) c.in-Ok.ensures.ok
-        (g.W.Sink.taken c.args.out.now) (g.W.Sink.taken c.write_timelines.new.out)
+    (g.W.Sink.taken c.args.out.now) (g.W.Sink.taken c.write_timelines.new.out)
     c.in-Ok-write_timelines.ensures.text
 
 pub returns-in-Err-Memory-clause-answered : goal.returns-in-Err-Memory-clause-answered
 returns-in-Err-Memory-clause-answered g c =
     let p = c.in-Ok.begun in
     timeline_short (λ (name : List ℕ). Rose (g.S.Shelf.faults c.args.shelf.now name) (g.S.Shelf.faults c.begin.new.shelf name))
-        (g.S.Shelf.content c.args.shelf.now) c.args.file.now c.args.starts.now (option_map (λ s. s.now) c.args.observer)
+    (g.S.Shelf.content c.args.shelf.now) c.args.file.now c.args.starts.now (option_map (λ s. s.now) c.args.observer)
     c.args.setting.env c.args.setting.budget p.compiled.typed.labelled p.compiled.observer p.compiled.image (map seen p.starts.items) c.in-Ok.ensures.ok
-        (g.W.Sink.taken c.args.out.now) (g.W.Sink.taken c.write_timelines.new.out)
+    (g.W.Sink.taken c.args.out.now) (g.W.Sink.taken c.write_timelines.new.out)
     (g.W.Sink.taken c.finish.new.out) c.finish.result (c.write_timelines.ensures.some (cc)) c.finish.ensures.told c.finish.ensures.prefix
 
 pub returns-clause-answered : goal.returns-clause-answered
 returns-clause-answered g c =
     let p = c.in-Ok.begun in
     timeline_broke (λ (name : List ℕ). Rose (g.S.Shelf.faults c.args.shelf.now name) (g.S.Shelf.faults c.begin.new.shelf name))
-        (g.S.Shelf.content c.args.shelf.now) c.args.file.now c.args.starts.now (option_map (λ s. s.now) c.args.observer)
+    (g.S.Shelf.content c.args.shelf.now) c.args.file.now c.args.starts.now (option_map (λ s. s.now) c.args.observer)
     c.args.setting.env c.args.setting.budget p.compiled.typed.labelled p.compiled.observer p.compiled.image (map seen p.starts.items) c.in-Ok.ensures.ok
-        (g.W.Sink.taken c.args.out.now) (g.W.Sink.taken c.write_timelines.new.out)
+    (g.W.Sink.taken c.args.out.now) (g.W.Sink.taken c.write_timelines.new.out)
     (c.write_timelines.ensures.prefix (cc))
 
 pub returns-in-Err-clause-sound : goal.returns-in-Err-clause-sound

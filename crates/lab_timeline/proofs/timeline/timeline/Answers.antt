@@ -8,7 +8,7 @@ pub returns-clause-complete : goal.returns-clause-complete
 returns-clause-complete g c = λ can n m k.
     let observer = option_map (λ s. s.now) c.args.observer in
     begin_completes (λ (name : List ℕ). Rose (g.S.Shelf.faults c.args.shelf.now name) (g.S.Shelf.faults c.show.new.shelf name))
-        (g.S.Shelf.content c.args.shelf.now) c.args.file.now c.args.starts.now observer
+    (g.S.Shelf.content c.args.shelf.now) c.args.file.now c.args.starts.now observer
     (AreTimelines c.args.setting.env c.args.setting.budget) (g.W.Sink.taken c.args.out.now) (g.W.Sink.taken c.show.new.out)
     (TimelinesBefore (g.S.Shelf.content c.args.shelf.now) c.args.file.now c.args.starts.now observer c.args.setting.env c.args.setting.budget)
     c.show.result (Rose (g.W.Sink.faults c.args.out.now) (g.W.Sink.faults c.show.new.out)) c.show.ensures.answered c.show.ensures.write can n m k

@@ -25,5 +25,5 @@ write_runs-requires-clause-named g c = λ s ms fits h.
     let q = c.args.p.now.compiled.typed.labelled in
     let code = c.args.p.now.compiled.image in
     subst (λ (e : EnvName). IsTimed e c.args.setting.budget q.program.order code s
-        (timed_by flat_env code c.args.setting.budget (start_of flat_made q.program.order s) ms)) (sym c.in-Flat.is)
+    (timed_by flat_env code c.args.setting.budget (start_of flat_made q.program.order s) ms)) (sym c.in-Flat.is)
     (record { timeline = h; ends = refl })

@@ -29,7 +29,7 @@ pub loop-i-init : goal.loop-i-init
 loop-i-init g c = record {
   walking =
       walking_first c.args.setting.env c.args.setting.budget c.args.p.now.compiled.typed.labelled c.args.p.now.compiled.observer c.args.p.now.compiled.image
-          (map seen c.args.p.now.starts.items)
+      (map seen c.args.p.now.starts.items)
       c.args.listing.now.tallies.items c.requires.none (g.W.Sink.taken c.args.out.now);
   places = refl;
   later = omega arith;
@@ -39,7 +39,7 @@ pub write_run-requires-clause-start : goal.write_run-requires-clause-start
 write_run-requires-clause-start g c =
     let lt : c.loop-i.i < length c.as_slice-starts.result.now = omega arith in
     fits_here (IsFor c.args.p.now.compiled.typed.labelled.program) c.as_slice-starts.result.now c.args.p.now.starts.items c.loop-i.i c.index-starts-i.result
-        c.requires.fit.starts c.as_slice-starts.ensures.value lt c.index-starts-i.is
+    c.requires.fit.starts c.as_slice-starts.ensures.value lt c.index-starts-i.is
 
 pub returns-in-Err-clause-prefix : goal.returns-in-Err-clause-prefix
 returns-in-Err-clause-prefix g c = λ e.
@@ -51,11 +51,11 @@ returns-in-Err-clause-prefix g c = λ e.
     let same = c.as_slice-starts.ensures.value in
     let fits = fits_here (IsFor q.program) c.as_slice-starts.result.now items c.loop-i.i x c.requires.fit.starts same lt c.index-starts-i.is in
     walking_breaks c.args.setting.env c.args.setting.budget q c.args.p.now.compiled.observer c.args.p.now.compiled.image (map seen items) c.loop-i.i (seen x)
-        (within c.as_slice-starts.result.now items c.loop-i.i same lt)
+    (within c.as_slice-starts.result.now items c.loop-i.i same lt)
     (from_here c.as_slice-starts.result.now items c.loop-i.i x same lt c.index-starts-i.is) v (start_of g.M.MakeEnv.made q.program.order (seen x))
-        (λ ms. c.requires.named (seen x) ms fits)
+    (λ ms. c.requires.named (seen x) ms fits)
     (g.W.Sink.taken c.args.out.now) (g.W.Sink.taken c.loop-i.out) (g.W.Sink.taken c.write_run.new.out) c.loop-i.listing.tallies.items
-        c.loop-i.invariant.walking (c.in-Err.ensures.prefix e)
+    c.loop-i.invariant.walking (c.in-Err.ensures.prefix e)
 
 pub loop-i-preserved : goal.loop-i-preserved
 loop-i-preserved g c =
@@ -69,11 +69,11 @@ loop-i-preserved g c =
     record {
       walking =
           walking_next c.args.setting.env c.args.setting.budget q c.args.p.now.compiled.observer c.args.p.now.compiled.image (map seen items) c.loop-i.i
-              (seen x) (within c.as_slice-starts.result.now items c.loop-i.i same lt)
+          (seen x) (within c.as_slice-starts.result.now items c.loop-i.i same lt)
           (from_here c.as_slice-starts.result.now items c.loop-i.i x same lt c.index-starts-i.is) v (start_of g.M.MakeEnv.made q.program.order (seen x))
-              (λ ms. c.requires.named (seen x) ms fits)
+          (λ ms. c.requires.named (seen x) ms fits)
           (g.W.Sink.taken c.args.out.now) (g.W.Sink.taken c.loop-i.out) (g.W.Sink.taken c.write_run.new.out) c.loop-i.listing.tallies.items
-              c.write_run.new.listing.tallies.items c.loop-i.invariant.walking c.in-Ok.ensures.written c.write_run.ensures.grown c.requires.cycles.1;
+          c.write_run.new.listing.tallies.items c.loop-i.invariant.walking c.in-Ok.ensures.written c.write_run.ensures.grown c.requires.cycles.1;
       places = c.write_run.ensures.places ∙ c.loop-i.invariant.places;
       later = up_to _ _ _ c.loop-i.invariant.later c.write_run.ensures.later;
     }

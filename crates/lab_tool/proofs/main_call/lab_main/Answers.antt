@@ -16,22 +16,24 @@ use Rattle.lab_tool.proofs.main_call.lab_main.Goals as goal
 
 pub returns-in-Err-Usage-clause-usage : goal.returns-in-Err-Usage-clause-usage
 returns-in-Err-Usage-clause-usage g c =
-    λ e. ends_finish (g.W.Sink.taken c.args.out.now) (g.W.Sink.taken c.stop.new.out) Nothing IsUsage Usage lab_usage_text c.stop.result (refl,
-        refl) c.stop.ensures.told c.stop.ensures.prefix
+    λ e. ends_finish (g.W.Sink.taken c.args.out.now) (g.W.Sink.taken c.stop.new.out) Nothing IsUsage Usage lab_usage_text c.stop.result (
+      refl,
+      refl,
+    ) c.stop.ensures.told c.stop.ensures.prefix
 
 pub returns-in-Err-Memory-clause-answered : goal.returns-in-Err-Memory-clause-answered
 returns-in-Err-Memory-clause-answered g c =
     let content = g.S.Shelf.content c.args.shelf.now in
     let rises = λ (name : List ℕ). Rose (g.S.Shelf.faults c.args.shelf.now name) (g.S.Shelf.faults c.args.shelf.now name) in
     any_some (question_of (map string_bytes c.args.words.now))
-        (λ (a : Asked). EndsBy (g.W.Sink.taken c.args.out.now) (g.W.Sink.taken c.finish.new.out) (Before content a) (IsAnswer rises content a) c.finish.result)
+    (λ (a : Asked). EndsBy (g.W.Sink.taken c.args.out.now) (g.W.Sink.taken c.finish.new.out) (Before content a) (IsAnswer rises content a) c.finish.result)
     (λ a. ends_memory (g.W.Sink.taken c.args.out.now) (g.W.Sink.taken c.finish.new.out) (Before content a) (IsAnswer rises content a) c.finish.result
-        (nothing_before content a) c.finish.ensures.told c.finish.ensures.prefix)
+    (nothing_before content a) c.finish.ensures.told c.finish.ensures.prefix)
 
 pub returns-in-Err-Memory-clause-usage : goal.returns-in-Err-Memory-clause-usage
 returns-in-Err-Memory-clause-usage g c =
     λ e. ends_memory (g.W.Sink.taken c.args.out.now) (g.W.Sink.taken c.finish.new.out) Nothing IsUsage c.finish.result refl
-        c.finish.ensures.told c.finish.ensures.prefix
+    c.finish.ensures.told c.finish.ensures.prefix
 
 pub returns-in-Ok-clause-complete : goal.returns-in-Ok-clause-complete
 returns-in-Ok-clause-complete g c =
@@ -39,10 +41,10 @@ returns-in-Ok-clause-complete g c =
     let rises = λ (name : List ℕ). Rose (g.S.Shelf.faults c.args.shelf.now name) (g.S.Shelf.faults c.obey.new.shelf name) in
     asked_some (question_of (map string_bytes c.args.words.now)) (asked_of c.in-Ok.question)
     (λ (a : Asked). (s : Status) → CanEnd content a s → NoneRises rises a → (Rose (g.W.Sink.faults c.args.out.now) (g.W.Sink.faults c.obey.new.out) → ⊥)
-        → (c.obey.result ≡ s) ⊎ (c.obey.result ≡ Memory))
+    → (c.obey.result ≡ s) ⊎ (c.obey.result ≡ Memory))
     c.in-Ok.ensures.asked
     (completes (g.W.Sink.taken c.args.out.now) (g.W.Sink.taken c.obey.new.out) rises content (asked_of c.in-Ok.question) c.obey.result
-        (Rose (g.W.Sink.faults c.args.out.now) (g.W.Sink.faults c.obey.new.out)) c.obey.ensures.answered c.obey.ensures.write)
+    (Rose (g.W.Sink.faults c.args.out.now) (g.W.Sink.faults c.obey.new.out)) c.obey.ensures.answered c.obey.ensures.write)
 
 pub returns-in-Err-Memory-clause-complete : goal.returns-in-Err-Memory-clause-complete
 returns-in-Err-Memory-clause-complete g c =
@@ -50,5 +52,5 @@ returns-in-Err-Memory-clause-complete g c =
     let rises = λ (name : List ℕ). Rose (g.S.Shelf.faults c.args.shelf.now name) (g.S.Shelf.faults c.args.shelf.now name) in
     let risen = Rose (g.W.Sink.faults c.args.out.now) (g.W.Sink.faults c.finish.new.out) in
     any_some (question_of (map string_bytes c.args.words.now)) (λ (a : Asked). (s : Status) → CanEnd content a s → NoneRises rises a → (risen → ⊥)
-        → (c.finish.result ≡ s) ⊎ (c.finish.result ≡ Memory))
+    → (c.finish.result ≡ s) ⊎ (c.finish.result ≡ Memory))
     (λ a s can none n. inr (c.finish.ensures.told (λ e. n (c.finish.ensures.fault e))).0)

@@ -12,7 +12,7 @@ returns-in-None-clause-answered g c =
     let content = g.S.Shelf.content c.args.shelf.now in
     let rises = λ (name : List ℕ). Rose (g.S.Shelf.faults c.args.shelf.now name) (g.S.Shelf.faults c.why.new.shelf name) in
     let P = λ (x : Question). EndsBy (g.W.Sink.taken c.args.out.now) (g.W.Sink.taken c.why.new.out) (Before content (asked_of x))
-        (IsAnswer rises content (asked_of x)) c.why.result in
+    (IsAnswer rises content (asked_of x)) c.why.result in
     subst P (sym c.in-Why.is) (subst (λ (o : Option (Bor (List ℕ))). P (Why c.in-Why.file o)) (sym c.in-None.is) c.why.ensures.answered)
 
 pub returns-in-Some-clause-answered : goal.returns-in-Some-clause-answered
@@ -20,7 +20,7 @@ returns-in-Some-clause-answered g c =
     let content = g.S.Shelf.content c.args.shelf.now in
     let rises = λ (name : List ℕ). Rose (g.S.Shelf.faults c.args.shelf.now name) (g.S.Shelf.faults c.why_of.new.shelf name) in
     let P = λ (x : Question). EndsBy (g.W.Sink.taken c.args.out.now) (g.W.Sink.taken c.why_of.new.out) (Before content (asked_of x))
-        (IsAnswer rises content (asked_of x)) c.why_of.result in
+    (IsAnswer rises content (asked_of x)) c.why_of.result in
     subst P (sym c.in-Why.is) (subst (λ (o : Option (Bor (List ℕ))). P (Why c.in-Why.file o)) (sym c.in-Some.is) c.why_of.ensures.answered)
 
 pub returns-in-Seen-clause-answered : goal.returns-in-Seen-clause-answered
@@ -28,18 +28,18 @@ returns-in-Seen-clause-answered g c =
     let content = g.S.Shelf.content c.args.shelf.now in
     let rises = λ (name : List ℕ). Rose (g.S.Shelf.faults c.args.shelf.now name) (g.S.Shelf.faults c.seen.new.shelf name) in
     subst (λ (x : Question). EndsBy (g.W.Sink.taken c.args.out.now) (g.W.Sink.taken c.seen.new.out) (Before content (asked_of x))
-        (IsAnswer rises content (asked_of x)) c.seen.result) (sym c.in-Seen.is) c.seen.ensures.answered
+    (IsAnswer rises content (asked_of x)) c.seen.result) (sym c.in-Seen.is) c.seen.ensures.answered
 
 pub returns-in-Bound-clause-answered : goal.returns-in-Bound-clause-answered
 returns-in-Bound-clause-answered g c =
     let content = g.S.Shelf.content c.args.shelf.now in
     let rises = λ (name : List ℕ). Rose (g.S.Shelf.faults c.args.shelf.now name) (g.S.Shelf.faults c.bound.new.shelf name) in
     subst (λ (x : Question). EndsBy (g.W.Sink.taken c.args.out.now) (g.W.Sink.taken c.bound.new.out) (Before content (asked_of x))
-        (IsAnswer rises content (asked_of x)) c.bound.result) (sym c.in-Bound.is) c.bound.ensures.answered
+    (IsAnswer rises content (asked_of x)) c.bound.result) (sym c.in-Bound.is) c.bound.ensures.answered
 
 pub returns-in-Timeline-clause-answered : goal.returns-in-Timeline-clause-answered
 returns-in-Timeline-clause-answered g c =
     let content = g.S.Shelf.content c.args.shelf.now in
     let rises = λ (name : List ℕ). Rose (g.S.Shelf.faults c.args.shelf.now name) (g.S.Shelf.faults c.timeline.new.shelf name) in
     subst (λ (x : Question). EndsBy (g.W.Sink.taken c.args.out.now) (g.W.Sink.taken c.timeline.new.out) (Before content (asked_of x))
-        (IsAnswer rises content (asked_of x)) c.timeline.result) (sym c.in-Timeline.is) c.timeline.ensures.answered
+    (IsAnswer rises content (asked_of x)) c.timeline.result) (sym c.in-Timeline.is) c.timeline.ensures.answered

@@ -34,6 +34,6 @@ returns-in-Ok-refusal_text-clause-told g c =
       reads.0,
       inl (tells_reason _ c.in_ok-text.field-0.program c.in-Ok.labelled refusal.labelled refusal.fault refusal.chain.items reads.0 _ _ _
           (reads.1 ∙ sym c.as_slice-2.ensures.value) (list ∙ sym c.as_slice-3.ensures.value) c.in-Ok.ensures.program refused.0 c.in-Ok.ensures.least
-              c.in-Ok.ensures.types none refused.1 reason cheapest earliest
+          c.in-Ok.ensures.types none refused.1 reason cheapest earliest
           c.in-Ok-refusal_text.ensures),
     )

@@ -11,4 +11,4 @@ pub returns-in_err-name-clause-value : goal.returns-in_err-name-clause-value
 returns-in_err-name-clause-value c =
     let none : IsName c.args.word.now → ⊥ = λ h. false≢true (c.in_err-name.ensures.names.1 (rw c.as_bytes.ensures.value h)) in
     c.from_residual.ensures ∙ sym (ap (λ (z : Option (ℕ × Decl)). option_and_then (λ r. variable_at c.args.p.now r.0) z)
-        (unnamed c.args.p.now.declarations c.args.word.now c.laws.ensures.valid.names none))
+    (unnamed c.args.p.now.declarations c.args.word.now c.laws.ensures.valid.names none))

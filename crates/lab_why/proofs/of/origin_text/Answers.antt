@@ -13,7 +13,10 @@ returns-in-Ok-label_text-clause-text g c =
       inr (
         c.in-Some.spot,
         sym c.in-Some.ensures.value,
-        (refl, has_origins _ _ c.in-Ok.labelled reads.0 _ _ _ _ _ (reads.1 ∙ sym c.as_slice-2.ensures.value) (list ∙ sym c.as_slice-3.ensures.value)
-            c.in-Ok.ensures.program c.in-Ok.ensures.least c.in-Ok-label_text.ensures),
+        (
+          refl,
+          has_origins _ _ c.in-Ok.labelled reads.0 _ _ _ _ _ (reads.1 ∙ sym c.as_slice-2.ensures.value) (list ∙ sym c.as_slice-3.ensures.value)
+              c.in-Ok.ensures.program c.in-Ok.ensures.least c.in-Ok-label_text.ensures,
+        ),
       ),
     )

@@ -13,7 +13,7 @@ tell-requires g c =
     let content = g.S.Shelf.content c.args.shelf.now in
     let rises = λ (name : List ℕ). Rose (g.S.Shelf.faults c.args.shelf.now name) (g.S.Shelf.faults c.origin_text-made.new.shelf name) in
     no_fault (ComesFrom rises content c.args.file.now c.args.word.now) c.origin_text-made.result (comes_no_fault rises content c.args.file.now c.args.word.now)
-        c.origin_text-made.ensures.stop
+    c.origin_text-made.ensures.stop
 
 pub returns-clause-answered : goal.returns-clause-answered
 returns-clause-answered g c =
@@ -21,6 +21,6 @@ returns-clause-answered g c =
     let rises = λ (name : List ℕ). Rose (g.S.Shelf.faults c.args.shelf.now name) (g.S.Shelf.faults c.origin_text-made.new.shelf name) in
     let answer = ComesFrom rises content c.args.file.now c.args.word.now in
     ends_finish (g.W.Sink.taken c.args.out.now) (g.W.Sink.taken c.tell.new.out) Nothing (InLab answer) (told_status c.origin_text-made.result)
-        (lab_text (told_status c.origin_text-made.result) (told_text c.origin_text-made.result)) c.tell.result
+    (lab_text (told_status c.origin_text-made.result) (told_text c.origin_text-made.result)) c.tell.result
     (result_tells_in_lab answer c.origin_text-made.result c.origin_text-made.ensures.text c.origin_text-made.ensures.stop)
-        c.tell.ensures.told c.tell.ensures.prefix
+    c.tell.ensures.told c.tell.ensures.prefix

@@ -14,10 +14,10 @@ returns c = record {
       c.program-program.result.now c.lattice.result c.label_there.result
       c.as_bytes.result.now c.bytes.result.now c.as_slice-2.result.now c.extend_from_slice-5.new.self.items
       c.as_bytes.ensures.value (c.bytes.ensures.value ∙ c.name-name.ensures) c.lattice.ensures c.label_there.ensures.value c.program-program.ensures.program
-          c.as_slice.ensures.value (c.as_slice-2.ensures.value ∙ c.in_ok-lines.ensures)
+      c.as_slice.ensures.value (c.as_slice-2.ensures.value ∙ c.in_ok-lines.ensures)
       (of_five c.new-whole.result.items c.extend_from_slice.new.self.items c.extend_from_slice-2.new.self.items c.extend_from_slice-3.new.self.items
-          c.extend_from_slice-4.new.self.items c.extend_from_slice-5.new.self.items
+      c.extend_from_slice-4.new.self.items c.extend_from_slice-5.new.self.items
       c.as_bytes.result.now (codes " is ") c.bytes.result.now (codes "\n") c.as_slice-2.result.now
       c.new-whole.ensures.items c.in_ok-extend_from_slice.ensures.items c.in_ok-extend_from_slice-2.ensures.items c.in_ok-extend_from_slice-3.ensures.items
-          c.in_ok-extend_from_slice-4.ensures.items c.in_ok-extend_from_slice-5.ensures.items);
+      c.in_ok-extend_from_slice-4.ensures.items c.in_ok-extend_from_slice-5.ensures.items);
 }

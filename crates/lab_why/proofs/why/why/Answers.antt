@@ -13,20 +13,20 @@ use Rattle.lab_why.proofs.why.why.Goals as goal
 pub returns-in-Ok-Accepted-clause-answered : goal.returns-in-Ok-Accepted-clause-answered
 returns-in-Ok-Accepted-clause-answered g c =
     let answer = IsWhyAnswer (λ (name : List ℕ). Rose (g.S.Shelf.faults c.args.shelf.now name) (g.S.Shelf.faults c.explain.new.shelf name))
-        (g.S.Shelf.content c.args.shelf.now) c.args.file.now in
+    (g.S.Shelf.content c.args.shelf.now) c.args.file.now in
     ends_finish (g.W.Sink.taken c.args.out.now) (g.W.Sink.taken c.finish.new.out) Nothing answer Done c.bytes.result.now c.finish.result
     (subst (λ (t : List ℕ). answer Done t) (sym c.bytes.ensures) (subst (λ (z : Explained). answer (status_told z) (text_told z)) c.in-Ok-Accepted.field-0-is
-        c.in-Ok-Accepted.ensures.told)) c.finish.ensures.told c.finish.ensures.prefix
+    c.in-Ok-Accepted.ensures.told)) c.finish.ensures.told c.finish.ensures.prefix
 
 pub returns-in-Ok-Refused-clause-answered : goal.returns-in-Ok-Refused-clause-answered
 returns-in-Ok-Refused-clause-answered g c =
     let answer = IsWhyAnswer (λ (name : List ℕ). Rose (g.S.Shelf.faults c.args.shelf.now name) (g.S.Shelf.faults c.explain.new.shelf name))
-        (g.S.Shelf.content c.args.shelf.now) c.args.file.now in
+    (g.S.Shelf.content c.args.shelf.now) c.args.file.now in
     ends_finish (g.W.Sink.taken c.args.out.now) (g.W.Sink.taken c.finish-in-Ok-Refused.new.out) Nothing answer Refused c.as_slice.result.now
-        c.finish-in-Ok-Refused.result
+    c.finish-in-Ok-Refused.result
     (subst (λ (t : List ℕ). answer Refused t) (sym c.as_slice.ensures.value)
-        (subst (λ (z : Explained). answer (status_told z) (text_told z)) c.in-Ok-Refused.field-0-is c.in-Ok-Refused.ensures.told))
-        c.finish-in-Ok-Refused.ensures.told c.finish-in-Ok-Refused.ensures.prefix
+    (subst (λ (z : Explained). answer (status_told z) (text_told z)) c.in-Ok-Refused.field-0-is c.in-Ok-Refused.ensures.told))
+    c.finish-in-Ok-Refused.ensures.told c.finish-in-Ok-Refused.ensures.prefix
 
 pub returns-in-Err-clause-answered : goal.returns-in-Err-clause-answered
 returns-in-Err-clause-answered g c =
@@ -34,5 +34,5 @@ returns-in-Err-clause-answered g c =
     let content = g.S.Shelf.content c.args.shelf.now in
     let e = c.in-Err.e in
     ends_stop (g.W.Sink.taken c.args.out.now) (g.W.Sink.taken c.stop.new.out) Nothing (ProgramStops (rises c.args.file.now) (content c.args.file.now))
-        (IsWhyAnswer rises content c.args.file.now)
+    (IsWhyAnswer rises content c.args.file.now)
     (status_of e) (stop_text e) c.stop.result refl (λ t h. inl h) c.in-Err.ensures.stop c.stop.ensures.told c.stop.ensures.prefix

@@ -6,4 +6,4 @@ use Rattle.label_infer.proofs.first.+levels.Given as goal
 abbrev pub invariant-list_levels-loop-c : goal.invariant-list_levels-loop-c
 invariant-list_levels-loop-c l =
     l.fn.found.items ++ first_levels l.bottom.number (list_plan l.commands) ≡ l.found.items
-        ++ first_levels l.bottom.number (list_plan (drop l.c-index l.commands))
+    ++ first_levels l.bottom.number (list_plan (drop l.c-index l.commands))

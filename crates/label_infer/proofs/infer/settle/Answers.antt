@@ -31,8 +31,11 @@ loop-preserved g c =
     let s = c.take_up.ensures.steps c.loop-test.true in
     record {
       work = still_work p valid c.loop.work c.take_up.new.self t.0 t.1 h t.2;
-      within = (1 + used, omega (arith, is, s),
-          λ k upto. still_within p valid c.loop.work c.take_up.new.self t.0 t.1 k used h t.2 upto (c.loop.invariant.within.2 k upto));
+      within = (
+        1 + used,
+        omega (arith, is, s),
+        λ k upto. still_within p valid c.loop.work c.take_up.new.self t.0 t.1 k used h t.2 upto (c.loop.invariant.within.2 k upto),
+      );
     }
 
 pub returns-clause-steps : goal.returns-clause-steps

@@ -14,10 +14,10 @@ returns c =
     let le = left_side_of c.args.le.now in
     let li = left_side_of c.args.li.now in
     let context = both_is lat (left_side_of c.in_ok-value.value) (both lat le li) pc pc (left_side_of c.in_ok-context.context) c.in_ok-context.ensures
-        c.in_ok-value.ensures refl in
+    c.in_ok-value.ensures refl in
     let time = both_is lat (left_side_of c.in_ok-context.context) (both lat (both lat le li) pc) t t (left_side_of c.in_ok-time.time)
-        c.in_ok-time.ensures context refl in
+    c.in_ok-time.ensures context refl in
     if_ok c.both-5.result
     (λ f h. both_is lat (left_side_of c.in_ok-time.time) (both lat (both lat (both lat le li) pc) t) (left_side_of c.own-er.result)
-        (own_of o (both lat pc li)) (left_side_of f) h time
+    (own_of o (both lat pc li)) (left_side_of f) h time
     (c.own-er.ensures ∙ ap (own_of o) c.in_ok-here.ensures)) c.both-5.ensures

@@ -39,9 +39,9 @@ filled : (l m n o p : List Declaration) (a b c h : List ℕ) → l ≡ [] → m 
 filled l m n o p a b c h el em en eo ep ea eb ec eh =
     let fm : m ≡ (97 ∷ [], free) ∷ [] = em ∙ ap (λ z. insert_entry bytes_eq z a free) el ∙ ap (λ z. insert_entry bytes_eq [] z free) ea in
     let fn : n ≡ (97 ∷ [], free) ∷ (98 ∷ [], free) ∷ [] =
-        en ∙ ap (λ z. insert_entry bytes_eq z b free) fm ∙ ap (λ z. insert_entry bytes_eq ((97 ∷ [], free) ∷ []) z free) eb in
+    en ∙ ap (λ z. insert_entry bytes_eq z b free) fm ∙ ap (λ z. insert_entry bytes_eq ((97 ∷ [], free) ∷ []) z free) eb in
     let fo : o ≡ (97 ∷ [], free) ∷ (98 ∷ [], free) ∷ (99 ∷ [], free) ∷ [] =
-        eo ∙ ap (λ z. insert_entry bytes_eq z c free) fn ∙ ap (λ z. insert_entry bytes_eq ((97 ∷ [], free) ∷ (98 ∷ [], free) ∷ []) z free) ec in
+    eo ∙ ap (λ z. insert_entry bytes_eq z c free) fn ∙ ap (λ z. insert_entry bytes_eq ((97 ∷ [], free) ∷ (98 ∷ [], free) ∷ []) z free) ec in
     ep ∙ ap (λ z. insert_entry bytes_eq z h high) fo ∙ ap (λ z. insert_entry bytes_eq ((97 ∷ [], free) ∷ (98 ∷ [], free) ∷ (99 ∷ [], free) ∷ []) z high) eh
 
 planned : (xs : List Command) (x y z : Command) → xs ≡ x ∷ y ∷ z ∷ [] → ((rest : Plan) → command_plan x rest ≡ Assign (at 42) 2 (Variable 1) rest)
@@ -100,32 +100,42 @@ of-requires c =
     c.in_ok-insert.ensures.entries c.in_ok-insert-2.ensures.entries c.in_ok-insert-3.ensures.entries c.in_ok-insert-4.ensures.entries
     c.requires.a c.requires.b c.requires.c c.requires.h in
     let q = planned c.in_ok-body.body.items c.copy.result c.copy-2.result c.copy-3.result c.in_ok-body.ensures.items c.copy.ensures
-        c.copy-2.ensures c.copy-3.ensures in
+    c.copy-2.ensures c.copy-3.ensures in
     let name : (w v : List ℕ) → w ≡ v → IsName w → IsName v = λ w v i h. subst IsName i h in
     record {
-      pairs = subst (λ z. AreBelow n z) (sym ps) (all_one (λ (p : Label × Label). (p.0.number < n) × (p.1.number < n)) (record { number = 0 },
-          record { number = 1 }) (omega (arith, size), omega (arith, size)));
+      pairs = subst (λ z. AreBelow n z) (sym ps) (all_one (λ (p : Label × Label). (p.0.number < n) × (p.1.number < n)) (
+        record { number = 0 },
+        record { number = 1 },
+      ) (omega (arith, size), omega (arith, size)));
       flows = λ a b ha hb. subst (λ z. Flows (lattice_of c.args.order) a b ↔ Chain z a b) (sym ps)
           (c.requires.flows a b (omega (arith, ha, size)) (omega (arith, hb, size)));
       order = c.laws.ensures.order;
       few = subst AreFew (sym e) (record { count = omega arith; elements = omega arith });
-      names = subst (λ z. All (λ (d : Declaration). IsName d.0) z) (sym e) (all_four (λ (d : Declaration). IsName d.0) (97 ∷ [], free) (98 ∷ [],
-          free) (99 ∷ [], free) (104 ∷ [], high)
+      names = subst (λ z. All (λ (d : Declaration). IsName d.0) z) (sym e) (all_four (λ (d : Declaration). IsName d.0) (97 ∷ [], free) (
+        98 ∷ [],
+        free,
+      ) (99 ∷ [], free) (104 ∷ [], high)
           (name c.args.a (97 ∷ []) c.requires.a c.laws-2.ensures)
           (name c.args.b (98 ∷ []) c.requires.b c.laws-3.ensures)
           (name c.args.c (99 ∷ []) c.requires.c c.laws-4.ensures)
           (name c.args.h (104 ∷ []) c.requires.h c.laws-5.ensures));
       differ = subst (λ z. AllDiffer (map (λ (d : Declaration). d.0) z)) (sym e) all_apart;
-      labels = subst (λ z. All (λ (d : Declaration). IsBelow n d.1.label) z) (sym e) (all_four (λ (d : Declaration). IsBelow n d.1.label) (97 ∷ [],
-          free) (98 ∷ [], free) (99 ∷ [], free) (104 ∷ [], high) tt tt tt (omega (arith, size)));
-      arrays = subst AreShaped (sym e) (all_four (λ (d : Declaration). IsShaped d.1.label d.1.length) (97 ∷ [], free) (98 ∷ [], free) (99 ∷ [],
-          free) (104 ∷ [], high) tt tt tt tt);
+      labels = subst (λ z. All (λ (d : Declaration). IsBelow n d.1.label) z) (sym e) (all_four (λ (d : Declaration). IsBelow n d.1.label) (
+        97 ∷ [],
+        free,
+      ) (98 ∷ [], free) (99 ∷ [], free) (104 ∷ [], high) tt tt tt (omega (arith, size)));
+      arrays = subst AreShaped (sym e) (all_four (λ (d : Declaration). IsShaped d.1.label d.1.length) (97 ∷ [], free) (98 ∷ [], free) (
+        99 ∷ [],
+        free,
+      ) (104 ∷ [], high) tt tt tt tt);
       some = subst AreSome (sym q) tt;
       count = subst (λ z. count z ≤ 2147483647) (sym q) (omega arith);
       known = subst (λ z. AreKnown n z (list_plan c.in_ok-body.body.items)) (sym e) (subst (λ z. AreKnown n scalars z) (sym q) (known n));
       numbered = subst (λ z. AreNumbered 0 z) (sym q) tt;
-      small = subst (λ z. AreSmall 0 z) (sym q) (record { depth = omega arith; operators = omega arith },
-          (record { depth = omega arith; operators = omega arith }, (record { depth = omega arith; operators = omega arith }, tt)));
+      small = subst (λ z. AreSmall 0 z) (sym q) (
+        record { depth = omega arith; operators = omega arith },
+        (record { depth = omega arith; operators = omega arith }, (record { depth = omega arith; operators = omega arith }, tt)),
+      );
     }
 
 pub returns : goal.returns

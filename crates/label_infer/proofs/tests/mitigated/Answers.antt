@@ -42,8 +42,14 @@ of-requires c =
       arrays = search rules;
       some = subst (λ z. AreSome z) (sym q) tt;
       count = subst (λ z. count z ≤ 2147483647) (sym q) (omega arith);
-      known = subst (λ z. AreKnown c.args.lattice.size c.new.result.entries z) (sym q) (tt, tt, omega arith, tt,
-          ((omega (arith, c.requires.size), omega (arith, c.requires.size)), tt), tt);
+      known = subst (λ z. AreKnown c.args.lattice.size c.new.result.entries z) (sym q) (
+        tt,
+        tt,
+        omega arith,
+        tt,
+        ((omega (arith, c.requires.size), omega (arith, c.requires.size)), tt),
+        tt,
+      );
       numbered = subst (λ z. AreNumbered 0 z) (sym q) (refl, tt, tt);
       small = subst (λ z. AreSmall 0 z) (sym q) (record { depth = omega arith; operators = omega arith }, tt, tt);
     }

@@ -9,4 +9,4 @@ returns c =
     let b = c.args.b.number in
     if_ok c.of_row.result
     (λ s h. h ∙ c.with-2.ensures ∙ ap (λ (f : ℕ → Bool). λ y. f y || eqb b y) c.with.ensures
-        ∙ ap (λ (f : ℕ → Bool). λ y. (f y || eqb a y) || eqb b y) c.empty.ensures) c.of_row.ensures
+    ∙ ap (λ (f : ℕ → Bool). λ y. (f y || eqb a y) || eqb b y) c.empty.ensures) c.of_row.ensures

@@ -14,4 +14,4 @@ returns-clause-told c p t =
     let within : i < length rows = search rules in
     let there : slice_get rows i ≡ Some r = slice_get_read rows (length rows) i r refl within c.index-holders-l.is in
     subst (λ n. Tell (slice_set rows i c.without.result) (less_of p n c.args.x)) c.from-l.ensures
-        (tell_less rows p i c.args.x r c.without.result there c.without.ensures t)
+    (tell_less rows p i c.args.x r c.without.result there c.without.ensures t)

@@ -10,7 +10,7 @@ loop-a-init c = diagonal_is _ c.diagonal-flows.ensures
 pub bounds-flows-x : goal.bounds-flows-x
 bounds-flows-x c =
     let b = step_below c.args.pairs.now c.loop-a.a-index c.from-x.result c.from-y.result c.loop-a.flows c.loop-a.invariant c.requires c.loop-a-test.true
-        c.from-x.ensures c.from-y.ensures in
+    c.from-x.ensures c.from-y.ensures in
     omega (arith, b.0, b.1)
 
 pub with_pair-flows-requires-clause-x : goal.with_pair-flows-requires-clause-x

@@ -30,7 +30,7 @@ loop-k-preserved c =
     let so = c.loop-k.invariant in
     let new = is_new o l ds c.loop-k.k c.loop-k.first c.loop-k.table.entries so d at c.requires in
     let next = next_put o l ds c.loop-k.k c.loop-k.first c.loop-k.table.entries so d at (c.loop-k.first + c.size_of-first.result)
-        (ap (λ n. c.loop-k.first + n) c.size_of-first.ensures) in
+    (ap (λ n. c.loop-k.first + n) c.size_of-first.ensures) in
     subst (λ (es : List Declaration). PutSoFar o l ds (c.loop-k.k + 1) (c.loop-k.first + c.size_of-first.result) es)
     (sym
     (c.in_ok-insert.ensures.entries

@@ -41,7 +41,7 @@ make-requires g c =
     let first_is = sym (get_or_from_slice_get c.args.starts.now 0 first first (sym c.in-Some.ensures.value)) in
     let order = c.lattice-lattice.ensures ∙ ap (λ z. z.order) c.program.ensures.program in
     touches_below p.program c.lattice-lattice.result first c.as_slice.result.now
-        (All-seen (IsFor p.program) c.args.starts.now 0 first c.requires.starts some first_is) order c.as_slice.ensures.value
+    (All-seen (IsFor p.program) c.args.starts.now 0 first c.requires.starts some first_is) order c.as_slice.ensures.value
 
 pub make-requires-in-loop-i : goal.make-requires-in-loop-i
 make-requires-in-loop-i g c =
@@ -49,8 +49,8 @@ make-requires-in-loop-i g c =
     let order = c.lattice-lattice.ensures ∙ ap (λ z. z.order) c.program.ensures.program in
     let lt : c.loop-i.i < length c.args.starts.now = omega arith in
     touches_below p.program c.lattice-lattice.result c.index-starts-i.result c.as_slice-in-loop-i.result.now
-        (All-seen (IsFor p.program) c.args.starts.now c.loop-i.i c.index-starts-i.result c.requires.starts lt c.index-starts-i.is) order
-        c.as_slice-in-loop-i.ensures.value
+    (All-seen (IsFor p.program) c.args.starts.now c.loop-i.i c.index-starts-i.result c.requires.starts lt c.index-starts-i.is) order
+    c.as_slice-in-loop-i.ensures.value
 
 pub first_difference-requires-clause-one : goal.first_difference-requires-clause-one
 first_difference-requires-clause-one g c =
@@ -67,7 +67,7 @@ first_difference-requires-clause-other g c =
     let p = c.args.p.now in
     let lt : c.loop-i.i < length c.args.starts.now = omega arith in
     ap length c.as_slice-two.ensures.value
-        ∙ (All-seen (IsFor p.program) c.args.starts.now c.loop-i.i c.index-starts-i.result c.requires.starts lt c.index-starts-i.is).memory
+    ∙ (All-seen (IsFor p.program) c.args.starts.now c.loop-i.i c.index-starts-i.result c.requires.starts lt c.index-starts-i.is).memory
 
 pub returns-in-Some-first_difference-clause-differ : goal.returns-in-Some-first_difference-clause-differ
 returns-in-Some-first_difference-clause-differ g c =
@@ -85,15 +85,15 @@ returns-in-Some-first_difference-clause-differ g c =
     let two = started g.M.MakeEnv.made _ _ start _ _ _ order c.as_slice-two.ensures.value c.as_slice-in-loop-i.ensures.value c.in_ok-other.ensures.value in
     let w = c.in-Some-first_difference.what in
     let d : IsFirstDifference v p c.args.observer.number (start_of g.M.MakeEnv.made p.program.order (seen first))
-        (start_of g.M.MakeEnv.made p.program.order (seen start)) w =
+    (start_of g.M.MakeEnv.made p.program.order (seen start)) w =
     subst (λ z. IsFirstDifference v p c.args.observer.number (start_of g.M.MakeEnv.made p.program.order (seen first)) z w) two
     (subst (λ z. IsFirstDifference v p c.args.observer.number z (record { memory = c.as_slice-two.result.now; env = c.in_ok-other.other }) w) one
-        c.in-Some-first_difference.ensures) in
+    c.in-Some-first_difference.ensures) in
     disagrees v g.E.MachineEnv.serves p c.args.observer.number (start_of g.M.MakeEnv.made p.program.order (seen first)) ss (drop (0 + 1) ss) (c.loop-i.i + 1) w
-        (starts-from g.M.MakeEnv.made p.program.order c.args.starts.now 0 first some first_is)
+    (starts-from g.M.MakeEnv.made p.program.order c.args.starts.now 0 first some first_is)
     (apart_here v g.E.MachineEnv.serves p c.args.observer.number (start_of g.M.MakeEnv.made p.program.order (seen first))
-        (start_of g.M.MakeEnv.made p.program.order (seen start)) ss (drop c.loop-i.i ss) (drop (c.loop-i.i + 1) ss)
-        (c.loop-i.i + 1) w from c.loop-i.invariant d)
+    (start_of g.M.MakeEnv.made p.program.order (seen start)) ss (drop c.loop-i.i ss) (drop (c.loop-i.i + 1) ss)
+    (c.loop-i.i + 1) w from c.loop-i.invariant d)
 
 pub loop-i-preserved : goal.loop-i-preserved
 loop-i-preserved g c =
@@ -110,18 +110,18 @@ loop-i-preserved g c =
     let one = started g.M.MakeEnv.made _ _ first _ _ _ order c.as_slice-one.ensures.value c.as_slice.ensures.value c.in_ok-env.ensures.value in
     let two = started g.M.MakeEnv.made _ _ start _ _ _ order c.as_slice-two.ensures.value c.as_slice-in-loop-i.ensures.value c.in_ok-other.ensures.value in
     let same = none_case c.first_difference.result
-        (AgreeFor v g.E.MachineEnv.serves p c.args.observer.number (record { memory = c.as_slice-one.result.now; env = c.in_ok-env.env })
-        (record { memory = c.as_slice-two.result.now; env = c.in_ok-other.other }))
-        (IsFirstDifference v p c.args.observer.number (record { memory = c.as_slice-one.result.now; env = c.in_ok-env.env })
-        (record { memory = c.as_slice-two.result.now; env = c.in_ok-other.other })) c.first_difference.ensures c.in_default-first_difference.not-Some in
+    (AgreeFor v g.E.MachineEnv.serves p c.args.observer.number (record { memory = c.as_slice-one.result.now; env = c.in_ok-env.env })
+    (record { memory = c.as_slice-two.result.now; env = c.in_ok-other.other }))
+    (IsFirstDifference v p c.args.observer.number (record { memory = c.as_slice-one.result.now; env = c.in_ok-env.env })
+    (record { memory = c.as_slice-two.result.now; env = c.in_ok-other.other })) c.first_difference.ensures c.in_default-first_difference.not-Some in
     let a : AgreeFor v g.E.MachineEnv.serves p c.args.observer.number (start_of g.M.MakeEnv.made p.program.order (seen first))
-        (start_of g.M.MakeEnv.made p.program.order (seen start)) =
+    (start_of g.M.MakeEnv.made p.program.order (seen start)) =
     subst (λ z. AgreeFor v g.E.MachineEnv.serves p c.args.observer.number (start_of g.M.MakeEnv.made p.program.order (seen first)) z) two
     (subst (λ z. AgreeFor v g.E.MachineEnv.serves p c.args.observer.number z (record { memory = c.as_slice-two.result.now; env = c.in_ok-other.other })) one
-        same) in
+    same) in
     agree_more v g.E.MachineEnv.serves p c.args.observer.number (start_of g.M.MakeEnv.made p.program.order (seen first))
-        (start_of g.M.MakeEnv.made p.program.order (seen start)) ss (drop c.loop-i.i ss) (drop (c.loop-i.i + 1) ss) (c.loop-i.i + 1) (c.loop-i.i + 1 + 1)
-        refl from c.loop-i.invariant a
+    (start_of g.M.MakeEnv.made p.program.order (seen start)) ss (drop c.loop-i.i ss) (drop (c.loop-i.i + 1) ss) (c.loop-i.i + 1) (c.loop-i.i + 1 + 1)
+    refl from c.loop-i.invariant a
 
 pub returns-clause-agree : goal.returns-clause-agree
 returns-clause-agree g c =

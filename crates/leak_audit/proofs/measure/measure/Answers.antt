@@ -12,7 +12,7 @@ few_digits t some small =
     let d = digits_is t some in
     ⊎_elim
     (λ (lt : 40 < d.0). let up : 41 ≤ d.0 = omega arith in let two : 0 < 2 = omega arith in
-        absurd (omega (arith, pow-le-pow_right {n = 2} two {i = 41} {j = d.0} up, d.3)))
+    absurd (omega (arith, pow-le-pow_right {n = 2} two {i = 41} {j = d.0} up, d.3)))
     (λ (le : d.0 ≤ 40). omega (arith, d.1))
     (cases_lt 40 d.0)
 

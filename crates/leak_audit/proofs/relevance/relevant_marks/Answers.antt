@@ -24,14 +24,14 @@ loop-mark-preserved c =
     let p = c.args.p.now in
     let rel = relevance_by p c.args.observer.number in
     let order = c.lattice-lattice.ensures
-        ∙ (ap (λ z. z.order) c.program-program.ensures.program ∙ ap (λ z. z.program.order) c.labelled-labelled.ensures.labelled) in
+    ∙ (ap (λ z. z.order) c.program-program.ensures.program ∙ ap (λ z. z.program.order) c.labelled-labelled.ensures.labelled) in
     let low = flow _ _ _ _ c.args.observer.number _ c.flows-begins_low.ensures (ap lattice_of order) c.mitigate_pc.ensures.value in
     let one : c.if-begins_low.push ≡ rel c.loop-mark.mark =
     elim c.if-begins_low.branch [
       | then-begins_low w ↦
           told_then _ _ _ _ _ low w.if-begins_low.true
           (flow _ _ _ _ c.args.observer.number _ w.flows.ensures (ap lattice_of order) (w.level.ensures.value
-              ∙ ap (λ z. level_of z.program.order z.labels c.loop-mark.mark) c.labelled-labelled.ensures.labelled))
+          ∙ ap (λ z. level_of z.program.order z.labels c.loop-mark.mark) c.labelled-labelled.ensures.labelled))
           w.push-is
       | else-begins_low w ↦ told_else _ _ _ _ low w.if-begins_low.false (w.push-is ∙ w.if-begins_low.false)
     ] in
@@ -51,4 +51,4 @@ returns c =
     let all : c.loop-mark.mark ≡ c.mitigates-count.result = omega arith in
     c.loop-mark.invariant
     ∙ all_marks p c.args.observer.number c.loop-mark.mark lattice valid kept c.labelled-labelled.ensures.typed
-        c.labelled-labelled.ensures.contexts (all ∙ count)
+    c.labelled-labelled.ensures.contexts (all ∙ count)

@@ -25,7 +25,7 @@ loop-i-init g c =
     let ss = starts_of g.M.MakeEnv.made c.args.p.now.program.order (map seen c.args.starts.now) in
     let none = c.in_ok-survey.ensures in
     none_surveyed v c.args.p.now c.args.request.now.observer.number c.args.request.now.limit c.args.request.now.must_halt ss 1 c.in_ok-survey.survey refl
-        none.0 none.1 none.2 none.3 none.4
+    none.0 none.1 none.2 none.3 none.4
 
 pub observe_start-requires-clause-start : goal.observe_start-requires-clause-start
 observe_start-requires-clause-start g c =
@@ -40,9 +40,9 @@ returns-in_err-take-clause-fault g c =
     let from = starts-from g.M.MakeEnv.made c.args.p.now.program.order c.args.starts.now c.loop-i.i c.index-starts-i.result lt c.index-starts-i.is in
     same_fault c.from_residual-in_err-take.result c.in_err-take.field-0.0 _ c.from_residual-in_err-take.ensures.1
     (refuses v c.args.p.now c.args.request.now.observer.number c.args.request.now.limit c.args.request.now.must_halt ss
-        (start_of g.M.MakeEnv.made c.args.p.now.program.order (seen c.index-starts-i.result)) (drop c.loop-i.i ss) (drop (c.loop-i.i + 1) ss) (c.loop-i.i + 1)
+    (start_of g.M.MakeEnv.made c.args.p.now.program.order (seen c.index-starts-i.result)) (drop c.loop-i.i ss) (drop (c.loop-i.i + 1) ss) (c.loop-i.i + 1)
     c.loop-i.survey from c.loop-i.invariant c.in_ok-seen.seen c.args.request.now.relevant.now c.requires.relevant c.in_ok-seen.ensures c.in_err-take.field-0.0
-        c.in_err-take.ensures.refuses)
+    c.in_err-take.ensures.refuses)
 
 pub loop-i-preserved : goal.loop-i-preserved
 loop-i-preserved g c =
@@ -51,14 +51,14 @@ loop-i-preserved g c =
     let lt : c.loop-i.i < length c.args.starts.now = omega arith in
     let from = starts-from g.M.MakeEnv.made c.args.p.now.program.order c.args.starts.now c.loop-i.i c.index-starts-i.result lt c.index-starts-i.is in
     one_surveyed v c.args.p.now c.args.request.now.observer.number c.args.request.now.limit c.args.request.now.must_halt ss
-        (start_of g.M.MakeEnv.made c.args.p.now.program.order (seen c.index-starts-i.result)) (drop c.loop-i.i ss) (drop (c.loop-i.i + 1) ss) (c.loop-i.i + 1)
+    (start_of g.M.MakeEnv.made c.args.p.now.program.order (seen c.index-starts-i.result)) (drop c.loop-i.i ss) (drop (c.loop-i.i + 1) ss) (c.loop-i.i + 1)
     c.loop-i.survey from c.loop-i.invariant c.in_ok-seen.seen c.args.request.now.relevant.now c.requires.relevant c.in_ok-seen.ensures (c.loop-i.i + 1 + 1)
-        c.take.new.self refl c.in_ok-take.ensures.takes
+    c.take.new.self refl c.in_ok-take.ensures.takes
 
 pub take-requires-clause-kinds : goal.take-requires-clause-kinds
 take-requires-clause-kinds g c =
     let v : Env g.row.E.Denot = g.E.MachineEnv.env in
     let ss = starts_of g.M.MakeEnv.made c.args.p.now.program.order (map seen c.args.starts.now) in
     let below = kinds_below v c.args.p.now c.args.request.now.observer.number c.args.request.now.limit c.args.request.now.must_halt ss (drop c.loop-i.i ss)
-        (c.loop-i.i + 1) c.loop-i.survey c.loop-i.invariant in
+    (c.loop-i.i + 1) c.loop-i.survey c.loop-i.invariant in
     omega (arith, below)

@@ -22,8 +22,8 @@ pub run_levels-requires-clause-ends : goal.run_levels-requires-clause-ends
 run_levels-requires-clause-ends c =
     let p : Syntax = c.args.p.now.labelled.program in
     let h : HasEnded (plan_of p) c.index-starts-0.result.memory.items c.args.steps =
-        All-seen (λ (s : StartValue). HasEnded (plan_of p) s.memory c.args.steps) c.args.starts.now 0 c.index-starts-0.result c.requires.ends
-        c.requires.some c.index-starts-0.is in
+    All-seen (λ (s : StartValue). HasEnded (plan_of p) s.memory c.args.steps) c.args.starts.now 0 c.index-starts-0.result c.requires.ends
+    c.requires.some c.index-starts-0.is in
     let m = c.as_slice-memory.ensures.value ∙ ap (λ (s : Start). s.memory.items) (sym c.index-starts-0.is) in
     subst (λ (z : LabelledProgram). HasEnded (plan_of z.program) c.as_slice-memory.result.now c.args.steps) (sym c.labelled-labelled.ensures.labelled)
     (subst (λ (z : List ℤ). HasEnded (plan_of p) z c.args.steps) (sym m) h)
@@ -34,11 +34,14 @@ loop-i-init c =
     let m = c.as_slice-memory.ensures.value ∙ ap (λ (s : Start). s.memory.items) (sym c.index-starts-0.is) in
     let run : AreTold q c.args.observer.number (c.as_slice-memory.result.now ∷ []) c.in_ok-levels.levels.items =
     told_same c.labelled-labelled.result.now q c.deref.result.now c.in_ok-relevant.relevant.items (c.as_slice-memory.result.now ∷ [])
-        c.in_ok-levels.levels.items c.labelled-labelled.ensures.labelled
+    c.in_ok-levels.levels.items c.labelled-labelled.ensures.labelled
     c.in_ok-levels.ensures c.deref.ensures.value c.args.observer.number c.in_ok-relevant.ensures in
-    record { from = omega arith; told =
-        told_one q c.args.observer.number c.args.starts.now c.index-starts-0.result c.as_slice-memory.result.now c.in_ok-levels.levels.items
-        c.requires.some c.index-starts-0.is m run }
+    record {
+      from = omega arith;
+      told =
+          told_one q c.args.observer.number c.args.starts.now c.index-starts-0.result c.as_slice-memory.result.now c.in_ok-levels.levels.items
+          c.requires.some c.index-starts-0.is m run;
+    }
 
 pub run_levels-requires-in-loop-i-clause-long : goal.run_levels-requires-in-loop-i-clause-long
 run_levels-requires-in-loop-i-clause-long c =
@@ -53,8 +56,8 @@ run_levels-requires-in-loop-i-clause-ends c =
     let p : Syntax = c.args.p.now.labelled.program in
     let lt : c.loop-i.i < length c.args.starts.now = c.loop-i-test.true in
     let h : HasEnded (plan_of p) c.index-starts-i.result.memory.items c.args.steps =
-        All-seen (λ (s : StartValue). HasEnded (plan_of p) s.memory c.args.steps) c.args.starts.now c.loop-i.i c.index-starts-i.result
-        c.requires.ends lt c.index-starts-i.is in
+    All-seen (λ (s : StartValue). HasEnded (plan_of p) s.memory c.args.steps) c.args.starts.now c.loop-i.i c.index-starts-i.result
+    c.requires.ends lt c.index-starts-i.is in
     let m = c.as_slice-memory-in-loop-i.ensures.value ∙ ap (λ (s : Start). s.memory.items) (sym c.index-starts-i.is) in
     subst (λ (z : LabelledProgram). HasEnded (plan_of z.program) c.as_slice-memory-in-loop-i.result.now c.args.steps) (sym c.labelled-labelled.ensures.labelled)
     (subst (λ (z : List ℤ). HasEnded (plan_of p) z c.args.steps) (sym m) h)
@@ -68,7 +71,7 @@ loop-i-preserved c =
     let run : AreTold q c.args.observer.number (c.as_slice-memory-in-loop-i.result.now ∷ []) c.deref-in-loop-i-3.result.now =
     subst (AreTold q c.args.observer.number (c.as_slice-memory-in-loop-i.result.now ∷ [])) (sym c.deref-in-loop-i-3.ensures.value)
     (told_same c.labelled-labelled.result.now q c.deref-in-loop-i.result.now c.in_ok-relevant.relevant.items (c.as_slice-memory-in-loop-i.result.now ∷ [])
-        c.in_ok-run.run'.items c.labelled-labelled.ensures.labelled
+    c.in_ok-run.run'.items c.labelled-labelled.ensures.labelled
     c.in_ok-run.ensures c.deref-in-loop-i.ensures.value c.args.observer.number c.in_ok-relevant.ensures) in
     record {
       from = omega arith;

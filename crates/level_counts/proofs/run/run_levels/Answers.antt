@@ -14,9 +14,9 @@ pub loop-taken-init : goal.loop-taken-init
 loop-taken-init c =
     let made : c.in_ok-levels.levels.items ≡ replicate c.size.result none = search rules in
     going_begin (λ k. slice_index_or c.args.relevant.now k false) (levels_of c.args.p.now) c.args.p.now.program c.args.memory.now c.program-program.result.now
-        c.in_ok-walker.walker c.in_ok-memory.memory.items c.in_ok-levels.levels.items
+    c.in_ok-walker.walker c.in_ok-memory.memory.items c.in_ok-levels.levels.items
     c.program-program.ensures.program c.laws.ensures.valid c.in_ok-walker.ensures c.in_ok-memory.ensures.items c.requires.long
-        (made ∙ ap (λ z. replicate z none) (c.size.ensures.value ∙ ap (λ z. z.size) c.lattice.ensures))
+    (made ∙ ap (λ z. replicate z none) (c.size.ensures.value ∙ ap (λ z. z.size) c.lattice.ensures))
 
 pub note-requires : goal.note-requires
 note-requires c =
@@ -37,18 +37,18 @@ note-requires c =
 pub loop-taken-preserved : goal.loop-taken-preserved
 loop-taken-preserved c =
     going_on (λ k. slice_index_or c.args.relevant.now k false) (levels_of c.args.p.now) c.args.p.now.program c.args.memory.now c.loop-taken.taken
-        c.loop-taken.walker c.step.new.self c.in_ok-walk.walk c.loop-taken.memory.items c.loop-taken.levels.items
+    c.loop-taken.walker c.step.new.self c.in_ok-walk.walk c.loop-taken.memory.items c.loop-taken.levels.items
     c.loop-taken.invariant c.in_ok-walk.ensures.step (map (λ e. expression_of e.now) c.args.estimates.now) c.store.new.memory.items c.note.new.levels.items
-        c.requires.estimates c.program-program.ensures.labelling.levels_below c.store.ensures
+    c.requires.estimates c.program-program.ensures.labelling.levels_below c.store.ensures
     (c.note.ensures ∙ ap (λ z. noted (λ k. slice_index_or c.args.relevant.now k false) (levels_of c.args.p.now)
-        (map (λ e. expression_of e.now) c.args.estimates.now) c.in_ok-walk.walk z c.loop-taken.levels.items) c.deref.ensures.value)
+    (map (λ e. expression_of e.now) c.args.estimates.now) c.in_ok-walk.walk z c.loop-taken.levels.items) c.deref.ensures.value)
 
 pub returns-in-Ended : goal.returns-in-Ended
 returns-in-Ended c = λ o e.
     told_by_marks c.args.p.now o c.args.memory.now c.loop-taken.taken c.args.relevant.now c.loop-taken.levels.items
     (ended_here (λ k. slice_index_or c.args.relevant.now k false) (levels_of c.args.p.now) c.args.p.now.program c.args.memory.now c.loop-taken.taken
-        c.loop-taken.walker c.step.new.self c.in_ok-walk.walk c.loop-taken.memory.items c.loop-taken.levels.items c.loop-taken.invariant
-        c.in_ok-walk.ensures.step c.in-Ended.is)
+    c.loop-taken.walker c.step.new.self c.in_ok-walk.walk c.loop-taken.memory.items c.loop-taken.levels.items c.loop-taken.invariant
+    c.in_ok-walk.ensures.step c.in-Ended.is)
     c.loop-taken.invariant.size c.loop-taken.invariant.counted e
 
 pub returns : goal.returns

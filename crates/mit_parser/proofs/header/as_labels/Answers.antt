@@ -8,6 +8,8 @@ pub loop-i-preserved : goal.loop-i-preserved
 loop-i-preserved c =
     c.in_ok-push.ensures.items ∙ ap (λ l. l ++ (c.new.result, c.new-in-loop-i.result) ∷ []) c.loop-i.invariant
     ∙ ap (λ x. as_labels (take c.loop-i.i c.args.numbers.now) ++ (as_label x, c.new-in-loop-i.result) ∷ []) c.new.ensures
-    ∙ ap (λ x. as_labels (take c.loop-i.i c.args.numbers.now) ++ (as_label (get_or c.args.numbers.now c.loop-i.i (0, 0)).0,
-        as_label x) ∷ []) c.new-in-loop-i.ensures
+    ∙ ap (λ x. as_labels (take c.loop-i.i c.args.numbers.now) ++ (
+      as_label (get_or c.args.numbers.now c.loop-i.i (0, 0)).0,
+      as_label x,
+    ) ∷ []) c.new-in-loop-i.ensures
     ∙ sym (as_take c.args.numbers.now c.loop-i.i (0, 0) c.loop-i-test.true)

@@ -12,7 +12,7 @@ of-requires c =
     let same : c.requires.order ≡ c.in-Some.lattice = let z : Some c.requires.order ≡ Some c.in-Some.lattice = sym c.requires.there ∙ c.in-Some.is in cc in
     let differ : AllDiffer (map (λ (d : Declaration). d.0) c.args.names.variables) =
     subst (λ (ds : List Declaration). AllDiffer (map (λ (d : Declaration). d.0) ds)) c.into_table-table.ensures
-        (names_differ c.into_table-table.result.entries c.len-2.ensures.unique) in
+    (names_differ c.into_table-table.result.entries c.len-2.ensures.unique) in
     rw c.into_table-table.ensures
     (subst (λ q. IsValid (syntax q c.args.pairs.items c.args.names.variables c.args.body.items)) same
     (c.requires.valid (subst IsOrder (sym same) c.laws.ensures.order) c.len.ensures.few differ))

@@ -18,44 +18,44 @@ returns-in_err-lattice c =
     let p = err_from_is_err_and c.from_residual.result c.from_residual.ensures.1 in
     let words = told c.args.text.now c.args.tokens.now in
     rw (p.1, p.2) (refuses words (begin words) c.header.new.self header (declarations ∷ commands ∷ want the_end ∷ []) _ refl
-        (rw c.new-parser.ensures at c.in_err-lattice.ensures))
+    (rw c.new-parser.ensures at c.in_err-lattice.ensures))
 
 pub returns-in_err-variables : goal.returns-in_err-variables
 returns-in_err-variables c =
     let p = err_from_is_err_and c.from_residual-in_err-variables.result c.from_residual-in_err-variables.ensures.1 in
     let words = told c.args.text.now c.args.tokens.now in
     let h : IsHeader c.in_ok-lattice.field-0.lattice c.in_ok-lattice.field-0.pairs.items (begin words) c.header.new.self =
-        rw c.new-parser.ensures at c.in_ok-lattice.ensures in
+    rw c.new-parser.ensures at c.in_ok-lattice.ensures in
     rw (p.1, p.2) (refuses words c.header.new.self c.variables.new.self declarations (commands ∷ want the_end ∷ []) _
-        (h.goes (declarations ∷ commands ∷ want the_end ∷ [])) c.in_err-variables.ensures)
+    (h.goes (declarations ∷ commands ∷ want the_end ∷ [])) c.in_err-variables.ensures)
 
 pub returns-in_err-body : goal.returns-in_err-body
 returns-in_err-body c =
     let p = err_from_is_err_and c.from_residual-in_err-body.result c.from_residual-in_err-body.ensures.1 in
     let words = told c.args.text.now c.args.tokens.now in
     let h : IsHeader c.in_ok-lattice.field-0.lattice c.in_ok-lattice.field-0.pairs.items (begin words) c.header.new.self =
-        rw c.new-parser.ensures at c.in_ok-lattice.ensures in
+    rw c.new-parser.ensures at c.in_ok-lattice.ensures in
     rw (p.1, p.2) (refuses words c.variables.new.self c.commands.new.self commands (want the_end ∷ []) _
     (to_commands words c.in_ok-lattice.field-0.lattice c.in_ok-lattice.field-0.pairs.items c.in_ok-variables.variables c.header.new.self c.variables.new.self h
-        c.in_ok-variables.ensures) c.in_err-body.ensures)
+    c.in_ok-variables.ensures) c.in_err-body.ensures)
 
 pub returns-then-not-is_at_end : goal.returns-then-not-is_at_end
 returns-then-not-is_at_end c =
     let words = told c.args.text.now c.args.tokens.now in
     let h : IsHeader c.in_ok-lattice.field-0.lattice c.in_ok-lattice.field-0.pairs.items (begin words) c.header.new.self =
-        rw c.new-parser.ensures at c.in_ok-lattice.ensures in
+    rw c.new-parser.ensures at c.in_ok-lattice.ensures in
     more_left words c.commands.new.self c.unexpected.result
     (goes_end words c.in_ok-lattice.field-0.lattice c.in_ok-lattice.field-0.pairs.items c.in_ok-variables.variables c.in_ok-body.body.items c.header.new.self
-        c.variables.new.self c.commands.new.self
+    c.variables.new.self c.commands.new.self
     h c.in_ok-variables.ensures c.in_ok-body.ensures) c.if-not-is_at_end.ensures c.unexpected.ensures
 
 pub returns-in-Some : goal.returns-in-Some
 returns-in-Some c =
     let words = told c.args.text.now c.args.tokens.now in
     let h : IsHeader c.in_ok-lattice.field-0.lattice c.in_ok-lattice.field-0.pairs.items (begin words) c.header.new.self =
-        rw c.new-parser.ensures at c.in_ok-lattice.ensures in
+    rw c.new-parser.ensures at c.in_ok-lattice.ensures in
     refuses_names words c.in_ok-lattice.field-0.lattice c.in_ok-lattice.field-0.pairs.items c.in_ok-variables.variables c.in_ok-body.body.items
-        c.header.new.self c.variables.new.self c.commands.new.self
+    c.header.new.self c.variables.new.self c.commands.new.self
     h c.in_ok-variables.ensures c.in_ok-body.ensures c.if-not-is_at_end.ensures c.laws.ensures.low c.in-Some.fault (sym c.fault.ensures ∙ c.in-Some.is)
 
 pub assembled-requires : goal.assembled-requires
@@ -66,17 +66,17 @@ assembled-requires c =
     let few = sound.few in
     let short : length words ≤ 2 ^ 31 = omega (arith, size, few) in
     let h : IsHeader c.in_ok-lattice.field-0.lattice c.in_ok-lattice.field-0.pairs.items (begin words) c.header.new.self =
-        rw c.new-parser.ensures at c.in_ok-lattice.ensures in
+    rw c.new-parser.ensures at c.in_ok-lattice.ensures in
     parts words c.in_ok-lattice.field-0.lattice c.in_ok-lattice.field-0.pairs.items c.in_ok-variables.variables c.in_ok-body.body.items c.header.new.self
-        c.variables.new.self c.commands.new.self
+    c.variables.new.self c.commands.new.self
     h c.in_ok-variables.ensures c.in_ok-body.ensures c.if-not-is_at_end.ensures c.laws.ensures.low (sym c.fault.ensures ∙ c.in-None.is) sound.proper short
 
 pub returns-in-None : goal.returns-in-None
 returns-in-None c =
     let words = told c.args.text.now c.args.tokens.now in
     let h : IsHeader c.in_ok-lattice.field-0.lattice c.in_ok-lattice.field-0.pairs.items (begin words) c.header.new.self =
-        rw c.new-parser.ensures at c.in_ok-lattice.ensures in
+    rw c.new-parser.ensures at c.in_ok-lattice.ensures in
     program words c.in_ok-lattice.field-0.lattice c.in_ok-lattice.field-0.pairs.items c.in_ok-variables.variables c.in_ok-body.body.items c.header.new.self
-        c.variables.new.self c.commands.new.self
+    c.variables.new.self c.commands.new.self
     h c.in_ok-variables.ensures c.in_ok-body.ensures c.if-not-is_at_end.ensures c.laws.ensures.low (sym c.fault.ensures ∙ c.in-None.is)
-        c.assembled.result c.assembled.ensures
+    c.assembled.result c.assembled.ensures

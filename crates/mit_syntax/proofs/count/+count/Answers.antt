@@ -7,32 +7,32 @@ use Rattle.mit_syntax.proofs.count.+count.Goals as goal
 pub count_command-count_list-requires : goal.count_command-count_list-requires
 count_command-count_list-requires t c =
     let n : count (command_plan c.args.command.now Done) ≡ 1 + count (list_plan c.in-If.then_part.items) + count (list_plan c.in-If.else_part.items) + 0 =
-        ap count (if_plan c.args.command.now c.in-If.guard c.in-If.then_part c.in-If.else_part c.in-If.is) in
+    ap count (if_plan c.args.command.now c.in-If.guard c.in-If.then_part c.in-If.else_part c.in-If.is) in
     let h : count (command_plan c.args.command.now Done) < 2 ^ 32 = c.requires in
     let d1 : count (list_plan c.deref.result.now) ≡ count (list_plan c.in-If.then_part.items) = ap (λ l. count (list_plan l)) c.deref.ensures.value in
     let f1 : mitigates (list_plan c.deref.result.now) ≡ mitigates (list_plan c.in-If.then_part.items) =
-        ap (λ l. mitigates (list_plan l)) c.deref.ensures.value in
+    ap (λ l. mitigates (list_plan l)) c.deref.ensures.value in
     (omega (arith, n, d1), omega (arith, n, d1, h))
 
 pub count_command-count_list-requires-in-If : goal.count_command-count_list-requires-in-If
 count_command-count_list-requires-in-If t c =
     let n : count (command_plan c.args.command.now Done) ≡ 1 + count (list_plan c.in-If.then_part.items) + count (list_plan c.in-If.else_part.items) + 0 =
-        ap count (if_plan c.args.command.now c.in-If.guard c.in-If.then_part c.in-If.else_part c.in-If.is) in
+    ap count (if_plan c.args.command.now c.in-If.guard c.in-If.then_part c.in-If.else_part c.in-If.is) in
     let h : count (command_plan c.args.command.now Done) < 2 ^ 32 = c.requires in
     let d1 : count (list_plan c.deref-in-If.result.now) ≡ count (list_plan c.in-If.else_part.items) =
-        ap (λ l. count (list_plan l)) c.deref-in-If.ensures.value in
+    ap (λ l. count (list_plan l)) c.deref-in-If.ensures.value in
     let f1 : mitigates (list_plan c.deref-in-If.result.now) ≡ mitigates (list_plan c.in-If.else_part.items) =
-        ap (λ l. mitigates (list_plan l)) c.deref-in-If.ensures.value in
+    ap (λ l. mitigates (list_plan l)) c.deref-in-If.ensures.value in
     (omega (arith, n, d1), omega (arith, n, d1, h))
 
 pub count_command-sum-requires-clause-commands : goal.count_command-sum-requires-clause-commands
 count_command-sum-requires-clause-commands t c =
     let n : count (command_plan c.args.command.now Done) ≡ 1 + count (list_plan c.in-If.then_part.items) + count (list_plan c.in-If.else_part.items) + 0 =
-        ap count (if_plan c.args.command.now c.in-If.guard c.in-If.then_part c.in-If.else_part c.in-If.is) in
+    ap count (if_plan c.args.command.now c.in-If.guard c.in-If.then_part c.in-If.else_part c.in-If.is) in
     let h : count (command_plan c.args.command.now Done) < 2 ^ 32 = c.requires in
     let d1 : count (list_plan c.deref.result.now) ≡ count (list_plan c.in-If.then_part.items) = ap (λ l. count (list_plan l)) c.deref.ensures.value in
     let f1 : mitigates (list_plan c.deref.result.now) ≡ mitigates (list_plan c.in-If.then_part.items) =
-        ap (λ l. mitigates (list_plan l)) c.deref.ensures.value in
+    ap (λ l. mitigates (list_plan l)) c.deref.ensures.value in
     let r1 = c.count_list.ensures.commands in
     let s1 = c.count_list.ensures.mitigates in
     omega (arith, n, d1, h, r1)
@@ -40,19 +40,19 @@ count_command-sum-requires-clause-commands t c =
 pub count_command-sum-requires-in-If-clause-commands : goal.count_command-sum-requires-in-If-clause-commands
 count_command-sum-requires-in-If-clause-commands t c =
     let n : count (command_plan c.args.command.now Done) ≡ 1 + count (list_plan c.in-If.then_part.items) + count (list_plan c.in-If.else_part.items) + 0 =
-        ap count (if_plan c.args.command.now c.in-If.guard c.in-If.then_part c.in-If.else_part c.in-If.is) in
+    ap count (if_plan c.args.command.now c.in-If.guard c.in-If.then_part c.in-If.else_part c.in-If.is) in
     let h : count (command_plan c.args.command.now Done) < 2 ^ 32 = c.requires in
     let m : mitigates (command_plan c.args.command.now Done) ≡ mitigates (list_plan c.in-If.then_part.items) + mitigates (list_plan c.in-If.else_part.items) +
-        0 = ap mitigates (if_plan c.args.command.now c.in-If.guard c.in-If.then_part c.in-If.else_part c.in-If.is) in
+    0 = ap mitigates (if_plan c.args.command.now c.in-If.guard c.in-If.then_part c.in-If.else_part c.in-If.is) in
     let b : mitigates (command_plan c.args.command.now Done) ≤ count (command_plan c.args.command.now Done) =
-        mitigates_below (command_plan c.args.command.now Done) in
+    mitigates_below (command_plan c.args.command.now Done) in
     let d1 : count (list_plan c.deref.result.now) ≡ count (list_plan c.in-If.then_part.items) = ap (λ l. count (list_plan l)) c.deref.ensures.value in
     let f1 : mitigates (list_plan c.deref.result.now) ≡ mitigates (list_plan c.in-If.then_part.items) =
-        ap (λ l. mitigates (list_plan l)) c.deref.ensures.value in
+    ap (λ l. mitigates (list_plan l)) c.deref.ensures.value in
     let d2 : count (list_plan c.deref-in-If.result.now) ≡ count (list_plan c.in-If.else_part.items) =
-        ap (λ l. count (list_plan l)) c.deref-in-If.ensures.value in
+    ap (λ l. count (list_plan l)) c.deref-in-If.ensures.value in
     let f2 : mitigates (list_plan c.deref-in-If.result.now) ≡ mitigates (list_plan c.in-If.else_part.items) =
-        ap (λ l. mitigates (list_plan l)) c.deref-in-If.ensures.value in
+    ap (λ l. mitigates (list_plan l)) c.deref-in-If.ensures.value in
     let r1 = c.count_list.ensures.commands in
     let s1 = c.count_list.ensures.mitigates in
     let r2 = c.count_list-in-If.ensures.commands in
@@ -64,19 +64,19 @@ count_command-sum-requires-in-If-clause-commands t c =
 pub count_command-sum-requires-in-If-clause-mitigates : goal.count_command-sum-requires-in-If-clause-mitigates
 count_command-sum-requires-in-If-clause-mitigates t c =
     let n : count (command_plan c.args.command.now Done) ≡ 1 + count (list_plan c.in-If.then_part.items) + count (list_plan c.in-If.else_part.items) + 0 =
-        ap count (if_plan c.args.command.now c.in-If.guard c.in-If.then_part c.in-If.else_part c.in-If.is) in
+    ap count (if_plan c.args.command.now c.in-If.guard c.in-If.then_part c.in-If.else_part c.in-If.is) in
     let h : count (command_plan c.args.command.now Done) < 2 ^ 32 = c.requires in
     let m : mitigates (command_plan c.args.command.now Done) ≡ mitigates (list_plan c.in-If.then_part.items) + mitigates (list_plan c.in-If.else_part.items) +
-        0 = ap mitigates (if_plan c.args.command.now c.in-If.guard c.in-If.then_part c.in-If.else_part c.in-If.is) in
+    0 = ap mitigates (if_plan c.args.command.now c.in-If.guard c.in-If.then_part c.in-If.else_part c.in-If.is) in
     let b : mitigates (command_plan c.args.command.now Done) ≤ count (command_plan c.args.command.now Done) =
-        mitigates_below (command_plan c.args.command.now Done) in
+    mitigates_below (command_plan c.args.command.now Done) in
     let d1 : count (list_plan c.deref.result.now) ≡ count (list_plan c.in-If.then_part.items) = ap (λ l. count (list_plan l)) c.deref.ensures.value in
     let f1 : mitigates (list_plan c.deref.result.now) ≡ mitigates (list_plan c.in-If.then_part.items) =
-        ap (λ l. mitigates (list_plan l)) c.deref.ensures.value in
+    ap (λ l. mitigates (list_plan l)) c.deref.ensures.value in
     let d2 : count (list_plan c.deref-in-If.result.now) ≡ count (list_plan c.in-If.else_part.items) =
-        ap (λ l. count (list_plan l)) c.deref-in-If.ensures.value in
+    ap (λ l. count (list_plan l)) c.deref-in-If.ensures.value in
     let f2 : mitigates (list_plan c.deref-in-If.result.now) ≡ mitigates (list_plan c.in-If.else_part.items) =
-        ap (λ l. mitigates (list_plan l)) c.deref-in-If.ensures.value in
+    ap (λ l. mitigates (list_plan l)) c.deref-in-If.ensures.value in
     let r1 = c.count_list.ensures.commands in
     let s1 = c.count_list.ensures.mitigates in
     let r2 = c.count_list-in-If.ensures.commands in
@@ -88,19 +88,19 @@ count_command-sum-requires-in-If-clause-mitigates t c =
 pub count_command-returns-in-If : goal.count_command-returns-in-If
 count_command-returns-in-If t c =
     let n : count (command_plan c.args.command.now Done) ≡ 1 + count (list_plan c.in-If.then_part.items) + count (list_plan c.in-If.else_part.items) + 0 =
-        ap count (if_plan c.args.command.now c.in-If.guard c.in-If.then_part c.in-If.else_part c.in-If.is) in
+    ap count (if_plan c.args.command.now c.in-If.guard c.in-If.then_part c.in-If.else_part c.in-If.is) in
     let h : count (command_plan c.args.command.now Done) < 2 ^ 32 = c.requires in
     let m : mitigates (command_plan c.args.command.now Done) ≡ mitigates (list_plan c.in-If.then_part.items) + mitigates (list_plan c.in-If.else_part.items) +
-        0 = ap mitigates (if_plan c.args.command.now c.in-If.guard c.in-If.then_part c.in-If.else_part c.in-If.is) in
+    0 = ap mitigates (if_plan c.args.command.now c.in-If.guard c.in-If.then_part c.in-If.else_part c.in-If.is) in
     let b : mitigates (command_plan c.args.command.now Done) ≤ count (command_plan c.args.command.now Done) =
-        mitigates_below (command_plan c.args.command.now Done) in
+    mitigates_below (command_plan c.args.command.now Done) in
     let d1 : count (list_plan c.deref.result.now) ≡ count (list_plan c.in-If.then_part.items) = ap (λ l. count (list_plan l)) c.deref.ensures.value in
     let f1 : mitigates (list_plan c.deref.result.now) ≡ mitigates (list_plan c.in-If.then_part.items) =
-        ap (λ l. mitigates (list_plan l)) c.deref.ensures.value in
+    ap (λ l. mitigates (list_plan l)) c.deref.ensures.value in
     let d2 : count (list_plan c.deref-in-If.result.now) ≡ count (list_plan c.in-If.else_part.items) =
-        ap (λ l. count (list_plan l)) c.deref-in-If.ensures.value in
+    ap (λ l. count (list_plan l)) c.deref-in-If.ensures.value in
     let f2 : mitigates (list_plan c.deref-in-If.result.now) ≡ mitigates (list_plan c.in-If.else_part.items) =
-        ap (λ l. mitigates (list_plan l)) c.deref-in-If.ensures.value in
+    ap (λ l. mitigates (list_plan l)) c.deref-in-If.ensures.value in
     let r1 = c.count_list.ensures.commands in
     let s1 = c.count_list.ensures.mitigates in
     let r2 = c.count_list-in-If.ensures.commands in
@@ -114,23 +114,23 @@ count_command-returns-in-If t c =
 pub count_command-count_list-requires-in-While : goal.count_command-count_list-requires-in-While
 count_command-count_list-requires-in-While t c =
     let n : count (command_plan c.args.command.now Done) ≡ 1 + count (list_plan c.in-While.body.items) + 0 =
-        ap count (while_plan c.args.command.now c.in-While.guard c.in-While.body c.in-While.is) in
+    ap count (while_plan c.args.command.now c.in-While.guard c.in-While.body c.in-While.is) in
     let h : count (command_plan c.args.command.now Done) < 2 ^ 32 = c.requires in
     let d1 : count (list_plan c.deref-in-While.result.now) ≡ count (list_plan c.in-While.body.items) =
-        ap (λ l. count (list_plan l)) c.deref-in-While.ensures.value in
+    ap (λ l. count (list_plan l)) c.deref-in-While.ensures.value in
     let f1 : mitigates (list_plan c.deref-in-While.result.now) ≡ mitigates (list_plan c.in-While.body.items) =
-        ap (λ l. mitigates (list_plan l)) c.deref-in-While.ensures.value in
+    ap (λ l. mitigates (list_plan l)) c.deref-in-While.ensures.value in
     (omega (arith, n, d1), omega (arith, n, d1, h))
 
 pub count_command-sum-requires-in-While-clause-commands : goal.count_command-sum-requires-in-While-clause-commands
 count_command-sum-requires-in-While-clause-commands t c =
     let n : count (command_plan c.args.command.now Done) ≡ 1 + count (list_plan c.in-While.body.items) + 0 =
-        ap count (while_plan c.args.command.now c.in-While.guard c.in-While.body c.in-While.is) in
+    ap count (while_plan c.args.command.now c.in-While.guard c.in-While.body c.in-While.is) in
     let h : count (command_plan c.args.command.now Done) < 2 ^ 32 = c.requires in
     let d1 : count (list_plan c.deref-in-While.result.now) ≡ count (list_plan c.in-While.body.items) =
-        ap (λ l. count (list_plan l)) c.deref-in-While.ensures.value in
+    ap (λ l. count (list_plan l)) c.deref-in-While.ensures.value in
     let f1 : mitigates (list_plan c.deref-in-While.result.now) ≡ mitigates (list_plan c.in-While.body.items) =
-        ap (λ l. mitigates (list_plan l)) c.deref-in-While.ensures.value in
+    ap (λ l. mitigates (list_plan l)) c.deref-in-While.ensures.value in
     let r1 = c.count_list-in-While.ensures.commands in
     let s1 = c.count_list-in-While.ensures.mitigates in
     omega (arith, n, d1, h, r1)
@@ -138,16 +138,16 @@ count_command-sum-requires-in-While-clause-commands t c =
 pub count_command-returns-in-While : goal.count_command-returns-in-While
 count_command-returns-in-While t c =
     let n : count (command_plan c.args.command.now Done) ≡ 1 + count (list_plan c.in-While.body.items) + 0 =
-        ap count (while_plan c.args.command.now c.in-While.guard c.in-While.body c.in-While.is) in
+    ap count (while_plan c.args.command.now c.in-While.guard c.in-While.body c.in-While.is) in
     let h : count (command_plan c.args.command.now Done) < 2 ^ 32 = c.requires in
     let m : mitigates (command_plan c.args.command.now Done) ≡ mitigates (list_plan c.in-While.body.items) + 0 =
-        ap mitigates (while_plan c.args.command.now c.in-While.guard c.in-While.body c.in-While.is) in
+    ap mitigates (while_plan c.args.command.now c.in-While.guard c.in-While.body c.in-While.is) in
     let b : mitigates (command_plan c.args.command.now Done) ≤ count (command_plan c.args.command.now Done) =
-        mitigates_below (command_plan c.args.command.now Done) in
+    mitigates_below (command_plan c.args.command.now Done) in
     let d1 : count (list_plan c.deref-in-While.result.now) ≡ count (list_plan c.in-While.body.items) =
-        ap (λ l. count (list_plan l)) c.deref-in-While.ensures.value in
+    ap (λ l. count (list_plan l)) c.deref-in-While.ensures.value in
     let f1 : mitigates (list_plan c.deref-in-While.result.now) ≡ mitigates (list_plan c.in-While.body.items) =
-        ap (λ l. mitigates (list_plan l)) c.deref-in-While.ensures.value in
+    ap (λ l. mitigates (list_plan l)) c.deref-in-While.ensures.value in
     let r1 = c.count_list-in-While.ensures.commands in
     let s1 = c.count_list-in-While.ensures.mitigates in
     let r2 = c.sum-in-While.ensures.commands in
@@ -157,23 +157,23 @@ count_command-returns-in-While t c =
 pub count_command-count_list-requires-in-Mitigate : goal.count_command-count_list-requires-in-Mitigate
 count_command-count_list-requires-in-Mitigate t c =
     let n : count (command_plan c.args.command.now Done) ≡ 1 + count (list_plan c.in-Mitigate.body.items) + 0 =
-        ap count (mitigate_plan c.args.command.now c.in-Mitigate.estimate c.in-Mitigate.body c.in-Mitigate.mark c.in-Mitigate.level c.in-Mitigate.is) in
+    ap count (mitigate_plan c.args.command.now c.in-Mitigate.estimate c.in-Mitigate.body c.in-Mitigate.mark c.in-Mitigate.level c.in-Mitigate.is) in
     let h : count (command_plan c.args.command.now Done) < 2 ^ 32 = c.requires in
     let d1 : count (list_plan c.deref-in-Mitigate.result.now) ≡ count (list_plan c.in-Mitigate.body.items) =
-        ap (λ l. count (list_plan l)) c.deref-in-Mitigate.ensures.value in
+    ap (λ l. count (list_plan l)) c.deref-in-Mitigate.ensures.value in
     let f1 : mitigates (list_plan c.deref-in-Mitigate.result.now) ≡ mitigates (list_plan c.in-Mitigate.body.items) =
-        ap (λ l. mitigates (list_plan l)) c.deref-in-Mitigate.ensures.value in
+    ap (λ l. mitigates (list_plan l)) c.deref-in-Mitigate.ensures.value in
     (omega (arith, n, d1), omega (arith, n, d1, h))
 
 pub count_command-sum-requires-in-Mitigate-clause-commands : goal.count_command-sum-requires-in-Mitigate-clause-commands
 count_command-sum-requires-in-Mitigate-clause-commands t c =
     let n : count (command_plan c.args.command.now Done) ≡ 1 + count (list_plan c.in-Mitigate.body.items) + 0 =
-        ap count (mitigate_plan c.args.command.now c.in-Mitigate.estimate c.in-Mitigate.body c.in-Mitigate.mark c.in-Mitigate.level c.in-Mitigate.is) in
+    ap count (mitigate_plan c.args.command.now c.in-Mitigate.estimate c.in-Mitigate.body c.in-Mitigate.mark c.in-Mitigate.level c.in-Mitigate.is) in
     let h : count (command_plan c.args.command.now Done) < 2 ^ 32 = c.requires in
     let d1 : count (list_plan c.deref-in-Mitigate.result.now) ≡ count (list_plan c.in-Mitigate.body.items) =
-        ap (λ l. count (list_plan l)) c.deref-in-Mitigate.ensures.value in
+    ap (λ l. count (list_plan l)) c.deref-in-Mitigate.ensures.value in
     let f1 : mitigates (list_plan c.deref-in-Mitigate.result.now) ≡ mitigates (list_plan c.in-Mitigate.body.items) =
-        ap (λ l. mitigates (list_plan l)) c.deref-in-Mitigate.ensures.value in
+    ap (λ l. mitigates (list_plan l)) c.deref-in-Mitigate.ensures.value in
     let r1 = c.count_list-in-Mitigate.ensures.commands in
     let s1 = c.count_list-in-Mitigate.ensures.mitigates in
     omega (arith, n, d1, h, r1)
@@ -181,16 +181,16 @@ count_command-sum-requires-in-Mitigate-clause-commands t c =
 pub count_command-sum-requires-in-Mitigate-clause-mitigates : goal.count_command-sum-requires-in-Mitigate-clause-mitigates
 count_command-sum-requires-in-Mitigate-clause-mitigates t c =
     let n : count (command_plan c.args.command.now Done) ≡ 1 + count (list_plan c.in-Mitigate.body.items) + 0 =
-        ap count (mitigate_plan c.args.command.now c.in-Mitigate.estimate c.in-Mitigate.body c.in-Mitigate.mark c.in-Mitigate.level c.in-Mitigate.is) in
+    ap count (mitigate_plan c.args.command.now c.in-Mitigate.estimate c.in-Mitigate.body c.in-Mitigate.mark c.in-Mitigate.level c.in-Mitigate.is) in
     let h : count (command_plan c.args.command.now Done) < 2 ^ 32 = c.requires in
     let m : mitigates (command_plan c.args.command.now Done) ≡ 1 + mitigates (list_plan c.in-Mitigate.body.items) + 0 =
-        ap mitigates (mitigate_plan c.args.command.now c.in-Mitigate.estimate c.in-Mitigate.body c.in-Mitigate.mark c.in-Mitigate.level c.in-Mitigate.is) in
+    ap mitigates (mitigate_plan c.args.command.now c.in-Mitigate.estimate c.in-Mitigate.body c.in-Mitigate.mark c.in-Mitigate.level c.in-Mitigate.is) in
     let b : mitigates (command_plan c.args.command.now Done) ≤ count (command_plan c.args.command.now Done) =
-        mitigates_below (command_plan c.args.command.now Done) in
+    mitigates_below (command_plan c.args.command.now Done) in
     let d1 : count (list_plan c.deref-in-Mitigate.result.now) ≡ count (list_plan c.in-Mitigate.body.items) =
-        ap (λ l. count (list_plan l)) c.deref-in-Mitigate.ensures.value in
+    ap (λ l. count (list_plan l)) c.deref-in-Mitigate.ensures.value in
     let f1 : mitigates (list_plan c.deref-in-Mitigate.result.now) ≡ mitigates (list_plan c.in-Mitigate.body.items) =
-        ap (λ l. mitigates (list_plan l)) c.deref-in-Mitigate.ensures.value in
+    ap (λ l. mitigates (list_plan l)) c.deref-in-Mitigate.ensures.value in
     let r1 = c.count_list-in-Mitigate.ensures.commands in
     let s1 = c.count_list-in-Mitigate.ensures.mitigates in
     omega (arith, n, m, b, f1, h, s1)
@@ -198,16 +198,16 @@ count_command-sum-requires-in-Mitigate-clause-mitigates t c =
 pub count_command-returns-in-Mitigate : goal.count_command-returns-in-Mitigate
 count_command-returns-in-Mitigate t c =
     let n : count (command_plan c.args.command.now Done) ≡ 1 + count (list_plan c.in-Mitigate.body.items) + 0 =
-        ap count (mitigate_plan c.args.command.now c.in-Mitigate.estimate c.in-Mitigate.body c.in-Mitigate.mark c.in-Mitigate.level c.in-Mitigate.is) in
+    ap count (mitigate_plan c.args.command.now c.in-Mitigate.estimate c.in-Mitigate.body c.in-Mitigate.mark c.in-Mitigate.level c.in-Mitigate.is) in
     let h : count (command_plan c.args.command.now Done) < 2 ^ 32 = c.requires in
     let m : mitigates (command_plan c.args.command.now Done) ≡ 1 + mitigates (list_plan c.in-Mitigate.body.items) + 0 =
-        ap mitigates (mitigate_plan c.args.command.now c.in-Mitigate.estimate c.in-Mitigate.body c.in-Mitigate.mark c.in-Mitigate.level c.in-Mitigate.is) in
+    ap mitigates (mitigate_plan c.args.command.now c.in-Mitigate.estimate c.in-Mitigate.body c.in-Mitigate.mark c.in-Mitigate.level c.in-Mitigate.is) in
     let b : mitigates (command_plan c.args.command.now Done) ≤ count (command_plan c.args.command.now Done) =
-        mitigates_below (command_plan c.args.command.now Done) in
+    mitigates_below (command_plan c.args.command.now Done) in
     let d1 : count (list_plan c.deref-in-Mitigate.result.now) ≡ count (list_plan c.in-Mitigate.body.items) =
-        ap (λ l. count (list_plan l)) c.deref-in-Mitigate.ensures.value in
+    ap (λ l. count (list_plan l)) c.deref-in-Mitigate.ensures.value in
     let f1 : mitigates (list_plan c.deref-in-Mitigate.result.now) ≡ mitigates (list_plan c.in-Mitigate.body.items) =
-        ap (λ l. mitigates (list_plan l)) c.deref-in-Mitigate.ensures.value in
+    ap (λ l. mitigates (list_plan l)) c.deref-in-Mitigate.ensures.value in
     let r1 = c.count_list-in-Mitigate.ensures.commands in
     let s1 = c.count_list-in-Mitigate.ensures.mitigates in
     let r2 = c.sum-in-Mitigate.ensures.commands in

@@ -16,8 +16,11 @@ pub returns-in-Some : goal.returns-in-Some
 returns-in-Some c =
     let e = c.digits_len-n.ensures in
     let f = digits_front c.args.text.now c.digits_len-n.result c.requires.some c.requires.digit e.within e.before e.stops in
-    token_of c.args.text.now _ _ e.within (f.0, to_z_pos w64 c.in-Some.value (small c.in-Some.value c.in-Some.ensures.1) ∙ ap pos c.in-Some.ensures.0,
-        subst (λ (n : ℕ). n ≤ 9223372036854775807) c.in-Some.ensures.0 c.in-Some.ensures.1) f.1
+    token_of c.args.text.now _ _ e.within (
+      f.0,
+      to_z_pos w64 c.in-Some.value (small c.in-Some.value c.in-Some.ensures.1) ∙ ap pos c.in-Some.ensures.0,
+      subst (λ (n : ℕ). n ≤ 9223372036854775807) c.in-Some.ensures.0 c.in-Some.ensures.1,
+    ) f.1
 
 pub returns-in-None : goal.returns-in-None
 returns-in-None c =

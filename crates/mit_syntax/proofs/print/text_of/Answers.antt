@@ -20,7 +20,7 @@ pub put_declarations-requires : goal.put_declarations-requires
 put_declarations-requires c =
     subst (λ (o : Order). All (λ (d : Declaration). IsBelow o.size d.1.label) c.declarations-variables.result.now) (sym c.lattice-labels.ensures)
     (subst (λ (ds : List Declaration). All (λ (d : Declaration). IsBelow c.args.program.now.order.size d.1.label) ds) (sym c.declarations-variables.ensures)
-        c.body-body.ensures.valid.labels)
+    c.body-body.ensures.valid.labels)
 
 pub put_commands-requires : goal.put_commands-requires
 put_commands-requires c =
@@ -33,8 +33,8 @@ pub returns : goal.returns
 returns c =
     whole_text c.new-out.ensures.items
     (puts_then c.in_ok-put_labels.ensures
-        (puts_then c.in_ok-put_order.ensures (puts_then c.in_ok-put_declarations.ensures (puts_then c.in_ok-put_commands.ensures c.in_ok-put_line.ensures))))
+    (puts_then c.in_ok-put_order.ensures (puts_then c.in_ok-put_declarations.ensures (puts_then c.in_ok-put_commands.ensures c.in_ok-put_line.ensures))))
     ∙ text_as c.lattice-labels.result c.args.program.now.order c.pairs.result.now c.args.program.now.pairs c.declarations-variables.result.now
-        c.args.program.now.declarations
+    c.args.program.now.declarations
     (list_plan c.body-body.result.now) c.args.program.now.plan c.lattice-labels.ensures c.pairs.ensures
-        c.declarations-variables.ensures c.body-body.ensures.body
+    c.declarations-variables.ensures c.body-body.ensures.body

@@ -16,7 +16,7 @@ use Rattle.mit_tool.proofs.main_call.check.Goals as goal
 pub returns-in-Ok-clause-answered : goal.returns-in-Ok-clause-answered
 returns-in-Ok-clause-answered g c =
     let answer = IsAnswer (λ (name : List ℕ). Rose (g.S.Shelf.faults c.args.shelf.now name) (g.S.Shelf.faults c.check_line.new.shelf name))
-        (g.S.Shelf.content c.args.shelf.now) (check c.args.file.now) in
+    (g.S.Shelf.content c.args.shelf.now) (check c.args.file.now) in
     ends_finish (g.W.Sink.taken c.args.out.now) (g.W.Sink.taken c.finish.new.out) Nothing answer Done c.bytes.result.now c.finish.result
     (subst (λ (t : List ℕ). answer Done t) (sym c.bytes.ensures) c.in-Ok.ensures.line) c.finish.ensures.told c.finish.ensures.prefix
 
@@ -26,17 +26,17 @@ returns-in-Err-clause-answered g c =
     let content = g.S.Shelf.content c.args.shelf.now in
     let e = c.in-Err.e in
     ends_stop (g.W.Sink.taken c.args.out.now) (g.W.Sink.taken c.stop.new.out) Nothing (CheckStops rises content c.args.file.now)
-        (IsAnswer rises content (check c.args.file.now)) (status_of e) (stop_text e) c.stop.result refl
+    (IsAnswer rises content (check c.args.file.now)) (status_of e) (stop_text e) c.stop.result refl
     (λ t. check_stops rises content c.args.file.now (status_of e) t) c.in-Err.ensures.stop c.stop.ensures.told c.stop.ensures.prefix
 
 pub returns-in-Err-clause-sound : goal.returns-in-Err-clause-sound
 returns-in-Err-clause-sound g c = λ past. absurd
     (check_stopped (λ (name : List ℕ). Rose (g.S.Shelf.faults c.args.shelf.now name) (g.S.Shelf.faults c.check_line.new.shelf name))
-        (g.S.Shelf.content c.args.shelf.now) c.args.file.now c.in-Err.e c.stop.result _ c.in-Err.ensures.stop c.stop.ensures.told past)
+    (g.S.Shelf.content c.args.shelf.now) c.args.file.now c.in-Err.e c.stop.result _ c.in-Err.ensures.stop c.stop.ensures.told past)
 
 pub returns-in-Err-clause-pieces : goal.returns-in-Err-clause-pieces
 returns-in-Err-clause-pieces g c =
     let e = c.in-Err.e in
     one_piece (ArePieces (Some (check c.args.file.now))) (status_of e) c.stop.result (stop_text e) (g.W.Sink.log c.args.out.now)
-        (g.W.Sink.log c.stop.new.out) (stop_text e, refl)
+    (g.W.Sink.log c.stop.new.out) (stop_text e, refl)
     (λ n. (c.stop.ensures.told n).0) c.stop.ensures.sent c.stop.ensures.broken

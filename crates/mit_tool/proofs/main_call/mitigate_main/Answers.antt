@@ -22,22 +22,24 @@ use Rattle.mit_tool.proofs.main_call.mitigate_main.Goals as goal
 
 pub returns-in-Err-Usage-clause-usage : goal.returns-in-Err-Usage-clause-usage
 returns-in-Err-Usage-clause-usage g c =
-    λ e. ends_finish (g.W.Sink.taken c.args.out.now) (g.W.Sink.taken c.stop.new.out) Nothing IsUsage Usage usage_text c.stop.result (refl,
-        refl) c.stop.ensures.told c.stop.ensures.prefix
+    λ e. ends_finish (g.W.Sink.taken c.args.out.now) (g.W.Sink.taken c.stop.new.out) Nothing IsUsage Usage usage_text c.stop.result (
+      refl,
+      refl,
+    ) c.stop.ensures.told c.stop.ensures.prefix
 
 pub returns-in-Err-Memory-clause-answered : goal.returns-in-Err-Memory-clause-answered
 returns-in-Err-Memory-clause-answered g c =
     let content = g.S.Shelf.content c.args.shelf.now in
     let rises = λ (name : List ℕ). Rose (g.S.Shelf.faults c.args.shelf.now name) (g.S.Shelf.faults c.args.shelf.now name) in
     any_some (command_of (map string_bytes c.args.words.now))
-        (λ (a : Asked). EndsBy (g.W.Sink.taken c.args.out.now) (g.W.Sink.taken c.finish.new.out) (Before content a) (IsAnswer rises content a) c.finish.result)
+    (λ (a : Asked). EndsBy (g.W.Sink.taken c.args.out.now) (g.W.Sink.taken c.finish.new.out) (Before content a) (IsAnswer rises content a) c.finish.result)
     (λ a. ends_memory (g.W.Sink.taken c.args.out.now) (g.W.Sink.taken c.finish.new.out) (Before content a) (IsAnswer rises content a) c.finish.result
-        (nothing_before content a) c.finish.ensures.told c.finish.ensures.prefix)
+    (nothing_before content a) c.finish.ensures.told c.finish.ensures.prefix)
 
 pub returns-in-Err-Memory-clause-usage : goal.returns-in-Err-Memory-clause-usage
 returns-in-Err-Memory-clause-usage g c =
     λ e. ends_memory (g.W.Sink.taken c.args.out.now) (g.W.Sink.taken c.finish.new.out) Nothing IsUsage c.finish.result refl
-        c.finish.ensures.told c.finish.ensures.prefix
+    c.finish.ensures.told c.finish.ensures.prefix
 
 pub returns-in-Ok-clause-complete : goal.returns-in-Ok-clause-complete
 returns-in-Ok-clause-complete g c =
@@ -45,10 +47,10 @@ returns-in-Ok-clause-complete g c =
     let rises = λ (name : List ℕ). Rose (g.S.Shelf.faults c.args.shelf.now name) (g.S.Shelf.faults c.obey.new.shelf name) in
     asked_some (command_of (map string_bytes c.args.words.now)) (asked_of c.in-Ok.command)
     (λ (a : Asked). CanBeDone content a → NoneRises rises a → (Rose (g.W.Sink.faults c.args.out.now) (g.W.Sink.faults c.obey.new.out) → ⊥)
-        → (c.obey.result ≡ Done) ⊎ (c.obey.result ≡ Memory))
+    → (c.obey.result ≡ Done) ⊎ (c.obey.result ≡ Memory))
     c.in-Ok.ensures.asked
     (completes (g.W.Sink.taken c.args.out.now) (g.W.Sink.taken c.obey.new.out) rises content (asked_of c.in-Ok.command) c.obey.result
-        (Rose (g.W.Sink.faults c.args.out.now) (g.W.Sink.faults c.obey.new.out)) c.obey.ensures.answered c.obey.ensures.write c.in-Ok.ensures.range)
+    (Rose (g.W.Sink.faults c.args.out.now) (g.W.Sink.faults c.obey.new.out)) c.obey.ensures.answered c.obey.ensures.write c.in-Ok.ensures.range)
 
 pub returns-in-Err-Memory-clause-complete : goal.returns-in-Err-Memory-clause-complete
 returns-in-Err-Memory-clause-complete g c =
@@ -56,7 +58,7 @@ returns-in-Err-Memory-clause-complete g c =
     let rises = λ (name : List ℕ). Rose (g.S.Shelf.faults c.args.shelf.now name) (g.S.Shelf.faults c.args.shelf.now name) in
     let risen = Rose (g.W.Sink.faults c.args.out.now) (g.W.Sink.faults c.finish.new.out) in
     any_some (command_of (map string_bytes c.args.words.now)) (λ (a : Asked). CanBeDone content a → NoneRises rises a → (risen → ⊥) → (c.finish.result ≡ Done)
-        ⊎ (c.finish.result ≡ Memory))
+    ⊎ (c.finish.result ≡ Memory))
     (λ a can none n. inr (c.finish.ensures.told (λ e. n (c.finish.ensures.fault e))).0)
 
 pub returns-in-Ok-clause-rechecked : goal.returns-in-Ok-clause-rechecked
@@ -66,7 +68,7 @@ returns-in-Ok-clause-rechecked g c = λ past.
     let a = asked_of c.in-Ok.command in
     asked_some (command_of (map string_bytes c.args.words.now)) a (HeldIsSound content) c.in-Ok.ensures.asked
     (ends_rechecked c.accepted_are_sound.ensures.typed rises content a (g.W.Sink.taken c.args.out.now) (g.W.Sink.taken c.obey.new.out) (Before content a)
-        c.obey.result c.obey.ensures.answered past)
+    c.obey.result c.obey.ensures.answered past)
 
 pub returns-in-Ok-clause-one : goal.returns-in-Ok-clause-one
 returns-in-Ok-clause-one g c =
@@ -100,7 +102,7 @@ returns-in-Err-Memory-clause-one g c =
     (λ a alike.
     let k = ends_held rises content a old new c.finish.result alike
     (ends_memory old new (Before content a) (IsAnswer rises content a) c.finish.result (nothing_before content a)
-        c.finish.ensures.told c.finish.ensures.prefix) in
+    c.finish.ensures.told c.finish.ensures.prefix) in
     record {
       held = k.0;
       told = k.1;
@@ -135,6 +137,6 @@ returns-in-Err-Memory-clause-fetched g c =
 pub returns-in-Err-Memory-clause-pieces : goal.returns-in-Err-Memory-clause-pieces
 returns-in-Err-Memory-clause-pieces g c =
     one_piece (ArePieces (command_of (map string_bytes c.args.words.now))) Memory c.finish.result memory_line (g.W.Sink.log c.args.out.now)
-        (g.W.Sink.log c.finish.new.out)
+    (g.W.Sink.log c.finish.new.out)
     (memory_pieces (command_of (map string_bytes c.args.words.now)) memory_line)
-        (λ n. (c.finish.ensures.told n).0) c.finish.ensures.sent c.finish.ensures.broken
+    (λ n. (c.finish.ensures.told n).0) c.finish.ensures.sent c.finish.ensures.broken

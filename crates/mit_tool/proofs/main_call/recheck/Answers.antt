@@ -35,5 +35,5 @@ returns-in-Err-clause-answered g c =
 pub returns-in-Ok-clause-fetched : goal.returns-in-Ok-clause-fetched
 returns-in-Ok-clause-fetched g c =
     fetched_by {A = Unit {0}} (c.args.file.now ∷ c.args.certificate.now ∷ []) (g.S.Shelf.log c.args.shelf.now)
-        (g.S.Shelf.log c.recheck_line.new.shelf) Done c.finish.result (Ok tt)
+    (g.S.Shelf.log c.recheck_line.new.shelf) Done c.finish.result (Ok tt)
     (λ e. absurd cc) c.in-Ok.ensures.log (λ n. (c.finish.ensures.told n).0)

@@ -27,12 +27,12 @@ returns-clause-tells g c =
     let l : open'.level.number < length c.args.state.now.misses = omega (arith, same, c.settle-lasts.ensures.labels, open'.known) in
     let e = end_is g.E.MachineEnv.env c.args.state.now c.args.er c.args.ew
     c.pop.new.self.items open' (to_z w64 (of_z w64 open'.estimate)) c.fetch-fetched.result c.in-Some.now c.saturating_sub-worked.result
-        c.settle-lasts.result c.settle-lasts.new.self
+    c.settle-lasts.result c.settle-lasts.new.self
     cost (c.in-Some.ensures).0 c.saturating_sub-worked.ensures (c.in-Some-pop.ensures).items l n c.settle-lasts.ensures.counts c.settle-lasts.ensures.value in
     let now : c.in-Some.now ≡ c.args.state.now.clock + (1 + c.fetch-fetched.result) = (c.in-Some.ensures).0 in
     let worked : c.saturating_sub-worked.result
-        ≡ c.args.state.now.clock + (1 + g.E.MachineEnv.env.cost_of Code (4 * c.args.state.now.place) c.args.er.number c.args.ew.number c.args.state.now.env) -
-        open'.since =
+    ≡ c.args.state.now.clock + (1 + g.E.MachineEnv.env.cost_of Code (4 * c.args.state.now.place) c.args.er.number c.args.ew.number c.args.state.now.env) -
+    open'.since =
     c.saturating_sub-worked.ensures ∙ ap (λ z. z - open'.since) (now ∙ ap (λ z. c.args.state.now.clock + (1 + z)) cost) in
     let after : c.misses.result ≡ misses_after open'.estimate c.saturating_sub-worked.result c.misses-before.result =
     c.misses.ensures.value
@@ -48,5 +48,5 @@ returns-clause-tells g c =
       tells =
           end_tells g.E.MachineEnv.env c.args.state.now c.args.er c.args.ew c.pop.new.self.items open'
           c.saturating_sub-worked.result c.misses-before.result c.misses.result c.settle-lasts.result (open'.since + c.settle-lasts.result)
-              (c.in-Some-pop.ensures).items worked c.misses-before.ensures.value after lasts refl;
+          (c.in-Some-pop.ensures).items worked c.misses-before.ensures.value after lasts refl;
     }

@@ -9,10 +9,10 @@ command_places-returns-in_ok-list_places-in-If-2 t c =
     let w : Written = record { pos = c.args.c.now.pos; labels = c.args.c.now.labels } in
     λ rest.
     let q = if_parts c.args.c.now.form c.in-If.guard c.in-If.then_part c.in-If.else_part c.deref.result.now c.deref-in-If.result.now c.in-If.is
-        c.deref.ensures.value c.deref-in-If.ensures.value w rest in
+    c.deref.ensures.value c.deref-in-If.ensures.value w rest in
     if_places w (expression_of c.in-If.guard) (command_plan c.args.c.now rest) (list_plan c.deref.result.now) (list_plan c.deref-in-If.result.now) rest
     c.args.found.now.items c.list_places.new.found.items c.list_places-in-If.new.found.items q c.in_ok-list_places-in-If.ensures
-        c.in_ok-list_places-in-If-2.ensures
+    c.in_ok-list_places-in-If-2.ensures
 
 pub command_places-returns-in_ok-list_places-in-While : goal.command_places-returns-in_ok-list_places-in-While
 command_places-returns-in_ok-list_places-in-While t c =
@@ -27,8 +27,8 @@ command_places-returns-in_ok-list_places-in-Mitigate t c =
     let w : Written = record { pos = c.args.c.now.pos; labels = c.args.c.now.labels } in
     λ rest.
     let q = mitigate_parts c.args.c.now.form c.in-Mitigate.mark c.in-Mitigate.estimate c.in-Mitigate.level c.in-Mitigate.body c.deref-in-Mitigate.result.now
-        c.in-Mitigate.is c.deref-in-Mitigate.ensures.value w rest in
+    c.in-Mitigate.is c.deref-in-Mitigate.ensures.value w rest in
     mitigate_places w c.in-Mitigate.mark c.in-Mitigate.level (expression_of c.in-Mitigate.estimate) (command_plan c.args.c.now rest)
-        (list_plan c.deref-in-Mitigate.result.now) rest
+    (list_plan c.deref-in-Mitigate.result.now) rest
     c.args.found.now.items c.push.new.self.items c.list_places-in-Mitigate.new.found.items q c.in_ok-push-in-Mitigate.ensures.items
-        c.in_ok-list_places-in-Mitigate.ensures
+    c.in_ok-list_places-in-Mitigate.ensures

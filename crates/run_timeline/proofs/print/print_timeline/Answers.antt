@@ -61,7 +61,7 @@ write_moment-requires-clause-below g c =
     let count : c.args.image.now.variables ≡ variables c.labelled-labelled.result.now.program.declarations =
     c.requires.variables ∙ ap (λ p. variables p.program.declarations) (sym c.labelled-labelled.ensures.labelled) in
     subst (λ n. IsMomentBelow n c.in-Told.moment) count
-        (moment_below v c.args.image.now c.run.state c.step.new.state c.in-Told.moment c.laws.ensures.shaped c.in-Told.ensures.0)
+    (moment_below v c.args.image.now c.run.state c.step.new.state c.in-Told.moment c.laws.ensures.shaped c.in-Told.ensures.0)
 
 pub run-preserved : goal.run-preserved
 run-preserved g c =
@@ -71,13 +71,13 @@ run-preserved g c =
     let q = c.args.p.now.labelled in
     let e = c.in-Told.ensures in
     let at : c.as_slice-places.result.now ≡ places (plan_of q.program) =
-        c.as_slice-places.ensures.value ∙ (ap (λ z. z.items) c.run.invariant.places ∙ c.requires.places) in
+    c.as_slice-places.ensures.value ∙ (ap (λ z. z.items) c.run.invariant.places ∙ c.requires.places) in
     let text : Appends (g.W.Sink.taken c.run.out) (g.W.Sink.taken c.write_moment.new.out)
-        (moment_text q (places (plan_of q.program)) c.args.observer c.in-Told.moment) =
+    (moment_text q (places (plan_of q.program)) c.args.observer c.in-Told.moment) =
     subst (λ z. Appends (g.W.Sink.taken c.run.out) (g.W.Sink.taken c.write_moment.new.out) (moment_text q z c.args.observer c.in-Told.moment)) at
     (subst (λ p. Appends (g.W.Sink.taken c.run.out) (g.W.Sink.taken c.write_moment.new.out)
-        (moment_text p c.as_slice-places.result.now c.args.observer c.in-Told.moment)) c.labelled-labelled.ensures.labelled
-        c.in_ok-write_moment-in-Told.ensures.text) in
+    (moment_text p c.as_slice-places.result.now c.args.observer c.in-Told.moment)) c.labelled-labelled.ensures.labelled
+    c.in_ok-write_moment-in-Told.ensures.text) in
     record {
       printing = told_printing v code c.args.limit from q c.args.observer c.run.state c.step.new.state c.in-Told.moment _ _ _ _ _ _ c.run.invariant.printing e.0
           e.4 e.1 e.2 c.note.ensures text;
@@ -95,15 +95,15 @@ returns-in_err-write_moment-in-Told-clause-prefix g c =
     let q = c.args.p.now.labelled in
     let e = c.in-Told.ensures in
     let at : c.as_slice-places.result.now ≡ places (plan_of q.program) =
-        c.as_slice-places.ensures.value ∙ (ap (λ z. z.items) c.run.invariant.places ∙ c.requires.places) in
+    c.as_slice-places.ensures.value ∙ (ap (λ z. z.items) c.run.invariant.places ∙ c.requires.places) in
     let text : AppendsPrefix (g.W.Sink.taken c.run.out) (g.W.Sink.taken c.write_moment.new.out)
-        (moment_text q (places (plan_of q.program)) c.args.observer c.in-Told.moment) =
+    (moment_text q (places (plan_of q.program)) c.args.observer c.in-Told.moment) =
     subst (λ z. AppendsPrefix (g.W.Sink.taken c.run.out) (g.W.Sink.taken c.write_moment.new.out) (moment_text q z c.args.observer c.in-Told.moment)) at
     (subst (λ p. AppendsPrefix (g.W.Sink.taken c.run.out) (g.W.Sink.taken c.write_moment.new.out)
-        (moment_text p c.as_slice-places.result.now c.args.observer c.in-Told.moment)) c.labelled-labelled.ensures.labelled
-        c.in_err-write_moment-in-Told.ensures.prefix) in
+    (moment_text p c.as_slice-places.result.now c.args.observer c.in-Told.moment)) c.labelled-labelled.ensures.labelled
+    c.in_err-write_moment-in-Told.ensures.prefix) in
     on_err _ _ (part_printed v code c.args.limit from q c.args.observer c.run.state c.step.new.state c.in-Told.moment _ _ _ _ _
-        c.run.invariant.printing e.0 e.4 e.1 text)
+    c.run.invariant.printing e.0 e.4 e.1 text)
 
 pub returns-in_err-write_moment-in-Told-clause-grown : goal.returns-in_err-write_moment-in-Told-clause-grown
 returns-in_err-write_moment-in-Told-clause-grown g c =
@@ -111,7 +111,7 @@ returns-in_err-write_moment-in-Told-clause-grown g c =
     let old = c.args.listing.now.tallies.items in
     subst (Grown c.args.limit old) (sym c.note.ensures)
     (grown_quiet c.step.new.state.clock c.args.limit old _ e.1
-        (grown_more c.run.state.clock c.step.new.state.clock old c.run.listing.tallies.items c.in-Told.moment e.2 c.run.invariant.printing.grown))
+    (grown_more c.run.state.clock c.step.new.state.clock old c.run.listing.tallies.items c.in-Told.moment e.2 c.run.invariant.printing.grown))
 
 pub returns-in_err-write_all-in-Stopped-clause-prefix : goal.returns-in_err-write_all-in-Stopped-clause-prefix
 returns-in_err-write_all-in-Stopped-clause-prefix g c =
@@ -120,10 +120,10 @@ returns-in_err-write_all-in-Stopped-clause-prefix g c =
     let code = c.args.image.now.instrs in
     let q = c.args.p.now.labelled in
     let t = stopped_end v g.E.MachineEnv.serves c.args.image.now c.args.limit from q c.args.observer c.run.state c.step.new.state c.in-Stopped.end
-        c.run.invariant.printing.moments c.run.invariant.printing.followed c.in-Stopped.ensures in
+    c.run.invariant.printing.moments c.run.invariant.printing.followed c.in-Stopped.ensures in
     let text : AppendsPrefix (g.W.Sink.taken c.run.out) (g.W.Sink.taken c.write_all.new.out) (last_line c.in-Stopped.end) =
     subst (AppendsPrefix (g.W.Sink.taken c.run.out) (g.W.Sink.taken c.write_all.new.out)) (c.bytes.ensures ∙ c.last_line-line.ensures)
-        c.in_err-write_all-in-Stopped.ensures.prefix in
+    c.in_err-write_all-in-Stopped.ensures.prefix in
     on_err _ _ (end_part v code c.args.limit from q c.args.observer c.run.state c.in-Stopped.end _ _ _ _ _ c.run.invariant.printing t.1 t.0 text)
 
 pub returns-in-Stopped-clause-end : goal.returns-in-Stopped-clause-end
@@ -133,7 +133,7 @@ returns-in-Stopped-clause-end g c =
     let code = c.args.image.now.instrs in
     let q = c.args.p.now.labelled in
     (stopped_end v g.E.MachineEnv.serves c.args.image.now c.args.limit from q c.args.observer c.run.state c.step.new.state c.in-Stopped.end
-        c.run.invariant.printing.moments c.run.invariant.printing.followed c.in-Stopped.ensures).0
+    c.run.invariant.printing.moments c.run.invariant.printing.followed c.in-Stopped.ensures).0
 
 pub returns-in-Stopped-clause-printed : goal.returns-in-Stopped-clause-printed
 returns-in-Stopped-clause-printed g c =
@@ -142,8 +142,8 @@ returns-in-Stopped-clause-printed g c =
     let code = c.args.image.now.instrs in
     let q = c.args.p.now.labelled in
     let t = stopped_end v g.E.MachineEnv.serves c.args.image.now c.args.limit from q c.args.observer c.run.state c.step.new.state c.in-Stopped.end
-        c.run.invariant.printing.moments c.run.invariant.printing.followed c.in-Stopped.ensures in
+    c.run.invariant.printing.moments c.run.invariant.printing.followed c.in-Stopped.ensures in
     let text : Appends (g.W.Sink.taken c.run.out) (g.W.Sink.taken c.write_all.new.out) (last_line c.in-Stopped.end) =
     subst (Appends (g.W.Sink.taken c.run.out) (g.W.Sink.taken c.write_all.new.out)) (c.bytes.ensures ∙ c.last_line-line.ensures)
-        c.in_ok-write_all-in-Stopped.ensures.ok in
+    c.in_ok-write_all-in-Stopped.ensures.ok in
     end_printed v code c.args.limit from q c.args.observer c.run.state c.in-Stopped.end _ _ _ _ _ c.run.invariant.printing t.1 t.0 text

@@ -5,7 +5,7 @@ use Rattle.run_timeline.proofs.step.step.Goals as goal
 pub obey-requires-clause-fits : goal.obey-requires-clause-fits
 obey-requires-clause-fits g c =
     fits_from g.E.MachineEnv.serves c.args.image.now c.at-i.result c.args.state.now c.requires c.at-i.ensures c.laws.ensures.operands
-        c.laws.ensures.opened c.laws.ensures.memory
+    c.laws.ensures.opened c.laws.ensures.memory
 
 pub obey-requires-clause-served : goal.obey-requires-clause-served
 obey-requires-clause-served g c = served_from g.E.MachineEnv.serves c.args.image.now c.at-i.result c.args.state.now c.requires c.at-i.ensures

@@ -21,7 +21,7 @@ returns-in_err-write_both-clause-prefix g c =
     let lt : c.loop-mark.mark < length ts = omega arith in
     let same : c.bytes.result.now ++ c.bytes-in-loop-mark.result.now ≡ mitigate_text ps c.loop-mark.mark tally.ended ++ tally_text tally =
     ap (λ z. z ++ c.bytes-in-loop-mark.result.now) (c.bytes.ensures
-        ∙ (c.mitigate_line-head.ensures ∙ ap (λ z. mitigate_text z c.loop-mark.mark tally.ended) c.deref.ensures.value))
+    ∙ (c.mitigate_line-head.ensures ∙ ap (λ z. mitigate_text z c.loop-mark.mark tally.ended) c.deref.ensures.value))
     ∙ ap (λ z. mitigate_text ps c.loop-mark.mark tally.ended ++ z) (c.bytes-in-loop-mark.ensures ∙ c.tally_line-rest.ensures) in
     on_err _ _ (sum_part ps ts _ _ _ c.loop-mark.mark tally c.loop-mark.invariant.summed lt c.index-tally.ensures
     (subst (AppendsPrefix (g.W.Sink.taken c.loop-mark.out) (g.W.Sink.taken c.write_both.new.out)) same c.in_err-write_both.ensures.prefix))
@@ -34,7 +34,7 @@ loop-mark-preserved g c =
     let lt : c.loop-mark.mark < length ts = omega arith in
     let same : c.bytes.result.now ++ c.bytes-in-loop-mark.result.now ≡ mitigate_text ps c.loop-mark.mark tally.ended ++ tally_text tally =
     ap (λ z. z ++ c.bytes-in-loop-mark.result.now) (c.bytes.ensures
-        ∙ (c.mitigate_line-head.ensures ∙ ap (λ z. mitigate_text z c.loop-mark.mark tally.ended) c.deref.ensures.value))
+    ∙ (c.mitigate_line-head.ensures ∙ ap (λ z. mitigate_text z c.loop-mark.mark tally.ended) c.deref.ensures.value))
     ∙ ap (λ z. mitigate_text ps c.loop-mark.mark tally.ended ++ z) (c.bytes-in-loop-mark.ensures ∙ c.tally_line-rest.ensures) in
     record {
       summed =

@@ -10,5 +10,5 @@ on_err (Err e) P h = h
 pub returns-in_err-write_all-2-clause-prefix : goal.returns-in_err-write_all-2-clause-prefix
 returns-in_err-write_all-2-clause-prefix g c =
     on_err _ _ (prefix_then (g.W.Sink.taken c.args.out.now) (g.W.Sink.taken c.write_all.new.out) (g.W.Sink.taken c.write_all-2.new.out) c.args.one.now
-        c.args.two.now [] (c.args.one.now ++ c.args.two.now)
+    c.args.two.now [] (c.args.one.now ++ c.args.two.now)
     c.in_ok-write_all.ensures.ok c.in_err-write_all-2.ensures.prefix (ap (λ z. c.args.one.now ++ z) (append-nil c.args.two.now)))

@@ -11,7 +11,7 @@ none_some (suc k) h = rising-zero k
 pub returns-else-entries-eq0 : goal.returns-else-entries-eq0
 returns-else-entries-eq0 c =
     let none : rising c.args.values c.args.entries ≡ 0 =
-        ap (λ z. rising z c.args.entries) c.if-values-eq0.true ∙ none_some c.args.entries c.if-entries-eq0.false in
+    ap (λ z. rising z c.args.entries) c.if-values-eq0.true ∙ none_some c.args.entries c.if-entries-eq0.false in
     sym (ap fitting none)
 
 some_of : (n : ℕ) → (n ≡ 0 → ⊥) → 1 ≤ n
@@ -30,5 +30,5 @@ returns-in_default c =
 pub returns : goal.returns
 returns c =
     let end : c.loop-value.value ≡ c.args.values =
-        omega (arith, c.loop-value-test.false, c.loop-value.auto.value-end (some_of c.args.values c.if-values-eq0.false)) in
+    omega (arith, c.loop-value-test.false, c.loop-value.auto.value-end (some_of c.args.values c.if-values-eq0.false)) in
     sym (fits c.loop-value.lists c.loop-value.invariant.1) ∙ ap fitting (c.loop-value.invariant.0 ∙ ap (λ z. rising z c.args.entries) end)

@@ -36,11 +36,11 @@ returns c =
     let end : c.loop-place.place ≡ 0 = omega arith in
     let whole : c.args.t / c.max.result / 2 ^ c.loop-place.place ≡ n =
     ap (λ z. c.args.t / c.max.result / 2 ^ z) end ∙ ap (λ z. c.args.t / c.max.result / z) (pow-zero 2) ∙ div-one (c.args.t / c.max.result)
-        ∙ ap (λ z. c.args.t / z) c.max.ensures in
+    ∙ ap (λ z. c.args.t / z) c.max.ensures in
     let table : IsTable n c.loop-place.table = subst (λ z. IsTable z c.loop-place.table) whole c.loop-place.invariant in
     let few : c.args.mitigations ≤ 64 = c.if-mitigations-gt-MAX_SHARED.false in
     let cell : get_or (get_or c.loop-place.table c.args.mitigations []) 0 0 ≡ shares (digits n) c.args.mitigations n 0 =
-        table c.args.mitigations few 0 (omega arith) in
+    table c.args.mitigations few 0 (omega arith) in
     record {
       exact = λ le all h. ap (λ z. Some z) (cell ∙ ways_of_level c.args.t c.args.first c.args.mitigations all h);
       left_out = λ more. absurd (omega arith);

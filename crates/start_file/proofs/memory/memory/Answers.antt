@@ -13,7 +13,7 @@ returns-in_default-clause-values c =
 pub put_all-requires-clause-zeros : goal.put_all-requires-clause-zeros
 put_all-requires-clause-zeros c =
     c.deref_mut.ensures.value ∙ c.in_ok-values.ensures ∙ ap (λ n. replicate n (pos 0)) c.variables.ensures.value
-        ∙ sym (zero_memory c.args.program.now.declarations)
+    ∙ sym (zero_memory c.args.program.now.declarations)
 
 pub returns-then-put_all-clause-values : goal.returns-then-put_all-clause-values
 returns-then-put_all-clause-values c =

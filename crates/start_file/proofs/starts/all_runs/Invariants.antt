@@ -8,4 +8,4 @@ use Rattle.start_file.proofs.starts.all_runs.Given as goal
 abbrev pub invariant-loop-i : goal.invariant-loop-i
 invariant-loop-i l =
     runs_from l.program l.version 1 (items_view l.values)
-        ≡ onto (map seen l.starts.items) (runs_from l.program l.version (l.i + 1) (items_view (drop l.i l.values)))
+    ≡ onto (map seen l.starts.items) (runs_from l.program l.version (l.i + 1) (items_view (drop l.i l.values)))

@@ -18,7 +18,7 @@ returns-clause-ok c =
     let version = c.in-Some.ensures ∙ ap version_of c.at.ensures in
     let known = keys_told is_top_key c.args.table.now.entries c.has_top_keys.result _ c.has_top_keys.ensures c.if-not-has_top_keys.false in
     let all = known_top c.args.program.now (table_view c.args.table.now) c.in-Some.version version known
-        ∙ sym (ap (runs_of c.args.program.now c.in-Some.version) c.at-2.ensures) in
+    ∙ sym (ap (runs_of c.args.program.now c.in-Some.version) c.at-2.ensures) in
     IfOk-weaker c.runs.result _ _ (λ v e. all ∙ e) c.runs.ensures.ok
 
 pub returns-clause-refused : goal.returns-clause-refused
@@ -26,5 +26,5 @@ returns-clause-refused c =
     let version = c.in-Some.ensures ∙ ap version_of c.at.ensures in
     let known = keys_told is_top_key c.args.table.now.entries c.has_top_keys.result _ c.has_top_keys.ensures c.if-not-has_top_keys.false in
     let all = known_top c.args.program.now (table_view c.args.table.now) c.in-Some.version version known
-        ∙ sym (ap (runs_of c.args.program.now c.in-Some.version) c.at-2.ensures) in
+    ∙ sym (ap (runs_of c.args.program.now c.in-Some.version) c.at-2.ensures) in
     IfErr-weaker c.runs.result _ _ (λ f e n. all ∙ e n) c.runs.ensures.refused

@@ -17,14 +17,14 @@ list_walk-command_walk-requires t c =
     let d = cut_count c.args.commands.now c.loop-c.c-index c.c-item.result c.loop-c-test.true c.c-item.is in
     let all = drop_count c.args.commands.now c.loop-c.c-index in
     let smaller : 2 * form_count c.c-item.result.form (record { pos = c.c-item.result.pos; labels = c.c-item.result.labels }) < 2 * count
-        (list_plan c.args.commands.now) + 1 = omega arith in
+    (list_plan c.args.commands.now) + 1 = omega arith in
     (search rules, omega arith)
 
 pub command_walk-list_walk-requires : goal.command_walk-list_walk-requires
 command_walk-list_walk-requires t c =
     let w : Written = record { pos = c.args.c.now.pos; labels = c.args.c.now.labels } in
     let n = if_count c.args.c.now.form c.in-If.guard c.in-If.then_part c.in-If.else_part c.deref.result.now c.in-If.else_part.items c.in-If.is
-        c.deref.ensures.value refl w in
+    c.deref.ensures.value refl w in
     let r = c.requires in
     let d = c.decreases in
     let smaller : 2 * count (list_plan c.deref.result.now) + 1 < 2 * form_count c.args.c.now.form w = omega arith in
@@ -34,7 +34,7 @@ pub command_walk-list_walk-requires-in-If : goal.command_walk-list_walk-requires
 command_walk-list_walk-requires-in-If t c =
     let w : Written = record { pos = c.args.c.now.pos; labels = c.args.c.now.labels } in
     let n = if_count c.args.c.now.form c.in-If.guard c.in-If.then_part c.in-If.else_part c.deref.result.now c.deref-in-If.result.now c.in-If.is
-        c.deref.ensures.value c.deref-in-If.ensures.value w in
+    c.deref.ensures.value c.deref-in-If.ensures.value w in
     let r = c.requires in
     let d = c.decreases in
     let m = c.in_ok-one-in-If.ensures.number in
@@ -62,7 +62,7 @@ pub command_walk-list_walk-requires-in-Mitigate : goal.command_walk-list_walk-re
 command_walk-list_walk-requires-in-Mitigate t c =
     let w : Written = record { pos = c.args.c.now.pos; labels = c.args.c.now.labels } in
     let n = mitigate_count c.args.c.now.form c.in-Mitigate.mark c.in-Mitigate.estimate c.in-Mitigate.level c.in-Mitigate.body c.deref-in-Mitigate.result.now
-        c.in-Mitigate.is c.deref-in-Mitigate.ensures.value w in
+    c.in-Mitigate.is c.deref-in-Mitigate.ensures.value w in
     let r = c.requires in
     let d = c.decreases in
     let smaller : 2 * count (list_plan c.deref-in-Mitigate.result.now) + 1 < 2 * form_count c.args.c.now.form w = omega arith in
@@ -72,7 +72,7 @@ pub command_walk-returns-in_ok-other-in-If-clause-number : goal.command_walk-ret
 command_walk-returns-in_ok-other-in-If-clause-number t c =
     let w : Written = record { pos = c.args.c.now.pos; labels = c.args.c.now.labels } in
     let n = if_count c.args.c.now.form c.in-If.guard c.in-If.then_part c.in-If.else_part c.deref.result.now c.deref-in-If.result.now c.in-If.is
-        c.deref.ensures.value c.deref-in-If.ensures.value w in
+    c.deref.ensures.value c.deref-in-If.ensures.value w in
     let a = c.in_ok-one-in-If.ensures.number in
     let b = c.in_ok-other-in-If.ensures.number in
     omega arith
@@ -88,7 +88,7 @@ pub command_walk-returns-in_ok-test-in-Mitigate-2-clause-number : goal.command_w
 command_walk-returns-in_ok-test-in-Mitigate-2-clause-number t c =
     let w : Written = record { pos = c.args.c.now.pos; labels = c.args.c.now.labels } in
     let n = mitigate_count c.args.c.now.form c.in-Mitigate.mark c.in-Mitigate.estimate c.in-Mitigate.level c.in-Mitigate.body c.deref-in-Mitigate.result.now
-        c.in-Mitigate.is c.deref-in-Mitigate.ensures.value w in
+    c.in-Mitigate.is c.deref-in-Mitigate.ensures.value w in
     let a = c.in_ok-part-in-Mitigate.ensures.number in
     omega arith
 
@@ -102,17 +102,17 @@ command_walk-returns-in_ok-other-in-If-clause-passes t c =
     let pc = c.args.pc.number in
     λ rest.
     let q = if_parts c.args.c.now.form c.in-If.guard c.in-If.then_part c.in-If.else_part c.deref.result.now c.deref-in-If.result.now c.in-If.is
-        c.deref.ensures.value c.deref-in-If.ensures.value w rest in
+    c.deref.ensures.value c.deref-in-If.ensures.value w rest in
     if_passes lat (variable_of o p) (marks_of o p) (level_of o p) w (expression_of c.in-If.guard) i pc c.args.t.number c.label-le.result.number
-        c.command-own.result.0.number c.label-le.ensures c.command-own.ensures.er
+    c.command-own.result.0.number c.label-le.ensures c.command-own.ensures.er
     c.index_label-in-If.result.number c.command-own.result.1.number c.join-in-If.result.number c.index_label-in-If.ensures c.command-own.ensures.ew
-        c.join-in-If.ensures.value c.in_ok-test-in-If.ensures.holds
+    c.join-in-If.ensures.value c.in_ok-test-in-If.ensures.holds
     (command_plan c.args.c.now rest) (list_plan c.deref.result.now) (list_plan c.deref-in-If.result.now) rest c.in_ok-one-in-If.one.0
-        c.join-inner.result.number c.join3-start.result.number
+    c.join-inner.result.number c.join3-start.result.number
     q c.join-inner.ensures.value c.join3-start.ensures c.in_ok-other-in-If.other.0 c.in_ok-one-in-If.one.1.number
-        c.in_ok-other-in-If.other.1.number c.join-in-If-2.result.number
+    c.in_ok-other-in-If.other.1.number c.join-in-If-2.result.number
     c.in_ok-one-in-If.ensures.number c.in_ok-other-in-If.ensures.number c.in_ok-one-in-If.ensures.passes
-        c.in_ok-other-in-If.ensures.passes c.join-in-If-2.ensures.value
+    c.in_ok-other-in-If.ensures.passes c.join-in-If-2.ensures.value
 
 pub command_walk-returns-in_err-one-in-If-clause-refused : goal.command_walk-returns-in_err-one-in-If-clause-refused
 command_walk-returns-in_err-one-in-If-clause-refused t c =
@@ -125,13 +125,13 @@ command_walk-returns-in_err-one-in-If-clause-refused t c =
     let b = err_from_is_err_and c.from_residual-in_err-one-in-If.result c.from_residual-in_err-one-in-If.ensures.1 in
     rw (b.1, b.2) (λ rest.
     let q = if_parts c.args.c.now.form c.in-If.guard c.in-If.then_part c.in-If.else_part c.deref.result.now c.in-If.else_part.items c.in-If.is
-        c.deref.ensures.value refl w rest in
+    c.deref.ensures.value refl w rest in
     if_broken_one lat (variable_of o p) (marks_of o p) (level_of o p) w (expression_of c.in-If.guard) i pc c.args.t.number c.label-le.result.number
-        c.command-own.result.0.number c.label-le.ensures c.command-own.ensures.er
+    c.command-own.result.0.number c.label-le.ensures c.command-own.ensures.er
     c.index_label-in-If.result.number c.command-own.result.1.number c.join-in-If.result.number c.index_label-in-If.ensures c.command-own.ensures.ew
-        c.join-in-If.ensures.value c.in_ok-test-in-If.ensures.holds
+    c.join-in-If.ensures.value c.in_ok-test-in-If.ensures.holds
     (command_plan c.args.c.now rest) (list_plan c.deref.result.now) (list_plan c.in-If.else_part.items) rest 0
-        c.join-inner.result.number c.join3-start.result.number
+    c.join-inner.result.number c.join3-start.result.number
     q c.join-inner.ensures.value c.join3-start.ensures c.in_err-one-in-If.field-0.0 c.in_err-one-in-If.ensures.refused)
 
 pub command_walk-returns-in_err-other-in-If-clause-refused : goal.command_walk-returns-in_err-other-in-If-clause-refused
@@ -145,15 +145,15 @@ command_walk-returns-in_err-other-in-If-clause-refused t c =
     let b = err_from_is_err_and c.from_residual-in_err-other-in-If.result c.from_residual-in_err-other-in-If.ensures.1 in
     rw (b.1, b.2) (λ rest.
     let q = if_parts c.args.c.now.form c.in-If.guard c.in-If.then_part c.in-If.else_part c.deref.result.now c.deref-in-If.result.now c.in-If.is
-        c.deref.ensures.value c.deref-in-If.ensures.value w rest in
+    c.deref.ensures.value c.deref-in-If.ensures.value w rest in
     if_broken_other lat (variable_of o p) (marks_of o p) (level_of o p) w (expression_of c.in-If.guard) i pc c.args.t.number c.label-le.result.number
-        c.command-own.result.0.number c.label-le.ensures c.command-own.ensures.er
+    c.command-own.result.0.number c.label-le.ensures c.command-own.ensures.er
     c.index_label-in-If.result.number c.command-own.result.1.number c.join-in-If.result.number c.index_label-in-If.ensures c.command-own.ensures.ew
-        c.join-in-If.ensures.value c.in_ok-test-in-If.ensures.holds
+    c.join-in-If.ensures.value c.in_ok-test-in-If.ensures.holds
     (command_plan c.args.c.now rest) (list_plan c.deref.result.now) (list_plan c.deref-in-If.result.now) rest c.in_ok-one-in-If.one.0
-        c.join-inner.result.number c.join3-start.result.number
+    c.join-inner.result.number c.join3-start.result.number
     q c.join-inner.ensures.value c.join3-start.ensures c.in_ok-one-in-If.one.1.number c.in_err-other-in-If.field-0.0 c.in_ok-one-in-If.ensures.number
-        c.in_ok-one-in-If.ensures.passes c.in_err-other-in-If.ensures.refused)
+    c.in_ok-one-in-If.ensures.passes c.in_err-other-in-If.ensures.refused)
 
 pub command_walk-returns-in_ok-part-in-While-clause-passes : goal.command_walk-returns-in_ok-part-in-While-clause-passes
 command_walk-returns-in_ok-part-in-While-clause-passes t c =
@@ -169,13 +169,13 @@ command_walk-returns-in_ok-part-in-While-clause-passes t c =
     let stays = c.list_end.ensures.end ∙ ap (λ z. end_of o p (list_plan z) (i + 1) inner start) same in
     λ rest.
     let q = while_parts c.args.c.now.form c.in-While.guard c.in-While.body c.deref-in-While-2.result.now c.in-While.is
-        c.deref-in-While-2.ensures.value w rest in
+    c.deref-in-While-2.ensures.value w rest in
     while_passes lat (variable_of o p) (marks_of o p) (level_of o p) w (expression_of c.in-While.guard) i pc c.args.t.number c.label-le-in-While.result.number
-        c.command-own.result.0.number c.label-le-in-While.ensures c.command-own.ensures.er
+    c.command-own.result.0.number c.label-le-in-While.ensures c.command-own.ensures.er
     c.index_label-in-While.result.number c.command-own.result.1.number c.join-in-While.result.number c.index_label-in-While.ensures c.command-own.ensures.ew
-        c.join-in-While.ensures.value c.in_ok-test-in-While.ensures.holds
+    c.join-in-While.ensures.value c.in_ok-test-in-While.ensures.holds
     (command_plan c.args.c.now rest) (list_plan c.deref-in-While-2.result.now) rest inner start c.list_end.result.1.number q c.join-inner-in-While.ensures.value
-        c.join3-start-in-While.ensures stays
+    c.join3-start-in-While.ensures stays
     c.in_ok-part-in-While.part.0 c.in_ok-part-in-While.part.1.number c.in_ok-part-in-While.ensures.number c.in_ok-part-in-While.ensures.passes
 
 pub command_walk-returns-in_err-part-in-While-clause-refused : goal.command_walk-returns-in_err-part-in-While-clause-refused
@@ -193,13 +193,13 @@ command_walk-returns-in_err-part-in-While-clause-refused t c =
     let b = err_from_is_err_and c.from_residual-in_err-part-in-While.result c.from_residual-in_err-part-in-While.ensures.1 in
     rw (b.1, b.2) (λ rest.
     let q = while_parts c.args.c.now.form c.in-While.guard c.in-While.body c.deref-in-While-2.result.now c.in-While.is
-        c.deref-in-While-2.ensures.value w rest in
+    c.deref-in-While-2.ensures.value w rest in
     while_broken lat (variable_of o p) (marks_of o p) (level_of o p) w (expression_of c.in-While.guard) i pc c.args.t.number c.label-le-in-While.result.number
-        c.command-own.result.0.number c.label-le-in-While.ensures c.command-own.ensures.er
+    c.command-own.result.0.number c.label-le-in-While.ensures c.command-own.ensures.er
     c.index_label-in-While.result.number c.command-own.result.1.number c.join-in-While.result.number c.index_label-in-While.ensures c.command-own.ensures.ew
-        c.join-in-While.ensures.value c.in_ok-test-in-While.ensures.holds
+    c.join-in-While.ensures.value c.in_ok-test-in-While.ensures.holds
     (command_plan c.args.c.now rest) (list_plan c.deref-in-While-2.result.now) rest inner start c.list_end.result.1.number q c.join-inner-in-While.ensures.value
-        c.join3-start-in-While.ensures stays
+    c.join3-start-in-While.ensures stays
     c.in_err-part-in-While.field-0.0 c.in_err-part-in-While.ensures.refused)
 
 pub command_walk-returns-in_ok-test-in-Mitigate-2-clause-passes : goal.command_walk-returns-in_ok-test-in-Mitigate-2-clause-passes
@@ -212,15 +212,15 @@ command_walk-returns-in_ok-test-in-Mitigate-2-clause-passes t c =
     let pc = c.args.pc.number in
     λ rest.
     let q = mitigate_parts c.args.c.now.form c.in-Mitigate.mark c.in-Mitigate.estimate c.in-Mitigate.level c.in-Mitigate.body c.deref-in-Mitigate.result.now
-        c.in-Mitigate.is c.deref-in-Mitigate.ensures.value w rest in
+    c.in-Mitigate.is c.deref-in-Mitigate.ensures.value w rest in
     mitigate_passes lat (variable_of o p) (marks_of o p) (level_of o p) w (expression_of c.in-Mitigate.estimate) i pc c.args.t.number
-        c.label-in-Mitigate.result.number c.command-own.result.0.number c.label-in-Mitigate.ensures c.command-own.ensures.er
+    c.label-in-Mitigate.result.number c.command-own.result.0.number c.label-in-Mitigate.ensures c.command-own.ensures.er
     c.index_label-in-Mitigate.result.number c.command-own.result.1.number c.join-in-Mitigate.result.number c.index_label-in-Mitigate.ensures
-        c.command-own.ensures.ew c.join-in-Mitigate.ensures.value c.in_ok-test-in-Mitigate.ensures.holds
+    c.command-own.ensures.ew c.join-in-Mitigate.ensures.value c.in_ok-test-in-Mitigate.ensures.holds
     (command_plan c.args.c.now rest) (list_plan c.deref-in-Mitigate.result.now) rest c.in-Mitigate.mark c.in-Mitigate.level
-        c.join3-start-in-Mitigate.result.number q c.join3-start-in-Mitigate.ensures
+    c.join3-start-in-Mitigate.result.number q c.join3-start-in-Mitigate.ensures
     c.in_ok-part-in-Mitigate.part.0 c.in_ok-part-in-Mitigate.part.1.number c.level.result.number c.in_ok-part-in-Mitigate.ensures.number
-        c.in_ok-part-in-Mitigate.ensures.passes c.level.ensures c.in_ok-test-in-Mitigate-2.ensures.holds
+    c.in_ok-part-in-Mitigate.ensures.passes c.level.ensures c.in_ok-test-in-Mitigate-2.ensures.holds
 
 pub command_walk-returns-in_err-part-in-Mitigate-clause-refused : goal.command_walk-returns-in_err-part-in-Mitigate-clause-refused
 command_walk-returns-in_err-part-in-Mitigate-clause-refused t c =
@@ -233,13 +233,13 @@ command_walk-returns-in_err-part-in-Mitigate-clause-refused t c =
     let b = err_from_is_err_and c.from_residual-in_err-part-in-Mitigate.result c.from_residual-in_err-part-in-Mitigate.ensures.1 in
     rw (b.1, b.2) (λ rest.
     let q = mitigate_parts c.args.c.now.form c.in-Mitigate.mark c.in-Mitigate.estimate c.in-Mitigate.level c.in-Mitigate.body c.deref-in-Mitigate.result.now
-        c.in-Mitigate.is c.deref-in-Mitigate.ensures.value w rest in
+    c.in-Mitigate.is c.deref-in-Mitigate.ensures.value w rest in
     mitigate_broken lat (variable_of o p) (marks_of o p) (level_of o p) w (expression_of c.in-Mitigate.estimate) i pc c.args.t.number
-        c.label-in-Mitigate.result.number c.command-own.result.0.number c.label-in-Mitigate.ensures c.command-own.ensures.er
+    c.label-in-Mitigate.result.number c.command-own.result.0.number c.label-in-Mitigate.ensures c.command-own.ensures.er
     c.index_label-in-Mitigate.result.number c.command-own.result.1.number c.join-in-Mitigate.result.number c.index_label-in-Mitigate.ensures
-        c.command-own.ensures.ew c.join-in-Mitigate.ensures.value c.in_ok-test-in-Mitigate.ensures.holds
+    c.command-own.ensures.ew c.join-in-Mitigate.ensures.value c.in_ok-test-in-Mitigate.ensures.holds
     (command_plan c.args.c.now rest) (list_plan c.deref-in-Mitigate.result.now) rest c.in-Mitigate.mark c.in-Mitigate.level
-        c.join3-start-in-Mitigate.result.number q c.join3-start-in-Mitigate.ensures
+    c.join3-start-in-Mitigate.result.number q c.join3-start-in-Mitigate.ensures
     c.in_err-part-in-Mitigate.field-0.0 c.in_err-part-in-Mitigate.ensures.refused)
 
 pub command_walk-returns-in_err-test-in-Mitigate-2-clause-refused : goal.command_walk-returns-in_err-test-in-Mitigate-2-clause-refused
@@ -253,13 +253,13 @@ command_walk-returns-in_err-test-in-Mitigate-2-clause-refused t c =
     let b = err_from_is_err_and c.from_residual-in_err-test-in-Mitigate-2.result c.from_residual-in_err-test-in-Mitigate-2.ensures.1 in
     rw (b.1, b.2) (λ rest.
     let q = mitigate_parts c.args.c.now.form c.in-Mitigate.mark c.in-Mitigate.estimate c.in-Mitigate.level c.in-Mitigate.body c.deref-in-Mitigate.result.now
-        c.in-Mitigate.is c.deref-in-Mitigate.ensures.value w rest in
+    c.in-Mitigate.is c.deref-in-Mitigate.ensures.value w rest in
     mitigate_high lat (variable_of o p) (marks_of o p) (level_of o p) w (expression_of c.in-Mitigate.estimate) i pc c.args.t.number
-        c.label-in-Mitigate.result.number c.command-own.result.0.number c.label-in-Mitigate.ensures c.command-own.ensures.er
+    c.label-in-Mitigate.result.number c.command-own.result.0.number c.label-in-Mitigate.ensures c.command-own.ensures.er
     c.index_label-in-Mitigate.result.number c.command-own.result.1.number c.join-in-Mitigate.result.number c.index_label-in-Mitigate.ensures
-        c.command-own.ensures.ew c.join-in-Mitigate.ensures.value c.in_ok-test-in-Mitigate.ensures.holds
+    c.command-own.ensures.ew c.join-in-Mitigate.ensures.value c.in_ok-test-in-Mitigate.ensures.holds
     (command_plan c.args.c.now rest) (list_plan c.deref-in-Mitigate.result.now) rest c.in-Mitigate.mark c.in-Mitigate.level
-        c.join3-start-in-Mitigate.result.number q c.join3-start-in-Mitigate.ensures
+    c.join3-start-in-Mitigate.result.number q c.join3-start-in-Mitigate.ensures
     c.in_ok-part-in-Mitigate.part.1.number c.level.result.number c.in_err-test-in-Mitigate-2.field-0.0 c.in_ok-part-in-Mitigate.ensures.passes c.level.ensures
     c.in_err-test-in-Mitigate-2.ensures.broken.1 c.in_err-test-in-Mitigate-2.ensures.broken.0)
 

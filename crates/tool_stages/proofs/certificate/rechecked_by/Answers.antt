@@ -25,5 +25,5 @@ returns-in-Err-clause-stop g c =
 pub returns-clause-log : goal.returns-clause-log
 returns-clause-log g c =
     fetch_stops (Vec ℕ Global) (Unit {0}) (c.args.file.now ∷ []) (g.S.Shelf.log c.args.shelf.now) (g.S.Shelf.log c.bytes_of.new.shelf)
-        c.in-Ok.bytes c.in-Err-rechecked.stop
+    c.in-Ok.bytes c.in-Err-rechecked.stop
     (not_read (CertificateStops ⊥ None c.args.p) (λ t h. h.0) c.in-Err-rechecked.stop (c.in-Err-rechecked.ensures.stop None tt)) c.in-Ok.ensures.log

@@ -11,7 +11,7 @@ returns-in-Ok-clause-ok g c =
 pub returns-in-Err-clause-stop : goal.returns-in-Err-clause-stop
 returns-in-Err-clause-stop g c =
     program_stops (λ (name : List ℕ). Rose (g.S.Shelf.faults c.args.shelf.now name) (g.S.Shelf.faults c.read_program.new.shelf name))
-        (g.S.Shelf.content c.args.shelf.now)
+    (g.S.Shelf.content c.args.shelf.now)
     c.args.file.now (option_map (λ s. s.now) c.args.name) c.in_ok-program.program c.in-Err.stop c.in_ok-program.ensures.ok c.in-Err.ensures.stop
 
 pub returns-in-Ok-clause-sound : goal.returns-in-Ok-clause-sound

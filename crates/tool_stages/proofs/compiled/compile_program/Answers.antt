@@ -8,5 +8,5 @@ returns-in-Ok-clause-sound c = c.accepted_are_sound.ensures.valid c.args.program
 pub returns-in-Err-clause-stop : goal.returns-in-Err-clause-stop
 returns-in-Err-clause-stop c =
     image_stops_program (option_map (λ s. s.now) c.args.name) c.args.program c.lattice.result c.in_ok-observer.observer
-        c.in_ok-typed.typed.labelled c.in-Err.stop
+    c.in_ok-typed.typed.labelled c.in-Err.stop
     c.lattice.ensures c.in_ok-observer.ensures.ok c.in_ok-typed.ensures.ok c.in-Err.ensures.stop

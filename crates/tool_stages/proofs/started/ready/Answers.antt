@@ -15,7 +15,7 @@ pub returns-in-Err-clause-stop : goal.returns-in-Err-clause-stop
 returns-in-Err-clause-stop g c =
     let rises = λ (name : List ℕ). Rose (g.S.Shelf.faults c.args.shelf.now name) (g.S.Shelf.faults c.compile.new.shelf name) in
     compile_stops rises rises (g.S.Shelf.content c.args.shelf.now) c.args.file.now (option_map (λ s. s.now) c.args.starts) (option_map (λ s. s.now) c.args.name)
-        c.in-Err.stop (λ r. r) c.in-Err.ensures.stop
+    c.in-Err.stop (λ r. r) c.in-Err.ensures.stop
 
 pub returns-in-Err-first_start-clause-stop : goal.returns-in-Err-first_start-clause-stop
 returns-in-Err-first_start-clause-stop g c =
@@ -24,7 +24,7 @@ returns-in-Err-first_start-clause-stop g c =
     later_first_stops (λ (name : List ℕ). Rose (g.S.Shelf.faults c.compile.new.shelf name) (g.S.Shelf.faults c.first_start.new.shelf name))
     (λ (name : List ℕ). Rose (g.S.Shelf.faults c.args.shelf.now name) (g.S.Shelf.faults c.first_start.new.shelf name))
     (g.S.Shelf.content c.compile.new.shelf) (g.S.Shelf.content c.args.shelf.now) c.args.file.now (option_map (λ s. s.now) c.args.starts)
-        (option_map (λ s. s.now) c.args.name)
+    (option_map (λ s. s.now) c.args.name)
     q c.in-Ok.compiled.observer c.in-Ok.compiled.image c.program.result.now c.in-Err-first_start.stop
     (λ name. rose_since _ _ _ (c.compile.ensures.later name)) c.compile.ensures.same is c.in-Ok.ensures.ok c.in-Err-first_start.ensures.stop
 
@@ -42,22 +42,22 @@ returns-in-Ok-first_start-clause-ok g c = record {
 pub returns-in-Ok-first_start-clause-log : goal.returns-in-Ok-first_start-clause-log
 returns-in-Ok-first_start-clause-log g c =
     fetch_then (c.args.file.now ∷ []) (named (option_map (λ s. s.now) c.args.starts)) (g.S.Shelf.log c.args.shelf.now) (g.S.Shelf.log c.compile.new.shelf)
-        (g.S.Shelf.log c.first_start.new.shelf)
+    (g.S.Shelf.log c.first_start.new.shelf)
     c.in-Ok.compiled (Ok c.in-Ok-first_start.start) c.in-Ok.ensures.log c.in-Ok-first_start.ensures.log
 
 pub returns-in-Err-first_start-clause-log : goal.returns-in-Err-first_start-clause-log
 returns-in-Err-first_start-clause-log g c =
     fetch_then {B = Start} (c.args.file.now ∷ []) (named (option_map (λ s. s.now) c.args.starts)) (g.S.Shelf.log c.args.shelf.now)
-        (g.S.Shelf.log c.compile.new.shelf) (g.S.Shelf.log c.first_start.new.shelf)
+    (g.S.Shelf.log c.compile.new.shelf) (g.S.Shelf.log c.first_start.new.shelf)
     c.in-Ok.compiled (Err c.in-Err-first_start.stop) c.in-Ok.ensures.log c.in-Err-first_start.ensures.log
 
 pub returns-in-Err-clause-log : goal.returns-in-Err-clause-log
 returns-in-Err-clause-log g c =
     fetch_stop Start Start (c.args.file.now ∷ []) (named (option_map (λ s. s.now) c.args.starts)) (g.S.Shelf.log c.args.shelf.now)
-        (g.S.Shelf.log c.compile.new.shelf) c.in-Err.stop c.in-Err.ensures.log
+    (g.S.Shelf.log c.compile.new.shelf) c.in-Err.stop c.in-Err.ensures.log
 
 pub returns-in-Err-clause-sound_stop : goal.returns-in-Err-clause-sound_stop
 returns-in-Err-clause-sound_stop g c = λ late.
     absurd (compile_not_late (λ (name : List ℕ). Rose (g.S.Shelf.faults c.args.shelf.now name) (g.S.Shelf.faults c.compile.new.shelf name))
-        (g.S.Shelf.content c.args.shelf.now)
+    (g.S.Shelf.content c.args.shelf.now)
     c.args.file.now (option_map (λ s. s.now) c.args.name) c.in-Err.stop c.in-Err.ensures.stop late)

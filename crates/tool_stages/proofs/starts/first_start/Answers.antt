@@ -10,7 +10,7 @@ swap_remove-requires g c =
 pub returns-in-Ok-all_starts-clause-ok : goal.returns-in-Ok-all_starts-clause-ok
 returns-in-Ok-all_starts-clause-ok g c =
     rw c.in-Some.is (first_given (g.S.Shelf.content c.args.shelf.now c.in-Some.file.now) c.args.p.now c.in-Ok-all_starts.starts.items c.swap_remove.result
-        c.in-Ok-all_starts.ensures.ok c.swap_remove.ensures.value)
+    c.in-Ok-all_starts.ensures.ok c.swap_remove.ensures.value)
 
 pub returns-in-Ok-all_starts-clause-valid : goal.returns-in-Ok-all_starts-clause-valid
 returns-in-Ok-all_starts-clause-valid g c =

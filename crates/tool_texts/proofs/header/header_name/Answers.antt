@@ -14,7 +14,7 @@ pub returns-in-Name-clause-name : goal.returns-in-Name-clause-name
 returns-in-Name-clause-name c =
     let place : 2 * c.from.result + 1 ≡ 2 * c.args.a.number + 1 = omega (arith, c.from.ensures, c.number.ensures) in
     c.bytes.ensures ∙ sym (name_at c.args.text.now c.args.tokens.now (2 * c.from.result + 1) _ c.if-place-tokens.false c.in-Name.is)
-        ∙ ap (named_at c.args.text.now c.args.tokens.now) place
+    ∙ ap (named_at c.args.text.now c.args.tokens.now) place
 
 pub returns-in-Name-clause-short : goal.returns-in-Name-clause-short
 returns-in-Name-clause-short c =

@@ -11,4 +11,4 @@ pub returns-clause-size : goal.returns-clause-size
 returns-clause-size c =
     let small : c.args.n < 2 ^ 64 = omega arith in
     length-appended c.put_unsigned.new.self c.args.line.now (decimal c.args.n) (length c.args.line.now) 20 c.put_unsigned.ensures (omega arith)
-        (length-decimal c.args.n small)
+    (length-decimal c.args.n small)

@@ -18,14 +18,14 @@ list_lines-command_lines-requires t c =
     let d = cut_count c.args.commands.now c.loop-c.c-index c.c-item.result c.loop-c-test.true c.c-item.is in
     let all = drop_count c.args.commands.now c.loop-c.c-index in
     let smaller : 2 * form_count c.c-item.result.form (record { pos = c.c-item.result.pos; labels = c.c-item.result.labels }) < 2 * count
-        (list_plan c.args.commands.now) + 1 = omega arith in
+    (list_plan c.args.commands.now) + 1 = omega arith in
     (search rules, tt)
 
 pub command_lines-list_lines-requires : goal.command_lines-list_lines-requires
 command_lines-list_lines-requires t c =
     let w : Written = record { pos = c.args.c.now.pos; labels = c.args.c.now.labels } in
     let n = if_count c.args.c.now.form c.in-If.guard c.in-If.then_part c.in-If.else_part c.deref.result.now c.in-If.else_part.items c.in-If.is
-        c.deref.ensures.value refl w in
+    c.deref.ensures.value refl w in
     let d = c.decreases in
     let smaller : 2 * count (list_plan c.deref.result.now) + 1 < 2 * form_count c.args.c.now.form w = omega arith in
     (search rules, tt)
@@ -34,7 +34,7 @@ pub command_lines-list_lines-requires-in-If : goal.command_lines-list_lines-requ
 command_lines-list_lines-requires-in-If t c =
     let w : Written = record { pos = c.args.c.now.pos; labels = c.args.c.now.labels } in
     let n = if_count c.args.c.now.form c.in-If.guard c.in-If.then_part c.in-If.else_part c.deref.result.now c.deref-in-If.result.now c.in-If.is
-        c.deref.ensures.value c.deref-in-If.ensures.value w in
+    c.deref.ensures.value c.deref-in-If.ensures.value w in
     let d = c.decreases in
     let smaller : 2 * count (list_plan c.deref-in-If.result.now) + 1 < 2 * form_count c.args.c.now.form w = omega arith in
     (search rules, tt)
@@ -51,7 +51,7 @@ pub command_lines-list_lines-requires-in-Mitigate : goal.command_lines-list_line
 command_lines-list_lines-requires-in-Mitigate t c =
     let w : Written = record { pos = c.args.c.now.pos; labels = c.args.c.now.labels } in
     let n = mitigate_count c.args.c.now.form c.in-Mitigate.mark c.in-Mitigate.estimate c.in-Mitigate.level c.in-Mitigate.body c.deref-in-Mitigate.result.now
-        c.in-Mitigate.is c.deref-in-Mitigate.ensures.value w in
+    c.in-Mitigate.is c.deref-in-Mitigate.ensures.value w in
     let d = c.decreases in
     let smaller : 2 * count (list_plan c.deref-in-Mitigate.result.now) + 1 < 2 * form_count c.args.c.now.form w = omega arith in
     (search rules, tt)
@@ -73,11 +73,11 @@ command_lines-returns-in_ok-push-in-Assign-clause-lines t c =
     λ rest.
     let all =
     assign_lines lat g ms ls w (expression_of c.in-Assign.value) c.args.pc c.args.start le read c.command-own.result.1 x c.len-number.result k c.label.ensures
-        c.command-own.ensures.er c.command-own.ensures.ew
+    c.command-own.ensures.er c.command-own.ensures.ew
     c.laws.ensures.lattice (command_plan c.args.c.now rest) rest c.in-Assign.variable c.join-end-in-Assign.result c.line-in-Assign.result
-        c.push-in-Assign.new.self.items
+    c.push-in-Assign.new.self.items
     (ap (λ z. form_plan z w rest) c.in-Assign.is) (c.join-end-in-Assign.ensures.value ∙ ap (λ z. lat.join z c.join3.result.number) c.variable.ensures
-        ∙ ap (lat.join (g c.in-Assign.variable)) sum)
+    ∙ ap (lat.join (g c.in-Assign.variable)) sum)
     c.line-in-Assign.ensures c.in_ok-push-in-Assign.ensures.items in
     all.0
 
@@ -98,11 +98,11 @@ command_lines-returns-in_ok-push-in-Assign-clause-end t c =
     λ rest.
     let all =
     assign_lines lat g ms ls w (expression_of c.in-Assign.value) c.args.pc c.args.start le read c.command-own.result.1 x c.len-number.result k c.label.ensures
-        c.command-own.ensures.er c.command-own.ensures.ew
+    c.command-own.ensures.er c.command-own.ensures.ew
     c.laws.ensures.lattice (command_plan c.args.c.now rest) rest c.in-Assign.variable c.join-end-in-Assign.result c.line-in-Assign.result
-        c.push-in-Assign.new.self.items
+    c.push-in-Assign.new.self.items
     (ap (λ z. form_plan z w rest) c.in-Assign.is) (c.join-end-in-Assign.ensures.value ∙ ap (λ z. lat.join z c.join3.result.number) c.variable.ensures
-        ∙ ap (lat.join (g c.in-Assign.variable)) sum)
+    ∙ ap (lat.join (g c.in-Assign.variable)) sum)
     c.line-in-Assign.ensures c.in_ok-push-in-Assign.ensures.items in
     all.1
 
@@ -124,11 +124,11 @@ command_lines-returns-in_ok-push-in-Put-clause-lines t c =
     λ rest.
     let all =
     put_lines lat g ms ls w (expression_of c.in-Put.value) c.args.pc c.args.start le read c.command-own.result.1 x c.len-number.result k c.label-in-Put.ensures
-        c.command-own.ensures.er c.command-own.ensures.ew
+    c.command-own.ensures.er c.command-own.ensures.ew
     c.laws-in-Put.ensures.lattice (command_plan c.args.c.now rest) rest c.in-Put.first c.in-Put.length (expression_of c.in-Put.index) li
-        c.join-end-in-Put.result c.line-in-Put.result c.push-in-Put.new.self.items
+    c.join-end-in-Put.result c.line-in-Put.result c.push-in-Put.new.self.items
     (ap (λ z. form_plan z w rest) c.in-Put.is) c.label-in-Put-2.ensures (c.join-end-in-Put.ensures.value
-        ∙ ap (λ z. lat.join z c.join3-in-Put.result.number) c.variable-in-Put.ensures ∙ ap (lat.join (g c.in-Put.first)) sum)
+    ∙ ap (λ z. lat.join z c.join3-in-Put.result.number) c.variable-in-Put.ensures ∙ ap (lat.join (g c.in-Put.first)) sum)
     c.line-in-Put.ensures c.in_ok-push-in-Put.ensures.items in
     all.0
 
@@ -150,11 +150,11 @@ command_lines-returns-in_ok-push-in-Put-clause-end t c =
     λ rest.
     let all =
     put_lines lat g ms ls w (expression_of c.in-Put.value) c.args.pc c.args.start le read c.command-own.result.1 x c.len-number.result k c.label-in-Put.ensures
-        c.command-own.ensures.er c.command-own.ensures.ew
+    c.command-own.ensures.er c.command-own.ensures.ew
     c.laws-in-Put.ensures.lattice (command_plan c.args.c.now rest) rest c.in-Put.first c.in-Put.length (expression_of c.in-Put.index) li
-        c.join-end-in-Put.result c.line-in-Put.result c.push-in-Put.new.self.items
+    c.join-end-in-Put.result c.line-in-Put.result c.push-in-Put.new.self.items
     (ap (λ z. form_plan z w rest) c.in-Put.is) c.label-in-Put-2.ensures (c.join-end-in-Put.ensures.value
-        ∙ ap (λ z. lat.join z c.join3-in-Put.result.number) c.variable-in-Put.ensures ∙ ap (lat.join (g c.in-Put.first)) sum)
+    ∙ ap (λ z. lat.join z c.join3-in-Put.result.number) c.variable-in-Put.ensures ∙ ap (lat.join (g c.in-Put.first)) sum)
     c.line-in-Put.ensures c.in_ok-push-in-Put.ensures.items in
     all.1
 
@@ -190,14 +190,14 @@ command_lines-returns-in_ok-other-in-If-clause-count t c =
     let all =
     λ (rest : Plan).
     if_lines lat g ms ls w (expression_of c.in-If.guard) c.args.pc c.args.start c.label-le.result read write x c.len-number.result k c.label-le.ensures
-        c.command-own.ensures.er c.command-own.ensures.ew
+    c.command-own.ensures.er c.command-own.ensures.ew
     (command_plan c.args.c.now rest) (list_plan c.deref.result.now) (list_plan c.deref-in-If.result.now) rest c.join-inner.result c.join3-from.result
-        c.in_ok-one-in-If.one c.in_ok-other-in-If.other end l l2 u y z f
+    c.in_ok-one-in-If.one c.in_ok-other-in-If.other end l l2 u y z f
     (if_parts c.args.c.now.form c.in-If.guard c.in-If.then_part c.in-If.else_part c.deref.result.now c.deref-in-If.result.now c.in-If.is c.deref.ensures.value
-        c.deref-in-If.ensures.value w rest) c.join-inner.ensures.value c.join3-from.ensures (ap (λ (v : Line). record v { end = end }) c.line-in-If.ensures) hu
+    c.deref-in-If.ensures.value w rest) c.join-inner.ensures.value c.join3-from.ensures (ap (λ (v : Line). record v { end = end }) c.line-in-If.ensures) hu
     hy c.in_ok-one-in-If.ensures.end hz c.in_ok-other-in-If.ensures.end c.join-end-in-If.ensures.value hf in
     let m = if_count c.args.c.now.form c.in-If.guard c.in-If.then_part c.in-If.else_part c.deref.result.now c.deref-in-If.result.now c.in-If.is
-        c.deref.ensures.value c.deref-in-If.ensures.value w in
+    c.deref.ensures.value c.deref-in-If.ensures.value w in
     let q = (all Done).0 in
     ap length back ∙ omega (arith, q, m)
 
@@ -233,11 +233,11 @@ command_lines-returns-in_ok-other-in-If-clause-lines t c =
     let all =
     λ (rest : Plan).
     if_lines lat g ms ls w (expression_of c.in-If.guard) c.args.pc c.args.start c.label-le.result read write x c.len-number.result k c.label-le.ensures
-        c.command-own.ensures.er c.command-own.ensures.ew
+    c.command-own.ensures.er c.command-own.ensures.ew
     (command_plan c.args.c.now rest) (list_plan c.deref.result.now) (list_plan c.deref-in-If.result.now) rest c.join-inner.result c.join3-from.result
-        c.in_ok-one-in-If.one c.in_ok-other-in-If.other end l l2 u y z f
+    c.in_ok-one-in-If.one c.in_ok-other-in-If.other end l l2 u y z f
     (if_parts c.args.c.now.form c.in-If.guard c.in-If.then_part c.in-If.else_part c.deref.result.now c.deref-in-If.result.now c.in-If.is c.deref.ensures.value
-        c.deref-in-If.ensures.value w rest) c.join-inner.ensures.value c.join3-from.ensures (ap (λ (v : Line). record v { end = end }) c.line-in-If.ensures) hu
+    c.deref-in-If.ensures.value w rest) c.join-inner.ensures.value c.join3-from.ensures (ap (λ (v : Line). record v { end = end }) c.line-in-If.ensures) hu
     hy c.in_ok-one-in-If.ensures.end hz c.in_ok-other-in-If.ensures.end c.join-end-in-If.ensures.value hf in
     λ rest. (all rest).1 ∙ ap (λ v. v ++ derived lat g (tree_of o p rest (length v)) c.args.pc.number end.number) (sym back)
 
@@ -273,11 +273,11 @@ command_lines-returns-in_ok-other-in-If-clause-end t c =
     let all =
     λ (rest : Plan).
     if_lines lat g ms ls w (expression_of c.in-If.guard) c.args.pc c.args.start c.label-le.result read write x c.len-number.result k c.label-le.ensures
-        c.command-own.ensures.er c.command-own.ensures.ew
+    c.command-own.ensures.er c.command-own.ensures.ew
     (command_plan c.args.c.now rest) (list_plan c.deref.result.now) (list_plan c.deref-in-If.result.now) rest c.join-inner.result c.join3-from.result
-        c.in_ok-one-in-If.one c.in_ok-other-in-If.other end l l2 u y z f
+    c.in_ok-one-in-If.one c.in_ok-other-in-If.other end l l2 u y z f
     (if_parts c.args.c.now.form c.in-If.guard c.in-If.then_part c.in-If.else_part c.deref.result.now c.deref-in-If.result.now c.in-If.is c.deref.ensures.value
-        c.deref-in-If.ensures.value w rest) c.join-inner.ensures.value c.join3-from.ensures (ap (λ (v : Line). record v { end = end }) c.line-in-If.ensures) hu
+    c.deref-in-If.ensures.value w rest) c.join-inner.ensures.value c.join3-from.ensures (ap (λ (v : Line). record v { end = end }) c.line-in-If.ensures) hu
     hy c.in_ok-one-in-If.ensures.end hz c.in_ok-other-in-If.ensures.end c.join-end-in-If.ensures.value hf in
     λ rest. (all rest).2 ∙ ap (λ v. end_of o p rest (length v) c.args.pc.number end.number) (sym back)
 
@@ -301,7 +301,7 @@ command_lines-returns-in_ok-end-in-While-clause-count t c =
     let y = c.list_lines-in-While.new.found.items in
     let f = c.close_loop.new.lines in
     let A = derived lat g (tree_of o p (list_plan c.deref-in-While.result.now) (length u)) c.join-inner-in-While.result.number
-        c.join3-from-in-While.result.number in
+    c.join3-from-in-While.result.number in
     let hu = c.in_ok-push-in-While.ensures.items in
     let hy = c.in_ok-end-in-While.ensures.lines in
     let hd = c.deref_mut-in-While.ensures.value in
@@ -311,11 +311,11 @@ command_lines-returns-in_ok-end-in-While-clause-count t c =
     let all =
     λ (rest : Plan).
     while_lines lat g ms ls w (expression_of c.in-While.guard) c.args.pc c.args.start c.label-le-in-While.result read write x c.len-number.result k
-        c.label-le-in-While.ensures c.command-own.ensures.er c.command-own.ensures.ew
+    c.label-le-in-While.ensures c.command-own.ensures.er c.command-own.ensures.ew
     c.laws-in-While.ensures.lattice (command_plan c.args.c.now rest) (list_plan c.deref-in-While.result.now) rest c.join-inner-in-While.result
-        c.join3-from-in-While.result end l l2 u y f
+    c.join3-from-in-While.result end l l2 u y f
     (while_parts c.args.c.now.form c.in-While.guard c.in-While.body c.deref-in-While.result.now c.in-While.is c.deref-in-While.ensures.value w rest)
-        c.join-inner-in-While.ensures.value c.join3-from-in-While.ensures (ap (λ (v : Line). record v { end = end }) c.line-in-While.ensures) hu
+    c.join-inner-in-While.ensures.value c.join3-from-in-While.ensures (ap (λ (v : Line). record v { end = end }) c.line-in-While.ensures) hu
     hy c.in_ok-end-in-While.ensures.end hf in
     let m = while_count c.args.c.now.form c.in-While.guard c.in-While.body c.deref-in-While.result.now c.in-While.is c.deref-in-While.ensures.value w in
     let q = (all Done).0 in
@@ -341,7 +341,7 @@ command_lines-returns-in_ok-end-in-While-clause-lines t c =
     let y = c.list_lines-in-While.new.found.items in
     let f = c.close_loop.new.lines in
     let A = derived lat g (tree_of o p (list_plan c.deref-in-While.result.now) (length u)) c.join-inner-in-While.result.number
-        c.join3-from-in-While.result.number in
+    c.join3-from-in-While.result.number in
     let hu = c.in_ok-push-in-While.ensures.items in
     let hy = c.in_ok-end-in-While.ensures.lines in
     let hd = c.deref_mut-in-While.ensures.value in
@@ -351,11 +351,11 @@ command_lines-returns-in_ok-end-in-While-clause-lines t c =
     let all =
     λ (rest : Plan).
     while_lines lat g ms ls w (expression_of c.in-While.guard) c.args.pc c.args.start c.label-le-in-While.result read write x c.len-number.result k
-        c.label-le-in-While.ensures c.command-own.ensures.er c.command-own.ensures.ew
+    c.label-le-in-While.ensures c.command-own.ensures.er c.command-own.ensures.ew
     c.laws-in-While.ensures.lattice (command_plan c.args.c.now rest) (list_plan c.deref-in-While.result.now) rest c.join-inner-in-While.result
-        c.join3-from-in-While.result end l l2 u y f
+    c.join3-from-in-While.result end l l2 u y f
     (while_parts c.args.c.now.form c.in-While.guard c.in-While.body c.deref-in-While.result.now c.in-While.is c.deref-in-While.ensures.value w rest)
-        c.join-inner-in-While.ensures.value c.join3-from-in-While.ensures (ap (λ (v : Line). record v { end = end }) c.line-in-While.ensures) hu
+    c.join-inner-in-While.ensures.value c.join3-from-in-While.ensures (ap (λ (v : Line). record v { end = end }) c.line-in-While.ensures) hu
     hy c.in_ok-end-in-While.ensures.end hf in
     λ rest. (all rest).1 ∙ ap (λ v. v ++ derived lat g (tree_of o p rest (length v)) c.args.pc.number end.number) (sym back)
 
@@ -379,7 +379,7 @@ command_lines-returns-in_ok-end-in-While-clause-end t c =
     let y = c.list_lines-in-While.new.found.items in
     let f = c.close_loop.new.lines in
     let A = derived lat g (tree_of o p (list_plan c.deref-in-While.result.now) (length u)) c.join-inner-in-While.result.number
-        c.join3-from-in-While.result.number in
+    c.join3-from-in-While.result.number in
     let hu = c.in_ok-push-in-While.ensures.items in
     let hy = c.in_ok-end-in-While.ensures.lines in
     let hd = c.deref_mut-in-While.ensures.value in
@@ -389,11 +389,11 @@ command_lines-returns-in_ok-end-in-While-clause-end t c =
     let all =
     λ (rest : Plan).
     while_lines lat g ms ls w (expression_of c.in-While.guard) c.args.pc c.args.start c.label-le-in-While.result read write x c.len-number.result k
-        c.label-le-in-While.ensures c.command-own.ensures.er c.command-own.ensures.ew
+    c.label-le-in-While.ensures c.command-own.ensures.er c.command-own.ensures.ew
     c.laws-in-While.ensures.lattice (command_plan c.args.c.now rest) (list_plan c.deref-in-While.result.now) rest c.join-inner-in-While.result
-        c.join3-from-in-While.result end l l2 u y f
+    c.join3-from-in-While.result end l l2 u y f
     (while_parts c.args.c.now.form c.in-While.guard c.in-While.body c.deref-in-While.result.now c.in-While.is c.deref-in-While.ensures.value w rest)
-        c.join-inner-in-While.ensures.value c.join3-from-in-While.ensures (ap (λ (v : Line). record v { end = end }) c.line-in-While.ensures) hu
+    c.join-inner-in-While.ensures.value c.join3-from-in-While.ensures (ap (λ (v : Line). record v { end = end }) c.line-in-While.ensures) hu
     hy c.in_ok-end-in-While.ensures.end hf in
     λ rest. (all rest).2 ∙ ap (λ v. end_of o p rest (length v) c.args.pc.number end.number) (sym back)
 
@@ -413,15 +413,15 @@ command_lines-returns-in_ok-list_lines-in-Mitigate-clause-count t c =
     let all =
     λ (rest : Plan).
     mitigate_lines lat g ms ls w (expression_of c.in-Mitigate.estimate) c.args.pc c.args.start c.label-in-Mitigate.result read write x c.len-number.result k
-        c.label-in-Mitigate.ensures c.command-own.ensures.er c.command-own.ensures.ew
+    c.label-in-Mitigate.ensures c.command-own.ensures.er c.command-own.ensures.ew
     c.in-Mitigate.mark c.in-Mitigate.level (command_plan c.args.c.now rest) (list_plan c.deref-in-Mitigate.result.now) rest c.join3-end-in-Mitigate.result
-        c.level-level.result _ c.push-in-Mitigate.new.self.items c.list_lines-in-Mitigate.new.found.items
+    c.level-level.result _ c.push-in-Mitigate.new.self.items c.list_lines-in-Mitigate.new.found.items
     (mitigate_parts c.args.c.now.form c.in-Mitigate.mark c.in-Mitigate.estimate c.in-Mitigate.level c.in-Mitigate.body c.deref-in-Mitigate.result.now
-        c.in-Mitigate.is c.deref-in-Mitigate.ensures.value w rest) c.join3-end-in-Mitigate.ensures c.level-level.ensures
-        (ap (λ (v : Line). record v { level = Some c.level-level.result }) c.line-in-Mitigate.ensures) c.in_ok-push-in-Mitigate.ensures.items
+    c.in-Mitigate.is c.deref-in-Mitigate.ensures.value w rest) c.join3-end-in-Mitigate.ensures c.level-level.ensures
+    (ap (λ (v : Line). record v { level = Some c.level-level.result }) c.line-in-Mitigate.ensures) c.in_ok-push-in-Mitigate.ensures.items
     c.in_ok-list_lines-in-Mitigate.ensures.lines in
     let m = mitigate_count c.args.c.now.form c.in-Mitigate.mark c.in-Mitigate.estimate c.in-Mitigate.level c.in-Mitigate.body c.deref-in-Mitigate.result.now
-        c.in-Mitigate.is c.deref-in-Mitigate.ensures.value w in
+    c.in-Mitigate.is c.deref-in-Mitigate.ensures.value w in
     let q = (all Done).0 in
     omega (arith, q, m)
 
@@ -441,12 +441,12 @@ command_lines-returns-in_ok-list_lines-in-Mitigate-clause-lines t c =
     let all =
     λ (rest : Plan).
     mitigate_lines lat g ms ls w (expression_of c.in-Mitigate.estimate) c.args.pc c.args.start c.label-in-Mitigate.result read write x c.len-number.result k
-        c.label-in-Mitigate.ensures c.command-own.ensures.er c.command-own.ensures.ew
+    c.label-in-Mitigate.ensures c.command-own.ensures.er c.command-own.ensures.ew
     c.in-Mitigate.mark c.in-Mitigate.level (command_plan c.args.c.now rest) (list_plan c.deref-in-Mitigate.result.now) rest c.join3-end-in-Mitigate.result
-        c.level-level.result _ c.push-in-Mitigate.new.self.items c.list_lines-in-Mitigate.new.found.items
+    c.level-level.result _ c.push-in-Mitigate.new.self.items c.list_lines-in-Mitigate.new.found.items
     (mitigate_parts c.args.c.now.form c.in-Mitigate.mark c.in-Mitigate.estimate c.in-Mitigate.level c.in-Mitigate.body c.deref-in-Mitigate.result.now
-        c.in-Mitigate.is c.deref-in-Mitigate.ensures.value w rest) c.join3-end-in-Mitigate.ensures c.level-level.ensures
-        (ap (λ (v : Line). record v { level = Some c.level-level.result }) c.line-in-Mitigate.ensures) c.in_ok-push-in-Mitigate.ensures.items
+    c.in-Mitigate.is c.deref-in-Mitigate.ensures.value w rest) c.join3-end-in-Mitigate.ensures c.level-level.ensures
+    (ap (λ (v : Line). record v { level = Some c.level-level.result }) c.line-in-Mitigate.ensures) c.in_ok-push-in-Mitigate.ensures.items
     c.in_ok-list_lines-in-Mitigate.ensures.lines in
     λ rest. (all rest).1
 
@@ -466,12 +466,12 @@ command_lines-returns-in_ok-list_lines-in-Mitigate-clause-end t c =
     let all =
     λ (rest : Plan).
     mitigate_lines lat g ms ls w (expression_of c.in-Mitigate.estimate) c.args.pc c.args.start c.label-in-Mitigate.result read write x c.len-number.result k
-        c.label-in-Mitigate.ensures c.command-own.ensures.er c.command-own.ensures.ew
+    c.label-in-Mitigate.ensures c.command-own.ensures.er c.command-own.ensures.ew
     c.in-Mitigate.mark c.in-Mitigate.level (command_plan c.args.c.now rest) (list_plan c.deref-in-Mitigate.result.now) rest c.join3-end-in-Mitigate.result
-        c.level-level.result _ c.push-in-Mitigate.new.self.items c.list_lines-in-Mitigate.new.found.items
+    c.level-level.result _ c.push-in-Mitigate.new.self.items c.list_lines-in-Mitigate.new.found.items
     (mitigate_parts c.args.c.now.form c.in-Mitigate.mark c.in-Mitigate.estimate c.in-Mitigate.level c.in-Mitigate.body c.deref-in-Mitigate.result.now
-        c.in-Mitigate.is c.deref-in-Mitigate.ensures.value w rest) c.join3-end-in-Mitigate.ensures c.level-level.ensures
-        (ap (λ (v : Line). record v { level = Some c.level-level.result }) c.line-in-Mitigate.ensures) c.in_ok-push-in-Mitigate.ensures.items
+    c.in-Mitigate.is c.deref-in-Mitigate.ensures.value w rest) c.join3-end-in-Mitigate.ensures c.level-level.ensures
+    (ap (λ (v : Line). record v { level = Some c.level-level.result }) c.line-in-Mitigate.ensures) c.in_ok-push-in-Mitigate.ensures.items
     c.in_ok-list_lines-in-Mitigate.ensures.lines in
     λ rest. (all rest).2
 
@@ -491,7 +491,7 @@ list_lines-loop-c-preserved t c =
       count = omega (arith, n, i, m);
       lines =
           c.loop-c.invariant.lines ∙ ap (λ z. f ++ derived (lattice_of o) (variable_of o p) (tree_of o p (list_plan z) (length f))
-              c.args.pc.number c.loop-c.end.number) u
+          c.args.pc.number c.loop-c.end.number) u
           ∙ c.in_ok-end.ensures.lines rest;
       end = sym (c.in_ok-end.ensures.end rest) ∙ sym (ap (λ z. end_of o p (list_plan z) (length f) c.args.pc.number c.loop-c.end.number) u)
           ∙ c.loop-c.invariant.end;
@@ -510,7 +510,7 @@ list_lines-returns-clause-lines t c =
     let e = drop_all c.loop-c.c-index c.args.commands.now c.loop-c-test.false in
     sym (append-nil f)
     ∙ sym (c.loop-c.invariant.lines
-        ∙ ap (λ z. f ++ derived (lattice_of o) (variable_of o p) (tree_of o p (list_plan z) (length f)) c.args.pc.number c.loop-c.end.number) e)
+    ∙ ap (λ z. f ++ derived (lattice_of o) (variable_of o p) (tree_of o p (list_plan z) (length f)) c.args.pc.number c.loop-c.end.number) e)
 
 pub list_lines-returns-clause-end : goal.list_lines-returns-clause-end
 list_lines-returns-clause-end t c =

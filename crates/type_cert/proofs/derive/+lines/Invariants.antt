@@ -11,7 +11,7 @@ invariant-list_lines-loop-c l = record {
   lines : l.fn.found.items ++ derived (lattice_of l.order) (variable_of l.order l.p) (tree_of l.order l.p (list_plan l.commands) (length l.fn.found.items))
       l.pc.number l.fn.start.number
       ≡ l.found.items ++ derived (lattice_of l.order) (variable_of l.order l.p)
-          (tree_of l.order l.p (list_plan (drop l.c-index l.commands)) (length l.found.items)) l.pc.number l.end.number;
+      (tree_of l.order l.p (list_plan (drop l.c-index l.commands)) (length l.found.items)) l.pc.number l.end.number;
   end : end_of l.order l.p (list_plan (drop l.c-index l.commands)) (length l.found.items) l.pc.number l.end.number
       ≡ end_of l.order l.p (list_plan l.commands) (length l.fn.found.items) l.pc.number l.fn.start.number;
 }

@@ -11,4 +11,4 @@ loop-i-preserved c =
     let m = c.loop-i.auto.i-end in
     λ x y e k.
     one_done (raised (lattice_of c.args.order.now) c.args.least.number) x y c.loop-i.lines _ c.loop-i.i c.raised.result _ (omega (arith, test, n, m))
-        c.raised.ensures refl (c.loop-i.invariant x y e k)
+    c.raised.ensures refl (c.loop-i.invariant x y e k)

@@ -14,7 +14,7 @@ pub command_places-returns-in_ok-list_places-in-If-clause-count : goal.command_p
 command_places-returns-in_ok-list_places-in-If-clause-count t c =
     let w : Written = record { pos = c.args.c.now.pos; labels = c.args.c.now.labels } in
     let n = if_count c.args.c.now.form c.in-If.guard c.in-If.then_part c.in-If.else_part c.deref.result.now c.deref-in-If.result.now c.in-If.is
-        c.deref.ensures.value c.deref-in-If.ensures.value w in
+    c.deref.ensures.value c.deref-in-If.ensures.value w in
     let p = pushed c.args.found.now.items c.push-in-If.new.self.items _ c.in_ok-push-in-If.ensures.items in
     let a = c.in_ok-then_last-in-If.ensures.count in
     let b = c.in_ok-list_places-in-If.ensures.count in
@@ -26,29 +26,29 @@ command_places-returns-in_ok-list_places-in-If-clause-places t c =
     let o = c.args.order.now in
     λ rest last h.
     let q = if_parts c.args.c.now.form c.in-If.guard c.in-If.then_part c.in-If.else_part c.deref.result.now c.deref-in-If.result.now c.in-If.is
-        c.deref.ensures.value c.deref-in-If.ensures.value w rest in
+    c.deref.ensures.value c.deref-in-If.ensures.value w rest in
     if_places (lattice_of o) (label_at o.bottom c.args.variables.now) w (expression_of c.in-If.guard) c.args.pc c.label-le-in-If.result c.join-in-If.result
-        c.index_label-in-If.result c.args.start c.args.close
+    c.index_label-in-If.result c.args.start c.args.close
     c.args.found.now.items c.label-le-in-If.ensures c.index_label-in-If.ensures c.join-in-If.ensures.value c.len-number.result
-        (c.len-number.ensures ∙ c.args.found.now.ok.0)
+    (c.len-number.ensures ∙ c.args.found.now.ok.0)
     (command_plan c.args.c.now rest) (list_plan c.deref.result.now) (list_plan c.deref-in-If.result.now) rest c.join-inner.result _ c.push-in-If.new.self.items
-        c.list_places.new.found.items c.list_places-in-If.new.found.items
+    c.list_places.new.found.items c.list_places-in-If.new.found.items
     last c.in_ok-then_last-in-If.then_last q h c.join-inner.ensures.value refl c.in_ok-push-in-If.ensures.items c.in_ok-then_last-in-If.ensures.places
-        c.in_ok-then_last-in-If.ensures.last c.in_ok-list_places-in-If.ensures.places
+    c.in_ok-then_last-in-If.ensures.last c.in_ok-list_places-in-If.ensures.places
 
 pub command_places-returns-in_ok-list_places-in-If-clause-last : goal.command_places-returns-in_ok-list_places-in-If-clause-last
 command_places-returns-in_ok-list_places-in-If-clause-last t c =
     let w : Written = record { pos = c.args.c.now.pos; labels = c.args.c.now.labels } in
     let n = if_count c.args.c.now.form c.in-If.guard c.in-If.then_part c.in-If.else_part c.deref.result.now c.deref-in-If.result.now c.in-If.is
-        c.deref.ensures.value c.deref-in-If.ensures.value w in
+    c.deref.ensures.value c.deref-in-If.ensures.value w in
     let p = pushed c.args.found.now.items c.push-in-If.new.self.items _ c.in_ok-push-in-If.ensures.items in
     let a = c.in_ok-then_last-in-If.ensures.count in
     let b = c.in_ok-list_places-in-If.ensures.count in
     λ rest last.
     let q = if_parts c.args.c.now.form c.in-If.guard c.in-If.then_part c.in-If.else_part c.deref.result.now c.deref-in-If.result.now c.in-If.is
-        c.deref.ensures.value c.deref-in-If.ensures.value w rest in
+    c.deref.ensures.value c.deref-in-If.ensures.value w rest in
     if_last w (expression_of c.in-If.guard) (command_plan c.args.c.now rest) (list_plan c.deref.result.now) (list_plan c.deref-in-If.result.now) rest
-        (length c.args.found.now.items) (length c.list_places-in-If.new.found.items) last q (omega (arith, p, a, b))
+    (length c.args.found.now.items) (length c.list_places-in-If.new.found.items) last q (omega (arith, p, a, b))
 
 pub command_places-returns-in_ok-list_places-in-While-clause-count : goal.command_places-returns-in_ok-list_places-in-While-clause-count
 command_places-returns-in_ok-list_places-in-While-clause-count t c =
@@ -65,11 +65,11 @@ command_places-returns-in_ok-list_places-in-While-clause-places t c =
     λ rest last h.
     let q = while_parts c.args.c.now.form c.in-While.guard c.in-While.body c.deref-in-While.result.now c.in-While.is c.deref-in-While.ensures.value w rest in
     while_places (lattice_of o) (label_at o.bottom c.args.variables.now) w (expression_of c.in-While.guard) c.args.pc c.label-le-in-While.result
-        c.join-in-While.result c.index_label-in-While.result c.args.start c.args.close
+    c.join-in-While.result c.index_label-in-While.result c.args.start c.args.close
     c.args.found.now.items c.label-le-in-While.ensures c.index_label-in-While.ensures c.join-in-While.ensures.value c.len-number.result
-        (c.len-number.ensures ∙ c.args.found.now.ok.0)
+    (c.len-number.ensures ∙ c.args.found.now.ok.0)
     (command_plan c.args.c.now rest) (list_plan c.deref-in-While.result.now) rest c.join-inner-in-While.result _ c.push-in-While.new.self.items
-        c.list_places-in-While.new.found.items
+    c.list_places-in-While.new.found.items
     last q h c.join-inner-in-While.ensures.value refl c.in_ok-push-in-While.ensures.items c.in_ok-list_places-in-While.ensures.places
 
 pub command_places-returns-in_ok-list_places-in-While-clause-last : goal.command_places-returns-in_ok-list_places-in-While-clause-last
@@ -80,13 +80,13 @@ command_places-returns-in_ok-list_places-in-While-clause-last t c =
     λ rest last.
     let q = while_parts c.args.c.now.form c.in-While.guard c.in-While.body c.deref-in-While.result.now c.in-While.is c.deref-in-While.ensures.value w rest in
     while_last w (expression_of c.in-While.guard) (command_plan c.args.c.now rest) (list_plan c.deref-in-While.result.now) rest (length c.args.found.now.items)
-        (length c.list_places-in-While.new.found.items) last q (omega (arith, p, a))
+    (length c.list_places-in-While.new.found.items) last q (omega (arith, p, a))
 
 pub command_places-returns-in_ok-list_places-in-Mitigate-clause-count : goal.command_places-returns-in_ok-list_places-in-Mitigate-clause-count
 command_places-returns-in_ok-list_places-in-Mitigate-clause-count t c =
     let w : Written = record { pos = c.args.c.now.pos; labels = c.args.c.now.labels } in
     let n = mitigate_count c.args.c.now.form c.in-Mitigate.mark c.in-Mitigate.estimate c.in-Mitigate.level c.in-Mitigate.body c.deref-in-Mitigate.result.now
-        c.in-Mitigate.is c.deref-in-Mitigate.ensures.value w in
+    c.in-Mitigate.is c.deref-in-Mitigate.ensures.value w in
     let p = pushed c.args.found.now.items c.push-in-Mitigate.new.self.items _ c.in_ok-push-in-Mitigate.ensures.items in
     let a = c.in_ok-list_places-in-Mitigate.ensures.count in
     omega (arith, n, p, a)
@@ -97,13 +97,13 @@ command_places-returns-in_ok-list_places-in-Mitigate-clause-places t c =
     let o = c.args.order.now in
     λ rest last h.
     let q = mitigate_parts c.args.c.now.form c.in-Mitigate.mark c.in-Mitigate.estimate c.in-Mitigate.level c.in-Mitigate.body c.deref-in-Mitigate.result.now
-        c.in-Mitigate.is c.deref-in-Mitigate.ensures.value w rest in
+    c.in-Mitigate.is c.deref-in-Mitigate.ensures.value w rest in
     mitigate_places (lattice_of o) (label_at o.bottom c.args.variables.now) w (expression_of c.in-Mitigate.estimate) c.args.pc c.label-le-in-Mitigate.result
-        c.join-in-Mitigate.result c.index_label-in-Mitigate.result c.args.start c.args.close
+    c.join-in-Mitigate.result c.index_label-in-Mitigate.result c.args.start c.args.close
     c.args.found.now.items c.label-le-in-Mitigate.ensures c.index_label-in-Mitigate.ensures c.join-in-Mitigate.ensures.value c.len-number.result
-        (c.len-number.ensures ∙ c.args.found.now.ok.0)
+    (c.len-number.ensures ∙ c.args.found.now.ok.0)
     c.in-Mitigate.mark c.in-Mitigate.level (command_plan c.args.c.now rest) (list_plan c.deref-in-Mitigate.result.now) rest _ c.push-in-Mitigate.new.self.items
-        c.list_places-in-Mitigate.new.found.items
+    c.list_places-in-Mitigate.new.found.items
     last q h refl c.in_ok-push-in-Mitigate.ensures.items c.in_ok-list_places-in-Mitigate.ensures.places
 
 pub command_places-returns-in_ok-list_places-in-Mitigate-clause-last : goal.command_places-returns-in_ok-list_places-in-Mitigate-clause-last
@@ -113,9 +113,9 @@ command_places-returns-in_ok-list_places-in-Mitigate-clause-last t c =
     let a = c.in_ok-list_places-in-Mitigate.ensures.count in
     λ rest last.
     let q = mitigate_parts c.args.c.now.form c.in-Mitigate.mark c.in-Mitigate.estimate c.in-Mitigate.level c.in-Mitigate.body c.deref-in-Mitigate.result.now
-        c.in-Mitigate.is c.deref-in-Mitigate.ensures.value w rest in
+    c.in-Mitigate.is c.deref-in-Mitigate.ensures.value w rest in
     mitigate_last w c.in-Mitigate.mark c.in-Mitigate.level (expression_of c.in-Mitigate.estimate) (command_plan c.args.c.now rest)
-        (list_plan c.deref-in-Mitigate.result.now) rest
+    (list_plan c.deref-in-Mitigate.result.now) rest
     (length c.args.found.now.items) (length c.list_places-in-Mitigate.new.found.items) last q (omega (arith, p, a))
 
 pub list_places-loop-k-preserved : goal.list_places-loop-k-preserved
@@ -151,7 +151,7 @@ list_places-returns-clause-places t c =
     let f = c.loop-k.found.items in
     let o = c.args.order.now in
     sym (append-nil f) ∙ sym (c.loop-k.invariant.places
-        ∙ ap (λ z. f ++ places (lattice_of o) (label_at o.bottom c.args.variables.now) (list_plan z) (length f) c.args.pc.number c.loop-k.from c.args.close) e)
+    ∙ ap (λ z. f ++ places (lattice_of o) (label_at o.bottom c.args.variables.now) (list_plan z) (length f) c.args.pc.number c.loop-k.from c.args.close) e)
 
 pub list_places-returns-clause-last : goal.list_places-returns-clause-last
 list_places-returns-clause-last t c =

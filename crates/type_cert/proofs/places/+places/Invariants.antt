@@ -11,7 +11,7 @@ invariant-list_places-loop-k l = record {
   places : l.fn.found.items ++ places (lattice_of l.order) (label_at l.order.bottom l.variables) (list_plan l.commands) (length l.fn.found.items)
       l.pc.number l.fn.start l.close
       ≡ l.found.items ++ places (lattice_of l.order) (label_at l.order.bottom l.variables) (list_plan (drop l.k l.commands))
-          (length l.found.items) l.pc.number l.from l.close;
+      (length l.found.items) l.pc.number l.from l.close;
   last : last_of (list_plan l.commands) (length l.fn.found.items) (length l.fn.found.items)
       ≡ last_of (list_plan (drop l.k l.commands)) (length l.found.items) l.last;
 }

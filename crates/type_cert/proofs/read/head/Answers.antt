@@ -10,7 +10,7 @@ returns-in_err-rest-2 c =
     let r0 = c.in_ok-rest.rest.now in
     let e0 = c.in_ok-rest.ensures ∙ ap (λ z. z ++ r0) d in
     rw c.from_residual-in_err-rest-2.ensures
-        (λ q h. c.in_err-rest-2.ensures (rule_name c.args.rule ++ q) (head_parts c.args.number c.args.rule c.args.text.now r0 q e0 h))
+    (λ q h. c.in_err-rest-2.ensures (rule_name c.args.rule ++ q) (head_parts c.args.number c.args.rule c.args.text.now r0 q e0 h))
 
 pub returns-in_err-rest-3 : goal.returns-in_err-rest-3
 returns-in_err-rest-3 c =
@@ -20,7 +20,7 @@ returns-in_err-rest-3 c =
     let e0 = c.in_ok-rest.ensures ∙ ap (λ z. z ++ r0) d in
     rw c.from_residual-in_err-rest-3.ensures (λ q h. c.in_err-rest-3.ensures q
     (head_rule c.args.rule r0 r1 q c.in_ok-rest-2.ensures (head_parts c.args.number c.args.rule c.args.text.now r0 q e0 h)
-        ∙ ap (λ z. z ++ q) (sym c.rule_name.ensures)))
+    ∙ ap (λ z. z ++ q) (sym c.rule_name.ensures)))
 
 pub returns : goal.returns
 returns c =
@@ -29,4 +29,4 @@ returns c =
     let r1 = c.in_ok-rest-2.rest.now in
     let r2 = c.in_ok-rest-3.rest.now in
     head_from c.args.number c.args.rule c.args.text.now r0 r1 r2 (c.in_ok-rest.ensures ∙ ap (λ z. z ++ r0) d) c.in_ok-rest-2.ensures (c.in_ok-rest-3.ensures
-        ∙ ap (λ z. z ++ r2) c.rule_name.ensures)
+    ∙ ap (λ z. z ++ r2) c.rule_name.ensures)

@@ -13,7 +13,7 @@ returns-in_err-label c =
     let r1 = c.in_ok-rest-2.rest.now in
     let e = c.in_ok-rest-2.ensures ∙ ap (λ z. z ++ r1) c.bytes.ensures.value in
     rw c.from_residual-in_err-label.ensures
-        (λ l q h. c.in_err-label.ensures l (codes "\n" ++ q) (at_variable o ok w text l q h r1 (past_name o ok w text l q h r0 r1 c.in_ok-rest.ensures e)))
+    (λ l q h. c.in_err-label.ensures l (codes "\n" ++ q) (at_variable o ok w text l q h r1 (past_name o ok w text l q h r0 r1 c.in_ok-rest.ensures e)))
 
 pub returns-in_err-rest-3 : goal.returns-in_err-rest-3
 returns-in_err-rest-3 c =

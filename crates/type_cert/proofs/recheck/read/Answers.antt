@@ -78,7 +78,7 @@ line_number-requires c =
     let ep = c.deref-place-items.ensures.value ∙ c.in_ok-places.ensures ∙ ap (places_of c.args.p.now) c.deref-2.ensures.value in
     let test = c.loop-number-test.true in
     line_small c.args.p.now c.laws-2.ensures.valid c.in_ok-declared.declared.items c.deref-place-items.result.now c.len.result c.loop-number.number
-        c.in_ok-declared.ensures.complete ep
+    c.in_ok-declared.ensures.complete ep
     (c.len.ensures ∙ c.in_ok-declared.declared.ok.0) (omega (arith, test))
 
 pub line_number-requires-then-not-is_empty : goal.line_number-requires-then-not-is_empty
@@ -86,7 +86,7 @@ line_number-requires-then-not-is_empty c =
     let ep = c.in_ok-places.ensures ∙ ap (places_of c.args.p.now) c.deref-2.ensures.value in
     let n = c.len-then-not-is_empty-2.ensures ∙ c.in_ok-places.places.ok.0 in
     line_small c.args.p.now c.laws-2.ensures.valid c.in_ok-declared.declared.items c.in_ok-places.places.items c.len-then-not-is_empty.result
-        c.len-then-not-is_empty-2.result c.in_ok-declared.ensures.complete ep
+    c.len-then-not-is_empty-2.result c.in_ok-declared.ensures.complete ep
     (c.len-then-not-is_empty.ensures ∙ c.in_ok-declared.declared.ok.0) (omega (arith, n))
 
 pub loop-number-init : goal.loop-number-init
@@ -106,9 +106,9 @@ loop-number-preserved c =
     record {
       begins =
           next_line c.args.p.now c.laws-2.ensures.valid c.args.bytes.now c.lattice-order.result c.lattice-order.ensures c.in_ok-declared.declared.items
-              c.in_ok-declared.ensures.complete ps ep k
+          c.in_ok-declared.ensures.complete ps ep k
           c.loop-number.lines.items c.loop-number.invariant.count c.loop-number.rest.now c.loop-number.invariant.begins c.deref-in-loop-number.result.now
-              c.deref-in-loop-number.ensures.value _ h (get_or_default ps k _ _ h)
+          c.deref-in-loop-number.ensures.value _ h (get_or_default ps k _ _ h)
           c.in-Some.line c.in-Some.next.now c.push.new.self.items c.in_ok-push.ensures.items c.in-Some.ensures.0 c.in-Some.ensures.1;
       count = pushed c.loop-number.lines.items c.push.new.self.items _ c.in_ok-push.ensures.items ∙ ap (λ z. z + 1) c.loop-number.invariant.count;
     }
@@ -120,9 +120,9 @@ returns-in_default-clause-fault c =
     let h = c.loop-number-test.true in
     let ep = c.deref-place-items.ensures.value ∙ c.in_ok-places.ensures ∙ ap (places_of c.args.p.now) c.deref-2.ensures.value in
     wrong_line c.args.p.now c.laws-2.ensures.valid c.args.bytes.now c.lattice-order.result c.lattice-order.ensures c.in_ok-declared.declared.items
-        c.in_ok-declared.ensures.complete ps ep k
+    c.in_ok-declared.ensures.complete ps ep k
     c.loop-number.lines.items c.loop-number.invariant.count c.loop-number.rest.now c.loop-number.invariant.begins c.deref-in-loop-number.result.now
-        c.deref-in-loop-number.ensures.value _ h (get_or_default ps k _ _ h)
+    c.deref-in-loop-number.ensures.value _ h (get_or_default ps k _ _ h)
     c.line_number.result (c.line_number.ensures ∙ ap (λ z. z + k + 2) (c.len.ensures ∙ c.in_ok-declared.declared.ok.0)) c.in_default.ensures
 
 pub returns-then-not-is_empty-clause-fault : goal.returns-then-not-is_empty-clause-fault
@@ -133,19 +133,19 @@ returns-then-not-is_empty-clause-fault c =
     let a = c.len-then-not-is_empty.ensures ∙ c.in_ok-declared.declared.ok.0 in
     let b = c.len-then-not-is_empty-2.ensures ∙ c.in_ok-places.places.ok.0 ∙ ap length (sym c.deref-place-items.ensures.value) in
     wrong_rest c.args.p.now c.laws-2.ensures.valid c.args.bytes.now c.lattice-order.result c.lattice-order.ensures c.in_ok-declared.declared.items
-        c.in_ok-declared.ensures.complete ps ep c.loop-number.number
+    c.in_ok-declared.ensures.complete ps ep c.loop-number.number
     c.loop-number.lines.items c.loop-number.invariant.count c.loop-number.rest.now c.loop-number.invariant.begins c.loop-number-test.false
-        c.loop-number.auto.number-end
+    c.loop-number.auto.number-end
     c.line_number-then-not-is_empty.result (omega (arith, n, a, b))
-        (some_bytes c.loop-number.rest.now c.is_empty.result c.is_empty.ensures c.if-not-is_empty.true)
+    (some_bytes c.loop-number.rest.now c.is_empty.result c.is_empty.ensures c.if-not-is_empty.true)
 
 pub returns-clause-contents : goal.returns-clause-contents
 returns-clause-contents c =
     let ps = c.deref-place-items.result.now in
     let ep = c.deref-place-items.ensures.value ∙ c.in_ok-places.ensures ∙ ap (places_of c.args.p.now) c.deref-2.ensures.value in
     contents c.args.p.now c.laws-2.ensures.valid c.args.bytes.now c.lattice-order.result c.lattice-order.ensures c.in_ok-declared.declared.items
-        c.in_ok-declared.ensures.complete ps ep c.loop-number.number
+    c.in_ok-declared.ensures.complete ps ep c.loop-number.number
     c.loop-number.lines.items c.loop-number.invariant.count c.loop-number.rest.now c.loop-number.invariant.begins c.loop-number-test.false
-        c.loop-number.auto.number-end
+    c.loop-number.auto.number-end
     c.in_ok-variables.variables.items (c.in_ok-variables.ensures ∙ ap (spread c.args.p.now.declarations) c.deref.ensures.value)
-        (no_bytes c.loop-number.rest.now c.is_empty.result c.is_empty.ensures c.if-not-is_empty.false)
+    (no_bytes c.loop-number.rest.now c.is_empty.result c.is_empty.ensures c.if-not-is_empty.false)

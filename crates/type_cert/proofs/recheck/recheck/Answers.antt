@@ -13,14 +13,14 @@ returns-in-Err-clause-fault c = c.in-Err.ensures.fault
 pub of-labelled-requires : goal.of-labelled-requires
 of-labelled-requires c =
     (made_of c.args.p c.laws.ensures.valid c.args.bytes.now c.in-Ok.contents.variables.items c.in-Ok.contents.lines.items c.deref.result.now
-        c.in-Ok-tables.held.commands.items c.in-Ok-tables.held.levels.items c.in-Ok-tables.held.pcs.items
+    c.in-Ok-tables.held.commands.items c.in-Ok-tables.held.levels.items c.in-Ok-tables.held.pcs.items
     c.in-Ok.ensures.contents c.deref.ensures.value c.in-Ok-tables.ensures.commands c.in-Ok-tables.ensures.levels c.in-Ok-tables.ensures.pcs).labelling
 
 pub of-requires : goal.of-requires
 of-requires c =
     let m =
     made_of c.args.p c.laws.ensures.valid c.args.bytes.now c.in-Ok.contents.variables.items c.in-Ok.contents.lines.items c.deref.result.now
-        c.in-Ok-tables.held.commands.items c.in-Ok-tables.held.levels.items c.in-Ok-tables.held.pcs.items
+    c.in-Ok-tables.held.commands.items c.in-Ok-tables.held.levels.items c.in-Ok-tables.held.pcs.items
     c.in-Ok.ensures.contents c.deref.ensures.value c.in-Ok-tables.ensures.commands c.in-Ok-tables.ensures.levels c.in-Ok-tables.ensures.pcs in
     record {
       typed = subst (λ z. HasType z) (sym c.of-labelled.ensures) m.typed;
@@ -35,7 +35,7 @@ pub returns-in-Ok-tables-clause-certificate : goal.returns-in-Ok-tables-clause-c
 returns-in-Ok-tables-clause-certificate c =
     let m =
     made_of c.args.p c.laws.ensures.valid c.args.bytes.now c.in-Ok.contents.variables.items c.in-Ok.contents.lines.items c.deref.result.now
-        c.in-Ok-tables.held.commands.items c.in-Ok-tables.held.levels.items c.in-Ok-tables.held.pcs.items
+    c.in-Ok-tables.held.commands.items c.in-Ok-tables.held.levels.items c.in-Ok-tables.held.pcs.items
     c.in-Ok.ensures.contents c.deref.ensures.value c.in-Ok-tables.ensures.commands c.in-Ok-tables.ensures.levels c.in-Ok-tables.ensures.pcs in
     subst (λ z. IsCertificate z c.args.bytes.now) (sym (ap (λ (z : TypedProgram). z.labelled) c.of.ensures ∙ c.of-labelled.ensures)) m.certificate
 

@@ -10,6 +10,6 @@ pub returns : goal.returns
 returns c = λ x q h m.
     let o = c.args.order.now in
     let e = cut_line o c.laws.ensures.order c.args.number c.args.place.now.act c.args.text.now x c.in_ok-line.line q
-        c.in_ok-line.rest.now h c.in_ok-line.ensures in
+    c.in_ok-line.rest.now h c.in_ok-line.ensures in
     both_ways c.meets.result c.if-meets.false
-        (c.meets.ensures.1 (subst (λ z. Meets (lattice_of o) (line_at o.bottom c.args.lines.now) c.args.place.now z) e.0 m))
+    (c.meets.ensures.1 (subst (λ z. Meets (lattice_of o) (line_at o.bottom c.args.lines.now) c.args.place.now z) e.0 m))

@@ -8,5 +8,5 @@ use Rattle.type_cert.proofs.recheck.right_variable.Goals as goal
 pub returns : goal.returns
 returns c = λ l q h k.
     let e = cut_variable c.args.order.now c.laws.ensures.order c.args.name c.args.text.now l c.in_ok-label.label q
-        c.in_ok-label.rest.now h c.in_ok-label.ensures in
+    c.in_ok-label.rest.now h c.in_ok-label.ensures in
     both_ways c.is_kept.result c.if-is_kept.false (c.is_kept.ensures.1 (subst (λ (z : Label). IsKept c.args.written z.number) e.0 k))

@@ -59,14 +59,25 @@ of-requires c =
       few = subst AreFew (sym e) (record { count = omega arith; elements = omega arith });
       names = subst (λ z. All (λ (d : Declaration). IsName d.0) z) (sym e) (all_one (λ (d : Declaration). IsName d.0) (104 ∷ [], high) name);
       differ = subst (λ z. AllDiffer (map (λ (d : Declaration). d.0) z)) (sym e) all_apart;
-      labels = subst (λ z. All (λ (d : Declaration). IsBelow n d.1.label) z) (sym e) (all_one (λ (d : Declaration). IsBelow n d.1.label) (104 ∷ [],
-          high) (omega (arith, size)));
+      labels = subst (λ z. All (λ (d : Declaration). IsBelow n d.1.label) z) (sym e) (all_one (λ (d : Declaration). IsBelow n d.1.label) (
+        104 ∷ [],
+        high,
+      ) (omega (arith, size)));
       arrays = subst AreShaped (sym e) (all_one (λ (d : Declaration). IsShaped d.1.label d.1.length) (104 ∷ [], high) tt);
       some = subst AreSome (sym q) tt;
       count = subst (λ z. count z ≤ 2147483647) (sym q) (omega arith);
-      known = subst (λ z. AreKnown n z (list_plan c.in_ok-body.body.items)) (sym e) (subst (λ z. AreKnown n scalars z) (sym q) (tt, tt, omega arith, tt,
-          (tt, (104 ∷ [], refl), tt), tt));
+      known = subst (λ z. AreKnown n z (list_plan c.in_ok-body.body.items)) (sym e) (subst (λ z. AreKnown n scalars z) (sym q) (
+        tt,
+        tt,
+        omega arith,
+        tt,
+        (tt, (104 ∷ [], refl), tt),
+        tt,
+      ));
       numbered = subst (λ z. AreNumbered 0 z) (sym q) (refl, tt, tt);
-      small = subst (λ z. AreSmall 0 z) (sym q) (record { depth = omega arith; operators = omega arith },
-          (record { depth = omega arith; operators = omega arith }, tt), tt);
+      small = subst (λ z. AreSmall 0 z) (sym q) (
+        record { depth = omega arith; operators = omega arith },
+        (record { depth = omega arith; operators = omega arith }, tt),
+        tt,
+      );
     }

@@ -19,7 +19,7 @@ returns-in_ok-reach_sides-in-Variable-clause-search c = λ x a pr e at none now 
     let same = ap length r.seen in
     let T = r.search x a l pr e at is (sym (ap (λ z. written x.program z) is) ∙ none) refl now S in
     let all : (d : Condition) → Contains x.conditions d → d.side ≡ Variable c.in-Variable.y → is_at c.reach_sides.new.self.reached.items d.parts ≡ true =
-        λ d k f. r.reached d (subst (λ z. Contains z d) e k) f in (
+    λ d k f. r.reached d (subst (λ z. Contains z d) e k) f in (
       seen_search x (state_of c.reach_sides.new.self) a T y (omega (arith, within, fit, same)) all,
       λ d z k f g w. reached_by x (state_of c.reach_sides.new.self) a T d.parts l.cost
           (all d k (f ∙ ap Variable (same_variable z y (sym g ∙ is)))) (le_is a.now l.cost now),
@@ -33,7 +33,7 @@ returns-else-not-index-clause-search c = λ x a pr e at none now S.
     let fit = c.requires.seen in
     let low : c.in-Variable.y < length c.args.self.now.seen.items = omega (arith, within, fit) in
     let same : is_at c.args.self.now.seen.items c.in-Variable.y ≡ c.index.result.now =
-        seen_same c.args.self.now.seen.items y c.index.result.now low ∙ sym c.index.ensures in
+    seen_same c.args.self.now.seen.items y c.index.result.now low ∙ sym c.index.ensures in
     let on : c.index.result.now ≡ true = search rules in
     let seen : is_at c.args.self.now.seen.items c.in-Variable.y ≡ true = same ∙ on in (
       S,

@@ -72,9 +72,9 @@ returns-then-begins-clause-start c = λ x told st r.
     let least = (c.is_plain_next.ensures.plain c.if-is_plain_next.true).1 x (reach_at c.loop-at.at R.now told) b.1.0 R.search refl refl b.1.2 b.1.3 in
     let begins = ap (λ z. written z b.1.0.step.part.spot) st.stands.0 ∙ b.1.4 in
     subst (λ (z : Search). IsNextStart x (state_of z) (record { head = c.loop-at.at.head; plain = c.loop-at.at.plain + 1; faint = c.loop-at.at.faint }) told
-        c.loop-at.at.plain) (sym b.0)
+    c.loop-at.at.plain) (sym b.0)
     (start_is x st.stands.3 (state_of c.loop-at.self) c.loop-at.at told R.now R.search every R.few R.goals false c.loop-at.at.plain refl b.1.0
-        b.1.2 b.1.3 least b.1.1 begins)
+    b.1.2 b.1.3 least b.1.1 begins)
 
 pub loop-at-smaller-else-begins : goal.loop-at-smaller-else-begins
 loop-at-smaller-else-begins c =
@@ -130,9 +130,9 @@ returns-then-begins-2-clause-start c = λ x told st r.
     let least = (c.is_plain_next.ensures.faint c.if-is_plain_next.false).1 x (reach_at c.loop-at.at R.now told) b.1.0 R.search refl refl b.1.2 b.1.3 in
     let begins = ap (λ z. written z b.1.0.step.part.spot) st.stands.0 ∙ b.1.4 in
     subst (λ (z : Search). IsNextStart x (state_of z) (record { head = c.loop-at.at.head; plain = c.loop-at.at.plain; faint = c.loop-at.at.faint + 1 }) told
-        c.loop-at.at.faint) (sym b.0)
+    c.loop-at.at.faint) (sym b.0)
     (start_is x st.stands.3 (state_of c.loop-at.self) c.loop-at.at told R.now R.search every R.few R.goals true c.loop-at.at.faint refl b.1.0
-        b.1.2 b.1.3 least b.1.1 begins)
+    b.1.2 b.1.3 least b.1.1 begins)
 
 pub loop-at-smaller : goal.loop-at-smaller
 loop-at-smaller c =

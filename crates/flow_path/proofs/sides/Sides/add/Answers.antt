@@ -15,12 +15,12 @@ returns-in-Some c = λ ds ss ps h S.
     let l : c.in-Some.y < length c.args.self.now.variables.items = search rules in
     let side = c.in-Some.ensures.some.0 in
     let here = subst (λ z. IsFound (SideCosts c.args.p.now c.args.target.now ds c.in-Some.y) ss z) (get_same vs y None c.index-slot.result.now l
-        ∙ sym c.index-slot.ensures) (S.each y (subst (λ z. c.in-Some.y < z) S.fit l)) in
+    ∙ sym c.index-slot.ensures) (S.each y (subst (λ z. c.in-Some.y < z) S.fit l)) in
     add_side s t ds ss ps c.args.rule c.args.pos c.args.side c.args.self.now S _ (c.then_goal-self.ensures ds ss ps h S.goal) y side l c.then.result
-        (c.then.ensures.side s t ds y ss ps h side here) refl refl
+    (c.then.ensures.side s t ds y ss ps h side here) refl refl
 
 pub returns-in-None : goal.returns-in-None
 returns-in-None c = λ ds ss ps h S.
     let m : c.len.result ≡ length c.args.self.now.variables.items = search rules in
     skip_side c.args.p.now c.args.target.now ds ss ps c.args.rule c.args.pos c.args.side c.args.self.now S _ (c.then_goal-self.ensures ds ss ps h S.goal)
-        (λ y l e. none-some y (sym c.in-None.is ∙ c.variable_of.ensures.none y (subst (λ z. y < z) (sym m) l) e)) refl refl
+    (λ y l e. none-some y (sym c.in-None.is ∙ c.variable_of.ensures.none y (subst (λ z. y < z) (sym m) l) e)) refl refl

@@ -25,9 +25,9 @@ invariant_of-self c =
     let is2 = with_items_is (with_items v.holders rn) an len2 in
     let here : slice_get v.labels.items x ≡ Some old = slice_get_read v.labels.items (length v.labels.items) x old refl (search rules) c.index.ensures in
     let first = c.remove_holder.ensures.told (has_label v.labels.items)
-        (subst (λ z. Tell z (has_label v.labels.items)) (sym c.deref_mut.ensures.value) inv.told) in
+    (subst (λ z. Tell z (has_label v.labels.items)) (sym c.deref_mut.ensures.value) inv.told) in
     let second = c.add_holder.ensures.told (less_of (has_label v.labels.items) old.number x)
-        (tell_same (less_of (has_label v.labels.items) old.number x) rn c.deref_mut-2.result.now (c.deref_mut-2.ensures.value ∙ is1) first) in
+    (tell_same (less_of (has_label v.labels.items) old.number x) rn c.deref_mut-2.result.now (c.deref_mut-2.ensures.value ∙ is1) first) in
     let above = c.room_for-self-inside.ensures in
     record {
       small = let s = inv.small in let n = length-set v.labels.items x c.args.label in omega (arith, s, n);

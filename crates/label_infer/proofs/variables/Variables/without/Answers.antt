@@ -7,4 +7,4 @@ use Rattle.label_infer.proofs.variables.Variables.without.Goals as goal
 pub returns : goal.returns
 returns c =
     sym (fixed_value (lattice_of c.args.order.now) c.laws.ensures.lattice (length c.args.self.now)
-        (label_at c.args.order.now.bottom c.args.self.now) c.args.base.number)
+    (label_at c.args.order.now.bottom c.args.self.now) c.args.base.number)

@@ -26,18 +26,18 @@ returns-clause-work c =
     let low = left_side_of c.fixed-low.result in
     let hl = c.fixed-low.ensures ∙ ap fixed (c.bottom.ensures.value ∙ ap (λ (z : Order). z.bottom) ho) in
     let hc = c.in_ok-list_constraints.ensures.constraints ∙ ap (λ z. constraints_in z ++ constraints_from k (list_plan c.body.result.now) low low)
-        c.new-conditions.ensures.items ∙ ap (λ z. constraints_from k z low low) c.body.ensures.body in
+    c.new-conditions.ensures.items ∙ ap (λ z. constraints_from k z low low) c.body.ensures.body in
     let hs = c.in_ok-list_levels.ensures ∙ ap (λ z. z ++ first_levels c.bottom-2.result.number (list_plan c.body-2.result.now)) c.new-levels.ensures.items
     ∙ ap (λ z. first_levels z (list_plan c.body-2.result.now)) (c.bottom-2.ensures.value ∙ ap (λ (z : Order). z.bottom) ho)
-        ∙ ap (λ z. first_levels s.order.bottom z) c.body-2.ensures.body in
+    ∙ ap (λ z. first_levels s.order.bottom z) c.body-2.ensures.body in
     let cl = c.len.ensures in
     let cok = c.list_constraints.new.found.ok.0 in
     let cn : c.len.result ≡ length c.list_constraints.new.found.items = omega (arith, cl, cok) in
     let hw = c.in_ok-waits.ensures ∙ ap (λ n. replicate n true) cn in
     let h = starts s c.body.ensures.valid k ho (c.in_ok-written_labels.ensures.fit) (c.in_ok-written_labels.ensures.labels) c.list_constraints.new.found.items
-        c.in_ok-waits.waits.items c.in_ok-variables.variables c.list_levels.new.found.items low hl hc hw c.in_ok-variables.ensures hs in
+    c.in_ok-waits.waits.items c.in_ok-variables.variables c.list_levels.new.found.items low hl hc hw c.in_ok-variables.ensures hs in
     subst (λ z. IsWorkOf s (work z c.list_constraints.new.found.items c.in_ok-waits.waits.items c.in_ok-variables.variables c.list_levels.new.found.items))
-        (sym ho) h
+    (sym ho) h
 
 pub returns-clause-first : goal.returns-clause-first
 returns-clause-first c =
@@ -51,18 +51,18 @@ returns-clause-first c =
     let low = left_side_of c.fixed-low.result in
     let hl = c.fixed-low.ensures ∙ ap fixed (c.bottom.ensures.value ∙ ap (λ (z : Order). z.bottom) ho) in
     let hc = c.in_ok-list_constraints.ensures.constraints ∙ ap (λ z. constraints_in z ++ constraints_from k (list_plan c.body.result.now) low low)
-        c.new-conditions.ensures.items ∙ ap (λ z. constraints_from k z low low) c.body.ensures.body in
+    c.new-conditions.ensures.items ∙ ap (λ z. constraints_from k z low low) c.body.ensures.body in
     let hs = c.in_ok-list_levels.ensures ∙ ap (λ z. z ++ first_levels c.bottom-2.result.number (list_plan c.body-2.result.now)) c.new-levels.ensures.items
     ∙ ap (λ z. first_levels z (list_plan c.body-2.result.now)) (c.bottom-2.ensures.value ∙ ap (λ (z : Order). z.bottom) ho)
-        ∙ ap (λ z. first_levels s.order.bottom z) c.body-2.ensures.body in
+    ∙ ap (λ z. first_levels s.order.bottom z) c.body-2.ensures.body in
     let cl = c.len.ensures in
     let cok = c.list_constraints.new.found.ok.0 in
     let cn : c.len.result ≡ length c.list_constraints.new.found.items = omega (arith, cl, cok) in
     let hw = c.in_ok-waits.ensures ∙ ap (λ n. replicate n true) cn in
     let h = first s c.body.ensures.valid k ho (c.in_ok-written_labels.ensures.fit) (c.in_ok-written_labels.ensures.labels) c.list_constraints.new.found.items
-        c.in_ok-waits.waits.items c.in_ok-variables.variables c.list_levels.new.found.items low hl hc hw c.in_ok-variables.ensures hs in
+    c.in_ok-waits.waits.items c.in_ok-variables.variables c.list_levels.new.found.items low hl hc hw c.in_ok-variables.ensures hs in
     subst (λ z. IsFirst s (work z c.list_constraints.new.found.items c.in_ok-waits.waits.items c.in_ok-variables.variables c.list_levels.new.found.items))
-        (sym ho) h
+    (sym ho) h
 
 pub returns-clause-steps : goal.returns-clause-steps
 returns-clause-steps c =
@@ -76,16 +76,16 @@ returns-clause-steps c =
     let low = left_side_of c.fixed-low.result in
     let hl = c.fixed-low.ensures ∙ ap fixed (c.bottom.ensures.value ∙ ap (λ (z : Order). z.bottom) ho) in
     let hc = c.in_ok-list_constraints.ensures.constraints ∙ ap (λ z. constraints_in z ++ constraints_from k (list_plan c.body.result.now) low low)
-        c.new-conditions.ensures.items ∙ ap (λ z. constraints_from k z low low) c.body.ensures.body in
+    c.new-conditions.ensures.items ∙ ap (λ z. constraints_from k z low low) c.body.ensures.body in
     let hs = c.in_ok-list_levels.ensures ∙ ap (λ z. z ++ first_levels c.bottom-2.result.number (list_plan c.body-2.result.now)) c.new-levels.ensures.items
     ∙ ap (λ z. first_levels z (list_plan c.body-2.result.now)) (c.bottom-2.ensures.value ∙ ap (λ (z : Order). z.bottom) ho)
-        ∙ ap (λ z. first_levels s.order.bottom z) c.body-2.ensures.body in
+    ∙ ap (λ z. first_levels s.order.bottom z) c.body-2.ensures.body in
     let cl = c.len.ensures in
     let cok = c.list_constraints.new.found.ok.0 in
     let cn : c.len.result ≡ length c.list_constraints.new.found.items = omega (arith, cl, cok) in
     let hw = c.in_ok-waits.ensures ∙ ap (λ n. replicate n true) cn in
     let h = starts s c.body.ensures.valid k ho (c.in_ok-written_labels.ensures.fit) (c.in_ok-written_labels.ensures.labels) c.list_constraints.new.found.items
-        c.in_ok-waits.waits.items c.in_ok-variables.variables c.list_levels.new.found.items low hl hc hw c.in_ok-variables.ensures hs in
+    c.in_ok-waits.waits.items c.in_ok-variables.variables c.list_levels.new.found.items low hl hc hw c.in_ok-variables.ensures hs in
     let W = work o c.list_constraints.new.found.items c.in_ok-waits.waits.items c.in_ok-variables.variables c.list_levels.new.found.items in
     λ m. first_within W m (λ x. subst (λ (z : Order). label_at z.bottom c.in_ok-variables.variables x < z.size) (sym ho) (h.variables.below x))
 
@@ -101,16 +101,16 @@ invariant_of-result c =
     let low = left_side_of c.fixed-low.result in
     let hl = c.fixed-low.ensures ∙ ap fixed (c.bottom.ensures.value ∙ ap (λ (z : Order). z.bottom) ho) in
     let hc = c.in_ok-list_constraints.ensures.constraints ∙ ap (λ z. constraints_in z ++ constraints_from k (list_plan c.body.result.now) low low)
-        c.new-conditions.ensures.items ∙ ap (λ z. constraints_from k z low low) c.body.ensures.body in
+    c.new-conditions.ensures.items ∙ ap (λ z. constraints_from k z low low) c.body.ensures.body in
     let hs = c.in_ok-list_levels.ensures ∙ ap (λ z. z ++ first_levels c.bottom-2.result.number (list_plan c.body-2.result.now)) c.new-levels.ensures.items
     ∙ ap (λ z. first_levels z (list_plan c.body-2.result.now)) (c.bottom-2.ensures.value ∙ ap (λ (z : Order). z.bottom) ho)
-        ∙ ap (λ z. first_levels s.order.bottom z) c.body-2.ensures.body in
+    ∙ ap (λ z. first_levels s.order.bottom z) c.body-2.ensures.body in
     let cl = c.len.ensures in
     let cok = c.list_constraints.new.found.ok.0 in
     let cn : c.len.result ≡ length c.list_constraints.new.found.items = omega (arith, cl, cok) in
     let hw = c.in_ok-waits.ensures ∙ ap (λ n. replicate n true) cn in
     let h = starts s c.body.ensures.valid k ho (c.in_ok-written_labels.ensures.fit) (c.in_ok-written_labels.ensures.labels) c.list_constraints.new.found.items
-        c.in_ok-waits.waits.items c.in_ok-variables.variables c.list_levels.new.found.items low hl hc hw c.in_ok-variables.ensures hs in
+    c.in_ok-waits.waits.items c.in_ok-variables.variables c.list_levels.new.found.items low hl hc hw c.in_ok-variables.ensures hs in
     let vfit = h.variables.fit in
     let wfit = c.in_ok-written_labels.ensures.fit in
     record {

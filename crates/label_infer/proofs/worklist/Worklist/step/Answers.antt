@@ -14,7 +14,7 @@ pub raise-requires-clause-blocks : goal.raise-requires-clause-blocks
 raise-requires-clause-blocks g c =
     let v = c.self.inside in
     blocks_same v.conditions.items c.deref-in-Variable.result.now (slice_set v.waits.items c.in-Some.i false) c.deref_mut.result.now c.take.new.self
-        c.deref-in-Variable.ensures.value c.deref_mut.ensures.value
+    c.deref-in-Variable.ensures.value c.deref_mut.ensures.value
     (c.take.ensures v.conditions.items v.waits.items c.self.invariant.in_blocks)
 
 pub invariant_of-self : goal.invariant_of-self
@@ -24,11 +24,11 @@ invariant_of-self g c =
     let x = c.in-Variable.x in
     let t = (lattice_of v.order).flows c.value-have.result.number (label_at v.order.bottom v.variables x) in
     let lw : length c.raise.new.waits ≡ v.waits.len =
-        waits_length t x c.deref-in-Variable.result.now c.deref_mut.result.now c.raise.new.waits c.raise.ensures.waits ∙ c.deref_mut.ensures.len in
+    waits_length t x c.deref-in-Variable.result.now c.deref_mut.result.now c.raise.new.waits c.raise.ensures.waits ∙ c.deref_mut.ensures.len in
     let items = with_items_is (with_item v.waits i false) c.raise.new.waits lw in
     let w : length c.raise.new.waits ≡ length v.waits.items =
     waits_length t x c.deref-in-Variable.result.now c.deref_mut.result.now c.raise.new.waits c.raise.ensures.waits ∙ ap length c.deref_mut.ensures.value
-        ∙ length-set v.waits.items i false in
+    ∙ length-set v.waits.items i false in
     let n : length c.raise.new.variables ≡ length v.variables = labels_length t x _ v.variables c.raise.new.variables c.raise.ensures.variables in
     let same = ap length items ∙ w in
     let q = c.in-Some.ensures.0 in
@@ -48,7 +48,7 @@ pub invariant_of-self-in-Level : goal.invariant_of-self-in-Level
 invariant_of-self-in-Level g c =
     let v = c.self.inside in
     let len0 : length c.lift.new.labels ≡ v.levels.len = ap length c.lift.ensures ∙ length-set c.deref_mut-in-Level.result.now c.in-Level.k _
-        ∙ c.deref_mut-in-Level.ensures.len in
+    ∙ c.deref_mut-in-Level.ensures.len in
     let items = with_items_is v.levels c.lift.new.labels len0 in
     let len : length (with_items v.levels c.lift.new.labels).items ≡ length v.levels.items =
     ap length items ∙ ap length c.lift.ensures ∙ length-set c.deref_mut-in-Level.result.now c.in-Level.k _ ∙ ap length c.deref_mut-in-Level.ensures.value in
@@ -71,7 +71,7 @@ returns-in-Variable-clause-taken g c =
     let V = v.variables in
     let t = (lattice_of v.order).flows have (label_at v.order.bottom V x) in
     let lw : length c.raise.new.waits ≡ v.waits.len =
-        waits_length t x c.deref-in-Variable.result.now c.deref_mut.result.now c.raise.new.waits c.raise.ensures.waits ∙ c.deref_mut.ensures.len in
+    waits_length t x c.deref-in-Variable.result.now c.deref_mut.result.now c.raise.new.waits c.raise.ensures.waits ∙ c.deref_mut.ensures.len in
     let W = (with_items (with_item v.waits i false) c.raise.new.waits).items in
     let U = c.raise.new.variables in
     let ew = with_items_is (with_item v.waits i false) c.raise.new.waits lw ∙ c.raise.ensures.waits in

@@ -40,19 +40,19 @@ unreachable-requires c =
 pub invariant_of-result : goal.invariant_of-result
 invariant_of-result c =
     kept c.args.names.now c.with_room.result c.closure-flows.result c.joins.result c.in-Some-lowest.bottom c.with_room.ensures c.requires.some
-        (few c.if-are_too_many.false c.are_too_many.ensures) c.are_names.ensures c.requires.differ
+    (few c.if-are_too_many.false c.are_too_many.ensures) c.are_names.ensures c.requires.differ
     (table_is (length c.args.names.now) (few c.if-are_too_many.false c.are_too_many.ensures) c.args.pairs.now c.closure-flows.result c.closure-flows.ensures
     c.in_default.ensures c.in_default-first_pair.ensures c.in_default-first_pair-2.ensures c.joins.result c.joins.ensures c.in-Some-lowest.bottom
-        c.in-Some-lowest.ensures.0 c.in-Some-lowest.ensures.1)
+    c.in-Some-lowest.ensures.0 c.in-Some-lowest.ensures.1)
     c.args.pairs.now c.requires.pairs c.closure-flows.ensures c.joins.ensures (search rules, search rules)
 
 pub returns-clause-built : goal.returns-clause-built
 returns-clause-built c =
     built c.args.names.now c.with_room.result c.closure-flows.result c.joins.result c.in-Some-lowest.bottom c.with_room.ensures c.requires.some
-        (few c.if-are_too_many.false c.are_too_many.ensures) c.are_names.ensures c.requires.differ
+    (few c.if-are_too_many.false c.are_too_many.ensures) c.are_names.ensures c.requires.differ
     (table_is (length c.args.names.now) (few c.if-are_too_many.false c.are_too_many.ensures) c.args.pairs.now c.closure-flows.result c.closure-flows.ensures
     c.in_default.ensures c.in_default-first_pair.ensures c.in_default-first_pair-2.ensures c.joins.result c.joins.ensures c.in-Some-lowest.bottom
-        c.in-Some-lowest.ensures.0 c.in-Some-lowest.ensures.1)
+    c.in-Some-lowest.ensures.0 c.in-Some-lowest.ensures.1)
     c.args.pairs.now c.requires.pairs c.closure-flows.ensures c.joins.ensures (search rules, search rules)
     (sound (length c.args.names.now) (few c.if-are_too_many.false c.are_too_many.ensures) c.args.pairs.now c.closure-flows.result c.closure-flows.ensures
-        c.in_default.ensures c.in_default-first_pair.ensures c.in_default-first_pair-2.ensures)
+    c.in_default.ensures c.in_default-first_pair.ensures c.in_default-first_pair-2.ensures)

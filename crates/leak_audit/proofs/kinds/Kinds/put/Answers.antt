@@ -21,9 +21,9 @@ returns c = λ seqs h.
     let ks = c.args.self.now.different.keys in
     let x = c.args.sequence in
     let index = c.in_ok-index.ensures.index ∙ position-shown sequence_of
-        (λ x y. pointwise equality.TheImpl.ghosts.eq x.items y.items) same_sequence shown x ks in
+    (λ x y. pointwise equality.TheImpl.ghosts.eq x.items y.items) same_sequence shown x ks in
     classed_at (seqs ++ sequence_of x ∷ []) _ _ _ _
     (sym (ap (map sequence_of) c.in_ok-index.ensures.keys ∙ insert-shown sequence_of
-        (λ x y. pointwise equality.TheImpl.ghosts.eq x.items y.items) same_sequence shown ks x))
+    (λ x y. pointwise equality.TheImpl.ghosts.eq x.items y.items) same_sequence shown ks x))
     (sym (c.in_ok-push.ensures.items ∙ ap (λ n. c.args.self.now.classes.items ++ (n + 1) ∷ []) index))
     (one_classed same_sequence tests_sequences seqs (map sequence_of ks) c.args.self.now.classes.items (sequence_of x) h)

@@ -24,27 +24,27 @@ pub returns-in_ok-see-in-Event-clause-tallies : goal.returns-in_ok-see-in-Event-
 returns-in_ok-see-in-Event-clause-tallies c = λ p events sees t.
     let n : to_z w64 (of_z w64 c.in-Event.value) ≡ c.in-Event.value = search (rules, to_z-of_z) in
     seen_more p c.args.observer.now.label.number c.args.observer.now.relevant.now c.args.observer.now.room events c.args.self.now t c.args.turn
-        c.in-Event.variable _ c.in-Event.cycle c.in-Event.is
+    c.in-Event.variable _ c.in-Event.cycle c.in-Event.is
     (sees_event p c.args.observer.now.label.number c.args.turn c.in-Event.variable _ c.in-Event.cycle c.in-Event.is sees)
     _ c.see.new.self (ap (λ z. Wrote c.in-Event.variable z c.in-Event.cycle) n) c.in_ok-see-in-Event.ensures.shown c.in_ok-see-in-Event.ensures.kept
-        c.in_ok-see-in-Event.ensures.begun c.in_ok-see-in-Event.ensures.ended
+    c.in_ok-see-in-Event.ensures.begun c.in_ok-see-in-Event.ensures.ended
 
 pub returns-then-is_relevant-clause-tallies : goal.returns-then-is_relevant-clause-tallies
 returns-then-is_relevant-clause-tallies c = λ p events sees t.
     begun_more p c.args.observer.now.label.number c.args.observer.now.relevant.now c.args.observer.now.room events c.args.self.now t c.args.turn c.in-Began.mark
-        c.in-Began.cycle c.in-Began.is _ (count_one _ _ (sym c.is_relevant.ensures ∙ c.if-is_relevant.true))
+    c.in-Began.cycle c.in-Began.is _ (count_one _ _ (sym c.is_relevant.ensures ∙ c.if-is_relevant.true))
 
 pub returns-else-is_relevant-clause-tallies : goal.returns-else-is_relevant-clause-tallies
 returns-else-is_relevant-clause-tallies c = λ p events sees t.
     begun_more p c.args.observer.now.label.number c.args.observer.now.relevant.now c.args.observer.now.room events c.args.self.now t c.args.turn c.in-Began.mark
-        c.in-Began.cycle c.in-Began.is _ (count_none _ _ (sym c.is_relevant.ensures ∙ c.if-is_relevant.false))
+    c.in-Began.cycle c.in-Began.is _ (count_none _ _ (sym c.is_relevant.ensures ∙ c.if-is_relevant.false))
 
 pub returns-then-is_relevant-2-clause-tallies : goal.returns-then-is_relevant-2-clause-tallies
 returns-then-is_relevant-2-clause-tallies c = λ p events sees t.
     ended_more p c.args.observer.now.label.number c.args.observer.now.relevant.now c.args.observer.now.room events c.args.self.now t c.args.turn c.in-Ended.mark
-        c.in-Ended.cycle c.in-Ended.is _ (count_one _ _ (sym c.is_relevant-in-Ended.ensures ∙ c.if-is_relevant-2.true))
+    c.in-Ended.cycle c.in-Ended.is _ (count_one _ _ (sym c.is_relevant-in-Ended.ensures ∙ c.if-is_relevant-2.true))
 
 pub returns-else-is_relevant-2-clause-tallies : goal.returns-else-is_relevant-2-clause-tallies
 returns-else-is_relevant-2-clause-tallies c = λ p events sees t.
     ended_more p c.args.observer.now.label.number c.args.observer.now.relevant.now c.args.observer.now.room events c.args.self.now t c.args.turn c.in-Ended.mark
-        c.in-Ended.cycle c.in-Ended.is _ (count_none _ _ (sym c.is_relevant-in-Ended.ensures ∙ c.if-is_relevant-2.false))
+    c.in-Ended.cycle c.in-Ended.is _ (count_none _ _ (sym c.is_relevant-in-Ended.ensures ∙ c.if-is_relevant-2.false))

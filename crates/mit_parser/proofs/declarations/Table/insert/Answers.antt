@@ -9,7 +9,7 @@ pub returns : goal.returns
 returns c =
     let absent = lookup_none c.self.inside.entries.entries c.args.name (ap (λ ds. declared ds c.args.name) c.self.view_is ∙ c.requires.absent) in
     c.in_ok-insert.ensures.entries ∙ insert_entry-new eq-value.it c.self.inside.entries c.args.name c.args.decl absent
-        ∙ ap (λ l. l ++ (c.args.name, c.args.decl) ∷ []) c.self.view_is
+    ∙ ap (λ l. l ++ (c.args.name, c.args.decl) ∷ []) c.self.view_is
 
 pub invariant_of-self-2 : goal.invariant_of-self-2
 invariant_of-self-2 c =

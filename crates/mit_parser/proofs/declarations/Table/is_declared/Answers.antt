@@ -7,4 +7,4 @@ use Rattle.mit_parser.proofs.declarations.Table.is_declared.Goals as goal
 pub returns : goal.returns
 returns c =
     c.is_some.ensures ∙ ap is_some c.get_index_of.ensures.index ∙ placed c.self.inside.entries.entries c.args.name.now
-        ∙ ap (λ ds. is_some (declared ds c.args.name.now)) c.self.view_is
+    ∙ ap (λ ds. is_some (declared ds c.args.name.now)) c.self.view_is

@@ -24,30 +24,30 @@ block-returns t c = block_all _ _ _ _ _ _ c.in_ok-sign.ensures c.in_ok-list.ensu
 pub branching-returns : goal.branching-returns
 branching-returns t c =
     command_if (scope_of c.args.names.now) c.args.self.now c.pos-pos.result c.pos-pos.ensures c.advance.new.self c.expr.new.self c.marks.new.self c.key.new.self
-        c.block.new.self c.otherwise.new.self
+    c.block.new.self c.otherwise.new.self
     c.in_ok-guard.guard c.in_ok-labels.labels c.in_ok-then_part.then_part c.in_ok-else_part.else_part (shows_key _ If (sym c.requires)) c.in_ok-advance.ensures
     c.in_ok-guard.ensures c.in_ok-labels.ensures c.in_ok-key.ensures c.in_ok-then_part.ensures c.in_ok-else_part.ensures
 
 pub repetition-returns : goal.repetition-returns
 repetition-returns t c =
     command_while (scope_of c.args.names.now) c.args.self.now c.pos-pos.result c.pos-pos.ensures c.advance.new.self c.expr.new.self c.marks.new.self
-        c.key.new.self c.block.new.self
+    c.key.new.self c.block.new.self
     c.in_ok-guard.guard c.in_ok-labels.labels c.in_ok-body.body (shows_key _ While (sym c.requires)) c.in_ok-advance.ensures
     c.in_ok-guard.ensures c.in_ok-labels.ensures c.in_ok-key.ensures c.in_ok-body.ensures
 
 pub mitigation-returns : goal.mitigation-returns
 mitigation-returns t c =
     command_mitigate (scope_of c.args.names.now) c.args.self.now c.pos-pos.result c.pos-pos.ensures c.mitigate.new.self c.sign.new.self c.expr.new.self
-        c.second.new.self c.sign-2.new.self c.marks.new.self c.block.new.self
+    c.second.new.self c.sign-2.new.self c.marks.new.self c.block.new.self
     c.in_ok-mark.mark c.in_ok-estimate.estimate c.in_ok-level.level c.in_ok-labels.labels c.in_ok-body.body
-        (shows_key _ Mitigate (sym c.requires)) c.in_ok-mark.ensures
+    (shows_key _ Mitigate (sym c.requires)) c.in_ok-mark.ensures
     c.in_ok-sign.ensures c.in_ok-estimate.ensures c.in_ok-level.ensures c.in_ok-sign-2.ensures c.in_ok-labels.ensures c.in_ok-body.ensures
 
 pub commands-returns-in_err-first : goal.commands-returns-in_err-first
 commands-returns-in_err-first t c =
     let p = err_from_is_err_and c.from_residual.result c.from_residual.ensures.1 in
     rw (p.1, p.2) (within c.args.self.now c.args.self.now c.command.new.self commands a_command (λ s. more ∷ s) _
-        (λ s. rule_commands s c.args.self.now.counts c.args.self.now.words) c.in_err-first.ensures)
+    (λ s. rule_commands s c.args.self.now.counts c.args.self.now.words) c.in_err-first.ensures)
 
 pub commands-loop-alloc-init : goal.commands-loop-alloc-init
 commands-loop-alloc-init t c = commands_first _ _ _ _ _ c.in_ok-first.ensures (c.in_ok-push.ensures.items
@@ -68,7 +68,7 @@ otherwise-returns-then-branch t c =
     MatchResult-weaker c.block.result c.block.ensures
     (λ v k. else_block (scope_of c.args.names.now) c.args.pos c.args.self.now c.accept_key.new.self c.block.new.self (list_plan v.items) was k)
     (λ f k. within c.args.self.now c.accept_key.new.self c.block.new.self otherwise a_block
-        (λ s. s) f (after_else (scope_of c.args.names.now) _ c.accept_key.new.self was) k)
+    (λ s. s) f (after_else (scope_of c.args.names.now) _ c.accept_key.new.self was) k)
 
 pub otherwise-returns : goal.otherwise-returns
 otherwise-returns t c =

@@ -20,12 +20,12 @@ atom-returns-in_ok-advance-in-Number t c =
 pub atom-returns-in_ok-sign-in-Sign-LeftRound : goal.atom-returns-in_ok-sign-in-Sign-LeftRound
 atom-returns-in_ok-sign-in-Sign-LeftRound t c =
     atom_paren _ _ _ _ _ _ (shows_sign _ LeftRound (rw c.in-Sign-LeftRound.field-0-is at c.in-Sign-LeftRound.ensures)) c.in_ok-advance-in-Sign-LeftRound.ensures
-        c.in_ok-inner-in-Sign-LeftRound.ensures c.in_ok-sign-in-Sign-LeftRound.ensures
+    c.in_ok-inner-in-Sign-LeftRound.ensures c.in_ok-sign-in-Sign-LeftRound.ensures
 
 pub named-returns-then-not-at_sign : goal.named-returns-then-not-at_sign
 named-returns-then-not-at_sign t c =
     rw (c.note.ensures, c.scalar_use-fault.ensures.fault) (atom_scalar (scope_of c.args.names.now) c.args.self.now c.advance.new.self c.name_here-name.result
-        c.pos-pos.result _ c.name_here-name.ensures c.pos-pos.ensures c.in_ok-advance.ensures
+    c.pos-pos.result _ c.name_here-name.ensures c.pos-pos.ensures c.in_ok-advance.ensures
     (sym c.at_sign.ensures ∙ c.if-not-at_sign.true) c.scalar_use-fault.ensures.number)
 
 pub named-returns-in_err-index : goal.named-returns-in_err-index
@@ -37,7 +37,7 @@ named-returns-in_err-index t c =
 pub named-returns : goal.named-returns
 named-returns t c =
     atom_element (scope_of c.args.names.now) c.args.self.now c.advance.new.self _ c.name_here-name.result c.pos-pos.result c.array_use-fault.result.1 _
-        c.name_here-name.ensures c.pos-pos.ensures c.in_ok-advance.ensures
+    c.name_here-name.ensures c.pos-pos.ensures c.in_ok-advance.ensures
     (rw c.in_ok-new.ensures.ok (rw (c.note-2.ensures, c.array_use-fault.ensures.fault) at c.in_ok-index.ensures)) c.array_use-fault.ensures.place
 
 pub index-returns-in_err-sign : goal.index-returns-in_err-sign
@@ -81,7 +81,7 @@ term-returns-in_err-right t c =
 pub term-loop-op-preserved : goal.term-loop-op-preserved
 term-loop-op-preserved t c =
     term_next _ _ c.loop-op.self _ _ c.in-Some.op _ _ (rw c.in_ok-new.ensures.ok c.loop-op.invariant) c.in-Some.ensures c.in_ok-advance.ensures
-        (rw c.in_ok-new-2.ensures.ok c.in_ok-right.ensures)
+    (rw c.in_ok-new-2.ensures.ok c.in_ok-right.ensures)
 
 pub term-returns : goal.term-returns
 term-returns t c = term_last _ _ _ _ c.loop-op.invariant c.in_default.ensures
@@ -118,7 +118,7 @@ sum-returns-in_err-right t c =
 pub sum-loop-op-preserved : goal.sum-loop-op-preserved
 sum-loop-op-preserved t c =
     sum_next _ _ c.loop-op.self _ _ c.in-Some.op _ _ (rw c.in_ok-new.ensures.ok c.loop-op.invariant) c.in-Some.ensures c.in_ok-advance.ensures
-        (rw c.in_ok-new-2.ensures.ok c.in_ok-right.ensures)
+    (rw c.in_ok-new-2.ensures.ok c.in_ok-right.ensures)
 
 pub sum-returns : goal.sum-returns
 sum-returns t c = sum_last _ _ _ _ c.loop-op.invariant c.in_default.ensures

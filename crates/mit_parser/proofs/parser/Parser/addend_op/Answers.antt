@@ -8,4 +8,4 @@ use Rattle.mit_parser.proofs.parser.Parser.addend_op.Goals as goal
 pub returns : goal.returns
 returns c =
     c.addend_op.ensures [] ∙ ap (λ k. option_map addend_op (addend_of (symbol_of k []))) c.kind.ensures
-        ∙ ap (option_map addend_op) (addend_kind (head_symbol c.args.self.now.words))
+    ∙ ap (option_map addend_op) (addend_kind (head_symbol c.args.self.now.words))

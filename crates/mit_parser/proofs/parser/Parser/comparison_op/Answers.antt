@@ -8,4 +8,4 @@ use Rattle.mit_parser.proofs.parser.Parser.comparison_op.Goals as goal
 pub returns : goal.returns
 returns c =
     c.comparison_op.ensures [] ∙ ap (λ k. option_map comparison_op (comparison_of (symbol_of k []))) c.kind.ensures
-        ∙ ap (option_map comparison_op) (comparison_kind (head_symbol c.args.self.now.words))
+    ∙ ap (option_map comparison_op) (comparison_kind (head_symbol c.args.self.now.words))

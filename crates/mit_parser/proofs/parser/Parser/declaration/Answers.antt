@@ -19,6 +19,6 @@ pub returns : goal.returns
 returns c =
     MatchResult-weaker c.declare.result c.declare.ensures
     (λ _ k. declaration_all (labels_in c.args.lattice.now) c.args.self.now c.key.new.self c.name.new.self c.shape.new.self c.sign.new.self c.declare.new.self
-        c.in_ok-name.name c.in_ok-name.pos _ _ _ _
+    c.in_ok-name.name c.in_ok-name.pos _ _ _ _
     c.in_ok-key.ensures c.in_ok-name.ensures c.in_ok-shape.ensures c.in_ok-sign.ensures k)
     (λ f k. refused_memory a_declaration c.args.self.now c.declare.new.self f k)

@@ -8,4 +8,4 @@ use Rattle.mit_parser.proofs.parser.Parser.factor_op.Goals as goal
 pub returns : goal.returns
 returns c =
     c.factor_op.ensures [] ∙ ap (λ k. option_map factor_op (factor_of (symbol_of k []))) c.kind.ensures
-        ∙ ap (option_map factor_op) (factor_kind (head_symbol c.args.self.now.words))
+    ∙ ap (option_map factor_op) (factor_kind (head_symbol c.args.self.now.words))

@@ -13,14 +13,17 @@ build-requires-clause-differ c = rw c.as_slice.ensures.keys (keys_differ c.in_ok
 
 pub build-requires-clause-numbers : goal.build-requires-clause-numbers
 build-requires-clause-numbers c =
-    rw (c.deref.ensures.value, c.as_slice.ensures.keys,
-        c.in_ok-numbers.ensures.means.0) (numbers_below c.in_ok-labels.labels.keys c.in_ok-labels.ensures.some c.in_ok-numbers.ensures.tree)
+    rw (
+      c.deref.ensures.value,
+      c.as_slice.ensures.keys,
+      c.in_ok-numbers.ensures.means.0,
+    ) (numbers_below c.in_ok-labels.labels.keys c.in_ok-labels.ensures.some c.in_ok-numbers.ensures.tree)
 
 pub returns : goal.returns
 returns c =
     let t = was_there (word (key Labels)) _ _ _ c.if-not-branch.false c.in_ok-accept_key.ensures in
     MatchResult-weaker c.build.result c.build.ensures
     (λ h k. header_some c.args.self.now c.accept_key.new.self c.labels.new.self c.sign.new.self c.ordering.new.self c.build.new.self c.in_ok-labels.labels.keys
-        c.in_ok-numbers.numbers.items h.lattice h.pairs.items
+    c.in_ok-numbers.numbers.items h.lattice h.pairs.items
     c.requires t c.in_ok-labels.ensures c.in_ok-sign.ensures c.in_ok-numbers.ensures k.0 (rw (c.as_slice.ensures.keys, c.deref.ensures.value) at k.1))
     (λ f k. refused_memory header c.args.self.now c.build.new.self f k)

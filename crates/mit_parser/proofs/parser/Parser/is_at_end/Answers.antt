@@ -7,4 +7,4 @@ pub returns-in-End : goal.returns-in-End
 returns-in-End c =
     at_end c.args.self.now.words (subst (λ s. IsEnded s.words) c.self.view_is c.self.invariant.sound.ended)
     (sym c.in-End.is ∙ kind_first c.self.inside.text.now c.self.inside.rest.now no_token c.self.invariant.sound.ended
-        ∙ ap (λ s. kind_of (head_symbol s.words)) c.self.view_is)
+    ∙ ap (λ s. kind_of (head_symbol s.words)) c.self.view_is)

@@ -12,7 +12,7 @@ pub returns-in_err-low : goal.returns-in_err-low
 returns-in_err-low c =
     let p = err_from_is_err_and c.from_residual.result c.from_residual.ensures.1 in
     rw (p.1, p.2) (within c.args.self.now c.args.self.now c.label_number.new.self a_pair a_name (λ s. want (word (sign Less)) ∷ a_name ∷ s) _
-        (λ s. rule_pair s c.args.self.now.counts c.args.self.now.words) c.in_err-low.ensures)
+    (λ s. rule_pair s c.args.self.now.counts c.args.self.now.words) c.in_err-low.ensures)
 
 pub returns-in_err-sign : goal.returns-in_err-sign
 returns-in_err-sign c =
@@ -25,7 +25,7 @@ returns-in_err-high c =
     let p = err_from_is_err_and c.from_residual-in_err-high.result c.from_residual-in_err-high.ensures.1 in
     rw (p.1, p.2) (within c.args.self.now c.sign.new.self c.label_number-2.new.self a_pair a_name (λ s. s) _
     (pair_goes c.args.labels.now.keys c.args.self.now c.label_number.new.self c.sign.new.self c.in_ok-low.low c.in_ok-low.ensures c.in_ok-sign.ensures)
-        c.in_err-high.ensures)
+    c.in_err-high.ensures)
 
 pub returns : goal.returns
 returns c = pair_all c.args.labels.now.keys c.args.self.now c.label_number.new.self c.sign.new.self c.label_number-2.new.self c.in_ok-low.low c.in_ok-high.high

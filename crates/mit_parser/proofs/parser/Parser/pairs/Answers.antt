@@ -12,7 +12,7 @@ pub returns-in_err-first : goal.returns-in_err-first
 returns-in_err-first c =
     let p = err_from_is_err_and c.from_residual.result c.from_residual.ensures.1 in
     rw (p.1, p.2) (within c.args.self.now c.args.self.now c.pair.new.self pairs a_pair (λ s. more_pairs ∷ s) _
-        (λ s. rule_pairs s c.args.self.now.counts c.args.self.now.words) c.in_err-first.ensures)
+    (λ s. rule_pairs s c.args.self.now.counts c.args.self.now.words) c.in_err-first.ensures)
 
 pub loop-self-init : goal.loop-self-init
 loop-self-init c = pairs_first c.args.labels.now.keys _ _ _ _ c.in_ok-first.ensures (c.in_ok-push.ensures.items
@@ -21,7 +21,7 @@ loop-self-init c = pairs_first c.args.labels.now.keys _ _ _ _ c.in_ok-first.ensu
 pub loop-self-preserved : goal.loop-self-preserved
 loop-self-preserved c =
     pairs_next c.args.labels.now.keys _ _ _ _ _ _ _ c.loop-self.invariant
-        (took_at (word (sign Comma)) _ _ (sym c.at_sign.ensures ∙ c.loop-self-test.true) c.in_ok-advance.ensures)
+    (took_at (word (sign Comma)) _ _ (sym c.at_sign.ensures ∙ c.loop-self-test.true) c.in_ok-advance.ensures)
     c.in_ok-next.ensures c.in_ok-push-2.ensures.items
 
 pub returns : goal.returns

@@ -8,4 +8,4 @@ use Rattle.mit_parser.proofs.parser.Parser.sleep.Goals as goal
 pub returns : goal.returns
 returns c =
     command_sleep (scope_of c.args.names.now) c.args.self.now c.pos-pos.result c.pos-pos.ensures c.advance.new.self c.expr.new.self c.marks.new.self _
-        c.in_ok-labels.labels (shows_key _ Sleep (sym c.requires)) c.in_ok-advance.ensures c.in_ok-time.ensures c.in_ok-labels.ensures
+    c.in_ok-labels.labels (shows_key _ Sleep (sym c.requires)) c.in_ok-advance.ensures c.in_ok-time.ensures c.in_ok-labels.ensures

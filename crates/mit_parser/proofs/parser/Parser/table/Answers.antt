@@ -21,4 +21,4 @@ returns-in_err-declaration c =
     let p = err_from_is_err_and c.from_residual.result c.from_residual.ensures.1 in
     rw (p.1, p.2) (within c.args.self.now c.loop-self.self c.declaration.new.self declarations a_declaration (λ s. declarations ∷ s) _
     (λ s. c.loop-self.invariant.goes s ∙ one_more (labels_in c.args.lattice.now) c.loop-self.self (sym c.at_key.ensures ∙ c.loop-self-test.true) s)
-        c.in_err-declaration.ensures)
+    c.in_err-declaration.ensures)

@@ -10,7 +10,7 @@ returns c =
     let w = c.owner-k.ensures.within in
     let n : c.owner-k.result < length c.self.inside.table.entries = subst (λ (l : List Declaration). c.owner-k.result < length l) (sym c.self.view_is) w in
     let e : slice_get c.args.self.now c.owner-k.result ≡ Some d =
-        subst (λ (l : List Declaration). slice_get l c.owner-k.result ≡ Some d) c.self.view_is c.entry-name.ensures in
+    subst (λ (l : List Declaration). slice_get l c.owner-k.result ≡ Some d) c.self.view_is c.entry-name.ensures in
     owned c.args.self.now c.owner-k.result c.args.x d e c.owner-k.ensures.from c.owner-k.ensures.to
     ∙ ap (λ (f : ℕ). cell_of d.0 d.1 (c.args.x - f))
-        (sym (c.self.invariant.firsts c.owner-k.result (omega (arith, n)) ∙ ap (λ (l : List Declaration). first_of l c.owner-k.result) c.self.view_is))
+    (sym (c.self.invariant.firsts c.owner-k.result (omega (arith, n)) ∙ ap (λ (l : List Declaration). first_of l c.owner-k.result) c.self.view_is))

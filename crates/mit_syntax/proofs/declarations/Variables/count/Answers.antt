@@ -8,4 +8,4 @@ returns-clause-value c =
     let ds = c.self.inside.table.entries in
     let n = c.len.ensures.len in
     ap (λ (k : ℕ). get_or c.self.inside.firsts k 0) n ∙ c.self.invariant.firsts _ (omega arith) ∙ first_all ds
-        ∙ ap (λ (l : List Declaration). variables l) c.self.view_is
+    ∙ ap (λ (l : List Declaration). variables l) c.self.view_is

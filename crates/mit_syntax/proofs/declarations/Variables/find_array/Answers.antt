@@ -8,7 +8,7 @@ returns-in_err-k c =
     let ds = c.self.inside.table.entries in
     let w = c.args.name.now in
     c.from_residual.ensures ∙ sym (array_none ds w (declared_none _ w (same_name w) ds c.in_err-k.ensures.index))
-        ∙ ap (λ (l : List Declaration). find_array l w) c.self.view_is
+    ∙ ap (λ (l : List Declaration). find_array l w) c.self.view_is
 
 pub returns-in-None : goal.returns-in-None
 returns-in-None c =
@@ -24,4 +24,4 @@ returns-in-Some c =
     let e = declared_at _ w (same_name w) ds c.in_ok-k.k c.entry.result c.in_ok-k.ensures.index c.entry.ensures in
     let b = c.in_ok-k.ensures.within in
     ap (λ (f : ℕ). Some (f, c.in-Some.length)) (c.self.invariant.firsts c.in_ok-k.k (omega (arith, b)))
-        ∙ sym (array_found ds w _ c.entry.result.1 e c.in-Some.length c.in-Some.is) ∙ ap (λ (l : List Declaration). find_array l w) c.self.view_is
+    ∙ sym (array_found ds w _ c.entry.result.1 e c.in-Some.length c.in-Some.is) ∙ ap (λ (l : List Declaration). find_array l w) c.self.view_is

@@ -18,13 +18,13 @@ name-requires-in-Element t c =
 pub returns-in_ok-put_sign-in-Binary-2 : goal.returns-in_ok-put_sign-in-Binary-2
 returns-in_ok-put_sign-in-Binary-2 t c =
     puts_binary c.args.variables.now c.args.need c.rank.result c.left_need.result c.right_need.result c.op_sign.result
-        c.in-Binary.op (expression_of c.args.e.now)
+    c.in-Binary.op (expression_of c.args.e.now)
     (expression_of c.in-Binary.left.value) (expression_of c.in-Binary.right.value) (expression_of c.deref.result.now)
-        (expression_of c.deref-then-rank-need.result.now)
+    (expression_of c.deref-then-rank-need.result.now)
     (ap expression_of c.in-Binary.is) c.rank.ensures c.if-rank-need.true c.left_need.ensures c.op_sign.ensures c.right_need.ensures
     (ap expression_of c.deref.ensures) (ap expression_of c.deref-then-rank-need.ensures)
     c.in_ok-put_sign-in-Binary.ensures c.in_ok-put_expression-in-Binary.ensures c.in_ok-put_spaced-in-Binary.ensures c.in_ok-put_expression-in-Binary-2.ensures
-        c.in_ok-put_sign-in-Binary-2.ensures
+    c.in_ok-put_sign-in-Binary-2.ensures
 
 pub returns-in_ok-put_sign-in-Element-2 : goal.returns-in_ok-put_sign-in-Element-2
 returns-in_ok-put_sign-in-Element-2 t c =

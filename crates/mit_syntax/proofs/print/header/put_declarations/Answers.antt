@@ -9,4 +9,4 @@ loop-k-preserved c =
     let d = c.declaration-name.result in
     let e = c.declaration-name.ensures in
     next_declared c.args.labels.now ds d c.loop-k.k (slice_get_within ds c.loop-k.k d e) (sym (get_or_from_slice_get ds c.loop-k.k d d e)) c.loop-k.invariant
-        c.in_ok-put_declaration.ensures
+    c.in_ok-put_declaration.ensures

@@ -11,7 +11,7 @@ pub returns-then-is_white : goal.returns-then-is_white
 returns-then-is_white c =
     let same = ap (λ p. p.1) c.self.view_is in
     took_white _ _ c.requires (subst (λ (l : List ℕ). is_white (get_or l 0 0) ≡ true) same (sym c.if-is_white.ensures))
-        c.skip_white.ensures.rest c.skip_white.ensures.place
+    c.skip_white.ensures.rest c.skip_white.ensures.place
 
 pub skip-requires-clause-in_line : goal.skip-requires-clause-in_line
 skip-requires-clause-in_line c =
@@ -40,4 +40,4 @@ returns-in-Ok c =
     let none = subst (λ (l : List ℕ). starts_comment l ≡ false) same (sym c.if-starts_comment.ensures) in
     let k = took_lexeme c.args.self.now c.skip-in-Ok.new.self c.in-Ok.kind c.in-Ok.n t none c.skip-in-Ok.ensures.rest c.skip-in-Ok.ensures.place in
     subst (λ (p : Place). TookPiece c.args.self.now c.skip-in-Ok.new.self
-        (Some (record { kind = c.in-Ok.kind; from = p.at; to = p.at + c.in-Ok.n; pos = p.pos }))) (sym at) k
+    (Some (record { kind = c.in-Ok.kind; from = p.at; to = p.at + c.in-Ok.n; pos = p.pos }))) (sym at) k

@@ -9,5 +9,5 @@ returns-clause-place c =
     let at : c.self.inside.place ≡ c.args.self.now.0 = ap (λ p. p.0) c.self.view_is in
     sym (moved_in_line c.args.self.now.0 (take c.args.n c.args.self.now.1) c.requires.in_line
     ∙ ap (λ (m : ℕ). record { at = c.args.self.now.0.at + m; pos = record { line = c.args.self.now.0.pos.line; column = c.args.self.now.0.pos.column + m } })
-        size
+    size
     ∙ ap (λ (p : Place). record { at = p.at + c.args.n; pos = record { line = p.pos.line; column = p.pos.column + c.args.n } }) (sym at))

@@ -8,7 +8,7 @@ use Rattle.mit_tool.proofs.commands.audit.audit_after.Goals as goal
 pub returns-in-Err-clause-stop : goal.returns-in-Err-clause-stop
 returns-in-Err-clause-stop g c =
     audit_stop_stops c.args.setting.env c.args.setting.budget c.args.p.now.compiled.typed.labelled c.args.p.now.observer
-        (map seen c.args.p.now.starts.items) c.args.text.items
+    (map seen c.args.p.now.starts.items) c.args.text.items
     c.in-Err.stop c.in-Err.ensures.stop
 
 pub returns-in-Ok-put_audit-clause-text : goal.returns-in-Ok-put_audit-clause-text

@@ -13,39 +13,39 @@ use Rattle.mit_tool.proofs.commands.audit.audit_text.Goals as goal
 pub returns-in-Err-clause-stop : goal.returns-in-Err-clause-stop
 returns-in-Err-clause-stop g c =
     prepare_stops (λ (name : List ℕ). Rose (g.S.Shelf.faults c.args.shelf.now name) (g.S.Shelf.faults c.prepare.new.shelf name))
-        (g.S.Shelf.content c.args.shelf.now)
+    (g.S.Shelf.content c.args.shelf.now)
     c.args.file.now c.args.name.now _ (g.S.Shelf.content c.args.shelf.now c.args.starts.now) (audit_next c.args.setting.env c.args.setting.budget)
-        c.in-Err.stop c.in-Err.ensures.stop
+    c.in-Err.stop c.in-Err.ensures.stop
 
 pub returns-in-Ok-audit_after-clause-text : goal.returns-in-Ok-audit_after-clause-text
 returns-in-Ok-audit_after-clause-text g c =
     let p = c.in-Ok.prepared in
     prepared_goes (λ (name : List ℕ). Rose (g.S.Shelf.faults c.args.shelf.now name) (g.S.Shelf.faults c.prepare.new.shelf name))
-        (g.S.Shelf.content c.args.shelf.now)
+    (g.S.Shelf.content c.args.shelf.now)
     c.args.file.now c.args.name.now (Rose (g.S.Shelf.faults c.args.shelf.now c.args.starts.now) (g.S.Shelf.faults c.prepare.new.shelf c.args.starts.now))
-        (g.S.Shelf.content c.args.shelf.now c.args.starts.now)
+    (g.S.Shelf.content c.args.shelf.now c.args.starts.now)
     p.compiled.typed.labelled p.observer p.compiled.image (map seen p.starts.items) (audit_next c.args.setting.env c.args.setting.budget) Done
-        c.in-Ok-audit_after.text.items c.in-Ok.ensures.ok
+    c.in-Ok-audit_after.text.items c.in-Ok.ensures.ok
     (audited_after c.args.setting.env c.args.setting.budget p.compiled.typed.labelled p.observer (map seen p.starts.items) _ [] Done
-        c.in-Ok-audit_after.text.items c.new.ensures.items c.in-Ok-audit_after.ensures.text)
+    c.in-Ok-audit_after.text.items c.new.ensures.items c.in-Ok-audit_after.ensures.text)
 
 pub returns-clause-stop : goal.returns-clause-stop
 returns-clause-stop g c =
     let p = c.in-Ok.prepared in
     audit_stops (λ (name : List ℕ). Rose (g.S.Shelf.faults c.args.shelf.now name) (g.S.Shelf.faults c.prepare.new.shelf name))
-        (g.S.Shelf.content c.args.shelf.now)
+    (g.S.Shelf.content c.args.shelf.now)
     c.args.file.now c.args.name.now (Rose (g.S.Shelf.faults c.args.shelf.now c.args.starts.now) (g.S.Shelf.faults c.prepare.new.shelf c.args.starts.now))
-        (g.S.Shelf.content c.args.shelf.now c.args.starts.now)
+    (g.S.Shelf.content c.args.shelf.now c.args.starts.now)
     p.compiled.typed.labelled p.observer p.compiled.image (map seen p.starts.items) (audit_next c.args.setting.env c.args.setting.budget)
-        c.in-Err-audit_after.stop c.in-Ok.ensures.ok
+    c.in-Err-audit_after.stop c.in-Ok.ensures.ok
     (audited_stop_after c.args.setting.env c.args.setting.budget p.compiled.typed.labelled p.observer (map seen p.starts.items) _ [] c.in-Err-audit_after.stop
-        c.new.ensures.items c.in-Err-audit_after.ensures.stop)
+    c.new.ensures.items c.in-Err-audit_after.ensures.stop)
 
 pub returns-clause-log : goal.returns-clause-log
 returns-clause-log g c =
     fetch_stops (Unit {0}) (Unit {0}) (c.args.file.now ∷ c.args.starts.now ∷ []) (g.S.Shelf.log c.args.shelf.now)
-        (g.S.Shelf.log c.prepare.new.shelf) tt c.in-Err-audit_after.stop
+    (g.S.Shelf.log c.prepare.new.shelf) tt c.in-Err-audit_after.stop
     (not_read (HasAudited c.args.setting.env c.args.setting.budget c.in-Ok.prepared.compiled.typed.labelled (Some c.in-Ok.prepared.observer)
-        (map seen c.in-Ok.prepared.starts.items) c.new.result.items)
-        (λ t. audited_no_read c.args.setting.env c.args.setting.budget c.in-Ok.prepared.compiled.typed.labelled (Some c.in-Ok.prepared.observer)
-        (map seen c.in-Ok.prepared.starts.items) c.new.result.items t) c.in-Err-audit_after.stop c.in-Err-audit_after.ensures.stop) c.in-Ok.ensures.log
+    (map seen c.in-Ok.prepared.starts.items) c.new.result.items)
+    (λ t. audited_no_read c.args.setting.env c.args.setting.budget c.in-Ok.prepared.compiled.typed.labelled (Some c.in-Ok.prepared.observer)
+    (map seen c.in-Ok.prepared.starts.items) c.new.result.items t) c.in-Err-audit_after.stop c.in-Err-audit_after.ensures.stop) c.in-Ok.ensures.log

@@ -27,6 +27,6 @@ pub returns-in_err-typed-clause-log : goal.returns-in_err-typed-clause-log
 returns-in_err-typed-clause-log g c =
     let e = c.in_err-typed.field-0.0 in
     fetched_on c.from_residual-in_err-typed.result e (c.args.file.now ∷ []) (g.S.Shelf.log c.args.shelf.now) (g.S.Shelf.log c.read_program.new.shelf)
-        c.from_residual-in_err-typed.ensures.1
+    c.from_residual-in_err-typed.ensures.1
     (fetch_stops Syntax (List ℕ) (c.args.file.now ∷ []) (g.S.Shelf.log c.args.shelf.now) (g.S.Shelf.log c.read_program.new.shelf) c.in_ok-program.program e
     (not_read (TypeStops c.in_ok-program.program) (λ t h. h) e c.in_err-typed.ensures.stop) c.in_ok-program.ensures.log)

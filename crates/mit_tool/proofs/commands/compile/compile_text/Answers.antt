@@ -12,7 +12,7 @@ use Rattle.mit_tool.proofs.commands.compile.compile_text.Goals as goal
 pub returns-in-Err-clause-stop : goal.returns-in-Err-clause-stop
 returns-in-Err-clause-stop g c =
     compile_stops_text (λ (name : List ℕ). Rose (g.S.Shelf.faults c.args.shelf.now name) (g.S.Shelf.faults c.compile.new.shelf name))
-        (g.S.Shelf.content c.args.shelf.now)
+    (g.S.Shelf.content c.args.shelf.now)
     c.args.file.now c.in-Err.stop c.in-Err.ensures.stop
 
 pub returns-in-Ok-print_image-clause-text : goal.returns-in-Ok-print_image-clause-text
@@ -20,14 +20,14 @@ returns-in-Ok-print_image-clause-text g c =
     let compiled = c.in-Ok.compiled in
     let is = c.program-program.ensures.program ∙ ap (λ l. l.program) c.labelled.ensures.labelled in
     compile_tells (λ (name : List ℕ). Rose (g.S.Shelf.faults c.args.shelf.now name) (g.S.Shelf.faults c.compile.new.shelf name))
-        (g.S.Shelf.content c.args.shelf.now)
+    (g.S.Shelf.content c.args.shelf.now)
     c.args.file.now compiled.typed.labelled compiled.observer compiled.image c.in-Ok-print_image.text.items c.in-Ok.ensures.ok
     (c.in-Ok-print_image.ensures ∙ ap (λ p. image_text p compiled.image) is)
 
 pub returns-in-Err-clause-sound_stop : goal.returns-in-Err-clause-sound_stop
 returns-in-Err-clause-sound_stop g c = λ late.
     absurd (compile_not_late (λ (name : List ℕ). Rose (g.S.Shelf.faults c.args.shelf.now name) (g.S.Shelf.faults c.compile.new.shelf name))
-        (g.S.Shelf.content c.args.shelf.now)
+    (g.S.Shelf.content c.args.shelf.now)
     c.args.file.now None c.in-Err.stop c.in-Err.ensures.stop late)
 
 pub returns-clause-log : goal.returns-clause-log

@@ -16,7 +16,7 @@ use Rattle.mit_tool.proofs.commands.generate.gen_text.Goals as goal
 pub returns-in-Err-clause-stop : goal.returns-in-Err-clause-stop
 returns-in-Err-clause-stop g c =
     prepare_stops (λ (name : List ℕ). ⊥) (made_content c.args.size c.args.number) [] (codes "L") ⊥ (Some (Some starts_text))
-        (made_next c.args.size c.args.number) c.in-Err.stop c.in-Err.ensures.stop
+    (made_next c.args.size c.args.number) c.in-Err.stop c.in-Err.ensures.stop
 
 pub returns-in-Ok-audit_after-clause-text : goal.returns-in-Ok-audit_after-clause-text
 returns-in-Ok-audit_after-clause-text g c =

@@ -28,7 +28,7 @@ returns-in-Ok-starts_of-clause-ok c =
     let compiled = compiled_of (made_content c.args.size c.args.number) [] (Some (codes "L")) c.in-Ok.program q o code
     (c.in-Ok.ensures.ok (made_content c.args.size c.args.number []) (c.as_slice.ensures.value ∙ c.requires.program)) c.in-Ok-compile_program.ensures.ok in
     prepared_of (made_content c.args.size c.args.number) [] (codes "L") held held q o c.unwrap-observer.result code c.program.result.now
-        (map seen c.in-Ok-starts_of.starts.items)
+    (map seen c.in-Ok-starts_of.starts.items)
     c.unwrap-observer.ensures refl is compiled (c.in-Ok-starts_of.ensures.ok held (c.as_slice-2.ensures.value ∙ c.requires.starts))
 
 pub returns-in-Ok-starts_of-clause-fit : goal.returns-in-Ok-starts_of-clause-fit
@@ -41,10 +41,10 @@ returns-in-Ok-starts_of-clause-fit c =
     let compiled = compiled_of (made_content c.args.size c.args.number) [] (Some (codes "L")) c.in-Ok.program q o code
     (c.in-Ok.ensures.ok (made_content c.args.size c.args.number []) (c.as_slice.ensures.value ∙ c.requires.program)) c.in-Ok-compile_program.ensures.ok in
     let h = prepared_of (made_content c.args.size c.args.number) [] (codes "L") held held q o c.unwrap-observer.result code c.program.result.now
-        (map seen c.in-Ok-starts_of.starts.items)
+    (map seen c.in-Ok-starts_of.starts.items)
     c.unwrap-observer.ensures refl is compiled (c.in-Ok-starts_of.ensures.ok held (c.as_slice-2.ensures.value ∙ c.requires.starts)) in
     audit_fits (made_content c.args.size c.args.number) [] (codes "L") held q c.unwrap-observer.result code c.program.result.now
-        (map seen c.in-Ok-starts_of.starts.items) h is c.in-Ok-starts_of.ensures.valid
+    (map seen c.in-Ok-starts_of.starts.items) h is c.in-Ok-starts_of.ensures.valid
 
 pub returns-in-Ok-starts_of-clause-sound : goal.returns-in-Ok-starts_of-clause-sound
 returns-in-Ok-starts_of-clause-sound c = record {
@@ -65,7 +65,7 @@ returns-in-Err-starts_of-clause-stop c =
     let compiled = compiled_of (made_content c.args.size c.args.number) [] (Some (codes "L")) c.in-Ok.program q o code
     (c.in-Ok.ensures.ok (made_content c.args.size c.args.number []) (c.as_slice.ensures.value ∙ c.requires.program)) c.in-Ok-compile_program.ensures.ok in
     starts_stop_audit (λ (name : List ℕ). ⊥) (made_content c.args.size c.args.number) [] (codes "L") ⊥ ⊥ held held q o code
-        c.program.result.now c.in-Err-starts_of.stop
+    c.program.result.now c.in-Err-starts_of.stop
     (λ n. n) refl is compiled (c.in-Err-starts_of.ensures.stop held (c.as_slice-2.ensures.value ∙ c.requires.starts))
 
 pub returns-in-Err-clause-sound_stop : goal.returns-in-Err-clause-sound_stop
@@ -78,7 +78,7 @@ returns-in-Err-compile_program-clause-sound_stop c = λ late.
     absurd (compile_not_late (λ (name : List ℕ). ⊥) (made_content c.args.size c.args.number) [] (Some (codes "L")) c.in-Err-compile_program.stop
     (program_stops (λ (name : List ℕ). ⊥) (made_content c.args.size c.args.number) [] (Some (codes "L")) c.in-Ok.program c.in-Err-compile_program.stop
     (c.in-Ok.ensures.ok (made_content c.args.size c.args.number []) (c.as_slice.ensures.value ∙ c.requires.program)) c.in-Err-compile_program.ensures.stop)
-        late)
+    late)
 
 pub returns-in-Err-starts_of-clause-sound_stop : goal.returns-in-Err-starts_of-clause-sound_stop
 returns-in-Err-starts_of-clause-sound_stop c = λ late. record {

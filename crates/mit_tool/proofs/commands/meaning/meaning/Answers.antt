@@ -22,31 +22,31 @@ returns-in-Err-clause-answered g c =
     let starts = option_map (λ s. s.now) c.args.starts in
     let e = c.in-Err.e in
     ends_stop (g.W.Sink.taken c.args.out.now) (g.W.Sink.taken c.stop.new.out) (Before content (meaning c.args.file.now starts c.args.steps))
-        (MeaningStops rises content c.args.file.now starts)
+    (MeaningStops rises content c.args.file.now starts)
     (IsAnswer rises content (meaning c.args.file.now starts c.args.steps)) (status_of e) (stop_text e) c.stop.result (inl refl)
     (λ t. meaning_stops rises content c.args.file.now starts c.args.steps (status_of e) t) c.in-Err.ensures.stop c.stop.ensures.told c.stop.ensures.prefix
 
 pub returns-in-Ok-walk-clause-answered : goal.returns-in-Ok-walk-clause-answered
 returns-in-Ok-walk-clause-answered g c =
     meaning_done (λ (name : List ℕ). Rose (g.S.Shelf.faults c.args.shelf.now name) (g.S.Shelf.faults c.source.new.shelf name))
-        (g.S.Shelf.content c.args.shelf.now) c.args.file.now (option_map (λ s. s.now) c.args.starts) c.args.steps
+    (g.S.Shelf.content c.args.shelf.now) c.args.file.now (option_map (λ s. s.now) c.args.starts) c.args.steps
     c.in-Ok.source.0 (seen c.in-Ok.source.1) c.as_slice.result.now c.in-Ok-walk.line c.bytes.result.now (g.W.Sink.taken c.args.out.now)
-        (g.W.Sink.taken c.walk.new.out) (g.W.Sink.taken c.finish.new.out) c.finish.result
+    (g.W.Sink.taken c.walk.new.out) (g.W.Sink.taken c.finish.new.out) c.finish.result
     c.in-Ok.ensures.ok c.as_slice.ensures.value c.in-Ok-walk.ensures.last c.in-Ok-walk.ensures.text c.bytes.ensures
-        c.finish.ensures.told c.finish.ensures.prefix
+    c.finish.ensures.told c.finish.ensures.prefix
 
 pub returns-in-Err-Memory-clause-answered : goal.returns-in-Err-Memory-clause-answered
 returns-in-Err-Memory-clause-answered g c =
     meaning_short (λ (name : List ℕ). Rose (g.S.Shelf.faults c.args.shelf.now name) (g.S.Shelf.faults c.source.new.shelf name))
-        (g.S.Shelf.content c.args.shelf.now) c.args.file.now (option_map (λ s. s.now) c.args.starts) c.args.steps
+    (g.S.Shelf.content c.args.shelf.now) c.args.file.now (option_map (λ s. s.now) c.args.starts) c.args.steps
     c.in-Ok.source.0 (seen c.in-Ok.source.1) c.as_slice.result.now (g.W.Sink.taken c.args.out.now) (g.W.Sink.taken c.walk.new.out)
-        (g.W.Sink.taken c.finish-in-Err-Memory.new.out) c.finish-in-Err-Memory.result
+    (g.W.Sink.taken c.finish-in-Err-Memory.new.out) c.finish-in-Err-Memory.result
     c.in-Ok.ensures.ok c.as_slice.ensures.value (c.walk.ensures.some (cc)) c.finish-in-Err-Memory.ensures.told c.finish-in-Err-Memory.ensures.prefix
 
 pub returns-clause-answered : goal.returns-clause-answered
 returns-clause-answered g c =
     meaning_broke (λ (name : List ℕ). Rose (g.S.Shelf.faults c.args.shelf.now name) (g.S.Shelf.faults c.source.new.shelf name))
-        (g.S.Shelf.content c.args.shelf.now) c.args.file.now (option_map (λ s. s.now) c.args.starts) c.args.steps
+    (g.S.Shelf.content c.args.shelf.now) c.args.file.now (option_map (λ s. s.now) c.args.starts) c.args.steps
     c.in-Ok.source.0 (seen c.in-Ok.source.1) c.as_slice.result.now (g.W.Sink.taken c.args.out.now) (g.W.Sink.taken c.walk.new.out)
     c.in-Ok.ensures.ok c.as_slice.ensures.value (c.walk.ensures.prefix (cc))
 
@@ -61,34 +61,34 @@ returns-in-Err-clause-pieces g c =
 pub returns-in-Ok-walk-clause-fetched : goal.returns-in-Ok-walk-clause-fetched
 returns-in-Ok-walk-clause-fetched g c =
     fetched_by {A = Unit {0}} (c.args.file.now ∷ named (option_map (λ s. s.now) c.args.starts)) (g.S.Shelf.log c.args.shelf.now)
-        (g.S.Shelf.log c.source.new.shelf) Done c.finish.result (Ok tt) (λ e. absurd cc) c.in-Ok.ensures.log (λ n. (c.finish.ensures.told n).0)
+    (g.S.Shelf.log c.source.new.shelf) Done c.finish.result (Ok tt) (λ e. absurd cc) c.in-Ok.ensures.log (λ n. (c.finish.ensures.told n).0)
 
 pub returns-in-Ok-walk-clause-pieces : goal.returns-in-Ok-walk-clause-pieces
 returns-in-Ok-walk-clause-pieces g c =
     let sent = c.in-Ok-walk.ensures.sent in
     line_after IsMeaningLine Done c.finish.result sent.0 c.bytes.result.now (g.W.Sink.log c.args.out.now) (g.W.Sink.log c.walk.new.out)
-        (g.W.Sink.log c.finish.new.out) sent.1
+    (g.W.Sink.log c.finish.new.out) sent.1
     (subst IsMeaningLine (sym c.bytes.ensures) c.in-Ok-walk.ensures.last_line) sent.2
-        (λ n. (c.finish.ensures.told n).0) c.finish.ensures.sent c.finish.ensures.broken
+    (λ n. (c.finish.ensures.told n).0) c.finish.ensures.sent c.finish.ensures.broken
 
 pub returns-in-Err-Memory-clause-fetched : goal.returns-in-Err-Memory-clause-fetched
 returns-in-Err-Memory-clause-fetched g c =
     fetched_by {A = Unit {0}} (c.args.file.now ∷ named (option_map (λ s. s.now) c.args.starts)) (g.S.Shelf.log c.args.shelf.now)
-        (g.S.Shelf.log c.source.new.shelf) Memory c.finish-in-Err-Memory.result (Ok tt) (λ e. absurd cc) c.in-Ok.ensures.log
-        (λ n. (c.finish-in-Err-Memory.ensures.told n).0)
+    (g.S.Shelf.log c.source.new.shelf) Memory c.finish-in-Err-Memory.result (Ok tt) (λ e. absurd cc) c.in-Ok.ensures.log
+    (λ n. (c.finish-in-Err-Memory.ensures.told n).0)
 
 pub returns-in-Err-Memory-clause-pieces : goal.returns-in-Err-Memory-clause-pieces
 returns-in-Err-Memory-clause-pieces g c =
     let sent = c.walk.ensures.sent_some (cc) in
     stop_after IsMeaningLine Memory c.finish-in-Err-Memory.result sent.0 memory_line (g.W.Sink.log c.args.out.now) (g.W.Sink.log c.walk.new.out)
-        (g.W.Sink.log c.finish-in-Err-Memory.new.out) sent.1
+    (g.W.Sink.log c.finish-in-Err-Memory.new.out) sent.1
     (λ e. absurd cc) (λ e. absurd cc) sent.2 (λ n. (c.finish-in-Err-Memory.ensures.told n).0) c.finish-in-Err-Memory.ensures.sent
-        c.finish-in-Err-Memory.ensures.broken
+    c.finish-in-Err-Memory.ensures.broken
 
 pub returns-clause-fetched : goal.returns-clause-fetched
 returns-clause-fetched g c =
     fetched_by {A = Unit {0}} (c.args.file.now ∷ named (option_map (λ s. s.now) c.args.starts)) (g.S.Shelf.log c.args.shelf.now)
-        (g.S.Shelf.log c.source.new.shelf) WriteFault WriteFault (Ok tt) (λ e. absurd cc) c.in-Ok.ensures.log (λ n. refl)
+    (g.S.Shelf.log c.source.new.shelf) WriteFault WriteFault (Ok tt) (λ e. absurd cc) c.in-Ok.ensures.log (λ n. refl)
 
 pub returns-clause-pieces : goal.returns-clause-pieces
 returns-clause-pieces g c =

@@ -26,7 +26,7 @@ returns-in-Ok-clause-answered g c =
     (HasRun c.args.setting.env c.args.setting.budget p.typed.labelled p.observer p.image start)
     (IsAnswer rises content (run c.args.file.now starts c.args.setting.env c.args.setting.budget name)) c.run_named.result (λ b h. h)
     (λ s t. ready_tells rises content c.args.file.now starts name c.args.setting.env c.args.setting.budget p.typed.labelled p.observer p.image
-        start s t c.in-Ok.ensures.ok)
+    start s t c.in-Ok.ensures.ok)
     c.run_named.ensures.ended
 
 pub returns-in-Err-clause-answered : goal.returns-in-Err-clause-answered
@@ -45,7 +45,7 @@ returns-in-Err-clause-answered g c =
 pub returns-in-Ok-clause-fetched : goal.returns-in-Ok-clause-fetched
 returns-in-Ok-clause-fetched g c =
     fetched_by {A = Unit {0}} (c.args.file.now ∷ named (option_map (λ s. s.now) c.args.starts)) (g.S.Shelf.log c.args.shelf.now)
-        (g.S.Shelf.log c.ready.new.shelf) c.run_named.result c.run_named.result (Ok tt)
+    (g.S.Shelf.log c.ready.new.shelf) c.run_named.result c.run_named.result (Ok tt)
     c.run_named.ensures.unread c.in-Ok.ensures.log (λ n. refl)
 
 pub returns-in-Err-clause-pieces : goal.returns-in-Err-clause-pieces
@@ -54,7 +54,7 @@ returns-in-Err-clause-pieces g c =
     let e = c.in-Err.e in
     stop_alone IsRunLine e c.stop.result (g.W.Sink.log c.args.out.now) (g.W.Sink.log c.stop.new.out)
     (run_stopped rises (g.S.Shelf.content c.args.shelf.now) c.args.file.now (option_map (λ s. s.now) c.args.starts)
-        (option_map (λ s. s.now) c.args.name) e c.in-Err.ensures.stop)
+    (option_map (λ s. s.now) c.args.name) e c.in-Err.ensures.stop)
     (λ n. (c.stop.ensures.told n).0) c.stop.ensures.sent c.stop.ensures.broken
 
 pub returns-in-Err-clause-sound : goal.returns-in-Err-clause-sound

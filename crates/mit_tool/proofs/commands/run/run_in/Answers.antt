@@ -21,19 +21,25 @@ pub returns-in_default-clause-ended : goal.returns-in_default-clause-ended
 returns-in_default-clause-ended g c =
     let v : Env g.row.E.Denot = g.E.MachineEnv.env in
     let q = c.args.program.now.typed.labelled in
-    let told : Told = told_by (run_from v c.args.program.now.image.instrs c.args.budget (record { memory = c.args.start.memory.items; env =
-        g.M.MakeEnv.made q.program.order c.args.start.touches.items })) in
+    let told : Told = told_by (run_from v c.args.program.now.image.instrs c.args.budget (record {
+      memory = c.args.start.memory.items;
+      env =
+          g.M.MakeEnv.made q.program.order c.args.start.touches.items;
+    })) in
     ends_memory (g.W.Sink.taken c.args.out.now) (g.W.Sink.taken c.finish.new.out) Nothing (HasTold q c.args.program.now.observer told) c.finish.result refl
-        c.finish.ensures.told c.finish.ensures.prefix
+    c.finish.ensures.told c.finish.ensures.prefix
 
 pub returns-in_default-load-clause-ended : goal.returns-in_default-load-clause-ended
 returns-in_default-load-clause-ended g c =
     let v : Env g.row.E.Denot = g.E.MachineEnv.env in
     let q = c.args.program.now.typed.labelled in
-    let told : Told = told_by (run_from v c.args.program.now.image.instrs c.args.budget (record { memory = c.args.start.memory.items; env =
-        g.M.MakeEnv.made q.program.order c.args.start.touches.items })) in
+    let told : Told = told_by (run_from v c.args.program.now.image.instrs c.args.budget (record {
+      memory = c.args.start.memory.items;
+      env =
+          g.M.MakeEnv.made q.program.order c.args.start.touches.items;
+    })) in
     ends_memory (g.W.Sink.taken c.args.out.now) (g.W.Sink.taken c.finish-in_default-load.new.out) Nothing (HasTold q c.args.program.now.observer told)
-        c.finish-in_default-load.result refl
+    c.finish-in_default-load.result refl
     c.finish-in_default-load.ensures.told c.finish-in_default-load.ensures.prefix
 
 pub returns-clause-ended : goal.returns-clause-ended
@@ -43,11 +49,14 @@ returns-clause-ended g c =
     let o = c.args.program.now.observer in
     let order = c.lattice-lattice.ensures ∙ ap (λ p. p.order) (c.program-source.ensures.program ∙ ap (λ l. l.program) c.labelled.ensures.labelled) in
     let env = c.in-Ok.ensures.value ∙ ap (λ l. g.M.MakeEnv.made l c.as_slice.result.now) order
-        ∙ ap (g.M.MakeEnv.made q.program.order) c.as_slice.ensures.value in
-    let told : Told = told_by (run_from v c.args.program.now.image.instrs c.args.budget (record { memory = c.args.start.memory.items; env =
-        g.M.MakeEnv.made q.program.order c.args.start.touches.items })) in
+    ∙ ap (g.M.MakeEnv.made q.program.order) c.as_slice.ensures.value in
+    let told : Told = told_by (run_from v c.args.program.now.image.instrs c.args.budget (record {
+      memory = c.args.start.memory.items;
+      env =
+          g.M.MakeEnv.made q.program.order c.args.start.touches.items;
+    })) in
     let runs = loaded_runs v c.args.budget c.in-Ok-load.machine c.args.program.now.image c.args.start.memory.items c.in-Ok.env
-        (g.M.MakeEnv.made q.program.order c.args.start.touches.items)
+    (g.M.MakeEnv.made q.program.order c.args.start.touches.items)
     c.in-Ok-load.ensures.going c.in-Ok-load.ensures.code c.in-Ok-load.ensures.start env in (
       status_at told.end,
       text_of q o told,
@@ -60,18 +69,18 @@ returns-in-Ok-Halted-clause-pieces g c =
     let is = c.program-source.ensures.program ∙ ap (λ l. l.program) c.labelled.ensures.labelled in
     let names = subst (λ (p : Syntax). All (λ d. IsName d.0) p.declarations) is c.laws.ensures.valid.names in
     run_sent c.args.program.now.typed.labelled.program.declarations Done (g.W.Sink.log c.args.out.now) (g.W.Sink.log c.print_run.new.out) names
-        (λ e. absurd cc) (on_ok _ _ _ c.in-Ok-Halted.is c.print_run.ensures.sent)
+    (λ e. absurd cc) (on_ok _ _ _ c.in-Ok-Halted.is c.print_run.ensures.sent)
 
 pub returns-in-Ok-Limit-clause-pieces : goal.returns-in-Ok-Limit-clause-pieces
 returns-in-Ok-Limit-clause-pieces g c =
     let is = c.program-source.ensures.program ∙ ap (λ l. l.program) c.labelled.ensures.labelled in
     let names = subst (λ (p : Syntax). All (λ d. IsName d.0) p.declarations) is c.laws.ensures.valid.names in
     run_sent c.args.program.now.typed.labelled.program.declarations Budget (g.W.Sink.log c.args.out.now) (g.W.Sink.log c.print_run.new.out) names
-        (λ e. absurd cc) (on_ok _ _ _ c.in-Ok-Limit.is c.print_run.ensures.sent)
+    (λ e. absurd cc) (on_ok _ _ _ c.in-Ok-Limit.is c.print_run.ensures.sent)
 
 pub returns-clause-pieces : goal.returns-clause-pieces
 returns-clause-pieces g c =
     let is = c.program-source.ensures.program ∙ ap (λ l. l.program) c.labelled.ensures.labelled in
     let names = subst (λ (p : Syntax). All (λ d. IsName d.0) p.declarations) is c.laws.ensures.valid.names in
     run_broken c.args.program.now.typed.labelled.program.declarations (g.W.Sink.log c.args.out.now) (g.W.Sink.log c.print_run.new.out)
-        names c.in-Err.ensures.broken
+    names c.in-Err.ensures.broken

@@ -33,21 +33,21 @@ returns-in-Part-clause-ended g c =
     let p = c.args.program.now in
     let q = p.typed.labelled in
     let told = told_alike part_env warm part_by_history history_made c.reports_are_the_same.ensures.runs q p.image c.requires.image.0 c.laws.ensures.shaped
-        (seen c.args.start) c.requires.start c.args.setting.budget in
+    (seen c.args.start) c.requires.start c.args.setting.budget in
     subst (λ (e : EnvName). EndsBy (g.W.Sink.taken c.args.out.now) (g.W.Sink.taken c.run_in-in-Part.new.out) Nothing
     (HasRun e c.args.setting.budget q p.observer p.image (seen c.args.start)) c.run_in-in-Part.result)
     (sym c.in-Part.is)
     (subst (λ (z : Told). EndsBy (g.W.Sink.taken c.args.out.now) (g.W.Sink.taken c.run_in-in-Part.new.out) Nothing (HasTold q p.observer z)
-        c.run_in-in-Part.result) told c.run_in-in-Part.ensures.ended)
+    c.run_in-in-Part.result) told c.run_in-in-Part.ensures.ended)
 
 pub returns-in-Part2-clause-ended : goal.returns-in-Part2-clause-ended
 returns-in-Part2-clause-ended g c =
     let p = c.args.program.now in
     let q = p.typed.labelled in
     let told = told_alike part2_env warm2 part2_by_history history_made c.reports_are_the_same.ensures.runs_in_two q p.image c.requires.image.0
-        c.laws.ensures.shaped (seen c.args.start) c.requires.start c.args.setting.budget in
+    c.laws.ensures.shaped (seen c.args.start) c.requires.start c.args.setting.budget in
     subst (λ (e : EnvName). EndsBy (g.W.Sink.taken c.args.out.now) (g.W.Sink.taken c.run_in-in-Part2.new.out) Nothing
     (HasRun e c.args.setting.budget q p.observer p.image (seen c.args.start)) c.run_in-in-Part2.result)
     (sym c.in-Part2.is)
     (subst (λ (z : Told). EndsBy (g.W.Sink.taken c.args.out.now) (g.W.Sink.taken c.run_in-in-Part2.new.out) Nothing (HasTold q p.observer z)
-        c.run_in-in-Part2.result) told c.run_in-in-Part2.ensures.ended)
+    c.run_in-in-Part2.result) told c.run_in-in-Part2.ensures.ended)

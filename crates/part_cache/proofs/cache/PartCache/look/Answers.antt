@@ -6,7 +6,7 @@ pub returns-then-has-clause-found : goal.returns-then-has-clause-found
 returns-then-has-clause-found c =
     c.if-has.true
     ∙ sym (look_own c.args.self.now c.self.inside c.self.view_is c.args.tag c.args.er.number c.requires (c.laws.ensures.lattice.same c.args.er.number)
-        (sym c.has.ensures ∙ c.if-has.true))
+    (sym c.has.ensures ∙ c.if-has.true))
 
 pub returns-then-has-clause-history : goal.returns-then-has-clause-history
 returns-then-has-clause-history c =

@@ -9,7 +9,7 @@ made c = record { lattice = c.args.lattice; sets = c.args.sets; ways = c.args.wa
 pub returns-clause-value : goal.returns-clause-value
 returns-clause-value c =
     new_value (made c) (c.size.result * c.args.sets) c.none.result c.none.ensures.none (c.in_ok-slots.ensures.items_if_clones_equal (λ y h. h))
-        (ap (λ n. n * c.args.sets) c.size.ensures.value)
+    (ap (λ n. n * c.args.sets) c.size.ensures.value)
 
 pub returns-clause-cache : goal.returns-clause-cache
 returns-clause-cache c =
@@ -20,11 +20,11 @@ returns-clause-cache c =
       cache =
           body_cache (made c)
           (new_body (made c) (c.size.result * c.args.sets) c.none.result c.none.ensures.none (c.in_ok-slots.ensures.items_if_clones_equal (λ y h. h))
-              (ap (λ n. n * c.args.sets) c.size.ensures.value)
+          (ap (λ n. n * c.args.sets) c.size.ensures.value)
           c.requires.some_set c.requires.some_way c.requires.few_sets c.requires.few_ways (omega (arith, c.size.ensures.within)) c.none.ensures.set);
     }
 
 pub returns-clause-history : goal.returns-clause-history
 returns-clause-history c =
     new_empty (made c) (c.size.result * c.args.sets) c.none.result c.none.ensures.none (c.in_ok-slots.ensures.items_if_clones_equal (λ y h. h))
-        (ap (λ n. n * c.args.sets) c.size.ensures.value)
+    (ap (λ n. n * c.args.sets) c.size.ensures.value)

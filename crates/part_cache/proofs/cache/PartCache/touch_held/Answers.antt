@@ -5,26 +5,26 @@ use Rattle.part_cache.proofs.cache.PartCache.touch_held.Goals as goal
 pub bring-requires : goal.bring-requires
 bring-requires c =
     old_set c.self.inside c.self.invariant c.args.self.now c.self.view_is c.args.tag c.args.label.number c.requires.label _
-        (place_is c.from.result c.args.label.number c.args.sets c.self.inside.sets c.set_of.result c.args.tag c.from.ensures (c.requires.sets
-        ∙ sym (ap (λ v. v.sets) c.self.view_is)) c.set_of.ensures) c.index_mut.result.now c.index_mut.ensures.value
+    (place_is c.from.result c.args.label.number c.args.sets c.self.inside.sets c.set_of.result c.args.tag c.from.ensures (c.requires.sets
+    ∙ sym (ap (λ v. v.sets) c.self.view_is)) c.set_of.ensures) c.index_mut.result.now c.index_mut.ensures.value
 
 pub invariant_of-self : goal.invariant_of-self
 invariant_of-self c =
     brought_body c.self.inside c.self.invariant c.args.self.now c.self.view_is c.args.tag c.args.label.number c.requires.label _
-        (place_is c.from.result c.args.label.number c.args.sets c.self.inside.sets c.set_of.result c.args.tag c.from.ensures (c.requires.sets
-        ∙ sym (ap (λ v. v.sets) c.self.view_is)) c.set_of.ensures) c.index_mut.result.now c.index_mut.ensures.value c.bring.new.self c.bring.result
-        c.bring.ensures.row c.bring.ensures.set
+    (place_is c.from.result c.args.label.number c.args.sets c.self.inside.sets c.set_of.result c.args.tag c.from.ensures (c.requires.sets
+    ∙ sym (ap (λ v. v.sets) c.self.view_is)) c.set_of.ensures) c.index_mut.result.now c.index_mut.ensures.value c.bring.new.self c.bring.result
+    c.bring.ensures.row c.bring.ensures.set
 
 pub returns-clause-touched : goal.returns-clause-touched
 returns-clause-touched c =
     brought_view c.self.inside c.self.invariant c.args.self.now c.self.view_is c.args.tag c.args.label.number c.requires.label _
-        (place_is c.from.result c.args.label.number c.args.sets c.self.inside.sets c.set_of.result c.args.tag c.from.ensures (c.requires.sets
-        ∙ sym (ap (λ v. v.sets) c.self.view_is)) c.set_of.ensures) c.index_mut.result.now c.index_mut.ensures.value c.bring.new.self
-        c.bring.result c.bring.ensures.row
+    (place_is c.from.result c.args.label.number c.args.sets c.self.inside.sets c.set_of.result c.args.tag c.from.ensures (c.requires.sets
+    ∙ sym (ap (λ v. v.sets) c.self.view_is)) c.set_of.ensures) c.index_mut.result.now c.index_mut.ensures.value c.bring.new.self
+    c.bring.result c.bring.ensures.row
 
 pub returns-clause-found : goal.returns-clause-found
 returns-clause-found c t =
     look_own c.args.self.now c.self.inside c.self.view_is c.args.tag c.args.label.number c.requires.label (c.laws.ensures.lattice.same c.args.label.number)
     (sym (has_is c.self.inside c.self.invariant c.args.self.now c.self.view_is c.args.tag c.args.label.number c.requires.label _
-        (place_is c.from.result c.args.label.number c.args.sets c.self.inside.sets c.set_of.result c.args.tag c.from.ensures (c.requires.sets
-        ∙ sym (ap (λ v. v.sets) c.self.view_is)) c.set_of.ensures) c.index_mut.result.now c.index_mut.ensures.value c.bring.result c.bring.ensures.held) ∙ t)
+    (place_is c.from.result c.args.label.number c.args.sets c.self.inside.sets c.set_of.result c.args.tag c.from.ensures (c.requires.sets
+    ∙ sym (ap (λ v. v.sets) c.self.view_is)) c.set_of.ensures) c.index_mut.result.now c.index_mut.ensures.value c.bring.result c.bring.ensures.held) ∙ t)

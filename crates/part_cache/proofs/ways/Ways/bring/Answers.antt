@@ -18,5 +18,5 @@ returns-then-self-wide-clause-row c ways few =
 pub returns-then-self-wide-clause-set : goal.returns-then-self-wide-clause-set
 returns-then-self-wide-clause-set c =
     brought_set c.args.self.now.tags c.requires c.args.tag (length (held_tags c.args.self.now.tags)) c.ranges.tag.fits (omega arith) 1 (omega arith)
-        (c.if-self-wide.true ∙ c.from-wide.ensures) _
+    (c.if-self-wide.true ∙ c.from-wide.ensures) _
     (second_is c.args.self.now.tags c.args.tag c.from-wide.result (length_ways c.args.self.now.tags c.requires) c.from-wide.ensures)

@@ -11,7 +11,7 @@ returns c = (
   λ e. ⊎_elim
       (λ (t : c.eq.result ≡ true). t)
       (λ (f : c.eq.result ≡ false). absurd
-          (other_text c.args.self.now.tags c.args.other.now.tags (sym f ∙ c.eq.ensures)
-          (ways_same c.args.self.now.tags c.args.other.now.tags c.requires.here c.requires.there e)))
+      (other_text c.args.self.now.tags c.args.other.now.tags (sym f ∙ c.eq.ensures)
+      (ways_same c.args.self.now.tags c.args.other.now.tags c.requires.here c.requires.there e)))
       (cases_Bool c.eq.result),
 )

@@ -22,7 +22,7 @@ pub returns-clause-history : goal.returns-clause-history
 returns-clause-history c =
     let end : c.loop-touch.env ≡ warmed part_touched (empty_part c.args.lattice) c.args.touches.now =
     ap (warmed part_touched c.loop-touch.env) (sym (drop_all c.loop-touch.touch-index c.args.touches.now c.loop-touch-test.false))
-        ∙ c.loop-touch.invariant.rest in
+    ∙ c.loop-touch.invariant.rest in
     subst (λ e. StandsForAll part_structure e (history_of c.args.touches.now)) (sym end)
     (warmed_stands part_structure part_touched part_moves c.args.lattice (empty_part c.args.lattice) c.args.touches.now []
     (part_serves c.args.lattice (empty_part c.args.lattice)

@@ -24,4 +24,4 @@ returns-clause-history_next c h stands =
 pub returns-clause-serves : goal.returns-clause-serves
 returns-clause-serves c order serves =
     subst (IsMadeFor part_structure order) (sym (returns-clause-next c))
-        (part_keeps order c.args.kind c.args.address c.args.er.number c.args.ew.number c.args.self.now serves)
+    (part_keeps order c.args.kind c.args.address c.args.er.number c.args.ew.number c.args.self.now serves)

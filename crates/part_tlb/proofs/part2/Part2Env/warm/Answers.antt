@@ -17,15 +17,19 @@ loop-touch-init c =
       serves = part2_serves c.args.lattice _ c.in_ok-first.ensures.serves c.in_ok-second.ensures.cache;
       rest =
           ap (λ (first : PartEnv). warmed part2_touched (record { first = first; second = c.in_ok-second.second }) c.args.touches.now)
-              c.in_ok-first.ensures.value
+          c.in_ok-first.ensures.value
           ∙ ap (λ (second : Rows). warmed part2_touched (record { first = empty_part c.args.lattice; second = second }) c.args.touches.now)
-              c.in_ok-second.ensures.value;
+          c.in_ok-second.ensures.value;
     }
 
 pub touch-requires : goal.touch-requires
-touch-requires c =
-    (c.args.lattice, (c.loop-touch.invariant.serves,
-        All-get_or (λ t. t.label.number < c.args.lattice.size) c.args.touches.now c.loop-touch.touch-index _ c.loop-touch-test.true c.requires))
+touch-requires c = (
+  c.args.lattice,
+  (
+    c.loop-touch.invariant.serves,
+    All-get_or (λ t. t.label.number < c.args.lattice.size) c.args.touches.now c.loop-touch.touch-index _ c.loop-touch-test.true c.requires,
+  ),
+)
 
 pub loop-touch-preserved : goal.loop-touch-preserved
 loop-touch-preserved c =
@@ -40,7 +44,7 @@ pub returns-clause-history : goal.returns-clause-history
 returns-clause-history c =
     let end : c.loop-touch.env ≡ warmed part2_touched (empty_part2 c.args.lattice) c.args.touches.now =
     ap (warmed part2_touched c.loop-touch.env) (sym (drop_all c.loop-touch.touch-index c.args.touches.now c.loop-touch-test.false))
-        ∙ c.loop-touch.invariant.rest in
+    ∙ c.loop-touch.invariant.rest in
     subst (λ e. StandsForAll part2_structure e (history_of c.args.touches.now)) (sym end)
     (warmed_stands part2_structure part2_touched part2_moves c.args.lattice (empty_part2 c.args.lattice) c.args.touches.now []
     (part2_serves c.args.lattice (empty_part2 c.args.lattice)

@@ -34,7 +34,7 @@ returns-clause-history_next c h stands =
 pub returns-clause-serves : goal.returns-clause-serves
 returns-clause-serves c order serves =
     subst (IsMadeFor part2_structure order) (sym (returns-clause-next c))
-        (part2_keeps order c.args.kind c.args.address c.args.er.number c.args.ew.number c.args.self.now serves)
+    (part2_keeps order c.args.kind c.args.address c.args.er.number c.args.ew.number c.args.self.now serves)
 
 pub look_and_touch-second-requires-clause-sets : goal.look_and_touch-second-requires-clause-sets
 look_and_touch-second-requires-clause-sets c = sym (c.requires.1.0.each Second).same_sets

@@ -14,5 +14,7 @@ same_part-requires-clause-sets c =
     sets_same c.requires.0 32 4 c.args.self.now.second c.args.other.now.second (c.requires.1.0.each Second) (c.requires.1.1.each Second)
 
 pub same-requires : goal.same-requires
-same-requires c = (c.requires.0,
-    (first_serves c.requires.0 c.args.self.now c.requires.1.0, first_serves c.requires.0 c.args.other.now c.requires.1.1, c.requires.1.2))
+same-requires c = (
+  c.requires.0,
+  (first_serves c.requires.0 c.args.self.now c.requires.1.0, first_serves c.requires.0 c.args.other.now c.requires.1.1, c.requires.1.2),
+)

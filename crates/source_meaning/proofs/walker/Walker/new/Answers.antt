@@ -11,16 +11,16 @@ use Rattle.source_meaning.proofs.walker.Walker.new.Goals as goal
 pub invariant_of-result : goal.invariant_of-result
 invariant_of-result c =
     let lists : map (λ f. f.now) c.push.new.self.items ≡ c.body.result.now ∷ [] =
-        ap (map (λ f. f.now)) (c.in_ok-push.ensures.items ∙ ap (λ z. z ++ c.body.result ∷ []) c.new-frames.ensures.items) in
+    ap (map (λ f. f.now)) (c.in_ok-push.ensures.items ∙ ap (λ z. z ++ c.body.result ∷ []) c.new-frames.ensures.items) in
     subst (λ l. IsGoing l (length c.in_ok-memory.memory.items)) (sym lists)
     (going_first c.args.p.now c.body.result.now (length c.in_ok-memory.memory.items) c.body.ensures.body c.laws.ensures.valid
-        (ap length c.in_ok-memory.ensures.items ∙ c.requires))
+    (ap length c.in_ok-memory.ensures.items ∙ c.requires))
 
 pub returns : goal.returns
 returns c =
     let lists : map (λ f. f.now) c.push.new.self.items ≡ c.body.result.now ∷ [] =
-        ap (map (λ f. f.now)) (c.in_ok-push.ensures.items ∙ ap (λ z. z ++ c.body.result ∷ []) c.new-frames.ensures.items) in
+    ap (map (λ f. f.now)) (c.in_ok-push.ensures.items ∙ ap (λ z. z ++ c.body.result ∷ []) c.new-frames.ensures.items) in
     let at : Plan → List ℤ → Source Written (Option Label) = λ (p : Plan) (m : List ℤ). record { todo = p; memory = m; notes = [] } in
     let todo : todo_of (map (λ f. f.now) c.push.new.self.items) ≡ plan_of c.args.p.now =
-        ap todo_of lists ∙ then_done (list_plan c.body.result.now) ∙ c.body.ensures.body in
+    ap todo_of lists ∙ then_done (list_plan c.body.result.now) ∙ c.body.ensures.body in
     ap (λ z. at z c.args.memory.now) (sym todo) ∙ ap (at (todo_of (map (λ f. f.now) c.push.new.self.items))) (sym c.in_ok-memory.ensures.items)

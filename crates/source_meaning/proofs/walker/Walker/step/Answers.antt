@@ -13,7 +13,7 @@ pub unreachable-requires : goal.unreachable-requires
 unreachable-requires c =
     let is : map (λ f. f.now) c.self.inside.frames.items ≡ without_last (map (λ f. f.now) c.self.inside.frames.items) ++ c.index-list.result.now.now ∷ [] =
     last_there (λ f. f.now) c.self.inside.frames.items c.len-depth.result c.index-list.result.now (c.len-depth.ensures ∙ c.self.inside.frames.ok.0)
-        (positive c.len-depth.result c.if-depth-eq0.false) c.index-list.ensures in
+    (positive c.len-depth.result c.if-depth-eq0.false) c.index-list.ensures in
     let frame = framed (map (λ f. f.now) c.self.inside.frames.items) (length c.self.inside.memory.items) c.index-list.result.now.now c.self.invariant is in
     no_empty c.index-list.result.now.now frame.0 c.in_default.len_below
 
@@ -21,7 +21,7 @@ pub obey-requires-clause-frame : goal.obey-requires-clause-frame
 obey-requires-clause-frame c =
     let is : map (λ f. f.now) c.self.inside.frames.items ≡ without_last (map (λ f. f.now) c.self.inside.frames.items) ++ c.index-list.result.now.now ∷ [] =
     last_there (λ f. f.now) c.self.inside.frames.items c.len-depth.result c.index-list.result.now (c.len-depth.ensures ∙ c.self.inside.frames.ok.0)
-        (positive c.len-depth.result c.if-depth-eq0.false) c.index-list.ensures in
+    (positive c.len-depth.result c.if-depth-eq0.false) c.index-list.ensures in
     let frame = framed (map (λ f. f.now) c.self.inside.frames.items) (length c.self.inside.memory.items) c.index-list.result.now.now c.self.invariant is in
     subst (λ m. IsFrame (length m) c.index-list.result.now.now) (sym c.deref_mut.ensures.value) frame
 
@@ -29,15 +29,15 @@ pub returns-clause-step : goal.returns-clause-step
 returns-clause-step c =
     let is : map (λ f. f.now) c.self.inside.frames.items ≡ without_last (map (λ f. f.now) c.self.inside.frames.items) ++ c.index-list.result.now.now ∷ [] =
     last_there (λ f. f.now) c.self.inside.frames.items c.len-depth.result c.index-list.result.now (c.len-depth.ensures ∙ c.self.inside.frames.ok.0)
-        (positive c.len-depth.result c.if-depth-eq0.false) c.index-list.ensures in
+    (positive c.len-depth.result c.if-depth-eq0.false) c.index-list.ensures in
     let frame = framed (map (λ f. f.now) c.self.inside.frames.items) (length c.self.inside.memory.items) c.index-list.result.now.now c.self.invariant is in
     let new : Standing = record { lists = map (λ f. f.now) c.obey.new.frames.items; memory = c.obey.new.memory } in
     let step =
     subst (λ m. IfOk c.obey.result (λ walk. source_act
-        (then_todo (list_plan c.index-list.result.now.now) (todo_of (without_last (map (λ f. f.now) c.self.inside.frames.items)))) m []
-        ≡ source_at new (told_by walk))) c.deref_mut.ensures.value c.obey.ensures.step in
+    (then_todo (list_plan c.index-list.result.now.now) (todo_of (without_last (map (λ f. f.now) c.self.inside.frames.items)))) m []
+    ≡ source_at new (told_by walk))) c.deref_mut.ensures.value c.obey.ensures.step in
     subst (λ z. IfOk c.obey.result (λ walk. IsStep c.args.self.now walk (record { lists = map (λ f. f.now) c.obey.new.frames.items; memory = z })))
-        (sym (lent c.self.inside.memory.len c.obey.new.memory _ (c.obey.auto.memory ∙ c.deref_mut.ensures.len)))
+    (sym (lent c.self.inside.memory.len c.obey.new.memory _ (c.obey.auto.memory ∙ c.deref_mut.ensures.len)))
     (subst (λ s. IfOk c.obey.result (λ walk. IsStep s walk new)) c.self.view_is
     (is_step (map (λ f. f.now) c.self.inside.frames.items) c.self.inside.memory.items c.index-list.result.now.now new c.obey.result is
-        frame.0 step c.obey.ensures.told))
+    frame.0 step c.obey.ensures.told))

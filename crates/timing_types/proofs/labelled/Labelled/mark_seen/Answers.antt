@@ -21,30 +21,38 @@ one_marked xs k b f long h e x l =
     ⊎_elim
     (λ (a : x < k). get_or-set_other xs k x b true (λ q. absurd (omega (arith, a, q))) ∙ h x a)
     (λ (a : k ≤ x). let q : x ≡ k = omega (arith, a, l) in
-        ap (λ z. slice_index_or (slice_set xs k b) z true) q ∙ (get_or-set_same xs k b true long ∙ (e ∙ ap f (sym q))))
+    ap (λ z. slice_index_or (slice_set xs k b) z true) q ∙ (get_or-set_same xs k b true long ∙ (e ∙ ap f (sym q))))
     (cases_lt x k)
 
 pub loop-x-preserved : goal.loop-x-preserved
 loop-x-preserved c =
     let h = c.loop-x.invariant in
     let long : c.loop-x.x < length c.loop-x.seen =
-        omega (arith, h.long, c.requires, c.variables-x-end.ensures.value, ap (λ z. variables z.declarations) c.program-program.ensures.program) in
+    omega (arith, h.long, c.requires, c.variables-x-end.ensures.value, ap (λ z. variables z.declarations) c.program-program.ensures.program) in
     record {
       long = length-set c.loop-x.seen c.loop-x.x c.flows.result ∙ h.long;
       marked =
           one_marked c.loop-x.seen c.loop-x.x c.flows.result
-              (λ x. (order_of c.args.self.now).flows (labels_of c.args.self.now x) c.args.observer.number) long h.marked
+          (λ x. (order_of c.args.self.now).flows (labels_of c.args.self.now x) c.args.observer.number) long h.marked
           (flows_is _ _ _ _ c.loop-x.x _ c.args.observer.number c.flows.result (c.lattice-order.ensures ∙ ap (λ z. z.order) c.program-program.ensures.program)
-              c.labels-labels.ensures c.variable.ensures c.flows.ensures);
+          c.labels-labels.ensures c.variable.ensures c.flows.ensures);
       kept = λ x l. get_or-set_other c.loop-x.seen c.loop-x.x x c.flows.result true (λ q. absurd (omega (arith, l, q))) ∙ h.kept x (omega (arith, l));
     }
 
 pub returns-clause-variables : goal.returns-clause-variables
 returns-clause-variables c = λ x l.
-    let h = c.loop-x.invariant in h.marked x (omega (arith, l, c.variables-x-end.ensures.value,
-        ap (λ z. variables z.declarations) c.program-program.ensures.program))
+    let h = c.loop-x.invariant in h.marked x (omega (
+      arith,
+      l,
+      c.variables-x-end.ensures.value,
+      ap (λ z. variables z.declarations) c.program-program.ensures.program,
+    ))
 
 pub returns-clause-others : goal.returns-clause-others
 returns-clause-others c = λ x l.
-    let h = c.loop-x.invariant in h.kept x (omega (arith, l, c.variables-x-end.ensures.value,
-        ap (λ z. variables z.declarations) c.program-program.ensures.program))
+    let h = c.loop-x.invariant in h.kept x (omega (
+      arith,
+      l,
+      c.variables-x-end.ensures.value,
+      ap (λ z. variables z.declarations) c.program-program.ensures.program,
+    ))

@@ -9,7 +9,7 @@ loop-k-init c = none_put releases_text c.args.runs.now _ _ refl
 pub loop-k-preserved : goal.loop-k-preserved
 loop-k-preserved c =
     next_put releases_text c.args.runs.now _ c.loop-k.text.items _ c.loop-k.k (get_or c.args.runs.now c.loop-k.k c.index-runs-k.result) c.index-runs-k.result
-        c.loop-k-test.true refl c.loop-k.invariant
+    c.loop-k-test.true refl c.loop-k.invariant
     (c.in_ok-put_releases.ensures ∙ ap (λ z. c.loop-k.text.items ++ release_lines (c.loop-k.k + 1) 1 z) c.as_slice.ensures.value)
 
 pub returns : goal.returns

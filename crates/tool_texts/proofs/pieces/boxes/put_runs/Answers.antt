@@ -15,9 +15,9 @@ loop-k-preserved c =
     let n : length c.as_slice-ready.result.now ≡ length v.items = ap length c.as_slice-ready.ensures.value in
     let line : c.run.result ≡ run_text (c.loop-k.k + 1) (length v.items) (seen r) x = c.run.ensures ∙ ap (λ m. run_text (c.loop-k.k + 1) m (seen r) x) n in
     let put : c.put.new.text.items ≡ c.loop-k.text.items ++ run_text (c.loop-k.k + 1) (length v.items) (seen r) x =
-        c.in_ok-put.ensures ∙ ap (λ z. c.loop-k.text.items ++ z) line in
+    c.in_ok-put.ensures ∙ ap (λ z. c.loop-k.text.items ++ z) line in
     next_run_put c.args.all.now c.args.runs.now c.args.classes.now c.args.text.now.items c.loop-k.text.items c.put.new.text.items c.loop-k.k v
-        c.index-all-k.result r c.index-runs-k.result x 0
+    c.index-all-k.result r c.index-runs-k.result x 0
     c.loop-k-test.true c.requires.runs c.requires.classes c.index-all-k.is c.index-runs-k.is refl c.loop-k.invariant put
 
 pub returns : goal.returns

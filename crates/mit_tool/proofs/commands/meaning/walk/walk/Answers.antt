@@ -13,7 +13,7 @@ steps-init g c = record {
 pub returns-in-Ended-clause-text : goal.returns-in-Ended-clause-text
 returns-in-Ended-clause-text g c =
     ends_lines c.args.p.now c.args.memory.now c.args.steps c.steps.taken c.steps.walker c.step.new.self c.in-Ok-step.walk (g.W.Sink.taken c.args.out.now)
-        (g.W.Sink.taken c.steps.out) c.steps.invariant.walking c.in-Ok-step.ensures.step c.in-Ended.is
+    (g.W.Sink.taken c.steps.out) c.steps.invariant.walking c.in-Ok-step.ensures.step c.in-Ended.is
 
 pub steps-preserved : goal.steps-preserved
 steps-preserved g c =
@@ -21,7 +21,7 @@ steps-preserved g c =
     record {
       walking = walking_next c.args.p.now c.args.memory.now c.args.steps c.steps.taken c.steps.walker c.step.new.self c.in-Ok-step.walk
           (g.W.Sink.taken c.args.out.now) (g.W.Sink.taken c.steps.out) (g.W.Sink.taken c.print_step.new.out) c.steps.invariant.walking c.in-Ok-step.ensures.step
-              c.in_default-walk.not-Ended less c.in-Ok-print_step.ensures.text;
+          c.in_default-walk.not-Ended less c.in-Ok-print_step.ensures.text;
       sent = lines_more c.args.p.now.declarations c.in-Ok-step.walk (g.W.Sink.log c.args.out.now) (g.W.Sink.log c.steps.out) (g.W.Sink.log c.print_step.new.out)
           c.laws.ensures.valid.names c.steps.invariant.sent c.in-Ok-print_step.ensures.sent;
       later = omega (arith, c.steps.invariant.later, c.print_step.ensures.later);
@@ -32,7 +32,7 @@ returns-in-Err-clause-prefix g c =
     let less : c.steps.taken < c.args.steps = omega (arith, c.if-taken-steps.false) in
     λ e. breaks_off c.args.p.now c.args.memory.now c.args.steps c.steps.taken c.steps.walker c.step.new.self c.in-Ok-step.walk
     (g.W.Sink.taken c.args.out.now) (g.W.Sink.taken c.steps.out) (g.W.Sink.taken c.print_step.new.out) c.steps.invariant.walking
-        c.in-Ok-step.ensures.step less c.in-Err.ensures.prefix
+    c.in-Ok-step.ensures.step less c.in-Err.ensures.prefix
 
 pub returns-in_default-step-clause-sent_some : goal.returns-in_default-step-clause-sent_some
 returns-in_default-step-clause-sent_some g c = λ e. c.steps.invariant.sent
@@ -46,7 +46,7 @@ returns-in-Ended-clause-last_line g c = inr (c.steps.taken, inl c.ended.ensures)
 pub returns-in-Err-clause-broken : goal.returns-in-Err-clause-broken
 returns-in-Err-clause-broken g c =
     λ e. lines_break c.args.p.now.declarations c.in-Ok-step.walk (g.W.Sink.log c.args.out.now) (g.W.Sink.log c.steps.out) (g.W.Sink.log c.print_step.new.out)
-        c.laws.ensures.valid.names c.steps.invariant.sent c.in-Err.ensures.broken
+    c.laws.ensures.valid.names c.steps.invariant.sent c.in-Err.ensures.broken
 
 pub returns-then-taken-steps : goal.returns-then-taken-steps
 returns-then-taken-steps g c =
