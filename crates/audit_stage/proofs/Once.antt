@@ -4,7 +4,6 @@ use Rattle.label_lattice.specs.declared.label.Label.{Label}
 use Rattle.label_lattice.specs.Order.{Order}
 use Rattle.mit_syntax.specs.Program.{Syntax}
 use Rattle.timing_types.specs.Labelled.{LabelledProgram}
-use Rattle.part_tlb.specs.Histories.{part_by_history, part2_by_history}
 use Rattle.history_bound.specs.Over.{AnyHistory, history_made}
 use Rattle.start_file.specs.Starts.{StartValue}
 use Rattle.leak_audit.specs.Agreement.{starts_of}
@@ -17,13 +16,11 @@ use Rattle.leak_audit.specs.Report.{SameReport}
 use Rattle.leak_audit.proofs.Once as audit
 use Rattle.leak_audit.proofs.Once.{no_audit_fault}
 use Rattle.tool_words.specs.declared.words.EnvName.{EnvName}
-use Rattle.tool_words.specs.declared.words.EnvName.TheVariants.{Flat, Part, Part2}
 use Rattle.tool_texts.specs.declared.status.Status.{Status}
 use Rattle.tool_texts.specs.declared.status.Status.TheVariants as status
 use Rattle.tool_texts.specs.Texts.{number_line}
 use Rattle.tool_texts.specs.Reports.{bound_line, class_lines, head_lines, tail_lines, audit_lines, disagree_line, unfinished_line, events_line}
-use Rattle.tool_stages.specs.Envs.{flat_made, ReportsIn, AuditFaultsIn}
-use Rattle.env_contract.specs.Flat.{flat_env}
+use Rattle.tool_stages.specs.Envs.{environment, ReportsIn, AuditFaultsIn}
 use Rattle.tool_stages.specs.Goes.{CanBeAudited}
 use Rattle.tool_stages.proofs.OneLemmas.{Same}
 use Rattle.tool_stages.proofs.AgreeLemmas.{all_halt}
@@ -31,23 +28,16 @@ use Rattle.audit_stage.specs.Audited.{AuditStops}
 
 pub same_report : (e : EnvName) (q : LabelledProgram) (o t : ℕ) (ss : List StartValue) (r s : AuditReport) → ReportsIn e q o t ss r
     → ReportsIn e q o t ss s → SameReport r s
-same_report Flat q o t ss r s h k = audit.same_report flat_env (λ order e. Unit {0}) q o t (starts_of flat_made q.program.order ss) r s h k
-same_report Part q o t ss r s h k = audit.same_report (part_by_history q.program.order) AnyHistory q o t (starts_of history_made q.program.order ss) r s h k
-same_report Part2 q o t ss r s h k = audit.same_report (part2_by_history q.program.order) AnyHistory q o t (starts_of history_made q.program.order ss) r s h k
+same_report e q o t ss r s h k = audit.same_report (environment e q.program.order) AnyHistory q o t (starts_of history_made q.program.order ss) r s h k
 
 same_fault : (e : EnvName) (q : LabelledProgram) (o t : ℕ) (ss : List StartValue) (f g : AuditFault) → AuditFaultsIn e q o t ss f → AuditFaultsIn e q o t ss g
     → f ≢ audit_fault.Memory → g ≢ audit_fault.Memory → f ≡ g
-same_fault Flat q o t ss f g h k n m = audit.same_fault flat_env (λ order e. Unit {0}) q o t (starts_of flat_made q.program.order ss) f g h k n m
-same_fault Part q o t ss f g h k n m =
-    audit.same_fault (part_by_history q.program.order) AnyHistory q o t (starts_of history_made q.program.order ss) f g h k n m
-same_fault Part2 q o t ss f g h k n m =
-    audit.same_fault (part2_by_history q.program.order) AnyHistory q o t (starts_of history_made q.program.order ss) f g h k n m
+same_fault e q o t ss f g h k n m =
+    audit.same_fault (environment e q.program.order) AnyHistory q o t (starts_of history_made q.program.order ss) f g h k n m
 
 pub not_fault : (e : EnvName) (q : LabelledProgram) (o t : ℕ) (ss : List StartValue) (r : AuditReport) (f : AuditFault) → ReportsIn e q o t ss r
     → AuditFaultsIn e q o t ss f → f ≡ audit_fault.Memory
-not_fault Flat q o t ss r f h k = audit.not_fault flat_env (λ order e. Unit {0}) q o t (starts_of flat_made q.program.order ss) r f h k
-not_fault Part q o t ss r f h k = audit.not_fault (part_by_history q.program.order) AnyHistory q o t (starts_of history_made q.program.order ss) r f h k
-not_fault Part2 q o t ss r f h k = audit.not_fault (part2_by_history q.program.order) AnyHistory q o t (starts_of history_made q.program.order ss) r f h k
+not_fault e q o t ss r f h k = audit.not_fault (environment e q.program.order) AnyHistory q o t (starts_of history_made q.program.order ss) r f h k
 
 pub same_head : (o : Order) (l : Label) (t runs levels runs' levels' : ℕ) → runs ≡ runs' → levels ≡ levels'
     → head_lines o l t runs levels ≡ head_lines o l t runs' levels'
@@ -105,12 +95,8 @@ one_audit_stop e t q l ss s u x y h k =
 
 halt_in : (e : EnvName) (t : ℕ) (q : LabelledProgram) (o : Label) (ss : List StartValue) (f : AuditFault) → CanBeAudited e t q o.number ss
     → AuditFaultsIn e q o.number t ss f → f ≡ audit_fault.Memory
-halt_in Flat t q o ss f k h = no_audit_fault flat_env (λ order e. Unit {0}) q o.number t (starts_of flat_made q.program.order ss) f k.cut.agree
-    (all_halt flat_env flat_made q t ss k.halt) k.cut.few h
-halt_in Part t q o ss f k h = no_audit_fault (part_by_history q.program.order) AnyHistory q o.number t (starts_of history_made q.program.order ss) f k.cut.agree
-    (all_halt (part_by_history q.program.order) history_made q t ss k.halt) k.cut.few h
-halt_in Part2 t q o ss f k h = no_audit_fault (part2_by_history q.program.order) AnyHistory q o.number t (starts_of history_made q.program.order ss) f
-    k.cut.agree (all_halt (part2_by_history q.program.order) history_made q t ss k.halt) k.cut.few h
+halt_in e t q o ss f k h = no_audit_fault (environment e q.program.order) AnyHistory q o.number t (starts_of history_made q.program.order ss) f k.cut.agree
+    (all_halt (environment e q.program.order) history_made q t ss k.halt) k.cut.few h
 
 pub audit_goes : (e : EnvName) (t : ℕ) (q : LabelledProgram) (o : Label) (ss : List StartValue) (s : Status) (x : List ℕ) → CanBeAudited e t q o.number ss
     → AuditStops e t q o ss s x → ⊥

@@ -10,21 +10,49 @@ ghost use Rattle.tool_stages.specs.Envs.{ReportsIn, AuditFaultsIn};
 ghost use Rattle.tool_stages.specs.Begins.{CanAudit};
 ghost use Rattle.audit_stage.specs.Audited.{AuditStops};
 
-use env_contract::make::MakeFlat;
-use history_reports::laws::reports_are_the_same;
+use env_contract::env::MachineEnv;
 use leak_audit::audit::audit;
 use leak_audit::report::{AuditFault, AuditReport};
 use mit_syntax::program::Program;
-use part_tlb::part::MakePart;
-use part_tlb::part2::MakePart2;
 use run_watch::Watch;
 use std::alloc::Global;
+use tool_stages::envs::NamedEnv;
+use tool_stages::in_env;
+use tool_stages::laws::named_tell_as_histories;
 use tool_stages::prepared::Prepared;
 use tool_stages::setting::Setting;
 use tool_texts::lines;
 use tool_texts::status::Status;
 use tool_texts::stop::{Stop, no_memory};
-use tool_words::words::EnvName;
+
+// Audits in the environments of a maker, which have the name.
+fn audit_in<E: MachineEnv + Drop, M: NamedEnv<E>, W: Watch>(
+    alloc: Global,
+    maker: &M,
+    p: &Prepared,
+    setting: Setting,
+    watch: &W,
+) -> Result<AuditReport, AuditFault>
+    requires fit { CanAudit p.now.compiled.typed.labelled p.now.observer p.now.compiled.image (map seen p.now.starts.items) }
+    requires cycles { IsCycles setting.budget }
+    requires named { setting.env ≡ M.name }
+    ensures report { IfOk result (ReportsIn setting.env p.now.compiled.typed.labelled p.now.observer.number setting.budget (map seen p.now.starts.items)) }
+    ensures fault { IfErr result (AuditFaultsIn setting.env p.now.compiled.typed.labelled p.now.observer.number setting.budget (map seen p.now.starts.items)) }
+{
+    let (typed, image, starts) = (&p.compiled.typed, &p.compiled.image, p.starts.as_slice());
+    image.laws();
+    named_tell_as_histories::<E, M>();
+    audit(
+        alloc,
+        typed,
+        image,
+        starts,
+        p.observer,
+        setting.budget,
+        maker,
+        watch,
+    )
+}
 
 // Audits in the environment of a name.
 fn audit_named<W: Watch>(
@@ -38,21 +66,7 @@ fn audit_named<W: Watch>(
     ensures report { IfOk result (ReportsIn setting.env p.now.compiled.typed.labelled p.now.observer.number setting.budget (map seen p.now.starts.items)) }
     ensures fault { IfErr result (AuditFaultsIn setting.env p.now.compiled.typed.labelled p.now.observer.number setting.budget (map seen p.now.starts.items)) }
 {
-    let (typed, image, starts) = (&p.compiled.typed, &p.compiled.image, p.starts.as_slice());
-    let (observer, budget) = (p.observer, setting.budget);
-    image.laws();
-    reports_are_the_same();
-    match setting.env {
-        EnvName::Flat => audit(
-            alloc, typed, image, starts, observer, budget, &MakeFlat, watch,
-        ),
-        EnvName::Part => audit(
-            alloc, typed, image, starts, observer, budget, &MakePart, watch,
-        ),
-        EnvName::Part2 => audit(
-            alloc, typed, image, starts, observer, budget, &MakePart2, watch,
-        ),
-    }
+    in_env!(setting.env, maker => audit_in(alloc, maker, p, setting, watch))
 }
 
 // The stop for an audit without a report.

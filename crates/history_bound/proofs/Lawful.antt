@@ -8,7 +8,7 @@ use Rattle.env_contract.specs.declared.place.Kind.TheVariants as kind
 use Rattle.env_contract.specs.declared.place.Place.{Place}
 use Rattle.env_contract.specs.declared.place.Place.TheVariants.{Page, Code, Data, Second}
 use Rattle.part_tlb.specs.Histories.{Placed, is_place, hits_at, line_place, line_cost, line_hits, touch_at, part_history, part_cost, held_at, part_by_history}
-use Rattle.part_tlb.specs.Histories.{part2_by_history}
+use Rattle.part_tlb.specs.Histories.{flat_by_history, part2_by_history}
 use Rattle.leak_bound.specs.Over.{KeepsLaws}
 use Rattle.history_bound.specs.Over.{AnyHistory, CostsAtMost}
 use Rattle.history_bound.proofs.Touching.{touch_elsewhere, touch_agrees, hits_same}
@@ -44,6 +44,19 @@ cost_same : (order : Order) (k : Kind) (a er ew : ℕ) (h h' : List Placed) → 
 cost_same order k a er ew h h' page line =
     ap (λ b. cond b 0 20 + cond (line_hits order k a er ew h) 0 (line_cost k)) (hits_same order Page er a h h' page)
     ∙ ap (λ b. cond (hits_at order Page h' er a) 0 20 + cond b 0 (line_cost k)) (line_same order k a er ew h h' line)
+
+-- ---- without caches
+pub none_keeps : KeepsLaws flat_by_history AnyHistory
+none_keeps order good =
+    record {
+      keeps = λ k a er ew h s. tt;
+      write_label = λ k a er ew h s q l apart. refl;
+      read_label = λ k a er ew h h' s s' agree. refl;
+      agreement = λ k a er ew o h h' s s' agree q l flows. refl;
+    }
+
+pub none_costs : CostsAtMost flat_by_history 0
+none_costs order k a er ew h = omega arith
 
 -- ---- one level
 pub one_keeps : KeepsLaws part_by_history AnyHistory

@@ -16,7 +16,7 @@ use Rattle.part_cache.proofs.Near.{any_near}
 use Rattle.part_cache.proofs.Stands.{is_at, held_here, held_elsewhere}
 use Rattle.part_cache.proofs.Laws.{rows_from_numbers}
 use Rattle.part_tlb.specs.Histories.{Placed, is_place, touches_at, sets_at, ways_at, tag_at, hits_at, touch_at, held_at}
-use Rattle.part_tlb.proofs.History.{touches_at-push, touches_at-other}
+use Rattle.part_tlb.specs.Standing.{touches_at-push, touches_at-other}
 use Rattle.history_bound.specs.Held.{held_in}
 
 map_same : (f g : ℕ → List ℕ) (a n : ℕ) → ((k : ℕ) → k < a + n → f k ≡ g k) → map f (range_with_len a n) ≡ map g (range_with_len a n)

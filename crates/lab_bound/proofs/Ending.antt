@@ -27,13 +27,10 @@ use Rattle.leak_bound.specs.Records.{Each}
 use Rattle.leak_bound.specs.Sound.{Halts}
 use Rattle.start_file.specs.Starts.{StartValue}
 use Rattle.leak_audit.specs.Agreement.{start_of, starts_of}
-use Rattle.part_tlb.specs.Histories.{part_by_history, part2_by_history}
 use Rattle.history_bound.specs.Over.{history_made}
 use Rattle.leak_audit.specs.declared.report.AuditReport.{AuditReport}
 use Rattle.tool_words.specs.declared.words.EnvName.{EnvName}
-use Rattle.tool_words.specs.declared.words.EnvName.TheVariants.{Flat, Part, Part2}
-use Rattle.tool_stages.specs.Envs.{flat_made, ReportsIn}
-use Rattle.env_contract.specs.Flat.{flat_env}
+use Rattle.tool_stages.specs.Envs.{environment, ReportsIn}
 
 module _ {E : Type 0} (v : Env E) (image : List Instr) (lat : Lattice) (g : ℕ → ℕ) where
   -- each step of the source takes a step of the machine, or more
@@ -111,6 +108,4 @@ module _ {E : Type 0} (v : Env E) (made : Order → List Touch → E) (q : Label
 -- runs of which there is a report
 pub reported_end : (e : EnvName) (q : LabelledProgram) (o t : ℕ) (ss : List StartValue) (r : AuditReport) → ReportsIn e q o t ss r
     → All (λ s. HasEnded (plan_of q.program) s.memory (t + 1)) ss
-reported_end Flat q o t ss r h = all_ended flat_env flat_made q t ss h.halted
-reported_end Part q o t ss r h = all_ended (part_by_history q.program.order) history_made q t ss h.halted
-reported_end Part2 q o t ss r h = all_ended (part2_by_history q.program.order) history_made q t ss h.halted
+reported_end e q o t ss r h = all_ended (environment e q.program.order) history_made q t ss h.halted

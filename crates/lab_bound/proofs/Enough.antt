@@ -27,22 +27,19 @@ use Rattle.sharp_count.proofs.Fitting.{told}
 use Rattle.sharp_bound.specs.Firsts.{PredictsNext, PredictsBy}
 use Rattle.sharp_bound.specs.Sharp.{SharpSound, BeginsEach, relevant_at, ends_by}
 use Rattle.sharp_bound.specs.Guess.{FewShown}
-use Rattle.sharp_bound.specs.Lowered.{LoweredSharpAll}
 use Rattle.sharp_history.specs.Over.{LoweredSharpOver}
 use Rattle.start_file.specs.Starts.{StartValue}
 use Rattle.leak_audit.specs.Agreement.{starts_of}
 use Rattle.leak_audit.specs.Sequences.{same_sequence}
 use Rattle.leak_audit.specs.Surveyed.{sequence_from}
 use Rattle.leak_audit.proofs.Classing.{tests_sequences}
-use Rattle.part_tlb.specs.Histories.{part_by_history, part2_by_history}
 use Rattle.history_bound.specs.Over.{AnyHistory, history_made}
 use Rattle.leak_audit.specs.declared.report.AuditReport.{AuditReport}
 use Rattle.leak_audit.specs.Report.{IsReport}
 use Rattle.level_counts.specs.Begun.{begins_next, PredictedIn, FirstBeginsEach, AreTold, memories_of}
-use Rattle.tool_words.specs.declared.words.EnvName.TheVariants.{Flat, Part, Part2}
+use Rattle.tool_words.specs.declared.words.EnvName.{EnvName}
 use Rattle.tool_stages.specs.Stages.{Types}
-use Rattle.tool_stages.specs.Envs.{flat_made}
-use Rattle.env_contract.specs.Flat.{flat_env}
+use Rattle.tool_stages.specs.Envs.{environment}
 use Rattle.tool_stages.proofs.SoundLemmas.{typed_made}
 use Rattle.lab_bound.specs.Text.{sharp_of}
 use Rattle.lab_bound.specs.Enough.{AllAreEnough}
@@ -165,21 +162,12 @@ typed_with : (words : List Told) (p : Syntax) (q : LabelledProgram) → IsProgra
 typed_with words p q spelled types = typed_made words p q spelled types.program types.least.labels.keeps types.typed
 
 -- in each environment that `--env` names
-module _ (flat : LoweredSharpAll flat_env (λ order e. Unit {0})) (part : LoweredSharpOver part_by_history AnyHistory)
-    (part2 : LoweredSharpOver part2_by_history AnyHistory) where
+module _ (sharp : (e : EnvName) → LoweredSharpOver (environment e) AnyHistory) where
   below : (p : Syntax) (q : LabelledProgram) (o : ℕ) → Types p q → o < p.order.size → o < q.program.order.size
   below p q o types l = subst (λ (z : Syntax). o < z.order.size) (sym types.program) l
 
   pub all_enough : AllAreEnough
-  all_enough Flat t some words p q o ss r levels spelled types low is h =
-      let f = found flat_env (λ order e. Unit {0}) flat_made q o t (flat q (typed_with words p q spelled types))
-      (below p q o types low) some ss r levels is h in
-      record { begun = f.begun; few = f.few; counted = counted flat_env (λ order e. Unit {0}) flat_made q o t ss r levels is f }
-  all_enough Part t some words p q o ss r levels spelled types low is h =
-      let v = part_by_history q.program.order in
-      let f = found v AnyHistory history_made q o t (part q (typed_with words p q spelled types)) (below p q o types low) some ss r levels is h in
-      record { begun = f.begun; few = f.few; counted = counted v AnyHistory history_made q o t ss r levels is f }
-  all_enough Part2 t some words p q o ss r levels spelled types low is h =
-      let v = part2_by_history q.program.order in
-      let f = found v AnyHistory history_made q o t (part2 q (typed_with words p q spelled types)) (below p q o types low) some ss r levels is h in
+  all_enough e t some words p q o ss r levels spelled types low is h =
+      let v = environment e q.program.order in
+      let f = found v AnyHistory history_made q o t (sharp e q (typed_with words p q spelled types)) (below p q o types low) some ss r levels is h in
       record { begun = f.begun; few = f.few; counted = counted v AnyHistory history_made q o t ss r levels is f }

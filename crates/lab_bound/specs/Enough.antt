@@ -11,7 +11,6 @@ use Rattle.sharp_count.specs.Count.{fitting}
 use Rattle.sharp_count.specs.Levels.{counts_of}
 use Rattle.sharp_bound.specs.Sharp.{BeginsEach}
 use Rattle.sharp_bound.specs.Guess.{FewShown}
-use Rattle.part_tlb.specs.Histories.{part_by_history, part2_by_history}
 use Rattle.history_bound.specs.Over.{history_made}
 use Rattle.leak_audit.specs.Agreement.{starts_of}
 use Rattle.leak_audit.specs.Sequences.{same_sequence}
@@ -19,18 +18,14 @@ use Rattle.leak_audit.specs.Surveyed.{sequence_from}
 use Rattle.leak_audit.specs.declared.report.AuditReport.{AuditReport}
 use Rattle.level_counts.specs.Begun.{AreTold, memories_of}
 use Rattle.tool_words.specs.declared.words.EnvName.{EnvName}
-use Rattle.tool_words.specs.declared.words.EnvName.TheVariants.{Flat, Part, Part2}
 use Rattle.tool_stages.specs.Stages.{Types}
-use Rattle.tool_stages.specs.Envs.{flat_made, ReportsIn}
-use Rattle.env_contract.specs.Flat.{flat_env}
+use Rattle.tool_stages.specs.Envs.{environment, ReportsIn}
 use Rattle.lab_bound.specs.Text.{sharp_of}
 
 -- In a named environment the runs from starts show at most n different sequences up to T, and whoever sees one of them
 -- guesses the start right at most n times as often.
 abbrev pub FewIn : EnvName → LabelledProgram → ℕ → ℕ → List StartValue → ℕ → Type 0
-FewIn Flat q o t ss n = FewShown (sequence_from flat_env q o t) same_sequence (starts_of flat_made q.program.order ss) n
-FewIn Part q o t ss n = FewShown (sequence_from (part_by_history q.program.order) q o t) same_sequence (starts_of history_made q.program.order ss) n
-FewIn Part2 q o t ss n = FewShown (sequence_from (part2_by_history q.program.order) q o t) same_sequence (starts_of history_made q.program.order ss) n
+FewIn e q o t ss n = FewShown (sequence_from (environment e q.program.order) q o t) same_sequence (starts_of history_made q.program.order ss) n
 
 -- of runs of which there is a report, and of whose levels this is told
 pub record IsEnough (e : EnvName) (q : LabelledProgram) (o t : ℕ) (ss : List StartValue) (r : AuditReport) (levels : List LevelRuns) : Type 0 where

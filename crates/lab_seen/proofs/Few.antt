@@ -17,15 +17,12 @@ use Rattle.leak_audit.specs.Sequences.{same_sequence}
 use Rattle.leak_audit.specs.Surveyed.{relevant_for, sequence_from}
 use Rattle.leak_audit.proofs.Classing.{tests_sequences}
 use Rattle.leak_audit.proofs.Measuring.{power_is}
-use Rattle.part_tlb.specs.Histories.{part_by_history, part2_by_history}
 use Rattle.history_bound.specs.Over.{AnyHistory, history_made}
 use Rattle.cut_audit.specs.declared.report.CutReport.{CutReport}
 use Rattle.cut_audit.specs.Report.{IsReport}
 use Rattle.seen_line.specs.Field.{field_text, seen_text}
-use Rattle.tool_words.specs.declared.words.EnvName.TheVariants.{Flat, Part, Part2}
 use Rattle.tool_stages.specs.Stages.{Types}
-use Rattle.tool_stages.specs.Envs.{flat_made}
-use Rattle.env_contract.specs.Flat.{flat_env}
+use Rattle.tool_stages.specs.Envs.{environment}
 use Rattle.tool_stages.specs.Accepted.{SpelledAreSound}
 use Rattle.lab_seen.specs.Bounded.{FieldsAreFew, FieldsAreWithinCut}
 use Rattle.lab_seen.proofs.Images.{few_images}
@@ -67,21 +64,11 @@ below : (p : Syntax) (q : LabelledProgram) (o : ℕ) → Types p q → o < p.ord
 below p q o types l = subst (λ (z : Syntax). o < z.order.size) (sym types.program) l
 
 pub fields_are_few : SpelledAreSound → FieldsAreFew
-fields_are_few sound words p q spelled types Flat t some l low ss agree same tests =
-    fields_few flat_env flat_made q l t (λ order e. Unit {0}) (below p q l.number types low) some (sound words p q spelled types).flat.cut ss agree same tests
-fields_are_few sound words p q spelled types Part t some l low ss agree same tests =
-    fields_few (part_by_history q.program.order) history_made q l t AnyHistory (below p q l.number types low) some
-    (sound words p q spelled types).part.cut ss agree same tests
-fields_are_few sound words p q spelled types Part2 t some l low ss agree same tests =
-    fields_few (part2_by_history q.program.order) history_made q l t AnyHistory (below p q l.number types low) some
-    (sound words p q spelled types).part2.cut ss agree same tests
+fields_are_few sound words p q spelled types e t some l low ss agree same tests =
+    fields_few (environment e q.program.order) history_made q l t AnyHistory (below p q l.number types low) some
+    (sound words p q spelled types e).cut ss agree same tests
 
 pub fields_within_cut : SpelledAreSound → FieldsAreWithinCut
-fields_within_cut sound words p q spelled types Flat t some l low ss r is same tests =
-    within_cut flat_env flat_made q l t (λ order e. Unit {0}) (below p q l.number types low) some (sound words p q spelled types).flat.cut ss r is same tests
-fields_within_cut sound words p q spelled types Part t some l low ss r is same tests =
-    within_cut (part_by_history q.program.order) history_made q l t AnyHistory (below p q l.number types low) some
-    (sound words p q spelled types).part.cut ss r is same tests
-fields_within_cut sound words p q spelled types Part2 t some l low ss r is same tests =
-    within_cut (part2_by_history q.program.order) history_made q l t AnyHistory (below p q l.number types low) some
-    (sound words p q spelled types).part2.cut ss r is same tests
+fields_within_cut sound words p q spelled types e t some l low ss r is same tests =
+    within_cut (environment e q.program.order) history_made q l t AnyHistory (below p q l.number types low) some
+    (sound words p q spelled types e).cut ss r is same tests

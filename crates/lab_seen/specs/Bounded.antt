@@ -6,7 +6,6 @@ use Rattle.mit_parser.specs.Words.{Told}
 use Rattle.mit_parser.specs.Spells.{IsProgram}
 use Rattle.timing_types.specs.Labelled.{LabelledProgram}
 use Rattle.code_lower.specs.Lowered.{lowered}
-use Rattle.part_tlb.specs.Histories.{part_by_history, part2_by_history}
 use Rattle.history_bound.specs.Over.{history_made}
 use Rattle.start_file.specs.Starts.{StartValue}
 use Rattle.leak_bound.specs.Records.{Tests, distinct_count}
@@ -16,10 +15,8 @@ use Rattle.leak_audit.specs.Surveyed.{relevant_for}
 use Rattle.cut_audit.specs.declared.report.CutReport.{CutReport}
 use Rattle.seen_line.specs.Field.{seen_text}
 use Rattle.tool_words.specs.declared.words.EnvName.{EnvName}
-use Rattle.tool_words.specs.declared.words.EnvName.TheVariants.{Flat, Part, Part2}
 use Rattle.tool_stages.specs.Stages.{Types}
-use Rattle.tool_stages.specs.Envs.{flat_made, told_in, CutReportsIn}
-use Rattle.env_contract.specs.Flat.{flat_env}
+use Rattle.tool_stages.specs.Envs.{environment, told_in, CutReportsIn}
 use Rattle.tool_stages.specs.Goes.{AgreeIn}
 
 -- the field of what an observer sees of the run of a program's image from a start, up to T
@@ -28,9 +25,7 @@ field_in e t q l s = seen_text q l (told_in e q.program.order (lowered q) s t)
 
 -- the greatest number of relevant mitigations that ended by T in one of the runs
 abbrev pub most_ended_in : EnvName → ℕ → LabelledProgram → ℕ → List StartValue → ℕ
-most_ended_in Flat t q o ss = most_ended flat_env (lowered q).instrs (relevant_for q o) t (starts_of flat_made q.program.order ss)
-most_ended_in Part t q o ss = most_ended (part_by_history q.program.order) (lowered q).instrs (relevant_for q o) t (starts_of history_made q.program.order ss)
-most_ended_in Part2 t q o ss = most_ended (part2_by_history q.program.order) (lowered q).instrs (relevant_for q o) t (starts_of history_made q.program.order ss)
+most_ended_in e t q o ss = most_ended (environment e q.program.order) (lowered q).instrs (relevant_for q o) t (starts_of history_made q.program.order ss)
 
 -- Of each program that words spell, with its least labelling, in each environment, for each observer and each T of at
 -- least 1: of starts that agree pairwise, however many, there are at most as many different fields as the bound says.

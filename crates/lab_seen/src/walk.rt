@@ -5,10 +5,9 @@ ghost use Rattle.std.specs.Io.KnownBytes.{Appends};
 ghost use Rattle.tim_base.specs.Faults.{Rose};
 ghost use Rattle.tim_base.specs.Sinks.{AppendsPrefix};
 ghost use Rattle.label_code.specs.Run.{run_from};
-ghost use Rattle.start_file.specs.Starts.{StartValue, seen, IsFor};
+ghost use Rattle.start_file.specs.Starts.{seen, IsFor};
 ghost use Rattle.cycle_machine.specs.Rest.{told_by};
 ghost use Rattle.leak_audit.specs.Agreement.{start_of};
-ghost use Rattle.tool_stages.specs.Envs.{told_in};
 ghost use Rattle.tool_stages.specs.Begins.{CanAudit};
 ghost use Rattle.lab_runs.specs.Runs.{texts, WritesSome};
 ghost use Rattle.lab_seen.specs.Seen.{line_text, line_in};
@@ -16,17 +15,16 @@ ghost use Rattle.lab_seen.specs.Seen.{line_text, line_in};
 use crate::line::write_line;
 use crate::load::load;
 use env_contract::env::MachineEnv;
-use env_contract::make::{MakeEnv, MakeFlat};
-use history_reports::laws::reports_are_the_same;
+use env_contract::make::MakeEnv;
 use lab_runs::fault::RunFault;
-use part_tlb::part::MakePart;
-use part_tlb::part2::MakePart2;
 use start_file::start::Start;
 use std::alloc::Global;
 use tim_base::sink::Sink;
+use tool_stages::envs::NamedEnv;
+use tool_stages::in_env;
+use tool_stages::laws::named_tell_as_histories;
 use tool_stages::prepared::Prepared;
 use tool_stages::setting::Setting;
-use tool_words::words::EnvName;
 
 // The line of the run from a start, in the environment that a maker makes.
 fn run_line<E: MachineEnv + Drop, M: MakeEnv<E>, W: Sink>(
@@ -66,8 +64,8 @@ fn run_line<E: MachineEnv + Drop, M: MakeEnv<E>, W: Sink>(
     }
 }
 
-// The lines of all runs, in the environment that a maker makes, which has the name.
-fn run_lines<E: MachineEnv + Drop, M: MakeEnv<E>, W: Sink>(
+// The lines of all runs, in the environments of a maker, which have the name.
+fn run_lines<E: MachineEnv + Drop, M: NamedEnv<E>, W: Sink>(
     alloc: Global,
     maker: &M,
     p: &Prepared,
@@ -75,9 +73,7 @@ fn run_lines<E: MachineEnv + Drop, M: MakeEnv<E>, W: Sink>(
     out: &mut W,
 ) -> Result<(), RunFault>
     requires fit { CanAudit p.now.compiled.typed.labelled p.now.observer p.now.compiled.image (map seen p.now.starts.items) }
-    requires named { (s : StartValue) → IsFor p.now.compiled.typed.labelled.program s
-        → told_by (run_from E.env p.now.compiled.image.instrs setting.budget (start_of M.made p.now.compiled.typed.labelled.program.order s))
-        ≡ told_in setting.env p.now.compiled.typed.labelled.program.order p.now.compiled.image s setting.budget }
+    requires named { setting.env ≡ M.name }
     ensures text { OnOk result (Appends (W.taken out.old) (W.taken out.new)
         (texts (line_in setting.env setting.budget p.now.compiled.typed.labelled p.now.observer p.now.compiled.image) (map seen p.now.starts.items))) }
     ensures some { IsErrOf result RunFault.Memory → WritesSome (W.taken out.old) (W.taken out.new)
@@ -87,6 +83,8 @@ fn run_lines<E: MachineEnv + Drop, M: MakeEnv<E>, W: Sink>(
     ensures fault { IsErrOf result RunFault.Sink → Rose (W.faults out.old) (W.faults out.new) }
     ensures later { W.faults out.old ≤ W.faults out.new }
 {
+    p.compiled.image.laws();
+    named_tell_as_histories::<E, M>();
     let starts = p.starts.as_slice();
     for (i, start) in starts.iter().enumerate() {
         match run_line(alloc, maker, p, start, i as u32 + 1, setting.budget, out) {
@@ -118,11 +116,5 @@ pub fn write_lines<W: Sink>(
     ensures fault { IsErrOf result RunFault.Sink → Rose (W.faults out.old) (W.faults out.new) }
     ensures later { W.faults out.old ≤ W.faults out.new }
 {
-    p.compiled.image.laws();
-    reports_are_the_same();
-    match setting.env {
-        EnvName::Flat => run_lines(alloc, &MakeFlat, p, setting, out),
-        EnvName::Part => run_lines(alloc, &MakePart, p, setting, out),
-        EnvName::Part2 => run_lines(alloc, &MakePart2, p, setting, out),
-    }
+    in_env!(setting.env, maker => run_lines(alloc, maker, p, setting, out))
 }

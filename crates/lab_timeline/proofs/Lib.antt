@@ -1,4 +1,5 @@
 pub mod Alike
+pub mod Named
 pub mod Walking
 pub mod BeginLemmas
 pub mod EndLemmas

@@ -7,7 +7,6 @@ use Rattle.label_lattice.specs.Order.{Order}
 use Rattle.mit_syntax.specs.Program.{plan_of}
 use Rattle.timing_types.specs.Labelled.{LabelledProgram}
 use Rattle.label_code.specs.Shaped.{Code}
-use Rattle.part_tlb.specs.Histories.{part_by_history, part2_by_history}
 use Rattle.history_bound.specs.Over.{history_made}
 use Rattle.start_file.specs.Starts.{StartValue}
 use Rattle.leak_audit.specs.Agreement.{start_of}
@@ -19,11 +18,9 @@ use Rattle.run_timeline.specs.Summary.{AreTallies, summary_text}
 use Rattle.run_timeline.specs.Tallied.{no_tally}
 use Rattle.run_timeline.proofs.Told.{one_timeline_is}
 use Rattle.tool_words.specs.declared.words.EnvName.{EnvName}
-use Rattle.tool_words.specs.declared.words.EnvName.TheVariants.{Flat, Part, Part2}
 use Rattle.tool_texts.specs.declared.status.Status.{Status}
 use Rattle.tool_stages.specs.Content.{Content, IsKnown}
-use Rattle.tool_stages.specs.Envs.{flat_made}
-use Rattle.env_contract.specs.Flat.{flat_env}
+use Rattle.tool_stages.specs.Envs.{environment}
 use Rattle.tool_stages.proofs.OneLemmas.{Same}
 use Rattle.lab_runs.specs.Runs.{texts}
 use Rattle.lab_runs.proofs.BeginLemmas.{one_begin}
@@ -31,9 +28,7 @@ use Rattle.lab_timeline.specs.Timed.{Timed, IsTimelineIn, IsTimed, run_lines, al
 
 one_list_of_moments : (e : EnvName) (t : ℕ) (o : Order) (code : Code) (s : StartValue) (ms ns : List Moment) → IsTimelineIn e t o code s ms
     → IsTimelineIn e t o code s ns → ms ≡ ns
-one_list_of_moments Flat t o code s ms ns h k = one_timeline_is flat_env code.instrs t (start_of flat_made o s) ms ns h k
-one_list_of_moments Part t o code s ms ns h k = one_timeline_is (part_by_history o) code.instrs t (start_of history_made o s) ms ns h k
-one_list_of_moments Part2 t o code s ms ns h k = one_timeline_is (part2_by_history o) code.instrs t (start_of history_made o s) ms ns h k
+one_list_of_moments e t o code s ms ns h k = one_timeline_is (environment e o) code.instrs t (start_of history_made o s) ms ns h k
 
 one_timed : (e : EnvName) (t : ℕ) (o : Order) (code : Code) (s : StartValue) (r u : Timed) → IsTimed e t o code s r → IsTimed e t o code s u → r ≡ u
 one_timed e t o code s r u h k =

@@ -7,7 +7,6 @@ use Rattle.mit_syntax.specs.Plan.{mitigates}
 use Rattle.mit_syntax.specs.Program.{plan_of}
 use Rattle.timing_types.specs.Labelled.{LabelledProgram}
 use Rattle.label_code.specs.Shaped.{Code}
-use Rattle.part_tlb.specs.Histories.{part_by_history, part2_by_history}
 use Rattle.history_bound.specs.Over.{history_made}
 use Rattle.start_file.specs.Starts.{StartValue}
 use Rattle.cycle_machine.specs.declared.end.RunEnd.{RunEnd}
@@ -19,20 +18,16 @@ use Rattle.run_timeline.specs.Timeline.{IsTimeline}
 use Rattle.run_timeline.specs.Text.{run_text, timeline_text}
 use Rattle.run_timeline.specs.Summary.{AreTallies, summary_text}
 use Rattle.tool_words.specs.declared.words.EnvName.{EnvName}
-use Rattle.tool_words.specs.declared.words.EnvName.TheVariants.{Flat, Part, Part2}
 use Rattle.tool_texts.specs.declared.status.Status.{Status}
 use Rattle.tool_stages.specs.Content.{Content}
-use Rattle.tool_stages.specs.Envs.{flat_made, told_in}
-use Rattle.env_contract.specs.Flat.{flat_env}
+use Rattle.tool_stages.specs.Envs.{environment, told_in}
 use Rattle.lab_texts.specs.InLab.{InLab}
 use Rattle.lab_runs.specs.Runs.{texts}
 use Rattle.lab_runs.specs.Begins.{Begins, Before}
 
 -- what the run of an image from a start tells up to T, in a named environment
 abbrev pub IsTimelineIn : EnvName → ℕ → Order → Code → StartValue → List Moment → Type 0
-IsTimelineIn Flat t o code s ms = IsTimeline flat_env code.instrs t (start_of flat_made o s) ms
-IsTimelineIn Part t o code s ms = IsTimeline (part_by_history o) code.instrs t (start_of history_made o s) ms
-IsTimelineIn Part2 t o code s ms = IsTimeline (part2_by_history o) code.instrs t (start_of history_made o s) ms
+IsTimelineIn e t o code s ms = IsTimeline (environment e o) code.instrs t (start_of history_made o s) ms
 
 -- a run: what it told, and how it ended
 pub record Timed : Type 0 where

@@ -1,38 +1,32 @@
 //! The lines of all runs, and those of the mitigates after them.
 
-ghost use Rattle.std.specs.Prelude.{◌≡◌, ◌≤◌, ◌⊎◌, ℕ, List, OnOk, IsErrOf, length, map, replicate};
+ghost use Rattle.std.specs.Prelude.{◌≡◌, ◌≤◌, ◌⊎◌, OnOk, IsErrOf, length, map, replicate};
 ghost use Rattle.tim_base.specs.Faults.{Rose};
 ghost use Rattle.mit_syntax.specs.Plan.{mitigates};
 ghost use Rattle.mit_syntax.specs.Program.{plan_of};
-ghost use Rattle.start_file.specs.Starts.{StartValue, seen, IsFor};
-ghost use Rattle.leak_audit.specs.Agreement.{start_of};
-ghost use Rattle.run_timeline.specs.declared.moment.Moment.{Moment};
+ghost use Rattle.start_file.specs.Starts.{seen};
 ghost use Rattle.run_timeline.specs.Places.{places};
 ghost use Rattle.run_timeline.specs.Tallied.{no_tally};
-ghost use Rattle.run_timeline.specs.Timeline.{IsTimeline};
 ghost use Rattle.tool_words.specs.WordsAsked.{IsCycles};
 ghost use Rattle.lab_timeline.specs.Begun.{CanRun};
-ghost use Rattle.lab_timeline.specs.Timed.{IsTimed};
-ghost use Rattle.lab_timeline.specs.Written.{timed_by, WritesRuns, WritesFew, BreaksFew, WritesAll, BreaksAll};
+ghost use Rattle.lab_timeline.specs.Written.{WritesRuns, WritesFew, BreaksFew, WritesAll, BreaksAll};
 
 use crate::begin::Begun;
 use crate::laws::timelines_are_the_same;
 use crate::write::write_run;
 use env_contract::env::MachineEnv;
-use env_contract::make::{MakeEnv, MakeFlat};
-use history_reports::laws::reports_are_the_same;
 use lab_runs::fault::RunFault;
-use part_tlb::part::MakePart;
-use part_tlb::part2::MakePart2;
 use run_timeline::listing::Listing;
 use run_timeline::summary::print_summary;
 use std::alloc::Global;
 use tim_base::sink::Sink;
+use tool_stages::envs::NamedEnv;
+use tool_stages::in_env;
+use tool_stages::laws::named_tell_as_histories;
 use tool_stages::setting::Setting;
-use tool_words::words::EnvName;
 
-// The lines of all runs, in the environment that a maker makes, which has the name.
-fn write_runs<E: MachineEnv + Drop, M: MakeEnv<E>, W: Sink>(
+// The lines of all runs, in the environments of a maker, which have the name.
+fn write_runs<E: MachineEnv + Drop, M: NamedEnv<E>, W: Sink>(
     alloc: Global,
     maker: &M,
     p: &Begun,
@@ -42,10 +36,7 @@ fn write_runs<E: MachineEnv + Drop, M: MakeEnv<E>, W: Sink>(
 ) -> Result<(), RunFault>
     requires fit { CanRun p.now.compiled.typed.labelled p.now.compiled.observer p.now.compiled.image (map seen p.now.starts.items) }
     requires cycles { IsCycles setting.budget }
-    requires named { (s : StartValue) (ms : List Moment) → IsFor p.now.compiled.typed.labelled.program s
-        → IsTimeline E.env p.now.compiled.image.instrs setting.budget (start_of M.made p.now.compiled.typed.labelled.program.order s) ms
-        → IsTimed setting.env setting.budget p.now.compiled.typed.labelled.program.order p.now.compiled.image s
-        (timed_by E.env p.now.compiled.image setting.budget (start_of M.made p.now.compiled.typed.labelled.program.order s) ms) }
+    requires named { setting.env ≡ M.name }
     requires places { listing.old.places.items ≡ places (plan_of p.now.compiled.typed.labelled.program) }
     requires none { listing.old.tallies.items ≡ replicate (mitigates (plan_of p.now.compiled.typed.labelled.program)) no_tally }
     ensures text { OnOk result (WritesRuns setting.env setting.budget p.now.compiled.typed.labelled p.now.compiled.observer p.now.compiled.image
@@ -59,6 +50,9 @@ fn write_runs<E: MachineEnv + Drop, M: MakeEnv<E>, W: Sink>(
     ensures fault { IsErrOf result RunFault.Sink → Rose (W.faults out.old) (W.faults out.new) }
     ensures later { W.faults out.old ≤ W.faults out.new }
 {
+    p.compiled.image.laws();
+    named_tell_as_histories::<E, M>();
+    timelines_are_the_same::<E, M>();
     let starts = p.starts.as_slice();
     for (i, start) in starts.iter().enumerate() {
         match write_run(
@@ -101,14 +95,7 @@ fn write_named<W: Sink>(
     ensures fault { IsErrOf result RunFault.Sink → Rose (W.faults out.old) (W.faults out.new) }
     ensures later { W.faults out.old ≤ W.faults out.new }
 {
-    p.compiled.image.laws();
-    reports_are_the_same();
-    timelines_are_the_same();
-    match setting.env {
-        EnvName::Flat => write_runs(alloc, &MakeFlat, p, setting, listing, out),
-        EnvName::Part => write_runs(alloc, &MakePart, p, setting, listing, out),
-        EnvName::Part2 => write_runs(alloc, &MakePart2, p, setting, listing, out),
-    }
+    in_env!(setting.env, maker => write_runs(alloc, maker, p, setting, listing, out))
 }
 
 /// Writes the lines of each run, in the environment of a name, one after the other, and then a line for each mitigate

@@ -36,18 +36,6 @@ audited_stop_after e t q l ss text before s is h = subst (λ (z : List ℕ). IsS
 
 -- ---- runs that may not have halted
 
-pub cuts_in : (e name : EnvName) (t : ℕ) (q : LabelledProgram) (l : Label) (xs ss : List StartValue) (r : Result CutReport CutFault)
-    → e ≡ name → xs ≡ ss → IfOk r (CutReportsIn name q l.number t xs) → IfOk r (CutReportsIn e q l.number t ss)
-cuts_in e name t q l xs ss r is same h =
-    subst (λ (z : EnvName). IfOk r (CutReportsIn z q l.number t ss)) (sym is)
-    (subst (λ (z : List StartValue). IfOk r (CutReportsIn name q l.number t z)) same h)
-
-pub cut_faults_in : (e name : EnvName) (t : ℕ) (q : LabelledProgram) (l : Label) (xs ss : List StartValue) (r : Result CutReport CutFault)
-    → e ≡ name → xs ≡ ss → IfErr r (CutFaultsIn name q l.number t xs) → IfErr r (CutFaultsIn e q l.number t ss)
-cut_faults_in e name t q l xs ss r is same h =
-    subst (λ (z : EnvName). IfErr r (CutFaultsIn z q l.number t ss)) (sym is)
-    (subst (λ (z : List StartValue). IfErr r (CutFaultsIn name q l.number t z)) same h)
-
 pub cut_tells : (e : EnvName) (t : ℕ) (q : LabelledProgram) (l : Label) (ss : List StartValue) (r : CutReport) (x : List ℕ)
     → CutReportsIn e q l.number t ss r → x ≡ cut_lines q.program.order l t r → HasCut e t q (Some l) ss status.Done x
 cut_tells e t q l ss r x h is = inr (r, h, (refl, is))

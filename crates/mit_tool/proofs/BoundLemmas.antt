@@ -12,14 +12,12 @@ use Rattle.black_box.specs.Schedule.{IsSchedule}
 use Rattle.black_box.specs.Outcomes.{Outcome, IsOutcome}
 use Rattle.black_box.specs.Bound.{box_bound}
 use Rattle.black_box.proofs.Gathered.{cycles_test}
-use Rattle.part_tlb.specs.Histories.{part_by_history, part2_by_history}
 use Rattle.history_bound.specs.Over.{AnyHistory, history_made}
 use Rattle.tool_words.specs.declared.words.EnvName.{EnvName}
-use Rattle.tool_words.specs.declared.words.EnvName.TheVariants.{Flat, Part, Part2}
+use Rattle.tool_words.specs.declared.words.EnvName.TheVariants.{Part}
 use Rattle.tool_words.specs.WordsAsked.{Asked, check, infer, compile, run, meaning, audit, gen, cut, blackbox, certify, recheck}
 use Rattle.tool_stages.specs.Stages.{Types}
-use Rattle.tool_stages.specs.Envs.{flat_made}
-use Rattle.env_contract.specs.Flat.{flat_env}
+use Rattle.tool_stages.specs.Envs.{environment}
 use Rattle.tool_texts.specs.Reports.{all_released}
 use Rattle.tool_stages.specs.Accepted.{SpelledAreSound}
 use Rattle.mit_tool.specs.Bounded.{AuditsAreWithin, CutsAreWithin, ReleasesAreWithin, AreWithin}
@@ -30,26 +28,14 @@ below p q o types l = subst (λ (z : Syntax). o < z.order.size) (sym types.progr
 
 module _ (sound : SpelledAreSound) where
   audits_within : (e : EnvName) (t : ℕ) → AuditsAreWithin e t
-  audits_within Flat t some words p q o ss r spelled types l is =
-      report_within flat_env (λ order e. Unit {0}) q o t (sound words p q spelled types).flat.halted (below p q o types l) some
-      (starts_of flat_made q.program.order ss) r is
-  audits_within Part t some words p q o ss r spelled types l is =
-      report_within (part_by_history q.program.order) AnyHistory q o t (sound words p q spelled types).part.halted (below p q o types l) some
-      (starts_of history_made q.program.order ss) r is
-  audits_within Part2 t some words p q o ss r spelled types l is =
-      report_within (part2_by_history q.program.order) AnyHistory q o t (sound words p q spelled types).part2.halted (below p q o types l) some
+  audits_within e t some words p q o ss r spelled types l is =
+      report_within (environment e q.program.order) AnyHistory q o t (sound words p q spelled types e).halted (below p q o types l) some
       (starts_of history_made q.program.order ss) r is
 
   cuts_within : (e : EnvName) (t : ℕ) → CutsAreWithin e t
-  cuts_within Flat t some words p q o ss r spelled types l is =
-      cut.report_within flat_env (λ order e. Unit {0}) q o t (starts_of flat_made q.program.order ss) (sound words p q spelled types).flat.cut
+  cuts_within e t some words p q o ss r spelled types l is =
+      cut.report_within (environment e q.program.order) AnyHistory q o t (starts_of history_made q.program.order ss) (sound words p q spelled types e).cut
       (below p q o types l) some r is
-  cuts_within Part t some words p q o ss r spelled types l is =
-      cut.report_within (part_by_history q.program.order) AnyHistory q o t (starts_of history_made q.program.order ss) (sound words p q spelled types).part.cut
-      (below p q o types l) some r is
-  cuts_within Part2 t some words p q o ss r spelled types l is =
-      cut.report_within (part2_by_history q.program.order) AnyHistory q o t (starts_of history_made q.program.order ss)
-      (sound words p q spelled types).part2.cut (below p q o types l) some r is
 
 -- lists of releases are few
 abbrev pub FewLists : Type 0

@@ -6,7 +6,6 @@ use Rattle.mit_syntax.specs.Program.{Syntax, plan_of}
 use Rattle.timing_types.specs.Labelled.{LabelledProgram}
 use Rattle.label_code.specs.Shaped.{Code}
 use Rattle.code_lower.specs.Lowered.{lowered}
-use Rattle.part_tlb.specs.Histories.{part_by_history, part2_by_history}
 use Rattle.history_bound.specs.Over.{AnyHistory, history_made}
 use Rattle.start_file.specs.Starts.{StartValue}
 use Rattle.cycle_machine.specs.declared.end.RunEnd.{RunEnd}
@@ -22,7 +21,7 @@ use Rattle.cut_audit.specs.declared.report.CutFault.TheVariants as cut_fault
 use Rattle.leak_audit.proofs.Once.{no_audit_fault}
 use Rattle.cut_audit.proofs.Once.{no_cut_fault}
 use Rattle.tool_words.specs.declared.words.EnvName.{EnvName}
-use Rattle.tool_words.specs.declared.words.EnvName.TheVariants.{Flat, Part, Part2}
+use Rattle.tool_words.specs.declared.words.EnvName.TheVariants.{Part}
 use Rattle.tool_words.specs.WordsAsked.{Asked, check, infer, compile, run, meaning, audit, gen, cut, blackbox, certify, recheck, IsInRange}
 use Rattle.tool_texts.specs.declared.status.Status.{Status}
 use Rattle.tool_texts.specs.declared.status.Status.TheVariants as status
@@ -30,8 +29,7 @@ use Rattle.tool_texts.specs.Reports.{audit_lines, cut_lines, made_lines}
 use Rattle.tool_texts.specs.Ends.{EndsBy}
 use Rattle.tool_stages.specs.Stages.{Then, ProgramStops, Reads, ObserverStops, Observes, TypeStops, Types, ImageStops, HasImage, StartStops, StartsAre}
 use Rattle.tool_stages.specs.Stages.{FirstStops, FirstStart, HoldsRuns, ReadyStops, CertificateStops, Rechecks}
-use Rattle.tool_stages.specs.Envs.{flat_made, AuditFaultsIn, CutFaultsIn, told_in, ReportsIn, CutReportsIn}
-use Rattle.env_contract.specs.Flat.{flat_env}
+use Rattle.tool_stages.specs.Envs.{environment, AuditFaultsIn, CutFaultsIn, told_in, ReportsIn, CutReportsIn}
 use Rattle.tool_stages.specs.Content.{Content, IsKnown}
 use Rattle.tool_stages.specs.Goes.{IsHalted, HaltsBy, CanCut, CanBeAudited, OfObserver}
 use Rattle.audit_stage.specs.Audited.{AuditStops}
@@ -57,10 +55,7 @@ halted_done (Limit c) h = absurd h
 
 cut_in : (e : EnvName) (t : ℕ) (q : LabelledProgram) (o : Label) (ss : List StartValue) (f : CutFault) → CanCut e t q o.number ss
     → CutFaultsIn e q o.number t ss f → f ≡ cut_fault.Memory
-cut_in Flat t q o ss f k h = no_cut_fault flat_env (λ order e. Unit {0}) q o.number t (starts_of flat_made q.program.order ss) f k.agree k.few h
-cut_in Part t q o ss f k h = no_cut_fault (part_by_history q.program.order) AnyHistory q o.number t
-    (starts_of history_made q.program.order ss) f k.agree k.few h
-cut_in Part2 t q o ss f k h = no_cut_fault (part2_by_history q.program.order) AnyHistory q o.number t
+cut_in e t q o ss f k h = no_cut_fault (environment e q.program.order) AnyHistory q o.number t
     (starts_of history_made q.program.order ss) f k.agree k.few h
 
 cut_goes : (e : EnvName) (t : ℕ) (q : LabelledProgram) (o : Label) (ss : List StartValue) (s : Status) (x : List ℕ) → CanCut e t q o.number ss

@@ -5,7 +5,6 @@ use Rattle.label_lattice.specs.declared.label.Label.{Label}
 use Rattle.label_lattice.specs.Order.{Order}
 use Rattle.mit_syntax.specs.Program.{Syntax}
 use Rattle.timing_types.specs.Labelled.{LabelledProgram}
-use Rattle.part_tlb.specs.Histories.{part_by_history, part2_by_history}
 use Rattle.history_bound.specs.Over.{AnyHistory, history_made}
 use Rattle.start_file.specs.Starts.{StartValue}
 use Rattle.leak_audit.specs.Agreement.{starts_of}
@@ -16,13 +15,11 @@ use Rattle.cut_audit.specs.Report.{SameReport as SameCut}
 use Rattle.cut_audit.proofs.Once as cut
 use Rattle.black_box.specs.Outcomes.{Outcome, IsOutcome}
 use Rattle.tool_words.specs.declared.words.EnvName.{EnvName}
-use Rattle.tool_words.specs.declared.words.EnvName.TheVariants.{Flat, Part, Part2}
 use Rattle.tool_texts.specs.declared.status.Status.{Status}
 use Rattle.tool_texts.specs.declared.status.Status.TheVariants as status
 use Rattle.tool_texts.specs.Texts.{number_line}
 use Rattle.tool_texts.specs.Reports.{cut_lines, disagree_line, events_line, box_lines}
-use Rattle.tool_stages.specs.Envs.{flat_made, CutReportsIn, CutFaultsIn}
-use Rattle.env_contract.specs.Flat.{flat_env}
+use Rattle.tool_stages.specs.Envs.{environment, CutReportsIn, CutFaultsIn}
 use Rattle.audit_stage.proofs.Once.{same_report, not_fault, same_head, same_tail, two_parts, same_lines, audit_stops, one_audit_stop}
 use Rattle.mit_tool.specs.Audited.{HasAudited, CutStops, HasCut, HasReleased}
 use Rattle.tool_stages.proofs.OneLemmas.{Same}
@@ -31,23 +28,16 @@ use Rattle.tool_stages.proofs.OneLemmas.{Same}
 
 same_cut : (e : EnvName) (q : LabelledProgram) (o t : ℕ) (ss : List StartValue) (r s : CutReport) → CutReportsIn e q o t ss r
     → CutReportsIn e q o t ss s → SameCut r s
-same_cut Flat q o t ss r s h k = cut.same_report flat_env (λ order e. Unit {0}) q o t (starts_of flat_made q.program.order ss) r s h k
-same_cut Part q o t ss r s h k = cut.same_report (part_by_history q.program.order) AnyHistory q o t (starts_of history_made q.program.order ss) r s h k
-same_cut Part2 q o t ss r s h k = cut.same_report (part2_by_history q.program.order) AnyHistory q o t (starts_of history_made q.program.order ss) r s h k
+same_cut e q o t ss r s h k = cut.same_report (environment e q.program.order) AnyHistory q o t (starts_of history_made q.program.order ss) r s h k
 
 same_cut_fault : (e : EnvName) (q : LabelledProgram) (o t : ℕ) (ss : List StartValue) (f g : CutFault) → CutFaultsIn e q o t ss f → CutFaultsIn e q o t ss g
     → f ≢ cut_fault.Memory → g ≢ cut_fault.Memory → f ≡ g
-same_cut_fault Flat q o t ss f g h k n m = cut.same_fault flat_env (λ order e. Unit {0}) q o t (starts_of flat_made q.program.order ss) f g h k n m
-same_cut_fault Part q o t ss f g h k n m =
-    cut.same_fault (part_by_history q.program.order) AnyHistory q o t (starts_of history_made q.program.order ss) f g h k n m
-same_cut_fault Part2 q o t ss f g h k n m =
-    cut.same_fault (part2_by_history q.program.order) AnyHistory q o t (starts_of history_made q.program.order ss) f g h k n m
+same_cut_fault e q o t ss f g h k n m =
+    cut.same_fault (environment e q.program.order) AnyHistory q o t (starts_of history_made q.program.order ss) f g h k n m
 
 not_cut_fault : (e : EnvName) (q : LabelledProgram) (o t : ℕ) (ss : List StartValue) (r : CutReport) (f : CutFault) → CutReportsIn e q o t ss r
     → CutFaultsIn e q o t ss f → f ≡ cut_fault.Memory
-not_cut_fault Flat q o t ss r f h k = cut.not_fault flat_env (λ order e. Unit {0}) q o t (starts_of flat_made q.program.order ss) r f h k
-not_cut_fault Part q o t ss r f h k = cut.not_fault (part_by_history q.program.order) AnyHistory q o t (starts_of history_made q.program.order ss) r f h k
-not_cut_fault Part2 q o t ss r f h k = cut.not_fault (part2_by_history q.program.order) AnyHistory q o t (starts_of history_made q.program.order ss) r f h k
+not_cut_fault e q o t ss r f h k = cut.not_fault (environment e q.program.order) AnyHistory q o t (starts_of history_made q.program.order ss) r f h k
 
 -- ---- their lines
 

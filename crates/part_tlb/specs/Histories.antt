@@ -99,6 +99,10 @@ history_of (t ∷ touches) = record { place = t.place; label = t.label.number; t
 abbrev pub held_at : Place → ℕ → List Placed → List ℕ
 held_at p label history = numbers_of (map (held (sets_at p) (ways_at p) (touches_at p history) label) (range_with_len 0 (sets_at p)))
 
+-- the environment without caches: no access costs more than its instruction, and nothing is held
+abbrev pub flat_by_history : Order → Env (List Placed)
+flat_by_history order = record { cost_of = λ k address er ew history. 0; next_of = λ k address er ew history. history; part = λ p label history. [] }
+
 -- The environment of one level of caches in which nothing is kept but the history. It has no second level.
 abbrev pub part_by_history : Order → Env (List Placed)
 part_by_history order =

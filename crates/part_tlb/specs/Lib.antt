@@ -3,3 +3,5 @@ pub mod Structures
 pub mod Envs
 pub mod Keeps
 pub mod Laws
+pub mod Standing
+pub mod Alike

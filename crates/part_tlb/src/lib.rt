@@ -2,7 +2,7 @@
 //! each label.
 #![tactic(auto)]
 
-pub mod laws;
+pub mod by_history;
 mod lookup;
 pub mod part;
 pub mod part2;

@@ -13,7 +13,7 @@ use Rattle.tool_stages.specs.Envs.{ReportsIn}
 use Rattle.tool_laws.specs.FirstAudit.{observer, budget, audit_answer}
 use Rattle.tool_laws.proofs.Order.{low, table, flow_table, join_table, two}
 use Rattle.tool_laws.proofs.AuditTypes.{labelled}
-use Rattle.tool_laws.proofs.Premises.{part, begins}
+use Rattle.tool_laws.proofs.Premises.{apart, begins}
 use Rattle.tool_laws.proofs.Starts.{untouched, both_starts}
 
 halts : All (HaltsBy Part budget labelled) both_starts
@@ -27,7 +27,7 @@ unfolding table flow_table join_table
 shown = refl
 
 pub can_be_audited : CanBeAudited Part budget labelled observer both_starts
-can_be_audited = record { cut = record { agree = part.agree; few = omega (arith, shown) }; halt = halts }
+can_be_audited = record { cut = record { agree = (apart Part).agree; few = omega (arith, shown) }; halt = halts }
 
 abbrev classes : Vec ℕ Global
 classes = record {
@@ -47,8 +47,8 @@ report = record { runs = 2; mitigations = 1; measures = record { levels = 1; dis
 pub reports : ReportsIn Part labelled observer budget both_starts report
 unfolding table flow_table join_table
 reports = record {
-  agree = part.agree;
-  halted = part.halt;
+  agree = (apart Part).agree;
+  halted = (apart Part).halt;
   few = omega (arith, shown);
   runs = refl;
   mitigations = begins (pos 0);

@@ -4,18 +4,19 @@ use Rattle.tim_base.specs.Told.{IsTold}
 use Rattle.mit_syntax.specs.Program.{plan_of}
 use Rattle.mit_syntax.specs.Values.{read}
 use Rattle.label_lattice.specs.Lattice.{Flows}
-use Rattle.label_lattice.specs.Order.{Order}
 use Rattle.env_contract.specs.Env.{Env}
 use Rattle.label_code.specs.Machine.{Event, Wrote}
 use Rattle.code_lower.specs.Lowered.{lowered}
 use Rattle.timing_types.specs.Labelled.{order_of, labels_of, levels_of}
 use Rattle.leak_bound.specs.Relevant.{Begins}
 use Rattle.leak_bound.specs.Sound.{Agree, seen_from, Halts}
-use Rattle.part_tlb.specs.Histories.{part_by_history, part2_by_history}
+use Rattle.part_tlb.specs.Histories.{Placed}
 use Rattle.history_bound.specs.Over.{AnyHistory}
-use Rattle.env_contract.specs.Flat.{flat_env}
+use Rattle.tool_words.specs.declared.words.EnvName.{EnvName}
+use Rattle.tool_words.specs.declared.words.EnvName.TheVariants.{Flat, Part, Part2}
+use Rattle.tool_stages.specs.Envs.{environment}
 use Rattle.tool_stages.specs.Stages.{Reads, Types}
-use Rattle.tool_laws.specs.FirstAudit.{program_text, observer, budget, with_secret, BothAreApart, IsMet}
+use Rattle.tool_laws.specs.FirstAudit.{program_text, observer, budget, with_secret, AreApart, IsMet}
 use Rattle.tool_laws.proofs.Order.{table, flow_table, join_table, two}
 use Rattle.tool_laws.proofs.AuditProgram.{program}
 use Rattle.tool_laws.proofs.AuditCut.{tokens, are_tokens}
@@ -51,20 +52,18 @@ same_low h h' zero f = absurd (secret_stays f)
 same_low h h' (suc zero) f = refl
 same_low h h' (suc (suc x)) f = refl
 
--- starts with the same environment agree
-agree : {E : Type 0} (v : Env E) (serves : E → Type 0) (e : E) → serves e → (h h' : ℤ)
-    → Agree v (order_of labelled) serves (labels_of labelled) observer (with_secret e h) (with_secret e h')
-agree v serves e s h h' = record { one = s; other = s; long = refl; low = same_low h h'; parts = λ q l f. refl }
+-- starts with the same history agree
+agree : (v : Env (List Placed)) (h h' : ℤ) → Agree v (order_of labelled) (AnyHistory two) (labels_of labelled) observer (with_secret h) (with_secret h')
+agree v h h' = record { one = tt; other = tt; long = refl; low = same_low h h'; parts = λ q l f. refl }
 
 -- what is seen of both is known, and halts
-both : {E : Type 0} (v : Env E) (serves : Order → E → Type 0) (e : E) → serves two e →
-    Halts v (lowered labelled).instrs budget (with_secret e (pos 0)) → Halts v (lowered labelled).instrs budget (with_secret e (pos 100)) →
-    (c d : ℕ) → c ≢ d →
-    seen_from v (order_of labelled) (labels_of labelled) (lowered labelled).instrs observer budget (with_secret e (pos 0)) ≡ Wrote 1 (pos 1) c ∷ [] →
-    seen_from v (order_of labelled) (labels_of labelled) (lowered labelled).instrs observer budget (with_secret e (pos 100)) ≡ Wrote 1 (pos 1) d ∷ [] →
-    BothAreApart v serves e labelled
-both v serves e s h k c d n see see' =
-    let a = agree v (serves two) e s in
+both : (v : Env (List Placed)) → Halts v (lowered labelled).instrs budget (with_secret (pos 0))
+    → Halts v (lowered labelled).instrs budget (with_secret (pos 100)) → (c d : ℕ) → c ≢ d →
+    seen_from v (order_of labelled) (labels_of labelled) (lowered labelled).instrs observer budget (with_secret (pos 0)) ≡ Wrote 1 (pos 1) c ∷ [] →
+    seen_from v (order_of labelled) (labels_of labelled) (lowered labelled).instrs observer budget (with_secret (pos 100)) ≡ Wrote 1 (pos 1) d ∷ [] →
+    AreApart v labelled (with_secret (pos 0)) (with_secret (pos 100))
+both v h k c d n see see' =
+    let a = agree v in
     record {
       agree = ((a (pos 0) (pos 0), (a (pos 0) (pos 100), tt)), ((a (pos 100) (pos 0), (a (pos 100) (pos 100), tt)), tt));
       halt = (h, (k, tt));
@@ -80,17 +79,11 @@ both v serves e s h k c d n see see' =
     cycle_of : {c d : ℕ} → Wrote 1 (pos 1) c ∷ [] ≡ Wrote 1 (pos 1) d ∷ [] → c ≡ d
     cycle_of f = ap first_cycle f
 
-flat : BothAreApart flat_env (λ order e. Unit {0}) (record {}) labelled
+pub apart : (e : EnvName) → AreApart (environment e two) labelled (with_secret (pos 0)) (with_secret (pos 100))
 unfolding table flow_table join_table
-flat = both flat_env (λ order e. Unit {0}) (record {}) tt refl refl 8 132 (λ e. absurd (omega (arith, e))) refl refl
-
-pub part : BothAreApart (part_by_history two) AnyHistory [] labelled
-unfolding table flow_table join_table
-part = both (part_by_history two) AnyHistory [] tt refl refl 96 288 (λ e. absurd (omega (arith, e))) refl refl
-
-part2 : BothAreApart (part2_by_history two) AnyHistory [] labelled
-unfolding table flow_table join_table
-part2 = both (part2_by_history two) AnyHistory [] tt refl refl 190 318 (λ e. absurd (omega (arith, e))) refl refl
+apart Flat = both (environment Flat two) refl refl 8 132 (λ e. absurd (omega (arith, e))) refl refl
+apart Part = both (environment Part two) refl refl 96 288 (λ e. absurd (omega (arith, e))) refl refl
+apart Part2 = both (environment Part2 two) refl refl 190 318 (λ e. absurd (omega (arith, e))) refl refl
 
 pub met : (c : Option (Option (List ℕ))) → c ≡ Some (Some program_text) → IsMet c
-met c h = record { program = program; reads = reads c h; labelled = labelled; types = types; flat = flat; part = part; part2 = part2 }
+met c h = record { program = program; reads = reads c h; labelled = labelled; types = types; apart = apart }

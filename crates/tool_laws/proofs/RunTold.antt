@@ -1,7 +1,6 @@
 -- The run of the program's image, whatever labels it has.
 use Rattle.std.proofs.Common.{◌≡◌, ◌≤◌, ◌∙◌, refl, ap, ℕ, pos, List, [], ◌∷◌, length, None, arith}
 use Rattle.std.specs.Fmt.{digits}
-use Rattle.env_contract.specs.declared.flat.FlatEnv.{FlatEnv}
 use Rattle.timing_types.specs.Labelling.{Labelling}
 use Rattle.timing_types.specs.Labelled.{LabelledProgram}
 use Rattle.label_code.specs.declared.code.Instr.{Instr}
@@ -15,8 +14,9 @@ use Rattle.cycle_machine.specs.Rest.{Told}
 use Rattle.cycle_machine.specs.Rest.{told_by}
 use Rattle.cycle_machine.proofs.Runs.{run_later, halted_stays}
 use Rattle.tool_words.specs.declared.words.EnvName.TheVariants.{Flat}
+use Rattle.env_contract.specs.Env.{Env}
+use Rattle.part_tlb.specs.Histories.{Placed, flat_by_history}
 use Rattle.tool_stages.specs.Envs.{told_in}
-use Rattle.env_contract.specs.Flat.{flat_env}
 use Rattle.tool_stages.specs.Stages.{zero_start}
 use Rattle.tool_laws.specs.FirstRun.{first_answer}
 use Rattle.tool_laws.proofs.RunProgram.{program}
@@ -33,17 +33,20 @@ three l = refl
 abbrev pub zeros : StartValue
 zeros = zero_start program
 
-abbrev from_zeros : Start FlatEnv
-from_zeros = record { memory = zeros.memory; env = record {} }
+abbrev flat : Env (List Placed)
+flat = flat_by_history program.order
 
-abbrev zero_machine : Machine FlatEnv
+abbrev from_zeros : Start (List Placed)
+from_zeros = record { memory = zeros.memory; env = [] }
+
+abbrev zero_machine : Machine (List Placed)
 zero_machine = start from_zeros.memory from_zeros.env
 
 -- three steps: push 7, store it, halt
-comes : (l : Labelling) (t : ℕ) → 3 ≤ t → run_from flat_env (image l) t from_zeros ≡ steps flat_env (image l) 3 zero_machine
+comes : (l : Labelling) (t : ℕ) → 3 ≤ t → run_from flat (image l) t from_zeros ≡ steps flat (image l) 3 zero_machine
 comes l t h =
-    run_later flat_env (image l) t 3 zero_machine (omega (arith, h))
-    ∙ halted_stays flat_env (image l) t t (steps flat_env (image l) 3 zero_machine) refl
+    run_later flat (image l) t 3 zero_machine (omega (arith, h))
+    ∙ halted_stays flat (image l) t t (steps flat (image l) 3 zero_machine) refl
 
 abbrev pub first_told : Told
 first_told = record { events = Wrote 0 (pos 7) 2 ∷ []; end = Halted 3 }

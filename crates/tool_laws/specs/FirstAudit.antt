@@ -1,7 +1,6 @@
 -- A first audit: a program with one relevant mitigate, two starts of it that differ in a secret, the words that ask for
 -- their audit, and what it answers.
 use Rattle.std.specs.Prelude.{◌≡◌, ℕ, List, [], ◌∷◌, ℤ, pos, Option, codes}
-use Rattle.label_lattice.specs.Order.{Order}
 use Rattle.mit_syntax.specs.Program.{Syntax, plan_of}
 use Rattle.timing_types.specs.Labelled.{LabelledProgram, order_of, labels_of, levels_of}
 use Rattle.env_contract.specs.Env.{Env}
@@ -10,10 +9,11 @@ use Rattle.code_lower.specs.Lowered.{lowered}
 use Rattle.leak_bound.specs.Records.{Each, Pairwise}
 use Rattle.leak_bound.specs.Relevant.{Begins}
 use Rattle.leak_bound.specs.Sound.{Agree, seen_from, Halts}
-use Rattle.part_tlb.specs.Histories.{part_by_history, part2_by_history}
+use Rattle.part_tlb.specs.Histories.{Placed}
 use Rattle.history_bound.specs.Over.{AnyHistory}
-use Rattle.env_contract.specs.Flat.{flat_env}
+use Rattle.tool_words.specs.declared.words.EnvName.{EnvName}
 use Rattle.tool_stages.specs.Stages.{Reads, Types}
+use Rattle.tool_stages.specs.Envs.{environment}
 
 -- the bytes of a program: a secret sleep under mitigation, and a public assignment after it
 abbrev pub program_text : List ℕ
@@ -30,22 +30,18 @@ observer = 0
 abbrev pub budget : ℕ
 budget = 1000
 
--- a start in which h has a value and l is 0
-abbrev pub with_secret : {E : Type 0} → E → ℤ → Start E
-with_secret e h = record { memory = h ∷ pos 0 ∷ []; env = e }
+-- a start in which h has a value, l is 0 and nothing was touched
+abbrev pub with_secret : ℤ → Start (List Placed)
+with_secret h = record { memory = h ∷ pos 0 ∷ []; env = [] }
 
 -- Two starts meet what the theorem asks for, and show that it has something to bound: they agree for the observer and
 -- halt by T, each begins one relevant mitigate, and what the observer sees of them is not the same.
-pub record AreApart {E : Type 0} (v : Env E) (serves : Order → E → Type 0) (q : LabelledProgram) (s s' : Start E) : Type 0 where
-  pub agree : Pairwise (Agree v (order_of q) (serves q.program.order) (labels_of q) observer) (s ∷ s' ∷ [])
+pub record AreApart (v : Env (List Placed)) (q : LabelledProgram) (s s' : Start (List Placed)) : Type 0 where
+  pub agree : Pairwise (Agree v (order_of q) (AnyHistory q.program.order) (labels_of q) observer) (s ∷ s' ∷ [])
   pub halt : Each (Halts v (lowered q).instrs budget) (s ∷ s' ∷ [])
   pub begin : Each (λ x. Begins (order_of q) (labels_of q) (levels_of q) observer (plan_of q.program) x.memory 1) (s ∷ s' ∷ [])
   pub apart : seen_from v (order_of q) (labels_of q) (lowered q).instrs observer budget s
       ≡ seen_from v (order_of q) (labels_of q) (lowered q).instrs observer budget s' → ⊥
-
--- the two starts with nothing touched
-abbrev pub BothAreApart : {E : Type 0} → Env E → (Order → E → Type 0) → E → LabelledProgram → Type 0
-BothAreApart v serves e q = AreApart v serves q (with_secret e (pos 0)) (with_secret e (pos 100))
 
 -- the file holds an accepted program, of which these starts do so in each environment that `--env` names
 pub record IsMet (content : Option (Option (List ℕ))) : Type 0 where
@@ -53,9 +49,7 @@ pub record IsMet (content : Option (Option (List ℕ))) : Type 0 where
   pub reads : Reads content program
   pub labelled : LabelledProgram
   pub types : Types program labelled
-  pub flat : BothAreApart flat_env (λ order e. Unit {0}) (record {}) labelled
-  pub part : BothAreApart (part_by_history labelled.program.order) AnyHistory [] labelled
-  pub part2 : BothAreApart (part2_by_history labelled.program.order) AnyHistory [] labelled
+  pub apart : (e : EnvName) → AreApart (environment e labelled.program.order) labelled (with_secret (pos 0)) (with_secret (pos 100))
 
 -- ---- the audit
 

@@ -1,5 +1,6 @@
--- What is told over caches is told over histories.
+-- What is told in the environment of a name is told over histories.
 use Rattle.std.proofs.Common.{◌≡◌, ℕ, List, Result, Ok, Err, IfOk, IfErr, sym, subst}
+use Rattle.std.specs.Prelude.{All}
 use Rattle.label_lattice.specs.declared.label.Label.{Label}
 use Rattle.label_lattice.specs.Order.{Order}
 use Rattle.env_contract.specs.Env.{Env}
@@ -11,6 +12,7 @@ use Rattle.cycle_machine.specs.Rest.{told_by}
 use Rattle.leak_audit.specs.Agreement.{start_of, starts_of}
 use Rattle.leak_audit.specs.Report.{IsReport, IsAuditFault}
 use Rattle.cut_audit.specs.Report.{IsReport as IsCutReport, IsCutFault}
+use Rattle.history_bound.specs.Over.{AnyHistory, history_made}
 use Rattle.history_reports.specs.Reports.{AuditAlike, RunsTellAlike, AuditsTellAlike}
 use Rattle.timing_types.specs.Labelled.{LabelledProgram}
 use Rattle.start_file.specs.Starts.{StartValue, IsFor}
@@ -18,39 +20,49 @@ use Rattle.leak_audit.specs.declared.report.AuditReport.{AuditReport}
 use Rattle.leak_audit.specs.declared.report.AuditFault.{AuditFault}
 use Rattle.cut_audit.specs.declared.report.CutReport.{CutReport}
 use Rattle.cut_audit.specs.declared.report.CutFault.{CutFault}
+use Rattle.tool_words.specs.declared.words.EnvName.{EnvName}
+use Rattle.tool_stages.specs.Envs.{environment, told_in, ReportsIn, AuditFaultsIn, CutReportsIn, CutFaultsIn}
 use Rattle.tool_stages.specs.Begins.{CanAudit}
 
-module _ {E F : Type 0} (v : Env E) (made : Order → List Touch → E) (w : Order → Env F) (made' : Order → List Touch → F) where
-  pub told_alike : RunsTellAlike v made w made' → (q : LabelledProgram) (code : Code) → code ≡ lowered q → IsShaped code → (s : StartValue)
-      → IsFor q.program s → (t : ℕ) →
-      told_by (run_from v code.instrs t (start_of made q.program.order s))
-      ≡ told_by (run_from (w q.program.order) code.instrs t (start_of made' q.program.order s))
-  told_alike alike q code is shaped s fits t =
-      subst (λ (z : Code). IsShaped z
-      → told_by (run_from v z.instrs t (start_of made q.program.order s))
-      ≡ told_by (run_from (w q.program.order) z.instrs t (start_of made' q.program.order s))) (sym is)
-      (λ shaped. alike (lowered q) shaped s fits.touches t) shaped
+module _ {E : Type 0} (v : Env E) (made : Order → List Touch → E) (e name : EnvName) (is : e ≡ name) (q : LabelledProgram) (code : Code)
+    (shaped : IsShaped code) where
+  -- a run
+  pub named_told : RunsTellAlike v made (environment name) history_made → code ≡ lowered q → (s : StartValue) → IsFor q.program s → (t : ℕ)
+      → told_by (run_from v code.instrs t (start_of made q.program.order s)) ≡ told_in e q.program.order code s t
+  named_told alike image s fits t =
+      subst (λ (z : EnvName). told_by (run_from v code.instrs t (start_of made q.program.order s)) ≡ told_in z q.program.order code s t) (sym is)
+      (subst (λ (z : Code). IsShaped z
+      → told_by (run_from v z.instrs t (start_of made q.program.order s)) ≡ told_in name q.program.order z s t) (sym image)
+      (λ shaped. alike (lowered q) shaped s fits.touches t) shaped)
 
-  module _ (serves : Order → E → Type 0) (serves' : Order → F → Type 0) where
-    pub alike_for : AuditsTellAlike v made w made' serves serves' → (q : LabelledProgram) (l : Label) (code : Code) (ss : List StartValue) (t : ℕ)
-        → CanAudit q l code ss → IsShaped code →
-        AuditAlike v serves (w q.program.order) serves' q l.number t (starts_of made q.program.order ss) (starts_of made' q.program.order ss)
-    alike_for alike q l code ss t can shaped = alike q (subst IsShaped can.image shaped) l.number t can.observer ss can.starts
+  -- audits
+  module _ (serves : Order → E → Type 0) (alike : AuditsTellAlike v made (environment name) history_made serves AnyHistory) (l : Label) (t : ℕ)
+      (xs ss : List StartValue) (same : xs ≡ ss) (can : CanAudit q l code ss) where
+    both : AuditAlike v serves (environment e q.program.order) AnyHistory q l.number t (starts_of made q.program.order xs)
+        (starts_of history_made q.program.order ss)
+    both =
+        subst (λ (z : EnvName). AuditAlike v serves (environment z q.program.order) AnyHistory q l.number t (starts_of made q.program.order xs)
+        (starts_of history_made q.program.order ss)) (sym is)
+        (subst (λ (zs : List StartValue). AuditAlike v serves (environment name q.program.order) AnyHistory q l.number t (starts_of made q.program.order xs)
+        (starts_of history_made q.program.order zs)) same
+        (alike q (subst IsShaped can.image shaped) l.number t can.observer xs (subst (All (IsFor q.program)) (sym same) can.starts)))
 
-module _ {E F : Type 0} (v : Env E) (serves : Order → E → Type 0) (w : Env F) (serves' : Order → F → Type 0) (q : LabelledProgram) (o t : ℕ)
-    (ss : List (Start E)) (rs : List (Start F)) (alike : AuditAlike v serves w serves' q o t ss rs) where
-  pub report_by : (r : Result AuditReport AuditFault) → IfOk r (IsReport v serves q o t ss) → IfOk r (IsReport w serves' q o t rs)
-  report_by (Ok r) h = (alike.report r).0 h
-  report_by (Err f) h = tt
+    pub named_report : (r : Result AuditReport AuditFault) → IfOk r (IsReport v serves q l.number t (starts_of made q.program.order xs))
+        → IfOk r (ReportsIn e q l.number t ss)
+    named_report (Ok r) h = (both.report r).0 h
+    named_report (Err f) h = tt
 
-  pub fault_by : (r : Result AuditReport AuditFault) → IfErr r (IsAuditFault v serves q o t ss) → IfErr r (IsAuditFault w serves' q o t rs)
-  fault_by (Ok r) h = tt
-  fault_by (Err f) h = (alike.fault f).0 h
+    pub named_fault : (r : Result AuditReport AuditFault) → IfErr r (IsAuditFault v serves q l.number t (starts_of made q.program.order xs))
+        → IfErr r (AuditFaultsIn e q l.number t ss)
+    named_fault (Ok r) h = tt
+    named_fault (Err f) h = (both.fault f).0 h
 
-  pub cut_report_by : (r : Result CutReport CutFault) → IfOk r (IsCutReport v serves q o t ss) → IfOk r (IsCutReport w serves' q o t rs)
-  cut_report_by (Ok r) h = (alike.cut_report r).0 h
-  cut_report_by (Err f) h = tt
+    pub named_cut : (r : Result CutReport CutFault) → IfOk r (IsCutReport v serves q l.number t (starts_of made q.program.order xs))
+        → IfOk r (CutReportsIn e q l.number t ss)
+    named_cut (Ok r) h = (both.cut_report r).0 h
+    named_cut (Err f) h = tt
 
-  pub cut_fault_by : (r : Result CutReport CutFault) → IfErr r (IsCutFault v serves q o t ss) → IfErr r (IsCutFault w serves' q o t rs)
-  cut_fault_by (Ok r) h = tt
-  cut_fault_by (Err f) h = (alike.cut_fault f).0 h
+    pub named_cut_fault : (r : Result CutReport CutFault) → IfErr r (IsCutFault v serves q l.number t (starts_of made q.program.order xs))
+        → IfErr r (CutFaultsIn e q l.number t ss)
+    named_cut_fault (Ok r) h = tt
+    named_cut_fault (Err f) h = (both.cut_fault f).0 h

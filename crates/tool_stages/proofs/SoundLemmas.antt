@@ -16,6 +16,8 @@ use Rattle.timing_types.specs.Arrays.{ArraysIn}
 use Rattle.timing_types.specs.Labelling.{variable_of, IsLabelling}
 use Rattle.timing_types.specs.Labelled.{LabelledProgram, HasType}
 use Rattle.timing_types.proofs.Arrays.{valid_arrays}
+use Rattle.part_tlb.specs.Histories.{Placed}
+use Rattle.history_bound.specs.Over.{AnyHistory}
 use Rattle.leak_bound.specs.Source.{IsTypedWith}
 use Rattle.leak_bound.specs.Over.{LoweredSoundOver, LoweredCutSoundOver}
 use Rattle.tool_stages.specs.Stages.{Types}
@@ -34,9 +36,9 @@ made_of p q valid types =
       typed = types.typed;
     }
 
-pub sound_in : {E : Type 0} (v : Order → Env E) (serves : Order → E → Type 0) → LoweredSoundOver v serves → LoweredCutSoundOver v serves
-    → (p : Syntax) (q : LabelledProgram) → IsValid p → Types p q → IsSoundIn (v q.program.order) serves q
-sound_in v serves halted cut p q valid types =
+pub sound_in : (v : Order → Env (List Placed)) → LoweredSoundOver v AnyHistory → LoweredCutSoundOver v AnyHistory
+    → (p : Syntax) (q : LabelledProgram) → IsValid p → Types p q → IsSoundIn (v q.program.order) q
+sound_in v halted cut p q valid types =
     let made = made_of p q valid types in
     record { halted = halted q made; cut = cut q made }
 
@@ -53,13 +55,13 @@ typed_made words p q spelled is labelling typed =
       typed = typed;
     }
 
-pub typed_in : {E : Type 0} (v : Order → Env E) (serves : Order → E → Type 0) → LoweredSoundOver v serves → LoweredCutSoundOver v serves
+pub typed_in : (v : Order → Env (List Placed)) → LoweredSoundOver v AnyHistory → LoweredCutSoundOver v AnyHistory
     → (words : List Told) (p : Syntax) (q : LabelledProgram) → IsProgram words p → q.program ≡ p → IsLabelling p q.labels → HasType q
-    → IsSoundIn (v q.program.order) serves q
-typed_in v serves halted cut words p q spelled is labelling typed =
+    → IsSoundIn (v q.program.order) q
+typed_in v halted cut words p q spelled is labelling typed =
     let made = typed_made words p q spelled is labelling typed in
     record { halted = halted q made; cut = cut q made }
 
-pub spelled_in : {E : Type 0} (v : Order → Env E) (serves : Order → E → Type 0) → LoweredSoundOver v serves → LoweredCutSoundOver v serves
-    → (words : List Told) (p : Syntax) (q : LabelledProgram) → IsProgram words p → Types p q → IsSoundIn (v q.program.order) serves q
-spelled_in v serves halted cut words p q spelled types = typed_in v serves halted cut words p q spelled types.program types.least.labels.keeps types.typed
+pub spelled_in : (v : Order → Env (List Placed)) → LoweredSoundOver v AnyHistory → LoweredCutSoundOver v AnyHistory
+    → (words : List Told) (p : Syntax) (q : LabelledProgram) → IsProgram words p → Types p q → IsSoundIn (v q.program.order) q
+spelled_in v halted cut words p q spelled types = typed_in v halted cut words p q spelled types.program types.least.labels.keeps types.typed

@@ -1,7 +1,6 @@
 -- What is true of every accepted program.
 use Rattle.std.specs.Prelude.{◌≡◌, ℕ, List, Option, Bool, true, false}
 use Rattle.env_contract.specs.Env.{Env}
-use Rattle.label_lattice.specs.Order.{Order}
 use Rattle.mit_syntax.specs.Program.{Syntax, plan_of}
 use Rattle.mit_syntax.specs.Valid.{IsValid}
 use Rattle.mit_parser.specs.Words.{Told}
@@ -9,25 +8,24 @@ use Rattle.mit_parser.specs.Spells.{IsProgram}
 use Rattle.timing_types.specs.Labelling.{IsLabelling}
 use Rattle.timing_types.specs.Labelled.{LabelledProgram, HasType, labels_of, levels_of}
 use Rattle.code_lower.specs.Lowered.{instrs_of}
-use Rattle.part_tlb.specs.Histories.{part_by_history, part2_by_history}
+use Rattle.part_tlb.specs.Histories.{Placed}
 use Rattle.history_bound.specs.Over.{AnyHistory}
 use Rattle.leak_bound.specs.Sound.{Sound, CutSound}
 use Rattle.tool_texts.specs.declared.status.Status.{Status}
 use Rattle.tool_texts.specs.declared.status.Status.TheVariants as status
+use Rattle.tool_words.specs.declared.words.EnvName.{EnvName}
 use Rattle.tool_stages.specs.Stages.{Reads, Types, Rechecks}
-use Rattle.env_contract.specs.Flat.{flat_env}
+use Rattle.tool_stages.specs.Envs.{environment}
 
 -- The image of a labelled program is sound in an environment, for runs that halt and for runs that are cut. Its
 -- source is the program that is labelled, without its labels.
-pub record IsSoundIn {E : Type 0} (v : Env E) (serves : Order → E → Type 0) (q : LabelledProgram) : Type 0 where
-  pub halted : Sound v q.program.order (serves q.program.order) (labels_of q) (levels_of q) (instrs_of q) (plan_of q.program)
-  pub cut : CutSound v q.program.order (serves q.program.order) (labels_of q) (levels_of q) (instrs_of q) (plan_of q.program)
+pub record IsSoundIn (v : Env (List Placed)) (q : LabelledProgram) : Type 0 where
+  pub halted : Sound v q.program.order (AnyHistory q.program.order) (labels_of q) (levels_of q) (instrs_of q) (plan_of q.program)
+  pub cut : CutSound v q.program.order (AnyHistory q.program.order) (labels_of q) (levels_of q) (instrs_of q) (plan_of q.program)
 
 -- it is in each environment that `--env` names
-pub record IsSound (q : LabelledProgram) : Type 0 where
-  pub flat : IsSoundIn flat_env (λ order e. Unit {0}) q
-  pub part : IsSoundIn (part_by_history q.program.order) AnyHistory q
-  pub part2 : IsSoundIn (part2_by_history q.program.order) AnyHistory q
+abbrev pub IsSound : LabelledProgram → Type 0
+IsSound q = (e : EnvName) → IsSoundIn (environment e q.program.order) q
 
 -- every program is sound with the least labelling that types it
 abbrev pub AcceptedAreSound : Type 0

@@ -10,16 +10,13 @@ use Rattle.code_lower.specs.Lowered.{lowered}
 use Rattle.leak_bound.specs.Records.{Pairwise}
 use Rattle.leak_audit.specs.Agreement.{AgreeFor, starts_of}
 use Rattle.leak_audit.specs.Surveyed.{shown_by_all}
-use Rattle.part_tlb.specs.Histories.{part_by_history, part2_by_history}
 use Rattle.history_bound.specs.Over.{AnyHistory, history_made}
 use Rattle.start_file.specs.Starts.{StartValue}
 use Rattle.cycle_machine.specs.declared.end.RunEnd.{RunEnd}
 use Rattle.cycle_machine.specs.declared.end.RunEnd.TheVariants.{Halted, Limit}
 use Rattle.tool_words.specs.declared.words.EnvName.{EnvName}
-use Rattle.tool_words.specs.declared.words.EnvName.TheVariants.{Flat, Part, Part2}
 use Rattle.tool_stages.specs.Stages.{Reads, Observes, Types}
-use Rattle.tool_stages.specs.Envs.{flat_made, told_in}
-use Rattle.env_contract.specs.Flat.{flat_env}
+use Rattle.tool_stages.specs.Envs.{environment, told_in}
 
 -- some labelling types the program
 abbrev pub IsTypable : Syntax → Type 0
@@ -47,15 +44,11 @@ HaltsBy e t q s = IsHalted (told_in e q.program.order (lowered q) s t).end
 
 -- the starts agree pairwise for an observer
 abbrev pub AgreeIn : EnvName → LabelledProgram → ℕ → List StartValue → Type 0
-AgreeIn Flat q o ss = Pairwise (AgreeFor flat_env (λ order e. Unit {0}) q o) (starts_of flat_made q.program.order ss)
-AgreeIn Part q o ss = Pairwise (AgreeFor (part_by_history q.program.order) AnyHistory q o) (starts_of history_made q.program.order ss)
-AgreeIn Part2 q o ss = Pairwise (AgreeFor (part2_by_history q.program.order) AnyHistory q o) (starts_of history_made q.program.order ss)
+AgreeIn e q o ss = Pairwise (AgreeFor (environment e q.program.order) AnyHistory q o) (starts_of history_made q.program.order ss)
 
 -- how many assignments the runs to T show to the observer
 abbrev pub shown_in : EnvName → LabelledProgram → ℕ → ℕ → List StartValue → ℕ
-shown_in Flat q o t ss = shown_by_all flat_env q o t (starts_of flat_made q.program.order ss)
-shown_in Part q o t ss = shown_by_all (part_by_history q.program.order) q o t (starts_of history_made q.program.order ss)
-shown_in Part2 q o t ss = shown_by_all (part2_by_history q.program.order) q o t (starts_of history_made q.program.order ss)
+shown_in e q o t ss = shown_by_all (environment e q.program.order) q o t (starts_of history_made q.program.order ss)
 
 -- they agree, and show few enough
 pub record CanCut (e : EnvName) (t : ℕ) (q : LabelledProgram) (o : ℕ) (ss : List StartValue) : Type 0 where

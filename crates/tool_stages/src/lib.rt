@@ -3,6 +3,7 @@
 
 pub mod certificate;
 pub mod compiled;
+pub mod envs;
 pub mod file;
 pub mod image;
 pub mod laws;

@@ -17,23 +17,51 @@ ghost use Rattle.mit_tool.specs.Answers.{IsAnswer};
 
 use cut_audit::cut::cut;
 use cut_audit::report::{CutFault, CutReport};
-use env_contract::make::MakeFlat;
-use history_reports::laws::reports_are_the_same;
+use env_contract::env::MachineEnv;
 use mit_syntax::program::Program;
-use part_tlb::part::MakePart;
-use part_tlb::part2::MakePart2;
 use run_watch::Watch;
 use std::alloc::Global;
 use tim_base::shelf::Shelf;
+use tool_stages::envs::NamedEnv;
+use tool_stages::in_env;
+use tool_stages::laws::named_tell_as_histories;
 use tool_stages::prepared::{Prepared, prepare};
 use tool_stages::setting::Setting;
 use tool_texts::lines;
 use tool_texts::pieces::audits::put_cut;
 use tool_texts::status::Status;
 use tool_texts::stop::{Stop, no_memory};
-use tool_words::words::EnvName;
 
-/// Audits runs that may not have halted in the environment of a name.
+// Audits runs that may not have halted in the environments of a maker, which have the name.
+fn cut_in<E: MachineEnv + Drop, M: NamedEnv<E>, W: Watch>(
+    alloc: Global,
+    maker: &M,
+    p: &Prepared,
+    setting: Setting,
+    watch: &W,
+) -> Result<CutReport, CutFault>
+    requires fit { CanAudit p.now.compiled.typed.labelled p.now.observer p.now.compiled.image (map seen p.now.starts.items) }
+    requires cycles { IsCycles setting.budget }
+    requires named { setting.env ≡ M.name }
+    ensures report { IfOk result (CutReportsIn setting.env p.now.compiled.typed.labelled p.now.observer.number setting.budget (map seen p.now.starts.items)) }
+    ensures fault { IfErr result (CutFaultsIn setting.env p.now.compiled.typed.labelled p.now.observer.number setting.budget (map seen p.now.starts.items)) }
+{
+    let (typed, image, starts) = (&p.compiled.typed, &p.compiled.image, p.starts.as_slice());
+    image.laws();
+    named_tell_as_histories::<E, M>();
+    cut(
+        alloc,
+        typed,
+        image,
+        starts,
+        p.observer,
+        setting.budget,
+        maker,
+        watch,
+    )
+}
+
+// Audits runs that may not have halted in the environment of a name.
 fn cut_named<W: Watch>(
     alloc: Global,
     p: &Prepared,
@@ -45,21 +73,7 @@ fn cut_named<W: Watch>(
     ensures report { IfOk result (CutReportsIn setting.env p.now.compiled.typed.labelled p.now.observer.number setting.budget (map seen p.now.starts.items)) }
     ensures fault { IfErr result (CutFaultsIn setting.env p.now.compiled.typed.labelled p.now.observer.number setting.budget (map seen p.now.starts.items)) }
 {
-    let (typed, image, starts) = (&p.compiled.typed, &p.compiled.image, p.starts.as_slice());
-    let (observer, budget) = (p.observer, setting.budget);
-    image.laws();
-    reports_are_the_same();
-    match setting.env {
-        EnvName::Flat => cut(
-            alloc, typed, image, starts, observer, budget, &MakeFlat, watch,
-        ),
-        EnvName::Part => cut(
-            alloc, typed, image, starts, observer, budget, &MakePart, watch,
-        ),
-        EnvName::Part2 => cut(
-            alloc, typed, image, starts, observer, budget, &MakePart2, watch,
-        ),
-    }
+    in_env!(setting.env, maker => cut_in(alloc, maker, p, setting, watch))
 }
 
 // The stop for an audit without a report.

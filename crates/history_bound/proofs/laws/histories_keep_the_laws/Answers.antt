@@ -1,5 +1,11 @@
-use Rattle.history_bound.proofs.Lawful.{one_keeps, one_costs, two_keep, two_cost}
+use Rattle.history_bound.proofs.Lawful.{none_keeps, none_costs, one_keeps, one_costs, two_keep, two_cost}
 use Rattle.history_bound.proofs.laws.histories_keep_the_laws.Goals as goal
+
+pub returns-clause-no_level : goal.returns-clause-no_level
+returns-clause-no_level c = none_keeps
+
+pub returns-clause-no_level_cost : goal.returns-clause-no_level_cost
+returns-clause-no_level_cost c = none_costs
 
 pub returns-clause-one_level : goal.returns-clause-one_level
 returns-clause-one_level c = one_keeps

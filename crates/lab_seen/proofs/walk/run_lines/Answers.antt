@@ -9,6 +9,7 @@ use Rattle.cycle_machine.specs.Rest.{Told}
 use Rattle.leak_audit.proofs.Agreeing.{All-seen}
 use Rattle.lab_runs.proofs.TextLemmas.{map-from, wrote_one, broke_in}
 use Rattle.lab_seen.specs.Seen.{line_text, line_in}
+use Rattle.tool_stages.proofs.EnvLemmas.{named_told}
 use Rattle.lab_seen.proofs.walk.run_lines.Goals as goal
 
 up_to : (a b c : ℕ) → a ≤ b → b ≤ c → a ≤ c
@@ -45,7 +46,8 @@ returns-in-Err-clause-prefix g c = λ e.
     (from_here c.as_slice-starts.result.now items c.loop-i.i x same lt c.index-starts-i.is) (g.W.Sink.taken c.args.out.now) (g.W.Sink.taken c.loop-i.out)
     (g.W.Sink.taken c.run_line.new.out) c.loop-i.invariant.written
     (subst (λ (z : Told). AppendsPrefix (g.W.Sink.taken c.loop-i.out) (g.W.Sink.taken c.run_line.new.out)
-    (line_text q c.args.p.now.observer (c.loop-i.i + 1) z)) (c.requires.named (seen x) fits) (c.in-Err.ensures.prefix e))
+    (line_text q c.args.p.now.observer (c.loop-i.i + 1) z)) (named_told g.E.MachineEnv.env g.M.MakeEnv.made c.args.setting.env g.M.NamedEnv.name c.requires.named q c.args.p.now.compiled.image
+    c.laws.ensures.shaped c.named_tell_as_histories.ensures.runs c.requires.fit.image (seen x) fits c.args.setting.budget) (c.in-Err.ensures.prefix e))
 
 pub loop-i-preserved : goal.loop-i-preserved
 loop-i-preserved g c =
@@ -62,6 +64,7 @@ loop-i-preserved g c =
           (from_here c.as_slice-starts.result.now items c.loop-i.i x same lt c.index-starts-i.is) (g.W.Sink.taken c.args.out.now) (g.W.Sink.taken c.loop-i.out)
           (g.W.Sink.taken c.run_line.new.out) c.loop-i.invariant.written
           (subst (λ (z : Told). Appends (g.W.Sink.taken c.loop-i.out) (g.W.Sink.taken c.run_line.new.out)
-          (line_text q c.args.p.now.observer (c.loop-i.i + 1) z)) (c.requires.named (seen x) fits) c.in-Ok.ensures.text);
+          (line_text q c.args.p.now.observer (c.loop-i.i + 1) z)) (named_told g.E.MachineEnv.env g.M.MakeEnv.made c.args.setting.env g.M.NamedEnv.name c.requires.named q c.args.p.now.compiled.image
+    c.laws.ensures.shaped c.named_tell_as_histories.ensures.runs c.requires.fit.image (seen x) fits c.args.setting.budget) c.in-Ok.ensures.text);
       later = up_to _ _ _ c.loop-i.invariant.later c.run_line.ensures.later;
     }

@@ -7,6 +7,7 @@ use Rattle.start_file.specs.Starts.{StartValue, seen, IsFor}
 use Rattle.leak_audit.specs.Agreement.{start_of}
 use Rattle.leak_audit.proofs.Agreeing.{All-seen}
 use Rattle.lab_runs.proofs.TextLemmas.{map-from}
+use Rattle.lab_timeline.proofs.Named.{named_timed}
 use Rattle.lab_timeline.proofs.Walking.{walking_first, walking_next, walking_breaks}
 use Rattle.lab_timeline.proofs.walk.write_runs.Goals as goal
 
@@ -53,7 +54,8 @@ returns-in-Err-clause-prefix g c = λ e.
     walking_breaks c.args.setting.env c.args.setting.budget q c.args.p.now.compiled.observer c.args.p.now.compiled.image (map seen items) c.loop-i.i (seen x)
     (within c.as_slice-starts.result.now items c.loop-i.i same lt)
     (from_here c.as_slice-starts.result.now items c.loop-i.i x same lt c.index-starts-i.is) v (start_of g.M.MakeEnv.made q.program.order (seen x))
-    (λ ms. c.requires.named (seen x) ms fits)
+    (named_timed v g.M.MakeEnv.made c.args.setting.env g.M.NamedEnv.name c.requires.named q c.args.p.now.compiled.image c.laws.ensures.shaped
+    c.requires.fit.image c.named_tell_as_histories.ensures.runs c.timelines_are_the_same.ensures (seen x) fits c.args.setting.budget)
     (g.W.Sink.taken c.args.out.now) (g.W.Sink.taken c.loop-i.out) (g.W.Sink.taken c.write_run.new.out) c.loop-i.listing.tallies.items
     c.loop-i.invariant.walking (c.in-Err.ensures.prefix e)
 
@@ -71,7 +73,8 @@ loop-i-preserved g c =
           walking_next c.args.setting.env c.args.setting.budget q c.args.p.now.compiled.observer c.args.p.now.compiled.image (map seen items) c.loop-i.i
           (seen x) (within c.as_slice-starts.result.now items c.loop-i.i same lt)
           (from_here c.as_slice-starts.result.now items c.loop-i.i x same lt c.index-starts-i.is) v (start_of g.M.MakeEnv.made q.program.order (seen x))
-          (λ ms. c.requires.named (seen x) ms fits)
+          (named_timed v g.M.MakeEnv.made c.args.setting.env g.M.NamedEnv.name c.requires.named q c.args.p.now.compiled.image c.laws.ensures.shaped
+    c.requires.fit.image c.named_tell_as_histories.ensures.runs c.timelines_are_the_same.ensures (seen x) fits c.args.setting.budget)
           (g.W.Sink.taken c.args.out.now) (g.W.Sink.taken c.loop-i.out) (g.W.Sink.taken c.write_run.new.out) c.loop-i.listing.tallies.items
           c.write_run.new.listing.tallies.items c.loop-i.invariant.walking c.in-Ok.ensures.written c.write_run.ensures.grown c.requires.cycles.1;
       places = c.write_run.ensures.places ∙ c.loop-i.invariant.places;

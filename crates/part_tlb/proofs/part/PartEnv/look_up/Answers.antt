@@ -1,5 +1,5 @@
 use Rattle.std.proofs.Common.{sym}
-use Rattle.part_tlb.proofs.History.{label_in}
+use Rattle.part_tlb.specs.Standing.{label_in}
 use Rattle.env_contract.specs.declared.place.Place.TheVariants.{Page, Code, Data}
 use Rattle.part_tlb.proofs.part.PartEnv.look_up.Goals as goal
 

@@ -1,4 +1,4 @@
-use Rattle.part_tlb.proofs.History.{label_in}
+use Rattle.part_tlb.specs.Standing.{label_in}
 use Rattle.env_contract.specs.declared.place.Place.TheVariants.{Page, Code, Data}
 use Rattle.part_tlb.proofs.part.PartEnv.touch.Goals as goal
 

@@ -3,7 +3,7 @@ use Rattle.part_tlb.specs.Histories.{part_history}
 use Rattle.part_tlb.specs.Structures.{IsMadeFor, StandsForAll}
 use Rattle.part_tlb.specs.Envs.{part_structure}
 use Rattle.part_tlb.specs.Laws.{part_keeps}
-use Rattle.part_tlb.proofs.History.{part_penalty_is, part_after_stands}
+use Rattle.part_tlb.specs.Standing.{part_penalty_is, part_after_stands}
 use Rattle.part_tlb.proofs.part.PartEnvMachineEnv.access.Goals as goal
 
 pub returns-clause-cost : goal.returns-clause-cost

@@ -1,4 +1,4 @@
-use Rattle.part_tlb.proofs.History.{label_in, sets_same}
+use Rattle.part_tlb.specs.Standing.{label_in, sets_same}
 use Rattle.env_contract.specs.declared.place.Place.TheVariants.{Page, Code, Data}
 use Rattle.part_tlb.proofs.part.PartEnvMachineEnv.same.Goals as goal
 

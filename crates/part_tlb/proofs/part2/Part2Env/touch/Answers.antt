@@ -1,4 +1,4 @@
-use Rattle.part_tlb.proofs.History.{label_in}
+use Rattle.part_tlb.specs.Standing.{label_in}
 use Rattle.env_contract.specs.declared.place.Place.TheVariants.{Second}
 use Rattle.part_tlb.specs.Laws.{first_serves}
 use Rattle.part_tlb.proofs.part2.Part2Env.touch.Goals as goal

@@ -8,7 +8,7 @@ use Rattle.part_tlb.specs.Structures.{IsMadeFor, StandsForAll, warmed}
 use Rattle.part_tlb.specs.Envs.{part_structure, empty_part, part2_structure, part2_touched, empty_part2}
 use Rattle.part_tlb.specs.Keeps.{touch_serves}
 use Rattle.part_tlb.specs.Laws.{part2_moves}
-use Rattle.part_tlb.proofs.History.{warmed_stands, warm_step, part2_serves, part2_stands}
+use Rattle.part_tlb.specs.Standing.{warmed_stands, warm_step, part2_serves, part2_stands}
 use Rattle.part_tlb.proofs.part2.Part2Env.warm.Goals as goal
 
 pub loop-touch-init : goal.loop-touch-init

@@ -4,7 +4,7 @@ use Rattle.part_tlb.specs.Histories.{part2_history}
 use Rattle.part_tlb.specs.Structures.{IsMadeFor, StandsForAll}
 use Rattle.part_tlb.specs.Envs.{part2_structure}
 use Rattle.part_tlb.specs.Laws.{first_serves, part2_keeps}
-use Rattle.part_tlb.proofs.History.{label_in, part2_penalty_is, part2_after_stands}
+use Rattle.part_tlb.specs.Standing.{label_in, part2_penalty_is, part2_after_stands}
 use Rattle.part_tlb.proofs.part2.Part2EnvMachineEnv.access.Goals as goal
 
 pub look_up-hits-requires : goal.look_up-hits-requires

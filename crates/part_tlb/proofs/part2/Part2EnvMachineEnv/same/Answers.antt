@@ -1,4 +1,4 @@
-use Rattle.part_tlb.proofs.History.{label_in, sets_same}
+use Rattle.part_tlb.specs.Standing.{label_in, sets_same}
 use Rattle.env_contract.specs.declared.place.Place.TheVariants.{Second}
 use Rattle.part_tlb.specs.Laws.{first_serves}
 use Rattle.part_tlb.proofs.part2.Part2EnvMachineEnv.same.Goals as goal

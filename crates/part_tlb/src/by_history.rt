@@ -1,0 +1,89 @@
+//! Environments in which accesses cost what a look back into the history of touches says.
+
+ghost use Rattle.std.specs.List.{All};
+ghost use Rattle.std.specs.Prelude.{◌<◌, List};
+ghost use Rattle.label_lattice.specs.Order.{Order};
+ghost use Rattle.env_contract.specs.declared.place.Touch.{Touch};
+
+use crate::part::{MakePart, PartEnv};
+use crate::part2::{MakePart2, Part2Env};
+use env_contract::env::MachineEnv;
+use env_contract::flat::FlatEnv;
+use env_contract::make::{MakeEnv, MakeFlat};
+
+/// What the environments keep never shows: those that a maker makes do what histories alone do.
+pub trait ByHistory<E: MachineEnv>: MakeEnv<E> {
+    ghost use Rattle.env_contract.specs.Env.{Env};
+    ghost use Rattle.env_contract.specs.Alike.{DoesAs};
+    ghost use Rattle.part_tlb.specs.Histories.{Placed, history_of};
+
+    // What an access costs and what is held, where nothing is kept but the history.
+    ghost by_history: { Order → Env (List Placed) };
+
+    // The environment stands for the history.
+    ghost stands: { Order → E → List Placed → Type 0 };
+
+    // Where it does, an access costs what the history says, the environment after it stands for the longer history,
+    // and each part is what the history says is held.
+    ghost does: { (order : Order) → DoesAs E.env (by_history order) order.size (stands order) };
+
+    // The environment that touches make stands for the history of these touches.
+    ghost starts: { (order : Order) (touches : List Touch) → All (λ t. t.label.number < order.size) touches
+        → stands order (Self.made order touches) (history_of touches) };
+
+    // Only an environment that serves the lattice stands for a history.
+    ghost served: { (order : Order) (e : E) (h : List Placed) → stands order e h → E.serves order e };
+}
+
+impl ByHistory<FlatEnv> for MakeFlat {
+    ghost use Rattle.std.specs.Prelude.{refl};
+    ghost use Rattle.part_tlb.specs.Histories.{flat_by_history};
+
+    ghost by_history = { flat_by_history };
+
+    ghost stands = { λ order e h. Unit {0} };
+
+    ghost does = { λ order. record {
+      cost = λ k a er ew e h er_in ew_in s. refl;
+      next = λ k a er ew e h er_in ew_in s. tt;
+      part = λ q l e h lt s. refl;
+    } };
+
+    ghost starts = { λ order touches below. tt };
+
+    ghost served = { λ order e h s. tt };
+}
+
+impl ByHistory<PartEnv> for MakePart {
+    ghost use Rattle.part_tlb.specs.Histories.{part_by_history};
+    ghost use Rattle.part_tlb.specs.Structures.{Keeps};
+    ghost use Rattle.part_tlb.specs.Envs.{part_structure};
+    ghost use Rattle.part_tlb.specs.Alike.{one_level, one_start};
+
+    ghost by_history = { part_by_history };
+
+    ghost stands = { Keeps part_structure };
+
+    ghost does = { one_level };
+
+    ghost starts = { one_start };
+
+    ghost served = { λ order e h s. s.made };
+}
+
+impl ByHistory<Part2Env> for MakePart2 {
+    ghost use Rattle.part_tlb.specs.Histories.{part2_by_history};
+    ghost use Rattle.part_tlb.specs.Structures.{Keeps};
+    ghost use Rattle.part_tlb.specs.Envs.{part2_structure};
+    ghost use Rattle.part_tlb.specs.Alike.{two_levels, two_start};
+
+    ghost by_history = { part2_by_history };
+
+    ghost stands = { Keeps part2_structure };
+
+    ghost does = { two_levels };
+
+    ghost starts = { two_start };
+
+    ghost served = { λ order e h s. s.made };
+}
