@@ -35,7 +35,7 @@ pub record Printed {E : Type 0} (v : Env E) (limit : ℕ) (p : LabelledProgram) 
   pub rest : rest_of v limit old ≡ after_events events (rest_of v limit new)
   pub written : Appends taken taken' (lines_of p.program.declarations (shown p o events))
 
-visible-append : (lat : Lattice) (g : ℕ → ℕ) (o : ℕ) (es fs : List Event) → visible lat g o (es ++ fs) ≡ visible lat g o es ++ visible lat g o fs
+pub visible-append : (lat : Lattice) (g : ℕ → ℕ) (o : ℕ) (es fs : List Event) → visible lat g o (es ++ fs) ≡ visible lat g o es ++ visible lat g o fs
 visible-append lat g o [] fs = refl
 visible-append lat g o (Wrote x n c ∷ es) fs = go (lat.flows (g x) o) (visible-append lat g o es fs)
   where
@@ -105,7 +105,7 @@ shown_none : (p : LabelledProgram) (o : Option Label) → shown p o [] ≡ []
 shown_none p None = refl
 shown_none p (Some l) = refl
 
-prefix_then : (a b c : Option (List ℕ)) (xs ys zs all : List ℕ) → Appends a b xs → AppendsPrefix b c ys → xs ++ (ys ++ zs) ≡ all → AppendsPrefix a c all
+pub prefix_then : (a b c : Option (List ℕ)) (xs ys zs all : List ℕ) → Appends a b xs → AppendsPrefix b c ys → xs ++ (ys ++ zs) ≡ all → AppendsPrefix a c all
 prefix_then a b c xs ys zs all p q e =
     let k : ℕ = q.0 in
     let short : k ≤ length ys = q.1 in

@@ -1,13 +1,12 @@
 -- The chain that is told is one.
-use Rattle.std.proofs.Common.{◌≡◌, ℕ, zero, suc, ◌<◌, ◌≤◌, refl, sym, ap, ◌∙◌, subst, List, [], ◌∷◌, ◌++◌, length, arith, ⊎_elim, inr, length-append}
-use Rattle.std.specs.Prelude.{Contains, None, Some, slice_get}
-use Rattle.std.proofs.lemmas.Bool.{cases_lt, cases_eq}
+use Rattle.std.proofs.Common.{◌≡◌, ℕ, zero, suc, ◌<◌, ◌≤◌, refl, sym, ap, ◌∙◌, subst, List, [], ◌∷◌, ◌++◌, length, arith, ⊎_elim}
+use Rattle.std.specs.Prelude.{Contains, slice_get}
+use Rattle.std.proofs.lemmas.Bool.{cases_lt}
 use Rattle.std.proofs.lemmas.Option.{same_Some}
 use Rattle.mit_syntax.specs.Program.{Syntax}
 use Rattle.timing_types.specs.declared.rule.TypeFault.{TypeFault}
 use Rattle.flow_path.specs.declared.step.Step.{Step}
 use Rattle.flow_path.specs.Steps.{steps_of}
-use Rattle.flow_path.specs.Costs.{cost_of}
 use Rattle.flow_path.specs.Chains.{IsReason, CostsNoMore}
 use Rattle.flow_path.specs.Told.{StandsFirst, IsTold}
 use Rattle.flow_path.proofs.Chaining.{append_one}

@@ -1,7 +1,7 @@
 -- The first of the cheapest items of a list.
-use Rattle.std.proofs.Common.{◌≡◌, ℕ, zero, suc, ◌<◌, ◌≤◌, ◌+◌, refl, sym, ap, ◌∙◌, subst, List, [], ◌∷◌, ◌++◌, map, length, arith, append_assoc, append-nil}
+use Rattle.std.proofs.Common.{◌≡◌, ℕ, zero, suc, ◌<◌, ◌+◌, refl, sym, ap, ◌∙◌, subst, List, [], ◌∷◌, ◌++◌, map, length, arith, append_assoc, append-nil}
 use Rattle.std.proofs.Common.{⊎_elim, replicate, slice_set, length-set, get_or-set_same, get_or-set_other}
-use Rattle.std.specs.Prelude.{Option, None, Some, Contains, slice_get, slice_index_or}
+use Rattle.std.specs.Prelude.{Option, None, Some, Contains, slice_index_or}
 use Rattle.std.proofs.lemmas.Option.{none-some, same_Some}
 use Rattle.std.proofs.lemmas.Bool.{cases_eq}
 use Rattle.std.proofs.lemmas.List.{length-replicate}
@@ -10,18 +10,16 @@ use Rattle.flow_path.specs.declared.step.Part.{Part}
 use Rattle.flow_path.specs.declared.step.Step.{Step}
 use Rattle.flow_path.specs.declared.step.Spot.{Spot}
 use Rattle.text_base.specs.declared.pos.Pos.{Pos}
-use Rattle.label_lattice.specs.declared.label.Label.{Label}
 use Rattle.timing_types.specs.declared.rule.Rule.{Rule}
 use Rattle.mit_syntax.specs.Program.{Syntax}
-use Rattle.flow_path.specs.declared.step.Spot.TheVariants.{Variable, Command}
+use Rattle.flow_path.specs.declared.step.Spot.TheVariants.{Variable}
 use Rattle.flow_path.specs.declared.cost.Cost.{Cost}
 use Rattle.flow_path.specs.declared.target.Target.{Target}
 use Rattle.flow_path.specs.declared.best.Best.{Best}
 use Rattle.flow_path.specs.declared.sides.Found.{Found}
 use Rattle.flow_path.specs.declared.sides.Sides.{Sides}
-use Rattle.flow_path.specs.Steps.{to, to_write_label}
+use Rattle.flow_path.specs.Steps.{to}
 use Rattle.flow_path.specs.Costs.{IsLe, IsLess}
-use Rattle.flow_path.specs.Targets.{IsGoalBy}
 use Rattle.flow_path.specs.Distances.{IsFirst, HaveNone, cost_to, and_then, PartCosts, SideCosts, GoalCosts, IsBest, best_by, IsFound, AreSides}
 use Rattle.flow_path.proofs.Costing.{le_refl, le_trans, less_le, less_then}
 use Rattle.flow_path.proofs.Searching.{same_variable}

@@ -1,6 +1,6 @@
 -- Passes over commands, put together.
-use Rattle.std.proofs.Common.{◌≡◌, ℕ, refl, sym, ap, ◌∙◌, subst, List, [], ◌∷◌, ◌++◌, append_assoc, append-nil}
-use Rattle.std.specs.Prelude.{Option, None, Some}
+use Rattle.std.proofs.Common.{◌≡◌, ℕ, refl, sym, ap, ◌∙◌, subst, List, [], ◌++◌, append_assoc, append-nil}
+use Rattle.std.specs.Prelude.{Option, None}
 use Rattle.text_base.specs.declared.pos.Pos.{Pos}
 use Rattle.label_lattice.specs.declared.label.Label.{Label}
 use Rattle.mit_syntax.specs.Expression.{Expression}

@@ -1,8 +1,7 @@
 -- A chain of which each step is the first of the cheapest to where it leads.
-use Rattle.std.proofs.Common.{◌≡◌, ℕ, ◌+◌, ◌<◌, ◌≤◌, refl, sym, ap, ◌∙◌, subst, List, [], ◌∷◌, ◌++◌, length, arith, ⊎_elim, length-append}
+use Rattle.std.proofs.Common.{◌≡◌, ℕ, ◌+◌, ◌<◌, refl, sym, ap, ◌∙◌, subst, List, [], ◌∷◌, ◌++◌, length, arith, length-append}
 use Rattle.std.specs.Prelude.{Bool, true, false, cond, Option, None, Some, Contains, slice_index_or}
 use Rattle.std.proofs.lemmas.Option.{none-some, same_Some}
-use Rattle.std.proofs.lemmas.Bool.{cases_lt}
 use Rattle.mit_syntax.specs.Declarations.{variables}
 use Rattle.mit_syntax.specs.Program.{Syntax, plan_of}
 use Rattle.mit_syntax.specs.Valid.{IsValid}
@@ -15,19 +14,18 @@ use Rattle.flow_path.specs.declared.cost.Cost.{Cost}
 use Rattle.flow_path.specs.declared.target.Target.{Target}
 use Rattle.flow_path.specs.declared.sides.Found.{Found}
 use Rattle.flow_path.specs.declared.sides.Sides.{Sides}
-use Rattle.flow_path.specs.Chains.{is_faint, faint_in}
 use Rattle.flow_path.specs.Steps.{written, steps_of}
-use Rattle.flow_path.specs.Costs.{nothing_yet, add, cost_of, plus, IsLe, IsLess}
+use Rattle.flow_path.specs.Costs.{nothing_yet, add, cost_of, plus, IsLe}
 use Rattle.flow_path.specs.Targets.{IsGoalBy, is_high}
 use Rattle.flow_path.specs.Told.{StandsFirst}
 use Rattle.flow_path.specs.Search.{Where, Goes, BeginsAt, IsKnown}
-use Rattle.flow_path.specs.Distances.{IsFirst, HaveNone, start_cost, known_cost, cost_by, cost_to, and_then, PartCosts, SideCosts, GoalCosts, IsFound}
-use Rattle.flow_path.specs.Distances.{AreSides, AreSettled, IsPicked, StartsWritten, IsPickedOf}
+use Rattle.flow_path.specs.Distances.{IsFirst, cost_by, cost_to, and_then, PartCosts, SideCosts, GoalCosts, IsFound}
+use Rattle.flow_path.specs.Distances.{AreSettled, IsPicked, StartsWritten}
 use Rattle.flow_path.proofs.Base.{each_at}
 use Rattle.flow_path.proofs.Proper.{Own, IsOwn}
 use Rattle.flow_path.proofs.Found.{own}
 use Rattle.flow_path.proofs.Writings.{omitted_within}
-use Rattle.flow_path.proofs.Costing.{le_refl, le_is, le_trans, plus_le, plus_back, not_less, cost_is}
+use Rattle.flow_path.proofs.Costing.{le_is, le_trans, plus_le, plus_back, not_less, cost_is}
 use Rattle.flow_path.proofs.Chaining.{faint_append, append_one}
 use Rattle.flow_path.proofs.Settling.{first_in, step_from, found_first, found_some}
 

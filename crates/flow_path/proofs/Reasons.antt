@@ -1,6 +1,6 @@
 -- Reasons for a refusal are the chains that a search goes.
 use Rattle.std.proofs.Common.{◌≡◌, ℕ, refl, sym, ap, ◌∙◌, subst, List, [], ◌∷◌, ◌++◌}
-use Rattle.std.specs.Prelude.{Bool, true, false, not, Option, None, Some, Contains}
+use Rattle.std.specs.Prelude.{Bool, true, false, not, None, Some, Contains}
 use Rattle.std.proofs.lemmas.Bool.{both_ways}
 use Rattle.std.proofs.lemmas.Option.{none-some, same_Some}
 use Rattle.text_base.specs.declared.pos.Pos.{Pos}
@@ -17,7 +17,7 @@ use Rattle.flow_path.specs.declared.graph.Node.{Node}
 use Rattle.flow_path.specs.declared.graph.Condition.{Condition}
 use Rattle.flow_path.specs.declared.target.Target.TheVariants.{Broken}
 use Rattle.flow_path.specs.Steps.{written, steps_of}
-use Rattle.flow_path.specs.Chains.{Leads, IsWhy, last_step, GoesBy, GoesByOmitted, IsReason}
+use Rattle.flow_path.specs.Chains.{Leads, last_step, GoesBy, GoesByOmitted, IsReason}
 use Rattle.flow_path.specs.Targets.{IsGoalBy}
 use Rattle.flow_path.specs.Search.{Where, Goes, BeginsAt, IsKnown}
 use Rattle.flow_path.specs.Told.{IsTold}

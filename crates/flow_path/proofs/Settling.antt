@@ -1,10 +1,10 @@
 -- What each step of the search for the cheapest costs keeps.
-use Rattle.std.proofs.Common.{◌≡◌, ℕ, zero, suc, ◌+◌, ◌<◌, ◌≤◌, refl, sym, ap, ◌∙◌, subst, List, [], ◌∷◌, ◌++◌, map, length, arith, ⊎_elim, inl, inr, get_or}
+use Rattle.std.proofs.Common.{◌≡◌, ℕ, zero, suc, ◌+◌, ◌<◌, ◌≤◌, refl, sym, ap, ◌∙◌, subst, List, [], ◌∷◌, ◌++◌, length, arith, ⊎_elim, inl, inr, get_or}
 use Rattle.std.proofs.Common.{slice_set, length-append, length-set, get_or-set_same, get_or-set_other}
-use Rattle.std.specs.Prelude.{Bool, true, false, cond, Option, None, Some, IfSome, Contains, slice_get, slice_index_or, option_map, ◌⊎◌}
+use Rattle.std.specs.Prelude.{Bool, true, false, cond, Option, None, Some, IfSome, Contains, slice_index_or, option_map, ◌⊎◌}
 use Rattle.std.proofs.lemmas.Option.{none-some, same_Some}
 use Rattle.std.proofs.lemmas.Bool.{cases_lt, cases_eq}
-use Rattle.std.proofs.lemmas.List.Elements.{Contains-append_left, Contains-append_right}
+use Rattle.std.proofs.lemmas.List.Elements.{Contains-append_right}
 use Rattle.mit_syntax.specs.Declarations.{variables}
 use Rattle.mit_syntax.specs.Program.{Syntax}
 use Rattle.flow_path.specs.declared.step.How.{How}
@@ -16,16 +16,15 @@ use Rattle.flow_path.specs.declared.target.Target.{Target}
 use Rattle.flow_path.specs.declared.known.Known.{Known}
 use Rattle.flow_path.specs.declared.sides.Found.{Found}
 use Rattle.flow_path.specs.declared.sides.Sides.{Sides}
-use Rattle.flow_path.specs.Chains.{is_faint}
 use Rattle.flow_path.specs.Steps.{written, steps_of}
 use Rattle.flow_path.specs.Costs.{nothing_yet, add, IsLe, IsLess}
 use Rattle.flow_path.specs.Targets.{is_high}
-use Rattle.flow_path.specs.Distances.{IsFirst, HaveNone, start_cost, known_cost, cost_by, cost_to, and_then, PartCosts, SideCosts, count_none, IsKnownOf}
+use Rattle.flow_path.specs.Distances.{IsFirst, cost_by, cost_to, and_then, PartCosts, SideCosts, count_none, IsKnownOf}
 use Rattle.flow_path.specs.Distances.{AreFew, AreStarts, IsFound, AreSides, IsNew, IsNewAt, IsLeastNew, IsSetBy, IsDistance, AreSettled, Agrees}
 use Rattle.flow_path.proofs.Writings.{omitted_within}
 use Rattle.flow_path.proofs.Searching.{get_same}
 use Rattle.flow_path.proofs.Indexing.{get_before, get_end}
-use Rattle.flow_path.proofs.Costing.{le_refl, le_is, le_trans, le_more, less_le, faint_add, nothing_le, le_both, cost_is}
+use Rattle.flow_path.proofs.Costing.{le_is, le_trans, le_more, less_le, faint_add, nothing_le, le_both, cost_is}
 
 -- an item that the front of a list ends by is in it
 pub first_in : {A : Type 0} (xs before after : List A) (x : A) → xs ≡ before ++ (x ∷ after) → Contains xs x

@@ -2,7 +2,7 @@
 use Rattle.std.proofs.Common.{◌≡◌, ◌<◌, ◌≤◌, ℕ, zero, suc, ◌+◌, ◌-◌, List, [], ◌∷◌, refl, sym, ap, ◌∙◌, subst, ⊎_elim, All, arith}
 use Rattle.std.specs.Prelude.{Bool, true, false}
 use Rattle.std.proofs.lemmas.Bool.{cases_lt, both_ways}
-use Rattle.mit_syntax.specs.Todo.{Marks, Marked, Done, Skip, Assign, Put, Sleep, If, While, Mitigate, then_todo}
+use Rattle.mit_syntax.specs.Todo.{Marks, Marked, Done}
 use Rattle.mit_syntax.specs.Program.{plan_of}
 use Rattle.timing_types.specs.Labelled.{LabelledProgram, order_of, labels_of, bare_of}
 use Rattle.source_meaning.specs.Source.{Source, source_step, source_steps, source_start, HasEnded}
@@ -11,13 +11,12 @@ use Rattle.label_lattice.specs.Lattice.{Lattice}
 use Rattle.label_lattice.specs.Order.{Order}
 use Rattle.env_contract.specs.Env.{Env}
 use Rattle.env_contract.specs.declared.place.Touch.{Touch}
-use Rattle.label_code.specs.Machine.{Machine, at, step, steps, start}
-use Rattle.label_code.specs.declared.code.Work.TheVariants.{Halt}
+use Rattle.label_code.specs.Machine.{Machine, step, steps, start}
 use Rattle.label_code.specs.declared.code.Instr.{Instr}
 use Rattle.label_code.specs.Run.{Start}
 use Rattle.label_code.proofs.Leads.{stays, steps-add}
 use Rattle.label_code.proofs.Ticks.{Sane, ticks, steps_sane, steps_clock, runs_to}
-use Rattle.code_lower.specs.Layout.{Stands, size, IsImage}
+use Rattle.code_lower.specs.Layout.{IsImage}
 use Rattle.code_lower.specs.Lowered.{lowered}
 use Rattle.code_lower.proofs.Follow.{Meets, Goes, on, over}
 use Rattle.code_lower.proofs.Order.{next_of, starts_met}

@@ -14,7 +14,7 @@ use Rattle.flow_path.specs.Costs.{cost_of}
 use Rattle.flow_path.specs.Told.{IsTold}
 use Rattle.flow_path.proofs.Costing.{le_both}
 use Rattle.flow_path.proofs.Earliest.{told_one}
-use Rattle.tool_stages.specs.Stages.{Reads, HasNoType}
+use Rattle.tool_stages.specs.Stages.{HasNoType}
 use Rattle.tool_stages.specs.Content.{IsKnown}
 use Rattle.tool_stages.proofs.GoesLemmas.{one_told}
 use Rattle.lab_why.specs.Reasons.{HasReason, fault_of, refusal_text}

@@ -1,5 +1,5 @@
 -- Where a label comes from, as it is told.
-use Rattle.std.proofs.Common.{◌≡◌, ℕ, List, ◌++◌, Option, codes, inl, inr, refl, sym, ap, subst, ◌∙◌}
+use Rattle.std.proofs.Common.{◌≡◌, ℕ, List, ◌++◌, Option, codes, inl, inr, sym, ap, subst, ◌∙◌}
 use Rattle.label_lattice.specs.declared.label.Label.{Label}
 use Rattle.label_lattice.specs.Order.{Order, name_of}
 use Rattle.mit_syntax.specs.declared.token.Token.{Token}

@@ -1,5 +1,5 @@
 -- What a word names in a program.
-use Rattle.std.specs.Prelude.{◌≡◌, ◌<◌, ℕ, List, Option, None, Some, if◌then◌else◌, nat_lt, option_and_then}
+use Rattle.std.specs.Prelude.{◌<◌, ℕ, List, Option, None, Some, if◌then◌else◌, nat_lt, option_and_then}
 use Rattle.clap.specs.Lexer.{strip_byte}
 use Rattle.mit_syntax.specs.Declarations.{declared, variables}
 use Rattle.mit_syntax.specs.Plan.{mitigates}

@@ -50,7 +50,7 @@ map_length : (b : ℕ) (os : List (Option Label)) → length (map (first_of b) o
 map_length b [] = refl
 map_length b (o ∷ os) = ap suc (map_length b os)
 
-levels_below : (n : ℕ) (ds : List Declaration) (p : Plan) → AreKnown n ds p → Each (λ (o : Option Label). IsBelow n o) (written_levels p)
+pub levels_below : (n : ℕ) (ds : List Declaration) (p : Plan) → AreKnown n ds p → Each (λ (o : Option Label). IsBelow n o) (written_levels p)
 levels_below n ds Done k = tt
 levels_below n ds (Skip w p) k = levels_below n ds p k.1
 levels_below n ds (Assign w x e p) k = levels_below n ds p k.3
@@ -64,7 +64,7 @@ levels_below n ds (While w e c p) k =
 levels_below n ds (Mitigate w m l e c p) k =
     (k.1, all_both (λ (o : Option Label). IsBelow n o) (written_levels c) (written_levels p) (levels_below n ds c k.4) (levels_below n ds p k.5))
 
-each_at : (n : ℕ) (os : List (Option Label)) (x : ℕ) → Each (λ (o : Option Label). IsBelow n o) os → IsBelow n (get_or os x None)
+pub each_at : (n : ℕ) (os : List (Option Label)) (x : ℕ) → Each (λ (o : Option Label). IsBelow n o) os → IsBelow n (get_or os x None)
 each_at n [] x h = tt
 each_at n (o ∷ os) zero h = h.0
 each_at n (o ∷ os) (suc x) h = each_at n os x h.1

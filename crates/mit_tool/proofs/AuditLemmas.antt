@@ -1,18 +1,17 @@
 -- What audits tell, and what stops them.
-use Rattle.std.proofs.Common.{◌≡◌, ℕ, List, ◌++◌, Result, Some, IfOk, IfErr, inl, inr, refl, sym, subst}
+use Rattle.std.proofs.Common.{◌≡◌, ℕ, List, ◌++◌, Some, inl, inr, refl, subst}
 use Rattle.label_lattice.specs.declared.label.Label.{Label}
 use Rattle.timing_types.specs.Labelled.{LabelledProgram}
 use Rattle.start_file.specs.Starts.{StartValue}
 use Rattle.leak_audit.specs.declared.report.AuditReport.{AuditReport}
 use Rattle.cut_audit.specs.declared.report.CutReport.{CutReport}
-use Rattle.cut_audit.specs.declared.report.CutFault.{CutFault}
 use Rattle.tool_words.specs.declared.words.EnvName.{EnvName}
 use Rattle.tool_texts.specs.declared.status.Status.{Status}
 use Rattle.tool_texts.specs.declared.status.Status.TheVariants as status
 use Rattle.tool_texts.specs.declared.stop.Stop.{Stop}
 use Rattle.tool_texts.specs.Ends.{IsStop, status_of, stop_text}
 use Rattle.tool_texts.specs.Reports.{audit_lines, cut_lines}
-use Rattle.tool_stages.specs.Envs.{ReportsIn, CutReportsIn, CutFaultsIn}
+use Rattle.tool_stages.specs.Envs.{ReportsIn, CutReportsIn}
 use Rattle.audit_stage.specs.Audited.{AuditStops}
 use Rattle.mit_tool.specs.Audited.{HasAudited, CutStops, HasCut}
 use Rattle.tool_texts.proofs.EndLemmas.{broke_map}

@@ -14,11 +14,9 @@ use Rattle.mit_gen.specs.Made.{program_text, starts_text}
 use Rattle.made_laws.specs.MadeStarts.{made_starts}
 use Rattle.std.specs.Bool.{⊤}
 use Rattle.leak_audit.specs.Agreement.{starts_of}
-use Rattle.leak_audit.specs.declared.report.AuditFault.{AuditFault}
 use Rattle.leak_audit.specs.declared.report.AuditFault.TheVariants as fault
 use Rattle.cut_audit.specs.declared.report.CutFault.{CutFault}
 use Rattle.cut_audit.specs.declared.report.CutFault.TheVariants as cut_fault
-use Rattle.leak_audit.proofs.Once.{no_audit_fault}
 use Rattle.cut_audit.proofs.Once.{no_cut_fault}
 use Rattle.tool_words.specs.declared.words.EnvName.{EnvName}
 use Rattle.tool_words.specs.declared.words.EnvName.TheVariants.{Part}
@@ -29,7 +27,7 @@ use Rattle.tool_texts.specs.Reports.{audit_lines, cut_lines, made_lines}
 use Rattle.tool_texts.specs.Ends.{EndsBy}
 use Rattle.tool_stages.specs.Stages.{Then, ProgramStops, Reads, ObserverStops, Observes, TypeStops, Types, ImageStops, HasImage, StartStops, StartsAre}
 use Rattle.tool_stages.specs.Stages.{FirstStops, FirstStart, HoldsRuns, ReadyStops, CertificateStops, Rechecks}
-use Rattle.tool_stages.specs.Envs.{environment, AuditFaultsIn, CutFaultsIn, told_in, ReportsIn, CutReportsIn}
+use Rattle.tool_stages.specs.Envs.{environment, CutFaultsIn, told_in, ReportsIn, CutReportsIn}
 use Rattle.tool_stages.specs.Content.{Content, IsKnown}
 use Rattle.tool_stages.specs.Goes.{IsHalted, HaltsBy, CanCut, CanBeAudited, OfObserver}
 use Rattle.audit_stage.specs.Audited.{AuditStops}
@@ -41,7 +39,6 @@ use Rattle.mit_tool.specs.Complete.{AreKnown, NoneRises, CanGoOn, CanBeDone}
 use Rattle.tool_texts.proofs.EndLemmas.{ends_done}
 use Rattle.tool_stages.proofs.GoesLemmas.{then_goes, then_goes_from, program_goes, ready_goes, certificate_goes}
 use Rattle.tool_stages.proofs.OneLemmas.{one_program}
-use Rattle.tool_stages.proofs.AgreeLemmas.{all_halt}
 use Rattle.tool_stages.proofs.ChainLemmas.{compiles_go, first_done, first_file, lower_goes, no_other, one_other, prepared_done, second_file, starts_done}
 use Rattle.tool_stages.proofs.ChainLemmas.{typed_done}
 use Rattle.mit_tool.proofs.OneReport.{cut_stops}

@@ -1,9 +1,9 @@
 -- Which files a call has fetched at its end, and the pieces that it has written.
-use Rattle.std.proofs.Common.{◌≡◌, ◌≢◌, ◌⊎◌, ℕ, Bool, true, false, List, [], ◌∷◌, ◌++◌, Option, Some, None, Result, Ok, Err, Vec, Global, IfErr, OnOk}
+use Rattle.std.proofs.Common.{◌≡◌, ◌≢◌, ◌⊎◌, ℕ, true, false, List, [], ◌∷◌, ◌++◌, Option, Some, None, Result, Ok, Err, Vec, Global, IfErr, OnOk}
 use Rattle.std.proofs.Common.{IsErrAnd, length, ◌^◌, inl, inr, refl, sym, ap, ◌∙◌, subst}
 use Rattle.std.specs.List.{All}
 use Rattle.std.proofs.lemmas.List.Elements.{All-nil, All-cons, All-append}
-use Rattle.tim_base.specs.Logs.{Fetched, Offered, Grows, HasSent, HasBroken}
+use Rattle.tim_base.specs.Logs.{Fetched, Offered, HasSent, HasBroken}
 use Rattle.tim_base.proofs.LogLemmas.{Grows-nil, sent_nothing, sent_after, broken_after}
 use Rattle.label_lattice.specs.Names.{IsName}
 use Rattle.mit_syntax.specs.Declarations.{Declaration}
@@ -29,7 +29,7 @@ use Rattle.mit_tool.specs.Answers.{HasGenerated}
 use Rattle.mit_tool.specs.Means.{pieces_of_walk}
 use Rattle.tool_stages.specs.Begins.{RunStops, MeaningStops}
 use Rattle.tool_stages.specs.Content.{Content}
-use Rattle.tool_stages.specs.Fetches.{AreBegun, AreGiven, Fetches, is_read_fault}
+use Rattle.tool_stages.specs.Fetches.{AreBegun, Fetches, is_read_fault}
 use Rattle.tool_stages.proofs.FetchLemmas.{given_begun}
 use Rattle.mit_tool.specs.Logged.{HasFetched, HasWritten, AreLines, IsRunLine, IsMeaningLine, SentLines, BrokenLines, ArePieces}
 

@@ -1,5 +1,5 @@
 -- When a command can be done: what must be so that nothing but want of memory stops it.
-use Rattle.std.specs.Prelude.{◌≤◌, ◌≡◌, ◌^◌, ℕ, List, [], ◌∷◌, All, length, Option, Some, None}
+use Rattle.std.specs.Prelude.{◌≤◌, ◌≡◌, ◌^◌, ℕ, List, [], ◌∷◌, All, length, Some, None}
 use Rattle.std.specs.Bool.{⊤}
 use Rattle.tim_base.specs.Faults.{Rose}
 use Rattle.tim_base.specs.Told.{limit, IsTold}

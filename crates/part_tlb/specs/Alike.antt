@@ -12,8 +12,8 @@ use Rattle.part_tlb.specs.declared.part.PartEnv.{PartEnv}
 use Rattle.part_tlb.specs.declared.part2.Part2Env.{Part2Env}
 use Rattle.part_tlb.specs.Histories.{Placed, touches_at, history_of, part_by_history, part2_by_history}
 use Rattle.part_tlb.specs.Structures.{Keeps, part_at, warmed}
-use Rattle.part_tlb.specs.Envs.{part_structure, part_touched, part_penalty, part_after, empty_part, part2_structure, part2_touched, part2_penalty}
-use Rattle.part_tlb.specs.Envs.{part2_after, empty_part2, part_env, part2_env}
+use Rattle.part_tlb.specs.Envs.{part_structure, part_touched, empty_part, part2_structure, part2_touched}
+use Rattle.part_tlb.specs.Envs.{empty_part2, part_env, part2_env}
 use Rattle.part_tlb.specs.Laws.{part_moves, part2_moves, part_keeps, part2_keeps}
 use Rattle.part_tlb.specs.Standing.{warmed_serves, warmed_stands, part_penalty_is, part_after_stands, part2_penalty_is, part2_after_stands, part_serves}
 use Rattle.part_tlb.specs.Standing.{part_stands, part2_serves, part2_stands}

@@ -14,7 +14,7 @@ use Rattle.part_tlb.specs.declared.part.PartEnv.{PartEnv}
 use Rattle.part_tlb.specs.declared.part2.Part2Env.{Part2Env}
 use Rattle.part_tlb.specs.Histories.{line_place, line_cost, sets_at, ways_at}
 use Rattle.part_tlb.specs.Structures.{IsMadeFor, part_at}
-use Rattle.part_tlb.specs.Envs.{part_structure, line_cache, part_touched, part_penalty, part_after, part2_structure, part2_touched, part2_penalty}
+use Rattle.part_tlb.specs.Envs.{part_structure, line_cache, part_touched, part_penalty, part_after, part2_structure, part2_touched}
 use Rattle.part_tlb.specs.Envs.{part2_after, part_env, part2_env}
 use Rattle.part_tlb.specs.Keeps.{Moves, touches, leaves, touch_serves, touch_elsewhere, touch_agrees}
 

@@ -1,10 +1,10 @@
 -- One step, with what it told.
-use Rattle.std.proofs.Common.{◌≡◌, ℕ, ◌<◌, ◌≤◌, List, [], ◌∷◌, refl, sym, ap, ◌∙◌, Some, Option}
-use Rattle.std.specs.Prelude.{map, reverse, slice_get, true}
+use Rattle.std.proofs.Common.{◌≡◌, ℕ, [], ◌∷◌, sym, ap, ◌∙◌, Some}
+use Rattle.std.specs.Prelude.{map, reverse, slice_get}
 use Rattle.label_lattice.specs.Order.{Order}
 use Rattle.env_contract.specs.Env.{Env}
 use Rattle.label_code.specs.declared.code.Instr.{Instr}
-use Rattle.label_code.specs.Machine.{Wrote, Began, Ended, Machine, step, fetched, marks_of}
+use Rattle.label_code.specs.Machine.{Wrote, Began, Ended, step, fetched, marks_of}
 use Rattle.label_code.specs.Shaped.{Code}
 use Rattle.cycle_machine.specs.declared.state.State.{State}
 use Rattle.cycle_machine.specs.declared.state.Outcome.TheVariants.{Went as DidGo, Wrote as DidWrite, Began as DidBegin, Ended as DidEnd, Halted as DidHalt}
@@ -13,7 +13,6 @@ use Rattle.cycle_machine.specs.Seen.{seen, with_log, core_of, opened_of}
 use Rattle.cycle_machine.specs.Took.{Keeps, Stands}
 use Rattle.cycle_machine.proofs.Advance.{advance_is}
 use Rattle.cycle_machine.specs.declared.end.RunEnd.TheVariants.{Halted, Limit}
-use Rattle.run_timeline.specs.declared.moment.Moment.{Moment}
 use Rattle.run_timeline.specs.declared.moment.Moment.TheVariants.{Assigned, Begins, Ends}
 use Rattle.run_timeline.specs.declared.moment.Step.{Step}
 use Rattle.run_timeline.specs.declared.moment.Step.TheVariants.{Went, Told, Stopped}

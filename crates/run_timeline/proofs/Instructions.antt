@@ -1,33 +1,27 @@
 -- What instructions tell.
-use Rattle.std.proofs.Common.{◌≡◌, ℕ, zero, suc, ◌+◌, ◌-◌, ◌*◌, ◌<◌, ◌≤◌, List, [], ◌∷◌, ◌++◌, length, refl, sym, ap, ◌∙◌, subst, arith, get_or, Option, Some}
-use Rattle.std.proofs.Common.{None, ℤ}
+use Rattle.std.proofs.Common.{◌≡◌, ℕ, zero, suc, ◌+◌, ◌-◌, ◌*◌, ◌<◌, List, [], ◌∷◌, ◌++◌, length, refl, sym, ap, ◌∙◌, arith, get_or, Some}
+use Rattle.std.proofs.Common.{ℤ}
 use Rattle.std.specs.Prelude.{pos, map, reverse, slice_get, slice_index}
 use Rattle.std.proofs.lemmas.List.{reverse-append, get_or-reverse}
 use Rattle.std.proofs.lemmas.Option.{slice_get_within}
-use Rattle.mit_syntax.specs.Todo.{Marks}
-use Rattle.mit_syntax.specs.Values.{element}
 use Rattle.label_lattice.specs.declared.label.Label.{Label}
 use Rattle.env_contract.specs.Env.{Env}
 use Rattle.env_contract.specs.declared.place.Kind.TheVariants.{Code}
 use Rattle.doubling_schedule.specs.Doubling.{prediction, misses_after}
-use Rattle.label_code.specs.declared.code.Work.{Work}
-use Rattle.label_code.specs.declared.code.Work.TheVariants.{Push, Load, Store, LoadAt, StoreAt, Apply, Brz, Brnz, Jmp, Sleep, Mitb, Mite, Nop, Halt}
+use Rattle.label_code.specs.declared.code.Work.TheVariants.{Mitb}
 use Rattle.label_code.specs.declared.code.Instr.{Instr}
-use Rattle.label_code.specs.Machine.{Event, Wrote, Began, Ended, Opened, Core, Machine, act, first, rest, fetched, marks_of}
+use Rattle.label_code.specs.Machine.{Began, Core, first, fetched, marks_of}
 use Rattle.cycle_machine.specs.declared.state.State.{State}
 use Rattle.cycle_machine.specs.declared.state.Open.{Open}
-use Rattle.cycle_machine.specs.declared.state.Outcome.{Outcome}
-use Rattle.cycle_machine.specs.declared.state.Outcome.TheVariants.{Went as DidGo, Wrote as DidWrite, Began as DidBegin, Ended as DidEnd, Halted as DidHalt}
-use Rattle.cycle_machine.specs.declared.state.Outcome.TheVariants.{Late}
+use Rattle.cycle_machine.specs.declared.state.Outcome.TheVariants.{Began as DidBegin}
 use Rattle.cycle_machine.specs.Seen.{counts, opened_of, core_of}
 use Rattle.cycle_machine.specs.Took.{Took}
 use Rattle.cycle_machine.proofs.Close.{end_instr}
-use Rattle.cycle_machine.specs.declared.end.RunEnd.TheVariants.{Halted, Limit}
 use Rattle.run_timeline.specs.declared.moment.Moment.{Moment}
-use Rattle.run_timeline.specs.declared.moment.Moment.TheVariants.{Assigned, Begins, Ends}
-use Rattle.run_timeline.specs.declared.moment.Step.TheVariants.{Went, Told, Stopped}
-use Rattle.run_timeline.specs.Timeline.{telling, ending}
-use Rattle.run_timeline.specs.Steps.{IsPlain, Tells}
+use Rattle.run_timeline.specs.declared.moment.Moment.TheVariants.{Begins, Ends}
+use Rattle.run_timeline.specs.declared.moment.Step.TheVariants.{Told}
+use Rattle.run_timeline.specs.Timeline.{ending}
+use Rattle.run_timeline.specs.Steps.{Tells}
 
 first_of : (xs : List ℤ) → first xs ≡ get_or xs 0 (pos 0)
 first_of [] = refl

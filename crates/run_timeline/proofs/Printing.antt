@@ -1,9 +1,7 @@
 -- A timeline that is printed while its run goes on.
-use Rattle.std.proofs.Common.{◌≡◌, ℕ, ◌+◌, ◌<◌, ◌≤◌, List, [], ◌∷◌, ◌++◌, length, take, refl, sym, ap, ◌∙◌, subst, append_assoc, append-nil, arith, inl, inr}
-use Rattle.std.proofs.Math.Seq.{take-append-add}
-use Rattle.std.proofs.lemmas.List.{length-append, take-append-le}
+use Rattle.std.proofs.Common.{◌≡◌, ℕ, ◌+◌, ◌<◌, ◌≤◌, List, [], ◌∷◌, ◌++◌, sym, ap, ◌∙◌, subst, append_assoc, append-nil, arith, inl, inr}
 use Rattle.std.proofs.lemmas.List.Concat.{flat_map-append}
-use Rattle.std.specs.Prelude.{Option, true, map, flat_map}
+use Rattle.std.specs.Prelude.{Option, true}
 use Rattle.std.specs.Io.KnownBytes.{Appends}
 use Rattle.std.proofs.KnownBytes.{Appends-nil, Appends-trans}
 use Rattle.tim_base.specs.Sinks.{AppendsPrefix}
@@ -13,7 +11,7 @@ use Rattle.timing_types.specs.Labelled.{LabelledProgram}
 use Rattle.env_contract.specs.Env.{Env}
 use Rattle.label_code.specs.declared.code.Instr.{Instr}
 use Rattle.label_code.specs.Machine.{Machine, step, steps, start}
-use Rattle.label_code.specs.Run.{Start, run_from}
+use Rattle.label_code.specs.Run.{Start}
 use Rattle.label_code.proofs.Leads.{steps-add}
 use Rattle.label_code.proofs.Ticks.{covers}
 use Rattle.cycle_machine.specs.declared.state.State.{State}
@@ -32,23 +30,14 @@ use Rattle.label_code.specs.Shaped.{Code, IsShaped}
 use Rattle.cycle_machine.proofs.Wrote.{wrote_below}
 use Rattle.run_timeline.specs.Places.{places}
 use Rattle.run_timeline.specs.Timeline.{told, moments, event_of, IsTimeline}
-use Rattle.run_timeline.specs.Text.{moment_text, moments_text, timeline_text}
+use Rattle.run_timeline.specs.Text.{moment_text, moments_text}
+use Rattle.event_print.proofs.Printed.{prefix_then}
 use Rattle.run_timeline.specs.Summary.{AreTallies}
 use Rattle.run_timeline.specs.Tallied.{noted_moment, HaveRoom, Grown}
 use Rattle.run_timeline.specs.Printed.{Printed, PrintedPart, end_of_run}
 use Rattle.run_timeline.proofs.Follow.{Followed, follow_first, follow, late_is, halted_is}
 use Rattle.run_timeline.proofs.Told.{moments_add}
 use Rattle.run_timeline.proofs.Tallying.{tallied_more, grown_more, grown_quiet, grown_first}
-
-pub prefix_then : (a b c : Option (List ℕ)) (xs ys zs all : List ℕ) → Appends a b xs → AppendsPrefix b c ys → xs ++ (ys ++ zs) ≡ all → AppendsPrefix a c all
-prefix_then a b c xs ys zs all p q e =
-    let k : ℕ = q.0 in
-    let short : k ≤ length ys = q.1 in
-    let whole : length all ≡ length xs + (length ys + length zs) =
-    ap length (sym e) ∙ (length-append xs (ys ++ zs) ∙ ap (λ n. length xs + n) (length-append ys zs)) in
-    let taken : xs ++ take k ys ≡ take (length xs + k) all =
-    ap (λ z. xs ++ z) (sym (take-append-le k ys zs short)) ∙ sym (take-append-add xs (ys ++ zs) k) ∙ ap (take (length xs + k)) e in
-    (length xs + k, omega (arith, whole, short), subst (Appends a c) taken (Appends-trans a b c xs (take k ys) p q.2))
 
 -- an assignment of a step of shaped code is to one of its variables
 pub moment_below : {E : Type 0} (v : Env E) (c : Code) (s s' : State E) (m : Moment) → IsShaped c

@@ -1,5 +1,5 @@
 -- A summary that is written, a line at a time.
-use Rattle.std.proofs.Common.{◌≡◌, ℕ, ◌+◌, ◌<◌, ◌≤◌, List, [], ◌∷◌, ◌++◌, length, drop, get_or, refl, sym, ap, ◌∙◌, subst, append_assoc, append-nil, arith}
+use Rattle.std.proofs.Common.{◌≡◌, ℕ, ◌+◌, ◌<◌, ◌≤◌, List, [], ◌∷◌, ◌++◌, length, drop, get_or, refl, sym, ap, ◌∙◌, subst, append_assoc, append-nil}
 use Rattle.std.specs.Prelude.{Option}
 use Rattle.std.specs.Io.KnownBytes.{Appends}
 use Rattle.std.proofs.KnownBytes.{Appends-nil, Appends-trans}
@@ -8,7 +8,7 @@ use Rattle.tim_base.specs.Sinks.{AppendsPrefix}
 use Rattle.text_base.specs.declared.pos.Pos.{Pos}
 use Rattle.run_timeline.specs.declared.tally.Tally.{Tally}
 use Rattle.run_timeline.specs.Summary.{mitigate_text, tally_text, summary_from, summary_text}
-use Rattle.run_timeline.proofs.Printing.{prefix_then}
+use Rattle.event_print.proofs.Printed.{prefix_then}
 
 -- the lines of the first so many are written
 pub record Summed (ps : List Pos) (ts : List Tally) (a b : Option (List ℕ)) (i : ℕ) : Type 0 where

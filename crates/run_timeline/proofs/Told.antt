@@ -1,5 +1,5 @@
 -- What steps tell: it does not depend on the log before, it makes up the log, and a stopped run tells no more.
-use Rattle.std.proofs.Common.{◌≡◌, ℕ, zero, suc, ◌+◌, ◌<◌, ◌≤◌, List, [], ◌∷◌, ◌++◌, refl, sym, ap, ◌∙◌, append_assoc, append-nil, zero-add, arith}
+use Rattle.std.proofs.Common.{◌≡◌, ℕ, zero, suc, ◌+◌, List, [], ◌∷◌, ◌++◌, refl, sym, ap, ◌∙◌, append_assoc, append-nil, zero-add, arith}
 use Rattle.std.specs.Prelude.{Bool, true, false, cond, ℤ, Option, Some, None, map, slice_get}
 use Rattle.std.proofs.lemmas.List.{map-append}
 use Rattle.mit_syntax.specs.Todo.{Marks}

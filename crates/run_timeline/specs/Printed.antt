@@ -1,5 +1,5 @@
 -- What printing a run's timeline leaves.
-use Rattle.std.specs.Prelude.{◌≡◌, ℕ, List, ◌++◌, Option}
+use Rattle.std.specs.Prelude.{ℕ, List, ◌++◌, Option}
 use Rattle.std.specs.Io.KnownBytes.{Appends}
 use Rattle.tim_base.specs.Sinks.{AppendsPrefix}
 use Rattle.label_lattice.specs.declared.label.Label.{Label}

@@ -13,7 +13,6 @@ use Rattle.cycle_machine.specs.declared.state.Outcome.TheVariants.{Went as DidGo
 use Rattle.cycle_machine.specs.declared.state.Outcome.TheVariants.{Late}
 use Rattle.cycle_machine.specs.Seen.{seen, with_log, core_of, opened_of}
 use Rattle.cycle_machine.specs.Took.{Took, Stands}
-use Rattle.cycle_machine.specs.declared.end.RunEnd.{RunEnd}
 use Rattle.cycle_machine.specs.declared.end.RunEnd.TheVariants.{Halted, Limit}
 use Rattle.run_timeline.specs.declared.moment.Moment.{Moment}
 use Rattle.run_timeline.specs.declared.moment.Moment.TheVariants.{Assigned, Begins, Ends}

@@ -1,7 +1,6 @@
 -- A field that is written while its run goes on.
-use Rattle.std.proofs.Common.{◌≡◌, ℕ, ◌+◌, ◌≤◌, List, [], ◌∷◌, ◌++◌, length, take, refl, sym, ap, ◌∙◌, subst, append_assoc, append-nil, arith, ℤ}
-use Rattle.std.proofs.Math.Seq.{take-append-add}
-use Rattle.std.proofs.lemmas.List.{length-append, take-append-le, map-append}
+use Rattle.std.proofs.Common.{◌≡◌, ℕ, ◌+◌, List, [], ◌∷◌, ◌++◌, refl, sym, ap, ◌∙◌, subst, append_assoc, append-nil, ℤ}
+use Rattle.std.proofs.lemmas.List.{map-append}
 use Rattle.std.proofs.lemmas.List.Concat.{flat_map-append}
 use Rattle.std.specs.Prelude.{Option, Some, None, IfSome, Bool, true, false, cond, map, codes, All}
 use Rattle.std.proofs.lemmas.Bool.{cond-true}
@@ -9,11 +8,10 @@ use Rattle.std.specs.Io.KnownBytes.{Appends}
 use Rattle.std.proofs.KnownBytes.{Appends-nil, Appends-trans}
 use Rattle.tim_base.specs.Sinks.{AppendsPrefix}
 use Rattle.label_lattice.specs.declared.label.Label.{Label}
-use Rattle.label_lattice.specs.Lattice.{Lattice}
 use Rattle.mit_syntax.specs.Declarations.{variables}
 use Rattle.timing_types.specs.Labelled.{LabelledProgram, order_of, labels_of}
 use Rattle.env_contract.specs.Env.{Env}
-use Rattle.label_code.specs.Machine.{Event, Wrote, Began, Ended}
+use Rattle.label_code.specs.Machine.{Event, Wrote}
 use Rattle.label_code.specs.Visible.{visible}
 use Rattle.cycle_machine.specs.declared.turn.Turn.{Turn}
 use Rattle.cycle_machine.specs.declared.turn.Turn.TheVariants.{Event as AnEvent, Began as HasBegun, Ended as HasEnded, Halted as DidHalt, Limit as DidLimit}
@@ -25,19 +23,8 @@ use Rattle.cycle_machine.specs.Rest.{Told}
 use Rattle.cycle_machine.proofs.Goes.{after_events, next_turn, last_turn}
 use Rattle.event_print.specs.Text.{TellsShown}
 use Rattle.event_print.proofs.Listed.{IsShown, none_shown}
+use Rattle.event_print.proofs.Printed.{visible-append, prefix_then}
 use Rattle.seen_line.specs.Field.{item, item_of, spaced, field_of, seen_text, ArePrintable, lead, piece, next_none, is_last, IsPrintableTurn}
-
-visible-append : (lat : Lattice) (g : ℕ → ℕ) (o : ℕ) (es fs : List Event) → visible lat g o (es ++ fs) ≡ visible lat g o es ++ visible lat g o fs
-visible-append lat g o [] fs = refl
-visible-append lat g o (Wrote x n c ∷ es) fs = go (lat.flows (g x) o) (visible-append lat g o es fs)
-  where
-    go : (b : Bool) → visible lat g o (es ++ fs) ≡ visible lat g o es ++ visible lat g o fs →
-        cond b (Wrote x n c ∷ visible lat g o (es ++ fs)) (visible lat g o (es ++ fs)) ≡ cond b (Wrote x n c ∷ visible lat g o es) (visible lat g o es)
-        ++ visible lat g o fs
-    go true e = ap (λ z. Wrote x n c ∷ z) e
-    go false e = e
-visible-append lat g o (Began k c ∷ es) fs = visible-append lat g o es fs
-visible-append lat g o (Ended k c ∷ es) fs = visible-append lat g o es fs
 
 -- what is written so far: nothing, or pieces with spaces between
 abbrev pub part : List (List ℕ) → List ℕ
@@ -63,16 +50,6 @@ goes (w ∷ ws) us = (spaced us, append_assoc w (spaced ws) (spaced us) ∙ ap (
 part_last : (ws : List (List ℕ)) → field_of ws ≡ part ws ++ cond (is_nil ws) (codes "-") []
 part_last [] = refl
 part_last (w ∷ ws) = sym (append-nil (w ++ spaced ws))
-
-prefix_then : (a b c : Option (List ℕ)) (xs ys zs all : List ℕ) → Appends a b xs → AppendsPrefix b c ys → xs ++ (ys ++ zs) ≡ all → AppendsPrefix a c all
-prefix_then a b c xs ys zs all p q e =
-    let k : ℕ = q.0 in
-    let short : k ≤ length ys = q.1 in
-    let whole : length all ≡ length xs + (length ys + length zs) =
-    ap length (sym e) ∙ (length-append xs (ys ++ zs) ∙ ap (λ n. length xs + n) (length-append ys zs)) in
-    let taken : xs ++ take k ys ≡ take (length xs + k) all =
-    ap (λ z. xs ++ z) (sym (take-append-le k ys zs short)) ∙ sym (take-append-add xs (ys ++ zs) k) ∙ ap (take (length xs + k)) e in
-    (length xs + k, omega (arith, whole, short), subst (Appends a c) taken (Appends-trans a b c xs (take k ys) p q.2))
 
 printable-append : (k : ℕ) (es fs : List Event) → ArePrintable k es → ArePrintable k fs → ArePrintable k (es ++ fs)
 printable-append k [] fs p q = q

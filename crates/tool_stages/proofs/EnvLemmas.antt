@@ -5,7 +5,7 @@ use Rattle.label_lattice.specs.declared.label.Label.{Label}
 use Rattle.label_lattice.specs.Order.{Order}
 use Rattle.env_contract.specs.Env.{Env}
 use Rattle.env_contract.specs.declared.place.Touch.{Touch}
-use Rattle.label_code.specs.Run.{Start, run_from}
+use Rattle.label_code.specs.Run.{run_from}
 use Rattle.label_code.specs.Shaped.{Code, IsShaped}
 use Rattle.code_lower.specs.Lowered.{lowered}
 use Rattle.cycle_machine.specs.Rest.{told_by}

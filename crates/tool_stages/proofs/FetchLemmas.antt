@@ -1,9 +1,8 @@
 -- Fetches one after the other, and stops that are not read faults.
-use Rattle.std.proofs.Common.{◌≡◌, ℕ, Bool, true, false, List, [], ◌∷◌, ◌++◌, Option, Some, None, Result, Ok, Err, inl, inr, refl, sym, ap, ◌∙◌, subst}
-use Rattle.tim_base.specs.Told.{IsTold, IsTooLong}
-use Rattle.tim_base.specs.Logs.{Fetched, Grows}
-use Rattle.tim_base.specs.declared.shelf.FetchFault.{FetchFault}
-use Rattle.tim_base.proofs.LogLemmas.{Grows-trans, Grows-nil}
+use Rattle.std.proofs.Common.{◌≡◌, ℕ, Bool, false, List, [], ◌∷◌, ◌++◌, Option, Result, Ok, Err, inl, inr, refl, sym, ap, subst}
+use Rattle.tim_base.specs.Told.{IsTooLong}
+use Rattle.tim_base.specs.Logs.{Fetched}
+use Rattle.tim_base.proofs.LogLemmas.{Grows-trans}
 use Rattle.mit_syntax.specs.Program.{Syntax}
 use Rattle.tool_texts.specs.declared.status.Status.{Status}
 use Rattle.tool_texts.specs.declared.status.Status.TheVariants as status

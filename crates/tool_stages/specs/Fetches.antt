@@ -1,5 +1,5 @@
 -- Which files a stage fetches, and how that ends.
-use Rattle.std.specs.Prelude.{◌≡◌, ◌⊎◌, ◌++◌, ℕ, Bool, true, false, List, [], ◌∷◌, Option, Some, None, Result, Ok, Err}
+use Rattle.std.specs.Prelude.{◌≡◌, ◌⊎◌, ℕ, Bool, true, false, List, [], ◌∷◌, Option, Some, None, Result, Ok, Err}
 use Rattle.tim_base.specs.Told.{IsTooLong}
 use Rattle.tim_base.specs.Logs.{Fetched, Grows}
 use Rattle.tim_base.specs.declared.shelf.FetchFault.{FetchFault}

@@ -1,5 +1,5 @@
 -- Texts that are put together from a line for each item of a list.
-use Rattle.std.proofs.Common.{Vec, Global, ◌≡◌, refl, sym, ap, ◌∙◌, ℕ, ◌+◌, ◌^◌, ◌<◌, ◌≤◌, List, [], ◌∷◌, ◌++◌, length, drop, map, get_or, append_assoc, arith}
+use Rattle.std.proofs.Common.{Vec, Global, ◌≡◌, refl, sym, ap, ◌∙◌, ℕ, ◌+◌, ◌<◌, ◌≤◌, List, [], ◌∷◌, ◌++◌, length, drop, map, get_or, append_assoc, arith}
 use Rattle.std.proofs.lemmas.List.{append-nil, drop_more, drop_all}
 use Rattle.black_box.specs.declared.release.Releases.{Releases}
 use Rattle.black_box.specs.Files.{ready_lists}

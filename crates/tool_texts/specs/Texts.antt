@@ -1,5 +1,5 @@
 -- The lines that commands write.
-use Rattle.std.specs.Prelude.{ℕ, List, ◌++◌, codes, decimal, ◌≡◌, ◌≢◌, ◌⊎◌, ◌<◌, ◌≤◌, [], ◌∷◌, slice_get, ◌+◌, ◌*◌, Option, Some, None, ℤ}
+use Rattle.std.specs.Prelude.{ℕ, List, ◌++◌, codes, decimal, [], ◌∷◌, slice_get, ◌+◌, ◌*◌, Option, Some, None, ℤ}
 use Rattle.text_base.specs.declared.pos.Pos.{Pos}
 use Rattle.label_lattice.specs.declared.fault.LatticeFault.{LatticeFault}
 use Rattle.label_lattice.specs.declared.fault.LatticeFault.TheVariants as lattice

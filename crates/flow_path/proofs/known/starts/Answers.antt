@@ -1,4 +1,4 @@
-use Rattle.std.proofs.Common.{◌≡◌, ◌∙◌, ◌<◌, ◌+◌, [], sym, subst, length, ◌∷◌, ◌++◌, length-append, arith}
+use Rattle.std.proofs.Common.{◌≡◌, ◌<◌, ◌+◌, [], sym, subst, length, ◌∷◌, length-append, arith}
 use Rattle.std.specs.Prelude.{None, slice_index_or}
 use Rattle.flow_path.specs.declared.step.Spot.TheVariants.{Variable}
 use Rattle.flow_path.specs.Steps.{written}

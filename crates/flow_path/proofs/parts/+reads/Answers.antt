@@ -1,4 +1,4 @@
-use Rattle.std.proofs.Common.{◌++◌, ◌∷◌, [], ◌∙◌, ap, sym, subst}
+use Rattle.std.proofs.Common.{◌++◌, ◌∙◌, ap, sym, subst}
 use Rattle.mit_syntax.specs.Expression.{expression_of}
 use Rattle.flow_path.specs.declared.step.Spot.TheVariants.{Variable}
 use Rattle.flow_path.specs.Steps.{one, reads}

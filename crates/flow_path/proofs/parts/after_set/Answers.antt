@@ -1,4 +1,3 @@
-use Rattle.std.specs.Prelude.{[], ◌∷◌}
 use Rattle.mit_syntax.specs.Expression.{expression_of}
 use Rattle.flow_path.specs.declared.step.Spot.TheVariants.{Variable}
 use Rattle.flow_path.specs.declared.step.How.TheVariants.{AfterAssigning}

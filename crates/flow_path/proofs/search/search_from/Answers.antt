@@ -1,4 +1,4 @@
-use Rattle.std.proofs.Common.{◌≡◌, ◌∙◌, refl, ap, sym, subst, length, arith}
+use Rattle.std.proofs.Common.{◌∙◌, refl, ap, sym, subst, length, arith}
 use Rattle.std.specs.Prelude.{Contains}
 use Rattle.mit_syntax.specs.Declarations.{variables}
 use Rattle.mit_syntax.specs.Program.{Syntax}

@@ -1,5 +1,5 @@
 use Rattle.std.proofs.Common.{◌≡◌, ◌⊎◌, inr, refl}
-use Rattle.std.specs.Prelude.{ℕ, List, map, string_bytes, codes}
+use Rattle.std.specs.Prelude.{ℕ, List, map, string_bytes}
 use Rattle.tim_base.specs.Faults.{Rose}
 use Rattle.tool_words.specs.WordsAsked.{Asked, command_of}
 use Rattle.tool_words.specs.WordsViews.{asked_of}

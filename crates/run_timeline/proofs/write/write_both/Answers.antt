@@ -1,6 +1,6 @@
 use Rattle.std.proofs.Common.{◌++◌, ap, append-nil}
 use Rattle.std.specs.Prelude.{Result, Ok, Err, OnErr, []}
-use Rattle.run_timeline.proofs.Printing.{prefix_then}
+use Rattle.event_print.proofs.Printed.{prefix_then}
 use Rattle.run_timeline.proofs.write.write_both.Goals as goal
 
 on_err : {T E : Type 0} (r : Result T E) (P : Type 0) → P → OnErr r P

@@ -1,6 +1,5 @@
 use Rattle.std.proofs.Common.{sym, subst}
 use Rattle.tim_base.specs.Told.{IsTold}
-use Rattle.tool_stages.proofs.CertificateLemmas.{certificate_stop_of}
 use Rattle.std.proofs.Common.{refl}
 use Rattle.tim_base.specs.Faults.{Rose}
 use Rattle.tool_texts.specs.Texts.{certificate}

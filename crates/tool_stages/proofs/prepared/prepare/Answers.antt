@@ -6,7 +6,7 @@ use Rattle.tool_stages.proofs.PrepareLemmas.{names_some, compile_stops_audit, st
 use Rattle.tool_stages.proofs.StopLemmas.{rose_since}
 use Rattle.tool_stages.proofs.FetchLemmas.{fetch_then}
 use Rattle.tool_stages.proofs.EarlyLemmas.{compile_not_late}
-use Rattle.std.specs.Prelude.{[], ◌∷◌, Some, Ok, Err, Vec}
+use Rattle.std.specs.Prelude.{[], ◌∷◌, Some, Ok, Err}
 use Rattle.tool_stages.proofs.prepared.prepare.Goals as goal
 
 pub returns-in-Err-clause-stop : goal.returns-in-Err-clause-stop

@@ -1,6 +1,3 @@
-use Rattle.std.proofs.Common.{sym, subst}
-use Rattle.tim_base.specs.Told.{IsTold}
-use Rattle.tool_stages.proofs.StartLemmas.{start_stops}
 use Rattle.std.proofs.Common.{refl}
 use Rattle.tim_base.specs.Faults.{Rose}
 use Rattle.tool_texts.specs.Texts.{starts}

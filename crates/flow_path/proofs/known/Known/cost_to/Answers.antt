@@ -1,4 +1,4 @@
-use Rattle.std.proofs.Common.{rules, ◌≡◌, ◌<◌, length, get_or}
+use Rattle.std.proofs.Common.{rules, ◌<◌, length}
 use Rattle.flow_path.proofs.Settling.{few_at}
 use Rattle.flow_path.proofs.known.Known.cost_to.Goals as goal
 

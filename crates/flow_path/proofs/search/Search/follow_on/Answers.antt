@@ -1,9 +1,9 @@
 use Rattle.std.proofs.Common.{rules, ◌≡◌, ◌<◌, ◌∙◌, refl, ap, sym, subst, length, arith}
-use Rattle.std.specs.Prelude.{true, None, Some, Contains, slice_get}
+use Rattle.std.specs.Prelude.{true, Contains}
 use Rattle.flow_path.specs.declared.graph.Condition.{Condition}
 use Rattle.flow_path.specs.declared.step.Spot.TheVariants.{Variable}
 use Rattle.flow_path.specs.Steps.{written}
-use Rattle.flow_path.specs.Search.{state_of, is_at, IsSearch}
+use Rattle.flow_path.specs.Search.{state_of, is_at}
 use Rattle.flow_path.proofs.Costing.{le_is}
 use Rattle.flow_path.proofs.Searching.{seen_search, seen_same, reached_by, same_variable}
 use Rattle.flow_path.proofs.search.Search.follow_on.Goals as goal

@@ -1,12 +1,12 @@
-use Rattle.std.proofs.Common.{◌≡◌, ◌∙◌, refl, ap, sym, subst, ◌∷◌, [], ◌++◌, length}
-use Rattle.std.specs.Prelude.{true, false, Some, slice_get}
+use Rattle.std.proofs.Common.{◌≡◌, ◌∙◌, ap, sym, subst, length}
+use Rattle.std.specs.Prelude.{true, false, slice_get}
 use Rattle.std.proofs.lemmas.Bool.{both_ways}
 use Rattle.flow_path.specs.declared.step.Step.{Step}
 use Rattle.flow_path.specs.declared.search.Link.{Link}
 use Rattle.flow_path.specs.Chains.{is_faint}
 use Rattle.flow_path.specs.Costs.{add, IsLe}
 use Rattle.flow_path.specs.Targets.{leads_on}
-use Rattle.flow_path.specs.Search.{state_of, IsSearch, IsOffered, step_by}
+use Rattle.flow_path.specs.Search.{state_of, IsSearch, step_by}
 use Rattle.flow_path.proofs.Costing.{le_is, le_trans, le_more}
 use Rattle.flow_path.proofs.Nodes.{get_last}
 use Rattle.flow_path.proofs.Searching.{linked_search, item_link, link_last}

@@ -1,5 +1,5 @@
-use Rattle.std.proofs.Common.{rules, ◌≡◌, ◌<◌, ◌≤◌, ◌∙◌, ◌+◌, refl, ap, sym, subst, length, arith}
-use Rattle.std.specs.Prelude.{true, false, None, Some}
+use Rattle.std.proofs.Common.{rules, ◌<◌, ◌≤◌, ◌∙◌, ◌+◌, refl, ap, sym, subst, length, arith}
+use Rattle.std.specs.Prelude.{true, false}
 use Rattle.mit_syntax.specs.Declarations.{variables}
 use Rattle.mit_syntax.specs.Program.{Syntax}
 use Rattle.flow_path.specs.declared.search.Search.{Search}

@@ -1,5 +1,5 @@
-use Rattle.std.proofs.Common.{◌≡◌, ◌+◌, ◌-◌, ◌*◌, ◌≤◌, ℕ, List, length}
-use Rattle.flow_path.specs.Search.{Where, Stands, state_of, IsSet, IsReady, Grown}
+use Rattle.std.proofs.Common.{◌+◌, ◌-◌, ◌*◌, ◌≤◌, ℕ, List, length}
+use Rattle.flow_path.specs.Search.{Where, state_of, IsSet, IsReady}
 use Rattle.flow_path.proofs.search.Search.next_start.Given as goal
 
 abbrev pub invariant-loop-at : goal.invariant-loop-at

@@ -1,5 +1,5 @@
 use Rattle.std.proofs.Common.{rules, ◌≡◌, ◌<◌, ◌∙◌, refl, sym, subst, length}
-use Rattle.std.specs.Prelude.{None, slice_index_or}
+use Rattle.std.specs.Prelude.{None}
 use Rattle.std.proofs.lemmas.Option.{none-some}
 use Rattle.flow_path.specs.Distances.{IsFound, SideCosts}
 use Rattle.flow_path.proofs.Searching.{get_same}

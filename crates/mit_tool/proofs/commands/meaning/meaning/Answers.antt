@@ -1,5 +1,5 @@
 use Rattle.std.proofs.Common.{refl, inl, sym, subst}
-use Rattle.std.specs.Prelude.{ℕ, List, option_map, ◌∷◌, Ok, codes}
+use Rattle.std.specs.Prelude.{ℕ, List, option_map, ◌∷◌, Ok}
 use Rattle.tim_base.specs.Faults.{Rose}
 use Rattle.start_file.specs.Starts.{seen}
 use Rattle.tool_words.specs.WordsAsked.{meaning}

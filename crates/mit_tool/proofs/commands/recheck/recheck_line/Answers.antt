@@ -1,5 +1,5 @@
-use Rattle.std.proofs.Common.{ap, inr, refl, subst, ◌∙◌, sym}
-use Rattle.std.specs.Prelude.{ℕ, List, Option, [], ◌∷◌, Result, Ok, Err}
+use Rattle.std.proofs.Common.{ap, inr, refl, subst, ◌∙◌}
+use Rattle.std.specs.Prelude.{ℕ, List, Option, [], ◌∷◌, Ok, Err}
 use Rattle.tim_base.specs.Faults.{Rose}
 use Rattle.tool_words.specs.WordsAsked.{recheck}
 use Rattle.tool_texts.specs.Texts.{rechecked_line}
@@ -9,8 +9,6 @@ use Rattle.mit_tool.specs.Answers.{IsAnswer}
 use Rattle.tool_stages.proofs.StopLemmas.{rose_since}
 use Rattle.mit_tool.proofs.StopLemmas.{handed_on, later_certificate_stops}
 use Rattle.tool_stages.proofs.FetchLemmas.{fetch_then}
-use Rattle.tool_texts.specs.declared.stop.Stop.{Stop}
-use Rattle.tool_stages.specs.Fetches.{Fetches}
 use Rattle.mit_tool.proofs.LoggedLemmas.{fetched_on}
 use Rattle.mit_tool.proofs.commands.recheck.recheck_line.Goals as goal
 
