@@ -3,3 +3,4 @@ pub mod Took
 pub mod Turned
 pub mod Reached
 pub mod Rest
+pub mod Stages

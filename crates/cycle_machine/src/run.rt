@@ -3,6 +3,7 @@
 ghost use Rattle.std.specs.Prelude.{◌≡◌, ◌≤◌, None, MatchOption, length, vec_len};
 ghost use Rattle.cycle_machine.specs.Took.{Stands, Stepped};
 ghost use Rattle.cycle_machine.specs.Turned.{Turned, WentOn, is_shown_in, stops};
+ghost use Rattle.cycle_machine.specs.Stages.{last_of_stage};
 
 use crate::state::{Outcome, State};
 use crate::turn::Turn;
@@ -48,14 +49,16 @@ fn is_shown(shown: &[bool], variable: u32) -> bool
 
 // The last cycle of a stage, of 2^24 cycles, in which a clock stands.
 fn last_of_stage(clock: u64) -> u64
-    ensures { clock ≤ result }
+    ensures value { result ≡ last_of_stage clock }
+    ensures later { clock ≤ result }
 {
     (clock - clock % 16_777_216).saturating_add(16_777_215)
 }
 
 // Tells a watch how far a turn has come, and answers the last cycle of the stage in which it stands.
 fn tell_stage<W: Watch>(clock: u64, limit: u64, watch: &Watched<'_, W>) -> u64
-    ensures { clock ≤ result }
+    ensures value { result ≡ last_of_stage clock }
+    ensures later { clock ≤ result }
 {
     watch.tell(clock, limit);
     last_of_stage(clock)

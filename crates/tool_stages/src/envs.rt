@@ -6,13 +6,12 @@ ghost use Rattle.tool_stages.specs.Envs.{environment};
 
 use env_contract::env::MachineEnv;
 use env_contract::flat::FlatEnv;
-use part_tlb::by_history::ByHistory;
-use part_tlb::part::PartEnv;
-use part_tlb::part2::Part2Env;
-
 pub use env_contract::make::MakeFlat;
+use part_tlb::by_history::ByHistory;
 pub use part_tlb::part::MakePart;
+use part_tlb::part::PartEnv;
 pub use part_tlb::part2::MakePart2;
+use part_tlb::part2::Part2Env;
 pub use tool_words::words::EnvName;
 
 /// A maker of the environment that a name means.

@@ -6,6 +6,7 @@ ghost use Rattle.tim_base.specs.Faults.{Rose};
 ghost use Rattle.label_lattice.specs.declared.label.Label.{Label};
 ghost use Rattle.timing_types.specs.Labelled.{LabelledProgram};
 ghost use Rattle.start_file.specs.Starts.{StartValue, seen};
+ghost use Rattle.tool_words.specs.declared.words.EnvName.{EnvName};
 ghost use Rattle.tool_words.specs.WordsAsked.{IsCycles, cut};
 ghost use Rattle.tool_texts.specs.Ends.{IsStop, status_of};
 ghost use Rattle.tool_stages.specs.Envs.{CutReportsIn, CutFaultsIn};

@@ -1,4 +1,4 @@
-ghost use Rattle.std.specs.Prelude.{◌≡◌, ℕ, ◌-◌, ◌<◌, ◌≤◌, List, [], length, drop, vec_len, vec_capacity, IfOk, IfErr, OnOk, OnErr, None, Option};
+ghost use Rattle.std.specs.Prelude.{◌≡◌, ℕ, ◌+◌, ◌-◌, ◌++◌, ◌<◌, Ok, is_err, false, ◌≤◌, List, [], length, drop, vec_len, vec_capacity, IfOk, IfErr, OnOk, OnErr, None, Option};
 ghost use Rattle.std.specs.Io.KnownBytes.{Keeps, WriteAppends, append_known};
 ghost use Rattle.tim_base.specs.Faults.{Rose};
 ghost use Rattle.tim_base.specs.Sinks.{Grew, Waits};
@@ -38,7 +38,7 @@ impl<W: Sink, B: Start> Model for Buffered<W, B> {
 
     ghost Value = { Waits };
 
-    ghost view = { λ s. record { sent = W.taken s.out; waiting = s.waiting.items; faults = W.faults s.out } };
+    ghost view = { λ s. record { sent = W.taken s.out; waiting = s.waiting.items; faults = W.faults s.out; room = s.room } };
 
     ghost invariant = { λ s. (s.room ≤ vec_capacity s.waiting) × (vec_len s.waiting ≤ s.room) × Grew B.start (W.taken s.out) };
 }
@@ -47,7 +47,7 @@ impl<W: Sink, B: Start> Buffered<W, B> {
     /// A buffer with room for so many bytes, whose memory is taken here. Where there is none, the sink is given back.
     pub fn new(alloc: Global, out: W, room: usize) -> Result<Buffered<W, B>, W>
         requires { B.start ≡ W.taken out }
-        ensures ok { IfOk result (λ b. b ≡ record { sent = W.taken out; waiting = []; faults = W.faults out }) }
+        ensures ok { IfOk result (λ b. b ≡ record { sent = W.taken out; waiting = []; faults = W.faults out; room = room }) }
         ensures err { IfErr result (λ w. w ≡ out) }
     {
         match Vec::with_capacity(alloc, room) {
@@ -101,7 +101,18 @@ impl<W: Sink, B: Start> Sink for Buffered<W, B> {
 
     ghost log = { λ _. None };
 
-    fn write(&mut self, piece: &[u8]) -> Result<usize, SinkFault> {
+    fn write(&mut self, piece: &[u8]) -> Result<usize, SinkFault>
+        ensures bound { IfOk result (λ n. n ≤ length piece.now) }
+        ensures some { IfOk result (λ n. 0 < length piece.now → 0 < n) }
+        ensures appended { WriteAppends (append_known self.old.sent self.old.waiting) (append_known self.new.sent self.new.waiting) result piece.now }
+        ensures later { self.old.faults ≤ self.new.faults }
+        ensures fault { OnErr result (Rose self.old.faults self.new.faults) }
+
+        // A piece that fits beside what waits, waits, and the sink is handed nothing.
+        ensures waits { length self.old.waiting + length piece.now ≤ self.old.room
+            → (result ≡ Ok (length piece.now)) × (self.new ≡ record self.old { waiting = self.old.waiting ++ piece.now }) }
+        ensures room { self.new.room ≡ self.old.room }
+    {
         put(&mut self.out, &mut self.waiting, self.room, piece)
     }
 }
@@ -148,6 +159,7 @@ fn make_room<W: Sink>(
     ensures capacity { vec_capacity waiting.new ≡ vec_capacity waiting.old }
     ensures later { W.faults out.old ≤ W.faults out.new }
     ensures fault { OnErr result (Rose (W.faults out.old) (W.faults out.new)) }
+    ensures fits { piece ≤ room - vec_len waiting.old → (is_err result ≡ false) × (out.new ≡ out.old) × (waiting.new ≡ waiting.old) }
 {
     if piece > room - waiting.len() {
         return hand_on(out, waiting);
@@ -172,6 +184,8 @@ fn put<W: Sink>(
     ensures capacity { room ≤ vec_capacity waiting.new }
     ensures later { W.faults out.old ≤ W.faults out.new }
     ensures fault { OnErr result (Rose (W.faults out.old) (W.faults out.new)) }
+    ensures waits { vec_len waiting.old + length piece.now ≤ room
+        → (result ≡ Ok (length piece.now)) × (out.new ≡ out.old) × (waiting.new.items ≡ waiting.old.items ++ piece.now) }
 {
     make_room(out, waiting, room, piece.len())?;
     if piece.len() > room - waiting.len() {

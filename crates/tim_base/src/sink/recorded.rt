@@ -1,6 +1,6 @@
 ghost use Rattle.std.specs.Prelude.{◌≡◌, ◌⊎◌, ◌<◌, ◌≤◌, ◌++◌, ◌∷◌, [], length, map, true, false, Some, OnOk, OnErr, IfOk};
 ghost use Rattle.std.specs.Io.KnownBytes.{WriteAppends};
-ghost use Rattle.tim_base.specs.Faults.{Rose};
+ghost use Rattle.tim_base.specs.Faults.{Rose, raised};
 ghost use Rattle.tim_base.specs.Logs.{offered, Grows};
 ghost use Rattle.tim_base.specs.Recorded.{offer_of, tried, taken_by, told_if};
 
@@ -94,7 +94,9 @@ impl Sink for RecordedSink {
 
         // A piece is taken whole, and what is not taken came too late or could not be recorded.
         ensures ok { OnOk result (self.new ≡ record self.old { writes = self.old.writes ++ tried piece.now true ∷ [] }) }
-        ensures err { OnErr result ((self.old.most ≤ length self.old.writes) ⊎ (self.new.whole ≡ false)) }
+        ensures err { OnErr result (((self.old.most ≤ length self.old.writes)
+            × (self.new ≡ record self.old { writes = self.old.writes ++ tried piece.now false ∷ []; faults = raised self.old.faults }))
+            ⊎ (self.new ≡ record self.old { whole = false; faults = raised self.old.faults })) }
     {
         let taken = self.writes.len() < self.most;
         let kept = record(&mut self.writes, self.alloc, piece, taken);

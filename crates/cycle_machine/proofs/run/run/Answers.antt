@@ -11,5 +11,5 @@ run-preserved g c = (
   c.in_default.ensures.stands,
   quiet_then g.E.MachineEnv.env c.args.image.now.instrs c.args.shown.now c.args.limit c.args.state.now c.run.state c.run_stage.new.state
       c.run.invariant.1 c.in_default.ensures.quiet,
-  c.tell_stage-last.ensures,
+  c.tell_stage-last.ensures.later,
 )

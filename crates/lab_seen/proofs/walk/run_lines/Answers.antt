@@ -65,6 +65,6 @@ loop-i-preserved g c =
           (g.W.Sink.taken c.run_line.new.out) c.loop-i.invariant.written
           (subst (λ (z : Told). Appends (g.W.Sink.taken c.loop-i.out) (g.W.Sink.taken c.run_line.new.out)
           (line_text q c.args.p.now.observer (c.loop-i.i + 1) z)) (named_told g.E.MachineEnv.env g.M.MakeEnv.made c.args.setting.env g.M.NamedEnv.name c.requires.named q c.args.p.now.compiled.image
-    c.laws.ensures.shaped c.named_tell_as_histories.ensures.runs c.requires.fit.image (seen x) fits c.args.setting.budget) c.in-Ok.ensures.text);
+          c.laws.ensures.shaped c.named_tell_as_histories.ensures.runs c.requires.fit.image (seen x) fits c.args.setting.budget) c.in-Ok.ensures.text);
       later = up_to _ _ _ c.loop-i.invariant.later c.run_line.ensures.later;
     }

@@ -74,7 +74,7 @@ loop-i-preserved g c =
           (seen x) (within c.as_slice-starts.result.now items c.loop-i.i same lt)
           (from_here c.as_slice-starts.result.now items c.loop-i.i x same lt c.index-starts-i.is) v (start_of g.M.MakeEnv.made q.program.order (seen x))
           (named_timed v g.M.MakeEnv.made c.args.setting.env g.M.NamedEnv.name c.requires.named q c.args.p.now.compiled.image c.laws.ensures.shaped
-    c.requires.fit.image c.named_tell_as_histories.ensures.runs c.timelines_are_the_same.ensures (seen x) fits c.args.setting.budget)
+          c.requires.fit.image c.named_tell_as_histories.ensures.runs c.timelines_are_the_same.ensures (seen x) fits c.args.setting.budget)
           (g.W.Sink.taken c.args.out.now) (g.W.Sink.taken c.loop-i.out) (g.W.Sink.taken c.write_run.new.out) c.loop-i.listing.tallies.items
           c.write_run.new.listing.tallies.items c.loop-i.invariant.walking c.in-Ok.ensures.written c.write_run.ensures.grown c.requires.cycles.1;
       places = c.write_run.ensures.places ∙ c.loop-i.invariant.places;
