@@ -3,14 +3,16 @@
 ghost use Rattle.std.specs.Prelude.{◌≡◌, ◌≢◌, ◌≤◌, ◌<◌, ◌∷◌, IfSome, option_map, IsTrue};
 ghost use Rattle.tim_base.specs.Kept.{KeepsFiles, NoCountFalls};
 ghost use Rattle.tim_base.specs.Faults.{Rose};
+ghost use Rattle.label_code.specs.Run.{run_from};
 ghost use Rattle.start_file.specs.Starts.{seen, IsFor};
+ghost use Rattle.cycle_machine.specs.Rest.{told_by};
 ghost use Rattle.tool_words.specs.WordsAsked.{run};
 ghost use Rattle.tool_texts.specs.Ends.{EndsBy, Nothing};
 ghost use Rattle.tool_stages.specs.Stages.{HasImage};
 ghost use Rattle.tool_stages.specs.Accepted.{is_past_typing, IsAccepted};
 ghost use Rattle.tool_stages.specs.Fetches.{named};
 ghost use Rattle.mit_tool.specs.Logged.{HasFetched, HasWritten, AreLines, IsRunLine};
-ghost use Rattle.mit_tool.specs.Answers.{IsAnswer, HasRun};
+ghost use Rattle.mit_tool.specs.Answers.{IsAnswer, HasTold, HasRun};
 
 use cycle_machine::end::RunEnd;
 use cycle_machine::machine::Machine;
@@ -30,8 +32,49 @@ use tool_stages::started::ready;
 use tool_texts::finish::{finish, stop};
 use tool_texts::status::Status;
 
+// Runs a program in the environment that a maker makes.
+fn run_in<E: MachineEnv + Drop, M: MakeEnv<E>, W: Sink>(
+    alloc: Global,
+    maker: &M,
+    program: &Compiled,
+    start: Start,
+    budget: u64,
+    out: &mut W,
+) -> Status
+    requires image { HasImage program.now.typed.labelled program.now.image }
+    requires start { IsFor program.now.typed.labelled.program (seen start) }
+    requires observer { IfSome program.now.observer (λ o. o.number < program.now.typed.labelled.program.order.size) }
+    ensures ended { EndsBy (W.taken out.old) (W.taken out.new) Nothing (HasTold program.now.typed.labelled program.now.observer
+        (told_by (run_from E.env program.now.image.instrs budget
+        (record { memory = start.memory.items; env = M.made program.now.typed.labelled.program.order start.touches.items })))) result }
+    ensures later { W.faults out.old ≤ W.faults out.new }
+    ensures fault { result ≡ Status.WriteFault → Rose (W.faults out.old) (W.faults out.new) }
+    ensures pieces { HasWritten (AreLines IsRunLine) result (W.log out.old) (W.log out.new) }
+    ensures unread { result ≢ Status.ReadFault }
+{
+    let Compiled {
+        typed,
+        image,
+        observer,
+    } = program;
+    let source = typed.labelled().program();
+    source.laws();
+    let lattice = source.lattice();
+    let Ok(env) = maker.make(alloc, lattice, start.touches.as_slice()) else {
+        return finish(out, b"memory\n", Status::Memory);
+    };
+    let Ok(mut machine) = Machine::load(alloc, image, start.memory, env) else {
+        return finish(out, b"memory\n", Status::Memory);
+    };
+    match print_run(&mut machine, typed, *observer, budget, out) {
+        Ok(RunEnd::Halted(_)) => Status::Done,
+        Ok(RunEnd::Limit(_)) => Status::Budget,
+        Err(_) => Status::WriteFault,
+    }
+}
+
 // Runs a program in the environment that a maker makes, which has the name.
-fn run_in<E: MachineEnv + Drop, M: NamedEnv<E>, W: Sink>(
+fn run_as<E: MachineEnv + Drop, M: NamedEnv<E>, W: Sink>(
     alloc: Global,
     maker: &M,
     program: &Compiled,
@@ -50,27 +93,9 @@ fn run_in<E: MachineEnv + Drop, M: NamedEnv<E>, W: Sink>(
     ensures pieces { HasWritten (AreLines IsRunLine) result (W.log out.old) (W.log out.new) }
     ensures unread { result ≢ Status.ReadFault }
 {
-    let Compiled {
-        typed,
-        image,
-        observer,
-    } = program;
-    image.laws();
+    program.image.laws();
     named_tell_as_histories::<E, M>();
-    let source = typed.labelled().program();
-    source.laws();
-    let lattice = source.lattice();
-    let Ok(env) = maker.make(alloc, lattice, start.touches.as_slice()) else {
-        return finish(out, b"memory\n", Status::Memory);
-    };
-    let Ok(mut machine) = Machine::load(alloc, image, start.memory, env) else {
-        return finish(out, b"memory\n", Status::Memory);
-    };
-    match print_run(&mut machine, typed, *observer, setting.budget, out) {
-        Ok(RunEnd::Halted(_)) => Status::Done,
-        Ok(RunEnd::Limit(_)) => Status::Budget,
-        Err(_) => Status::WriteFault,
-    }
+    run_in(alloc, maker, program, start, setting.budget, out)
 }
 
 // Runs a program in the environment of a name.
@@ -91,7 +116,7 @@ fn run_named<W: Sink>(
     ensures pieces { HasWritten (AreLines IsRunLine) result (W.log out.old) (W.log out.new) }
     ensures unread { result ≢ Status.ReadFault }
 {
-    in_env!(setting.env, maker => run_in(alloc, maker, program, start, setting, out))
+    in_env!(setting.env, maker => run_as(alloc, maker, program, start, setting, out))
 }
 
 /// Runs the program of a file from the first start of another one, or from zeros.

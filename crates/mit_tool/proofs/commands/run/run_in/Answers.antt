@@ -1,11 +1,10 @@
 use Rattle.std.proofs.Common.{refl, ap, subst, ◌∙◌}
 use Rattle.env_contract.specs.Env.{Env}
 use Rattle.tim_base.specs.Sinks.{AppendsPrefix}
+use Rattle.label_code.specs.Run.{run_from}
 use Rattle.event_print.specs.Text.{text_of}
 use Rattle.cycle_machine.specs.Rest.{Told}
-use Rattle.start_file.specs.Starts.{seen}
-use Rattle.tool_stages.specs.Envs.{told_in}
-use Rattle.tool_stages.proofs.EnvLemmas.{named_told}
+use Rattle.cycle_machine.specs.Rest.{told_by}
 use Rattle.tool_texts.specs.Ends.{Nothing}
 use Rattle.mit_tool.specs.Answers.{HasTold, status_at}
 use Rattle.tool_texts.proofs.EndLemmas.{ends_memory}
@@ -20,15 +19,25 @@ use Rattle.mit_tool.proofs.commands.run.run_in.Goals as goal
 
 pub returns-in_default-clause-ended : goal.returns-in_default-clause-ended
 returns-in_default-clause-ended g c =
+    let v : Env g.row.E.Denot = g.E.MachineEnv.env in
     let q = c.args.program.now.typed.labelled in
-    let told : Told = told_in c.args.setting.env q.program.order c.args.program.now.image (seen c.args.start) c.args.setting.budget in
+    let told : Told = told_by (run_from v c.args.program.now.image.instrs c.args.budget (record {
+      memory = c.args.start.memory.items;
+      env =
+          g.M.MakeEnv.made q.program.order c.args.start.touches.items;
+    })) in
     ends_memory (g.W.Sink.taken c.args.out.now) (g.W.Sink.taken c.finish.new.out) Nothing (HasTold q c.args.program.now.observer told) c.finish.result refl
     c.finish.ensures.told c.finish.ensures.prefix
 
 pub returns-in_default-load-clause-ended : goal.returns-in_default-load-clause-ended
 returns-in_default-load-clause-ended g c =
+    let v : Env g.row.E.Denot = g.E.MachineEnv.env in
     let q = c.args.program.now.typed.labelled in
-    let told : Told = told_in c.args.setting.env q.program.order c.args.program.now.image (seen c.args.start) c.args.setting.budget in
+    let told : Told = told_by (run_from v c.args.program.now.image.instrs c.args.budget (record {
+      memory = c.args.start.memory.items;
+      env =
+          g.M.MakeEnv.made q.program.order c.args.start.touches.items;
+    })) in
     ends_memory (g.W.Sink.taken c.args.out.now) (g.W.Sink.taken c.finish-in_default-load.new.out) Nothing (HasTold q c.args.program.now.observer told)
     c.finish-in_default-load.result refl
     c.finish-in_default-load.ensures.told c.finish-in_default-load.ensures.prefix
@@ -41,12 +50,14 @@ returns-clause-ended g c =
     let order = c.lattice-lattice.ensures ∙ ap (λ p. p.order) (c.program-source.ensures.program ∙ ap (λ l. l.program) c.labelled.ensures.labelled) in
     let env = c.in-Ok.ensures.value ∙ ap (λ l. g.M.MakeEnv.made l c.as_slice.result.now) order
     ∙ ap (g.M.MakeEnv.made q.program.order) c.as_slice.ensures.value in
-    let told : Told = told_in c.args.setting.env q.program.order c.args.program.now.image (seen c.args.start) c.args.setting.budget in
-    let runs = loaded_runs v c.args.setting.budget c.in-Ok-load.machine c.args.program.now.image c.args.start.memory.items c.in-Ok.env
+    let told : Told = told_by (run_from v c.args.program.now.image.instrs c.args.budget (record {
+      memory = c.args.start.memory.items;
+      env =
+          g.M.MakeEnv.made q.program.order c.args.start.touches.items;
+    })) in
+    let runs = loaded_runs v c.args.budget c.in-Ok-load.machine c.args.program.now.image c.args.start.memory.items c.in-Ok.env
     (g.M.MakeEnv.made q.program.order c.args.start.touches.items)
-    c.in-Ok-load.ensures.going c.in-Ok-load.ensures.code c.in-Ok-load.ensures.start env
-    ∙ named_told v g.M.MakeEnv.made c.args.setting.env g.M.NamedEnv.name c.requires.named q c.args.program.now.image c.laws.ensures.shaped
-    c.named_tell_as_histories.ensures.runs c.requires.image.0 (seen c.args.start) c.requires.start c.args.setting.budget in (
+    c.in-Ok-load.ensures.going c.in-Ok-load.ensures.code c.in-Ok-load.ensures.start env in (
       status_at told.end,
       text_of q o told,
       told_tells q o told,
