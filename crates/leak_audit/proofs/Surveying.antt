@@ -224,6 +224,7 @@ module _ {E : Type 0} (v : Env E) (p : LabelledProgram) (o t : ℕ) (must : Bool
         kinds = subst (λ z. AreKinds (map (sequence_from v p o t) z) r.kinds) (sym all) h.kinds;
         halts = λ m. subst (Each (Halts v (lowered p).instrs t)) (sym all) (h.halts m);
         few = omega (arith, hs, small, ap (shown_by_all v p o t) all);
+        shown = hs ∙ ap (shown_by_all v p o t) (sym all);
         halted = omega arith;
         begun = by (cases_le n 1);
         ended = omega arith;

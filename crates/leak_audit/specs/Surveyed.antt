@@ -78,6 +78,7 @@ module _ {E : Type 0} (v : Env E) (p : LabelledProgram) where
     pub kinds : AreKinds (map (sequence_from o t) ss) r.kinds
     pub halts : must ≡ true → Each (Halts v (lowered p).instrs t) ss
     pub few : shown_by_all o t ss ≤ 16777216
+    pub shown : r.shown ≡ shown_by_all o t ss
     pub halted : r.halted ≡ halted_count t ss
     pub begun : r.begun ≡ begun_first o t ss
     pub ended : r.ended ≡ most_ended v (lowered p).instrs (relevant_for p o) t ss

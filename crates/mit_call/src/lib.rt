@@ -16,6 +16,9 @@ use tim_base::shelf::Shelf;
 use tim_base::sink::{Buffered, OutSink, Sink, Start};
 use tool_texts::status::Status;
 
+#[cfg(test)]
+mod tests;
+
 // The bytes that a buffer holds.
 const ROOM: usize = 8192;
 

@@ -20,3 +20,13 @@ fn programs_of_one_and_two_units(rt: HostRuntime) -> Result<(), Memory> {
     assert_eq!(rt; two.starts, one.starts);
     Ok(())
 }
+
+#[test]
+fn a_program_of_each_kind_of_unit(rt: HostRuntime) -> Result<(), Memory> {
+    let four = make(rt.alloc(), 4, 141)?;
+    assert_eq!(rt;
+        four.program.as_slice(),
+        b"var l0 : L;\nvar l1 : L;\nvar l2 : L;\nvar l3 : L;\nvar h0 : H;\nvar h1 : H;\nvar h2 : H;\nvar h3 : H;\nmitigate (66, H) { h3 := (h1 + 65) % 16 };\nif l3 > 25 then { l0 := l3 - 25 } else { l3 := l3 + 1 };\nl2 := l0 + 42;\nmitigate (84, H) { while h2 > 0 do { h2 := h2 - 1 } }\n".as_slice()
+    );
+    Ok(())
+}
