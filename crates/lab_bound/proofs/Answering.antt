@@ -69,6 +69,13 @@ pub bound_no_fault : (Rises : List ℕ → Type 0) (content : Content) (file sta
 bound_no_fault Rises content file starts observer e t x =
     prepares_no_fault Rises content file observer (Rises starts) (content starts) (bound_next e t) x (λ p q o code ss. no_fault_in e t q o ss x)
 
+-- ---- no answer to a program that is prepared is a read fault
+
+pub no_read_in : (e : EnvName) (t : ℕ) (q : LabelledProgram) (o : Option Label) (ss : List StartValue) (x : List ℕ) → HasBound e t q o ss status.ReadFault x → ⊥
+no_read_in e t q None ss x h = h
+no_read_in e t q (Some l) ss x (inl h) = h
+no_read_in e t q (Some l) ss x (inr (r, is, h)) = cc (h.0)
+
 -- ---- what can be done is done
 
 bound_done : (e : EnvName) (t : ℕ) (q : LabelledProgram) (o : Option Label) (ss : List StartValue) (s : Status) (x : List ℕ)

@@ -1,11 +1,12 @@
 //! The call.
 
-ghost use Rattle.std.specs.Prelude.{◌≡◌, ◌≤◌, ◌⊎◌, IsTrue};
+ghost use Rattle.std.specs.Prelude.{◌≡◌, ◌≤◌, ◌⊎◌, ◌∷◌, [], IsTrue};
 ghost use Rattle.tim_base.specs.Kept.{KeepsFiles, NoCountFalls};
 ghost use Rattle.tim_base.specs.Faults.{Rose};
 ghost use Rattle.tool_words.specs.WordsAsked.{IsCycles};
 ghost use Rattle.tool_texts.specs.Ends.{EndsBy, Nothing};
 ghost use Rattle.tool_stages.specs.Accepted.{is_past_typing, IsAccepted};
+ghost use Rattle.tool_stages.specs.Fetches.{HasFetched};
 ghost use Rattle.lab_bound.specs.Answer.{IsBoundAnswer};
 ghost use Rattle.lab_bound.specs.Complete.{CanBound};
 ghost use Rattle.lab_bound.specs.Enough.{NumbersAreEnough};
@@ -50,6 +51,7 @@ pub fn bound<S: Shelf, W: Sink>(
         (IsBoundAnswer (λ name. Rose (S.faults shelf.old name) (S.faults shelf.new name)) (S.content shelf.old) file.now starts.now observer.now setting.env
         setting.budget) result }
     ensures write { result ≡ Status.WriteFault → Rose (W.faults out.old) (W.faults out.new) }
+    ensures fetched { HasFetched (file.now ∷ starts.now ∷ []) result (S.log shelf.old) (S.log shelf.new) }
     ensures sound { IsTrue (is_past_typing result) → IsAccepted (S.content shelf.old file.now) }
     ensures complete { CanBound (S.content shelf.old) file.now starts.now observer.now setting.env setting.budget
         → (Rose (S.faults shelf.old file.now) (S.faults shelf.new file.now) → ⊥) → (Rose (S.faults shelf.old starts.now) (S.faults shelf.new starts.now) → ⊥)

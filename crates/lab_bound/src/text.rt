@@ -1,6 +1,6 @@
 //! The text of `bound`.
 
-ghost use Rattle.std.specs.Prelude.{◌≡◌, ◌++◌, Some, IfOk, IfErr, length, map, OnOk, IsTrue};
+ghost use Rattle.std.specs.Prelude.{◌≡◌, ◌++◌, ◌∷◌, [], Some, IfOk, IfErr, length, map, OnOk, IsTrue};
 ghost use Rattle.tim_base.specs.Kept.{KeepsFiles, NoCountFalls};
 ghost use Rattle.tim_base.specs.Faults.{Rose};
 ghost use Rattle.start_file.specs.Starts.{seen};
@@ -9,6 +9,7 @@ ghost use Rattle.tool_texts.specs.Ends.{IsStop, status_of};
 ghost use Rattle.tool_texts.specs.declared.status.Status.TheVariants as status;
 ghost use Rattle.tool_stages.specs.Begins.{CanAudit};
 ghost use Rattle.tool_stages.specs.Accepted.{is_past_typing, IsAccepted};
+ghost use Rattle.tool_stages.specs.Fetches.{Fetches};
 ghost use Rattle.lab_bound.specs.Text.{BoundPut};
 ghost use Rattle.lab_bound.specs.Answer.{HasBound, Bounds};
 
@@ -92,6 +93,7 @@ pub fn bound_text<S: Shelf, W: Watch>(
     requires { IsCycles setting.budget }
     ensures same { KeepsFiles (S.content shelf.old) (S.content shelf.new) }
     ensures later { NoCountFalls (S.faults shelf.old) (S.faults shelf.new) }
+    ensures log { Fetches (file.now ∷ starts.now ∷ []) (S.log shelf.old) (S.log shelf.new) result }
     ensures text { IfOk result (λ v. Bounds (λ name. Rose (S.faults shelf.old name) (S.faults shelf.new name)) (S.content shelf.old) file.now starts.now
         name.now setting.env setting.budget status.Done v.items) }
     ensures stop { IfErr result (IsStop (Bounds (λ name. Rose (S.faults shelf.old name) (S.faults shelf.new name)) (S.content shelf.old) file.now starts.now

@@ -1,11 +1,12 @@
 //! What runs begin with, where an observer may be left out.
 
-ghost use Rattle.std.specs.Prelude.{IfOk, IfErr, OnOk, IsTrue, map, option_map};
+ghost use Rattle.std.specs.Prelude.{◌∷◌, [], IfOk, IfErr, OnOk, IsTrue, map, option_map};
 ghost use Rattle.tim_base.specs.Kept.{KeepsFiles, NoCountFalls};
 ghost use Rattle.tim_base.specs.Faults.{Rose};
 ghost use Rattle.start_file.specs.Starts.{seen};
 ghost use Rattle.tool_texts.specs.Ends.{IsStop, status_of};
 ghost use Rattle.tool_stages.specs.Accepted.{is_past_typing, IsAccepted};
+ghost use Rattle.tool_stages.specs.Fetches.{Fetches};
 ghost use Rattle.lab_timeline.specs.Begun.{IsBegun, BeginStops, CanRun};
 
 use start_file::start::Start;
@@ -35,6 +36,7 @@ pub fn begin<S: Shelf>(
 ) -> Result<Begun, Stop>
     ensures same { KeepsFiles (S.content shelf.old) (S.content shelf.new) }
     ensures later { NoCountFalls (S.faults shelf.old) (S.faults shelf.new) }
+    ensures log { Fetches (file.now ∷ starts.now ∷ []) (S.log shelf.old) (S.log shelf.new) result }
     ensures ok { IfOk result (λ r. IsBegun (S.content shelf.old) file.now starts.now (option_map (λ s. s.now) name.entry) r.compiled.typed.labelled
         r.compiled.observer r.compiled.image (map seen r.starts.items)) }
     ensures fit { IfOk result (λ r. CanRun r.compiled.typed.labelled r.compiled.observer r.compiled.image (map seen r.starts.items)) }

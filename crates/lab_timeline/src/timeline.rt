@@ -1,11 +1,12 @@
 //! `timeline`: the call.
 
-ghost use Rattle.std.specs.Prelude.{◌≡◌, ◌≤◌, ◌⊎◌, IsTrue, option_map};
+ghost use Rattle.std.specs.Prelude.{◌≡◌, ◌≤◌, ◌⊎◌, ◌∷◌, [], IsTrue, option_map};
 ghost use Rattle.tim_base.specs.Kept.{KeepsFiles, NoCountFalls};
 ghost use Rattle.tim_base.specs.Faults.{Rose};
 ghost use Rattle.tool_words.specs.WordsAsked.{IsCycles};
 ghost use Rattle.tool_texts.specs.Ends.{EndsBy};
 ghost use Rattle.tool_stages.specs.Accepted.{is_past_typing, IsAccepted};
+ghost use Rattle.tool_stages.specs.Fetches.{HasFetched};
 ghost use Rattle.lab_runs.specs.Begins.{CanBegin};
 ghost use Rattle.lab_timeline.specs.Timed.{TellsTimelines, TimelinesBefore};
 
@@ -39,6 +40,7 @@ fn show<S: Shelf, W: Sink>(
         (TellsTimelines (λ name. Rose (S.faults shelf.old name) (S.faults shelf.new name)) (S.content shelf.old) file.now starts.now
         (option_map (λ s. s.now) observer.entry) setting.env setting.budget) result }
     ensures write { result ≡ Status.WriteFault → Rose (W.faults out.old) (W.faults out.new) }
+    ensures fetched { HasFetched (file.now ∷ starts.now ∷ []) result (S.log shelf.old) (S.log shelf.new) }
     ensures sound { IsTrue (is_past_typing result) → IsAccepted (S.content shelf.old file.now) }
 {
     let begun = match begin(alloc, shelf, file, starts, observer) {
@@ -80,6 +82,7 @@ pub fn timeline<S: Shelf, W: Sink>(
         (TellsTimelines (λ name. Rose (S.faults shelf.old name) (S.faults shelf.new name)) (S.content shelf.old) file.now starts.now
         (option_map (λ s. s.now) observer.entry) setting.env setting.budget) result }
     ensures write { result ≡ Status.WriteFault → Rose (W.faults out.old) (W.faults out.new) }
+    ensures fetched { HasFetched (file.now ∷ starts.now ∷ []) result (S.log shelf.old) (S.log shelf.new) }
     ensures sound { IsTrue (is_past_typing result) → IsAccepted (S.content shelf.old file.now) }
     ensures complete { CanBegin (S.content shelf.old) file.now starts.now (option_map (λ s. s.now) observer.entry)
         → (Rose (S.faults shelf.old file.now) (S.faults shelf.new file.now) → ⊥) → (Rose (S.faults shelf.old starts.now) (S.faults shelf.new starts.now) → ⊥)

@@ -27,6 +27,11 @@ AreKnown content a = All (λ name. IsKnown (content name)) (files_of a)
 abbrev pub NoneRises : (List ℕ → Type 0) → Asked → Type 0
 NoneRises Rises a = All (λ name. Rises name → ⊥) (files_of a)
 
+-- the files that words name
+abbrev pub named_by : Option Asked → List (List ℕ)
+named_by None = []
+named_by (Some a) = files_of a
+
 -- `why` is done where some labelling types the program, and tells its reason where none does
 abbrev pub WhyGoes : Option (Option (List ℕ)) → Status → Type 0
 WhyGoes content status.Done = (p : Syntax) × Reads content p × IsTypable p

@@ -4,10 +4,11 @@ ghost use Rattle.std.specs.Prelude.{◌≡◌, ◌≤◌, ◌⊎◌, None, IfSom
 ghost use Rattle.tim_base.specs.Kept.{KeepsFiles, NoCountFalls};
 ghost use Rattle.tim_base.specs.Faults.{Rose};
 ghost use Rattle.tool_texts.specs.Ends.{EndsBy, Nothing};
+ghost use Rattle.tool_stages.specs.Fetches.{HasFetched};
 ghost use Rattle.lab_words.specs.QuestionAsked.{IsInRange, question_of};
 ghost use Rattle.lab_words.specs.QuestionViews.{asked_of};
 ghost use Rattle.lab_tool.specs.Answers.{Before, IsAnswer, IsUsage};
-ghost use Rattle.lab_tool.specs.Complete.{CanEnd, NoneRises};
+ghost use Rattle.lab_tool.specs.Complete.{CanEnd, NoneRises, files_of, named_by};
 
 use lab_bound::bound::bound;
 use lab_seen::seen::seen;
@@ -39,6 +40,7 @@ fn obey<S: Shelf, W: Sink>(
     ensures answered { EndsBy (W.taken out.old) (W.taken out.new) (Before (S.content shelf.old) (asked_of question.entry))
         (IsAnswer (λ name. Rose (S.faults shelf.old name) (S.faults shelf.new name)) (S.content shelf.old) (asked_of question.entry)) result }
     ensures write { result ≡ Status.WriteFault → Rose (W.faults out.old) (W.faults out.new) }
+    ensures fetched { HasFetched (files_of (asked_of question.entry)) result (S.log shelf.old) (S.log shelf.new) }
 {
     match question {
         Question::Why { file, of } => match of {
@@ -90,6 +92,9 @@ fn obey<S: Shelf, W: Sink>(
 ///
 /// `complete`: a question that can end in some way ends so, want of memory aside, where no count of faults rose, neither
 /// that of a file that the words name nor that of the sink.
+///
+/// `fetched`: the files that the words name are fetched in their order, each once, and none after one that gave no bytes; a
+/// read fault is told exactly where the last fetch failed.
 pub fn lab_main<S: Shelf, W: Sink>(
     alloc: Global,
     words: &[String],
@@ -105,6 +110,7 @@ pub fn lab_main<S: Shelf, W: Sink>(
         → NoneRises (λ name. Rose (S.faults shelf.old name) (S.faults shelf.new name)) a → (Rose (W.faults out.old) (W.faults out.new) → ⊥)
         → (result ≡ s) ⊎ (result ≡ Status.Memory)) }
     ensures write { result ≡ Status.WriteFault → Rose (W.faults out.old) (W.faults out.new) }
+    ensures fetched { HasFetched (named_by (question_of (map string_bytes words.now))) result (S.log shelf.old) (S.log shelf.new) }
 
     // No file changes, and no count of faults falls.
     ensures same { KeepsFiles (S.content shelf.old) (S.content shelf.new) }

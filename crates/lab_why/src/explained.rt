@@ -1,9 +1,10 @@
 //! From a file to the answer: the program is accepted, or why it is refused.
 
-ghost use Rattle.std.specs.Prelude.{IfOk, IfErr};
+ghost use Rattle.std.specs.Prelude.{◌∷◌, [], IfOk, IfErr};
 ghost use Rattle.tim_base.specs.Kept.{KeepsFiles, NoCountFalls};
 ghost use Rattle.tim_base.specs.Faults.{Rose};
 ghost use Rattle.tool_texts.specs.Ends.{IsStop};
+ghost use Rattle.tool_stages.specs.Fetches.{Fetches};
 ghost use Rattle.tool_stages.specs.Stages.{ProgramStops};
 ghost use Rattle.lab_why.specs.Answers.{IsWhyAnswer};
 ghost use Rattle.lab_why.specs.Explained.{status_told, text_told};
@@ -35,6 +36,7 @@ pub enum Explained {
 pub fn explain<S: Shelf>(alloc: Global, shelf: &mut S, file: &str) -> Result<Explained, Stop>
     ensures same { KeepsFiles (S.content shelf.old) (S.content shelf.new) }
     ensures later { NoCountFalls (S.faults shelf.old) (S.faults shelf.new) }
+    ensures log { Fetches (file.now ∷ []) (S.log shelf.old) (S.log shelf.new) result }
     ensures told { IfOk result (λ x. IsWhyAnswer (λ name. Rose (S.faults shelf.old name) (S.faults shelf.new name)) (S.content shelf.old) file.now
         (status_told x) (text_told x)) }
     ensures stop { IfErr result (IsStop (ProgramStops (Rose (S.faults shelf.old file.now) (S.faults shelf.new file.now)) (S.content shelf.old file.now))) }

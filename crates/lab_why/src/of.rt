@@ -1,9 +1,10 @@
 //! The command `why --of`.
 
-ghost use Rattle.std.specs.Prelude.{◌≡◌, ◌≤◌, IfOk, IfErr};
+ghost use Rattle.std.specs.Prelude.{◌≡◌, ◌≤◌, ◌∷◌, [], IfOk, IfErr};
 ghost use Rattle.tim_base.specs.Kept.{KeepsFiles, NoCountFalls};
 ghost use Rattle.tim_base.specs.Faults.{Rose};
 ghost use Rattle.tool_texts.specs.Ends.{EndsBy, IsStop, Nothing};
+ghost use Rattle.tool_stages.specs.Fetches.{Fetches, HasFetched};
 ghost use Rattle.lab_why.specs.Origins.{ComesFrom, IsOriginAnswer};
 
 use crate::names::named;
@@ -27,6 +28,7 @@ fn origin_text<S: Shelf>(
 ) -> Result<Vec<u8>, Stop>
     ensures same { KeepsFiles (S.content shelf.old) (S.content shelf.new) }
     ensures later { NoCountFalls (S.faults shelf.old) (S.faults shelf.new) }
+    ensures log { Fetches (file.now ∷ []) (S.log shelf.old) (S.log shelf.new) result }
     ensures text { IfOk result (λ v. ComesFrom (λ name. Rose (S.faults shelf.old name) (S.faults shelf.new name)) (S.content shelf.old) file.now word.now
         Status.Done v.items) }
     ensures stop { IfErr result (IsStop (ComesFrom (λ name. Rose (S.faults shelf.old name) (S.faults shelf.new name)) (S.content shelf.old) file.now
@@ -71,6 +73,7 @@ pub fn why_of<S: Shelf, W: Sink>(
     ensures answered { EndsBy (W.taken out.old) (W.taken out.new) Nothing
         (IsOriginAnswer (λ name. Rose (S.faults shelf.old name) (S.faults shelf.new name)) (S.content shelf.old) file.now word.now) result }
     ensures write { result ≡ Status.WriteFault → Rose (W.faults out.old) (W.faults out.new) }
+    ensures fetched { HasFetched (file.now ∷ []) result (S.log shelf.old) (S.log shelf.new) }
 {
     let made = origin_text(alloc, shelf, file, word);
     tell(out, made)

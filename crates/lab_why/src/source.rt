@@ -1,18 +1,18 @@
 //! From a file to its text and the program that it spells.
 
-ghost use Rattle.std.specs.Prelude.{◌≡◌, IfOk, IfErr};
+ghost use Rattle.std.specs.Prelude.{◌≡◌, ◌∷◌, [], IfOk, IfErr};
 ghost use Rattle.tim_base.specs.Kept.{KeepsFiles, NoCountFalls};
 ghost use Rattle.tim_base.specs.Faults.{Rose};
 ghost use Rattle.tool_texts.specs.Ends.{IsStop};
+ghost use Rattle.tool_stages.specs.Fetches.{Fetches};
 ghost use Rattle.tool_stages.specs.Stages.{ProgramStops, Reads};
 
 use mit_syntax::program::Program;
 use std::alloc::Global;
-use tim_base::shelf::{FetchFault, Shelf};
+use tim_base::shelf::Shelf;
+use tool_stages::file::bytes_of;
 use tool_stages::program::program_of;
-use tool_texts::lines;
-use tool_texts::status::Status;
-use tool_texts::stop::{Stop, no_memory};
+use tool_texts::stop::Stop;
 
 /// The bytes of a file, and the program that they spell.
 #[derive(Drop)]
@@ -28,23 +28,16 @@ pub struct Source {
 pub fn read_source<S: Shelf>(alloc: Global, shelf: &mut S, file: &str) -> Result<Source, Stop>
     ensures same { KeepsFiles (S.content shelf.old) (S.content shelf.new) }
     ensures later { NoCountFalls (S.faults shelf.old) (S.faults shelf.new) }
+    ensures log { Fetches (file.now ∷ []) (S.log shelf.old) (S.log shelf.new) result }
     ensures ok { IfOk result (λ x. (reads : Reads (S.content shelf.old file.now) x.program) × (reads.bytes ≡ x.text.items)) }
     ensures stop { IfErr result (IsStop (ProgramStops (Rose (S.faults shelf.old file.now) (S.faults shelf.new file.now)) (S.content shelf.old file.now))) }
 {
-    let mut text = Vec::new(alloc);
-    match shelf.fetch(alloc, file, &mut text) {
-        Ok(()) => match program_of(alloc, &text) {
-            Ok(program) => Ok(Source { text, program }),
-            Err(stop) => Err(stop),
-        },
-        Err(FetchFault::Failed) => Err(Stop::With {
-            status: Status::ReadFault,
-            line: lines::read_fault(b"program"),
-        }),
-        Err(FetchFault::TooLong) => Err(Stop::With {
-            status: Status::TooLong,
-            line: lines::too_long(b"program"),
-        }),
-        Err(FetchFault::Memory) => Err(no_memory()),
+    let text = match bytes_of(alloc, shelf, file, b"program") {
+        Ok(text) => text,
+        Err(stop) => return Err(stop),
+    };
+    match program_of(alloc, &text) {
+        Ok(program) => Ok(Source { text, program }),
+        Err(stop) => Err(stop),
     }
 }

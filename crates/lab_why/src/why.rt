@@ -1,9 +1,10 @@
 //! The command `why`.
 
-ghost use Rattle.std.specs.Prelude.{◌≡◌, ◌≤◌};
+ghost use Rattle.std.specs.Prelude.{◌≡◌, ◌≤◌, ◌∷◌, []};
 ghost use Rattle.tim_base.specs.Kept.{KeepsFiles, NoCountFalls};
 ghost use Rattle.tim_base.specs.Faults.{Rose};
 ghost use Rattle.tool_texts.specs.Ends.{EndsBy, Nothing};
+ghost use Rattle.tool_stages.specs.Fetches.{HasFetched};
 ghost use Rattle.lab_why.specs.Answers.{IsWhyAnswer};
 
 use crate::explained::{Explained, explain};
@@ -23,6 +24,7 @@ pub fn why<S: Shelf, W: Sink>(alloc: Global, shelf: &mut S, out: &mut W, file: &
     ensures answered { EndsBy (W.taken out.old) (W.taken out.new) Nothing
         (IsWhyAnswer (λ name. Rose (S.faults shelf.old name) (S.faults shelf.new name)) (S.content shelf.old) file.now) result }
     ensures write { result ≡ Status.WriteFault → Rose (W.faults out.old) (W.faults out.new) }
+    ensures fetched { HasFetched (file.now ∷ []) result (S.log shelf.old) (S.log shelf.new) }
 {
     match explain(alloc, shelf, file) {
         Ok(Explained::Accepted(line)) => finish(out, line.bytes(), Status::Done),

@@ -1,10 +1,10 @@
--- Which files a call has fetched at its end, and the pieces that it has written.
-use Rattle.std.proofs.Common.{◌≡◌, ◌≢◌, ◌⊎◌, ℕ, true, false, List, [], ◌∷◌, ◌++◌, Option, Some, None, Result, Ok, Err, Vec, Global, IfErr, OnOk}
-use Rattle.std.proofs.Common.{IsErrAnd, length, ◌^◌, inl, inr, refl, sym, ap, ◌∙◌, subst}
+-- The pieces that a call has written, and calls that fetch nothing.
+use Rattle.std.proofs.Common.{◌≡◌, ◌≢◌, ℕ, List, [], ◌∷◌, ◌++◌, Option, Some, None, Result, Ok, Err, Vec, Global, IfErr, OnOk, length, ◌^◌}
+use Rattle.std.proofs.Common.{inl, inr, refl, subst}
 use Rattle.std.specs.List.{All}
 use Rattle.std.proofs.lemmas.List.Elements.{All-nil, All-cons, All-append}
 use Rattle.tim_base.specs.Logs.{Fetched, Offered, HasSent, HasBroken}
-use Rattle.tim_base.proofs.LogLemmas.{Grows-nil, sent_nothing, sent_after, broken_after}
+use Rattle.tim_base.proofs.LogLemmas.{sent_nothing, sent_after, broken_after}
 use Rattle.label_lattice.specs.Names.{IsName}
 use Rattle.mit_syntax.specs.Declarations.{Declaration}
 use Rattle.event_print.specs.Pieces.{SendsLines, BreaksLines, IsRunLine as IsLineOf}
@@ -29,87 +29,9 @@ use Rattle.mit_tool.specs.Answers.{HasGenerated}
 use Rattle.mit_tool.specs.Means.{pieces_of_walk}
 use Rattle.tool_stages.specs.Begins.{RunStops, MeaningStops}
 use Rattle.tool_stages.specs.Content.{Content}
-use Rattle.tool_stages.specs.Fetches.{AreBegun, Fetches, is_read_fault}
-use Rattle.tool_stages.proofs.FetchLemmas.{given_begun}
-use Rattle.mit_tool.specs.Logged.{HasFetched, HasWritten, AreLines, IsRunLine, IsMeaningLine, SentLines, BrokenLines, ArePieces}
-
--- ---- fetches
-
-abbrev end_of : {A : Type 0} → Status → Result A Stop → Status
-end_of s (Ok x) = s
-end_of s (Err e) = status_of e
-
-read_true : (s : Status) → is_read_fault s ≡ true → s ≡ status.ReadFault
-read_true status.Done e = absurd cc
-read_true status.Refused e = absurd cc
-read_true status.Syntax e = absurd cc
-read_true status.Starts e = absurd cc
-read_true status.Usage e = absurd cc
-read_true status.ReadFault e = refl
-read_true status.WriteFault e = absurd cc
-read_true status.TooLong e = absurd cc
-read_true status.Budget e = absurd cc
-read_true status.Disagree e = absurd cc
-read_true status.Unfinished e = absurd cc
-read_true status.Memory e = absurd cc
-read_true status.Rejected e = absurd cc
-
--- the status of a call is that of its end, unless a write failed
-ends_or_fault : (r s : Status) → (r ≢ status.WriteFault → r ≡ s) → s ≡ status.ReadFault → (r ≡ status.ReadFault) ⊎ (r ≡ status.WriteFault)
-ends_or_fault status.WriteFault s h e = inr refl
-ends_or_fault status.Done s h e = inl (h (λ x. absurd cc) ∙ e)
-ends_or_fault status.Refused s h e = inl (h (λ x. absurd cc) ∙ e)
-ends_or_fault status.Syntax s h e = inl (h (λ x. absurd cc) ∙ e)
-ends_or_fault status.Starts s h e = inl (h (λ x. absurd cc) ∙ e)
-ends_or_fault status.Usage s h e = inl (h (λ x. absurd cc) ∙ e)
-ends_or_fault status.ReadFault s h e = inl refl
-ends_or_fault status.TooLong s h e = inl (h (λ x. absurd cc) ∙ e)
-ends_or_fault status.Budget s h e = inl (h (λ x. absurd cc) ∙ e)
-ends_or_fault status.Disagree s h e = inl (h (λ x. absurd cc) ∙ e)
-ends_or_fault status.Unfinished s h e = inl (h (λ x. absurd cc) ∙ e)
-ends_or_fault status.Memory s h e = inl (h (λ x. absurd cc) ∙ e)
-ends_or_fault status.Rejected s h e = inl (h (λ x. absurd cc) ∙ e)
-
-not_write : (r : Status) → r ≡ status.ReadFault → r ≢ status.WriteFault
-not_write r e f = absurd cc
-
--- the fetches of a stage whose value ends in a status that is no read fault, at the end of a call
-pub fetched_by : {A : Type 0} (names : List (List ℕ)) (old new : Option (List Fetched)) (s r : Status) (made : Result A Stop) → s ≢ status.ReadFault
-    → Fetches names old new made → (r ≢ status.WriteFault → r ≡ end_of s made) → HasFetched names r old new
-fetched_by names old new s r (Ok x) n h is =
-    record {
-      log = h.0;
-      failed = false;
-      grows = h.1;
-      begun = given_begun names h.0 h.2;
-      fault = λ e. absurd (n (sym (is (not_write r e)) ∙ e));
-      told = λ e. absurd cc;
-    }
-fetched_by names old new s r (Err x) n h is =
-    record {
-      log = h.0;
-      failed = is_read_fault (status_of x);
-      grows = h.1;
-      begun = h.2;
-      fault = λ e. ap is_read_fault (sym (is (not_write r e)) ∙ e);
-      told = λ e. ends_or_fault r (status_of x) is (read_true (status_of x) e);
-    }
-
--- nothing was fetched
-pub fetched_nothing : (names : List (List ℕ)) (old : Option (List Fetched)) (r : Status) → r ≢ status.ReadFault → HasFetched names r old old
-fetched_nothing names old r n =
-    record {
-      log = [];
-      failed = false;
-      grows = Grows-nil old;
-      begun = begun_none names;
-      fault = λ e. absurd (n e);
-      told = λ e. absurd cc;
-    }
-  where
-    begun_none : (names : List (List ℕ)) → AreBegun names false []
-    begun_none [] = (refl, refl)
-    begun_none (name ∷ names) = inl (refl, refl)
+use Rattle.tool_stages.specs.Fetches.{HasFetched}
+use Rattle.tool_stages.proofs.FetchLemmas.{fetched_nothing, never_read}
+use Rattle.mit_tool.specs.Logged.{HasWritten, AreLines, IsRunLine, IsMeaningLine, SentLines, BrokenLines, ArePieces}
 
 -- ---- pieces
 
@@ -242,19 +164,11 @@ stop_alone IsLine e r old new n = stop_after IsLine (status_of e) r [] (stop_tex
 
 -- ---- commands whose text is made before it is written
 
-pub told_fetched : (names : List (List ℕ)) (old new : Option (List Fetched)) (made : Result (Vec ℕ Global) Stop) (r : Status) → Fetches names old new made
-    → (r ≢ status.WriteFault → r ≡ told_status made) → HasFetched names r old new
-told_fetched names old new (Ok v) r h is = fetched_by names old new status.Done r (Ok v) (λ e. absurd cc) h is
-told_fetched names old new (Err e) r h is = fetched_by {A = Vec ℕ Global} names old new status.Done r (Err e) (λ e. absurd cc) h is
-
 pub told_piece : (made : Result (Vec ℕ Global) Stop) (r : Status) (old new : Option (List Offered)) → (r ≢ status.WriteFault → r ≡ told_status made)
     → (r ≢ status.WriteFault → HasSent old new (told_text made ∷ [])) → (r ≡ status.WriteFault → HasBroken old new (told_text made ∷ []))
     → HasWritten (λ s pieces. (text : List ℕ) × (pieces ≡ text ∷ [])) r old new
 told_piece made r old new is sent broken =
     one_piece (λ s pieces. (text : List ℕ) × (pieces ≡ text ∷ [])) (told_status made) r (told_text made) old new (told_text made, refl) is sent broken
-
-pub never_read : (s r : Status) → s ≢ status.ReadFault → (r ≢ status.WriteFault → r ≡ s) → r ≢ status.ReadFault
-never_read s r n is e = n (sym (is (not_write r e)) ∙ e)
 
 pub told_nothing : (Stops : Status → List ℕ → Type 0) (old : Option (List Fetched)) (made : Result (Vec ℕ Global) Stop) (r : Status)
     → ((t : List ℕ) → Stops status.ReadFault t → ⊥) → IfErr made (IsStop Stops) → (r ≢ status.WriteFault → r ≡ told_status made)
@@ -330,9 +244,3 @@ lines_break ds walk a b c names g h = (
 pub on_ok : {T E : Type 0} (r : Result T E) (x : T) (P : Type 0) → r ≡ Ok x → OnOk r P → P
 on_ok (Ok y) x P e h = h
 on_ok (Err y) x P e h = absurd cc
-
--- a stop that is handed on has fetched as much
-pub fetched_on : {A : Type 0} (r : Result A Stop) (e : Stop) (names : List (List ℕ)) (a b : Option (List Fetched)) → IsErrAnd r (λ x. x ≡ e)
-    → Fetches {A = A} names a b (Err e) → Fetches names a b r
-fetched_on (Ok x) e names a b h k = absurd h
-fetched_on {A} (Err x) e names a b h k = subst (λ z. Fetches {A = A} names a b (Err z)) (sym h) k

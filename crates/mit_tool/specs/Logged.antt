@@ -1,6 +1,6 @@
--- Which files a call fetches, and in which pieces it writes its text.
-use Rattle.std.specs.Prelude.{◌≡◌, ◌≢◌, ◌⊎◌, ◌++◌, ℕ, ℤ, Bool, true, List, [], ◌∷◌, All, Option, Some, None}
-use Rattle.tim_base.specs.Logs.{Fetched, Offered, Grows, HasSent, HasBroken}
+-- The files that words name, and the pieces in which a call writes its text.
+use Rattle.std.specs.Prelude.{◌≡◌, ◌≢◌, ◌⊎◌, ◌++◌, ℕ, ℤ, List, [], ◌∷◌, All, Option, Some, None}
+use Rattle.tim_base.specs.Logs.{Offered, HasSent, HasBroken}
 use Rattle.label_lattice.specs.Names.{IsName}
 use Rattle.mit_syntax.specs.Declarations.{Declaration}
 use Rattle.event_print.specs.Pieces.{IsRunLine as IsLineOf}
@@ -9,17 +9,6 @@ use Rattle.tool_texts.specs.declared.status.Status.{Status}
 use Rattle.tool_texts.specs.declared.status.Status.TheVariants as status
 use Rattle.tool_texts.specs.Texts.{value_line, ended_line, not_ended_line}
 use Rattle.mit_tool.specs.Complete.{files_of}
-use Rattle.tool_stages.specs.Fetches.{AreBegun}
-
--- Some of these files were fetched, from the first one on, each once, and nothing after one that gave no bytes. A read
--- fault is told exactly where the last fetch failed, unless the line for it could not be written.
-pub record HasFetched (names : List (List ℕ)) (s : Status) (old new : Option (List Fetched)) : Type 0 where
-  pub log : List Fetched
-  pub failed : Bool
-  pub grows : Grows old new log
-  pub begun : AreBegun names failed log
-  pub fault : s ≡ status.ReadFault → failed ≡ true
-  pub told : failed ≡ true → (s ≡ status.ReadFault) ⊎ (s ≡ status.WriteFault)
 
 -- a line of the text of a program's run
 abbrev pub IsRunLine : List ℕ → Type 0

@@ -7,9 +7,10 @@ ghost use Rattle.tool_words.specs.WordsAsked.{IsInRange, command_of, check, rech
 ghost use Rattle.tool_words.specs.WordsViews.{asked_of};
 ghost use Rattle.tool_texts.specs.Ends.{EndsBy, Nothing};
 ghost use Rattle.tool_stages.specs.Accepted.{is_past_typing, IsAccepted};
+ghost use Rattle.tool_stages.specs.Fetches.{HasFetched};
 ghost use Rattle.mit_tool.specs.Answers.{IsAnswer, IsUsage, Before, typed_content, HeldIsSound};
 ghost use Rattle.mit_tool.specs.Complete.{CanBeDone, NoneRises, files_of};
-ghost use Rattle.mit_tool.specs.Logged.{HasFetched, HasWritten, ArePieces, named_by};
+ghost use Rattle.mit_tool.specs.Logged.{HasWritten, ArePieces, named_by};
 ghost use Rattle.mit_tool.specs.Held.{EndsByOne};
 ghost use Rattle.mit_tool.specs.Bounded.{AreWithin};
 

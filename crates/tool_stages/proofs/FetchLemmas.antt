@@ -1,16 +1,16 @@
--- Fetches one after the other, and stops that are not read faults.
-use Rattle.std.proofs.Common.{◌≡◌, ℕ, Bool, false, List, [], ◌∷◌, ◌++◌, Option, Result, Ok, Err, inl, inr, refl, sym, ap, subst}
+-- Fetches one after the other, stops that are not read faults, and what a call has fetched at its end.
+use Rattle.std.proofs.Common.{◌≡◌, ◌≢◌, ◌⊎◌, ℕ, Bool, true, false, List, [], ◌∷◌, ◌++◌, Option, Result, Ok, Err, IsErrAnd, Vec, Global}
+use Rattle.std.proofs.Common.{inl, inr, refl, sym, ap, ◌∙◌, subst}
 use Rattle.tim_base.specs.Told.{IsTooLong}
 use Rattle.tim_base.specs.Logs.{Fetched}
-use Rattle.tim_base.proofs.LogLemmas.{Grows-trans}
-use Rattle.mit_syntax.specs.Program.{Syntax}
+use Rattle.tim_base.proofs.LogLemmas.{Grows-nil, Grows-trans}
 use Rattle.tool_texts.specs.declared.status.Status.{Status}
 use Rattle.tool_texts.specs.declared.status.Status.TheVariants as status
 use Rattle.tool_texts.specs.declared.stop.Stop.{Stop}
-use Rattle.tool_texts.specs.Ends.{IsStop, Broke, status_of, stop_text}
+use Rattle.tool_texts.specs.Ends.{IsStop, Broke, status_of, stop_text, told_status}
 use Rattle.tool_texts.specs.Texts.{File, read_fault_line, too_long_line}
 use Rattle.tool_texts.proofs.EndLemmas.{broke_map}
-use Rattle.tool_stages.specs.Fetches.{AreGiven, AreBegun, Fetches, FileStops, is_read_fault}
+use Rattle.tool_stages.specs.Fetches.{AreGiven, AreBegun, Fetches, HasFetched, FileStops, is_read_fault}
 
 -- what was given is begun
 pub given_begun : (names : List (List ℕ)) (log : List Fetched) → AreGiven names log → AreBegun names false log
@@ -60,6 +60,12 @@ pub fetch_stops : (A B : Type 0) (names : List (List ℕ)) (a b : Option (List F
     → Fetches names a b (Ok x) → Fetches {A = B} names a b (Err e)
 fetch_stops A B names a b x e n h = (h.0, h.1, subst (λ f. AreBegun names f h.0) (sym n) (given_begun names h.0 h.2))
 
+-- a stop that is handed on has fetched as much
+pub fetched_on : {A : Type 0} (r : Result A Stop) (e : Stop) (names : List (List ℕ)) (a b : Option (List Fetched)) → IsErrAnd r (λ x. x ≡ e)
+    → Fetches {A = A} names a b (Err e) → Fetches names a b r
+fetched_on (Ok x) e names a b h k = absurd h
+fetched_on {A} (Err x) e names a b h k = subst (λ z. Fetches {A = A} names a b (Err z)) (sym h) k
+
 -- ---- stops that are not read faults
 
 -- where no read fault stops, the status is none
@@ -81,6 +87,90 @@ not_read Stops never e h = none (status_of e) (stop_text e) h
     none status.Unfinished t h = refl
     none status.Memory t h = refl
     none status.Rejected t h = refl
+
+-- ---- the fetches of a call, at its end
+
+abbrev end_of : {A : Type 0} → Status → Result A Stop → Status
+end_of s (Ok x) = s
+end_of s (Err e) = status_of e
+
+read_true : (s : Status) → is_read_fault s ≡ true → s ≡ status.ReadFault
+read_true status.Done e = absurd cc
+read_true status.Refused e = absurd cc
+read_true status.Syntax e = absurd cc
+read_true status.Starts e = absurd cc
+read_true status.Usage e = absurd cc
+read_true status.ReadFault e = refl
+read_true status.WriteFault e = absurd cc
+read_true status.TooLong e = absurd cc
+read_true status.Budget e = absurd cc
+read_true status.Disagree e = absurd cc
+read_true status.Unfinished e = absurd cc
+read_true status.Memory e = absurd cc
+read_true status.Rejected e = absurd cc
+
+-- the status of a call is that of its end, unless a write failed
+ends_or_fault : (r s : Status) → (r ≢ status.WriteFault → r ≡ s) → s ≡ status.ReadFault → (r ≡ status.ReadFault) ⊎ (r ≡ status.WriteFault)
+ends_or_fault status.WriteFault s h e = inr refl
+ends_or_fault status.Done s h e = inl (h (λ x. absurd cc) ∙ e)
+ends_or_fault status.Refused s h e = inl (h (λ x. absurd cc) ∙ e)
+ends_or_fault status.Syntax s h e = inl (h (λ x. absurd cc) ∙ e)
+ends_or_fault status.Starts s h e = inl (h (λ x. absurd cc) ∙ e)
+ends_or_fault status.Usage s h e = inl (h (λ x. absurd cc) ∙ e)
+ends_or_fault status.ReadFault s h e = inl refl
+ends_or_fault status.TooLong s h e = inl (h (λ x. absurd cc) ∙ e)
+ends_or_fault status.Budget s h e = inl (h (λ x. absurd cc) ∙ e)
+ends_or_fault status.Disagree s h e = inl (h (λ x. absurd cc) ∙ e)
+ends_or_fault status.Unfinished s h e = inl (h (λ x. absurd cc) ∙ e)
+ends_or_fault status.Memory s h e = inl (h (λ x. absurd cc) ∙ e)
+ends_or_fault status.Rejected s h e = inl (h (λ x. absurd cc) ∙ e)
+
+not_write : (r : Status) → r ≡ status.ReadFault → r ≢ status.WriteFault
+not_write r e f = absurd cc
+
+-- the fetches of a stage whose value ends in a status that is no read fault, at the end of a call
+pub fetched_by : {A : Type 0} (names : List (List ℕ)) (old new : Option (List Fetched)) (s r : Status) (made : Result A Stop) → s ≢ status.ReadFault
+    → Fetches names old new made → (r ≢ status.WriteFault → r ≡ end_of s made) → HasFetched names r old new
+fetched_by names old new s r (Ok x) n h is =
+    record {
+      log = h.0;
+      failed = false;
+      grows = h.1;
+      begun = given_begun names h.0 h.2;
+      fault = λ e. absurd (n (sym (is (not_write r e)) ∙ e));
+      told = λ e. absurd cc;
+    }
+fetched_by names old new s r (Err x) n h is =
+    record {
+      log = h.0;
+      failed = is_read_fault (status_of x);
+      grows = h.1;
+      begun = h.2;
+      fault = λ e. ap is_read_fault (sym (is (not_write r e)) ∙ e);
+      told = λ e. ends_or_fault r (status_of x) is (read_true (status_of x) e);
+    }
+
+-- nothing was fetched
+pub fetched_nothing : (names : List (List ℕ)) (old : Option (List Fetched)) (r : Status) → r ≢ status.ReadFault → HasFetched names r old old
+fetched_nothing names old r n =
+    record {
+      log = [];
+      failed = false;
+      grows = Grows-nil old;
+      begun = begun_none names;
+      fault = λ e. absurd (n e);
+      told = λ e. absurd cc;
+    }
+
+-- a call whose end is no read fault is none
+pub never_read : (s r : Status) → s ≢ status.ReadFault → (r ≢ status.WriteFault → r ≡ s) → r ≢ status.ReadFault
+never_read s r n is e = n (sym (is (not_write r e)) ∙ e)
+
+-- a command whose text is made before it is written
+pub told_fetched : (names : List (List ℕ)) (old new : Option (List Fetched)) (made : Result (Vec ℕ Global) Stop) (r : Status) → Fetches names old new made
+    → (r ≢ status.WriteFault → r ≡ told_status made) → HasFetched names r old new
+told_fetched names old new (Ok v) r h is = fetched_by names old new status.Done r (Ok v) (λ e. absurd cc) h is
+told_fetched names old new (Err e) r h is = fetched_by {A = Vec ℕ Global} names old new status.Done r (Err e) (λ e. absurd cc) h is
 
 -- ---- why a file gives no bytes
 

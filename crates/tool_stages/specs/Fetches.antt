@@ -1,4 +1,4 @@
--- Which files a stage fetches, and how that ends.
+-- Which files a stage or a call fetches, and how that ends.
 use Rattle.std.specs.Prelude.{◌≡◌, ◌⊎◌, ℕ, Bool, true, false, List, [], ◌∷◌, Option, Some, None, Result, Ok, Err}
 use Rattle.tim_base.specs.Told.{IsTooLong}
 use Rattle.tim_base.specs.Logs.{Fetched, Grows}
@@ -41,6 +41,16 @@ is_read_fault _ = false
 abbrev pub Fetches : {A : Type 0} → List (List ℕ) → Option (List Fetched) → Option (List Fetched) → Result A Stop → Type 0
 Fetches names old new (Ok x) = (log : List Fetched) × Grows old new log × AreGiven names log
 Fetches names old new (Err e) = (log : List Fetched) × Grows old new log × AreBegun names (is_read_fault (status_of e)) log
+
+-- Some of these files were fetched, from the first one on, each once, and nothing after one that gave no bytes. A read
+-- fault is told exactly where the last fetch failed, unless the line for it could not be written.
+pub record HasFetched (names : List (List ℕ)) (s : Status) (old new : Option (List Fetched)) : Type 0 where
+  pub log : List Fetched
+  pub failed : Bool
+  pub grows : Grows old new log
+  pub begun : AreBegun names failed log
+  pub fault : s ≡ status.ReadFault → failed ≡ true
+  pub told : failed ≡ true → (s ≡ status.ReadFault) ⊎ (s ≡ status.WriteFault)
 
 -- why a file gives no bytes
 abbrev pub FileStops : Type 0 → Option (Option (List ℕ)) → File → Status → List ℕ → Type 0

@@ -5,8 +5,8 @@ ghost use Rattle.tim_base.specs.Kept.{KeepsFiles, NoCountFalls};
 ghost use Rattle.tim_base.specs.Faults.{Rose};
 ghost use Rattle.tool_words.specs.WordsAsked.{meaning};
 ghost use Rattle.tool_texts.specs.Ends.{EndsBy};
-ghost use Rattle.tool_stages.specs.Fetches.{named};
-ghost use Rattle.mit_tool.specs.Logged.{HasFetched, HasWritten, AreLines, IsMeaningLine};
+ghost use Rattle.tool_stages.specs.Fetches.{HasFetched, named};
+ghost use Rattle.mit_tool.specs.Logged.{HasWritten, AreLines, IsMeaningLine};
 ghost use Rattle.mit_tool.specs.Answers.{IsAnswer, Before};
 
 mod walk;

@@ -10,8 +10,8 @@ ghost use Rattle.tool_words.specs.WordsAsked.{run};
 ghost use Rattle.tool_texts.specs.Ends.{EndsBy, Nothing};
 ghost use Rattle.tool_stages.specs.Stages.{HasImage};
 ghost use Rattle.tool_stages.specs.Accepted.{is_past_typing, IsAccepted};
-ghost use Rattle.tool_stages.specs.Fetches.{named};
-ghost use Rattle.mit_tool.specs.Logged.{HasFetched, HasWritten, AreLines, IsRunLine};
+ghost use Rattle.tool_stages.specs.Fetches.{HasFetched, named};
+ghost use Rattle.mit_tool.specs.Logged.{HasWritten, AreLines, IsRunLine};
 ghost use Rattle.mit_tool.specs.Answers.{IsAnswer, HasTold, HasRun};
 
 use cycle_machine::end::RunEnd;

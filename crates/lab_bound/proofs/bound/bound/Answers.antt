@@ -1,9 +1,10 @@
-use Rattle.std.specs.Prelude.{ℕ, List}
+use Rattle.std.specs.Prelude.{ℕ, List, [], ◌∷◌}
 use Rattle.tim_base.specs.Faults.{Rose}
 use Rattle.tool_texts.specs.Ends.{Nothing, told_status, told_text}
 use Rattle.tool_texts.proofs.EndLemmas.{no_fault, ends_finish}
 use Rattle.tool_stages.specs.Accepted.{IsAccepted}
 use Rattle.tool_stages.proofs.EarlyLemmas.{told_sound}
+use Rattle.tool_stages.proofs.FetchLemmas.{told_fetched}
 use Rattle.lab_texts.specs.InLab.{lab_text}
 use Rattle.lab_texts.proofs.LabLemmas.{result_tells_in_lab}
 use Rattle.lab_bound.specs.Answer.{Bounds, IsBoundAnswer}
@@ -50,3 +51,8 @@ pub returns-clause-sound : goal.returns-clause-sound
 returns-clause-sound g c =
     told_sound c.bound_text-text.result (IsAccepted (g.S.Shelf.content c.args.shelf.now c.args.file.now)) c.tell.result c.bound_text-text.ensures.sound
     c.bound_text-text.ensures.sound_stop (λ n. (c.tell.ensures.told n).0)
+
+pub returns-clause-fetched : goal.returns-clause-fetched
+returns-clause-fetched g c =
+    told_fetched (c.args.file.now ∷ c.args.starts.now ∷ []) (g.S.Shelf.log c.args.shelf.now) (g.S.Shelf.log c.bound_text-text.new.shelf)
+    c.bound_text-text.result c.tell.result c.bound_text-text.ensures.log (λ n. (c.tell.ensures.told n).0)

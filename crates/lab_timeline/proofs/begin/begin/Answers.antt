@@ -1,9 +1,10 @@
 use Rattle.std.proofs.Common.{ap, ◌∙◌, arith}
-use Rattle.std.specs.Prelude.{ℕ, List, map, option_map}
+use Rattle.std.specs.Prelude.{ℕ, List, [], ◌∷◌, Ok, Err, map, option_map}
 use Rattle.tim_base.specs.Faults.{Rose}
 use Rattle.start_file.specs.Starts.{seen}
 use Rattle.tool_stages.proofs.EarlyLemmas.{compile_not_late}
 use Rattle.tool_stages.proofs.StopLemmas.{rose_since}
+use Rattle.tool_stages.proofs.FetchLemmas.{fetch_then}
 use Rattle.lab_timeline.proofs.BeginLemmas.{compile_stops_runs, starts_stop_runs, begun_of, begun_fits}
 use Rattle.lab_timeline.proofs.begin.begin.Goals as goal
 
@@ -57,3 +58,15 @@ returns-in-Err-clause-sound_stop g c = λ late.
     absurd (compile_not_late (λ (name : List ℕ). Rose (g.S.Shelf.faults c.args.shelf.now name) (g.S.Shelf.faults c.compile.new.shelf name))
     (g.S.Shelf.content c.args.shelf.now)
     c.args.file.now (option_map (λ s. s.now) c.args.name) c.in-Err.stop c.in-Err.ensures.stop late)
+
+pub returns-in-Ok-all_starts-clause-log : goal.returns-in-Ok-all_starts-clause-log
+returns-in-Ok-all_starts-clause-log g c =
+    fetch_then (c.args.file.now ∷ []) (c.args.starts.now ∷ []) (g.S.Shelf.log c.args.shelf.now) (g.S.Shelf.log c.compile.new.shelf)
+    (g.S.Shelf.log c.all_starts.new.shelf)
+    c.in-Ok.compiled (Ok c.in-Ok-all_starts.starts) c.in-Ok.ensures.log c.in-Ok-all_starts.ensures.log
+
+pub returns-in-Err-all_starts-clause-log : goal.returns-in-Err-all_starts-clause-log
+returns-in-Err-all_starts-clause-log g c =
+    fetch_then {B = Unit {0}} (c.args.file.now ∷ []) (c.args.starts.now ∷ []) (g.S.Shelf.log c.args.shelf.now) (g.S.Shelf.log c.compile.new.shelf)
+    (g.S.Shelf.log c.all_starts.new.shelf)
+    c.in-Ok.compiled (Err c.in-Err-all_starts.stop) c.in-Ok.ensures.log c.in-Err-all_starts.ensures.log

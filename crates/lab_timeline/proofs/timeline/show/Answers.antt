@@ -1,8 +1,11 @@
-use Rattle.std.specs.Prelude.{ℕ, List, map, option_map}
+use Rattle.std.proofs.Common.{refl}
+use Rattle.std.specs.Prelude.{ℕ, List, [], ◌∷◌, Ok, Err, map, option_map}
 use Rattle.tim_base.specs.Faults.{Rose}
 use Rattle.start_file.specs.Starts.{seen}
+use Rattle.tool_texts.specs.declared.status.Status.TheVariants.{Done, Memory, WriteFault}
 use Rattle.tool_texts.specs.Ends.{status_of}
 use Rattle.tool_stages.proofs.EarlyLemmas.{past_told}
+use Rattle.tool_stages.proofs.FetchLemmas.{fetched_by}
 use Rattle.lab_timeline.proofs.EndLemmas.{timeline_stops, timeline_done, timeline_short, timeline_broke}
 use Rattle.lab_timeline.proofs.timeline.show.Goals as goal
 
@@ -42,3 +45,23 @@ returns-clause-answered g c =
 
 pub returns-in-Err-clause-sound : goal.returns-in-Err-clause-sound
 returns-in-Err-clause-sound g c = λ past. c.in-Err.ensures.sound_stop (past_told c.stop.result (status_of c.in-Err.e) (λ n. (c.stop.ensures.told n).0) past)
+
+pub returns-in-Err-clause-fetched : goal.returns-in-Err-clause-fetched
+returns-in-Err-clause-fetched g c =
+    fetched_by {A = Unit {0}} (c.args.file.now ∷ c.args.starts.now ∷ []) (g.S.Shelf.log c.args.shelf.now) (g.S.Shelf.log c.begin.new.shelf)
+    Done c.stop.result (Err c.in-Err.e) (λ e. absurd cc) c.in-Err.ensures.log (λ n. (c.stop.ensures.told n).0)
+
+pub returns-in-Ok-write_timelines-clause-fetched : goal.returns-in-Ok-write_timelines-clause-fetched
+returns-in-Ok-write_timelines-clause-fetched g c =
+    fetched_by {A = Unit {0}} (c.args.file.now ∷ c.args.starts.now ∷ []) (g.S.Shelf.log c.args.shelf.now) (g.S.Shelf.log c.begin.new.shelf)
+    Done Done (Ok tt) (λ e. absurd cc) c.in-Ok.ensures.log (λ n. refl)
+
+pub returns-in-Err-Memory-clause-fetched : goal.returns-in-Err-Memory-clause-fetched
+returns-in-Err-Memory-clause-fetched g c =
+    fetched_by {A = Unit {0}} (c.args.file.now ∷ c.args.starts.now ∷ []) (g.S.Shelf.log c.args.shelf.now) (g.S.Shelf.log c.begin.new.shelf)
+    Memory c.finish.result (Ok tt) (λ e. absurd cc) c.in-Ok.ensures.log (λ n. (c.finish.ensures.told n).0)
+
+pub returns-clause-fetched : goal.returns-clause-fetched
+returns-clause-fetched g c =
+    fetched_by {A = Unit {0}} (c.args.file.now ∷ c.args.starts.now ∷ []) (g.S.Shelf.log c.args.shelf.now) (g.S.Shelf.log c.begin.new.shelf)
+    WriteFault WriteFault (Ok tt) (λ e. absurd cc) c.in-Ok.ensures.log (λ n. refl)

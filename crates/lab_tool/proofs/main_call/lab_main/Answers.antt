@@ -5,11 +5,12 @@ use Rattle.tool_texts.specs.declared.status.Status.{Status}
 use Rattle.tool_texts.specs.declared.status.Status.TheVariants.{Usage, Memory}
 use Rattle.tool_texts.specs.Ends.{EndsBy, Nothing}
 use Rattle.tool_texts.proofs.EndLemmas.{ends_finish, ends_memory}
+use Rattle.tool_stages.proofs.FetchLemmas.{fetched_nothing, never_read}
 use Rattle.lab_texts.specs.InLab.{lab_usage_text}
 use Rattle.lab_words.specs.QuestionAsked.{Asked, question_of}
 use Rattle.lab_words.specs.QuestionViews.{asked_of}
 use Rattle.lab_tool.specs.Answers.{Before, IsAnswer, IsUsage}
-use Rattle.lab_tool.specs.Complete.{CanEnd, NoneRises}
+use Rattle.lab_tool.specs.Complete.{CanEnd, NoneRises, named_by}
 use Rattle.lab_tool.proofs.AskedLemmas.{any_some, asked_some, nothing_before}
 use Rattle.lab_tool.proofs.EndsLemmas.{completes}
 use Rattle.lab_tool.proofs.main_call.lab_main.Goals as goal
@@ -54,3 +55,13 @@ returns-in-Err-Memory-clause-complete g c =
     any_some (question_of (map string_bytes c.args.words.now)) (λ (a : Asked). (s : Status) → CanEnd content a s → NoneRises rises a → (risen → ⊥)
     → (c.finish.result ≡ s) ⊎ (c.finish.result ≡ Memory))
     (λ a s can none n. inr (c.finish.ensures.told (λ e. n (c.finish.ensures.fault e))).0)
+
+pub returns-in-Err-Usage-clause-fetched : goal.returns-in-Err-Usage-clause-fetched
+returns-in-Err-Usage-clause-fetched g c =
+    fetched_nothing (named_by (question_of (map string_bytes c.args.words.now))) (g.S.Shelf.log c.args.shelf.now) c.stop.result
+    (never_read Usage c.stop.result (λ e. absurd cc) (λ n. (c.stop.ensures.told n).0))
+
+pub returns-in-Err-Memory-clause-fetched : goal.returns-in-Err-Memory-clause-fetched
+returns-in-Err-Memory-clause-fetched g c =
+    fetched_nothing (named_by (question_of (map string_bytes c.args.words.now))) (g.S.Shelf.log c.args.shelf.now) c.finish.result
+    (never_read Memory c.finish.result (λ e. absurd cc) (λ n. (c.finish.ensures.told n).0))

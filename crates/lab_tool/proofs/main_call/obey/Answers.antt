@@ -1,10 +1,12 @@
 use Rattle.std.proofs.Common.{ℕ, List, Option, Bor, sym, subst}
 use Rattle.tim_base.specs.Faults.{Rose}
 use Rattle.tool_texts.specs.Ends.{EndsBy}
+use Rattle.tool_stages.specs.Fetches.{HasFetched}
 use Rattle.lab_words.specs.declared.question.Question.{Question}
 use Rattle.lab_words.specs.declared.question.Question.TheVariants.{Why}
 use Rattle.lab_words.specs.QuestionViews.{asked_of}
 use Rattle.lab_tool.specs.Answers.{Before, IsAnswer}
+use Rattle.lab_tool.specs.Complete.{files_of}
 use Rattle.lab_tool.proofs.main_call.obey.Goals as goal
 
 pub returns-in-None-clause-answered : goal.returns-in-None-clause-answered
@@ -43,3 +45,28 @@ returns-in-Timeline-clause-answered g c =
     let rises = λ (name : List ℕ). Rose (g.S.Shelf.faults c.args.shelf.now name) (g.S.Shelf.faults c.timeline.new.shelf name) in
     subst (λ (x : Question). EndsBy (g.W.Sink.taken c.args.out.now) (g.W.Sink.taken c.timeline.new.out) (Before content (asked_of x))
     (IsAnswer rises content (asked_of x)) c.timeline.result) (sym c.in-Timeline.is) c.timeline.ensures.answered
+
+pub returns-in-None-clause-fetched : goal.returns-in-None-clause-fetched
+returns-in-None-clause-fetched g c =
+    subst (λ (x : Question). HasFetched (files_of (asked_of x)) c.why.result (g.S.Shelf.log c.args.shelf.now) (g.S.Shelf.log c.why.new.shelf))
+    (sym c.in-Why.is) c.why.ensures.fetched
+
+pub returns-in-Some-clause-fetched : goal.returns-in-Some-clause-fetched
+returns-in-Some-clause-fetched g c =
+    subst (λ (x : Question). HasFetched (files_of (asked_of x)) c.why_of.result (g.S.Shelf.log c.args.shelf.now) (g.S.Shelf.log c.why_of.new.shelf))
+    (sym c.in-Why.is) c.why_of.ensures.fetched
+
+pub returns-in-Seen-clause-fetched : goal.returns-in-Seen-clause-fetched
+returns-in-Seen-clause-fetched g c =
+    subst (λ (x : Question). HasFetched (files_of (asked_of x)) c.seen.result (g.S.Shelf.log c.args.shelf.now) (g.S.Shelf.log c.seen.new.shelf))
+    (sym c.in-Seen.is) c.seen.ensures.fetched
+
+pub returns-in-Bound-clause-fetched : goal.returns-in-Bound-clause-fetched
+returns-in-Bound-clause-fetched g c =
+    subst (λ (x : Question). HasFetched (files_of (asked_of x)) c.bound.result (g.S.Shelf.log c.args.shelf.now) (g.S.Shelf.log c.bound.new.shelf))
+    (sym c.in-Bound.is) c.bound.ensures.fetched
+
+pub returns-in-Timeline-clause-fetched : goal.returns-in-Timeline-clause-fetched
+returns-in-Timeline-clause-fetched g c =
+    subst (λ (x : Question). HasFetched (files_of (asked_of x)) c.timeline.result (g.S.Shelf.log c.args.shelf.now) (g.S.Shelf.log c.timeline.new.shelf))
+    (sym c.in-Timeline.is) c.timeline.ensures.fetched

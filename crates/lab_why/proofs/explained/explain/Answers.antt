@@ -1,6 +1,10 @@
 use Rattle.std.proofs.Common.{refl, sym, ap, inl, inr, ◌∙◌}
+use Rattle.std.specs.Prelude.{[], ◌∷◌}
 use Rattle.tool_stages.specs.Stages.{Types}
+use Rattle.tool_stages.specs.Fetches.{is_read_fault}
+use Rattle.tool_stages.proofs.FetchLemmas.{fetch_stops}
 use Rattle.timing_types.specs.Labelled.{HasType}
+use Rattle.tool_texts.specs.Ends.{status_of}
 use Rattle.tool_texts.specs.Texts.{accepted_line}
 use Rattle.lab_why.proofs.ReasonLemmas.{of_ok, of_err, same_tokens, tells_reason}
 use Rattle.lab_why.proofs.explained.explain.Goals as goal
@@ -37,3 +41,13 @@ returns-in-Ok-refusal_text-clause-told g c =
           c.in-Ok.ensures.types none refused.1 reason cheapest earliest
           c.in-Ok-refusal_text.ensures),
     )
+
+pub returns-in_default-tokens-clause-log : goal.returns-in_default-tokens-clause-log
+returns-in_default-tokens-clause-log g c =
+    fetch_stops (Unit {0}) (Unit {0}) (c.args.file.now ∷ []) (g.S.Shelf.log c.args.shelf.now) (g.S.Shelf.log c.read_source.new.shelf) tt
+    c.no_memory-in_default-tokens.result (ap (λ e. is_read_fault (status_of e)) c.no_memory-in_default-tokens.ensures) c.in_ok-text.ensures.log
+
+pub returns-clause-log : goal.returns-clause-log
+returns-clause-log g c =
+    fetch_stops (Unit {0}) (Unit {0}) (c.args.file.now ∷ []) (g.S.Shelf.log c.args.shelf.now) (g.S.Shelf.log c.read_source.new.shelf) tt
+    c.no_memory-in-Err-refusal_text.result (ap (λ e. is_read_fault (status_of e)) c.no_memory-in-Err-refusal_text.ensures) c.in_ok-text.ensures.log

@@ -1,7 +1,8 @@
-use Rattle.std.specs.Prelude.{ℕ, List}
+use Rattle.std.specs.Prelude.{ℕ, List, [], ◌∷◌}
 use Rattle.tim_base.specs.Faults.{Rose}
 use Rattle.tool_texts.specs.Ends.{Nothing, told_status, told_text}
 use Rattle.tool_texts.proofs.EndLemmas.{ends_finish, no_fault}
+use Rattle.tool_stages.proofs.FetchLemmas.{told_fetched}
 use Rattle.lab_texts.specs.InLab.{InLab, lab_text}
 use Rattle.lab_texts.proofs.LabLemmas.{result_tells_in_lab}
 use Rattle.lab_why.specs.Origins.{ComesFrom}
@@ -24,3 +25,8 @@ returns-clause-answered g c =
     (lab_text (told_status c.origin_text-made.result) (told_text c.origin_text-made.result)) c.tell.result
     (result_tells_in_lab answer c.origin_text-made.result c.origin_text-made.ensures.text c.origin_text-made.ensures.stop)
     c.tell.ensures.told c.tell.ensures.prefix
+
+pub returns-clause-fetched : goal.returns-clause-fetched
+returns-clause-fetched g c =
+    told_fetched (c.args.file.now ∷ []) (g.S.Shelf.log c.args.shelf.now) (g.S.Shelf.log c.origin_text-made.new.shelf) c.origin_text-made.result
+    c.tell.result c.origin_text-made.ensures.log (λ n. (c.tell.ensures.told n).0)

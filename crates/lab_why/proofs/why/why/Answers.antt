@@ -1,9 +1,10 @@
 use Rattle.std.proofs.Common.{refl, sym, subst, inl}
-use Rattle.std.specs.Prelude.{ℕ, List}
+use Rattle.std.specs.Prelude.{ℕ, List, [], ◌∷◌, Ok, Err}
 use Rattle.tim_base.specs.Faults.{Rose}
 use Rattle.tool_texts.specs.declared.status.Status.TheVariants.{Done, Refused}
 use Rattle.tool_texts.specs.Ends.{Nothing, status_of, stop_text}
 use Rattle.tool_stages.specs.Stages.{ProgramStops}
+use Rattle.tool_stages.proofs.FetchLemmas.{fetched_by}
 use Rattle.tool_texts.proofs.EndLemmas.{ends_finish, ends_stop}
 use Rattle.lab_why.specs.declared.explained.Explained.{Explained}
 use Rattle.lab_why.specs.Explained.{status_told, text_told}
@@ -36,3 +37,18 @@ returns-in-Err-clause-answered g c =
     ends_stop (g.W.Sink.taken c.args.out.now) (g.W.Sink.taken c.stop.new.out) Nothing (ProgramStops (rises c.args.file.now) (content c.args.file.now))
     (IsWhyAnswer rises content c.args.file.now)
     (status_of e) (stop_text e) c.stop.result refl (λ t h. inl h) c.in-Err.ensures.stop c.stop.ensures.told c.stop.ensures.prefix
+
+pub returns-in-Ok-Accepted-clause-fetched : goal.returns-in-Ok-Accepted-clause-fetched
+returns-in-Ok-Accepted-clause-fetched g c =
+    fetched_by {A = Unit {0}} (c.args.file.now ∷ []) (g.S.Shelf.log c.args.shelf.now) (g.S.Shelf.log c.explain.new.shelf) Done c.finish.result (Ok tt)
+    (λ e. absurd cc) c.in-Ok-Accepted.ensures.log (λ n. (c.finish.ensures.told n).0)
+
+pub returns-in-Ok-Refused-clause-fetched : goal.returns-in-Ok-Refused-clause-fetched
+returns-in-Ok-Refused-clause-fetched g c =
+    fetched_by {A = Unit {0}} (c.args.file.now ∷ []) (g.S.Shelf.log c.args.shelf.now) (g.S.Shelf.log c.explain.new.shelf) Refused
+    c.finish-in-Ok-Refused.result (Ok tt) (λ e. absurd cc) c.in-Ok-Refused.ensures.log (λ n. (c.finish-in-Ok-Refused.ensures.told n).0)
+
+pub returns-in-Err-clause-fetched : goal.returns-in-Err-clause-fetched
+returns-in-Err-clause-fetched g c =
+    fetched_by {A = Unit {0}} (c.args.file.now ∷ []) (g.S.Shelf.log c.args.shelf.now) (g.S.Shelf.log c.explain.new.shelf) Done c.stop.result
+    (Err c.in-Err.e) (λ e. absurd cc) c.in-Err.ensures.log (λ n. (c.stop.ensures.told n).0)

@@ -16,7 +16,8 @@ use Rattle.mit_tool.proofs.CompleteLemmas.{completes}
 use Rattle.mit_tool.proofs.OneHeld.{ends_held}
 use Rattle.mit_tool.proofs.PastLemmas.{ends_past, ends_rechecked}
 use Rattle.mit_tool.proofs.BoundLemmas.{within}
-use Rattle.mit_tool.proofs.LoggedLemmas.{fetched_nothing, never_read, memory_pieces, one_piece}
+use Rattle.tool_stages.proofs.FetchLemmas.{fetched_nothing, never_read}
+use Rattle.mit_tool.proofs.LoggedLemmas.{memory_pieces, one_piece}
 use Rattle.mit_tool.specs.Logged.{ArePieces, named_by}
 use Rattle.mit_tool.proofs.main_call.mitigate_main.Goals as goal
 

@@ -11,8 +11,10 @@ use Rattle.mit_tool.specs.Answers.{IsAnswer, Before, HasGenerated, typed_content
 use Rattle.tool_texts.proofs.EndLemmas.{result_tells, no_fault, ends_finish}
 use Rattle.tool_stages.proofs.EarlyLemmas.{told_sound}
 use Rattle.mit_tool.proofs.TellLemmas.{infer_no_fault, compile_no_fault, audit_no_fault, cut_no_fault, gen_no_fault, blackbox_no_fault, certify_no_fault}
-use Rattle.mit_tool.proofs.LoggedLemmas.{told_fetched, told_piece, told_nothing, gen_no_read}
-use Rattle.mit_tool.specs.Logged.{HasFetched, HasWritten, ArePieces}
+use Rattle.tool_stages.specs.Fetches.{HasFetched}
+use Rattle.tool_stages.proofs.FetchLemmas.{told_fetched}
+use Rattle.mit_tool.proofs.LoggedLemmas.{told_piece, told_nothing, gen_no_read}
+use Rattle.mit_tool.specs.Logged.{HasWritten, ArePieces}
 use Rattle.mit_tool.specs.Complete.{files_of}
 use Rattle.mit_tool.proofs.main_call.obey.Goals as goal
 

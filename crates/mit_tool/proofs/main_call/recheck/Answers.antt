@@ -7,7 +7,7 @@ use Rattle.tool_texts.specs.Ends.{Nothing, status_of, stop_text}
 use Rattle.mit_tool.specs.Answers.{IsAnswer}
 use Rattle.tool_texts.proofs.EndLemmas.{ends_finish, ends_stop, no_fault}
 use Rattle.mit_tool.proofs.TellLemmas.{recheck_no_fault}
-use Rattle.mit_tool.proofs.LoggedLemmas.{fetched_by}
+use Rattle.tool_stages.proofs.FetchLemmas.{fetched_by}
 use Rattle.mit_tool.proofs.main_call.recheck.Goals as goal
 
 pub returns-in-Ok-clause-answered : goal.returns-in-Ok-clause-answered

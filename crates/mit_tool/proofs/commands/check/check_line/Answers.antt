@@ -1,10 +1,9 @@
 use Rattle.std.proofs.Common.{refl, ap, inr, ◌∙◌}
 use Rattle.tool_texts.specs.Texts.{accepted_line}
 use Rattle.std.specs.Prelude.{ℕ, List, [], ◌∷◌}
-use Rattle.tool_stages.proofs.FetchLemmas.{fetch_stops, not_read}
+use Rattle.tool_stages.proofs.FetchLemmas.{fetch_stops, fetched_on, not_read}
 use Rattle.mit_syntax.specs.Program.{Syntax}
 use Rattle.tool_stages.specs.Stages.{TypeStops}
-use Rattle.mit_tool.proofs.LoggedLemmas.{fetched_on}
 use Rattle.mit_tool.proofs.commands.check.check_line.Goals as goal
 
 pub returns-clause-line : goal.returns-clause-line

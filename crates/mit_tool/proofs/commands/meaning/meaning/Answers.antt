@@ -8,7 +8,8 @@ use Rattle.tool_stages.specs.Begins.{MeaningStops}
 use Rattle.mit_tool.specs.Answers.{IsAnswer, Before}
 use Rattle.tool_texts.proofs.EndLemmas.{ends_stop}
 use Rattle.mit_tool.proofs.StopLemmas.{meaning_stops, meaning_done, meaning_short, meaning_broke}
-use Rattle.mit_tool.proofs.LoggedLemmas.{fetched_by, stop_alone, meaning_stopped, line_after, stop_after, broken_lines}
+use Rattle.tool_stages.proofs.FetchLemmas.{fetched_by}
+use Rattle.mit_tool.proofs.LoggedLemmas.{stop_alone, meaning_stopped, line_after, stop_after, broken_lines}
 use Rattle.mit_tool.specs.Logged.{IsMeaningLine}
 use Rattle.tool_stages.specs.Fetches.{named}
 use Rattle.tool_texts.specs.Texts.{memory_line}

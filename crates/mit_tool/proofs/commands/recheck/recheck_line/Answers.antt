@@ -8,8 +8,7 @@ use Rattle.tool_stages.specs.Stages.{Rechecks}
 use Rattle.mit_tool.specs.Answers.{IsAnswer}
 use Rattle.tool_stages.proofs.StopLemmas.{rose_since}
 use Rattle.mit_tool.proofs.StopLemmas.{handed_on, later_certificate_stops}
-use Rattle.tool_stages.proofs.FetchLemmas.{fetch_then}
-use Rattle.mit_tool.proofs.LoggedLemmas.{fetched_on}
+use Rattle.tool_stages.proofs.FetchLemmas.{fetch_then, fetched_on}
 use Rattle.mit_tool.proofs.commands.recheck.recheck_line.Goals as goal
 
 pub returns-clause-line : goal.returns-clause-line

@@ -9,7 +9,8 @@ use Rattle.tool_stages.proofs.EarlyLemmas.{past_told}
 use Rattle.mit_tool.specs.Answers.{IsAnswer, HasRun}
 use Rattle.tool_texts.proofs.EndLemmas.{ends_map, ends_stop}
 use Rattle.mit_tool.proofs.StopLemmas.{ready_tells, run_stops}
-use Rattle.mit_tool.proofs.LoggedLemmas.{fetched_by, stop_alone, run_stopped}
+use Rattle.tool_stages.proofs.FetchLemmas.{fetched_by}
+use Rattle.mit_tool.proofs.LoggedLemmas.{stop_alone, run_stopped}
 use Rattle.mit_tool.specs.Logged.{IsRunLine}
 use Rattle.tool_stages.specs.Fetches.{named}
 use Rattle.mit_tool.proofs.commands.run.run.Goals as goal
