@@ -5,7 +5,7 @@ ghost use Rattle.label_lattice.specs.declared.label.Label.{Label};
 ghost use Rattle.timing_types.specs.Labelled.{LabelledProgram};
 ghost use Rattle.start_file.specs.Starts.{StartValue, seen};
 ghost use Rattle.tool_words.specs.declared.words.EnvName.{EnvName};
-ghost use Rattle.tool_words.specs.WordsAsked.{IsCycles};
+ghost use Rattle.run_limits.specs.Cycles.{IsCycles};
 ghost use Rattle.tool_texts.specs.Ends.{IsStop};
 ghost use Rattle.tool_stages.specs.Envs.{ReportsIn, AuditFaultsIn};
 ghost use Rattle.tool_stages.specs.Begins.{CanAudit};

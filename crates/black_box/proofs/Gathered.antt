@@ -7,9 +7,9 @@ use Rattle.std.proofs.lemmas.Bool.{cases_Bool, cond-true, cond-false, or_left, o
 use Rattle.std.proofs.lemmas.Bool.{not_from_true, not_from_false}
 use Rattle.std.proofs.lemmas.List.{map-append, take_more, take_all}
 use Rattle.indexmap.specs.IndexSet.{insert_key}
-use Rattle.leak_bound.specs.Records.{distinct, distinct_count, Tests, Each}
+use Rattle.leak_bound.specs.Records.{distinct, distinct_count, place_in, classes_of, Tests, Each}
 use Rattle.leak_bound.proofs.Few.{Each-map}
-use Rattle.black_box.specs.Audits.{same_cycles, place_in, classes_of}
+use Rattle.black_box.specs.Audits.{same_cycles}
 use Rattle.std.specs.Cmp.Lexicographic.{bytes_decides}
 
 pub cycles_test : Tests same_cycles
@@ -143,7 +143,7 @@ map_each f g (x ∷ xs) h = ap (λ y. y ∷ map f xs) h.0 ∙ ap (λ ys. g x ∷
 -- the first i lists were compared
 pub record IsGathered (all : List (List ℕ)) (i : ℕ) (keys : List (List ℕ)) (places : List ℕ) : Type 0 where
   pub keys_are : keys ≡ distinct same_cycles (take i all)
-  pub places_are : places ≡ map (place_in keys) (take i all)
+  pub places_are : places ≡ map (place_in same_cycles keys) (take i all)
   pub few : length keys ≤ i
 
 pub gather_none : (all : List (List ℕ)) → IsGathered all 0 [] []
@@ -157,25 +157,27 @@ gather_more all i keys places x place g h at p =
       keys_are = ap (λ z. insert_key same_cycles z x) g.keys_are ∙ sym (distinct-push same_cycles cycles_test (take i all) x)
           ∙ ap (distinct same_cycles) (sym (more at));
       places_are =
-          ap (λ z. z ++ (place + 1) ∷ []) (g.places_are ∙ map_each (place_in keys) (place_in (insert_key same_cycles keys x)) (take i all) stay)
-          ∙ ap (λ n. map (place_in (insert_key same_cycles keys x)) (take i all) ++ n ∷ []) own
-          ∙ sym (map-append (place_in (insert_key same_cycles keys x)) (take i all) (x ∷ []))
-          ∙ ap (map (place_in (insert_key same_cycles keys x))) (sym (more at));
+          ap (λ z. z ++ (place + 1) ∷ []) (g.places_are
+          ∙ map_each (place_in same_cycles keys) (place_in same_cycles (insert_key same_cycles keys x)) (take i all) stay)
+          ∙ ap (λ n. map (place_in same_cycles (insert_key same_cycles keys x)) (take i all) ++ n ∷ []) own
+          ∙ sym (map-append (place_in same_cycles (insert_key same_cycles keys x)) (take i all) (x ∷ []))
+          ∙ ap (map (place_in same_cycles (insert_key same_cycles keys x))) (sym (more at));
       few = let a = g.few in omega (arith, longer, a);
     }
   where
     more : x ≡ get_or all i x → take (i + 1) all ≡ take i all ++ x ∷ []
     more at = take_more all i x h ∙ ap (λ z. take i all ++ z ∷ []) (sym at)
 
-    stay : Each (λ z. place_in keys z ≡ place_in (insert_key same_cycles keys x) z) (take i all)
+    stay : Each (λ z. place_in same_cycles keys z ≡ place_in same_cycles (insert_key same_cycles keys x) z) (take i all)
     stay =
         Each-map
-        (λ z. list_any (same_cycles z) (distinct same_cycles (take i all)) ≡ true) (λ z. place_in keys z ≡ place_in (insert_key same_cycles keys x) z)
+        (λ z. list_any (same_cycles z) (distinct same_cycles (take i all)) ≡ true)
+        (λ z. place_in same_cycles keys z ≡ place_in same_cycles (insert_key same_cycles keys x) z)
         (λ z f. ap (λ n. n + 1) (sym (position-insert same_cycles cycles_test keys x z
         (or_left (list_any (same_cycles z) keys) (same_cycles z x) (ap (list_any (same_cycles z)) g.keys_are ∙ f)))))
         (take i all) (all_found same_cycles cycles_test (take i all))
 
-    own : place + 1 ≡ place_in (insert_key same_cycles keys x) x
+    own : place + 1 ≡ place_in same_cycles (insert_key same_cycles keys x) x
     own = ap (λ n. n + 1) (p ∙ sym (position-insert same_cycles cycles_test keys x x
         (or_right (list_any (same_cycles x) keys) (same_cycles x x) (cycles_test.same_from x x refl))))
 
@@ -184,8 +186,8 @@ gather_more all i keys places x place g h at p =
         (λ e. omega (arith, length-append keys (x ∷ [])))
 
 pub gather_all : (all : List (List ℕ)) (i : ℕ) (keys : List (List ℕ)) (places : List ℕ) → IsGathered all i keys places → length all ≤ i
-    → (length keys ≡ distinct_count same_cycles all) × (places ≡ classes_of all)
+    → (length keys ≡ distinct_count same_cycles all) × (places ≡ classes_of same_cycles all)
 gather_all all i keys places g h =
     let whole : take i all ≡ all = take_all i all h in
     let known : keys ≡ distinct same_cycles all = g.keys_are ∙ ap (distinct same_cycles) whole in
-    (ap length known, g.places_are ∙ ap (map (place_in keys)) whole ∙ ap (λ z. map (place_in z) all) known)
+    (ap length known, g.places_are ∙ ap (map (place_in same_cycles keys)) whole ∙ ap (λ z. map (place_in same_cycles z) all) known)

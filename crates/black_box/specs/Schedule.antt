@@ -1,12 +1,8 @@
 -- The schedule by which the events of a run are released, said of the whole list of releases.
-use Rattle.std.specs.Prelude.{◌≡◌, ℕ, zero, suc, ◌+◌, ◌*◌, ◌^◌, ◌<◌, ◌≤◌, ◌==◌, ◌&&◌, if◌then◌else◌, nat_le, nat_lt, not, Bool, false, List, [], ◌∷◌, drop}
+use Rattle.std.specs.Prelude.{◌≡◌, ℕ, zero, suc, ◌+◌, ◌*◌, ◌<◌, ◌≤◌, ◌==◌, ◌&&◌, if◌then◌else◌, nat_le, nat_lt, not, Bool, false, List, [], ◌∷◌, drop}
 use Rattle.std.specs.Prelude.{count_by}
 use Rattle.std.specs.List.{list_any}
 use Rattle.leak_bound.specs.Records.{Each}
-
--- a number of cycles that can be asked for
-abbrev pub IsCycles : ℕ → Type 0
-IsCycles n = (1 ≤ n) × (n ≤ 2 ^ 40)
 
 -- of the events that are left, with the cycles at which they are ready, there is a first, and it is ready by s
 abbrev pub is_due : ℕ → List ℕ → Bool

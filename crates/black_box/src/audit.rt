@@ -3,11 +3,11 @@
 ghost use Rattle.std.specs.Prelude.{◌≡◌, ◌+◌, ◌≤◌, ◌^◌, IfOk, length, map};
 ghost use Rattle.std.specs.List.{AllZip};
 ghost use Rattle.leak_bound.specs.Digits.{digits};
-ghost use Rattle.leak_bound.specs.Records.{distinct_count};
-ghost use Rattle.black_box.specs.Schedule.{IsCycles};
+ghost use Rattle.leak_bound.specs.Records.{distinct_count, classes_of};
+ghost use Rattle.run_limits.specs.Cycles.{IsCycles};
 ghost use Rattle.black_box.specs.Outcomes.{seen, IsOutcome, outcome};
 ghost use Rattle.black_box.specs.Files.{ready_lists};
-ghost use Rattle.black_box.specs.Audits.{same_cycles, classes_of, shown};
+ghost use Rattle.black_box.specs.Audits.{same_cycles, shown};
 
 use crate::class::{Classes, classify};
 use crate::release::{Releases, release};
@@ -67,7 +67,7 @@ pub fn box_audit(
     requires limit { IsCycles limit }
     ensures runs { IfOk result (λ a. AllZip (IsOutcome first limit) (ready_lists all.now) (map seen a.runs.items)) }
     ensures distinct { IfOk result (λ a. a.distinct ≡ distinct_count same_cycles (shown a.runs.items)) }
-    ensures classes { IfOk result (λ a. a.classes.items ≡ classes_of (shown a.runs.items)) }
+    ensures classes { IfOk result (λ a. a.classes.items ≡ classes_of same_cycles (shown a.runs.items)) }
     ensures base { IfOk result (λ a. a.base ≡ limit + 1) }
     ensures exponent { IfOk result (λ a. a.exponent ≡ digits limit) }
     ensures bound { IfOk result (λ a. a.distinct ≤ a.base ^ a.exponent) }

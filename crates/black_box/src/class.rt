@@ -1,8 +1,8 @@
 //! Which runs show the same releases.
 
 ghost use Rattle.std.specs.Prelude.{◌≡◌, ◌≤◌, IfOk, length};
-ghost use Rattle.leak_bound.specs.Records.{distinct_count};
-ghost use Rattle.black_box.specs.Audits.{same_cycles, classes_of, shown};
+ghost use Rattle.leak_bound.specs.Records.{distinct_count, classes_of};
+ghost use Rattle.black_box.specs.Audits.{same_cycles, shown};
 
 use crate::release::Releases;
 use indexmap::IndexSet;
@@ -23,7 +23,7 @@ pub(crate) struct Classes {
 pub(crate) fn classify(alloc: Global, runs: &[Releases]) -> Result<Classes, Memory>
     requires { length runs.now ≤ MAX_RUNS }
     ensures distinct { IfOk result (λ c. c.distinct ≡ distinct_count same_cycles (shown runs.now)) }
-    ensures places { IfOk result (λ c. c.places.items ≡ classes_of (shown runs.now)) }
+    ensures places { IfOk result (λ c. c.places.items ≡ classes_of same_cycles (shown runs.now)) }
 {
     let mut seen: IndexSet<&[u64]> = IndexSet::new(alloc);
     let mut places = Vec::new(alloc);

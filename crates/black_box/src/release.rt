@@ -1,7 +1,8 @@
 //! The releases of one run.
 
 ghost use Rattle.std.specs.Prelude.{◌≡◌, IfOk, length, drop};
-ghost use Rattle.black_box.specs.Schedule.{IsCycles, is_due};
+ghost use Rattle.run_limits.specs.Cycles.{IsCycles};
+ghost use Rattle.black_box.specs.Schedule.{is_due};
 ghost use Rattle.black_box.specs.Outcomes.{seen, IsOutcome, outcome};
 
 use std::alloc::Global;

@@ -4,7 +4,7 @@ use Rattle.mit_syntax.specs.Expression.{Expression, Number, Variable, Binary, El
 use Rattle.mit_syntax.specs.Todo.{Done, Skip, Assign, Put, Sleep, If, While, Mitigate}
 use Rattle.mit_syntax.specs.Plan.{Plan, count}
 use Rattle.mit_syntax.specs.Limits.{depth, operators, IsSmall, AreSmall}
-use Rattle.mit_syntax.specs.Ranks.{left_need, right_need}
+use Rattle.mit_syntax.specs.Operators.{left_need, right_need}
 use Rattle.code_lower.specs.Layout.{expr_size, size}
 
 -- on the way to each number and variable there are at most 100 elements

@@ -15,7 +15,7 @@ use Rattle.cycle_machine.specs.declared.state.State.{State}
 use Rattle.cycle_machine.specs.declared.state.Outcome.{Outcome}
 use Rattle.cycle_machine.specs.declared.state.Outcome.TheVariants.{Went, Wrote as DidWrite, Began as DidBegin, Ended as DidEnd, Halted as DidHalt, Late}
 use Rattle.label_code.specs.Shaped.{Code, Depths, HasDepths, Leads, InRange, takes, leaves, opens, closes}
-use Rattle.label_lattice.specs.Order.{Order}
+use Rattle.label_lattice.specs.Order.{Order, most_labels}
 use Rattle.cycle_machine.specs.Seen.{seen, with_log, core_of, opened_of}
 use Rattle.cycle_machine.specs.Took.{after, Took, Keeps, IsServed, IsThere, Stands, Fits, Stepped}
 use Rattle.cycle_machine.proofs.Close.{close_later}
@@ -106,7 +106,7 @@ room ds size most deepest a Nop h l p q = (omega (arith, p), omega (arith, q))
 room ds size most deepest a Halt h l p q = (omega (arith, p), omega (arith, q))
 
 -- a range with all levels
-wider : (n labels : ℕ) (w : Work) → labels ≤ 32 → InRange n labels w → InRange n 32 w
+wider : (n labels : ℕ) (w : Work) → labels ≤ most_labels → InRange n labels w → InRange n most_labels w
 wider n labels (Push x) l h = h
 wider n labels (Load x) l h = h
 wider n labels (Store x) l h = h
@@ -142,7 +142,7 @@ fits_from serves c i s h e lo lp lm =
       opened = omega (arith, lp, b, fine.opened);
       nesting = omega (arith, lp, b, r.1, h.opened);
       few = omega (arith, lm, h.memory, has.variables);
-      range = subst (λ n. InRange n 32 i.work) (sym (lm ∙ h.memory)) (wider c.variables c.order.size i.work h.labels fine.range);
+      range = subst (λ n. InRange n most_labels i.work) (sym (lm ∙ h.memory)) (wider c.variables c.order.size i.work h.labels fine.range);
     }
 
 -- the labels of an instruction are the environment's

@@ -1,7 +1,7 @@
 -- What one instruction needs, and what it makes of a state.
 use Rattle.std.specs.Prelude.{◌≡◌, ◌≤◌, ◌<◌, ℕ, ◌+◌, [], ◌∷◌, map, reverse, true, vec_len, vec_capacity, length}
 use Rattle.label_lattice.specs.declared.label.Label.{Label}
-use Rattle.label_lattice.specs.Order.{Order}
+use Rattle.label_lattice.specs.Order.{Order, most_labels}
 use Rattle.env_contract.specs.Env.{Env}
 use Rattle.label_code.specs.Machine.{Wrote, Began, Ended, Machine, act, fetched, marks_of, step}
 use Rattle.label_code.specs.Shaped.{Code, Depths, HasDepths, InRange, takes, leaves, opens, closes}
@@ -49,7 +49,7 @@ pub record Stands {E : Type 0} (serves : Order → E → Type 0) (c : Code) (s :
   pub operands : c.operands ≤ vec_capacity s.operands
   pub opened : c.nesting ≤ vec_capacity s.opened
   pub memory : length s.memory.items ≡ c.variables
-  pub labels : c.order.size ≤ 32
+  pub labels : c.order.size ≤ most_labels
   pub served : serves c.order s.env
 
 -- a state that the instruction fits
@@ -60,7 +60,7 @@ pub record Fits {E : Type 0} (i : Instr) (s : State E) : Type 0 where
   pub opened : closes i.work ≤ vec_len s.opened
   pub nesting : vec_len s.opened + opens i.work ≤ vec_capacity s.opened + closes i.work
   pub few : vec_len s.memory ≤ 3072
-  pub range : InRange (vec_len s.memory) 32 i.work
+  pub range : InRange (vec_len s.memory) most_labels i.work
 
 -- what one step did
 abbrev pub Stepped : {E : Type 0} → Env E → (Order → E → Type 0) → Code → State E → ℕ → Outcome → State E → Type 0

@@ -1,4 +1,5 @@
 ghost use Rattle.std.specs.Prelude.{◌<◌};
+ghost use Rattle.label_lattice.specs.Order.{most_labels};
 
 use doubling_schedule::misses::MissTable;
 use label_lattice::label::Label;
@@ -10,7 +11,7 @@ pub struct Open {
     pub level: Label,
     pub mark: u32,
     pub since: u64,
-    ghost known: { level.number < 32 },
+    ghost known: { level.number < most_labels },
 }
 
 /// What one instruction did. After `Late`, where it would have ended after the limit, the state is of no

@@ -9,7 +9,7 @@ use Rattle.env_contract.specs.Env.{Env}
 abbrev pub AgreeBelow : {E : Type 0} → Env E → Lattice → ℕ → E → E → Type 0
 AgreeBelow v lat h e e' = (q : Place) (l : ℕ) → Flows lat l h → v.part q l e ≡ v.part q l e'
 
--- The three laws, of the states that serve a lattice: an access stays among them; it changes no part of a
+-- What a lawful environment keeps, of the states that serve a lattice: an access stays among them; it changes no part of a
 -- label to which its write label does not flow; its cost depends on the parts at or below its read label
 -- alone; and states that agree below a label still do after the same access.
 pub record IsLawful {E : Type 0} (v : Env E) (lat : Lattice) (serves : E → Type 0) : Type 0 where

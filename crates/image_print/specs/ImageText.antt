@@ -4,7 +4,7 @@ use Rattle.std.specs.Fmt.{signed_decimal}
 use Rattle.label_lattice.specs.declared.label.Label.{Label}
 use Rattle.label_lattice.specs.Order.{Order, name_of}
 use Rattle.mit_syntax.specs.Declarations.{Declaration, cell_at}
-use Rattle.mit_syntax.specs.Layout.{op_sign}
+use Rattle.mit_syntax.specs.Operators.{op_sign}
 use Rattle.mit_syntax.specs.Lexemes.{sign_text}
 use Rattle.mit_syntax.specs.Program.{Syntax}
 use Rattle.label_code.specs.declared.code.Work.{Work}

@@ -6,11 +6,12 @@ ghost use Rattle.label_code.specs.Shaped.{InRange};
 ghost use Rattle.mit_syntax.specs.Declarations.{variables, cell_at};
 ghost use Rattle.image_print.specs.ImageText.{level_text, operand_text};
 
-use crate::words::{put_label, put_natural, put_signed, sign};
+use crate::words::{put_label, put_natural, put_signed};
 use label_code::code::Work;
 use label_lattice::label::Label;
 use label_lattice::lattice::Lattice;
 use mit_syntax::declarations::Variables;
+use mit_syntax::operators::op_sign;
 use std::alloc::AllocError;
 
 fn put_target(out: &mut Vec<u8>, target: u32) -> Result<(), AllocError>
@@ -72,7 +73,7 @@ pub fn put_operand(
         Work::LoadAt { first, .. } | Work::StoreAt { first, .. } => {
             put_variable(out, declared, first)
         }
-        Work::Apply(op) => put_word(out, sign(op)),
+        Work::Apply(op) => put_word(out, op_sign(op).text()),
         Work::Brz(target) | Work::Brnz(target) | Work::Jmp(target) => put_target(out, target),
         Work::Mitb { level, mark } => put_level(out, labels, level, mark),
         Work::Sleep | Work::Mite | Work::Nop | Work::Halt => Ok(()),

@@ -3,15 +3,12 @@
 ghost use Rattle.std.specs.Prelude.{◌≡◌, ◌<◌, ◌++◌, OnOk, codes, decimal};
 ghost use Rattle.std.specs.Fmt.{signed_decimal};
 ghost use Rattle.label_lattice.specs.Order.{name_of};
-ghost use Rattle.mit_syntax.specs.Layout.{op_sign};
-ghost use Rattle.mit_syntax.specs.Lexemes.{sign_text};
 ghost use Rattle.image_print.specs.ImageText.{mnemonic};
 
 use itoa::Buffer;
 use label_code::code::Work;
 use label_lattice::label::Label;
 use label_lattice::lattice::Lattice;
-use mit_syntax::ast::Op;
 use std::alloc::AllocError;
 
 /// An instruction's name.
@@ -33,25 +30,6 @@ pub fn mnemonic(work: Work) -> &'static [u8]
         Work::Halt => b"HALT".as_slice(),
         Work::LoadAt { .. } => b"LOADX".as_slice(),
         Work::StoreAt { .. } => b"STOREX".as_slice(),
-    }
-}
-
-/// An operator's sign.
-pub fn sign(op: Op) -> &'static [u8]
-    ensures { result.now ≡ sign_text (op_sign op) }
-{
-    match op {
-        Op::Add => b"+".as_slice(),
-        Op::Sub => b"-".as_slice(),
-        Op::Mul => b"*".as_slice(),
-        Op::Div => b"/".as_slice(),
-        Op::Rem => b"%".as_slice(),
-        Op::Eq => b"==".as_slice(),
-        Op::Ne => b"!=".as_slice(),
-        Op::Lt => b"<".as_slice(),
-        Op::Le => b"<=".as_slice(),
-        Op::Gt => b">".as_slice(),
-        Op::Ge => b">=".as_slice(),
     }
 }
 

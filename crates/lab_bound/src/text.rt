@@ -4,7 +4,7 @@ ghost use Rattle.std.specs.Prelude.{◌≡◌, ◌++◌, ◌∷◌, [], Some, If
 ghost use Rattle.tim_base.specs.Kept.{KeepsFiles, NoCountFalls};
 ghost use Rattle.tim_base.specs.Faults.{Rose};
 ghost use Rattle.start_file.specs.Starts.{seen};
-ghost use Rattle.tool_words.specs.WordsAsked.{IsCycles};
+ghost use Rattle.run_limits.specs.Cycles.{IsCycles};
 ghost use Rattle.tool_texts.specs.Ends.{IsStop, status_of};
 ghost use Rattle.tool_texts.specs.declared.status.Status.TheVariants as status;
 ghost use Rattle.tool_stages.specs.Begins.{CanAudit};

@@ -7,7 +7,7 @@ ghost use Rattle.mit_syntax.specs.Program.{plan_of};
 ghost use Rattle.start_file.specs.Starts.{seen};
 ghost use Rattle.run_timeline.specs.Places.{places};
 ghost use Rattle.run_timeline.specs.Tallied.{no_tally};
-ghost use Rattle.tool_words.specs.WordsAsked.{IsCycles};
+ghost use Rattle.run_limits.specs.Cycles.{IsCycles};
 ghost use Rattle.lab_timeline.specs.Begun.{CanRun};
 ghost use Rattle.lab_timeline.specs.Written.{WritesRuns, WritesFew, BreaksFew, WritesAll, BreaksAll};
 

@@ -6,7 +6,7 @@ use Rattle.mit_syntax.specs.Plan.{mitigates}
 use Rattle.mit_syntax.specs.Program.{Syntax, plan_of}
 use Rattle.flow_path.specs.declared.step.Spot.{Spot}
 use Rattle.flow_path.specs.declared.step.Spot.TheVariants.{Variable, Command, Level}
-use Rattle.tool_words.specs.WordsAsked.{number_in}
+use Rattle.tool_words.specs.WordsValues.{number_in}
 
 -- the variable with a number, if there is one
 abbrev pub variable_at : Syntax → ℕ → Option Spot

@@ -2,7 +2,7 @@
 
 ghost use Rattle.std.specs.Prelude.{◌≡◌, IfSome, option_map};
 ghost use Rattle.clap.specs.Lexer.{strip_byte};
-ghost use Rattle.tool_words.specs.WordsAsked.{number_in};
+ghost use Rattle.tool_words.specs.WordsValues.{number_in};
 ghost use Rattle.lab_why.specs.Names.{IsThere, level_at, named, variable_at, variable_named};
 
 use flow_path::step::Spot;

@@ -4,7 +4,8 @@ use Rattle.std.specs.Bool.{⊤}
 use Rattle.clap.specs.Words.{Row, Text, fault_of, first_of, matches_of}
 use Rattle.clap.specs.Walk.{is_empty}
 use Rattle.tool_words.specs.declared.words.EnvName.{EnvName}
-use Rattle.tool_words.specs.WordsAsked.{IsCycles, budget_given, env_given}
+use Rattle.run_limits.specs.Cycles.{IsCycles}
+use Rattle.tool_words.specs.WordsValues.{budget_given, env_given}
 use Rattle.lab_words.specs.declared.verbs.Verb.{Verb}
 use Rattle.lab_words.specs.declared.verbs.Verb.TheVariants.{Why, Seen, Timeline, Bound}
 use Rattle.lab_words.specs.QuestionForms.{form_app}

@@ -4,7 +4,7 @@ use Rattle.label_lattice.specs.declared.label.Label.{Label}
 use Rattle.label_lattice.specs.declared.fault.LatticeFault.{LatticeFault}
 use Rattle.label_lattice.specs.declared.fault.LatticeFault.TheVariants.{TooMany, Cycle, NoBottom, NoJoin}
 use Rattle.label_lattice.specs.Lattice.{Flows}
-use Rattle.label_lattice.specs.Order.{Order, IsOrder, lattice_of}
+use Rattle.label_lattice.specs.Order.{most_labels, Order, IsOrder, lattice_of}
 
 -- the pair of labels is written
 abbrev pub IsWritten : List (Label × Label) → ℕ → ℕ → Type 0
@@ -55,14 +55,14 @@ pub record IsFirstPair (n : ℕ) (P : ℕ → ℕ → Type 0) (a b : ℕ) : Type
 
 -- what is wrong with n labels of which these flow to each other: the first fault that applies
 abbrev pub IsFault : ℕ → (ℕ → ℕ → Type 0) → LatticeFault → Type 0
-IsFault n flows (TooMany count) = (32 < n) × (count ≡ n)
-IsFault n flows (Cycle a b) = (n ≤ 32) × IsFirstPair n (IsCycle flows) a.number b.number
-IsFault n flows (NoBottom a b) = (n ≤ 32) × IsNoPair n (IsCycle flows) × IsFirstPair n (AreLowest n flows) a.number b.number
-IsFault n flows (NoJoin a b) = (n ≤ 32) × IsNoPair n (IsCycle flows) × IsNoPair n (AreLowest n flows) × IsFirstPair n (HaveNoJoin n flows) a.number b.number
+IsFault n flows (TooMany count) = (most_labels < n) × (count ≡ n)
+IsFault n flows (Cycle a b) = (n ≤ most_labels) × IsFirstPair n (IsCycle flows) a.number b.number
+IsFault n flows (NoBottom a b) = (n ≤ most_labels) × IsNoPair n (IsCycle flows) × IsFirstPair n (AreLowest n flows) a.number b.number
+IsFault n flows (NoJoin a b) = (n ≤ most_labels) × IsNoPair n (IsCycle flows) × IsNoPair n (AreLowest n flows) × IsFirstPair n (HaveNoJoin n flows) a.number b.number
 
 -- nothing is wrong with n labels of which these flow to each other
 pub record IsSound (n : ℕ) (flows : ℕ → ℕ → Type 0) : Type 0 where
-  pub few : n ≤ 32
+  pub few : n ≤ most_labels
   pub no_cycle : IsNoPair n (IsCycle flows)
   pub one_lowest : IsNoPair n (AreLowest n flows)
   pub joined : IsNoPair n (HaveNoJoin n flows)

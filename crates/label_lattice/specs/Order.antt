@@ -3,9 +3,13 @@ use Rattle.std.specs.Prelude.{◌≡◌, ℕ, ◌+◌, ◌*◌, ◌<◌, ◌≤�
 use Rattle.label_lattice.specs.Names.{IsName}
 use Rattle.label_lattice.specs.Lattice.{Lattice, IsTable, over_all}
 
+-- how many labels there are at most
+abbrev pub most_labels : ℕ
+most_labels = 32
+
 -- how many labels a row of a table has room for
 abbrev pub row : ℕ
-row = 32
+row = most_labels
 
 -- how many labels there are, their names' bytes, and for each pair of labels whether the first flows to the
 -- second and what their join is, in rows
@@ -45,7 +49,7 @@ pub record IsRoom (o : Order) : Type 0 where
 -- what is true of every lattice
 pub record IsOrder (o : Order) : Type 0 where
   pub some : 0 < o.size
-  pub within : o.size ≤ 32
+  pub within : o.size ≤ most_labels
   pub named : length o.names ≡ o.size
   pub names : All IsName o.names
   pub differ : AllDiffer o.names

@@ -16,12 +16,12 @@ on_diagonal i = i / row == i % row
 
 -- at a place of the table: set before, or by way of the pair (x, y)
 abbrev pub extended : List Bool → ℕ → ℕ → ℕ → Bool
-extended t x y i = slice_index_or t i false || (slice_index_or t (i / row * 32 + x) false && slice_index_or t (y * 32 + i % row) false)
+extended t x y i = slice_index_or t i false || (slice_index_or t (i / row * row + x) false && slice_index_or t (y * row + i % row) false)
 
 -- the table has what the pairs say
 pub record IsClosure (t : List Bool) (pairs : List (Label × Label)) : Type 0 where
-  pub sets : (a b : ℕ) → a < 32 → b < 32 → IsSet t a b → Chain pairs a b
-  pub set : (a b : ℕ) → a < 32 → b < 32 → Chain pairs a b → IsSet t a b
+  pub sets : (a b : ℕ) → a < row → b < row → IsSet t a b → Chain pairs a b
+  pub set : (a b : ℕ) → a < row → b < row → Chain pairs a b → IsSet t a b
 
 -- what a check refuses
 abbrev pub IsRefused : Check → ℕ → (ℕ → ℕ → Type 0) → ℕ → ℕ → Type 0

@@ -3,7 +3,7 @@
 ghost use Rattle.std.specs.Prelude.{◌≡◌, ◌<◌, ◌≤◌, ◌^◌, ℕ, List, length, All, MatchBool, MatchOption, IfOk, IfErr};
 ghost use Rattle.label_lattice.specs.Names.{IsName};
 ghost use Rattle.label_lattice.specs.Lattice.{IsLattice};
-ghost use Rattle.label_lattice.specs.Order.{Order, lattice_of, name_of, AllDiffer, IsOrder, count_not_below};
+ghost use Rattle.label_lattice.specs.Order.{Order, lattice_of, name_of, AllDiffer, IsOrder, count_not_below, most_labels};
 ghost use Rattle.label_lattice.specs.Chains.{Chain, AreBelow, IsFault, IsBuilt};
 ghost use Rattle.label_lattice.specs.Room.{filled};
 ghost use Rattle.label_lattice.specs.declared.label.Label.{Label};
@@ -64,7 +64,7 @@ fn are_names(names: &[Name])
 
 // Whether there are more labels than a lattice may have.
 fn are_too_many(size: u32) -> bool
-    ensures { MatchBool result (32 < size) (size ≤ 32) }
+    ensures { MatchBool result (most_labels < size) (size ≤ most_labels) }
 {
     size > MAX_LABELS
 }

@@ -12,8 +12,8 @@ use Rattle.std.proofs.lemmas.List.Folds.{list_any-append}
 use Rattle.std.proofs.lemmas.List.Recursion.{is_position_or_len}
 use Rattle.indexmap.specs.IndexSet.{insert_key}
 use Rattle.label_code.specs.Machine.{Event, Wrote, Began, Ended}
-use Rattle.leak_bound.specs.Records.{Tests, distinct}
-use Rattle.leak_audit.specs.Sequences.{same_event, same_sequence, AllAmong, classes_in, Classed, classes_of}
+use Rattle.leak_bound.specs.Records.{Tests, distinct, classes_of}
+use Rattle.leak_audit.specs.Sequences.{same_event, same_sequence, AllAmong, classes_in, Classed}
 
 -- conjunctions
 both : (a b : Bool) → a ≡ true → b ≡ true → (a && b) ≡ true

@@ -3,7 +3,7 @@ use Rattle.std.specs.Prelude.{not, ◌&&◌}
 use Rattle.std.proofs.Common.{◌≡◌, ℕ, zero, suc, ◌+◌, List, [], ◌∷◌, ◌++◌, refl, sym, ap, ◌∙◌, arith, Bool}
 use Rattle.mit_syntax.specs.Todo.{Marked, Done, Skip, Assign, Put, Sleep, If, While, Mitigate}
 use Rattle.mit_syntax.specs.Plan.{mitigates}
-use Rattle.mit_syntax.specs.MarkOrder.{MarksFrom}
+use Rattle.mit_syntax.specs.Valid.{AreNumbered}
 use Rattle.label_lattice.specs.Lattice.{Lattice}
 use Rattle.timing_types.specs.Typing.{label_of}
 use Rattle.leak_bound.specs.Relevant.{relevances, LevelsAre}
@@ -46,7 +46,7 @@ marks_told-one rel k = let e : 0 + k ≡ k = omega arith in marks_told-add rel 0
 
 module _ (lat : Lattice) (g ls : ℕ → ℕ) (o : ℕ) (rel : ℕ → Bool) where
   -- a test that tells which marks of a numbered list are relevant tells the list
-  pub relevances-told : (p : Marked) (pc n : ℕ) → MarksFrom n p → LevelsAre ls p → Tells lat g o rel pc p
+  pub relevances-told : (p : Marked) (pc n : ℕ) → AreNumbered n p → LevelsAre ls p → Tells lat g o rel pc p
       → relevances lat g ls o pc p ≡ marks_told rel n (mitigates p)
   relevances-told Done pc n m v t = refl
   relevances-told (Skip k r) pc n m v t = relevances-told r pc n m v t

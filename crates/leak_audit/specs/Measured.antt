@@ -3,9 +3,9 @@ use Rattle.std.specs.Prelude.{◌≡◌, ◌+◌, ◌*◌, ℕ, List}
 use Rattle.label_lattice.specs.Order.{Order, lattice_of, count_not_below}
 use Rattle.label_code.specs.Machine.{Event}
 use Rattle.leak_bound.specs.Digits.{digits}
-use Rattle.leak_bound.specs.Records.{distinct_count}
+use Rattle.leak_bound.specs.Records.{distinct_count, classes_of}
 use Rattle.leak_audit.specs.declared.measure.Measures.{Measures}
-use Rattle.leak_audit.specs.Sequences.{same_sequence, classes_of}
+use Rattle.leak_audit.specs.Sequences.{same_sequence}
 
 -- of these sequences that an observer has seen by T, where k mitigations count
 pub record IsMeasure (order : Order) (o t k : ℕ) (seqs : List (List Event)) (m : Measures) : Type 0 where

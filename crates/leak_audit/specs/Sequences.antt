@@ -1,22 +1,17 @@
 -- Which sequences of events are the same, and the classes of a list of sequences.
-use Rattle.std.specs.Prelude.{◌≡◌, ◌≤◌, ℕ, ◌+◌, List, [], ◌∷◌, map, length, Bool, true, false, ◌&&◌, nat_eq}
+use Rattle.std.specs.Prelude.{◌≡◌, ◌≤◌, ℕ, List, [], ◌∷◌, map, length, Bool, true, false, ◌&&◌, nat_eq}
 use Rattle.std.specs.Cmp.Lexicographic.{pointwise}
-use Rattle.std.specs.List.{list_any, position_or_len}
+use Rattle.std.specs.List.{list_any}
 use Rattle.std.specs.Ordering.{int_eq}
 use Rattle.label_code.specs.Machine.{Event, Wrote, Began, Ended}
-use Rattle.leak_bound.specs.Records.{distinct}
+use Rattle.leak_bound.specs.Records.{distinct, place_in}
 
 -- the same variable, value and cycle, or the same mark and cycle
 abbrev pub same_event : Event → Event → Bool
 same_event (Wrote x n c) (Wrote y m d) = nat_eq x y && (int_eq n m && nat_eq c d)
-same_event (Wrote x n c) (Began k d) = false
-same_event (Wrote x n c) (Ended k d) = false
-same_event (Began j c) (Wrote y m d) = false
 same_event (Began j c) (Began k d) = nat_eq j k && nat_eq c d
-same_event (Began j c) (Ended k d) = false
-same_event (Ended j c) (Wrote y m d) = false
-same_event (Ended j c) (Began k d) = false
 same_event (Ended j c) (Ended k d) = nat_eq j k && nat_eq c d
+same_event a b = false
 
 -- as long, and the same at each place
 abbrev pub same_sequence : List Event → List Event → Bool
@@ -29,7 +24,7 @@ AllAmong same ds (z ∷ zs) = (list_any (same z) ds ≡ true) × AllAmong same d
 
 -- the place of each, from 1, among these
 abbrev pub classes_in : {V : Type 0} → (V → V → Bool) → List V → List V → List ℕ
-classes_in same ds zs = map (λ z. position_or_len (same z) ds + 1) zs
+classes_in same ds zs = map (place_in same ds) zs
 
 -- of a list, the different ones in order of first appearance, and the class of each
 pub record Classed {V : Type 0} (same : V → V → Bool) (xs ds : List V) (cs : List ℕ) : Type 0 where
@@ -37,7 +32,3 @@ pub record Classed {V : Type 0} (same : V → V → Bool) (xs ds : List V) (cs :
   pub classes : cs ≡ classes_in same ds xs
   pub among : AllAmong same ds xs
   pub few : length ds ≤ length xs
-
--- the class of each: its place, from 1, among the different ones in order of first appearance
-abbrev pub classes_of : {V : Type 0} → (V → V → Bool) → List V → List ℕ
-classes_of same xs = map (λ x. position_or_len (same x) (distinct same xs) + 1) xs

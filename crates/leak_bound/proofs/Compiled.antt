@@ -3,7 +3,6 @@ use Rattle.std.proofs.Common.{◌≡◌, ℕ, ◌+◌, ◌<◌, refl, sym, ap, s
 use Rattle.std.specs.Prelude.{not, ◌&&◌, List}
 use Rattle.mit_syntax.specs.Todo.{Marks, Done, Skip, Assign, Put, Sleep, If, While, Mitigate}
 use Rattle.mit_syntax.specs.Plan.{Plan, mitigates, count}
-use Rattle.mit_syntax.specs.MarkOrder.{MarksFrom}
 use Rattle.mit_syntax.specs.Program.{plan_of}
 use Rattle.mit_syntax.specs.Valid.{AreNumbered}
 use Rattle.label_lattice.specs.Lattice.{Lattice, IsLattice}
@@ -33,7 +32,7 @@ module _ (ms : ℕ → Marks) (ls : ℕ → ℕ) where
   same_mitigates (While w e c p) i = omega (arith, same_mitigates c (i + 1), same_mitigates p (i + 1 + count c))
   same_mitigates (Mitigate w k l e c p) i = omega (arith, same_mitigates c (i + 1), same_mitigates p (i + 1 + count c))
 
-  labelled_marks : (p : Plan) (i n : ℕ) → AreNumbered n p → MarksFrom n (bare (labelled ms ls p i))
+  labelled_marks : (p : Plan) (i n : ℕ) → AreNumbered n p → AreNumbered n (bare (labelled ms ls p i))
   labelled_marks Done i n h = tt
   labelled_marks (Skip w p) i n h = labelled_marks p (i + 1) n h
   labelled_marks (Assign w x e p) i n h = labelled_marks p (i + 1) n h
@@ -43,20 +42,20 @@ module _ (ms : ℕ → Marks) (ls : ℕ → ℕ) where
       let ma = same_mitigates a (i + 1) in
       let mb = same_mitigates b (i + 1 + count a) in (
         labelled_marks a (i + 1) n h.0,
-        subst (λ z. MarksFrom (n + z) (bare (labelled ms ls b (i + 1 + count a)))) (sym ma) (labelled_marks b (i + 1 + count a) (n + mitigates a) h.1),
-        subst (λ z. MarksFrom (n + z + mitigates (bare (labelled ms ls b (i + 1 + count a)))) (bare (labelled ms ls p (i + 1 + count a + count b)))) (sym ma)
-            (subst (λ z. MarksFrom (n + mitigates a + z) (bare (labelled ms ls p (i + 1 + count a + count b)))) (sym mb)
+        subst (λ z. AreNumbered (n + z) (bare (labelled ms ls b (i + 1 + count a)))) (sym ma) (labelled_marks b (i + 1 + count a) (n + mitigates a) h.1),
+        subst (λ z. AreNumbered (n + z + mitigates (bare (labelled ms ls b (i + 1 + count a)))) (bare (labelled ms ls p (i + 1 + count a + count b)))) (sym ma)
+            (subst (λ z. AreNumbered (n + mitigates a + z) (bare (labelled ms ls p (i + 1 + count a + count b)))) (sym mb)
             (labelled_marks p (i + 1 + count a + count b) (n + mitigates a + mitigates b) h.2)),
       )
   labelled_marks (While w e c p) i n h = (
     labelled_marks c (i + 1) n h.0,
-    subst (λ z. MarksFrom (n + z) (bare (labelled ms ls p (i + 1 + count c)))) (sym (same_mitigates c (i + 1)))
+    subst (λ z. AreNumbered (n + z) (bare (labelled ms ls p (i + 1 + count c)))) (sym (same_mitigates c (i + 1)))
         (labelled_marks p (i + 1 + count c) (n + mitigates c) h.1),
   )
   labelled_marks (Mitigate w k l e c p) i n h = (
     h.0,
     labelled_marks c (i + 1) (n + 1) h.1,
-    subst (λ z. MarksFrom (n + 1 + z) (bare (labelled ms ls p (i + 1 + count c)))) (sym (same_mitigates c (i + 1)))
+    subst (λ z. AreNumbered (n + 1 + z) (bare (labelled ms ls p (i + 1 + count c)))) (sym (same_mitigates c (i + 1)))
         (labelled_marks p (i + 1 + count c) (n + 1 + mitigates c) h.2),
   )
 

@@ -6,7 +6,7 @@ use Rattle.std.proofs.Math.Seq.{get_or-append_seam}
 use Rattle.std.proofs.lemmas.Bool.{both_ways, cases_lt}
 use Rattle.mit_syntax.specs.Todo.{Marked, Done, Skip, Assign, Put, Sleep, If, While, Mitigate}
 use Rattle.mit_syntax.specs.Plan.{mitigates}
-use Rattle.mit_syntax.specs.MarkOrder.{MarksFrom}
+use Rattle.mit_syntax.specs.Valid.{AreNumbered}
 use Rattle.label_lattice.specs.Lattice.{Lattice}
 use Rattle.label_lattice.specs.Order.{count_not_below}
 use Rattle.timing_types.specs.Typing.{label_of}
@@ -88,7 +88,7 @@ whole pre (f ∷ fs) =
     (get_or-append_seam pre f fs false, subst (λ m. StandsAt (pre ++ f ∷ fs) m fs) n rest)
 
 module _ (lat : Lattice) (g ls : ℕ → ℕ) (o : ℕ) (all : List Bool) where
-  tells_at : (p : Marked) (pc n : ℕ) → StandsAt all n (relevances lat g ls o pc p) → MarksFrom n p → LevelsAre ls p
+  tells_at : (p : Marked) (pc n : ℕ) → StandsAt all n (relevances lat g ls o pc p) → AreNumbered n p → LevelsAre ls p
       → Tells lat g o (λ k. get_or all k false) pc p
   tells_at Done pc n f h v = tt
   tells_at (Skip m r) pc n f h v = tells_at r pc n f h v
@@ -120,7 +120,7 @@ module _ (lat : Lattice) (g ls : ℕ → ℕ) (o : ℕ) (all : List Bool) where
       )
 
 -- the relevances of a numbered program tell of its marks
-pub tells_relevant : (lat : Lattice) (g ls : ℕ → ℕ) (o : ℕ) (p : Marked) → MarksFrom 0 p → LevelsAre ls p
+pub tells_relevant : (lat : Lattice) (g ls : ℕ → ℕ) (o : ℕ) (p : Marked) → AreNumbered 0 p → LevelsAre ls p
     → Tells lat g o (is_relevant lat g ls o p) lat.bottom p
 tells_relevant lat g ls o p h v = tells_at lat g ls o (relevances lat g ls o lat.bottom p) p lat.bottom 0 (whole [] (relevances lat g ls o lat.bottom p)) h v
 

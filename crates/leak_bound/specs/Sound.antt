@@ -1,7 +1,7 @@
 -- The main theorem's statement.
 use Rattle.std.specs.Prelude.{◌≡◌, ℕ, ◌+◌, ◌*◌, ◌^◌, ◌<◌, ◌≤◌, List, [], ◌∷◌, length, map, max, Bool, true, false}
 use Rattle.mit_syntax.specs.Todo.{Todo, Marked}
-use Rattle.mit_syntax.specs.MarkOrder.{MarksFrom}
+use Rattle.mit_syntax.specs.Valid.{AreNumbered}
 use Rattle.mit_syntax.specs.Values.{read}
 use Rattle.label_lattice.specs.Lattice.{Lattice, Flows, IsLattice}
 use Rattle.label_lattice.specs.Order.{Order, lattice_of, count_not_below}
@@ -83,7 +83,7 @@ pub record IsCompiled (order : Order) (g ls : ℕ → ℕ) (image : List Instr) 
   pub lattice : IsLattice (lattice_of order)
   pub levels : LevelsBelow order.size p
   pub told : LevelsAre ls p
-  pub marks : MarksFrom 0 p
+  pub marks : AreNumbered 0 p
   pub arrays : ArraysIn g p
   pub typed : IsTyped (lattice_of order) g p
   pub code : IsImage (lattice_of order) g image p

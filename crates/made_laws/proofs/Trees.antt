@@ -4,14 +4,13 @@ use Rattle.std.specs.Prelude.{pos}
 use Rattle.text_base.specs.declared.pos.Pos.{Pos}
 use Rattle.mit_syntax.specs.Chunks.{Chunk, line}
 use Rattle.mit_syntax.specs.declared.token.Sign.TheVariants.{Semicolon}
+use Rattle.mit_syntax.specs.declared.ast.Op.TheVariants.{Add, Sub, Rem, Gt}
 use Rattle.mit_parser.specs.Words.{Told, sign_at}
 use Rattle.mit_parser.specs.Limits.{CommandWithin, CommandsWithin, MoreWithin}
-use Rattle.mit_parser.specs.Operators.{modulo, plus, minus, greater}
-use Rattle.mit_parser.specs.Tree.{number_atom, name_atom, paren_atom, no_index, term_of, no_factor, and_factor, Sum as SumTree, sum_of, no_addend, and_addend}
-use Rattle.mit_parser.specs.Tree.{Whole, plain, compared, and_name, no_marks, CommandTree, assign_of, if_of, while_of, mitigate_of, Block, block_of, else_of}
-use Rattle.mit_parser.specs.Tree.{Commands, commands_of, More, no_more, and_more, no_header, label_of, scalar_of, DeclarationTree, declaration_of}
-use Rattle.mit_parser.specs.Tree.{Declarations, no_declarations, and_declaration, ProgramTree, front_command, front_commands, front_more, front_declarations}
-use Rattle.mit_parser.specs.Tree.{front_program}
+use Rattle.mit_parser.specs.Tree.{no_index, ExpressionTree, number_of, name_of, parens_of, binary_of, and_name, no_marks, CommandTree, assign_of, if_of}
+use Rattle.mit_parser.specs.Tree.{while_of, mitigate_of, Block, block_of, else_of, Commands, commands_of, More, no_more, and_more, no_header, label_of}
+use Rattle.mit_parser.specs.Tree.{scalar_of, DeclarationTree, declaration_of, Declarations, no_declarations, and_declaration, ProgramTree, front_command}
+use Rattle.mit_parser.specs.Tree.{front_commands, front_more, front_declarations, front_program}
 use Rattle.mit_gen.specs.declared.unit.Kind.{Kind}
 use Rattle.mit_gen.specs.declared.unit.Kind.TheVariants.{Sum, Masked, Countdown, Choice}
 use Rattle.mit_gen.specs.declared.unit.Unit.{Unit}
@@ -26,9 +25,6 @@ low_name a = 108 ∷ (48 + a) ∷ []
 abbrev pub high_name : ℕ → List ℕ
 high_name a = 104 ∷ (48 + a) ∷ []
 
-abbrev number_sum : ℕ → Pos → SumTree
-number_sum n p = sum_of (term_of (number_atom (pos n) p) no_factor) no_addend
-
 -- one command in braces
 abbrev one_command : Pos → CommandTree → Pos → Block
 one_command p c q = block_of p (commands_of c no_more) q
@@ -37,37 +33,29 @@ one_command p c q = block_of p (commands_of c no_more) q
 abbrev adds : List ℕ → List ℕ → ℕ → (ℕ → Pos) → ℕ → CommandTree
 adds x y c ps n =
     assign_of x (ps n) no_index (ps (suc n))
-    (plain (sum_of (term_of (name_atom y (ps (suc (suc n))) no_index) no_factor)
-    (and_addend plus (ps (suc (suc (suc n)))) (term_of (number_atom (pos c) (ps (suc (suc (suc (suc n)))))) no_factor) no_addend)))
+    (binary_of Add (omega arith) (name_of y (ps (suc (suc n))) no_index) (ps (suc (suc (suc n)))) (number_of (pos c) (ps (suc (suc (suc (suc n)))))))
     no_marks
 
 abbrev takes : List ℕ → List ℕ → ℕ → (ℕ → Pos) → ℕ → CommandTree
 takes x y c ps n =
     assign_of x (ps n) no_index (ps (suc n))
-    (plain (sum_of (term_of (name_atom y (ps (suc (suc n))) no_index) no_factor)
-    (and_addend minus (ps (suc (suc (suc n)))) (term_of (number_atom (pos c) (ps (suc (suc (suc (suc n)))))) no_factor) no_addend)))
+    (binary_of Sub (omega arith) (name_of y (ps (suc (suc n))) no_index) (ps (suc (suc (suc n)))) (number_of (pos c) (ps (suc (suc (suc (suc n)))))))
     no_marks
 
 -- `x > n`
-abbrev above : List ℕ → ℕ → (ℕ → Pos) → ℕ → Whole
-above x c ps n =
-    compared (sum_of (term_of (name_atom x (ps n) no_index) no_factor) no_addend) greater (ps (suc n))
-    (sum_of (term_of (number_atom (pos c) (ps (suc (suc n)))) no_factor) no_addend)
+abbrev above : List ℕ → ℕ → (ℕ → Pos) → ℕ → ExpressionTree 1
+above x c ps n = binary_of Gt (omega arith) (name_of x (ps n) no_index) (ps (suc n)) (number_of (pos c) (ps (suc (suc n))))
 
 -- `x := (y + n) % 16`
 abbrev masks : List ℕ → List ℕ → ℕ → (ℕ → Pos) → ℕ → CommandTree
 masks x y c ps n =
     assign_of x (ps n) no_index (ps (suc n))
-    (plain
-    (sum_of
-    (term_of
-    (paren_atom (ps (suc (suc n)))
-    (plain (sum_of (term_of (name_atom y (ps (suc (suc (suc n)))) no_index) no_factor)
-    (and_addend plus (ps (suc (suc (suc (suc n))))) (term_of (number_atom (pos c) (ps (suc (suc (suc (suc (suc n))))))) no_factor) no_addend)))
+    (binary_of Rem (omega arith)
+    (parens_of (ps (suc (suc n)))
+    (binary_of Add (omega arith) (name_of y (ps (suc (suc (suc n)))) no_index) (ps (suc (suc (suc (suc n)))))
+    (number_of (pos c) (ps (suc (suc (suc (suc (suc n))))))))
     (ps (suc (suc (suc (suc (suc (suc n))))))))
-    (and_factor modulo (ps (suc (suc (suc (suc (suc (suc (suc n)))))))) (number_atom (pos 16) (ps (suc (suc (suc (suc (suc (suc (suc (suc n))))))))))
-    no_factor))
-    no_addend))
+    (ps (suc (suc (suc (suc (suc (suc (suc n)))))))) (number_of (pos 16) (ps (suc (suc (suc (suc (suc (suc (suc (suc n)))))))))))
     no_marks
 
 abbrev six : ℕ → ℕ
@@ -76,7 +64,7 @@ six n = suc (suc (suc (suc (suc (suc n)))))
 -- `mitigate (c, H)` and one command, which has so many words
 abbrev under : ℕ → (ℕ → Pos) → ℕ → CommandTree → ℕ → CommandTree
 under c ps n body last =
-    mitigate_of (ps n) (ps (suc n)) (plain (number_sum c (ps (suc (suc n))))) (and_name (ps (suc (suc (suc n)))) high_label (ps (suc (suc (suc (suc n))))))
+    mitigate_of (ps n) (ps (suc n)) (number_of (pos c) (ps (suc (suc n)))) (and_name (ps (suc (suc (suc n)))) high_label (ps (suc (suc (suc (suc n))))))
     (ps (suc (suc (suc (suc (suc n))))))
     no_marks (one_command (ps (six n)) body (ps last))
 

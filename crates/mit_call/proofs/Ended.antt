@@ -9,7 +9,8 @@ use Rattle.tool_texts.specs.declared.status.Status.TheVariants as status
 use Rattle.tool_texts.specs.Ends.{EndsBy, Nothing}
 use Rattle.tool_stages.specs.Accepted.{is_past_typing}
 use Rattle.tool_stages.specs.Content.{Content}
-use Rattle.mit_tool.specs.Answers.{IsAnswer, IsUsage, Before}
+use Rattle.mit_tool.specs.Answers.{IsUsage}
+use Rattle.mit_tool.specs.Commands.{IsAnswer, Before}
 use Rattle.mit_tool.specs.Held.{EndsByHeld, told_all}
 use Rattle.mit_call.specs.Called.{HasEnded}
 use Rattle.mit_call.proofs.Cut.{append_known-nil, ends_kept, ends_broken, ends_cut}

@@ -7,7 +7,8 @@ use Rattle.tool_texts.specs.Ends.{EndsBy, Nothing}
 use Rattle.tool_texts.specs.Statuses.{exit_number}
 use Rattle.tool_stages.specs.Accepted.{is_past_typing, IsAccepted}
 use Rattle.tool_stages.specs.Content.{Content}
-use Rattle.mit_tool.specs.Answers.{IsAnswer, IsUsage, Before, typed_content, HeldIsSound}
+use Rattle.mit_tool.specs.Answers.{IsUsage}
+use Rattle.mit_tool.specs.Commands.{IsAnswer, Before, typed_content, HeldIsSound}
 use Rattle.mit_tool.specs.Complete.{CanBeDone, NoneRises}
 use Rattle.mit_tool.specs.Held.{EndsByOne}
 

@@ -1,16 +1,17 @@
 -- What is still to be read has a completion, and a completion of what is left is a completion of the whole.
-use Rattle.std.proofs.Common.{◌≡◌, refl, ap, ◌∙◌, sym, subst, ℕ, ℤ, List, [], ◌∷◌, ◌++◌, Bool, true, false, cond, Option, Some, None}
+use Rattle.std.proofs.Common.{◌≡◌, ◌≤◌, ◌+◌, refl, ap, ◌∙◌, sym, subst, ℕ, ℤ, max, List, [], ◌∷◌, ◌++◌, Bool, true, false, cond, Option, Some, None, arith}
 use Rattle.std.specs.Prelude.{pos}
 use Rattle.text_base.specs.declared.pos.Pos.{Pos}
 use Rattle.mit_syntax.specs.declared.token.Keyword.TheVariants.{Labels, Order, Var, Skip, If, Then, Else, While, Do, Mitigate, Sleep}
 use Rattle.mit_syntax.specs.declared.token.Sign.TheVariants.{Assign, Colon, Semicolon, Comma, LeftRound, RightRound, LeftBrace, LeftSquare, RightSquare, At}
 use Rattle.mit_syntax.specs.declared.token.Sign.TheVariants.{Less}
+use Rattle.mit_syntax.specs.declared.ast.Op.{Op}
+use Rattle.mit_syntax.specs.Operators.{op_sign}
 use Rattle.mit_syntax.specs.Chunks.{key, sign, number, name}
 use Rattle.mit_parser.specs.Words.{Symbol, word, the_end, Told, is, sign_at, key_at, name_at}
-use Rattle.mit_parser.specs.Operators.{factor_of, addend_of, comparison_of, Factor, Addend, Comparison, factor_sign, addend_sign, comparison_sign}
-use Rattle.mit_parser.specs.Tree.{Atom, Term, Sum, Whole, number_atom, name_atom, paren_atom, no_index, index_of, term_of, no_factor, and_factor, sum_of}
-use Rattle.mit_parser.specs.Tree.{no_addend, and_addend, plain, compared, front_atom, front_index, front_term, front_factors, front_sum, front_addends}
-use Rattle.mit_parser.specs.Tree.{front_whole, no_name, and_name, no_marks, marks_of, skip_of, assign_of, sleep_of, if_of, while_of, mitigate_of, block_of}
+use Rattle.mit_parser.specs.Operators.{op_at}
+use Rattle.mit_parser.specs.Tree.{ExpressionTree, number_of, name_of, parens_of, no_index, index_of, front_expression, front_index}
+use Rattle.mit_parser.specs.Tree.{no_name, and_name, no_marks, marks_of, skip_of, assign_of, sleep_of, if_of, while_of, mitigate_of, block_of}
 use Rattle.mit_parser.specs.Tree.{no_else, else_of, Commands, commands_of, no_more, and_more, front_and_name, front_marks, front_command, front_block}
 use Rattle.mit_parser.specs.Tree.{front_else, front_commands, front_more, no_more_names, and_more_names, PairTree, pair_of, no_more_pairs, and_pair}
 use Rattle.mit_parser.specs.Tree.{no_ordering, ordering_of, no_header, header_of, no_label, label_of, scalar_of, array_of, declaration_of, no_declarations}
@@ -23,17 +24,9 @@ use Rattle.mit_parser.specs.Machine.{after_at, after_brace, after_order, after_l
 use Rattle.mit_parser.specs.Reads.{symbol_at}
 use Rattle.mit_parser.specs.Headers.{front_name}
 use Rattle.mit_parser.proofs.Rules.{symbol_is, told_is}
-use Rattle.mit_parser.proofs.Atoms.{factor_is, addend_is, comparison_is}
+use Rattle.mit_parser.proofs.Weaken.{as_need, front_as, join, front_join}
+use Rattle.mit_parser.proofs.Levels.{op_is}
 use Rattle.mit_parser.proofs.Verdicts.{after}
-
--- a comparison that may be left out
-pub data Compared : Type 0 where
-  not_compared : Compared
-  with_sum : Comparison → Pos → Sum → Compared
-
-abbrev pub front_compared : Compared → List Told → List Told
-front_compared not_compared r = r
-front_compared (with_sum o p t) r = sign_at (comparison_sign o) p ∷ front_sum t r
 
 abbrev pub symbol_front : Symbol → Pos → List Told → List Told
 symbol_front g p r = symbol_at g p ∷ r
@@ -45,18 +38,25 @@ number_front n r = symbol_at (word (number n.0)) n.1 ∷ r
 abbrev pub With : {T : Type 0} (front_of : T → List Told → List Told) (Rest : List Told → Type 0) → List Told → Type 0
 With {T} front_of Rest w = (t : T) × (r : List Told) × (w ≡ front_of t r) × Rest r
 
+abbrev pub WithTree : ℕ → (List Told → Type 0) → List Told → Type 0
+WithTree n Rest w = With {T = ExpressionTree n} front_expression Rest w
+
+-- the words go on from any expression of rank m to one of rank n, and then the rest
+abbrev pub GoesOn : ℕ → ℕ → (List Told → Type 0) → List Told → Type 0
+GoesOn m n Rest w = (r : List Told) × ((l : ExpressionTree m) → (t : ExpressionTree n) × (front_expression l w ≡ front_expression t r)) × Rest r
+
 -- the words complete what is still to be read
 abbrev pub Completes : List Part → List Told → Type 0
 Completes [] w = w ≡ []
 Completes (want g ∷ s) w = With (symbol_front g) (Completes s) w
-Completes (an_atom ∷ s) w = With front_atom (Completes s) w
+Completes (an_atom ∷ s) w = WithTree 4 (Completes s) w
 Completes (an_index ∷ s) w = With front_index (Completes s) w
-Completes (a_term ∷ s) w = With front_term (Completes s) w
-Completes (factors ∷ s) w = With front_factors (Completes s) w
-Completes (a_sum ∷ s) w = With front_sum (Completes s) w
-Completes (addends ∷ s) w = With front_addends (Completes s) w
-Completes (an_expr ∷ s) w = With front_whole (Completes s) w
-Completes (comparison ∷ s) w = With front_compared (Completes s) w
+Completes (a_term ∷ s) w = WithTree 3 (Completes s) w
+Completes (factors ∷ s) w = GoesOn 3 3 (Completes s) w
+Completes (a_sum ∷ s) w = WithTree 2 (Completes s) w
+Completes (addends ∷ s) w = GoesOn 2 2 (Completes s) w
+Completes (an_expr ∷ s) w = WithTree 1 (Completes s) w
+Completes (comparison ∷ s) w = GoesOn 2 1 (Completes s) w
 Completes (a_name ∷ s) w = With front_name (Completes s) w
 Completes (a_number ∷ s) w = With number_front (Completes s) w
 Completes (marks ∷ s) w = With front_marks (Completes s) w
@@ -86,16 +86,16 @@ module _ (s t : List Part) (w : List Told) where
   same_left : {a : List Part} → Some a ≡ Some t → Completes t w → Completes a w
   same_left {a} e h = let same : a ≡ t = cc in subst (λ q. Completes q w) (sym same) h
 
-  at_atom : (b : Told) (v : Symbol) → b.symbol ≡ v → atom_step v s ≡ Some t → Completes t w → With front_atom (Completes s) (b ∷ w)
-  at_atom b (word (number n)) q e h = (number_atom n b.pos, w, told_before b (word (number n)) w q, same_left e h)
+  at_atom : (b : Told) (v : Symbol) → b.symbol ≡ v → atom_step v s ≡ Some t → Completes t w → WithTree 4 (Completes s) (b ∷ w)
+  at_atom b (word (number n)) q e h = (number_of n b.pos, w, told_before b (word (number n)) w q, same_left e h)
   at_atom b (word (name x)) q e h =
       let k = same_left e h in
-      (name_atom x b.pos k.0, k.1, told_before b (word (name x)) w q ∙ ap (λ l. name_at x b.pos ∷ l) k.2, k.3)
+      (name_of x b.pos k.0, k.1, told_before b (word (name x)) w q ∙ ap (λ l. name_at x b.pos ∷ l) k.2, k.3)
   at_atom b (word (sign LeftRound)) q e h =
       let k = same_left e h in (
-        paren_atom b.pos k.0 k.3.0,
+        parens_of b.pos k.0 k.3.0,
         k.3.1,
-        told_before b (word (sign LeftRound)) w q ∙ ap (λ l. sign_at LeftRound b.pos ∷ l) (k.2 ∙ ap (front_whole k.0) k.3.2),
+        told_before b (word (sign LeftRound)) w q ∙ ap (λ l. sign_at LeftRound b.pos ∷ l) (k.2 ∙ ap (front_expression k.0) k.3.2),
         k.3.3,
       )
   at_atom b (word (sign _)) q e h = cc
@@ -111,7 +111,7 @@ module _ (s t : List Part) (w : List Told) where
         assign_of x b.pos i.0 a.0 y.0 m.0,
         m.1,
         told_before b (word (name x)) w q
-            ∙ ap (λ l. name_at x b.pos ∷ l) (i.2 ∙ ap (front_index i.0) (a.2 ∙ ap (λ l. sign_at Assign a.0 ∷ l) (y.2 ∙ ap (front_whole y.0) m.2))),
+            ∙ ap (λ l. name_at x b.pos ∷ l) (i.2 ∙ ap (front_index i.0) (a.2 ∙ ap (λ l. sign_at Assign a.0 ∷ l) (y.2 ∙ ap (front_expression y.0) m.2))),
         m.3,
       )
   at_command b (word (key Skip)) q e h =
@@ -120,7 +120,7 @@ module _ (s t : List Part) (w : List Told) where
   at_command b (word (key Sleep)) q e h =
       let y = same_left e h in
       let m = y.3 in
-      (sleep_of b.pos y.0 m.0, m.1, told_before b (word (key Sleep)) w q ∙ ap (λ l. key_at Sleep b.pos ∷ l) (y.2 ∙ ap (front_whole y.0) m.2), m.3)
+      (sleep_of b.pos y.0 m.0, m.1, told_before b (word (key Sleep)) w q ∙ ap (λ l. key_at Sleep b.pos ∷ l) (y.2 ∙ ap (front_expression y.0) m.2), m.3)
   at_command b (word (key If)) q e h =
       let k = same_left e h in
       let m = k.3 in
@@ -131,7 +131,7 @@ module _ (s t : List Part) (w : List Told) where
         o.1,
         told_before b (word (key If)) w q
             ∙ ap (λ l. key_at If b.pos ∷ l)
-            (k.2 ∙ ap (front_whole k.0) (m.2 ∙ ap (front_marks m.0) (u.2 ∙ ap (λ l. key_at Then u.0 ∷ l) (x.2 ∙ ap (front_block x.0) o.2)))),
+            (k.2 ∙ ap (front_expression k.0) (m.2 ∙ ap (front_marks m.0) (u.2 ∙ ap (λ l. key_at Then u.0 ∷ l) (x.2 ∙ ap (front_block x.0) o.2)))),
         o.3,
       )
   at_command b (word (key While)) q e h =
@@ -142,7 +142,7 @@ module _ (s t : List Part) (w : List Told) where
         while_of b.pos k.0 m.0 u.0 x.0,
         x.1,
         told_before b (word (key While)) w q
-            ∙ ap (λ l. key_at While b.pos ∷ l) (k.2 ∙ ap (front_whole k.0) (m.2 ∙ ap (front_marks m.0) (u.2 ∙ ap (λ l. key_at Do u.0 ∷ l) x.2))),
+            ∙ ap (λ l. key_at While b.pos ∷ l) (k.2 ∙ ap (front_expression k.0) (m.2 ∙ ap (front_marks m.0) (u.2 ∙ ap (λ l. key_at Do u.0 ∷ l) x.2))),
         x.3,
       )
   at_command b (word (key Mitigate)) q e h =
@@ -155,8 +155,8 @@ module _ (s t : List Part) (w : List Told) where
         mitigate_of b.pos a.0 k.0 l.0 u.0 m.0 x.0,
         x.1,
         told_before b (word (key Mitigate)) w q
-            ∙ ap (λ z. key_at Mitigate b.pos ∷ z) (a.2 ∙ ap (λ z. sign_at LeftRound a.0 ∷ z) (k.2 ∙ ap (front_whole k.0) (l.2 ∙ ap (front_and_name l.0) (u.2
-            ∙ ap (λ z. sign_at RightRound u.0 ∷ z) (m.2 ∙ ap (front_marks m.0) x.2))))),
+            ∙ ap (λ z. key_at Mitigate b.pos ∷ z) (a.2 ∙ ap (λ z. sign_at LeftRound a.0 ∷ z) (k.2 ∙ ap (front_expression k.0) (l.2
+            ∙ ap (front_and_name l.0) (u.2 ∙ ap (λ z. sign_at RightRound u.0 ∷ z) (m.2 ∙ ap (front_marks m.0) x.2))))),
         x.3,
       )
   at_command b (word (key _)) q e h = cc
@@ -190,44 +190,24 @@ module _ (s t : List Part) (w : List Told) where
         index_of b.pos k.0 k.3.0,
         k.3.1,
         told_before b (word (sign LeftSquare)) w (symbol_is (word (sign LeftSquare)) b.symbol q)
-            ∙ ap (λ l. sign_at LeftSquare b.pos ∷ l) (k.2 ∙ ap (front_whole k.0) k.3.2),
+            ∙ ap (λ l. sign_at LeftSquare b.pos ∷ l) (k.2 ∙ ap (front_expression k.0) k.3.2),
         k.3.3,
       )
 
-  at_factors : (b : Told) (o : Option Factor) → factor_of b.symbol ≡ o → choice o (step s b.symbol) (λ _. Some (an_atom ∷ factors ∷ s)) ≡ Some t → Completes t w
-      → (step s b.symbol ≡ Some t → Completes s (b ∷ w)) → With front_factors (Completes s) (b ∷ w)
-  at_factors b None q e h ih = (no_factor, b ∷ w, refl, ih e)
-  at_factors b (Some f) q e h ih =
-      let k = same_left e h in (
-        and_factor f b.pos k.0 k.3.0,
-        k.3.1,
-        told_before b (word (sign (factor_sign f))) w (factor_is b.symbol f q)
-            ∙ ap (λ l. sign_at (factor_sign f) b.pos ∷ l) (k.2 ∙ ap (front_atom k.0) k.3.2),
-        k.3.3,
-      )
-
-  at_addends : (b : Told) (o : Option Addend) → addend_of b.symbol ≡ o → choice o (step s b.symbol) (λ _. Some (a_term ∷ addends ∷ s)) ≡ Some t → Completes t w
-      → (step s b.symbol ≡ Some t → Completes s (b ∷ w)) → With front_addends (Completes s) (b ∷ w)
-  at_addends b None q e h ih = (no_addend, b ∷ w, refl, ih e)
-  at_addends b (Some f) q e h ih =
-      let k = same_left e h in (
-        and_addend f b.pos k.0 k.3.0,
-        k.3.1,
-        told_before b (word (sign (addend_sign f))) w (addend_is b.symbol f q)
-            ∙ ap (λ l. sign_at (addend_sign f) b.pos ∷ l) (k.2 ∙ ap (front_term k.0) k.3.2),
-        k.3.3,
-      )
-
-  at_comparison : (b : Told) (o : Option Comparison) → comparison_of b.symbol ≡ o → choice o (step s b.symbol) (λ _. Some (a_sum ∷ s)) ≡ Some t → Completes t w
-      → (step s b.symbol ≡ Some t → Completes s (b ∷ w)) → With front_compared (Completes s) (b ∷ w)
-  at_comparison b None q e h ih = (not_compared, b ∷ w, refl, ih e)
-  at_comparison b (Some f) q e h ih =
-      let k = same_left e h in (
-        with_sum f b.pos k.0,
-        k.1,
-        told_before b (word (sign (comparison_sign f))) w (comparison_is b.symbol f q)
-            ∙ ap (λ l. sign_at (comparison_sign f) b.pos ∷ l) k.2,
-        k.3,
+  -- an operator of rank n after an expression of rank m, or none
+  at_op : (m n : ℕ) → max 2 n ≤ m → (b : Told) (parts : List Part) (o : Option Op) → op_at n b.symbol ≡ o
+      → choice o (step s b.symbol) (λ _. Some parts) ≡ Some t → (Some parts ≡ Some t → WithTree (n + 1) (GoesOn n n (Completes s)) w)
+      → (step s b.symbol ≡ Some t → Completes s (b ∷ w)) → GoesOn m n (Completes s) (b ∷ w)
+  at_op m n h b parts None q e then ih = (b ∷ w, λ l. (as_need n (omega (arith, h)) l, sym (front_as n (omega (arith, h)) l (b ∷ w))), ih e)
+  at_op m n h b parts (Some f) q e then ih =
+      let k = then e in
+      let i = op_is n b.symbol f (sym q) in (
+        k.3.0,
+        λ l.
+            let y = k.3.1 (join f i.0 h l b.pos k.0) in
+            let here = told_before b (word (sign (op_sign f))) w i.1 ∙ ap (λ z. sign_at (op_sign f) b.pos ∷ z) k.2 in
+            (y.0, ap (front_expression l) here ∙ sym (front_join f i.0 h l b.pos k.0 k.1) ∙ y.1),
+        k.3.2,
       )
 
   at_marks : (b : Told) (o : Bool) → is (word (sign At)) b.symbol ≡ o → cond o (Some (after_at s)) (step s b.symbol) ≡ Some t
@@ -395,15 +375,11 @@ module _ (s t : List Part) (w : List Told) where
         m.3,
       )
 
--- a sum and perhaps a comparison
-as_whole : (t : Sum) (c : Compared) → Whole
-as_whole t not_compared = plain t
-as_whole t (with_sum o p u) = compared t o p u
-
-front_as_whole : (t : Sum) (c : Compared) (r : List Told) → front_sum t (front_compared c r) ≡ front_whole (as_whole t c) r
-unfolding as_whole
-front_as_whole t not_compared r = refl
-front_as_whole t (with_sum o p u) r = refl
+-- an expression that the words after it make a longer one
+longer : (k m n : ℕ) → m ≤ k → (Rest : List Told → Type 0) (w : List Told) → WithTree k (GoesOn m n Rest) w → WithTree n Rest w
+longer k m n h Rest w x =
+    let y = x.3.1 (as_need m h x.0) in
+    (y.0, x.3.0, x.2 ∙ sym (front_as m h x.0 x.1) ∙ y.1, x.3.2)
 
 -- one word back
 pub back : (s t : List Part) (b : Told) (w : List Told) → step s b.symbol ≡ Some t → Completes t w → Completes s (b ∷ w)
@@ -411,27 +387,21 @@ back [] t b w e h = cc
 back (want g ∷ s) t b w e h = at_want s t w g b (is g b.symbol) refl e h
 back (an_atom ∷ s) t b w e h = at_atom s t w b b.symbol refl e h
 back (an_index ∷ s) t b w e h = at_index s t w b (is (word (sign LeftSquare)) b.symbol) refl e h (λ q. back s t b w q h)
-back (a_term ∷ s) t b w e h =
-    let k = at_atom (factors ∷ s) t w b b.symbol refl e h in
-    (term_of k.0 k.3.0, k.3.1, k.2 ∙ ap (front_atom k.0) k.3.2, k.3.3)
-back (factors ∷ s) t b w e h = at_factors s t w b (factor_of b.symbol) refl e h (λ q. back s t b w q h)
+back (a_term ∷ s) t b w e h = longer 4 3 3 (omega arith) (Completes s) (b ∷ w) (at_atom (factors ∷ s) t w b b.symbol refl e h)
+back (factors ∷ s) t b w e h =
+    at_op s t w 3 3 (omega arith) b (an_atom ∷ factors ∷ s) (op_at 3 b.symbol) refl e (λ q. same_left s t w q h) (λ q. back s t b w q h)
 back (a_sum ∷ s) t b w e h =
-    let k = at_atom (factors ∷ addends ∷ s) t w b b.symbol refl e h in
-    let f = k.3 in
-    let a = f.3 in
-    (sum_of (term_of k.0 f.0) a.0, a.1, k.2 ∙ ap (front_atom k.0) (f.2 ∙ ap (front_factors f.0) a.2), a.3)
-back (addends ∷ s) t b w e h = at_addends s t w b (addend_of b.symbol) refl e h (λ q. back s t b w q h)
+    longer 3 2 2 (omega arith) (Completes s) (b ∷ w) (longer 4 3 3 (omega arith) (Completes (addends ∷ s)) (b ∷ w)
+    (at_atom (factors ∷ addends ∷ s) t w b b.symbol refl e h))
+back (addends ∷ s) t b w e h =
+    at_op s t w 2 2 (omega arith) b (a_term ∷ addends ∷ s) (op_at 2 b.symbol) refl e (λ q. same_left s t w q h) (λ q. back s t b w q h)
 back (an_expr ∷ s) t b w e h =
-    let k = at_atom (factors ∷ addends ∷ comparison ∷ s) t w b b.symbol refl e h in
-    let f = k.3 in
-    let a = f.3 in
-    let c = a.3 in (
-      as_whole (sum_of (term_of k.0 f.0) a.0) c.0,
-      c.1,
-      k.2 ∙ ap (front_atom k.0) (f.2 ∙ ap (front_factors f.0) (a.2 ∙ ap (front_addends a.0) c.2)) ∙ front_as_whole (sum_of (term_of k.0 f.0) a.0) c.0 c.1,
-      c.3,
-    )
-back (comparison ∷ s) t b w e h = at_comparison s t w b (comparison_of b.symbol) refl e h (λ q. back s t b w q h)
+    longer 2 2 1 (omega arith) (Completes s) (b ∷ w) (longer 3 2 2 (omega arith) (Completes (comparison ∷ s)) (b ∷ w)
+    (longer 4 3 3 (omega arith) (Completes (addends ∷ comparison ∷ s)) (b ∷ w)
+    (at_atom (factors ∷ addends ∷ comparison ∷ s) t w b b.symbol refl e h)))
+back (comparison ∷ s) t b w e h =
+    at_op s t w 2 1 (omega arith) b (a_sum ∷ s) (op_at 1 b.symbol) refl e
+    (λ q. let k = same_left s t w q h in (k.0, k.1, k.2, (k.1, λ l. (l, refl), k.3))) (λ q. back s t b w q h)
 back (a_name ∷ s) t b w e h = at_name s t w b b.symbol refl e h
 back (a_number ∷ s) t b w e h = at_number s t w b b.symbol refl e h
 back (marks ∷ s) t b w e h = at_marks s t w b (is (word (sign At)) b.symbol) refl e h (λ q. back s t b w q h)
@@ -486,14 +456,8 @@ one_more front_of Rest t k = (front_of t k.0, (t, k.0, refl, k.1))
 abbrev here : Pos
 here = record { line = 1; column = 1 }
 
-any_atom : Atom
-any_atom = number_atom (pos 0) here
-
-any_term : Term
-any_term = term_of any_atom no_factor
-
-any_sum : Sum
-any_sum = sum_of any_term no_addend
+any_expression : {n : ℕ} → ExpressionTree n
+any_expression = number_of (pos 0) here
 
 any_commands : Commands
 any_commands = commands_of (skip_of here no_marks) no_more
@@ -508,14 +472,14 @@ any_pair = pair_of (97 ∷ []) here here (97 ∷ []) here
 pub complete : (s : List Part) → (w : List Told) × Completes s w
 complete [] = ([], refl)
 complete (want g ∷ s) = one_more (symbol_front g) (Completes s) here (complete s)
-complete (an_atom ∷ s) = one_more front_atom (Completes s) any_atom (complete s)
+complete (an_atom ∷ s) = one_more (front_expression {n = 4}) (Completes s) any_expression (complete s)
 complete (an_index ∷ s) = one_more front_index (Completes s) no_index (complete s)
-complete (a_term ∷ s) = one_more front_term (Completes s) any_term (complete s)
-complete (factors ∷ s) = one_more front_factors (Completes s) no_factor (complete s)
-complete (a_sum ∷ s) = one_more front_sum (Completes s) any_sum (complete s)
-complete (addends ∷ s) = one_more front_addends (Completes s) no_addend (complete s)
-complete (an_expr ∷ s) = one_more front_whole (Completes s) (plain any_sum) (complete s)
-complete (comparison ∷ s) = one_more front_compared (Completes s) not_compared (complete s)
+complete (a_term ∷ s) = one_more (front_expression {n = 3}) (Completes s) any_expression (complete s)
+complete (factors ∷ s) = let k = complete s in (k.0, (k.0, λ l. (l, refl), k.1))
+complete (a_sum ∷ s) = one_more (front_expression {n = 2}) (Completes s) any_expression (complete s)
+complete (addends ∷ s) = let k = complete s in (k.0, (k.0, λ l. (l, refl), k.1))
+complete (an_expr ∷ s) = one_more (front_expression {n = 1}) (Completes s) any_expression (complete s)
+complete (comparison ∷ s) = let k = complete s in (k.0, (k.0, λ l. (as_need 1 (omega arith) l, sym (front_as 1 (omega arith) l k.0)), k.1))
 complete (a_name ∷ s) = one_more front_name (Completes s) any_name (complete s)
 complete (a_number ∷ s) = one_more number_front (Completes s) (pos 0, here) (complete s)
 complete (marks ∷ s) = one_more front_marks (Completes s) no_marks (complete s)

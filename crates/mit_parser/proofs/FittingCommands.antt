@@ -4,7 +4,7 @@ use Rattle.text_base.specs.declared.pos.Pos.{Pos}
 use Rattle.mit_syntax.specs.declared.token.Keyword.TheVariants.{Then, Do}
 use Rattle.mit_syntax.specs.declared.token.Sign.TheVariants.{RightRound, RightBrace, RightSquare, Assign, Semicolon}
 use Rattle.mit_parser.specs.Words.{Told, sign_at, key_at, end_at}
-use Rattle.mit_parser.specs.Tree.{front_whole, Index, no_index, index_of, front_index, AndName, no_name, and_name, Marks, no_marks, marks_of, CommandTree}
+use Rattle.mit_parser.specs.Tree.{front_expression, Index, no_index, index_of, front_index, AndName, no_name, and_name, Marks, no_marks, marks_of, CommandTree}
 use Rattle.mit_parser.specs.Tree.{skip_of, assign_of, sleep_of, if_of, while_of, mitigate_of, Block, block_of, ElsePart, no_else, else_of, Commands}
 use Rattle.mit_parser.specs.Tree.{commands_of, More, no_more, and_more, front_and_name, front_marks, front_command, front_block, front_else, front_commands}
 use Rattle.mit_parser.specs.Tree.{front_more, MoreNames, no_more_names, and_more_names, pair_of, MorePairs, no_more_pairs, and_pair, Ordering, no_ordering}
@@ -12,9 +12,9 @@ use Rattle.mit_parser.specs.Tree.{ordering_of, Header, no_header, header_of, no_
 use Rattle.mit_parser.specs.Tree.{no_declarations, and_declaration, ProgramTree, front_more_names, front_more_pairs, front_ordering, front_header}
 use Rattle.mit_parser.specs.Tree.{front_shape, front_declarations, front_program}
 use Rattle.mit_parser.specs.Counting.{Fits, nothing_yet}
-use Rattle.mit_parser.specs.Limits.{whole_size, IsIndexWithin, CommandWithin, BlockWithin, ElseWithin, CommandsWithin, MoreWithin}
+use Rattle.mit_parser.specs.Limits.{expression_size, IsIndexWithin, CommandWithin, BlockWithin, ElseWithin, CommandsWithin, MoreWithin}
 use Rattle.mit_parser.specs.Spells.{Spells}
-use Rattle.mit_parser.proofs.Fitting.{counts, low, within_whole}
+use Rattle.mit_parser.proofs.Fitting.{counts, low, within_expression}
 
 -- the words fit with some number of operators
 pub record FitsSome (d : ℕ) (r : List Told) : Type 0 where
@@ -37,7 +37,7 @@ some_index : (i : Index) (d : ℕ) (q : Pos) (r : List Told) → d ≤ 100 → F
 some_index no_index d q r h f = (tt, f.1)
 some_index (index_of p e u) d q r h f =
     let l = low (d + 1) 0 f.0 in
-    let x = within_whole e (d + 1) 0 (sign_at RightSquare u ∷ sign_at Assign q ∷ r) l.depth (omega arith) f.1 in
+    let x = within_expression e (d + 1) 0 (sign_at RightSquare u ∷ sign_at Assign q ∷ r) l.depth (omega arith) f.1 in
     let back : d + 1 - 1 ≡ d = omega arith in
     ((x.0, omega (arith, x.1)), subst (λ n. Fits (counts n 0) r) back x.2.1.1)
 
@@ -45,27 +45,27 @@ mutual
   pub within_command : (c : CommandTree) (d : ℕ) (r : List Told) → d ≤ 100 → Fits (counts d 0) (front_command c r) → CommandWithin d c × FitsSome d r
   within_command (skip_of p m) d r h f = (tt, some_marks m d 0 r (omega arith) f.1)
   within_command (assign_of w p i q e m) d r h f =
-      let x = some_index i d q (front_whole e (front_marks m r)) h f.1 in
-      let y = within_whole e d 0 (front_marks m r) h (omega arith) x.1 in
-      ((x.0, (y.0, omega (arith, y.1))), some_marks m d (0 + whole_size e) r y.1 y.2)
+      let x = some_index i d q (front_expression e (front_marks m r)) h f.1 in
+      let y = within_expression e d 0 (front_marks m r) h (omega arith) x.1 in
+      ((x.0, (y.0, omega (arith, y.1))), some_marks m d (0 + expression_size e) r y.1 y.2)
   within_command (sleep_of p e m) d r h f =
-      let y = within_whole e d 0 (front_marks m r) h (omega arith) f.1 in
-      ((y.0, omega (arith, y.1)), some_marks m d (0 + whole_size e) r y.1 y.2)
+      let y = within_expression e d 0 (front_marks m r) h (omega arith) f.1 in
+      ((y.0, omega (arith, y.1)), some_marks m d (0 + expression_size e) r y.1 y.2)
   within_command (if_of p e m q b u) d r h f =
-      let y = within_whole e d 0 (front_marks m (key_at Then q ∷ front_block b (front_else u r))) h (omega arith) f.1 in
-      let n = some_marks m d (0 + whole_size e) (key_at Then q ∷ front_block b (front_else u r)) y.1 y.2 in
+      let y = within_expression e d 0 (front_marks m (key_at Then q ∷ front_block b (front_else u r))) h (omega arith) f.1 in
+      let n = some_marks m d (0 + expression_size e) (key_at Then q ∷ front_block b (front_else u r)) y.1 y.2 in
       let x = within_block b d 0 (front_else u r) h (omega arith) n.fit.1 in
       let v = within_else u d x.1.operators r h x.1.few x.1.fit in
       (((y.0, omega (arith, y.1)), x.0, v.0), v.1)
   within_command (while_of p e m q b) d r h f =
-      let y = within_whole e d 0 (front_marks m (key_at Do q ∷ front_block b r)) h (omega arith) f.1 in
-      let n = some_marks m d (0 + whole_size e) (key_at Do q ∷ front_block b r) y.1 y.2 in
+      let y = within_expression e d 0 (front_marks m (key_at Do q ∷ front_block b r)) h (omega arith) f.1 in
+      let n = some_marks m d (0 + expression_size e) (key_at Do q ∷ front_block b r) y.1 y.2 in
       let x = within_block b d 0 r h (omega arith) n.fit.1 in
       (((y.0, omega (arith, y.1)), x.0), x.1)
   within_command (mitigate_of p q e l u m b) d r h f =
       let z = low (d + 1) 0 f.1.0 in
-      let y = within_whole e (d + 1) 0 (front_and_name l (sign_at RightRound u ∷ front_marks m (front_block b r))) z.depth (omega arith) f.1.1 in
-      let n = some_second l (d + 1) (0 + whole_size e) (sign_at RightRound u ∷ front_marks m (front_block b r)) y.1 y.2 in
+      let y = within_expression e (d + 1) 0 (front_and_name l (sign_at RightRound u ∷ front_marks m (front_block b r))) z.depth (omega arith) f.1.1 in
+      let n = some_second l (d + 1) (0 + expression_size e) (sign_at RightRound u ∷ front_marks m (front_block b r)) y.1 y.2 in
       let back : d + 1 - 1 ≡ d = omega arith in
       let k = some_marks m d n.operators (front_block b r) n.few (subst (λ j. Fits (counts j n.operators) (front_marks m (front_block b r))) back n.fit.1) in
       let x = within_block b d k.operators r h k.few k.fit in

@@ -2,26 +2,24 @@
 use Rattle.std.proofs.Common.{◌≡◌, ◌<◌, ◌+◌, refl, ap, ◌∙◌, sym, ℕ, List, ◌∷◌, length, cond, Option, Some, None}
 use Rattle.std.specs.Prelude.{is_some}
 use Rattle.text_base.specs.declared.pos.Pos.{Pos}
-use Rattle.mit_syntax.specs.Expression.{Expression, Binary}
+use Rattle.mit_syntax.specs.Expression.{Expression}
 use Rattle.mit_syntax.specs.Plan.{Plan}
 use Rattle.mit_syntax.specs.Declarations.{find_scalar, find_array}
 use Rattle.mit_syntax.specs.Valid.{IsBelow, AreMarksBelow, IsScalar, IsDeclaredArray, IsKnown, AreSome, AreKnown}
+use Rattle.mit_syntax.specs.declared.token.Keyword.TheVariants.{Then, Do}
+use Rattle.mit_syntax.specs.declared.token.Sign.TheVariants.{Assign, RightRound, RightBrace, RightSquare}
+use Rattle.mit_syntax.specs.Operators.{op_sign}
 use Rattle.mit_parser.specs.declared.fault.ParseFault.{ParseFault}
 use Rattle.mit_parser.specs.declared.fault.ParseFault.TheVariants.{Unknown, Misuse}
 use Rattle.mit_parser.specs.Words.{Told, AreProper, sign_at, key_at}
-use Rattle.mit_syntax.specs.declared.token.Keyword.TheVariants.{Then, Do}
-use Rattle.mit_syntax.specs.declared.token.Sign.TheVariants.{Assign, RightRound, RightBrace, RightSquare}
-use Rattle.mit_parser.specs.Operators.{factor_op, addend_op, comparison_sign}
 use Rattle.mit_parser.specs.Scope.{Scope, or_else, kept, scalar_fault, array_fault, label_fault}
-use Rattle.mit_parser.specs.Tree.{Atom, Term, Factors, Sum, Addends, Whole, number_atom, name_atom, paren_atom, no_index, index_of, term_of, no_factor}
-use Rattle.mit_parser.specs.Tree.{and_factor, sum_of, no_addend, and_addend, plain, compared, front_atom, front_term, front_factors, front_sum, front_addends}
-use Rattle.mit_parser.specs.Tree.{front_whole, AndName, no_name, and_name, Marks, no_marks, marks_of, CommandTree, skip_of, assign_of, sleep_of, if_of}
-use Rattle.mit_parser.specs.Tree.{while_of, mitigate_of, Block, block_of, ElsePart, no_else, else_of, Commands, commands_of, More, no_more, and_more}
-use Rattle.mit_parser.specs.Tree.{front_and_name, front_marks, front_command, front_block, front_else, front_commands, front_more}
-use Rattle.mit_parser.specs.Meaning.{atom_value, term_value, factors_value, sum_value, addends_value, whole_value, and_name_value, marks_value, next_command}
-use Rattle.mit_parser.specs.Meaning.{next_block, plan_command, plan_block, plan_else, plan_commands, plan_more}
-use Rattle.mit_parser.specs.Faults.{note_atom, note_term, note_factors, note_sum, note_addends, note_whole, note_and_name, note_marks, note_command}
-use Rattle.mit_parser.specs.Faults.{note_block, note_else, note_commands, note_more}
+use Rattle.mit_parser.specs.Tree.{no_index, index_of, ExpressionTree, number_of, name_of, parens_of, binary_of, front_expression, AndName, no_name, and_name}
+use Rattle.mit_parser.specs.Tree.{Marks, no_marks, marks_of, CommandTree, skip_of, assign_of, sleep_of, if_of, while_of, mitigate_of, Block, block_of}
+use Rattle.mit_parser.specs.Tree.{ElsePart, no_else, else_of, Commands, commands_of, More, no_more, and_more, front_and_name, front_marks, front_command}
+use Rattle.mit_parser.specs.Tree.{front_block, front_else, front_commands, front_more}
+use Rattle.mit_parser.specs.Meaning.{expression_value, and_name_value, marks_value, next_command, next_block, plan_command, plan_block, plan_else}
+use Rattle.mit_parser.specs.Meaning.{plan_commands, plan_more}
+use Rattle.mit_parser.specs.Faults.{note_expression, note_and_name, note_marks, note_command, note_block, note_else, note_commands, note_more}
 use Rattle.mit_parser.proofs.Numbered.{label_below}
 
 pub kept_split : (u v : Option ParseFault) → kept u v ≡ None → (u ≡ None) × (v ≡ None)
@@ -54,87 +52,33 @@ module _ (sc : Scope) where
     pub none : u ≡ None
     pub proper : AreProper r
 
-  mutual
-    pub known_atom : (a : Atom) (u : Option ParseFault) (r : List Told) → note_atom sc a u ≡ None → AreProper (front_atom a r) → Known (atom_value sc a) u r
-    known_atom (number_atom n p) u r e h = record { known = h.0; none = e; proper = h.1 }
-    known_atom (name_atom w p no_index) u r e h =
-        let k = kept_split u (scalar_fault sc.declarations w p) e in
-        record { known = scalar_known w p k.1; none = k.0; proper = h.1 }
-    known_atom (name_atom w p (index_of q x s)) u r e h =
-        let i = known_whole x (kept u (array_fault sc.declarations w p)) (sign_at RightSquare s ∷ r) e h.1.1 in
-        let k = kept_split u (array_fault sc.declarations w p) i.none in
-        record { known = (array_known w p k.1, i.known); none = k.0; proper = i.proper.1 }
-    known_atom (paren_atom p x q) u r e h =
-        let i = known_whole x u (sign_at RightRound q ∷ r) e h.1 in
-        record { known = i.known; none = i.none; proper = i.proper.1 }
+  none_expression : {n : ℕ} (t : ExpressionTree n) (u : Option ParseFault) → note_expression sc t u ≡ None → u ≡ None
+  none_expression (number_of k p) u e = e
+  none_expression (name_of w p no_index) u e = (kept_split u (scalar_fault sc.declarations w p) e).0
+  none_expression (name_of w p (index_of q x s)) u e =
+      (kept_split u (array_fault sc.declarations w p) (none_expression x (kept u (array_fault sc.declarations w p)) e)).0
+  none_expression (parens_of p x q) u e = none_expression x u e
+  none_expression (binary_of o h l p t) u e = none_expression l u (none_expression t (note_expression sc l u) e)
 
-    pub known_term : (t : Term) (u : Option ParseFault) (r : List Told) → note_term sc t u ≡ None → AreProper (front_term t r) → Known (term_value sc t) u r
-    known_term (term_of a fs) u r e h =
-        let none = none_factors fs (note_atom sc a u) e in
-        let x = known_atom a u (front_factors fs r) none h in
-        let y = known_factors fs (atom_value sc a) (note_atom sc a u) r e x.known x.proper in
-        record { known = y.known; none = x.none; proper = y.proper }
-
-    none_factors : (fs : Factors) (u : Option ParseFault) → note_factors sc fs u ≡ None → u ≡ None
-    none_factors no_factor u e = e
-    none_factors (and_factor o p a fs) u e = none_atom a u (none_factors fs (note_atom sc a u) e)
-
-    none_atom : (a : Atom) (u : Option ParseFault) → note_atom sc a u ≡ None → u ≡ None
-    none_atom (number_atom n p) u e = e
-    none_atom (name_atom w p no_index) u e = (kept_split u (scalar_fault sc.declarations w p) e).0
-    none_atom (name_atom w p (index_of q x s)) u e =
-        (kept_split u (array_fault sc.declarations w p) (none_whole x (kept u (array_fault sc.declarations w p)) e)).0
-    none_atom (paren_atom p x q) u e = none_whole x u e
-
-    none_term : (t : Term) (u : Option ParseFault) → note_term sc t u ≡ None → u ≡ None
-    none_term (term_of a fs) u e = none_atom a u (none_factors fs (note_atom sc a u) e)
-
-    none_addends : (ts : Addends) (u : Option ParseFault) → note_addends sc ts u ≡ None → u ≡ None
-    none_addends no_addend u e = e
-    none_addends (and_addend o p t ts) u e = none_term t u (none_addends ts (note_term sc t u) e)
-
-    none_sum : (t : Sum) (u : Option ParseFault) → note_sum sc t u ≡ None → u ≡ None
-    none_sum (sum_of t ts) u e = none_term t u (none_addends ts (note_term sc t u) e)
-
-    none_whole : (t : Whole) (u : Option ParseFault) → note_whole sc t u ≡ None → u ≡ None
-    none_whole (plain s) u e = none_sum s u e
-    none_whole (compared s o p t) u e = none_sum s u (none_sum t (note_sum sc s u) e)
-
-    pub known_factors : (fs : Factors) (l : Expression) (u : Option ParseFault) (r : List Told) → note_factors sc fs u ≡ None → IsKnown sc.declarations l
-        → AreProper (front_factors fs r)
-        → Known (factors_value sc fs l) u r
-    known_factors no_factor l u r e k h = record { known = k; none = e; proper = h }
-    known_factors (and_factor o p a fs) l u r e k h =
-        let none = none_factors fs (note_atom sc a u) e in
-        let x = known_atom a u (front_factors fs r) none h.1 in
-        let y = known_factors fs (Binary (factor_op o) l (atom_value sc a)) (note_atom sc a u) r e (k, x.known) x.proper in
-        record { known = y.known; none = x.none; proper = y.proper }
-
-    pub known_sum : (t : Sum) (u : Option ParseFault) (r : List Told) → note_sum sc t u ≡ None → AreProper (front_sum t r) → Known (sum_value sc t) u r
-    known_sum (sum_of t ts) u r e h =
-        let none = none_addends ts (note_term sc t u) e in
-        let x = known_term t u (front_addends ts r) none h in
-        let y = known_addends ts (term_value sc t) (note_term sc t u) r e x.known x.proper in
-        record { known = y.known; none = x.none; proper = y.proper }
-
-    pub known_addends : (ts : Addends) (l : Expression) (u : Option ParseFault) (r : List Told) → note_addends sc ts u ≡ None → IsKnown sc.declarations l
-        → AreProper (front_addends ts r)
-        → Known (addends_value sc ts l) u r
-    known_addends no_addend l u r e k h = record { known = k; none = e; proper = h }
-    known_addends (and_addend o p t ts) l u r e k h =
-        let none = none_addends ts (note_term sc t u) e in
-        let x = known_term t u (front_addends ts r) none h.1 in
-        let y = known_addends ts (Binary (addend_op o) l (term_value sc t)) (note_term sc t u) r e (k, x.known) x.proper in
-        record { known = y.known; none = x.none; proper = y.proper }
-
-    pub known_whole : (t : Whole) (u : Option ParseFault) (r : List Told) → note_whole sc t u ≡ None → AreProper (front_whole t r)
-        → Known (whole_value sc t) u r
-    known_whole (plain s) u r e h = known_sum s u r e h
-    known_whole (compared s o p t) u r e h =
-        let none = none_sum t (note_sum sc s u) e in
-        let x = known_sum s u (sign_at (comparison_sign o) p ∷ front_sum t r) none h in
-        let y = known_sum t (note_sum sc s u) r e x.proper.1 in
-        record { known = (x.known, y.known); none = x.none; proper = y.proper }
+  known_expression : {n : ℕ} (t : ExpressionTree n) (u : Option ParseFault) (r : List Told) → note_expression sc t u ≡ None
+      → AreProper (front_expression t r)
+      → Known (expression_value sc t) u r
+  known_expression (number_of k p) u r e h = record { known = h.0; none = e; proper = h.1 }
+  known_expression (name_of w p no_index) u r e h =
+      let k = kept_split u (scalar_fault sc.declarations w p) e in
+      record { known = scalar_known w p k.1; none = k.0; proper = h.1 }
+  known_expression (name_of w p (index_of q x s)) u r e h =
+      let i = known_expression x (kept u (array_fault sc.declarations w p)) (sign_at RightSquare s ∷ r) e h.1.1 in
+      let k = kept_split u (array_fault sc.declarations w p) i.none in
+      record { known = (array_known w p k.1, i.known); none = k.0; proper = i.proper.1 }
+  known_expression (parens_of p x q) u r e h =
+      let i = known_expression x u (sign_at RightRound q ∷ r) e h.1 in
+      record { known = i.known; none = i.none; proper = i.proper.1 }
+  known_expression (binary_of o g l p t) u r e h =
+      let none = none_expression t (note_expression sc l u) e in
+      let x = known_expression l u (sign_at (op_sign o) p ∷ front_expression t r) none h in
+      let y = known_expression t (note_expression sc l u) r e x.proper.1 in
+      record { known = (x.known, y.known); none = x.none; proper = y.proper }
 
   module _ (some : 0 < length sc.labels) where
     second_below : (l : AndName) → IsBelow (length sc.labels) (and_name_value sc.labels l)
@@ -192,13 +136,14 @@ module _ (sc : Scope) where
       none_command : (c : CommandTree) (u : Option ParseFault) → note_command sc c u ≡ None → u ≡ None
       none_command (skip_of p m) u e = none_marks m u e
       none_command (assign_of w p no_index q x m) u e =
-          (kept_split u (scalar_fault sc.declarations w p) (none_whole x (kept u (scalar_fault sc.declarations w p)) (none_marks m _ e))).0
+          (kept_split u (scalar_fault sc.declarations w p) (none_expression x (kept u (scalar_fault sc.declarations w p)) (none_marks m _ e))).0
       none_command (assign_of w p (index_of a i b) q x m) u e =
-          (kept_split u (array_fault sc.declarations w p) (none_whole i (kept u (array_fault sc.declarations w p)) (none_whole x _ (none_marks m _ e)))).0
-      none_command (sleep_of p x m) u e = none_whole x u (none_marks m _ e)
-      none_command (if_of p x m q b o) u e = none_whole x u (none_marks m _ (none_block b _ (none_else o _ e)))
-      none_command (while_of p x m q b) u e = none_whole x u (none_marks m _ (none_block b _ e))
-      none_command (mitigate_of p q x l v m b) u e = none_whole x u (none_second l _ (none_marks m _ (none_block b _ e)))
+          (kept_split u (array_fault sc.declarations w p)
+          (none_expression i (kept u (array_fault sc.declarations w p)) (none_expression x _ (none_marks m _ e)))).0
+      none_command (sleep_of p x m) u e = none_expression x u (none_marks m _ e)
+      none_command (if_of p x m q b o) u e = none_expression x u (none_marks m _ (none_block b _ (none_else o _ e)))
+      none_command (while_of p x m q b) u e = none_expression x u (none_marks m _ (none_block b _ e))
+      none_command (mitigate_of p q x l v m b) u e = none_expression x u (none_second l _ (none_marks m _ (none_block b _ e)))
 
       none_block : (b : Block) (u : Option ParseFault) → note_block sc b u ≡ None → u ≡ None
       none_block (block_of p c q) u e = none_commands c u e
@@ -222,31 +167,31 @@ module _ (sc : Scope) where
           let z = proper_marks m r h.1 in
           record { known = (marks_below m, t z); none = none_marks m u e; proper = z }
       known_command (assign_of w p no_index q x m) k rest u r e h t =
-          let v = none_marks m (note_whole sc x (kept u (scalar_fault sc.declarations w p))) e in
-          let y = known_whole x (kept u (scalar_fault sc.declarations w p)) (front_marks m r) v h.1.1 in
+          let v = none_marks m (note_expression sc x (kept u (scalar_fault sc.declarations w p))) e in
+          let y = known_expression x (kept u (scalar_fault sc.declarations w p)) (front_marks m r) v h.1.1 in
           let s = kept_split u (scalar_fault sc.declarations w p) y.none in
           let z = proper_marks m r y.proper in
           record { known = (marks_below m, scalar_known w p s.1, y.known, t z); none = s.0; proper = z }
       known_command (assign_of w p (index_of a i b) q x m) k rest u r e h t =
-          let v = none_marks m (note_whole sc x (note_whole sc i (kept u (array_fault sc.declarations w p)))) e in
-          let n = none_whole x (note_whole sc i (kept u (array_fault sc.declarations w p))) v in
-          let j = known_whole i (kept u (array_fault sc.declarations w p)) (sign_at RightSquare b ∷ sign_at Assign q ∷ front_whole x (front_marks m r)) n
-          h.1.1 in
-          let y = known_whole x (note_whole sc i (kept u (array_fault sc.declarations w p))) (front_marks m r) v j.proper.1.1 in
+          let v = none_marks m (note_expression sc x (note_expression sc i (kept u (array_fault sc.declarations w p)))) e in
+          let n = none_expression x (note_expression sc i (kept u (array_fault sc.declarations w p))) v in
+          let j = known_expression i (kept u (array_fault sc.declarations w p))
+          (sign_at RightSquare b ∷ sign_at Assign q ∷ front_expression x (front_marks m r)) n h.1.1 in
+          let y = known_expression x (note_expression sc i (kept u (array_fault sc.declarations w p))) (front_marks m r) v j.proper.1.1 in
           let s = kept_split u (array_fault sc.declarations w p) j.none in
           let z = proper_marks m r y.proper in
           record { known = (marks_below m, array_known w p s.1, j.known, y.known, t z); none = s.0; proper = z }
       known_command (sleep_of p x m) k rest u r e h t =
-          let v = none_marks m (note_whole sc x u) e in
-          let y = known_whole x u (front_marks m r) v h.1 in
+          let v = none_marks m (note_expression sc x u) e in
+          let y = known_expression x u (front_marks m r) v h.1 in
           let z = proper_marks m r y.proper in
           record { known = (marks_below m, y.known, t z); none = y.none; proper = z }
       known_command (if_of p x m q b o) k rest u r e h t =
-          let a = note_marks sc.labels m (note_whole sc x u) in
+          let a = note_marks sc.labels m (note_expression sc x u) in
           let e1 = none_else o (note_block sc b a) e in
           let e2 = none_block b a e1 in
-          let e3 = none_marks m (note_whole sc x u) e2 in
-          let y = known_whole x u (front_marks m (key_at Then q ∷ front_block b (front_else o r))) e3 h.1 in
+          let e3 = none_marks m (note_expression sc x u) e2 in
+          let y = known_expression x u (front_marks m (key_at Then q ∷ front_block b (front_else o r))) e3 h.1 in
           let z = proper_marks m (key_at Then q ∷ front_block b (front_else o r)) y.proper in
           let f = known_block b k a (front_else o r) e1 z.1 in
           let g = known_else o p (next_block b k) (note_block sc b a) r e f.proper in
@@ -257,20 +202,20 @@ module _ (sc : Scope) where
                 g.proper;
           }
       known_command (while_of p x m q b) k rest u r e h t =
-          let a = note_marks sc.labels m (note_whole sc x u) in
+          let a = note_marks sc.labels m (note_expression sc x u) in
           let e2 = none_block b a e in
-          let e3 = none_marks m (note_whole sc x u) e2 in
-          let y = known_whole x u (front_marks m (key_at Do q ∷ front_block b r)) e3 h.1 in
+          let e3 = none_marks m (note_expression sc x u) e2 in
+          let y = known_expression x u (front_marks m (key_at Do q ∷ front_block b r)) e3 h.1 in
           let z = proper_marks m (key_at Do q ∷ front_block b r) y.proper in
           let f = known_block b k a r e z.1 in
           record { known = (marks_below m, y.known, some_block b k, f.known, t f.proper); none = y.none; proper = f.proper }
       known_command (mitigate_of p q x l v m b) k rest u r e h t =
-          let c = note_and_name sc.labels l (note_whole sc x u) in
+          let c = note_and_name sc.labels l (note_expression sc x u) in
           let a = note_marks sc.labels m c in
           let e2 = none_block b a e in
           let e3 = none_marks m c e2 in
-          let e4 = none_second l (note_whole sc x u) e3 in
-          let y = known_whole x u (front_and_name l (sign_at RightRound v ∷ front_marks m (front_block b r))) e4 h.1.1 in
+          let e4 = none_second l (note_expression sc x u) e3 in
+          let y = known_expression x u (front_and_name l (sign_at RightRound v ∷ front_marks m (front_block b r))) e4 h.1.1 in
           let i = proper_second l (sign_at RightRound v ∷ front_marks m (front_block b r)) y.proper in
           let z = proper_marks m (front_block b r) i.1 in
           let f = known_block b (k + 1) a r e z in

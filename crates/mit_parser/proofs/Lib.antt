@@ -1,6 +1,8 @@
 pub mod Found
 pub mod Rules
 pub mod Tags
+pub mod Weaken
+pub mod Levels
 pub mod Atoms
 pub mod Listed
 pub mod Heads

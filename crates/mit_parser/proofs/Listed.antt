@@ -21,11 +21,11 @@ use Rattle.mit_parser.specs.Counting.{count, past_right}
 use Rattle.mit_parser.specs.State.{State, with_fault, with_marks}
 use Rattle.mit_parser.specs.Scope.{Scope, or_else, kept, label_fault, scalar_fault, array_fault}
 use Rattle.mit_parser.specs.Tree.{no_index, and_name, marks_of, skip_of, assign_of, sleep_of, if_of, while_of, mitigate_of, block_of, no_else, else_of}
-use Rattle.mit_parser.specs.Tree.{commands_of, no_more, and_more, front_index, front_whole, front_and_name, front_marks, front_command, front_block}
+use Rattle.mit_parser.specs.Tree.{commands_of, no_more, and_more, front_index, front_expression, front_and_name, front_marks, front_command, front_block}
 use Rattle.mit_parser.specs.Tree.{front_commands, front_more}
-use Rattle.mit_parser.specs.Meaning.{label, both, and_name_value, written, assigned, whole_value, plan_command, plan_block, plan_else, plan_commands}
+use Rattle.mit_parser.specs.Meaning.{label, both, and_name_value, written, assigned, expression_value, plan_command, plan_block, plan_else, plan_commands}
 use Rattle.mit_parser.specs.Meaning.{plan_more, next_command, next_block, next_else, next_commands, next_more}
-use Rattle.mit_parser.specs.Faults.{note_index, note_whole, note_and_name, note_marks, note_command, note_block, note_else, note_commands, note_more}
+use Rattle.mit_parser.specs.Faults.{note_index, note_expression, note_and_name, note_marks, note_command, note_block, note_else, note_commands, note_more}
 use Rattle.mit_parser.specs.Machine.{Part, want, an_index, an_expr, a_name, second, marks, a_command, a_block, more, otherwise, step, name_step, command_step}
 use Rattle.mit_parser.specs.Machine.{after_at, after_brace, verdict}
 use Rattle.mit_parser.specs.Reads.{Passed, Took, TookName, TookMark, Accepted, IsWhole, IsIndex, IsSecond, IsMarks, IsCommand, IsBlock, IsElse, IsCommands}
@@ -159,11 +159,11 @@ module _ (sc : Scope) (old : State) (p : Pos) (at : p ≡ first_pos old.words) w
       let d = same_depth old a (word (key Sleep)) e h refl in
       record {
         tree = sleep_of h.first.pos y.tree k.tree;
-        spelled = words_are old a (word (key Sleep)) e h ∙ ap (λ l. key_at Sleep h.first.pos ∷ l) (y.spelled ∙ ap (front_whole y.tree) k.spelled);
+        spelled = words_are old a (word (key Sleep)) e h ∙ ap (λ l. key_at Sleep h.first.pos ∷ l) (y.spelled ∙ ap (front_expression y.tree) k.spelled);
         means = λ rest. ap (λ z. TSleep (record { pos = z; labels = m }) x rest) (pos_is old a p at h)
             ∙ ap (λ z. TSleep (record { pos = h.first.pos; labels = z }) x rest) (sym k.means)
             ∙ ap (λ z. TSleep (written sc h.first.pos k.tree) z rest) (sym y.means);
-        notes = k.notes ∙ ap (note_marks sc.labels k.tree) (y.notes ∙ ap (note_whole sc y.tree) h.fault);
+        notes = k.notes ∙ ap (note_marks sc.labels k.tree) (y.notes ∙ ap (note_expression sc y.tree) h.fault);
         next = k.next ∙ y.next ∙ h.marks;
         goes = λ s. after_key (word (key Sleep)) (λ s. an_expr ∷ marks ∷ s) old a (λ s. refl) e h s ∙ y.goes (marks ∷ s) ∙ k.goes s;
         shorter = omega (arith, h.shorter, y.shorter, k.shorter);
@@ -191,12 +191,12 @@ module _ (sc : Scope) (old : State) (p : Pos) (at : p ≡ first_pos old.words) w
       record {
         tree = assign_of w h.first.pos no_index t.place y.tree k.tree;
         spelled = words_are old a (word (name w)) e h
-            ∙ ap (λ l. name_at w h.first.pos ∷ l) (t.was ∙ ap (λ l. sign_at Assign t.place ∷ l) (y.spelled ∙ ap (front_whole y.tree) k.spelled));
+            ∙ ap (λ l. name_at w h.first.pos ∷ l) (t.was ∙ ap (λ l. sign_at Assign t.place ∷ l) (y.spelled ∙ ap (front_expression y.tree) k.spelled));
         means = λ rest. ap (λ z. TAssign (record { pos = z; labels = m }) v x rest) (pos_is old a p at h)
             ∙ ap (λ z. TAssign (record { pos = h.first.pos; labels = z }) v x rest) (sym k.means)
             ∙ ap (λ z. TAssign (written sc h.first.pos k.tree) z x rest) i
             ∙ ap (λ z. TAssign (written sc h.first.pos k.tree) (or_else 0 (find_scalar sc.declarations w)) z rest) (sym y.means);
-        notes = k.notes ∙ ap (note_marks sc.labels k.tree) (y.notes ∙ ap (note_whole sc y.tree) (t.fault
+        notes = k.notes ∙ ap (note_marks sc.labels k.tree) (y.notes ∙ ap (note_expression sc y.tree) (t.fault
             ∙ ap (λ z. kept z (scalar_fault sc.declarations w p)) h.fault ∙ ap (λ z. kept old.fault (scalar_fault sc.declarations w z)) (pos_is old a p at h)));
         next = k.next ∙ y.next ∙ t.marks ∙ h.marks;
         goes = λ s. after_scalar a w e h n s ∙ t.goes (an_expr ∷ marks ∷ s) ∙ y.goes (marks ∷ s) ∙ k.goes s;
@@ -217,13 +217,13 @@ module _ (sc : Scope) (old : State) (p : Pos) (at : p ≡ first_pos old.words) w
       record {
         tree = assign_of w h.first.pos o.tree t.place y.tree k.tree;
         spelled = words_are old a (word (name w)) e h ∙ ap (λ l. name_at w h.first.pos ∷ l) (o.spelled ∙ ap (front_index o.tree) (t.was
-            ∙ ap (λ l. sign_at Assign t.place ∷ l) (y.spelled ∙ ap (front_whole y.tree) k.spelled)));
+            ∙ ap (λ l. sign_at Assign t.place ∷ l) (y.spelled ∙ ap (front_expression y.tree) k.spelled)));
         means = λ rest. ap (λ z. TPut (record { pos = z; labels = m }) r.0 r.1 i x rest) (pos_is old a p at h)
             ∙ ap (λ z. TPut (record { pos = h.first.pos; labels = z }) r.0 r.1 i x rest) (sym k.means)
             ∙ ap (λ (z : ℕ × ℕ). TPut (written sc h.first.pos k.tree) z.0 z.1 i x rest) j
             ∙ ap (λ z. assigned sc (written sc h.first.pos k.tree) w (Some i) z rest) (sym y.means)
-            ∙ ap (λ z. assigned sc (written sc h.first.pos k.tree) w z (whole_value sc y.tree) rest) (sym o.means);
-        notes = k.notes ∙ ap (note_marks sc.labels k.tree) (y.notes ∙ ap (note_whole sc y.tree) (t.fault ∙ o.notes ∙ ap (note_index sc o.tree)
+            ∙ ap (λ z. assigned sc (written sc h.first.pos k.tree) w z (expression_value sc y.tree) rest) (sym o.means);
+        notes = k.notes ∙ ap (note_marks sc.labels k.tree) (y.notes ∙ ap (note_expression sc y.tree) (t.fault ∙ o.notes ∙ ap (note_index sc o.tree)
             (ap (λ z. kept z (array_fault sc.declarations w p)) h.fault ∙ ap (λ z. kept old.fault (array_fault sc.declarations w z)) (pos_is old a p at h)
             ∙ ap (kept old.fault) (sym ind))));
         next = k.next ∙ y.next ∙ t.marks ∙ o.next ∙ h.marks;
@@ -249,7 +249,7 @@ module _ (sc : Scope) (old : State) (p : Pos) (at : p ≡ first_pos old.words) w
       record {
         tree = if_of h.first.pos y.tree k.tree t.place x.tree o.tree;
         spelled = words_are old a (word (key If)) e h
-            ∙ ap (λ l. key_at If h.first.pos ∷ l) (y.spelled ∙ ap (front_whole y.tree) (k.spelled ∙ ap (front_marks k.tree) (t.was
+            ∙ ap (λ l. key_at If h.first.pos ∷ l) (y.spelled ∙ ap (front_expression y.tree) (k.spelled ∙ ap (front_marks k.tree) (t.was
             ∙ ap (λ l. key_at Then t.place ∷ l) (x.spelled ∙ ap (front_block x.tree) o.spelled))));
         means = λ rest. plan-If v xs ys (record { pos = p; labels = m }) rest
             ∙ ap (λ z. TIf (record { pos = p; labels = m }) (expression_of v) (list_plan xs.items) z rest)
@@ -264,7 +264,7 @@ module _ (sc : Scope) (old : State) (p : Pos) (at : p ≡ first_pos old.words) w
             ∙ ap (λ z. TIf (written sc h.first.pos k.tree) z (plan_block sc old.marks x.tree) (plan_else sc h.first.pos (next_block x.tree old.marks) o.tree)
             rest) (sym y.means);
         notes = o.notes ∙ ap (note_else sc o.tree)
-            (x.notes ∙ ap (note_block sc x.tree) (t.fault ∙ k.notes ∙ ap (note_marks sc.labels k.tree) (y.notes ∙ ap (note_whole sc y.tree) h.fault)));
+            (x.notes ∙ ap (note_block sc x.tree) (t.fault ∙ k.notes ∙ ap (note_marks sc.labels k.tree) (y.notes ∙ ap (note_expression sc y.tree) h.fault)));
         next = o.next ∙ ap (next_else o.tree) (x.next ∙ ap (next_block x.tree) same);
         goes = λ s. after_if a e h s ∙ y.goes (marks ∷ want (word (key Then)) ∷ a_block ∷ otherwise ∷ s)
             ∙ k.goes (want (word (key Then)) ∷ a_block ∷ otherwise ∷ s)
@@ -288,14 +288,14 @@ module _ (sc : Scope) (old : State) (p : Pos) (at : p ≡ first_pos old.words) w
       record {
         tree = while_of h.first.pos y.tree k.tree t.place x.tree;
         spelled = words_are old a (word (key While)) e h
-            ∙ ap (λ l. key_at While h.first.pos ∷ l) (y.spelled ∙ ap (front_whole y.tree) (k.spelled ∙ ap (front_marks k.tree) (t.was
+            ∙ ap (λ l. key_at While h.first.pos ∷ l) (y.spelled ∙ ap (front_expression y.tree) (k.spelled ∙ ap (front_marks k.tree) (t.was
             ∙ ap (λ l. key_at Do t.place ∷ l) x.spelled)));
         means = λ rest. plan-While v xs (record { pos = p; labels = m }) rest
             ∙ ap (λ z. TWhile (record { pos = p; labels = m }) (expression_of v) z rest) (x.means ∙ ap (λ z. plan_block sc z x.tree) same)
             ∙ ap (λ z. TWhile (record { pos = z; labels = m }) (expression_of v) (plan_block sc old.marks x.tree) rest) (pos_is old a p at h)
             ∙ ap (λ z. TWhile (record { pos = h.first.pos; labels = z }) (expression_of v) (plan_block sc old.marks x.tree) rest) (sym k.means)
             ∙ ap (λ z. TWhile (written sc h.first.pos k.tree) z (plan_block sc old.marks x.tree) rest) (sym y.means);
-        notes = x.notes ∙ ap (note_block sc x.tree) (t.fault ∙ k.notes ∙ ap (note_marks sc.labels k.tree) (y.notes ∙ ap (note_whole sc y.tree) h.fault));
+        notes = x.notes ∙ ap (note_block sc x.tree) (t.fault ∙ k.notes ∙ ap (note_marks sc.labels k.tree) (y.notes ∙ ap (note_expression sc y.tree) h.fault));
         next = x.next ∙ ap (next_block x.tree) same;
         goes = λ s. after_while a e h s ∙ y.goes (marks ∷ want (word (key Do)) ∷ a_block ∷ s) ∙ k.goes (want (word (key Do)) ∷ a_block ∷ s)
             ∙ t.goes (a_block ∷ s) ∙ x.goes s;
@@ -323,7 +323,7 @@ module _ (sc : Scope) (old : State) (p : Pos) (at : p ≡ first_pos old.words) w
         tree = mitigate_of h.passed.first.pos t.place y.tree q.0.tree r.place k.tree x.tree;
         spelled = words_are old (with_marks a n) (word (key Mitigate)) e h.passed
             ∙ ap (λ l. key_at Mitigate h.passed.first.pos ∷ l) (t.was ∙ ap (λ l. sign_at LeftRound t.place ∷ l) (y.spelled
-            ∙ ap (front_whole y.tree) (q.0.spelled
+            ∙ ap (front_expression y.tree) (q.0.spelled
             ∙ ap (front_and_name q.0.tree) (r.was ∙ ap (λ l. sign_at RightRound r.place ∷ l) (k.spelled ∙ ap (front_marks k.tree) x.spelled)))));
         means = λ rest. plan-Mitigate n v l xs (record { pos = p; labels = m }) rest
             ∙ ap (λ z. TMitigate (record { pos = p; labels = m }) n l (expression_of v) z rest) (x.means ∙ ap (λ z. plan_block sc z x.tree) same)
@@ -338,7 +338,7 @@ module _ (sc : Scope) (old : State) (p : Pos) (at : p ≡ first_pos old.words) w
             (plan_block sc (old.marks + 1) x.tree) rest) (sym y.means);
         notes = x.notes ∙ ap (note_block sc x.tree)
             (k.notes ∙ ap (note_marks sc.labels k.tree) (r.fault ∙ q.0.notes
-            ∙ ap (note_and_name sc.labels q.0.tree) (y.notes ∙ ap (note_whole sc y.tree) (t.fault ∙ h.passed.fault))));
+            ∙ ap (note_and_name sc.labels q.0.tree) (y.notes ∙ ap (note_expression sc y.tree) (t.fault ∙ h.passed.fault))));
         next = x.next ∙ ap (next_block x.tree) same;
         goes = λ s. after_mitigate n a e h s ∙ t.goes (an_expr ∷ second ∷ want (word (sign RightRound)) ∷ marks ∷ a_block ∷ s)
             ∙ y.goes (second ∷ want (word (sign RightRound)) ∷ marks ∷ a_block ∷ s)

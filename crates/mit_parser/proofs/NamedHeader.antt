@@ -1,7 +1,7 @@
 -- The finder of the first fault finds none in a header and in declarations exactly where their names are right.
-use Rattle.std.proofs.Common.{◌≡◌, ◌≤◌, ◌<◌, ◌+◌, refl, ap, ◌∙◌, sym, subst, ℕ, zero, suc, ℤ, List, [], ◌∷◌, ◌++◌, append_assoc, append-nil, length, get_or}
+use Rattle.std.proofs.Common.{◌≡◌, ◌≤◌, ◌<◌, ◌+◌, refl, ap, ◌∙◌, sym, subst, ℕ, zero, suc, ℤ, List, [], ◌∷◌, ◌++◌, append_assoc, append-nil, get_or}
 use Rattle.std.proofs.Common.{Bool, true, false, true≢false, Option, Some, None, cond, ◌==◌, ◌||◌, arith}
-use Rattle.std.specs.Prelude.{is_some, map, ltb}
+use Rattle.std.specs.Prelude.{is_some, ltb}
 use Rattle.std.proofs.lemmas.Bool.{eqb-false}
 use Rattle.std.proofs.lemmas.List.{map-append}
 use Rattle.std.proofs.lemmas.List.Quantifiers.{all_pairs_push}
@@ -17,7 +17,7 @@ use Rattle.mit_parser.specs.Tree.{ordering_of, Header, no_header, header_of, no_
 use Rattle.mit_parser.specs.Tree.{no_declarations, and_declaration}
 use Rattle.mit_parser.specs.Faults.{Labelled, labelled, add_label, add_labels, header_labels, ordering_numbers, as_labels, header_pairs, note_pair}
 use Rattle.mit_parser.specs.Faults.{note_more_pairs, note_ordering, header_fault, size_number, is_bad_size, length_fault, written_label_fault, twice_fault}
-use Rattle.mit_parser.specs.Faults.{declaration_fault, decl_of, shape_label, shape_length, written_length, Declared, declaring, added, declare_all}
+use Rattle.mit_parser.specs.Faults.{declaration_fault, decl_of, shape_label, shape_length, written_length, declaring, added, declare_all}
 use Rattle.mit_parser.specs.Named.{more_labels, label_names, label_pairs, declarations_in, declared_names, PairNamed, PairsNamed, OrderingNamed, HeaderNamed}
 use Rattle.mit_parser.specs.Named.{ShapeNamed, ShapesNamed}
 use Rattle.mit_parser.proofs.Known.{kept_split}

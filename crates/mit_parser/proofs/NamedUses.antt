@@ -6,14 +6,13 @@ use Rattle.mit_syntax.specs.Declarations.{Declaration, find_scalar, find_array}
 use Rattle.mit_parser.specs.declared.fault.ParseFault.{ParseFault}
 use Rattle.mit_parser.specs.declared.fault.ParseFault.TheVariants.{Unknown, Misuse}
 use Rattle.mit_parser.specs.Scope.{Scope, find_label, kept, label_fault, scalar_fault, array_fault}
-use Rattle.mit_parser.specs.Tree.{Atom, Index, Term, Factors, Sum, Addends, Whole, number_atom, name_atom, paren_atom, no_index, index_of, term_of, no_factor}
-use Rattle.mit_parser.specs.Tree.{and_factor, sum_of, no_addend, and_addend, plain, compared, AndName, no_name, and_name, Marks, no_marks, marks_of}
-use Rattle.mit_parser.specs.Tree.{CommandTree, skip_of, assign_of, sleep_of, if_of, while_of, mitigate_of, Block, block_of, ElsePart, no_else, else_of}
-use Rattle.mit_parser.specs.Tree.{Commands, commands_of, More, no_more, and_more}
-use Rattle.mit_parser.specs.Faults.{use_fault, note_atom, note_index, note_term, note_factors, note_sum, note_addends, note_whole, note_and_name, note_marks}
-use Rattle.mit_parser.specs.Faults.{note_command, note_block, note_else, note_commands, note_more}
-use Rattle.mit_parser.specs.Named.{IsLabelName, IsUsed, AtomNamed, IndexNamed, TermNamed, FactorsNamed, SumNamed, AddendsNamed, WholeNamed, SecondNamed}
-use Rattle.mit_parser.specs.Named.{MarksNamed, CommandNamed, BlockNamed, ElseNamed, CommandsNamed, MoreNamed}
+use Rattle.mit_parser.specs.Tree.{Index, no_index, index_of, ExpressionTree, number_of, name_of, parens_of, binary_of, AndName, no_name, and_name, Marks}
+use Rattle.mit_parser.specs.Tree.{no_marks, marks_of, CommandTree, skip_of, assign_of, sleep_of, if_of, while_of, mitigate_of, Block, block_of, ElsePart}
+use Rattle.mit_parser.specs.Tree.{no_else, else_of, Commands, commands_of, More, no_more, and_more}
+use Rattle.mit_parser.specs.Faults.{use_fault, note_index, note_expression, note_and_name, note_marks, note_command, note_block, note_else, note_commands}
+use Rattle.mit_parser.specs.Faults.{note_more}
+use Rattle.mit_parser.specs.Named.{IsLabelName, IsUsed, IndexNamed, ExpressionNamed, SecondNamed, MarksNamed, CommandNamed, BlockNamed, ElseNamed}
+use Rattle.mit_parser.specs.Named.{CommandsNamed, MoreNamed}
 use Rattle.mit_parser.proofs.Known.{kept_split}
 
 pub label_named : (labels : List (List ℕ)) (w : List ℕ) (p : Pos) → label_fault labels w p ≡ None → IsLabelName labels w
@@ -33,7 +32,7 @@ scalar_used ds w p e = by (find_scalar ds w) refl
     by None h = let q = sym (ap (λ r. cond (is_some r) None (Some (cond (is_some (find_array ds w)) (Misuse p) (Unknown p)))) h) ∙ e in cc
     by (Some x) h = (x, h)
 
-array_used : (ds : List Declaration) (w : List ℕ) (p q : Pos) (t : Whole) (r : Pos) → array_fault ds w p ≡ None → IsUsed ds w (index_of q t r)
+array_used : (ds : List Declaration) (w : List ℕ) (p q : Pos) (t : ExpressionTree 1) (r : Pos) → array_fault ds w p ≡ None → IsUsed ds w (index_of q t r)
 array_used ds w p q t r e = by (find_array ds w) refl
   where
     by : (a : Option (ℕ × ℕ)) → find_array ds w ≡ a → IsUsed ds w (index_of q t r)
@@ -51,50 +50,22 @@ module _ (sc : Scope) where
 
   -- nothing came before, and the names are right
   mutual
-    named_atom : (a : Atom) (u : Option ParseFault) → note_atom sc a u ≡ None → (u ≡ None) × AtomNamed sc.declarations a
-    named_atom (number_atom n p) u e = (e, tt)
-    named_atom (name_atom w p i) u e =
+    named_expression : {n : ℕ} (t : ExpressionTree n) (u : Option ParseFault) → note_expression sc t u ≡ None
+        → (u ≡ None) × ExpressionNamed sc.declarations t
+    named_expression (number_of k p) u e = (e, tt)
+    named_expression (name_of w p i) u e =
         let x = named_index i (kept u (use_fault sc w p i)) e in
         let k = kept_split u (use_fault sc w p i) x.0 in
         (k.0, (used w p i k.1, x.1))
-    named_atom (paren_atom p t q) u e = named_whole t u e
+    named_expression (parens_of p t q) u e = named_expression t u e
+    named_expression (binary_of o h l p t) u e =
+        let y = named_expression t (note_expression sc l u) e in
+        let x = named_expression l u y.0 in
+        (x.0, (x.1, y.1))
 
     named_index : (i : Index) (u : Option ParseFault) → note_index sc i u ≡ None → (u ≡ None) × IndexNamed sc.declarations i
     named_index no_index u e = (e, tt)
-    named_index (index_of p t q) u e = named_whole t u e
-
-    named_term : (t : Term) (u : Option ParseFault) → note_term sc t u ≡ None → (u ≡ None) × TermNamed sc.declarations t
-    named_term (term_of a fs) u e =
-        let y = named_factors fs (note_atom sc a u) e in
-        let x = named_atom a u y.0 in
-        (x.0, (x.1, y.1))
-
-    named_factors : (fs : Factors) (u : Option ParseFault) → note_factors sc fs u ≡ None → (u ≡ None) × FactorsNamed sc.declarations fs
-    named_factors no_factor u e = (e, tt)
-    named_factors (and_factor o p a fs) u e =
-        let y = named_factors fs (note_atom sc a u) e in
-        let x = named_atom a u y.0 in
-        (x.0, (x.1, y.1))
-
-    named_sum : (t : Sum) (u : Option ParseFault) → note_sum sc t u ≡ None → (u ≡ None) × SumNamed sc.declarations t
-    named_sum (sum_of t ts) u e =
-        let y = named_addends ts (note_term sc t u) e in
-        let x = named_term t u y.0 in
-        (x.0, (x.1, y.1))
-
-    named_addends : (ts : Addends) (u : Option ParseFault) → note_addends sc ts u ≡ None → (u ≡ None) × AddendsNamed sc.declarations ts
-    named_addends no_addend u e = (e, tt)
-    named_addends (and_addend o p t ts) u e =
-        let y = named_addends ts (note_term sc t u) e in
-        let x = named_term t u y.0 in
-        (x.0, (x.1, y.1))
-
-    named_whole : (t : Whole) (u : Option ParseFault) → note_whole sc t u ≡ None → (u ≡ None) × WholeNamed sc.declarations t
-    named_whole (plain s) u e = named_sum s u e
-    named_whole (compared s o p t) u e =
-        let y = named_sum t (note_sum sc s u) e in
-        let x = named_sum s u y.0 in
-        (x.0, (x.1, y.1))
+    named_index (index_of p t q) u e = named_expression t u e
 
   named_second : (l : AndName) (u : Option ParseFault) → note_and_name sc.labels l u ≡ None → (u ≡ None) × SecondNamed sc.labels l
   named_second no_name u e = (e, tt)
@@ -113,31 +84,31 @@ module _ (sc : Scope) where
     named_command : (c : CommandTree) (u : Option ParseFault) → note_command sc c u ≡ None → (u ≡ None) × CommandNamed sc c
     named_command (skip_of p m) u e = named_marks m u e
     named_command (assign_of w p i q t m) u e =
-        let y = named_marks m (note_whole sc t (note_index sc i (kept u (use_fault sc w p i)))) e in
-        let x = named_whole t (note_index sc i (kept u (use_fault sc w p i))) y.0 in
+        let y = named_marks m (note_expression sc t (note_index sc i (kept u (use_fault sc w p i)))) e in
+        let x = named_expression t (note_index sc i (kept u (use_fault sc w p i))) y.0 in
         let j = named_index i (kept u (use_fault sc w p i)) x.0 in
         let k = kept_split u (use_fault sc w p i) j.0 in
         (k.0, (used w p i k.1, j.1, x.1, y.1))
     named_command (sleep_of p t m) u e =
-        let y = named_marks m (note_whole sc t u) e in
-        let x = named_whole t u y.0 in
+        let y = named_marks m (note_expression sc t u) e in
+        let x = named_expression t u y.0 in
         (x.0, (x.1, y.1))
     named_command (if_of p t m q b o) u e =
-        let v = named_else o (note_block sc b (note_marks sc.labels m (note_whole sc t u))) e in
-        let z = named_block b (note_marks sc.labels m (note_whole sc t u)) v.0 in
-        let y = named_marks m (note_whole sc t u) z.0 in
-        let x = named_whole t u y.0 in
+        let v = named_else o (note_block sc b (note_marks sc.labels m (note_expression sc t u))) e in
+        let z = named_block b (note_marks sc.labels m (note_expression sc t u)) v.0 in
+        let y = named_marks m (note_expression sc t u) z.0 in
+        let x = named_expression t u y.0 in
         (x.0, (x.1, y.1, z.1, v.1))
     named_command (while_of p t m q b) u e =
-        let z = named_block b (note_marks sc.labels m (note_whole sc t u)) e in
-        let y = named_marks m (note_whole sc t u) z.0 in
-        let x = named_whole t u y.0 in
+        let z = named_block b (note_marks sc.labels m (note_expression sc t u)) e in
+        let y = named_marks m (note_expression sc t u) z.0 in
+        let x = named_expression t u y.0 in
         (x.0, (x.1, y.1, z.1))
     named_command (mitigate_of p q t l r m b) u e =
-        let z = named_block b (note_marks sc.labels m (note_and_name sc.labels l (note_whole sc t u))) e in
-        let y = named_marks m (note_and_name sc.labels l (note_whole sc t u)) z.0 in
-        let v = named_second l (note_whole sc t u) y.0 in
-        let x = named_whole t u v.0 in
+        let z = named_block b (note_marks sc.labels m (note_and_name sc.labels l (note_expression sc t u))) e in
+        let y = named_marks m (note_and_name sc.labels l (note_expression sc t u)) z.0 in
+        let v = named_second l (note_expression sc t u) y.0 in
+        let x = named_expression t u v.0 in
         (x.0, (x.1, v.1, y.1, z.1))
 
     named_block : (b : Block) (u : Option ParseFault) → note_block sc b u ≡ None → (u ≡ None) × BlockNamed sc b
@@ -162,32 +133,15 @@ module _ (sc : Scope) where
 
   -- where the names are right none is found
   mutual
-    calm_atom : (a : Atom) → AtomNamed sc.declarations a → note_atom sc a None ≡ None
-    calm_atom (number_atom n p) h = refl
-    calm_atom (name_atom w p i) h = ap (note_index sc i) (use_calm w p i h.0) ∙ calm_index i h.1
-    calm_atom (paren_atom p t q) h = calm_whole t h
+    calm_expression : {n : ℕ} (t : ExpressionTree n) → ExpressionNamed sc.declarations t → note_expression sc t None ≡ None
+    calm_expression (number_of k p) h = refl
+    calm_expression (name_of w p i) h = ap (note_index sc i) (use_calm w p i h.0) ∙ calm_index i h.1
+    calm_expression (parens_of p t q) h = calm_expression t h
+    calm_expression (binary_of o g l p t) h = ap (note_expression sc t) (calm_expression l h.0) ∙ calm_expression t h.1
 
     calm_index : (i : Index) → IndexNamed sc.declarations i → note_index sc i None ≡ None
     calm_index no_index h = refl
-    calm_index (index_of p t q) h = calm_whole t h
-
-    calm_term : (t : Term) → TermNamed sc.declarations t → note_term sc t None ≡ None
-    calm_term (term_of a fs) h = ap (note_factors sc fs) (calm_atom a h.0) ∙ calm_factors fs h.1
-
-    calm_factors : (fs : Factors) → FactorsNamed sc.declarations fs → note_factors sc fs None ≡ None
-    calm_factors no_factor h = refl
-    calm_factors (and_factor o p a fs) h = ap (note_factors sc fs) (calm_atom a h.0) ∙ calm_factors fs h.1
-
-    calm_sum : (t : Sum) → SumNamed sc.declarations t → note_sum sc t None ≡ None
-    calm_sum (sum_of t ts) h = ap (note_addends sc ts) (calm_term t h.0) ∙ calm_addends ts h.1
-
-    calm_addends : (ts : Addends) → AddendsNamed sc.declarations ts → note_addends sc ts None ≡ None
-    calm_addends no_addend h = refl
-    calm_addends (and_addend o p t ts) h = ap (note_addends sc ts) (calm_term t h.0) ∙ calm_addends ts h.1
-
-    calm_whole : (t : Whole) → WholeNamed sc.declarations t → note_whole sc t None ≡ None
-    calm_whole (plain s) h = calm_sum s h
-    calm_whole (compared s o p t) h = ap (note_sum sc t) (calm_sum s h.0) ∙ calm_sum t h.1
+    calm_index (index_of p t q) h = calm_expression t h
 
   calm_second : (l : AndName) → SecondNamed sc.labels l → note_and_name sc.labels l None ≡ None
   calm_second no_name h = refl
@@ -201,17 +155,17 @@ module _ (sc : Scope) where
     calm_command : (c : CommandTree) → CommandNamed sc c → note_command sc c None ≡ None
     calm_command (skip_of p m) h = calm_marks m h
     calm_command (assign_of w p i q t m) h =
-        ap (λ z. note_marks sc.labels m (note_whole sc t (note_index sc i z))) (use_calm w p i h.0)
-        ∙ ap (λ z. note_marks sc.labels m (note_whole sc t z)) (calm_index i h.1)
-        ∙ ap (note_marks sc.labels m) (calm_whole t h.2) ∙ calm_marks m h.3
-    calm_command (sleep_of p t m) h = ap (note_marks sc.labels m) (calm_whole t h.0) ∙ calm_marks m h.1
+        ap (λ z. note_marks sc.labels m (note_expression sc t (note_index sc i z))) (use_calm w p i h.0)
+        ∙ ap (λ z. note_marks sc.labels m (note_expression sc t z)) (calm_index i h.1)
+        ∙ ap (note_marks sc.labels m) (calm_expression t h.2) ∙ calm_marks m h.3
+    calm_command (sleep_of p t m) h = ap (note_marks sc.labels m) (calm_expression t h.0) ∙ calm_marks m h.1
     calm_command (if_of p t m q b o) h =
-        ap (λ z. note_else sc o (note_block sc b (note_marks sc.labels m z))) (calm_whole t h.0)
+        ap (λ z. note_else sc o (note_block sc b (note_marks sc.labels m z))) (calm_expression t h.0)
         ∙ ap (λ z. note_else sc o (note_block sc b z)) (calm_marks m h.1) ∙ ap (note_else sc o) (calm_block b h.2) ∙ calm_else o h.3
     calm_command (while_of p t m q b) h =
-        ap (λ z. note_block sc b (note_marks sc.labels m z)) (calm_whole t h.0) ∙ ap (note_block sc b) (calm_marks m h.1) ∙ calm_block b h.2
+        ap (λ z. note_block sc b (note_marks sc.labels m z)) (calm_expression t h.0) ∙ ap (note_block sc b) (calm_marks m h.1) ∙ calm_block b h.2
     calm_command (mitigate_of p q t l r m b) h =
-        ap (λ z. note_block sc b (note_marks sc.labels m (note_and_name sc.labels l z))) (calm_whole t h.0)
+        ap (λ z. note_block sc b (note_marks sc.labels m (note_and_name sc.labels l z))) (calm_expression t h.0)
         ∙ ap (λ z. note_block sc b (note_marks sc.labels m z)) (calm_second l h.1)
         ∙ ap (note_block sc b) (calm_marks m h.2) ∙ calm_block b h.3
 

@@ -7,16 +7,15 @@ use Rattle.mit_parser.specs.declared.fault.ParseFault.{ParseFault}
 use Rattle.mit_parser.specs.declared.fault.ParseFault.TheVariants.{Unexpected, TooDeep, TooMany, Unknown, Twice, Lattice, Memory, Size, Misuse}
 use Rattle.mit_parser.specs.Words.{Told}
 use Rattle.mit_parser.specs.Scope.{Scope, kept, find_label, label_fault}
-use Rattle.mit_parser.specs.Tree.{Atom, Index, Term, Factors, Sum, Addends, Whole, number_atom, name_atom, paren_atom, no_index, index_of, term_of, no_factor}
-use Rattle.mit_parser.specs.Tree.{and_factor, sum_of, no_addend, and_addend, plain, compared, AndName, no_name, and_name, Marks, no_marks, marks_of}
-use Rattle.mit_parser.specs.Tree.{CommandTree, skip_of, assign_of, sleep_of, if_of, while_of, mitigate_of, Block, block_of, ElsePart, no_else, else_of}
-use Rattle.mit_parser.specs.Tree.{Commands, commands_of, More, no_more, and_more, MoreNames, no_more_names, and_more_names, PairTree, pair_of, MorePairs}
-use Rattle.mit_parser.specs.Tree.{no_more_pairs, and_pair, Ordering, no_ordering, ordering_of, Header, no_header, header_of, declaration_of, Declarations}
-use Rattle.mit_parser.specs.Tree.{no_declarations, and_declaration}
-use Rattle.mit_parser.specs.Faults.{use_fault, note_atom, note_index, note_term, note_factors, note_sum, note_addends, note_whole, note_and_name, note_marks}
-use Rattle.mit_parser.specs.Faults.{note_command, note_block, note_else, note_commands, note_more, Labelled, labelled, add_label, add_labels, note_pair}
-use Rattle.mit_parser.specs.Faults.{note_more_pairs, note_ordering, header_fault, IsLatticeFault, is_bad_size, length_fault, written_label_fault, twice_fault}
-use Rattle.mit_parser.specs.Faults.{declaration_fault, Declared, declaring, added, declare, declare_all, many_fault}
+use Rattle.mit_parser.specs.Tree.{Index, no_index, index_of, ExpressionTree, number_of, name_of, parens_of, binary_of, AndName, no_name, and_name, Marks}
+use Rattle.mit_parser.specs.Tree.{no_marks, marks_of, CommandTree, skip_of, assign_of, sleep_of, if_of, while_of, mitigate_of, Block, block_of, ElsePart}
+use Rattle.mit_parser.specs.Tree.{no_else, else_of, Commands, commands_of, More, no_more, and_more, MoreNames, no_more_names, and_more_names, PairTree}
+use Rattle.mit_parser.specs.Tree.{pair_of, MorePairs, no_more_pairs, and_pair, Ordering, no_ordering, ordering_of, Header, no_header, header_of}
+use Rattle.mit_parser.specs.Tree.{declaration_of, Declarations, no_declarations, and_declaration}
+use Rattle.mit_parser.specs.Faults.{use_fault, note_index, note_expression, note_and_name, note_marks, note_command, note_block, note_else, note_commands}
+use Rattle.mit_parser.specs.Faults.{note_more, Labelled, labelled, add_label, add_labels, note_pair, note_more_pairs, note_ordering, header_fault}
+use Rattle.mit_parser.specs.Faults.{IsLatticeFault, is_bad_size, length_fault, written_label_fault, twice_fault, declaration_fault, Declared, declaring}
+use Rattle.mit_parser.specs.Faults.{added, declare, declare_all, many_fault}
 use Rattle.mit_parser.specs.Spells.{IsMisnamed, Refuses}
 
 abbrev pub IsOfNames : Option ParseFault → Type 0
@@ -64,32 +63,15 @@ module _ (sc : Scope) where
   used w p (index_of q e r) = unknown_or (is_some (find_array sc.declarations w)) (is_some (find_scalar sc.declarations w)) p
 
   mutual
-    of_atom : (a : Atom) (u : Option ParseFault) → IsOfNames u → IsOfNames (note_atom sc a u)
-    of_atom (number_atom n p) u h = h
-    of_atom (name_atom w p i) u h = of_index i (kept u (use_fault sc w p i)) (kept_of u (use_fault sc w p i) h (used w p i))
-    of_atom (paren_atom p e q) u h = of_whole e u h
+    of_expression : {n : ℕ} (t : ExpressionTree n) (u : Option ParseFault) → IsOfNames u → IsOfNames (note_expression sc t u)
+    of_expression (number_of k p) u h = h
+    of_expression (name_of w p i) u h = of_index i (kept u (use_fault sc w p i)) (kept_of u (use_fault sc w p i) h (used w p i))
+    of_expression (parens_of p e q) u h = of_expression e u h
+    of_expression (binary_of o g l p t) u h = of_expression t (note_expression sc l u) (of_expression l u h)
 
     of_index : (i : Index) (u : Option ParseFault) → IsOfNames u → IsOfNames (note_index sc i u)
     of_index no_index u h = h
-    of_index (index_of p e q) u h = of_whole e u h
-
-    of_term : (t : Term) (u : Option ParseFault) → IsOfNames u → IsOfNames (note_term sc t u)
-    of_term (term_of a fs) u h = of_factors fs (note_atom sc a u) (of_atom a u h)
-
-    of_factors : (t : Factors) (u : Option ParseFault) → IsOfNames u → IsOfNames (note_factors sc t u)
-    of_factors no_factor u h = h
-    of_factors (and_factor o p a fs) u h = of_factors fs (note_atom sc a u) (of_atom a u h)
-
-    of_sum : (t : Sum) (u : Option ParseFault) → IsOfNames u → IsOfNames (note_sum sc t u)
-    of_sum (sum_of t ts) u h = of_addends ts (note_term sc t u) (of_term t u h)
-
-    of_addends : (t : Addends) (u : Option ParseFault) → IsOfNames u → IsOfNames (note_addends sc t u)
-    of_addends no_addend u h = h
-    of_addends (and_addend o p t ts) u h = of_addends ts (note_term sc t u) (of_term t u h)
-
-    of_whole : (t : Whole) (u : Option ParseFault) → IsOfNames u → IsOfNames (note_whole sc t u)
-    of_whole (plain s) u h = of_sum s u h
-    of_whole (compared s o p t) u h = of_sum t (note_sum sc s u) (of_sum s u h)
+    of_index (index_of p e q) u h = of_expression e u h
 
   of_second : (l : AndName) (u : Option ParseFault) → IsOfNames u → IsOfNames (note_and_name sc.labels l u)
   of_second no_name u h = h
@@ -104,16 +86,17 @@ module _ (sc : Scope) where
     of_command : (c : CommandTree) (u : Option ParseFault) → IsOfNames u → IsOfNames (note_command sc c u)
     of_command (skip_of p m) u h = of_marks m u h
     of_command (assign_of w p i q e m) u h =
-        of_marks m (note_whole sc e (note_index sc i (kept u (use_fault sc w p i)))) (of_whole e (note_index sc i (kept u (use_fault sc w p i)))
+        of_marks m (note_expression sc e (note_index sc i (kept u (use_fault sc w p i)))) (of_expression e (note_index sc i (kept u (use_fault sc w p i)))
         (of_index i (kept u (use_fault sc w p i)) (kept_of u (use_fault sc w p i) h (used w p i))))
-    of_command (sleep_of p e m) u h = of_marks m (note_whole sc e u) (of_whole e u h)
+    of_command (sleep_of p e m) u h = of_marks m (note_expression sc e u) (of_expression e u h)
     of_command (if_of p e m q b o) u h =
-        of_else o (note_block sc b (note_marks sc.labels m (note_whole sc e u)))
-        (of_block b (note_marks sc.labels m (note_whole sc e u)) (of_marks m (note_whole sc e u) (of_whole e u h)))
-    of_command (while_of p e m q b) u h = of_block b (note_marks sc.labels m (note_whole sc e u)) (of_marks m (note_whole sc e u) (of_whole e u h))
+        of_else o (note_block sc b (note_marks sc.labels m (note_expression sc e u)))
+        (of_block b (note_marks sc.labels m (note_expression sc e u)) (of_marks m (note_expression sc e u) (of_expression e u h)))
+    of_command (while_of p e m q b) u h =
+        of_block b (note_marks sc.labels m (note_expression sc e u)) (of_marks m (note_expression sc e u) (of_expression e u h))
     of_command (mitigate_of p q e l r m b) u h =
-        of_block b (note_marks sc.labels m (note_and_name sc.labels l (note_whole sc e u)))
-        (of_marks m (note_and_name sc.labels l (note_whole sc e u)) (of_second l (note_whole sc e u) (of_whole e u h)))
+        of_block b (note_marks sc.labels m (note_and_name sc.labels l (note_expression sc e u)))
+        (of_marks m (note_and_name sc.labels l (note_expression sc e u)) (of_second l (note_expression sc e u) (of_expression e u h)))
 
     of_block : (b : Block) (u : Option ParseFault) → IsOfNames u → IsOfNames (note_block sc b u)
     of_block (block_of p c q) u h = of_commands c u h
@@ -131,30 +114,12 @@ module _ (sc : Scope) where
 
   -- a fault that came before is kept
   module _ (f : ParseFault) where
-    mutual
-      keep_atom : (a : Atom) → note_atom sc a (Some f) ≡ Some f
-      keep_atom (number_atom n p) = refl
-      keep_atom (name_atom w p no_index) = refl
-      keep_atom (name_atom w p (index_of q e r)) = keep_whole e
-      keep_atom (paren_atom p e q) = keep_whole e
-
-      keep_term : (t : Term) → note_term sc t (Some f) ≡ Some f
-      keep_term (term_of a fs) = ap (note_factors sc fs) (keep_atom a) ∙ keep_factors fs
-
-      keep_factors : (t : Factors) → note_factors sc t (Some f) ≡ Some f
-      keep_factors no_factor = refl
-      keep_factors (and_factor o p a fs) = ap (note_factors sc fs) (keep_atom a) ∙ keep_factors fs
-
-      keep_sum : (t : Sum) → note_sum sc t (Some f) ≡ Some f
-      keep_sum (sum_of t ts) = ap (note_addends sc ts) (keep_term t) ∙ keep_addends ts
-
-      keep_addends : (t : Addends) → note_addends sc t (Some f) ≡ Some f
-      keep_addends no_addend = refl
-      keep_addends (and_addend o p t ts) = ap (note_addends sc ts) (keep_term t) ∙ keep_addends ts
-
-      keep_whole : (t : Whole) → note_whole sc t (Some f) ≡ Some f
-      keep_whole (plain s) = keep_sum s
-      keep_whole (compared s o p t) = ap (note_sum sc t) (keep_sum s) ∙ keep_sum t
+    keep_expression : {n : ℕ} (t : ExpressionTree n) → note_expression sc t (Some f) ≡ Some f
+    keep_expression (number_of k p) = refl
+    keep_expression (name_of w p no_index) = refl
+    keep_expression (name_of w p (index_of q e r)) = keep_expression e
+    keep_expression (parens_of p e q) = keep_expression e
+    keep_expression (binary_of o h l p t) = ap (note_expression sc t) (keep_expression l) ∙ keep_expression t
 
     keep_second : (l : AndName) → note_and_name sc.labels l (Some f) ≡ Some f
     keep_second no_name = refl
@@ -167,17 +132,17 @@ module _ (sc : Scope) where
     mutual
       keep_command : (c : CommandTree) → note_command sc c (Some f) ≡ Some f
       keep_command (skip_of p m) = keep_marks m
-      keep_command (assign_of w p no_index q e m) = ap (note_marks sc.labels m) (keep_whole e) ∙ keep_marks m
+      keep_command (assign_of w p no_index q e m) = ap (note_marks sc.labels m) (keep_expression e) ∙ keep_marks m
       keep_command (assign_of w p (index_of a i b) q e m) =
-          ap (λ z. note_marks sc.labels m (note_whole sc e z)) (keep_whole i) ∙ ap (note_marks sc.labels m) (keep_whole e) ∙ keep_marks m
-      keep_command (sleep_of p e m) = ap (note_marks sc.labels m) (keep_whole e) ∙ keep_marks m
+          ap (λ z. note_marks sc.labels m (note_expression sc e z)) (keep_expression i) ∙ ap (note_marks sc.labels m) (keep_expression e) ∙ keep_marks m
+      keep_command (sleep_of p e m) = ap (note_marks sc.labels m) (keep_expression e) ∙ keep_marks m
       keep_command (if_of p e m q b o) =
-          ap (λ z. note_else sc o (note_block sc b (note_marks sc.labels m z))) (keep_whole e) ∙ ap (λ z. note_else sc o (note_block sc b z)) (keep_marks m)
-          ∙ ap (note_else sc o) (keep_block b) ∙ keep_else o
+          ap (λ z. note_else sc o (note_block sc b (note_marks sc.labels m z))) (keep_expression e)
+          ∙ ap (λ z. note_else sc o (note_block sc b z)) (keep_marks m) ∙ ap (note_else sc o) (keep_block b) ∙ keep_else o
       keep_command (while_of p e m q b) =
-          ap (λ z. note_block sc b (note_marks sc.labels m z)) (keep_whole e) ∙ ap (note_block sc b) (keep_marks m) ∙ keep_block b
+          ap (λ z. note_block sc b (note_marks sc.labels m z)) (keep_expression e) ∙ ap (note_block sc b) (keep_marks m) ∙ keep_block b
       keep_command (mitigate_of p q e l r m b) =
-          ap (λ z. note_block sc b (note_marks sc.labels m (note_and_name sc.labels l z))) (keep_whole e)
+          ap (λ z. note_block sc b (note_marks sc.labels m (note_and_name sc.labels l z))) (keep_expression e)
           ∙ ap (λ z. note_block sc b (note_marks sc.labels m z)) (keep_second l)
           ∙ ap (note_block sc b) (keep_marks m) ∙ keep_block b
 

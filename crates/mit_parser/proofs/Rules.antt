@@ -21,7 +21,7 @@ use Rattle.mit_parser.specs.Words.{Symbol, word, the_end, Told, told, symbol_of,
 use Rattle.mit_parser.specs.Words.{IsEnded}
 use Rattle.mit_parser.specs.Counting.{count, is_over}
 use Rattle.mit_parser.specs.State.{State}
-use Rattle.mit_parser.specs.Machine.{Part, want, an_atom, a_term, factors, a_sum, addends, an_expr, comparison, a_command, commands, more, step, verdict, Bad}
+use Rattle.mit_parser.specs.Machine.{Part, want, a_command, commands, more, step, verdict, Bad}
 use Rattle.mit_parser.specs.Machine.{Deep, choice}
 use Rattle.mit_parser.specs.Reads.{Refused, Passed, Over, Found, Took, OnlyEnd}
 
@@ -120,18 +120,6 @@ pub at_end : (l : List Told) → IsEnded l → End ≡ kind_of (head_symbol l) �
 at_end l h e = only_end l h (ap (is the_end) (shows_end (head_symbol l) e))
 
 -- a part that is made of parts
-pub rule_term : (s : List Part) (c : Counts) (i : List Told) → verdict (a_term ∷ s) c i ≡ verdict (an_atom ∷ factors ∷ s) c i
-rule_term s c [] = refl
-rule_term s c (b ∷ r) = refl
-
-pub rule_sum : (s : List Part) (c : Counts) (i : List Told) → verdict (a_sum ∷ s) c i ≡ verdict (a_term ∷ addends ∷ s) c i
-rule_sum s c [] = refl
-rule_sum s c (b ∷ r) = refl
-
-pub rule_expr : (s : List Part) (c : Counts) (i : List Told) → verdict (an_expr ∷ s) c i ≡ verdict (a_sum ∷ comparison ∷ s) c i
-rule_expr s c [] = refl
-rule_expr s c (b ∷ r) = refl
-
 pub rule_commands : (s : List Part) (c : Counts) (i : List Told) → verdict (commands ∷ s) c i ≡ verdict (a_command ∷ more ∷ s) c i
 rule_commands s c [] = refl
 rule_commands s c (b ∷ r) = refl
@@ -236,27 +224,7 @@ signs = Assign ∷ Colon ∷ Semicolon ∷ Comma ∷ LeftRound ∷ RightRound �
 sign_again : (s : Sign) → get_or signs (sign_code s) At ≡ s
 unfolding signs
 sign_again Assign = refl
-sign_again Colon = refl
-sign_again Semicolon = refl
-sign_again Comma = refl
-sign_again LeftRound = refl
-sign_again RightRound = refl
-sign_again LeftBrace = refl
-sign_again RightBrace = refl
-sign_again LeftSquare = refl
-sign_again RightSquare = refl
-sign_again At = refl
-sign_again Plus = refl
-sign_again Minus = refl
-sign_again Star = refl
-sign_again Slash = refl
-sign_again Percent = refl
-sign_again Equal = refl
-sign_again NotEqual = refl
-sign_again LessEqual = refl
-sign_again Less = refl
-sign_again GreaterEqual = refl
-sign_again Greater = refl
+sign_again s = refl
 
 keys : List Keyword
 keys = Labels ∷ Order ∷ Var ∷ Skip ∷ If ∷ Then ∷ Else ∷ While ∷ Do ∷ Mitigate ∷ Sleep ∷ []
@@ -264,16 +232,7 @@ keys = Labels ∷ Order ∷ Var ∷ Skip ∷ If ∷ Then ∷ Else ∷ While ∷ 
 key_again : (k : Keyword) → get_or keys (key_code k) Labels ≡ k
 unfolding keys
 key_again Labels = refl
-key_again Order = refl
-key_again Var = refl
-key_again Skip = refl
-key_again If = refl
-key_again Then = refl
-key_again Else = refl
-key_again While = refl
-key_again Do = refl
-key_again Mitigate = refl
-key_again Sleep = refl
+key_again k = refl
 
 pub sign_is : (g : Sign) (s : Symbol) → is_sign g s ≡ true → s ≡ word (sign g)
 sign_is g (word (sign t)) e = ap (λ x. word (sign x)) (sym (sign_again t) ∙ ap (λ n. get_or signs n At) (eqb-true (sign_code t) (sign_code g) e) ∙ sign_again g)

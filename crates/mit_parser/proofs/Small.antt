@@ -1,48 +1,25 @@
 -- What a tree within the limits means is within the limits of programs, and its mitigates are numbered in order.
 use Rattle.std.proofs.Common.{◌≡◌, ◌≤◌, ◌<◌, ◌+◌, refl, ap, ◌∙◌, sym, subst, ℕ, List, ◌∷◌, length, Bool, true, false, cond, max, arith}
 use Rattle.std.specs.Prelude.{ltb}
-use Rattle.std.proofs.lemmas.Bool.{ltb-true, lt-ltb}
+use Rattle.std.proofs.lemmas.Bool.{le-ltb}
 use Rattle.text_base.specs.declared.pos.Pos.{Pos}
 use Rattle.mit_syntax.specs.Expression.{Expression, Number, Variable, Binary, Element}
-use Rattle.mit_syntax.specs.Ranks.{rank}
+use Rattle.mit_syntax.specs.Operators.{rank, left_need, right_need, op_sign}
 use Rattle.mit_syntax.specs.Limits.{depth, operators, IsSmall, AreSmall}
 use Rattle.mit_syntax.specs.Plan.{Plan, count, mitigates}
 use Rattle.mit_syntax.specs.Valid.{AreNumbered}
-use Rattle.mit_parser.specs.Words.{Told, sign_at, key_at}
 use Rattle.mit_syntax.specs.declared.token.Keyword.TheVariants.{Then, Do}
 use Rattle.mit_syntax.specs.declared.token.Sign.TheVariants.{Assign, RightRound, RightBrace, RightSquare}
-use Rattle.mit_parser.specs.Operators.{Factor, Addend, Comparison, times, over, modulo, plus, minus, equal, not_equal, less, less_equal, greater}
-use Rattle.mit_parser.specs.Operators.{greater_equal, factor_op, addend_op, comparison_op, comparison_sign}
+use Rattle.mit_syntax.specs.declared.ast.Op.{Op}
+use Rattle.mit_parser.specs.Words.{Told, sign_at, key_at}
 use Rattle.mit_parser.specs.Scope.{Scope}
-use Rattle.mit_parser.specs.Tree.{Atom, Term, Factors, Sum, Addends, Whole, number_atom, name_atom, paren_atom, no_index, index_of, term_of, no_factor}
-use Rattle.mit_parser.specs.Tree.{and_factor, sum_of, no_addend, and_addend, plain, compared, front_atom, front_term, front_factors, front_sum, front_addends}
-use Rattle.mit_parser.specs.Tree.{front_whole, AndName, no_name, and_name, Marks, no_marks, marks_of, CommandTree, skip_of, assign_of, sleep_of, if_of}
-use Rattle.mit_parser.specs.Tree.{while_of, mitigate_of, Block, block_of, ElsePart, no_else, else_of, Commands, commands_of, More, no_more, and_more}
-use Rattle.mit_parser.specs.Tree.{front_and_name, front_marks, front_command, front_block, front_else, front_commands, front_more}
-use Rattle.mit_parser.specs.Limits.{atom_depth, term_depth, factors_depth, sum_depth, addends_depth, whole_depth, atom_size, term_size, factors_size}
-use Rattle.mit_parser.specs.Limits.{sum_size, addends_size, whole_size, IsWithin, CommandWithin, BlockWithin, ElseWithin, CommandsWithin, MoreWithin}
-use Rattle.mit_parser.specs.Meaning.{atom_value, term_value, factors_value, sum_value, addends_value, whole_value, next_command, next_block, next_else}
-use Rattle.mit_parser.specs.Meaning.{next_more, plan_command, plan_block, plan_else, plan_commands, plan_more}
-
--- a place that needs more has no fewer brackets
-test_up : (a n m : ℕ) → n ≤ m → cond {A = ℕ} (ltb a n) 1 0 ≤ cond {A = ℕ} (ltb a m) 1 0
-test_up a n m h = by (ltb a n) refl
-  where
-    by : (b : Bool) → ltb a n ≡ b → cond {A = ℕ} (ltb a n) 1 0 ≤ cond {A = ℕ} (ltb a m) 1 0
-    by false e =
-        let z : ◌≡◌ {A = ℕ} (cond {A = ℕ} (ltb a n) 1 0) 0 = ap (λ b. cond {A = ℕ} b 1 0) e in
-        omega (arith, z)
-    by true e =
-        let l = ltb-true a n e in
-        let z : ◌≡◌ {A = ℕ} (cond {A = ℕ} (ltb a n) 1 0) 1 = ap (λ b. cond {A = ℕ} b 1 0) e in
-        let k : ◌≡◌ {A = ℕ} (cond {A = ℕ} (ltb a m) 1 0) 1 = ap (λ b. cond {A = ℕ} b 1 0) (lt-ltb a m (omega (arith, l, h))) in
-        omega (arith, z, k)
-
-depth_up : (e : Expression) (n m : ℕ) → n ≤ m → depth n e ≤ depth m e
-depth_up (Number x) n m h = omega arith
-depth_up (Variable x) n m h = omega arith
-depth_up (Binary o l r) n m h = let t = test_up (rank o) n m h in omega (arith, t)
-depth_up (Element f k i) n m h = omega arith
+use Rattle.mit_parser.specs.Tree.{no_index, index_of, ExpressionTree, number_of, name_of, parens_of, binary_of, front_expression, AndName, no_name, and_name}
+use Rattle.mit_parser.specs.Tree.{Marks, no_marks, marks_of, CommandTree, skip_of, assign_of, sleep_of, if_of, while_of, mitigate_of, Block, block_of}
+use Rattle.mit_parser.specs.Tree.{ElsePart, no_else, else_of, Commands, commands_of, More, no_more, and_more, front_and_name, front_marks, front_command}
+use Rattle.mit_parser.specs.Tree.{front_block, front_else, front_commands, front_more}
+use Rattle.mit_parser.specs.Limits.{expression_depth, expression_size, IsWithin, CommandWithin, BlockWithin, ElseWithin, CommandsWithin, MoreWithin}
+use Rattle.mit_parser.specs.Meaning.{expression_value, next_command, next_block, next_else, next_more, plan_command, plan_block, plan_else, plan_commands}
+use Rattle.mit_parser.specs.Meaning.{plan_more}
 
 test_one : (b : Bool) → cond {A = ℕ} b 1 0 ≤ 1
 test_one true = omega arith
@@ -54,90 +31,29 @@ depth_paren (Variable x) n = omega arith
 depth_paren (Binary o l r) n = let t = test_one (ltb (rank o) n) in omega (arith, t)
 depth_paren (Element f k i) n = omega arith
 
-factor_depths : (o : Factor) (l r : Expression) → depth 3 (Binary (factor_op o) l r) ≡ max (depth 3 l) (depth 4 r)
-factor_depths times l r = omega arith
-factor_depths over l r = omega arith
-factor_depths modulo l r = omega arith
-
-addend_depths : (o : Addend) (l r : Expression) → depth 2 (Binary (addend_op o) l r) ≡ max (depth 2 l) (depth 3 r)
-addend_depths plus l r = omega arith
-addend_depths minus l r = omega arith
-
-comparison_depths : (o : Comparison) (l r : Expression) → depth 1 (Binary (comparison_op o) l r) ≡ max (depth 2 l) (depth 2 r)
-comparison_depths equal l r = omega arith
-comparison_depths not_equal l r = omega arith
-comparison_depths less l r = omega arith
-comparison_depths less_equal l r = omega arith
-comparison_depths greater l r = omega arith
-comparison_depths greater_equal l r = omega arith
+-- an operator of the needed rank has no brackets of its own
+depth_binary : (n : ℕ) (o : Op) (l r : Expression) → n ≤ rank o → depth n (Binary o l r) ≡ max (depth (left_need o) l) (depth (right_need o) r)
+depth_binary n o l r h =
+    ap (λ b. cond {A = ℕ} b 1 0 + max (depth (left_need o) l) (depth (right_need o) r)) (le-ltb (rank o) n h) ∙ omega arith
 
 module _ (sc : Scope) where
-  mutual
-    depth_atom : (a : Atom) → depth 4 (atom_value sc a) ≤ atom_depth a
-    depth_atom (number_atom n p) = omega arith
-    depth_atom (name_atom w p no_index) = omega arith
-    depth_atom (name_atom w p (index_of q x s)) = omega (arith, depth_whole x)
-    depth_atom (paren_atom p x q) = omega (arith, depth_paren (whole_value sc x) 4, depth_whole x)
+  depth_expression : {n : ℕ} (t : ExpressionTree n) → depth n (expression_value sc t) ≤ expression_depth t
+  depth_expression (number_of k p) = omega arith
+  depth_expression (name_of w p no_index) = omega arith
+  depth_expression (name_of w p (index_of q e s)) = omega (arith, depth_expression e)
+  depth_expression {n} (parens_of p e q) = omega (arith, depth_paren (expression_value sc e) n, depth_expression e)
+  depth_expression {n} (binary_of o h l p t) =
+      omega (arith, depth_binary n o (expression_value sc l) (expression_value sc t) h, depth_expression l, depth_expression t)
 
-    depth_term : (t : Term) → depth 3 (term_value sc t) ≤ term_depth t
-    depth_term (term_of a fs) =
-        let u = depth_up (atom_value sc a) 3 4 (omega arith) in
-        let h : depth 3 (atom_value sc a) ≤ atom_depth a = omega (arith, u, depth_atom a) in
-        depth_factors fs (atom_value sc a) (atom_depth a) h
+  size_expression : {n : ℕ} (t : ExpressionTree n) → operators (expression_value sc t) ≤ expression_size t
+  size_expression (number_of k p) = omega arith
+  size_expression (name_of w p no_index) = omega arith
+  size_expression (name_of w p (index_of q e s)) = size_expression e
+  size_expression (parens_of p e q) = size_expression e
+  size_expression (binary_of o h l p t) = omega (arith, size_expression l, size_expression t)
 
-    depth_factors : (fs : Factors) (l : Expression) (n : ℕ) → depth 3 l ≤ n → depth 3 (factors_value sc fs l) ≤ max n (factors_depth fs)
-    depth_factors no_factor l n h = omega (arith, h)
-    depth_factors (and_factor o p a fs) l n h =
-        let one : depth 3 (Binary (factor_op o) l (atom_value sc a)) ≤ max n (atom_depth a) =
-        omega (arith, factor_depths o l (atom_value sc a), h, depth_atom a) in
-        let k = depth_factors fs (Binary (factor_op o) l (atom_value sc a)) (max n (atom_depth a)) one in
-        omega (arith, k)
-
-    depth_sum : (t : Sum) → depth 2 (sum_value sc t) ≤ sum_depth t
-    depth_sum (sum_of t ts) =
-        let u = depth_up (term_value sc t) 2 3 (omega arith) in
-        let h : depth 2 (term_value sc t) ≤ term_depth t = omega (arith, u, depth_term t) in
-        depth_addends ts (term_value sc t) (term_depth t) h
-
-    depth_addends : (ts : Addends) (l : Expression) (n : ℕ) → depth 2 l ≤ n → depth 2 (addends_value sc ts l) ≤ max n (addends_depth ts)
-    depth_addends no_addend l n h = omega (arith, h)
-    depth_addends (and_addend o p t ts) l n h =
-        let one : depth 2 (Binary (addend_op o) l (term_value sc t)) ≤ max n (term_depth t) =
-        omega (arith, addend_depths o l (term_value sc t), h, depth_term t) in
-        let k = depth_addends ts (Binary (addend_op o) l (term_value sc t)) (max n (term_depth t)) one in
-        omega (arith, k)
-
-    depth_whole : (t : Whole) → depth 1 (whole_value sc t) ≤ whole_depth t
-    depth_whole (plain s) = omega (arith, depth_up (sum_value sc s) 1 2 (omega arith), depth_sum s)
-    depth_whole (compared s o p t) = omega (arith, comparison_depths o (sum_value sc s) (sum_value sc t), depth_sum s, depth_sum t)
-
-  mutual
-    size_atom : (a : Atom) → operators (atom_value sc a) ≤ atom_size a
-    size_atom (number_atom n p) = omega arith
-    size_atom (name_atom w p no_index) = omega arith
-    size_atom (name_atom w p (index_of q x s)) = size_whole x
-    size_atom (paren_atom p x q) = size_whole x
-
-    size_term : (t : Term) → operators (term_value sc t) ≤ term_size t
-    size_term (term_of a fs) = omega (arith, size_factors fs (atom_value sc a), size_atom a)
-
-    size_factors : (fs : Factors) (l : Expression) → operators (factors_value sc fs l) ≤ operators l + factors_size fs
-    size_factors no_factor l = omega arith
-    size_factors (and_factor o p a fs) l = omega (arith, size_factors fs (Binary (factor_op o) l (atom_value sc a)), size_atom a)
-
-    size_sum : (t : Sum) → operators (sum_value sc t) ≤ sum_size t
-    size_sum (sum_of t ts) = omega (arith, size_addends ts (term_value sc t), size_term t)
-
-    size_addends : (ts : Addends) (l : Expression) → operators (addends_value sc ts l) ≤ operators l + addends_size ts
-    size_addends no_addend l = omega arith
-    size_addends (and_addend o p t ts) l = omega (arith, size_addends ts (Binary (addend_op o) l (term_value sc t)), size_term t)
-
-    size_whole : (t : Whole) → operators (whole_value sc t) ≤ whole_size t
-    size_whole (plain s) = size_sum s
-    size_whole (compared s o p t) = omega (arith, size_sum s, size_sum t)
-
-  small : (d : ℕ) (t : Whole) → IsWithin d t → IsSmall d (whole_value sc t)
-  small d t h = record { depth = omega (arith, h.0, depth_whole t); operators = omega (arith, h.1, size_whole t) }
+  small : (d : ℕ) (t : ExpressionTree 1) → IsWithin d t → IsSmall d (expression_value sc t)
+  small d t h = record { depth = omega (arith, h.0, depth_expression t); operators = omega (arith, h.1, size_expression t) }
 
   mutual
     small_command : (c : CommandTree) (d k : ℕ) (rest : Plan) → CommandWithin d c → AreSmall d rest → AreSmall d (plan_command sc k c rest)
@@ -222,30 +138,12 @@ module _ (sc : Scope) where
     numbered_more (and_more p c m) k = numbered_command c k (plan_more sc (next_command c k) m) (numbered_more m (next_command c k))
 
 -- a tree has no fewer words than what it means has commands
-mutual
-  long_atom : (a : Atom) (r : List Told) → length r ≤ length (front_atom a r)
-  long_atom (number_atom n p) r = omega arith
-  long_atom (name_atom w p no_index) r = omega arith
-  long_atom (name_atom w p (index_of q x s)) r = omega (arith, long_whole x (sign_at RightSquare s ∷ r))
-  long_atom (paren_atom p x q) r = omega (arith, long_whole x (sign_at RightRound q ∷ r))
-
-  long_term : (t : Term) (r : List Told) → length r ≤ length (front_term t r)
-  long_term (term_of a fs) r = omega (arith, long_atom a (front_factors fs r), long_factors fs r)
-
-  long_factors : (fs : Factors) (r : List Told) → length r ≤ length (front_factors fs r)
-  long_factors no_factor r = omega arith
-  long_factors (and_factor o p a fs) r = omega (arith, long_atom a (front_factors fs r), long_factors fs r)
-
-  long_sum : (t : Sum) (r : List Told) → length r ≤ length (front_sum t r)
-  long_sum (sum_of t ts) r = omega (arith, long_term t (front_addends ts r), long_addends ts r)
-
-  long_addends : (ts : Addends) (r : List Told) → length r ≤ length (front_addends ts r)
-  long_addends no_addend r = omega arith
-  long_addends (and_addend o p t ts) r = omega (arith, long_term t (front_addends ts r), long_addends ts r)
-
-  long_whole : (t : Whole) (r : List Told) → length r ≤ length (front_whole t r)
-  long_whole (plain s) r = long_sum s r
-  long_whole (compared s o p t) r = omega (arith, long_sum s (sign_at (comparison_sign o) p ∷ front_sum t r), long_sum t r)
+long_expression : {n : ℕ} (t : ExpressionTree n) (r : List Told) → length r ≤ length (front_expression t r)
+long_expression (number_of k p) r = omega arith
+long_expression (name_of w p no_index) r = omega arith
+long_expression (name_of w p (index_of q e s)) r = omega (arith, long_expression e (sign_at RightSquare s ∷ r))
+long_expression (parens_of p e q) r = omega (arith, long_expression e (sign_at RightRound q ∷ r))
+long_expression (binary_of o h l p t) r = omega (arith, long_expression l (sign_at (op_sign o) p ∷ front_expression t r), long_expression t r)
 
 long_second : (l : AndName) (r : List Told) → length r ≤ length (front_and_name l r)
 long_second no_name r = omega arith
@@ -260,24 +158,29 @@ module _ (sc : Scope) where
     count_command : (c : CommandTree) (k : ℕ) (rest : Plan) (r : List Told)
         → count (plan_command sc k c rest) + length r ≤ count rest + length (front_command c r)
     count_command (skip_of p m) k rest r = omega (arith, long_marks m r)
-    count_command (assign_of v p no_index q e m) k rest r = omega (arith, long_marks m r, long_whole e (front_marks m r))
+    count_command (assign_of v p no_index q e m) k rest r = omega (arith, long_marks m r, long_expression e (front_marks m r))
     count_command (assign_of v p (index_of a i b) q e m) k rest r =
-        omega (arith, long_marks m r, long_whole e (front_marks m r), long_whole i (sign_at RightSquare b ∷ sign_at Assign q ∷ front_whole e (front_marks m r)))
-    count_command (sleep_of p e m) k rest r = omega (arith, long_marks m r, long_whole e (front_marks m r))
+        omega (
+          arith,
+          long_marks m r,
+          long_expression e (front_marks m r),
+          long_expression i (sign_at RightSquare b ∷ sign_at Assign q ∷ front_expression e (front_marks m r)),
+        )
+    count_command (sleep_of p e m) k rest r = omega (arith, long_marks m r, long_expression e (front_marks m r))
     count_command (if_of p e m q b o) k rest r =
         omega (
           arith,
-          long_whole e (front_marks m (key_at Then q ∷ front_block b (front_else o r))),
+          long_expression e (front_marks m (key_at Then q ∷ front_block b (front_else o r))),
           long_marks m (key_at Then q ∷ front_block b (front_else o r)),
           count_block b k (front_else o r),
           count_else o p (next_block b k) r,
         )
     count_command (while_of p e m q b) k rest r =
-        omega (arith, long_whole e (front_marks m (key_at Do q ∷ front_block b r)), long_marks m (key_at Do q ∷ front_block b r), count_block b k r)
+        omega (arith, long_expression e (front_marks m (key_at Do q ∷ front_block b r)), long_marks m (key_at Do q ∷ front_block b r), count_block b k r)
     count_command (mitigate_of p q e l u m b) k rest r =
         omega (
           arith,
-          long_whole e (front_and_name l (sign_at RightRound u ∷ front_marks m (front_block b r))),
+          long_expression e (front_and_name l (sign_at RightRound u ∷ front_marks m (front_block b r))),
           long_second l (sign_at RightRound u ∷ front_marks m (front_block b r)),
           long_marks m (front_block b r),
           count_block b (k + 1) r,

@@ -1,8 +1,8 @@
 -- The limits, counted along the words: at most 100 brackets are open at once, and an expression has at most 256
 -- operators. The brackets are `(`, `{` and `[`, but for the `[` of marks.
-use Rattle.std.specs.Prelude.{◌≡◌, ◌+◌, ◌-◌, Bool, true, false, cond, ◌||◌, nat_lt, List, [], ◌∷◌}
-use Rattle.mit_syntax.specs.declared.token.Sign.TheVariants.{LeftRound, RightRound, LeftBrace, RightBrace, LeftSquare, RightSquare, At, Plus, Minus, Star}
-use Rattle.mit_syntax.specs.declared.token.Sign.TheVariants.{Slash, Percent, Equal, NotEqual, LessEqual, Less, GreaterEqual, Greater}
+use Rattle.std.specs.Prelude.{◌≡◌, ◌+◌, ◌-◌, Bool, true, false, cond, ◌||◌, nat_lt, is_some, List, [], ◌∷◌}
+use Rattle.mit_syntax.specs.declared.token.Sign.TheVariants.{LeftRound, RightRound, LeftBrace, RightBrace, LeftSquare, RightSquare, At}
+use Rattle.mit_syntax.specs.Operators.{op_of}
 use Rattle.mit_syntax.specs.Chunks.{key, sign, number, name}
 use Rattle.mit_parser.specs.declared.counts.Counts.{Counts}
 use Rattle.mit_parser.specs.Words.{Symbol, word, the_end, Told}
@@ -39,18 +39,7 @@ count c (word (sign RightBrace)) = past_other (past_right c)
 count c (word (sign At)) = record { depth = c.depth; operators = 0; at = true; marks = c.marks }
 count c (word (sign LeftSquare)) = cond {A = Counts} c.at (record { depth = c.depth; operators = 0; at = false; marks = true }) (past_left c)
 count c (word (sign RightSquare)) = cond {A = Counts} c.marks (record { depth = c.depth; operators = 0; at = false; marks = false }) (past_right c)
-count c (word (sign Plus)) = past_operator c
-count c (word (sign Minus)) = past_operator c
-count c (word (sign Star)) = past_operator c
-count c (word (sign Slash)) = past_operator c
-count c (word (sign Percent)) = past_operator c
-count c (word (sign Equal)) = past_operator c
-count c (word (sign NotEqual)) = past_operator c
-count c (word (sign LessEqual)) = past_operator c
-count c (word (sign Less)) = past_operator c
-count c (word (sign GreaterEqual)) = past_operator c
-count c (word (sign Greater)) = past_operator c
-count c (word (sign _)) = past_other c
+count c (word (sign s)) = cond {A = Counts} (is_some (op_of s)) (past_operator c) (past_other c)
 count c the_end = past_other c
 
 abbrev pub is_over : Counts → Bool

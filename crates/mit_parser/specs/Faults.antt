@@ -6,11 +6,11 @@ use Rattle.label_lattice.specs.Chains.{Chain, IsFault, IsSound}
 use Rattle.mit_syntax.specs.declared.declarations.Decl.{Decl}
 use Rattle.mit_syntax.specs.Declarations.{Declaration, declared, elements_in}
 use Rattle.mit_parser.specs.declared.fault.ParseFault.{ParseFault}
-use Rattle.mit_parser.specs.declared.fault.ParseFault.TheVariants.{Unexpected, TooDeep, TooMany, Unknown, Twice, Lattice, Memory, Size, Misuse}
+use Rattle.mit_parser.specs.declared.fault.ParseFault.TheVariants.{TooMany, Twice, Lattice, Size}
 use Rattle.mit_parser.specs.Scope.{Scope, scope, find_label, as_label, or_else, kept, label_fault, scalar_fault, array_fault}
 use Rattle.mit_parser.specs.Meaning.{label}
-use Rattle.mit_parser.specs.Tree.{Atom, Index, Term, Factors, Sum, Addends, Whole, number_atom, name_atom, paren_atom, no_index, index_of, term_of, no_factor}
-use Rattle.mit_parser.specs.Tree.{and_factor, sum_of, no_addend, and_addend, plain, compared, AndName, no_name, and_name, Marks, no_marks, marks_of}
+use Rattle.mit_parser.specs.Tree.{ExpressionTree, number_of, name_of, parens_of, binary_of, Index, no_index, index_of, AndName, no_name, and_name, Marks}
+use Rattle.mit_parser.specs.Tree.{no_marks, marks_of}
 use Rattle.mit_parser.specs.Tree.{CommandTree, skip_of, assign_of, sleep_of, if_of, while_of, mitigate_of, Block, block_of, ElsePart, no_else, else_of}
 use Rattle.mit_parser.specs.Tree.{Commands, commands_of, More, no_more, and_more, MoreNames, no_more_names, and_more_names, PairTree, pair_of, MorePairs}
 use Rattle.mit_parser.specs.Tree.{no_more_pairs, and_pair, Ordering, no_ordering, ordering_of, Header, no_header, header_of, no_label, label_of, Shape}
@@ -23,32 +23,15 @@ use_fault sc w p (index_of q e r) = array_fault sc.declarations w p
 
 -- the first fault, where u is one that came before
 abbrev mutual
-  pub note_atom : Scope → Atom → Option ParseFault → Option ParseFault
-  note_atom sc (number_atom n p) u = u
-  note_atom sc (name_atom w p i) u = note_index sc i (kept u (use_fault sc w p i))
-  note_atom sc (paren_atom p e q) u = note_whole sc e u
+  pub note_expression : {n : ℕ} → Scope → ExpressionTree n → Option ParseFault → Option ParseFault
+  note_expression sc (number_of k p) u = u
+  note_expression sc (name_of w p i) u = note_index sc i (kept u (use_fault sc w p i))
+  note_expression sc (parens_of p e q) u = note_expression sc e u
+  note_expression sc (binary_of o h l p t) u = note_expression sc t (note_expression sc l u)
 
   pub note_index : Scope → Index → Option ParseFault → Option ParseFault
   note_index sc no_index u = u
-  note_index sc (index_of p e q) u = note_whole sc e u
-
-  pub note_term : Scope → Term → Option ParseFault → Option ParseFault
-  note_term sc (term_of a fs) u = note_factors sc fs (note_atom sc a u)
-
-  pub note_factors : Scope → Factors → Option ParseFault → Option ParseFault
-  note_factors sc no_factor u = u
-  note_factors sc (and_factor o p a fs) u = note_factors sc fs (note_atom sc a u)
-
-  pub note_sum : Scope → Sum → Option ParseFault → Option ParseFault
-  note_sum sc (sum_of t ts) u = note_addends sc ts (note_term sc t u)
-
-  pub note_addends : Scope → Addends → Option ParseFault → Option ParseFault
-  note_addends sc no_addend u = u
-  note_addends sc (and_addend o p t ts) u = note_addends sc ts (note_term sc t u)
-
-  pub note_whole : Scope → Whole → Option ParseFault → Option ParseFault
-  note_whole sc (plain s) u = note_sum sc s u
-  note_whole sc (compared s o p t) u = note_sum sc t (note_sum sc s u)
+  note_index sc (index_of p e q) u = note_expression sc e u
 
 abbrev pub note_and_name : List (List ℕ) → AndName → Option ParseFault → Option ParseFault
 note_and_name labels no_name u = u
@@ -61,11 +44,11 @@ note_marks labels (marks_of p q w r s v) u = note_and_name labels s (kept u (lab
 abbrev mutual
   pub note_command : Scope → CommandTree → Option ParseFault → Option ParseFault
   note_command sc (skip_of p m) u = note_marks sc.labels m u
-  note_command sc (assign_of w p i q e m) u = note_marks sc.labels m (note_whole sc e (note_index sc i (kept u (use_fault sc w p i))))
-  note_command sc (sleep_of p e m) u = note_marks sc.labels m (note_whole sc e u)
-  note_command sc (if_of p e m q b o) u = note_else sc o (note_block sc b (note_marks sc.labels m (note_whole sc e u)))
-  note_command sc (while_of p e m q b) u = note_block sc b (note_marks sc.labels m (note_whole sc e u))
-  note_command sc (mitigate_of p q e l r m b) u = note_block sc b (note_marks sc.labels m (note_and_name sc.labels l (note_whole sc e u)))
+  note_command sc (assign_of w p i q e m) u = note_marks sc.labels m (note_expression sc e (note_index sc i (kept u (use_fault sc w p i))))
+  note_command sc (sleep_of p e m) u = note_marks sc.labels m (note_expression sc e u)
+  note_command sc (if_of p e m q b o) u = note_else sc o (note_block sc b (note_marks sc.labels m (note_expression sc e u)))
+  note_command sc (while_of p e m q b) u = note_block sc b (note_marks sc.labels m (note_expression sc e u))
+  note_command sc (mitigate_of p q e l r m b) u = note_block sc b (note_marks sc.labels m (note_and_name sc.labels l (note_expression sc e u)))
 
   pub note_block : Scope → Block → Option ParseFault → Option ParseFault
   note_block sc (block_of p c q) u = note_commands sc c u
@@ -147,14 +130,7 @@ header_fault (header_of p w q m u o) = note_ordering (add_labels m (labelled (w 
 -- the labels make no lattice
 abbrev pub IsLatticeFault : List (List ℕ) → List (Label × Label) → ParseFault → Type 0
 IsLatticeFault labels pairs (Lattice l) = IsFault (length labels) (Chain pairs) l
-IsLatticeFault labels pairs (Unexpected p) = ⊥
-IsLatticeFault labels pairs (TooDeep p) = ⊥
-IsLatticeFault labels pairs (TooMany n) = ⊥
-IsLatticeFault labels pairs (Unknown p) = ⊥
-IsLatticeFault labels pairs (Twice p) = ⊥
-IsLatticeFault labels pairs Memory = ⊥
-IsLatticeFault labels pairs (Size p) = ⊥
-IsLatticeFault labels pairs (Misuse p) = ⊥
+IsLatticeFault labels pairs f = ⊥
 
 -- the label and the length that a declaration writes, each with its position
 abbrev pub shape_label : Shape → Option (List ℕ × Pos)

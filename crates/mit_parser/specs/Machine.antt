@@ -6,7 +6,7 @@ use Rattle.mit_syntax.specs.declared.token.Sign.TheVariants.{RightSquare, At, Le
 use Rattle.mit_syntax.specs.Chunks.{key, sign, number, name}
 use Rattle.mit_parser.specs.declared.counts.Counts.{Counts}
 use Rattle.mit_parser.specs.Words.{Symbol, word, the_end, Told, is, is_sign, is_key}
-use Rattle.mit_parser.specs.Operators.{factor_of, addend_of, comparison_of}
+use Rattle.mit_parser.specs.Operators.{op_at}
 use Rattle.mit_parser.specs.Counting.{count, is_over}
 
 pub data Part : Type 0 where
@@ -107,11 +107,11 @@ step (want g ∷ s) w = cond (is g w) (Some s) None
 step (an_atom ∷ s) w = atom_step w s
 step (an_index ∷ s) w = cond (is_sign LeftSquare w) (Some (after_index s)) (step s w)
 step (a_term ∷ s) w = atom_step w (factors ∷ s)
-step (factors ∷ s) w = choice (factor_of w) (step s w) (λ _. Some (an_atom ∷ factors ∷ s))
+step (factors ∷ s) w = choice (op_at 3 w) (step s w) (λ _. Some (an_atom ∷ factors ∷ s))
 step (a_sum ∷ s) w = atom_step w (factors ∷ addends ∷ s)
-step (addends ∷ s) w = choice (addend_of w) (step s w) (λ _. Some (a_term ∷ addends ∷ s))
+step (addends ∷ s) w = choice (op_at 2 w) (step s w) (λ _. Some (a_term ∷ addends ∷ s))
 step (an_expr ∷ s) w = atom_step w (factors ∷ addends ∷ comparison ∷ s)
-step (comparison ∷ s) w = choice (comparison_of w) (step s w) (λ _. Some (a_sum ∷ s))
+step (comparison ∷ s) w = choice (op_at 1 w) (step s w) (λ _. Some (a_sum ∷ s))
 step (a_name ∷ s) w = name_step w s
 step (a_number ∷ s) w = number_step w s
 step (marks ∷ s) w = cond (is_sign At w) (Some (after_at s)) (step s w)

@@ -7,10 +7,9 @@ use Rattle.mit_syntax.specs.Expression.{Expression, Number, Variable, Binary, El
 use Rattle.mit_syntax.specs.Todo.{Done, Skip, Assign, Put, Sleep, If, While, Mitigate}
 use Rattle.mit_syntax.specs.Plan.{Plan, Written}
 use Rattle.mit_syntax.specs.Declarations.{find_scalar, find_array}
-use Rattle.mit_parser.specs.Operators.{factor_op, addend_op, comparison_op}
 use Rattle.mit_parser.specs.Scope.{Scope, find_label, as_label, or_else}
-use Rattle.mit_parser.specs.Tree.{Atom, Index, Term, Factors, Sum, Addends, Whole, number_atom, name_atom, paren_atom, no_index, index_of, term_of, no_factor}
-use Rattle.mit_parser.specs.Tree.{and_factor, sum_of, no_addend, and_addend, plain, compared, AndName, no_name, and_name, Marks, no_marks, marks_of}
+use Rattle.mit_parser.specs.Tree.{ExpressionTree, number_of, name_of, parens_of, binary_of, Index, no_index, index_of, AndName, no_name, and_name, Marks}
+use Rattle.mit_parser.specs.Tree.{no_marks, marks_of}
 use Rattle.mit_parser.specs.Tree.{CommandTree, skip_of, assign_of, sleep_of, if_of, while_of, mitigate_of, Block, block_of, ElsePart, no_else, else_of}
 use Rattle.mit_parser.specs.Tree.{Commands, commands_of, More, no_more, and_more}
 
@@ -19,34 +18,17 @@ abbrev pub named_value : Scope → List ℕ → Option Expression → Expression
 named_value sc w None = Variable (or_else 0 (find_scalar sc.declarations w))
 named_value sc w (Some i) = Element (or_else (0, 0) (find_array sc.declarations w)).0 (or_else (0, 0) (find_array sc.declarations w)).1 i
 
--- sums and terms group to the left
+-- parentheses mean what is in them
 abbrev mutual
-  pub atom_value : Scope → Atom → Expression
-  atom_value sc (number_atom n p) = Number n
-  atom_value sc (name_atom w p i) = named_value sc w (index_value sc i)
-  atom_value sc (paren_atom p e q) = whole_value sc e
+  pub expression_value : {n : ℕ} → Scope → ExpressionTree n → Expression
+  expression_value sc (number_of k p) = Number k
+  expression_value sc (name_of w p i) = named_value sc w (index_value sc i)
+  expression_value sc (parens_of p e q) = expression_value sc e
+  expression_value sc (binary_of o h l p t) = Binary o (expression_value sc l) (expression_value sc t)
 
   pub index_value : Scope → Index → Option Expression
   index_value sc no_index = None
-  index_value sc (index_of p e q) = Some (whole_value sc e)
-
-  pub term_value : Scope → Term → Expression
-  term_value sc (term_of a fs) = factors_value sc fs (atom_value sc a)
-
-  pub factors_value : Scope → Factors → Expression → Expression
-  factors_value sc no_factor l = l
-  factors_value sc (and_factor o p a fs) l = factors_value sc fs (Binary (factor_op o) l (atom_value sc a))
-
-  pub sum_value : Scope → Sum → Expression
-  sum_value sc (sum_of t ts) = addends_value sc ts (term_value sc t)
-
-  pub addends_value : Scope → Addends → Expression → Expression
-  addends_value sc no_addend l = l
-  addends_value sc (and_addend o p t ts) l = addends_value sc ts (Binary (addend_op o) l (term_value sc t))
-
-  pub whole_value : Scope → Whole → Expression
-  whole_value sc (plain s) = sum_value sc s
-  whole_value sc (compared s o p t) = Binary (comparison_op o) (sum_value sc s) (sum_value sc t)
+  index_value sc (index_of p e q) = Some (expression_value sc e)
 
 abbrev pub label : List (List ℕ) → List ℕ → Label
 label labels w = as_label (or_else 0 (find_label labels w))
@@ -99,12 +81,12 @@ abbrev mutual
 abbrev mutual
   pub plan_command : Scope → ℕ → CommandTree → Plan → Plan
   plan_command sc k (skip_of p m) rest = Skip (written sc p m) rest
-  plan_command sc k (assign_of w p i q e m) rest = assigned sc (written sc p m) w (index_value sc i) (whole_value sc e) rest
-  plan_command sc k (sleep_of p e m) rest = Sleep (written sc p m) (whole_value sc e) rest
-  plan_command sc k (if_of p e m q b o) rest = If (written sc p m) (whole_value sc e) (plan_block sc k b) (plan_else sc p (next_block b k) o) rest
-  plan_command sc k (while_of p e m q b) rest = While (written sc p m) (whole_value sc e) (plan_block sc k b) rest
-  plan_command sc k (mitigate_of p q e l u m b) rest = Mitigate (written sc p m) k (and_name_value sc.labels l) (whole_value sc e) (plan_block sc (k + 1) b)
-      rest
+  plan_command sc k (assign_of w p i q e m) rest = assigned sc (written sc p m) w (index_value sc i) (expression_value sc e) rest
+  plan_command sc k (sleep_of p e m) rest = Sleep (written sc p m) (expression_value sc e) rest
+  plan_command sc k (if_of p e m q b o) rest = If (written sc p m) (expression_value sc e) (plan_block sc k b) (plan_else sc p (next_block b k) o) rest
+  plan_command sc k (while_of p e m q b) rest = While (written sc p m) (expression_value sc e) (plan_block sc k b) rest
+  plan_command sc k (mitigate_of p q e l u m b) rest = Mitigate (written sc p m) k (and_name_value sc.labels l) (expression_value sc e)
+      (plan_block sc (k + 1) b) rest
 
   pub plan_block : Scope → ℕ → Block → Plan
   plan_block sc k (block_of p c q) = plan_commands sc k c

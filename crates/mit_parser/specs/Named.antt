@@ -6,8 +6,8 @@ use Rattle.label_lattice.specs.Order.{AllDiffer}
 use Rattle.mit_syntax.specs.Declarations.{Declaration, AreFew, find_scalar, find_array}
 use Rattle.mit_parser.specs.Scope.{Scope, scope, find_label}
 use Rattle.mit_parser.specs.Faults.{as_labels, ordering_numbers, size_number, shape_label, shape_length, decl_of}
-use Rattle.mit_parser.specs.Tree.{Atom, Index, Term, Factors, Sum, Addends, Whole, number_atom, name_atom, paren_atom, no_index, index_of, term_of, no_factor}
-use Rattle.mit_parser.specs.Tree.{and_factor, sum_of, no_addend, and_addend, plain, compared, AndName, no_name, and_name, Marks, no_marks, marks_of}
+use Rattle.mit_parser.specs.Tree.{ExpressionTree, number_of, name_of, parens_of, binary_of, Index, no_index, index_of, AndName, no_name, and_name, Marks}
+use Rattle.mit_parser.specs.Tree.{no_marks, marks_of}
 use Rattle.mit_parser.specs.Tree.{CommandTree, skip_of, assign_of, sleep_of, if_of, while_of, mitigate_of, Block, block_of, ElsePart, no_else, else_of}
 use Rattle.mit_parser.specs.Tree.{Commands, commands_of, More, no_more, and_more, MoreNames, no_more_names, and_more_names, PairTree, pair_of, MorePairs}
 use Rattle.mit_parser.specs.Tree.{no_more_pairs, and_pair, Ordering, no_ordering, ordering_of, Header, no_header, header_of, no_label, label_of, Shape}
@@ -46,32 +46,15 @@ IsUsed ds w (index_of p e q) = (a : ℕ × ℕ) × (find_array ds w ≡ Some a)
 
 -- each name of an expression is used as what it is declared as
 abbrev mutual
-  pub AtomNamed : List Declaration → Atom → Type 0
-  AtomNamed ds (number_atom n p) = Unit {0}
-  AtomNamed ds (name_atom w p i) = IsUsed ds w i × IndexNamed ds i
-  AtomNamed ds (paren_atom p e q) = WholeNamed ds e
+  pub ExpressionNamed : {n : ℕ} → List Declaration → ExpressionTree n → Type 0
+  ExpressionNamed ds (number_of k p) = Unit {0}
+  ExpressionNamed ds (name_of w p i) = IsUsed ds w i × IndexNamed ds i
+  ExpressionNamed ds (parens_of p e q) = ExpressionNamed ds e
+  ExpressionNamed ds (binary_of o h l p t) = ExpressionNamed ds l × ExpressionNamed ds t
 
   pub IndexNamed : List Declaration → Index → Type 0
   IndexNamed ds no_index = Unit {0}
-  IndexNamed ds (index_of p e q) = WholeNamed ds e
-
-  pub TermNamed : List Declaration → Term → Type 0
-  TermNamed ds (term_of a fs) = AtomNamed ds a × FactorsNamed ds fs
-
-  pub FactorsNamed : List Declaration → Factors → Type 0
-  FactorsNamed ds no_factor = Unit {0}
-  FactorsNamed ds (and_factor o p a fs) = AtomNamed ds a × FactorsNamed ds fs
-
-  pub SumNamed : List Declaration → Sum → Type 0
-  SumNamed ds (sum_of t ts) = TermNamed ds t × AddendsNamed ds ts
-
-  pub AddendsNamed : List Declaration → Addends → Type 0
-  AddendsNamed ds no_addend = Unit {0}
-  AddendsNamed ds (and_addend o p t ts) = TermNamed ds t × AddendsNamed ds ts
-
-  pub WholeNamed : List Declaration → Whole → Type 0
-  WholeNamed ds (plain s) = SumNamed ds s
-  WholeNamed ds (compared s o p t) = SumNamed ds s × SumNamed ds t
+  IndexNamed ds (index_of p e q) = ExpressionNamed ds e
 
 abbrev pub SecondNamed : List (List ℕ) → AndName → Type 0
 SecondNamed labels no_name = Unit {0}
@@ -85,11 +68,12 @@ MarksNamed labels (marks_of p q w r s v) = IsLabelName labels w × SecondNamed l
 abbrev mutual
   pub CommandNamed : Scope → CommandTree → Type 0
   CommandNamed sc (skip_of p m) = MarksNamed sc.labels m
-  CommandNamed sc (assign_of w p i q e m) = IsUsed sc.declarations w i × IndexNamed sc.declarations i × WholeNamed sc.declarations e × MarksNamed sc.labels m
-  CommandNamed sc (sleep_of p e m) = WholeNamed sc.declarations e × MarksNamed sc.labels m
-  CommandNamed sc (if_of p e m q b o) = WholeNamed sc.declarations e × MarksNamed sc.labels m × BlockNamed sc b × ElseNamed sc o
-  CommandNamed sc (while_of p e m q b) = WholeNamed sc.declarations e × MarksNamed sc.labels m × BlockNamed sc b
-  CommandNamed sc (mitigate_of p q e l r m b) = WholeNamed sc.declarations e × SecondNamed sc.labels l × MarksNamed sc.labels m × BlockNamed sc b
+  CommandNamed sc (assign_of w p i q e m) =
+      IsUsed sc.declarations w i × IndexNamed sc.declarations i × ExpressionNamed sc.declarations e × MarksNamed sc.labels m
+  CommandNamed sc (sleep_of p e m) = ExpressionNamed sc.declarations e × MarksNamed sc.labels m
+  CommandNamed sc (if_of p e m q b o) = ExpressionNamed sc.declarations e × MarksNamed sc.labels m × BlockNamed sc b × ElseNamed sc o
+  CommandNamed sc (while_of p e m q b) = ExpressionNamed sc.declarations e × MarksNamed sc.labels m × BlockNamed sc b
+  CommandNamed sc (mitigate_of p q e l r m b) = ExpressionNamed sc.declarations e × SecondNamed sc.labels l × MarksNamed sc.labels m × BlockNamed sc b
 
   pub BlockNamed : Scope → Block → Type 0
   BlockNamed sc (block_of p c q) = CommandsNamed sc c

@@ -15,12 +15,12 @@ use Rattle.mit_parser.specs.State.{State, with_marks}
 use Rattle.mit_parser.specs.Scope.{Scope, scope, labels_in}
 use Rattle.mit_parser.specs.Machine.{Part, want, an_atom, an_index, a_term, factors, a_sum, addends, an_expr, a_name, a_number, marks, second, a_command}
 use Rattle.mit_parser.specs.Machine.{a_block, otherwise, commands, more, verdict, Verdict, Bad, Deep}
-use Rattle.mit_parser.specs.Tree.{Term, Factors, Sum, Addends, Commands, More, front_atom, front_index, front_term, front_factors, front_sum, front_addends}
-use Rattle.mit_parser.specs.Tree.{front_whole, front_and_name, front_marks, front_command, front_block, front_else, front_commands, front_more}
-use Rattle.mit_parser.specs.Meaning.{atom_value, index_value, term_value, factors_value, sum_value, addends_value, whole_value, and_name_value, marks_value}
+use Rattle.mit_parser.specs.Tree.{ExpressionTree, Commands, More, front_expression, front_index, front_and_name, front_marks, front_command, front_block}
+use Rattle.mit_parser.specs.Tree.{front_else, front_commands, front_more}
+use Rattle.mit_parser.specs.Meaning.{expression_value, index_value, and_name_value, marks_value}
 use Rattle.mit_parser.specs.Meaning.{plan_command, plan_block, plan_else, plan_commands, plan_more, next_command, next_block, next_else, next_commands}
 use Rattle.mit_parser.specs.Meaning.{next_more}
-use Rattle.mit_parser.specs.Faults.{note_atom, note_index, note_term, note_factors, note_sum, note_addends, note_whole, note_and_name, note_marks}
+use Rattle.mit_parser.specs.Faults.{note_expression, note_index, note_and_name, note_marks}
 use Rattle.mit_parser.specs.Faults.{note_command, note_block, note_else, note_commands, note_more}
 
 -- one word is left, the end
@@ -161,37 +161,41 @@ pub record Read {T : Type 0} (part : Part) (front_of : T → List Told → List 
 abbrev pub same_next : {T : Type 0} → T → ℕ → ℕ
 same_next t k = k
 
+-- a part was read: an expression where at least this rank is needed
+abbrev pub IsExpression : ℕ → Part → Scope → State → State → Expression → Type 0
+IsExpression n part sc old new e = Read {T = ExpressionTree n} part front_expression (note_expression sc) same_next (λ t. expression_value sc t ≡ e) old new
+
 abbrev pub IsAtom : Scope → State → State → Expression → Type 0
-IsAtom sc old new e = Read an_atom front_atom (note_atom sc) same_next (λ t. atom_value sc t ≡ e) old new
+IsAtom = IsExpression 4 an_atom
 
 abbrev pub IsIndex : Scope → State → State → Expression → Type 0
 IsIndex sc old new e = Read an_index front_index (note_index sc) same_next (λ t. index_value sc t ≡ Some e) old new
 
 abbrev pub IsTerm : Scope → State → State → Expression → Type 0
-IsTerm sc old new e = Read a_term front_term (note_term sc) same_next (λ t. term_value sc t ≡ e) old new
+IsTerm = IsExpression 3 a_term
 
 abbrev pub IsSum : Scope → State → State → Expression → Type 0
-IsSum sc old new e = Read a_sum front_sum (note_sum sc) same_next (λ t. sum_value sc t ≡ e) old new
+IsSum = IsExpression 2 a_sum
 
 abbrev pub IsWhole : Scope → State → State → Expression → Type 0
-IsWhole sc old new e = Read an_expr front_whole (note_whole sc) same_next (λ t. whole_value sc t ≡ e) old new
+IsWhole = IsExpression 1 an_expr
 
--- a term as far as it was read: whatever factors follow complete it
-pub record TermSoFar (sc : Scope) (old now : State) (left : Expression) : Type 0 where
-  pub builds : (fs : Factors) (j : List Told) → now.words ≡ front_factors fs j
-      → (t : Term) × (old.words ≡ front_term t j) × (term_value sc t ≡ factors_value sc fs left) × (note_factors sc fs now.fault ≡ note_term sc t old.fault)
+-- an expression as far as it was read, after which operators of its rank may follow
+pub record SoFar (n : ℕ) (part follows : Part) (sc : Scope) (old now : State) (left : Expression) : Type 0 where
+  pub tree : ExpressionTree n
+  pub spelled : old.words ≡ front_expression tree now.words
+  pub means : expression_value sc tree ≡ left
+  pub notes : now.fault ≡ note_expression sc tree old.fault
   pub next : now.marks ≡ old.marks
-  pub goes : (s : List Part) → verdict (a_term ∷ s) old.counts old.words ≡ verdict (factors ∷ s) now.counts now.words
+  pub goes : (s : List Part) → verdict (part ∷ s) old.counts old.words ≡ verdict (follows ∷ s) now.counts now.words
   pub shorter : length now.words ≤ length old.words
   pub rises : old.counts.depth ≤ now.counts.depth
 
-pub record SumSoFar (sc : Scope) (old now : State) (left : Expression) : Type 0 where
-  pub builds : (ts : Addends) (j : List Told) → now.words ≡ front_addends ts j
-      → (t : Sum) × (old.words ≡ front_sum t j) × (sum_value sc t ≡ addends_value sc ts left) × (note_addends sc ts now.fault ≡ note_sum sc t old.fault)
-  pub next : now.marks ≡ old.marks
-  pub goes : (s : List Part) → verdict (a_sum ∷ s) old.counts old.words ≡ verdict (addends ∷ s) now.counts now.words
-  pub shorter : length now.words ≤ length old.words
-  pub rises : old.counts.depth ≤ now.counts.depth
+abbrev pub TermSoFar : Scope → State → State → Expression → Type 0
+TermSoFar = SoFar 3 a_term factors
+
+abbrev pub SumSoFar : Scope → State → State → Expression → Type 0
+SumSoFar = SoFar 2 a_sum addends
 
 abbrev pub IsSecond : List (List ℕ) → State → State → Option Label → Type 0
 IsSecond labels old new x = Read second front_and_name (note_and_name labels) same_next (λ t. and_name_value labels t ≡ x) old new

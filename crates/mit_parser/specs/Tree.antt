@@ -1,70 +1,38 @@
 -- Whole trees, with each written pair of parentheses and the position of each word, and the words that they spell.
-use Rattle.std.specs.Prelude.{ℕ, ℤ, List, ◌∷◌}
+use Rattle.std.specs.Prelude.{ℕ, ℤ, ◌≤◌, List, ◌∷◌}
 use Rattle.text_base.specs.declared.pos.Pos.{Pos}
 use Rattle.mit_syntax.specs.declared.token.Keyword.TheVariants.{Labels, Order, Var, Skip, If, Then, Else, While, Do, Mitigate, Sleep}
 use Rattle.mit_syntax.specs.declared.token.Sign.TheVariants.{Assign, Colon, Semicolon, Comma, LeftRound, RightRound, LeftBrace, RightBrace, LeftSquare}
 use Rattle.mit_syntax.specs.declared.token.Sign.TheVariants.{RightSquare, At, Less}
+use Rattle.mit_syntax.specs.declared.ast.Op.{Op}
+use Rattle.mit_syntax.specs.Operators.{op_sign, rank, left_need, right_need}
 use Rattle.mit_syntax.specs.Chunks.{number}
 use Rattle.mit_parser.specs.Words.{Told, word, sign_at, key_at, name_at}
-use Rattle.mit_parser.specs.Operators.{Factor, Addend, Comparison, factor_sign, addend_sign, comparison_sign}
 
 mutual
-  -- number | name [ "[" expr "]" ] | "(" expr ")"
-  pub data Atom : Type 0 where
-    number_atom : ℤ → Pos → Atom
-    name_atom : List ℕ → Pos → Index → Atom
-    paren_atom : Pos → Whole → Pos → Atom
+  -- number | name [ "[" expr "]" ] | "(" expr ")" | expr operator expr, where at least this rank is needed. An operator has
+  -- at least that rank, and its parts have the ranks that it needs.
+  pub data ExpressionTree : ℕ → Type 0 where
+    number_of : {n : ℕ} → ℤ → Pos → ExpressionTree n
+    name_of : {n : ℕ} → List ℕ → Pos → Index → ExpressionTree n
+    parens_of : {n : ℕ} → Pos → ExpressionTree 1 → Pos → ExpressionTree n
+    binary_of : {n : ℕ} (o : Op) → n ≤ rank o → ExpressionTree (left_need o) → Pos → ExpressionTree (right_need o) → ExpressionTree n
 
   pub data Index : Type 0 where
     no_index : Index
-    index_of : Pos → Whole → Pos → Index
-
-  pub data Term : Type 0 where
-    term_of : Atom → Factors → Term
-
-  pub data Factors : Type 0 where
-    no_factor : Factors
-    and_factor : Factor → Pos → Atom → Factors → Factors
-
-  pub data Sum : Type 0 where
-    sum_of : Term → Addends → Sum
-
-  pub data Addends : Type 0 where
-    no_addend : Addends
-    and_addend : Addend → Pos → Term → Addends → Addends
-
-  pub data Whole : Type 0 where
-    plain : Sum → Whole
-    compared : Sum → Comparison → Pos → Sum → Whole
+    index_of : Pos → ExpressionTree 1 → Pos → Index
 
 -- the words of a tree, before those that follow it
 abbrev mutual
-  pub front_atom : Atom → List Told → List Told
-  front_atom (number_atom n p) r = record { symbol = word (number n); pos = p } ∷ r
-  front_atom (name_atom w p i) r = name_at w p ∷ front_index i r
-  front_atom (paren_atom p e q) r = sign_at LeftRound p ∷ front_whole e (sign_at RightRound q ∷ r)
+  pub front_expression : {n : ℕ} → ExpressionTree n → List Told → List Told
+  front_expression (number_of k p) r = record { symbol = word (number k); pos = p } ∷ r
+  front_expression (name_of w p i) r = name_at w p ∷ front_index i r
+  front_expression (parens_of p e q) r = sign_at LeftRound p ∷ front_expression e (sign_at RightRound q ∷ r)
+  front_expression (binary_of o h l p t) r = front_expression l (sign_at (op_sign o) p ∷ front_expression t r)
 
   pub front_index : Index → List Told → List Told
   front_index no_index r = r
-  front_index (index_of p e q) r = sign_at LeftSquare p ∷ front_whole e (sign_at RightSquare q ∷ r)
-
-  pub front_term : Term → List Told → List Told
-  front_term (term_of a fs) r = front_atom a (front_factors fs r)
-
-  pub front_factors : Factors → List Told → List Told
-  front_factors no_factor r = r
-  front_factors (and_factor o p a fs) r = sign_at (factor_sign o) p ∷ front_atom a (front_factors fs r)
-
-  pub front_sum : Sum → List Told → List Told
-  front_sum (sum_of t ts) r = front_term t (front_addends ts r)
-
-  pub front_addends : Addends → List Told → List Told
-  front_addends no_addend r = r
-  front_addends (and_addend o p t ts) r = sign_at (addend_sign o) p ∷ front_term t (front_addends ts r)
-
-  pub front_whole : Whole → List Told → List Told
-  front_whole (plain s) r = front_sum s r
-  front_whole (compared s o p t) r = front_sum s (sign_at (comparison_sign o) p ∷ front_sum t r)
+  front_index (index_of p e q) r = sign_at LeftSquare p ∷ front_expression e (sign_at RightSquare q ∷ r)
 
 -- [ "," name ]
 pub data AndName : Type 0 where
@@ -79,11 +47,11 @@ pub data Marks : Type 0 where
 mutual
   pub data CommandTree : Type 0 where
     skip_of : Pos → Marks → CommandTree
-    assign_of : List ℕ → Pos → Index → Pos → Whole → Marks → CommandTree
-    sleep_of : Pos → Whole → Marks → CommandTree
-    if_of : Pos → Whole → Marks → Pos → Block → ElsePart → CommandTree
-    while_of : Pos → Whole → Marks → Pos → Block → CommandTree
-    mitigate_of : Pos → Pos → Whole → AndName → Pos → Marks → Block → CommandTree
+    assign_of : List ℕ → Pos → Index → Pos → ExpressionTree 1 → Marks → CommandTree
+    sleep_of : Pos → ExpressionTree 1 → Marks → CommandTree
+    if_of : Pos → ExpressionTree 1 → Marks → Pos → Block → ElsePart → CommandTree
+    while_of : Pos → ExpressionTree 1 → Marks → Pos → Block → CommandTree
+    mitigate_of : Pos → Pos → ExpressionTree 1 → AndName → Pos → Marks → Block → CommandTree
 
   pub data Block : Type 0 where
     block_of : Pos → Commands → Pos → Block
@@ -110,12 +78,12 @@ front_marks (marks_of p q w u s v) r = sign_at At p ∷ sign_at LeftSquare q ∷
 abbrev mutual
   pub front_command : CommandTree → List Told → List Told
   front_command (skip_of p m) r = key_at Skip p ∷ front_marks m r
-  front_command (assign_of w p i q e m) r = name_at w p ∷ front_index i (sign_at Assign q ∷ front_whole e (front_marks m r))
-  front_command (sleep_of p e m) r = key_at Sleep p ∷ front_whole e (front_marks m r)
-  front_command (if_of p e m q b o) r = key_at If p ∷ front_whole e (front_marks m (key_at Then q ∷ front_block b (front_else o r)))
-  front_command (while_of p e m q b) r = key_at While p ∷ front_whole e (front_marks m (key_at Do q ∷ front_block b r))
+  front_command (assign_of w p i q e m) r = name_at w p ∷ front_index i (sign_at Assign q ∷ front_expression e (front_marks m r))
+  front_command (sleep_of p e m) r = key_at Sleep p ∷ front_expression e (front_marks m r)
+  front_command (if_of p e m q b o) r = key_at If p ∷ front_expression e (front_marks m (key_at Then q ∷ front_block b (front_else o r)))
+  front_command (while_of p e m q b) r = key_at While p ∷ front_expression e (front_marks m (key_at Do q ∷ front_block b r))
   front_command (mitigate_of p q e l u m b) r =
-      key_at Mitigate p ∷ sign_at LeftRound q ∷ front_whole e (front_and_name l (sign_at RightRound u ∷ front_marks m (front_block b r)))
+      key_at Mitigate p ∷ sign_at LeftRound q ∷ front_expression e (front_and_name l (sign_at RightRound u ∷ front_marks m (front_block b r)))
 
   pub front_block : Block → List Told → List Told
   front_block (block_of p c q) r = sign_at LeftBrace p ∷ front_commands c (sign_at RightBrace q ∷ r)

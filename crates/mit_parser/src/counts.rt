@@ -6,6 +6,7 @@ ghost use Rattle.mit_parser.specs.Words.{symbol_of, word};
 ghost use Rattle.mit_parser.specs.Counting.{count, is_over, past_left, past_right, past_operator, past_other, past_atom};
 
 use mit_syntax::limits::{MAX_DEPTH, MAX_OPERATORS};
+use mit_syntax::operators::op_of;
 use mit_syntax::token::{Sign, TokenKind};
 
 /// The brackets that are open, the operators of the expression so far, whether the last token is `@`, and
@@ -131,18 +132,13 @@ fn past_sign(c: Counts, sign: Sign) -> Counts
         Sign::LeftSquare => past_left_square(c),
         Sign::RightSquare => past_right_square(c),
         Sign::At => past_marks(c, true, c.marks),
-        Sign::Plus
-        | Sign::Minus
-        | Sign::Star
-        | Sign::Slash
-        | Sign::Percent
-        | Sign::Equal
-        | Sign::NotEqual
-        | Sign::LessEqual
-        | Sign::Less
-        | Sign::GreaterEqual
-        | Sign::Greater => past_operator(c),
-        Sign::Assign | Sign::Colon | Sign::Semicolon | Sign::Comma => past_other(c),
+        _ => {
+            if op_of(sign).is_some() {
+                past_operator(c)
+            } else {
+                past_other(c)
+            }
+        }
     }
 }
 

@@ -79,7 +79,7 @@ impl<'a> Parser<'a> {
         ensures { MatchResult result (λ e. IsTerm (scope_of names.now) self.old self.new (expression_of e)) (Refused a_term self.old self.new) }
     {
         let mut left = self.atom(alloc, names)?;
-        while let Some(op) = self.factor_op() {
+        while let Some(op) = self.op_at(3) {
             self.advance()?;
             let right = self.atom(alloc, names)?;
             left = Expr::Binary(op, Box::new(alloc, left)?, Box::new(alloc, right)?);
@@ -93,7 +93,7 @@ impl<'a> Parser<'a> {
         ensures { MatchResult result (λ e. IsSum (scope_of names.now) self.old self.new (expression_of e)) (Refused a_sum self.old self.new) }
     {
         let mut left = self.term(alloc, names)?;
-        while let Some(op) = self.addend_op() {
+        while let Some(op) = self.op_at(2) {
             self.advance()?;
             let right = self.term(alloc, names)?;
             left = Expr::Binary(op, Box::new(alloc, left)?, Box::new(alloc, right)?);
@@ -107,7 +107,7 @@ impl<'a> Parser<'a> {
         ensures { MatchResult result (λ e. IsWhole (scope_of names.now) self.old self.new (expression_of e)) (Refused an_expr self.old self.new) }
     {
         let left = self.sum(alloc, names)?;
-        let Some(op) = self.comparison_op() else {
+        let Some(op) = self.op_at(1) else {
             return Ok(left);
         };
         self.advance()?;

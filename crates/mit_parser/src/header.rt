@@ -30,7 +30,7 @@ pub struct Header {
 
 /// The labels with these numbers, which are those of labels.
 fn as_labels(alloc: Global, numbers: &[(usize, usize)]) -> Result<Vec<(Label, Label)>, ParseFault>
-    requires { AreNumbersBelow 32 numbers.now }
+    requires { AreNumbersBelow MAX_LABELS numbers.now }
     ensures { MatchResult result (λ v. v.items ≡ as_labels numbers.now) (λ f. f ≡ Memory) }
 {
     let mut pairs = Vec::new(alloc);

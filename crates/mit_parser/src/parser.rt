@@ -3,8 +3,7 @@
 ghost use Rattle.std.specs.Prelude.{None, ◌≡◌, ◌≤◌, ◌+◌, ◌<◌, ◌^◌, false, true, ℕ, List, MatchResult, MatchBool, length};
 ghost use Rattle.mit_syntax.specs.Chunks.{sign as a_sign, key as a_key, number as a_number_word, name as a_name_word};
 ghost use Rattle.mit_parser.specs.Words.{told, word, the_end, is, head_symbol, first_pos, kind_of, symbol_of};
-ghost use Rattle.std.specs.Option.{option_map};
-ghost use Rattle.mit_parser.specs.Operators.{factor_of, addend_of, comparison_of, factor_op, addend_op, comparison_op};
+ghost use Rattle.mit_parser.specs.Operators.{op_at};
 ghost use Rattle.mit_parser.specs.Scope.{kept, labels_in, label_fault};
 ghost use Rattle.mit_parser.specs.Meaning.{label};
 ghost use Rattle.mit_parser.specs.Machine.{want, a_name, a_number};
@@ -14,7 +13,7 @@ ghost use Rattle.mit_parser.specs.Reads.{Passed, Over, Refused, Found, Took, Too
 use crate::counts::{Counts, counted, is_over};
 use crate::fault::ParseFault;
 use crate::names::label_use;
-use crate::operators::{addend_op, comparison_op, factor_op};
+use crate::operators::op_at;
 use label_lattice::label::Label;
 use label_lattice::lattice::Lattice;
 use label_lattice::name::Name;
@@ -137,25 +136,11 @@ impl<'a> Parser<'a> {
         Ok(mark)
     }
 
-    /// The operator of a factor that the first token is.
-    pub fn factor_op(&self) -> Option<Op>
-        ensures { result ≡ option_map factor_op (factor_of (head_symbol self.now.words)) }
+    /// The operator of a rank (1, 2 or 3) that the first token is.
+    pub fn op_at(&self, rank: u32) -> Option<Op>
+        ensures { result ≡ op_at rank (head_symbol self.now.words) }
     {
-        factor_op(self.kind())
-    }
-
-    /// The operator of an addend that the first token is.
-    pub fn addend_op(&self) -> Option<Op>
-        ensures { result ≡ option_map addend_op (addend_of (head_symbol self.now.words)) }
-    {
-        addend_op(self.kind())
-    }
-
-    /// The operator of a comparison that the first token is.
-    pub fn comparison_op(&self) -> Option<Op>
-        ensures { result ≡ option_map comparison_op (comparison_of (head_symbol self.now.words)) }
-    {
-        comparison_op(self.kind())
+        op_at(rank, self.kind())
     }
 
     /// Keeps a fault of names, unless there is one already.

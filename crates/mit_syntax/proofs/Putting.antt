@@ -8,8 +8,8 @@ use Rattle.mit_syntax.specs.declared.token.Sign.TheVariants.{LeftRound, RightRou
 use Rattle.mit_syntax.specs.Chunks.{Chunk, text}
 use Rattle.mit_syntax.specs.Declarations.{Declaration, cell_at}
 use Rattle.mit_syntax.specs.Expression.{Expression, Binary, Element}
-use Rattle.mit_syntax.specs.Ranks.{rank, left_need, right_need}
-use Rattle.mit_syntax.specs.Layout.{Puts, a_sign, a_name, a_space, indent, new_line, separator, spaced, op_sign, in_round, expression_part}
+use Rattle.mit_syntax.specs.Operators.{op_sign, rank, left_need, right_need}
+use Rattle.mit_syntax.specs.Layout.{Puts, a_sign, a_name, a_space, indent, new_line, separator, spaced, in_round, expression_part}
 
 pub puts_then : {a b c : List ℕ} {f g : List Chunk → List Chunk} → Puts a b f → Puts b c g → Puts a c (λ q. f (g q))
 puts_then {g} h k = record { is = λ q. k.is q ∙ h.is (g q) }

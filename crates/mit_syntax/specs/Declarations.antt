@@ -83,11 +83,12 @@ find_scalar ds w = scalar_in (declared ds w)
 abbrev pub find_array : List Declaration → List ℕ → Option (ℕ × ℕ)
 find_array ds w = array_in (declared ds w)
 
--- the sum of the lengths of all arrays
+-- the length of an array; a scalar counts as 0
 abbrev pub length_in : Option ℕ → ℕ
 length_in None = 0
 length_in (Some n) = n
 
+-- the sum of the lengths of all arrays
 abbrev pub elements_in : List Declaration → ℕ
 elements_in [] = 0
 elements_in (d ∷ ds) = length_in d.1.length + elements_in ds

@@ -4,18 +4,15 @@ use Rattle.std.specs.Prelude.{◌≡◌, ℕ, pos, ◌+◌, ltb, Bool, true, fal
 use Rattle.std.proofs.Common.{zero, suc}
 use Rattle.label_lattice.specs.declared.label.Label.{Label}
 use Rattle.label_lattice.specs.Order.{Order, name_of}
-use Rattle.mit_syntax.specs.declared.ast.Op.{Op}
-use Rattle.mit_syntax.specs.declared.ast.Op.TheVariants.{Add, Sub, Mul, Div, Rem, Eq, Ne, Lt, Le, Gt, Ge}
 use Rattle.mit_syntax.specs.declared.token.Keyword.{Keyword}
 use Rattle.mit_syntax.specs.declared.token.Keyword.TheVariants.{Labels, Order as OrderKey, Var, Skip as SkipKey, If as IfKey, Then, Else, While as WhileKey}
 use Rattle.mit_syntax.specs.declared.token.Keyword.TheVariants.{Do, Mitigate as MitigateKey, Sleep as SleepKey}
 use Rattle.mit_syntax.specs.declared.token.Sign.{Sign}
 use Rattle.mit_syntax.specs.declared.token.Sign.TheVariants.{Assign as AssignSign, Colon, Semicolon, Comma, LeftRound, RightRound, LeftBrace, RightBrace}
-use Rattle.mit_syntax.specs.declared.token.Sign.TheVariants.{LeftSquare, RightSquare, At, Plus, Minus, Star, Slash, Percent, Equal, NotEqual, LessEqual, Less}
-use Rattle.mit_syntax.specs.declared.token.Sign.TheVariants.{GreaterEqual, Greater}
+use Rattle.mit_syntax.specs.declared.token.Sign.TheVariants.{LeftSquare, RightSquare, At, Less}
 use Rattle.mit_syntax.specs.Chunks.{Word, Chunk, space, line, word, key, sign, number, name, text}
 use Rattle.mit_syntax.specs.Expression.{Expression, Number, Variable, Binary, Element}
-use Rattle.mit_syntax.specs.Ranks.{rank, left_need, right_need}
+use Rattle.mit_syntax.specs.Operators.{op_sign, rank, left_need, right_need}
 use Rattle.mit_syntax.specs.Todo.{Done, Skip, Assign, Put, Sleep, If, While, Mitigate}
 use Rattle.mit_syntax.specs.Plan.{Plan}
 use Rattle.mit_syntax.specs.Declarations.{Declaration, cell_at}
@@ -58,19 +55,6 @@ spaced_key k q = space ∷ a_key k (space ∷ q)
 
 abbrev pub a_comma : Part
 a_comma q = a_sign Comma (space ∷ q)
-
-abbrev pub op_sign : Op → Sign
-op_sign Add = Plus
-op_sign Sub = Minus
-op_sign Mul = Star
-op_sign Div = Slash
-op_sign Rem = Percent
-op_sign Eq = Equal
-op_sign Ne = NotEqual
-op_sign Lt = Less
-op_sign Le = LessEqual
-op_sign Gt = Greater
-op_sign Ge = GreaterEqual
 
 abbrev pub in_round : Bool → Part → Part
 in_round true f q = a_sign LeftRound (f (a_sign RightRound q))

@@ -6,7 +6,7 @@ pub mod PlanCode
 pub mod Declarations
 pub mod Firsts
 pub mod Program
-pub mod Ranks
+pub mod Operators
 pub mod Limits
 pub mod Valid
 pub mod Kept
@@ -17,4 +17,3 @@ pub mod Printable
 pub mod Lexemes
 pub mod Cut
 pub mod TokenSteps
-pub mod MarkOrder

@@ -2,7 +2,7 @@
 -- a whole expression has at most 256 operators. The brackets are `(`, `{` and the `[` of an index.
 use Rattle.std.specs.Prelude.{ℕ, ◌+◌, ◌<◌, ◌≤◌, cond, ltb, max}
 use Rattle.mit_syntax.specs.Expression.{Expression, Number, Variable, Binary, Element}
-use Rattle.mit_syntax.specs.Ranks.{rank, left_need, right_need}
+use Rattle.mit_syntax.specs.Operators.{rank, left_need, right_need}
 use Rattle.mit_syntax.specs.Todo.{Done, Skip, Assign, Put, Sleep, If, While, Mitigate}
 use Rattle.mit_syntax.specs.Plan.{Plan}
 

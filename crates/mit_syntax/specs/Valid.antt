@@ -6,7 +6,7 @@ use Rattle.label_lattice.specs.Order.{IsOrder, lattice_of, AllDiffer}
 use Rattle.label_lattice.specs.Names.{IsName}
 use Rattle.label_lattice.specs.Chains.{Chain, AreBelow}
 use Rattle.mit_syntax.specs.Expression.{Expression, Number, Variable, Binary, Element}
-use Rattle.mit_syntax.specs.Todo.{Done, Skip, Assign, Put, Sleep, If, While, Mitigate}
+use Rattle.mit_syntax.specs.Todo.{Todo, Done, Skip, Assign, Put, Sleep, If, While, Mitigate}
 use Rattle.mit_syntax.specs.Plan.{Plan, count, mitigates}
 use Rattle.mit_syntax.specs.Declarations.{Declaration, AreFew, find_scalar, find_array}
 use Rattle.mit_syntax.specs.Limits.{AreSmall}
@@ -68,7 +68,7 @@ AreKnown n ds (While m e c r) = AreMarksBelow n m.labels × IsKnown ds e × AreS
 AreKnown n ds (Mitigate m k l e c r) = AreMarksBelow n m.labels × IsBelow n l × IsKnown ds e × AreSome c × AreKnown n ds c × AreKnown n ds r
 
 -- the mitigates have the numbers from k on, in the order of the text
-abbrev pub AreNumbered : ℕ → Plan → Type 0
+abbrev pub AreNumbered : {M L : Type 0} → ℕ → Todo M L → Type 0
 AreNumbered k Done = Unit {0}
 AreNumbered k (Skip m r) = AreNumbered k r
 AreNumbered k (Assign m x e r) = AreNumbered k r

@@ -7,6 +7,7 @@ pub mod declarations;
 pub mod fault;
 mod lexeme;
 pub mod limits;
+pub mod operators;
 pub mod print;
 pub mod program;
 #[cfg(test)]

@@ -1,28 +1,54 @@
--- What holds of any command.
-use Rattle.std.proofs.Common.{◌≡◌, [], Option, Some, None, inl, refl, sym, subst}
-use Rattle.std.specs.Prelude.{IfSome}
-use Rattle.tool_words.specs.WordsAsked.{Asked, check, infer, compile, run, meaning, audit, gen, cut, blackbox, certify, recheck}
+-- What holds of a call by the command that its words ask for.
+use Rattle.std.proofs.Common.{◌≡◌, ◌⊎◌, List, ℕ, Option, Some, None, sym, subst}
+use Rattle.std.specs.Prelude.{IfSome, IsTrue}
+use Rattle.tool_words.specs.WordsAsked.{Asked, IsInRange}
+use Rattle.tool_texts.specs.declared.status.Status.{Status}
+use Rattle.tool_texts.specs.declared.status.Status.TheVariants as status
+use Rattle.tool_texts.specs.Ends.{EndsBy}
 use Rattle.tool_stages.specs.Content.{Content}
-use Rattle.mit_tool.specs.Answers.{Before}
+use Rattle.tool_stages.specs.Accepted.{IsAccepted, SpelledAreSound, TypedAreSound, is_past_typing}
+use Rattle.mit_tool.specs.Commands.{files_of, IsAnswer, Before, typed_content, HeldIsSound}
+use Rattle.mit_tool.specs.Complete.{NoneRises, CanBeDone}
+use Rattle.mit_tool.specs.Held.{Held, told_all, HoldsTold, AreReadAlike}
+use Rattle.tool_texts.proofs.EndLemmas.{ends_done}
+use Rattle.mit_tool.proofs.PastLemmas.{ended_past}
+use Rattle.mit_tool.proofs.OneHeld.{ends_some}
+use Rattle.mit_tool.proofs.CommandLemmas.{answer_past, held_past, answer_held, before_held, answers_done}
 
 pub any_some : {A : Type 0} (o : Option A) (P : A → Type 0) → ((a : A) → P a) → IfSome o P
 any_some None P f = tt
 any_some (Some a) P f = f a
 
--- nothing may stand before the line for memory
-pub nothing_before : (content : Content) (a : Asked) → Before content a []
-nothing_before content (check file) = refl
-nothing_before content (infer file) = refl
-nothing_before content (compile file) = refl
-nothing_before content (run file starts e budget observer) = refl
-nothing_before content (meaning file starts n) = inl refl
-nothing_before content (audit file starts observer e budget) = refl
-nothing_before content (gen size number) = refl
-nothing_before content (cut file starts observer e budget) = refl
-nothing_before content (blackbox ready first budget) = refl
-nothing_before content (certify file) = refl
-nothing_before content (recheck file certificate) = refl
-
 -- what holds of the command that the words ask for
 pub asked_some : {A : Type 0} (o : Option A) (a : A) (P : A → Type 0) → o ≡ Some a → P a → IfSome o P
 asked_some {A} o a P e h = subst (λ (z : Option A). IfSome z P) (sym e) h
+
+-- ---- how a call ended
+
+-- a call that ended past the typing
+pub ends_past : SpelledAreSound → (Rises : List ℕ → Type 0) (content : Content) (a : Asked) (old new : Option (List ℕ)) (Earlier : List ℕ → Type 0) (s : Status)
+    → EndsBy old new Earlier (IsAnswer Rises content a) s → IsTrue (is_past_typing s) → IfSome (typed_content content a) IsAccepted
+ends_past sound Rises content a old new Earlier s h past =
+    ended_past old new Earlier (IsAnswer Rises content a) (IfSome (typed_content content a) IsAccepted)
+    (λ s t late x. answer_past sound Rises content s t late a x) s h past
+
+pub ends_rechecked : TypedAreSound → (Rises : List ℕ → Type 0) (content : Content) (a : Asked) (old new : Option (List ℕ)) (Earlier : List ℕ → Type 0)
+    (s : Status) → EndsBy old new Earlier (IsAnswer Rises content a) s → IsTrue (is_past_typing s) → HeldIsSound content a
+ends_rechecked sound Rises content a old new Earlier s h past =
+    ended_past old new Earlier (IsAnswer Rises content a) (HeldIsSound content a) (λ s t late x. held_past sound Rises content a s t late x) s h past
+
+-- a call that ended with an answer ended with one by what the files hold
+pub ends_held : (Rises : List ℕ → Type 0) (content : Content) (a : Asked) (old new : Option (List ℕ)) (s : Status) → AreReadAlike content (files_of a)
+    → EndsBy old new (Before content a) (IsAnswer Rises content a) s
+    → (held : Held) × HoldsTold content held × EndsBy old new (Before (told_all held) a) (IsAnswer Rises (told_all held) a) s
+ends_held Rises content a old new s alike =
+    ends_some (HoldsTold content) (Before content a) (λ held. Before (told_all held) a) (IsAnswer Rises content a) (λ held. IsAnswer Rises (told_all held) a)
+    (λ b. before_held content a b alike) (λ s t. answer_held Rises content s t a alike) old new s
+
+-- a command that can be done is done
+pub completes : (old new : Option (List ℕ)) (Rises : List ℕ → Type 0) (content : Content) (a : Asked) (r : Status) (Rose : Type 0)
+    → EndsBy old new (Before content a) (IsAnswer Rises content a) r → (r ≡ status.WriteFault → Rose)
+    → IsInRange a → CanBeDone content a → NoneRises Rises a → (Rose → ⊥) → (r ≡ status.Done) ⊎ (r ≡ status.Memory)
+completes old new Rises content a r Rose ends write range can none n =
+    ends_done old new (Before content a) (IsAnswer Rises content a) r ends (λ e. n (write e))
+    (λ t h. answers_done Rises content r t a range none can.known can.goes h)

@@ -1,5 +1,5 @@
 -- Counts are within their bounds.
-use Rattle.std.proofs.Common.{◌<◌, ◌≤◌, ℕ, ◌^◌, Bool, List, [], ◌∷◌, sym, subst}
+use Rattle.std.proofs.Common.{◌<◌, ◌≤◌, ℕ, Bool, List, [], ◌∷◌, sym, subst}
 use Rattle.std.specs.List.{AllZip}
 use Rattle.mit_syntax.specs.Program.{Syntax}
 use Rattle.timing_types.specs.Labelled.{LabelledProgram}
@@ -14,25 +14,23 @@ use Rattle.black_box.specs.Bound.{box_bound}
 use Rattle.black_box.proofs.Gathered.{cycles_test}
 use Rattle.history_bound.specs.Over.{AnyHistory, history_made}
 use Rattle.tool_words.specs.declared.words.EnvName.{EnvName}
-use Rattle.tool_words.specs.declared.words.EnvName.TheVariants.{Part}
-use Rattle.tool_words.specs.WordsAsked.{Asked, check, infer, compile, run, meaning, audit, gen, cut, blackbox, certify, recheck}
 use Rattle.tool_stages.specs.Stages.{Types}
 use Rattle.tool_stages.specs.Envs.{environment}
 use Rattle.tool_texts.specs.Reports.{all_released}
 use Rattle.tool_stages.specs.Accepted.{SpelledAreSound}
-use Rattle.mit_tool.specs.Bounded.{AuditsAreWithin, CutsAreWithin, ReleasesAreWithin, AreWithin}
+use Rattle.mit_tool.specs.Bounded.{AuditsAreWithin, CutsAreWithin, ReleasesAreWithin}
 
 -- an observer of the program is one of the labelled program
 below : (p : Syntax) (q : LabelledProgram) (o : ℕ) → Types p q → o < p.order.size → o < q.program.order.size
 below p q o types l = subst (λ (z : Syntax). o < z.order.size) (sym types.program) l
 
 module _ (sound : SpelledAreSound) where
-  audits_within : (e : EnvName) (t : ℕ) → AuditsAreWithin e t
+  pub audits_within : (e : EnvName) (t : ℕ) → AuditsAreWithin e t
   audits_within e t some words p q o ss r spelled types l is =
       report_within (environment e q.program.order) AnyHistory q o t (sound words p q spelled types e).halted (below p q o types l) some
       (starts_of history_made q.program.order ss) r is
 
-  cuts_within : (e : EnvName) (t : ℕ) → CutsAreWithin e t
+  pub cuts_within : (e : EnvName) (t : ℕ) → CutsAreWithin e t
   cuts_within e t some words p q o ss r spelled types l is =
       cut.report_within (environment e q.program.order) AnyHistory q o t (starts_of history_made q.program.order ss) (sound words p q spelled types e).cut
       (below p q o types l) some r is
@@ -49,19 +47,6 @@ schedules q t [] (w ∷ ws) h = h
 schedules q t (r ∷ rs) [] h = h
 schedules q t (r ∷ rs) (w ∷ ws) h = (h.0.schedule, schedules q t rs ws h.1)
 
-releases_within : FewLists → (first t : ℕ) → ReleasesAreWithin first t
+pub releases_within : FewLists → (first t : ℕ) → ReleasesAreWithin first t
 releases_within few first t some more runs outcomes is =
     few first t some more runs (all_released outcomes) (schedules first t runs outcomes is) same_cycles cycles_test
-
-pub within : SpelledAreSound → FewLists → (a : Asked) → AreWithin a
-within sound few (check file) = tt
-within sound few (infer file) = tt
-within sound few (compile file) = tt
-within sound few (run file starts e budget observer) = tt
-within sound few (meaning file starts n) = tt
-within sound few (audit file starts observer e budget) = audits_within sound e budget
-within sound few (gen size number) = audits_within sound Part (2 ^ 40)
-within sound few (cut file starts observer e budget) = cuts_within sound e budget
-within sound few (blackbox file first budget) = releases_within few first budget
-within sound few (certify file) = tt
-within sound few (recheck file certificate) = tt

@@ -4,8 +4,7 @@ use Rattle.tim_base.specs.Told.{limit, IsTold}
 use Rattle.tool_words.specs.WordsAsked.{certify, recheck}
 use Rattle.tool_texts.specs.declared.status.Status.TheVariants as status
 use Rattle.tool_stages.specs.Content.{Content}
-use Rattle.mit_tool.specs.Answers.{IsAnswer}
-use Rattle.mit_tool.specs.Complete.{CanGoOn}
+use Rattle.mit_tool.specs.Commands.{IsAnswer, CanGoOn}
 
 pub taken : (Rises : List ℕ → Type 0) (content : Content) (file certificate t : List ℕ) → IsAnswer Rises content (certify file) status.Done t
     → IsTold (content certificate) t → length t ≤ limit

@@ -1,7 +1,6 @@
 pub mod StopLemmas
 pub mod RunLemmas
 pub mod WalkLemmas
-pub mod AskedLemmas
 pub mod PrepareLemmas
 pub mod AuditLemmas
 pub mod BoxLemmas
@@ -17,3 +16,5 @@ pub mod OneHeld
 pub mod PastLemmas
 pub mod BoundLemmas
 pub mod LoggedLemmas
+pub mod CommandLemmas
+pub mod AskedLemmas

@@ -16,7 +16,6 @@ use Rattle.tool_texts.specs.Texts.{value_line}
 use Rattle.tool_texts.specs.Reports.{made_lines}
 use Rattle.tool_words.specs.declared.words.EnvName.{EnvName}
 use Rattle.tool_words.specs.declared.words.EnvName.TheVariants.{Part}
-use Rattle.tool_words.specs.WordsAsked.{Asked, check, infer, compile, run, meaning, audit, gen, cut, blackbox, certify, recheck}
 use Rattle.label_lattice.specs.declared.label.Label.{Label}
 use Rattle.mit_syntax.specs.Plan.{count}
 use Rattle.mit_syntax.specs.Program.{plan_of}
@@ -31,7 +30,7 @@ use Rattle.tool_stages.specs.Begins.{RunStops, MeaningStops}
 use Rattle.tool_stages.specs.Content.{Content}
 use Rattle.tool_stages.specs.Fetches.{HasFetched}
 use Rattle.tool_stages.proofs.FetchLemmas.{fetched_nothing, never_read}
-use Rattle.mit_tool.specs.Logged.{HasWritten, AreLines, IsRunLine, IsMeaningLine, SentLines, BrokenLines, ArePieces}
+use Rattle.mit_tool.specs.Logged.{HasWritten, AreLines, IsRunLine, IsMeaningLine, SentLines, BrokenLines}
 
 -- ---- pieces
 
@@ -176,20 +175,6 @@ pub told_nothing : (Stops : Status → List ℕ → Type 0) (old : Option (List 
 told_nothing Stops old (Ok v) r n h is = fetched_nothing [] old r (never_read status.Done r (λ e. absurd cc) is)
 told_nothing Stops old (Err e) r n h is = fetched_nothing [] old r (never_read (status_of e) r (never_stops Stops status.ReadFault e n h) is)
 
-pub memory_pieces : (a : Option Asked) (text : List ℕ) → ArePieces a status.Memory (text ∷ [])
-memory_pieces None text = (text, refl)
-memory_pieces (Some (check f)) text = (text, refl)
-memory_pieces (Some (infer f)) text = (text, refl)
-memory_pieces (Some (compile f)) text = (text, refl)
-memory_pieces (Some (run f s e n o)) text = inr ((λ x. absurd cc), (λ x. absurd cc), [], text, refl, All-nil IsRunLine)
-memory_pieces (Some (meaning f s n)) text = inr ((λ x. absurd cc), (λ x. absurd cc), [], text, refl, All-nil IsMeaningLine)
-memory_pieces (Some (audit f s o e n)) text = (text, refl)
-memory_pieces (Some (gen s n)) text = (text, refl)
-memory_pieces (Some (cut f s o e n)) text = (text, refl)
-memory_pieces (Some (blackbox f q n)) text = (text, refl)
-memory_pieces (Some (certify f)) text = (text, refl)
-memory_pieces (Some (recheck f k)) text = (text, refl)
-
 -- ---- no audit is a read fault
 
 pub audited_no_read : (e : EnvName) (n : ℕ) (q : LabelledProgram) (o : Option Label) (ss : List StartValue) (before t : List ℕ)
@@ -203,13 +188,13 @@ cut_no_read e n q None ss t h = h
 cut_no_read e n q (Some l) ss t (inl h) = h
 cut_no_read e n q (Some l) ss t (inr (r, is, h)) = cc (h.0)
 
-pub gen_no_read : (size number : ℕ) (t : List ℕ) → HasGenerated size number status.ReadFault t → ⊥
-gen_no_read size number t (inl h) = h.0
-gen_no_read size number t (inr (p, reads, inl h)) = h
-gen_no_read size number t (inr (p, reads, inr (o, observes, inl h))) = h
-gen_no_read size number t (inr (p, reads, inr (o, observes, inr (q, types, inl h)))) = h
-gen_no_read size number t (inr (p, reads, inr (o, observes, inr (q, types, inr (code, image, inl h))))) = h.0
-gen_no_read size number t (inr (p, reads, inr (o, observes, inr (q, types, inr (code, image, inr (ss, starts, h)))))) =
+pub made_no_read : (size number : ℕ) (t : List ℕ) → HasGenerated size number status.ReadFault t → ⊥
+made_no_read size number t (inl h) = h.0
+made_no_read size number t (inr (p, reads, inl h)) = h
+made_no_read size number t (inr (p, reads, inr (o, observes, inl h))) = h
+made_no_read size number t (inr (p, reads, inr (o, observes, inr (q, types, inl h)))) = h
+made_no_read size number t (inr (p, reads, inr (o, observes, inr (q, types, inr (code, image, inl h))))) = h.0
+made_no_read size number t (inr (p, reads, inr (o, observes, inr (q, types, inr (code, image, inr (ss, starts, h)))))) =
     audited_no_read Part (2 ^ 40) q o ss (made_lines size number (count (plan_of p)) (length code.instrs)) t h
 
 -- ---- the lines of a meaning

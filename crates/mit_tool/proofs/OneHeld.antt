@@ -1,5 +1,5 @@
--- Where a shelf does not tell what files hold, the answer to a command is one by some bytes that they hold.
-use Rattle.std.proofs.Common.{◌≡◌, ℕ, List, [], ◌∷◌, Option, Some, None, Bool, true, false, cond, inl, inr, refl, sym, ap, subst, ◌∙◌}
+-- Where a shelf does not tell what files hold, stages answer as by some bytes that they hold.
+use Rattle.std.proofs.Common.{◌≡◌, ℕ, List, ◌∷◌, Option, Some, None, Bool, true, false, cond, refl, sym, ap, subst, ◌∙◌}
 use Rattle.std.specs.Prelude.{IsSome, bytes_eq}
 use Rattle.std.proofs.lemmas.Bool.{cond-true, cond-false}
 use Rattle.std.proofs.lemmas.Slice.Eq.{bytes_eq-Decides}
@@ -10,16 +10,11 @@ use Rattle.label_code.specs.Shaped.{Code}
 use Rattle.start_file.specs.Starts.{StartValue}
 use Rattle.tool_texts.specs.declared.status.Status.{Status}
 use Rattle.tool_texts.specs.declared.status.Status.TheVariants as status
-use Rattle.tool_words.specs.WordsAsked.{Asked, check, infer, compile, run, meaning, audit, gen, cut, blackbox, certify, recheck}
 use Rattle.tool_stages.specs.Stages.{Then, Reads, ProgramStops, Observes, ObserverStops, Types, TypeStops, HasImage, ImageStops, StartsAre, StartStops}
 use Rattle.tool_stages.specs.Stages.{FirstStart, FirstStops, ReadyStops, HoldsRuns, CertificateStops, Rechecks}
-use Rattle.mit_tool.specs.Audited.{HasAudited, HasCut, HasReleased}
-use Rattle.mit_tool.specs.Means.{HasMeant}
 use Rattle.tool_texts.specs.Ends.{Tells, EndsBy}
-use Rattle.mit_tool.specs.Answers.{HasChecked, HasInferred, HasListed, HasRun, HasCertified, HasRechecked, IsAnswer, HasBegun, Before}
-use Rattle.mit_tool.specs.Complete.{files_of}
-use Rattle.mit_tool.specs.Held.{Held, told_all, HoldsTold, AreReadAlike}
-use Rattle.mit_tool.proofs.HeldLemmas.{Fits, held_of, fits_held, reads_held, starts_held, runs_held, program_stop_held, ready_stop_held, then_held}
+use Rattle.mit_tool.specs.Held.{Held, told_all, HoldsTold}
+use Rattle.mit_tool.proofs.HeldLemmas.{Fits, held_of, fits_held, reads_held, runs_held, program_stop_held, ready_stop_held, then_held}
 use Rattle.mit_tool.proofs.HeldLemmas.{then_later, compiles_later, starts_then_held, first_then_held, certificate_then_held, held_with}
 use Rattle.tool_stages.specs.Content.{Content}
 
@@ -70,13 +65,13 @@ module _ (content : Content) (file : List ℕ) (h : Option (List ℕ)) (other : 
             cond-false (bytes_eq name file) h (cond (bytes_eq name other) k (held_of (content name))) e ∙ or_other (bytes_eq name other) refl
 
 -- what is so of the bytes of one file is so of a content
-one_file : (content : Content) (file : List ℕ) (P : Option (Option (List ℕ)) → Type 0) → (h : Option (List ℕ)) × Fits (content file) h × P (Some h)
+pub one_file : (content : Content) (file : List ℕ) (P : Option (Option (List ℕ)) → Type 0) → (h : Option (List ℕ)) × Fits (content file) h × P (Some h)
     → (held : Held) × HoldsTold content held × P (told_all held file)
 one_file content file P (h, fits, is) =
     (held_with content file h file h, all_held content file h file h fits fits, subst (λ z. P (Some z)) (sym (first_held content file h file h)) is)
 
 -- and of two
-two_files : (content : Content) (file other : List ℕ) (P : Option (Option (List ℕ)) → Option (Option (List ℕ)) → Type 0) (h k : Option (List ℕ))
+pub two_files : (content : Content) (file other : List ℕ) (P : Option (Option (List ℕ)) → Option (Option (List ℕ)) → Type 0) (h k : Option (List ℕ))
     → Fits (content file) h → Fits (content other) k → (file ≡ other → IsSome (content file)) → P (Some h) (Some k)
     → (held : Held) × HoldsTold content held × P (told_all held file) (told_all held other)
 two_files content file other P h k fits fits' alike is = (
@@ -113,11 +108,33 @@ compiles_then_held R c observer Next s t =
     program_then_held R c (λ p. Then (ObserverStops p.order observer) (Observes p.order observer)
     (λ o. Then (TypeStops p) (Types p) (λ q. Then (ImageStops q) (HasImage q) (λ code. Next p q o code)))) s t
 
--- ---- the answer to a command
+-- ---- stages over what the files hold
 
 module _ (Rises : List ℕ → Type 0) (content : Content) (s : Status) (t : List ℕ) where
+  -- with one file
+  pub program_answer : (file : List ℕ) (Next : Syntax → Status → List ℕ → Type 0)
+      → Then (ProgramStops (Rises file) (content file)) (Reads (content file)) Next s t
+      → (held : Held) × HoldsTold content held
+      × Then (ProgramStops (Rises file) (told_all held file)) (Reads (told_all held file)) Next s t
+  program_answer file Next x =
+      one_file content file (λ c. Then (ProgramStops (Rises file) c) (Reads c) Next s t) (program_then_held (Rises file) (content file) Next s t x)
+
+  pub compiled_answer : (file : List ℕ) (observer : Option (List ℕ)) (Next : Syntax → LabelledProgram → Option Label → Code → Status → List ℕ → Type 0)
+      → CompilesFrom (Rises file) (content file) observer Next s t
+      → (held : Held) × HoldsTold content held × CompilesFrom (Rises file) (told_all held file) observer Next s t
+  compiled_answer file observer Next x =
+      one_file content file (λ c. CompilesFrom (Rises file) c observer Next s t) (compiles_then_held (Rises file) (content file) observer Next s t x)
+
+  pub ready_answer : (file : List ℕ) (Next : List (List ℕ) → Status → List ℕ → Type 0)
+      → Then (ReadyStops (Rises file) (content file)) (HoldsRuns (content file)) Next s t
+      → (held : Held) × HoldsTold content held
+      × Then (ReadyStops (Rises file) (told_all held file)) (HoldsRuns (told_all held file)) Next s t
+  ready_answer file Next x =
+      one_file content file (λ c. Then (ReadyStops (Rises file) c) (HoldsRuns c) Next s t)
+      (ready_then_held (Rises file) (content file) Next s t x)
+
   -- with the starts of a second file
-  starts_answer : (file observer starts : List ℕ) (Next : Syntax → LabelledProgram → Option Label → Code → List StartValue → Status → List ℕ → Type 0)
+  pub starts_answer : (file observer starts : List ℕ) (Next : Syntax → LabelledProgram → Option Label → Code → List StartValue → Status → List ℕ → Type 0)
       → (file ≡ starts → IsSome (content file))
       → CompilesFrom (Rises file) (content file) (Some observer)
       (λ p q o code. Then (StartStops (Rises starts) (content starts) p) (StartsAre (content starts) p) (λ ss. Next p q o code ss)) s t
@@ -136,7 +153,7 @@ module _ (Rises : List ℕ → Type 0) (content : Content) (s : Status) (t : Lis
       first.0 later.0 first.1 later.1 alike first.2
 
   -- with the first start of a second file
-  first_answer : (file starts : List ℕ) (observer : Option (List ℕ))
+  pub first_answer : (file starts : List ℕ) (observer : Option (List ℕ))
       (Next : Syntax → LabelledProgram → Option Label → Code → StartValue → Status → List ℕ → Type 0)
       → (file ≡ starts → IsSome (content file))
       → CompilesFrom (Rises file) (content file) observer (λ p q o code. Then (FirstStops Rises content (Some starts) p) (FirstStart content (Some starts) p)
@@ -161,7 +178,7 @@ module _ (Rises : List ℕ → Type 0) (content : Content) (s : Status) (t : Lis
       first.0 later.0 first.1 later.1 alike first.2
 
   -- the same of a run without its time
-  meant_answer : (file starts : List ℕ) (Next : Syntax → StartValue → Status → List ℕ → Type 0)
+  pub meant_answer : (file starts : List ℕ) (Next : Syntax → StartValue → Status → List ℕ → Type 0)
       → (file ≡ starts → IsSome (content file))
       → Then (ProgramStops (Rises file) (content file)) (Reads (content file))
       (λ p. Then (FirstStops Rises content (Some starts) p) (FirstStart content (Some starts) p) (λ start. Next p start)) s t
@@ -183,7 +200,7 @@ module _ (Rises : List ℕ → Type 0) (content : Content) (s : Status) (t : Lis
       first.0 later.0 first.1 later.1 alike first.2
 
   -- with the certificate of a second file
-  certified_answer : (file certificate : List ℕ) (Next : Syntax → LabelledProgram → Status → List ℕ → Type 0)
+  pub certified_answer : (file certificate : List ℕ) (Next : Syntax → LabelledProgram → Status → List ℕ → Type 0)
       → (file ≡ certificate → IsSome (content file))
       → Then (ProgramStops (Rises file) (content file)) (Reads (content file))
       (λ p. Then (CertificateStops (Rises certificate) (content certificate) p) (Rechecks (content certificate) p) (λ q. Next p q)) s t
@@ -200,87 +217,6 @@ module _ (Rises : List ℕ → Type 0) (content : Content) (s : Status) (t : Lis
       two_files content file certificate
       (λ c d. Then (ProgramStops (Rises file) c) (Reads c) (λ p. Then (CertificateStops (Rises certificate) d p) (Rechecks d p) (λ q. Next p q)) s t)
       first.0 later.0 first.1 later.1 alike first.2
-
-  -- the answer is one by what the files hold
-  pub answer_held : (a : Asked) → AreReadAlike content (files_of a) → IsAnswer Rises content a s t → (held : Held) × HoldsTold content held
-      × IsAnswer Rises (told_all held) a s t
-  answer_held (check file) alike x =
-      let Next : Syntax → Status → List ℕ → Type 0 = λ p. Then (TypeStops p) (Types p) (λ q. HasChecked p) in
-      one_file content file (λ c. Then (ProgramStops (Rises file) c) (Reads c) Next s t) (program_then_held (Rises file) (content file) Next s t x)
-  answer_held (infer file) alike x =
-      let Next : Syntax → Status → List ℕ → Type 0 = λ p. Then (TypeStops p) (Types p) (λ q. HasInferred q) in
-      one_file content file (λ c. Then (ProgramStops (Rises file) c) (Reads c) Next s t) (program_then_held (Rises file) (content file) Next s t x)
-  answer_held (compile file) alike x =
-      one_file content file (λ c. CompilesFrom (Rises file) c None (λ p q o code. HasListed q code) s t)
-      (compiles_then_held (Rises file) (content file) None (λ p q o code. HasListed q code) s t x)
-  answer_held (run file None e budget observer) alike x =
-      let Next : Syntax → LabelledProgram → Option Label → Code → Status → List ℕ → Type 0 =
-      λ p q o code. Then (FirstStops Rises content None p) (FirstStart content None p) (λ start. HasRun e budget q o code start) in
-      one_file content file (λ c. CompilesFrom (Rises file) c observer Next s t) (compiles_then_held (Rises file) (content file) observer Next s t x)
-  answer_held (run file (Some starts) e budget observer) alike x =
-      first_answer file starts observer (λ p q o code start. HasRun e budget q o code start) alike x
-  answer_held (meaning file None n) alike x =
-      let Next : Syntax → Status → List ℕ → Type 0 = λ p. Then (FirstStops Rises content None p) (FirstStart content None p) (λ start. HasMeant p start n) in
-      one_file content file (λ c. Then (ProgramStops (Rises file) c) (Reads c) Next s t) (program_then_held (Rises file) (content file) Next s t x)
-  answer_held (meaning file (Some starts) n) alike x = meant_answer file starts (λ p start. HasMeant p start n) alike x
-  answer_held (audit file starts observer e budget) alike x =
-      starts_answer file observer starts (λ p q o code ss. HasAudited e budget q o ss []) alike x
-  answer_held (gen size number) alike x = (λ name. held_of (content name), λ name. fits_held (content name), x)
-  answer_held (cut file starts observer e budget) alike x =
-      starts_answer file observer starts (λ p q o code ss. HasCut e budget q o ss) alike x
-  answer_held (blackbox file first budget) alike x =
-      one_file content file (λ c. Then (ReadyStops (Rises file) c) (HoldsRuns c) (λ runs. HasReleased first budget runs) s t)
-      (ready_then_held (Rises file) (content file) (λ runs. HasReleased first budget runs) s t x)
-  answer_held (certify file) alike x =
-      let Next : Syntax → Status → List ℕ → Type 0 = λ p. Then (TypeStops p) (Types p) (λ q. HasCertified q) in
-      one_file content file (λ c. Then (ProgramStops (Rises file) c) (Reads c) Next s t) (program_then_held (Rises file) (content file) Next s t x)
-  answer_held (recheck file certificate) alike x = certified_answer file certificate (λ p q. HasRechecked p) alike x
-
--- ---- what stands before the line for memory
-
-begun_held : (content : Content) (file : List ℕ) (starts : Option (List ℕ)) (n : ℕ) (b : List ℕ) → AreReadAlike content (files_of (meaning file starts n))
-    → HasBegun content file starts n b
-    → (held : Held) × HoldsTold content held × HasBegun (told_all held) file starts n b
-begun_held content file None n b alike x =
-    let read = reads_held (content file) x.program x.reads in
-    let made = one_file content file (λ c. Reads c x.program) read in
-    (made.0, made.1, record { program = x.program; reads = made.2; start = x.start; first = x.first; steps = x.steps; within = x.within; lines = x.lines })
-begun_held content file (Some starts) n b alike x =
-    let read = reads_held (content file) x.program x.reads in
-    let first : FirstStart content (Some starts) x.program x.start = x.first in
-    let begin = starts_held (content starts) x.program (x.start ∷ first.0) first.1 in
-    let made = two_files content file starts (λ c d. Reads c x.program × StartsAre d x.program (x.start ∷ first.0)) read.0 begin.0 read.1 begin.1 alike (
-      read.2,
-      begin.2,
-    ) in (
-      made.0,
-      made.1,
-      record {
-        program = x.program;
-        reads = made.2.0;
-        start = x.start;
-        first = (first.0, made.2.1);
-        steps =
-            x.steps;
-        within = x.within;
-        lines = x.lines;
-      },
-    )
-
-before_held : (content : Content) (a : Asked) (b : List ℕ) → AreReadAlike content (files_of a) → Before content a b
-    → (held : Held) × HoldsTold content held × Before (told_all held) a b
-before_held content (check file) b alike x = (λ name. held_of (content name), λ name. fits_held (content name), x)
-before_held content (infer file) b alike x = (λ name. held_of (content name), λ name. fits_held (content name), x)
-before_held content (compile file) b alike x = (λ name. held_of (content name), λ name. fits_held (content name), x)
-before_held content (run file starts e budget observer) b alike x = (λ name. held_of (content name), λ name. fits_held (content name), x)
-before_held content (meaning file starts n) b alike (inl x) = (λ name. held_of (content name), λ name. fits_held (content name), inl x)
-before_held content (meaning file starts n) b alike (inr x) = let k = begun_held content file starts n b alike x in (k.0, k.1, inr k.2)
-before_held content (audit file starts observer e budget) b alike x = (λ name. held_of (content name), λ name. fits_held (content name), x)
-before_held content (gen size number) b alike x = (λ name. held_of (content name), λ name. fits_held (content name), x)
-before_held content (cut file starts observer e budget) b alike x = (λ name. held_of (content name), λ name. fits_held (content name), x)
-before_held content (blackbox file first budget) b alike x = (λ name. held_of (content name), λ name. fits_held (content name), x)
-before_held content (certify file) b alike x = (λ name. held_of (content name), λ name. fits_held (content name), x)
-before_held content (recheck file certificate) b alike x = (λ name. held_of (content name), λ name. fits_held (content name), x)
 
 -- ---- the end of a call
 
@@ -302,7 +238,7 @@ module _ {X : Type 0} (G : X → Type 0) (Earlier : List ℕ → Type 0) (Later 
   tells_some status.Rejected t h = g status.Rejected t h
   tells_some status.Memory t h = let k = f h.0 h.1 in (k.0, k.1, (h.0, k.2, h.2))
 
-  ends_some : (old new : Option (List ℕ)) (s : Status) → EndsBy old new Earlier A s → (x : X) × G x × EndsBy old new (Later x) (B x) s
+  pub ends_some : (old new : Option (List ℕ)) (s : Status) → EndsBy old new Earlier A s → (x : X) × G x × EndsBy old new (Later x) (B x) s
   ends_some old new status.Done h = let k = tells_some status.Done h.0 h.1 in (k.0, k.1, (h.0, k.2, h.2))
   ends_some old new status.Refused h = let k = tells_some status.Refused h.0 h.1 in (k.0, k.1, (h.0, k.2, h.2))
   ends_some old new status.Syntax h = let k = tells_some status.Syntax h.0 h.1 in (k.0, k.1, (h.0, k.2, h.2))
@@ -316,11 +252,3 @@ module _ {X : Type 0} (G : X → Type 0) (Earlier : List ℕ → Type 0) (Later 
   ends_some old new status.Unfinished h = let k = tells_some status.Unfinished h.0 h.1 in (k.0, k.1, (h.0, k.2, h.2))
   ends_some old new status.Memory h = let k = tells_some status.Memory h.0 h.1 in (k.0, k.1, (h.0, k.2, h.2))
   ends_some old new status.Rejected h = let k = tells_some status.Rejected h.0 h.1 in (k.0, k.1, (h.0, k.2, h.2))
-
--- a call that ended with an answer ended with one by what the files hold
-pub ends_held : (Rises : List ℕ → Type 0) (content : Content) (a : Asked) (old new : Option (List ℕ)) (s : Status) → AreReadAlike content (files_of a)
-    → EndsBy old new (Before content a) (IsAnswer Rises content a) s
-    → (held : Held) × HoldsTold content held × EndsBy old new (Before (told_all held) a) (IsAnswer Rises (told_all held) a) s
-ends_held Rises content a old new s alike =
-    ends_some (HoldsTold content) (Before content a) (λ held. Before (told_all held) a) (IsAnswer Rises content a) (λ held. IsAnswer Rises (told_all held) a)
-    (λ b. before_held content a b alike) (λ s t. answer_held Rises content s t a alike) old new s

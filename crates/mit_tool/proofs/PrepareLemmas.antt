@@ -15,9 +15,11 @@ use Rattle.tool_texts.specs.declared.status.Status.TheVariants as status
 use Rattle.tool_texts.specs.declared.stop.Stop.{Stop}
 use Rattle.tool_texts.specs.Ends.{IsStop, status_of, stop_text}
 use Rattle.tool_texts.specs.Reports.{made_lines}
+use Rattle.tool_stages.specs.Stages.{Then, FirstStops, FirstStart}
 use Rattle.tool_stages.specs.Content.{Content}
 use Rattle.tool_stages.specs.Begins.{NoMore, CompileStops, HasCompiled}
-use Rattle.mit_tool.specs.Answers.{HasListed, IsAnswer}
+use Rattle.mit_tool.specs.Answers.{HasListed, HasRun}
+use Rattle.mit_tool.specs.Commands.{IsAnswer}
 use Rattle.mit_tool.specs.Audited.{HasAudited, HasCut}
 use Rattle.tool_texts.proofs.EndLemmas.{broke_map}
 use Rattle.tool_stages.proofs.StopLemmas.{compiles_map, compiled_goes}
@@ -48,3 +50,9 @@ made_next size number p q o code ss = HasAudited Part (2 ^ 40) q o ss (made_line
 
 abbrev pub cut_next : EnvName → ℕ → Syntax → LabelledProgram → Option Label → Code → List StartValue → Status → List ℕ → Type 0
 cut_next e t p q o code ss = HasCut e t q o ss
+
+-- ---- a run
+
+abbrev pub run_next : (List ℕ → Type 0) → Content → Option (List ℕ) → EnvName → ℕ → Syntax → LabelledProgram → Option Label → Code → Status → List ℕ → Type 0
+run_next Rises content starts env budget p q o code =
+    Then (FirstStops Rises content starts p) (FirstStart content starts p) (λ start. HasRun env budget q o code start)

@@ -16,17 +16,15 @@ use Rattle.tool_texts.specs.declared.status.Status.TheVariants.{Done, WriteFault
 use Rattle.tool_texts.specs.declared.stop.Stop.{Stop}
 use Rattle.tool_texts.specs.Ends.{EndsBy, IsStop, status_of, stop_text}
 use Rattle.tool_texts.specs.Texts.{memory_line}
-use Rattle.tool_stages.specs.Stages.{Then, Reads, FirstStops, FirstStart, CertificateStops}
+use Rattle.tool_stages.specs.Stages.{Reads, FirstStops, FirstStart, CertificateStops}
 use Rattle.tool_stages.specs.Content.{Content}
 use Rattle.tool_stages.specs.Begins.{NoMore, RunStops, MeaningStops, HasSource, IsReady, CheckStops}
 use Rattle.mit_tool.specs.Means.{lines_after, IsLastLine, WritesSome, BreaksOff}
-use Rattle.mit_tool.specs.Answers.{HasBegun, HasRun, IsAnswer, Before}
+use Rattle.mit_tool.specs.Answers.{HasRun}
+use Rattle.mit_tool.specs.Commands.{IsAnswer, HasBegun, Before}
 use Rattle.tool_texts.proofs.EndLemmas.{broke_map, ends_after, prefix_longer}
 use Rattle.tool_stages.proofs.StopLemmas.{certificate_rise, compiled_goes, compiles_map, starts_next, then_map}
-
-abbrev run_next : (List ℕ → Type 0) → Content → Option (List ℕ) → EnvName → ℕ → Syntax → LabelledProgram → Option Label → Code → Status → List ℕ → Type 0
-run_next Rises content starts env budget p q o code =
-    Then (FirstStops Rises content starts p) (FirstStart content starts p) (λ start. HasRun env budget q o code start)
+use Rattle.mit_tool.proofs.PrepareLemmas.{run_next}
 
 -- the run has what its answer tells
 pub ready_tells : (Rises : List ℕ → Type 0) (content : Content) (file : List ℕ) (starts observer : Option (List ℕ)) (env : EnvName) (budget : ℕ)

@@ -1,5 +1,5 @@
--- The answer of the tool to words: its status and its text, from what the files are told to hold.
-use Rattle.std.specs.Prelude.{◌≡◌, ◌⊎◌, ◌≤◌, ◌^◌, ℕ, List, [], length, Option, Some, None, codes}
+-- What the answer to a command tells, after its stages: its status and its text.
+use Rattle.std.specs.Prelude.{◌≡◌, ◌^◌, ℕ, List, [], length, Option, Some, codes}
 use Rattle.label_lattice.specs.declared.label.Label.{Label}
 use Rattle.mit_syntax.specs.Plan.{count, mitigates}
 use Rattle.mit_syntax.specs.Program.{Syntax, plan_of}
@@ -17,18 +17,14 @@ use Rattle.event_print.specs.Text.{text_of}
 use Rattle.cycle_machine.specs.Rest.{Told}
 use Rattle.tool_words.specs.declared.words.EnvName.{EnvName}
 use Rattle.tool_words.specs.declared.words.EnvName.TheVariants.{Part}
-use Rattle.tool_words.specs.WordsAsked.{Asked, check, infer, compile, run, meaning, audit, gen, cut, blackbox, certify, recheck}
 use Rattle.tool_texts.specs.declared.status.Status.{Status}
 use Rattle.tool_texts.specs.declared.status.Status.TheVariants as status
 use Rattle.tool_texts.specs.Texts.{accepted_line, rechecked_line, usage_text}
 use Rattle.tool_texts.specs.Reports.{made_lines}
-use Rattle.tool_stages.specs.Stages.{Then, Reads, ProgramStops, Types, TypeStops, FirstStart, FirstStops, ReadyStops, HoldsRuns, CertificateStops, Rechecks}
 use Rattle.tool_stages.specs.Envs.{told_in}
-use Rattle.tool_stages.specs.Begins.{Compiles, Prepares}
+use Rattle.tool_stages.specs.Begins.{Prepares}
 use Rattle.tool_stages.specs.Content.{Content}
-use Rattle.tool_stages.specs.Accepted.{IsRechecked}
-use Rattle.mit_tool.specs.Audited.{HasAudited, HasCut, HasReleased}
-use Rattle.mit_tool.specs.Means.{lines_after, HasMeant}
+use Rattle.mit_tool.specs.Audited.{HasAudited}
 
 -- a program is accepted: how many commands and mitigates it has
 abbrev pub HasChecked : Syntax → Status → List ℕ → Type 0
@@ -76,79 +72,3 @@ abbrev pub HasGenerated : ℕ → ℕ → Status → List ℕ → Type 0
 HasGenerated size number =
     Prepares (λ name. ⊥) (made_content size number) [] (codes "L") ⊥ (Some (Some starts_text)) (λ p q o code ss.
     HasAudited Part (2 ^ 40) q o ss (made_lines size number (count (plan_of p)) (length code.instrs)))
-
--- The answer to a command, in the order of its refusals. `Rises` tells the names whose counts of faults rose.
-abbrev pub IsAnswer : (List ℕ → Type 0) → Content → Asked → Status → List ℕ → Type 0
-IsAnswer Rises content (check file) =
-    Then (ProgramStops (Rises file) (content file)) (Reads (content file)) (λ p.
-    Then (TypeStops p) (Types p) (λ q.
-    HasChecked p))
-IsAnswer Rises content (run file starts e budget observer) =
-    Compiles Rises content file observer (λ p q o code.
-    Then (FirstStops Rises content starts p) (FirstStart content starts p) (λ start.
-    HasRun e budget q o code start))
-IsAnswer Rises content (meaning file starts n) =
-    Then (ProgramStops (Rises file) (content file)) (Reads (content file)) (λ p.
-    Then (FirstStops Rises content starts p) (FirstStart content starts p) (λ start.
-    HasMeant p start n))
-IsAnswer Rises content (infer file) =
-    Then (ProgramStops (Rises file) (content file)) (Reads (content file)) (λ p.
-    Then (TypeStops p) (Types p) (λ q.
-    HasInferred q))
-IsAnswer Rises content (compile file) =
-    Compiles Rises content file None (λ p q o code.
-    HasListed q code)
-IsAnswer Rises content (audit file starts observer e budget) =
-    Prepares Rises content file observer (Rises starts) (content starts) (λ p q o code ss.
-    HasAudited e budget q o ss [])
-IsAnswer Rises content (cut file starts observer e budget) =
-    Prepares Rises content file observer (Rises starts) (content starts) (λ p q o code ss.
-    HasCut e budget q o ss)
-IsAnswer Rises content (gen size number) = HasGenerated size number
-IsAnswer Rises content (blackbox file first budget) =
-    Then (ReadyStops (Rises file) (content file)) (HoldsRuns (content file)) (λ runs.
-    HasReleased first budget runs)
-IsAnswer Rises content (certify file) =
-    Then (ProgramStops (Rises file) (content file)) (Reads (content file)) (λ p.
-    Then (TypeStops p) (Types p) (λ q.
-    HasCertified q))
-IsAnswer Rises content (recheck file certificate) =
-    Then (ProgramStops (Rises file) (content file)) (Reads (content file)) (λ p.
-    Then (CertificateStops (Rises certificate) (content certificate) p) (Rechecks (content certificate) p) (λ q.
-    HasRechecked p))
-
--- ---- where memory is wanting
-
--- the first k steps of a run without its time, at most n
-pub record HasBegun (content : Content) (file : List ℕ) (starts : Option (List ℕ)) (n : ℕ) (b : List ℕ) : Type 0 where
-  pub program : Syntax
-  pub reads : Reads (content file) program
-  pub start : StartValue
-  pub first : FirstStart content starts program start
-  pub steps : ℕ
-  pub within : steps ≤ n
-  pub lines : b ≡ lines_after program start.memory steps
-
--- what may stand before the line for memory: nothing, but for the lines of a run without its time
-abbrev pub Before : Content → Asked → List ℕ → Type 0
-Before content (meaning file starts n) b = (b ≡ []) ⊎ HasBegun content file starts n b
-Before content a b = b ≡ []
-
--- ---- the program of a command
-
--- what is told of the program that a command wants typed: of a file, or of the made program
-abbrev pub typed_content : Content → Asked → Option (Option (Option (List ℕ)))
-typed_content content (check file) = Some (content file)
-typed_content content (infer file) = Some (content file)
-typed_content content (compile file) = Some (content file)
-typed_content content (run file starts e budget observer) = Some (content file)
-typed_content content (audit file starts observer e budget) = Some (content file)
-typed_content content (cut file starts observer e budget) = Some (content file)
-typed_content content (gen size number) = Some (Some (Some (program_text size number)))
-typed_content content (certify file) = Some (content file)
-typed_content content a = None
-
--- the program is sound with the labelling that the certificate holds
-abbrev pub HeldIsSound : Content → Asked → Type 0
-HeldIsSound content (recheck file certificate) = IsRechecked (content file) (content certificate)
-HeldIsSound content a = Unit {0}

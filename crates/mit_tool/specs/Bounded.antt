@@ -13,8 +13,6 @@ use Rattle.cut_audit.specs.declared.report.CutReport.{CutReport}
 use Rattle.black_box.specs.Audits.{same_cycles}
 use Rattle.black_box.specs.Outcomes.{Outcome, IsOutcome}
 use Rattle.tool_words.specs.declared.words.EnvName.{EnvName}
-use Rattle.tool_words.specs.declared.words.EnvName.TheVariants.{Part}
-use Rattle.tool_words.specs.WordsAsked.{Asked, audit, gen, cut, blackbox}
 use Rattle.tool_stages.specs.Stages.{Types}
 use Rattle.tool_stages.specs.Envs.{ReportsIn, CutReportsIn}
 use Rattle.tool_texts.specs.Reports.{all_released}
@@ -37,11 +35,3 @@ abbrev pub ReleasesAreWithin : ℕ → ℕ → Type 0
 ReleasesAreWithin first t = 0 < first → 0 < t →
     (runs : List (List ℕ)) (outcomes : List Outcome) → AllZip (IsOutcome first t) runs outcomes →
     distinct_count same_cycles (all_released outcomes) ≤ (t + 1) ^ digits t
-
--- what a command counts
-abbrev pub AreWithin : Asked → Type 0
-AreWithin (audit file starts observer e budget) = AuditsAreWithin e budget
-AreWithin (gen size number) = AuditsAreWithin Part (2 ^ 40)
-AreWithin (cut file starts observer e budget) = CutsAreWithin e budget
-AreWithin (blackbox file first budget) = ReleasesAreWithin first budget
-AreWithin a = Unit {0}

@@ -4,9 +4,9 @@ use Rattle.tool_texts.specs.declared.status.Status.{Status}
 use Rattle.tool_texts.specs.declared.status.Status.TheVariants as status
 use Rattle.tool_words.specs.WordsAsked.{Asked}
 use Rattle.tool_texts.specs.Ends.{EndsBy}
-use Rattle.mit_tool.specs.Answers.{IsAnswer, Before, typed_content, HeldIsSound}
+use Rattle.mit_tool.specs.Commands.{files_of, IsAnswer, Before, typed_content, HeldIsSound}
 use Rattle.tool_stages.specs.Accepted.{IsAccepted, is_past_typing}
-use Rattle.mit_tool.specs.Complete.{files_of, CanBeDone, NoneRises}
+use Rattle.mit_tool.specs.Complete.{CanBeDone, NoneRises}
 use Rattle.tool_stages.specs.Content.{Content}
 
 -- the bytes of each file, or None where there is no such file

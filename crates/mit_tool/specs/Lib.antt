@@ -1,8 +1,9 @@
 pub mod Audited
 pub mod Means
 pub mod Answers
+pub mod Bounded
+pub mod Commands
 pub mod Complete
 pub mod Once
 pub mod Held
-pub mod Bounded
 pub mod Logged

@@ -8,7 +8,7 @@ use Rattle.tool_words.specs.WordsAsked.{Asked, run, meaning}
 use Rattle.tool_texts.specs.declared.status.Status.{Status}
 use Rattle.tool_texts.specs.declared.status.Status.TheVariants as status
 use Rattle.tool_texts.specs.Texts.{value_line, ended_line, not_ended_line}
-use Rattle.mit_tool.specs.Complete.{files_of}
+use Rattle.mit_tool.specs.Commands.{files_of}
 
 -- a line of the text of a program's run
 abbrev pub IsRunLine : List ℕ → Type 0

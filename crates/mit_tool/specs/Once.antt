@@ -4,7 +4,7 @@ use Rattle.tim_base.specs.Faults.{Rose}
 use Rattle.tool_words.specs.WordsAsked.{Asked}
 use Rattle.tool_texts.specs.declared.status.Status.{Status}
 use Rattle.tool_stages.specs.Content.{Content}
-use Rattle.mit_tool.specs.Answers.{IsAnswer}
+use Rattle.mit_tool.specs.Commands.{IsAnswer}
 use Rattle.mit_tool.specs.Complete.{AreKnown, NoneRises}
 
 -- Where each file that the command names is told to hold bytes, and none of their counts of faults rose, two answers

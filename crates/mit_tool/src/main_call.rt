@@ -3,16 +3,15 @@
 ghost use Rattle.std.specs.Prelude.{◌≡◌, ◌≤◌, ◌⊎◌, ◌∷◌, [], Some, None, IfSome, IsTrue, map, string_bytes};
 ghost use Rattle.tim_base.specs.Kept.{KeepsFiles, NoCountFalls};
 ghost use Rattle.tim_base.specs.Faults.{Rose};
-ghost use Rattle.tool_words.specs.WordsAsked.{IsInRange, command_of, check, recheck};
-ghost use Rattle.tool_words.specs.WordsViews.{asked_of};
+ghost use Rattle.tool_words.specs.WordsAsked.{IsInRange, asked_of, command_of, check, recheck};
 ghost use Rattle.tool_texts.specs.Ends.{EndsBy, Nothing};
 ghost use Rattle.tool_stages.specs.Accepted.{is_past_typing, IsAccepted};
 ghost use Rattle.tool_stages.specs.Fetches.{HasFetched};
-ghost use Rattle.mit_tool.specs.Answers.{IsAnswer, IsUsage, Before, typed_content, HeldIsSound};
-ghost use Rattle.mit_tool.specs.Complete.{CanBeDone, NoneRises, files_of};
+ghost use Rattle.mit_tool.specs.Answers.{IsUsage};
+ghost use Rattle.mit_tool.specs.Commands.{files_of, IsAnswer, Before, typed_content, HeldIsSound, AreWithin};
+ghost use Rattle.mit_tool.specs.Complete.{CanBeDone, NoneRises};
 ghost use Rattle.mit_tool.specs.Logged.{HasWritten, ArePieces, named_by};
 ghost use Rattle.mit_tool.specs.Held.{EndsByOne};
-ghost use Rattle.mit_tool.specs.Bounded.{AreWithin};
 
 use crate::commands::audit::audit_text;
 use crate::commands::blackbox::blackbox_text;

@@ -8,7 +8,8 @@ use Rattle.tool_texts.specs.declared.status.Status.{Status}
 use Rattle.tool_texts.specs.Statuses.{exit_number}
 use Rattle.tool_texts.specs.Ends.{EndsBy, Nothing}
 use Rattle.tool_stages.specs.Content.{Content}
-use Rattle.mit_tool.specs.Answers.{IsAnswer, IsUsage, Before}
+use Rattle.mit_tool.specs.Answers.{IsUsage}
+use Rattle.mit_tool.specs.Commands.{IsAnswer, Before}
 use Rattle.lab_words.specs.QuestionAsked.{question_of}
 use Rattle.lab_tool.specs.Answers.{IsAnswer as IsLabAnswer, IsUsage as IsLabUsage, Before as LabBefore}
 use Rattle.mit_web.specs.declared.call.Program.{Program}

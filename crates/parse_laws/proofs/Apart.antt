@@ -6,11 +6,10 @@ use Rattle.std.specs.Char.{is_ascii_digit, is_ascii_alphabetic}
 use Rattle.mit_syntax.specs.declared.token.TokenKind.{TokenKind}
 use Rattle.mit_syntax.specs.declared.token.TokenKind.TheVariants.{Key, Name, Number, Sign as SignKind}
 use Rattle.mit_syntax.specs.declared.token.Keyword.{Keyword}
-use Rattle.mit_syntax.specs.declared.token.Keyword.TheVariants.{Labels, Order, Var, Skip, If, Then, Else, While, Do, Mitigate, Sleep}
+use Rattle.mit_syntax.specs.declared.token.Keyword.TheVariants.{Labels}
 use Rattle.mit_syntax.specs.declared.token.Sign.{Sign}
-use Rattle.mit_syntax.specs.declared.token.Sign.TheVariants.{Assign, Colon, Semicolon, Comma, LeftRound, RightRound, LeftBrace, RightBrace, LeftSquare}
-use Rattle.mit_syntax.specs.declared.token.Sign.TheVariants.{RightSquare, At, Plus, Minus, Star, Slash, Percent, Equal, NotEqual, LessEqual, Less}
-use Rattle.mit_syntax.specs.declared.token.Sign.TheVariants.{GreaterEqual, Greater}
+use Rattle.mit_syntax.specs.declared.token.Sign.TheVariants.{Assign}
+use Rattle.mit_syntax.specs.declared.token.Sign.TheVariants.{Slash, Equal}
 use Rattle.mit_syntax.specs.Lexemes.{StopsAt, IsWord, is_name_byte, key_text, sign_text, HasKind}
 use Rattle.mit_syntax.specs.Chunks.{Word, key, sign, number, name, Chunk, space, line, word, word_text, text}
 use Rattle.mit_syntax.specs.Cut.{Piece, white, lexeme, spread, CutBefore}
@@ -65,91 +64,23 @@ Apart (word w ∷ q) = IsSound w × Follows (is_wordy w) q × Apart q
 
 name_stops : (s : Sign) (r : List ℕ) → StopsAt is_name_byte (sign_text s ++ r)
 name_stops Assign r = refl
-name_stops Colon r = refl
-name_stops Semicolon r = refl
-name_stops Comma r = refl
-name_stops LeftRound r = refl
-name_stops RightRound r = refl
-name_stops LeftBrace r = refl
-name_stops RightBrace r = refl
-name_stops LeftSquare r = refl
-name_stops RightSquare r = refl
-name_stops At r = refl
-name_stops Plus r = refl
-name_stops Minus r = refl
-name_stops Star r = refl
-name_stops Slash r = refl
-name_stops Percent r = refl
-name_stops Equal r = refl
-name_stops NotEqual r = refl
-name_stops LessEqual r = refl
-name_stops Less r = refl
-name_stops GreaterEqual r = refl
-name_stops Greater r = refl
+name_stops s r = refl
 
 digit_stops : (s : Sign) (r : List ℕ) → StopsAt is_ascii_digit (sign_text s ++ r)
 digit_stops Assign r = refl
-digit_stops Colon r = refl
-digit_stops Semicolon r = refl
-digit_stops Comma r = refl
-digit_stops LeftRound r = refl
-digit_stops RightRound r = refl
-digit_stops LeftBrace r = refl
-digit_stops RightBrace r = refl
-digit_stops LeftSquare r = refl
-digit_stops RightSquare r = refl
-digit_stops At r = refl
-digit_stops Plus r = refl
-digit_stops Minus r = refl
-digit_stops Star r = refl
-digit_stops Slash r = refl
-digit_stops Percent r = refl
-digit_stops Equal r = refl
-digit_stops NotEqual r = refl
-digit_stops LessEqual r = refl
-digit_stops Less r = refl
-digit_stops GreaterEqual r = refl
-digit_stops Greater r = refl
+digit_stops s r = refl
 
 abbrev IsCalm : List ℕ → Type 0
 IsCalm r = StopsAt (λ b. b == 61) r × StopsAt (λ b. b == 47) r
 
 key_calm : (k : Keyword) (r : List ℕ) → IsCalm (key_text k ++ r)
 key_calm Labels r = (refl, refl)
-key_calm Order r = (refl, refl)
-key_calm Var r = (refl, refl)
-key_calm Skip r = (refl, refl)
-key_calm If r = (refl, refl)
-key_calm Then r = (refl, refl)
-key_calm Else r = (refl, refl)
-key_calm While r = (refl, refl)
-key_calm Do r = (refl, refl)
-key_calm Mitigate r = (refl, refl)
-key_calm Sleep r = (refl, refl)
+key_calm k r = (refl, refl)
 
 sign_calm : (s : Sign) (q : List Chunk) (r : List ℕ) → opens_calm (word (sign s) ∷ q) ≡ true → IsCalm (sign_text s ++ r)
-sign_calm Assign q r h = (refl, refl)
-sign_calm Colon q r h = (refl, refl)
-sign_calm Semicolon q r h = (refl, refl)
-sign_calm Comma q r h = (refl, refl)
-sign_calm LeftRound q r h = (refl, refl)
-sign_calm RightRound q r h = (refl, refl)
-sign_calm LeftBrace q r h = (refl, refl)
-sign_calm RightBrace q r h = (refl, refl)
-sign_calm LeftSquare q r h = (refl, refl)
-sign_calm RightSquare q r h = (refl, refl)
-sign_calm At q r h = (refl, refl)
-sign_calm Plus q r h = (refl, refl)
-sign_calm Minus q r h = (refl, refl)
-sign_calm Star q r h = (refl, refl)
 sign_calm Slash q r h = differ (sym h)
-sign_calm Percent q r h = (refl, refl)
 sign_calm Equal q r h = differ (sym h)
-sign_calm NotEqual q r h = (refl, refl)
-sign_calm LessEqual q r h = (refl, refl)
-sign_calm Less q r h = (refl, refl)
-sign_calm GreaterEqual q r h = (refl, refl)
-sign_calm Greater q r h = (refl, refl)
+sign_calm s q r h = (refl, refl)
 
 stops : (test : ℕ → Bool) → test 32 ≡ false → test 10 ≡ false → ((s : Sign) (r : List ℕ) → StopsAt test (sign_text s ++ r)) → (q : List Chunk)
     → opens_no_word q ≡ true → StopsAt test (text q)

@@ -1,5 +1,6 @@
 pub mod Counted
 pub mod Within
+pub mod Spine
 pub mod OneExpression
 pub mod OneProgram
 pub mod Refused

@@ -5,15 +5,15 @@ use Rattle.mit_syntax.specs.declared.token.Keyword.TheVariants.{Labels, Order, V
 use Rattle.mit_syntax.specs.declared.token.Sign.TheVariants.{Assign, Colon, Semicolon, Comma, RightRound, RightBrace, LeftSquare, RightSquare, At}
 use Rattle.mit_syntax.specs.Chunks.{key, sign, name}
 use Rattle.mit_parser.specs.Words.{Symbol, word, Told, sign_at, key_at, end_at, head_symbol, first_pos}
-use Rattle.mit_parser.specs.Tree.{Whole, AndName, no_name, and_name, Marks, no_marks, marks_of, CommandTree, skip_of, assign_of, sleep_of, if_of, while_of}
-use Rattle.mit_parser.specs.Tree.{mitigate_of, Block, block_of, ElsePart, no_else, else_of, Commands, commands_of, More, no_more, and_more, MoreNames}
+use Rattle.mit_parser.specs.Tree.{ExpressionTree, AndName, no_name, and_name, Marks, no_marks, marks_of, CommandTree, skip_of, assign_of, sleep_of, if_of}
+use Rattle.mit_parser.specs.Tree.{while_of, mitigate_of, Block, block_of, ElsePart, no_else, else_of, Commands, commands_of, More, no_more, and_more, MoreNames}
 use Rattle.mit_parser.specs.Tree.{no_more_names, and_more_names, PairTree, pair_of, MorePairs, no_more_pairs, and_pair, Ordering, no_ordering, ordering_of}
 use Rattle.mit_parser.specs.Tree.{Header, no_header, header_of, LabelTree, no_label, label_of, Shape, scalar_of, array_of, DeclarationTree, declaration_of}
-use Rattle.mit_parser.specs.Tree.{Declarations, no_declarations, and_declaration, ProgramTree, front_whole, front_and_name, front_marks, front_command}
+use Rattle.mit_parser.specs.Tree.{Declarations, no_declarations, and_declaration, ProgramTree, front_expression, front_and_name, front_marks, front_command}
 use Rattle.mit_parser.specs.Tree.{front_block, front_else, front_commands, front_more, front_more_names, front_pair, front_more_pairs, front_ordering}
 use Rattle.mit_parser.specs.Tree.{front_header, front_label, front_shape, front_declaration, front_declarations, front_program}
 use Rattle.mit_parser.specs.Spells.{Spells}
-use Rattle.parse_laws.proofs.OneExpression.{lev, name_first, number_first, rest, Same, one_index, one_whole}
+use Rattle.parse_laws.proofs.OneExpression.{lev, name_first, number_first, rest, Same, one_index, one_expression}
 
 -- how a command may go on with a word
 abbrev tag : Symbol → ℕ
@@ -92,24 +92,24 @@ one_marks (marks_of p q w u l v) (marks_of p' q' w' u' l' v') r s h k e =
     let g : v ≡ v' = ap first_pos t.1 in
     (cc, ap rest t.1)
 
-lev_marks : (m : Marks) (r : List Told) → 4 ≤ lev r → 4 ≤ lev (front_marks m r)
+lev_marks : (m : Marks) (r : List Told) → lev r ≡ 1 → lev (front_marks m r) ≡ 1
 lev_marks no_marks r h = h
-lev_marks (marks_of p q w u l v) r h = omega arith
+lev_marks (marks_of p q w u l v) r h = refl
 
-lev_and_name : (l : AndName) (r : List Told) → 4 ≤ lev r → 4 ≤ lev (front_and_name l r)
+lev_and_name : (l : AndName) (r : List Told) → lev r ≡ 1 → lev (front_and_name l r) ≡ 1
 lev_and_name no_name r h = h
-lev_and_name (and_name p w q) r h = omega arith
+lev_and_name (and_name p w q) r h = refl
 
 -- an expression and its marks
-pub record SameMarked (x y : Whole) (m n : Marks) (r s : List Told) : Type 0 where
+pub record SameMarked (x y : ExpressionTree 1) (m n : Marks) (r s : List Told) : Type 0 where
   pub expression : x ≡ y
   pub marks : m ≡ n
   pub rest : r ≡ s
 
-one_marked : (x y : Whole) (m n : Marks) (r s : List Told) → 4 ≤ lev r → 4 ≤ lev s → 1 ≤ tags r → 1 ≤ tags s
-    → front_whole x (front_marks m r) ≡ front_whole y (front_marks n s) → SameMarked x y m n r s
+one_marked : (x y : ExpressionTree 1) (m n : Marks) (r s : List Told) → lev r ≡ 1 → lev s ≡ 1 → 1 ≤ tags r → 1 ≤ tags s
+    → front_expression x (front_marks m r) ≡ front_expression y (front_marks n s) → SameMarked x y m n r s
 one_marked x y m n r s h k i j e =
-    let a = one_whole x y (front_marks m r) (front_marks n s) (lev_marks m r h) (lev_marks n s k) e in
+    let a = one_expression x y (front_marks m r) (front_marks n s) (lev_marks m r h) (lev_marks n s k) e in
     let b = one_marks m n r s i j a.1 in
     record { expression = a.0; marks = b.0; rest = b.1 }
 
@@ -121,12 +121,12 @@ tag_more : (m : More) (r : List Told) → 3 ≤ tags r → 2 ≤ tags (front_mor
 tag_more no_more r h = omega (arith, h)
 tag_more (and_more p c m) r h = omega arith
 
-lev_more : (m : More) (r : List Told) → 4 ≤ lev r → 4 ≤ lev (front_more m r)
+lev_more : (m : More) (r : List Told) → lev r ≡ 1 → lev (front_more m r) ≡ 1
 lev_more no_more r h = h
-lev_more (and_more p c m) r h = omega arith
+lev_more (and_more p c m) r h = refl
 
 mutual
-  one_command : (x y : CommandTree) (r s : List Told) → 4 ≤ lev r → 4 ≤ lev s → 2 ≤ tags r → 2 ≤ tags s → front_command x r ≡ front_command y s → Same x y r s
+  one_command : (x y : CommandTree) (r s : List Told) → lev r ≡ 1 → lev s ≡ 1 → 2 ≤ tags r → 2 ≤ tags s → front_command x r ≡ front_command y s → Same x y r s
   one_command (skip_of p m) (skip_of q n) r s h k i j e =
       let a : p ≡ q = ap first_pos e in
       let t = one_marks m n r s (omega (arith, i)) (omega (arith, j)) (ap rest e) in
@@ -135,7 +135,7 @@ mutual
   one_command (assign_of w p x q a m) (assign_of w' p' x' q' a' m') r s h k i j e =
       let e1 : w ≡ w' = ap name_first e in
       let e2 : p ≡ p' = ap first_pos e in
-      let t = one_index x x' (sign_at Assign q ∷ front_whole a (front_marks m r)) (sign_at Assign q' ∷ front_whole a' (front_marks m' s))
+      let t = one_index x x' (sign_at Assign q ∷ front_expression a (front_marks m r)) (sign_at Assign q' ∷ front_expression a' (front_marks m' s))
       (omega arith) (omega arith) (ap rest e) in
       let e3 : x ≡ x' = t.0 in
       let e4 : q ≡ q' = ap first_pos t.1 in
@@ -176,7 +176,7 @@ mutual
       let e2 : q ≡ q' = ap (λ z. first_pos (rest z)) e in
       let r1 : List Told = sign_at RightRound u ∷ front_marks m (front_block b r) in
       let s1 : List Told = sign_at RightRound u' ∷ front_marks m' (front_block b' s) in
-      let t = one_whole a a' (front_and_name l r1) (front_and_name l' s1) (lev_and_name l r1 (omega arith)) (lev_and_name l' s1 (omega arith))
+      let t = one_expression a a' (front_and_name l r1) (front_and_name l' s1) (lev_and_name l r1 (omega arith)) (lev_and_name l' s1 (omega arith))
       (ap (λ z. rest (rest z)) e) in
       let e3 : a ≡ a' = t.0 in
       let v = one_and_name l l' r1 s1 (omega arith) (omega arith) t.1 in
@@ -187,36 +187,7 @@ mutual
       let y = one_block b b' r s x.1 in
       let e7 : b ≡ b' = y.0 in
       (cc, y.1)
-  one_command (skip_of p m) (assign_of w' p' x' q' a' m') r s h k i j e = let c : 0 ≡ 1 = ap forms e in absurd (omega (arith, c))
-  one_command (skip_of p m) (sleep_of p' a' m') r s h k i j e = let c : 0 ≡ 2 = ap forms e in absurd (omega (arith, c))
-  one_command (skip_of p m) (if_of p' a' m' q' b' x') r s h k i j e = let c : 0 ≡ 3 = ap forms e in absurd (omega (arith, c))
-  one_command (skip_of p m) (while_of p' a' m' q' b') r s h k i j e = let c : 0 ≡ 4 = ap forms e in absurd (omega (arith, c))
-  one_command (skip_of p m) (mitigate_of p' q' a' l' u' m' b') r s h k i j e = let c : 0 ≡ 5 = ap forms e in absurd (omega (arith, c))
-  one_command (assign_of w p x q a m) (skip_of p' m') r s h k i j e = let c : 1 ≡ 0 = ap forms e in absurd (omega (arith, c))
-  one_command (assign_of w p x q a m) (sleep_of p' a' m') r s h k i j e = let c : 1 ≡ 2 = ap forms e in absurd (omega (arith, c))
-  one_command (assign_of w p x q a m) (if_of p' a' m' q' b' x') r s h k i j e = let c : 1 ≡ 3 = ap forms e in absurd (omega (arith, c))
-  one_command (assign_of w p x q a m) (while_of p' a' m' q' b') r s h k i j e = let c : 1 ≡ 4 = ap forms e in absurd (omega (arith, c))
-  one_command (assign_of w p x q a m) (mitigate_of p' q' a' l' u' m' b') r s h k i j e = let c : 1 ≡ 5 = ap forms e in absurd (omega (arith, c))
-  one_command (sleep_of p a m) (skip_of p' m') r s h k i j e = let c : 2 ≡ 0 = ap forms e in absurd (omega (arith, c))
-  one_command (sleep_of p a m) (assign_of w' p' x' q' a' m') r s h k i j e = let c : 2 ≡ 1 = ap forms e in absurd (omega (arith, c))
-  one_command (sleep_of p a m) (if_of p' a' m' q' b' x') r s h k i j e = let c : 2 ≡ 3 = ap forms e in absurd (omega (arith, c))
-  one_command (sleep_of p a m) (while_of p' a' m' q' b') r s h k i j e = let c : 2 ≡ 4 = ap forms e in absurd (omega (arith, c))
-  one_command (sleep_of p a m) (mitigate_of p' q' a' l' u' m' b') r s h k i j e = let c : 2 ≡ 5 = ap forms e in absurd (omega (arith, c))
-  one_command (if_of p a m q b x) (skip_of p' m') r s h k i j e = let c : 3 ≡ 0 = ap forms e in absurd (omega (arith, c))
-  one_command (if_of p a m q b x) (assign_of w' p' x' q' a' m') r s h k i j e = let c : 3 ≡ 1 = ap forms e in absurd (omega (arith, c))
-  one_command (if_of p a m q b x) (sleep_of p' a' m') r s h k i j e = let c : 3 ≡ 2 = ap forms e in absurd (omega (arith, c))
-  one_command (if_of p a m q b x) (while_of p' a' m' q' b') r s h k i j e = let c : 3 ≡ 4 = ap forms e in absurd (omega (arith, c))
-  one_command (if_of p a m q b x) (mitigate_of p' q' a' l' u' m' b') r s h k i j e = let c : 3 ≡ 5 = ap forms e in absurd (omega (arith, c))
-  one_command (while_of p a m q b) (skip_of p' m') r s h k i j e = let c : 4 ≡ 0 = ap forms e in absurd (omega (arith, c))
-  one_command (while_of p a m q b) (assign_of w' p' x' q' a' m') r s h k i j e = let c : 4 ≡ 1 = ap forms e in absurd (omega (arith, c))
-  one_command (while_of p a m q b) (sleep_of p' a' m') r s h k i j e = let c : 4 ≡ 2 = ap forms e in absurd (omega (arith, c))
-  one_command (while_of p a m q b) (if_of p' a' m' q' b' x') r s h k i j e = let c : 4 ≡ 3 = ap forms e in absurd (omega (arith, c))
-  one_command (while_of p a m q b) (mitigate_of p' q' a' l' u' m' b') r s h k i j e = let c : 4 ≡ 5 = ap forms e in absurd (omega (arith, c))
-  one_command (mitigate_of p q a l u m b) (skip_of p' m') r s h k i j e = let c : 5 ≡ 0 = ap forms e in absurd (omega (arith, c))
-  one_command (mitigate_of p q a l u m b) (assign_of w' p' x' q' a' m') r s h k i j e = let c : 5 ≡ 1 = ap forms e in absurd (omega (arith, c))
-  one_command (mitigate_of p q a l u m b) (sleep_of p' a' m') r s h k i j e = let c : 5 ≡ 2 = ap forms e in absurd (omega (arith, c))
-  one_command (mitigate_of p q a l u m b) (if_of p' a' m' q' b' x') r s h k i j e = let c : 5 ≡ 3 = ap forms e in absurd (omega (arith, c))
-  one_command (mitigate_of p q a l u m b) (while_of p' a' m' q' b') r s h k i j e = let c : 5 ≡ 4 = ap forms e in absurd (omega (arith, c))
+  one_command x y r s h k i j e = let c : forms (front_command x r) ≡ forms (front_command y s) = ap forms e in absurd (omega (arith, c))
 
   one_block : (x y : Block) (r s : List Told) → front_block x r ≡ front_block y s → Same x y r s
   one_block (block_of p c q) (block_of u d v) r s e =
@@ -236,7 +207,7 @@ mutual
       let c : b ≡ d = t.0 in
       (cc, t.1)
 
-  one_commands : (x y : Commands) (r s : List Told) → 4 ≤ lev r → 4 ≤ lev s → 3 ≤ tags r → 3 ≤ tags s → front_commands x r ≡ front_commands y s → Same x y r s
+  one_commands : (x y : Commands) (r s : List Told) → lev r ≡ 1 → lev s ≡ 1 → 3 ≤ tags r → 3 ≤ tags s → front_commands x r ≡ front_commands y s → Same x y r s
   one_commands (commands_of c m) (commands_of d n) r s h k i j e =
       let t = one_command c d (front_more m r) (front_more n s) (lev_more m r h) (lev_more n s k) (tag_more m r i) (tag_more n s j) e in
       let a : c ≡ d = t.0 in
@@ -244,7 +215,7 @@ mutual
       let b : m ≡ n = u.0 in
       (cc, u.1)
 
-  one_more : (x y : More) (r s : List Told) → 4 ≤ lev r → 4 ≤ lev s → 3 ≤ tags r → 3 ≤ tags s → front_more x r ≡ front_more y s → Same x y r s
+  one_more : (x y : More) (r s : List Told) → lev r ≡ 1 → lev s ≡ 1 → 3 ≤ tags r → 3 ≤ tags s → front_more x r ≡ front_more y s → Same x y r s
   one_more no_more no_more r s h k i j e = (refl, e)
   one_more no_more (and_more p c m) r s h k i j e = let c = differ tags 3 2 r _ i e refl in absurd (omega (arith, c))
   one_more (and_more p c m) no_more r s h k i j e = let c = differ tags 3 2 s _ j (sym e) refl in absurd (omega (arith, c))

@@ -4,18 +4,18 @@ use Rattle.std.specs.Prelude.{ltb, pos, negsuc}
 use Rattle.label_lattice.specs.declared.label.Label.{Label}
 use Rattle.label_lattice.specs.Order.{Order, name_of}
 use Rattle.mit_syntax.specs.declared.ast.Op.{Op}
-use Rattle.mit_syntax.specs.declared.ast.Op.TheVariants.{Add, Sub, Mul, Div, Rem, Eq, Ne, Lt, Le, Gt, Ge}
+use Rattle.mit_syntax.specs.declared.ast.Op.TheVariants.{Add}
 use Rattle.mit_syntax.specs.declared.token.Keyword.TheVariants.{Else, Then, Do}
 use Rattle.mit_syntax.specs.declared.token.Sign.TheVariants.{Assign as AssignSign, Semicolon, RightRound, RightBrace, RightSquare}
 use Rattle.mit_syntax.specs.Lexemes.{IsName}
 use Rattle.mit_syntax.specs.Chunks.{Chunk, space, line}
 use Rattle.mit_syntax.specs.Expression.{Expression, Number, Variable, Binary, Element}
-use Rattle.mit_syntax.specs.Ranks.{rank, left_need, right_need}
+use Rattle.mit_syntax.specs.Operators.{op_sign, rank, left_need, right_need}
 use Rattle.mit_syntax.specs.Todo.{Done, Skip, Assign, Put, Sleep, If, While, Mitigate}
 use Rattle.mit_syntax.specs.Plan.{Plan}
 use Rattle.mit_syntax.specs.Declarations.{Declaration, cell_at}
 use Rattle.mit_syntax.specs.Valid.{IsBelow, AreMarksBelow, IsScalar, IsDeclaredArray, IsKnown, AreSome, AreKnown}
-use Rattle.mit_syntax.specs.Layout.{Part, a_sign, a_name, spaced, spaced_key, op_sign, in_round, expression_part, marks_part, level_part, indent, new_line}
+use Rattle.mit_syntax.specs.Layout.{Part, a_sign, a_name, spaced, spaced_key, in_round, expression_part, marks_part, level_part, indent, new_line}
 use Rattle.mit_syntax.specs.Layout.{in_braces, after, commands_part, end_line, listed, more_listed, pair_part, labels_part, order_part, length_part}
 use Rattle.mit_syntax.specs.Layout.{label_part, declaration_part, declarations_part, chunks_of}
 use Rattle.parse_laws.proofs.Numerals.{number_kind}
@@ -36,16 +36,7 @@ Every P (x ∷ xs) = P x × Every P xs
 
 op_apart : (o : Op) (q : List Chunk) → Apart q → Apart (spaced (op_sign o) q)
 op_apart Add q a = (refl, refl, a)
-op_apart Sub q a = (refl, refl, a)
-op_apart Mul q a = (refl, refl, a)
-op_apart Div q a = (refl, refl, a)
-op_apart Rem q a = (refl, refl, a)
-op_apart Eq q a = (refl, refl, a)
-op_apart Ne q a = (refl, refl, a)
-op_apart Lt q a = (refl, refl, a)
-op_apart Le q a = (refl, refl, a)
-op_apart Gt q a = (refl, refl, a)
-op_apart Ge q a = (refl, refl, a)
+op_apart o q a = (refl, refl, a)
 
 round_apart : (b : Bool) (f : List Chunk → List Chunk) → ((q : List Chunk) → IsShut q → IsCalmly (f q)) → (q : List Chunk)
     → IsShut q → IsCalmly (in_round b f q)

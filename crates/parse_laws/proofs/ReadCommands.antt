@@ -12,22 +12,22 @@ use Rattle.mit_syntax.specs.Declarations.{Declaration, cell_at, find_scalar, fin
 use Rattle.mit_syntax.specs.Todo.{Todo, Done, Skip, Assign, Put, Sleep, If, While, Mitigate}
 use Rattle.mit_syntax.specs.Plan.{Plan, mitigates}
 use Rattle.mit_syntax.specs.Valid.{IsBelow, AreMarksBelow, IsScalar, IsDeclaredArray, AreSome, AreKnown, AreNumbered}
-use Rattle.mit_syntax.specs.Limits.{depth, operators, IsSmall, AreSmall}
+use Rattle.mit_syntax.specs.Limits.{depth, IsSmall, AreSmall}
 use Rattle.mit_syntax.specs.Layout.{a_sign, spaced, spaced_key, expression_part, marks_part, level_part, indent, new_line, in_braces, after, commands_part}
 use Rattle.mit_parser.specs.declared.fault.ParseFault.{ParseFault}
 use Rattle.mit_parser.specs.Words.{Told, sign_at, key_at, name_at}
-use Rattle.mit_parser.specs.Tree.{Whole, Index, no_index, AndName, no_name, and_name, Marks, no_marks, marks_of, CommandTree, skip_of, assign_of, sleep_of}
-use Rattle.mit_parser.specs.Tree.{if_of, while_of, mitigate_of, Block, block_of, else_of, commands_of, More, no_more, and_more, front_whole, front_index}
-use Rattle.mit_parser.specs.Tree.{front_and_name, front_marks, front_command, front_block, front_more}
+use Rattle.mit_parser.specs.Tree.{ExpressionTree, Index, no_index, AndName, no_name, and_name, Marks, no_marks, marks_of, CommandTree, skip_of, assign_of}
+use Rattle.mit_parser.specs.Tree.{sleep_of, if_of, while_of, mitigate_of, Block, block_of, else_of, commands_of, More, no_more, and_more, front_expression}
+use Rattle.mit_parser.specs.Tree.{front_index, front_and_name, front_marks, front_command, front_block, front_more}
 use Rattle.mit_parser.specs.Limits.{IsWithin, IsIndexWithin, CommandWithin, BlockWithin, MoreWithin}
 use Rattle.mit_parser.specs.Scope.{Scope, find_label, or_else, kept, label_fault}
-use Rattle.mit_parser.specs.Meaning.{label, and_name_value, marks_value, written, assigned, whole_value, next_command, next_block, next_more, plan_command}
+use Rattle.mit_parser.specs.Meaning.{label, and_name_value, marks_value, written, assigned, expression_value, next_command, next_block, next_more, plan_command}
 use Rattle.mit_parser.specs.Meaning.{plan_block, plan_more}
 use Rattle.mit_parser.specs.Faults.{note_and_name, note_marks, note_command, note_block, note_more}
 use Rattle.parse_laws.specs.ReadBack.{unplaced}
 use Rattle.parse_laws.proofs.Saying.{Says}
 use Rattle.parse_laws.proofs.ReadHeader.{number_is, label_calm}
-use Rattle.parse_laws.proofs.ReadExpression.{Reader, IsWhole, IsIndex, reads, index_reader, scalar_calm, array_calm}
+use Rattle.parse_laws.proofs.ReadExpression.{Reader, Means, IsIndex, reads, index_reader, scalar_calm, array_calm}
 
 pub indent_says : (d : ℕ) (ws : List Told) (q : List Chunk) → Says ws (indent d q) → Says ws q
 indent_says zero ws q s = s
@@ -113,7 +113,7 @@ module _ (o : Order) (ds : List Declaration) (label_found : (n : ℕ) → n < o.
         is = record { value = ap (λ (x : Label). Some x) (number_is o label_found l h); calm = λ u. label_calm o label_found l h a.0 u };
       }
 
-  within : (d : ℕ) (e : Expression) (t : Whole) → IsSmall d e → IsWhole sc e (depth 1 e) (operators e) t → IsWithin d t
+  within : (d : ℕ) (e : Expression) (t : ExpressionTree 1) → IsSmall d e → Means sc 1 e (depth 1 e) t → IsWithin d t
   within d e t h k =
       let a = h.depth in
       let b = h.operators in
@@ -121,7 +121,7 @@ module _ (o : Order) (ds : List Declaration) (label_found : (n : ℕ) → n < o.
       let f = k.size in
       (omega (arith, a, c), omega (arith, b, f))
 
-  index_within : (d : ℕ) (e : Expression) (t : Index) → IsSmall (d + 1) e → IsIndex sc e (depth 1 e) (operators e) t → IsIndexWithin d t
+  index_within : (d : ℕ) (e : Expression) (t : Index) → IsSmall (d + 1) e → IsIndex sc e t → IsIndexWithin d t
   index_within d e t h k = k.fits d h.depth h.operators
 
   deep_enough : (d : ℕ) (e : Expression) → IsSmall (d + 1) e → d + 1 ≤ 100
@@ -224,7 +224,7 @@ module _ (o : Order) (ds : List Declaration) (label_found : (n : ℕ) → n < o.
       λ ws q s.
       let q1 : List Chunk = after d r (commands_part o ds d r) q in
       let a = s.3 in
-      let x = (reads o.names ds scalar_found array_found e h.2).whole a.1 (marks_part o wr.labels q1) a.3 in
+      let x = reads o.names ds scalar_found array_found e h.2 1 a.1 (marks_part o wr.labels q1) a.3 in
       let y = marks_reader wr.labels h.0 x.rest q1 x.says in
       let R = (plan_reads r d k h.3 g m.1).more y.rest q y.says in
       let w : List ℕ = (cell_at ds v).name in
@@ -232,7 +232,7 @@ module _ (o : Order) (ds : List Declaration) (label_found : (n : ℕ) → n < o.
         tree = (assign_of w s.0 no_index a.0 x.tree y.tree, R.tree);
         rest = R.rest;
         are = s.2 ∙ ap (λ z. name_at w s.0 ∷ z)
-            (a.2 ∙ ap (λ z. sign_at AssignSign a.0 ∷ z) (x.are ∙ ap (front_whole x.tree) (y.are ∙ ap (front_marks y.tree) R.are)));
+            (a.2 ∙ ap (λ z. sign_at AssignSign a.0 ∷ z) (x.are ∙ ap (front_expression x.tree) (y.are ∙ ap (front_marks y.tree) R.are)));
         says = R.says;
         is = record {
           read = Assign (record { pos = s.0; labels = wr.labels }) v e R.is.read;
@@ -250,10 +250,9 @@ module _ (o : Order) (ds : List Declaration) (label_found : (n : ℕ) → n < o.
       λ ws q s.
       let q1 : List Chunk = after d r (commands_part o ds d r) q in
       let q2 : List Chunk = expression_part ds 1 e (marks_part o wr.labels q1) in
-      let i = index_reader sc (expression_part ds 1 j) j (depth 1 j) (operators j) (reads o.names ds scalar_found array_found j h.2).whole s.1
-      (spaced AssignSign q2) s.3 in
+      let i = index_reader sc ds j (reads o.names ds scalar_found array_found j h.2 1) s.1 (spaced AssignSign q2) s.3 in
       let a = i.says in
-      let x = (reads o.names ds scalar_found array_found e h.3).whole a.1 (marks_part o wr.labels q1) a.3 in
+      let x = reads o.names ds scalar_found array_found e h.3 1 a.1 (marks_part o wr.labels q1) a.3 in
       let y = marks_reader wr.labels h.0 x.rest q1 x.says in
       let R = (plan_reads r d k h.4 g m.2).more y.rest q y.says in
       let w : List ℕ = (cell_at ds v).name in
@@ -262,11 +261,11 @@ module _ (o : Order) (ds : List Declaration) (label_found : (n : ℕ) → n < o.
         rest = R.rest;
         are = s.2 ∙ ap (λ z. name_at w s.0 ∷ z)
             (i.are ∙ ap (front_index i.tree)
-            (a.2 ∙ ap (λ z. sign_at AssignSign a.0 ∷ z) (x.are ∙ ap (front_whole x.tree) (y.are ∙ ap (front_marks y.tree) R.are))));
+            (a.2 ∙ ap (λ z. sign_at AssignSign a.0 ∷ z) (x.are ∙ ap (front_expression x.tree) (y.are ∙ ap (front_marks y.tree) R.are))));
         says = R.says;
         is = record {
           read = Put (record { pos = s.0; labels = wr.labels }) v n j e R.is.read;
-          plan = ap (λ z. assigned sc (written sc s.0 y.tree) w z (whole_value sc x.tree) (plan_more sc k R.tree)) i.is.value
+          plan = ap (λ z. assigned sc (written sc s.0 y.tree) w z (expression_value sc x.tree) (plan_more sc k R.tree)) i.is.value
               ∙ put_same (written sc s.0 y.tree) (record { pos = s.0; labels = wr.labels }) _ _ _ _ _ _ _ _ _ _
               (ap (λ x. record { pos = s.0; labels = x }) y.is.value)
               (ap (λ (z : Option (ℕ × ℕ)). (or_else {A = ℕ × ℕ} (0, 0) z).0) (array_found v n h.1))
@@ -283,13 +282,13 @@ module _ (o : Order) (ds : List Declaration) (label_found : (n : ℕ) → n < o.
       let f : Reader front_list (AreList d k (Sleep wr e r)) (commands_part o ds d (Sleep wr e r)) =
       λ ws q s.
       let q1 : List Chunk = after d r (commands_part o ds d r) q in
-      let x = (reads o.names ds scalar_found array_found e h.1).whole s.1 (marks_part o wr.labels q1) s.3 in
+      let x = reads o.names ds scalar_found array_found e h.1 1 s.1 (marks_part o wr.labels q1) s.3 in
       let y = marks_reader wr.labels h.0 x.rest q1 x.says in
       let R = (plan_reads r d k h.2 g m.1).more y.rest q y.says in
       record {
         tree = (sleep_of s.0 x.tree y.tree, R.tree);
         rest = R.rest;
-        are = s.2 ∙ ap (λ z. key_at SleepKey s.0 ∷ z) (x.are ∙ ap (front_whole x.tree) (y.are ∙ ap (front_marks y.tree) R.are));
+        are = s.2 ∙ ap (λ z. key_at SleepKey s.0 ∷ z) (x.are ∙ ap (front_expression x.tree) (y.are ∙ ap (front_marks y.tree) R.are));
         says = R.says;
         is = record {
           read = Sleep (record { pos = s.0; labels = wr.labels }) e R.is.read;
@@ -311,7 +310,7 @@ module _ (o : Order) (ds : List Declaration) (label_found : (n : ℕ) → n < o.
       let i : d + 1 ≤ 100 = omega (arith, m.1) in
       let ma : ℕ = mitigates a in
       let mb : ℕ = mitigates b in
-      let x = (reads o.names ds scalar_found array_found e h.1).whole s.1 (marks_part o wr.labels q3) s.3 in
+      let x = reads o.names ds scalar_found array_found e h.1 1 s.1 (marks_part o wr.labels q3) s.3 in
       let y = marks_reader wr.labels h.0 x.rest q3 x.says in
       let t = y.says in
       let A = block_reader a d k i ((plan_reads a (d + 1) k h.4 g.0 m.2).first h.2) t.1 q2 t.3 in
@@ -324,7 +323,7 @@ module _ (o : Order) (ds : List Declaration) (label_found : (n : ℕ) → n < o.
         tree = (if_of s.0 x.tree y.tree t.0 A.tree (else_of v.0 B.tree), R.tree);
         rest = R.rest;
         are = s.2 ∙ ap (λ z. key_at IfKey s.0 ∷ z)
-            (x.are ∙ ap (front_whole x.tree) (y.are ∙ ap (front_marks y.tree) (t.2 ∙ ap (λ z. key_at Then t.0 ∷ z) (A.are ∙ ap (front_block A.tree)
+            (x.are ∙ ap (front_expression x.tree) (y.are ∙ ap (front_marks y.tree) (t.2 ∙ ap (λ z. key_at Then t.0 ∷ z) (A.are ∙ ap (front_block A.tree)
             (v.2 ∙ ap (λ z. key_at Else v.0 ∷ z) (B.are ∙ ap (front_block B.tree) R.are))))));
         says = R.says;
         is = record {
@@ -346,7 +345,7 @@ module _ (o : Order) (ds : List Declaration) (label_found : (n : ℕ) → n < o.
       let q3 : List Chunk = spaced_key Do (in_braces d (commands_part o ds (d + 1) a) q1) in
       let i : d + 1 ≤ 100 = omega (arith, m.1) in
       let ma : ℕ = mitigates a in
-      let x = (reads o.names ds scalar_found array_found e h.1).whole s.1 (marks_part o wr.labels q3) s.3 in
+      let x = reads o.names ds scalar_found array_found e h.1 1 s.1 (marks_part o wr.labels q3) s.3 in
       let y = marks_reader wr.labels h.0 x.rest q3 x.says in
       let t = y.says in
       let A = block_reader a d k i ((plan_reads a (d + 1) k h.3 g.0 m.2).first h.2) t.1 q1 t.3 in
@@ -356,7 +355,8 @@ module _ (o : Order) (ds : List Declaration) (label_found : (n : ℕ) → n < o.
         tree = (while_of s.0 x.tree y.tree t.0 A.tree, R.tree);
         rest = R.rest;
         are = s.2 ∙ ap (λ z. key_at WhileKey s.0 ∷ z)
-            (x.are ∙ ap (front_whole x.tree) (y.are ∙ ap (front_marks y.tree) (t.2 ∙ ap (λ z. key_at Do t.0 ∷ z) (A.are ∙ ap (front_block A.tree) R.are))));
+            (x.are ∙ ap (front_expression x.tree) (y.are ∙ ap (front_marks y.tree) (t.2 ∙ ap (λ z. key_at Do t.0 ∷ z)
+            (A.are ∙ ap (front_block A.tree) R.are))));
         says = R.says;
         is = record {
           read = While (record { pos = s.0; labels = wr.labels }) e A.is.read R.is.read;
@@ -379,7 +379,7 @@ module _ (o : Order) (ds : List Declaration) (label_found : (n : ℕ) → n < o.
       let i : d + 1 ≤ 100 = deep_enough d e m.0 in
       let ma : ℕ = mitigates a in
       let b = s.3 in
-      let x = (reads o.names ds scalar_found array_found e h.2).whole b.1 (level_part o w q3) b.3 in
+      let x = reads o.names ds scalar_found array_found e h.2 1 b.1 (level_part o w q3) b.3 in
       let v = level_reader w h.1 x.rest q3 x.says in
       let t = v.says in
       let y = marks_reader wr.labels h.0 t.1 q2 t.3 in
@@ -390,7 +390,7 @@ module _ (o : Order) (ds : List Declaration) (label_found : (n : ℕ) → n < o.
         tree = (mitigate_of s.0 b.0 x.tree v.tree t.0 y.tree A.tree, R.tree);
         rest = R.rest;
         are = s.2 ∙ ap (λ z. key_at MitigateKey s.0 ∷ z)
-            (b.2 ∙ ap (λ z. sign_at LeftRound b.0 ∷ z) (x.are ∙ ap (front_whole x.tree) (v.are ∙ ap (front_and_name v.tree)
+            (b.2 ∙ ap (λ z. sign_at LeftRound b.0 ∷ z) (x.are ∙ ap (front_expression x.tree) (v.are ∙ ap (front_and_name v.tree)
             (t.2 ∙ ap (λ z. sign_at RightRound t.0 ∷ z) (y.are ∙ ap (front_marks y.tree) (A.are ∙ ap (front_block A.tree) R.are))))));
         says = R.says;
         is = record {

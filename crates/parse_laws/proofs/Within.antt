@@ -4,16 +4,16 @@ use Rattle.mit_syntax.specs.declared.token.Keyword.TheVariants.{Then, Do}
 use Rattle.mit_syntax.specs.declared.token.Sign.TheVariants.{Assign, Semicolon, RightRound, RightBrace}
 use Rattle.mit_parser.specs.Words.{Told, sign_at, key_at, end_at}
 use Rattle.mit_parser.specs.Counting.{nothing_yet, is_over, Fits}
-use Rattle.mit_parser.specs.Limits.{whole_size, IsWithin, IsIndexWithin, CommandWithin, BlockWithin, ElseWithin, CommandsWithin, MoreWithin}
-use Rattle.mit_parser.specs.Tree.{Index, Whole, no_index, index_of, AndName, no_name, and_name, Marks, no_marks, marks_of, CommandTree, skip_of, assign_of}
-use Rattle.mit_parser.specs.Tree.{sleep_of, if_of, while_of, mitigate_of, Block, block_of, ElsePart, no_else, else_of, Commands, commands_of, More, no_more}
-use Rattle.mit_parser.specs.Tree.{and_more, MoreNames, no_more_names, and_more_names, pair_of, MorePairs, no_more_pairs, and_pair, Ordering, no_ordering}
-use Rattle.mit_parser.specs.Tree.{ordering_of, Header, no_header, header_of, no_label, label_of, Shape, scalar_of, array_of, declaration_of, Declarations}
-use Rattle.mit_parser.specs.Tree.{no_declarations, and_declaration, ProgramTree, front_whole, front_index, front_and_name, front_marks, front_command}
-use Rattle.mit_parser.specs.Tree.{front_block, front_else, front_commands, front_more, front_more_names, front_more_pairs, front_ordering, front_header}
-use Rattle.mit_parser.specs.Tree.{front_shape, front_declarations}
+use Rattle.mit_parser.specs.Limits.{expression_size, IsWithin, IsIndexWithin, CommandWithin, BlockWithin, ElseWithin, CommandsWithin, MoreWithin}
+use Rattle.mit_parser.specs.Tree.{Index, ExpressionTree, no_index, index_of, AndName, no_name, and_name, Marks, no_marks, marks_of, CommandTree, skip_of}
+use Rattle.mit_parser.specs.Tree.{assign_of, sleep_of, if_of, while_of, mitigate_of, Block, block_of, ElsePart, no_else, else_of, Commands, commands_of}
+use Rattle.mit_parser.specs.Tree.{More, no_more, and_more, MoreNames, no_more_names, and_more_names, pair_of, MorePairs, no_more_pairs, and_pair, Ordering}
+use Rattle.mit_parser.specs.Tree.{no_ordering, ordering_of, Header, no_header, header_of, no_label, label_of, Shape, scalar_of, array_of, declaration_of}
+use Rattle.mit_parser.specs.Tree.{Declarations, no_declarations, and_declaration, ProgramTree, front_expression, front_index, front_and_name, front_marks}
+use Rattle.mit_parser.specs.Tree.{front_command, front_block, front_else, front_commands, front_more, front_more_names, front_more_pairs, front_ordering}
+use Rattle.mit_parser.specs.Tree.{front_header, front_shape, front_declarations}
 use Rattle.mit_parser.specs.Spells.{Spells}
-use Rattle.parse_laws.proofs.Counted.{st, calm, closes, fits_index, fits_whole}
+use Rattle.parse_laws.proofs.Counted.{st, calm, closes, fits_index, fits_expression}
 
 -- whatever the operators so far
 abbrev Any : ℕ → List Told → Type 0
@@ -34,25 +34,25 @@ fits_marks (marks_of p q w u (and_name x y z) v) d o r h k f =
     (c, (c, (c, (c, (c, (c, f 0 (omega arith)))))))
 
 -- an expression and its marks
-fits_marked : (e : Whole) (m : Marks) (d : ℕ) (r : List Told) → IsWithin d e → Any d r → Fits (st d 0) (front_whole e (front_marks m r))
+fits_marked : (e : ExpressionTree 1) (m : Marks) (d : ℕ) (r : List Told) → IsWithin d e → Any d r → Fits (st d 0) (front_expression e (front_marks m r))
 fits_marked e m d r h f =
     let depth = h.0 in
     let size = h.1 in
-    fits_whole e d 0 (front_marks m r) h.0 (omega (arith, size)) (fits_marks m d (0 + whole_size e) r (omega (arith, depth)) (omega (arith, size)) f)
+    fits_expression e d 0 (front_marks m r) h.0 (omega (arith, size)) (fits_marks m d (0 + expression_size e) r (omega (arith, depth)) (omega (arith, size)) f)
 
 assigned_index : (i : Index) (d : ℕ) (r : List Told) → d ≤ 100 → IsIndexWithin d i → Any d r → Fits (st d 0) (front_index i r)
 assigned_index no_index d r l h f = f 0 (omega arith)
 assigned_index (index_of p e q) d r l h f =
     let depth = h.0 in
     let size = h.1 in
-    fits_index (index_of p e q) d 0 r (omega (arith, depth)) (omega (arith, size)) (f (0 + whole_size e) (omega (arith, size)))
+    fits_index (index_of p e q) d 0 r (omega (arith, depth)) (omega (arith, size)) (f (0 + expression_size e) (omega (arith, size)))
 
 mutual
   fits_command : (c : CommandTree) (d : ℕ) (r : List Told) → d ≤ 100 → CommandWithin d c → Any d r → Fits (st d 0) (front_command c r)
   fits_command (skip_of p m) d r l h f = (calm d 0 l (omega arith), fits_marks m d 0 r l (omega arith) f)
   fits_command (assign_of w p i q e m) d r l h f =
       let c = calm d 0 l (omega arith) in
-      (c, assigned_index i d (sign_at Assign q ∷ front_whole e (front_marks m r)) l h.0 (λ o k. (c, fits_marked e m d r h.1 f)))
+      (c, assigned_index i d (sign_at Assign q ∷ front_expression e (front_marks m r)) l h.0 (λ o k. (c, fits_marked e m d r h.1 f)))
   fits_command (sleep_of p e m) d r l h f = (calm d 0 l (omega arith), fits_marked e m d r h f)
   fits_command (if_of p e m q b x) d r l h f =
       let c = calm d 0 l (omega arith) in (
@@ -70,8 +70,8 @@ mutual
         calm d 0 l (omega arith),
         (
           calm (d + 1) 0 (omega (arith, depth)) (omega arith),
-          fits_whole e (d + 1) 0 (front_and_name x (sign_at RightRound u ∷ rest)) h.0.0 (omega (arith, size))
-              (fits_and_name x (d + 1) (0 + whole_size e) (sign_at RightRound u ∷ rest) (omega (arith, depth)) (omega (arith, size))
+          fits_expression e (d + 1) 0 (front_and_name x (sign_at RightRound u ∷ rest)) h.0.0 (omega (arith, size))
+              (fits_and_name x (d + 1) (0 + expression_size e) (sign_at RightRound u ∷ rest) (omega (arith, depth)) (omega (arith, size))
               (λ o k. closes d o rest l k (fits_marks m d o (front_block b r) l k (λ n j. fits_block b d n r l h.1 (f 0 (omega arith)))))),
         ),
       )

@@ -8,7 +8,7 @@ use Rattle.std.proofs.lemmas.List.{get_or_past, get_or-map, length-map, length-r
 use Rattle.std.proofs.lemmas.List.Elements.{All-replicate, All-set}
 use Rattle.std.proofs.lemmas.Nat.{mul-add-lt, mod_below}
 use Rattle.std.proofs.lemmas.Bool.{cases_lt, and_from}
-use Rattle.label_lattice.specs.Order.{lattice_of}
+use Rattle.label_lattice.specs.Order.{lattice_of, most_labels}
 use Rattle.part_cache.specs.Ways.{held_tags, AreWays, to_front}
 use Rattle.part_cache.specs.History.{Touched, hits}
 use Rattle.part_cache.specs.Rows.{Rows, IsCache, StandsFor, tags_at, has, found, touched, empty_cache}
@@ -152,7 +152,7 @@ module _ (c : Inside) (n : ℕ) (w : Ways) (empty : held_tags w.tags ≡ []) (fi
   pub new_empty : StandsFor (rows_view c) []
   new_empty = subst (λ v. StandsFor v []) (sym new_value) (StandsFor-empty_cache c.lattice c.sets c.ways)
 
-  pub new_body : 0 < c.sets → 0 < c.ways → c.sets ≤ 64 → c.ways ≤ 8 → c.lattice.size ≤ 32 → AreWays w.tags → IsBody c
+  pub new_body : 0 < c.sets → 0 < c.ways → c.sets ≤ 64 → c.ways ≤ 8 → c.lattice.size ≤ most_labels → AreWays w.tags → IsBody c
   new_body some some' few few' labels set =
       record {
         some_set = some;

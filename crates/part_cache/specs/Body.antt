@@ -1,6 +1,7 @@
 -- The sets of the body, one after the other.
 use Rattle.std.specs.Prelude.{◌≡◌, ◌*◌, ◌≤◌, ◌<◌, length, map}
 use Rattle.std.specs.List.{All}
+use Rattle.label_lattice.specs.Order.{most_labels}
 use Rattle.part_cache.specs.Ways.{held_tags, AreWays}
 use Rattle.part_cache.specs.Rows.{Rows}
 use Rattle.part_cache.specs.declared.ways.Ways.{Ways}
@@ -18,7 +19,7 @@ rows_view c =
 pub record IsBody (c : Inside) : Type 0 where
   pub some_set : 0 < c.sets
   pub some_way : 0 < c.ways
-  pub labels : c.lattice.size ≤ 32
+  pub labels : c.lattice.size ≤ most_labels
   pub sets_below : c.sets ≤ 64
   pub ways_below : c.ways ≤ 8
   pub long : length c.slots.items ≡ c.lattice.size * c.sets

@@ -9,7 +9,7 @@ use Rattle.tool_texts.specs.declared.status.Status.{Status}
 use Rattle.tool_texts.specs.declared.status.Status.TheVariants as status
 use Rattle.tool_texts.specs.Ends.{EndsBy}
 use Rattle.tool_stages.specs.Content.{Content}
-use Rattle.mit_tool.specs.Answers.{IsAnswer, Before}
+use Rattle.mit_tool.specs.Commands.{IsAnswer, Before}
 use Rattle.mit_tool.specs.Once.{HasOneAnswer}
 use Rattle.tool_laws.proofs.Endings.{Ended, ends}
 use Rattle.tool_laws.specs.FirstAudit.{program_file, starts_file, audit_words, audit_answer, budget}

@@ -12,7 +12,7 @@ use Rattle.tool_stages.specs.Stages.{Observes, Types}
 use Rattle.tool_stages.specs.Content.{Content, IsKnown}
 use Rattle.tool_stages.specs.Goes.{IsTypable, CanBeAudited}
 use Rattle.tool_stages.proofs.OneLemmas.{one_typed}
-use Rattle.mit_tool.specs.Answers.{IsAnswer}
+use Rattle.mit_tool.specs.Commands.{IsAnswer}
 use Rattle.mit_tool.specs.Complete.{AreKnown, NoneRises, CanBeDone}
 use Rattle.mit_tool.specs.Once.{HasOneAnswer}
 use Rattle.tool_laws.proofs.Order.{low, two, two_order}

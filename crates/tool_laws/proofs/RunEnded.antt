@@ -8,7 +8,7 @@ use Rattle.tool_texts.specs.declared.status.Status.{Status}
 use Rattle.tool_texts.specs.declared.status.Status.TheVariants as status
 use Rattle.tool_texts.specs.Ends.{EndsBy}
 use Rattle.tool_stages.specs.Content.{Content}
-use Rattle.mit_tool.specs.Answers.{IsAnswer, Before}
+use Rattle.mit_tool.specs.Commands.{IsAnswer, Before}
 use Rattle.mit_tool.specs.Once.{HasOneAnswer}
 use Rattle.tool_laws.specs.FirstRun.{first_file, first_words, first_answer}
 use Rattle.tool_laws.proofs.Endings.{Ended, ends}

@@ -2,8 +2,8 @@
 use Rattle.std.proofs.Common.{refl, ℕ, pos, codes, arith}
 use Rattle.text_base.specs.declared.pos.Pos.{Pos}
 use Rattle.mit_parser.specs.Words.{told}
-use Rattle.mit_parser.specs.Tree.{number_atom, no_index, term_of, no_factor, sum_of, no_addend, plain, no_marks, CommandTree, assign_of, commands_of, no_more}
-use Rattle.mit_parser.specs.Tree.{no_header, label_of, scalar_of, DeclarationTree, declaration_of, no_declarations, and_declaration, ProgramTree}
+use Rattle.mit_parser.specs.Tree.{no_index, no_marks, CommandTree, assign_of, commands_of, no_more, number_of, no_header, label_of, scalar_of}
+use Rattle.mit_parser.specs.Tree.{DeclarationTree, declaration_of, no_declarations, and_declaration, ProgramTree}
 use Rattle.mit_parser.specs.Limits.{CommandsWithin}
 use Rattle.mit_parser.specs.Spells.{Spells, Resolves, IsProgram}
 use Rattle.mit_parser.proofs.NamedWhole.{named_of}
@@ -22,10 +22,7 @@ declaration = declaration_of (place 2 1) (codes "l") (place 2 5) (scalar_of (lab
 
 -- `l := 7`
 abbrev command : CommandTree
-command =
-    assign_of (codes "l") (place 3 1) no_index (place 3 3)
-    (plain (sum_of (term_of (number_atom (pos 7) (place 3 6)) no_factor) no_addend))
-    no_marks
+command = assign_of (codes "l") (place 3 1) no_index (place 3 3) (number_of (pos 7) (place 3 6)) no_marks
 
 abbrev tree : ProgramTree
 tree = record { header = no_header; declarations = and_declaration declaration no_declarations; commands = commands_of command no_more }

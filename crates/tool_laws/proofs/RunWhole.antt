@@ -15,7 +15,8 @@ use Rattle.tool_texts.specs.declared.status.Status.TheVariants.{Done}
 use Rattle.tool_stages.specs.Stages.{Reads, Types}
 use Rattle.tool_stages.specs.Content.{Content, IsKnown}
 use Rattle.tool_stages.specs.Goes.{IsTypable, IsHalted, HaltsBy}
-use Rattle.mit_tool.specs.Answers.{HasRun, IsAnswer, status_at}
+use Rattle.mit_tool.specs.Answers.{HasRun, status_at}
+use Rattle.mit_tool.specs.Commands.{IsAnswer}
 use Rattle.mit_tool.specs.Complete.{AreKnown, CanBeDone}
 use Rattle.mit_tool.specs.Once.{HasOneAnswer}
 use Rattle.tool_laws.specs.FirstRun.{first_text, first_answer}

@@ -10,7 +10,7 @@ ghost use Rattle.tool_words.specs.declared.words.EnvName.TheVariants.{Part};
 ghost use Rattle.tool_words.specs.WordsAsked.{command_of, audit};
 ghost use Rattle.tool_texts.specs.Texts.{memory_line};
 ghost use Rattle.tool_stages.specs.Content.{Content};
-ghost use Rattle.mit_tool.specs.Answers.{IsAnswer};
+ghost use Rattle.mit_tool.specs.Commands.{IsAnswer};
 ghost use Rattle.mit_tool.specs.Complete.{NoneRises, CanBeDone};
 ghost use Rattle.tool_laws.specs.FirstAudit.{program_text, starts_text, program_file, starts_file, budget, audit_words, audit_answer, IsMet};
 

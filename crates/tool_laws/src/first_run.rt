@@ -9,7 +9,7 @@ ghost use Rattle.tool_words.specs.WordsAsked.{command_of, run};
 ghost use Rattle.tool_texts.specs.Texts.{memory_line};
 ghost use Rattle.tool_texts.specs.Ends.{EndsBy};
 ghost use Rattle.tool_stages.specs.Content.{Content};
-ghost use Rattle.mit_tool.specs.Answers.{IsAnswer, Before};
+ghost use Rattle.mit_tool.specs.Commands.{IsAnswer, Before};
 ghost use Rattle.mit_tool.specs.Complete.{CanBeDone};
 ghost use Rattle.tool_laws.specs.FirstRun.{first_file, first_words, first_text, first_answer};
 

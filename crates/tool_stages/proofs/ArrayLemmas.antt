@@ -2,23 +2,20 @@
 use Rattle.std.proofs.Common.{◌≡◌, ℕ, ◌+◌, ◌<◌, List, sym, subst, Option, Some}
 use Rattle.std.proofs.lemmas.List.Elements.{All-nil, All-cons}
 use Rattle.text_base.specs.declared.pos.Pos.{Pos}
-use Rattle.mit_syntax.specs.Expression.{Expression, Binary}
 use Rattle.mit_syntax.specs.Plan.{Plan}
 use Rattle.mit_syntax.specs.Declarations.{Declaration, variables, cell_at, find_array}
 use Rattle.mit_syntax.specs.Program.{Syntax, plan_of}
 use Rattle.mit_syntax.specs.Valid.{IsShaped, AreShaped}
 use Rattle.mit_parser.specs.Words.{Told}
-use Rattle.mit_parser.specs.Operators.{factor_op, addend_op}
-use Rattle.mit_parser.specs.Tree.{Atom, Term, Factors, Sum, Addends, Whole, number_atom, name_atom, paren_atom, no_index, index_of, term_of, no_factor}
-use Rattle.mit_parser.specs.Tree.{and_factor, sum_of, no_addend, and_addend, plain, compared, CommandTree, skip_of, assign_of, sleep_of, if_of, while_of}
-use Rattle.mit_parser.specs.Tree.{mitigate_of, Block, block_of, ElsePart, no_else, else_of, Commands, commands_of, More, no_more, and_more, no_label}
-use Rattle.mit_parser.specs.Tree.{label_of, Shape, scalar_of, array_of as array_shape, declaration_of, Declarations, no_declarations, and_declaration}
+use Rattle.mit_parser.specs.Tree.{no_index, index_of, ExpressionTree, number_of, name_of, parens_of, binary_of, CommandTree, skip_of, assign_of, sleep_of}
+use Rattle.mit_parser.specs.Tree.{if_of, while_of, mitigate_of, Block, block_of, ElsePart, no_else, else_of, Commands, commands_of, More, no_more, and_more}
+use Rattle.mit_parser.specs.Tree.{no_label, label_of, Shape, scalar_of, array_of as array_shape, declaration_of, Declarations, no_declarations}
+use Rattle.mit_parser.specs.Tree.{and_declaration}
 use Rattle.mit_parser.specs.Scope.{Scope, scope, or_else}
-use Rattle.mit_parser.specs.Meaning.{atom_value, term_value, factors_value, sum_value, addends_value, whole_value, next_command, next_block, plan_command}
-use Rattle.mit_parser.specs.Meaning.{plan_block, plan_else, plan_commands, plan_more}
+use Rattle.mit_parser.specs.Meaning.{next_command, next_block, plan_command, expression_value, plan_block, plan_else, plan_commands, plan_more}
 use Rattle.mit_parser.specs.Faults.{shape_label, shape_length, written_label, written_length, decl_of}
-use Rattle.mit_parser.specs.Named.{label_names, declarations_in, AtomNamed, TermNamed, FactorsNamed, SumNamed, AddendsNamed, WholeNamed, CommandNamed}
-use Rattle.mit_parser.specs.Named.{BlockNamed, ElseNamed, CommandsNamed, MoreNamed, ShapeNamed, ShapesNamed}
+use Rattle.mit_parser.specs.Named.{label_names, declarations_in, CommandNamed, ExpressionNamed, BlockNamed, ElseNamed, CommandsNamed, MoreNamed, ShapeNamed}
+use Rattle.mit_parser.specs.Named.{ShapesNamed}
 use Rattle.mit_parser.specs.Spells.{IsProgram}
 use Rattle.timing_types.specs.Arrays.{IsArray, HasArrays, ArraysIn}
 use Rattle.timing_types.specs.Labelling.{Labelling, variable_of, IsKept, IsLabelling}
@@ -31,40 +28,22 @@ module _ (sc : Scope) (g : ℕ → ℕ) (shaped : AreShaped sc.declarations) (ke
   array_named w a e = subst (λ (z : Option (ℕ × ℕ)). IsArray g (or_else (0, 0) z).0 (or_else (0, 0) z).1) (sym e)
       (array_of sc.declarations g shaped kept a.0 a.1 (w, e))
 
-  mutual
-    arrays_atom : (a : Atom) → AtomNamed sc.declarations a → HasArrays g (atom_value sc a)
-    arrays_atom (number_atom n p) h = tt
-    arrays_atom (name_atom w p no_index) h = tt
-    arrays_atom (name_atom w p (index_of q x s)) h = (array_named w h.0.0 h.0.1, arrays_whole x h.1)
-    arrays_atom (paren_atom p x q) h = arrays_whole x h
-
-    arrays_term : (t : Term) → TermNamed sc.declarations t → HasArrays g (term_value sc t)
-    arrays_term (term_of a fs) h = arrays_factors fs (atom_value sc a) h.1 (arrays_atom a h.0)
-
-    arrays_factors : (fs : Factors) (l : Expression) → FactorsNamed sc.declarations fs → HasArrays g l → HasArrays g (factors_value sc fs l)
-    arrays_factors no_factor l h k = k
-    arrays_factors (and_factor o p a fs) l h k = arrays_factors fs (Binary (factor_op o) l (atom_value sc a)) h.1 (k, arrays_atom a h.0)
-
-    arrays_sum : (t : Sum) → SumNamed sc.declarations t → HasArrays g (sum_value sc t)
-    arrays_sum (sum_of t ts) h = arrays_addends ts (term_value sc t) h.1 (arrays_term t h.0)
-
-    arrays_addends : (ts : Addends) (l : Expression) → AddendsNamed sc.declarations ts → HasArrays g l → HasArrays g (addends_value sc ts l)
-    arrays_addends no_addend l h k = k
-    arrays_addends (and_addend o p t ts) l h k = arrays_addends ts (Binary (addend_op o) l (term_value sc t)) h.1 (k, arrays_term t h.0)
-
-    arrays_whole : (t : Whole) → WholeNamed sc.declarations t → HasArrays g (whole_value sc t)
-    arrays_whole (plain s) h = arrays_sum s h
-    arrays_whole (compared s o p t) h = (arrays_sum s h.0, arrays_sum t h.1)
+  arrays_expression : {n : ℕ} (t : ExpressionTree n) → ExpressionNamed sc.declarations t → HasArrays g (expression_value sc t)
+  arrays_expression (number_of k p) h = tt
+  arrays_expression (name_of w p no_index) h = tt
+  arrays_expression (name_of w p (index_of q e s)) h = (array_named w h.0.0 h.0.1, arrays_expression e h.1)
+  arrays_expression (parens_of p e q) h = arrays_expression e h
+  arrays_expression (binary_of o b l p t) h = (arrays_expression l h.0, arrays_expression t h.1)
 
   mutual
     arrays_command : (c : CommandTree) (k : ℕ) (rest : Plan) → CommandNamed sc c → ArraysIn g rest → ArraysIn g (plan_command sc k c rest)
     arrays_command (skip_of p m) k rest h r = r
-    arrays_command (assign_of w p no_index q e m) k rest h r = (arrays_whole e h.2, r)
-    arrays_command (assign_of w p (index_of a i b) q e m) k rest h r = ((array_named w h.0.0 h.0.1, arrays_whole i h.1, arrays_whole e h.2), r)
-    arrays_command (sleep_of p e m) k rest h r = (arrays_whole e h.0, r)
-    arrays_command (if_of p e m q b o) k rest h r = (arrays_whole e h.0, arrays_block b k h.2, arrays_else o p (next_block b k) h.3, r)
-    arrays_command (while_of p e m q b) k rest h r = (arrays_whole e h.0, arrays_block b k h.2, r)
-    arrays_command (mitigate_of p q e l u m b) k rest h r = (arrays_whole e h.0, arrays_block b (k + 1) h.3, r)
+    arrays_command (assign_of w p no_index q e m) k rest h r = (arrays_expression e h.2, r)
+    arrays_command (assign_of w p (index_of a i b) q e m) k rest h r = ((array_named w h.0.0 h.0.1, arrays_expression i h.1, arrays_expression e h.2), r)
+    arrays_command (sleep_of p e m) k rest h r = (arrays_expression e h.0, r)
+    arrays_command (if_of p e m q b o) k rest h r = (arrays_expression e h.0, arrays_block b k h.2, arrays_else o p (next_block b k) h.3, r)
+    arrays_command (while_of p e m q b) k rest h r = (arrays_expression e h.0, arrays_block b k h.2, r)
+    arrays_command (mitigate_of p q e l u m b) k rest h r = (arrays_expression e h.0, arrays_block b (k + 1) h.3, r)
 
     arrays_block : (b : Block) (k : ℕ) → BlockNamed sc b → ArraysIn g (plan_block sc k b)
     arrays_block (block_of p c q) k h = arrays_commands c k h

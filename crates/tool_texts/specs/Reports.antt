@@ -8,7 +8,7 @@ use Rattle.mit_syntax.specs.Declarations.{cell_at}
 use Rattle.mit_syntax.specs.Program.{Syntax}
 use Rattle.event_print.specs.Text.{cell_text, cycle_text}
 use Rattle.leak_bound.specs.Digits.{digits}
-use Rattle.leak_bound.specs.Records.{distinct_count}
+use Rattle.leak_bound.specs.Records.{distinct_count, classes_of}
 use Rattle.leak_audit.specs.declared.measure.Measures.{Measures}
 use Rattle.leak_audit.specs.declared.what.What.{What}
 use Rattle.leak_audit.specs.declared.what.What.TheVariants.{Variable, Partition}
@@ -17,7 +17,7 @@ use Rattle.cut_audit.specs.declared.report.CutReport.{CutReport}
 use Rattle.mit_gen.specs.Made.{program_text}
 use Rattle.black_box.specs.declared.fault.ReadyFault.{ReadyFault}
 use Rattle.black_box.specs.declared.fault.ReadyFault.TheVariants as ready
-use Rattle.black_box.specs.Audits.{same_cycles, classes_of}
+use Rattle.black_box.specs.Audits.{same_cycles}
 use Rattle.black_box.specs.Outcomes.{Outcome}
 use Rattle.tool_texts.specs.Texts.{number_line, memory_line}
 
@@ -139,7 +139,7 @@ all_released outcomes = map (λ w. w.at) outcomes
 abbrev pub box_lines : ℕ → ℕ → List (List ℕ) → List Outcome → List ℕ
 box_lines first budget runs outcomes =
     box_text first budget runs outcomes (distinct_count same_cycles (all_released outcomes))
-    (budget + 1) (digits budget) (classes_of (all_released outcomes))
+    (budget + 1) (digits budget) (classes_of same_cycles (all_released outcomes))
 
 abbrev pub ready_fault_line : ReadyFault → List ℕ
 ready_fault_line (ready.BadLine n) = number_line (codes "ready: bad line ") n

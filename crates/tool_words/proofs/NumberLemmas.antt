@@ -6,7 +6,7 @@ use Rattle.std.specs.List.{list_all}
 use Rattle.std.specs.Str.Parse.{digits_value, ParsesUnsigned}
 use Rattle.std.proofs.lemmas.Str.Parse.{IsDigitsTest, numerals_by_value, parse_digits}
 use Rattle.clap.proofs.WalkLemmas.{both}
-use Rattle.tool_words.specs.WordsAsked.{is_number, number_in}
+use Rattle.tool_words.specs.WordsValues.{is_number, number_in}
 
 tells_digits : IsDigitsTest (λ ds. list_all is_ascii_digit ds ≡ true)
 tells_digits = record {

@@ -3,11 +3,9 @@ use Rattle.std.proofs.Common.{◌≡◌, ◌∙◌, sym, ap, subst, List, Option
 use Rattle.clap.specs.Words.{App, Row, Text, fault_of, matches_of}
 use Rattle.clap.specs.Walk.{is_empty}
 use Rattle.tool_words.specs.declared.words.Command.{Command}
-use Rattle.tool_words.specs.declared.words.Verb.{Verb}
+use Rattle.tool_words.specs.declared.verbs.Verb.{Verb}
 use Rattle.tool_words.specs.declared.words.WordsFault.{WordsFault}
-use Rattle.tool_words.specs.WordsAsked.{Asked, asked_after, given}
-use Rattle.tool_words.specs.WordsForms.{form_app}
-use Rattle.tool_words.specs.WordsViews.{asked_of}
+use Rattle.tool_words.specs.WordsAsked.{Asked, asked_after, asked_of, form_app, given}
 
 pub taken_asks : (verb : Verb) (words : List Text) (a : App) (rows : List Row) (t : Option Asked) → a ≡ form_app verb
     → is_empty (fault_of a words) ≡ true → rows ≡ matches_of a words → t ≡ given verb rows → asked_after verb words ≡ t

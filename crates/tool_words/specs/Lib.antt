@@ -1,3 +1,3 @@
 pub mod WordsAsked
 pub mod WordsForms
-pub mod WordsViews
+pub mod WordsValues

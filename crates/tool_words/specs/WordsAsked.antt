@@ -1,16 +1,16 @@
 -- What the words of a command line ask for.
-use Rattle.std.specs.Prelude.{ℕ, ◌^◌, ◌≤◌, ◌&&◌, Bool, List, [], ◌∷◌, Option, Some, None, codes, length, bytes_eq, option_and_then, if◌then◌else◌}
-use Rattle.std.specs.Bool.{nat_le, ⊤}
-use Rattle.std.specs.Char.{is_ascii_digit}
-use Rattle.std.specs.List.{list_all}
-use Rattle.std.specs.Str.Parse.{digits_value}
-use Rattle.clap.specs.Words.{Row, Text, fault_of, first_of, matches_of}
+use Rattle.std.specs.Prelude.{ℕ, ◌^◌, ◌≤◌, List, [], ◌∷◌, Option, Some, None, codes, bytes_eq, option_and_then, option_map, if◌then◌else◌}
+use Rattle.std.specs.Bool.{⊤}
+use Rattle.run_limits.specs.Cycles.{IsCycles}
+use Rattle.clap.specs.Words.{App, Row, Text, fault_of, first_of, matches_of, new_app, new_rule, with_rule}
 use Rattle.clap.specs.Walk.{is_empty}
+use Rattle.tool_words.specs.declared.verbs.Verb.{Verb}
+use Rattle.tool_words.specs.declared.verbs.Verb.TheVariants.{Check, Infer, Compile, Run, Meaning, Audit, Gen, Cut, Blackbox, Certify, Recheck}
+use Rattle.tool_words.specs.declared.words.Command.{Command}
+use Rattle.tool_words.specs.declared.words.Command.TheVariants as command
 use Rattle.tool_words.specs.declared.words.EnvName.{EnvName}
-use Rattle.tool_words.specs.declared.words.EnvName.TheVariants.{Flat, Part, Part2}
-use Rattle.tool_words.specs.declared.words.Verb.{Verb}
-use Rattle.tool_words.specs.declared.words.Verb.TheVariants.{Check, Infer, Compile, Run, Meaning, Audit, Gen, Cut, Blackbox, Certify, Recheck}
-use Rattle.tool_words.specs.WordsForms.{form_app}
+use Rattle.tool_words.specs.WordsForms.{bare, option_rule, required_option_rule, required_word_rule}
+use Rattle.tool_words.specs.WordsValues.{budget_given, env_given, number_given}
 
 -- A command with the bytes of its texts, in the order of `Command`: file, starts, observer, environment and budget
 -- of an audit and of a cut; file, starts, environment, budget and observer of a run.
@@ -27,7 +27,7 @@ pub data Asked : Type 0 where
   certify : Text → Asked
   recheck : Text → Text → Asked
 
--- ---- single words
+-- ---- command words
 
 abbrev pub verb_named : Text → Option Verb
 verb_named word =
@@ -43,39 +43,59 @@ verb_named word =
     (if bytes_eq word (codes "certify") then Some Certify else
     (if bytes_eq word (codes "recheck") then Some Recheck else None))))))))))
 
--- one to twenty decimal digits
-abbrev pub is_number : Text → Bool
-is_number word = nat_le 1 (length word) && (nat_le (length word) 20 && list_all is_ascii_digit word)
+-- ---- the form of each command
 
--- the value of a number that is at least `least` and at most `most`
-abbrev pub number_in : ℕ → ℕ → Text → Option ℕ
-number_in least most word =
-    if is_number word && (nat_le least (digits_value 10 word) && nat_le (digits_value 10 word) most)
-    then Some (digits_value 10 word) else None
+-- FILE
+abbrev pub file_app : Text → App
+file_app name = with_rule (bare (new_app name)) (required_word_rule (codes "FILE"))
 
--- cycles from 1 to 2^40; none written means a million
-abbrev pub budget_named : Option Text → Option ℕ
-budget_named None = Some 1000000
-budget_named (Some word) = number_in 1 (2 ^ 40) word
+-- FILE [STARTS] [--env E] [--budget T] [--observer L]
+abbrev pub run_app : App
+run_app = with_rule (with_rule (with_rule (with_rule (with_rule (bare (new_app (codes "run")))
+    (required_word_rule (codes "FILE"))) (new_rule (codes "STARTS")))
+    (option_rule (codes "env"))) (option_rule (codes "budget"))) (option_rule (codes "observer"))
 
--- none written means `part`
-abbrev pub env_named : Option Text → Option EnvName
-env_named None = Some Part
-env_named (Some word) =
-    if bytes_eq word (codes "flat") then Some Flat else
-    (if bytes_eq word (codes "part") then Some Part else
-    (if bytes_eq word (codes "part2") then Some Part2 else None))
+-- FILE [STARTS] --steps N
+abbrev pub meaning_app : App
+meaning_app = with_rule (with_rule (with_rule (bare (new_app (codes "meaning")))
+    (required_word_rule (codes "FILE"))) (new_rule (codes "STARTS"))) (required_option_rule (codes "steps"))
 
--- ---- the values that `clap` gives to the names of a form
+-- FILE STARTS --observer L [--env E] [--budget T]
+abbrev pub audit_app : Text → App
+audit_app name = with_rule (with_rule (with_rule (with_rule (with_rule (bare (new_app name))
+    (required_word_rule (codes "FILE"))) (required_word_rule (codes "STARTS")))
+    (required_option_rule (codes "observer"))) (option_rule (codes "env"))) (option_rule (codes "budget"))
 
-abbrev pub number_given : Text → ℕ → ℕ → List Row → Option ℕ
-number_given name least most rows = option_and_then (number_in least most) (first_of name rows)
+-- SIZE NUMBER
+abbrev pub gen_app : App
+gen_app = with_rule (with_rule (bare (new_app (codes "gen")))
+    (required_word_rule (codes "SIZE"))) (required_word_rule (codes "NUMBER"))
 
-abbrev pub budget_given : List Row → Option ℕ
-budget_given rows = budget_named (first_of (codes "budget") rows)
+-- READY --first Q [--budget T]
+abbrev pub blackbox_app : App
+blackbox_app = with_rule (with_rule (with_rule (bare (new_app (codes "blackbox")))
+    (required_word_rule (codes "READY"))) (required_option_rule (codes "first"))) (option_rule (codes "budget"))
 
-abbrev pub env_given : List Row → Option EnvName
-env_given rows = env_named (first_of (codes "env") rows)
+-- FILE CERTIFICATE
+abbrev pub recheck_app : App
+recheck_app = with_rule (with_rule (bare (new_app (codes "recheck")))
+    (required_word_rule (codes "FILE"))) (required_word_rule (codes "CERTIFICATE"))
+
+-- the words that follow each command word
+abbrev pub form_app : Verb → App
+form_app Check = file_app (codes "check")
+form_app Infer = file_app (codes "infer")
+form_app Compile = file_app (codes "compile")
+form_app Run = run_app
+form_app Meaning = meaning_app
+form_app Audit = audit_app (codes "audit")
+form_app Gen = gen_app
+form_app Cut = audit_app (codes "cut")
+form_app Blackbox = blackbox_app
+form_app Certify = file_app (codes "certify")
+form_app Recheck = recheck_app
+
+-- ---- what the values that `clap` gives to the names of a form ask for
 
 abbrev pub file_asked : (Text → Asked) → Option Text → Option Asked
 file_asked command (Some file) = Some (command file)
@@ -144,9 +164,20 @@ command_of (word ∷ words) = option_and_then (λ verb. asked_after verb words) 
 
 -- ---- what callers rest on
 
--- from 1 to 2^40
-abbrev pub IsCycles : ℕ → Type 0
-IsCycles n = (1 ≤ n) × (n ≤ 2 ^ 40)
+-- a command that was read, with the bytes of its texts
+abbrev pub asked_of : Command → Asked
+asked_of (command.Check file) = check file.now
+asked_of (command.Infer file) = infer file.now
+asked_of (command.Compile file) = compile file.now
+asked_of (command.Run file starts env budget observer) =
+    run file.now (option_map (λ s. s.now) starts) env budget (option_map (λ l. l.now) observer)
+asked_of (command.Meaning file starts steps) = meaning file.now (option_map (λ s. s.now) starts) steps
+asked_of (command.Audit file starts observer env budget) = audit file.now starts.now observer.now env budget
+asked_of (command.Gen size number) = gen size number
+asked_of (command.Cut file starts observer env budget) = cut file.now starts.now observer.now env budget
+asked_of (command.Blackbox ready first budget) = blackbox ready.now first budget
+asked_of (command.Certify file) = certify file.now
+asked_of (command.Recheck file certificate) = recheck file.now certificate.now
 
 -- the numbers of a command are in range
 abbrev pub IsInRange : Asked → Type 0

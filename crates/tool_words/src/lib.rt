@@ -4,4 +4,5 @@
 pub mod forms;
 pub mod readers;
 pub mod values;
+mod verbs;
 pub mod words;

@@ -1,35 +1,16 @@
-//! What single words mean: command words, numbers and the names of environments.
+//! What single words mean: numbers and the names of environments.
 
 ghost use Rattle.std.specs.Prelude.{◌≡◌, ◌≤◌, IfSome, option_map};
 ghost use Rattle.std.specs.Char.{is_ascii_digit};
 ghost use Rattle.std.specs.List.{list_all};
-ghost use Rattle.tool_words.specs.WordsAsked.{IsCycles, budget_named, env_named, number_in, verb_named};
+ghost use Rattle.run_limits.specs.Cycles.{IsCycles};
+ghost use Rattle.tool_words.specs.WordsValues.{budget_named, env_named, number_in};
 
-use crate::words::{DEFAULT_BUDGET, EnvName, Verb};
+use crate::words::{DEFAULT_BUDGET, EnvName};
 use run_limits::MAX_CYCLES;
 
 /// The most digits of a number.
 const MAX_DIGITS: usize = 20;
-
-/// The command word that a text is.
-pub(crate) fn verb_of(word: &str) -> Option<Verb>
-    ensures { result ≡ verb_named word.now }
-{
-    match word {
-        "check" => Some(Verb::Check),
-        "infer" => Some(Verb::Infer),
-        "compile" => Some(Verb::Compile),
-        "run" => Some(Verb::Run),
-        "meaning" => Some(Verb::Meaning),
-        "audit" => Some(Verb::Audit),
-        "gen" => Some(Verb::Gen),
-        "cut" => Some(Verb::Cut),
-        "blackbox" => Some(Verb::Blackbox),
-        "certify" => Some(Verb::Certify),
-        "recheck" => Some(Verb::Recheck),
-        _ => None,
-    }
-}
 
 fn is_digits(text: &str) -> bool
     ensures { result ≡ list_all is_ascii_digit text.now }

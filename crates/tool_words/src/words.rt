@@ -1,12 +1,10 @@
 //! The words of a command line, without the program's name.
 
 ghost use Rattle.std.specs.Prelude.{◌≡◌, IfOk, IsErrOf, None, Some, map, string_bytes};
-ghost use Rattle.tool_words.specs.WordsAsked.{IsInRange, asked_after, command_of};
-ghost use Rattle.tool_words.specs.WordsViews.{asked_of};
+ghost use Rattle.tool_words.specs.WordsAsked.{IsInRange, asked_after, asked_of, command_of};
 
-use crate::forms::{form, matched};
-use crate::readers::command;
-use crate::values::verb_of;
+use crate::forms::matched;
+use crate::verbs::{Verb, command, form, verb_of};
 use run_limits::MAX_CYCLES;
 use std::alloc::Global;
 
@@ -31,22 +29,6 @@ pub enum EnvName {
     Part,
     /// As `Part`, with a second level of cache.
     Part2,
-}
-
-/// The command words.
-#[derive(Clone, Copy)]
-pub(crate) enum Verb {
-    Check,
-    Infer,
-    Compile,
-    Run,
-    Meaning,
-    Audit,
-    Gen,
-    Cut,
-    Blackbox,
-    Certify,
-    Recheck,
 }
 
 /// What words ask for. Files and observers are named by the words themselves; whether there are such is not seen here.

@@ -36,21 +36,13 @@ level_in bottom (Some l) = l.number
 
 -- a mitigate has a level, and no other command has one
 abbrev pub HasLevel : Act → Option Label → Type 0
-HasLevel Skip v = v ≡ None
-HasLevel (Assign r x) v = v ≡ None
-HasLevel (Sleep l) v = v ≡ None
-HasLevel (If l) v = v ≡ None
-HasLevel (While l) v = v ≡ None
 HasLevel (Mitigate l w) v = (f : Label) × (v ≡ Some f)
+HasLevel a v = v ≡ None
 
 -- a written level is kept
 abbrev pub KeepsLevel : ℕ → Act → Option Label → Type 0
-KeepsLevel b Skip v = Unit {0}
-KeepsLevel b (Assign r x) v = Unit {0}
-KeepsLevel b (Sleep l) v = Unit {0}
-KeepsLevel b (If l) v = Unit {0}
-KeepsLevel b (While l) v = Unit {0}
 KeepsLevel b (Mitigate l w) v = IsKept w (level_in b v)
+KeepsLevel b a v = Unit {0}
 
 -- the start label that the lines before give: bottom, the end of the command before, `t | le | er` of an `if` or
 -- a `mitigate` around it, or the end of a `while` around it

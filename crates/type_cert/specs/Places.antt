@@ -25,13 +25,7 @@ place w pc h act s c = record { written = w; pc = label pc; here = label h; act 
 -- what the last command of a list closes is not closed by a command that another one follows
 abbrev pub closing : Plan → Close → Close
 closing Done c = c
-closing (Skip w p) c = Open
-closing (Assign w x e p) c = Open
-closing (Put w f n j e p) c = Open
-closing (Sleep w e p) c = Open
-closing (If w e a b p) c = Open
-closing (While w e d p) c = Open
-closing (Mitigate w k l e d p) c = Open
+closing p c = Open
 
 -- the number of the last command of a list that is numbered from i; of an empty one it is last
 abbrev pub last_of : Plan → ℕ → ℕ → ℕ

@@ -1,7 +1,6 @@
 //! The chunks of a text.
 
 ghost use Rattle.std.specs.Prelude.{◌≡◌, OnOk};
-ghost use Rattle.mit_syntax.specs.Lexemes.{key_text, sign_text};
 ghost use Rattle.mit_syntax.specs.Chunks.{number};
 ghost use Rattle.mit_syntax.specs.Layout.{Puts, a_key, a_sign, a_name, a_space, a_line, a_comma, a_word, a_number, spaced, spaced_key, indent, new_line};
 
@@ -10,65 +9,18 @@ use itoa::Buffer;
 use label_lattice::name::Name;
 use std::alloc::AllocError;
 
-fn key_bytes(keyword: Keyword) -> &'static [u8]
-    ensures { result.now ≡ key_text keyword }
-{
-    match keyword {
-        Keyword::Labels => b"labels".as_slice(),
-        Keyword::Order => b"order".as_slice(),
-        Keyword::Var => b"var".as_slice(),
-        Keyword::Skip => b"skip".as_slice(),
-        Keyword::If => b"if".as_slice(),
-        Keyword::Then => b"then".as_slice(),
-        Keyword::Else => b"else".as_slice(),
-        Keyword::While => b"while".as_slice(),
-        Keyword::Do => b"do".as_slice(),
-        Keyword::Mitigate => b"mitigate".as_slice(),
-        Keyword::Sleep => b"sleep".as_slice(),
-    }
-}
-
-fn sign_bytes(sign: Sign) -> &'static [u8]
-    ensures { result.now ≡ sign_text sign }
-{
-    match sign {
-        Sign::Assign => b":=".as_slice(),
-        Sign::Colon => b":".as_slice(),
-        Sign::Semicolon => b";".as_slice(),
-        Sign::Comma => b",".as_slice(),
-        Sign::LeftRound => b"(".as_slice(),
-        Sign::RightRound => b")".as_slice(),
-        Sign::LeftBrace => b"{".as_slice(),
-        Sign::RightBrace => b"}".as_slice(),
-        Sign::LeftSquare => b"[".as_slice(),
-        Sign::RightSquare => b"]".as_slice(),
-        Sign::At => b"@".as_slice(),
-        Sign::Plus => b"+".as_slice(),
-        Sign::Minus => b"-".as_slice(),
-        Sign::Star => b"*".as_slice(),
-        Sign::Slash => b"/".as_slice(),
-        Sign::Percent => b"%".as_slice(),
-        Sign::Equal => b"==".as_slice(),
-        Sign::NotEqual => b"!=".as_slice(),
-        Sign::LessEqual => b"<=".as_slice(),
-        Sign::Less => b"<".as_slice(),
-        Sign::GreaterEqual => b">=".as_slice(),
-        Sign::Greater => b">".as_slice(),
-    }
-}
-
 /// The text of a keyword.
 pub fn put_key(out: &mut Vec<u8>, keyword: Keyword) -> Result<(), AllocError>
     ensures { OnOk result (Puts out.old.items out.new.items (a_key keyword)) }
 {
-    out.extend_from_slice(key_bytes(keyword))
+    out.extend_from_slice(keyword.text())
 }
 
 /// The text of a sign.
 pub fn put_sign(out: &mut Vec<u8>, which: Sign) -> Result<(), AllocError>
     ensures { OnOk result (Puts out.old.items out.new.items (a_sign which)) }
 {
-    out.extend_from_slice(sign_bytes(which))
+    out.extend_from_slice(which.text())
 }
 
 /// A number in decimal digits, behind `-` if it is negative.

@@ -2,64 +2,15 @@
 
 ghost use Rattle.std.specs.Prelude.{◌≡◌, OnOk};
 ghost use Rattle.mit_syntax.specs.Expression.{expression_of};
-ghost use Rattle.mit_syntax.specs.Ranks.{rank, left_need, right_need};
-ghost use Rattle.mit_syntax.specs.Layout.{Puts, op_sign, expression_part, in_square};
+ghost use Rattle.mit_syntax.specs.Layout.{Puts, expression_part, in_square};
 ghost use Rattle.mit_syntax.specs.Valid.{IsKnown, AreShaped};
 
-use crate::ast::{Expr, Op};
+use crate::ast::Expr;
 use crate::declarations::Variables;
+use crate::operators::{left_need, op_sign, rank, right_need};
 use crate::print::chunks::{put_name, put_number, put_sign, put_spaced};
 use crate::token::Sign;
 use std::alloc::AllocError;
-
-fn op_sign(op: Op) -> Sign
-    ensures { result ≡ op_sign op }
-{
-    match op {
-        Op::Add => Sign::Plus,
-        Op::Sub => Sign::Minus,
-        Op::Mul => Sign::Star,
-        Op::Div => Sign::Slash,
-        Op::Rem => Sign::Percent,
-        Op::Eq => Sign::Equal,
-        Op::Ne => Sign::NotEqual,
-        Op::Lt => Sign::Less,
-        Op::Le => Sign::LessEqual,
-        Op::Gt => Sign::Greater,
-        Op::Ge => Sign::GreaterEqual,
-    }
-}
-
-fn rank(op: Op) -> u32
-    ensures { result ≡ rank op }
-{
-    match op {
-        Op::Eq | Op::Ne | Op::Lt | Op::Le | Op::Gt | Op::Ge => 1,
-        Op::Add | Op::Sub => 2,
-        Op::Mul | Op::Div | Op::Rem => 3,
-    }
-}
-
-// The least rank that the left part has without parentheses.
-fn left_need(op: Op) -> u32
-    ensures { result ≡ left_need op }
-{
-    match op {
-        Op::Eq | Op::Ne | Op::Lt | Op::Le | Op::Gt | Op::Ge | Op::Add | Op::Sub => 2,
-        Op::Mul | Op::Div | Op::Rem => 3,
-    }
-}
-
-// The same of the right part.
-fn right_need(op: Op) -> u32
-    ensures { result ≡ right_need op }
-{
-    match op {
-        Op::Eq | Op::Ne | Op::Lt | Op::Le | Op::Gt | Op::Ge => 2,
-        Op::Add | Op::Sub => 3,
-        Op::Mul | Op::Div | Op::Rem => 4,
-    }
-}
 
 /// Puts an expression where at least this rank is needed.
 pub fn put_expression(

@@ -6,13 +6,14 @@ ghost use Rattle.tim_base.specs.Faults.{Rose};
 ghost use Rattle.label_lattice.specs.declared.label.Label.{Label};
 ghost use Rattle.timing_types.specs.Labelled.{LabelledProgram};
 ghost use Rattle.start_file.specs.Starts.{StartValue, seen};
-ghost use Rattle.tool_words.specs.WordsAsked.{IsCycles, audit};
+ghost use Rattle.run_limits.specs.Cycles.{IsCycles};
+ghost use Rattle.tool_words.specs.WordsAsked.{audit};
 ghost use Rattle.tool_texts.specs.Ends.{IsStop, status_of};
 ghost use Rattle.tool_stages.specs.Begins.{CanAudit};
 ghost use Rattle.tool_stages.specs.Accepted.{is_past_typing, IsAccepted};
 ghost use Rattle.tool_stages.specs.Fetches.{Fetches};
 ghost use Rattle.mit_tool.specs.Audited.{HasAudited};
-ghost use Rattle.mit_tool.specs.Answers.{IsAnswer};
+ghost use Rattle.mit_tool.specs.Commands.{IsAnswer};
 
 use audit_stage::audited::audited;
 use run_watch::Watch;

@@ -4,11 +4,12 @@ ghost use Rattle.std.specs.Prelude.{◌≤◌, IfOk, IfErr, length, ◌∷◌, [
 ghost use Rattle.tim_base.specs.Kept.{KeepsFiles, NoCountFalls};
 ghost use Rattle.tim_base.specs.Faults.{Rose};
 ghost use Rattle.black_box.specs.Files.{ready_lists};
-ghost use Rattle.tool_words.specs.WordsAsked.{IsCycles, blackbox};
+ghost use Rattle.run_limits.specs.Cycles.{IsCycles};
+ghost use Rattle.tool_words.specs.WordsAsked.{blackbox};
 ghost use Rattle.tool_texts.specs.Ends.{IsStop};
 ghost use Rattle.tool_stages.specs.Fetches.{Fetches};
 ghost use Rattle.mit_tool.specs.Audited.{HasReleased};
-ghost use Rattle.mit_tool.specs.Answers.{IsAnswer};
+ghost use Rattle.mit_tool.specs.Commands.{IsAnswer};
 
 use black_box::audit::box_audit;
 use run_limits::MAX_RUNS;

@@ -7,7 +7,7 @@ ghost use Rattle.tool_words.specs.WordsAsked.{certify};
 ghost use Rattle.tool_texts.specs.Ends.{IsStop, status_of};
 ghost use Rattle.tool_stages.specs.Accepted.{is_past_typing, IsAccepted};
 ghost use Rattle.tool_stages.specs.Fetches.{Fetches};
-ghost use Rattle.mit_tool.specs.Answers.{IsAnswer};
+ghost use Rattle.mit_tool.specs.Commands.{IsAnswer};
 
 use std::alloc::Global;
 use tim_base::shelf::Shelf;

@@ -8,7 +8,7 @@ ghost use Rattle.tool_texts.specs.Ends.{IsStop};
 ghost use Rattle.tool_stages.specs.Begins.{CheckStops};
 ghost use Rattle.tool_stages.specs.Accepted.{IsAccepted};
 ghost use Rattle.tool_stages.specs.Fetches.{Fetches};
-ghost use Rattle.mit_tool.specs.Answers.{IsAnswer};
+ghost use Rattle.mit_tool.specs.Commands.{IsAnswer};
 
 use std::alloc::Global;
 use tim_base::line::Line;

@@ -7,14 +7,15 @@ ghost use Rattle.label_lattice.specs.declared.label.Label.{Label};
 ghost use Rattle.timing_types.specs.Labelled.{LabelledProgram};
 ghost use Rattle.start_file.specs.Starts.{StartValue, seen};
 ghost use Rattle.tool_words.specs.declared.words.EnvName.{EnvName};
-ghost use Rattle.tool_words.specs.WordsAsked.{IsCycles, cut};
+ghost use Rattle.run_limits.specs.Cycles.{IsCycles};
+ghost use Rattle.tool_words.specs.WordsAsked.{cut};
 ghost use Rattle.tool_texts.specs.Ends.{IsStop, status_of};
 ghost use Rattle.tool_stages.specs.Envs.{CutReportsIn, CutFaultsIn};
 ghost use Rattle.tool_stages.specs.Begins.{CanAudit};
 ghost use Rattle.tool_stages.specs.Accepted.{is_past_typing, IsAccepted};
 ghost use Rattle.tool_stages.specs.Fetches.{Fetches};
 ghost use Rattle.mit_tool.specs.Audited.{CutStops, HasCut};
-ghost use Rattle.mit_tool.specs.Answers.{IsAnswer};
+ghost use Rattle.mit_tool.specs.Commands.{IsAnswer};
 
 use cut_audit::cut::cut;
 use cut_audit::report::{CutFault, CutReport};

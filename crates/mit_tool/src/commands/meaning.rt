@@ -7,7 +7,7 @@ ghost use Rattle.tool_words.specs.WordsAsked.{meaning};
 ghost use Rattle.tool_texts.specs.Ends.{EndsBy};
 ghost use Rattle.tool_stages.specs.Fetches.{HasFetched, named};
 ghost use Rattle.mit_tool.specs.Logged.{HasWritten, AreLines, IsMeaningLine};
-ghost use Rattle.mit_tool.specs.Answers.{IsAnswer, Before};
+ghost use Rattle.mit_tool.specs.Commands.{IsAnswer, Before};
 
 mod walk;
 

@@ -6,7 +6,7 @@ ghost use Rattle.tim_base.specs.Faults.{Rose};
 ghost use Rattle.tool_words.specs.WordsAsked.{recheck};
 ghost use Rattle.tool_texts.specs.Ends.{IsStop};
 ghost use Rattle.tool_stages.specs.Fetches.{Fetches};
-ghost use Rattle.mit_tool.specs.Answers.{IsAnswer};
+ghost use Rattle.mit_tool.specs.Commands.{IsAnswer};
 
 use std::alloc::Global;
 use tim_base::line::Line;

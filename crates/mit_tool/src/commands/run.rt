@@ -12,7 +12,8 @@ ghost use Rattle.tool_stages.specs.Stages.{HasImage};
 ghost use Rattle.tool_stages.specs.Accepted.{is_past_typing, IsAccepted};
 ghost use Rattle.tool_stages.specs.Fetches.{HasFetched, named};
 ghost use Rattle.mit_tool.specs.Logged.{HasWritten, AreLines, IsRunLine};
-ghost use Rattle.mit_tool.specs.Answers.{IsAnswer, HasTold, HasRun};
+ghost use Rattle.mit_tool.specs.Answers.{HasTold, HasRun};
+ghost use Rattle.mit_tool.specs.Commands.{IsAnswer};
 
 use cycle_machine::end::RunEnd;
 use cycle_machine::machine::Machine;

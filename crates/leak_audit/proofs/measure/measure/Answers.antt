@@ -1,4 +1,5 @@
 use Rattle.std.proofs.Common.{◌<◌, ◌≤◌, ◌*◌, ◌^◌, ℕ, arith}
+use Rattle.label_lattice.specs.Order.{most_labels}
 use Rattle.std.proofs.Common.{⊎_elim}
 use Rattle.std.proofs.lemmas.Bool.{cases_lt}
 use Rattle.std.proofs.Math.Nat.{pow-le-pow_right, mul-le-mul}
@@ -16,11 +17,11 @@ few_digits t some small =
     (λ (le : d.0 ≤ 40). omega (arith, d.1))
     (cases_lt 40 d.0)
 
-product : (a b : ℕ) → a ≤ 32 → b ≤ 41 → a * b ≤ 1312
-product a b h k = let x : a * b ≤ 32 * 41 = mul-le-mul h k in omega (arith, x)
+product : (a b : ℕ) → a ≤ most_labels → b ≤ 41 → a * b ≤ most_labels * 41
+product a b h k = let x : a * b ≤ most_labels * 41 = mul-le-mul h k in omega (arith, x)
 
 pub overflow_mul-result : goal.overflow_mul-result
 overflow_mul-result c =
-    let levels : c.not_below-levels.result ≤ 32 = omega (arith, c.not_below-levels.ensures.within, c.laws.ensures.order.within) in
+    let levels : c.not_below-levels.result ≤ most_labels = omega (arith, c.not_below-levels.ensures.within, c.laws.ensures.order.within) in
     let count : c.digits.result ≤ 41 = omega (arith, c.digits.ensures, few_digits c.args.limit c.requires.some c.requires.limit) in
     omega (arith, product c.not_below-levels.result c.digits.result levels count)

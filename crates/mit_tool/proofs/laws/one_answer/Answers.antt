@@ -1,6 +1,6 @@
 use Rattle.std.specs.Prelude.{ℕ, List}
 use Rattle.tim_base.specs.Faults.{Rose}
-use Rattle.mit_tool.proofs.OneAnswer.{answers_one}
+use Rattle.mit_tool.proofs.CommandLemmas.{answers_one}
 use Rattle.mit_tool.proofs.laws.one_answer.Goals as goal
 
 pub returns : goal.returns

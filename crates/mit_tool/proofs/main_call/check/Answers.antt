@@ -5,7 +5,7 @@ use Rattle.tool_words.specs.WordsAsked.{check}
 use Rattle.tool_texts.specs.declared.status.Status.TheVariants.{Done}
 use Rattle.tool_texts.specs.Ends.{Nothing, status_of, stop_text}
 use Rattle.tool_stages.specs.Begins.{CheckStops}
-use Rattle.mit_tool.specs.Answers.{IsAnswer}
+use Rattle.mit_tool.specs.Commands.{IsAnswer}
 use Rattle.tool_texts.proofs.EndLemmas.{ends_finish, ends_stop}
 use Rattle.tool_stages.proofs.EarlyLemmas.{check_stopped}
 use Rattle.mit_tool.proofs.StopLemmas.{check_stops}

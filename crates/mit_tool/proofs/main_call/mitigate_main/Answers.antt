@@ -1,23 +1,19 @@
 use Rattle.std.proofs.Common.{◌≡◌, ◌⊎◌, inr, refl}
 use Rattle.std.specs.Prelude.{ℕ, List, map, string_bytes}
 use Rattle.tim_base.specs.Faults.{Rose}
-use Rattle.tool_words.specs.WordsAsked.{Asked, command_of}
-use Rattle.tool_words.specs.WordsViews.{asked_of}
+use Rattle.tool_words.specs.WordsAsked.{Asked, asked_of, command_of}
 use Rattle.tool_texts.specs.declared.status.Status.TheVariants.{Done, Usage, Memory}
 use Rattle.tool_texts.specs.Texts.{usage_text, memory_line}
 use Rattle.tool_texts.specs.Ends.{EndsBy, Nothing}
-use Rattle.mit_tool.specs.Answers.{IsAnswer, IsUsage, Before, HeldIsSound}
+use Rattle.mit_tool.specs.Answers.{IsUsage}
+use Rattle.mit_tool.specs.Commands.{IsAnswer, Before, HeldIsSound, AreWithin}
 use Rattle.mit_tool.specs.Complete.{CanBeDone, NoneRises}
 use Rattle.tool_texts.proofs.EndLemmas.{ends_finish, ends_memory}
-use Rattle.mit_tool.proofs.AskedLemmas.{any_some, nothing_before, asked_some}
+use Rattle.mit_tool.proofs.AskedLemmas.{any_some, asked_some, ends_past, ends_rechecked, ends_held, completes}
+use Rattle.mit_tool.proofs.CommandLemmas.{nothing_before, memory_pieces, within}
 use Rattle.mit_tool.specs.Held.{EndsByOne, told_all}
-use Rattle.mit_tool.specs.Bounded.{AreWithin}
-use Rattle.mit_tool.proofs.CompleteLemmas.{completes}
-use Rattle.mit_tool.proofs.OneHeld.{ends_held}
-use Rattle.mit_tool.proofs.PastLemmas.{ends_past, ends_rechecked}
-use Rattle.mit_tool.proofs.BoundLemmas.{within}
 use Rattle.tool_stages.proofs.FetchLemmas.{fetched_nothing, never_read}
-use Rattle.mit_tool.proofs.LoggedLemmas.{memory_pieces, one_piece}
+use Rattle.mit_tool.proofs.LoggedLemmas.{one_piece}
 use Rattle.mit_tool.specs.Logged.{ArePieces, named_by}
 use Rattle.mit_tool.proofs.main_call.mitigate_main.Goals as goal
 

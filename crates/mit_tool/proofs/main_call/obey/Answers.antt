@@ -3,19 +3,19 @@ use Rattle.tim_base.specs.Faults.{Rose}
 use Rattle.std.specs.Prelude.{IfSome, IsTrue, Some, [], ◌∷◌}
 use Rattle.mit_gen.specs.Made.{program_text}
 use Rattle.tool_words.specs.declared.words.Command.{Command}
-use Rattle.tool_words.specs.WordsViews.{asked_of}
-use Rattle.tool_words.specs.WordsAsked.{infer, compile, audit, cut, blackbox, certify}
+use Rattle.tool_words.specs.WordsAsked.{asked_of, infer, compile, audit, cut, blackbox, certify}
 use Rattle.tool_texts.specs.Ends.{EndsBy, Nothing, told_status, told_text}
 use Rattle.tool_stages.specs.Accepted.{is_past_typing, IsAccepted}
-use Rattle.mit_tool.specs.Answers.{IsAnswer, Before, HasGenerated, typed_content}
+use Rattle.mit_tool.specs.Answers.{HasGenerated}
+use Rattle.mit_tool.specs.Commands.{files_of, IsAnswer, Before, typed_content}
 use Rattle.tool_texts.proofs.EndLemmas.{result_tells, no_fault, ends_finish}
 use Rattle.tool_stages.proofs.EarlyLemmas.{told_sound}
-use Rattle.mit_tool.proofs.TellLemmas.{infer_no_fault, compile_no_fault, audit_no_fault, cut_no_fault, gen_no_fault, blackbox_no_fault, certify_no_fault}
+use Rattle.mit_tool.proofs.TellLemmas.{made_no_fault}
+use Rattle.mit_tool.proofs.CommandLemmas.{infer_no_fault, compile_no_fault, audit_no_fault, cut_no_fault, blackbox_no_fault, certify_no_fault}
 use Rattle.tool_stages.specs.Fetches.{HasFetched}
 use Rattle.tool_stages.proofs.FetchLemmas.{told_fetched}
-use Rattle.mit_tool.proofs.LoggedLemmas.{told_piece, told_nothing, gen_no_read}
+use Rattle.mit_tool.proofs.LoggedLemmas.{told_piece, told_nothing, made_no_read}
 use Rattle.mit_tool.specs.Logged.{HasWritten, ArePieces}
-use Rattle.mit_tool.specs.Complete.{files_of}
 use Rattle.mit_tool.proofs.main_call.obey.Goals as goal
 
 pub returns-in-Check-clause-answered : goal.returns-in-Check-clause-answered
@@ -121,7 +121,7 @@ pub tell-requires-in-Gen : goal.tell-requires-in-Gen
 tell-requires-in-Gen g c =
     let content = g.S.Shelf.content c.args.shelf.now in
     let rises = λ (name : List ℕ). Rose (g.S.Shelf.faults c.args.shelf.now name) (g.S.Shelf.faults c.args.shelf.now name) in
-    no_fault (HasGenerated c.in-Gen.size c.in-Gen.number) c.gen_text-text.result (gen_no_fault c.in-Gen.size c.in-Gen.number) c.gen_text-text.ensures.stop
+    no_fault (HasGenerated c.in-Gen.size c.in-Gen.number) c.gen_text-text.result (made_no_fault c.in-Gen.size c.in-Gen.number) c.gen_text-text.ensures.stop
 
 pub returns-in-Gen-clause-answered : goal.returns-in-Gen-clause-answered
 returns-in-Gen-clause-answered g c =
@@ -263,7 +263,7 @@ returns-in-Gen-clause-fetched g c =
     subst (λ (x : Command). HasFetched (files_of (asked_of x)) c.tell-in-Gen.result (g.S.Shelf.log c.args.shelf.now) (g.S.Shelf.log c.args.shelf.now))
     (sym c.in-Gen.is)
     (told_nothing (HasGenerated c.in-Gen.size c.in-Gen.number) (g.S.Shelf.log c.args.shelf.now) c.gen_text-text.result c.tell-in-Gen.result
-    (gen_no_read c.in-Gen.size c.in-Gen.number) c.gen_text-text.ensures.stop (λ n. (c.tell-in-Gen.ensures.told n).0))
+    (made_no_read c.in-Gen.size c.in-Gen.number) c.gen_text-text.ensures.stop (λ n. (c.tell-in-Gen.ensures.told n).0))
 
 pub returns-in-Gen-clause-pieces : goal.returns-in-Gen-clause-pieces
 returns-in-Gen-clause-pieces g c =

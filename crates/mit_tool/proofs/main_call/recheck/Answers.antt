@@ -4,9 +4,9 @@ use Rattle.tim_base.specs.Faults.{Rose}
 use Rattle.tool_words.specs.WordsAsked.{recheck}
 use Rattle.tool_texts.specs.declared.status.Status.TheVariants.{Done}
 use Rattle.tool_texts.specs.Ends.{Nothing, status_of, stop_text}
-use Rattle.mit_tool.specs.Answers.{IsAnswer}
+use Rattle.mit_tool.specs.Commands.{IsAnswer}
 use Rattle.tool_texts.proofs.EndLemmas.{ends_finish, ends_stop, no_fault}
-use Rattle.mit_tool.proofs.TellLemmas.{recheck_no_fault}
+use Rattle.mit_tool.proofs.CommandLemmas.{recheck_no_fault}
 use Rattle.tool_stages.proofs.FetchLemmas.{fetched_by}
 use Rattle.mit_tool.proofs.main_call.recheck.Goals as goal
 

@@ -1,12 +1,12 @@
 use Rattle.std.proofs.Common.{◌≡◌, ◌<◌, ◌≤◌, ℕ, Bool, false, length, rules}
 use Rattle.std.specs.Prelude.{MatchBool}
 use Rattle.std.proofs.lemmas.Bool.{MatchBool-at_false}
-use Rattle.label_lattice.specs.Order.{row}
+use Rattle.label_lattice.specs.Order.{row, most_labels}
 use Rattle.label_lattice.proofs.Chained.{below_more}
 use Rattle.label_lattice.proofs.Built.{chained_no_cycle, chained_one_lowest, chained_lowest, chained_no_join, lowest_there, sound, table_is, kept, built}
 use Rattle.label_lattice.proofs.lattice.Lattice.build.Goals as goal
 
-few : {b : Bool} {n : ℕ} → b ≡ false → MatchBool b (32 < n) (n ≤ 32) → n ≤ 32
+few : {b : Bool} {n : ℕ} → b ≡ false → MatchBool b (most_labels < n) (n ≤ most_labels) → n ≤ most_labels
 few = MatchBool-at_false _ _
 
 pub closure-flows-requires : goal.closure-flows-requires

@@ -6,10 +6,10 @@ use Rattle.mit_syntax.specs.Chunks.{sign}
 use Rattle.mit_parser.specs.Words.{word}
 use Rattle.mit_parser.specs.Machine.{want, an_atom, an_index, a_term, factors, a_sum, addends, an_expr, comparison, after_index}
 use Rattle.mit_parser.specs.Reads.{scope_of}
-use Rattle.mit_parser.proofs.Rules.{within, rule_term, rule_sum, rule_expr, shows_number, shows_sign}
-use Rattle.mit_parser.proofs.Atoms.{atom_number, atom_scalar, atom_element, after_name, atom_paren, at_index, index_whole, term_first, term_next, term_last}
-use Rattle.mit_parser.proofs.Atoms.{at_factor, sum_first, sum_next, sum_last, at_addend, expr_plain, expr_compare, at_comparison, comparison_passes}
-use Rattle.mit_parser.proofs.Atoms.{factor_passes, addend_passes, factor_goes_on, addend_goes_on, comparison_goes_on, past_factor, past_addend, past_comparison}
+use Rattle.mit_parser.proofs.Rules.{within, shows_number, shows_sign}
+use Rattle.mit_parser.proofs.Levels.{terms, sums, wholes, op_goes_on}
+use Rattle.mit_parser.proofs.Atoms.{atom_number, atom_scalar, atom_element, after_name, atom_paren, at_index, index_whole, rule, past_op, at_op, op_passes}
+use Rattle.mit_parser.proofs.Atoms.{level_first, level_next, level_last, at_comparison, expr_compare}
 use Rattle.mit_parser.proofs.parser.Parser.+expression.Goals as goal
 
 pub atom-returns-in_ok-advance-in-Number : goal.atom-returns-in_ok-advance-in-Number
@@ -53,22 +53,22 @@ pub term-returns-in_err-left : goal.term-returns-in_err-left
 term-returns-in_err-left t c =
     let p = err_from_is_err_and c.from_residual.result c.from_residual.ensures.1 in
     rw (p.1, p.2) (within c.args.self.now c.args.self.now c.atom.new.self a_term an_atom (λ s. factors ∷ s) _
-    (λ s. rule_term s c.args.self.now.counts c.args.self.now.words) c.in_err-left.ensures)
+    (λ s. rule terms s c.args.self.now) c.in_err-left.ensures)
 
 pub term-loop-op-init : goal.term-loop-op-init
-term-loop-op-init t c = term_first _ _ _ _ c.in_ok-left.ensures
+term-loop-op-init t c = level_first terms 4 (omega arith) _ _ _ _ c.in_ok-left.ensures
 
 pub term-advance-requires : goal.term-advance-requires
-term-advance-requires t c = factor_goes_on _ c.in-Some.op c.in-Some.ensures
+term-advance-requires t c = op_goes_on 3 _ c.in-Some.op c.in-Some.ensures
 
 pub term-returns-in_err-advance : goal.term-returns-in_err-advance
 term-returns-in_err-advance t c =
     let p = err_from_is_err_and c.from_residual-in_err-advance.result c.from_residual-in_err-advance.ensures.1 in
-    rw (p.1, p.2) (factor_passes _ _ _ _ _ c.in-Some.op _ c.loop-op.invariant c.in-Some.ensures c.in_err-advance.ensures)
+    rw (p.1, p.2) (op_passes terms _ _ _ _ _ c.in-Some.op _ c.loop-op.invariant c.in-Some.ensures c.in_err-advance.ensures)
 
 pub term-atom-requires-in-Some : goal.term-atom-requires-in-Some
 term-atom-requires-in-Some t c =
-    let d = past_factor c.loop-op.self c.advance.new.self c.in-Some.op c.in-Some.ensures c.in_ok-advance.ensures in
+    let d = past_op 3 c.loop-op.self c.advance.new.self c.in-Some.op c.in-Some.ensures c.in_ok-advance.ensures in
     let r = c.loop-op.invariant.rises in
     (omega (arith, d, r), tt)
 
@@ -76,36 +76,37 @@ pub term-returns-in_err-right : goal.term-returns-in_err-right
 term-returns-in_err-right t c =
     let p = err_from_is_err_and c.from_residual-in_err-right.result c.from_residual-in_err-right.ensures.1 in
     rw (p.1, p.2) (within c.args.self.now c.advance.new.self c.atom-in-Some.new.self a_term an_atom (λ s. factors ∷ s) _
-    (λ s. c.loop-op.invariant.goes s ∙ at_factor _ _ c.in-Some.op c.in-Some.ensures c.in_ok-advance.ensures s) c.in_err-right.ensures)
+    (λ s. c.loop-op.invariant.goes s ∙ at_op terms _ _ c.in-Some.op c.in-Some.ensures c.in_ok-advance.ensures s) c.in_err-right.ensures)
 
 pub term-loop-op-preserved : goal.term-loop-op-preserved
 term-loop-op-preserved t c =
-    term_next _ _ c.loop-op.self _ _ c.in-Some.op _ _ (rw c.in_ok-new.ensures.ok c.loop-op.invariant) c.in-Some.ensures c.in_ok-advance.ensures
+    level_next terms (omega arith) _ _ c.loop-op.self _ _ c.in-Some.op _ _ (rw c.in_ok-new.ensures.ok c.loop-op.invariant)
+    c.in-Some.ensures c.in_ok-advance.ensures
     (rw c.in_ok-new-2.ensures.ok c.in_ok-right.ensures)
 
 pub term-returns : goal.term-returns
-term-returns t c = term_last _ _ _ _ c.loop-op.invariant c.in_default.ensures
+term-returns t c = level_last terms _ _ _ _ c.loop-op.invariant c.in_default.ensures
 
 pub sum-returns-in_err-left : goal.sum-returns-in_err-left
 sum-returns-in_err-left t c =
     let p = err_from_is_err_and c.from_residual.result c.from_residual.ensures.1 in
     rw (p.1, p.2) (within c.args.self.now c.args.self.now c.term.new.self a_sum a_term (λ s. addends ∷ s) _
-    (λ s. rule_sum s c.args.self.now.counts c.args.self.now.words) c.in_err-left.ensures)
+    (λ s. rule sums s c.args.self.now) c.in_err-left.ensures)
 
 pub sum-loop-op-init : goal.sum-loop-op-init
-sum-loop-op-init t c = sum_first _ _ _ _ c.in_ok-left.ensures
+sum-loop-op-init t c = level_first sums 3 (omega arith) _ _ _ _ c.in_ok-left.ensures
 
 pub sum-advance-requires : goal.sum-advance-requires
-sum-advance-requires t c = addend_goes_on _ c.in-Some.op c.in-Some.ensures
+sum-advance-requires t c = op_goes_on 2 _ c.in-Some.op c.in-Some.ensures
 
 pub sum-returns-in_err-advance : goal.sum-returns-in_err-advance
 sum-returns-in_err-advance t c =
     let p = err_from_is_err_and c.from_residual-in_err-advance.result c.from_residual-in_err-advance.ensures.1 in
-    rw (p.1, p.2) (addend_passes _ _ _ _ _ c.in-Some.op _ c.loop-op.invariant c.in-Some.ensures c.in_err-advance.ensures)
+    rw (p.1, p.2) (op_passes sums _ _ _ _ _ c.in-Some.op _ c.loop-op.invariant c.in-Some.ensures c.in_err-advance.ensures)
 
 pub sum-term-requires-in-Some : goal.sum-term-requires-in-Some
 sum-term-requires-in-Some t c =
-    let d = past_addend c.loop-op.self c.advance.new.self c.in-Some.op c.in-Some.ensures c.in_ok-advance.ensures in
+    let d = past_op 2 c.loop-op.self c.advance.new.self c.in-Some.op c.in-Some.ensures c.in_ok-advance.ensures in
     let r = c.loop-op.invariant.rises in
     (omega (arith, d, r), tt)
 
@@ -113,36 +114,38 @@ pub sum-returns-in_err-right : goal.sum-returns-in_err-right
 sum-returns-in_err-right t c =
     let p = err_from_is_err_and c.from_residual-in_err-right.result c.from_residual-in_err-right.ensures.1 in
     rw (p.1, p.2) (within c.args.self.now c.advance.new.self c.term-in-Some.new.self a_sum a_term (λ s. addends ∷ s) _
-    (λ s. c.loop-op.invariant.goes s ∙ at_addend _ _ c.in-Some.op c.in-Some.ensures c.in_ok-advance.ensures s) c.in_err-right.ensures)
+    (λ s. c.loop-op.invariant.goes s ∙ at_op sums _ _ c.in-Some.op c.in-Some.ensures c.in_ok-advance.ensures s) c.in_err-right.ensures)
 
 pub sum-loop-op-preserved : goal.sum-loop-op-preserved
 sum-loop-op-preserved t c =
-    sum_next _ _ c.loop-op.self _ _ c.in-Some.op _ _ (rw c.in_ok-new.ensures.ok c.loop-op.invariant) c.in-Some.ensures c.in_ok-advance.ensures
+    level_next sums (omega arith) _ _ c.loop-op.self _ _ c.in-Some.op _ _ (rw c.in_ok-new.ensures.ok c.loop-op.invariant)
+    c.in-Some.ensures c.in_ok-advance.ensures
     (rw c.in_ok-new-2.ensures.ok c.in_ok-right.ensures)
 
 pub sum-returns : goal.sum-returns
-sum-returns t c = sum_last _ _ _ _ c.loop-op.invariant c.in_default.ensures
+sum-returns t c = level_last sums _ _ _ _ c.loop-op.invariant c.in_default.ensures
 
 pub expr-returns-in_err-left : goal.expr-returns-in_err-left
 expr-returns-in_err-left t c =
     let p = err_from_is_err_and c.from_residual.result c.from_residual.ensures.1 in
     rw (p.1, p.2) (within c.args.self.now c.args.self.now c.sum.new.self an_expr a_sum (λ s. comparison ∷ s) _
-    (λ s. rule_expr s c.args.self.now.counts c.args.self.now.words) c.in_err-left.ensures)
+    (λ s. rule wholes s c.args.self.now) c.in_err-left.ensures)
 
 pub expr-returns-in_default : goal.expr-returns-in_default
-expr-returns-in_default t c = expr_plain _ _ _ _ c.in_ok-left.ensures c.in_default.ensures
+expr-returns-in_default t c = level_last wholes _ _ _ _ (level_first wholes 2 (omega arith) _ _ _ _ c.in_ok-left.ensures) c.in_default.ensures
 
 pub expr-advance-requires : goal.expr-advance-requires
-expr-advance-requires t c = comparison_goes_on _ c.in-Some.op c.in-Some.ensures
+expr-advance-requires t c = op_goes_on 1 _ c.in-Some.op c.in-Some.ensures
 
 pub expr-returns-in_err-advance : goal.expr-returns-in_err-advance
 expr-returns-in_err-advance t c =
     let p = err_from_is_err_and c.from_residual-in_err-advance.result c.from_residual-in_err-advance.ensures.1 in
-    rw (p.1, p.2) (comparison_passes _ _ _ _ _ c.in-Some.op _ c.in_ok-left.ensures c.in-Some.ensures c.in_err-advance.ensures)
+    rw (p.1, p.2) (op_passes wholes _ _ _ _ _ c.in-Some.op _ (level_first wholes 2 (omega arith) _ _ _ _ c.in_ok-left.ensures)
+    c.in-Some.ensures c.in_err-advance.ensures)
 
 pub expr-sum-requires-2 : goal.expr-sum-requires-2
 expr-sum-requires-2 t c =
-    let d = past_comparison c.sum.new.self c.advance.new.self c.in-Some.op c.in-Some.ensures c.in_ok-advance.ensures in
+    let d = past_op 1 c.sum.new.self c.advance.new.self c.in-Some.op c.in-Some.ensures c.in_ok-advance.ensures in
     let r = c.in_ok-left.ensures.rises in
     (omega (arith, d, r), tt)
 

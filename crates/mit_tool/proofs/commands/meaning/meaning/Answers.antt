@@ -5,7 +5,7 @@ use Rattle.start_file.specs.Starts.{seen}
 use Rattle.tool_words.specs.WordsAsked.{meaning}
 use Rattle.tool_texts.specs.Ends.{status_of, stop_text}
 use Rattle.tool_stages.specs.Begins.{MeaningStops}
-use Rattle.mit_tool.specs.Answers.{IsAnswer, Before}
+use Rattle.mit_tool.specs.Commands.{IsAnswer, Before}
 use Rattle.tool_texts.proofs.EndLemmas.{ends_stop}
 use Rattle.mit_tool.proofs.StopLemmas.{meaning_stops, meaning_done, meaning_short, meaning_broke}
 use Rattle.tool_stages.proofs.FetchLemmas.{fetched_by}

@@ -5,7 +5,7 @@ use Rattle.tool_words.specs.WordsAsked.{recheck}
 use Rattle.tool_texts.specs.Texts.{rechecked_line}
 use Rattle.tool_texts.specs.Ends.{IsStop}
 use Rattle.tool_stages.specs.Stages.{Rechecks}
-use Rattle.mit_tool.specs.Answers.{IsAnswer}
+use Rattle.mit_tool.specs.Commands.{IsAnswer}
 use Rattle.tool_stages.proofs.StopLemmas.{rose_since}
 use Rattle.mit_tool.proofs.StopLemmas.{handed_on, later_certificate_stops}
 use Rattle.tool_stages.proofs.FetchLemmas.{fetch_then, fetched_on}

@@ -6,7 +6,8 @@ use Rattle.tool_words.specs.WordsAsked.{run}
 use Rattle.tool_texts.specs.Ends.{Nothing, status_of, stop_text}
 use Rattle.tool_stages.specs.Begins.{RunStops}
 use Rattle.tool_stages.proofs.EarlyLemmas.{past_told}
-use Rattle.mit_tool.specs.Answers.{IsAnswer, HasRun}
+use Rattle.mit_tool.specs.Answers.{HasRun}
+use Rattle.mit_tool.specs.Commands.{IsAnswer}
 use Rattle.tool_texts.proofs.EndLemmas.{ends_map, ends_stop}
 use Rattle.mit_tool.proofs.StopLemmas.{ready_tells, run_stops}
 use Rattle.tool_stages.proofs.FetchLemmas.{fetched_by}

@@ -1,7 +1,7 @@
 use Rattle.std.proofs.Common.{rules, ◌∙◌, ap₂}
 use Rattle.std.proofs.lemmas.Result.{IfOk-weaker}
 use Rattle.clap.specs.Words.{with_rule}
-use Rattle.tool_words.proofs.forms.run_form.Goals as goal
+use Rattle.tool_words.proofs.verbs.run_form.Goals as goal
 
 pub returns : goal.returns
 returns c =
