@@ -44,7 +44,7 @@ export const LESSON = [
   {
     title: 'How much is told',
     text: [
-      'Ten secrets were tried, and the audit counts what is different to the observer. It is far below the bound, which is proved for all starts, and not only for those in the table.',
+      'Ten secrets were tried, and the audit counts what is different to the observer. It is far below the bound. That is proved not only for those in the table: it holds for all secrets with which the run ends within the cycles that are asked for.',
       'Try more secrets: below the table, let the secret go from 0 to 60. The number of sequences grows slowly, since each further one takes twice as long as the one before.',
     ],
     program: closed(1), starts: countedStarts('secret', 0, 9), look: 'answer',
@@ -60,8 +60,8 @@ export const LESSON = [
   {
     title: 'An audited mitigation',
     text: [
-      'With a prediction that holds for all ten secrets one sequence is left: these runs cannot be told apart by time. The audit says so, and the bound stays for all other starts.',
-      'What is promised, and what is not: the machine here is a model with caches, and no real processor. Other starts may miss the prediction; each miss is counted by the bound. Now take another example from the list, or write your own program.',
+      'With a prediction that holds for all ten secrets one sequence is left: these runs cannot be told apart by time. The audit says so of these ten. For all others with which the run ends within the cycles that are asked for there is the bound.',
+      'What is promised, and what is not: the machine here is a model with caches, and no real processor. Other secrets may miss the prediction; the bound counts all misses that there can be. Now take another example from the list, or write your own program.',
     ],
     program: closed(256), starts: countedStarts('secret', 0, 9), look: 'answer',
   },

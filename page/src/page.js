@@ -11,7 +11,7 @@ import { LESSON } from './lesson.js';
 import { linkOf, stateOf } from './link.js';
 import { cellText, cellValue, columnsOf, readStarts, without, withCell, withCopy, withRange, writeStarts } from './starts.js';
 import { auditOf, chainOf, codeOf, completedBy, mendOf, pointOf, runsOf, sharpOf, verdictOf } from './study.js';
-import { cheapest, powerFrom, predictions, sweepPicture, sweepText } from './sweep.js';
+import { cheapest, halveGap, powerFrom, predictions, sweepPicture, sweepText } from './sweep.js';
 import { cycleAt, moved, runText, timeline, wholeView, zoomed } from './timeline.js';
 import { Stopped } from './tool.js';
 
@@ -23,7 +23,7 @@ const QUICK_SWEEP = 4000; // milliseconds that a sweep may take to begin by itse
 const state = { program: '', starts: '', observer: 'L', environment: 'part', budget: '1000000' };
 const shown = {
   labels: writtenLabels(''), verdict: null, steps: [], code: null, lit: new Set(), audit: null, runs: null, mitigates: null, isAll: true,
-  view: null, page: 0, lane: -1, points: [], sweepIsStale: false, mostRuns: undefined,
+  view: null, page: 0, lane: -1, points: [], unfinished: 0, sweepIsStale: false, mostRuns: undefined,
 };
 let tool = null, sweeper = null;
 
@@ -192,11 +192,11 @@ function goTo(place) {
 // --- The verdict
 
 const RULES = {
-  'T-ASGN': 'what is assigned here, or when, depends on more than those may know who see the variable',
+  'T-ASGN': 'what is assigned here, or when, depends on more than those may know who see the variable, or the write label of this command lies too low',
   'T-SKIP': 'the write label of this command lies too low',
   'T-SLEEP': 'the write label of this command lies too low',
   'T-IF': 'the write label of this command lies too low',
-  'T-WHILE': 'the write label of this command, or of what stands in it, lies too low',
+  'T-WHILE': 'the write label of this command lies too low',
   'T-MTG': 'the level of this mitigate is too low for the time of its body, or its write label lies too low',
 };
 const YES = '<svg width="20" height="20" viewBox="0 0 20 20" aria-hidden="true"><path d="M4 10.5l4 4L16.5 5.5" fill="none" stroke="currentColor" stroke-width="2.4" stroke-linecap="round" stroke-linejoin="round"/></svg>';
@@ -210,7 +210,7 @@ function drawVerdict() {
   verdict.of = state.program;
   box.className = `verdict ${verdict.kind === 'accepted' ? 'yes' : 'no'}`;
   if (verdict.kind === 'accepted') {
-    box.innerHTML = `${YES}Accepted <span>${counted(verdict.commands, 'command')}, ${counted(verdict.mitigates, 'mitigation')}</span>`;
+    box.innerHTML = `${YES}Accepted <span>${counted(verdict.commands, 'command')}, ${counted(verdict.mitigates, 'mitigate')}</span>`;
   } else if (verdict.kind === 'refused') {
     const one = (refusal) => `<span>by ${refusal.rule} at ${placeButton(refusal.place)}: ${labelText(refusal.from)} does not flow to ${labelText(refusal.to)}</span>`;
     const more = verdict.refusals.slice(1).map(one).join('');
@@ -249,7 +249,7 @@ const numberBox = (number, says) => `<div class="number-of"><b>${number}</b><i>$
 function boundBox(report) {
   const bits = bitsOf(report.base, report.exponent);
   const value = report.base === 1 ? '1' : power(report.base, report.exponent);
-  return numberBox(value, `at most, for any starts: the headline’s bound (${counted(bits, 'bit')})`);
+  return numberBox(value, `at most, by the headline’s bound: ${counted(bits, 'bit')}`);
 }
 
 function drawAudit(note = '') {
@@ -262,15 +262,23 @@ function drawAudit(note = '') {
   }
   const { report, isCut, sharp } = audit;
   const boxes = [numberBox(spaced(report.distinct), `different ${report.distinct === 1 ? 'sequence' : 'sequences'} seen in ${report.runs === 1 ? 'this run' : `these ${spaced(report.runs)} runs`}`)];
-  if (sharp) boxes.push(numberBox(bigText(sharp.sharp), `can ever be seen up to this cycle: ${counted(sharp.bits, 'bit')}`));
+  if (sharp) boxes.push(numberBox(bigText(sharp.sharp), `at most, by the sharp count: ${counted(sharp.bits, 'bit')}`));
   boxes.push(boundBox(report));
   box.innerHTML = boxes.join('');
   const who = `For an observer at ${labelText(report.observer)} up to cycle ${spaced(report.budget)}`;
   const how = isCut
     ? `${who}: ${spaced(report.halted)} of ${counted(report.runs, 'run')} have halted; what is seen until then is counted (cut). ${counted(report.ended, 'relevant mitigation')} at most ended.`
     : `${who}: ${counted(report.mitigations, 'relevant mitigation')} in each run, ${counted(report.levels, 'label')} that ${report.levels === 1 ? 'does' : 'do'} not flow to the observer.`;
-  const guess = sharp?.guess !== undefined ? ` Whoever sees one run guesses the secret right at most <b>${bigText(sharp.guess)} ${sharp.guess === 1n ? 'time' : 'times'}</b> as often as before.` : '';
-  text.innerHTML = how + guess;
+  const guess = sharp?.guess !== undefined ? ` Whoever sees one such run guesses the secret right at most <b>${bigText(sharp.guess)} ${sharp.guess === 1n ? 'time' : 'times'}</b> as often as before.` : '';
+  text.innerHTML = how + holdsFor(report, isCut, sharp) + guess;
+}
+
+// The starts for which the numbers hold.
+function holdsFor(report, isCut, sharp) {
+  const agree = `for all starts that agree with these at or below ${labelText(report.observer)}`;
+  if (isCut) return ` The bound holds ${agree}, and with which no more relevant mitigations end by then.`;
+  if (sharp?.sharp === undefined) return ` The bound holds ${agree}, and halt by then.`;
+  return ` Both limits hold ${agree}, and halt by then; the sharp count, where besides no relevant mitigation of theirs has a first prediction below the least of its level here.`;
 }
 
 const bigText = (number) => (number < 10n ** 9n ? spaced(number) : `about 10<sup>${String(number).length - 1}</sup>`);
@@ -519,24 +527,27 @@ async function sweep() {
   const mine = ++sweepTurn, isOld = () => mine !== sweepTurn;
   const mitigate = whichMitigate();
   if (!mitigate || !canSweep()) return;
-  const now = { ...state }, current = estimateOf(mitigate), tried = new Map();
-  shown.points = [];
+  const now = { ...state }, current = estimateOf(mitigate), tried = new Map(), unfinished = new Set();
+  Object.assign(shown, { points: [], unfinished: 0 });
   $('sweep-go').textContent = 'Stop';
   $('sweep').setAttribute('aria-busy', 'true');
   const draw = () => {
-    shown.points = [...tried.values()];
+    Object.assign(shown, { points: [...tried.values()], unfinished: unfinished.size });
     drawSweep();
   };
   const point = async (prediction) => {
-    if (tried.has(prediction)) return tried.get(prediction);
+    if (tried.has(prediction) || unfinished.has(prediction)) return tried.get(prediction) ?? null;
     const one = await pointOf(sweeper, now, mitigate, prediction);
-    if (one && !isOld()) tried.set(prediction, one);
+    if (isOld()) return one;
+    if (one) tried.set(prediction, one);
+    else unfinished.add(prediction);
     return one;
   };
   try {
     const slowest = await point(1);
     if (isOld()) return;
     if (!slowest) {
+      drawSweep();
       $('sweep-text').textContent = 'With a first prediction of 1 not all runs halt within the cycles that are asked for.';
       return;
     }
@@ -552,7 +563,7 @@ async function sweep() {
         last = performance.now();
       }
     }
-    await between(tried, point, isOld);
+    await halveGap(tried, point, isOld);
     if (isOld()) return;
     draw();
   } catch (fault) {
@@ -560,19 +571,9 @@ async function sweep() {
   } finally {
     if (!isOld()) {
       endSweep();
-      $('sweep-note').textContent = shown.points.length ? `the same starts, ${counted(shown.points.length, 'prediction')} in place of ${current === null ? 'the estimate' : spaced(current)}` : '';
+      const left = unfinished.size ? `; with ${spaced(unfinished.size)} more not all runs halt` : '';
+      $('sweep-note').textContent = shown.points.length ? `the same starts, ${counted(shown.points.length, 'prediction')} in place of ${current === null ? 'the estimate' : spaced(current)}${left}` : '';
     }
-  }
-}
-
-// Halves the gap below the first prediction from which on one sequence is left, until none is left.
-async function between(tried, point, isOld) {
-  for (let k = 0; k < 44; k++) {
-    const sorted = [...tried.values()].sort((a, b) => a.prediction - b.prediction);
-    const loud = sorted.findLastIndex((one) => one.sequences > 1), quiet = sorted[loud + 1];
-    if (loud < 0 || !quiet || quiet.prediction - sorted[loud].prediction < 2) return;
-    await point(Math.floor((quiet.prediction + sorted[loud].prediction) / 2));
-    if (isOld()) return;
   }
 }
 
@@ -598,7 +599,7 @@ function drawSweep() {
   }
   const mitigate = whichMitigate(), current = mitigate ? estimateOf(mitigate) : null;
   $('sweep-picture').innerHTML = sweepPicture(points, { width: Math.max($('sweep-picture').clientWidth - 2, 280), current });
-  $('sweep-text').textContent = sweepText(points, shown.least ?? null, current);
+  $('sweep-text').textContent = sweepText(points, shown.least ?? null, current, shown.unfinished);
   const best = new Set(cheapest(points));
   const rows = [...points].sort((a, b) => a.prediction - b.prediction).map((one) => `<tr><td class="what">${spaced(one.prediction)}</td><td class="what">${spaced(one.sequences)}</td><td class="what">${spaced(one.shortest)}</td><td class="what">${spaced(one.longest)}</td><td class="what">${best.has(one) ? 'no faster one tells as little' : ''}</td><td class="what"><button type="button" class="link" data-take="${one.prediction}">Take</button></td></tr>`);
   $('sweep-table').innerHTML = `<table><thead><tr><th scope="col">first prediction</th><th scope="col">sequences</th><th scope="col">shortest run</th><th scope="col">longest run</th><th scope="col"></th><th scope="col"></th></tr></thead><tbody>${rows.join('')}</tbody></table>`;

@@ -66,13 +66,14 @@ function listsTo(list, at) {
   return [list, ...one.parts.flatMap((part) => listsTo(part, at))];
 }
 
+const reportOn = (tool, state, command) => tool.call('mitigate', [command, PROGRAM, STARTS, ...seenBy(state), ...settings(state)], files(state));
+
 /** The audit: {report} of runs that have halted, {report, isCut} where some have not, or {refusal}. */
 export async function auditOf(tool, state) {
-  const words = [PROGRAM, STARTS, ...seenBy(state), ...settings(state)];
-  const answer = await tool.call('mitigate', ['audit', ...words], files(state));
+  const answer = await reportOn(tool, state, 'audit');
   if (answer.status === DONE) return { report: readAudit(answer.text), isCut: false };
   if (answer.status !== UNFINISHED) return { refusal: refusalOf(answer) };
-  const cut = await tool.call('mitigate', ['cut', ...words], files(state));
+  const cut = await reportOn(tool, state, 'cut');
   return cut.status === DONE ? { report: readAudit(cut.text), isCut: true } : { refusal: refusalOf(cut) };
 }
 
@@ -121,14 +122,16 @@ export async function runsOf(tool, state, most = MOST_SINGLE_RUNS) {
 }
 
 /** One point of the sweep: how many sequences a first prediction leaves, the shortest and the longest run, and where
-    the lab tells it the least first prediction that no body reaches. Null where the tool refuses. */
+    the lab tells it the least first prediction that no body reaches. Null where the tool refuses, as where not all runs
+    halt: what those tell and cost, and how long their bodies are, is not known. */
 export async function pointOf(tool, state, mitigate, prediction) {
   const tried = { ...state, program: withEstimate(state.program, mitigate, prediction) };
-  const audit = await auditOf(tool, tried);
-  if (!audit.report) return null;
-  const told = tool.has('lab') ? await labEnds(tool, tried) : await singleEnds(tool, tried, audit.report.runs);
+  const audit = await reportOn(tool, tried, 'audit');
+  if (audit.status !== DONE) return null;
+  const report = readAudit(audit.text);
+  const told = tool.has('lab') ? await labEnds(tool, tried) : await singleEnds(tool, tried, report.runs);
   if (!told) return null;
-  return { prediction, sequences: audit.report.distinct, shortest: Math.min(...told.ends), longest: Math.max(...told.ends), least: told.least(mitigate) };
+  return { prediction, sequences: report.distinct, shortest: Math.min(...told.ends), longest: Math.max(...told.ends), least: told.least(mitigate) };
 }
 
 async function labEnds(tool, state) {

@@ -23,6 +23,21 @@ export function quietFrom(points) {
   return { first: sorted[loud + 1], before: sorted[loud] ?? null };
 }
 
+/** Halves the gap below the first prediction from which on one sequence is left, until none is left. `point` tries a
+    prediction and puts its point into `tried`; it gives null where not all runs halt, and then the half above is next. */
+export async function halveGap(tried, point, isOld = () => false) {
+  let unfinished = 0;
+  for (let k = 0; k < 44; k++) {
+    const quiet = quietFrom([...tried.values()]);
+    if (!quiet?.before) return;
+    const first = quiet.first.prediction, before = Math.max(quiet.before.prediction, unfinished);
+    if (first - before < 2) return;
+    const middle = Math.floor((first + before) / 2);
+    if (!(await point(middle))) unfinished = middle;
+    if (isOld()) return;
+  }
+}
+
 /** For each number of sequences the prediction whose longest run is the shortest, the fewest sequences first. */
 export function cheapest(points) {
   const best = new Map();
@@ -35,11 +50,12 @@ export function cheapest(points) {
 }
 
 /** The sentence below the picture. `least` is the lab's least first prediction that no
-    body of the only mitigate reaches, or null. */
-export function sweepText(points, least, current) {
+    body of the only mitigate reaches, or null; `unfinished` says with how many predictions not all runs halt. */
+export function sweepText(points, least, current, unfinished = 0) {
   const quiet = quietFrom(points);
   if (!quiet) {
     const fewest = Math.min(...points.map((one) => one.sequences));
+    if (unfinished) return `Each prediction that was tried, and with which all runs halt, leaves ${counted(fewest, 'sequence')} or more.`;
     return `Each prediction that was tried leaves ${counted(fewest, 'sequence')} or more: another part of the program tells them apart.`;
   }
   const { first } = quiet;

@@ -2,7 +2,7 @@ import assert from 'node:assert/strict';
 import test from 'node:test';
 import { spaced, ticks } from '../src/axis.js';
 import { classMark, labelClass } from '../src/colours.js';
-import { cheapest, powerFrom, predictions, quietFrom, sweepPicture, sweepText } from '../src/sweep.js';
+import { cheapest, halveGap, powerFrom, predictions, quietFrom, sweepPicture, sweepText } from '../src/sweep.js';
 import { cycleAt, mitigationText, moved, predictionEnds, runText, timeline, wholeView, zoomed } from '../src/timeline.js';
 
 const bar = { number: 0, place: '9:1', level: 'H', estimate: '16', predicts: 16, misses: 0, begin: 30, worked: 115, lasts: 128, missesAfter: 3, end: 158, depth: 0 };
@@ -100,6 +100,19 @@ test('from where on nothing is told, and what it costs', () => {
   assert.match(sweepText(POINTS.slice(0, 3), null, 16), /another part/);
   assert.deepEqual(cheapest(POINTS).map((one) => one.prediction), [269]);
   assert.deepEqual(cheapest([...POINTS, { prediction: 2, sequences: 2, shortest: 100, longest: 120 }]).map((one) => one.prediction), [269, 2]);
+});
+
+test('a prediction with which not all runs halt is none that leaves one sequence', async () => {
+  assert.match(sweepText(POINTS.slice(0, 3), null, 16, 2), /^Each prediction that was tried, and with which all runs halt, leaves 2 sequences or more\.$/);
+  const tried = new Map(POINTS.slice(0, 3).concat(POINTS.slice(5)).map((one) => [one.prediction, one])), asked = [];
+  await halveGap(tried, async (prediction) => {
+    asked.push(prediction);
+    if (prediction < 269) return null;
+    tried.set(prediction, { prediction, sequences: 1, shortest: prediction + 41, longest: prediction + 41 });
+    return tried.get(prediction);
+  });
+  assert.equal(quietFrom([...tried.values()]).first.prediction, 269);
+  assert.deepEqual(asked, [384, 320, 288, 272, 264, 268, 270, 269]);
 });
 
 test('the picture of the sweep is well formed', () => {

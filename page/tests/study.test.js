@@ -1,6 +1,8 @@
 import assert from 'node:assert/strict';
+import fs from 'node:fs';
 import test from 'node:test';
 import { mitigates, readProgram } from '../src/language.js';
+import { call } from '../src/module.js';
 import { auditOf, chainOf, completedBy, mendOf, pointOf, runsOf, sharpOf, verdictOf } from '../src/study.js';
 
 // A tool that answers by a function of program, words and files, and keeps the calls.
@@ -79,6 +81,33 @@ test('a point of the sweep puts a number in place of the estimate', async () => 
   assert.deepEqual(lab, { prediction: 7, sequences: 1, shortest: 21, longest: 23, least: 11 });
   assert.deepEqual(seen, ['5', '7']);
   assert.equal(await pointOf(toolOf(['mitigate'], byWords({ audit: () => ({ status: 9, text: 'disagree: run 2: variable l\n' }) })), state, mitigate, 5), null);
+});
+
+// What `tools/second-reading` says of examples/password.mit with a budget of 450 cycles and another estimate: with 1 the
+// first of the four runs of examples/password.toml that does not halt is the third one.
+const password = (name) => fs.readFileSync(new URL(`../../${name}`, import.meta.url), 'utf8');
+const nine = { program: password('examples/password.mit').replace('(512', '(300'), starts: password('page/src/password_nine.toml'), observer: 'L', environment: 'part', budget: '450' };
+const CUT = 'runs 4\nobserver L\nbudget 450\nlevels 1\nended 1\nhalted 2\ndistinct 3\nbound 2^9\nrun 1 class 1\nrun 2 class 2\nrun 3 class 3\nrun 4 class 3\n';
+
+test('a prediction with which not all runs halt gives no point, and no cut in its place', async () => {
+  const tool = toolOf(['mitigate', 'lab'], byWords({ audit: () => ({ status: 10, text: 'unfinished: run 3 @286\n' }), cut: () => done(CUT), timeline: () => done(TIMELINE(170)) }));
+  const [mitigate] = mitigates(readProgram(nine.program));
+  assert.equal(await pointOf(tool, nine, mitigate, 1), null);
+  assert.deepEqual(tool.calls, ['mitigate audit program.mit starts.toml --observer L --env part --budget 450']);
+});
+
+const PAGE = new URL('../index.html', import.meta.url);
+
+test('points on the module, as the second reading has them', { skip: fs.existsSync(PAGE) ? false : 'there is no page/index.html yet' }, async () => {
+  const found = /id="module-data">([A-Za-z0-9+/=\s]*)</.exec(fs.readFileSync(PAGE, 'latin1'));
+  const module = new WebAssembly.Module(Buffer.from(found[1], 'base64'));
+  const tool = { has: () => true, call: async (program, words, files) => call(module, program, words, files) };
+  const [mitigate] = mitigates(readProgram(nine.program));
+  const point = (prediction, more = {}) => pointOf(tool, { ...nine, ...more }, mitigate, prediction);
+  for (const prediction of [1, 256, 268, 450]) assert.equal(await point(prediction), null, `${prediction}`);
+  assert.deepEqual(await point(269), { prediction: 269, sequences: 1, shortest: 310, longest: 310, least: 269 });
+  assert.deepEqual(await point(300), { prediction: 300, sequences: 1, shortest: 341, longest: 341, least: 269 });
+  assert.deepEqual(await point(1, { budget: '1000000' }), { prediction: 1, sequences: 3, shortest: 169, longest: 553, least: 269 });
 });
 
 test('the fewest commands that a mitigate mends are offered, and none where none serves', async () => {

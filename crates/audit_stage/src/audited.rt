@@ -86,7 +86,7 @@ fn audit_stop(p: &Program, fault: AuditFault) -> Stop
         },
         AuditFault::TooMuch { count } => Stop::With {
             status: Status::TooLong,
-            line: lines::number(b"too long: events ", count),
+            line: lines::report::too_long_events(count),
         },
         AuditFault::Memory => no_memory(),
     }

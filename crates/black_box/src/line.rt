@@ -5,10 +5,7 @@ ghost use Rattle.std.specs.List.{prefix_len, suffix_len};
 ghost use Rattle.black_box.specs.declared.line.Line.{Line};
 ghost use Rattle.black_box.specs.Lines.{is_blank, trimmed, value_in, cycle_in, line_of};
 
-use run_limits::is_too_late;
-
-/// The most digits of a cycle.
-const MAX_DIGITS: usize = 20;
+use run_limits::{MAX_DIGITS, is_too_late};
 
 /// What a line says.
 #[derive(Clone, Copy)]

@@ -453,7 +453,8 @@ module _ (most deep : ℕ) where
       )
   spots_within (Mitigate m y v e c r) n h k =
       let p = one_operand e in
-      both (expr_spots e 0 n) (spot 1 n ∷ (spots c (n + 1) ++ (spot 0 (n + 1) ∷ spots r n))) (expr_within most deep e 0 n (omega (arith, h)) (omega (arith, k))) (
+      both (expr_spots e 0 n) (spot 1 n ∷ (spots c (n + 1) ++ (spot 0 (n + 1) ∷ spots r n)))
+      (expr_within most deep e 0 n (omega (arith, h)) (omega (arith, k))) (
         (omega (arith, h, p), omega (arith, k)),
         both (spots c (n + 1)) (spot 0 (n + 1) ∷ spots r n) (spots_within c (n + 1) (omega (arith, h)) (omega (arith, k)))
             ((omega arith, omega (arith, k)), spots_within r n (omega (arith, h)) (omega (arith, k))),

@@ -188,7 +188,8 @@ module _ {E : Type 0} (v : Env E) (shown : List Bool) (limit : ℕ) where
             hidden = w.1.hidden;
             unseen = w.1.unseen;
             rest =
-                with_end (Limit w.0.clock) same _ _ (same_rest old.code old.code old.state old.stopped refl was ∙ ends_late old.code.instrs old.state w.0 w.1 w.2);
+                with_end (Limit w.0.clock) same _ _
+                (same_rest old.code old.code old.state old.stopped refl was ∙ ends_late old.code.instrs old.state w.0 w.1 w.2);
           }
 
       by_state : (s : Option Turn) → old.stopped ≡ s → IfSome s IsStop → by_stopped v shown limit old turn new s → Last v shown limit old new turn end

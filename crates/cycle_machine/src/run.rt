@@ -11,6 +11,9 @@ use env_contract::env::MachineEnv;
 use label_code::image::Image;
 use run_watch::{Watch, Watched};
 
+/// How many cycles a stage has: where a turn comes into another one, a watch is told.
+const STAGE: u64 = 1 << 24;
+
 impl<E: MachineEnv> State<E> {
     /// Says nothing at run time: of every state, the length of each vector is that of its elements.
     #[inline(always)]
@@ -47,12 +50,12 @@ fn is_shown(shown: &[bool], variable: u32) -> bool
     }
 }
 
-// The last cycle of a stage, of 2^24 cycles, in which a clock stands.
+// The last cycle of the stage in which a clock stands.
 fn last_of_stage(clock: u64) -> u64
     ensures value { result ≡ last_of_stage clock }
     ensures later { clock ≤ result }
 {
-    (clock - clock % 16_777_216).saturating_add(16_777_215)
+    (clock - clock % STAGE).saturating_add(STAGE - 1)
 }
 
 // Tells a watch how far a turn has come, and answers the last cycle of the stage in which it stands.

@@ -21,7 +21,7 @@ fn one_label() -> Option<Lattice>
 {
     let name = Name::read(b"L")?;
     let lattice = Lattice::build(&[name], &[]).ok()?;
-    let _ = lattice.size();
+    lattice.laws();
     Some(lattice)
 }
 

@@ -5,11 +5,8 @@ ghost use Rattle.mit_syntax.specs.Declarations.{variables};
 ghost use Rattle.event_print.specs.Text.{TellsShown};
 
 use label_lattice::label::Label;
-use mit_syntax::declarations::MAX_CELLS;
+use mit_syntax::declarations::CELLS;
 use timing_types::labelled::Labelled;
-
-/// For how many variables a list has room.
-pub const CELLS: usize = MAX_CELLS as usize;
 
 /// A list that says of each variable, by its number, whether its assignments are shown: all, or to an observer
 /// those of the variables whose labels flow to it.

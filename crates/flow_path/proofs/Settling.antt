@@ -13,7 +13,7 @@ use Rattle.flow_path.specs.declared.step.Spot.TheVariants.{Variable, Command, Le
 use Rattle.flow_path.specs.declared.step.Step.{Step}
 use Rattle.flow_path.specs.declared.cost.Cost.{Cost}
 use Rattle.flow_path.specs.declared.target.Target.{Target}
-use Rattle.flow_path.specs.declared.known.Known.{Known}
+use Rattle.flow_path.specs.declared.known_costs.Known.{Known}
 use Rattle.flow_path.specs.declared.sides.Found.{Found}
 use Rattle.flow_path.specs.declared.sides.Sides.{Sides}
 use Rattle.flow_path.specs.Steps.{written, steps_of}

@@ -10,8 +10,8 @@ use Rattle.flow_path.specs.declared.step.Part.{Part}
 use Rattle.flow_path.specs.declared.step.Step.{Step}
 use Rattle.flow_path.specs.declared.cost.Cost.{Cost}
 use Rattle.flow_path.specs.declared.target.Target.{Target}
-use Rattle.flow_path.specs.declared.known.Known.{Known}
-use Rattle.flow_path.specs.declared.known.Round.{Round}
+use Rattle.flow_path.specs.declared.known_costs.Known.{Known}
+use Rattle.flow_path.specs.declared.known_costs.Round.{Round}
 use Rattle.flow_path.specs.declared.best.Best.{Best}
 use Rattle.flow_path.specs.declared.sides.Found.{Found}
 use Rattle.flow_path.specs.declared.sides.Sides.{Sides}

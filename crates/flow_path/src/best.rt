@@ -8,7 +8,7 @@ ghost use Rattle.flow_path.specs.declared.target.Target.{Target as ATarget};
 ghost use Rattle.flow_path.specs.Distances.{IsKnownIn, IsBest, IsBestIn, best_by, and_then};
 
 use crate::cost::Cost;
-use crate::known::Round;
+use crate::known_costs::Round;
 use crate::step::Part;
 
 /// The first of the cheapest parts of a list, and what a chain costs that ends by a step from it.

@@ -9,8 +9,8 @@ use mit_syntax::ast::{Command, Expr, Form};
 use mit_syntax::program::Program;
 use std::alloc::{AllocError, Global};
 
-/// From here nothing flows.
-const NOWHERE: u32 = 4_294_967_295;
+/// From here nothing flows: no place has this number.
+const NOWHERE: u32 = u32::MAX;
 
 /// What a flow costs: nothing, a step, or a step that is faint.
 #[derive(Clone, Copy)]
@@ -43,11 +43,7 @@ pub(crate) struct Flows {
 
 /// A number of places or flows; there are never more.
 fn short(count: usize) -> u32 {
-    if count <= 4_294_967_295 {
-        count as u32
-    } else {
-        NOWHERE
-    }
+    count.min(NOWHERE as usize) as u32
 }
 
 impl Flows {

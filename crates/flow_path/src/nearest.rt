@@ -6,7 +6,7 @@ ghost use Rattle.flow_path.specs.Distances.{IsKnownOf};
 
 use crate::cost::Cost;
 use crate::flows::{Flows, Toll, flows_of};
-use crate::known::{Known, starts};
+use crate::known_costs::{Known, starts};
 use crate::target::Target;
 use mit_syntax::program::Program;
 use std::alloc::{AllocError, Global};

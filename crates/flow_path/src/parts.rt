@@ -3,12 +3,13 @@
 ghost use Rattle.std.specs.Prelude.{◌++◌, ◌∷◌, [], List};
 ghost use Rattle.mit_syntax.specs.Expression.{expression_of};
 ghost use Rattle.flow_path.specs.declared.step.Part.{Part as APart};
-ghost use Rattle.flow_path.specs.declared.step.How.TheVariants.{Reads as WhenReads, ReadsInIndex as WhenIndex, HasReadLabel as WhenLabel, UnderGuard as WhenGuard, AfterReadLabel as WhenAfter};
+ghost use Rattle.flow_path.specs.declared.step.How.TheVariants.{Reads as WhenReads, ReadsInIndex as WhenIndex, HasReadLabel as WhenLabel};
+ghost use Rattle.flow_path.specs.declared.step.How.TheVariants.{UnderGuard as WhenGuard, AfterReadLabel as WhenAfter};
 ghost use Rattle.flow_path.specs.Steps.{reads, index_reads, read_label, after, after_set, after_put};
 ghost use Rattle.flow_path.specs.Distances.{IsKnownIn, IsBestIn};
 
 use crate::best::{Best, better, single};
-use crate::known::Round;
+use crate::known_costs::Round;
 use crate::step::{How, Part, Spot};
 use label_lattice::label::Label;
 use mit_syntax::ast::Expr;

@@ -6,7 +6,7 @@ ghost use Rattle.mit_syntax.specs.Todo.{Done};
 ghost use Rattle.flow_path.specs.Distances.{IsKnownIn, ComesIn, PassesIn};
 
 use crate::best::{Best, better};
-use crate::known::Round;
+use crate::known_costs::Round;
 use crate::parts::{
     after, after_put, after_set, after_skip, here, inside, put_here, put_left, set_left,
 };

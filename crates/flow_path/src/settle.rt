@@ -8,7 +8,7 @@ ghost use Rattle.flow_path.specs.Steps.{steps_of};
 ghost use Rattle.flow_path.specs.Distances.{IsKnownOf, IsNew, IsNewAt, IsLeastNew, IsSetBy, AreSides, AreSettled, Agrees};
 
 use crate::cost::Cost;
-use crate::known::{Known, Round, starts};
+use crate::known_costs::{Known, Round, starts};
 use crate::nearest::nearest;
 use crate::pass::list_pass;
 use crate::sides::{Found, Sides, no_sides};

@@ -4,7 +4,8 @@ ghost use Rattle.std.specs.Prelude.{◌≡◌, ◌++◌, OnOk, None};
 ghost use Rattle.mit_syntax.specs.Program.{Syntax};
 ghost use Rattle.flow_path.specs.Steps.{written};
 ghost use Rattle.flow_path.specs.declared.step.Spot.TheVariants.{Variable as AVariable};
-ghost use Rattle.flow_print.specs.Lines.{label_text, place_text, line, reads_line, time_line, label_line, reader_line, part_lines, variable_text, variable_line, command_line, level_line, side_line, step_lines, first_line, place_if};
+ghost use Rattle.flow_print.specs.Lines.{label_text, place_text, line, reads_line, time_line, label_line, reader_line, part_lines};
+ghost use Rattle.flow_print.specs.Lines.{variable_text, variable_line, command_line, level_line, side_line, step_lines, first_line, place_if};
 
 use crate::places::Spelling;
 use crate::words::{bound, noun, put_label, put_line, put_place, put_variable, reader, spot_text};

@@ -93,7 +93,9 @@ fn prints_code_without_variables(rt: HostRuntime) -> Result<(), Fail> {
     let text = print_image(rt.alloc(), &image, &program).expect(&rt, "memory");
     assert_eq!(rt;
         text.as_slice(),
-        b"0 PUSH -9223372036854775808 [Low, Low]\n1 MITB Low 7 [Low, Low]\n2 PUSH 1 [Low, Low]\n3 PUSH 2 [Low, Low]\n4 OP <= [Low, Low]\n5 BRZ 6 [Low, Low]\n6 MITE [Low, Low]\n7 HALT [Low, Low]\n".as_slice()
+        b"0 PUSH -9223372036854775808 [Low, Low]\n1 MITB Low 7 [Low, Low]\n2 PUSH 1 [Low, Low]\n3 PUSH 2 [Low, Low]\n\
+          4 OP <= [Low, Low]\n5 BRZ 6 [Low, Low]\n6 MITE [Low, Low]\n7 HALT [Low, Low]\n"
+            .as_slice()
     );
     Ok(())
 }

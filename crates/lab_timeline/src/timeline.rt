@@ -18,7 +18,7 @@ use std::alloc::Global;
 use tim_base::shelf::Shelf;
 use tim_base::sink::Sink;
 use tool_stages::setting::Setting;
-use tool_texts::finish::finish;
+use tool_texts::finish::stop_for_memory;
 use tool_texts::status::Status;
 
 // The same, but for what is said of a call that can be done.
@@ -49,7 +49,7 @@ fn show<S: Shelf, W: Sink>(
     };
     match write_timelines(alloc, &begun, setting, out) {
         Ok(()) => Status::Done,
-        Err(RunFault::Memory) => finish(out, b"memory\n", Status::Memory),
+        Err(RunFault::Memory) => stop_for_memory(out),
         Err(RunFault::Sink) => Status::WriteFault,
     }
 }

@@ -124,6 +124,7 @@ pub fn write_timelines<W: Sink>(
     ensures later { W.faults out.old ≤ W.faults out.new }
 {
     let program = p.compiled.typed.labelled().program();
+    // The call stands for its type: there are fewer than 2^32 mitigates.
     let _count = program.mitigates();
     let Ok(mut listing) = Listing::of(alloc, program) else {
         return Err(RunFault::Memory);

@@ -3,7 +3,7 @@ use Rattle.std.proofs.Common.{◌≡◌, ◌⊎◌, ℕ, List, [], ◌∷◌, Op
 use Rattle.tool_texts.specs.declared.status.Status.{Status}
 use Rattle.tool_texts.specs.declared.status.Status.TheVariants as status
 use Rattle.tool_texts.specs.Ends.{EndsBy}
-use Rattle.tool_stages.specs.Content.{Content}
+use Rattle.tool_stages.specs.Content.{Content, NoneRises}
 use Rattle.tool_stages.proofs.ChainLemmas.{first_file, second_file}
 use Rattle.lab_bound.specs.Complete.{CanBound}
 use Rattle.lab_bound.proofs.Answering.{completes as bound_completes}
@@ -13,7 +13,7 @@ use Rattle.lab_seen.specs.Seen.{AreLines, SeenBefore}
 use Rattle.lab_timeline.specs.Timed.{AreTimelines, TimelinesBefore}
 use Rattle.lab_words.specs.QuestionAsked.{Asked, why, seen, timeline, bound}
 use Rattle.lab_tool.specs.Answers.{Before, IsAnswer}
-use Rattle.lab_tool.specs.Complete.{CanEnd, IsDoneIf, Names, NoneRises}
+use Rattle.lab_tool.specs.Complete.{CanEnd, IsDoneIf, Names, files_of}
 use Rattle.lab_tool.proofs.WhyLemmas.{origin_ends, why_ends}
 
 -- a call whose answer has one status, and whose writes do not fail
@@ -51,7 +51,7 @@ done_if Can r status.Rejected h f = absurd h
 
 pub completes : (old new : Option (List ℕ)) (Rises : List ℕ → Type 0) (content : Content) (a : Asked) (r : Status) (Rose : Type 0)
     → EndsBy old new (Before content a) (IsAnswer Rises content a) r → (r ≡ status.WriteFault → Rose)
-    → (e : Status) → CanEnd content a e → NoneRises Rises a → (Rose → ⊥) → (r ≡ e) ⊎ (r ≡ status.Memory)
+    → (e : Status) → CanEnd content a e → NoneRises Rises (files_of a) → (Rose → ⊥) → (r ≡ e) ⊎ (r ≡ status.Memory)
 completes old new Rises content (why file None) r Rose ends write e can none n =
     let k = first_file Rises content file [] none can.known in
     ends_as old new (Before content (why file None)) (IsAnswer Rises content (why file None)) r e ends (λ f. n (write f))

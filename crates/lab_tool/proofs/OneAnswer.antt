@@ -5,8 +5,9 @@ use Rattle.tim_base.specs.Faults.{Rose}
 use Rattle.mit_syntax.specs.Program.{Syntax}
 use Rattle.tool_texts.specs.declared.status.Status.{Status}
 use Rattle.tool_texts.specs.declared.status.Status.TheVariants.{Done}
+use Rattle.tool_stages.specs.Accepted.{HasChecked}
 use Rattle.tool_stages.specs.Stages.{Then, Reads, ProgramStops, Types}
-use Rattle.tool_stages.specs.Content.{Content, IsKnown}
+use Rattle.tool_stages.specs.Content.{Content, IsKnown, AreKnown, NoneRises}
 use Rattle.tool_stages.proofs.ChainLemmas.{first_file, second_file, reads_one}
 use Rattle.tool_stages.proofs.GoesLemmas.{program_goes}
 use Rattle.tool_stages.proofs.OneLemmas.{one_program, one_program_stop}
@@ -15,12 +16,12 @@ use Rattle.lab_bound.proofs.Single.{one_bound_in_lab}
 use Rattle.lab_seen.proofs.OneSeen.{seen_once}
 use Rattle.lab_timeline.proofs.OneTimeline.{timeline_once}
 use Rattle.lab_why.proofs.OneReason.{one_reason}
-use Rattle.lab_why.specs.Answers.{ReasonStops, IsAccepted}
+use Rattle.lab_why.specs.Answers.{ReasonStops}
 use Rattle.lab_why.specs.Names.{named}
 use Rattle.lab_why.specs.Reasons.{HasReason}
 use Rattle.lab_why.specs.Origins.{HasOrigins, NameStops}
 use Rattle.lab_tool.specs.Answers.{IsAnswer}
-use Rattle.lab_tool.specs.Complete.{AreKnown, NoneRises}
+use Rattle.lab_tool.specs.Complete.{files_of}
 use Rattle.lab_tool.specs.Once.{HasOneText}
 use Rattle.lab_tool.proofs.WhyLemmas.{is_typable, name_stops, reason_stops}
 
@@ -44,8 +45,8 @@ reads_status R c Next s u t x n known next =
     (λ p v y reads h. program_goes R c p v y n known reads h) (one_program c known) next
 
 reason_one : (c : Option (Option (List ℕ))) (p : Syntax) (s u : Status) (t x : List ℕ)
-    → (HasReason c p t → HasReason c p x → t ≡ x) → Then (ReasonStops c p) (Types p) (λ q. IsAccepted p) s t
-    → Then (ReasonStops c p) (Types p) (λ q. IsAccepted p) u x → (s ≡ u) × (t ≡ x)
+    → (HasReason c p t → HasReason c p x → t ≡ x) → Then (ReasonStops c p) (Types p) (λ q. HasChecked p) s t
+    → Then (ReasonStops c p) (Types p) (λ q. HasChecked p) u x → (s ≡ u) × (t ≡ x)
 reason_one c p s u t x same (inl h) (inl k) =
     let one = reason_stops c p s t h in
     let other = reason_stops c p u x k in
@@ -66,14 +67,14 @@ origin_status c p w s u t x (inl h) (inr k) = absurd (none-some k.0 (sym (name_s
 origin_status c p w s u t x (inr h) (inl k) = absurd (none-some h.0 (sym (name_stops p w u x k).1 ∙ h.1))
 origin_status c p w s u t x (inr h) (inr k) = h.2.0 ∙ sym k.2.0
 
-pub answers_one : (content : Content) (before now : List ℕ → ℕ) (a : Asked) (s u : Status) (t x : List ℕ) → AreKnown content a
-    → NoneRises (λ name. Rose (before name) (now name)) a
+pub answers_one : (content : Content) (before now : List ℕ → ℕ) (a : Asked) (s u : Status) (t x : List ℕ) → AreKnown content (files_of a)
+    → NoneRises (λ name. Rose (before name) (now name)) (files_of a)
     → IsAnswer (λ name. Rose (before name) (now name)) content a s t → IsAnswer (λ name. Rose (before name) (now name)) content a u x
     → (s ≡ u) × (HasOneText a → t ≡ x)
 answers_one content before now (why file None) s u t x known none h k =
     let rises = λ (name : List ℕ). Rose (before name) (now name) in
     let good = first_file rises content file [] none known in
-    let one = reads_one s u t x (rises file) (content file) (λ p. Then (ReasonStops (content file) p) (Types p) (λ q. IsAccepted p)) good.0 good.1
+    let one = reads_one s u t x (rises file) (content file) (λ p. Then (ReasonStops (content file) p) (Types p) (λ q. HasChecked p)) good.0 good.1
     (λ p o. reason_one (content file) p s u t x (one_reason (content file) p t x good.1 o)) h k in
     (one.0, λ i. one.1)
 answers_one content before now (why file (Some name)) s u t x known none h k =

@@ -6,12 +6,13 @@ use Rattle.mit_syntax.specs.Program.{Syntax}
 use Rattle.timing_types.specs.Labelled.{LabelledProgram, HasType}
 use Rattle.tool_texts.specs.declared.status.Status.{Status}
 use Rattle.tool_texts.specs.declared.status.Status.TheVariants as status
+use Rattle.tool_stages.specs.Accepted.{HasChecked}
 use Rattle.tool_stages.specs.Stages.{Then, Reads, ProgramStops, Types}
 use Rattle.tool_stages.specs.Content.{Content, IsKnown}
 use Rattle.tool_stages.specs.Goes.{IsTypable}
 use Rattle.tool_stages.proofs.GoesLemmas.{program_goes}
 use Rattle.tool_stages.proofs.OneLemmas.{one_program, same_labelled}
-use Rattle.lab_why.specs.Answers.{ReasonStops, IsAccepted, IsWhyAnswer}
+use Rattle.lab_why.specs.Answers.{ReasonStops, IsWhyAnswer}
 use Rattle.lab_why.specs.Reasons.{HasReason}
 use Rattle.lab_why.specs.Names.{named}
 use Rattle.lab_why.specs.Origins.{HasOrigins, IsOriginAnswer, NameStops}
@@ -47,7 +48,7 @@ is_typable p q k =
 
 -- a typable program is accepted
 accepted_ends : (c : Option (Option (List ℕ))) (p : Syntax) (s : Status) (t : List ℕ) → IsTypable p
-    → Then (ReasonStops c p) (Types p) (λ q. IsAccepted p) s t → s ≡ status.Done
+    → Then (ReasonStops c p) (Types p) (λ q. HasChecked p) s t → s ≡ status.Done
 accepted_ends c p s t can (inl h) =
     let stop = reason_stops c p s t h in
     absurd (stop.1.refused.none can.0 can.1 can.2)
@@ -55,7 +56,7 @@ accepted_ends c p s t can (inr h) = h.2.0
 
 -- any other one is refused
 refused_ends : (c : Option (Option (List ℕ))) (p : Syntax) (s : Status) (t : List ℕ) → (IsTypable p → ⊥)
-    → Then (ReasonStops c p) (Types p) (λ q. IsAccepted p) s t → s ≡ status.Refused
+    → Then (ReasonStops c p) (Types p) (λ q. HasChecked p) s t → s ≡ status.Refused
 refused_ends c p s t not (inl h) = (reason_stops c p s t h).0
 refused_ends c p s t not (inr h) = absurd (not (is_typable p h.0 h.1))
 
@@ -64,12 +65,12 @@ pub why_ends : (Rises : List ℕ → Type 0) (content : Content) (file : List �
     → IsWhyAnswer Rises content file s t → s ≡ e
 why_ends Rises content file s status.Done t n known goes h =
     then_ends (ProgramStops (Rises file) (content file)) (Reads (content file))
-    (λ p. Then (ReasonStops (content file) p) (Types p) (λ q. IsAccepted p)) s status.Done t
+    (λ p. Then (ReasonStops (content file) p) (Types p) (λ q. HasChecked p)) s status.Done t
     goes.0 goes.1 (one_program (content file) known) (program_goes (Rises file) (content file) goes.0 s t n known goes.1)
     (accepted_ends (content file) goes.0 s t goes.2) h
 why_ends Rises content file s status.Refused t n known goes h =
     then_ends (ProgramStops (Rises file) (content file)) (Reads (content file))
-    (λ p. Then (ReasonStops (content file) p) (Types p) (λ q. IsAccepted p)) s status.Refused t
+    (λ p. Then (ReasonStops (content file) p) (Types p) (λ q. HasChecked p)) s status.Refused t
     goes.0 goes.1 (one_program (content file) known) (program_goes (Rises file) (content file) goes.0 s t n known goes.1)
     (refused_ends (content file) goes.0 s t goes.2) h
 why_ends Rises content file s status.Syntax t n known goes h = absurd goes

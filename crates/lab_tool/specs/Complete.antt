@@ -1,11 +1,11 @@
 -- How a question can end: what must be so that nothing but want of memory ends it otherwise.
-use Rattle.std.specs.Prelude.{◌≡◌, ℕ, List, [], ◌∷◌, All, Option, Some, None}
+use Rattle.std.specs.Prelude.{◌≡◌, ℕ, List, [], ◌∷◌, Option, Some, None}
 use Rattle.flow_path.specs.declared.step.Spot.{Spot}
 use Rattle.mit_syntax.specs.Program.{Syntax}
 use Rattle.tool_texts.specs.declared.status.Status.{Status}
 use Rattle.tool_texts.specs.declared.status.Status.TheVariants as status
 use Rattle.tool_stages.specs.Stages.{Reads}
-use Rattle.tool_stages.specs.Content.{Content, IsKnown}
+use Rattle.tool_stages.specs.Content.{Content, AreKnown}
 use Rattle.tool_stages.specs.Goes.{IsTypable}
 use Rattle.lab_bound.specs.Complete.{CanBound}
 use Rattle.lab_runs.specs.Begins.{CanBegin}
@@ -18,19 +18,6 @@ files_of (why file of) = file ∷ []
 files_of (seen file starts observer e budget) = file ∷ starts ∷ []
 files_of (timeline file starts observer e budget) = file ∷ starts ∷ []
 files_of (bound file starts observer e budget) = file ∷ starts ∷ []
-
--- each of them is told to hold bytes
-abbrev pub AreKnown : Content → Asked → Type 0
-AreKnown content a = All (λ name. IsKnown (content name)) (files_of a)
-
--- none of them is one whose count of faults rose
-abbrev pub NoneRises : (List ℕ → Type 0) → Asked → Type 0
-NoneRises Rises a = All (λ name. Rises name → ⊥) (files_of a)
-
--- the files that words name
-abbrev pub named_by : Option Asked → List (List ℕ)
-named_by None = []
-named_by (Some a) = files_of a
 
 -- `why` is done where some labelling types the program, and tells its reason where none does
 abbrev pub WhyGoes : Option (Option (List ℕ)) → Status → Type 0
@@ -57,5 +44,5 @@ Goes content (timeline file starts observer e budget) s = IsDoneIf (CanBegin con
 
 -- the files that a question names are told to hold bytes, and with these it goes on to this end
 pub record CanEnd (content : Content) (a : Asked) (s : Status) : Type 0 where
-  pub known : AreKnown content a
+  pub known : AreKnown content (files_of a)
   pub goes : Goes content a s

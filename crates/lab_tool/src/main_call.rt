@@ -4,11 +4,12 @@ ghost use Rattle.std.specs.Prelude.{◌≡◌, ◌≤◌, ◌⊎◌, None, IfSom
 ghost use Rattle.tim_base.specs.Kept.{KeepsFiles, NoCountFalls};
 ghost use Rattle.tim_base.specs.Faults.{Rose};
 ghost use Rattle.tool_texts.specs.Ends.{EndsBy, Nothing};
-ghost use Rattle.tool_stages.specs.Fetches.{HasFetched};
+ghost use Rattle.tool_stages.specs.Content.{NoneRises};
+ghost use Rattle.tool_stages.specs.Fetches.{HasFetched, named_by};
 ghost use Rattle.lab_words.specs.QuestionAsked.{IsInRange, question_of};
 ghost use Rattle.lab_words.specs.QuestionViews.{asked_of};
 ghost use Rattle.lab_tool.specs.Answers.{Before, IsAnswer, IsUsage};
-ghost use Rattle.lab_tool.specs.Complete.{CanEnd, NoneRises, files_of, named_by};
+ghost use Rattle.lab_tool.specs.Complete.{CanEnd, files_of};
 
 use lab_bound::bound::bound;
 use lab_seen::seen::seen;
@@ -21,7 +22,7 @@ use std::alloc::Global;
 use tim_base::shelf::Shelf;
 use tim_base::sink::Sink;
 use tool_stages::setting::Setting;
-use tool_texts::finish::finish;
+use tool_texts::finish::stop_for_memory;
 use tool_texts::status::Status;
 use tool_texts::stop::Stop;
 use tool_words::words::WordsFault;
@@ -93,8 +94,9 @@ fn obey<S: Shelf, W: Sink>(
 /// `complete`: a question that can end in some way ends so, want of memory aside, where no count of faults rose, neither
 /// that of a file that the words name nor that of the sink.
 ///
-/// `fetched`: the files that the words name are fetched in their order, each once, and none after one that gave no bytes; a
-/// read fault is told exactly where the last fetch failed.
+/// `fetched`: of the files that the words name the first ones are fetched, in their order, each once, and none after one
+/// that gave no bytes. A read fault is told where the last fetch failed and only there, unless its line could not be
+/// written.
 pub fn lab_main<S: Shelf, W: Sink>(
     alloc: Global,
     words: &[String],
@@ -107,10 +109,10 @@ pub fn lab_main<S: Shelf, W: Sink>(
     ensures usage { question_of (map string_bytes words.now) ≡ None
         → EndsBy (W.taken out.old) (W.taken out.new) Nothing IsUsage result }
     ensures complete { IfSome (question_of (map string_bytes words.now)) (λ a. (s : Status) → CanEnd (S.content shelf.old) a s
-        → NoneRises (λ name. Rose (S.faults shelf.old name) (S.faults shelf.new name)) a → (Rose (W.faults out.old) (W.faults out.new) → ⊥)
+        → NoneRises (λ name. Rose (S.faults shelf.old name) (S.faults shelf.new name)) (files_of a) → (Rose (W.faults out.old) (W.faults out.new) → ⊥)
         → (result ≡ s) ⊎ (result ≡ Status.Memory)) }
     ensures write { result ≡ Status.WriteFault → Rose (W.faults out.old) (W.faults out.new) }
-    ensures fetched { HasFetched (named_by (question_of (map string_bytes words.now))) result (S.log shelf.old) (S.log shelf.new) }
+    ensures fetched { HasFetched (named_by files_of (question_of (map string_bytes words.now))) result (S.log shelf.old) (S.log shelf.new) }
 
     // No file changes, and no count of faults falls.
     ensures same { KeepsFiles (S.content shelf.old) (S.content shelf.new) }
@@ -120,6 +122,6 @@ pub fn lab_main<S: Shelf, W: Sink>(
     match read_question(alloc, words) {
         Ok(question) => obey(alloc, shelf, out, question),
         Err(WordsFault::Usage) => stop(out, Stop::Usage),
-        Err(WordsFault::Memory) => finish(out, b"memory\n", Status::Memory),
+        Err(WordsFault::Memory) => stop_for_memory(out),
     }
 }

@@ -1,11 +1,10 @@
 -- The answer to `why`, in the order of its refusals.
-use Rattle.std.specs.Prelude.{◌≡◌, ℕ, List, Option}
-use Rattle.mit_syntax.specs.Plan.{count, mitigates}
-use Rattle.mit_syntax.specs.Program.{Syntax, plan_of}
+use Rattle.std.specs.Prelude.{ℕ, List, Option}
+use Rattle.mit_syntax.specs.Program.{Syntax}
 use Rattle.tool_texts.specs.declared.status.Status.{Status}
 use Rattle.tool_texts.specs.declared.status.Status.TheVariants as status
-use Rattle.tool_texts.specs.Texts.{accepted_line}
 use Rattle.tool_stages.specs.Stages.{Then, Reads, ProgramStops, Types}
+use Rattle.tool_stages.specs.Accepted.{HasChecked}
 use Rattle.tool_stages.specs.Content.{Content}
 use Rattle.lab_why.specs.Reasons.{HasReason}
 
@@ -14,13 +13,9 @@ abbrev pub ReasonStops : Option (Option (List ℕ)) → Syntax → Status → Li
 ReasonStops content p status.Refused t = HasReason content p t
 ReasonStops content p _ t = ⊥
 
--- a program is accepted: how many commands and mitigates it has
-abbrev pub IsAccepted : Syntax → Status → List ℕ → Type 0
-IsAccepted p s t = (s ≡ status.Done) × (t ≡ accepted_line (count (plan_of p)) (mitigates (plan_of p)))
-
 -- `Rises` tells the names whose counts of faults rose
 abbrev pub IsWhyAnswer : (List ℕ → Type 0) → Content → List ℕ → Status → List ℕ → Type 0
 IsWhyAnswer Rises content file =
     Then (ProgramStops (Rises file) (content file)) (Reads (content file)) (λ p.
     Then (ReasonStops (content file) p) (Types p) (λ q.
-    IsAccepted p))
+    HasChecked p))

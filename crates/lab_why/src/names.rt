@@ -11,7 +11,7 @@ use mit_syntax::program::Program;
 use tool_words::values::number_of;
 
 /// The greatest number that the mark of a mitigate may have.
-const MAX_MARK: u64 = 4_294_967_295;
+const MAX_MARK: u64 = u32::MAX as u64;
 
 // The variable with a number, if there is one.
 fn variable_at(p: &Program, x: u32) -> Option<Spot>

@@ -35,7 +35,13 @@ impl Model for Image {
 
     ghost view = { λ i. record { instrs = i.instrs.items; variables = i.variables; order = i.lattice; operands = i.operands; nesting = i.nesting } };
 
-    ghost invariant = { λ i. IsShaped (record { instrs = i.instrs.items; variables = i.variables; order = i.lattice; operands = i.operands; nesting = i.nesting }) };
+    ghost invariant = { λ i. IsShaped (record {
+      instrs = i.instrs.items;
+      variables = i.variables;
+      order = i.lattice;
+      operands = i.operands;
+      nesting = i.nesting;
+    }) };
 }
 
 impl Image {
@@ -65,7 +71,7 @@ impl Image {
         ensures shaped { IsShaped self.now }
         ensures labels { self.now.order.size ≤ MAX_LABELS }
     {
-        let _ = self.lattice.size();
+        self.lattice.laws();
     }
 
     /// How many instructions there are.

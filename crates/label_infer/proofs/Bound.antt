@@ -12,8 +12,8 @@ use Rattle.mit_syntax.specs.Valid.{IsValid}
 use Rattle.timing_types.specs.Walk.{Side, OfCommand, OfVariable, OfLevel}
 use Rattle.timing_types.specs.Labelling.{label_at}
 use Rattle.label_infer.specs.declared.constraints.Condition.{Condition}
-use Rattle.label_infer.specs.Forms.{value}
-use Rattle.label_infer.specs.Known.{constraint_of, constraints_in}
+use Rattle.label_infer.specs.Constraints.{value}
+use Rattle.label_infer.specs.ConstraintsOf.{constraint_of, constraints_in}
 use Rattle.label_infer.specs.Work.{Work, waits_at, have_in, woken, joined, taken_side, Takes, IsWorkOf, Climb, start, up, ChainsHaveUpTo, row_count, shares}
 use Rattle.label_infer.specs.Work.{score, row_left, steps_left, IsWithin}
 use Rattle.label_infer.proofs.Completed.{lattice_laws}

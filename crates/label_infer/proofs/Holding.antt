@@ -9,7 +9,7 @@ use Rattle.label_lattice.specs.Lattice.{Lattice, Flows, IsLattice}
 use Rattle.timing_types.specs.Labelling.{label_at}
 use Rattle.label_infer.specs.declared.row.Row.{Row}
 use Rattle.label_infer.specs.Rows.{has_in, Meet}
-use Rattle.label_infer.specs.Forms.{value_from}
+use Rattle.label_infer.specs.Constraints.{value_from}
 use Rattle.label_infer.specs.Holders.{is_label, has_label, Tell}
 use Rattle.label_infer.proofs.Values.{base_up, has_up, value_least}
 

@@ -7,10 +7,10 @@ use Rattle.label_lattice.specs.Lattice.{Lattice}
 use Rattle.mit_syntax.specs.Expression.{Expression}
 use Rattle.mit_syntax.specs.Todo.{Assign, Put, If, While, Mitigate}
 use Rattle.mit_syntax.specs.Plan.{Written, Plan}
-use Rattle.label_infer.specs.declared.known.Known.{Known}
-use Rattle.label_infer.specs.Forms.{LeftSide, Constraint, both, fixed, variable_form, set_constraint, level_constraint, label_or}
-use Rattle.label_infer.specs.Known.{written_at, free_of, written_of, lat_of, end_of, constraints_from, inner_of, after_of, loop_of, assign_of, put_of}
-use Rattle.label_infer.specs.Known.{next_of, set_of}
+use Rattle.label_infer.specs.declared.written_labels.Known.{Known}
+use Rattle.label_infer.specs.Constraints.{LeftSide, Constraint, both, fixed, variable_form, set_constraint, level_constraint, label_or}
+use Rattle.label_infer.specs.ConstraintsOf.{written_at, free_of, written_of, lat_of, end_of, constraints_from, inner_of, after_of, loop_of, assign_of, put_of}
+use Rattle.label_infer.specs.ConstraintsOf.{next_of, set_of}
 
 -- of what an Ok holds
 pub if_ok : {T E : Type 0} {P Q : T → Type 0} (r : Result T E) → ((x : T) → P x → Q x) → IfOk r P → IfOk r Q

@@ -12,8 +12,8 @@ use Rattle.mit_syntax.specs.Declarations.{Declaration}
 use Rattle.mit_syntax.specs.Valid.{AreMarksBelow, AreKnown, AreNumbered}
 use Rattle.timing_types.specs.Walk.{Side, OfCommand, OfVariable, OfLevel}
 use Rattle.label_infer.specs.Given.{written_levels}
-use Rattle.label_infer.specs.Forms.{LeftSide, Constraint, fixed, both, variable_form, label_form, index_form, put_form, here_form, own_form, after_form}
-use Rattle.label_infer.specs.Forms.{loop_form, demand_form, end_form, set_constraint, level_constraint, constraints}
+use Rattle.label_infer.specs.Constraints.{LeftSide, Constraint, fixed, both, variable_form, label_form, index_form, put_form, here_form, own_form, after_form}
+use Rattle.label_infer.specs.Constraints.{loop_form, demand_form, end_form, set_constraint, level_constraint, constraints}
 use Rattle.label_infer.proofs.Placed.{length_levels}
 
 -- the label is a variable's without a written one, or a level that is not written

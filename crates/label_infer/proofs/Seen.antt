@@ -11,8 +11,8 @@ use Rattle.timing_types.specs.declared.rule.Rule.TheVariants.{Mtg as RMtg}
 use Rattle.timing_types.specs.Typing.{label_of, index_label}
 use Rattle.timing_types.specs.Walk.{OfLevel, Condition, demand, put_index, here, after, loop_start, walk_end, conditions, Meets}
 use Rattle.label_infer.specs.Least.{own, is_free, is_omitted}
-use Rattle.label_infer.specs.Forms.{LeftSide, value, Constraint, both, variable_form, label_form, index_form, put_form, here_form, own_form, after_form}
-use Rattle.label_infer.specs.Forms.{loop_form, demand_form, end_form, set_constraint, level_constraint, constraints, right_of, AllMet}
+use Rattle.label_infer.specs.Constraints.{LeftSide, value, Constraint, both, variable_form, label_form, index_form, put_form, here_form, own_form, after_form}
+use Rattle.label_infer.specs.Constraints.{loop_form, demand_form, end_form, set_constraint, level_constraint, constraints, right_of, AllMet}
 use Rattle.label_infer.proofs.Values.{fixed_value, join_value, variable_value, label_value, index_value, put_value, here_value}
 use Rattle.label_infer.proofs.Fill.{owned, fill}
 

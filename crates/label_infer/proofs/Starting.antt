@@ -13,13 +13,13 @@ use Rattle.mit_syntax.specs.Declarations.{Declaration, Cell, cells, variables, c
 use Rattle.mit_syntax.specs.Program.{Syntax, plan_of}
 use Rattle.mit_syntax.specs.Valid.{IsBelow, AreKnown, IsValid}
 use Rattle.timing_types.specs.Labelling.{label_at, variable_of, level_of, marks_of, IsKept}
-use Rattle.label_infer.specs.declared.known.Known.{Known}
+use Rattle.label_infer.specs.declared.written_labels.Known.{Known}
 use Rattle.label_infer.specs.declared.constraints.Condition.{Condition}
 use Rattle.label_infer.specs.Least.{is_unwritten, is_free}
 use Rattle.label_infer.specs.Given.{written_levels, KeepsVariables, KeepsLevels}
 use Rattle.label_infer.specs.First.{first_of, first_levels}
-use Rattle.label_infer.specs.Forms.{LeftSide, fixed, label_or, written_in, constraints}
-use Rattle.label_infer.specs.Known.{free_of, written_of, constraints_from, constraints_in, side_of}
+use Rattle.label_infer.specs.Constraints.{LeftSide, fixed, label_or, written_in, constraints}
+use Rattle.label_infer.specs.ConstraintsOf.{free_of, written_of, constraints_from, constraints_in, side_of}
 use Rattle.label_infer.specs.Work.{Work, waits_at, IsWorkOf, IsFirst, IsWithin, shares, shares_of}
 use Rattle.label_infer.specs.declared.constraints.Target.{Target}
 use Rattle.label_infer.specs.declared.constraints.Target.TheVariants.{Variable, Level}

@@ -16,8 +16,8 @@ use Rattle.timing_types.specs.Labelling.{Labelling, label_at, variable_of, marks
 use Rattle.label_infer.specs.declared.constraints.Condition.{Condition}
 use Rattle.label_infer.specs.Least.{Labels, is_unwritten, is_free, is_omitted, MeetsOmitted, IsLeast}
 use Rattle.label_infer.specs.Given.{AllFrom, written_levels, own_pairs, KeepsVariables}
-use Rattle.label_infer.specs.Forms.{value_from, value, fixed, Constraint, right_of, AllMet, label_or, written_in, constraints_of}
-use Rattle.label_infer.specs.Known.{constraint_of, constraints_in}
+use Rattle.label_infer.specs.Constraints.{value_from, value, fixed, Constraint, right_of, AllMet, label_or, written_in, constraints_of}
+use Rattle.label_infer.specs.ConstraintsOf.{constraint_of, constraints_in}
 use Rattle.label_infer.specs.Work.{Work, waits_at, have_in, woken, joined, taken_side, Takes, IsDone, IsWorkOf, IsInferred}
 use Rattle.label_infer.proofs.Completed.{lattice_laws, labels_from, least_from, written_at}
 use Rattle.label_infer.proofs.Values.{base_up, has_up, value_least, value_up, fixed_value}

@@ -6,9 +6,9 @@ use Rattle.label_lattice.specs.Order.{Order, lattice_of}
 use Rattle.timing_types.specs.Labelling.{label_at}
 use Rattle.label_infer.specs.declared.constraints.Condition.{Condition}
 use Rattle.label_infer.specs.declared.constraints.Target.TheVariants.{Variable, Level}
-use Rattle.label_infer.specs.Forms.{value}
+use Rattle.label_infer.specs.Constraints.{value}
 use Rattle.label_infer.specs.LeftSideOf.{left_side_of}
-use Rattle.label_infer.specs.Known.{constraint_of, side_of}
+use Rattle.label_infer.specs.ConstraintsOf.{constraint_of, side_of}
 use Rattle.label_infer.specs.Work.{Work, waits_at, have_in, woken, joined, taken_side, Takes}
 use Rattle.label_infer.proofs.Taking.{work, woken_length}
 

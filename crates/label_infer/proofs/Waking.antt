@@ -2,7 +2,7 @@
 use Rattle.std.proofs.Common.{◌≡◌, ℕ, zero, suc, ◌<◌, refl, sym, ap, ◌∙◌, List, [], ◌∷◌, length, arith}
 use Rattle.std.specs.Prelude.{Bool, ◌||◌, Some, slice_get}
 use Rattle.label_infer.specs.declared.constraints.Condition.{Condition}
-use Rattle.label_infer.specs.Known.{constraint_of}
+use Rattle.label_infer.specs.ConstraintsOf.{constraint_of}
 use Rattle.label_infer.specs.Work.{waits_at, woken}
 use Rattle.label_infer.proofs.Taking.{woken_length, woken_at}
 

@@ -1,10 +1,10 @@
 pub mod Least
 pub mod Given
 pub mod Rows
-pub mod Forms
+pub mod Constraints
 pub mod Sets
 pub mod LeftSideOf
-pub mod Known
+pub mod ConstraintsOf
 pub mod Work
 pub mod Holders
 pub mod Blocks

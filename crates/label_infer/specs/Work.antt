@@ -11,8 +11,8 @@ use Rattle.timing_types.specs.Labelling.{Labelling, label_at, variable_of, level
 use Rattle.label_infer.specs.declared.constraints.Condition.{Condition}
 use Rattle.label_infer.specs.Least.{Labels, is_free, MeetsOmitted, IsLeast}
 use Rattle.label_infer.specs.Given.{AllFrom, written_levels, KeepsVariables, KeepsLevels}
-use Rattle.label_infer.specs.Forms.{value, Constraint, right_of, constraints_of}
-use Rattle.label_infer.specs.Known.{constraint_of, constraints_in}
+use Rattle.label_infer.specs.Constraints.{value, Constraint, right_of, constraints_of}
+use Rattle.label_infer.specs.ConstraintsOf.{constraint_of, constraints_in}
 
 -- the labels with their order, the conditions in the order of the walk, which of them wait, and the labels so
 -- far of variables and mitigates

@@ -3,12 +3,12 @@
 ghost use Rattle.std.specs.Prelude.{◌≡◌, ◌++◌, IfOk};
 ghost use Rattle.mit_syntax.specs.Plan.{Plan, command_plan, list_plan};
 ghost use Rattle.label_infer.specs.LeftSideOf.{left_side_of};
-ghost use Rattle.label_infer.specs.Forms.{level_constraint};
-ghost use Rattle.label_infer.specs.Known.{end_of, constraints_from, constraints_in, set_of};
+ghost use Rattle.label_infer.specs.Constraints.{level_constraint};
+ghost use Rattle.label_infer.specs.ConstraintsOf.{end_of, constraints_from, constraints_in, set_of};
 
-use crate::known::Known;
 use crate::left_side::{LeftSide, both};
 use crate::left_sides::{after, assigned, inner, loop_start, next, put, skip_end, written_label};
+use crate::written_labels::Known;
 use label_lattice::label::Label;
 use mit_syntax::ast::{Command, Form};
 use std::alloc::AllocError;

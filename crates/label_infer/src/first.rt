@@ -6,9 +6,9 @@ ghost use Rattle.mit_syntax.specs.Plan.{Plan, command_plan, list_plan};
 ghost use Rattle.label_lattice.specs.declared.label.Label.{Label as Written};
 ghost use Rattle.label_infer.specs.First.{first_of, first_levels};
 
-use crate::known::Known;
 use crate::row::MAX_NUMBERS;
 use crate::variables::Variables;
+use crate::written_labels::Known;
 use label_lattice::label::Label;
 use mit_syntax::ast::{Command, Form};
 use mit_syntax::program::Program;

@@ -2,11 +2,11 @@
 
 ghost use Rattle.std.specs.Prelude.{◌≡◌, IfOk};
 ghost use Rattle.label_infer.specs.LeftSideOf.{left_side_of};
-ghost use Rattle.label_infer.specs.Forms.{fixed, both};
-ghost use Rattle.label_infer.specs.Known.{lat_of};
+ghost use Rattle.label_infer.specs.Constraints.{fixed, both};
+ghost use Rattle.label_infer.specs.ConstraintsOf.{lat_of};
 
-use crate::known::Known;
 use crate::variable_set::VariableSet;
+use crate::written_labels::Known;
 use label_lattice::label::Label;
 use std::alloc::AllocError;
 

@@ -2,15 +2,16 @@
 
 ghost use Rattle.std.specs.Prelude.{◌≡◌, ◌<◌, IfNone, IfOk};
 ghost use Rattle.label_infer.specs.LeftSideOf.{left_side_of};
-ghost use Rattle.label_infer.specs.Forms.{variable_form, label_form, index_form, put_form, here_form, own_form, both};
-ghost use Rattle.label_infer.specs.Known.{lat_of, written_at, free_of, written_of, own_of, skip_of, assign_of, put_of, after_of, loop_of, inner_of, next_of};
+ghost use Rattle.label_infer.specs.Constraints.{variable_form, label_form, index_form, put_form, here_form, own_form, both};
+ghost use Rattle.label_infer.specs.ConstraintsOf.{lat_of, written_at, free_of, written_of, own_of, skip_of, assign_of};
+ghost use Rattle.label_infer.specs.ConstraintsOf.{put_of, after_of, loop_of, inner_of, next_of};
 ghost use Rattle.mit_syntax.specs.Expression.{expression_of};
 
-use crate::known::Known;
 use crate::left_side::{LeftSide, both, fixed};
 use crate::place::Place;
 use crate::row::MAX_NUMBERS;
 use crate::variable_set::VariableSet;
+use crate::written_labels::Known;
 use label_lattice::label::Label;
 use mit_syntax::ast::Expr;
 use std::alloc::AllocError;

@@ -3,13 +3,18 @@
 ghost use Rattle.std.specs.Prelude.{◌≡◌, ◌<◌, length, ◌||◌, ◌&&◌, not, false, eqb, bit_and, MatchBool, IsTrue, ◌↔◌};
 ghost use Rattle.label_infer.specs.Rows.{has_in, Meet, SharesBit};
 
+use mit_syntax::declarations::MAX_CELLS;
+
 /// How many variables a program can have: each declaration is one, and each element of an array.
-pub(crate) const MAX_NUMBERS: u32 = 3072;
+pub(crate) const MAX_NUMBERS: u32 = MAX_CELLS;
+
+/// How many words a row of bits has: one bit for each number.
+const WORDS: usize = MAX_NUMBERS as usize / 64;
 
 /// A set of variables with numbers below `MAX_NUMBERS`, as a row of bits.
 #[derive(Clone, Copy)]
 pub(crate) struct Row {
-    words: [u64; 48],
+    words: [u64; WORDS],
     ghost full: { length words ≡ 48 },
 }
 
@@ -25,7 +30,7 @@ impl Row {
     pub(crate) fn empty() -> Row
         ensures { has_in result.words ≡ λ y. false }
     {
-        Row { words: [0; 48] }
+        Row { words: [0; WORDS] }
     }
 
     /// Whether the set has a variable.
@@ -59,7 +64,7 @@ impl Row {
         ensures { has_in result.words ≡ λ y. has_in self.now.words y || has_in other.now.words y }
     {
         let mut words = self.words;
-        for i in 0..48 {
+        for i in 0..WORDS {
             words[i] |= other.words[i];
         }
         Row { words }
@@ -76,7 +81,7 @@ impl Row {
     pub(crate) fn meets(&self, other: &Row) -> bool
         ensures { MatchBool result (Meet (has_in self.now.words) (has_in other.now.words)) (Meet (has_in self.now.words) (has_in other.now.words) → ⊥) }
     {
-        for i in 0..48 {
+        for i in 0..WORDS {
             if overlap(self.words[i], other.words[i]) {
                 return true;
             }

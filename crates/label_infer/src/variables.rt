@@ -6,7 +6,7 @@ ghost use Rattle.label_lattice.specs.Lattice.{Flows};
 ghost use Rattle.label_lattice.specs.Order.{lattice_of};
 ghost use Rattle.timing_types.specs.Labelling.{label_at};
 ghost use Rattle.label_infer.specs.LeftSideOf.{left_side_of};
-ghost use Rattle.label_infer.specs.Forms.{value, value_from};
+ghost use Rattle.label_infer.specs.Constraints.{value, value_from};
 ghost use Rattle.label_infer.specs.Holders.{Tell};
 ghost use Rattle.label_infer.specs.Rows.{has_in, Meet};
 
@@ -17,6 +17,9 @@ use label_lattice::label::Label;
 use label_lattice::lattice::Lattice;
 use std::alloc::{AllocError, Global};
 use std::marker::Model;
+
+/// How many rows are kept: one for each number that a label can have. That is a byte, so each label has its row.
+const HOLDERS: usize = 256;
 
 /// The labels of the variables, and for each label the set of the variables that have it: so a left side is
 /// joined label by label, and not variable by variable.
@@ -98,7 +101,7 @@ impl Variables {
     pub(crate) fn new(alloc: Global) -> Result<Variables, AllocError>
         ensures { IfOk result (λ v. v ≡ []) }
     {
-        let holders = vec![in alloc; Row::empty(); 256]?;
+        let holders = vec![in alloc; Row::empty(); HOLDERS]?;
         Ok(Variables {
             labels: Vec::new(alloc),
             holders,
@@ -138,13 +141,13 @@ impl Variables {
     }
 
     /// The value of a left side.
-    pub(crate) fn value(&self, form: &LeftSide, order: &Lattice) -> Label
-        ensures { result.number ≡ value (lattice_of order.now) (length self.now) (label_at order.now.bottom self.now) (left_side_of form.now) }
+    pub(crate) fn value(&self, left: &LeftSide, order: &Lattice) -> Label
+        ensures { result.number ≡ value (lattice_of order.now) (length self.now) (label_at order.now.bottom self.now) (left_side_of left.now) }
     {
-        match &form.variables {
-            VariableSet::Empty => self.without(form.base, order),
-            VariableSet::One(place) => self.with_label(form.base, place.number, order),
-            VariableSet::Many(row) => self.with_labels(form.base, row, order),
+        match &left.variables {
+            VariableSet::Empty => self.without(left.base, order),
+            VariableSet::One(place) => self.with_label(left.base, place.number, order),
+            VariableSet::Many(row) => self.with_labels(left.base, row, order),
         }
     }
 

@@ -7,7 +7,7 @@ ghost use Rattle.label_infer.specs.declared.constraints.Condition.{Condition as 
 ghost use Rattle.label_infer.specs.Blocks.{AreBlocks};
 ghost use Rattle.label_infer.specs.LeftSideOf.{left_side_of};
 ghost use Rattle.label_infer.specs.Sets.{has_of};
-ghost use Rattle.label_infer.specs.Forms.{value};
+ghost use Rattle.label_infer.specs.Constraints.{value};
 ghost use Rattle.label_infer.specs.Work.{waits_at, woken, joined};
 
 use crate::blocks::Blocks;

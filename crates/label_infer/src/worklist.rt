@@ -9,11 +9,11 @@ ghost use Rattle.label_infer.specs.Work.{Work, Takes, IsDone, IsWorkOf, IsFirst,
 use crate::blocks::Blocks;
 use crate::constraints::{Condition, Target, list_constraints};
 use crate::first::{first_variables, list_levels, written_labels};
-use crate::known::Known;
 use crate::left_side::fixed;
 use crate::steps::Steps;
 use crate::variables::Variables;
 use crate::waiting::{all_wait, condition_at, lift, next_waiting, raise, value};
+use crate::written_labels::Known;
 use label_lattice::label::Label;
 use label_lattice::lattice::Lattice;
 use mit_syntax::program::Program;

@@ -58,7 +58,8 @@ abbrev pub IsFault : ℕ → (ℕ → ℕ → Type 0) → LatticeFault → Type 
 IsFault n flows (TooMany count) = (most_labels < n) × (count ≡ n)
 IsFault n flows (Cycle a b) = (n ≤ most_labels) × IsFirstPair n (IsCycle flows) a.number b.number
 IsFault n flows (NoBottom a b) = (n ≤ most_labels) × IsNoPair n (IsCycle flows) × IsFirstPair n (AreLowest n flows) a.number b.number
-IsFault n flows (NoJoin a b) = (n ≤ most_labels) × IsNoPair n (IsCycle flows) × IsNoPair n (AreLowest n flows) × IsFirstPair n (HaveNoJoin n flows) a.number b.number
+IsFault n flows (NoJoin a b) =
+    (n ≤ most_labels) × IsNoPair n (IsCycle flows) × IsNoPair n (AreLowest n flows) × IsFirstPair n (HaveNoJoin n flows) a.number b.number
 
 -- nothing is wrong with n labels of which these flow to each other
 pub record IsSound (n : ℕ) (flows : ℕ → ℕ → Type 0) : Type 0 where

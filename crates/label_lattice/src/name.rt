@@ -13,13 +13,13 @@ ghost use Rattle.label_lattice.specs.Names.{IsName, IsWord, is_one_of, keywords,
 use std::hash::{Hash, Hasher};
 use std::marker::Model;
 
-/// The most bytes that a name may have.
-const MAX_BYTES: usize = 32;
+/// The most bytes that a name of a label or of a variable may have.
+pub const MAX_NAME: usize = 32;
 
 /// A name: a letter, then letters, digits and `_`, of at most 32 bytes, and no keyword.
 #[derive(Clone, Copy, Debug)]
 pub struct Name {
-    room: [u8; MAX_BYTES],
+    room: [u8; MAX_NAME],
     len: u8,
 }
 
@@ -48,10 +48,10 @@ impl Name {
         ensures names { IsSome result ↔ IsName bytes.now }
         ensures text { IfSome result (λ n. n ≡ bytes.now) }
     {
-        if bytes.len() > MAX_BYTES || !is_word(bytes) || is_keyword(bytes) {
+        if bytes.len() > MAX_NAME || !is_word(bytes) || is_keyword(bytes) {
             return None;
         }
-        let mut room = [0u8; MAX_BYTES];
+        let mut room = [0u8; MAX_NAME];
         room[..bytes.len()].copy_from_slice(bytes);
         Some(Name {
             room,

@@ -1,5 +1,6 @@
 -- What is known of a run that is observed, turn by turn.
 use Rattle.std.proofs.Common.{◌≡◌, ◌≤◌, ℕ, List, [], ◌++◌, map, refl, sym, ap, ◌∙◌, append_assoc, append-nil, arith, Bool, Some, None, ℤ}
+use Rattle.std.proofs.lemmas.List.{take_all}
 use Rattle.timing_types.specs.Labelled.{LabelledProgram}
 use Rattle.env_contract.specs.Env.{Env}
 use Rattle.label_code.specs.Machine.{Event}
@@ -44,7 +45,7 @@ module _ {E : Type 0} (v : Env E) (limit : ℕ) (p : LabelledProgram) (o : ℕ) 
   none_observed m t clock shown begun ended items = record {
     events = [];
     rest = refl;
-    tallies = record { shown = shown; kept = λ fits. ap (map event_of) items; begun = begun; ended = ended };
+    tallies = record { shown = shown; kept = ap (map event_of) items ∙ sym (take_all room [] (omega arith)); begun = begun; ended = ended };
     code = refl;
     shown = omega (arith, shown);
     begun = omega (arith, begun);

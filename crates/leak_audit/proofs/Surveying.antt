@@ -1,10 +1,10 @@
 -- What is known of some runs of a list, one after the other.
-use Rattle.std.proofs.Common.{◌≡◌, ◌<◌, ◌≤◌, ℕ, suc, ◌+◌, ◌-◌, List, [], ◌∷◌, ◌++◌, length, max, Bool, true, false, cond, inl, inr, refl, sym, ap, ◌∙◌, subst}
+use Rattle.std.proofs.Common.{◌≡◌, ◌<◌, ◌≤◌, ℕ, ◌+◌, ◌-◌, List, [], ◌∷◌, ◌++◌, length, max, Bool, true, false, cond, inl, inr, refl, sym, ap, ◌∙◌, subst}
 use Rattle.std.proofs.Common.{arith, append-nil, append_assoc, length-append, map, Some, None}
 use Rattle.std.specs.Prelude.{◌⊎◌}
 use Rattle.std.proofs.lemmas.Bool.{cases_lt}
 use Rattle.std.proofs.lemmas.Bool.Decides.{nat_tests}
-use Rattle.std.proofs.lemmas.List.{length-map, map-append}
+use Rattle.std.proofs.lemmas.List.{length-map, map-append, take_all}
 use Rattle.mit_syntax.specs.Program.{plan_of}
 use Rattle.timing_types.specs.Labelled.{LabelledProgram, order_of, labels_of, levels_of}
 use Rattle.env_contract.specs.Env.{Env}
@@ -146,6 +146,7 @@ module _ {E : Type 0} (v : Env E) (p : LabelledProgram) (o t : ℕ) (must : Bool
         let fits = x.few in
         let room : w.tally.shown ≤ 16777216 - r.shown = omega arith in
         let all : q.shown ≡ r.shown + shown_by v p o t s = omega arith in
+        let short : length (sequence_from v p o t s) ≤ 16777216 - r.shown = subst (λ z. z ≤ 16777216 - r.shown) seen.tallies.shown room in
         let halt = goes_halted must run.halted run.core.clock (ap (unfinished must) (sym seen.end) ∙ x.goes) in
         let halted : q.halted ≡ r.halted + cond run.halted 1 0 = x.halted ∙ ap (λ z. r.halted + z) (ap halts seen.end ∙ halts-end run.halted run.core.clock) in
         let halted_rest : halted_count v p t rest ≡ cond run.halted 1 0 + halted_count v p t more = ap (halted_count v p t) from in
@@ -164,7 +165,8 @@ module _ {E : Type 0} (v : Env E) (p : LabelledProgram) (o t : ℕ) (must : Bool
           before = h.before ++ s ∷ [];
           kinds =
               subst (λ z. AreKinds z q.kinds)
-              (ap (λ z. map (sequence_from v p o t) h.before ++ z ∷ []) (seen.tallies.kept room)
+              (ap (λ z. map (sequence_from v p o t) h.before ++ z ∷ [])
+              (seen.tallies.kept ∙ take_all (16777216 - r.shown) (sequence_from v p o t s) short)
               ∙ sym (map-append (sequence_from v p o t) h.before (s ∷ []))) (x.kinds (map (sequence_from v p o t) h.before) h.kinds);
           are = h.are ∙ (ap (λ z. h.before ++ z) from ∙ sym (append_assoc h.before (s ∷ []) more));
           number = omega (arith, next, h.number, length-append h.before (s ∷ []));

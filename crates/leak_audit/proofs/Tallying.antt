@@ -1,12 +1,11 @@
 -- What one event more adds to a tally.
-use Rattle.std.proofs.Common.{◌≡◌, ◌≤◌, ℕ, ◌+◌, List, [], ◌∷◌, ◌++◌, length, map, Bool, true, false, cond, ℤ, refl, sym, ap, ◌∙◌, subst, arith, length-append}
-use Rattle.std.proofs.Common.{append-nil, ⊎_elim, ◌<◌}
+use Rattle.std.proofs.Common.{◌≡◌, ◌≤◌, ℕ, ◌+◌, List, [], ◌∷◌, ◌++◌, length, map, take, Bool, true, false, cond, ℤ, refl, sym, ap, ◌∙◌, subst, arith}
+use Rattle.std.proofs.Common.{length-append, append-nil, ⊎_elim, ◌<◌}
 use Rattle.std.specs.Prelude.{All}
 use Rattle.std.proofs.lemmas.Bool.{cases_lt}
-use Rattle.std.proofs.lemmas.List.{map-append}
+use Rattle.std.proofs.lemmas.List.{map-append, take_all, take-append-le}
 use Rattle.std.proofs.lemmas.List.Elements.{All-head, All-tail}
 use Rattle.mit_syntax.specs.Declarations.{variables}
-use Rattle.label_lattice.specs.Lattice.{Lattice}
 use Rattle.timing_types.specs.Labelled.{LabelledProgram, order_of, labels_of}
 use Rattle.label_code.specs.Machine.{Event, Wrote, Began, Ended}
 use Rattle.label_code.specs.Visible.{visible}
@@ -35,21 +34,25 @@ module _ (p : LabelledProgram) (o : ℕ) (marked : List Bool) (room : ℕ) (es :
   -- an assignment that the observer sees
   pub seen_more : (turn : Turn) (x : ℕ) (n : ℤ) (c : ℕ) → turn ≡ AnEvent x n c → (order_of p).flows (labels_of p x) o ≡ true
       → (s : Sighting) (new : Tally) → event_of s ≡ Wrote x n c →
-      new.shown ≡ old.shown + 1 → (new.shown ≤ room → new.events.items ≡ old.events.items ++ s ∷ []) → new.begun ≡ old.begun
-      → new.ended ≡ old.ended → Follows turn new
-  seen_more turn x n c told flows s new is shown kept begun ended =
+      new.shown ≡ old.shown + 1 → (new.shown ≤ room → new.events.items ≡ old.events.items ++ s ∷ [])
+      → (room < new.shown → new.events.items ≡ old.events.items) → new.begun ≡ old.begun → new.ended ≡ old.ended → Follows turn new
+  seen_more turn x n c told flows s new is shown kept dropped begun ended =
       let all : sees (es ++ Wrote x n c ∷ []) ≡ sees es ++ Wrote x n c ∷ [] =
       visible-append (order_of p) (labels_of p) o es (Wrote x n c ∷ []) ∙ ap (λ b. sees es ++ cond b (Wrote x n c ∷ []) []) flows in
       let count = t.shown in
       let b = t.begun in
       let f = t.ended in
+      let past : room < new.shown → sequence_of new.events ≡ take room (sees es ++ Wrote x n c ∷ []) = λ l.
+      ap (map event_of) (dropped l) ∙ (t.kept ∙ sym (take-append-le room (sees es) (Wrote x n c ∷ []) (omega (arith, l, shown, count)))) in
+      let fits : new.shown ≤ room → sequence_of new.events ≡ take room (sees es ++ Wrote x n c ∷ []) = λ l.
+      let before : sequence_of old.events ≡ sees es = t.kept ∙ take_all room (sees es) (omega (arith, l, shown, count)) in
+      ap (map event_of) (kept l) ∙ (map-append event_of old.events.items (s ∷ [])
+      ∙ (ap (λ z. z ++ event_of s ∷ []) before ∙ (ap (λ z. sees es ++ z ∷ []) is
+      ∙ sym (take_all room (sees es ++ Wrote x n c ∷ []) (omega (arith, l, shown, count, length-append (sees es) (Wrote x n c ∷ []))))))) in
       subst (λ z. Follows z new) (sym told)
       (record {
         shown = omega (arith, shown, count, ap length all, length-append (sees es) (Wrote x n c ∷ []));
-        kept = λ fits.
-            let before : sequence_of old.events ≡ sees es = t.kept (omega (arith, shown)) in
-            ap (map event_of) (kept fits) ∙ (map-append event_of old.events.items (s ∷ [])
-            ∙ (ap (λ z. z ++ event_of s ∷ []) before ∙ (ap (λ z. sees es ++ z ∷ []) is ∙ sym all)));
+        kept = ⊎_elim (λ (l : room < new.shown). past l) (λ (l : new.shown ≤ room). fits l) (cases_lt room new.shown) ∙ ap (take room) (sym all);
         begun = omega (arith, begun, b, begun-append (is_marked marked) es (Wrote x n c ∷ []));
         ended = omega (arith, ended, f, ended-append (is_marked marked) es (Wrote x n c ∷ []));
       })
@@ -64,7 +67,7 @@ module _ (p : LabelledProgram) (o : ℕ) (marked : List Bool) (room : ℕ) (es :
       subst (λ z. Follows z (record old { begun = n })) (sym told)
       (record {
         shown = t.shown ∙ ap length (sym all);
-        kept = λ fits. t.kept fits ∙ sym all;
+        kept = t.kept ∙ ap (take room) (sym all);
         begun = omega (arith, is, b, begun-append (is_marked marked) es (Began k c ∷ []));
         ended = omega (arith, f, ended-append (is_marked marked) es (Began k c ∷ []));
       })
@@ -78,7 +81,7 @@ module _ (p : LabelledProgram) (o : ℕ) (marked : List Bool) (room : ℕ) (es :
       subst (λ z. Follows z (record old { ended = n })) (sym told)
       (record {
         shown = t.shown ∙ ap length (sym all);
-        kept = λ fits. t.kept fits ∙ sym all;
+        kept = t.kept ∙ ap (take room) (sym all);
         begun = omega (arith, b, begun-append (is_marked marked) es (Ended k c ∷ []));
         ended = omega (arith, is, f, ended-append (is_marked marked) es (Ended k c ∷ []));
       })
@@ -120,7 +123,7 @@ module _ (p : LabelledProgram) (o : ℕ) (list : List Bool) (tells : TellsSeen p
       let f = r.ended in
       record {
         shown = r.shown ∙ ap length (sym all);
-        kept = λ fits. r.kept fits ∙ sym all;
+        kept = r.kept ∙ ap (take room) (sym all);
         begun = omega (arith, b, begun-append (is_marked marked) es hs, none_begun (is_marked marked) list hs h);
         ended = omega (arith, f, ended-append (is_marked marked) es hs, none_ended (is_marked marked) list hs h);
       }

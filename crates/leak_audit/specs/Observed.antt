@@ -1,5 +1,5 @@
 -- What is known of a run to an observer.
-use Rattle.std.specs.Prelude.{◌≡◌, ◌<◌, ◌≤◌, ◌+◌, ℕ, List, map, length, Bool, true, false, slice_index_or}
+use Rattle.std.specs.Prelude.{◌≡◌, ◌<◌, ◌≤◌, ◌+◌, ℕ, List, map, length, take, Bool, true, false, slice_index_or}
 use Rattle.std.proofs.Common.{Vec, Global}
 use Rattle.mit_syntax.specs.Declarations.{variables}
 use Rattle.timing_types.specs.Labelled.{LabelledProgram, order_of, labels_of}
@@ -41,11 +41,11 @@ SeesTurn p o (DidLimit t) = Unit {0}
 abbrev pub is_marked : List Bool → ℕ → Bool
 is_marked marked k = slice_index_or marked k false
 
--- A tally of these events of a log: how many the observer sees, which, if there is room for all of them, and
--- how many relevant mitigations began and ended.
+-- A tally of these events of a log: how many the observer sees, the first of them, as many as there is room for,
+-- and how many relevant mitigations began and ended.
 pub record Tallies (p : LabelledProgram) (o : ℕ) (marked : List Bool) (room : ℕ) (events : List Event) (t : Tally) : Type 0 where
   pub shown : t.shown ≡ length (visible (order_of p) (labels_of p) o events)
-  pub kept : t.shown ≤ room → sequence_of t.events ≡ visible (order_of p) (labels_of p) o events
+  pub kept : sequence_of t.events ≡ take room (visible (order_of p) (labels_of p) o events)
   pub begun : t.begun ≡ begun_count (is_marked marked) events
   pub ended : t.ended ≡ ended_count (is_marked marked) events
 

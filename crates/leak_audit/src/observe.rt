@@ -80,6 +80,7 @@ impl Tally {
         requires { self.old.shown < 2 ^ 62 }
         ensures shown { OnOk result (self.new.shown ≡ self.old.shown + 1) }
         ensures kept { OnOk result (self.new.shown ≤ room → self.new.events.items ≡ self.old.events.items ++ sighting ∷ []) }
+        ensures dropped { OnOk result (room < self.new.shown → self.new.events.items ≡ self.old.events.items) }
         ensures begun { OnOk result (self.new.begun ≡ self.old.begun) }
         ensures ended { OnOk result (self.new.ended ≡ self.old.ended) }
     {

@@ -16,6 +16,7 @@ use Rattle.leak_bound.specs.Digits.{digits}
 use Rattle.leak_bound.specs.Relevant.{is_relevant, Begins}
 use Rattle.leak_bound.specs.Sound.{seen_from, most_ended}
 use Rattle.leak_bound.specs.Records.{distinct_count}
+use Rattle.leak_bound.proofs.Still.{still}
 use Rattle.leak_bound.proofs.Same.{same_events}
 
 -- label 0 flows to label 1; variable x has label x
@@ -26,7 +27,7 @@ abbrev own : ℕ → ℕ
 own x = x
 
 abbrev flat : Env ℕ
-flat = record { cost_of = λ k a er ew e. 0; next_of = λ k a er ew e. e; part = λ q l e. [] }
+flat = still (λ q l e. [])
 
 abbrev mark : ℕ → ℕ → Marks
 mark a b = record { er = a; ew = b }

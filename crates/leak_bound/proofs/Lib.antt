@@ -18,6 +18,7 @@ pub mod Digits
 pub mod Final
 pub mod Powers
 pub mod Same
+pub mod Still
 pub mod Examples
 pub mod Compiled
 pub mod Source

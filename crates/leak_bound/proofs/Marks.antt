@@ -36,6 +36,34 @@ pub nought : (b : Bool) → cond {A = ℕ} b 0 0 ≡ 0
 nought true = refl
 nought false = refl
 
+-- what does not end a mitigate leaves the count, and the end of one adds to it
+module _ {E : Type 0} (v : Env E) (lim : ℕ) (rel : ℕ → Bool) where
+  abbrev counted : Core E → ℕ
+  counted s = ended_count rel (upto lim s.log)
+
+  pub tested_count : (m : Marks) (e : Expression) (a : ℕ) (s : Core E) → counted (tested v m e a s) ≡ counted s
+  tested_count m e a s = ap (λ z. ended_count rel (upto lim z)) (timed_log v m e a s)
+
+  pub reached_count : (m : Marks) (i e : Expression) (a : ℕ) (s : Core E) → counted (reached v m i e a s) ≡ counted s
+  reached_count m i e a s = ap (λ z. ended_count rel (upto lim z)) (reached_log v m i e a s)
+
+  pub written_count : (x : ℕ) (n : ℤ) (s : Core E) → counted (written x n s) ≡ counted s
+  written_count x n s = omega (arith, one_more rel lim s.log (Wrote x n s.clock), nought (leb s.clock lim))
+
+  pub begun_count : (k : ℕ) (s : Core E) → counted (begun k s) ≡ counted s
+  begun_count k s = omega (arith, one_more rel lim s.log (Began k s.clock), nought (leb s.clock lim))
+
+  pub closed_count : (w : Opened) (s : Core E) → counted (closed w s) ≡ counted s + cond (leb (closed w s).clock lim) (cond (rel w.mark) 1 0 + 0) 0
+  closed_count w s = one_more rel lim s.log (Ended w.mark (closed w s).clock)
+
+-- a join that is not low
+module _ (lat : Lattice) (ll : IsLattice lat) (o : ℕ) where
+  pub high_join : (pc l : ℕ) → (Flows lat pc o → ⊥) → Flows lat (lat.join pc l) o → ⊥
+  high_join pc l h low = h (ll.chain pc (lat.join pc l) o (ll.left pc l) low)
+
+  pub high_join_right : (pc l : ℕ) → (Flows lat l o → ⊥) → Flows lat (lat.join pc l) o → ⊥
+  high_join_right pc l h low = h (ll.chain l (lat.join pc l) o (ll.right pc l) low)
+
 module _ {E : Type 0} {serves : E → Type 0} (v : Env E) (lat : Lattice) (ll : IsLattice lat) (laws : IsLawful v lat serves) (g : ℕ → ℕ)
     (o lim : ℕ) (rel : ℕ → Bool) where
   abbrev TellsJob : ℕ → Job → Type 0
@@ -45,59 +73,38 @@ module _ {E : Type 0} {serves : E → Type 0} (v : Env E) (lat : Lattice) (ll : 
   abbrev count : Core E → ℕ
   count s = ended_count rel (upto lim s.log)
 
-  tested_count : (m : Marks) (e : Expression) (a : ℕ) (s : Core E) → count (tested v m e a s) ≡ count s
-  tested_count m e a s = ap (λ z. ended_count rel (upto lim z)) (timed_log v m e a s)
-
-  reached_count : (m : Marks) (i e : Expression) (a : ℕ) (s : Core E) → count (reached v m i e a s) ≡ count s
-  reached_count m i e a s = ap (λ z. ended_count rel (upto lim z)) (reached_log v m i e a s)
-
-  written_count : (x : ℕ) (n : ℤ) (s : Core E) → count (written x n s) ≡ count s
-  written_count x n s = omega (arith, one_more rel lim s.log (Wrote x n s.clock), nought (leb s.clock lim))
-
-  begun_count : (k : ℕ) (s : Core E) → count (begun k s) ≡ count s
-  begun_count k s = omega (arith, one_more rel lim s.log (Began k s.clock), nought (leb s.clock lim))
-
-  closed_count : (w : Opened) (s : Core E) → count (closed w s) ≡ count s + cond (leb (closed w s).clock lim) (cond (rel w.mark) 1 0 + 0) 0
-  closed_count w s = one_more rel lim s.log (Ended w.mark (closed w s).clock)
-
-  high_join : (pc l : ℕ) → (Flows lat pc o → ⊥) → Flows lat (lat.join pc l) o → ⊥
-  high_join pc l h low = h (ll.chain pc (lat.join pc l) o (ll.left pc l) low)
-
-  high_join_right : (pc l : ℕ) → (Flows lat l o → ⊥) → Flows lat (lat.join pc l) o → ⊥
-  high_join_right pc l h low = h (ll.chain l (lat.join pc l) o (ll.right pc l) low)
-
   -- nothing relevant begins where pc is not low
   high_count : {j : Job} {s s' : Core E} (pc : ℕ) → TellsJob pc j → (Flows lat pc o → ⊥) → Runs v lat g lim j s s' → count s' ≡ count s
   high_count pc t h done = refl
   high_count pc t h (late x) = refl
   high_count pc t h (skip k) = high_count pc t h k
   high_count {s = s} pc t h (assign {m = m} {x = x} {e = e} {a = a} k) =
-      high_count pc t h k ∙ written_count x (value_of e s.memory) (touched v m x (tested v m e a s)) ∙ tested_count m e a s
+      high_count pc t h k ∙ written_count v lim rel x (value_of e s.memory) (touched v m x (tested v m e a s)) ∙ tested_count v lim rel m e a s
   high_count {s = s} pc t h (put {m = m} {f = f} {n = n} {i = i} {e = e} {a = a} k) =
       let x = element f n (value_of i s.memory) in
-      high_count pc t h k ∙ written_count x (value_of e s.memory) (touched v m x (reached v m i e a s)) ∙ reached_count m i e a s
-  high_count {s = s} pc t h (sleep {m = m} {e = e} {a = a} k) = high_count pc t h k ∙ tested_count m e a s
+      high_count pc t h k ∙ written_count v lim rel x (value_of e s.memory) (touched v m x (reached v m i e a s)) ∙ reached_count v lim rel m i e a s
+  high_count {s = s} pc t h (sleep {m = m} {e = e} {a = a} k) = high_count pc t h k ∙ tested_count v lim rel m e a s
   high_count {s = s} pc t h (if_true {m = m} {e = e} {a = a} w b k) =
-      high_count pc t.2 h k ∙ high_count (lat.join pc (label_of lat g e)) t.0 (high_join pc _ h) b ∙ tested_count m e a s
+      high_count pc t.2 h k ∙ high_count (lat.join pc (label_of lat g e)) t.0 (high_join lat ll o pc _ h) b ∙ tested_count v lim rel m e a s
   high_count {s = s} pc t h (if_false {m = m} {e = e} {a = a} w b k) =
-      high_count pc t.2 h k ∙ high_count (lat.join pc (label_of lat g e)) t.1 (high_join pc _ h) b ∙ tested_count m e a s
-  high_count {s = s} pc t h (while_none {m = m} {e = e} {a = a} w k) = high_count pc t.1 h k ∙ tested_count m e a s
+      high_count pc t.2 h k ∙ high_count (lat.join pc (label_of lat g e)) t.1 (high_join lat ll o pc _ h) b ∙ tested_count v lim rel m e a s
+  high_count {s = s} pc t h (while_none {m = m} {e = e} {a = a} w k) = high_count pc t.1 h k ∙ tested_count v lim rel m e a s
   high_count {s = s} pc t h (while_some {m = m} {e = e} {a = a} w b k) =
-      high_count pc t.1 h k ∙ high_count (lat.join pc (label_of lat g e)) t.0 (high_join pc _ h) b ∙ tested_count m e a s
+      high_count pc t.1 h k ∙ high_count (lat.join pc (label_of lat g e)) t.0 (high_join lat ll o pc _ h) b ∙ tested_count v lim rel m e a s
   high_count {s = s} pc t h (mitigate {m = m} {k = mark} {l = l} {e = e} {c = c} {a = a} {s1 = s1} b k) =
       let x = high_count pc t.2 h k in
       let y = high_count pc t.1 h b in
-      let z = tested_count m e a s in
+      let z = tested_count v lim rel m e a s in
       let no_one = cond-false {A = ℕ} (rel mark) 1 0 (t.0 ∙ ap (λ f. f && not (lat.flows l o)) (false_from_ne_true (lat.flows pc o) h)) in
       let s0 = tested v m e a s in
       let w = opening (value_of e s.memory) l mark s0 in
       let s2 = fetched v m (a + expr_size e + 1 + size c) s1 in
       let b_ = leb (closed w s2).clock lim in
-      let q = closed_count w s2 ∙ ap (λ i. count s2 + cond b_ (i + 0) 0) no_one in
-      x ∙ omega (arith, q, nought b_) ∙ y ∙ begun_count mark s0 ∙ z
-  high_count pc t h (last {m = m} {e = e} {c = c} {a = a} {s1 = s1} b w) = tested_count (raised lat g e m) e (a + size c) s1 ∙ high_count pc t h b
+      let q = closed_count v lim rel w s2 ∙ ap (λ i. count s2 + cond b_ (i + 0) 0) no_one in
+      x ∙ omega (arith, q, nought b_) ∙ y ∙ begun_count v lim rel mark s0 ∙ z
+  high_count pc t h (last {m = m} {e = e} {c = c} {a = a} {s1 = s1} b w) = tested_count v lim rel (raised lat g e m) e (a + size c) s1 ∙ high_count pc t h b
   high_count pc t h (again {m = m} {e = e} {c = c} {a = a} {s1 = s1} b w k) =
-      high_count pc t h k ∙ tested_count (raised lat g e m) e (a + size c) s1 ∙ high_count pc t h b
+      high_count pc t h k ∙ tested_count v lim rel (raised lat g e m) e (a + size c) s1 ∙ high_count pc t h b
 
   -- what a guard decides
   guard_count : (l n n' : ℕ) (r : List Entry) → (Flows lat l o → n' ≡ n + length r) → ((Flows lat l o → ⊥) → n' ≡ n)
@@ -114,46 +121,46 @@ module _ {E : Type 0} {serves : E → Type 0} (v : Env E) (lat : Lattice) (ll : 
   low_count pc t h (late x) = omega arith
   low_count pc t h (skip k) = low_count pc t h k
   low_count {s = s} pc t h (assign {m = m} {x = x} {e = e} {a = a} k) =
-      let q = written_count x (value_of e s.memory) (touched v m x (tested v m e a s)) ∙ tested_count m e a s in
+      let q = written_count v lim rel x (value_of e s.memory) (touched v m x (tested v m e a s)) ∙ tested_count v lim rel m e a s in
       let r = low_count pc t h k in
       r ∙ ap (λ i. i + length (record_of v lat g o lim k)) q
   low_count {s = s} pc t h (put {m = m} {f = f} {n = n} {i = i} {e = e} {a = a} k) =
       let x = element f n (value_of i s.memory) in
-      let q = written_count x (value_of e s.memory) (touched v m x (reached v m i e a s)) ∙ reached_count m i e a s in
+      let q = written_count v lim rel x (value_of e s.memory) (touched v m x (reached v m i e a s)) ∙ reached_count v lim rel m i e a s in
       let r = low_count pc t h k in
       r ∙ ap (λ z. z + length (record_of v lat g o lim k)) q
-  low_count {s = s} pc t h (sleep {m = m} {e = e} {a = a} k) = let q = tested_count m e a s in omega (arith, low_count pc t h k)
+  low_count {s = s} pc t h (sleep {m = m} {e = e} {a = a} k) = let q = tested_count v lim rel m e a s in omega (arith, low_count pc t h k)
   low_count {s = s} pc t h (if_true {m = m} {e = e} {a = a} {s1 = s1} w b k) =
       let l = label_of lat g e in
-      let q = tested_count m e a s in
+      let q = tested_count v lim rel m e a s in
       let r = record_of v lat g o lim b in
       let p = guard_count l (count (tested v m e a s)) (count s1) r (λ y. low_count (lat.join pc l) t.0 (ll.least pc l o h y) b)
-      (λ y. high_count (lat.join pc l) t.0 (high_join_right pc l y) b) in
+      (λ y. high_count (lat.join pc l) t.0 (high_join_right lat ll o pc l y) b) in
       omega (arith, p, low_count pc t.2 h k, length-append (cond (lat.flows l o) r []) (record_of v lat g o lim k))
   low_count {s = s} pc t h (if_false {m = m} {e = e} {a = a} {s1 = s1} w b k) =
       let l = label_of lat g e in
-      let q = tested_count m e a s in
+      let q = tested_count v lim rel m e a s in
       let r = record_of v lat g o lim b in
       let p = guard_count l (count (tested v m e a s)) (count s1) r (λ y. low_count (lat.join pc l) t.1 (ll.least pc l o h y) b)
-      (λ y. high_count (lat.join pc l) t.1 (high_join_right pc l y) b) in
+      (λ y. high_count (lat.join pc l) t.1 (high_join_right lat ll o pc l y) b) in
       omega (arith, p, low_count pc t.2 h k, length-append (cond (lat.flows l o) r []) (record_of v lat g o lim k))
   low_count {s = s} pc t h (while_none {m = m} {e = e} {a = a} w k) =
       let l = label_of lat g e in
-      let q = tested_count m e a s in
+      let q = tested_count v lim rel m e a s in
       let p = guard_count l (count s) (count s) [] (λ y. omega arith) (λ y. refl) in
       omega (arith, p, low_count pc t.1 h k, length-append (cond (lat.flows l o) [] []) (record_of v lat g o lim k))
   low_count {s = s} pc t h (while_some {m = m} {e = e} {a = a} {s1 = s1} w b k) =
       let l = label_of lat g e in
-      let q = tested_count m e a s in
+      let q = tested_count v lim rel m e a s in
       let r = record_of v lat g o lim b in
       let p = guard_count l (count (tested v m e a s)) (count s1) r (λ y. low_count (lat.join pc l) t.0 (ll.least pc l o h y) b)
-      (λ y. high_count (lat.join pc l) t.0 (high_join_right pc l y) b) in
+      (λ y. high_count (lat.join pc l) t.0 (high_join_right lat ll o pc l y) b) in
       omega (arith, p, low_count pc t.1 h k, length-append (cond (lat.flows l o) r []) (record_of v lat g o lim k))
   low_count {s = s} pc t h (mitigate {m = m} {k = mark} {l = l} {e = e} {c = c} {a = a} {s1 = s1} b k) =
       let s0 = tested v m e a s in
       let x = low_count pc t.2 h k in
       let y = low_count pc t.1 h b in
-      let z = tested_count m e a s in
+      let z = tested_count v lim rel m e a s in
       let s2 = fetched v m (a + expr_size e + 1 + size c) s1 in
       let w = opening (value_of e s.memory) l mark s0 in
       let part : Entry = (l, misses_after (value_of e s.memory) (s2.clock - s0.clock) (s2.misses l)) in
@@ -161,8 +168,8 @@ module _ {E : Type 0} {serves : E → Type 0} (v : Env E) (lat : Lattice) (ll : 
       let b_ = leb (closed w s2).clock lim in
       let one = ap (λ f. cond {A = ℕ} b_ (cond {A = ℕ} f 1 0 + 0) 0) here ∙ entry (lat.flows l o) b_ part in
       let rb = record_of v lat g o lim b in
-      let q = closed_count w s2 in
-      let u = begun_count mark s0 in
+      let q = closed_count v lim rel w s2 in
+      let u = begun_count v lim rel mark s0 in
       x ∙ ap (λ i. i + length (record_of v lat g o lim k)) (q ∙ ap (λ i. i + cond b_ (cond (rel mark) 1 0 + 0) 0) (y ∙ ap (λ i. i + length rb) (u ∙ z)))
       ∙ omega (arith, one, length-append rb (entry_of v lat g o lim w s2), length-append (rb ++ entry_of v lat g o lim w s2) (record_of v lat g o lim k))
     where
@@ -171,7 +178,7 @@ module _ {E : Type 0} {serves : E → Type 0} (v : Env E) (lat : Lattice) (ll : 
       entry true false x = refl
       entry false true x = refl
       entry false false x = refl
-  low_count pc t h (last {m = m} {e = e} {c = c} {a = a} {s1 = s1} b w) = tested_count (raised lat g e m) e (a + size c) s1 ∙ low_count pc t h b
+  low_count pc t h (last {m = m} {e = e} {c = c} {a = a} {s1 = s1} b w) = tested_count v lim rel (raised lat g e m) e (a + size c) s1 ∙ low_count pc t h b
   low_count pc t h (again {m = m} {e = e} {c = c} {a = a} {s1 = s1} b w k) =
-      let q = tested_count (raised lat g e m) e (a + size c) s1 in
+      let q = tested_count v lim rel (raised lat g e m) e (a + size c) s1 in
       omega (arith, low_count pc t h b, low_count pc t h k, length-append (record_of v lat g o lim b) (record_of v lat g o lim k))

@@ -1,9 +1,8 @@
 -- The words of a made program stay apart.
-use Rattle.std.proofs.Common.{◌≡◌, ◌<◌, ◌≤◌, ◌+◌, ◌*◌, ◌%◌, ◌^◌, refl, ap, ℕ, zero, suc, List, [], ◌∷◌, length, true, ◌==◌, arith}
+use Rattle.std.proofs.Common.{◌≡◌, ◌<◌, ◌≤◌, ◌+◌, ◌*◌, ◌%◌, ◌^◌, refl, ℕ, zero, suc, List, [], ◌∷◌, true, false, ◌==◌, arith}
 use Rattle.std.specs.Char.{is_ascii_digit}
-use Rattle.mit_syntax.specs.declared.token.Keyword.{Keyword}
-use Rattle.mit_syntax.specs.declared.token.Keyword.TheVariants.{Labels, Order, Var, Skip, If, Then, Else, While, Do, Mitigate, Sleep}
-use Rattle.mit_syntax.specs.Lexemes.{StopsAt, is_name_byte, IsName, key_text}
+use Rattle.label_lattice.specs.Names.{is_name_byte, keywords, is_one_of, IsName}
+use Rattle.mit_syntax.specs.Lexemes.{StopsAt}
 use Rattle.mit_syntax.specs.Chunks.{Chunk, line, text}
 use Rattle.mit_gen.specs.declared.unit.Kind.{Kind}
 use Rattle.mit_gen.specs.declared.unit.Kind.TheVariants.{Sum, Masked, Countdown, Choice}
@@ -12,20 +11,6 @@ use Rattle.made_laws.specs.MadeWords.{part_by_kind, unit_part, separator_part, u
 use Rattle.parse_laws.proofs.Numerals.{number_kind, decimal_differs}
 use Rattle.made_laws.proofs.Apart.{Apart}
 
--- a letter that begins no keyword of two bytes, and a digit
-no_key : (x a : ℕ) → (x ≡ 105 → ⊥) → (x ≡ 100 → ⊥) → (k : Keyword) → x ∷ (48 + a) ∷ [] ≡ key_text k → ⊥
-no_key x a n m Labels e = let h = ap length e in absurd (omega (arith, h))
-no_key x a n m Order e = let h = ap length e in absurd (omega (arith, h))
-no_key x a n m Var e = let h = ap length e in absurd (omega (arith, h))
-no_key x a n m Skip e = let h = ap length e in absurd (omega (arith, h))
-no_key x a n m If e = n (cc)
-no_key x a n m Then e = let h = ap length e in absurd (omega (arith, h))
-no_key x a n m Else e = let h = ap length e in absurd (omega (arith, h))
-no_key x a n m While e = let h = ap length e in absurd (omega (arith, h))
-no_key x a n m Do e = m (cc)
-no_key x a n m Mitigate e = let h = ap length e in absurd (omega (arith, h))
-no_key x a n m Sleep e = let h = ap length e in absurd (omega (arith, h))
-
 name_byte : (a : ℕ) → a < 4 → is_name_byte (48 + a) ≡ true
 name_byte zero h = refl
 name_byte (suc zero) h = refl
@@ -33,30 +18,28 @@ name_byte (suc (suc zero)) h = refl
 name_byte (suc (suc (suc zero))) h = refl
 name_byte (suc (suc (suc (suc a)))) h = absurd (omega (arith, h))
 
+low_no_keyword : (a : ℕ) → a < 4 → is_one_of keywords (108 ∷ (48 + a) ∷ []) ≡ false
+unfolding keywords
+low_no_keyword zero h = refl
+low_no_keyword (suc zero) h = refl
+low_no_keyword (suc (suc zero)) h = refl
+low_no_keyword (suc (suc (suc zero))) h = refl
+low_no_keyword (suc (suc (suc (suc a)))) h = absurd (omega (arith, h))
+
 low_name : (a : ℕ) → a < 4 → IsName (108 ∷ (48 + a) ∷ [])
-low_name a h = ((refl, (name_byte a h, tt)), no_key 108 a (λ e. absurd (omega (arith, e))) (λ e. absurd (omega (arith, e))), omega arith)
+low_name a h = ((refl, (name_byte a h, tt)), omega arith, low_no_keyword a h)
 
 high_name : (a : ℕ) → a < 4 → IsName (104 ∷ (48 + a) ∷ [])
-high_name a h = ((refl, (name_byte a h, tt)), no_key 104 a (λ e. absurd (omega (arith, e))) (λ e. absurd (omega (arith, e))), omega arith)
-
-one_letter : (x : ℕ) (k : Keyword) → x ∷ [] ≡ key_text k → ⊥
-one_letter x Labels e = let h = ap length e in absurd (omega (arith, h))
-one_letter x Order e = let h = ap length e in absurd (omega (arith, h))
-one_letter x Var e = let h = ap length e in absurd (omega (arith, h))
-one_letter x Skip e = let h = ap length e in absurd (omega (arith, h))
-one_letter x If e = let h = ap length e in absurd (omega (arith, h))
-one_letter x Then e = let h = ap length e in absurd (omega (arith, h))
-one_letter x Else e = let h = ap length e in absurd (omega (arith, h))
-one_letter x While e = let h = ap length e in absurd (omega (arith, h))
-one_letter x Do e = let h = ap length e in absurd (omega (arith, h))
-one_letter x Mitigate e = let h = ap length e in absurd (omega (arith, h))
-one_letter x Sleep e = let h = ap length e in absurd (omega (arith, h))
+unfolding keywords
+high_name a h = ((refl, (name_byte a h, tt)), omega arith, refl)
 
 label_low : IsName (76 ∷ [])
-label_low = ((refl, tt), one_letter 76, omega arith)
+unfolding keywords
+label_low = ((refl, tt), omega arith, refl)
 
 label_high : IsName (72 ∷ [])
-label_high = ((refl, tt), one_letter 72, omega arith)
+unfolding keywords
+label_high = ((refl, tt), omega arith, refl)
 
 -- what may follow a unit
 pub record Ends (q : List Chunk) : Type 0 where
@@ -175,7 +158,11 @@ unit_apart Countdown a b c ha hb hc q e = (
                             (
                               refl,
                               (refl, refl),
-                              (high_name a ha, refl, (refl, (refl, refl), (number_kind 1 (omega arith), refl, (refl, (refl, refl), (refl, (e.equal, e.slash), e.apart))))),
+                              (
+                                high_name a ha,
+                                refl,
+                                (refl, (refl, refl), (number_kind 1 (omega arith), refl, (refl, (refl, refl), (refl, (e.equal, e.slash), e.apart)))),
+                              ),
                             ),
                           ),
                         ),
@@ -236,7 +223,11 @@ unit_apart Choice a b c ha hb hc q e = (
                             (
                               low_name a ha,
                               refl,
-                              (refl, (refl, refl), (low_name a ha, refl, (refl, (refl, refl), (number_kind 1 (omega arith), refl, (refl, (e.equal, e.slash), e.apart))))),
+                              (
+                                refl,
+                                (refl, refl),
+                                (low_name a ha, refl, (refl, (refl, refl), (number_kind 1 (omega arith), refl, (refl, (e.equal, e.slash), e.apart)))),
+                              ),
                             ),
                           ),
                         ),

@@ -6,10 +6,10 @@ use Rattle.tool_texts.specs.declared.status.Status.TheVariants as status
 use Rattle.tool_texts.specs.Ends.{EndsBy, Nothing}
 use Rattle.tool_texts.specs.Statuses.{exit_number}
 use Rattle.tool_stages.specs.Accepted.{is_past_typing, IsAccepted}
-use Rattle.tool_stages.specs.Content.{Content}
+use Rattle.tool_stages.specs.Content.{Content, NoneRises}
 use Rattle.mit_tool.specs.Answers.{IsUsage}
-use Rattle.mit_tool.specs.Commands.{IsAnswer, Before, typed_content, HeldIsSound}
-use Rattle.mit_tool.specs.Complete.{CanBeDone, NoneRises}
+use Rattle.mit_tool.specs.Commands.{files_of, IsAnswer, Before, typed_content, HeldIsSound}
+use Rattle.mit_tool.specs.Complete.{CanBeDone}
 use Rattle.mit_tool.specs.Held.{EndsByOne}
 
 -- The clauses of `mitigate_main`, over all that was taken in the end. `Rises` tells the names whose counts of faults rose, and
@@ -20,7 +20,7 @@ pub record HasEnded (content : Content) (Rises : List ℕ → Type 0) (Risen : T
   pub usage : command_of words ≡ None → EndsBy old new Nothing IsUsage s
   pub sound : IsTrue (is_past_typing s) → IfSome (command_of words) (λ a. IfSome (typed_content content a) IsAccepted)
   pub rechecked : IsTrue (is_past_typing s) → IfSome (command_of words) (HeldIsSound content)
-  pub complete : IfSome (command_of words) (λ a. CanBeDone content a → NoneRises Rises a → (Risen → ⊥) → (s ≡ status.Done) ⊎ (s ≡ status.Memory))
+  pub complete : IfSome (command_of words) (λ a. CanBeDone content a → NoneRises Rises (files_of a) → (Risen → ⊥) → (s ≡ status.Done) ⊎ (s ≡ status.Memory))
   pub write : s ≡ status.WriteFault → Risen
   pub one : IfSome (command_of words) (λ a. EndsByOne content Rises Risen old new a s)
 

@@ -1,50 +1,19 @@
 -- The tokens of a text are what a parser wants.
-use Rattle.std.proofs.Common.{◌≡◌, ◌≤◌, ◌<◌, ◌+◌, ◌^◌, refl, ap, ◌∙◌, sym, subst, ℕ, List, [], ◌∷◌, ◌++◌, length, length-append, Bool, true, false, arith}
-use Rattle.std.specs.Prelude.{◌||◌}
-use Rattle.std.specs.Str.{bytes_eq}
-use Rattle.std.proofs.lemmas.Slice.Eq.{bytes_eq-Decides}
-use Rattle.label_lattice.specs.Names as names
+use Rattle.std.proofs.Common.{◌≡◌, ◌≤◌, ◌<◌, ◌+◌, ◌^◌, refl, ap, ◌∙◌, sym, subst, ℕ, List, [], ◌∷◌, ◌++◌, length, length-append, false, arith}
 use Rattle.mit_syntax.specs.declared.token.Token.{Token}
 use Rattle.mit_syntax.specs.declared.token.TokenKind.{TokenKind}
 use Rattle.mit_syntax.specs.declared.token.TokenKind.TheVariants.{Key, Name, Number, Sign, End}
-use Rattle.mit_syntax.specs.declared.token.Keyword.TheVariants.{Labels, Order, Var, Skip, If, Then, Else, While, Do, Mitigate, Sleep}
 use Rattle.mit_syntax.specs.declared.tokens.Place.{Place}
-use Rattle.mit_syntax.specs.Lexemes.{Each, is_name_byte, IsWord, IsName, IsNoKeyword, HasKind, key_text}
+use Rattle.mit_syntax.specs.Lexemes.{HasKind}
 use Rattle.mit_syntax.specs.Cut.{start, moved, Piece, white, comment, lexeme, spread, CutBefore, tokens_of, end_at, AreTokens, token_bytes}
 use Rattle.mit_syntax.proofs.LexPieces.{kind_some}
 use Rattle.mit_syntax.proofs.TokenFacts.{EachToken, IsTokenOf, told as token_facts}
 use Rattle.mit_parser.specs.Words.{told, symbol_of, IsProperSymbol, AreProper, IsEnded}
 use Rattle.mit_parser.specs.State.{AreInside, AreSound}
-use Rattle.mit_parser.proofs.Found.{not_true}
-
-each_again : (r : List ℕ) → Each is_name_byte r → names.Each names.is_name_byte r
-each_again [] h = tt
-each_again (b ∷ r) h = (h.0, each_again r h.1)
-
-word_again : (w : List ℕ) → IsWord w → names.IsWord w
-word_again [] h = absurd h
-word_again (b ∷ r) h = (h.0, each_again r h.1)
-
-or_of : (a b : Bool) → a ≡ false → b ≡ false → (a || b) ≡ false
-or_of true b h k = h
-or_of false b h k = k
-
-module _ (w : List ℕ) (none : IsNoKeyword w) where
-  differs : (k : _) → bytes_eq w (key_text k) ≡ false
-  differs k = not_true (bytes_eq w (key_text k)) (λ t. none k ((bytes_eq-Decides w (key_text k)).0 t))
-
-  no_keyword : names.is_one_of names.keywords w ≡ false
-  unfolding names.keywords
-  no_keyword =
-      or_of _ _ (differs Labels) (or_of _ _ (differs Order) (or_of _ _ (differs Var) (or_of _ _ (differs Skip) (or_of _ _ (differs If) (or_of _ _ (differs Then)
-      (or_of _ _ (differs Else) (or_of _ _ (differs While) (or_of _ _ (differs Do) (or_of _ _ (differs Mitigate) (or_of _ _ (differs Sleep) refl))))))))))
-
-pub name_again : (w : List ℕ) → IsName w → names.IsName w
-name_again w h = (word_again w h.0, h.2, no_keyword w h.1)
 
 proper_kind : (w : List ℕ) (k : TokenKind) → HasKind w k → IsProperSymbol (symbol_of k w)
 proper_kind w (Key k) h = tt
-proper_kind w Name h = name_again w h
+proper_kind w Name h = h
 proper_kind w (Number n) h = subst (λ z. IsProperSymbol (symbol_of (Number z) w)) (sym h.1) h.2
 proper_kind w (Sign s) h = tt
 proper_kind w End h = tt

@@ -78,6 +78,13 @@ impl Table {
         }
     }
 
+    // Says nothing at run time: what is true of every table.
+    fn laws(&self)
+        ensures { elements_in self.now ≤ MAX_ELEMENTS }
+    {
+        let _ = &self.elements;
+    }
+
     fn len(&self) -> usize
         ensures { result ≡ length self.now }
     {
@@ -133,7 +140,7 @@ impl Table {
         ensures value { result ≡ written_length length }
         ensures few { elements_in self.now + length_in result ≤ MAX_ELEMENTS }
     {
-        let _ = &self.elements;
+        self.laws();
         match length {
             None => None,
             Some((length, _)) => Some(length as u32),

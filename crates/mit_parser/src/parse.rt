@@ -25,6 +25,7 @@ fn assembled(pairs: Vec<(Label, Label)>, names: Names, body: Vec<Command>) -> Pr
         unreachable!()
     };
     lattice.laws();
+    // What `len` says is needed: the declarations are few, and the names in a table differ.
     let _ = names.variables.len();
     let table = names.variables.into_table();
     let _ = table.len();

@@ -2,10 +2,11 @@
 use Rattle.std.proofs.Common.{◌≡◌, refl, ap, ◌∙◌, sym, subst, ℕ, List, [], ◌∷◌, ◌++◌, length, Bool, true, false, ◌&&◌, ◌==◌}
 use Rattle.std.proofs.lemmas.Bool.{eqb-true}
 use Rattle.std.specs.Char.{is_ascii_digit, is_ascii_alphabetic}
+use Rattle.label_lattice.specs.Names.{is_name_byte, IsWord}
 use Rattle.mit_syntax.specs.declared.token.Sign.{Sign}
 use Rattle.mit_syntax.specs.declared.token.TokenKind.{TokenKind}
 use Rattle.mit_syntax.specs.declared.token.TokenKind.TheVariants.{Key, Name, Number, Sign as SignKind, End}
-use Rattle.mit_syntax.specs.Lexemes.{is_name_byte, StopsAt, IsWord, IsDigits, sign_text, HasKind, IsLongest}
+use Rattle.mit_syntax.specs.Lexemes.{StopsAt, IsDigits, sign_text, HasKind, IsLongest}
 use Rattle.mit_syntax.specs.Cut.{starts_comment, lexeme, IsPiece}
 use Rattle.mit_syntax.proofs.LexBytes.{differ}
 use Rattle.mit_syntax.proofs.LexSigns.{sign_first, sign_others, sign_parts, no_letter_first, no_digit_first, taken, taken_closed, sign_no_comment, key_opens}

@@ -3,7 +3,8 @@ use Rattle.std.proofs.Common.{◌≡◌, ◌⊎◌, inl, inr, ◌<◌, ◌≤◌
 use Rattle.std.proofs.Common.{length, drop-cons, add-one, Bool, true, false, ◌&&◌, ◌||◌, ◌==◌, nat_le, arith}
 use Rattle.std.proofs.lemmas.Bool.{leb-true}
 use Rattle.std.specs.Char.{is_ascii_digit, is_ascii_alphabetic}
-use Rattle.mit_syntax.specs.Lexemes.{is_name_byte, Each, StopsAt, value_after, IsWord, IsDigits}
+use Rattle.label_lattice.specs.Names.{is_name_byte, Each, IsWord}
+use Rattle.mit_syntax.specs.Lexemes.{StopsAt, value_after, IsDigits}
 
 pub both_of : (a b : Bool) → (a && b) ≡ true → (a ≡ true) × (b ≡ true)
 both_of true b e = (refl, e)

@@ -3,11 +3,12 @@ use Rattle.std.proofs.Common.{◌≡◌, ◌<◌, ◌≤◌, ◌+◌, ◌-◌, �
 use Rattle.std.proofs.Common.{drop-cons, length-take, Bool, true, false, Option, Some, None, arith}
 use Rattle.std.proofs.lemmas.List.{take-append-drop}
 use Rattle.std.specs.Char.{is_ascii_digit, is_ascii_alphabetic}
+use Rattle.label_lattice.specs.Names.{is_name_byte, Each, IsWord}
 use Rattle.mit_syntax.specs.declared.lexeme.Flaw.TheVariants.{Bad}
 use Rattle.mit_syntax.specs.declared.token.Sign.{Sign}
 use Rattle.mit_syntax.specs.declared.token.TokenKind.{TokenKind}
 use Rattle.mit_syntax.specs.declared.token.TokenKind.TheVariants.{Sign as SignKind}
-use Rattle.mit_syntax.specs.Lexemes.{is_name_byte, Each, StopsAt, value, value_after, sign_text, IsWord, IsDigits, word, digits, sign, IsLongest, HasKind}
+use Rattle.mit_syntax.specs.Lexemes.{StopsAt, value, value_after, sign_text, IsDigits, word, digits, sign, IsLongest, HasKind}
 use Rattle.mit_syntax.specs.TokenSteps.{IsToken, HasFlaw, second_is_equal, sign_front}
 use Rattle.mit_syntax.proofs.LexBytes.{differ, heads, not_longer, word_passes, digits_pass, each_name, not_both, letter_in_name, front_passes, rest_stops}
 use Rattle.mit_syntax.proofs.LexBytes.{grows}

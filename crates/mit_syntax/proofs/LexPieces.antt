@@ -6,6 +6,7 @@ use Rattle.std.proofs.lemmas.Bool.{eqb-true}
 use Rattle.std.specs.Prelude.{IsUtf8}
 use Rattle.std.specs.Char.{is_ascii_digit}
 use Rattle.text_base.specs.declared.pos.Pos.{Pos}
+use Rattle.label_lattice.specs.Names.{is_name_byte, Each, IsWord}
 use Rattle.mit_syntax.specs.declared.fault.TextFault.{TextFault}
 use Rattle.mit_syntax.specs.declared.fault.TextFault.TheVariants.{NotUtf8, BadByte, WideNumber, LongName, Memory}
 use Rattle.mit_syntax.specs.declared.lexeme.Flaw.{Flaw}
@@ -14,7 +15,7 @@ use Rattle.mit_syntax.specs.declared.token.Token.{Token}
 use Rattle.mit_syntax.specs.declared.token.TokenKind.{TokenKind}
 use Rattle.mit_syntax.specs.declared.token.TokenKind.TheVariants.{Key, Name, Number, Sign as SignKind, End}
 use Rattle.mit_syntax.specs.declared.tokens.Place.{Place}
-use Rattle.mit_syntax.specs.Lexemes.{is_white, is_name_byte, Each, StopsAt, IsWord, IsDigits, key_text, HasKind, IsLongest}
+use Rattle.mit_syntax.specs.Lexemes.{is_white, StopsAt, IsDigits, key_text, HasKind, IsLongest}
 use Rattle.mit_syntax.specs.Cut.{start, past, moved, in_line, starts_comment, white, comment, lexeme, bytes_of, IsPiece, spread, and_then, tokens_of, end_at}
 use Rattle.mit_syntax.specs.Cut.{AreTokens, BeginsNone, BeginsWide, BeginsLong, StopsBefore, IsFault}
 use Rattle.mit_syntax.specs.TokenSteps.{IsToken, HasFlaw, State, TookPiece, StandsAtFlaw, NoPiece, CutSoFar}

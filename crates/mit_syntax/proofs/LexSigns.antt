@@ -3,13 +3,14 @@ use Rattle.std.proofs.Common.{◌≡◌, ◌≤◌, refl, ap, ◌∙◌, sym, su
 use Rattle.std.proofs.Common.{arith}
 use Rattle.std.proofs.lemmas.Bool.{eqb-true}
 use Rattle.std.specs.Char.{is_ascii_digit, is_ascii_alphabetic}
+use Rattle.label_lattice.specs.Names.{Each, IsWord}
 use Rattle.mit_syntax.specs.declared.token.Keyword.{Keyword}
 use Rattle.mit_syntax.specs.declared.token.Keyword.TheVariants.{Labels, Order, Var, Skip, If, Then, Else, While, Do, Mitigate, Sleep}
 use Rattle.mit_syntax.specs.declared.token.Sign.{Sign}
 use Rattle.mit_syntax.specs.declared.token.Sign.TheVariants.{Assign, Colon, Semicolon, Comma, LeftRound, RightRound, LeftBrace, RightBrace, LeftSquare}
 use Rattle.mit_syntax.specs.declared.token.Sign.TheVariants.{RightSquare, At, Plus, Minus, Star, Slash, Percent, Equal, NotEqual, LessEqual, Less}
 use Rattle.mit_syntax.specs.declared.token.Sign.TheVariants.{GreaterEqual, Greater}
-use Rattle.mit_syntax.specs.Lexemes.{is_white, Each, StopsAt, IsWord, key_text, sign_text}
+use Rattle.mit_syntax.specs.Lexemes.{is_white, StopsAt, key_text, sign_text}
 use Rattle.mit_syntax.specs.Cut.{in_line, starts_comment}
 use Rattle.mit_syntax.specs.TokenSteps.{second_is_equal, sign_front}
 use Rattle.mit_syntax.proofs.LexBytes.{differ, head_of, tail_of, heads}

@@ -9,6 +9,7 @@ pub mod Rows
 pub mod Facts
 pub mod LexBytes
 pub mod LexSigns
+pub mod Keywords
 pub mod LexLongest
 pub mod LexPieces
 pub mod OneList

@@ -5,16 +5,18 @@ use Rattle.std.proofs.lemmas.Str.{utf8_valid_len-IsValidUpTo}
 use Rattle.std.specs.Prelude.{IsUtf8, Result, Ok, Err, MatchResult}
 use Rattle.std.specs.Str.{IsValidUpTo}
 use Rattle.text_base.specs.declared.pos.Pos.{Pos}
+use Rattle.label_lattice.specs.Names.{IsWord, keywords, is_one_of}
 use Rattle.mit_syntax.specs.declared.fault.TextFault.{TextFault}
 use Rattle.mit_syntax.specs.declared.fault.TextFault.TheVariants.{NotUtf8, BadByte, WideNumber, LongName, Memory}
 use Rattle.mit_syntax.specs.declared.token.Token.{Token}
 use Rattle.mit_syntax.specs.declared.token.TokenKind.{TokenKind}
 use Rattle.mit_syntax.specs.declared.token.TokenKind.TheVariants.{Key, Name, Number, Sign as SignKind, End}
-use Rattle.mit_syntax.specs.Lexemes.{is_white, StopsAt, word, digits, IsWord, IsDigits, IsNoKeyword, value, IsLongest, HasKind}
+use Rattle.mit_syntax.specs.Lexemes.{is_white, StopsAt, word, digits, IsDigits, value, IsLongest, HasKind}
 use Rattle.mit_syntax.specs.Cut.{start, moved, starts_comment, white, comment, lexeme, spread, AreTokens, BeginsNone, BeginsWide, BeginsLong, StopsBefore}
 use Rattle.mit_syntax.specs.Cut.{IsFault}
 use Rattle.mit_syntax.proofs.LexBytes.{differ}
 use Rattle.mit_syntax.proofs.LexSigns.{key_opens}
+use Rattle.mit_syntax.proofs.Keywords.{no_key}
 use Rattle.mit_syntax.proofs.OneList.{as_lexeme, same_front, word_digits, word_sign, digits_sign, comment_goes_on, Stuck, stuck_end, one_cut, one_list}
 
 -- no token is at the front
@@ -37,9 +39,9 @@ wide_no_token text f w r k e h l =
     let same = (same_front w f.spelled r f.rest both (f.longest w r (sym both) (as_lexeme w k h)) (l f.spelled f.rest both (digits f.is.0))).0 in
     wide_no_kind f.spelled k f.is.0 f.is.1 (subst (λ v. HasKind v k) same h)
 
-long_no_kind : (w : List ℕ) (k : TokenKind) → IsWord w → IsNoKeyword w → 32 < length w → HasKind w k → ⊥
-long_no_kind w (Key k) d n h e = n k e
-long_no_kind w Name d n h e = let k = e.2 in omega (arith, h, k)
+long_no_kind : (w : List ℕ) (k : TokenKind) → IsWord w → is_one_of keywords w ≡ false → 32 < length w → HasKind w k → ⊥
+long_no_kind w (Key k) d n h e = no_key w n k e
+long_no_kind w Name d n h e = let k = e.1 in omega (arith, h, k)
 long_no_kind w (Number m) d n h e = word_digits w d e.0
 long_no_kind w (SignKind s) d n h e = word_sign w s d e
 long_no_kind w End d n h e = e

@@ -3,15 +3,17 @@ use Rattle.std.proofs.Common.{◌≡◌, ◌≤◌, refl, ap, ◌∙◌, sym, su
 use Rattle.std.proofs.lemmas.List.{append-nil}
 use Rattle.std.proofs.lemmas.Bool.{eqb-true}
 use Rattle.std.specs.Char.{is_ascii_digit, is_ascii_alphabetic}
+use Rattle.label_lattice.specs.Names.{IsWord}
 use Rattle.mit_syntax.specs.declared.token.Sign.{Sign}
 use Rattle.mit_syntax.specs.declared.token.Token.{Token}
 use Rattle.mit_syntax.specs.declared.token.TokenKind.{TokenKind}
 use Rattle.mit_syntax.specs.declared.token.TokenKind.TheVariants.{Key, Name, Number, Sign as SignKind, End}
-use Rattle.mit_syntax.specs.Lexemes.{is_white, IsWord, IsDigits, Lexeme, word, digits, sign, sign_text, HasKind}
+use Rattle.mit_syntax.specs.Lexemes.{is_white, IsDigits, Lexeme, word, digits, sign, sign_text, HasKind}
 use Rattle.mit_syntax.specs.Cut.{start, moved, in_line, starts_comment, Piece, white, comment, lexeme, bytes_of, IsPiece, spread, CutBefore, tokens_of}
 use Rattle.mit_syntax.specs.Cut.{end_at, AreTokens}
 use Rattle.mit_syntax.proofs.LexBytes.{differ, not_longer, heads, tails, not_both}
 use Rattle.mit_syntax.proofs.LexSigns.{no_sign, no_letter_first, no_digit_first, no_white_first, key_opens, sign_parts, one_key, one_sign}
+use Rattle.mit_syntax.proofs.Keywords.{no_key}
 
 -- fronts of one length are one
 pub same_front : (w v r q : List ℕ) → w ++ r ≡ v ++ q → length w ≤ length v → length v ≤ length w → (w ≡ v) × (r ≡ q)
@@ -46,10 +48,10 @@ digits_sign (b ∷ w) s h e = no_sign is_ascii_digit s b w [] (no_digit_first s)
 
 one_kind : (w : List ℕ) (a b : TokenKind) → HasKind w a → HasKind w b → a ≡ b
 one_kind w (Key a) (Key b) h k = ap Key (one_key a b (sym h ∙ k))
-one_kind w (Key a) Name h k = absurd (k.1 a h)
+one_kind w (Key a) Name h k = absurd (no_key w k.2 a h)
 one_kind w (Key a) (Number n) h k = word_digits w (subst IsWord (sym h) (key_opens a)) k.0
 one_kind w (Key a) (SignKind s) h k = word_sign w s (subst IsWord (sym h) (key_opens a)) k
-one_kind w Name (Key b) h k = absurd (h.1 b k)
+one_kind w Name (Key b) h k = absurd (no_key w h.2 b k)
 one_kind w Name Name h k = refl
 one_kind w Name (Number n) h k = word_digits w h.0 k.0
 one_kind w Name (SignKind s) h k = word_sign w s h.0 k

@@ -4,10 +4,11 @@ use Rattle.std.proofs.lemmas.Bool.{eqb-true, leb-true}
 use Rattle.std.proofs.lemmas.Str.{IsUtf8-from_ascii, IsUtf8-append, IsUtf8-nil}
 use Rattle.std.specs.Prelude.{IsUtf8}
 use Rattle.std.specs.Char.{is_ascii_digit, is_ascii_alphabetic}
+use Rattle.label_lattice.specs.Names.{is_name_byte, Each}
 use Rattle.mit_syntax.specs.declared.token.TokenKind.{TokenKind}
 use Rattle.mit_syntax.specs.declared.token.TokenKind.TheVariants.{Key, Name, Number, Sign as SignKind, End}
 use Rattle.mit_syntax.specs.declared.token.Sign.{Sign}
-use Rattle.mit_syntax.specs.Lexemes.{is_white, is_name_byte, Each, key_text, sign_text, HasKind}
+use Rattle.mit_syntax.specs.Lexemes.{is_white, key_text, sign_text, HasKind}
 use Rattle.mit_syntax.specs.Cut.{start, moved, Piece, white, comment, lexeme, spread, CutBefore, tokens_of, end_at, AreTokens}
 use Rattle.mit_syntax.proofs.LexBytes.{both_of, either_of, digit_range, word_passes, digits_pass}
 use Rattle.mit_syntax.proofs.LexSigns.{each_sign, key_opens}

@@ -45,7 +45,8 @@ countdown =
     (Assign bare 0 (Number (pos 1)) Done)
 
 countdown_text : text (chunks_of two one_pair (scalar "l" 0 ∷ scalar "h" 1 ∷ []) countdown) ≡ lines
-    ("labels L, H;" ∷ "order L < H;" ∷ "var l : L;" ∷ "var h : H;" ∷ "mitigate (64, H) {" ∷ "  while h > 0 do {" ∷ "    h := h - 1" ∷ "  }" ∷ "};" ∷ "l := 1" ∷ [])
+    ("labels L, H;" ∷ "order L < H;" ∷ "var l : L;" ∷ "var h : H;" ∷ "mitigate (64, H) {" ∷ "  while h > 0 do {" ∷ "    h := h - 1" ∷ "  }"
+    ∷ "};" ∷ "l := 1" ∷ [])
 unfolding digits
 countdown_text = refl
 

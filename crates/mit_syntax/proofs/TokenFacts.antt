@@ -3,11 +3,12 @@ use Rattle.std.proofs.Common.{◌≡◌, ◌<◌, ◌≤◌, ◌+◌, ◌-◌, �
 use Rattle.std.proofs.Common.{take, drop, get_or, Bool, true, false, cond, ◌==◌, arith}
 use Rattle.std.proofs.lemmas.Bool.{eqb-true, eqb-false}
 use Rattle.std.proofs.lemmas.List.{append-nil}
+use Rattle.label_lattice.specs.Names.{IsName}
 use Rattle.mit_syntax.specs.declared.token.Token.{Token}
 use Rattle.mit_syntax.specs.declared.token.TokenKind.{TokenKind}
 use Rattle.mit_syntax.specs.declared.token.TokenKind.TheVariants.{Name, Number, End}
 use Rattle.mit_syntax.specs.declared.tokens.Place.{Place}
-use Rattle.mit_syntax.specs.Lexemes.{HasKind, IsName}
+use Rattle.mit_syntax.specs.Lexemes.{HasKind}
 use Rattle.mit_syntax.specs.Cut.{start, past, moved, Piece, white, comment, lexeme, bytes_of, spread, CutBefore, tokens_of, end_at, AreTokens, token_bytes}
 use Rattle.mit_syntax.proofs.LexPieces.{moved-append, front_back, kind_some}
 

@@ -3,13 +3,14 @@ use Rattle.std.specs.Prelude.{◌≡◌, ℕ, ◌+◌, ◌-◌, ◌<◌, Bool, t
 use Rattle.std.specs.Prelude.{None, IsUtf8}
 use Rattle.std.specs.Str.{IsValidUpTo}
 use Rattle.text_base.specs.declared.pos.Pos.{Pos}
+use Rattle.label_lattice.specs.Names.{Each, IsWord, keywords, is_one_of}
 use Rattle.mit_syntax.specs.declared.fault.TextFault.{TextFault}
 use Rattle.mit_syntax.specs.declared.fault.TextFault.TheVariants.{NotUtf8, BadByte, WideNumber, LongName, Memory}
 use Rattle.mit_syntax.specs.declared.token.Token.{Token}
 use Rattle.mit_syntax.specs.declared.token.TokenKind.{TokenKind}
 use Rattle.mit_syntax.specs.declared.token.TokenKind.TheVariants.{End}
 use Rattle.mit_syntax.specs.declared.tokens.Place.{Place}
-use Rattle.mit_syntax.specs.Lexemes.{is_white, Each, StopsAt, Lexeme, IsWord, IsDigits, IsNoKeyword, value, max_number, max_name, HasKind, IsLongest}
+use Rattle.mit_syntax.specs.Lexemes.{is_white, StopsAt, Lexeme, IsDigits, value, max_number, HasKind, IsLongest}
 
 -- the beginning of a text
 abbrev pub start : Place
@@ -108,7 +109,7 @@ BeginsWide = Begins (λ w. IsDigits w × (max_number < value w))
 
 -- a name above the limit is at the front
 abbrev pub BeginsLong : List ℕ → Type 0
-BeginsLong = Begins (λ w. IsWord w × IsNoKeyword w × (max_name < length w))
+BeginsLong = Begins (λ w. IsWord w × (is_one_of keywords w ≡ false) × (32 < length w))
 
 -- The text is cut into pieces up to this place, and there begin neither white space nor a comment, but something
 -- of this sort.

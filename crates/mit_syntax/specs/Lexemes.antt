@@ -1,6 +1,7 @@
 -- The spellings of tokens.
-use Rattle.std.specs.Prelude.{◌≡◌, ℕ, pos, ◌+◌, ◌-◌, ◌*◌, ◌≤◌, Bool, true, false, ◌||◌, ◌==◌, List, [], ◌∷◌, ◌++◌, length}
-use Rattle.std.specs.Char.{is_ascii_digit, is_ascii_alphabetic}
+use Rattle.std.specs.Prelude.{◌≡◌, ℕ, pos, ◌+◌, ◌-◌, ◌*◌, ◌≤◌, Bool, true, false, ◌||◌, ◌==◌, List, [], ◌∷◌, ◌++◌, length, codes}
+use Rattle.std.specs.Char.{is_ascii_digit}
+use Rattle.label_lattice.specs.Names.{Each, IsWord, IsName}
 use Rattle.mit_syntax.specs.declared.token.Keyword.{Keyword}
 use Rattle.mit_syntax.specs.declared.token.Keyword.TheVariants.{Labels, Order, Var, Skip, If, Then, Else, While, Do, Mitigate, Sleep}
 use Rattle.mit_syntax.specs.declared.token.Sign.{Sign}
@@ -10,17 +11,9 @@ use Rattle.mit_syntax.specs.declared.token.Sign.TheVariants.{GreaterEqual, Great
 use Rattle.mit_syntax.specs.declared.token.TokenKind.{TokenKind}
 use Rattle.mit_syntax.specs.declared.token.TokenKind.TheVariants.{Key, Name, Number, Sign as SignKind, End}
 
--- a letter, a digit or `_`
-abbrev pub is_name_byte : ℕ → Bool
-is_name_byte b = is_ascii_alphabetic b || (is_ascii_digit b || (b == 95))
-
 -- space, tab, carriage return or line feed
 abbrev pub is_white : ℕ → Bool
 is_white b = (b == 32) || ((b == 9) || ((b == 13) || (b == 10)))
-
-abbrev pub Each : (ℕ → Bool) → List ℕ → Type 0
-Each p [] = Unit {0}
-Each p (x ∷ xs) = (p x ≡ true) × Each p xs
 
 -- the first byte fails, if there is one
 abbrev pub StopsAt : (ℕ → Bool) → List ℕ → Type 0
@@ -28,17 +21,17 @@ StopsAt p [] = Unit {0}
 StopsAt p (x ∷ xs) = p x ≡ false
 
 abbrev pub key_text : Keyword → List ℕ
-key_text Labels = 108 ∷ 97 ∷ 98 ∷ 101 ∷ 108 ∷ 115 ∷ []
-key_text Order = 111 ∷ 114 ∷ 100 ∷ 101 ∷ 114 ∷ []
-key_text Var = 118 ∷ 97 ∷ 114 ∷ []
-key_text Skip = 115 ∷ 107 ∷ 105 ∷ 112 ∷ []
-key_text If = 105 ∷ 102 ∷ []
-key_text Then = 116 ∷ 104 ∷ 101 ∷ 110 ∷ []
-key_text Else = 101 ∷ 108 ∷ 115 ∷ 101 ∷ []
-key_text While = 119 ∷ 104 ∷ 105 ∷ 108 ∷ 101 ∷ []
-key_text Do = 100 ∷ 111 ∷ []
-key_text Mitigate = 109 ∷ 105 ∷ 116 ∷ 105 ∷ 103 ∷ 97 ∷ 116 ∷ 101 ∷ []
-key_text Sleep = 115 ∷ 108 ∷ 101 ∷ 101 ∷ 112 ∷ []
+key_text Labels = codes "labels"
+key_text Order = codes "order"
+key_text Var = codes "var"
+key_text Skip = codes "skip"
+key_text If = codes "if"
+key_text Then = codes "then"
+key_text Else = codes "else"
+key_text While = codes "while"
+key_text Do = codes "do"
+key_text Mitigate = codes "mitigate"
+key_text Sleep = codes "sleep"
 
 abbrev pub sign_text : Sign → List ℕ
 sign_text Assign = 58 ∷ 61 ∷ []
@@ -64,11 +57,6 @@ sign_text Less = 60 ∷ []
 sign_text GreaterEqual = 62 ∷ 61 ∷ []
 sign_text Greater = 62 ∷ []
 
--- a letter, and then letters, digits and `_`: a name or a keyword, of any length
-abbrev pub IsWord : List ℕ → Type 0
-IsWord [] = ⊥
-IsWord (b ∷ r) = (is_ascii_alphabetic b ≡ true) × Each is_name_byte r
-
 -- one or more digits, of any value
 abbrev pub IsDigits : List ℕ → Type 0
 IsDigits [] = ⊥
@@ -90,15 +78,6 @@ value w = value_after 0 w
 
 abbrev pub max_number : ℕ
 max_number = 9223372036854775807
-
-abbrev pub max_name : ℕ
-max_name = 32
-
-abbrev pub IsNoKeyword : List ℕ → Type 0
-IsNoKeyword w = (k : Keyword) → w ≡ key_text k → ⊥
-
-abbrev pub IsName : List ℕ → Type 0
-IsName w = IsWord w × IsNoKeyword w × (length w ≤ max_name)
 
 -- the bytes spell a token of this kind, within the limits
 abbrev pub HasKind : List ℕ → TokenKind → Type 0

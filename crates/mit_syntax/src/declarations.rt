@@ -17,6 +17,9 @@ pub const MAX_ELEMENTS: u32 = 2048;
 /// The most variables that a program may have, each element of an array counted.
 pub const MAX_CELLS: u32 = MAX_VARIABLES + MAX_ELEMENTS;
 
+/// The same as a length: for how many variables a list has room.
+pub const CELLS: usize = MAX_CELLS as usize;
+
 /// How many numbers are kept beside the declarations: one for each, and that of all variables.
 const FIRSTS: usize = MAX_VARIABLES as usize + 1;
 

@@ -2,17 +2,16 @@
 
 ghost use Rattle.std.specs.Prelude.{◌≡◌, ◌≢◌, ℕ, ◌<◌, ◌≤◌, true, false, length, slice_index, MatchBool, MatchResult, MatchOption};
 ghost use Rattle.std.specs.Char.{is_ascii_digit, is_ascii_alphabetic};
+ghost use Rattle.label_lattice.specs.Names.{is_name_byte, Each, keywords, is_one_of};
 ghost use Rattle.mit_syntax.specs.declared.token.Keyword.{Keyword};
-ghost use Rattle.mit_syntax.specs.Lexemes.{is_name_byte, key_text, IsNoKeyword, value, Each};
+ghost use Rattle.mit_syntax.specs.Lexemes.{key_text, value};
 ghost use Rattle.mit_syntax.specs.TokenSteps.{IsToken, HasFlaw, second_is_equal, sign_front};
 
 use crate::token::{Keyword, Sign, TokenKind};
+use label_lattice::name::MAX_NAME;
 
 /// The greatest value of a number.
 const MAX_LITERAL: u64 = 9223372036854775807;
-
-/// The greatest length of a name, in bytes.
-const MAX_NAME: usize = 32;
 
 /// What is wrong with the front of a text.
 #[derive(Clone, Copy)]
@@ -75,8 +74,9 @@ fn number_of(digits: &[u8]) -> Option<u64>
     Some(n)
 }
 
+#[tactic(auto, using(crate::proofs::Keywords::no_keyword))]
 fn keyword_of(word: &[u8]) -> Option<Keyword>
-    ensures { MatchOption result (IsNoKeyword word.now) (λ k. word.now ≡ key_text k) }
+    ensures { MatchOption result (is_one_of keywords word.now ≡ false) (λ k. word.now ≡ key_text k) }
 {
     match word {
         b"labels" => Some(Keyword::Labels),

@@ -34,7 +34,8 @@ fn names_the_first_fault(rt: HostRuntime) -> Result<(), Fail> {
 
 /// A text with each keyword and each sign.
 const EACH: &str =
-    "labels order var skip if then else while do mitigate sleep\n x1_ 007 9223372036854775807 := : ; , ( ) { } [ ] @ + - * / % == != <= < >= >\t// \u{e9} $\r\n";
+    "labels order var skip if then else while do mitigate sleep\n x1_ 007 9223372036854775807 \
+     := : ; , ( ) { } [ ] @ + - * / % == != <= < >= >\t// \u{e9} $\r\n";
 
 static KINDS: [TokenKind; 37] = [
     TokenKind::Key(Keyword::Labels),

@@ -2,9 +2,10 @@
 
 ghost use Rattle.std.specs.Prelude.{◌≡◌, ◌+◌, ◌^◌, ◌<◌, ◌≤◌, ℕ, List, length, take, drop, slice_index};
 ghost use Rattle.std.specs.Prelude.{true, false, MatchResult, MatchBool, IsUtf8};
+ghost use Rattle.label_lattice.specs.Names.{Each};
 ghost use Rattle.mit_syntax.specs.declared.fault.TextFault.TheVariants.{Memory};
 ghost use Rattle.mit_syntax.specs.declared.token.Token.{Token};
-ghost use Rattle.mit_syntax.specs.Lexemes.{is_white, Each};
+ghost use Rattle.mit_syntax.specs.Lexemes.{is_white};
 ghost use Rattle.mit_syntax.specs.Cut.{start, moved, in_line, starts_comment, AreTokens, IsFault, end_at, token_bytes};
 ghost use Rattle.mit_syntax.specs.TokenSteps.{TookPiece, NoPiece};
 
@@ -96,13 +97,13 @@ impl<'a> Lexer<'a> {
         ensures rest { self.new.1 ≡ drop n self.old.1 }
         ensures place { self.new.0 ≡ moved self.old.0 (take n self.old.1) }
     {
-        let _ = &self.rest;
+        let Place { at, pos } = self.place;
         let size = n as u32;
         self.place = Place {
-            at: self.place.at + size,
+            at: at + size,
             pos: Pos {
-                line: self.place.pos.line,
-                column: self.place.pos.column + size,
+                line: pos.line,
+                column: pos.column + size,
             },
         };
         self.rest = &self.rest[n..];

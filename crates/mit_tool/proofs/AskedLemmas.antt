@@ -1,27 +1,19 @@
 -- What holds of a call by the command that its words ask for.
-use Rattle.std.proofs.Common.{◌≡◌, ◌⊎◌, List, ℕ, Option, Some, None, sym, subst}
+use Rattle.std.proofs.Common.{◌≡◌, ◌⊎◌, List, ℕ, Option}
 use Rattle.std.specs.Prelude.{IfSome, IsTrue}
 use Rattle.tool_words.specs.WordsAsked.{Asked, IsInRange}
 use Rattle.tool_texts.specs.declared.status.Status.{Status}
 use Rattle.tool_texts.specs.declared.status.Status.TheVariants as status
 use Rattle.tool_texts.specs.Ends.{EndsBy}
-use Rattle.tool_stages.specs.Content.{Content}
+use Rattle.tool_stages.specs.Content.{Content, NoneRises}
 use Rattle.tool_stages.specs.Accepted.{IsAccepted, SpelledAreSound, TypedAreSound, is_past_typing}
 use Rattle.mit_tool.specs.Commands.{files_of, IsAnswer, Before, typed_content, HeldIsSound}
-use Rattle.mit_tool.specs.Complete.{NoneRises, CanBeDone}
+use Rattle.mit_tool.specs.Complete.{CanBeDone}
 use Rattle.mit_tool.specs.Held.{Held, told_all, HoldsTold, AreReadAlike}
 use Rattle.tool_texts.proofs.EndLemmas.{ends_done}
 use Rattle.mit_tool.proofs.PastLemmas.{ended_past}
 use Rattle.mit_tool.proofs.OneHeld.{ends_some}
 use Rattle.mit_tool.proofs.CommandLemmas.{answer_past, held_past, answer_held, before_held, answers_done}
-
-pub any_some : {A : Type 0} (o : Option A) (P : A → Type 0) → ((a : A) → P a) → IfSome o P
-any_some None P f = tt
-any_some (Some a) P f = f a
-
--- what holds of the command that the words ask for
-pub asked_some : {A : Type 0} (o : Option A) (a : A) (P : A → Type 0) → o ≡ Some a → P a → IfSome o P
-asked_some {A} o a P e h = subst (λ (z : Option A). IfSome z P) (sym e) h
 
 -- ---- how a call ended
 
@@ -48,7 +40,7 @@ ends_held Rises content a old new s alike =
 -- a command that can be done is done
 pub completes : (old new : Option (List ℕ)) (Rises : List ℕ → Type 0) (content : Content) (a : Asked) (r : Status) (Rose : Type 0)
     → EndsBy old new (Before content a) (IsAnswer Rises content a) r → (r ≡ status.WriteFault → Rose)
-    → IsInRange a → CanBeDone content a → NoneRises Rises a → (Rose → ⊥) → (r ≡ status.Done) ⊎ (r ≡ status.Memory)
+    → IsInRange a → CanBeDone content a → NoneRises Rises (files_of a) → (Rose → ⊥) → (r ≡ status.Done) ⊎ (r ≡ status.Memory)
 completes old new Rises content a r Rose ends write range can none n =
     ends_done old new (Before content a) (IsAnswer Rises content a) r ends (λ e. n (write e))
     (λ t h. answers_done Rises content r t a range none can.known can.goes h)

@@ -13,14 +13,13 @@ use Rattle.tool_texts.specs.declared.status.Status.{Status}
 use Rattle.tool_texts.specs.declared.status.Status.TheVariants as status
 use Rattle.tool_texts.specs.Reports.{made_lines}
 use Rattle.tool_stages.specs.Stages.{Then, Reads, Types, TypeStops, StartsAre, FirstStart, FirstStops}
-use Rattle.tool_stages.specs.Content.{Content}
+use Rattle.tool_stages.specs.Content.{Content, AreKnown, NoneRises}
 use Rattle.tool_stages.specs.Goes.{CanBeAudited, CanCut, OfObserver}
-use Rattle.tool_stages.specs.Accepted.{IsAccepted, SpelledAreSound, TypedAreSound, is_past_typing}
+use Rattle.tool_stages.specs.Accepted.{HasChecked, IsAccepted, SpelledAreSound, TypedAreSound, is_past_typing}
 use Rattle.mit_tool.specs.Audited.{HasReleased}
 use Rattle.mit_tool.specs.Means.{HasMeant}
-use Rattle.mit_tool.specs.Answers.{HasChecked, HasInferred, HasRun, HasCertified, HasRechecked, made_content}
+use Rattle.mit_tool.specs.Answers.{HasInferred, HasRun, HasCertified, HasRechecked, made_content}
 use Rattle.mit_tool.specs.Commands.{files_of, IsAnswer, HasBegun, Before, typed_content, HeldIsSound, CanGoOn, AreWithin}
-use Rattle.mit_tool.specs.Complete.{AreKnown, NoneRises}
 use Rattle.mit_tool.specs.Held.{Held, told_all, HoldsTold, AreReadAlike}
 use Rattle.mit_tool.specs.Logged.{IsRunLine, IsMeaningLine, ArePieces}
 use Rattle.tool_stages.proofs.ChainLemmas.{first_file, second_file, no_other, one_other, compiles_one, prepares_one, usage_one, compiles_go, typed_done}
@@ -116,7 +115,8 @@ held_past sound Rises content a s t past x = tt
 -- ---- one answer at most
 
 module _ (s u : Status) (t x : List ℕ) (outcomes : OneOutcomes) (Rises : List ℕ → Type 0) (content : Content) where
-  pub answers_one : (a : Asked) → NoneRises Rises a → AreKnown content a → IsAnswer Rises content a s t → IsAnswer Rises content a u x → Same s u t x
+  pub answers_one : (a : Asked) → NoneRises Rises (files_of a) → AreKnown content (files_of a) → IsAnswer Rises content a s t
+      → IsAnswer Rises content a u x → Same s u t x
   answers_one (check file) n known =
       typed_one s u t x Rises content file (λ p q. HasChecked p) (first_file Rises content file [] n known) (λ p q. usage_one s u t x)
   answers_one (infer file) n known =
@@ -221,7 +221,8 @@ before_held content a b alike x = (λ name. held_of (content name), λ name. fit
 
 module _ (Rises : List ℕ → Type 0) (content : Content) (s : Status) (t : List ℕ) where
   -- the answer to a command that can go on, of files that are told and read
-  pub answers_done : (a : Asked) → IsInRange a → NoneRises Rises a → AreKnown content a → CanGoOn content a → IsAnswer Rises content a s t → s ≡ status.Done
+  pub answers_done : (a : Asked) → IsInRange a → NoneRises Rises (files_of a) → AreKnown content (files_of a) → CanGoOn content a
+      → IsAnswer Rises content a s t → s ≡ status.Done
   answers_done (check file) range n known can h =
       let k = first_file Rises content file [] n known in
       typed_done Rises content s t file (λ p q. HasChecked p) k.0 k.1 can (λ p q m. m.0) h

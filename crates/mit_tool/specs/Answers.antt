@@ -19,16 +19,12 @@ use Rattle.tool_words.specs.declared.words.EnvName.{EnvName}
 use Rattle.tool_words.specs.declared.words.EnvName.TheVariants.{Part}
 use Rattle.tool_texts.specs.declared.status.Status.{Status}
 use Rattle.tool_texts.specs.declared.status.Status.TheVariants as status
-use Rattle.tool_texts.specs.Texts.{accepted_line, rechecked_line, usage_text}
+use Rattle.tool_texts.specs.Texts.{rechecked_line, usage_text}
 use Rattle.tool_texts.specs.Reports.{made_lines}
 use Rattle.tool_stages.specs.Envs.{told_in}
 use Rattle.tool_stages.specs.Begins.{Prepares}
 use Rattle.tool_stages.specs.Content.{Content}
 use Rattle.mit_tool.specs.Audited.{HasAudited}
-
--- a program is accepted: how many commands and mitigates it has
-abbrev pub HasChecked : Syntax → Status → List ℕ → Type 0
-HasChecked p s t = (s ≡ status.Done) × (t ≡ accepted_line (count (plan_of p)) (mitigates (plan_of p)))
 
 -- a machine that has halted by T is done, and else its budget is spent
 abbrev pub status_at : RunEnd → Status

@@ -15,11 +15,11 @@ use Rattle.tool_stages.specs.Stages.{Then, Reads, ProgramStops, Types, TypeStops
 use Rattle.tool_stages.specs.Stages.{Rechecks, HoldsCertificate}
 use Rattle.tool_stages.specs.Begins.{Compiles, Prepares}
 use Rattle.tool_stages.specs.Content.{Content}
-use Rattle.tool_stages.specs.Accepted.{IsRechecked}
+use Rattle.tool_stages.specs.Accepted.{HasChecked, IsRechecked}
 use Rattle.tool_stages.specs.Goes.{CanBeAudited, CanCompile, CanCut, CanLower, HaltsBy, IsTypable, OfObserver}
 use Rattle.mit_tool.specs.Audited.{HasAudited, HasCut, HasReleased}
 use Rattle.mit_tool.specs.Means.{lines_after, HasMeant}
-use Rattle.mit_tool.specs.Answers.{HasChecked, HasRun, HasInferred, HasListed, made_content, HasCertified, HasRechecked, HasGenerated}
+use Rattle.mit_tool.specs.Answers.{HasRun, HasInferred, HasListed, made_content, HasCertified, HasRechecked, HasGenerated}
 use Rattle.mit_tool.specs.Bounded.{AuditsAreWithin, CutsAreWithin, ReleasesAreWithin}
 
 -- ---- its files

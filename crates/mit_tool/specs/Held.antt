@@ -6,8 +6,8 @@ use Rattle.tool_words.specs.WordsAsked.{Asked}
 use Rattle.tool_texts.specs.Ends.{EndsBy}
 use Rattle.mit_tool.specs.Commands.{files_of, IsAnswer, Before, typed_content, HeldIsSound}
 use Rattle.tool_stages.specs.Accepted.{IsAccepted, is_past_typing}
-use Rattle.mit_tool.specs.Complete.{CanBeDone, NoneRises}
-use Rattle.tool_stages.specs.Content.{Content}
+use Rattle.mit_tool.specs.Complete.{CanBeDone}
+use Rattle.tool_stages.specs.Content.{Content, NoneRises}
 
 -- the bytes of each file, or None where there is no such file
 abbrev pub Held : Type 0
@@ -35,7 +35,7 @@ pub record EndsByHeld (content : Content) (Rises : List ℕ → Type 0) (Risen :
   pub answered : EndsBy old new (Before (told_all held) a) (IsAnswer Rises (told_all held) a) s
   pub sound : IsTrue (is_past_typing s) → IfSome (typed_content (told_all held) a) IsAccepted
   pub rechecked : IsTrue (is_past_typing s) → HeldIsSound (told_all held) a
-  pub complete : CanBeDone (told_all held) a → NoneRises Rises a → (Risen → ⊥) → (s ≡ status.Done) ⊎ (s ≡ status.Memory)
+  pub complete : CanBeDone (told_all held) a → NoneRises Rises (files_of a) → (Risen → ⊥) → (s ≡ status.Done) ⊎ (s ≡ status.Memory)
 
 -- it is so of a command whose files are read alike
 abbrev pub EndsByOne : Content → (List ℕ → Type 0) → Type 0 → Option (List ℕ) → Option (List ℕ) → Asked → Status → Type 0

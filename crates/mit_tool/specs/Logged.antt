@@ -1,5 +1,5 @@
--- The files that words name, and the pieces in which a call writes its text.
-use Rattle.std.specs.Prelude.{◌≡◌, ◌≢◌, ◌⊎◌, ◌++◌, ℕ, ℤ, List, [], ◌∷◌, All, Option, Some, None}
+-- The pieces in which a call writes its text.
+use Rattle.std.specs.Prelude.{◌≡◌, ◌≢◌, ◌⊎◌, ◌++◌, ℕ, ℤ, List, [], ◌∷◌, All, Option, Some}
 use Rattle.tim_base.specs.Logs.{Offered, HasSent, HasBroken}
 use Rattle.label_lattice.specs.Names.{IsName}
 use Rattle.mit_syntax.specs.Declarations.{Declaration}
@@ -8,7 +8,6 @@ use Rattle.tool_words.specs.WordsAsked.{Asked, run, meaning}
 use Rattle.tool_texts.specs.declared.status.Status.{Status}
 use Rattle.tool_texts.specs.declared.status.Status.TheVariants as status
 use Rattle.tool_texts.specs.Texts.{value_line, ended_line, not_ended_line}
-use Rattle.mit_tool.specs.Commands.{files_of}
 
 -- a line of the text of a program's run
 abbrev pub IsRunLine : List ℕ → Type 0
@@ -39,11 +38,6 @@ pub record HasWritten (Pieces : Status → List (List ℕ) → Type 0) (s : Stat
   pub are : Pieces would pieces
   pub sent : s ≢ status.WriteFault → (s ≡ would) × HasSent old new pieces
   pub broken : s ≡ status.WriteFault → HasBroken old new pieces
-
--- the files that words name
-abbrev pub named_by : Option Asked → List (List ℕ)
-named_by None = []
-named_by (Some a) = files_of a
 
 -- lines of a meaning were written, or a write failed in one of them
 abbrev pub SentLines : Option (List Offered) → Option (List Offered) → Type 0

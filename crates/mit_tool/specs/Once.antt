@@ -3,14 +3,13 @@ use Rattle.std.specs.Prelude.{◌≡◌, ℕ, List}
 use Rattle.tim_base.specs.Faults.{Rose}
 use Rattle.tool_words.specs.WordsAsked.{Asked}
 use Rattle.tool_texts.specs.declared.status.Status.{Status}
-use Rattle.tool_stages.specs.Content.{Content}
-use Rattle.mit_tool.specs.Commands.{IsAnswer}
-use Rattle.mit_tool.specs.Complete.{AreKnown, NoneRises}
+use Rattle.tool_stages.specs.Content.{Content, AreKnown, NoneRises}
+use Rattle.mit_tool.specs.Commands.{files_of, IsAnswer}
 
 -- Where each file that the command names is told to hold bytes, and none of their counts of faults rose, two answers
 -- to it are one: they have the same status and the same text.
 abbrev pub HasOneAnswer : Type 0
 HasOneAnswer =
     (content : Content) (before now : List ℕ → ℕ) (a : Asked) (s u : Status) (t x : List ℕ) →
-    AreKnown content a → NoneRises (λ name. Rose (before name) (now name)) a →
+    AreKnown content (files_of a) → NoneRises (λ name. Rose (before name) (now name)) (files_of a) →
     IsAnswer (λ name. Rose (before name) (now name)) content a s t → IsAnswer (λ name. Rose (before name) (now name)) content a u x → (s ≡ u) × (t ≡ x)

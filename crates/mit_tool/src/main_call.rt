@@ -6,11 +6,12 @@ ghost use Rattle.tim_base.specs.Faults.{Rose};
 ghost use Rattle.tool_words.specs.WordsAsked.{IsInRange, asked_of, command_of, check, recheck};
 ghost use Rattle.tool_texts.specs.Ends.{EndsBy, Nothing};
 ghost use Rattle.tool_stages.specs.Accepted.{is_past_typing, IsAccepted};
-ghost use Rattle.tool_stages.specs.Fetches.{HasFetched};
+ghost use Rattle.tool_stages.specs.Content.{NoneRises};
+ghost use Rattle.tool_stages.specs.Fetches.{HasFetched, named_by};
 ghost use Rattle.mit_tool.specs.Answers.{IsUsage};
 ghost use Rattle.mit_tool.specs.Commands.{files_of, IsAnswer, Before, typed_content, HeldIsSound, AreWithin};
-ghost use Rattle.mit_tool.specs.Complete.{CanBeDone, NoneRises};
-ghost use Rattle.mit_tool.specs.Logged.{HasWritten, ArePieces, named_by};
+ghost use Rattle.mit_tool.specs.Complete.{CanBeDone};
+ghost use Rattle.mit_tool.specs.Logged.{HasWritten, ArePieces};
 ghost use Rattle.mit_tool.specs.Held.{EndsByOne};
 
 use crate::commands::audit::audit_text;
@@ -30,7 +31,7 @@ use tim_base::shelf::Shelf;
 use tim_base::sink::Sink;
 use tool_stages::laws::accepted_are_sound;
 use tool_stages::setting::Setting;
-use tool_texts::finish::{finish, stop, tell};
+use tool_texts::finish::{finish, stop, stop_for_memory, tell};
 use tool_texts::status::Status;
 use tool_texts::stop::Stop;
 use tool_words::words::{Command, WordsFault, read_words};
@@ -170,12 +171,13 @@ fn obey<S: Shelf, W: Sink>(
 /// `complete`: a command that can be done is done, want of memory aside, where no count of faults rose, neither that
 /// of a file that the words name nor that of the sink.
 ///
-/// `one`: these four hold together of one content, the bytes that the files hold, also where the shelf does not tell
-/// them; so the text is the answer by the very bytes whose program is accepted. Only a file that is named twice has to
-/// be told, since its two readings may differ.
+/// `one`: there is one content, which has what the shelf tells wherever it tells, of which these four hold together; so
+/// the text is the answer by the very bytes whose program is accepted. Only a file that is named twice has to be told,
+/// since its two readings may differ.
 ///
-/// `fetched`: the files that the words name are fetched in their order, each once, and none after one that gave no bytes; a
-/// read fault is told exactly where the last fetch failed.
+/// `fetched`: of the files that the words name the first ones are fetched, in their order, each once, and none after one
+/// that gave no bytes. A read fault is told where the last fetch failed and only there, unless its line could not be
+/// written.
 ///
 /// `pieces`: a run and a meaning are written a line a piece, and each other text is one piece; after a write that failed
 /// nothing is written.
@@ -197,10 +199,10 @@ pub fn mitigate_main<S: Shelf, W: Sink>(
         IfSome (typed_content (S.content shelf.old) a) IsAccepted) }
     ensures rechecked { IsTrue (is_past_typing result) → IfSome (command_of (map string_bytes words.now)) (HeldIsSound (S.content shelf.old)) }
     ensures complete { IfSome (command_of (map string_bytes words.now)) (λ a. CanBeDone (S.content shelf.old) a
-        → NoneRises (λ name. Rose (S.faults shelf.old name) (S.faults shelf.new name)) a → (Rose (W.faults out.old) (W.faults out.new) → ⊥)
+        → NoneRises (λ name. Rose (S.faults shelf.old name) (S.faults shelf.new name)) (files_of a) → (Rose (W.faults out.old) (W.faults out.new) → ⊥)
         → (result ≡ Status.Done) ⊎ (result ≡ Status.Memory)) }
     ensures write { result ≡ Status.WriteFault → Rose (W.faults out.old) (W.faults out.new) }
-    ensures fetched { HasFetched (named_by (command_of (map string_bytes words.now))) result (S.log shelf.old) (S.log shelf.new) }
+    ensures fetched { HasFetched (named_by files_of (command_of (map string_bytes words.now))) result (S.log shelf.old) (S.log shelf.new) }
     ensures pieces { HasWritten (ArePieces (command_of (map string_bytes words.now))) result (W.log out.old) (W.log out.new) }
     ensures one { IfSome (command_of (map string_bytes words.now)) (λ a.
         EndsByOne (S.content shelf.old) (λ name. Rose (S.faults shelf.old name) (S.faults shelf.new name)) (Rose (W.faults out.old) (W.faults out.new))
@@ -217,6 +219,6 @@ pub fn mitigate_main<S: Shelf, W: Sink>(
     match read_words(alloc, words) {
         Ok(command) => obey(alloc, shelf, out, command),
         Err(WordsFault::Usage) => stop(out, Stop::Usage),
-        Err(WordsFault::Memory) => finish(out, b"memory\n", Status::Memory),
+        Err(WordsFault::Memory) => stop_for_memory(out),
     }
 }

@@ -3,6 +3,7 @@ use Rattle.std.proofs.Common.{◌≡◌, refl, ap, ◌∙◌, sym, subst, ℕ, L
 use Rattle.std.proofs.lemmas.List.{append-nil}
 use Rattle.std.proofs.lemmas.Bool.{eqb-true}
 use Rattle.std.specs.Char.{is_ascii_digit, is_ascii_alphabetic}
+use Rattle.label_lattice.specs.Names.{IsWord, is_name_byte}
 use Rattle.mit_syntax.specs.declared.token.TokenKind.{TokenKind}
 use Rattle.mit_syntax.specs.declared.token.TokenKind.TheVariants.{Key, Name, Number, Sign as SignKind}
 use Rattle.mit_syntax.specs.declared.token.Keyword.{Keyword}
@@ -10,7 +11,7 @@ use Rattle.mit_syntax.specs.declared.token.Keyword.TheVariants.{Labels}
 use Rattle.mit_syntax.specs.declared.token.Sign.{Sign}
 use Rattle.mit_syntax.specs.declared.token.Sign.TheVariants.{Assign}
 use Rattle.mit_syntax.specs.declared.token.Sign.TheVariants.{Slash, Equal}
-use Rattle.mit_syntax.specs.Lexemes.{StopsAt, IsWord, is_name_byte, key_text, sign_text, HasKind}
+use Rattle.mit_syntax.specs.Lexemes.{StopsAt, key_text, sign_text, HasKind}
 use Rattle.mit_syntax.specs.Chunks.{Word, key, sign, number, name, Chunk, space, line, word, word_text, text}
 use Rattle.mit_syntax.specs.Cut.{Piece, white, lexeme, spread, CutBefore}
 use Rattle.mit_syntax.proofs.LexBytes.{differ}

@@ -12,6 +12,5 @@ pub mod Saying
 pub mod Parted
 pub mod ReadExpression
 pub mod ReadCommands
-pub mod Looking
 pub mod ReadHeader
 pub mod WholeText

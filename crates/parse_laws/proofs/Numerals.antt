@@ -4,8 +4,9 @@ use Rattle.std.proofs.lemmas.Bool.{eqb-true}
 use Rattle.std.proofs.lemmas.Fmt.{decimal_by_steps}
 use Rattle.std.specs.Prelude.{decimal, pos}
 use Rattle.std.specs.Char.{is_ascii_digit}
+use Rattle.label_lattice.specs.Names.{Each}
 use Rattle.mit_syntax.specs.declared.token.TokenKind.TheVariants.{Number}
-use Rattle.mit_syntax.specs.Lexemes.{Each, StopsAt, IsDigits, value, value_after, HasKind}
+use Rattle.mit_syntax.specs.Lexemes.{StopsAt, IsDigits, value, value_after, HasKind}
 use Rattle.mit_syntax.proofs.LexBytes.{differ}
 
 abbrev IsNumeralOf : ℕ → List ℕ → Type 0

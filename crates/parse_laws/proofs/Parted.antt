@@ -2,12 +2,12 @@
 use Rattle.std.proofs.Common.{◌≡◌, refl, ℕ, zero, suc, ◌+◌, ◌<◌, ◌≤◌, List, [], ◌∷◌, Bool, true, false, Option, Some, None}
 use Rattle.std.specs.Prelude.{ltb, pos, negsuc}
 use Rattle.label_lattice.specs.declared.label.Label.{Label}
+use Rattle.label_lattice.specs.Names.{IsName}
 use Rattle.label_lattice.specs.Order.{Order, name_of}
 use Rattle.mit_syntax.specs.declared.ast.Op.{Op}
 use Rattle.mit_syntax.specs.declared.ast.Op.TheVariants.{Add}
 use Rattle.mit_syntax.specs.declared.token.Keyword.TheVariants.{Else, Then, Do}
 use Rattle.mit_syntax.specs.declared.token.Sign.TheVariants.{Assign as AssignSign, Semicolon, RightRound, RightBrace, RightSquare}
-use Rattle.mit_syntax.specs.Lexemes.{IsName}
 use Rattle.mit_syntax.specs.Chunks.{Chunk, space, line}
 use Rattle.mit_syntax.specs.Expression.{Expression, Number, Variable, Binary, Element}
 use Rattle.mit_syntax.specs.Operators.{op_sign, rank, left_need, right_need}

@@ -3,12 +3,11 @@ use Rattle.std.proofs.Common.{◌≡◌, ◌≤◌, ◌<◌, refl, sym, ap, ◌�
 use Rattle.std.specs.Prelude.{All, ◌↔◌, cond}
 use Rattle.std.proofs.lemmas.Bool.{le-ltb}
 use Rattle.label_lattice.specs.declared.label.Label.{Label}
-use Rattle.label_lattice.specs.Names.{IsName as IsLabelName}
+use Rattle.label_lattice.specs.Names.{IsName}
 use Rattle.label_lattice.specs.Lattice.{Flows, IsLattice}
 use Rattle.label_lattice.specs.Order.{Order, IsOrder, lattice_of, name_of}
 use Rattle.label_lattice.specs.Chains.{Chain, IsSound, IsBuilt}
 use Rattle.label_lattice.proofs.Orders.{order_is, join_below}
-use Rattle.mit_syntax.specs.Lexemes.{IsName}
 use Rattle.mit_syntax.specs.Chunks.{Chunk, line}
 use Rattle.mit_syntax.specs.Declarations.{Declaration, cell_at, find_scalar, find_array, length_in, elements_in}
 use Rattle.mit_syntax.specs.Program.{Syntax, plan_of}
@@ -24,7 +23,6 @@ use Rattle.mit_parser.specs.Faults.{Labelled, header_pairs, Declared, declared_b
 use Rattle.parse_laws.specs.ReadBack.{ReadsBack}
 use Rattle.mit_parser.proofs.Lookup.{found_at}
 use Rattle.mit_parser.proofs.NamedWhole.{resolves_of}
-use Rattle.parse_laws.proofs.Looking.{lexed_name}
 use Rattle.parse_laws.proofs.Apart.{Apart}
 use Rattle.parse_laws.proofs.Parted.{Every, IsLengthSmall, IsWritable, chunks_apart}
 use Rattle.parse_laws.proofs.Saying.{are_said}
@@ -68,9 +66,9 @@ module _ (o : Order) (ps : List (Label × Label)) (h : IsOrder o) (f : (a b : �
     flows = λ a b i j. f a b (subst (λ n. a < n) h.named i) (subst (λ n. b < n) h.named j);
   }
 
-every : {X : Type 0} (P Q : X → Type 0) → ((x : X) → P x → Q x) → (xs : List X) → All P xs → Every Q xs
-every P Q f [] h = tt
-every P Q f (x ∷ xs) h = (f x (h 0 x (omega arith)), every P Q f xs (λ k d l. h (suc k) d (omega (arith, l))))
+every : {X : Type 0} (P : X → Type 0) (xs : List X) → All P xs → Every P xs
+every P [] h = tt
+every P (x ∷ xs) h = (h 0 x (omega arith), every P xs (λ k d l. h (suc k) d (omega (arith, l))))
 
 both : {X : Type 0} (P Q : X → Type 0) (xs : List X) → Every P xs → Every Q xs → Every (λ x. P x × Q x) xs
 both P Q [] h k = tt
@@ -101,7 +99,7 @@ module _ (s : Syntax) (v : IsValid s) where
   named n h = subst (λ k. n < k) (sym v.order.named) h
 
   label_name : (n : ℕ) → n < o.size → IsName (name_of o n)
-  label_name n h = lexed_name (name_of o n) (v.order.names n [] (named n h))
+  label_name n h = v.order.names n [] (named n h)
 
   label_found : (n : ℕ) → n < o.size → find_label o.names (name_of o n) ≡ Some n
   label_found n h = found_at o.names (name_of o n) n (named n h) refl (λ k l e. v.order.differ k n [] l (named n h) e)
@@ -115,31 +113,31 @@ module _ (s : Syntax) (v : IsValid s) where
   scalar_is_name : (x : ℕ) → IsScalar ds x → IsName (cell_at ds x).name
   scalar_is_name x h =
       let a = scalar_at ds h.0 x h.1 in
-      subst IsName (sym (scalar_name ds h.0 x h.1)) (lexed_name h.0 (declared_has ds h.0 x a.decl a.at (λ d. IsLabelName d.0) v.names))
+      subst IsName (sym (scalar_name ds h.0 x h.1)) (declared_has ds h.0 x a.decl a.at (λ d. IsName d.0) v.names)
 
   array_is_name : (f n : ℕ) → IsDeclaredArray ds f n → IsName (cell_at ds f).name
   array_is_name f n h =
       let a = array_at ds h.0 f n h.1 in
-      subst IsName (sym (array_name ds h.0 f n h.1 v.arrays)) (lexed_name h.0 (declared_has ds h.0 f a.decl a.at (λ d. IsLabelName d.0) v.names))
+      subst IsName (sym (array_name ds h.0 f n h.1 v.arrays)) (declared_has ds h.0 f a.decl a.at (λ d. IsName d.0) v.names)
 
   abbrev Below : Label × Label → Type 0
   Below p = (p.0.number < o.size) × (p.1.number < o.size)
 
   pairs_below : Every Below ps
-  pairs_below = every Below Below (λ p h. h) ps v.pairs
+  pairs_below = every Below ps v.pairs
 
   declared_names : Every (λ (d : Declaration). IsName d.0) ds
-  declared_names = every (λ (d : Declaration). IsLabelName d.0) (λ (d : Declaration). IsName d.0) (λ d h. lexed_name d.0 h) ds v.names
+  declared_names = every (λ (d : Declaration). IsName d.0) ds v.names
 
   labels_below : Every (λ (d : Declaration). IsBelow o.size d.1.label) ds
-  labels_below = every (λ (d : Declaration). IsBelow o.size d.1.label) (λ (d : Declaration). IsBelow o.size d.1.label) (λ d h. h) ds v.labels
+  labels_below = every (λ (d : Declaration). IsBelow o.size d.1.label) ds v.labels
 
   shapes : Every (λ (d : Declaration). IsShaped d.1.label d.1.length) ds
-  shapes = every (λ (d : Declaration). IsShaped d.1.label d.1.length) (λ (d : Declaration). IsShaped d.1.label d.1.length) (λ d h. h) ds v.arrays
+  shapes = every (λ (d : Declaration). IsShaped d.1.label d.1.length) ds v.arrays
 
   apart : Apart (program_chunks s)
   apart =
-      chunks_apart o label_name ds scalar_is_name array_is_name (every IsLabelName IsName lexed_name o.names v.order.names) ps pairs_below
+      chunks_apart o label_name ds scalar_is_name array_is_name (every IsName o.names v.order.names) ps pairs_below
       (writable o.size ds (both (λ (d : Declaration). IsName d.0) (λ (d : Declaration). IsBelow o.size d.1.label) ds declared_names labels_below)
       v.few.elements) (plan_of s) v.known v.some
 

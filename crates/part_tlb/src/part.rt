@@ -18,6 +18,18 @@ use part_cache::cache::PartCache;
 use std::alloc::Global;
 use text_base::pos::Memory;
 
+/// The sets of the translation buffer.
+const BUFFER_SETS: u32 = 1;
+
+/// The ways of each set of the translation buffer.
+const BUFFER_WAYS: u32 = 4;
+
+/// The sets of each of the two caches.
+const SETS: u32 = 8;
+
+/// The ways of each set of these caches.
+const WAYS: u32 = 2;
+
 /// A translation buffer and two caches, each with a partition for each label.
 #[derive(Drop)]
 pub struct PartEnv {
@@ -35,9 +47,9 @@ impl PartEnv {
         ensures serves { IfOk result (IsMadeFor part_structure lattice) }
         ensures history { IfOk result (λ e. StandsForAll part_structure e (history_of touches.now)) }
     {
-        let buffer = PartCache::new(alloc, lattice, 1, 4)?;
-        let code_cache = PartCache::new(alloc, lattice, 8, 2)?;
-        let data_cache = PartCache::new(alloc, lattice, 8, 2)?;
+        let buffer = PartCache::new(alloc, lattice, BUFFER_SETS, BUFFER_WAYS)?;
+        let code_cache = PartCache::new(alloc, lattice, SETS, WAYS)?;
+        let data_cache = PartCache::new(alloc, lattice, SETS, WAYS)?;
         let mut env = PartEnv {
             buffer,
             code_cache,
@@ -71,12 +83,18 @@ impl PartEnv {
         ensures line { result.line ≡ found (line_cache kind self.old) (address / 32) er.number }
         ensures next { self.new ≡ part_after kind address er.number ew.number self.old }
     {
-        let page = look_and_touch(&mut self.buffer, 1, tag_at(Place::Page, address), er, ew);
+        let page = look_and_touch(
+            &mut self.buffer,
+            BUFFER_SETS,
+            tag_at(Place::Page, address),
+            er,
+            ew,
+        );
         let line = match kind {
             Kind::Code => {
                 look_and_touch(
                     &mut self.code_cache,
-                    8,
+                    SETS,
                     tag_at(Place::Code, address),
                     er,
                     ew,
@@ -85,7 +103,7 @@ impl PartEnv {
             Kind::Data => {
                 look_and_touch(
                     &mut self.data_cache,
-                    8,
+                    SETS,
                     tag_at(Place::Data, address),
                     er,
                     ew,

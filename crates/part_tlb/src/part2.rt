@@ -18,6 +18,12 @@ use part_cache::cache::PartCache;
 use std::alloc::Global;
 use text_base::pos::Memory;
 
+/// The sets of the cache of the second level.
+const SETS: u32 = 32;
+
+/// The ways of each set of this cache.
+const WAYS: u32 = 4;
+
 /// A translation buffer and two levels of caches, each with a partition for each label. The second level
 /// serves code and data.
 #[derive(Drop)]
@@ -36,7 +42,7 @@ impl Part2Env {
         ensures history { IfOk result (λ e. StandsForAll part2_structure e (history_of touches.now)) }
     {
         let first = PartEnv::warm(alloc, lattice, &[])?;
-        let second = PartCache::new(alloc, lattice, 32, 4)?;
+        let second = PartCache::new(alloc, lattice, SETS, WAYS)?;
         let mut env = Part2Env { first, second };
         for touch in touches {
             env.touch(touch.place, tag_at(touch.place, touch.address), touch.label);
@@ -82,7 +88,13 @@ impl MachineEnv for Part2Env {
             → StandsForAll part2_structure self.new (part2_history kind address ew.number h) }
     {
         let hits = self.first.look_up(kind, address, er, ew);
-        let second = look_and_touch(&mut self.second, 32, tag_at(Place::Second, address), er, ew);
+        let second = look_and_touch(
+            &mut self.second,
+            SETS,
+            tag_at(Place::Second, address),
+            er,
+            ew,
+        );
         hits.penalty(kind) + miss_cost(hits.line || second, 30)
     }
 

@@ -9,6 +9,9 @@ pub const MAX_RUNS: usize = 4096;
 /// The most cycles of a budget, and the greatest first length of a slot: 2^40.
 pub const MAX_CYCLES: u64 = 1_099_511_627_776;
 
+/// The most digits of a number in a text that is read.
+pub const MAX_DIGITS: usize = 20;
+
 /// Whether there are more runs than a list may have.
 pub fn are_too_many(runs: usize) -> bool
     ensures { MatchBool result (4096 < runs) (runs ≤ 4096) }

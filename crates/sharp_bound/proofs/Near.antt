@@ -29,6 +29,7 @@ use Rattle.leak_bound.specs.Relevant.{is_relevant}
 use Rattle.leak_bound.specs.Records.{Each, Pairwise, Tests, distinct, distinct_count}
 use Rattle.leak_bound.specs.Sound.{Agree, seen_from, Halts, IsCompiled}
 use Rattle.label_code.specs.Visible.{visible}
+use Rattle.leak_bound.proofs.Still.{still}
 use Rattle.leak_bound.proofs.Digits.{digits_is, digits_of}
 use Rattle.sharp_bound.specs.Near.{h_high, all_high, naps, naps_image, power, powers, ShowApart, Nearly, NearlyReached}
 use Rattle.sharp_bound.specs.Guess.{FewShown}
@@ -157,8 +158,7 @@ all_apart see same tests (x ∷ xs) h =
     ap (λ z. see x ∷ filter (λ w. not (same (see x) w)) z) (all_apart see same tests xs h.1) ∙ ap (λ z. see x ∷ z) (filter_all see same tests x xs h.0)
 
 -- an environment without penalties and without change is lawful
-flat_laws : {E : Type 0} (part : Place → ℕ → E → List ℕ) (lat : Lattice) (serves : E → Type 0)
-    → IsLawful (record { cost_of = λ k a er ew e. 0; next_of = λ k a er ew e. e; part = part }) lat serves
+flat_laws : {E : Type 0} (part : Place → ℕ → E → List ℕ) (lat : Lattice) (serves : E → Type 0) → IsLawful (still part) lat serves
 flat_laws part lat serves = record {
   keeps = λ k a er ew e s. s;
   write_label = λ k a er ew e s q l h. refl;
@@ -170,7 +170,7 @@ flat_laws part lat serves = record {
 module _ {E : Type 0} (serves : E → Type 0) (part : Place → ℕ → E → List ℕ) (order : Order) (ll : IsLattice (lattice_of order)) (o high : ℕ)
     (apart : Flows (lattice_of order) high o → ⊥) where
   abbrev v : Env E
-  v = record { cost_of = λ k a er ew e. 0; next_of = λ k a er ew e. e; part = part }
+  v = still part
 
   abbrev lat : Lattice
   lat = lattice_of order
@@ -412,8 +412,7 @@ module _ {E : Type 0} (serves : E → Type 0) (part : Place → ℕ → E → Li
         let long : digits (2 ^ d) ≡ suc d = digits_of (2 ^ d) d (record { from = omega arith; below = omega (arith, pow-succ' 2 d, pow_pos d) }) in
         omega (arith, few, long, length-ends 2 (d - 3))
 
-pub nearly_reached : {E : Type 0} (serves : Order → E → Type 0) (part : Place → ℕ → E → List ℕ)
-    → NearlyReached (record { cost_of = λ k a er ew e. 0; next_of = λ k a er ew e. e; part = part }) serves
+pub nearly_reached : {E : Type 0} (serves : Order → E → Type 0) (part : Place → ℕ → E → List ℕ) → NearlyReached (still part) serves
 nearly_reached serves part order ll o high low below apart =
     let made = compiled (serves order) part order ll o high apart below in
     record {

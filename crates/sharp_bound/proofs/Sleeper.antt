@@ -13,6 +13,7 @@ use Rattle.label_code.specs.declared.code.Instr.{Instr}
 use Rattle.code_lower.specs.Layout.{IsImage}
 use Rattle.leak_bound.specs.Records.{Each}
 use Rattle.leak_bound.specs.Sound.{Agree, Halts}
+use Rattle.leak_bound.proofs.Still.{still}
 use Rattle.sharp_bound.specs.End.{end_from, seen_to_end, EndsLow}
 use Rattle.sharp_bound.specs.Near.{h_high, ShowApart}
 use Rattle.sharp_bound.specs.Sleeper.{sleeps, sleeps_image, asleep, sleepers, SleeperTells, EndTells}
@@ -21,7 +22,7 @@ use Rattle.sharp_bound.proofs.Near.{halts_there}
 module _ {E : Type 0} (serves : E → Type 0) (part : Place → ℕ → E → List ℕ) (order : Order) (ll : IsLattice (lattice_of order)) (o high : ℕ)
     (apart : Flows (lattice_of order) high o → ⊥) where
   abbrev v : Env E
-  v = record { cost_of = λ k a er ew e. 0; next_of = λ k a er ew e. e; part = part }
+  v = still part
 
   abbrev lat : Lattice
   lat = lattice_of order
@@ -106,6 +107,5 @@ module _ {E : Type 0} (serves : E → Type 0) (part : Place → ℕ → E → Li
         apart = all_apart;
       }
 
-pub end_tells : {E : Type 0} (serves : Order → E → Type 0) (part : Place → ℕ → E → List ℕ)
-    → EndTells (record { cost_of = λ k a er ew e. 0; next_of = λ k a er ew e. e; part = part }) serves
+pub end_tells : {E : Type 0} (serves : Order → E → Type 0) (part : Place → ℕ → E → List ℕ) → EndTells (still part) serves
 end_tells serves part order ll o high low below apart = tells (serves order) part order ll o high apart

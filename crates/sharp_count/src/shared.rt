@@ -13,7 +13,7 @@ use crate::count::miss_counts;
 pub const MAX_SHARED: u64 = 64;
 
 /// A place for each number from 0 to `MAX_SHARED`.
-const PLACES: usize = 65;
+const PLACES: usize = MAX_SHARED as usize + 1;
 
 /// How many lists of so many powers of two fit into a sum, of which as much as the place tells is spent already.
 type Row = [u128; PLACES];

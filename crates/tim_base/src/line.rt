@@ -5,10 +5,13 @@ use arrayvec::ArrayVec;
 use itoa::Buffer;
 use std::marker::Model;
 
+/// For how many bytes a line has room.
+const ROOM: usize = 160;
+
 /// A line of up to 160 bytes. No call on it takes memory.
 #[derive(Drop)]
 pub struct Line {
-    bytes: ArrayVec<u8, 160>,
+    bytes: ArrayVec<u8, ROOM>,
 }
 
 impl Model for Line {

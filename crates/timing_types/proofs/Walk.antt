@@ -49,22 +49,22 @@ module _ (lat : Lattice) where
 
 module _ (lat : Lattice) (ll : IsLattice lat) (g : ℕ → ℕ) where
   -- a joined label moves out: (t | u) | a = (t | a) | u
-  swap : (t u a : ℕ) → lat.join (lat.join t u) a ≡ lat.join (lat.join t a) u
+  pub swap : (t u a : ℕ) → lat.join (lat.join t u) a ≡ lat.join (lat.join t a) u
   swap t u a = assoc lat ll t u a ∙ ap (lat.join t) (comm lat ll u a) ∙ sym (assoc lat ll t a u)
 
-  twice : (x y u : ℕ) → lat.join (lat.join x u) (lat.join y u) ≡ lat.join (lat.join x y) u
+  pub twice : (x y u : ℕ) → lat.join (lat.join x u) (lat.join y u) ≡ lat.join (lat.join x y) u
   twice x y u =
       assoc lat ll x u (lat.join y u) ∙ ap (lat.join x) (sym (assoc lat ll u y u) ∙ ap (λ z. lat.join z u) (comm lat ll u y) ∙ assoc lat ll y u u
       ∙ ap (lat.join y) (idem lat ll u))
       ∙ sym (assoc lat ll x y u)
 
-  start_moves : (t u l a : ℕ) → lat.join (lat.join (lat.join t u) l) a ≡ lat.join (lat.join (lat.join t l) a) u
+  pub start_moves : (t u l a : ℕ) → lat.join (lat.join (lat.join t u) l) a ≡ lat.join (lat.join (lat.join t l) a) u
   start_moves t u l a = ap (λ z. lat.join z a) (swap t u l) ∙ swap (lat.join t l) u a
 
-  loop_moves : (t u l a : ℕ) → lat.join (lat.join l (lat.join t u)) a ≡ lat.join (lat.join (lat.join l t) a) u
+  pub loop_moves : (t u l a : ℕ) → lat.join (lat.join l (lat.join t u)) a ≡ lat.join (lat.join (lat.join l t) a) u
   loop_moves t u l a = ap (λ z. lat.join z a) (sym (assoc lat ll l t u)) ∙ swap (lat.join l t) u a
 
-  demand_moves : (pc t u : ℕ) (m : Placed) (l li x : ℕ) → lat.join x (demand lat pc (lat.join t u) m l li) ≡ lat.join (lat.join x (demand lat pc t m l li)) u
+  pub demand_moves : (pc t u : ℕ) (m : Placed) (l li x : ℕ) → lat.join x (demand lat pc (lat.join t u) m l li) ≡ lat.join (lat.join x (demand lat pc t m l li)) u
   demand_moves pc t u m l li x =
       ap (lat.join x) (loop_moves t u (lat.join (lat.join l li) pc) m.marks.er) ∙ sym (assoc lat ll x (demand lat pc t m l li) u)
 

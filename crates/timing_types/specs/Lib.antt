@@ -7,3 +7,4 @@ pub mod Labelling
 pub mod Labelled
 pub mod Kept
 pub mod Commands
+pub mod Rules

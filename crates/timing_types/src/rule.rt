@@ -1,3 +1,6 @@
+ghost use Rattle.std.specs.Prelude.{◌≡◌, ◌≤◌, length};
+ghost use Rattle.timing_types.specs.Rules.{rule_name};
+
 use label_lattice::label::Label;
 use text_base::pos::Pos;
 
@@ -10,6 +13,23 @@ pub enum Rule {
     While,
     Mtg,
     Sleep,
+}
+
+impl Rule {
+    /// Its name, as in a refusal and in a certificate.
+    pub fn name(self) -> &'static [u8]
+        ensures name { result.now ≡ rule_name self }
+        ensures short { length result.now ≤ 7 }
+    {
+        match self {
+            Rule::Skip => b"T-SKIP",
+            Rule::Asgn => b"T-ASGN",
+            Rule::If => b"T-IF",
+            Rule::While => b"T-WHILE",
+            Rule::Mtg => b"T-MTG",
+            Rule::Sleep => b"T-SLEEP",
+        }
+    }
 }
 
 /// Why a labelled program has no type.

@@ -9,11 +9,11 @@ use Rattle.tool_words.specs.WordsAsked.{Asked, audit}
 use Rattle.tool_texts.specs.declared.status.Status.{Status}
 use Rattle.tool_texts.specs.declared.status.Status.TheVariants.{Done}
 use Rattle.tool_stages.specs.Stages.{Observes, Types}
-use Rattle.tool_stages.specs.Content.{Content, IsKnown}
+use Rattle.tool_stages.specs.Content.{Content, IsKnown, AreKnown, NoneRises}
 use Rattle.tool_stages.specs.Goes.{IsTypable, CanBeAudited}
 use Rattle.tool_stages.proofs.OneLemmas.{one_typed}
 use Rattle.mit_tool.specs.Commands.{IsAnswer}
-use Rattle.mit_tool.specs.Complete.{AreKnown, NoneRises, CanBeDone}
+use Rattle.mit_tool.specs.Complete.{CanBeDone}
 use Rattle.mit_tool.specs.Once.{HasOneAnswer}
 use Rattle.tool_laws.proofs.Order.{low, two, two_order}
 use Rattle.tool_laws.specs.FirstAudit.{program_text, starts_text, observer, budget, audit_answer}
@@ -33,7 +33,7 @@ HoldsStarts c = c ≡ Some (Some starts_text)
 abbrev asked : List ℕ → List ℕ → Asked
 asked file starts = audit file starts (codes "L") Part budget
 
-known : (content : Content) (file starts : List ℕ) → HoldsProgram (content file) → HoldsStarts (content starts) → AreKnown content (asked file starts)
+known : (content : Content) (file starts : List ℕ) → HoldsProgram (content file) → HoldsStarts (content starts) → AreKnown content (file ∷ starts ∷ [])
 known content file starts h k =
     let P : List ℕ → Type 0 = λ name. IsKnown (content name) in
     All-cons P file (starts ∷ []) (subst IsKnown (sym h) tt) (All-cons P starts [] (subst IsKnown (sym k) tt) (All-nil P))
@@ -89,7 +89,7 @@ has_answer Rises content file starts h k =
     )
 
 pub has_one : HasOneAnswer → (content : Content) (before now : List ℕ → ℕ) (file starts : List ℕ) → HoldsProgram (content file) → HoldsStarts (content starts)
-    → NoneRises (λ name. Rose (before name) (now name)) (asked file starts)
+    → NoneRises (λ name. Rose (before name) (now name)) (file ∷ starts ∷ [])
     → (s : Status) (x : List ℕ) → IsAnswer (λ name. Rose (before name) (now name)) content (asked file starts) s x → (s ≡ Done) × (x ≡ audit_answer)
 has_one law content before now file starts h k n s x a =
     law content before now (asked file starts) s Done x audit_answer

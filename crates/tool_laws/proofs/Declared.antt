@@ -1,29 +1,27 @@
 -- Declarations of the two texts, cut into tokens.
 use Rattle.std.proofs.Common.{refl, ℕ, List, [], ◌∷◌, codes, arith}
-use Rattle.label_lattice.specs.Names.{keywords}
+use Rattle.label_lattice.specs.Names.{keywords, IsName}
 use Rattle.mit_syntax.specs.declared.token.TokenKind.TheVariants.{Key, Name, Sign as SignKind}
 use Rattle.mit_syntax.specs.declared.token.Keyword.TheVariants.{Var}
 use Rattle.mit_syntax.specs.declared.token.Sign.TheVariants.{Colon, Semicolon}
-use Rattle.mit_syntax.specs.Lexemes.{IsName}
 use Rattle.mit_syntax.specs.Cut.{Piece, white, lexeme, CutBefore}
 use Rattle.mit_syntax.proofs.ClosedPiece.{closed_piece}
-use Rattle.parse_laws.proofs.Looking.{lexed_name}
 
 pub name_h : IsName (codes "h")
 unfolding keywords
-name_h = lexed_name (codes "h") ((refl, tt), omega arith, refl)
+name_h = ((refl, tt), omega arith, refl)
 
 pub name_l : IsName (codes "l")
 unfolding keywords
-name_l = lexed_name (codes "l") ((refl, tt), omega arith, refl)
+name_l = ((refl, tt), omega arith, refl)
 
 pub label_h : IsName (codes "H")
 unfolding keywords
-label_h = lexed_name (codes "H") ((refl, tt), omega arith, refl)
+label_h = ((refl, tt), omega arith, refl)
 
 pub label_l : IsName (codes "L")
 unfolding keywords
-label_l = lexed_name (codes "L") ((refl, tt), omega arith, refl)
+label_l = ((refl, tt), omega arith, refl)
 
 -- `var NAME : LABEL;` as a line of its own, from the label on and whole
 abbrev labelled : List ℕ → List Piece → List Piece

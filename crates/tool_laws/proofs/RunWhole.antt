@@ -1,5 +1,5 @@
 -- The command, stage by stage.
-use Rattle.std.proofs.Common.{◌≡◌, ◌≤◌, ◌∙◌, refl, sym, ap, subst, ℕ, List, [], length, Option, None, Some, inr, arith}
+use Rattle.std.proofs.Common.{◌≡◌, ◌≤◌, ◌∙◌, refl, sym, ap, subst, ℕ, List, [], ◌∷◌, length, Option, None, Some, inr, arith}
 use Rattle.std.proofs.lemmas.List.Elements.{All-nil, All-cons}
 use Rattle.tim_base.specs.Faults.{Rose}
 use Rattle.tim_base.specs.Told.{IsTold}
@@ -13,11 +13,11 @@ use Rattle.tool_words.specs.WordsAsked.{run}
 use Rattle.tool_texts.specs.declared.status.Status.{Status}
 use Rattle.tool_texts.specs.declared.status.Status.TheVariants.{Done}
 use Rattle.tool_stages.specs.Stages.{Reads, Types}
-use Rattle.tool_stages.specs.Content.{Content, IsKnown}
+use Rattle.tool_stages.specs.Content.{Content, IsKnown, AreKnown}
 use Rattle.tool_stages.specs.Goes.{IsTypable, IsHalted, HaltsBy}
 use Rattle.mit_tool.specs.Answers.{HasRun, status_at}
 use Rattle.mit_tool.specs.Commands.{IsAnswer}
-use Rattle.mit_tool.specs.Complete.{AreKnown, CanBeDone}
+use Rattle.mit_tool.specs.Complete.{CanBeDone}
 use Rattle.mit_tool.specs.Once.{HasOneAnswer}
 use Rattle.tool_laws.specs.FirstRun.{first_text, first_answer}
 use Rattle.tool_laws.proofs.RunCut.{tokens, are_tokens}
@@ -60,14 +60,14 @@ halts q t h e =
 
 -- ---- the command
 
-known : (content : Content) (file : List ℕ) (t : ℕ) → HoldsText (content file) → AreKnown content (run file None Flat t None)
-known content file t h =
+known : (content : Content) (file : List ℕ) → HoldsText (content file) → AreKnown content (file ∷ [])
+known content file h =
     let P : List ℕ → Type 0 = λ name. IsKnown (content name) in
     All-cons P file [] (subst IsKnown (sym h) tt) (All-nil P)
 
 pub can_be_done : (content : Content) (file : List ℕ) (t : ℕ) → HoldsText (content file) → 3 ≤ t → CanBeDone content (run file None Flat t None)
 can_be_done content file t h k = record {
-  known = known content file t h;
+  known = known content file h;
   goes = (program, reads (content file) h, None, refl, (typable, λ q y. let f = short q y.program in (omega (arith, f), (zeros, refl, halts q t k y.program))));
 }
 
@@ -103,5 +103,5 @@ pub has_one : HasOneAnswer → (content : Content) (before now : List ℕ → �
 has_one law content before now file t h k n s x a =
     let P : List ℕ → Type 0 = λ name. Rose (before name) (now name) → ⊥ in
     law content before now (run file None Flat t None) s Done x first_answer
-    (known content file t h) (All-cons P file [] n (All-nil P))
+    (known content file h) (All-cons P file [] n (All-nil P))
     a (has_answer (λ name. Rose (before name) (now name)) content file t h k)

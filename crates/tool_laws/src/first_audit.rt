@@ -1,7 +1,7 @@
 //! A first audit: a program with one relevant mitigate, two starts, and what the theorem and the tool say of them. The
 //! laws do nothing at run time: their contracts say what is true.
 
-ghost use Rattle.std.specs.Prelude.{◌≡◌, ◌<◌, ◌⊎◌, ℕ, List, Option, Some, map, string_bytes, codes};
+ghost use Rattle.std.specs.Prelude.{◌≡◌, ◌<◌, ◌⊎◌, ◌∷◌, [], ℕ, List, Option, Some, map, string_bytes, codes};
 ghost use Rattle.std.specs.Io.KnownBytes.{Appends};
 ghost use Rattle.tim_base.specs.Faults.{Rose};
 ghost use Rattle.mit_syntax.specs.Program.{Syntax};
@@ -9,9 +9,9 @@ ghost use Rattle.made_laws.specs.MadeStarts.{IsMade};
 ghost use Rattle.tool_words.specs.declared.words.EnvName.TheVariants.{Part};
 ghost use Rattle.tool_words.specs.WordsAsked.{command_of, audit};
 ghost use Rattle.tool_texts.specs.Texts.{memory_line};
-ghost use Rattle.tool_stages.specs.Content.{Content};
+ghost use Rattle.tool_stages.specs.Content.{Content, NoneRises};
 ghost use Rattle.mit_tool.specs.Commands.{IsAnswer};
-ghost use Rattle.mit_tool.specs.Complete.{NoneRises, CanBeDone};
+ghost use Rattle.mit_tool.specs.Complete.{CanBeDone};
 ghost use Rattle.tool_laws.specs.FirstAudit.{program_text, starts_text, program_file, starts_file, budget, audit_words, audit_answer, IsMet};
 
 use made_laws::words::made_text_has_words;
@@ -52,7 +52,7 @@ pub fn first_audit_has_its_answer()
 pub fn first_audit_has_one_answer()
     ensures { (content : Content) (before now : List ℕ → ℕ) (file starts : List ℕ)
         → content file ≡ Some (Some program_text) → content starts ≡ Some (Some starts_text)
-        → NoneRises (λ name. Rose (before name) (now name)) (audit file starts (codes "L") Part budget)
+        → NoneRises (λ name. Rose (before name) (now name)) (file ∷ starts ∷ [])
         → (s : Status) (t : List ℕ) → IsAnswer (λ name. Rose (before name) (now name)) content (audit file starts (codes "L") Part budget) s t
         → (s ≡ Status.Done) × (t ≡ audit_answer) }
 {

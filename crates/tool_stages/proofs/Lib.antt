@@ -15,3 +15,4 @@ pub mod OneFirst
 pub mod AgreeLemmas
 pub mod ChainLemmas
 pub mod FetchLemmas
+pub mod AskedLemmas

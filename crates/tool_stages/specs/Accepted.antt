@@ -1,6 +1,7 @@
--- What is true of every accepted program.
+-- What is true of every accepted program, and what is told of it.
 use Rattle.std.specs.Prelude.{◌≡◌, ℕ, List, Option, Bool, true, false}
 use Rattle.env_contract.specs.Env.{Env}
+use Rattle.mit_syntax.specs.Plan.{count, mitigates}
 use Rattle.mit_syntax.specs.Program.{Syntax, plan_of}
 use Rattle.mit_syntax.specs.Valid.{IsValid}
 use Rattle.mit_parser.specs.Words.{Told}
@@ -13,6 +14,7 @@ use Rattle.history_bound.specs.Over.{AnyHistory}
 use Rattle.leak_bound.specs.Sound.{Sound, CutSound}
 use Rattle.tool_texts.specs.declared.status.Status.{Status}
 use Rattle.tool_texts.specs.declared.status.Status.TheVariants as status
+use Rattle.tool_texts.specs.Texts.{accepted_line}
 use Rattle.tool_words.specs.declared.words.EnvName.{EnvName}
 use Rattle.tool_stages.specs.Stages.{Reads, Types, Rechecks}
 use Rattle.tool_stages.specs.Envs.{environment}
@@ -55,6 +57,10 @@ pub record IsRechecked (content certificate : Option (Option (List ℕ))) : Type
   pub labelled : LabelledProgram
   pub rechecks : Rechecks certificate program labelled
   pub sound : IsSound labelled
+
+-- a program is accepted: how many commands and mitigates it has
+abbrev pub HasChecked : Syntax → Status → List ℕ → Type 0
+HasChecked p s t = (s ≡ status.Done) × (t ≡ accepted_line (count (plan_of p)) (mitigates (plan_of p)))
 
 -- a command that wants its program typed ends so past the typing alone; in each other status it may end before
 abbrev pub is_past_typing : Status → Bool

@@ -62,3 +62,8 @@ FileStops Rose content file _ t = ⊥
 abbrev pub named : Option (List ℕ) → List (List ℕ)
 named None = []
 named (Some file) = file ∷ []
+
+-- the files that words name: those that what they ask for names
+abbrev pub named_by : {Asked : Type 0} → (Asked → List (List ℕ)) → Option Asked → List (List ℕ)
+named_by files_of None = []
+named_by files_of (Some a) = files_of a

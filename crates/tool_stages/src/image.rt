@@ -24,7 +24,7 @@ pub fn image(alloc: Global, p: &Typed) -> Result<Image, Stop>
         Ok(image) => Ok(image),
         Err(LowerFault::TooLong(count)) => Err(Stop::With {
             status: Status::TooLong,
-            line: lines::number(b"too long: image ", count),
+            line: lines::too_long_image(count),
         }),
         Err(LowerFault::Memory) => Err(no_memory()),
     }

@@ -12,7 +12,7 @@ use Rattle.mit_parser.specs.declared.fault.ParseFault.TheVariants as parse
 use Rattle.start_file.specs.declared.fault.StartFault.{StartFault}
 use Rattle.start_file.specs.declared.fault.StartFault.TheVariants as start
 use Rattle.timing_types.specs.declared.rule.Rule.{Rule}
-use Rattle.timing_types.specs.declared.rule.Rule.TheVariants as rule
+use Rattle.timing_types.specs.Rules.{rule_name}
 use Rattle.mit_syntax.specs.declared.token.Token.{Token}
 use Rattle.mit_syntax.specs.declared.token.TokenKind.{TokenKind}
 use Rattle.mit_syntax.specs.declared.token.TokenKind.TheVariants.{Name as NameKind}
@@ -113,14 +113,6 @@ parse_fault_line name (parse.Lattice f) = lattice_fault_line name f
 parse_fault_line name parse.Memory = memory_line
 parse_fault_line name (parse.Size p) = at_line (codes "array size") p
 parse_fault_line name (parse.Misuse p) = at_line (codes "wrong use of a name") p
-
-abbrev pub rule_name : Rule → List ℕ
-rule_name rule.Skip = codes "T-SKIP"
-rule_name rule.Asgn = codes "T-ASGN"
-rule_name rule.If = codes "T-IF"
-rule_name rule.While = codes "T-WHILE"
-rule_name rule.Mtg = codes "T-MTG"
-rule_name rule.Sleep = codes "T-SLEEP"
 
 -- the rule whose condition is broken, where, and the two labels
 abbrev pub refused_line : Order → Rule → Pos → Label → Label → List ℕ

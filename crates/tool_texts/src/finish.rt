@@ -5,11 +5,11 @@ ghost use Rattle.std.specs.Io.KnownBytes.{Appends};
 ghost use Rattle.tim_base.specs.Faults.{Rose};
 ghost use Rattle.tim_base.specs.Logs.{HasSent, HasBroken};
 ghost use Rattle.tim_base.specs.Sinks.{AppendsPrefix};
-ghost use Rattle.tool_texts.specs.Texts.{usage_text};
+ghost use Rattle.tool_texts.specs.Texts.{usage_text, memory_line};
 ghost use Rattle.tool_texts.specs.Ends.{status_of, stop_text, told_status, told_text};
 
 use crate::status::Status;
-use crate::stop::Stop;
+use crate::stop::{Stop, no_memory};
 use tim_base::sink::{Sink, write_all};
 
 /// The usage text.
@@ -60,6 +60,18 @@ pub fn stop<W: Sink>(out: &mut W, stop: Stop) -> Status
         Stop::Usage => finish(out, usage(), Status::Usage),
         Stop::With { status, line } => finish(out, line.bytes(), status),
     }
+}
+
+/// Writes the line where memory was wanting and gives its status, or says that the write failed.
+pub fn stop_for_memory<W: Sink>(out: &mut W) -> Status
+    ensures told { result ≢ Status.WriteFault → (result ≡ Status.Memory) × Appends (W.taken out.old) (W.taken out.new) memory_line }
+    ensures prefix { result ≡ Status.WriteFault → AppendsPrefix (W.taken out.old) (W.taken out.new) memory_line }
+    ensures sent { result ≢ Status.WriteFault → HasSent (W.log out.old) (W.log out.new) (memory_line ∷ []) }
+    ensures broken { result ≡ Status.WriteFault → HasBroken (W.log out.old) (W.log out.new) (memory_line ∷ []) }
+    ensures fault { result ≡ Status.WriteFault → Rose (W.faults out.old) (W.faults out.new) }
+    ensures later { W.faults out.old ≤ W.faults out.new }
+{
+    stop(out, no_memory())
 }
 
 /// Writes the text of a command that is done, or the text of a stop, and gives its status, or says that the write

@@ -3,7 +3,9 @@
 ghost use Rattle.std.specs.Prelude.{◌≡◌, ◌+◌, ◌≤◌, ◌++◌, length, decimal, codes};
 ghost use Rattle.label_lattice.specs.Order.{name_of};
 ghost use Rattle.mit_syntax.specs.Cut.{AreTokens};
-ghost use Rattle.tool_texts.specs.Texts.{header_name, memory_line, number_line, pos_text, at_line, text_fault_line, labels_line, lattice_fault_line, parse_fault_line, rule_name, refused_line, run_line, start_fault_line, counted_line, accepted_line, rechecked_line, rejected_line};
+ghost use Rattle.tool_texts.specs.Texts.{header_name, memory_line, number_line, pos_text, at_line, text_fault_line};
+ghost use Rattle.tool_texts.specs.Texts.{labels_line, lattice_fault_line, parse_fault_line, refused_line, run_line};
+ghost use Rattle.tool_texts.specs.Texts.{start_fault_line, counted_line, accepted_line, rechecked_line, rejected_line};
 
 pub mod report;
 pub mod steps;
@@ -100,6 +102,13 @@ pub fn too_long(file: &[u8]) -> Line
     of_file(b"too long: ", file)
 }
 
+/// The line of an image that is too long, by its number of instructions.
+pub fn too_long_image(count: u64) -> Line
+    ensures { result ≡ number_line (codes "too long: image ") count }
+{
+    number(b"too long: image ", count)
+}
+
 /// Words, a number and the end of the line.
 pub fn number(words: &[u8], n: u64) -> Line
     requires { length words.now ≤ 64 }
@@ -188,27 +197,13 @@ pub fn parse_fault(text: &[u8], tokens: &[Token], fault: ParseFault) -> Line
     }
 }
 
-fn rule_name(rule: Rule) -> &'static [u8]
-    ensures name { result.now ≡ rule_name rule }
-    ensures short { length result.now ≤ 7 }
-{
-    match rule {
-        Rule::Skip => b"T-SKIP",
-        Rule::Asgn => b"T-ASGN",
-        Rule::If => b"T-IF",
-        Rule::While => b"T-WHILE",
-        Rule::Mtg => b"T-MTG",
-        Rule::Sleep => b"T-SLEEP",
-    }
-}
-
 /// The line of the first broken condition: its rule, where it is, and the label that does not flow to the other.
 pub fn refused(order: &Lattice, rule: Rule, pos: Pos, have: Label, allowed: Label) -> Line
     ensures { result ≡ refused_line order.now rule pos have allowed }
 {
     let mut line = Line::new();
     put(&mut line, b"refused ");
-    put(&mut line, rule_name(rule));
+    put(&mut line, rule.name());
     put(&mut line, b" at ");
     put_pos(&mut line, pos);
     put(&mut line, b": ");

@@ -7,10 +7,7 @@ ghost use Rattle.run_limits.specs.Cycles.{IsCycles};
 ghost use Rattle.tool_words.specs.WordsValues.{budget_named, env_named, number_in};
 
 use crate::words::{DEFAULT_BUDGET, EnvName};
-use run_limits::MAX_CYCLES;
-
-/// The most digits of a number.
-const MAX_DIGITS: usize = 20;
+use run_limits::{MAX_CYCLES, MAX_DIGITS};
 
 fn is_digits(text: &str) -> bool
     ensures { result ≡ list_all is_ascii_digit text.now }

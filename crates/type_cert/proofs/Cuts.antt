@@ -6,15 +6,16 @@ use Rattle.std.proofs.lemmas.List.{append_cancel_left, take-append-drop, take_al
 use Rattle.std.proofs.lemmas.Bool.{cases_lt}
 use Rattle.label_lattice.specs.declared.label.Label.{Label}
 use Rattle.label_lattice.specs.Order.{Order, IsOrder, name_of}
-use Rattle.label_lattice.specs.Names.{IsName}
-use Rattle.mit_syntax.specs.Lexemes.{is_name_byte, StopsAt, Each}
+use Rattle.label_lattice.specs.Names.{IsName, is_name_byte, Each}
+use Rattle.mit_syntax.specs.Lexemes.{StopsAt}
 use Rattle.mit_syntax.specs.Valid.{IsBelow}
-use Rattle.mit_syntax.proofs.LexBytes.{heads, tails, letter_in_name, front_passes, rest_stops}
+use Rattle.mit_syntax.proofs.LexBytes.{heads, tails, word_passes, front_passes, rest_stops}
 use Rattle.timing_types.specs.declared.rule.Rule.{Rule}
 use Rattle.type_cert.specs.declared.line.Line.{Line}
 use Rattle.type_cert.specs.declared.place.Act.{Act}
 use Rattle.type_cert.specs.declared.place.Act.TheVariants.{Skip, Assign, Sleep, If, While, Mitigate}
-use Rattle.type_cert.specs.Text.{named, level_text, head_text, tail_text, rule_name}
+use Rattle.timing_types.specs.Rules.{rule_name}
+use Rattle.type_cert.specs.Text.{named, level_text, head_text, tail_text}
 use Rattle.type_cert.specs.Demands.{HasLevel, rule_of}
 use Rattle.type_cert.specs.Reading.{ReadsLabel, ReadsLevel, ReadsLine, ReadsVariable}
 
@@ -31,13 +32,9 @@ same_names (a ∷ n) (b ∷ m) q r hn hm hq hr e =
     let k = same_names n m q r hn.1 hm.1 hq hr (tails a b (n ++ q) (m ++ r) e) in
     (ap (λ z. z ∷ n) (heads a b (n ++ q) (m ++ r) e) ∙ ap (λ z. b ∷ z) k.0, k.1)
 
-pub name_passes : (w : List ℕ) → IsName w → Each is_name_byte w
-name_passes [] h = absurd h.0
-name_passes (x ∷ w) h = (letter_in_name x h.0.0, h.0.1)
-
 module _ (o : Order) (ok : IsOrder o) where
   name_is : (l : Label) → l.number < o.size → Each is_name_byte (name_of o l.number)
-  name_is l h = let f = ok.named in name_passes (name_of o l.number) (ok.names l.number [] (omega (arith, h, f)))
+  name_is l h = let f = ok.named in word_passes (name_of o l.number) (ok.names l.number [] (omega (arith, h, f))).0
 
   one_number : (a b : ℕ) → a < o.size → b < o.size → name_of o a ≡ name_of o b → a ≡ b
   one_number a b ha hb e =

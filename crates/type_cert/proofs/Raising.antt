@@ -6,34 +6,15 @@ use Rattle.label_lattice.specs.Lattice.{Lattice, IsLattice}
 use Rattle.mit_syntax.specs.Todo.{Done, Skip, Assign, Put, Sleep, If, While, Mitigate}
 use Rattle.timing_types.specs.declared.rule.Rule.TheVariants.{Skip as RSkip, Asgn as RAsgn, If as RIf, While as RWhile, Mtg as RMtg, Sleep as RSleep}
 use Rattle.timing_types.specs.Typing.{label_of, index_label}
-use Rattle.timing_types.specs.Placed.{Placed, Tree}
+use Rattle.timing_types.specs.Placed.{Tree}
 use Rattle.timing_types.specs.Walk.{demand, put_index, after, loop_start, walk_end}
-use Rattle.timing_types.proofs.Joins.{idem, comm, assoc, absorbs}
-use Rattle.timing_types.proofs.Walk.{walk_moves, walk_grows}
+use Rattle.timing_types.proofs.Joins.{comm, absorbs}
+use Rattle.timing_types.proofs.Walk.{swap, twice, start_moves, loop_moves, demand_moves, walk_moves, walk_grows}
 use Rattle.type_cert.specs.declared.line.Line.{Line}
 use Rattle.type_cert.specs.Places.{label}
 use Rattle.type_cert.specs.Derived.{line_of, derived, raised}
 
 module _ (lat : Lattice) (ll : IsLattice lat) (g : ℕ → ℕ) where
-  swap : (t u a : ℕ) → lat.join (lat.join t u) a ≡ lat.join (lat.join t a) u
-  swap t u a = assoc lat ll t u a ∙ ap (lat.join t) (comm lat ll u a) ∙ sym (assoc lat ll t a u)
-
-  twice : (x y u : ℕ) → lat.join (lat.join x u) (lat.join y u) ≡ lat.join (lat.join x y) u
-  twice x y u =
-      assoc lat ll x u (lat.join y u) ∙ ap (lat.join x) (sym (assoc lat ll u y u) ∙ ap (λ z. lat.join z u) (comm lat ll u y) ∙ assoc lat ll y u u
-      ∙ ap (lat.join y) (idem lat ll u))
-      ∙ sym (assoc lat ll x y u)
-
-  start_moves : (t u l a : ℕ) → lat.join (lat.join (lat.join t u) l) a ≡ lat.join (lat.join (lat.join t l) a) u
-  start_moves t u l a = ap (λ z. lat.join z a) (swap t u l) ∙ swap (lat.join t l) u a
-
-  loop_moves : (t u l a : ℕ) → lat.join (lat.join l (lat.join t u)) a ≡ lat.join (lat.join (lat.join l t) a) u
-  loop_moves t u l a = ap (λ z. lat.join z a) (sym (assoc lat ll l t u)) ∙ swap (lat.join l t) u a
-
-  demand_moves : (pc t u : ℕ) (m : Placed) (l li x : ℕ) → lat.join x (demand lat pc (lat.join t u) m l li) ≡ lat.join (lat.join x (demand lat pc t m l li)) u
-  demand_moves pc t u m l li x =
-      ap (lat.join x) (loop_moves t u (lat.join (lat.join l li) pc) m.marks.er) ∙ sym (assoc lat ll x (demand lat pc t m l li) u)
-
   abbrev D : Tree → ℕ → ℕ → List Line
   D p pc t = derived lat g p pc t
 
@@ -47,19 +28,19 @@ module _ (lat : Lattice) (ll : IsLattice lat) (g : ℕ → ℕ) where
   lines_move Done pc t u = refl
   lines_move (Skip m p) pc t u =
       let end = lat.join t m.marks.er in
-      ap (λ z. line_of RSkip pc (lat.join t u) m z None ∷ D p pc z) (swap t u m.marks.er)
+      ap (λ z. line_of RSkip pc (lat.join t u) m z None ∷ D p pc z) (swap lat ll g t u m.marks.er)
       ∙ ap (λ z. line_of RSkip pc (lat.join t u) m (lat.join end u) None ∷ z) (lines_move p pc end u)
   lines_move (Assign m x e p) pc t u =
       let end = lat.join (g x) (demand lat pc t m (label_of lat g e) (index_label lat g e)) in
-      ap (λ z. line_of RAsgn pc (lat.join t u) m z None ∷ D p pc z) (demand_moves pc t u m (label_of lat g e) (index_label lat g e) (g x))
+      ap (λ z. line_of RAsgn pc (lat.join t u) m z None ∷ D p pc z) (demand_moves lat ll g pc t u m (label_of lat g e) (index_label lat g e) (g x))
       ∙ ap (λ z. line_of RAsgn pc (lat.join t u) m (lat.join end u) None ∷ z) (lines_move p pc end u)
   lines_move (Put m f n i e p) pc t u =
       let end = lat.join (g f) (demand lat pc t m (label_of lat g e) (put_index lat g i e)) in
-      ap (λ z. line_of RAsgn pc (lat.join t u) m z None ∷ D p pc z) (demand_moves pc t u m (label_of lat g e) (put_index lat g i e) (g f))
+      ap (λ z. line_of RAsgn pc (lat.join t u) m z None ∷ D p pc z) (demand_moves lat ll g pc t u m (label_of lat g e) (put_index lat g i e) (g f))
       ∙ ap (λ z. line_of RAsgn pc (lat.join t u) m (lat.join end u) None ∷ z) (lines_move p pc end u)
   lines_move (Sleep m e p) pc t u =
       let end = after lat g t m e in
-      ap (λ z. line_of RSleep pc (lat.join t u) m z None ∷ D p pc z) (start_moves t u (label_of lat g e) m.marks.er)
+      ap (λ z. line_of RSleep pc (lat.join t u) m z None ∷ D p pc z) (start_moves lat ll g t u (label_of lat g e) m.marks.er)
       ∙ ap (λ z. line_of RSleep pc (lat.join t u) m (lat.join end u) None ∷ z) (lines_move p pc end u)
   lines_move (If m e a b p) pc t u =
       let inner = lat.join pc (label_of lat g e) in
@@ -73,10 +54,10 @@ module _ (lat : Lattice) (ll : IsLattice lat) (g : ℕ → ℕ) where
       let A = D a inner start in
       let B = D b inner start in
       let C = D p pc end in
-      ap (λ z. F z (lat.join (W a inner z) (W b inner z))) (start_moves t u (label_of lat g e) m.marks.er)
+      ap (λ z. F z (lat.join (W a inner z) (W b inner z))) (start_moves lat ll g t u (label_of lat g e) m.marks.er)
       ∙ ap (λ z. F up (lat.join z (W b inner up))) (walk_moves lat ll g a inner start u)
       ∙ ap (λ z. F up (lat.join (lat.join wa u) z)) (walk_moves lat ll g b inner start u)
-      ∙ ap (λ z. F up z) (twice wa wb u)
+      ∙ ap (λ z. F up z) (twice lat ll g wa wb u)
       ∙ ap (λ z. own ∷ (z ++ (D b inner up ++ D p pc (lat.join end u)))) (lines_move a inner start u)
       ∙ ap (λ z. own ∷ (M u A ++ (z ++ D p pc (lat.join end u)))) (lines_move b inner start u)
       ∙ ap (λ z. own ∷ (M u A ++ (M u B ++ z))) (lines_move p pc end u)
@@ -87,7 +68,7 @@ module _ (lat : Lattice) (ll : IsLattice lat) (g : ℕ → ℕ) where
       let end = W c inner start in
       let F : ℕ → List Line = λ z. line_of RWhile pc (lat.join t u) m z None ∷ (D c inner z ++ D p pc z) in
       let own = line_of RWhile pc (lat.join t u) m (lat.join end u) None in
-      ap (λ z. F (W c inner z)) (loop_moves t u (label_of lat g e) m.marks.er)
+      ap (λ z. F (W c inner z)) (loop_moves lat ll g t u (label_of lat g e) m.marks.er)
       ∙ ap F (walk_moves lat ll g c inner start u)
       ∙ ap (λ z. own ∷ (z ++ D p pc (lat.join end u))) (lines_move c inner end u)
       ∙ ap (λ z. own ∷ (M u (D c inner end) ++ z)) (lines_move p pc end u)
@@ -96,7 +77,7 @@ module _ (lat : Lattice) (ll : IsLattice lat) (g : ℕ → ℕ) where
       let start = after lat g t m e in
       let F : ℕ → List Line = λ z. line_of RMtg pc (lat.join t u) m z (Some (label l.label)) ∷ (D c pc z ++ D p pc z) in
       let own = line_of RMtg pc (lat.join t u) m (lat.join start u) (Some (label l.label)) in
-      ap F (start_moves t u (label_of lat g e) m.marks.er)
+      ap F (start_moves lat ll g t u (label_of lat g e) m.marks.er)
       ∙ ap (λ z. own ∷ (z ++ D p pc (lat.join start u))) (lines_move c pc start u)
       ∙ ap (λ z. own ∷ (M u (D c pc start) ++ z)) (lines_move p pc start u)
       ∙ ap (λ z. own ∷ z) (sym (map-append (raised lat u) (D c pc start) (D p pc start)))

@@ -1,8 +1,9 @@
 -- What is read at the front of a text, and what follows it.
 use Rattle.std.specs.Prelude.{◌≡◌, ℕ, ◌<◌, List, ◌++◌, Option}
 use Rattle.label_lattice.specs.declared.label.Label.{Label}
+use Rattle.label_lattice.specs.Names.{is_name_byte}
 use Rattle.label_lattice.specs.Order.{Order}
-use Rattle.mit_syntax.specs.Lexemes.{is_name_byte, StopsAt}
+use Rattle.mit_syntax.specs.Lexemes.{StopsAt}
 use Rattle.mit_syntax.specs.Valid.{IsBelow}
 use Rattle.type_cert.specs.declared.line.Line.{Line}
 use Rattle.type_cert.specs.declared.place.Act.{Act}

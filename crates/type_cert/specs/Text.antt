@@ -4,16 +4,8 @@ use Rattle.label_lattice.specs.declared.label.Label.{Label}
 use Rattle.label_lattice.specs.Order.{Order, name_of}
 use Rattle.mit_syntax.specs.Declarations.{Declaration}
 use Rattle.timing_types.specs.declared.rule.Rule.{Rule}
-use Rattle.timing_types.specs.declared.rule.Rule.TheVariants.{Skip, Asgn, If, While, Mtg, Sleep}
+use Rattle.timing_types.specs.Rules.{rule_name}
 use Rattle.type_cert.specs.declared.line.Line.{Line}
-
-abbrev pub rule_name : Rule → List ℕ
-rule_name Skip = codes "T-SKIP"
-rule_name Asgn = codes "T-ASGN"
-rule_name If = codes "T-IF"
-rule_name While = codes "T-WHILE"
-rule_name Mtg = codes "T-MTG"
-rule_name Sleep = codes "T-SLEEP"
 
 -- words, and the name of a label
 abbrev pub named : Order → List ℕ → Label → List ℕ

@@ -1,6 +1,7 @@
 //! What is true of certificates, as contracts of functions that do nothing.
 
-ghost use Rattle.type_cert.specs.Laws.{CertificatesAreDerivations, HeldLabellingTypes, HoldsOneLabelling, DerivedTextsAreCertificates, CertificatesHaveNoWrongLine, HasOneFirstWrong};
+ghost use Rattle.type_cert.specs.Laws.{CertificatesAreDerivations, HeldLabellingTypes, HoldsOneLabelling};
+ghost use Rattle.type_cert.specs.Laws.{DerivedTextsAreCertificates, CertificatesHaveNoWrongLine, HasOneFirstWrong};
 
 /// A program has a certificate exactly where some labelling types it.
 pub fn certificates_are_derivations()

@@ -11,7 +11,6 @@ ghost use Rattle.type_cert.specs.Reading.{ReadsLabel, ReadsLevel, ReadsLine, Rea
 
 use crate::line::Line;
 use crate::place::Act;
-use crate::write::rule_name;
 use itoa::Buffer;
 use label_lattice::label::Label;
 use label_lattice::lattice::Lattice;
@@ -106,7 +105,7 @@ fn head<'a>(text: &'a [u8], number: usize, rule: Rule) -> Option<&'a [u8]>
     let mut buffer = Buffer::new();
     let rest = after(text, buffer.format(number).as_bytes())?;
     let rest = after(rest, b" ")?;
-    let rest = after(rest, rule_name(rule))?;
+    let rest = after(rest, rule.name())?;
     Some(rest)
 }
 

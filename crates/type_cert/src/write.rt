@@ -2,7 +2,7 @@
 
 ghost use Rattle.std.specs.Prelude.{◌≡◌, ◌<◌, ◌++◌, codes, OnOk, None};
 ghost use Rattle.mit_syntax.specs.Valid.{IsBelow};
-ghost use Rattle.type_cert.specs.Text.{rule_name, named, level_text, head_text, tail_text, line_text, variable_text};
+ghost use Rattle.type_cert.specs.Text.{named, level_text, head_text, tail_text, line_text, variable_text};
 ghost use Rattle.type_cert.specs.Demands.{HasLabels};
 
 use crate::line::Line;
@@ -12,20 +12,6 @@ use label_lattice::lattice::Lattice;
 use label_lattice::name::Name;
 use std::alloc::AllocError;
 use timing_types::rule::Rule;
-
-/// The name of a rule.
-pub(crate) fn rule_name(rule: Rule) -> &'static [u8]
-    ensures { result.now ≡ rule_name rule }
-{
-    match rule {
-        Rule::Skip => b"T-SKIP".as_slice(),
-        Rule::Asgn => b"T-ASGN".as_slice(),
-        Rule::If => b"T-IF".as_slice(),
-        Rule::While => b"T-WHILE".as_slice(),
-        Rule::Mtg => b"T-MTG".as_slice(),
-        Rule::Sleep => b"T-SLEEP".as_slice(),
-    }
-}
 
 fn put_named(
     out: &mut Vec<u8>,
@@ -59,7 +45,7 @@ fn put_head(out: &mut Vec<u8>, number: usize, rule: Rule) -> Result<(), AllocErr
     let mut buffer = Buffer::new();
     out.extend_from_slice(buffer.format(number).as_bytes())?;
     out.push(b' ')?;
-    out.extend_from_slice(rule_name(rule))?;
+    out.extend_from_slice(rule.name())?;
     Ok(())
 }
 

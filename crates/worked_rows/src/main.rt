@@ -11,7 +11,7 @@ mod line;
 mod row;
 mod text;
 #[cfg(test)]
-mod words;
+mod words_tests;
 
 // The tables, in the order in which they are run.
 const TABLES: [&str; 23] = [

@@ -90,7 +90,7 @@ fn cut_stop(p: &Program, fault: CutFault) -> Stop
         },
         CutFault::TooMuch { count } => Stop::With {
             status: Status::TooLong,
-            line: lines::number(b"too long: events ", count),
+            line: lines::report::too_long_events(count),
         },
         CutFault::Memory => no_memory(),
     }

@@ -14,6 +14,7 @@ ghost use Rattle.mit_tool.specs.Answers.{HasGenerated, made_content};
 
 use crate::commands::audit::audit_after;
 use mit_gen::made::{Made, make};
+use run_limits::MAX_CYCLES;
 use run_watch::Watch;
 use std::alloc::{AllocError, Global};
 use tool_stages::compiled::compile_program;
@@ -29,7 +30,7 @@ use tool_words::words::EnvName;
 /// The environment and the budget of the audit of a made program.
 const SETTING: Setting = Setting {
     env: EnvName::Part,
-    budget: 1 << 40,
+    budget: MAX_CYCLES,
 };
 
 // What the audit of a made program begins with.

@@ -16,7 +16,7 @@ use std::alloc::Global;
 use tim_base::shelf::Shelf;
 use tim_base::sink::Sink;
 use tool_stages::started::source;
-use tool_texts::finish::{finish, stop};
+use tool_texts::finish::{finish, stop, stop_for_memory};
 use tool_texts::status::Status;
 
 /// Takes at most so many steps of the program of a file, from the first start of another one or from zeros.
@@ -44,7 +44,7 @@ pub fn meaning<S: Shelf, W: Sink>(
     };
     match walk(alloc, &program, start.memory.as_slice(), steps, out) {
         Ok(line) => finish(out, line.bytes(), Status::Done),
-        Err(WalkFault::Memory) => finish(out, b"memory\n", Status::Memory),
+        Err(WalkFault::Memory) => stop_for_memory(out),
         Err(WalkFault::Sink) => Status::WriteFault,
     }
 }

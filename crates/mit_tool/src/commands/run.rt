@@ -30,7 +30,7 @@ use tool_stages::in_env;
 use tool_stages::laws::named_tell_as_histories;
 use tool_stages::setting::Setting;
 use tool_stages::started::ready;
-use tool_texts::finish::{finish, stop};
+use tool_texts::finish::{stop, stop_for_memory};
 use tool_texts::status::Status;
 
 // Runs a program in the environment that a maker makes.
@@ -62,10 +62,10 @@ fn run_in<E: MachineEnv + Drop, M: MakeEnv<E>, W: Sink>(
     source.laws();
     let lattice = source.lattice();
     let Ok(env) = maker.make(alloc, lattice, start.touches.as_slice()) else {
-        return finish(out, b"memory\n", Status::Memory);
+        return stop_for_memory(out);
     };
     let Ok(mut machine) = Machine::load(alloc, image, start.memory, env) else {
-        return finish(out, b"memory\n", Status::Memory);
+        return stop_for_memory(out);
     };
     match print_run(&mut machine, typed, *observer, budget, out) {
         Ok(RunEnd::Halted(_)) => Status::Done,

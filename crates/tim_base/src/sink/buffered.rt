@@ -1,4 +1,5 @@
-ghost use Rattle.std.specs.Prelude.{◌≡◌, ℕ, ◌+◌, ◌-◌, ◌++◌, ◌<◌, Ok, is_err, false, ◌≤◌, List, [], length, drop, vec_len, vec_capacity, IfOk, IfErr, OnOk, OnErr, None, Option};
+ghost use Rattle.std.specs.Prelude.{◌≡◌, ℕ, ◌+◌, ◌-◌, ◌++◌, ◌<◌, Ok, is_err, false, ◌≤◌, List};
+ghost use Rattle.std.specs.Prelude.{[], length, drop, vec_len, vec_capacity, IfOk, IfErr, OnOk, OnErr, None, Option};
 ghost use Rattle.std.specs.Io.KnownBytes.{Keeps, WriteAppends, append_known};
 ghost use Rattle.tim_base.specs.Faults.{Rose};
 ghost use Rattle.tim_base.specs.Sinks.{Grew, Waits};

@@ -4,7 +4,8 @@ ghost use Rattle.std.specs.Prelude.{◌≡◌, ◌+◌, ◌≤◌, ◌++◌, len
 ghost use Rattle.mit_syntax.specs.Declarations.{cell_at};
 ghost use Rattle.event_print.specs.Text.{cell_text, cycle_text};
 ghost use Rattle.black_box.specs.Outcomes.{seen};
-ghost use Rattle.tool_texts.specs.Reports.{label_line, bound_line, class_line, place_name, disagree_line, unfinished_line, release_line, run_text, ready_fault_line, made_line};
+ghost use Rattle.tool_texts.specs.Reports.{label_line, bound_line, class_line, place_name, disagree_line};
+ghost use Rattle.tool_texts.specs.Reports.{unfinished_line, events_line, release_line, run_text, ready_fault_line, made_line};
 
 use super::{memory, number, put, put_label, put_number, words};
 use black_box::fault::ReadyFault;
@@ -135,6 +136,13 @@ pub fn unfinished(run: u32, cycle: u64) -> Line
     put_number(&mut line, run as u64);
     put_cycle(&mut line, cycle);
     line
+}
+
+/// The line of an audit whose runs show too many assignments, by their number.
+pub fn too_long_events(count: u64) -> Line
+    ensures { result ≡ events_line count }
+{
+    number(b"too long: events ", count)
 }
 
 /// The line of the release of an event of a run.

@@ -17,4 +17,4 @@ returns-in-Unfinished c = λ e t q l ss is h.
 
 pub returns-in-TooMuch : goal.returns-in-TooMuch
 returns-in-TooMuch c = λ e t q l ss is h.
-    (c.in-TooMuch.count, subst (AuditFaultsIn e q l.number t ss) c.in-TooMuch.is h, c.number.ensures)
+    (c.in-TooMuch.count, subst (AuditFaultsIn e q l.number t ss) c.in-TooMuch.is h, c.too_long_events.ensures)

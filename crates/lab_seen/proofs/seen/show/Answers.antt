@@ -31,7 +31,8 @@ returns-in-Err-Memory-clause-answered g c =
     (g.S.Shelf.content c.args.shelf.now) c.args.file.now c.args.starts.now c.args.observer.now
     c.args.setting.env c.args.setting.budget p.compiled.typed.labelled p.observer p.compiled.image (map seen p.starts.items) c.in-Ok.ensures.ok
     (g.W.Sink.taken c.args.out.now) (g.W.Sink.taken c.write_lines.new.out)
-    (g.W.Sink.taken c.finish.new.out) c.finish.result (c.write_lines.ensures.some (cc)) c.finish.ensures.told c.finish.ensures.prefix
+    (g.W.Sink.taken c.stop_for_memory.new.out) c.stop_for_memory.result (c.write_lines.ensures.some (cc))
+    c.stop_for_memory.ensures.told c.stop_for_memory.ensures.prefix
 
 pub returns-clause-answered : goal.returns-clause-answered
 returns-clause-answered g c =
@@ -57,7 +58,7 @@ returns-in-Ok-write_lines-clause-fetched g c =
 pub returns-in-Err-Memory-clause-fetched : goal.returns-in-Err-Memory-clause-fetched
 returns-in-Err-Memory-clause-fetched g c =
     fetched_by {A = Unit {0}} (c.args.file.now ∷ c.args.starts.now ∷ []) (g.S.Shelf.log c.args.shelf.now) (g.S.Shelf.log c.prepare.new.shelf)
-    Memory c.finish.result (Ok tt) (λ e. absurd cc) c.in-Ok.ensures.log (λ n. (c.finish.ensures.told n).0)
+    Memory c.stop_for_memory.result (Ok tt) (λ e. absurd cc) c.in-Ok.ensures.log (λ n. (c.stop_for_memory.ensures.told n).0)
 
 pub returns-clause-fetched : goal.returns-clause-fetched
 returns-clause-fetched g c =

@@ -46,7 +46,9 @@ returns-in-Err-clause-prefix g c = λ e.
     (from_here c.as_slice-starts.result.now items c.loop-i.i x same lt c.index-starts-i.is) (g.W.Sink.taken c.args.out.now) (g.W.Sink.taken c.loop-i.out)
     (g.W.Sink.taken c.run_line.new.out) c.loop-i.invariant.written
     (subst (λ (z : Told). AppendsPrefix (g.W.Sink.taken c.loop-i.out) (g.W.Sink.taken c.run_line.new.out)
-    (line_text q c.args.p.now.observer (c.loop-i.i + 1) z)) (named_told g.E.MachineEnv.env g.M.MakeEnv.made c.args.setting.env g.M.NamedEnv.name c.requires.named q c.args.p.now.compiled.image
+    (line_text q c.args.p.now.observer (c.loop-i.i + 1) z))
+    (named_told g.E.MachineEnv.env g.M.MakeEnv.made c.args.setting.env g.M.NamedEnv.name c.requires.named q
+    c.args.p.now.compiled.image
     c.laws.ensures.shaped c.named_tell_as_histories.ensures.runs c.requires.fit.image (seen x) fits c.args.setting.budget) (c.in-Err.ensures.prefix e))
 
 pub loop-i-preserved : goal.loop-i-preserved
@@ -64,7 +66,9 @@ loop-i-preserved g c =
           (from_here c.as_slice-starts.result.now items c.loop-i.i x same lt c.index-starts-i.is) (g.W.Sink.taken c.args.out.now) (g.W.Sink.taken c.loop-i.out)
           (g.W.Sink.taken c.run_line.new.out) c.loop-i.invariant.written
           (subst (λ (z : Told). Appends (g.W.Sink.taken c.loop-i.out) (g.W.Sink.taken c.run_line.new.out)
-          (line_text q c.args.p.now.observer (c.loop-i.i + 1) z)) (named_told g.E.MachineEnv.env g.M.MakeEnv.made c.args.setting.env g.M.NamedEnv.name c.requires.named q c.args.p.now.compiled.image
+          (line_text q c.args.p.now.observer (c.loop-i.i + 1) z))
+          (named_told g.E.MachineEnv.env g.M.MakeEnv.made c.args.setting.env g.M.NamedEnv.name c.requires.named q
+          c.args.p.now.compiled.image
           c.laws.ensures.shaped c.named_tell_as_histories.ensures.runs c.requires.fit.image (seen x) fits c.args.setting.budget) c.in-Ok.ensures.text);
       later = up_to _ _ _ c.loop-i.invariant.later c.run_line.ensures.later;
     }

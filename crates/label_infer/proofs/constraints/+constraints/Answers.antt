@@ -3,7 +3,7 @@ use Rattle.mit_syntax.specs.Expression.{expression_of}
 use Rattle.mit_syntax.specs.Plan.{Written, form_plan, command_plan, list_plan}
 use Rattle.timing_types.proofs.Parts.{if_parts, while_parts, mitigate_parts}
 use Rattle.label_infer.specs.LeftSideOf.{left_side_of}
-use Rattle.label_infer.specs.Known.{end_of, constraints_in}
+use Rattle.label_infer.specs.ConstraintsOf.{end_of, constraints_in}
 use Rattle.label_infer.proofs.Joined.{if_ok, assign_end, put_end, if_end, while_end, assign_constraints, put_constraints, if_constraints, while_constraints}
 use Rattle.label_infer.proofs.Joined.{mitigate_constraints}
 use Rattle.label_infer.proofs.constraints.+constraints.Goals as goal
@@ -16,7 +16,8 @@ command_constraints-returns-in_ok-constrain_variable-in-Assign-clause-end t c =
     (command_plan c.args.c.now rest) rest
     (left_side_of c.in_ok-have-in-Assign.have) (left_side_of f) (ap (λ z. form_plan z w rest) c.in-Assign.is) c.in_ok-have-in-Assign.ensures h) c.next.ensures
 
-pub command_constraints-returns-in_ok-constrain_variable-in-Assign-clause-constraints : goal.command_constraints-returns-in_ok-constrain_variable-in-Assign-clause-constraints
+pub command_constraints-returns-in_ok-constrain_variable-in-Assign-clause-constraints :
+    goal.command_constraints-returns-in_ok-constrain_variable-in-Assign-clause-constraints
 command_constraints-returns-in_ok-constrain_variable-in-Assign-clause-constraints t c =
     let w : Written = record { pos = c.args.c.now.pos; labels = c.args.c.now.labels } in
     if_ok c.next.result (λ f h rest.
@@ -33,7 +34,8 @@ command_constraints-returns-in_ok-constrain_variable-in-Put-clause-end t c =
     (expression_of c.in-Put.value) (command_plan c.args.c.now rest) rest
     (left_side_of c.in_ok-have-in-Put.have) (left_side_of f) (ap (λ z. form_plan z w rest) c.in-Put.is) c.in_ok-have-in-Put.ensures h) c.next-in-Put.ensures
 
-pub command_constraints-returns-in_ok-constrain_variable-in-Put-clause-constraints : goal.command_constraints-returns-in_ok-constrain_variable-in-Put-clause-constraints
+pub command_constraints-returns-in_ok-constrain_variable-in-Put-clause-constraints :
+    goal.command_constraints-returns-in_ok-constrain_variable-in-Put-clause-constraints
 command_constraints-returns-in_ok-constrain_variable-in-Put-clause-constraints t c =
     let w : Written = record { pos = c.args.c.now.pos; labels = c.args.c.now.labels } in
     if_ok c.next-in-Put.result (λ f h rest.
@@ -95,7 +97,8 @@ command_constraints-returns-in_ok-_end-in-While-clause-constraints t c =
     q c.in_ok-inside-in-While.ensures c.in_ok-start-in-While.ensures (c.in_ok-stay-in-While.ensures ∙ ap (λ z. end_of k (list_plan z) inner start) same)
     c.in_ok-_end-in-While.ensures.constraints
 
-pub command_constraints-returns-in_ok-constrain_level-in-Mitigate-clause-constraints : goal.command_constraints-returns-in_ok-constrain_level-in-Mitigate-clause-constraints
+pub command_constraints-returns-in_ok-constrain_level-in-Mitigate-clause-constraints :
+    goal.command_constraints-returns-in_ok-constrain_level-in-Mitigate-clause-constraints
 command_constraints-returns-in_ok-constrain_level-in-Mitigate-clause-constraints t c =
     let w : Written = record { pos = c.args.c.now.pos; labels = c.args.c.now.labels } in
     λ rest.

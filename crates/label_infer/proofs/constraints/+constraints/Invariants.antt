@@ -1,7 +1,7 @@
 use Rattle.std.proofs.Common.{◌≡◌, ◌++◌, drop}
 use Rattle.mit_syntax.specs.Plan.{list_plan}
 use Rattle.label_infer.specs.LeftSideOf.{left_side_of}
-use Rattle.label_infer.specs.Known.{end_of, constraints_from, constraints_in}
+use Rattle.label_infer.specs.ConstraintsOf.{end_of, constraints_from, constraints_in}
 use Rattle.label_infer.proofs.constraints.+constraints.Given as goal
 
 abbrev pub invariant-list_constraints-loop-c : goal.invariant-list_constraints-loop-c

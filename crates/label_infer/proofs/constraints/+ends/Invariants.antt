@@ -1,7 +1,7 @@
 use Rattle.std.proofs.Common.{◌≡◌, drop}
 use Rattle.mit_syntax.specs.Plan.{list_plan}
 use Rattle.label_infer.specs.LeftSideOf.{left_side_of}
-use Rattle.label_infer.specs.Known.{end_of}
+use Rattle.label_infer.specs.ConstraintsOf.{end_of}
 use Rattle.label_infer.proofs.constraints.+ends.Given as goal
 
 abbrev pub invariant-list_end-loop-c : goal.invariant-list_end-loop-c

@@ -1,8 +1,8 @@
 use Rattle.std.proofs.Common.{ℕ, ap, ◌∙◌}
 use Rattle.std.specs.Prelude.{Bool}
 use Rattle.label_infer.specs.Sets.{has_of}
-use Rattle.label_infer.specs.Forms.{LeftSide}
-use Rattle.label_infer.specs.Known.{lat_of}
+use Rattle.label_infer.specs.Constraints.{LeftSide}
+use Rattle.label_infer.specs.ConstraintsOf.{lat_of}
 use Rattle.label_infer.proofs.left_side.both.Goals as goal
 
 pub returns : goal.returns

@@ -1,8 +1,8 @@
 use Rattle.std.proofs.Common.{refl, ap, ◌∙◌}
 use Rattle.mit_syntax.specs.Expression.{expression_of}
 use Rattle.label_infer.specs.LeftSideOf.{left_side_of}
-use Rattle.label_infer.specs.Forms.{both, label_form, index_form}
-use Rattle.label_infer.specs.Known.{lat_of, free_of, written_of, own_of, here_of}
+use Rattle.label_infer.specs.Constraints.{both, label_form, index_form}
+use Rattle.label_infer.specs.ConstraintsOf.{lat_of, free_of, written_of, own_of, here_of}
 use Rattle.label_infer.proofs.Joined.{if_ok, both_is}
 use Rattle.label_infer.proofs.left_sides.after.Goals as goal
 

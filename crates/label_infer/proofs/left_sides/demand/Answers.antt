@@ -1,7 +1,7 @@
 use Rattle.std.proofs.Common.{refl, ap, ◌∙◌}
 use Rattle.label_infer.specs.LeftSideOf.{left_side_of}
-use Rattle.label_infer.specs.Forms.{both}
-use Rattle.label_infer.specs.Known.{lat_of, own_of}
+use Rattle.label_infer.specs.Constraints.{both}
+use Rattle.label_infer.specs.ConstraintsOf.{lat_of, own_of}
 use Rattle.label_infer.proofs.Joined.{if_ok, both_is}
 use Rattle.label_infer.proofs.left_sides.demand.Goals as goal
 

@@ -1,5 +1,5 @@
 use Rattle.std.proofs.Common.{◌≡◌, ℕ, ◌<◌, true, get_or}
-use Rattle.mit_syntax.specs.Lexemes.{is_name_byte}
+use Rattle.label_lattice.specs.Names.{is_name_byte}
 use Rattle.mit_syntax.proofs.lexeme.name_len.Given as goal
 
 abbrev pub invariant-loop-i : goal.invariant-loop-i

@@ -1,6 +1,7 @@
 use Rattle.std.proofs.Common.{◌≡◌, ◌≤◌, drop}
 use Rattle.std.specs.Char.{is_ascii_digit}
-use Rattle.mit_syntax.specs.Lexemes.{Each, value, value_after}
+use Rattle.label_lattice.specs.Names.{Each}
+use Rattle.mit_syntax.specs.Lexemes.{value, value_after}
 use Rattle.mit_syntax.proofs.lexeme.number_of.Given as goal
 
 abbrev pub invariant-loop-b : goal.invariant-loop-b

@@ -34,6 +34,6 @@ returns c =
     let f = word_front c.args.text.now c.name_len-n.result c.requires.some c.requires.letter e.within e.before e.stops in
     token_of c.args.text.now _ _ e.within (
       f.0,
-      c.in_default.ensures,
       rw (front_size c.args.text.now c.name_len-n.result e.within) (short c.if-is_too_long.false c.is_too_long.ensures),
+      c.in_default.ensures,
     ) f.1

@@ -6,15 +6,18 @@ use Rattle.tool_texts.specs.declared.status.Status.TheVariants.{Done, Usage, Mem
 use Rattle.tool_texts.specs.Texts.{usage_text, memory_line}
 use Rattle.tool_texts.specs.Ends.{EndsBy, Nothing}
 use Rattle.mit_tool.specs.Answers.{IsUsage}
-use Rattle.mit_tool.specs.Commands.{IsAnswer, Before, HeldIsSound, AreWithin}
-use Rattle.mit_tool.specs.Complete.{CanBeDone, NoneRises}
+use Rattle.mit_tool.specs.Commands.{files_of, IsAnswer, Before, HeldIsSound, AreWithin}
+use Rattle.mit_tool.specs.Complete.{CanBeDone}
 use Rattle.tool_texts.proofs.EndLemmas.{ends_finish, ends_memory}
-use Rattle.mit_tool.proofs.AskedLemmas.{any_some, asked_some, ends_past, ends_rechecked, ends_held, completes}
+use Rattle.mit_tool.proofs.AskedLemmas.{ends_past, ends_rechecked, ends_held, completes}
 use Rattle.mit_tool.proofs.CommandLemmas.{nothing_before, memory_pieces, within}
 use Rattle.mit_tool.specs.Held.{EndsByOne, told_all}
+use Rattle.tool_stages.specs.Content.{NoneRises}
+use Rattle.tool_stages.specs.Fetches.{named_by}
+use Rattle.tool_stages.proofs.AskedLemmas.{any_some, asked_some}
 use Rattle.tool_stages.proofs.FetchLemmas.{fetched_nothing, never_read}
 use Rattle.mit_tool.proofs.LoggedLemmas.{one_piece}
-use Rattle.mit_tool.specs.Logged.{ArePieces, named_by}
+use Rattle.mit_tool.specs.Logged.{ArePieces}
 use Rattle.mit_tool.proofs.main_call.mitigate_main.Goals as goal
 
 pub returns-in-Err-Usage-clause-usage : goal.returns-in-Err-Usage-clause-usage
@@ -29,21 +32,22 @@ returns-in-Err-Memory-clause-answered g c =
     let content = g.S.Shelf.content c.args.shelf.now in
     let rises = λ (name : List ℕ). Rose (g.S.Shelf.faults c.args.shelf.now name) (g.S.Shelf.faults c.args.shelf.now name) in
     any_some (command_of (map string_bytes c.args.words.now))
-    (λ (a : Asked). EndsBy (g.W.Sink.taken c.args.out.now) (g.W.Sink.taken c.finish.new.out) (Before content a) (IsAnswer rises content a) c.finish.result)
-    (λ a. ends_memory (g.W.Sink.taken c.args.out.now) (g.W.Sink.taken c.finish.new.out) (Before content a) (IsAnswer rises content a) c.finish.result
-    (nothing_before content a) c.finish.ensures.told c.finish.ensures.prefix)
+    (λ (a : Asked). EndsBy (g.W.Sink.taken c.args.out.now) (g.W.Sink.taken c.stop_for_memory.new.out) (Before content a) (IsAnswer rises content a)
+    c.stop_for_memory.result)
+    (λ a. ends_memory (g.W.Sink.taken c.args.out.now) (g.W.Sink.taken c.stop_for_memory.new.out) (Before content a) (IsAnswer rises content a)
+    c.stop_for_memory.result (nothing_before content a) c.stop_for_memory.ensures.told c.stop_for_memory.ensures.prefix)
 
 pub returns-in-Err-Memory-clause-usage : goal.returns-in-Err-Memory-clause-usage
 returns-in-Err-Memory-clause-usage g c =
-    λ e. ends_memory (g.W.Sink.taken c.args.out.now) (g.W.Sink.taken c.finish.new.out) Nothing IsUsage c.finish.result refl
-    c.finish.ensures.told c.finish.ensures.prefix
+    λ e. ends_memory (g.W.Sink.taken c.args.out.now) (g.W.Sink.taken c.stop_for_memory.new.out) Nothing IsUsage c.stop_for_memory.result refl
+    c.stop_for_memory.ensures.told c.stop_for_memory.ensures.prefix
 
 pub returns-in-Ok-clause-complete : goal.returns-in-Ok-clause-complete
 returns-in-Ok-clause-complete g c =
     let content = g.S.Shelf.content c.args.shelf.now in
     let rises = λ (name : List ℕ). Rose (g.S.Shelf.faults c.args.shelf.now name) (g.S.Shelf.faults c.obey.new.shelf name) in
     asked_some (command_of (map string_bytes c.args.words.now)) (asked_of c.in-Ok.command)
-    (λ (a : Asked). CanBeDone content a → NoneRises rises a → (Rose (g.W.Sink.faults c.args.out.now) (g.W.Sink.faults c.obey.new.out) → ⊥)
+    (λ (a : Asked). CanBeDone content a → NoneRises rises (files_of a) → (Rose (g.W.Sink.faults c.args.out.now) (g.W.Sink.faults c.obey.new.out) → ⊥)
     → (c.obey.result ≡ Done) ⊎ (c.obey.result ≡ Memory))
     c.in-Ok.ensures.asked
     (completes (g.W.Sink.taken c.args.out.now) (g.W.Sink.taken c.obey.new.out) rises content (asked_of c.in-Ok.command) c.obey.result
@@ -53,10 +57,10 @@ pub returns-in-Err-Memory-clause-complete : goal.returns-in-Err-Memory-clause-co
 returns-in-Err-Memory-clause-complete g c =
     let content = g.S.Shelf.content c.args.shelf.now in
     let rises = λ (name : List ℕ). Rose (g.S.Shelf.faults c.args.shelf.now name) (g.S.Shelf.faults c.args.shelf.now name) in
-    let risen = Rose (g.W.Sink.faults c.args.out.now) (g.W.Sink.faults c.finish.new.out) in
-    any_some (command_of (map string_bytes c.args.words.now)) (λ (a : Asked). CanBeDone content a → NoneRises rises a → (risen → ⊥) → (c.finish.result ≡ Done)
-    ⊎ (c.finish.result ≡ Memory))
-    (λ a can none n. inr (c.finish.ensures.told (λ e. n (c.finish.ensures.fault e))).0)
+    let risen = Rose (g.W.Sink.faults c.args.out.now) (g.W.Sink.faults c.stop_for_memory.new.out) in
+    any_some (command_of (map string_bytes c.args.words.now)) (λ (a : Asked). CanBeDone content a → NoneRises rises (files_of a) → (risen → ⊥)
+    → (c.stop_for_memory.result ≡ Done) ⊎ (c.stop_for_memory.result ≡ Memory))
+    (λ a can none n. inr (c.stop_for_memory.ensures.told (λ e. n (c.stop_for_memory.ensures.fault e))).0)
 
 pub returns-in-Ok-clause-rechecked : goal.returns-in-Ok-clause-rechecked
 returns-in-Ok-clause-rechecked g c = λ past.
@@ -92,21 +96,21 @@ pub returns-in-Err-Memory-clause-one : goal.returns-in-Err-Memory-clause-one
 returns-in-Err-Memory-clause-one g c =
     let content = g.S.Shelf.content c.args.shelf.now in
     let rises = λ (name : List ℕ). Rose (g.S.Shelf.faults c.args.shelf.now name) (g.S.Shelf.faults c.args.shelf.now name) in
-    let risen = Rose (g.W.Sink.faults c.args.out.now) (g.W.Sink.faults c.finish.new.out) in
+    let risen = Rose (g.W.Sink.faults c.args.out.now) (g.W.Sink.faults c.stop_for_memory.new.out) in
     let old = g.W.Sink.taken c.args.out.now in
-    let new = g.W.Sink.taken c.finish.new.out in
-    any_some (command_of (map string_bytes c.args.words.now)) (λ (a : Asked). EndsByOne content rises risen old new a c.finish.result)
+    let new = g.W.Sink.taken c.stop_for_memory.new.out in
+    any_some (command_of (map string_bytes c.args.words.now)) (λ (a : Asked). EndsByOne content rises risen old new a c.stop_for_memory.result)
     (λ a alike.
-    let k = ends_held rises content a old new c.finish.result alike
-    (ends_memory old new (Before content a) (IsAnswer rises content a) c.finish.result (nothing_before content a)
-    c.finish.ensures.told c.finish.ensures.prefix) in
+    let k = ends_held rises content a old new c.stop_for_memory.result alike
+    (ends_memory old new (Before content a) (IsAnswer rises content a) c.stop_for_memory.result (nothing_before content a)
+    c.stop_for_memory.ensures.told c.stop_for_memory.ensures.prefix) in
     record {
       held = k.0;
       told = k.1;
       answered = k.2;
-      sound = ends_past c.accepted_are_sound.ensures.spelled rises (told_all k.0) a old new (Before (told_all k.0) a) c.finish.result k.2;
-      rechecked = ends_rechecked c.accepted_are_sound.ensures.typed rises (told_all k.0) a old new (Before (told_all k.0) a) c.finish.result k.2;
-      complete = λ can none n. inr (c.finish.ensures.told (λ e. n (c.finish.ensures.fault e))).0;
+      sound = ends_past c.accepted_are_sound.ensures.spelled rises (told_all k.0) a old new (Before (told_all k.0) a) c.stop_for_memory.result k.2;
+      rechecked = ends_rechecked c.accepted_are_sound.ensures.typed rises (told_all k.0) a old new (Before (told_all k.0) a) c.stop_for_memory.result k.2;
+      complete = λ can none n. inr (c.stop_for_memory.ensures.told (λ e. n (c.stop_for_memory.ensures.fault e))).0;
     })
 
 pub returns-in-Ok-clause-bounded : goal.returns-in-Ok-clause-bounded
@@ -123,17 +127,17 @@ returns-in-Err-Usage-clause-bounded g c =
 
 pub returns-in-Err-Usage-clause-fetched : goal.returns-in-Err-Usage-clause-fetched
 returns-in-Err-Usage-clause-fetched g c =
-    fetched_nothing (named_by (command_of (map string_bytes c.args.words.now))) (g.S.Shelf.log c.args.shelf.now) c.stop.result
+    fetched_nothing (named_by files_of (command_of (map string_bytes c.args.words.now))) (g.S.Shelf.log c.args.shelf.now) c.stop.result
     (never_read Usage c.stop.result (λ e. absurd cc) (λ n. (c.stop.ensures.told n).0))
 
 pub returns-in-Err-Memory-clause-fetched : goal.returns-in-Err-Memory-clause-fetched
 returns-in-Err-Memory-clause-fetched g c =
-    fetched_nothing (named_by (command_of (map string_bytes c.args.words.now))) (g.S.Shelf.log c.args.shelf.now) c.finish.result
-    (never_read Memory c.finish.result (λ e. absurd cc) (λ n. (c.finish.ensures.told n).0))
+    fetched_nothing (named_by files_of (command_of (map string_bytes c.args.words.now))) (g.S.Shelf.log c.args.shelf.now) c.stop_for_memory.result
+    (never_read Memory c.stop_for_memory.result (λ e. absurd cc) (λ n. (c.stop_for_memory.ensures.told n).0))
 
 pub returns-in-Err-Memory-clause-pieces : goal.returns-in-Err-Memory-clause-pieces
 returns-in-Err-Memory-clause-pieces g c =
-    one_piece (ArePieces (command_of (map string_bytes c.args.words.now))) Memory c.finish.result memory_line (g.W.Sink.log c.args.out.now)
-    (g.W.Sink.log c.finish.new.out)
+    one_piece (ArePieces (command_of (map string_bytes c.args.words.now))) Memory c.stop_for_memory.result memory_line (g.W.Sink.log c.args.out.now)
+    (g.W.Sink.log c.stop_for_memory.new.out)
     (memory_pieces (command_of (map string_bytes c.args.words.now)) memory_line)
-    (λ n. (c.finish.ensures.told n).0) c.finish.ensures.sent c.finish.ensures.broken
+    (λ n. (c.stop_for_memory.ensures.told n).0) c.stop_for_memory.ensures.sent c.stop_for_memory.ensures.broken

@@ -19,7 +19,7 @@ returns-in-Name-clause-name c =
 pub returns-in-Name-clause-short : goal.returns-in-Name-clause-short
 returns-in-Name-clause-short c =
     let name = name_told _ _ c.requires (2 * c.from.result + 1) _ c.if-place-tokens.false c.in-Name.is in
-    omega (arith, ap length c.bytes.ensures, name.2)
+    omega (arith, ap length c.bytes.ensures, name.1)
 
 pub returns-in_default : goal.returns-in_default
 returns-in_default c =

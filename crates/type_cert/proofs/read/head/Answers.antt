@@ -1,6 +1,6 @@
 use Rattle.std.proofs.Common.{rules, ◌≡◌, ap, sym, ◌∙◌, ◌++◌}
 use Rattle.std.specs.Prelude.{decimal}
-use Rattle.type_cert.specs.Text.{rule_name}
+use Rattle.timing_types.specs.Rules.{rule_name}
 use Rattle.type_cert.proofs.Cuts.{head_parts, head_rule, head_from}
 use Rattle.type_cert.proofs.read.head.Goals as goal
 
@@ -20,7 +20,7 @@ returns-in_err-rest-3 c =
     let e0 = c.in_ok-rest.ensures ∙ ap (λ z. z ++ r0) d in
     rw c.from_residual-in_err-rest-3.ensures (λ q h. c.in_err-rest-3.ensures q
     (head_rule c.args.rule r0 r1 q c.in_ok-rest-2.ensures (head_parts c.args.number c.args.rule c.args.text.now r0 q e0 h)
-    ∙ ap (λ z. z ++ q) (sym c.rule_name.ensures)))
+    ∙ ap (λ z. z ++ q) (sym c.name.ensures.name)))
 
 pub returns : goal.returns
 returns c =
@@ -29,4 +29,4 @@ returns c =
     let r1 = c.in_ok-rest-2.rest.now in
     let r2 = c.in_ok-rest-3.rest.now in
     head_from c.args.number c.args.rule c.args.text.now r0 r1 r2 (c.in_ok-rest.ensures ∙ ap (λ z. z ++ r0) d) c.in_ok-rest-2.ensures (c.in_ok-rest-3.ensures
-    ∙ ap (λ z. z ++ r2) c.rule_name.ensures)
+    ∙ ap (λ z. z ++ r2) c.name.ensures.name)

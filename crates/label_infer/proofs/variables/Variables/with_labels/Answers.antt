@@ -6,7 +6,7 @@ use Rattle.label_lattice.specs.Order.{lattice_of}
 use Rattle.timing_types.specs.Labelling.{label_at}
 use Rattle.label_infer.specs.declared.row.Row.{Row}
 use Rattle.label_infer.specs.Rows.{has_in}
-use Rattle.label_infer.specs.Forms.{value_from}
+use Rattle.label_infer.specs.Constraints.{value_from}
 use Rattle.label_infer.proofs.Holding.{met_more, least_more, value_is}
 use Rattle.label_infer.proofs.variables.Variables.with_labels.Goals as goal
 

@@ -1,11 +1,11 @@
 use Rattle.std.proofs.Common.{◌≡◌, ◌<◌, ◌++◌, length, replicate, true, sym, ap, ◌∙◌, subst, arith}
 use Rattle.label_lattice.specs.Order.{Order}
 use Rattle.mit_syntax.specs.Plan.{list_plan}
-use Rattle.label_infer.specs.declared.known.Known.{Known}
+use Rattle.label_infer.specs.declared.written_labels.Known.{Known}
 use Rattle.label_infer.specs.LeftSideOf.{left_side_of}
-use Rattle.label_infer.specs.Forms.{fixed}
+use Rattle.label_infer.specs.Constraints.{fixed}
 use Rattle.label_infer.specs.First.{first_levels}
-use Rattle.label_infer.specs.Known.{constraints_from, constraints_in}
+use Rattle.label_infer.specs.ConstraintsOf.{constraints_from, constraints_in}
 use Rattle.label_infer.specs.Work.{IsWorkOf, IsFirst}
 use Rattle.label_infer.specs.Blocks.{AreBlocks}
 use Rattle.timing_types.specs.Labelling.{label_at}

@@ -27,7 +27,7 @@ returns-in_ok-see-in-Event-clause-tallies c = λ p events sees t.
     c.in-Event.variable _ c.in-Event.cycle c.in-Event.is
     (sees_event p c.args.observer.now.label.number c.args.turn c.in-Event.variable _ c.in-Event.cycle c.in-Event.is sees)
     _ c.see.new.self (ap (λ z. Wrote c.in-Event.variable z c.in-Event.cycle) n) c.in_ok-see-in-Event.ensures.shown c.in_ok-see-in-Event.ensures.kept
-    c.in_ok-see-in-Event.ensures.begun c.in_ok-see-in-Event.ensures.ended
+    c.in_ok-see-in-Event.ensures.dropped c.in_ok-see-in-Event.ensures.begun c.in_ok-see-in-Event.ensures.ended
 
 pub returns-then-is_relevant-clause-tallies : goal.returns-then-is_relevant-clause-tallies
 returns-then-is_relevant-clause-tallies c = λ p events sees t.

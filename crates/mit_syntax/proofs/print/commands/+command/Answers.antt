@@ -28,7 +28,8 @@ put_command-put_block-requires t c =
       omega (arith, low),
       (
         subst (λ (l : List Command). IsPrintable c.args.labels.now.size c.args.variables.now (c.args.depth + 1) (list_plan l))
-            (sym c.deref.ensures.value) (if_then c.args.labels.now.size c.args.variables.now c.args.depth c.args.c.now c.in-If.guard c.in-If.then_part c.requires
+            (sym c.deref.ensures.value)
+            (if_then c.args.labels.now.size c.args.variables.now c.args.depth c.args.c.now c.in-If.guard c.in-If.then_part c.requires
             c.in-If.else_part c.in-If.is),
         low,
       ),
@@ -54,7 +55,8 @@ put_command-put_block-requires-in-While t c =
       omega (arith, low),
       (
         subst (λ (l : List Command). IsPrintable c.args.labels.now.size c.args.variables.now (c.args.depth + 1) (list_plan l))
-            (sym c.deref-in-While.ensures.value) (while_body c.args.labels.now.size c.args.variables.now c.args.depth c.args.c.now c.in-While.guard c.in-While.body
+            (sym c.deref-in-While.ensures.value)
+            (while_body c.args.labels.now.size c.args.variables.now c.args.depth c.args.c.now c.in-While.guard c.in-While.body
             c.requires c.in-While.is),
         low,
       ),

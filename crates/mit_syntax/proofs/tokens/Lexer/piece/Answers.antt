@@ -1,6 +1,7 @@
 use Rattle.std.proofs.Common.{◌≡◌, ◌≤◌, ◌+◌, ℕ, List, true, false, Some, get_or, length, ap, sym, subst, take, drop}
+use Rattle.label_lattice.specs.Names.{Each}
 use Rattle.mit_syntax.specs.declared.tokens.Place.{Place}
-use Rattle.mit_syntax.specs.Lexemes.{is_white, StopsAt, Each}
+use Rattle.mit_syntax.specs.Lexemes.{is_white, StopsAt}
 use Rattle.mit_syntax.specs.Cut.{in_line, starts_comment}
 use Rattle.mit_syntax.specs.TokenSteps.{IsToken, TookPiece}
 use Rattle.mit_syntax.proofs.LexBytes.{front_passes, rest_stops}

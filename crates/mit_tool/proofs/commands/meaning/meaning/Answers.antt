@@ -41,8 +41,8 @@ returns-in-Err-Memory-clause-answered g c =
     meaning_short (λ (name : List ℕ). Rose (g.S.Shelf.faults c.args.shelf.now name) (g.S.Shelf.faults c.source.new.shelf name))
     (g.S.Shelf.content c.args.shelf.now) c.args.file.now (option_map (λ s. s.now) c.args.starts) c.args.steps
     c.in-Ok.source.0 (seen c.in-Ok.source.1) c.as_slice.result.now (g.W.Sink.taken c.args.out.now) (g.W.Sink.taken c.walk.new.out)
-    (g.W.Sink.taken c.finish-in-Err-Memory.new.out) c.finish-in-Err-Memory.result
-    c.in-Ok.ensures.ok c.as_slice.ensures.value (c.walk.ensures.some (cc)) c.finish-in-Err-Memory.ensures.told c.finish-in-Err-Memory.ensures.prefix
+    (g.W.Sink.taken c.stop_for_memory.new.out) c.stop_for_memory.result
+    c.in-Ok.ensures.ok c.as_slice.ensures.value (c.walk.ensures.some (cc)) c.stop_for_memory.ensures.told c.stop_for_memory.ensures.prefix
 
 pub returns-clause-answered : goal.returns-clause-answered
 returns-clause-answered g c =
@@ -75,16 +75,16 @@ returns-in-Ok-walk-clause-pieces g c =
 pub returns-in-Err-Memory-clause-fetched : goal.returns-in-Err-Memory-clause-fetched
 returns-in-Err-Memory-clause-fetched g c =
     fetched_by {A = Unit {0}} (c.args.file.now ∷ named (option_map (λ s. s.now) c.args.starts)) (g.S.Shelf.log c.args.shelf.now)
-    (g.S.Shelf.log c.source.new.shelf) Memory c.finish-in-Err-Memory.result (Ok tt) (λ e. absurd cc) c.in-Ok.ensures.log
-    (λ n. (c.finish-in-Err-Memory.ensures.told n).0)
+    (g.S.Shelf.log c.source.new.shelf) Memory c.stop_for_memory.result (Ok tt) (λ e. absurd cc) c.in-Ok.ensures.log
+    (λ n. (c.stop_for_memory.ensures.told n).0)
 
 pub returns-in-Err-Memory-clause-pieces : goal.returns-in-Err-Memory-clause-pieces
 returns-in-Err-Memory-clause-pieces g c =
     let sent = c.walk.ensures.sent_some (cc) in
-    stop_after IsMeaningLine Memory c.finish-in-Err-Memory.result sent.0 memory_line (g.W.Sink.log c.args.out.now) (g.W.Sink.log c.walk.new.out)
-    (g.W.Sink.log c.finish-in-Err-Memory.new.out) sent.1
-    (λ e. absurd cc) (λ e. absurd cc) sent.2 (λ n. (c.finish-in-Err-Memory.ensures.told n).0) c.finish-in-Err-Memory.ensures.sent
-    c.finish-in-Err-Memory.ensures.broken
+    stop_after IsMeaningLine Memory c.stop_for_memory.result sent.0 memory_line (g.W.Sink.log c.args.out.now) (g.W.Sink.log c.walk.new.out)
+    (g.W.Sink.log c.stop_for_memory.new.out) sent.1
+    (λ e. absurd cc) (λ e. absurd cc) sent.2 (λ n. (c.stop_for_memory.ensures.told n).0) c.stop_for_memory.ensures.sent
+    c.stop_for_memory.ensures.broken
 
 pub returns-clause-fetched : goal.returns-clause-fetched
 returns-clause-fetched g c =

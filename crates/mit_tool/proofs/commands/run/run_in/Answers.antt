@@ -26,8 +26,8 @@ returns-in_default-clause-ended g c =
       env =
           g.M.MakeEnv.made q.program.order c.args.start.touches.items;
     })) in
-    ends_memory (g.W.Sink.taken c.args.out.now) (g.W.Sink.taken c.finish.new.out) Nothing (HasTold q c.args.program.now.observer told) c.finish.result refl
-    c.finish.ensures.told c.finish.ensures.prefix
+    ends_memory (g.W.Sink.taken c.args.out.now) (g.W.Sink.taken c.stop_for_memory.new.out) Nothing (HasTold q c.args.program.now.observer told)
+    c.stop_for_memory.result refl c.stop_for_memory.ensures.told c.stop_for_memory.ensures.prefix
 
 pub returns-in_default-load-clause-ended : goal.returns-in_default-load-clause-ended
 returns-in_default-load-clause-ended g c =
@@ -38,9 +38,9 @@ returns-in_default-load-clause-ended g c =
       env =
           g.M.MakeEnv.made q.program.order c.args.start.touches.items;
     })) in
-    ends_memory (g.W.Sink.taken c.args.out.now) (g.W.Sink.taken c.finish-in_default-load.new.out) Nothing (HasTold q c.args.program.now.observer told)
-    c.finish-in_default-load.result refl
-    c.finish-in_default-load.ensures.told c.finish-in_default-load.ensures.prefix
+    ends_memory (g.W.Sink.taken c.args.out.now) (g.W.Sink.taken c.stop_for_memory-in_default-load.new.out) Nothing (HasTold q c.args.program.now.observer told)
+    c.stop_for_memory-in_default-load.result refl
+    c.stop_for_memory-in_default-load.ensures.told c.stop_for_memory-in_default-load.ensures.prefix
 
 pub returns-clause-ended : goal.returns-clause-ended
 returns-clause-ended g c =

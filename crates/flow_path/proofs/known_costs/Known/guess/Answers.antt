@@ -1,6 +1,6 @@
 use Rattle.std.proofs.Common.{refl}
 use Rattle.flow_path.proofs.Settling.{guessed}
-use Rattle.flow_path.proofs.known.Known.guess.Goals as goal
+use Rattle.flow_path.proofs.known_costs.Known.guess.Goals as goal
 
 pub returns-then-may_be : goal.returns-then-may_be
 returns-then-may_be c = λ t K.

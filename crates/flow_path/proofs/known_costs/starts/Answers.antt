@@ -4,7 +4,7 @@ use Rattle.flow_path.specs.declared.step.Spot.TheVariants.{Variable}
 use Rattle.flow_path.specs.Steps.{written}
 use Rattle.flow_path.specs.Distances.{cost_by}
 use Rattle.flow_path.proofs.Settling.{more_each}
-use Rattle.flow_path.proofs.known.starts.Goals as goal
+use Rattle.flow_path.proofs.known_costs.starts.Goals as goal
 
 pub loop-y-preserved : goal.loop-y-preserved
 loop-y-preserved c =

@@ -15,6 +15,9 @@ use label_lattice::lattice::Lattice;
 use mit_syntax::program::Program;
 use std::alloc::{AllocError, Global};
 
+/// The most steps of a chain whose cost is taken.
+const MAX_STEPS: usize = u32::MAX as usize;
+
 /// What a cheapest chain to the label of each variable costs, where it is known, and the order of the labels.
 #[derive(Drop)]
 pub(crate) struct Known {
@@ -92,7 +95,7 @@ impl Known {
         }
         match written_at(p, &Spot::Variable(y)) {
             Some(_) => false,
-            None => cost.steps <= 4_294_967_295,
+            None => cost.steps <= MAX_STEPS,
         }
     }
 

@@ -6,13 +6,13 @@ use Rattle.label_lattice.specs.Order.{lattice_of}
 use Rattle.mit_syntax.specs.Expression.{Expression}
 use Rattle.mit_syntax.specs.Plan.{Plan}
 use Rattle.timing_types.specs.Walk.{Side, OfVariable, OfLevel}
-use Rattle.label_infer.specs.declared.known.Known.{Known}
+use Rattle.label_infer.specs.declared.written_labels.Known.{Known}
 use Rattle.label_infer.specs.declared.constraints.Condition.{Condition}
 use Rattle.label_infer.specs.declared.constraints.Target.{Target}
 use Rattle.label_infer.specs.declared.constraints.Target.TheVariants.{Variable, Level}
 use Rattle.label_infer.specs.LeftSideOf.{left_side_of}
-use Rattle.label_infer.specs.Forms.{LeftSide, Constraint, label_or, fixed, both, variable_form, label_form, index_form, put_form, after_form, loop_form}
-use Rattle.label_infer.specs.Forms.{demand_form, set_constraint, end_form, constraints}
+use Rattle.label_infer.specs.Constraints.{LeftSide, Constraint, label_or, fixed, both, variable_form, label_form, index_form, put_form, after_form, loop_form}
+use Rattle.label_infer.specs.Constraints.{demand_form, set_constraint, end_form, constraints}
 
 abbrev pub lat_of : Known → Lattice
 lat_of k = lattice_of k.order

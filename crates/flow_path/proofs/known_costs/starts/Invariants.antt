@@ -3,7 +3,7 @@ use Rattle.std.specs.Prelude.{None, slice_index_or}
 use Rattle.flow_path.specs.declared.step.Spot.TheVariants.{Variable}
 use Rattle.flow_path.specs.Steps.{written}
 use Rattle.flow_path.specs.Distances.{cost_by}
-use Rattle.flow_path.proofs.known.starts.Given as goal
+use Rattle.flow_path.proofs.known_costs.starts.Given as goal
 
 abbrev pub invariant-loop-y : goal.invariant-loop-y
 invariant-loop-y l = record {

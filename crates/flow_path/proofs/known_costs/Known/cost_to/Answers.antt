@@ -1,6 +1,6 @@
 use Rattle.std.proofs.Common.{rules, ◌<◌, length}
 use Rattle.flow_path.proofs.Settling.{few_at}
-use Rattle.flow_path.proofs.known.Known.cost_to.Goals as goal
+use Rattle.flow_path.proofs.known_costs.Known.cost_to.Goals as goal
 
 pub returns-then-y-len-clause-few : goal.returns-then-y-len-clause-few
 returns-then-y-len-clause-few c =
