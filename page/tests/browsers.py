@@ -175,6 +175,8 @@ class Firefox(Browser):
             "browser.download.useDownloadDir": True, "ui.systemUsesDarkTheme": int(dark), "app.update.enabled": False,
             "layout.css.prefers-color-scheme.content-override": 0 if dark else 1, "network.captive-portal-service.enabled": False,
             "browser.download.always_ask_before_handling_new_types": False, "browser.aboutwelcome.enabled": False,
+            # Else leaving a page cuts off its scripts, which the console tells as a fault of the page.
+            "dom.ipc.cancel_content_js_when_navigating": False,
         }
         lines = [f"user_pref({json.dumps(name)}, {json.dumps(value)});" for name, value in settings.items()]
         (profile / "user.js").write_text("\n".join(lines) + "\n")

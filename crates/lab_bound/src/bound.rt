@@ -29,7 +29,7 @@ use tool_texts::status::Status;
 /// hold. A file may not be read only where the count of its faults rose. After a fault of the sink a prefix of the text
 /// is written.
 ///
-/// `sound`: where the call came past the typing, the program is accepted.
+/// `accepted`: where the call came past the typing, the program is accepted.
 ///
 /// `complete`: what can be done is done, want of memory aside, where no count of faults rose.
 ///
@@ -52,7 +52,7 @@ pub fn bound<S: Shelf, W: Sink>(
         setting.budget) result }
     ensures write { result ≡ Status.WriteFault → Rose (W.faults out.old) (W.faults out.new) }
     ensures fetched { HasFetched (file.now ∷ starts.now ∷ []) result (S.log shelf.old) (S.log shelf.new) }
-    ensures sound { IsTrue (is_past_typing result) → IsAccepted (S.content shelf.old file.now) }
+    ensures accepted { IsTrue (is_past_typing result) → IsAccepted (S.content shelf.old file.now) }
     ensures complete { CanBound (S.content shelf.old) file.now starts.now observer.now setting.env setting.budget
         → (Rose (S.faults shelf.old file.now) (S.faults shelf.new file.now) → ⊥) → (Rose (S.faults shelf.old starts.now) (S.faults shelf.new starts.now) → ⊥)
         → (Rose (W.faults out.old) (W.faults out.new) → ⊥) → (result ≡ Status.Done) ⊎ (result ≡ Status.Memory) }

@@ -98,8 +98,8 @@ pub fn bound_text<S: Shelf, W: Watch>(
         name.now setting.env setting.budget status.Done v.items) }
     ensures stop { IfErr result (IsStop (Bounds (λ name. Rose (S.faults shelf.old name) (S.faults shelf.new name)) (S.content shelf.old) file.now starts.now
         name.now setting.env setting.budget)) }
-    ensures sound { OnOk result (IsAccepted (S.content shelf.old file.now)) }
-    ensures sound_stop { IfErr result (λ e. IsTrue (is_past_typing (status_of e)) → IsAccepted (S.content shelf.old file.now)) }
+    ensures accepted { OnOk result (IsAccepted (S.content shelf.old file.now)) }
+    ensures accepted_stop { IfErr result (λ e. IsTrue (is_past_typing (status_of e)) → IsAccepted (S.content shelf.old file.now)) }
 {
     let prepared = match prepare(alloc, shelf, file, starts, name) {
         Ok(prepared) => prepared,

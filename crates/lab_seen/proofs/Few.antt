@@ -23,7 +23,8 @@ use Rattle.cut_audit.specs.Report.{IsReport}
 use Rattle.seen_line.specs.Field.{field_text, seen_text}
 use Rattle.tool_stages.specs.Stages.{Types}
 use Rattle.tool_stages.specs.Envs.{environment}
-use Rattle.tool_stages.specs.Accepted.{SpelledAreSound}
+use Rattle.tool_stages.specs.Accepted.{TypedAreSound}
+use Rattle.tool_stages.proofs.SoundLemmas.{least_is_sound}
 use Rattle.lab_seen.specs.Bounded.{FieldsAreFew, FieldsAreWithinCut}
 use Rattle.lab_seen.proofs.Images.{few_images}
 
@@ -63,12 +64,12 @@ module _ {E : Type 0} (v : Env E) (made : Order → List Touch → E) (q : Label
 below : (p : Syntax) (q : LabelledProgram) (o : ℕ) → Types p q → o < p.order.size → o < q.program.order.size
 below p q o types l = subst (λ (z : Syntax). o < z.order.size) (sym types.program) l
 
-pub fields_are_few : SpelledAreSound → FieldsAreFew
+pub fields_are_few : TypedAreSound → FieldsAreFew
 fields_are_few sound words p q spelled types e t some l low ss agree same tests =
     fields_few (environment e q.program.order) history_made q l t AnyHistory (below p q l.number types low) some
-    (sound words p q spelled types e).cut ss agree same tests
+    (least_is_sound sound words p q spelled types e).cut ss agree same tests
 
-pub fields_within_cut : SpelledAreSound → FieldsAreWithinCut
+pub fields_within_cut : TypedAreSound → FieldsAreWithinCut
 fields_within_cut sound words p q spelled types e t some l low ss r is same tests =
     within_cut (environment e q.program.order) history_made q l t AnyHistory (below p q l.number types low) some
-    (sound words p q spelled types e).cut ss r is same tests
+    (least_is_sound sound words p q spelled types e).cut ss r is same tests

@@ -38,7 +38,7 @@ fn show<S: Shelf, W: Sink>(
         setting.budget) result }
     ensures write { result ≡ Status.WriteFault → Rose (W.faults out.old) (W.faults out.new) }
     ensures fetched { HasFetched (file.now ∷ starts.now ∷ []) result (S.log shelf.old) (S.log shelf.new) }
-    ensures sound { IsTrue (is_past_typing result) → IsAccepted (S.content shelf.old file.now) }
+    ensures accepted { IsTrue (is_past_typing result) → IsAccepted (S.content shelf.old file.now) }
 {
     let prepared = match prepare(alloc, shelf, file, starts, observer) {
         Ok(prepared) => prepared,
@@ -57,7 +57,7 @@ fn show<S: Shelf, W: Sink>(
 /// `answered`: the status and the text are the answer, in the order of the refusals of an audit. Where memory was
 /// wanting the line for that stands after the lines of the runs before.
 ///
-/// `sound`: where the call came past the typing, the program is accepted.
+/// `accepted`: where the call came past the typing, the program is accepted.
 ///
 /// `complete`: a call that can be done is done, want of memory aside, where no count of faults rose.
 pub fn seen<S: Shelf, W: Sink>(
@@ -77,7 +77,7 @@ pub fn seen<S: Shelf, W: Sink>(
         setting.budget) result }
     ensures write { result ≡ Status.WriteFault → Rose (W.faults out.old) (W.faults out.new) }
     ensures fetched { HasFetched (file.now ∷ starts.now ∷ []) result (S.log shelf.old) (S.log shelf.new) }
-    ensures sound { IsTrue (is_past_typing result) → IsAccepted (S.content shelf.old file.now) }
+    ensures accepted { IsTrue (is_past_typing result) → IsAccepted (S.content shelf.old file.now) }
     ensures complete { CanBegin (S.content shelf.old) file.now starts.now (Some observer.now)
         → (Rose (S.faults shelf.old file.now) (S.faults shelf.new file.now) → ⊥) → (Rose (S.faults shelf.old starts.now) (S.faults shelf.new starts.now) → ⊥)
         → (Rose (W.faults out.old) (W.faults out.new) → ⊥) → (result ≡ Status.Done) ⊎ (result ≡ Status.Memory) }

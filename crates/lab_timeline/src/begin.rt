@@ -42,8 +42,8 @@ pub fn begin<S: Shelf>(
     ensures fit { IfOk result (λ r. CanRun r.compiled.typed.labelled r.compiled.observer r.compiled.image (map seen r.starts.items)) }
     ensures stop { IfErr result (IsStop (BeginStops (λ name. Rose (S.faults shelf.old name) (S.faults shelf.new name)) (S.content shelf.old) file.now starts.now
         (option_map (λ s. s.now) name.entry))) }
-    ensures sound { OnOk result (IsAccepted (S.content shelf.old file.now)) }
-    ensures sound_stop { IfErr result (λ e. IsTrue (is_past_typing (status_of e)) → IsAccepted (S.content shelf.old file.now)) }
+    ensures accepted { OnOk result (IsAccepted (S.content shelf.old file.now)) }
+    ensures accepted_stop { IfErr result (λ e. IsTrue (is_past_typing (status_of e)) → IsAccepted (S.content shelf.old file.now)) }
 {
     let compiled = match compile(alloc, shelf, file, name) {
         Ok(compiled) => compiled,

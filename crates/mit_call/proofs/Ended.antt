@@ -94,7 +94,8 @@ pub ended : (content : Content) (Names : List ℕ → Type 0) (Risen Rises : Typ
 ended content Names Risen Rises old taken new words s t l h = record {
   answered = if_some_map (command_of words) (λ a e. l.ends (Before content a) (IsAnswer Names content a) e) h.answered;
   usage = λ none. l.ends Nothing IsUsage (h.usage none);
-  sound = λ p. h.sound (past s t l.is p);
+  sound = h.sound;
+  accepted = λ p. h.accepted (past s t l.is p);
   rechecked = λ p. h.rechecked (past s t l.is p);
   complete = if_some_map (command_of words) (λ a full can quiet none. done Rises s t l.is l.fails none (full can quiet (λ r. none (l.rose r)))) h.complete;
   write = l.fails;
@@ -106,7 +107,7 @@ ended content Names Risen Rises old taken new words s t l h = record {
       held = e.held;
       told = e.told;
       answered = l.ends (Before (told_all e.held) a) (IsAnswer Names (told_all e.held) a) e.answered;
-      sound = λ p. e.sound (past s t l.is p);
+      accepted = λ p. e.accepted (past s t l.is p);
       rechecked = λ p. e.rechecked (past s t l.is p);
       complete = λ can quiet none. done Rises s t l.is l.fails none (e.complete can quiet (λ r. none (l.rose r)));
     }

@@ -5,10 +5,10 @@ use Rattle.tool_texts.specs.declared.status.Status.{Status}
 use Rattle.tool_texts.specs.declared.status.Status.TheVariants as status
 use Rattle.tool_texts.specs.Ends.{EndsBy, Nothing}
 use Rattle.tool_texts.specs.Statuses.{exit_number}
-use Rattle.tool_stages.specs.Accepted.{is_past_typing, IsAccepted}
+use Rattle.tool_stages.specs.Accepted.{is_past_typing, IsAccepted, TypedAreSound}
 use Rattle.tool_stages.specs.Content.{Content, NoneRises}
 use Rattle.mit_tool.specs.Answers.{IsUsage}
-use Rattle.mit_tool.specs.Commands.{files_of, IsAnswer, Before, typed_content, HeldIsSound}
+use Rattle.mit_tool.specs.Commands.{files_of, IsAnswer, Before, typed_content, HeldTypes}
 use Rattle.mit_tool.specs.Complete.{CanBeDone}
 use Rattle.mit_tool.specs.Held.{EndsByOne}
 
@@ -18,8 +18,9 @@ pub record HasEnded (content : Content) (Rises : List ℕ → Type 0) (Risen : T
     (s : Status) : Type 0 where
   pub answered : IfSome (command_of words) (λ a. EndsBy old new (Before content a) (IsAnswer Rises content a) s)
   pub usage : command_of words ≡ None → EndsBy old new Nothing IsUsage s
-  pub sound : IsTrue (is_past_typing s) → IfSome (command_of words) (λ a. IfSome (typed_content content a) IsAccepted)
-  pub rechecked : IsTrue (is_past_typing s) → IfSome (command_of words) (HeldIsSound content)
+  pub sound : TypedAreSound
+  pub accepted : IsTrue (is_past_typing s) → IfSome (command_of words) (λ a. IfSome (typed_content content a) IsAccepted)
+  pub rechecked : IsTrue (is_past_typing s) → IfSome (command_of words) (HeldTypes content)
   pub complete : IfSome (command_of words) (λ a. CanBeDone content a → NoneRises Rises (files_of a) → (Risen → ⊥) → (s ≡ status.Done) ⊎ (s ≡ status.Memory))
   pub write : s ≡ status.WriteFault → Risen
   pub one : IfSome (command_of words) (λ a. EndsByOne content Rises Risen old new a s)

@@ -6,8 +6,8 @@ use Rattle.tool_texts.specs.declared.status.Status.{Status}
 use Rattle.tool_texts.specs.declared.status.Status.TheVariants as status
 use Rattle.tool_texts.specs.Ends.{EndsBy}
 use Rattle.tool_stages.specs.Content.{Content, NoneRises}
-use Rattle.tool_stages.specs.Accepted.{IsAccepted, SpelledAreSound, TypedAreSound, is_past_typing}
-use Rattle.mit_tool.specs.Commands.{files_of, IsAnswer, Before, typed_content, HeldIsSound}
+use Rattle.tool_stages.specs.Accepted.{IsAccepted, is_past_typing}
+use Rattle.mit_tool.specs.Commands.{files_of, IsAnswer, Before, typed_content, HeldTypes}
 use Rattle.mit_tool.specs.Complete.{CanBeDone}
 use Rattle.mit_tool.specs.Held.{Held, told_all, HoldsTold, AreReadAlike}
 use Rattle.tool_texts.proofs.EndLemmas.{ends_done}
@@ -18,16 +18,16 @@ use Rattle.mit_tool.proofs.CommandLemmas.{answer_past, held_past, answer_held, b
 -- ---- how a call ended
 
 -- a call that ended past the typing
-pub ends_past : SpelledAreSound → (Rises : List ℕ → Type 0) (content : Content) (a : Asked) (old new : Option (List ℕ)) (Earlier : List ℕ → Type 0) (s : Status)
+pub ends_past : (Rises : List ℕ → Type 0) (content : Content) (a : Asked) (old new : Option (List ℕ)) (Earlier : List ℕ → Type 0) (s : Status)
     → EndsBy old new Earlier (IsAnswer Rises content a) s → IsTrue (is_past_typing s) → IfSome (typed_content content a) IsAccepted
-ends_past sound Rises content a old new Earlier s h past =
+ends_past Rises content a old new Earlier s h past =
     ended_past old new Earlier (IsAnswer Rises content a) (IfSome (typed_content content a) IsAccepted)
-    (λ s t late x. answer_past sound Rises content s t late a x) s h past
+    (λ s t late x. answer_past Rises content s t late a x) s h past
 
-pub ends_rechecked : TypedAreSound → (Rises : List ℕ → Type 0) (content : Content) (a : Asked) (old new : Option (List ℕ)) (Earlier : List ℕ → Type 0)
-    (s : Status) → EndsBy old new Earlier (IsAnswer Rises content a) s → IsTrue (is_past_typing s) → HeldIsSound content a
-ends_rechecked sound Rises content a old new Earlier s h past =
-    ended_past old new Earlier (IsAnswer Rises content a) (HeldIsSound content a) (λ s t late x. held_past sound Rises content a s t late x) s h past
+pub ends_rechecked : (Rises : List ℕ → Type 0) (content : Content) (a : Asked) (old new : Option (List ℕ)) (Earlier : List ℕ → Type 0)
+    (s : Status) → EndsBy old new Earlier (IsAnswer Rises content a) s → IsTrue (is_past_typing s) → HeldTypes content a
+ends_rechecked Rises content a old new Earlier s h past =
+    ended_past old new Earlier (IsAnswer Rises content a) (HeldTypes content a) (λ s t late x. held_past Rises content a s t late x) s h past
 
 -- a call that ended with an answer ended with one by what the files hold
 pub ends_held : (Rises : List ℕ → Type 0) (content : Content) (a : Asked) (old new : Option (List ℕ)) (s : Status) → AreReadAlike content (files_of a)

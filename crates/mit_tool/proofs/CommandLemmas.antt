@@ -15,11 +15,11 @@ use Rattle.tool_texts.specs.Reports.{made_lines}
 use Rattle.tool_stages.specs.Stages.{Then, Reads, Types, TypeStops, StartsAre, FirstStart, FirstStops}
 use Rattle.tool_stages.specs.Content.{Content, AreKnown, NoneRises}
 use Rattle.tool_stages.specs.Goes.{CanBeAudited, CanCut, OfObserver}
-use Rattle.tool_stages.specs.Accepted.{HasChecked, IsAccepted, SpelledAreSound, TypedAreSound, is_past_typing}
+use Rattle.tool_stages.specs.Accepted.{HasChecked, IsAccepted, TypedAreSound, is_past_typing}
 use Rattle.mit_tool.specs.Audited.{HasReleased}
 use Rattle.mit_tool.specs.Means.{HasMeant}
 use Rattle.mit_tool.specs.Answers.{HasInferred, HasRun, HasCertified, HasRechecked, made_content}
-use Rattle.mit_tool.specs.Commands.{files_of, IsAnswer, HasBegun, Before, typed_content, HeldIsSound, CanGoOn, AreWithin}
+use Rattle.mit_tool.specs.Commands.{files_of, IsAnswer, HasBegun, Before, typed_content, HeldTypes, CanGoOn, AreWithin}
 use Rattle.mit_tool.specs.Held.{Held, told_all, HoldsTold, AreReadAlike}
 use Rattle.mit_tool.specs.Logged.{IsRunLine, IsMeaningLine, ArePieces}
 use Rattle.tool_stages.proofs.ChainLemmas.{first_file, second_file, no_other, one_other, compiles_one, prepares_one, usage_one, compiles_go, typed_done}
@@ -82,7 +82,7 @@ blackbox_no_fault Rises content file first n t (inr (runs, holds, h)) = cc (h.0)
 
 -- ---- counts are within their bounds
 
-pub within : SpelledAreSound → FewLists → (a : Asked) → AreWithin a
+pub within : TypedAreSound → FewLists → (a : Asked) → AreWithin a
 within sound few (audit file starts observer e budget) = audits_within sound e budget
 within sound few (gen size number) = audits_within sound Part (2 ^ 40)
 within sound few (cut file starts observer e budget) = cuts_within sound e budget
@@ -91,26 +91,26 @@ within sound few a = tt
 
 -- ---- past the typing
 
-module _ (sound : SpelledAreSound) (Rises : List ℕ → Type 0) (content : Content) (s : Status) (t : List ℕ) (past : IsTrue (is_past_typing s)) where
+module _ (Rises : List ℕ → Type 0) (content : Content) (s : Status) (t : List ℕ) (past : IsTrue (is_past_typing s)) where
   pub answer_past : (a : Asked) → IsAnswer Rises content a s t → IfSome (typed_content content a) IsAccepted
-  answer_past (check file) x = typed_past sound (Rises file) (content file) (λ p q. HasChecked p) s t past x
-  answer_past (infer file) x = typed_past sound (Rises file) (content file) (λ p q. HasInferred q) s t past x
-  answer_past (compile file) x = compiled_past sound Rises content file None listed s t past x
-  answer_past (run file starts e budget observer) x = compiled_past sound Rises content file observer (run_next Rises content starts e budget) s t past x
+  answer_past (check file) x = typed_past (Rises file) (content file) (λ p q. HasChecked p) s t past x
+  answer_past (infer file) x = typed_past (Rises file) (content file) (λ p q. HasInferred q) s t past x
+  answer_past (compile file) x = compiled_past Rises content file None listed s t past x
+  answer_past (run file starts e budget observer) x = compiled_past Rises content file observer (run_next Rises content starts e budget) s t past x
   answer_past (audit file starts observer e budget) x =
-      prepared_past sound Rises content file observer (Rises starts) (content starts) (audit_next e budget) s t past x
+      prepared_past Rises content file observer (Rises starts) (content starts) (audit_next e budget) s t past x
   answer_past (gen size number) x =
-      prepared_past sound (λ name. ⊥) (made_content size number) [] (codes "L") ⊥ (Some (Some starts_text)) (made_next size number) s t past x
+      prepared_past (λ name. ⊥) (made_content size number) [] (codes "L") ⊥ (Some (Some starts_text)) (made_next size number) s t past x
   answer_past (cut file starts observer e budget) x =
-      prepared_past sound Rises content file observer (Rises starts) (content starts) (cut_next e budget) s t past x
-  answer_past (certify file) x = typed_past sound (Rises file) (content file) (λ p q. HasCertified q) s t past x
+      prepared_past Rises content file observer (Rises starts) (content starts) (cut_next e budget) s t past x
+  answer_past (certify file) x = typed_past (Rises file) (content file) (λ p q. HasCertified q) s t past x
   answer_past a x = tt
 
-pub held_past : (sound : TypedAreSound) (Rises : List ℕ → Type 0) (content : Content) (a : Asked) (s : Status) (t : List ℕ) → IsTrue (is_past_typing s)
-    → IsAnswer Rises content a s t → HeldIsSound content a
-held_past sound Rises content (recheck file certificate) s t past x =
-    rechecked_past sound (Rises file) (Rises certificate) (content file) (content certificate) (λ p q. HasRechecked p) s t past x
-held_past sound Rises content a s t past x = tt
+pub held_past : (Rises : List ℕ → Type 0) (content : Content) (a : Asked) (s : Status) (t : List ℕ) → IsTrue (is_past_typing s)
+    → IsAnswer Rises content a s t → HeldTypes content a
+held_past Rises content (recheck file certificate) s t past x =
+    rechecked_past (Rises file) (Rises certificate) (content file) (content certificate) (λ p q. HasRechecked p) s t past x
+held_past Rises content a s t past x = tt
 
 -- ---- one answer at most
 

@@ -10,7 +10,7 @@ use Rattle.tool_texts.specs.declared.status.Status.{Status}
 use Rattle.tool_texts.specs.declared.status.Status.TheVariants as status
 use Rattle.tool_texts.specs.Ends.{EndsBy}
 use Rattle.tool_stages.specs.Stages.{Then, Reads, ProgramStops, Types, TypeStops, StartsAre, StartStops, CertificateStops, Rechecks}
-use Rattle.tool_stages.specs.Accepted.{IsAccepted, IsRechecked, SpelledAreSound, TypedAreSound, is_past_typing}
+use Rattle.tool_stages.specs.Accepted.{IsAccepted, IsRechecked, is_past_typing}
 use Rattle.tool_stages.specs.Begins.{Compiles, Prepares}
 use Rattle.tool_stages.specs.Content.{Content}
 use Rattle.tool_stages.proofs.EarlyLemmas.{not_late, program_early, observer_early, type_early, certificate_early}
@@ -32,44 +32,36 @@ ended_past old new Before A P f status.Unfinished h past = f status.Unfinished h
 ended_past old new Before A P f status.Memory h past = cc
 ended_past old new Before A P f status.Rejected h past = cc
 
-module _ (sound : SpelledAreSound) where
-  accepted : (c : Option (Option (List ℕ))) (p : Syntax) (q : LabelledProgram) → Reads c p → Types p q → IsAccepted c
-  accepted c p q reads types = record { program = p; reads = reads; labelled = q; types = types; sound = sound _ p q reads.spelled types }
+accepted : (c : Option (Option (List ℕ))) (p : Syntax) (q : LabelledProgram) → Reads c p → Types p q → IsAccepted c
+accepted c p q reads types = record { program = p; reads = reads; labelled = q; types = types }
 
-  pub typed_past : (R : Type 0) (c : Option (Option (List ℕ))) (Next : Syntax → LabelledProgram → Status → List ℕ → Type 0) (s : Status) (t : List ℕ)
-      → IsTrue (is_past_typing s)
-      → Then (ProgramStops R c) (Reads c) (λ p. Then (TypeStops p) (Types p) (λ q. Next p q)) s t → IsAccepted c
-  typed_past R c Next s t past (inl x) = absurd (not_late s (program_early R c s t x) past)
-  typed_past R c Next s t past (inr (p, reads, inl x)) = absurd (not_late s (type_early p s t x) past)
-  typed_past R c Next s t past (inr (p, reads, inr (q, types, n))) = accepted c p q reads types
+pub typed_past : (R : Type 0) (c : Option (Option (List ℕ))) (Next : Syntax → LabelledProgram → Status → List ℕ → Type 0) (s : Status) (t : List ℕ)
+    → IsTrue (is_past_typing s)
+    → Then (ProgramStops R c) (Reads c) (λ p. Then (TypeStops p) (Types p) (λ q. Next p q)) s t → IsAccepted c
+typed_past R c Next s t past (inl x) = absurd (not_late s (program_early R c s t x) past)
+typed_past R c Next s t past (inr (p, reads, inl x)) = absurd (not_late s (type_early p s t x) past)
+typed_past R c Next s t past (inr (p, reads, inr (q, types, n))) = accepted c p q reads types
 
-  pub compiled_past : (Rises : List ℕ → Type 0) (content : Content) (file : List ℕ) (observer : Option (List ℕ))
-      (Next : Syntax → LabelledProgram → Option Label → Code → Status → List ℕ → Type 0)
-      (s : Status) (t : List ℕ) → IsTrue (is_past_typing s) → Compiles Rises content file observer Next s t → IsAccepted (content file)
-  compiled_past Rises content file observer Next s t past (inl x) = absurd (not_late s (program_early (Rises file) (content file) s t x) past)
-  compiled_past Rises content file observer Next s t past (inr (p, reads, inl x)) = absurd (not_late s (observer_early p.order observer s t x) past)
-  compiled_past Rises content file observer Next s t past (inr (p, reads, inr (o, sees, inl x))) = absurd (not_late s (type_early p s t x) past)
-  compiled_past Rises content file observer Next s t past (inr (p, reads, inr (o, sees, inr (q, types, n)))) = accepted (content file) p q reads types
+pub compiled_past : (Rises : List ℕ → Type 0) (content : Content) (file : List ℕ) (observer : Option (List ℕ))
+    (Next : Syntax → LabelledProgram → Option Label → Code → Status → List ℕ → Type 0)
+    (s : Status) (t : List ℕ) → IsTrue (is_past_typing s) → Compiles Rises content file observer Next s t → IsAccepted (content file)
+compiled_past Rises content file observer Next s t past (inl x) = absurd (not_late s (program_early (Rises file) (content file) s t x) past)
+compiled_past Rises content file observer Next s t past (inr (p, reads, inl x)) = absurd (not_late s (observer_early p.order observer s t x) past)
+compiled_past Rises content file observer Next s t past (inr (p, reads, inr (o, sees, inl x))) = absurd (not_late s (type_early p s t x) past)
+compiled_past Rises content file observer Next s t past (inr (p, reads, inr (o, sees, inr (q, types, n)))) = accepted (content file) p q reads types
 
-  pub prepared_past : (Rises : List ℕ → Type 0) (content : Content) (file observer : List ℕ) (Rose : Type 0) (c : Option (Option (List ℕ)))
-      (Next : Syntax → LabelledProgram → Option Label → Code → List StartValue → Status → List ℕ → Type 0)
-      (s : Status) (t : List ℕ) → IsTrue (is_past_typing s) → Prepares Rises content file observer Rose c Next s t → IsAccepted (content file)
-  prepared_past Rises content file observer Rose c Next =
-      compiled_past Rises content file (Some observer) (λ p q o code. Then (StartStops Rose c p) (StartsAre c p) (λ ss. Next p q o code ss))
+pub prepared_past : (Rises : List ℕ → Type 0) (content : Content) (file observer : List ℕ) (Rose : Type 0) (c : Option (Option (List ℕ)))
+    (Next : Syntax → LabelledProgram → Option Label → Code → List StartValue → Status → List ℕ → Type 0)
+    (s : Status) (t : List ℕ) → IsTrue (is_past_typing s) → Prepares Rises content file observer Rose c Next s t → IsAccepted (content file)
+prepared_past Rises content file observer Rose c Next =
+    compiled_past Rises content file (Some observer) (λ p q o code. Then (StartStops Rose c p) (StartsAre c p) (λ ss. Next p q o code ss))
 
 -- ---- certificates
 
-pub rechecked_past : TypedAreSound → (R K : Type 0) (c d : Option (Option (List ℕ))) (Next : Syntax → LabelledProgram → Status → List ℕ → Type 0)
+pub rechecked_past : (R K : Type 0) (c d : Option (Option (List ℕ))) (Next : Syntax → LabelledProgram → Status → List ℕ → Type 0)
     (s : Status) (t : List ℕ) → IsTrue (is_past_typing s)
     → Then (ProgramStops R c) (Reads c) (λ p. Then (CertificateStops K d p) (Rechecks d p) (λ q. Next p q)) s t → IsRechecked c d
-rechecked_past sound R K c d Next s t past (inl x) = absurd (not_late s (program_early R c s t x) past)
-rechecked_past sound R K c d Next s t past (inr (p, reads, inl x)) = absurd (not_late s (certificate_early K d p s t x) past)
-rechecked_past sound R K c d Next s t past (inr (p, reads, inr (q, rechecks, n))) =
-    record {
-      program = p;
-      reads = reads;
-      labelled = q;
-      rechecks = rechecks;
-      sound =
-          sound _ p q reads.spelled rechecks.holds.program rechecks.labels.keeps rechecks.typed;
-    }
+rechecked_past R K c d Next s t past (inl x) = absurd (not_late s (program_early R c s t x) past)
+rechecked_past R K c d Next s t past (inr (p, reads, inl x)) = absurd (not_late s (certificate_early K d p s t x) past)
+rechecked_past R K c d Next s t past (inr (p, reads, inr (q, rechecks, n))) =
+    record { program = p; reads = reads; labelled = q; rechecks = rechecks }

@@ -113,10 +113,10 @@ typed_content content (gen size number) = Some (Some (Some (program_text size nu
 typed_content content (certify file) = Some (content file)
 typed_content content a = None
 
--- the program is sound with the labelling that the certificate holds
-abbrev pub HeldIsSound : Content → Asked → Type 0
-HeldIsSound content (recheck file certificate) = IsRechecked (content file) (content certificate)
-HeldIsSound content a = Unit {0}
+-- the labelling that the certificate holds types the program
+abbrev pub HeldTypes : Content → Asked → Type 0
+HeldTypes content (recheck file certificate) = IsRechecked (content file) (content certificate)
+HeldTypes content a = Unit {0}
 
 -- ---- when it can be done
 

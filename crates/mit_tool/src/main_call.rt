@@ -5,11 +5,11 @@ ghost use Rattle.tim_base.specs.Kept.{KeepsFiles, NoCountFalls};
 ghost use Rattle.tim_base.specs.Faults.{Rose};
 ghost use Rattle.tool_words.specs.WordsAsked.{IsInRange, asked_of, command_of, check, recheck};
 ghost use Rattle.tool_texts.specs.Ends.{EndsBy, Nothing};
-ghost use Rattle.tool_stages.specs.Accepted.{is_past_typing, IsAccepted};
+ghost use Rattle.tool_stages.specs.Accepted.{is_past_typing, IsAccepted, TypedAreSound};
 ghost use Rattle.tool_stages.specs.Content.{NoneRises};
 ghost use Rattle.tool_stages.specs.Fetches.{HasFetched, named_by};
 ghost use Rattle.mit_tool.specs.Answers.{IsUsage};
-ghost use Rattle.mit_tool.specs.Commands.{files_of, IsAnswer, Before, typed_content, HeldIsSound, AreWithin};
+ghost use Rattle.mit_tool.specs.Commands.{files_of, IsAnswer, Before, typed_content, HeldTypes, AreWithin};
 ghost use Rattle.mit_tool.specs.Complete.{CanBeDone};
 ghost use Rattle.mit_tool.specs.Logged.{HasWritten, ArePieces};
 ghost use Rattle.mit_tool.specs.Held.{EndsByOne};
@@ -29,7 +29,7 @@ use black_box::laws::few_release_lists;
 use std::alloc::Global;
 use tim_base::shelf::Shelf;
 use tim_base::sink::Sink;
-use tool_stages::laws::accepted_are_sound;
+use tool_stages::laws::typed_are_sound;
 use tool_stages::setting::Setting;
 use tool_texts::finish::{finish, stop, stop_for_memory, tell};
 use tool_texts::status::Status;
@@ -46,7 +46,6 @@ fn check<S: Shelf, W: Sink>(alloc: Global, shelf: &mut S, out: &mut W, file: &st
     ensures write { result ≡ Status.WriteFault → Rose (W.faults out.old) (W.faults out.new) }
     ensures fetched { HasFetched (file.now ∷ []) result (S.log shelf.old) (S.log shelf.new) }
     ensures pieces { HasWritten (ArePieces (Some (check file.now))) result (W.log out.old) (W.log out.new) }
-    ensures sound { IsTrue (is_past_typing result) → IsAccepted (S.content shelf.old file.now) }
 {
     match check_line(alloc, shelf, file) {
         Ok(line) => finish(out, line.bytes(), Status::Done),
@@ -93,7 +92,6 @@ fn obey<S: Shelf, W: Sink>(
     ensures write { result ≡ Status.WriteFault → Rose (W.faults out.old) (W.faults out.new) }
     ensures fetched { HasFetched (files_of (asked_of command.entry)) result (S.log shelf.old) (S.log shelf.new) }
     ensures pieces { HasWritten (ArePieces (Some (asked_of command.entry))) result (W.log out.old) (W.log out.new) }
-    ensures sound { IsTrue (is_past_typing result) → IfSome (typed_content (S.content shelf.old) (asked_of command.entry)) IsAccepted }
 {
     match command {
         Command::Check { file } => check(alloc, shelf, out, file),
@@ -161,12 +159,15 @@ fn obey<S: Shelf, W: Sink>(
 ///
 /// `usage`: words that ask for nothing get the usage text.
 ///
-/// `sound`: where a command that wants a typed program came past the typing, as `Done`, `Starts`, `Budget`, `Disagree`
-/// and `Unfinished` tell, that program is accepted, and in each environment its image does what it does, and shows few
-/// different sequences.
+/// `sound`: of every program that tokens spell, with each labelling that types it, in each environment the image does
+/// what the program does, and shows few different sequences.
 ///
-/// `rechecked`: where `recheck` is done, the program is sound with the labelling that the certificate holds, also
-/// where it is not the least one.
+/// `accepted`: where a command that wants a typed program came past the typing, as `Done`, `Starts`, `Budget`,
+/// `Disagree` and `Unfinished` tell, the text of its file, or the made text, spells a program, and the least labelling
+/// types it; so it is one that `sound` speaks of.
+///
+/// `rechecked`: where `recheck` is done, the labelling that the certificate holds types the program, also where it is
+/// not the least one; so `sound` speaks of this too.
 ///
 /// `complete`: a command that can be done is done, want of memory aside, where no count of faults rose, neither that
 /// of a file that the words name nor that of the sink.
@@ -195,9 +196,10 @@ pub fn mitigate_main<S: Shelf, W: Sink>(
         (IsAnswer (λ name. Rose (S.faults shelf.old name) (S.faults shelf.new name)) (S.content shelf.old) a) result) }
     ensures usage { command_of (map string_bytes words.now) ≡ None
         → EndsBy (W.taken out.old) (W.taken out.new) Nothing IsUsage result }
-    ensures sound { IsTrue (is_past_typing result) → IfSome (command_of (map string_bytes words.now)) (λ a.
+    ensures sound { TypedAreSound }
+    ensures accepted { IsTrue (is_past_typing result) → IfSome (command_of (map string_bytes words.now)) (λ a.
         IfSome (typed_content (S.content shelf.old) a) IsAccepted) }
-    ensures rechecked { IsTrue (is_past_typing result) → IfSome (command_of (map string_bytes words.now)) (HeldIsSound (S.content shelf.old)) }
+    ensures rechecked { IsTrue (is_past_typing result) → IfSome (command_of (map string_bytes words.now)) (HeldTypes (S.content shelf.old)) }
     ensures complete { IfSome (command_of (map string_bytes words.now)) (λ a. CanBeDone (S.content shelf.old) a
         → NoneRises (λ name. Rose (S.faults shelf.old name) (S.faults shelf.new name)) (files_of a) → (Rose (W.faults out.old) (W.faults out.new) → ⊥)
         → (result ≡ Status.Done) ⊎ (result ≡ Status.Memory)) }
@@ -214,7 +216,7 @@ pub fn mitigate_main<S: Shelf, W: Sink>(
     ensures later { NoCountFalls (S.faults shelf.old) (S.faults shelf.new) }
     ensures later_out { W.faults out.old ≤ W.faults out.new }
 {
-    accepted_are_sound();
+    typed_are_sound();
     few_release_lists();
     match read_words(alloc, words) {
         Ok(command) => obey(alloc, shelf, out, command),

@@ -1,5 +1,5 @@
 -- What a call from a page is given, and what it tells.
-use Rattle.std.specs.Prelude.{◌≡◌, ℕ, List, [], ◌∷◌, take, drop, Option, Some, None, IfSome, bytes_eq, cond}
+use Rattle.std.specs.Prelude.{◌≡◌, ◌≤◌, ℕ, List, [], ◌∷◌, length, take, drop, Option, Some, None, IfSome, IsUtf8, bytes_eq, cond}
 use Rattle.tim_base.specs.declared.shelf.memory.MemShelf.{MemShelf}
 use Rattle.tim_base.specs.Shelves.{bytes_at}
 use Rattle.tim_base.specs.Faults.{Rose}
@@ -19,6 +19,22 @@ use Rattle.mit_web.specs.declared.call.Program.TheVariants.{Tool, Lab}
 abbrev pub pieces : List ℕ → List ℕ → List (List ℕ)
 pieces [] row = []
 pieces (n ∷ ns) row = take n row ∷ pieces ns (drop n row)
+
+-- the row has as many bytes as the lengths say, and each piece is UTF-8
+abbrev pub AreTexts : List ℕ → List ℕ → Type 0
+AreTexts [] row = Unit {0}
+AreTexts (n ∷ ns) row = (n ≤ length row) × IsUtf8 (take n row) × AreTexts ns (drop n row)
+
+-- the row has as many bytes as the lengths say of the pieces that have a name
+abbrev pub AreContents : List (List ℕ) → List ℕ → List ℕ → Type 0
+AreContents [] ns row = Unit {0}
+AreContents (name ∷ names) [] row = Unit {0}
+AreContents (name ∷ names) (n ∷ ns) row = (n ≤ length row) × AreContents names ns (drop n row)
+
+-- Rows make a call: they have as many bytes as the lengths say, and words and names are UTF-8.
+abbrev pub AreRows : List ℕ → List ℕ → List ℕ → List ℕ → List ℕ → List ℕ → Type 0
+AreRows word_lengths words name_lengths names file_lengths contents =
+    AreTexts word_lengths words × AreTexts name_lengths names × AreContents (pieces name_lengths names) file_lengths contents
 
 -- what names hold after files were put, one after the other: a later one of a name replaces an earlier one
 abbrev pub put_over : (List ℕ → Option (List ℕ)) → List (List ℕ) → List (List ℕ) → List ℕ → Option (List ℕ)

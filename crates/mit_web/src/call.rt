@@ -1,8 +1,9 @@
 //! The calls that a page makes.
 
-ghost use Rattle.std.specs.Prelude.{◌≡◌, ◌≤◌, ◌⊎◌, ℕ, IfOk, List, Option, drop, length, map, string_bytes};
+ghost use Rattle.std.specs.Prelude.{◌≡◌, ◌≤◌, ◌⊎◌, ℕ, IfOk, IfErr, List, Option, drop, length, map, string_bytes};
 ghost use Rattle.tim_base.specs.Shelves.{bytes_at};
-ghost use Rattle.mit_web.specs.Calls.{IsAnswerOf, Shows, TellsAnswer, held_by, pieces};
+ghost use Rattle.mit_web.specs.declared.given.GivenFault.TheVariants.{Memory, BadCall};
+ghost use Rattle.mit_web.specs.Calls.{AreRows, IsAnswerOf, Shows, TellsAnswer, held_by, pieces};
 
 use crate::given::{GivenFault, files, texts};
 use lab_tool::lab_main;
@@ -45,8 +46,9 @@ fn ask_tool(
     shelf: &mut MemShelf,
     room: usize,
 ) -> Result<(u32, MemSink), GivenFault>
-    ensures { IfOk result (λ r. (held : List ℕ → Option (List ℕ)) → ((name : List ℕ) → bytes_at shelf.old name ≡ held name)
+    ensures answer { IfOk result (λ r. (held : List ℕ → Option (List ℕ)) → ((name : List ℕ) → bytes_at shelf.old name ≡ held name)
         → IsAnswerOf Program.Tool (map string_bytes words.now) held r.0 r.1.bytes) }
+    ensures memory { IfErr result (λ e. e ≡ Memory) }
 {
     let Ok(mut sink) = MemSink::new_with_room(alloc, room) else {
         return Err(GivenFault::Memory);
@@ -62,8 +64,9 @@ fn ask_lab(
     shelf: &mut MemShelf,
     room: usize,
 ) -> Result<(u32, MemSink), GivenFault>
-    ensures { IfOk result (λ r. (held : List ℕ → Option (List ℕ)) → ((name : List ℕ) → bytes_at shelf.old name ≡ held name)
+    ensures answer { IfOk result (λ r. (held : List ℕ → Option (List ℕ)) → ((name : List ℕ) → bytes_at shelf.old name ≡ held name)
         → IsAnswerOf Program.Lab (map string_bytes words.now) held r.0 r.1.bytes) }
+    ensures memory { IfErr result (λ e. e ≡ Memory) }
 {
     let Ok(mut sink) = MemSink::new_with_room(alloc, room) else {
         return Err(GivenFault::Memory);
@@ -80,8 +83,9 @@ fn ask(
     shelf: &mut MemShelf,
     room: usize,
 ) -> Result<(u32, MemSink), GivenFault>
-    ensures { IfOk result (λ r. (held : List ℕ → Option (List ℕ)) → ((name : List ℕ) → bytes_at shelf.old name ≡ held name)
+    ensures answer { IfOk result (λ r. (held : List ℕ → Option (List ℕ)) → ((name : List ℕ) → bytes_at shelf.old name ≡ held name)
         → IsAnswerOf program (map string_bytes words.now) held r.0 r.1.bytes) }
+    ensures memory { IfErr result (λ e. e ≡ Memory) }
 {
     match program {
         Program::Tool => ask_tool(alloc, words, shelf, room),
@@ -101,8 +105,10 @@ fn ask_rows(
     contents: &[u8],
     room: usize,
 ) -> Result<(u32, MemSink), GivenFault>
-    ensures { IfOk result (λ r. IsAnswerOf program (pieces word_lengths.now words.now)
+    ensures answer { IfOk result (λ r. IsAnswerOf program (pieces word_lengths.now words.now)
         (held_by (pieces name_lengths.now names.now) (pieces file_lengths.now contents.now)) r.0 r.1.bytes) }
+    ensures fit { IfOk result (λ r. AreRows word_lengths.now words.now name_lengths.now names.now file_lengths.now contents.now) }
+    ensures bad { IfErr result (λ e. e ≡ BadCall → AreRows word_lengths.now words.now name_lengths.now names.now file_lengths.now contents.now → ⊥) }
 {
     let words = texts(alloc, word_lengths, words)?;
     let names = texts(alloc, name_lengths, names)?;
@@ -135,9 +141,12 @@ fn call(
     out: &mut [u8],
     ended: &mut Ended,
 )
-    ensures told { (((ended.new.status ≡ NO_MEMORY) ⊎ (ended.new.status ≡ BAD_CALL)) × (ended.new.length ≡ 0))
-        ⊎ TellsAnswer program (pieces word_lengths.now words.now) (pieces name_lengths.now names.now) (pieces file_lengths.now contents.now)
-        ended.new.status (length out.old) out.new ended.new.length }
+    ensures told { ((ended.new.status ≡ NO_MEMORY) × (ended.new.length ≡ 0))
+        ⊎ ((ended.new.status ≡ BAD_CALL) × (ended.new.length ≡ 0)
+        × (AreRows word_lengths.now words.now name_lengths.now names.now file_lengths.now contents.now → ⊥))
+        ⊎ (AreRows word_lengths.now words.now name_lengths.now names.now file_lengths.now contents.now
+        × TellsAnswer program (pieces word_lengths.now words.now) (pieces name_lengths.now names.now) (pieces file_lengths.now contents.now)
+        ended.new.status (length out.old) out.new ended.new.length) }
     ensures fits { ended.new.length ≤ length out.new }
     ensures room { length out.new ≡ length out.old }
     ensures rest { drop ended.new.length out.new ≡ drop ended.new.length out.old }
@@ -177,8 +186,8 @@ fn call(
 /// bytes each, and the lengths say how many bytes each word, name and file has. The text is written to `out`, as far
 /// as it goes there; the bytes after it stay.
 ///
-/// Where words or names are not UTF-8, or the lengths say more than the bytes hold, the status is 13, and where these
-/// cannot be stored it is 11; no text is written then.
+/// The status is 13 only where words or names are not UTF-8, or the lengths say more than the bytes hold, and a call of
+/// which that is so gets it, or 11 where memory was wanting; no text is written then.
 #[unsafe(no_mangle)]
 pub extern "C" fn mit_web_call(
     alloc: Global,
@@ -191,9 +200,12 @@ pub extern "C" fn mit_web_call(
     out: &mut [u8],
     ended: &mut Ended,
 )
-    ensures told { (((ended.new.status ≡ NO_MEMORY) ⊎ (ended.new.status ≡ BAD_CALL)) × (ended.new.length ≡ 0))
-        ⊎ TellsAnswer Program.Tool (pieces word_lengths.now words.now) (pieces name_lengths.now names.now) (pieces file_lengths.now contents.now)
-        ended.new.status (length out.old) out.new ended.new.length }
+    ensures told { ((ended.new.status ≡ NO_MEMORY) × (ended.new.length ≡ 0))
+        ⊎ ((ended.new.status ≡ BAD_CALL) × (ended.new.length ≡ 0)
+        × (AreRows word_lengths.now words.now name_lengths.now names.now file_lengths.now contents.now → ⊥))
+        ⊎ (AreRows word_lengths.now words.now name_lengths.now names.now file_lengths.now contents.now
+        × TellsAnswer Program.Tool (pieces word_lengths.now words.now) (pieces name_lengths.now names.now) (pieces file_lengths.now contents.now)
+        ended.new.status (length out.old) out.new ended.new.length) }
     ensures fits { ended.new.length ≤ length out.new }
     ensures room { length out.new ≡ length out.old }
     ensures rest { drop ended.new.length out.new ≡ drop ended.new.length out.old }
@@ -225,9 +237,12 @@ pub extern "C" fn lab_web_call(
     out: &mut [u8],
     ended: &mut Ended,
 )
-    ensures told { (((ended.new.status ≡ NO_MEMORY) ⊎ (ended.new.status ≡ BAD_CALL)) × (ended.new.length ≡ 0))
-        ⊎ TellsAnswer Program.Lab (pieces word_lengths.now words.now) (pieces name_lengths.now names.now) (pieces file_lengths.now contents.now)
-        ended.new.status (length out.old) out.new ended.new.length }
+    ensures told { ((ended.new.status ≡ NO_MEMORY) × (ended.new.length ≡ 0))
+        ⊎ ((ended.new.status ≡ BAD_CALL) × (ended.new.length ≡ 0)
+        × (AreRows word_lengths.now words.now name_lengths.now names.now file_lengths.now contents.now → ⊥))
+        ⊎ (AreRows word_lengths.now words.now name_lengths.now names.now file_lengths.now contents.now
+        × TellsAnswer Program.Lab (pieces word_lengths.now words.now) (pieces name_lengths.now names.now) (pieces file_lengths.now contents.now)
+        ended.new.status (length out.old) out.new ended.new.length) }
     ensures fits { ended.new.length ≤ length out.new }
     ensures room { length out.new ≡ length out.old }
     ensures rest { drop ended.new.length out.new ≡ drop ended.new.length out.old }

@@ -12,9 +12,9 @@ use Rattle.tool_texts.specs.declared.status.Status.TheVariants.{Disagree, Unfini
 use Rattle.tool_texts.specs.declared.stop.Stop.{Stop}
 use Rattle.tool_texts.specs.Texts.{File, program as program_file, certificate as certificate_file}
 use Rattle.tool_texts.specs.Ends.{Broke, IsStop, status_of, stop_text, told_status}
-use Rattle.tool_stages.specs.Stages.{Then, Reads, ProgramStops, ObserverStops, Types, TypeStops, ImageStops, HasWrongLine, CertificateStops}
+use Rattle.tool_stages.specs.Stages.{ProgramStops, ObserverStops, TypeStops, ImageStops, HasWrongLine, CertificateStops}
 use Rattle.tool_stages.specs.Content.{Content}
-use Rattle.tool_stages.specs.Begins.{Compiles, NoMore, CheckStops, CompileStops}
+use Rattle.tool_stages.specs.Begins.{Compiles, NoMore, CompileStops}
 use Rattle.tool_stages.specs.Accepted.{is_past_typing}
 use Rattle.tool_stages.proofs.StageStops.{FileStops, BadText, program_stops, observer_stops, type_stops, image_stops, certificate_stops}
 
@@ -22,11 +22,6 @@ use Rattle.tool_stages.proofs.StageStops.{FileStops, BadText, program_stops, obs
 pub record IsEarly (s : Status) : Type 0 where
   pub early : is_past_typing s ≡ false
   pub no_fault : s ≢ WriteFault
-
-then_early : {A : Type 0} (Stops : Status → List ℕ → Type 0) (Gives : A → Type 0) (Next : A → Status → List ℕ → Type 0) (s : Status) (t : List ℕ)
-    → (Stops s t → IsEarly s) → ((a : A) → Next a s t → IsEarly s) → Then Stops Gives Next s t → IsEarly s
-then_early Stops Gives Next s t f g (inl h) = f h
-then_early Stops Gives Next s t f g (inr h) = g h.0 h.2
 
 broke_early : (A : Status → List ℕ → Type 0) (s : Status) (t : List ℕ) → (A s t → IsEarly s) → Broke A s t → IsEarly s
 broke_early A Done t f h = f h
@@ -103,13 +98,6 @@ compile_early Rises content file observer s t = compiles_early Rises content fil
 pub not_late : (s : Status) → IsEarly s → IsTrue (is_past_typing s) → ⊥
 not_late s h late = cc (h.early)
 
-pub program_not_late : (R : Type 0) (held : Option (Option (List ℕ))) (e : Stop) → IsStop (ProgramStops R held) e → IsTrue (is_past_typing (status_of e)) → ⊥
-program_not_late R held e h = not_late (status_of e)
-    (broke_early (ProgramStops R held) (status_of e) (stop_text e) (program_early R held (status_of e) (stop_text e)) h)
-
-pub type_not_late : (p : Syntax) (e : Stop) → IsStop (TypeStops p) e → IsTrue (is_past_typing (status_of e)) → ⊥
-type_not_late p e h = not_late (status_of e) (broke_early (TypeStops p) (status_of e) (stop_text e) (type_early p (status_of e) (stop_text e)) h)
-
 pub compile_not_late : (Rises : List ℕ → Type 0) (content : Content) (file : List ℕ) (observer : Option (List ℕ)) (e : Stop)
     → IsStop (CompileStops Rises content file observer) e → IsTrue (is_past_typing (status_of e)) → ⊥
 compile_not_late Rises content file observer e h =
@@ -127,23 +115,10 @@ past_told r s told past =
     past_no_fault : IsTrue (is_past_typing WriteFault) → ⊥
     past_no_fault e = cc
 
-check_early : (Rises : List ℕ → Type 0) (content : Content) (file : List ℕ) (s : Status) (t : List ℕ) → CheckStops Rises content file s t → IsEarly s
-check_early Rises content file s t =
-    then_early (ProgramStops (Rises file) (content file)) (Reads (content file)) (λ p. Then (TypeStops p) (Types p) (λ q. NoMore)) s t
-    (program_early (Rises file) (content file) s t)
-    (λ p. then_early (TypeStops p) (Types p) (λ q. NoMore) s t (type_early p s t) (λ q n. absurd n))
-
--- what stops `check` and is written did not come past the typing
-pub check_stopped : (Rises : List ℕ → Type 0) (content : Content) (file : List ℕ) (e : Stop) (r : Status) (W : Type 0)
-    → IsStop (CheckStops Rises content file) e → (r ≢ WriteFault → (r ≡ status_of e) × W) → IsTrue (is_past_typing r) → ⊥
-check_stopped Rises content file e r W h told past =
-    not_late (status_of e) (broke_early (CheckStops Rises content file) (status_of e) (stop_text e) (check_early Rises content file (status_of e) (stop_text e))
-    h) (past_told r (status_of e) (λ n. (told n).0) past)
-
 -- what is true of each result that came past the typing is true where the status tells so
-pub told_sound : (r : Result (Vec ℕ Global) Stop) (A : Type 0) (s : Status) → OnOk r A → IfErr r (λ e. IsTrue (is_past_typing (status_of e)) → A)
+pub result_past : (r : Result (Vec ℕ Global) Stop) (A : Type 0) (s : Status) → OnOk r A → IfErr r (λ e. IsTrue (is_past_typing (status_of e)) → A)
     → (s ≢ WriteFault → s ≡ told_status r) → IsTrue (is_past_typing s) → A
-told_sound r A s ok stop told past = of_result r ok stop (past_told s (told_status r) told past)
+result_past r A s ok stop told past = of_result r ok stop (past_told s (told_status r) told past)
   where
     of_result : (r : Result (Vec ℕ Global) Stop) → OnOk r A → IfErr r (λ e. IsTrue (is_past_typing (status_of e)) → A)
         → IsTrue (is_past_typing (told_status r)) → A

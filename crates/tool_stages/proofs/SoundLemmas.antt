@@ -5,7 +5,7 @@ use Rattle.label_lattice.specs.Lattice.{IsLattice}
 use Rattle.label_lattice.specs.Order.{Order, lattice_of}
 use Rattle.label_lattice.proofs.Orders.{order_is}
 use Rattle.mit_syntax.specs.Program.{Syntax, plan_of}
-use Rattle.mit_syntax.specs.Valid.{IsValid, AreNumbered}
+use Rattle.mit_syntax.specs.Valid.{AreNumbered}
 use Rattle.mit_parser.specs.Words.{Told}
 use Rattle.mit_parser.specs.Scope.{scope}
 use Rattle.mit_parser.specs.Named.{label_names}
@@ -15,32 +15,13 @@ use Rattle.parse_laws.proofs.Meant.{program_order}
 use Rattle.timing_types.specs.Arrays.{ArraysIn}
 use Rattle.timing_types.specs.Labelling.{variable_of, IsLabelling}
 use Rattle.timing_types.specs.Labelled.{LabelledProgram, HasType}
-use Rattle.timing_types.proofs.Arrays.{valid_arrays}
 use Rattle.part_tlb.specs.Histories.{Placed}
 use Rattle.history_bound.specs.Over.{AnyHistory}
 use Rattle.leak_bound.specs.Source.{IsTypedWith}
 use Rattle.leak_bound.specs.Over.{LoweredSoundOver, LoweredCutSoundOver}
 use Rattle.tool_stages.specs.Stages.{Types}
-use Rattle.tool_stages.specs.Accepted.{IsSoundIn}
+use Rattle.tool_stages.specs.Accepted.{IsSoundIn, IsSound, TypedAreSound}
 use Rattle.tool_stages.proofs.ArrayLemmas.{spelled_arrays}
-
-made_of : (p : Syntax) (q : LabelledProgram) → IsValid p → Types p q → IsTypedWith q
-made_of p q valid types =
-    let is : IsValid q.program = subst IsValid (sym types.program) valid in
-    let labelling = subst (λ (s : Syntax). IsLabelling s q.labels) (sym types.program) types.least.labels.keeps in
-    record {
-      lattice = order_is q.program.order is.order;
-      numbered = is.numbered;
-      labelling = labelling;
-      arrays = valid_arrays q.program q.labels is labelling;
-      typed = types.typed;
-    }
-
-pub sound_in : (v : Order → Env (List Placed)) → LoweredSoundOver v AnyHistory → LoweredCutSoundOver v AnyHistory
-    → (p : Syntax) (q : LabelledProgram) → IsValid p → Types p q → IsSoundIn (v q.program.order) q
-sound_in v halted cut p q valid types =
-    let made = made_of p q valid types in
-    record { halted = halted q made; cut = cut q made }
 
 -- a program that words spell
 pub typed_made : (words : List Told) (p : Syntax) (q : LabelledProgram) → IsProgram words p → q.program ≡ p → IsLabelling p q.labels → HasType q → IsTypedWith q
@@ -62,6 +43,6 @@ typed_in v halted cut words p q spelled is labelling typed =
     let made = typed_made words p q spelled is labelling typed in
     record { halted = halted q made; cut = cut q made }
 
-pub spelled_in : (v : Order → Env (List Placed)) → LoweredSoundOver v AnyHistory → LoweredCutSoundOver v AnyHistory
-    → (words : List Told) (p : Syntax) (q : LabelledProgram) → IsProgram words p → Types p q → IsSoundIn (v q.program.order) q
-spelled_in v halted cut words p q spelled types = typed_in v halted cut words p q spelled types.program types.least.labels.keeps types.typed
+-- and with the least labelling, where that types it
+pub least_is_sound : TypedAreSound → (words : List Told) (p : Syntax) (q : LabelledProgram) → IsProgram words p → Types p q → IsSound q
+least_is_sound sound words p q spelled types = sound words p q spelled types.program types.least.labels.keeps types.typed

@@ -3,7 +3,6 @@ use Rattle.std.specs.Prelude.{◌≡◌, ℕ, List, Option, Bool, true, false}
 use Rattle.env_contract.specs.Env.{Env}
 use Rattle.mit_syntax.specs.Plan.{count, mitigates}
 use Rattle.mit_syntax.specs.Program.{Syntax, plan_of}
-use Rattle.mit_syntax.specs.Valid.{IsValid}
 use Rattle.mit_parser.specs.Words.{Told}
 use Rattle.mit_parser.specs.Spells.{IsProgram}
 use Rattle.timing_types.specs.Labelling.{IsLabelling}
@@ -29,34 +28,24 @@ pub record IsSoundIn (v : Env (List Placed)) (q : LabelledProgram) : Type 0 wher
 abbrev pub IsSound : LabelledProgram → Type 0
 IsSound q = (e : EnvName) → IsSoundIn (environment e q.program.order) q
 
--- every program is sound with the least labelling that types it
-abbrev pub AcceptedAreSound : Type 0
-AcceptedAreSound = (p : Syntax) (q : LabelledProgram) → IsValid p → Types p q → IsSound q
-
--- every program that words spell is
-abbrev pub SpelledAreSound : Type 0
-SpelledAreSound = (words : List Told) (p : Syntax) (q : LabelledProgram) → IsProgram words p → Types p q → IsSound q
-
--- and it is with each labelling that types it, also where that is not the least one
+-- every program that words spell is, with each labelling that types it, the least one or another
 abbrev pub TypedAreSound : Type 0
 TypedAreSound =
     (words : List Told) (p : Syntax) (q : LabelledProgram) → IsProgram words p → q.program ≡ p → IsLabelling p q.labels → HasType q → IsSound q
 
--- the program of a file is accepted
+-- the program of a file is accepted: its least labelling types it
 pub record IsAccepted (content : Option (Option (List ℕ))) : Type 0 where
   pub program : Syntax
   pub reads : Reads content program
   pub labelled : LabelledProgram
   pub types : Types program labelled
-  pub sound : IsSound labelled
 
--- the program of a file is sound with the labelling that the certificate in another file holds
+-- the labelling that the certificate in another file holds types the program of a file
 pub record IsRechecked (content certificate : Option (Option (List ℕ))) : Type 0 where
   pub program : Syntax
   pub reads : Reads content program
   pub labelled : LabelledProgram
   pub rechecks : Rechecks certificate program labelled
-  pub sound : IsSound labelled
 
 -- a program is accepted: how many commands and mitigates it has
 abbrev pub HasChecked : Syntax → Status → List ℕ → Type 0

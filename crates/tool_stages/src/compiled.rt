@@ -6,10 +6,9 @@ ghost use Rattle.tim_base.specs.Faults.{Rose};
 ghost use Rattle.tool_texts.specs.Ends.{IsStop};
 ghost use Rattle.tool_stages.specs.Fetches.{Fetches};
 ghost use Rattle.tool_stages.specs.Begins.{IsCompiled, ProgramCompileStops, HasCompiled, CompileStops};
-ghost use Rattle.tool_stages.specs.Accepted.{IsAccepted, IsSound};
+ghost use Rattle.tool_stages.specs.Accepted.{IsAccepted};
 
 use crate::image::image;
-use crate::laws::accepted_are_sound;
 use crate::observer::observer;
 use crate::program::read_program;
 use crate::types::typed;
@@ -40,12 +39,9 @@ pub fn compile_program(
 ) -> Result<Compiled, Stop>
     ensures ok { IfOk result (λ r. IsCompiled program (option_map (λ s. s.now) name.entry) r.typed.labelled r.observer r.image) }
     ensures stop { IfErr result (IsStop (ProgramCompileStops program (option_map (λ s. s.now) name.entry))) }
-    ensures sound { IfOk result (λ r. IsSound r.typed.labelled) }
 {
-    program.laws();
     let observer = observer(&program.lattice(), name)?;
     let typed = typed(alloc, program)?;
-    accepted_are_sound();
     match image(alloc, &typed) {
         Ok(image) => Ok(Compiled {
             typed,
@@ -72,7 +68,7 @@ pub fn compile<S: Shelf>(
     ensures ok { IfOk result (λ r. HasCompiled (S.content shelf.old) file.now (option_map (λ s. s.now) name.entry) r.typed.labelled r.observer r.image) }
     ensures stop { IfErr result (IsStop (CompileStops (λ name. Rose (S.faults shelf.old name) (S.faults shelf.new name)) (S.content shelf.old) file.now
         (option_map (λ s. s.now) name.entry))) }
-    ensures sound { OnOk result (IsAccepted (S.content shelf.old file.now)) }
+    ensures accepted { OnOk result (IsAccepted (S.content shelf.old file.now)) }
 {
     let program = read_program(alloc, shelf, file)?;
     match compile_program(alloc, program, name) {

@@ -5,7 +5,7 @@ ghost use Rattle.history_bound.specs.Over.{AnyHistory, history_made};
 ghost use Rattle.history_reports.specs.Reports.{RunsTellAlike, AuditsTellAlike};
 ghost use Rattle.tool_words.specs.declared.words.EnvName.{EnvName};
 ghost use Rattle.tool_stages.specs.Envs.{environment};
-ghost use Rattle.tool_stages.specs.Accepted.{AcceptedAreSound, SpelledAreSound, TypedAreSound};
+ghost use Rattle.tool_stages.specs.Accepted.{TypedAreSound};
 
 use crate::envs::NamedEnv;
 use env_contract::env::MachineEnv;
@@ -19,13 +19,10 @@ pub fn named_keep_the_laws()
     histories_keep_the_laws();
 }
 
-/// A law: in each environment that `--env` names, the image of an accepted program does what the program does,
-/// and of starts that agree for an observer few different sequences are seen. `typed`: so it is with each labelling
-/// that types a program, also with one that is not the least.
-pub fn accepted_are_sound()
-    ensures valid { AcceptedAreSound }
-    ensures spelled { SpelledAreSound }
-    ensures typed { TypedAreSound }
+/// A law: in each environment that `--env` names, and with each labelling that types a program, the image does what
+/// the program does, and of starts that agree for an observer few different sequences are seen.
+pub fn typed_are_sound()
+    ensures { TypedAreSound }
 {
     named_keep_the_laws();
     lowered_few_sequences_of_histories();

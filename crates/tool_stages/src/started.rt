@@ -37,8 +37,8 @@ pub fn ready<S: Shelf>(
     ensures valid { IfOk result (λ r. IsFor r.0.typed.labelled.program (seen r.1)) }
     ensures stop { IfErr result (IsStop (RunStops (λ name. Rose (S.faults shelf.old name) (S.faults shelf.new name)) (S.content shelf.old) file.now
         (option_map (λ s. s.now) starts.entry) (option_map (λ s. s.now) name.entry))) }
-    ensures sound { OnOk result (IsAccepted (S.content shelf.old file.now)) }
-    ensures sound_stop { IfErr result (λ e. IsTrue (is_past_typing (status_of e)) → IsAccepted (S.content shelf.old file.now)) }
+    ensures accepted { OnOk result (IsAccepted (S.content shelf.old file.now)) }
+    ensures accepted_stop { IfErr result (λ e. IsTrue (is_past_typing (status_of e)) → IsAccepted (S.content shelf.old file.now)) }
 {
     let compiled = match compile(alloc, shelf, file, name) {
         Ok(compiled) => compiled,

@@ -33,7 +33,16 @@ returns-in-Ok g c =
     λ f. rose_either before between after (s ≡ status.WriteFault) e.later_out c.hand_on.ensures.later e.write (c.hand_on.ensures.fault f) in
     let leads = leads_cut (Rose before between) (Rose before after) old taken new kept.0 s t c.hand_on.ensures.same rose fails grew kept.1 kept.2 in
     let tool : HasEnded content Names (Rose before between) old taken words s =
-    record { answered = e.answered; usage = e.usage; sound = e.sound; rechecked = e.rechecked; complete = e.complete; write = e.write; one = e.one } in
+    record {
+      answered = e.answered;
+      usage = e.usage;
+      sound = e.sound;
+      accepted = e.accepted;
+      rechecked = e.rechecked;
+      complete = e.complete;
+      write = e.write;
+      one = e.one;
+    } in
     let here = ended content Names (Rose before between) (Rose before after) old taken new words s t leads tool in
     subst (λ n. HasEnded content Names (Rose n after) had new words t) count (subst (λ o. HasEnded content Names (Rose before after) o new words t) was here)
 
@@ -47,5 +56,14 @@ returns-in-Err g c =
     let after = g.W.Sink.faults c.mitigate_main-status-in-Err.new.out in
     let s = c.mitigate_main-status-in-Err.result in
     let here : HasEnded content Names (Rose (g.W.Sink.faults c.in-Err.out) after) (g.W.Sink.taken c.in-Err.out) new words s =
-    record { answered = e.answered; usage = e.usage; sound = e.sound; rechecked = e.rechecked; complete = e.complete; write = e.write; one = e.one } in
+    record {
+      answered = e.answered;
+      usage = e.usage;
+      sound = e.sound;
+      accepted = e.accepted;
+      rechecked = e.rechecked;
+      complete = e.complete;
+      write = e.write;
+      one = e.one;
+    } in
     subst (λ o. HasEnded content Names (Rose (g.W.Sink.faults o) after) (g.W.Sink.taken o) new words s) c.in-Err.ensures.err here

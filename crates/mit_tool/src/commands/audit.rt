@@ -1,16 +1,13 @@
 //! `audit`: how many different sequences an observer can tell apart, and the bound of that.
 
-ghost use Rattle.std.specs.Prelude.{Some, IfOk, IfErr, OnOk, IsTrue, map, ◌∷◌, []};
+ghost use Rattle.std.specs.Prelude.{Some, IfOk, IfErr, map, ◌∷◌, []};
 ghost use Rattle.tim_base.specs.Kept.{KeepsFiles, NoCountFalls};
 ghost use Rattle.tim_base.specs.Faults.{Rose};
-ghost use Rattle.label_lattice.specs.declared.label.Label.{Label};
-ghost use Rattle.timing_types.specs.Labelled.{LabelledProgram};
-ghost use Rattle.start_file.specs.Starts.{StartValue, seen};
+ghost use Rattle.start_file.specs.Starts.{seen};
 ghost use Rattle.run_limits.specs.Cycles.{IsCycles};
 ghost use Rattle.tool_words.specs.WordsAsked.{audit};
-ghost use Rattle.tool_texts.specs.Ends.{IsStop, status_of};
+ghost use Rattle.tool_texts.specs.Ends.{IsStop};
 ghost use Rattle.tool_stages.specs.Begins.{CanAudit};
-ghost use Rattle.tool_stages.specs.Accepted.{is_past_typing, IsAccepted};
 ghost use Rattle.tool_stages.specs.Fetches.{Fetches};
 ghost use Rattle.mit_tool.specs.Audited.{HasAudited};
 ghost use Rattle.mit_tool.specs.Commands.{IsAnswer};
@@ -76,8 +73,6 @@ pub fn audit_text<S: Shelf, W: Watch>(
         (audit file.now starts.now name.now setting.env setting.budget) Status.Done v.items) }
     ensures stop { IfErr result (IsStop (IsAnswer (λ name. Rose (S.faults shelf.old name) (S.faults shelf.new name)) (S.content shelf.old)
         (audit file.now starts.now name.now setting.env setting.budget))) }
-    ensures sound { OnOk result (IsAccepted (S.content shelf.old file.now)) }
-    ensures sound_stop { IfErr result (λ e. IsTrue (is_past_typing (status_of e)) → IsAccepted (S.content shelf.old file.now)) }
 {
     let prepared = match prepare(alloc, shelf, file, starts, name) {
         Ok(prepared) => prepared,

@@ -1,17 +1,15 @@
 //! `certify`: a certificate of a program's least labelling.
 
-ghost use Rattle.std.specs.Prelude.{IfOk, IfErr, OnOk, IsTrue, ◌∷◌, []};
+ghost use Rattle.std.specs.Prelude.{IfOk, IfErr, ◌∷◌, []};
 ghost use Rattle.tim_base.specs.Kept.{KeepsFiles, NoCountFalls};
 ghost use Rattle.tim_base.specs.Faults.{Rose};
 ghost use Rattle.tool_words.specs.WordsAsked.{certify};
-ghost use Rattle.tool_texts.specs.Ends.{IsStop, status_of};
-ghost use Rattle.tool_stages.specs.Accepted.{is_past_typing, IsAccepted};
+ghost use Rattle.tool_texts.specs.Ends.{IsStop};
 ghost use Rattle.tool_stages.specs.Fetches.{Fetches};
 ghost use Rattle.mit_tool.specs.Commands.{IsAnswer};
 
 use std::alloc::Global;
 use tim_base::shelf::Shelf;
-use tool_stages::laws::accepted_are_sound;
 use tool_stages::program::read_program;
 use tool_stages::types::typed;
 use tool_texts::status::Status;
@@ -31,13 +29,10 @@ pub fn certify_text<S: Shelf>(alloc: Global, shelf: &mut S, file: &str) -> Resul
         (certify file.now) Status.Done v.items) }
     ensures stop { IfErr result (IsStop (IsAnswer (λ name. Rose (S.faults shelf.old name) (S.faults shelf.new name)) (S.content shelf.old)
         (certify file.now))) }
-    ensures sound { OnOk result (IsAccepted (S.content shelf.old file.now)) }
-    ensures sound_stop { IfErr result (λ e. IsTrue (is_past_typing (status_of e)) → IsAccepted (S.content shelf.old file.now)) }
 {
     let program = read_program(alloc, shelf, file)?;
     program.laws();
     let typed = typed(alloc, program)?;
-    accepted_are_sound();
     derived_texts_are_certificates();
     match certificate(alloc, typed.labelled()) {
         Ok(text) => Ok(text),

@@ -1,19 +1,17 @@
 //! `check`: whether a program is accepted.
 
-ghost use Rattle.std.specs.Prelude.{IfOk, IfErr, OnOk, ◌∷◌, []};
+ghost use Rattle.std.specs.Prelude.{IfOk, IfErr, ◌∷◌, []};
 ghost use Rattle.tim_base.specs.Kept.{KeepsFiles, NoCountFalls};
 ghost use Rattle.tim_base.specs.Faults.{Rose};
 ghost use Rattle.tool_words.specs.WordsAsked.{check};
 ghost use Rattle.tool_texts.specs.Ends.{IsStop};
 ghost use Rattle.tool_stages.specs.Begins.{CheckStops};
-ghost use Rattle.tool_stages.specs.Accepted.{IsAccepted};
 ghost use Rattle.tool_stages.specs.Fetches.{Fetches};
 ghost use Rattle.mit_tool.specs.Commands.{IsAnswer};
 
 use std::alloc::Global;
 use tim_base::line::Line;
 use tim_base::shelf::Shelf;
-use tool_stages::laws::accepted_are_sound;
 use tool_stages::program::read_program;
 use tool_stages::types::typed;
 use tool_texts::lines::accepted;
@@ -31,12 +29,9 @@ pub fn check_line<S: Shelf>(alloc: Global, shelf: &mut S, file: &str) -> Result<
     ensures line { IfOk result (IsAnswer (λ name. Rose (S.faults shelf.old name) (S.faults shelf.new name)) (S.content shelf.old)
         (check file.now) Status.Done) }
     ensures stop { IfErr result (IsStop (CheckStops (λ name. Rose (S.faults shelf.old name) (S.faults shelf.new name)) (S.content shelf.old) file.now)) }
-    ensures sound { OnOk result (IsAccepted (S.content shelf.old file.now)) }
 {
     let program = read_program(alloc, shelf, file)?;
-    program.laws();
     let line = accepted(program.commands(), program.mitigates());
     typed(alloc, program)?;
-    accepted_are_sound();
     Ok(line)
 }

@@ -1,11 +1,10 @@
 //! `compile`: the text of a program's image.
 
-ghost use Rattle.std.specs.Prelude.{IfOk, IfErr, OnOk, IsTrue, ◌∷◌, []};
+ghost use Rattle.std.specs.Prelude.{IfOk, IfErr, ◌∷◌, []};
 ghost use Rattle.tim_base.specs.Kept.{KeepsFiles, NoCountFalls};
 ghost use Rattle.tim_base.specs.Faults.{Rose};
 ghost use Rattle.tool_words.specs.WordsAsked.{compile};
-ghost use Rattle.tool_texts.specs.Ends.{IsStop, status_of};
-ghost use Rattle.tool_stages.specs.Accepted.{is_past_typing, IsAccepted};
+ghost use Rattle.tool_texts.specs.Ends.{IsStop};
 ghost use Rattle.tool_stages.specs.Fetches.{Fetches};
 ghost use Rattle.mit_tool.specs.Commands.{IsAnswer};
 
@@ -28,8 +27,6 @@ pub fn compile_text<S: Shelf>(alloc: Global, shelf: &mut S, file: &str) -> Resul
         (compile file.now) Status.Done v.items) }
     ensures stop { IfErr result (IsStop (IsAnswer (λ name. Rose (S.faults shelf.old name) (S.faults shelf.new name)) (S.content shelf.old)
         (compile file.now))) }
-    ensures sound { OnOk result (IsAccepted (S.content shelf.old file.now)) }
-    ensures sound_stop { IfErr result (λ e. IsTrue (is_past_typing (status_of e)) → IsAccepted (S.content shelf.old file.now)) }
 {
     let compiled = match compile(alloc, shelf, file, None) {
         Ok(compiled) => compiled,

@@ -1,15 +1,14 @@
 //! `gen`: a made program is audited.
 
-ghost use Rattle.std.specs.Prelude.{◌≡◌, ◌≤◌, Some, IfOk, IfErr, OnOk, IsTrue, [], length, map, codes};
+ghost use Rattle.std.specs.Prelude.{◌≡◌, ◌≤◌, Some, IfOk, IfErr, [], length, map, codes};
 ghost use Rattle.tim_base.specs.Told.{limit};
 ghost use Rattle.start_file.specs.Starts.{seen};
 ghost use Rattle.mit_gen.specs.Made.{program_text, starts_text};
 ghost use Rattle.mit_syntax.specs.Plan.{count};
 ghost use Rattle.mit_syntax.specs.Program.{plan_of};
 ghost use Rattle.tool_texts.specs.Reports.{made_lines};
-ghost use Rattle.tool_texts.specs.Ends.{IsStop, status_of};
+ghost use Rattle.tool_texts.specs.Ends.{IsStop};
 ghost use Rattle.tool_stages.specs.Begins.{IsPrepared, CanAudit, PrepareStops};
-ghost use Rattle.tool_stages.specs.Accepted.{is_past_typing, IsAccepted};
 ghost use Rattle.mit_tool.specs.Answers.{HasGenerated, made_content};
 
 use crate::commands::audit::audit_after;
@@ -42,8 +41,6 @@ fn prepare_made(alloc: Global, made: &Made, size: u32, number: u32) -> Result<Pr
         r.compiled.image (map seen r.starts.items)) }
     ensures fit { IfOk result (λ r. CanAudit r.compiled.typed.labelled r.observer r.compiled.image (map seen r.starts.items)) }
     ensures stop { IfErr result (IsStop (PrepareStops (λ name. ⊥) (made_content size number) [] (codes "L") ⊥ (Some (Some starts_text)))) }
-    ensures sound { OnOk result (IsAccepted (Some (Some (program_text size number)))) }
-    ensures sound_stop { IfErr result (λ e. IsTrue (is_past_typing (status_of e)) → IsAccepted (Some (Some (program_text size number)))) }
 {
     let program = match program_of(alloc, made.program.as_slice()) {
         Ok(program) => program,
@@ -98,8 +95,6 @@ pub fn gen_text<W: Watch>(alloc: Global, size: u32, number: u32, watch: &W) -> R
     requires number { number ≤ 2147483647 }
     ensures text { IfOk result (λ v. HasGenerated size number Status.Done v.items) }
     ensures stop { IfErr result (IsStop (HasGenerated size number)) }
-    ensures sound { OnOk result (IsAccepted (Some (Some (program_text size number)))) }
-    ensures sound_stop { IfErr result (λ e. IsTrue (is_past_typing (status_of e)) → IsAccepted (Some (Some (program_text size number)))) }
 {
     let Ok(made) = make(alloc, size, number) else {
         return Err(no_memory());

@@ -1,6 +1,6 @@
 //! `run`: a program runs on the machine that counts cycles, and its assignments are written while it runs.
 
-ghost use Rattle.std.specs.Prelude.{◌≡◌, ◌≢◌, ◌≤◌, ◌<◌, ◌∷◌, IfSome, option_map, IsTrue};
+ghost use Rattle.std.specs.Prelude.{◌≡◌, ◌≢◌, ◌≤◌, ◌<◌, ◌∷◌, IfSome, option_map};
 ghost use Rattle.tim_base.specs.Kept.{KeepsFiles, NoCountFalls};
 ghost use Rattle.tim_base.specs.Faults.{Rose};
 ghost use Rattle.label_code.specs.Run.{run_from};
@@ -9,7 +9,6 @@ ghost use Rattle.cycle_machine.specs.Rest.{told_by};
 ghost use Rattle.tool_words.specs.WordsAsked.{run};
 ghost use Rattle.tool_texts.specs.Ends.{EndsBy, Nothing};
 ghost use Rattle.tool_stages.specs.Stages.{HasImage};
-ghost use Rattle.tool_stages.specs.Accepted.{is_past_typing, IsAccepted};
 ghost use Rattle.tool_stages.specs.Fetches.{HasFetched, named};
 ghost use Rattle.mit_tool.specs.Logged.{HasWritten, AreLines, IsRunLine};
 ghost use Rattle.mit_tool.specs.Answers.{HasTold, HasRun};
@@ -139,7 +138,6 @@ pub fn run<S: Shelf, W: Sink>(
     ensures write { result ≡ Status.WriteFault → Rose (W.faults out.old) (W.faults out.new) }
     ensures fetched { HasFetched (file.now ∷ named (option_map (λ s. s.now) starts.entry)) result (S.log shelf.old) (S.log shelf.new) }
     ensures pieces { HasWritten (AreLines IsRunLine) result (W.log out.old) (W.log out.new) }
-    ensures sound { IsTrue (is_past_typing result) → IsAccepted (S.content shelf.old file.now) }
 {
     match ready(alloc, shelf, file, starts, name) {
         Ok((program, start)) => run_named(alloc, &program, start, setting, out),

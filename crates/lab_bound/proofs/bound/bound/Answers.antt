@@ -3,7 +3,7 @@ use Rattle.tim_base.specs.Faults.{Rose}
 use Rattle.tool_texts.specs.Ends.{Nothing, told_status, told_text}
 use Rattle.tool_texts.proofs.EndLemmas.{no_fault, ends_finish}
 use Rattle.tool_stages.specs.Accepted.{IsAccepted}
-use Rattle.tool_stages.proofs.EarlyLemmas.{told_sound}
+use Rattle.tool_stages.proofs.EarlyLemmas.{result_past}
 use Rattle.tool_stages.proofs.FetchLemmas.{told_fetched}
 use Rattle.lab_texts.specs.InLab.{lab_text}
 use Rattle.lab_texts.proofs.LabLemmas.{result_tells_in_lab}
@@ -47,10 +47,10 @@ returns-clause-complete g c =
 pub returns-clause-enough : goal.returns-clause-enough
 returns-clause-enough g c = c.sharp_counts_are_enough.ensures c.args.setting.env c.args.setting.budget
 
-pub returns-clause-sound : goal.returns-clause-sound
-returns-clause-sound g c =
-    told_sound c.bound_text-text.result (IsAccepted (g.S.Shelf.content c.args.shelf.now c.args.file.now)) c.tell.result c.bound_text-text.ensures.sound
-    c.bound_text-text.ensures.sound_stop (λ n. (c.tell.ensures.told n).0)
+pub returns-clause-accepted : goal.returns-clause-accepted
+returns-clause-accepted g c =
+    result_past c.bound_text-text.result (IsAccepted (g.S.Shelf.content c.args.shelf.now c.args.file.now)) c.tell.result c.bound_text-text.ensures.accepted
+    c.bound_text-text.ensures.accepted_stop (λ n. (c.tell.ensures.told n).0)
 
 pub returns-clause-fetched : goal.returns-clause-fetched
 returns-clause-fetched g c =

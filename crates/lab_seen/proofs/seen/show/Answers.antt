@@ -42,8 +42,9 @@ returns-clause-answered g c =
     c.args.setting.env c.args.setting.budget p.compiled.typed.labelled p.observer p.compiled.image (map seen p.starts.items) c.in-Ok.ensures.ok
     (g.W.Sink.taken c.args.out.now) (g.W.Sink.taken c.write_lines.new.out) (c.write_lines.ensures.prefix (cc))
 
-pub returns-in-Err-clause-sound : goal.returns-in-Err-clause-sound
-returns-in-Err-clause-sound g c = λ past. c.in-Err.ensures.sound_stop (past_told c.stop.result (status_of c.in-Err.e) (λ n. (c.stop.ensures.told n).0) past)
+pub returns-in-Err-clause-accepted : goal.returns-in-Err-clause-accepted
+returns-in-Err-clause-accepted g c = λ past.
+    c.in-Err.ensures.accepted_stop (past_told c.stop.result (status_of c.in-Err.e) (λ n. (c.stop.ensures.told n).0) past)
 
 pub returns-in-Err-clause-fetched : goal.returns-in-Err-clause-fetched
 returns-in-Err-clause-fetched g c =

@@ -53,8 +53,8 @@ returns-in-Ok-all_starts-clause-same g c = λ name. c.all_starts.ensures.same na
 pub returns-in-Ok-all_starts-clause-later : goal.returns-in-Ok-all_starts-clause-later
 returns-in-Ok-all_starts-clause-later g c = λ name. omega (arith, c.compile.ensures.later name, c.all_starts.ensures.later name)
 
-pub returns-in-Err-clause-sound_stop : goal.returns-in-Err-clause-sound_stop
-returns-in-Err-clause-sound_stop g c = λ late.
+pub returns-in-Err-clause-accepted_stop : goal.returns-in-Err-clause-accepted_stop
+returns-in-Err-clause-accepted_stop g c = λ late.
     absurd (compile_not_late (λ (name : List ℕ). Rose (g.S.Shelf.faults c.args.shelf.now name) (g.S.Shelf.faults c.compile.new.shelf name))
     (g.S.Shelf.content c.args.shelf.now)
     c.args.file.now (option_map (λ s. s.now) c.args.name) c.in-Err.stop c.in-Err.ensures.stop late)

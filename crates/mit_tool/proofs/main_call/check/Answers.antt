@@ -7,7 +7,6 @@ use Rattle.tool_texts.specs.Ends.{Nothing, status_of, stop_text}
 use Rattle.tool_stages.specs.Begins.{CheckStops}
 use Rattle.mit_tool.specs.Commands.{IsAnswer}
 use Rattle.tool_texts.proofs.EndLemmas.{ends_finish, ends_stop}
-use Rattle.tool_stages.proofs.EarlyLemmas.{check_stopped}
 use Rattle.mit_tool.proofs.StopLemmas.{check_stops}
 use Rattle.mit_tool.proofs.LoggedLemmas.{one_piece}
 use Rattle.mit_tool.specs.Logged.{ArePieces}
@@ -28,11 +27,6 @@ returns-in-Err-clause-answered g c =
     ends_stop (g.W.Sink.taken c.args.out.now) (g.W.Sink.taken c.stop.new.out) Nothing (CheckStops rises content c.args.file.now)
     (IsAnswer rises content (check c.args.file.now)) (status_of e) (stop_text e) c.stop.result refl
     (λ t. check_stops rises content c.args.file.now (status_of e) t) c.in-Err.ensures.stop c.stop.ensures.told c.stop.ensures.prefix
-
-pub returns-in-Err-clause-sound : goal.returns-in-Err-clause-sound
-returns-in-Err-clause-sound g c = λ past. absurd
-    (check_stopped (λ (name : List ℕ). Rose (g.S.Shelf.faults c.args.shelf.now name) (g.S.Shelf.faults c.check_line.new.shelf name))
-    (g.S.Shelf.content c.args.shelf.now) c.args.file.now c.in-Err.e c.stop.result _ c.in-Err.ensures.stop c.stop.ensures.told past)
 
 pub returns-in-Err-clause-pieces : goal.returns-in-Err-clause-pieces
 returns-in-Err-clause-pieces g c =

@@ -1,18 +1,19 @@
 use Rattle.std.proofs.Common.{◌≡◌, ◌⊎◌, inr, refl}
-use Rattle.std.specs.Prelude.{ℕ, List, map, string_bytes}
+use Rattle.std.specs.Prelude.{ℕ, List, IfSome, map, string_bytes}
 use Rattle.tim_base.specs.Faults.{Rose}
 use Rattle.tool_words.specs.WordsAsked.{Asked, asked_of, command_of}
 use Rattle.tool_texts.specs.declared.status.Status.TheVariants.{Done, Usage, Memory}
 use Rattle.tool_texts.specs.Texts.{usage_text, memory_line}
 use Rattle.tool_texts.specs.Ends.{EndsBy, Nothing}
 use Rattle.mit_tool.specs.Answers.{IsUsage}
-use Rattle.mit_tool.specs.Commands.{files_of, IsAnswer, Before, HeldIsSound, AreWithin}
+use Rattle.mit_tool.specs.Commands.{files_of, IsAnswer, Before, typed_content, HeldTypes, AreWithin}
 use Rattle.mit_tool.specs.Complete.{CanBeDone}
 use Rattle.tool_texts.proofs.EndLemmas.{ends_finish, ends_memory}
 use Rattle.mit_tool.proofs.AskedLemmas.{ends_past, ends_rechecked, ends_held, completes}
 use Rattle.mit_tool.proofs.CommandLemmas.{nothing_before, memory_pieces, within}
 use Rattle.mit_tool.specs.Held.{EndsByOne, told_all}
 use Rattle.tool_stages.specs.Content.{NoneRises}
+use Rattle.tool_stages.specs.Accepted.{IsAccepted}
 use Rattle.tool_stages.specs.Fetches.{named_by}
 use Rattle.tool_stages.proofs.AskedLemmas.{any_some, asked_some}
 use Rattle.tool_stages.proofs.FetchLemmas.{fetched_nothing, never_read}
@@ -62,13 +63,22 @@ returns-in-Err-Memory-clause-complete g c =
     → (c.stop_for_memory.result ≡ Done) ⊎ (c.stop_for_memory.result ≡ Memory))
     (λ a can none n. inr (c.stop_for_memory.ensures.told (λ e. n (c.stop_for_memory.ensures.fault e))).0)
 
+pub returns-in-Ok-clause-accepted : goal.returns-in-Ok-clause-accepted
+returns-in-Ok-clause-accepted g c = λ past.
+    let content = g.S.Shelf.content c.args.shelf.now in
+    let rises = λ (name : List ℕ). Rose (g.S.Shelf.faults c.args.shelf.now name) (g.S.Shelf.faults c.obey.new.shelf name) in
+    let a = asked_of c.in-Ok.command in
+    asked_some (command_of (map string_bytes c.args.words.now)) a (λ (a : Asked). IfSome (typed_content content a) IsAccepted) c.in-Ok.ensures.asked
+    (ends_past rises content a (g.W.Sink.taken c.args.out.now) (g.W.Sink.taken c.obey.new.out) (Before content a)
+    c.obey.result c.obey.ensures.answered past)
+
 pub returns-in-Ok-clause-rechecked : goal.returns-in-Ok-clause-rechecked
 returns-in-Ok-clause-rechecked g c = λ past.
     let content = g.S.Shelf.content c.args.shelf.now in
     let rises = λ (name : List ℕ). Rose (g.S.Shelf.faults c.args.shelf.now name) (g.S.Shelf.faults c.obey.new.shelf name) in
     let a = asked_of c.in-Ok.command in
-    asked_some (command_of (map string_bytes c.args.words.now)) a (HeldIsSound content) c.in-Ok.ensures.asked
-    (ends_rechecked c.accepted_are_sound.ensures.typed rises content a (g.W.Sink.taken c.args.out.now) (g.W.Sink.taken c.obey.new.out) (Before content a)
+    asked_some (command_of (map string_bytes c.args.words.now)) a (HeldTypes content) c.in-Ok.ensures.asked
+    (ends_rechecked rises content a (g.W.Sink.taken c.args.out.now) (g.W.Sink.taken c.obey.new.out) (Before content a)
     c.obey.result c.obey.ensures.answered past)
 
 pub returns-in-Ok-clause-one : goal.returns-in-Ok-clause-one
@@ -87,8 +97,8 @@ returns-in-Ok-clause-one g c =
       held = k.0;
       told = k.1;
       answered = k.2;
-      sound = ends_past c.accepted_are_sound.ensures.spelled rises (told_all k.0) a old new (Before (told_all k.0) a) c.obey.result k.2;
-      rechecked = ends_rechecked c.accepted_are_sound.ensures.typed rises (told_all k.0) a old new (Before (told_all k.0) a) c.obey.result k.2;
+      accepted = ends_past rises (told_all k.0) a old new (Before (told_all k.0) a) c.obey.result k.2;
+      rechecked = ends_rechecked rises (told_all k.0) a old new (Before (told_all k.0) a) c.obey.result k.2;
       complete = completes old new rises (told_all k.0) a c.obey.result risen k.2 c.obey.ensures.write c.in-Ok.ensures.range;
     })
 
@@ -108,22 +118,22 @@ returns-in-Err-Memory-clause-one g c =
       held = k.0;
       told = k.1;
       answered = k.2;
-      sound = ends_past c.accepted_are_sound.ensures.spelled rises (told_all k.0) a old new (Before (told_all k.0) a) c.stop_for_memory.result k.2;
-      rechecked = ends_rechecked c.accepted_are_sound.ensures.typed rises (told_all k.0) a old new (Before (told_all k.0) a) c.stop_for_memory.result k.2;
+      accepted = ends_past rises (told_all k.0) a old new (Before (told_all k.0) a) c.stop_for_memory.result k.2;
+      rechecked = ends_rechecked rises (told_all k.0) a old new (Before (told_all k.0) a) c.stop_for_memory.result k.2;
       complete = λ can none n. inr (c.stop_for_memory.ensures.told (λ e. n (c.stop_for_memory.ensures.fault e))).0;
     })
 
 pub returns-in-Ok-clause-bounded : goal.returns-in-Ok-clause-bounded
 returns-in-Ok-clause-bounded g c =
-    any_some (command_of (map string_bytes c.args.words.now)) AreWithin (within c.accepted_are_sound.ensures.spelled c.few_release_lists.ensures.few)
+    any_some (command_of (map string_bytes c.args.words.now)) AreWithin (within c.typed_are_sound.ensures c.few_release_lists.ensures.few)
 
 pub returns-in-Err-Memory-clause-bounded : goal.returns-in-Err-Memory-clause-bounded
 returns-in-Err-Memory-clause-bounded g c =
-    any_some (command_of (map string_bytes c.args.words.now)) AreWithin (within c.accepted_are_sound.ensures.spelled c.few_release_lists.ensures.few)
+    any_some (command_of (map string_bytes c.args.words.now)) AreWithin (within c.typed_are_sound.ensures c.few_release_lists.ensures.few)
 
 pub returns-in-Err-Usage-clause-bounded : goal.returns-in-Err-Usage-clause-bounded
 returns-in-Err-Usage-clause-bounded g c =
-    any_some (command_of (map string_bytes c.args.words.now)) AreWithin (within c.accepted_are_sound.ensures.spelled c.few_release_lists.ensures.few)
+    any_some (command_of (map string_bytes c.args.words.now)) AreWithin (within c.typed_are_sound.ensures c.few_release_lists.ensures.few)
 
 pub returns-in-Err-Usage-clause-fetched : goal.returns-in-Err-Usage-clause-fetched
 returns-in-Err-Usage-clause-fetched g c =

@@ -1,15 +1,12 @@
 use Rattle.std.proofs.Common.{ℕ, List, sym, subst}
 use Rattle.tim_base.specs.Faults.{Rose}
-use Rattle.std.specs.Prelude.{IfSome, IsTrue, Some, [], ◌∷◌}
-use Rattle.mit_gen.specs.Made.{program_text}
+use Rattle.std.specs.Prelude.{Some, [], ◌∷◌}
 use Rattle.tool_words.specs.declared.words.Command.{Command}
 use Rattle.tool_words.specs.WordsAsked.{asked_of, infer, compile, audit, cut, blackbox, certify}
 use Rattle.tool_texts.specs.Ends.{EndsBy, Nothing, told_status, told_text}
-use Rattle.tool_stages.specs.Accepted.{is_past_typing, IsAccepted}
 use Rattle.mit_tool.specs.Answers.{HasGenerated}
-use Rattle.mit_tool.specs.Commands.{files_of, IsAnswer, Before, typed_content}
+use Rattle.mit_tool.specs.Commands.{files_of, IsAnswer, Before}
 use Rattle.tool_texts.proofs.EndLemmas.{result_tells, no_fault, ends_finish}
-use Rattle.tool_stages.proofs.EarlyLemmas.{told_sound}
 use Rattle.mit_tool.proofs.TellLemmas.{made_no_fault}
 use Rattle.mit_tool.proofs.CommandLemmas.{infer_no_fault, compile_no_fault, audit_no_fault, cut_no_fault, blackbox_no_fault, certify_no_fault}
 use Rattle.tool_stages.specs.Fetches.{HasFetched}
@@ -57,13 +54,6 @@ returns-in-Infer-clause-answered g c =
     (told_text c.infer_text.result) c.tell.result
     (result_tells answer c.infer_text.result c.infer_text.ensures.text c.infer_text.ensures.stop) c.tell.ensures.told c.tell.ensures.prefix)
 
-pub returns-in-Infer-clause-sound : goal.returns-in-Infer-clause-sound
-returns-in-Infer-clause-sound g c =
-    let content = g.S.Shelf.content c.args.shelf.now in
-    subst (λ (x : Command). IsTrue (is_past_typing c.tell.result) → IfSome (typed_content content (asked_of x)) IsAccepted) (sym c.in-Infer.is)
-    (told_sound c.infer_text.result (IsAccepted (content c.in-Infer.file.now)) c.tell.result c.infer_text.ensures.sound c.infer_text.ensures.sound_stop
-    (λ n. (c.tell.ensures.told n).0))
-
 pub tell-requires-in-Compile : goal.tell-requires-in-Compile
 tell-requires-in-Compile g c =
     let content = g.S.Shelf.content c.args.shelf.now in
@@ -82,13 +72,6 @@ returns-in-Compile-clause-answered g c =
     (told_text c.compile_text.result) c.tell-in-Compile.result
     (result_tells answer c.compile_text.result c.compile_text.ensures.text c.compile_text.ensures.stop) c.tell-in-Compile.ensures.told
     c.tell-in-Compile.ensures.prefix)
-
-pub returns-in-Compile-clause-sound : goal.returns-in-Compile-clause-sound
-returns-in-Compile-clause-sound g c =
-    let content = g.S.Shelf.content c.args.shelf.now in
-    subst (λ (x : Command). IsTrue (is_past_typing c.tell-in-Compile.result) → IfSome (typed_content content (asked_of x)) IsAccepted) (sym c.in-Compile.is)
-    (told_sound c.compile_text.result (IsAccepted (content c.in-Compile.file.now)) c.tell-in-Compile.result c.compile_text.ensures.sound
-    c.compile_text.ensures.sound_stop (λ n. (c.tell-in-Compile.ensures.told n).0))
 
 pub tell-requires-in-Audit : goal.tell-requires-in-Audit
 tell-requires-in-Audit g c =
@@ -110,13 +93,6 @@ returns-in-Audit-clause-answered g c =
     (result_tells answer c.audit_text-text.result c.audit_text-text.ensures.text c.audit_text-text.ensures.stop) c.tell-in-Audit.ensures.told
     c.tell-in-Audit.ensures.prefix)
 
-pub returns-in-Audit-clause-sound : goal.returns-in-Audit-clause-sound
-returns-in-Audit-clause-sound g c =
-    let content = g.S.Shelf.content c.args.shelf.now in
-    subst (λ (x : Command). IsTrue (is_past_typing c.tell-in-Audit.result) → IfSome (typed_content content (asked_of x)) IsAccepted) (sym c.in-Audit.is)
-    (told_sound c.audit_text-text.result (IsAccepted (content c.in-Audit.file.now)) c.tell-in-Audit.result c.audit_text-text.ensures.sound
-    c.audit_text-text.ensures.sound_stop (λ n. (c.tell-in-Audit.ensures.told n).0))
-
 pub tell-requires-in-Gen : goal.tell-requires-in-Gen
 tell-requires-in-Gen g c =
     let content = g.S.Shelf.content c.args.shelf.now in
@@ -134,13 +110,6 @@ returns-in-Gen-clause-answered g c =
     (told_text c.gen_text-text.result) c.tell-in-Gen.result
     (result_tells answer c.gen_text-text.result c.gen_text-text.ensures.text c.gen_text-text.ensures.stop) c.tell-in-Gen.ensures.told
     c.tell-in-Gen.ensures.prefix)
-
-pub returns-in-Gen-clause-sound : goal.returns-in-Gen-clause-sound
-returns-in-Gen-clause-sound g c =
-    let content = g.S.Shelf.content c.args.shelf.now in
-    subst (λ (x : Command). IsTrue (is_past_typing c.tell-in-Gen.result) → IfSome (typed_content content (asked_of x)) IsAccepted) (sym c.in-Gen.is)
-    (told_sound c.gen_text-text.result (IsAccepted (Some (Some (program_text c.in-Gen.size c.in-Gen.number)))) c.tell-in-Gen.result
-    c.gen_text-text.ensures.sound c.gen_text-text.ensures.sound_stop (λ n. (c.tell-in-Gen.ensures.told n).0))
 
 pub tell-requires-in-Blackbox : goal.tell-requires-in-Blackbox
 tell-requires-in-Blackbox g c =
@@ -180,13 +149,6 @@ returns-in-Cut-clause-answered g c =
     (result_tells answer c.cut_text-text.result c.cut_text-text.ensures.text c.cut_text-text.ensures.stop) c.tell-in-Cut.ensures.told
     c.tell-in-Cut.ensures.prefix)
 
-pub returns-in-Cut-clause-sound : goal.returns-in-Cut-clause-sound
-returns-in-Cut-clause-sound g c =
-    let content = g.S.Shelf.content c.args.shelf.now in
-    subst (λ (x : Command). IsTrue (is_past_typing c.tell-in-Cut.result) → IfSome (typed_content content (asked_of x)) IsAccepted) (sym c.in-Cut.is)
-    (told_sound c.cut_text-text.result (IsAccepted (content c.in-Cut.file.now)) c.tell-in-Cut.result c.cut_text-text.ensures.sound
-    c.cut_text-text.ensures.sound_stop (λ n. (c.tell-in-Cut.ensures.told n).0))
-
 pub tell-requires-in-Certify : goal.tell-requires-in-Certify
 tell-requires-in-Certify g c =
     let content = g.S.Shelf.content c.args.shelf.now in
@@ -205,13 +167,6 @@ returns-in-Certify-clause-answered g c =
     (told_text c.certify_text.result) c.tell-in-Certify.result
     (result_tells answer c.certify_text.result c.certify_text.ensures.text c.certify_text.ensures.stop) c.tell-in-Certify.ensures.told
     c.tell-in-Certify.ensures.prefix)
-
-pub returns-in-Certify-clause-sound : goal.returns-in-Certify-clause-sound
-returns-in-Certify-clause-sound g c =
-    let content = g.S.Shelf.content c.args.shelf.now in
-    subst (λ (x : Command). IsTrue (is_past_typing c.tell-in-Certify.result) → IfSome (typed_content content (asked_of x)) IsAccepted) (sym c.in-Certify.is)
-    (told_sound c.certify_text.result (IsAccepted (content c.in-Certify.file.now)) c.tell-in-Certify.result c.certify_text.ensures.sound
-    c.certify_text.ensures.sound_stop (λ n. (c.tell-in-Certify.ensures.told n).0))
 
 pub returns-in-Recheck-clause-answered : goal.returns-in-Recheck-clause-answered
 returns-in-Recheck-clause-answered g c =

@@ -5,8 +5,8 @@ use Rattle.tim_base.specs.Shelves.{bytes_at, faults_at}
 use Rattle.mit_web.proofs.Told.{answer_of}
 use Rattle.mit_web.proofs.call.ask_lab.Goals as goal
 
-pub returns : goal.returns
-returns c held h =
+pub returns-clause-answer : goal.returns-clause-answer
+returns-clause-answer c held h =
     let asked = c.lab_main-status in
     answer_of Program.Lab (map string_bytes c.args.words.now) held (λ name. Some (bytes_at c.args.shelf.now name))
     (λ name. faults_at c.args.shelf.now name) (λ name. faults_at asked.new.shelf name) asked.result c.in-Ok.sink asked.new.out c.args.room

@@ -14,11 +14,10 @@ returns-in-Err-clause-stop g c =
     (g.S.Shelf.content c.args.shelf.now)
     c.args.file.now (option_map (λ s. s.now) c.args.name) c.in_ok-program.program c.in-Err.stop c.in_ok-program.ensures.ok c.in-Err.ensures.stop
 
-pub returns-in-Ok-clause-sound : goal.returns-in-Ok-clause-sound
-returns-in-Ok-clause-sound g c = record {
+pub returns-in-Ok-clause-accepted : goal.returns-in-Ok-clause-accepted
+returns-in-Ok-clause-accepted g c = record {
   program = c.in_ok-program.program;
   reads = c.in_ok-program.ensures.ok;
   labelled = c.in-Ok.compiled.typed.labelled;
   types = c.in-Ok.ensures.ok.types;
-  sound = c.in-Ok.ensures.sound;
 }

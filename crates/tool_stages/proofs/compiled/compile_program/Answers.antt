@@ -2,9 +2,6 @@ use Rattle.std.specs.Prelude.{option_map}
 use Rattle.tool_stages.proofs.PrepareLemmas.{image_stops_program}
 use Rattle.tool_stages.proofs.compiled.compile_program.Goals as goal
 
-pub returns-in-Ok-clause-sound : goal.returns-in-Ok-clause-sound
-returns-in-Ok-clause-sound c = c.accepted_are_sound.ensures.valid c.args.program c.in_ok-typed.typed.labelled c.laws.ensures.valid c.in_ok-typed.ensures.ok
-
 pub returns-in-Err-clause-stop : goal.returns-in-Err-clause-stop
 returns-in-Err-clause-stop c =
     image_stops_program (option_map (λ s. s.now) c.args.name) c.args.program c.lattice.result c.in_ok-observer.observer

@@ -68,8 +68,8 @@ returns-in-Err-all_starts-clause-log g c =
     (g.S.Shelf.log c.all_starts.new.shelf)
     c.in-Ok.compiled (Err c.in-Err-all_starts.stop) c.in-Ok.ensures.log c.in-Err-all_starts.ensures.log
 
-pub returns-in-Err-clause-sound_stop : goal.returns-in-Err-clause-sound_stop
-returns-in-Err-clause-sound_stop g c = λ late.
+pub returns-in-Err-clause-accepted_stop : goal.returns-in-Err-clause-accepted_stop
+returns-in-Err-clause-accepted_stop g c = λ late.
     absurd (compile_not_late (λ (name : List ℕ). Rose (g.S.Shelf.faults c.args.shelf.now name) (g.S.Shelf.faults c.compile.new.shelf name))
     (g.S.Shelf.content c.args.shelf.now)
     c.args.file.now (Some c.args.name.now) c.in-Err.stop c.in-Err.ensures.stop late)

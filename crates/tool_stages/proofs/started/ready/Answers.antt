@@ -56,8 +56,8 @@ returns-in-Err-clause-log g c =
     fetch_stop Start Start (c.args.file.now ∷ []) (named (option_map (λ s. s.now) c.args.starts)) (g.S.Shelf.log c.args.shelf.now)
     (g.S.Shelf.log c.compile.new.shelf) c.in-Err.stop c.in-Err.ensures.log
 
-pub returns-in-Err-clause-sound_stop : goal.returns-in-Err-clause-sound_stop
-returns-in-Err-clause-sound_stop g c = λ late.
+pub returns-in-Err-clause-accepted_stop : goal.returns-in-Err-clause-accepted_stop
+returns-in-Err-clause-accepted_stop g c = λ late.
     absurd (compile_not_late (λ (name : List ℕ). Rose (g.S.Shelf.faults c.args.shelf.now name) (g.S.Shelf.faults c.compile.new.shelf name))
     (g.S.Shelf.content c.args.shelf.now)
     c.args.file.now (option_map (λ s. s.now) c.args.name) c.in-Err.stop c.in-Err.ensures.stop late)

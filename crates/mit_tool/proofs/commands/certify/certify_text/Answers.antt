@@ -16,12 +16,3 @@ returns-in-Ok-clause-text g c =
     let labels = subst (λ (s : Syntax). Labels s q.labels) (sym types.program) types.least.labels in
     let certifies = subst (λ (t : List ℕ). IsCertificate q t) (sym is) (c.derived_texts_are_certificates.ensures q valid labels types.typed) in
     inr (c.in_ok-program.program, c.in_ok-program.ensures.ok, inr (q, types, (refl, is, certifies)))
-
-pub returns-in-Ok-clause-sound : goal.returns-in-Ok-clause-sound
-returns-in-Ok-clause-sound g c = record {
-  program = c.in_ok-program.program;
-  reads = c.in_ok-program.ensures.ok;
-  labelled = c.in_ok-typed.typed.labelled;
-  types = c.in_ok-typed.ensures.ok;
-  sound = c.accepted_are_sound.ensures.valid c.in_ok-program.program c.in_ok-typed.typed.labelled c.laws.ensures.valid c.in_ok-typed.ensures.ok;
-}

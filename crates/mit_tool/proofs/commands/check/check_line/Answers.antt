@@ -11,15 +11,6 @@ returns-clause-line g c =
     let line = c.accepted-line.ensures ∙ (ap (λ n. accepted_line n c.mitigates.result) c.commands.ensures ∙ ap (accepted_line _) c.mitigates.ensures) in
     inr (c.in_ok-program.program, c.in_ok-program.ensures.ok, inr (c.in_ok-typed.field-0.labelled, c.in_ok-typed.ensures.ok, (refl, line)))
 
-pub returns-clause-sound : goal.returns-clause-sound
-returns-clause-sound g c = record {
-  program = c.in_ok-program.program;
-  reads = c.in_ok-program.ensures.ok;
-  labelled = c.in_ok-typed.field-0.labelled;
-  types = c.in_ok-typed.ensures.ok;
-  sound = c.accepted_are_sound.ensures.valid c.in_ok-program.program c.in_ok-typed.field-0.labelled c.laws.ensures.valid c.in_ok-typed.ensures.ok;
-}
-
 pub returns-in_err-typed-clause-log : goal.returns-in_err-typed-clause-log
 returns-in_err-typed-clause-log g c =
     let e = c.in_err-typed.field-0.0 in

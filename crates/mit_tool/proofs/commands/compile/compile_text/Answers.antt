@@ -1,8 +1,7 @@
 use Rattle.std.proofs.Common.{ap, ◌∙◌}
-use Rattle.std.specs.Prelude.{ℕ, List, None, [], ◌∷◌}
+use Rattle.std.specs.Prelude.{ℕ, List, [], ◌∷◌}
 use Rattle.tim_base.specs.Faults.{Rose}
 use Rattle.image_print.specs.ImageText.{image_text}
-use Rattle.tool_stages.proofs.EarlyLemmas.{compile_not_late}
 use Rattle.mit_tool.proofs.PrepareLemmas.{compile_tells, compile_stops_text}
 use Rattle.tool_stages.proofs.FetchLemmas.{fetch_stops}
 use Rattle.tool_texts.specs.Ends.{status_of}
@@ -23,12 +22,6 @@ returns-in-Ok-print_image-clause-text g c =
     (g.S.Shelf.content c.args.shelf.now)
     c.args.file.now compiled.typed.labelled compiled.observer compiled.image c.in-Ok-print_image.text.items c.in-Ok.ensures.ok
     (c.in-Ok-print_image.ensures ∙ ap (λ p. image_text p compiled.image) is)
-
-pub returns-in-Err-clause-sound_stop : goal.returns-in-Err-clause-sound_stop
-returns-in-Err-clause-sound_stop g c = λ late.
-    absurd (compile_not_late (λ (name : List ℕ). Rose (g.S.Shelf.faults c.args.shelf.now name) (g.S.Shelf.faults c.compile.new.shelf name))
-    (g.S.Shelf.content c.args.shelf.now)
-    c.args.file.now None c.in-Err.stop c.in-Err.ensures.stop late)
 
 pub returns-clause-log : goal.returns-clause-log
 returns-clause-log g c =

@@ -3,7 +3,6 @@ use Rattle.std.specs.Prelude.{ℕ, List, Option, map, codes}
 use Rattle.start_file.specs.Starts.{seen}
 use Rattle.mit_gen.specs.Made.{starts_text}
 use Rattle.mit_tool.specs.Answers.{made_content}
-use Rattle.tool_stages.proofs.EarlyLemmas.{program_not_late, compile_not_late}
 use Rattle.tool_stages.proofs.PrepareLemmas.{program_stops_audit, program_stops, compile_stops_audit, compiled_of, starts_stop_audit, prepared_of, audit_fits}
 use Rattle.mit_tool.proofs.commands.generate.prepare_made.Goals as goal
 
@@ -46,15 +45,6 @@ returns-in-Ok-starts_of-clause-fit c =
     audit_fits (made_content c.args.size c.args.number) [] (codes "L") held q c.unwrap-observer.result code c.program.result.now
     (map seen c.in-Ok-starts_of.starts.items) h is c.in-Ok-starts_of.ensures.valid
 
-pub returns-in-Ok-starts_of-clause-sound : goal.returns-in-Ok-starts_of-clause-sound
-returns-in-Ok-starts_of-clause-sound c = record {
-  program = c.in-Ok.program;
-  reads = c.in-Ok.ensures.ok (made_content c.args.size c.args.number []) (c.as_slice.ensures.value ∙ c.requires.program);
-  labelled = c.in-Ok-compile_program.compiled.typed.labelled;
-  types = c.in-Ok-compile_program.ensures.ok.types;
-  sound = c.in-Ok-compile_program.ensures.sound;
-}
-
 pub returns-in-Err-starts_of-clause-stop : goal.returns-in-Err-starts_of-clause-stop
 returns-in-Err-starts_of-clause-stop c =
     let q = c.in-Ok-compile_program.compiled.typed.labelled in
@@ -67,24 +57,3 @@ returns-in-Err-starts_of-clause-stop c =
     starts_stop_audit (λ (name : List ℕ). ⊥) (made_content c.args.size c.args.number) [] (codes "L") ⊥ ⊥ held held q o code
     c.program.result.now c.in-Err-starts_of.stop
     (λ n. n) refl is compiled (c.in-Err-starts_of.ensures.stop held (c.as_slice-2.ensures.value ∙ c.requires.starts))
-
-pub returns-in-Err-clause-sound_stop : goal.returns-in-Err-clause-sound_stop
-returns-in-Err-clause-sound_stop c = λ late.
-    absurd (program_not_late ⊥ (made_content c.args.size c.args.number []) c.in-Err.stop
-    (c.in-Err.ensures.stop (made_content c.args.size c.args.number []) (c.as_slice.ensures.value ∙ c.requires.program)) late)
-
-pub returns-in-Err-compile_program-clause-sound_stop : goal.returns-in-Err-compile_program-clause-sound_stop
-returns-in-Err-compile_program-clause-sound_stop c = λ late.
-    absurd (compile_not_late (λ (name : List ℕ). ⊥) (made_content c.args.size c.args.number) [] (Some (codes "L")) c.in-Err-compile_program.stop
-    (program_stops (λ (name : List ℕ). ⊥) (made_content c.args.size c.args.number) [] (Some (codes "L")) c.in-Ok.program c.in-Err-compile_program.stop
-    (c.in-Ok.ensures.ok (made_content c.args.size c.args.number []) (c.as_slice.ensures.value ∙ c.requires.program)) c.in-Err-compile_program.ensures.stop)
-    late)
-
-pub returns-in-Err-starts_of-clause-sound_stop : goal.returns-in-Err-starts_of-clause-sound_stop
-returns-in-Err-starts_of-clause-sound_stop c = λ late. record {
-  program = c.in-Ok.program;
-  reads = c.in-Ok.ensures.ok (made_content c.args.size c.args.number []) (c.as_slice.ensures.value ∙ c.requires.program);
-  labelled = c.in-Ok-compile_program.compiled.typed.labelled;
-  types = c.in-Ok-compile_program.ensures.ok.types;
-  sound = c.in-Ok-compile_program.ensures.sound;
-}

@@ -5,7 +5,6 @@ use Rattle.start_file.specs.Starts.{seen}
 use Rattle.tool_words.specs.WordsAsked.{run}
 use Rattle.tool_texts.specs.Ends.{Nothing, status_of, stop_text}
 use Rattle.tool_stages.specs.Begins.{RunStops}
-use Rattle.tool_stages.proofs.EarlyLemmas.{past_told}
 use Rattle.mit_tool.specs.Answers.{HasRun}
 use Rattle.mit_tool.specs.Commands.{IsAnswer}
 use Rattle.tool_texts.proofs.EndLemmas.{ends_map, ends_stop}
@@ -58,6 +57,3 @@ returns-in-Err-clause-pieces g c =
     (run_stopped rises (g.S.Shelf.content c.args.shelf.now) c.args.file.now (option_map (λ s. s.now) c.args.starts)
     (option_map (λ s. s.now) c.args.name) e c.in-Err.ensures.stop)
     (λ n. (c.stop.ensures.told n).0) c.stop.ensures.sent c.stop.ensures.broken
-
-pub returns-in-Err-clause-sound : goal.returns-in-Err-clause-sound
-returns-in-Err-clause-sound g c = λ past. c.in-Err.ensures.sound_stop (past_told c.stop.result (status_of c.in-Err.e) (λ n. (c.stop.ensures.told n).0) past)
