@@ -61,7 +61,7 @@ export function sweepText(points, least, current, unfinished = 0) {
   const { first } = quiet;
   const from = quiet.before
     ? `From ${spaced(first.prediction)} on, the runs cannot be told apart${least === first.prediction ? ': that is one more than the longest body takes' : ', of the predictions that were tried'}.`
-    : 'With each prediction that was tried the runs cannot be told apart.';
+    : `With each prediction that was tried${unfinished ? ', and with which all runs halt,' : ''} the runs cannot be told apart.`;
   const now = points.find((one) => one.prediction === current);
   const cost = ` It costs ${counted(first.longest, 'cycle')}`;
   return `${from}${cost}${now && now !== first ? `, where ${spaced(current)} costs ${spaced(now.longest)}${now.sequences > 1 ? ` and tells ${counted(now.sequences, 'thing')}` : ''}` : ''}.`;

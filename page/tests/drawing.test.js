@@ -104,6 +104,7 @@ test('from where on nothing is told, and what it costs', () => {
 
 test('a prediction with which not all runs halt is none that leaves one sequence', async () => {
   assert.match(sweepText(POINTS.slice(0, 3), null, 16, 2), /^Each prediction that was tried, and with which all runs halt, leaves 2 sequences or more\.$/);
+  assert.match(sweepText(POINTS.slice(4), null, 512, 2), /^With each prediction that was tried, and with which all runs halt, the runs cannot be told apart\./);
   const tried = new Map(POINTS.slice(0, 3).concat(POINTS.slice(5)).map((one) => [one.prediction, one])), asked = [];
   await halveGap(tried, async (prediction) => {
     asked.push(prediction);

@@ -1,4 +1,4 @@
-ghost use Rattle.std.specs.Prelude.{◌≡◌, [], IfOk};
+ghost use Rattle.std.specs.Prelude.{◌≡◌, [], IfOk, None};
 ghost use Rattle.mit_syntax.specs.Program.{plan_of};
 ghost use Rattle.sample_program.specs.Sample.{mitigated_plan};
 
@@ -6,7 +6,8 @@ use crate::lower::lower;
 use label_code::code::Work;
 use label_lattice::label::Label;
 use mit_syntax::program::Program;
-use sample_program::{mitigated, one_label};
+use sample_lattice::one_label;
+use sample_program::mitigated;
 use std::alloc::{AllocError, Global};
 use timing_types::check::check;
 use timing_types::labelled::Labelled;
@@ -14,7 +15,7 @@ use timing_types::labelled::Labelled;
 // It with bottom everywhere.
 fn labelled(alloc: Global, p: Program) -> Result<Labelled, AllocError>
     requires declarations { p.declarations ≡ [] }
-    requires plan { plan_of p ≡ mitigated_plan }
+    requires plan { plan_of p ≡ mitigated_plan None }
     ensures { IfOk result (λ q. q.program ≡ p) }
 {
     let low = p.lattice().bottom();
@@ -37,7 +38,10 @@ static LISTING: [Work; 5] = [
 #[test]
 fn lowers_a_mitigate(rt: HostRuntime) -> Result<(), AllocError> {
     let lattice = one_label().expect(&rt, "a lattice");
-    let p = labelled(rt.alloc(), mitigated(rt.alloc(), lattice)?)?;
+    let p = labelled(
+        rt.alloc(),
+        mitigated(rt.alloc(), lattice, Vec::new(rt.alloc()), None)?,
+    )?;
     let Ok(typed) = check(rt.alloc(), p) else {
         panic!(rt; "refused");
     };

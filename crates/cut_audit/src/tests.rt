@@ -1,4 +1,4 @@
-ghost use Rattle.std.specs.Prelude.{◌≡◌, ◌<◌, ◌≤◌, ◌^◌, [], IfSome, IfOk};
+ghost use Rattle.std.specs.Prelude.{◌≡◌, ◌<◌, ◌≤◌, ◌^◌, [], IfSome, IfOk, None};
 ghost use Rattle.mit_syntax.specs.Program.{plan_of};
 ghost use Rattle.sample_program.specs.Sample.{mitigated_plan};
 ghost use Rattle.code_lower.specs.Lowered.{lowered};
@@ -16,7 +16,8 @@ use leak_audit::report::{AuditFault, AuditReport};
 use mit_syntax::program::Program;
 use part_tlb::part::MakePart;
 use run_watch::Nobody;
-use sample_program::{mitigated, one_label};
+use sample_lattice::one_label;
+use sample_program::mitigated;
 use start_file::start::Start;
 use std::alloc::{AllocError, Global};
 use timing_types::check::check;
@@ -28,7 +29,7 @@ const LOW: Label = Label { number: 0 };
 // It with bottom everywhere.
 fn labelled(alloc: Global, p: Program) -> Result<Labelled, AllocError>
     requires declarations { p.declarations ≡ [] }
-    requires plan { plan_of p ≡ mitigated_plan }
+    requires plan { plan_of p ≡ mitigated_plan None }
     ensures { IfOk result (λ q. q.program ≡ p) }
 {
     let low = p.lattice().bottom();
@@ -42,7 +43,7 @@ fn compiled(alloc: Global) -> Option<(Typed, Image)>
     ensures { IfSome result (λ r. (r.1 ≡ lowered r.0.labelled) × (r.0.labelled.program.declarations ≡ []) × (r.0.labelled.program.order.size ≡ 1)) }
 {
     let lattice = one_label()?;
-    let Ok(program) = mitigated(alloc, lattice) else {
+    let Ok(program) = mitigated(alloc, lattice, Vec::new(alloc), None) else {
         return None;
     };
     let Ok(untyped) = labelled(alloc, program) else {

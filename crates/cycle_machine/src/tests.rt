@@ -1,4 +1,4 @@
-ghost use Rattle.std.specs.Prelude.{◌≡◌, ◌<◌, IfOk, IfSome};
+ghost use Rattle.std.specs.Prelude.{◌≡◌, ◌<◌, IfOk};
 
 use crate::laws::{halt_is_run, limit_is_run, turns_go_on};
 use crate::machine::Machine;
@@ -9,24 +9,14 @@ use label_code::code::{Instr, Work};
 use label_code::image::Image;
 use label_lattice::label::Label;
 use label_lattice::lattice::Lattice;
-use label_lattice::name::Name;
 use run_watch::{RunNumber, Watch, Watched};
+use sample_lattice::one_label;
 use std::alloc::Global;
 use std::cell::Cell;
 use text_base::pos::Memory;
 
-// The lattice of one label.
-fn one_label() -> Option<Lattice>
-    ensures { IfSome result (λ l. 0 < l.size) }
-{
-    let name = Name::read(b"L")?;
-    let lattice = Lattice::build(&[name], &[]).ok()?;
-    lattice.laws();
-    Some(lattice)
-}
-
 // The code of `mitigate (64, L) { a[5] := 7 }` for an array of length 4.
-fn mitigated(alloc: Global, lattice: Lattice) -> Result<Image, Memory>
+fn mitigated_code(alloc: Global, lattice: Lattice) -> Result<Image, Memory>
     requires { 0 < lattice.size }
     ensures { IfOk result (λ i. i.variables ≡ 4) }
 {
@@ -96,7 +86,7 @@ fn runs_to_its_end(rt: HostRuntime) -> Result<(), Memory> {
         assert!(rt; false);
         return Ok(());
     };
-    let image = mitigated(rt.alloc(), lattice)?;
+    let image = mitigated_code(rt.alloc(), lattice)?;
     let memory = vec![in rt.alloc(); 0i64; 4]?;
     let mut machine = Machine::load(rt.alloc(), &image, memory, FlatEnv::new())?;
     for turn in &TURNS {
@@ -129,7 +119,7 @@ fn fourth_turn(machine: &mut Machine<FlatEnv>, limit: u64) -> Turn {
 #[test]
 fn tells_the_clock_of_each_instruction(rt: HostRuntime) -> Result<(), Memory> {
     let lattice = one_label().expect(&rt, "a lattice");
-    let image = mitigated(rt.alloc(), lattice)?;
+    let image = mitigated_code(rt.alloc(), lattice)?;
     for &(limit, turn) in &STOPS {
         let memory = vec![in rt.alloc(); 0i64; 4]?;
         let mut machine = Machine::load(rt.alloc(), &image, memory, FlatEnv::new())?;
@@ -144,7 +134,7 @@ fn stops_at_a_limit(rt: HostRuntime) -> Result<(), Memory> {
         assert!(rt; false);
         return Ok(());
     };
-    let image = mitigated(rt.alloc(), lattice)?;
+    let image = mitigated_code(rt.alloc(), lattice)?;
     let memory = vec![in rt.alloc(); 0i64; 4]?;
     let mut machine = Machine::load(rt.alloc(), &image, memory, FlatEnv::new())?;
     assert_eq!(rt; machine.next(65), Turn::Began { mark: 0, cycle: 2 });

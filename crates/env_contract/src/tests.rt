@@ -1,31 +1,13 @@
-ghost use Rattle.std.specs.Prelude.{◌≡◌, ◌<◌, IfOk, IfSome};
+ghost use Rattle.std.specs.Prelude.{◌<◌, IfOk};
 ghost use Rattle.std.specs.List.{All};
 
 use crate::env::MachineEnv;
 use crate::make::{MakeEnv, MakeFlat};
 use crate::place::{Kind, PLACES, Place, Touch};
-use label_lattice::label::Label;
 use label_lattice::lattice::Lattice;
-use label_lattice::name::Name;
+use sample_lattice::{HIGH, LOW, two_labels};
 use std::alloc::Global;
 use text_base::pos::Memory;
-
-const LOW: Label = Label { number: 0 };
-
-const HIGH: Label = Label { number: 1 };
-
-// The labels L and H, of which the first flows to the second.
-fn low_high() -> Option<Lattice>
-    ensures { IfSome result (λ l. l.size ≡ 2) }
-{
-    let names = [Name::read(b"L")?, Name::read(b"H")?];
-    let lattice = Lattice::build(&names, &[(LOW, HIGH)]).ok()?;
-    if lattice.size() == 2 {
-        Some(lattice)
-    } else {
-        None
-    }
-}
 
 fn make<E: MachineEnv, M: MakeEnv<E>>(
     maker: &M,
@@ -41,7 +23,7 @@ fn make<E: MachineEnv, M: MakeEnv<E>>(
 
 #[test]
 fn costs_nothing_without_caches(rt: HostRuntime) {
-    let lattice = low_high().expect(&rt, "a lattice");
+    let lattice = two_labels().expect(&rt, "a lattice");
     let touch = Touch {
         place: Place::Second,
         label: HIGH,

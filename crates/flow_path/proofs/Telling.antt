@@ -25,7 +25,7 @@ use Rattle.flow_path.specs.Chains.{Leads, Brings, ComesFrom}
 use Rattle.flow_path.specs.Costs.{cost_of, IsLe}
 use Rattle.flow_path.specs.Search.{Where, State, Every, Goes, BeginsAt, IsReady, IsNextStart, AreAllTold}
 use Rattle.flow_path.specs.Origins.{IsOmitted, label_there, joined, IsOrigin}
-use Rattle.flow_path.specs.Telling.{Tells, covered, told, IsTold, AreTold, AreAll}
+use Rattle.flow_path.specs.Telling.{Tells, covered, told, IsCheapest, AreTold, AreAll}
 use Rattle.flow_path.proofs.Base.{each_at}
 use Rattle.flow_path.proofs.Proper.{Proper, IsProper}
 use Rattle.flow_path.proofs.Found.{proper}
@@ -66,10 +66,10 @@ told_more x ll st st' h h' ws ws' k T n t = go t
           ready = n.ready;
           flow = flows (ws ++ (w ∷ [])) (subst (λ z. Flows (lattice_of x.program.order) z (joined (lattice_of x.program.order) (ws ++ (w ∷ [])))) same
               (joined_last (lattice_of x.program.order) ll ws w)) (joined_left (lattice_of x.program.order) ll ws (w ∷ []));
-          told = every_join (IsTold x) ws (w ∷ []) T.told (one, tt);
+          told = every_join (IsCheapest x) ws (w ∷ []) T.told (one, tt);
         })
       where
-        one : IsTold x w
+        one : IsCheapest x w
         one = record {
           goes = way.goes;
           begins = subst (λ z. BeginsAt x w.chain.items z) (sym same) (subst (λ z. BeginsAt x z n.have) (sym way.begins) (n.begins, n.high));
@@ -119,7 +119,7 @@ module _ (s : Syntax) (valid : IsValid s) (ns : List Node) (cs : List Condition)
   goes_of [] a b = absurd (none-some a (sym free ∙ sym (ap (λ z. written s z) b.leads) ∙ b.begins))
   goes_of (t ∷ ts) a b = (goes_on b.first t ts b.leads (all_every Free (t ∷ ts) b.omitted), (ap (λ z. written s z) b.leads.1 ∙ b.begins, refl))
 
-  origin_is : (w : Origin) → IsTold x w → IsOrigin s spot w
+  origin_is : (w : Origin) → IsCheapest x w → IsOrigin s spot w
   origin_is w h = record {
     brings = brings_of w.chain.items w.label.number h.goes h.begins;
     cheapest = λ other b. let g =
@@ -128,7 +128,7 @@ module _ (s : Syntax) (valid : IsValid s) (ns : List Node) (cs : List Condition)
 
   pub origins_are : (ws kept : List Origin) → AreAll x ws → All (Contains ws) kept → All (IsOrigin s spot) kept
   origins_are ws kept A c =
-      every_all (IsOrigin s spot) kept (every_map (Contains ws) (IsOrigin s spot) (λ w h. origin_is w (every_in (IsTold x) ws w A.told h)) kept
+      every_all (IsOrigin s spot) kept (every_map (Contains ws) (IsOrigin s spot) (λ w h. origin_is w (every_in (IsCheapest x) ws w A.told h)) kept
       (all_every (Contains ws) kept c))
 
   -- a chain leads to an omitted label
@@ -179,6 +179,6 @@ module _ (s : Syntax) (valid : IsValid s) (ns : List Node) (cs : List Condition)
         let J = joined lat ws in
         let L = label_there (record { program = s; labels = l }) spot in
         ll.anti J L
-        (joined_least lat ll ws L (every_map (IsTold x) (λ (w : Origin). Flows (lattice_of s.order) w.label.number L)
+        (joined_least lat ll ws L (every_map (IsCheapest x) (λ (w : Origin). Flows (lattice_of s.order) w.label.number L)
         (λ w t. (came_from spot L h).1 (ll.same L) w.label.number (w.chain.items, brings_of w.chain.items w.label.number t.goes t.begins)) ws A.told))
         ((came_from spot J h).0 (λ a c. let g = goes_of c.0 a c.1 in A.all c.0 a g.0 g.1))

@@ -17,7 +17,7 @@ pub data Tells (x : Where) (lat : Lattice) (l : Link) (have : ℕ) (old new : Li
       → Tells x lat l have old new
 
 -- a chain from a label, and none from that label is cheaper
-pub record IsTold (x : Where) (w : Origin) : Type 0 where
+pub record IsCheapest (x : Where) (w : Origin) : Type 0 where
   pub goes : Goes x w.chain.items
   pub begins : BeginsAt x w.chain.items w.label.number
   pub cheapest : (q : List Step) → Goes x q → BeginsAt x q w.label.number → IsLe (cost_of w.chain.items) (cost_of q)
@@ -27,11 +27,11 @@ pub record AreTold (x : Where) (st : State) (h : Heads) (ws : List Origin) : Typ
   pub labels : List ℕ
   pub ready : IsReady x st h labels
   pub flow : (b : ℕ) → Contains labels b → Flows (lattice_of x.program.order) b (joined (lattice_of x.program.order) ws)
-  pub told : Every (IsTold x) ws
+  pub told : Every (IsCheapest x) ws
 
 -- each label from which a chain leads flows to the join
 pub record AreAll (x : Where) (ws : List Origin) : Type 0 where
-  pub told : Every (IsTold x) ws
+  pub told : Every (IsCheapest x) ws
   pub all : (q : List Step) (b : ℕ) → Goes x q → BeginsAt x q b → Flows (lattice_of x.program.order) b (joined (lattice_of x.program.order) ws)
 
 -- of the origins `all`, those that are left were not looked at yet, and none of those that are kept can be left out

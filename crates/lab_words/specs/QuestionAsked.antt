@@ -5,7 +5,7 @@ use Rattle.clap.specs.Words.{Row, Text, fault_of, first_of, matches_of}
 use Rattle.clap.specs.Walk.{is_empty}
 use Rattle.tool_words.specs.declared.words.EnvName.{EnvName}
 use Rattle.run_limits.specs.Cycles.{IsCycles}
-use Rattle.tool_words.specs.WordsValues.{budget_given, env_given}
+use Rattle.tool_words.specs.WordsValues.{budget_given, env_given, observed_given}
 use Rattle.lab_words.specs.declared.verbs.Verb.{Verb}
 use Rattle.lab_words.specs.declared.verbs.Verb.TheVariants.{Why, Seen, Timeline, Bound}
 use Rattle.lab_words.specs.QuestionForms.{form_app}
@@ -30,26 +30,16 @@ abbrev pub why_asked : Option Text → Option Text → Option Asked
 why_asked (Some file) of = Some (why file of)
 why_asked None of = None
 
-abbrev pub shown_asked : (Text → Text → Text → EnvName → ℕ → Asked)
-    → Option Text → Option Text → Option Text → Option EnvName → Option ℕ → Option Asked
-shown_asked command (Some file) (Some starts) (Some observer) (Some env) (Some budget) =
-    Some (command file starts observer env budget)
-shown_asked _ _ _ _ _ _ = None
-
 abbrev pub timeline_asked : Option Text → Option Text → Option EnvName → Option ℕ → Option Text → Option Asked
 timeline_asked (Some file) (Some starts) (Some env) (Some budget) observer = Some (timeline file starts observer env budget)
 timeline_asked _ _ _ _ _ = None
 
-abbrev pub shown_given : (Text → Text → Text → EnvName → ℕ → Asked) → List Row → Option Asked
-shown_given command rows = shown_asked command (first_of (codes "FILE") rows) (first_of (codes "STARTS") rows)
-    (first_of (codes "observer") rows) (env_given rows) (budget_given rows)
-
 abbrev pub given : Verb → List Row → Option Asked
 given Why rows = why_asked (first_of (codes "FILE") rows) (first_of (codes "of") rows)
-given Seen rows = shown_given seen rows
+given Seen rows = observed_given seen rows
 given Timeline rows = timeline_asked (first_of (codes "FILE") rows) (first_of (codes "STARTS") rows) (env_given rows)
     (budget_given rows) (first_of (codes "observer") rows)
-given Bound rows = shown_given bound rows
+given Bound rows = observed_given bound rows
 
 -- ---- all words
 

@@ -1,19 +1,13 @@
 -- The written form of each command of the lab, as `clap` sees it: simple, without help or version.
 use Rattle.std.specs.Prelude.{codes}
-use Rattle.clap.specs.Words.{App, Text, new_app, with_rule}
-use Rattle.tool_words.specs.WordsForms.{bare, option_rule, required_option_rule, required_word_rule}
+use Rattle.clap.specs.Words.{App, new_app, with_rule}
+use Rattle.tool_words.specs.WordsForms.{bare, observed_app, option_rule, required_word_rule}
 use Rattle.lab_words.specs.declared.verbs.Verb.{Verb}
 use Rattle.lab_words.specs.declared.verbs.Verb.TheVariants.{Why, Seen, Timeline, Bound}
 
 -- FILE [--of NAME]
 abbrev pub why_app : App
 why_app = with_rule (with_rule (bare (new_app (codes "why"))) (required_word_rule (codes "FILE"))) (option_rule (codes "of"))
-
--- FILE STARTS --observer L [--env E] [--budget T]
-abbrev pub shown_app : Text → App
-shown_app name = with_rule (with_rule (with_rule (with_rule (with_rule (bare (new_app name))
-    (required_word_rule (codes "FILE"))) (required_word_rule (codes "STARTS")))
-    (required_option_rule (codes "observer"))) (option_rule (codes "env"))) (option_rule (codes "budget"))
 
 -- FILE STARTS [--env E] [--budget T] [--observer L]
 abbrev pub timeline_app : App
@@ -24,6 +18,6 @@ timeline_app = with_rule (with_rule (with_rule (with_rule (with_rule (bare (new_
 -- the words that follow each command word
 abbrev pub form_app : Verb → App
 form_app Why = why_app
-form_app Seen = shown_app (codes "seen")
+form_app Seen = observed_app (codes "seen")
 form_app Timeline = timeline_app
-form_app Bound = shown_app (codes "bound")
+form_app Bound = observed_app (codes "bound")

@@ -2,12 +2,12 @@
 
 ghost use Rattle.std.specs.Prelude.{◌≡◌, IfOk};
 ghost use Rattle.clap.specs.Words.{app_of};
-ghost use Rattle.lab_words.specs.QuestionForms.{form_app, shown_app, timeline_app, why_app};
+ghost use Rattle.lab_words.specs.QuestionForms.{form_app, timeline_app, why_app};
 
 use crate::verbs::Verb;
 use clap::Command as Form;
 use std::alloc::{AllocError, Global};
-use tool_words::forms::{bare_form, option, required_option, required_word};
+use tool_words::forms::{bare_form, observed_form, option, required_word};
 
 /// `why FILE [--of NAME]`.
 fn why_form<'a>(alloc: Global) -> Result<Form<'a>, AllocError>
@@ -16,18 +16,6 @@ fn why_form<'a>(alloc: Global) -> Result<Form<'a>, AllocError>
     bare_form(alloc, "why")
         .arg(required_word(alloc, "FILE"))?
         .arg(option(alloc, "of"))
-}
-
-/// `FILE STARTS --observer L [--env E] [--budget T]`.
-fn shown_form<'a>(alloc: Global, name: &'a str) -> Result<Form<'a>, AllocError>
-    ensures { IfOk result (λ f. app_of f ≡ shown_app name.entry.now) }
-{
-    bare_form(alloc, name)
-        .arg(required_word(alloc, "FILE"))?
-        .arg(required_word(alloc, "STARTS"))?
-        .arg(required_option(alloc, "observer"))?
-        .arg(option(alloc, "env"))?
-        .arg(option(alloc, "budget"))
 }
 
 /// `timeline FILE STARTS [--env E] [--budget T] [--observer L]`.
@@ -48,8 +36,8 @@ pub(crate) fn form<'a>(alloc: Global, verb: Verb) -> Result<Form<'a>, AllocError
 {
     match verb {
         Verb::Why => why_form(alloc),
-        Verb::Seen => shown_form(alloc, "seen"),
+        Verb::Seen => observed_form(alloc, "seen"),
         Verb::Timeline => timeline_form(alloc),
-        Verb::Bound => shown_form(alloc, "bound"),
+        Verb::Bound => observed_form(alloc, "bound"),
     }
 }

@@ -3,10 +3,12 @@ ghost use Rattle.label_lattice.specs.Chains.{Chain};
 ghost use Rattle.label_lattice.specs.Lattice.{Flows};
 ghost use Rattle.label_lattice.specs.Order.{lattice_of};
 ghost use Rattle.mit_syntax.specs.Declarations.{variables};
-ghost use Rattle.mit_syntax.specs.Expression.{Number, Variable};
+ghost use Rattle.mit_syntax.specs.Expression.{Variable};
 ghost use Rattle.mit_syntax.specs.Plan.{Plan, command_plan};
 ghost use Rattle.mit_syntax.specs.Program.{plan_of};
-ghost use Rattle.mit_syntax.specs.Todo.{Skip, Assign, Mitigate, Done};
+ghost use Rattle.mit_syntax.specs.Todo.{Assign};
+ghost use Rattle.sample_lattice.specs.Sample.{low_below_high};
+ghost use Rattle.sample_program.specs.Sample.{mitigated_plan};
 
 use crate::complete::complete;
 use crate::constraints::{Condition, list_constraints};
@@ -24,15 +26,13 @@ use label_lattice::name::Name;
 use mit_syntax::ast::{Command, Expr, Form};
 use mit_syntax::declarations::Decl;
 use mit_syntax::program::Program;
+use sample_lattice::{HIGH, LOW, two_labels};
+use sample_program::mitigated;
 use std::alloc::{AllocError, Global};
 use std::marker::Brand;
 use std::sync::ledger::{Blank, Ledger};
 use text_base::pos::{Memory, Pos};
 use timing_types::labelled::Labelled;
-
-const LOW: Label = Label { number: 0 };
-
-const HIGH: Label = Label { number: 1 };
 
 const fn at(column: u32) -> Pos
     ensures { result ≡ record { line = 1; column = column } }
@@ -40,55 +40,21 @@ const fn at(column: u32) -> Pos
     Pos { line: 1, column }
 }
 
-// The lattice of L below H.
-fn two_labels() -> Option<Lattice>
-    ensures size { IfSome result (λ o. o.size ≡ 2) }
-    ensures flows { IfSome result (λ o. (a b : ℕ) → a < 2 → b < 2
-        → Flows (lattice_of o) a b ↔ Chain ((record { number = 0 }, record { number = 1 }) ∷ []) a b) }
-{
-    let low = Name::read(b"L")?;
-    let high = Name::read(b"H")?;
-    if low.bytes() == high.bytes() {
-        return None;
-    }
-    Lattice::build(&[low, high], &[(LOW, HIGH)]).ok()
-}
-
 // The program `mitigate (1) { skip @[H, H] }` with the labels L and H.
-fn mitigated(alloc: Global, lattice: Lattice) -> Result<Program, AllocError>
+fn marked(alloc: Global, lattice: Lattice) -> Result<Program, AllocError>
     requires size { lattice.size ≡ 2 }
-    requires flows { (a b : ℕ) → a < 2 → b < 2 → Flows (lattice_of lattice) a b ↔ Chain ((record { number = 0 }, record { number = 1 }) ∷ []) a b }
+    requires flows { (a b : ℕ) → a < 2 → b < 2 → Flows (lattice_of lattice) a b ↔ Chain low_below_high a b }
     ensures order { IfOk result (λ p. p.order ≡ lattice) }
     ensures declarations { IfOk result (λ p. p.declarations ≡ []) }
-    ensures plan { IfOk result (λ p. plan_of p ≡ Mitigate (record { pos = record { line = 1; column = 1 }; labels = None }) 0 None (Number (pos 1))
-        (Skip (record { pos = record { line = 1; column = 16 }; labels = Some (record { number = 1 }, record { number = 1 }) }) Done) Done) }
+    ensures plan { IfOk result (λ p. plan_of p ≡ mitigated_plan (Some (record { number = 1 }, record { number = 1 }))) }
 {
-    lattice.laws();
-    let skip = Command {
-        pos: at(16),
-        labels: Some((HIGH, HIGH)),
-        form: Form::Skip,
-    };
-    let inner = vec![in alloc; skip]?;
-    let command = Command {
-        pos: at(1),
-        labels: None,
-        form: Form::Mitigate {
-            mark: 0,
-            estimate: Expr::Number(1),
-            level: None,
-            body: inner,
-        },
-    };
-    let body = vec![in alloc; command]?;
     let pairs = vec![in alloc; (LOW, HIGH)]?;
-    Ok(Program::of(lattice, pairs, IndexMap::new(alloc), body))
+    mitigated(alloc, lattice, pairs, Some((HIGH, HIGH)))
 }
 
 // The labels of its two commands, and its level.
 fn labels_of(p: &Labelled) -> ([(Label, Label); 2], Label)
-    requires { plan_of p.now.program ≡ Mitigate (record { pos = record { line = 1; column = 1 }; labels = None }) 0 None (Number (pos 1))
-        (Skip (record { pos = record { line = 1; column = 16 }; labels = Some (record { number = 1 }, record { number = 1 }) }) Done) Done }
+    requires { plan_of p.now.program ≡ mitigated_plan (Some (record { number = 1 }, record { number = 1 })) }
 {
     ([p.command_labels(0), p.command_labels(1)], p.level(0))
 }
@@ -99,7 +65,7 @@ const EXPECTED: ([(Label, Label); 2], Label) = ([(LOW, LOW), (HIGH, HIGH)], HIGH
 #[test]
 fn infers_a_level(rt: HostRuntime) -> Result<(), AllocError> {
     let lattice = two_labels().expect(&rt, "a lattice");
-    let p = mitigated(rt.alloc(), lattice)?;
+    let p = marked(rt.alloc(), lattice)?;
     match infer(rt.alloc(), p) {
         Ok(labelled) => {
             assert_eq!(rt; labelled.program().commands(), 2);
@@ -115,7 +81,7 @@ fn infers_a_level(rt: HostRuntime) -> Result<(), AllocError> {
 fn completes_a_level(rt: HostRuntime) -> Result<(), AllocError> {
     let alloc = rt.alloc();
     let lattice = two_labels().expect(&rt, "a lattice");
-    let p = mitigated(alloc, lattice)?;
+    let p = marked(alloc, lattice)?;
     match complete(alloc, p, Vec::new(alloc), vec![in alloc; HIGH]?) {
         Ok(labelled) => assert_eq!(rt; labels_of(&labelled), EXPECTED),
         Err(_) => panic!(rt; "memory"),
@@ -196,7 +162,7 @@ fn chained(
     h: Name,
 ) -> Result<Program, AllocError>
     requires size { order.size ≡ 2 }
-    requires flows { (a b : ℕ) → a < 2 → b < 2 → Flows (lattice_of order) a b ↔ Chain ((record { number = 0 }, record { number = 1 }) ∷ []) a b }
+    requires flows { (a b : ℕ) → a < 2 → b < 2 → Flows (lattice_of order) a b ↔ Chain low_below_high a b }
     requires a { a ≡ 97 ∷ [] }
     requires b { b ≡ 98 ∷ [] }
     requires c { c ≡ 99 ∷ [] }
@@ -229,7 +195,7 @@ fn chained(
 // Its program, its three names and h being read.
 fn chained_program(alloc: Global, order: Lattice) -> Option<Program>
     requires size { order.size ≡ 2 }
-    requires flows { (a b : ℕ) → a < 2 → b < 2 → Flows (lattice_of order) a b ↔ Chain ((record { number = 0 }, record { number = 1 }) ∷ []) a b }
+    requires flows { (a b : ℕ) → a < 2 → b < 2 → Flows (lattice_of order) a b ↔ Chain low_below_high a b }
     ensures { IfSome result (λ p. variables p.declarations ≡ 4) }
 {
     let a = Name::read(b"a")?;

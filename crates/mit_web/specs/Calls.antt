@@ -1,5 +1,5 @@
 -- What a call from a page is given, and what it tells.
-use Rattle.std.specs.Prelude.{◌≡◌, ◌≤◌, ℕ, List, [], ◌∷◌, length, take, drop, Option, Some, None, IfSome, IsUtf8, bytes_eq, cond}
+use Rattle.std.specs.Prelude.{◌≡◌, ◌≤◌, ◌⊎◌, ℕ, List, [], ◌∷◌, length, take, drop, Option, Some, None, IfSome, IsUtf8, bytes_eq, cond}
 use Rattle.tim_base.specs.declared.shelf.memory.MemShelf.{MemShelf}
 use Rattle.tim_base.specs.Shelves.{bytes_at}
 use Rattle.tim_base.specs.Faults.{Rose}
@@ -81,3 +81,12 @@ pub record TellsAnswer (program : Program) (words names contents : List (List �
   pub text : List ℕ
   pub answer : IsAnswerOf program words (held_by names contents) number text
   pub shows : Shows room out count text
+
+-- How a call of rows ended, with a number and a count of bytes in the room: memory was wanting; or the rows make no call;
+-- or they make one, and the program's answer is told.
+abbrev pub EndsCall : Program → List ℕ → List ℕ → List ℕ → List ℕ → List ℕ → List ℕ → ℕ → List ℕ → ℕ → ℕ → Type 0
+EndsCall program word_lengths words name_lengths names file_lengths contents room out number count =
+    ((number ≡ 11) × (count ≡ 0))
+    ⊎ ((number ≡ 13) × (count ≡ 0) × (AreRows word_lengths words name_lengths names file_lengths contents → ⊥))
+    ⊎ (AreRows word_lengths words name_lengths names file_lengths contents
+    × TellsAnswer program (pieces word_lengths words) (pieces name_lengths names) (pieces file_lengths contents) number room out count)

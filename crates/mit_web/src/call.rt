@@ -1,9 +1,9 @@
 //! The calls that a page makes.
 
-ghost use Rattle.std.specs.Prelude.{◌≡◌, ◌≤◌, ◌⊎◌, ℕ, IfOk, IfErr, List, Option, drop, length, map, string_bytes};
+ghost use Rattle.std.specs.Prelude.{◌≡◌, ◌≤◌, ℕ, IfOk, IfErr, List, Option, drop, length, map, string_bytes};
 ghost use Rattle.tim_base.specs.Shelves.{bytes_at};
 ghost use Rattle.mit_web.specs.declared.given.GivenFault.TheVariants.{Memory, BadCall};
-ghost use Rattle.mit_web.specs.Calls.{AreRows, IsAnswerOf, Shows, TellsAnswer, held_by, pieces};
+ghost use Rattle.mit_web.specs.Calls.{AreRows, EndsCall, IsAnswerOf, Shows, held_by, pieces};
 
 use crate::given::{GivenFault, files, texts};
 use lab_tool::lab_main;
@@ -141,18 +141,14 @@ fn call(
     out: &mut [u8],
     ended: &mut Ended,
 )
-    ensures told { ((ended.new.status ≡ NO_MEMORY) × (ended.new.length ≡ 0))
-        ⊎ ((ended.new.status ≡ BAD_CALL) × (ended.new.length ≡ 0)
-        × (AreRows word_lengths.now words.now name_lengths.now names.now file_lengths.now contents.now → ⊥))
-        ⊎ (AreRows word_lengths.now words.now name_lengths.now names.now file_lengths.now contents.now
-        × TellsAnswer program (pieces word_lengths.now words.now) (pieces name_lengths.now names.now) (pieces file_lengths.now contents.now)
-        ended.new.status (length out.old) out.new ended.new.length) }
+    ensures told { EndsCall program word_lengths.now words.now name_lengths.now names.now file_lengths.now contents.now
+        (length out.old) out.new ended.new.status ended.new.length }
     ensures fits { ended.new.length ≤ length out.new }
     ensures room { length out.new ≡ length out.old }
     ensures rest { drop ended.new.length out.new ≡ drop ended.new.length out.old }
 {
     let room = out.len();
-    match ask_rows(
+    let answer = ask_rows(
         alloc,
         program,
         word_lengths,
@@ -162,24 +158,13 @@ fn call(
         file_lengths,
         contents,
         room,
-    ) {
-        Ok((status, sink)) => {
-            let length = hand_out(sink.bytes(), out);
-            *ended = Ended { status, length };
-        }
-        Err(GivenFault::Memory) => {
-            *ended = Ended {
-                status: NO_MEMORY,
-                length: 0,
-            };
-        }
-        Err(GivenFault::BadCall) => {
-            *ended = Ended {
-                status: BAD_CALL,
-                length: 0,
-            };
-        }
-    }
+    );
+    let (status, length) = match answer {
+        Ok((status, sink)) => (status, hand_out(sink.bytes(), out)),
+        Err(GivenFault::Memory) => (NO_MEMORY, 0),
+        Err(GivenFault::BadCall) => (BAD_CALL, 0),
+    };
+    *ended = Ended { status, length };
 }
 
 /// Does what words ask of the tool, over files in memory. Words, names of files and what the files hold stand in a row of
@@ -200,12 +185,8 @@ pub extern "C" fn mit_web_call(
     out: &mut [u8],
     ended: &mut Ended,
 )
-    ensures told { ((ended.new.status ≡ NO_MEMORY) × (ended.new.length ≡ 0))
-        ⊎ ((ended.new.status ≡ BAD_CALL) × (ended.new.length ≡ 0)
-        × (AreRows word_lengths.now words.now name_lengths.now names.now file_lengths.now contents.now → ⊥))
-        ⊎ (AreRows word_lengths.now words.now name_lengths.now names.now file_lengths.now contents.now
-        × TellsAnswer Program.Tool (pieces word_lengths.now words.now) (pieces name_lengths.now names.now) (pieces file_lengths.now contents.now)
-        ended.new.status (length out.old) out.new ended.new.length) }
+    ensures told { EndsCall Program.Tool word_lengths.now words.now name_lengths.now names.now file_lengths.now contents.now
+        (length out.old) out.new ended.new.status ended.new.length }
     ensures fits { ended.new.length ≤ length out.new }
     ensures room { length out.new ≡ length out.old }
     ensures rest { drop ended.new.length out.new ≡ drop ended.new.length out.old }
@@ -237,12 +218,8 @@ pub extern "C" fn lab_web_call(
     out: &mut [u8],
     ended: &mut Ended,
 )
-    ensures told { ((ended.new.status ≡ NO_MEMORY) × (ended.new.length ≡ 0))
-        ⊎ ((ended.new.status ≡ BAD_CALL) × (ended.new.length ≡ 0)
-        × (AreRows word_lengths.now words.now name_lengths.now names.now file_lengths.now contents.now → ⊥))
-        ⊎ (AreRows word_lengths.now words.now name_lengths.now names.now file_lengths.now contents.now
-        × TellsAnswer Program.Lab (pieces word_lengths.now words.now) (pieces name_lengths.now names.now) (pieces file_lengths.now contents.now)
-        ended.new.status (length out.old) out.new ended.new.length) }
+    ensures told { EndsCall Program.Lab word_lengths.now words.now name_lengths.now names.now file_lengths.now contents.now
+        (length out.old) out.new ended.new.status ended.new.length }
     ensures fits { ended.new.length ≤ length out.new }
     ensures room { length out.new ≡ length out.old }
     ensures rest { drop ended.new.length out.new ≡ drop ended.new.length out.old }

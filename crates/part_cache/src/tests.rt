@@ -1,30 +1,9 @@
-ghost use Rattle.std.specs.Prelude.{◌≡◌, ◌<◌, IfSome};
-
 use crate::cache::PartCache;
-use label_lattice::label::Label;
-use label_lattice::lattice::Lattice;
-use label_lattice::name::Name;
-
-const LOW: Label = Label { number: 0 };
-
-const HIGH: Label = Label { number: 1 };
-
-// The labels L and H, of which the first flows to the second.
-fn low_high() -> Option<Lattice>
-    ensures { IfSome result (λ l. l.size ≡ 2) }
-{
-    let names = [Name::read(b"L")?, Name::read(b"H")?];
-    let lattice = Lattice::build(&names, &[(LOW, HIGH)]).ok()?;
-    if lattice.size() == 2 {
-        Some(lattice)
-    } else {
-        None
-    }
-}
+use sample_lattice::{HIGH, LOW, two_labels};
 
 #[test]
 fn keeps_the_latest_of_a_set(rt: HostRuntime) {
-    let lattice = low_high().expect(&rt, "a lattice");
+    let lattice = two_labels().expect(&rt, "a lattice");
     let mut cache = PartCache::new(rt.alloc(), lattice, 1, 2).expect(&rt, "memory");
     cache.touch(1, LOW);
     cache.touch(2, LOW);
@@ -37,7 +16,7 @@ fn keeps_the_latest_of_a_set(rt: HostRuntime) {
 
 #[test]
 fn looks_at_and_below_a_label(rt: HostRuntime) {
-    let lattice = low_high().expect(&rt, "a lattice");
+    let lattice = two_labels().expect(&rt, "a lattice");
     let mut cache = PartCache::new(rt.alloc(), lattice, 8, 2).expect(&rt, "memory");
     cache.touch(0, LOW);
     cache.touch(8, HIGH);

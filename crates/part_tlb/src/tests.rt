@@ -1,4 +1,4 @@
-ghost use Rattle.std.specs.Prelude.{◌≡◌, ◌<◌, ◌≤◌, IfOk, IfSome};
+ghost use Rattle.std.specs.Prelude.{◌<◌, ◌≤◌, IfOk};
 ghost use Rattle.std.specs.List.{All};
 ghost use Rattle.label_lattice.specs.Order.{Order};
 
@@ -7,28 +7,10 @@ use crate::part2::{MakePart2, Part2Env};
 use env_contract::env::MachineEnv;
 use env_contract::make::MakeEnv;
 use env_contract::place::{Kind, PLACES, Place, Touch};
-use label_lattice::label::Label;
 use label_lattice::lattice::Lattice;
-use label_lattice::name::Name;
+use sample_lattice::{HIGH, LOW, two_labels};
 use std::alloc::Global;
 use text_base::pos::Memory;
-
-const LOW: Label = Label { number: 0 };
-
-const HIGH: Label = Label { number: 1 };
-
-// The labels L and H, of which the first flows to the second.
-fn low_high() -> Option<Lattice>
-    ensures { IfSome result (λ l. l.size ≡ 2) }
-{
-    let names = [Name::read(b"L")?, Name::read(b"H")?];
-    let lattice = Lattice::build(&names, &[(LOW, HIGH)]).ok()?;
-    if lattice.size() == 2 {
-        Some(lattice)
-    } else {
-        None
-    }
-}
 
 fn make<E: MachineEnv, M: MakeEnv<E>>(
     maker: &M,
@@ -77,14 +59,14 @@ fn first_wrong<E: MachineEnv>(env: &mut E, two_levels: bool) -> Option<usize>
 
 #[test]
 fn costs_one_level(rt: HostRuntime) {
-    let lattice = low_high().expect(&rt, "a lattice");
+    let lattice = two_labels().expect(&rt, "a lattice");
     let mut env = make(&MakePart, rt.alloc(), lattice, &[]).expect(&rt, "memory");
     assert_eq!(rt; first_wrong(&mut env, false), None);
 }
 
 #[test]
 fn costs_two_levels(rt: HostRuntime) {
-    let lattice = low_high().expect(&rt, "a lattice");
+    let lattice = two_labels().expect(&rt, "a lattice");
     let mut env = make(&MakePart2, rt.alloc(), lattice, &[]).expect(&rt, "memory");
     assert_eq!(rt; first_wrong(&mut env, true), None);
 }
@@ -98,7 +80,7 @@ const FAR: Touch = Touch {
 
 #[test]
 fn uses_touches_of_the_second_level_with_two(rt: HostRuntime) {
-    let lattice = low_high().expect(&rt, "a lattice");
+    let lattice = two_labels().expect(&rt, "a lattice");
     let mut one = PartEnv::warm(rt.alloc(), lattice, &[FAR]).expect(&rt, "memory");
     assert_eq!(rt; one.access(Kind::Code, 0, LOW, LOW), 28);
     let mut two = Part2Env::warm(rt.alloc(), lattice, &[FAR]).expect(&rt, "memory");
@@ -121,7 +103,7 @@ const WARM: [Touch; 2] = [
 
 #[test]
 fn compares_parts(rt: HostRuntime) {
-    let lattice = low_high().expect(&rt, "a lattice");
+    let lattice = two_labels().expect(&rt, "a lattice");
     let one = PartEnv::warm(rt.alloc(), lattice, &WARM).expect(&rt, "memory");
     let other = PartEnv::warm(rt.alloc(), lattice, &WARM[..1]).expect(&rt, "memory");
     for place in PLACES {

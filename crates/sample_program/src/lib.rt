@@ -1,29 +1,21 @@
-//! A program that tests of several crates begin with.
+//! The program that tests of several crates begin with.
 #![tactic(auto)]
 
-ghost use Rattle.std.specs.Prelude.{◌≡◌, ℕ, ◌<◌, [], ◌↔◌, IfSome, IfOk};
-ghost use Rattle.label_lattice.specs.Chains.{Chain};
+ghost use Rattle.std.specs.Prelude.{◌≡◌, ℕ, ◌<◌, [], ◌↔◌, IfOk};
+ghost use Rattle.label_lattice.specs.Chains.{AreBelow, Chain};
 ghost use Rattle.label_lattice.specs.Lattice.{Flows};
 ghost use Rattle.label_lattice.specs.Order.{lattice_of};
 ghost use Rattle.mit_syntax.specs.Program.{plan_of};
+ghost use Rattle.mit_syntax.specs.Valid.{AreMarksBelow};
 ghost use Rattle.sample_program.specs.Sample.{mitigated_plan};
 
 use indexmap::IndexMap;
+use label_lattice::label::Label;
 use label_lattice::lattice::Lattice;
-use label_lattice::name::Name;
 use mit_syntax::ast::{Command, Expr, Form};
 use mit_syntax::program::Program;
 use std::alloc::{AllocError, Global};
 use text_base::pos::Pos;
-
-/// The lattice of one label.
-pub fn one_label() -> Option<Lattice>
-    ensures size { IfSome result (λ o. o.size ≡ 1) }
-    ensures flows { IfSome result (λ o. (a b : ℕ) → a < 1 → b < 1 → Flows (lattice_of o) a b ↔ Chain [] a b) }
-{
-    let name = Name::read(b"L")?;
-    Lattice::build(&[name], &[]).ok()
-}
 
 const fn at(column: u32) -> Pos
     ensures { result ≡ record { line = 1; column = column } }
@@ -31,18 +23,25 @@ const fn at(column: u32) -> Pos
     Pos { line: 1, column }
 }
 
-/// The program `mitigate (1) { skip }`.
-pub fn mitigated(alloc: Global, lattice: Lattice) -> Result<Program, AllocError>
-    requires size { lattice.size ≡ 1 }
-    requires flows { (a b : ℕ) → a < 1 → b < 1 → Flows (lattice_of lattice) a b ↔ Chain [] a b }
+/// The program `mitigate (1) { skip }` over a lattice with these written pairs, where these labels are written behind the
+/// `skip`, or none.
+pub fn mitigated(
+    alloc: Global,
+    lattice: Lattice,
+    pairs: Vec<(Label, Label)>,
+    labels: Option<(Label, Label)>,
+) -> Result<Program, AllocError>
+    requires pairs { AreBelow lattice.size pairs.items }
+    requires flows { (a b : ℕ) → a < lattice.size → b < lattice.size → Flows (lattice_of lattice) a b ↔ Chain pairs.items a b }
+    requires labels { AreMarksBelow lattice.size labels }
     ensures order { IfOk result (λ p. p.order ≡ lattice) }
     ensures declarations { IfOk result (λ p. p.declarations ≡ []) }
-    ensures plan { IfOk result (λ p. plan_of p ≡ mitigated_plan) }
+    ensures plan { IfOk result (λ p. plan_of p ≡ mitigated_plan labels) }
 {
     lattice.laws();
     let skip = Command {
         pos: at(16),
-        labels: None,
+        labels,
         form: Form::Skip,
     };
     let inner = vec![in alloc; skip]?;
@@ -57,5 +56,5 @@ pub fn mitigated(alloc: Global, lattice: Lattice) -> Result<Program, AllocError>
         },
     };
     let body = vec![in alloc; command]?;
-    Ok(Program::of(lattice, Vec::new(alloc), IndexMap::new(alloc), body))
+    Ok(Program::of(lattice, pairs, IndexMap::new(alloc), body))
 }

@@ -3,7 +3,8 @@ use crate::value::value;
 use crate::walk::Walk;
 use crate::walker::Walker;
 use mit_syntax::ast::{Expr, Op};
-use sample_program::{mitigated, one_label};
+use sample_lattice::one_label;
+use sample_program::mitigated;
 use std::boxed::Box;
 use text_base::pos::Memory;
 
@@ -12,7 +13,7 @@ static WALKS: [Walk; 4] = [Walk::Began(0), Walk::Silent, Walk::Ended, Walk::Ende
 #[test]
 fn walks_through_a_mitigate(rt: HostRuntime) -> Result<(), Memory> {
     let lattice = one_label().expect(&rt, "a lattice");
-    let p = mitigated(rt.alloc(), lattice)?;
+    let p = mitigated(rt.alloc(), lattice, Vec::new(rt.alloc()), None)?;
     let mut walker = Walker::new(rt.alloc(), &p, &[])?;
     for walk in &WALKS {
         assert_eq!(rt; walker.step()?, *walk);

@@ -64,7 +64,8 @@ module _ (lat : Lattice) (ll : IsLattice lat) (g : ℕ → ℕ) where
   pub loop_moves : (t u l a : ℕ) → lat.join (lat.join l (lat.join t u)) a ≡ lat.join (lat.join (lat.join l t) a) u
   loop_moves t u l a = ap (λ z. lat.join z a) (sym (assoc lat ll l t u)) ∙ swap (lat.join l t) u a
 
-  pub demand_moves : (pc t u : ℕ) (m : Placed) (l li x : ℕ) → lat.join x (demand lat pc (lat.join t u) m l li) ≡ lat.join (lat.join x (demand lat pc t m l li)) u
+  pub demand_moves : (pc t u : ℕ) (m : Placed) (l li x : ℕ)
+      → lat.join x (demand lat pc (lat.join t u) m l li) ≡ lat.join (lat.join x (demand lat pc t m l li)) u
   demand_moves pc t u m l li x =
       ap (lat.join x) (loop_moves t u (lat.join (lat.join l li) pc) m.marks.er) ∙ sym (assoc lat ll x (demand lat pc t m l li) u)
 

@@ -1,4 +1,4 @@
-ghost use Rattle.std.specs.Prelude.{◌≡◌, [], IfOk};
+ghost use Rattle.std.specs.Prelude.{◌≡◌, [], IfOk, None};
 ghost use Rattle.mit_syntax.specs.Program.{plan_of};
 ghost use Rattle.sample_program.specs.Sample.{mitigated_plan};
 
@@ -6,23 +6,17 @@ use crate::check::{check, list_walk};
 use crate::labelled::Labelled;
 use crate::labels::Labels;
 use crate::rule::{Rule, TypeFault};
-use label_lattice::label::Label;
-use label_lattice::lattice::Lattice;
-use label_lattice::name::Name;
 use mit_syntax::ast::{Command, Expr, Form};
 use mit_syntax::program::Program;
-use sample_program::{mitigated, one_label};
+use sample_lattice::{HIGH, LOW, one_label, two_labels};
+use sample_program::mitigated;
 use std::alloc::{AllocError, Global};
 use text_base::pos::Pos;
-
-const LOW: Label = Label { number: 0 };
-
-const HIGH: Label = Label { number: 1 };
 
 // It with bottom everywhere.
 fn labelled(alloc: Global, p: Program) -> Result<Labelled, AllocError>
     requires declarations { p.declarations ≡ [] }
-    requires plan { plan_of p ≡ mitigated_plan }
+    requires plan { plan_of p ≡ mitigated_plan None }
     ensures { IfOk result (λ q. q.program ≡ p) }
 {
     let low = p.lattice().bottom();
@@ -34,7 +28,10 @@ fn labelled(alloc: Global, p: Program) -> Result<Labelled, AllocError>
 #[test]
 fn accepts_a_mitigate(rt: HostRuntime) -> Result<(), AllocError> {
     let lattice = one_label().expect(&rt, "a lattice");
-    let p = labelled(rt.alloc(), mitigated(rt.alloc(), lattice)?)?;
+    let p = labelled(
+        rt.alloc(),
+        mitigated(rt.alloc(), lattice, Vec::new(rt.alloc()), None)?,
+    )?;
     match check(rt.alloc(), p) {
         Ok(typed) => {
             assert_eq!(rt; typed.labelled().program().commands(), 2);
@@ -43,16 +40,6 @@ fn accepts_a_mitigate(rt: HostRuntime) -> Result<(), AllocError> {
         Err(_) => panic!(rt; "refused"),
     }
     Ok(())
-}
-
-// The lattice of L below H.
-fn two_labels() -> Option<Lattice> {
-    let low = Name::read(b"L")?;
-    let high = Name::read(b"H")?;
-    if low.bytes() == high.bytes() {
-        return None;
-    }
-    Lattice::build(&[low, high], &[(LOW, HIGH)]).ok()
 }
 
 const fn at(column: u32) -> Pos

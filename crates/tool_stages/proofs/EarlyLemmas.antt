@@ -16,7 +16,7 @@ use Rattle.tool_stages.specs.Stages.{ProgramStops, ObserverStops, TypeStops, Ima
 use Rattle.tool_stages.specs.Content.{Content}
 use Rattle.tool_stages.specs.Begins.{Compiles, NoMore, CompileStops}
 use Rattle.tool_stages.specs.Accepted.{is_past_typing}
-use Rattle.tool_stages.proofs.StageStops.{FileStops, BadText, program_stops, observer_stops, type_stops, image_stops, certificate_stops}
+use Rattle.tool_stages.proofs.StageStops.{FileBreaks, BadText, program_stops, observer_stops, type_stops, image_stops, certificate_stops}
 
 -- a command that stops did not come past the typing, and no write failed
 pub record IsEarly (s : Status) : Type 0 where
@@ -58,7 +58,7 @@ refused_early = record { early = refl; no_fault = λ e. cc }
 -- ---- stages
 
 file_early : (R : Type 0) (f : File) (c : Option (Option (List ℕ))) (Faulty : List ℕ → Type 0) (v s : Status) (t : List ℕ) → IsEarly v
-    → FileStops R f c Faulty v s t → IsEarly s
+    → FileBreaks R f c Faulty v s t → IsEarly s
 file_early R f c Faulty v s t early (inl h) = subst IsEarly (sym h.0) read_early
 file_early R f c Faulty v s t early (inr (inl h)) = subst IsEarly (sym h.0) long_early
 file_early R f c Faulty v s t early (inr (inr h)) = subst IsEarly (sym h.0) early

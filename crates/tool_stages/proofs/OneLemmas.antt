@@ -31,7 +31,7 @@ use Rattle.tool_texts.specs.Reports.{ready_fault_line}
 use Rattle.tool_stages.specs.Stages.{Then, Reads, ProgramStops, ObserverStops, Types, HasNoType, TypeStops, HasImage, ImageStops, StartsAre, HasStartFault}
 use Rattle.tool_stages.specs.Stages.{StartStops, HoldsRuns, HasReadyFault, ReadyStops, HasWrongLine, CertificateStops}
 use Rattle.tool_stages.specs.Content.{IsKnown}
-use Rattle.tool_stages.proofs.StageStops.{FileStops, BadText, program_stops, observer_stops, type_stops, image_stops, start_stops, ready_stops}
+use Rattle.tool_stages.proofs.StageStops.{FileBreaks, BadText, program_stops, observer_stops, type_stops, image_stops, start_stops, ready_stops}
 use Rattle.tool_stages.proofs.StageStops.{certificate_stops}
 use Rattle.tool_stages.proofs.GoesLemmas.{one_told, not_long, image_goes, ready_goes}
 
@@ -63,8 +63,8 @@ then_same Stops Gives Next s u t x stop not next (inr h) (inr k) = next h.2 k.2
 
 -- a file that is read stops with one fault at most, and a faulty file is not too long
 file_stop : (R : Type 0) (f : File) (c : Option (Option (List ℕ))) (Faulty : List ℕ → Type 0) (v s u : Status) (t x : List ℕ)
-    → (R → ⊥) → ((t : List ℕ) → Faulty t → IsTooLong c → ⊥) → ((t x : List ℕ) → Faulty t → Faulty x → t ≡ x) → FileStops R f c Faulty v s t
-    → FileStops R f c Faulty v u x → Same s u t x
+    → (R → ⊥) → ((t : List ℕ) → Faulty t → IsTooLong c → ⊥) → ((t x : List ℕ) → Faulty t → Faulty x → t ≡ x) → FileBreaks R f c Faulty v s t
+    → FileBreaks R f c Faulty v u x → Same s u t x
 file_stop R f c Faulty v s u t x n short one (inl h) k = absurd (n h.1)
 file_stop R f c Faulty v s u t x n short one (inr h) (inl k) = absurd (n k.1)
 file_stop R f c Faulty v s u t x n short one (inr (inl h)) (inr (inl k)) = (h.0 ∙ sym k.0, h.2 ∙ sym k.2)

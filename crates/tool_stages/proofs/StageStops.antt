@@ -13,13 +13,13 @@ use Rattle.tool_stages.specs.Stages.{StartStops, HasReadyFault, ReadyStops, HasW
 
 -- ---- a file: it was not read, is too long, or is faulty
 
-abbrev pub FileStops : Type 0 → File → Option (Option (List ℕ)) → (List ℕ → Type 0) → Status → Status → List ℕ → Type 0
-FileStops R f c Faulty v s t =
+abbrev pub FileBreaks : Type 0 → File → Option (Option (List ℕ)) → (List ℕ → Type 0) → Status → Status → List ℕ → Type 0
+FileBreaks R f c Faulty v s t =
     ((s ≡ status.ReadFault) × R × (t ≡ read_fault_line f)) ⊎ (((s ≡ status.TooLong) × IsTooLong c × (t ≡ too_long_line f)) ⊎ ((s ≡ v) × Faulty t))
 
 -- a file that is read, not too long and without fault
 pub file_goes : (R : Type 0) (f : File) (c : Option (Option (List ℕ))) (Faulty : List ℕ → Type 0) (v s : Status) (t : List ℕ) → (R → ⊥) → (IsTooLong c → ⊥)
-    → (Faulty t → ⊥) → FileStops R f c Faulty v s t → ⊥
+    → (Faulty t → ⊥) → FileBreaks R f c Faulty v s t → ⊥
 file_goes R f c Faulty v s t n short good (inl h) = n h.1
 file_goes R f c Faulty v s t n short good (inr (inl h)) = short h.1
 file_goes R f c Faulty v s t n short good (inr (inr h)) = good h.1
@@ -28,7 +28,7 @@ abbrev pub BadText : Option (Option (List ℕ)) → List ℕ → Type 0
 BadText c t = HasTextFault c t ⊎ HasParseFault c t
 
 pub program_stops : (R : Type 0) (c : Option (Option (List ℕ))) (s : Status) (t : List ℕ) → ProgramStops R c s t
-    → FileStops R program c (BadText c) status.Syntax s t
+    → FileBreaks R program c (BadText c) status.Syntax s t
 program_stops R c status.Done t h = absurd h
 program_stops R c status.Refused t h = absurd h
 program_stops R c status.Syntax t h = inr (inr (refl, h))
@@ -44,7 +44,7 @@ program_stops R c status.Memory t h = absurd h
 program_stops R c status.Rejected t h = absurd h
 
 pub start_stops : (R : Type 0) (c : Option (Option (List ℕ))) (p : Syntax) (s : Status) (t : List ℕ) → StartStops R c p s t
-    → FileStops R starts c (HasStartFault c p) status.Starts s t
+    → FileBreaks R starts c (HasStartFault c p) status.Starts s t
 start_stops R c p status.Done t h = absurd h
 start_stops R c p status.Refused t h = absurd h
 start_stops R c p status.Syntax t h = absurd h
@@ -60,7 +60,7 @@ start_stops R c p status.Memory t h = absurd h
 start_stops R c p status.Rejected t h = absurd h
 
 pub ready_stops : (R : Type 0) (c : Option (Option (List ℕ))) (s : Status) (t : List ℕ) → ReadyStops R c s t
-    → FileStops R ready c (HasReadyFault c) status.Starts s t
+    → FileBreaks R ready c (HasReadyFault c) status.Starts s t
 ready_stops R c status.Done t h = absurd h
 ready_stops R c status.Refused t h = absurd h
 ready_stops R c status.Syntax t h = absurd h
@@ -76,7 +76,7 @@ ready_stops R c status.Memory t h = absurd h
 ready_stops R c status.Rejected t h = absurd h
 
 pub certificate_stops : (R : Type 0) (c : Option (Option (List ℕ))) (p : Syntax) (s : Status) (t : List ℕ) → CertificateStops R c p s t
-    → FileStops R certificate c (HasWrongLine c p) status.Rejected s t
+    → FileBreaks R certificate c (HasWrongLine c p) status.Rejected s t
 certificate_stops R c p status.Done t h = absurd h
 certificate_stops R c p status.Refused t h = absurd h
 certificate_stops R c p status.Syntax t h = absurd h

@@ -9,8 +9,8 @@ use Rattle.tool_words.specs.declared.verbs.Verb.TheVariants.{Check, Infer, Compi
 use Rattle.tool_words.specs.declared.words.Command.{Command}
 use Rattle.tool_words.specs.declared.words.Command.TheVariants as command
 use Rattle.tool_words.specs.declared.words.EnvName.{EnvName}
-use Rattle.tool_words.specs.WordsForms.{bare, option_rule, required_option_rule, required_word_rule}
-use Rattle.tool_words.specs.WordsValues.{budget_given, env_given, number_given}
+use Rattle.tool_words.specs.WordsForms.{bare, observed_app, option_rule, required_option_rule, required_word_rule}
+use Rattle.tool_words.specs.WordsValues.{budget_given, env_given, number_given, observed_given}
 
 -- A command with the bytes of its texts, in the order of `Command`: file, starts, observer, environment and budget
 -- of an audit and of a cut; file, starts, environment, budget and observer of a run.
@@ -60,12 +60,6 @@ abbrev pub meaning_app : App
 meaning_app = with_rule (with_rule (with_rule (bare (new_app (codes "meaning")))
     (required_word_rule (codes "FILE"))) (new_rule (codes "STARTS"))) (required_option_rule (codes "steps"))
 
--- FILE STARTS --observer L [--env E] [--budget T]
-abbrev pub audit_app : Text → App
-audit_app name = with_rule (with_rule (with_rule (with_rule (with_rule (bare (new_app name))
-    (required_word_rule (codes "FILE"))) (required_word_rule (codes "STARTS")))
-    (required_option_rule (codes "observer"))) (option_rule (codes "env"))) (option_rule (codes "budget"))
-
 -- SIZE NUMBER
 abbrev pub gen_app : App
 gen_app = with_rule (with_rule (bare (new_app (codes "gen")))
@@ -88,9 +82,9 @@ form_app Infer = file_app (codes "infer")
 form_app Compile = file_app (codes "compile")
 form_app Run = run_app
 form_app Meaning = meaning_app
-form_app Audit = audit_app (codes "audit")
+form_app Audit = observed_app (codes "audit")
 form_app Gen = gen_app
-form_app Cut = audit_app (codes "cut")
+form_app Cut = observed_app (codes "cut")
 form_app Blackbox = blackbox_app
 form_app Certify = file_app (codes "certify")
 form_app Recheck = recheck_app
@@ -109,12 +103,6 @@ abbrev pub meaning_asked : Option Text → Option Text → Option ℕ → Option
 meaning_asked (Some file) starts (Some steps) = Some (meaning file starts steps)
 meaning_asked _ _ _ = None
 
-abbrev pub audit_asked : (Text → Text → Text → EnvName → ℕ → Asked)
-    → Option Text → Option Text → Option Text → Option EnvName → Option ℕ → Option Asked
-audit_asked command (Some file) (Some starts) (Some observer) (Some env) (Some budget) =
-    Some (command file starts observer env budget)
-audit_asked _ _ _ _ _ _ = None
-
 abbrev pub gen_asked : Option ℕ → Option ℕ → Option Asked
 gen_asked (Some size) (Some number) = Some (gen size number)
 gen_asked _ _ = None
@@ -130,10 +118,6 @@ recheck_asked _ _ = None
 abbrev pub file_given : (Text → Asked) → List Row → Option Asked
 file_given command rows = file_asked command (first_of (codes "FILE") rows)
 
-abbrev pub audit_given : (Text → Text → Text → EnvName → ℕ → Asked) → List Row → Option Asked
-audit_given command rows = audit_asked command (first_of (codes "FILE") rows) (first_of (codes "STARTS") rows)
-    (first_of (codes "observer") rows) (env_given rows) (budget_given rows)
-
 abbrev pub given : Verb → List Row → Option Asked
 given Check rows = file_given check rows
 given Infer rows = file_given infer rows
@@ -142,9 +126,9 @@ given Run rows = run_asked (first_of (codes "FILE") rows) (first_of (codes "STAR
     (budget_given rows) (first_of (codes "observer") rows)
 given Meaning rows = meaning_asked (first_of (codes "FILE") rows) (first_of (codes "STARTS") rows)
     (number_given (codes "steps") 0 (2 ^ 40) rows)
-given Audit rows = audit_given audit rows
+given Audit rows = observed_given audit rows
 given Gen rows = gen_asked (number_given (codes "SIZE") 1 10000 rows) (number_given (codes "NUMBER") 0 2147483647 rows)
-given Cut rows = audit_given cut rows
+given Cut rows = observed_given cut rows
 given Blackbox rows = blackbox_asked (first_of (codes "READY") rows) (number_given (codes "first") 1 (2 ^ 40) rows)
     (budget_given rows)
 given Certify rows = file_given certify rows

@@ -43,3 +43,14 @@ budget_given rows = budget_named (first_of (codes "budget") rows)
 
 abbrev pub env_given : List Row → Option EnvName
 env_given rows = env_named (first_of (codes "env") rows)
+
+-- of what is observed of runs: file, starts, observer, environment and budget
+abbrev pub observed_asked : {A : Type 0} → (Text → Text → Text → EnvName → ℕ → A)
+    → Option Text → Option Text → Option Text → Option EnvName → Option ℕ → Option A
+observed_asked command (Some file) (Some starts) (Some observer) (Some env) (Some budget) =
+    Some (command file starts observer env budget)
+observed_asked _ _ _ _ _ _ = None
+
+abbrev pub observed_given : {A : Type 0} → (Text → Text → Text → EnvName → ℕ → A) → List Row → Option A
+observed_given command rows = observed_asked command (first_of (codes "FILE") rows) (first_of (codes "STARTS") rows)
+    (first_of (codes "observer") rows) (env_given rows) (budget_given rows)

@@ -3,12 +3,12 @@
 ghost use Rattle.std.specs.Prelude.{false, true, ◌≡◌, IfOk, IsErrOf, map, string_bytes};
 ghost use Rattle.clap.specs.Words.{app_of, fault_of, found_of, is_simple_and_free, matches_of, new_app, rows_of, rule_of};
 ghost use Rattle.clap.specs.Walk.{is_empty};
-ghost use Rattle.tool_words.specs.WordsForms.{bare, option_rule, required_option_rule, required_word_rule};
+ghost use Rattle.tool_words.specs.WordsForms.{bare, observed_app, option_rule, required_option_rule, required_word_rule};
 
 use crate::words::WordsFault;
 use clap::error::ErrorKind;
 use clap::{Arg, ArgMatches, Command as Form};
-use std::alloc::Global;
+use std::alloc::{AllocError, Global};
 
 /// A positional word that must be there.
 pub fn required_word<'a>(alloc: Global, name: &'a str) -> Arg<'a>
@@ -42,6 +42,18 @@ pub fn bare_form<'a>(alloc: Global, name: &'a str) -> Form<'a>
         .no_binary_name(true)
         .disable_help_flag(true)
         .disable_version_flag(true)
+}
+
+/// What is observed of runs: `FILE STARTS --observer L [--env E] [--budget T]`.
+pub fn observed_form<'a>(alloc: Global, name: &'a str) -> Result<Form<'a>, AllocError>
+    ensures { IfOk result (λ f. app_of f ≡ observed_app name.entry.now) }
+{
+    bare_form(alloc, name)
+        .arg(required_word(alloc, "FILE"))?
+        .arg(required_word(alloc, "STARTS"))?
+        .arg(required_option(alloc, "observer"))?
+        .arg(option(alloc, "env"))?
+        .arg(option(alloc, "budget"))
 }
 
 /// The values that words give to a form's names.

@@ -2,10 +2,10 @@
 
 ghost use Rattle.std.specs.Prelude.{◌≡◌, IfOk, IfSome, option_map};
 ghost use Rattle.clap.specs.Words.{app_of, found_of, rows_of};
-ghost use Rattle.tool_words.specs.WordsAsked.{IsInRange, asked_of, audit_app, blackbox_app, file_app, form_app, gen_app, given, meaning_app, recheck_app};
+ghost use Rattle.tool_words.specs.WordsAsked.{IsInRange, asked_of, blackbox_app, file_app, form_app, gen_app, given, meaning_app, recheck_app};
 ghost use Rattle.tool_words.specs.WordsAsked.{run_app, verb_named};
 
-use crate::forms::{bare_form, option, required_option, required_word};
+use crate::forms::{bare_form, observed_form, option, required_option, required_word};
 use crate::readers::{budget, env, file, number, text};
 use crate::words::{Command, MAX_SEED, MAX_SIZE, MAX_STEPS};
 use clap::{Arg, ArgMatches, Command as Form};
@@ -77,18 +77,6 @@ fn meaning_form<'a>(alloc: Global) -> Result<Form<'a>, AllocError>
         .arg(required_option(alloc, "steps"))
 }
 
-/// `FILE STARTS --observer L [--env E] [--budget T]`.
-fn audit_form<'a>(alloc: Global, name: &'a str) -> Result<Form<'a>, AllocError>
-    ensures { IfOk result (λ f. app_of f ≡ audit_app name.entry.now) }
-{
-    bare_form(alloc, name)
-        .arg(required_word(alloc, "FILE"))?
-        .arg(required_word(alloc, "STARTS"))?
-        .arg(required_option(alloc, "observer"))?
-        .arg(option(alloc, "env"))?
-        .arg(option(alloc, "budget"))
-}
-
 /// `gen SIZE NUMBER`.
 fn gen_form<'a>(alloc: Global) -> Result<Form<'a>, AllocError>
     ensures { IfOk result (λ f. app_of f ≡ gen_app) }
@@ -127,9 +115,9 @@ pub(crate) fn form<'a>(alloc: Global, verb: Verb) -> Result<Form<'a>, AllocError
         Verb::Compile => file_form(alloc, "compile"),
         Verb::Run => run_form(alloc),
         Verb::Meaning => meaning_form(alloc),
-        Verb::Audit => audit_form(alloc, "audit"),
+        Verb::Audit => observed_form(alloc, "audit"),
         Verb::Gen => gen_form(alloc),
-        Verb::Cut => audit_form(alloc, "cut"),
+        Verb::Cut => observed_form(alloc, "cut"),
         Verb::Blackbox => blackbox_form(alloc),
         Verb::Certify => file_form(alloc, "certify"),
         Verb::Recheck => recheck_form(alloc),

@@ -1,46 +1,29 @@
-ghost use Rattle.std.specs.Prelude.{◌≡◌, ◌<◌, ℕ, [], ◌∷◌, ◌↔◌, IfSome, IfOk, None, Some, pos};
+ghost use Rattle.std.specs.Prelude.{◌≡◌, ◌<◌, ℕ, [], ◌∷◌, ◌↔◌, None, Some, pos};
 ghost use Rattle.label_lattice.specs.Chains.{Chain};
 ghost use Rattle.label_lattice.specs.Lattice.{Flows};
 ghost use Rattle.label_lattice.specs.Order.{lattice_of};
+ghost use Rattle.sample_lattice.specs.Sample.{low_below_high};
 
 use crate::certificate::certificate;
 use crate::fault::CertFault;
 use crate::recheck::recheck;
 use indexmap::IndexMap;
 use label_infer::infer::infer;
-use label_lattice::label::Label;
 use label_lattice::lattice::Lattice;
 use label_lattice::name::Name;
 use mit_syntax::ast::{Command, Expr, Form};
 use mit_syntax::declarations::Decl;
 use mit_syntax::program::Program;
+use sample_lattice::{HIGH, LOW, two_labels};
 use std::alloc::{AllocError, Global};
 use text_base::pos::Pos;
 
-const LOW: Label = Label { number: 0 };
-
-const HIGH: Label = Label { number: 1 };
-
 const AT: Pos = Pos { line: 1, column: 1 };
-
-// The lattice of L below H.
-fn two_labels() -> Option<Lattice>
-    ensures size { IfSome result (λ o. o.size ≡ 2) }
-    ensures flows { IfSome result (λ o. (a b : ℕ) → a < 2 → b < 2
-        → Flows (lattice_of o) a b ↔ Chain ((record { number = 0 }, record { number = 1 }) ∷ []) a b) }
-{
-    let low = Name::read(b"L")?;
-    let high = Name::read(b"H")?;
-    if low.bytes() == high.bytes() {
-        return None;
-    }
-    Lattice::build(&[low, high], &[(LOW, HIGH)]).ok()
-}
 
 // The program `while 1 do { while 1 do { skip @[H, L] } }`.
 fn nested(alloc: Global, lattice: Lattice) -> Result<Program, AllocError>
     requires size { lattice.size ≡ 2 }
-    requires flows { (a b : ℕ) → a < 2 → b < 2 → Flows (lattice_of lattice) a b ↔ Chain ((record { number = 0 }, record { number = 1 }) ∷ []) a b }
+    requires flows { (a b : ℕ) → a < 2 → b < 2 → Flows (lattice_of lattice) a b ↔ Chain low_below_high a b }
 {
     lattice.laws();
     let skip = Command {
@@ -82,9 +65,9 @@ fn starts_too_low() -> &'static [u8] {
 }
 
 // The program `var h : H; mitigate (1) { sleep h }`.
-fn mitigated(alloc: Global, lattice: Lattice, h: Name) -> Result<Program, AllocError>
+fn mitigated_sleep(alloc: Global, lattice: Lattice, h: Name) -> Result<Program, AllocError>
     requires size { lattice.size ≡ 2 }
-    requires flows { (a b : ℕ) → a < 2 → b < 2 → Flows (lattice_of lattice) a b ↔ Chain ((record { number = 0 }, record { number = 1 }) ∷ []) a b }
+    requires flows { (a b : ℕ) → a < 2 → b < 2 → Flows (lattice_of lattice) a b ↔ Chain low_below_high a b }
     requires name { h ≡ 104 ∷ [] }
 {
     lattice.laws();
@@ -128,10 +111,10 @@ fn mitigated_text() -> &'static [u8] {
 // Its program, the name being read.
 fn mitigated_program(alloc: Global, lattice: Lattice) -> Option<Program>
     requires size { lattice.size ≡ 2 }
-    requires flows { (a b : ℕ) → a < 2 → b < 2 → Flows (lattice_of lattice) a b ↔ Chain ((record { number = 0 }, record { number = 1 }) ∷ []) a b }
+    requires flows { (a b : ℕ) → a < 2 → b < 2 → Flows (lattice_of lattice) a b ↔ Chain low_below_high a b }
 {
     let h = Name::read(b"h")?;
-    mitigated(alloc, lattice, h).ok()
+    mitigated_sleep(alloc, lattice, h).ok()
 }
 
 // The certificate of a program with its least labels; an empty text is want of memory.

@@ -1,7 +1,7 @@
 use Rattle.std.proofs.Common.{◌<◌, sym, subst, arith}
 use Rattle.label_code.specs.Shaped.{IsShaped}
 use Rattle.cycle_machine.proofs.Sample.{sample_shaped}
-use Rattle.cycle_machine.proofs.tests.mitigated.Goals as goal
+use Rattle.cycle_machine.proofs.tests.mitigated_code.Goals as goal
 
 pub of-requires : goal.of-requires
 of-requires c =

@@ -14,7 +14,7 @@ use Rattle.mit_syntax.specs.Limits.{AreSmall}
 use Rattle.mit_syntax.specs.Plan.{Written, Plan, list_plan, count, plan-Mitigate}
 use Rattle.mit_syntax.specs.Todo.{Sleep, Mitigate, Done}
 use Rattle.mit_syntax.specs.Valid.{IsBelow, IsShaped, AreShaped, AreSome, AreKnown, AreNumbered}
-use Rattle.type_cert.proofs.tests.mitigated.Goals as goal
+use Rattle.type_cert.proofs.tests.mitigated_sleep.Goals as goal
 
 abbrev high : Decl
 high = record { label = Some (record { number = 1 }); length = None }
