@@ -4,13 +4,9 @@ It is written from the definitions alone: crates/flow_path/specs says what the s
 are reasons, and crates/flow_print/specs how a chain is told. A chain is a list of steps (rule, place, how, part's place,
 part, right side). A part and a right side are spots: ("variable", name), ("label", number) or ("level", mark, number).
 """
-import itertools
-
 NOUNS = {"skip", "if", "while", "mitigate", "sleep"}
 BOUNDS = {"reads": "from it", "reads in index": "with it", "has read label": "with it", "under guard": "under it"}
 FAINT = {"after read label", "after assigning"}
-# More answers than these are not looked through.
-MOST_TEXTS = 10_000
 
 
 def written(program, spot):
@@ -101,41 +97,6 @@ def cost(step):
 
 def plus(one, other):
     return (one[0] + other[0], one[1] + other[1])
-
-
-def cheapest(program, steps, is_first, is_last):
-    """All cheapest chains from a step that is_first to one that is_last, by right sides that the program omits."""
-    best = {}
-
-    def onward(step):
-        """What a chain costs at least that begins with the step; None where there is none."""
-        if is_last(step):
-            return cost(step)
-        rest = best.get(step[5]) if written(program, step[5]) is None else None
-        return plus(cost(step), rest) if rest else None
-
-    while True:
-        before = dict(best)
-        for step in steps:
-            found = onward(step)
-            if found and (step[4] not in best or found < best[step[4]]):
-                best[step[4]] = found
-        if before == best:
-            break
-    costs = [onward(step) for step in steps if is_first(step) and onward(step)]
-    if not costs:
-        return None, []
-
-    def chains(spot, left):
-        for step in steps:
-            if (step[4] == spot if spot else is_first(step)) and onward(step) == left:
-                if is_last(step) and cost(step) == left:
-                    yield [step]
-                elif not is_last(step):
-                    rest = (left[0] - cost(step)[0], left[1] - 1)
-                    yield from ([step, *more] for more in chains(step[5], rest))
-
-    return min(costs), list(itertools.islice(chains(None, min(costs)), MOST_TEXTS))
 
 
 def told(program, steps, is_first, is_last):
@@ -235,7 +196,7 @@ class Lines:
         return text
 
 
-def refusals(program, found, rules, rule, place, allowed):
+def refusal(program, found, rules, rule, place, allowed):
     """The text of the chain that is told of a broken condition."""
     steps, flows = Steps(program, rules).found, program.lattice.flows
 
@@ -246,29 +207,24 @@ def refusals(program, found, rules, rule, place, allowed):
     def is_last(step):
         return step[:2] == (rule, place) and written(program, step[5]) == allowed
 
-    return [Lines(program, found).chain(told(program, steps, is_first, is_last))]
+    return Lines(program, found).chain(told(program, steps, is_first, is_last))
 
 
-def origins(program, found, rules, spot, label):
-    """The texts that tell where an omitted label comes from: a cheapest chain from each of some written labels whose join
-    it is, none of which can be left out. The first one tells the cheaper chains first, and of two equally cheap ones
-    that of the lower label."""
+def origins(program, found, rules, spot):
+    """The text that tells where an omitted label comes from: the chain that is told from each written label from which one
+    leads there, the cheapest first, of those that cost as much the one to whose label more labels flow, and then the one
+    whose label is named first. From the last one on each is left out whose label flows to the join of those that are left."""
     lattice, lines = program.lattice, Lines(program, found)
-    steps = Steps(program, rules).found
-    told = {}
-    for a in lattice.all:
-        price, chains = cheapest(program, steps, lambda step: written(program, step[4]) == a, lambda step: step[5] == spot)
-        if chains:
-            told[a] = (price, list(dict.fromkeys(lines.chain(chain) for chain in chains)))
-
-    def is_needed(among):
-        return all(not lattice.flows[a][lattice.join(*(b for b in among if b != a))] for a in among)
-
-    texts = []
-    order = sorted(told, key=lambda a: told[a][0])
-    for size in range(len(order) + 1):
-        for among in itertools.permutations(order, size):
-            if lattice.join(*among) == label and is_needed(among):
-                whole = itertools.product(*(told[a][1] for a in among))
-                texts += ["".join(parts) for parts in itertools.islice(whole, MOST_TEXTS)]
-    return texts
+    steps, every = Steps(program, rules).found, []
+    for label in lattice.all:
+        chain = told(program, steps, lambda step: written(program, step[4]) == label, lambda step: step[5] == spot)
+        if chain:
+            price = tuple(sum(part) for part in zip(*map(cost, chain)))
+            every.append((price, -sum(lattice.flows[other][label] for other in lattice.all), label, chain))
+    every.sort(key=lambda one: one[:3])
+    needed = list(every)
+    for one in reversed(every):
+        rest = [other for other in needed if other is not one]
+        if lattice.flows[one[2]][lattice.join(*(other[2] for other in rest))]:
+            needed = rest
+    return "".join(lines.chain(one[3]) for one in needed)

@@ -1,9 +1,14 @@
 """What the scripts beside this one share that check the repository: how they count, and the rows of crates.txt."""
+import sys
+
 import rows
 
 
 class Check:
     """Counts what holds, and tells each fault under the name of the script."""
+
+    # Whether the script ends where the first fault was told.
+    ends_at_first = False
 
     def __init__(self, script):
         self.script = script
@@ -14,6 +19,8 @@ class Check:
         if not holds:
             self.failed += 1
             print(f"{self.script}: {fault}")
+            if self.ends_at_first:
+                sys.exit(self.end())
 
     def end(self):
         """Tells the counts, and gives the exit number."""
@@ -26,3 +33,15 @@ def crates():
     lines = [line.split("#")[0] for line in (rows.TOP / "crates.txt").read_text(encoding="utf-8").splitlines()]
     halves = [line.split(":") for line in lines if line.strip()]
     return {crate.split()[0]: libraries.split() for crate, libraries in halves}
+
+
+def trials(every, chosen, usage, run):
+    """Runs trials, functions that are named try_NAME: those whose names are chosen, or all. With the word --first among those
+    the first fault ends them."""
+    Check.ends_at_first = "--first" in chosen
+    chosen = [name for name in chosen if name != "--first"]
+    named = {trial.__name__.removeprefix("try_"): trial for trial in every}
+    if not set(chosen) <= set(named):
+        sys.exit(usage)
+    for name in chosen or named:
+        run(named[name])

@@ -1,17 +1,20 @@
 // What is asked of the tool, and when: the verdict, then the audit and the runs, anew after each change.
 
 import { readCode } from './answers.js';
-import { drawAudit, drawObservers } from './audit_part.js';
+import { drawAudit, drawObservers, drawSentence } from './audit_part.js';
 import { drawCode } from './code_part.js';
-import { labelsOf, writtenLabels } from './highlight.js';
-import { drawSource } from './program_part.js';
+import { drawCommands } from './commands_part.js';
+import { labelsOf, writtenLabels } from './decorations.js';
+import { announce, drawFreshness, setProgress } from './freshness_part.js';
+import { drawProgram } from './program_part.js';
 import { drawStarts } from './starts_part.js';
-import { $, calls, shown, state } from './state.js';
+import { $, answeredOf, calls, faults, shown, state } from './state.js';
 import { auditOf, chainOf, codeOf, completedBy, mendOf, runsOf, sharpOf, verdictOf } from './study.js';
 import { canSweep, drawSweep, stopSweep, sweep } from './sweep_part.js';
 import { drawTime } from './time_part.js';
 import { Stopped } from './tool.js';
 import { drawNoAnswer, drawVerdict, offerMend } from './verdict_part.js';
+import { keepWork } from './work.js';
 
 const PAUSE = 250; // milliseconds of rest before a change is answered
 const QUICK_SWEEP = 4000; // milliseconds that a sweep may take to begin by itself
@@ -26,34 +29,40 @@ export function changed({ now = false } = {}) {
   clearTimeout(waiting);
   calls.tool?.stop();
   stopSweep();
-  drawSource();
-  $('answer').setAttribute('aria-busy', 'true');
+  if ($('answer').getAttribute('aria-busy') !== 'true') $('answer').setAttribute('aria-busy', 'true');
+  setProgress('working');
   waiting = setTimeout(ask, now ? 0 : PAUSE);
 }
 
 /** Asks for all that the page shows, and draws it as it comes. */
 export async function ask() {
   const { tool } = calls;
+  keepWork();
   if (!tool) return;
-  const mine = ++turn, begun = performance.now();
+  const mine = ++turn, begun = performance.now(), asked = { ...state };
   const isOld = () => mine !== turn;
   tool.stop();
   busy(begun);
   try {
-    const verdict = await verdictOf(tool, state);
+    const verdict = await verdictOf(tool, asked);
     if (isOld()) return;
     const isAccepted = verdict.kind === 'accepted';
-    const completed = isAccepted ? await completedBy(tool, state) : null;
-    const chain = verdict.kind === 'refused' ? await chainOf(tool, state) : null;
+    const completed = isAccepted ? await completedBy(tool, asked) : null;
+    const chain = verdict.kind === 'refused' ? await chainOf(tool, asked) : null;
     if (isOld()) return;
-    Object.assign(shown, { verdict, steps: chain?.steps ?? [], labels: (completed && labelsOf(completed)) ?? writtenLabels(state.program) });
+    const labels = (completed && labelsOf(completed)) ?? writtenLabels(asked.program);
+    Object.assign(shown, { verdict, steps: chain?.steps ?? [], labels });
+    answeredOf.verdict = asked;
     drawObservers();
-    drawSource();
+    asked.observer = state.observer;
+    drawProgram();
     drawVerdict();
     drawStarts();
-    if (!$('code-part').hidden) await askCode(isOld);
+    drawCommands();
+    if (!$('code-part').hidden) await askCode(asked, isOld);
     if (isOld()) return;
-    await askRuns(isAccepted, isOld);
+    if (isAccepted && !faults.budget && !faults.cell) await askRuns(asked, isOld);
+    else await askMend(asked, isOld);
   } catch (fault) {
     if (!isOld()) drawStopped(fault);
   } finally {
@@ -61,45 +70,48 @@ export async function ask() {
   }
 }
 
-async function askCode(isOld) {
-  const { status, text } = await codeOf(calls.tool, state);
+async function askCode(asked, isOld) {
+  const { status, text } = await codeOf(calls.tool, asked);
   if (isOld()) return;
   shown.code = status === 0 ? readCode(text) : null;
+  answeredOf.code = asked;
   drawCode(text);
 }
 
-async function askRuns(isAccepted, isOld) {
-  if (!isAccepted) {
-    Object.assign(shown, { audit: null, runs: null, points: [] });
-    drawStarts();
-    drawAudit();
-    drawTime();
-    drawSweep();
-    await askMend(isOld);
-    return;
-  }
+async function askRuns(asked, isOld) {
   const { tool } = calls;
-  const audit = await auditOf(tool, state);
+  drawFreshness();
+  const audit = await auditOf(tool, asked);
   if (isOld()) return;
-  const sharp = audit.report && !audit.isCut ? await sharpOf(tool, state) : null;
+  const sharp = audit.report && !audit.isCut ? await sharpOf(tool, asked) : null;
   if (isOld()) return;
   shown.audit = { ...audit, sharp };
+  answeredOf.audit = asked;
   drawAudit();
+  drawFreshness();
   const begun = performance.now();
-  const told = await runsOf(tool, state, shown.mostRuns);
+  const told = await runsOf(tool, asked, shown.mostRuns);
   if (isOld()) return;
-  const took = performance.now() - begun;
-  Object.assign(shown, { runs: told.runs ?? null, mitigates: told.mitigates ?? null, isAll: told.isAll ?? true, view: null, page: 0, lane: -1 });
-  if (shown.runs && audit.report) audit.report.classes.forEach((number, k) => shown.runs[k] && Object.assign(shown.runs[k], { class: number }));
+  const took = performance.now() - begun, { runs = null, mitigates = null, isAll = true } = told;
+  if (runs && audit.report) audit.report.classes.forEach((number, k) => runs[k] && Object.assign(runs[k], { class: number }));
+  Object.assign(shown, { runs, mitigates, isAll, view: null, page: 0, lane: -1, points: [] });
+  answeredOf.runs = asked;
+  delete answeredOf.points;
+  setProgress('');
   drawStarts();
   drawTime();
-  shown.points = [];
   drawSweep();
   if (canSweep() && took * SWEEP_CALLS < QUICK_SWEEP) sweep();
 }
 
-async function askMend(isOld) {
-  const found = shown.verdict.kind === 'refused' ? await mendOf(calls.tool, state, shown.verdict) : null;
+// A refused program, and one that is none: what was answered before stays, as of an earlier program.
+async function askMend(asked, isOld) {
+  const { kind } = shown.verdict;
+  setProgress(kind === 'accepted' ? 'fault' : kind === 'refused' ? 'refused' : 'syntax');
+  drawSentence();
+  drawTime();
+  drawSweep();
+  const found = kind === 'refused' ? await mendOf(calls.tool, asked, shown.verdict) : null;
   if (!isOld() && found) offerMend(found);
 }
 
@@ -119,14 +131,13 @@ function idle() {
   clearInterval(ticking);
   $('answer').setAttribute('aria-busy', 'false');
   $('working').hidden = true;
+  announce();
 }
 
 function drawStopped(fault) {
   const isStop = fault instanceof Stopped;
-  Object.assign(shown, { audit: null, runs: null, points: [] });
-  if (isStop && shown.verdict) drawVerdict();
-  else drawNoAnswer(isStop ? null : fault.message);
-  drawAudit(isStop ? 'The runs were stopped. Take a smaller number of cycles, or change the program.' : '');
+  if (!isStop || answeredOf.verdict?.program !== state.program) drawNoAnswer(isStop ? null : fault.message);
+  setProgress('stopped');
   drawTime();
   drawSweep();
 }

@@ -1,57 +1,57 @@
 // The compiled code beside the program: which lines come from which command.
 
 import { escaped } from './colours.js';
-import { lineFinder, owners, placeOf, readProgram } from './language.js';
+import { lineFinder, owners, readProgram } from './language.js';
 import { labelText } from './marks.js';
-import { drawSource } from './program_part.js';
-import { $, shown, state } from './state.js';
+import { theEditor } from './program_part.js';
+import { $, answeredOf, shown } from './state.js';
 
 const MOST_LINES = 20000; // instructions that are shown
+
+/** The instructions as HTML, each with the line of the program's text that its command begins on; 0 where it has none. */
+export function codeText(code, text, labels) {
+  const program = readProgram(text), owned = program ? owners(program) : [], lineOf = lineFinder(text);
+  const rows = code.slice(0, MOST_LINES).map((instruction, k) => {
+    const line = owned[k] ? lineOf(owned[k].at) : 0, marks = instruction.labels.map((name) => labelText(name, labels)).join(', ');
+    const words = `<span class="op">${instruction.name}</span> ${escaped(instruction.operand)}`;
+    return `<span class="line" data-line="${line}"><span class="n">${instruction.number}</span><span class="to">${words}</span>[${marks}]</span>`;
+  });
+  return rows.join('');
+}
 
 /** The code, or the text that stands in place of it. */
 export function drawCode(text) {
   const box = $('code');
-  if (!shown.code) {
-    box.textContent = text;
-    return;
-  }
-  const program = readProgram(state.program), owned = program ? owners(program) : [];
-  const lineOf = lineFinder(state.program);
-  const line = (k) => (owned[k] ? lineOf(owned[k].at) : 0);
-  box.innerHTML = shown.code.slice(0, MOST_LINES).map((one, k) => `<span class="line" data-line="${line(k)}"><span class="n">${one.number}</span><span class="to"><span class="op">${one.name}</span> ${escaped(one.operand)}</span>[${one.labels.map(labelText).join(', ')}]</span>`).join('');
-  light(placeOf(state.program, $('source').selectionStart).line, false);
+  if (shown.code) box.innerHTML = codeText(shown.code, answeredOf.code.program, shown.labels);
+  else box.textContent = text;
+  light(theEditor().caretLine, false);
 }
 
 function light(line, isFromCode) {
   if ($('code-part').hidden || !shown.code) return;
-  let first = null;
-  for (const one of $('code').querySelectorAll('.line')) {
-    const isLit = line > 0 && Number(one.dataset.line) === line;
-    one.classList.toggle('lit', isLit);
-    if (isLit) first ??= one;
-  }
-  [...$('layer').children].forEach((row, k) => row.classList.toggle('lit', k + 1 === line));
-  shown.lit = new Set([line]);
   const box = $('code');
-  if (isFromCode) $('layer').children[line - 1]?.scrollIntoView({ block: 'nearest', inline: 'nearest' });
-  else if (first) box.scrollTop = Math.min(Math.max(box.scrollTop, first.offsetTop - box.offsetTop + first.offsetHeight - box.clientHeight), first.offsetTop - box.offsetTop);
+  let first = null;
+  for (const instruction of box.querySelectorAll('.line')) {
+    const isLit = line > 0 && Number(instruction.dataset.line) === line;
+    instruction.classList.toggle('lit', isLit);
+    if (isLit) first ??= instruction;
+  }
+  theEditor().light(line, isFromCode);
+  if (isFromCode || !first) return;
+  const top = first.offsetTop - box.offsetTop, least = top + first.offsetHeight - box.clientHeight;
+  box.scrollTop = Math.min(Math.max(box.scrollTop, least), top);
 }
 
 /** What a person does with the code. `ask` asks for it when it is opened. */
 export function listenCode(ask) {
-  const source = $('source');
-  document.addEventListener('selectionchange', () => {
-    if (document.activeElement === source) light(placeOf(state.program, source.selectionStart).line, false);
-  });
-  source.addEventListener('mousemove', (event) => {
-    if ($('code-part').hidden) return;
-    const rows = $('layer').children;
-    const k = [...rows].findIndex((row) => event.clientY < row.getBoundingClientRect().bottom);
-    if (k >= 0 && document.activeElement !== source) light(k + 1, false);
+  const box = $('editor');
+  theEditor().onCaret((line) => light(line, false));
+  box.addEventListener('mousemove', (event) => {
+    if (!$('code-part').hidden && !box.contains(document.activeElement)) light(theEditor().lineAtHeight(event.clientY), false);
   });
   $('code').addEventListener('mouseover', (event) => {
-    const line = event.target.closest('.line');
-    if (line) light(Number(line.dataset.line), true);
+    const instruction = event.target.closest('.line');
+    if (instruction) light(Number(instruction.dataset.line), true);
   });
   $('code').addEventListener('keydown', onKey);
   $('code-open').addEventListener('click', () => {
@@ -60,8 +60,8 @@ export function listenCode(ask) {
     document.body.classList.toggle('has-code', isOpen);
     $('code-open').setAttribute('aria-expanded', String(isOpen));
     $('code-open').textContent = isOpen ? 'Without code' : 'Compiled code';
-    shown.lit = new Set();
-    drawSource();
+    theEditor().light(0);
+    theEditor().library.refresh();
     if (isOpen) ask();
   });
 }
@@ -70,7 +70,7 @@ function onKey(event) {
   const by = { ArrowDown: 1, ArrowUp: -1 }[event.key];
   if (!by || !shown.code) return;
   event.preventDefault();
-  const lines = [...$('code').querySelectorAll('.line')], lit = lines.map((one) => one.classList.contains('lit'));
+  const lines = [...$('code').querySelectorAll('.line')], lit = lines.map((line) => line.classList.contains('lit'));
   const from = by > 0 ? lit.lastIndexOf(true) : lit.indexOf(true);
   const next = lines[Math.min(Math.max(from + by, 0), lines.length - 1)];
   light(Number(next.dataset.line), true);

@@ -9,10 +9,16 @@ const textOf = (id) => document.getElementById(id).textContent;
 /** The texts of the examples by their files' names. */
 export const DATA = JSON.parse(textOf('examples-data'));
 
+// The module's bytes: deflated, in base64.
+async function moduleBytes() {
+  const packed = Uint8Array.from(atob(textOf('module-data').trim()), (sign) => sign.charCodeAt(0));
+  const plain = new Blob([packed]).stream().pipeThrough(new DecompressionStream('deflate-raw'));
+  return new Response(plain).arrayBuffer();
+}
+
 /** Two tools over the module: one for what is shown, one for the sweep, so that it holds nothing up. */
 export async function startModule() {
-  const packed = atob(textOf('module-data').trim());
-  const module = await WebAssembly.compile(Uint8Array.from(packed, (sign) => sign.charCodeAt(0)));
+  const module = await WebAssembly.compile(await moduleBytes());
   const address = URL.createObjectURL(new Blob([textOf('worker-text')], { type: 'text/javascript' }));
   const programs = programsOf(module);
   const makeWorker = () => {

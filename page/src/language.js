@@ -14,42 +14,67 @@ const PIECES = [
 ];
 const PIECE = new RegExp(PIECES.map(([, form]) => `(${form})`).join('|'), 'gu');
 
+const kindOf = (match) => {
+  const [kind] = PIECES[match.slice(1).findIndex((part) => part !== undefined)];
+  return kind === 'name' && KEYWORDS.has(match[0]) ? 'keyword' : kind;
+};
+
 /** The pieces of a text, white space and comments included: {kind, text, at}. */
 export function pieces(text) {
-  const found = [];
-  for (const match of text.matchAll(PIECE)) {
-    let kind = PIECES[match.slice(1).findIndex((part) => part !== undefined)][0];
-    if (kind === 'name' && KEYWORDS.has(match[0])) kind = 'keyword';
-    found.push({ kind, text: match[0], at: match.index });
+  return Array.from(text.matchAll(PIECE), (match) => ({ kind: kindOf(match), text: match[0], at: match.index }));
+}
+
+const ONE_PIECE = new RegExp(PIECE.source, 'uy');
+
+/** The piece of a text that begins at a place before its end: {kind, text, at}. */
+export function pieceAt(text, at) {
+  ONE_PIECE.lastIndex = at;
+  const match = ONE_PIECE.exec(text);
+  return { kind: kindOf(match), text: match[0], at };
+}
+
+/** What is known of the words before the next one: whether a name that follows stands for a label. */
+export function freshContext() {
+  return { isHeader: false, isDeclaration: false, isMarks: false, before: '', open: [] };
+}
+
+/** The same context as another value. */
+export function copiedContext(context) {
+  return { ...context, open: [...context.open] };
+}
+
+/** Takes a word into a context, and gives the role of a name: 'label' where it stands for a label, else 'variable'. */
+export function roleInContext(context, { kind, text }) {
+  const { before } = context;
+  let role;
+  if (kind === 'keyword') {
+    context.isHeader = text === 'labels' || text === 'order';
+    context.isDeclaration = text === 'var';
+  } else if (text === ';') {
+    context.isHeader = context.isDeclaration = false;
+  } else if (text === '(') {
+    context.open.push(before === 'mitigate' ? 'mitigate' : '(');
+  } else if (text === '[') {
+    context.isMarks = before === '@';
+    context.open.push('[');
+  } else if (text === ')' || text === ']') {
+    context.open.pop();
+    context.isMarks = false;
+  } else if (kind === 'name') {
+    const isLevel = before === ',' && context.open.at(-1) === 'mitigate', isDeclared = context.isDeclaration && before === ':';
+    role = context.isHeader || context.isMarks || isLevel || isDeclared ? 'label' : 'variable';
   }
-  return found;
+  context.before = text;
+  return role;
 }
 
 /** The words of a text. A name has a role: 'label' where it stands for a label, else 'variable'. */
 export function words(text) {
   const found = pieces(text).filter((piece) => piece.kind !== 'space' && piece.kind !== 'comment');
-  let header = false, declaration = false, marks = false, before = null;
-  const open = []; // the brackets that are open, a mitigate's as 'mitigate'
+  const context = freshContext();
   for (const word of found) {
-    if (word.kind === 'keyword') {
-      header = word.text === 'labels' || word.text === 'order';
-      declaration = word.text === 'var';
-    } else if (word.text === ';') {
-      header = declaration = false;
-    } else if (word.text === '(') {
-      open.push(before?.text === 'mitigate' ? 'mitigate' : '(');
-    } else if (word.text === '[') {
-      marks = before?.text === '@';
-      open.push('[');
-    } else if (word.text === ')' || word.text === ']') {
-      open.pop();
-      marks = false;
-    } else if (word.kind === 'name') {
-      const isLevel = before?.text === ',' && open.at(-1) === 'mitigate';
-      const isDeclared = declaration && before?.text === ':';
-      word.role = header || marks || isLevel || isDeclared ? 'label' : 'variable';
-    }
-    before = word;
+    const role = roleInContext(context, word);
+    if (role) word.role = role;
   }
   return found;
 }

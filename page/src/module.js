@@ -6,7 +6,7 @@ const WRITE_FAULT = 6;
 
 /** The programs that a module offers: 'mitigate', and 'lab' where it is in it. */
 export function programsOf(module) {
-  const names = WebAssembly.Module.exports(module).map((one) => one.name);
+  const names = WebAssembly.Module.exports(module).map((entry) => entry.name);
   return Object.keys(ENTRIES).filter((program) => names.includes(ENTRIES[program]));
 }
 
@@ -23,10 +23,10 @@ export function callWithRoom(module, program, words, files, room) {
   };
   // a list of pieces as two slices: their lengths, and their bytes in a row
   const row = (pieces) => {
-    const bytes = pieces.map((one) => (typeof one === 'string' ? utf8.encode(one) : one));
-    const all = new Uint8Array(bytes.reduce((sum, one) => sum + one.length, 0));
-    bytes.reduce((at, one) => (all.set(one, at), at + one.length), 0);
-    const lengths = new Uint8Array(BigUint64Array.from(bytes, (one) => BigInt(one.length)).buffer);
+    const bytes = pieces.map((piece) => (typeof piece === 'string' ? utf8.encode(piece) : piece));
+    const all = new Uint8Array(bytes.reduce((sum, piece) => sum + piece.length, 0));
+    bytes.reduce((at, piece) => (all.set(piece, at), at + piece.length), 0);
+    const lengths = new Uint8Array(BigUint64Array.from(bytes, (piece) => BigInt(piece.length)).buffer);
     return [put(lengths), BigInt(bytes.length), put(all), BigInt(all.length)];
   };
   const slices = [words, Object.keys(files), Object.values(files)].flatMap(row);

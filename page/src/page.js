@@ -1,60 +1,69 @@
 // The page: what is loaded into it, its settings, and its beginning.
 
 import { ask, changed } from './asking.js';
-import { drawObservers } from './audit_part.js';
+import { drawAudit, drawObservers } from './audit_part.js';
 import { listenCode } from './code_part.js';
 import { escaped } from './colours.js';
+import { drawCommands, listenCommands } from './commands_part.js';
 import { DATA, startModule } from './data.js';
+import { writtenLabels } from './decorations.js';
 import { examplesOf } from './examples.js';
-import { writtenLabels } from './highlight.js';
+import { drawNotice, drawWayBack, listenFiles } from './files_part.js';
+import { drawFreshness } from './freshness_part.js';
 import { listenLesson } from './lesson_part.js';
 import { linkOf, stateOf } from './link.js';
-import { listenProgram, setProgram } from './program_part.js';
+import { listenProgram, loadProgram } from './program_part.js';
 import { drawStarts, listenStarts } from './starts_part.js';
-import { $, calls, shown, state } from './state.js';
+import { $, answeredOf, calls, faults, shown, state } from './state.js';
 import { drawSweep, listenSweep } from './sweep_part.js';
-import { listenTime, redraw } from './time_part.js';
+import { drawTime, listenTime, redraw } from './time_part.js';
 import { listenTips } from './tips.js';
 import { drawNoModule, listenVerdict } from './verdict_part.js';
+import { keptWork, noteLoaded, putAside, takeAside } from './work.js';
 
-const EXAMPLES = examplesOf(DATA);
+const EXAMPLES = examplesOf(DATA), USUAL = { observer: 'L', environment: 'part', budget: '1000000' };
+const MOST_CYCLES = 2 ** 40;
 
-function load(next) {
-  setProgram(next.program);
-  state.starts = next.starts;
-  Object.assign(state, { observer: next.observer ?? 'L', environment: next.environment ?? 'part', budget: next.budget ?? '1000000' });
+// Puts a program, its starts and settings in place of what is there, which is put aside where it is a person's own.
+function load(next, { isOwn = false, isLesson = false, isBack = false, example = 'own', says = '' } = {}) {
+  const isAside = !isBack && putAside();
+  noteLoaded(next, { isOwn, isLesson });
+  $('example').value = example;
+  $('example-says').textContent = says;
+  Object.assign(state, USUAL, { starts: next.starts });
+  for (const name of Object.keys(USUAL)) state[name] = next[name] ?? USUAL[name];
+  loadProgram(next.program);
   $('toml').value = state.starts;
   $('environment').value = state.environment;
   $('budget').value = state.budget;
-  Object.assign(shown, { points: [], audit: null, runs: null, mitigates: null });
-  shown.verdict = null;
+  setFault('');
+  faults.cell = '';
+  for (const name of Object.keys(answeredOf)) delete answeredOf[name];
+  Object.assign(shown, { points: [], audit: null, runs: null, mitigates: null, verdict: null, steps: [], code: null, mostRuns: undefined });
   shown.labels = writtenLabels(state.program);
-  shown.steps = [];
-  shown.lit = new Set();
-  shown.mostRuns = undefined;
-  $('source').setSelectionRange(0, 0);
   drawObservers();
+  drawAudit();
+  drawTime();
   drawStarts();
+  drawSweep();
+  drawNotice(isAside ? 'Your program was put aside.' : '');
   changed({ now: true });
 }
 
 function loadExample(number) {
-  const one = EXAMPLES[number];
-  $('example').value = String(number);
-  $('example-says').textContent = one.says;
-  load(one);
+  const { says, ...next } = EXAMPLES[number];
+  load(next, { example: String(number), says });
 }
 
-// A program that is no example: the choice and its words say so.
-function loadOther(next) {
-  $('example').value = '';
-  $('example-says').textContent = '';
-  load(next);
+// Puts back the own work that was put aside; own work that is there is put aside in its place.
+function goBack() {
+  const aside = takeAside();
+  if (aside) load(aside, { isOwn: true, isBack: true });
 }
 
 async function fromLink() {
   const next = await stateOf(location.hash);
-  if (next) loadOther(next);
+  if (next) load(next);
   return next !== null;
 }
 
@@ -73,14 +82,21 @@ async function copyLink() {
 
 function setting(name) {
   state[name] = $(name).value;
+  drawStarts();
   changed({ now: true });
 }
 
+function setFault(text) {
+  faults.budget = text;
+  $('budget').setAttribute('aria-invalid', String(text !== ''));
+  $('budget-fault').textContent = text;
+}
+
 function setBudget() {
-  const plain = $('budget').value.replace(/[\s_\u202f']/g, ''), isRight = /^\d{1,13}$/.test(plain) && Number(plain) >= 1 && Number(plain) <= 2 ** 40;
-  $('budget').setAttribute('aria-invalid', String(!isRight));
-  if (!isRight) return;
-  state.budget = plain;
+  const plain = $('budget').value.replace(/[\s_\u202f']/g, ''), number = Number(plain);
+  const isRight = /^\d{1,13}$/.test(plain) && number >= 1 && number <= MOST_CYCLES;
+  setFault(isRight ? '' : 'The number of cycles is a number from 1 to 1\u202f099\u202f511\u202f627\u202f776.');
+  if (isRight) state.budget = String(number);
   changed();
 }
 
@@ -94,7 +110,9 @@ function nextTheme() {
 
 function listenSettings() {
   $('example').addEventListener('change', () => {
-    if ($('example').value !== '') loadExample(Number($('example').value));
+    const { value } = $('example');
+    if (value === 'own') goBack();
+    else loadExample(Number(value));
   });
   $('observer').addEventListener('change', () => setting('observer'));
   $('environment').addEventListener('change', () => setting('environment'));
@@ -116,23 +134,36 @@ function listenWidth() {
 }
 
 function listen() {
-  listenSettings();
   listenProgram(changed);
-  listenVerdict(changed);
+  listenSettings();
+  listenVerdict();
   listenStarts(changed);
   listenTime(ask);
   listenCode(ask);
-  listenSweep(changed);
-  listenLesson(loadOther);
+  listenSweep();
+  listenCommands();
+  listenFiles(load, goBack);
+  listenLesson(load);
   listenTips();
   listenWidth();
 }
 
-async function begin() {
-  $('example').innerHTML = `<option value="">your own</option>${EXAMPLES.map((one, k) => `<option value="${k}">${escaped(one.name)}</option>`).join('')}`;
-  listen();
+// What is there at first: what a link says, or what was kept of the last visit, or the first example.
+async function firstWork() {
+  const kept = keptWork();
+  if (kept) load(kept, { isOwn: kept.isOwn === true, example: kept.example ?? 'own', says: kept.says ?? '' });
   const isLinked = await fromLink();
-  if (!isLinked) loadExample(0);
+  if (!isLinked && !kept) loadExample(0);
+}
+
+async function begin() {
+  const options = EXAMPLES.map((example, k) => `<option value="${k}">${escaped(example.name)}</option>`);
+  $('example').innerHTML = `<option value="own">your own</option>${options.join('')}`;
+  listen();
+  await firstWork();
+  drawWayBack();
+  drawFreshness();
+  drawCommands();
   try {
     [calls.tool, calls.sweeper] = await startModule();
   } catch (fault) {

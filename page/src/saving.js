@@ -1,4 +1,13 @@
-// Pictures as files.
+// Texts and pictures as files.
+
+/** Gives a person a text as a file. */
+export function saveText(text, name, type = 'text/plain') {
+  const link = document.createElement('a');
+  link.href = URL.createObjectURL(new Blob([text], { type }));
+  link.download = name;
+  link.click();
+  setTimeout(() => URL.revokeObjectURL(link.href), 10000);
+}
 
 /** Gives a person the picture in a box as a file, in the colours that it has here. */
 export function saveSvg(box, name) {
@@ -14,9 +23,5 @@ export function saveSvg(box, name) {
   const ground = getComputedStyle(probe).color;
   probe.remove();
   const text = plain.replace('>', `><rect width="100%" height="100%" fill="${ground}"/>`);
-  const link = document.createElement('a');
-  link.href = URL.createObjectURL(new Blob([`<?xml version="1.0" encoding="UTF-8"?>\n${text}\n`], { type: 'image/svg+xml' }));
-  link.download = name;
-  link.click();
-  setTimeout(() => URL.revokeObjectURL(link.href), 10000);
+  saveText(`<?xml version="1.0" encoding="UTF-8"?>\n${text}\n`, name, 'image/svg+xml');
 }

@@ -1,11 +1,11 @@
-// Start files as a table: a row a run, a column a variable. The text is what the tool reads; the table is drawn from
-// it, and an edit of the table writes the text anew.
+// Start files as a table: a row a run, a column a variable. The text is what the tool reads; the table is drawn from it.
 
 import { readToml, TomlFault } from './toml.js';
 
 const isInteger = (value) => typeof value === 'bigint';
 const WORD = /^[A-Za-z0-9_-]+$/;
-const key = (name) => (WORD.test(name) ? name : JSON.stringify(name));
+/** A name as a key of TOML. */
+export const keyText = (name) => (WORD.test(name) ? name : JSON.stringify(name));
 
 /** The starts of a text: {head, runs}, or {fault} where the page's table can't show them. */
 export function readStarts(text) {
@@ -16,7 +16,8 @@ export function readStarts(text) {
       if (!(run instanceof Map)) throw new TomlFault(`run ${k + 1} is no table`);
       const memory = run.get('memory') ?? new Map();
       for (const [name, value] of memory) {
-        if (!isInteger(value) && !(Array.isArray(value) && value.every(isInteger))) throw new TomlFault(`run ${k + 1}: ${name} is no number`);
+        const isNumber = isInteger(value) || (Array.isArray(value) && value.every(isInteger));
+        if (!isNumber) throw new TomlFault(`run ${k + 1}: ${name} is no number`);
       }
       return { memory: new Map(memory), touch: run.get('touch') ?? [] };
     });
@@ -27,15 +28,18 @@ export function readStarts(text) {
   }
 }
 
-function valueText(value) {
+/** A value of memory or a touch as TOML. */
+export function valueText(value) {
   if (Array.isArray(value)) return `[${value.map(valueText).join(', ')}]`;
-  if (value instanceof Map) return `{ ${[...value].map(([name, one]) => `${key(name)} = ${valueText(one)}`).join(', ')} }`;
+  if (value instanceof Map) return `{ ${[...value].map(([name, inner]) => `${keyText(name)} = ${valueText(inner)}`).join(', ')} }`;
   return isInteger(value) ? String(value) : JSON.stringify(value);
 }
 
+const isSecond = (touch) => touch.get('place') === 'second';
+
 /** The text of starts, a run after the other. */
 export function writeStarts({ head = '', runs }) {
-  const isWide = runs.some((run) => [...run.memory.values()].some(Array.isArray)) || runs.some((run) => run.touch.some((one) => one.get('place') === 'second'));
+  const isWide = runs.some((run) => [...run.memory.values()].some(Array.isArray) || run.touch.some(isSecond));
   const parts = runs.map((run) => {
     const memory = run.memory.size ? `memory = ${valueText(run.memory)}\n` : '';
     const touch = run.touch.length ? `touch = ${valueText(run.touch)}\n` : '';
@@ -76,40 +80,9 @@ export function cellValue(text, isArray) {
     return isArray ? letters : letters.length === 1 ? letters[0] : null;
   }
   const numbers = plain.split(/[\s,]+/).filter(Boolean);
-  if (!numbers.every((one) => /^[+-]?\d+$/.test(one))) return null;
-  const values = numbers.map((one) => BigInt(one.replace(/^\+/, '')));
-  if (!values.every((one) => one >= LEAST && one <= MOST)) return null;
+  if (!numbers.every((number) => /^[+-]?\d+$/.test(number))) return null;
+  const values = numbers.map((number) => BigInt(number.replace(/^\+/, '')));
+  if (!values.every((value) => value >= LEAST && value <= MOST)) return null;
   if (isArray) return values;
   return values.length === 1 ? values[0] : null;
-}
-
-/** Starts with a cell changed. */
-export function withCell(starts, row, name, value) {
-  const runs = starts.runs.map((run, k) => {
-    if (k !== row) return run;
-    const memory = new Map(run.memory);
-    if (value === undefined) memory.delete(name);
-    else memory.set(name, value);
-    return { ...run, memory };
-  });
-  return { ...starts, runs };
-}
-
-/** Starts with a copy of a run after it. */
-export function withCopy(starts, row) {
-  const run = starts.runs[row] ?? { memory: new Map(), touch: [] };
-  return { ...starts, runs: starts.runs.toSpliced(row + 1, 0, { memory: new Map(run.memory), touch: run.touch }) };
-}
-
-/** Starts without a run. */
-export function without(starts, row) {
-  return { ...starts, runs: starts.runs.toSpliced(row, 1) };
-}
-
-/** Starts of the first run's memory with a variable going from a number to another one. */
-export function withRange(starts, name, from, to) {
-  const run = starts.runs[0] ?? { memory: new Map(), touch: [] };
-  const runs = [];
-  for (let value = from; value <= to; value++) runs.push({ ...run, memory: new Map(run.memory).set(name, value) });
-  return { ...starts, runs };
 }

@@ -1,6 +1,5 @@
-// What the page holds: what a person has written and chosen, what was answered of it, and who is asked.
+// What the page holds: what was written and chosen, what was answered of it, and who is asked.
 
-import { writtenLabels } from './highlight.js';
 import { mitigates, readProgram } from './language.js';
 import { readStarts } from './starts.js';
 
@@ -10,25 +9,46 @@ export const $ = (id) => document.getElementById(id);
 /** What is asked about. */
 export const state = { program: '', starts: '', observer: 'L', environment: 'part', budget: '1000000' };
 
+/** Words for what was written and is not asked about, since it is none: the number of cycles, and a cell of the table. */
+export const faults = { budget: '', cell: '' };
+
 /** What was answered, and how it is looked at. */
 export const shown = {
-  verdict: null, steps: [], mended: null, // the answer to `check`, why it refuses, and the program with the offered mitigate
-  labels: writtenLabels(''), // the labels of the program: `names` in their order, and `of` each variable
-  code: null, lit: new Set(), // the instructions, and the lines that are lit in them and in the program
+  verdict: null, // the answer to `check`
+  steps: [], // the chain of a refusal
+  mended: null, // the offered mitigate
+  labels: { names: ['L', 'H'], pairs: [], of: new Map(), marks: null, levels: null }, // the program's, and of each variable
+  code: null, // the instructions
   audit: null, // {report, isCut, sharp} or {refusal}
-  runs: null, mitigates: null, isAll: true, mostRuns: undefined, // the runs, all of them or as many as are asked for
+  runs: null, mitigates: null, isAll: true, mostRuns: undefined, // the runs: all of them, or as many as are asked for
   view: null, page: 0, lane: -1, // the cycles and the runs that the lanes show, and the run that is looked at
   points: [], unfinished: 0, least: null, // what was tried with other predictions, and with how many not all runs halt
 };
 
+/** Of which text and settings each answer is, by the answer's name; what is not here was not answered. */
+export const answeredOf = {};
+
 /** Who is asked, once the module has started: `tool` for answers, `sweeper` for the points of the sweep. */
 export const calls = { tool: null, sweeper: null };
 
+let read = { text: null, starts: null };
+
 /** The starts as a table, or the fault that leaves none. */
-export const starts = () => readStarts(state.starts);
+export function starts() {
+  if (read.text !== state.starts) read = { text: state.starts, starts: readStarts(state.starts) };
+  return read.starts;
+}
+
+let parsed = { text: null, program: null };
+
+/** The program as the page reads it; null where it is none. */
+export function programNow() {
+  if (parsed.text !== state.program) parsed = { text: state.program, program: readProgram(state.program) };
+  return parsed.program;
+}
 
 /** The mitigates of the program, in its order; none where it is no program. */
 export function mitigatesNow() {
-  const program = readProgram(state.program);
+  const program = programNow();
   return program ? mitigates(program) : [];
 }

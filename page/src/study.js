@@ -1,40 +1,38 @@
 // What the page asks of the tool about one program and its starts. Each answer is what the tool printed, read.
 
 import { classesOf, markSeen, readAudit, readRefusal, readRun, readTimeline, readVerdict, readWhy } from './answers.js';
+import { asSeen, PROGRAM, STARTS, WORDS } from './commands.js';
 import { offsetOf, placeOf, readProgram, withEstimate, wrapped } from './language.js';
 import { oneStart, readStarts } from './starts.js';
 
-const PROGRAM = 'program.mit', STARTS = 'starts.toml';
 const DONE = 0, OUT_OF_BUDGET = 8, UNFINISHED = 10;
 
 /** How many runs are drawn where each needs a call of its own. */
 export const MOST_SINGLE_RUNS = 64;
 
-const settings = (state) => ['--env', state.environment, '--budget', state.budget];
-const seenBy = (state) => ['--observer', state.observer];
 const files = (state) => ({ [PROGRAM]: state.program, [STARTS]: state.starts });
 const refusalOf = ({ text }) => readRefusal(text.split('\n')[0]);
 
 /** Whether the tool accepts the program, and which refusals it names. */
 export async function verdictOf(tool, state) {
-  return readVerdict((await tool.call('mitigate', ['check', PROGRAM], files(state))).text);
+  return readVerdict((await tool.call('mitigate', WORDS.check(), files(state))).text);
 }
 
 /** The program with all its labels, as the tool completes them; null where it is refused. */
 export async function completedBy(tool, state) {
-  const { status, text } = await tool.call('mitigate', ['infer', PROGRAM], files(state));
+  const { status, text } = await tool.call('mitigate', WORDS.infer(), files(state));
   return status === DONE ? text : null;
 }
 
 /** The text of the compiled code, or the refusal's line. */
 export async function codeOf(tool, state) {
-  return tool.call('mitigate', ['compile', PROGRAM], files(state));
+  return tool.call('mitigate', WORDS.compile(), files(state));
 }
 
 /** The chain of a refusal, by the lab; null where the lab is not in the module. */
 export async function chainOf(tool, state) {
   if (!tool.has('lab')) return null;
-  const { text } = await tool.call('lab', ['why', PROGRAM], files(state));
+  const { text } = await tool.call('lab', WORDS.why(), files(state));
   const why = readWhy(text);
   return why.steps.length ? why : null;
 }
@@ -49,11 +47,12 @@ export async function mendOf(tool, state, refusal) {
   const at = offsetOf(state.program, refusal.place.line, refusal.place.column);
   let tries = 0;
   for (const list of listsTo(program.body, at).reverse()) {
-    const end = list.findIndex((one) => one.at <= at && at < one.end);
+    const end = list.findIndex((command) => command.at <= at && at < command.end);
     for (let k = end - 1; k >= 0 && tries < MOST_TRIES; k--, tries++) {
       const text = wrapped(state.program, list[k], list[end - 1], FIRST_ESTIMATE, refusal.from);
-      const { status } = await tool.call('mitigate', ['check', PROGRAM], { [PROGRAM]: text });
-      if (status === DONE) return { text, first: placeOf(state.program, list[k].at).line, last: placeOf(state.program, list[end - 1].end - 1).line };
+      const { status } = await tool.call('mitigate', WORDS.check(), { [PROGRAM]: text });
+      const lineOf = (offset) => placeOf(state.program, offset).line;
+      if (status === DONE) return { text, first: lineOf(list[k].at), last: lineOf(list[end - 1].end - 1) };
     }
   }
   return null;
@@ -61,12 +60,12 @@ export async function mendOf(tool, state, refusal) {
 
 // The lists of commands that hold a place, the outermost first.
 function listsTo(list, at) {
-  const one = list.find((command) => command.at <= at && at < command.end && !command.isAdded);
-  if (!one) return [];
-  return [list, ...one.parts.flatMap((part) => listsTo(part, at))];
+  const around = list.find((command) => command.at <= at && at < command.end && !command.isAdded);
+  if (!around) return [];
+  return [list, ...around.parts.flatMap((part) => listsTo(part, at))];
 }
 
-const reportOn = (tool, state, command) => tool.call('mitigate', [command, PROGRAM, STARTS, ...seenBy(state), ...settings(state)], files(state));
+const reportOn = (tool, state, command) => tool.call('mitigate', WORDS[command](state), files(state));
 
 /** The audit: {report} of runs that have halted, {report, isCut} where some have not, or {refusal}. */
 export async function auditOf(tool, state) {
@@ -80,23 +79,22 @@ export async function auditOf(tool, state) {
 /** The sharp count and what stands beside it, by the lab; null where it is not there or refuses. */
 export async function sharpOf(tool, state) {
   if (!tool.has('lab')) return null;
-  const words = ['bound', PROGRAM, STARTS, ...seenBy(state), ...settings(state)];
-  const { status, text } = await tool.call('lab', words, files(state));
+  const { status, text } = await tool.call('lab', WORDS.bound(state), files(state));
   const report = status === DONE ? readAudit(text) : null;
   return report?.sharp === undefined ? null : report;
 }
 
 async function byLab(tool, state) {
-  const words = ['timeline', PROGRAM, STARTS, ...settings(state)];
+  const words = WORDS.timeline(state);
   const all = await tool.call('lab', words, files(state)), told = readTimeline(all.text);
   if (!told) return { refusal: refusalOf(all) };
-  const seen = await tool.call('lab', [...words, ...seenBy(state)], files(state));
+  const seen = await tool.call('lab', asSeen(words, state), files(state));
   return { runs: markSeen(told.runs, readTimeline(seen.text).runs), mitigates: told.mitigates, isAll: true };
 }
 
-async function single(tool, state, starts, k, more) {
-  const one = { [PROGRAM]: state.program, [STARTS]: oneStart(starts, k) };
-  const answer = await tool.call('mitigate', ['run', PROGRAM, STARTS, ...settings(state), ...more], one);
+async function single(tool, state, starts, k, words) {
+  const alone = { [PROGRAM]: state.program, [STARTS]: oneStart(starts, k) };
+  const answer = await tool.call('mitigate', words, alone);
   return answer.status === DONE || answer.status === OUT_OF_BUDGET ? readRun(answer.text) : refusalOf(answer);
 }
 
@@ -105,8 +103,8 @@ async function byRuns(tool, state, most) {
   if (starts.fault) return { refusal: { kind: 'starts', text: `the page cannot take these starts apart: ${starts.fault}` } };
   const count = Math.min(starts.runs.length, most), all = [], seen = [];
   for (let k = 0; k < count; k++) {
-    for (const [list, more] of [[all, []], [seen, seenBy(state)]]) {
-      const run = await single(tool, state, starts, k, more);
+    for (const [list, words] of [[all, WORDS.run(state)], [seen, asSeen(WORDS.run(state), state)]]) {
+      const run = await single(tool, state, starts, k, words);
       if (!run.events) return { refusal: run };
       list.push(run);
     }
@@ -114,7 +112,8 @@ async function byRuns(tool, state, most) {
   return { runs: markSeen(all, seen), mitigates: null, isAll: count === starts.runs.length };
 }
 
-/** The runs with their assignments and ends, and with mitigations where the lab is there: {runs, mitigates} or {refusal}. */
+/** The runs with their assignments and ends, and with mitigations where the lab is there: {runs, mitigates} or
+    {refusal}. */
 export async function runsOf(tool, state, most = MOST_SINGLE_RUNS) {
   const told = tool.has('lab') ? await byLab(tool, state) : await byRuns(tool, state, most);
   if (told.runs) classesOf(told.runs).forEach((number, k) => Object.assign(told.runs[k], { class: number }));
@@ -131,21 +130,21 @@ export async function pointOf(tool, state, mitigate, prediction) {
   const report = readAudit(audit.text);
   const told = tool.has('lab') ? await labEnds(tool, tried) : await singleEnds(tool, tried, report.runs);
   if (!told) return null;
-  return { prediction, sequences: report.distinct, shortest: Math.min(...told.ends), longest: Math.max(...told.ends), least: told.least(mitigate) };
+  const shortest = Math.min(...told.ends), longest = Math.max(...told.ends);
+  return { prediction, sequences: report.distinct, shortest, longest, least: told.least(mitigate) };
 }
 
 async function labEnds(tool, state) {
-  const words = ['timeline', PROGRAM, STARTS, ...settings(state), ...seenBy(state)];
-  const told = readTimeline((await tool.call('lab', words, files(state))).text);
+  const told = readTimeline((await tool.call('lab', asSeen(WORDS.timeline(state), state), files(state))).text);
   if (!told) return null;
-  return { ends: told.runs.map((run) => run.end), least: (one) => told.mitigates[one.mark]?.least ?? null };
+  return { ends: told.runs.map((run) => run.end), least: (mitigate) => told.mitigates[mitigate.mark]?.least ?? null };
 }
 
 async function singleEnds(tool, state, count) {
   const starts = readStarts(state.starts), ends = [];
   if (starts.fault) return null;
   for (let k = 0; k < Math.min(count, MOST_SINGLE_RUNS); k++) {
-    const run = await single(tool, state, starts, k, seenBy(state));
+    const run = await single(tool, state, starts, k, asSeen(WORDS.run(state), state));
     if (!run.events) return null;
     ends.push(run.end);
   }

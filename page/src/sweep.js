@@ -1,7 +1,8 @@
 // The sweep: other first predictions in place of one mitigate's estimate, what each tells and what it costs.
 
-import { at, counted, spaced, ticks } from './axis.js';
+import { at, ticks } from './axis.js';
 import { classColour, escaped } from './colours.js';
+import { counted, spaced } from './numbers.js';
 
 /** First predictions from 1 to a power of two, eight to each doubling, and further ones. */
 export function predictions(most, further = []) {
@@ -107,4 +108,18 @@ export function sweepPicture(points, { width, high = 320, current = null }) {
   }
   out.push('</svg>');
   return out.join('\n');
+}
+
+/** The points as a table, each with a button that takes its prediction. */
+export function pointsTable(points) {
+  const best = new Set(cheapest(points)), cell = (text) => `<td class="what">${text}</td>`;
+  const rows = [...points].sort((a, b) => a.prediction - b.prediction).map((point) => {
+    const numbers = [point.prediction, point.sequences, point.shortest, point.longest].map((number) => cell(spaced(number)));
+    const name = `Take the prediction ${spaced(point.prediction)}`;
+    const take = `<button type="button" class="link" data-take="${point.prediction}" aria-label="${name}">Take</button>`;
+    return `<tr>${numbers.join('')}${cell(best.has(point) ? 'no faster one tells as little' : '')}${cell(take)}</tr>`;
+  });
+  const heads = ['first prediction', 'sequences', 'shortest run', 'longest run', 'the fastest', 'use it'];
+  const head = heads.map((text) => `<th scope="col">${text}</th>`).join('');
+  return `<table><thead><tr>${head}</tr></thead><tbody>${rows.join('')}</tbody></table>`;
 }

@@ -1,13 +1,15 @@
 // The sweep: trying other first predictions in place of one mitigate's estimate, and showing what they tell and cost.
 
-import { counted, spaced } from './axis.js';
+import { drawFreshness } from './freshness_part.js';
+import { counted, spaced } from './numbers.js';
 import { placeOf, withEstimate } from './language.js';
 import { placeText } from './marks.js';
 import { changeProgram } from './program_part.js';
 import { saveSvg } from './saving.js';
-import { $, calls, mitigatesNow, shown, state } from './state.js';
+import { $, answeredOf, calls, mitigatesNow, shown, state } from './state.js';
+import { isFresh } from './freshness.js';
 import { pointOf } from './study.js';
-import { cheapest, halveGap, powerFrom, predictions, sweepPicture, sweepText } from './sweep.js';
+import { halveGap, pointsTable, powerFrom, predictions, sweepPicture, sweepText } from './sweep.js';
 import { Stopped } from './tool.js';
 
 const PAUSE = 150; // milliseconds between two drawings of a sweep that goes on
@@ -15,17 +17,24 @@ const PAUSE = 150; // milliseconds between two drawings of a sweep that goes on
 let sweepTurn = 0;
 
 const whichMitigate = () => mitigatesNow()[Number($('sweep-which').value || 0)] ?? null;
-const estimateOf = (one) => {
-  const text = state.program.slice(one.value.at, one.value.end);
+const estimateOf = (mitigate) => {
+  const text = state.program.slice(mitigate.value.at, mitigate.value.end);
   return /^\d+$/.test(text) && Number(text) < 2 ** 40 ? Number(text) : null;
 };
 
 /** Whether there is a sweep to make: all runs have halted, and there is a mitigate. */
 export function canSweep() {
-  return Boolean(shown.audit?.report && !shown.audit.isCut && shown.runs && shown.isAll && mitigatesNow().length);
+  const hasRuns = shown.audit?.report && !shown.audit.isCut && shown.runs && shown.isAll;
+  return Boolean(hasRuns && mitigatesNow().length && isFresh('runs', answeredOf.runs, state));
 }
 
+const say = (words) => {
+  $('sweep-note').dataset.says = words;
+  drawFreshness();
+};
+
 function endSweep() {
+  if ($('sweep').getAttribute('aria-busy') !== 'true') return;
   $('sweep-go').textContent = 'Try predictions';
   $('sweep').setAttribute('aria-busy', 'false');
 }
@@ -35,9 +44,6 @@ export function stopSweep() {
   sweepTurn++;
   calls.sweeper?.stop();
   endSweep();
-  $('sweep-note').textContent = shown.points.length ? 'of an earlier program' : '';
-  $('sweep-picture').classList.toggle('stale', shown.points.length > 0);
-  $('sweep-text').classList.toggle('stale', shown.points.length > 0);
 }
 
 /** Tries predictions and draws as they come; nothing where there is no sweep to make. */
@@ -48,6 +54,7 @@ export async function sweep() {
   if (!mitigate || !canSweep()) return;
   const current = estimateOf(mitigate), trial = trialOf(mitigate, isOld);
   Object.assign(shown, { points: [], unfinished: 0 });
+  answeredOf.points = { ...state };
   $('sweep-go').textContent = 'Stop';
   $('sweep').setAttribute('aria-busy', 'true');
   try {
@@ -57,7 +64,7 @@ export async function sweep() {
   } finally {
     if (!isOld()) {
       endSweep();
-      $('sweep-note').textContent = shown.points.length ? pointsText(shown.points.length, current, trial.unfinished.size) : '';
+      say(shown.points.length ? pointsText(shown.points.length, current, trial.unfinished.size) : '');
     }
   }
 }
@@ -67,11 +74,11 @@ function trialOf(mitigate, isOld) {
   const now = { ...state }, tried = new Map(), unfinished = new Set();
   const point = async (prediction) => {
     if (tried.has(prediction) || unfinished.has(prediction)) return tried.get(prediction) ?? null;
-    const one = await pointOf(calls.sweeper, now, mitigate, prediction);
-    if (isOld()) return one;
-    if (one) tried.set(prediction, one);
+    const found = await pointOf(calls.sweeper, now, mitigate, prediction);
+    if (isOld()) return found;
+    if (found) tried.set(prediction, found);
     else unfinished.add(prediction);
-    return one;
+    return found;
   };
   return { tried, unfinished, point };
 }
@@ -97,7 +104,7 @@ async function tryPredictions({ tried, unfinished, point }, current, isOld) {
     if (isOld()) return;
     if (performance.now() - last > PAUSE) {
       draw();
-      $('sweep-note').textContent = `${counted(tried.size, 'prediction')} tried`;
+      say(`${counted(tried.size, 'prediction')} tried.`);
       last = performance.now();
     }
   }
@@ -107,18 +114,20 @@ async function tryPredictions({ tried, unfinished, point }, current, isOld) {
 
 function pointsText(count, current, unfinished) {
   const left = unfinished ? `; with ${spaced(unfinished)} more not all runs halt` : '';
-  return `the same starts, ${counted(count, 'prediction')} in place of ${current === null ? 'the estimate' : spaced(current)}${left}`;
+  return `The same starts, ${counted(count, 'prediction')} in place of ${current === null ? 'the estimate' : spaced(current)}${left}.`;
 }
 
 /** The picture of the points, the sentence below it, and the points as numbers. */
 export function drawSweep() {
   const can = canSweep(), { points } = shown;
-  $('sweep').hidden = !can && points.length === 0;
+  const isOld = answeredOf.runs && !isFresh('runs', answeredOf.runs, state); // then it stays where it is
+  if (!isOld) {
+    $('sweep').hidden = !can && points.length === 0;
+    $('starts').classList.toggle('alone', $('sweep').hidden);
+  }
   if ($('sweep').hidden) return;
   drawChoice();
   $('sweep-go').disabled = !can;
-  $('sweep-picture').classList.remove('stale');
-  $('sweep-text').classList.remove('stale');
   $('sweep-save').hidden = $('sweep-numbers').hidden = points.length === 0;
   if (points.length === 0) {
     $('sweep-picture').innerHTML = '';
@@ -126,39 +135,30 @@ export function drawSweep() {
     return;
   }
   const mitigate = whichMitigate(), current = mitigate ? estimateOf(mitigate) : null;
-  $('sweep-picture').innerHTML = sweepPicture(points, { width: Math.max($('sweep-picture').clientWidth - 2, 280), current });
+  const width = Math.max($('sweep-picture').clientWidth - 2, 280);
+  $('sweep-picture').innerHTML = sweepPicture(points, { width, current });
   $('sweep-text').textContent = sweepText(points, shown.least, current, shown.unfinished);
-  $('sweep-table').innerHTML = tableText(points);
+  $('sweep-table').innerHTML = pointsTable(points);
 }
 
 // Which mitigate, where there are several.
 function drawChoice() {
   const list = mitigatesNow(), choice = $('sweep-which');
   $('sweep-which-field').hidden = list.length < 2;
-  const html = list.map((one, k) => `<option value="${k}">mitigate at ${placeText(placeOf(state.program, one.at))}</option>`).join('');
+  const placeName = (mitigate) => placeText(placeOf(state.program, mitigate.at));
+  const html = list.map((mitigate, k) => `<option value="${k}">mitigate at ${placeName(mitigate)}</option>`).join('');
   if (choice.innerHTML === html) return;
   const before = choice.value;
   choice.innerHTML = html;
   if (Number(before) < list.length) choice.value = before || '0';
 }
 
-function tableText(points) {
-  const best = new Set(cheapest(points)), cell = (text) => `<td class="what">${text}</td>`;
-  const rows = [...points].sort((a, b) => a.prediction - b.prediction).map((one) => {
-    const numbers = [one.prediction, one.sequences, one.shortest, one.longest].map((number) => cell(spaced(number)));
-    const take = `<button type="button" class="link" data-take="${one.prediction}">Take</button>`;
-    return `<tr>${numbers.join('')}${cell(best.has(one) ? 'no faster one tells as little' : '')}${cell(take)}</tr>`;
-  });
-  return `<table><thead><tr><th scope="col">first prediction</th><th scope="col">sequences</th><th scope="col">shortest run</th><th scope="col">longest run</th><th scope="col"></th><th scope="col"></th></tr></thead><tbody>${rows.join('')}</tbody></table>`;
-}
-
 /** What a person does with the sweep. */
-export function listenSweep(changed) {
+export function listenSweep() {
   const take = (prediction) => {
     const mitigate = whichMitigate();
     if (!mitigate) return;
     changeProgram(withEstimate(state.program, mitigate, prediction));
-    changed({ now: true });
   };
   $('sweep-go').addEventListener('click', () => ($('sweep-go').textContent === 'Stop' ? stopSweep() : sweep()));
   $('sweep-which').addEventListener('change', () => sweep());

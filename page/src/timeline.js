@@ -1,7 +1,8 @@
 // The timeline: a lane a run over one axis of cycles, as SVG.
 
-import { at, counted, spaced, ticks } from './axis.js';
+import { at, ticks } from './axis.js';
 import { classColour, classMark, escaped } from './colours.js';
+import { counted, spaced } from './numbers.js';
 
 const RIGHT = 20, TOP = 26, BOTTOM = 34, NARROW = 560;
 const MOST_MARKS = 4000;

@@ -8,6 +8,13 @@ class Reader {
   constructor(text) {
     this.text = text;
     this.at = 0;
+    this.tables = new Map(); // of each table where its pairs stand: {entries, open, close}
+    this.heads = []; // of each [[name]] and [name]: {name, from, to, table}
+  }
+
+  spansOf(table) {
+    if (!this.tables.has(table)) this.tables.set(table, { entries: new Map(), open: null, close: null });
+    return this.tables.get(table);
   }
 
   fault(what) {
@@ -87,24 +94,30 @@ class Reader {
   }
 
   inlineTable() {
-    const table = new Map();
+    const table = new Map(), spans = this.spansOf(table);
+    spans.open = this.at;
     this.blanks(false);
-    if (this.takes('}')) return table;
-    do {
-      this.pair(table);
-      this.blanks(false);
-    } while (this.takes(','));
+    if (!this.sees('}')) {
+      do {
+        this.pair(table);
+        this.blanks(false);
+      } while (this.takes(','));
+    }
+    spans.close = this.at;
     this.want('}');
     return table;
   }
 
   pair(table) {
-    const path = this.key();
+    this.blanks(false);
+    const from = this.at, path = this.key(), keyTo = this.at;
     this.want('=');
     this.blanks(false);
     const inner = this.inside(table, path.slice(0, -1)), name = path.at(-1);
     if (inner.has(name)) throw this.fault(`${name} is there twice`);
+    const valueFrom = this.at;
     inner.set(name, this.value());
+    this.spansOf(inner).entries.set(name, { from, keyTo, valueFrom, to: this.at });
   }
 
   inside(table, path) {
@@ -128,6 +141,7 @@ class Reader {
     for (;;) {
       this.blanks(true);
       if (this.at === this.text.length) return root;
+      const from = this.at;
       if (this.takes('[[')) {
         const path = this.key();
         this.want(']]');
@@ -136,6 +150,7 @@ class Reader {
         if (!Array.isArray(outer.get(name))) throw this.fault(`${name} is no list of tables`);
         table = new Map();
         outer.get(name).push(table);
+        this.heads.push({ name: path.join('.'), from, to: this.at, table });
       } else if (this.takes('[')) {
         const path = this.key();
         this.want(']');
@@ -151,4 +166,12 @@ class Reader {
 /** The table that a text spells, as Maps, arrays, BigInt, texts and booleans. */
 export function readToml(text) {
   return new Reader(text).document();
+}
+
+/** The same, with where it stands in the text: {root, tables, heads}. Of each table that has pairs or stands in a line,
+    `tables` has its pairs by their names, each with the places of the pair, its key's end and its value, and the insides
+    of its braces; `heads` has the heads of lists of tables, in the order of the text. */
+export function readTomlPlaces(text) {
+  const reader = new Reader(text), root = reader.document();
+  return { root, tables: reader.tables, heads: reader.heads };
 }

@@ -23,7 +23,8 @@ export class Tool {
     return this.programs.includes(program);
   }
 
-  /** The answer {status, text} of a call. It is refused where the call was stopped, or where the program could not go on. */
+  /** The answer {status, text} of a call. It is refused where the call was stopped, or where the program could not go
+      on. */
   call(program, words, files) {
     this.worker ??= this.started();
     const id = ++this.count;
@@ -36,11 +37,11 @@ export class Tool {
   started() {
     const worker = this.makeWorker();
     worker.onmessage = ({ data }) => {
-      const one = this.waiting.get(data.id);
-      if (!one) return;
+      const asked = this.waiting.get(data.id);
+      if (!asked) return;
       this.waiting.delete(data.id);
-      if (data.fault) one.reject(new Error(data.fault));
-      else one.resolve({ status: data.status, text: data.text });
+      if (data.fault) asked.reject(new Error(data.fault));
+      else asked.resolve({ status: data.status, text: data.text });
     };
     worker.onerror = (event) => {
       event.preventDefault?.();
@@ -59,6 +60,6 @@ export class Tool {
     this.worker = null;
     const all = [...this.waiting.values()];
     this.waiting.clear();
-    for (const one of all) one.reject(fault);
+    for (const asked of all) asked.reject(fault);
   }
 }

@@ -177,6 +177,8 @@ class Firefox(Browser):
             "browser.download.always_ask_before_handling_new_types": False, "browser.aboutwelcome.enabled": False,
             # Else leaving a page cuts off its scripts, which the console tells as a fault of the page.
             "dom.ipc.cancel_content_js_when_navigating": False,
+            # On a busy machine a script may take longer than a person would be asked to wait.
+            "dom.max_script_run_time": 0,
         }
         lines = [f"user_pref({json.dumps(name)}, {json.dumps(value)});" for name, value in settings.items()]
         (profile / "user.js").write_text("\n".join(lines) + "\n")
@@ -247,7 +249,9 @@ class Firefox(Browser):
             " return e.sourceName + ': ' + e.errorMessage + ' [' + e.category + ']'; } catch (x) { return ''; } });"
             " Services.console.reset(); return all;"
         )
-        return [one for one in found if one.startswith("file:") or one.startswith("blob:") or one.startswith("http:")]
+        # Advice about scrolling is none of a fault: the editor's library keeps its numbers of lines in place by scrolling.
+        found = [one for one in found if not one.endswith("[Async Pan/Zoom]")]
+        return [one for one in found if one.startswith(("file:", "blob:", "http:"))]
 
 
 BROWSERS = {"chromium": (Chromium, "chromedriver"), "firefox": (Firefox, "firefox-esr")}

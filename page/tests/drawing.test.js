@@ -1,7 +1,8 @@
 import assert from 'node:assert/strict';
 import test from 'node:test';
-import { spaced, ticks } from '../src/axis.js';
+import { ticks } from '../src/axis.js';
 import { classMark, labelClass } from '../src/colours.js';
+import { spaced } from '../src/numbers.js';
 import { cheapest, halveGap, powerFrom, predictions, quietFrom, sweepPicture, sweepText } from '../src/sweep.js';
 import { cycleAt, mitigationText, moved, predictionEnds, runText, timeline, wholeView, zoomed } from '../src/timeline.js';
 

@@ -2,10 +2,14 @@ import assert from 'node:assert/strict';
 import fs from 'node:fs';
 import test from 'node:test';
 import { examplesOf } from '../src/examples.js';
-import { highlighted, labelsOf, writtenLabels } from '../src/highlight.js';
+import {
+  commandAt, faultRange, labelsOf, leftOutLabels, linesInside, stepsByLine, writtenLabels,
+} from '../src/decorations.js';
 import { readProgram } from '../src/language.js';
 import { LESSON } from '../src/lesson.js';
+import { difference, indentAfter } from '../src/editor.js';
 import { linkOf, stateOf } from '../src/link.js';
+import { modeOf } from '../src/mode.js';
 import { readStarts } from '../src/starts.js';
 import { Stopped, Tool } from '../src/tool.js';
 
@@ -16,8 +20,6 @@ const files = new Proxy({}, {
     return place && fs.readFileSync(place, 'utf8');
   },
 });
-const plain = (html) => html.replace(/<span class="given">.*?<\/span>(?=<span class="step|\n)/g, '').replace(/<span class="step[^>]*>\d+<\/span>/g, '').replace(/<[^>]*>/g, '').replaceAll('&lt;', '<').replaceAll('&gt;', '>').replaceAll('&quot;', '"').replaceAll('&amp;', '&');
-
 test('examples have all their files, and can be read', () => {
   for (const one of examplesOf(files)) {
     assert.ok(one.program && one.starts && one.says, one.name);
@@ -31,42 +33,85 @@ test('the lesson has six steps that can be read', () => {
   for (const one of LESSON) assert.ok(readProgram(one.program) && !readStarts(one.starts).fault, one.title);
 });
 
-test('the coloured layer has the text itself, line by line', () => {
-  for (const one of examplesOf(files)) {
-    const rows = highlighted(one.program, { labels: writtenLabels(one.program) });
-    assert.equal(rows.map(plain).join(''), `${one.program}\n`, one.name);
-  }
-});
-
 const CANONICAL = 'labels L, H;\norder L < H;\nvar l : L;\nvar h : H;\nvar m : H;\nmitigate (64, H) @[L, L] {\n  while h > 0 @[L, L] do {\n    h := h - 1 @[H, H]\n  }\n};\nl := 1 @[L, L]\n';
 const SOURCE = 'var l : L;\nvar h : H;\nvar m;\nmitigate (64) {\n  while h > 0 do { h := h - 1 }\n};\nl := 1 @[L]';
 
-test('left-out labels come from the completed text', () => {
+test('left-out labels come from the completed text, at the ends of their lines', () => {
   const labels = labelsOf(CANONICAL);
   assert.equal(labels.of.get('m'), 'H');
   assert.deepEqual(labels.levels, ['H']);
-  const rows = highlighted(SOURCE, { labels });
-  assert.match(rows[2], /given">: <span class="label l1 u1">H</);
-  assert.match(rows[3], /given">, <span class="label l1 u1">H<\/span> @\[/);
-  assert.match(rows[4], /@\[.*>L<.*>L<.*\] @\[.*>H<.*>H</);
-  assert.ok(!rows[6].includes('given'));
-  assert.match(rows[4], /tint t1/);
-  assert.ok(!rows[3].includes('tint'));
-  assert.ok(!highlighted(SOURCE, { labels, showsLabels: false }).join('').includes('given'));
-  assert.ok(!highlighted(`${SOURCE};\nskip`, { labels }).join('').includes('given'), 'labels of an earlier text are not shown');
+  const wanted = [[3, [': H']], [4, [', H', '@[L, L]']], [5, ['@[L, L]', '@[H, H]']]];
+  assert.deepEqual([...leftOutLabels(SOURCE, labels)], wanted);
+  assert.equal(leftOutLabels(`${SOURCE};\nskip`, labels).size, 0, 'labels of an earlier text are not shown');
 });
 
-test('a refusal marks its command, a syntax fault its word, and steps have their numbers', () => {
-  const fault = { kind: 'refused', place: { line: 7, column: 1 } };
-  const steps = [{ place: { line: 2, column: 5 } }, { place: { line: 7, column: 1 } }];
-  const rows = highlighted(SOURCE, { labels: writtenLabels(SOURCE), faults: [fault], steps });
-  assert.match(rows[6], /wrong/);
-  assert.match(rows[1], /<span class="step">1<\/span>/);
-  assert.match(rows[6], /<span class="step end">2<\/span>/);
-  const bad = highlighted('var x : L;\nx = 1', { labels: writtenLabels('var x : L;'), faults: [{ kind: 'syntax', place: { line: 2, column: 3 } }] });
-  assert.match(bad[1], /<span class="bad wrong">=<\/span>/);
-  const end = highlighted('x :=', { labels: writtenLabels(''), faults: [{ kind: 'syntax', place: { line: 1, column: 5 } }] });
-  assert.match(end[0], /missing/);
+test('the lines inside of a mitigate have the number of its level', () => {
+  assert.deepEqual([...linesInside(SOURCE, labelsOf(CANONICAL))], [[5, 1]]);
+  const nested = 'var h : H;\nmitigate (1, L) {\n  mitigate (2, H) {\n    h := 1\n  }\n};\nskip';
+  assert.deepEqual([...linesInside(nested, writtenLabels(nested))], [[3, 0], [4, 0], [5, 0]]);
+});
+
+const marked = (text, fault) => {
+  const { from, to } = faultRange(text, fault);
+  return text.slice(from, to);
+};
+const at = (line, column, kind = 'refused') => ({ kind, place: { line, column } });
+
+test('a refusal marks its command to its head, at most to the end of the line; a syntax fault its word', () => {
+  assert.equal(marked(SOURCE, at(7, 1)), 'l := 1 @[L]');
+  assert.equal(marked(SOURCE, at(5, 3)), 'while h > 0 do');
+  assert.equal(marked(SOURCE, at(5, 20)), 'h := h - 1');
+  assert.equal(marked('if 1 then { skip }', at(1, 1)), 'if 1 then', 'an if without else');
+  assert.equal(marked('while\n1 do { skip }', at(1, 1)), 'while', 'a head of two lines');
+  assert.equal(marked('var x : L;\nx = 1', at(2, 3, 'syntax')), '=');
+  assert.equal(marked('var x : L;\nxyz = 1', at(2, 1, 'syntax')), 'xyz');
+  assert.deepEqual(faultRange('x :=', at(1, 5, 'syntax')), { from: 4, to: 4 });
+  assert.equal(commandAt('if 1 then { skip }', 0).form, 'if');
+});
+
+test('steps have their numbers, by line', () => {
+  const steps = [at(2, 5), at(7, 1), at(2, 9)];
+  assert.deepEqual([...stepsByLine(steps)], [
+    [2, [{ number: 1, isLast: false }, { number: 3, isLast: true }]], [7, [{ number: 2, isLast: false }]],
+  ]);
+});
+
+// The words of a text as the mode colours them, line by line: 'word style'.
+function coloured(text, labels) {
+  const mode = modeOf(() => labels), state = mode.startState();
+  return text.split('\n').map((string) => {
+    const stream = { string, pos: 0 }, found = [];
+    const own = mode.copyState(state);
+    while (stream.pos < string.length) {
+      const begin = stream.pos, style = mode.token(stream, own);
+      if (style) found.push(`${string.slice(begin, stream.pos)} ${style}`);
+    }
+    Object.assign(state, own);
+    return found;
+  });
+}
+
+test('words have the colours of their labels, from line to line', () => {
+  const found = coloured('labels A,\nB; var x : B; var y : A; // c\nmitigate (1,\nB) @[A] { y := x + 7 }', {
+    names: ['A', 'B'], of: new Map([['x', 'B'], ['y', 'A']]),
+  });
+  assert.deepEqual(found, [
+    ['labels k', 'A label l0 u0'],
+    ['B label l1 u1', 'var k', 'x label l1 u1', 'B label l1 u1', 'var k', 'y label l0 u0', 'A label l0 u0', '// c note'],
+    ['mitigate k', '1 figure'],
+    ['B label l1 u1', 'A label l0 u0', 'y label l0 u0', 'x label l1 u1', '7 figure'],
+  ]);
+  assert.deepEqual(coloured('A := $', { names: ['A'], of: new Map() }), [['$ bad']], 'a variable without a label has no colour');
+});
+
+test('the change of a text is the part that differs', () => {
+  assert.deepEqual(difference('abcde', 'abXde'), { from: 2, to: 3, put: 'X' });
+  assert.deepEqual(difference('aa', 'aaa'), { from: 2, to: 2, put: 'a' });
+  assert.deepEqual(difference('aaa', 'aa'), { from: 2, to: 3, put: '' });
+  assert.deepEqual(difference('', 'x'), { from: 0, to: 0, put: 'x' });
+  assert.deepEqual(difference('same', 'same'), { from: 4, to: 4, put: '' });
+  assert.equal(indentAfter('  while 1 do {'), '\n    ');
+  assert.equal(indentAfter('\tskip;'), '\n\t');
 });
 
 test('written labels are found in a text that is no program', () => {

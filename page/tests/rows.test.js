@@ -5,17 +5,11 @@ import assert from 'node:assert/strict';
 import fs from 'node:fs';
 import test from 'node:test';
 import { callWithRoom, programsOf } from '../src/module.js';
+import { moduleBytes } from './built_module.js';
 
 const folder = (path) => new URL(path, import.meta.url);
-const TABLES = folder('../../crates/worked_rows/data/'), READER = folder('../../crates/worked_rows/src/row.rt'), PAGE = folder('../index.html');
+const TABLES = folder('../../crates/worked_rows/data/'), READER = folder('../../crates/worked_rows/src/row.rt');
 const USAGE = 4, ROOM = 1 << 23;
-
-function moduleBytes() {
-  if (process.env.MODULE) return fs.readFileSync(process.env.MODULE);
-  if (!fs.existsSync(PAGE)) return null;
-  const found = /id="module-data">([A-Za-z0-9+/=\s]*)</.exec(fs.readFileSync(PAGE, 'latin1'));
-  return Buffer.from(found[1], 'base64');
-}
 
 // The bytes that a line of a table spells: \n, \t, \r, \xNN, and any other byte after a backslash is itself.
 function bytesOf(line) {

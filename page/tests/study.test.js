@@ -3,6 +3,7 @@ import fs from 'node:fs';
 import test from 'node:test';
 import { mitigates, readProgram } from '../src/language.js';
 import { call } from '../src/module.js';
+import { moduleBytes } from './built_module.js';
 import { auditOf, chainOf, completedBy, mendOf, pointOf, runsOf, sharpOf, verdictOf } from '../src/study.js';
 
 // A tool that answers by a function of program, words and files, and keeps the calls.
@@ -96,11 +97,10 @@ test('a prediction with which not all runs halt gives no point, and no cut in it
   assert.deepEqual(tool.calls, ['mitigate audit program.mit starts.toml --observer L --env part --budget 450']);
 });
 
-const PAGE = new URL('../index.html', import.meta.url);
+const bytes = moduleBytes();
 
-test('points on the module, as the second reading has them', { skip: fs.existsSync(PAGE) ? false : 'there is no page/index.html yet' }, async () => {
-  const found = /id="module-data">([A-Za-z0-9+/=\s]*)</.exec(fs.readFileSync(PAGE, 'latin1'));
-  const module = new WebAssembly.Module(Buffer.from(found[1], 'base64'));
+test('points on the module, as the second reading has them', { skip: bytes ? false : 'there is no page/index.html yet' }, async () => {
+  const module = new WebAssembly.Module(bytes);
   const tool = { has: () => true, call: async (program, words, files) => call(module, program, words, files) };
   const [mitigate] = mitigates(readProgram(nine.program));
   const point = (prediction, more = {}) => pointOf(tool, { ...nine, ...more }, mitigate, prediction);
@@ -117,6 +117,8 @@ test('the fewest commands that a mitigate mends are offered, and none where none
   const both = await mendOf(accepts(/mitigate \(64, H\) \{\n {2}h := 1/), { ...state, program }, refusal);
   assert.deepEqual([both.first, both.last], [3, 4]);
   assert.match(both.text, /mitigate \(64, H\) \{\n {2}h := 1;\n {2}while h do \{ h := h - 1 \}\n\};\nl := 1$/);
+  const other = await mendOf(accepts(/mitigate/), { ...state, program }, { ...refusal, from: 'B' });
+  assert.match(other.text, /mitigate \(64, B\) \{/, 'at the level of what does not flow');
   const loop = await mendOf(accepts(/mitigate/), { ...state, program }, refusal);
   assert.deepEqual([loop.first, loop.last], [4, 4]);
   assert.equal(await mendOf(accepts(/never/), { ...state, program }, refusal), null);

@@ -9,5 +9,3 @@ pub mod laws;
 mod line;
 pub mod ready;
 pub mod release;
-#[cfg(test)]
-mod tests;

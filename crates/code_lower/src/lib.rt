@@ -5,5 +5,3 @@ mod emit;
 pub mod laws;
 pub mod lower;
 mod size;
-#[cfg(test)]
-mod tests;

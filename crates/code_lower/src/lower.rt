@@ -11,6 +11,7 @@ use crate::size::list_extent;
 use label_code::code::Work;
 use label_code::image::{Image, is_too_long};
 use std::alloc::{AllocError, Global};
+use timing_types::labelled::Labelled;
 use timing_types::typed::Typed;
 
 /// Why a typed program has no image.
@@ -30,19 +31,18 @@ impl From<AllocError> for LowerFault {
     }
 }
 
-/// The image of a typed program: the code of its commands and then HALT, with the program's number of
+/// The image of a labelled program, typed or not: the code of its commands and then HALT, with the program's number of
 /// variables and its lattice.
 ///
 /// # Errors
 /// `TooLong` exactly where that image would have more than `MAX_INSTRUCTIONS` instructions, with their
 /// number. `Memory` is want of memory.
-pub fn lower(alloc: Global, p: &Typed) -> Result<Image, LowerFault>
-    ensures image { IfOk result (λ i. i ≡ lowered p.now.labelled) }
-    ensures stands { IfOk result (λ i. IsImage (order_of p.now.labelled) (labels_of p.now.labelled) i.instrs (bare_of p.now.labelled)) }
+pub fn lower_labelled(alloc: Global, labelled: &Labelled) -> Result<Image, LowerFault>
+    ensures image { IfOk result (λ i. i ≡ lowered labelled.now) }
+    ensures stands { IfOk result (λ i. IsImage (order_of labelled.now) (labels_of labelled.now) i.instrs (bare_of labelled.now)) }
     ensures short { IfOk result (λ i. length i.instrs ≤ 200000) }
-    ensures fault { IfErr result (IsLowerFault p.now.labelled) }
+    ensures fault { IfErr result (IsLowerFault labelled.now) }
 {
-    let labelled = p.labelled();
     let program = labelled.program();
     let extent = list_extent(program.body());
     let count = extent.size + 1;
@@ -62,4 +62,17 @@ pub fn lower(alloc: Global, p: &Typed) -> Result<Image, LowerFault>
         extent.operands as u32,
         extent.nesting as u32,
     ))
+}
+
+/// The image of a typed program.
+///
+/// # Errors
+/// Those of `lower_labelled`.
+pub fn lower(alloc: Global, p: &Typed) -> Result<Image, LowerFault>
+    ensures image { IfOk result (λ i. i ≡ lowered p.now.labelled) }
+    ensures stands { IfOk result (λ i. IsImage (order_of p.now.labelled) (labels_of p.now.labelled) i.instrs (bare_of p.now.labelled)) }
+    ensures short { IfOk result (λ i. length i.instrs ≤ 200000) }
+    ensures fault { IfErr result (IsLowerFault p.now.labelled) }
+{
+    lower_labelled(alloc, p.labelled())
 }

@@ -5,5 +5,3 @@
 pub mod cut;
 pub mod laws;
 pub mod report;
-#[cfg(test)]
-mod tests;

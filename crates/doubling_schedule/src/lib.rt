@@ -4,5 +4,3 @@
 pub mod laws;
 pub mod misses;
 mod prediction;
-#[cfg(test)]
-mod tests;

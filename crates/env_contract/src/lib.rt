@@ -5,5 +5,3 @@ pub mod env;
 pub mod flat;
 pub mod make;
 pub mod place;
-#[cfg(test)]
-mod tests;

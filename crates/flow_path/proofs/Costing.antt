@@ -1,11 +1,13 @@
 -- The order of costs.
-use Rattle.std.proofs.Common.{◌≡◌, ℕ, ◌+◌, ◌<◌, ◌≤◌, refl, ap, ◌∙◌, subst, arith, ⊎_elim, inl, inr}
-use Rattle.std.specs.Prelude.{Bool, true, false, cond, ◌⊎◌}
+use Rattle.std.proofs.Common.{◌≡◌, ℕ, ◌+◌, ◌<◌, ◌≤◌, refl, ap, ◌∙◌, subst, sym, List, [], ◌∷◌, ◌++◌, length, drop, get_or, arith, ⊎_elim, inl, inr}
+use Rattle.std.specs.Prelude.{Bool, true, false, cond}
 use Rattle.std.proofs.lemmas.Bool.{cases_lt}
+use Rattle.std.proofs.lemmas.List.{drop_more}
 use Rattle.flow_path.specs.declared.step.How.{How}
 use Rattle.flow_path.specs.declared.cost.Cost.{Cost}
-use Rattle.flow_path.specs.Chains.{is_faint}
-use Rattle.flow_path.specs.Costs.{nothing_yet, add, plus, IsLe, IsLess}
+use Rattle.flow_path.specs.declared.step.Step.{Step}
+use Rattle.flow_path.specs.Chains.{is_faint, faint_in}
+use Rattle.flow_path.specs.Costs.{nothing_yet, add, cost_of, plus, IsLe, IsLess}
 
 pub le_refl : (a : Cost) → IsLe a a
 le_refl a = inr (refl, omega arith)
@@ -138,3 +140,17 @@ plus_back a b c h = ⊎_elim
 
 pub cost_is : (a b : Cost) → a.faint ≡ b.faint → a.steps ≡ b.steps → a ≡ b
 cost_is a b e f = ap (λ z. record { faint = z; steps = a.steps }) e ∙ ap (λ z. record { faint = b.faint; steps = z }) f
+
+-- faint steps of two chains, one after the other
+pub faint_append : (xs ys : List Step) → faint_in (xs ++ ys) ≡ faint_in xs + faint_in ys
+faint_append [] ys = omega arith
+faint_append (x ∷ xs) ys = let h = faint_append xs ys in omega (arith, h)
+
+-- one step more in front
+cost_cons : (x : Step) (xs : List Step) → cost_of (x ∷ xs) ≡ add (cost_of xs) x.part.how
+cost_cons x xs = let e : length (x ∷ xs) ≡ 1 + length xs = omega arith in cost_is (cost_of (x ∷ xs)) (add (cost_of xs) x.part.how) refl e
+
+pub cost_more : (xs : List Step) (i : ℕ) (x : Step) (c d : Cost) → i < length xs → c ≡ cost_of (drop (i + 1) xs) → d ≡ add c (get_or xs i x).part.how
+    → d ≡ cost_of (drop i xs)
+cost_more xs i x c d h e f =
+    f ∙ ap (λ z. add z (get_or xs i x).part.how) e ∙ sym (ap cost_of (drop_more xs i x h) ∙ cost_cons (get_or xs i x) (drop (i + 1) xs))

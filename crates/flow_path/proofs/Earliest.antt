@@ -8,8 +8,10 @@ use Rattle.timing_types.specs.declared.rule.TypeFault.{TypeFault}
 use Rattle.flow_path.specs.declared.step.Step.{Step}
 use Rattle.flow_path.specs.Steps.{steps_of}
 use Rattle.flow_path.specs.Chains.{IsReason, CostsNoMore}
+use Rattle.flow_path.specs.Costs.{cost_of}
 use Rattle.flow_path.specs.Told.{StandsFirst, IsTold}
-use Rattle.flow_path.proofs.Chaining.{append_one}
+use Rattle.flow_path.proofs.Costing.{le_both}
+use Rattle.flow_path.proofs.Lists.{append_one}
 
 -- two lists that are one, by where their middles stand
 front : (a c b d : List Step) (x y : Step) → a ++ (x ∷ b) ≡ c ++ (y ∷ d) → length a < length c → Contains c x
@@ -59,27 +61,42 @@ last_of (suc n) (x ∷ (y ∷ ys)) e =
     let r = last_of n (y ∷ ys) (omega (arith, e)) in
     record { before = x ∷ r.before; step = r.step; is = ap (λ z. x ∷ z) r.is; count = ap suc r.count }
 
-module _ (s : Syntax) (fault : TypeFault) (xs ys : List Step) (a : IsTold s fault xs) (b : IsTold s fault ys) where
-  same : (n : ℕ) (before other after : List Step) → xs ≡ before ++ after → ys ≡ other ++ after → length before ≡ n → length other ≡ n → xs ≡ ys
-  same zero [] [] after e f l m = e ∙ sym f
-  same zero (x ∷ before) other after e f l m = absurd (omega (arith, l))
-  same zero [] (y ∷ other) after e f l m = absurd (omega (arith, m))
-  same (suc n) before other after e f l m =
-      let p = last_of n before l in
-      let q = last_of n other m in
-      let px : xs ≡ p.before ++ (p.step ∷ after) = e ∙ ap (λ z. z ++ after) p.is ∙ append_one p.before p.step after in
-      let qy : ys ≡ q.before ++ (q.step ∷ after) = f ∙ ap (λ z. z ++ after) q.is ∙ append_one q.before q.step after in
-      let one = a.earliest p.before q.before after p.step q.step px (subst (λ z. IsReason s fault z) qy b.reason)
-      (subst (λ z. CostsNoMore z xs) qy (b.cheapest xs a.reason)) in
-      let two = b.earliest q.before p.before after q.step p.step qy (subst (λ z. IsReason s fault z) px a.reason)
-      (subst (λ z. CostsNoMore z ys) px (a.cheapest ys b.reason)) in
-      let here : p.step ≡ q.step = both_first (steps_of s) p.step q.step one two in
-      same n p.before q.before (p.step ∷ after) px (subst (λ z. ys ≡ q.before ++ (z ∷ after)) (sym here) qy) p.count q.count
+module _ (s : Syntax) (R : List Step → Type 0) where
+  -- of the chains of a kind none is cheaper, and of those that are as cheap it is the earliest
+  pub record Chosen (chain : List Step) : Type 0 where
+    pub kind : R chain
+    pub cheapest : (other : List Step) → R other → CostsNoMore chain other
+    pub earliest : (before other after : List Step) (x y : Step) → chain ≡ before ++ (x ∷ after) → R (other ++ (y ∷ after))
+        → CostsNoMore (other ++ (y ∷ after)) chain → StandsFirst (steps_of s) x y
+
+  module _ (xs ys : List Step) (a : Chosen xs) (b : Chosen ys) where
+    same : (n : ℕ) (before other after : List Step) → xs ≡ before ++ after → ys ≡ other ++ after → length before ≡ n → length other ≡ n → xs ≡ ys
+    same zero [] [] after e f l m = e ∙ sym f
+    same zero (x ∷ before) other after e f l m = absurd (omega (arith, l))
+    same zero [] (y ∷ other) after e f l m = absurd (omega (arith, m))
+    same (suc n) before other after e f l m =
+        let p = last_of n before l in
+        let q = last_of n other m in
+        let px : xs ≡ p.before ++ (p.step ∷ after) = e ∙ ap (λ z. z ++ after) p.is ∙ append_one p.before p.step after in
+        let qy : ys ≡ q.before ++ (q.step ∷ after) = f ∙ ap (λ z. z ++ after) q.is ∙ append_one q.before q.step after in
+        let one = a.earliest p.before q.before after p.step q.step px (subst (λ z. R z) qy b.kind)
+        (subst (λ z. CostsNoMore z xs) qy (b.cheapest xs a.kind)) in
+        let two = b.earliest q.before p.before after q.step p.step qy (subst (λ z. R z) px a.kind)
+        (subst (λ z. CostsNoMore z ys) px (a.cheapest ys b.kind)) in
+        let here : p.step ≡ q.step = both_first (steps_of s) p.step q.step one two in
+        same n p.before q.before (p.step ∷ after) px (subst (λ z. ys ≡ q.before ++ (z ∷ after)) (sym here) qy) p.count q.count
+
+    -- two that are chosen are the same
+    pub chosen_one : xs ≡ ys
+    chosen_one = same (length xs) xs ys [] (end xs) (end ys) refl (sym (le_both (cost_of xs) (cost_of ys) (a.cheapest ys b.kind) (b.cheapest xs a.kind)).1)
+      where
+        end : (zs : List Step) → zs ≡ zs ++ []
+        end [] = refl
+        end (z ∷ zs) = ap (λ w. z ∷ w) (end zs)
 
 -- two chains that are told of a refusal are the same
-pub told_one : (s : Syntax) (fault : TypeFault) (xs ys : List Step) → IsTold s fault xs → IsTold s fault ys → length xs ≡ length ys → xs ≡ ys
-told_one s fault xs ys a b l = same s fault xs ys a b (length xs) xs ys [] (end xs) (end ys) refl (sym l)
+pub told_one : (s : Syntax) (fault : TypeFault) (xs ys : List Step) → IsTold s fault xs → IsTold s fault ys → xs ≡ ys
+told_one s fault xs ys a b = chosen_one s (IsReason s fault) xs ys (chosen xs a) (chosen ys b)
   where
-    end : (zs : List Step) → zs ≡ zs ++ []
-    end [] = refl
-    end (z ∷ zs) = ap (λ w. z ∷ w) (end zs)
+    chosen : (zs : List Step) → IsTold s fault zs → Chosen s (IsReason s fault) zs
+    chosen zs h = record { kind = h.reason; cheapest = h.cheapest; earliest = h.earliest }

@@ -1,5 +1,5 @@
 -- The first of the cheapest items of a list.
-use Rattle.std.proofs.Common.{◌≡◌, ℕ, zero, suc, ◌<◌, ◌+◌, refl, sym, ap, ◌∙◌, subst, List, [], ◌∷◌, ◌++◌, map, length, arith, append_assoc, append-nil}
+use Rattle.std.proofs.Common.{◌≡◌, ℕ, zero, suc, ◌<◌, refl, sym, ap, ◌∙◌, subst, List, [], ◌∷◌, ◌++◌, map, length, arith, append_assoc, append-nil}
 use Rattle.std.proofs.Common.{⊎_elim, replicate, slice_set, length-set, get_or-set_same, get_or-set_other}
 use Rattle.std.specs.Prelude.{Option, None, Some, Contains, slice_index_or}
 use Rattle.std.proofs.lemmas.Option.{none-some, same_Some}
@@ -12,7 +12,7 @@ use Rattle.flow_path.specs.declared.step.Spot.{Spot}
 use Rattle.text_base.specs.declared.pos.Pos.{Pos}
 use Rattle.timing_types.specs.declared.rule.Rule.{Rule}
 use Rattle.mit_syntax.specs.Program.{Syntax}
-use Rattle.flow_path.specs.declared.step.Spot.TheVariants.{Variable}
+use Rattle.flow_path.specs.declared.step.Spot.TheVariants.{Variable, Command, Level}
 use Rattle.flow_path.specs.declared.cost.Cost.{Cost}
 use Rattle.flow_path.specs.declared.target.Target.{Target}
 use Rattle.flow_path.specs.declared.best.Best.{Best}
@@ -22,7 +22,15 @@ use Rattle.flow_path.specs.Steps.{to}
 use Rattle.flow_path.specs.Costs.{IsLe, IsLess}
 use Rattle.flow_path.specs.Distances.{IsFirst, HaveNone, cost_to, and_then, PartCosts, SideCosts, GoalCosts, IsBest, best_by, IsFound, AreSides}
 use Rattle.flow_path.proofs.Costing.{le_refl, le_trans, less_le, less_then}
-use Rattle.flow_path.proofs.Searching.{same_variable}
+
+number_of : Spot → ℕ
+number_of (Variable y) = y
+number_of (Command l) = 0
+number_of (Level k l) = 0
+
+same_variable : (y z : ℕ) → Variable y ≡ Variable z → y ≡ z
+unfolding number_of
+same_variable y z e = ap number_of e
 
 map_append : {A : Type 0} {B : Type 0} (g : A → B) (xs ys : List A) → map g (xs ++ ys) ≡ map g xs ++ map g ys
 map_append g [] ys = refl

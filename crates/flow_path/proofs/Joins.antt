@@ -1,13 +1,14 @@
 -- Joins of the labels of origins, and which of them can be left out.
-use Rattle.std.proofs.Common.{◌≡◌, ℕ, zero, suc, ◌+◌, ◌<◌, refl, sym, ap, ◌∙◌, subst, List, [], ◌∷◌, ◌++◌, length, get_or, drop, arith, inl, inr}
-use Rattle.std.specs.Prelude.{All, Contains, ◌⊎◌}
+use Rattle.std.proofs.Common.{◌≡◌, ℕ, zero, suc, ◌+◌, ◌<◌, refl, sym, ap, ◌∙◌, subst, List, [], ◌∷◌, ◌++◌, length, get_or, drop, arith, inl, inr, append-nil}
+use Rattle.std.specs.Prelude.{Bool, true, false, cond, All, Contains, ◌⊎◌}
 use Rattle.std.specs.List.{insert}
 use Rattle.std.proofs.lemmas.List.{drop_more}
 use Rattle.label_lattice.specs.Lattice.{Lattice, Flows, IsLattice}
 use Rattle.flow_path.specs.declared.origins.Origin.{Origin}
 use Rattle.flow_path.specs.Search.{Every}
-use Rattle.flow_path.specs.Origins.{joined, AreNeeded}
-use Rattle.flow_path.specs.Telling.{IsSifted}
+use Rattle.flow_path.specs.Origins.{joined, AreNeeded, needed_after}
+use Rattle.flow_path.specs.Collecting.{IsSifted}
+use Rattle.flow_path.proofs.Lists.{append_one}
 
 -- lists by their items
 pub every_parts : {A : Type 0} (P : A → Type 0) (xs ys : List A) → Every P (xs ++ ys) → Every P xs × Every P ys
@@ -78,6 +79,10 @@ pub join_more : (lat : Lattice) (ws : List Origin) (i : ℕ) (w : Origin) (a b :
     → b ≡ lat.join (get_or ws i w).label.number a → b ≡ joined lat (drop i ws)
 join_more lat ws i w a b h e f = f ∙ ap (λ z. lat.join (get_or ws i w).label.number z) e ∙ sym (ap (λ z. joined lat z) (drop_more ws i w h))
 
+false_is : (b : Bool) → (b ≡ true → ⊥) → b ≡ false
+false_is true h = absurd (h refl)
+false_is false h = refl
+
 module _ (lat : Lattice) (ll : IsLattice lat) where
   abbrev Low : ℕ → Origin → Type 0
   Low c w = Flows lat w.label.number c
@@ -111,15 +116,20 @@ module _ (lat : Lattice) (ll : IsLattice lat) where
         join = ll.anti (lat.join a lat.bottom) a (ll.least a lat.bottom a (ll.same a) (ll.lowest a)) (ll.left a lat.bottom);
         lefts = every_self all;
         kepts = tt;
+        rest = [];
+        is = sym (append-nil all);
+        same = refl;
       }
 
   pub sift_ends : (all kept : List Origin) → IsSifted lat all [] kept → AreNeeded lat kept × (joined lat kept ≡ joined lat all) × All (Contains all) kept
+      × (kept ≡ needed_after lat lat.bottom all)
   sift_ends all kept S =
       let k = joined lat kept in (
         λ before after w e f. let o = joined lat (before ++ after) in
             S.needed before after w e (ll.chain w.label.number o (lat.join lat.bottom o) f (ll.right lat.bottom o)),
         ll.anti k (lat.join lat.bottom k) (ll.right lat.bottom k) (ll.least lat.bottom k k (ll.lowest k) (ll.same k)) ∙ S.join,
         every_all (Contains all) kept S.kepts,
+        S.same ∙ ap (λ z. needed_after lat lat.bottom z) (sym S.is),
       )
 
   -- the last of those that are left
@@ -151,6 +161,20 @@ module _ (lat : Lattice) (ll : IsLattice lat) where
     last : Contains all w
     last = (every_parts (Contains all) less (w ∷ []) (subst (λ z. Every (Contains all) z) is S.lefts)).1.0
 
+    rest_is : all ≡ less ++ (w ∷ S.rest)
+    rest_is = S.is ∙ ap (λ z. z ++ S.rest) is ∙ append_one less w S.rest
+
+    left_is : joined lat left ≡ lat.join (joined lat less) w.label.number
+    left_is = ll.anti l (lat.join m a) (left_low (lat.join m a) (ll.left m a) (ll.right m a)) (ll.least m a l less_low last_low)
+
+    -- whether it can be left out
+    step : (b : Bool) → lat.flows w.label.number (lat.join (joined lat less) (joined lat kept)) ≡ b
+        → cond b kept (w ∷ kept) ≡ needed_after lat (joined lat less) (w ∷ S.rest)
+    step b f =
+        ap (λ z. cond z kept (w ∷ kept)) (sym f)
+        ∙ ap (λ z. cond (lat.flows w.label.number (lat.join (joined lat less) (joined lat z))) z (w ∷ z))
+        (S.same ∙ ap (λ z. needed_after lat z S.rest) left_is)
+
     -- it can be left out
     pub sift_drops : Flows lat w.label.number (lat.join (joined lat less) (joined lat kept)) → IsSifted lat all less kept
     sift_drops f =
@@ -166,6 +190,9 @@ module _ (lat : Lattice) (ll : IsLattice lat) where
               ∙ S.join;
           lefts = lefts;
           kepts = S.kepts;
+          rest = w ∷ S.rest;
+          is = rest_is;
+          same = step true f;
         }
 
     -- it is kept
@@ -184,6 +211,9 @@ module _ (lat : Lattice) (ll : IsLattice lat) where
               ∙ S.join;
           lefts = lefts;
           kepts = (last, S.kepts);
+          rest = w ∷ S.rest;
+          is = rest_is;
+          same = step false (false_is (lat.flows w.label.number (lat.join (joined lat less) (joined lat kept))) high);
         }
       where
         go : (before after : List Origin) (v : Origin) → w ∷ kept ≡ before ++ (v ∷ after)

@@ -2,7 +2,6 @@
 use Rattle.std.proofs.Common.{◌≡◌, ℕ, ◌+◌, ◌<◌, refl, sym, ap, ◌∙◌, subst, List, [], ◌∷◌, ◌++◌, length, arith, length-append}
 use Rattle.std.specs.Prelude.{Bool, true, false, cond, Option, None, Some, Contains, slice_index_or}
 use Rattle.std.proofs.lemmas.Option.{none-some, same_Some}
-use Rattle.mit_syntax.specs.Declarations.{variables}
 use Rattle.mit_syntax.specs.Program.{Syntax, plan_of}
 use Rattle.mit_syntax.specs.Valid.{IsValid}
 use Rattle.label_infer.specs.Given.{written_levels}
@@ -25,8 +24,8 @@ use Rattle.flow_path.proofs.Base.{each_at}
 use Rattle.flow_path.proofs.Proper.{Own, IsOwn}
 use Rattle.flow_path.proofs.Found.{own}
 use Rattle.flow_path.proofs.Writings.{omitted_within}
-use Rattle.flow_path.proofs.Costing.{le_is, le_trans, plus_le, plus_back, not_less, cost_is}
-use Rattle.flow_path.proofs.Chaining.{faint_append, append_one}
+use Rattle.flow_path.proofs.Costing.{le_is, le_trans, plus_le, plus_back, not_less, cost_is, faint_append}
+use Rattle.flow_path.proofs.Lists.{append_one}
 use Rattle.flow_path.proofs.Settling.{first_in, step_from, found_first, found_some}
 
 plus_cons : (c : Cost) (x : Step) (xs : List Step) → plus (add c x.part.how) (cost_of xs) ≡ plus c (cost_of (x ∷ xs))

@@ -13,8 +13,6 @@ use Rattle.timing_types.specs.declared.rule.TypeFault.TheVariants.{Refused}
 use Rattle.label_infer.proofs.Right.{Each}
 use Rattle.flow_path.specs.declared.step.Spot.{Spot}
 use Rattle.flow_path.specs.declared.step.Step.{Step}
-use Rattle.flow_path.specs.declared.graph.Node.{Node}
-use Rattle.flow_path.specs.declared.graph.Condition.{Condition}
 use Rattle.flow_path.specs.declared.target.Target.TheVariants.{Broken}
 use Rattle.flow_path.specs.Steps.{written, steps_of}
 use Rattle.flow_path.specs.Chains.{Leads, last_step, GoesBy, GoesByOmitted, IsReason}
@@ -38,9 +36,9 @@ last_side s p [] q st l e = absurd (none-some st e)
 last_side s p (x ∷ []) q st l e = ap (λ (z : Step). z.side) (sym (same_Some x st e)) ∙ l.2
 last_side s p (x ∷ (y ∷ xs)) q st l e = last_side s x.side (y ∷ xs) q st l.2 e
 
-module _ (s : Syntax) (ns : List Node) (cs : List Condition) (rule : Rule) (pos : Pos) (have allowed : Label) where
+module _ (s : Syntax) (rule : Rule) (pos : Pos) (have allowed : Label) where
   abbrev x : Where
-  x = record { program = s; nodes = ns; conditions = cs; target = Broken rule pos allowed }
+  x = record { program = s; target = Broken rule pos allowed }
 
   record Whole (chain : List Step) (p : Spot) : Type 0 where
     pub last : Spot

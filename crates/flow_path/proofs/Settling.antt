@@ -5,7 +5,6 @@ use Rattle.std.specs.Prelude.{Bool, true, false, cond, Option, None, Some, IfSom
 use Rattle.std.proofs.lemmas.Option.{none-some, same_Some}
 use Rattle.std.proofs.lemmas.Bool.{cases_lt, cases_eq}
 use Rattle.std.proofs.lemmas.List.Elements.{Contains-append_right}
-use Rattle.mit_syntax.specs.Declarations.{variables}
 use Rattle.mit_syntax.specs.Program.{Syntax}
 use Rattle.flow_path.specs.declared.step.How.{How}
 use Rattle.flow_path.specs.declared.step.Spot.{Spot}
@@ -22,8 +21,7 @@ use Rattle.flow_path.specs.Targets.{is_high}
 use Rattle.flow_path.specs.Distances.{IsFirst, cost_by, cost_to, and_then, PartCosts, SideCosts, count_none, IsKnownOf}
 use Rattle.flow_path.specs.Distances.{AreFew, AreStarts, IsFound, AreSides, IsNew, IsNewAt, IsLeastNew, IsSetBy, IsDistance, AreSettled, Agrees}
 use Rattle.flow_path.proofs.Writings.{omitted_within}
-use Rattle.flow_path.proofs.Searching.{get_same}
-use Rattle.flow_path.proofs.Indexing.{get_before, get_end}
+use Rattle.flow_path.proofs.Lists.{get_same, get_before, get_end}
 use Rattle.flow_path.proofs.Costing.{le_is, le_trans, le_more, less_le, faint_add, nothing_le, le_both, cost_is}
 
 -- an item that the front of a list ends by is in it

@@ -1,10 +1,10 @@
 -- The chains to one spot, as they are told.
-use Rattle.std.proofs.Common.{◌≡◌, ℕ, refl, sym, ap, ◌∙◌, subst, List, [], ◌∷◌, ◌++◌, arith, ⊎_elim}
+use Rattle.std.proofs.Common.{◌≡◌, ℕ, ◌<◌, refl, sym, ap, ◌∙◌, subst, List, [], ◌∷◌, ◌++◌}
 use Rattle.std.specs.Prelude.{Option, None, Some, true, false, is_some, option_map, All, Contains, ◌↔◌}
-use Rattle.std.proofs.lemmas.Bool.{both_ways}
+use Rattle.std.proofs.lemmas.Bool.{both_ways, eq-eqb, eqb-true}
 use Rattle.std.proofs.lemmas.Option.{none-some, slice_get-get_or}
 use Rattle.label_lattice.specs.declared.label.Label.{Label}
-use Rattle.label_lattice.specs.Lattice.{Lattice, Flows, IsLattice}
+use Rattle.label_lattice.specs.Lattice.{Flows, IsLattice}
 use Rattle.label_lattice.specs.Order.{lattice_of}
 use Rattle.mit_syntax.specs.Program.{Syntax, plan_of}
 use Rattle.mit_syntax.specs.Valid.{IsValid}
@@ -15,71 +15,21 @@ use Rattle.label_infer.proofs.Completed.{lattice_laws}
 use Rattle.flow_path.specs.declared.step.Spot.{Spot}
 use Rattle.flow_path.specs.declared.step.Spot.TheVariants.{Variable, Command, Level}
 use Rattle.flow_path.specs.declared.step.Step.{Step}
-use Rattle.flow_path.specs.declared.graph.Node.{Node}
-use Rattle.flow_path.specs.declared.graph.Condition.{Condition}
-use Rattle.flow_path.specs.declared.search.Heads.{Heads}
+use Rattle.flow_path.specs.declared.sides.Sides.{Sides}
 use Rattle.flow_path.specs.declared.origins.Origin.{Origin}
-use Rattle.flow_path.specs.declared.target.Target.TheVariants.{Omitted}
+use Rattle.flow_path.specs.declared.target.Target.TheVariants.{From}
 use Rattle.flow_path.specs.Steps.{written, steps_of}
-use Rattle.flow_path.specs.Chains.{Leads, Brings, ComesFrom}
-use Rattle.flow_path.specs.Costs.{cost_of, IsLe}
-use Rattle.flow_path.specs.Search.{Where, State, Every, Goes, BeginsAt, IsReady, IsNextStart, AreAllTold}
-use Rattle.flow_path.specs.Origins.{IsOmitted, label_there, joined, IsOrigin}
-use Rattle.flow_path.specs.Telling.{Tells, covered, told, IsCheapest, AreTold, AreAll}
+use Rattle.flow_path.specs.Chains.{Leads, Brings, ComesFrom, CostsNoMore}
+use Rattle.flow_path.specs.Search.{Where, Every, Goes, BeginsAt}
+use Rattle.flow_path.specs.Distances.{AreSettled, IsPicked, StartsWritten}
+use Rattle.flow_path.specs.Origins.{IsOmitted, label_there, joined, IsOrigin, IsEarliestFrom, AreAll}
 use Rattle.flow_path.proofs.Base.{each_at}
 use Rattle.flow_path.proofs.Proper.{Proper, IsProper}
-use Rattle.flow_path.proofs.Found.{proper}
+use Rattle.flow_path.proofs.Rise.{Small}
+use Rattle.flow_path.proofs.Found.{proper, small, closed, ll as lattice_is}
 use Rattle.flow_path.proofs.Complete.{variable_from, level_from}
-use Rattle.flow_path.proofs.Joins.{every_join, every_map, every_in, in_cons, every_all, all_every, joined_least, joined_left, joined_last}
-
-nothing_told : (b : ℕ) → Contains [] b → ⊥
-nothing_told b c = let l = c.1 in omega (arith, l)
-
-pub told_first : (x : Where) (st : State) (h : Heads) → IsReady x st h [] → AreTold x st h []
-told_first x st h r = record { labels = []; ready = r; flow = λ b c. absurd (nothing_told b c); told = tt }
-
--- one chain more
-pub told_more : (x : Where) → IsLattice (lattice_of x.program.order)
-    → (st st' : State) (h h' : Heads) (ws ws' : List Origin) (k : ℕ) (T : AreTold x st h ws) (n : IsNextStart x st' h' T.labels k) →
-    Tells x (lattice_of x.program.order) n.link n.have ws ws' → AreTold x st' h' ws'
-told_more x ll st st' h h' ws ws' k T n t = go t
-  where
-    lat : Lattice
-    lat = lattice_of x.program.order
-
-    flows : (vs : List Origin) → Flows (lattice_of x.program.order) n.have (joined (lattice_of x.program.order) vs)
-        → Flows (lattice_of x.program.order) (joined (lattice_of x.program.order) ws) (joined (lattice_of x.program.order) vs) →
-        (b : ℕ) → Contains (n.have ∷ T.labels) b → Flows (lattice_of x.program.order) b (joined (lattice_of x.program.order) vs)
-    flows vs f g b c =
-        let J = joined (lattice_of x.program.order) vs in
-        ⊎_elim
-        (λ (e : n.have ≡ b). subst (λ z. Flows (lattice_of x.program.order) z J) e f)
-        (λ (e : Contains T.labels b). ll.chain b (joined (lattice_of x.program.order) ws) J (T.flow b e) g)
-        (in_cons n.have T.labels b c)
-
-    go : Tells x (lattice_of x.program.order) n.link n.have ws ws' → AreTold x st' h' ws'
-    go (covered f e) = subst (λ z. AreTold x st' h' z) (sym e)
-        (record { labels = n.have ∷ T.labels; ready = n.ready; flow = flows ws f (ll.same (joined (lattice_of x.program.order) ws)); told = T.told })
-    go (told w high e same way) = subst (λ z. AreTold x st' h' z) (sym e)
-        (record {
-          labels = n.have ∷ T.labels;
-          ready = n.ready;
-          flow = flows (ws ++ (w ∷ [])) (subst (λ z. Flows (lattice_of x.program.order) z (joined (lattice_of x.program.order) (ws ++ (w ∷ [])))) same
-              (joined_last (lattice_of x.program.order) ll ws w)) (joined_left (lattice_of x.program.order) ll ws (w ∷ []));
-          told = every_join (IsCheapest x) ws (w ∷ []) T.told (one, tt);
-        })
-      where
-        one : IsCheapest x w
-        one = record {
-          goes = way.goes;
-          begins = subst (λ z. BeginsAt x w.chain.items z) (sym same) (subst (λ z. BeginsAt x z n.have) (sym way.begins) (n.begins, n.high));
-          cheapest = λ q g b. subst (λ z. IsLe z (cost_of q)) (sym way.cost)
-              (n.cheapest q w.label.number g b
-              (λ c. high (subst (λ z. Flows (lattice_of x.program.order) z (joined (lattice_of x.program.order) ws)) same (T.flow w.label.number c))));
-        }
-
-pub told_all : (x : Where) (st : State) (h : Heads) (ws : List Origin) (T : AreTold x st h ws) → AreAllTold x T.labels → AreAll x ws
-told_all x st h ws T a = record { told = T.told; all = λ q b g i. T.flow b (a q b g i) }
+use Rattle.flow_path.proofs.Joins.{every_map, every_in, every_all, all_every, joined_least, joined_parts}
+use Rattle.flow_path.proofs.Picking.{goes, starts, cheapest, earliest, goal_is}
 
 -- whether the program writes a label there
 pub free_is : (s : Syntax) (p : Spot) (o : Option Label) → written s p ≡ option_map (λ (l : Label). l.number) o → is_some o ≡ false → written s p ≡ None
@@ -96,89 +46,132 @@ omitted_written s (Command l) h = absurd h
 omitted_written s (Level k None) h = refl
 omitted_written s (Level k (Some l)) h = absurd h
 
-module _ (s : Syntax) (valid : IsValid s) (ns : List Node) (cs : List Condition) (spot : Spot) (free : written s spot ≡ None) where
-  abbrev x : Where
-  x = record { program = s; nodes = ns; conditions = cs; target = Omitted spot }
-
+module _ (s : Syntax) (valid : IsValid s) (spot : Spot) (free : written s spot ≡ None) where
   abbrev Free : Step → Type 0
   Free st = written s st.side ≡ None
 
-  whole : (t : Step) (ts : List Step) → Goes x (t ∷ ts) → Leads s t.part.spot (t ∷ ts) spot × Every Free (t ∷ ts)
-  whole t [] g = ((g.0, refl, g.1), (ap (λ z. written s z) g.1 ∙ free, tt))
-  whole t (u ∷ ts) g = let r = whole u ts g.3 in ((g.0, refl, subst (λ z. Leads s z (u ∷ ts) spot) g.2 r.0), (g.1, r.1))
+  -- the chains from one label
+  module _ (label : Label) where
+    abbrev x : Where
+    x = record { program = s; target = From spot label }
 
-  brings_of : (chain : List Step) (a : ℕ) → Goes x chain → BeginsAt x chain a → Brings s spot a chain
-  brings_of [] a g b = absurd g
-  brings_of (t ∷ ts) a g b = let r = whole t ts g in record { first = t.part.spot; begins = b.0; leads = r.0; omitted = every_all Free (t ∷ ts) r.1 }
+    whole : (t : Step) (ts : List Step) → Goes x (t ∷ ts) → Leads s t.part.spot (t ∷ ts) spot × Every Free (t ∷ ts)
+    whole t [] g = ((g.0, refl, g.1), (ap (λ z. written s z) g.1 ∙ free, tt))
+    whole t (u ∷ ts) g = let r = whole u ts g.3 in ((g.0, refl, subst (λ z. Leads s z (u ∷ ts) spot) g.2 r.0), (g.1, r.1))
 
-  goes_on : (p : Spot) (t : Step) (ts : List Step) → Leads s p (t ∷ ts) spot → Every Free (t ∷ ts) → Goes x (t ∷ ts)
-  goes_on p t [] l o = (l.0, l.2)
-  goes_on p t (u ∷ ts) l o = (l.0, o.0, l.2.1, goes_on t.side u ts l.2 o.1)
+    brings_of : (chain : List Step) (a : ℕ) → Goes x chain → BeginsAt x chain a → Brings s spot a chain
+    brings_of [] a g b = absurd g
+    brings_of (t ∷ ts) a g b = let r = whole t ts g in record { first = t.part.spot; begins = b.0; leads = r.0; omitted = every_all Free (t ∷ ts) r.1 }
 
-  goes_of : (chain : List Step) (a : ℕ) → Brings s spot a chain → Goes x chain × BeginsAt x chain a
-  goes_of [] a b = absurd (none-some a (sym free ∙ sym (ap (λ z. written s z) b.leads) ∙ b.begins))
-  goes_of (t ∷ ts) a b = (goes_on b.first t ts b.leads (all_every Free (t ∷ ts) b.omitted), (ap (λ z. written s z) b.leads.1 ∙ b.begins, refl))
+    begins_same : (chain : List Step) (a : ℕ) → BeginsAt x chain a → a ≡ label.number
+    begins_same [] a b = absurd b
+    begins_same (t ∷ ts) a b = eqb-true a label.number b.1
 
-  origin_is : (w : Origin) → IsCheapest x w → IsOrigin s spot w
-  origin_is w h = record {
-    brings = brings_of w.chain.items w.label.number h.goes h.begins;
-    cheapest = λ other b. let g =
-        goes_of other w.label.number b in h.cheapest other g.0 g.1;
-  }
+    goes_on : (p : Spot) (t : Step) (ts : List Step) → Leads s p (t ∷ ts) spot → Every Free (t ∷ ts) → Goes x (t ∷ ts)
+    goes_on p t [] l o = (l.0, l.2)
+    goes_on p t (u ∷ ts) l o = (l.0, o.0, l.2.1, goes_on t.side u ts l.2 o.1)
 
-  pub origins_are : (ws kept : List Origin) → AreAll x ws → All (Contains ws) kept → All (IsOrigin s spot) kept
-  origins_are ws kept A c =
-      every_all (IsOrigin s spot) kept (every_map (Contains ws) (IsOrigin s spot) (λ w h. origin_is w (every_in (IsCheapest x) ws w A.told h)) kept
-      (all_every (Contains ws) kept c))
+    goes_of : (chain : List Step) → Brings s spot label.number chain → Goes x chain × BeginsAt x chain label.number
+    goes_of [] b = absurd (none-some label.number (sym free ∙ sym (ap (λ z. written s z) b.leads) ∙ b.begins))
+    goes_of (t ∷ ts) b = (
+      goes_on b.first t ts b.leads (all_every Free (t ∷ ts) b.omitted),
+      (ap (λ z. written s z) b.leads.1 ∙ b.begins, eq-eqb label.number label.number refl),
+    )
 
-  -- a chain leads to an omitted label
-  last_of : (t : Step) (ts : List Step) → Goes x (t ∷ ts) → (st : Step) × Contains (steps_of s) st × (st.side ≡ spot)
-  last_of t [] g = (t, g.0, g.1)
-  last_of t (u ∷ ts) g = last_of u ts g.3
+    -- a chain of which each step is picked is the one from its label
+    pub origin_is : (v : Sides) → AreSettled s (From spot label) v → (chain : List Step) → IsPicked s v chain → StartsWritten s chain → (w : Origin)
+        → w.label ≡ label → w.chain.items ≡ chain → IsOrigin s spot w
+    origin_is v A chain p i w same is =
+        let g = goes x valid v A chain p in
+        let b = starts x valid v A chain p i in
+        let at : b.0 ≡ label.number = begins_same chain b.0 b.1 in
+        let number : label.number ≡ w.label.number = ap (λ (z : Label). z.number) (sym same) in
+        let low : (other : List Step) → Brings s spot label.number other → CostsNoMore chain other =
+        λ other h. let k = goes_of other h in cheapest x valid v A chain p b.0 b.1 other label.number k.0 k.1 in
+        let early : IsEarliestFrom s spot label.number chain =
+        λ before other after y z e h l.
+        let k = goes_of (other ++ (z ∷ after)) h in
+        earliest x valid v A chain p b.0 b.1 before other after y z label.number e k.0 k.1 l in
+        record {
+          brings = subst (λ z. Brings s spot w.label.number z) (sym is)
+              (subst (λ z. Brings s spot z chain) (at ∙ number) (brings_of chain b.0 g b.1));
+          cheapest = subst (λ z. (other : List Step) → Brings s spot w.label.number other → CostsNoMore z other) (sym is)
+              (subst (λ z. (other : List Step) → Brings s spot z other → CostsNoMore chain other) number low);
+          earliest = subst (λ z. IsEarliestFrom s spot w.label.number z) (sym is) (subst (λ z. IsEarliestFrom s spot z chain) number early);
+        }
 
-  is_omitted : (p : Spot) → written s p ≡ None → Proper s.order.size (written_levels (plan_of s)) p → IsOmitted s p
-  is_omitted (Variable y) f h = f
-  is_omitted (Command l) f h = none-some l.number (sym f)
-  is_omitted (Level k None) f h = slice_get-get_or (written_levels (plan_of s)) k None h.0 ∙ ap Some h.1
-  is_omitted (Level k (Some l)) f h = none-some l.number (sym f)
+    -- where none is found there is none
+    pub none_from : (v : Sides) → AreSettled s (From spot label) v → v.goal ≡ None → ComesFrom s spot label.number → ⊥
+    none_from v A e c =
+        let k = goes_of c.0 c.1 in
+        goal_is x valid v A (record { chain = c.0; have = label.number; goes = k.0; begins = k.1 }) e
 
-  goes_omitted : (chain : List Step) → Goes x chain → IsOmitted s spot
-  goes_omitted [] g = absurd g
-  goes_omitted (t ∷ ts) g =
-      let r = last_of t ts g in
-      is_omitted spot free (subst (λ z. Proper s.order.size (written_levels (plan_of s)) z) r.2
-      (each_at (IsProper s.order.size (written_levels (plan_of s))) (steps_of s) r.0 (proper s valid) r.1).1)
+    -- a chain leads to an omitted label
+    last_of : (t : Step) (ts : List Step) → Goes x (t ∷ ts) → (st : Step) × Contains (steps_of s) st × (st.side ≡ spot)
+    last_of t [] g = (t, g.0, g.1)
+    last_of t (u ∷ ts) g = last_of u ts g.3
 
-  none_told : (ws : List Origin) → AreAll x ws → (IsOmitted s spot → ⊥) → ws ≡ []
-  none_told [] A h = refl
-  none_told (w ∷ ws) A h = absurd (h (goes_omitted w.chain.items A.told.0.goes))
+    is_omitted : (p : Spot) → written s p ≡ None → Proper s.order.size (written_levels (plan_of s)) p → IsOmitted s p
+    is_omitted (Variable y) f h = f
+    is_omitted (Command l) f h = none-some l.number (sym f)
+    is_omitted (Level k None) f h = slice_get-get_or (written_levels (plan_of s)) k None h.0 ∙ ap Some h.1
+    is_omitted (Level k (Some l)) f h = none-some l.number (sym f)
 
-  pub none_kept : (ws kept : List Origin) → AreAll x ws → All (Contains ws) kept → (IsOmitted s spot → ⊥) → kept ≡ []
+    goes_omitted : (chain : List Step) → Goes x chain → IsOmitted s spot
+    goes_omitted [] g = absurd g
+    goes_omitted (t ∷ ts) g =
+        let r = last_of t ts g in
+        is_omitted spot free (subst (λ z. Proper s.order.size (written_levels (plan_of s)) z) r.2
+        (each_at (IsProper s.order.size (written_levels (plan_of s))) (steps_of s) r.0 (proper s valid) r.1).1)
+
+    first_small : (chain : List Step) → Brings s spot label.number chain → label.number < s.order.size
+    first_small [] b = absurd (none-some label.number (sym free ∙ sym (ap (λ z. written s z) b.leads) ∙ b.begins))
+    first_small (t ∷ ts) b =
+        each_at (Small s s.order.size (lattice_is s valid) (closed s valid)) (steps_of s) t (small s valid) b.leads.0 label.number
+        (ap (λ z. written s z) b.leads.1 ∙ b.begins)
+
+  -- a chain leads to an omitted label, from a label of the program
+  pub comes_omitted : (a : ℕ) → ComesFrom s spot a → IsOmitted s spot
+  comes_omitted a c = goes_omitted (record { number = a }) c.0 (goes_of (record { number = a }) c.0 c.1).0
+
+  pub comes_small : (a : ℕ) → ComesFrom s spot a → a < s.order.size
+  comes_small a c = first_small (record { number = a }) c.0 c.1
+
+  pub none_kept : (ws kept : List Origin) → AreAll s spot ws → All (Contains ws) kept → (IsOmitted s spot → ⊥) → kept ≡ []
   none_kept ws [] A c h = refl
   none_kept ws (w ∷ kept) A c h =
-      let e = none_told ws A h in
       let i = (all_every (Contains ws) (w ∷ kept) c).0 in
-      let l = (subst (λ z. Contains z w) e i).1 in
-      absurd (omega (arith, l))
+      let o = every_in (IsOrigin s spot) ws w (all_every (IsOrigin s spot) ws A.each) i in
+      absurd (h (comes_omitted w.label.number (w.chain.items, o.brings)))
+
+  pub origins_are : (ws kept : List Origin) → AreAll s spot ws → All (Contains ws) kept → All (IsOrigin s spot) kept
+  origins_are ws kept A c =
+      every_all (IsOrigin s spot) kept (every_map (Contains ws) (IsOrigin s spot)
+      (λ w h. every_in (IsOrigin s spot) ws w (all_every (IsOrigin s spot) ws A.each) h)
+      kept (all_every (Contains ws) kept c))
 
   -- the label in the least labelling
   module _ (l : Labelling) (least : IsLeast s l) where
     ll : IsLattice (lattice_of s.order)
     ll = lattice_laws s.order valid.order
 
-    came_from : (p : Spot) (b : ℕ) → IsOmitted s p
+    pub came_from : (p : Spot) (b : ℕ) → IsOmitted s p
         → ((a : ℕ) → ComesFrom s p a → Flows (lattice_of s.order) a b) ↔ Flows (lattice_of s.order) (label_there (record { program = s; labels = l }) p) b
     came_from (Variable y) b h = variable_from s valid l least y b
     came_from (Command m) b h = absurd h
     came_from (Level k None) b h = level_from s valid l least k b h
     came_from (Level k (Some m)) b h = absurd h
 
-    pub join_is : (ws : List Origin) → AreAll x ws → IsOmitted s spot → joined (lattice_of s.order) ws ≡ label_there (record { program = s; labels = l }) spot
+    pub join_is : (ws : List Origin) → AreAll s spot ws → IsOmitted s spot
+        → joined (lattice_of s.order) ws ≡ label_there (record { program = s; labels = l }) spot
     join_is ws A h =
         let lat = lattice_of s.order in
         let J = joined lat ws in
         let L = label_there (record { program = s; labels = l }) spot in
         ll.anti J L
-        (joined_least lat ll ws L (every_map (IsCheapest x) (λ (w : Origin). Flows (lattice_of s.order) w.label.number L)
-        (λ w t. (came_from spot L h).1 (ll.same L) w.label.number (w.chain.items, brings_of w.chain.items w.label.number t.goes t.begins)) ws A.told))
-        ((came_from spot J h).0 (λ a c. let g = goes_of c.0 a c.1 in A.all c.0 a g.0 g.1))
+        (joined_least lat ll ws L (every_map (IsOrigin s spot) (λ (w : Origin). Flows (lattice_of s.order) w.label.number L)
+        (λ w t. (came_from spot L h).1 (ll.same L) w.label.number (w.chain.items, t.brings)) ws (all_every (IsOrigin s spot) ws A.each)))
+        ((came_from spot J h).0 (λ a c.
+        let w = A.all a c in
+        subst (λ z. Flows lat z J) w.2
+        (every_in (λ (v : Origin). Flows lat v.label.number J) ws w.0 (joined_parts lat ll ws J (ll.same J)) w.1)))

@@ -2,7 +2,7 @@
 
 ghost use Rattle.std.specs.Prelude.{◌≡◌, All, Contains, IfOk};
 ghost use Rattle.label_lattice.specs.Order.{lattice_of};
-ghost use Rattle.flow_path.specs.Origins.{joined, AreNeeded};
+ghost use Rattle.flow_path.specs.Origins.{joined, AreNeeded, needed_after};
 
 use crate::origins::Origin;
 use label_lattice::label::Label;
@@ -30,6 +30,7 @@ pub(crate) fn needed(
 ) -> Result<Vec<Origin>, AllocError>
     ensures needed { IfOk result (λ ws. AreNeeded (lattice_of lattice.now) ws.items) }
     ensures join { IfOk result (λ ws. joined (lattice_of lattice.now) ws.items ≡ joined (lattice_of lattice.now) told.items) }
+    ensures is { IfOk result (λ ws. ws.items ≡ needed_after (lattice_of lattice.now) lattice.now.bottom told.items) }
     ensures among { IfOk result (λ ws. All (Contains told.items) ws.items) }
 {
     lattice.laws();

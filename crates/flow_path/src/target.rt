@@ -3,7 +3,7 @@
 ghost use Rattle.std.specs.Prelude.{◌≡◌, true, Some};
 ghost use Rattle.mit_syntax.specs.Program.{Syntax};
 ghost use Rattle.flow_path.specs.Steps.{written};
-ghost use Rattle.flow_path.specs.Targets.{IsGoalBy, is_high, leads_on};
+ghost use Rattle.flow_path.specs.Targets.{IsGoalBy, is_high};
 
 use crate::step::Spot;
 use crate::written::written_at;
@@ -13,7 +13,7 @@ use mit_syntax::program::Program;
 use text_base::pos::Pos;
 use timing_types::rule::Rule;
 
-/// Where chains are to end: at the condition that a refusal tells of, or at an omitted label.
+/// Where chains are to end: at the condition that a refusal tells of, or, those from one written label, at an omitted one.
 #[derive(Clone, Copy)]
 pub(crate) enum Target {
     Broken {
@@ -21,7 +21,10 @@ pub(crate) enum Target {
         pos: Pos,
         allowed: Label,
     },
-    Omitted(Spot),
+    From {
+        spot: Spot,
+        label: Label,
+    },
 }
 
 /// Whether a right side is that of the broken condition.
@@ -46,7 +49,7 @@ pub(crate) fn is_goal(rule: Rule, pos: Pos, side: Spot, p: &Program, target: &Ta
             pos: place,
             allowed,
         } => rule == *broken && pos == *place && is_broken(side, p, *allowed),
-        Target::Omitted(spot) => side == *spot,
+        Target::From { spot, label: _ } => side == *spot,
     }
 }
 
@@ -60,23 +63,9 @@ pub(crate) fn is_high_in(lattice: &Lattice, label: Label, target: &Target) -> bo
             pos: _,
             allowed,
         } => !lattice.flows(label, *allowed),
-        Target::Omitted(_) => true,
-    }
-}
-
-/// Whether a chain is to begin at this written label.
-pub(crate) fn is_high(p: &Program, label: Label, target: &Target) -> bool
-    ensures { result ≡ is_high p.now target.now label.number }
-{
-    is_high_in(&p.lattice(), label, target)
-}
-
-/// Whether a chain may begin there, or come from before there.
-pub(crate) fn leads_on(p: &Program, spot: &Spot, target: &Target) -> bool
-    ensures { result ≡ leads_on p.now target.now spot.now }
-{
-    match written_at(p, spot) {
-        Some(label) => is_high(p, label, target),
-        None => true,
+        Target::From {
+            spot: _,
+            label: own,
+        } => label.number == own.number,
     }
 }

@@ -43,7 +43,12 @@ fn step_to(p: &Program, all: &Sides, spot: &Spot) -> Option<Found>
 }
 
 /// The chain that ends by a step, of which each step is the first of the cheapest to where it leads.
-fn chain_to(alloc: Global, p: &Program, all: &Sides, last: Found) -> Result<Vec<Step>, AllocError>
+pub(crate) fn chain_to(
+    alloc: Global,
+    p: &Program,
+    all: &Sides,
+    last: Found,
+) -> Result<Vec<Step>, AllocError>
     requires settled { (t : ATarget) × AreSettled p.now t all.now }
     requires last { all.now.goal ≡ Some last }
     ensures { IfOk result (λ v. IsPicked p.now all.now v.items × StartsWritten p.now v.items) }

@@ -1,4 +1,3 @@
-pub mod Touching
 pub mod Lawful
 pub mod Held
 pub mod Told

@@ -5,20 +5,19 @@ use Rattle.env_contract.specs.declared.place.Kind.{Kind}
 use Rattle.env_contract.specs.declared.place.Touch.{Touch}
 use Rattle.env_contract.specs.Env.{Env}
 use Rattle.code_lower.specs.Follows.{OrderAll}
-use Rattle.part_tlb.specs.Histories.{Placed, history_of}
 
 -- every history serves every lattice
-abbrev pub AnyHistory : Order → List Placed → Type 0
+abbrev pub AnyHistory : Order → List Touch → Type 0
 AnyHistory order history = Unit {0}
 
--- the history that touches make, for any lattice
-abbrev pub history_made : Order → List Touch → List Placed
-history_made order touches = history_of touches
+-- the history that touches make: they are it, for any lattice
+abbrev pub history_made : Order → List Touch → List Touch
+history_made order touches = touches
 
 -- no access costs more
-abbrev pub CostsAtMost : (Order → Env (List Placed)) → ℕ → Type 0
-CostsAtMost v most = (order : Order) (k : Kind) (a er ew : ℕ) (h : List Placed) → (v order).cost_of k a er ew h ≤ most
+abbrev pub CostsAtMost : (Order → Env (List Touch)) → ℕ → Type 0
+CostsAtMost v most = (order : Order) (k : Kind) (a er ew : ℕ) (h : List Touch) → (v order).cost_of k a er ew h ≤ most
 
 -- the image of every program, accepted or not, does what the program does, in its order
-abbrev pub OrderOver : (Order → Env (List Placed)) → Type 0
+abbrev pub OrderOver : (Order → Env (List Touch)) → Type 0
 OrderOver v = (order : Order) → OrderAll (v order)

@@ -4,6 +4,4 @@
 mod instr;
 mod operand;
 pub mod print;
-#[cfg(test)]
-mod tests;
 mod words;

@@ -6,6 +6,7 @@ use Rattle.mit_syntax.specs.Program.{Syntax}
 use Rattle.timing_types.specs.Labelled.{LabelledProgram, HasType}
 use Rattle.tool_texts.specs.declared.status.Status.{Status}
 use Rattle.tool_texts.specs.declared.status.Status.TheVariants as status
+use Rattle.tool_texts.specs.Texts.{usage_text}
 use Rattle.tool_stages.specs.Accepted.{HasChecked}
 use Rattle.tool_stages.specs.Stages.{Then, Reads, ProgramStops, Types}
 use Rattle.tool_stages.specs.Content.{Content, IsKnown}
@@ -86,11 +87,12 @@ why_ends Rises content file s status.Memory t n known goes h = absurd goes
 why_ends Rises content file s status.Rejected t n known goes h = absurd goes
 
 pub name_stops : (p : Syntax) (w : List ℕ) (s : Status) (t : List ℕ) → NameStops p w s t → (s ≡ status.Usage) × (named p w ≡ None)
+    × (t ≡ usage_text)
 name_stops p w status.Done t h = absurd h
 name_stops p w status.Refused t h = absurd h
 name_stops p w status.Syntax t h = absurd h
 name_stops p w status.Starts t h = absurd h
-name_stops p w status.Usage t h = (refl, h.0)
+name_stops p w status.Usage t h = (refl, h.0, h.1)
 name_stops p w status.ReadFault t h = absurd h
 name_stops p w status.WriteFault t h = absurd h
 name_stops p w status.TooLong t h = absurd h

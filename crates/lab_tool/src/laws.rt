@@ -3,7 +3,7 @@
 ghost use Rattle.lab_tool.specs.Once.{HasOneAnswer};
 
 /// A law: a question has one answer. Where each file that it names is told to hold bytes and no count of their faults
-/// rose, the answer of `lab_main` is one status, and one text but for the chains of `why --of`.
+/// rose, the answer of `lab_main` is one status and one text.
 pub fn one_answer()
     ensures { HasOneAnswer }
 {}

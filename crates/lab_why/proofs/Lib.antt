@@ -1,3 +1,4 @@
 pub mod ReasonLemmas
 pub mod OriginLemmas
 pub mod OneReason
+pub mod OneOrigins

@@ -9,18 +9,12 @@ use Rattle.timing_types.specs.Labelling.{Labelling}
 use Rattle.timing_types.specs.Labelled.{first_broken_of}
 use Rattle.timing_types.specs.declared.rule.TypeFault.{TypeFault}
 use Rattle.label_infer.proofs.OneLeast.{one_least}
-use Rattle.flow_path.specs.declared.step.Step.{Step}
-use Rattle.flow_path.specs.Costs.{cost_of}
 use Rattle.flow_path.specs.Told.{IsTold}
-use Rattle.flow_path.proofs.Costing.{le_both}
 use Rattle.flow_path.proofs.Earliest.{told_one}
 use Rattle.tool_stages.specs.Stages.{HasNoType}
 use Rattle.tool_stages.specs.Content.{IsKnown}
 use Rattle.tool_stages.proofs.GoesLemmas.{one_told}
 use Rattle.lab_why.specs.Reasons.{HasReason, fault_of, refusal_text}
-
-one_chain : (p : Syntax) (fault : TypeFault) (xs ys : List Step) → IsTold p fault xs → IsTold p fault ys → xs ≡ ys
-one_chain p fault xs ys a b = told_one p fault xs ys a b (le_both (cost_of xs) (cost_of ys) (a.cheapest ys b.reason) (b.cheapest xs a.reason)).1
 
 one_fault : (p : Syntax) (t x : List ℕ) → IsOrder p.order → (f : HasNoType p t) (g : HasNoType p x) → fault_of f ≡ fault_of g
 one_fault p t x o f g =
@@ -39,7 +33,7 @@ one_reason c p t x known o h k =
     one_list k.source.bytes h.source.tokens k.source.tokens (subst (λ (z : List ℕ). AreTokens z h.source.tokens) bytes h.source.cut) k.source.cut in
     let fault : fault_of h.refused ≡ fault_of k.refused = one_fault p h.line k.line o h.refused k.refused in
     let chain : h.chain ≡ k.chain =
-    one_chain p (fault_of k.refused) h.chain k.chain (subst (λ (z : TypeFault). IsTold p z h.chain) fault (is_told h)) (is_told k) in
+    told_one p (fault_of k.refused) h.chain k.chain (subst (λ (z : TypeFault). IsTold p z h.chain) fault (is_told h)) (is_told k) in
     h.text
     ∙ ap (λ (z : List ℕ). refusal_text z h.source.tokens p (fault_of h.refused) h.chain) bytes
     ∙ ap (λ (z : List Token). refusal_text k.source.bytes z p (fault_of h.refused) h.chain) tokens

@@ -8,7 +8,8 @@ use Rattle.timing_types.specs.Labelled.{LabelledProgram, order_of}
 use Rattle.label_infer.specs.Least.{IsLeast}
 use Rattle.flow_path.specs.declared.step.Spot.{Spot}
 use Rattle.flow_path.specs.declared.origins.Origin.{Origin}
-use Rattle.flow_path.specs.Origins.{IsOmitted, label_there, IsOrigin, joined, AreNeeded}
+use Rattle.flow_path.specs.Steps.{written}
+use Rattle.flow_path.specs.Origins.{IsOmitted, label_there, IsOrigin, joined, AreNeeded, AreTold}
 use Rattle.flow_print.specs.Lines.{origins_text}
 use Rattle.tool_texts.specs.declared.status.Status.{Status}
 use Rattle.tool_texts.specs.declared.status.Status.TheVariants as status
@@ -18,14 +19,16 @@ use Rattle.tool_stages.specs.Content.{Content}
 use Rattle.lab_texts.specs.InLab.{InLab}
 use Rattle.lab_why.specs.Names.{named}
 
--- The label, and then for each of some written labels the lines of a chain that leads from it, of which none is cheaper.
--- The label is the join of these, none of which can be left out. One that the program writes comes from itself.
+-- The label, and then for each of some written labels the lines of the chain that is told from it: none is cheaper, and of those
+-- that are as cheap it is the earliest. The label is the join of these, none of which can be left out. One that the program writes
+-- comes from itself.
 pub record TellsOrigins (text : List ℕ) (tokens : List Token) (q : LabelledProgram) (w : List ℕ) (spot : Spot) (t : List ℕ) : Type 0 where
   pub origins : List Origin
   pub come : All (IsOrigin q.program spot) origins
   pub join : IsOmitted q.program spot → joined (order_of q) origins ≡ label_there q spot
   pub needed : AreNeeded (order_of q) origins
   pub none : (IsOmitted q.program spot → ⊥) → origins ≡ []
+  pub told : written q.program spot ≡ None → AreTold q.program spot origins
   pub lines : t ≡ w ++ (codes " is " ++ (name_of q.program.order (label_there q spot) ++ (codes "\n" ++ origins_text text tokens q.program origins)))
 
 -- it is told by the least labelling of the program that a file holds

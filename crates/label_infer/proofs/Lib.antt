@@ -10,6 +10,8 @@ pub mod Fill
 pub mod Seen
 pub mod Typed
 pub mod Joined
+pub mod OfForms
+pub mod Stays
 pub mod Taking
 pub mod Right
 pub mod Bound

@@ -2,9 +2,11 @@ pub mod Least
 pub mod Given
 pub mod Rows
 pub mod Constraints
+pub mod OneWalkForms
 pub mod Sets
 pub mod LeftSideOf
 pub mod ConstraintsOf
+pub mod StaysOf
 pub mod Work
 pub mod Holders
 pub mod Blocks

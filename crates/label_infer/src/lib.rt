@@ -13,8 +13,6 @@ mod marks;
 mod place;
 mod row;
 pub mod steps;
-#[cfg(test)]
-mod tests;
 mod variable_set;
 mod variables;
 mod waiting;

@@ -8,5 +8,3 @@ pub mod fault;
 pub mod label;
 pub mod lattice;
 pub mod name;
-#[cfg(test)]
-mod tests;

@@ -4,6 +4,4 @@
 mod commands;
 mod declarations;
 mod expressions;
-#[cfg(test)]
-mod tests;
 pub mod write;

@@ -3,5 +3,3 @@
 
 pub mod count;
 pub mod laws;
-#[cfg(test)]
-mod tests;

@@ -4,6 +4,4 @@
 mod draws;
 pub mod made;
 mod starts;
-#[cfg(test)]
-mod tests;
 mod unit;

@@ -11,5 +11,3 @@ mod names;
 mod operators;
 pub mod parse;
 mod parser;
-#[cfg(test)]
-mod tests;

@@ -10,10 +10,6 @@ pub mod limits;
 pub mod operators;
 pub mod print;
 pub mod program;
-#[cfg(test)]
-mod program_tests;
 pub mod token;
-#[cfg(test)]
-mod token_tests;
 pub mod tokens;
 pub mod values;

@@ -42,6 +42,3 @@ pub fn element(first: u32, length: u32, index: i64) -> u32
     let place = index.rem_euclid(i64::from(length));
     first + place as u32
 }
-
-#[cfg(test)]
-mod tests;

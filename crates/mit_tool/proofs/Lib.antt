@@ -18,3 +18,4 @@ pub mod BoundLemmas
 pub mod LoggedLemmas
 pub mod CommandLemmas
 pub mod AskedLemmas
+pub mod RanLemmas

@@ -13,6 +13,7 @@ use Rattle.tool_stages.specs.Stages.{Then, Reads, ProgramStops, Types, TypeStops
 use Rattle.tool_stages.specs.Accepted.{IsAccepted, IsRechecked, is_past_typing}
 use Rattle.tool_stages.specs.Begins.{Compiles, Prepares}
 use Rattle.tool_stages.specs.Content.{Content}
+use Rattle.tool_stages.proofs.SoundLemmas.{typed_made, least_made}
 use Rattle.tool_stages.proofs.EarlyLemmas.{not_late, program_early, observer_early, type_early, certificate_early}
 
 -- what is so of each answer past the typing is so of a call that ended there
@@ -33,7 +34,7 @@ ended_past old new Before A P f status.Memory h past = cc
 ended_past old new Before A P f status.Rejected h past = cc
 
 accepted : (c : Option (Option (List ℕ))) (p : Syntax) (q : LabelledProgram) → Reads c p → Types p q → IsAccepted c
-accepted c p q reads types = record { program = p; reads = reads; labelled = q; types = types }
+accepted c p q reads types = record { program = p; reads = reads; labelled = q; types = types; typed = least_made _ p q reads.spelled types }
 
 pub typed_past : (R : Type 0) (c : Option (Option (List ℕ))) (Next : Syntax → LabelledProgram → Status → List ℕ → Type 0) (s : Status) (t : List ℕ)
     → IsTrue (is_past_typing s)
@@ -64,4 +65,10 @@ pub rechecked_past : (R K : Type 0) (c d : Option (Option (List ℕ))) (Next : S
 rechecked_past R K c d Next s t past (inl x) = absurd (not_late s (program_early R c s t x) past)
 rechecked_past R K c d Next s t past (inr (p, reads, inl x)) = absurd (not_late s (certificate_early K d p s t x) past)
 rechecked_past R K c d Next s t past (inr (p, reads, inr (q, rechecks, n))) =
-    record { program = p; reads = reads; labelled = q; rechecks = rechecks }
+    record {
+      program = p;
+      reads = reads;
+      labelled = q;
+      rechecks = rechecks;
+      typed = typed_made _ p q reads.spelled rechecks.holds.program rechecks.labels.keeps rechecks.typed;
+    }

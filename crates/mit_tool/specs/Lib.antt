@@ -7,3 +7,4 @@ pub mod Complete
 pub mod Once
 pub mod Held
 pub mod Logged
+pub mod Ran

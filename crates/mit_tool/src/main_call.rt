@@ -13,6 +13,7 @@ ghost use Rattle.mit_tool.specs.Commands.{files_of, IsAnswer, Before, typed_cont
 ghost use Rattle.mit_tool.specs.Complete.{CanBeDone};
 ghost use Rattle.mit_tool.specs.Logged.{HasWritten, ArePieces};
 ghost use Rattle.mit_tool.specs.Held.{EndsByOne};
+ghost use Rattle.mit_tool.specs.Ran.{HasRunSoundly};
 
 use crate::commands::audit::audit_text;
 use crate::commands::blackbox::blackbox_text;
@@ -152,6 +153,9 @@ fn obey<S: Shelf, W: Sink>(
 /// ended. The words don't hold the program's name. A run and a run without its time write a line at a time;
 /// every other text is written as one.
 ///
+/// `ran`: where `run` is done, or its budget is spent, the file spells a program that its least labelling types, its image
+/// is sound, and the text is what the run of this image tells, from the first start up to the budget, as the observer sees it.
+///
 /// `answered`: the status and the text are the answer to the command that the words ask for, in the order of its
 /// refusals, from what the shelf is told to hold; a file may not be read only where the count of its faults rose.
 /// Where memory was wanting the text is the line for that, which in a run without its time stands after the
@@ -194,6 +198,7 @@ pub fn mitigate_main<S: Shelf, W: Sink>(
     ensures answered { IfSome (command_of (map string_bytes words.now)) (λ a.
         EndsBy (W.taken out.old) (W.taken out.new) (Before (S.content shelf.old) a)
         (IsAnswer (λ name. Rose (S.faults shelf.old name) (S.faults shelf.new name)) (S.content shelf.old) a) result) }
+    ensures ran { IfSome (command_of (map string_bytes words.now)) (HasRunSoundly (S.content shelf.old) (W.taken out.old) (W.taken out.new) result) }
     ensures usage { command_of (map string_bytes words.now) ≡ None
         → EndsBy (W.taken out.old) (W.taken out.new) Nothing IsUsage result }
     ensures sound { TypedAreSound }

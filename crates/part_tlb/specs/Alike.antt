@@ -1,32 +1,74 @@
 -- The environments do as histories alone do.
-use Rattle.std.proofs.Common.{◌≡◌, ℕ, ◌<◌, List, [], refl, arith}
-use Rattle.std.specs.List.{All}
+use Rattle.std.proofs.Common.{◌≡◌, ℕ, ◌<◌, List, [], refl, ap, ◌∙◌, arith}
+use Rattle.std.specs.Prelude.{map}
+use Rattle.std.specs.List.{All, range_with_len}
 use Rattle.label_lattice.specs.Order.{Order}
+use Rattle.env_contract.specs.declared.place.Kind.{Kind}
+use Rattle.env_contract.specs.declared.place.Kind.TheVariants as kind
 use Rattle.env_contract.specs.declared.place.Place.{Place}
 use Rattle.env_contract.specs.declared.place.Place.TheVariants.{Page, Code, Data, Second}
 use Rattle.env_contract.specs.declared.place.Touch.{Touch}
 use Rattle.env_contract.specs.Alike.{DoesAs}
+use Rattle.env_contract.specs.Flat.{flat_env}
+use Rattle.part_cache.specs.History.{Touched, held}
+use Rattle.part_cache.specs.Rows.{numbers_of}
 use Rattle.part_cache.proofs.Laws.{part_of_held}
 use Rattle.part_cache.proofs.Empty.{IsCacheOf-empty, StandsFor-empty_cache}
 use Rattle.part_tlb.specs.declared.part.PartEnv.{PartEnv}
 use Rattle.part_tlb.specs.declared.part2.Part2Env.{Part2Env}
-use Rattle.part_tlb.specs.Histories.{Placed, touches_at, history_of, part_by_history, part2_by_history}
+use Rattle.part_tlb.specs.Machine.{touches_in, access_cost, part_at as machine_part, hardware_by_history}
+use Rattle.part_tlb.specs.Named.{buffer_bank, code_bank, data_bank, second_bank, flat_machine, part_machine, part2_machine}
+use Rattle.part_tlb.specs.Sizes.{touches_at}
 use Rattle.part_tlb.specs.Structures.{Keeps, part_at, warmed}
 use Rattle.part_tlb.specs.Envs.{part_structure, part_touched, empty_part, part2_structure, part2_touched}
 use Rattle.part_tlb.specs.Envs.{empty_part2, part_env, part2_env}
 use Rattle.part_tlb.specs.Laws.{part_moves, part2_moves, part_keeps, part2_keeps}
-use Rattle.part_tlb.specs.Standing.{warmed_serves, warmed_stands, part_penalty_is, part_after_stands, part2_penalty_is, part2_after_stands, part_serves}
+use Rattle.part_tlb.specs.Standing.{touches_are, warmed_serves, warmed_stands, part_penalty_is, part_after_stands, part2_penalty_is}
+use Rattle.part_tlb.specs.Standing.{part2_after_stands, part_serves}
 use Rattle.part_tlb.specs.Standing.{part_stands, part2_serves, part2_stands}
 
+-- what is held after touches, as one list of numbers
+held_same : (sets ways l : ℕ) (ts us : List Touched) → ts ≡ us
+    → numbers_of (map (held sets ways ts l) (range_with_len 0 sets)) ≡ numbers_of (map (held sets ways us l) (range_with_len 0 sets))
+held_same sets ways l ts us e = ap (λ (t : List Touched). numbers_of (map (held sets ways t l) (range_with_len 0 sets))) e
+
+-- ---- without caches
+none_cost : (order : Order) (k : Kind) (a er : ℕ) (h : List Touch) → 0 ≡ access_cost flat_machine order k a er h
+none_cost order kind.Code a er h = refl
+none_cost order kind.Data a er h = refl
+
+none_part : (order : Order) (q : Place) (l : ℕ) (h : List Touch) → [] ≡ machine_part flat_machine order q l h
+none_part order Page l h = refl
+none_part order Code l h = refl
+none_part order Data l h = refl
+none_part order Second l h = refl
+
+pub no_level : (order : Order) → DoesAs flat_env (hardware_by_history flat_machine order) order.size (λ e h. Unit {0})
+no_level order =
+    record {
+      cost = λ k a er ew e h er_in ew_in s. none_cost order k a er h;
+      next = λ k a er ew e h er_in ew_in s. tt;
+      part = λ q l e h lt s. none_part order q l h;
+    }
+
 -- ---- one level
-one_part : (order : Order) (q : Place) (l : ℕ) (e : PartEnv) (h : List Placed) → l < order.size → Keeps part_structure order e h
-    → part_at part_structure q l e ≡ (part_by_history order).part q l h
-one_part order Page l e h lt k = part_of_held order 1 4 e.buffer l (touches_at Page h) (k.made.each Page) lt (k.stands.each Page)
-one_part order Code l e h lt k = part_of_held order 8 2 e.code_cache l (touches_at Code h) (k.made.each Code) lt (k.stands.each Code)
-one_part order Data l e h lt k = part_of_held order 8 2 e.data_cache l (touches_at Data h) (k.made.each Data) lt (k.stands.each Data)
+one_part : (order : Order) (q : Place) (l : ℕ) (e : PartEnv) (h : List Touch) → l < order.size → Keeps part_structure order e h
+    → part_at part_structure q l e ≡ machine_part part_machine order q l h
+one_part order Page l e h lt k =
+    part_of_held order 1 4 e.buffer l (touches_at Page h) (k.made.each Page) lt (k.stands.each Page)
+    ∙ held_same 1 4 l (touches_at Page h) (touches_in part_machine order buffer_bank Page h)
+    (touches_are part_machine order buffer_bank Page (λ l. refl) (λ a. refl) h)
+one_part order Code l e h lt k =
+    part_of_held order 8 2 e.code_cache l (touches_at Code h) (k.made.each Code) lt (k.stands.each Code)
+    ∙ held_same 8 2 l (touches_at Code h) (touches_in part_machine order code_bank Code h)
+    (touches_are part_machine order code_bank Code (λ l. refl) (λ a. refl) h)
+one_part order Data l e h lt k =
+    part_of_held order 8 2 e.data_cache l (touches_at Data h) (k.made.each Data) lt (k.stands.each Data)
+    ∙ held_same 8 2 l (touches_at Data h) (touches_in part_machine order data_bank Data h)
+    (touches_are part_machine order data_bank Data (λ l. refl) (λ a. refl) h)
 one_part order Second l e h lt k = refl
 
-pub one_level : (order : Order) → DoesAs part_env (part_by_history order) order.size (Keeps part_structure order)
+pub one_level : (order : Order) → DoesAs part_env (hardware_by_history part_machine order) order.size (Keeps part_structure order)
 one_level order =
     record {
       cost = λ k a er ew e h er_in ew_in keeps. part_penalty_is order k a er ew e h keeps.made keeps.stands;
@@ -47,7 +89,7 @@ empty_keeps order =
     }
 
 pub one_start : (order : Order) (touches : List Touch) → All (λ t. t.label.number < order.size) touches
-    → Keeps part_structure order (warmed part_touched (empty_part order) touches) (history_of touches)
+    → Keeps part_structure order (warmed part_touched (empty_part order) touches) touches
 one_start order touches below =
     let k = empty_keeps order in
     record {
@@ -56,14 +98,26 @@ one_start order touches below =
     }
 
 -- ---- two levels
-two_part : (order : Order) (q : Place) (l : ℕ) (e : Part2Env) (h : List Placed) → l < order.size → Keeps part2_structure order e h
-    → part_at part2_structure q l e ≡ (part2_by_history order).part q l h
-two_part order Page l e h lt k = part_of_held order 1 4 e.first.buffer l (touches_at Page h) (k.made.each Page) lt (k.stands.each Page)
-two_part order Code l e h lt k = part_of_held order 8 2 e.first.code_cache l (touches_at Code h) (k.made.each Code) lt (k.stands.each Code)
-two_part order Data l e h lt k = part_of_held order 8 2 e.first.data_cache l (touches_at Data h) (k.made.each Data) lt (k.stands.each Data)
-two_part order Second l e h lt k = part_of_held order 32 4 e.second l (touches_at Second h) (k.made.each Second) lt (k.stands.each Second)
+two_part : (order : Order) (q : Place) (l : ℕ) (e : Part2Env) (h : List Touch) → l < order.size → Keeps part2_structure order e h
+    → part_at part2_structure q l e ≡ machine_part part2_machine order q l h
+two_part order Page l e h lt k =
+    part_of_held order 1 4 e.first.buffer l (touches_at Page h) (k.made.each Page) lt (k.stands.each Page)
+    ∙ held_same 1 4 l (touches_at Page h) (touches_in part2_machine order buffer_bank Page h)
+    (touches_are part2_machine order buffer_bank Page (λ l. refl) (λ a. refl) h)
+two_part order Code l e h lt k =
+    part_of_held order 8 2 e.first.code_cache l (touches_at Code h) (k.made.each Code) lt (k.stands.each Code)
+    ∙ held_same 8 2 l (touches_at Code h) (touches_in part2_machine order code_bank Code h)
+    (touches_are part2_machine order code_bank Code (λ l. refl) (λ a. refl) h)
+two_part order Data l e h lt k =
+    part_of_held order 8 2 e.first.data_cache l (touches_at Data h) (k.made.each Data) lt (k.stands.each Data)
+    ∙ held_same 8 2 l (touches_at Data h) (touches_in part2_machine order data_bank Data h)
+    (touches_are part2_machine order data_bank Data (λ l. refl) (λ a. refl) h)
+two_part order Second l e h lt k =
+    part_of_held order 32 4 e.second l (touches_at Second h) (k.made.each Second) lt (k.stands.each Second)
+    ∙ held_same 32 4 l (touches_at Second h) (touches_in part2_machine order second_bank Second h)
+    (touches_are part2_machine order second_bank Second (λ l. refl) (λ a. refl) h)
 
-pub two_levels : (order : Order) → DoesAs part2_env (part2_by_history order) order.size (Keeps part2_structure order)
+pub two_levels : (order : Order) → DoesAs part2_env (hardware_by_history part2_machine order) order.size (Keeps part2_structure order)
 two_levels order =
     record {
       cost = λ k a er ew e h er_in ew_in keeps. part2_penalty_is order k a er ew e h keeps.made keeps.stands;
@@ -84,7 +138,7 @@ empty2_keeps order =
     }
 
 pub two_start : (order : Order) (touches : List Touch) → All (λ t. t.label.number < order.size) touches
-    → Keeps part2_structure order (warmed part2_touched (empty_part2 order) touches) (history_of touches)
+    → Keeps part2_structure order (warmed part2_touched (empty_part2 order) touches) touches
 two_start order touches below =
     let k = empty2_keeps order in
     record {

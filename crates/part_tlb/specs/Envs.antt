@@ -7,7 +7,8 @@ use Rattle.env_contract.specs.declared.place.Place.{Place}
 use Rattle.env_contract.specs.declared.place.Place.TheVariants.{Page, Code, Data, Second}
 use Rattle.env_contract.specs.Env.{Env}
 use Rattle.part_cache.specs.Rows.{Rows, found, touched, empty_cache}
-use Rattle.part_tlb.specs.Histories.{line_place, line_cost, sets_at, ways_at}
+use Rattle.part_tlb.specs.Machine.{line_place}
+use Rattle.part_tlb.specs.Sizes.{line_cost, sets_at, ways_at}
 use Rattle.part_tlb.specs.Structures.{part_at}
 use Rattle.part_tlb.specs.declared.part.PartEnv.{PartEnv}
 use Rattle.part_tlb.specs.declared.part2.Part2Env.{Part2Env}

@@ -6,7 +6,8 @@ use Rattle.label_lattice.specs.Order.{Order}
 use Rattle.env_contract.specs.declared.place.Place.{Place}
 use Rattle.part_cache.specs.Rows.{Rows, IsCacheOf, touched, part_of}
 use Rattle.part_cache.proofs.Laws.{touched_serves, part_elsewhere, part_agrees}
-use Rattle.part_tlb.specs.Histories.{sets_at, ways_at, is_place}
+use Rattle.part_tlb.specs.Machine.{is_place}
+use Rattle.part_tlb.specs.Sizes.{sets_at, ways_at}
 use Rattle.part_tlb.specs.Structures.{IsMadeFor, part_at}
 
 -- a touch at q, as the structure at p sees it

@@ -12,7 +12,8 @@ use Rattle.part_cache.specs.Rows.{IsCacheOf, found}
 use Rattle.part_cache.proofs.Laws.{found_same}
 use Rattle.part_tlb.specs.declared.part.PartEnv.{PartEnv}
 use Rattle.part_tlb.specs.declared.part2.Part2Env.{Part2Env}
-use Rattle.part_tlb.specs.Histories.{line_place, line_cost, sets_at, ways_at}
+use Rattle.part_tlb.specs.Machine.{line_place}
+use Rattle.part_tlb.specs.Sizes.{line_cost, sets_at, ways_at}
 use Rattle.part_tlb.specs.Structures.{IsMadeFor, part_at}
 use Rattle.part_tlb.specs.Envs.{part_structure, line_cache, part_touched, part_penalty, part_after, part2_structure, part2_touched}
 use Rattle.part_tlb.specs.Envs.{part2_after, part_env, part2_env}

@@ -1,4 +1,6 @@
-pub mod Histories
+pub mod Machine
+pub mod Named
+pub mod Sizes
 pub mod Structures
 pub mod Envs
 pub mod Keeps

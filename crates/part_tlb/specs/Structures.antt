@@ -5,7 +5,7 @@ use Rattle.label_lattice.specs.Order.{Order}
 use Rattle.env_contract.specs.declared.place.Place.{Place}
 use Rattle.env_contract.specs.declared.place.Touch.{Touch}
 use Rattle.part_cache.specs.Rows.{Rows, IsCacheOf, StandsFor, part_of}
-use Rattle.part_tlb.specs.Histories.{Placed, touches_at, sets_at, ways_at, tag_at}
+use Rattle.part_tlb.specs.Sizes.{sets_at, ways_at, tag_at, touches_at}
 
 -- an environment's structure at each place, where it has one
 module _ {E : Type 0} (structure : Place → Option (E → Rows)) where
@@ -14,11 +14,11 @@ module _ {E : Type 0} (structure : Place → Option (E → Rows)) where
     pub each : (p : Place) → IfSome (structure p) (λ at. IsCacheOf order (sets_at p) (ways_at p) (at e))
 
   -- each structure stands for the touches of its own place
-  pub record StandsForAll (e : E) (history : List Placed) : Type 0 where
+  pub record StandsForAll (e : E) (history : List Touch) : Type 0 where
     pub each : (p : Place) → IfSome (structure p) (λ at. StandsFor (at e) (touches_at p history))
 
   -- it is made for the lattice and stands for the history
-  pub record Keeps (order : Order) (e : E) (history : List Placed) : Type 0 where
+  pub record Keeps (order : Order) (e : E) (history : List Touch) : Type 0 where
     pub made : IsMadeFor order e
     pub stands : StandsForAll e history
 

@@ -15,39 +15,35 @@ use env_contract::make::{MakeEnv, MakeFlat};
 pub trait ByHistory<E: MachineEnv>: MakeEnv<E> {
     ghost use Rattle.env_contract.specs.Env.{Env};
     ghost use Rattle.env_contract.specs.Alike.{DoesAs};
-    ghost use Rattle.part_tlb.specs.Histories.{Placed, history_of};
 
     // What an access costs and what is held, where nothing is kept but the history.
-    ghost by_history: { Order → Env (List Placed) };
+    ghost by_history: { Order → Env (List Touch) };
 
     // The environment stands for the history.
-    ghost stands: { Order → E → List Placed → Type 0 };
+    ghost stands: { Order → E → List Touch → Type 0 };
 
     // Where it does, an access costs what the history says, the environment after it stands for the longer history,
     // and each part is what the history says is held.
     ghost does: { (order : Order) → DoesAs E.env (by_history order) order.size (stands order) };
 
-    // The environment that touches make stands for the history of these touches.
+    // The environment that touches make stands for the history that they are.
     ghost starts: { (order : Order) (touches : List Touch) → All (λ t. t.label.number < order.size) touches
-        → stands order (Self.made order touches) (history_of touches) };
+        → stands order (Self.made order touches) touches };
 
     // Only an environment that serves the lattice stands for a history.
-    ghost served: { (order : Order) (e : E) (h : List Placed) → stands order e h → E.serves order e };
+    ghost served: { (order : Order) (e : E) (h : List Touch) → stands order e h → E.serves order e };
 }
 
 impl ByHistory<FlatEnv> for MakeFlat {
-    ghost use Rattle.std.specs.Prelude.{refl};
-    ghost use Rattle.part_tlb.specs.Histories.{flat_by_history};
+    ghost use Rattle.part_tlb.specs.Machine.{hardware_by_history};
+    ghost use Rattle.part_tlb.specs.Named.{flat_machine};
+    ghost use Rattle.part_tlb.specs.Alike.{no_level};
 
-    ghost by_history = { flat_by_history };
+    ghost by_history = { hardware_by_history flat_machine };
 
     ghost stands = { λ order e h. Unit {0} };
 
-    ghost does = { λ order. record {
-      cost = λ k a er ew e h er_in ew_in s. refl;
-      next = λ k a er ew e h er_in ew_in s. tt;
-      part = λ q l e h lt s. refl;
-    } };
+    ghost does = { no_level };
 
     ghost starts = { λ order touches below. tt };
 
@@ -55,12 +51,13 @@ impl ByHistory<FlatEnv> for MakeFlat {
 }
 
 impl ByHistory<PartEnv> for MakePart {
-    ghost use Rattle.part_tlb.specs.Histories.{part_by_history};
+    ghost use Rattle.part_tlb.specs.Machine.{hardware_by_history};
+    ghost use Rattle.part_tlb.specs.Named.{part_machine};
     ghost use Rattle.part_tlb.specs.Structures.{Keeps};
     ghost use Rattle.part_tlb.specs.Envs.{part_structure};
     ghost use Rattle.part_tlb.specs.Alike.{one_level, one_start};
 
-    ghost by_history = { part_by_history };
+    ghost by_history = { hardware_by_history part_machine };
 
     ghost stands = { Keeps part_structure };
 
@@ -72,12 +69,13 @@ impl ByHistory<PartEnv> for MakePart {
 }
 
 impl ByHistory<Part2Env> for MakePart2 {
-    ghost use Rattle.part_tlb.specs.Histories.{part2_by_history};
+    ghost use Rattle.part_tlb.specs.Machine.{hardware_by_history};
+    ghost use Rattle.part_tlb.specs.Named.{part2_machine};
     ghost use Rattle.part_tlb.specs.Structures.{Keeps};
     ghost use Rattle.part_tlb.specs.Envs.{part2_structure};
     ghost use Rattle.part_tlb.specs.Alike.{two_levels, two_start};
 
-    ghost by_history = { part2_by_history };
+    ghost by_history = { hardware_by_history part2_machine };
 
     ghost stands = { Keeps part2_structure };
 

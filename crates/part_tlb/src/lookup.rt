@@ -2,7 +2,7 @@
 
 ghost use Rattle.std.specs.Prelude.{◌≡◌, ◌+◌, ◌<◌, cond};
 ghost use Rattle.part_cache.specs.Rows.{found, touched};
-ghost use Rattle.part_tlb.specs.Histories.{tag_at, line_cost};
+ghost use Rattle.part_tlb.specs.Sizes.{tag_at, line_cost};
 
 use env_contract::place::{Kind, Place};
 use label_lattice::label::Label;

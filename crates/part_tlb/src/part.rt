@@ -4,7 +4,10 @@ ghost use Rattle.std.specs.Prelude.{◌≡◌, ◌+◌, ◌/◌, ◌<◌, ◌≤
 ghost use Rattle.std.specs.List.{All};
 ghost use Rattle.label_lattice.specs.Order.{Order};
 ghost use Rattle.part_cache.specs.Rows.{found};
-ghost use Rattle.part_tlb.specs.Histories.{Placed, line_cost, tag_at, history_of, part_history, part_cost};
+ghost use Rattle.env_contract.specs.declared.place.Touch.{Touch};
+ghost use Rattle.part_tlb.specs.Machine.{accessed, access_cost};
+ghost use Rattle.part_tlb.specs.Named.{part_machine};
+ghost use Rattle.part_tlb.specs.Sizes.{line_cost, tag_at};
 ghost use Rattle.part_tlb.specs.Structures.{IsMadeFor, StandsForAll, part_at, warmed};
 ghost use Rattle.part_tlb.specs.Envs.{part_structure, line_cache, part_touched, part_penalty, part_after, empty_part};
 
@@ -45,7 +48,7 @@ impl PartEnv {
         requires { All (λ t. t.label.number < lattice.size) touches.now }
         ensures value { IfOk result (λ e. e ≡ warmed part_touched (empty_part lattice) touches.now) }
         ensures serves { IfOk result (IsMadeFor part_structure lattice) }
-        ensures history { IfOk result (λ e. StandsForAll part_structure e (history_of touches.now)) }
+        ensures history { IfOk result (λ e. StandsForAll part_structure e touches.now) }
     {
         let buffer = PartCache::new(alloc, lattice, BUFFER_SETS, BUFFER_WAYS)?;
         let code_cache = PartCache::new(alloc, lattice, SETS, WAYS)?;
@@ -133,11 +136,11 @@ impl MachineEnv for PartEnv {
         ensures next { self.new ≡ part_after kind address er.number ew.number self.old }
         ensures small { result ≤ MAX_PENALTY }
         ensures serves { (order : Order) → IsMadeFor part_structure order self.old → IsMadeFor part_structure order self.new }
-        ensures history_cost { (order : Order) (h : List Placed) → IsMadeFor part_structure order self.old
+        ensures history_cost { (order : Order) (h : List Touch) → IsMadeFor part_structure order self.old
             → StandsForAll part_structure self.old h
-            → result ≡ part_cost order kind address er.number ew.number h }
-        ensures history_next { (h : List Placed) → StandsForAll part_structure self.old h
-            → StandsForAll part_structure self.new (part_history kind address ew.number h) }
+            → result ≡ access_cost part_machine order kind address er.number h }
+        ensures history_next { (h : List Touch) → StandsForAll part_structure self.old h
+            → StandsForAll part_structure self.new (accessed kind address ew.number h) }
     {
         self.look_up(kind, address, er, ew).penalty(kind)
     }
@@ -166,7 +169,7 @@ impl MakeEnv<PartEnv> for MakePart {
         requires { All (λ t. t.label.number < lattice.size) touches.now }
         ensures value { IfOk result (λ e. e ≡ warmed part_touched (empty_part lattice) touches.now) }
         ensures serves { IfOk result (IsMadeFor part_structure lattice) }
-        ensures history { IfOk result (λ e. StandsForAll part_structure e (history_of touches.now)) }
+        ensures history { IfOk result (λ e. StandsForAll part_structure e touches.now) }
     {
         PartEnv::warm(alloc, lattice, touches)
     }

@@ -3,7 +3,9 @@
 ghost use Rattle.std.specs.Prelude.{◌≡◌, ◌+◌, ◌/◌, ◌<◌, ◌≤◌, ◌↔◌, List, [], IfOk, IsTrue};
 ghost use Rattle.std.specs.List.{All};
 ghost use Rattle.label_lattice.specs.Order.{Order};
-ghost use Rattle.part_tlb.specs.Histories.{Placed, history_of, part2_history, part2_cost};
+ghost use Rattle.env_contract.specs.declared.place.Touch.{Touch};
+ghost use Rattle.part_tlb.specs.Machine.{accessed, access_cost};
+ghost use Rattle.part_tlb.specs.Named.{part2_machine};
 ghost use Rattle.part_tlb.specs.Structures.{IsMadeFor, StandsForAll, warmed};
 ghost use Rattle.part_tlb.specs.Envs.{part2_structure, part2_touched, part2_penalty, part2_after, empty_part2};
 
@@ -39,7 +41,7 @@ impl Part2Env {
         requires { All (λ t. t.label.number < lattice.size) touches.now }
         ensures value { IfOk result (λ e. e ≡ warmed part2_touched (empty_part2 lattice) touches.now) }
         ensures serves { IfOk result (IsMadeFor part2_structure lattice) }
-        ensures history { IfOk result (λ e. StandsForAll part2_structure e (history_of touches.now)) }
+        ensures history { IfOk result (λ e. StandsForAll part2_structure e touches.now) }
     {
         let first = PartEnv::warm(alloc, lattice, &[])?;
         let second = PartCache::new(alloc, lattice, SETS, WAYS)?;
@@ -81,11 +83,11 @@ impl MachineEnv for Part2Env {
         ensures next { self.new ≡ part2_after kind address er.number ew.number self.old }
         ensures small { result ≤ MAX_PENALTY }
         ensures serves { (order : Order) → IsMadeFor part2_structure order self.old → IsMadeFor part2_structure order self.new }
-        ensures history_cost { (order : Order) (h : List Placed) → IsMadeFor part2_structure order self.old
+        ensures history_cost { (order : Order) (h : List Touch) → IsMadeFor part2_structure order self.old
             → StandsForAll part2_structure self.old h
-            → result ≡ part2_cost order kind address er.number ew.number h }
-        ensures history_next { (h : List Placed) → StandsForAll part2_structure self.old h
-            → StandsForAll part2_structure self.new (part2_history kind address ew.number h) }
+            → result ≡ access_cost part2_machine order kind address er.number h }
+        ensures history_next { (h : List Touch) → StandsForAll part2_structure self.old h
+            → StandsForAll part2_structure self.new (accessed kind address ew.number h) }
     {
         let hits = self.first.look_up(kind, address, er, ew);
         let second = look_and_touch(
@@ -120,7 +122,7 @@ impl MakeEnv<Part2Env> for MakePart2 {
         requires { All (λ t. t.label.number < lattice.size) touches.now }
         ensures value { IfOk result (λ e. e ≡ warmed part2_touched (empty_part2 lattice) touches.now) }
         ensures serves { IfOk result (IsMadeFor part2_structure lattice) }
-        ensures history { IfOk result (λ e. StandsForAll part2_structure e (history_of touches.now)) }
+        ensures history { IfOk result (λ e. StandsForAll part2_structure e touches.now) }
     {
         Part2Env::warm(alloc, lattice, touches)
     }

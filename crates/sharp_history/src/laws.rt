@@ -3,7 +3,7 @@
 ghost use Rattle.std.specs.Prelude.{List};
 ghost use Rattle.label_lattice.specs.Order.{Order};
 ghost use Rattle.env_contract.specs.Env.{Env};
-ghost use Rattle.part_tlb.specs.Histories.{Placed};
+ghost use Rattle.env_contract.specs.declared.place.Touch.{Touch};
 ghost use Rattle.leak_bound.specs.Over.{KeepsLaws};
 ghost use Rattle.history_bound.specs.Over.{AnyHistory};
 ghost use Rattle.sharp_history.specs.Over.{LoweredSharpOver, LoweredSharpCutOver, LoweredSharpEndOver, LoweredSharedOver};
@@ -14,8 +14,8 @@ ghost use Rattle.sharp_history.specs.Over.{LoweredSharpOver, LoweredSharpCutOver
 ///
 /// `halted`, `cut`, `ended` and `shared` say what they say in `lowered_few_sequences_sharp`.
 pub fn lowered_few_sequences_sharp_of_histories()
-    ensures halted { (v : Order → Env (List Placed)) → KeepsLaws v AnyHistory → LoweredSharpOver v AnyHistory }
-    ensures cut { (v : Order → Env (List Placed)) → KeepsLaws v AnyHistory → LoweredSharpCutOver v AnyHistory }
-    ensures ended { (v : Order → Env (List Placed)) → KeepsLaws v AnyHistory → LoweredSharpEndOver v AnyHistory }
-    ensures shared { (v : Order → Env (List Placed)) → KeepsLaws v AnyHistory → LoweredSharedOver v AnyHistory }
+    ensures halted { (v : Order → Env (List Touch)) → KeepsLaws v AnyHistory → LoweredSharpOver v AnyHistory }
+    ensures cut { (v : Order → Env (List Touch)) → KeepsLaws v AnyHistory → LoweredSharpCutOver v AnyHistory }
+    ensures ended { (v : Order → Env (List Touch)) → KeepsLaws v AnyHistory → LoweredSharpEndOver v AnyHistory }
+    ensures shared { (v : Order → Env (List Touch)) → KeepsLaws v AnyHistory → LoweredSharedOver v AnyHistory }
 {}

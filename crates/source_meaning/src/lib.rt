@@ -4,8 +4,6 @@
 mod frames;
 pub mod laws;
 mod obey;
-#[cfg(test)]
-mod tests;
 pub mod value;
 pub mod walk;
 pub mod walker;

@@ -8,7 +8,5 @@ mod slot;
 pub mod start;
 pub mod starts;
 mod table;
-#[cfg(test)]
-mod tests;
 mod touch;
 mod version;

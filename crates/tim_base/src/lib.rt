@@ -6,5 +6,3 @@ mod count;
 pub mod line;
 pub mod shelf;
 pub mod sink;
-#[cfg(test)]
-mod tests;

@@ -3,6 +3,10 @@ pub mod Flow
 pub mod Joins
 pub mod Walk
 pub mod Parts
+pub mod Moving
+pub mod Bridge
+pub mod OfLabels
+pub mod Stays
 pub mod Steps
 pub mod Guards
 pub mod Arrays

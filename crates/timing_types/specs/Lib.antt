@@ -1,9 +1,13 @@
 pub mod Typing
 pub mod Arrays
 pub mod Placed
+pub mod Left
+pub mod OneWalk
 pub mod Walk
+pub mod OneWalkLabels
 pub mod Contexts
 pub mod Labelling
+pub mod Stays
 pub mod Labelled
 pub mod Kept
 pub mod Commands

@@ -10,6 +10,4 @@ pub mod labels;
 pub mod laws;
 pub mod rule;
 mod seen;
-#[cfg(test)]
-mod tests;
 pub mod typed;

@@ -10,7 +10,7 @@ use Rattle.code_lower.specs.Lowered.{lowered}
 use Rattle.timing_types.specs.Labelled.{order_of, labels_of, levels_of}
 use Rattle.leak_bound.specs.Relevant.{Begins}
 use Rattle.leak_bound.specs.Sound.{Agree, seen_from, Halts}
-use Rattle.part_tlb.specs.Histories.{Placed}
+use Rattle.env_contract.specs.declared.place.Touch.{Touch}
 use Rattle.history_bound.specs.Over.{AnyHistory}
 use Rattle.tool_words.specs.declared.words.EnvName.{EnvName}
 use Rattle.tool_words.specs.declared.words.EnvName.TheVariants.{Flat, Part, Part2}
@@ -53,11 +53,11 @@ same_low h h' (suc zero) f = refl
 same_low h h' (suc (suc x)) f = refl
 
 -- starts with the same history agree
-agree : (v : Env (List Placed)) (h h' : ℤ) → Agree v (order_of labelled) (AnyHistory two) (labels_of labelled) observer (with_secret h) (with_secret h')
+agree : (v : Env (List Touch)) (h h' : ℤ) → Agree v (order_of labelled) (AnyHistory two) (labels_of labelled) observer (with_secret h) (with_secret h')
 agree v h h' = record { one = tt; other = tt; long = refl; low = same_low h h'; parts = λ q l f. refl }
 
 -- what is seen of both is known, and halts
-both : (v : Env (List Placed)) → Halts v (lowered labelled).instrs budget (with_secret (pos 0))
+both : (v : Env (List Touch)) → Halts v (lowered labelled).instrs budget (with_secret (pos 0))
     → Halts v (lowered labelled).instrs budget (with_secret (pos 100)) → (c d : ℕ) → c ≢ d →
     seen_from v (order_of labelled) (labels_of labelled) (lowered labelled).instrs observer budget (with_secret (pos 0)) ≡ Wrote 1 (pos 1) c ∷ [] →
     seen_from v (order_of labelled) (labels_of labelled) (lowered labelled).instrs observer budget (with_secret (pos 100)) ≡ Wrote 1 (pos 1) d ∷ [] →

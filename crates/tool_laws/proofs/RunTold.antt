@@ -15,7 +15,9 @@ use Rattle.cycle_machine.specs.Rest.{told_by}
 use Rattle.cycle_machine.proofs.Runs.{run_later, halted_stays}
 use Rattle.tool_words.specs.declared.words.EnvName.TheVariants.{Flat}
 use Rattle.env_contract.specs.Env.{Env}
-use Rattle.part_tlb.specs.Histories.{Placed, flat_by_history}
+use Rattle.env_contract.specs.declared.place.Touch.{Touch}
+use Rattle.part_tlb.specs.Machine.{hardware_by_history}
+use Rattle.part_tlb.specs.Named.{flat_machine}
 use Rattle.tool_stages.specs.Envs.{told_in}
 use Rattle.tool_stages.specs.Stages.{zero_start}
 use Rattle.tool_laws.specs.FirstRun.{first_answer}
@@ -33,13 +35,13 @@ three l = refl
 abbrev pub zeros : StartValue
 zeros = zero_start program
 
-abbrev flat : Env (List Placed)
-flat = flat_by_history program.order
+abbrev flat : Env (List Touch)
+flat = hardware_by_history flat_machine program.order
 
-abbrev from_zeros : Start (List Placed)
+abbrev from_zeros : Start (List Touch)
 from_zeros = record { memory = zeros.memory; env = [] }
 
-abbrev zero_machine : Machine (List Placed)
+abbrev zero_machine : Machine (List Touch)
 zero_machine = start from_zeros.memory from_zeros.env
 
 -- three steps: push 7, store it, halt

@@ -9,7 +9,7 @@ use Rattle.code_lower.specs.Lowered.{lowered}
 use Rattle.leak_bound.specs.Records.{Each, Pairwise}
 use Rattle.leak_bound.specs.Relevant.{Begins}
 use Rattle.leak_bound.specs.Sound.{Agree, seen_from, Halts}
-use Rattle.part_tlb.specs.Histories.{Placed}
+use Rattle.env_contract.specs.declared.place.Touch.{Touch}
 use Rattle.history_bound.specs.Over.{AnyHistory}
 use Rattle.tool_words.specs.declared.words.EnvName.{EnvName}
 use Rattle.tool_stages.specs.Stages.{Reads, Types}
@@ -31,12 +31,12 @@ abbrev pub budget : ℕ
 budget = 1000
 
 -- a start in which h has a value, l is 0 and nothing was touched
-abbrev pub with_secret : ℤ → Start (List Placed)
+abbrev pub with_secret : ℤ → Start (List Touch)
 with_secret h = record { memory = h ∷ pos 0 ∷ []; env = [] }
 
 -- Two starts meet what the theorem asks for, and show that it has something to bound: they agree for the observer and
 -- halt by T, each begins one relevant mitigate, and what the observer sees of them is not the same.
-pub record AreApart (v : Env (List Placed)) (q : LabelledProgram) (s s' : Start (List Placed)) : Type 0 where
+pub record AreApart (v : Env (List Touch)) (q : LabelledProgram) (s s' : Start (List Touch)) : Type 0 where
   pub agree : Pairwise (Agree v (order_of q) (AnyHistory q.program.order) (labels_of q) observer) (s ∷ s' ∷ [])
   pub halt : Each (Halts v (lowered q).instrs budget) (s ∷ s' ∷ [])
   pub begin : Each (λ x. Begins (order_of q) (labels_of q) (levels_of q) observer (plan_of q.program) x.memory 1) (s ∷ s' ∷ [])

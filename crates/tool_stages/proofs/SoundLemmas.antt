@@ -1,8 +1,7 @@
 -- A program with a labelling that types it is sound.
 use Rattle.std.proofs.Common.{◌≡◌, List, sym, subst}
-use Rattle.env_contract.specs.Env.{Env}
 use Rattle.label_lattice.specs.Lattice.{IsLattice}
-use Rattle.label_lattice.specs.Order.{Order, lattice_of}
+use Rattle.label_lattice.specs.Order.{lattice_of}
 use Rattle.label_lattice.proofs.Orders.{order_is}
 use Rattle.mit_syntax.specs.Program.{Syntax, plan_of}
 use Rattle.mit_syntax.specs.Valid.{AreNumbered}
@@ -15,12 +14,9 @@ use Rattle.parse_laws.proofs.Meant.{program_order}
 use Rattle.timing_types.specs.Arrays.{ArraysIn}
 use Rattle.timing_types.specs.Labelling.{variable_of, IsLabelling}
 use Rattle.timing_types.specs.Labelled.{LabelledProgram, HasType}
-use Rattle.part_tlb.specs.Histories.{Placed}
-use Rattle.history_bound.specs.Over.{AnyHistory}
 use Rattle.leak_bound.specs.Source.{IsTypedWith}
-use Rattle.leak_bound.specs.Over.{LoweredSoundOver, LoweredCutSoundOver}
 use Rattle.tool_stages.specs.Stages.{Types}
-use Rattle.tool_stages.specs.Accepted.{IsSoundIn, IsSound, TypedAreSound}
+use Rattle.tool_stages.specs.Accepted.{IsSound, TypedAreSound}
 use Rattle.tool_stages.proofs.ArrayLemmas.{spelled_arrays}
 
 -- a program that words spell
@@ -36,13 +32,10 @@ typed_made words p q spelled is labelling typed =
       typed = typed;
     }
 
-pub typed_in : (v : Order → Env (List Placed)) → LoweredSoundOver v AnyHistory → LoweredCutSoundOver v AnyHistory
-    → (words : List Told) (p : Syntax) (q : LabelledProgram) → IsProgram words p → q.program ≡ p → IsLabelling p q.labels → HasType q
-    → IsSoundIn (v q.program.order) q
-typed_in v halted cut words p q spelled is labelling typed =
-    let made = typed_made words p q spelled is labelling typed in
-    record { halted = halted q made; cut = cut q made }
+-- and with its least labelling, where that types it
+pub least_made : (words : List Told) (p : Syntax) (q : LabelledProgram) → IsProgram words p → Types p q → IsTypedWith q
+least_made words p q spelled types = typed_made words p q spelled types.program types.least.labels.keeps types.typed
 
--- and with the least labelling, where that types it
+-- so it is sound
 pub least_is_sound : TypedAreSound → (words : List Told) (p : Syntax) (q : LabelledProgram) → IsProgram words p → Types p q → IsSound q
-least_is_sound sound words p q spelled types = sound words p q spelled types.program types.least.labels.keeps types.typed
+least_is_sound sound words p q spelled types = sound q (least_made words p q spelled types)

@@ -3,14 +3,12 @@ use Rattle.std.specs.Prelude.{◌≡◌, ℕ, List, Option, Bool, true, false}
 use Rattle.env_contract.specs.Env.{Env}
 use Rattle.mit_syntax.specs.Plan.{count, mitigates}
 use Rattle.mit_syntax.specs.Program.{Syntax, plan_of}
-use Rattle.mit_parser.specs.Words.{Told}
-use Rattle.mit_parser.specs.Spells.{IsProgram}
-use Rattle.timing_types.specs.Labelling.{IsLabelling}
-use Rattle.timing_types.specs.Labelled.{LabelledProgram, HasType, labels_of, levels_of}
+use Rattle.timing_types.specs.Labelled.{LabelledProgram, labels_of, levels_of}
 use Rattle.code_lower.specs.Lowered.{instrs_of}
-use Rattle.part_tlb.specs.Histories.{Placed}
+use Rattle.env_contract.specs.declared.place.Touch.{Touch}
 use Rattle.history_bound.specs.Over.{AnyHistory}
 use Rattle.leak_bound.specs.Sound.{Sound, CutSound}
+use Rattle.leak_bound.specs.Source.{IsTypedWith}
 use Rattle.tool_texts.specs.declared.status.Status.{Status}
 use Rattle.tool_texts.specs.declared.status.Status.TheVariants as status
 use Rattle.tool_texts.specs.Texts.{accepted_line}
@@ -20,7 +18,7 @@ use Rattle.tool_stages.specs.Envs.{environment}
 
 -- The image of a labelled program is sound in an environment, for runs that halt and for runs that are cut. Its
 -- source is the program that is labelled, without its labels.
-pub record IsSoundIn (v : Env (List Placed)) (q : LabelledProgram) : Type 0 where
+pub record IsSoundIn (v : Env (List Touch)) (q : LabelledProgram) : Type 0 where
   pub halted : Sound v q.program.order (AnyHistory q.program.order) (labels_of q) (levels_of q) (instrs_of q) (plan_of q.program)
   pub cut : CutSound v q.program.order (AnyHistory q.program.order) (labels_of q) (levels_of q) (instrs_of q) (plan_of q.program)
 
@@ -28,24 +26,25 @@ pub record IsSoundIn (v : Env (List Placed)) (q : LabelledProgram) : Type 0 wher
 abbrev pub IsSound : LabelledProgram → Type 0
 IsSound q = (e : EnvName) → IsSoundIn (environment e q.program.order) q
 
--- every program that words spell is, with each labelling that types it, the least one or another
+-- every program is, with each labelling that types it, the least one or another
 abbrev pub TypedAreSound : Type 0
-TypedAreSound =
-    (words : List Told) (p : Syntax) (q : LabelledProgram) → IsProgram words p → q.program ≡ p → IsLabelling p q.labels → HasType q → IsSound q
+TypedAreSound = (q : LabelledProgram) → IsTypedWith q → IsSound q
 
--- the program of a file is accepted: its least labelling types it
+-- the program of a file is accepted: its least labelling types it, so it is one of those that are sound
 pub record IsAccepted (content : Option (Option (List ℕ))) : Type 0 where
   pub program : Syntax
   pub reads : Reads content program
   pub labelled : LabelledProgram
   pub types : Types program labelled
+  pub typed : IsTypedWith labelled
 
--- the labelling that the certificate in another file holds types the program of a file
+-- the labelling that the certificate in another file holds types the program of a file, and it is sound with this one too
 pub record IsRechecked (content certificate : Option (Option (List ℕ))) : Type 0 where
   pub program : Syntax
   pub reads : Reads content program
   pub labelled : LabelledProgram
   pub rechecks : Rechecks certificate program labelled
+  pub typed : IsTypedWith labelled
 
 -- a program is accepted: how many commands and mitigates it has
 abbrev pub HasChecked : Syntax → Status → List ℕ → Type 0

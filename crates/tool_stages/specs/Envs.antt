@@ -15,20 +15,27 @@ use Rattle.leak_audit.specs.Report.{IsReport, IsAuditFault}
 use Rattle.cut_audit.specs.declared.report.CutReport.{CutReport}
 use Rattle.cut_audit.specs.declared.report.CutFault.{CutFault}
 use Rattle.cut_audit.specs.Report.{IsReport as IsCutReport, IsCutFault}
-use Rattle.part_tlb.specs.Histories.{Placed, history_of, flat_by_history, part_by_history, part2_by_history}
+use Rattle.env_contract.specs.declared.place.Touch.{Touch}
+use Rattle.part_tlb.specs.declared.bank.Hardware.{Hardware}
+use Rattle.part_tlb.specs.Machine.{hardware_by_history}
+use Rattle.part_tlb.specs.Named.{flat_machine, part_machine, part2_machine}
 use Rattle.history_bound.specs.Over.{AnyHistory, history_made}
 use Rattle.tool_words.specs.declared.words.EnvName.{EnvName}
 use Rattle.tool_words.specs.declared.words.EnvName.TheVariants.{Flat, Part, Part2}
 
+-- the machine that a name means
+abbrev pub machine_of : EnvName → Hardware
+machine_of Flat = flat_machine
+machine_of Part = part_machine
+machine_of Part2 = part2_machine
+
 -- the environment that a name means: what an access costs after a history of touches
-abbrev pub environment : EnvName → Order → Env (List Placed)
-environment Flat o = flat_by_history o
-environment Part o = part_by_history o
-environment Part2 o = part2_by_history o
+abbrev pub environment : EnvName → Order → Env (List Touch)
+environment e o = hardware_by_history (machine_of e) o
 
 -- what the run of an image from a start tells up to T
 abbrev pub told_in : EnvName → Order → Code → StartValue → ℕ → Told
-told_in e o code s t = told_by (run_from (environment e o) code.instrs t (record { memory = s.memory; env = history_of s.touches }))
+told_in e o code s t = told_by (run_from (environment e o) code.instrs t (record { memory = s.memory; env = s.touches }))
 
 -- what an audit up to T reports to an observer of the runs from starts, and why it may not
 abbrev pub ReportsIn : EnvName → LabelledProgram → ℕ → ℕ → List StartValue → AuditReport → Type 0

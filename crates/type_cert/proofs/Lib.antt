@@ -9,7 +9,6 @@ pub mod Whole
 pub mod Following
 pub mod Apart
 pub mod Pushing
-pub mod Raising
 pub mod Complete
 pub mod Held
 pub mod Back

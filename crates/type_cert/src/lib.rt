@@ -12,6 +12,4 @@ pub mod place;
 mod places;
 mod read;
 pub mod recheck;
-#[cfg(test)]
-mod tests;
 pub mod write;

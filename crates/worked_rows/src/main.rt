@@ -14,9 +14,10 @@ mod text;
 mod words_tests;
 
 // The tables, in the order in which they are run.
-const TABLES: [&str; 23] = [
+const TABLES: [&str; 24] = [
     "examples.txt",
     "texts.txt",
+    "grammar.txt",
     "prefixes.txt",
     "names.txt",
     "limits.txt",

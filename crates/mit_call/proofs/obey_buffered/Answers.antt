@@ -35,6 +35,7 @@ returns-in-Ok g c =
     let tool : HasEnded content Names (Rose before between) old taken words s =
     record {
       answered = e.answered;
+      ran = e.ran;
       usage = e.usage;
       sound = e.sound;
       accepted = e.accepted;
@@ -42,6 +43,7 @@ returns-in-Ok g c =
       complete = e.complete;
       write = e.write;
       one = e.one;
+      bounded = e.bounded;
     } in
     let here = ended content Names (Rose before between) (Rose before after) old taken new words s t leads tool in
     subst (λ n. HasEnded content Names (Rose n after) had new words t) count (subst (λ o. HasEnded content Names (Rose before after) o new words t) was here)
@@ -58,6 +60,7 @@ returns-in-Err g c =
     let here : HasEnded content Names (Rose (g.W.Sink.faults c.in-Err.out) after) (g.W.Sink.taken c.in-Err.out) new words s =
     record {
       answered = e.answered;
+      ran = e.ran;
       usage = e.usage;
       sound = e.sound;
       accepted = e.accepted;
@@ -65,5 +68,6 @@ returns-in-Err g c =
       complete = e.complete;
       write = e.write;
       one = e.one;
+      bounded = e.bounded;
     } in
     subst (λ o. HasEnded content Names (Rose (g.W.Sink.faults o) after) (g.W.Sink.taken o) new words s) c.in-Err.ensures.err here

@@ -3,7 +3,7 @@ use Rattle.std.specs.Prelude.{true, false, option_to_list}
 use Rattle.std.proofs.lemmas.Bool.{both_ways}
 use Rattle.label_lattice.specs.Order.{lattice_of}
 use Rattle.flow_path.specs.Origins.{joined}
-use Rattle.flow_path.specs.Telling.{IsSifted}
+use Rattle.flow_path.specs.Collecting.{IsSifted}
 use Rattle.flow_path.proofs.Joins.{insert_first, empty_is, sift_begins, sift_ends, sift_drops, sift_keeps}
 use Rattle.flow_path.proofs.needed.needed.Goals as goal
 
@@ -76,3 +76,11 @@ returns-clause-among c =
     let S = subst (λ z. IsSifted (lattice_of c.args.lattice.now) c.args.told.items z c.loop-origin.kept.items) (empty_is c.loop-origin.left.items none)
     c.loop-origin.invariant.sifted in
     (sift_ends lat c.laws.ensures.lattice c.args.told.items c.loop-origin.kept.items S).2
+
+pub returns-clause-is : goal.returns-clause-is
+returns-clause-is c =
+    let lat = lattice_of c.args.lattice.now in
+    let none : length c.loop-origin.left.items ≡ 0 = search rules in
+    let S = subst (λ z. IsSifted (lattice_of c.args.lattice.now) c.args.told.items z c.loop-origin.kept.items) (empty_is c.loop-origin.left.items none)
+    c.loop-origin.invariant.sifted in
+    (sift_ends lat c.laws.ensures.lattice c.args.told.items c.loop-origin.kept.items S).3

@@ -1,6 +1,6 @@
 use Rattle.std.proofs.Common.{length}
 use Rattle.label_lattice.specs.Order.{lattice_of}
-use Rattle.flow_path.specs.Telling.{IsSifted}
+use Rattle.flow_path.specs.Collecting.{IsSifted}
 use Rattle.flow_path.proofs.needed.needed.Given as goal
 
 abbrev pub invariant-loop-origin : goal.invariant-loop-origin

@@ -1,26 +1,36 @@
-use Rattle.std.proofs.Common.{rules, ◌≡◌, ◌∙◌, ap, sym, subst}
-use Rattle.std.specs.Prelude.{false, Some, slice_get}
-use Rattle.std.proofs.lemmas.Bool.{both_ways}
-use Rattle.std.proofs.lemmas.Option.{same_Some}
-use Rattle.label_lattice.specs.Lattice.{Flows}
-use Rattle.label_lattice.specs.Order.{lattice_of}
-use Rattle.flow_path.specs.declared.search.Link.{Link}
-use Rattle.flow_path.specs.Steps.{written}
-use Rattle.flow_path.specs.Origins.{joined}
-use Rattle.flow_path.specs.Telling.{told}
+use Rattle.std.proofs.Common.{rules, ◌≡◌, ◌+◌, ◌≤◌, refl, ap, sym, subst}
+use Rattle.std.specs.Prelude.{Option, None, Some, IfNone}
+use Rattle.label_lattice.specs.declared.label.Label.{Label}
+use Rattle.label_lattice.specs.Order.{Order}
+use Rattle.flow_path.specs.Chains.{ComesFrom}
+use Rattle.flow_path.specs.Ranks.{IsPlace}
+use Rattle.flow_path.specs.Origins.{IsOrigin}
+use Rattle.flow_path.specs.Collecting.{AreBelow}
+use Rattle.flow_path.proofs.Placing.{below_more, below_skips}
+use Rattle.flow_path.proofs.Standing.{place_within}
 use Rattle.flow_path.proofs.origins.tell.Goals as goal
 
-pub returns : goal.returns
-returns c = λ x a l have S e w.
-    let lat = lattice_of c.args.lattice.now in
-    let first = c.link_at-first.result in
-    let at = ap (λ z. slice_get z c.args.link) (sym c.deref.ensures.value) ∙ c.link_at-first.ensures in
-    let here : written c.args.p.now c.link_at-first.result.step.part.spot ≡ Some c.in-Some.label.number = search rules in
-    let same = same_Some l first (sym e ∙ at) in
-    let number = same_Some c.in-Some.label.number have (sym here ∙ ap (λ (z : Link). written c.args.p.now z.step.part.spot) (sym same) ∙ w) in
-    let J = joined lat c.args.told.now.items in
-    let flows = c.flows.ensures ∙ ap (λ z. lat.flows c.in-Some.label.number z) (c.join_of.ensures ∙ ap (λ z. joined lat z) c.deref-2.ensures.value) in
-    let no : c.flows.result ≡ false = search rules in
-    told (record { label = c.in-Some.label; chain = c.in_ok-chain.chain })
-    (λ g. both_ways (lat.flows c.in-Some.label.number J) (sym flows ∙ no) (subst (λ z. Flows lat z J) (sym number) g))
-    c.in_ok-push.ensures.items number (c.in_ok-chain.ensures x a l S e)
+none_there : {A : Type 0} (o : Option A) (P : Type 0) → ((x : A) → o ≡ Some x → ⊥) → IfNone o P → P
+none_there None P h p = p
+none_there (Some x) P h p = absurd (h x refl)
+
+pub insert-requires : goal.insert-requires
+insert-requires c =
+    let within = place_within c.args.lattice.now c.in-Some.new c.deref.result.now c.place-i.result c.place-i.ensures in
+    subst (λ z. c.place-i.result ≤ z) c.deref.ensures.len within
+
+pub returns-in_ok-insert : goal.returns-in_ok-insert
+returns-in_ok-insert c = λ B.
+    let s = c.args.p.now in
+    let spot = c.args.spot.now in
+    let w = c.in-Some.new in
+    let own : (c.in-Some.new.label ≡ c.args.label) × IsOrigin c.args.p.now c.args.spot.now c.in-Some.new = search rules in
+    let at = subst (λ (z : Order). IsPlace z c.in-Some.new c.args.told.now.items c.place-i.result) c.requires.lattice
+    (subst (λ z. IsPlace c.args.lattice.now c.in-Some.new z c.place-i.result) c.deref.ensures.value c.place-i.ensures) in
+    subst (λ z. AreBelow c.args.p.now c.args.spot.now (c.args.label.number + 1) z) (sym c.in_ok-insert.ensures.items)
+    (below_more s spot c.args.label.number c.args.told.now.items w c.place-i.result (ap (λ (z : Label). z.number) own.0) own.1 at B)
+
+pub returns-in_default : goal.returns-in_default
+returns-in_default c =
+    let none = none_there c.in_ok-new.field-0 (ComesFrom c.args.p.now c.args.spot.now c.args.label.number → ⊥) c.in_default.not-Some c.in_ok-new.ensures.none in
+    λ B. below_skips c.args.p.now c.args.spot.now c.args.label.number c.args.told.now.items none B

@@ -1,4 +1,3 @@
-use Rattle.std.specs.Prelude.{true, false}
 use Rattle.std.proofs.lemmas.Bool.{both_ways}
 use Rattle.flow_path.specs.Distances.{GoalCosts}
 use Rattle.flow_path.proofs.Firsts.{then_skips}

@@ -2,12 +2,12 @@ use Rattle.std.proofs.Common.{subst}
 use Rattle.std.specs.Prelude.{List}
 use Rattle.label_lattice.specs.Order.{Order}
 use Rattle.env_contract.specs.Env.{Env}
-use Rattle.part_tlb.specs.Histories.{Placed}
+use Rattle.env_contract.specs.declared.place.Touch.{Touch}
 use Rattle.history_bound.specs.Over.{history_made}
 use Rattle.lab_timeline.specs.Alike.{TimelinesTellAlike}
 use Rattle.lab_timeline.proofs.Alike.{timelines_tell_alike}
 use Rattle.lab_timeline.proofs.laws.timelines_are_the_same.Goals as goal
 
 pub returns : goal.returns
-returns g c = subst (λ (w : Order → Env (List Placed)). TimelinesTellAlike g.E.MachineEnv.env g.M.MakeEnv.made w history_made) g.met.M.NamedEnv.means
+returns g c = subst (λ (w : Order → Env (List Touch)). TimelinesTellAlike g.E.MachineEnv.env g.M.MakeEnv.made w history_made) g.met.M.NamedEnv.means
     (timelines_tell_alike _ _ g.M.ByHistory.by_history history_made g.M.ByHistory.stands g.met.M.ByHistory.does g.met.M.ByHistory.starts)

@@ -10,6 +10,7 @@ returns c = record {
   join = c.in_ok-origins.ensures.join;
   needed = c.in_ok-origins.ensures.needed;
   none = c.in_ok-origins.ensures.none;
+  told = c.in_ok-origins.ensures.told;
   lines = tells_lines c.args.text.now c.args.tokens.now c.args.p.now c.args.word.now c.args.spot.now c.in_ok-origins.origins.items c.as_slice.result.now
       c.program-program.result.now c.lattice.result c.label_there.result
       c.as_bytes.result.now c.bytes.result.now c.as_slice-2.result.now c.extend_from_slice-5.new.self.items

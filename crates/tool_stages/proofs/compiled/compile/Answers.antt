@@ -1,6 +1,7 @@
 use Rattle.std.specs.Prelude.{ℕ, List, option_map}
 use Rattle.tim_base.specs.Faults.{Rose}
 use Rattle.tool_stages.proofs.PrepareLemmas.{compiled_of, program_stops}
+use Rattle.tool_stages.proofs.SoundLemmas.{least_made}
 use Rattle.tool_stages.proofs.compiled.compile.Goals as goal
 
 pub returns-in-Ok-clause-ok : goal.returns-in-Ok-clause-ok
@@ -20,4 +21,5 @@ returns-in-Ok-clause-accepted g c = record {
   reads = c.in_ok-program.ensures.ok;
   labelled = c.in-Ok.compiled.typed.labelled;
   types = c.in-Ok.ensures.ok.types;
+  typed = least_made _ c.in_ok-program.program c.in-Ok.compiled.typed.labelled c.in_ok-program.ensures.ok.spelled c.in-Ok.ensures.ok.types;
 }

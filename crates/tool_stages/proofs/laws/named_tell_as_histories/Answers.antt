@@ -2,16 +2,16 @@ use Rattle.std.proofs.Common.{subst}
 use Rattle.std.specs.Prelude.{List}
 use Rattle.label_lattice.specs.Order.{Order}
 use Rattle.env_contract.specs.Env.{Env}
-use Rattle.part_tlb.specs.Histories.{Placed}
+use Rattle.env_contract.specs.declared.place.Touch.{Touch}
 use Rattle.history_bound.specs.Over.{AnyHistory, history_made}
 use Rattle.history_reports.specs.Reports.{RunsTellAlike, AuditsTellAlike}
 use Rattle.tool_stages.proofs.laws.named_tell_as_histories.Goals as goal
 
 pub returns-clause-runs : goal.returns-clause-runs
-returns-clause-runs g c = subst (λ (w : Order → Env (List Placed)). RunsTellAlike g.E.MachineEnv.env g.M.MakeEnv.made w history_made)
+returns-clause-runs g c = subst (λ (w : Order → Env (List Touch)). RunsTellAlike g.E.MachineEnv.env g.M.MakeEnv.made w history_made)
     g.met.M.NamedEnv.means c.reports_are_the_same.ensures.runs
 
 pub returns-clause-audits : goal.returns-clause-audits
 returns-clause-audits g c = subst
-    (λ (w : Order → Env (List Placed)). AuditsTellAlike g.E.MachineEnv.env g.M.MakeEnv.made w history_made g.E.MachineEnv.serves AnyHistory)
+    (λ (w : Order → Env (List Touch)). AuditsTellAlike g.E.MachineEnv.env g.M.MakeEnv.made w history_made g.E.MachineEnv.serves AnyHistory)
     g.met.M.NamedEnv.means c.reports_are_the_same.ensures.audits

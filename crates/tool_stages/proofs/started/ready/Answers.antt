@@ -1,4 +1,4 @@
-use Rattle.std.proofs.Common.{ap, ◌∙◌}
+use Rattle.std.proofs.Common.{ap, ◌∙◌, arith}
 use Rattle.std.specs.Prelude.{ℕ, List, option_map}
 use Rattle.tim_base.specs.Faults.{Rose}
 use Rattle.start_file.specs.Starts.{seen}
@@ -30,6 +30,12 @@ returns-in-Err-first_start-clause-stop g c =
 
 pub returns-in-Ok-first_start-clause-same : goal.returns-in-Ok-first_start-clause-same
 returns-in-Ok-first_start-clause-same g c = λ name. c.first_start.ensures.same name ∙ c.compile.ensures.same name
+
+pub returns-in-Ok-first_start-clause-later : goal.returns-in-Ok-first_start-clause-later
+returns-in-Ok-first_start-clause-later g c = λ name. omega (arith, c.compile.ensures.later name, c.first_start.ensures.later name)
+
+pub returns-in-Err-first_start-clause-later : goal.returns-in-Err-first_start-clause-later
+returns-in-Err-first_start-clause-later g c = λ name. omega (arith, c.compile.ensures.later name, c.first_start.ensures.later name)
 
 pub returns-in-Ok-first_start-clause-ok : goal.returns-in-Ok-first_start-clause-ok
 returns-in-Ok-first_start-clause-ok g c = record {

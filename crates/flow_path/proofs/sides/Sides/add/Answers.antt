@@ -2,7 +2,7 @@ use Rattle.std.proofs.Common.{rules, ◌≡◌, ◌<◌, ◌∙◌, refl, sym, s
 use Rattle.std.specs.Prelude.{None}
 use Rattle.std.proofs.lemmas.Option.{none-some}
 use Rattle.flow_path.specs.Distances.{IsFound, SideCosts}
-use Rattle.flow_path.proofs.Searching.{get_same}
+use Rattle.flow_path.proofs.Lists.{get_same}
 use Rattle.flow_path.proofs.Firsts.{add_side, skip_side}
 use Rattle.flow_path.proofs.sides.Sides.add.Goals as goal
 

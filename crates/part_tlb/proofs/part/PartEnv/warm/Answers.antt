@@ -1,7 +1,6 @@
 use Rattle.std.proofs.Common.{◌≡◌, sym, ap, ◌∙◌, subst, []}
 use Rattle.std.proofs.lemmas.List.{drop_all}
 use Rattle.part_cache.specs.Rows.{IsCacheOf, StandsFor}
-use Rattle.part_tlb.specs.Histories.{history_of}
 use Rattle.part_tlb.specs.Structures.{IsMadeFor, StandsForAll, warmed}
 use Rattle.part_tlb.specs.Envs.{part_structure, part_structure, part_touched, empty_part}
 use Rattle.part_tlb.specs.Keeps.{touch_serves}
@@ -23,7 +22,7 @@ returns-clause-history c =
     let end : c.loop-touch.env ≡ warmed part_touched (empty_part c.args.lattice) c.args.touches.now =
     ap (warmed part_touched c.loop-touch.env) (sym (drop_all c.loop-touch.touch-index c.args.touches.now c.loop-touch-test.false))
     ∙ c.loop-touch.invariant.rest in
-    subst (λ e. StandsForAll part_structure e (history_of c.args.touches.now)) (sym end)
+    subst (λ e. StandsForAll part_structure e c.args.touches.now) (sym end)
     (warmed_stands part_structure part_touched part_moves c.args.lattice (empty_part c.args.lattice) c.args.touches.now []
     (part_serves c.args.lattice (empty_part c.args.lattice)
     (subst (IsCacheOf c.args.lattice 1 4) c.in_ok-buffer.ensures.value c.in_ok-buffer.ensures.cache)

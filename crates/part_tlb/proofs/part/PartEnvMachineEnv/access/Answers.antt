@@ -1,5 +1,5 @@
 use Rattle.std.proofs.Common.{rules, sym, ◌∙◌, subst}
-use Rattle.part_tlb.specs.Histories.{part_history}
+use Rattle.part_tlb.specs.Machine.{accessed}
 use Rattle.part_tlb.specs.Structures.{IsMadeFor, StandsForAll}
 use Rattle.part_tlb.specs.Envs.{part_structure}
 use Rattle.part_tlb.specs.Laws.{part_keeps}
@@ -18,7 +18,7 @@ returns-clause-history_cost c order h serves stands =
 
 pub returns-clause-history_next : goal.returns-clause-history_next
 returns-clause-history_next c h stands =
-    subst (λ e. StandsForAll part_structure e (part_history c.args.kind c.args.address c.args.ew.number h)) (sym (returns-clause-next c))
+    subst (λ e. StandsForAll part_structure e (accessed c.args.kind c.args.address c.args.ew.number h)) (sym (returns-clause-next c))
     (part_after_stands c.requires.0 c.args.kind c.args.address c.args.er.number c.args.ew.number c.args.self.now h c.requires.1.0 c.requires.1.2 stands)
 
 pub returns-clause-serves : goal.returns-clause-serves

@@ -3,7 +3,6 @@ use Rattle.std.proofs.lemmas.List.{drop_all}
 use Rattle.std.proofs.lemmas.List.Elements.{All-get_or}
 use Rattle.part_tlb.specs.declared.part.PartEnv.{PartEnv}
 use Rattle.part_cache.specs.Rows.{Rows, IsCacheOf, StandsFor}
-use Rattle.part_tlb.specs.Histories.{history_of}
 use Rattle.part_tlb.specs.Structures.{IsMadeFor, StandsForAll, warmed}
 use Rattle.part_tlb.specs.Envs.{part_structure, empty_part, part2_structure, part2_touched, empty_part2}
 use Rattle.part_tlb.specs.Keeps.{touch_serves}
@@ -45,7 +44,7 @@ returns-clause-history c =
     let end : c.loop-touch.env ≡ warmed part2_touched (empty_part2 c.args.lattice) c.args.touches.now =
     ap (warmed part2_touched c.loop-touch.env) (sym (drop_all c.loop-touch.touch-index c.args.touches.now c.loop-touch-test.false))
     ∙ c.loop-touch.invariant.rest in
-    subst (λ e. StandsForAll part2_structure e (history_of c.args.touches.now)) (sym end)
+    subst (λ e. StandsForAll part2_structure e c.args.touches.now) (sym end)
     (warmed_stands part2_structure part2_touched part2_moves c.args.lattice (empty_part2 c.args.lattice) c.args.touches.now []
     (part2_serves c.args.lattice (empty_part2 c.args.lattice)
     (subst (IsMadeFor part_structure c.args.lattice) c.in_ok-first.ensures.value c.in_ok-first.ensures.serves)

@@ -1,0 +1,9 @@
+pub mod Touching
+pub mod Lawful
+pub mod Broken
+pub mod Seated
+pub mod Within
+pub mod Ruled
+pub mod Least
+pub mod Filled
+pub mod Named

@@ -1,0 +1,5 @@
+pub mod Limits
+pub mod Seats
+pub mod Envs
+pub mod Laws
+pub mod Rules

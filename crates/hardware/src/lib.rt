@@ -1,0 +1,9 @@
+//! Machines as values: banks of tags of any sizes and costs, partitioned by labels or shared by all.
+#![tactic(auto)]
+
+pub mod laws;
+pub mod limits;
+pub mod machine;
+mod seat;
+#[cfg(test)]
+mod tests;

@@ -1,0 +1,7 @@
+pub mod Tags
+pub mod Two
+pub mod Clear
+pub mod Backs
+pub mod Scan
+pub mod Back
+pub mod Quiet

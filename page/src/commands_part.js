@@ -1,0 +1,37 @@
+// The command lines that give the same answers, ready to copy.
+
+import { escaped } from './colours.js';
+import { commandLines } from './commands.js';
+import { $, shown, state } from './state.js';
+
+let kind = ''; // what the lines are for: where there is no program they stay as they were
+
+/** The command lines of what is shown. */
+export function commandsNow() {
+  const { verdict, audit } = shown;
+  if (verdict?.kind === 'accepted') kind = audit?.isCut ? 'cut' : 'accepted';
+  else if (verdict?.kind === 'refused' || !kind) kind = verdict?.kind ?? '';
+  return commandLines(state, kind);
+}
+
+export function drawCommands() {
+  const rows = commandsNow().map(({ says, line }) => `<div class="command"><span>${says}</span> <code>${escaped(line)}</code> `
+    + `<button type="button" class="link" data-copy-line="${escaped(line)}" aria-label="Copy the command for ${says}">Copy</button></div>`);
+  const text = rows.join('');
+  if ($('command-list').innerHTML !== text) $('command-list').innerHTML = text;
+}
+
+export function listenCommands() {
+  $('command-list').addEventListener('click', async ({ target }) => {
+    const line = target.dataset.copyLine;
+    if (line === undefined) return;
+    try {
+      await navigator.clipboard.writeText(line);
+      target.textContent = 'Copied';
+    } catch {
+      getSelection().selectAllChildren(target.previousElementSibling);
+      target.textContent = 'Selected';
+    }
+    setTimeout(() => { target.textContent = 'Copy'; }, 2500);
+  });
+}

@@ -1,0 +1,71 @@
+// What was found, in a sentence.
+
+import { counted, inWords, spaced } from './numbers.js';
+import { labelText, placeText } from './marks.js';
+import { escaped } from './colours.js';
+
+const capital = (text) => text[0].toUpperCase() + text.slice(1);
+
+// The lesser of the limits: the sharp count, or where there is none the bound.
+function limitOf(report, sharp) {
+  return sharp?.sharp ?? BigInt(report.base) ** BigInt(report.exponent);
+}
+
+const limitWords = (limit) => (limit < 10n ** 6n ? inWords(limit) : `2<sup>${bitsIn(limit)}</sup>`);
+
+// The least B with a number at most 2^B.
+function bitsIn(number) {
+  return (number - 1n).toString(2).length;
+}
+
+function ofReport({ report, isCut, sharp }, labels) {
+  const who = `an observer at ${labelText(report.observer, labels)}`, limit = limitOf(report, sharp), { runs, distinct } = report;
+  if (isCut) {
+    const some = `${capital(inWords(report.halted))} of ${counted(runs, 'run')} ${report.halted === 1 ? 'has' : 'have'}`;
+    const timings = distinct === 1 ? 'one timing' : `${inWords(distinct)} different timings`;
+    const halted = `${report.halted === 0 ? 'No run has' : some} halted by cycle ${spaced(report.budget)}`;
+    return `${halted}. Until then ${who} sees ${timings}.`;
+  }
+  const most = limit === 1n
+    ? 'no other is possible'
+    : `at most ${limitWords(limit)} are possible`;
+  if (runs === 1) return `Of one run ${who} sees one timing; ${limit === 1n ? most : `with other secrets ${most}`}.`;
+  if (distinct === 1) {
+    return `${capital(who)} cannot tell these ${inWords(runs)} runs apart; ${limit === 1n ? most : `with other secrets ${most}`}.`;
+  }
+  return `Of ${inWords(runs)} runs ${who} sees ${inWords(distinct)} different timings; ${most}.`;
+}
+
+/** What was found of a program and its starts, as HTML; empty where nothing was found yet. */
+export function findingText({ verdict, audit, labels, observer }) {
+  if (verdict?.kind === 'syntax') {
+    return `This is not a program: ${escaped(verdict.what)}${verdict.place ? ` at ${placeText(verdict.place)}` : ''}.`;
+  }
+  if (verdict?.kind === 'refused') {
+    const { from, to } = verdict;
+    const what = `what is ${labelText(from, labels)} would reach ${labelText(to, labels)}`;
+    return `Refused, since at ${placeText(verdict.place)} ${what}. No limit holds for how much it tells.`;
+  }
+  if (verdict && verdict.kind !== 'accepted') return `There is no verdict: ${escaped(verdict.text)}.`;
+  if (audit?.report) return ofReport(audit, labels);
+  if (audit?.refusal) return refusalText(audit.refusal, labels, observer);
+  return '';
+}
+
+/** Why there is no count, as HTML. */
+export function refusalText(refusal, labels, observer) {
+  const disagree = /^disagree: run (\d+): (variable|partition) (.+)$/.exec(refusal.text);
+  if (disagree) {
+    const [, run, kind, name] = disagree;
+    const what = kind === 'variable' ? `the variable <code>${escaped(name)}</code>` : `the cache partition ${escaped(name)}`;
+    return `No count: the starts must agree in all that an observer at ${labelText(observer, labels)} may see, `
+      + `and run ${run} differs from run 1 in ${what}.`;
+  }
+  if (refusal.kind === 'starts') return `No runs: <code>${escaped(refusal.text)}</code>.`;
+  return `No count: <code>${escaped(refusal.text)}</code>.`;
+}
+
+/** Whether runs that were tried can be told apart. */
+export function isLeaking(audit) {
+  return Boolean(audit?.report && audit.report.distinct > 1);
+}

@@ -1,0 +1,172 @@
+"""Whom the page serves: by keys, by names, at all sizes; and what stands where."""
+import time
+
+from driving import holds, same
+
+NAME = """
+const nameOf = (one) => (one.getAttribute('aria-label')
+  || (one.labels?.length ? [...one.labels].map((label) => label.textContent).join(' ') : '')
+  || (one.getAttribute('aria-labelledby') && document.getElementById(one.getAttribute('aria-labelledby')).textContent)
+  || one.textContent).trim().replace(/\\s+/g, ' ');
+const seen = (selector) => [...document.querySelectorAll(selector)].filter((one) => one.offsetParent && one.getClientRects().length);
+"""
+CONTROLS = "button, select, input, textarea, summary, [tabindex='0'], [contenteditable='true']"
+INTERFACE = ":not(.CodeMirror *)"
+
+
+def fold(page):
+    """At 1366 by 768 what was found, the program and the picture of the runs stand above the fold, side by side."""
+    page.browser.resize(1366, 768)
+    page.choose(0)
+    script = "const box = document.querySelector(arguments[0]).getBoundingClientRect(); return [box.left, box.top, box.right, box.bottom]"
+    boxes = {name: page.run(script, name) for name in ("#sentence", "#audit", ".editor", "#lanes svg")}
+    for name, (left, top, right, bottom) in boxes.items():
+        holds(0 <= left < right <= 1366 and 0 <= top < bottom <= 768, f"{name}: {left} {top} {right} {bottom}")
+    holds(boxes[".editor"][2] <= boxes["#lanes svg"][0], "the program stands beside the picture")
+    page.browser.resize(1360, 900)
+
+
+def no_praise(page):
+    """No tick and no colour of success stands over a program of which the point is that it leaks."""
+    page.choose(0)
+    good = "return getComputedStyle(document.documentElement).getPropertyValue('--good')"
+    holds(page.run(good), "a colour of success")
+    found = page.run(
+        "const probe = document.createElement('i'); probe.style.color = 'var(--good)'; document.body.append(probe);"
+        " const good = getComputedStyle(probe).color; probe.remove();"
+        " return [...document.querySelectorAll('#verdict, #verdict *, #finding, #finding *')]"
+        ".filter((one) => getComputedStyle(one).color === good || one.tagName === 'svg').length"
+    )
+    same(found, 0, "how much says that all is good")
+
+
+def keyboard(page):
+    page.open()
+    page.run(
+        "window.focused = []; document.addEventListener('focusin', ({ target: one }) =>"
+        " focused.push(one.id || one.dataset.name || (one.closest('.CodeMirror') ? 'editor' : one.className)))"
+    )
+    page.browser.press(*["Tab"] * 60)
+    seen = page.run("return window.focused")
+    for wanted in (
+        "lesson-open", "example", "copy", "theme", "labels-shown", "find", "code-open", "editor", "problems", "zoom-in", "time-save",
+        "observer", "environment", "budget", "lanes", "starts-form",
+    ):
+        holds(wanted in seen, f"Tab reaches {wanted}: {seen}")
+
+
+def names(page):
+    """All that can be used has a name, and no two buttons have the same one; headings hold no buttons."""
+    for number in (0, 2, 5):
+        page.choose(number)
+        page.run("for (const one of document.querySelectorAll('details')) one.open = true")
+        found = page.run(NAME + f"return seen(\"{CONTROLS}\").map((one) => [one.tagName, nameOf(one), one.outerHTML.slice(0, 90)])")
+        same([html for _, name, html in found if not name], [], "what has no name")
+        buttons = [name for tag, name, _ in found if tag == "BUTTON"]
+        same(sorted({name for name in buttons if buttons.count(name) > 1}), [], "names of several buttons")
+        same(page.count("h1 button, h2 button, h3 button, h1 select, h2 select, h2 input"), 0, "controls in headings")
+        page.run("document.getElementById('file-menu').open = false")
+
+
+def targets(page):
+    """What can be pressed is at least 24 by 24, but for places within a sentence."""
+    for wide in (1360, 500 if page.browser.name == "firefox" else 390):
+        page.browser.resize(wide, 900)
+        for number in (0, 2):
+            page.choose(number)
+            page.run("for (const one of document.querySelectorAll('details')) one.open = true")
+            small = page.run(
+                NAME + f"return seen(\"button, select, summary, input\").filter((one) => one.matches('{INTERFACE}') && !one.matches('p .place'))"
+                ".map((one) => [one, one.getBoundingClientRect()]).filter(([, box]) => box.width < 24 || box.height < 24)"
+                ".map(([one, box]) => `${one.outerHTML.slice(0, 70)} ${box.width} ${box.height}`)"
+            )
+            small = [one for one in small if 'type="checkbox"' not in one]
+            same(small, [], f"what is too small at {wide}")
+            page.run("document.getElementById('file-menu').open = false")
+    page.browser.resize(1360, 900)
+
+
+def told(page):
+    """What changes is told to those who do not see the page."""
+    page.choose(0)
+    same(page.run("return document.getElementById('announce').getAttribute('role')"), "status", "its role")
+    holds("three different timings" in page.text("#announce"), page.text("#announce"))
+    page.write(page.program().replace("(16, H)", "(512, H)"))
+    holds("cannot tell these nine runs apart" in page.text("#announce"), page.text("#announce"))
+    page.write(page.program() + "x")
+    holds("not a program" in page.text("#announce"), page.text("#announce"))
+
+
+def narrow(page):
+    page.browser.resize(500 if page.browser.name == "firefox" else 390, 844)
+    for number in range(len(page.examples())):
+        page.choose(number)
+        wide, inner = page.run("return [document.documentElement.scrollWidth, innerWidth]")
+        holds(wide <= inner, f"{page.examples()[number]}: {wide} wide in {inner}")
+    page.browser.resize(1360, 900)
+
+
+BOXES = """
+return ['header', 'main > section', '.editor', '#problems', '#lanes', '#sentence', '#audit', '#starts-table', '#sweep-picture', 'footer']
+  .flatMap((selector) => [...document.querySelectorAll(selector)]).filter((one) => one.getClientRects().length)
+  .map((one) => { const { left, top, width, height } = one.getBoundingClientRect(); return [one.id || one.className || one.tagName,
+    Math.round(left), Math.round(top + scrollY), Math.round(width), Math.round(height)].join(' '); });
+"""
+WATCH = """
+window.shifts = 0;
+new PerformanceObserver((list) => { for (const one of list.getEntries()) window.shifts += one.value; }).observe({ type: 'layout-shift' });
+"""
+
+
+def a_letter_and_back(page):
+    """Types a wrong letter and undoes it: gives the boxes before, with it, and after."""
+    page.choose(0)
+    page.browser.wait("return document.getElementById('sweep').getAttribute('aria-busy') !== 'true'", 60, "a sweep")
+    page.caret("done := 1")
+    page.run("scrollTo(0, 0); for (const one of document.querySelectorAll('details')) one.open = false")
+    time.sleep(0.5)
+    found = [page.run(BOXES)]
+    if page.browser.name == "chromium":
+        page.run(WATCH)
+    page.browser.type("$")
+    page.idle()
+    found.append(page.run(BOXES))
+    page.browser.press("Control+z")
+    page.idle()
+    page.browser.wait("return document.getElementById('sweep').getAttribute('aria-busy') !== 'true'", 60, "a sweep")
+    found.append(page.run(BOXES))
+    return found
+
+
+def nothing_moves(page):
+    """With one wrong letter the last answer stays in its place, and nothing moves."""
+    before, during, after = a_letter_and_back(page)
+    same(during, before, "where all stands with a wrong letter")
+    same(after, before, "where all stands without it")
+    same(page.count(".lane"), 9, "lanes")
+    if page.browser.name == "chromium":
+        same(page.run("return window.shifts"), 0, "the sum of all shifts")
+
+
+def measure(page):
+    a_letter_and_back(page)
+    if page.browser.name == "chromium":
+        print(f"  the sum of shifts of a letter that is typed and undone: {page.run('return window.shifts')}")
+
+
+def forced_colours(page):
+    """In forced colours, with more contrast and for print everything is still there (Chromium can be told so)."""
+    if page.browser.name != "chromium":
+        return
+    page.choose(0)
+    for feature, value in (("forced-colors", "active"), ("prefers-contrast", "more")):
+        page.browser.devtools("Emulation.setEmulatedMedia", features=[{"name": feature, "value": value}])
+        same(page.count(".lane"), 9, f"lanes with {feature}")
+        ink, ground = page.run("const s = getComputedStyle(document.body); return [s.color, s.backgroundColor]")
+        holds(ink != ground, f"{feature}: {ink} on {ground}")
+    page.browser.devtools("Emulation.setEmulatedMedia", media="print", features=[])
+    holds(page.run("return getComputedStyle(document.getElementById('lesson-open')).display") == "none", "no buttons in print")
+    page.browser.devtools("Emulation.setEmulatedMedia", media="", features=[])
+
+
+TRIALS = [fold, no_praise, keyboard, names, targets, told, nothing_moves, forced_colours, narrow]

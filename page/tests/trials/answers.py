@@ -1,0 +1,109 @@
+"""Whose answer is shown: what belongs to another text is dimmed and says so, and what is wrong is told in words."""
+from driving import EXAMPLES, ENDLESS, all_dimmed, holds, none_dimmed, same
+
+OLD = [".number-of b", ".lane text[font-weight]", "#starts-table td.seen"]
+MANY = "var h : H;\nvar l : L;\n" + ";\n".join(["mitigate (64, H) { h := 0 }"] * 24) + ";\nl := 1\n"
+THIRD = "var h : H;\nvar l : L;\nl := 1;\nl := 2;\nmitigate (1, H) { while h > 0 do { h := h - 1 } };\nl := 3\n"
+THREE = "".join(f"[[run]]\nmemory = {{ h = {n} }}\n\n" for n in (0, 9, 40))
+
+
+def says_earlier(page):
+    return "earlier program" in page.run("return document.body.innerText").lower()
+
+
+def dimmed_at_the_key(page):
+    """From the key on, before anything is asked, all numbers are of the program before."""
+    page.choose(0)
+    for selector in OLD:
+        none_dimmed(page, selector, selector)
+    holds(not says_earlier(page), "nothing says that it is of an earlier program")
+    for selector, (seen, dimmed), text in page.write_and_look(page.program() + " ", OLD):
+        holds(seen > 0, f"{selector} can be seen")
+        same(dimmed, seen, f"how many of {selector} are dimmed")
+        holds("earlier program" in text, "it says so")
+    page.idle()
+    for selector in OLD:
+        none_dimmed(page, selector, f"{selector}, answered")
+
+
+def dimmed_during_a_run(page):
+    """While a long run goes on, and after it was stopped, what is left is of the program before."""
+    page.choose(3)
+    page.set("#budget", str(2**40))
+    page.idle()
+    page.write_now(ENDLESS)
+    page.browser.wait("return !document.getElementById('working').hidden", 20, "the note that it works")
+    holds("Accepted" in page.text("#verdict"), "the new verdict is there")
+    for selector in OLD:
+        all_dimmed(page, selector, selector)
+    holds(says_earlier(page), "it says so")
+    page.browser.click("#stop")
+    page.idle()
+    holds("topped" in page.text("#freshness"), "it says that it was stopped")
+    seen, dimmed = page.dimmed("#starts-table td.seen")
+    same(dimmed, seen, "what is seen of a program that was not run")
+    seen, dimmed = page.dimmed(".lane")
+    same(dimmed, seen, "the lanes of a program that was not run")
+
+
+def bounds_rounded_up(page):
+    """No bound is told smaller than it is: it stands whole, or is rounded up."""
+    page.choose(4)
+    page.write(MANY, "[[run]]\nmemory = { h = 1 }\n")
+    text = page.text("#audit").replace("\u202f", "")
+    holds("3562467300" in text or "3.57" in text, f"the sharp count: {text}")
+    holds("about 10" not in text, "no bound is rounded down")
+    high = page.run(
+        "return [...document.querySelectorAll('.number-of b')].map((one) =>"
+        " one.getBoundingClientRect().height / parseFloat(getComputedStyle(one).fontSize))"
+    )
+    holds(max(high) < 1.9, f"no number is broken in its middle: {high}")
+
+
+def if_without_else_marked(page):
+    page.write((EXAMPLES / "refused/if.mit").read_text(), "[[run]]\n")
+    holds("at 6:3" in page.text("#verdict"), page.text("#verdict"))
+    same("".join(page.texts("#editor .wrong, #layer .wrong")).replace(" ", ""), "ifk>0@[L,L]then", "what is marked")
+
+
+def classes_read_apart(page):
+    """Runs of different classes differ in what the table says of them, wherever they differ."""
+    page.write(THIRD, THREE)
+    texts = page.texts("#starts-table td.seen")
+    same(len(texts), 3, "rows")
+    same(len(set(texts)), int(page.text("#audit .number-of b")), f"different texts: {texts}")
+
+
+def budget_told(page):
+    page.choose(4)
+    for wrong in ("x", "0", "1099511627777", ""):
+        page.set("#budget", wrong)
+        page.idle()
+        fault = page.run("const one = document.getElementById('budget-fault'); return one && one.getClientRects().length ? one.innerText : ''")
+        holds("from 1 to 1\u202f099\u202f511\u202f627\u202f776" in fault, f"words for {wrong!r}: {fault!r}")
+        for selector in OLD:
+            all_dimmed(page, selector, selector)
+    page.set("#budget", "1 000")
+    page.idle()
+    for selector in OLD:
+        none_dimmed(page, selector, selector)
+
+
+def cell_told(page):
+    page.choose(4)
+    page.set("#starts-table input[data-row=\"1\"]", "4x")
+    page.idle()
+    fault = page.text("#starts-fault")
+    holds("run 2" in fault and "h" in fault and "4x" in fault, f"words for a cell: {fault!r}")
+    for selector in OLD:
+        all_dimmed(page, selector, selector)
+    page.set("#starts-table input[data-row=\"1\"]", "4")
+    page.idle()
+    same(page.text("#starts-fault"), "", "the fault")
+    for selector in OLD:
+        none_dimmed(page, selector, selector)
+
+
+TRIALS = [
+    dimmed_at_the_key, dimmed_during_a_run, bounds_rounded_up, if_without_else_marked, classes_read_apart, budget_told, cell_told,
+]

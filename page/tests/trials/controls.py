@@ -1,0 +1,220 @@
+"""Each control, changed from its default: what the page shows then is what ./mitigate and ./lab tell of the same input."""
+import pathlib
+import re
+import subprocess
+import tempfile
+
+from driving import EXAMPLES, SWEPT, TOP, holds, same
+
+PROGRAMS = TOP / "programs/x86_64-linux"
+LABELS = "labels A, B, C;\norder A < B, B < C;\nvar a : A;\nvar b : B;\nvar c : C;\n"
+LEVELS = LABELS + "mitigate (2, C) { while c > 0 do { c := c - 1 } };\na := 2;\nmitigate (8, C) { if c > 1 then { sleep 9 } else { skip } };\nb := 1\n"
+LEVEL_STARTS = "".join(f"[[run]]\nmemory = {{ c = {n} }}\n\n" for n in (0, 3, 9))
+DATA = "[...document.querySelectorAll(arguments[0])].map((one) => one.dataset[arguments[1]])"
+
+
+def call(program, words, mit, toml):
+    """What a proved program prints for these texts, by the words of its command line."""
+    with tempfile.TemporaryDirectory(prefix="page-call-") as folder:
+        for name, text in (("program.mit", mit), ("starts.toml", toml)):
+            (pathlib.Path(folder) / name).write_text(text, encoding="utf-8")
+        ran = subprocess.run([PROGRAMS / program, *words.split()], cwd=folder, capture_output=True, text=True)
+    return ran.stdout
+
+
+def number(word, text):
+    return re.search(rf"^{word} (\S+)", text, re.MULTILINE)[1]
+
+
+def compare(page, observer="L", env="part", budget="1000000"):
+    """All that the page shows of the present program, beside what the programs print; with how many runs differ."""
+    mit, toml = page.program(), page.value("#toml")
+    settings = f"--env {env} --budget {budget}"
+    audit = call("mitigate", f"audit program.mit starts.toml --observer {observer} {settings}", mit, toml)
+    holds(audit.startswith("runs "), audit)
+    plain = page.text("#audit").replace("\u202f", "")
+    distinct = number("distinct", audit)
+    same(page.text("#audit .number-of b"), distinct, "the number of sequences")
+    base, exponent = number("bound", audit).split("^")
+    bound = page.run("return [...document.querySelectorAll('#audit .number-of b')].at(-1).innerHTML")
+    same(bound, "1" if base == "1" else f"{base}<sup>{exponent}</sup>", "the bound")
+    limits = call("lab", f"bound program.mit starts.toml --observer {observer} {settings}", mit, toml)
+    sharp, bits = number("sharp", limits), number("bits", limits)
+    holds(f"{sharp}at most, by the sharp count: {bits} bit" in plain, f"the sharp count {sharp}: {plain}")
+    times = "time" if number("guess at most", limits) == "1" else "times"
+    holds(f"at most {number('guess at most', limits)} {times} as often" in page.text("#audit-text").replace("\u202f", ""), "odds")
+    holds(f"at {observer} up to cycle {budget}" in page.text("#audit-text").replace("\u202f", ""), page.text("#audit-text"))
+    classes = re.findall(r"^run \d+ class (\d+)$", audit, re.MULTILINE)
+    same(page.texts("#starts-table .class"), classes, "the classes of the table")
+    compare_lanes(page, observer, settings, mit, toml)
+    return int(distinct)
+
+
+def compare_lanes(page, observer, settings, mit, toml):
+    """Each lane and each row of the table, beside what is printed of its run."""
+    seen = call("lab", f"seen program.mit starts.toml --observer {observer} {settings}", mit, toml).splitlines()
+    lanes = page.run("return [...document.querySelectorAll('.lane')].map((one) => one.getAttribute('aria-label'))")
+    rows = page.texts("#starts-table td.seen")
+    same(len(lanes), len(seen), "lanes")
+    for lane, row, line in zip(lanes, rows, seen):
+        events = [] if line.endswith("\t-") else line.split("\t")[1].split()
+        words = [re.sub(r"^(.*)=(.*)@(\d+)$", r"\1 = \2 at \3", event) for event in events]
+        plain = lane.replace("\u202f", "")
+        holds(all(word in plain for word in words), f"{lane}: {words}")
+        same(plain.count(" = "), len(words), f"how much is told as seen in {lane}")
+        holds(all(re.sub(" at ", " @", word) in row for word in words[:2]), f"{row}: {words}")
+    told = call("lab", f"timeline program.mit starts.toml {settings}", mit, toml)
+    ends = re.findall(r"^end #\d+ (\S+) level (\S+) worked (\d+) lasts \d+ misses \d+ to \d+ @(\d+)$", told, re.MULTILINE)
+    tips = " ".join(page.run("return " + DATA, ".lane [data-tip]", "tip")).replace("\u202f", "")
+    for place, level, worked, end in ends:
+        holds(re.search(rf"mitigate at {place}, level {level}: worked {worked} cycles? from \d+, waited \d+ to {end}", tips), f"{place} to {end}")
+    for end in re.findall(r"^end @(\d+)$", told, re.MULTILINE):
+        holds(f"ends at {end}" in tips, f"the end at {end}")
+
+
+def tries(page, what, change, **settings):
+    """Compares before and after a change of one control, which makes a difference to what is shown."""
+    before = page.text("#lanes") + page.text("#audit-text")
+    change()
+    page.idle()
+    compare(page, **settings)
+    holds(page.text("#lanes") + page.text("#audit-text") != before, f"{what} makes a difference")
+
+
+def defaults(page):
+    for number in (0, 4, 7):
+        page.choose(number)
+        page.set("#environment", "part", "change")
+        page.idle()
+        compare(page)
+
+
+def environments(page):
+    page.choose(7)
+    for env in ("flat", "part2"):
+        tries(page, env, lambda: page.set("#environment", env, "change"), env=env)
+
+
+def budgets(page):
+    page.choose(4)
+    tries(page, "the number of cycles", lambda: page.set("#budget", "5 000"), budget="5000")
+
+
+def observers(page):
+    page.choose(4)
+    page.write(LEVELS, LEVEL_STARTS)
+    compare(page, observer="A")
+    tries(page, "the observer", lambda: page.set("#observer", "B", "change"), observer="B")
+    holds("seen at B" in page.text("#starts-table"), "the head of the table")
+
+
+def all_together(page):
+    page.choose(4)
+    page.write(LEVELS, LEVEL_STARTS)
+    page.set("#observer", "B", "change")
+    page.set("#environment", "flat", "change")
+    page.set("#budget", "70000")
+    page.idle()
+    compare(page, observer="B", env="flat", budget="70000")
+
+
+def cells(page):
+    page.choose(4)
+    page.set('#starts-table input[data-row="3"]', "60")
+    page.idle()
+    compare(page)
+    same(page.value("#toml").count("h = 60"), 1, "the cell in the text")
+    page.browser.click('[data-remove="1"]')
+    page.idle()
+    compare(page)
+    page.set('#starts-table input[data-row="2"]', "")
+    page.idle()
+    compare(page)
+    same(page.value('#starts-table input[data-row="1"]'), "2", "the other cells")
+
+
+def swept(page):
+    """The points of the sweep are those of the chosen environment, observer and budget."""
+    page.choose(1)
+    page.set("#environment", "flat", "change")
+    page.set("#budget", "5000")
+    page.idle()
+    page.browser.wait(SWEPT, 60, "a sweep")
+    if not page.count("#sweep-picture svg"):
+        page.browser.click("#sweep-go")
+    page.browser.wait(SWEPT, 120, "a sweep")
+    toml = page.value("#toml")
+    rows = page.run("return [...document.querySelectorAll('#sweep-table tbody tr')].map((row) => [...row.cells].map((one) => one.textContent))")
+    for row in rows[:: max(1, len(rows) // 8)]:
+        prediction, sequences, shortest, longest = (cell.replace("\u202f", "") for cell in row[:4])
+        mit = page.program().replace("(512, H)", f"({prediction}, H)")
+        audit = call("mitigate", "audit program.mit starts.toml --observer L --env flat --budget 5000", mit, toml)
+        told = call("lab", "timeline program.mit starts.toml --env flat --budget 5000", mit, toml)
+        ends = [int(end) for end in re.findall(r"^end @(\d+)$", told, re.MULTILINE)]
+        holds(f"distinct {sequences}\n" in audit, f"{prediction}: {audit}")
+        same([int(shortest), int(longest)], [min(ends), max(ends)], f"the runs with {prediction}")
+
+
+def code_of_the_program(page):
+    page.choose(4)
+    page.browser.click("#code-open")
+    page.idle()
+    wanted = call("mitigate", "compile program.mit", page.program(), "").splitlines()
+    lines = page.run("return [...document.querySelectorAll('#code .line')].map((one) => one.textContent.replace(/\\s+/g, ''))")
+    same(lines, [re.sub(r"\s+", "", line) for line in wanted], "the code")
+    page.browser.click("#code-open")
+
+
+def reason(page):
+    page.choose(2)
+    told = call("lab", "why program.mit", page.program(), "").splitlines()
+    holds(len(told) > 2, "a chain")
+    same(page.texts("ol.why button"), [re.sub(r"^(\S+) ", r"\1", line) for line in told[1:]], "the chain")
+    mit = page.program()
+    page.browser.click("#mend-go")
+    page.idle()
+    holds(page.program() != mit and call("mitigate", "check program.mit", page.program(), "").startswith("accepted"), "the mended program")
+
+
+def mend_at_the_level(page):
+    """The level of the offered mitigate is the label that does not flow, whichever that is."""
+    page.choose(4)
+    page.write(LABELS + "while b > 0 do { b := b - 1 };\na := 2\n", "[[run]]\n")
+    holds(page.text("#mend").startswith("Put line 6 into a mitigate"), page.text("#mend"))
+    page.browser.click("#mend-go")
+    page.idle()
+    holds("mitigate (64, B) {" in page.program(), page.program())
+
+
+def second_mitigate(page):
+    """The sweep tries the mitigate that is chosen, and a taken prediction goes there."""
+    page.choose(4)
+    page.write(LEVELS, LEVEL_STARTS)
+    page.set("#sweep-which", "1", "change")
+    page.browser.wait(SWEPT, 60, "a sweep")
+    page.run("document.getElementById('sweep-numbers').open = true; document.querySelectorAll('[data-take]')[3].click()")
+    page.idle()
+    holds(page.program().startswith(LABELS + "mitigate (2, C)"), "the first one stays")
+    holds("mitigate (8, C)" not in page.program(), "the second one is changed")
+
+
+def many_runs(page):
+    """Turned pages and runs that are looked at have their own numbers."""
+    page.choose(4)
+    page.set("#range-from", "0")
+    page.set("#range-to", "120")
+    page.browser.click("#range-go")
+    page.idle()
+    same(page.count(".lane"), 100, "lanes")
+    page.browser.click('[data-page="1"]')
+    page.browser.wait("return document.querySelectorAll('.lane').length === 21", 5, "the second page")
+    same(page.run("return document.querySelector('.lane').dataset.run"), "101", "its first lane")
+    page.choose(4)
+
+
+TRIALS = [
+    defaults, environments, budgets, observers, all_together, cells, swept, code_of_the_program, reason, mend_at_the_level,
+    second_mitigate, many_runs,
+]
+if not PROGRAMS.exists():
+    TRIALS = []
