@@ -2,6 +2,7 @@
 import time
 
 from driving import holds, same
+from trials.basics import sweep_now
 
 LINE = "if h > 3 then { h := (h + 1) * 2 } else { h := h - 1 };\n"
 HEAD = "var l : L;\nvar h : H;\n"
@@ -23,9 +24,8 @@ def one_undo(page):
     page.browser.click("#mend-go")
     page.idle()
     mended = page.program()
-    page.run("document.getElementById('sweep-go').click()")
-    page.browser.wait("return document.querySelector('[data-take=\"269\"]')", 240, "the point 269")
-    page.browser.wait("return document.getElementById('sweep').getAttribute('aria-busy') !== 'true'", 240, "a sweep")
+    sweep_now(page)
+    page.browser.wait("return document.querySelector('[data-take=\"269\"]')", 5, "the point 269")
     page.run("document.querySelector('[data-take=\"269\"]').click()")
     page.idle()
     taken = page.program()
