@@ -8,27 +8,16 @@ import subprocess
 import sys
 import tempfile
 
+import command_table
+
 TOP = pathlib.Path(__file__).resolve().parent.parent
 TABLES = TOP / "crates/worked_rows/data"
 # The texts that show calls of the tool with what they write.
 PAGES = ["*.md", "docs/*.md", "editors/*.md", "examples/**/*.md", "page/*.md"]
 MOST_SECONDS = 60
 USAGE_STATUS = 4
-USAGE = """usage: mitigate check FILE
-       mitigate infer FILE
-       mitigate compile FILE
-       mitigate run FILE [STARTS] [--env flat|part|part2] [--budget T] [--observer L]
-       mitigate meaning FILE [STARTS] --steps N
-       mitigate audit FILE STARTS --observer L [--env flat|part|part2] [--budget T]
-       mitigate gen SIZE NUMBER
-       mitigate cut FILE STARTS --observer L [--env flat|part|part2] [--budget T]
-       mitigate blackbox READY --first Q [--budget T]
-       mitigate certify FILE
-       mitigate recheck FILE CERTIFICATE"""
-LAB_USAGE = """usage: lab why FILE [--of NAME]
-       lab seen FILE STARTS --observer L [--env flat|part|part2] [--budget T]
-       lab timeline FILE STARTS [--env flat|part|part2] [--budget T] [--observer L]
-       lab bound FILE STARTS --observer L [--env flat|part|part2] [--budget T]"""
+USAGE = command_table.usage("mitigate")
+LAB_USAGE = command_table.usage("lab")
 
 
 @dataclasses.dataclass
@@ -81,7 +70,7 @@ def rows_of(table):
         elif mark == "$":
             rows[-1].words = rest.split()
         elif mark == "-":
-            rows[-1].files[name := rest] = b""
+            rows[-1].files[name:=rest] = b""
         elif mark == "+":
             rows[-1].files[name] += text_of(rest)
         elif mark == "*":

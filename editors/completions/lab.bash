@@ -1,10 +1,12 @@
 # Completion of lab's words for bash: source this file, or put it into /etc/bash_completion.d.
+# tools/commands makes it of docs/data/commands.toml.
 
 # The options of a command.
 _lab_options() {
     case $1 in
         why) echo "--of" ;;
-        seen | timeline | bound) echo "--observer --env --budget" ;;
+        seen | bound) echo "--observer --env --budget" ;;
+        timeline) echo "--env --budget --observer" ;;
     esac
 }
 
@@ -28,17 +30,20 @@ _lab() {
         return
     fi
     case $before in
-        --env)
-            mapfile -t COMPREPLY < <(compgen -W "flat part part2" -- "$word")
+        --of)
+            for file in "${COMP_WORDS[@]}"; do
+                case $file in *.mit) mapfile -t COMPREPLY < <(compgen -W "$(_lab_names "$file")" -- "$word") ;; esac
+            done
             return
             ;;
-        --observer | --of)
+        --observer)
             for file in "${COMP_WORDS[@]}"; do
-                case $before,$file in
-                    --observer,*.mit) mapfile -t COMPREPLY < <(compgen -W "$(_lab_labels "$file")" -- "$word") ;;
-                    --of,*.mit) mapfile -t COMPREPLY < <(compgen -W "$(_lab_names "$file")" -- "$word") ;;
-                esac
+                case $file in *.mit) mapfile -t COMPREPLY < <(compgen -W "$(_lab_labels "$file")" -- "$word") ;; esac
             done
+            return
+            ;;
+        --env)
+            mapfile -t COMPREPLY < <(compgen -W "flat part part2" -- "$word")
             return
             ;;
         --budget) return ;;
@@ -46,8 +51,12 @@ _lab() {
     case $word in
         -*) mapfile -t COMPREPLY < <(compgen -W "$(_lab_options "$command")" -- "$word") ;;
         *)
-            compopt -o filenames 2>/dev/null
-            mapfile -t COMPREPLY < <(compgen -f -- "$word")
+            case $command in
+                *)
+                    compopt -o filenames 2>/dev/null
+                    mapfile -t COMPREPLY < <(compgen -f -- "$word")
+                    ;;
+            esac
             ;;
     esac
 }

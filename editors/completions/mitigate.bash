@@ -1,4 +1,5 @@
 # Completion of mitigate's words for bash: source this file, or put it into /etc/bash_completion.d.
+# tools/commands makes it of docs/data/commands.toml.
 
 # The options of a command.
 _mitigate_options() {
@@ -21,7 +22,7 @@ _mitigate() {
     local word=${COMP_WORDS[COMP_CWORD]} before=${COMP_WORDS[COMP_CWORD - 1]} command=${COMP_WORDS[1]:-} file
     COMPREPLY=()
     if [ "$COMP_CWORD" -eq 1 ]; then
-        mapfile -t COMPREPLY < <(compgen -W "check infer compile run meaning audit cut gen blackbox certify recheck" -- "$word")
+        mapfile -t COMPREPLY < <(compgen -W "check infer compile run meaning audit gen cut blackbox certify recheck" -- "$word")
         return
     fi
     case $before in
@@ -35,7 +36,7 @@ _mitigate() {
             done
             return
             ;;
-        --budget | --first | --steps) return ;;
+        --budget | --steps | --first) return ;;
     esac
     case $word in
         -*) mapfile -t COMPREPLY < <(compgen -W "$(_mitigate_options "$command")" -- "$word") ;;
