@@ -1,9 +1,8 @@
 """What the page is for: verdicts, audits, starts, the timeline, the sweep, the code, the lesson."""
-import pathlib
 import time
 import xml.etree.ElementTree
 
-from driving import ENDLESS, EXAMPLES, SWEPT, TOP, holds, same
+from driving import ENDLESS, EXAMPLES, SWEPT, holds, same
 
 TEN_FAULTS = "var l : L;\nvar h : H;\n" + ";\n".join(f"l := h + {n}" for n in range(10)) + "\n"
 

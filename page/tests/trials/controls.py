@@ -4,7 +4,7 @@ import re
 import subprocess
 import tempfile
 
-from driving import EXAMPLES, SWEPT, TOP, holds, same
+from driving import SWEPT, TOP, holds, same
 
 PROGRAMS = TOP / "programs/x86_64-linux"
 LABELS = "labels A, B, C;\norder A < B, B < C;\nvar a : A;\nvar b : B;\nvar c : C;\n"
