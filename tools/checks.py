@@ -1,4 +1,8 @@
-"""What the scripts beside this one share that check the repository: how they count, and the rows of crates.txt."""
+"""What the scripts beside this one share that check the repository: how they count, calls on a terminal, and the rows of crates.txt."""
+import contextlib
+import os
+import pty
+import subprocess
 import sys
 
 import rows
@@ -26,6 +30,19 @@ class Check:
         """Tells the counts, and gives the exit number."""
         print(f"{self.passed} passed, {self.failed} failed")
         return 1 if self.failed else 0
+
+
+def on_terminal(call, folder, environment, given=""):
+    """The status, the output and the errors of a call whose standard error is a terminal."""
+    ours, theirs = pty.openpty()
+    with os.fdopen(ours, "rb", buffering=0) as terminal:
+        with os.fdopen(theirs, "wb", buffering=0) as errors:
+            done = subprocess.run(call, cwd=folder, input=given.encode(), env=environment, stdout=subprocess.PIPE, stderr=errors, check=False)
+        said = b""
+        with contextlib.suppress(OSError):  # what the system answers at the end of what stands there
+            while part := terminal.read(4096):
+                said += part
+    return done.returncode, done.stdout.decode(), said.decode().replace("\r\n", "\n")
 
 
 def crates():

@@ -5,4 +5,5 @@ endif
 let b:did_ftplugin = 1
 
 setlocal commentstring=//\ %s comments=:// expandtab shiftwidth=2 softtabstop=2
-let b:undo_ftplugin = "setlocal commentstring< comments< expandtab< shiftwidth< softtabstop<"
+compiler mitigate
+let b:undo_ftplugin = "setlocal commentstring< comments< expandtab< shiftwidth< softtabstop< makeprg< errorformat<"
