@@ -48,8 +48,8 @@ function noteOf(element, name) {
   if (element.textContent !== text) element.textContent = text;
 }
 
-/** Tells those who do not see the page what the answer is. */
-export function announce() {
-  const words = [$('sentence').textContent, $('freshness').textContent].filter(Boolean).join(' ');
+/** Tells those who do not see the page what the answer is, where it is not covered. */
+export function announce(isCovered) {
+  const words = [isCovered ? '' : $('sentence').textContent, $('freshness').textContent].filter(Boolean).join(' ');
   if ($('announce').textContent !== words) $('announce').textContent = words;
 }

@@ -73,6 +73,7 @@ export function listenProgram(changed) {
   editor.onEdit(() => {
     state.program = editor.text;
     editor.clearMarks();
+    editor.clearCosts();
     leaveExample();
     changed();
   });

@@ -6,6 +6,7 @@ import { withCell, withColumnNamed, withCopy, withoutColumn, withoutRun, withRan
 import { cellValue } from './starts.js';
 import { addersText, seenText, tableText } from './starts_table.js';
 import { $, answeredOf, faults, programNow, shown, starts, state } from './state.js';
+import { term } from './terms.js';
 import { pickLane } from './time_part.js';
 
 const MOST_MADE = 4096n; // runs that a range makes
@@ -20,7 +21,8 @@ export function drawStarts() {
   const refusal = shown.audit?.refusal?.kind === 'starts' && answeredOf.audit?.starts === state.starts ? shown.audit.refusal.text : '';
   const fault = read.fault ? `${isText ? '' : 'The table cannot show these starts. '}${read.fault}` : refusal;
   $('starts-fault').textContent = faults.cell || fault;
-  $('starts-note').textContent = shown.runs ? 'rows that look alike share colour and shape' : '';
+  const note = shown.runs ? `rows of one ${term('class')} look alike, and share colour and shape` : '';
+  if ($('starts-note').innerHTML !== note) $('starts-note').innerHTML = note;
   $('starts-undo').disabled = before.length === 0;
   box.hidden = isText || Boolean(read.fault);
   $('starts-add').hidden = box.hidden;

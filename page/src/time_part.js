@@ -1,5 +1,6 @@
 // The timeline: which runs and which cycles of them are drawn, and the run that is looked at.
 
+import { drawCosts } from './costs_part.js';
 import { saveSvg } from './saving.js';
 import { spaced } from './numbers.js';
 import { $, answeredOf, calls, mitigatesNow, shown, starts } from './state.js';
@@ -78,6 +79,7 @@ export function pickLane(number, says = true) {
   if (says) {
     lane?.scrollIntoView({ block: 'nearest' });
     $('lane-says').textContent = $('announce').textContent = runText(shown.runs[number], number + 1);
+    drawCosts();
   }
 }
 

@@ -5,7 +5,8 @@ import { $, state } from './state.js';
 const WORK = 'mitigate.work', ASIDE = 'mitigate.aside', MOST_ASIDE = 10;
 const KEYS = ['program', 'starts', 'observer', 'environment', 'budget'];
 
-const loaded = { isOwn: false, isLesson: false, program: '', starts: '' }; // what was loaded, and whose it is
+// what was loaded, whose it is, and of which task, as {task, given}, it is
+const loaded = { isOwn: false, isLesson: false, program: '', starts: '', ofTask: null };
 
 const isWork = (work) => Boolean(work) && KEYS.every((key) => typeof work[key] === 'string');
 
@@ -30,7 +31,8 @@ const isChanged = () => state.program !== loaded.program || state.starts !== loa
 /** Keeps what is on the page. */
 export function keepWork() {
   const isOwn = loaded.isOwn || isChanged();
-  write(WORK, { ...state, isOwn, example: $('example').value, says: $('example-says').textContent });
+  const { ofTask } = loaded;
+  write(WORK, { ...state, isOwn, example: $('example').value, says: $('example-says').textContent, ofTask });
 }
 
 /** What was kept when the page was left, or null. */
@@ -51,6 +53,14 @@ export const hasAside = () => allAside().length > 0;
 export function noteLoaded(next, { isOwn, isLesson }) {
   Object.assign(loaded, { isOwn, isLesson, program: next.program, starts: next.starts });
 }
+
+/** That what is on the page is worked on for a task that began with `given`; null where for none. */
+export function noteTask(task, given = null) {
+  loaded.ofTask = task && { task, given };
+}
+
+/** The task that is worked on, or null. */
+export const taskNow = () => loaded.ofTask?.task ?? null;
 
 // The own work on the page as it is, or null where it is none; a step of the lesson keeps its own.
 const ownWork = () => (!loaded.isLesson && (loaded.isOwn || isChanged()) ? { ...state } : null);

@@ -264,6 +264,8 @@ def lesson(page):
         if number == 5:
             same(page.text("#audit .number-of b"), "1", "the last step leaves one sequence")
         page.browser.click("#lesson-next")
+    holds(page.text("#lesson-title").startswith("A cache attack"), "the next lesson follows")
+    page.browser.click("#lesson-close")
     same(verdicts, ["Accepted", "Refused", "Accepted", "Accepted", "Accepted", "Accepted"], "the verdicts")
     holds(page.run("return document.getElementById('lesson').hidden"), "it ends")
 

@@ -212,8 +212,28 @@ def many_runs(page):
     page.choose(4)
 
 
+def costs_beside_lines(page):
+    """Beside the lines stand the cycles of the chosen run, as the lab's timeline tells them."""
+    page.choose(0)
+    page.run("document.getElementById('costs-shown').click()")
+    told = call("lab", "timeline program.mit starts.toml", page.program(), page.value("#toml")).split("run ")[1:]
+    for number, run in ((0, told[0]), (8, told[8])):
+        page.run("document.getElementById('lanes').focus()")
+        page.browser.press(*["ArrowDown"] * (number + 1))
+        begin, worked, end = (int(n) for n in re.search(r"^begin .* @(\d+)$[\s\S]*^end #0 .* worked (\d+) .* @(\d+)$", run, re.M).groups())
+        done = re.search(r"^done = 1 @(\d+)$", run, re.M)[1]
+        same(page.text("#costs-of"), f"Cycles of run {number + 1}", "whose cycles")
+        costs = [text.replace("\u202f", "") for text in page.texts("#editor .cost")]
+        holds(f"{worked}+{end - begin - worked}" in costs and f"@{done}" in costs, f"{costs}: {worked} {begin} {end} {done}")
+    page.caret("done := 1")
+    page.browser.type(" ")
+    same(page.count("#editor .cost"), 0, "cycles of an earlier program")
+    page.run("document.getElementById('costs-shown').click()")
+    page.idle()
+
+
 TRIALS = [
-    defaults, environments, budgets, observers, all_together, cells, swept, code_of_the_program, reason, mend_at_the_level,
+    costs_beside_lines, defaults, environments, budgets, observers, all_together, cells, swept, code_of_the_program, reason, mend_at_the_level,
     second_mitigate, many_runs,
 ]
 if not PROGRAMS.exists():
