@@ -33,7 +33,8 @@ let turn = 0, waiting = null, step = stepOf(STEPS[0]);
 /** Something was changed: what is asked now is stopped, and all is asked anew after a rest, or `now`. */
 export function changed({ now = false } = {}) {
   turn++;
-  if (location.hash && !now) history.replaceState(null, '', location.href.split('#')[0]); // it no longer tells what is here
+  // it no longer tells what is here
+  if (location.hash && !now) history.replaceState(null, '', location.href.split('#')[0]);
   clearTimeout(waiting);
   calls.tool?.stop();
   stopSweep();
@@ -105,7 +106,9 @@ async function askRuns(asked, isOld) {
   const told = await runsOf(tool, asked, shown.mostRuns);
   if (isOld()) return;
   const took = performance.now() - begun, { runs = null, mitigates = null, isAll = true } = told;
-  if (runs && audit.report) audit.report.classes.forEach((number, k) => runs[k] && Object.assign(runs[k], { class: number }));
+  if (runs && audit.report) {
+    audit.report.classes.forEach((number, k) => runs[k] && Object.assign(runs[k], { class: number }));
+  }
   Object.assign(shown, { runs, mitigates, isAll, view: null, page: 0, lane: -1, points: [] });
   answeredOf.runs = asked;
   delete answeredOf.points;

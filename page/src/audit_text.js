@@ -8,7 +8,8 @@ import { term } from './terms.js';
 
 function numberBox(number, says, more = '') {
   const title = more ? ` title="${more}"` : '';
-  return `<div class="number-of"><b${title}>${number}</b><i>${says}${more ? ` <span class="unseen">${more}</span>` : ''}</i></div>`;
+  return `<div class="number-of">`
+    + `<b${title}>${number}</b><i>${says}${more ? ` <span class="unseen">${more}</span>` : ''}</i></div>`;
 }
 
 function boundBox({ base, exponent }) {
@@ -23,7 +24,8 @@ export function auditBoxes({ report, sharp }) {
   const seen = numberBox(spaced(report.distinct), `different ${sequences} seen in ${runs}`);
   const limit = sharp?.sharp === undefined
     ? ''
-    : numberBox(boundText(sharp.sharp), `at most, by the ${term('sharp count')}: ${counted(sharp.bits, 'bit')}`, wholeBound(sharp.sharp));
+    : numberBox(boundText(sharp.sharp), `at most, by the ${term('sharp count')}: ${counted(sharp.bits, 'bit')}`,
+    wholeBound(sharp.sharp));
   return seen + limit + boundBox(report);
 }
 
@@ -41,10 +43,12 @@ const relevantWord = (count) => `${term('relevant')} ${count === 1 ? 'mitigation
 function howText(report, isCut, observer) {
   const who = `For an observer at ${observer} up to cycle ${spaced(report.budget)}`;
   if (isCut) {
-    return `${who}: ${spaced(report.halted)} of ${counted(report.runs, 'run')} have halted; what is seen until then is counted`
+    return `${who}: ${spaced(report.halted)} of ${counted(report.runs, 'run')} have halted; what is seen until then`
+      + ` is counted`
       + ` (cut). ${spaced(report.ended)} ${relevantWord(report.ended)} at most ended.`;
   }
-  const levels = `${counted(report.levels, 'label')} that ${report.levels === 1 ? 'does' : 'do'} not flow to the observer`;
+  const levels = `${counted(report.levels, 'label')} that ${report.levels === 1 ? 'does' : 'do'} not flow to the`
+    + ` observer`;
   return `${who}: ${spaced(report.mitigations)} ${relevantWord(report.mitigations)} in each run, ${levels}.`;
 }
 

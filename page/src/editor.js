@@ -206,6 +206,7 @@ function missing(name) {
 function stepMarks(numbers) {
   const box = document.createElement('span');
   box.setAttribute('aria-hidden', 'true');
-  box.innerHTML = numbers.map(({ number, isLast }) => `<span class="step${isLast ? ' end' : ''}">${number}</span>`).join('');
+  box.innerHTML = numbers.map(({ number, isLast }) => `<span class="step${isLast ? ' end' : ''}">${number}</span>`)
+    .join('');
   return box;
 }

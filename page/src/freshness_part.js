@@ -23,7 +23,8 @@ export function setProgress(next) {
 const fresh = (name) => isFresh(name, answeredOf[name], state, faults);
 const isStale = (name) => Boolean(answeredOf[name]) && !fresh(name);
 
-/** Dims what is of another text, and says so; to be called with each change of what is there and of what was answered. */
+/** Dims what is of another text, and says so; to be called with each change of what is there and of
+    what was answered. */
 export function drawFreshness() {
   for (const [name, ids] of Object.entries(SHOWN_IN)) {
     for (const id of ids) $(id).classList.toggle('stale', isStale(name));

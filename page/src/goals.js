@@ -7,9 +7,11 @@ import { escaped } from './colours.js';
 const GOALS = {
   accepted: { says: () => 'the program is accepted', isDone: (facts) => facts.kind === 'accepted' },
   refused: { says: () => 'the program is refused', isDone: (facts) => facts.kind === 'refused' },
-  noMitigate: { says: () => 'there is no mitigate in it', isDone: (facts) => facts.kind !== null && facts.mitigates === 0 },
+  noMitigate: { says: () => 'there is no mitigate in it',
+    isDone: (facts) => facts.kind !== null && facts.mitigates === 0 },
   sequences: {
-    says: (most) => (most === 1 ? 'the observer cannot tell the runs apart' : `the observer sees at most ${counted(most, 'different sequence')}`),
+    says: (most) => (most === 1 ? 'the observer cannot tell the runs apart'
+      : `the observer sees at most ${counted(most, 'different sequence')}`),
     isDone: (facts, most) => facts.sequences !== null && facts.sequences <= most,
     now: (facts) => facts.sequences !== null && counted(facts.sequences, 'sequence'),
   },
@@ -35,7 +37,8 @@ const GOALS = {
     now: (facts) => facts.runs !== null && spaced(facts.runs),
   },
   values: {
-    says: (values) => Object.entries(values).map(([name, list]) => `${name} ends as ${list.join(', ')} in the runs`).join('; '),
+    says: (values) => Object.entries(values).map(([name, list]) => `${name} ends as ${list.join(', ')} in the runs`)
+      .join('; '),
     isDone: ({ last }, values) => last !== null && Object.entries(values).every(([name, list]) => {
       return last.length === list.length && list.every((value, k) => last[k].get(name) === value);
     }),
@@ -73,7 +76,8 @@ const keepsLabels = (given, labels) => [...given].every(([name, label]) => label
 /** What is known of what is on the page. `given` is what the task loaded, with `labels`, those of its variables; what
     is not an answer to what is there, by `fresh`, is not known. */
 export function factsOf({ state, shown, fresh, given }) {
-  const isKnown = fresh('verdict'), audit = fresh('audit') ? shown.audit : null, runs = fresh('runs') ? shown.runs : null;
+  const isKnown = fresh('verdict'), audit = fresh('audit') ? shown.audit : null,
+    runs = fresh('runs') ? shown.runs : null;
   const report = audit?.report && !audit.isCut ? audit.report : null;
   const haveAllEnded = runs !== null && shown.isAll && runs.every((run) => run.halted);
   const ends = haveAllEnded ? runs.map((run) => run.end) : null;
@@ -96,7 +100,8 @@ export function factsOf({ state, shown, fresh, given }) {
 export function checksText(checks) {
   const items = checks.map(({ says, isDone, now }) => {
     const more = now ? ` <small>(now: ${escaped(now)})</small>` : '';
-    const mark = `<span aria-hidden="true">${isDone ? '✓' : '○'}</span><span class="unseen">${isDone ? 'done' : 'not yet'}: </span>`;
+    const mark = `<span aria-hidden="true">${isDone ? '✓' : '○'}</span><span`
+      + ` class="unseen">${isDone ? 'done' : 'not yet'}: </span>`;
     return `<li class="${isDone ? 'done' : 'open'}">${mark} ${escaped(says)}${isDone ? '' : more}</li>`;
   });
   return `<ul class="checks">${items.join('')}</ul>`;

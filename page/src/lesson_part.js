@@ -1,6 +1,6 @@
 // A lesson, or a task, a step at a time. It goes to the part of the page that a step speaks of; where a step asks for a
-// guess, what the tool says is covered until there is one; where it asks for something to be done, it says how far that is.
-// What a person changes in a step is there again when they come back to it.
+// guess, what the tool says is covered until there is one; where it asks for something to be done, it says how far that
+// is. What a person changes in a step is there again when they come back to it.
 
 import { escaped } from './colours.js';
 import { DATA } from './data.js';
@@ -14,7 +14,8 @@ import { noteTask } from './work.js';
 
 const LESSONS = lessonsOf(DATA);
 const PARTS = {
-  program: 'the program', time: 'the timeline', answer: 'what is seen, and when', starts: 'the starts', sweep: 'the predictions',
+  program: 'the program', time: 'the timeline', answer: 'what is seen, and when', starts: 'the starts',
+  sweep: 'the predictions',
 };
 
 let course = null, number = 0, mustGo = false, isDone = false;
@@ -45,7 +46,8 @@ function guessText({ ask, options, right, tells }) {
   const says = chosen === right ? 'You guessed right.' : chosen < 0 ? '' : 'You guessed something else.';
   const told = isAnswered ? `<p>${says} ${escaped(tells)}</p>` : '';
   const show = isAnswered ? '' : '<button type="button" class="link" data-guess="-1">Show me</button>';
-  return `<p><b>Guess first:</b> ${escaped(ask)}</p><p class="guesses">${options.map(answerText).join('')}${show}</p>${told}`;
+  const list = options.map(answerText).join('');
+  return `<p><b>Guess first:</b> ${escaped(ask)}</p><p class="guesses">${list}${show}</p>${told}`;
 }
 
 function drawGuess() {
@@ -64,7 +66,8 @@ function drawTask() {
   const fresh = (name) => isFresh(name, answeredOf[name], state, faults);
   const checks = checksOf(step.task.goal, factsOf({ state, shown, fresh, given }));
   isDone = checks.every((check) => check.isDone);
-  const text = `<p><b>Your task:</b> ${escaped(step.task.says)}</p>${checksText(checks)}${isDone ? '<p class="all-done">Done.</p>' : ''}`;
+  const done = isDone ? '<p class="all-done">Done.</p>' : '';
+  const text = `<p><b>Your task:</b> ${escaped(step.task.says)}</p>${checksText(checks)}${done}`;
   if ($('lesson-task').innerHTML !== text) $('lesson-task').innerHTML = text;
   $('lesson').classList.toggle('done', isDone);
 }
@@ -104,7 +107,9 @@ function openStep(next, load) {
   drawGuess();
   $('lesson-task').innerHTML = '';
   if (load) load(works[number] ?? step, { isLesson: true });
-  for (const section of document.querySelectorAll('section')) section.classList.toggle('look', section.contains($(step.look)));
+  for (const section of document.querySelectorAll('section')) {
+    section.classList.toggle('look', section.contains($(step.look)));
+  }
   mustGo = true;
   goToPart(false);
   $('lesson').scrollTop = 0;

@@ -1,6 +1,6 @@
-// What one run spent on which line, as far as the lab's timeline tells it: when a mitigate of a line began and ended, what
-// its body worked, and when variables got their values that are assigned on one line alone. What an instruction cost, and
-// which access missed, it does not tell.
+// What one run spent on which line, as far as the lab's timeline tells it: when a mitigate of a line began and ended,
+// what its body worked, and when variables got their values that are assigned on one line alone. What an instruction
+// cost, and which access missed, it does not tell.
 
 import { allCommands, lineFinder, readProgram } from './language.js';
 import { counted, spaced } from './numbers.js';
@@ -52,7 +52,8 @@ export function lineCosts(text, run) {
   }
   for (const [line, list] of cycles) {
     const first = `first at cycle ${spaced(list[0])}, last at ${spaced(list.at(-1))}`;
-    const long = list.length === 1 ? `assigned at cycle ${spaced(list[0])}` : `assigned ${spaced(list.length)} times, ${first}`;
+    const long = list.length === 1 ? `assigned at cycle ${spaced(list[0])}`
+      : `assigned ${spaced(list.length)} times, ${first}`;
     found.set(line, { short: cyclesText(list), long });
   }
   const byLine = new Map();

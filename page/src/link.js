@@ -7,7 +7,8 @@ const base64 = (bytes) => {
   for (const byte of bytes) text += String.fromCharCode(byte);
   return btoa(text).replaceAll('+', '-').replaceAll('/', '_').replace(/=+$/, '');
 };
-const unbase64 = (text) => Uint8Array.from(atob(text.replaceAll('-', '+').replaceAll('_', '/')), (sign) => sign.charCodeAt(0));
+const unbase64 = (text) =>
+  Uint8Array.from(atob(text.replaceAll('-', '+').replaceAll('_', '/')), (sign) => sign.charCodeAt(0));
 const KEYS = { program: 'p', starts: 's', observer: 'o', environment: 'e', budget: 'b' };
 const MOST = 4 * 1024 * 1024;
 

@@ -15,7 +15,8 @@ export function programsOf(module) {
     nothing half written, and its memory goes back. */
 export function callWithRoom(module, program, words, files, wanted, least = wanted) {
   const instance = new WebAssembly.Instance(module, {}).exports, utf8 = new TextEncoder();
-  const bytesAt = (place, length) => new Uint8Array(instance.memory.buffer, Number(place), length); // anew: growth detaches
+  // anew: growth detaches
+  const bytesAt = (place, length) => new Uint8Array(instance.memory.buffer, Number(place), length);
   const put = (bytes) => {
     const place = instance.web_room(BigInt(Math.max(bytes.length, 1)));
     if (place === 0n) throw new RangeError('no memory');

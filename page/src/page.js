@@ -44,7 +44,8 @@ function load(next, { isOwn = false, isLesson = false, isBack = false, example =
   setFault('');
   faults.cell = '';
   for (const name of Object.keys(answeredOf)) delete answeredOf[name];
-  Object.assign(shown, { points: [], audit: null, runs: null, mitigates: null, verdict: null, steps: [], code: null, mostRuns: undefined });
+  Object.assign(shown, { points: [], audit: null, runs: null, mitigates: null, verdict: null, steps: [], code: null,
+    mostRuns: undefined });
   shown.labels = writtenLabels(state.program);
   drawObservers();
   drawAudit();
@@ -75,7 +76,8 @@ async function fromLink() {
 
 // Opens a task of what is on the page, which began with `given`.
 function beginTask(task, given) {
-  const { program, starts } = given, settings = Object.fromEntries(Object.keys(USUAL).map((name) => [name, given[name]]));
+  const { program, starts } = given,
+    settings = Object.fromEntries(Object.keys(USUAL).map((name) => [name, given[name]]));
   noteTask(task, { program, starts, ...settings });
   openTask(task, { program, starts, ...settings });
 }

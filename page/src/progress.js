@@ -8,8 +8,10 @@ import { oneStart, readStarts } from './starts.js';
 const DONE = 0, UNFINISHED = 10;
 const FIRST_CYCLES = 2 ** 16; // up to which a run is asked for first
 
-/** Follows the runs of what is `asked`, and calls `tell` with what is known each time: {run, runs, cycle, budget}, of the
-    run that goes on and has passed that cycle, or {runs, isEnded} where all have ended or have come to the last cycle. */
+/** Follows the runs of what is `asked`, and calls `tell` with what is known each time: {run, runs,
+    cycle, budget}, of the
+    run that goes on and has passed that cycle, or {runs, isEnded} where all have ended or have come
+    to the last cycle. */
 export async function followRuns(tool, asked, tell) {
   const starts = readStarts(asked.starts), most = Number(asked.budget);
   if (starts.fault) return;
@@ -38,8 +40,11 @@ function shareText(cycle, budget) {
 export function progressText(seconds, step, told) {
   const begin = `${step.says} (step ${step.number} of ${step.of}), ${seconds.toFixed(1)} s`;
   if (!told) return begin;
-  if (told.isEnded) return `${begin}: ${told.runs === 1 ? 'the run has' : `all ${spaced(told.runs)} runs have`} been followed`;
+  if (told.isEnded) {
+    return `${begin}: ${told.runs === 1 ? 'the run has' : `all ${spaced(told.runs)} runs have`} been followed`;
+  }
   const run = `${begin}: run ${spaced(told.run)} of ${spaced(told.runs)}`;
   if (!told.cycle) return run;
-  return `${run} is past ${counted(told.cycle, 'cycle')} of ${spaced(told.budget)}, ${shareText(told.cycle, told.budget)}`;
+  const share = shareText(told.cycle, told.budget);
+  return `${run} is past ${counted(told.cycle, 'cycle')} of ${spaced(told.budget)}, ${share}`;
 }

@@ -15,7 +15,8 @@ function readGuess(value) {
   return Number.isInteger(right) && right >= 0 && right < options.length ? { ask, options, right, tells } : null;
 }
 
-/** A task as it may stand in a link: {title, says, goal, guess}, of which `goal` or `guess` may be null and not both; null
+/** A task as it may stand in a link: {title, says, goal, guess}, of which `goal` or `guess` may be
+    null and not both; null
     where it is none. */
 export function readTask(value) {
   if (typeof value !== 'object' || value === null) return null;
@@ -34,10 +35,12 @@ export function taskCourse(task, given) {
 function answersOf(text) {
   const lines = text.split('\n').map((line) => line.trim()).filter(Boolean);
   const right = lines.findIndex((line) => line.startsWith('*'));
-  return { options: lines.map((line) => line.replace(/^\*\s*/, '')), right, stars: lines.filter((line) => line.startsWith('*')).length };
+  return { options: lines.map((line) => line.replace(/^\*\s*/, '')), right,
+    stars: lines.filter((line) => line.startsWith('*')).length };
 }
 
-/** The task that a form asks for, {task}, or what is missing in it, {fault}. `goals` has the numbers and `true` by name. */
+/** The task that a form asks for, {task}, or what is missing in it, {fault}. `goals` has the numbers
+    and `true` by name. */
 export function taskOfForm({ title, says, goals, ask, answers, tells }) {
   const wrong = Object.entries(goals).find(([name, value]) => readGoal({ [name]: value }) === null);
   if (wrong) return { fault: 'A number of a goal is none: it is 1 or greater.' };

@@ -17,7 +17,8 @@ function goalsNow() {
 }
 
 function taskNow() {
-  const [title, says, ask, answers, tells] = ['title-text', 'says', 'ask', 'answers', 'tells'].map((name) => field(name).value);
+  const [title, says, ask, answers, tells] =
+    ['title-text', 'says', 'ask', 'answers', 'tells'].map((name) => field(name).value);
   const { task = null, fault = '' } = taskOfForm({ title, says, goals: goalsNow(), ask, answers, tells });
   field('fault').textContent = fault;
   return task;
@@ -34,7 +35,8 @@ async function copyLink() {
     await navigator.clipboard.writeText(link);
     field('told').textContent = 'The link is copied. It holds the task, the program, the starts and the settings.';
   } catch {
-    field('told').textContent = 'The link stands here, and is chosen. It holds the task, the program, the starts and the settings.';
+    field('told').textContent =
+      'The link stands here, and is chosen. It holds the task, the program, the starts and the settings.';
   }
 }
 

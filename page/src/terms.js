@@ -11,7 +11,8 @@ const under = (file, heading) => {
 };
 const tutorial = (heading) => ({ says: 'Tutorial', address: under('TUTORIAL.md', heading) });
 const theorem = (heading) => ({ says: 'Theorem', address: under('THEOREM.md', heading) });
-const glossary = (entry) => ({ says: 'Glossary', address: `${DOCS}/GLOSSARY.md#:~:text=${encodeURIComponent(`${entry}.`)}` });
+const glossary = (entry) =>
+  ({ says: 'Glossary', address: `${DOCS}/GLOSSARY.md#:~:text=${encodeURIComponent(`${entry}.`)}` });
 const rules = { says: 'All rules', address: under('LANGUAGE.md', 'Types') };
 const machine = (heading) => ({ says: 'Machine', address: under('MACHINE.md', heading) });
 
@@ -21,7 +22,8 @@ const AUDIT_IT = '5. Audit it', CHOOSE = '6. Choose an estimate', CACHES = '7. W
 
 // Of a rule that asks for the write label alone.
 const lowWrite = (command) => ({
-  says: `The rule for ${command}. It asks that the label of the program counter flows to the command’s write label: what`
+  says: `The rule for ${command}. It asks that the label of the program counter flows to the command’s write label:`
+    + ` what`
     + ' secret guards lead to may not change parts of the machine that decide how long public commands take.',
   links: [rules, tutorial(SECRET), glossary('Write label')],
 });
@@ -50,17 +52,20 @@ export const TERMS = {
     links: [tutorial(AUDIT_IT), glossary('Relevant'), HEADLINE],
   },
   label: {
-    says: 'A name that says who may see something. Labels have an order: where one flows to another one, who may see the'
+    says: 'A name that says who may see something. Labels have an order: where one flows to another one, who may see'
+      + ' the'
       + ' second may see the first. Each variable has a label, and each command a read label and a write label.',
     links: [tutorial(SECRET), glossary('Label'), HEADLINE],
   },
   level: {
-    says: 'The second argument of mitigate (estimate, level): the greatest label on which the time of the body may depend.'
+    says: 'The second argument of mitigate (estimate, level): the greatest label on which the time of the body may'
+      + ' depend.'
       + ' Missed predictions are counted for each level by itself.',
     links: [tutorial(BOUND_IT), glossary('Level'), SHARP],
   },
   'first prediction': {
-    says: 'How many cycles a mitigation lasts as long as none of its level has missed: the estimate, and 1 at least. Each'
+    says: 'How many cycles a mitigation lasts as long as none of its level has missed: the estimate, and 1 at least.'
+      + ' Each'
       + ' miss doubles it. Too small a one tells how often it was doubled, too great a one costs time.',
     links: [tutorial(CHOOSE), glossary('First prediction'), SHARP],
   },
@@ -70,12 +75,14 @@ export const TERMS = {
     links: [tutorial(WAIT), glossary('Mitigation'), HEADLINE],
   },
   class: {
-    says: 'Runs that look alike to the observer, in what it sees and at which cycle, are in one class. Classes are numbered'
+    says: 'Runs that look alike to the observer, in what it sees and at which cycle, are in one class. Classes are'
+      + ' numbered'
       + ' in the order in which they come first; each has its colour and shape.',
     links: [tutorial(AUDIT_IT), glossary('Class'), HEADLINE],
   },
   observer: {
-    says: 'A label. Who has it sees the assignments to variables whose label flows to it, with their cycles, and nothing'
+    says: 'A label. Who has it sees the assignments to variables whose label flows to it, with their cycles, and'
+      + ' nothing'
       + ' else. It knows the program, and all of the start that flows to it.',
     links: [tutorial(SEE), glossary('Observer'), HEADLINE],
   },
@@ -90,22 +97,26 @@ export const TERMS = {
     links: [tutorial(SEE), glossary('Budget'), machine('Costs')],
   },
   start: {
-    says: 'What a run begins with: a value for each variable, 0 where none is given, and what the caches hold. Only starts'
+    says: 'What a run begins with: a value for each variable, 0 where none is given, and what the caches hold. Only'
+      + ' starts'
       + ' are compared that agree in all that the observer may see.',
     links: [tutorial(AUDIT_IT), glossary('Agree'), HEADLINE],
   },
   accepted: {
-    says: 'There are labels for all that the program leaves out with which each rule holds. Then the bound holds, of every'
+    says: 'There are labels for all that the program leaves out with which each rule holds. Then the bound holds, of'
+      + ' every'
       + ' secret: accepted does not mean that nothing is told.',
     links: [tutorial(BOUND_IT), glossary('Accepted'), HEADLINE],
   },
   refused: {
-    says: 'Whatever labels are chosen for what the program leaves out, a rule is broken. A refusal is no leak: rules look'
+    says: 'Whatever labels are chosen for what the program leaves out, a rule is broken. A refusal is no leak: rules'
+      + ' look'
       + ' at labels alone, and some programs that tell nothing are refused.',
     links: [tutorial(SECRET), glossary('Refused'), HEADLINE],
   },
   'T-ASGN': {
-    says: 'The rule for assignments. What the value depends on, what the guards around it depend on, and all that the time'
+    says: 'The rule for assignments. What the value depends on, what the guards around it depend on, and all that'
+      + ' the time'
       + ' until then depends on have to flow to the label of the variable: who sees it sees when it is written, too.',
     links: [rules, tutorial(SECRET), glossary('Timing label')],
   },
@@ -114,7 +125,8 @@ export const TERMS = {
   'T-IF': lowWrite('if'),
   'T-WHILE': lowWrite('while'),
   'T-MTG': {
-    says: 'The rule for mitigate. All that the time of the body depends on has to flow to the level of the mitigate: the'
+    says: 'The rule for mitigate. All that the time of the body depends on has to flow to the level of the mitigate:'
+      + ' the'
       + ' level says of what it may tell something. Its write label is asked for as by the other rules.',
     links: [rules, tutorial(BOUND_IT), glossary('Level')],
   },
@@ -128,6 +140,7 @@ export function term(name, words = name) {
 /** What stands in the box of a term, as HTML. */
 export function termText(name) {
   const { says, links } = TERMS[name];
-  const list = links.map((link) => `<a href="${escaped(link.address)}" target="_blank" rel="noopener">${link.says}</a>`);
+  const list = links.map((link) =>
+    `<a href="${escaped(link.address)}" target="_blank" rel="noopener">${link.says}</a>`);
   return `<p>${escaped(says)}</p><p class="term-links">${list.join('')}</p>`;
 }

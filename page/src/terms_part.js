@@ -35,7 +35,8 @@ function open(button) {
   box.focus({ preventScroll: true });
 }
 
-/** Each term opens its box when it is pressed, by mouse, key or finger; Escape, the cross and a press elsewhere close it. */
+/** Each term opens its box when it is pressed, by mouse, key or finger; Escape, the cross and a press
+    elsewhere close it. */
 export function listenTerms() {
   document.addEventListener('click', (event) => {
     const button = event.target.closest('[data-term]');

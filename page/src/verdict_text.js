@@ -25,13 +25,14 @@ export function verdictText(verdict, labels) {
   const flow = (refusal) => `${labelText(refusal.from, labels)} does not flow to ${labelText(refusal.to, labels)}`;
   switch (verdict.kind) {
     case 'accepted':
-      return `${term('accepted', 'Accepted')} <span>${counted(verdict.commands, 'command')}, ${counted(verdict.mitigates, 'mitigate')}</span>`;
+      return `${term('accepted', 'Accepted')} <span>${counted(verdict.commands, 'command')},`
+        + ` ${counted(verdict.mitigates, 'mitigate')}</span>`;
     case 'refused':
       return `${term('refused', 'Refused')} ${list((refusal, k) => {
         return `by ${ruleText(refusal, k)} at ${placeButton(refusal.place)}: ${flow(refusal)}`;
       })}`;
     case 'syntax':
-      return `Not a program ${list((fault) => `${escaped(fault.what)}${fault.place ? ` at ${placeButton(fault.place)}` : ''}`)}`;
+      return `Not a program ${list(({ what, place }) => escaped(what) + (place ? ` at ${placeButton(place)}` : ''))}`;
     default:
       return `No verdict <span>${escaped(verdict.text)}</span>`;
   }
@@ -48,14 +49,17 @@ export function whyText(verdict, steps) {
   }
   const list = steps.map((step, k) => {
     const place = placeText(step.place), words = `<span class="at">${place}</span>${escaped(step.text)}`;
-    return `<li data-n="${k + 1}"><button type="button" data-place="${place}" aria-label="Step ${k + 1}, ${place}: ${escaped(step.text)}">`
+    return `<li data-n="${k + 1}"><button type="button"`
+      + ` data-place="${place}" aria-label="Step ${k + 1}, ${place}: ${escaped(step.text)}">`
       + `${words}</button></li>`;
   });
-  return `<h3>Why <small>the way that the secret took, whichever left-out labels are chosen</small></h3><ol class="why">${list.join('')}</ol>`;
+  return `<h3>Why <small>the way that the secret took, whichever left-out labels are chosen</small></h3>`
+    + `<ol class="why">${list.join('')}</ol>`;
 }
 
 /** The mitigate that is offered: `found` has the first and the last line that go into it. */
 export function mendText(found) {
   const lines = found.first === found.last ? `line ${found.first}` : `lines ${found.first} to ${found.last}`;
-  return `<button type="button" id="mend-go">Put ${lines} into a mitigate</button> With that the tool accepts the program.`;
+  return `<button type="button" id="mend-go">Put ${lines} into a mitigate</button> With that the tool accepts the`
+    + ` program.`;
 }

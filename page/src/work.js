@@ -1,4 +1,5 @@
-// What a person wrote is kept in this browser: what is on the page, and the own work that something else came in place of.
+// What a person wrote is kept in this browser: what is on the page, and the own work that something
+// else came in place of.
 
 import { $, state } from './state.js';
 
@@ -72,7 +73,8 @@ export function putAside() {
   return own !== null;
 }
 
-/** The last work that was put aside, which is taken from there; own work on the page comes first in its place. Null where
+/** The last work that was put aside, which is taken from there; own work on the page comes first in
+    its place. Null where
     there is none. */
 export function takeAside() {
   const works = allAside(), last = works.pop() ?? null, own = ownWork();

@@ -82,7 +82,8 @@ def budget_told(page):
     for wrong in ("x", "0", "1099511627777", ""):
         page.set("#budget", wrong)
         page.idle()
-        fault = page.run("const one = document.getElementById('budget-fault'); return one && one.getClientRects().length ? one.innerText : ''")
+        fault = page.run("const one = document.getElementById('budget-fault'); return one &&"
+            " one.getClientRects().length ? one.innerText : ''")
         holds("from 1 to 1\u202f099\u202f511\u202f627\u202f776" in fault, f"words for {wrong!r}: {fault!r}")
         for selector in OLD:
             all_dimmed(page, selector, selector)
@@ -113,12 +114,17 @@ def tells_how_far(page):
     page.set("#budget", str(2**40))
     page.write_now(SECOND_ENDLESS)
     page.set("#toml", "".join(f"[[run]]\nmemory = {{ h = {n} }}\n\n" for n in (0, 1, 0)))
-    told = "return document.getElementById('working').hidden ? '' : document.getElementById('working-text').textContent.replace(/\\u202f/g, '')"
-    page.browser.wait(f"return /run 2 of 3 is past \\d+ cycles of 1099511627776, .* %/.test((() => {{ {told} }})())", 60, "how far it is")
+    told = (
+        "return document.getElementById('working').hidden ? '' :"
+        " document.getElementById('working-text').textContent.replace(/\\u202f/g, '')"
+    )
+    page.browser.wait(f"return /run 2 of 3 is past \\d+ cycles of 1099511627776, .* %/.test((() => {{ {told} }})())",
+        60, "how far it is")
     text = page.run(told)
     holds(text.startswith("the count (step 2 of 4), "), text)
     first = int(re.search(r"past (\d+) cycles", text)[1])
-    page.browser.wait(f"return Number(/past (\\d+) cycles/.exec((() => {{ {told} }})())?.[1]) > {first}", 60, "more cycles")
+    page.browser.wait(f"return Number(/past (\\d+) cycles/.exec((() => {{ {told} }})())?.[1]) > {first}", 60,
+        "more cycles")
     page.browser.click("#stop")
     page.idle()
     holds("topped" in page.text("#freshness"), "it says that it was stopped")
@@ -127,18 +133,21 @@ def tells_how_far(page):
 
 # A worker as the page's own, which counts the instances that its calls make.
 COUNTED = """
-const bytes = Uint8Array.from(atob(document.getElementById('module-data').textContent.trim()), (sign) => sign.charCodeAt(0));
+const packed = atob(document.getElementById('module-data').textContent.trim());
+const bytes = Uint8Array.from(packed, (sign) => sign.charCodeAt(0)), files = { 'program.mit': arguments[0] };
 const count = `let made = 0; const Made = WebAssembly.Instance;
 WebAssembly.Instance = function (...given) { made++; return new Made(...given); };
 const post = self.postMessage.bind(self); self.postMessage = (data) => post({ ...data, made });`;
 const texts = [count, document.getElementById('worker-text').textContent];
 const worker = new Worker(URL.createObjectURL(new Blob(texts, { type: 'text/javascript' })));
 window.counted = null;
-worker.onmessage = ({ data }) => { if (data.id) window.counted = [data.made, data.text?.length ?? 0, data.fault ?? '']; };
+worker.onmessage = ({ data }) => {
+  if (data.id) window.counted = [data.made, data.text?.length ?? 0, data.fault ?? ''];
+};
 new Response(new Blob([bytes]).stream().pipeThrough(new DecompressionStream('deflate-raw'))).arrayBuffer()
   .then((plain) => WebAssembly.compile(plain)).then((module) => {
     worker.postMessage({ module });
-    worker.postMessage({ id: 1, program: 'mitigate', words: ['run', 'program.mit'], files: { 'program.mit': arguments[0] } });
+    worker.postMessage({ id: 1, program: 'mitigate', words: ['run', 'program.mit'], files });
   });"""
 LONG = "var l : L;\nl := 60000;\nwhile l > 0 do { l := l - 1 }\n"
 
@@ -154,5 +163,6 @@ def answers_are_made_once(page):
 
 
 TRIALS = [
-    tells_how_far, answers_are_made_once, dimmed_at_the_key, dimmed_during_a_run, bounds_rounded_up, if_without_else_marked, classes_read_apart, budget_told, cell_told,
+    tells_how_far, answers_are_made_once, dimmed_at_the_key, dimmed_during_a_run, bounds_rounded_up,
+    if_without_else_marked, classes_read_apart, budget_told, cell_told,
 ]

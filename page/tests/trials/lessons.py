@@ -1,4 +1,4 @@
-"""The lessons: the part that is spoken of, a guess before it is told, tasks that are seen to be done; a teacher's task."""
+"""Lessons: the part that is spoken of, a guess before it is told, tasks that are seen to be done; a teacher's task."""
 from driving import EXAMPLES, holds, same
 
 COUNT = "return document.querySelectorAll('#lesson-which option').length"
@@ -50,7 +50,8 @@ def guess_first(page):
     holds("8 cycles" not in page.text("#lesson"), "it is not told yet")
     page.browser.click('[data-guess="0"]')
     same(page.run(HIDDEN, TOLD), ["visible"] * len(TOLD), "what is seen then")
-    holds("something else" in page.text("#lesson-guess") and "8 cycles" in page.text("#lesson-guess"), page.text("#lesson-guess"))
+    holds("something else" in page.text("#lesson-guess")
+        and "8 cycles" in page.text("#lesson-guess"), page.text("#lesson-guess"))
     same(page.text("#lesson-guess .right"), "✓ Later, the greater the number was", "the right one")
     page.browser.click("#lesson-next")
     page.idle()
@@ -74,7 +75,8 @@ def goes_to_its_part(page):
             step = page.text("#lesson-step")
             holds(page.count("section.look") == 1, f"{step}: a part is named")
             top, least, most = page.run(IN_VIEW)
-            holds(least <= top + 1 and top < most - 40, f"{step} at {wide}: its part begins at {top}, between {least} and {most}")
+            holds(least <= top + 1
+                and top < most - 40, f"{step} at {wide}: its part begins at {top}, between {least} and {most}")
             page.run("document.getElementById('lesson-next').click()")
     page.browser.resize(1360, 900)
     page.open()
@@ -111,7 +113,8 @@ def cache_attack(page):
     open_step(page, 1, 0)
     same(page.program(), (EXAMPLES / "sbox/seen.mit").read_text(), "its program")
     guessed(page)
-    ends = page.run("return [...document.querySelectorAll('.lane')].map((lane) => lane.getAttribute('aria-label').replace(/\\u202f/g, ''))")
+    ends = page.run("return [...document.querySelectorAll('.lane')].map((lane) =>"
+        " lane.getAttribute('aria-label').replace(/\\u202f/g, ''))")
     same([int(end.rsplit(" ", 1)[1]) for end in ends], [1763, 1763, 1775, 1795], "the ends of the runs")
     open_step(page, 1, 1)
     not_done(page)
@@ -120,7 +123,8 @@ def cache_attack(page):
     open_step(page, 1, 3)
     not_done(page)
     for prediction, done in ((1761, False), (1000, False), (1762, True)):
-        page.write(page.program().replace("mitigate (2200", "mitigate (1").replace("mitigate (1761", "mitigate (1").replace("mitigate (1000", "mitigate (1")
+        page.write(page.program().replace("mitigate (2200", "mitigate (1").replace(
+            "mitigate (1761", "mitigate (1").replace("mitigate (1000", "mitigate (1")
                    .replace("mitigate (1,", f"mitigate ({prediction},"))
         (is_done(page, "the fastest prediction") if done else not_done(page))
     open_step(page, 1, 4)
