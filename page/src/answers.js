@@ -9,7 +9,10 @@ const place = (text) => {
 /** Of one line of a refusal: its kind, what it says, and its place where it has one. */
 export function readRefusal(line) {
   const refused = /^refused (\S+) at (\d+:\d+): (\S+) does not flow to (\S+)$/.exec(line);
-  if (refused) return { kind: 'refused', rule: refused[1], place: place(refused[2]), from: refused[3], to: refused[4], text: line };
+  if (refused) {
+    return { kind: 'refused', rule: refused[1], place: place(refused[2]), from: refused[3], to: refused[4],
+      text: line };
+  }
   const syntax = /^syntax: (.*?)(?: at (\d+:\d+))?$/.exec(line);
   if (syntax) return { kind: 'syntax', what: syntax[1], place: syntax[2] ? place(syntax[2]) : null, text: line };
   const named = /^(starts|disagree|unfinished|too long|read fault|memory|usage)/.exec(line);
@@ -19,8 +22,10 @@ export function readRefusal(line) {
 /** The verdict of `check`: accepted with its counts, or the refusal, and all its lines. */
 export function readVerdict(text) {
   const accepted = /^accepted: commands (\d+), mitigates (\d+)$/m.exec(text);
-  if (accepted) return { kind: 'accepted', commands: Number(accepted[1]), mitigates: Number(accepted[2]), refusals: [] };
-  const refusals = lines(text).map(readRefusal).filter((one) => one.kind !== 'other');
+  if (accepted) {
+    return { kind: 'accepted', commands: Number(accepted[1]), mitigates: Number(accepted[2]), refusals: [] };
+  }
+  const refusals = lines(text).map(readRefusal).filter((refusal) => refusal.kind !== 'other');
   return { ...(refusals[0] ?? readRefusal(lines(text)[0] ?? '')), refusals };
 }
 
@@ -32,8 +37,8 @@ const event = (match) => ({ variable: match[1], value: match[2], cycle: Number(m
 export function readRun(text) {
   const run = { events: [], mitigations: null, end: null, halted: false };
   for (const line of lines(text)) {
-    const end = END.exec(line), one = EVENT.exec(line);
-    if (one) run.events.push(event(one));
+    const end = END.exec(line), assigned = EVENT.exec(line);
+    if (assigned) run.events.push(event(assigned));
     else if (end) Object.assign(run, { end: Number(end[2]), halted: end[1] === 'end' });
     else return null;
   }
@@ -48,10 +53,13 @@ export function readAudit(text) {
     const level = /^level (\S+) mitigations (\d+)(?: first (\d+) digits (\d+))?$/.exec(line);
     const count = /^(runs|budget|levels|mitigations|ended|halted|distinct|bits) (\d+)$/.exec(line);
     const long = /^(sharp) (\d+)$/.exec(line) ?? /^(guess) at most (\d+) times as often$/.exec(line);
-    const observer = /^observer (\S+)$/.exec(line), tooMuch = /^(sharp|bits) \S+ or more$|^guess no limit told$/.test(line);
+    const observer = /^observer (\S+)$/.exec(line),
+      tooMuch = /^(sharp|bits) \S+ or more$|^guess no limit told$/.test(line);
     if (bound) Object.assign(found, { base: Number(bound[1]), exponent: Number(bound[2]) });
     else if (run) found.classes.push(Number(run[2]));
-    else if (level) found.levelsOf.push({ level: level[1], mitigations: Number(level[2]), first: Number(level[3] ?? 1), digits: level[4] && Number(level[4]) });
+    else if (level) found.levelsOf.push(
+      { level: level[1], mitigations: Number(level[2]), first: Number(level[3] ?? 1),
+        digits: level[4] && Number(level[4]) });
     else if (count) found[count[1]] = Number(count[2]);
     else if (long) found[long[1]] = BigInt(long[2]);
     else if (observer) [, found.observer] = observer;
@@ -73,24 +81,27 @@ export function readTimeline(text) {
   const runs = [], mitigates = [];
   let open = [];
   for (const line of lines(text)) {
-    const run = runs.at(-1), one = EVENT.exec(line), end = END.exec(line);
+    const run = runs.at(-1), assigned = EVENT.exec(line), end = END.exec(line);
     const begin = /^begin #(\d+) (\d+:\d+) level (\S+) estimate (-?\d+) predicts (\d+) misses (\d+) @(\d+)$/.exec(line);
     const ended = /^end #(\d+) (\d+:\d+) level (\S+) worked (\d+) lasts (\d+) misses (\d+) to (\d+) @(\d+)$/.exec(line);
-    const total = /^mitigate #(\d+) (\d+:\d+) ended (\d+) shortest (\d+) longest (\d+) missed (\d+) least (\d+)$/.exec(line);
+    const total = /^mitigate #(\d+) (\d+:\d+) ended (\d+) shortest (\d+) longest (\d+) missed (\d+) least (\d+)$/.exec(
+      line);
     if (/^run \d+$/.test(line)) {
       runs.push({ events: [], mitigations: [], end: null, halted: false });
       open = [];
-    } else if (one) {
-      run.events.push(event(one));
+    } else if (assigned) {
+      run.events.push(event(assigned));
     } else if (begin) {
       const made = {
         number: Number(begin[1]), place: begin[2], level: begin[3], estimate: begin[4], predicts: Number(begin[5]),
-        misses: Number(begin[6]), begin: Number(begin[7]), worked: null, lasts: null, missesAfter: null, end: null, depth: open.length,
+        misses: Number(begin[6]), begin: Number(begin[7]), worked: null, lasts: null, missesAfter: null, end: null,
+        depth: open.length,
       };
       run.mitigations.push(made);
       open.push(made);
     } else if (ended) {
-      Object.assign(open.pop(), { worked: Number(ended[4]), lasts: Number(ended[5]), missesAfter: Number(ended[7]), end: Number(ended[8]) });
+      Object.assign(open.pop(),
+        { worked: Number(ended[4]), lasts: Number(ended[5]), missesAfter: Number(ended[7]), end: Number(ended[8]) });
     } else if (end) {
       Object.assign(run, { end: Number(end[2]), halted: end[1] === 'end' });
     } else if (total) {
@@ -113,7 +124,8 @@ export function readWhy(text) {
 
 /** What the observer sees of runs, as one text a run; two runs look alike exactly where these are the same. */
 export function sequence(run) {
-  return run.events.filter((one) => one.isSeen).map((one) => `${one.variable}=${one.value}@${one.cycle}`).join(' ');
+  return run.events.filter((assignment) => assignment.isSeen)
+    .map((assignment) => `${assignment.variable}=${assignment.value}@${assignment.cycle}`).join(' ');
 }
 
 /** The class of each run, from 1, by first appearance of what is seen of it. */
@@ -122,11 +134,12 @@ export function classesOf(runs) {
   return runs.map((run) => kinds.indexOf(sequence(run)) + 1);
 }
 
-/** Marks in each run what the observer sees of it, by the run of the same start that tells the observer's part alone. */
+/** Marks in each run what the observer sees of it, by the run of the same start that tells the
+    observer's part alone. */
 export function markSeen(runs, seen) {
   runs.forEach((run, k) => {
-    const cycles = new Set(seen[k].events.map((one) => one.cycle));
-    for (const one of run.events) one.isSeen = cycles.has(one.cycle);
+    const cycles = new Set(seen[k].events.map((assignment) => assignment.cycle));
+    for (const assignment of run.events) assignment.isSeen = cycles.has(assignment.cycle);
   });
   return runs;
 }

@@ -4,9 +4,12 @@ import { readCode } from './answers.js';
 import { drawAudit, drawObservers, drawSentence } from './audit_part.js';
 import { drawCode } from './code_part.js';
 import { drawCommands } from './commands_part.js';
+import { drawCosts } from './costs_part.js';
 import { labelsOf, writtenLabels } from './decorations.js';
 import { announce, drawFreshness, setProgress } from './freshness_part.js';
+import { drawLesson, isCovered } from './lesson_part.js';
 import { drawProgram } from './program_part.js';
+import { followRuns, progressText } from './progress.js';
 import { drawStarts } from './starts_part.js';
 import { $, answeredOf, calls, faults, shown, state } from './state.js';
 import { auditOf, chainOf, codeOf, completedBy, mendOf, runsOf, sharpOf, verdictOf } from './study.js';
@@ -19,13 +22,19 @@ import { keepWork } from './work.js';
 const PAUSE = 250; // milliseconds of rest before a change is answered
 const QUICK_SWEEP = 4000; // milliseconds that a sweep may take to begin by itself
 const SWEEP_CALLS = 90; // how often as long as the runs a sweep takes, about
+const SHOWN_AFTER = 400, FOLLOWED_AFTER = 1000; // milliseconds until work is told, and until its runs are followed
 
-let turn = 0, waiting = null;
+// What is worked out of an accepted program, in order.
+const STEPS = ['the verdict', 'the count', 'the sharp count', 'the timeline'];
+const stepOf = (name) => ({ says: name, number: STEPS.indexOf(name) + 1, of: STEPS.length });
+
+let turn = 0, waiting = null, step = stepOf(STEPS[0]);
 
 /** Something was changed: what is asked now is stopped, and all is asked anew after a rest, or `now`. */
 export function changed({ now = false } = {}) {
   turn++;
-  if (location.hash && !now) history.replaceState(null, '', location.href.split('#')[0]); // it no longer tells what is here
+  // it no longer tells what is here
+  if (location.hash && !now) history.replaceState(null, '', location.href.split('#')[0]);
   clearTimeout(waiting);
   calls.tool?.stop();
   stopSweep();
@@ -42,7 +51,8 @@ export async function ask() {
   const mine = ++turn, begun = performance.now(), asked = { ...state };
   const isOld = () => mine !== turn;
   tool.stop();
-  busy(begun);
+  step = stepOf('the verdict');
+  busy(begun, asked);
   try {
     const verdict = await verdictOf(tool, asked);
     if (isOld()) return;
@@ -81,26 +91,33 @@ async function askCode(asked, isOld) {
 async function askRuns(asked, isOld) {
   const { tool } = calls;
   drawFreshness();
+  step = stepOf('the count');
   const audit = await auditOf(tool, asked);
   if (isOld()) return;
+  step = stepOf('the sharp count');
   const sharp = audit.report && !audit.isCut ? await sharpOf(tool, asked) : null;
   if (isOld()) return;
   shown.audit = { ...audit, sharp };
   answeredOf.audit = asked;
   drawAudit();
   drawFreshness();
+  step = stepOf('the timeline');
   const begun = performance.now();
   const told = await runsOf(tool, asked, shown.mostRuns);
   if (isOld()) return;
   const took = performance.now() - begun, { runs = null, mitigates = null, isAll = true } = told;
-  if (runs && audit.report) audit.report.classes.forEach((number, k) => runs[k] && Object.assign(runs[k], { class: number }));
+  if (runs && audit.report) {
+    audit.report.classes.forEach((number, k) => runs[k] && Object.assign(runs[k], { class: number }));
+  }
   Object.assign(shown, { runs, mitigates, isAll, view: null, page: 0, lane: -1, points: [] });
   answeredOf.runs = asked;
   delete answeredOf.points;
   setProgress('');
   drawStarts();
   drawTime();
+  drawCosts();
   drawSweep();
+  endFollowing();
   if (canSweep() && took * SWEEP_CALLS < QUICK_SWEEP) sweep();
 }
 
@@ -115,23 +132,37 @@ async function askMend(asked, isOld) {
   if (!isOld() && found) offerMend(found);
 }
 
-let ticking = null;
+let ticking = null, isFollowing = false;
 
-function busy(begun) {
+function busy(begun, asked) {
+  endFollowing();
   clearInterval(ticking);
   $('answer').setAttribute('aria-busy', 'true');
+  let told = null;
+  const tell = (next) => { told = next; };
   ticking = setInterval(() => {
-    const seconds = (performance.now() - begun) / 1000;
-    $('working').hidden = seconds < 0.4;
-    $('working-text').textContent = `working for ${seconds.toFixed(1)} s`;
+    const took = performance.now() - begun;
+    $('working').hidden = took < SHOWN_AFTER;
+    $('working-text').textContent = progressText(took / 1000, step, told);
+    if (took < FOLLOWED_AFTER || isFollowing || told || step.says === STEPS[0]) return;
+    isFollowing = true;
+    followRuns(calls.sweeper, asked, tell).catch(() => {});
   }, 100);
 }
 
+// The runs are followed by the worker of the sweep, which has nothing to do until the runs are there.
+function endFollowing() {
+  if (isFollowing) calls.sweeper.stop();
+  isFollowing = false;
+}
+
 function idle() {
+  endFollowing();
   clearInterval(ticking);
   $('answer').setAttribute('aria-busy', 'false');
   $('working').hidden = true;
-  announce();
+  drawLesson();
+  announce(isCovered());
 }
 
 function drawStopped(fault) {

@@ -4,24 +4,28 @@ import { bitsOf } from './answers.js';
 import { boundText, counted, spaced, wholeBound } from './numbers.js';
 import { refusalText } from './finding.js';
 import { labelText } from './marks.js';
+import { term } from './terms.js';
 
 function numberBox(number, says, more = '') {
   const title = more ? ` title="${more}"` : '';
-  return `<div class="number-of"><b${title}>${number}</b><i>${says}${more ? ` <span class="unseen">${more}</span>` : ''}</i></div>`;
+  return `<div class="number-of">`
+    + `<b${title}>${number}</b><i>${says}${more ? ` <span class="unseen">${more}</span>` : ''}</i></div>`;
 }
 
 function boundBox({ base, exponent }) {
   const value = base === 1 ? '1' : `${spaced(base)}<sup>${spaced(exponent)}</sup>`;
-  return numberBox(value, `at most, by the bound: ${counted(bitsOf(base, exponent), 'bit')}`);
+  return numberBox(value, `at most, by the ${term('bound')}: ${counted(bitsOf(base, exponent), 'bit')}`);
 }
 
 /** The numbers: what is seen, and the limits. */
 export function auditBoxes({ report, sharp }) {
   const runs = report.runs === 1 ? 'this run' : `these ${spaced(report.runs)} runs`;
-  const seen = numberBox(spaced(report.distinct), `different ${report.distinct === 1 ? 'sequence' : 'sequences'} seen in ${runs}`);
+  const sequences = term('timed sequence', report.distinct === 1 ? 'sequence' : 'sequences');
+  const seen = numberBox(spaced(report.distinct), `different ${sequences} seen in ${runs}`);
   const limit = sharp?.sharp === undefined
     ? ''
-    : numberBox(boundText(sharp.sharp), `at most, by the sharp count: ${counted(sharp.bits, 'bit')}`, wholeBound(sharp.sharp));
+    : numberBox(boundText(sharp.sharp), `at most, by the ${term('sharp count')}: ${counted(sharp.bits, 'bit')}`,
+    wholeBound(sharp.sharp));
   return seen + limit + boundBox(report);
 }
 
@@ -31,17 +35,21 @@ function holdsFor(report, isCut, sharp, observer) {
   if (isCut) return ` The bound holds ${agree}, and with which no more relevant mitigations end by then.`;
   if (sharp?.sharp === undefined) return ` The bound holds ${agree}, and halt by then.`;
   return ` Both limits hold ${agree}, and halt by then; the sharp count, where besides no relevant mitigation of theirs`
-    + ' has a first prediction below the least of its level here.';
+    + ` has a first prediction below the least of its ${term('level')} here.`;
 }
+
+const relevantWord = (count) => `${term('relevant')} ${count === 1 ? 'mitigation' : 'mitigations'}`;
 
 function howText(report, isCut, observer) {
   const who = `For an observer at ${observer} up to cycle ${spaced(report.budget)}`;
   if (isCut) {
-    return `${who}: ${spaced(report.halted)} of ${counted(report.runs, 'run')} have halted; what is seen until then is counted`
-      + ` (cut). ${counted(report.ended, 'relevant mitigation')} at most ended.`;
+    return `${who}: ${spaced(report.halted)} of ${counted(report.runs, 'run')} have halted; what is seen until then`
+      + ` is counted`
+      + ` (cut). ${spaced(report.ended)} ${relevantWord(report.ended)} at most ended.`;
   }
-  const levels = `${counted(report.levels, 'label')} that ${report.levels === 1 ? 'does' : 'do'} not flow to the observer`;
-  return `${who}: ${counted(report.mitigations, 'relevant mitigation')} in each run, ${levels}.`;
+  const levels = `${counted(report.levels, 'label')} that ${report.levels === 1 ? 'does' : 'do'} not flow to the`
+    + ` observer`;
+  return `${who}: ${spaced(report.mitigations)} ${relevantWord(report.mitigations)} in each run, ${levels}.`;
 }
 
 /** The numbers in words, or why there are none. */

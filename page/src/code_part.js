@@ -8,13 +8,17 @@ import { $, answeredOf, shown } from './state.js';
 
 const MOST_LINES = 20000; // instructions that are shown
 
-/** The instructions as HTML, each with the line of the program's text that its command begins on; 0 where it has none. */
+/** The instructions as HTML, each with the line of the program's text that its command begins on; 0
+    where it has none. */
 export function codeText(code, text, labels) {
   const program = readProgram(text), owned = program ? owners(program) : [], lineOf = lineFinder(text);
   const rows = code.slice(0, MOST_LINES).map((instruction, k) => {
-    const line = owned[k] ? lineOf(owned[k].at) : 0, marks = instruction.labels.map((name) => labelText(name, labels)).join(', ');
+    const line = owned[k] ? lineOf(owned[k].at) : 0,
+      marks = instruction.labels.map((name) => labelText(name, labels)).join(', ');
     const words = `<span class="op">${instruction.name}</span> ${escaped(instruction.operand)}`;
-    return `<span class="line" data-line="${line}"><span class="n">${instruction.number}</span><span class="to">${words}</span>[${marks}]</span>`;
+    return `<span class="line"`
+      + ` data-line="${line}"><span class="n">${instruction.number}</span>`
+      + `<span class="to">${words}</span>[${marks}]</span>`;
   });
   return rows.join('');
 }
@@ -47,7 +51,9 @@ export function listenCode(ask) {
   const box = $('editor');
   theEditor().onCaret((line) => light(line, false));
   box.addEventListener('mousemove', (event) => {
-    if (!$('code-part').hidden && !box.contains(document.activeElement)) light(theEditor().lineAtHeight(event.clientY), false);
+    if (!$('code-part').hidden && !box.contains(document.activeElement)) {
+      light(theEditor().lineAtHeight(event.clientY), false);
+    }
   });
   $('code').addEventListener('mouseover', (event) => {
     const instruction = event.target.closest('.line');

@@ -1,5 +1,5 @@
-// Colours: of labels, all but the first with a line below the word, and of runs that look alike, each with a shape. So up
-// to six labels and up to five classes can be told apart without colours.
+// Colours: of labels, all but the first with a line below the word, and of runs that look alike, each with a shape. So
+// up to six labels and up to five classes can be told apart without colours.
 
 export const LABEL_COLOURS = 8;
 const LINES = ['none', 'dotted', 'dashed', 'solid', 'double', 'wavy'];

@@ -32,8 +32,10 @@ const LISTS = {
   ],
   refused: [['the verdict', 'mitigate', 'check'], ['the way that the secret took', 'lab', 'why']],
   cut: [
-    ['the verdict', 'mitigate', 'check'], ['the count until then', 'mitigate', 'cut'], ['the timeline', 'lab', 'timeline'],
-    ['what is seen', 'lab', 'seen'], ['the left-out labels', 'mitigate', 'infer'], ['the compiled code', 'mitigate', 'compile'],
+    ['the verdict', 'mitigate', 'check'], ['the count until then', 'mitigate', 'cut'],
+    ['the timeline', 'lab', 'timeline'],
+    ['what is seen', 'lab', 'seen'], ['the left-out labels', 'mitigate', 'infer'],
+    ['the compiled code', 'mitigate', 'compile'],
   ],
   other: [['the verdict', 'mitigate', 'check']],
 };

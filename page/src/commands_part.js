@@ -15,8 +15,10 @@ export function commandsNow() {
 }
 
 export function drawCommands() {
-  const rows = commandsNow().map(({ says, line }) => `<div class="command"><span>${says}</span> <code>${escaped(line)}</code> `
-    + `<button type="button" class="link" data-copy-line="${escaped(line)}" aria-label="Copy the command for ${says}">Copy</button></div>`);
+  const rows = commandsNow()
+    .map(({ says, line }) => `<div class="command"><span>${says}</span> <code>${escaped(line)}</code> `
+    + `<button type="button" class="link"`
+      + ` data-copy-line="${escaped(line)}" aria-label="Copy the command for ${says}">Copy</button></div>`);
   const text = rows.join('');
   if ($('command-list').innerHTML !== text) $('command-list').innerHTML = text;
 }

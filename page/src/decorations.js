@@ -1,8 +1,10 @@
-// What the editor draws about a program's text beside its words: marks, lines inside of mitigates, left-out labels, steps.
+// What the editor draws about a program's text beside its words: marks, lines inside of mitigates,
+// left-out labels, steps.
 
 import { allCommands, lineFinder, offsetOf, pieces, readProgram, words } from './language.js';
 
-/** Labels of a program as the tool completed them: of variables by name, of commands by number, of mitigates' levels. */
+/** Labels of a program as the tool completed them: of variables by name, of commands by number, of
+    mitigates' levels. */
 export function labelsOf(canonical) {
   const program = readProgram(canonical);
   if (!program) return null;
@@ -35,7 +37,8 @@ function headerLabels(found) {
   return found.slice(1, end < 0 ? undefined : end).filter((word) => word.kind === 'name').map((word) => word.text);
 }
 
-/** What stands at the ends of lines, by the line's number: labels of variables and levels that were left out, and marks. */
+/** What stands at the ends of lines, by the line's number: labels of variables and levels that were
+    left out, and marks. */
 export function leftOutLabels(text, labels) {
   const program = readProgram(text), found = new Map(), lineOf = lineFinder(text);
   const add = (at, added) => found.set(lineOf(at), [...(found.get(lineOf(at)) ?? []), added]);
@@ -70,7 +73,9 @@ export function linesInside(text, labels) {
         level++;
         if (isOutermost) {
           const last = lineOf(command.end - 1);
-          for (let line = lineOf(command.head) + 1; line < last; line++) found.set(line, Math.max(labels.names.indexOf(name), 0));
+          for (let line = lineOf(command.head) + 1; line < last; line++) {
+            found.set(line, Math.max(labels.names.indexOf(name), 0));
+          }
         }
       }
       for (const part of command.parts) walk(part, isInside || isOutermost);
@@ -91,7 +96,8 @@ export function faultRange(text, fault) {
   return { from, to: Math.min(command ? command.head : from + (piece?.text.length ?? 0), most) };
 }
 
-/** The command of a text that begins at a place; where an `if` has no `else`, the `if` and not the skip that is added. */
+/** The command of a text that begins at a place; where an `if` has no `else`, the `if` and not the
+    skip that is added. */
 export function commandAt(text, at) {
   const program = readProgram(text);
   return program ? allCommands(program.body).find((command) => command.at === at && !command.isAdded) ?? null : null;

@@ -22,13 +22,15 @@ function keepIndent(library) {
   library.scrollIntoView(null);
 }
 
+const GUTTERS = ['CodeMirror-linenumbers', 'steps'], COSTS = 'costs';
+
 /** The editor in a box. `labelsNow` gives the labels that words are coloured by. */
 export class Editor {
   constructor(box, labelsNow) {
     const { CodeMirror } = globalThis;
     CodeMirror.defineMode('timed', () => modeOf(labelsNow));
     this.library = CodeMirror(box, {
-      mode: 'timed', lineNumbers: true, matchBrackets: true, gutters: ['CodeMirror-linenumbers', 'steps'],
+      mode: 'timed', lineNumbers: true, matchBrackets: true, gutters: GUTTERS,
       inputStyle: 'contenteditable', screenReaderLabel: 'Program', undoDepth: 2000, tabSize: 4, indentUnit: 2,
       extraKeys: { Tab: false, 'Shift-Tab': false, Enter: keepIndent },
     });
@@ -37,6 +39,7 @@ export class Editor {
     this.lines = new WeakMap(); // of a line of the library: its tint and what stands at its end
     this.drawn = '';
     this.lit = null;
+    this.hasCosts = false;
     this.library.on('renderLine', (_, line, element) => this.drawLine(line, element));
     this.library.on('beforeChange', (library, change) => {
       this.drawn = '';
@@ -113,6 +116,25 @@ export class Editor {
     this.library.clearGutter('steps');
   }
 
+  /** Takes away the cycles of a run, which are of a text that has changed. */
+  clearCosts() {
+    if (this.hasCosts) this.library.clearGutter(COSTS);
+    this.hasCosts = false;
+  }
+
+  /** Draws cycles into the margin, {short, long} by line; without such a margin where they are null. */
+  showCosts(costs) {
+    const wanted = costs ? [...GUTTERS, COSTS] : GUTTERS;
+    if (this.library.getOption('gutters').length !== wanted.length) this.library.setOption('gutters', wanted);
+    this.library.operation(() => {
+      this.clearCosts();
+      for (const [line, cost] of costs ?? []) {
+        if (line <= this.library.lineCount()) this.library.setGutterMarker(line - 1, COSTS, costMark(cost));
+      }
+      this.hasCosts = Boolean(costs?.size);
+    });
+  }
+
   /** Draws marks {from, to, name}, steps by line, and by line its tint and what stands at its end. */
   decorate({ marks, steps, tints, ends }) {
     this.library.operation(() => {
@@ -166,6 +188,14 @@ export class Editor {
   }
 }
 
+function costMark({ short, long }) {
+  const span = document.createElement('span');
+  span.className = 'cost';
+  span.textContent = short;
+  span.dataset.tip = long;
+  return span;
+}
+
 function missing(name) {
   const span = document.createElement('span');
   span.className = `${name} missing`;
@@ -176,6 +206,7 @@ function missing(name) {
 function stepMarks(numbers) {
   const box = document.createElement('span');
   box.setAttribute('aria-hidden', 'true');
-  box.innerHTML = numbers.map(({ number, isLast }) => `<span class="step${isLast ? ' end' : ''}">${number}</span>`).join('');
+  box.innerHTML = numbers.map(({ number, isLast }) => `<span class="step${isLast ? ' end' : ''}">${number}</span>`)
+    .join('');
   return box;
 }

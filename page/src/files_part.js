@@ -51,7 +51,8 @@ async function openFiles(files, load) {
   if (next.program !== undefined || next.starts !== undefined) load({ ...state, ...next }, { isOwn: true });
 }
 
-/** What a person does with files. `load` puts a program and its starts in place of what is there; `goBack` puts back what
+/** What a person does with files. `load` puts a program and its starts in place of what is there;
+    `goBack` puts back what
     was put aside. */
 export function listenFiles(load, goBack) {
   const press = (id, action) => $(id).addEventListener('click', () => {

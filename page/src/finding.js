@@ -19,9 +19,11 @@ function bitsIn(number) {
 }
 
 function ofReport({ report, isCut, sharp }, labels) {
-  const who = `an observer at ${labelText(report.observer, labels)}`, limit = limitOf(report, sharp), { runs, distinct } = report;
+  const who = `an observer at ${labelText(report.observer, labels)}`, limit = limitOf(report, sharp),
+    { runs, distinct } = report;
   if (isCut) {
-    const some = `${capital(inWords(report.halted))} of ${counted(runs, 'run')} ${report.halted === 1 ? 'has' : 'have'}`;
+    const verb = report.halted === 1 ? 'has' : 'have';
+    const some = `${capital(inWords(report.halted))} of ${counted(runs, 'run')} ${verb}`;
     const timings = distinct === 1 ? 'one timing' : `${inWords(distinct)} different timings`;
     const halted = `${report.halted === 0 ? 'No run has' : some} halted by cycle ${spaced(report.budget)}`;
     return `${halted}. Until then ${who} sees ${timings}.`;
@@ -31,7 +33,8 @@ function ofReport({ report, isCut, sharp }, labels) {
     : `at most ${limitWords(limit)} are possible`;
   if (runs === 1) return `Of one run ${who} sees one timing; ${limit === 1n ? most : `with other secrets ${most}`}.`;
   if (distinct === 1) {
-    return `${capital(who)} cannot tell these ${inWords(runs)} runs apart; ${limit === 1n ? most : `with other secrets ${most}`}.`;
+    const others = limit === 1n ? most : `with other secrets ${most}`;
+    return `${capital(who)} cannot tell these ${inWords(runs)} runs apart; ${others}.`;
   }
   return `Of ${inWords(runs)} runs ${who} sees ${inWords(distinct)} different timings; ${most}.`;
 }
@@ -57,7 +60,8 @@ export function refusalText(refusal, labels, observer) {
   const disagree = /^disagree: run (\d+): (variable|partition) (.+)$/.exec(refusal.text);
   if (disagree) {
     const [, run, kind, name] = disagree;
-    const what = kind === 'variable' ? `the variable <code>${escaped(name)}</code>` : `the cache partition ${escaped(name)}`;
+    const what = kind === 'variable' ? `the variable <code>${escaped(name)}</code>`
+      : `the cache partition ${escaped(name)}`;
     return `No count: the starts must agree in all that an observer at ${labelText(observer, labels)} may see, `
       + `and run ${run} differs from run 1 in ${what}.`;
   }

@@ -23,7 +23,8 @@ export function setProgress(next) {
 const fresh = (name) => isFresh(name, answeredOf[name], state, faults);
 const isStale = (name) => Boolean(answeredOf[name]) && !fresh(name);
 
-/** Dims what is of another text, and says so; to be called with each change of what is there and of what was answered. */
+/** Dims what is of another text, and says so; to be called with each change of what is there and of
+    what was answered. */
 export function drawFreshness() {
   for (const [name, ids] of Object.entries(SHOWN_IN)) {
     for (const id of ids) $(id).classList.toggle('stale', isStale(name));
@@ -48,8 +49,8 @@ function noteOf(element, name) {
   if (element.textContent !== text) element.textContent = text;
 }
 
-/** Tells those who do not see the page what the answer is. */
-export function announce() {
-  const words = [$('sentence').textContent, $('freshness').textContent].filter(Boolean).join(' ');
+/** Tells those who do not see the page what the answer is, where it is not covered. */
+export function announce(isCovered) {
+  const words = [isCovered ? '' : $('sentence').textContent, $('freshness').textContent].filter(Boolean).join(' ');
   if ($('announce').textContent !== words) $('announce').textContent = words;
 }

@@ -61,7 +61,8 @@ export function roleInContext(context, { kind, text }) {
     context.open.pop();
     context.isMarks = false;
   } else if (kind === 'name') {
-    const isLevel = before === ',' && context.open.at(-1) === 'mitigate', isDeclared = context.isDeclaration && before === ':';
+    const isLevel = before === ',' && context.open.at(-1) === 'mitigate',
+      isDeclared = context.isDeclaration && before === ':';
     role = context.isHeader || context.isMarks || isLevel || isDeclared ? 'label' : 'variable';
   }
   context.before = text;
@@ -246,7 +247,8 @@ class Reader {
       made.head = this.last;
       const then = this.block();
       const isWritten = this.takes('else');
-      const skip = isWritten ? null : { number: this.count++, at: word.at, end: this.last, form: 'skip', parts: [], isAdded: true };
+      const skip = isWritten ? null
+        : { number: this.count++, at: word.at, end: this.last, form: 'skip', parts: [], isAdded: true };
       made.parts = [then, isWritten ? this.block() : [skip]];
     } else if (this.takes('while')) {
       Object.assign(made, { form: 'while', value: this.expression(), marks: this.marks() });
@@ -334,17 +336,17 @@ export function owners(program) {
   const add = (count, command) => {
     for (let k = 0; k < count; k++) found.push(command);
   };
-  const one = (command) => {
+  const addCommand = (command) => {
     const size = (command.index?.size ?? 0) + (command.value?.size ?? 0) + 1;
     add(size, command);
     command.parts.forEach((part, k) => {
-      part.forEach(one);
+      part.forEach(addCommand);
       if (command.form === 'if' && k === 0) add(1, command);
     });
     if (command.form === 'while') add(size, command);
     if (command.form === 'mitigate') add(1, command);
   };
-  program.body.forEach(one);
+  program.body.forEach(addCommand);
   found.push(null);
   return found;
 }
@@ -359,5 +361,6 @@ export function wrapped(text, first, last, estimate, level) {
   const begin = text.lastIndexOf('\n', first.at - 1) + 1;
   const indent = /^[ \t]*$/.test(text.slice(begin, first.at)) ? text.slice(begin, first.at) : '';
   const inner = text.slice(first.at, last.end).replace(/\n/g, '\n  ');
-  return `${text.slice(0, first.at)}mitigate (${estimate}, ${level}) {\n${indent}  ${inner}\n${indent}}${text.slice(last.end)}`;
+  const made = `mitigate (${estimate}, ${level}) {\n${indent}  ${inner}\n${indent}}`;
+  return text.slice(0, first.at) + made + text.slice(last.end);
 }

@@ -1,11 +1,14 @@
 // A link that holds what is on the page, in its part after '#': JSON, packed where the browser can, in base64url.
 
+import { readTask } from './tasks.js';
+
 const base64 = (bytes) => {
   let text = '';
   for (const byte of bytes) text += String.fromCharCode(byte);
   return btoa(text).replaceAll('+', '-').replaceAll('/', '_').replace(/=+$/, '');
 };
-const unbase64 = (text) => Uint8Array.from(atob(text.replaceAll('-', '+').replaceAll('_', '/')), (sign) => sign.charCodeAt(0));
+const unbase64 = (text) =>
+  Uint8Array.from(atob(text.replaceAll('-', '+').replaceAll('_', '/')), (sign) => sign.charCodeAt(0));
 const KEYS = { program: 'p', starts: 's', observer: 'o', environment: 'e', budget: 'b' };
 const MOST = 4 * 1024 * 1024;
 
@@ -30,15 +33,16 @@ async function* chunks(stream) {
   }
 }
 
-/** The part after '#' for what is on the page. */
-export async function linkOf(state) {
+/** The part after '#' for what is on the page, with a task of it where there is one. */
+export async function linkOf(state, task = null) {
   const short = Object.fromEntries(Object.entries(KEYS).map(([name, letter]) => [letter, state[name]]));
+  if (task) short.t = task;
   const bytes = new TextEncoder().encode(JSON.stringify(short));
   if (typeof CompressionStream === 'undefined') return `#j${base64(bytes)}`;
   return `#z${base64(await through(bytes, new CompressionStream('deflate-raw')))}`;
 }
 
-/** What such a part says, or null where it says nothing. */
+/** What such a part says, with its `task` where it has one, or null where it says nothing. */
 export async function stateOf(hash) {
   const found = /^#([jz])([A-Za-z0-9_-]+)$/.exec(hash);
   if (!found || hash.length > MOST) return null;
@@ -47,7 +51,9 @@ export async function stateOf(hash) {
     const plain = found[1] === 'j' ? bytes : await through(bytes, new DecompressionStream('deflate-raw'));
     const short = JSON.parse(new TextDecoder().decode(plain));
     const state = Object.fromEntries(Object.entries(KEYS).map(([name, letter]) => [name, short[letter]]));
-    return Object.values(state).every((value) => typeof value === 'string') ? state : null;
+    if (!Object.values(state).every((value) => typeof value === 'string')) return null;
+    const task = readTask(short.t);
+    return task ? { ...state, task } : state;
   } catch {
     return null;
   }

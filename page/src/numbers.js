@@ -10,7 +10,8 @@ export function counted(number, word, many = `${word}s`) {
   return `${spaced(number)} ${number === 1 || number === 1n ? word : many}`;
 }
 
-const WORDS = ['none', 'one', 'two', 'three', 'four', 'five', 'six', 'seven', 'eight', 'nine', 'ten', 'eleven', 'twelve'];
+const WORDS = ['none', 'one', 'two', 'three', 'four', 'five', 'six', 'seven', 'eight', 'nine', 'ten', 'eleven',
+  'twelve'];
 
 /** A small number as a word, a greater one in digits. */
 export function inWords(number) {

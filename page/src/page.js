@@ -5,21 +5,25 @@ import { drawAudit, drawObservers } from './audit_part.js';
 import { listenCode } from './code_part.js';
 import { escaped } from './colours.js';
 import { drawCommands, listenCommands } from './commands_part.js';
+import { listenCosts } from './costs_part.js';
 import { DATA, startModule } from './data.js';
 import { writtenLabels } from './decorations.js';
 import { examplesOf } from './examples.js';
 import { drawNotice, drawWayBack, listenFiles } from './files_part.js';
 import { drawFreshness } from './freshness_part.js';
-import { listenLesson } from './lesson_part.js';
+import { closeLesson, listenLesson, openTask } from './lesson_part.js';
 import { linkOf, stateOf } from './link.js';
 import { listenProgram, loadProgram } from './program_part.js';
 import { drawStarts, listenStarts } from './starts_part.js';
 import { $, answeredOf, calls, faults, shown, state } from './state.js';
 import { drawSweep, listenSweep } from './sweep_part.js';
+import { readTask } from './tasks.js';
+import { listenTeach } from './teach_part.js';
 import { drawTime, listenTime, redraw } from './time_part.js';
+import { listenTerms } from './terms_part.js';
 import { listenTips } from './tips.js';
 import { drawNoModule, listenVerdict } from './verdict_part.js';
-import { keptWork, noteLoaded, putAside, takeAside } from './work.js';
+import { keptWork, noteLoaded, noteTask, putAside, takeAside, taskNow } from './work.js';
 
 const EXAMPLES = examplesOf(DATA), USUAL = { observer: 'L', environment: 'part', budget: '1000000' };
 const MOST_CYCLES = 2 ** 40;
@@ -27,6 +31,7 @@ const MOST_CYCLES = 2 ** 40;
 // Puts a program, its starts and settings in place of what is there, which is put aside where it is a person's own.
 function load(next, { isOwn = false, isLesson = false, isBack = false, example = 'own', says = '' } = {}) {
   const isAside = !isBack && putAside();
+  if (!isLesson) closeLesson();
   noteLoaded(next, { isOwn, isLesson });
   $('example').value = example;
   $('example-says').textContent = says;
@@ -39,7 +44,8 @@ function load(next, { isOwn = false, isLesson = false, isBack = false, example =
   setFault('');
   faults.cell = '';
   for (const name of Object.keys(answeredOf)) delete answeredOf[name];
-  Object.assign(shown, { points: [], audit: null, runs: null, mitigates: null, verdict: null, steps: [], code: null, mostRuns: undefined });
+  Object.assign(shown, { points: [], audit: null, runs: null, mitigates: null, verdict: null, steps: [], code: null,
+    mostRuns: undefined });
   shown.labels = writtenLabels(state.program);
   drawObservers();
   drawAudit();
@@ -64,11 +70,26 @@ function goBack() {
 async function fromLink() {
   const next = await stateOf(location.hash);
   if (next) load(next);
+  if (next?.task) beginTask(next.task, next);
   return next !== null;
 }
 
+// Opens a task of what is on the page, which began with `given`.
+function beginTask(task, given) {
+  const { program, starts } = given,
+    settings = Object.fromEntries(Object.keys(USUAL).map((name) => [name, given[name]]));
+  noteTask(task, { program, starts, ...settings });
+  openTask(task, { program, starts, ...settings });
+}
+
+// The task that was kept with work, where it is one.
+function keptTask({ ofTask }) {
+  const task = readTask(ofTask?.task), given = ofTask?.given;
+  return task && typeof given?.program === 'string' && typeof given.starts === 'string' ? { task, given } : null;
+}
+
 async function copyLink() {
-  const link = await linkOf(state);
+  const link = await linkOf(state, taskNow());
   history.replaceState(null, '', link);
   const button = $('copy');
   try {
@@ -140,10 +161,13 @@ function listen() {
   listenStarts(changed);
   listenTime(ask);
   listenCode(ask);
+  listenCosts();
   listenSweep();
   listenCommands();
   listenFiles(load, goBack);
   listenLesson(load);
+  listenTeach((task) => beginTask(task, { ...state }));
+  listenTerms();
   listenTips();
   listenWidth();
 }
@@ -151,7 +175,11 @@ function listen() {
 // What is there at first: what a link says, or what was kept of the last visit, or the first example.
 async function firstWork() {
   const kept = keptWork();
-  if (kept) load(kept, { isOwn: kept.isOwn === true, example: kept.example ?? 'own', says: kept.says ?? '' });
+  if (kept) {
+    load(kept, { isOwn: kept.isOwn === true, example: kept.example ?? 'own', says: kept.says ?? '' });
+    const worked = keptTask(kept);
+    if (worked) beginTask(worked.task, worked.given);
+  }
   const isLinked = await fromLink();
   if (!isLinked && !kept) loadExample(0);
 }

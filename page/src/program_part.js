@@ -33,9 +33,13 @@ function drawLegend() {
   const { names } = shown.labels, isUsual = names.length === 2 && names[0] === 'L' && names[1] === 'H';
   const says = isUsual ? [' seen by everyone', ' secret, underlined'] : [];
   const parts = names.map((name, k) => `<span><b class="${labelClass(k)}">${escaped(name)}</b>${says[k] ?? ''}</span>`);
-  if (shown.verdict?.kind === 'accepted') parts.push('<span><i>in italics: left out, and the least that serve</i></span>');
+  if (shown.verdict?.kind === 'accepted') {
+    parts.push('<span><i>in italics: left out, and the least that serve</i></span>');
+  }
   if (mitigatesNow().length) parts.push('<span><span class="swatch tint-swatch"></span>inside a mitigate</span>');
-  if (shown.verdict?.refusals?.some((fault) => fault.place)) parts.push('<span><span class="wrong">wavy</span> refused here</span>');
+  if (shown.verdict?.refusals?.some((fault) => fault.place)) {
+    parts.push('<span><span class="wrong">wavy</span> refused here</span>');
+  }
   $('legend').innerHTML = parts.join('');
 }
 
@@ -73,6 +77,7 @@ export function listenProgram(changed) {
   editor.onEdit(() => {
     state.program = editor.text;
     editor.clearMarks();
+    editor.clearCosts();
     leaveExample();
     changed();
   });

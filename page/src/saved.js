@@ -9,7 +9,8 @@ export function jsonOf({ state, verdict, audit, runs, mitigates, points }) {
   return `${JSON.stringify({ program, starts, ...settings, verdict, audit, runs, mitigates, points }, plain, 2)}\n`;
 }
 
-/** What a file holds: {program}, {starts}, or both with settings from what was saved as JSON; null where it is nothing. */
+/** What a file holds: {program}, {starts}, or both with settings from what was saved as JSON; null
+    where it is nothing. */
 export function readFileText(name, text) {
   if (/\.toml$/i.test(name)) return { starts: text };
   if (!/\.json$/i.test(name)) return { program: text };

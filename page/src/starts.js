@@ -1,4 +1,5 @@
-// Start files as a table: a row a run, a column a variable. The text is what the tool reads; the table is drawn from it.
+// Start files as a table: a row a run, a column a variable. The text is what the tool reads; the
+// table is drawn from it.
 
 import { readToml, TomlFault } from './toml.js';
 
@@ -31,7 +32,9 @@ export function readStarts(text) {
 /** A value of memory or a touch as TOML. */
 export function valueText(value) {
   if (Array.isArray(value)) return `[${value.map(valueText).join(', ')}]`;
-  if (value instanceof Map) return `{ ${[...value].map(([name, inner]) => `${keyText(name)} = ${valueText(inner)}`).join(', ')} }`;
+  if (value instanceof Map) {
+    return `{ ${[...value].map(([name, inner]) => `${keyText(name)} = ${valueText(inner)}`).join(', ')} }`;
+  }
   return isInteger(value) ? String(value) : JSON.stringify(value);
 }
 
@@ -64,7 +67,9 @@ const isPrintable = (n) => n >= 32n && n <= 126n && n !== 34n && n !== 92n;
 export function cellText(value) {
   if (value === undefined) return '';
   if (!Array.isArray(value)) return String(value);
-  if (value.length > 1 && value.every(isPrintable)) return `"${value.map((n) => String.fromCharCode(Number(n))).join('')}"`;
+  if (value.length > 1 && value.every(isPrintable)) {
+    return `"${value.map((n) => String.fromCharCode(Number(n))).join('')}"`;
+  }
   return value.map(String).join(' ');
 }
 

@@ -39,9 +39,13 @@ function cellChange(text, { runs, heads, tables }, row, name, value) {
 }
 
 function addition(text, { entries, open, close }, name, value) {
-  const pair = `${keyText(name)} = ${valueText(value)}`, last = [...entries.values()].sort((a, b) => a.to - b.to).at(-1);
-  if (open !== null) return last ? { from: last.to, to: last.to, put: `, ${pair}` } : { from: open, to: close, put: ` ${pair} ` };
-  const at = lineEnd(text, last.to), isDotted = /^[ \t]*(?:run[ \t]*\.[ \t]*)?memory[ \t]*\./.test(text.slice(last.from));
+  const pair = `${keyText(name)} = ${valueText(value)}`,
+    last = [...entries.values()].sort((a, b) => a.to - b.to).at(-1);
+  if (open !== null) {
+    return last ? { from: last.to, to: last.to, put: `, ${pair}` } : { from: open, to: close, put: ` ${pair} ` };
+  }
+  const at = lineEnd(text, last.to),
+    isDotted = /^[ \t]*(?:run[ \t]*\.[ \t]*)?memory[ \t]*\./.test(text.slice(last.from));
   return { from: at, to: at, put: `${text[at - 1] === '\n' ? '' : '\n'}${isDotted ? 'memory.' : ''}${pair}\n` };
 }
 

@@ -6,6 +6,7 @@ import { withCell, withColumnNamed, withCopy, withoutColumn, withoutRun, withRan
 import { cellValue } from './starts.js';
 import { addersText, seenText, tableText } from './starts_table.js';
 import { $, answeredOf, faults, programNow, shown, starts, state } from './state.js';
+import { term } from './terms.js';
 import { pickLane } from './time_part.js';
 
 const MOST_MADE = 4096n; // runs that a range makes
@@ -17,10 +18,12 @@ let known = [];
 
 export function drawStarts() {
   const read = starts(), box = $('starts-table'), isText = !$('starts-text').hidden;
-  const refusal = shown.audit?.refusal?.kind === 'starts' && answeredOf.audit?.starts === state.starts ? shown.audit.refusal.text : '';
+  const refusal = shown.audit?.refusal?.kind === 'starts' && answeredOf.audit?.starts === state.starts
+    ? shown.audit.refusal.text : '';
   const fault = read.fault ? `${isText ? '' : 'The table cannot show these starts. '}${read.fault}` : refusal;
   $('starts-fault').textContent = faults.cell || fault;
-  $('starts-note').textContent = shown.runs ? 'rows that look alike share colour and shape' : '';
+  const note = shown.runs ? `rows of one ${term('class')} look alike, and share colour and shape` : '';
+  if ($('starts-note').innerHTML !== note) $('starts-note').innerHTML = note;
   $('starts-undo').disabled = before.length === 0;
   box.hidden = isText || Boolean(read.fault);
   $('starts-add').hidden = box.hidden;
@@ -38,11 +41,13 @@ export function drawStarts() {
 
 // Of runs that were told for other rows than these nothing is written beside these.
 function drawSeen(read) {
-  const isOfRows = shown.runs && shown.runs.length === Math.min(read.runs.length, shown.isAll ? Infinity : shown.runs.length);
+  const isOfRows = shown.runs
+    && shown.runs.length === Math.min(read.runs.length, shown.isAll ? Infinity : shown.runs.length);
   const texts = isOfRows ? seenTexts(shown.runs) : [];
   for (const row of $('starts-table').querySelectorAll('tr[data-run]')) {
     const number = Number(row.dataset.run);
-    row.querySelector('.seen').innerHTML = texts[number] === undefined ? '' : seenText(shown.runs[number], texts[number]);
+    row.querySelector('.seen').innerHTML = texts[number] === undefined ? ''
+      : seenText(shown.runs[number], texts[number]);
   }
 }
 
@@ -78,8 +83,10 @@ export function listenStarts(changed) {
   listenAdders($('starts-add'), replace);
 }
 
-const cellFault = (cell) => `run ${Number(cell.dataset.row) + 1}, ${cell.dataset.name}: ${JSON.stringify(cell.value)} is ${
-  cell.dataset.array === 'true' ? 'no list of numbers with spaces between them, nor letters in quotes' : 'no number of 64 bits'}.`;
+const cellFault = (cell) =>
+  `run ${Number(cell.dataset.row) + 1}, ${cell.dataset.name}: ${JSON.stringify(cell.value)} is ${
+  cell.dataset.array === 'true' ? 'no list of numbers with spaces between them, nor letters in quotes'
+    : 'no number of 64 bits'}.`;
 
 function listenCells(box, put, changed) {
   box.addEventListener('input', (event) => {
@@ -102,7 +109,8 @@ function listenCells(box, put, changed) {
   box.addEventListener('keydown', (event) => {
     const cell = event.target, by = { ArrowDown: 1, ArrowUp: -1, Enter: 1 }[event.key];
     if (!by || cell.dataset.name === undefined) return;
-    const next = box.querySelector(`input[data-row="${Number(cell.dataset.row) + by}"][data-name="${cell.dataset.name}"]`);
+    const next = box.querySelector(
+      `input[data-row="${Number(cell.dataset.row) + by}"][data-name="${cell.dataset.name}"]`);
     if (!next) return;
     event.preventDefault();
     next.focus();

@@ -7,7 +7,8 @@ import { cellText, columnsOf } from './starts.js';
 /** How many runs the table shows. */
 export const ROWS = 200;
 
-const button = (attributes, name, text) => `<button type="button" class="link" ${attributes} aria-label="${name}" title="${name}">${text}</button>`;
+const button = (attributes, name, text) =>
+  `<button type="button" class="link" ${attributes} aria-label="${name}" title="${name}">${text}</button>`;
 
 function headText(name, labels, isKnown) {
   const label = labels.of.get(name), number = labels.names.indexOf(label), shown = escaped(name);
@@ -18,8 +19,10 @@ function headText(name, labels, isKnown) {
 
 function cellOf(run, row, name, isArray) {
   const value = run.memory.get(name), text = cellText(value), wide = Math.min(text.length + 3, 26);
-  return `<td><input data-row="${row}" data-name="${escaped(name)}" data-array="${isArray.get(name) ?? Array.isArray(value)}"`
-    + ` value="${escaped(text)}" aria-label="run ${row + 1}, ${escaped(name)}" autocomplete="off" style="min-width:${wide}ch"></td>`;
+  const isList = isArray.get(name) ?? Array.isArray(value);
+  return `<td><input data-row="${row}" data-name="${escaped(name)}" data-array="${isList}"`
+    + ` value="${escaped(text)}" aria-label="run ${row + 1}, ${escaped(name)}" autocomplete="off"`
+      + ` style="min-width:${wide}ch"></td>`;
 }
 
 function rowText(run, row, columns, isArray, isOnly) {
@@ -33,7 +36,8 @@ function rowText(run, row, columns, isArray, isOnly) {
 
 /** The table of starts, for the variables of a program, its labels and an observer. */
 export function tableText(starts, { variables, labels, observer }) {
-  const columns = columnsOf(starts), isArray = new Map(variables.map((variable) => [variable.name, variable.length !== null]));
+  const columns = columnsOf(starts),
+    isArray = new Map(variables.map((variable) => [variable.name, variable.length !== null]));
   const isOnly = starts.runs.length === 1;
   const rows = starts.runs.slice(0, ROWS).map((run, row) => rowText(run, row, columns, isArray, isOnly));
   const heads = columns.map((name) => headText(name, labels, isArray.has(name) || variables.length === 0));
@@ -41,16 +45,21 @@ export function tableText(starts, { variables, labels, observer }) {
     ? `<p class="hint">${spaced(ROWS)} of ${spaced(starts.runs.length)} runs are shown here; the text has all.</p>`
     : '';
   return `<table><thead><tr><th scope="col">run</th>${heads.join('')}<th scope="col">seen at ${escaped(observer)}</th>`
-    + `<th scope="col"><span class="unseen">change</span></th></tr></thead><tbody>${rows.join('')}</tbody></table>${rest}`;
+    + `<th scope="col"><span class="unseen">change</span></th></tr></thead>`
+      + `<tbody>${rows.join('')}</tbody></table>${rest}`;
 }
 
 /** What can be added: a column of a variable that has none, a name for a column of no variable, runs with a range. */
 export function addersText(starts, { variables, labels }) {
-  const columns = columnsOf(starts), options = (names) => names.map((name) => `<option>${escaped(name)}</option>`).join('');
+  const columns = columnsOf(starts),
+    options = (names) => names.map((name) => `<option>${escaped(name)}</option>`).join('');
   const more = variables.map((variable) => variable.name).filter((name) => !columns.includes(name));
-  const unknown = variables.length ? columns.filter((name) => !variables.some((variable) => variable.name === name)) : [];
+  const unknown = variables.length ? columns.filter((name) => !variables.some((variable) => variable.name === name))
+    : [];
   const parts = [];
-  if (more.length) parts.push(`<label>Add a column <select id="add-column"><option></option>${options(more)}</select></label>`);
+  if (more.length) {
+    parts.push(`<label>Add a column <select id="add-column"><option></option>${options(more)}</select></label>`);
+  }
   for (const name of more.length ? unknown : []) {
     const choice = `<select data-rename="${escaped(name)}"><option></option>${options(more)}</select>`;
     parts.push(`<label>Rename the column ${escaped(name)} to ${choice}</label>`);
@@ -62,7 +71,8 @@ function rangeAdder(variables, columns, labels) {
   const scalars = variables.filter((variable) => variable.length === null).map((variable) => variable.name);
   if (!scalars.length) return '';
   const isSecret = (name) => labels.of.get(name) !== labels.names[0];
-  const chosen = scalars.find((name) => isSecret(name) && columns.includes(name)) ?? scalars.find(isSecret) ?? scalars[0];
+  const chosen = scalars.find((name) => isSecret(name) && columns.includes(name)) ?? scalars.find(isSecret)
+    ?? scalars[0];
   const options = scalars.map((name) => `<option${name === chosen ? ' selected' : ''}>${escaped(name)}</option>`);
   return `<span><label>Runs with <select id="range-name">${options.join('')}</select></label>`
     + ' <label>from <input id="range-from" value="0" inputmode="numeric"></label>'
@@ -73,6 +83,7 @@ function rangeAdder(variables, columns, labels) {
 /** What is seen of a run, as its cell shows it: the mark and the number of its class, and the words. */
 export function seenText(run, words) {
   const mark = classMark(run.class, 6, 6, 4.4);
-  return `<svg width="12" height="12" viewBox="0 0 12 12" aria-hidden="true">${mark}</svg><span class="class">${run.class}</span>`
+  return `<svg width="12" height="12" viewBox="0 0 12 12"`
+    + ` aria-hidden="true">${mark}</svg><span class="class">${run.class}</span>`
     + `<span class="unseen"> class: </span>${escaped(words)}`;
 }

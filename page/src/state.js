@@ -9,7 +9,8 @@ export const $ = (id) => document.getElementById(id);
 /** What is asked about. */
 export const state = { program: '', starts: '', observer: 'L', environment: 'part', budget: '1000000' };
 
-/** Words for what was written and is not asked about, since it is none: the number of cycles, and a cell of the table. */
+/** Words for what was written and is not asked about, since it is none: the number of cycles, and a
+    cell of the table. */
 export const faults = { budget: '', cell: '' };
 
 /** What was answered, and how it is looked at. */
@@ -17,7 +18,8 @@ export const shown = {
   verdict: null, // the answer to `check`
   steps: [], // the chain of a refusal
   mended: null, // the offered mitigate
-  labels: { names: ['L', 'H'], pairs: [], of: new Map(), marks: null, levels: null }, // the program's, and of each variable
+  // the program's, and of each variable
+  labels: { names: ['L', 'H'], pairs: [], of: new Map(), marks: null, levels: null },
   code: null, // the instructions
   audit: null, // {report, isCut, sharp} or {refusal}
   runs: null, mitigates: null, isAll: true, mostRuns: undefined, // the runs: all of them, or as many as are asked for

@@ -100,7 +100,9 @@ async function single(tool, state, starts, k, words) {
 
 async function byRuns(tool, state, most) {
   const starts = readStarts(state.starts);
-  if (starts.fault) return { refusal: { kind: 'starts', text: `the page cannot take these starts apart: ${starts.fault}` } };
+  if (starts.fault) {
+    return { refusal: { kind: 'starts', text: `the page cannot take these starts apart: ${starts.fault}` } };
+  }
   const count = Math.min(starts.runs.length, most), all = [], seen = [];
   for (let k = 0; k < count; k++) {
     for (const [list, words] of [[all, WORDS.run(state)], [seen, asSeen(WORDS.run(state), state)]]) {

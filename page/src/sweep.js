@@ -19,13 +19,14 @@ export function powerFrom(number) {
 /** The first prediction from which on all tried ones leave one sequence, and the last one before it; or null. */
 export function quietFrom(points) {
   const sorted = [...points].sort((a, b) => a.prediction - b.prediction);
-  const loud = sorted.findLastIndex((one) => one.sequences > 1);
+  const loud = sorted.findLastIndex((point) => point.sequences > 1);
   if (loud === sorted.length - 1) return null;
   return { first: sorted[loud + 1], before: sorted[loud] ?? null };
 }
 
 /** Halves the gap below the first prediction from which on one sequence is left, until none is left. `point` tries a
-    prediction and puts its point into `tried`; it gives null where not all runs halt, and then the half above is next. */
+    prediction and puts its point into `tried`; it gives null where not all runs halt, and then the
+    half above is next. */
 export async function halveGap(tried, point, isOld = () => false) {
   let unfinished = 0;
   for (let k = 0; k < 44; k++) {
@@ -42,12 +43,12 @@ export async function halveGap(tried, point, isOld = () => false) {
 /** For each number of sequences the prediction whose longest run is the shortest, the fewest sequences first. */
 export function cheapest(points) {
   const best = new Map();
-  for (const one of points) {
-    const have = best.get(one.sequences);
-    if (!have || one.longest < have.longest) best.set(one.sequences, one);
+  for (const point of points) {
+    const have = best.get(point.sequences);
+    if (!have || point.longest < have.longest) best.set(point.sequences, point);
   }
   const found = [...best.values()].sort((a, b) => a.sequences - b.sequences);
-  return found.filter((one, k) => found.slice(0, k).every((fewer) => fewer.longest > one.longest));
+  return found.filter((point, k) => found.slice(0, k).every((fewer) => fewer.longest > point.longest));
 }
 
 /** The sentence below the picture. `least` is the lab's least first prediction that no
@@ -55,17 +56,25 @@ export function cheapest(points) {
 export function sweepText(points, least, current, unfinished = 0) {
   const quiet = quietFrom(points);
   if (!quiet) {
-    const fewest = Math.min(...points.map((one) => one.sequences));
-    if (unfinished) return `Each prediction that was tried, and with which all runs halt, leaves ${counted(fewest, 'sequence')} or more.`;
-    return `Each prediction that was tried leaves ${counted(fewest, 'sequence')} or more: another part of the program tells them apart.`;
+    const fewest = Math.min(...points.map((point) => point.sequences));
+    if (unfinished) {
+      return `Each prediction that was tried, and with which all runs halt, leaves`
+        + ` ${counted(fewest, 'sequence')} or more.`;
+    }
+    return `Each prediction that was tried leaves ${counted(fewest, 'sequence')} or more: another part of the`
+      + ` program tells them apart.`;
   }
   const { first } = quiet;
   const from = quiet.before
-    ? `From ${spaced(first.prediction)} on, the runs cannot be told apart${least === first.prediction ? ': that is one more than the longest body takes' : ', of the predictions that were tried'}.`
-    : `With each prediction that was tried${unfinished ? ', and with which all runs halt,' : ''} the runs cannot be told apart.`;
-  const now = points.find((one) => one.prediction === current);
+    ? `From ${spaced(first.prediction)} on, the runs cannot be told apart${least === first.prediction ? ': that is'
+      + ' one more than the longest body takes' : ', of the predictions that were tried'}.`
+    : `With each prediction that was`
+      + ` tried${unfinished ? ', and with which all runs halt,' : ''} the runs cannot be told apart.`;
+  const now = points.find((point) => point.prediction === current);
   const cost = ` It costs ${counted(first.longest, 'cycle')}`;
-  return `${from}${cost}${now && now !== first ? `, where ${spaced(current)} costs ${spaced(now.longest)}${now.sequences > 1 ? ` and tells ${counted(now.sequences, 'thing')}` : ''}` : ''}.`;
+  const tells = now?.sequences > 1 ? ` and tells ${counted(now.sequences, 'thing')}` : '';
+  const other = now && now !== first ? `, where ${spaced(current)} costs ${spaced(now.longest)}${tells}` : '';
+  return `${from}${cost}${other}.`;
 }
 
 const LEFT = 58, RIGHT = 24, TOP = 30, BOTTOM = 46, NARROW = 560;
@@ -74,37 +83,59 @@ const LEFT = 58, RIGHT = 24, TOP = 30, BOTTOM = 46, NARROW = 560;
 export function sweepPicture(points, { width, high = 320, current = null }) {
   const sorted = [...points].sort((a, b) => a.prediction - b.prediction);
   const doublings = Math.max(1, Math.log2(sorted.at(-1).prediction));
-  const top = Math.max(...sorted.map((one) => one.longest)) * 1.05, tall = high - TOP - BOTTOM;
+  const top = Math.max(...sorted.map((point) => point.longest)) * 1.05, tall = high - TOP - BOTTOM;
   const x = (n) => LEFT + ((width - LEFT - RIGHT) * Math.log2(n)) / doublings;
   const y = (cycles) => TOP + tall * (1 - cycles / top);
-  const out = [`<svg xmlns="http://www.w3.org/2000/svg" viewBox="0 0 ${width} ${high}" width="${width}" height="${high}" font-size="12" font-family="system-ui, sans-serif" role="group" aria-label="Longest run against first prediction">`];
+  const out = [`<svg xmlns="http://www.w3.org/2000/svg" viewBox="0 0`
+    + ` ${width} ${high}" width="${width}" height="${high}" font-size="12" font-family="system-ui, sans-serif"`
+      + ` role="group" aria-label="Longest run against first prediction">`];
   const quiet = quietFrom(sorted);
   if (quiet) {
     const edge = quiet.before ? x(quiet.first.prediction) : LEFT;
-    out.push(`<rect x="${at(edge)}" y="${TOP}" width="${at(Math.max(width - RIGHT - edge, 2))}" height="${tall}" fill="var(--good-tint)"/>`);
+    const wide = at(Math.max(width - RIGHT - edge, 2));
+    out.push(`<rect x="${at(edge)}" y="${TOP}" width="${wide}" height="${tall}" fill="var(--good-tint)"/>`);
     const fits = width - RIGHT - edge > 190;
     const says = width < NARROW ? 'nothing is told' : 'one sequence: nothing is told';
-    out.push(`<text x="${at(fits ? edge + 8 : width - RIGHT)}" y="${TOP - 10}" fill="var(--good)" font-weight="600" text-anchor="${fits ? 'start' : 'end'}">${says}</text>`);
+    out.push(`<text x="${at(fits ? edge + 8 : width - RIGHT)}" y="${TOP - 10}" fill="var(--good)" font-weight="600"`
+      + ` text-anchor="${fits ? 'start' : 'end'}">${says}</text>`);
   }
   out.push('<g stroke="var(--line)">');
   const rows = ticks(0, top, 5);
   for (const cycles of rows) out.push(`<path d="M${LEFT} ${at(y(cycles))}H${width - RIGHT}"/>`);
   out.push('</g><g fill="var(--soft)">');
-  for (const cycles of rows) out.push(`<text x="${LEFT - 8}" y="${at(y(cycles) + 4)}" text-anchor="end">${spaced(cycles)}</text>`);
-  const step = Math.ceil((doublings * 46) / (width - LEFT - RIGHT));
-  for (let k = 0; k <= doublings + 0.001; k += step) out.push(`<text x="${at(x(2 ** k))}" y="${high - BOTTOM + 17}" text-anchor="middle">${spaced(2 ** k)}</text>`);
-  const isLeft = current === null || x(current) > width / 2; // opposite of where the present one is named
-  out.push(`<text x="${isLeft ? LEFT : width - RIGHT}" y="${high - 8}" text-anchor="${isLeft ? 'start' : 'end'}">first prediction, in cycles</text><text x="8" y="${TOP - 10}">longest run, in cycles</text></g>`);
-  if (current !== null && current <= sorted.at(-1).prediction) {
-    out.push(`<path d="M${at(x(current))} ${TOP}V${TOP + tall}" stroke="var(--ink)" stroke-dasharray="3 3" opacity=".7"/><text x="${at(x(current))}" y="${high - 8}" text-anchor="middle" fill="var(--ink)">now ${spaced(current)}</text>`);
+  for (const cycles of rows) {
+    out.push(`<text x="${LEFT - 8}" y="${at(y(cycles) + 4)}" text-anchor="end">${spaced(cycles)}</text>`);
   }
-  for (const one of sorted) {
-    const text = `${spaced(one.prediction)}: ${one.sequences === 1 ? 'one sequence' : counted(one.sequences, 'sequence')}, ${one.shortest === one.longest ? '' : `${spaced(one.shortest)} to `}${counted(one.longest, 'cycle')}`;
-    const place = at(x(one.prediction)), colour = classColour(one.sequences);
-    out.push(`<g class="point" data-prediction="${one.prediction}" data-tip="${escaped(text)}" role="img" aria-label="${escaped(text)}">`);
-    if (one.shortest !== one.longest) out.push(`<path d="M${place} ${at(y(one.longest))}V${at(y(one.shortest))}" stroke="${colour}" stroke-width="2" opacity=".5"/>`);
-    out.push(`<circle cx="${place}" cy="${at(y(one.longest))}" r="${Math.min((width < NARROW ? 1.5 : 3) + one.sequences, 9)}" fill="${colour}"/>`);
-    out.push(one.sequences > 1 && width >= NARROW ? `<text x="${place}" y="${at(y(one.longest) - Math.min(6 + one.sequences, 12))}" text-anchor="middle" font-size="10.5" fill="var(--soft)">${one.sequences}</text></g>` : '</g>');
+  const step = Math.ceil((doublings * 46) / (width - LEFT - RIGHT));
+  for (let k = 0; k <= doublings + 0.001; k += step) {
+    out.push(`<text x="${at(x(2 ** k))}" y="${high - BOTTOM + 17}" text-anchor="middle">${spaced(2 ** k)}</text>`);
+  }
+  const isLeft = current === null || x(current) > width / 2; // opposite of where the present one is named
+  const [nameAt, anchor] = isLeft ? [LEFT, 'start'] : [width - RIGHT, 'end'];
+  out.push(`<text x="${nameAt}" y="${high - 8}" text-anchor="${anchor}">first prediction, in cycles</text>`);
+  out.push(`<text x="8" y="${TOP - 10}">longest run, in cycles</text></g>`);
+  if (current !== null && current <= sorted.at(-1).prediction) {
+    out.push(`<path d="M${at(x(current))} ${TOP}V${TOP + tall}" stroke="var(--ink)" stroke-dasharray="3 3"`
+      + ` opacity=".7"/><text x="${at(x(current))}" y="${high - 8}" text-anchor="middle" fill="var(--ink)">now`
+        + ` ${spaced(current)}</text>`);
+  }
+  for (const point of sorted) {
+    const sequences = point.sequences === 1 ? 'one sequence' : counted(point.sequences, 'sequence');
+    const from = point.shortest === point.longest ? '' : `${spaced(point.shortest)} to `;
+    const text = `${spaced(point.prediction)}: ${sequences}, ${from}${counted(point.longest, 'cycle')}`;
+    const place = at(x(point.prediction)), colour = classColour(point.sequences);
+    out.push(`<g class="point"`
+      + ` data-prediction="${point.prediction}" data-tip="${escaped(text)}" role="img" aria-label="${escaped(text)}">`);
+    if (point.shortest !== point.longest) {
+      const line = `M${place} ${at(y(point.longest))}V${at(y(point.shortest))}`;
+      out.push(`<path d="${line}" stroke="${colour}" stroke-width="2"`
+        + ` opacity=".5"/>`);
+    }
+    const round = Math.min((width < NARROW ? 1.5 : 3) + point.sequences, 9);
+    out.push(`<circle cx="${place}" cy="${at(y(point.longest))}" r="${round}" fill="${colour}"/>`);
+    out.push(point.sequences > 1 && width >= NARROW
+      ? `<text x="${place}" y="${at(y(point.longest) - Math.min(6 + point.sequences, 12))}" text-anchor="middle"`
+        + ` font-size="10.5" fill="var(--soft)">${point.sequences}</text></g>` : '</g>');
   }
   out.push('</svg>');
   return out.join('\n');
@@ -114,9 +145,11 @@ export function sweepPicture(points, { width, high = 320, current = null }) {
 export function pointsTable(points) {
   const best = new Set(cheapest(points)), cell = (text) => `<td class="what">${text}</td>`;
   const rows = [...points].sort((a, b) => a.prediction - b.prediction).map((point) => {
-    const numbers = [point.prediction, point.sequences, point.shortest, point.longest].map((number) => cell(spaced(number)));
+    const numbers = [point.prediction, point.sequences, point.shortest, point.longest].map(
+      (number) => cell(spaced(number)));
     const name = `Take the prediction ${spaced(point.prediction)}`;
-    const take = `<button type="button" class="link" data-take="${point.prediction}" aria-label="${name}">Take</button>`;
+    const take = `<button type="button" class="link"`
+      + ` data-take="${point.prediction}" aria-label="${name}">Take</button>`;
     return `<tr>${numbers.join('')}${cell(best.has(point) ? 'no faster one tells as little' : '')}${cell(take)}</tr>`;
   });
   const heads = ['first prediction', 'sequences', 'shortest run', 'longest run', 'the fastest', 'use it'];

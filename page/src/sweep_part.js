@@ -93,11 +93,13 @@ async function tryPredictions({ tried, unfinished, point }, current, isOld) {
   if (isOld()) return;
   if (!first) {
     drawSweep();
-    $('sweep-text').textContent = 'With a first prediction of 1 not all runs halt within the cycles that are asked for.';
+    $('sweep-text').textContent =
+      'With a first prediction of 1 not all runs halt within the cycles that are asked for.';
     return;
   }
   shown.least = mitigatesNow().length === 1 ? first.least : null;
-  const most = powerFrom(first.longest), further = [first.least ?? 0, (first.least ?? 0) - 1, current ?? 0].filter((n) => n <= most);
+  const most = powerFrom(first.longest),
+    further = [first.least ?? 0, (first.least ?? 0) - 1, current ?? 0].filter((n) => n <= most);
   let last = performance.now();
   for (const prediction of predictions(most, further)) {
     await point(prediction);
@@ -114,7 +116,8 @@ async function tryPredictions({ tried, unfinished, point }, current, isOld) {
 
 function pointsText(count, current, unfinished) {
   const left = unfinished ? `; with ${spaced(unfinished)} more not all runs halt` : '';
-  return `The same starts, ${counted(count, 'prediction')} in place of ${current === null ? 'the estimate' : spaced(current)}${left}.`;
+  const place = current === null ? 'the estimate' : spaced(current);
+  return `The same starts, ${counted(count, 'prediction')} in place of ${place}${left}.`;
 }
 
 /** The picture of the points, the sentence below it, and the points as numbers. */

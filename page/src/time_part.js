@@ -1,5 +1,6 @@
 // The timeline: which runs and which cycles of them are drawn, and the run that is looked at.
 
+import { drawCosts } from './costs_part.js';
 import { saveSvg } from './saving.js';
 import { spaced } from './numbers.js';
 import { $, answeredOf, calls, mitigatesNow, shown, starts } from './state.js';
@@ -12,7 +13,8 @@ const lanesWidth = () => Math.max($('lanes').clientWidth - 2, 280);
 function placeholder() {
   const kind = answeredOf.verdict ? shown.verdict?.kind : null;
   const words = {
-    refused: 'A refused program is not run here. Where it is its time that tells, the offered mitigate gives it a limit, and a picture.',
+    refused: 'A refused program is not run here. Where it is its time that tells, the offered mitigate gives it a'
+      + ' limit, and a picture.',
     syntax: 'Runs are drawn here once there is a program.',
   };
   return `<p class="empty">${words[kind] ?? ''}</p>`;
@@ -35,8 +37,10 @@ export function drawTime() {
   $('time-note').textContent = shown.isAll ? '' : `The first ${spaced(runs.length)} of ${spaced(count)} runs.`;
   $('lane-pages').hidden = runs.length <= LANES && shown.isAll;
   $('lane-pages').innerHTML = pagesText(runs.length, first, part.length, shown.isAll);
-  $('time-legend').innerHTML = timeLegend(runs, { hasLab: calls.tool.has('lab'), hasMitigates: mitigatesNow().length > 0 });
-  $('lane-says').innerHTML = (shown.mitigates ?? []).filter((mitigate) => mitigate.ended).map(mitigateText).join('<br>');
+  $('time-legend').innerHTML =
+    timeLegend(runs, { hasLab: calls.tool.has('lab'), hasMitigates: mitigatesNow().length > 0 });
+  $('lane-says').innerHTML =
+    (shown.mitigates ?? []).filter((mitigate) => mitigate.ended).map(mitigateText).join('<br>');
 }
 
 function zoom(factor, about) {
@@ -49,7 +53,8 @@ function zoom(factor, about) {
 // The middle one of what is seen within the view, or else the view's middle.
 function middleOfSeen() {
   const [from, to] = shown.view, isWithin = (event) => event.isSeen && event.cycle >= from && event.cycle <= to;
-  const seen = shown.runs.flatMap((run) => run.events.filter(isWithin).map((event) => event.cycle)).sort((a, b) => a - b);
+  const seen = shown.runs.flatMap((run) => run.events.filter(isWithin).map((event) => event.cycle))
+    .sort((a, b) => a - b);
   return seen[Math.floor(seen.length / 2)] ?? (from + to) / 2;
 }
 
@@ -78,6 +83,7 @@ export function pickLane(number, says = true) {
   if (says) {
     lane?.scrollIntoView({ block: 'nearest' });
     $('lane-says').textContent = $('announce').textContent = runText(shown.runs[number], number + 1);
+    drawCosts();
   }
 }
 
@@ -145,7 +151,9 @@ function onKey(event) {
 function listenDrag(lanes) {
   let drag = null;
   lanes.addEventListener('pointerdown', (event) => {
-    if (event.pointerType === 'mouse' && event.button === 0 && shown.runs) drag = { x: event.clientX, view: shown.view };
+    if (event.pointerType === 'mouse' && event.button === 0 && shown.runs) {
+      drag = { x: event.clientX, view: shown.view };
+    }
   });
   window.addEventListener('pointermove', (event) => {
     if (!drag) return;

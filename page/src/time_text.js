@@ -19,9 +19,11 @@ export function mitigateText(mitigate) {
 /** The buttons that turn pages of `count` runs, of which `drawn` from `first` on, from 0, are drawn. */
 export function pagesText(count, first, drawn, isAll) {
   const pages = Math.ceil(count / LANES), page = Math.floor(first / LANES);
-  const turn = (by, text, isEnd) => `<button type="button" class="link" data-page="${by}"${isEnd ? ' disabled' : ''}>${text}</button>`;
+  const turn = (by, text, isEnd) =>
+    `<button type="button" class="link" data-page="${by}"${isEnd ? ' disabled' : ''}>${text}</button>`;
   const range = `runs ${first + 1} to ${first + drawn} of ${spaced(count)}`;
-  const turns = pages < 2 ? '' : `${turn(-1, 'Earlier runs', page === 0)}${range}${turn(1, 'Later runs', page === pages - 1)}`;
+  const turns = pages < 2 ? ''
+    : `${turn(-1, 'Earlier runs', page === 0)}${range}${turn(1, 'Later runs', page === pages - 1)}`;
   return turns + (isAll ? '' : '<button type="button" class="link" data-all>Draw all runs</button>');
 }
 
@@ -32,12 +34,14 @@ export function timeLegend(runs, { hasLab, hasMitigates }) {
     + `<rect width="26" height="11" rx="2" fill="${fill}"${more}/></svg>`;
   if (runs.some((run) => run.mitigations?.length)) {
     legend.push(`<span>${swatch('var(--work)')}a mitigate’s body works</span>`);
-    legend.push(`<span>${swatch('url(#wait)', ' stroke="var(--soft)" stroke-width=".6"')}waits until its prediction is over</span>`);
+    legend.push(`<span>${swatch('url(#wait)', ' stroke="var(--soft)"'
+      + ' stroke-width=".6"')}waits until its prediction is over</span>`);
     legend.push('<span>┆ where predictions end, × missed</span>');
   } else if (!hasLab && hasMitigates) {
     legend.push('<span>The begins and ends of mitigations are not in this module’s answers, and so not drawn.</span>');
   }
-  const shapes = [1, 2, 3].map((k) => `<svg width="12" height="12" viewBox="0 0 12 12" aria-hidden="true">${classMark(k, 6, 6, 4.4)}</svg>`);
+  const shapes = [1, 2, 3].map(
+    (k) => `<svg width="12" height="12" viewBox="0 0 12 12" aria-hidden="true">${classMark(k, 6, 6, 4.4)}</svg>`);
   legend.push(`<span>${shapes.join('')}seen by the observer; runs of one colour, shape and number look alike</span>`);
   return legend.join('');
 }

@@ -6,6 +6,8 @@ import { counted, spaced } from './numbers.js';
 
 const RIGHT = 20, TOP = 26, BOTTOM = 34, NARROW = 560;
 const MOST_MARKS = 4000;
+// a mark that stands out from what is below it
+const EDGED = 'stroke="var(--card)" stroke-width="2" paint-order="stroke"';
 const leftOf = (width) => (width < NARROW ? 46 : 92);
 const laneOf = (count) => (count <= 16 ? 30 : count <= 40 ? 22 : 17);
 
@@ -51,17 +53,20 @@ export function predictionEnds(mitigation) {
 const times = (mitigation) => mitigation.missesAfter - mitigation.misses;
 
 /** What a mitigation did, in words. */
-export function mitigationText(one) {
-  const where = `mitigate at ${one.place}, level ${one.level}`;
-  if (one.end === null) return `${where}: began at ${spaced(one.begin)}, not ended`;
-  const missed = times(one) ? `; ${counted(times(one), 'prediction')} missed, from ${spaced(one.predicts)} on` : '';
-  return `${where}: worked ${counted(one.worked, 'cycle')} from ${spaced(one.begin)}, waited ${spaced(one.end - one.begin - one.worked)} to ${spaced(one.end)}${missed}`;
+export function mitigationText(mitigation) {
+  const where = `mitigate at ${mitigation.place}, level ${mitigation.level}`;
+  if (mitigation.end === null) return `${where}: began at ${spaced(mitigation.begin)}, not ended`;
+  const { begin, end, worked, predicts } = mitigation, count = times(mitigation);
+  const missed = count ? `; ${counted(count, 'prediction')} missed, from ${spaced(predicts)} on` : '';
+  const waited = `waited ${spaced(end - begin - worked)} to ${spaced(end)}`;
+  return `${where}: worked ${counted(worked, 'cycle')} from ${spaced(begin)}, ${waited}${missed}`;
 }
 
 /** What is seen of a run, in words. */
 export function runText(run, number) {
-  const seen = run.events.filter((one) => one.isSeen);
-  const list = seen.slice(0, 8).map((one) => `${one.variable} = ${one.value} at ${spaced(one.cycle)}`).join(', ');
+  const seen = run.events.filter((assignment) => assignment.isSeen);
+  const list = seen.slice(0, 8)
+    .map((assignment) => `${assignment.variable} = ${assignment.value} at ${spaced(assignment.cycle)}`).join(', ');
   const more = seen.length > 8 ? ` and ${seen.length - 8} more` : '';
   const end = run.halted ? `ends at cycle ${spaced(run.end)}` : `not ended at cycle ${spaced(run.end)}`;
   return `Run ${number}, class ${run.class}: ${seen.length ? `seen ${list}${more}` : 'nothing is seen'}; ${end}`;
@@ -75,9 +80,15 @@ export function timeline(runs, { width, view, first = 1 }) {
   const isIn = (cycle) => cycle >= from && cycle <= to;
   const out = [];
   const tip = (text) => `data-tip="${escaped(text)}"`;
-  out.push(`<svg xmlns="http://www.w3.org/2000/svg" viewBox="0 0 ${width} ${high + BOTTOM}" width="${width}" height="${high + BOTTOM}" font-size="${font}" font-family="system-ui, sans-serif" role="group" aria-label="Timeline of ${counted(runs.length, 'run')}">`);
-  out.push(`<defs><pattern id="wait" width="6" height="6" patternUnits="userSpaceOnUse" patternTransform="rotate(45)"><rect width="6" height="6" fill="var(--code)"/><path d="M0 0V6" stroke="var(--soft)" stroke-width="1.8"/></pattern>`);
-  out.push(`<clipPath id="axis"><rect x="${left}" y="0" width="${width - left - RIGHT}" height="${high + BOTTOM}"/></clipPath></defs>`);
+  const extent = `viewBox="0 0 ${width} ${high + BOTTOM}" width="${width}" height="${high + BOTTOM}"`;
+  const name = `role="group" aria-label="Timeline of ${counted(runs.length, 'run')}"`;
+  out.push(`<svg xmlns="http://www.w3.org/2000/svg" ${extent} font-size="${font}"`
+    + ` font-family="system-ui, sans-serif" ${name}>`);
+  out.push(`<defs><pattern id="wait" width="6" height="6" patternUnits="userSpaceOnUse"`
+    + ` patternTransform="rotate(45)"><rect width="6" height="6" fill="var(--code)"/>`
+      + `<path d="M0 0V6" stroke="var(--soft)" stroke-width="1.8"/></pattern>`);
+  out.push(`<clipPath id="axis">`
+    + `<rect x="${left}" y="0" width="${width - left - RIGHT}" height="${high + BOTTOM}"/></clipPath></defs>`);
   out.push(`<g stroke="var(--line)">`);
   const marks = ticks(from, to, Math.max(2, Math.floor(width / (isNarrow ? 80 : 110))));
   for (const cycle of marks) out.push(`<path d="M${at(x(cycle))} ${TOP - 6}V${high}"/>`);
@@ -92,50 +103,69 @@ export function timeline(runs, { width, view, first = 1 }) {
 
   function drawLane(run, k) {
     const y = TOP + lane * k, middle = y + lane / 2, colour = classColour(run.class);
-    out.push(`<g class="lane" tabindex="-1" data-run="${first + k}" role="img" aria-label="${escaped(runText(run, first + k))}">`);
+    out.push(`<g class="lane" tabindex="-1"`
+      + ` data-run="${first + k}" role="img" aria-label="${escaped(runText(run, first + k))}">`);
     out.push(`<rect class="track" x="0" y="${y}" width="${width}" height="${lane}" fill="transparent"/>`);
-    out.push(`<text x="6" y="${middle + 4.5}" fill="var(--ink)">${isNarrow ? '' : 'run '}${first + k}</text>${classMark(run.class, left - 18, middle, 4.6 * Math.max(size, 0.75))}`);
+    out.push(`<text x="6" y="${middle + 4.5}" fill="var(--ink)">${isNarrow ? '' : 'run '}${first + k}</text>`);
+    out.push(classMark(run.class, left - 18, middle, 4.6 * Math.max(size, 0.75)));
     out.push(`<g clip-path="url(#axis)">`);
-    out.push(`<path d="M${at(x(Math.max(0, from)))} ${middle}H${at(x(Math.min(run.end, to)))}" stroke="var(--soft)" stroke-width="1.2" opacity=".7"/>`);
-    for (const one of run.mitigations ?? []) bar(one, run, y, middle);
+    out.push(`<path d="M${at(x(Math.max(0, from)))} ${middle}H${at(x(Math.min(run.end, to)))}" stroke="var(--soft)"`
+      + ` stroke-width="1.2" opacity=".7"/>`);
+    for (const mitigation of run.mitigations ?? []) bar(mitigation, run, y, middle);
     unseen(run, middle);
     out.push(end(run, middle), '</g>');
     seen(run, y, middle, colour);
     out.push('</g>');
   }
 
-  function bar(one, run, y, middle) {
-    const end = one.end ?? run.end, worked = one.end === null ? end : one.begin + one.worked;
-    if (end < from || one.begin > to) return;
-    const half = Math.max(2.5, (8 - 2 * one.depth) * size), begin = x(one.begin);
-    const text = mitigationText(one);
-    out.push(`<g ${tip(text)}><rect x="${at(begin)}" y="${middle - half}" width="${at(x(worked) - begin)}" height="${2 * half}" rx="2" fill="var(--work)"/>`);
-    if (end > worked) out.push(`<rect x="${at(x(worked))}" y="${middle - half}" width="${at(x(end) - x(worked))}" height="${2 * half}" rx="2" fill="url(#wait)" stroke="var(--soft)" stroke-width=".6"/>`);
+  function bar(mitigation, run, y, middle) {
+    const end = mitigation.end ?? run.end,
+      worked = mitigation.end === null ? end : mitigation.begin + mitigation.worked;
+    if (end < from || mitigation.begin > to) return;
+    const half = Math.max(2.5, (8 - 2 * mitigation.depth) * size), begin = x(mitigation.begin);
+    const text = mitigationText(mitigation);
+    const box = (left, right) =>
+      `<rect x="${at(left)}" y="${middle - half}" width="${at(right - left)}" height="${2 * half}"`;
+    out.push(`<g ${tip(text)}>${box(begin, x(worked))} rx="2" fill="var(--work)"/>`);
+    if (end > worked) {
+      out.push(`${box(x(worked), x(end))} rx="2" fill="url(#wait)" stroke="var(--soft)" stroke-width=".6"/>`);
+    }
     out.push('</g>');
-    if (one.end === null) return;
-    const ends = predictionEnds(one);
+    if (mitigation.end === null) return;
+    const ends = predictionEnds(mitigation);
     let last = -99;
     ends.forEach((cycle, k) => {
       const place = x(cycle), isMiss = k < ends.length - 1;
       if (!isIn(cycle) || (isMiss && place - last < 4)) return;
-      const length = one.predicts * 2 ** k, cross = 3 * Math.max(size, 0.75);
-      const what = isMiss ? `the prediction of ${spaced(length)} was missed at ${spaced(cycle)}` : `the prediction of ${spaced(length)} held, to ${spaced(cycle)}`;
-      const d = isMiss && place - last >= 9 ? `M${at(place - cross)} ${middle - cross}l${2 * cross} ${2 * cross}m0 ${-2 * cross}l${-2 * cross} ${2 * cross}` : '';
+      const length = mitigation.predicts * 2 ** k, cross = 3 * Math.max(size, 0.75);
+      const what = isMiss ? `the prediction of ${spaced(length)} was missed at ${spaced(cycle)}`
+        : `the prediction of ${spaced(length)} held, to ${spaced(cycle)}`;
+      const across = 2 * cross, from = `M${at(place - cross)} ${middle - cross}`;
+      const d = isMiss && place - last >= 9 ? `${from}l${across} ${across}m0 ${-across}l${-across} ${across}` : '';
       last = place;
-      out.push(`<g ${tip(what)}><path d="M${at(place)} ${y}V${y + lane}" stroke="transparent" stroke-width="6"/><path d="M${at(place)} ${y}V${y + lane}" stroke="var(--soft)" stroke-dasharray="2 3"/>${d && `<path d="${d}" stroke="var(--card)" stroke-width="3.4" fill="none"/><path d="${d}" stroke="var(--ink)" stroke-width="1.6" fill="none"/>`}</g>`);
+      out.push(`<g ${tip(what)}><path d="M${at(place)} ${y}V${y + lane}" stroke="transparent" stroke-width="6"/>`
+        + `<path d="M${at(place)} ${y}V${y + lane}" stroke="var(--soft)" stroke-dasharray="2`
+          + ` 3"/>${d && `<path d="${d}" stroke="var(--card)" stroke-width="3.4" fill="none"/>`
+            + `<path d="${d}" stroke="var(--ink)" stroke-width="1.6" fill="none"/>`}</g>`);
     });
   }
 
   function unseen(run, middle) {
     let count = 0, last = -9;
-    const isWorked = (cycle) => run.mitigations?.some((one) => one.begin < cycle && cycle <= (one.worked === null ? run.end : one.begin + one.worked));
-    for (const one of run.events) {
-      if (one.isSeen || !isIn(one.cycle)) continue;
-      const place = x(one.cycle);
+    const isWorked = (cycle) =>
+      run.mitigations?.some((mitigation) => mitigation.begin < cycle
+        && cycle <= (mitigation.worked === null ? run.end : mitigation.begin + mitigation.worked));
+    for (const assignment of run.events) {
+      if (assignment.isSeen || !isIn(assignment.cycle)) continue;
+      const place = x(assignment.cycle);
       if (place - last < 2 || ++count > MOST_MARKS) continue; // what stands on one point is drawn once
       last = place;
-      const text = `${one.variable} = ${one.value} at ${spaced(one.cycle)}, not seen by the observer`;
-      out.push(`<g ${tip(text)}><path d="M${at(place)} ${at(middle - 7 * size)}v${at(14 * size)}" stroke="transparent" stroke-width="8"/><path d="M${at(place)} ${at(middle - 4 * size)}v${at(8 * size)}" stroke="var(--${isWorked(one.cycle) ? 'card' : 'soft'})" stroke-width="1.4"/></g>`);
+      const text = `${assignment.variable} = ${assignment.value} at ${spaced(assignment.cycle)}, not seen by the`
+        + ` observer`;
+      const stroke = (half) => `<path d="M${at(place)} ${at(middle - half * size)}v${at(2 * half * size)}"`;
+      const colour = `var(--${isWorked(assignment.cycle) ? 'card' : 'soft'})`;
+      out.push(`<g ${tip(text)}>${stroke(7)} stroke="transparent" stroke-width="8"/>`
+        + `${stroke(4)} stroke="${colour}" stroke-width="1.4"/></g>`);
     }
   }
 
@@ -147,21 +177,29 @@ export function timeline(runs, { width, view, first = 1 }) {
   }
 
   function seen(run, y, middle, colour) {
-    const shown = run.events.filter((one) => one.isSeen && isIn(one.cycle));
+    const shown = run.events.filter((assignment) => assignment.isSeen && isIn(assignment.cycle));
     let last = -9, count = 0;
-    shown.forEach((one, k) => {
-      const place = x(one.cycle);
+    shown.forEach((assignment, k) => {
+      const place = x(assignment.cycle);
       if (place - last < 1.5 || ++count > MOST_MARKS) return;
       last = place;
-      const text = `${one.variable} = ${one.value}`, label = isNarrow ? `@${one.cycle}` : `${text} @${one.cycle}`;
+      const text = `${assignment.variable} = ${assignment.value}`,
+        label = isNarrow ? `@${assignment.cycle}` : `${text} @${assignment.cycle}`;
       const next = k + 1 < shown.length ? x(shown[k + 1].cycle) : width;
       const room = label.length * 0.67 * font + 18;
-      const isRight = place + room <= Math.min(next, width), isLeft = k === 0 && shown.length === 1 && place - room > left;
-      out.push(`<g ${tip(`${text} at ${spaced(one.cycle)}, seen by the observer`)}>${classMark(run.class, place, middle, 5.4 * Math.max(size, 0.75), 'stroke="var(--card)" stroke-width="2" paint-order="stroke"')}`);
+      const isRight = place + room <= Math.min(next, width),
+        isLeft = k === 0 && shown.length === 1 && place - room > left;
+      out.push(`<g ${tip(`${text} at ${spaced(assignment.cycle)}, seen by the observer`)}>`);
+      out.push(classMark(run.class, place, middle, 5.4 * Math.max(size, 0.75), EDGED));
       if (isRight || isLeft) {
         const wide = label.length * 0.58 * font + 6;
-        out.push(`<rect x="${at(isRight ? place + 8 : place - 8 - wide)}" y="${at(middle - 0.62 * font)}" width="${at(wide)}" height="${at(1.24 * font)}" rx="2" fill="var(--card)" opacity=".86"/>`);
-        out.push(`<text x="${at(isRight ? place + 10 : place - 10)}" y="${middle + 4.5}" text-anchor="${isRight ? 'start' : 'end'}" fill="${colour}" font-weight="600" stroke="var(--card)" stroke-width="3" paint-order="stroke">${escaped(label)}</text>`);
+        const [boxAt, textAt, anchor] = isRight ? [place + 8, place + 10, 'start']
+          : [place - 8 - wide, place - 10, 'end'];
+        const top = at(middle - 0.62 * font), high = at(1.24 * font);
+        out.push(`<rect x="${at(boxAt)}" y="${top}" width="${at(wide)}" height="${high}"`
+          + ' rx="2" fill="var(--card)" opacity=".86"/>');
+        out.push(`<text x="${at(textAt)}" y="${middle + 4.5}" text-anchor="${anchor}" fill="${colour}"`
+          + ` font-weight="600" stroke="var(--card)" stroke-width="3" paint-order="stroke">${escaped(label)}</text>`);
       }
       out.push('</g>');
     });

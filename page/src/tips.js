@@ -11,7 +11,8 @@ export function listenTips() {
     if (!text) return;
     tip.textContent = text;
     tip.style.left = `${Math.max(4, Math.min(event.clientX + 12, innerWidth - tip.offsetWidth - 8))}px`;
-    tip.style.top = `${event.clientY + 16 + tip.offsetHeight > innerHeight ? event.clientY - tip.offsetHeight - 10 : event.clientY + 16}px`;
+    const below = event.clientY + 16, above = event.clientY - tip.offsetHeight - 10;
+    tip.style.top = `${below + tip.offsetHeight > innerHeight ? above : below}px`;
   });
   document.addEventListener('keydown', (event) => {
     if (event.key === 'Escape') tip.style.opacity = 0;

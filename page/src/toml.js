@@ -169,7 +169,8 @@ export function readToml(text) {
 }
 
 /** The same, with where it stands in the text: {root, tables, heads}. Of each table that has pairs or stands in a line,
-    `tables` has its pairs by their names, each with the places of the pair, its key's end and its value, and the insides
+    `tables` has its pairs by their names, each with the places of the pair, its key's end and its
+    value, and the insides
     of its braces; `heads` has the heads of lists of tables, in the order of the text. */
 export function readTomlPlaces(text) {
   const reader = new Reader(text), root = reader.document();

@@ -5,7 +5,8 @@ export class Stopped extends Error {}
 
 /** Calls of the programs in a worker. A worker that is stopped is thrown away, and the next call makes a new one. */
 export class Tool {
-  /** `makeWorker` makes a worker that already has, or is being sent, its module. `programs` are those that it offers. */
+  /** `makeWorker` makes a worker that already has, or is being sent, its module. `programs` are
+      those that it offers. */
   constructor(makeWorker, programs) {
     this.makeWorker = makeWorker;
     this.programs = programs;

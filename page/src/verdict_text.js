@@ -3,6 +3,7 @@
 import { escaped } from './colours.js';
 import { labelText, placeButton, placeText } from './marks.js';
 import { counted } from './numbers.js';
+import { TERMS, term } from './terms.js';
 
 const LOW = 'the write label of this command lies too low';
 const RULES = {
@@ -17,15 +18,21 @@ const RULES = {
 
 /** The verdict in a line. */
 export function verdictText(verdict, labels) {
-  const list = (text) => verdict.refusals.map((refusal) => `<span>${text(refusal)}</span>`).join('');
+  const list = (text) => verdict.refusals.map((refusal, k) => `<span>${text(refusal, k)}</span>`).join('');
+  // no two buttons have one name: the first refusal by a rule has the term, and the others its name
+  const isFirst = (rule, k) => verdict.refusals.findIndex((refusal) => refusal.rule === rule) === k;
+  const ruleText = ({ rule }, k) => (isFirst(rule, k) && TERMS[rule] ? term(rule) : rule);
   const flow = (refusal) => `${labelText(refusal.from, labels)} does not flow to ${labelText(refusal.to, labels)}`;
   switch (verdict.kind) {
     case 'accepted':
-      return `Accepted <span>${counted(verdict.commands, 'command')}, ${counted(verdict.mitigates, 'mitigate')}</span>`;
+      return `${term('accepted', 'Accepted')} <span>${counted(verdict.commands, 'command')},`
+        + ` ${counted(verdict.mitigates, 'mitigate')}</span>`;
     case 'refused':
-      return `Refused ${list((refusal) => `by ${refusal.rule} at ${placeButton(refusal.place)}: ${flow(refusal)}`)}`;
+      return `${term('refused', 'Refused')} ${list((refusal, k) => {
+        return `by ${ruleText(refusal, k)} at ${placeButton(refusal.place)}: ${flow(refusal)}`;
+      })}`;
     case 'syntax':
-      return `Not a program ${list((fault) => `${escaped(fault.what)}${fault.place ? ` at ${placeButton(fault.place)}` : ''}`)}`;
+      return `Not a program ${list(({ what, place }) => escaped(what) + (place ? ` at ${placeButton(place)}` : ''))}`;
     default:
       return `No verdict <span>${escaped(verdict.text)}</span>`;
   }
@@ -42,14 +49,17 @@ export function whyText(verdict, steps) {
   }
   const list = steps.map((step, k) => {
     const place = placeText(step.place), words = `<span class="at">${place}</span>${escaped(step.text)}`;
-    return `<li data-n="${k + 1}"><button type="button" data-place="${place}" aria-label="Step ${k + 1}, ${place}: ${escaped(step.text)}">`
+    return `<li data-n="${k + 1}"><button type="button"`
+      + ` data-place="${place}" aria-label="Step ${k + 1}, ${place}: ${escaped(step.text)}">`
       + `${words}</button></li>`;
   });
-  return `<h3>Why <small>the way that the secret took, whichever left-out labels are chosen</small></h3><ol class="why">${list.join('')}</ol>`;
+  return `<h3>Why <small>the way that the secret took, whichever left-out labels are chosen</small></h3>`
+    + `<ol class="why">${list.join('')}</ol>`;
 }
 
 /** The mitigate that is offered: `found` has the first and the last line that go into it. */
 export function mendText(found) {
   const lines = found.first === found.last ? `line ${found.first}` : `lines ${found.first} to ${found.last}`;
-  return `<button type="button" id="mend-go">Put ${lines} into a mitigate</button> With that the tool accepts the program.`;
+  return `<button type="button" id="mend-go">Put ${lines} into a mitigate</button> With that the tool accepts the`
+    + ` program.`;
 }

@@ -1,11 +1,13 @@
-// What a person wrote is kept in this browser: what is on the page, and the own work that something else came in place of.
+// What a person wrote is kept in this browser: what is on the page, and the own work that something
+// else came in place of.
 
 import { $, state } from './state.js';
 
 const WORK = 'mitigate.work', ASIDE = 'mitigate.aside', MOST_ASIDE = 10;
 const KEYS = ['program', 'starts', 'observer', 'environment', 'budget'];
 
-const loaded = { isOwn: false, isLesson: false, program: '', starts: '' }; // what was loaded, and whose it is
+// what was loaded, whose it is, and of which task, as {task, given}, it is
+const loaded = { isOwn: false, isLesson: false, program: '', starts: '', ofTask: null };
 
 const isWork = (work) => Boolean(work) && KEYS.every((key) => typeof work[key] === 'string');
 
@@ -30,7 +32,8 @@ const isChanged = () => state.program !== loaded.program || state.starts !== loa
 /** Keeps what is on the page. */
 export function keepWork() {
   const isOwn = loaded.isOwn || isChanged();
-  write(WORK, { ...state, isOwn, example: $('example').value, says: $('example-says').textContent });
+  const { ofTask } = loaded;
+  write(WORK, { ...state, isOwn, example: $('example').value, says: $('example-says').textContent, ofTask });
 }
 
 /** What was kept when the page was left, or null. */
@@ -52,6 +55,14 @@ export function noteLoaded(next, { isOwn, isLesson }) {
   Object.assign(loaded, { isOwn, isLesson, program: next.program, starts: next.starts });
 }
 
+/** That what is on the page is worked on for a task that began with `given`; null where for none. */
+export function noteTask(task, given = null) {
+  loaded.ofTask = task && { task, given };
+}
+
+/** The task that is worked on, or null. */
+export const taskNow = () => loaded.ofTask?.task ?? null;
+
 // The own work on the page as it is, or null where it is none; a step of the lesson keeps its own.
 const ownWork = () => (!loaded.isLesson && (loaded.isOwn || isChanged()) ? { ...state } : null);
 
@@ -62,7 +73,8 @@ export function putAside() {
   return own !== null;
 }
 
-/** The last work that was put aside, which is taken from there; own work on the page comes first in its place. Null where
+/** The last work that was put aside, which is taken from there; own work on the page comes first in
+    its place. Null where
     there is none. */
 export function takeAside() {
   const works = allAside(), last = works.pop() ?? null, own = ownWork();

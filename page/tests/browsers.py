@@ -173,7 +173,8 @@ class Firefox(Browser):
             "marionette.port": port, "browser.download.folderList": 2, "browser.download.dir": str(self.folder),
             "browser.shell.checkDefaultBrowser": False, "datareporting.policy.dataSubmissionEnabled": False,
             "browser.download.useDownloadDir": True, "ui.systemUsesDarkTheme": int(dark), "app.update.enabled": False,
-            "layout.css.prefers-color-scheme.content-override": 0 if dark else 1, "network.captive-portal-service.enabled": False,
+            "layout.css.prefers-color-scheme.content-override": 0 if dark
+            else 1, "network.captive-portal-service.enabled": False,
             "browser.download.always_ask_before_handling_new_types": False, "browser.aboutwelcome.enabled": False,
             # Else leaving a page cuts off its scripts, which the console tells as a fault of the page.
             "dom.ipc.cancel_content_js_when_navigating": False,
@@ -182,7 +183,8 @@ class Firefox(Browser):
         }
         lines = [f"user_pref({json.dumps(name)}, {json.dumps(value)});" for name, value in settings.items()]
         (profile / "user.js").write_text("\n".join(lines) + "\n")
-        words = ["firefox-esr", "--headless", "--marionette", "--remote-allow-system-access", "--no-remote", "--profile", str(profile)]
+        words = ["firefox-esr", "--headless", "--marionette", "--remote-allow-system-access", "--no-remote",
+            "--profile", str(profile)]
         words += ["--width", str(size[0]), "--height", str(size[1])]
         self.process = subprocess.Popen(words, stdout=subprocess.DEVNULL, stderr=subprocess.DEVNULL)
         self.line = wait_for(lambda: self.tried(port), 60, "firefox")
@@ -245,11 +247,12 @@ class Firefox(Browser):
 
     def complaints(self):
         found = self.chrome(
-            "const all = Services.console.getMessageArray().map((m) => { try { const e = m.QueryInterface(Ci.nsIScriptError);"
+            "const all = Services.console.getMessageArray().map((m) => { try { const e ="
+            " m.QueryInterface(Ci.nsIScriptError);"
             " return e.sourceName + ': ' + e.errorMessage + ' [' + e.category + ']'; } catch (x) { return ''; } });"
             " Services.console.reset(); return all;"
         )
-        # Advice about scrolling is none of a fault: the editor's library keeps its numbers of lines in place by scrolling.
+        # Advice about scrolling is none of a fault: the editor's library keeps its numbers of lines in place by it.
         found = [one for one in found if not one.endswith("[Async Pan/Zoom]")]
         return [one for one in found if one.startswith(("file:", "blob:", "http:"))]
 

@@ -4,10 +4,15 @@ import { ticks } from '../src/axis.js';
 import { classMark, labelClass } from '../src/colours.js';
 import { spaced } from '../src/numbers.js';
 import { cheapest, halveGap, powerFrom, predictions, quietFrom, sweepPicture, sweepText } from '../src/sweep.js';
-import { cycleAt, mitigationText, moved, predictionEnds, runText, timeline, wholeView, zoomed } from '../src/timeline.js';
+import { cycleAt, mitigationText, moved, predictionEnds, runText, timeline, wholeView,
+  zoomed } from '../src/timeline.js';
 
-const bar = { number: 0, place: '9:1', level: 'H', estimate: '16', predicts: 16, misses: 0, begin: 30, worked: 115, lasts: 128, missesAfter: 3, end: 158, depth: 0 };
-const run = (number, mitigations) => ({ class: number, halted: true, end: 169, mitigations, events: [{ variable: 'place', value: '0', cycle: 64, isSeen: false }, { variable: 'done', value: '1', cycle: 168, isSeen: true }] });
+const bar = { number: 0, place: '9:1', level: 'H', estimate: '16', predicts: 16, misses: 0, begin: 30, worked: 115,
+  lasts: 128, missesAfter: 3, end: 158, depth: 0 };
+const run = (number, mitigations) =>
+  ({ class: number, halted: true, end: 169, mitigations,
+    events: [{ variable: 'place', value: '0', cycle: 64, isSeen: false },
+      { variable: 'done', value: '1', cycle: 168, isSeen: true }] });
 
 /** That a text of SVG is well formed: each element is ended, and attributes are in quotes. */
 function wellFormed(text) {
@@ -57,7 +62,8 @@ test('ends of predictions are doublings from the beginning', () => {
 });
 
 test('words for runs and mitigations', () => {
-  assert.equal(mitigationText(bar), 'mitigate at 9:1, level H: worked 115 cycles from 30, waited 13 to 158; 3 predictions missed, from 16 on');
+  assert.equal(mitigationText(bar),
+    'mitigate at 9:1, level H: worked 115 cycles from 30, waited 13 to 158; 3 predictions missed, from 16 on');
   assert.equal(runText(run(2, null), 5), 'Run 5, class 2: seen done = 1 at 168; ends at cycle 169');
 });
 
@@ -89,23 +95,32 @@ test('predictions are eight to a doubling, with what else is asked for', () => {
   assert.equal(powerFrom(553), 1024);
 });
 
-const POINTS = [[16, 3, 169, 553], [17, 2, 177, 313], [256, 2, 297, 553], [268, 2, 309, 577], [269, 1, 310, 310], [512, 1, 553, 553]].map(([prediction, sequences, shortest, longest]) => ({ prediction, sequences, shortest, longest }));
+const POINTS = [[16, 3, 169, 553], [17, 2, 177, 313], [256, 2, 297, 553], [268, 2, 309, 577], [269, 1, 310, 310],
+  [512, 1, 553, 553]].map(([prediction, sequences, shortest, longest]) =>
+    ({ prediction, sequences, shortest, longest }));
 
 test('from where on nothing is told, and what it costs', () => {
   assert.equal(quietFrom(POINTS).first.prediction, 269);
   assert.equal(quietFrom(POINTS.slice(0, 3)), null);
-  assert.equal(sweepText(POINTS, 269, 512), 'From 269 on, the runs cannot be told apart: that is one more than the longest body takes. It costs 310 cycles, where 512 costs 553.');
-  assert.equal(sweepText(POINTS, null, 16), 'From 269 on, the runs cannot be told apart, of the predictions that were tried. It costs 310 cycles, where 16 costs 553 and tells 3 things.');
+  assert.equal(sweepText(POINTS, 269, 512),
+    'From 269 on, the runs cannot be told apart: that is one more than the longest body takes. It costs 310 cycles,'
+      + ' where 512 costs 553.');
+  assert.equal(sweepText(POINTS, null, 16),
+    'From 269 on, the runs cannot be told apart, of the predictions that were tried. It costs 310 cycles, where 16'
+      + ' costs 553 and tells 3 things.');
   const gap = POINTS.filter((one) => one.prediction !== 268);
   assert.match(sweepText(gap, null, 512), /of the predictions that were tried/);
   assert.match(sweepText(POINTS.slice(0, 3), null, 16), /another part/);
   assert.deepEqual(cheapest(POINTS).map((one) => one.prediction), [269]);
-  assert.deepEqual(cheapest([...POINTS, { prediction: 2, sequences: 2, shortest: 100, longest: 120 }]).map((one) => one.prediction), [269, 2]);
+  assert.deepEqual(cheapest([...POINTS, { prediction: 2, sequences: 2, shortest: 100, longest: 120 }])
+    .map((one) => one.prediction), [269, 2]);
 });
 
 test('a prediction with which not all runs halt is none that leaves one sequence', async () => {
-  assert.match(sweepText(POINTS.slice(0, 3), null, 16, 2), /^Each prediction that was tried, and with which all runs halt, leaves 2 sequences or more\.$/);
-  assert.match(sweepText(POINTS.slice(4), null, 512, 2), /^With each prediction that was tried, and with which all runs halt, the runs cannot be told apart\./);
+  assert.match(sweepText(POINTS.slice(0, 3), null, 16, 2),
+    /^Each prediction that was tried, and with which all runs halt, leaves 2 sequences or more\.$/);
+  assert.match(sweepText(POINTS.slice(4), null, 512, 2),
+    /^With each prediction that was tried, and with which all runs halt, the runs cannot be told apart\./);
   const tried = new Map(POINTS.slice(0, 3).concat(POINTS.slice(5)).map((one) => [one.prediction, one])), asked = [];
   await halveGap(tried, async (prediction) => {
     asked.push(prediction);

@@ -37,7 +37,8 @@ SELECTED = EDITOR + "return editor ? editor.getSelection() : area.value.slice(ar
 
 # Of what a selector finds: how many can be seen, and how many of those stand in something that is dimmed.
 DIMMED = """
-const all = [...document.querySelectorAll(arguments[0])].filter((one) => one.getClientRects().length && one.textContent.trim());
+const all = [...document.querySelectorAll(arguments[0])]
+  .filter((one) => one.getClientRects().length && one.textContent.trim());
 const isDimmed = (one) => {
   for (let at = one; at; at = at.parentElement) if (Number(getComputedStyle(at).opacity) < 0.9) return true;
   return false;
@@ -124,7 +125,10 @@ class Page:
         self.idle()
 
     def examples(self):
-        script = "return [...document.getElementById('example').options].filter((o) => /^\\d+$/.test(o.value)).map((o) => o.textContent)"
+        script = (
+            "return [...document.getElementById('example').options].filter((o) =>"
+            " /^\\d+$/.test(o.value)).map((o) => o.textContent)"
+        )
         return self.run(script)
 
     def choose(self, number):

@@ -1,6 +1,7 @@
 import assert from 'node:assert/strict';
 import test from 'node:test';
-import { allCommands, lineFinder, mitigates, offsetOf, owners, pieces, placeOf, readProgram, withEstimate, words, wrapped } from '../src/language.js';
+import { allCommands, lineFinder, mitigates, offsetOf, owners, pieces, placeOf, readProgram, withEstimate, words,
+  wrapped } from '../src/language.js';
 
 const COUNTDOWN = 'var l : L;\nvar h : H;\nmitigate (64, H) {\n  while h > 0 do { h := h - 1 }\n};\nl := 1\n';
 
@@ -12,7 +13,8 @@ test('pieces are the whole text', () => {
 
 test('names are labels where labels stand', () => {
   const text = 'labels A, B; order A < B; var x : B; var y[3] : A; mitigate (x, B) @[A, B] { y[x] := x @[B] }';
-  const roles = words(text).filter((one) => one.kind === 'name').map((one) => `${one.text}${one.role === 'label' ? '!' : ''}`);
+  const roles = words(text).filter((one) => one.kind === 'name')
+    .map((one) => `${one.text}${one.role === 'label' ? '!' : ''}`);
   assert.equal(roles.join(' '), 'A! B! A! B! x B! y A! x B! A! B! y x x B!');
 });
 
@@ -34,17 +36,21 @@ test('lines of offsets', () => {
 
 test('commands have the numbers of the text, an added skip included', () => {
   const program = readProgram('if 1 then { skip } ; while 0 do { sleep 2 ; x := y[1] }');
-  assert.deepEqual(allCommands(program.body).map((one) => `${one.number} ${one.form}`), ['0 if', '1 skip', '2 skip', '3 while', '4 sleep', '5 assign']);
+  assert.deepEqual(allCommands(program.body).map((one) => `${one.number} ${one.form}`),
+    ['0 if', '1 skip', '2 skip', '3 while', '4 sleep', '5 assign']);
 });
 
 test('what is no program is not read', () => {
-  for (const text of ['', 'var x', 'x := ', 'skip skip', 'if x then skip', 'x := (1', 'x ¬ 1', '('.repeat(100000)]) assert.equal(readProgram(text), null);
+  for (const text of ['', 'var x', 'x := ', 'skip skip', 'if x then skip', 'x := (1', 'x ¬ 1', '('.repeat(100000)]) {
+    assert.equal(readProgram(text), null);
+  }
 });
 
 test('each instruction has its command', () => {
   const program = readProgram(COUNTDOWN);
   const [mitigate, loop, inner, last] = allCommands(program.body);
-  const wanted = [mitigate, mitigate, loop, loop, loop, loop, inner, inner, inner, inner, loop, loop, loop, loop, mitigate, last, last, null];
+  const wanted = [mitigate, mitigate, loop, loop, loop, loop, inner, inner, inner, inner, loop, loop, loop, loop,
+    mitigate, last, last, null];
   assert.deepEqual(owners(program), wanted);
 });
 

@@ -9,13 +9,15 @@ import { timeline } from '../src/timeline.js';
 const has = (text, part, what = part) => assert.ok(text.includes(part), `${what}\n${text}`);
 const hasNot = (text, part) => assert.ok(!text.includes(part), `not ${part}\n${text}`);
 
-// A picture of 900 has its axis from 92 to 880: 788 for 200 cycles, so cycle c stands at 92 + 3.94 c. The first lane goes
-// from 26 to 56, and its middle is 41; the second one's is 71. A body of depth 0 is 16 high, one of depth 1 12.
+// A picture of 900 has its axis from 92 to 880: 788 for 200 cycles, so cycle c stands at 92 + 3.94 c. The first lane
+// goes from 26 to 56, and its middle is 41; the second one's is 71. A body of depth 0 is 16 high, one of depth 1 12.
 const outer = {
-  number: 0, place: '9:1', level: 'H', estimate: '16', predicts: 16, misses: 0, begin: 30, worked: 115, lasts: 128, missesAfter: 3,
+  number: 0, place: '9:1', level: 'H', estimate: '16', predicts: 16, misses: 0, begin: 30, worked: 115, lasts: 128,
+  missesAfter: 3,
   end: 158, depth: 0,
 };
-const inner = { ...outer, number: 1, place: '10:3', begin: 50, worked: 10, predicts: 20, misses: 1, missesAfter: 1, end: 70, depth: 1 };
+const inner = { ...outer, number: 1, place: '10:3', begin: 50, worked: 10, predicts: 20, misses: 1, missesAfter: 1,
+  end: 70, depth: 1 };
 const event = (variable, value, cycle, isSeen) => ({ variable, value, cycle, isSeen });
 const run = (number, mitigations) => ({
   class: number, halted: true, end: 169, mitigations,
@@ -85,7 +87,9 @@ test('lanes have the numbers of their runs, and the axis has round cycles at the
   has(later, '>run 101</text>');
   has(later, 'data-run="101"');
   // below two lanes: 26 + 60 + 17; 92 + 3.94 * 100 = 486
-  for (const [cycle, x] of [[0, '92'], [100, '486'], [200, '880']]) has(drawn, `<text x="${x}" y="103">${cycle}</text>`);
+  for (const [cycle, x] of [[0, '92'], [100, '486'], [200, '880']]) {
+    has(drawn, `<text x="${x}" y="103">${cycle}</text>`);
+  }
 });
 
 test('a view of some cycles alone shows those', () => {
@@ -107,7 +111,8 @@ test('many runs have lower lanes', () => {
 test('what a mitigate did in all runs, in words', () => {
   const one = { place: '9:1', ended: 9, shortest: 115, longest: 268, missed: 7, least: 269 };
   const words = (made) => mitigateText(made).replace(/<[^>]*>/g, '');
-  assert.equal(words(one), 'The mitigate at 9:1 worked 115 to 268 cycles; 7 of 9 missed. From a first prediction of 269 on none of these runs would miss.');
+  assert.equal(words(one), 'The mitigate at 9:1 worked 115 to 268 cycles; 7 of 9 missed. From a first prediction of'
+    + ' 269 on none of these runs would miss.');
   assert.equal(
     words({ ...one, shortest: 1, longest: 1, missed: 0, least: 2 }),
     'The mitigate at 9:1 worked 1 cycle; none missed. From a first prediction of 2 on none of these runs would miss.',
@@ -126,15 +131,17 @@ test('pages of 100 lanes', () => {
 
 test('the legend names what is drawn', () => {
   const legend = timeLegend([run(1, [outer])], { hasLab: true, hasMitigates: true });
-  assert.match(legend, /fill="var\(--work\)".*a mitigate’s body works.*fill="url\(#wait\)".*waits until its prediction is over/);
+  assert.match(legend, /fill="var\(--work\)".*a mitigate’s body works.*fill="url\(#wait\)"/);
+  assert.match(legend, /fill="url\(#wait\)".*waits until its prediction is over/);
   hasNot(timeLegend([run(1, null)], { hasLab: true, hasMitigates: false }), 'body works');
   has(timeLegend([run(1, null)], { hasLab: false, hasMitigates: true }), 'are not in this module');
 });
 
-// The sweep of the password check: a picture of 900 by 320 has its axes from 58 to 876 and from 30 to 274. Nine doublings
-// are 818 wide, so n stands at 58 + 818 / 9 * log2(n). The highest is 577, and 5% of it is left above: 605.85 cycles are 244
-// high, so c stands at 274 - 244 * c / 605.85.
-const POINTS = [[16, 3, 169, 553], [17, 2, 177, 313], [256, 2, 297, 553], [268, 2, 309, 577], [269, 1, 310, 310], [512, 1, 553, 553]]
+// The sweep of the password check: a picture of 900 by 320 has its axes from 58 to 876 and from 30 to 274. Nine
+// doublings are 818 wide, so n stands at 58 + 818 / 9 * log2(n). The highest is 577, and 5% of it is left above: 605.85
+// cycles are 244 high, so c stands at 274 - 244 * c / 605.85.
+const POINTS = [[16, 3, 169, 553], [17, 2, 177, 313], [256, 2, 297, 553], [268, 2, 309, 577], [269, 1, 310, 310],
+  [512, 1, 553, 553]]
   .map(([prediction, sequences, shortest, longest]) => ({ prediction, sequences, shortest, longest }));
 const swept = sweepPicture(POINTS, { width: 900, current: 16 });
 
@@ -162,7 +169,8 @@ test('the prediction of the program is named at its place', () => {
 });
 
 test('the table has each point, and says which is the fastest of those that tell as little', () => {
-  const rows = pointsTable(POINTS).split('<tr>').slice(2).map((row) => row.replace(/<[^>]*>/g, '|').replace(/\|+/g, ' ').trim());
+  const rows = pointsTable(POINTS).split('<tr>').slice(2)
+    .map((row) => row.replace(/<[^>]*>/g, '|').replace(/\|+/g, ' ').trim());
   assert.deepEqual(rows, [
     '16 3 169 553 Take', '17 2 177 313 Take', '256 2 297 553 Take', '268 2 309 577 Take',
     '269 1 310 310 no faster one tells as little Take', '512 1 553 553 Take',

@@ -6,7 +6,6 @@ import {
   commandAt, faultRange, labelsOf, leftOutLabels, linesInside, stepsByLine, writtenLabels,
 } from '../src/decorations.js';
 import { readProgram } from '../src/language.js';
-import { LESSON } from '../src/lesson.js';
 import { difference, indentAfter } from '../src/editor.js';
 import { linkOf, stateOf } from '../src/link.js';
 import { modeOf } from '../src/mode.js';
@@ -28,12 +27,8 @@ test('examples have all their files, and can be read', () => {
   }
 });
 
-test('the lesson has six steps that can be read', () => {
-  assert.equal(LESSON.length, 6);
-  for (const one of LESSON) assert.ok(readProgram(one.program) && !readStarts(one.starts).fault, one.title);
-});
-
-const CANONICAL = 'labels L, H;\norder L < H;\nvar l : L;\nvar h : H;\nvar m : H;\nmitigate (64, H) @[L, L] {\n  while h > 0 @[L, L] do {\n    h := h - 1 @[H, H]\n  }\n};\nl := 1 @[L, L]\n';
+const CANONICAL = 'labels L, H;\norder L < H;\nvar l : L;\nvar h : H;\nvar m : H;\nmitigate (64, H) @[L, L] {\n '
+  + ' while h > 0 @[L, L] do {\n    h := h - 1 @[H, H]\n  }\n};\nl := 1 @[L, L]\n';
 const SOURCE = 'var l : L;\nvar h : H;\nvar m;\nmitigate (64) {\n  while h > 0 do { h := h - 1 }\n};\nl := 1 @[L]';
 
 test('left-out labels come from the completed text, at the ends of their lines', () => {
@@ -97,11 +92,13 @@ test('words have the colours of their labels, from line to line', () => {
   });
   assert.deepEqual(found, [
     ['labels k', 'A label l0 u0'],
-    ['B label l1 u1', 'var k', 'x label l1 u1', 'B label l1 u1', 'var k', 'y label l0 u0', 'A label l0 u0', '// c note'],
+    ['B label l1 u1', 'var k', 'x label l1 u1', 'B label l1 u1', 'var k', 'y label l0 u0', 'A label l0 u0',
+      '// c note'],
     ['mitigate k', '1 figure'],
     ['B label l1 u1', 'A label l0 u0', 'y label l0 u0', 'x label l1 u1', '7 figure'],
   ]);
-  assert.deepEqual(coloured('A := $', { names: ['A'], of: new Map() }), [['$ bad']], 'a variable without a label has no colour');
+  assert.deepEqual(coloured('A := $', { names: ['A'], of: new Map() }), [['$ bad']],
+    'a variable without a label has no colour');
 });
 
 test('the change of a text is the part that differs', () => {
@@ -120,13 +117,16 @@ test('written labels are found in a text that is no program', () => {
 });
 
 test('a link brings back what it was made of', async () => {
-  const state = { program: files['password.mit'], starts: files['password.toml'], observer: 'L', environment: 'part', budget: '1000000' };
+  const state = { program: files['password.mit'], starts: files['password.toml'], observer: 'L', environment: 'part',
+    budget: '1000000' };
   const link = await linkOf(state);
   assert.match(link, /^#z[A-Za-z0-9_-]+$/);
   assert.deepEqual(await stateOf(link), state);
   const text = Buffer.from(JSON.stringify({ p: 'skip', s: '', o: 'L', e: 'flat', b: '1' })).toString('base64url');
   assert.equal((await stateOf(`#j${text}`)).program, 'skip');
-  for (const hash of ['', '#', '#z', '#zAAAA', '#jAAAA', '#q1', `#j${Buffer.from('{"p":1}').toString('base64url')}`]) assert.equal(await stateOf(hash), null, hash);
+  for (const hash of ['', '#', '#z', '#zAAAA', '#jAAAA', '#q1', `#j${Buffer.from('{"p":1}').toString('base64url')}`]) {
+    assert.equal(await stateOf(hash), null, hash);
+  }
 });
 
 test('a link that unpacks to very much is refused', async () => {
@@ -138,7 +138,9 @@ test('a link that unpacks to very much is refused', async () => {
 // A worker that answers when it is told to.
 function slowWorkers() {
   const made = [];
-  return { made, make: () => made[made.push({ asked: [], ended: false, postMessage(data) { this.asked.push(data); }, terminate() { this.ended = true; } }) - 1] };
+  return { made, make: () =>
+    made[made.push({ asked: [], ended: false, postMessage(data) { this.asked.push(data); },
+      terminate() { this.ended = true; } }) - 1] };
 }
 
 test('calls are answered by their numbers', async () => {

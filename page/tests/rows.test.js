@@ -10,19 +10,24 @@ import { moduleBytes } from './built_module.js';
 const folder = (path) => new URL(path, import.meta.url);
 const TABLES = folder('../../crates/worked_rows/data/'), READER = folder('../../crates/worked_rows/src/row.rt');
 const USAGE = 4, ROOM = 1 << 23;
+const EMPTY_ROW = { status: 0, room: ROOM, hasFault: false, isEnd: false, program: 'mitigate' };
 
 // The bytes that a line of a table spells: \n, \t, \r, \xNN, and any other byte after a backslash is itself.
 function bytesOf(line) {
   const plain = Buffer.from(line, 'utf8').toString('latin1');
   const named = { n: '\n', t: '\t', r: '\r' };
-  const text = plain.replace(/\\(x([0-9a-f]{2})|[\s\S])/g, (_, word, hex) => (hex ? String.fromCharCode(parseInt(hex, 16)) : named[word] ?? word));
+  const text = plain.replace(
+    /\\(x([0-9a-f]{2})|[\s\S])/g,
+      (_, word, hex) => (hex ? String.fromCharCode(parseInt(hex, 16)) : named[word] ?? word));
   return Buffer.from(text, 'latin1');
 }
 
 function repeated(rest) {
   const [, first, end, unit] = /^(\d+) (\d+) ([\s\S]*)$/.exec(rest);
   const one = bytesOf(unit).toString('latin1'), parts = [];
-  for (let k = Number(first); k < Number(end); k++) parts.push(one.replace(/[#$]/g, (sign) => (sign === '#' ? k : k + 1)));
+  for (let k = Number(first); k < Number(end); k++) {
+    parts.push(one.replace(/[#$]/g, (sign) => (sign === '#' ? k : k + 1)));
+  }
   return Buffer.from(parts.join(''), 'latin1');
 }
 
@@ -30,7 +35,7 @@ function rowsOf(table, usages) {
   const rows = [];
   for (const line of table.split('\n')) {
     const [mark] = line.split(' ', 1), rest = line.slice(mark.length + 1), row = rows.at(-1);
-    if (mark === '=') rows.push({ shows: rest, words: [], files: {}, wanted: [], status: 0, room: ROOM, hasFault: false, isEnd: false, program: 'mitigate' });
+    if (mark === '=') rows.push({ ...EMPTY_ROW, shows: rest, words: [], files: {}, wanted: [] });
     else if (mark === '$') row.words.push(...rest.split(/\s+/).filter(Boolean));
     else if (mark === '-') row.files[row.name = rest] = [];
     else if (mark === '+') row.files[row.name].push(bytesOf(rest));
@@ -64,9 +69,12 @@ test('rows of worked_rows on the module', { skip: bytes ? false : 'there is no p
       }
       count++;
       const files = Object.fromEntries(Object.entries(row.files).map(([file, parts]) => [file, Buffer.concat(parts)]));
-      const answer = callWithRoom(module, row.program, row.words, files, row.room), got = Buffer.from(answer.bytes), wanted = Buffer.concat(row.wanted);
+      const answer = callWithRoom(module, row.program, row.words, files, row.room), got = Buffer.from(answer.bytes),
+        wanted = Buffer.concat(row.wanted);
       const fits = row.isEnd ? got.subarray(got.length - wanted.length).equals(wanted) : got.equals(wanted);
-      if (!fits || answer.status !== row.status) wrong.push(`${name}: ${row.shows}: ${answer.status} ${got.toString().slice(0, 120)}`);
+      if (!fits || answer.status !== row.status) {
+        wrong.push(`${name}: ${row.shows}: ${answer.status} ${got.toString().slice(0, 120)}`);
+      }
     }
   }
   assert.deepEqual(wrong, []);

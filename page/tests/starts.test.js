@@ -18,7 +18,8 @@ test('every start file of the examples goes to the table and back', () => {
 });
 
 test('forms of TOML', () => {
-  const text = '# a\nversion = 2\n[[run]]\nmemory.h = 0x1F # c\nmemory."a b" = [ 1,\n # in between\n -2, ]\n[[run]]\n[run.memory]\nh = 1_000\n[[run.touch]]\nplace = \'data\'\nlabel = "H\\u0041"\naddress = 0b11\n';
+  const text = '# a\nversion = 2\n[[run]]\nmemory.h = 0x1F # c\nmemory."a b" = [ 1,\n # in between\n -2,'
+    + ' ]\n[[run]]\n[run.memory]\nh = 1_000\n[[run.touch]]\nplace = \'data\'\nlabel = "H\\u0041"\naddress = 0b11\n';
   const read = readStarts(text);
   assert.equal(read.runs[0].memory.get('h'), 31n);
   assert.deepEqual(read.runs[0].memory.get('a b'), [1n, -2n]);
@@ -28,7 +29,10 @@ test('forms of TOML', () => {
 });
 
 test('what is not read has a fault with its line', () => {
-  const faults = { 'a = 1\n': /\[\[run\]\]/, '[[run]]\nmemory = { h = 1.5 }\n': /line 2/, '[[run]]\nmemory = { h = "x" }\n': /run 1: h is no number/, '[[run]]\nmemory = { h = 1 } x\n': /line 2/, '[[run]\n': /line 1/, '[[run]]\nmemory = { h = 1, h = 2 }\n': /twice/, 'run = 1': /\[\[run\]\]/, '[[run]]\nmemory = {': /line 2/, '[[run]]\nmemory = { h = 01 }': /line 2/ };
+  const faults = { 'a = 1\n': /\[\[run\]\]/, '[[run]]\nmemory = { h = 1.5 }\n': /line 2/,
+    '[[run]]\nmemory = { h = "x" }\n': /run 1: h is no number/, '[[run]]\nmemory = { h = 1 } x\n': /line 2/,
+      '[[run]\n': /line 1/, '[[run]]\nmemory = { h = 1, h = 2 }\n': /twice/, 'run = 1': /\[\[run\]\]/,
+        '[[run]]\nmemory = {': /line 2/, '[[run]]\nmemory = { h = 01 }': /line 2/ };
   for (const [text, wanted] of Object.entries(faults)) assert.match(readStarts(text).fault, wanted, text);
 });
 
@@ -116,7 +120,8 @@ test('an edit leaves the rest of the text as it was, comments included', () => {
   change(withoutRun(COMMENTED, 1), '# second\n[[run]]\n\n', '');
   change(withoutRun(COMMENTED, 0), '[[run]] # a\nmemory = { h = 1, a = [1, 2] } # b\n\n', '');
   change(withCopy(COMMENTED, 2), 'memory.h = 3 # c\n', 'memory.h = 3 # c\n\n[[run]]\nmemory.h = 3 # c\n\n');
-  assert.equal(withColumnNamed(COMMENTED, 'h', 'k'), COMMENTED.replace('h = 1', 'k = 1').replace('memory.h', 'memory.k').replace('h = 0x1F', 'k = 0x1F'));
+  assert.equal(withColumnNamed(COMMENTED, 'h', 'k'),
+    COMMENTED.replace('h = 1', 'k = 1').replace('memory.h', 'memory.k').replace('h = 0x1F', 'k = 0x1F'));
   assert.deepEqual(columnsOf(readStarts(withoutColumn(COMMENTED, 'h'))), ['a']);
 });
 

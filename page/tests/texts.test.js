@@ -1,4 +1,5 @@
-// What the parts of the page say: numbers, the sentence that was found, the words behind it, the table, whose answer is shown.
+// What the parts of the page say: numbers, the sentence that was found, the words behind it, the table,
+// whose answer is shown.
 
 import assert from 'node:assert/strict';
 import test from 'node:test';
@@ -14,7 +15,8 @@ import { readStarts } from '../src/starts.js';
 import { addersText, seenText, tableText } from '../src/starts_table.js';
 import { mendText, verdictText, whyText } from '../src/verdict_text.js';
 
-const plain = (html) => html.replace(/<sup>/g, '^').replace(/<[^>]*>/g, '').replaceAll('\u202f', ' ').replace(/\s+/g, ' ').trim();
+const plain = (html) => html.replace(/<sup>/g, '^').replace(/<[^>]*>/g, '').replaceAll('\u202f', ' ')
+  .replace(/\s+/g, ' ').trim();
 const labels = { names: ['L', 'H'], of: new Map([['h', 'H'], ['l', 'L'], ['a', 'H']]) };
 
 test('bounds stand whole, or rounded up to three digits, and never down', () => {
@@ -30,7 +32,8 @@ test('bounds stand whole, or rounded up to three digits, and never down', () => 
   for (let k = 0n; k < 128n; k++) {
     for (const bound of [2n ** k, 2n ** k + 1n, 10n ** (k % 38n) * 999n + 1n]) {
       const [, whole, part, power] = /^(\d)\.(\d\d) × 10\^(\d+)$/.exec(plain(boundText(bound))) ?? [];
-      const told = whole ? BigInt(whole + part) * 10n ** (BigInt(power) - 2n) : BigInt(plain(boundText(bound)).replaceAll(' ', ''));
+      const told = whole ? BigInt(whole + part) * 10n ** (BigInt(power) - 2n)
+        : BigInt(plain(boundText(bound)).replaceAll(' ', ''));
       assert.ok(told >= bound, `${bound} is told as ${told}`);
     }
   }
@@ -46,22 +49,27 @@ test('counts and words', () => {
 });
 
 const report = {
-  runs: 9, observer: 'L', budget: 1000000, levels: 1, mitigations: 1, distinct: 3, base: 2, exponent: 20, classes: [], levelsOf: [],
+  runs: 9, observer: 'L', budget: 1000000, levels: 1, mitigations: 1, distinct: 3, base: 2, exponent: 20, classes: [],
+  levelsOf: [],
 };
 const sharp = { sharp: 16n, bits: 4, guess: 16n };
 const accepted = { kind: 'accepted', commands: 8, mitigates: 1, refusals: [] };
 const found = (audit, verdict = accepted) => plain(findingText({ verdict, audit, labels, observer: 'L' }));
 
 test('what was found, in a sentence', () => {
-  assert.equal(found({ report, sharp }), 'Of nine runs an observer at L sees three different timings; at most 16 are possible.');
+  assert.equal(found({ report, sharp }),
+    'Of nine runs an observer at L sees three different timings; at most 16 are possible.');
   assert.equal(
     found({ report: { ...report, distinct: 1 }, sharp }),
     'An observer at L cannot tell these nine runs apart; with other secrets at most 16 are possible.',
   );
-  assert.equal(found({ report, sharp: null }), 'Of nine runs an observer at L sees three different timings; at most 2^20 are possible.');
+  assert.equal(found({ report, sharp: null }),
+    'Of nine runs an observer at L sees three different timings; at most 2^20 are possible.');
   const none = { ...report, distinct: 1, base: 1 };
-  assert.equal(found({ report: none, sharp: null }), 'An observer at L cannot tell these nine runs apart; no other is possible.');
-  assert.equal(found({ report: { ...none, runs: 1 }, sharp: null }), 'Of one run an observer at L sees one timing; no other is possible.');
+  assert.equal(found({ report: none, sharp: null }),
+    'An observer at L cannot tell these nine runs apart; no other is possible.');
+  assert.equal(found({ report: { ...none, runs: 1 }, sharp: null }),
+    'Of one run an observer at L sees one timing; no other is possible.');
   const cut = { ...report, halted: 1, ended: 2, distinct: 2 };
   assert.equal(
     found({ report: cut, isCut: true, sharp: null }),
@@ -81,19 +89,25 @@ test('a limit in a sentence is rounded up too', () => {
 
 test('why nothing was found', () => {
   const refused = { kind: 'refused', rule: 'T-ASGN', place: { line: 18, column: 1 }, from: 'H', to: 'L', refusals: [] };
-  assert.equal(found(null, refused), 'Refused, since at 18:1 what is H would reach L. No limit holds for how much it tells.');
-  assert.equal(found(null, { kind: 'syntax', what: 'unexpected', place: { line: 2, column: 3 } }), 'This is not a program: unexpected at 2:3.');
-  assert.match(found({ refusal: { kind: 'disagree', text: 'disagree: run 2: variable l' } }), /run 2 differs from run 1 in the variable l\.$/);
-  assert.match(found({ refusal: { kind: 'disagree', text: 'disagree: run 3: partition L of data' } }), /run 3 differs .* cache partition L of data\.$/);
+  assert.equal(found(null, refused),
+    'Refused, since at 18:1 what is H would reach L. No limit holds for how much it tells.');
+  assert.equal(found(null, { kind: 'syntax', what: 'unexpected', place: { line: 2, column: 3 } }),
+    'This is not a program: unexpected at 2:3.');
+  assert.match(found({ refusal: { kind: 'disagree', text: 'disagree: run 2: variable l' } }),
+    /run 2 differs from run 1 in the variable l\.$/);
+  assert.match(found({ refusal: { kind: 'disagree', text: 'disagree: run 3: partition L of data' } }),
+    /run 3 differs .* cache partition L of data\.$/);
   assert.equal(found({ refusal: { kind: 'starts', text: 'starts: not TOML' } }), 'No runs: starts: not TOML.');
   assert.equal(found(null), '');
-  assert.deepEqual([isLeaking({ report }), isLeaking({ report: { ...report, distinct: 1 } }), isLeaking(null)], [true, false, false]);
+  assert.deepEqual([isLeaking({ report }), isLeaking({ report: { ...report, distinct: 1 } }), isLeaking(null)],
+    [true, false, false]);
 });
 
 test('the numbers, and what they are', () => {
   assert.equal(
     plain(auditBoxes({ report, sharp }).replaceAll('</div>', '; ')),
-    '3different sequences seen in these 9 runs; 16at most, by the sharp count: 4 bits; 2^20at most, by the bound: 20 bits;',
+    '3different sequences seen in these 9 runs; 16at most, by the sharp count: 4 bits; 2^20at most, by the bound: 20'
+      + ' bits;',
   );
   const three = { ...report, base: 3, distinct: 1, runs: 1 };
   assert.equal(
@@ -104,25 +118,29 @@ test('the numbers, and what they are', () => {
 
 test('the words behind the numbers, with odds as times and information as bits', () => {
   const words = plain(auditWords({ report, sharp }, labels, { observer: 'L' }));
-  assert.match(words, /^For an observer at L up to cycle 1 000 000: 1 relevant mitigation in each run, 1 label that does not flow to the observer\./);
+  assert.match(words, /^For an observer at L up to cycle 1 000 000: 1 relevant mitigation in each run, 1 label that /);
+  assert.match(words, /, 1 label that does not flow to the observer\./);
   assert.match(words, /guesses the secret right at most 16 times as often as before\.$/);
   assert.match(plain(auditWords({ report, sharp: { ...sharp, guess: 1n } }, labels, {})), /at most 1 time as often/);
   const cut = { ...report, halted: 4, ended: 2 };
-  assert.match(plain(auditWords({ report: cut, isCut: true, sharp: null }, labels, {})), /4 of 9 runs have halted; .* 2 relevant mitigations at most ended\./);
+  assert.match(plain(auditWords({ report: cut, isCut: true, sharp: null }, labels, {})),
+    /4 of 9 runs have halted; .* 2 relevant mitigations at most ended\./);
   assert.doesNotMatch(plain(auditWords({ report, sharp: null }, labels, {})), /sharp count|guesses/);
 });
 
 // Runs by what is seen of them, as [variable, value, cycle], and their classes.
 const runsOf = (...lists) => lists.map(([number, ...seen]) => ({
   class: number,
-  events: [{ variable: 'h', value: '0', cycle: 1, isSeen: false }, ...seen.map(([variable, value, cycle]) => ({ variable, value, cycle, isSeen: true }))],
+  events: [{ variable: 'h', value: '0', cycle: 1, isSeen: false },
+    ...seen.map(([variable, value, cycle]) => ({ variable, value, cycle, isSeen: true }))],
 }));
 const first = ['l', 1, 5], second = ['l', 2, 6];
 
 test('what is seen of runs reads alike exactly where it is', () => {
   assert.deepEqual(seenTexts(runsOf([1], [2, first])), ['nothing', 'l = 1 @5']);
   assert.deepEqual(
-    seenTexts(runsOf([1, first, second, ['l', 3, 9]], [2, first, second, ['l', 3, 11]], [1, first, second, ['l', 3, 9]])),
+    seenTexts(runsOf([1, first, second, ['l', 3, 9]], [2, first, second, ['l', 3, 11]],
+      [1, first, second, ['l', 3, 9]])),
     ['l = 1 @5 l = 2 @6 l = 3 @9', 'l = 1 @5 l = 2 @6 l = 3 @11', 'l = 1 @5 l = 2 @6 l = 3 @9'],
   );
   const long = (at) => [first, second, ['l', 3, 7], ['l', 4, 8], ['l', 5, at], ['l', 6, 99]];
@@ -147,7 +165,8 @@ test('an answer is of what is there exactly where nothing that it depends on has
   }
   for (const name of ['verdict', 'code']) {
     assert.ok(!isFresh(name, { ...state, program: 'x' }, state));
-    assert.ok(isFresh(name, { ...state, starts: 'x', observer: 'H', budget: '1', environment: 'flat' }, state, { budget: 'none', cell: 'none' }));
+    assert.ok(isFresh(name, { ...state, starts: 'x', observer: 'H', budget: '1', environment: 'flat' }, state,
+      { budget: 'none', cell: 'none' }));
   }
 });
 
@@ -157,7 +176,8 @@ test('what is dimmed is told, with the reason', () => {
     Object.keys(state).map(of),
     ['an earlier program', 'earlier starts', 'another observer', 'other caches', 'another number of cycles'],
   );
-  const text = (why, more = {}) => staleText({ hasAnswers: true, of: { ...state, program: 'x' }, now: state, why, ...more });
+  const text = (why, more = {}) =>
+    staleText({ hasAnswers: true, of: { ...state, program: 'x' }, now: state, why, ...more });
   assert.equal(text('working'), 'The new answer is being worked out. What is dimmed is of an earlier program.');
   assert.equal(text('stopped'), 'The runs were stopped. What is dimmed is of an earlier program.');
   assert.equal(text('syntax'), 'What is here is not a program. What is dimmed is of an earlier program.');
@@ -167,12 +187,16 @@ test('what is dimmed is told, with the reason', () => {
 });
 
 const variables = [{ name: 'h', length: null }, { name: 'a', length: 3 }, { name: 'l', length: null }];
-const starts = readStarts('version = 2\n[[run]]\nmemory = { h = 1, a = [112, 97] }\n[[run]]\nmemory = { h = 2, z = 7 }\ntouch = [{ place = "data", label = "H", address = 0 }]\n');
+const starts = readStarts(
+  'version = 2\n[[run]]\nmemory = { h = 1, a = [112, 97] }\n[[run]]\nmemory = { h = 2, z = 7 }\ntouch = [{ place ='
+    + ' "data", label = "H", address = 0 }]\n');
 
 test('the table has a row a run and a column a variable, with the values of that run', () => {
   const text = tableText(starts, { variables, labels, observer: 'L' });
-  const cells = [...text.matchAll(/<input data-row="(\d+)" data-name="(\w+)" data-array="(\w+)" value="([^"]*)"/g)].map((found) => found.slice(1).join(' '));
-  assert.deepEqual(cells, ['0 h false 1', '0 a true &quot;pa&quot;', '0 z false ', '1 h false 2', '1 a true ', '1 z false 7']);
+  const cells = [...text.matchAll(/<input data-row="(\d+)" data-name="(\w+)" data-array="(\w+)" value="([^"]*)"/g)].map(
+    (found) => found.slice(1).join(' '));
+  assert.deepEqual(cells, ['0 h false 1', '0 a true &quot;pa&quot;', '0 z false ', '1 h false 2', '1 a true ',
+    '1 z false 7']);
   assert.match(text, /data-remove="0" aria-label="Remove run 1".*data-remove="1" aria-label="Remove run 2"/s);
   assert.match(text, /data-copy="1" aria-label="Copy run 2"/);
   assert.match(text, /aria-label="run 2, z"/);
@@ -199,21 +223,26 @@ test('verdicts in a line, and why', () => {
   assert.equal(plain(verdictText(accepted, labels)), 'Accepted 8 commands, 1 mitigate');
   const refusal = { kind: 'refused', rule: 'T-IF', place: { line: 6, column: 3 }, from: 'H', to: 'L' };
   const refused = { ...refusal, refusals: [refusal, { ...refusal, place: { line: 7, column: 1 } }] };
-  assert.equal(plain(verdictText(refused, labels)), 'Refused by T-IF at 6:3: H does not flow to Lby T-IF at 7:1: H does not flow to L');
+  assert.equal(plain(verdictText(refused, labels)),
+    'Refused by T-IF at 6:3: H does not flow to Lby T-IF at 7:1: H does not flow to L');
   assert.match(verdictText(refused, labels), /data-place="6:3"/);
   assert.match(plain(whyText(refused, [])), /^T-IF: the write label of this command lies too low\.$/);
   assert.equal(whyText(accepted, []), '');
-  const steps = [{ place: { line: 6, column: 5 }, text: 'right is declared H' }, { place: { line: 18, column: 1 }, text: 'done gets it' }];
-  assert.match(whyText(refused, steps), /data-n="1"><button type="button" data-place="6:5" aria-label="Step 1, 6:5: right is declared H">/);
+  const steps = [{ place: { line: 6, column: 5 }, text: 'right is declared H' },
+    { place: { line: 18, column: 1 }, text: 'done gets it' }];
+  assert.match(whyText(refused, steps),
+    /data-n="1"><button type="button" data-place="6:5" aria-label="Step 1, 6:5: right is declared H">/);
   assert.match(whyText(refused, steps), /data-n="2"><button type="button" data-place="18:1"/);
   assert.match(mendText({ first: 9, last: 17 }), /Put lines 9 to 17 into a mitigate/);
   assert.match(mendText({ first: 9, last: 9 }), /Put line 9 into a mitigate/);
-  const syntax = { kind: 'syntax', what: 'unexpected', refusals: [{ what: 'unexpected', place: { line: 2, column: 5 } }] };
+  const syntax = { kind: 'syntax', what: 'unexpected',
+    refusals: [{ what: 'unexpected', place: { line: 2, column: 5 } }] };
   assert.equal(plain(verdictText(syntax, labels)), 'Not a program unexpected at 2:5');
 });
 
 test('command lines are those of the calls, with the chosen settings', () => {
-  const lines = commandLines({ ...state, observer: 'bob', environment: 'part2', budget: '77' }, 'accepted').map((one) => one.line);
+  const lines = commandLines({ ...state, observer: 'bob', environment: 'part2', budget: '77' }, 'accepted')
+    .map((one) => one.line);
   assert.deepEqual(lines.slice(0, 5), [
     './mitigate check program.mit',
     './mitigate audit program.mit starts.toml --observer bob --env part2 --budget 77',
@@ -227,7 +256,8 @@ test('command lines are those of the calls, with the chosen settings', () => {
 });
 
 test('instructions have the lines of their commands', () => {
-  const code = [['0', 'PUSH', '7', ['L', 'L']], ['1', 'STORE', 'l', ['L', 'L']], ['2', 'PUSH', '8', ['L', 'H']], ['3', 'STORE', 'h', ['L', 'H']], ['4', 'HALT', '', ['L', 'L']]]
+  const code = [['0', 'PUSH', '7', ['L', 'L']], ['1', 'STORE', 'l', ['L', 'L']], ['2', 'PUSH', '8', ['L', 'H']],
+    ['3', 'STORE', 'h', ['L', 'H']], ['4', 'HALT', '', ['L', 'L']]]
     .map(([number, name, operand, marks]) => ({ number, name, operand, labels: marks }));
   const text = codeText(code, 'var l : L; var h : H;\nl := 7;\n\nh := 8', labels);
   assert.deepEqual([...text.matchAll(/data-line="(\d+)"/g)].map((found) => found[1]), ['2', '2', '4', '4', '0']);
@@ -243,5 +273,6 @@ test('what is saved as JSON comes back, and numbers keep all their digits', () =
   assert.deepEqual(readFileText('a.TOML', '[[run]]'), { starts: '[[run]]' });
   assert.equal(readFileText('a.json', '{"program": 1}'), null);
   assert.equal(readFileText('a.json', 'x'), null);
-  assert.deepEqual(readFileText('a.json', '{"program": "p", "starts": "s", "environment": "other"}'), { program: 'p', starts: 's' });
+  assert.deepEqual(readFileText('a.json', '{"program": "p", "starts": "s", "environment": "other"}'),
+    { program: 'p', starts: 's' });
 });

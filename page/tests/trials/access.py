@@ -8,7 +8,8 @@ const nameOf = (one) => (one.getAttribute('aria-label')
   || (one.labels?.length ? [...one.labels].map((label) => label.textContent).join(' ') : '')
   || (one.getAttribute('aria-labelledby') && document.getElementById(one.getAttribute('aria-labelledby')).textContent)
   || one.textContent).trim().replace(/\\s+/g, ' ');
-const seen = (selector) => [...document.querySelectorAll(selector)].filter((one) => one.offsetParent && one.getClientRects().length);
+const seen = (selector) => [...document.querySelectorAll(selector)]
+  .filter((one) => one.offsetParent && one.getClientRects().length);
 """
 CONTROLS = "button, select, input, textarea, summary, [tabindex='0'], [contenteditable='true']"
 INTERFACE = ":not(.CodeMirror *)"
@@ -18,7 +19,10 @@ def fold(page):
     """At 1366 by 768 what was found, the program and the picture of the runs stand above the fold, side by side."""
     page.browser.resize(1366, 768)
     page.choose(0)
-    script = "const box = document.querySelector(arguments[0]).getBoundingClientRect(); return [box.left, box.top, box.right, box.bottom]"
+    script = (
+        "const box = document.querySelector(arguments[0]).getBoundingClientRect(); return [box.left, box.top,"
+        " box.right, box.bottom]"
+    )
     boxes = {name: page.run(script, name) for name in ("#sentence", "#audit", ".editor", "#lanes svg")}
     for name, (left, top, right, bottom) in boxes.items():
         holds(0 <= left < right <= 1366 and 0 <= top < bottom <= 768, f"{name}: {left} {top} {right} {bottom}")
@@ -49,7 +53,8 @@ def keyboard(page):
     page.browser.press(*["Tab"] * 60)
     seen = page.run("return window.focused")
     for wanted in (
-        "lesson-open", "example", "copy", "theme", "labels-shown", "find", "code-open", "editor", "problems", "zoom-in", "time-save",
+        "lesson-open", "example", "copy", "theme", "labels-shown", "find", "code-open", "editor", "problems", "zoom-in",
+        "time-save",
         "observer", "environment", "budget", "lanes", "starts-form",
     ):
         holds(wanted in seen, f"Tab reaches {wanted}: {seen}")
@@ -60,7 +65,8 @@ def names(page):
     for number in (0, 2, 5):
         page.choose(number)
         page.run("for (const one of document.querySelectorAll('details')) one.open = true")
-        found = page.run(NAME + f"return seen(\"{CONTROLS}\").map((one) => [one.tagName, nameOf(one), one.outerHTML.slice(0, 90)])")
+        found = page.run(NAME
+            + f"return seen(\"{CONTROLS}\").map((one) => [one.tagName, nameOf(one), one.outerHTML.slice(0, 90)])")
         same([html for _, name, html in found if not name], [], "what has no name")
         buttons = [name for tag, name, _ in found if tag == "BUTTON"]
         same(sorted({name for name in buttons if buttons.count(name) > 1}), [], "names of several buttons")
@@ -76,8 +82,10 @@ def targets(page):
             page.choose(number)
             page.run("for (const one of document.querySelectorAll('details')) one.open = true")
             small = page.run(
-                NAME + f"return seen(\"button, select, summary, input\").filter((one) => one.matches('{INTERFACE}') && !one.matches('p .place'))"
-                ".map((one) => [one, one.getBoundingClientRect()]).filter(([, box]) => box.width < 24 || box.height < 24)"
+                NAME + f"return seen(\"button, select, summary, input\").filter((one) => one.matches('{INTERFACE}')"
+                    f" && !one.matches('p .place'))"
+                ".map((one) => [one, one.getBoundingClientRect()]).filter(([, box]) => box.width < 24 || box.height <"
+                " 24)"
                 ".map(([one, box]) => `${one.outerHTML.slice(0, 70)} ${box.width} ${box.height}`)"
             )
             small = [one for one in small if 'type="checkbox"' not in one]
@@ -107,14 +115,17 @@ def narrow(page):
 
 
 BOXES = """
-return ['header', 'main > section', '.editor', '#problems', '#lanes', '#sentence', '#audit', '#starts-table', '#sweep-picture', 'footer']
+return ['header', 'main > section', '.editor', '#problems', '#lanes', '#sentence', '#audit', '#starts-table',
+  '#sweep-picture', 'footer']
   .flatMap((selector) => [...document.querySelectorAll(selector)]).filter((one) => one.getClientRects().length)
-  .map((one) => { const { left, top, width, height } = one.getBoundingClientRect(); return [one.id || one.className || one.tagName,
+  .map((one) => { const { left, top, width, height } = one.getBoundingClientRect();
+    return [one.id || one.className || one.tagName,
     Math.round(left), Math.round(top + scrollY), Math.round(width), Math.round(height)].join(' '); });
 """
 WATCH = """
 window.shifts = 0;
-new PerformanceObserver((list) => { for (const one of list.getEntries()) window.shifts += one.value; }).observe({ type: 'layout-shift' });
+new PerformanceObserver((list) => { for (const one of list.getEntries()) window.shifts += one.value; })
+  .observe({ type: 'layout-shift' });
 """
 
 
@@ -165,7 +176,8 @@ def forced_colours(page):
         ink, ground = page.run("const s = getComputedStyle(document.body); return [s.color, s.backgroundColor]")
         holds(ink != ground, f"{feature}: {ink} on {ground}")
     page.browser.devtools("Emulation.setEmulatedMedia", media="print", features=[])
-    holds(page.run("return getComputedStyle(document.getElementById('lesson-open')).display") == "none", "no buttons in print")
+    holds(page.run("return getComputedStyle(document.getElementById('lesson-open')).display") == "none",
+        "no buttons in print")
     page.browser.devtools("Emulation.setEmulatedMedia", media="", features=[])
 
 

@@ -1,9 +1,12 @@
 """Whose answer is shown: what belongs to another text is dimmed and says so, and what is wrong is told in words."""
+import re
+
 from driving import EXAMPLES, ENDLESS, all_dimmed, holds, none_dimmed, same
 
 OLD = [".number-of b", ".lane text[font-weight]", "#starts-table td.seen"]
 MANY = "var h : H;\nvar l : L;\n" + ";\n".join(["mitigate (64, H) { h := 0 }"] * 24) + ";\nl := 1\n"
 THIRD = "var h : H;\nvar l : L;\nl := 1;\nl := 2;\nmitigate (1, H) { while h > 0 do { h := h - 1 } };\nl := 3\n"
+SECOND_ENDLESS = "var h : H;\nvar l : L;\nmitigate (1, H) { while h > 0 do { skip } };\nl := 1\n"
 THREE = "".join(f"[[run]]\nmemory = {{ h = {n} }}\n\n" for n in (0, 9, 40))
 
 
@@ -79,7 +82,8 @@ def budget_told(page):
     for wrong in ("x", "0", "1099511627777", ""):
         page.set("#budget", wrong)
         page.idle()
-        fault = page.run("const one = document.getElementById('budget-fault'); return one && one.getClientRects().length ? one.innerText : ''")
+        fault = page.run("const one = document.getElementById('budget-fault'); return one &&"
+            " one.getClientRects().length ? one.innerText : ''")
         holds("from 1 to 1\u202f099\u202f511\u202f627\u202f776" in fault, f"words for {wrong!r}: {fault!r}")
         for selector in OLD:
             all_dimmed(page, selector, selector)
@@ -104,6 +108,61 @@ def cell_told(page):
         none_dimmed(page, selector, selector)
 
 
+def tells_how_far(page):
+    """A long run tells which run goes on, past which cycle, and what share of the cycles that is."""
+    page.choose(3)
+    page.set("#budget", str(2**40))
+    page.write_now(SECOND_ENDLESS)
+    page.set("#toml", "".join(f"[[run]]\nmemory = {{ h = {n} }}\n\n" for n in (0, 1, 0)))
+    told = (
+        "return document.getElementById('working').hidden ? '' :"
+        " document.getElementById('working-text').textContent.replace(/\\u202f/g, '')"
+    )
+    page.browser.wait(f"return /run 2 of 3 is past \\d+ cycles of 1099511627776, .* %/.test((() => {{ {told} }})())",
+        60, "how far it is")
+    text = page.run(told)
+    holds(text.startswith("the count (step 2 of 4), "), text)
+    first = int(re.search(r"past (\d+) cycles", text)[1])
+    page.browser.wait(f"return Number(/past (\\d+) cycles/.exec((() => {{ {told} }})())?.[1]) > {first}", 60,
+        "more cycles")
+    page.browser.click("#stop")
+    page.idle()
+    holds("topped" in page.text("#freshness"), "it says that it was stopped")
+    page.choose(3)
+
+
+# A worker as the page's own, which counts the instances that its calls make.
+COUNTED = """
+const packed = atob(document.getElementById('module-data').textContent.trim());
+const bytes = Uint8Array.from(packed, (sign) => sign.charCodeAt(0)), files = { 'program.mit': arguments[0] };
+const count = `let made = 0; const Made = WebAssembly.Instance;
+WebAssembly.Instance = function (...given) { made++; return new Made(...given); };
+const post = self.postMessage.bind(self); self.postMessage = (data) => post({ ...data, made });`;
+const texts = [count, document.getElementById('worker-text').textContent];
+const worker = new Worker(URL.createObjectURL(new Blob(texts, { type: 'text/javascript' })));
+window.counted = null;
+worker.onmessage = ({ data }) => {
+  if (data.id) window.counted = [data.made, data.text?.length ?? 0, data.fault ?? ''];
+};
+new Response(new Blob([bytes]).stream().pipeThrough(new DecompressionStream('deflate-raw'))).arrayBuffer()
+  .then((plain) => WebAssembly.compile(plain)).then((module) => {
+    worker.postMessage({ module });
+    worker.postMessage({ id: 1, program: 'mitigate', words: ['run', 'program.mit'], files });
+  });"""
+LONG = "var l : L;\nl := 60000;\nwhile l > 0 do { l := l - 1 }\n"
+
+
+def answers_are_made_once(page):
+    """An answer of more than a megabyte is made by one instance of the module."""
+    page.run(COUNTED, LONG)
+    page.browser.wait("return window.counted", 60, "an answer")
+    made, length, fault = page.run("return window.counted")
+    same(fault, "", "a fault")
+    holds(length > 2**20, f"{length} signs")
+    same(made, 1, "how often it is made")
+
+
 TRIALS = [
-    dimmed_at_the_key, dimmed_during_a_run, bounds_rounded_up, if_without_else_marked, classes_read_apart, budget_told, cell_told,
+    tells_how_far, answers_are_made_once, dimmed_at_the_key, dimmed_during_a_run, bounds_rounded_up,
+    if_without_else_marked, classes_read_apart, budget_told, cell_told,
 ]

@@ -28,14 +28,17 @@ def each_example(page):
         if not is_refused:
             same(page.count(".lane"), page.count("#starts-table tr[data-run]"), f"{name}: lanes")
             holds(page.text("#audit"), f"{name}: an audit")
-        same(page.text("#freshness"), "The program that is here is refused, so it has no runs." if is_refused else "", name)
+        same(page.text("#freshness"), "The program that is here is refused, so it has no runs." if is_refused
+            else "", name)
 
 
 def audit_as_documented(page):
     starts = (EXAMPLES / "password.toml").read_text()
     for file, distinct, sentence in (
-        ("password_small.mit", "3", "Of four runs an observer at L sees three different timings; at most 16 are possible."),
-        ("password.mit", "1", "An observer at L cannot tell these four runs apart; with other secrets at most eleven are possible."),
+        ("password_small.mit", "3",
+            "Of four runs an observer at L sees three different timings; at most 16 are possible."),
+        ("password.mit", "1",
+            "An observer at L cannot tell these four runs apart; with other secrets at most eleven are possible."),
     ):
         page.write((EXAMPLES / file).read_text(), starts)
         same(page.text("#audit .number-of b"), distinct, file)
@@ -106,10 +109,12 @@ def rows_and_columns(page):
     first = page.value("#toml")
     page.browser.click('[data-remove="3"]')
     page.idle()
-    same(page.run("return [...document.querySelectorAll('#starts-table input')].map((one) => one.value).join(' ')"), "0 1 2 4 5 6 7 8 9", "left")
+    same(page.run("return [...document.querySelectorAll('#starts-table input')].map((one) => one.value).join(' ')"),
+        "0 1 2 4 5 6 7 8 9", "left")
     page.browser.click('[data-copy="2"]')
     page.idle()
-    same(page.run("return [...document.querySelectorAll('#starts-table input')].map((one) => one.value).join(' ')"), "0 1 2 2 4 5 6 7 8 9", "copied")
+    same(page.run("return [...document.querySelectorAll('#starts-table input')].map((one) => one.value).join(' ')"),
+        "0 1 2 2 4 5 6 7 8 9", "copied")
     page.browser.click("#starts-undo")
     page.browser.click("#starts-undo")
     page.idle()
@@ -118,7 +123,8 @@ def rows_and_columns(page):
     page.set("#range-to", "5")
     page.browser.click("#range-go")
     page.idle()
-    same(page.run("return [...document.querySelectorAll('#starts-table input')].map((one) => one.value).join(' ')"), "3 4 5", "a range")
+    same(page.run("return [...document.querySelectorAll('#starts-table input')].map((one) => one.value).join(' ')"),
+        "3 4 5", "a range")
     page.write(page.program().replace("h", "k").replace("wkile", "while"))
     holds("unknown key" in page.text("#starts-fault"), page.text("#starts-fault"))
     page.set("#starts-add select[data-rename]", "k", "change")
@@ -134,7 +140,8 @@ def timeline(page):
     page.choose(0)
     for text in ("done = 1 @168", "done = 1 @296", "done = 1 @552"):
         holds(text in page.text("#lanes"), text)
-    colours = page.run("return [...document.querySelectorAll('.lane text[font-weight]')].map((one) => one.getAttribute('fill'))")
+    colours = page.run("return [...document.querySelectorAll('.lane text[font-weight]')].map((one) =>"
+        " one.getAttribute('fill'))")
     same([colours.count(one) for one in dict.fromkeys(colours)], [1, 6, 2], "colours of runs that look alike")
     before = page.text("#lanes")
     page.run("document.getElementById('lanes').focus()")
@@ -173,7 +180,8 @@ def sweep(page):
     holds(text.startswith("From 269 on, the runs cannot be told apart"), text)
     holds("It costs 310 cycles, where 512 costs 553" in text, text)
     before = page.program()
-    page.run("document.getElementById('sweep-numbers').open = true; document.querySelector('[data-take=\"269\"]').click()")
+    page.run("document.getElementById('sweep-numbers').open = true;"
+        " document.querySelector('[data-take=\"269\"]').click()")
     page.idle()
     holds("mitigate (269, H)" in page.program(), "a prediction is taken")
     same(page.value("#example"), "own", "the example that is chosen then")
@@ -196,9 +204,13 @@ def sweep_past_1(page):
     sweep_now(page)
     text = page.text("#sweep-text")
     holds(text.startswith("From 269 on, the runs cannot be told apart: that is one more"), text)
-    points = "return [...document.querySelectorAll('#sweep-picture .point')].map((one) => Number(one.dataset.prediction))"
+    points = (
+        "return [...document.querySelectorAll('#sweep-picture .point')].map((one) =>"
+        " Number(one.dataset.prediction))"
+    )
     predictions = page.run(points)
-    holds(17 in predictions and 269 in predictions and 279 in predictions, f"what halts by then is drawn: {predictions}")
+    holds(17 in predictions and 269 in predictions
+        and 279 in predictions, f"what halts by then is drawn: {predictions}")
     holds(not {1, 16, 256, 268, 280} & set(predictions), f"what does not is not: {predictions}")
     holds("more not all runs halt" in page.text("#sweep-note"), page.text("#sweep-note"))
 
@@ -248,8 +260,10 @@ def code(page):
     time.sleep(0.3)
     lit = page.run("return [...document.querySelectorAll('#code .lit .n')].map((one) => one.textContent).join(' ')")
     same(lit, "2 3 4 5 6 7 8 9 10 11 12 13", "what the line of the loop lights up")
-    page.run("document.querySelector('#code .line[data-line=\"7\"]').dispatchEvent(new MouseEvent('mouseover', { bubbles: true }))")
-    same(page.run("return document.querySelector('#editor .lit').parentElement.querySelector('pre').textContent"), "l := 1", "what it lights")
+    page.run("document.querySelector('#code .line[data-line=\"7\"]').dispatchEvent(new MouseEvent('mouseover', {"
+        " bubbles: true }))")
+    same(page.run("return document.querySelector('#editor .lit').parentElement.querySelector('pre').textContent"),
+        "l := 1", "what it lights")
     page.browser.click("#code-open")
 
 
@@ -263,6 +277,8 @@ def lesson(page):
         if number == 5:
             same(page.text("#audit .number-of b"), "1", "the last step leaves one sequence")
         page.browser.click("#lesson-next")
+    holds(page.text("#lesson-title").startswith("A cache attack"), "the next lesson follows")
+    page.browser.click("#lesson-close")
     same(verdicts, ["Accepted", "Refused", "Accepted", "Accepted", "Accepted", "Accepted"], "the verdicts")
     holds(page.run("return document.getElementById('lesson').hidden"), "it ends")
 
