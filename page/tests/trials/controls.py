@@ -3,6 +3,7 @@ import pathlib
 import re
 import subprocess
 import tempfile
+import tomllib
 
 from driving import SWEPT, TOP, holds, same
 
@@ -125,18 +126,26 @@ def all_together(page):
     compare(page, observer="B", env="flat", budget="70000")
 
 
+def written(page):
+    """What the text of the starts gives `h` in each run."""
+    return [run.get("memory", {}).get("h") for run in tomllib.loads(page.value("#toml"))["run"]]
+
+
 def cells(page):
+    """Each cell and each button is of its own run, in the text too; the starts are 0 to 9."""
     page.choose(4)
     page.set('#starts-table input[data-row="3"]', "60")
     page.idle()
     compare(page)
-    same(page.value("#toml").count("h = 60"), 1, "the cell in the text")
+    same(written(page), [0, 1, 2, 60, 4, 5, 6, 7, 8, 9], "the cell in the text")
     page.browser.click('[data-remove="1"]')
     page.idle()
     compare(page)
+    same(written(page), [0, 2, 60, 4, 5, 6, 7, 8, 9], "the text without a run")
     page.set('#starts-table input[data-row="2"]', "")
     page.idle()
     compare(page)
+    same(written(page), [0, 2, None, 4, 5, 6, 7, 8, 9], "the text without a cell")
     same(page.value('#starts-table input[data-row="1"]'), "2", "the other cells")
 
 
