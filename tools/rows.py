@@ -11,7 +11,7 @@ import tempfile
 TOP = pathlib.Path(__file__).resolve().parent.parent
 TABLES = TOP / "crates/worked_rows/data"
 # The texts that show calls of the tool with what they write.
-PAGES = ["*.md", "docs/*.md", "editors/*.md", "examples/**/*.md", "page/*.md"]
+PAGES = ["*.md", "docs/*.md", "docs/data/*.md", "editors/*.md", "examples/**/*.md", "page/*.md"]
 MOST_SECONDS = 60
 USAGE_STATUS = 4
 USAGE = """usage: mitigate check FILE
