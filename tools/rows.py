@@ -13,7 +13,7 @@ import command_table
 TOP = pathlib.Path(__file__).resolve().parent.parent
 TABLES = TOP / "crates/worked_rows/data"
 # The texts that show calls of the tool with what they write.
-PAGES = ["*.md", "docs/*.md", "editors/*.md", "examples/**/*.md", "page/*.md"]
+PAGES = ["*.md", "docs/*.md", "docs/data/*.md", "editors/*.md", "examples/**/*.md", "page/*.md"]
 MOST_SECONDS = 60
 USAGE_STATUS = 4
 USAGE = command_table.usage("mitigate")
