@@ -12,9 +12,12 @@ function numberBox(number, says, more = '') {
     + `<b${title}>${number}</b><i>${says}${more ? ` <span class="unseen">${more}</span>` : ''}</i></div>`;
 }
 
+// The name of a limit, at whose colon no line begins.
+const limitName = (name) => `<span class="keep">${term(name)}:</span>`;
+
 function boundBox({ base, exponent }) {
   const value = base === 1 ? '1' : `${spaced(base)}<sup>${spaced(exponent)}</sup>`;
-  return numberBox(value, `at most, by the ${term('bound')}: ${counted(bitsOf(base, exponent), 'bit')}`);
+  return numberBox(value, `at most, by the ${limitName('bound')} ${counted(bitsOf(base, exponent), 'bit')}`);
 }
 
 /** The numbers: what is seen, and the limits. */
@@ -24,7 +27,7 @@ export function auditBoxes({ report, sharp }) {
   const seen = numberBox(spaced(report.distinct), `different ${sequences} seen in ${runs}`);
   const limit = sharp?.sharp === undefined
     ? ''
-    : numberBox(boundText(sharp.sharp), `at most, by the ${term('sharp count')}: ${counted(sharp.bits, 'bit')}`,
+    : numberBox(boundText(sharp.sharp), `at most, by the ${limitName('sharp count')} ${counted(sharp.bits, 'bit')}`,
     wholeBound(sharp.sharp));
   return seen + limit + boundBox(report);
 }

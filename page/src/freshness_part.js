@@ -51,6 +51,6 @@ function noteOf(element, name) {
 
 /** Tells those who do not see the page what the answer is, where it is not covered. */
 export function announce(isCovered) {
-  const words = [isCovered ? '' : $('sentence').textContent, $('freshness').textContent].filter(Boolean).join(' ');
+  const words = isCovered ? '' : [$('sentence').textContent, $('freshness').textContent].filter(Boolean).join(' ');
   if ($('announce').textContent !== words) $('announce').textContent = words;
 }

@@ -46,7 +46,7 @@ test('terms stand where they are spoken of', () => {
     'both name their rule');
 });
 
-test('the page has the version of the tool, and a sign beside what a term stands for', () => {
+test('the version of the tool is on the page, and a sign beside what a term stands for', () => {
   const page = fs.readFileSync(here('../index.html'), 'utf8'),
     version = fs.readFileSync(here('../../VERSION'), 'utf8').trim();
   assert.ok(page.includes(`mitigate ${version}`));
