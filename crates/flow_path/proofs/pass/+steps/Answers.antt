@@ -7,7 +7,7 @@ use Rattle.timing_types.proofs.Parts.{if_parts, while_parts, mitigate_parts, if_
 use Rattle.timing_types.specs.declared.rule.Rule.TheVariants.{Skip as RSkip, Sleep as RSleep}
 use Rattle.flow_path.specs.declared.step.Spot.TheVariants.{Variable as OfVariable}
 use Rattle.flow_path.specs.declared.step.How.TheVariants.{Reads, ReadsInIndex, HasReadLabel, AfterReadLabel}
-use Rattle.flow_path.specs.Steps.{reads, index_reads, read_label, after, after_set, after_put, ends, steps}
+use Rattle.flow_path.specs.Steps.{reads, index_reads, read_label, after, after_set, after_put, ends, steps_by}
 use Rattle.flow_path.specs.Distances.{ComesTo, Passes}
 use Rattle.flow_path.proofs.Passing.{passes_none, passes_then, passes_plain, passes_set, passes_if, passes_while, passes_mitigate}
 use Rattle.flow_path.proofs.pass.+steps.Goals as goal
@@ -21,7 +21,7 @@ command_pass-returns-in-Skip t c =
     passes_plain r.program.now r.target.now r.known.now.variables.items c.args.sides.now c.add_label.new.self c.args.pc c.args.t c.args.pc
     c.after_skip.result (command_plan c.args.c.now rest) rest RSkip w.pos w.labels
     (λ P. P) (λ T. T ++ read_label AfterReadLabel w.pos w.labels) (λ P h. h) c.after_skip.ensures (c.add_label.ensures r.known.now.variables.items)
-    (λ P T. ap (λ z. steps z P T) q) (λ T. ap (λ z. ends z T) q)
+    (λ P T. ap (λ z. steps_by z P T) q) (λ T. ap (λ z. ends z T) q)
 
 pub command_pass-returns-in-Sleep : goal.command_pass-returns-in-Sleep
 command_pass-returns-in-Sleep t c =
@@ -34,7 +34,7 @@ command_pass-returns-in-Sleep t c =
     c.here-own-in-Sleep.result c.after.result (command_plan c.args.c.now rest) rest RSleep w.pos w.labels
     (λ P. P ++ index_reads w.pos e) (λ T. after T w e) c.here-own-in-Sleep.ensures c.after.ensures
     (c.add_label-in-Sleep.ensures r.known.now.variables.items)
-    (λ P T. ap (λ z. steps z P T) q) (λ T. ap (λ z. ends z T) q)
+    (λ P T. ap (λ z. steps_by z P T) q) (λ T. ap (λ z. ends z T) q)
 
 pub command_pass-returns-in-Assign : goal.command_pass-returns-in-Assign
 command_pass-returns-in-Assign t c =
@@ -50,7 +50,7 @@ command_pass-returns-in-Assign t c =
     (λ T. after_set T w c.in-Assign.variable e)
     c.set_left-left.ensures c.here-own.ensures c.after_set.ensures (c.add.ensures r.known.now.variables.items)
     (c.add_label-in-Assign.ensures r.known.now.variables.items)
-    (λ P T. ap (λ z. steps z P T) q) (λ T. ap (λ z. ends z T) q)
+    (λ P T. ap (λ z. steps_by z P T) q) (λ T. ap (λ z. ends z T) q)
 
 pub command_pass-returns-in-Put : goal.command_pass-returns-in-Put
 command_pass-returns-in-Put t c =
@@ -67,7 +67,7 @@ command_pass-returns-in-Put t c =
     (λ P. P ++ (reads ReadsInIndex w.pos n ++ index_reads w.pos e)) (λ T. after_put T w c.in-Put.first n e)
     c.put_left-left.ensures c.put_here-own.ensures c.after_put.ensures (c.add-in-Put.ensures r.known.now.variables.items)
     (c.add_label-in-Put.ensures r.known.now.variables.items)
-    (λ P T. ap (λ z. steps z P T) q) (λ T. ap (λ z. ends z T) q)
+    (λ P T. ap (λ z. steps_by z P T) q) (λ T. ap (λ z. ends z T) q)
 
 pub command_pass-returns-in-If : goal.command_pass-returns-in-If
 command_pass-returns-in-If t c =
