@@ -1,7 +1,8 @@
 -- What is known of the cheapest chains to each label, and by which steps they end.
-use Rattle.std.specs.Prelude.{◌≡◌, ℕ, ◌+◌, ◌<◌, ◌≤◌, cond, List, [], ◌∷◌, ◌++◌, length, Option, None, Some, Contains, slice_index_or, option_map}
+use Rattle.std.specs.Prelude.{◌≡◌, ℕ, ◌+◌, ◌<◌, ◌≤◌, Bool, true, cond, List, [], ◌∷◌, ◌++◌, length, Option, None, Some, Contains, slice_index_or, option_map}
 use Rattle.mit_syntax.specs.Declarations.{variables}
-use Rattle.mit_syntax.specs.Plan.{Plan}
+use Rattle.mit_syntax.specs.declared.ast.Command.{Command as Tree}
+use Rattle.mit_syntax.specs.Plan.{Plan, command_plan}
 use Rattle.mit_syntax.specs.Program.{Syntax}
 use Rattle.flow_path.specs.declared.step.How.{How}
 use Rattle.flow_path.specs.declared.step.Spot.{Spot}
@@ -131,6 +132,15 @@ pub record AreSides (s : Syntax) (t : Target) (ds : List (Option Cost)) (bs : Li
   pub goal : IsGoalFound s t ds bs v.goal
   pub each : (y : ℕ) → y < length ds → IsFound (SideCosts s t ds y) (all_of bs) (slice_index_or v.variables.items y None)
 
+-- a cost is not below that of the first of the cheapest parts of a list
+abbrev pub IsNoDearer : Option Best → Cost → Type 0
+IsNoDearer None d = ⊥
+IsNoDearer (Some b) d = IsLe b.cost d
+
+-- none of these parts costs less than it
+abbrev pub AreNoCheaperThan : Syntax → Target → List (Option Cost) → Option Best → List Part → Type 0
+AreNoCheaperThan s t ds b ps = (y : Part) (d : Cost) → Contains ps y → PartCosts s t ds y d → IsNoDearer b d
+
 -- The commands p were walked up to q, with the first of the cheapest parts in place of the time: b before, r after.
 abbrev pub ComesTo : Syntax → Target → List (Option Cost) → Option Best → Option Best → Plan → Plan → Type 0
 ComesTo s t ds b r p q = (T : List Part) → IsBest s t ds T b → (T' : List Part) × IsBest s t ds T' r × (ends p T ≡ ends q T')
@@ -220,3 +230,13 @@ ComesIn r b c p q = ComesTo r.program.now r.target.now r.known.now.variables.ite
 
 abbrev pub PassesIn : Round → Sides → Sides → Option Best → Option Best → Option Best → Plan → Plan → Type 0
 PassesIn r v w pc b c p q = Passes r.program.now r.target.now r.known.now.variables.items v w pc b c p q
+
+-- What is known of the time before commands: it is of a list of parts, and where it is said that the walk stays, nothing that
+-- they add to it is cheaper.
+abbrev pub IsTimeOf : Round → Option Best → List Part → Bool → Type 0
+IsTimeOf r b added stays =
+    ((T : List Part) × IsBestIn r T b) × (stays ≡ true → AreNoCheaperThan r.program.now r.target.now r.known.now.variables.items b added)
+
+-- the same of a command, with some commands after it
+abbrev pub IsTimeFrom : Round → Option Best → Tree → Bool → Type 0
+IsTimeFrom r b c stays = (rest : Plan) × IsTimeOf r b (ends (command_plan c rest) []) stays

@@ -141,7 +141,7 @@ fn found_with(
         known,
         target,
     };
-    let _end = list_pass(p.body(), None, None, &mut sides, &round);
+    let _end = list_pass(p.body(), None, None, &mut sides, &round, false);
     Ok(sides)
 }
 
