@@ -1,10 +1,10 @@
 -- The condition that is broken first is the first to which a chain leads, so it is the one that a search finds.
-use Rattle.std.proofs.Common.{◌≡◌, ℕ, zero, suc, ◌+◌, ◌<◌, ◌≤◌, refl, sym, ap, ◌∙◌, subst, List, [], ◌∷◌, ◌++◌, length, get_or, arith, append_assoc, ⊎_elim}
+use Rattle.std.proofs.Common.{◌≡◌, ℕ, zero, suc, ◌+◌, ◌<◌, ◌≤◌, refl, sym, ap, ◌∙◌, subst, List, [], ◌∷◌, ◌++◌, length, arith, append_assoc, ⊎_elim}
 use Rattle.std.proofs.Math.Seq.{get_or-append_seam}
 use Rattle.std.specs.Prelude.{Bool, true, false, not, cond, Option, None, Some, Contains, slice_index_or}
 use Rattle.std.proofs.lemmas.Bool.{both_ways, cases_lt, cond-true, cond-false}
-use Rattle.std.proofs.lemmas.Option.{none-some, same_Some}
-use Rattle.std.proofs.lemmas.List.Elements.{Contains-append_right, Contains-append_cases}
+use Rattle.std.proofs.lemmas.Option.{none-some}
+use Rattle.std.proofs.lemmas.List.Elements.{Contains-append_cases}
 use Rattle.text_base.specs.declared.pos.Pos.{Pos}
 use Rattle.label_lattice.specs.declared.label.Label.{Label}
 use Rattle.label_lattice.specs.Lattice.{Lattice, Flows}
@@ -12,17 +12,15 @@ use Rattle.label_lattice.specs.Order.{lattice_of}
 use Rattle.mit_syntax.specs.Program.{Syntax, plan_of}
 use Rattle.mit_syntax.specs.Valid.{IsValid}
 use Rattle.timing_types.specs.declared.rule.Rule.{Rule}
-use Rattle.timing_types.specs.declared.rule.TypeFault.TheVariants.{Refused}
 use Rattle.timing_types.specs.Walk.{Condition, conditions}
 use Rattle.timing_types.specs.Labelling.{variable_of, marks_of, level_of, tree_of}
-use Rattle.timing_types.specs.Labelled.{LabelledProgram, first_broken_of}
+use Rattle.timing_types.specs.Labelled.{LabelledProgram}
 use Rattle.label_infer.specs.Given.{written_levels}
 use Rattle.label_infer.specs.Least.{IsLeast}
 use Rattle.label_infer.proofs.Completed.{lattice_laws}
 use Rattle.label_infer.proofs.Right.{Each, all_both}
 use Rattle.flow_path.specs.declared.step.Spot.{Spot}
 use Rattle.flow_path.specs.declared.step.Spot.TheVariants.{Variable, Command, Level}
-use Rattle.flow_path.specs.declared.step.Part.{Part}
 use Rattle.flow_path.specs.declared.step.Step.{Step}
 use Rattle.flow_path.specs.declared.cost.Cost.{Cost}
 use Rattle.flow_path.specs.declared.target.Target.{Target}
@@ -31,17 +29,17 @@ use Rattle.flow_path.specs.declared.sides.Found.{Found}
 use Rattle.flow_path.specs.declared.sides.Sides.{Sides}
 use Rattle.flow_path.specs.Steps.{written, all_of, conditions_of, steps_of, steps_at}
 use Rattle.flow_path.specs.Chains.{Leads, holding, broken_number}
-use Rattle.flow_path.specs.Costs.{nothing_yet, add}
+use Rattle.flow_path.specs.Costs.{nothing_yet}
 use Rattle.flow_path.specs.Targets.{is_high}
 use Rattle.flow_path.specs.Search.{Where, Goes, MayEnd, BeginsAt, IsKnown}
-use Rattle.flow_path.specs.Distances.{IsFirst, HaveNone, cost_by, cost_to, and_then, PartCosts, SideCosts, GoalCosts, IsFound, IsFoundIn, IsFoundFirst, AreSettled}
+use Rattle.flow_path.specs.Distances.{IsFirst, cost_by, cost_to, PartCosts, GoalCosts, IsFound, IsFoundIn, IsFoundFirst, AreSettled}
 use Rattle.flow_path.proofs.Base.{at, each_at, each_all, in_all, all_append, Pairs}
 use Rattle.flow_path.proofs.Low.{IsBy, AreBy, by}
 use Rattle.flow_path.proofs.Proper.{IsProper}
 use Rattle.flow_path.proofs.Found.{proper}
 use Rattle.flow_path.proofs.Rise.{Reached, leads_on}
 use Rattle.flow_path.proofs.Sound.{written_at}
-use Rattle.flow_path.proofs.Complete.{KnownStep, known_refused, came}
+use Rattle.flow_path.proofs.Complete.{KnownStep, came}
 use Rattle.flow_path.proofs.Settling.{first_in, step_from, found_first}
 use Rattle.flow_path.proofs.Picking.{before, begins_at}
 

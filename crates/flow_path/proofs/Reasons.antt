@@ -1,6 +1,6 @@
 -- Reasons for a refusal are the chains that a search goes.
 use Rattle.std.proofs.Common.{◌≡◌, ℕ, refl, sym, ap, ◌∙◌, subst, List, [], ◌∷◌, ◌++◌}
-use Rattle.std.specs.Prelude.{Bool, true, false, not, None, Some}
+use Rattle.std.specs.Prelude.{Bool, true, false, not, Some}
 use Rattle.std.proofs.lemmas.Bool.{both_ways}
 use Rattle.std.proofs.lemmas.Option.{none-some, same_Some}
 use Rattle.text_base.specs.declared.pos.Pos.{Pos}

@@ -1,7 +1,7 @@
 -- What commands add to the time. Where nothing of it is cheaper than what is there, the walk ends where it starts, and so do the
 -- walks of its parts: so it is in the body of a loop that is walked from the loop's end.
-use Rattle.std.proofs.Common.{◌≡◌, refl, ap, ◌∙◌, subst, sym, List, [], ◌∷◌, ◌++◌, append_assoc, append-nil, arith, ⊎_elim, inl, inr}
-use Rattle.std.specs.Prelude.{ℕ, Bool, true, false, Option, None, Some, Contains, ◌⊎◌, ◌<◌}
+use Rattle.std.proofs.Common.{◌≡◌, refl, ap, ◌∙◌, subst, sym, List, [], ◌++◌, append_assoc, append-nil, arith, ⊎_elim, inl, inr}
+use Rattle.std.specs.Prelude.{ℕ, Bool, true, false, Option, None, Some, Contains, ◌⊎◌}
 use Rattle.std.proofs.lemmas.List.Elements.{Contains-append_right, Contains-append_cases}
 use Rattle.std.proofs.lemmas.Bool.{both_ways}
 use Rattle.mit_syntax.specs.Expression.{Expression}
@@ -15,8 +15,7 @@ use Rattle.flow_path.specs.declared.cost.Cost.{Cost}
 use Rattle.flow_path.specs.declared.target.Target.{Target}
 use Rattle.flow_path.specs.declared.best.Best.{Best}
 use Rattle.flow_path.specs.Steps.{one, reads, read_label, after, after_set, after_put, ends}
-use Rattle.flow_path.specs.Costs.{IsLe}
-use Rattle.flow_path.specs.Distances.{IsFirst, HaveNone, PartCosts, IsBest, IsNoDearer, AreNoCheaperThan}
+use Rattle.flow_path.specs.Distances.{PartCosts, IsBest, AreNoCheaperThan}
 use Rattle.flow_path.proofs.Base.{contains_left}
 use Rattle.flow_path.proofs.Costing.{le_trans}
 use Rattle.flow_path.proofs.Settling.{first_in}

@@ -1,4 +1,4 @@
-use Rattle.std.proofs.Common.{refl, [], ◌++◌}
+use Rattle.std.proofs.Common.{refl}
 use Rattle.mit_syntax.specs.Plan.{list_plan}
 use Rattle.flow_path.specs.Steps.{ends}
 use Rattle.flow_path.proofs.Staying.{keeps, end_time}
