@@ -217,7 +217,8 @@ module _ (s : Syntax) (ds : List (Option Cost)) (bs : List (List Step)) (b : Lis
       (first_left Step (GoalCosts s (From spot label) ds) (all_of bs) b f.step f.cost h (λ y d i w. absurd (n y d i w)))
 
 -- where none is found no step has a cost, and one that is found has its own
-pub goal_none : (s : Syntax) (t : Target) (ds : List (Option Cost)) (bs : List (List Step)) → IsGoalFound s t ds bs None → HaveNone (GoalCosts s t ds) (all_of bs)
+pub goal_none : (s : Syntax) (t : Target) (ds : List (Option Cost)) (bs : List (List Step)) → IsGoalFound s t ds bs None
+    → HaveNone (GoalCosts s t ds) (all_of bs)
 goal_none s (Broken rule pos allowed) ds bs h = h
 goal_none s (From spot label) ds bs h = h
 

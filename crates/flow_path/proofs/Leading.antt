@@ -212,7 +212,8 @@ module _ (p : LabelledProgram) (rule : Rule) (pos : Pos) (allowed : Label) where
               (λ (m : n ≤ length h.before). ⊎_elim
               (λ (l : n < length h.before).
               absurd (h.none k.step k_costs.0
-              (in_all h.before n k.step (subst (λ z. Contains z k.step) (ap (λ z. slice_index_or z n []) h.is ∙ in_front h.before (h.block ∷ h.after) n l) k.there))
+              (in_all h.before n k.step
+              (subst (λ z. Contains z k.step) (ap (λ z. slice_index_or z n []) h.is ∙ in_front h.before (h.block ∷ h.after) n l) k.there))
               ((k.rule, k.pos, k.side), k_costs.1)))
               (λ (l : length h.before ≤ n). omega (arith, l, m)) (cases_lt n (length h.before)))
               (cases_lt (length h.before) n)

@@ -346,7 +346,8 @@ pub goal_is : (x : Where) → IsValid x.program → (v : Sides) → AreSettled x
 goal_is x valid v A k e = go k.chain k.goes k.begins
   where
     none : HaveNone (GoalCosts x.program x.target A.costs) (steps_of x.program)
-    none = goal_none x.program x.target A.costs (conditions_of x.program) (subst (λ z. IsGoalFound x.program x.target A.costs (conditions_of x.program) z) e A.sides.goal)
+    none = goal_none x.program x.target A.costs (conditions_of x.program)
+        (subst (λ z. IsGoalFound x.program x.target A.costs (conditions_of x.program) z) e A.sides.goal)
 
     G : IsFound (GoalCosts x.program x.target A.costs) (steps_of x.program) v.goal
     G = subst (λ z. IsFound (GoalCosts x.program x.target A.costs) (steps_of x.program) z) (sym e) none

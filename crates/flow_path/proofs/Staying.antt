@@ -217,7 +217,8 @@ module _ (s : Syntax) (t : Target) (ds : List (Option Cost)) where
   TimeOf b added stays = ((T : List Part) × IsBest s t ds T b) × (stays ≡ true → AreNoCheaperThan s t ds b added)
 
   -- the same of commands that add no more, from where some were walked
-  time_on : (b r : Option Best) (added more : List Part) (stays : Bool) → ((T : List Part) → IsBest s t ds T b → (T' : List Part) × In T T' × IsBest s t ds T' r)
+  time_on : (b r : Option Best) (added more : List Part) (stays : Bool)
+      → ((T : List Part) → IsBest s t ds T b → (T' : List Part) × In T T' × IsBest s t ds T' r)
       → In more added → TimeOf b added stays → TimeOf r more stays
   time_on b r added more stays f i h =
       let q = f h.0.0 h.0.1 in
@@ -246,7 +247,8 @@ module _ (s : Syntax) (t : Target) (ds : List (Option Cost)) where
       time_on b r (ends (While w e x rest) []) (ends x []) stays (starts_on b r w e m) (body_adds w e x rest) (subst (λ z. TimeOf b (ends z []) stays) is h)
 
   -- in the body of a mitigate nothing is known but that there is a time
-  pub free_time : (b r : Option Best) (stays : Bool) (w : Written) (e : Expression) (added more : List Part) → Starts b r w e → TimeOf b added stays → TimeOf r more false
+  pub free_time : (b r : Option Best) (stays : Bool) (w : Written) (e : Expression) (added more : List Part) → Starts b r w e → TimeOf b added stays
+      → TimeOf r more false
   free_time b r stays w e added more m h = ((after h.0.0 w e, m h.0.0 h.0.1), λ e. absurd (both_ways false refl e))
 
   own_least : (T : List Part) (b : Option Best) → IsBest s t ds T b → AreNoCheaperThan s t ds b T

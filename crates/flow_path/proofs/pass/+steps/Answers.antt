@@ -114,7 +114,8 @@ command_pass-returns-in-Mitigate-clause-passes t c =
     c.list_pass-last.new.sides c.add-in-Mitigate.new.self
     c.args.pc c.args.t c.here-own-in-Mitigate.result c.after-start-in-Mitigate.result c.list_pass-last.result c.in-Mitigate.mark c.in-Mitigate.level
     (command_plan c.args.c.now rest) (list_plan c.deref-in-Mitigate.result.now) rest w (expression_of c.in-Mitigate.estimate) q
-    c.here-own-in-Mitigate.ensures (c.add_label-in-Mitigate.ensures r.known.now.variables.items) c.after-start-in-Mitigate.ensures c.list_pass-last.ensures.passes
+    c.here-own-in-Mitigate.ensures (c.add_label-in-Mitigate.ensures r.known.now.variables.items) c.after-start-in-Mitigate.ensures
+    c.list_pass-last.ensures.passes
     (c.add-in-Mitigate.ensures r.known.now.variables.items)
 
 pub list_pass-loop-c-init : goal.list_pass-loop-c-init
@@ -309,7 +310,8 @@ command_pass-returns-in-If-clause-comes t c =
     comes_if r.program.now r.target.now r.known.now.variables.items c.args.t c.after-start.result c.list_pass-one.result c.list_pass-other.result
     c.better.result (command_plan c.args.c.now rest) (list_plan c.deref.result.now) (list_plan c.deref-in-If.result.now) rest w
     (expression_of c.in-If.guard)
-    q c.after-start.ensures c.list_pass-one.ensures.comes c.list_pass-other.ensures.comes (c.better.ensures r.program.now r.target.now r.known.now.variables.items)
+    q c.after-start.ensures c.list_pass-one.ensures.comes c.list_pass-other.ensures.comes
+    (c.better.ensures r.program.now r.target.now r.known.now.variables.items)
 
 pub command_pass-returns-in-While-clause-comes : goal.command_pass-returns-in-While-clause-comes
 command_pass-returns-in-While-clause-comes t c =
