@@ -2,7 +2,8 @@
 
 It is written from the definitions alone: crates/flow_path/specs says what the steps of a program are and which chains
 are reasons, and crates/flow_print/specs how a chain is told. A chain is a list of steps (rule, place, how, part's place,
-part, right side). A part and a right side are spots: ("variable", name), ("label", number) or ("level", mark, number).
+part, right side, number of the condition in the walk). A part and a right side are spots: ("variable", name),
+("label", number) or ("level", mark, number).
 """
 NOUNS = {"skip", "if", "while", "mitigate", "sleep"}
 BOUNDS = {"reads": "from it", "reads in index": "with it", "has read label": "with it", "under guard": "under it"}
@@ -20,7 +21,7 @@ class Steps:
     """The steps of a program: those of a command's conditions, then those of its parts, then those of what follows."""
 
     def __init__(self, program, rules):
-        self.program, self.rules, self.found = program, rules, []
+        self.program, self.rules, self.found, self.conditions = program, rules, [], 0
         self.walk(program.body, [], [])
         self.found = list(dict.fromkeys(self.found))
 
@@ -68,7 +69,8 @@ class Steps:
         return self.ends(command["parts"][0], after) if command["form"] == "while" else after
 
     def to(self, command, side, parts):
-        self.found += [(self.rules[command["form"]], command["place"], *part, side) for part in parts]
+        self.found += [(self.rules[command["form"]], command["place"], *part, side, self.conditions) for part in parts]
+        self.conditions += 1
 
     def walk(self, commands, guards, time):
         for command in commands:
@@ -79,8 +81,8 @@ class Steps:
                 reads = self.reads("reads", command, command["value"]) + indices
                 label = self.read_label("has read label", command)
                 self.to(command, ("variable", command["name"][1]), reads + guards + label + time)
-            if command["marks"]:
-                self.to(command, ("label", command["marks"][-1]), guards + own)
+            # Without marks the condition on the write label holds anyway.
+            self.to(command, ("label", command["marks"] and command["marks"][-1]), guards + own if command["marks"] else [])
             inner, end = guards, self.end(command, after)
             if form in ("if", "while"):
                 inner = guards + self.reads("under guard", command, command["value"])
@@ -191,13 +193,13 @@ class Lines:
             pairs = zip(self.found, self.found[1:])
             at = next(t[2] for before, t in pairs if before[:2] == ("key", "var") and t[:2] == ("name", spot[1]))
             text = self.line(at, f"{spot[1]} is declared {label}")
-        for _, place, how, part_place, part, side in chain:
+        for _, place, how, part_place, part, side, _ in chain:
             text += self.part(how, part_place, part, label) + self.side(how, place, side, label)
         return text
 
 
-def refusal(program, found, rules, rule, place, allowed):
-    """The text of the chain that is told of a broken condition."""
+def refusal(program, found, rules, number, allowed):
+    """The text of the chain that is told of the broken condition with this number in the walk."""
     steps, flows = Steps(program, rules).found, program.lattice.flows
 
     def is_first(step):
@@ -205,7 +207,7 @@ def refusal(program, found, rules, rule, place, allowed):
         return label is not None and not flows[label][allowed]
 
     def is_last(step):
-        return step[:2] == (rule, place) and written(program, step[5]) == allowed
+        return step[6] == number
 
     return Lines(program, found).chain(told(program, steps, is_first, is_last))
 

@@ -5,6 +5,7 @@ use Rattle.std.proofs.lemmas.Bool.{cases_lt}
 use Rattle.std.proofs.lemmas.Option.{same_Some}
 use Rattle.mit_syntax.specs.Program.{Syntax}
 use Rattle.timing_types.specs.declared.rule.TypeFault.{TypeFault}
+use Rattle.timing_types.specs.Labelled.{LabelledProgram}
 use Rattle.flow_path.specs.declared.step.Step.{Step}
 use Rattle.flow_path.specs.Steps.{steps_of}
 use Rattle.flow_path.specs.Chains.{IsReason, CostsNoMore}
@@ -95,8 +96,8 @@ module _ (s : Syntax) (R : List Step → Type 0) where
         end (z ∷ zs) = ap (λ w. z ∷ w) (end zs)
 
 -- two chains that are told of a refusal are the same
-pub told_one : (s : Syntax) (fault : TypeFault) (xs ys : List Step) → IsTold s fault xs → IsTold s fault ys → xs ≡ ys
-told_one s fault xs ys a b = chosen_one s (IsReason s fault) xs ys (chosen xs a) (chosen ys b)
+pub told_one : (p : LabelledProgram) (fault : TypeFault) (xs ys : List Step) → IsTold p fault xs → IsTold p fault ys → xs ≡ ys
+told_one p fault xs ys a b = chosen_one p.program (IsReason p fault) xs ys (chosen xs a) (chosen ys b)
   where
-    chosen : (zs : List Step) → IsTold s fault zs → Chosen s (IsReason s fault) zs
+    chosen : (zs : List Step) → IsTold p fault zs → Chosen p.program (IsReason p fault) zs
     chosen zs h = record { kind = h.reason; cheapest = h.cheapest; earliest = h.earliest }

@@ -10,17 +10,21 @@ use Rattle.flow_path.specs.declared.step.Part.{Part}
 use Rattle.flow_path.specs.declared.step.Step.{Step}
 use Rattle.flow_path.specs.declared.step.Spot.{Spot}
 use Rattle.text_base.specs.declared.pos.Pos.{Pos}
+use Rattle.label_lattice.specs.declared.label.Label.{Label}
 use Rattle.timing_types.specs.declared.rule.Rule.{Rule}
 use Rattle.mit_syntax.specs.Program.{Syntax}
 use Rattle.flow_path.specs.declared.step.Spot.TheVariants.{Variable, Command, Level}
 use Rattle.flow_path.specs.declared.cost.Cost.{Cost}
 use Rattle.flow_path.specs.declared.target.Target.{Target}
+use Rattle.flow_path.specs.declared.target.Target.TheVariants.{Broken, From}
 use Rattle.flow_path.specs.declared.best.Best.{Best}
 use Rattle.flow_path.specs.declared.sides.Found.{Found}
 use Rattle.flow_path.specs.declared.sides.Sides.{Sides}
-use Rattle.flow_path.specs.Steps.{to}
+use Rattle.flow_path.specs.Steps.{to, all_of}
 use Rattle.flow_path.specs.Costs.{IsLe, IsLess}
-use Rattle.flow_path.specs.Distances.{IsFirst, HaveNone, cost_to, and_then, PartCosts, SideCosts, GoalCosts, IsBest, best_by, IsFound, AreSides}
+use Rattle.flow_path.specs.Distances.{IsFirst, HaveNone, cost_to, and_then, PartCosts, SideCosts, GoalCosts, IsBest, best_by, IsFound}
+use Rattle.flow_path.specs.Distances.{IsFoundIn, IsFoundFirst, IsGoalFound, AreSides}
+use Rattle.flow_path.proofs.Base.{all_append}
 use Rattle.flow_path.proofs.Costing.{le_refl, le_trans, less_le, less_then}
 
 number_of : Spot → ℕ
@@ -173,16 +177,105 @@ then_skips W r q side ss ps o h k = go o k
     go None k = none_append Step W ss (map (step_at r q side) ps) k none
     go (Some f) k = first_left Step W ss (map (step_at r q side) ps) f.step f.cost k (λ y d i w. absurd (none y d i w))
 
+-- with one more condition
+pub more_of : (bs : List (List Step)) (b : List Step) → all_of (bs ++ (b ∷ [])) ≡ all_of bs ++ b
+more_of bs b = all_append bs (b ∷ []) ∙ ap (λ z. all_of bs ++ z) (append-nil b)
+
+pub more_found : (W : Step → Cost → Type 0) (bs : List (List Step)) (b : List Step) (o : Option Found) → IsFound W (all_of bs ++ b) o
+    → IsFound W (all_of (bs ++ (b ∷ []))) o
+more_found W bs b o h = subst (λ z. IsFound W z o) (sym (more_of bs b)) h
+
+-- those to where a chain is to end
+module _ (s : Syntax) (ds : List (Option Cost)) (bs : List (List Step)) (b : List Step) where
+  -- one was found
+  pub keeps_first : (t : Target) (f : Found) → IsFoundIn s t ds bs f → IsFoundIn s t ds (bs ++ (b ∷ [])) f
+  keeps_first t f h = record {
+    before = h.before;
+    block = h.block;
+    after = h.after ++ (b ∷ []);
+    is = ap (λ z. z ++ (b ∷ [])) h.is ∙ append_assoc h.before (h.block ∷ h.after) (b ∷ []);
+    none = h.none;
+    first = h.first;
+  }
+
+  -- a chain may not end by it
+  skips_first : (t : Target) (o : Option Found) → HaveNone (GoalCosts s t ds) b → IsFoundFirst s t ds bs o → IsFoundFirst s t ds (bs ++ (b ∷ [])) o
+  skips_first t None n h = subst (λ z. HaveNone (GoalCosts s t ds) z) (sym (more_of bs b)) (none_append Step (GoalCosts s t ds) (all_of bs) b h n)
+  skips_first t (Some f) n h = keeps_first t f h
+
+  -- none was found, and by this condition one is
+  pub takes_first : (t : Target) (o : Option Found) → HaveNone (GoalCosts s t ds) (all_of bs) → IsFound (GoalCosts s t ds) b o
+      → IsFoundFirst s t ds (bs ++ (b ∷ [])) o
+  takes_first t None n h = subst (λ z. HaveNone (GoalCosts s t ds) z) (sym (more_of bs b)) (none_append Step (GoalCosts s t ds) (all_of bs) b n h)
+  takes_first t (Some f) n h = record { before = bs; block = b; after = []; is = refl; none = n; first = h }
+
+  pub goal_skips : (t : Target) (o : Option Found) → HaveNone (GoalCosts s t ds) b → IsGoalFound s t ds bs o → IsGoalFound s t ds (bs ++ (b ∷ [])) o
+  goal_skips (Broken rule pos allowed) o n h = skips_first (Broken rule pos allowed) o n h
+  goal_skips (From spot label) None n h = more_found (GoalCosts s (From spot label) ds) bs b None
+      (none_append Step (GoalCosts s (From spot label) ds) (all_of bs) b h n)
+  goal_skips (From spot label) (Some f) n h = more_found (GoalCosts s (From spot label) ds) bs b (Some f)
+      (first_left Step (GoalCosts s (From spot label) ds) (all_of bs) b f.step f.cost h (λ y d i w. absurd (n y d i w)))
+
+-- where none is found no step has a cost, and one that is found has its own
+pub goal_none : (s : Syntax) (t : Target) (ds : List (Option Cost)) (bs : List (List Step)) → IsGoalFound s t ds bs None
+    → HaveNone (GoalCosts s t ds) (all_of bs)
+goal_none s (Broken rule pos allowed) ds bs h = h
+goal_none s (From spot label) ds bs h = h
+
+pub goal_has : (s : Syntax) (t : Target) (ds : List (Option Cost)) (bs : List (List Step)) (f : Found) → IsGoalFound s t ds bs (Some f)
+    → GoalCosts s t ds f.step f.cost
+goal_has s (Broken rule pos allowed) ds bs f h = h.first.has
+goal_has s (From spot label) ds bs f h = h.has
+
+goal_begins : (s : Syntax) (t : Target) (ds : List (Option Cost)) → IsGoalFound s t ds [] None
+goal_begins s (Broken rule pos allowed) ds = λ y d c w. let q = c.1 in omega (arith, q)
+goal_begins s (From spot label) ds = λ y d c w. let q = c.1 in omega (arith, q)
+
+-- in a list of no items none has a cost
+pub none_in : (A : Type 0) (V : A → Cost → Type 0) → HaveNone V []
+none_in A V y d c w = let q = c.1 in omega (arith, q)
+
+-- the same of a target that is one of the two
+module _ (s : Syntax) (t : Target) where
+  pub there_keeps : (r : Rule) (q : Pos) (a : Label) → t ≡ Broken r q a → (ds : List (Option Cost)) (bs : List (List Step)) (b : List Step) (f : Found)
+      → IsGoalFound s t ds bs (Some f) → IsGoalFound s t ds (bs ++ (b ∷ [])) (Some f)
+  there_keeps r q a is ds bs b f h =
+      subst (λ z. IsGoalFound s z ds (bs ++ (b ∷ [])) (Some f)) (sym is)
+      (keeps_first s ds bs b (Broken r q a) f (subst (λ z. IsGoalFound s z ds bs (Some f)) is h))
+
+  pub there_takes : (r : Rule) (q : Pos) (a : Label) → t ≡ Broken r q a → (ds : List (Option Cost)) (bs : List (List Step)) (b : List Step) (o : Option Found)
+      → IsGoalFound s t ds bs None → IsFound (GoalCosts s t ds) b o → IsGoalFound s t ds (bs ++ (b ∷ [])) o
+  there_takes r q a is ds bs b o h k =
+      subst (λ z. IsGoalFound s z ds (bs ++ (b ∷ [])) o) (sym is)
+      (takes_first s ds bs b (Broken r q a) o (subst (λ z. IsGoalFound s z ds bs None) is h) (subst (λ z. IsFound (GoalCosts s z ds) b o) is k))
+
+  pub there_goes : (p : Spot) (l : Label) → t ≡ From p l → (ds : List (Option Cost)) (bs : List (List Step)) (b : List Step) (o r : Option Found)
+      → IsGoalFound s t ds bs o → (IsFound (GoalCosts s t ds) (all_of bs) o → IsFound (GoalCosts s t ds) (all_of bs ++ b) r)
+      → IsGoalFound s t ds (bs ++ (b ∷ [])) r
+  there_goes p l is ds bs b o r h k =
+      subst (λ z. IsGoalFound s z ds (bs ++ (b ∷ [])) r) (sym is)
+      (more_found (GoalCosts s (From p l) ds) bs b r (subst (λ z. IsFound (GoalCosts s z ds) (all_of bs ++ b) r) is
+      (k (subst (λ z. IsFound (GoalCosts s z ds) (all_of bs) o) (sym is) (subst (λ z. IsGoalFound s z ds bs o) is h)))))
+
+pub no_steps_by : (W : Step → Cost → Type 0) (r : Rule) (q : Pos) (side : Spot) (ps : List Part) → ((p : Part) (d : Cost) → W (step_at r q side p) d → ⊥)
+    → HaveNone W (to r q side ps)
+no_steps_by W r q side ps h y d i w = let n = contains_map (step_at r q side) ps y i in h n.0 d (subst (λ z. W z d) (sym n.2) w)
+
 -- the steps by one more condition
-module _ (s : Syntax) (t : Target) (ds : List (Option Cost)) (ss : List Step) (ps : List Part) (r : Rule) (q : Pos) (side : Spot) (v : Sides)
-    (S : AreSides s t ds ss v) (w : Sides) (goal : IsFound (GoalCosts s t ds) (ss ++ to r q side ps) w.goal) where
-  pub add_side : (y : ℕ) → side ≡ Variable y → y < length v.variables.items → (o : Option Found) → IsFound (SideCosts s t ds y) (ss ++ to r q side ps) o
+module _ (s : Syntax) (t : Target) (ds : List (Option Cost)) (bs : List (List Step)) (ps : List Part) (r : Rule) (q : Pos) (side : Spot) (v : Sides)
+    (S : AreSides s t ds bs v) (w : Sides) (goal : IsGoalFound s t ds (bs ++ (to r q side ps ∷ [])) w.goal) where
+  abbrev ss : List Step
+  ss = all_of bs
+
+  pub add_side : (y : ℕ) → side ≡ Variable y → y < length v.variables.items → (o : Option Found)
+      → IsFound (SideCosts s t ds y) (all_of bs ++ to r q side ps) o
       → w.variables.items ≡ slice_set v.variables.items y o → w.goal ≡ w.goal →
-      AreSides s t ds (ss ++ to r q side ps) w
+      AreSides s t ds (bs ++ (to r q side ps ∷ [])) w
   add_side y at l o found is _ = record {
     fit = ap length is ∙ length-set v.variables.items y o ∙ S.fit;
     goal = goal;
-    each = λ z i. subst (λ u. IsFound (SideCosts s t ds z) (ss ++ to r q side ps) (slice_index_or u z None)) (sym is)
+    each = λ z i. more_found (SideCosts s t ds z) bs (to r q side ps) (slice_index_or w.variables.items z None)
+        (subst (λ u. IsFound (SideCosts s t ds z) (ss ++ to r q side ps) (slice_index_or u z None)) (sym is)
         (⊎_elim
         (λ (e : z ≡ y).
         subst (λ u. IsFound (SideCosts s t ds u) (ss ++ to r q side ps) (slice_index_or (slice_set v.variables.items y o) u None)) (sym e)
@@ -190,17 +283,18 @@ module _ (s : Syntax) (t : Target) (ds : List (Option Cost)) (ss : List Step) (p
         (λ (e : z ≡ y → ⊥).
         subst (λ u. IsFound (SideCosts s t ds z) (ss ++ to r q side ps) u) (sym (get_or-set_other v.variables.items y z o None e))
         (then_skips (SideCosts s t ds z) r q side ss ps (slice_index_or v.variables.items z None) (λ p d x. e (same_variable z y (sym x.0 ∙ at))) (S.each z i)))
-        (cases_eq z y));
+        (cases_eq z y)));
   }
 
   pub skip_side : ((y : ℕ) → y < length v.variables.items → side ≡ Variable y → ⊥) → w.variables.items ≡ v.variables.items → w.goal ≡ w.goal
-      → AreSides s t ds (ss ++ to r q side ps) w
+      → AreSides s t ds (bs ++ (to r q side ps ∷ [])) w
   skip_side none is _ = record {
     fit = ap length is ∙ S.fit;
     goal = goal;
-    each = λ z i. subst (λ u. IsFound (SideCosts s t ds z) (ss ++ to r q side ps) (slice_index_or u z None)) (sym is)
+    each = λ z i. more_found (SideCosts s t ds z) bs (to r q side ps) (slice_index_or w.variables.items z None)
+        (subst (λ u. IsFound (SideCosts s t ds z) (ss ++ to r q side ps) (slice_index_or u z None)) (sym is)
         (then_skips (SideCosts s t ds z) r q side ss ps (slice_index_or v.variables.items z None)
-        (λ p d x. none z (let f = S.fit in omega (arith, i, f)) x.0) (S.each z i));
+        (λ p d x. none z (let f = S.fit in omega (arith, i, f)) x.0) (S.each z i)));
   }
 
 abbrev no_found : Option Found
@@ -216,11 +310,19 @@ pub sides_begin : (s : Syntax) (t : Target) (ds : List (Option Cost)) (n : ℕ) 
     → v.variables.items ≡ replicate n None → AreSides s t ds [] v
 sides_begin s t ds n v e goal is = record {
   fit = ap length is ∙ length-replicate n None ∙ sym e;
-  goal = subst (λ z. IsFound (GoalCosts s t ds) [] z) (sym goal) (λ y d c w. let q = c.1 in omega (arith, q));
+  goal = subst (λ z. IsGoalFound s t ds [] z) (sym goal) (goal_begins s t ds);
   each = λ y i. subst (λ z. IsFound (SideCosts s t ds y) [] (slice_index_or z y None)) (sym is)
       (subst (λ z. IsFound (SideCosts s t ds y) [] z) (sym (none_at n y)) (λ u d c w. let q = c.1 in omega (arith, q)));
 }
 
--- where a write label is written, the condition on it was added
-pub label_added : (s : Syntax) (t : Target) (ds : List (Option Cost)) (ss : List Step) (v : Sides) → AreSides s t ds ss v → AreSides s t ds (ss ++ []) v
-label_added s t ds ss v h = subst (λ z. AreSides s t ds z v) (sym (append-nil ss)) h
+-- where no write label is written, there are no steps by the condition on it
+pub label_added : (s : Syntax) (t : Target) (ds : List (Option Cost)) (bs : List (List Step)) (v : Sides) → AreSides s t ds bs v
+    → AreSides s t ds (bs ++ ([] ∷ [])) v
+label_added s t ds bs v h =
+    let none : HaveNone (GoalCosts s t ds) [] = λ y d c w. let q = c.1 in absurd (omega (arith, q)) in
+    record {
+      fit = h.fit;
+      goal = goal_skips s ds bs [] t v.goal none h.goal;
+      each = λ y l. more_found (SideCosts s t ds y) bs [] (slice_index_or v.variables.items y None)
+          (subst (λ z. IsFound (SideCosts s t ds y) z (slice_index_or v.variables.items y None)) (sym (append-nil (all_of bs))) (h.each y l));
+    }

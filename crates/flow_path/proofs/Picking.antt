@@ -13,12 +13,12 @@ use Rattle.flow_path.specs.declared.cost.Cost.{Cost}
 use Rattle.flow_path.specs.declared.target.Target.{Target}
 use Rattle.flow_path.specs.declared.sides.Found.{Found}
 use Rattle.flow_path.specs.declared.sides.Sides.{Sides}
-use Rattle.flow_path.specs.Steps.{written, steps_of}
+use Rattle.flow_path.specs.Steps.{written, conditions_of, steps_of}
 use Rattle.flow_path.specs.Costs.{nothing_yet, add, cost_of, plus, IsLe}
-use Rattle.flow_path.specs.Targets.{IsGoalBy, is_high}
+use Rattle.flow_path.specs.Targets.{is_high}
 use Rattle.flow_path.specs.Told.{StandsFirst}
-use Rattle.flow_path.specs.Search.{Where, Goes, BeginsAt, IsKnown}
-use Rattle.flow_path.specs.Distances.{IsFirst, cost_by, cost_to, and_then, PartCosts, SideCosts, GoalCosts, IsFound}
+use Rattle.flow_path.specs.Search.{Where, GoesTo, MayEnd, BeginsAt, IsKnown}
+use Rattle.flow_path.specs.Distances.{IsFirst, cost_by, cost_to, and_then, PartCosts, SideCosts, GoalCosts, HaveNone, IsFound, IsGoalFound}
 use Rattle.flow_path.specs.Distances.{AreSettled, IsPicked, StartsWritten}
 use Rattle.flow_path.proofs.Base.{each_at}
 use Rattle.flow_path.proofs.Proper.{Own, IsOwn}
@@ -26,6 +26,7 @@ use Rattle.flow_path.proofs.Found.{own}
 use Rattle.flow_path.proofs.Writings.{omitted_within}
 use Rattle.flow_path.proofs.Costing.{le_is, le_trans, plus_le, plus_back, not_less, cost_is, faint_append}
 use Rattle.flow_path.proofs.Lists.{append_one}
+use Rattle.flow_path.proofs.Firsts.{goal_none, goal_has}
 use Rattle.flow_path.proofs.Settling.{first_in, step_from, found_first, found_some}
 
 plus_cons : (c : Cost) (x : Step) (xs : List Step) → plus (add c x.part.how) (cost_of xs) ≡ plus c (cost_of (x ∷ xs))
@@ -80,7 +81,7 @@ module _ (s : Syntax) (t : Target) (v : Sides) (A : AreSettled s t v) where
   found_costs n f h = (found_first s t A.costs v A.sides n f h).has.1
 
   pub goal_costs : (f : Found) → v.goal ≡ Some f → PartCosts s t A.costs f.step.part f.cost
-  goal_costs f e = (subst (λ z. IsFound (GoalCosts s t A.costs) (steps_of s) z) e A.sides.goal).has.1
+  goal_costs f e = (goal_has s t A.costs (conditions_of s) f (subst (λ z. IsGoalFound s t A.costs (conditions_of s) z) e A.sides.goal)).1
 
   pub begins_written : (st : Step) (c : Cost) → PartCosts s t A.costs st.part c
       → ((n : ℕ) → st.part.spot ≡ Variable n → written s (Variable n) ≡ None → slice_index_or v.variables.items n None ≡ None)
@@ -109,11 +110,8 @@ pub picked_more : (s : Syntax) (v : Sides) (chain rest : List Step) (now f : Fou
 picked_more s v chain rest now f n is spot none at p =
     subst (λ z. IsPicked s v (f.step ∷ z)) (sym is) (n, f, spot, none, at, refl, subst (λ z. IsPicked s v z) is p)
 
-module _ (x : Where) (valid : IsValid x.program) (v : Sides) (A : AreSettled x.program x.target v) where
-  there : (t : Step) (ss : List Step) → Goes x (t ∷ ss) → Contains (steps_of x.program) t
-  there t [] g = g.0
-  there t (u ∷ ss) g = g.0
-
+-- chains whose last step is of a kind K
+module _ (x : Where) (valid : IsValid x.program) (v : Sides) (A : AreSettled x.program x.target v) (K : Step → Type 0) where
   -- an omitted variable is one of the program
   within : (y : ℕ) → written x.program (Variable y) ≡ None → y < length A.costs
   within y w = let h = omitted_within x.program y w in let f = A.fit in omega (arith, h, f)
@@ -131,7 +129,14 @@ module _ (x : Where) (valid : IsValid x.program) (v : Sides) (A : AreSettled x.p
   costs_same : (st : Step) (c d : Cost) → PartCosts x.program x.target A.costs st.part c → PartCosts x.program x.target A.costs st.part d → c ≡ d
   costs_same st c d e f = same_Some c d (sym e ∙ f)
 
-  next : (st t : Step) (ss : List Step) (c : Cost) → Goes x (st ∷ (t ∷ ss)) → cost_to x.program x.target A.costs st.part.spot ≡ Some c
+  abbrev Goes : List Step → Type 0
+  Goes = GoesTo x.program K
+
+  there : (t : Step) (ss : List Step) → Goes (t ∷ ss) → Contains (steps_of x.program) t
+  there t [] g = g.0
+  there t (u ∷ ss) g = g.0
+
+  next : (st t : Step) (ss : List Step) (c : Cost) → Goes (st ∷ (t ∷ ss)) → cost_to x.program x.target A.costs st.part.spot ≡ Some c
       → (d : Cost) × (cost_to x.program x.target A.costs t.part.spot ≡ Some d) × IsLe d (add c st.part.how)
   next st t ss c g e =
       let own_t = (each_at (IsOwn x.program.order.size (written_levels (plan_of x.program))) (steps_of x.program) t (own x.program valid) (there t ss g.3)).0 in
@@ -141,38 +146,17 @@ module _ (x : Where) (valid : IsValid x.program) (v : Sides) (A : AreSettled x.p
       let f = found_some x.program x.target A.costs v A.sides y.0 st (add c st.part.how) (within y.0 wy) g.0 (sym g.2 ∙ y.1, costs_is st c e) in
       (f.0.cost, to_variable t.part.spot y.0 f.0.cost y.1 wy (A.goes y.0 f.0 wy f.1), f.2)
 
-  goal_by : (st : Step) (d : Cost) → Contains (steps_of x.program) st → GoalCosts x.program x.target A.costs st d → (o : Option Found)
-      → IsFound (GoalCosts x.program x.target A.costs) (steps_of x.program) o → v.goal ≡ o →
-      (f : Found) × (v.goal ≡ Some f) × IsLe f.cost d
-  goal_by st d c h None i e = absurd (i st d c h)
-  goal_by st d c h (Some f) i e = (f, e, i.least st d c h)
-
-  -- no chain to where it is to end costs less than the step that was found
-  low : (st : Step) (ss : List Step) (c : Cost) → Goes x (st ∷ ss) → cost_to x.program x.target A.costs st.part.spot ≡ Some c → (f : Found) × (v.goal ≡ Some f)
-      × IsLe f.cost (plus c (cost_of (st ∷ ss)))
-  low st [] c g e =
-      let r = goal_by st (add c st.part.how) g.0 (g.1, costs_is st c e) v.goal A.sides.goal refl in
-      (r.0, r.1, subst (λ z. IsLe r.0.cost z) (plus_one c st) r.2)
-  low st (t ∷ ss) c g e =
-      let n = next st t ss c g e in
-      let r = low t ss n.0 g.3 n.1 in (
-        r.0,
-        r.1,
-        le_trans r.0.cost (plus n.0 (cost_of (t ∷ ss))) (plus c (cost_of (st ∷ (t ∷ ss)))) r.2
-            (subst (λ z. IsLe (plus n.0 (cost_of (t ∷ ss))) z) (plus_cons c st (t ∷ ss)) (plus_le n.0 (add c st.part.how) (cost_of (t ∷ ss)) n.2)),
-      )
-
-  record Before (y : Step) (zs : List Step) (c : Cost) : Type 0 where
+  pub record Before (y : Step) (zs : List Step) (c : Cost) : Type 0 where
     pub cost : Cost
     pub costs : PartCosts x.program x.target A.costs y.part cost
     pub low : IsLe cost c
-    pub goes : Goes x (y ∷ zs)
+    pub goes : Goes (y ∷ zs)
 
   more_before : (y : Step) (zs : List Step) (b c : Cost) → IsLe b c → Before y zs b → Before y zs c
   more_before y zs b c h r = record { cost = r.cost; costs = r.costs; low = le_trans r.cost b c r.low h; goes = r.goes }
 
   -- what a chain up to one of its steps costs
-  before : (xs : List Step) (y : Step) (zs : List Step) (c : Cost) → Goes x (xs ++ (y ∷ zs)) → cost_to x.program x.target A.costs (first_spot xs y) ≡ Some c
+  pub before : (xs : List Step) (y : Step) (zs : List Step) (c : Cost) → Goes (xs ++ (y ∷ zs)) → cost_to x.program x.target A.costs (first_spot xs y) ≡ Some c
       → Before y zs (plus c (cost_of (xs ++ y ∷ [])))
   before [] y zs c g e = record {
     cost = add c y.part.how;
@@ -192,149 +176,184 @@ module _ (x : Where) (valid : IsValid x.program) (v : Sides) (A : AreSettled x.p
       (subst (λ z. IsLe (plus n.0 (cost_of (u ∷ (us ++ y ∷ [])))) z) (plus_cons c st (u ∷ (us ++ y ∷ [])))
       (plus_le n.0 (add c st.part.how) (cost_of (u ∷ (us ++ y ∷ []))) n.2)) (before (u ∷ us) y zs n.0 g.3 n.1)
 
-  -- the chain that is picked
-  record Picked (st t : Step) (c : Cost) : Type 0 where
-    pub has : Contains (steps_of x.program) st
-    pub omitted : written x.program st.side ≡ None
-    pub spot : t.part.spot ≡ st.side
-    pub cost : cost_to x.program x.target A.costs t.part.spot ≡ Some c
-    pub costs : PartCosts x.program x.target A.costs st.part c
-
-  picked : (st t : Step) (ss : List Step) → IsPicked x.program v (st ∷ (t ∷ ss)) → (c : Cost) × Picked st t c
-  picked st t ss (n, f, spot, none, at, is, rest) =
-      let F = found_first x.program x.target A.costs v A.sides n f at in
-      let side : st.side ≡ Variable n = ap (λ (z : Step). z.side) (sym is) ∙ F.has.0 in (
-        f.cost,
-        record {
-          has = subst (λ z. Contains (steps_of x.program) z) is (first_in (steps_of x.program) F.before F.after f.step F.is);
-          omitted = ap (λ z. written x.program z) side ∙ none;
-          spot = spot ∙ sym side;
-          cost = to_variable t.part.spot n f.cost spot none (A.goes n f none at);
-          costs = subst (λ (z : Step). PartCosts x.program x.target A.costs z.part f.cost) is F.has.1;
-        },
-      )
-
-  goal_first : (f : Found) → v.goal ≡ Some f → IsFirst (GoalCosts x.program x.target A.costs) (steps_of x.program) f.step f.cost
-  goal_first f e = subst (λ z. IsFound (GoalCosts x.program x.target A.costs) (steps_of x.program) z) e A.sides.goal
-
-  picked_goes : (st : Step) (ss : List Step) → IsPicked x.program v (st ∷ ss) → Goes x (st ∷ ss)
-  picked_goes st [] (f, goal, is) =
-      let F = goal_first f goal in (
-        subst (λ z. Contains (steps_of x.program) z) is (first_in (steps_of x.program) F.before F.after f.step F.is),
-        subst (λ (z : Step). IsGoalBy x.program x.target z.rule z.pos z.side) is F.has.0,
-      )
-  picked_goes st (t ∷ ss) p = let r = picked st t ss p in (r.1.has, r.1.omitted, r.1.spot, picked_goes t ss p.6)
-
-  -- what the picked chain costs up to one of its steps
-  picked_cost : (xs : List Step) (y : Step) (zs : List Step) (c : Cost) → IsPicked x.program v (xs ++ (y ∷ zs))
-      → cost_to x.program x.target A.costs (first_spot xs y) ≡ Some c →
-      PartCosts x.program x.target A.costs y.part (plus c (cost_of (xs ++ y ∷ []))) × IsPicked x.program v (y ∷ zs)
-  picked_cost [] y zs c p e = (subst (λ z. PartCosts x.program x.target A.costs y.part z) (plus_one c y) (costs_is y c e), p)
-  picked_cost (st ∷ []) y zs c p e =
-      let r = picked st y zs p in
-      let same : r.0 ≡ add c st.part.how = costs_same st r.0 (add c st.part.how) r.1.costs (costs_is st c e) in
-      let q = picked_cost [] y zs (add c st.part.how) p.6 (r.1.cost ∙ ap Some same) in
-      (subst (λ z. PartCosts x.program x.target A.costs y.part z) (plus_cons c st (y ∷ [])) q.0, q.1)
-  picked_cost (st ∷ (u ∷ us)) y zs c p e =
-      let r = picked st u (us ++ (y ∷ zs)) p in
-      let same : r.0 ≡ add c st.part.how = costs_same st r.0 (add c st.part.how) r.1.costs (costs_is st c e) in
-      let q = picked_cost (u ∷ us) y zs (add c st.part.how) p.6 (r.1.cost ∙ ap Some same) in
-      (subst (λ z. PartCosts x.program x.target A.costs y.part z) (plus_cons c st (u ∷ (us ++ y ∷ []))) q.0, q.1)
-
-  -- and it is the first of those that are no dearer
-  stands : (V : Step → Cost → Type 0) (f : Found) (y z : Step) (d : Cost) → IsFirst V (steps_of x.program) f.step f.cost → f.step ≡ y → V z d → IsLe d f.cost
-      → StandsFirst (steps_of x.program) y z
-  stands V f y z d F is w l = record {
-    before = F.before;
-    after = F.after;
-    is = subst (λ u. steps_of x.program ≡ F.before ++ (u ∷ F.after)) is F.is;
-    none = λ c. not_less f.cost d (F.dearer z d c w) l;
-  }
-
-  first : (y : Step) (zs : List Step) (c : Cost) → IsPicked x.program v (y ∷ zs) → PartCosts x.program x.target A.costs y.part c → (z : Step) (d : Cost)
-      → Goes x (z ∷ zs) → PartCosts x.program x.target A.costs z.part d → IsLe d c → StandsFirst (steps_of x.program) y z
-  first y [] c (f, goal, is) e z d g w l =
-      let F = goal_first f goal in
-      let same : c ≡ f.cost = costs_same y c f.cost e (subst (λ (u : Step). PartCosts x.program x.target A.costs u.part f.cost) is F.has.1) in
-      stands (GoalCosts x.program x.target A.costs) f y z d F is (g.1, w) (subst (λ u. IsLe d u) same l)
-  first y (t ∷ ts) c (n, f, spot, none, at, is, rest) e z d g w l =
-      let F = found_first x.program x.target A.costs v A.sides n f at in
-      let same : c ≡ f.cost = costs_same y c f.cost e (subst (λ (u : Step). PartCosts x.program x.target A.costs u.part f.cost) is F.has.1) in
-      stands (SideCosts x.program x.target A.costs n) f y z d F is (sym g.2 ∙ spot, w) (subst (λ u. IsLe d u) same l)
-
   -- where a chain begins it costs nothing
-  begins_at : (xs : List Step) (y : Step) (zs : List Step) (a : ℕ) → BeginsAt x (xs ++ (y ∷ zs)) a
+  pub begins_at : (xs : List Step) (y : Step) (zs : List Step) (a : ℕ) → BeginsAt x (xs ++ (y ∷ zs)) a
       → cost_to x.program x.target A.costs (first_spot xs y) ≡ Some nothing_yet
   begins_at [] y zs a b = ap (λ z. cost_by x.program x.target A.costs y.part.spot z) b.0 ∙ ap (λ z. cond z (Some nothing_yet) None) b.1
   begins_at (st ∷ xs) y zs a b = ap (λ z. cost_by x.program x.target A.costs st.part.spot z) b.0 ∙ ap (λ z. cond z (Some nothing_yet) None) b.1
 
-  begins_high : (a : ℕ) (b : Bool) (c : Cost) (h : How) → and_then (cond b (Some nothing_yet) None) h ≡ Some c → b ≡ true
-  begins_high a true c h e = refl
-  begins_high a false c h e = absurd (none-some c e)
+  abbrev pub KCosts : Step → Cost → Type 0
+  KCosts st c = K st × PartCosts x.program x.target A.costs st.part c
 
-  cost_of_first : (st : Step) (ss : List Step) → IsPicked x.program v (st ∷ ss) → (c : Cost) × PartCosts x.program x.target A.costs st.part c
-  cost_of_first st [] (f, goal, is) = (f.cost, subst (λ (u : Step). PartCosts x.program x.target A.costs u.part f.cost) is (goal_first f goal).has.1)
-  cost_of_first st (t ∷ ss) p = let r = picked st t ss p in (r.0, r.1.costs)
+  -- where the step that was found is the first of the cheapest of that kind
+  module _ (G : IsFound KCosts (steps_of x.program) v.goal) where
+    goal_by : (st : Step) (d : Cost) → Contains (steps_of x.program) st → KCosts st d → (o : Option Found)
+        → IsFound KCosts (steps_of x.program) o → v.goal ≡ o →
+        (f : Found) × (v.goal ≡ Some f) × IsLe f.cost d
+    goal_by st d c h None i e = absurd (i st d c h)
+    goal_by st d c h (Some f) i e = (f, e, i.least st d c h)
 
-  pub starts : (chain : List Step) → IsPicked x.program v chain → StartsWritten x.program chain → (a : ℕ) × BeginsAt x chain a
-  starts [] p b = absurd b
-  starts (st ∷ ss) p b =
-      let c = cost_of_first st ss p in (
-        b.0,
-        (
-          b.1,
-          begins_high b.0 (is_high x.program x.target b.0) c.0 st.part.how
-              (sym (ap (λ z. and_then (cost_by x.program x.target A.costs st.part.spot z) st.part.how) b.1) ∙ c.1),
-        ),
-      )
+    -- no chain to where it is to end costs less than the step that was found
+    low : (st : Step) (ss : List Step) (c : Cost) → Goes (st ∷ ss) → cost_to x.program x.target A.costs st.part.spot ≡ Some c → (f : Found) × (v.goal ≡ Some f)
+        × IsLe f.cost (plus c (cost_of (st ∷ ss)))
+    low st [] c g e =
+        let r = goal_by st (add c st.part.how) g.0 (g.1, costs_is st c e) v.goal G refl in
+        (r.0, r.1, subst (λ z. IsLe r.0.cost z) (plus_one c st) r.2)
+    low st (t ∷ ss) c g e =
+        let n = next st t ss c g e in
+        let r = low t ss n.0 g.3 n.1 in (
+          r.0,
+          r.1,
+          le_trans r.0.cost (plus n.0 (cost_of (t ∷ ss))) (plus c (cost_of (st ∷ (t ∷ ss)))) r.2
+              (subst (λ z. IsLe (plus n.0 (cost_of (t ∷ ss))) z) (plus_cons c st (t ∷ ss)) (plus_le n.0 (add c st.part.how) (cost_of (t ∷ ss)) n.2)),
+        )
 
-  pub goes : (chain : List Step) → IsPicked x.program v chain → Goes x chain
-  goes [] p = absurd p
-  goes (st ∷ ss) p = picked_goes st ss p
+    -- the chain that is picked
+    record Picked (st t : Step) (c : Cost) : Type 0 where
+      pub has : Contains (steps_of x.program) st
+      pub omitted : written x.program st.side ≡ None
+      pub spot : t.part.spot ≡ st.side
+      pub cost : cost_to x.program x.target A.costs t.part.spot ≡ Some c
+      pub costs : PartCosts x.program x.target A.costs st.part c
 
-  pub earliest : (chain : List Step) → IsPicked x.program v chain → (a : ℕ) → BeginsAt x chain a → (xs zs after : List Step) (y z : Step) (b : ℕ)
-      → chain ≡ xs ++ (y ∷ after) → Goes x (zs ++ (z ∷ after)) → BeginsAt x (zs ++ (z ∷ after)) b →
-      IsLe (cost_of (zs ++ (z ∷ after))) (cost_of chain) → StandsFirst (steps_of x.program) y z
-  earliest chain p a i xs zs after y z b e g j l =
-      let own = picked_cost xs y after nothing_yet (subst (λ u. IsPicked x.program v u) e p) (begins_at xs y after a (subst (λ u. BeginsAt x u a) e i)) in
-      let other = before zs z after nothing_yet g (begins_at zs z after b j) in
-      let up : IsLe (cost_of (zs ++ z ∷ [])) (cost_of (xs ++ y ∷ [])) =
-      cost_back zs xs after z y (subst (λ u. IsLe (cost_of (zs ++ (z ∷ after))) (cost_of u)) e l) in
-      first y after (plus nothing_yet (cost_of (xs ++ y ∷ []))) own.1 own.0 z other.cost other.goes other.costs
-      (le_trans other.cost (plus nothing_yet (cost_of (zs ++ z ∷ []))) (plus nothing_yet (cost_of (xs ++ y ∷ []))) other.low
-      (subst (λ u. IsLe u (plus nothing_yet (cost_of (xs ++ y ∷ [])))) (sym (plus_nothing (cost_of (zs ++ z ∷ []))))
-      (subst (λ u. IsLe (cost_of (zs ++ z ∷ [])) u) (sym (plus_nothing (cost_of (xs ++ y ∷ [])))) up)))
+    picked : (st t : Step) (ss : List Step) → IsPicked x.program v (st ∷ (t ∷ ss)) → (c : Cost) × Picked st t c
+    picked st t ss (n, f, spot, none, at, is, rest) =
+        let F = found_first x.program x.target A.costs v A.sides n f at in
+        let side : st.side ≡ Variable n = ap (λ (z : Step). z.side) (sym is) ∙ F.has.0 in (
+          f.cost,
+          record {
+            has = subst (λ z. Contains (steps_of x.program) z) is (first_in (steps_of x.program) F.before F.after f.step F.is);
+            omitted = ap (λ z. written x.program z) side ∙ none;
+            spot = spot ∙ sym side;
+            cost = to_variable t.part.spot n f.cost spot none (A.goes n f none at);
+            costs = subst (λ (z : Step). PartCosts x.program x.target A.costs z.part f.cost) is F.has.1;
+          },
+        )
 
-  -- what the last step costs
-  last_cost : (st : Step) (ss : List Step) (c : Cost) → IsPicked x.program v (st ∷ ss) → cost_to x.program x.target A.costs st.part.spot ≡ Some c
-      → (f : Found) × (v.goal ≡ Some f) × (f.cost ≡ plus c (cost_of (st ∷ ss)))
-  last_cost st [] c (f, goal, is) e = (
-    f,
-    goal,
-    costs_same st f.cost (add c st.part.how) (subst (λ (u : Step). PartCosts x.program x.target A.costs u.part f.cost) is (goal_first f goal).has.1)
-        (costs_is st c e) ∙ plus_one c st,
-  )
-  last_cost st (t ∷ ss) c p e =
-      let r = picked st t ss p in
-      let same : r.0 ≡ add c st.part.how = costs_same st r.0 (add c st.part.how) r.1.costs (costs_is st c e) in
-      let q = last_cost t ss (add c st.part.how) p.6 (r.1.cost ∙ ap Some same) in
-      (q.0, q.1, q.2 ∙ plus_cons c st (t ∷ ss))
+    goal_first : (f : Found) → v.goal ≡ Some f → IsFirst KCosts (steps_of x.program) f.step f.cost
+    goal_first f e = subst (λ z. IsFound KCosts (steps_of x.program) z) e G
 
-  pub cheapest : (chain : List Step) → IsPicked x.program v chain → (a : ℕ) → BeginsAt x chain a → (q : List Step) (b : ℕ) → Goes x q → BeginsAt x q b
-      → IsLe (cost_of chain) (cost_of q)
-  cheapest [] p a i q b g j = absurd p
-  cheapest (st ∷ ss) p a i [] b g j = absurd g
-  cheapest (st ∷ ss) p a i (u ∷ us) b g j =
-      let own = last_cost st ss nothing_yet p (begins_at [] st ss a i) in
-      let other = low u us nothing_yet g (begins_at [] u us b j) in
-      let same : own.0 ≡ other.0 = same_Some own.0 other.0 (sym own.1 ∙ other.1) in
-      let is : other.0.cost ≡ cost_of (st ∷ ss) = ap (λ (z : Found). z.cost) (sym same) ∙ own.2 ∙ plus_nothing (cost_of (st ∷ ss)) in
-      subst (λ z. IsLe z (cost_of (u ∷ us))) is (subst (λ z. IsLe other.0.cost z) (plus_nothing (cost_of (u ∷ us))) other.2)
+    picked_goes : (st : Step) (ss : List Step) → IsPicked x.program v (st ∷ ss) → Goes (st ∷ ss)
+    picked_goes st [] (f, goal, is) =
+        let F = goal_first f goal in (
+          subst (λ z. Contains (steps_of x.program) z) is (first_in (steps_of x.program) F.before F.after f.step F.is),
+          subst (λ (z : Step). K z) is F.has.0,
+        )
+    picked_goes st (t ∷ ss) p = let r = picked st t ss p in (r.1.has, r.1.omitted, r.1.spot, picked_goes t ss p.6)
 
-  -- where a chain is there one is found
-  pub goal_is : IsKnown x → v.goal ≡ None → ⊥
-  goal_is k e = go k.chain k.goes k.begins
-    where
-      go : (q : List Step) → Goes x q → BeginsAt x q k.have → ⊥
-      go [] g b = g
-      go (u ∷ us) g b = let r = low u us nothing_yet g (begins_at [] u us k.have b) in none-some r.0 (sym e ∙ r.1)
+    -- what the picked chain costs up to one of its steps
+    picked_cost : (xs : List Step) (y : Step) (zs : List Step) (c : Cost) → IsPicked x.program v (xs ++ (y ∷ zs))
+        → cost_to x.program x.target A.costs (first_spot xs y) ≡ Some c →
+        PartCosts x.program x.target A.costs y.part (plus c (cost_of (xs ++ y ∷ []))) × IsPicked x.program v (y ∷ zs)
+    picked_cost [] y zs c p e = (subst (λ z. PartCosts x.program x.target A.costs y.part z) (plus_one c y) (costs_is y c e), p)
+    picked_cost (st ∷ []) y zs c p e =
+        let r = picked st y zs p in
+        let same : r.0 ≡ add c st.part.how = costs_same st r.0 (add c st.part.how) r.1.costs (costs_is st c e) in
+        let q = picked_cost [] y zs (add c st.part.how) p.6 (r.1.cost ∙ ap Some same) in
+        (subst (λ z. PartCosts x.program x.target A.costs y.part z) (plus_cons c st (y ∷ [])) q.0, q.1)
+    picked_cost (st ∷ (u ∷ us)) y zs c p e =
+        let r = picked st u (us ++ (y ∷ zs)) p in
+        let same : r.0 ≡ add c st.part.how = costs_same st r.0 (add c st.part.how) r.1.costs (costs_is st c e) in
+        let q = picked_cost (u ∷ us) y zs (add c st.part.how) p.6 (r.1.cost ∙ ap Some same) in
+        (subst (λ z. PartCosts x.program x.target A.costs y.part z) (plus_cons c st (u ∷ (us ++ y ∷ []))) q.0, q.1)
+
+    -- and it is the first of those that are no dearer
+    stands : (V : Step → Cost → Type 0) (f : Found) (y z : Step) (d : Cost) → IsFirst V (steps_of x.program) f.step f.cost → f.step ≡ y → V z d → IsLe d f.cost
+        → StandsFirst (steps_of x.program) y z
+    stands V f y z d F is w l = record {
+      before = F.before;
+      after = F.after;
+      is = subst (λ u. steps_of x.program ≡ F.before ++ (u ∷ F.after)) is F.is;
+      none = λ c. not_less f.cost d (F.dearer z d c w) l;
+    }
+
+    first : (y : Step) (zs : List Step) (c : Cost) → IsPicked x.program v (y ∷ zs) → PartCosts x.program x.target A.costs y.part c → (z : Step) (d : Cost)
+        → Goes (z ∷ zs) → PartCosts x.program x.target A.costs z.part d → IsLe d c → StandsFirst (steps_of x.program) y z
+    first y [] c (f, goal, is) e z d g w l =
+        let F = goal_first f goal in
+        let same : c ≡ f.cost = costs_same y c f.cost e (subst (λ (u : Step). PartCosts x.program x.target A.costs u.part f.cost) is F.has.1) in
+        stands KCosts f y z d F is (g.1, w) (subst (λ u. IsLe d u) same l)
+    first y (t ∷ ts) c (n, f, spot, none, at, is, rest) e z d g w l =
+        let F = found_first x.program x.target A.costs v A.sides n f at in
+        let same : c ≡ f.cost = costs_same y c f.cost e (subst (λ (u : Step). PartCosts x.program x.target A.costs u.part f.cost) is F.has.1) in
+        stands (SideCosts x.program x.target A.costs n) f y z d F is (sym g.2 ∙ spot, w) (subst (λ u. IsLe d u) same l)
+
+    begins_high : (a : ℕ) (b : Bool) (c : Cost) (h : How) → and_then (cond b (Some nothing_yet) None) h ≡ Some c → b ≡ true
+    begins_high a true c h e = refl
+    begins_high a false c h e = absurd (none-some c e)
+
+    cost_of_first : (st : Step) (ss : List Step) → IsPicked x.program v (st ∷ ss) → (c : Cost) × PartCosts x.program x.target A.costs st.part c
+    cost_of_first st [] (f, goal, is) = (f.cost, subst (λ (u : Step). PartCosts x.program x.target A.costs u.part f.cost) is (goal_first f goal).has.1)
+    cost_of_first st (t ∷ ss) p = let r = picked st t ss p in (r.0, r.1.costs)
+
+    pub starts : (chain : List Step) → IsPicked x.program v chain → StartsWritten x.program chain → (a : ℕ) × BeginsAt x chain a
+    starts [] p b = absurd b
+    starts (st ∷ ss) p b =
+        let c = cost_of_first st ss p in (
+          b.0,
+          (
+            b.1,
+            begins_high b.0 (is_high x.program x.target b.0) c.0 st.part.how
+                (sym (ap (λ z. and_then (cost_by x.program x.target A.costs st.part.spot z) st.part.how) b.1) ∙ c.1),
+          ),
+        )
+
+    pub goes : (chain : List Step) → IsPicked x.program v chain → Goes chain
+    goes [] p = absurd p
+    goes (st ∷ ss) p = picked_goes st ss p
+
+    pub earliest : (chain : List Step) → IsPicked x.program v chain → (a : ℕ) → BeginsAt x chain a → (xs zs after : List Step) (y z : Step) (b : ℕ)
+        → chain ≡ xs ++ (y ∷ after) → Goes (zs ++ (z ∷ after)) → BeginsAt x (zs ++ (z ∷ after)) b →
+        IsLe (cost_of (zs ++ (z ∷ after))) (cost_of chain) → StandsFirst (steps_of x.program) y z
+    earliest chain p a i xs zs after y z b e g j l =
+        let own = picked_cost xs y after nothing_yet (subst (λ u. IsPicked x.program v u) e p) (begins_at xs y after a (subst (λ u. BeginsAt x u a) e i)) in
+        let other = before zs z after nothing_yet g (begins_at zs z after b j) in
+        let up : IsLe (cost_of (zs ++ z ∷ [])) (cost_of (xs ++ y ∷ [])) =
+        cost_back zs xs after z y (subst (λ u. IsLe (cost_of (zs ++ (z ∷ after))) (cost_of u)) e l) in
+        first y after (plus nothing_yet (cost_of (xs ++ y ∷ []))) own.1 own.0 z other.cost other.goes other.costs
+        (le_trans other.cost (plus nothing_yet (cost_of (zs ++ z ∷ []))) (plus nothing_yet (cost_of (xs ++ y ∷ []))) other.low
+        (subst (λ u. IsLe u (plus nothing_yet (cost_of (xs ++ y ∷ [])))) (sym (plus_nothing (cost_of (zs ++ z ∷ []))))
+        (subst (λ u. IsLe (cost_of (zs ++ z ∷ [])) u) (sym (plus_nothing (cost_of (xs ++ y ∷ [])))) up)))
+
+    -- what the last step costs
+    last_cost : (st : Step) (ss : List Step) (c : Cost) → IsPicked x.program v (st ∷ ss) → cost_to x.program x.target A.costs st.part.spot ≡ Some c
+        → (f : Found) × (v.goal ≡ Some f) × (f.cost ≡ plus c (cost_of (st ∷ ss)))
+    last_cost st [] c (f, goal, is) e = (
+      f,
+      goal,
+      costs_same st f.cost (add c st.part.how) (subst (λ (u : Step). PartCosts x.program x.target A.costs u.part f.cost) is (goal_first f goal).has.1)
+          (costs_is st c e) ∙ plus_one c st,
+    )
+    last_cost st (t ∷ ss) c p e =
+        let r = picked st t ss p in
+        let same : r.0 ≡ add c st.part.how = costs_same st r.0 (add c st.part.how) r.1.costs (costs_is st c e) in
+        let q = last_cost t ss (add c st.part.how) p.6 (r.1.cost ∙ ap Some same) in
+        (q.0, q.1, q.2 ∙ plus_cons c st (t ∷ ss))
+
+    pub cheapest : (chain : List Step) → IsPicked x.program v chain → (a : ℕ) → BeginsAt x chain a → (q : List Step) (b : ℕ) → Goes q → BeginsAt x q b
+        → IsLe (cost_of chain) (cost_of q)
+    cheapest [] p a i q b g j = absurd p
+    cheapest (st ∷ ss) p a i [] b g j = absurd g
+    cheapest (st ∷ ss) p a i (u ∷ us) b g j =
+        let own = last_cost st ss nothing_yet p (begins_at [] st ss a i) in
+        let other = low u us nothing_yet g (begins_at [] u us b j) in
+        let same : own.0 ≡ other.0 = same_Some own.0 other.0 (sym own.1 ∙ other.1) in
+        let is : other.0.cost ≡ cost_of (st ∷ ss) = ap (λ (z : Found). z.cost) (sym same) ∙ own.2 ∙ plus_nothing (cost_of (st ∷ ss)) in
+        subst (λ z. IsLe z (cost_of (u ∷ us))) is (subst (λ z. IsLe other.0.cost z) (plus_nothing (cost_of (u ∷ us))) other.2)
+
+-- where a chain is there one is found
+pub goal_is : (x : Where) → IsValid x.program → (v : Sides) → AreSettled x.program x.target v → IsKnown x → v.goal ≡ None → ⊥
+goal_is x valid v A k e = go k.chain k.goes k.begins
+  where
+    none : HaveNone (GoalCosts x.program x.target A.costs) (steps_of x.program)
+    none = goal_none x.program x.target A.costs (conditions_of x.program)
+        (subst (λ z. IsGoalFound x.program x.target A.costs (conditions_of x.program) z) e A.sides.goal)
+
+    G : IsFound (GoalCosts x.program x.target A.costs) (steps_of x.program) v.goal
+    G = subst (λ z. IsFound (GoalCosts x.program x.target A.costs) (steps_of x.program) z) (sym e) none
+
+    go : (q : List Step) → GoesTo x.program (MayEnd x) q → BeginsAt x q k.have → ⊥
+    go [] g b = g
+    go (u ∷ us) g b =
+        let r = low x valid v A (MayEnd x) G u us nothing_yet g (begins_at x valid v A (MayEnd x) [] u us k.have b) in
+        none-some r.0 (sym e ∙ r.1)

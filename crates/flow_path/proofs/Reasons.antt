@@ -1,6 +1,6 @@
 -- Reasons for a refusal are the chains that a search goes.
 use Rattle.std.proofs.Common.{◌≡◌, ℕ, refl, sym, ap, ◌∙◌, subst, List, [], ◌∷◌, ◌++◌}
-use Rattle.std.specs.Prelude.{Bool, true, false, not, None, Some, Contains}
+use Rattle.std.specs.Prelude.{Bool, true, false, not, Some}
 use Rattle.std.proofs.lemmas.Bool.{both_ways}
 use Rattle.std.proofs.lemmas.Option.{none-some, same_Some}
 use Rattle.text_base.specs.declared.pos.Pos.{Pos}
@@ -10,18 +10,19 @@ use Rattle.mit_syntax.specs.Program.{Syntax}
 use Rattle.mit_syntax.specs.Valid.{IsValid}
 use Rattle.timing_types.specs.declared.rule.Rule.{Rule}
 use Rattle.timing_types.specs.declared.rule.TypeFault.TheVariants.{Refused}
-use Rattle.label_infer.proofs.Right.{Each}
+use Rattle.timing_types.specs.Labelled.{LabelledProgram, first_broken_of}
+use Rattle.label_infer.specs.Least.{IsLeast}
 use Rattle.flow_path.specs.declared.step.Spot.{Spot}
 use Rattle.flow_path.specs.declared.step.Step.{Step}
 use Rattle.flow_path.specs.declared.target.Target.TheVariants.{Broken}
-use Rattle.flow_path.specs.Steps.{written, steps_of}
+use Rattle.flow_path.specs.Steps.{written}
 use Rattle.flow_path.specs.Chains.{Leads, last_step, GoesBy, GoesByOmitted, IsReason}
-use Rattle.flow_path.specs.Targets.{IsGoalBy}
-use Rattle.flow_path.specs.Search.{Where, Goes, BeginsAt, IsKnown}
+use Rattle.flow_path.specs.Search.{Where, GoesTo, BeginsAt}
 use Rattle.flow_path.specs.Told.{IsTold}
 use Rattle.flow_path.specs.Distances.{IsPickedOf}
 use Rattle.flow_path.proofs.Picking.{goes, starts, cheapest, earliest}
-use Rattle.flow_path.proofs.Complete.{KnownStep}
+use Rattle.flow_path.proofs.Complete.{known_refused}
+use Rattle.flow_path.proofs.Leading.{IsBroken, broken_found}
 
 high_is : (b : Bool) → (b ≡ true → ⊥) → not b ≡ true
 high_is true h = absurd (h refl)
@@ -36,20 +37,27 @@ last_side s p [] q st l e = absurd (none-some st e)
 last_side s p (x ∷ []) q st l e = ap (λ (z : Step). z.side) (sym (same_Some x st e)) ∙ l.2
 last_side s p (x ∷ (y ∷ xs)) q st l e = last_side s x.side (y ∷ xs) q st l.2 e
 
-module _ (s : Syntax) (rule : Rule) (pos : Pos) (have allowed : Label) where
-  abbrev x : Where
-  x = record { program = s; target = Broken rule pos allowed }
+module _ (p : LabelledProgram) (rule : Rule) (pos : Pos) (have allowed : Label) where
+  abbrev s : Syntax
+  s = p.program
 
-  record Whole (chain : List Step) (p : Spot) : Type 0 where
+  abbrev x : Where
+  x = record { program = p.program; target = Broken rule pos allowed }
+
+  -- the step is by the condition that is broken first
+  abbrev K : Step → Type 0
+  K = IsBroken p rule pos allowed
+
+  record Whole (chain : List Step) (q : Spot) : Type 0 where
     pub last : Spot
-    pub leads : Leads s p chain last
+    pub leads : Leads s q chain last
     pub step : Step
     pub ends : last_step chain ≡ Some step
-    pub goal : (step.rule ≡ rule) × (step.pos ≡ pos) × (written s step.side ≡ Some allowed.number)
+    pub goal : IsBroken p rule pos allowed step
     pub side : step.side ≡ last
     pub omitted : GoesByOmitted s chain
 
-  whole : (t : Step) (ts : List Step) → Goes x (t ∷ ts) → Whole (t ∷ ts) t.part.spot
+  whole : (t : Step) (ts : List Step) → GoesTo s K (t ∷ ts) → Whole (t ∷ ts) t.part.spot
   whole t [] g = record { last = t.side; leads = (g.0, refl, refl); step = t; ends = refl; goal = g.1; side = refl; omitted = tt }
   whole t (u ∷ ts) g =
       let r = whole u ts g.3 in
@@ -59,12 +67,11 @@ module _ (s : Syntax) (rule : Rule) (pos : Pos) (have allowed : Label) where
         step = r.step;
         ends = r.ends;
         goal = r.goal;
-        side =
-            r.side;
+        side = r.side;
         omitted = (g.1, r.omitted);
       }
 
-  to_reason : (chain : List Step) (a : ℕ) → Goes x chain → BeginsAt x chain a → IsReason s (Refused rule pos have allowed) chain
+  to_reason : (chain : List Step) (a : ℕ) → GoesTo s K chain → BeginsAt x chain a → IsReason p (Refused rule pos have allowed) chain
   to_reason [] a g b = absurd g
   to_reason (t ∷ ts) a g b =
       let r = whole t ts g in
@@ -75,29 +82,25 @@ module _ (s : Syntax) (rule : Rule) (pos : Pos) (have allowed : Label) where
           have = a;
           allowed = allowed.number;
           begins = b.0;
-          ends = ap (λ z. written s z) (sym r.side) ∙ r.goal.2;
+          ends = ap (λ z. written s z) (sym r.side) ∙ r.goal.1.2;
           leads = r.leads;
           high = λ f. is_high ((lattice_of s.order).flows a allowed.number) b.1 f;
         };
-        ends = record { step = r.step; last = r.ends; rule = r.goal.0; pos = r.goal.1; side = r.goal.2 };
+        ends = record { step = r.step; last = r.ends; condition = r.goal.0; rule = r.goal.1.0; pos = r.goal.1.1; side = r.goal.1.2 };
         omitted = r.omitted;
       }
 
-  goes_of : (p : Spot) (t : Step) (ts : List Step) (q : Spot) → Leads s p (t ∷ ts) q → GoesByOmitted s (t ∷ ts)
-      → GoesBy s (t ∷ ts) rule pos allowed → Goes x (t ∷ ts)
-  goes_of p t [] q l o e = (
-    l.0,
-    subst (λ (z : Step). (z.rule ≡ rule) × (z.pos ≡ pos) × (written s z.side ≡ Some allowed.number))
-        (sym (same_Some t e.step e.last)) (e.rule, e.pos, e.side),
-  )
-  goes_of p t (u ∷ ts) q l o e = (
+  goes_of : (q : Spot) (t : Step) (ts : List Step) (r : Spot) → Leads s q (t ∷ ts) r → GoesByOmitted s (t ∷ ts)
+      → GoesBy p (t ∷ ts) rule pos allowed → GoesTo s K (t ∷ ts)
+  goes_of q t [] r l o e = (l.0, subst (λ (z : Step). IsBroken p rule pos allowed z) (sym (same_Some t e.step e.last)) (e.condition, (e.rule, e.pos, e.side)))
+  goes_of q t (u ∷ ts) r l o e = (
     l.0,
     o.0,
     l.2.1,
-    goes_of t.side u ts q l.2 o.1 (record { step = e.step; last = e.last; rule = e.rule; pos = e.pos; side = e.side }),
+    goes_of t.side u ts r l.2 o.1 (record { step = e.step; last = e.last; condition = e.condition; rule = e.rule; pos = e.pos; side = e.side }),
   )
 
-  from_reason : (chain : List Step) → IsReason s (Refused rule pos have allowed) chain → Goes x chain × ((a : ℕ) × BeginsAt x chain a)
+  from_reason : (chain : List Step) → IsReason p (Refused rule pos have allowed) chain → GoesTo s K chain × ((a : ℕ) × BeginsAt x chain a)
   from_reason [] r = absurd (none-some r.ends.step r.ends.last)
   from_reason (t ∷ ts) r =
       let w = r.why in
@@ -115,35 +118,16 @@ module _ (s : Syntax) (rule : Rule) (pos : Pos) (have allowed : Label) where
       )
 
   -- a chain of which each step is picked is the one that is told
-  pub told_is : IsValid s → (chain : List Step) → IsPickedOf s (Broken rule pos allowed) chain → IsTold s (Refused rule pos have allowed) chain
-  told_is valid chain p =
-      let g = goes x valid p.sides p.settled chain p.picked in
-      let b = starts x valid p.sides p.settled chain p.picked p.begins in
+  pub told_is : IsValid p.program → IsLeast p.program p.labels → first_broken_of p ≡ Some (Refused rule pos have allowed) → (chain : List Step)
+      → IsPickedOf p.program (Broken rule pos allowed) chain → IsTold p (Refused rule pos have allowed) chain
+  told_is valid least broken chain h =
+      let k = known_refused s valid p.labels least (Refused rule pos have allowed) broken in
+      let G = broken_found p rule pos allowed h.sides h.settled valid least k in
+      let g = goes x valid h.sides h.settled K G chain h.picked in
+      let b = starts x valid h.sides h.settled K G chain h.picked h.begins in
       record {
         reason = to_reason chain b.0 g b.1;
-        cheapest = λ q r. let w = from_reason q r in cheapest x valid p.sides p.settled chain p.picked b.0 b.1 q w.1.0 w.0 w.1.1;
+        cheapest = λ q r. let w = from_reason q r in cheapest x valid h.sides h.settled K G chain h.picked b.0 b.1 q w.1.0 w.0 w.1.1;
         earliest = λ before other after y z e r l. let w = from_reason (other ++ (z ∷ after)) r in
-            earliest x valid p.sides p.settled chain p.picked b.0 b.1 before other after y z w.1.0 e w.0 w.1.1 l;
-      }
-
-  -- a chain to a step's part, and then the step
-  goes_with : (p : Spot) (xs : List Step) (q : Spot) (st : Step) → Leads s p xs q → Each (λ (z : Step). written s z.side ≡ None) xs → st.part.spot ≡ q
-      → Contains (steps_of s) st → IsGoalBy s (Broken rule pos allowed) st.rule st.pos st.side → Goes x (xs ++ st ∷ [])
-  goes_with p [] q st l o e c g = (c, g)
-  goes_with p (y ∷ []) q st l o e c g = (l.0, o.0, e ∙ sym l.2, (c, g))
-  goes_with p (y ∷ (z ∷ xs)) q st l o e c g = (l.0, o.0, l.2.1, goes_with y.side (z ∷ xs) q st l.2 o.1 e c g)
-
-  begins_with : (p : Spot) (xs : List Step) (q : Spot) (st : Step) (a : ℕ) → Leads s p xs q → st.part.spot ≡ q → written s p ≡ Some a
-      → not ((lattice_of s.order).flows a allowed.number) ≡ true → BeginsAt x (xs ++ st ∷ []) a
-  begins_with p [] q st a l e w h = (ap (λ z. written s z) (e ∙ sym l) ∙ w, h)
-  begins_with p (y ∷ xs) q st a l e w h = (ap (λ z. written s z) l.1 ∙ w, h)
-
-  pub is_known : KnownStep s rule pos allowed.number → IsKnown x
-  is_known k =
-      let r = k.reached in
-      record {
-        chain = r.chain ++ k.step ∷ [];
-        have = r.have;
-        goes = goes_with r.first r.chain k.step.part.spot k.step r.leads r.omitted refl k.there (k.rule, k.pos, k.side);
-        begins = begins_with r.first r.chain k.step.part.spot k.step r.have r.leads refl r.begins (ap not r.high);
+            earliest x valid h.sides h.settled K G chain h.picked b.0 b.1 before other after y z w.1.0 e w.0 w.1.1 l;
       }

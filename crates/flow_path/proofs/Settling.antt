@@ -15,7 +15,7 @@ use Rattle.flow_path.specs.declared.target.Target.{Target}
 use Rattle.flow_path.specs.declared.known_costs.Known.{Known}
 use Rattle.flow_path.specs.declared.sides.Found.{Found}
 use Rattle.flow_path.specs.declared.sides.Sides.{Sides}
-use Rattle.flow_path.specs.Steps.{written, steps_of}
+use Rattle.flow_path.specs.Steps.{written, conditions_of, steps_of}
 use Rattle.flow_path.specs.Costs.{nothing_yet, add, IsLe, IsLess}
 use Rattle.flow_path.specs.Targets.{is_high}
 use Rattle.flow_path.specs.Distances.{IsFirst, cost_by, cost_to, and_then, PartCosts, SideCosts, count_none, IsKnownOf}
@@ -139,7 +139,7 @@ module _ (s : Syntax) (t : Target) (k : Known) (b : AreStarts s t k) where
   }
 
 -- what is found from what is known
-module _ (s : Syntax) (t : Target) (ds : List (Option Cost)) (v : Sides) (S : AreSides s t ds (steps_of s) v) where
+module _ (s : Syntax) (t : Target) (ds : List (Option Cost)) (v : Sides) (S : AreSides s t ds (conditions_of s) v) where
   found_is : (y : ℕ) (o : Option Found) → slice_index_or v.variables.items y None ≡ o → y < length ds → IsFound (SideCosts s t ds y) (steps_of s) o
   found_is y o e l = subst (λ z. IsFound (SideCosts s t ds y) (steps_of s) z) e (S.each y l)
 
@@ -162,7 +162,7 @@ module _ (s : Syntax) (t : Target) (ds : List (Option Cost)) (v : Sides) (S : Ar
 
 -- more is known
 module _ (s : Syntax) (t : Target) (k k' : Known) (K : IsKnownOf s t k) (F : AreFew k.variables.items) (now : Cost) (D : IsDistance s t k.variables.items now)
-    (v : Sides) (S : AreSides s t k.variables.items (steps_of s) v)
+    (v : Sides) (S : AreSides s t k.variables.items (conditions_of s) v)
     (m : Cost) (L : IsLeastNew s k.variables.items v.variables.items (length k.variables.items) (Some m))
     (N : IsSetBy s k.variables.items v.variables.items m (length k.variables.items) k'.variables.items) (same : k'.lattice ≡ k.lattice) where
   -- a cost that was known
@@ -394,7 +394,7 @@ guessed s t k k' y c w l h i is same K = record {
     shorter z j = subst (λ u. z < u) (ap length is ∙ length-set k.variables.items y (Some c)) j
 
 -- what is known is what was found
-pub agreed : (s : Syntax) (t : Target) (k : Known) (v : Sides) → IsKnownOf s t k → AreSides s t k.variables.items (steps_of s) v
+pub agreed : (s : Syntax) (t : Target) (k : Known) (v : Sides) → IsKnownOf s t k → AreSides s t k.variables.items (conditions_of s) v
     → ((y : ℕ) → y < length k.variables.items → Agrees s k.variables.items v.variables.items y) → AreSettled s t v
 agreed s t k v K S A = record {
   costs = k.variables.items;
@@ -411,7 +411,7 @@ agreed s t k v K S A = record {
     back y c (Some f) a b = (f, a, same_Some f.cost c (sym (ap (λ z. option_map (λ (u : Found). u.cost) z) a) ∙ b))
 
 pub agreed_by : (s : Syntax) (t : Target) (k : Known) (v : Sides) (ds : List (Option Cost)) (vs : List (Option Found)) → ds ≡ k.variables.items
-    → vs ≡ v.variables.items → IsKnownOf s t k → AreSides s t k.variables.items (steps_of s) v →
+    → vs ≡ v.variables.items → IsKnownOf s t k → AreSides s t k.variables.items (conditions_of s) v →
     ((y : ℕ) → y < length ds → Agrees s ds vs y) → AreSettled s t v
 agreed_by s t k v ds vs e f K S A =
     agreed s t k v K S (subst (λ z. (y : ℕ) → y < length k.variables.items
@@ -419,7 +419,7 @@ agreed_by s t k v ds vs e f K S A =
 
 -- nothing more is found
 pub settles : (s : Syntax) (t : Target) (k : Known) (now : Cost) (v : Sides) → IsKnownOf s t k → IsDistance s t k.variables.items now
-    → AreSides s t k.variables.items (steps_of s) v →
+    → AreSides s t k.variables.items (conditions_of s) v →
     IsLeastNew s k.variables.items v.variables.items (length k.variables.items) None → AreSettled s t v
 settles s t k now v K D S L = record {
   costs = k.variables.items;
@@ -537,7 +537,7 @@ set_none s ds vs m = record { fit = refl; set = λ y l w. absurd (omega (arith, 
 pub turned : (s : Syntax) (t : Target) (k k' : Known) (v : Sides) (m : Cost) (ds : List (Option Cost)) (vs vs' : List (Option Found)) (o : Option Cost)
     → ds ≡ k.variables.items → vs ≡ v.variables.items → vs' ≡ v.variables.items → o ≡ Some m →
     IsLeastNew s ds vs (length ds) o → IsSetBy s k.variables.items vs' m (length k.variables.items) k'.variables.items → k'.lattice ≡ k.lattice
-    → IsKnownOf s t k → AreFew k.variables.items → (now : Cost) × IsDistance s t k.variables.items now → AreSides s t k.variables.items (steps_of s) v →
+    → IsKnownOf s t k → AreFew k.variables.items → (now : Cost) × IsDistance s t k.variables.items now → AreSides s t k.variables.items (conditions_of s) v →
     IsKnownOf s t k' × AreFew k'.variables.items × ((now : Cost) × IsDistance s t k'.variables.items now)
     × (count_none k'.variables.items < count_none k.variables.items)
 turned s t k k' v m ds vs vs' o e f g h L N same K F D S =
@@ -553,7 +553,7 @@ turned s t k k' v m ds vs vs' o e f g h L N same K F D S =
 
 pub all_settled : (s : Syntax) (t : Target) (k : Known) (v : Sides) (ds : List (Option Cost)) (vs : List (Option Found)) (o : Option Cost)
     → ds ≡ k.variables.items → vs ≡ v.variables.items → o ≡ None → IsLeastNew s ds vs (length ds) o → IsKnownOf s t k →
-    (now : Cost) × IsDistance s t k.variables.items now → AreSides s t k.variables.items (steps_of s) v → AreSettled s t v
+    (now : Cost) × IsDistance s t k.variables.items now → AreSides s t k.variables.items (conditions_of s) v → AreSettled s t v
 all_settled s t k v ds vs o e f h L K D S =
     let L0 = subst (λ z. IsLeastNew s z vs (length z) o) e L in
     let L1 = subst (λ z. IsLeastNew s k.variables.items z (length k.variables.items) o) f L0 in

@@ -20,7 +20,7 @@ use Rattle.flow_path.specs.declared.origins.Origin.{Origin}
 use Rattle.flow_path.specs.declared.target.Target.TheVariants.{From}
 use Rattle.flow_path.specs.Steps.{written, steps_of}
 use Rattle.flow_path.specs.Chains.{Leads, Brings, ComesFrom, CostsNoMore}
-use Rattle.flow_path.specs.Search.{Where, Every, Goes, BeginsAt}
+use Rattle.flow_path.specs.Search.{Where, Every, Goes, MayEnd, BeginsAt}
 use Rattle.flow_path.specs.Distances.{AreSettled, IsPicked, StartsWritten}
 use Rattle.flow_path.specs.Origins.{IsOmitted, label_there, joined, IsOrigin, IsEarliestFrom, AreAll}
 use Rattle.flow_path.proofs.Base.{each_at}
@@ -82,16 +82,16 @@ module _ (s : Syntax) (valid : IsValid s) (spot : Spot) (free : written s spot �
     pub origin_is : (v : Sides) → AreSettled s (From spot label) v → (chain : List Step) → IsPicked s v chain → StartsWritten s chain → (w : Origin)
         → w.label ≡ label → w.chain.items ≡ chain → IsOrigin s spot w
     origin_is v A chain p i w same is =
-        let g = goes x valid v A chain p in
-        let b = starts x valid v A chain p i in
+        let g = goes x valid v A (MayEnd x) A.sides.goal chain p in
+        let b = starts x valid v A (MayEnd x) A.sides.goal chain p i in
         let at : b.0 ≡ label.number = begins_same chain b.0 b.1 in
         let number : label.number ≡ w.label.number = ap (λ (z : Label). z.number) (sym same) in
         let low : (other : List Step) → Brings s spot label.number other → CostsNoMore chain other =
-        λ other h. let k = goes_of other h in cheapest x valid v A chain p b.0 b.1 other label.number k.0 k.1 in
+        λ other h. let k = goes_of other h in cheapest x valid v A (MayEnd x) A.sides.goal chain p b.0 b.1 other label.number k.0 k.1 in
         let early : IsEarliestFrom s spot label.number chain =
         λ before other after y z e h l.
         let k = goes_of (other ++ (z ∷ after)) h in
-        earliest x valid v A chain p b.0 b.1 before other after y z label.number e k.0 k.1 l in
+        earliest x valid v A (MayEnd x) A.sides.goal chain p b.0 b.1 before other after y z label.number e k.0 k.1 l in
         record {
           brings = subst (λ z. Brings s spot w.label.number z) (sym is)
               (subst (λ z. Brings s spot z chain) (at ∙ number) (brings_of chain b.0 g b.1));

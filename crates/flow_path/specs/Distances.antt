@@ -1,7 +1,8 @@
 -- What is known of the cheapest chains to each label, and by which steps they end.
-use Rattle.std.specs.Prelude.{◌≡◌, ℕ, ◌+◌, ◌<◌, ◌≤◌, cond, List, [], ◌∷◌, ◌++◌, length, Option, None, Some, Contains, slice_index_or, option_map}
+use Rattle.std.specs.Prelude.{◌≡◌, ℕ, ◌+◌, ◌<◌, ◌≤◌, Bool, true, cond, List, [], ◌∷◌, ◌++◌, length, Option, None, Some, Contains, slice_index_or, option_map}
 use Rattle.mit_syntax.specs.Declarations.{variables}
-use Rattle.mit_syntax.specs.Plan.{Plan}
+use Rattle.mit_syntax.specs.declared.ast.Command.{Command as Tree}
+use Rattle.mit_syntax.specs.Plan.{Plan, command_plan}
 use Rattle.mit_syntax.specs.Program.{Syntax}
 use Rattle.flow_path.specs.declared.step.How.{How}
 use Rattle.flow_path.specs.declared.step.Spot.{Spot}
@@ -10,12 +11,13 @@ use Rattle.flow_path.specs.declared.step.Part.{Part}
 use Rattle.flow_path.specs.declared.step.Step.{Step}
 use Rattle.flow_path.specs.declared.cost.Cost.{Cost}
 use Rattle.flow_path.specs.declared.target.Target.{Target}
+use Rattle.flow_path.specs.declared.target.Target.TheVariants.{Broken, From}
 use Rattle.flow_path.specs.declared.known_costs.Known.{Known}
 use Rattle.flow_path.specs.declared.known_costs.Round.{Round}
 use Rattle.flow_path.specs.declared.best.Best.{Best}
 use Rattle.flow_path.specs.declared.sides.Found.{Found}
 use Rattle.flow_path.specs.declared.sides.Sides.{Sides}
-use Rattle.flow_path.specs.Steps.{written, ends, steps, steps_of}
+use Rattle.flow_path.specs.Steps.{written, ends, steps_by, all_of, conditions_of, steps_of}
 use Rattle.flow_path.specs.Costs.{nothing_yet, add, IsLe, IsLess}
 use Rattle.flow_path.specs.Targets.{IsGoalBy, is_high}
 
@@ -105,21 +107,50 @@ abbrev pub IsFound : (Step → Cost → Type 0) → List Step → Option Found �
 IsFound V ss None = HaveNone V ss
 IsFound V ss (Some f) = IsFirst V ss f.step f.cost
 
--- those to where a chain is to end, and to the label of each variable
-pub record AreSides (s : Syntax) (t : Target) (ds : List (Option Cost)) (ss : List Step) (v : Sides) : Type 0 where
+-- it is the first of the cheapest by the first condition of a list to which a chain leads
+pub record IsFoundIn (s : Syntax) (t : Target) (ds : List (Option Cost)) (bs : List (List Step)) (f : Found) : Type 0 where
+  pub before : List (List Step)
+  pub block : List Step
+  pub after : List (List Step)
+  pub is : bs ≡ before ++ (block ∷ after)
+  pub none : HaveNone (GoalCosts s t ds) (all_of before)
+  pub first : IsFirst (GoalCosts s t ds) block f.step f.cost
+
+abbrev pub IsFoundFirst : Syntax → Target → List (Option Cost) → List (List Step) → Option Found → Type 0
+IsFoundFirst s t ds bs None = HaveNone (GoalCosts s t ds) (all_of bs)
+IsFoundFirst s t ds bs (Some f) = IsFoundIn s t ds bs f
+
+-- That to where a chain is to end, by these conditions. The broken condition is the first to which a chain leads; to an omitted
+-- label chains lead by all conditions on it.
+abbrev pub IsGoalFound : Syntax → Target → List (Option Cost) → List (List Step) → Option Found → Type 0
+IsGoalFound s (Broken rule pos allowed) ds bs o = IsFoundFirst s (Broken rule pos allowed) ds bs o
+IsGoalFound s (From spot label) ds bs o = IsFound (GoalCosts s (From spot label) ds) (all_of bs) o
+
+-- those to where a chain is to end, and to the label of each variable, by these conditions
+pub record AreSides (s : Syntax) (t : Target) (ds : List (Option Cost)) (bs : List (List Step)) (v : Sides) : Type 0 where
   pub fit : length v.variables.items ≡ length ds
-  pub goal : IsFound (GoalCosts s t ds) ss v.goal
-  pub each : (y : ℕ) → y < length ds → IsFound (SideCosts s t ds y) ss (slice_index_or v.variables.items y None)
+  pub goal : IsGoalFound s t ds bs v.goal
+  pub each : (y : ℕ) → y < length ds → IsFound (SideCosts s t ds y) (all_of bs) (slice_index_or v.variables.items y None)
+
+-- a cost is not below that of the first of the cheapest parts of a list
+abbrev pub IsNoDearer : Option Best → Cost → Type 0
+IsNoDearer None d = ⊥
+IsNoDearer (Some b) d = IsLe b.cost d
+
+-- none of these parts costs less than it
+abbrev pub AreNoCheaperThan : Syntax → Target → List (Option Cost) → Option Best → List Part → Type 0
+AreNoCheaperThan s t ds b ps = (y : Part) (d : Cost) → Contains ps y → PartCosts s t ds y d → IsNoDearer b d
 
 -- The commands p were walked up to q, with the first of the cheapest parts in place of the time: b before, r after.
 abbrev pub ComesTo : Syntax → Target → List (Option Cost) → Option Best → Option Best → Plan → Plan → Type 0
 ComesTo s t ds b r p q = (T : List Part) → IsBest s t ds T b → (T' : List Part) × IsBest s t ds T' r × (ends p T ≡ ends q T')
 
--- and their steps were added to those that were there, where pc is that of the guards around them
+-- and the steps by their conditions were added to those that were there, where pc is that of the guards around them
 abbrev pub Passes : Syntax → Target → List (Option Cost) → Sides → Sides → Option Best → Option Best → Option Best → Plan → Plan → Type 0
 Passes s t ds v w pc b r p q =
-    (P T : List Part) (ss : List Step) → IsBest s t ds P pc → IsBest s t ds T b → AreSides s t ds ss v →
-    (T' : List Part) × (S : List Step) × IsBest s t ds T' r × AreSides s t ds (ss ++ S) w × (ends p T ≡ ends q T') × (steps p P T ≡ S ++ steps q P T')
+    (P T : List Part) (bs : List (List Step)) → IsBest s t ds P pc → IsBest s t ds T b → AreSides s t ds bs v →
+    (T' : List Part) × (B : List (List Step)) × IsBest s t ds T' r × AreSides s t ds (bs ++ B) w × (ends p T ≡ ends q T')
+    × (steps_by p P T ≡ B ++ steps_by q P T')
 
 -- the cost that is known of an omitted label is the one that was found
 abbrev pub Agrees : Syntax → List (Option Cost) → List (Option Found) → ℕ → Type 0
@@ -163,7 +194,7 @@ pub record IsDistance (s : Syntax) (t : Target) (ds : List (Option Cost)) (now :
 pub record AreSettled (s : Syntax) (t : Target) (v : Sides) : Type 0 where
   pub costs : List (Option Cost)
   pub fit : length costs ≡ variables s.declarations
-  pub sides : AreSides s t costs (steps_of s) v
+  pub sides : AreSides s t costs (conditions_of s) v
   pub goes : (y : ℕ) (f : Found) → written s (Variable y) ≡ None → slice_index_or v.variables.items y None ≡ Some f → slice_index_or costs y None ≡ Some f.cost
   pub back : (y : ℕ) (c : Cost) → written s (Variable y) ≡ None → slice_index_or costs y None ≡ Some c
       → (f : Found) × (slice_index_or v.variables.items y None ≡ Some f) × (f.cost ≡ c)
@@ -199,3 +230,13 @@ ComesIn r b c p q = ComesTo r.program.now r.target.now r.known.now.variables.ite
 
 abbrev pub PassesIn : Round → Sides → Sides → Option Best → Option Best → Option Best → Plan → Plan → Type 0
 PassesIn r v w pc b c p q = Passes r.program.now r.target.now r.known.now.variables.items v w pc b c p q
+
+-- What is known of the time before commands: it is of a list of parts, and where it is said that the walk stays, nothing that
+-- they add to it is cheaper.
+abbrev pub IsTimeOf : Round → Option Best → List Part → Bool → Type 0
+IsTimeOf r b added stays =
+    ((T : List Part) × IsBestIn r T b) × (stays ≡ true → AreNoCheaperThan r.program.now r.target.now r.known.now.variables.items b added)
+
+-- the same of a command, with some commands after it
+abbrev pub IsTimeFrom : Round → Option Best → Tree → Bool → Type 0
+IsTimeFrom r b c stays = (rest : Plan) × IsTimeOf r b (ends (command_plan c rest) []) stays

@@ -1,9 +1,10 @@
 //! One pass over the commands of a program, which finds the first of the cheapest steps to each label.
 
-ghost use Rattle.std.specs.Prelude.{◌++◌};
+ghost use Rattle.std.specs.Prelude.{◌++◌, [], true};
 ghost use Rattle.mit_syntax.specs.Plan.{Plan, command_plan, list_plan};
 ghost use Rattle.mit_syntax.specs.Todo.{Done};
-ghost use Rattle.flow_path.specs.Distances.{IsKnownIn, ComesIn, PassesIn};
+ghost use Rattle.flow_path.specs.Steps.{ends};
+ghost use Rattle.flow_path.specs.Distances.{IsKnownIn, ComesIn, PassesIn, IsTimeOf, IsTimeFrom};
 
 use crate::best::{Best, better};
 use crate::known_costs::Round;
@@ -69,7 +70,24 @@ fn list_end(commands: &[Command], t: Option<Best>, round: &Round) -> Option<Best
     end
 }
 
-/// Adds the steps by the conditions of a command, and tells the first of the cheapest parts of the time after it.
+/// That of the time at which the turns of a loop start and end, where its first turn starts at `start`. Where nothing that its
+/// body adds is cheaper, the body need not be walked for it.
+fn loop_end(body: &[Command], start: Option<Best>, stays: bool, round: &Round) -> Option<Best>
+    requires known { IsKnownIn round.now }
+    requires time { IsTimeOf round.now start (ends (list_plan body.now) []) stays }
+    ensures end { ComesIn round.now start result (list_plan body.now) Done }
+    ensures time { IsTimeOf round.now result (ends (list_plan body.now) []) true }
+{
+    if stays {
+        start
+    } else {
+        list_end(body, start, round)
+    }
+}
+
+/// Adds the steps by the conditions of a command, and tells the first of the cheapest parts of the time after it. `stays` tells
+/// that nothing that the walk from the command on adds to the time is known to be cheaper than what is there: so it is in the
+/// body of a loop, whose end is where its turns start.
 #[cycle(steps)]
 fn command_pass(
     c: &Command,
@@ -77,9 +95,12 @@ fn command_pass(
     t: Option<Best>,
     sides: &mut Sides,
     round: &Round,
+    stays: bool,
 ) -> Option<Best>
-    requires { IsKnownIn round.now }
-    ensures { (rest : Plan) → PassesIn round.now sides.old sides.new pc t result (command_plan c.now rest) rest }
+    requires known { IsKnownIn round.now }
+    requires time { IsTimeFrom round.now t c.now stays }
+    ensures passes { (rest : Plan) → PassesIn round.now sides.old sides.new pc t result (command_plan c.now rest) rest }
+    ensures comes { (rest : Plan) → ComesIn round.now t result (command_plan c.now rest) rest }
 {
     match &c.form {
         Form::Skip => {
@@ -149,8 +170,8 @@ fn command_pass(
             sides.add_label(Rule::If, c.pos, &c.labels, own, round.program, round.target);
             let start = after(t, c.pos, &c.labels, guard, round);
             let inner = inside(pc, c.pos, guard, round);
-            let one = list_pass(then_part, inner, start, sides, round);
-            let other = list_pass(else_part, inner, start, sides, round);
+            let one = list_pass(then_part, inner, start, sides, round, stays);
+            let other = list_pass(else_part, inner, start, sides, round, stays);
             better(one, other)
         }
         Form::While { guard, body } => {
@@ -164,9 +185,9 @@ fn command_pass(
                 round.target,
             );
             let start = after(t, c.pos, &c.labels, guard, round);
-            let end = list_end(body, start, round);
+            let end = loop_end(body, start, stays, round);
             let inner = inside(pc, c.pos, guard, round);
-            let _again = list_pass(body, inner, end, sides, round);
+            let _again = list_pass(body, inner, end, sides, round, true);
             end
         }
         Form::Mitigate {
@@ -185,7 +206,7 @@ fn command_pass(
                 round.target,
             );
             let start = after(t, c.pos, &c.labels, estimate, round);
-            let last = list_pass(body, pc, start, sides, round);
+            let last = list_pass(body, pc, start, sides, round, false);
             let side = Spot::Level(*mark, *level);
             sides.add(Rule::Mtg, c.pos, side, last, round.program, round.target);
             start
@@ -202,13 +223,16 @@ pub(crate) fn list_pass(
     t: Option<Best>,
     sides: &mut Sides,
     round: &Round,
+    stays: bool,
 ) -> Option<Best>
-    requires { IsKnownIn round.now }
-    ensures { PassesIn round.now sides.old sides.new pc t result (list_plan commands.now) Done }
+    requires known { IsKnownIn round.now }
+    requires time { IsTimeOf round.now t (ends (list_plan commands.now) []) stays }
+    ensures passes { PassesIn round.now sides.old sides.new pc t result (list_plan commands.now) Done }
+    ensures comes { ComesIn round.now t result (list_plan commands.now) Done }
 {
     let mut end = t;
     for c in commands {
-        end = command_pass(c, pc, end, sides, round);
+        end = command_pass(c, pc, end, sides, round, stays);
     }
     end
 }

@@ -4,7 +4,7 @@ ghost use Rattle.std.specs.Prelude.{Option, ◌≡◌, ◌<◌, ◌≤◌, ◌+�
 ghost use Rattle.mit_syntax.specs.Program.{Syntax};
 ghost use Rattle.flow_path.specs.declared.cost.Cost.{Cost as ACost};
 ghost use Rattle.flow_path.specs.declared.sides.Found.{Found as AFound};
-ghost use Rattle.flow_path.specs.Steps.{steps_of};
+ghost use Rattle.flow_path.specs.Steps.{conditions_of};
 ghost use Rattle.flow_path.specs.Distances.{IsKnownOf, IsNew, IsNewAt, IsLeastNew, IsSetBy, AreSides, AreSettled, Agrees};
 
 use crate::cost::Cost;
@@ -133,7 +133,7 @@ fn found_with(
     target: &Target,
 ) -> Result<Sides, AllocError>
     requires { IsKnownOf p.now target.now known.now }
-    ensures { IfOk result (λ v. AreSides p.now target.now known.now.variables.items (steps_of p.now) v) }
+    ensures { IfOk result (λ v. AreSides p.now target.now known.now.variables.items (conditions_of p.now) v) }
 {
     let mut sides = no_sides(alloc, count_of(&known.variables))?;
     let round = Round {
@@ -141,7 +141,7 @@ fn found_with(
         known,
         target,
     };
-    let _end = list_pass(p.body(), None, None, &mut sides, &round);
+    let _end = list_pass(p.body(), None, None, &mut sides, &round, false);
     Ok(sides)
 }
 

@@ -1,6 +1,6 @@
 //! The first of the cheapest steps to each label.
 
-ghost use Rattle.std.specs.Prelude.{Option, ◌≡◌, ◌++◌, ◌<◌, [], ℕ, List, length, IfOk, IfSome, None, Some, replicate};
+ghost use Rattle.std.specs.Prelude.{Option, ◌≡◌, ◌++◌, ◌∷◌, ◌<◌, [], ℕ, List, length, IfOk, IfSome, None, Some, replicate};
 ghost use Rattle.mit_syntax.specs.Program.{Syntax};
 ghost use Rattle.flow_path.specs.declared.cost.Cost.{Cost as ACost};
 ghost use Rattle.flow_path.specs.declared.step.Part.{Part as APart};
@@ -9,7 +9,7 @@ ghost use Rattle.flow_path.specs.declared.target.Target.{Target as ATarget};
 ghost use Rattle.flow_path.specs.declared.step.Spot.TheVariants.{Variable as AVariable};
 ghost use Rattle.flow_path.specs.Steps.{to, to_write_label};
 ghost use Rattle.flow_path.specs.Targets.{IsGoalBy};
-ghost use Rattle.flow_path.specs.Distances.{IsBest, IsFound, GoalCosts, SideCosts, AreSides};
+ghost use Rattle.flow_path.specs.Distances.{IsBest, IsFound, IsGoalFound, GoalCosts, SideCosts, AreSides};
 
 use crate::best::Best;
 use crate::cost::Cost;
@@ -72,6 +72,33 @@ fn then(slot: Option<Found>, rule: Rule, pos: Pos, side: Spot, best: Option<Best
     }
 }
 
+/// That of the steps to where a chain is to end, where a chain may end by this condition: by the first of them to which a chain
+/// leads, where chains are to end at the broken condition.
+fn then_there(
+    slot: Option<Found>,
+    rule: Rule,
+    pos: Pos,
+    side: Spot,
+    best: Option<Best>,
+    target: &Target,
+) -> Option<Found>
+    ensures { (s : Syntax) (ds : List (Option ACost)) (bs : List (List AStep)) (ps : List APart) → IsBest s target.now ds ps best
+        → IsGoalBy s target.now rule pos side → IsGoalFound s target.now ds bs slot
+        → IsGoalFound s target.now ds (bs ++ (to rule pos side ps ∷ [])) result }
+{
+    match target {
+        Target::Broken {
+            rule: _,
+            pos: _,
+            allowed: _,
+        } => match slot {
+            Some(_) => slot,
+            None => then(None, rule, pos, side, best),
+        },
+        Target::From { spot: _, label: _ } => then(slot, rule, pos, side, best),
+    }
+}
+
 /// That of the steps to where a chain is to end.
 fn then_goal(
     slot: Option<Found>,
@@ -82,11 +109,11 @@ fn then_goal(
     p: &Program,
     target: &Target,
 ) -> Option<Found>
-    ensures { (ds : List (Option ACost)) (ss : List AStep) (ps : List APart) → IsBest p.now target.now ds ps best
-        → IsFound (GoalCosts p.now target.now ds) ss slot → IsFound (GoalCosts p.now target.now ds) (ss ++ to rule pos side ps) result }
+    ensures { (ds : List (Option ACost)) (bs : List (List AStep)) (ps : List APart) → IsBest p.now target.now ds ps best
+        → IsGoalFound p.now target.now ds bs slot → IsGoalFound p.now target.now ds (bs ++ (to rule pos side ps ∷ [])) result }
 {
     if is_goal(rule, pos, side, p, target) {
-        then(slot, rule, pos, side, best)
+        then_there(slot, rule, pos, side, best, target)
     } else {
         slot
     }
@@ -120,8 +147,8 @@ impl Sides {
         p: &Program,
         target: &Target,
     )
-        ensures { (ds : List (Option ACost)) (ss : List AStep) (ps : List APart) → IsBest p.now target.now ds ps best → AreSides p.now target.now ds ss self.old
-            → AreSides p.now target.now ds (ss ++ to rule pos side ps) self.new }
+        ensures { (ds : List (Option ACost)) (bs : List (List AStep)) (ps : List APart) → IsBest p.now target.now ds ps best
+            → AreSides p.now target.now ds bs self.old → AreSides p.now target.now ds (bs ++ (to rule pos side ps ∷ [])) self.new }
     {
         self.goal = then_goal(self.goal, rule, pos, side, best, p, target);
         match variable_of(side, self.variables.len()) {
@@ -143,8 +170,9 @@ impl Sides {
         p: &Program,
         target: &Target,
     )
-        ensures { (ds : List (Option ACost)) (ss : List AStep) (ps : List APart) → IsBest p.now target.now ds ps best → AreSides p.now target.now ds ss self.old
-            → AreSides p.now target.now ds (ss ++ to_write_label rule pos labels.now ps) self.new }
+        ensures { (ds : List (Option ACost)) (bs : List (List AStep)) (ps : List APart) → IsBest p.now target.now ds ps best
+            → AreSides p.now target.now ds bs self.old
+            → AreSides p.now target.now ds (bs ++ (to_write_label rule pos labels.now ps ∷ [])) self.new }
     {
         if let Some(pair) = labels {
             self.add(rule, pos, Spot::Command(pair.1), best, p, target);

@@ -33,7 +33,8 @@ reads_text c bytes text p e told h =
 
 has_reason : (c : Option (Option (List ℕ))) (p : Syntax) (l : Labelling) (f : TypeFault) (chain : List Step) (x : Reads c p) → IsLeast p l → TypesMost p l
     → (HasType (record { program = p; labels = l }) → ⊥)
-    → first_broken_of (record { program = p; labels = l }) ≡ Some f → IsReason p f chain → AreNoCheaper p f chain → IsEarliest p f chain
+    → first_broken_of (record { program = p; labels = l }) ≡ Some f → IsReason (record { program = p; labels = l }) f chain
+    → AreNoCheaper (record { program = p; labels = l }) f chain → IsEarliest (record { program = p; labels = l }) f chain
     → HasReason c p (refusal_text x.bytes x.tokens p f chain)
 has_reason c p l (BrokenAt rule at have allowed) chain x least most none first reason cheapest earliest =
     record {
@@ -62,15 +63,15 @@ has_reason c p l Memory chain x least most none first reason cheapest earliest =
 pub tells_reason : (c : Option (Option (List ℕ))) (p : Syntax) (q r : LabelledProgram) (f : TypeFault) (chain : List Step) (x : Reads c p) (text : List ℕ)
     (tokens : List Token) (t : List ℕ)
     → x.bytes ≡ text → x.tokens ≡ tokens → q.program ≡ p → r ≡ q → IsLeast p q.labels → TypesMost p q.labels → (HasType q → ⊥) → first_broken_of q ≡ Some f
-    → IsReason q.program f chain → AreNoCheaper q.program f chain → IsEarliest q.program f chain
+    → IsReason q f chain → AreNoCheaper q f chain → IsEarliest q f chain
     → t ≡ refusal_text text tokens r.program f chain → HasReason c p t
 tells_reason c p q r f chain x text tokens t bytes list program kept least most none first reason cheapest earliest is =
     let whole : ◌≡◌ {A = LabelledProgram} q (record { program = p; labels = q.labels }) =
     ap (λ (z : Syntax). record { program = z; labels = q.labels }) program in
     let told = has_reason c p q.labels f chain x least most (subst (λ (z : LabelledProgram). HasType z → ⊥) whole none)
     (subst (λ (z : LabelledProgram). first_broken_of z ≡ Some f) whole first)
-    (subst (λ (z : Syntax). IsReason z f chain) program reason) (subst (λ (z : Syntax). AreNoCheaper z f chain) program cheapest)
-    (subst (λ (z : Syntax). IsEarliest z f chain) program earliest) in
+    (subst (λ (z : LabelledProgram). IsReason z f chain) whole reason) (subst (λ (z : LabelledProgram). AreNoCheaper z f chain) whole cheapest)
+    (subst (λ (z : LabelledProgram). IsEarliest z f chain) whole earliest) in
     let same : r.program ≡ p = ap (λ (z : LabelledProgram). z.program) kept ∙ program in
     let line : t ≡ refusal_text x.bytes x.tokens p f chain =
     is ∙ ap (λ (z : List ℕ). refusal_text z tokens r.program f chain) (sym bytes) ∙ ap (λ (z : List Token). refusal_text x.bytes z r.program f chain) (sym list)

@@ -3,6 +3,7 @@ use Rattle.std.specs.Prelude.{◌≡◌, ℕ, List, [], ◌++◌, Option}
 use Rattle.mit_syntax.specs.declared.token.Token.{Token}
 use Rattle.mit_syntax.specs.Program.{Syntax}
 use Rattle.timing_types.specs.declared.rule.TypeFault.{TypeFault}
+use Rattle.timing_types.specs.Labelled.{LabelledProgram}
 use Rattle.timing_types.specs.declared.rule.TypeFault.TheVariants.{Refused as BrokenAt, Memory}
 use Rattle.flow_path.specs.declared.step.Step.{Step}
 use Rattle.flow_path.specs.Chains.{IsReason, AreNoCheaper}
@@ -21,14 +22,19 @@ refusal_text text tokens p (BrokenAt rule at have allowed) chain =
     refused_line p.order rule at have allowed ++ chain_text text tokens p chain
 refusal_text text tokens p Memory chain = []
 
+-- the program with its least labelling
+abbrev pub refused_of : {p : Syntax} {t : List ℕ} → HasNoType p t → LabelledProgram
+refused_of {p} h = record { program = p; labels = h.labels }
+
 -- No labelling types the program that a file holds. Told is the condition that the least labelling breaks first, and a
--- chain that shows why it can't hold: none is cheaper, and of those that are as cheap it is the earliest.
+-- chain that ends at this very condition and shows why it can't hold: none is cheaper, and of those that are as cheap it is the
+-- earliest.
 pub record HasReason (content : Option (Option (List ℕ))) (p : Syntax) (t : List ℕ) : Type 0 where
   pub source : Reads content p
   pub line : List ℕ
   pub refused : HasNoType p line
   pub chain : List Step
-  pub reason : IsReason p (fault_of refused) chain
-  pub cheapest : AreNoCheaper p (fault_of refused) chain
-  pub earliest : IsEarliest p (fault_of refused) chain
+  pub reason : IsReason (refused_of refused) (fault_of refused) chain
+  pub cheapest : AreNoCheaper (refused_of refused) (fault_of refused) chain
+  pub earliest : IsEarliest (refused_of refused) (fault_of refused) chain
   pub text : t ≡ refusal_text source.bytes source.tokens p (fault_of refused) chain

@@ -8,4 +8,4 @@ returns c =
     all_passed c.args.p.now c.args.target.now c.args.known.now.variables.items c.in_ok-sides.sides c.list_pass-end.new.sides c.list_pass-end.result
     (list_plan c.body.result.now) c.body.ensures.body
     (c.in_ok-sides.ensures c.args.p.now c.args.target.now c.args.known.now.variables.items
-    (sym (c.count_of.ensures ∙ ap (λ z. length z) c.deref.ensures.value))) c.list_pass-end.ensures
+    (sym (c.count_of.ensures ∙ ap (λ z. length z) c.deref.ensures.value))) c.list_pass-end.ensures.passes

@@ -1,5 +1,5 @@
 use Rattle.flow_path.specs.declared.cost.Cost.{Cost}
-use Rattle.flow_path.specs.Steps.{steps_of}
+use Rattle.flow_path.specs.Steps.{conditions_of}
 use Rattle.flow_path.specs.Distances.{IsKnownOf, AreFew, IsDistance, AreSides, count_none}
 use Rattle.flow_path.proofs.settle.settled_in_rounds.Given as goal
 
@@ -8,7 +8,7 @@ invariant-loop-cost l = record {
   known : IsKnownOf l.p l.target l.known;
   few : AreFew l.known.variables.items;
   distance : (now : Cost) × IsDistance l.p l.target l.known.variables.items now;
-  sides : AreSides l.p l.target l.known.variables.items (steps_of l.p) l.all;
+  sides : AreSides l.p l.target l.known.variables.items (conditions_of l.p) l.all;
 }
 
 abbrev pub decreases-loop-cost : goal.decreases-loop-cost
