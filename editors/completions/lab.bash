@@ -5,6 +5,7 @@ _lab_options() {
     case $1 in
         why) echo "--of" ;;
         seen | timeline | bound) echo "--observer --env --budget" ;;
+        steady) echo "--observer --parts --whole" ;;
     esac
 }
 
@@ -24,7 +25,7 @@ _lab() {
     local word=${COMP_WORDS[COMP_CWORD]} before=${COMP_WORDS[COMP_CWORD - 1]} command=${COMP_WORDS[1]:-} file
     COMPREPLY=()
     if [ "$COMP_CWORD" -eq 1 ]; then
-        mapfile -t COMPREPLY < <(compgen -W "why seen timeline bound" -- "$word")
+        mapfile -t COMPREPLY < <(compgen -W "why seen timeline bound steady" -- "$word")
         return
     fi
     case $before in
@@ -32,10 +33,10 @@ _lab() {
             mapfile -t COMPREPLY < <(compgen -W "flat part part2" -- "$word")
             return
             ;;
-        --observer | --of)
+        --observer | --parts | --of)
             for file in "${COMP_WORDS[@]}"; do
                 case $before,$file in
-                    --observer,*.mit) mapfile -t COMPREPLY < <(compgen -W "$(_lab_labels "$file")" -- "$word") ;;
+                    --observer,*.mit | --parts,*.mit) mapfile -t COMPREPLY < <(compgen -W "$(_lab_labels "$file")" -- "$word") ;;
                     --of,*.mit) mapfile -t COMPREPLY < <(compgen -W "$(_lab_names "$file")" -- "$word") ;;
                 esac
             done

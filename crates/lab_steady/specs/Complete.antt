@@ -36,7 +36,8 @@ SteadyGoes content observer parts whole _ = ⊥
 -- status and the same text.
 abbrev pub HasOneSteady : Type 0
 HasOneSteady =
-    (content : Content) (before now : List ℕ → ℕ) (file observer : List ℕ) (parts : Option (List ℕ)) (whole : Bool) (s u : Status) (t x : List ℕ) →
+    (content : Content) (before now : List ℕ → ℕ) (file observer : List ℕ) (parts : Option (List ℕ)) (whole : Bool) (s u : Status)
+    (t x : List ℕ) →
     IsKnown (content file) → (Rose (before file) (now file) → ⊥) →
     IsSteadyAnswer (λ name. Rose (before name) (now name)) content file observer parts whole s t
     → IsSteadyAnswer (λ name. Rose (before name) (now name)) content file observer parts whole u x →

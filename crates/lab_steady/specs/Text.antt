@@ -1,5 +1,6 @@
 -- The text of an answer.
-use Rattle.std.specs.Prelude.{ℕ, zero, suc, ◌+◌, List, [], ◌++◌, Bool, true, false, cond, if◌then◌else◌, nat_lt, Option, Some, None, codes, decimal, slice_get}
+use Rattle.std.specs.Prelude.{ℕ, zero, suc, ◌+◌, List, [], ◌++◌, Bool, true, false, cond, if◌then◌else◌, nat_lt, Option, Some, None, codes, decimal}
+use Rattle.std.specs.Prelude.{slice_get}
 use Rattle.text_base.specs.declared.pos.Pos.{Pos}
 use Rattle.label_lattice.specs.declared.label.Label.{Label}
 use Rattle.mit_syntax.specs.Declarations.{variables, cell_at}
@@ -91,22 +92,22 @@ abbrev pub felt_lines : LabelledProgram → ℕ → ℕ → List ℕ
 felt_lines q h er =
     flow_text q.program er h ++ (codes "what environments keep for " ++ (label_text q.program.order er ++ codes " need not agree\n"))
 
+abbrev pub is_felt : Reason → Bool
+is_felt Felt = true
+is_felt Guard = false
+is_felt Index = false
+is_felt Assigned = false
+is_felt Operand = false
+is_felt Wait = false
+is_felt Estimate = false
+is_felt Target = false
+is_felt Seen = false
+
 -- what follows the place of a fault, whose instruction this is
 abbrev pub reason_lines : LabelledProgram → ℕ → ℕ → List ℕ → ℕ → Instr → Reason → List ℕ
 reason_lines q o h file a i r =
     let low = low_of (order_of q) (labels_of q) o in
     cond (is_felt r) (felt_lines q h i.er.number) (blame_lines q o file (blamed low (lowered q).instrs a i.work r))
-  where
-    is_felt : Reason → Bool
-    is_felt Felt = true
-    is_felt Guard = false
-    is_felt Index = false
-    is_felt Assigned = false
-    is_felt Operand = false
-    is_felt Wait = false
-    is_felt Estimate = false
-    is_felt Target = false
-    is_felt Seen = false
 
 abbrev pub instr_lines : LabelledProgram → ℕ → ℕ → List ℕ → ℕ → Option Instr → Reason → List ℕ
 instr_lines q o h file a None r = []

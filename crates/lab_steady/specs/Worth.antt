@@ -1,5 +1,6 @@
 -- What a yes is worth.
 use Rattle.std.specs.Prelude.{◌≡◌, ℕ, List, Bool, IsTrue}
+use Rattle.tim_base.specs.Faults.{Rose}
 use Rattle.label_lattice.specs.declared.label.Label.{Label}
 use Rattle.label_lattice.specs.Order.{Order}
 use Rattle.timing_types.specs.Labelled.{LabelledProgram, order_of, labels_of}
@@ -36,5 +37,5 @@ module _ {E : Type 0} (v : Order → Env E) (serves : Order → E → Type 0) wh
 
   -- so it is where the answer is a yes
   abbrev pub YesIsWorth : Type 0
-  YesIsWorth = (Rises : List ℕ → Type 0) (content : Content) (file observer parts : List ℕ) (whole : Bool) (t : List ℕ)
-      → Steadies Rises content file observer parts whole status.Done t → IsWorth content file observer parts whole
+  YesIsWorth = (content : Content) (before now : List ℕ → ℕ) (file observer parts : List ℕ) (whole : Bool) (t : List ℕ)
+      → Steadies (λ name. Rose (before name) (now name)) content file observer parts whole status.Done t → IsWorth content file observer parts whole

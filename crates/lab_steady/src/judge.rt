@@ -20,7 +20,7 @@ use timing_types::labelled::Labelled;
 
 /// What is told of a program.
 #[derive(Drop)]
-pub(crate) enum Told {
+pub(crate) enum Verdict {
     /// It is steady.
     Steady(Vec<u8>),
     /// It may not be.
@@ -90,15 +90,15 @@ pub(crate) fn judge(
     parts: Label,
     whole: bool,
     file: &str,
-) -> Result<Told, LowerFault>
+) -> Result<Verdict, LowerFault>
     ensures ok { IfOk result (λ a. IsAnswered p.now observer.number parts.number whole file.now (status_told a) (text_told a)) }
     ensures short { IfOk result (λ a. length (lowered p.now).instrs ≤ 200000) }
     ensures fault { IfErr result (IsLowerFault p.now) }
 {
     let answer = steady(alloc, p, observer, parts, whole)?;
     match answer.fault {
-        None => Ok(Told::Steady(yes_text(alloc, p, observer, parts, whole)?)),
-        Some(first) => Ok(Told::Unsteady(refused(
+        None => Ok(Verdict::Steady(yes_text(alloc, p, observer, parts, whole)?)),
+        Some(first) => Ok(Verdict::Unsteady(refused(
             alloc,
             p,
             &answer.image,

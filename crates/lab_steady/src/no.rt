@@ -3,7 +3,7 @@
 ghost use Rattle.std.specs.Prelude.{◌≡◌, ◌<◌, ◌++◌, OnOk, IfOk, length};
 ghost use Rattle.timing_types.specs.Labelled.{labels_of};
 ghost use Rattle.code_lower.specs.Lowered.{lowered};
-ghost use Rattle.lab_steady.specs.Text.{blame_lines, felt_lines, no_text as text_of_no, reason_lines, variable_lines};
+ghost use Rattle.lab_steady.specs.Text.{blame_lines, felt_lines, is_felt as tells_read_label, no_text as text_of_no, reason_lines, variable_lines};
 
 use crate::blame::blamed;
 use crate::owner::owner_of;
@@ -80,6 +80,23 @@ fn put_felt(
     Ok(())
 }
 
+/// Whether it is the read label that does not flow.
+fn is_felt(reason: Reason) -> bool
+    ensures { result ≡ tells_read_label reason }
+{
+    match reason {
+        Reason::Felt => true,
+        Reason::Guard
+        | Reason::Index
+        | Reason::Assigned
+        | Reason::Operand
+        | Reason::Wait
+        | Reason::Estimate
+        | Reason::Target
+        | Reason::Seen => false,
+    }
+}
+
 /// Puts what follows the place of a fault.
 fn put_reason(
     out: &mut Vec<u8>,
@@ -95,7 +112,7 @@ fn put_reason(
     requires place { fault.place < length image.now.instrs }
     ensures { OnOk result (out.new.items ≡ out.old.items ++ reason_lines p.now observer.number parts.number file.now fault.place instr fault.reason) }
 {
-    if fault.reason == Reason::Felt {
+    if is_felt(fault.reason) {
         return put_felt(out, p, parts, instr.er);
     }
     let variable = blamed(p, observer, image, fault.place, instr.work, fault.reason);

@@ -156,14 +156,14 @@ fn list_owner(commands: &[Command], at: u32, place: u32) -> Found
     requires { at ≤ place }
     ensures { IsIn (list_plan commands.now) at place result }
 {
-    let mut now = at;
+    let mut gone = at;
     for c in commands {
-        match command_owner(c, now, place) {
-            Found::After(end) => now = end,
+        match command_owner(c, gone, place) {
+            Found::After(end) => gone = end,
             Found::At(pos) => return Found::At(pos),
         }
     }
-    Found::After(now)
+    Found::After(gone)
 }
 
 /// The position of the command in whose own code a place of the program's image lies, or `None` for that of HALT and

@@ -11,7 +11,7 @@ ghost use Rattle.timing_types.specs.Labelled.{LabelledProgram};
 ghost use Rattle.lab_steady.specs.Answer.{OfProgram, Steadies};
 ghost use Rattle.lab_steady.specs.Told.{status_told, text_told};
 
-use crate::judge::{Told, judge};
+use crate::judge::{Verdict, judge};
 use crate::names::label_named;
 use code_lower::lower::LowerFault;
 use label_infer::infer::infer;
@@ -44,7 +44,7 @@ fn program_told(
     observer: &str,
     parts: &str,
     whole: bool,
-) -> Result<Told, Stop>
+) -> Result<Verdict, Stop>
     ensures ok { IfOk result (λ x. OfProgram program file.now observer.now parts.now whole (status_told x) (text_told x)) }
     ensures stop { IfErr result (IsStop (OfProgram program file.now observer.now parts.now whole)) }
 {
@@ -71,7 +71,7 @@ pub(crate) fn steady_told<S: Shelf>(
     observer: &str,
     parts: &str,
     whole: bool,
-) -> Result<Told, Stop>
+) -> Result<Verdict, Stop>
     ensures same { KeepsFiles (S.content shelf.old) (S.content shelf.new) }
     ensures later { NoCountFalls (S.faults shelf.old) (S.faults shelf.new) }
     ensures log { Fetches (file.now ∷ []) (S.log shelf.old) (S.log shelf.new) result }

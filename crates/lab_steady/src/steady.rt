@@ -7,7 +7,7 @@ ghost use Rattle.tool_texts.specs.Ends.{EndsBy, Nothing};
 ghost use Rattle.tool_stages.specs.Fetches.{HasFetched};
 ghost use Rattle.lab_steady.specs.Answer.{IsSteadyAnswer, parts_or};
 
-use crate::judge::Told;
+use crate::judge::Verdict;
 use crate::program::steady_told;
 use lab_texts::finish::stop;
 use std::alloc::Global;
@@ -53,8 +53,8 @@ pub fn steady<S: Shelf, W: Sink>(
 {
     let parts = parts_named(parts, observer);
     match steady_told(alloc, shelf, file, observer, parts, whole) {
-        Ok(Told::Steady(text)) => finish(out, text.as_slice(), Status::Done),
-        Ok(Told::Unsteady(text)) => finish(out, text.as_slice(), Status::Refused),
+        Ok(Verdict::Steady(text)) => finish(out, text.as_slice(), Status::Done),
+        Ok(Verdict::Unsteady(text)) => finish(out, text.as_slice(), Status::Refused),
         Err(e) => stop(out, e),
     }
 }
