@@ -5,3 +5,4 @@ pub mod Worthy
 pub mod Pieces
 pub mod Blames
 pub mod Nos
+pub mod Stages

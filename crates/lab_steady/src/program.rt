@@ -50,7 +50,10 @@ fn program_told(
 {
     let lattice = program.lattice();
     let observer = label_named(&lattice, observer)?;
-    let parts = label_named(&lattice, parts)?;
+    let parts = match label_named(&lattice, parts) {
+        Ok(label) => label,
+        Err(stop) => return Err(stop),
+    };
     let Ok(labelled) = infer(alloc, program) else {
         return Err(no_memory());
     };
