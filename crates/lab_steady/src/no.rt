@@ -65,12 +65,7 @@ fn put_blame(
 }
 
 /// Puts the label of what environments keep.
-fn put_felt(
-    out: &mut Vec<u8>,
-    p: &Labelled,
-    parts: Label,
-    label: Label,
-) -> Result<(), AllocError>
+fn put_felt(out: &mut Vec<u8>, p: &Labelled, parts: Label, label: Label) -> Result<(), AllocError>
     ensures { OnOk result (out.new.items ≡ out.old.items ++ felt_lines p.now parts.number label.number) }
 {
     put_flow(out, p.program(), label, parts)?;

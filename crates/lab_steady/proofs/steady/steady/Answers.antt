@@ -19,8 +19,7 @@ returns-in-Ok-Steady-clause-answered g c =
     let observer = c.args.observer.now in
     let parts = option_map (λ s. s.now) c.args.parts in
     ends_finish (g.W.Sink.taken c.args.out.now) (g.W.Sink.taken c.finish.new.out) Nothing (IsSteadyAnswer rises content file observer parts c.args.whole)
-    Done c.as_slice.result.now c.finish.result
-    (
+    Done c.as_slice.result.now c.finish.result (
       c.as_slice.result.now,
       subst (λ (t : List ℕ). Steadies rises content file observer (parts_or parts observer) c.args.whole Done t) (sym c.as_slice.ensures.value)
           (subst (λ (w : List ℕ). Steadies rises content file observer w c.args.whole Done c.in-Ok-Steady.text.items) c.parts_named-parts.ensures
@@ -39,8 +38,7 @@ returns-in-Ok-Unsteady-clause-answered g c =
     let parts = option_map (λ s. s.now) c.args.parts in
     ends_finish (g.W.Sink.taken c.args.out.now) (g.W.Sink.taken c.finish-in-Ok-Unsteady.new.out) Nothing
     (IsSteadyAnswer rises content file observer parts c.args.whole)
-    Refused c.as_slice-in-Ok-Unsteady.result.now c.finish-in-Ok-Unsteady.result
-    (
+    Refused c.as_slice-in-Ok-Unsteady.result.now c.finish-in-Ok-Unsteady.result (
       c.as_slice-in-Ok-Unsteady.result.now,
       subst (λ (t : List ℕ). Steadies rises content file observer (parts_or parts observer) c.args.whole Refused t)
           (sym c.as_slice-in-Ok-Unsteady.ensures.value)
