@@ -1,6 +1,5 @@
 -- The lines of a no, piece by piece.
-use Rattle.std.proofs.Common.{◌≡◌, ◌<◌, ℕ, Bool, true, false, cond, List, ◌++◌, Option, Some, None, codes, refl, sym, ap, ◌∙◌, subst}
-use Rattle.label_code.specs.declared.code.Work.{Work}
+use Rattle.std.proofs.Common.{◌≡◌, ◌<◌, ℕ, Bool, true, false, cond, List, ◌++◌, Option, Some, None, codes, refl, sym, ap, ◌∙◌}
 use Rattle.label_code.specs.declared.code.Instr.{Instr}
 use Rattle.label_code.specs.Shaped.{Code}
 use Rattle.mit_syntax.specs.Program.{Syntax}

@@ -5,7 +5,6 @@ use Rattle.label_lattice.specs.declared.label.Label.{Label}
 use Rattle.label_lattice.specs.Order.{Order, IsOrder}
 use Rattle.mit_syntax.specs.Program.{Syntax}
 use Rattle.timing_types.specs.Labelled.{LabelledProgram}
-use Rattle.label_code.specs.Shaped.{Code}
 use Rattle.label_infer.proofs.OneLeast.{one_labelled}
 use Rattle.parse_laws.proofs.Meant.{program_order}
 use Rattle.steady_code.specs.declared.fault.Fault.{Fault}

@@ -1,5 +1,5 @@
 -- One judgement of a program at most.
-use Rattle.std.proofs.Common.{◌≡◌, ◌<◌, ◌≤◌, ℕ, Bool, true, false, ltb, List, Option, Some, None, refl, sym, ap, subst, ◌∙◌, arith, ltb-true, ltb-false}
+use Rattle.std.proofs.Common.{◌≡◌, ◌<◌, ℕ, Bool, true, false, ltb, List, Option, Some, None, refl, sym, ap, subst, ◌∙◌, arith, ltb-true, ltb-false}
 use Rattle.std.proofs.lemmas.Option.{none-some, same_Some}
 use Rattle.label_code.specs.declared.code.Instr.{Instr}
 use Rattle.timing_types.specs.Labelled.{LabelledProgram, order_of, labels_of}

@@ -1,10 +1,10 @@
 -- What a walk over code finds of a place, a command at a time.
-use Rattle.std.proofs.Common.{◌≡◌, ◌<◌, ◌≤◌, ℕ, ◌+◌, Bool, cond, ltb, Option, Some, None, refl, sym, ap, subst, ◌∙◌, arith, lt-ltb, le-ltb}
+use Rattle.std.proofs.Common.{◌≡◌, ◌<◌, ◌≤◌, ℕ, ◌+◌, Bool, cond, Option, Some, None, sym, ap, subst, ◌∙◌, arith, lt-ltb, le-ltb}
 use Rattle.std.proofs.Common.{List, length, get_or, drop}
 use Rattle.text_base.specs.declared.pos.Pos.{Pos}
 use Rattle.mit_syntax.specs.Expression.{Expression}
 use Rattle.mit_syntax.specs.declared.ast.Command.{Command}
-use Rattle.mit_syntax.specs.Todo.{Done, Skip, Assign, Put, Sleep, If, While, Mitigate}
+use Rattle.mit_syntax.specs.Todo.{If, While, Mitigate}
 use Rattle.mit_syntax.specs.Plan.{Plan, Written, command_plan, list_plan}
 use Rattle.label_lattice.specs.declared.label.Label.{Label}
 use Rattle.timing_types.proofs.Parts.{cut}

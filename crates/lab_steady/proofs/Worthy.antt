@@ -1,10 +1,10 @@
 -- What a yes is worth, from the laws of an environment.
-use Rattle.std.proofs.Common.{◌≡◌, ◌<◌, ◌+◌, ℕ, List, length, Bool, true, false, Some, None, inl, inr, refl, sym, ap, subst, ◌∙◌, arith}
+use Rattle.std.proofs.Common.{◌≡◌, ◌<◌, ℕ, List, length, Bool, true, false, inl, inr, sym, subst, arith}
 use Rattle.std.specs.Prelude.{IsTrue}
 use Rattle.std.proofs.lemmas.Bool.{false≢true}
 use Rattle.label_lattice.specs.declared.label.Label.{Label}
 use Rattle.label_lattice.specs.Lattice.{IsLattice}
-use Rattle.label_lattice.specs.Order.{Order, lattice_of}
+use Rattle.label_lattice.specs.Order.{Order}
 use Rattle.label_lattice.proofs.Orders.{order_is}
 use Rattle.mit_syntax.specs.Program.{Syntax}
 use Rattle.parse_laws.proofs.Meant.{program_order}
@@ -16,11 +16,10 @@ use Rattle.steady_code.specs.Plain.{IsClear, notes_to, notes_all}
 use Rattle.steady_code.specs.Timed.{low_of, felt_of}
 use Rattle.steady_code.proofs.Two.{shows_one, runs_in_time}
 use Rattle.steady_code.proofs.Clear.{clear_notes, clear_all, all_noted}
-use Rattle.steady_program.specs.Lowered.{IsEnd, IsSteady}
-use Rattle.tool_texts.specs.declared.status.Status.TheVariants as status
+use Rattle.steady_program.specs.Lowered.{IsEnd}
 use Rattle.tool_stages.specs.Content.{Content}
 use Rattle.tool_stages.specs.Stages.{Reads}
-use Rattle.lab_steady.specs.Answer.{Names, Infers, Steadies, IsYes}
+use Rattle.lab_steady.specs.Answer.{Names, Infers, IsYes}
 use Rattle.lab_steady.specs.Worth.{IsWorth, YesIsWorth}
 
 -- with `--whole` something is asked past the image

@@ -10,7 +10,7 @@ use Rattle.tool_texts.specs.declared.status.Status.TheVariants as status
 use Rattle.tool_stages.specs.Content.{Content, IsKnown}
 use Rattle.tool_stages.specs.Stages.{Reads}
 use Rattle.lab_steady.specs.Judged.{IsJudged}
-use Rattle.lab_steady.specs.Answer.{Infers, Names, IsSteadyAnswer, parts_or}
+use Rattle.lab_steady.specs.Answer.{Infers, Names, IsSteadyAnswer}
 
 -- The file's text spells a program whose image is not too long, and both names are those of labels.
 pub record CanJudge (content : Option (Option (List ℕ))) (observer parts : List ℕ) : Type 0 where

@@ -1,5 +1,5 @@
 -- What is judged of a program, and which fault is told.
-use Rattle.std.specs.Prelude.{◌≡◌, ℕ, zero, suc, cond, Bool, Option, Some, None, MatchOption}
+use Rattle.std.specs.Prelude.{ℕ, zero, suc, cond, Bool, Option, Some, None, MatchOption}
 use Rattle.label_lattice.specs.Order.{Order, lattice_of}
 use Rattle.mit_syntax.specs.Program.{plan_of}
 use Rattle.timing_types.specs.Labelled.{LabelledProgram}

@@ -1,7 +1,5 @@
-use Rattle.std.proofs.Common.{◌≡◌, ◌≤◌, ◌-◌, Option, None, is_some, false, true, sym, ap, ◌∙◌, arith}
-use Rattle.std.specs.Prelude.{ℕ}
+use Rattle.std.proofs.Common.{◌≤◌, sym, ap, ◌∙◌, arith}
 use Rattle.timing_types.specs.Labelled.{order_of, labels_of}
-use Rattle.label_code.specs.declared.code.Instr.{Instr}
 use Rattle.steady_code.specs.Timed.{low_of}
 use Rattle.lab_steady.specs.Blame.{hidden_by}
 use Rattle.lab_steady.proofs.Blames.{not_there, none_of}

@@ -1,7 +1,6 @@
-use Rattle.std.proofs.Common.{◌≡◌, ◌<◌, ℕ, length, Option, Some, sym, ap, subst, ◌∙◌}
+use Rattle.std.proofs.Common.{◌≡◌, ◌<◌, ℕ, length, Option, sym, ap, subst, ◌∙◌}
 use Rattle.std.specs.Prelude.{MatchOption}
 use Rattle.std.proofs.lemmas.Option.{slice_get_within}
-use Rattle.label_lattice.specs.Order.{Order}
 use Rattle.mit_syntax.specs.Program.{Syntax}
 use Rattle.label_code.specs.Shaped.{Code}
 use Rattle.code_lower.specs.Lowered.{lowered}

@@ -1,6 +1,6 @@
-use Rattle.std.proofs.Common.{rules, ◌≡◌, ◌+◌, ◌*◌, ◌<◌, refl, arith}
+use Rattle.std.proofs.Common.{rules, ◌+◌, ◌*◌, ◌<◌, refl, arith}
 use Rattle.mit_syntax.specs.Expression.{expression_of}
-use Rattle.mit_syntax.specs.Plan.{Written, Plan, list_plan, command_plan, form_count, count}
+use Rattle.mit_syntax.specs.Plan.{Written, list_plan, command_plan, form_count, count}
 use Rattle.timing_types.proofs.Parts.{if_parts, while_parts, mitigate_parts, if_count, while_count, mitigate_count, cut_count, drop_count}
 use Rattle.lab_steady.proofs.Owners.{if_then, if_jump, if_else, while_body, while_again, mitigate_body, mitigate_end}
 use Rattle.lab_steady.proofs.owner.+owners.Goals as goal

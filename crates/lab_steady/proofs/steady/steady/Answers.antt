@@ -1,5 +1,5 @@
 use Rattle.std.proofs.Common.{refl, sym, subst}
-use Rattle.std.specs.Prelude.{ℕ, List, Option, option_map}
+use Rattle.std.specs.Prelude.{ℕ, List, option_map}
 use Rattle.tim_base.specs.Faults.{Rose}
 use Rattle.tool_texts.specs.declared.status.Status.TheVariants.{Done, Refused}
 use Rattle.tool_texts.specs.Ends.{Nothing, status_of, stop_text}
