@@ -7,6 +7,7 @@ _lab_options() {
         why) echo "--of" ;;
         seen | bound) echo "--observer --env --budget" ;;
         timeline) echo "--env --budget --observer" ;;
+        steady) echo "--observer --parts --whole" ;;
     esac
 }
 
@@ -26,7 +27,7 @@ _lab() {
     local word=${COMP_WORDS[COMP_CWORD]} before=${COMP_WORDS[COMP_CWORD - 1]} command=${COMP_WORDS[1]:-} file
     COMPREPLY=()
     if [ "$COMP_CWORD" -eq 1 ]; then
-        mapfile -t COMPREPLY < <(compgen -W "why seen timeline bound" -- "$word")
+        mapfile -t COMPREPLY < <(compgen -W "why seen timeline bound steady" -- "$word")
         return
     fi
     case $before in
@@ -44,6 +45,12 @@ _lab() {
             ;;
         --env)
             mapfile -t COMPREPLY < <(compgen -W "flat part part2" -- "$word")
+            return
+            ;;
+        --parts)
+            for file in "${COMP_WORDS[@]}"; do
+                case $file in *.mit) mapfile -t COMPREPLY < <(compgen -W "$(_lab_labels "$file")" -- "$word") ;; esac
+            done
             return
             ;;
         --budget) return ;;

@@ -10,8 +10,10 @@ use Rattle.lab_bound.proofs.Answering.{completes as bound_completes}
 use Rattle.lab_runs.specs.Begins.{CanBegin}
 use Rattle.lab_runs.proofs.BeginLemmas.{begin_completes}
 use Rattle.lab_seen.specs.Seen.{AreLines, SeenBefore}
+use Rattle.lab_steady.specs.Answer.{parts_or}
+use Rattle.lab_steady.proofs.OneAnswer.{steady_ends}
 use Rattle.lab_timeline.specs.Timed.{AreTimelines, TimelinesBefore}
-use Rattle.lab_words.specs.QuestionAsked.{Asked, why, seen, timeline, bound}
+use Rattle.lab_words.specs.QuestionAsked.{Asked, why, seen, timeline, bound, steady}
 use Rattle.lab_tool.specs.Answers.{Before, IsAnswer}
 use Rattle.lab_tool.specs.Complete.{CanEnd, IsDoneIf, Names, files_of}
 use Rattle.lab_tool.proofs.WhyLemmas.{origin_ends, why_ends}
@@ -78,3 +80,7 @@ completes old new Rises content (bound file starts observer env budget) r Rose e
     let m = second_file Rises content file starts [] none can.known in
     done_if (CanBound content file starts observer env budget) r e can.goes (λ goes.
     bound_completes old new Rises content file starts observer env budget r Rose ends write goes k.0 m.0 n)
+completes old new Rises content (steady file observer parts whole) r Rose ends write e can none n =
+    let k = first_file Rises content file [] none can.known in
+    ends_as old new (Before content (steady file observer parts whole)) (IsAnswer Rises content (steady file observer parts whole)) r e ends
+    (λ f. n (write f)) (λ t h. steady_ends Rises content file observer (parts_or parts observer) whole r e t k.0 k.1 can.goes h)

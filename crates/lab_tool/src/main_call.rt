@@ -13,6 +13,7 @@ ghost use Rattle.lab_tool.specs.Complete.{CanEnd, files_of};
 
 use lab_bound::bound::bound;
 use lab_seen::seen::seen;
+use lab_steady::steady::steady;
 use lab_texts::finish::stop;
 use lab_timeline::timeline::timeline;
 use lab_why::of::why_of;
@@ -78,6 +79,12 @@ fn obey<S: Shelf, W: Sink>(
             let setting = Setting { env, budget };
             bound(alloc, shelf, out, file, starts, observer, setting)
         }
+        Question::Steady {
+            file,
+            observer,
+            parts,
+            whole,
+        } => steady(alloc, shelf, out, file, observer, parts, whole),
     }
 }
 

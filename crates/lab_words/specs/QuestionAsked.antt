@@ -1,5 +1,5 @@
 -- What the words of the lab's command line ask for.
-use Rattle.std.specs.Prelude.{ℕ, List, [], ◌∷◌, Option, Some, None, codes, bytes_eq, option_and_then, if◌then◌else◌}
+use Rattle.std.specs.Prelude.{ℕ, List, [], ◌∷◌, Bool, false, Option, Some, None, codes, bytes_eq, option_and_then, if◌then◌else◌}
 use Rattle.std.specs.Bool.{⊤}
 use Rattle.clap.specs.Words.{Row, Text, fault_of, first_of, matches_of}
 use Rattle.clap.specs.Walk.{is_empty}
@@ -7,22 +7,25 @@ use Rattle.tool_words.specs.declared.words.EnvName.{EnvName}
 use Rattle.run_limits.specs.Cycles.{IsCycles}
 use Rattle.tool_words.specs.WordsValues.{budget_given, env_given, observed_given}
 use Rattle.lab_words.specs.declared.verbs.Verb.{Verb}
-use Rattle.lab_words.specs.declared.verbs.Verb.TheVariants.{Why, Seen, Timeline, Bound}
+use Rattle.lab_words.specs.declared.verbs.Verb.TheVariants.{Why, Seen, Timeline, Bound, Steady}
 use Rattle.lab_words.specs.QuestionForms.{form_app}
 
--- A question with the bytes of its texts, in the order of `Question`: file, starts, observer, environment and budget.
+-- A question with the bytes of its texts, in the order of `Question`: file, starts, observer, environment and budget;
+-- of `steady` file, observer, parts, and whether the whole run is asked about.
 pub data Asked : Type 0 where
   why : Text → Option Text → Asked
   seen : Text → Text → Text → EnvName → ℕ → Asked
   timeline : Text → Text → Option Text → EnvName → ℕ → Asked
   bound : Text → Text → Text → EnvName → ℕ → Asked
+  steady : Text → Text → Option Text → Bool → Asked
 
 abbrev pub verb_named : Text → Option Verb
 verb_named word =
     if bytes_eq word (codes "why") then Some Why else
     (if bytes_eq word (codes "seen") then Some Seen else
     (if bytes_eq word (codes "timeline") then Some Timeline else
-    (if bytes_eq word (codes "bound") then Some Bound else None)))
+    (if bytes_eq word (codes "bound") then Some Bound else
+    (if bytes_eq word (codes "steady") then Some Steady else None))))
 
 -- ---- the values that `clap` gives to the names of a form
 
@@ -34,12 +37,25 @@ abbrev pub timeline_asked : Option Text → Option Text → Option EnvName → O
 timeline_asked (Some file) (Some starts) (Some env) (Some budget) observer = Some (timeline file starts observer env budget)
 timeline_asked _ _ _ _ _ = None
 
+-- a flag is there where its value is `true`, and not where it is `false`
+abbrev pub is_true : Option Text → Bool
+is_true None = false
+is_true (Some word) = bytes_eq word (codes "true")
+
+abbrev pub whole_given : List Row → Bool
+whole_given rows = is_true (first_of (codes "whole") rows)
+
+abbrev pub steady_asked : Option Text → Option Text → Option Text → Bool → Option Asked
+steady_asked (Some file) (Some observer) parts whole = Some (steady file observer parts whole)
+steady_asked _ _ _ _ = None
+
 abbrev pub given : Verb → List Row → Option Asked
 given Why rows = why_asked (first_of (codes "FILE") rows) (first_of (codes "of") rows)
 given Seen rows = observed_given seen rows
 given Timeline rows = timeline_asked (first_of (codes "FILE") rows) (first_of (codes "STARTS") rows) (env_given rows)
     (budget_given rows) (first_of (codes "observer") rows)
 given Bound rows = observed_given bound rows
+given Steady rows = steady_asked (first_of (codes "FILE") rows) (first_of (codes "observer") rows) (first_of (codes "parts") rows) (whole_given rows)
 
 -- ---- all words
 
@@ -61,3 +77,4 @@ IsInRange (why file of) = ⊤
 IsInRange (seen file starts observer env budget) = IsCycles budget
 IsInRange (timeline file starts observer env budget) = IsCycles budget
 IsInRange (bound file starts observer env budget) = IsCycles budget
+IsInRange (steady file observer parts whole) = ⊤

@@ -1,9 +1,10 @@
 -- The written form of each command of the lab, as `clap` sees it: simple, without help or version.
-use Rattle.std.specs.Prelude.{codes}
-use Rattle.clap.specs.Words.{App, new_app, with_rule}
-use Rattle.tool_words.specs.WordsForms.{bare, observed_app, option_rule, required_word_rule}
+use Rattle.std.specs.Prelude.{Some, codes}
+use Rattle.clap.specs.Words.{App, Rule, Text, new_app, new_rule, with_rule}
+use Rattle.clap.specs.declared.builder.action.ArgAction.TheVariants.{SetTrue}
+use Rattle.tool_words.specs.WordsForms.{bare, observed_app, option_rule, required_option_rule, required_word_rule}
 use Rattle.lab_words.specs.declared.verbs.Verb.{Verb}
-use Rattle.lab_words.specs.declared.verbs.Verb.TheVariants.{Why, Seen, Timeline, Bound}
+use Rattle.lab_words.specs.declared.verbs.Verb.TheVariants.{Why, Seen, Timeline, Bound, Steady}
 
 -- FILE [--of NAME]
 abbrev pub why_app : App
@@ -15,9 +16,19 @@ timeline_app = with_rule (with_rule (with_rule (with_rule (with_rule (bare (new_
     (required_word_rule (codes "FILE"))) (required_word_rule (codes "STARTS")))
     (option_rule (codes "env"))) (option_rule (codes "budget"))) (option_rule (codes "observer"))
 
+-- `--name`
+abbrev pub flag_rule : Text → Rule
+flag_rule name = record (new_rule name) { long = Some name; action = Some SetTrue }
+
+-- FILE --observer L [--parts P] [--whole]
+abbrev pub steady_app : App
+steady_app = with_rule (with_rule (with_rule (with_rule (bare (new_app (codes "steady"))) (required_word_rule (codes "FILE")))
+    (required_option_rule (codes "observer"))) (option_rule (codes "parts"))) (flag_rule (codes "whole"))
+
 -- the words that follow each command word
 abbrev pub form_app : Verb → App
 form_app Why = why_app
 form_app Seen = observed_app (codes "seen")
 form_app Timeline = timeline_app
 form_app Bound = observed_app (codes "bound")
+form_app Steady = steady_app

@@ -1,13 +1,13 @@
 //! The written form of each command, for `clap`.
 
-ghost use Rattle.std.specs.Prelude.{◌≡◌, IfOk};
-ghost use Rattle.clap.specs.Words.{app_of};
-ghost use Rattle.lab_words.specs.QuestionForms.{form_app, timeline_app, why_app};
+ghost use Rattle.std.specs.Prelude.{◌≡◌, false, IfOk};
+ghost use Rattle.clap.specs.Words.{app_of, rule_of};
+ghost use Rattle.lab_words.specs.QuestionForms.{flag_rule, form_app, steady_app, timeline_app, why_app};
 
 use crate::verbs::Verb;
-use clap::Command as Form;
+use clap::{Arg, ArgAction, Command as Form};
 use std::alloc::{AllocError, Global};
-use tool_words::forms::{bare_form, observed_form, option, required_word};
+use tool_words::forms::{bare_form, observed_form, option, required_option, required_word};
 
 /// `why FILE [--of NAME]`.
 fn why_form<'a>(alloc: Global) -> Result<Form<'a>, AllocError>
@@ -30,6 +30,25 @@ fn timeline_form<'a>(alloc: Global) -> Result<Form<'a>, AllocError>
         .arg(option(alloc, "observer"))
 }
 
+/// A flag `--name`.
+fn flag<'a>(alloc: Global, name: &'a str) -> Arg<'a>
+    ensures rule { rule_of result ≡ flag_rule name.entry.now }
+    ensures local { result.global ≡ false }
+{
+    Arg::new(alloc, name).long(name).action(ArgAction::SetTrue)
+}
+
+/// `steady FILE --observer L [--parts P] [--whole]`.
+fn steady_form<'a>(alloc: Global) -> Result<Form<'a>, AllocError>
+    ensures { IfOk result (λ f. app_of f ≡ steady_app) }
+{
+    bare_form(alloc, "steady")
+        .arg(required_word(alloc, "FILE"))?
+        .arg(required_option(alloc, "observer"))?
+        .arg(option(alloc, "parts"))?
+        .arg(flag(alloc, "whole"))
+}
+
 /// The form of the words that follow a command word.
 pub(crate) fn form<'a>(alloc: Global, verb: Verb) -> Result<Form<'a>, AllocError>
     ensures { IfOk result (λ f. app_of f ≡ form_app verb) }
@@ -39,5 +58,6 @@ pub(crate) fn form<'a>(alloc: Global, verb: Verb) -> Result<Form<'a>, AllocError
         Verb::Seen => observed_form(alloc, "seen"),
         Verb::Timeline => timeline_form(alloc),
         Verb::Bound => observed_form(alloc, "bound"),
+        Verb::Steady => steady_form(alloc),
     }
 }

@@ -44,6 +44,13 @@ pub enum Question<'a> {
         env: EnvName,
         budget: u64,
     },
+    /// `steady FILE --observer L [--parts P] [--whole]`
+    Steady {
+        file: &'a str,
+        observer: &'a str,
+        parts: Option<&'a str>,
+        whole: bool,
+    },
 }
 
 /// Reads the words that follow a command word.

@@ -2,7 +2,7 @@
 
 ghost use Rattle.std.specs.Prelude.{◌≡◌, IfSome, option_map};
 ghost use Rattle.clap.specs.Words.{found_of, rows_of};
-ghost use Rattle.lab_words.specs.QuestionAsked.{IsInRange, given};
+ghost use Rattle.lab_words.specs.QuestionAsked.{IsInRange, given, whole_given};
 ghost use Rattle.lab_words.specs.QuestionViews.{asked_of};
 
 use crate::question::Question;
@@ -73,6 +73,32 @@ fn bound<'a>(matches: &ArgMatches<'a>) -> Option<Question<'a>>
     })
 }
 
+// Whether the flag is among the words.
+fn whole(matches: &ArgMatches<'_>) -> bool
+    ensures { result ≡ whole_given (rows_of (found_of matches.now)) }
+{
+    match text(matches, "whole") {
+        Some(word) => word == "true",
+        None => false,
+    }
+}
+
+fn steady<'a>(matches: &ArgMatches<'a>) -> Option<Question<'a>>
+    ensures asked { option_map asked_of result ≡ given Verb.Steady (rows_of (found_of matches.now)) }
+    ensures range { IfSome result (λ q. IsInRange (asked_of q)) }
+{
+    let file = file(matches)?;
+    let observer = text(matches, "observer")?;
+    let parts = text(matches, "parts");
+    let whole = whole(matches);
+    Some(Question::Steady {
+        file,
+        observer,
+        parts,
+        whole,
+    })
+}
+
 /// What the matches of a command ask for, if its numbers and names are of their form and in range.
 pub(crate) fn question<'a>(verb: Verb, matches: &ArgMatches<'a>) -> Option<Question<'a>>
     ensures asked { option_map asked_of result ≡ given verb (rows_of (found_of matches.now)) }
@@ -83,5 +109,6 @@ pub(crate) fn question<'a>(verb: Verb, matches: &ArgMatches<'a>) -> Option<Quest
         Verb::Seen => seen(matches),
         Verb::Timeline => timeline(matches),
         Verb::Bound => bound(matches),
+        Verb::Steady => steady(matches),
     }
 }

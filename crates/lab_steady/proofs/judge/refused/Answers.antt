@@ -1,0 +1,44 @@
+use Rattle.std.proofs.Common.{◌≡◌, ◌<◌, ℕ, length, Option, sym, ap, subst, ◌∙◌}
+use Rattle.std.specs.Prelude.{MatchOption}
+use Rattle.std.proofs.lemmas.Option.{slice_get_within}
+use Rattle.mit_syntax.specs.Program.{Syntax}
+use Rattle.label_code.specs.Shaped.{Code}
+use Rattle.code_lower.specs.Lowered.{lowered}
+use Rattle.steady_code.specs.declared.fault.Fault.{Fault}
+use Rattle.steady_program.specs.Lowered.{IsSteady, IsFirstFault}
+use Rattle.lab_steady.specs.Judged.{IsJudged, told, top_of}
+use Rattle.lab_steady.specs.Text.{no_text}
+use Rattle.lab_steady.proofs.Nos.{told_within}
+use Rattle.lab_steady.proofs.judge.refused.Goals as goal
+
+pub no_text-requires-clause-place : goal.no_text-requires-clause-place
+no_text-requires-clause-place c =
+    let q = c.args.p.now in
+    let code : Code = lowered q in
+    let judged : MatchOption c.in_ok-plain.plain.fault (IsSteady q c.args.observer.number c.top-top.result.number c.in_ok-plain.plain.end)
+    (IsFirstFault q c.args.observer.number c.top-top.result.number c.in_ok-plain.plain.end) = c.in_ok-plain.ensures.judged in
+    let inside : (told q c.args.first c.in_ok-plain.plain.fault).place < length code.instrs =
+    told_within q c.args.first c.in_ok-plain.plain.fault (length code.instrs)
+    (slice_get_within code.instrs c.args.first.place c.requires.first.2.instr c.requires.first.2.there)
+    (λ (x : Fault) e.
+    let first : IsFirstFault q c.args.observer.number c.top-top.result.number c.in_ok-plain.plain.end x =
+    subst (λ (z : Option Fault). MatchOption z (IsSteady q c.args.observer.number c.top-top.result.number c.in_ok-plain.plain.end)
+    (IsFirstFault q c.args.observer.number c.top-top.result.number c.in_ok-plain.plain.end)) e judged in
+    slice_get_within code.instrs x.place first.instr first.there) in
+    subst (λ (z : Code). c.told-fault.result.place < length z.instrs) (sym c.requires.image)
+    (subst (λ (z : Fault). z.place < length code.instrs) (sym c.told-fault.ensures) inside)
+
+pub returns-clause-ok : goal.returns-clause-ok
+returns-clause-ok c =
+    let q = c.args.p.now in
+    let top : c.top-top.result.number ≡ top_of q.program.order =
+    c.top-top.ensures ∙ ap top_of (c.lattice.ensures ∙ ap (λ (z : Syntax). z.order) c.program.ensures.program) in
+    record {
+      first = c.args.first;
+      is_first = c.requires.first;
+      plain = c.in_ok-plain.plain.fault;
+      is_plain = subst (λ (z : ℕ). IsJudged q c.args.observer.number z c.args.whole c.in_ok-plain.plain.fault) top
+          (c.in_ok-plain.plain.end, c.in_ok-plain.ensures.end, c.in_ok-plain.ensures.judged);
+      text = c.in_ok-no_text.ensures
+          ∙ ap (λ (z : Fault). no_text q c.args.observer.number c.args.parts.number c.args.file.now z) c.told-fault.ensures;
+    }

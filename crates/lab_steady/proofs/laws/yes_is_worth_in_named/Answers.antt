@@ -1,0 +1,7 @@
+use Rattle.history_bound.specs.Over.{AnyHistory}
+use Rattle.tool_stages.specs.Envs.{environment}
+use Rattle.lab_steady.proofs.Worthy.{worth}
+use Rattle.lab_steady.proofs.laws.yes_is_worth_in_named.Goals as goal
+
+pub returns : goal.returns
+returns c = λ e. worth (environment e) AnyHistory (c.named_keep_the_laws.ensures e)

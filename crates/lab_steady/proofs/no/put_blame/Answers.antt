@@ -1,0 +1,16 @@
+use Rattle.std.proofs.Common.{ap, ◌∙◌}
+use Rattle.label_lattice.specs.Order.{Order}
+use Rattle.mit_syntax.specs.Program.{Syntax}
+use Rattle.timing_types.specs.Labelling.{Labelling, variable_of}
+use Rattle.lab_steady.proofs.Nos.{blame_put}
+use Rattle.lab_steady.proofs.no.put_blame.Goals as goal
+
+pub returns : goal.returns
+returns c =
+    blame_put c.args.p.now c.args.observer.number c.args.file.now c.args.variable c.in-Some.x c.program-2.result.now c.variable-label.result.number
+    c.args.out.now.items c.put_flow.new.out.items c.put_named.new.out.items
+    c.program-2.ensures.program
+    (c.variable-label.ensures
+    ∙ ap (λ (z : Order). variable_of z c.labels.result.now c.in-Some.x) (c.lattice.ensures ∙ ap (λ (z : Syntax). z.order) c.program.ensures.program)
+    ∙ ap (λ (z : Labelling). variable_of c.args.p.now.program.order z c.in-Some.x) c.labels.ensures)
+    c.in-Some.is c.in_ok-put_flow.ensures c.in_ok-put_named.ensures

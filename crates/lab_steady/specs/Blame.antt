@@ -1,0 +1,121 @@
+-- Which variable is to blame for a fault: the last one that is read for the value that may differ, and is not seen.
+use Rattle.std.specs.Prelude.{ℕ, zero, suc, ◌+◌, leb, List, Bool, true, false, cond, Option, Some, None, slice_get}
+use Rattle.mit_syntax.specs.declared.ast.Op.{Op}
+use Rattle.mit_syntax.specs.declared.ast.Op.TheVariants.{Add, Sub, Mul, Div, Rem, Eq, Ne, Lt, Le, Gt, Ge}
+use Rattle.label_code.specs.declared.code.Work.{Work}
+use Rattle.label_code.specs.declared.code.Work.TheVariants.{Push, Load, Store, LoadAt, StoreAt, Apply, Brz, Brnz, Jmp, Sleep, Mitb, Mite, Nop, Halt}
+use Rattle.label_code.specs.declared.code.Instr.{Instr}
+use Rattle.label_code.specs.Shaped.{takes}
+use Rattle.steady_code.specs.declared.fault.Reason.{Reason}
+use Rattle.steady_code.specs.declared.fault.Reason.TheVariants.{Felt, Guard, Index, Assigned, Operand, Wait, Estimate, Target, Seen}
+use Rattle.lab_steady.specs.Owner.{or_else}
+
+-- what an instruction reads that is not seen: a variable, or an array, by its first element
+abbrev pub hidden : (ℕ → Bool) → Work → Option ℕ
+hidden low (Push n) = None
+hidden low (Load x) = cond (low x) None (Some x)
+hidden low (Store x) = None
+hidden low (LoadAt f n) = cond (low f) None (Some f)
+hidden low (StoreAt f n) = None
+hidden low (Apply o) = None
+hidden low (Brz b) = None
+hidden low (Brnz b) = None
+hidden low (Jmp b) = None
+hidden low Sleep = None
+hidden low (Mitb l k) = None
+hidden low Mite = None
+hidden low Nop = None
+hidden low Halt = None
+
+abbrev pub hidden_by : (ℕ → Bool) → Option Instr → Option ℕ
+hidden_by low None = None
+hidden_by low (Some i) = hidden low i.work
+
+-- the last such of the instructions from a place on and before another one
+abbrev pub hidden_in : (ℕ → Bool) → List Instr → ℕ → ℕ → Option ℕ
+hidden_in low image from zero = None
+hidden_in low image from (suc a) = cond (leb from a) (or_else (hidden_by low (slice_get image a)) (hidden_in low image from a)) None
+
+-- where the code begins that makes the last k operands that are there before a place
+abbrev pub taken : Option Instr → ℕ
+taken None = 0
+taken (Some i) = takes i.work
+
+abbrev pub begin_of : List Instr → ℕ → ℕ → ℕ
+begin_of image zero a = a
+begin_of image (suc k) zero = zero
+begin_of image (suc k) (suc a) = begin_of image (k + taken (slice_get image a)) a
+
+-- whether a comparison is made just before a place
+abbrev pub compares : Op → Bool
+compares Add = false
+compares Sub = false
+compares Mul = false
+compares Div = false
+compares Rem = false
+compares Eq = true
+compares Ne = true
+compares Lt = true
+compares Le = true
+compares Gt = true
+compares Ge = true
+
+abbrev pub is_comparison : Work → Bool
+is_comparison (Push n) = false
+is_comparison (Load x) = false
+is_comparison (Store x) = false
+is_comparison (LoadAt f n) = false
+is_comparison (StoreAt f n) = false
+is_comparison (Apply o) = compares o
+is_comparison (Brz b) = false
+is_comparison (Brnz b) = false
+is_comparison (Jmp b) = false
+is_comparison Sleep = false
+is_comparison (Mitb l k) = false
+is_comparison Mite = false
+is_comparison Nop = false
+is_comparison Halt = false
+
+abbrev pub compared_by : Option Instr → Bool
+compared_by None = false
+compared_by (Some i) = is_comparison i.work
+
+abbrev pub is_compared : List Instr → ℕ → Bool
+is_compared image zero = false
+is_compared image (suc a) = compared_by (slice_get image a)
+
+-- The side of a product that is to blame: the right one, unless all that it reads is seen or it is a comparison, which is
+-- short; else the left one.
+abbrev pub hidden_side : (ℕ → Bool) → List Instr → ℕ → Option ℕ
+hidden_side low image a =
+    let m = begin_of image 1 a in
+    or_else (cond (is_compared image a) None (hidden_in low image m a)) (hidden_in low image 0 m)
+
+-- An index stands just before its instruction, or before the value that is assigned.
+abbrev pub index_end : List Instr → ℕ → Work → ℕ
+index_end image a (Push n) = a
+index_end image a (Load x) = a
+index_end image a (Store x) = a
+index_end image a (LoadAt f n) = a
+index_end image a (StoreAt f n) = begin_of image 1 a
+index_end image a (Apply o) = a
+index_end image a (Brz b) = a
+index_end image a (Brnz b) = a
+index_end image a (Jmp b) = a
+index_end image a Sleep = a
+index_end image a (Mitb l k) = a
+index_end image a Mite = a
+index_end image a Nop = a
+index_end image a Halt = a
+
+-- the variable to blame for a fault of the instruction at a place
+abbrev pub blamed : (ℕ → Bool) → List Instr → ℕ → Work → Reason → Option ℕ
+blamed low image a w Felt = None
+blamed low image a w Guard = hidden_in low image 0 a
+blamed low image a w Index = hidden_in low image 0 (index_end image a w)
+blamed low image a w Assigned = hidden_in low image 0 a
+blamed low image a w Operand = hidden_side low image a
+blamed low image a w Wait = hidden_in low image 0 a
+blamed low image a w Estimate = hidden_in low image 0 a
+blamed low image a w Target = None
+blamed low image a w Seen = None

@@ -1,0 +1,172 @@
+//! Which variable is to blame for a fault.
+
+ghost use Rattle.std.specs.Prelude.{◌≡◌, ◌≤◌, ◌<◌, length};
+ghost use Rattle.timing_types.specs.Labelled.{order_of, labels_of};
+ghost use Rattle.label_code.specs.Shaped.{takes as operands_taken};
+ghost use Rattle.steady_code.specs.Timed.{low_of};
+ghost use Rattle.lab_steady.specs.Blame.{begin_of, blamed as variable_blamed, hidden as hidden_variable, hidden_in, hidden_side, index_end};
+ghost use Rattle.lab_steady.specs.Blame.{is_comparison as makes_comparison, is_compared, compares as op_compares};
+
+use label_code::code::Work;
+use label_code::image::Image;
+use label_lattice::label::Label;
+use mit_syntax::ast::Op;
+use steady_code::fault::Reason;
+use timing_types::labelled::Labelled;
+
+/// Whether an observer sees a variable.
+pub(crate) fn is_seen(p: &Labelled, observer: Label, x: u32) -> bool
+    ensures { result ≡ low_of (order_of p.now) (labels_of p.now) observer.number x }
+{
+    let lattice = p.program().lattice();
+    let label = p.labels().variable(x, &lattice);
+    lattice.flows(label, observer)
+}
+
+/// What an instruction reads that is not seen.
+fn hidden(p: &Labelled, observer: Label, work: Work) -> Option<u32>
+    ensures { result ≡ hidden_variable (low_of (order_of p.now) (labels_of p.now) observer.number) work }
+{
+    match work {
+        Work::Load(x)
+        | Work::LoadAt {
+            first: x,
+            length: _,
+        } => {
+            if is_seen(p, observer, x) {
+                None
+            } else {
+                Some(x)
+            }
+        }
+        _ => None,
+    }
+}
+
+/// The last such of the instructions from a place on and before another one.
+fn last_hidden(p: &Labelled, observer: Label, image: &Image, from: u32, to: u32) -> Option<u32>
+    requires { to ≤ length image.now.instrs }
+    ensures { result ≡ hidden_in (low_of (order_of p.now) (labels_of p.now) observer.number) image.now.instrs from to }
+{
+    let mut at = to;
+    while at > from {
+        at -= 1;
+        let read = hidden(p, observer, image.at(at).work);
+        if read.is_some() {
+            return read;
+        }
+    }
+    None
+}
+
+/// How many operands an instruction takes.
+fn takes(work: Work) -> u32
+    ensures value { result ≡ operands_taken work }
+    ensures few { result ≤ 2 }
+{
+    match work {
+        Work::Store(_)
+        | Work::LoadAt { .. }
+        | Work::Brz(_)
+        | Work::Brnz(_)
+        | Work::Sleep
+        | Work::Mitb { .. } => 1,
+        Work::StoreAt { .. } | Work::Apply(_) => 2,
+        Work::Push(_) | Work::Load(_) | Work::Jmp(_) | Work::Mite | Work::Nop | Work::Halt => 0,
+    }
+}
+
+/// Where the code begins that makes the last operand that is there before a place.
+fn begin(image: &Image, place: u32) -> u32
+    requires { place ≤ length image.now.instrs }
+    ensures value { result ≡ begin_of image.now.instrs 1 place }
+    ensures within { result ≤ place }
+{
+    let mut at = place;
+    let mut wanted: u64 = 1;
+    while wanted > 0 && at > 0 {
+        at -= 1;
+        wanted = wanted - 1 + u64::from(takes(image.at(at).work));
+    }
+    at
+}
+
+/// Whether an operator compares.
+fn compares(op: Op) -> bool
+    ensures { result ≡ op_compares op }
+{
+    match op {
+        Op::Eq | Op::Ne | Op::Lt | Op::Le | Op::Gt | Op::Ge => true,
+        Op::Add | Op::Sub | Op::Mul | Op::Div | Op::Rem => false,
+    }
+}
+
+fn is_comparison(work: Work) -> bool
+    ensures { result ≡ makes_comparison work }
+{
+    match work {
+        Work::Apply(op) => compares(op),
+        _ => false,
+    }
+}
+
+/// Whether a comparison is made just before a place.
+fn compared(image: &Image, place: u32) -> bool
+    requires { place ≤ length image.now.instrs }
+    ensures { result ≡ is_compared image.now.instrs place }
+{
+    if place == 0 {
+        return false;
+    }
+    is_comparison(image.at(place - 1).work)
+}
+
+/// The side of a product that is to blame.
+fn side(p: &Labelled, observer: Label, image: &Image, place: u32) -> Option<u32>
+    requires { place ≤ length image.now.instrs }
+    ensures { result ≡ hidden_side (low_of (order_of p.now) (labels_of p.now) observer.number) image.now.instrs place }
+{
+    let middle = begin(image, place);
+    if compared(image, place) {
+        return last_hidden(p, observer, image, 0, middle);
+    }
+    let right = last_hidden(p, observer, image, middle, place);
+    if right.is_some() {
+        return right;
+    }
+    last_hidden(p, observer, image, 0, middle)
+}
+
+/// Where the code of an index ends.
+fn after_index(image: &Image, place: u32, work: Work) -> u32
+    requires { place ≤ length image.now.instrs }
+    ensures value { result ≡ index_end image.now.instrs place work }
+    ensures within { result ≤ length image.now.instrs }
+{
+    match work {
+        Work::StoreAt { .. } => begin(image, place),
+        _ => place,
+    }
+}
+
+/// The variable to blame for a fault of the instruction at a place.
+pub(crate) fn blamed(
+    p: &Labelled,
+    observer: Label,
+    image: &Image,
+    place: u32,
+    work: Work,
+    reason: Reason,
+) -> Option<u32>
+    requires { place ≤ length image.now.instrs }
+    ensures { result ≡ variable_blamed (low_of (order_of p.now) (labels_of p.now) observer.number) image.now.instrs place work reason }
+{
+    match reason {
+        Reason::Guard | Reason::Assigned | Reason::Wait | Reason::Estimate => {
+            last_hidden(p, observer, image, 0, place)
+        }
+        Reason::Index => last_hidden(p, observer, image, 0, after_index(image, place, work)),
+        Reason::Operand => side(p, observer, image, place),
+        Reason::Felt | Reason::Target | Reason::Seen => None,
+    }
+}

@@ -1,0 +1,14 @@
+//! The question `steady`: whether the image of a program takes the same time from all starts that agree, and if not,
+//! which command may let a secret change what is seen, or when, and by which variable.
+#![tactic(auto)]
+
+mod blame;
+mod judge;
+pub mod laws;
+mod names;
+mod no;
+mod owner;
+mod program;
+pub mod steady;
+mod words;
+mod yes;

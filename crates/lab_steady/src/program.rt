@@ -1,0 +1,91 @@
+//! From a file to the answer.
+
+ghost use Rattle.std.specs.Prelude.{◌∷◌, [], IfOk, IfErr};
+ghost use Rattle.tim_base.specs.Kept.{KeepsFiles, NoCountFalls};
+ghost use Rattle.tim_base.specs.Faults.{Rose};
+ghost use Rattle.tool_texts.specs.Ends.{IsStop};
+ghost use Rattle.tool_stages.specs.Fetches.{Fetches};
+ghost use Rattle.tool_stages.specs.Stages.{ImageStops};
+ghost use Rattle.code_lower.specs.Lowered.{IsLowerFault};
+ghost use Rattle.timing_types.specs.Labelled.{LabelledProgram};
+ghost use Rattle.lab_steady.specs.Answer.{OfProgram, Steadies};
+ghost use Rattle.lab_steady.specs.Told.{status_told, text_told};
+
+use crate::judge::{Verdict, judge};
+use crate::names::label_named;
+use code_lower::lower::LowerFault;
+use label_infer::infer::infer;
+use mit_syntax::program::Program;
+use std::alloc::Global;
+use tim_base::shelf::Shelf;
+use tool_stages::program::read_program;
+use tool_texts::lines;
+use tool_texts::status::Status;
+use tool_texts::stop::{Stop, no_memory};
+
+// The stop where there is no image.
+fn image_stop(fault: LowerFault) -> Stop
+    ensures { (q : LabelledProgram) → IsLowerFault q fault → IsStop (ImageStops q) result }
+{
+    match fault {
+        LowerFault::TooLong(count) => Stop::With {
+            status: Status::TooLong,
+            line: lines::too_long_image(count),
+        },
+        LowerFault::Memory => no_memory(),
+    }
+}
+
+// What is told of a program, for two labels by their names.
+fn program_told(
+    alloc: Global,
+    program: Program,
+    file: &str,
+    observer: &str,
+    parts: &str,
+    whole: bool,
+) -> Result<Verdict, Stop>
+    ensures ok { IfOk result (λ x. OfProgram program file.now observer.now parts.now whole (status_told x) (text_told x)) }
+    ensures stop { IfErr result (IsStop (OfProgram program file.now observer.now parts.now whole)) }
+{
+    let lattice = program.lattice();
+    let observer = label_named(&lattice, observer)?;
+    let parts = match label_named(&lattice, parts) {
+        Ok(label) => label,
+        Err(stop) => return Err(stop),
+    };
+    let Ok(labelled) = infer(alloc, program) else {
+        return Err(no_memory());
+    };
+    match judge(alloc, &labelled, observer, parts, whole, file) {
+        Ok(told) => Ok(told),
+        Err(fault) => Err(image_stop(fault)),
+    }
+}
+
+/// What is told of the program of a file.
+///
+/// # Errors
+/// Stops with the first refusal, or with `Memory`.
+pub(crate) fn steady_told<S: Shelf>(
+    alloc: Global,
+    shelf: &mut S,
+    file: &str,
+    observer: &str,
+    parts: &str,
+    whole: bool,
+) -> Result<Verdict, Stop>
+    ensures same { KeepsFiles (S.content shelf.old) (S.content shelf.new) }
+    ensures later { NoCountFalls (S.faults shelf.old) (S.faults shelf.new) }
+    ensures log { Fetches (file.now ∷ []) (S.log shelf.old) (S.log shelf.new) result }
+    ensures told { IfOk result (λ x. Steadies (λ name. Rose (S.faults shelf.old name) (S.faults shelf.new name)) (S.content shelf.old) file.now
+        observer.now parts.now whole (status_told x) (text_told x)) }
+    ensures stop { IfErr result (IsStop (Steadies (λ name. Rose (S.faults shelf.old name) (S.faults shelf.new name)) (S.content shelf.old) file.now
+        observer.now parts.now whole)) }
+{
+    let program = read_program(alloc, shelf, file)?;
+    match program_told(alloc, program, file, observer, parts, whole) {
+        Ok(told) => Ok(told),
+        Err(stop) => Err(stop),
+    }
+}

@@ -1,0 +1,159 @@
+"""What `lab steady` says of a program, by its commands: each instruction with what it asks, for `second-reading`."""
+import dataclasses
+
+COMPARISONS = ("==", "!=", "<", "<=", ">", ">=")
+
+
+@dataclasses.dataclass
+class Step:
+    """An instruction: its command, its read label, why it asks for more than is known and of which expression."""
+
+    command: dict
+    label: int
+    reason: str = ""
+    blamed: tuple = ()
+    shows: bool = False
+    target: int | None = None
+
+
+def reads(expression):
+    """The names that an expression reads, in the order of its code."""
+    if expression[0] == "number":
+        return []
+    if expression[0] == "variable":
+        return [expression[1]]
+    if expression[0] == "element":
+        return reads(expression[3]) + [expression[1]]
+    return reads(expression[2]) + reads(expression[3])
+
+
+class Judgement:
+    """The instructions of a program for an observer, and its first fault."""
+
+    def __init__(self, program, labelling, observer):
+        self.program, self.labelling, self.observer = program, labelling, observer
+        self.sees = {name: program.lattice.flows[label][observer] for name, label in labelling.of.items()}
+        self.steps = []
+        self.list(program.body)
+        self.steps.append(Step(None, program.lattice.bottom))
+
+    def value(self, command, expression, label):
+        """What is known of a value: that it is the same in two runs, and that it is short."""
+        step = Step(command, label)
+        same = is_short = False
+        if expression[0] == "number":
+            same, is_short = True, -(2**15) <= expression[1] < 2**15
+        elif expression[0] == "variable":
+            same = self.sees[expression[1]]
+        elif expression[0] == "element":
+            if not self.value(command, expression[3], label)[0]:
+                step.reason, step.blamed = "index", expression[3]
+            same = self.sees[expression[1]]
+        else:
+            left = self.value(command, expression[2], label)
+            right = self.value(command, expression[3], label)
+            if expression[1] == "*" and not (any(left) and any(right)):
+                step.reason, step.blamed = "operand", expression[2] if any(right) else expression[3]
+            same, is_short = left[0] and right[0], expression[1] in COMPARISONS
+        self.steps.append(step)
+        return same, is_short
+
+    def needs(self, command, label, reason):
+        """The code of a command's value, and an instruction that needs it to be the same."""
+        same = self.value(command, command["value"], label)[0]
+        self.steps.append(Step(command, label, "" if same else reason, command["value"]))
+        return self.steps[-1]
+
+    def list(self, commands):
+        for command in commands:
+            self.one(command)
+
+    def one(self, command):
+        form, label = command["form"], self.labelling.marks[command["number"]][0]
+        if form == "skip":
+            self.steps.append(Step(command, label))
+        elif form in ("assign", "put"):
+            is_seen = self.sees[command["name"][1]]
+            index = form == "assign" or self.value(command, command["index"], label)[0]
+            step = self.needs(command, label, "assigned" if is_seen else "")
+            step.shows = is_seen
+            if not index:
+                step.reason, step.blamed = "index", command["index"]
+        elif form == "sleep":
+            self.needs(command, label, "sleep")
+        elif form == "mitigate":
+            self.needs(command, label, "estimate")
+            self.list(command["parts"][0])
+            self.steps.append(Step(command, label))
+        else:
+            raised = self.program.lattice.join(label, self.labelling.guard(command))
+            test = self.needs(command, label, "guard")
+            top = len(self.steps)
+            self.list(command["parts"][0])
+            if form == "if":
+                jump = Step(command, raised)
+                self.steps.append(jump)
+                test.target = len(self.steps)
+                self.list(command["parts"][1])
+                jump.target = len(self.steps)
+            else:
+                self.needs(command, raised, "guard").target = top
+                test.target = len(self.steps)
+
+    def end(self, whole):
+        """Up to where something is asked: past the image, or the least place from which on nothing is seen and none leads back."""
+        if whole:
+            return len(self.steps) + 1
+        end = least = len(self.steps)
+        for place in range(len(self.steps) - 1, -1, -1):
+            step = self.steps[place]
+            if step.shows:
+                break
+            least = least if step.target is None else min(least, step.target)
+            end = place if place <= least else end
+        return end
+
+    def first(self, whole, is_felt):
+        """The first instruction with a fault, and why."""
+        for step in self.steps[: self.end(whole)]:
+            if not is_felt(step.label):
+                return step, "read label"
+            if step.reason:
+                return step, step.reason
+        return None
+
+    def fault(self, whole, parts):
+        """The fault that is told: of its command one that is there though all is felt, if there is one."""
+        found = self.first(whole, lambda label: self.program.lattice.flows[label][parts])
+        plain = self.first(whole, lambda label: True)
+        if found and plain and plain[0].command is found[0].command and found[0].command is not None:
+            return plain
+        return found
+
+    def refusal(self, file, step, reason, parts):
+        names = self.program.lattice.names
+        place = "end" if step.command is None else "{}:{}".format(*step.command["place"])
+        text = f"unsteady {reason} at {place}: "
+        if reason == "read label":
+            kept = names[step.label]
+            return text + f"{kept} does not flow to {names[parts]}\nwhat environments keep for {kept} need not agree\n"
+        name = [name for name in reads(step.blamed) if not self.sees[name]][-1]
+        label = names[self.labelling.of[name]]
+        text += f"{label} does not flow to {names[self.observer]}\n"
+        if self.program.written[name] is not None:
+            return text + f"{name} is declared {label}\n"
+        return text + f"{name} is inferred {label}\nlab why {file} --of {name} tells why\n"
+
+
+def told(program, labelling, file, observer, parts, whole):
+    """The status of `steady`, and what it writes."""
+    judgement = Judgement(program, labelling, observer)
+    found = judgement.fault(whole, parts)
+    if found:
+        return 1, judgement.refusal(file, *found, parts)
+    names = program.lattice.names
+    seen = sum(judgement.sees[program.name_of(x)] for x in range(len(program.names)))
+    asked = "end asked" if whole else "end not asked"
+    return 0, (
+        f"steady\nobserver {names[observer]}\nparts {names[parts]}\n{asked}\nsees {seen} of {len(program.names)} variables\n"
+    )
