@@ -28,7 +28,8 @@ USAGE = """usage: mitigate check FILE
 LAB_USAGE = """usage: lab why FILE [--of NAME]
        lab seen FILE STARTS --observer L [--env flat|part|part2] [--budget T]
        lab timeline FILE STARTS [--env flat|part|part2] [--budget T] [--observer L]
-       lab bound FILE STARTS --observer L [--env flat|part|part2] [--budget T]"""
+       lab bound FILE STARTS --observer L [--env flat|part|part2] [--budget T]
+       lab leak FILE STARTS --observer L [--env flat|part|part2] [--budget T]"""
 
 
 @dataclasses.dataclass

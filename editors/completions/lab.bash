@@ -4,7 +4,7 @@
 _lab_options() {
     case $1 in
         why) echo "--of" ;;
-        seen | timeline | bound) echo "--observer --env --budget" ;;
+        seen | timeline | bound | leak) echo "--observer --env --budget" ;;
     esac
 }
 
@@ -24,7 +24,7 @@ _lab() {
     local word=${COMP_WORDS[COMP_CWORD]} before=${COMP_WORDS[COMP_CWORD - 1]} command=${COMP_WORDS[1]:-} file
     COMPREPLY=()
     if [ "$COMP_CWORD" -eq 1 ]; then
-        mapfile -t COMPREPLY < <(compgen -W "why seen timeline bound" -- "$word")
+        mapfile -t COMPREPLY < <(compgen -W "why seen timeline bound leak" -- "$word")
         return
     fi
     case $before in

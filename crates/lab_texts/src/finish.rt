@@ -20,6 +20,7 @@ pub fn usage() -> &'static [u8]
        lab seen FILE STARTS --observer L [--env flat|part|part2] [--budget T]
        lab timeline FILE STARTS [--env flat|part|part2] [--budget T] [--observer L]
        lab bound FILE STARTS --observer L [--env flat|part|part2] [--budget T]
+       lab leak FILE STARTS --observer L [--env flat|part|part2] [--budget T]
 "
 }
 

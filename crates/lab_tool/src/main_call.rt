@@ -12,6 +12,7 @@ ghost use Rattle.lab_tool.specs.Answers.{Before, IsAnswer, IsUsage};
 ghost use Rattle.lab_tool.specs.Complete.{CanEnd, files_of};
 
 use lab_bound::bound::bound;
+use lab_leak::leak::leak;
 use lab_seen::seen::seen;
 use lab_texts::finish::stop;
 use lab_timeline::timeline::timeline;
@@ -77,6 +78,16 @@ fn obey<S: Shelf, W: Sink>(
         } => {
             let setting = Setting { env, budget };
             bound(alloc, shelf, out, file, starts, observer, setting)
+        }
+        Question::Leak {
+            file,
+            starts,
+            observer,
+            env,
+            budget,
+        } => {
+            let setting = Setting { env, budget };
+            leak(alloc, shelf, out, file, starts, observer, setting)
         }
     }
 }

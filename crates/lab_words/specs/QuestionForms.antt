@@ -3,7 +3,7 @@ use Rattle.std.specs.Prelude.{codes}
 use Rattle.clap.specs.Words.{App, new_app, with_rule}
 use Rattle.tool_words.specs.WordsForms.{bare, observed_app, option_rule, required_word_rule}
 use Rattle.lab_words.specs.declared.verbs.Verb.{Verb}
-use Rattle.lab_words.specs.declared.verbs.Verb.TheVariants.{Why, Seen, Timeline, Bound}
+use Rattle.lab_words.specs.declared.verbs.Verb.TheVariants.{Why, Seen, Timeline, Bound, Leak}
 
 -- FILE [--of NAME]
 abbrev pub why_app : App
@@ -21,3 +21,4 @@ form_app Why = why_app
 form_app Seen = observed_app (codes "seen")
 form_app Timeline = timeline_app
 form_app Bound = observed_app (codes "bound")
+form_app Leak = observed_app (codes "leak")

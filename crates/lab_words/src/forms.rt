@@ -39,5 +39,6 @@ pub(crate) fn form<'a>(alloc: Global, verb: Verb) -> Result<Form<'a>, AllocError
         Verb::Seen => observed_form(alloc, "seen"),
         Verb::Timeline => timeline_form(alloc),
         Verb::Bound => observed_form(alloc, "bound"),
+        Verb::Leak => observed_form(alloc, "leak"),
     }
 }

@@ -73,6 +73,24 @@ fn bound<'a>(matches: &ArgMatches<'a>) -> Option<Question<'a>>
     })
 }
 
+fn leak<'a>(matches: &ArgMatches<'a>) -> Option<Question<'a>>
+    ensures asked { option_map asked_of result ≡ given Verb.Leak (rows_of (found_of matches.now)) }
+    ensures range { IfSome result (λ q. IsInRange (asked_of q)) }
+{
+    let file = file(matches)?;
+    let starts = text(matches, "STARTS")?;
+    let observer = text(matches, "observer")?;
+    let env = env(matches)?;
+    let budget = budget(matches)?;
+    Some(Question::Leak {
+        file,
+        starts,
+        observer,
+        env,
+        budget,
+    })
+}
+
 /// What the matches of a command ask for, if its numbers and names are of their form and in range.
 pub(crate) fn question<'a>(verb: Verb, matches: &ArgMatches<'a>) -> Option<Question<'a>>
     ensures asked { option_map asked_of result ≡ given verb (rows_of (found_of matches.now)) }
@@ -83,5 +101,6 @@ pub(crate) fn question<'a>(verb: Verb, matches: &ArgMatches<'a>) -> Option<Quest
         Verb::Seen => seen(matches),
         Verb::Timeline => timeline(matches),
         Verb::Bound => bound(matches),
+        Verb::Leak => leak(matches),
     }
 }

@@ -10,6 +10,7 @@ pub(crate) enum Verb {
     Seen,
     Timeline,
     Bound,
+    Leak,
 }
 
 /// The command word that a text is.
@@ -21,6 +22,7 @@ pub(crate) fn verb_of(word: &str) -> Option<Verb>
         "seen" => Some(Verb::Seen),
         "timeline" => Some(Verb::Timeline),
         "bound" => Some(Verb::Bound),
+        "leak" => Some(Verb::Leak),
         _ => None,
     }
 }

@@ -14,7 +14,7 @@ mod text;
 mod words_tests;
 
 // The tables, in the order in which they are run.
-const TABLES: [&str; 24] = [
+const TABLES: [&str; 25] = [
     "examples.txt",
     "texts.txt",
     "grammar.txt",
@@ -38,6 +38,7 @@ const TABLES: [&str; 24] = [
     "lab-why.txt",
     "lab-runs.txt",
     "lab-bounds.txt",
+    "lab-leaks.txt",
     "lab-faults.txt",
 ];
 

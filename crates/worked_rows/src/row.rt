@@ -27,6 +27,7 @@ const LAB_USAGE: &[u8] = b"usage: lab why FILE [--of NAME]
        lab seen FILE STARTS --observer L [--env flat|part|part2] [--budget T]
        lab timeline FILE STARTS [--env flat|part|part2] [--budget T] [--observer L]
        lab bound FILE STARTS --observer L [--env flat|part|part2] [--budget T]
+       lab leak FILE STARTS --observer L [--env flat|part|part2] [--budget T]
 ";
 
 // The usage text of the program that is called.

@@ -39,6 +39,13 @@ returns-in-Bound-clause-answered g c =
     subst (λ (x : Question). EndsBy (g.W.Sink.taken c.args.out.now) (g.W.Sink.taken c.bound.new.out) (Before content (asked_of x))
     (IsAnswer rises content (asked_of x)) c.bound.result) (sym c.in-Bound.is) c.bound.ensures.answered
 
+pub returns-in-Leak-clause-answered : goal.returns-in-Leak-clause-answered
+returns-in-Leak-clause-answered g c =
+    let content = g.S.Shelf.content c.args.shelf.now in
+    let rises = λ (name : List ℕ). Rose (g.S.Shelf.faults c.args.shelf.now name) (g.S.Shelf.faults c.leak.new.shelf name) in
+    subst (λ (x : Question). EndsBy (g.W.Sink.taken c.args.out.now) (g.W.Sink.taken c.leak.new.out) (Before content (asked_of x))
+    (IsAnswer rises content (asked_of x)) c.leak.result) (sym c.in-Leak.is) c.leak.ensures.answered
+
 pub returns-in-Timeline-clause-answered : goal.returns-in-Timeline-clause-answered
 returns-in-Timeline-clause-answered g c =
     let content = g.S.Shelf.content c.args.shelf.now in
@@ -65,6 +72,11 @@ pub returns-in-Bound-clause-fetched : goal.returns-in-Bound-clause-fetched
 returns-in-Bound-clause-fetched g c =
     subst (λ (x : Question). HasFetched (files_of (asked_of x)) c.bound.result (g.S.Shelf.log c.args.shelf.now) (g.S.Shelf.log c.bound.new.shelf))
     (sym c.in-Bound.is) c.bound.ensures.fetched
+
+pub returns-in-Leak-clause-fetched : goal.returns-in-Leak-clause-fetched
+returns-in-Leak-clause-fetched g c =
+    subst (λ (x : Question). HasFetched (files_of (asked_of x)) c.leak.result (g.S.Shelf.log c.args.shelf.now) (g.S.Shelf.log c.leak.new.shelf))
+    (sym c.in-Leak.is) c.leak.ensures.fetched
 
 pub returns-in-Timeline-clause-fetched : goal.returns-in-Timeline-clause-fetched
 returns-in-Timeline-clause-fetched g c =
