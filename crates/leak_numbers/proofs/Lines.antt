@@ -4,7 +4,8 @@ use Rattle.std.specs.Prelude.{eqb}
 use Rattle.fixed_log.specs.Log.{IsLog}
 use Rattle.fixed_log.specs.Entropy.{IsEntropy, starts, square_sum}
 use Rattle.fixed_log.specs.Units.{log_units, entropy_units}
-use Rattle.leak_numbers.specs.Numbers.{AreNumbers, AreNumbersOnce, NumbersPut, numbers_text, counted, span_line, least_of, greatest_of, interval_line, first_line, guess_line}
+use Rattle.leak_numbers.specs.Numbers.{AreNumbers, AreNumbersOnce, NumbersPut, numbers_text, counted, span_line, least_of, greatest_of, interval_line}
+use Rattle.leak_numbers.specs.Numbers.{first_line, guess_line}
 
 pub after_six : (x₀ x₁ x₂ x₃ x₄ x₅ x₆ a b c d e f : List ℕ) → x₁ ≡ x₀ ++ a → x₂ ≡ x₁ ++ b → x₃ ≡ x₂ ++ c → x₄ ≡ x₃ ++ d → x₅ ≡ x₄ ++ e → x₆ ≡ x₅ ++ f
     → x₆ ≡ x₀ ++ (a ++ (b ++ (c ++ (d ++ (e ++ f)))))
