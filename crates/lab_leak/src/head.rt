@@ -49,10 +49,7 @@ pub(crate) fn put_head(
     put(text, &number(b"runs ", u64::from(report.runs)))?;
     put(text, &label(b"observer ", order, observer))?;
     put(text, &number(b"budget ", budget))?;
-    put(
-        text,
-        &bound(report.measures.base, report.measures.exponent),
-    )?;
+    put(text, &bound(report.measures.base, report.measures.exponent))?;
     put(text, &sharp(count))?;
     Ok(())
 }

@@ -88,7 +88,11 @@ fn write_in<E: MachineEnv + Drop, M: NamedEnv<E>>(
 {
     p.compiled.image.laws();
     named_tell_as_histories::<E, M>();
-    let (starts, sizes, firsts) = (p.starts.as_slice(), found.sizes.as_slice(), found.firsts.as_slice());
+    let (starts, sizes, firsts) = (
+        p.starts.as_slice(),
+        found.sizes.as_slice(),
+        found.firsts.as_slice(),
+    );
     for (k, &first) in firsts.iter().enumerate() {
         let start = &starts[first as usize - 1];
         write_class(alloc, maker, p, start, first, sizes[k], setting.budget, out)?;
