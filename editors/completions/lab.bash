@@ -5,7 +5,7 @@
 _lab_options() {
     case $1 in
         why) echo "--of" ;;
-        seen | bound) echo "--observer --env --budget" ;;
+        seen | bound | leak) echo "--observer --env --budget" ;;
         timeline) echo "--env --budget --observer" ;;
         steady) echo "--observer --parts --whole" ;;
     esac
@@ -27,7 +27,7 @@ _lab() {
     local word=${COMP_WORDS[COMP_CWORD]} before=${COMP_WORDS[COMP_CWORD - 1]} command=${COMP_WORDS[1]:-} file
     COMPREPLY=()
     if [ "$COMP_CWORD" -eq 1 ]; then
-        mapfile -t COMPREPLY < <(compgen -W "why seen timeline bound steady" -- "$word")
+        mapfile -t COMPREPLY < <(compgen -W "why seen timeline bound steady leak" -- "$word")
         return
     fi
     case $before in

@@ -1,9 +1,11 @@
 -- The sharp count of what is told of the levels bounds what the runs show.
-use Rattle.std.proofs.Common.{◌≡◌, ◌<◌, ◌≤◌, ℕ, zero, suc, ◌*◌, List, [], ◌∷◌, length, refl, sym, ap, ◌∙◌, subst, Some, inl, inr, ◌⊎◌, arith}
+use Rattle.std.proofs.Common.{◌≡◌, ◌<◌, ◌≤◌, ℕ, zero, suc, ◌+◌, ◌*◌, ◌^◌, List, [], ◌∷◌, length, map, refl, sym, ap, ◌∙◌, subst, Some}
+use Rattle.std.proofs.Common.{inl, inr, ◌⊎◌, arith, le_trans}
+use Rattle.std.proofs.Math.Nat.{pow-suc, pow-zero}
 use Rattle.std.specs.Prelude.{Bool, true, ℤ, eqb}
 use Rattle.std.specs.List.{count_by}
 use Rattle.std.proofs.lemmas.Bool.{eq-eqb, and_from}
-use Rattle.label_lattice.specs.Order.{Order}
+use Rattle.label_lattice.specs.Order.{Order, lattice_of, count_not_below}
 use Rattle.mit_syntax.specs.Todo.{Todo, Done, Skip, Assign, Put, Sleep, If, While, Mitigate, commands_of}
 use Rattle.mit_syntax.specs.Program.{Syntax, plan_of}
 use Rattle.mit_syntax.specs.Values.{value_of}
@@ -17,8 +19,10 @@ use Rattle.env_contract.specs.Env.{Env}
 use Rattle.env_contract.specs.declared.place.Touch.{Touch}
 use Rattle.label_code.specs.Run.{Start}
 use Rattle.code_lower.specs.Lowered.{lowered}
+use Rattle.leak_bound.specs.Digits.{digits}
 use Rattle.leak_bound.specs.Relevant.{is_relevant}
 use Rattle.leak_bound.specs.Records.{Each}
+use Rattle.leak_bound.specs.Sound.{bound, FirstBegins}
 use Rattle.leak_bound.specs.Source.{IsTypedWith}
 use Rattle.sharp_count.specs.declared.count.LevelRuns.{LevelRuns}
 use Rattle.sharp_count.specs.Count.{rising, sharp, fitting}
@@ -33,6 +37,7 @@ use Rattle.leak_audit.specs.Agreement.{starts_of}
 use Rattle.leak_audit.specs.Sequences.{same_sequence}
 use Rattle.leak_audit.specs.Surveyed.{sequence_from}
 use Rattle.leak_audit.proofs.Classing.{tests_sequences}
+use Rattle.leak_audit.proofs.Measuring.{power_is}
 use Rattle.history_bound.specs.Over.{AnyHistory, history_made}
 use Rattle.leak_audit.specs.declared.report.AuditReport.{AuditReport}
 use Rattle.leak_audit.specs.Report.{IsReport}
@@ -60,6 +65,15 @@ predicts_next rel ls firsts (Mitigate w k l e c r) m h = h k (prediction (value_
 same_product : (values c d : ℕ → ℕ) (n : ℕ) → ((l : ℕ) → c l ≡ d l) → sharp values n c ≡ sharp values n d
 same_product values c d zero h = refl
 same_product values c d (suc l) h = ap (λ z. rising (values l) z * sharp values l c) (h l) ∙ ap (λ z. rising (values l) (d l) * z) (same_product values c d l h)
+
+-- where nothing begins, there is one list
+one_list : (values c : ℕ → ℕ) (n : ℕ) → ((l : ℕ) → c l ≡ 0) → sharp values n c ≡ 1
+one_list values c zero h = refl
+one_list values c (suc l) h = ap (λ z. rising (values l) z * sharp values l c) (h l) ∙ ap (λ z. rising (values l) 0 * z) (one_list values c l h)
+
+one_power : (e : ℕ) → 1 ^ e ≡ 1
+one_power zero = pow-zero 1
+one_power (suc e) = pow-suc 1 e ∙ ap (λ z. z * 1) (one_power e)
 
 module _ (q : LabelledProgram) (o : ℕ) where
   abbrev Each' : List ℤ → (ℕ → ℕ) → Type 0
@@ -116,10 +130,21 @@ module _ {E : Type 0} (v : Env E) (serves : Order → E → Type 0) (made : Orde
   each_with [] c d same h = tt
   each_with (m ∷ ms) c d same h = (begins_each_with q o m c d same h.0, each_with ms c d same h.1)
 
+  -- where nothing begins, the sharp count and the bound are 1
+  no_more : (levels : List LevelRuns) (k : ℕ) → ((l : ℕ) → counts_of levels l ≡ 0) → k ≡ 0 → sharp_of t levels ≤ bound q.program.order o t k
+  no_more levels k begun none =
+      let one : sharp_of t levels ≡ 1 = one_list (ends_by t (FirstsOf levels)) (counts_of levels) (length levels) begun in
+      let other : bound q.program.order o t k ≡ 1 =
+      ap (λ z. (z + 1) ^ (count_not_below (lattice_of q.program.order) o q.program.order.size * digits t)) none
+      ∙ one_power (count_not_below (lattice_of q.program.order) o q.program.order.size * digits t) in
+      omega (arith, one, other)
+
   -- what the theorem says of starts of which there is a report
   pub record Found (ss : List StartValue) (levels : List LevelRuns) : Type 0 where
     pub begun : Each (λ m. BeginsEach (order_of q) (labels_of q) (levels_of q) o (plan_of q.program) m (counts_of levels)) (memories_of ss)
     pub few : FewShown (sequence_from v q o t) same_sequence (starts_of made q.program.order ss) (sharp_of t levels)
+    pub within : (k : ℕ) → FirstBegins (order_of q) (labels_of q) (levels_of q) o (plan_of q.program) (starts_of made q.program.order ss) k
+        → sharp_of t levels ≤ bound q.program.order o t k
 
   found : SharpSound v q.program.order (serves q.program.order) (labels_of q) (levels_of q) (lowered q).instrs (plan_of q.program)
       → o < q.program.order.size → 0 < t →
@@ -134,20 +159,32 @@ module _ {E : Type 0} (v : Env E) (serves : Order → E → Type 0) (made : Orde
       let size : q.program.order.size ≡ length levels = sym h.size in
       go ss levels counts h each (subst
       (λ n. FewShown (sequence_from v q o t) same_sequence (starts_of made q.program.order ss) (sharp (ends_by t firsts) n counts)) size few.2)
+      (λ k first. subst (λ n. sharp (ends_by t firsts) n counts ≤ bound q.program.order o t k) size
+      (le_trans (few.3 k first).0 (few.3 k first).1))
       (counts_same ss levels counts each h.begun)
     where
       go : (ss : List StartValue) (levels : List LevelRuns) (counts : ℕ → ℕ) → AreTold q o (memories_of ss) levels
           → Each (λ m. BeginsEach (order_of q) (labels_of q) (levels_of q) o (plan_of q.program) m counts) (memories_of ss) →
           FewShown (sequence_from v q o t) same_sequence (starts_of made q.program.order ss) (sharp (ends_by t (FirstsOf levels)) (length levels) counts)
+          → ((k : ℕ) → FirstBegins (order_of q) (labels_of q) (levels_of q) o (plan_of q.program) (starts_of made q.program.order ss) k
+          → sharp (ends_by t (FirstsOf levels)) (length levels) counts ≤ bound q.program.order o t k)
           → (ss ≡ []) ⊎ ((l : ℕ) → counts l ≡ counts_of levels l) → Found ss levels
-      go ss levels counts h each few (inl none) =
+      go ss levels counts h each few within (inl none) =
+          let begun : (l : ℕ) → counts_of levels l ≡ 0 =
+          subst (λ (z : List StartValue). FirstBeginsEach q o (memories_of z) (counts_of levels)) none h.begun in
           subst (λ (z : List StartValue). Found z levels) (sym none)
-          (record { begun = tt; few = record { count = omega arith; best_few = λ w. omega arith; guess = λ w g. omega arith } })
-      go ss levels counts h each few (inr same) =
+          (record {
+            begun = tt;
+            few = record { count = omega arith; best_few = λ w. omega arith; guess = λ w g. omega arith };
+            within = λ k first. no_more levels k begun first;
+          })
+      go ss levels counts h each few within (inr same) =
           record {
             begun = each_with (memories_of ss) counts (counts_of levels) same each;
             few = subst (FewShown (sequence_from v q o t) same_sequence (starts_of made q.program.order ss))
                 (same_product (ends_by t (FirstsOf levels)) counts (counts_of levels) (length levels) same) few;
+            within = λ k first. subst (λ z. z ≤ bound q.program.order o t k)
+                (same_product (ends_by t (FirstsOf levels)) counts (counts_of levels) (length levels) same) (within k first);
           }
 
   counted : (ss : List StartValue) (r : AuditReport) (levels : List LevelRuns) → IsReport v serves q o t (starts_of made q.program.order ss) r → Found ss levels
@@ -157,6 +194,13 @@ module _ {E : Type 0} (v : Env E) (serves : Order → E → Type 0) (made : Orde
       let c = f.few.count in
       let d = is.measures.distinct in
       omega (arith, same, c, d)
+
+  bounded : (ss : List StartValue) (r : AuditReport) (levels : List LevelRuns) → IsReport v serves q o t (starts_of made q.program.order ss) r → Found ss levels
+      → sharp_of t levels ≤ r.measures.base ^ r.measures.exponent
+  bounded ss r levels is f =
+      subst (λ z. sharp_of t levels ≤ z)
+      (power_is q.program.order o t r.mitigations (map (sequence_from v q o t) (starts_of made q.program.order ss)) r.measures is.measures)
+      (f.within r.mitigations is.mitigations)
 
 typed_with : (words : List Told) (p : Syntax) (q : LabelledProgram) → IsProgram words p → Types p q → IsTypedWith q
 typed_with words p q spelled types = typed_made words p q spelled types.program types.least.labels.keeps types.typed
@@ -170,4 +214,9 @@ module _ (sharp : (e : EnvName) → LoweredSharpOver (environment e) AnyHistory)
   all_enough e t some words p q o ss r levels spelled types low is h =
       let v = environment e q.program.order in
       let f = found v AnyHistory history_made q o t (sharp e q (typed_with words p q spelled types)) (below p q o types low) some ss r levels is h in
-      record { begun = f.begun; few = f.few; counted = counted v AnyHistory history_made q o t ss r levels is f }
+      record {
+        begun = f.begun;
+        few = f.few;
+        counted = counted v AnyHistory history_made q o t ss r levels is f;
+        within = bounded v AnyHistory history_made q o t ss r levels is f;
+      }

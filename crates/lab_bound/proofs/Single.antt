@@ -42,7 +42,7 @@ same_counts q o [] c d h k l = h l ∙ sym (k l)
 same_counts q o (m ∷ ms) c d h k l = begins_each_one q o m c d h k l
 
 -- what is told of the levels is told in one way
-one_told : (q : LabelledProgram) (o : ℕ) (ms : List (List ℤ)) (a b : List LevelRuns) → AreTold q o ms a → AreTold q o ms b → a ≡ b
+pub one_told : (q : LabelledProgram) (o : ℕ) (ms : List (List ℤ)) (a b : List LevelRuns) → AreTold q o ms a → AreTold q o ms b → a ≡ b
 one_told q o ms a b h k =
     same_list a b (h.size ∙ sym k.size)
     (λ l. same_told (told_of a l) (told_of b l) (same_counts q o ms (counts_of a) (counts_of b) h.begun k.begun l)

@@ -1,5 +1,5 @@
 -- What the sharp count bounds.
-use Rattle.std.specs.Prelude.{◌≡◌, ◌≤◌, ◌<◌, ℕ, List, Some}
+use Rattle.std.specs.Prelude.{◌≡◌, ◌≤◌, ◌<◌, ◌^◌, ℕ, List, Some}
 use Rattle.mit_syntax.specs.Program.{Syntax, plan_of}
 use Rattle.mit_parser.specs.Words.{Told}
 use Rattle.mit_parser.specs.Spells.{IsProgram}
@@ -35,6 +35,8 @@ pub record IsEnough (e : EnvName) (q : LabelledProgram) (o t : ℕ) (ss : List S
   pub few : FewIn e q o t ss (sharp_of t levels)
   -- a number that is told is at least as great as the number of different sequences in the report
   pub counted : (n : ℕ) → fitting (sharp_of t levels) ≡ Some n → r.measures.distinct ≤ n
+  -- the sharp count is at most the bound of the report
+  pub within : sharp_of t levels ≤ r.measures.base ^ r.measures.exponent
 
 -- so it is of each program that words spell, with its least labelling, up to each T of at least 1
 abbrev pub NumbersAreEnough : EnvName → ℕ → Type 0

@@ -2,7 +2,7 @@
 #![tactic(auto)]
 
 pub mod laws;
-mod line;
-mod load;
+pub mod line;
+pub mod load;
 pub mod seen;
 mod walk;

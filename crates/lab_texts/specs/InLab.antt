@@ -10,7 +10,8 @@ lab_usage_text =
     ++ (codes "       lab seen FILE STARTS --observer L [--env flat|part|part2] [--budget T]\n"
     ++ (codes "       lab timeline FILE STARTS [--env flat|part|part2] [--budget T] [--observer L]\n"
     ++ (codes "       lab bound FILE STARTS --observer L [--env flat|part|part2] [--budget T]\n"
-    ++ codes "       lab steady FILE --observer L [--parts P] [--whole]\n")))
+    ++ (codes "       lab steady FILE --observer L [--parts P] [--whole]\n"
+    ++ codes "       lab leak FILE STARTS --observer L [--env flat|part|part2] [--budget T]\n"))))
 
 -- what the lab tells in place of a text of the tool
 abbrev pub lab_text : Status → List ℕ → List ℕ

@@ -7,13 +7,15 @@ use Rattle.tool_stages.specs.Content.{Content, NoneRises}
 use Rattle.tool_stages.proofs.ChainLemmas.{first_file, second_file}
 use Rattle.lab_bound.specs.Complete.{CanBound}
 use Rattle.lab_bound.proofs.Answering.{completes as bound_completes}
+use Rattle.lab_leak.specs.Complete.{CanLeak}
+use Rattle.lab_leak.proofs.Answering.{completes as leak_completes}
 use Rattle.lab_runs.specs.Begins.{CanBegin}
 use Rattle.lab_runs.proofs.BeginLemmas.{begin_completes}
 use Rattle.lab_seen.specs.Seen.{AreLines, SeenBefore}
 use Rattle.lab_steady.specs.Answer.{parts_or}
 use Rattle.lab_steady.proofs.OneAnswer.{steady_ends}
 use Rattle.lab_timeline.specs.Timed.{AreTimelines, TimelinesBefore}
-use Rattle.lab_words.specs.QuestionAsked.{Asked, why, seen, timeline, bound, steady}
+use Rattle.lab_words.specs.QuestionAsked.{Asked, why, seen, timeline, bound, steady, leak}
 use Rattle.lab_tool.specs.Answers.{Before, IsAnswer}
 use Rattle.lab_tool.specs.Complete.{CanEnd, IsDoneIf, Names, files_of}
 use Rattle.lab_tool.proofs.WhyLemmas.{origin_ends, why_ends}
@@ -84,3 +86,8 @@ completes old new Rises content (steady file observer parts whole) r Rose ends w
     let k = first_file Rises content file [] none can.known in
     ends_as old new (Before content (steady file observer parts whole)) (IsAnswer Rises content (steady file observer parts whole)) r e ends
     (λ f. n (write f)) (λ t h. steady_ends Rises content file observer (parts_or parts observer) whole r e t k.0 k.1 can.goes h)
+completes old new Rises content (leak file starts observer env budget) r Rose ends write e can none n =
+    let k = first_file Rises content file (starts ∷ []) none can.known in
+    let m = second_file Rises content file starts [] none can.known in
+    done_if (CanLeak content file starts observer env budget) r e can.goes (λ goes.
+    leak_completes old new Rises content file starts observer env budget r Rose ends write goes k.0 m.0 n)

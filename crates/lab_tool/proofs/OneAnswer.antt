@@ -12,8 +12,9 @@ use Rattle.tool_stages.specs.Content.{Content, IsKnown, AreKnown, NoneRises}
 use Rattle.tool_stages.proofs.ChainLemmas.{first_file, second_file, reads_one}
 use Rattle.tool_stages.proofs.GoesLemmas.{program_goes}
 use Rattle.tool_stages.proofs.OneLemmas.{one_program, one_program_stop}
-use Rattle.lab_words.specs.QuestionAsked.{Asked, why, seen, timeline, bound, steady}
+use Rattle.lab_words.specs.QuestionAsked.{Asked, why, seen, timeline, bound, steady, leak}
 use Rattle.lab_bound.proofs.Single.{one_bound_in_lab}
+use Rattle.lab_leak.proofs.Single.{one_leak_in_lab}
 use Rattle.lab_seen.proofs.OneSeen.{seen_once}
 use Rattle.lab_steady.specs.Answer.{parts_or}
 use Rattle.lab_steady.proofs.OneAnswer.{one_in}
@@ -97,4 +98,10 @@ answers_one content before now (steady file observer parts whole) s u t x known 
     let rises = λ (name : List ℕ). Rose (before name) (now name) in
     let good = first_file rises content file [] none known in
     let one = one_in file observer (parts_or parts observer) whole rises content s u t x good.0 good.1 h k in
+    one
+answers_one content before now (leak file starts observer e budget) s u t x known none h k =
+    let rises = λ (name : List ℕ). Rose (before name) (now name) in
+    let good = first_file rises content file (starts ∷ []) none known in
+    let other = second_file rises content file starts [] none known in
+    let one = one_leak_in_lab content before now file starts observer e budget s u t x good.1 other.1 good.0 other.0 h k in
     one

@@ -4,8 +4,9 @@ use Rattle.tool_texts.specs.declared.status.Status.{Status}
 use Rattle.tool_texts.specs.declared.status.Status.TheVariants as status
 use Rattle.tool_stages.specs.Content.{Content}
 use Rattle.lab_texts.specs.InLab.{lab_usage_text}
-use Rattle.lab_words.specs.QuestionAsked.{Asked, why, seen, timeline, bound, steady}
+use Rattle.lab_words.specs.QuestionAsked.{Asked, why, seen, timeline, bound, steady, leak}
 use Rattle.lab_bound.specs.Answer.{IsBoundAnswer}
+use Rattle.lab_leak.specs.Answer.{IsLeakAnswer}
 use Rattle.lab_seen.specs.Seen.{IsSeen, SeenBefore}
 use Rattle.lab_steady.specs.Answer.{IsSteadyAnswer}
 use Rattle.lab_timeline.specs.Timed.{TellsTimelines, TimelinesBefore}
@@ -24,6 +25,7 @@ IsAnswer Rises content (seen file starts observer e budget) = IsSeen Rises conte
 IsAnswer Rises content (timeline file starts observer e budget) = TellsTimelines Rises content file starts observer e budget
 IsAnswer Rises content (bound file starts observer e budget) = IsBoundAnswer Rises content file starts observer e budget
 IsAnswer Rises content (steady file observer parts whole) = IsSteadyAnswer Rises content file observer parts whole
+IsAnswer Rises content (leak file starts observer e budget) = IsLeakAnswer Rises content file starts observer e budget
 
 -- what may stand before the line for memory: nothing, or what is told of some of the runs
 abbrev pub Before : Content → Asked → List ℕ → Type 0

@@ -8,11 +8,12 @@ use Rattle.tool_stages.specs.Stages.{Reads}
 use Rattle.tool_stages.specs.Content.{Content, AreKnown}
 use Rattle.tool_stages.specs.Goes.{IsTypable}
 use Rattle.lab_bound.specs.Complete.{CanBound}
+use Rattle.lab_leak.specs.Complete.{CanLeak}
 use Rattle.lab_runs.specs.Begins.{CanBegin}
 use Rattle.lab_steady.specs.Answer.{parts_or}
 use Rattle.lab_steady.specs.Complete.{SteadyGoes}
 use Rattle.lab_why.specs.Names.{named}
-use Rattle.lab_words.specs.QuestionAsked.{Asked, why, seen, timeline, bound, steady}
+use Rattle.lab_words.specs.QuestionAsked.{Asked, why, seen, timeline, bound, steady, leak}
 
 -- the files that a question names
 abbrev pub files_of : Asked → List (List ℕ)
@@ -21,6 +22,7 @@ files_of (seen file starts observer e budget) = file ∷ starts ∷ []
 files_of (timeline file starts observer e budget) = file ∷ starts ∷ []
 files_of (bound file starts observer e budget) = file ∷ starts ∷ []
 files_of (steady file observer parts whole) = file ∷ []
+files_of (leak file starts observer e budget) = file ∷ starts ∷ []
 
 -- `why` is done where some labelling types the program, and tells its reason where none does
 abbrev pub WhyGoes : Option (Option (List ℕ)) → Status → Type 0
@@ -43,6 +45,7 @@ Goes content (why file None) s = WhyGoes (content file) s
 Goes content (why file (Some name)) s = IsDoneIf (Names (content file) name) s
 Goes content (seen file starts observer e budget) s = IsDoneIf (CanBegin content file starts (Some observer)) s
 Goes content (bound file starts observer e budget) s = IsDoneIf (CanBound content file starts observer e budget) s
+Goes content (leak file starts observer e budget) s = IsDoneIf (CanLeak content file starts observer e budget) s
 Goes content (timeline file starts observer e budget) s = IsDoneIf (CanBegin content file starts observer) s
 Goes content (steady file observer parts whole) s = SteadyGoes (content file) observer (parts_or parts observer) whole s
 

@@ -12,6 +12,7 @@ ghost use Rattle.lab_tool.specs.Answers.{Before, IsAnswer, IsUsage};
 ghost use Rattle.lab_tool.specs.Complete.{CanEnd, files_of};
 
 use lab_bound::bound::bound;
+use lab_leak::leak::leak;
 use lab_seen::seen::seen;
 use lab_steady::steady::steady;
 use lab_texts::finish::stop;
@@ -85,6 +86,16 @@ fn obey<S: Shelf, W: Sink>(
             parts,
             whole,
         } => steady(alloc, shelf, out, file, observer, parts, whole),
+        Question::Leak {
+            file,
+            starts,
+            observer,
+            env,
+            budget,
+        } => {
+            let setting = Setting { env, budget };
+            leak(alloc, shelf, out, file, starts, observer, setting)
+        }
     }
 }
 

@@ -7,7 +7,7 @@ use Rattle.tool_words.specs.declared.words.EnvName.{EnvName}
 use Rattle.run_limits.specs.Cycles.{IsCycles}
 use Rattle.tool_words.specs.WordsValues.{budget_given, env_given, observed_given}
 use Rattle.lab_words.specs.declared.verbs.Verb.{Verb}
-use Rattle.lab_words.specs.declared.verbs.Verb.TheVariants.{Why, Seen, Timeline, Bound, Steady}
+use Rattle.lab_words.specs.declared.verbs.Verb.TheVariants.{Why, Seen, Timeline, Bound, Steady, Leak}
 use Rattle.lab_words.specs.QuestionForms.{form_app}
 
 -- A question with the bytes of its texts, in the order of `Question`: file, starts, observer, environment and budget;
@@ -18,6 +18,7 @@ pub data Asked : Type 0 where
   timeline : Text → Text → Option Text → EnvName → ℕ → Asked
   bound : Text → Text → Text → EnvName → ℕ → Asked
   steady : Text → Text → Option Text → Bool → Asked
+  leak : Text → Text → Text → EnvName → ℕ → Asked
 
 abbrev pub verb_named : Text → Option Verb
 verb_named word =
@@ -25,7 +26,8 @@ verb_named word =
     (if bytes_eq word (codes "seen") then Some Seen else
     (if bytes_eq word (codes "timeline") then Some Timeline else
     (if bytes_eq word (codes "bound") then Some Bound else
-    (if bytes_eq word (codes "steady") then Some Steady else None))))
+    (if bytes_eq word (codes "steady") then Some Steady else
+    (if bytes_eq word (codes "leak") then Some Leak else None)))))
 
 -- ---- the values that `clap` gives to the names of a form
 
@@ -56,6 +58,7 @@ given Timeline rows = timeline_asked (first_of (codes "FILE") rows) (first_of (c
     (budget_given rows) (first_of (codes "observer") rows)
 given Bound rows = observed_given bound rows
 given Steady rows = steady_asked (first_of (codes "FILE") rows) (first_of (codes "observer") rows) (first_of (codes "parts") rows) (whole_given rows)
+given Leak rows = observed_given leak rows
 
 -- ---- all words
 
@@ -78,3 +81,4 @@ IsInRange (seen file starts observer env budget) = IsCycles budget
 IsInRange (timeline file starts observer env budget) = IsCycles budget
 IsInRange (bound file starts observer env budget) = IsCycles budget
 IsInRange (steady file observer parts whole) = ⊤
+IsInRange (leak file starts observer env budget) = IsCycles budget

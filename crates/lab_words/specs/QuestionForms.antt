@@ -4,7 +4,7 @@ use Rattle.clap.specs.Words.{App, Rule, Text, new_app, new_rule, with_rule}
 use Rattle.clap.specs.declared.builder.action.ArgAction.TheVariants.{SetTrue}
 use Rattle.tool_words.specs.WordsForms.{bare, observed_app, option_rule, required_option_rule, required_word_rule}
 use Rattle.lab_words.specs.declared.verbs.Verb.{Verb}
-use Rattle.lab_words.specs.declared.verbs.Verb.TheVariants.{Why, Seen, Timeline, Bound, Steady}
+use Rattle.lab_words.specs.declared.verbs.Verb.TheVariants.{Why, Seen, Timeline, Bound, Steady, Leak}
 
 -- FILE [--of NAME]
 abbrev pub why_app : App
@@ -32,3 +32,4 @@ form_app Seen = observed_app (codes "seen")
 form_app Timeline = timeline_app
 form_app Bound = observed_app (codes "bound")
 form_app Steady = steady_app
+form_app Leak = observed_app (codes "leak")

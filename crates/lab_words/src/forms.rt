@@ -59,5 +59,6 @@ pub(crate) fn form<'a>(alloc: Global, verb: Verb) -> Result<Form<'a>, AllocError
         Verb::Timeline => timeline_form(alloc),
         Verb::Bound => observed_form(alloc, "bound"),
         Verb::Steady => steady_form(alloc),
+        Verb::Leak => observed_form(alloc, "leak"),
     }
 }

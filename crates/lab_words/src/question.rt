@@ -51,6 +51,14 @@ pub enum Question<'a> {
         parts: Option<&'a str>,
         whole: bool,
     },
+    /// `leak FILE STARTS --observer L [--env E] [--budget T]`, `budget` from 1 to `MAX_CYCLES`
+    Leak {
+        file: &'a str,
+        starts: &'a str,
+        observer: &'a str,
+        env: EnvName,
+        budget: u64,
+    },
 }
 
 /// Reads the words that follow a command word.

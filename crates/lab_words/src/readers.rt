@@ -99,6 +99,24 @@ fn steady<'a>(matches: &ArgMatches<'a>) -> Option<Question<'a>>
     })
 }
 
+fn leak<'a>(matches: &ArgMatches<'a>) -> Option<Question<'a>>
+    ensures asked { option_map asked_of result ≡ given Verb.Leak (rows_of (found_of matches.now)) }
+    ensures range { IfSome result (λ q. IsInRange (asked_of q)) }
+{
+    let file = file(matches)?;
+    let starts = text(matches, "STARTS")?;
+    let observer = text(matches, "observer")?;
+    let env = env(matches)?;
+    let budget = budget(matches)?;
+    Some(Question::Leak {
+        file,
+        starts,
+        observer,
+        env,
+        budget,
+    })
+}
+
 /// What the matches of a command ask for, if its numbers and names are of their form and in range.
 pub(crate) fn question<'a>(verb: Verb, matches: &ArgMatches<'a>) -> Option<Question<'a>>
     ensures asked { option_map asked_of result ≡ given verb (rows_of (found_of matches.now)) }
@@ -110,5 +128,6 @@ pub(crate) fn question<'a>(verb: Verb, matches: &ArgMatches<'a>) -> Option<Quest
         Verb::Timeline => timeline(matches),
         Verb::Bound => bound(matches),
         Verb::Steady => steady(matches),
+        Verb::Leak => leak(matches),
     }
 }

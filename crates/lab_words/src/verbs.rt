@@ -11,6 +11,7 @@ pub(crate) enum Verb {
     Timeline,
     Bound,
     Steady,
+    Leak,
 }
 
 /// The command word that a text is.
@@ -23,6 +24,7 @@ pub(crate) fn verb_of(word: &str) -> Option<Verb>
         "timeline" => Some(Verb::Timeline),
         "bound" => Some(Verb::Bound),
         "steady" => Some(Verb::Steady),
+        "leak" => Some(Verb::Leak),
         _ => None,
     }
 }

@@ -2,6 +2,7 @@
 use Rattle.std.specs.Prelude.{◌≡◌, ℕ, ◌+◌, ◌-◌, ◌*◌, ◌/◌, ◌%◌, ◌^◌, ◌≤◌, List, [], ◌∷◌, ◌++◌, length, drop, min, max, cond, eqb, codes, decimal}
 use Rattle.fixed_log.specs.Log.{IsLog}
 use Rattle.fixed_log.specs.Entropy.{IsEntropy, starts, square_sum}
+use Rattle.fixed_log.specs.Units.{log_units, entropy_units}
 
 -- ---- numbers with nine decimals
 
@@ -65,11 +66,17 @@ numbers_text size ws log entropy =
     ++ (cond even (first_line size (length ws)) [] ++ cond even (guess_line size (square_sum ws)) []))))
 
 -- Nothing where there is no class. log units of 2^-32 are at most log2 of how many classes there are and less than two
--- units below it; and entropy units are at most two units above the Shannon entropy and less than three below it.
+-- units below it; and entropy units are at most two units above the Shannon entropy and less than three below it. Which
+-- units these are is told by the rule of squares that are rounded down, so that the lines are one text.
 abbrev pub AreNumbers : ℕ → List ℕ → List ℕ → Type 0
 AreNumbers size [] x = x ≡ []
 AreNumbers size (w ∷ ws) x =
-    (log : ℕ) × (entropy : ℕ) × IsLog 32 (length (w ∷ ws)) log × IsEntropy 32 (w ∷ ws) entropy × (x ≡ numbers_text size (w ∷ ws) log entropy)
+    (log : ℕ) × (entropy : ℕ) × (log ≡ log_units (length (w ∷ ws))) × (entropy ≡ entropy_units (w ∷ ws))
+    × IsLog 32 (length (w ∷ ws)) log × IsEntropy 32 (w ∷ ws) entropy × (x ≡ numbers_text size (w ∷ ws) log entropy)
+
+-- of classes of these sizes one text is told
+abbrev pub AreNumbersOnce : Type 0
+AreNumbersOnce = (size : ℕ) (ws x y : List ℕ) → AreNumbers size ws x → AreNumbers size ws y → x ≡ y
 
 -- these lines stand after a text
 pub record NumbersPut (size : ℕ) (ws old new : List ℕ) : Type 0 where

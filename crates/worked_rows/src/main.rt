@@ -14,7 +14,7 @@ mod text;
 mod words_tests;
 
 // The tables, in the order in which they are run.
-const TABLES: [&str; 25] = [
+const TABLES: [&str; 26] = [
     "examples.txt",
     "texts.txt",
     "grammar.txt",
@@ -39,6 +39,7 @@ const TABLES: [&str; 25] = [
     "lab-runs.txt",
     "lab-bounds.txt",
     "lab-steady.txt",
+    "lab-leaks.txt",
     "lab-faults.txt",
 ];
 

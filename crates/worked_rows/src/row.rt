@@ -28,6 +28,7 @@ const LAB_USAGE: &[u8] = b"usage: lab why FILE [--of NAME]
        lab timeline FILE STARTS [--env flat|part|part2] [--budget T] [--observer L]
        lab bound FILE STARTS --observer L [--env flat|part|part2] [--budget T]
        lab steady FILE --observer L [--parts P] [--whole]
+       lab leak FILE STARTS --observer L [--env flat|part|part2] [--budget T]
 ";
 
 // The usage text of the program that is called.

@@ -45,6 +45,12 @@ returns-in-Steady-clause-answered g c =
     let rises = λ (name : List ℕ). Rose (g.S.Shelf.faults c.args.shelf.now name) (g.S.Shelf.faults c.steady.new.shelf name) in
     subst (λ (x : Question). EndsBy (g.W.Sink.taken c.args.out.now) (g.W.Sink.taken c.steady.new.out) (Before content (asked_of x))
     (IsAnswer rises content (asked_of x)) c.steady.result) (sym c.in-Steady.is) c.steady.ensures.answered
+pub returns-in-Leak-clause-answered : goal.returns-in-Leak-clause-answered
+returns-in-Leak-clause-answered g c =
+    let content = g.S.Shelf.content c.args.shelf.now in
+    let rises = λ (name : List ℕ). Rose (g.S.Shelf.faults c.args.shelf.now name) (g.S.Shelf.faults c.leak.new.shelf name) in
+    subst (λ (x : Question). EndsBy (g.W.Sink.taken c.args.out.now) (g.W.Sink.taken c.leak.new.out) (Before content (asked_of x))
+    (IsAnswer rises content (asked_of x)) c.leak.result) (sym c.in-Leak.is) c.leak.ensures.answered
 
 pub returns-in-Timeline-clause-answered : goal.returns-in-Timeline-clause-answered
 returns-in-Timeline-clause-answered g c =
@@ -77,6 +83,10 @@ pub returns-in-Steady-clause-fetched : goal.returns-in-Steady-clause-fetched
 returns-in-Steady-clause-fetched g c =
     subst (λ (x : Question). HasFetched (files_of (asked_of x)) c.steady.result (g.S.Shelf.log c.args.shelf.now) (g.S.Shelf.log c.steady.new.shelf))
     (sym c.in-Steady.is) c.steady.ensures.fetched
+pub returns-in-Leak-clause-fetched : goal.returns-in-Leak-clause-fetched
+returns-in-Leak-clause-fetched g c =
+    subst (λ (x : Question). HasFetched (files_of (asked_of x)) c.leak.result (g.S.Shelf.log c.args.shelf.now) (g.S.Shelf.log c.leak.new.shelf))
+    (sym c.in-Leak.is) c.leak.ensures.fetched
 
 pub returns-in-Timeline-clause-fetched : goal.returns-in-Timeline-clause-fetched
 returns-in-Timeline-clause-fetched g c =

@@ -31,4 +31,4 @@ returns c =
     ∙ ap₂ (λ a b. interval_line (codes "shannon ") a (b + 3)) c.saturating_sub.ensures c.from-high.ensures))
     (c.in_ok-put_if-2.ensures ∙ ap (λ z. c.put_line-3.new.text.items ++ cond even z []) c.first.ensures)
     (c.in_ok-put_if-3.ensures ∙ ap (λ z. c.put_if-2.new.text.items ++ cond even z []) c.guesses.ensures)
-    c.if-classes-eq0.false c.log2-log.ensures.log c.shannon-entropy.ensures
+    c.if-classes-eq0.false c.log2-log.ensures.told c.shannon-entropy.ensures.told c.log2-log.ensures.log c.shannon-entropy.ensures.entropy

@@ -1,0 +1,100 @@
+-- The text that is made is the answer, and what stops its making stops the command.
+use Rattle.std.proofs.Common.{◌≡◌, ◌⊎◌, ℕ, List, [], ◌++◌, Option, Some, None, inl, inr, refl, ap, ◌∙◌, subst, append_assoc}
+use Rattle.label_lattice.specs.declared.label.Label.{Label}
+use Rattle.label_lattice.specs.Order.{Order}
+use Rattle.mit_syntax.specs.Program.{Syntax}
+use Rattle.timing_types.specs.Labelled.{LabelledProgram}
+use Rattle.label_code.specs.Shaped.{Code}
+use Rattle.start_file.specs.Starts.{StartValue}
+use Rattle.leak_audit.specs.declared.report.AuditReport.{AuditReport}
+use Rattle.sharp_count.specs.declared.count.LevelRuns.{LevelRuns}
+use Rattle.sharp_count.specs.Count.{fitting}
+use Rattle.leak_classes.specs.Classes.{Classes}
+use Rattle.leak_numbers.specs.Numbers.{AreNumbers, NumbersPut}
+use Rattle.level_counts.specs.Begun.{AreTold, memories_of}
+use Rattle.tool_words.specs.declared.words.EnvName.{EnvName}
+use Rattle.tool_texts.specs.declared.status.Status.{Status}
+use Rattle.tool_texts.specs.declared.status.Status.TheVariants as status
+use Rattle.tool_texts.specs.declared.stop.Stop.{Stop}
+use Rattle.tool_texts.specs.Ends.{IsStop, EndsBy, Nothing, status_of, stop_text}
+use Rattle.tool_texts.proofs.EndLemmas.{broke_map, ends_done}
+use Rattle.tool_stages.specs.Content.{Content}
+use Rattle.tool_stages.specs.Goes.{CanBeAudited, OfObserver}
+use Rattle.tool_stages.specs.Envs.{ReportsIn}
+use Rattle.tool_stages.proofs.ChainLemmas.{prepared_done, prepares_no_fault}
+use Rattle.audit_stage.specs.Audited.{AuditStops}
+use Rattle.audit_stage.proofs.Once.{audit_goes}
+use Rattle.lab_bound.specs.Text.{sharp_of}
+use Rattle.lab_leak.specs.Answer.{HasLeak, Leaks, IsLeakAnswer, sequences_in}
+use Rattle.lab_leak.specs.declared.sizes.ClassSizes.{ClassSizes}
+use Rattle.lab_leak.specs.Classes.{AreSizes, classes_of_runs, sizes_of}
+use Rattle.lab_leak.specs.Complete.{CanLeak}
+use Rattle.lab_leak.specs.Text.{IsLeakText, class_lines, head_lines}
+
+-- what comes after the stages
+abbrev pub leak_next : EnvName → ℕ → Syntax → LabelledProgram → Option Label → Code → List StartValue → Status → List ℕ → Type 0
+leak_next e t p q o code ss = HasLeak e t q o ss
+
+-- the lines one after another
+pub leak_put : (q : LabelledProgram) (l : Label) (t : ℕ) (r : AuditReport) (sharp : ℕ) (k : Classes) (s : ClassSizes) (order : Order) (count : Option ℕ)
+    (size : ℕ) (ws none one two whole : List ℕ) → AreSizes k s → order ≡ q.program.order → count ≡ fitting sharp → size ≡ r.runs → ws ≡ s.sizes.items
+    → none ≡ [] → one ≡ none ++ head_lines order l t r count → NumbersPut size ws one two
+    → whole ≡ two ++ class_lines q.program.declarations k.seen k.firsts → IsLeakText q l t r sharp k whole
+leak_put q l t r sharp k s order count size ws none one two whole are is told runs sizes empty head put rest =
+    let lines = class_lines q.program.declarations k.seen k.firsts in
+    let numbers : AreNumbers r.runs (sizes_of k) put.lines =
+    subst (λ z. AreNumbers z (sizes_of k) put.lines) runs (subst (λ z. AreNumbers size z put.lines) (sizes ∙ are.sizes) put.are) in
+    let heads : one ≡ head_lines q.program.order l t r (fitting sharp) =
+    head ∙ ap (λ z. z ++ head_lines order l t r count) empty ∙ ap (λ (z : Order). head_lines z l t r count) is
+    ∙ ap (λ z. head_lines q.program.order l t r z) told in (
+      put.lines,
+      numbers,
+      rest ∙ ap (λ z. z ++ lines) (put.put ∙ ap (λ z. z ++ put.lines) heads)
+          ∙ append_assoc (head_lines q.program.order l t r (fitting sharp)) put.lines lines,
+    )
+
+pub leak_tells : (e : EnvName) (t : ℕ) (q : LabelledProgram) (l : Label) (ss : List StartValue) (r : AuditReport) (levels : List LevelRuns) (x : List ℕ)
+    → ReportsIn e q l.number t ss r → AreTold q l.number (memories_of ss) levels
+    → IsLeakText q l t r (sharp_of t levels) (classes_of_runs (sequences_in e t q l.number ss)) x → HasLeak e t q (Some l) ss status.Done x
+leak_tells e t q l ss r levels x reports told text = inr (r, reports, (refl, levels, told, text))
+
+pub leak_stop : (e : EnvName) (t : ℕ) (q : LabelledProgram) (l : Label) (ss : List StartValue) (s : Stop) → IsStop (AuditStops e t q l ss) s
+    → IsStop (HasLeak e t q (Some l) ss) s
+leak_stop e t q l ss s h = broke_map (AuditStops e t q l ss) (HasLeak e t q (Some l) ss) (status_of s) (stop_text s) (λ k. inl k) h
+
+-- ---- no answer is a write fault
+
+no_fault_in : (e : EnvName) (t : ℕ) (q : LabelledProgram) (o : Option Label) (ss : List StartValue) (x : List ℕ) → HasLeak e t q o ss status.WriteFault x → ⊥
+no_fault_in e t q None ss x h = h
+no_fault_in e t q (Some l) ss x (inl h) = h
+no_fault_in e t q (Some l) ss x (inr (r, is, h)) = cc (h.0)
+
+pub leak_no_fault : (Rises : List ℕ → Type 0) (content : Content) (file starts observer : List ℕ) (e : EnvName) (t : ℕ) (x : List ℕ)
+    → Leaks Rises content file starts observer e t status.WriteFault x → ⊥
+leak_no_fault Rises content file starts observer e t x =
+    prepares_no_fault Rises content file observer (Rises starts) (content starts) (leak_next e t) x (λ p q o code ss. no_fault_in e t q o ss x)
+
+-- ---- no answer to a program that is prepared is a read fault
+
+pub no_read_in : (e : EnvName) (t : ℕ) (q : LabelledProgram) (o : Option Label) (ss : List StartValue) (x : List ℕ) → HasLeak e t q o ss status.ReadFault x → ⊥
+no_read_in e t q None ss x h = h
+no_read_in e t q (Some l) ss x (inl h) = h
+no_read_in e t q (Some l) ss x (inr (r, is, h)) = cc (h.0)
+
+-- ---- what can be done is done
+
+leak_done : (e : EnvName) (t : ℕ) (q : LabelledProgram) (o : Option Label) (ss : List StartValue) (s : Status) (x : List ℕ)
+    → OfObserver (λ l. CanBeAudited e t q l ss) o → HasLeak e t q o ss s x → s ≡ status.Done
+leak_done e t q None ss s x k h = absurd h
+leak_done e t q (Some l) ss s x k (inl h) = absurd (audit_goes e t q l ss s x k h)
+leak_done e t q (Some l) ss s x k (inr h) = h.2.0
+
+pub completes : (old new : Option (List ℕ)) (Rises : List ℕ → Type 0) (content : Content) (file starts observer : List ℕ) (e : EnvName) (t : ℕ)
+    (r : Status) (Rose : Type 0) →
+    EndsBy old new Nothing (IsLeakAnswer Rises content file starts observer e t) r → (r ≡ status.WriteFault → Rose) →
+    CanLeak content file starts observer e t → (Rises file → ⊥) → (Rises starts → ⊥) → (Rose → ⊥) → (r ≡ status.Done) ⊎ (r ≡ status.Memory)
+completes old new Rises content file starts observer e t r Rose ends write can one other n =
+    ends_done old new Nothing (IsLeakAnswer Rises content file starts observer e t) r ends (λ w. n (write w))
+    (λ x h. prepared_done r h.0 Rises content file observer (Rises starts) (content starts)
+    (λ q o ss. OfObserver (λ l. CanBeAudited e t q l ss) o) (leak_next e t)
+    one can.known other can.known_starts can.goes (λ p q o code ss good next. leak_done e t q o ss r h.0 good next) h.1)

@@ -1,0 +1,15 @@
+-- The number of classes, the sharp count and the bound.
+use Rattle.std.proofs.Common.{◌≡◌, ◌≤◌, ℕ, List, length, arith}
+use Rattle.timing_types.specs.Labelled.{LabelledProgram}
+use Rattle.lab_bound.specs.Enough.{AllAreEnough}
+use Rattle.lab_leak.specs.Answer.{sequences_in}
+use Rattle.lab_leak.specs.Ordered.{AllAreOrdered}
+use Rattle.lab_leak.proofs.Tallied.{are_tallied}
+
+pub all_ordered : AllAreEnough → AllAreOrdered
+all_ordered enough e t some words p q o ss r levels spelled types low is told =
+    let h = enough e t some words p q o ss r levels spelled types low is told in
+    let tallied = are_tallied (sequences_in e t q o ss) in
+    let distinct = tallied.distinct in
+    let few = h.few.count in
+    record { tallied = tallied; sharp = omega (arith, distinct, few); bound = h.within }

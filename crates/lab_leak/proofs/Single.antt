@@ -1,0 +1,66 @@
+-- There is one answer.
+use Rattle.std.proofs.Common.{◌≡◌, ℕ, List, ◌++◌, Option, Some, None, inl, inr, sym, ap, ◌∙◌, subst, codes}
+use Rattle.tim_base.specs.Faults.{Rose}
+use Rattle.label_lattice.specs.declared.label.Label.{Label}
+use Rattle.timing_types.specs.Labelled.{LabelledProgram}
+use Rattle.start_file.specs.Starts.{StartValue}
+use Rattle.sharp_count.specs.Count.{fitting}
+use Rattle.leak_audit.specs.declared.report.AuditReport.{AuditReport}
+use Rattle.leak_audit.specs.Report.{SameReport}
+use Rattle.leak_classes.specs.Classes.{Classes}
+use Rattle.leak_numbers.specs.Numbers.{AreNumbers}
+use Rattle.leak_numbers.proofs.Lines.{one_text}
+use Rattle.level_counts.specs.Begun.{memories_of}
+use Rattle.tool_words.specs.declared.words.EnvName.{EnvName}
+use Rattle.tool_texts.specs.declared.status.Status.{Status}
+use Rattle.tool_texts.specs.Texts.{number_line}
+use Rattle.tool_texts.specs.Reports.{label_line, bound_line}
+use Rattle.tool_stages.proofs.OneLemmas.{Same}
+use Rattle.tool_stages.proofs.ChainLemmas.{prepares_one}
+use Rattle.lab_texts.proofs.LabLemmas.{one_in_lab}
+use Rattle.audit_stage.proofs.Once.{audit_stops, one_audit_stop, same_report, not_fault}
+use Rattle.lab_bound.specs.Text.{sharp_of}
+use Rattle.lab_bound.proofs.Single.{one_told}
+use Rattle.lab_leak.specs.Answer.{HasLeak, Leaks, sequences_in}
+use Rattle.lab_leak.specs.Classes.{classes_of_runs, sizes_of}
+use Rattle.lab_leak.specs.Complete.{HasOneLeak}
+use Rattle.lab_leak.specs.Text.{IsLeakText, class_lines, head_lines, sharp_line}
+use Rattle.lab_leak.proofs.Answering.{leak_next}
+
+same_head : (q : LabelledProgram) (l : Label) (t : ℕ) (r s : AuditReport) (sharp : Option ℕ) → SameReport r s
+    → head_lines q.program.order l t r sharp ≡ head_lines q.program.order l t s sharp
+same_head q l t r s sharp h =
+    ap (λ z. number_line (codes "runs ") z ++ (label_line (codes "observer ") q.program.order l
+    ++ (number_line (codes "budget ") t ++ (bound_line r.measures.base r.measures.exponent ++ sharp_line sharp)))) h.runs
+    ∙ ap (λ z. number_line (codes "runs ") s.runs ++ (label_line (codes "observer ") q.program.order l
+    ++ (number_line (codes "budget ") t ++ (bound_line z r.measures.exponent ++ sharp_line sharp)))) h.measures.base
+    ∙ ap (λ z. number_line (codes "runs ") s.runs ++ (label_line (codes "observer ") q.program.order l
+    ++ (number_line (codes "budget ") t ++ (bound_line s.measures.base z ++ sharp_line sharp)))) h.measures.exponent
+
+one_leak_text : (q : LabelledProgram) (l : Label) (t : ℕ) (r s : AuditReport) (sharp : ℕ) (k : Classes) (x y : List ℕ) → SameReport r s
+    → IsLeakText q l t r sharp k x → IsLeakText q l t s sharp k y → x ≡ y
+one_leak_text q l t r s sharp k x y same h j =
+    let numbers : h.0 ≡ j.0 = one_text s.runs (sizes_of k) h.0 j.0 (subst (λ z. AreNumbers z (sizes_of k) h.0) same.runs h.1) j.1 in
+    let rest = class_lines q.program.declarations k.seen k.firsts in
+    h.2 ∙ ap (λ z. head_lines q.program.order l t r (fitting sharp) ++ (z ++ rest)) numbers
+    ∙ ap (λ z. z ++ (j.0 ++ rest)) (same_head q l t r s (fitting sharp) same) ∙ sym j.2
+
+one_leak : (e : EnvName) (t : ℕ) (q : LabelledProgram) (o : Option Label) (ss : List StartValue) (s u : Status) (x y : List ℕ) → HasLeak e t q o ss s x
+    → HasLeak e t q o ss u y → Same s u x y
+one_leak e t q None ss s u x y h k = absurd h
+one_leak e t q (Some l) ss s u x y (inl h) (inl k) = one_audit_stop e t q l ss s u x y h k
+one_leak e t q (Some l) ss s u x y (inl h) (inr k) = let a = audit_stops e t q l ss s x h in absurd (a.none (not_fault e q l.number t ss k.0 a.fault k.1 a.is))
+one_leak e t q (Some l) ss s u x y (inr h) (inl k) = let a = audit_stops e t q l ss u y k in absurd (a.none (not_fault e q l.number t ss h.0 a.fault h.1 a.is))
+one_leak e t q (Some l) ss s u x y (inr h) (inr k) =
+    let same = same_report e q l.number t ss h.0 k.0 h.1 k.1 in
+    let levels = one_told q l.number (memories_of ss) h.2.1 k.2.1 h.2.2 k.2.2 in
+    let classes = classes_of_runs (sequences_in e t q l.number ss) in
+    let one = subst (λ z. IsLeakText q l t h.0 (sharp_of t z) classes x) levels h.2.3 in
+    (h.2.0 ∙ sym k.2.0, one_leak_text q l t h.0 k.0 (sharp_of t k.2.1) classes x y same one k.2.3)
+
+pub one_leak_in_lab : HasOneLeak
+one_leak_in_lab content before now file starts observer e t s u x y known known_starts one other h k =
+    let rises = λ (name : List ℕ). Rose (before name) (now name) in
+    one_in_lab (Leaks rises content file starts observer e t) s u x y
+    (λ m n a b. prepares_one s u m n rises content file observer (rises starts) (content starts) (leak_next e t) one known other known_starts
+    (λ p q o code ss. one_leak e t q o ss s u m n) a b) h k

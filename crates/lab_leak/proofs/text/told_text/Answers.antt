@@ -1,0 +1,21 @@
+use Rattle.std.proofs.Common.{◌≡◌, map, ap, ◌∙◌}
+use Rattle.start_file.specs.Starts.{seen}
+use Rattle.lab_bound.specs.Text.{sharp_of}
+use Rattle.lab_leak.specs.Answer.{sequences_in}
+use Rattle.lab_leak.specs.Classes.{classes_of_runs}
+use Rattle.lab_leak.proofs.Answering.{leak_put}
+use Rattle.lab_leak.proofs.text.told_text.Goals as goal
+
+pub returns : goal.returns
+returns c =
+    let q = c.args.p.now.compiled.typed.labelled in
+    let l = c.args.p.now.observer in
+    let t = c.args.setting.budget in
+    let zs = sequences_in c.args.setting.env t q l.number (map seen c.args.p.now.starts.items) in
+    let order : c.lattice-order.result ≡ q.program.order =
+    c.lattice-order.ensures ∙ ap (λ z. z.order) (c.program.ensures.program ∙ ap (λ z. z.program) c.labelled.ensures.labelled) in
+    leak_put q l t c.args.report.now (sharp_of t c.args.levels.now) (classes_of_runs zs) c.in_ok-found.found c.lattice-order.result
+    c.sharp_count-count.result c.from-runs.result c.as_slice-2.result.now c.new-text.result.items c.put_head.new.text.items c.put_numbers.new.text.items
+    c.in_ok-whole.whole.items (c.in_ok-found.ensures.are zs (c.as_slice.ensures.value ∙ c.requires.reported.measures.classes)) order
+    c.sharp_count-count.ensures c.from-runs.ensures c.as_slice-2.ensures.value c.new-text.ensures.items c.in_ok-put_head.ensures
+    c.in_ok-put_numbers.ensures c.in_ok-whole.ensures

@@ -1,0 +1,43 @@
+-- The classes of runs that show an observer the same.
+use Rattle.std.specs.Prelude.{◌≡◌, ◌<◌, ◌+◌, ℕ, List, [], ◌∷◌, length, map, get_or}
+use Rattle.label_code.specs.Machine.{Event}
+use Rattle.class_counts.specs.Tally.{tally}
+use Rattle.leak_bound.specs.Records.{distinct_count}
+use Rattle.leak_audit.specs.Sequences.{same_sequence}
+use Rattle.leak_classes.specs.Classes.{Classes, no_classes, with_start}
+use Rattle.lab_leak.specs.declared.sizes.ClassSizes.{ClassSizes}
+
+-- these classes after the runs that show these sequences, the first of which has the number n, from 0; each has weight 1
+abbrev pub classes_from : Classes → ℕ → List (List Event) → Classes
+classes_from k n [] = k
+classes_from k n (z ∷ zs) = classes_from (with_start k n z 1) (n + 1) zs
+
+-- the classes of the runs that show these sequences
+abbrev pub classes_of_runs : List (List Event) → Classes
+classes_of_runs zs = classes_from no_classes 0 zs
+
+-- how many runs each class has
+abbrev pub sizes_of : Classes → List ℕ
+sizes_of k = map (λ c. c.1) k.seen
+
+-- what the runs of each class show
+abbrev pub shown_by : Classes → List (List Event)
+shown_by k = map (λ c. c.0) k.seen
+
+-- the sizes and the first runs of these classes, as they are kept
+pub record AreSizes (k : Classes) (s : ClassSizes) : Type 0 where
+  pub sizes : s.sizes.items ≡ sizes_of k
+  pub firsts : s.firsts.items ≡ k.firsts
+
+-- of each class, the run with the number of its first run, from 1, shows what the class shows
+abbrev pub AreFirsts : List (List Event) → List (List Event × ℕ) → List ℕ → Type 0
+AreFirsts zs [] [] = Unit {0}
+AreFirsts zs (c ∷ cs) (f ∷ fs) = ((i : ℕ) × (f ≡ i + 1) × (i < length zs) × (get_or zs i [] ≡ c.0)) × AreFirsts zs cs fs
+AreFirsts zs _ _ = ⊥
+
+-- The classes are the tally of what all runs show, so that their sizes add up to the number of the runs; there are as
+-- many as different sequences, and each has a first run that shows it.
+pub record AreTallied (zs : List (List Event)) : Type 0 where
+  pub tallied : (classes_of_runs zs).seen ≡ tally same_sequence [] (map (λ z. (z, 1)) zs)
+  pub distinct : length (classes_of_runs zs).seen ≡ distinct_count same_sequence zs
+  pub firsts : AreFirsts zs (classes_of_runs zs).seen (classes_of_runs zs).firsts

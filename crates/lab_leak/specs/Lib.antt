@@ -1,0 +1,5 @@
+pub mod Classes
+pub mod Text
+pub mod Answer
+pub mod Complete
+pub mod Ordered

@@ -1,0 +1,42 @@
+-- The text of `leak`.
+use Rattle.std.specs.Prelude.{◌≡◌, ℕ, List, [], ◌∷◌, ◌++◌, Option, Some, None, codes, decimal}
+use Rattle.label_lattice.specs.declared.label.Label.{Label}
+use Rattle.label_lattice.specs.Order.{Order}
+use Rattle.mit_syntax.specs.Declarations.{Declaration}
+use Rattle.timing_types.specs.Labelled.{LabelledProgram}
+use Rattle.label_code.specs.Machine.{Event}
+use Rattle.sharp_count.specs.Count.{fitting}
+use Rattle.seen_line.specs.Field.{field_text}
+use Rattle.leak_audit.specs.declared.report.AuditReport.{AuditReport}
+use Rattle.leak_classes.specs.Classes.{Classes}
+use Rattle.leak_numbers.specs.Numbers.{AreNumbers}
+use Rattle.tool_texts.specs.Texts.{number_line}
+use Rattle.tool_texts.specs.Reports.{label_line, bound_line}
+use Rattle.lab_leak.specs.Classes.{sizes_of}
+
+-- `sharp N`; N is told where it is below 2^128
+abbrev pub sharp_line : Option ℕ → List ℕ
+sharp_line None = codes "sharp 2^128 or more\n"
+sharp_line (Some n) = codes "sharp " ++ (decimal n ++ codes "\n")
+
+-- the number of the runs, the observer, the budget, the bound of the audit, and the sharp count
+abbrev pub head_lines : Order → Label → ℕ → AuditReport → Option ℕ → List ℕ
+head_lines order l t r sharp =
+    number_line (codes "runs ") r.runs ++ (label_line (codes "observer ") order l
+    ++ (number_line (codes "budget ") t ++ (bound_line r.measures.base r.measures.exponent ++ sharp_line sharp)))
+
+-- `class SIZE first RUN`, a tab, and the field of what the class shows
+abbrev pub class_line : List Declaration → List Event → ℕ → ℕ → List ℕ
+class_line ds shown size first =
+    codes "class " ++ (decimal size ++ (codes " first " ++ (decimal first ++ (codes "\t" ++ (field_text ds shown ++ codes "\n")))))
+
+-- a line for each class, in the order of their first runs
+abbrev pub class_lines : List Declaration → List (List Event × ℕ) → List ℕ → List ℕ
+class_lines ds (c ∷ cs) (f ∷ fs) = class_line ds c.0 c.1 f ++ class_lines ds cs fs
+class_lines ds _ _ = []
+
+-- the whole text, of an audit's report, a sharp count and classes
+abbrev pub IsLeakText : LabelledProgram → Label → ℕ → AuditReport → ℕ → Classes → List ℕ → Type 0
+IsLeakText q l t r sharp k x =
+    (numbers : List ℕ) × AreNumbers r.runs (sizes_of k) numbers
+    × (x ≡ head_lines q.program.order l t r (fitting sharp) ++ (numbers ++ class_lines q.program.declarations k.seen k.firsts))

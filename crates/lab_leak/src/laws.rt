@@ -1,0 +1,27 @@
+//! What is true of every answer.
+
+ghost use Rattle.std.specs.Prelude.{List};
+ghost use Rattle.label_code.specs.Machine.{Event};
+ghost use Rattle.lab_leak.specs.Classes.{AreTallied};
+ghost use Rattle.lab_leak.specs.Complete.{HasOneLeak};
+ghost use Rattle.lab_leak.specs.Ordered.{AllAreOrdered};
+
+use lab_bound::laws::sharp_counts_are_enough;
+
+/// A law: the classes of runs are the tally of what the runs show.
+pub fn classes_are_tallied()
+    ensures { (zs : List (List Event)) → AreTallied zs }
+{}
+
+/// A law: of what is told of runs, the number of classes is at most the sharp count, and that is at most the bound.
+pub fn numbers_are_ordered()
+    ensures { AllAreOrdered }
+{
+    sharp_counts_are_enough();
+}
+
+/// A law: where both files are told to hold bytes, and neither count of faults rose, the answer is one status and one
+/// text.
+pub fn one_leak()
+    ensures { HasOneLeak }
+{}

@@ -1,0 +1,120 @@
+//! The text of `leak`.
+
+ghost use Rattle.std.specs.Prelude.{◌≡◌, ◌∷◌, [], Some, IfOk, IfErr, map, OnOk, IsTrue};
+ghost use Rattle.tim_base.specs.Kept.{KeepsFiles, NoCountFalls};
+ghost use Rattle.tim_base.specs.Faults.{Rose};
+ghost use Rattle.start_file.specs.Starts.{seen};
+ghost use Rattle.run_limits.specs.Cycles.{IsCycles};
+ghost use Rattle.tool_texts.specs.Ends.{IsStop, status_of};
+ghost use Rattle.tool_texts.specs.declared.status.Status.TheVariants as status;
+ghost use Rattle.tool_stages.specs.Begins.{CanAudit};
+ghost use Rattle.tool_stages.specs.Accepted.{is_past_typing, IsAccepted};
+ghost use Rattle.tool_stages.specs.Fetches.{Fetches};
+ghost use Rattle.tool_stages.specs.Envs.{ReportsIn};
+ghost use Rattle.lab_bound.specs.Text.{sharp_of};
+ghost use Rattle.lab_leak.specs.Answer.{HasLeak, Leaks, sequences_in};
+ghost use Rattle.lab_leak.specs.Classes.{classes_of_runs};
+ghost use Rattle.lab_leak.specs.Text.{IsLeakText};
+
+use crate::head::put_head;
+use crate::lines::with_classes;
+use crate::sizes::sizes;
+use audit_stage::audited::audited;
+use leak_audit::report::AuditReport;
+use leak_numbers::numbers::put_numbers;
+use level_counts::levels::level_counts;
+use run_watch::Watch;
+use sharp_count::count::{LevelRuns, Runs, sharp_count};
+use std::alloc::Global;
+use text_base::pos::Memory;
+use tim_base::shelf::Shelf;
+use tool_stages::prepared::{Prepared, prepare};
+use tool_stages::setting::Setting;
+use tool_texts::stop::{Stop, no_memory};
+
+// The text of a prepared program of whose runs there is a report, and of whose levels this is told.
+fn told_text(
+    alloc: Global,
+    p: &Prepared,
+    setting: Setting,
+    report: &AuditReport,
+    levels: &[LevelRuns],
+) -> Result<Vec<u8>, Memory>
+    requires fit { CanAudit p.now.compiled.typed.labelled p.now.observer p.now.compiled.image (map seen p.now.starts.items) }
+    requires reported { ReportsIn setting.env p.now.compiled.typed.labelled p.now.observer.number setting.budget (map seen p.now.starts.items) report.now }
+    ensures { IfOk result (λ v. IsLeakText p.now.compiled.typed.labelled p.now.observer setting.budget report.now (sharp_of setting.budget levels.now)
+        (classes_of_runs (sequences_in setting.env setting.budget p.now.compiled.typed.labelled p.now.observer.number (map seen p.now.starts.items)))
+        v.items) }
+{
+    let order = p.compiled.typed.labelled().program().lattice();
+    let found = sizes(alloc, report.measures.classes.as_slice())?;
+    let count = sharp_count(Runs::Halted, levels, setting.budget);
+    let mut text = Vec::new(alloc);
+    put_head(&mut text, &order, p.observer, setting.budget, report, count)?;
+    let runs = u64::from(report.runs);
+    put_numbers(&mut text, runs, found.sizes.as_slice())?;
+    let whole = with_classes(alloc, p, setting, &found, text)?;
+    Ok(whole)
+}
+
+// The text of a prepared program.
+fn prepared_text<W: Watch>(
+    alloc: Global,
+    p: &Prepared,
+    setting: Setting,
+    watch: &W,
+) -> Result<Vec<u8>, Stop>
+    requires fit { CanAudit p.now.compiled.typed.labelled p.now.observer p.now.compiled.image (map seen p.now.starts.items) }
+    requires cycles { IsCycles setting.budget }
+    ensures text { IfOk result (λ v. HasLeak setting.env setting.budget p.now.compiled.typed.labelled (Some p.now.observer) (map seen p.now.starts.items)
+        status.Done v.items) }
+    ensures stop { IfErr result (IsStop (HasLeak setting.env setting.budget p.now.compiled.typed.labelled (Some p.now.observer)
+        (map seen p.now.starts.items))) }
+{
+    let report = match audited(alloc, p, setting, watch) {
+        Ok(report) => report,
+        Err(stop) => return Err(stop),
+    };
+    let (typed, starts) = (&p.compiled.typed, p.starts.as_slice());
+    let Ok(levels) = level_counts(alloc, typed, starts, p.observer, setting.budget + 1) else {
+        return Err(no_memory());
+    };
+    match told_text(alloc, p, setting, &report, &levels) {
+        Ok(text) => Ok(text),
+        Err(_) => Err(no_memory()),
+    }
+}
+
+/// The text of `leak` for the program of a file and the starts of another one. A watch is told how far each run has come.
+///
+/// # Errors
+/// Stops with the first refusal, or with `Memory`.
+pub(crate) fn leak_text<S: Shelf, W: Watch>(
+    alloc: Global,
+    shelf: &mut S,
+    file: &str,
+    starts: &str,
+    name: &str,
+    setting: Setting,
+    watch: &W,
+) -> Result<Vec<u8>, Stop>
+    requires { IsCycles setting.budget }
+    ensures same { KeepsFiles (S.content shelf.old) (S.content shelf.new) }
+    ensures later { NoCountFalls (S.faults shelf.old) (S.faults shelf.new) }
+    ensures log { Fetches (file.now ∷ starts.now ∷ []) (S.log shelf.old) (S.log shelf.new) result }
+    ensures text { IfOk result (λ v. Leaks (λ name. Rose (S.faults shelf.old name) (S.faults shelf.new name)) (S.content shelf.old) file.now starts.now
+        name.now setting.env setting.budget status.Done v.items) }
+    ensures stop { IfErr result (IsStop (Leaks (λ name. Rose (S.faults shelf.old name) (S.faults shelf.new name)) (S.content shelf.old) file.now starts.now
+        name.now setting.env setting.budget)) }
+    ensures accepted { OnOk result (IsAccepted (S.content shelf.old file.now)) }
+    ensures accepted_stop { IfErr result (λ e. IsTrue (is_past_typing (status_of e)) → IsAccepted (S.content shelf.old file.now)) }
+{
+    let prepared = match prepare(alloc, shelf, file, starts, name) {
+        Ok(prepared) => prepared,
+        Err(stop) => return Err(stop),
+    };
+    match prepared_text(alloc, &prepared, setting, watch) {
+        Ok(text) => Ok(text),
+        Err(stop) => Err(stop),
+    }
+}
