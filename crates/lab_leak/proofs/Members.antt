@@ -1,6 +1,6 @@
 -- The lines of classes, one after another.
-use Rattle.std.proofs.Common.{◌≡◌, ◌<◌, ◌≤◌, ◌+◌, ◌-◌, ℕ, zero, suc, List, [], ◌∷◌, ◌++◌, length, map, drop, get_or, refl, sym, ap, ◌∙◌, subst, arith}
-use Rattle.std.proofs.Common.{append_assoc, append-nil, drop-cons, add-one, codes, decimal}
+use Rattle.std.proofs.Common.{◌≡◌, ◌<◌, ◌≤◌, ◌+◌, ◌-◌, ℕ, zero, suc, List, [], ◌∷◌, ◌++◌, length, map, drop, get_or, refl, sym, ap, ◌∙◌, arith}
+use Rattle.std.proofs.Common.{append_assoc, append-nil, drop-cons, codes, decimal}
 use Rattle.std.proofs.lemmas.List.{drop_all, drop-map, length-map}
 use Rattle.mit_syntax.specs.Declarations.{Declaration}
 use Rattle.label_lattice.specs.declared.label.Label.{Label}
@@ -8,12 +8,11 @@ use Rattle.timing_types.specs.Labelled.{LabelledProgram}
 use Rattle.label_code.specs.Machine.{Event}
 use Rattle.label_code.specs.Shaped.{Code}
 use Rattle.code_lower.specs.Lowered.{lowered}
-use Rattle.cycle_machine.specs.Rest.{Told}
 use Rattle.seen_line.specs.Field.{field_text, seen_text}
 use Rattle.start_file.specs.declared.start.Start.{Start as Stored}
 use Rattle.start_file.specs.Starts.{StartValue, seen}
 use Rattle.history_bound.specs.Over.{history_made}
-use Rattle.leak_audit.specs.Agreement.{start_of, starts_of}
+use Rattle.leak_audit.specs.Agreement.{start_of}
 use Rattle.leak_audit.specs.Surveyed.{sequence_from}
 use Rattle.tool_words.specs.declared.words.EnvName.{EnvName}
 use Rattle.tool_stages.specs.Envs.{environment, told_in}

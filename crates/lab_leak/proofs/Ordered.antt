@@ -1,6 +1,5 @@
 -- The number of classes, the sharp count and the bound.
-use Rattle.std.proofs.Common.{◌≡◌, ◌≤◌, ℕ, List, length, arith}
-use Rattle.timing_types.specs.Labelled.{LabelledProgram}
+use Rattle.std.proofs.Common.{arith}
 use Rattle.lab_bound.specs.Enough.{AllAreEnough}
 use Rattle.lab_leak.specs.Answer.{sequences_in}
 use Rattle.lab_leak.specs.Ordered.{AllAreOrdered}

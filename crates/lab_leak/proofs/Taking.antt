@@ -1,5 +1,5 @@
 -- The runs one after another: the classes that are kept are those of the runs so far.
-use Rattle.std.proofs.Common.{◌≡◌, ◌<◌, ◌≤◌, ◌+◌, ◌-◌, ◌⊎◌, inl, inr, ℕ, suc, List, [], ◌∷◌, ◌++◌, length, map, set, get_or, drop}
+use Rattle.std.proofs.Common.{◌≡◌, ◌<◌, ◌≤◌, ◌+◌, ◌-◌, inl, inr, ℕ, List, [], ◌∷◌, ◌++◌, length, set, get_or}
 use Rattle.std.proofs.Common.{refl, sym, ap, ◌∙◌, subst, arith, append_assoc, append-nil}
 use Rattle.std.specs.List.{position_or_len}
 use Rattle.std.proofs.lemmas.List.{length-map}
@@ -12,7 +12,7 @@ use Rattle.leak_audit.proofs.Classing.{tests_sequences, none_classed, one_classe
 use Rattle.leak_classes.specs.Classes.{Classes, no_classes, with_start}
 use Rattle.lab_leak.specs.declared.sizes.ClassSizes.{ClassSizes}
 use Rattle.lab_leak.specs.Classes.{classes_from, classes_of_runs, sizes_of, shown_by, AreSizes}
-use Rattle.lab_leak.proofs.Counting.{weights_in, IsRaised, IsNew, Grows, grown, shown_add, firsts_same, firsts_more}
+use Rattle.lab_leak.proofs.Counting.{Grows, grown, shown_add, firsts_same, firsts_more}
 
 -- ---- one run more
 

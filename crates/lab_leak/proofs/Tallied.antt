@@ -1,15 +1,14 @@
 -- The classes of runs are the tally of what the runs show.
-use Rattle.std.proofs.Common.{◌≡◌, ◌<◌, ◌≤◌, ◌+◌, ◌⊎◌, inl, inr, ℕ, zero, suc, List, [], ◌∷◌, ◌++◌, length, map, get_or, refl, sym, ap, ◌∙◌, subst, arith}
-use Rattle.std.proofs.Common.{append_assoc, append-nil, length-append}
+use Rattle.std.proofs.Common.{◌≡◌, ◌<◌, ◌+◌, inl, inr, ℕ, suc, List, [], ◌∷◌, ◌++◌, length, map, get_or, refl, sym, ap, ◌∙◌, subst, arith}
+use Rattle.std.proofs.Common.{append_assoc, length-append}
 use Rattle.std.specs.List.{position_or_len}
-use Rattle.std.proofs.lemmas.List.{length-map, get_or_append_left, get_or-append_right}
+use Rattle.std.proofs.lemmas.List.{length-map}
 use Rattle.label_code.specs.Machine.{Event}
 use Rattle.class_counts.specs.Tally.{add, tally}
-use Rattle.leak_bound.specs.Records.{distinct, distinct_count}
 use Rattle.leak_audit.specs.Sequences.{same_sequence}
 use Rattle.leak_classes.specs.Classes.{Classes, no_classes, with_start}
 use Rattle.lab_leak.specs.Classes.{classes_from, classes_of_runs, shown_by, AreFirsts, AreTallied}
-use Rattle.lab_leak.proofs.Counting.{Grows, IsRaised, IsNew, grown, shown_add, shown_in, firsts_same, firsts_more}
+use Rattle.lab_leak.proofs.Counting.{Grows, grown, shown_add, shown_in, firsts_same, firsts_more}
 use Rattle.lab_leak.proofs.Taking.{inserted, different}
 
 tallied : (k : Classes) (n : ℕ) (zs : List (List Event)) → (classes_from k n zs).seen ≡ tally same_sequence k.seen (map (λ z. (z, 1)) zs)

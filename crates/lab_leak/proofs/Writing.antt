@@ -1,13 +1,8 @@
 -- The runs that are run once more are the first ones of the classes.
-use Rattle.std.proofs.Common.{◌≡◌, ◌<◌, ◌≤◌, ◌+◌, ◌-◌, ℕ, List, [], ◌∷◌, length, map, drop, get_or, sym, ap, ◌∙◌, subst, arith}
+use Rattle.std.proofs.Common.{◌≡◌, ◌<◌, ◌≤◌, ◌+◌, ◌-◌, ℕ, List, [], ◌∷◌, length, map, drop, get_or, ap, ◌∙◌, subst, arith}
 use Rattle.std.proofs.lemmas.List.{drop-map, length-map}
-use Rattle.timing_types.specs.Labelled.{LabelledProgram}
 use Rattle.label_code.specs.Machine.{Event}
-use Rattle.start_file.specs.declared.start.Start.{Start as Stored}
-use Rattle.start_file.specs.Starts.{seen}
-use Rattle.tool_words.specs.declared.words.EnvName.{EnvName}
 use Rattle.leak_classes.specs.Classes.{Classes}
-use Rattle.lab_leak.specs.Answer.{sequences_in}
 use Rattle.lab_leak.specs.Classes.{classes_of_runs, sizes_of}
 use Rattle.lab_leak.proofs.Members.{At, at_place, as_many, member_is}
 use Rattle.lab_leak.proofs.Tallied.{are_tallied}

@@ -1,4 +1,4 @@
-use Rattle.std.proofs.Common.{◌≡◌, ◌<◌, ◌≤◌, ◌+◌, ◌-◌, ◌++◌, ℕ, List, length, map, get_or, refl, sym, ap, ◌∙◌, subst, arith, codes, decimal}
+use Rattle.std.proofs.Common.{◌≡◌, ◌<◌, ◌≤◌, ◌-◌, ◌++◌, ℕ, List, length, map, get_or, refl, sym, ap, ◌∙◌, subst, arith, codes, decimal}
 use Rattle.std.specs.Prelude.{All}
 use Rattle.start_file.specs.declared.start.Start.{Start as Stored}
 use Rattle.start_file.specs.Starts.{StartValue, seen, IsFor}

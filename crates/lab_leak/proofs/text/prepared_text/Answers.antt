@@ -1,4 +1,4 @@
-use Rattle.std.proofs.Common.{◌≡◌, ◌+◌, List, sym, ap, ◌∙◌, subst, map, All}
+use Rattle.std.proofs.Common.{◌≡◌, ◌+◌, List, sym, ap, subst, map, All}
 use Rattle.mit_syntax.specs.Program.{plan_of}
 use Rattle.timing_types.specs.Labelled.{LabelledProgram}
 use Rattle.source_meaning.specs.Source.{HasEnded}

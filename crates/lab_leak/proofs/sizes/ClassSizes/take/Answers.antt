@@ -1,4 +1,4 @@
-use Rattle.std.proofs.Common.{◌≡◌, ◌+◌, ◌-◌, ◌<◌, ◌≤◌, ℕ, List, length, set, get_or, refl, sym, ap, ◌∙◌, subst, arith}
+use Rattle.std.proofs.Common.{◌≡◌, ◌+◌, ◌<◌, ◌≤◌, ℕ, List, length, set, get_or, refl, sym, ap, ◌∙◌, subst, arith}
 use Rattle.fixed_log.specs.Entropy.{AllSome, starts}
 use Rattle.lab_leak.proofs.Counting.{any_else, raised_starts, raised_some, small_at, new_starts, new_some}
 use Rattle.lab_leak.proofs.Taking.{take_there, take_new}
