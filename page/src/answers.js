@@ -49,12 +49,14 @@ export function readAudit(text) {
     const count = /^(runs|budget|levels|mitigations|ended|halted|distinct|bits) (\d+)$/.exec(line);
     const long = /^(sharp) (\d+)$/.exec(line) ?? /^(guess) at most (\d+) times as often$/.exec(line);
     const observer = /^observer (\S+)$/.exec(line), tooMuch = /^(sharp|bits) \S+ or more$|^guess no limit told$/.test(line);
+    const end = /^end (counted|not counted): /.exec(line);
     if (bound) Object.assign(found, { base: Number(bound[1]), exponent: Number(bound[2]) });
     else if (run) found.classes.push(Number(run[2]));
     else if (level) found.levelsOf.push({ level: level[1], mitigations: Number(level[2]), first: Number(level[3] ?? 1), digits: level[4] && Number(level[4]) });
     else if (count) found[count[1]] = Number(count[2]);
     else if (long) found[long[1]] = BigInt(long[2]);
     else if (observer) [, found.observer] = observer;
+    else if (end) found.countsEnd = end[1] === 'counted';
     else if (!tooMuch) return null;
   }
   return found.runs === undefined || found.base === undefined ? null : found;
