@@ -55,6 +55,7 @@ export function readAudit(text) {
     const long = /^(sharp) (\d+)$/.exec(line) ?? /^(guess) at most (\d+) times as often$/.exec(line);
     const observer = /^observer (\S+)$/.exec(line),
       tooMuch = /^(sharp|bits) \S+ or more$|^guess no limit told$/.test(line);
+    const end = /^end (counted|not counted): /.exec(line);
     if (bound) Object.assign(found, { base: Number(bound[1]), exponent: Number(bound[2]) });
     else if (run) found.classes.push(Number(run[2]));
     else if (level) found.levelsOf.push(
@@ -63,6 +64,7 @@ export function readAudit(text) {
     else if (count) found[count[1]] = Number(count[2]);
     else if (long) found[long[1]] = BigInt(long[2]);
     else if (observer) [, found.observer] = observer;
+    else if (end) found.countsEnd = end[1] === 'counted';
     else if (!tooMuch) return null;
   }
   return found.runs === undefined || found.base === undefined ? null : found;

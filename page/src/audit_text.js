@@ -55,6 +55,12 @@ function howText(report, isCut, observer) {
   return `${who}: ${spaced(report.mitigations)} ${relevantWord(report.mitigations)} in each run, ${levels}.`;
 }
 
+// Whether the limits hold of one who sees when a run ends too.
+function endText(countsEnd) {
+  if (countsEnd === undefined) return '';
+  return countsEnd ? ' So it is for one who sees when it ends, too.' : ' When it ends is not counted, and may tell more.';
+}
+
 /** The numbers in words, or why there are none. */
 export function auditWords(audit, labels, asked) {
   if (audit.refusal) return refusalText(audit.refusal, labels, asked.observer);
@@ -63,5 +69,5 @@ export function auditWords(audit, labels, asked) {
   const guess = sharp?.guess === undefined
     ? ''
     : ` Whoever sees one such run guesses the secret right at most <b>${times(sharp.guess)}</b> as often as before.`;
-  return howText(report, isCut, observer) + holdsFor(report, isCut, sharp, observer) + guess;
+  return howText(report, isCut, observer) + holdsFor(report, isCut, sharp, observer) + guess + endText(sharp?.countsEnd);
 }

@@ -21,7 +21,7 @@ use Rattle.label_code.specs.Run.{Start}
 use Rattle.code_lower.specs.Lowered.{lowered}
 use Rattle.leak_bound.specs.Digits.{digits}
 use Rattle.leak_bound.specs.Relevant.{is_relevant}
-use Rattle.leak_bound.specs.Records.{Each}
+use Rattle.leak_bound.specs.Records.{Each, Tests}
 use Rattle.leak_bound.specs.Sound.{bound, FirstBegins}
 use Rattle.leak_bound.specs.Source.{IsTypedWith}
 use Rattle.sharp_count.specs.declared.count.LevelRuns.{LevelRuns}
@@ -29,9 +29,10 @@ use Rattle.sharp_count.specs.Count.{rising, sharp, fitting}
 use Rattle.sharp_count.specs.Levels.{told_of, counts_of}
 use Rattle.sharp_count.proofs.Fitting.{told}
 use Rattle.sharp_bound.specs.Firsts.{PredictsNext, PredictsBy}
-use Rattle.sharp_bound.specs.Sharp.{SharpSound, BeginsEach, relevant_at, ends_by}
+use Rattle.sharp_bound.specs.Sharp.{SharpSound, FewHalted, BeginsEach, relevant_at, ends_by}
 use Rattle.sharp_bound.specs.Guess.{FewShown}
-use Rattle.sharp_history.specs.Over.{LoweredSharpOver}
+use Rattle.sharp_bound.specs.End.{seen_to_end}
+use Rattle.sharp_history.specs.Over.{LoweredSharpOver, LoweredSharpEndOver}
 use Rattle.start_file.specs.Starts.{StartValue}
 use Rattle.leak_audit.specs.Agreement.{starts_of}
 use Rattle.leak_audit.specs.Sequences.{same_sequence}
@@ -124,6 +125,31 @@ module _ {E : Type 0} (v : Env E) (serves : Order → E → Type 0) (made : Orde
   counts_same [] levels counts h k = inl refl
   counts_same (s ∷ ss) levels counts h k = inr (begins_each_one q o s.memory counts (counts_of levels) h.0 k)
 
+  -- a view that shows few of the runs that halt, from starts of which there is a report
+  few_told : {V : Type 0} (view : Start E → V)
+      → FewHalted v q.program.order (serves q.program.order) (labels_of q) (levels_of q) (lowered q).instrs (plan_of q.program) o t view →
+      (ss : List StartValue) (r : AuditReport) (levels : List LevelRuns) → IsReport v serves q o t (starts_of made q.program.order ss) r
+      → AreTold q o (memories_of ss) levels → (same : V → V → Bool) → Tests same →
+      FewShown view same (starts_of made q.program.order ss) (sharp_of t levels)
+  few_told {V} view few ss r levels is h same tests =
+      let firsts = FirstsOf levels in
+      let some = few (starts_of made q.program.order ss) is.agree is.halted firsts (predicts_each ss levels (λ l x k. (h.first l).least x k)) same tests in
+      let counts = some.0 in
+      let size : q.program.order.size ≡ length levels = sym h.size in
+      go ss levels counts
+      (subst (λ n. FewShown view same (starts_of made q.program.order ss) (sharp (ends_by t firsts) n counts)) size some.2)
+      (counts_same ss levels counts (each_memory (λ m. BeginsEach (order_of q) (labels_of q) (levels_of q) o (plan_of q.program) m counts) ss some.1) h.begun)
+    where
+      go : (ss : List StartValue) (levels : List LevelRuns) (counts : ℕ → ℕ)
+          → FewShown view same (starts_of made q.program.order ss) (sharp (ends_by t (FirstsOf levels)) (length levels) counts)
+          → (ss ≡ []) ⊎ ((l : ℕ) → counts l ≡ counts_of levels l) → FewShown view same (starts_of made q.program.order ss) (sharp_of t levels)
+      go ss levels counts some (inl none) =
+          subst (λ (z : List StartValue). FewShown view same (starts_of made q.program.order z) (sharp_of t levels)) (sym none)
+          (record { count = omega arith; best_few = λ w. omega arith; guess = λ w g. omega arith })
+      go ss levels counts some (inr alike) =
+          subst (FewShown view same (starts_of made q.program.order ss))
+          (same_product (ends_by t (FirstsOf levels)) counts (counts_of levels) (length levels) alike) some
+
   each_with : (ms : List (List ℤ)) (c d : ℕ → ℕ) → ((l : ℕ) → c l ≡ d l)
       → Each (λ m. BeginsEach (order_of q) (labels_of q) (levels_of q) o (plan_of q.program) m c) ms
       → Each (λ m. BeginsEach (order_of q) (labels_of q) (levels_of q) o (plan_of q.program) m d) ms
@@ -206,7 +232,7 @@ typed_with : (words : List Told) (p : Syntax) (q : LabelledProgram) → IsProgra
 typed_with words p q spelled types = typed_made words p q spelled types.program types.least.labels.keeps types.typed
 
 -- in each environment that `--env` names
-module _ (sharp : (e : EnvName) → LoweredSharpOver (environment e) AnyHistory) where
+module _ (sharp : (e : EnvName) → LoweredSharpOver (environment e) AnyHistory) (ending : (e : EnvName) → LoweredSharpEndOver (environment e) AnyHistory) where
   below : (p : Syntax) (q : LabelledProgram) (o : ℕ) → Types p q → o < p.order.size → o < q.program.order.size
   below p q o types l = subst (λ (z : Syntax). o < z.order.size) (sym types.program) l
 
@@ -218,5 +244,7 @@ module _ (sharp : (e : EnvName) → LoweredSharpOver (environment e) AnyHistory)
         begun = f.begun;
         few = f.few;
         counted = counted v AnyHistory history_made q o t ss r levels is f;
+        ended = λ end same tests. few_told v AnyHistory history_made q o t (seen_to_end v (order_of q) (labels_of q) (lowered q).instrs o t)
+            ((ending e q (typed_with words p q spelled types)).halted o (below p q o types low) end t some) ss r levels is h same tests;
         within = bounded v AnyHistory history_made q o t ss r levels is f;
       }

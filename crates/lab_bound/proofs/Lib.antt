@@ -1,3 +1,4 @@
+pub mod EndLabel
 pub mod Ending
 pub mod Bare
 pub mod Enough

@@ -1,15 +1,18 @@
 -- What the sharp count bounds.
-use Rattle.std.specs.Prelude.{◌≡◌, ◌≤◌, ◌<◌, ◌^◌, ℕ, List, Some}
+use Rattle.std.specs.Prelude.{◌≡◌, ◌≤◌, ◌<◌, ◌^◌, ℕ, List, Bool, Some}
 use Rattle.mit_syntax.specs.Program.{Syntax, plan_of}
 use Rattle.mit_parser.specs.Words.{Told}
 use Rattle.mit_parser.specs.Spells.{IsProgram}
 use Rattle.timing_types.specs.Labelled.{LabelledProgram, order_of, labels_of, levels_of}
+use Rattle.label_code.specs.Machine.{Event}
+use Rattle.code_lower.specs.Lowered.{lowered}
 use Rattle.start_file.specs.Starts.{StartValue}
-use Rattle.leak_bound.specs.Records.{Each}
+use Rattle.leak_bound.specs.Records.{Each, Tests}
 use Rattle.sharp_count.specs.declared.count.LevelRuns.{LevelRuns}
 use Rattle.sharp_count.specs.Count.{fitting}
 use Rattle.sharp_count.specs.Levels.{counts_of}
 use Rattle.sharp_bound.specs.Sharp.{BeginsEach}
+use Rattle.sharp_bound.specs.End.{seen_to_end}
 use Rattle.sharp_bound.specs.Guess.{FewShown}
 use Rattle.history_bound.specs.Over.{history_made}
 use Rattle.leak_audit.specs.Agreement.{starts_of}
@@ -20,12 +23,19 @@ use Rattle.level_counts.specs.Begun.{AreTold, memories_of}
 use Rattle.tool_words.specs.declared.words.EnvName.{EnvName}
 use Rattle.tool_stages.specs.Stages.{Types}
 use Rattle.tool_stages.specs.Envs.{environment, ReportsIn}
-use Rattle.lab_bound.specs.Text.{sharp_of}
+use Rattle.lab_bound.specs.Text.{sharp_of, CountsEnd}
 
 -- In a named environment the runs from starts show at most n different sequences up to T, and whoever sees one of them
 -- guesses the start right at most n times as often.
 abbrev pub FewIn : EnvName → LabelledProgram → ℕ → ℕ → List StartValue → ℕ → Type 0
 FewIn e q o t ss n = FewShown (sequence_from (environment e q.program.order) q o t) same_sequence (starts_of history_made q.program.order ss) n
+
+-- The same of who sees the end too: at most n different pairs of a sequence and the cycle at which the run has ended. Two
+-- pairs may be told apart by any test of equality.
+abbrev pub FewToEndIn : EnvName → LabelledProgram → ℕ → ℕ → List StartValue → ℕ → Type 0
+FewToEndIn e q o t ss n =
+    (same : List Event × List ℕ → List Event × List ℕ → Bool) → Tests same →
+    FewShown (seen_to_end (environment e q.program.order) (order_of q) (labels_of q) (lowered q).instrs o t) same (starts_of history_made q.program.order ss) n
 
 -- of runs of which there is a report, and of whose levels this is told
 pub record IsEnough (e : EnvName) (q : LabelledProgram) (o t : ℕ) (ss : List StartValue) (r : AuditReport) (levels : List LevelRuns) : Type 0 where
@@ -35,6 +45,8 @@ pub record IsEnough (e : EnvName) (q : LabelledProgram) (o t : ℕ) (ss : List S
   pub few : FewIn e q o t ss (sharp_of t levels)
   -- a number that is told is at least as great as the number of different sequences in the report
   pub counted : (n : ℕ) → fitting (sharp_of t levels) ≡ Some n → r.measures.distinct ≤ n
+  -- where the end is told as counted, the sharp count bounds what is seen of the runs with their ends
+  pub ended : CountsEnd q o → FewToEndIn e q o t ss (sharp_of t levels)
   -- the sharp count is at most the bound of the report
   pub within : sharp_of t levels ≤ r.measures.base ^ r.measures.exponent
 

@@ -1,10 +1,12 @@
--- The lines that stand after those of an audit: what is told of each level, and the sharp count.
-use Rattle.std.specs.Prelude.{◌≡◌, ◌≤◌, ◌+◌, ◌^◌, ℕ, List, [], ◌∷◌, ◌++◌, length, Option, Some, None, cond, eqb, codes, decimal}
+-- The lines that stand after those of an audit: what is told of each level, the sharp count, and whether the end is counted.
+use Rattle.std.specs.Prelude.{◌≡◌, ◌⊎◌, ◌≤◌, ◌+◌, ◌^◌, ℕ, List, [], ◌∷◌, ◌++◌, length, Option, Some, None, cond, eqb, codes, decimal}
 use Rattle.label_lattice.specs.Order.{Order, lattice_of, name_of}
+use Rattle.timing_types.specs.Labelled.{LabelledProgram, order_of, labels_of, bare_of}
 use Rattle.sharp_count.specs.declared.count.LevelRuns.{LevelRuns}
 use Rattle.sharp_count.specs.declared.count.Runs.TheVariants.{Halted}
 use Rattle.sharp_count.specs.Count.{sharp, fitting}
 use Rattle.sharp_count.specs.Levels.{miss_counts, counts_of, values_of}
+use Rattle.sharp_bound.specs.End.{EndsLow}
 
 -- ` first E digits B`, where runs begin mitigations of the level
 abbrev pub firsts_text : ℕ → LevelRuns → List ℕ
@@ -42,6 +44,21 @@ IsSharpText (Some n) x =
 -- all these lines
 abbrev pub IsBoundText : Order → ℕ → ℕ → List LevelRuns → List ℕ → Type 0
 IsBoundText order o t levels x = (rest : List ℕ) × IsSharpText (fitting (sharp_of t levels)) rest × (x ≡ level_lines order o t 0 levels ++ rest)
+
+-- The program can be typed with an end label that flows to the observer. A loop can be given more than one end label, and
+-- so can a program.
+abbrev pub CountsEnd : LabelledProgram → ℕ → Type 0
+CountsEnd q o = EndsLow (order_of q) (labels_of q) (bare_of q) o
+
+-- then the counts hold of who sees the end of a run too; else they say nothing of it
+abbrev pub IsEndText : LabelledProgram → ℕ → List ℕ → Type 0
+IsEndText q o x =
+    (CountsEnd q o × (x ≡ codes "end counted: the same holds for who sees runs end\n"))
+    ⊎ ((CountsEnd q o → ⊥) × (x ≡ codes "end not counted: no limit told for who sees runs end\n"))
+
+-- the line of the end stands after a text
+abbrev pub EndPut : LabelledProgram → ℕ → List ℕ → List ℕ → Type 0
+EndPut q o old new = (line : List ℕ) × IsEndText q o line × (new ≡ old ++ line)
 
 -- the lines of a sharp count stand after a text
 abbrev pub SharpPut : Option ℕ → List ℕ → List ℕ → Type 0

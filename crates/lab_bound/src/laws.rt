@@ -7,7 +7,8 @@ use sharp_history::laws::lowered_few_sequences_sharp_of_histories;
 use tool_stages::laws::named_keep_the_laws;
 
 /// A law: the sharp count of what is told of the levels bounds the number of different sequences that the report counts,
-/// and what seeing one of them is worth to somebody who guesses the start.
+/// and what seeing one of them is worth to somebody who guesses the start; where the end is counted, so it does where the
+/// ends are seen too.
 pub fn sharp_counts_are_enough()
     ensures { AllAreEnough }
 {

@@ -1,7 +1,9 @@
-//! The command `bound` of the lab: what an audit says, and after it the sharp count and what it stands on.
+//! The command `bound` of the lab: what an audit says, and after it the sharp count, what it stands on, and whether it holds
+//! of who sees runs end.
 #![tactic(auto)]
 
 pub mod bound;
+mod end;
 pub mod laws;
 mod lines;
 mod text;

@@ -13,6 +13,7 @@ ghost use Rattle.tool_stages.specs.Fetches.{Fetches};
 ghost use Rattle.lab_bound.specs.Text.{BoundPut};
 ghost use Rattle.lab_bound.specs.Answer.{HasBound, Bounds};
 
+use crate::end::put_end;
 use crate::lines::{put_levels, put_sharp};
 use audit_stage::audited::audited;
 use label_lattice::label::Label;
@@ -71,7 +72,10 @@ fn prepared_text<W: Watch>(
     let Ok(()) = put_audit(&mut text, &order, observer, budget, &report) else {
         return Err(no_memory());
     };
-    match put_bound(&mut text, &order, observer, budget, &levels) {
+    let Ok(()) = put_bound(&mut text, &order, observer, budget, &levels) else {
+        return Err(no_memory());
+    };
+    match put_end(&mut text, typed, observer) {
         Ok(()) => Ok(text),
         Err(_) => Err(no_memory()),
     }

@@ -3,4 +3,6 @@ use Rattle.lab_bound.proofs.Enough.{all_enough}
 use Rattle.lab_bound.proofs.laws.sharp_counts_are_enough.Goals as goal
 
 pub returns : goal.returns
-returns c = all_enough (λ e. c.lowered_few_sequences_sharp_of_histories.ensures.halted (environment e) (c.named_keep_the_laws.ensures e))
+returns c =
+    all_enough (λ e. c.lowered_few_sequences_sharp_of_histories.ensures.halted (environment e) (c.named_keep_the_laws.ensures e))
+    (λ e. c.lowered_few_sequences_sharp_of_histories.ensures.ended (environment e) (c.named_keep_the_laws.ensures e))
