@@ -45,6 +45,7 @@ returns-in-Steady-clause-answered g c =
     let rises = λ (name : List ℕ). Rose (g.S.Shelf.faults c.args.shelf.now name) (g.S.Shelf.faults c.steady.new.shelf name) in
     subst (λ (x : Question). EndsBy (g.W.Sink.taken c.args.out.now) (g.W.Sink.taken c.steady.new.out) (Before content (asked_of x))
     (IsAnswer rises content (asked_of x)) c.steady.result) (sym c.in-Steady.is) c.steady.ensures.answered
+
 pub returns-in-Leak-clause-answered : goal.returns-in-Leak-clause-answered
 returns-in-Leak-clause-answered g c =
     let content = g.S.Shelf.content c.args.shelf.now in
@@ -83,6 +84,7 @@ pub returns-in-Steady-clause-fetched : goal.returns-in-Steady-clause-fetched
 returns-in-Steady-clause-fetched g c =
     subst (λ (x : Question). HasFetched (files_of (asked_of x)) c.steady.result (g.S.Shelf.log c.args.shelf.now) (g.S.Shelf.log c.steady.new.shelf))
     (sym c.in-Steady.is) c.steady.ensures.fetched
+
 pub returns-in-Leak-clause-fetched : goal.returns-in-Leak-clause-fetched
 returns-in-Leak-clause-fetched g c =
     subst (λ (x : Question). HasFetched (files_of (asked_of x)) c.leak.result (g.S.Shelf.log c.args.shelf.now) (g.S.Shelf.log c.leak.new.shelf))
