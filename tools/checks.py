@@ -37,7 +37,9 @@ def on_terminal(call, folder, environment, given=""):
     ours, theirs = pty.openpty()
     with os.fdopen(ours, "rb", buffering=0) as terminal:
         with os.fdopen(theirs, "wb", buffering=0) as errors:
-            done = subprocess.run(call, cwd=folder, input=given.encode(), env=environment, stdout=subprocess.PIPE, stderr=errors, check=False)
+            done = subprocess.run(
+                call, cwd=folder, input=given.encode(), env=environment, stdout=subprocess.PIPE, stderr=errors, check=False
+            )
         said = b""
         with contextlib.suppress(OSError):  # what the system answers at the end of what stands there
             while part := terminal.read(4096):

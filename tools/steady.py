@@ -154,6 +154,4 @@ def told(program, labelling, file, observer, parts, whole):
     names = program.lattice.names
     seen = sum(judgement.sees[program.name_of(x)] for x in range(len(program.names)))
     asked = "end asked" if whole else "end not asked"
-    return 0, (
-        f"steady\nobserver {names[observer]}\nparts {names[parts]}\n{asked}\nsees {seen} of {len(program.names)} variables\n"
-    )
+    return 0, (f"steady\nobserver {names[observer]}\nparts {names[parts]}\n{asked}\nsees {seen} of {len(program.names)} variables\n")

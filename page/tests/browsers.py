@@ -11,9 +11,18 @@ import urllib.request
 
 ELEMENT = "element-6066-11e4-a52e-4f735466cecf"
 KEYS = {
-    "Enter": "\ue007", "Tab": "\ue004", "ArrowDown": "\ue015", "ArrowUp": "\ue013", "ArrowRight": "\ue014",
-    "ArrowLeft": "\ue012", "End": "\ue010", "Home": "\ue011", "Control": "\ue009", "Shift": "\ue008",
-    "Escape": "\ue00c", "Backspace": "\ue003",
+    "Enter": "\ue007",
+    "Tab": "\ue004",
+    "ArrowDown": "\ue015",
+    "ArrowUp": "\ue013",
+    "ArrowRight": "\ue014",
+    "ArrowLeft": "\ue012",
+    "End": "\ue010",
+    "Home": "\ue011",
+    "Control": "\ue009",
+    "Shift": "\ue008",
+    "Escape": "\ue00c",
+    "Backspace": "\ue003",
 }
 
 
@@ -94,8 +103,12 @@ class Chromium(Browser):
 
     name = "chromium"
     PATHS = {
-        "go": ("POST", "/url"), "script": ("POST", "/execute/sync"), "find": ("POST", "/element"),
-        "actions": ("POST", "/actions"), "shot": ("GET", "/screenshot"), "quit": ("DELETE", ""),
+        "go": ("POST", "/url"),
+        "script": ("POST", "/execute/sync"),
+        "find": ("POST", "/element"),
+        "actions": ("POST", "/actions"),
+        "shot": ("GET", "/screenshot"),
+        "quit": ("DELETE", ""),
     }
 
     def __init__(self, size=(1360, 900), dark=False):
@@ -106,8 +119,13 @@ class Chromium(Browser):
         )
         self.address = f"http://127.0.0.1:{port}/session"
         arguments = [
-            "--headless=new", "--no-sandbox", "--disable-gpu", f"--user-data-dir={self.folder}/profile",
-            f"--window-size={size[0]},{size[1]}", "--force-device-scale-factor=1", "--disable-dev-shm-usage",
+            "--headless=new",
+            "--no-sandbox",
+            "--disable-gpu",
+            f"--user-data-dir={self.folder}/profile",
+            f"--window-size={size[0]},{size[1]}",
+            "--force-device-scale-factor=1",
+            "--disable-dev-shm-usage",
         ]
         options = {"args": arguments, "prefs": {"download.default_directory": str(self.folder)}}
         wanted = {"browserName": "chrome", "goog:chromeOptions": options, "goog:loggingPrefs": {"browser": "ALL"}}
@@ -159,8 +177,12 @@ class Firefox(Browser):
 
     name = "firefox"
     NAMES = {
-        "go": "WebDriver:Navigate", "script": "WebDriver:ExecuteScript", "find": "WebDriver:FindElement",
-        "click": "WebDriver:ElementClick", "actions": "WebDriver:PerformActions", "shot": "WebDriver:TakeScreenshot",
+        "go": "WebDriver:Navigate",
+        "script": "WebDriver:ExecuteScript",
+        "find": "WebDriver:FindElement",
+        "click": "WebDriver:ElementClick",
+        "actions": "WebDriver:PerformActions",
+        "shot": "WebDriver:TakeScreenshot",
         "quit": "Marionette:Quit",
     }
 
@@ -170,12 +192,18 @@ class Firefox(Browser):
         profile = self.folder / "profile"
         profile.mkdir()
         settings = {
-            "marionette.port": port, "browser.download.folderList": 2, "browser.download.dir": str(self.folder),
-            "browser.shell.checkDefaultBrowser": False, "datareporting.policy.dataSubmissionEnabled": False,
-            "browser.download.useDownloadDir": True, "ui.systemUsesDarkTheme": int(dark), "app.update.enabled": False,
-            "layout.css.prefers-color-scheme.content-override": 0 if dark
-            else 1, "network.captive-portal-service.enabled": False,
-            "browser.download.always_ask_before_handling_new_types": False, "browser.aboutwelcome.enabled": False,
+            "marionette.port": port,
+            "browser.download.folderList": 2,
+            "browser.download.dir": str(self.folder),
+            "browser.shell.checkDefaultBrowser": False,
+            "datareporting.policy.dataSubmissionEnabled": False,
+            "browser.download.useDownloadDir": True,
+            "ui.systemUsesDarkTheme": int(dark),
+            "app.update.enabled": False,
+            "layout.css.prefers-color-scheme.content-override": 0 if dark else 1,
+            "network.captive-portal-service.enabled": False,
+            "browser.download.always_ask_before_handling_new_types": False,
+            "browser.aboutwelcome.enabled": False,
             # Else leaving a page cuts off its scripts, which the console tells as a fault of the page.
             "dom.ipc.cancel_content_js_when_navigating": False,
             # On a busy machine a script may take longer than a person would be asked to wait.
@@ -183,8 +211,7 @@ class Firefox(Browser):
         }
         lines = [f"user_pref({json.dumps(name)}, {json.dumps(value)});" for name, value in settings.items()]
         (profile / "user.js").write_text("\n".join(lines) + "\n")
-        words = ["firefox-esr", "--headless", "--marionette", "--remote-allow-system-access", "--no-remote",
-            "--profile", str(profile)]
+        words = ["firefox-esr", "--headless", "--marionette", "--remote-allow-system-access", "--no-remote", "--profile", str(profile)]
         words += ["--width", str(size[0]), "--height", str(size[1])]
         self.process = subprocess.Popen(words, stdout=subprocess.DEVNULL, stderr=subprocess.DEVNULL)
         self.line = wait_for(lambda: self.tried(port), 60, "firefox")

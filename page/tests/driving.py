@@ -15,7 +15,9 @@ ENDLESS = "var l : L;\nwhile 1 do { l := l + 1 }\n"
 # The program's text is in the editor's library, in the page of before it was in a plain text area.
 EDITOR = "const editor = document.querySelector('.CodeMirror')?.CodeMirror, area = document.getElementById('source');"
 READ = EDITOR + "return editor ? editor.getValue() : area.value"
-WRITE = EDITOR + """
+WRITE = (
+    EDITOR
+    + """
 if (editor) {
   const last = editor.lastLine();
   editor.replaceRange(arguments[0], { line: 0, ch: 0 }, { line: last, ch: editor.getLine(last).length }, '+input');
@@ -23,7 +25,10 @@ if (editor) {
   area.value = arguments[0];
   area.dispatchEvent(new Event('input', { bubbles: true }));
 }"""
-CARET = EDITOR + """
+)
+CARET = (
+    EDITOR
+    + """
 const text = editor ? editor.getValue() : area.value;
 const at = text.indexOf(arguments[0]) + (arguments[1] ? arguments[0].length : 0);
 if (editor) {
@@ -33,6 +38,7 @@ if (editor) {
   area.focus();
   area.setSelectionRange(at, at);
 }"""
+)
 SELECTED = EDITOR + "return editor ? editor.getSelection() : area.value.slice(area.selectionStart, area.selectionEnd)"
 
 # Of what a selector finds: how many can be seen, and how many of those stand in something that is dimmed.
@@ -125,10 +131,7 @@ class Page:
         self.idle()
 
     def examples(self):
-        script = (
-            "return [...document.getElementById('example').options].filter((o) =>"
-            " /^\\d+$/.test(o.value)).map((o) => o.textContent)"
-        )
+        script = "return [...document.getElementById('example').options].filter((o) =>" " /^\\d+$/.test(o.value)).map((o) => o.textContent)"
         return self.run(script)
 
     def choose(self, number):

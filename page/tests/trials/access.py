@@ -20,8 +20,7 @@ def fold(page):
     page.browser.resize(1366, 768)
     page.choose(0)
     script = (
-        "const box = document.querySelector(arguments[0]).getBoundingClientRect(); return [box.left, box.top,"
-        " box.right, box.bottom]"
+        "const box = document.querySelector(arguments[0]).getBoundingClientRect(); return [box.left, box.top," " box.right, box.bottom]"
     )
     boxes = {name: page.run(script, name) for name in ("#sentence", "#audit", ".editor", "#lanes svg")}
     for name, (left, top, right, bottom) in boxes.items():
@@ -53,9 +52,22 @@ def keyboard(page):
     page.browser.press(*["Tab"] * 60)
     seen = page.run("return window.focused")
     for wanted in (
-        "lesson-open", "example", "copy", "theme", "labels-shown", "find", "code-open", "editor", "problems", "zoom-in",
+        "lesson-open",
+        "example",
+        "copy",
+        "theme",
+        "labels-shown",
+        "find",
+        "code-open",
+        "editor",
+        "problems",
+        "zoom-in",
         "time-save",
-        "observer", "environment", "budget", "lanes", "starts-form",
+        "observer",
+        "environment",
+        "budget",
+        "lanes",
+        "starts-form",
     ):
         holds(wanted in seen, f"Tab reaches {wanted}: {seen}")
 
@@ -65,8 +77,7 @@ def names(page):
     for number in (0, 2, 5):
         page.choose(number)
         page.run("for (const one of document.querySelectorAll('details')) one.open = true")
-        found = page.run(NAME
-            + f"return seen(\"{CONTROLS}\").map((one) => [one.tagName, nameOf(one), one.outerHTML.slice(0, 90)])")
+        found = page.run(NAME + f'return seen("{CONTROLS}").map((one) => [one.tagName, nameOf(one), one.outerHTML.slice(0, 90)])')
         same([html for _, name, html in found if not name], [], "what has no name")
         buttons = [name for tag, name, _ in found if tag == "BUTTON"]
         same(sorted({name for name in buttons if buttons.count(name) > 1}), [], "names of several buttons")
@@ -83,7 +94,7 @@ def targets(page):
             page.run("for (const one of document.querySelectorAll('details')) one.open = true")
             small = page.run(
                 NAME + f"return seen(\"button, select, summary, input\").filter((one) => one.matches('{INTERFACE}')"
-                    f" && !one.matches('p .place'))"
+                f" && !one.matches('p .place'))"
                 ".map((one) => [one, one.getBoundingClientRect()]).filter(([, box]) => box.width < 24 || box.height <"
                 " 24)"
                 ".map(([one, box]) => `${one.outerHTML.slice(0, 70)} ${box.width} ${box.height}`)"
@@ -176,8 +187,7 @@ def forced_colours(page):
         ink, ground = page.run("const s = getComputedStyle(document.body); return [s.color, s.backgroundColor]")
         holds(ink != ground, f"{feature}: {ink} on {ground}")
     page.browser.devtools("Emulation.setEmulatedMedia", media="print", features=[])
-    holds(page.run("return getComputedStyle(document.getElementById('lesson-open')).display") == "none",
-        "no buttons in print")
+    holds(page.run("return getComputedStyle(document.getElementById('lesson-open')).display") == "none", "no buttons in print")
     page.browser.devtools("Emulation.setEmulatedMedia", media="", features=[])
 
 

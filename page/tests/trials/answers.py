@@ -82,8 +82,9 @@ def budget_told(page):
     for wrong in ("x", "0", "1099511627777", ""):
         page.set("#budget", wrong)
         page.idle()
-        fault = page.run("const one = document.getElementById('budget-fault'); return one &&"
-            " one.getClientRects().length ? one.innerText : ''")
+        fault = page.run(
+            "const one = document.getElementById('budget-fault'); return one &&" " one.getClientRects().length ? one.innerText : ''"
+        )
         holds("from 1 to 1\u202f099\u202f511\u202f627\u202f776" in fault, f"words for {wrong!r}: {fault!r}")
         for selector in OLD:
             all_dimmed(page, selector, selector)
@@ -95,13 +96,13 @@ def budget_told(page):
 
 def cell_told(page):
     page.choose(4)
-    page.set("#starts-table input[data-row=\"1\"]", "4x")
+    page.set('#starts-table input[data-row="1"]', "4x")
     page.idle()
     fault = page.text("#starts-fault")
     holds("run 2" in fault and "h" in fault and "4x" in fault, f"words for a cell: {fault!r}")
     for selector in OLD:
         all_dimmed(page, selector, selector)
-    page.set("#starts-table input[data-row=\"1\"]", "4")
+    page.set('#starts-table input[data-row="1"]', "4")
     page.idle()
     same(page.text("#starts-fault"), "", "the fault")
     for selector in OLD:
@@ -118,13 +119,11 @@ def tells_how_far(page):
         "return document.getElementById('working').hidden ? '' :"
         " document.getElementById('working-text').textContent.replace(/\\u202f/g, '')"
     )
-    page.browser.wait(f"return /run 2 of 3 is past \\d+ cycles of 1099511627776, .* %/.test((() => {{ {told} }})())",
-        60, "how far it is")
+    page.browser.wait(f"return /run 2 of 3 is past \\d+ cycles of 1099511627776, .* %/.test((() => {{ {told} }})())", 60, "how far it is")
     text = page.run(told)
     holds(text.startswith("the count (step 2 of 4), "), text)
     first = int(re.search(r"past (\d+) cycles", text)[1])
-    page.browser.wait(f"return Number(/past (\\d+) cycles/.exec((() => {{ {told} }})())?.[1]) > {first}", 60,
-        "more cycles")
+    page.browser.wait(f"return Number(/past (\\d+) cycles/.exec((() => {{ {told} }})())?.[1]) > {first}", 60, "more cycles")
     page.browser.click("#stop")
     page.idle()
     holds("topped" in page.text("#freshness"), "it says that it was stopped")
@@ -163,6 +162,13 @@ def answers_are_made_once(page):
 
 
 TRIALS = [
-    tells_how_far, answers_are_made_once, dimmed_at_the_key, dimmed_during_a_run, bounds_rounded_up,
-    if_without_else_marked, classes_read_apart, budget_told, cell_told,
+    tells_how_far,
+    answers_are_made_once,
+    dimmed_at_the_key,
+    dimmed_during_a_run,
+    bounds_rounded_up,
+    if_without_else_marked,
+    classes_read_apart,
+    budget_told,
+    cell_told,
 ]

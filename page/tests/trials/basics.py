@@ -28,17 +28,14 @@ def each_example(page):
         if not is_refused:
             same(page.count(".lane"), page.count("#starts-table tr[data-run]"), f"{name}: lanes")
             holds(page.text("#audit"), f"{name}: an audit")
-        same(page.text("#freshness"), "The program that is here is refused, so it has no runs." if is_refused
-            else "", name)
+        same(page.text("#freshness"), "The program that is here is refused, so it has no runs." if is_refused else "", name)
 
 
 def audit_as_documented(page):
     starts = (EXAMPLES / "password.toml").read_text()
     for file, distinct, sentence in (
-        ("password_small.mit", "3",
-            "Of four runs an observer at L sees three different timings; at most 16 are possible."),
-        ("password.mit", "1",
-            "An observer at L cannot tell these four runs apart; with other secrets at most eleven are possible."),
+        ("password_small.mit", "3", "Of four runs an observer at L sees three different timings; at most 16 are possible."),
+        ("password.mit", "1", "An observer at L cannot tell these four runs apart; with other secrets at most eleven are possible."),
     ):
         page.write((EXAMPLES / file).read_text(), starts)
         same(page.text("#audit .number-of b"), distinct, file)
@@ -109,12 +106,18 @@ def rows_and_columns(page):
     first = page.value("#toml")
     page.browser.click('[data-remove="3"]')
     page.idle()
-    same(page.run("return [...document.querySelectorAll('#starts-table input')].map((one) => one.value).join(' ')"),
-        "0 1 2 4 5 6 7 8 9", "left")
+    same(
+        page.run("return [...document.querySelectorAll('#starts-table input')].map((one) => one.value).join(' ')"),
+        "0 1 2 4 5 6 7 8 9",
+        "left",
+    )
     page.browser.click('[data-copy="2"]')
     page.idle()
-    same(page.run("return [...document.querySelectorAll('#starts-table input')].map((one) => one.value).join(' ')"),
-        "0 1 2 2 4 5 6 7 8 9", "copied")
+    same(
+        page.run("return [...document.querySelectorAll('#starts-table input')].map((one) => one.value).join(' ')"),
+        "0 1 2 2 4 5 6 7 8 9",
+        "copied",
+    )
     page.browser.click("#starts-undo")
     page.browser.click("#starts-undo")
     page.idle()
@@ -123,8 +126,7 @@ def rows_and_columns(page):
     page.set("#range-to", "5")
     page.browser.click("#range-go")
     page.idle()
-    same(page.run("return [...document.querySelectorAll('#starts-table input')].map((one) => one.value).join(' ')"),
-        "3 4 5", "a range")
+    same(page.run("return [...document.querySelectorAll('#starts-table input')].map((one) => one.value).join(' ')"), "3 4 5", "a range")
     page.write(page.program().replace("h", "k").replace("wkile", "while"))
     holds("unknown key" in page.text("#starts-fault"), page.text("#starts-fault"))
     page.set("#starts-add select[data-rename]", "k", "change")
@@ -140,8 +142,7 @@ def timeline(page):
     page.choose(0)
     for text in ("done = 1 @168", "done = 1 @296", "done = 1 @552"):
         holds(text in page.text("#lanes"), text)
-    colours = page.run("return [...document.querySelectorAll('.lane text[font-weight]')].map((one) =>"
-        " one.getAttribute('fill'))")
+    colours = page.run("return [...document.querySelectorAll('.lane text[font-weight]')].map((one) =>" " one.getAttribute('fill'))")
     same([colours.count(one) for one in dict.fromkeys(colours)], [1, 6, 2], "colours of runs that look alike")
     before = page.text("#lanes")
     page.run("document.getElementById('lanes').focus()")
@@ -180,8 +181,7 @@ def sweep(page):
     holds(text.startswith("From 269 on, the runs cannot be told apart"), text)
     holds("It costs 310 cycles, where 512 costs 553" in text, text)
     before = page.program()
-    page.run("document.getElementById('sweep-numbers').open = true;"
-        " document.querySelector('[data-take=\"269\"]').click()")
+    page.run("document.getElementById('sweep-numbers').open = true;" " document.querySelector('[data-take=\"269\"]').click()")
     page.idle()
     holds("mitigate (269, H)" in page.program(), "a prediction is taken")
     same(page.value("#example"), "own", "the example that is chosen then")
@@ -204,13 +204,9 @@ def sweep_past_1(page):
     sweep_now(page)
     text = page.text("#sweep-text")
     holds(text.startswith("From 269 on, the runs cannot be told apart: that is one more"), text)
-    points = (
-        "return [...document.querySelectorAll('#sweep-picture .point')].map((one) =>"
-        " Number(one.dataset.prediction))"
-    )
+    points = "return [...document.querySelectorAll('#sweep-picture .point')].map((one) =>" " Number(one.dataset.prediction))"
     predictions = page.run(points)
-    holds(17 in predictions and 269 in predictions
-        and 279 in predictions, f"what halts by then is drawn: {predictions}")
+    holds(17 in predictions and 269 in predictions and 279 in predictions, f"what halts by then is drawn: {predictions}")
     holds(not {1, 16, 256, 268, 280} & set(predictions), f"what does not is not: {predictions}")
     holds("more not all runs halt" in page.text("#sweep-note"), page.text("#sweep-note"))
 
@@ -260,10 +256,10 @@ def code(page):
     time.sleep(0.3)
     lit = page.run("return [...document.querySelectorAll('#code .lit .n')].map((one) => one.textContent).join(' ')")
     same(lit, "2 3 4 5 6 7 8 9 10 11 12 13", "what the line of the loop lights up")
-    page.run("document.querySelector('#code .line[data-line=\"7\"]').dispatchEvent(new MouseEvent('mouseover', {"
-        " bubbles: true }))")
-    same(page.run("return document.querySelector('#editor .lit').parentElement.querySelector('pre').textContent"),
-        "l := 1", "what it lights")
+    page.run("document.querySelector('#code .line[data-line=\"7\"]').dispatchEvent(new MouseEvent('mouseover', {" " bubbles: true }))")
+    same(
+        page.run("return document.querySelector('#editor .lit').parentElement.querySelector('pre').textContent"), "l := 1", "what it lights"
+    )
     page.browser.click("#code-open")
 
 
@@ -284,6 +280,21 @@ def lesson(page):
 
 
 TRIALS = [
-    opens, each_example, audit_as_documented, refused_edit, mended, table_and_toml, rows_and_columns, timeline, sweep,
-    sweep_past_1, saves, stops, cut_runs, ten_faults, disagreeing, code, lesson,
+    opens,
+    each_example,
+    audit_as_documented,
+    refused_edit,
+    mended,
+    table_and_toml,
+    rows_and_columns,
+    timeline,
+    sweep,
+    sweep_past_1,
+    saves,
+    stops,
+    cut_runs,
+    ten_faults,
+    disagreeing,
+    code,
+    lesson,
 ]

@@ -10,8 +10,7 @@ from driving import SWEPT, TOP, holds, same
 PROGRAMS = TOP / "programs/x86_64-linux"
 LABELS = "labels A, B, C;\norder A < B, B < C;\nvar a : A;\nvar b : B;\nvar c : C;\n"
 LEVELS = LABELS + (
-    "mitigate (2, C) { while c > 0 do { c := c - 1 } };\na := 2;\nmitigate (8, C) { if c > 1 then {"
-    " sleep 9 } else { skip } };\nb := 1\n"
+    "mitigate (2, C) { while c > 0 do { c := c - 1 } };\na := 2;\nmitigate (8, C) { if c > 1 then {" " sleep 9 } else { skip } };\nb := 1\n"
 )
 LEVEL_STARTS = "".join(f"[[run]]\nmemory = {{ c = {n} }}\n\n" for n in (0, 3, 9))
 DATA = "[...document.querySelectorAll(arguments[0])].map((one) => one.dataset[arguments[1]])"
@@ -46,10 +45,8 @@ def compare(page, observer="L", env="part", budget="1000000"):
     sharp, bits = number("sharp", limits), number("bits", limits)
     holds(f"{sharp}at most, by the sharp count: {bits} bit" in plain, f"the sharp count {sharp}: {plain}")
     times = "time" if number("guess at most", limits) == "1" else "times"
-    holds(f"at most {number('guess at most', limits)} {times} as often" in page.text("#audit-text").replace(
-        "\u202f", ""), "odds")
-    holds(f"at {observer} up to cycle {budget}" in page.text("#audit-text").replace("\u202f", ""),
-        page.text("#audit-text"))
+    holds(f"at most {number('guess at most', limits)} {times} as often" in page.text("#audit-text").replace("\u202f", ""), "odds")
+    holds(f"at {observer} up to cycle {budget}" in page.text("#audit-text").replace("\u202f", ""), page.text("#audit-text"))
     classes = re.findall(r"^run \d+ class (\d+)$", audit, re.MULTILINE)
     same(page.texts("#starts-table .class"), classes, "the classes of the table")
     compare_lanes(page, observer, settings, mit, toml)
@@ -70,12 +67,13 @@ def compare_lanes(page, observer, settings, mit, toml):
         same(plain.count(" = "), len(words), f"how much is told as seen in {lane}")
         holds(all(re.sub(" at ", " @", word) in row for word in words[:2]), f"{row}: {words}")
     told = call("lab", f"timeline program.mit starts.toml {settings}", mit, toml)
-    ends = re.findall(r"^end #\d+ (\S+) level (\S+) worked (\d+) lasts \d+ misses \d+ to \d+ @(\d+)$", told,
-        re.MULTILINE)
+    ends = re.findall(r"^end #\d+ (\S+) level (\S+) worked (\d+) lasts \d+ misses \d+ to \d+ @(\d+)$", told, re.MULTILINE)
     tips = " ".join(page.run("return " + DATA, ".lane [data-tip]", "tip")).replace("\u202f", "")
     for place, level, worked, end in ends:
-        holds(re.search(rf"mitigate at {place}, level {level}: worked {worked} cycles? from \d+, waited \d+ to {end}",
-            tips), f"{place} to {end}")
+        holds(
+            re.search(rf"mitigate at {place}, level {level}: worked {worked} cycles? from \d+, waited \d+ to {end}", tips),
+            f"{place} to {end}",
+        )
     for end in re.findall(r"^end @(\d+)$", told, re.MULTILINE):
         holds(f"ends at {end}" in tips, f"the end at {end}")
 
@@ -160,8 +158,9 @@ def swept(page):
         page.browser.click("#sweep-go")
     page.browser.wait(SWEPT, 120, "a sweep")
     toml = page.value("#toml")
-    rows = page.run("return [...document.querySelectorAll('#sweep-table tbody tr')].map((row) =>"
-        " [...row.cells].map((one) => one.textContent))")
+    rows = page.run(
+        "return [...document.querySelectorAll('#sweep-table tbody tr')].map((row) =>" " [...row.cells].map((one) => one.textContent))"
+    )
     for row in rows[:: max(1, len(rows) // 8)]:
         prediction, sequences, shortest, longest = (cell.replace("\u202f", "") for cell in row[:4])
         mit = page.program().replace("(512, H)", f"({prediction}, H)")
@@ -177,8 +176,7 @@ def code_of_the_program(page):
     page.browser.click("#code-open")
     page.idle()
     wanted = call("mitigate", "compile program.mit", page.program(), "").splitlines()
-    lines = page.run("return [...document.querySelectorAll('#code .line')].map((one) =>"
-        " one.textContent.replace(/\\s+/g, ''))")
+    lines = page.run("return [...document.querySelectorAll('#code .line')].map((one) =>" " one.textContent.replace(/\\s+/g, ''))")
     same(lines, [re.sub(r"\s+", "", line) for line in wanted], "the code")
     page.browser.click("#code-open")
 
@@ -191,8 +189,7 @@ def reason(page):
     mit = page.program()
     page.browser.click("#mend-go")
     page.idle()
-    holds(page.program() != mit
-        and call("mitigate", "check program.mit", page.program(), "").startswith("accepted"), "the mended program")
+    holds(page.program() != mit and call("mitigate", "check program.mit", page.program(), "").startswith("accepted"), "the mended program")
 
 
 def mend_at_the_level(page):
@@ -211,8 +208,7 @@ def second_mitigate(page):
     page.write(LEVELS, LEVEL_STARTS)
     page.set("#sweep-which", "1", "change")
     page.browser.wait(SWEPT, 60, "a sweep")
-    page.run("document.getElementById('sweep-numbers').open = true;"
-        " document.querySelectorAll('[data-take]')[3].click()")
+    page.run("document.getElementById('sweep-numbers').open = true;" " document.querySelectorAll('[data-take]')[3].click()")
     page.idle()
     holds(page.program().startswith(LABELS + "mitigate (2, C)"), "the first one stays")
     holds("mitigate (8, C)" not in page.program(), "the second one is changed")
@@ -240,14 +236,11 @@ def costs_beside_lines(page):
     for number, run in ((0, told[0]), (8, told[8])):
         page.run("document.getElementById('lanes').focus()")
         page.browser.press(*["ArrowDown"] * (number + 1))
-        begin, worked, end = (
-            int(n) for n in re.search(r"^begin .* @(\d+)$[\s\S]*^end #0 .* worked (\d+) .* @(\d+)$", run, re.M).groups(
-                ))
+        begin, worked, end = (int(n) for n in re.search(r"^begin .* @(\d+)$[\s\S]*^end #0 .* worked (\d+) .* @(\d+)$", run, re.M).groups())
         done = re.search(r"^done = 1 @(\d+)$", run, re.M)[1]
         same(page.text("#costs-of"), f"Cycles of run {number + 1}", "whose cycles")
         costs = [text.replace("\u202f", "") for text in page.texts("#editor .cost")]
-        holds(f"{worked}+{end - begin - worked}" in costs
-            and f"@{done}" in costs, f"{costs}: {worked} {begin} {end} {done}")
+        holds(f"{worked}+{end - begin - worked}" in costs and f"@{done}" in costs, f"{costs}: {worked} {begin} {end} {done}")
     page.caret("done := 1")
     page.browser.type(" ")
     same(page.count("#editor .cost"), 0, "cycles of an earlier program")
@@ -256,9 +249,19 @@ def costs_beside_lines(page):
 
 
 TRIALS = [
-    costs_beside_lines, defaults, environments, budgets, observers, all_together, cells, swept, code_of_the_program,
-    reason, mend_at_the_level,
-    second_mitigate, many_runs,
+    costs_beside_lines,
+    defaults,
+    environments,
+    budgets,
+    observers,
+    all_together,
+    cells,
+    swept,
+    code_of_the_program,
+    reason,
+    mend_at_the_level,
+    second_mitigate,
+    many_runs,
 ]
 if not PROGRAMS.exists():
     TRIALS = []

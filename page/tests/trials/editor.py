@@ -45,8 +45,7 @@ def finds(page):
     page.choose(0)
     page.browser.click("#find")
     page.browser.wait("return document.querySelector('.CodeMirror-dialog input')", 5, "the field")
-    same(page.run("return document.querySelector('.CodeMirror-dialog input').getAttribute('aria-label')"), "Find",
-        "its name")
+    same(page.run("return document.querySelector('.CodeMirror-dialog input').getAttribute('aria-label')"), "Find", "its name")
     page.browser.type("secret\n")
     time.sleep(0.3)
     same(page.selected(), "secret", "what is found")

@@ -50,8 +50,7 @@ def guess_first(page):
     holds("8 cycles" not in page.text("#lesson"), "it is not told yet")
     page.browser.click('[data-guess="0"]')
     same(page.run(HIDDEN, TOLD), ["visible"] * len(TOLD), "what is seen then")
-    holds("something else" in page.text("#lesson-guess")
-        and "8 cycles" in page.text("#lesson-guess"), page.text("#lesson-guess"))
+    holds("something else" in page.text("#lesson-guess") and "8 cycles" in page.text("#lesson-guess"), page.text("#lesson-guess"))
     same(page.text("#lesson-guess .right"), "✓ Later, the greater the number was", "the right one")
     page.browser.click("#lesson-next")
     page.idle()
@@ -75,8 +74,7 @@ def goes_to_its_part(page):
             step = page.text("#lesson-step")
             holds(page.count("section.look") == 1, f"{step}: a part is named")
             top, least, most = page.run(IN_VIEW)
-            holds(least <= top + 1
-                and top < most - 40, f"{step} at {wide}: its part begins at {top}, between {least} and {most}")
+            holds(least <= top + 1 and top < most - 40, f"{step} at {wide}: its part begins at {top}, between {least} and {most}")
             page.run("document.getElementById('lesson-next').click()")
     page.browser.resize(1360, 900)
     page.open()
@@ -113,8 +111,9 @@ def cache_attack(page):
     open_step(page, 1, 0)
     same(page.program(), (EXAMPLES / "sbox/seen.mit").read_text(), "its program")
     guessed(page)
-    ends = page.run("return [...document.querySelectorAll('.lane')].map((lane) =>"
-        " lane.getAttribute('aria-label').replace(/\\u202f/g, ''))")
+    ends = page.run(
+        "return [...document.querySelectorAll('.lane')].map((lane) =>" " lane.getAttribute('aria-label').replace(/\\u202f/g, ''))"
+    )
     same([int(end.rsplit(" ", 1)[1]) for end in ends], [1763, 1763, 1775, 1795], "the ends of the runs")
     open_step(page, 1, 1)
     not_done(page)
@@ -123,9 +122,13 @@ def cache_attack(page):
     open_step(page, 1, 3)
     not_done(page)
     for prediction, done in ((1761, False), (1000, False), (1762, True)):
-        page.write(page.program().replace("mitigate (2200", "mitigate (1").replace(
-            "mitigate (1761", "mitigate (1").replace("mitigate (1000", "mitigate (1")
-                   .replace("mitigate (1,", f"mitigate ({prediction},"))
+        page.write(
+            page.program()
+            .replace("mitigate (2200", "mitigate (1")
+            .replace("mitigate (1761", "mitigate (1")
+            .replace("mitigate (1000", "mitigate (1")
+            .replace("mitigate (1,", f"mitigate ({prediction},")
+        )
         (is_done(page, "the fastest prediction") if done else not_done(page))
     open_step(page, 1, 4)
     page.set("#budget", "4400")
@@ -171,7 +174,7 @@ def teachers_task(page):
     page.browser.click("#teach-copy")
     page.browser.wait("return document.getElementById('teach-link').value.includes('#')", 10, "a link")
     link = page.value("#teach-link")
-    page.open(link[link.index("#"):])
+    page.open(link[link.index("#") :])
     same(page.text("#lesson-title"), "Task: Nothing <b>told</b>", "its title")
     same(page.program(), given, "its program")
     holds(page.run(COVERED), "it asks for a guess")

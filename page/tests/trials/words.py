@@ -3,8 +3,7 @@ from driving import TOP, holds, same
 
 OPEN = "return !document.getElementById('term').hidden"
 NAMES = (
-    "return [...document.querySelectorAll('[data-term]')].filter((one) => one.getClientRects().length).map((one)"
-    " => one.dataset.term)"
+    "return [...document.querySelectorAll('[data-term]')].filter((one) => one.getClientRects().length).map((one)" " => one.dataset.term)"
 )
 
 
@@ -15,8 +14,9 @@ def opened(page, name):
     holds(len(page.text("#term-says p")) > 60, page.text("#term-says"))
     links = page.run("return [...document.querySelectorAll('#term-says a')].map((link) => link.getAttribute('href'))")
     holds(len(links) >= 2, f"links of {name}: {links}")
-    box = page.run("const b = document.getElementById('term').getBoundingClientRect(); return [b.left, b.top,"
-        " b.right, b.bottom, innerWidth]")
+    box = page.run(
+        "const b = document.getElementById('term').getBoundingClientRect(); return [b.left, b.top," " b.right, b.bottom, innerWidth]"
+    )
     holds(box[0] >= 0 and box[2] <= box[4] and box[1] >= 0, f"the box of {name} is in the window: {box}")
 
 
@@ -24,8 +24,7 @@ def by_mouse(page):
     """Each term on the page opens by a press of the mouse, and a press elsewhere closes it."""
     page.choose(0)
     names = page.run(NAMES)
-    for wanted in ("timed sequence", "sharp count", "bound", "class", "first prediction", "observer", "caches",
-        "accepted", "label"):
+    for wanted in ("timed sequence", "sharp count", "bound", "class", "first prediction", "observer", "caches", "accepted", "label"):
         holds(wanted in names, f"{wanted} can be pressed: {names}")
     page.browser.click('[data-term="sharp count"]')
     opened(page, "sharp count")
@@ -33,7 +32,7 @@ def by_mouse(page):
     holds(not page.run(OPEN), "a press elsewhere closes it")
     page.run("document.getElementById('words').open = true")
     for name in dict.fromkeys(page.run(NAMES)):
-        page.run("document.querySelector(`[data-term=\"${arguments[0]}\"]`).click()", name)
+        page.run('document.querySelector(`[data-term="${arguments[0]}"]`).click()', name)
         opened(page, name)
     page.browser.click("#term-close")
     holds(not page.run(OPEN), "the cross closes it")
@@ -72,10 +71,7 @@ def by_touch(page):
     page.choose(0)
     page.run("document.querySelector('[data-term=\"class\"]').scrollIntoView({ block: 'center' })")
     if page.browser.name == "chromium":
-        script = (
-            "const b = document.querySelector('[data-term=\"class\"]').getBoundingClientRect(); return [b.left +"
-            " 5, b.top + 8]"
-        )
+        script = "const b = document.querySelector('[data-term=\"class\"]').getBoundingClientRect(); return [b.left +" " 5, b.top + 8]"
         x, y = page.run(script)
         page.browser.devtools("Emulation.setTouchEmulationEnabled", enabled=True)
         page.browser.devtools("Input.dispatchTouchEvent", type="touchStart", touchPoints=[{"x": x, "y": y}])

@@ -42,8 +42,7 @@ def way_back(page):
         replace()
         page.idle()
         holds(page.program() != MINE, "something else is there")
-        holds("put aside" in page.text("#notice-text")
-            and not page.run("return document.getElementById('notice').hidden"), "it says so")
+        holds("put aside" in page.text("#notice-text") and not page.run("return document.getElementById('notice').hidden"), "it says so")
         page.browser.click("#notice-back")
         page.idle()
         is_mine(page, "what was brought back")
@@ -65,8 +64,7 @@ def link(page):
     hash_ = page.run("return location.hash")
     mine(page)
     page.open(hash_, is_new=False)
-    same((page.program(), page.value("#toml"), page.value("#environment")), (program, toml, "part2"),
-        "what the link brings")
+    same((page.program(), page.value("#toml"), page.value("#environment")), (program, toml, "part2"), "what the link brings")
     page.run("document.getElementById('file-back').click()")
     page.idle()
     is_mine(page, "what was there before the link")
@@ -118,8 +116,7 @@ def commands(page):
     holds("./mitigate audit program.mit starts.toml --observer L --env flat --budget 12345" in lines, lines)
     page.set("#observer", "H", "change")
     page.idle()
-    holds(any(re.search("audit .* --observer H ", line) for line in page.texts("#command-list code")),
-        "with another observer")
+    holds(any(re.search("audit .* --observer H ", line) for line in page.texts("#command-list code")), "with another observer")
     page.open()
 
 
