@@ -58,7 +58,9 @@ function howText(report, isCut, observer) {
 // Whether the limits hold of one who sees when a run ends too.
 function endText(countsEnd) {
   if (countsEnd === undefined) return '';
-  return countsEnd ? ' So it is for one who sees when it ends, too.' : ' When it ends is not counted, and may tell more.';
+  return countsEnd
+    ? ' So it is for one who sees when it ends, too.'
+    : ' When it ends is not counted, and may tell more.';
 }
 
 /** The numbers in words, or why there are none. */
@@ -69,5 +71,6 @@ export function auditWords(audit, labels, asked) {
   const guess = sharp?.guess === undefined
     ? ''
     : ` Whoever sees one such run guesses the secret right at most <b>${times(sharp.guess)}</b> as often as before.`;
-  return howText(report, isCut, observer) + holdsFor(report, isCut, sharp, observer) + guess + endText(sharp?.countsEnd);
+  const holds = holdsFor(report, isCut, sharp, observer);
+  return howText(report, isCut, observer) + holds + guess + endText(sharp?.countsEnd);
 }

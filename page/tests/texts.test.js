@@ -122,8 +122,14 @@ test('the words behind the numbers, with odds as times and information as bits',
   assert.match(words, /, 1 label that does not flow to the observer\./);
   assert.match(words, /guesses the secret right at most 16 times as often as before\.$/);
   assert.match(plain(auditWords({ report, sharp: { ...sharp, guess: 1n } }, labels, {})), /at most 1 time as often/);
-  assert.match(plain(auditWords({ report, sharp: { ...sharp, countsEnd: true } }, labels, {})), / as before\. So it is for one who sees when it ends, too\.$/);
-  assert.match(plain(auditWords({ report, sharp: { ...sharp, countsEnd: false } }, labels, {})), / When it ends is not counted, and may tell more\.$/);
+  assert.match(
+    plain(auditWords({ report, sharp: { ...sharp, countsEnd: true } }, labels, {})),
+    / as before\. So it is for one who sees when it ends, too\.$/,
+  );
+  assert.match(
+    plain(auditWords({ report, sharp: { ...sharp, countsEnd: false } }, labels, {})),
+    / When it ends is not counted, and may tell more\.$/,
+  );
   const cut = { ...report, halted: 4, ended: 2 };
   assert.match(plain(auditWords({ report: cut, isCut: true, sharp: null }, labels, {})),
     /4 of 9 runs have halted; .* 2 relevant mitigations at most ended\./);
