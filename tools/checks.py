@@ -1,5 +1,8 @@
-"""What the scripts beside this one share that check the repository: how they count, calls on a terminal, and the rows of crates.txt."""
+"""What the scripts beside this one share that check the repository: how they count, calls on a terminal, the rows of crates.txt, and
+the second reading as a module."""
 import contextlib
+import importlib.machinery
+import importlib.util
 import os
 import pty
 import subprocess
@@ -52,6 +55,14 @@ def crates():
     lines = [line.split("#")[0] for line in (rows.TOP / "crates.txt").read_text(encoding="utf-8").splitlines()]
     halves = [line.split(":") for line in lines if line.strip()]
     return {crate.split()[0]: libraries.split() for crate, libraries in halves}
+
+
+def second_reading():
+    """The module that tools/second-reading is."""
+    loader = importlib.machinery.SourceFileLoader("second_reading", str(rows.TOP / "tools/second-reading"))
+    module = importlib.util.module_from_spec(importlib.util.spec_from_loader("second_reading", loader))
+    loader.exec_module(module)
+    return module
 
 
 def trials(every, chosen, usage, run):

@@ -86,6 +86,26 @@ test('with the lab two calls tell all runs, also those that have not ended', asy
   assert.equal(told.mitigates[0].least, 11);
 });
 
+test('each question is asked for the chosen observer, caches and number of cycles', async () => {
+  const chosen = { ...state, observer: 'M', environment: 'part2', budget: '777' };
+  const tool = toolOf(['mitigate', 'lab'], byWords({ audit: () => ({ status: 10, text: 'unfinished: run 1 @777\n' }),
+    cut: () => done(AUDIT), bound: () => done(AUDIT), timeline: () => done(TIMELINE(11)) }));
+  await auditOf(tool, chosen);
+  await sharpOf(tool, chosen);
+  await runsOf(tool, chosen);
+  const files = 'program.mit starts.toml', settings = '--env part2 --budget 777';
+  assert.deepEqual(tool.calls, [
+    `mitigate audit ${files} --observer M ${settings}`, `mitigate cut ${files} --observer M ${settings}`,
+    `lab bound ${files} --observer M ${settings}`,
+    `lab timeline ${files} ${settings}`, `lab timeline ${files} ${settings} --observer M`,
+  ]);
+  const [mitigate] = mitigates(readProgram(state.program));
+  const point = toolOf(['mitigate', 'lab'], byWords({ audit: () => done(AUDIT), timeline: () => done(TIMELINE(11)) }));
+  await pointOf(point, chosen, mitigate, 5);
+  assert.deepEqual(point.calls,
+    [`mitigate audit ${files} --observer M ${settings}`, `lab timeline ${files} ${settings} --observer M`]);
+});
+
 test('a point of the sweep puts a number in place of the estimate', async () => {
   const seen = [];
   const answers = { audit: (_, files) =>

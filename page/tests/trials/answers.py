@@ -4,6 +4,7 @@ import re
 from driving import EXAMPLES, ENDLESS, all_dimmed, holds, none_dimmed, same
 
 OLD = [".number-of b", ".lane text[font-weight]", "#starts-table td.seen"]
+VERDICT = ["#verdict", "#why", "#sentence"]
 MANY = "var h : H;\nvar l : L;\n" + ";\n".join(["mitigate (64, H) { h := 0 }"] * 24) + ";\nl := 1\n"
 THIRD = "var h : H;\nvar l : L;\nl := 1;\nl := 2;\nmitigate (1, H) { while h > 0 do { h := h - 1 } };\nl := 3\n"
 SECOND_ENDLESS = "var h : H;\nvar l : L;\nmitigate (1, H) { while h > 0 do { skip } };\nl := 1\n"
@@ -27,6 +28,30 @@ def dimmed_at_the_key(page):
     page.idle()
     for selector in OLD:
         none_dimmed(page, selector, f"{selector}, answered")
+
+
+def verdict_of_what_is_there(page):
+    """From the key on the verdict, its reasons and the sentence are of the program before, and no mitigate is offered; what is
+    drawn then is of the program that is there."""
+    page.choose(2)
+    before, chain = page.program(), page.texts("ol.why button")
+    same(page.text("#verdict"), "Refused by T-ASGN at 18:1: H does not flow to L", "the verdict")
+    holds("lines 9 to 17" in page.text("#mend"), "a mitigate is offered")
+    for selector in VERDICT:
+        none_dimmed(page, selector, selector)
+    for selector, (seen, dimmed), _ in page.write_and_look("// a line more\n" + before, [*VERDICT, "#mend"]):
+        same((seen, dimmed), (0, 0) if selector == "#mend" else (1, 1), f"how often {selector} is seen, and how often dimmed")
+    page.idle()
+    same(page.text("#verdict"), "Refused by T-ASGN at 19:1: H does not flow to L", "the verdict with a line more")
+    lower = [re.sub(r"^(\d+)", lambda line: str(int(line[1]) + 1), step) for step in chain]
+    same(page.texts("ol.why button"), lower, "the chain with a line more")
+    holds("lines 10 to 18" in page.text("#mend"), page.text("#mend"))
+    for selector in VERDICT:
+        none_dimmed(page, selector, f"{selector}, answered")
+    page.browser.click("#mend-go")
+    page.idle()
+    holds(page.text("#verdict").startswith("Accepted"), page.text("#verdict"))
+    same((page.text("#why"), page.text("#mend")), ("", ""), "reasons of an accepted program")
 
 
 def dimmed_during_a_run(page):
@@ -165,6 +190,7 @@ TRIALS = [
     tells_how_far,
     answers_are_made_once,
     dimmed_at_the_key,
+    verdict_of_what_is_there,
     dimmed_during_a_run,
     bounds_rounded_up,
     if_without_else_marked,

@@ -119,6 +119,12 @@ def rows_and_columns(page):
         "copied",
     )
     page.browser.click("#starts-undo")
+    page.idle()
+    same(
+        page.run("return [...document.querySelectorAll('#starts-table input')].map((one) => one.value).join(' ')"),
+        "0 1 2 4 5 6 7 8 9",
+        "undone once",
+    )
     page.browser.click("#starts-undo")
     page.idle()
     same(page.value("#toml"), first, "undone twice")
@@ -193,6 +199,13 @@ def sweep(page):
     page.browser.press("Control+z")
     page.idle()
     same(page.program(), before, "one undo takes the prediction back")
+    sweep_now(page)
+    page.run(
+        "document.querySelector('#sweep-picture .point[data-prediction=\"269\"]')"
+        ".dispatchEvent(new MouseEvent('click', { bubbles: true }))"
+    )
+    page.idle()
+    holds("mitigate (269, H)" in page.program(), "a prediction is taken by its point")
 
 
 def sweep_past_1(page):

@@ -124,6 +124,20 @@ def all_together(page):
     compare(page, observer="B", env="flat", budget="70000")
 
 
+def settings_of_examples(page):
+    """An example brings its settings, whatever was chosen before."""
+    page.choose(9)
+    same(page.value("#observer"), "bob", "the observer of two tenants")
+    page.set("#environment", "part2", "change")
+    page.set("#budget", "5000")
+    page.idle()
+    for number, env in ((4, "part"), (3, "flat")):
+        page.choose(number)
+        shown = (page.value("#observer"), page.value("#environment"), page.value("#budget"))
+        same(shown, ("L", env, "1000000"), f"the settings of example {number}")
+        compare(page, env=env)
+
+
 def written(page):
     """What the text of the starts gives `h` in each run."""
     return [run.get("memory", {}).get("h") for run in tomllib.loads(page.value("#toml"))["run"]]
@@ -255,6 +269,7 @@ TRIALS = [
     budgets,
     observers,
     all_together,
+    settings_of_examples,
     cells,
     swept,
     code_of_the_program,
