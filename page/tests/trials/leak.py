@@ -85,14 +85,15 @@ def looks_at_its_run(page):
     last = int(page.run("return [...document.querySelectorAll('#leak-classes [data-first]')].at(-1).dataset.first"))
     for first in (1, last):
         page.run("document.querySelector(`#leak-classes [data-first='${arguments[0]}']`).click()", first)
-        same(page.run("return document.querySelector('.lane.on').dataset.run"), str(first), "the run that is looked at")
+        same(page.count(f".lane[data-run='{first}']"), 1, f"the lane of run {first}")
+        holds(page.text("#lane-says").startswith(f"Run {first}, class "), f"{page.text('#lane-says')}, and not of run {first}")
     page.choose(4)
 
 
 def no_exact_leak(page):
     """Where not all runs halt, where starts disagree and where a program is refused, it says why."""
     page.choose(4)
-    page.set("#budget", "300")
+    page.set("#budget", "150")
     page.idle()
     holds("Not all of these runs have halted" in page.text("#leak-note"), page.text("#leak-note"))
     same(page.run("return document.getElementById('leak-shown').hidden"), True, "no numbers of other runs")
