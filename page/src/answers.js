@@ -124,6 +124,59 @@ export function readWhy(text) {
   return { refusal, steps: steps.map((step) => ({ place: place(step[1]), text: step[2] })) };
 }
 
+const FIELD = /^(\S+)=(-?\d+)@(\d+)$/;
+const numbers = (match) => match.slice(1).map(Number);
+
+// One line of the lab's `leak`, put into what was found; whether it is one.
+function leakLine(line, found) {
+  const count = /^(runs|budget|distinct) (\d+)$/.exec(line), sharp = /^sharp (\d+)$/.exec(line);
+  const bound = /^bound (\d+)\^(\d+)$/.exec(line), sizes = /^least (\d+) greatest (\d+)$/.exec(line);
+  const bits = /^(min-entropy|shannon) (\d+\.\d+) to (\d+\.\d+)$/.exec(line);
+  const right = /^right at first (\d+) of (\d+) before, (\d+) of (\d+) after$/.exec(line);
+  const guesses = /^guesses (\d+)\/(\d+) before, (\d+)\/(\d+) after$/.exec(line);
+  const part = /^class (\d+) first (\d+)\t(.*)$/.exec(line), observer = /^observer (\S+)$/.exec(line);
+  if (count) found[count[1]] = Number(count[2]);
+  else if (observer) [, found.observer] = observer;
+  else if (bound) [found.base, found.exponent] = numbers(bound);
+  else if (sharp) found.sharp = BigInt(sharp[1]);
+  else if (sizes) [found.least, found.greatest] = numbers(sizes);
+  else if (bits) found[bits[1] === 'shannon' ? 'shannon' : 'minEntropy'] = bits.slice(2);
+  else if (right) found.right = { before: Number(right[1]), after: Number(right[3]) };
+  else if (guesses) {
+    const [before, ofBefore, after, ofAfter] = numbers(guesses);
+    found.guesses = { before: [before, ofBefore], after: [after, ofAfter] };
+  } else if (part) {
+    const events = part[3] === '-' ? [] : part[3].split(' ').map((text) => event(FIELD.exec(text)));
+    found.classes.push({ size: Number(part[1]), first: Number(part[2]), events });
+  } else return /^sharp \S+ or more$/.test(line);
+  return true;
+}
+
+/** The lab's `leak`: its numbers, and of each class of runs its size, its first run and what is seen of that; or null.
+    Entropies stay texts, each as two ends between which it lies; `sharp` is left out where it is too great. */
+export function readLeak(text) {
+  const found = { classes: [] };
+  if (!lines(text).every((line) => leakLine(line, found))) return null;
+  const isWhole = found.minEntropy && found.shannon && found.right && found.guesses;
+  return isWhole && found.classes.length === found.distinct ? found : null;
+}
+
+/** The lab's `steady`: a yes with how much the observer sees, a no with its reason, place and variable, or neither. */
+export function readSteady(text) {
+  const [first = '', ...rest] = lines(text);
+  const sees = /^sees (\d+) of (\d+) variables$/m.exec(text), observer = /^observer (\S+)$/m.exec(text);
+  if (first === 'steady' && sees && observer) {
+    return { kind: 'yes', observer: observer[1], sees: Number(sees[1]), of: Number(sees[2]) };
+  }
+  const no = /^unsteady (.+) at (\d+:\d+): (\S+) does not flow to (\S+)$/.exec(first);
+  if (!no) return { kind: 'other', text: first };
+  const blamed = /^(\S+) is (declared|inferred) \S+$/.exec(rest[0] ?? '');
+  return {
+    kind: 'no', reason: no[1], place: place(no[2]), from: no[3], to: no[4], variable: blamed?.[1] ?? null,
+    isDeclared: blamed?.[2] === 'declared',
+  };
+}
+
 /** What the observer sees of runs, as one text a run; two runs look alike exactly where these are the same. */
 export function sequence(run) {
   return run.events.filter((assignment) => assignment.isSeen)

@@ -6,13 +6,18 @@ import { drawCode } from './code_part.js';
 import { drawCommands } from './commands_part.js';
 import { drawCosts } from './costs_part.js';
 import { labelsOf, writtenLabels } from './decorations.js';
+import { isFresh } from './freshness.js';
 import { announce, drawFreshness, setProgress } from './freshness_part.js';
+import { drawLeak } from './leak_part.js';
 import { drawLesson, isCovered } from './lesson_part.js';
 import { drawProgram } from './program_part.js';
 import { followRuns, progressText } from './progress.js';
 import { drawStarts } from './starts_part.js';
 import { $, answeredOf, calls, faults, shown, state } from './state.js';
-import { auditOf, chainOf, codeOf, completedBy, mendOf, runsOf, sharpOf, verdictOf } from './study.js';
+import { drawSteady } from './steady_part.js';
+import {
+  auditOf, chainOf, codeOf, completedBy, leakOf, mendOf, runsOf, sharpOf, steadyOf, verdictOf,
+} from './study.js';
 import { canSweep, drawSweep, stopSweep, sweep } from './sweep_part.js';
 import { drawTime } from './time_part.js';
 import { Stopped } from './tool.js';
@@ -25,7 +30,7 @@ const SWEEP_CALLS = 90; // how often as long as the runs a sweep takes, about
 const SHOWN_AFTER = 400, FOLLOWED_AFTER = 1000; // milliseconds until work is told, and until its runs are followed
 
 // What is worked out of an accepted program, in order.
-const STEPS = ['the verdict', 'the count', 'the sharp count', 'the timeline'];
+const STEPS = ['the verdict', 'the count', 'the sharp count', 'the timeline', 'what the runs tell'];
 const stepOf = (name) => ({ says: name, number: STEPS.indexOf(name) + 1, of: STEPS.length });
 
 let turn = 0, waiting = null, step = stepOf(STEPS[0]);
@@ -60,13 +65,17 @@ export async function ask() {
     const completed = isAccepted ? await completedBy(tool, asked) : null;
     const chain = verdict.kind === 'refused' ? await chainOf(tool, asked) : null;
     if (isOld()) return;
-    const labels = (completed && labelsOf(completed)) ?? writtenLabels(asked.program);
-    Object.assign(shown, { verdict, steps: chain?.steps ?? [], labels });
-    answeredOf.verdict = asked;
+    shown.labels = (completed && labelsOf(completed)) ?? writtenLabels(asked.program);
     drawObservers();
     asked.observer = state.observer;
+    const steady = await steadyAsked(asked, verdict);
+    if (isOld()) return;
+    Object.assign(shown, { verdict, steps: chain?.steps ?? [] });
+    answeredOf.verdict = asked;
+    if (steady) noteSteady(steady, asked);
     drawProgram();
     drawVerdict();
+    drawSteady();
     drawStarts();
     drawCommands();
     if (!$('code-part').hidden) await askCode(asked, isOld);
@@ -77,6 +86,33 @@ export async function ask() {
     if (!isOld()) drawStopped(fault);
   } finally {
     if (!isOld()) idle();
+  }
+}
+
+// Whether a program is constant in time is asked where it is refused, and from then on.
+async function steadyAsked(asked, { kind }) {
+  if (kind === 'refused') shown.wantsSteady = true;
+  return shown.wantsSteady && (kind === 'refused' || kind === 'accepted') ? steadyOf(calls.tool, asked) : null;
+}
+
+function noteSteady(steady, asked) {
+  shown.steady = steady;
+  answeredOf.steady = asked;
+}
+
+/** Asks whether the program that is there is constant in time, also where it is accepted. */
+export async function askSteady() {
+  const asked = { ...state };
+  shown.wantsSteady = true;
+  try {
+    const steady = await steadyOf(calls.tool, asked);
+    if (!steady || asked.program !== state.program || asked.observer !== state.observer) return;
+    noteSteady(steady, asked);
+    drawProgram();
+    drawSteady();
+    drawCommands();
+  } catch (fault) {
+    if (!(fault instanceof Stopped)) throw fault;
   }
 }
 
@@ -109,16 +145,34 @@ async function askRuns(asked, isOld) {
   if (runs && audit.report) {
     audit.report.classes.forEach((number, k) => runs[k] && Object.assign(runs[k], { class: number }));
   }
-  Object.assign(shown, { runs, mitigates, isAll, view: null, page: 0, lane: -1, points: [] });
+  Object.assign(shown, { runs, mitigates, isAll, view: null, page: 0, lane: -1 });
   answeredOf.runs = asked;
-  delete answeredOf.points;
+  const hasPoints = shown.isSwept && isFresh('points', answeredOf.points, asked);
+  if (!hasPoints) forgetPoints();
   setProgress('');
   drawStarts();
   drawTime();
   drawCosts();
   drawSweep();
+  await askLeak(asked, isOld);
+  if (isOld()) return;
   endFollowing();
-  if (canSweep() && took * SWEEP_CALLS < QUICK_SWEEP) sweep();
+  if (!hasPoints && canSweep() && took * SWEEP_CALLS < QUICK_SWEEP) sweep();
+}
+
+function forgetPoints() {
+  Object.assign(shown, { points: [], isSwept: false });
+  delete answeredOf.points;
+}
+
+// What the runs tell, exactly, where all of them have halted.
+async function askLeak(asked, isOld) {
+  step = stepOf('what the runs tell');
+  const { audit } = shown, leak = audit.report && !audit.isCut ? await leakOf(calls.tool, asked) : null;
+  if (isOld()) return;
+  shown.leak = leak;
+  answeredOf.leak = asked;
+  drawLeak();
 }
 
 // A refused program, and one that is none: what was answered before stays, as of an earlier program.
@@ -128,6 +182,7 @@ async function askMend(asked, isOld) {
   drawSentence();
   drawTime();
   drawSweep();
+  drawLeak();
   const found = kind === 'refused' ? await mendOf(calls.tool, asked, shown.verdict) : null;
   if (!isOld() && found) offerMend(found);
 }

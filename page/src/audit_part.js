@@ -4,6 +4,7 @@ import { auditBoxes, auditWords } from './audit_text.js';
 import { escaped } from './colours.js';
 import { findingText, isLeaking } from './finding.js';
 import { $, answeredOf, shown, state } from './state.js';
+import { isOnlyRefused } from './steady_part.js';
 
 /** The numbers with what they mean, or why there are none. */
 export function drawAudit() {
@@ -18,6 +19,7 @@ export function drawAudit() {
 export function drawSentence() {
   const text = findingText({ ...shown, observer: state.observer });
   if (text) $('sentence').innerHTML = text;
+  $('finding').classList.toggle('no-leak', isOnlyRefused());
 }
 
 /** The labels that an observer may have; where the chosen one is none of them any more, the first one is chosen. */

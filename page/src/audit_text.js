@@ -1,7 +1,7 @@
 // The numbers of an audit with what they mean, as HTML.
 
 import { bitsOf } from './answers.js';
-import { boundText, counted, spaced, wholeBound } from './numbers.js';
+import { boundText, counted, powerText, spaced, wholeBound } from './numbers.js';
 import { refusalText } from './finding.js';
 import { labelText } from './marks.js';
 import { term } from './terms.js';
@@ -16,8 +16,8 @@ function numberBox(number, says, more = '') {
 const limitName = (name) => `<span class="keep">${term(name)}:</span>`;
 
 function boundBox({ base, exponent }) {
-  const value = base === 1 ? '1' : `${spaced(base)}<sup>${spaced(exponent)}</sup>`;
-  return numberBox(value, `at most, by the ${limitName('bound')} ${counted(bitsOf(base, exponent), 'bit')}`);
+  return numberBox(powerText({ base, exponent }),
+    `at most, by the ${limitName('bound')} ${counted(bitsOf(base, exponent), 'bit')}`);
 }
 
 /** The numbers: what is seen, and the limits. */

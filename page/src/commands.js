@@ -17,6 +17,9 @@ export const WORDS = {
   cut: (asked) => onStarts('cut', asked),
   bound: (asked) => onStarts('bound', asked),
   seen: (asked) => onStarts('seen', asked),
+  leak: (asked) => onStarts('leak', asked),
+  steady: (asked) => ['steady', PROGRAM, ...observer(asked)],
+  steadyEnd: (asked) => ['steady', PROGRAM, ...observer(asked), '--whole'],
   timeline: (asked) => ['timeline', PROGRAM, STARTS, ...settings(asked)],
   run: (asked) => ['run', PROGRAM, STARTS, ...settings(asked)],
 };
@@ -27,8 +30,8 @@ export const asSeen = (words, asked) => [...words, ...observer(asked)];
 const LISTS = {
   accepted: [
     ['the verdict', 'mitigate', 'check'], ['the audit', 'mitigate', 'audit'], ['the sharp count', 'lab', 'bound'],
-    ['the timeline', 'lab', 'timeline'], ['what is seen', 'lab', 'seen'], ['the left-out labels', 'mitigate', 'infer'],
-    ['the compiled code', 'mitigate', 'compile'],
+    ['what these runs tell', 'lab', 'leak'], ['the timeline', 'lab', 'timeline'], ['what is seen', 'lab', 'seen'],
+    ['the left-out labels', 'mitigate', 'infer'], ['the compiled code', 'mitigate', 'compile'],
   ],
   refused: [['the verdict', 'mitigate', 'check'], ['the way that the secret took', 'lab', 'why']],
   cut: [
@@ -40,9 +43,14 @@ const LISTS = {
   other: [['the verdict', 'mitigate', 'check']],
 };
 
-/** The command lines that give what the page shows: [{says, program, words, line}]. */
-export function commandLines(asked, kind) {
-  return (LISTS[kind] ?? LISTS.other).map(([says, program, name]) => {
+const STEADY = [['whether it is constant in time', 'lab', 'steady']];
+const STEADY_END = [...STEADY, ['and its end', 'lab', 'steadyEnd']];
+
+/** The command lines that give what the page shows: [{says, program, words, line}]. `steady` is the answer to whether
+    the program is constant in time, where that was asked. */
+export function commandLines(asked, kind, steady = null) {
+  const more = !steady ? [] : steady.kind === 'yes' ? STEADY_END : STEADY;
+  return [...(LISTS[kind] ?? LISTS.other), ...more].map(([says, program, name]) => {
     const words = WORDS[name](asked);
     return { says, program, words, line: `./${program} ${words.join(' ')}` };
   });

@@ -8,10 +8,10 @@ let kind = ''; // what the lines are for: where there is no program they stay as
 
 /** The command lines of what is shown. */
 export function commandsNow() {
-  const { verdict, audit } = shown;
+  const { verdict, audit, steady } = shown;
   if (verdict?.kind === 'accepted') kind = audit?.isCut ? 'cut' : 'accepted';
   else if (verdict?.kind === 'refused' || !kind) kind = verdict?.kind ?? '';
-  return commandLines(state, kind);
+  return commandLines(state, kind, steady);
 }
 
 export function drawCommands() {

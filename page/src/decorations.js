@@ -96,6 +96,11 @@ export function faultRange(text, fault) {
   return { from, to: Math.min(command ? command.head : from + (piece?.text.length ?? 0), most) };
 }
 
+/** The part of a text that a place is about: its command to the head's end, or its word. */
+export function placeRange(text, place) {
+  return faultRange(text, { kind: 'refused', place });
+}
+
 /** The command of a text that begins at a place; where an `if` has no `else`, the `if` and not the
     skip that is added. */
 export function commandAt(text, at) {

@@ -25,10 +25,11 @@ export function drawWayBack() {
 
 const answers = () => {
   const fresh = (name, value) => (isFresh(name, answeredOf[name], state, faults) ? value : null);
-  const { verdict, audit, runs, mitigates, points } = shown;
+  const { verdict, steady, audit, leak, runs, mitigates, points } = shown;
   return {
-    state, verdict: fresh('verdict', verdict), audit: fresh('audit', audit), runs: fresh('runs', runs),
-    mitigates: fresh('runs', mitigates), points: fresh('points', points),
+    state, verdict: fresh('verdict', verdict), steady: fresh('steady', steady), audit: fresh('audit', audit),
+    leak: fresh('leak', leak), runs: fresh('runs', runs), mitigates: fresh('runs', mitigates),
+    points: fresh('points', points),
   };
 };
 

@@ -3,6 +3,7 @@
 import { counted, inWords, spaced } from './numbers.js';
 import { labelText, placeText } from './marks.js';
 import { escaped } from './colours.js';
+import { isSteady } from './steady_text.js';
 
 const capital = (text) => text[0].toUpperCase() + text.slice(1);
 
@@ -40,9 +41,13 @@ function ofReport({ report, isCut, sharp }, labels) {
 }
 
 /** What was found of a program and its starts, as HTML; empty where nothing was found yet. */
-export function findingText({ verdict, audit, labels, observer }) {
+export function findingText({ verdict, audit, labels, observer, steady = null }) {
   if (verdict?.kind === 'syntax') {
     return `This is not a program: ${escaped(verdict.what)}${verdict.place ? ` at ${placeText(verdict.place)}` : ''}.`;
+  }
+  if (verdict?.kind === 'refused' && isSteady(steady)) {
+    return `Refused at ${placeText(verdict.place)}, and yet no leak: starts that agree show an observer at`
+      + ` ${labelText(steady.observer, labels)} the same at the same cycles.`;
   }
   if (verdict?.kind === 'refused') {
     const { from, to } = verdict;

@@ -3,7 +3,9 @@
 const PROGRAM = ['program'], ALL = ['program', 'starts', 'observer', 'environment', 'budget'];
 
 /** What each answer depends on. */
-export const DEPENDS = { verdict: PROGRAM, code: PROGRAM, audit: ALL, runs: ALL, points: ALL };
+export const DEPENDS = {
+  verdict: PROGRAM, code: PROGRAM, steady: ['program', 'observer'], audit: ALL, leak: ALL, runs: ALL, points: ALL,
+};
 
 /** Whether an answer that was given for `of` holds for what is there now. Where something that is written is none, as a
     number of cycles that is no number, no answer that depends on it is of what is there. */

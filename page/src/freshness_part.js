@@ -6,7 +6,9 @@ import { $, answeredOf, faults, shown, state } from './state.js';
 // The elements that show each answer.
 const SHOWN_IN = {
   code: ['code'],
+  steady: ['steady-says'],
   audit: ['audit', 'words'],
+  leak: ['leak-shown'],
   runs: ['lanes', 'lane-says', 'time-legend', 'lane-pages'],
   points: ['sweep-picture', 'sweep-text', 'sweep-numbers'],
 };
@@ -31,19 +33,24 @@ export function drawFreshness() {
   }
   const hasStarts = answeredOf.runs && !fresh('runs');
   $('starts-table').classList.toggle('seen-stale', Boolean(hasStarts));
-  $('verdict').classList.toggle('stale', isStale('verdict'));
+  const isOfSteady = shown.verdict?.kind === 'refused' && isStale('steady');
+  for (const id of ['verdict', 'verdict-steady']) {
+    $(id).classList.toggle('stale', isStale('verdict') || isOfSteady);
+  }
   $('why').classList.toggle('stale', isStale('verdict'));
   $('mend').hidden = !fresh('verdict');
   const { verdict } = shown, isOfVerdict = verdict && verdict.kind !== 'accepted';
-  $('sentence').classList.toggle('stale', !fresh('verdict') || !(isOfVerdict || fresh('audit')));
-  const stale = ['audit', 'runs'].filter(isStale), of = answeredOf[stale[0]];
+  const isOfNow = fresh('verdict') && (isOfVerdict ? !isOfSteady : fresh('audit'));
+  $('sentence').classList.toggle('stale', !isOfNow);
+  const stale = ['audit', 'runs', 'leak', 'steady'].filter(isStale), of = answeredOf[stale[0]];
   const text = staleText({ hasAnswers: stale.length > 0, of, now: state, why, fault: faults.budget || faults.cell });
   if ($('freshness').textContent !== text) $('freshness').textContent = text;
   $('time-note').classList.toggle('stale', false);
   noteOf($('sweep-note'), 'points');
+  noteOf($('leak-note'), 'leak');
 }
 
-// The words above the sweep, and of what it is where that is another text.
+// The words above a part, and of what it is where that is another text.
 function noteOf(element, name) {
   const text = isStale(name) ? `Of ${ofWhat(answeredOf[name], state)}.` : element.dataset.says ?? '';
   if (element.textContent !== text) element.textContent = text;

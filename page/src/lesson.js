@@ -251,7 +251,8 @@ const constantSteps = (files) => {
         right: 1,
         tells: 'It is refused: by the rules each assignment that reads a secret may take as long as the secret'
           + ' decides, as with'
-          + ' caches it may. A refusal is no leak; constant time wants a judgement of its own.',
+          + ' caches it may. A refusal is no leak: below the program stands a judgement of its own, that its time is'
+            + ' constant.',
       },
       program: files['hmac/constant.mit'], starts, look: 'program',
     },

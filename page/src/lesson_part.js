@@ -15,7 +15,7 @@ import { noteTask } from './work.js';
 const LESSONS = lessonsOf(DATA);
 const PARTS = {
   program: 'the program', time: 'the timeline', answer: 'what is seen, and when', starts: 'the starts',
-  sweep: 'the predictions',
+  sweep: 'the predictions', steady: 'whether it is constant in time', leak: 'what these runs tell',
 };
 
 let course = null, number = 0, mustGo = false, isDone = false;

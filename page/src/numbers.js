@@ -30,6 +30,11 @@ export function boundText(bound) {
   return `${mantissa / 100n}.${String(mantissa % 100n).padStart(2, '0')}\u202f×\u202f10<sup>${exponent}</sup>`;
 }
 
+/** The bound as a power, as HTML. */
+export function powerText({ base, exponent }) {
+  return base === 1 ? '1' : `${spaced(base)}<sup>${spaced(exponent)}</sup>`;
+}
+
 /** The words that say that a bound was rounded up, with the bound whole; nothing where it stands whole. */
 export function wholeBound(bound) {
   return String(bound).length > LONGEST ? `rounded up from ${spaced(bound)}` : '';

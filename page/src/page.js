@@ -1,6 +1,6 @@
 // The page: what is loaded into it, its settings, and its beginning.
 
-import { ask, changed } from './asking.js';
+import { ask, askSteady, changed } from './asking.js';
 import { drawAudit, drawObservers } from './audit_part.js';
 import { listenCode } from './code_part.js';
 import { escaped } from './colours.js';
@@ -11,11 +11,13 @@ import { writtenLabels } from './decorations.js';
 import { examplesOf } from './examples.js';
 import { drawNotice, drawWayBack, listenFiles } from './files_part.js';
 import { drawFreshness } from './freshness_part.js';
+import { drawLeak, listenLeak } from './leak_part.js';
 import { closeLesson, listenLesson, openTask } from './lesson_part.js';
 import { linkOf, stateOf } from './link.js';
 import { listenProgram, loadProgram } from './program_part.js';
 import { drawStarts, listenStarts } from './starts_part.js';
 import { $, answeredOf, calls, faults, shown, state } from './state.js';
+import { drawSteady, listenSteady } from './steady_part.js';
 import { drawSweep, listenSweep } from './sweep_part.js';
 import { readTask } from './tasks.js';
 import { listenTeach } from './teach_part.js';
@@ -44,12 +46,16 @@ function load(next, { isOwn = false, isLesson = false, isBack = false, example =
   setFault('');
   faults.cell = '';
   for (const name of Object.keys(answeredOf)) delete answeredOf[name];
-  Object.assign(shown, { points: [], audit: null, runs: null, mitigates: null, verdict: null, steps: [], code: null,
-    mostRuns: undefined });
+  Object.assign(shown, {
+    points: [], isSwept: false, audit: null, leak: null, runs: null, mitigates: null, verdict: null, steps: [], steady: null,
+    wantsSteady: false, code: null, mostRuns: undefined,
+  });
   shown.labels = writtenLabels(state.program);
   drawObservers();
   drawAudit();
   drawTime();
+  drawSteady();
+  drawLeak();
   drawStarts();
   drawSweep();
   drawNotice(isAside ? 'Your program was put aside.' : '');
@@ -160,6 +166,8 @@ function listen() {
   listenVerdict();
   listenStarts(changed);
   listenTime(ask);
+  listenSteady(askSteady);
+  listenLeak();
   listenCode(ask);
   listenCosts();
   listenSweep();
@@ -199,6 +207,8 @@ async function begin() {
     return;
   }
   document.documentElement.dataset.ready = calls.tool.programs.join(' ');
+  drawSteady();
+  drawLeak();
   ask();
 }
 

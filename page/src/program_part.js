@@ -1,10 +1,10 @@
 // The program: its editor, what is drawn into it, and what the colours mean.
 
 import { escaped, labelClass } from './colours.js';
-import { commandAt, faultRange, leftOutLabels, linesInside, stepsByLine } from './decorations.js';
+import { faultRange, leftOutLabels, linesInside, placeRange, stepsByLine } from './decorations.js';
 import { Editor } from './editor.js';
-import { offsetOf } from './language.js';
 import { $, answeredOf, mitigatesNow, shown, state } from './state.js';
+import { isOnlyRefused } from './steady_part.js';
 
 const CHANGED = ' (Changed since.)';
 
@@ -20,13 +20,21 @@ export function drawProgram() {
   if (key !== coloured) editor.recolour();
   coloured = key;
   const faults = isFresh ? shown.verdict.refusals.filter((fault) => fault.place) : [];
+  const name = isOnlyRefused() ? 'ruled' : 'wrong';
   editor.decorate({
-    marks: faults.map((fault) => ({ ...faultRange(state.program, fault), name: 'wrong' })),
+    marks: [...faults.map((fault) => ({ ...faultRange(state.program, fault), name })), ...unsteadyMarks()],
     steps: stepsByLine(isFresh ? shown.steps : []),
     tints: linesInside(state.program, labels),
     ends: $('labels-shown').checked ? leftOutLabels(state.program, labels) : new Map(),
   });
   drawLegend();
+}
+
+// The place that may let a secret change what is seen, or when, where that was asked of this text.
+function unsteadyMarks() {
+  const { steady } = shown;
+  if (steady?.kind !== 'no' || answeredOf.steady?.program !== state.program) return [];
+  return [{ ...placeRange(state.program, steady.place), name: 'unsteady' }];
 }
 
 function drawLegend() {
@@ -38,7 +46,11 @@ function drawLegend() {
   }
   if (mitigatesNow().length) parts.push('<span><span class="swatch tint-swatch"></span>inside a mitigate</span>');
   if (shown.verdict?.refusals?.some((fault) => fault.place)) {
-    parts.push('<span><span class="wrong">wavy</span> refused here</span>');
+    parts.push(isOnlyRefused() ? '<span><span class="ruled">dotted</span> refused here, by the rules alone</span>'
+      : '<span><span class="wrong">wavy</span> refused here</span>');
+  }
+  if (shown.steady?.kind === 'no') {
+    parts.push('<span><span class="unsteady">dashed</span> not known to be constant in time</span>');
   }
   $('legend').innerHTML = parts.join('');
 }
@@ -66,9 +78,8 @@ export function focusProgram() {
 }
 
 function goTo(place) {
-  const from = offsetOf(state.program, place.line, place.column), lineEnd = state.program.indexOf('\n', from);
-  const to = commandAt(state.program, from)?.head ?? from + 1;
-  editor.select(from, Math.min(to, lineEnd < 0 ? state.program.length : lineEnd));
+  const { from, to } = placeRange(state.program, place);
+  editor.select(from, to);
 }
 
 /** What a person does with the text. */

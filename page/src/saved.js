@@ -2,11 +2,11 @@
 
 /** All that is on the page, as JSON. Numbers that may have more than 53 bits are texts. Answers that are not of the
     program and settings that are there are left out. */
-export function jsonOf({ state, verdict, audit, runs, mitigates, points }) {
+export function jsonOf({ state, ...answers }) {
   const plain = (_, value) => (typeof value === 'bigint' ? String(value) : value);
   const { program, starts, observer, environment, budget } = state;
   const settings = { observer, environment, budget: Number(budget) };
-  return `${JSON.stringify({ program, starts, ...settings, verdict, audit, runs, mitigates, points }, plain, 2)}\n`;
+  return `${JSON.stringify({ program, starts, ...settings, ...answers }, plain, 2)}\n`;
 }
 
 /** What a file holds: {program}, {starts}, or both with settings from what was saved as JSON; null

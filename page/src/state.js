@@ -21,10 +21,13 @@ export const shown = {
   // the program's, and of each variable
   labels: { names: ['L', 'H'], pairs: [], of: new Map(), marks: null, levels: null },
   code: null, // the instructions
+  steady: null, wantsSteady: false, // whether it is constant in time, and whether that is asked of what is accepted too
   audit: null, // {report, isCut, sharp} or {refusal}
+  leak: null, // what the runs tell, exactly
   runs: null, mitigates: null, isAll: true, mostRuns: undefined, // the runs: all of them, or as many as are asked for
   view: null, page: 0, lane: -1, // the cycles and the runs that the lanes show, and the run that is looked at
   points: [], unfinished: 0, least: null, // what was tried with other predictions, and with how many not all runs halt
+  isSwept: false, // whether all that there is to try was tried
 };
 
 /** Of which text and settings each answer is, by the answer's name; what is not here was not answered. */

@@ -1,6 +1,8 @@
 // What the page asks of the tool about one program and its starts. Each answer is what the tool printed, read.
 
-import { classesOf, markSeen, readAudit, readRefusal, readRun, readTimeline, readVerdict, readWhy } from './answers.js';
+import {
+  classesOf, markSeen, readAudit, readLeak, readRefusal, readRun, readSteady, readTimeline, readVerdict, readWhy,
+} from './answers.js';
 import { asSeen, PROGRAM, STARTS, WORDS } from './commands.js';
 import { offsetOf, placeOf, readProgram, withEstimate, wrapped } from './language.js';
 import { oneStart, readStarts } from './starts.js';
@@ -82,6 +84,22 @@ export async function sharpOf(tool, state) {
   const { status, text } = await tool.call('lab', WORDS.bound(state), files(state));
   const report = status === DONE ? readAudit(text) : null;
   return report?.sharp === undefined ? null : report;
+}
+
+/** What the runs tell, exactly, by the lab; null where it is not there or refuses. */
+export async function leakOf(tool, state) {
+  if (!tool.has('lab')) return null;
+  const { status, text } = await tool.call('lab', WORDS.leak(state), files(state));
+  return status === DONE ? readLeak(text) : null;
+}
+
+/** Whether the program is constant in time for the observer, by the lab; a yes has as `end` the answer to the same of
+    its end. Null where the lab is not in the module. */
+export async function steadyOf(tool, state) {
+  if (!tool.has('lab')) return null;
+  const judged = async (words) => readSteady((await tool.call('lab', words, { [PROGRAM]: state.program })).text);
+  const steady = await judged(WORDS.steady(state));
+  return steady.kind === 'yes' ? { ...steady, end: await judged(WORDS.steadyEnd(state)) } : steady;
 }
 
 async function byLab(tool, state) {

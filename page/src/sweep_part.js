@@ -53,12 +53,13 @@ export async function sweep() {
   const mitigate = whichMitigate();
   if (!mitigate || !canSweep()) return;
   const current = estimateOf(mitigate), trial = trialOf(mitigate, isOld);
-  Object.assign(shown, { points: [], unfinished: 0 });
+  Object.assign(shown, { points: [], unfinished: 0, isSwept: false });
   answeredOf.points = { ...state };
   $('sweep-go').textContent = 'Stop';
   $('sweep').setAttribute('aria-busy', 'true');
   try {
     await tryPredictions(trial, current, isOld);
+    shown.isSwept = !isOld();
   } catch (fault) {
     if (!(fault instanceof Stopped)) $('sweep-text').textContent = `No answer: ${fault.message}`;
   } finally {
@@ -126,7 +127,7 @@ export function drawSweep() {
   const isOld = answeredOf.runs && !isFresh('runs', answeredOf.runs, state); // then it stays where it is
   if (!isOld) {
     $('sweep').hidden = !can && points.length === 0;
-    $('starts').classList.toggle('alone', $('sweep').hidden);
+    $('starts').classList.toggle('alone', $('sweep').hidden && $('leak').hidden);
   }
   if ($('sweep').hidden) return;
   drawChoice();

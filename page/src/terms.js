@@ -14,6 +14,7 @@ const theorem = (heading) => ({ says: 'Theorem', address: under('THEOREM.md', he
 const glossary = (entry) =>
   ({ says: 'Glossary', address: `${DOCS}/GLOSSARY.md#:~:text=${encodeURIComponent(`${entry}.`)}` });
 const rules = { says: 'All rules', address: under('LANGUAGE.md', 'Types') };
+const lab = (heading) => ({ says: 'The lab', address: under('LAB.md', heading) });
 const machine = (heading) => ({ says: 'Machine', address: under('MACHINE.md', heading) });
 
 const HEADLINE = theorem('The theorem, and how it is proved'), SHARP = theorem('The sharp count');
@@ -79,6 +80,22 @@ export const TERMS = {
       + ' numbered'
       + ' in the order in which they come first; each has its colour and shape.',
     links: [tutorial(AUDIT_IT), glossary('Class'), HEADLINE],
+  },
+  steady: {
+    says: 'A program is steady for an observer where no instruction of its code may let a secret change what is seen,'
+      + ' or when; elsewhere such code is called constant-time. Starts that agree then show one timed sequence, whether'
+      + ' or not the rules accept the program.',
+    links: [lab('Constant time'), glossary('Steady')],
+  },
+  'Shannon entropy': {
+    says: 'How many bits the run tells of its start on the average, each start being as likely: the sum, over the'
+      + ' classes, of n/N times log2 of N/n, for n of N runs. It lies between the two numbers.',
+    links: [lab('What these runs tell'), glossary('Shannon entropy')],
+  },
+  'min-entropy': {
+    says: 'By how many bits the first guess of the start gets better once the run is seen, each start being as likely:'
+      + ' log2 of the number of classes. It lies between the two numbers.',
+    links: [lab('What these runs tell'), glossary('Min-entropy leakage')],
   },
   observer: {
     says: 'A label. Who has it sees the assignments to variables whose label flows to it, with their cycles, and'

@@ -3,6 +3,7 @@
 import { drawCosts } from './costs_part.js';
 import { saveSvg } from './saving.js';
 import { spaced } from './numbers.js';
+import { isOnlyRefused } from './steady_part.js';
 import { $, answeredOf, calls, mitigatesNow, shown, starts } from './state.js';
 import { LANES, mitigateText, pagesText, timeLegend } from './time_text.js';
 import { cycleAt, moved, runText, timeline, wholeView, zoomed } from './timeline.js';
@@ -13,8 +14,10 @@ const lanesWidth = () => Math.max($('lanes').clientWidth - 2, 280);
 function placeholder() {
   const kind = answeredOf.verdict ? shown.verdict?.kind : null;
   const words = {
-    refused: 'A refused program is not run here. Where it is its time that tells, the offered mitigate gives it a'
-      + ' limit, and a picture.',
+    refused: isOnlyRefused() ? 'A refused program is not run here. This one is constant in time: whatever is secret,'
+      + ' the observer sees the same at the same cycles.'
+      : 'A refused program is not run here. Where it is its time that tells, the offered mitigate gives it a limit, and'
+        + ' a picture.',
     syntax: 'Runs are drawn here once there is a program.',
   };
   return `<p class="empty">${words[kind] ?? ''}</p>`;
@@ -85,6 +88,14 @@ export function pickLane(number, says = true) {
     $('lane-says').textContent = $('announce').textContent = runText(shown.runs[number], number + 1);
     drawCosts();
   }
+}
+
+/** Looks at a run, from 0 on, on whichever page of lanes it stands. */
+export function lookAtRun(number) {
+  if (!shown.runs || number >= shown.runs.length) return;
+  shown.page = Math.floor(number / LANES);
+  drawTime();
+  pickLane(number);
 }
 
 /** What a person does with the lanes. `ask` asks for all runs, where some are not drawn. */

@@ -3,13 +3,17 @@
 import { escaped } from './colours.js';
 import { changeProgram, focusProgram } from './program_part.js';
 import { $, shown } from './state.js';
+import { isOnlyRefused } from './steady_part.js';
+import { besideVerdict } from './steady_text.js';
 import { mendText, verdictText, whyText } from './verdict_text.js';
 
 /** The verdict, and below it why. */
 export function drawVerdict() {
   const { verdict, labels, steps } = shown;
-  $('verdict').className = `verdict ${verdict.kind === 'accepted' ? 'yes' : 'no'}`;
+  const isNoLeak = isOnlyRefused();
+  $('verdict').className = `verdict ${verdict.kind === 'accepted' ? 'yes' : isNoLeak ? 'rules' : 'no'}`;
   $('verdict').innerHTML = verdictText(verdict, labels);
+  $('verdict-steady').innerHTML = isNoLeak ? besideVerdict(shown.steady, labels) : '';
   $('why').innerHTML = whyText(verdict, steps);
   $('mend').innerHTML = '';
   $('problems').scrollTop = 0;
@@ -18,12 +22,13 @@ export function drawVerdict() {
 /** The mitigate that is offered: `found` has the mended text, and the first and last line that go into it. */
 export function offerMend(found) {
   shown.mended = found.text;
-  $('mend').innerHTML = mendText(found);
+  $('mend').innerHTML = mendText(found, isOnlyRefused());
 }
 
 /** That there is no answer, since the runs were stopped or the module could not go on. */
 export function drawNoAnswer(why) {
   $('verdict').className = 'verdict';
+  $('verdict-steady').innerHTML = '';
   $('verdict').innerHTML = why === null
     ? 'Stopped <span>Change something to ask again.</span>'
     : `No answer <span>The module could not go on: ${escaped(why)}</span>`;

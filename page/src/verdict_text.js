@@ -57,9 +57,10 @@ export function whyText(verdict, steps) {
     + `<ol class="why">${list.join('')}</ol>`;
 }
 
-/** The mitigate that is offered: `found` has the first and the last line that go into it. */
-export function mendText(found) {
+/** The mitigate that is offered: `found` has the first and the last line that go into it. `isNoLeak` says that the
+    program needs none, since it is constant in time. */
+export function mendText(found, isNoLeak = false) {
   const lines = found.first === found.last ? `line ${found.first}` : `lines ${found.first} to ${found.last}`;
   return `<button type="button" id="mend-go">Put ${lines} into a mitigate</button> With that the tool accepts the`
-    + ` program.`;
+    + ` program${isNoLeak ? ', with a limit above what it tells' : ''}.`;
 }

@@ -10,6 +10,8 @@ import time
 import urllib.request
 
 ELEMENT = "element-6066-11e4-a52e-4f735466cecf"
+LONGEST = 900  # seconds after which a browser is taken for one that hangs
+TIMEOUTS = {"script": LONGEST * 1000, "pageLoad": LONGEST * 1000}
 KEYS = {
     "Enter": "\ue007",
     "Tab": "\ue004",
@@ -30,20 +32,43 @@ class Fault(Exception):
     """What the browser refused."""
 
 
+class Late(Fault):
+    """What did not come in the time that it was given."""
+
+
 def free_port():
     with socket.socket() as one:
         one.bind(("127.0.0.1", 0))
         return one.getsockname()[1]
 
 
+PROBED, MOST_TIMES = 0.02, 20
+
+
+def slowness():
+    """How many times as long as alone a piece of work takes on this machine now, from 1 to 20: what other programs take
+    of the processors, seen by a little work of one's own."""
+    begun, worked = time.monotonic(), time.process_time()
+    while time.process_time() - worked < PROBED:
+        pass
+    return min(max((time.monotonic() - begun) / PROBED, 1), MOST_TIMES)
+
+
 def wait_for(test, seconds, what):
-    end = time.monotonic() + seconds
-    while time.monotonic() < end:
+    """What `test` gives as soon as that is something. On a machine that does other things the seconds are as many times
+    as long as its work takes: a browser is several processes, each of which waits its turn, so twice that."""
+    begun, most = time.monotonic(), seconds
+    while True:
         value = test()
         if value:
             return value
+        went = time.monotonic() - begun
+        if went > most:
+            slow = slowness()
+            most = max(most, seconds * (2 * slow - 1))
+            if went > most:
+                raise Late(f"waited {went:.0f} s in vain for {what}, where {seconds} are given (work takes {slow:.1f} times as long)")
         time.sleep(0.05)
-    raise Fault(f"waited {seconds} s in vain for {what}")
 
 
 class Browser:
@@ -82,7 +107,17 @@ class Browser:
         self.press(*["Enter" if sign == "\n" else sign for sign in text])
 
     def screenshot(self, path):
-        pathlib.Path(path).write_bytes(base64.b64decode(self.command("shot", {})))
+        """Keeps a picture. A renderer that has had no turn for ten seconds is given up by chromedriver, and asked again here."""
+        shot = wait_for(self.tried_shot, 60, "a picture")
+        pathlib.Path(path).write_bytes(base64.b64decode(shot))
+
+    def tried_shot(self):
+        try:
+            return self.command("shot", {})
+        except Fault as fault:
+            if "renderer" not in str(fault):
+                raise
+            return None
 
     def close(self):
         try:
@@ -128,7 +163,7 @@ class Chromium(Browser):
             "--disable-dev-shm-usage",
         ]
         options = {"args": arguments, "prefs": {"download.default_directory": str(self.folder)}}
-        wanted = {"browserName": "chrome", "goog:chromeOptions": options, "goog:loggingPrefs": {"browser": "ALL"}}
+        wanted = {"browserName": "chrome", "goog:chromeOptions": options, "goog:loggingPrefs": {"browser": "ALL"}, "timeouts": TIMEOUTS}
         body = {"capabilities": {"alwaysMatch": wanted}}
         made = wait_for(lambda: self.tried(body), 40, "chromedriver")
         self.address += f"/{made['sessionId']}"
@@ -146,7 +181,7 @@ class Chromium(Browser):
         data = json.dumps(body).encode() if method == "POST" else None
         asked = urllib.request.Request(self.address + path, data, {"Content-Type": "application/json"}, method=method)
         try:
-            with urllib.request.urlopen(asked, timeout=180) as answer:
+            with urllib.request.urlopen(asked, timeout=LONGEST) as answer:
                 return json.load(answer)["value"]
         except urllib.error.HTTPError as fault:
             raise Fault(json.load(fault)["value"]["message"]) from None
@@ -216,14 +251,14 @@ class Firefox(Browser):
         self.process = subprocess.Popen(words, stdout=subprocess.DEVNULL, stderr=subprocess.DEVNULL)
         self.line = wait_for(lambda: self.tried(port), 60, "firefox")
         self.read()
-        made = self.ask("WebDriver:NewSession", {"capabilities": {"alwaysMatch": {"acceptInsecureCerts": False}}})
+        made = self.ask("WebDriver:NewSession", {"capabilities": {"alwaysMatch": {"acceptInsecureCerts": False, "timeouts": TIMEOUTS}}})
         self.version = made["capabilities"]["browserVersion"]
         self.resize(*size)
 
     @staticmethod
     def tried(port):
         try:
-            return socket.create_connection(("127.0.0.1", port), timeout=180)
+            return socket.create_connection(("127.0.0.1", port), timeout=LONGEST)
         except OSError:
             return None
 

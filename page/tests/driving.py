@@ -88,6 +88,10 @@ class Page:
         time.sleep(0.4)
         self.browser.wait(IDLE, 60, "an answer")
 
+    def until(self, test, what):
+        """Waits for what comes with a frame or two."""
+        browsers.wait_for(test, 10, what)
+
     def run(self, script, *args):
         return self.browser.run(script, *args)
 

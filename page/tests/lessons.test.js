@@ -13,7 +13,8 @@ import { lessonsOf } from '../src/lesson.js';
 import { linkOf, stateOf } from '../src/link.js';
 import { call } from '../src/module.js';
 import { readStarts } from '../src/starts.js';
-import { auditOf, completedBy, runsOf, sharpOf, verdictOf } from '../src/study.js';
+import { isSteady } from '../src/steady_text.js';
+import { auditOf, completedBy, runsOf, sharpOf, steadyOf, verdictOf } from '../src/study.js';
 import { readTask, taskCourse, taskOfForm } from '../src/tasks.js';
 import { moduleBytes } from './built_module.js';
 
@@ -112,6 +113,8 @@ test('what the lessons tell of ends and verdicts is so on the module', { skip },
   for (const title of ['A secret', 'A public end', 'Constant, and refused']) {
     assert.equal((await verdictOf(asking, STEPS.find((step) => step.title === title))).kind, 'refused', title);
   }
+  const steady = await steadyOf(asking, { ...USUAL, ...STEPS.find((step) => step.title === 'Constant, and refused') });
+  assert.ok(isSteady(steady) && steady.end.kind === 'yes', 'what is told of constant time');
 });
 
 const KNOWN = {

@@ -251,10 +251,11 @@ test('verdicts in a line, and why', () => {
 test('command lines are those of the calls, with the chosen settings', () => {
   const lines = commandLines({ ...state, observer: 'bob', environment: 'part2', budget: '77' }, 'accepted')
     .map((one) => one.line);
-  assert.deepEqual(lines.slice(0, 5), [
+  assert.deepEqual(lines.slice(0, 6), [
     './mitigate check program.mit',
     './mitigate audit program.mit starts.toml --observer bob --env part2 --budget 77',
     './lab bound program.mit starts.toml --observer bob --env part2 --budget 77',
+    './lab leak program.mit starts.toml --observer bob --env part2 --budget 77',
     './lab timeline program.mit starts.toml --env part2 --budget 77',
     './lab seen program.mit starts.toml --observer bob --env part2 --budget 77',
   ]);

@@ -2,6 +2,7 @@
 import time
 
 from driving import holds, same
+from trials.basics import sweep_now
 
 NAME = """
 const nameOf = (one) => (one.getAttribute('aria-label')
@@ -49,7 +50,7 @@ def keyboard(page):
         "window.focused = []; document.addEventListener('focusin', ({ target: one }) =>"
         " focused.push(one.id || one.dataset.name || (one.closest('.CodeMirror') ? 'editor' : one.className)))"
     )
-    page.browser.press(*["Tab"] * 60)
+    page.browser.press(*["Tab"] * 75)
     seen = page.run("return window.focused")
     for wanted in (
         "lesson-open",
@@ -126,7 +127,7 @@ def narrow(page):
 
 
 BOXES = """
-return ['header', 'main > section', '.editor', '#problems', '#lanes', '#sentence', '#audit', '#starts-table',
+return ['header', 'main section', '.editor', '#problems', '#lanes', '#sentence', '#audit', '#starts-table',
   '#sweep-picture', 'footer']
   .flatMap((selector) => [...document.querySelectorAll(selector)]).filter((one) => one.getClientRects().length)
   .map((one) => { const { left, top, width, height } = one.getBoundingClientRect();
@@ -143,7 +144,7 @@ new PerformanceObserver((list) => { for (const one of list.getEntries()) window.
 def a_letter_and_back(page):
     """Types a wrong letter and undoes it: gives the boxes before, with it, and after."""
     page.choose(0)
-    page.browser.wait("return document.getElementById('sweep').getAttribute('aria-busy') !== 'true'", 60, "a sweep")
+    sweep_now(page)
     page.caret("done := 1")
     page.run("scrollTo(0, 0); for (const one of document.querySelectorAll('details')) one.open = false")
     time.sleep(0.5)
@@ -155,7 +156,7 @@ def a_letter_and_back(page):
     found.append(page.run(BOXES))
     page.browser.press("Control+z")
     page.idle()
-    page.browser.wait("return document.getElementById('sweep').getAttribute('aria-busy') !== 'true'", 60, "a sweep")
+    sweep_now(page)
     found.append(page.run(BOXES))
     return found
 

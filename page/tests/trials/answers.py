@@ -3,7 +3,7 @@ import re
 
 from driving import EXAMPLES, ENDLESS, all_dimmed, holds, none_dimmed, same
 
-OLD = [".number-of b", ".lane text[font-weight]", "#starts-table td.seen"]
+OLD = [".number-of b", ".lane text[font-weight]", "#starts-table td.seen", "#leak-shown tr"]
 VERDICT = ["#verdict", "#why", "#sentence"]
 MANY = "var h : H;\nvar l : L;\n" + ";\n".join(["mitigate (64, H) { h := 0 }"] * 24) + ";\nl := 1\n"
 THIRD = "var h : H;\nvar l : L;\nl := 1;\nl := 2;\nmitigate (1, H) { while h > 0 do { h := h - 1 } };\nl := 3\n"
@@ -146,7 +146,7 @@ def tells_how_far(page):
     )
     page.browser.wait(f"return /run 2 of 3 is past \\d+ cycles of 1099511627776, .* %/.test((() => {{ {told} }})())", 60, "how far it is")
     text = page.run(told)
-    holds(text.startswith("the count (step 2 of 4), "), text)
+    holds(text.startswith("the count (step 2 of 5), "), text)
     first = int(re.search(r"past (\d+) cycles", text)[1])
     page.browser.wait(f"return Number(/past (\\d+) cycles/.exec((() => {{ {told} }})())?.[1]) > {first}", 60, "more cycles")
     page.browser.click("#stop")

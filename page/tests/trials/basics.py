@@ -1,9 +1,10 @@
 """What the page is for: verdicts, audits, starts, the timeline, the sweep, the code, the lesson."""
-import time
 import xml.etree.ElementTree
 
-from driving import ENDLESS, EXAMPLES, SWEPT, holds, same
+from driving import ENDLESS, EXAMPLES, SWEPT, all_dimmed, holds, same
 
+# What is told of the program before, after a run that was stopped.
+OLD = [".number-of b", ".lane text[font-weight]", "#starts-table td.seen", "#leak-shown tr"]
 TEN_FAULTS = "var l : L;\nvar h : H;\n" + ";\n".join(f"l := h + {n}" for n in range(10)) + "\n"
 
 
@@ -153,11 +154,9 @@ def timeline(page):
     before = page.text("#lanes")
     page.run("document.getElementById('lanes').focus()")
     page.browser.press("+", "+")
-    time.sleep(0.3)
-    holds(page.text("#lanes") != before, "keys zoom")
+    page.until(lambda: page.text("#lanes") != before, "keys zoom")
     page.browser.press("0")
-    time.sleep(0.3)
-    same(page.text("#lanes"), before, "all cycles again")
+    page.until(lambda: page.text("#lanes") == before, "all cycles again")
     page.browser.press("ArrowDown", "ArrowDown")
     holds(page.text("#lane-says").startswith("Run 2, class 2: seen done = 1 at 296"), "keys go through the runs")
     holds("Run 2, class 2" in page.text("#announce"), "and it is told")
@@ -232,6 +231,8 @@ def stops(page):
     page.browser.click("#stop")
     page.idle()
     holds("stopped" in page.text("#freshness"), "it says that it was stopped")
+    for selector in OLD:
+        all_dimmed(page, selector, f"{selector}, after Stop")
     page.choose(3)
     holds(page.text("#verdict").startswith("Accepted"), "and goes on")
     same(page.text("#freshness"), "", "with an answer")
@@ -266,9 +267,8 @@ def code(page):
     page.idle()
     same(page.count("#code .line"), 18, "instructions")
     page.caret("while", after=False)
-    time.sleep(0.3)
-    lit = page.run("return [...document.querySelectorAll('#code .lit .n')].map((one) => one.textContent).join(' ')")
-    same(lit, "2 3 4 5 6 7 8 9 10 11 12 13", "what the line of the loop lights up")
+    lit = "return [...document.querySelectorAll('#code .lit .n')].map((one) => one.textContent).join(' ')"
+    page.until(lambda: page.run(lit) == "2 3 4 5 6 7 8 9 10 11 12 13", "what the line of the loop lights up")
     page.run("document.querySelector('#code .line[data-line=\"7\"]').dispatchEvent(new MouseEvent('mouseover', {" " bubbles: true }))")
     same(
         page.run("return document.querySelector('#editor .lit').parentElement.querySelector('pre').textContent"), "l := 1", "what it lights"

@@ -1,6 +1,4 @@
 """The editor: one undo for all, find, brackets, only what is in view is drawn, and what a key costs."""
-import time
-
 from driving import holds, same
 from trials.basics import sweep_now
 
@@ -47,9 +45,8 @@ def finds(page):
     page.browser.wait("return document.querySelector('.CodeMirror-dialog input')", 5, "the field")
     same(page.run("return document.querySelector('.CodeMirror-dialog input').getAttribute('aria-label')"), "Find", "its name")
     page.browser.type("secret\n")
-    time.sleep(0.3)
-    same(page.selected(), "secret", "what is found")
-    holds(page.run(FOUND) >= 2, "all are marked")
+    page.until(lambda: page.selected() == "secret", "what is found")
+    page.until(lambda: page.run(FOUND) >= 2, "that all are marked")
     page.browser.press("Escape")
     page.caret("secret[", after=False)
 
@@ -57,8 +54,7 @@ def finds(page):
 def brackets(page):
     page.choose(0)
     page.caret("mitigate (16, H) {")
-    time.sleep(0.2)
-    same(page.texts(".CodeMirror-matchingbracket")[:1], ["{"], "the bracket that matches")
+    page.until(lambda: page.texts(".CodeMirror-matchingbracket")[:1] == ["{"], "the bracket that matches")
 
 
 def indents(page):
@@ -77,9 +73,8 @@ def long_text(page):
     same(page.text("#verdict"), f"Refused by T-ASGN at {lines}:1: H does not flow to L", "the verdict")
     holds(page.run(LINES) < 200, f"{page.run(LINES)} lines are drawn")
     page.browser.click("#verdict [data-place]")
-    time.sleep(0.4)
-    same(page.selected(), "l := h", "what the place selects")
-    holds(page.count("#editor .wrong") >= 1 and page.count("#editor .cm-l1") >= 1, "mark and colours at the end")
+    page.until(lambda: page.selected() == "l := h", "what the place selects")
+    page.until(lambda: page.count("#editor .wrong") >= 1 and page.count("#editor .cm-l1") >= 1, "mark and colours at the end")
 
 
 def left_out_labels(page):
