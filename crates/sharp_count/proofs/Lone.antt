@@ -1,24 +1,22 @@
 -- The choices in which each level alone fits into T.
 use Rattle.std.proofs.Common.{◌≡◌, ℕ, zero, suc, ◌+◌, ◌*◌, ◌≤◌, List, [], ◌∷◌, length, Bool, true, false, refl, sym, ap, ◌∙◌, subst, inl, ⊎_elim, arith}
-use Rattle.std.specs.Prelude.{cond, leb}
+use Rattle.std.specs.Prelude.{◌/◌, max, cond, leb}
 use Rattle.std.specs.List.{filter}
 use Rattle.std.proofs.lemmas.Bool.{leb-true, le-leb, cases_eq}
 use Rattle.std.proofs.lemmas.Nat.{mul-le}
 use Rattle.leak_bound.specs.Records.{Each}
-use Rattle.leak_bound.specs.Digits.{digits}
 use Rattle.leak_bound.proofs.Few.{Each-map, Each-both, Each-pass, Each-filter}
 use Rattle.sharp_count.specs.Count.{rising, sharp}
 use Rattle.sharp_count.specs.Levels.{miss_counts}
 use Rattle.sharp_count.specs.Lists.{NeverFalling, IsAmong, AllDiffer}
 use Rattle.sharp_count.specs.Shares.{shares}
 use Rattle.sharp_count.specs.Shared.{shared_by, shared, SharedIsEnough}
-use Rattle.sharp_count.specs.Ways.{IsChoice, cycles_of, cycles_in, AreWays}
+use Rattle.sharp_count.specs.Ways.{IsChoice, cycles_of, cycles_in}
 use Rattle.sharp_count.proofs.Alike.{each-among, no_longer, same_length}
 use Rattle.sharp_count.proofs.Listing.{listing, length-listing, each_falls, has_all, all_differ}
 use Rattle.sharp_count.proofs.Shares.{ways_of_level, shares_few}
 use Rattle.sharp_count.proofs.Ways.{Choice, pairs, length-pairs, each-pairs, among-pairs, differ-pairs, among_passed, differ_passed, ways, are_ways}
 use Rattle.sharp_count.proofs.Ways.{length-one_level}
-use Rattle.std.specs.Prelude.{max, ◌/◌}
 
 -- ---- the lists of one level
 
