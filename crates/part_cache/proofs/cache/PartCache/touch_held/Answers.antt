@@ -25,7 +25,7 @@ returns-clause-touched c =
 
 pub returns-clause-found : goal.returns-clause-found
 returns-clause-found c t =
-    look_own c.args.self.now c.self.inside c.self.view_is c.args.tag c.args.label.number c.requires.label 
+    look_own c.args.self.now c.self.inside c.self.view_is c.args.tag c.args.label.number c.requires.label
     (subst (λ o. (lattice_of o).flows c.args.label.number c.args.label.number ≡ true) c.deref.ensures (c.laws.ensures.lattice.same c.args.label.number))
     (sym (has_is c.self.inside c.self.invariant c.args.self.now c.self.view_is c.args.tag c.args.label.number c.requires.label _
     (place_is c.from.result c.args.label.number c.args.sets c.self.inside.sets c.set_of.result c.args.tag c.from.ensures (c.requires.sets
