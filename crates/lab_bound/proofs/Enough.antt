@@ -165,7 +165,8 @@ module _ {E : Type 0} (v : Env E) (serves : Order → E → Type 0) (made : Orde
       FewShown view same (starts_of made q.program.order ss) (shared_of t levels)
   shared_told {V} view few apart ss r levels is h same tests =
       let firsts = firsts_of levels in
-      let some = few apart (starts_of made q.program.order ss) is.agree is.halted firsts (predicts_each ss levels (λ l x k. (h.first l).least x k)) same tests in
+      let some = few apart (starts_of made q.program.order ss) is.agree is.halted firsts
+      (predicts_each ss levels (λ l x k. (h.first l).least x k)) same tests in
       let counts = some.0 in
       let size : q.program.order.size ≡ length levels = sym h.size in
       let are = are_ways t firsts q.program.order.size counts in

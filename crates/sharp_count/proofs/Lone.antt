@@ -167,5 +167,5 @@ shared_is_enough t firsts n counts found are =
           (Each-both (IsChoice (values t firsts counts) n counts) (λ c. cycles_in firsts n c ≤ t) all
           (each_choice t firsts counts n) (all_fit t firsts counts l few others n))
           (λ c p. among_all t firsts counts n c p.0 p.1) (differ_all t firsts counts n)
-      ∙ long,
+          ∙ long,
     )

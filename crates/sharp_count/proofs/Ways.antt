@@ -58,8 +58,8 @@ each-before_all : (P Q : Choice → Type 0) (ms : List ℕ) → ((c : Choice) �
 each-before_all P Q ms f [] h = tt
 each-before_all P Q ms f (c ∷ cs) h = (f c h.0, each-before_all P Q ms f cs h.1)
 
-pub each-pairs : (R : List ℕ → Type 0) (P Q : Choice → Type 0) → ((ms : List ℕ) (c : Choice) → R ms → P c → Q (ms ∷ c)) → (all : List (List ℕ)) (cs : List Choice)
-    → Each R all → Each P cs → Each Q (pairs all cs)
+pub each-pairs : (R : List ℕ → Type 0) (P Q : Choice → Type 0) → ((ms : List ℕ) (c : Choice) → R ms → P c → Q (ms ∷ c))
+    → (all : List (List ℕ)) (cs : List Choice) → Each R all → Each P cs → Each Q (pairs all cs)
 each-pairs R P Q f [] cs h k = tt
 each-pairs R P Q f (ms ∷ all) cs h k =
     Each-append Q (before_all ms cs) (pairs all cs) (each-before_all P Q ms (λ c p. f ms c h.0 p) cs k) (each-pairs R P Q f all cs h.1 k)
