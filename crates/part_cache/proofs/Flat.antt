@@ -145,7 +145,8 @@ map_empty : (n : ℕ) (w : Ways) → held_tags w.tags ≡ [] → map holds (repl
 map_empty zero w e = refl
 map_empty (suc n) w e = rw (e, map_empty n w e) refl
 
-module _ (c : Inside) (n : ℕ) (w : Ways) (empty : held_tags w.tags ≡ []) (filled : c.slots.items ≡ replicate n w) (many : n ≡ c.lattice.value.size * c.sets) where
+module _ (c : Inside) (n : ℕ) (w : Ways) (empty : held_tags w.tags ≡ []) (filled : c.slots.items ≡ replicate n w)
+    (many : n ≡ c.lattice.value.size * c.sets) where
   pub new_value : rows_view c ≡ empty_cache c.lattice.value c.sets c.ways
   new_value = ap (λ rs. record (rows_view c) { rows = rs }) (ap (map holds) filled ∙ map_empty n w empty ∙ ap (λ n. replicate n []) many)
 
