@@ -39,7 +39,7 @@ export class Editor {
     this.lines = new WeakMap(); // of a line of the library: its tint and what stands at its end
     this.drawn = '';
     this.lit = null;
-    this.hasCosts = false;
+    this.hasCosts = this.hasSteps = false;
     this.library.on('renderLine', (_, line, element) => this.drawLine(line, element));
     this.library.on('beforeChange', (library, change) => {
       this.drawn = '';
@@ -113,7 +113,8 @@ export class Editor {
   clearMarks() {
     for (const mark of this.marks) mark.clear();
     this.marks = [];
-    this.library.clearGutter('steps');
+    if (this.hasSteps) this.library.clearGutter('steps');
+    this.hasSteps = false;
   }
 
   /** Takes away the cycles of a run, which are of a text that has changed. */
@@ -144,6 +145,7 @@ export class Editor {
         if (from < to) this.marks.push(this.library.markText(place(from), place(to), { className: name }));
         else this.marks.push(this.library.setBookmark(place(from), { widget: missing(name) }));
       }
+      this.hasSteps = steps.size > 0;
       for (const [line, numbers] of steps) {
         if (line <= this.library.lineCount()) this.library.setGutterMarker(line - 1, 'steps', stepMarks(numbers));
       }

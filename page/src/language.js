@@ -309,14 +309,26 @@ class Reader {
   }
 }
 
-/** The program that a text spells, or null where the page can't read it: labels, pairs, variables, body. */
-export function readProgram(text) {
+function programIn(text) {
   try {
     return new Reader(text).program();
   } catch (fault) {
     if (fault instanceof Unread) return null;
     throw fault;
   }
+}
+
+const KEPT = 2; // texts whose reading is kept: that of the editor, and the same with all labels
+const readings = []; // the last one first
+
+/** The program that a text spells, or null where the page can't read it: labels, pairs, variables, body. */
+export function readProgram(text) {
+  const known = readings.find((reading) => reading.text === text);
+  if (known) return known.program;
+  const program = programIn(text);
+  readings.unshift({ text, program });
+  readings.length = Math.min(readings.length, KEPT);
+  return program;
 }
 
 /** The commands of a body and all their parts, each before its parts, in the order of their numbers. */

@@ -44,13 +44,8 @@ export function starts() {
   return read.starts;
 }
 
-let parsed = { text: null, program: null };
-
 /** The program as the page reads it; null where it is none. */
-export function programNow() {
-  if (parsed.text !== state.program) parsed = { text: state.program, program: readProgram(state.program) };
-  return parsed.program;
-}
+export const programNow = () => readProgram(state.program);
 
 /** The mitigates of the program, in its order; none where it is no program. */
 export function mitigatesNow() {

@@ -69,3 +69,13 @@ test('commands are put into a mitigate', () => {
   const wanted = '  mitigate (8, H) {\n    x := 1;\n    while x do {\n      skip\n    }\n  };\n  y := 1';
   assert.equal(wrapped(text, program.body[0], program.body[1], 8, 'H'), wanted);
 });
+
+test('a text is read once, and each text for itself', () => {
+  const text = (number) => `var l : L;\nl := ${number}\n`, read = readProgram(text(1));
+  assert.equal(readProgram(text(1)), read);
+  for (const number of [1, 2, 3, 1, 22]) {
+    const { at, end } = readProgram(text(number)).body[0].value;
+    assert.equal(text(number).slice(at, end), String(number));
+  }
+  assert.equal(readProgram('var'), null);
+});

@@ -62,7 +62,7 @@ test('a yes that says nothing, or little, is not praised', () => {
 
 test('a no has its reason, its place and the variable to blame, and is no leak', () => {
   const html = steadyText(no, { isRefused: false, labels, declaredAt: { line: 4, column: 5 } }), text = plain(html);
-  assert.match(text, /^Not known to be, for an observer at L Since the guard at 10:1 goes by same , which is declared /);
+  assert.match(text, /^Not known to be, for an observer at L Since the guard at 10:1 goes by same , which is declared/);
   assert.match(text, /Go on to the end whatever is found, .* A no is no leak: .* so what its runs tell is bounded\.$/);
   assert.match(html, /data-place="10:1" aria-label="Go to 10:1, which may let a secret change what is seen, or when"/);
   assert.match(html, /data-place="4:5" aria-label="same, declared at 4:5">same</);
@@ -78,7 +78,7 @@ test('each reason has its words', () => {
   assert.match(of('sleep'), /^how long the sleep at 10:1 lasts goes by same/);
   assert.match(of('estimate'), /^the estimate at 10:1 goes by same .* how long its mitigate lasts\.$/);
   assert.match(of('assigned'), /^what is assigned at 10:1 goes by same , which is declared H , and L sees it\.$/);
-  assert.match(plain(noText({ ...no, isDeclared: false }, labels)), /^the guard at 10:1 goes by same , which has to be /);
+  assert.match(plain(noText({ ...no, isDeclared: false }, labels)), /^the guard at 10:1 goes by same , which has to/);
   assert.match(plain(noText({ ...no, reason: 'read label', variable: null }, labels)),
     /^the command at 10:1 has a read label, and what environments keep for H need not agree\.$/);
   assert.equal(of('jump'), 'jump at 10:1 .');

@@ -102,13 +102,13 @@ return costs.sort((a, b) => a - b);
 """
 
 
-def cost_of_a_key(page, size):
-    """The middle and the greatest of 30 keys, in milliseconds."""
+def costs_of_keys(page, size):
+    """What 30 keys cost on the clock, in milliseconds, the quickest first."""
     page.write(program_of(size), "[[run]]\n")
     page.browser.wait("return document.getElementById('answer').getAttribute('aria-busy') === 'false'", 60, "an answer")
     costs = page.run(COST)
     page.idle()
-    return costs[len(costs) // 2], costs[-1]
+    return costs
 
 
 def thread_time(page):
@@ -134,15 +134,22 @@ def typed_cost(page, size, keys=20):
 
 
 def keys_are_cheap(page):
-    """With room for a machine that does other things too: page/README.md tells what was measured."""
-    for size, most in ((10_000, 150), (200_000, 300)):
-        middle, _ = cost_of_a_key(page, size)
-        holds(middle <= most, f"a key costs {middle:.1f} ms at {size} bytes")
+    """What a typed key costs in processor time, which other programs change little; on the clock, where Firefox tells no
+    such time, the key that a quarter of 30 keys do not pass. The limits leave room for a machine that does other things:
+    page/README.md tells what was measured."""
+    for size, most in ((10_000, 60), (200_000, 90)):
+        if page.browser.name == "chromium":
+            cost = typed_cost(page, size)
+        else:
+            costs = costs_of_keys(page, size)
+            cost = costs[len(costs) // 4]
+        holds(cost <= most, f"a key costs {cost:.1f} ms at {size} bytes")
 
 
 def measure(page):
     for size in (10_000, 59_000, 200_000):
-        middle, most = cost_of_a_key(page, size)
+        costs = costs_of_keys(page, size)
+        middle, most = costs[len(costs) // 2], costs[-1]
         more = f", typed {typed_cost(page, size):.1f} ms of processor" if page.browser.name == "chromium" else ""
         print(f"  {size} bytes: a key costs {middle:.1f} ms, at most {most:.1f}{more}")
 
