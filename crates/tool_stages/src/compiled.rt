@@ -32,7 +32,6 @@ pub struct Compiled {
 ///
 /// # Errors
 /// Stops with the first refusal, or with `Memory`.
-#[inline(never)]
 pub fn compile_program(
     alloc: Global,
     program: Program,
@@ -57,7 +56,6 @@ pub fn compile_program(
 ///
 /// # Errors
 /// Stops with the first refusal, or with `Memory`.
-#[inline(never)]
 pub fn compile<S: Shelf>(
     alloc: Global,
     shelf: &mut S,
