@@ -5,4 +5,3 @@ pub mod Leasts
 pub mod Going
 pub mod Taking
 pub mod NoteLemmas
-pub mod Walking

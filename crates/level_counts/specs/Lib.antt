@@ -1,4 +1,3 @@
-pub mod Apart
 pub mod Estimates
 pub mod Begun
 pub mod Noted

@@ -2,7 +2,6 @@
 //! of their first predictions.
 #![tactic(auto)]
 
-pub mod apart;
 mod estimates;
 pub mod levels;
 mod note;

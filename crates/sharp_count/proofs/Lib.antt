@@ -6,5 +6,4 @@ pub mod Listing
 pub mod Ways
 pub mod Alike
 pub mod Shares
-pub mod Lone
 pub mod Table

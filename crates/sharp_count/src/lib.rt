@@ -6,6 +6,5 @@ pub mod count;
 pub mod laws;
 pub mod lists;
 pub mod shared;
-pub mod shared_product;
 #[cfg(test)]
 mod tests;
