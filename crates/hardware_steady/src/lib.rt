@@ -1,0 +1,4 @@
+//! The worth of a yes of `lab steady` on machines.
+#![tactic(auto)]
+
+pub mod laws;
