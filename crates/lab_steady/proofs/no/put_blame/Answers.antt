@@ -8,7 +8,7 @@ use Rattle.lab_steady.proofs.no.put_blame.Goals as goal
 pub returns : goal.returns
 returns c =
     blame_put c.args.p.now c.args.observer.number c.args.lines.now c.args.variable c.in-Some.x c.program-2.result.now c.variable-label.result.number
-    c.args.out.now.items c.put_flow.new.out.items c.extend_from_slice.new.self.items
+    c.args.out.now.items c.put_flow.new.out.items c.extend_from_slice-2.new.self.items
     c.program-2.ensures.program
     (c.variable-label.ensures
     ∙ ap (λ (z : Order). variable_of z c.labels.result.now c.in-Some.x) (c.lattice.ensures ∙ ap (λ (z : Syntax). z.order) c.program.ensures.program)
