@@ -72,7 +72,7 @@ fn next_shown<'a>(word: &str, rest: &'a [String]) -> Option<&'a [u8]>
 
 // What stands before such a word.
 fn gap(next: Option<&[u8]>) -> &'static [u8]
-    ensures { result.now ≡ gap (option_map (λ t. t.now) next) }
+    ensures { result.now ≡ gap (option_map (λ t. t.now) next.entry) }
 {
     match next {
         Some(_) => b" ",
@@ -81,7 +81,7 @@ fn gap(next: Option<&[u8]>) -> &'static [u8]
 }
 
 fn told<'a>(next: Option<&'a [u8]>) -> &'a [u8]
-    ensures { result.now ≡ told (option_map (λ t. t.now) next) }
+    ensures { result.now ≡ told (option_map (λ t. t.now) next.entry) }
 {
     match next {
         Some(word) => word,
