@@ -95,4 +95,6 @@ def help_text(name=""):
     if not name:
         return "".join(f"lab {command.name:<9} {command.says}\n" for command in commands("lab"))
     command = next(command for command in commands("lab") if command.name == name)
-    return "".join(line + "\n" for line in [f"usage: {form_of(command)}", command.says, *(line_of(command, part) for part in command.parts())])
+    return "".join(
+        line + "\n" for line in [f"usage: {form_of(command)}", command.says, *(line_of(command, part) for part in command.parts())]
+    )

@@ -1,14 +1,15 @@
 -- The line on words that ask for nothing: its pieces, and that all words can be taken where each can stand.
-use Rattle.std.proofs.Common.{◌≡◌, ◌∙◌, refl, sym, ap, ap₂, ℕ, ◌+◌, ◌<◌, ◌≤◌, arith, List, [], ◌∷◌, ◌++◌, append_assoc, length, take, map, String, string_bytes}
-use Rattle.std.proofs.Common.{Bool, true, false, ◌&&◌, ◌||◌, subst, Some, None}
-use Rattle.std.proofs.lemmas.List.{length-map, take_all}
+use Rattle.std.proofs.Common.{◌≡◌, ◌∙◌, refl, sym, ap, ap₂, ℕ, ◌+◌, ◌<◌, ◌≤◌, arith, List, [], ◌∷◌, ◌++◌, append_assoc, length, drop, get_or, map, String, string_bytes}
+use Rattle.std.proofs.Common.{Bool, true, false, ◌&&◌, ◌||◌, subst, ⊎_elim}
+use Rattle.std.proofs.lemmas.List.{drop-map, drop_more, take_all}
+use Rattle.std.proofs.Math.Nat.{eq-or-lt_of_le}
 use Rattle.clap.specs.Faults.{defaults_fault, walk_fault}
 use Rattle.clap.specs.Walk.{is_empty}
 use Rattle.clap.specs.Words.{App, Row, Text, fault_of, is_simple_and_free, matches_of}
 use Rattle.lab_words.specs.declared.verbs.Verb.{Verb}
 use Rattle.lab_words.specs.declared.verbs.Verb.TheVariants.{Why, Seen, Timeline, Bound, Steady, Leak, Help, Version}
 use Rattle.lab_words.specs.QuestionForms.{form_app}
-use Rattle.lab_words.specs.Refusal.{StandUpTo, has_values, loosened, is_taken, stands}
+use Rattle.lab_words.specs.Refusal.{StandUpTo, has_values, loosened, is_taken, stands, wrong_line, wrong_line_at}
 
 pub then_three : (x₀ x₁ x₂ x₃ a b c : List ℕ) → x₁ ≡ x₀ ++ a → x₂ ≡ x₁ ++ b → x₃ ≡ x₂ ++ c → x₃ ≡ x₀ ++ (a ++ (b ++ c))
 then_three x₀ x₁ x₂ x₃ a b c e₁ e₂ e₃ =
@@ -46,9 +47,6 @@ not_taken verb words a app fault =
     let at : is_empty (fault_of (loosened (form_app verb)) words) ≡ false = subst (λ (x : App). is_empty (fault_of x words) ≡ false) app fault in
     sym (ap (λ (z : Bool). z && has_values (matches_of (loosened (form_app verb)) words)) at)
 
-pub begun_all : (X : Type 0) (words : List (String X)) (end : ℕ) → (end ≤ length words → ⊥) → map string_bytes words ≡ take end (map string_bytes words)
-begun_all X words end n = sym (take_all end (map string_bytes words) (omega (arith, length-map words string_bytes, n)))
-
 -- no words can be taken after any command word
 pub none_taken : (verb : Verb) → is_taken verb [] ≡ true
 unfolding walk_fault defaults_fault
@@ -71,3 +69,17 @@ all_taken verb [] h = none_taken verb
 all_taken verb (w ∷ ws) h =
     one_of_same _ _ _ (ap (is_taken verb) (take_all (length ws + 1) (w ∷ ws) (omega arith))) (ap (is_taken verb) (take_all (length ws + 2) (w ∷ ws) (omega arith)))
     (h (length ws) (omega arith))
+
+pub stand_more : (verb : Verb) (words : List Text) (n : ℕ) → StandUpTo verb words n → stands verb words n ≡ true → StandUpTo verb words (n + 1)
+stand_more verb words n h e m i =
+    ⊎_elim (λ (q : m ≡ n). subst (λ z. stands verb words z ≡ true) (sym q) e) (λ (q : m < n). h m q) (eq-or-lt_of_le {m} {n} (omega (arith, i)))
+
+-- the word at a place, and those after it
+pub wrong_at : {Z : Type 0} (verb : Verb) (command : Text) (words : List (String Z)) (n : ℕ) (w : String Z) (text : Text) → n < length words
+    → w ≡ get_or words n w → text ≡ string_bytes w
+    → wrong_line verb command text (map string_bytes (drop (n + 1) words)) ≡ wrong_line_at verb command (drop n (map string_bytes words))
+wrong_at verb command words n w text lt is told =
+    let at : drop n (map string_bytes words) ≡ string_bytes w ∷ map string_bytes (drop (n + 1) words) =
+        drop-map string_bytes n words ∙ ap (map string_bytes) (drop_more words n w lt)
+        ∙ ap (λ z. string_bytes z ∷ map string_bytes (drop (n + 1) words)) (sym is) in
+    ap (λ t. wrong_line verb command t (map string_bytes (drop (n + 1) words))) told ∙ sym (ap (wrong_line_at verb command) at)
