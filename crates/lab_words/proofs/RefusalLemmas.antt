@@ -72,14 +72,15 @@ all_taken verb (w ∷ ws) h =
 
 pub stand_more : (verb : Verb) (words : List Text) (n : ℕ) → StandUpTo verb words n → stands verb words n ≡ true → StandUpTo verb words (n + 1)
 stand_more verb words n h e m i =
-    ⊎_elim (λ (q : m ≡ n). subst (λ z. stands verb words z ≡ true) (sym q) e) (λ (q : m < n). h m q) (eq-or-lt_of_le {m} {n} (omega (arith, i)))
+    let le : m ≤ n = omega (arith, i) in
+    ⊎_elim (λ (q : m ≡ n). subst (λ z. stands verb words z ≡ true) (sym q) e) (λ (q : m < n). h m q) (eq-or-lt_of_le le)
 
 -- the word at a place, and those after it
-pub wrong_at : {Z : Type 0} (verb : Verb) (command : Text) (words : List (String Z)) (n : ℕ) (w : String Z) (text : Text) → n < length words
-    → w ≡ get_or words n w → text ≡ string_bytes w
-    → wrong_line verb command text (map string_bytes (drop (n + 1) words)) ≡ wrong_line_at verb command (drop n (map string_bytes words))
-wrong_at verb command words n w text lt is told =
+pub wrong_at : {Z : Type 0} (verb : Verb) (command : Text) (words rest : List (String Z)) (n : ℕ) (w : String Z) (text : Text) → n < length words
+    → w ≡ get_or words n w → text ≡ string_bytes w → rest ≡ drop (n + 1) words
+    → wrong_line verb command text (map string_bytes rest) ≡ wrong_line_at verb command (drop n (map string_bytes words))
+wrong_at verb command words rest n w text lt is told more =
     let at : drop n (map string_bytes words) ≡ string_bytes w ∷ map string_bytes (drop (n + 1) words) =
         drop-map string_bytes n words ∙ ap (map string_bytes) (drop_more words n w lt)
         ∙ ap (λ z. string_bytes z ∷ map string_bytes (drop (n + 1) words)) (sym is) in
-    ap (λ t. wrong_line verb command t (map string_bytes (drop (n + 1) words))) told ∙ sym (ap (wrong_line_at verb command) at)
+    ap₂ (λ t r. wrong_line verb command t (map string_bytes r)) told more ∙ sym (ap (wrong_line_at verb command) at)
