@@ -114,14 +114,19 @@ def observers(page):
     holds("seen at B" in page.text("#starts-table"), "the head of the table")
 
 
-def all_together(page):
-    page.choose(4)
+def set_together(page):
+    """A program of three levels, with no control at its default; what was chosen, by the names of `compare`."""
     page.write(LEVELS, LEVEL_STARTS)
     page.set("#observer", "B", "change")
     page.set("#environment", "flat", "change")
     page.set("#budget", "70000")
     page.idle()
-    compare(page, observer="B", env="flat", budget="70000")
+    return {"observer": "B", "env": "flat", "budget": "70000"}
+
+
+def all_together(page):
+    page.choose(4)
+    compare(page, **set_together(page))
 
 
 def settings_of_examples(page):

@@ -2,7 +2,7 @@
 import re
 
 from driving import EXAMPLES, all_dimmed, holds, none_dimmed, same
-from trials.controls import LEVEL_STARTS, LEVELS, PROGRAMS, call
+from trials.controls import PROGRAMS, call, set_together
 
 ROWS = "return [...document.querySelectorAll('#leak-classes tbody tr')].map((row) => [...row.cells].map((one) => one.textContent))"
 WIDTHS = (
@@ -67,12 +67,7 @@ def exact_leak(page):
     page.choose(1)
     same(compare(page), 1, "classes")
     holds("one and the same thing" in page.text("#leak-sentence"), page.text("#leak-sentence"))
-    page.write(LEVELS, LEVEL_STARTS)
-    page.set("#observer", "B", "change")
-    page.set("#environment", "flat", "change")
-    page.set("#budget", "70000")
-    page.idle()
-    compare(page, observer="B", env="flat", budget="70000")
+    compare(page, **set_together(page))
 
 
 def looks_at_its_run(page):
