@@ -78,6 +78,7 @@ fn uncounted<L: Ledger>(
 ///
 /// # Errors
 /// `Memory` is want of memory; then the program comes back.
+#[inline(never)]
 pub fn infer(alloc: Global, p: Program) -> Result<Labelled, (Program, Memory)>
     ensures program { IfOk result (λ q. q.program ≡ p) }
     ensures least { IfOk result (λ q. IsLeast p q.labels) }

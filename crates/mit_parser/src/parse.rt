@@ -40,6 +40,7 @@ fn assembled(pairs: Vec<(Label, Label)>, names: Names, body: Vec<Command>) -> Pr
 /// fault of names: in the header `Twice` among the labels, then `Unknown` in the pairs, then `Lattice`; in the
 /// declarations, one after the other, `Twice`, then `Size`, then `Unknown`; then `TooMany`; then `Unknown` or
 /// `Misuse` in the commands. `Memory` may come for any tokens.
+#[inline(never)]
 pub fn parse(alloc: Global, tokens: &[Token], text: &[u8]) -> Result<Program, ParseFault>
     requires size { length text.now < 2 ^ 31 }
     requires tokens { AreTokens text.now tokens.now }

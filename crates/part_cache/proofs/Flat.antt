@@ -39,8 +39,8 @@ body_cache c good =
     go k (inr ge) = omega (arith, ap length (get_or_past (map holds c.slots.items) k [] (omega (arith, length-map c.slots.items holds))))
 
 -- ---- a touch of a set, where the rows were read as others, and its place is a number of its own
-pub place_in : (c : Inside) → IsBody c → (label tag : ℕ) → label < c.lattice.size → label * c.sets + tag % c.sets < length c.slots.items
-place_in c good label tag lt = omega (arith, good.long, mul-add-lt label c.sets (tag % c.sets) c.lattice.size lt (mod_below tag c.sets good.some_set))
+pub place_in : (c : Inside) → IsBody c → (label tag : ℕ) → label < c.lattice.value.size → label * c.sets + tag % c.sets < length c.slots.items
+place_in c good label tag lt = omega (arith, good.long, mul-add-lt label c.sets (tag % c.sets) c.lattice.value.size lt (mod_below tag c.sets good.some_set))
 
 pub place_is : (first label sets sets' set tag : ℕ) → first ≡ label → sets ≡ sets' → set ≡ tag % sets → first * sets + set ≡ label * sets' + tag % sets'
 place_is first label sets sets' set tag f n s = ap (λ l. l * sets + set) f ∙ ap (λ s. label * sets + s) s ∙ ap (λ n. label * n + tag % n) n
@@ -124,17 +124,17 @@ touched_history v w c is good tag ew lt e h s =
     subst (λ w. StandsFor w (h ++ record { label = ew; tag = tag } ∷ [])) (sym e) (StandsFor-touched v (subst IsCache is (body_cache c good)) tag ew h lt s)
 
 -- ---- a lookup
-pub look_found : (v : Rows) (c : Inside) → rows_view c ≡ v → (tag er label size : ℕ) → size ≡ c.lattice.size → label < size
-    → (lattice_of c.lattice).flows label er ≡ true → has v tag label ≡ true → found v tag er ≡ true
+pub look_found : (v : Rows) (c : Inside) → rows_view c ≡ v → (tag er label size : ℕ) → size ≡ c.lattice.value.size → label < size
+    → (lattice_of c.lattice.value).flows label er ≡ true → has v tag label ≡ true → found v tag er ≡ true
 look_found v c e tag er label size s lt f h =
-    let o : c.lattice ≡ v.order = ap (λ v. v.order) e in
-    let n : c.lattice.size ≡ v.order.size = ap (λ v. v.order.size) e in
+    let o : c.lattice.value ≡ v.order = ap (λ v. v.order) e in
+    let n : c.lattice.value.size ≡ v.order.size = ap (λ v. v.order.size) e in
     some_below_at v.order.size (λ label. (lattice_of v.order).flows label er && has v tag label) label (omega arith)
     (and_from ((lattice_of v.order).flows label er) (has v tag label) (subst (λ o. (lattice_of o).flows label er ≡ true) o f) h)
 
-pub look_own : (v : Rows) (c : Inside) → rows_view c ≡ v → (tag er : ℕ) → er < v.order.size → (lattice_of c.lattice).flows er er ≡ true
+pub look_own : (v : Rows) (c : Inside) → rows_view c ≡ v → (tag er : ℕ) → er < v.order.size → (lattice_of c.lattice.value).flows er er ≡ true
     → has v tag er ≡ true → found v tag er ≡ true
-look_own v c e tag er lt = look_found v c e tag er er c.lattice.size refl (subst (λ (v : Rows). er < v.order.size) (sym e) lt)
+look_own v c e tag er lt = look_found v c e tag er er c.lattice.value.size refl (subst (λ (v : Rows). er < v.order.size) (sym e) lt)
 
 pub look_history : (v : Rows) (c : Inside) → rows_view c ≡ v → IsBody c → (tag er : ℕ) (r : Bool) → r ≡ found v tag er → (h : List Touched) → StandsFor v h
     → r ≡ hits v.order v.sets v.ways h er tag
@@ -145,14 +145,15 @@ map_empty : (n : ℕ) (w : Ways) → held_tags w.tags ≡ [] → map holds (repl
 map_empty zero w e = refl
 map_empty (suc n) w e = rw (e, map_empty n w e) refl
 
-module _ (c : Inside) (n : ℕ) (w : Ways) (empty : held_tags w.tags ≡ []) (filled : c.slots.items ≡ replicate n w) (many : n ≡ c.lattice.size * c.sets) where
-  pub new_value : rows_view c ≡ empty_cache c.lattice c.sets c.ways
+module _ (c : Inside) (n : ℕ) (w : Ways) (empty : held_tags w.tags ≡ []) (filled : c.slots.items ≡ replicate n w)
+    (many : n ≡ c.lattice.value.size * c.sets) where
+  pub new_value : rows_view c ≡ empty_cache c.lattice.value c.sets c.ways
   new_value = ap (λ rs. record (rows_view c) { rows = rs }) (ap (map holds) filled ∙ map_empty n w empty ∙ ap (λ n. replicate n []) many)
 
   pub new_empty : StandsFor (rows_view c) []
-  new_empty = subst (λ v. StandsFor v []) (sym new_value) (StandsFor-empty_cache c.lattice c.sets c.ways)
+  new_empty = subst (λ v. StandsFor v []) (sym new_value) (StandsFor-empty_cache c.lattice.value c.sets c.ways)
 
-  pub new_body : 0 < c.sets → 0 < c.ways → c.sets ≤ 64 → c.ways ≤ 8 → c.lattice.size ≤ most_labels → AreWays w.tags → IsBody c
+  pub new_body : 0 < c.sets → 0 < c.ways → c.sets ≤ 64 → c.ways ≤ 8 → c.lattice.value.size ≤ most_labels → AreWays w.tags → IsBody c
   new_body some some' few few' labels set =
       record {
         some_set = some;

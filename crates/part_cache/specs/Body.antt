@@ -10,7 +10,7 @@ use Rattle.part_cache.specs.declared.cache.PartCache.TheInside.{Inside}
 abbrev pub rows_view : Inside → Rows
 rows_view c =
     record {
-      order = c.lattice;
+      order = c.lattice.value;
       sets = c.sets;
       ways = c.ways;
       rows = map (λ (w : Ways). held_tags w.tags) c.slots.items;
@@ -19,9 +19,9 @@ rows_view c =
 pub record IsBody (c : Inside) : Type 0 where
   pub some_set : 0 < c.sets
   pub some_way : 0 < c.ways
-  pub labels : c.lattice.size ≤ most_labels
+  pub labels : c.lattice.value.size ≤ most_labels
   pub sets_below : c.sets ≤ 64
   pub ways_below : c.ways ≤ 8
-  pub long : length c.slots.items ≡ c.lattice.size * c.sets
+  pub long : length c.slots.items ≡ c.lattice.value.size * c.sets
   pub ways_are : All (λ (w : Ways). AreWays w.tags) c.slots.items
   pub few : All (λ (w : Ways). length (held_tags w.tags) ≤ c.ways) c.slots.items

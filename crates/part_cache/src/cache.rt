@@ -15,7 +15,7 @@ use text_base::pos::Memory;
 /// A cache with a partition for each label, each of as many sets, and each set of as many ways.
 #[derive(Drop)]
 pub struct PartCache {
-    lattice: Lattice,
+    lattice: Box<Lattice>,
     sets: u32,
     ways: u32,
     slots: Vec<Ways>,
@@ -58,6 +58,7 @@ impl PartCache {
     {
         let count = lattice.size() as usize * sets as usize;
         let slots = vec![in alloc; Ways::none(); count]?;
+        let lattice = Box::new(alloc, lattice)?;
         Ok(PartCache {
             lattice,
             sets,
@@ -82,9 +83,10 @@ impl PartCache {
         requires { er.number < self.now.order.size }
         ensures { result ≡ found self.now tag er.number }
     {
-        for number in 0..self.lattice.size() {
+        let lattice: &Lattice = &self.lattice;
+        for number in 0..lattice.size() {
             let label = Label::new(number as u8);
-            if self.lattice.flows(label, er) && self.has(tag, label) {
+            if lattice.flows(label, er) && self.has(tag, label) {
                 return true;
             }
         }

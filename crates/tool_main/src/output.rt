@@ -2,20 +2,20 @@
 
 use std::rt::Files;
 
-/// When a piece of the text is handed to the system.
+/// When the text is handed to the system.
 #[derive(Clone, Copy)]
 pub enum At {
-    /// At once, so that whoever looks sees each line as it is made.
-    Once,
+    /// Where a line ends, so that whoever looks sees each line as it is made, and no line in parts.
+    EachLine,
     /// Where a buffer is full, and at the end.
     TheEnd,
 }
 
-/// To a file, which nobody looks at meanwhile, the text goes through a buffer; to a terminal or a pipe each piece goes at
+/// To a file, which nobody looks at meanwhile, the text goes through a buffer; to a terminal or a pipe each line goes at
 /// once.
 pub fn kind_of_output<R: Files>(rt: &R) -> At {
     match rt.metadata("/proc/self/fd/1") {
         Ok(found) if found.is_file() => At::TheEnd,
-        _ => At::Once,
+        _ => At::EachLine,
     }
 }

@@ -57,6 +57,7 @@ pub fn rechecked(alloc: Global, p: Program, bytes: &[u8]) -> Result<Typed, Stop>
 ///
 /// # Errors
 /// Stops with `ReadFault`, `TooLong`, `Rejected` or `Memory`.
+#[inline(never)]
 pub fn rechecked_by<S: Shelf>(
     alloc: Global,
     shelf: &mut S,

@@ -32,6 +32,7 @@ pub struct Compiled {
 ///
 /// # Errors
 /// Stops with the first refusal, or with `Memory`.
+#[inline(never)]
 pub fn compile_program(
     alloc: Global,
     program: Program,
@@ -56,6 +57,7 @@ pub fn compile_program(
 ///
 /// # Errors
 /// Stops with the first refusal, or with `Memory`.
+#[inline(never)]
 pub fn compile<S: Shelf>(
     alloc: Global,
     shelf: &mut S,

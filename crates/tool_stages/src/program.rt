@@ -77,6 +77,7 @@ pub fn program_of(alloc: Global, text: &[u8]) -> Result<Program, Stop>
 ///
 /// # Errors
 /// Stops with `ReadFault`, `TooLong`, `Syntax` or `Memory`.
+#[inline(never)]
 pub fn read_program<S: Shelf>(alloc: Global, shelf: &mut S, file: &str) -> Result<Program, Stop>
     ensures same { KeepsFiles (S.content shelf.old) (S.content shelf.new) }
     ensures later { NoCountFalls (S.faults shelf.old) (S.faults shelf.new) }

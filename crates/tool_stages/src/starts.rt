@@ -56,6 +56,7 @@ pub fn starts_of(alloc: Global, bytes: &[u8], p: &Program) -> Result<Vec<Start>,
 ///
 /// # Errors
 /// Stops with `ReadFault`, `TooLong`, `Starts` or `Memory`.
+#[inline(never)]
 pub fn all_starts<S: Shelf>(
     alloc: Global,
     shelf: &mut S,

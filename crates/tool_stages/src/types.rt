@@ -42,6 +42,7 @@ fn type_stop(p: &Labelled, fault: TypeFault) -> Stop
 ///
 /// # Errors
 /// Stops with `Refused` where no labelling types the program, or with `Memory`.
+#[inline(never)]
 pub fn typed(alloc: Global, p: Program) -> Result<Typed, Stop>
     ensures ok { IfOk result (λ q. Types p q.labelled) }
     ensures stop { IfErr result (IsStop (TypeStops p)) }

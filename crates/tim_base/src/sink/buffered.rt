@@ -9,6 +9,10 @@ use run_watch::{RunNumber, Watch};
 use std::alloc::Global;
 use std::marker::{Brand, Model, PhantomData};
 
+mod whole_lines;
+
+pub use whole_lines::WholeLines;
+
 #[cfg(test)]
 mod tests;
 
