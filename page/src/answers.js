@@ -52,9 +52,9 @@ export function readAudit(text) {
     const bound = /^bound (\d+)\^(\d+)$/.exec(line), run = /^run (\d+) class (\d+)$/.exec(line);
     const level = /^level (\S+) mitigations (\d+)(?: first (\d+) digits (\d+))?$/.exec(line);
     const count = /^(runs|budget|levels|mitigations|ended|halted|distinct|bits) (\d+)$/.exec(line);
-    const long = /^(sharp) (\d+)$/.exec(line) ?? /^(guess) at most (\d+) times as often$/.exec(line);
+    const long = /^(sharp|shared) (\d+)$/.exec(line) ?? /^(guess) at most (\d+) times as often$/.exec(line);
     const observer = /^observer (\S+)$/.exec(line),
-      tooMuch = /^(sharp|bits) \S+ or more$|^guess no limit told$/.test(line);
+      tooMuch = /^(sharp|shared|bits) \S+ or more$|^guess no limit told$/.test(line);
     const end = /^end (counted|not counted): /.exec(line);
     if (bound) Object.assign(found, { base: Number(bound[1]), exponent: Number(bound[2]) });
     else if (run) found.classes.push(Number(run[2]));

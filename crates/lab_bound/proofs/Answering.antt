@@ -22,7 +22,7 @@ use Rattle.tool_stages.specs.Envs.{ReportsIn}
 use Rattle.tool_stages.proofs.ChainLemmas.{prepared_done, prepares_no_fault}
 use Rattle.audit_stage.specs.Audited.{AuditStops}
 use Rattle.audit_stage.proofs.Once.{audit_goes}
-use Rattle.lab_bound.specs.Text.{BoundPut, IsBoundText, EndPut}
+use Rattle.lab_bound.specs.Text.{BoundPut, IsBoundText, SharedPut, IsSharedText, EndPut}
 use Rattle.lab_bound.specs.Answer.{HasBound, Bounds, IsBoundAnswer}
 use Rattle.lab_bound.specs.Complete.{CanBound}
 
@@ -31,11 +31,12 @@ abbrev pub bound_next : EnvName → ℕ → Syntax → LabelledProgram → Optio
 bound_next e t p q o code ss = HasBound e t q o ss
 
 pub bound_tells : (e : EnvName) (t : ℕ) (q : LabelledProgram) (l : Label) (xs ss : List StartValue) (r : AuditReport) (levels found : List LevelRuns)
-    (order : Order) (none audited x y : List ℕ) →
+    (order : Order) (none audited x y z : List ℕ) →
     ReportsIn e q l.number t ss r → xs ≡ ss → AreTold q l.number (memories_of xs) levels → order ≡ q.program.order → none ≡ []
-    → audited ≡ none ++ audit_lines order l t r → found ≡ levels → BoundPut order l.number t found audited x → EndPut q l.number x y →
-    HasBound e t q (Some l) ss status.Done y
-bound_tells e t q l xs ss r levels found order none audited x y reports same told is empty a e' put end =
+    → audited ≡ none ++ audit_lines order l t r → found ≡ levels → BoundPut order l.number t found audited x
+    → SharedPut q l.number t found x y → EndPut q l.number y z →
+    HasBound e t q (Some l) ss status.Done z
+bound_tells e t q l xs ss r levels found order none audited x y z reports same told is empty a e' put shared end =
     let rest = put.0 in
     let text : IsBoundText q.program.order l.number t levels rest =
     subst (λ (z : Order). IsBoundText z l.number t levels rest) is (subst (λ z. IsBoundText order l.number t z rest) e' put.1) in
@@ -49,9 +50,11 @@ bound_tells e t q l xs ss r levels found order none audited x y reports same tol
         subst (λ (z : List StartValue). AreTold q l.number (memories_of z) levels) same told,
         rest,
         text,
+        shared.0,
+        subst (λ (w : List LevelRuns). IsSharedText q l.number t w shared.0) e' shared.1,
         end.0,
         end.1,
-        end.2 ∙ ap (λ z. z ++ end.0) (put.2 ∙ ap (λ z. z ++ rest) before),
+        end.2 ∙ ap (λ w. w ++ end.0) (shared.2 ∙ ap (λ w. w ++ shared.0) (put.2 ∙ ap (λ w. w ++ rest) before)),
       ),
     )
 

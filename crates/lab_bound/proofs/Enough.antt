@@ -26,13 +26,18 @@ use Rattle.leak_bound.specs.Sound.{bound, FirstBegins}
 use Rattle.leak_bound.specs.Source.{IsTypedWith}
 use Rattle.sharp_count.specs.declared.count.LevelRuns.{LevelRuns}
 use Rattle.sharp_count.specs.Count.{rising, sharp, fitting}
-use Rattle.sharp_count.specs.Levels.{told_of, counts_of}
+use Rattle.sharp_count.specs.Levels.{counts_of, firsts_of}
+use Rattle.sharp_count.specs.Shared.{shared_by, shared, shared_of}
 use Rattle.sharp_count.proofs.Fitting.{told}
+use Rattle.sharp_count.proofs.Lone.{shared_is_enough}
+use Rattle.sharp_count.proofs.Ways.{ways, are_ways}
 use Rattle.sharp_bound.specs.Firsts.{PredictsNext, PredictsBy}
 use Rattle.sharp_bound.specs.Sharp.{SharpSound, FewHalted, BeginsEach, relevant_at, ends_by}
 use Rattle.sharp_bound.specs.Guess.{FewShown}
 use Rattle.sharp_bound.specs.End.{seen_to_end}
-use Rattle.sharp_history.specs.Over.{LoweredSharpOver, LoweredSharpEndOver}
+use Rattle.sharp_bound.specs.Shared.{FewShared}
+use Rattle.sharp_bound.proofs.Guess.{few_shown}
+use Rattle.sharp_history.specs.Over.{LoweredSharpOver, LoweredSharpEndOver, LoweredSharedOver}
 use Rattle.start_file.specs.Starts.{StartValue}
 use Rattle.leak_audit.specs.Agreement.{starts_of}
 use Rattle.leak_audit.specs.Sequences.{same_sequence}
@@ -47,7 +52,7 @@ use Rattle.tool_words.specs.declared.words.EnvName.{EnvName}
 use Rattle.tool_stages.specs.Stages.{Types}
 use Rattle.tool_stages.specs.Envs.{environment}
 use Rattle.tool_stages.proofs.SoundLemmas.{typed_made}
-use Rattle.lab_bound.specs.Text.{sharp_of}
+use Rattle.lab_bound.specs.Text.{sharp_of, AreApart}
 use Rattle.lab_bound.specs.Enough.{AllAreEnough}
 use Rattle.lab_bound.proofs.Bare.{bare_after}
 
@@ -66,6 +71,11 @@ predicts_next rel ls firsts (Mitigate w k l e c r) m h = h k (prediction (value_
 same_product : (values c d : ℕ → ℕ) (n : ℕ) → ((l : ℕ) → c l ≡ d l) → sharp values n c ≡ sharp values n d
 same_product values c d zero h = refl
 same_product values c d (suc l) h = ap (λ z. rising (values l) z * sharp values l c) (h l) ∙ ap (λ z. rising (values l) (d l) * z) (same_product values c d l h)
+
+same_shares : (t : ℕ) (firsts c d : ℕ → ℕ) (n : ℕ) → ((l : ℕ) → c l ≡ d l) → shared t firsts n c ≡ shared t firsts n d
+same_shares t firsts c d zero h = refl
+same_shares t firsts c d (suc l) h =
+    ap (λ z. shared_by t (firsts l) z * shared t firsts l c) (h l) ∙ ap (λ z. shared_by t (firsts l) (d l) * z) (same_shares t firsts c d l h)
 
 -- where nothing begins, there is one list
 one_list : (values c : ℕ → ℕ) (n : ℕ) → ((l : ℕ) → c l ≡ 0) → sharp values n c ≡ 1
@@ -93,17 +103,14 @@ module _ {E : Type 0} (v : Env E) (serves : Order → E → Type 0) (made : Orde
   abbrev Rel : ℕ → Bool
   Rel = is_relevant (order_of q) (labels_of q) (levels_of q) o (plan_of q.program)
 
-  abbrev FirstsOf : List LevelRuns → ℕ → ℕ
-  FirstsOf levels l = (told_of levels l).first
-
   predicts_each : (ss : List StartValue) (levels : List LevelRuns)
       → ((l x : ℕ) → PredictedIn (relevant_at (order_of q) (labels_of q) (levels_of q) o (plan_of q.program) l) (plan_of q.program) (memories_of ss) x
-      → FirstsOf levels l ≤ x) →
-      Each (λ s. PredictsBy v (order_of q) (labels_of q) (levels_of q) (lowered q).instrs (plan_of q.program) o t (FirstsOf levels) s)
+      → firsts_of levels l ≤ x) →
+      Each (λ s. PredictsBy v (order_of q) (labels_of q) (levels_of q) (lowered q).instrs (plan_of q.program) o t (firsts_of levels) s)
       (starts_of made q.program.order ss)
   predicts_each [] levels h = tt
   predicts_each (s ∷ ss) levels h = (
-    λ n lt. predicts_next Rel (levels_of q) (FirstsOf levels) (source_steps n (source_start (commands_of (plan_of q.program)) s.memory)).todo
+    λ n lt. predicts_next Rel (levels_of q) (firsts_of levels) (source_steps n (source_start (commands_of (plan_of q.program)) s.memory)).todo
         (source_steps n (source_start (commands_of (plan_of q.program)) s.memory)).memory
         (λ k x is in'. h (levels_of q k) x (inl (
           n,
@@ -132,7 +139,7 @@ module _ {E : Type 0} (v : Env E) (serves : Order → E → Type 0) (made : Orde
       → AreTold q o (memories_of ss) levels → (same : V → V → Bool) → Tests same →
       FewShown view same (starts_of made q.program.order ss) (sharp_of t levels)
   few_told {V} view few ss r levels is h same tests =
-      let firsts = FirstsOf levels in
+      let firsts = firsts_of levels in
       let some = few (starts_of made q.program.order ss) is.agree is.halted firsts (predicts_each ss levels (λ l x k. (h.first l).least x k)) same tests in
       let counts = some.0 in
       let size : q.program.order.size ≡ length levels = sym h.size in
@@ -141,14 +148,43 @@ module _ {E : Type 0} (v : Env E) (serves : Order → E → Type 0) (made : Orde
       (counts_same ss levels counts (each_memory (λ m. BeginsEach (order_of q) (labels_of q) (levels_of q) o (plan_of q.program) m counts) ss some.1) h.begun)
     where
       go : (ss : List StartValue) (levels : List LevelRuns) (counts : ℕ → ℕ)
-          → FewShown view same (starts_of made q.program.order ss) (sharp (ends_by t (FirstsOf levels)) (length levels) counts)
+          → FewShown view same (starts_of made q.program.order ss) (sharp (ends_by t (firsts_of levels)) (length levels) counts)
           → (ss ≡ []) ⊎ ((l : ℕ) → counts l ≡ counts_of levels l) → FewShown view same (starts_of made q.program.order ss) (sharp_of t levels)
       go ss levels counts some (inl none) =
           subst (λ (z : List StartValue). FewShown view same (starts_of made q.program.order z) (sharp_of t levels)) (sym none)
           (record { count = omega arith; best_few = λ w. omega arith; guess = λ w g. omega arith })
       go ss levels counts some (inr alike) =
           subst (FewShown view same (starts_of made q.program.order ss))
-          (same_product (ends_by t (FirstsOf levels)) counts (counts_of levels) (length levels) alike) some
+          (same_product (ends_by t (firsts_of levels)) counts (counts_of levels) (length levels) alike) some
+
+  -- the same by shared time, where relevant mitigates stand apart
+  shared_told : {V : Type 0} (view : Start E → V)
+      → FewShared v q.program.order (serves q.program.order) (labels_of q) (levels_of q) (lowered q).instrs (plan_of q.program) o t view → AreApart q o →
+      (ss : List StartValue) (r : AuditReport) (levels : List LevelRuns) → IsReport v serves q o t (starts_of made q.program.order ss) r
+      → AreTold q o (memories_of ss) levels → (same : V → V → Bool) → Tests same →
+      FewShown view same (starts_of made q.program.order ss) (shared_of t levels)
+  shared_told {V} view few apart ss r levels is h same tests =
+      let firsts = firsts_of levels in
+      let some = few apart (starts_of made q.program.order ss) is.agree is.halted firsts
+      (predicts_each ss levels (λ l x k. (h.first l).least x k)) same tests in
+      let counts = some.0 in
+      let size : q.program.order.size ≡ length levels = sym h.size in
+      let are = are_ways t firsts q.program.order.size counts in
+      let way = some.2 (ways t firsts q.program.order.size counts) are in
+      let enough = (shared_is_enough t firsts q.program.order.size counts (ways t firsts q.program.order.size counts) are).0 in
+      go ss levels counts
+      (subst (λ n. FewShown view same (starts_of made q.program.order ss) (shared t firsts n counts)) size
+      (few_shown view same tests (starts_of made q.program.order ss) (shared t firsts q.program.order.size counts) (le_trans way.count enough)))
+      (counts_same ss levels counts (each_memory (λ m. BeginsEach (order_of q) (labels_of q) (levels_of q) o (plan_of q.program) m counts) ss some.1) h.begun)
+    where
+      go : (ss : List StartValue) (levels : List LevelRuns) (counts : ℕ → ℕ)
+          → FewShown view same (starts_of made q.program.order ss) (shared t (firsts_of levels) (length levels) counts)
+          → (ss ≡ []) ⊎ ((l : ℕ) → counts l ≡ counts_of levels l) → FewShown view same (starts_of made q.program.order ss) (shared_of t levels)
+      go ss levels counts some (inl none) =
+          subst (λ (z : List StartValue). FewShown view same (starts_of made q.program.order z) (shared_of t levels)) (sym none)
+          (record { count = omega arith; best_few = λ w. omega arith; guess = λ w g. omega arith })
+      go ss levels counts some (inr alike) =
+          subst (FewShown view same (starts_of made q.program.order ss)) (same_shares t (firsts_of levels) counts (counts_of levels) (length levels) alike) some
 
   each_with : (ms : List (List ℤ)) (c d : ℕ → ℕ) → ((l : ℕ) → c l ≡ d l)
       → Each (λ m. BeginsEach (order_of q) (labels_of q) (levels_of q) o (plan_of q.program) m c) ms
@@ -159,7 +195,7 @@ module _ {E : Type 0} (v : Env E) (serves : Order → E → Type 0) (made : Orde
   -- where nothing begins, the sharp count and the bound are 1
   no_more : (levels : List LevelRuns) (k : ℕ) → ((l : ℕ) → counts_of levels l ≡ 0) → k ≡ 0 → sharp_of t levels ≤ bound q.program.order o t k
   no_more levels k begun none =
-      let one : sharp_of t levels ≡ 1 = one_list (ends_by t (FirstsOf levels)) (counts_of levels) (length levels) begun in
+      let one : sharp_of t levels ≡ 1 = one_list (ends_by t (firsts_of levels)) (counts_of levels) (length levels) begun in
       let other : bound q.program.order o t k ≡ 1 =
       ap (λ z. (z + 1) ^ (count_not_below (lattice_of q.program.order) o q.program.order.size * digits t)) none
       ∙ one_power (count_not_below (lattice_of q.program.order) o q.program.order.size * digits t) in
@@ -177,7 +213,7 @@ module _ {E : Type 0} (v : Env E) (serves : Order → E → Type 0) (made : Orde
       (ss : List StartValue) (r : AuditReport) (levels : List LevelRuns) → IsReport v serves q o t (starts_of made q.program.order ss) r
       → AreTold q o (memories_of ss) levels → Found ss levels
   found sound low some ss r levels is h =
-      let firsts = FirstsOf levels in
+      let firsts = firsts_of levels in
       let few = sound.few o low t some (starts_of made q.program.order ss) is.agree is.halted firsts (predicts_each ss levels (λ l x k. (h.first l).least x k))
       same_sequence tests_sequences in
       let counts = few.0 in
@@ -191,9 +227,9 @@ module _ {E : Type 0} (v : Env E) (serves : Order → E → Type 0) (made : Orde
     where
       go : (ss : List StartValue) (levels : List LevelRuns) (counts : ℕ → ℕ) → AreTold q o (memories_of ss) levels
           → Each (λ m. BeginsEach (order_of q) (labels_of q) (levels_of q) o (plan_of q.program) m counts) (memories_of ss) →
-          FewShown (sequence_from v q o t) same_sequence (starts_of made q.program.order ss) (sharp (ends_by t (FirstsOf levels)) (length levels) counts)
+          FewShown (sequence_from v q o t) same_sequence (starts_of made q.program.order ss) (sharp (ends_by t (firsts_of levels)) (length levels) counts)
           → ((k : ℕ) → FirstBegins (order_of q) (labels_of q) (levels_of q) o (plan_of q.program) (starts_of made q.program.order ss) k
-          → sharp (ends_by t (FirstsOf levels)) (length levels) counts ≤ bound q.program.order o t k)
+          → sharp (ends_by t (firsts_of levels)) (length levels) counts ≤ bound q.program.order o t k)
           → (ss ≡ []) ⊎ ((l : ℕ) → counts l ≡ counts_of levels l) → Found ss levels
       go ss levels counts h each few within (inl none) =
           let begun : (l : ℕ) → counts_of levels l ≡ 0 =
@@ -208,9 +244,9 @@ module _ {E : Type 0} (v : Env E) (serves : Order → E → Type 0) (made : Orde
           record {
             begun = each_with (memories_of ss) counts (counts_of levels) same each;
             few = subst (FewShown (sequence_from v q o t) same_sequence (starts_of made q.program.order ss))
-                (same_product (ends_by t (FirstsOf levels)) counts (counts_of levels) (length levels) same) few;
+                (same_product (ends_by t (firsts_of levels)) counts (counts_of levels) (length levels) same) few;
             within = λ k first. subst (λ z. z ≤ bound q.program.order o t k)
-                (same_product (ends_by t (FirstsOf levels)) counts (counts_of levels) (length levels) same) (within k first);
+                (same_product (ends_by t (firsts_of levels)) counts (counts_of levels) (length levels) same) (within k first);
           }
 
   counted : (ss : List StartValue) (r : AuditReport) (levels : List LevelRuns) → IsReport v serves q o t (starts_of made q.program.order ss) r → Found ss levels
@@ -228,23 +264,38 @@ module _ {E : Type 0} (v : Env E) (serves : Order → E → Type 0) (made : Orde
       (power_is q.program.order o t r.mitigations (map (sequence_from v q o t) (starts_of made q.program.order ss)) r.measures is.measures)
       (f.within r.mitigations is.mitigations)
 
+-- the count by shared time is at most the sharp count
+shares_within : (t : ℕ) (levels : List LevelRuns) → shared_of t levels ≤ sharp_of t levels
+shares_within t levels =
+    let firsts = firsts_of levels in
+    let counts = counts_of levels in
+    (shared_is_enough t firsts (length levels) counts (ways t firsts (length levels) counts) (are_ways t firsts (length levels) counts)).1
+
 typed_with : (words : List Told) (p : Syntax) (q : LabelledProgram) → IsProgram words p → Types p q → IsTypedWith q
 typed_with words p q spelled types = typed_made words p q spelled types.program types.least.labels.keeps types.typed
 
 -- in each environment that `--env` names
-module _ (sharp : (e : EnvName) → LoweredSharpOver (environment e) AnyHistory) (ending : (e : EnvName) → LoweredSharpEndOver (environment e) AnyHistory) where
+module _ (sharp : (e : EnvName) → LoweredSharpOver (environment e) AnyHistory) (ending : (e : EnvName) → LoweredSharpEndOver (environment e) AnyHistory)
+    (sharing : (e : EnvName) → LoweredSharedOver (environment e) AnyHistory) where
   below : (p : Syntax) (q : LabelledProgram) (o : ℕ) → Types p q → o < p.order.size → o < q.program.order.size
   below p q o types l = subst (λ (z : Syntax). o < z.order.size) (sym types.program) l
 
   pub all_enough : AllAreEnough
   all_enough e t some words p q o ss r levels spelled types low is h =
       let v = environment e q.program.order in
-      let f = found v AnyHistory history_made q o t (sharp e q (typed_with words p q spelled types)) (below p q o types low) some ss r levels is h in
+      let is_typed = typed_with words p q spelled types in
+      let low' = below p q o types low in
+      let f = found v AnyHistory history_made q o t (sharp e q is_typed) low' some ss r levels is h in
       record {
         begun = f.begun;
         few = f.few;
         counted = counted v AnyHistory history_made q o t ss r levels is f;
         ended = λ end same tests. few_told v AnyHistory history_made q o t (seen_to_end v (order_of q) (labels_of q) (lowered q).instrs o t)
-            ((ending e q (typed_with words p q spelled types)).halted o (below p q o types low) end t some) ss r levels is h same tests;
+            ((ending e q is_typed).halted o low' end t some) ss r levels is h same tests;
+        shared = λ apart. shared_told v AnyHistory history_made q o t (sequence_from v q o t) ((sharing e q is_typed).few o low' t some) apart ss r levels is h
+            same_sequence tests_sequences;
+        shared_ended = λ apart end same tests. shared_told v AnyHistory history_made q o t (seen_to_end v (order_of q) (labels_of q) (lowered q).instrs o t)
+            ((ending e q is_typed).shared o low' end t some) apart ss r levels is h same tests;
+        shared_within = shares_within t levels;
         within = bounded v AnyHistory history_made q o t ss r levels is f;
       }

@@ -1,13 +1,15 @@
 -- Lines, one after another.
 use Rattle.std.proofs.Common.{◌≡◌, ◌<◌, ◌≤◌, ◌^◌, ℕ, ◌+◌, List, [], ◌∷◌, ◌++◌, length, append_assoc, append-nil, refl, sym, ap, ◌∙◌, subst, drop, drop-cons}
-use Rattle.std.proofs.Common.{add-one, Option, Some, codes}
+use Rattle.std.proofs.Common.{add-one, Option, Some, codes, inl, inr}
 use Rattle.std.specs.Prelude.{cond}
 use Rattle.std.proofs.lemmas.List.{drop_all}
 use Rattle.label_lattice.specs.Order.{Order, lattice_of}
 use Rattle.sharp_count.specs.declared.count.LevelRuns.{LevelRuns}
 use Rattle.sharp_count.specs.Count.{fitting}
 use Rattle.sharp_count.specs.Levels.{told_of}
-use Rattle.lab_bound.specs.Text.{level_line, level_lines, number_text, IsSharpText, SharpPut, BoundPut, sharp_of}
+use Rattle.sharp_count.specs.Shared.{shared_of}
+use Rattle.timing_types.specs.Labelled.{LabelledProgram}
+use Rattle.lab_bound.specs.Text.{level_line, level_lines, number_text, shared_line, IsSharpText, SharpPut, BoundPut, SharedPut, AreApart, sharp_of}
 
 -- the lines of the levels before the i-th stand after a text
 pub record LevelsPut (order : Order) (o t : ℕ) (levels : List LevelRuns) (old : List ℕ) (i : ℕ) (now : List ℕ) : Type 0 where
@@ -60,3 +62,11 @@ bound_put order o t levels old x new count e is put =
       (rest, subst (λ z. IsSharpText z rest) is put.1, refl),
       put.2 ∙ ap (λ z. z ++ rest) e ∙ append_assoc old (level_lines order o t 0 levels) rest,
     )
+
+-- the line of the count by shared time, or none
+pub shared_put : (q : LabelledProgram) (o t : ℕ) (levels : List LevelRuns) (old new : List ℕ) (count : Option ℕ) → AreApart q o →
+    count ≡ fitting (shared_of t levels) → new ≡ old ++ shared_line count → SharedPut q o t levels old new
+shared_put q o t levels old new count apart e is = (shared_line count, inl (apart, ap shared_line e), is)
+
+pub nothing_put : (q : LabelledProgram) (o t : ℕ) (levels : List LevelRuns) (old : List ℕ) → (AreApart q o → ⊥) → SharedPut q o t levels old old
+nothing_put q o t levels old none = ([], inr (none, refl), sym (append-nil old))

@@ -10,6 +10,7 @@ use Rattle.start_file.specs.Starts.{StartValue}
 use Rattle.sharp_count.specs.declared.count.LevelRuns.{LevelRuns}
 use Rattle.sharp_count.specs.Count.{fitting}
 use Rattle.sharp_count.specs.Levels.{told_of, counts_of}
+use Rattle.sharp_count.specs.Shared.{shared_of}
 use Rattle.sharp_bound.specs.Sharp.{relevant_at}
 use Rattle.level_counts.specs.Begun.{PredictedIn, FirstBeginsEach, AreTold, memories_of}
 use Rattle.level_counts.proofs.Leasts.{one_least}
@@ -20,7 +21,7 @@ use Rattle.tool_stages.proofs.OneLemmas.{Same}
 use Rattle.tool_stages.proofs.ChainLemmas.{prepares_one}
 use Rattle.lab_texts.proofs.LabLemmas.{one_in_lab}
 use Rattle.audit_stage.proofs.Once.{audit_stops, one_audit_stop, same_report, not_fault, same_lines}
-use Rattle.lab_bound.specs.Text.{IsBits, IsSharpText, IsBoundText, IsEndText, level_lines, number_text, sharp_of}
+use Rattle.lab_bound.specs.Text.{IsBits, IsSharpText, IsBoundText, IsSharedText, IsEndText, level_lines, number_text, shared_line, sharp_of}
 use Rattle.lab_bound.specs.Answer.{HasBound, Bounds}
 use Rattle.lab_bound.specs.Complete.{HasOneBound}
 use Rattle.lab_bound.proofs.Enough.{begins_each_one}
@@ -64,6 +65,12 @@ one_text order o t a b x y e h k =
     let rest : h.0 ≡ k.0 = one_sharp (fitting (sharp_of t b)) h.0 k.0 (subst (λ z. IsSharpText (fitting (sharp_of t z)) h.0) e h.1) k.1 in
     h.2 ∙ ap (λ z. level_lines order o t 0 z ++ h.0) e ∙ ap (λ z. level_lines order o t 0 b ++ z) rest ∙ sym k.2
 
+one_shared : (q : LabelledProgram) (o t : ℕ) (a b : List LevelRuns) (x y : List ℕ) → a ≡ b → IsSharedText q o t a x → IsSharedText q o t b y → x ≡ y
+one_shared q o t a b x y e (inl h) (inl k) = h.1 ∙ ap (λ z. shared_line (fitting (shared_of t z))) e ∙ sym k.1
+one_shared q o t a b x y e (inl h) (inr k) = absurd (k.0 h.0)
+one_shared q o t a b x y e (inr h) (inl k) = absurd (h.0 k.0)
+one_shared q o t a b x y e (inr h) (inr k) = h.1 ∙ sym k.1
+
 one_end : (q : LabelledProgram) (o : ℕ) (x y : List ℕ) → IsEndText q o x → IsEndText q o y → x ≡ y
 one_end q o x y (inl h) (inl k) = h.1 ∙ sym k.1
 one_end q o x y (inl h) (inr k) = absurd (k.0 h.0)
@@ -80,10 +87,12 @@ one_bound e t q (Some l) ss s u x y (inr h) (inr k) =
     let lines = same_lines q.program.order l t h.0 k.0 (same_report e q l.number t ss h.0 k.0 h.1 k.1) in
     let levels = one_told q l.number (memories_of ss) h.2.1 k.2.1 h.2.2 k.2.2 in
     let rest = one_text q.program.order l.number t h.2.1 k.2.1 h.2.3 k.2.3 levels h.2.4 k.2.4 in
-    let last = one_end q l.number h.2.5 k.2.5 h.2.6 k.2.6 in (
+    let line = one_shared q l.number t h.2.1 k.2.1 h.2.5 k.2.5 levels h.2.6 k.2.6 in
+    let last = one_end q l.number h.2.7 k.2.7 h.2.8 k.2.8 in (
       h.2.0 ∙ sym k.2.0,
-      h.2.7 ∙ ap (λ z. (z ++ h.2.3) ++ h.2.5) lines ∙ ap (λ z. (audit_lines q.program.order l t k.0 ++ z) ++ h.2.5) rest
-          ∙ ap (λ z. (audit_lines q.program.order l t k.0 ++ k.2.3) ++ z) last ∙ sym k.2.7,
+      h.2.9 ∙ ap (λ z. ((z ++ h.2.3) ++ h.2.5) ++ h.2.7) lines ∙ ap (λ z. ((audit_lines q.program.order l t k.0 ++ z) ++ h.2.5) ++ h.2.7) rest
+          ∙ ap (λ z. ((audit_lines q.program.order l t k.0 ++ k.2.3) ++ z) ++ h.2.7) line
+          ∙ ap (λ z. ((audit_lines q.program.order l t k.0 ++ k.2.3) ++ k.2.5) ++ z) last ∙ sym k.2.9,
     )
 
 pub one_bound_in_lab : HasOneBound

@@ -15,9 +15,10 @@ use Rattle.tool_stages.specs.Begins.{Prepares}
 use Rattle.tool_stages.specs.Envs.{ReportsIn}
 use Rattle.lab_texts.specs.InLab.{InLab}
 use Rattle.audit_stage.specs.Audited.{AuditStops}
-use Rattle.lab_bound.specs.Text.{IsBoundText, IsEndText}
+use Rattle.lab_bound.specs.Text.{IsBoundText, IsSharedText, IsEndText}
 
--- the lines of the audit's report, then what is told of the levels and the sharp count, and then whether the end is counted
+-- the lines of the audit's report, then what is told of the levels and the sharp count, then the count by shared time, and then
+-- whether the end is counted
 abbrev pub HasBound : EnvName → ℕ → LabelledProgram → Option Label → List StartValue → Status → List ℕ → Type 0
 HasBound e t q None ss = λ s x. ⊥
 HasBound e t q (Some l) ss =
@@ -25,7 +26,8 @@ HasBound e t q (Some l) ss =
     (s ≡ status.Done)
     × (levels : List LevelRuns) × AreTold q l.number (memories_of ss) levels
     × (rest : List ℕ) × IsBoundText q.program.order l.number t levels rest
-    × (last : List ℕ) × IsEndText q l.number last × (x ≡ (audit_lines q.program.order l t r ++ rest) ++ last))
+    × (line : List ℕ) × IsSharedText q l.number t levels line
+    × (last : List ℕ) × IsEndText q l.number last × (x ≡ ((audit_lines q.program.order l t r ++ rest) ++ line) ++ last))
 
 -- What is told, in the order of its refusals, which are those of an audit. `Rises` tells the names whose counts of
 -- faults rose.

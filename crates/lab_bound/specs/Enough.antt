@@ -1,4 +1,4 @@
--- What the sharp count bounds.
+-- What the sharp count bounds, and the count by shared time.
 use Rattle.std.specs.Prelude.{◌≡◌, ◌≤◌, ◌<◌, ◌^◌, ℕ, List, Bool, Some}
 use Rattle.mit_syntax.specs.Program.{Syntax, plan_of}
 use Rattle.mit_parser.specs.Words.{Told}
@@ -11,6 +11,7 @@ use Rattle.leak_bound.specs.Records.{Each, Tests}
 use Rattle.sharp_count.specs.declared.count.LevelRuns.{LevelRuns}
 use Rattle.sharp_count.specs.Count.{fitting}
 use Rattle.sharp_count.specs.Levels.{counts_of}
+use Rattle.sharp_count.specs.Shared.{shared_of}
 use Rattle.sharp_bound.specs.Sharp.{BeginsEach}
 use Rattle.sharp_bound.specs.End.{seen_to_end}
 use Rattle.sharp_bound.specs.Guess.{FewShown}
@@ -23,7 +24,7 @@ use Rattle.level_counts.specs.Begun.{AreTold, memories_of}
 use Rattle.tool_words.specs.declared.words.EnvName.{EnvName}
 use Rattle.tool_stages.specs.Stages.{Types}
 use Rattle.tool_stages.specs.Envs.{environment, ReportsIn}
-use Rattle.lab_bound.specs.Text.{sharp_of, CountsEnd}
+use Rattle.lab_bound.specs.Text.{sharp_of, AreApart, CountsEnd}
 
 -- In a named environment the runs from starts show at most n different sequences up to T, and whoever sees one of them
 -- guesses the start right at most n times as often.
@@ -47,6 +48,11 @@ pub record IsEnough (e : EnvName) (q : LabelledProgram) (o t : ℕ) (ss : List S
   pub counted : (n : ℕ) → fitting (sharp_of t levels) ≡ Some n → r.measures.distinct ≤ n
   -- where the end is told as counted, the sharp count bounds what is seen of the runs with their ends
   pub ended : CountsEnd q o → FewToEndIn e q o t ss (sharp_of t levels)
+  -- where the count by shared time is told, it bounds the runs, and with their ends where these are told as counted
+  pub shared : AreApart q o → FewIn e q o t ss (shared_of t levels)
+  pub shared_ended : AreApart q o → CountsEnd q o → FewToEndIn e q o t ss (shared_of t levels)
+  -- it is at most the sharp count
+  pub shared_within : shared_of t levels ≤ sharp_of t levels
   -- the sharp count is at most the bound of the report
   pub within : sharp_of t levels ≤ r.measures.base ^ r.measures.exponent
 

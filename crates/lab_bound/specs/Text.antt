@@ -1,12 +1,18 @@
--- The lines that stand after those of an audit: what is told of each level, the sharp count, and whether the end is counted.
+-- The lines that stand after those of an audit: what is told of each level, the sharp count, the count by shared time, and
+-- whether the end is counted.
 use Rattle.std.specs.Prelude.{◌≡◌, ◌⊎◌, ◌≤◌, ◌+◌, ◌^◌, ℕ, List, [], ◌∷◌, ◌++◌, length, Option, Some, None, cond, eqb, codes, decimal}
 use Rattle.label_lattice.specs.Order.{Order, lattice_of, name_of}
-use Rattle.timing_types.specs.Labelled.{LabelledProgram, order_of, labels_of, bare_of}
+use Rattle.mit_syntax.specs.Program.{plan_of}
+use Rattle.mit_syntax.specs.Todo.{commands_of}
+use Rattle.timing_types.specs.Labelled.{LabelledProgram, order_of, labels_of, levels_of, bare_of}
+use Rattle.leak_bound.specs.Relevant.{is_relevant}
 use Rattle.sharp_count.specs.declared.count.LevelRuns.{LevelRuns}
 use Rattle.sharp_count.specs.declared.count.Runs.TheVariants.{Halted}
 use Rattle.sharp_count.specs.Count.{sharp, fitting}
 use Rattle.sharp_count.specs.Levels.{miss_counts, counts_of, values_of}
+use Rattle.sharp_count.specs.Shared.{shared_of}
 use Rattle.sharp_bound.specs.End.{EndsLow}
+use Rattle.sharp_bound.specs.Shared.{StandApart}
 
 -- ` first E digits B`, where runs begin mitigations of the level
 abbrev pub firsts_text : ℕ → LevelRuns → List ℕ
@@ -45,6 +51,21 @@ IsSharpText (Some n) x =
 abbrev pub IsBoundText : Order → ℕ → ℕ → List LevelRuns → List ℕ → Type 0
 IsBoundText order o t levels x = (rest : List ℕ) × IsSharpText (fitting (sharp_of t levels)) rest × (x ≡ level_lines order o t 0 levels ++ rest)
 
+-- no mitigate that is relevant to the observer stands in another one
+abbrev pub AreApart : LabelledProgram → ℕ → Type 0
+AreApart q o = StandApart (is_relevant (order_of q) (labels_of q) (levels_of q) o (plan_of q.program)) (commands_of (plan_of q.program))
+
+-- `shared N`; N is told where it is below 2^128
+abbrev pub shared_line : Option ℕ → List ℕ
+shared_line None = codes "shared 2^128 or more\n"
+shared_line (Some n) = number_text (codes "shared ") n ++ codes "\n"
+
+-- the count by shared time of runs that halt by T, where mitigates stand apart, and nothing where they don't
+abbrev pub IsSharedText : LabelledProgram → ℕ → ℕ → List LevelRuns → List ℕ → Type 0
+IsSharedText q o t levels x =
+    (AreApart q o × (x ≡ shared_line (fitting (shared_of t levels))))
+    ⊎ ((AreApart q o → ⊥) × (x ≡ []))
+
 -- The program can be typed with an end label that flows to the observer. A loop can be given more than one end label, and
 -- so can a program.
 abbrev pub CountsEnd : LabelledProgram → ℕ → Type 0
@@ -67,3 +88,7 @@ SharpPut count old new = (rest : List ℕ) × IsSharpText count rest × (new ≡
 -- all lines stand after a text
 abbrev pub BoundPut : Order → ℕ → ℕ → List LevelRuns → List ℕ → List ℕ → Type 0
 BoundPut order o t levels old new = (rest : List ℕ) × IsBoundText order o t levels rest × (new ≡ old ++ rest)
+
+-- the line of the count by shared time stands after a text, if there is one
+abbrev pub SharedPut : LabelledProgram → ℕ → ℕ → List LevelRuns → List ℕ → List ℕ → Type 0
+SharedPut q o t levels old new = (line : List ℕ) × IsSharedText q o t levels line × (new ≡ old ++ line)

@@ -22,8 +22,9 @@ use tool_texts::status::Status;
 
 /// Writes what an audit says of the program of a file, of the runs from the starts of another one, and of an observer;
 /// and after it for each level that does not flow to the observer how many relevant mitigations a run begins and the
-/// least of their first predictions, the sharp count of that, its bits, what it means for guessing, and whether all this
-/// holds of who sees runs end. It stops where and as an audit does.
+/// least of their first predictions, the sharp count of that, its bits, what it means for guessing, the count by shared
+/// time where relevant mitigates stand apart, and whether all this holds of who sees runs end. It stops where and as an
+/// audit does.
 ///
 /// `answered`: the status and the text are the answer, in the order of its refusals, from what the shelf is told to
 /// hold. A file may not be read only where the count of its faults rose. After a fault of the sink a prefix of the text
@@ -34,7 +35,7 @@ use tool_texts::status::Status;
 /// `complete`: what can be done is done, want of memory aside, where no count of faults rose.
 ///
 /// `enough`: the sharp count is at least the number of different sequences that the report counts, and where the end is
-/// counted, at least that of the pairs of a sequence and an end.
+/// counted, at least that of the pairs of a sequence and an end. So is the count by shared time where it is told.
 pub fn bound<S: Shelf, W: Sink>(
     alloc: Global,
     shelf: &mut S,

@@ -8,7 +8,7 @@ use tool_stages::laws::named_keep_the_laws;
 
 /// A law: the sharp count of what is told of the levels bounds the number of different sequences that the report counts,
 /// and what seeing one of them is worth to somebody who guesses the start; where the end is counted, so it does where the
-/// ends are seen too.
+/// ends are seen too. Where relevant mitigates stand apart, so does the count by shared time, which is no greater.
 pub fn sharp_counts_are_enough()
     ensures { AllAreEnough }
 {

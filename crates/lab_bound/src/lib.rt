@@ -1,9 +1,10 @@
-//! The command `bound` of the lab: what an audit says, and after it the sharp count, what it stands on, and whether it holds
-//! of who sees runs end.
+//! The command `bound` of the lab: what an audit says, and after it the sharp count, what it stands on, the count by shared
+//! time, and whether they hold of who sees runs end.
 #![tactic(auto)]
 
 pub mod bound;
 mod end;
 pub mod laws;
 mod lines;
+mod shared;
 mod text;

@@ -15,6 +15,7 @@ ghost use Rattle.lab_bound.specs.Answer.{HasBound, Bounds};
 
 use crate::end::put_end;
 use crate::lines::{put_levels, put_sharp};
+use crate::shared::put_shared;
 use audit_stage::audited::audited;
 use label_lattice::label::Label;
 use label_lattice::lattice::Lattice;
@@ -73,6 +74,9 @@ fn prepared_text<W: Watch>(
         return Err(no_memory());
     };
     let Ok(()) = put_bound(&mut text, &order, observer, budget, &levels) else {
+        return Err(no_memory());
+    };
+    let Ok(()) = put_shared(alloc, &mut text, typed, observer, budget, &levels) else {
         return Err(no_memory());
     };
     match put_end(&mut text, typed, observer) {

@@ -5,3 +5,4 @@ pub mod Leasts
 pub mod Going
 pub mod Taking
 pub mod NoteLemmas
+pub mod Walking

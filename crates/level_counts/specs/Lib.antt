@@ -1,3 +1,4 @@
+pub mod Apart
 pub mod Estimates
 pub mod Begun
 pub mod Noted

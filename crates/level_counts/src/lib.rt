@@ -2,6 +2,7 @@
 //! of their first predictions.
 #![tactic(auto)]
 
+pub mod apart;
 mod estimates;
 pub mod levels;
 mod note;

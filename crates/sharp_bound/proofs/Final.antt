@@ -530,6 +530,7 @@ module _ {E : Type 0} {serves : E → Type 0} (v : Env E) (order : Order) (g ls 
       record {
         halted = λ o low ends t some. few_halted o t some (seen_to_end v lat g image o t) (told_to_end o t ends);
         cut = λ o low ends t some. few_cut o t some (seen_to_end v lat g image o t) (told_to_end o t ends);
+        shared = λ o low ends t some. few_shared o t (seen_to_end v lat g image o t) (told_to_end o t ends);
       }
 
   pub leaves_agree : (o t : ℕ) (x y : Start E) → AgreeTo o x y → Halts v image t x → Halts v image t y → AgreeTo o (left_by v image t x) (left_by v image t y)

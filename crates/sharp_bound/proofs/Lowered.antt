@@ -120,6 +120,8 @@ module _ {E : Type 0} (v : Env E) (serves : Order → E → Type 0) where
             (plan_of q.program) (keep_commands q) o t _ (both.halted o low ends t some);
         cut = λ o low ends t some. few_cut_same v q.program.order (serves q.program.order) (labels_of q) (levels_of q) (lowered q).instrs (bare_of q)
             (plan_of q.program) (keep_commands q) o t _ (both.cut o low ends t some);
+        shared = λ o low ends t some. few_shared_same v q.program.order (serves q.program.order) (labels_of q) (levels_of q) (lowered q).instrs (bare_of q)
+            (plan_of q.program) (keep_commands q) o t _ (both.shared o low ends t some);
       }
 
   pub lowered_shared : SharpSharedAll v serves → LoweredSharedAll v serves

@@ -10,6 +10,7 @@ use Rattle.label_code.specs.Run.{Start, run_from}
 use Rattle.label_code.specs.declared.code.Instr.{Instr}
 use Rattle.leak_bound.specs.Sound.{seen_from, IsCompiled}
 use Rattle.sharp_bound.specs.Sharp.{FewHalted, FewCut}
+use Rattle.sharp_bound.specs.Shared.{FewShared}
 
 -- the cycle at which the run has ended, if it has by T
 abbrev pub end_from : {E : Type 0} → Env E → List Instr → ℕ → Start E → List ℕ
@@ -30,6 +31,9 @@ pub record SharpEnd {E M L : Type 0} (v : Env E) (order : Order) (serves : E →
       → FewHalted v order serves g ls image p o t (seen_to_end v (lattice_of order) g image o t)
   pub cut : (o : ℕ) → o < order.size → EndsLow (lattice_of order) g typed o → (t : ℕ) → 0 < t
       → FewCut v order serves g ls image p o t (seen_to_end v (lattice_of order) g image o t)
+  -- so does the count by shared time, of runs that halt
+  pub shared : (o : ℕ) → o < order.size → EndsLow (lattice_of order) g typed o → (t : ℕ) → 0 < t
+      → FewShared v order serves g ls image p o t (seen_to_end v (lattice_of order) g image o t)
 
 abbrev pub SharpEndAll : {E : Type 0} → Env E → (Order → E → Type 0) → Type 0
 SharpEndAll v serves = (order : Order) (g ls : ℕ → ℕ) (image : List Instr) (p : Marked) → IsCompiled order g ls image p

@@ -2,9 +2,9 @@ pub mod Guess
 pub mod Firsts
 pub mod Near
 pub mod Sharp
+pub mod Shared
 pub mod End
 pub mod Twice
 pub mod Sleeper
 pub mod Many
-pub mod Shared
 pub mod Lowered

@@ -4,7 +4,7 @@ use Rattle.leak_bound.specs.Records.{Each}
 use Rattle.sharp_count.specs.Lists.{IsAmong, AllDiffer}
 
 module _ {X : Type 0} where
-  each-among : (P : X → Type 0) (x : X) (xs : List X) → Each P xs → IsAmong x xs → P x
+  pub each-among : (P : X → Type 0) (x : X) (xs : List X) → Each P xs → IsAmong x xs → P x
   each-among P x [] h i = absurd i
   each-among P x (y ∷ xs) h (inl e) = subst P (sym e) h.0
   each-among P x (y ∷ xs) h (inr i) = each-among P x xs h.1 i
@@ -31,7 +31,7 @@ module _ {X : Type 0} where
           later z ne (inl q) = inl q
           later z ne (inr j) = inr (w.others z ne j)
 
-  no_longer : (xs ys : List X) → AllDiffer xs → ((x : X) → IsAmong x xs → IsAmong x ys) → length xs ≤ length ys
+  pub no_longer : (xs ys : List X) → AllDiffer xs → ((x : X) → IsAmong x xs → IsAmong x ys) → length xs ≤ length ys
   no_longer [] ys d f = omega arith
   no_longer (x ∷ xs) ys d f =
       let w = without x ys (f x (inl refl)) in

@@ -6,4 +6,5 @@ pub mod Listing
 pub mod Ways
 pub mod Alike
 pub mod Shares
+pub mod Lone
 pub mod Table

@@ -13,11 +13,11 @@ use Rattle.sharp_count.specs.Lists.{NeverFalling, IsAmong, AllDiffer}
 use Rattle.sharp_count.specs.Ways.{IsChoice, cycles_of, cycles_in, AreWays, WaysAreFew}
 use Rattle.sharp_count.proofs.Listing.{listing, length-listing, each_falls, has_all, all_differ, among_left, among_right, differ-append, each_true}
 
-abbrev Choice : Type 0
+abbrev pub Choice : Type 0
 Choice = List (List ℕ)
 
 module _ {X : Type 0} where
-  among_passed : (t : X → Bool) (x : X) (xs : List X) → t x ≡ true → IsAmong x xs → IsAmong x (filter t xs)
+  pub among_passed : (t : X → Bool) (x : X) (xs : List X) → t x ≡ true → IsAmong x xs → IsAmong x (filter t xs)
   among_passed t x [] e h = h
   among_passed t x (y ∷ xs) e (inl q) = subst (λ b. IsAmong x (cond b (y ∷ filter t xs) (filter t xs))) (sym (ap t (sym q) ∙ e)) (inl q)
   among_passed t x (y ∷ xs) e (inr h) = go (t y) (among_passed t x xs e h)
@@ -26,7 +26,7 @@ module _ {X : Type 0} where
       go true r = inr r
       go false r = r
 
-  differ_passed : (t : X → Bool) (xs : List X) → AllDiffer xs → AllDiffer (filter t xs)
+  pub differ_passed : (t : X → Bool) (xs : List X) → AllDiffer xs → AllDiffer (filter t xs)
   differ_passed t [] h = tt
   differ_passed t (x ∷ xs) h = go (t x) (differ_passed t xs h.1)
     where
@@ -40,7 +40,7 @@ before_all ms [] = []
 before_all ms (c ∷ cs) = (ms ∷ c) ∷ before_all ms cs
 
 -- each list before each choice
-abbrev pairs : List (List ℕ) → List Choice → List Choice
+abbrev pub pairs : List (List ℕ) → List Choice → List Choice
 pairs [] cs = []
 pairs (ms ∷ all) cs = before_all ms cs ++ pairs all cs
 
@@ -48,7 +48,7 @@ length-before_all : (ms : List ℕ) (cs : List Choice) → length (before_all ms
 length-before_all ms [] = refl
 length-before_all ms (c ∷ cs) = ap suc (length-before_all ms cs)
 
-length-pairs : (all : List (List ℕ)) (cs : List Choice) → length (pairs all cs) ≡ length all * length cs
+pub length-pairs : (all : List (List ℕ)) (cs : List Choice) → length (pairs all cs) ≡ length all * length cs
 length-pairs [] cs = omega arith
 length-pairs (ms ∷ all) cs =
     let one : suc (length all) * length cs ≡ length cs + length all * length cs = omega arith in
@@ -58,8 +58,8 @@ each-before_all : (P Q : Choice → Type 0) (ms : List ℕ) → ((c : Choice) �
 each-before_all P Q ms f [] h = tt
 each-before_all P Q ms f (c ∷ cs) h = (f c h.0, each-before_all P Q ms f cs h.1)
 
-each-pairs : (R : List ℕ → Type 0) (P Q : Choice → Type 0) → ((ms : List ℕ) (c : Choice) → R ms → P c → Q (ms ∷ c)) → (all : List (List ℕ)) (cs : List Choice)
-    → Each R all → Each P cs → Each Q (pairs all cs)
+pub each-pairs : (R : List ℕ → Type 0) (P Q : Choice → Type 0) → ((ms : List ℕ) (c : Choice) → R ms → P c → Q (ms ∷ c))
+    → (all : List (List ℕ)) (cs : List Choice) → Each R all → Each P cs → Each Q (pairs all cs)
 each-pairs R P Q f [] cs h k = tt
 each-pairs R P Q f (ms ∷ all) cs h k =
     Each-append Q (before_all ms cs) (pairs all cs) (each-before_all P Q ms (λ c p. f ms c h.0 p) cs k) (each-pairs R P Q f all cs h.1 k)
@@ -69,7 +69,7 @@ among-before_all ms c [] h = absurd h
 among-before_all ms c (d ∷ cs) (inl e) = inl (ap (λ z. ms ∷ z) e)
 among-before_all ms c (d ∷ cs) (inr h) = inr (among-before_all ms c cs h)
 
-among-pairs : (ms : List ℕ) (c : Choice) (all : List (List ℕ)) (cs : List Choice) → IsAmong ms all → IsAmong c cs → IsAmong (ms ∷ c) (pairs all cs)
+pub among-pairs : (ms : List ℕ) (c : Choice) (all : List (List ℕ)) (cs : List Choice) → IsAmong ms all → IsAmong c cs → IsAmong (ms ∷ c) (pairs all cs)
 among-pairs ms c [] cs h k = absurd h
 among-pairs ms c (ns ∷ all) cs (inl e) k =
     among_left (ms ∷ c) (before_all ns cs) (pairs all cs) (subst (λ z. IsAmong (z ∷ c) (before_all ns cs)) (sym e) (among-before_all ns c cs k))
@@ -92,7 +92,7 @@ differ_from ms all cs h c =
     each-pairs (λ ns. ms ≡ ns → ⊥) (λ d. Unit {0}) (λ d. ms ∷ c ≡ d
     → ⊥) (λ ns d ne u e. ne (heads ms ns c d e)) all cs h (each_true (λ d. Unit {0}) (λ d. tt) cs)
 
-differ-pairs : (all : List (List ℕ)) (cs : List Choice) → AllDiffer all → AllDiffer cs → AllDiffer (pairs all cs)
+pub differ-pairs : (all : List (List ℕ)) (cs : List Choice) → AllDiffer all → AllDiffer cs → AllDiffer (pairs all cs)
 differ-pairs [] cs h k = tt
 differ-pairs (ms ∷ all) cs h k =
     differ-append (before_all ms cs) (pairs all cs) (differ-before_all ms cs k) (differ-pairs all cs h.1 k)

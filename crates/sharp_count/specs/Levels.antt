@@ -22,5 +22,8 @@ told_of levels l = slice_index_or levels l (record { mitigations = 0; first = 0 
 abbrev pub counts_of : List LevelRuns → ℕ → ℕ
 counts_of levels l = (told_of levels l).mitigations
 
+abbrev pub firsts_of : List LevelRuns → ℕ → ℕ
+firsts_of levels l = (told_of levels l).first
+
 abbrev pub values_of : Runs → ℕ → List LevelRuns → ℕ → ℕ
 values_of runs t levels l = values_by runs t (told_of levels l).first

@@ -6,5 +6,6 @@ pub mod count;
 pub mod laws;
 pub mod lists;
 pub mod shared;
+pub mod shared_product;
 #[cfg(test)]
 mod tests;

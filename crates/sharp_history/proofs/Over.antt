@@ -42,6 +42,8 @@ module _ {E : Type 0} (v : Order → Env E) (serves : Order → E → Type 0) (l
             (plan_of q.program) (keep_commands q) o t _ (both.halted o low ends t some);
         cut = λ o low ends t some. few_cut_same (v order) order (serves order) (labels_of q) (levels_of q) (lowered q).instrs (bare_of q) (plan_of q.program)
             (keep_commands q) o t _ (both.cut o low ends t some);
+        shared = λ o low ends t some. few_shared_same (v order) order (serves order) (labels_of q) (levels_of q) (lowered q).instrs (bare_of q)
+            (plan_of q.program) (keep_commands q) o t _ (both.shared o low ends t some);
       }
 
   pub lowered_shared : LoweredSharedOver v serves

@@ -6,3 +6,4 @@ pub returns : goal.returns
 returns c =
     all_enough (λ e. c.lowered_few_sequences_sharp_of_histories.ensures.halted (environment e) (c.named_keep_the_laws.ensures e))
     (λ e. c.lowered_few_sequences_sharp_of_histories.ensures.ended (environment e) (c.named_keep_the_laws.ensures e))
+    (λ e. c.lowered_few_sequences_sharp_of_histories.ensures.shared (environment e) (c.named_keep_the_laws.ensures e))
