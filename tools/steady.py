@@ -3,6 +3,16 @@ import dataclasses
 
 COMPARISONS = ("==", "!=", "<", "<=", ">", ">=")
 
+# The form of a mend, by the reason, and for a guard by its command.
+MENDS = {
+    "if": "choose by arithmetic: x := (c != 0) * a + (c == 0) * b",
+    "while": "loop over a public number of turns: i := 0; while i < n do { ..; i := i + 1 }",
+    "index": "go through all places and choose: i := 0; while i < n do { x := x + (i == j) * a[i]; i := i + 1 }",
+    "operand": "multiply by what is short, a comparison or a number from -32768 to 32767, or choose by x := a / (c != 0) + b / (c == 0)",
+    "sleep": "sleep for a public time: sleep n",
+    "estimate": "give a public estimate: mitigate (n, H) { .. }",
+}
+
 
 @dataclasses.dataclass
 class Step:
@@ -130,7 +140,12 @@ class Judgement:
             return plain
         return found
 
-    def refusal(self, file, step, reason, parts):
+    def mend(self, step, reason):
+        """The line that shows the form of a mend, where one is known."""
+        form = MENDS.get(step.command["form"] if reason == "guard" else reason)
+        return f"mend: {form}\n" if form else ""
+
+    def refusal(self, step, reason, parts, why):
         names = self.program.lattice.names
         place = "end" if step.command is None else "{}:{}".format(*step.command["place"])
         text = f"unsteady {reason} at {place}: "
@@ -140,17 +155,16 @@ class Judgement:
         name = [name for name in reads(step.blamed) if not self.sees[name]][-1]
         label = names[self.labelling.of[name]]
         text += f"{label} does not flow to {names[self.observer]}\n"
-        if self.program.written[name] is not None:
-            return text + f"{name} is declared {label}\n"
-        return text + f"{name} is inferred {label}\nlab why {file} --of {name} tells why\n"
+        told = why(name) if self.program.written[name] is None else f"{name} is declared {label}\n"
+        return text + told + self.mend(step, reason)
 
 
-def told(program, labelling, file, observer, parts, whole):
-    """The status of `steady`, and what it writes."""
+def told(program, labelling, observer, parts, whole, why):
+    """The status of `steady`, and what it writes, where `why` tells the lines of `why --of` on a name."""
     judgement = Judgement(program, labelling, observer)
     found = judgement.fault(whole, parts)
     if found:
-        return 1, judgement.refusal(file, *found, parts)
+        return 1, judgement.refusal(*found, parts, why)
     names = program.lattice.names
     seen = sum(judgement.sees[program.name_of(x)] for x in range(len(program.names)))
     asked = "end asked" if whole else "end not asked"

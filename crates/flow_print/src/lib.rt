@@ -2,6 +2,6 @@
 #![tactic(auto)]
 
 mod lines;
-mod places;
+pub mod places;
 pub mod print;
 mod words;

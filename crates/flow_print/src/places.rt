@@ -81,8 +81,8 @@ fn next_among(text: &[u8], tokens: &[Token], q: Pos, name: &[u8]) -> Pos
     q
 }
 
-/// The kind of the token at a position among tokens.
-fn kind_among(tokens: &[Token], q: Pos) -> TokenKind
+/// The kind of the token at a position among tokens, or `End` where none begins there.
+pub fn kind_among(tokens: &[Token], q: Pos) -> TokenKind
     ensures { result ≡ kind_at tokens.now q }
 {
     for t in tokens {

@@ -3,64 +3,97 @@ use Rattle.std.proofs.Common.{◌≡◌, ◌⊎◌, ℕ, List, Bool, Option, Som
 use Rattle.std.proofs.lemmas.Option.{none-some, same_Some}
 use Rattle.label_lattice.specs.declared.label.Label.{Label}
 use Rattle.label_lattice.specs.Order.{Order, IsOrder}
+use Rattle.mit_syntax.specs.declared.token.Token.{Token}
 use Rattle.mit_syntax.specs.Program.{Syntax}
+use Rattle.mit_syntax.proofs.OneList.{one_list}
 use Rattle.timing_types.specs.Labelled.{LabelledProgram}
 use Rattle.label_infer.proofs.OneLeast.{one_labelled}
 use Rattle.parse_laws.proofs.Meant.{program_order}
 use Rattle.steady_code.specs.declared.fault.Fault.{Fault}
+use Rattle.flow_path.specs.declared.step.Spot.TheVariants.{Variable}
+use Rattle.flow_path.specs.Steps.{written}
+use Rattle.flow_print.specs.Lines.{variable_text}
 use Rattle.tool_texts.specs.declared.status.Status.{Status}
 use Rattle.tool_texts.specs.declared.status.Status.TheVariants as status
 use Rattle.tool_stages.specs.Stages.{Then, Reads, ProgramStops, ObserverStops, HasImage, ImageStops}
 use Rattle.tool_stages.specs.Content.{Content, IsKnown}
 use Rattle.tool_stages.proofs.OneFirst.{one_observer}
 use Rattle.tool_stages.proofs.OneLemmas.{Same, then_one, one_program, one_observer_stop, one_image_stop, image_or_not}
-use Rattle.tool_stages.proofs.GoesLemmas.{program_goes, observer_goes, image_goes}
+use Rattle.tool_stages.proofs.GoesLemmas.{one_told, program_goes, observer_goes, image_goes}
 use Rattle.tool_stages.proofs.ChainLemmas.{reads_one}
 use Rattle.lab_texts.specs.InLab.{InLab}
 use Rattle.lab_texts.proofs.LabLemmas.{one_in_lab}
+use Rattle.lab_why.proofs.OneOrigins.{one_text}
 use Rattle.lab_steady.specs.Judged.{IsJudged, told, top_of}
+use Rattle.lab_steady.specs.Blame.{blamed_of}
 use Rattle.lab_steady.specs.Text.{no_text}
+use Rattle.lab_steady.specs.Why.{TellsVariable, TellsBlamed, TellsNo}
 use Rattle.lab_steady.specs.Answer.{Names, Infers, IsYes, IsNo, IsAnswered, OfProgram, Steadies}
 use Rattle.lab_steady.specs.Complete.{CanJudge, SteadyGoes}
 use Rattle.lab_steady.proofs.OneJudged.{one_judged}
+use Rattle.lab_steady.proofs.Nos.{TellsBy}
 
 -- a yes or a no
-pub answers : (q : LabelledProgram) (o h : ℕ) (whole : Bool) (file : List ℕ) (s : Status) (t : List ℕ) → IsAnswered q o h whole file s t
-    → ((s ≡ status.Done) × IsYes q o h whole t) ⊎ ((s ≡ status.Refused) × IsNo q o h whole file t)
-answers q o h whole file status.Done t x = inl (refl, x)
-answers q o h whole file status.Refused t x = inr (refl, x)
-answers q o h whole file status.Syntax t x = absurd x
-answers q o h whole file status.Starts t x = absurd x
-answers q o h whole file status.Usage t x = absurd x
-answers q o h whole file status.ReadFault t x = absurd x
-answers q o h whole file status.WriteFault t x = absurd x
-answers q o h whole file status.TooLong t x = absurd x
-answers q o h whole file status.Budget t x = absurd x
-answers q o h whole file status.Disagree t x = absurd x
-answers q o h whole file status.Unfinished t x = absurd x
-answers q o h whole file status.Memory t x = absurd x
-answers q o h whole file status.Rejected t x = absurd x
+pub answers : (text : List ℕ) (q : LabelledProgram) (o h : ℕ) (whole : Bool) (s : Status) (t : List ℕ) → IsAnswered text q o h whole s t
+    → ((s ≡ status.Done) × IsYes q o h whole t) ⊎ ((s ≡ status.Refused) × IsNo text q o h whole t)
+answers text q o h whole status.Done t x = inl (refl, x)
+answers text q o h whole status.Refused t x = inr (refl, x)
+answers text q o h whole status.Syntax t x = absurd x
+answers text q o h whole status.Starts t x = absurd x
+answers text q o h whole status.Usage t x = absurd x
+answers text q o h whole status.ReadFault t x = absurd x
+answers text q o h whole status.WriteFault t x = absurd x
+answers text q o h whole status.TooLong t x = absurd x
+answers text q o h whole status.Budget t x = absurd x
+answers text q o h whole status.Disagree t x = absurd x
+answers text q o h whole status.Unfinished t x = absurd x
+answers text q o h whole status.Memory t x = absurd x
+answers text q o h whole status.Rejected t x = absurd x
 
-one_no : (q : LabelledProgram) (o h : ℕ) (whole : Bool) (file t x : List ℕ) → IsNo q o h whole file t → IsNo q o h whole file x → t ≡ x
-one_no q o h whole file t x a b =
+-- what is told of a variable is one
+one_variable : (text : List ℕ) (tokens : List Token) (q : LabelledProgram) (x : ℕ) (t u : List ℕ) → TellsVariable text tokens q x t
+    → TellsVariable text tokens q x u → t ≡ u
+one_variable text tokens q x t u = go (written q.program (Variable x))
+  where
+    go : (z : Option ℕ) → TellsBy text tokens q x t z → TellsBy text tokens q x u z → t ≡ u
+    go None h k = one_text text tokens q (variable_text q.program x) (Variable x) t u h k
+    go (Some a) h k = h ∙ sym k
+
+one_blamed : (text : List ℕ) (tokens : List Token) (q : LabelledProgram) (v : Option ℕ) (t u : List ℕ) → TellsBlamed text tokens q v t
+    → TellsBlamed text tokens q v u → t ≡ u
+one_blamed text tokens q None t u h k = h ∙ sym k
+one_blamed text tokens q (Some x) t u h k = one_variable text tokens q x t u h k
+
+one_told_no : (text : List ℕ) (tokens : List Token) (q : LabelledProgram) (o h : ℕ) (f : Fault) (t u : List ℕ) → TellsNo text tokens q o h f t
+    → TellsNo text tokens q o h f u → t ≡ u
+one_told_no text tokens q o h f t u a b =
+    a.2 ∙ ap (λ (z : List ℕ). no_text q o h tokens z f) (one_blamed text tokens q (blamed_of q o f) a.0 b.0 a.1 b.1) ∙ sym b.2
+
+one_no : (text : List ℕ) (q : LabelledProgram) (o h : ℕ) (whole : Bool) (t x : List ℕ) → IsNo text q o h whole t → IsNo text q o h whole x → t ≡ x
+one_no text q o h whole t x a b =
     let first : a.first ≡ b.first = same_Some a.first b.first (one_judged q o h whole (Some a.first) (Some b.first) a.is_first b.is_first) in
     let plain : a.plain ≡ b.plain = one_judged q o (top_of q.program.order) whole a.plain b.plain a.is_plain b.is_plain in
-    a.text ∙ ap (λ (z : Fault). no_text q o h file (told q z a.plain)) first
-    ∙ ap (λ (z : Option Fault). no_text q o h file (told q b.first z)) plain ∙ sym b.text
+    let fault : told q a.first a.plain ≡ told q b.first b.plain =
+    ap (λ (z : Fault). told q z a.plain) first ∙ ap (λ (z : Option Fault). told q b.first z) plain in
+    let tokens : a.tokens ≡ b.tokens = one_list text a.tokens b.tokens a.cut b.cut in
+    one_told_no text b.tokens q o h (told q b.first b.plain) t x
+    (subst (λ (z : Fault). TellsNo text b.tokens q o h z t) fault
+    (subst (λ (z : List Token). TellsNo text z q o h (told q a.first a.plain) t) tokens a.tells))
+    b.tells
 
-yes_or_no : (q : LabelledProgram) (o h : ℕ) (whole : Bool) (file t x : List ℕ) → IsYes q o h whole t → IsNo q o h whole file x → ⊥
-yes_or_no q o h whole file t x y n = none-some n.first (one_judged q o h whole None (Some n.first) y.0 n.is_first)
+yes_or_no : (text : List ℕ) (q : LabelledProgram) (o h : ℕ) (whole : Bool) (t x : List ℕ) → IsYes q o h whole t → IsNo text q o h whole x → ⊥
+yes_or_no text q o h whole t x y n = none-some n.first (one_judged q o h whole None (Some n.first) y.0 n.is_first)
 
-answered_one : (q : LabelledProgram) (o h : ℕ) (whole : Bool) (file : List ℕ) (s u : Status) (t x : List ℕ) → IsAnswered q o h whole file s t
-    → IsAnswered q o h whole file u x → Same s u t x
-answered_one q o h whole file s u t x a b = go (answers q o h whole file s t a) (answers q o h whole file u x b)
+answered_one : (text : List ℕ) (q : LabelledProgram) (o h : ℕ) (whole : Bool) (s u : Status) (t x : List ℕ) → IsAnswered text q o h whole s t
+    → IsAnswered text q o h whole u x → Same s u t x
+answered_one text q o h whole s u t x a b = go (answers text q o h whole s t a) (answers text q o h whole u x b)
   where
-    go : ((s ≡ status.Done) × IsYes q o h whole t) ⊎ ((s ≡ status.Refused) × IsNo q o h whole file t)
-        → ((u ≡ status.Done) × IsYes q o h whole x) ⊎ ((u ≡ status.Refused) × IsNo q o h whole file x) → Same s u t x
+    go : ((s ≡ status.Done) × IsYes q o h whole t) ⊎ ((s ≡ status.Refused) × IsNo text q o h whole t)
+        → ((u ≡ status.Done) × IsYes q o h whole x) ⊎ ((u ≡ status.Refused) × IsNo text q o h whole x) → Same s u t x
     go (inl y) (inl z) = (y.0 ∙ sym z.0, y.1.1 ∙ sym z.1.1)
-    go (inl y) (inr z) = absurd (yes_or_no q o h whole file t x y.1 z.1)
-    go (inr y) (inl z) = absurd (yes_or_no q o h whole file x t z.1 y.1)
-    go (inr y) (inr z) = (y.0 ∙ sym z.0, one_no q o h whole file t x y.1 z.1)
+    go (inl y) (inr z) = absurd (yes_or_no text q o h whole t x y.1 z.1)
+    go (inr y) (inl z) = absurd (yes_or_no text q o h whole x t z.1 y.1)
+    go (inr y) (inr z) = (y.0 ∙ sym z.0, one_no text q o h whole t x y.1 z.1)
 
 -- one label has a name
 pub one_name : (o : Order) (w : List ℕ) (a b : Label) → IsOrder o → Names o w a → Names o w b → a ≡ b
@@ -69,34 +102,46 @@ one_name o w a b order h k = same_Some a b (one_observer o (Some w) (Some a) (So
 pub one_inferred : (p : Syntax) (a b : LabelledProgram) → IsOrder p.order → Infers p a → Infers p b → a ≡ b
 one_inferred p a b o h k = one_labelled p o a b h.program k.program h.least k.least
 
-module _ (file observer parts : List ℕ) (whole : Bool) where
-  abbrev Rest : Syntax → Label → Label → Status → List ℕ → Type 0
-  Rest p o h s t =
-      (q : LabelledProgram) × Infers p q × Then (ImageStops q) (HasImage q) (λ code. IsAnswered q o.number h.number whole file) s t
+module _ (observer parts : List ℕ) (whole : Bool) where
+  abbrev Rest : List ℕ → Syntax → Label → Label → Status → List ℕ → Type 0
+  Rest text p o h s t =
+      (q : LabelledProgram) × Infers p q × Then (ImageStops q) (HasImage q) (λ code. IsAnswered text q o.number h.number whole) s t
 
-  rest_one : (p : Syntax) (o h : Label) (s u : Status) (t x : List ℕ) → IsOrder p.order → Rest p o h s t → Rest p o h u x → Same s u t x
-  rest_one p o h s u t x order a b =
+  rest_one : (text : List ℕ) (p : Syntax) (o h : Label) (s u : Status) (t x : List ℕ) → IsOrder p.order → Rest text p o h s t → Rest text p o h u x
+      → Same s u t x
+  rest_one text p o h s u t x order a b =
       let q : b.0 ≡ a.0 = one_inferred p b.0 a.0 order b.1 a.1 in
-      then_one (ImageStops a.0) (HasImage a.0) (λ code. IsAnswered a.0 o.number h.number whole file) s u t x
+      then_one (ImageStops a.0) (HasImage a.0) (λ code. IsAnswered text a.0 o.number h.number whole) s u t x
       (one_image_stop a.0 s u t x) (λ code v y. image_or_not a.0 code v y) (λ c d e f. e.0 ∙ sym f.0)
-      (λ code image. answered_one a.0 o.number h.number whole file s u t x) a.2
-      (subst (λ (z : LabelledProgram). Then (ImageStops z) (HasImage z) (λ code. IsAnswered z o.number h.number whole file) u x) q b.2)
+      (λ code image. answered_one text a.0 o.number h.number whole s u t x) a.2
+      (subst (λ (z : LabelledProgram). Then (ImageStops z) (HasImage z) (λ code. IsAnswered text z o.number h.number whole) u x) q b.2)
 
-  program_one : (p : Syntax) (s u : Status) (t x : List ℕ) → IsOrder p.order → OfProgram p file observer parts whole s t
-      → OfProgram p file observer parts whole u x → Same s u t x
-  program_one p s u t x order =
+  program_one : (text : List ℕ) (p : Syntax) (s u : Status) (t x : List ℕ) → IsOrder p.order → OfProgram text p observer parts whole s t
+      → OfProgram text p observer parts whole u x → Same s u t x
+  program_one text p s u t x order =
       then_one (ObserverStops p.order (Some observer)) (Names p.order observer)
-      (λ o. Then (ObserverStops p.order (Some parts)) (Names p.order parts) (λ h. Rest p o h)) s u t x
+      (λ o. Then (ObserverStops p.order (Some parts)) (Names p.order parts) (λ h. Rest text p o h)) s u t x
       (one_observer_stop p.order (Some observer) s u t x) (λ o v y. observer_goes p.order (Some observer) (Some o) v y)
       (λ a b. one_name p.order observer a b order) (λ o names.
-      then_one (ObserverStops p.order (Some parts)) (Names p.order parts) (λ h. Rest p o h) s u t x
+      then_one (ObserverStops p.order (Some parts)) (Names p.order parts) (λ h. Rest text p o h) s u t x
       (one_observer_stop p.order (Some parts) s u t x) (λ h v y. observer_goes p.order (Some parts) (Some h) v y)
-      (λ a b. one_name p.order parts a b order) (λ h names. rest_one p o h s u t x order))
+      (λ a b. one_name p.order parts a b order) (λ h names. rest_one text p o h s u t x order))
+
+module _ (file observer parts : List ℕ) (whole : Bool) where
+  -- the program of a file, whose text is one
+  abbrev Sourced : Content → Syntax → Status → List ℕ → Type 0
+  Sourced content p s t = (source : Reads (content file) p) × OfProgram source.bytes p observer parts whole s t
+
+  sourced_one : (content : Content) (p : Syntax) (s u : Status) (t x : List ℕ) → IsKnown (content file) → IsOrder p.order → Sourced content p s t
+      → Sourced content p u x → Same s u t x
+  sourced_one content p s u t x known order a b =
+      let same : b.0.bytes ≡ a.0.bytes = one_told (content file) b.0.bytes a.0.bytes known b.0.are a.0.are in
+      program_one observer parts whole a.0.bytes p s u t x order a.1 (subst (λ (z : List ℕ). OfProgram z p observer parts whole u x) same b.1)
 
   steadies_one : (Rises : List ℕ → Type 0) (content : Content) (s u : Status) (t x : List ℕ) → (Rises file → ⊥) → IsKnown (content file)
       → Steadies Rises content file observer parts whole s t → Steadies Rises content file observer parts whole u x → Same s u t x
   steadies_one Rises content s u t x n known =
-      reads_one s u t x (Rises file) (content file) (λ p. OfProgram p file observer parts whole) n known (λ p order. program_one p s u t x order)
+      reads_one s u t x (Rises file) (content file) (Sourced content) n known (λ p order. sourced_one content p s u t x known order)
 
   pub one_in : (Rises : List ℕ → Type 0) (content : Content) (s u : Status) (t x : List ℕ) → (Rises file → ⊥) → IsKnown (content file)
       → InLab (Steadies Rises content file observer parts whole) s t → InLab (Steadies Rises content file observer parts whole) u x → Same s u t x
@@ -115,41 +160,42 @@ then_ends Stops Gives Next s e t a given one f g (inr h) =
 
 judged_ends : (Rises : List ℕ → Type 0) (content : Content) (file observer parts : List ℕ) (whole : Bool) (s e : Status) (t : List ℕ)
     → (Rises file → ⊥) → IsKnown (content file) → (can : CanJudge (content file) observer parts)
-    → (IsAnswered can.labelled can.o.number can.h.number whole file s t → s ≡ e) → Steadies Rises content file observer parts whole s t → s ≡ e
+    → ((text : List ℕ) → IsAnswered text can.labelled can.o.number can.h.number whole s t → s ≡ e) → Steadies Rises content file observer parts whole s t → s ≡ e
 judged_ends Rises content file observer parts whole s e t n known can f =
     let p : Syntax = can.program in
     let order : IsOrder p.order = program_order _ p can.reads.spelled in
-    then_ends (ProgramStops (Rises file) (content file)) (Reads (content file)) (λ p. OfProgram p file observer parts whole) s e t
+    then_ends (ProgramStops (Rises file) (content file)) (Reads (content file)) (Sourced file observer parts whole content) s e t
     p can.reads (one_program (content file) known) (program_goes (Rises file) (content file) p s t n known can.reads)
-    (then_ends (ObserverStops p.order (Some observer)) (Names p.order observer)
-    (λ o. Then (ObserverStops p.order (Some parts)) (Names p.order parts) (λ h. Rest file observer parts whole p o h)) s e t
+    (λ k. then_ends (ObserverStops p.order (Some observer)) (Names p.order observer)
+    (λ o. Then (ObserverStops p.order (Some parts)) (Names p.order parts) (λ h. Rest observer parts whole k.0.bytes p o h)) s e t
     can.o can.names_observer (λ a b. one_name p.order observer a b order) (observer_goes p.order (Some observer) (Some can.o) s t can.names_observer)
-    (then_ends (ObserverStops p.order (Some parts)) (Names p.order parts) (λ h. Rest file observer parts whole p can.o h) s e t
+    (then_ends (ObserverStops p.order (Some parts)) (Names p.order parts) (λ h. Rest observer parts whole k.0.bytes p can.o h) s e t
     can.h can.names_parts (λ a b. one_name p.order parts a b order) (observer_goes p.order (Some parts) (Some can.h) s t can.names_parts)
-    (λ r. rest p order r)))
+    (λ r. rest k.0.bytes r)) k.1)
   where
-    rest : (p : Syntax) → IsOrder can.program.order → Rest file observer parts whole can.program can.o can.h s t → s ≡ e
-    rest p order r =
+    rest : (text : List ℕ) → Rest observer parts whole text can.program can.o can.h s t → s ≡ e
+    rest text r =
+        let order : IsOrder can.program.order = program_order _ can.program can.reads.spelled in
         let q : r.0 ≡ can.labelled = one_inferred can.program r.0 can.labelled order r.1 can.infers in
-        go (subst (λ (z : LabelledProgram). Then (ImageStops z) (HasImage z) (λ code. IsAnswered z can.o.number can.h.number whole file) s t) q r.2)
+        go (subst (λ (z : LabelledProgram). Then (ImageStops z) (HasImage z) (λ code. IsAnswered text z can.o.number can.h.number whole) s t) q r.2)
       where
-        go : Then (ImageStops can.labelled) (HasImage can.labelled) (λ code. IsAnswered can.labelled can.o.number can.h.number whole file) s t → s ≡ e
+        go : Then (ImageStops can.labelled) (HasImage can.labelled) (λ code. IsAnswered text can.labelled can.o.number can.h.number whole) s t → s ≡ e
         go (inl stop) = absurd (image_goes can.labelled s t can.short stop)
-        go (inr h) = f h.2
+        go (inr h) = f text h.2
 
-yes_ends : (q : LabelledProgram) (o h : ℕ) (whole : Bool) (file : List ℕ) (s : Status) (t : List ℕ) → IsJudged q o h whole None
-    → IsAnswered q o h whole file s t → s ≡ status.Done
-yes_ends q o h whole file s t j a = go (answers q o h whole file s t a)
+yes_ends : (text : List ℕ) (q : LabelledProgram) (o h : ℕ) (whole : Bool) (s : Status) (t : List ℕ) → IsJudged q o h whole None
+    → IsAnswered text q o h whole s t → s ≡ status.Done
+yes_ends text q o h whole s t j a = go (answers text q o h whole s t a)
   where
-    go : ((s ≡ status.Done) × IsYes q o h whole t) ⊎ ((s ≡ status.Refused) × IsNo q o h whole file t) → s ≡ status.Done
+    go : ((s ≡ status.Done) × IsYes q o h whole t) ⊎ ((s ≡ status.Refused) × IsNo text q o h whole t) → s ≡ status.Done
     go (inl y) = y.0
     go (inr n) = absurd (none-some n.1.first (one_judged q o h whole None (Some n.1.first) j n.1.is_first))
 
-no_ends : (q : LabelledProgram) (o h : ℕ) (whole : Bool) (file : List ℕ) (s : Status) (t : List ℕ) → (IsJudged q o h whole None → ⊥)
-    → IsAnswered q o h whole file s t → s ≡ status.Refused
-no_ends q o h whole file s t j a = go (answers q o h whole file s t a)
+no_ends : (text : List ℕ) (q : LabelledProgram) (o h : ℕ) (whole : Bool) (s : Status) (t : List ℕ) → (IsJudged q o h whole None → ⊥)
+    → IsAnswered text q o h whole s t → s ≡ status.Refused
+no_ends text q o h whole s t j a = go (answers text q o h whole s t a)
   where
-    go : ((s ≡ status.Done) × IsYes q o h whole t) ⊎ ((s ≡ status.Refused) × IsNo q o h whole file t) → s ≡ status.Refused
+    go : ((s ≡ status.Done) × IsYes q o h whole t) ⊎ ((s ≡ status.Refused) × IsNo text q o h whole t) → s ≡ status.Refused
     go (inl y) = absurd (j y.1.0)
     go (inr n) = n.0
 
@@ -158,10 +204,10 @@ pub steady_ends : (Rises : List ℕ → Type 0) (content : Content) (file observ
     → InLab (Steadies Rises content file observer parts whole) s t → s ≡ e
 steady_ends Rises content file observer parts whole s status.Done t n known goes h =
     judged_ends Rises content file observer parts whole s status.Done h.0 n known goes.0
-    (yes_ends goes.0.labelled goes.0.o.number goes.0.h.number whole file s h.0 goes.1) h.1
+    (λ text. yes_ends text goes.0.labelled goes.0.o.number goes.0.h.number whole s h.0 goes.1) h.1
 steady_ends Rises content file observer parts whole s status.Refused t n known goes h =
     judged_ends Rises content file observer parts whole s status.Refused h.0 n known goes.0
-    (no_ends goes.0.labelled goes.0.o.number goes.0.h.number whole file s h.0 goes.1) h.1
+    (λ text. no_ends text goes.0.labelled goes.0.o.number goes.0.h.number whole s h.0 goes.1) h.1
 steady_ends Rises content file observer parts whole s status.Syntax t n known goes h = absurd goes
 steady_ends Rises content file observer parts whole s status.Starts t n known goes h = absurd goes
 steady_ends Rises content file observer parts whole s status.Usage t n known goes h = absurd goes

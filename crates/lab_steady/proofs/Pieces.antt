@@ -15,8 +15,3 @@ pub after_five : (x₀ x₁ x₂ x₃ x₄ x₅ a b c d e : List ℕ) → x₁ �
     → x₅ ≡ x₀ ++ (a ++ (b ++ (c ++ (d ++ e))))
 after_five x₀ x₁ x₂ x₃ x₄ x₅ a b c d e p q r s t =
     after_four x₀ x₁ x₂ x₃ x₅ a b c (d ++ e) p q r (t ∙ ap (λ z. z ++ e) s ∙ append_assoc x₃ d e)
-
-pub after_eight : (x₀ x₁ x₂ x₃ x₄ x₅ x₆ x₇ x₈ a b c d e f g h : List ℕ) → x₁ ≡ x₀ ++ a → x₂ ≡ x₁ ++ b → x₃ ≡ x₂ ++ c → x₄ ≡ x₃ ++ d → x₅ ≡ x₄ ++ e
-    → x₆ ≡ x₅ ++ f → x₇ ≡ x₆ ++ g → x₈ ≡ x₇ ++ h → x₈ ≡ x₀ ++ (a ++ (b ++ (c ++ (d ++ (e ++ (f ++ (g ++ h)))))))
-after_eight x₀ x₁ x₂ x₃ x₄ x₅ x₆ x₇ x₈ a b c d e f g h p q r s t u v w =
-    after_four x₀ x₁ x₂ x₃ x₈ a b c (d ++ (e ++ (f ++ (g ++ h)))) p q r (after_five x₃ x₄ x₅ x₆ x₇ x₈ d e f g h s t u v w)

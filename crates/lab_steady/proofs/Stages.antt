@@ -1,5 +1,6 @@
 -- The stages of `steady`, from a program to what is told.
-use Rattle.std.proofs.Common.{◌≡◌, ◌≤◌, ℕ, List, length, Bool, Some, refl, subst, inl, inr}
+use Rattle.std.proofs.Common.{◌≡◌, ◌≤◌, ℕ, List, length, Bool, Some, refl, sym, subst, inl, inr}
+use Rattle.tim_base.specs.Told.{limit}
 use Rattle.label_lattice.specs.declared.label.Label.{Label}
 use Rattle.label_lattice.specs.Order.{Order}
 use Rattle.mit_syntax.specs.Program.{Syntax}
@@ -11,35 +12,51 @@ use Rattle.tool_texts.specs.declared.status.Status.TheVariants as status
 use Rattle.tool_texts.specs.declared.stop.Stop.{Stop}
 use Rattle.tool_texts.specs.Ends.{IsStop, status_of, stop_text}
 use Rattle.tool_texts.proofs.EndLemmas.{broke_map}
-use Rattle.tool_stages.specs.Stages.{ObserverStops, ImageStops}
-use Rattle.lab_steady.specs.Answer.{Names, IsAnswered, OfProgram}
+use Rattle.tool_stages.specs.Content.{Content}
+use Rattle.tool_stages.specs.Stages.{Reads, ObserverStops, ImageStops}
+use Rattle.lab_steady.specs.Answer.{Names, IsAnswered, OfProgram, Steadies}
 
-module _ (p : Syntax) (order : Order) (file observer parts : List ℕ) (whole : Bool) (same : order ≡ p.order) (o : Label) (names : Names order observer o) where
+module _ (p : Syntax) (order : Order) (text observer parts : List ℕ) (whole : Bool) (same : order ≡ p.order) (o : Label) (names : Names order observer o) where
   names_o : Names p.order observer o
   names_o = subst (λ (z : Order). Names z observer o) same names
 
-  pub parts_stop : (e : Stop) → IsStop (ObserverStops order (Some parts)) e → IsStop (OfProgram p file observer parts whole) e
+  pub parts_stop : (e : Stop) → IsStop (ObserverStops order (Some parts)) e → IsStop (OfProgram text p observer parts whole) e
   parts_stop e h =
-      broke_map (ObserverStops p.order (Some parts)) (OfProgram p file observer parts whole) (status_of e) (stop_text e)
+      broke_map (ObserverStops p.order (Some parts)) (OfProgram text p observer parts whole) (status_of e) (stop_text e)
       (λ k. inr (o, names_o, inl k)) (subst (λ (z : Order). IsStop (ObserverStops z (Some parts)) e) same h)
 
   module _ (h : Label) (agreed : Names order parts h) (q : LabelledProgram) (program : q.program ≡ p) (least : IsLeast p q.labels) where
     names_h : Names p.order parts h
     names_h = subst (λ (z : Order). Names z parts h) same agreed
 
-    pub told_program : (s : Status) (t : List ℕ) → length (lowered q).instrs ≤ 200000 → IsAnswered q o.number h.number whole file s t
-        → OfProgram p file observer parts whole s t
+    pub told_program : (s : Status) (t : List ℕ) → length (lowered q).instrs ≤ 200000 → IsAnswered text q o.number h.number whole s t
+        → OfProgram text p observer parts whole s t
     told_program s t short a =
         inr (o, names_o, inr (h, names_h, (q, record { program = program; least = least }, inr (lowered q, (refl, short), a))))
 
-    pub image_stops : (e : Stop) → IsStop (ImageStops q) e → IsStop (OfProgram p file observer parts whole) e
+    pub image_stops : (e : Stop) → IsStop (ImageStops q) e → IsStop (OfProgram text p observer parts whole) e
     image_stops e k =
-        broke_map (ImageStops q) (OfProgram p file observer parts whole) (status_of e) (stop_text e)
+        broke_map (ImageStops q) (OfProgram text p observer parts whole) (status_of e) (stop_text e)
         (λ x. inr (o, names_o, inr (h, names_h, (q, record { program = program; least = least }, inl x)))) k
 
+module _ (Rises : List ℕ → Type 0) (content : Content) (file text observer parts : List ℕ) (whole : Bool) (p : Syntax)
+    (reads : (x : Reads (content file) p) × (x.bytes ≡ text)) where
+  -- what is told of the program that a file holds
+  pub told_source : (s : Status) (t : List ℕ) → OfProgram text p observer parts whole s t → Steadies Rises content file observer parts whole s t
+  told_source s t h = inr (p, reads.0, (reads.0, subst (λ (z : List ℕ). OfProgram z p observer parts whole s t) (sym reads.1) h))
+
+  pub source_stops : (e : Stop) → IsStop (OfProgram text p observer parts whole) e → IsStop (Steadies Rises content file observer parts whole) e
+  source_stops e k =
+      broke_map (OfProgram text p observer parts whole) (Steadies Rises content file observer parts whole) (status_of e) (stop_text e)
+      (told_source (status_of e) (stop_text e)) k
+
+  -- its text is not too long
+  pub source_short : length text ≤ limit
+  source_short = subst (λ (z : List ℕ). length z ≤ limit) reads.1 reads.0.short
+
 -- no answer to a program that is read is a read fault
-pub no_read : (p : Syntax) (file observer parts : List ℕ) (whole : Bool) (t : List ℕ) → OfProgram p file observer parts whole status.ReadFault t → ⊥
-no_read p file observer parts whole t (inl h) = h
-no_read p file observer parts whole t (inr (o, named, inl h)) = h
-no_read p file observer parts whole t (inr (o, named, inr (h, agreed, (q, infers, inl k)))) = k
-no_read p file observer parts whole t (inr (o, named, inr (h, agreed, (q, infers, inr (code, image, a))))) = a
+pub no_read : (p : Syntax) (file observer parts : List ℕ) (whole : Bool) (t : List ℕ) → OfProgram text p observer parts whole status.ReadFault t → ⊥
+no_read text p observer parts whole t (inl h) = h
+no_read text p observer parts whole t (inr (o, named, inl h)) = h
+no_read text p observer parts whole t (inr (o, named, inr (h, agreed, (q, infers, inl k)))) = k
+no_read text p observer parts whole t (inr (o, named, inr (h, agreed, (q, infers, inr (code, image, a))))) = a

@@ -60,8 +60,8 @@ module _ {E : Type 0} (v : Order → Env E) (serves : Order → E → Type 0) (l
 
   pub worth : YesIsWorth v serves
   worth content before now file observer parts whole t (inl stop) = absurd stop
-  worth content before now file observer parts whole t (inr (p, reads, inl stop)) = absurd stop
-  worth content before now file observer parts whole t (inr (p, reads, inr (o, named, inl stop))) = absurd stop
-  worth content before now file observer parts whole t (inr (p, reads, inr (o, named, inr (h, agreed, (q, infers, inl stop))))) = absurd stop
-  worth content before now file observer parts whole t (inr (p, reads, inr (o, named, inr (h, agreed, (q, infers, inr (code, image, told)))))) =
+  worth content before now file observer parts whole t (inr (p, reads, (source, inl stop))) = absurd stop
+  worth content before now file observer parts whole t (inr (p, reads, (source, inr (o, named, inl stop)))) = absurd stop
+  worth content before now file observer parts whole t (inr (p, reads, (source, inr (o, named, inr (h, agreed, (q, infers, inl stop)))))) = absurd stop
+  worth content before now file observer parts whole t (inr (p, reads, (source, inr (o, named, inr (h, agreed, (q, infers, inr (code, image, told))))))) =
       of_yes content file observer parts whole p reads o h named agreed q infers t told

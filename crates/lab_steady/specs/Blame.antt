@@ -8,6 +8,10 @@ use Rattle.label_code.specs.declared.code.Instr.{Instr}
 use Rattle.label_code.specs.Shaped.{takes}
 use Rattle.steady_code.specs.declared.fault.Reason.{Reason}
 use Rattle.steady_code.specs.declared.fault.Reason.TheVariants.{Felt, Guard, Index, Assigned, Operand, Wait, Estimate, Target, Seen}
+use Rattle.timing_types.specs.Labelled.{LabelledProgram, order_of, labels_of}
+use Rattle.code_lower.specs.Lowered.{lowered}
+use Rattle.steady_code.specs.declared.fault.Fault.{Fault}
+use Rattle.steady_code.specs.Timed.{low_of}
 use Rattle.lab_steady.specs.Owner.{or_else}
 
 -- what an instruction reads that is not seen: a variable, or an array, by its first element
@@ -119,3 +123,13 @@ blamed low image a w Wait = hidden_in low image 0 a
 blamed low image a w Estimate = hidden_in low image 0 a
 blamed low image a w Target = None
 blamed low image a w Seen = None
+
+abbrev pub blamed_by : (ℕ → Bool) → List Instr → ℕ → Reason → Option Instr → Option ℕ
+blamed_by low image a r None = None
+blamed_by low image a r (Some i) = blamed low image a i.work r
+
+-- for a fault of the image of a program, for an observer
+abbrev pub blamed_of : LabelledProgram → ℕ → Fault → Option ℕ
+blamed_of q o f =
+    let image = (lowered q).instrs in
+    blamed_by (low_of (order_of q) (labels_of q) o) image f.place f.reason (slice_get image f.place)

@@ -1,7 +1,9 @@
 pub mod Owner
 pub mod Blame
 pub mod Judged
+pub mod Mend
 pub mod Text
+pub mod Why
 pub mod Told
 pub mod Answer
 pub mod Worth

@@ -1,9 +1,9 @@
 -- The text of an answer.
-use Rattle.std.specs.Prelude.{ℕ, zero, suc, ◌+◌, List, [], ◌++◌, Bool, true, false, cond, if◌then◌else◌, nat_lt, Option, Some, None, codes, decimal}
+use Rattle.std.specs.Prelude.{ℕ, zero, suc, ◌+◌, List, [], ◌++◌, Bool, true, false, cond, Option, Some, None, codes, decimal}
 use Rattle.std.specs.Prelude.{slice_get}
 use Rattle.text_base.specs.declared.pos.Pos.{Pos}
-use Rattle.label_lattice.specs.declared.label.Label.{Label}
-use Rattle.mit_syntax.specs.Declarations.{variables, cell_at}
+use Rattle.mit_syntax.specs.declared.token.Token.{Token}
+use Rattle.mit_syntax.specs.Declarations.{variables}
 use Rattle.mit_syntax.specs.Program.{Syntax, plan_of}
 use Rattle.timing_types.specs.Labelled.{LabelledProgram, order_of, labels_of}
 use Rattle.label_code.specs.declared.code.Instr.{Instr}
@@ -14,7 +14,8 @@ use Rattle.steady_code.specs.declared.fault.Reason.TheVariants.{Felt, Guard, Ind
 use Rattle.steady_code.specs.Timed.{low_of}
 use Rattle.flow_print.specs.Lines.{label_text, variable_text}
 use Rattle.lab_steady.specs.Owner.{owner}
-use Rattle.lab_steady.specs.Blame.{blamed}
+use Rattle.lab_steady.specs.Blame.{blamed_of}
+use Rattle.lab_steady.specs.Mend.{kind_there, mend_line}
 
 -- ---- a yes
 
@@ -66,26 +67,14 @@ begin_text r at = codes "unsteady " ++ (reason_text r ++ (codes " at " ++ at_tex
 abbrev pub flow_text : Syntax → ℕ → ℕ → List ℕ
 flow_text p have allowed = codes ": " ++ (label_text p.order have ++ (codes " does not flow to " ++ (label_text p.order allowed ++ codes "\n")))
 
--- whether the program writes the label of a variable
-abbrev pub is_some : Option Label → Bool
-is_some None = false
-is_some (Some l) = true
+-- a variable whose label the program writes: `NAME is declared H`
+abbrev pub declared_line : LabelledProgram → ℕ → List ℕ
+declared_line q x = variable_text q.program x ++ (codes " is declared " ++ (label_text q.program.order (labels_of q x) ++ codes "\n"))
 
-abbrev pub is_declared : Syntax → ℕ → Bool
-is_declared p x = if nat_lt x (variables p.declarations) then is_some (cell_at p.declarations x).label else false
-
--- the variable to blame: `NAME is declared H`, or that its label is inferred and how one asks why
-abbrev pub variable_lines : LabelledProgram → List ℕ → ℕ → List ℕ
-variable_lines q file x =
-    let name = variable_text q.program x in
-    let label = label_text q.program.order (labels_of q x) in
-    cond (is_declared q.program x) (name ++ (codes " is declared " ++ (label ++ codes "\n")))
-    (name ++ (codes " is inferred " ++ (label ++ (codes "\nlab why " ++ (file ++ (codes " --of " ++ (name ++ codes " tells why\n")))))))
-
--- the label of what is not seen, and the variable
+-- the label of what is not seen, and the lines that tell of the variable
 abbrev pub blame_lines : LabelledProgram → ℕ → List ℕ → Option ℕ → List ℕ
-blame_lines q o file None = codes "\n"
-blame_lines q o file (Some x) = flow_text q.program (labels_of q x) o ++ variable_lines q file x
+blame_lines q o lines None = codes "\n"
+blame_lines q o lines (Some x) = flow_text q.program (labels_of q x) o ++ lines
 
 -- a read label that is not below the parts that agree
 abbrev pub felt_lines : LabelledProgram → ℕ → ℕ → List ℕ
@@ -103,17 +92,18 @@ is_felt Estimate = false
 is_felt Target = false
 is_felt Seen = false
 
--- what follows the place of a fault, whose instruction this is
-abbrev pub reason_lines : LabelledProgram → ℕ → ℕ → List ℕ → ℕ → Instr → Reason → List ℕ
-reason_lines q o h file a i r =
-    let low = low_of (order_of q) (labels_of q) o in
-    cond (is_felt r) (felt_lines q h i.er.number) (blame_lines q o file (blamed low (lowered q).instrs a i.work r))
+-- what follows the place of a fault, whose instruction this is; v is the variable to blame, and these lines tell of it
+abbrev pub reason_lines : LabelledProgram → ℕ → ℕ → List ℕ → Option ℕ → Instr → Reason → List ℕ
+reason_lines q o h lines v i r = cond (is_felt r) (felt_lines q h i.er.number) (blame_lines q o lines v)
 
-abbrev pub instr_lines : LabelledProgram → ℕ → ℕ → List ℕ → ℕ → Option Instr → Reason → List ℕ
-instr_lines q o h file a None r = []
-instr_lines q o h file a (Some i) r = reason_lines q o h file a i r
+abbrev pub instr_lines : LabelledProgram → ℕ → ℕ → List ℕ → Option ℕ → Option Instr → Reason → List ℕ
+instr_lines q o h lines v None r = []
+instr_lines q o h lines v (Some i) r = reason_lines q o h lines v i r
 
--- the reason and the place of a fault, the labels that do not flow, and what is to blame
-abbrev pub no_text : LabelledProgram → ℕ → ℕ → List ℕ → Fault → List ℕ
-no_text q o h file f =
-    begin_text f.reason (owner (plan_of q.program) 0 f.place) ++ instr_lines q o h file f.place (slice_get (lowered q).instrs f.place) f.reason
+-- The reason and the place of a fault, the labels that do not flow, what is to blame, of which these lines tell, and a mend
+-- where one is known.
+abbrev pub no_text : LabelledProgram → ℕ → ℕ → List Token → List ℕ → Fault → List ℕ
+no_text q o h tokens lines f =
+    let at = owner (plan_of q.program) 0 f.place in
+    begin_text f.reason at
+    ++ (instr_lines q o h lines (blamed_of q o f) (slice_get (lowered q).instrs f.place) f.reason ++ mend_line (kind_there tokens at) f.reason)

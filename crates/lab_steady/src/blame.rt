@@ -3,15 +3,16 @@
 ghost use Rattle.std.specs.Prelude.{◌≡◌, ◌≤◌, ◌<◌, length};
 ghost use Rattle.timing_types.specs.Labelled.{order_of, labels_of};
 ghost use Rattle.label_code.specs.Shaped.{takes as operands_taken};
+ghost use Rattle.code_lower.specs.Lowered.{lowered};
 ghost use Rattle.steady_code.specs.Timed.{low_of};
-ghost use Rattle.lab_steady.specs.Blame.{begin_of, blamed as variable_blamed, hidden as hidden_variable, hidden_in, hidden_side, index_end};
+ghost use Rattle.lab_steady.specs.Blame.{begin_of, blamed as variable_blamed, blamed_of, hidden as hidden_variable, hidden_in, hidden_side, index_end};
 ghost use Rattle.lab_steady.specs.Blame.{is_comparison as makes_comparison, is_compared, compares as op_compares};
 
 use label_code::code::Work;
 use label_code::image::Image;
 use label_lattice::label::Label;
 use mit_syntax::ast::Op;
-use steady_code::fault::Reason;
+use steady_code::fault::{Fault, Reason};
 use timing_types::labelled::Labelled;
 
 /// Whether an observer sees a variable.
@@ -150,7 +151,7 @@ fn after_index(image: &Image, place: u32, work: Work) -> u32
 }
 
 /// The variable to blame for a fault of the instruction at a place.
-pub(crate) fn blamed(
+fn blamed(
     p: &Labelled,
     observer: Label,
     image: &Image,
@@ -169,4 +170,14 @@ pub(crate) fn blamed(
         Reason::Operand => side(p, observer, image, place),
         Reason::Felt | Reason::Target | Reason::Seen => None,
     }
+}
+
+/// The variable to blame for a fault of the image of a program.
+pub(crate) fn blamed_for(p: &Labelled, observer: Label, image: &Image, fault: Fault) -> Option<u32>
+    requires image { image.now ≡ lowered p.now }
+    requires place { fault.place < length image.now.instrs }
+    ensures { result ≡ blamed_of p.now observer.number fault }
+{
+    let work = image.at(fault.place).work;
+    blamed(p, observer, image, fault.place, work, fault.reason)
 }

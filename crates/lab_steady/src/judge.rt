@@ -1,6 +1,7 @@
 //! From a labelled program to the answer.
 
-ghost use Rattle.std.specs.Prelude.{◌≡◌, ◌≤◌, Some, IfOk, IfErr, length};
+ghost use Rattle.std.specs.Prelude.{◌≡◌, ◌≤◌, ◌<◌, ◌^◌, Some, IfOk, IfErr, length};
+ghost use Rattle.label_infer.specs.Least.{IsLeast};
 ghost use Rattle.code_lower.specs.Lowered.{lowered, IsLowerFault};
 ghost use Rattle.lab_steady.specs.Judged.{IsJudged, is_one_command, join_below, told as fault_told, top_of};
 ghost use Rattle.lab_steady.specs.Answer.{IsAnswered, IsNo};
@@ -13,6 +14,7 @@ use code_lower::lower::LowerFault;
 use label_code::image::Image;
 use label_lattice::label::Label;
 use label_lattice::lattice::Lattice;
+use mit_syntax::tokens::tokens;
 use std::alloc::Global;
 use steady_code::fault::Fault;
 use steady_program::steady::steady;
@@ -65,21 +67,39 @@ fn refused(
     observer: Label,
     parts: Label,
     whole: bool,
-    file: &str,
+    text: &[u8],
     first: Fault,
 ) -> Result<Vec<u8>, LowerFault>
+    requires least { IsLeast p.now.program p.now.labels }
+    requires size { length text.now < 2 ^ 31 }
     requires image { image.now ≡ lowered p.now }
     requires first { IsJudged p.now observer.number parts.number whole (Some first) }
-    ensures ok { IfOk result (λ v. IsNo p.now observer.number parts.number whole file.now v.items) }
+    ensures ok { IfOk result (λ v. IsNo text.now p.now observer.number parts.number whole v.items) }
     ensures fault { IfErr result (IsLowerFault p.now) }
 {
     let top = top(&p.program().lattice());
     let plain = steady(alloc, p, observer, top, whole)?;
     let fault = told(p, first, plain.fault);
-    Ok(no_text(alloc, p, image, observer, parts, file, fault)?)
+    // The text spells the program, so it has tokens.
+    let Ok(tokens) = tokens(alloc, text) else {
+        return Err(LowerFault::Memory);
+    };
+    match no_text(
+        alloc,
+        p,
+        image,
+        observer,
+        parts,
+        text,
+        tokens.as_slice(),
+        fault,
+    ) {
+        Ok(lines) => Ok(lines),
+        Err(_) => Err(LowerFault::Memory),
+    }
 }
 
-/// Whether a labelled program is steady, and the text that tells it.
+/// Whether a program with its least labels, which a text spells, is steady, and the text that tells it.
 ///
 /// # Errors
 /// Those of `lower_labelled`.
@@ -89,9 +109,11 @@ pub(crate) fn judge(
     observer: Label,
     parts: Label,
     whole: bool,
-    file: &str,
+    text: &[u8],
 ) -> Result<Verdict, LowerFault>
-    ensures ok { IfOk result (λ a. IsAnswered p.now observer.number parts.number whole file.now (status_told a) (text_told a)) }
+    requires least { IsLeast p.now.program p.now.labels }
+    requires size { length text.now < 2 ^ 31 }
+    ensures ok { IfOk result (λ a. IsAnswered text.now p.now observer.number parts.number whole (status_told a) (text_told a)) }
     ensures short { IfOk result (λ a. length (lowered p.now).instrs ≤ 200000) }
     ensures fault { IfErr result (IsLowerFault p.now) }
 {
@@ -105,7 +127,7 @@ pub(crate) fn judge(
             observer,
             parts,
             whole,
-            file,
+            text,
             first,
         )?)),
     }

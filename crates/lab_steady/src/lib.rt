@@ -5,10 +5,12 @@
 mod blame;
 mod judge;
 pub mod laws;
+mod mend;
 mod names;
 mod no;
 mod owner;
 mod program;
 pub mod steady;
+mod variable;
 mod words;
 mod yes;

@@ -1,66 +1,42 @@
 //! The text of a no.
 
 ghost use Rattle.std.specs.Prelude.{◌≡◌, ◌<◌, ◌++◌, OnOk, IfOk, length};
-ghost use Rattle.timing_types.specs.Labelled.{labels_of};
+ghost use Rattle.label_infer.specs.Least.{IsLeast};
 ghost use Rattle.code_lower.specs.Lowered.{lowered};
-ghost use Rattle.lab_steady.specs.Text.{blame_lines, felt_lines, is_felt as tells_read_label, no_text as text_of_no, reason_lines, variable_lines};
+ghost use Rattle.lab_steady.specs.Blame.{blamed_of};
+ghost use Rattle.lab_steady.specs.Text.{blame_lines, felt_lines, is_felt as tells_read_label, no_text as text_of_no, reason_lines};
+ghost use Rattle.lab_steady.specs.Why.{TellsNo};
 
-use crate::blame::blamed;
+use crate::blame::blamed_for;
+use crate::mend::{kind_there, mend_line};
 use crate::owner::owner_of;
-use crate::words::{has_label, put_begin, put_flow, put_label, put_variable};
+use crate::variable::blamed_lines;
+use crate::words::{put_begin, put_flow, put_label};
 use label_code::code::Instr;
 use label_code::image::Image;
 use label_lattice::label::Label;
+use mit_syntax::token::Token;
 use std::alloc::{AllocError, Global};
 use steady_code::fault::{Fault, Reason};
+use text_base::pos::Memory;
 use timing_types::labelled::Labelled;
 
-/// Puts the lines of the variable to blame.
-fn put_named(
-    out: &mut Vec<u8>,
-    p: &Labelled,
-    file: &str,
-    x: u32,
-    label: Label,
-) -> Result<(), AllocError>
-    requires { label.number ≡ labels_of p.now x }
-    ensures { OnOk result (out.new.items ≡ out.old.items ++ variable_lines p.now file.now x) }
-{
-    let program = p.program();
-    if has_label(program, x) {
-        put_variable(out, program, x)?;
-        out.extend_from_slice(b" is declared ")?;
-        put_label(out, program, label)?;
-        out.extend_from_slice(b"\n")?;
-        return Ok(());
-    }
-    put_variable(out, program, x)?;
-    out.extend_from_slice(b" is inferred ")?;
-    put_label(out, program, label)?;
-    out.extend_from_slice(b"\nlab why ")?;
-    out.extend_from_slice(file.as_bytes())?;
-    out.extend_from_slice(b" --of ")?;
-    put_variable(out, program, x)?;
-    out.extend_from_slice(b" tells why\n")?;
-    Ok(())
-}
-
-/// Puts the label of what is not seen, and the variable.
+/// Puts the label of what is not seen, and the lines that tell of the variable.
 fn put_blame(
     out: &mut Vec<u8>,
     p: &Labelled,
     observer: Label,
-    file: &str,
+    lines: &[u8],
     variable: Option<u32>,
 ) -> Result<(), AllocError>
-    ensures { OnOk result (out.new.items ≡ out.old.items ++ blame_lines p.now observer.number file.now variable) }
+    ensures { OnOk result (out.new.items ≡ out.old.items ++ blame_lines p.now observer.number lines.now variable) }
 {
     let Some(x) = variable else {
         return out.extend_from_slice(b"\n");
     };
     let label = p.labels().variable(x, &p.program().lattice());
     put_flow(out, p.program(), label, observer)?;
-    put_named(out, p, file, x, label)?;
+    out.extend_from_slice(lines)?;
     Ok(())
 }
 
@@ -96,44 +72,87 @@ fn is_felt(reason: Reason) -> bool
 fn put_reason(
     out: &mut Vec<u8>,
     p: &Labelled,
+    observer: Label,
+    parts: Label,
+    lines: &[u8],
+    variable: Option<u32>,
+    instr: Instr,
+    reason: Reason,
+) -> Result<(), AllocError>
+    ensures { OnOk result (out.new.items ≡ out.old.items ++ reason_lines p.now observer.number parts.number lines.now variable instr reason) }
+{
+    if is_felt(reason) {
+        put_felt(out, p, parts, instr.er)
+    } else {
+        put_blame(out, p, observer, lines, variable)
+    }
+}
+
+/// The text of a no, where these lines tell of the variable to blame.
+fn no_lines(
+    alloc: Global,
+    p: &Labelled,
     image: &Image,
     observer: Label,
     parts: Label,
-    file: &str,
+    tokens: &[Token],
+    lines: &[u8],
+    variable: Option<u32>,
     fault: Fault,
-    instr: Instr,
-) -> Result<(), AllocError>
+) -> Result<Vec<u8>, AllocError>
     requires image { image.now ≡ lowered p.now }
     requires place { fault.place < length image.now.instrs }
-    ensures { OnOk result (out.new.items ≡ out.old.items ++ reason_lines p.now observer.number parts.number file.now fault.place instr fault.reason) }
+    requires variable { variable ≡ blamed_of p.now observer.number fault }
+    ensures { IfOk result (λ v. v.items ≡ text_of_no p.now observer.number parts.number tokens.now lines.now fault) }
 {
-    if is_felt(fault.reason) {
-        return put_felt(out, p, parts, instr.er);
-    }
-    let variable = blamed(p, observer, image, fault.place, instr.work, fault.reason);
-    put_blame(out, p, observer, file, variable)
+    let mut out = Vec::new(alloc);
+    let at = owner_of(p.program(), fault.place);
+    put_begin(&mut out, fault.reason, at)?;
+    let instr = image.at(fault.place);
+    put_reason(
+        &mut out,
+        p,
+        observer,
+        parts,
+        lines,
+        variable,
+        instr,
+        fault.reason,
+    )?;
+    out.extend_from_slice(mend_line(kind_there(tokens, at), fault.reason))?;
+    Ok(out)
 }
 
-/// The text of a no, by the fault that is told.
+/// The text of a no, by the fault that is told, of a program that is spelled by the tokens of a text.
 ///
 /// # Errors
-/// `AllocError` is want of memory.
+/// `Memory` is want of memory.
 pub(crate) fn no_text(
     alloc: Global,
     p: &Labelled,
     image: &Image,
     observer: Label,
     parts: Label,
-    file: &str,
+    text: &[u8],
+    tokens: &[Token],
     fault: Fault,
-) -> Result<Vec<u8>, AllocError>
+) -> Result<Vec<u8>, Memory>
+    requires least { IsLeast p.now.program p.now.labels }
     requires image { image.now ≡ lowered p.now }
     requires place { fault.place < length image.now.instrs }
-    ensures { IfOk result (λ v. v.items ≡ text_of_no p.now observer.number parts.number file.now fault) }
+    ensures { IfOk result (λ v. TellsNo text.now tokens.now p.now observer.number parts.number fault v.items) }
 {
-    let mut out = Vec::new(alloc);
-    put_begin(&mut out, fault.reason, owner_of(p.program(), fault.place))?;
-    let instr = image.at(fault.place);
-    put_reason(&mut out, p, image, observer, parts, file, fault, instr)?;
-    Ok(out)
+    let variable = blamed_for(p, observer, image, fault);
+    let lines = blamed_lines(alloc, p, text, tokens, variable)?;
+    Ok(no_lines(
+        alloc,
+        p,
+        image,
+        observer,
+        parts,
+        tokens,
+        lines.as_slice(),
+        variable,
+        fault,
+    )?)
 }

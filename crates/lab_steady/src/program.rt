@@ -1,11 +1,12 @@
 //! From a file to the answer.
 
-ghost use Rattle.std.specs.Prelude.{◌∷◌, [], IfOk, IfErr};
+ghost use Rattle.std.specs.Prelude.{◌≤◌, ◌∷◌, [], IfOk, IfErr, length};
 ghost use Rattle.tim_base.specs.Kept.{KeepsFiles, NoCountFalls};
 ghost use Rattle.tim_base.specs.Faults.{Rose};
 ghost use Rattle.tool_texts.specs.Ends.{IsStop};
 ghost use Rattle.tool_stages.specs.Fetches.{Fetches};
 ghost use Rattle.tool_stages.specs.Stages.{ImageStops};
+ghost use Rattle.tim_base.specs.Told.{limit};
 ghost use Rattle.code_lower.specs.Lowered.{IsLowerFault};
 ghost use Rattle.timing_types.specs.Labelled.{LabelledProgram};
 ghost use Rattle.lab_steady.specs.Answer.{OfProgram, Steadies};
@@ -14,11 +15,11 @@ ghost use Rattle.lab_steady.specs.Told.{status_told, text_told};
 use crate::judge::{Verdict, judge};
 use crate::names::label_named;
 use code_lower::lower::LowerFault;
+use lab_why::source::{Source, read_source};
 use label_infer::infer::infer;
 use mit_syntax::program::Program;
 use std::alloc::Global;
 use tim_base::shelf::Shelf;
-use tool_stages::program::read_program;
 use tool_texts::lines;
 use tool_texts::status::Status;
 use tool_texts::stop::{Stop, no_memory};
@@ -36,17 +37,18 @@ fn image_stop(fault: LowerFault) -> Stop
     }
 }
 
-// What is told of a program, for two labels by their names.
+// What is told of a program that a text spells, for two labels by their names.
 fn program_told(
     alloc: Global,
     program: Program,
-    file: &str,
+    text: &[u8],
     observer: &str,
     parts: &str,
     whole: bool,
 ) -> Result<Verdict, Stop>
-    ensures ok { IfOk result (λ x. OfProgram program file.now observer.now parts.now whole (status_told x) (text_told x)) }
-    ensures stop { IfErr result (IsStop (OfProgram program file.now observer.now parts.now whole)) }
+    requires { length text.now ≤ limit }
+    ensures ok { IfOk result (λ x. OfProgram text.now program observer.now parts.now whole (status_told x) (text_told x)) }
+    ensures stop { IfErr result (IsStop (OfProgram text.now program observer.now parts.now whole)) }
 {
     let lattice = program.lattice();
     let observer = label_named(&lattice, observer)?;
@@ -57,7 +59,7 @@ fn program_told(
     let Ok(labelled) = infer(alloc, program) else {
         return Err(no_memory());
     };
-    match judge(alloc, &labelled, observer, parts, whole, file) {
+    match judge(alloc, &labelled, observer, parts, whole, text) {
         Ok(told) => Ok(told),
         Err(fault) => Err(image_stop(fault)),
     }
@@ -83,8 +85,8 @@ pub(crate) fn steady_told<S: Shelf>(
     ensures stop { IfErr result (IsStop (Steadies (λ name. Rose (S.faults shelf.old name) (S.faults shelf.new name)) (S.content shelf.old) file.now
         observer.now parts.now whole)) }
 {
-    let program = read_program(alloc, shelf, file)?;
-    match program_told(alloc, program, file, observer, parts, whole) {
+    let Source { text, program } = read_source(alloc, shelf, file)?;
+    match program_told(alloc, program, text.as_slice(), observer, parts, whole) {
         Ok(told) => Ok(told),
         Err(stop) => Err(stop),
     }

@@ -2,7 +2,7 @@
 
 ghost use Rattle.std.specs.Prelude.{◌≡◌, ◌++◌, OnOk, decimal};
 ghost use Rattle.flow_print.specs.Lines.{label_text, variable_text};
-ghost use Rattle.lab_steady.specs.Text.{at_text, begin_text, flow_text, is_declared, reason_text};
+ghost use Rattle.lab_steady.specs.Text.{at_text, begin_text, flow_text, reason_text};
 
 use itoa::Buffer;
 use label_lattice::label::Label;
@@ -38,17 +38,6 @@ pub(crate) fn put_variable(out: &mut Vec<u8>, p: &Program, x: u32) -> Result<(),
         out.extend_from_slice(p.variable_name(x).bytes())?;
     }
     Ok(())
-}
-
-/// Whether the program writes the label of a variable.
-pub(crate) fn has_label(p: &Program, x: u32) -> bool
-    ensures { result ≡ is_declared p.now x }
-{
-    if x < p.variables() {
-        p.variable_label(x).is_some()
-    } else {
-        false
-    }
 }
 
 /// What a reason is called.

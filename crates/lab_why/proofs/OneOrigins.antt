@@ -45,7 +45,7 @@ same_origins T ts q w spot t x h k = go (written q.program spot) refl
         let no : IsOmitted q.program spot → ⊥ = λ i. none-some a (sym (omitted_written q.program spot i) ∙ e) in
         ap (λ (z : List Origin). map label_and_steps z) (h.none no ∙ sym (k.none no))
 
-one_text : (T : List ℕ) (ts : List Token) (q : LabelledProgram) (w : List ℕ) (spot : Spot) (t x : List ℕ) → TellsOrigins T ts q w spot t
+pub one_text : (T : List ℕ) (ts : List Token) (q : LabelledProgram) (w : List ℕ) (spot : Spot) (t x : List ℕ) → TellsOrigins T ts q w spot t
     → TellsOrigins T ts q w spot x → t ≡ x
 one_text T ts q w spot t x h k =
     h.lines

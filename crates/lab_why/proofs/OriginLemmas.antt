@@ -20,9 +20,9 @@ use Rattle.lab_why.specs.Names.{IsThere}
 use Rattle.lab_why.specs.Origins.{ComesFrom, HasOrigins, TellsOrigins}
 
 pub has_origins : (c : Option (Option (List ℕ))) (p : Syntax) (q : LabelledProgram) (x : Reads c p) (w : List ℕ) (spot : Spot) (text : List ℕ)
-    (tokens : List Token) (t : List ℕ)
-    → x.bytes ≡ text → x.tokens ≡ tokens → q.program ≡ p → IsLeast p q.labels → TellsOrigins text tokens q w spot t → HasOrigins c p w spot t
-has_origins c p q x w spot text tokens t bytes list program least told =
+    (tokens : List Token) (t v : List ℕ)
+    → x.bytes ≡ text → x.tokens ≡ tokens → q.program ≡ p → v ≡ w → IsLeast p q.labels → TellsOrigins text tokens q v spot t → HasOrigins c p w spot t
+has_origins c p q x w spot text tokens t v bytes list program word least told =
     let whole : ◌≡◌ {A = LabelledProgram} q (record { program = p; labels = q.labels }) =
     ap (λ (z : Syntax). record { program = z; labels = q.labels }) program in
     record {
@@ -31,7 +31,8 @@ has_origins c p q x w spot text tokens t bytes list program least told =
       least = least;
       tells = subst (λ (z : LabelledProgram). TellsOrigins x.bytes x.tokens z w spot t) whole
           (subst (λ (z : List Token). TellsOrigins x.bytes z q w spot t) (sym list)
-          (subst (λ (z : List ℕ). TellsOrigins z tokens q w spot t) (sym bytes) told));
+          (subst (λ (z : List ℕ). TellsOrigins z tokens q w spot t) (sym bytes)
+          (subst (λ (z : List ℕ). TellsOrigins text tokens q z spot t) word told)));
     }
 
 -- what stands in a program stands in the same program with its labels

@@ -5,7 +5,7 @@
 mod explained;
 mod names;
 pub mod of;
-mod origins;
+pub mod origins;
 mod refused;
-mod source;
+pub mod source;
 pub mod why;

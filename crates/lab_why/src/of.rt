@@ -50,7 +50,7 @@ fn origin_text<S: Shelf>(
         text.as_slice(),
         tokens.as_slice(),
         &labelled,
-        word,
+        word.as_bytes(),
         &spot,
     ) {
         Ok(lines) => Ok(lines),

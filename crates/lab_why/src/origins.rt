@@ -29,7 +29,7 @@ fn label_there(p: &Labelled, spot: &Spot) -> Label
 }
 
 /// The line of a label of the least labelling, and then the lines of the chains by which it comes from written labels,
-/// for a program that is spelled by the tokens of a text.
+/// for a program that is spelled by the tokens of a text. The word is what the first line calls it.
 ///
 /// # Errors
 /// `Memory` is want of memory.
@@ -38,7 +38,7 @@ pub fn label_text(
     text: &[u8],
     tokens: &[Token],
     p: &Labelled,
-    word: &str,
+    word: &[u8],
     spot: &Spot,
 ) -> Result<Vec<u8>, Memory>
     requires least { IsLeast p.now.program p.now.labels }
@@ -50,7 +50,7 @@ pub fn label_text(
     let name = program.lattice().name(label_there(p, spot));
     let lines = origins_text(alloc, text, tokens, program, origins.as_slice())?;
     let mut whole = Vec::new(alloc);
-    whole.extend_from_slice(word.as_bytes())?;
+    whole.extend_from_slice(word)?;
     whole.extend_from_slice(b" is ")?;
     whole.extend_from_slice(name.bytes())?;
     whole.extend_from_slice(b"\n")?;

@@ -1,13 +1,14 @@
-use Rattle.std.proofs.Common.{◌≡◌, ◌<◌, ℕ, length, Option, sym, ap, subst, ◌∙◌}
+use Rattle.std.proofs.Common.{◌≡◌, ◌<◌, ℕ, List, length, Option, sym, ap, subst, ◌∙◌}
 use Rattle.std.specs.Prelude.{MatchOption}
 use Rattle.std.proofs.lemmas.Option.{slice_get_within}
+use Rattle.mit_syntax.specs.declared.token.Token.{Token}
 use Rattle.mit_syntax.specs.Program.{Syntax}
 use Rattle.label_code.specs.Shaped.{Code}
 use Rattle.code_lower.specs.Lowered.{lowered}
 use Rattle.steady_code.specs.declared.fault.Fault.{Fault}
 use Rattle.steady_program.specs.Lowered.{IsSteady, IsFirstFault}
 use Rattle.lab_steady.specs.Judged.{IsJudged, told, top_of}
-use Rattle.lab_steady.specs.Text.{no_text}
+use Rattle.lab_steady.specs.Why.{TellsNo}
 use Rattle.lab_steady.proofs.Nos.{told_within}
 use Rattle.lab_steady.proofs.judge.refused.Goals as goal
 
@@ -28,17 +29,22 @@ no_text-requires-clause-place c =
     subst (λ (z : Code). c.told-fault.result.place < length z.instrs) (sym c.requires.image)
     (subst (λ (z : Fault). z.place < length code.instrs) (sym c.told-fault.ensures) inside)
 
-pub returns-clause-ok : goal.returns-clause-ok
-returns-clause-ok c =
+pub returns-in-Ok-no_text-clause-ok : goal.returns-in-Ok-no_text-clause-ok
+returns-in-Ok-no_text-clause-ok c =
     let q = c.args.p.now in
     let top : c.top-top.result.number ≡ top_of q.program.order =
     c.top-top.ensures ∙ ap top_of (c.lattice.ensures ∙ ap (λ (z : Syntax). z.order) c.program.ensures.program) in
+    let tells : TellsNo c.args.text.now c.in-Ok-tokens.tokens.items q c.args.observer.number c.args.parts.number c.told-fault.result c.in-Ok-no_text.lines.items =
+    subst (λ (z : List Token). TellsNo c.args.text.now z q c.args.observer.number c.args.parts.number c.told-fault.result c.in-Ok-no_text.lines.items)
+    c.as_slice.ensures.value c.in-Ok-no_text.ensures in
     record {
       first = c.args.first;
       is_first = c.requires.first;
       plain = c.in_ok-plain.plain.fault;
       is_plain = subst (λ (z : ℕ). IsJudged q c.args.observer.number z c.args.whole c.in_ok-plain.plain.fault) top
           (c.in_ok-plain.plain.end, c.in_ok-plain.ensures.end, c.in_ok-plain.ensures.judged);
-      text = c.in_ok-no_text.ensures
-          ∙ ap (λ (z : Fault). no_text q c.args.observer.number c.args.parts.number c.args.file.now z) c.told-fault.ensures;
+      tokens = c.in-Ok-tokens.tokens.items;
+      cut = c.in-Ok-tokens.ensures.answer;
+      tells = subst (λ (z : Fault). TellsNo c.args.text.now c.in-Ok-tokens.tokens.items q c.args.observer.number c.args.parts.number z
+          c.in-Ok-no_text.lines.items) c.told-fault.ensures tells;
     }

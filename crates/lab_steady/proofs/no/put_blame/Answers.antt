@@ -7,10 +7,10 @@ use Rattle.lab_steady.proofs.no.put_blame.Goals as goal
 
 pub returns : goal.returns
 returns c =
-    blame_put c.args.p.now c.args.observer.number c.args.file.now c.args.variable c.in-Some.x c.program-2.result.now c.variable-label.result.number
-    c.args.out.now.items c.put_flow.new.out.items c.put_named.new.out.items
+    blame_put c.args.p.now c.args.observer.number c.args.lines.now c.args.variable c.in-Some.x c.program-2.result.now c.variable-label.result.number
+    c.args.out.now.items c.put_flow.new.out.items c.extend_from_slice-2.new.self.items
     c.program-2.ensures.program
     (c.variable-label.ensures
     ∙ ap (λ (z : Order). variable_of z c.labels.result.now c.in-Some.x) (c.lattice.ensures ∙ ap (λ (z : Syntax). z.order) c.program.ensures.program)
     ∙ ap (λ (z : Labelling). variable_of c.args.p.now.program.order z c.in-Some.x) c.labels.ensures)
-    c.in-Some.is c.in_ok-put_flow.ensures c.in_ok-put_named.ensures
+    c.in-Some.is c.in_ok-put_flow.ensures c.in_ok-extend_from_slice.ensures.items
