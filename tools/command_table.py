@@ -66,11 +66,35 @@ def choices(option):
 
 def usage(program):
     """The usage text of a program, without the line feed at its end."""
+    return "usage: " + "\n       ".join(form_of(command) for command in commands(program))
+
+
+def form_of(command):
+    """A command's form as usage texts have it, with its program and its name."""
 
     def told(part):
         option = table()["option"][part["option"]] if part["option"] else {}
         value = "|".join(choices(part["option"])) if option.get("choice") else option.get("in_usage", part["value"])
         return part[0] if not part["value"] else f"{part['open']}--{part['option']} {value}{part['close']}"
 
-    forms = [f"{program} {command.name} {PART.sub(told, command.form)}" for command in commands(program)]
-    return "usage: " + "\n       ".join(forms)
+    return f"{command.program} {command.name} {PART.sub(told, command.form)}".rstrip()
+
+
+def line_of(command, part):
+    """What `lab help` tells of a word or an option."""
+    option = table()["option"].get(part.option, {})
+    if part.word:
+        return f"  {part.word:<11} {table()['word'][part.word]['is']}"
+    told = f"{option['is']}: {option['says']}" if part.value else option["says"]
+    without = command.without.get(part.option, option.get("default"))
+    return f"  --{part.option:<9} {told}" + (f"; {without} where it is left out" if without is not None else "")
+
+
+def help_text(name=""):
+    """What `lab help`, or `lab help NAME`, writes."""
+    if not name:
+        return "".join(f"lab {command.name:<9} {command.says}\n" for command in commands("lab"))
+    command = next(command for command in commands("lab") if command.name == name)
+    return "".join(
+        line + "\n" for line in [f"usage: {form_of(command)}", command.says, *(line_of(command, part) for part in command.parts())]
+    )

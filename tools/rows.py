@@ -81,7 +81,8 @@ def rows_of(table):
             rows[-1].program = mark
         elif mark == "usage":
             usage = LAB_USAGE if rows[-1].program == "lab" else USAGE
-            rows[-1].wanted, rows[-1].status = usage.encode() + b"\n", USAGE_STATUS
+            rows[-1].wanted += usage.encode() + b"\n"
+            rows[-1].status = USAGE_STATUS
         elif mark == "end":
             rows[-1].is_end = True
         elif mark:

@@ -27,7 +27,7 @@ _lab() {
     local word=${COMP_WORDS[COMP_CWORD]} before=${COMP_WORDS[COMP_CWORD - 1]} command=${COMP_WORDS[1]:-} file
     COMPREPLY=()
     if [ "$COMP_CWORD" -eq 1 ]; then
-        mapfile -t COMPREPLY < <(compgen -W "why seen timeline bound steady leak" -- "$word")
+        mapfile -t COMPREPLY < <(compgen -W "why seen timeline bound steady leak help version" -- "$word")
         return
     fi
     case $before in
@@ -59,6 +59,8 @@ _lab() {
         -*) mapfile -t COMPREPLY < <(compgen -W "$(_lab_options "$command")" -- "$word") ;;
         *)
             case $command in
+                help) mapfile -t COMPREPLY < <(compgen -W "why seen timeline bound steady leak help version" -- "$word") ;;
+                version) ;;
                 *)
                     compopt -o filenames 2>/dev/null
                     mapfile -t COMPREPLY < <(compgen -f -- "$word")

@@ -45,7 +45,7 @@ function rowsOf(table, usages) {
     else if (mark === 'read' || mark === 'write') row.hasFault = true;
     else if (mark === 'end') row.isEnd = true;
     else if (mark === 'lab') row.program = 'lab';
-    else if (mark === 'usage') Object.assign(row, { wanted: [usages[row.program]], status: USAGE });
+    else if (mark === 'usage') Object.assign(row, { wanted: [...row.wanted, usages[row.program]], status: USAGE });
     else if (mark) throw new Error(`a line of rows that is not known here: ${line}`);
   }
   return rows;

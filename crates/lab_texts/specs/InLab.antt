@@ -11,7 +11,9 @@ lab_usage_text =
     ++ (codes "       lab timeline FILE STARTS [--env flat|part|part2] [--budget T] [--observer L]\n"
     ++ (codes "       lab bound FILE STARTS --observer L [--env flat|part|part2] [--budget T]\n"
     ++ (codes "       lab steady FILE --observer L [--parts P] [--whole]\n"
-    ++ codes "       lab leak FILE STARTS --observer L [--env flat|part|part2] [--budget T]\n"))))
+    ++ (codes "       lab leak FILE STARTS --observer L [--env flat|part|part2] [--budget T]\n"
+    ++ (codes "       lab help [COMMAND]\n"
+    ++ codes "       lab version\n"))))))
 
 -- what the lab tells in place of a text of the tool
 abbrev pub lab_text : Status → List ℕ → List ℕ

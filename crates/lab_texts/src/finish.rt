@@ -22,6 +22,8 @@ pub fn usage() -> &'static [u8]
        lab bound FILE STARTS --observer L [--env flat|part|part2] [--budget T]
        lab steady FILE --observer L [--parts P] [--whole]
        lab leak FILE STARTS --observer L [--env flat|part|part2] [--budget T]
+       lab help [COMMAND]
+       lab version
 "
 }
 

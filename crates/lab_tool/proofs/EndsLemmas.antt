@@ -1,5 +1,6 @@
 -- A question that can end in some way ends so.
 use Rattle.std.proofs.Common.{◌≡◌, ◌⊎◌, ℕ, List, [], ◌∷◌, Option, Some, None, refl, inl, inr}
+use Rattle.std.specs.Bool.{⊤}
 use Rattle.tool_texts.specs.declared.status.Status.{Status}
 use Rattle.tool_texts.specs.declared.status.Status.TheVariants as status
 use Rattle.tool_texts.specs.Ends.{EndsBy}
@@ -15,7 +16,7 @@ use Rattle.lab_seen.specs.Seen.{AreLines, SeenBefore}
 use Rattle.lab_steady.specs.Answer.{parts_or}
 use Rattle.lab_steady.proofs.OneAnswer.{steady_ends}
 use Rattle.lab_timeline.specs.Timed.{AreTimelines, TimelinesBefore}
-use Rattle.lab_words.specs.QuestionAsked.{Asked, why, seen, timeline, bound, steady, leak}
+use Rattle.lab_words.specs.QuestionAsked.{Asked, why, seen, timeline, bound, steady, leak, help, version}
 use Rattle.lab_tool.specs.Answers.{Before, IsAnswer}
 use Rattle.lab_tool.specs.Complete.{CanEnd, IsDoneIf, Names, files_of}
 use Rattle.lab_tool.proofs.WhyLemmas.{origin_ends, why_ends}
@@ -91,3 +92,9 @@ completes old new Rises content (leak file starts observer env budget) r Rose en
     let m = second_file Rises content file starts [] none can.known in
     done_if (CanLeak content file starts observer env budget) r e can.goes (λ goes.
     leak_completes old new Rises content file starts observer env budget r Rose ends write goes k.0 m.0 n)
+completes old new Rises content (help command) r Rose ends write e can none n =
+    done_if ⊤ r e can.goes (λ goes.
+    ends_as old new (Before content (help command)) (IsAnswer Rises content (help command)) r status.Done ends (λ f. n (write f)) (λ t h. h.0))
+completes old new Rises content version r Rose ends write e can none n =
+    done_if ⊤ r e can.goes (λ goes.
+    ends_as old new (Before content version) (IsAnswer Rises content version) r status.Done ends (λ f. n (write f)) (λ t h. h.0))

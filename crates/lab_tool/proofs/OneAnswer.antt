@@ -12,7 +12,7 @@ use Rattle.tool_stages.specs.Content.{Content, IsKnown, AreKnown, NoneRises}
 use Rattle.tool_stages.proofs.ChainLemmas.{first_file, second_file, reads_one}
 use Rattle.tool_stages.proofs.GoesLemmas.{program_goes}
 use Rattle.tool_stages.proofs.OneLemmas.{one_program, one_program_stop}
-use Rattle.lab_words.specs.QuestionAsked.{Asked, why, seen, timeline, bound, steady, leak}
+use Rattle.lab_words.specs.QuestionAsked.{Asked, why, seen, timeline, bound, steady, leak, help, version}
 use Rattle.lab_bound.proofs.Single.{one_bound_in_lab}
 use Rattle.lab_leak.proofs.Single.{one_leak_in_lab}
 use Rattle.lab_seen.proofs.OneSeen.{seen_once}
@@ -105,3 +105,5 @@ answers_one content before now (leak file starts observer e budget) s u t x know
     let other = second_file rises content file starts [] none known in
     let one = one_leak_in_lab content before now file starts observer e budget s u t x good.1 other.1 good.0 other.0 h k in
     one
+answers_one content before now (help command) s u t x known none h k = (h.0 ∙ sym k.0, h.1 ∙ sym k.1)
+answers_one content before now version s u t x known none h k = (h.0 ∙ sym k.0, h.1 ∙ sym k.1)

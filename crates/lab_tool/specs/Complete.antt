@@ -1,5 +1,6 @@
 -- How a question can end: what must be so that nothing but want of memory ends it otherwise.
 use Rattle.std.specs.Prelude.{◌≡◌, ℕ, List, [], ◌∷◌, Option, Some, None}
+use Rattle.std.specs.Bool.{⊤}
 use Rattle.flow_path.specs.declared.step.Spot.{Spot}
 use Rattle.mit_syntax.specs.Program.{Syntax}
 use Rattle.tool_texts.specs.declared.status.Status.{Status}
@@ -13,7 +14,7 @@ use Rattle.lab_runs.specs.Begins.{CanBegin}
 use Rattle.lab_steady.specs.Answer.{parts_or}
 use Rattle.lab_steady.specs.Complete.{SteadyGoes}
 use Rattle.lab_why.specs.Names.{named}
-use Rattle.lab_words.specs.QuestionAsked.{Asked, why, seen, timeline, bound, steady, leak}
+use Rattle.lab_words.specs.QuestionAsked.{Asked, why, seen, timeline, bound, steady, leak, help, version}
 
 -- the files that a question names
 abbrev pub files_of : Asked → List (List ℕ)
@@ -23,6 +24,8 @@ files_of (timeline file starts observer e budget) = file ∷ starts ∷ []
 files_of (bound file starts observer e budget) = file ∷ starts ∷ []
 files_of (steady file observer parts whole) = file ∷ []
 files_of (leak file starts observer e budget) = file ∷ starts ∷ []
+files_of (help command) = []
+files_of version = []
 
 -- `why` is done where some labelling types the program, and tells its reason where none does
 abbrev pub WhyGoes : Option (Option (List ℕ)) → Status → Type 0
@@ -47,6 +50,8 @@ Goes content (seen file starts observer e budget) s = IsDoneIf (CanBegin content
 Goes content (bound file starts observer e budget) s = IsDoneIf (CanBound content file starts observer e budget) s
 Goes content (leak file starts observer e budget) s = IsDoneIf (CanLeak content file starts observer e budget) s
 Goes content (timeline file starts observer e budget) s = IsDoneIf (CanBegin content file starts observer) s
+Goes content (help command) s = IsDoneIf ⊤ s
+Goes content version s = IsDoneIf ⊤ s
 Goes content (steady file observer parts whole) s = SteadyGoes (content file) observer (parts_or parts observer) whole s
 
 -- the files that a question names are told to hold bytes, and with these it goes on to this end

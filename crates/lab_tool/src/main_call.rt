@@ -1,6 +1,6 @@
 //! The top call: from the words of a command line to the text that is written, and a status.
 
-ghost use Rattle.std.specs.Prelude.{◌≡◌, ◌≤◌, ◌⊎◌, None, IfSome, map, string_bytes};
+ghost use Rattle.std.specs.Prelude.{◌≡◌, ◌≢◌, ◌≤◌, ◌⊎◌, None, IfOk, IfSome, map, string_bytes};
 ghost use Rattle.tim_base.specs.Kept.{KeepsFiles, NoCountFalls};
 ghost use Rattle.tim_base.specs.Faults.{Rose};
 ghost use Rattle.tool_texts.specs.Ends.{EndsBy, Nothing};
@@ -15,18 +15,20 @@ use lab_bound::bound::bound;
 use lab_leak::leak::leak;
 use lab_seen::seen::seen;
 use lab_steady::steady::steady;
-use lab_texts::finish::stop;
+use lab_texts::finish::usage;
 use lab_timeline::timeline::timeline;
 use lab_why::of::why_of;
 use lab_why::why::why;
+use lab_words::help::{help_text, version_text};
 use lab_words::question::{Question, read_question};
+use lab_words::refusal;
 use std::alloc::Global;
+use text_base::pos::Memory;
 use tim_base::shelf::Shelf;
 use tim_base::sink::Sink;
 use tool_stages::setting::Setting;
-use tool_texts::finish::stop_for_memory;
+use tool_texts::finish::{finish, stop_for_memory};
 use tool_texts::status::Status;
-use tool_texts::stop::Stop;
 use tool_words::words::WordsFault;
 
 /// Answers a question.
@@ -96,6 +98,30 @@ fn obey<S: Shelf, W: Sink>(
             let setting = Setting { env, budget };
             leak(alloc, shelf, out, file, starts, observer, setting)
         }
+        Question::Help { command } => finish(out, help_text(command), Status::Done),
+        Question::Version => finish(out, version_text(), Status::Done),
+    }
+}
+
+/// The text on words that ask for nothing: a line on the first word that can't be taken, and the usage text.
+fn usage_text(alloc: Global, words: &[String]) -> Result<Vec<u8>, Memory>
+    ensures { IfOk result (λ v. IsUsage (map string_bytes words.now) Status.Usage v.items) }
+{
+    let mut text = refusal::line(alloc, words)?;
+    text.extend_from_slice(usage())?;
+    Ok(text)
+}
+
+/// Refuses words that ask for nothing.
+fn refuse<W: Sink>(alloc: Global, out: &mut W, words: &[String]) -> Status
+    ensures usage { EndsBy (W.taken out.old) (W.taken out.new) Nothing (IsUsage (map string_bytes words.now)) result }
+    ensures read { result ≢ Status.ReadFault }
+    ensures write { result ≡ Status.WriteFault → Rose (W.faults out.old) (W.faults out.new) }
+    ensures later { W.faults out.old ≤ W.faults out.new }
+{
+    match usage_text(alloc, words) {
+        Ok(text) => finish(out, text.as_slice(), Status::Usage),
+        Err(Memory) => stop_for_memory(out),
     }
 }
 
@@ -107,7 +133,7 @@ fn obey<S: Shelf, W: Sink>(
 /// wanting the text is the line for that, which may stand after what is told of some of the runs. After a fault of the
 /// sink a prefix of the text is written.
 ///
-/// `usage`: words that ask for nothing get the usage text.
+/// `usage`: words that ask for nothing get a line on the first of them that can't be taken, and the usage text.
 ///
 /// `complete`: a question that can end in some way ends so, want of memory aside, where no count of faults rose, neither
 /// that of a file that the words name nor that of the sink.
@@ -125,7 +151,7 @@ pub fn lab_main<S: Shelf, W: Sink>(
         EndsBy (W.taken out.old) (W.taken out.new) (Before (S.content shelf.old) a)
         (IsAnswer (λ name. Rose (S.faults shelf.old name) (S.faults shelf.new name)) (S.content shelf.old) a) result) }
     ensures usage { question_of (map string_bytes words.now) ≡ None
-        → EndsBy (W.taken out.old) (W.taken out.new) Nothing IsUsage result }
+        → EndsBy (W.taken out.old) (W.taken out.new) Nothing (IsUsage (map string_bytes words.now)) result }
     ensures complete { IfSome (question_of (map string_bytes words.now)) (λ a. (s : Status) → CanEnd (S.content shelf.old) a s
         → NoneRises (λ name. Rose (S.faults shelf.old name) (S.faults shelf.new name)) (files_of a) → (Rose (W.faults out.old) (W.faults out.new) → ⊥)
         → (result ≡ s) ⊎ (result ≡ Status.Memory)) }
@@ -139,7 +165,7 @@ pub fn lab_main<S: Shelf, W: Sink>(
 {
     match read_question(alloc, words) {
         Ok(question) => obey(alloc, shelf, out, question),
-        Err(WordsFault::Usage) => stop(out, Stop::Usage),
+        Err(WordsFault::Usage) => refuse(alloc, out, words),
         Err(WordsFault::Memory) => stop_for_memory(out),
     }
 }

@@ -1,5 +1,5 @@
 -- What the words of the lab's command line ask for.
-use Rattle.std.specs.Prelude.{ℕ, List, [], ◌∷◌, Bool, false, Option, Some, None, codes, bytes_eq, option_and_then, if◌then◌else◌}
+use Rattle.std.specs.Prelude.{ℕ, List, [], ◌∷◌, Bool, false, Option, Some, None, codes, bytes_eq, option_and_then, option_map, if◌then◌else◌}
 use Rattle.std.specs.Bool.{⊤}
 use Rattle.clap.specs.Words.{Row, Text, fault_of, first_of, matches_of}
 use Rattle.clap.specs.Walk.{is_empty}
@@ -7,11 +7,11 @@ use Rattle.tool_words.specs.declared.words.EnvName.{EnvName}
 use Rattle.run_limits.specs.Cycles.{IsCycles}
 use Rattle.tool_words.specs.WordsValues.{budget_given, env_given, observed_given}
 use Rattle.lab_words.specs.declared.verbs.Verb.{Verb}
-use Rattle.lab_words.specs.declared.verbs.Verb.TheVariants.{Why, Seen, Timeline, Bound, Steady, Leak}
+use Rattle.lab_words.specs.declared.verbs.Verb.TheVariants.{Why, Seen, Timeline, Bound, Steady, Leak, Help, Version}
 use Rattle.lab_words.specs.QuestionForms.{form_app}
 
 -- A question with the bytes of its texts, in the order of `Question`: file, starts, observer, environment and budget;
--- of `steady` file, observer, parts, and whether the whole run is asked about.
+-- of `steady` file, observer, parts, and whether the whole run is asked about; of `help` the command, if there is one.
 pub data Asked : Type 0 where
   why : Text → Option Text → Asked
   seen : Text → Text → Text → EnvName → ℕ → Asked
@@ -19,6 +19,8 @@ pub data Asked : Type 0 where
   bound : Text → Text → Text → EnvName → ℕ → Asked
   steady : Text → Text → Option Text → Bool → Asked
   leak : Text → Text → Text → EnvName → ℕ → Asked
+  help : Option Verb → Asked
+  version : Asked
 
 abbrev pub verb_named : Text → Option Verb
 verb_named word =
@@ -27,7 +29,9 @@ verb_named word =
     (if bytes_eq word (codes "timeline") then Some Timeline else
     (if bytes_eq word (codes "bound") then Some Bound else
     (if bytes_eq word (codes "steady") then Some Steady else
-    (if bytes_eq word (codes "leak") then Some Leak else None)))))
+    (if bytes_eq word (codes "leak") then Some Leak else
+    (if bytes_eq word (codes "help") then Some Help else
+    (if bytes_eq word (codes "version") then Some Version else None)))))))
 
 -- ---- the values that `clap` gives to the names of a form
 
@@ -51,6 +55,11 @@ abbrev pub steady_asked : Option Text → Option Text → Option Text → Bool �
 steady_asked (Some file) (Some observer) parts whole = Some (steady file observer parts whole)
 steady_asked _ _ _ _ = None
 
+-- what follows `help` is a command word, or nothing
+abbrev pub help_asked : Option Text → Option Asked
+help_asked None = Some (help None)
+help_asked (Some word) = option_map (λ verb. help (Some verb)) (verb_named word)
+
 abbrev pub given : Verb → List Row → Option Asked
 given Why rows = why_asked (first_of (codes "FILE") rows) (first_of (codes "of") rows)
 given Seen rows = observed_given seen rows
@@ -59,6 +68,8 @@ given Timeline rows = timeline_asked (first_of (codes "FILE") rows) (first_of (c
 given Bound rows = observed_given bound rows
 given Steady rows = steady_asked (first_of (codes "FILE") rows) (first_of (codes "observer") rows) (first_of (codes "parts") rows) (whole_given rows)
 given Leak rows = observed_given leak rows
+given Help rows = help_asked (first_of (codes "COMMAND") rows)
+given Version rows = Some version
 
 -- ---- all words
 
@@ -82,3 +93,5 @@ IsInRange (timeline file starts observer env budget) = IsCycles budget
 IsInRange (bound file starts observer env budget) = IsCycles budget
 IsInRange (steady file observer parts whole) = ⊤
 IsInRange (leak file starts observer env budget) = IsCycles budget
+IsInRange (help command) = ⊤
+IsInRange version = ⊤

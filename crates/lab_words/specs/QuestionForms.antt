@@ -4,7 +4,7 @@ use Rattle.clap.specs.Words.{App, Rule, Text, new_app, new_rule, with_rule}
 use Rattle.clap.specs.declared.builder.action.ArgAction.TheVariants.{SetTrue}
 use Rattle.tool_words.specs.WordsForms.{bare, observed_app, option_rule, required_option_rule, required_word_rule}
 use Rattle.lab_words.specs.declared.verbs.Verb.{Verb}
-use Rattle.lab_words.specs.declared.verbs.Verb.TheVariants.{Why, Seen, Timeline, Bound, Steady, Leak}
+use Rattle.lab_words.specs.declared.verbs.Verb.TheVariants.{Why, Seen, Timeline, Bound, Steady, Leak, Help, Version}
 
 -- FILE [--of NAME]
 abbrev pub why_app : App
@@ -25,6 +25,10 @@ abbrev pub steady_app : App
 steady_app = with_rule (with_rule (with_rule (with_rule (bare (new_app (codes "steady"))) (required_word_rule (codes "FILE")))
     (required_option_rule (codes "observer"))) (option_rule (codes "parts"))) (flag_rule (codes "whole"))
 
+-- [COMMAND]
+abbrev pub help_app : App
+help_app = with_rule (bare (new_app (codes "help"))) (new_rule (codes "COMMAND"))
+
 -- the words that follow each command word
 abbrev pub form_app : Verb → App
 form_app Why = why_app
@@ -33,3 +37,5 @@ form_app Timeline = timeline_app
 form_app Bound = observed_app (codes "bound")
 form_app Steady = steady_app
 form_app Leak = observed_app (codes "leak")
+form_app Help = help_app
+form_app Version = bare (new_app (codes "version"))

@@ -2,7 +2,7 @@
 use Rattle.std.specs.Prelude.{option_map}
 use Rattle.lab_words.specs.declared.question.Question.{Question}
 use Rattle.lab_words.specs.declared.question.Question.TheVariants as question
-use Rattle.lab_words.specs.QuestionAsked.{Asked, why, seen, timeline, bound, steady, leak}
+use Rattle.lab_words.specs.QuestionAsked.{Asked, why, seen, timeline, bound, steady, leak, help, version}
 
 abbrev pub asked_of : Question → Asked
 asked_of (question.Why file of) = why file.now (option_map (λ n. n.now) of)
@@ -12,3 +12,5 @@ asked_of (question.Timeline file starts observer env budget) =
 asked_of (question.Bound file starts observer env budget) = bound file.now starts.now observer.now env budget
 asked_of (question.Steady file observer parts whole) = steady file.now observer.now (option_map (λ l. l.now) parts) whole
 asked_of (question.Leak file starts observer env budget) = leak file.now starts.now observer.now env budget
+asked_of (question.Help command) = help command
+asked_of question.Version = version

@@ -2,7 +2,7 @@
 
 ghost use Rattle.std.specs.Prelude.{◌≡◌, false, IfOk};
 ghost use Rattle.clap.specs.Words.{app_of, rule_of};
-ghost use Rattle.lab_words.specs.QuestionForms.{flag_rule, form_app, steady_app, timeline_app, why_app};
+ghost use Rattle.lab_words.specs.QuestionForms.{flag_rule, form_app, help_app, steady_app, timeline_app, why_app};
 
 use crate::verbs::Verb;
 use clap::{Arg, ArgAction, Command as Form};
@@ -31,7 +31,7 @@ fn timeline_form<'a>(alloc: Global) -> Result<Form<'a>, AllocError>
 }
 
 /// A flag `--name`.
-fn flag<'a>(alloc: Global, name: &'a str) -> Arg<'a>
+pub(crate) fn flag<'a>(alloc: Global, name: &'a str) -> Arg<'a>
     ensures rule { rule_of result ≡ flag_rule name.entry.now }
     ensures local { result.global ≡ false }
 {
@@ -49,6 +49,13 @@ fn steady_form<'a>(alloc: Global) -> Result<Form<'a>, AllocError>
         .arg(flag(alloc, "whole"))
 }
 
+/// `help [COMMAND]`.
+pub(crate) fn help_form<'a>(alloc: Global) -> Result<Form<'a>, AllocError>
+    ensures { IfOk result (λ f. app_of f ≡ help_app) }
+{
+    bare_form(alloc, "help").arg(Arg::new(alloc, "COMMAND"))
+}
+
 /// The form of the words that follow a command word.
 pub(crate) fn form<'a>(alloc: Global, verb: Verb) -> Result<Form<'a>, AllocError>
     ensures { IfOk result (λ f. app_of f ≡ form_app verb) }
@@ -60,5 +67,7 @@ pub(crate) fn form<'a>(alloc: Global, verb: Verb) -> Result<Form<'a>, AllocError
         Verb::Bound => observed_form(alloc, "bound"),
         Verb::Steady => steady_form(alloc),
         Verb::Leak => observed_form(alloc, "leak"),
+        Verb::Help => help_form(alloc),
+        Verb::Version => Ok(bare_form(alloc, "version")),
     }
 }

@@ -1,7 +1,12 @@
-//! The words of the command line of `lab`, and the question that they ask.
+//! The words of the command line of `lab`, the question that they ask, and what is told of commands and of words that ask
+//! for nothing.
 #![tactic(auto)]
 
 mod forms;
+pub mod help;
+mod lines;
+mod loose;
 pub mod question;
 mod readers;
-mod verbs;
+pub mod refusal;
+pub mod verbs;

@@ -59,6 +59,12 @@ pub enum Question<'a> {
         env: EnvName,
         budget: u64,
     },
+    /// `help [COMMAND]`
+    Help {
+        command: Option<Verb>,
+    },
+    /// `version`
+    Version,
 }
 
 /// Reads the words that follow a command word.

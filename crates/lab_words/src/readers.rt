@@ -6,7 +6,7 @@ ghost use Rattle.lab_words.specs.QuestionAsked.{IsInRange, given, whole_given};
 ghost use Rattle.lab_words.specs.QuestionViews.{asked_of};
 
 use crate::question::Question;
-use crate::verbs::Verb;
+use crate::verbs::{Verb, verb_of};
 use clap::ArgMatches;
 use tool_words::readers::{budget, env, file, text};
 
@@ -117,6 +117,19 @@ fn leak<'a>(matches: &ArgMatches<'a>) -> Option<Question<'a>>
     })
 }
 
+fn help<'a>(matches: &ArgMatches<'a>) -> Option<Question<'a>>
+    ensures asked { option_map asked_of result ≡ given Verb.Help (rows_of (found_of matches.now)) }
+    ensures range { IfSome result (λ q. IsInRange (asked_of q)) }
+{
+    let Some(word) = text(matches, "COMMAND") else {
+        return Some(Question::Help { command: None });
+    };
+    let verb = verb_of(word)?;
+    Some(Question::Help {
+        command: Some(verb),
+    })
+}
+
 /// What the matches of a command ask for, if its numbers and names are of their form and in range.
 pub(crate) fn question<'a>(verb: Verb, matches: &ArgMatches<'a>) -> Option<Question<'a>>
     ensures asked { option_map asked_of result ≡ given verb (rows_of (found_of matches.now)) }
@@ -129,5 +142,7 @@ pub(crate) fn question<'a>(verb: Verb, matches: &ArgMatches<'a>) -> Option<Quest
         Verb::Bound => bound(matches),
         Verb::Steady => steady(matches),
         Verb::Leak => leak(matches),
+        Verb::Help => help(matches),
+        Verb::Version => Some(Question::Version),
     }
 }

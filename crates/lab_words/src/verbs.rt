@@ -4,14 +4,16 @@ ghost use Rattle.std.specs.Prelude.{◌≡◌};
 ghost use Rattle.lab_words.specs.QuestionAsked.{verb_named};
 
 /// The command words.
-#[derive(Clone, Copy)]
-pub(crate) enum Verb {
+#[derive(Clone, Copy, Debug, PartialEq, Eq)]
+pub enum Verb {
     Why,
     Seen,
     Timeline,
     Bound,
     Steady,
     Leak,
+    Help,
+    Version,
 }
 
 /// The command word that a text is.
@@ -25,6 +27,8 @@ pub(crate) fn verb_of(word: &str) -> Option<Verb>
         "bound" => Some(Verb::Bound),
         "steady" => Some(Verb::Steady),
         "leak" => Some(Verb::Leak),
+        "help" => Some(Verb::Help),
+        "version" => Some(Verb::Version),
         _ => None,
     }
 }

@@ -59,7 +59,7 @@ Answered Tool old words content Rises text s =
     × (command_of words ≡ None → EndsBy (Some old) (Some text) Nothing IsUsage s)
 Answered Lab old words content Rises text s =
     IfSome (question_of words) (λ a. EndsBy (Some old) (Some text) (LabBefore content a) (IsLabAnswer Rises content a) s)
-    × (question_of words ≡ None → EndsBy (Some old) (Some text) Nothing IsLabUsage s)
+    × (question_of words ≡ None → EndsBy (Some old) (Some text) Nothing (IsLabUsage words) s)
 
 -- The answer of a program to words, over files that hold this: the exit number and the text. The counts of faults of names
 -- tell of which ones a read may have failed.

@@ -29,6 +29,8 @@ const LAB_USAGE: &[u8] = b"usage: lab why FILE [--of NAME]
        lab bound FILE STARTS --observer L [--env flat|part|part2] [--budget T]
        lab steady FILE --observer L [--parts P] [--whole]
        lab leak FILE STARTS --observer L [--env flat|part|part2] [--budget T]
+       lab help [COMMAND]
+       lab version
 ";
 
 // The usage text of the program that is called.

@@ -2,14 +2,13 @@ use Rattle.std.proofs.Common.{◌≡◌, ◌⊎◌, inr, refl}
 use Rattle.std.specs.Prelude.{ℕ, List, map, string_bytes}
 use Rattle.tim_base.specs.Faults.{Rose}
 use Rattle.tool_texts.specs.declared.status.Status.{Status}
-use Rattle.tool_texts.specs.declared.status.Status.TheVariants.{Usage, Memory}
+use Rattle.tool_texts.specs.declared.status.Status.TheVariants.{Memory}
 use Rattle.tool_texts.specs.Ends.{EndsBy, Nothing}
-use Rattle.tool_texts.proofs.EndLemmas.{ends_finish, ends_memory}
+use Rattle.tool_texts.proofs.EndLemmas.{ends_memory}
 use Rattle.tool_stages.specs.Content.{NoneRises}
 use Rattle.tool_stages.specs.Fetches.{named_by}
 use Rattle.tool_stages.proofs.AskedLemmas.{any_some, asked_some}
 use Rattle.tool_stages.proofs.FetchLemmas.{fetched_nothing, never_read}
-use Rattle.lab_texts.specs.InLab.{lab_usage_text}
 use Rattle.lab_words.specs.QuestionAsked.{Asked, question_of}
 use Rattle.lab_words.specs.QuestionViews.{asked_of}
 use Rattle.lab_tool.specs.Answers.{Before, IsAnswer, IsUsage}
@@ -17,13 +16,6 @@ use Rattle.lab_tool.specs.Complete.{CanEnd, files_of}
 use Rattle.lab_tool.proofs.AskedLemmas.{nothing_before}
 use Rattle.lab_tool.proofs.EndsLemmas.{completes}
 use Rattle.lab_tool.proofs.main_call.lab_main.Goals as goal
-
-pub returns-in-Err-Usage-clause-usage : goal.returns-in-Err-Usage-clause-usage
-returns-in-Err-Usage-clause-usage g c =
-    λ e. ends_finish (g.W.Sink.taken c.args.out.now) (g.W.Sink.taken c.stop.new.out) Nothing IsUsage Usage lab_usage_text c.stop.result (
-      refl,
-      refl,
-    ) c.stop.ensures.told c.stop.ensures.prefix
 
 pub returns-in-Err-Memory-clause-answered : goal.returns-in-Err-Memory-clause-answered
 returns-in-Err-Memory-clause-answered g c =
@@ -37,7 +29,7 @@ returns-in-Err-Memory-clause-answered g c =
 
 pub returns-in-Err-Memory-clause-usage : goal.returns-in-Err-Memory-clause-usage
 returns-in-Err-Memory-clause-usage g c =
-    λ e. ends_memory (g.W.Sink.taken c.args.out.now) (g.W.Sink.taken c.stop_for_memory.new.out) Nothing IsUsage c.stop_for_memory.result refl
+    λ e. ends_memory (g.W.Sink.taken c.args.out.now) (g.W.Sink.taken c.stop_for_memory.new.out) Nothing (IsUsage (map string_bytes c.args.words.now)) c.stop_for_memory.result refl
     c.stop_for_memory.ensures.told c.stop_for_memory.ensures.prefix
 
 pub returns-in-Ok-clause-complete : goal.returns-in-Ok-clause-complete
@@ -63,8 +55,7 @@ returns-in-Err-Memory-clause-complete g c =
 
 pub returns-in-Err-Usage-clause-fetched : goal.returns-in-Err-Usage-clause-fetched
 returns-in-Err-Usage-clause-fetched g c =
-    fetched_nothing (named_by files_of (question_of (map string_bytes c.args.words.now))) (g.S.Shelf.log c.args.shelf.now) c.stop.result
-    (never_read Usage c.stop.result (λ e. absurd cc) (λ n. (c.stop.ensures.told n).0))
+    fetched_nothing (named_by files_of (question_of (map string_bytes c.args.words.now))) (g.S.Shelf.log c.args.shelf.now) c.refuse.result c.refuse.ensures.read
 
 pub returns-in-Err-Memory-clause-fetched : goal.returns-in-Err-Memory-clause-fetched
 returns-in-Err-Memory-clause-fetched g c =

@@ -1,9 +1,13 @@
-use Rattle.std.proofs.Common.{ℕ, List, Option, Bor, sym, subst}
+use Rattle.std.proofs.Common.{ℕ, List, [], Option, Bor, refl, sym, subst}
 use Rattle.tim_base.specs.Faults.{Rose}
+use Rattle.tool_texts.specs.declared.status.Status.TheVariants.{Done}
 use Rattle.tool_texts.specs.Ends.{EndsBy}
+use Rattle.tool_texts.proofs.EndLemmas.{ends_finish}
 use Rattle.tool_stages.specs.Fetches.{HasFetched}
+use Rattle.tool_stages.proofs.FetchLemmas.{fetched_nothing, never_read}
 use Rattle.lab_words.specs.declared.question.Question.{Question}
 use Rattle.lab_words.specs.declared.question.Question.TheVariants.{Why}
+use Rattle.lab_words.specs.QuestionAsked.{help, version}
 use Rattle.lab_words.specs.QuestionViews.{asked_of}
 use Rattle.lab_tool.specs.Answers.{Before, IsAnswer}
 use Rattle.lab_tool.specs.Complete.{files_of}
@@ -94,3 +98,33 @@ pub returns-in-Timeline-clause-fetched : goal.returns-in-Timeline-clause-fetched
 returns-in-Timeline-clause-fetched g c =
     subst (λ (x : Question). HasFetched (files_of (asked_of x)) c.timeline.result (g.S.Shelf.log c.args.shelf.now) (g.S.Shelf.log c.timeline.new.shelf))
     (sym c.in-Timeline.is) c.timeline.ensures.fetched
+
+pub returns-in-Help-clause-answered : goal.returns-in-Help-clause-answered
+returns-in-Help-clause-answered g c =
+    let content = g.S.Shelf.content c.args.shelf.now in
+    let rises = λ (name : List ℕ). Rose (g.S.Shelf.faults c.args.shelf.now name) (g.S.Shelf.faults c.args.shelf.now name) in
+    subst (λ (x : Question). EndsBy (g.W.Sink.taken c.args.out.now) (g.W.Sink.taken c.finish.new.out) (Before content (asked_of x))
+    (IsAnswer rises content (asked_of x)) c.finish.result) (sym c.in-Help.is)
+    (ends_finish (g.W.Sink.taken c.args.out.now) (g.W.Sink.taken c.finish.new.out) (Before content (help c.in-Help.command)) (IsAnswer rises content (help c.in-Help.command))
+    Done c.help_text.result.now c.finish.result (refl, c.help_text.ensures) c.finish.ensures.told c.finish.ensures.prefix)
+
+pub returns-in-Help-clause-fetched : goal.returns-in-Help-clause-fetched
+returns-in-Help-clause-fetched g c =
+    subst (λ (x : Question). HasFetched (files_of (asked_of x)) c.finish.result (g.S.Shelf.log c.args.shelf.now) (g.S.Shelf.log c.args.shelf.now))
+    (sym c.in-Help.is) (fetched_nothing [] (g.S.Shelf.log c.args.shelf.now) c.finish.result
+    (never_read Done c.finish.result (λ e. absurd cc) (λ n. (c.finish.ensures.told n).0)))
+
+pub returns-in-Version-clause-answered : goal.returns-in-Version-clause-answered
+returns-in-Version-clause-answered g c =
+    let content = g.S.Shelf.content c.args.shelf.now in
+    let rises = λ (name : List ℕ). Rose (g.S.Shelf.faults c.args.shelf.now name) (g.S.Shelf.faults c.args.shelf.now name) in
+    subst (λ (x : Question). EndsBy (g.W.Sink.taken c.args.out.now) (g.W.Sink.taken c.finish-2.new.out) (Before content (asked_of x))
+    (IsAnswer rises content (asked_of x)) c.finish-2.result) (sym c.in-Version.is)
+    (ends_finish (g.W.Sink.taken c.args.out.now) (g.W.Sink.taken c.finish-2.new.out) (Before content (version)) (IsAnswer rises content (version))
+    Done c.version_text.result.now c.finish-2.result (refl, c.version_text.ensures) c.finish-2.ensures.told c.finish-2.ensures.prefix)
+
+pub returns-in-Version-clause-fetched : goal.returns-in-Version-clause-fetched
+returns-in-Version-clause-fetched g c =
+    subst (λ (x : Question). HasFetched (files_of (asked_of x)) c.finish-2.result (g.S.Shelf.log c.args.shelf.now) (g.S.Shelf.log c.args.shelf.now))
+    (sym c.in-Version.is) (fetched_nothing [] (g.S.Shelf.log c.args.shelf.now) c.finish-2.result
+    (never_read Done c.finish-2.result (λ e. absurd cc) (λ n. (c.finish-2.ensures.told n).0)))
