@@ -5,8 +5,9 @@
 _lab_options() {
     case $1 in
         why) echo "--of" ;;
-        seen | bound | leak) echo "--observer --env --budget" ;;
+        seen) echo "--observer --env --budget --refused" ;;
         timeline) echo "--env --budget --observer" ;;
+        bound | leak) echo "--observer --env --budget" ;;
         steady) echo "--observer --parts --whole" ;;
     esac
 }

@@ -56,14 +56,15 @@ fn write_class<E: MachineEnv + Drop, M: MakeEnv<E>>(
         ++ line_text p.now.compiled.typed.labelled p.now.observer first
         (told_by (run_from E.env p.now.compiled.image.instrs budget (start_of M.made p.now.compiled.typed.labelled.program.order (seen start.now)))))) }
 {
-    let mut machine = load(alloc, maker, &p.compiled, start)?;
+    let labelled = p.compiled.typed.labelled();
+    let mut machine = load(alloc, maker, labelled, &p.compiled.image, start)?;
     let words = class_words(size);
-    let (typed, runs) = (&p.compiled.typed, p.starts.len());
+    let runs = p.starts.len();
     match write_all(out, words.bytes()) {
         Ok(()) => {}
         Err(_) => return Err(Memory),
     }
-    match write_line(&mut machine, typed, p.observer, first, runs, budget, out) {
+    match write_line(&mut machine, labelled, p.observer, first, runs, budget, out) {
         Ok(()) => Ok(()),
         Err(_) => Err(Memory),
     }

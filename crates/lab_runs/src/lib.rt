@@ -2,3 +2,5 @@
 #![tactic(auto)]
 
 pub mod fault;
+pub mod least;
+pub mod shown;

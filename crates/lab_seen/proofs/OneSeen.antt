@@ -1,5 +1,5 @@
 -- Two answers of `seen` are one.
-use Rattle.std.proofs.Common.{◌≡◌, ℕ, List, Option, Some, None, sym, ◌∙◌}
+use Rattle.std.proofs.Common.{◌≡◌, ℕ, List, Bool, Option, Some, None, sym, ◌∙◌}
 use Rattle.label_lattice.specs.declared.label.Label.{Label}
 use Rattle.timing_types.specs.Labelled.{LabelledProgram}
 use Rattle.label_code.specs.Shaped.{Code}
@@ -8,7 +8,7 @@ use Rattle.tool_words.specs.declared.words.EnvName.{EnvName}
 use Rattle.tool_texts.specs.declared.status.Status.{Status}
 use Rattle.tool_stages.specs.Content.{Content, IsKnown}
 use Rattle.tool_stages.proofs.OneLemmas.{Same}
-use Rattle.lab_runs.proofs.BeginLemmas.{one_begin}
+use Rattle.lab_runs.proofs.ShownLemmas.{one_shows}
 use Rattle.lab_seen.specs.Seen.{AreLines, IsSeen}
 
 one_text : (e : EnvName) (budget : ℕ) (q : LabelledProgram) (o : Option Label) (code : Code) (ss : List StartValue) (y z : List ℕ)
@@ -16,8 +16,9 @@ one_text : (e : EnvName) (budget : ℕ) (q : LabelledProgram) (o : Option Label)
 one_text e budget q None code ss y z h k = absurd h
 one_text e budget q (Some l) code ss y z h k = h ∙ sym k
 
-pub seen_once : (Rises : List ℕ → Type 0) (content : Content) (file starts observer : List ℕ) (e : EnvName) (budget : ℕ) (s u : Status) (t x : List ℕ)
+pub seen_once : (Rises : List ℕ → Type 0) (content : Content) (file starts observer : List ℕ) (e : EnvName) (budget : ℕ) (refused : Bool) (s u : Status)
+    (t x : List ℕ)
     → (Rises file → ⊥) → (Rises starts → ⊥) → IsKnown (content file) → IsKnown (content starts)
-    → IsSeen Rises content file starts observer e budget s t → IsSeen Rises content file starts observer e budget u x → Same s u t x
-seen_once Rises content file starts observer e budget s u t x n m known kept =
-    one_begin Rises content file starts (Some observer) (AreLines e budget) s u t x n m known kept (one_text e budget)
+    → IsSeen Rises content file starts observer e budget refused s t → IsSeen Rises content file starts observer e budget refused u x → Same s u t x
+seen_once Rises content file starts observer e budget refused s u t x n m known kept =
+    one_shows refused Rises content file starts (Some observer) (AreLines e budget) s u t x n m known kept (one_text e budget)

@@ -1,5 +1,5 @@
 -- What an observer sees of the runs of a program, a line for each.
-use Rattle.std.specs.Prelude.{◌≡◌, ℕ, List, ◌++◌, Option, Some, None, codes, decimal}
+use Rattle.std.specs.Prelude.{◌≡◌, ℕ, List, ◌++◌, Bool, Option, Some, None, codes, decimal}
 use Rattle.label_lattice.specs.declared.label.Label.{Label}
 use Rattle.timing_types.specs.Labelled.{LabelledProgram}
 use Rattle.label_code.specs.Shaped.{Code}
@@ -12,7 +12,7 @@ use Rattle.tool_stages.specs.Content.{Content}
 use Rattle.tool_stages.specs.Envs.{told_in}
 use Rattle.lab_texts.specs.InLab.{InLab}
 use Rattle.lab_runs.specs.Runs.{texts}
-use Rattle.lab_runs.specs.Begins.{Begins, Before}
+use Rattle.lab_runs.specs.Shown.{ShowsRuns, ShowsBefore}
 
 -- the number of a run, a tab, and the field of what the observer sees of it
 abbrev pub line_text : LabelledProgram → Label → ℕ → Told → List ℕ
@@ -27,10 +27,10 @@ abbrev pub AreLines : EnvName → ℕ → LabelledProgram → Option Label → C
 AreLines e t q None code ss x = ⊥
 AreLines e t q (Some l) code ss x = x ≡ texts (line_in e t q l code) ss
 
--- the answer of `seen`
-abbrev pub IsSeen : (List ℕ → Type 0) → Content → List ℕ → List ℕ → List ℕ → EnvName → ℕ → Status → List ℕ → Type 0
-IsSeen Rises content file starts observer e t = InLab (Begins Rises content file starts (Some observer) (AreLines e t))
+-- the answer of `seen`, where refused programs are asked for and where not
+abbrev pub IsSeen : (List ℕ → Type 0) → Content → List ℕ → List ℕ → List ℕ → EnvName → ℕ → Bool → Status → List ℕ → Type 0
+IsSeen Rises content file starts observer e t refused = InLab (ShowsRuns refused Rises content file starts (Some observer) (AreLines e t))
 
 -- what may stand before the line for memory
-abbrev pub SeenBefore : Content → List ℕ → List ℕ → List ℕ → EnvName → ℕ → List ℕ → Type 0
-SeenBefore content file starts observer e t = Before content file starts (Some observer) (AreLines e t)
+abbrev pub SeenBefore : Content → List ℕ → List ℕ → List ℕ → EnvName → ℕ → Bool → List ℕ → Type 0
+SeenBefore content file starts observer e t refused = ShowsBefore refused content file starts (Some observer) (AreLines e t)

@@ -16,7 +16,7 @@ use seen_line::cells::put_number;
 use seen_line::write::write_seen;
 use tim_base::line::Line;
 use tim_base::sink::{Sink, SinkFault, write_all};
-use timing_types::typed::Typed;
+use timing_types::labelled::Labelled;
 
 // The number of a run and a tab.
 fn head_line(number: u32) -> Line
@@ -36,18 +36,18 @@ fn head_line(number: u32) -> Line
 /// The sink's fault, where a prefix of the line is written.
 pub fn write_line<E: MachineEnv + Drop, W: Sink>(
     machine: &mut Machine<E>,
-    p: &Typed,
+    p: &Labelled,
     observer: Label,
     number: u32,
     runs: usize,
     limit: u64,
     out: &mut W,
 ) -> Result<(), SinkFault>
-    requires variables { machine.old.code.variables ≡ variables p.now.labelled.program.declarations }
-    requires observer { observer.number < p.now.labelled.program.order.size }
-    ensures text { OnOk result (Appends (W.taken out.old) (W.taken out.new) (line_text p.now.labelled observer number (rest_of E.env limit machine.old))) }
+    requires variables { machine.old.code.variables ≡ variables p.now.program.declarations }
+    requires observer { observer.number < p.now.program.order.size }
+    ensures text { OnOk result (Appends (W.taken out.old) (W.taken out.new) (line_text p.now observer number (rest_of E.env limit machine.old))) }
     ensures prefix { OnErr result (AppendsPrefix (W.taken out.old) (W.taken out.new)
-        (line_text p.now.labelled observer number (rest_of E.env limit machine.old))) }
+        (line_text p.now observer number (rest_of E.env limit machine.old))) }
     ensures later { W.faults out.old ≤ W.faults out.new }
     ensures fault { OnErr result (Rose (W.faults out.old) (W.faults out.new)) }
 {

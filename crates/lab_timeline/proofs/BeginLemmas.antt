@@ -18,7 +18,8 @@ use Rattle.tool_stages.proofs.RunLemmas.{observer_below}
 use Rattle.tool_stages.proofs.StartLemmas.{count_given}
 use Rattle.tool_stages.proofs.StopLemmas.{compiles_map, compiled_goes, start_rise, then_map}
 use Rattle.lab_runs.specs.Begins.{OfRuns, Begins}
-use Rattle.lab_timeline.specs.Begun.{IsBegun, BeginStops, CanRun}
+use Rattle.lab_runs.specs.CanRun.{CanRun}
+use Rattle.lab_timeline.specs.Begun.{IsBegun, BeginStops}
 
 module _ (Rises : List ℕ → Type 0) (content : Content) (file starts : List ℕ) (observer : Option (List ℕ)) where
   abbrev stop_next : Syntax → LabelledProgram → Option Label → Code → Status → List ℕ → Type 0

@@ -1,10 +1,9 @@
 -- What runs begin with, where an observer may be left out.
-use Rattle.std.specs.Prelude.{◌≡◌, ◌<◌, ◌≤◌, ℕ, List, All, length, Option, IfSome}
+use Rattle.std.specs.Prelude.{ℕ, List, Option}
 use Rattle.label_lattice.specs.declared.label.Label.{Label}
 use Rattle.timing_types.specs.Labelled.{LabelledProgram}
 use Rattle.label_code.specs.Shaped.{Code}
-use Rattle.code_lower.specs.Lowered.{lowered}
-use Rattle.start_file.specs.Starts.{StartValue, IsFor}
+use Rattle.start_file.specs.Starts.{StartValue}
 use Rattle.tool_texts.specs.declared.status.Status.{Status}
 use Rattle.tool_stages.specs.Stages.{Then, StartStops, StartsAre}
 use Rattle.tool_stages.specs.Content.{Content}
@@ -21,10 +20,3 @@ abbrev pub BeginStops : (List ℕ → Type 0) → Content → List ℕ → List 
 BeginStops Rises content file starts observer =
     Compiles Rises content file observer (λ p q o code.
     Then (StartStops (Rises starts) (content starts) p) (StartsAre (content starts) p) (λ ss. NoMore))
-
--- and what runs ask of it
-pub record CanRun (q : LabelledProgram) (o : Option Label) (code : Code) (ss : List StartValue) : Type 0 where
-  pub image : code ≡ lowered q
-  pub observer : IfSome o (λ l. l.number < q.program.order.size)
-  pub few : length ss ≤ 4096
-  pub starts : All (IsFor q.program) ss

@@ -7,7 +7,8 @@ ghost use Rattle.start_file.specs.Starts.{seen};
 ghost use Rattle.tool_texts.specs.Ends.{IsStop, status_of};
 ghost use Rattle.tool_stages.specs.Accepted.{is_past_typing, IsAccepted};
 ghost use Rattle.tool_stages.specs.Fetches.{Fetches};
-ghost use Rattle.lab_timeline.specs.Begun.{IsBegun, BeginStops, CanRun};
+ghost use Rattle.lab_runs.specs.CanRun.{CanRun};
+ghost use Rattle.lab_timeline.specs.Begun.{IsBegun, BeginStops};
 
 use start_file::start::Start;
 use std::alloc::Global;

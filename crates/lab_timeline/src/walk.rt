@@ -8,7 +8,7 @@ ghost use Rattle.start_file.specs.Starts.{seen};
 ghost use Rattle.run_timeline.specs.Places.{places};
 ghost use Rattle.run_timeline.specs.Tallied.{no_tally};
 ghost use Rattle.run_limits.specs.Cycles.{IsCycles};
-ghost use Rattle.lab_timeline.specs.Begun.{CanRun};
+ghost use Rattle.lab_runs.specs.CanRun.{CanRun};
 ghost use Rattle.lab_timeline.specs.Written.{WritesRuns, WritesFew, BreaksFew, WritesAll, BreaksAll};
 
 use crate::begin::Begun;

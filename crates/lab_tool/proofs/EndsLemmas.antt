@@ -11,7 +11,9 @@ use Rattle.lab_bound.proofs.Answering.{completes as bound_completes}
 use Rattle.lab_leak.specs.Complete.{CanLeak}
 use Rattle.lab_leak.proofs.Answering.{completes as leak_completes}
 use Rattle.lab_runs.specs.Begins.{CanBegin}
+use Rattle.lab_runs.specs.Shown.{CanShow}
 use Rattle.lab_runs.proofs.BeginLemmas.{begin_completes}
+use Rattle.lab_runs.proofs.ShownLemmas.{show_completes}
 use Rattle.lab_seen.specs.Seen.{AreLines, SeenBefore}
 use Rattle.lab_steady.specs.Answer.{parts_or}
 use Rattle.lab_steady.proofs.OneAnswer.{steady_ends}
@@ -66,11 +68,12 @@ completes old new Rises content (why file (Some name)) r Rose ends write e can n
     done_if (Names (content file) name) r e can.goes (λ goes.
     ends_as old new (Before content (why file (Some name))) (IsAnswer Rises content (why file (Some name))) r status.Done ends (λ f. n (write f))
     (λ t h. origin_ends Rises content file name r t k.0 k.1 goes h))
-completes old new Rises content (seen file starts observer env budget) r Rose ends write e can none n =
+completes old new Rises content (seen file starts observer env budget refused) r Rose ends write e can none n =
     let k = first_file Rises content file (starts ∷ []) none can.known in
     let m = second_file Rises content file starts [] none can.known in
-    done_if (CanBegin content file starts (Some observer)) r e can.goes (λ goes.
-    begin_completes Rises content file starts (Some observer) (AreLines env budget) old new (SeenBefore content file starts observer env budget) r
+    done_if (CanShow refused content file starts (Some observer)) r e can.goes (λ goes.
+    show_completes refused Rises content file starts (Some observer) (AreLines env budget) old new
+    (SeenBefore content file starts observer env budget refused) r
     Rose ends write goes k.0 m.0 n)
 completes old new Rises content (timeline file starts observer env budget) r Rose ends write e can none n =
     let k = first_file Rises content file (starts ∷ []) none can.known in

@@ -76,11 +76,11 @@ answers_one content before now (why file (Some name)) s u t x known none h k =
     (λ p. Then (NameStops p name) (λ spot. named p name ≡ Some spot) (λ spot s t. (s ≡ Done) × HasOrigins (content file) p name spot t)) good.0 good.1
     (λ p o. origin_one (content file) p name s u h.0 k.0 (λ spot. one_origins (content file) p name spot h.0 k.0 good.1 o)) h.1 k.1 in
     (one.0, h.2 ∙ ap (λ (z : Status). lab_text z h.0) one.0 ∙ ap (lab_text u) one.1 ∙ sym k.2)
-answers_one content before now (seen file starts observer e budget) s u t x known none h k =
+answers_one content before now (seen file starts observer e budget refused) s u t x known none h k =
     let rises = λ (name : List ℕ). Rose (before name) (now name) in
     let good = first_file rises content file (starts ∷ []) none known in
     let other = second_file rises content file starts [] none known in
-    let one = seen_once rises content file starts observer e budget s u t x good.0 other.0 good.1 other.1 h k in
+    let one = seen_once rises content file starts observer e budget refused s u t x good.0 other.0 good.1 other.1 h k in
     one
 answers_one content before now (timeline file starts observer e budget) s u t x known none h k =
     let rises = λ (name : List ℕ). Rose (before name) (now name) in

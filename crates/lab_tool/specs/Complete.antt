@@ -11,6 +11,7 @@ use Rattle.tool_stages.specs.Goes.{IsTypable}
 use Rattle.lab_bound.specs.Complete.{CanBound}
 use Rattle.lab_leak.specs.Complete.{CanLeak}
 use Rattle.lab_runs.specs.Begins.{CanBegin}
+use Rattle.lab_runs.specs.Shown.{CanShow}
 use Rattle.lab_steady.specs.Answer.{parts_or}
 use Rattle.lab_steady.specs.Complete.{SteadyGoes}
 use Rattle.lab_why.specs.Names.{named}
@@ -19,7 +20,7 @@ use Rattle.lab_words.specs.QuestionAsked.{Asked, why, seen, timeline, bound, ste
 -- the files that a question names
 abbrev pub files_of : Asked → List (List ℕ)
 files_of (why file of) = file ∷ []
-files_of (seen file starts observer e budget) = file ∷ starts ∷ []
+files_of (seen file starts observer e budget refused) = file ∷ starts ∷ []
 files_of (timeline file starts observer e budget) = file ∷ starts ∷ []
 files_of (bound file starts observer e budget) = file ∷ starts ∷ []
 files_of (steady file observer parts whole) = file ∷ []
@@ -46,7 +47,7 @@ Names content w = (p : Syntax) × Reads content p × (spot : Spot) × (named p w
 abbrev pub Goes : Content → Asked → Status → Type 0
 Goes content (why file None) s = WhyGoes (content file) s
 Goes content (why file (Some name)) s = IsDoneIf (Names (content file) name) s
-Goes content (seen file starts observer e budget) s = IsDoneIf (CanBegin content file starts (Some observer)) s
+Goes content (seen file starts observer e budget refused) s = IsDoneIf (CanShow refused content file starts (Some observer)) s
 Goes content (bound file starts observer e budget) s = IsDoneIf (CanBound content file starts observer e budget) s
 Goes content (leak file starts observer e budget) s = IsDoneIf (CanLeak content file starts observer e budget) s
 Goes content (timeline file starts observer e budget) s = IsDoneIf (CanBegin content file starts observer) s

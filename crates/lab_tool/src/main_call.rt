@@ -58,9 +58,10 @@ fn obey<S: Shelf, W: Sink>(
             observer,
             env,
             budget,
+            refused,
         } => {
             let setting = Setting { env, budget };
-            seen(alloc, shelf, out, file, starts, observer, setting)
+            seen(alloc, shelf, out, file, starts, observer, setting, refused)
         }
         Question::Timeline {
             file,

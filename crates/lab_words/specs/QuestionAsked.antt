@@ -11,10 +11,11 @@ use Rattle.lab_words.specs.declared.verbs.Verb.TheVariants.{Why, Seen, Timeline,
 use Rattle.lab_words.specs.QuestionForms.{form_app}
 
 -- A question with the bytes of its texts, in the order of `Question`: file, starts, observer, environment and budget;
--- of `steady` file, observer, parts, and whether the whole run is asked about; of `help` the command, if there is one.
+-- of `seen` also whether refused programs run; of `steady` file, observer, parts, and whether the whole run is asked about;
+-- of `help` the command, if there is one.
 pub data Asked : Type 0 where
   why : Text → Option Text → Asked
-  seen : Text → Text → Text → EnvName → ℕ → Asked
+  seen : Text → Text → Text → EnvName → ℕ → Bool → Asked
   timeline : Text → Text → Option Text → EnvName → ℕ → Asked
   bound : Text → Text → Text → EnvName → ℕ → Asked
   steady : Text → Text → Option Text → Bool → Asked
@@ -48,8 +49,8 @@ abbrev pub is_true : Option Text → Bool
 is_true None = false
 is_true (Some word) = bytes_eq word (codes "true")
 
-abbrev pub whole_given : List Row → Bool
-whole_given rows = is_true (first_of (codes "whole") rows)
+abbrev pub flag_given : Text → List Row → Bool
+flag_given name rows = is_true (first_of name rows)
 
 abbrev pub steady_asked : Option Text → Option Text → Option Text → Bool → Option Asked
 steady_asked (Some file) (Some observer) parts whole = Some (steady file observer parts whole)
@@ -62,11 +63,12 @@ help_asked (Some word) = option_map (λ verb. help (Some verb)) (verb_named word
 
 abbrev pub given : Verb → List Row → Option Asked
 given Why rows = why_asked (first_of (codes "FILE") rows) (first_of (codes "of") rows)
-given Seen rows = observed_given seen rows
+given Seen rows = observed_given (λ file starts observer env budget.
+    seen file starts observer env budget (flag_given (codes "refused") rows)) rows
 given Timeline rows = timeline_asked (first_of (codes "FILE") rows) (first_of (codes "STARTS") rows) (env_given rows)
     (budget_given rows) (first_of (codes "observer") rows)
 given Bound rows = observed_given bound rows
-given Steady rows = steady_asked (first_of (codes "FILE") rows) (first_of (codes "observer") rows) (first_of (codes "parts") rows) (whole_given rows)
+given Steady rows = steady_asked (first_of (codes "FILE") rows) (first_of (codes "observer") rows) (first_of (codes "parts") rows) (flag_given (codes "whole") rows)
 given Leak rows = observed_given leak rows
 given Help rows = help_asked (first_of (codes "COMMAND") rows)
 given Version rows = Some version
@@ -88,7 +90,7 @@ question_of (word ∷ words) = option_and_then (λ verb. asked_after verb words)
 -- the budget of a question is in range
 abbrev pub IsInRange : Asked → Type 0
 IsInRange (why file of) = ⊤
-IsInRange (seen file starts observer env budget) = IsCycles budget
+IsInRange (seen file starts observer env budget refused) = IsCycles budget
 IsInRange (timeline file starts observer env budget) = IsCycles budget
 IsInRange (bound file starts observer env budget) = IsCycles budget
 IsInRange (steady file observer parts whole) = ⊤

@@ -20,6 +20,10 @@ timeline_app = with_rule (with_rule (with_rule (with_rule (with_rule (bare (new_
 abbrev pub flag_rule : Text → Rule
 flag_rule name = record (new_rule name) { long = Some name; action = Some SetTrue }
 
+-- FILE STARTS --observer L [--env E] [--budget T] [--refused]
+abbrev pub seen_app : App
+seen_app = with_rule (observed_app (codes "seen")) (flag_rule (codes "refused"))
+
 -- FILE --observer L [--parts P] [--whole]
 abbrev pub steady_app : App
 steady_app = with_rule (with_rule (with_rule (with_rule (bare (new_app (codes "steady"))) (required_word_rule (codes "FILE")))
@@ -32,7 +36,7 @@ help_app = with_rule (bare (new_app (codes "help"))) (new_rule (codes "COMMAND")
 -- the words that follow each command word
 abbrev pub form_app : Verb → App
 form_app Why = why_app
-form_app Seen = observed_app (codes "seen")
+form_app Seen = seen_app
 form_app Timeline = timeline_app
 form_app Bound = observed_app (codes "bound")
 form_app Steady = steady_app

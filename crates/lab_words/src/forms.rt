@@ -2,7 +2,7 @@
 
 ghost use Rattle.std.specs.Prelude.{◌≡◌, false, IfOk};
 ghost use Rattle.clap.specs.Words.{app_of, rule_of};
-ghost use Rattle.lab_words.specs.QuestionForms.{flag_rule, form_app, help_app, steady_app, timeline_app, why_app};
+ghost use Rattle.lab_words.specs.QuestionForms.{flag_rule, form_app, help_app, seen_app, steady_app, timeline_app, why_app};
 
 use crate::verbs::Verb;
 use clap::{Arg, ArgAction, Command as Form};
@@ -38,6 +38,13 @@ pub(crate) fn flag<'a>(alloc: Global, name: &'a str) -> Arg<'a>
     Arg::new(alloc, name).long(name).action(ArgAction::SetTrue)
 }
 
+/// `seen FILE STARTS --observer L [--env E] [--budget T] [--refused]`.
+fn seen_form<'a>(alloc: Global) -> Result<Form<'a>, AllocError>
+    ensures { IfOk result (λ f. app_of f ≡ seen_app) }
+{
+    observed_form(alloc, "seen")?.arg(flag(alloc, "refused"))
+}
+
 /// `steady FILE --observer L [--parts P] [--whole]`.
 fn steady_form<'a>(alloc: Global) -> Result<Form<'a>, AllocError>
     ensures { IfOk result (λ f. app_of f ≡ steady_app) }
@@ -62,7 +69,7 @@ pub(crate) fn form<'a>(alloc: Global, verb: Verb) -> Result<Form<'a>, AllocError
 {
     match verb {
         Verb::Why => why_form(alloc),
-        Verb::Seen => observed_form(alloc, "seen"),
+        Verb::Seen => seen_form(alloc),
         Verb::Timeline => timeline_form(alloc),
         Verb::Bound => observed_form(alloc, "bound"),
         Verb::Steady => steady_form(alloc),

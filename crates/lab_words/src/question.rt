@@ -20,13 +20,14 @@ pub enum Question<'a> {
         file: &'a str,
         of: Option<&'a str>,
     },
-    /// `seen FILE STARTS --observer L [--env E] [--budget T]`, `budget` from 1 to `MAX_CYCLES`
+    /// `seen FILE STARTS --observer L [--env E] [--budget T] [--refused]`, `budget` from 1 to `MAX_CYCLES`
     Seen {
         file: &'a str,
         starts: &'a str,
         observer: &'a str,
         env: EnvName,
         budget: u64,
+        refused: bool,
     },
     /// `timeline FILE STARTS [--env E] [--budget T] [--observer L]`, `budget` from 1 to `MAX_CYCLES`
     Timeline {

@@ -2,7 +2,7 @@
 
 ghost use Rattle.std.specs.Prelude.{◌≡◌, IfSome, option_map};
 ghost use Rattle.clap.specs.Words.{found_of, rows_of};
-ghost use Rattle.lab_words.specs.QuestionAsked.{IsInRange, given, whole_given};
+ghost use Rattle.lab_words.specs.QuestionAsked.{IsInRange, flag_given, given};
 ghost use Rattle.lab_words.specs.QuestionViews.{asked_of};
 
 use crate::question::Question;
@@ -28,12 +28,14 @@ fn seen<'a>(matches: &ArgMatches<'a>) -> Option<Question<'a>>
     let observer = text(matches, "observer")?;
     let env = env(matches)?;
     let budget = budget(matches)?;
+    let refused = flag(matches, "refused");
     Some(Question::Seen {
         file,
         starts,
         observer,
         env,
         budget,
+        refused,
     })
 }
 
@@ -73,11 +75,11 @@ fn bound<'a>(matches: &ArgMatches<'a>) -> Option<Question<'a>>
     })
 }
 
-// Whether the flag is among the words.
-fn whole(matches: &ArgMatches<'_>) -> bool
-    ensures { result ≡ whole_given (rows_of (found_of matches.now)) }
+// Whether a flag is among the words.
+fn flag(matches: &ArgMatches<'_>, name: &str) -> bool
+    ensures { result ≡ flag_given name.now (rows_of (found_of matches.now)) }
 {
-    match text(matches, "whole") {
+    match text(matches, name) {
         Some(word) => word == "true",
         None => false,
     }
@@ -90,7 +92,7 @@ fn steady<'a>(matches: &ArgMatches<'a>) -> Option<Question<'a>>
     let file = file(matches)?;
     let observer = text(matches, "observer")?;
     let parts = text(matches, "parts");
-    let whole = whole(matches);
+    let whole = flag(matches, "whole");
     Some(Question::Steady {
         file,
         observer,

@@ -18,7 +18,7 @@ use label_lattice::label::Label;
 use run_watch::{RunNumber, Watched};
 use tim_base::line::Line;
 use tim_base::sink::{Sink, SinkFault};
-use timing_types::typed::Typed;
+use timing_types::labelled::Labelled;
 
 /// Runs a machine to a limit in cycles, and writes what an observer sees of the run as one field: each
 /// assignment that it sees as `X=V@C`, with the place of an element in brackets after its array's name, and a
@@ -30,31 +30,30 @@ use timing_types::typed::Typed;
 /// The sink's fault, where a prefix of the field is written.
 pub fn write_seen<E: MachineEnv + Drop, W: Sink>(
     m: &mut Machine<E>,
-    p: &Typed,
+    p: &Labelled,
     observer: Label,
     limit: u64,
     number: RunNumber,
     out: &mut W,
 ) -> Result<(), SinkFault>
-    requires variables { m.old.code.variables ≡ variables p.now.labelled.program.declarations }
-    requires observer { observer.number < p.now.labelled.program.order.size }
-    ensures text { OnOk result (Appends (W.taken out.old) (W.taken out.new) (seen_text p.now.labelled observer (rest_of E.env limit m.old))) }
-    ensures prefix { OnErr result (AppendsPrefix (W.taken out.old) (W.taken out.new) (seen_text p.now.labelled observer (rest_of E.env limit m.old))) }
-    ensures printable { OnOk result (ArePrintable (variables p.now.labelled.program.declarations)
-        (visible (order_of p.now.labelled) (labels_of p.now.labelled) observer.number (rest_of E.env limit m.old).events)) }
+    requires variables { m.old.code.variables ≡ variables p.now.program.declarations }
+    requires observer { observer.number < p.now.program.order.size }
+    ensures text { OnOk result (Appends (W.taken out.old) (W.taken out.new) (seen_text p.now observer (rest_of E.env limit m.old))) }
+    ensures prefix { OnErr result (AppendsPrefix (W.taken out.old) (W.taken out.new) (seen_text p.now observer (rest_of E.env limit m.old))) }
+    ensures printable { OnOk result (ArePrintable (variables p.now.program.declarations)
+        (visible (order_of p.now) (labels_of p.now) observer.number (rest_of E.env limit m.old).events)) }
     ensures later { W.faults out.old ≤ W.faults out.new }
     ensures fault { OnErr result (Rose (W.faults out.old) (W.faults out.new)) }
 {
-    let labelled = p.labelled();
     m.laws();
-    let shown = shown_variables(labelled, Some(observer));
+    let shown = shown_variables(p, Some(observer));
     let mut line = Line::new();
     let mut none = true;
     'run: loop {
         m.laws();
         let watch = Watched::new(&*out, number);
         let turn = m.next_shown(limit, &shown, &watch);
-        let written = write_turn(labelled.program(), none, turn, &mut line, out)?;
+        let written = write_turn(p.program(), none, turn, &mut line, out)?;
         if written.last {
             return Ok(());
         }

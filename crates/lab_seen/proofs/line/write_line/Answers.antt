@@ -13,14 +13,14 @@ on_err (Err e) P h = h
 pub returns-in_err-write_all-clause-prefix : goal.returns-in_err-write_all-clause-prefix
 returns-in_err-write_all-clause-prefix g c =
     let v : Env g.row.E.Denot = g.E.MachineEnv.env in
-    let field : List ℕ = seen_text c.args.p.now.labelled c.args.observer (rest_of v c.args.limit c.args.machine.now) in
+    let field : List ℕ = seen_text c.args.p.now c.args.observer (rest_of v c.args.limit c.args.machine.now) in
     on_err _ _ (broke_head c.bytes.result.now (decimal c.args.number) field (c.bytes.ensures ∙ c.head_line-head.ensures) (g.W.Sink.taken c.args.out.now)
     (g.W.Sink.taken c.write_all.new.out) c.in_err-write_all.ensures.prefix)
 
 pub returns-in_err-write_seen-clause-prefix : goal.returns-in_err-write_seen-clause-prefix
 returns-in_err-write_seen-clause-prefix g c =
     let v : Env g.row.E.Denot = g.E.MachineEnv.env in
-    let field : List ℕ = seen_text c.args.p.now.labelled c.args.observer (rest_of v c.args.limit c.args.machine.now) in
+    let field : List ℕ = seen_text c.args.p.now c.args.observer (rest_of v c.args.limit c.args.machine.now) in
     on_err _ _ (broke_field c.bytes.result.now (decimal c.args.number) field (c.bytes.ensures ∙ c.head_line-head.ensures) (g.W.Sink.taken c.args.out.now)
     (g.W.Sink.taken c.write_all.new.out) (g.W.Sink.taken c.write_seen.new.out)
     c.in_ok-write_all.ensures.ok c.in_err-write_seen.ensures.prefix)
@@ -28,7 +28,7 @@ returns-in_err-write_seen-clause-prefix g c =
 pub returns-in_err-write_all-2-clause-prefix : goal.returns-in_err-write_all-2-clause-prefix
 returns-in_err-write_all-2-clause-prefix g c =
     let v : Env g.row.E.Denot = g.E.MachineEnv.env in
-    let field : List ℕ = seen_text c.args.p.now.labelled c.args.observer (rest_of v c.args.limit c.args.machine.now) in
+    let field : List ℕ = seen_text c.args.p.now c.args.observer (rest_of v c.args.limit c.args.machine.now) in
     on_err _ _ (broke_end c.bytes.result.now (decimal c.args.number) field (c.bytes.ensures ∙ c.head_line-head.ensures) (g.W.Sink.taken c.args.out.now)
     (g.W.Sink.taken c.write_all.new.out) (g.W.Sink.taken c.write_seen.new.out) (g.W.Sink.taken c.write_all-2.new.out)
     c.in_ok-write_all.ensures.ok c.in_ok-write_seen.ensures.text c.in_err-write_all-2.ensures.prefix)

@@ -7,6 +7,7 @@ use Rattle.start_file.specs.declared.start.Start.{Start as Stored}
 use Rattle.start_file.specs.Starts.{StartValue, seen, IsFor}
 use Rattle.cycle_machine.specs.Rest.{Told}
 use Rattle.leak_audit.proofs.Agreeing.{All-seen}
+use Rattle.lab_runs.specs.ShownViews.{shown_of}
 use Rattle.lab_runs.proofs.TextLemmas.{map-from, wrote_one, broke_in}
 use Rattle.lab_seen.specs.Seen.{line_text, line_in}
 use Rattle.tool_stages.proofs.EnvLemmas.{named_told}
@@ -30,7 +31,7 @@ fits_here P xs items i x h same lt is = All-seen P xs i x (subst (λ z. All P (m
 pub run_line-requires-clause-start : goal.run_line-requires-clause-start
 run_line-requires-clause-start g c =
     let lt : c.loop-i.i < length c.as_slice-starts.result.now = omega arith in
-    fits_here (IsFor c.args.p.now.compiled.typed.labelled.program) c.as_slice-starts.result.now c.args.p.now.starts.items c.loop-i.i c.index-starts-i.result
+    fits_here (IsFor (shown_of c.args.p.now.program.labels).labelled.program) c.as_slice-starts.result.now c.args.p.now.starts.items c.loop-i.i c.index-starts-i.result
     c.requires.fit.starts c.as_slice-starts.ensures.value lt c.index-starts-i.is
 
 pub returns-in-Err-clause-prefix : goal.returns-in-Err-clause-prefix
@@ -38,17 +39,17 @@ returns-in-Err-clause-prefix g c = λ e.
     let lt : c.loop-i.i < length c.as_slice-starts.result.now = omega arith in
     let items = c.args.p.now.starts.items in
     let x = c.index-starts-i.result in
-    let q = c.args.p.now.compiled.typed.labelled in
+    let q = (shown_of c.args.p.now.program.labels).labelled in
     let same = c.as_slice-starts.ensures.value in
     let fits = fits_here (IsFor q.program) c.as_slice-starts.result.now items c.loop-i.i x c.requires.fit.starts same lt c.index-starts-i.is in
-    broke_in (line_in c.args.setting.env c.args.setting.budget q c.args.p.now.observer c.args.p.now.compiled.image) (map seen items) c.loop-i.i (seen x)
+    broke_in (line_in c.args.setting.env c.args.setting.budget q c.args.observer c.args.p.now.program.image) (map seen items) c.loop-i.i (seen x)
     (within c.as_slice-starts.result.now items c.loop-i.i same lt)
     (from_here c.as_slice-starts.result.now items c.loop-i.i x same lt c.index-starts-i.is) (g.W.Sink.taken c.args.out.now) (g.W.Sink.taken c.loop-i.out)
     (g.W.Sink.taken c.run_line.new.out) c.loop-i.invariant.written
     (subst (λ (z : Told). AppendsPrefix (g.W.Sink.taken c.loop-i.out) (g.W.Sink.taken c.run_line.new.out)
-    (line_text q c.args.p.now.observer (c.loop-i.i + 1) z))
+    (line_text q c.args.observer (c.loop-i.i + 1) z))
     (named_told g.E.MachineEnv.env g.M.MakeEnv.made c.args.setting.env g.M.NamedEnv.name c.requires.named q
-    c.args.p.now.compiled.image
+    c.args.p.now.program.image
     c.laws.ensures.shaped c.named_tell_as_histories.ensures.runs c.requires.fit.image (seen x) fits c.args.setting.budget) (c.in-Err.ensures.prefix e))
 
 pub loop-i-preserved : goal.loop-i-preserved
@@ -56,19 +57,19 @@ loop-i-preserved g c =
     let lt : c.loop-i.i < length c.as_slice-starts.result.now = omega arith in
     let items = c.args.p.now.starts.items in
     let x = c.index-starts-i.result in
-    let q = c.args.p.now.compiled.typed.labelled in
+    let q = (shown_of c.args.p.now.program.labels).labelled in
     let same = c.as_slice-starts.ensures.value in
     let fits = fits_here (IsFor q.program) c.as_slice-starts.result.now items c.loop-i.i x c.requires.fit.starts same lt c.index-starts-i.is in
     record {
       written =
-          wrote_one (line_in c.args.setting.env c.args.setting.budget q c.args.p.now.observer c.args.p.now.compiled.image) (map seen items) c.loop-i.i (seen x)
+          wrote_one (line_in c.args.setting.env c.args.setting.budget q c.args.observer c.args.p.now.program.image) (map seen items) c.loop-i.i (seen x)
           (within c.as_slice-starts.result.now items c.loop-i.i same lt)
           (from_here c.as_slice-starts.result.now items c.loop-i.i x same lt c.index-starts-i.is) (g.W.Sink.taken c.args.out.now) (g.W.Sink.taken c.loop-i.out)
           (g.W.Sink.taken c.run_line.new.out) c.loop-i.invariant.written
           (subst (λ (z : Told). Appends (g.W.Sink.taken c.loop-i.out) (g.W.Sink.taken c.run_line.new.out)
-          (line_text q c.args.p.now.observer (c.loop-i.i + 1) z))
+          (line_text q c.args.observer (c.loop-i.i + 1) z))
           (named_told g.E.MachineEnv.env g.M.MakeEnv.made c.args.setting.env g.M.NamedEnv.name c.requires.named q
-          c.args.p.now.compiled.image
+          c.args.p.now.program.image
           c.laws.ensures.shaped c.named_tell_as_histories.ensures.runs c.requires.fit.image (seen x) fits c.args.setting.budget) c.in-Ok.ensures.text);
       later = up_to _ _ _ c.loop-i.invariant.later c.run_line.ensures.later;
     }

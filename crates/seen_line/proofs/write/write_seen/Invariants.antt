@@ -4,9 +4,8 @@ use Rattle.seen_line.proofs.write.write_seen.Given as goal
 
 abbrev pub invariant-run : goal.invariant-run
 invariant-run g l = record {
-  fields : Fields g.E.MachineEnv.env l.fn.limit l.fn.p.labelled l.fn.observer l.fn.m l.m l.none (g.W.Sink.taken l.fn.out) (g.W.Sink.taken l.out);
+  fields : Fields g.E.MachineEnv.env l.fn.limit l.fn.p l.fn.observer l.fn.m l.m l.none (g.W.Sink.taken l.fn.out) (g.W.Sink.taken l.out);
   later : g.W.Sink.faults l.fn.out ≤ g.W.Sink.faults l.out;
-  labelled : l.labelled ≡ l.fn.p.labelled;
 }
 
 abbrev pub decreases-run : goal.decreases-run
