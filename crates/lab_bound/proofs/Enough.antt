@@ -21,8 +21,8 @@ use Rattle.label_code.specs.Run.{Start}
 use Rattle.code_lower.specs.Lowered.{lowered}
 use Rattle.leak_bound.specs.Digits.{digits}
 use Rattle.leak_bound.specs.Relevant.{is_relevant}
-use Rattle.leak_bound.specs.Records.{Each, Tests}
-use Rattle.leak_bound.specs.Sound.{bound, FirstBegins}
+use Rattle.leak_bound.specs.Records.{Each, Pairwise, Tests}
+use Rattle.leak_bound.specs.Sound.{bound, FirstBegins, Halts}
 use Rattle.leak_bound.specs.Source.{IsTypedWith}
 use Rattle.sharp_count.specs.declared.count.LevelRuns.{LevelRuns}
 use Rattle.sharp_count.specs.Count.{rising, sharp, fitting}
@@ -39,7 +39,7 @@ use Rattle.sharp_bound.specs.Shared.{FewShared}
 use Rattle.sharp_bound.proofs.Guess.{few_shown}
 use Rattle.sharp_history.specs.Over.{LoweredSharpOver, LoweredSharpEndOver, LoweredSharedOver}
 use Rattle.start_file.specs.Starts.{StartValue}
-use Rattle.leak_audit.specs.Agreement.{starts_of}
+use Rattle.leak_audit.specs.Agreement.{AgreeFor, starts_of}
 use Rattle.leak_audit.specs.Sequences.{same_sequence}
 use Rattle.leak_audit.specs.Surveyed.{sequence_from}
 use Rattle.leak_audit.proofs.Classing.{tests_sequences}
@@ -132,15 +132,29 @@ module _ {E : Type 0} (v : Env E) (serves : Order → E → Type 0) (made : Orde
   counts_same [] levels counts h k = inl refl
   counts_same (s ∷ ss) levels counts h k = inr (begins_each_one q o s.memory counts (counts_of levels) h.0 k)
 
-  -- a view that shows few of the runs that halt, from starts of which there is a report
-  few_told : {V : Type 0} (view : Start E → V)
+  -- starts of which the theorem speaks, with what is told of their levels
+  pub record Study (ss : List StartValue) (levels : List LevelRuns) : Type 0 where
+    pub agree : Pairwise (AgreeFor v serves q o) (starts_of made q.program.order ss)
+    pub halted : Each (Halts v (lowered q).instrs t) (starts_of made q.program.order ss)
+    pub size : length levels ≡ q.program.order.size
+    pub begun : FirstBeginsEach q o (memories_of ss) (counts_of levels)
+    pub least : (l x : ℕ) → PredictedIn (relevant_at (order_of q) (labels_of q) (levels_of q) o (plan_of q.program) l) (plan_of q.program) (memories_of ss) x
+        → firsts_of levels l ≤ x
+
+  -- so it is of starts of which there is a report
+  pub reported : (ss : List StartValue) (r : AuditReport) (levels : List LevelRuns) → IsReport v serves q o t (starts_of made q.program.order ss) r
+      → AreTold q o (memories_of ss) levels → Study ss levels
+  reported ss r levels is h =
+      record { agree = is.agree; halted = is.halted; size = h.size; begun = h.begun; least = λ l x k. (h.first l).least x k }
+
+  -- a view that shows few of the runs that halt
+  pub few_told : {V : Type 0} (view : Start E → V)
       → FewHalted v q.program.order (serves q.program.order) (labels_of q) (levels_of q) (lowered q).instrs (plan_of q.program) o t view →
-      (ss : List StartValue) (r : AuditReport) (levels : List LevelRuns) → IsReport v serves q o t (starts_of made q.program.order ss) r
-      → AreTold q o (memories_of ss) levels → (same : V → V → Bool) → Tests same →
+      (ss : List StartValue) (levels : List LevelRuns) → Study ss levels → (same : V → V → Bool) → Tests same →
       FewShown view same (starts_of made q.program.order ss) (sharp_of t levels)
-  few_told {V} view few ss r levels is h same tests =
+  few_told {V} view few ss levels h same tests =
       let firsts = firsts_of levels in
-      let some = few (starts_of made q.program.order ss) is.agree is.halted firsts (predicts_each ss levels (λ l x k. (h.first l).least x k)) same tests in
+      let some = few (starts_of made q.program.order ss) h.agree h.halted firsts (predicts_each ss levels h.least) same tests in
       let counts = some.0 in
       let size : q.program.order.size ≡ length levels = sym h.size in
       go ss levels counts
@@ -158,15 +172,13 @@ module _ {E : Type 0} (v : Env E) (serves : Order → E → Type 0) (made : Orde
           (same_product (ends_by t (firsts_of levels)) counts (counts_of levels) (length levels) alike) some
 
   -- the same by shared time, where relevant mitigates stand apart
-  shared_told : {V : Type 0} (view : Start E → V)
+  pub shared_told : {V : Type 0} (view : Start E → V)
       → FewShared v q.program.order (serves q.program.order) (labels_of q) (levels_of q) (lowered q).instrs (plan_of q.program) o t view → AreApart q o →
-      (ss : List StartValue) (r : AuditReport) (levels : List LevelRuns) → IsReport v serves q o t (starts_of made q.program.order ss) r
-      → AreTold q o (memories_of ss) levels → (same : V → V → Bool) → Tests same →
+      (ss : List StartValue) (levels : List LevelRuns) → Study ss levels → (same : V → V → Bool) → Tests same →
       FewShown view same (starts_of made q.program.order ss) (shared_of t levels)
-  shared_told {V} view few apart ss r levels is h same tests =
+  shared_told {V} view few apart ss levels h same tests =
       let firsts = firsts_of levels in
-      let some = few apart (starts_of made q.program.order ss) is.agree is.halted firsts
-      (predicts_each ss levels (λ l x k. (h.first l).least x k)) same tests in
+      let some = few apart (starts_of made q.program.order ss) h.agree h.halted firsts (predicts_each ss levels h.least) same tests in
       let counts = some.0 in
       let size : q.program.order.size ≡ length levels = sym h.size in
       let are = are_ways t firsts q.program.order.size counts in
@@ -208,13 +220,12 @@ module _ {E : Type 0} (v : Env E) (serves : Order → E → Type 0) (made : Orde
     pub within : (k : ℕ) → FirstBegins (order_of q) (labels_of q) (levels_of q) o (plan_of q.program) (starts_of made q.program.order ss) k
         → sharp_of t levels ≤ bound q.program.order o t k
 
-  found : SharpSound v q.program.order (serves q.program.order) (labels_of q) (levels_of q) (lowered q).instrs (plan_of q.program)
+  pub found : SharpSound v q.program.order (serves q.program.order) (labels_of q) (levels_of q) (lowered q).instrs (plan_of q.program)
       → o < q.program.order.size → 0 < t →
-      (ss : List StartValue) (r : AuditReport) (levels : List LevelRuns) → IsReport v serves q o t (starts_of made q.program.order ss) r
-      → AreTold q o (memories_of ss) levels → Found ss levels
-  found sound low some ss r levels is h =
+      (ss : List StartValue) (levels : List LevelRuns) → Study ss levels → Found ss levels
+  found sound low some ss levels h =
       let firsts = firsts_of levels in
-      let few = sound.few o low t some (starts_of made q.program.order ss) is.agree is.halted firsts (predicts_each ss levels (λ l x k. (h.first l).least x k))
+      let few = sound.few o low t some (starts_of made q.program.order ss) h.agree h.halted firsts (predicts_each ss levels h.least)
       same_sequence tests_sequences in
       let counts = few.0 in
       let each = each_memory (λ m. BeginsEach (order_of q) (labels_of q) (levels_of q) o (plan_of q.program) m counts) ss few.1 in
@@ -225,7 +236,7 @@ module _ {E : Type 0} (v : Env E) (serves : Order → E → Type 0) (made : Orde
       (le_trans (few.3 k first).0 (few.3 k first).1))
       (counts_same ss levels counts each h.begun)
     where
-      go : (ss : List StartValue) (levels : List LevelRuns) (counts : ℕ → ℕ) → AreTold q o (memories_of ss) levels
+      go : (ss : List StartValue) (levels : List LevelRuns) (counts : ℕ → ℕ) → Study ss levels
           → Each (λ m. BeginsEach (order_of q) (labels_of q) (levels_of q) o (plan_of q.program) m counts) (memories_of ss) →
           FewShown (sequence_from v q o t) same_sequence (starts_of made q.program.order ss) (sharp (ends_by t (firsts_of levels)) (length levels) counts)
           → ((k : ℕ) → FirstBegins (order_of q) (labels_of q) (levels_of q) o (plan_of q.program) (starts_of made q.program.order ss) k
@@ -271,13 +282,13 @@ shares_within t levels =
     let counts = counts_of levels in
     (shared_is_enough t firsts (length levels) counts (ways t firsts (length levels) counts) (are_ways t firsts (length levels) counts)).1
 
-typed_with : (words : List Told) (p : Syntax) (q : LabelledProgram) → IsProgram words p → Types p q → IsTypedWith q
+pub typed_with : (words : List Told) (p : Syntax) (q : LabelledProgram) → IsProgram words p → Types p q → IsTypedWith q
 typed_with words p q spelled types = typed_made words p q spelled types.program types.least.labels.keeps types.typed
 
 -- in each environment that `--env` names
 module _ (sharp : (e : EnvName) → LoweredSharpOver (environment e) AnyHistory) (ending : (e : EnvName) → LoweredSharpEndOver (environment e) AnyHistory)
     (sharing : (e : EnvName) → LoweredSharedOver (environment e) AnyHistory) where
-  below : (p : Syntax) (q : LabelledProgram) (o : ℕ) → Types p q → o < p.order.size → o < q.program.order.size
+  pub below : (p : Syntax) (q : LabelledProgram) (o : ℕ) → Types p q → o < p.order.size → o < q.program.order.size
   below p q o types l = subst (λ (z : Syntax). o < z.order.size) (sym types.program) l
 
   pub all_enough : AllAreEnough
@@ -285,17 +296,18 @@ module _ (sharp : (e : EnvName) → LoweredSharpOver (environment e) AnyHistory)
       let v = environment e q.program.order in
       let is_typed = typed_with words p q spelled types in
       let low' = below p q o types low in
-      let f = found v AnyHistory history_made q o t (sharp e q is_typed) low' some ss r levels is h in
+      let study = reported v AnyHistory history_made q o t ss r levels is h in
+      let f = found v AnyHistory history_made q o t (sharp e q is_typed) low' some ss levels study in
       record {
         begun = f.begun;
         few = f.few;
         counted = counted v AnyHistory history_made q o t ss r levels is f;
         ended = λ end same tests. few_told v AnyHistory history_made q o t (seen_to_end v (order_of q) (labels_of q) (lowered q).instrs o t)
-            ((ending e q is_typed).halted o low' end t some) ss r levels is h same tests;
-        shared = λ apart. shared_told v AnyHistory history_made q o t (sequence_from v q o t) ((sharing e q is_typed).few o low' t some) apart ss r levels is h
+            ((ending e q is_typed).halted o low' end t some) ss levels study same tests;
+        shared = λ apart. shared_told v AnyHistory history_made q o t (sequence_from v q o t) ((sharing e q is_typed).few o low' t some) apart ss levels study
             same_sequence tests_sequences;
         shared_ended = λ apart end same tests. shared_told v AnyHistory history_made q o t (seen_to_end v (order_of q) (labels_of q) (lowered q).instrs o t)
-            ((ending e q is_typed).shared o low' end t some) apart ss r levels is h same tests;
+            ((ending e q is_typed).shared o low' end t some) apart ss levels study same tests;
         shared_within = shares_within t levels;
         within = bounded v AnyHistory history_made q o t ss r levels is f;
       }

@@ -2,3 +2,4 @@ pub mod Text
 pub mod Answer
 pub mod Complete
 pub mod Enough
+pub mod Others

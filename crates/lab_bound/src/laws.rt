@@ -2,6 +2,7 @@
 
 ghost use Rattle.lab_bound.specs.Complete.{HasOneBound};
 ghost use Rattle.lab_bound.specs.Enough.{AllAreEnough};
+ghost use Rattle.lab_bound.specs.Others.{AllBoundOthers};
 
 use sharp_history::laws::lowered_few_sequences_sharp_of_histories;
 use tool_stages::laws::named_keep_the_laws;
@@ -11,6 +12,16 @@ use tool_stages::laws::named_keep_the_laws;
 /// ends are seen too. Where relevant mitigates stand apart, so does the count by shared time, which is no greater.
 pub fn sharp_counts_are_enough()
     ensures { AllAreEnough }
+{
+    named_keep_the_laws();
+    lowered_few_sequences_sharp_of_histories();
+}
+
+/// A law: the numbers bound what other starts show too, whatever a file lists: together with the listed ones all starts
+/// that agree with them for the observer, halt by T, and begin no relevant mitigation whose first prediction is below the
+/// least that is told of its level.
+pub fn sharp_counts_bound_others()
+    ensures { AllBoundOthers }
 {
     named_keep_the_laws();
     lowered_few_sequences_sharp_of_histories();

@@ -1,0 +1,9 @@
+use Rattle.tool_stages.specs.Envs.{environment}
+use Rattle.lab_bound.proofs.Others.{all_bound_others}
+use Rattle.lab_bound.proofs.laws.sharp_counts_bound_others.Goals as goal
+
+pub returns : goal.returns
+returns c =
+    all_bound_others (λ e. c.lowered_few_sequences_sharp_of_histories.ensures.halted (environment e) (c.named_keep_the_laws.ensures e))
+    (λ e. c.lowered_few_sequences_sharp_of_histories.ensures.ended (environment e) (c.named_keep_the_laws.ensures e))
+    (λ e. c.lowered_few_sequences_sharp_of_histories.ensures.shared (environment e) (c.named_keep_the_laws.ensures e))
