@@ -81,6 +81,6 @@ pub wrong_at : {Z : Type 0} (verb : Verb) (command : Text) (words rest : List (S
     → wrong_line verb command text (map string_bytes rest) ≡ wrong_line_at verb command (drop n (map string_bytes words))
 wrong_at verb command words rest n w text lt is told more =
     let at : drop n (map string_bytes words) ≡ string_bytes w ∷ map string_bytes (drop (n + 1) words) =
-        drop-map string_bytes n words ∙ ap (map string_bytes) (drop_more words n w lt)
-        ∙ ap (λ z. string_bytes z ∷ map string_bytes (drop (n + 1) words)) (sym is) in
+    drop-map string_bytes n words ∙ ap (map string_bytes) (drop_more words n w lt)
+    ∙ ap (λ z. string_bytes z ∷ map string_bytes (drop (n + 1) words)) (sym is) in
     ap₂ (λ t r. wrong_line verb command t (map string_bytes r)) told more ∙ sym (ap (wrong_line_at verb command) at)

@@ -26,13 +26,14 @@ why_help =
 
 unfoldable pub seen_help : Text
 seen_help =
-    codes "usage: lab seen FILE STARTS --observer L [--env flat|part|part2] [--budget T]\n"
+    codes "usage: lab seen FILE STARTS --observer L [--env flat|part|part2] [--budget T] [--refused]\n"
     ++ (codes "what each run shows\n"
     ++ (codes "  FILE        program\n"
     ++ (codes "  STARTS      starts\n"
     ++ (codes "  --observer  label: who sees\n"
     ++ (codes "  --env       environment: where costs come from; part where it is left out\n"
-    ++ codes "  --budget    cycles: the last cycle; 1000000 where it is left out\n")))))
+    ++ (codes "  --budget    cycles: the last cycle; 1000000 where it is left out\n"
+    ++ codes "  --refused   runs a refused program too\n"))))))
 
 unfoldable pub timeline_help : Text
 timeline_help =

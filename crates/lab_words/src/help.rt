@@ -35,13 +35,14 @@ reasons for a refusal or a label
 fn seen_help() -> &'static [u8]
     ensures { result.now ≡ seen_help }
 {
-    b"usage: lab seen FILE STARTS --observer L [--env flat|part|part2] [--budget T]
+    b"usage: lab seen FILE STARTS --observer L [--env flat|part|part2] [--budget T] [--refused]
 what each run shows
   FILE        program
   STARTS      starts
   --observer  label: who sees
   --env       environment: where costs come from; part where it is left out
   --budget    cycles: the last cycle; 1000000 where it is left out
+  --refused   runs a refused program too
 "
 }
 

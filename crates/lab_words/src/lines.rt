@@ -95,11 +95,15 @@ fn form_told(verb: Verb) -> &'static [u8]
 {
     match verb {
         Verb::Why => b"why FILE [--of NAME]\n",
-        Verb::Seen => b"seen FILE STARTS --observer LABEL [--env flat|part|part2] [--budget 1..1099511627776]\n",
-        Verb::Timeline => b"timeline FILE STARTS [--env flat|part|part2] [--budget 1..1099511627776] [--observer LABEL]\n",
-        Verb::Bound => b"bound FILE STARTS --observer LABEL [--env flat|part|part2] [--budget 1..1099511627776]\n",
+        Verb::Seen =>
+            b"seen FILE STARTS --observer LABEL [--env flat|part|part2] [--budget 1..1099511627776] [--refused]\n",
+        Verb::Timeline =>
+            b"timeline FILE STARTS [--env flat|part|part2] [--budget 1..1099511627776] [--observer LABEL]\n",
+        Verb::Bound =>
+            b"bound FILE STARTS --observer LABEL [--env flat|part|part2] [--budget 1..1099511627776]\n",
         Verb::Steady => b"steady FILE --observer LABEL [--parts LABEL] [--whole]\n",
-        Verb::Leak => b"leak FILE STARTS --observer LABEL [--env flat|part|part2] [--budget 1..1099511627776]\n",
+        Verb::Leak =>
+            b"leak FILE STARTS --observer LABEL [--env flat|part|part2] [--budget 1..1099511627776]\n",
         Verb::Help => b"help [why|seen|timeline|bound|steady|leak|help|version]\n",
         Verb::Version => b"version\n",
     }
@@ -118,8 +122,16 @@ fn missing(verb: Verb, matches: &ArgMatches<'_>) -> &'static [u8]
 {
     match verb {
         Verb::Why => b"FILE",
-        Verb::Steady => if lacks(matches, "FILE") { b"FILE" } else { b"--observer" },
-        Verb::Timeline => if lacks(matches, "FILE") { b"FILE" } else { b"STARTS" },
+        Verb::Steady => if lacks(matches, "FILE") {
+            b"FILE"
+        } else {
+            b"--observer"
+        },
+        Verb::Timeline => if lacks(matches, "FILE") {
+            b"FILE"
+        } else {
+            b"STARTS"
+        },
         _ => if lacks(matches, "FILE") {
             b"FILE"
         } else if lacks(matches, "STARTS") {

@@ -3,7 +3,7 @@
 ghost use Rattle.std.specs.Prelude.{◌≡◌, IfOk};
 ghost use Rattle.clap.specs.Words.{app_of};
 ghost use Rattle.tool_words.specs.WordsForms.{observed_app};
-ghost use Rattle.lab_words.specs.QuestionForms.{form_app, steady_app, timeline_app, why_app};
+ghost use Rattle.lab_words.specs.QuestionForms.{form_app, seen_app, steady_app, timeline_app, why_app};
 ghost use Rattle.lab_words.specs.Refusal.{loosened};
 
 use crate::forms::{flag, help_form};
@@ -31,6 +31,13 @@ fn observed_form<'a>(alloc: Global, name: &'a str) -> Result<Form<'a>, AllocErro
         .arg(option(alloc, "observer"))?
         .arg(option(alloc, "env"))?
         .arg(option(alloc, "budget"))
+}
+
+/// `seen [FILE] [STARTS] [--observer L] [--env E] [--budget T] [--refused]`.
+fn seen_form<'a>(alloc: Global) -> Result<Form<'a>, AllocError>
+    ensures { IfOk result (λ f. app_of f ≡ loosened seen_app) }
+{
+    observed_form(alloc, "seen")?.arg(flag(alloc, "refused"))
 }
 
 /// `timeline [FILE] [STARTS] [--env E] [--budget T] [--observer L]`.
@@ -62,7 +69,7 @@ pub(crate) fn loose_form<'a>(alloc: Global, verb: Verb) -> Result<Form<'a>, Allo
 {
     match verb {
         Verb::Why => why_form(alloc),
-        Verb::Seen => observed_form(alloc, "seen"),
+        Verb::Seen => seen_form(alloc),
         Verb::Timeline => timeline_form(alloc),
         Verb::Bound => observed_form(alloc, "bound"),
         Verb::Steady => steady_form(alloc),

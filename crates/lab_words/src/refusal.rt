@@ -133,12 +133,7 @@ fn line_without(
 }
 
 // The line on the words after a command word.
-fn line_after(
-    alloc: Global,
-    verb: Verb,
-    command: &str,
-    words: &[String],
-) -> Result<Vec<u8>, Memory>
+fn line_after(alloc: Global, verb: Verb, command: &str, words: &[String]) -> Result<Vec<u8>, Memory>
     ensures { IfOk result (λ v. IsLineAfter (Some verb) command.now (map string_bytes words.now) v.items) }
 {
     match first_wrong(alloc, verb, words)? {

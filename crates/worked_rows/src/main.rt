@@ -14,7 +14,7 @@ mod text;
 mod words_tests;
 
 // The tables, in the order in which they are run.
-const TABLES: [&str; 26] = [
+const TABLES: [&str; 27] = [
     "examples.txt",
     "texts.txt",
     "grammar.txt",
@@ -41,6 +41,7 @@ const TABLES: [&str; 26] = [
     "lab-steady.txt",
     "lab-leaks.txt",
     "lab-faults.txt",
+    "lab-words.txt",
 ];
 
 // How many rows were run, and how many of them gave something else than they want.
