@@ -160,7 +160,8 @@ then_ends Stops Gives Next s e t a given one f g (inr h) =
 
 judged_ends : (Rises : List ℕ → Type 0) (content : Content) (file observer parts : List ℕ) (whole : Bool) (s e : Status) (t : List ℕ)
     → (Rises file → ⊥) → IsKnown (content file) → (can : CanJudge (content file) observer parts)
-    → ((text : List ℕ) → IsAnswered text can.labelled can.o.number can.h.number whole s t → s ≡ e) → Steadies Rises content file observer parts whole s t → s ≡ e
+    → ((text : List ℕ) → IsAnswered text can.labelled can.o.number can.h.number whole s t → s ≡ e)
+    → Steadies Rises content file observer parts whole s t → s ≡ e
 judged_ends Rises content file observer parts whole s e t n known can f =
     let p : Syntax = can.program in
     let order : IsOrder p.order = program_order _ p can.reads.spelled in
