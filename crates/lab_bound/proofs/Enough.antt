@@ -285,12 +285,12 @@ shares_within t levels =
 pub typed_with : (words : List Told) (p : Syntax) (q : LabelledProgram) → IsProgram words p → Types p q → IsTypedWith q
 typed_with words p q spelled types = typed_made words p q spelled types.program types.least.labels.keeps types.typed
 
+pub below : (p : Syntax) (q : LabelledProgram) (o : ℕ) → Types p q → o < p.order.size → o < q.program.order.size
+below p q o types l = subst (λ (z : Syntax). o < z.order.size) (sym types.program) l
+
 -- in each environment that `--env` names
 module _ (sharp : (e : EnvName) → LoweredSharpOver (environment e) AnyHistory) (ending : (e : EnvName) → LoweredSharpEndOver (environment e) AnyHistory)
     (sharing : (e : EnvName) → LoweredSharedOver (environment e) AnyHistory) where
-  pub below : (p : Syntax) (q : LabelledProgram) (o : ℕ) → Types p q → o < p.order.size → o < q.program.order.size
-  below p q o types l = subst (λ (z : Syntax). o < z.order.size) (sym types.program) l
-
   pub all_enough : AllAreEnough
   all_enough e t some words p q o ss r levels spelled types low is h =
       let v = environment e q.program.order in
