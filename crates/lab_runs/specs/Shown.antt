@@ -10,7 +10,8 @@ use Rattle.code_lower.specs.Lowered.{lowered}
 use Rattle.start_file.specs.Starts.{StartValue}
 use Rattle.tool_texts.specs.declared.status.Status.{Status}
 use Rattle.tool_texts.specs.declared.status.Status.TheVariants as status
-use Rattle.tool_stages.specs.Stages.{Then, Reads, ProgramStops, Observes, ObserverStops, Types, HasNoType, TypeStops, HasImage, ImageStops, StartsAre, StartStops}
+use Rattle.tool_stages.specs.Stages.{Then, Reads, ProgramStops, Observes, ObserverStops, Types, HasNoType, TypeStops}
+use Rattle.tool_stages.specs.Stages.{HasImage, ImageStops, StartsAre, StartStops}
 use Rattle.tool_stages.specs.Content.{Content, IsKnown}
 use Rattle.tool_stages.specs.Begins.{NoMore}
 use Rattle.tool_stages.specs.Goes.{IsTypable}

@@ -68,7 +68,8 @@ given Seen rows = observed_given (λ file starts observer env budget.
 given Timeline rows = timeline_asked (first_of (codes "FILE") rows) (first_of (codes "STARTS") rows) (env_given rows)
     (budget_given rows) (first_of (codes "observer") rows)
 given Bound rows = observed_given bound rows
-given Steady rows = steady_asked (first_of (codes "FILE") rows) (first_of (codes "observer") rows) (first_of (codes "parts") rows) (flag_given (codes "whole") rows)
+given Steady rows = steady_asked (first_of (codes "FILE") rows) (first_of (codes "observer") rows) (first_of (codes "parts") rows)
+    (flag_given (codes "whole") rows)
 given Leak rows = observed_given leak rows
 given Help rows = help_asked (first_of (codes "COMMAND") rows)
 given Version rows = Some version

@@ -1,7 +1,8 @@
 //! The texts of `lab help` and `lab version`.
 
 ghost use Rattle.std.specs.Prelude.{◌≡◌};
-ghost use Rattle.lab_words.specs.Help.{bound_help, command_text, commands_text, help_help, help_text, leak_help, seen_help, steady_help, timeline_help, version_help, version_text, why_help};
+ghost use Rattle.lab_words.specs.Help.{bound_help, command_text, commands_text, help_help, help_text, leak_help, seen_help, steady_help};
+ghost use Rattle.lab_words.specs.Help.{timeline_help, version_help, version_text, why_help};
 
 use crate::verbs::Verb;
 
