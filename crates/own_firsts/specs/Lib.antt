@@ -1,0 +1,4 @@
+pub mod Predicted
+pub mod Ways
+pub mod Own
+pub mod Count

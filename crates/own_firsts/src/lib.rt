@@ -1,0 +1,4 @@
+//! What runs tell where each mitigation counts with its own first prediction.
+#![tactic(auto)]
+
+pub mod laws;
