@@ -1,6 +1,6 @@
 -- What a run begins up to the cut it also ends, where it comes to its end in time.
-use Rattle.std.proofs.Common.{◌≡◌, ℕ, ◌+◌, ◌-◌, ◌≤◌, ◌<◌, List, [], ◌∷◌, ◌++◌, append-nil, refl, sym, ap, ◌∙◌, arith}
-use Rattle.std.specs.Prelude.{Bool, true, false, cond, leb, eqb, ◌&&◌, ℤ}
+use Rattle.std.proofs.Common.{◌≡◌, ℕ, ◌+◌, ◌≤◌, List, [], ◌∷◌, ◌++◌, refl, ap, ◌∙◌, arith}
+use Rattle.std.specs.Prelude.{Bool, true, false, cond, leb, ◌&&◌, ℤ}
 use Rattle.std.proofs.lemmas.Bool.{le-leb}
 use Rattle.mit_syntax.specs.Expression.{Expression}
 use Rattle.mit_syntax.specs.Todo.{Marks, Marked}
@@ -18,7 +18,7 @@ use Rattle.leak_bound.proofs.Low.{record_of}
 use Rattle.leak_bound.proofs.Marks.{nought, tested_count, reached_count, written_count, closed_count}
 use Rattle.leak_bound.proofs.Marks.{begun_count as begun_same}
 use Rattle.leak_bound.proofs.Record.{closed_grows, grows_run}
-use Rattle.leak_bound.proofs.Runs.{Job, Do, Loop, Runs, done, skip, assign, put, sleep, if_true, if_false, while_none, while_some, mitigate, last, again, late}
+use Rattle.leak_bound.proofs.Runs.{Job, Do, Runs, done, skip, assign, put, sleep, if_true, if_false, while_none, while_some, mitigate, last, again, late}
 use Rattle.leak_bound.proofs.Tells.{Tells}
 use Rattle.sharp_bound.proofs.Levels.{tells_both}
 use Rattle.sharp_bound.proofs.Picks.{low_count}

@@ -7,7 +7,6 @@ use Rattle.std.proofs.Math.Nat.{le-max_left, le-max_right, max-le, mul-le-mul_le
 use Rattle.std.proofs.lemmas.Bool.{cases_eq, cases_lt, lt-ltb, le-ltb}
 use Rattle.std.proofs.lemmas.Nat.{le-div, mul-le, div-add-mod'}
 use Rattle.leak_bound.specs.Digits.{digits}
-use Rattle.leak_bound.specs.Records.{Each}
 use Rattle.sharp_count.specs.Count.{rising, sharp}
 use Rattle.sharp_count.specs.Levels.{miss_counts}
 use Rattle.sharp_count.specs.Lists.{NeverFalling, IsAmong}

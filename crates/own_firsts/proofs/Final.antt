@@ -1,6 +1,6 @@
 -- Few sequences are seen, by own first predictions.
-use Rattle.std.proofs.Common.{◌≡◌, ℕ, ◌+◌, ◌<◌, ◌≤◌, List, [], ◌∷◌, length, refl, sym, ap, ◌∙◌, subst, arith}
-use Rattle.std.specs.Prelude.{Bool, ℤ}
+use Rattle.std.proofs.Common.{◌≡◌, ℕ, ◌≤◌, List, [], length, refl, sym, ap, subst, arith}
+use Rattle.std.specs.Prelude.{Bool}
 use Rattle.mit_syntax.specs.Todo.{Marked, Done, commands_of, then_todo}
 use Rattle.label_lattice.specs.Lattice.{Lattice}
 use Rattle.label_lattice.specs.Order.{Order, lattice_of}
@@ -8,7 +8,7 @@ use Rattle.source_meaning.proofs.Begins.{then_done}
 use Rattle.env_contract.specs.Env.{Env}
 use Rattle.env_contract.specs.Laws.{IsLawful}
 use Rattle.label_code.specs.Machine.{Core}
-use Rattle.label_code.specs.Run.{Start, run_from}
+use Rattle.label_code.specs.Run.{Start}
 use Rattle.label_code.specs.declared.code.Instr.{Instr}
 use Rattle.label_code.proofs.Upto.{upto}
 use Rattle.code_lower.specs.Follows.{told}

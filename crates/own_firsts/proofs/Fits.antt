@@ -1,10 +1,10 @@
 -- Where no relevant mitigate stands in another, the cycles of a run's entries fit into the run, each with its own first
 -- prediction.
-use Rattle.std.proofs.Common.{◌≡◌, ℕ, suc, ◌+◌, ◌-◌, ◌*◌, ◌^◌, ◌≤◌, ◌<◌, List, [], ◌∷◌, ◌++◌, length}
-use Rattle.std.proofs.Common.{Bool, true, false, refl, sym, ap, ◌∙◌, subst, inl, inr, arith}
-use Rattle.std.specs.Prelude.{cond, not, max, leb, eqb, ◌&&◌, ℤ}
+use Rattle.std.proofs.Common.{◌≡◌, ℕ, suc, ◌+◌, ◌-◌, ◌≤◌, ◌<◌, List, [], ◌∷◌, ◌++◌, length}
+use Rattle.std.proofs.Common.{Bool, true, false, refl, sym, ap, ◌∙◌, subst, arith}
+use Rattle.std.specs.Prelude.{cond, not, leb, ◌&&◌, ℤ}
 use Rattle.mit_syntax.specs.Expression.{Expression}
-use Rattle.mit_syntax.specs.Todo.{Marked, Done, Skip, Assign, Put, Sleep, If, While, Mitigate, then_todo, commands_of}
+use Rattle.mit_syntax.specs.Todo.{Marked, Done, If, While, Mitigate, then_todo, commands_of}
 use Rattle.mit_syntax.specs.Values.{element, value_of}
 use Rattle.doubling_schedule.specs.Doubling.{prediction, misses_after}
 use Rattle.label_lattice.specs.Lattice.{Lattice, Flows, IsLattice}
@@ -31,7 +31,7 @@ use Rattle.sharp_bound.proofs.Rank.{picked, is_at}
 use Rattle.sharp_bound.proofs.Shared.{none_record, no_own}
 use Rattle.own_firsts.specs.Predicted.{begun_of}
 use Rattle.own_firsts.proofs.Balance.{begun_at, grown, tested_begins, reached_begins, written_begins, begun_begins}
-use Rattle.own_firsts.proofs.Following.{Here, After, todo_of, still, goes_on, after_assign, after_put, after_sleep, after_if, after_while, after_begin}
+use Rattle.own_firsts.proofs.Following.{Here, todo_of, still, goes_on, after_assign, after_put, after_sleep, after_if, after_while, after_begin}
 use Rattle.own_firsts.proofs.Following.{after_close, after_fetch, after_body, ends_after}
 use Rattle.own_firsts.proofs.Spent.{spent_own, spent_append, after_these, guarded, chained, picked_alone}
 

@@ -1,9 +1,9 @@
 -- What is true of each state of the untimed meaning is true wherever a run has come to.
-use Rattle.std.proofs.Common.{◌≡◌, ℕ, suc, ◌+◌, ◌-◌, ◌<◌, ◌≤◌, List, [], ◌∷◌, ◌++◌, append-nil, refl, sym, ap, ◌∙◌, subst, ◌⊎◌, inl, inr, arith, ⊎_elim}
+use Rattle.std.proofs.Common.{◌≡◌, ℕ, suc, ◌+◌, ◌<◌, ◌≤◌, List, [], ◌∷◌, ◌++◌, append-nil, refl, sym, ap, ◌∙◌, subst, ◌⊎◌, inl, inr, arith, ⊎_elim}
 use Rattle.std.specs.Prelude.{Bool, true, false, cond, leb, ℤ, slice_set}
 use Rattle.std.proofs.lemmas.Bool.{le-leb, cases_lt}
 use Rattle.mit_syntax.specs.Expression.{Expression}
-use Rattle.mit_syntax.specs.Todo.{Marks, Done, Skip, Assign, Put, Sleep, If, While, Mitigate, then_todo, commands_of}
+use Rattle.mit_syntax.specs.Todo.{Marks, Assign, Put, Sleep, If, While, Mitigate, then_todo, commands_of}
 use Rattle.mit_syntax.specs.Values.{element, value_of, holds}
 use Rattle.label_lattice.specs.Lattice.{Lattice}
 use Rattle.source_meaning.specs.Source.{Note, Assigned, Started, Source, source_steps}

@@ -6,3 +6,4 @@ mod Choices
 mod Final
 mod Lowered
 mod Counted
+mod Rows

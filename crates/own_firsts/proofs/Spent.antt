@@ -1,5 +1,5 @@
 -- The cycles of a record's entries, each with the first prediction of its place.
-use Rattle.std.proofs.Common.{◌≡◌, ℕ, zero, suc, ◌+◌, ◌*◌, ◌^◌, ◌≤◌, List, [], ◌∷◌, ◌++◌, append-nil, Bool, true, false, refl, sym, ap, ◌∙◌, subst, arith}
+use Rattle.std.proofs.Common.{◌≡◌, ℕ, ◌+◌, ◌*◌, ◌^◌, ◌≤◌, List, [], ◌∷◌, ◌++◌, append-nil, Bool, true, false, refl, ap, ◌∙◌, arith}
 use Rattle.std.specs.Prelude.{cond, eqb, max}
 use Rattle.std.proofs.Math.Nat.{mul-le-mul_left, le-max_right}
 use Rattle.leak_bound.specs.Records.{Entry}

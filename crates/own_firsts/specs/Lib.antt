@@ -2,3 +2,4 @@ pub mod Predicted
 pub mod Ways
 pub mod Own
 pub mod Count
+pub mod Rows
