@@ -40,6 +40,7 @@ use Rattle.sharp_count.specs.Count.{rising, sharp}
 use Rattle.sharp_count.proofs.Choose.{rising-none}
 use Rattle.sharp_count.proofs.Binary.{digits_few}
 use Rattle.sharp_bound.specs.Firsts.{PredictsBy, notes_to}
+use Rattle.sharp_bound.specs.Guess.{FewShown}
 use Rattle.sharp_bound.specs.Sharp.{closer, ends_by, relevant_at, BeginsEach, FewHalted, FewCut, SharpSound, SharpCut}
 use Rattle.sharp_bound.specs.End.{end_from, seen_to_end, EndsLow, SharpEnd}
 use Rattle.sharp_bound.specs.Twice.{left_by}
@@ -58,7 +59,7 @@ use Rattle.sharp_bound.proofs.Choices.{spent, choice_of, is_choice, cycles_spent
 use Rattle.sharp_bound.proofs.Shared.{fits_run}
 
 -- a number with as great a power of two has more binary digits
-power_digits : (m c : ℕ) → 2 ^ m ≤ c → m < digits c
+pub power_digits : (m c : ℕ) → 2 ^ m ≤ c → m < digits c
 power_digits m zero h = absurd (omega (arith, h, one-le-pow m 2 (omega arith)))
 power_digits m (suc c) h =
     let d = digits_is (suc c) (omega arith) in
@@ -132,19 +133,19 @@ max_le a b c d h k = max-le (omega (arith, h, le-max_left c d)) (omega (arith, k
 
 module _ {E : Type 0} {serves : E → Type 0} (v : Env E) (order : Order) (g ls : ℕ → ℕ) (image : List Instr) (p : Marked) (made : IsCompiled order g ls image p)
     (laws : IsLawful v (lattice_of order) serves) where
-  abbrev lat : Lattice
+  abbrev pub lat : Lattice
   lat = lattice_of order
 
-  abbrev rel : ℕ → ℕ → Bool
+  abbrev pub rel : ℕ → ℕ → Bool
   rel o = is_relevant lat g ls o p
 
-  tells : (o : ℕ) → Tells lat g o (rel o) lat.bottom p
+  pub tells : (o : ℕ) → Tells lat g o (rel o) lat.bottom p
   tells o = tells_relevant lat g ls o p made.marks made.told
 
-  abbrev found : (t : ℕ) (s : Start E) → ToEnd v lat g image p made.code t s
+  abbrev pub found : (t : ℕ) (s : Start E) → ToEnd v lat g image p made.code t s
   found t s = to_end v lat g image p made.code t s
 
-  abbrev record_at : ℕ → ℕ → Start E → List Entry
+  abbrev pub record_at : ℕ → ℕ → Start E → List Entry
   record_at o t s = record_of v lat g o t (found t s).whole.run
 
   abbrev log_at : ℕ → Start E → List Event
@@ -220,14 +221,14 @@ module _ {E : Type 0} {serves : E → Type 0} (v : Env E) (order : Order) (g ls 
   fits_at o t x y a = (pair_of o t made.typed x y a).fits
 
   -- what a record determines
-  abbrev Told : {V : Type 0} → ℕ → ℕ → (Start E → V) → Type 0
+  abbrev pub Told : {V : Type 0} → ℕ → ℕ → (Start E → V) → Type 0
   Told o t view = (x y : Start E) → AgreeTo o x y → record_at o t x ≡ record_at o t y → view x ≡ view y
 
   timed_at : (o t : ℕ) (typed : IsTyped lat g p) (x y : Start E) → AgreeTo o x y → record_at o t x ≡ record_at o t y
       → Timing v lat made.lattice laws g o t typed.0 (found t x).whole.after (found t y).whole.after
   timed_at o t typed x y a e = (pair_of o t typed x y a).timed e (record { seen = refl; misses = λ h h' l low. refl; clock = λ low. inl refl })
 
-  told_seen : (o t : ℕ) → Told o t (seen_from v lat g image o t)
+  pub told_seen : (o t : ℕ) → Told o t (seen_from v lat g image o t)
   told_seen o t x y a e = ap (visible lat g o) (found t x).whole.log ∙ (timed_at o t made.typed x y a e).seen ∙ sym (ap (visible lat g o) (found t y).whole.log)
 
   abbrev end_at : ℕ → Start E → ℕ
@@ -485,22 +486,31 @@ module _ {E : Type 0} {serves : E → Type 0} (v : Env E) (order : Order) (g ls 
       (is_choice (ends_by t firsts) counts order.size r (under_at o t firsts s predicts) (grows_run v lat g o t (found t s).whole.run).rises h)
       (omega (arith, cycles_spent firsts order.size r, spent_by o t firsts s apart predicts halts))
 
-  few_shared : {V : Type 0} (o t : ℕ) → (view : Start E → V) → Told o t view → FewShared v order serves g ls image p o t view
-  few_shared o t view told apart [] agree halts firsts predicts same tests = (λ l. 0, tt, λ ways are. few_shown view same tests [] (length ways) (omega arith))
-  few_shared o t view told apart (s ∷ starts) agree halts firsts predicts same tests =
+  -- Of starts that agree and halt, and of each of which Q is true, as many relevant mitigates of each level begin. If each of
+  -- their choices is then among so many, few are shown.
+  pub few_by_choice : {V : Type 0} (o t : ℕ) → (view : Start E → V) → Told o t view → (Q : Start E → Type 0)
+      → (Are : (ℕ → ℕ) → List (List (List ℕ)) → Type 0) →
+      ((counts : ℕ → ℕ) (ways : List (List (List ℕ))) → Are counts ways → (s : Start E) → Q s → Halts v image t s
+      → ((l : ℕ) → picked (is_at l) (record_at o t s) ≡ counts l) → IsAmong (choice_of order.size (record_at o t s)) ways) →
+      (starts : List (Start E)) → Pairwise (Agree v lat serves g o) starts → Each (Halts v image t) starts → Each Q starts →
+      (same : V → V → Bool) → Tests same →
+      (counts : ℕ → ℕ) × Each (λ s. BeginsEach lat g ls o p s.memory counts) starts
+      × ((ways : List (List (List ℕ))) → Are counts ways → FewShown view same starts (length ways))
+  few_by_choice o t view told Q Are its [] agree halts each_q same tests = (λ l. 0, tt, λ ways are. few_shown view same tests [] (length ways) (omega arith))
+  few_by_choice o t view told Q Are its (s ∷ starts) agree halts each_q same tests =
       let counts : ℕ → ℕ = λ l. picked (is_at l) (record_at o t s) in
       let P : Start E → Type 0 = λ s'. ((l : ℕ) → picked (is_at l) (record_at o t s') ≡ counts l) × (length (record_at o t s') ≡ length (record_at o t s))
-      × Halts v image t s' × PredictsTo o t firsts s' in
-      let each : Each P (s ∷ starts) = Each-map (λ s'. AgreeTo o s s' × Halts v image t s' × PredictsTo o t firsts s') P
+      × Halts v image t s' × Q s' in
+      let each : Each P (s ∷ starts) = Each-map (λ s'. AgreeTo o s s' × Halts v image t s' × Q s') P
       (λ s' a.
       let e = length_at o t s s' a.0 halts.0 a.1 in
       (λ l. sym (picked_fits (is_at l) (record_at o t s) (record_at o t s') (fits_at o t s s' a.0) e), sym e, a.1, a.2))
-      (s ∷ starts) (all_hold (λ s'. AgreeTo o s s') (Halts v image t) (PredictsTo o t firsts) (s ∷ starts) agree.0 halts predicts) in (
+      (s ∷ starts) (all_hold (λ s'. AgreeTo o s s') (Halts v image t) Q (s ∷ starts) agree.0 halts each_q) in (
         counts,
         Each-map P (λ s'. BeginsEach lat g ls o p s'.memory counts) (λ s' h. begins_each o t counts s' h.2 h.0) (s ∷ starts) each,
         λ ways are.
             let way : (x : Member o P s) → IsAmong (choice_of order.size (record_at o t x.from)) ways =
-            λ x. its_way o t firsts counts ways are apart x.from x.more.3 x.more.2 x.more.0 in
+            λ x. its counts ways are x.from x.more.3 x.more.2 x.more.0 in
             let few = count_few (λ (x : Member o P s). view x.from)
             (λ x. place (choice_of order.size (record_at o t x.from)) ways (way x)) (length ways)
             (λ x. place_below (choice_of order.size (record_at o t x.from)) ways (way x)) same tests
@@ -513,6 +523,11 @@ module _ {E : Type 0} {serves : E → Type 0} (v : Env E) (order : Order) (g ls 
             (subst (λ z. distinct_count same z ≤ length ways) (views-members view o P s (s ∷ starts) agree.0 each) few),
       )
 
+  few_shared : {V : Type 0} (o t : ℕ) → (view : Start E → V) → Told o t view → FewShared v order serves g ls image p o t view
+  few_shared o t view told apart starts agree halts firsts predicts same tests =
+      few_by_choice o t view told (PredictsTo o t firsts) (λ counts ways. AreWays t firsts order.size counts ways)
+      (λ counts ways are s its_own halt h. its_way o t firsts counts ways are apart s its_own halt h) starts agree halts predicts same tests
+
   pub is_shared : SharpShared v order serves g ls image p
   is_shared = record { few = λ o low t some. few_shared o t (seen_from v lat g image o t) (told_seen o t) }
 
@@ -522,7 +537,7 @@ module _ {E : Type 0} {serves : E → Type 0} (v : Env E) (order : Order) (g ls 
   pub is_sharp_cut : SharpCut v order serves g ls image p
   is_sharp_cut = record { few = λ o low t some. few_cut o t some (seen_from v lat g image o t) (told_seen o t) }
 
-  told_to_end : (o t : ℕ) → EndsLow lat g p o → Told o t (seen_to_end v lat g image o t)
+  pub told_to_end : (o t : ℕ) → EndsLow lat g p o → Told o t (seen_to_end v lat g image o t)
   told_to_end o t ends = told_both o t (seen_from v lat g image o t) (end_from v image t) (told_seen o t) (told_end o t ends)
 
   pub is_sharp_end : SharpEnd v order serves g ls image p p

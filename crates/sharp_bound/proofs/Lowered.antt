@@ -36,7 +36,7 @@ module _ {M L M' L' : Type 0} (p : Todo M L) (q : Todo M' L') (e : commands_of p
       (subst (λ c. (n : ℕ) → length (notes_of c m n) < total
       → PredictsNext (is_relevant lat g ls o q) ls firsts (source_steps n (source_start c m)).todo (source_steps n (source_start c m)).memory) (sym e) h)
 
-  begins_each_same : (m : List ℤ) (counts : ℕ → ℕ) → BeginsEach lat g ls o p m counts → BeginsEach lat g ls o q m counts
+  pub begins_each_same : (m : List ℤ) (counts : ℕ → ℕ) → BeginsEach lat g ls o p m counts → BeginsEach lat g ls o q m counts
   begins_each_same m counts b =
       let means = same_commands p q e in (
         b.0,

@@ -56,7 +56,7 @@ module _ {E : Type 0} {serves : E → Type 0} (v : Env E) (lat : Lattice) (ll : 
       (sym h.0 ∙ t.0 ∙ and_true (lat.flows pc o && not (lat.flows l o)), none_tells pc c t.1 h.1, none_tells pc r t.2 h.2)
 
   -- where no mitigate is relevant, the record has no entry
-  none_record : {c : Marked} {a : ℕ} {s s' : Core E} (pc : ℕ) → Tells lat g o rel pc c → NoneRelevant rel (commands_of c) → Flows lat pc o
+  pub none_record : {c : Marked} {a : ℕ} {s s' : Core E} (pc : ℕ) → Tells lat g o rel pc c → NoneRelevant rel (commands_of c) → Flows lat pc o
       → (d : Runs v lat g lim (Do c a) s s') → record_of v lat g o lim d ≡ []
   none_record {c = c} {s = s} {s' = s'} pc t h low d =
       let n = low_count v lat ll laws g o lim (λ l. true) (λ k. false) pc (none_tells pc c t h) low d in
@@ -104,7 +104,7 @@ module _ {E : Type 0} {serves : E → Type 0} (v : Env E) (lat : Lattice) (ll : 
           omega (arith, doubled (value_of e memory) count (firsts l) least)
 
   -- a mitigate that is not relevant has no entry of its own
-  no_own : (pc l mark : ℕ) (w : Opened) (q : Core E) → w.level ≡ l → Flows lat pc o → rel mark ≡ (lat.flows pc o && not (lat.flows l o)) → rel mark ≡ false
+  pub no_own : (pc l mark : ℕ) (w : Opened) (q : Core E) → w.level ≡ l → Flows lat pc o → rel mark ≡ (lat.flows pc o && not (lat.flows l o)) → rel mark ≡ false
       → entry_of v lat g o lim w q ≡ []
   no_own pc l mark w q level low tells none = go (lat.flows w.level o) refl
     where

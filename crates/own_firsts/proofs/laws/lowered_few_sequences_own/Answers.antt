@@ -1,0 +1,7 @@
+use Rattle.own_firsts.proofs.Final.{is_own}
+use Rattle.own_firsts.proofs.Lowered.{lowered_own}
+use Rattle.own_firsts.proofs.laws.lowered_few_sequences_own.Goals as goal
+
+pub returns : goal.returns
+returns g c = lowered_own _ _
+    (λ order labels levels image p made. is_own _ order labels levels image p made (g.met.E.MachineEnv.lawful order made.lattice))
