@@ -129,7 +129,7 @@ const numbers = (match) => match.slice(1).map(Number);
 
 // One line of the lab's `leak`, put into what was found; whether it is one.
 function leakLine(line, found) {
-  const count = /^(runs|budget|distinct) (\d+)$/.exec(line), sharp = /^sharp (\d+)$/.exec(line);
+  const count = /^(runs|budget|distinct) (\d+)$/.exec(line), wide = /^(sharp|shared) (\d+)$/.exec(line);
   const bound = /^bound (\d+)\^(\d+)$/.exec(line), sizes = /^least (\d+) greatest (\d+)$/.exec(line);
   const bits = /^(min-entropy|shannon) (\d+\.\d+) to (\d+\.\d+)$/.exec(line);
   const right = /^right at first (\d+) of (\d+) before, (\d+) of (\d+) after$/.exec(line);
@@ -138,7 +138,7 @@ function leakLine(line, found) {
   if (count) found[count[1]] = Number(count[2]);
   else if (observer) [, found.observer] = observer;
   else if (bound) [found.base, found.exponent] = numbers(bound);
-  else if (sharp) found.sharp = BigInt(sharp[1]);
+  else if (wide) found[wide[1]] = BigInt(wide[2]);
   else if (sizes) [found.least, found.greatest] = numbers(sizes);
   else if (bits) found[bits[1] === 'shannon' ? 'shannon' : 'minEntropy'] = bits.slice(2);
   else if (right) found.right = { before: Number(right[1]), after: Number(right[3]) };
@@ -148,12 +148,13 @@ function leakLine(line, found) {
   } else if (part) {
     const events = part[3] === '-' ? [] : part[3].split(' ').map((text) => event(FIELD.exec(text)));
     found.classes.push({ size: Number(part[1]), first: Number(part[2]), events });
-  } else return /^sharp \S+ or more$/.test(line);
+  } else return /^(sharp|shared) \S+ or more$/.test(line);
   return true;
 }
 
 /** The lab's `leak`: its numbers, and of each class of runs its size, its first run and what is seen of that; or null.
-    Entropies stay texts, each as two ends between which it lies; `sharp` is left out where it is too great. */
+    Entropies stay texts, each as two ends between which it lies; `sharp` and `shared` are left out
+    where they are too great. */
 export function readLeak(text) {
   const found = { classes: [] };
   if (!lines(text).every((line) => leakLine(line, found))) return null;

@@ -65,7 +65,7 @@ one_text order o t a b x y e h k =
     let rest : h.0 ≡ k.0 = one_sharp (fitting (sharp_of t b)) h.0 k.0 (subst (λ z. IsSharpText (fitting (sharp_of t z)) h.0) e h.1) k.1 in
     h.2 ∙ ap (λ z. level_lines order o t 0 z ++ h.0) e ∙ ap (λ z. level_lines order o t 0 b ++ z) rest ∙ sym k.2
 
-one_shared : (q : LabelledProgram) (o t : ℕ) (a b : List LevelRuns) (x y : List ℕ) → a ≡ b → IsSharedText q o t a x → IsSharedText q o t b y → x ≡ y
+pub one_shared : (q : LabelledProgram) (o t : ℕ) (a b : List LevelRuns) (x y : List ℕ) → a ≡ b → IsSharedText q o t a x → IsSharedText q o t b y → x ≡ y
 one_shared q o t a b x y e (inl h) (inl k) = h.1 ∙ ap (λ z. shared_line (fitting (shared_of t z))) e ∙ sym k.1
 one_shared q o t a b x y e (inl h) (inr k) = absurd (k.0 h.0)
 one_shared q o t a b x y e (inr h) (inl k) = absurd (h.0 k.0)

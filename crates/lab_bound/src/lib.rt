@@ -6,5 +6,5 @@ pub mod bound;
 mod end;
 pub mod laws;
 mod lines;
-mod shared;
+pub mod shared;
 mod text;

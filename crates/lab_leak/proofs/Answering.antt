@@ -24,7 +24,7 @@ use Rattle.tool_stages.specs.Envs.{ReportsIn}
 use Rattle.tool_stages.proofs.ChainLemmas.{prepared_done, prepares_no_fault}
 use Rattle.audit_stage.specs.Audited.{AuditStops}
 use Rattle.audit_stage.proofs.Once.{audit_goes}
-use Rattle.lab_bound.specs.Text.{sharp_of}
+use Rattle.lab_bound.specs.Text.{sharp_of, SharedPut}
 use Rattle.lab_leak.specs.Answer.{HasLeak, Leaks, IsLeakAnswer, sequences_in}
 use Rattle.lab_leak.specs.declared.sizes.ClassSizes.{ClassSizes}
 use Rattle.lab_leak.specs.Classes.{AreSizes, classes_of_runs, sizes_of}
@@ -36,26 +36,29 @@ abbrev pub leak_next : EnvName → ℕ → Syntax → LabelledProgram → Option
 leak_next e t p q o code ss = HasLeak e t q o ss
 
 -- the lines one after another
-pub leak_put : (q : LabelledProgram) (l : Label) (t : ℕ) (r : AuditReport) (sharp : ℕ) (k : Classes) (s : ClassSizes) (order : Order) (count : Option ℕ)
-    (size : ℕ) (ws none one two whole : List ℕ) → AreSizes k s → order ≡ q.program.order → count ≡ fitting sharp → size ≡ r.runs → ws ≡ s.sizes.items
-    → none ≡ [] → one ≡ none ++ head_lines order l t r count → NumbersPut size ws one two
-    → whole ≡ two ++ class_lines q.program.declarations k.seen k.firsts → IsLeakText q l t r sharp k whole
-leak_put q l t r sharp k s order count size ws none one two whole are is told runs sizes empty head put rest =
+pub leak_put : (q : LabelledProgram) (l : Label) (t : ℕ) (r : AuditReport) (levels : List LevelRuns) (k : Classes) (s : ClassSizes) (order : Order)
+    (count : Option ℕ) (size : ℕ) (ws none one shown two whole : List ℕ) → AreSizes k s → order ≡ q.program.order → count ≡ fitting (sharp_of t levels)
+    → size ≡ r.runs → ws ≡ s.sizes.items → none ≡ [] → one ≡ none ++ head_lines order l t r count → SharedPut q l.number t levels one shown
+    → NumbersPut size ws shown two → whole ≡ two ++ class_lines q.program.declarations k.seen k.firsts → IsLeakText q l t r levels k whole
+leak_put q l t r levels k s order count size ws none one shown two whole are is told runs sizes empty head shared put rest =
     let lines = class_lines q.program.declarations k.seen k.firsts in
     let numbers : AreNumbers r.runs (sizes_of k) put.lines =
     subst (λ z. AreNumbers z (sizes_of k) put.lines) runs (subst (λ z. AreNumbers size z put.lines) (sizes ∙ are.sizes) put.are) in
-    let heads : one ≡ head_lines q.program.order l t r (fitting sharp) =
+    let top = head_lines q.program.order l t r (fitting (sharp_of t levels)) in
+    let heads : one ≡ top =
     head ∙ ap (λ z. z ++ head_lines order l t r count) empty ∙ ap (λ (z : Order). head_lines z l t r count) is
     ∙ ap (λ z. head_lines q.program.order l t r z) told in (
+      shared.0,
+      shared.1,
       put.lines,
       numbers,
-      rest ∙ ap (λ z. z ++ lines) (put.put ∙ ap (λ z. z ++ put.lines) heads)
-          ∙ append_assoc (head_lines q.program.order l t r (fitting sharp)) put.lines lines,
+      rest ∙ ap (λ z. z ++ lines) (put.put ∙ ap (λ z. z ++ put.lines) (shared.2 ∙ ap (λ z. z ++ shared.0) heads))
+          ∙ append_assoc (top ++ shared.0) put.lines lines,
     )
 
 pub leak_tells : (e : EnvName) (t : ℕ) (q : LabelledProgram) (l : Label) (ss : List StartValue) (r : AuditReport) (levels : List LevelRuns) (x : List ℕ)
     → ReportsIn e q l.number t ss r → AreTold q l.number (memories_of ss) levels
-    → IsLeakText q l t r (sharp_of t levels) (classes_of_runs (sequences_in e t q l.number ss)) x → HasLeak e t q (Some l) ss status.Done x
+    → IsLeakText q l t r levels (classes_of_runs (sequences_in e t q l.number ss)) x → HasLeak e t q (Some l) ss status.Done x
 leak_tells e t q l ss r levels x reports told text = inr (r, reports, (refl, levels, told, text))
 
 pub leak_stop : (e : EnvName) (t : ℕ) (q : LabelledProgram) (l : Label) (ss : List StartValue) (s : Stop) → IsStop (AuditStops e t q l ss) s

@@ -1,4 +1,4 @@
--- The number of classes, the sharp count and the bound.
+-- The number of classes, the count by shared time, the sharp count and the bound.
 use Rattle.std.proofs.Common.{arith}
 use Rattle.lab_bound.specs.Enough.{AllAreEnough}
 use Rattle.lab_leak.specs.Answer.{sequences_in}
@@ -11,4 +11,10 @@ all_ordered enough e t some words p q o ss r levels spelled types low is told =
     let tallied = are_tallied (sequences_in e t q o ss) in
     let distinct = tallied.distinct in
     let few = h.few.count in
-    record { tallied = tallied; sharp = omega (arith, distinct, few); bound = h.within }
+    record {
+      tallied = tallied;
+      sharp = omega (arith, distinct, few);
+      shared = λ apart. let less = (h.shared apart).count in omega (arith, distinct, less);
+      within = h.shared_within;
+      bound = h.within;
+    }

@@ -1,9 +1,10 @@
 -- There is one answer.
-use Rattle.std.proofs.Common.{◌≡◌, ℕ, List, ◌++◌, Option, Some, None, inl, inr, sym, ap, ◌∙◌, subst, codes}
+use Rattle.std.proofs.Common.{◌≡◌, ℕ, List, ◌++◌, Option, Some, None, inl, inr, refl, sym, ap, ◌∙◌, subst, codes}
 use Rattle.tim_base.specs.Faults.{Rose}
 use Rattle.label_lattice.specs.declared.label.Label.{Label}
 use Rattle.timing_types.specs.Labelled.{LabelledProgram}
 use Rattle.start_file.specs.Starts.{StartValue}
+use Rattle.sharp_count.specs.declared.count.LevelRuns.{LevelRuns}
 use Rattle.sharp_count.specs.Count.{fitting}
 use Rattle.leak_audit.specs.declared.report.AuditReport.{AuditReport}
 use Rattle.leak_audit.specs.Report.{SameReport}
@@ -20,7 +21,7 @@ use Rattle.tool_stages.proofs.ChainLemmas.{prepares_one}
 use Rattle.lab_texts.proofs.LabLemmas.{one_in_lab}
 use Rattle.audit_stage.proofs.Once.{audit_stops, one_audit_stop, same_report, not_fault}
 use Rattle.lab_bound.specs.Text.{sharp_of}
-use Rattle.lab_bound.proofs.Single.{one_told}
+use Rattle.lab_bound.proofs.Single.{one_told, one_shared}
 use Rattle.lab_leak.specs.Answer.{HasLeak, Leaks, sequences_in}
 use Rattle.lab_leak.specs.Classes.{classes_of_runs, sizes_of}
 use Rattle.lab_leak.specs.Complete.{HasOneLeak}
@@ -37,13 +38,16 @@ same_head q l t r s sharp h =
     ∙ ap (λ z. number_line (codes "runs ") s.runs ++ (label_line (codes "observer ") q.program.order l
     ++ (number_line (codes "budget ") t ++ (bound_line s.measures.base z ++ sharp_line sharp)))) h.measures.exponent
 
-one_leak_text : (q : LabelledProgram) (l : Label) (t : ℕ) (r s : AuditReport) (sharp : ℕ) (k : Classes) (x y : List ℕ) → SameReport r s
-    → IsLeakText q l t r sharp k x → IsLeakText q l t s sharp k y → x ≡ y
-one_leak_text q l t r s sharp k x y same h j =
-    let numbers : h.0 ≡ j.0 = one_text s.runs (sizes_of k) h.0 j.0 (subst (λ z. AreNumbers z (sizes_of k) h.0) same.runs h.1) j.1 in
+one_leak_text : (q : LabelledProgram) (l : Label) (t : ℕ) (r s : AuditReport) (levels : List LevelRuns) (k : Classes) (x y : List ℕ) → SameReport r s
+    → IsLeakText q l t r levels k x → IsLeakText q l t s levels k y → x ≡ y
+one_leak_text q l t r s levels k x y same h j =
+    let line : h.0 ≡ j.0 = one_shared q l.number t levels levels h.0 j.0 refl h.1 j.1 in
+    let numbers : h.2 ≡ j.2 = one_text s.runs (sizes_of k) h.2 j.2 (subst (λ z. AreNumbers z (sizes_of k) h.2) same.runs h.3) j.3 in
     let rest = class_lines q.program.declarations k.seen k.firsts in
-    h.2 ∙ ap (λ z. head_lines q.program.order l t r (fitting sharp) ++ (z ++ rest)) numbers
-    ∙ ap (λ z. z ++ (j.0 ++ rest)) (same_head q l t r s (fitting sharp) same) ∙ sym j.2
+    let sharp = fitting (sharp_of t levels) in
+    h.4 ∙ ap (λ z. (head_lines q.program.order l t r sharp ++ h.0) ++ (z ++ rest)) numbers
+    ∙ ap (λ z. (head_lines q.program.order l t r sharp ++ z) ++ (j.2 ++ rest)) line
+    ∙ ap (λ z. (z ++ j.0) ++ (j.2 ++ rest)) (same_head q l t r s sharp same) ∙ sym j.4
 
 one_leak : (e : EnvName) (t : ℕ) (q : LabelledProgram) (o : Option Label) (ss : List StartValue) (s u : Status) (x y : List ℕ) → HasLeak e t q o ss s x
     → HasLeak e t q o ss u y → Same s u x y
@@ -55,8 +59,8 @@ one_leak e t q (Some l) ss s u x y (inr h) (inr k) =
     let same = same_report e q l.number t ss h.0 k.0 h.1 k.1 in
     let levels = one_told q l.number (memories_of ss) h.2.1 k.2.1 h.2.2 k.2.2 in
     let classes = classes_of_runs (sequences_in e t q l.number ss) in
-    let one = subst (λ z. IsLeakText q l t h.0 (sharp_of t z) classes x) levels h.2.3 in
-    (h.2.0 ∙ sym k.2.0, one_leak_text q l t h.0 k.0 (sharp_of t k.2.1) classes x y same one k.2.3)
+    let one = subst (λ z. IsLeakText q l t h.0 z classes x) levels h.2.3 in
+    (h.2.0 ∙ sym k.2.0, one_leak_text q l t h.0 k.0 k.2.1 classes x y same one k.2.3)
 
 pub one_leak_in_lab : HasOneLeak
 one_leak_in_lab content before now file starts observer e t s u x y known known_starts one other h k =

@@ -18,7 +18,6 @@ use Rattle.tool_stages.specs.Begins.{Prepares}
 use Rattle.tool_stages.specs.Envs.{environment, ReportsIn}
 use Rattle.lab_texts.specs.InLab.{InLab}
 use Rattle.audit_stage.specs.Audited.{AuditStops}
-use Rattle.lab_bound.specs.Text.{sharp_of}
 use Rattle.lab_leak.specs.Classes.{classes_of_runs}
 use Rattle.lab_leak.specs.Text.{IsLeakText}
 
@@ -27,14 +26,14 @@ abbrev pub sequences_in : EnvName → ℕ → LabelledProgram → ℕ → List S
 sequences_in e t q o ss = map (sequence_from (environment e q.program.order) q o t) (starts_of history_made q.program.order ss)
 
 -- The runs are those of an audit, and stop where and as one does. Their classes are told by what the observer sees, and
--- the sharp count by what is told of the levels.
+-- the sharp count and the count by shared time by what is told of the levels.
 abbrev pub HasLeak : EnvName → ℕ → LabelledProgram → Option Label → List StartValue → Status → List ℕ → Type 0
 HasLeak e t q None ss = λ s x. ⊥
 HasLeak e t q (Some l) ss =
     Then (AuditStops e t q l ss) (ReportsIn e q l.number t ss) (λ r s x.
     (s ≡ status.Done)
     × (levels : List LevelRuns) × AreTold q l.number (memories_of ss) levels
-    × IsLeakText q l t r (sharp_of t levels) (classes_of_runs (sequences_in e t q l.number ss)) x)
+    × IsLeakText q l t r levels (classes_of_runs (sequences_in e t q l.number ss)) x)
 
 -- What is told, in the order of its refusals, which are those of an audit. `Rises` tells the names whose counts of
 -- faults rose.

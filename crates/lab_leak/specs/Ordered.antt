@@ -1,4 +1,4 @@
--- The three counts of a text, one below the other.
+-- The counts of a text, one below the other.
 use Rattle.std.specs.Prelude.{◌≤◌, ◌<◌, ◌^◌, ℕ, List, length}
 use Rattle.mit_syntax.specs.Program.{Syntax}
 use Rattle.mit_parser.specs.Words.{Told}
@@ -6,12 +6,13 @@ use Rattle.mit_parser.specs.Spells.{IsProgram}
 use Rattle.timing_types.specs.Labelled.{LabelledProgram}
 use Rattle.start_file.specs.Starts.{StartValue}
 use Rattle.sharp_count.specs.declared.count.LevelRuns.{LevelRuns}
+use Rattle.sharp_count.specs.Shared.{shared_of}
 use Rattle.leak_audit.specs.declared.report.AuditReport.{AuditReport}
 use Rattle.level_counts.specs.Begun.{AreTold, memories_of}
 use Rattle.tool_words.specs.declared.words.EnvName.{EnvName}
 use Rattle.tool_stages.specs.Stages.{Types}
 use Rattle.tool_stages.specs.Envs.{ReportsIn}
-use Rattle.lab_bound.specs.Text.{sharp_of}
+use Rattle.lab_bound.specs.Text.{sharp_of, AreApart}
 use Rattle.lab_leak.specs.Answer.{sequences_in}
 use Rattle.lab_leak.specs.Classes.{AreTallied, classes_of_runs}
 
@@ -21,6 +22,10 @@ pub record AreOrdered (e : EnvName) (q : LabelledProgram) (o t : ℕ) (ss : List
   pub tallied : AreTallied (sequences_in e t q o ss)
   -- there are at most as many classes as the sharp count says
   pub sharp : length (classes_of_runs (sequences_in e t q o ss)).seen ≤ sharp_of t levels
+  -- where the count by shared time is told, there are at most as many as it says
+  pub shared : AreApart q o → length (classes_of_runs (sequences_in e t q o ss)).seen ≤ shared_of t levels
+  -- which is at most the sharp count
+  pub within : shared_of t levels ≤ sharp_of t levels
   -- and that is at most the bound
   pub bound : sharp_of t levels ≤ r.measures.base ^ r.measures.exponent
 

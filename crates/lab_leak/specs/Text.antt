@@ -5,6 +5,7 @@ use Rattle.label_lattice.specs.Order.{Order}
 use Rattle.mit_syntax.specs.Declarations.{Declaration}
 use Rattle.timing_types.specs.Labelled.{LabelledProgram}
 use Rattle.label_code.specs.Machine.{Event}
+use Rattle.sharp_count.specs.declared.count.LevelRuns.{LevelRuns}
 use Rattle.sharp_count.specs.Count.{fitting}
 use Rattle.seen_line.specs.Field.{field_text}
 use Rattle.leak_audit.specs.declared.report.AuditReport.{AuditReport}
@@ -12,6 +13,7 @@ use Rattle.leak_classes.specs.Classes.{Classes}
 use Rattle.leak_numbers.specs.Numbers.{AreNumbers}
 use Rattle.tool_texts.specs.Texts.{number_line}
 use Rattle.tool_texts.specs.Reports.{label_line, bound_line}
+use Rattle.lab_bound.specs.Text.{sharp_of, IsSharedText}
 use Rattle.lab_leak.specs.Classes.{sizes_of}
 
 -- `sharp N`; N is told where it is below 2^128
@@ -35,8 +37,10 @@ abbrev pub class_lines : List Declaration → List (List Event × ℕ) → List 
 class_lines ds (c ∷ cs) (f ∷ fs) = class_line ds c.0 c.1 f ++ class_lines ds cs fs
 class_lines ds _ _ = []
 
--- the whole text, of an audit's report, a sharp count and classes
-abbrev pub IsLeakText : LabelledProgram → Label → ℕ → AuditReport → ℕ → Classes → List ℕ → Type 0
-IsLeakText q l t r sharp k x =
-    (numbers : List ℕ) × AreNumbers r.runs (sizes_of k) numbers
-    × (x ≡ head_lines q.program.order l t r (fitting sharp) ++ (numbers ++ class_lines q.program.declarations k.seen k.firsts))
+-- The whole text, of an audit's report, what is told of the levels, and classes. The line of the count by shared time, if there
+-- is one, stands below that of the sharp count.
+abbrev pub IsLeakText : LabelledProgram → Label → ℕ → AuditReport → List LevelRuns → Classes → List ℕ → Type 0
+IsLeakText q l t r levels k x =
+    (line : List ℕ) × IsSharedText q l.number t levels line
+    × (numbers : List ℕ) × AreNumbers r.runs (sizes_of k) numbers
+    × (x ≡ (head_lines q.program.order l t r (fitting (sharp_of t levels)) ++ line) ++ (numbers ++ class_lines q.program.declarations k.seen k.firsts))

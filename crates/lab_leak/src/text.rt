@@ -11,7 +11,6 @@ ghost use Rattle.tool_stages.specs.Begins.{CanAudit};
 ghost use Rattle.tool_stages.specs.Accepted.{is_past_typing, IsAccepted};
 ghost use Rattle.tool_stages.specs.Fetches.{Fetches};
 ghost use Rattle.tool_stages.specs.Envs.{ReportsIn};
-ghost use Rattle.lab_bound.specs.Text.{sharp_of};
 ghost use Rattle.lab_leak.specs.Answer.{HasLeak, Leaks, sequences_in};
 ghost use Rattle.lab_leak.specs.Classes.{classes_of_runs};
 ghost use Rattle.lab_leak.specs.Text.{IsLeakText};
@@ -20,6 +19,7 @@ use crate::head::put_head;
 use crate::lines::with_classes;
 use crate::sizes::sizes;
 use audit_stage::audited::audited;
+use lab_bound::shared::put_shared;
 use leak_audit::report::AuditReport;
 use leak_numbers::numbers::put_numbers;
 use level_counts::levels::level_counts;
@@ -42,7 +42,7 @@ fn told_text(
 ) -> Result<Vec<u8>, Memory>
     requires fit { CanAudit p.now.compiled.typed.labelled p.now.observer p.now.compiled.image (map seen p.now.starts.items) }
     requires reported { ReportsIn setting.env p.now.compiled.typed.labelled p.now.observer.number setting.budget (map seen p.now.starts.items) report.now }
-    ensures { IfOk result (λ v. IsLeakText p.now.compiled.typed.labelled p.now.observer setting.budget report.now (sharp_of setting.budget levels.now)
+    ensures { IfOk result (λ v. IsLeakText p.now.compiled.typed.labelled p.now.observer setting.budget report.now levels.now
         (classes_of_runs (sequences_in setting.env setting.budget p.now.compiled.typed.labelled p.now.observer.number (map seen p.now.starts.items)))
         v.items) }
 {
@@ -51,6 +51,14 @@ fn told_text(
     let count = sharp_count(Runs::Halted, levels, setting.budget);
     let mut text = Vec::new(alloc);
     put_head(&mut text, &order, p.observer, setting.budget, report, count)?;
+    put_shared(
+        alloc,
+        &mut text,
+        &p.compiled.typed,
+        p.observer,
+        setting.budget,
+        levels,
+    )?;
     let runs = u64::from(report.runs);
     put_numbers(&mut text, runs, found.sizes.as_slice())?;
     let whole = with_classes(alloc, p, setting, &found, text)?;

@@ -4,7 +4,6 @@ use Rattle.timing_types.specs.Labelled.{LabelledProgram}
 use Rattle.source_meaning.specs.Source.{HasEnded}
 use Rattle.start_file.specs.Starts.{StartValue, seen}
 use Rattle.level_counts.specs.Begun.{AreTold, memories_of}
-use Rattle.lab_bound.specs.Text.{sharp_of}
 use Rattle.lab_bound.proofs.Ending.{reported_end}
 use Rattle.lab_leak.specs.Answer.{sequences_in}
 use Rattle.lab_leak.specs.Classes.{classes_of_runs}
@@ -31,5 +30,5 @@ returns-in-Ok-told_text-clause-text g c =
     let levels = c.in-Ok-level_counts.levels.items in
     leak_tells e t q l ss c.in-Ok.report levels c.in-Ok-told_text.text.items c.in-Ok.ensures.report
     (subst (λ (z : List StartValue). AreTold q l.number (memories_of z) levels) same c.in-Ok-level_counts.ensures)
-    (subst (λ z. IsLeakText q l t c.in-Ok.report (sharp_of t z) (classes_of_runs (sequences_in e t q l.number ss)) c.in-Ok-told_text.text.items)
+    (subst (λ z. IsLeakText q l t c.in-Ok.report z (classes_of_runs (sequences_in e t q l.number ss)) c.in-Ok-told_text.text.items)
     c.deref.ensures.value c.in-Ok-told_text.ensures)

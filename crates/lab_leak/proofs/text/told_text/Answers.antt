@@ -1,6 +1,5 @@
 use Rattle.std.proofs.Common.{◌≡◌, map, ap, ◌∙◌}
 use Rattle.start_file.specs.Starts.{seen}
-use Rattle.lab_bound.specs.Text.{sharp_of}
 use Rattle.lab_leak.specs.Answer.{sequences_in}
 use Rattle.lab_leak.specs.Classes.{classes_of_runs}
 use Rattle.lab_leak.proofs.Answering.{leak_put}
@@ -14,8 +13,9 @@ returns c =
     let zs = sequences_in c.args.setting.env t q l.number (map seen c.args.p.now.starts.items) in
     let order : c.lattice-order.result ≡ q.program.order =
     c.lattice-order.ensures ∙ ap (λ z. z.order) (c.program.ensures.program ∙ ap (λ z. z.program) c.labelled.ensures.labelled) in
-    leak_put q l t c.args.report.now (sharp_of t c.args.levels.now) (classes_of_runs zs) c.in_ok-found.found c.lattice-order.result
-    c.sharp_count-count.result c.from-runs.result c.as_slice-2.result.now c.new-text.result.items c.put_head.new.text.items c.put_numbers.new.text.items
+    leak_put q l t c.args.report.now c.args.levels.now (classes_of_runs zs) c.in_ok-found.found c.lattice-order.result
+    c.sharp_count-count.result c.from-runs.result c.as_slice-2.result.now c.new-text.result.items c.put_head.new.text.items c.put_shared.new.text.items
+    c.put_numbers.new.text.items
     c.in_ok-whole.whole.items (c.in_ok-found.ensures.are zs (c.as_slice.ensures.value ∙ c.requires.reported.measures.classes)) order
-    c.sharp_count-count.ensures c.from-runs.ensures c.as_slice-2.ensures.value c.new-text.ensures.items c.in_ok-put_head.ensures
+    c.sharp_count-count.ensures c.from-runs.ensures c.as_slice-2.ensures.value c.new-text.ensures.items c.in_ok-put_head.ensures c.in_ok-put_shared.ensures
     c.in_ok-put_numbers.ensures c.in_ok-whole.ensures
