@@ -300,14 +300,16 @@ module _ (sharp : (e : EnvName) → LoweredSharpOver (environment e) AnyHistory)
       let f = found v AnyHistory history_made q o t (sharp e q is_typed) low' some ss levels study in
       record {
         begun = f.begun;
-        few = f.few;
+        bounds = record {
+          few = f.few;
+          ended = λ end same tests. few_told v AnyHistory history_made q o t (seen_to_end v (order_of q) (labels_of q) (lowered q).instrs o t)
+              ((ending e q is_typed).halted o low' end t some) ss levels study same tests;
+          shared = λ apart. shared_told v AnyHistory history_made q o t (sequence_from v q o t) ((sharing e q is_typed).few o low' t some) apart ss levels
+              study same_sequence tests_sequences;
+          shared_ended = λ apart end same tests. shared_told v AnyHistory history_made q o t (seen_to_end v (order_of q) (labels_of q) (lowered q).instrs o t)
+              ((ending e q is_typed).shared o low' end t some) apart ss levels study same tests;
+        };
         counted = counted v AnyHistory history_made q o t ss r levels is f;
-        ended = λ end same tests. few_told v AnyHistory history_made q o t (seen_to_end v (order_of q) (labels_of q) (lowered q).instrs o t)
-            ((ending e q is_typed).halted o low' end t some) ss levels study same tests;
-        shared = λ apart. shared_told v AnyHistory history_made q o t (sequence_from v q o t) ((sharing e q is_typed).few o low' t some) apart ss levels study
-            same_sequence tests_sequences;
-        shared_ended = λ apart end same tests. shared_told v AnyHistory history_made q o t (seen_to_end v (order_of q) (labels_of q) (lowered q).instrs o t)
-            ((ending e q is_typed).shared o low' end t some) apart ss levels study same tests;
         shared_within = shares_within t levels;
         within = bounded v AnyHistory history_made q o t ss r levels is f;
       }

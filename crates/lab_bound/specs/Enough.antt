@@ -38,20 +38,25 @@ FewToEndIn e q o t ss n =
     (same : List Event × List ℕ → List Event × List ℕ → Bool) → Tests same →
     FewShown (seen_to_end (environment e q.program.order) (order_of q) (labels_of q) (lowered q).instrs o t) same (starts_of history_made q.program.order ss) n
 
--- of runs of which there is a report, and of whose levels this is told
-pub record IsEnough (e : EnvName) (q : LabelledProgram) (o t : ℕ) (ss : List StartValue) (r : AuditReport) (levels : List LevelRuns) : Type 0 where
-  -- each run, not the first alone, begins as many relevant mitigations of each level as are told
-  pub begun : Each (λ m. BeginsEach (order_of q) (labels_of q) (levels_of q) o (plan_of q.program) m (counts_of levels)) (memories_of ss)
+-- the numbers that are told of the levels bound what the runs from starts show
+pub record Bounds (e : EnvName) (q : LabelledProgram) (o t : ℕ) (ss : List StartValue) (levels : List LevelRuns) : Type 0 where
   -- the sharp count bounds the runs
   pub few : FewIn e q o t ss (sharp_of t levels)
-  -- a number that is told is at least as great as the number of different sequences in the report
-  pub counted : (n : ℕ) → fitting (sharp_of t levels) ≡ Some n → r.measures.distinct ≤ n
-  -- where the end is told as counted, the sharp count bounds what is seen of the runs with their ends
+  -- where the end is told as counted, it bounds what is seen of the runs with their ends
   pub ended : CountsEnd q o → FewToEndIn e q o t ss (sharp_of t levels)
   -- where the count by shared time is told, it bounds the runs, and with their ends where these are told as counted
   pub shared : AreApart q o → FewIn e q o t ss (shared_of t levels)
   pub shared_ended : AreApart q o → CountsEnd q o → FewToEndIn e q o t ss (shared_of t levels)
-  -- it is at most the sharp count
+
+-- of runs of which there is a report, and of whose levels this is told
+pub record IsEnough (e : EnvName) (q : LabelledProgram) (o t : ℕ) (ss : List StartValue) (r : AuditReport) (levels : List LevelRuns) : Type 0 where
+  -- each run, not the first alone, begins as many relevant mitigations of each level as are told
+  pub begun : Each (λ m. BeginsEach (order_of q) (labels_of q) (levels_of q) o (plan_of q.program) m (counts_of levels)) (memories_of ss)
+  -- the numbers bound what the runs show
+  pub bounds : Bounds e q o t ss levels
+  -- a number that is told is at least as great as the number of different sequences in the report
+  pub counted : (n : ℕ) → fitting (sharp_of t levels) ≡ Some n → r.measures.distinct ≤ n
+  -- the count by shared time is at most the sharp count
   pub shared_within : shared_of t levels ≤ sharp_of t levels
   -- the sharp count is at most the bound of the report
   pub within : sharp_of t levels ≤ r.measures.base ^ r.measures.exponent

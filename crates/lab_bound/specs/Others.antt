@@ -7,7 +7,6 @@ use Rattle.timing_types.specs.Labelled.{LabelledProgram, order_of, labels_of, le
 use Rattle.start_file.specs.Starts.{StartValue}
 use Rattle.sharp_count.specs.declared.count.LevelRuns.{LevelRuns}
 use Rattle.sharp_count.specs.Levels.{told_of}
-use Rattle.sharp_count.specs.Shared.{shared_of}
 use Rattle.sharp_bound.specs.Sharp.{relevant_at}
 use Rattle.leak_audit.specs.declared.report.AuditReport.{AuditReport}
 use Rattle.level_counts.specs.Begun.{AreTold, PredictedIn, memories_of}
@@ -15,8 +14,7 @@ use Rattle.tool_words.specs.declared.words.EnvName.{EnvName}
 use Rattle.tool_stages.specs.Stages.{Types}
 use Rattle.tool_stages.specs.Envs.{ReportsIn}
 use Rattle.tool_stages.specs.Goes.{AgreeIn, HaltsBy}
-use Rattle.lab_bound.specs.Text.{sharp_of, AreApart, CountsEnd}
-use Rattle.lab_bound.specs.Enough.{FewIn, FewToEndIn}
+use Rattle.lab_bound.specs.Enough.{Bounds}
 
 -- Other starts: with the listed ones they agree pairwise for the observer, they halt by T, and of each level no relevant
 -- mitigation that they begin has a first prediction below the least one that is told.
@@ -25,13 +23,6 @@ pub record AreOthers (e : EnvName) (q : LabelledProgram) (o t : ℕ) (ss : List 
   pub halt : All (HaltsBy e t q) others
   pub predict : (l x : ℕ) → PredictedIn (relevant_at (order_of q) (labels_of q) (levels_of q) o (plan_of q.program) l) (plan_of q.program) (memories_of others) x
       → (told_of levels l).first ≤ x
-
--- the numbers bound what the runs from these starts show, as they bound those from the listed ones
-pub record Bounds (e : EnvName) (q : LabelledProgram) (o t : ℕ) (ss : List StartValue) (levels : List LevelRuns) : Type 0 where
-  pub few : FewIn e q o t ss (sharp_of t levels)
-  pub ended : CountsEnd q o → FewToEndIn e q o t ss (sharp_of t levels)
-  pub shared : AreApart q o → FewIn e q o t ss (shared_of t levels)
-  pub shared_ended : AreApart q o → CountsEnd q o → FewToEndIn e q o t ss (shared_of t levels)
 
 -- Of each program that words spell, with its least labelling, up to each T of at least 1: where there is a report of
 -- listed starts, of which there is one at least, the numbers bound these and any others together.

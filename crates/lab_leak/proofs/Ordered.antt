@@ -10,11 +10,11 @@ all_ordered enough e t some words p q o ss r levels spelled types low is told =
     let h = enough e t some words p q o ss r levels spelled types low is told in
     let tallied = are_tallied (sequences_in e t q o ss) in
     let distinct = tallied.distinct in
-    let few = h.few.count in
+    let few = h.bounds.few.count in
     record {
       tallied = tallied;
       sharp = omega (arith, distinct, few);
-      shared = λ apart. let less = (h.shared apart).count in omega (arith, distinct, less);
+      shared = λ apart. let less = (h.bounds.shared apart).count in omega (arith, distinct, less);
       within = h.shared_within;
       bound = h.within;
     }
