@@ -11,7 +11,8 @@ returns g c =
     let touches = c.args.space.now.touches.items in
     let lattice : c.lattice-lattice.result ≡ p.program.order = search rules in
     let env : c.in_ok-_made._made ≡ g.M.MakeEnv.made p.program.order touches =
-    c.in_ok-_made.ensures.value ∙ (ap (λ z. g.M.MakeEnv.made z c.as_slice-2.result.now) lattice ∙ ap (g.M.MakeEnv.made p.program.order) c.as_slice-2.ensures.value) in
+    c.in_ok-_made.ensures.value ∙ (ap (λ z. g.M.MakeEnv.made z c.as_slice-2.result.now) lattice
+    ∙ ap (g.M.MakeEnv.made p.program.order) c.as_slice-2.ensures.value) in
     let at = subst (λ z. g.E.MachineEnv.serves z c.in_ok-_made._made) lattice c.in_ok-_made.ensures.serves in
     let served = subst (g.E.MachineEnv.serves p.program.order) env at in
     let none = subst (λ z. NoneRanges p o z) c.as_slice.ensures.value c.in_default.ensures in
