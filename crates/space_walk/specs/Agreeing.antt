@@ -1,0 +1,29 @@
+-- When the starts of a space agree for an observer: each variable that it sees has one value.
+use Rattle.std.specs.Prelude.{◌≡◌, ◌<◌, ℕ, List, Option, Some, None, slice_get}
+use Rattle.env_contract.specs.declared.place.Touch.{Touch}
+use Rattle.env_contract.specs.Env.{Env}
+use Rattle.label_lattice.specs.Lattice.{Flows}
+use Rattle.label_lattice.specs.Order.{Order}
+use Rattle.timing_types.specs.Labelled.{LabelledProgram, order_of, labels_of}
+use Rattle.space_starts.specs.declared.space.Interval.{Interval}
+use Rattle.space_starts.specs.Space.{SpaceValue, size_of, start_at}
+use Rattle.leak_audit.specs.Agreement.{start_of, AgreeFor}
+
+-- the observer sees the variable, and it has two values or more
+abbrev pub Ranges : LabelledProgram → ℕ → List Interval → ℕ → Type 0
+Ranges p o is x = Flows (order_of p) (labels_of p x) o × (i : Interval) × (slice_get is x ≡ Some i) × (1 < i.count)
+
+-- this variable does, and none before it
+pub record IsFirstRanging (p : LabelledProgram) (o : ℕ) (is : List Interval) (x : ℕ) : Type 0 where
+  pub here : Ranges p o is x
+  pub first : (y : ℕ) → y < x → Ranges p o is y → ⊥
+
+-- none does
+abbrev pub NoneRanges : LabelledProgram → ℕ → List Interval → Type 0
+NoneRanges p o is = (x : ℕ) → Ranges p o is x → ⊥
+
+-- each two starts agree
+abbrev pub AllAgree : {E : Type 0} → Env E → (Order → E → Type 0) → (Order → List Touch → E) → LabelledProgram → ℕ → SpaceValue → Type 0
+AllAgree v serves made p o s =
+    (n m : ℕ) → n < size_of s → m < size_of s →
+    AgreeFor v serves p o (start_of made p.program.order (start_at s n)) (start_of made p.program.order (start_at s m))
