@@ -31,7 +31,9 @@ timed c ms os log last = record { clock = c; misses = counts ms; opened = map op
 table_is : (ms ms' : List ℕ) (level : ℕ) (est : ℤ) (elapsed : ℕ) (n : ℤ) (d : ℕ) → est ≡ n → elapsed ≡ d →
     ms' ≡ slice_set ms level (misses_after est elapsed (slice_index ms level)) → ms' ≡ slice_set ms level (misses_after n d (slice_index ms level))
 table_is ms ms' level est elapsed n d e f t =
-    t ∙ (ap (λ z. slice_set ms level (misses_after z elapsed (slice_index ms level))) e ∙ ap (λ z. slice_set ms level (misses_after n z (slice_index ms level))) f)
+    t
+    ∙ (ap (λ z. slice_set ms level (misses_after z elapsed (slice_index ms level))) e
+    ∙ ap (λ z. slice_set ms level (misses_after n z (slice_index ms level))) f)
 
 pub count_is : (ms ms' : List ℕ) (level : ℕ) (est : ℤ) (elapsed : ℕ) (n : ℤ) (d : ℕ) → level < length ms → est ≡ n → elapsed ≡ d →
     ms' ≡ slice_set ms level (misses_after est elapsed (slice_index ms level)) → slice_index ms' level ≡ misses_after n d (slice_index ms level)

@@ -150,7 +150,8 @@ goes_on numbers es limit i e old new went lt is b g h =
       within = w.within;
     }
 
-pub goes_late : (numbers : ℕ → ℤ) (es : List Line) (limit i : ℕ) (e : Line) (old new : Replay) (went : Bool) → i < length es → e ≡ get_or es i e → went ≡ false →
+pub goes_late : (numbers : ℕ → ℤ) (es : List Line) (limit i : ℕ) (e : Line) (old new : Replay) (went : Bool) → i < length es → e ≡ get_or es i e →
+    went ≡ false →
     Goes went numbers (what_of e.deed) (old.clock + e.cost) limit old new → Replaying numbers es limit i old →
     limit < (replayed numbers (entries_of es)).clock
 goes_late numbers es limit i e old new went lt is b g h =
