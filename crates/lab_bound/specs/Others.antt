@@ -21,8 +21,8 @@ use Rattle.lab_bound.specs.Enough.{Bounds}
 pub record AreOthers (e : EnvName) (q : LabelledProgram) (o t : ℕ) (ss : List StartValue) (levels : List LevelRuns) (others : List StartValue) : Type 0 where
   pub agree : AgreeIn e q o (ss ++ others)
   pub halt : All (HaltsBy e t q) others
-  pub predict : (l x : ℕ) → PredictedIn (relevant_at (order_of q) (labels_of q) (levels_of q) o (plan_of q.program) l) (plan_of q.program) (memories_of others) x
-      → (told_of levels l).first ≤ x
+  pub predict : (l x : ℕ) → PredictedIn (relevant_at (order_of q) (labels_of q) (levels_of q) o (plan_of q.program) l)
+      (plan_of q.program) (memories_of others) x → (told_of levels l).first ≤ x
 
 -- Of each program that words spell, with its least labelling, up to each T of at least 1: where there is a report of
 -- listed starts, of which there is one at least, the numbers bound these and any others together.

@@ -39,7 +39,8 @@ begins_none p left b h n begun =
     cc
 
 -- one word more
-pub after_one : (s left next : List Part) (p : List Told) (b : Told) → after s p ≡ Some left → step left b.symbol ≡ Some next → after s (p ++ b ∷ []) ≡ Some next
+pub after_one : (s left next : List Part) (p : List Told) (b : Told) → after s p ≡ Some left
+    → step left b.symbol ≡ Some next → after s (p ++ b ∷ []) ≡ Some next
 after_one s left next [] b h e =
     let same : s ≡ left = cc in
     ap (λ q. choice (step q b.symbol) None (λ t. Some t)) same ∙ ap (λ o. choice o None (λ t. Some t)) e

@@ -72,7 +72,8 @@ may : (b : Bool) (after : List Part) (s : List machine.Part) (o : Option (List m
 may true after s o = refl
 may false after s o = refl
 
-must_key : (k : Keyword) (w : Symbol) (s : List machine.Part) (o : Option (List machine.Part)) → cond (is_key k w) (Some s) None ≡ made (cond (has_key k (sort_of w)) (goes []) stuck) s o
+must_key : (k : Keyword) (w : Symbol) (s : List machine.Part) (o : Option (List machine.Part))
+    → cond (is_key k w) (Some s) None ≡ made (cond (has_key k (sort_of w)) (goes []) stuck) s o
 must_key k w s o = ap (λ b. cond b (Some s) None) (key_same k w) ∙ must (has_key k (sort_of w)) [] s o
 
 must_sign : (g : Sign) (after : List Part) (w : Symbol) (s : List machine.Part) (o : Option (List machine.Part))

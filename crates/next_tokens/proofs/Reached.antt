@@ -1,5 +1,6 @@
 -- How far tokens begin a program, and what can stand behind these.
-use Rattle.std.proofs.Common.{◌≡◌, ◌<◌, ◌+◌, refl, ap, ◌∙◌, sym, subst, ℕ, List, [], ◌∷◌, ◌++◌, length, take, drop, get_or, Option, Some, None, Bool, true, false, cond, arith}
+use Rattle.std.proofs.Common.{◌≡◌, ◌<◌, ◌+◌, refl, ap, ◌∙◌, sym, subst, ℕ, List, [], ◌∷◌, ◌++◌}
+use Rattle.std.proofs.Common.{length, take, drop, get_or, Option, Some, None, Bool, true, false, cond, arith}
 use Rattle.std.specs.Prelude.{is_some, map}
 use Rattle.std.proofs.lemmas.List.{take_more, drop_more, take-map, drop-map, length-map, map-append}
 use Rattle.mit_syntax.specs.declared.token.Token.{Token}
