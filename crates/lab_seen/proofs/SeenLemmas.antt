@@ -60,8 +60,11 @@ module _ (Rises : List ℕ → Type 0) (content : Content) (file starts observer
     at = subst (λ (z : Option Label). HasRuns refused content file starts (Some observer) x z code ss) names h
 
     answer : Answer status.Done (x.head ++ lines)
-    answer = (x.head ++ lines,
-        runs_answer refused Rises content file starts (Some observer) (AreLines e budget) x (Some l) code ss lines at refl, refl)
+    answer = (
+      x.head ++ lines,
+      runs_answer refused Rises content file starts (Some observer) (AreLines e budget) x (Some l) code ss lines at refl,
+      refl,
+    )
 
     -- all lines are written
     pub seen_done : (old mid new : Option (List ℕ)) → Appends old mid x.head → Appends mid new lines → EndsBy old new Before Answer status.Done

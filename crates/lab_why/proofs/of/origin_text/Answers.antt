@@ -16,7 +16,7 @@ returns-in-Ok-label_text-clause-text g c =
         (
           refl,
           has_origins _ _ c.in-Ok.labelled reads.0 _ _ _ _ _ c.as_bytes.result.now (reads.1 ∙ sym c.as_slice-2.ensures.value)
-          (list ∙ sym c.as_slice-3.ensures.value)
+              (list ∙ sym c.as_slice-3.ensures.value)
               c.in-Ok.ensures.program c.as_bytes.ensures.value c.in-Ok.ensures.least c.in-Ok-label_text.ensures,
         ),
       ),
