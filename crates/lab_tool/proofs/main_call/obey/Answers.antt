@@ -119,13 +119,14 @@ pub returns-in-Version-clause-answered : goal.returns-in-Version-clause-answered
 returns-in-Version-clause-answered g c =
     let content = g.S.Shelf.content c.args.shelf.now in
     let rises = λ (name : List ℕ). Rose (g.S.Shelf.faults c.args.shelf.now name) (g.S.Shelf.faults c.args.shelf.now name) in
-    subst (λ (x : Question). EndsBy (g.W.Sink.taken c.args.out.now) (g.W.Sink.taken c.finish-2.new.out) (Before content (asked_of x))
-    (IsAnswer rises content (asked_of x)) c.finish-2.result) (sym c.in-Version.is)
-    (ends_finish (g.W.Sink.taken c.args.out.now) (g.W.Sink.taken c.finish-2.new.out) (Before content (version)) (IsAnswer rises content (version))
-    Done c.version_text.result.now c.finish-2.result (refl, c.version_text.ensures) c.finish-2.ensures.told c.finish-2.ensures.prefix)
+    subst (λ (x : Question). EndsBy (g.W.Sink.taken c.args.out.now) (g.W.Sink.taken c.finish-in-Version.new.out) (Before content (asked_of x))
+    (IsAnswer rises content (asked_of x)) c.finish-in-Version.result) (sym c.in-Version.is)
+    (ends_finish (g.W.Sink.taken c.args.out.now) (g.W.Sink.taken c.finish-in-Version.new.out) (Before content (version))
+    (IsAnswer rises content (version)) Done c.version_text.result.now c.finish-in-Version.result (refl, c.version_text.ensures)
+    c.finish-in-Version.ensures.told c.finish-in-Version.ensures.prefix)
 
 pub returns-in-Version-clause-fetched : goal.returns-in-Version-clause-fetched
 returns-in-Version-clause-fetched g c =
-    subst (λ (x : Question). HasFetched (files_of (asked_of x)) c.finish-2.result (g.S.Shelf.log c.args.shelf.now) (g.S.Shelf.log c.args.shelf.now))
-    (sym c.in-Version.is) (fetched_nothing [] (g.S.Shelf.log c.args.shelf.now) c.finish-2.result
-    (never_read Done c.finish-2.result (λ e. absurd cc) (λ n. (c.finish-2.ensures.told n).0)))
+    subst (λ (x : Question). HasFetched (files_of (asked_of x)) c.finish-in-Version.result (g.S.Shelf.log c.args.shelf.now)
+    (g.S.Shelf.log c.args.shelf.now)) (sym c.in-Version.is) (fetched_nothing [] (g.S.Shelf.log c.args.shelf.now) c.finish-in-Version.result
+    (never_read Done c.finish-in-Version.result (λ e. absurd cc) (λ n. (c.finish-in-Version.ensures.told n).0)))
