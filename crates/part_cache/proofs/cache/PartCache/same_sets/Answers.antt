@@ -1,6 +1,6 @@
 use Rattle.std.proofs.Common.{◌≡◌, arith, refl, ap, below_more, false}
 use Rattle.part_cache.proofs.Laws.{differ_at, same_to_end}
-use Rattle.part_cache.proofs.cache.PartCache.same_part.Goals as goal
+use Rattle.part_cache.proofs.cache.PartCache.same_sets.Goals as goal
 
 pub returns-then-not-same_set : goal.returns-then-not-same_set
 returns-then-not-same_set c =
