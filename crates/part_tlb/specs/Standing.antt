@@ -253,8 +253,6 @@ part2_after_stands order k a er ew e h s in_range stands =
 pub label_in : (order : Order) (sets ways : ℕ) (c : Rows) (l : ℕ) → IsCacheOf order sets ways c → l < order.size → l < c.order.size
 label_in order sets ways c l s h = subst (λ (o : Order). l < o.size) (sym s.same_order) h
 
-pub sets_same : (order : Order) (sets ways : ℕ) (c d : Rows) → IsCacheOf order sets ways c → IsCacheOf order sets ways d → c.sets ≡ d.sets
-sets_same order sets ways c d s t = s.same_sets ∙ sym t.same_sets
 
 -- ---- new environments
 pub part_serves : (order : Order) (e : PartEnv) → IsCacheOf order 1 4 e.buffer → IsCacheOf order 8 2 e.code_cache → IsCacheOf order 8 2 e.data_cache
