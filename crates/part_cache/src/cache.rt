@@ -67,6 +67,14 @@ impl PartCache {
         })
     }
 
+    /// The lowest label of the cache's lattice.
+    pub fn lowest(&self) -> Label
+        ensures value { result.number ≡ self.now.order.bottom }
+        ensures within { result.number < self.now.order.size }
+    {
+        self.lattice.bottom()
+    }
+
     /// Whether a partition whose label flows to `er` holds the tag. Takes no memory.
     pub fn look(&self, tag: u32, er: Label) -> bool
         requires { er.number < self.now.order.size }
