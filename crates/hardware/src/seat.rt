@@ -25,7 +25,12 @@ pub struct Seat {
 
 impl Seat {
     /// The bank with nothing in it. Fails only for want of memory.
-    pub fn new(alloc: Global, lattice: Lattice, bank: Bank, sharing: Sharing) -> Result<Seat, Memory>
+    pub fn new(
+        alloc: Global,
+        lattice: Lattice,
+        bank: Bank,
+        sharing: Sharing,
+    ) -> Result<Seat, Memory>
         requires bank { IsBank bank }
         requires small { IsSmall bank }
         ensures { IfOk result (λ s. s ≡ empty_seat sharing lattice bank) }
