@@ -4,7 +4,8 @@ use Rattle.env_contract.specs.declared.place.Place.{Place}
 use Rattle.part_tlb.specs.declared.bank.Sharing.{Sharing}
 use Rattle.part_tlb.specs.declared.bank.Sharing.TheVariants as sharing
 use Rattle.machine_file.specs.declared.fault.MachineFault.{MachineFault}
-use Rattle.machine_file.specs.declared.fault.MachineFault.TheVariants.{NotToml, Version, UnknownKey, Sharing as BadSharing, BadBank, Sets, Ways, Bytes, Costs, Memory}
+use Rattle.machine_file.specs.declared.fault.MachineFault.TheVariants.{NotToml, Version, UnknownKey, Sharing as BadSharing, BadBank, Sets, Ways, Bytes}
+use Rattle.machine_file.specs.declared.fault.MachineFault.TheVariants.{Costs, Memory}
 use Rattle.tool_texts.specs.Texts.{memory_line}
 use Rattle.tool_texts.specs.Reports.{place_name}
 
