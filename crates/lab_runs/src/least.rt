@@ -71,10 +71,7 @@ fn write_refusal<W: Sink>(refusal: &Line, out: &mut W) -> Result<(), SinkFault>
     let line = refusal.bytes();
     let words = &line[..line.len().saturating_sub(1)];
     write_all(out, words)?;
-    write_all(
-        out,
-        b"; it runs by its least labels, and no bound holds\n",
-    )?;
+    write_all(out, b"; it runs by its least labels, and no bound holds\n")?;
     Ok(())
 }
 
@@ -119,11 +116,7 @@ fn any(alloc: Global, p: Program) -> Result<LeastLabelled, Stop>
 ///
 /// # Errors
 /// Stops with `Refused` where no labelling types the program and refused ones are not asked for, or with `Memory`.
-pub fn least_labelled(
-    alloc: Global,
-    p: Program,
-    refused_too: bool,
-) -> Result<LeastLabelled, Stop>
+pub fn least_labelled(alloc: Global, p: Program, refused_too: bool) -> Result<LeastLabelled, Stop>
     ensures ok { IfOk result (λ x. Shows refused_too p (shown_of x)) }
     ensures stop { IfErr result (IsStop (ShowStops refused_too p)) }
 {

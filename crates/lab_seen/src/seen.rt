@@ -47,8 +47,9 @@ fn show<S: Shelf, W: Sink>(
         Err(e) => return stop(out, e),
     };
     let label = runs.program.observer.unwrap();
-    if let Err(_) = runs.program.labels.write_head(out) {
-        return Status::WriteFault;
+    match runs.program.labels.write_head(out) {
+        Ok(()) => {}
+        Err(_) => return Status::WriteFault,
     }
     match write_lines(alloc, &runs, label, setting, out) {
         Ok(()) => Status::Done,

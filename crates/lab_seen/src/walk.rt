@@ -42,11 +42,13 @@ fn run_line<E: MachineEnv + Drop, M: MakeEnv<E>, W: Sink>(
     requires fit { CanRun (shown_of p.now.program.labels).labelled (Some observer) p.now.program.image (map seen p.now.starts.items) }
     requires start { IsFor (shown_of p.now.program.labels).labelled.program (seen start.now) }
     ensures text { OnOk result (Appends (W.taken out.old) (W.taken out.new) (line_text (shown_of p.now.program.labels).labelled observer number
-        (told_by (run_from E.env p.now.program.image.instrs budget (start_of M.made (shown_of p.now.program.labels).labelled.program.order (seen start.now)))))) }
+        (told_by (run_from E.env p.now.program.image.instrs budget
+        (start_of M.made (shown_of p.now.program.labels).labelled.program.order (seen start.now)))))) }
     ensures memory { IsErrOf result RunFault.Memory → W.taken out.new ≡ W.taken out.old }
     ensures prefix { IsErrOf result RunFault.Sink → AppendsPrefix (W.taken out.old) (W.taken out.new)
         (line_text (shown_of p.now.program.labels).labelled observer number
-        (told_by (run_from E.env p.now.program.image.instrs budget (start_of M.made (shown_of p.now.program.labels).labelled.program.order (seen start.now))))) }
+        (told_by (run_from E.env p.now.program.image.instrs budget
+        (start_of M.made (shown_of p.now.program.labels).labelled.program.order (seen start.now))))) }
     ensures fault { IsErrOf result RunFault.Sink → Rose (W.faults out.old) (W.faults out.new) }
     ensures later { W.faults out.old ≤ W.faults out.new }
 {
@@ -92,7 +94,16 @@ fn run_lines<E: MachineEnv + Drop, M: NamedEnv<E>, W: Sink>(
     named_tell_as_histories::<E, M>();
     let starts = p.starts.as_slice();
     for (i, start) in starts.iter().enumerate() {
-        match run_line(alloc, maker, p, observer, start, i as u32 + 1, setting.budget, out) {
+        match run_line(
+            alloc,
+            maker,
+            p,
+            observer,
+            start,
+            i as u32 + 1,
+            setting.budget,
+            out,
+        ) {
             Ok(()) => {}
             Err(fault) => return Err(fault),
         }

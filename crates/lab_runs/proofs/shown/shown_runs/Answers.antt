@@ -18,8 +18,8 @@ pub returns-in-Ok-all_starts-clause-ok : goal.returns-in-Ok-all_starts-clause-ok
 returns-in-Ok-all_starts-clause-ok g c =
     runs_of c.args.refused_too (g.S.Shelf.content c.args.shelf.now) c.args.file.now (option_map (λ s. s.now) c.args.name) (shown_of c.in-Ok.shown.labels)
     c.in-Ok.shown.observer c.in-Ok.shown.image c.args.starts.now (g.S.Shelf.content c.shown_file.new.shelf c.args.starts.now) c.program.result.now
-    (map seen c.in-Ok-all_starts.starts.items) (c.shown_file.ensures.same c.args.starts.now) (c.program.ensures.program ∙ ap (λ l. l.program) c.labelled.ensures)
-    c.in-Ok.ensures.ok c.in-Ok-all_starts.ensures.ok
+    (map seen c.in-Ok-all_starts.starts.items) (c.shown_file.ensures.same c.args.starts.now)
+    (c.program.ensures.program ∙ ap (λ l. l.program) c.labelled.ensures) c.in-Ok.ensures.ok c.in-Ok-all_starts.ensures.ok
 
 pub returns-in-Ok-all_starts-clause-fit : goal.returns-in-Ok-all_starts-clause-fit
 returns-in-Ok-all_starts-clause-fit g c =

@@ -25,8 +25,10 @@ unwrap-label-requires g c =
 pub write_lines-requires : goal.write_lines-requires
 write_lines-requires g c =
     let p = c.in-Ok.runs in
-    can_run_for (shown_of p.program.labels).labelled p.program.observer c.unwrap-label.result p.program.image (map seen p.starts.items)
-    c.unwrap-label.ensures c.in-Ok.ensures.fit
+    record {
+      fit = can_run_for (shown_of p.program.labels).labelled p.program.observer c.unwrap-label.result p.program.image (map seen p.starts.items)
+          c.unwrap-label.ensures c.in-Ok.ensures.fit;
+    }
 
 pub returns-in-Err-write_head-clause-answered : goal.returns-in-Err-write_head-clause-answered
 returns-in-Err-write_head-clause-answered g c =

@@ -31,8 +31,8 @@ fits_here P xs items i x h same lt is = All-seen P xs i x (subst (λ z. All P (m
 pub run_line-requires-clause-start : goal.run_line-requires-clause-start
 run_line-requires-clause-start g c =
     let lt : c.loop-i.i < length c.as_slice-starts.result.now = omega arith in
-    fits_here (IsFor (shown_of c.args.p.now.program.labels).labelled.program) c.as_slice-starts.result.now c.args.p.now.starts.items c.loop-i.i c.index-starts-i.result
-    c.requires.fit.starts c.as_slice-starts.ensures.value lt c.index-starts-i.is
+    fits_here (IsFor (shown_of c.args.p.now.program.labels).labelled.program) c.as_slice-starts.result.now c.args.p.now.starts.items c.loop-i.i
+    c.index-starts-i.result c.requires.fit.starts c.as_slice-starts.ensures.value lt c.index-starts-i.is
 
 pub returns-in-Err-clause-prefix : goal.returns-in-Err-clause-prefix
 returns-in-Err-clause-prefix g c = λ e.
