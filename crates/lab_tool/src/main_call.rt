@@ -69,9 +69,10 @@ fn obey<S: Shelf, W: Sink>(
             observer,
             env,
             budget,
+            refused,
         } => {
             let setting = Setting { env, budget };
-            timeline(alloc, shelf, out, file, starts, observer, setting)
+            timeline(alloc, shelf, out, file, starts, observer, setting, refused)
         }
         Question::Bound {
             file,

@@ -1,6 +1,6 @@
 -- The line on words that ask for nothing: its pieces, and that all words can be taken where each can stand.
-use Rattle.std.proofs.Common.{◌≡◌, ◌∙◌, refl, sym, ap, ap₂, ℕ, ◌+◌, ◌<◌, ◌≤◌, arith, List, [], ◌∷◌, ◌++◌, append_assoc, length, drop, get_or, map, String, string_bytes}
-use Rattle.std.proofs.Common.{Bool, true, false, ◌&&◌, ◌||◌, subst, ⊎_elim}
+use Rattle.std.proofs.Common.{◌≡◌, ◌∙◌, refl, sym, ap, ap₂, subst, ℕ, ◌+◌, ◌<◌, ◌≤◌, arith, Bool, true, false, ◌&&◌, ◌||◌, ⊎_elim}
+use Rattle.std.proofs.Common.{List, [], ◌∷◌, ◌++◌, append_assoc, length, drop, get_or, map, String, string_bytes}
 use Rattle.std.proofs.lemmas.List.{drop-map, drop_more, take_all}
 use Rattle.std.proofs.Math.Nat.{eq-or-lt_of_le}
 use Rattle.clap.specs.Faults.{defaults_fault, walk_fault}
@@ -67,8 +67,8 @@ one_of_same false b c e f h = sym f ∙ h
 pub all_taken : (verb : Verb) (words : List Text) → StandUpTo verb words (length words) → is_taken verb words ≡ true
 all_taken verb [] h = none_taken verb
 all_taken verb (w ∷ ws) h =
-    one_of_same _ _ _ (ap (is_taken verb) (take_all (length ws + 1) (w ∷ ws) (omega arith))) (ap (is_taken verb) (take_all (length ws + 2) (w ∷ ws) (omega arith)))
-    (h (length ws) (omega arith))
+    one_of_same _ _ _ (ap (is_taken verb) (take_all (length ws + 1) (w ∷ ws) (omega arith)))
+    (ap (is_taken verb) (take_all (length ws + 2) (w ∷ ws) (omega arith))) (h (length ws) (omega arith))
 
 pub stand_more : (verb : Verb) (words : List Text) (n : ℕ) → StandUpTo verb words n → stands verb words n ≡ true → StandUpTo verb words (n + 1)
 stand_more verb words n h e m i =

@@ -29,8 +29,8 @@ returns-in-Err-Memory-clause-answered g c =
 
 pub returns-in-Err-Memory-clause-usage : goal.returns-in-Err-Memory-clause-usage
 returns-in-Err-Memory-clause-usage g c =
-    λ e. ends_memory (g.W.Sink.taken c.args.out.now) (g.W.Sink.taken c.stop_for_memory.new.out) Nothing (IsUsage (map string_bytes c.args.words.now)) c.stop_for_memory.result refl
-    c.stop_for_memory.ensures.told c.stop_for_memory.ensures.prefix
+    λ e. ends_memory (g.W.Sink.taken c.args.out.now) (g.W.Sink.taken c.stop_for_memory.new.out) Nothing (IsUsage (map string_bytes c.args.words.now))
+    c.stop_for_memory.result refl c.stop_for_memory.ensures.told c.stop_for_memory.ensures.prefix
 
 pub returns-in-Ok-clause-complete : goal.returns-in-Ok-clause-complete
 returns-in-Ok-clause-complete g c =

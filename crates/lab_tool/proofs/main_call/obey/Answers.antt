@@ -105,8 +105,9 @@ returns-in-Help-clause-answered g c =
     let rises = λ (name : List ℕ). Rose (g.S.Shelf.faults c.args.shelf.now name) (g.S.Shelf.faults c.args.shelf.now name) in
     subst (λ (x : Question). EndsBy (g.W.Sink.taken c.args.out.now) (g.W.Sink.taken c.finish.new.out) (Before content (asked_of x))
     (IsAnswer rises content (asked_of x)) c.finish.result) (sym c.in-Help.is)
-    (ends_finish (g.W.Sink.taken c.args.out.now) (g.W.Sink.taken c.finish.new.out) (Before content (help c.in-Help.command)) (IsAnswer rises content (help c.in-Help.command))
-    Done c.help_text.result.now c.finish.result (refl, c.help_text.ensures) c.finish.ensures.told c.finish.ensures.prefix)
+    (ends_finish (g.W.Sink.taken c.args.out.now) (g.W.Sink.taken c.finish.new.out) (Before content (help c.in-Help.command))
+    (IsAnswer rises content (help c.in-Help.command)) Done c.help_text.result.now c.finish.result (refl, c.help_text.ensures)
+    c.finish.ensures.told c.finish.ensures.prefix)
 
 pub returns-in-Help-clause-fetched : goal.returns-in-Help-clause-fetched
 returns-in-Help-clause-fetched g c =
