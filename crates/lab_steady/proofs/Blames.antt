@@ -4,8 +4,9 @@ use Rattle.std.proofs.Common.{refl, sym, ap, subst, ◌∙◌, arith, le-leb}
 use Rattle.std.proofs.lemmas.Bool.{false≢true}
 use Rattle.label_code.specs.declared.code.Instr.{Instr}
 use Rattle.steady_code.specs.declared.costing.Costing.{Costing}
+use Rattle.steady_code.specs.declared.fault.Reason.{Reason}
 use Rattle.lab_steady.specs.Owner.{or_else}
-use Rattle.lab_steady.specs.Blame.{hidden_by, hidden_in, hidden_side, begin_of, is_short_enough}
+use Rattle.lab_steady.specs.Blame.{hidden_by, hidden_in, hidden_side, begin_of, is_short_enough, blamed, blamed_by}
 
 -- nothing hidden is read by an instruction
 pub not_there : (low : ℕ → Bool) (image : List Instr) (from at : ℕ) → from < at → hidden_by low (slice_get image (at - 1)) ≡ None
@@ -45,3 +46,9 @@ module _ (costing : Costing) (low : ℕ → Bool) (image : List Instr) (a m : �
 pub none_of : (x : Option ℕ) (r : Bool) → r ≡ is_some x → r ≡ false → x ≡ None
 none_of None r e f = refl
 none_of (Some n) r e f = absurd (false≢true (sym f ∙ e))
+
+-- the variable to blame for the instruction that stands at a place
+pub blamed_there : (costing : Costing) (low : ℕ → Bool) (code image : List Instr) (a : ℕ) (i : Instr) (r : Reason) → code ≡ image
+    → slice_get code a ≡ Some i → blamed costing low code a i.work r ≡ blamed_by costing low image a r (slice_get image a)
+blamed_there costing low code image a i r e there =
+    ap (λ (z : Option Instr). blamed_by costing low code a r z) (sym there) ∙ ap (λ (z : List Instr). blamed_by costing low z a r (slice_get z a)) e

@@ -34,7 +34,7 @@ returns-in-Ok-no_text-clause-ok c =
     let q = c.args.p.now in
     let top : c.top-top.result.number ≡ top_of q.program.order =
     c.top-top.ensures ∙ ap top_of (c.lattice.ensures ∙ ap (λ (z : Syntax). z.order) c.program.ensures.program) in
-    let tells : TellsNo c.args.costing c.args.text.now c.in-Ok-tokens.tokens.items q c.args.observer.number c.args.parts.number c.told-fault.result
+    let tells : TellsNo c.args.costing c.args.text.now c.in-Ok.tokens.items q c.args.observer.number c.args.parts.number c.told-fault.result
     c.in-Ok-no_text.lines.items =
     subst (λ (z : List Token). TellsNo c.args.costing c.args.text.now z q c.args.observer.number c.args.parts.number c.told-fault.result
     c.in-Ok-no_text.lines.items)
@@ -45,8 +45,8 @@ returns-in-Ok-no_text-clause-ok c =
       plain = c.in_ok-plain.plain.fault;
       is_plain = subst (λ (z : ℕ). IsJudged c.args.costing q c.args.observer.number z c.args.whole c.in_ok-plain.plain.fault) top
           (c.in_ok-plain.plain.end, c.in_ok-plain.ensures.end, c.in_ok-plain.ensures.judged);
-      tokens = c.in-Ok-tokens.tokens.items;
-      cut = c.in-Ok-tokens.ensures.answer;
-      tells = subst (λ (z : Fault). TellsNo c.args.costing c.args.text.now c.in-Ok-tokens.tokens.items q c.args.observer.number c.args.parts.number z
+      tokens = c.in-Ok.tokens.items;
+      cut = c.in-Ok.ensures.answer;
+      tells = subst (λ (z : Fault). TellsNo c.args.costing c.args.text.now c.in-Ok.tokens.items q c.args.observer.number c.args.parts.number z
           c.in-Ok-no_text.lines.items) c.told-fault.ensures tells;
     }

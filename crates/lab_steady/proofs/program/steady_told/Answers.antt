@@ -20,14 +20,14 @@ returns-in-Ok-clause-told g c =
     c.in_ok-text.field-0.program (c.in_ok-text.ensures.ok.0, c.in_ok-text.ensures.ok.1 ∙ sym c.as_slice.ensures.value)
     (status_told c.in-Ok.told) (text_told c.in-Ok.told) c.in-Ok.ensures.ok
 
-pub returns-in-Err-clause-stop : goal.returns-in-Err-clause-stop
-returns-in-Err-clause-stop g c =
+pub returns-clause-stop : goal.returns-clause-stop
+returns-clause-stop g c =
     source_stops c.args.costing (λ (name : List ℕ). Rose (g.S.Shelf.faults c.args.shelf.now name) (g.S.Shelf.faults c.read_source.new.shelf name))
     (g.S.Shelf.content c.args.shelf.now) c.args.file.now c.as_slice.result.now c.args.observer.now c.args.parts.now c.args.whole
     c.in_ok-text.field-0.program (c.in_ok-text.ensures.ok.0, c.in_ok-text.ensures.ok.1 ∙ sym c.as_slice.ensures.value) c.in-Err.stop c.in-Err.ensures.stop
 
-pub returns-in-Err-clause-log : goal.returns-in-Err-clause-log
-returns-in-Err-clause-log g c =
+pub returns-clause-log : goal.returns-clause-log
+returns-clause-log g c =
     let text = c.as_slice.result.now in
     let p = c.in_ok-text.field-0.program in
     let e = c.in-Err.stop in

@@ -16,12 +16,13 @@ pub label_text-requires-clause-there : goal.label_text-requires-clause-there
 label_text-requires-clause-there c =
     omitted_there c.args.p.now c.args.x c.program-program.result.now c.program-program.ensures.program c.in-None.ensures
 
-pub returns-in-Some : goal.returns-in-Some
-returns-in-Some c =
+pub returns-in_ok-declared_line-in-Some : goal.returns-in_ok-declared_line-in-Some
+returns-in_ok-declared_line-in-Some c =
     written_told c.args.text.now c.args.tokens.now c.args.p.now c.args.x c.program-program.result.now c.in-Some.field-0.number
-    c.in_ok-declared_line.field-0.items c.program-program.ensures.program c.in-Some.ensures c.in_ok-declared_line.ensures
+    c.in_ok-declared_line-in-Some.field-0.items c.program-program.ensures.program c.in-Some.ensures c.in_ok-declared_line-in-Some.ensures
 
-pub returns : goal.returns
-returns c =
-    omitted_told c.args.text.now c.args.tokens.now c.args.p.now c.args.x c.program-program.result.now c.as_slice.result.now c.in_ok-name.name.items
-    c.in_ok-lines.lines.items c.program-program.ensures.program c.in-None.ensures c.in_ok-name.ensures c.as_slice.ensures.value c.in_ok-lines.ensures
+pub returns-in_ok-lines-in-None : goal.returns-in_ok-lines-in-None
+returns-in_ok-lines-in-None c =
+    omitted_told c.args.text.now c.args.tokens.now c.args.p.now c.args.x c.program-program.result.now c.as_slice.result.now c.in_ok-name-in-None.name.items
+    c.in_ok-lines-in-None.lines.items c.program-program.ensures.program c.in-None.ensures c.in_ok-name-in-None.ensures
+    c.as_slice.ensures.value c.in_ok-lines-in-None.ensures
