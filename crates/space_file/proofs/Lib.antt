@@ -1,0 +1,4 @@
+pub mod Ascii
+pub mod Filling
+pub mod Touching
+pub mod Reading
