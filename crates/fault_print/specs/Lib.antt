@@ -1,0 +1,4 @@
+pub mod Marked
+pub mod Words
+pub mod Traps
+pub mod Faults
