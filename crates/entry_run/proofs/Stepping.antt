@@ -21,7 +21,8 @@ use Rattle.entry_run.specs.Worked.{pose, entry_at, Passed, ClosedAtOnce, Worked,
 use Rattle.entry_run.specs.declared.work.Pace.TheVariants.{Went}
 use Rattle.entry_run.proofs.Costs.{after_costs}
 
-step_is : {E : Type 0} (v : Env E) (image : List Instr) (i : Instr) (old : State E) → slice_get image old.place ≡ Some i → step v image (seen old) ≡ after v i old
+step_is : {E : Type 0} (v : Env E) (image : List Instr) (i : Instr) (old : State E) → slice_get image old.place ≡ Some i →
+    step v image (seen old) ≡ after v i old
 step_is v image i old e = ap (λ o. obey v o (seen old)) e
 
 -- the cycles of a step whose machine is known
