@@ -8,7 +8,7 @@ import tomllib
 TOP = pathlib.Path(__file__).resolve().parent.parent
 TABLE = TOP / "docs/data/commands.toml"
 PROGRAMS = ("mitigate", "lab")
-PART = re.compile(r"(?P<open>\[?)(?:--(?P<option>[a-z]+)(?: (?P<value>[A-Z]+))?|(?P<word>[A-Z]+))(?P<close>\]?)")
+PART = re.compile(r"(?P<open>\[?)(?:--(?P<option>[a-z]+)(?: (?P<value>[A-Z/]+))?|(?P<word>[A-Z]+)(?P<more>(?:\.\.)?))(?P<close>\]?)")
 
 
 @dataclasses.dataclass
