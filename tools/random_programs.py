@@ -40,6 +40,42 @@ class Maker:
             runs += f"[[run]]\nmemory = {{ {', '.join(values)} }}\n"
         return runs
 
+    def range(self):
+        """A text of a few values, now and then one that is none."""
+        if self.dice.random() < 0.03:
+            return self.dice.choice(['"3..1"', '"1, 0..2"', '"x"', '"1*0"', "true"])
+        low = self.dice.randint(-2, 9)
+        values = self.dice.choice([f"{low}..{low + self.dice.randint(0, 3)}", f"{low}, {low + 20}..{low + 21}", f"{low + 30}, {low}"])
+        return f'"{values}{self.dice.choice(["", "", "*2", "*5"])}"'
+
+    def space(self):
+        """A space of at most some 60 starts, in which two variables range or fewer."""
+        ranging = self.dice.sample(self.ranging(), self.dice.choice([1, 1, 2]))
+        values = [f"{name} = [{self.range()}]" if is_array else f"{name} = {self.range()}" for name, is_array in ranging]
+        return f"version = 3\n[space]\nmemory = {{ {', '.join(values)} }}\n"
+
+    def ranging(self):
+        """The variables that may range in a space."""
+        return self.variables
+
+    def bank(self):
+        numbers = {
+            "sets": self.dice.choice([1, 2, 3, 8, 64]),
+            "ways": self.dice.randint(1, 8),
+            "bytes": self.dice.choice([4, 8, 24, 32, 1024]),
+            "hit": self.dice.choice([0, 0, 1, 5]),
+            "miss": self.dice.choice([0, 7, 20, 200]),
+        }
+        if self.dice.random() < 0.02:
+            numbers[self.dice.choice(list(numbers))] = self.dice.choice([-1, 0, 65, 900])
+        return f"{{ {', '.join(f'{name} = {number}' for name, number in numbers.items())} }}"
+
+    def machine(self):
+        """A machine file, now and then one that is refused."""
+        sharing = self.dice.choice(["partitioned", "shared"] * 20 + ["both"])
+        banks = [f"{place} = {self.bank()}\n" for place in ("page", "code", "data", "second") if self.dice.random() < 0.7]
+        return f'version = 1\nsharing = "{sharing}"\n' + "".join(banks)
+
     def place(self, depth=0):
         name, is_array = self.dice.choice(self.variables)
         return f"{name}[{self.expression(depth + 1)}]" if is_array else name
@@ -100,6 +136,19 @@ class Maker:
         yield from self.verdicts()
         yield from (("lab", [word, "p", "s", *observer, *setting]) for word in ("seen", "bound", "leak"))
         yield "lab", ["timeline", "p", "s", *setting, *self.dice.choice([observer, []])]
+        on_machine = ["--machine", "m", *setting[2:]]
+        yield from (("lab", [word, "p", self.dice.choice("sv"), *observer, *on_machine]) for word in ("seen", "bound", "leak"))
+        yield "lab", ["timeline", "p", self.dice.choice("sv"), *on_machine]
+        yield "lab", ["leak", "p", "v", *observer, *setting]
+        further = [*self.dice.choice([["--all"], ["--bits", "1"], ["--of", "#0"], []])]
+        yield "lab", ["tune", "p", self.dice.choice("sv"), *observer, *self.dice.choice([setting, on_machine]), *further]
+
+    def parts(self):
+        """The calls of `leak` for all parts of a space, in any order."""
+        setting = self.dice.choice([["--env", "part"], ["--machine", "m"]])
+        words = ["leak", "p", "v", "--observer", self.label(), *setting, "--budget", "20000"]
+        parts = self.dice.randint(1, 4)
+        return [[*words, "--part", f"{part}/{parts}"] for part in self.dice.sample(range(1, parts + 1), parts)]
 
     def changed(self, certificate):
         """A certificate, mostly with one of its words changed."""
@@ -146,6 +195,10 @@ class ConstantTimeMaker(Maker):
         for name, (is_public, length) in self.tables.items():
             declared += f"var {name}[{length}] : {self.seen if is_public else self.hidden};\n"
         return self.head + declared + self.commands(0) + "\n"
+
+    def ranging(self):
+        """The secret ones, so that starts agree."""
+        return [(name, False) for name in self.secret] + [("a", True)]
 
     def marks(self):
         if self.dice.random() < 0.9:
