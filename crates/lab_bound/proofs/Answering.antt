@@ -9,7 +9,7 @@ use Rattle.start_file.specs.Starts.{StartValue}
 use Rattle.leak_audit.specs.declared.report.AuditReport.{AuditReport}
 use Rattle.sharp_count.specs.declared.count.LevelRuns.{LevelRuns}
 use Rattle.level_counts.specs.Begun.{AreTold, memories_of}
-use Rattle.tool_words.specs.declared.words.EnvName.{EnvName}
+use Rattle.tool_stages.specs.declared.envs.Environment.{Environment}
 use Rattle.tool_texts.specs.declared.status.Status.{Status}
 use Rattle.tool_texts.specs.declared.status.Status.TheVariants as status
 use Rattle.tool_texts.specs.declared.stop.Stop.{Stop}
@@ -27,10 +27,10 @@ use Rattle.lab_bound.specs.Answer.{HasBound, Bounds, IsBoundAnswer}
 use Rattle.lab_bound.specs.Complete.{CanBound}
 
 -- what comes after the stages
-abbrev pub bound_next : EnvName → ℕ → Syntax → LabelledProgram → Option Label → Code → List StartValue → Status → List ℕ → Type 0
+abbrev pub bound_next : Environment → ℕ → Syntax → LabelledProgram → Option Label → Code → List StartValue → Status → List ℕ → Type 0
 bound_next e t p q o code ss = HasBound e t q o ss
 
-pub bound_tells : (e : EnvName) (t : ℕ) (q : LabelledProgram) (l : Label) (xs ss : List StartValue) (r : AuditReport) (levels found : List LevelRuns)
+pub bound_tells : (e : Environment) (t : ℕ) (q : LabelledProgram) (l : Label) (xs ss : List StartValue) (r : AuditReport) (levels found : List LevelRuns)
     (order : Order) (none audited x y z : List ℕ) →
     ReportsIn e q l.number t ss r → xs ≡ ss → AreTold q l.number (memories_of xs) levels → order ≡ q.program.order → none ≡ []
     → audited ≡ none ++ audit_lines order l t r → found ≡ levels → BoundPut order l.number t found audited x
@@ -58,38 +58,40 @@ bound_tells e t q l xs ss r levels found order none audited x y z reports same t
       ),
     )
 
-pub bound_stop : (e : EnvName) (t : ℕ) (q : LabelledProgram) (l : Label) (ss : List StartValue) (s : Stop) → IsStop (AuditStops e t q l ss) s
+pub bound_stop : (e : Environment) (t : ℕ) (q : LabelledProgram) (l : Label) (ss : List StartValue) (s : Stop) → IsStop (AuditStops e t q l ss) s
     → IsStop (HasBound e t q (Some l) ss) s
 bound_stop e t q l ss s h = broke_map (AuditStops e t q l ss) (HasBound e t q (Some l) ss) (status_of s) (stop_text s) (λ k. inl k) h
 
 -- ---- no answer is a write fault
 
-no_fault_in : (e : EnvName) (t : ℕ) (q : LabelledProgram) (o : Option Label) (ss : List StartValue) (x : List ℕ) → HasBound e t q o ss status.WriteFault x → ⊥
+no_fault_in : (e : Environment) (t : ℕ) (q : LabelledProgram) (o : Option Label) (ss : List StartValue) (x : List ℕ)
+    → HasBound e t q o ss status.WriteFault x → ⊥
 no_fault_in e t q None ss x h = h
 no_fault_in e t q (Some l) ss x (inl h) = h
 no_fault_in e t q (Some l) ss x (inr (r, is, h)) = cc (h.0)
 
-pub bound_no_fault : (Rises : List ℕ → Type 0) (content : Content) (file starts observer : List ℕ) (e : EnvName) (t : ℕ) (x : List ℕ)
+pub bound_no_fault : (Rises : List ℕ → Type 0) (content : Content) (file starts observer : List ℕ) (e : Environment) (t : ℕ) (x : List ℕ)
     → Bounds Rises content file starts observer e t status.WriteFault x → ⊥
 bound_no_fault Rises content file starts observer e t x =
     prepares_no_fault Rises content file observer (Rises starts) (content starts) (bound_next e t) x (λ p q o code ss. no_fault_in e t q o ss x)
 
 -- ---- no answer to a program that is prepared is a read fault
 
-pub no_read_in : (e : EnvName) (t : ℕ) (q : LabelledProgram) (o : Option Label) (ss : List StartValue) (x : List ℕ) → HasBound e t q o ss status.ReadFault x → ⊥
+pub no_read_in : (e : Environment) (t : ℕ) (q : LabelledProgram) (o : Option Label) (ss : List StartValue) (x : List ℕ)
+    → HasBound e t q o ss status.ReadFault x → ⊥
 no_read_in e t q None ss x h = h
 no_read_in e t q (Some l) ss x (inl h) = h
 no_read_in e t q (Some l) ss x (inr (r, is, h)) = cc (h.0)
 
 -- ---- what can be done is done
 
-bound_done : (e : EnvName) (t : ℕ) (q : LabelledProgram) (o : Option Label) (ss : List StartValue) (s : Status) (x : List ℕ)
+bound_done : (e : Environment) (t : ℕ) (q : LabelledProgram) (o : Option Label) (ss : List StartValue) (s : Status) (x : List ℕ)
     → OfObserver (λ l. CanBeAudited e t q l ss) o → HasBound e t q o ss s x → s ≡ status.Done
 bound_done e t q None ss s x k h = absurd h
 bound_done e t q (Some l) ss s x k (inl h) = absurd (audit_goes e t q l ss s x k h)
 bound_done e t q (Some l) ss s x k (inr h) = h.2.0
 
-pub completes : (old new : Option (List ℕ)) (Rises : List ℕ → Type 0) (content : Content) (file starts observer : List ℕ) (e : EnvName) (t : ℕ)
+pub completes : (old new : Option (List ℕ)) (Rises : List ℕ → Type 0) (content : Content) (file starts observer : List ℕ) (e : Environment) (t : ℕ)
     (r : Status) (Rose : Type 0) →
     EndsBy old new Nothing (IsBoundAnswer Rises content file starts observer e t) r → (r ≡ status.WriteFault → Rose) →
     CanBound content file starts observer e t → (Rises file → ⊥) → (Rises starts → ⊥) → (Rose → ⊥) → (r ≡ status.Done) ⊎ (r ≡ status.Memory)

@@ -14,7 +14,7 @@ use Rattle.sharp_count.specs.Shared.{shared_of}
 use Rattle.sharp_bound.specs.Sharp.{relevant_at}
 use Rattle.level_counts.specs.Begun.{PredictedIn, FirstBeginsEach, AreTold, memories_of}
 use Rattle.level_counts.proofs.Leasts.{one_least}
-use Rattle.tool_words.specs.declared.words.EnvName.{EnvName}
+use Rattle.tool_stages.specs.declared.envs.Environment.{Environment}
 use Rattle.tool_texts.specs.declared.status.Status.{Status}
 use Rattle.tool_texts.specs.Reports.{audit_lines}
 use Rattle.tool_stages.proofs.OneLemmas.{Same}
@@ -77,7 +77,7 @@ one_end q o x y (inl h) (inr k) = absurd (k.0 h.0)
 one_end q o x y (inr h) (inl k) = absurd (h.0 k.0)
 one_end q o x y (inr h) (inr k) = h.1 ∙ sym k.1
 
-one_bound : (e : EnvName) (t : ℕ) (q : LabelledProgram) (o : Option Label) (ss : List StartValue) (s u : Status) (x y : List ℕ) → HasBound e t q o ss s x
+one_bound : (e : Environment) (t : ℕ) (q : LabelledProgram) (o : Option Label) (ss : List StartValue) (s u : Status) (x y : List ℕ) → HasBound e t q o ss s x
     → HasBound e t q o ss u y → Same s u x y
 one_bound e t q None ss s u x y h k = absurd h
 one_bound e t q (Some l) ss s u x y (inl h) (inl k) = one_audit_stop e t q l ss s u x y h k

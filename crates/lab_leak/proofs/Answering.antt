@@ -12,7 +12,7 @@ use Rattle.sharp_count.specs.Count.{fitting}
 use Rattle.leak_classes.specs.Classes.{Classes}
 use Rattle.leak_numbers.specs.Numbers.{AreNumbers, NumbersPut}
 use Rattle.level_counts.specs.Begun.{AreTold, memories_of}
-use Rattle.tool_words.specs.declared.words.EnvName.{EnvName}
+use Rattle.tool_stages.specs.declared.envs.Environment.{Environment}
 use Rattle.tool_texts.specs.declared.status.Status.{Status}
 use Rattle.tool_texts.specs.declared.status.Status.TheVariants as status
 use Rattle.tool_texts.specs.declared.stop.Stop.{Stop}
@@ -32,7 +32,7 @@ use Rattle.lab_leak.specs.Complete.{CanLeak}
 use Rattle.lab_leak.specs.Text.{IsLeakText, class_lines, head_lines}
 
 -- what comes after the stages
-abbrev pub leak_next : EnvName → ℕ → Syntax → LabelledProgram → Option Label → Code → List StartValue → Status → List ℕ → Type 0
+abbrev pub leak_next : Environment → ℕ → Syntax → LabelledProgram → Option Label → Code → List StartValue → Status → List ℕ → Type 0
 leak_next e t p q o code ss = HasLeak e t q o ss
 
 -- the lines one after another
@@ -56,43 +56,45 @@ leak_put q l t r levels k s order count size ws none one shown two whole are is 
           ∙ append_assoc (top ++ shared.0) put.lines lines,
     )
 
-pub leak_tells : (e : EnvName) (t : ℕ) (q : LabelledProgram) (l : Label) (ss : List StartValue) (r : AuditReport) (levels : List LevelRuns) (x : List ℕ)
+pub leak_tells : (e : Environment) (t : ℕ) (q : LabelledProgram) (l : Label) (ss : List StartValue) (r : AuditReport) (levels : List LevelRuns) (x : List ℕ)
     → ReportsIn e q l.number t ss r → AreTold q l.number (memories_of ss) levels
     → IsLeakText q l t r levels (classes_of_runs (sequences_in e t q l.number ss)) x → HasLeak e t q (Some l) ss status.Done x
 leak_tells e t q l ss r levels x reports told text = inr (r, reports, (refl, levels, told, text))
 
-pub leak_stop : (e : EnvName) (t : ℕ) (q : LabelledProgram) (l : Label) (ss : List StartValue) (s : Stop) → IsStop (AuditStops e t q l ss) s
+pub leak_stop : (e : Environment) (t : ℕ) (q : LabelledProgram) (l : Label) (ss : List StartValue) (s : Stop) → IsStop (AuditStops e t q l ss) s
     → IsStop (HasLeak e t q (Some l) ss) s
 leak_stop e t q l ss s h = broke_map (AuditStops e t q l ss) (HasLeak e t q (Some l) ss) (status_of s) (stop_text s) (λ k. inl k) h
 
 -- ---- no answer is a write fault
 
-no_fault_in : (e : EnvName) (t : ℕ) (q : LabelledProgram) (o : Option Label) (ss : List StartValue) (x : List ℕ) → HasLeak e t q o ss status.WriteFault x → ⊥
+no_fault_in : (e : Environment) (t : ℕ) (q : LabelledProgram) (o : Option Label) (ss : List StartValue) (x : List ℕ) → HasLeak e t q o ss status.WriteFault x
+    → ⊥
 no_fault_in e t q None ss x h = h
 no_fault_in e t q (Some l) ss x (inl h) = h
 no_fault_in e t q (Some l) ss x (inr (r, is, h)) = cc (h.0)
 
-pub leak_no_fault : (Rises : List ℕ → Type 0) (content : Content) (file starts observer : List ℕ) (e : EnvName) (t : ℕ) (x : List ℕ)
+pub leak_no_fault : (Rises : List ℕ → Type 0) (content : Content) (file starts observer : List ℕ) (e : Environment) (t : ℕ) (x : List ℕ)
     → Leaks Rises content file starts observer e t status.WriteFault x → ⊥
 leak_no_fault Rises content file starts observer e t x =
     prepares_no_fault Rises content file observer (Rises starts) (content starts) (leak_next e t) x (λ p q o code ss. no_fault_in e t q o ss x)
 
 -- ---- no answer to a program that is prepared is a read fault
 
-pub no_read_in : (e : EnvName) (t : ℕ) (q : LabelledProgram) (o : Option Label) (ss : List StartValue) (x : List ℕ) → HasLeak e t q o ss status.ReadFault x → ⊥
+pub no_read_in : (e : Environment) (t : ℕ) (q : LabelledProgram) (o : Option Label) (ss : List StartValue) (x : List ℕ)
+    → HasLeak e t q o ss status.ReadFault x → ⊥
 no_read_in e t q None ss x h = h
 no_read_in e t q (Some l) ss x (inl h) = h
 no_read_in e t q (Some l) ss x (inr (r, is, h)) = cc (h.0)
 
 -- ---- what can be done is done
 
-leak_done : (e : EnvName) (t : ℕ) (q : LabelledProgram) (o : Option Label) (ss : List StartValue) (s : Status) (x : List ℕ)
+leak_done : (e : Environment) (t : ℕ) (q : LabelledProgram) (o : Option Label) (ss : List StartValue) (s : Status) (x : List ℕ)
     → OfObserver (λ l. CanBeAudited e t q l ss) o → HasLeak e t q o ss s x → s ≡ status.Done
 leak_done e t q None ss s x k h = absurd h
 leak_done e t q (Some l) ss s x k (inl h) = absurd (audit_goes e t q l ss s x k h)
 leak_done e t q (Some l) ss s x k (inr h) = h.2.0
 
-pub completes : (old new : Option (List ℕ)) (Rises : List ℕ → Type 0) (content : Content) (file starts observer : List ℕ) (e : EnvName) (t : ℕ)
+pub completes : (old new : Option (List ℕ)) (Rises : List ℕ → Type 0) (content : Content) (file starts observer : List ℕ) (e : Environment) (t : ℕ)
     (r : Status) (Rose : Type 0) →
     EndsBy old new Nothing (IsLeakAnswer Rises content file starts observer e t) r → (r ≡ status.WriteFault → Rose) →
     CanLeak content file starts observer e t → (Rises file → ⊥) → (Rises starts → ⊥) → (Rose → ⊥) → (r ≡ status.Done) ⊎ (r ≡ status.Memory)

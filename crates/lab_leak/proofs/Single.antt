@@ -12,7 +12,7 @@ use Rattle.leak_classes.specs.Classes.{Classes}
 use Rattle.leak_numbers.specs.Numbers.{AreNumbers}
 use Rattle.leak_numbers.proofs.Lines.{one_text}
 use Rattle.level_counts.specs.Begun.{memories_of}
-use Rattle.tool_words.specs.declared.words.EnvName.{EnvName}
+use Rattle.tool_stages.specs.declared.envs.Environment.{Environment}
 use Rattle.tool_texts.specs.declared.status.Status.{Status}
 use Rattle.tool_texts.specs.Texts.{number_line}
 use Rattle.tool_texts.specs.Reports.{label_line, bound_line}
@@ -49,7 +49,7 @@ one_leak_text q l t r s levels k x y same h j =
     ∙ ap (λ z. (head_lines q.program.order l t r sharp ++ z) ++ (j.2 ++ rest)) line
     ∙ ap (λ z. (z ++ j.0) ++ (j.2 ++ rest)) (same_head q l t r s sharp same) ∙ sym j.4
 
-one_leak : (e : EnvName) (t : ℕ) (q : LabelledProgram) (o : Option Label) (ss : List StartValue) (s u : Status) (x y : List ℕ) → HasLeak e t q o ss s x
+one_leak : (e : Environment) (t : ℕ) (q : LabelledProgram) (o : Option Label) (ss : List StartValue) (s u : Status) (x y : List ℕ) → HasLeak e t q o ss s x
     → HasLeak e t q o ss u y → Same s u x y
 one_leak e t q None ss s u x y h k = absurd h
 one_leak e t q (Some l) ss s u x y (inl h) (inl k) = one_audit_stop e t q l ss s u x y h k

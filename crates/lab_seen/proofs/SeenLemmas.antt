@@ -8,7 +8,7 @@ use Rattle.label_lattice.specs.declared.label.Label.{Label}
 use Rattle.timing_types.specs.Labelled.{LabelledProgram}
 use Rattle.label_code.specs.Shaped.{Code}
 use Rattle.start_file.specs.Starts.{StartValue}
-use Rattle.tool_words.specs.declared.words.EnvName.{EnvName}
+use Rattle.tool_stages.specs.declared.envs.Environment.{Environment}
 use Rattle.tool_texts.specs.declared.status.Status.{Status}
 use Rattle.tool_texts.specs.declared.status.Status.TheVariants as status
 use Rattle.tool_texts.specs.declared.stop.Stop.{Stop}
@@ -29,7 +29,7 @@ pub can_run_for : (q : LabelledProgram) (o : Option Label) (l : Label) (code : C
     → CanRun q (Some l) code ss
 can_run_for q o l code ss is h = subst (λ (z : Option Label). CanRun q z code ss) is h
 
-module _ (Rises : List ℕ → Type 0) (content : Content) (file starts observer : List ℕ) (e : EnvName) (budget : ℕ) (refused : Bool) where
+module _ (Rises : List ℕ → Type 0) (content : Content) (file starts observer : List ℕ) (e : Environment) (budget : ℕ) (refused : Bool) where
   abbrev Runs : Status → List ℕ → Type 0
   Runs = ShowsRuns refused Rises content file starts (Some observer) (AreLines e budget)
 

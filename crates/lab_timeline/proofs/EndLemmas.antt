@@ -6,7 +6,7 @@ use Rattle.label_lattice.specs.declared.label.Label.{Label}
 use Rattle.timing_types.specs.Labelled.{LabelledProgram}
 use Rattle.label_code.specs.Shaped.{Code}
 use Rattle.start_file.specs.Starts.{StartValue}
-use Rattle.tool_words.specs.declared.words.EnvName.{EnvName}
+use Rattle.tool_stages.specs.declared.envs.Environment.{Environment}
 use Rattle.tool_texts.specs.declared.status.Status.{Status}
 use Rattle.tool_texts.specs.declared.status.Status.TheVariants as status
 use Rattle.tool_texts.specs.declared.stop.Stop.{Stop}
@@ -22,7 +22,7 @@ use Rattle.lab_timeline.specs.Timed.{AreRuns, AreTimelines, TellsTimelines, Time
 use Rattle.lab_timeline.specs.Written.{WritesFew, BreaksFew, WritesAll, BreaksAll}
 use Rattle.lab_timeline.proofs.BeginLemmas.{stops_command, begun_answers}
 
-module _ (Rises : List ℕ → Type 0) (content : Content) (file starts : List ℕ) (observer : Option (List ℕ)) (e : EnvName) (budget : ℕ) where
+module _ (Rises : List ℕ → Type 0) (content : Content) (file starts : List ℕ) (observer : Option (List ℕ)) (e : Environment) (budget : ℕ) where
   -- what stops before the runs
   pub timeline_stops : (old new : Option (List ℕ)) (stop : Stop) (r : Status) → IsStop (BeginStops Rises content file starts observer) stop
       → (r ≢ status.WriteFault → (r ≡ status_of stop) × Appends old new (lab_text (status_of stop) (stop_text stop)))

@@ -8,6 +8,7 @@ ghost use Rattle.start_file.specs.Starts.{seen};
 ghost use Rattle.run_timeline.specs.Places.{places};
 ghost use Rattle.run_timeline.specs.Tallied.{no_tally};
 ghost use Rattle.run_limits.specs.Cycles.{IsCycles};
+ghost use Rattle.tool_stages.specs.Envs.{hardware_of};
 ghost use Rattle.lab_runs.specs.CanRun.{CanRun};
 ghost use Rattle.lab_timeline.specs.Written.{WritesRuns, WritesFew, BreaksFew, WritesAll, BreaksAll};
 
@@ -20,13 +21,13 @@ use run_timeline::listing::Listing;
 use run_timeline::summary::print_summary;
 use std::alloc::Global;
 use tim_base::sink::Sink;
-use tool_stages::envs::NamedEnv;
+use tool_stages::envs::MachineMaker;
 use tool_stages::in_env;
-use tool_stages::laws::named_tell_as_histories;
+use tool_stages::laws::makers_tell_as_histories;
 use tool_stages::setting::Setting;
 
-// The lines of all runs, in the environments of a maker, which have the name.
-fn write_runs<E: MachineEnv + Drop, M: NamedEnv<E>, W: Sink>(
+// The lines of all runs, in the environments of a maker.
+fn write_runs<E: MachineEnv + Drop, M: MachineMaker<E>, W: Sink>(
     alloc: Global,
     maker: &M,
     p: &Begun,
@@ -36,7 +37,7 @@ fn write_runs<E: MachineEnv + Drop, M: NamedEnv<E>, W: Sink>(
 ) -> Result<(), RunFault>
     requires fit { CanRun p.now.compiled.typed.labelled p.now.compiled.observer p.now.compiled.image (map seen p.now.starts.items) }
     requires cycles { IsCycles setting.budget }
-    requires named { setting.env ≡ M.name }
+    requires machine { hardware_of setting.env ≡ M.machine maker.now }
     requires places { listing.old.places.items ≡ places (plan_of p.now.compiled.typed.labelled.program) }
     requires none { listing.old.tallies.items ≡ replicate (mitigates (plan_of p.now.compiled.typed.labelled.program)) no_tally }
     ensures text { OnOk result (WritesRuns setting.env setting.budget p.now.compiled.typed.labelled p.now.compiled.observer p.now.compiled.image
@@ -51,7 +52,7 @@ fn write_runs<E: MachineEnv + Drop, M: NamedEnv<E>, W: Sink>(
     ensures later { W.faults out.old ≤ W.faults out.new }
 {
     p.compiled.image.laws();
-    named_tell_as_histories::<E, M>();
+    makers_tell_as_histories::<E, M>();
     timelines_are_the_same::<E, M>();
     let starts = p.starts.as_slice();
     for (i, start) in starts.iter().enumerate() {
@@ -72,7 +73,7 @@ fn write_runs<E: MachineEnv + Drop, M: NamedEnv<E>, W: Sink>(
     Ok(())
 }
 
-// The lines of all runs, in the environment of a name.
+// The lines of all runs, in an environment.
 fn write_named<W: Sink>(
     alloc: Global,
     p: &Begun,
@@ -98,7 +99,7 @@ fn write_named<W: Sink>(
     in_env!(setting.env, maker => write_runs(alloc, maker, p, setting, listing, out))
 }
 
-/// Writes the lines of each run, in the environment of a name, one after the other, and then a line for each mitigate
+/// Writes the lines of each run, in an environment, one after the other, and then a line for each mitigate
 /// of the text. The memory of each run is taken when it begins.
 ///
 /// # Errors

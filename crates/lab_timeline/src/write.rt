@@ -40,7 +40,7 @@ fn state_at<E: MachineEnv + Drop, M: MakeEnv<E>>(
     requires from { IsFor program.now.typed.labelled.program (seen from.now) }
     ensures at { IfOk result (λ s. state_seen s ≡ start s.memory.items s.env) }
     ensures memory { IfOk result (λ s. s.memory.items ≡ from.now.memory.items) }
-    ensures env { IfOk result (λ s. s.env ≡ M.made program.now.typed.labelled.program.order from.now.touches.items) }
+    ensures env { IfOk result (λ s. s.env ≡ M.made maker.now program.now.typed.labelled.program.order from.now.touches.items) }
     ensures stands { IfOk result (Stands E.serves program.now.image) }
 {
     let env = maker.make(alloc, program.image.lattice(), from.touches.as_slice())?;
@@ -78,11 +78,12 @@ pub fn write_run<E: MachineEnv + Drop, M: MakeEnv<E>, W: Sink>(
     requires start { IsFor program.now.typed.labelled.program (seen start.now) }
     requires places { listing.old.places.items ≡ places (plan_of program.now.typed.labelled.program) }
     requires room { HaveRoom limit listing.old.tallies.items }
-    ensures written { OnOk result (WritesRun E.env program.now.image limit (start_of M.made program.now.typed.labelled.program.order (seen start.now))
+    ensures written { OnOk result (WritesRun E.env program.now.image limit (start_of (M.made maker.now) program.now.typed.labelled.program.order
+        (seen start.now))
         program.now.typed.labelled program.now.observer number (W.taken out.old) (W.taken out.new) listing.old.tallies.items listing.new.tallies.items) }
     ensures memory { IsErrOf result RunFault.Memory → W.taken out.new ≡ W.taken out.old }
     ensures prefix { IsErrOf result RunFault.Sink → BreaksRun E.env program.now.image limit
-        (start_of M.made program.now.typed.labelled.program.order (seen start.now))
+        (start_of (M.made maker.now) program.now.typed.labelled.program.order (seen start.now))
         program.now.typed.labelled program.now.observer number (W.taken out.old) (W.taken out.new) }
     ensures places { listing.new.places ≡ listing.old.places }
     ensures grown { Grown limit listing.old.tallies.items listing.new.tallies.items }

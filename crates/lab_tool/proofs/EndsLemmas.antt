@@ -4,6 +4,7 @@ use Rattle.std.specs.Bool.{⊤}
 use Rattle.tool_texts.specs.declared.status.Status.{Status}
 use Rattle.tool_texts.specs.declared.status.Status.TheVariants as status
 use Rattle.tool_texts.specs.Ends.{EndsBy}
+use Rattle.tool_stages.specs.declared.envs.Environment.TheVariants.{Named}
 use Rattle.tool_stages.specs.Content.{Content, NoneRises}
 use Rattle.tool_stages.proofs.ChainLemmas.{first_file, second_file}
 use Rattle.lab_bound.specs.Complete.{CanBound}
@@ -72,20 +73,21 @@ completes old new Rises content (seen file starts observer env budget refused) r
     let k = first_file Rises content file (starts ∷ []) none can.known in
     let m = second_file Rises content file starts [] none can.known in
     done_if (CanShow refused content file starts (Some observer)) r e can.goes (λ goes.
-    show_completes refused Rises content file starts (Some observer) (AreLines env budget) old new
-    (SeenBefore content file starts observer env budget refused) r
+    show_completes refused Rises content file starts (Some observer) (AreLines (Named env) budget) old new
+    (SeenBefore content file starts observer (Named env) budget refused) r
     Rose ends write goes k.0 m.0 n)
 completes old new Rises content (timeline file starts observer env budget) r Rose ends write e can none n =
     let k = first_file Rises content file (starts ∷ []) none can.known in
     let m = second_file Rises content file starts [] none can.known in
     done_if (CanBegin content file starts observer) r e can.goes (λ goes.
-    begin_completes Rises content file starts observer (AreTimelines env budget) old new (TimelinesBefore content file starts observer env budget) r
+    begin_completes Rises content file starts observer (AreTimelines (Named env) budget) old new (TimelinesBefore content file starts observer
+        (Named env) budget) r
     Rose ends write goes k.0 m.0 n)
 completes old new Rises content (bound file starts observer env budget) r Rose ends write e can none n =
     let k = first_file Rises content file (starts ∷ []) none can.known in
     let m = second_file Rises content file starts [] none can.known in
-    done_if (CanBound content file starts observer env budget) r e can.goes (λ goes.
-    bound_completes old new Rises content file starts observer env budget r Rose ends write goes k.0 m.0 n)
+    done_if (CanBound content file starts observer (Named env) budget) r e can.goes (λ goes.
+    bound_completes old new Rises content file starts observer (Named env) budget r Rose ends write goes k.0 m.0 n)
 completes old new Rises content (steady file observer parts whole) r Rose ends write e can none n =
     let k = first_file Rises content file [] none can.known in
     ends_as old new (Before content (steady file observer parts whole)) (IsAnswer Rises content (steady file observer parts whole)) r e ends
@@ -93,8 +95,8 @@ completes old new Rises content (steady file observer parts whole) r Rose ends w
 completes old new Rises content (leak file starts observer env budget) r Rose ends write e can none n =
     let k = first_file Rises content file (starts ∷ []) none can.known in
     let m = second_file Rises content file starts [] none can.known in
-    done_if (CanLeak content file starts observer env budget) r e can.goes (λ goes.
-    leak_completes old new Rises content file starts observer env budget r Rose ends write goes k.0 m.0 n)
+    done_if (CanLeak content file starts observer (Named env) budget) r e can.goes (λ goes.
+    leak_completes old new Rises content file starts observer (Named env) budget r Rose ends write goes k.0 m.0 n)
 completes old new Rises content (help command) r Rose ends write e can none n =
     done_if ⊤ r e can.goes (λ goes.
     ends_as old new (Before content (help command)) (IsAnswer Rises content (help command)) r status.Done ends (λ f. n (write f)) (λ t h. h.0))

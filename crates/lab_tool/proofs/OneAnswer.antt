@@ -6,6 +6,7 @@ use Rattle.mit_syntax.specs.Program.{Syntax}
 use Rattle.flow_path.specs.declared.step.Spot.{Spot}
 use Rattle.tool_texts.specs.declared.status.Status.{Status}
 use Rattle.tool_texts.specs.declared.status.Status.TheVariants.{Done}
+use Rattle.tool_stages.specs.declared.envs.Environment.TheVariants.{Named}
 use Rattle.tool_stages.specs.Accepted.{HasChecked}
 use Rattle.tool_stages.specs.Stages.{Then, Reads, ProgramStops, Types}
 use Rattle.tool_stages.specs.Content.{Content, IsKnown, AreKnown, NoneRises}
@@ -80,19 +81,19 @@ answers_one content before now (seen file starts observer e budget refused) s u 
     let rises = λ (name : List ℕ). Rose (before name) (now name) in
     let good = first_file rises content file (starts ∷ []) none known in
     let other = second_file rises content file starts [] none known in
-    let one = seen_once rises content file starts observer e budget refused s u t x good.0 other.0 good.1 other.1 h k in
+    let one = seen_once rises content file starts observer (Named e) budget refused s u t x good.0 other.0 good.1 other.1 h k in
     one
 answers_one content before now (timeline file starts observer e budget) s u t x known none h k =
     let rises = λ (name : List ℕ). Rose (before name) (now name) in
     let good = first_file rises content file (starts ∷ []) none known in
     let other = second_file rises content file starts [] none known in
-    let one = timeline_once rises content file starts observer e budget s u t x good.0 other.0 good.1 other.1 h k in
+    let one = timeline_once rises content file starts observer (Named e) budget s u t x good.0 other.0 good.1 other.1 h k in
     one
 answers_one content before now (bound file starts observer e budget) s u t x known none h k =
     let rises = λ (name : List ℕ). Rose (before name) (now name) in
     let good = first_file rises content file (starts ∷ []) none known in
     let other = second_file rises content file starts [] none known in
-    let one = one_bound_in_lab content before now file starts observer e budget s u t x good.1 other.1 good.0 other.0 h k in
+    let one = one_bound_in_lab content before now file starts observer (Named e) budget s u t x good.1 other.1 good.0 other.0 h k in
     one
 answers_one content before now (steady file observer parts whole) s u t x known none h k =
     let rises = λ (name : List ℕ). Rose (before name) (now name) in
@@ -103,7 +104,7 @@ answers_one content before now (leak file starts observer e budget) s u t x know
     let rises = λ (name : List ℕ). Rose (before name) (now name) in
     let good = first_file rises content file (starts ∷ []) none known in
     let other = second_file rises content file starts [] none known in
-    let one = one_leak_in_lab content before now file starts observer e budget s u t x good.1 other.1 good.0 other.0 h k in
+    let one = one_leak_in_lab content before now file starts observer (Named e) budget s u t x good.1 other.1 good.0 other.0 h k in
     one
 answers_one content before now (help command) s u t x known none h k = (h.0 ∙ sym k.0, h.1 ∙ sym k.1)
 answers_one content before now version s u t x known none h k = (h.0 ∙ sym k.0, h.1 ∙ sym k.1)

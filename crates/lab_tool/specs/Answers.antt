@@ -3,6 +3,7 @@ use Rattle.std.specs.Prelude.{◌≡◌, ◌++◌, ℕ, List, [], Some, None}
 use Rattle.tool_texts.specs.declared.status.Status.{Status}
 use Rattle.tool_texts.specs.declared.status.Status.TheVariants as status
 use Rattle.tool_stages.specs.Content.{Content}
+use Rattle.tool_stages.specs.declared.envs.Environment.TheVariants.{Named}
 use Rattle.lab_texts.specs.InLab.{lab_usage_text}
 use Rattle.lab_words.specs.Help.{help_text, version_text}
 use Rattle.lab_words.specs.Refusal.{IsLine}
@@ -27,16 +28,16 @@ IsDoneWith text s t = (s ≡ status.Done) × (t ≡ text)
 abbrev pub IsAnswer : (List ℕ → Type 0) → Content → Asked → Status → List ℕ → Type 0
 IsAnswer Rises content (why file None) = IsWhyAnswer Rises content file
 IsAnswer Rises content (why file (Some name)) = IsOriginAnswer Rises content file name
-IsAnswer Rises content (seen file starts observer e budget refused) = IsSeen Rises content file starts observer e budget refused
-IsAnswer Rises content (timeline file starts observer e budget) = TellsTimelines Rises content file starts observer e budget
-IsAnswer Rises content (bound file starts observer e budget) = IsBoundAnswer Rises content file starts observer e budget
+IsAnswer Rises content (seen file starts observer e budget refused) = IsSeen Rises content file starts observer (Named e) budget refused
+IsAnswer Rises content (timeline file starts observer e budget) = TellsTimelines Rises content file starts observer (Named e) budget
+IsAnswer Rises content (bound file starts observer e budget) = IsBoundAnswer Rises content file starts observer (Named e) budget
 IsAnswer Rises content (steady file observer parts whole) = IsSteadyAnswer Rises content file observer parts whole
-IsAnswer Rises content (leak file starts observer e budget) = IsLeakAnswer Rises content file starts observer e budget
+IsAnswer Rises content (leak file starts observer e budget) = IsLeakAnswer Rises content file starts observer (Named e) budget
 IsAnswer Rises content (help command) = IsDoneWith (help_text command)
 IsAnswer Rises content version = IsDoneWith version_text
 
 -- what may stand before the line for memory: nothing, or what is told of some of the runs
 abbrev pub Before : Content → Asked → List ℕ → Type 0
-Before content (seen file starts observer e budget refused) b = SeenBefore content file starts observer e budget refused b
-Before content (timeline file starts observer e budget) b = TimelinesBefore content file starts observer e budget b
+Before content (seen file starts observer e budget refused) b = SeenBefore content file starts observer (Named e) budget refused b
+Before content (timeline file starts observer e budget) b = TimelinesBefore content file starts observer (Named e) budget b
 Before content a b = b ≡ []

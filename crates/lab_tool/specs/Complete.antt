@@ -5,6 +5,7 @@ use Rattle.flow_path.specs.declared.step.Spot.{Spot}
 use Rattle.mit_syntax.specs.Program.{Syntax}
 use Rattle.tool_texts.specs.declared.status.Status.{Status}
 use Rattle.tool_texts.specs.declared.status.Status.TheVariants as status
+use Rattle.tool_stages.specs.declared.envs.Environment.TheVariants.{Named}
 use Rattle.tool_stages.specs.Stages.{Reads}
 use Rattle.tool_stages.specs.Content.{Content, AreKnown}
 use Rattle.tool_stages.specs.Goes.{IsTypable}
@@ -48,8 +49,8 @@ abbrev pub Goes : Content → Asked → Status → Type 0
 Goes content (why file None) s = WhyGoes (content file) s
 Goes content (why file (Some name)) s = IsDoneIf (Names (content file) name) s
 Goes content (seen file starts observer e budget refused) s = IsDoneIf (CanShow refused content file starts (Some observer)) s
-Goes content (bound file starts observer e budget) s = IsDoneIf (CanBound content file starts observer e budget) s
-Goes content (leak file starts observer e budget) s = IsDoneIf (CanLeak content file starts observer e budget) s
+Goes content (bound file starts observer e budget) s = IsDoneIf (CanBound content file starts observer (Named e) budget) s
+Goes content (leak file starts observer e budget) s = IsDoneIf (CanLeak content file starts observer (Named e) budget) s
 Goes content (timeline file starts observer e budget) s = IsDoneIf (CanBegin content file starts observer) s
 Goes content (help command) s = IsDoneIf ⊤ s
 Goes content version s = IsDoneIf ⊤ s

@@ -26,6 +26,7 @@ use std::alloc::Global;
 use text_base::pos::Memory;
 use tim_base::shelf::Shelf;
 use tim_base::sink::Sink;
+use tool_stages::envs::Environment;
 use tool_stages::setting::Setting;
 use tool_texts::finish::{finish, stop_for_memory};
 use tool_texts::status::Status;
@@ -60,6 +61,7 @@ fn obey<S: Shelf, W: Sink>(
             budget,
             refused,
         } => {
+            let env = Environment::Named(env);
             let setting = Setting { env, budget };
             seen(alloc, shelf, out, file, starts, observer, setting, refused)
         }
@@ -70,6 +72,7 @@ fn obey<S: Shelf, W: Sink>(
             env,
             budget,
         } => {
+            let env = Environment::Named(env);
             let setting = Setting { env, budget };
             timeline(alloc, shelf, out, file, starts, observer, setting)
         }
@@ -80,6 +83,7 @@ fn obey<S: Shelf, W: Sink>(
             env,
             budget,
         } => {
+            let env = Environment::Named(env);
             let setting = Setting { env, budget };
             bound(alloc, shelf, out, file, starts, observer, setting)
         }
@@ -96,6 +100,7 @@ fn obey<S: Shelf, W: Sink>(
             env,
             budget,
         } => {
+            let env = Environment::Named(env);
             let setting = Setting { env, budget };
             leak(alloc, shelf, out, file, starts, observer, setting)
         }
