@@ -6,7 +6,7 @@ _lab_options() {
     case $1 in
         why) echo "--of" ;;
         seen) echo "--observer --env --budget --refused" ;;
-        timeline) echo "--env --budget --observer" ;;
+        timeline) echo "--env --budget --observer --refused" ;;
         bound | leak) echo "--observer --env --budget" ;;
         steady) echo "--observer --parts --whole" ;;
     esac

@@ -8,7 +8,7 @@ unfoldable pub lab_usage_text : List ℕ
 lab_usage_text =
     codes "usage: lab why FILE [--of NAME]\n"
     ++ (codes "       lab seen FILE STARTS --observer L [--env flat|part|part2] [--budget T] [--refused]\n"
-    ++ (codes "       lab timeline FILE STARTS [--env flat|part|part2] [--budget T] [--observer L]\n"
+    ++ (codes "       lab timeline FILE STARTS [--env flat|part|part2] [--budget T] [--observer L] [--refused]\n"
     ++ (codes "       lab bound FILE STARTS --observer L [--env flat|part|part2] [--budget T]\n"
     ++ (codes "       lab steady FILE --observer L [--parts P] [--whole]\n"
     ++ (codes "       lab leak FILE STARTS --observer L [--env flat|part|part2] [--budget T]\n"

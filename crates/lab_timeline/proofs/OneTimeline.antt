@@ -1,5 +1,5 @@
 -- Two answers of `timeline` are one.
-use Rattle.std.proofs.Common.{◌≡◌, ◌<◌, ℕ, List, [], ◌∷◌, ◌++◌, Option, refl, sym, ap₂, ◌∙◌, subst}
+use Rattle.std.proofs.Common.{◌≡◌, ◌<◌, ℕ, List, [], ◌∷◌, ◌++◌, Bool, Option, refl, sym, ap₂, ◌∙◌, subst}
 use Rattle.std.specs.List.{AllZip}
 use Rattle.std.proofs.lemmas.List.{ext_get_or}
 use Rattle.label_lattice.specs.declared.label.Label.{Label}
@@ -23,7 +23,7 @@ use Rattle.tool_stages.specs.Content.{Content, IsKnown}
 use Rattle.tool_stages.specs.Envs.{environment}
 use Rattle.tool_stages.proofs.OneLemmas.{Same}
 use Rattle.lab_runs.specs.Runs.{texts}
-use Rattle.lab_runs.proofs.BeginLemmas.{one_begin}
+use Rattle.lab_runs.proofs.ShownLemmas.{one_shows}
 use Rattle.lab_timeline.specs.Timed.{Timed, IsTimelineIn, IsTimed, run_lines, all_moments, AreTimelines, TellsTimelines}
 
 one_list_of_moments : (e : Environment) (t : ℕ) (o : Order) (code : Code) (s : StartValue) (ms ns : List Moment) → IsTimelineIn e t o code s ms
@@ -59,8 +59,9 @@ one_text e t q o code ss y z h k =
     ∙ sym k.text
 
 pub timeline_once : (Rises : List ℕ → Type 0) (content : Content) (file starts : List ℕ) (observer : Option (List ℕ)) (e : Environment) (budget : ℕ)
-    (s u : Status) (t x : List ℕ)
+    (refused : Bool) (s u : Status) (t x : List ℕ)
     → (Rises file → ⊥) → (Rises starts → ⊥) → IsKnown (content file) → IsKnown (content starts)
-    → TellsTimelines Rises content file starts observer e budget s t → TellsTimelines Rises content file starts observer e budget u x → Same s u t x
-timeline_once Rises content file starts observer e budget s u t x n m known kept =
-    one_begin Rises content file starts observer (AreTimelines e budget) s u t x n m known kept (one_text e budget)
+    → TellsTimelines Rises content file starts observer e budget refused s t → TellsTimelines Rises content file starts observer e budget refused u x
+    → Same s u t x
+timeline_once Rises content file starts observer e budget refused s u t x n m known kept =
+    one_shows refused Rises content file starts observer (AreTimelines e budget) s u t x n m known kept (one_text e budget)

@@ -1,5 +1,5 @@
 -- What is told of the mitigations of the runs of a program, and of all runs together.
-use Rattle.std.specs.Prelude.{◌≡◌, ℕ, List, ◌++◌, flat_map, length, Option}
+use Rattle.std.specs.Prelude.{◌≡◌, ℕ, List, ◌++◌, flat_map, length, Bool, Option}
 use Rattle.std.specs.List.{AllZip}
 use Rattle.label_lattice.specs.declared.label.Label.{Label}
 use Rattle.label_lattice.specs.Order.{Order}
@@ -23,7 +23,7 @@ use Rattle.tool_stages.specs.Content.{Content}
 use Rattle.tool_stages.specs.Envs.{environment, told_in}
 use Rattle.lab_texts.specs.InLab.{InLab}
 use Rattle.lab_runs.specs.Runs.{texts}
-use Rattle.lab_runs.specs.Begins.{Begins, Before}
+use Rattle.lab_runs.specs.Shown.{ShowsRuns, ShowsBefore}
 
 -- what the run of an image from a start tells up to T, in an environment
 abbrev pub IsTimelineIn : Environment → ℕ → Order → Code → StartValue → List Moment → Type 0
@@ -61,10 +61,10 @@ pub record AreTimelines (e : Environment) (t : ℕ) (q : LabelledProgram) (o : O
   pub tallied : AreTallies (all_moments runs) tallies
   pub text : x ≡ texts (run_lines q o) runs ++ summary_text (places (plan_of q.program)) tallies
 
--- the answer of `timeline`
-abbrev pub TellsTimelines : (List ℕ → Type 0) → Content → List ℕ → List ℕ → Option (List ℕ) → Environment → ℕ → Status → List ℕ → Type 0
-TellsTimelines Rises content file starts observer e t = InLab (Begins Rises content file starts observer (AreTimelines e t))
+-- the answer of `timeline`, where refused programs are asked for and where not
+abbrev pub TellsTimelines : (List ℕ → Type 0) → Content → List ℕ → List ℕ → Option (List ℕ) → Environment → ℕ → Bool → Status → List ℕ → Type 0
+TellsTimelines Rises content file starts observer e t refused = InLab (ShowsRuns refused Rises content file starts observer (AreTimelines e t))
 
 -- what may stand before the line for memory
-abbrev pub TimelinesBefore : Content → List ℕ → List ℕ → Option (List ℕ) → Environment → ℕ → List ℕ → Type 0
-TimelinesBefore content file starts observer e t = Before content file starts observer (AreRuns e t)
+abbrev pub TimelinesBefore : Content → List ℕ → List ℕ → Option (List ℕ) → Environment → ℕ → Bool → List ℕ → Type 0
+TimelinesBefore content file starts observer e t refused = ShowsBefore refused content file starts observer (AreRuns e t)

@@ -10,13 +10,14 @@ ghost use Rattle.run_timeline.specs.Tallied.{no_tally};
 ghost use Rattle.run_limits.specs.Cycles.{IsCycles};
 ghost use Rattle.tool_stages.specs.Envs.{hardware_of};
 ghost use Rattle.lab_runs.specs.CanRun.{CanRun};
+ghost use Rattle.lab_runs.specs.ShownViews.{shown_of};
 ghost use Rattle.lab_timeline.specs.Written.{WritesRuns, WritesFew, BreaksFew, WritesAll, BreaksAll};
 
-use crate::begin::Begun;
 use crate::laws::timelines_are_the_same;
 use crate::write::write_run;
 use env_contract::env::MachineEnv;
 use lab_runs::fault::RunFault;
+use lab_runs::shown::ShownRuns;
 use run_timeline::listing::Listing;
 use run_timeline::summary::print_summary;
 use std::alloc::Global;
@@ -30,28 +31,28 @@ use tool_stages::setting::Setting;
 fn write_runs<E: MachineEnv + Drop, M: MachineMaker<E>, W: Sink>(
     alloc: Global,
     maker: &M,
-    p: &Begun,
+    p: &ShownRuns,
     setting: Setting,
     listing: &mut Listing,
     out: &mut W,
 ) -> Result<(), RunFault>
-    requires fit { CanRun p.now.compiled.typed.labelled p.now.compiled.observer p.now.compiled.image (map seen p.now.starts.items) }
+    requires fit { CanRun (shown_of p.now.program.labels).labelled p.now.program.observer p.now.program.image (map seen p.now.starts.items) }
     requires cycles { IsCycles setting.budget }
     requires machine { hardware_of setting.env ≡ M.machine maker.now }
-    requires places { listing.old.places.items ≡ places (plan_of p.now.compiled.typed.labelled.program) }
-    requires none { listing.old.tallies.items ≡ replicate (mitigates (plan_of p.now.compiled.typed.labelled.program)) no_tally }
-    ensures text { OnOk result (WritesRuns setting.env setting.budget p.now.compiled.typed.labelled p.now.compiled.observer p.now.compiled.image
+    requires places { listing.old.places.items ≡ places (plan_of (shown_of p.now.program.labels).labelled.program) }
+    requires none { listing.old.tallies.items ≡ replicate (mitigates (plan_of (shown_of p.now.program.labels).labelled.program)) no_tally }
+    ensures text { OnOk result (WritesRuns setting.env setting.budget (shown_of p.now.program.labels).labelled p.now.program.observer p.now.program.image
         (map seen p.now.starts.items) (W.taken out.old) (W.taken out.new) listing.new.tallies.items) }
-    ensures some { IsErrOf result RunFault.Memory → WritesFew setting.env setting.budget p.now.compiled.typed.labelled p.now.compiled.observer
-        p.now.compiled.image (map seen p.now.starts.items) (W.taken out.old) (W.taken out.new) }
-    ensures prefix { IsErrOf result RunFault.Sink → BreaksFew setting.env setting.budget p.now.compiled.typed.labelled p.now.compiled.observer
-        p.now.compiled.image (map seen p.now.starts.items) (W.taken out.old) (W.taken out.new) }
+    ensures some { IsErrOf result RunFault.Memory → WritesFew setting.env setting.budget (shown_of p.now.program.labels).labelled p.now.program.observer
+        p.now.program.image (map seen p.now.starts.items) (W.taken out.old) (W.taken out.new) }
+    ensures prefix { IsErrOf result RunFault.Sink → BreaksFew setting.env setting.budget (shown_of p.now.program.labels).labelled p.now.program.observer
+        p.now.program.image (map seen p.now.starts.items) (W.taken out.old) (W.taken out.new) }
     ensures places { listing.new.places ≡ listing.old.places }
-    ensures count { length listing.new.tallies.items ≡ mitigates (plan_of p.now.compiled.typed.labelled.program) }
+    ensures count { length listing.new.tallies.items ≡ mitigates (plan_of (shown_of p.now.program.labels).labelled.program) }
     ensures fault { IsErrOf result RunFault.Sink → Rose (W.faults out.old) (W.faults out.new) }
     ensures later { W.faults out.old ≤ W.faults out.new }
 {
-    p.compiled.image.laws();
+    p.program.image.laws();
     makers_tell_as_histories::<E, M>();
     timelines_are_the_same::<E, M>();
     let starts = p.starts.as_slice();
@@ -59,7 +60,7 @@ fn write_runs<E: MachineEnv + Drop, M: MachineMaker<E>, W: Sink>(
         match write_run(
             alloc,
             maker,
-            &p.compiled,
+            &p.program,
             start,
             i as u32 + 1,
             listing,
@@ -76,23 +77,23 @@ fn write_runs<E: MachineEnv + Drop, M: MachineMaker<E>, W: Sink>(
 // The lines of all runs, in an environment.
 fn write_named<W: Sink>(
     alloc: Global,
-    p: &Begun,
+    p: &ShownRuns,
     setting: Setting,
     listing: &mut Listing,
     out: &mut W,
 ) -> Result<(), RunFault>
-    requires fit { CanRun p.now.compiled.typed.labelled p.now.compiled.observer p.now.compiled.image (map seen p.now.starts.items) }
+    requires fit { CanRun (shown_of p.now.program.labels).labelled p.now.program.observer p.now.program.image (map seen p.now.starts.items) }
     requires cycles { IsCycles setting.budget }
-    requires places { listing.old.places.items ≡ places (plan_of p.now.compiled.typed.labelled.program) }
-    requires none { listing.old.tallies.items ≡ replicate (mitigates (plan_of p.now.compiled.typed.labelled.program)) no_tally }
-    ensures text { OnOk result (WritesRuns setting.env setting.budget p.now.compiled.typed.labelled p.now.compiled.observer p.now.compiled.image
+    requires places { listing.old.places.items ≡ places (plan_of (shown_of p.now.program.labels).labelled.program) }
+    requires none { listing.old.tallies.items ≡ replicate (mitigates (plan_of (shown_of p.now.program.labels).labelled.program)) no_tally }
+    ensures text { OnOk result (WritesRuns setting.env setting.budget (shown_of p.now.program.labels).labelled p.now.program.observer p.now.program.image
         (map seen p.now.starts.items) (W.taken out.old) (W.taken out.new) listing.new.tallies.items) }
-    ensures some { IsErrOf result RunFault.Memory → WritesFew setting.env setting.budget p.now.compiled.typed.labelled p.now.compiled.observer
-        p.now.compiled.image (map seen p.now.starts.items) (W.taken out.old) (W.taken out.new) }
-    ensures prefix { IsErrOf result RunFault.Sink → BreaksFew setting.env setting.budget p.now.compiled.typed.labelled p.now.compiled.observer
-        p.now.compiled.image (map seen p.now.starts.items) (W.taken out.old) (W.taken out.new) }
+    ensures some { IsErrOf result RunFault.Memory → WritesFew setting.env setting.budget (shown_of p.now.program.labels).labelled p.now.program.observer
+        p.now.program.image (map seen p.now.starts.items) (W.taken out.old) (W.taken out.new) }
+    ensures prefix { IsErrOf result RunFault.Sink → BreaksFew setting.env setting.budget (shown_of p.now.program.labels).labelled p.now.program.observer
+        p.now.program.image (map seen p.now.starts.items) (W.taken out.old) (W.taken out.new) }
     ensures places { listing.new.places ≡ listing.old.places }
-    ensures count { length listing.new.tallies.items ≡ mitigates (plan_of p.now.compiled.typed.labelled.program) }
+    ensures count { length listing.new.tallies.items ≡ mitigates (plan_of (shown_of p.now.program.labels).labelled.program) }
     ensures fault { IsErrOf result RunFault.Sink → Rose (W.faults out.old) (W.faults out.new) }
     ensures later { W.faults out.old ≤ W.faults out.new }
 {
@@ -106,25 +107,25 @@ fn write_named<W: Sink>(
 /// `Memory` after the lines of the runs before, or `Sink`, where a prefix of the lines is written.
 pub fn write_timelines<W: Sink>(
     alloc: Global,
-    p: &Begun,
+    p: &ShownRuns,
     setting: Setting,
     out: &mut W,
 ) -> Result<(), RunFault>
-    requires fit { CanRun p.now.compiled.typed.labelled p.now.compiled.observer p.now.compiled.image (map seen p.now.starts.items) }
+    requires fit { CanRun (shown_of p.now.program.labels).labelled p.now.program.observer p.now.program.image (map seen p.now.starts.items) }
     requires cycles { IsCycles setting.budget }
-    ensures text { OnOk result (WritesAll setting.env setting.budget p.now.compiled.typed.labelled p.now.compiled.observer p.now.compiled.image
+    ensures text { OnOk result (WritesAll setting.env setting.budget (shown_of p.now.program.labels).labelled p.now.program.observer p.now.program.image
         (map seen p.now.starts.items) (W.taken out.old) (W.taken out.new)) }
-    ensures some { IsErrOf result RunFault.Memory → WritesFew setting.env setting.budget p.now.compiled.typed.labelled p.now.compiled.observer
-        p.now.compiled.image (map seen p.now.starts.items) (W.taken out.old) (W.taken out.new) }
+    ensures some { IsErrOf result RunFault.Memory → WritesFew setting.env setting.budget (shown_of p.now.program.labels).labelled p.now.program.observer
+        p.now.program.image (map seen p.now.starts.items) (W.taken out.old) (W.taken out.new) }
     ensures prefix { IsErrOf result RunFault.Sink
-        → BreaksFew setting.env setting.budget p.now.compiled.typed.labelled p.now.compiled.observer p.now.compiled.image (map seen p.now.starts.items)
+        → BreaksFew setting.env setting.budget (shown_of p.now.program.labels).labelled p.now.program.observer p.now.program.image (map seen p.now.starts.items)
         (W.taken out.old) (W.taken out.new)
-        ⊎ BreaksAll setting.env setting.budget p.now.compiled.typed.labelled p.now.compiled.observer p.now.compiled.image (map seen p.now.starts.items)
+        ⊎ BreaksAll setting.env setting.budget (shown_of p.now.program.labels).labelled p.now.program.observer p.now.program.image (map seen p.now.starts.items)
         (W.taken out.old) (W.taken out.new) }
     ensures fault { IsErrOf result RunFault.Sink → Rose (W.faults out.old) (W.faults out.new) }
     ensures later { W.faults out.old ≤ W.faults out.new }
 {
-    let program = p.compiled.typed.labelled().program();
+    let program = p.program.labels.labelled().program();
     // The call stands for its type: there are fewer than 2^32 mitigates.
     let _count = program.mitigates();
     let Ok(mut listing) = Listing::of(alloc, program) else {

@@ -8,7 +8,7 @@ use Rattle.lab_tool.specs.Answers.{Before}
 pub nothing_before : (content : Content) (a : Asked) → Before content a []
 nothing_before content (why file of) = refl
 nothing_before content (seen file starts observer e budget refused) = inl refl
-nothing_before content (timeline file starts observer e budget) = inl refl
+nothing_before content (timeline file starts observer e budget refused) = inl refl
 nothing_before content (bound file starts observer e budget) = refl
 nothing_before content (steady file observer parts whole) = refl
 nothing_before content (leak file starts observer e budget) = refl

@@ -11,9 +11,7 @@ use Rattle.lab_bound.specs.Complete.{CanBound}
 use Rattle.lab_bound.proofs.Answering.{completes as bound_completes}
 use Rattle.lab_leak.specs.Complete.{CanLeak}
 use Rattle.lab_leak.proofs.Answering.{completes as leak_completes}
-use Rattle.lab_runs.specs.Begins.{CanBegin}
 use Rattle.lab_runs.specs.Shown.{CanShow}
-use Rattle.lab_runs.proofs.BeginLemmas.{begin_completes}
 use Rattle.lab_runs.proofs.ShownLemmas.{show_completes}
 use Rattle.lab_seen.specs.Seen.{AreLines, SeenBefore}
 use Rattle.lab_steady.specs.Answer.{parts_or}
@@ -76,12 +74,12 @@ completes old new Rises content (seen file starts observer env budget refused) r
     show_completes refused Rises content file starts (Some observer) (AreLines (Named env) budget) old new
     (SeenBefore content file starts observer (Named env) budget refused) r
     Rose ends write goes k.0 m.0 n)
-completes old new Rises content (timeline file starts observer env budget) r Rose ends write e can none n =
+completes old new Rises content (timeline file starts observer env budget refused) r Rose ends write e can none n =
     let k = first_file Rises content file (starts ∷ []) none can.known in
     let m = second_file Rises content file starts [] none can.known in
-    done_if (CanBegin content file starts observer) r e can.goes (λ goes.
-    begin_completes Rises content file starts observer (AreTimelines (Named env) budget) old new (TimelinesBefore content file starts observer
-        (Named env) budget) r
+    done_if (CanShow refused content file starts observer) r e can.goes (λ goes.
+    show_completes refused Rises content file starts observer (AreTimelines (Named env) budget) old new
+    (TimelinesBefore content file starts observer (Named env) budget refused) r
     Rose ends write goes k.0 m.0 n)
 completes old new Rises content (bound file starts observer env budget) r Rose ends write e can none n =
     let k = first_file Rises content file (starts ∷ []) none can.known in

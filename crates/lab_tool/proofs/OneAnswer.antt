@@ -83,11 +83,11 @@ answers_one content before now (seen file starts observer e budget refused) s u 
     let other = second_file rises content file starts [] none known in
     let one = seen_once rises content file starts observer (Named e) budget refused s u t x good.0 other.0 good.1 other.1 h k in
     one
-answers_one content before now (timeline file starts observer e budget) s u t x known none h k =
+answers_one content before now (timeline file starts observer e budget refused) s u t x known none h k =
     let rises = λ (name : List ℕ). Rose (before name) (now name) in
     let good = first_file rises content file (starts ∷ []) none known in
     let other = second_file rises content file starts [] none known in
-    let one = timeline_once rises content file starts observer (Named e) budget s u t x good.0 other.0 good.1 other.1 h k in
+    let one = timeline_once rises content file starts observer (Named e) budget refused s u t x good.0 other.0 good.1 other.1 h k in
     one
 answers_one content before now (bound file starts observer e budget) s u t x known none h k =
     let rises = λ (name : List ℕ). Rose (before name) (now name) in

@@ -29,7 +29,7 @@ abbrev pub IsAnswer : (List ℕ → Type 0) → Content → Asked → Status →
 IsAnswer Rises content (why file None) = IsWhyAnswer Rises content file
 IsAnswer Rises content (why file (Some name)) = IsOriginAnswer Rises content file name
 IsAnswer Rises content (seen file starts observer e budget refused) = IsSeen Rises content file starts observer (Named e) budget refused
-IsAnswer Rises content (timeline file starts observer e budget) = TellsTimelines Rises content file starts observer (Named e) budget
+IsAnswer Rises content (timeline file starts observer e budget refused) = TellsTimelines Rises content file starts observer (Named e) budget refused
 IsAnswer Rises content (bound file starts observer e budget) = IsBoundAnswer Rises content file starts observer (Named e) budget
 IsAnswer Rises content (steady file observer parts whole) = IsSteadyAnswer Rises content file observer parts whole
 IsAnswer Rises content (leak file starts observer e budget) = IsLeakAnswer Rises content file starts observer (Named e) budget
@@ -39,5 +39,5 @@ IsAnswer Rises content version = IsDoneWith version_text
 -- what may stand before the line for memory: nothing, or what is told of some of the runs
 abbrev pub Before : Content → Asked → List ℕ → Type 0
 Before content (seen file starts observer e budget refused) b = SeenBefore content file starts observer (Named e) budget refused b
-Before content (timeline file starts observer e budget) b = TimelinesBefore content file starts observer (Named e) budget b
+Before content (timeline file starts observer e budget refused) b = TimelinesBefore content file starts observer (Named e) budget refused b
 Before content a b = b ≡ []

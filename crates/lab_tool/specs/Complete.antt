@@ -11,7 +11,6 @@ use Rattle.tool_stages.specs.Content.{Content, AreKnown}
 use Rattle.tool_stages.specs.Goes.{IsTypable}
 use Rattle.lab_bound.specs.Complete.{CanBound}
 use Rattle.lab_leak.specs.Complete.{CanLeak}
-use Rattle.lab_runs.specs.Begins.{CanBegin}
 use Rattle.lab_runs.specs.Shown.{CanShow}
 use Rattle.lab_steady.specs.Answer.{parts_or}
 use Rattle.lab_steady.specs.Complete.{SteadyGoes}
@@ -22,7 +21,7 @@ use Rattle.lab_words.specs.QuestionAsked.{Asked, why, seen, timeline, bound, ste
 abbrev pub files_of : Asked → List (List ℕ)
 files_of (why file of) = file ∷ []
 files_of (seen file starts observer e budget refused) = file ∷ starts ∷ []
-files_of (timeline file starts observer e budget) = file ∷ starts ∷ []
+files_of (timeline file starts observer e budget refused) = file ∷ starts ∷ []
 files_of (bound file starts observer e budget) = file ∷ starts ∷ []
 files_of (steady file observer parts whole) = file ∷ []
 files_of (leak file starts observer e budget) = file ∷ starts ∷ []
@@ -51,7 +50,7 @@ Goes content (why file (Some name)) s = IsDoneIf (Names (content file) name) s
 Goes content (seen file starts observer e budget refused) s = IsDoneIf (CanShow refused content file starts (Some observer)) s
 Goes content (bound file starts observer e budget) s = IsDoneIf (CanBound content file starts observer (Named e) budget) s
 Goes content (leak file starts observer e budget) s = IsDoneIf (CanLeak content file starts observer (Named e) budget) s
-Goes content (timeline file starts observer e budget) s = IsDoneIf (CanBegin content file starts observer) s
+Goes content (timeline file starts observer e budget refused) s = IsDoneIf (CanShow refused content file starts observer) s
 Goes content (help command) s = IsDoneIf ⊤ s
 Goes content version s = IsDoneIf ⊤ s
 Goes content (steady file observer parts whole) s = SteadyGoes (content file) observer (parts_or parts observer) whole s

@@ -71,10 +71,11 @@ fn obey<S: Shelf, W: Sink>(
             observer,
             env,
             budget,
+            refused,
         } => {
             let env = Environment::Named(env);
             let setting = Setting { env, budget };
-            timeline(alloc, shelf, out, file, starts, observer, setting)
+            timeline(alloc, shelf, out, file, starts, observer, setting, refused)
         }
         Question::Bound {
             file,

@@ -37,13 +37,14 @@ seen_help =
 
 unfoldable pub timeline_help : Text
 timeline_help =
-    codes "usage: lab timeline FILE STARTS [--env flat|part|part2] [--budget T] [--observer L]\n"
+    codes "usage: lab timeline FILE STARTS [--env flat|part|part2] [--budget T] [--observer L] [--refused]\n"
     ++ (codes "when mitigations begin and end\n"
     ++ (codes "  FILE        program\n"
     ++ (codes "  STARTS      starts\n"
     ++ (codes "  --env       environment: where costs come from; part where it is left out\n"
     ++ (codes "  --budget    cycles: the last cycle; 1000000 where it is left out\n"
-    ++ codes "  --observer  label: who sees; all assignments where it is left out\n")))))
+    ++ (codes "  --observer  label: who sees; all assignments where it is left out\n"
+    ++ codes "  --refused   runs a refused program too\n"))))))
 
 unfoldable pub bound_help : Text
 bound_help =

@@ -11,12 +11,12 @@ use Rattle.lab_words.specs.declared.verbs.Verb.TheVariants.{Why, Seen, Timeline,
 use Rattle.lab_words.specs.QuestionForms.{form_app}
 
 -- A question with the bytes of its texts, in the order of `Question`: file, starts, observer, environment and budget;
--- of `seen` also whether refused programs run; of `steady` file, observer, parts, and whether the whole run is asked about;
+-- of `seen` and `timeline` also whether refused programs run; of `steady` file, observer, parts, and whether the whole run is asked about;
 -- of `help` the command, if there is one.
 pub data Asked : Type 0 where
   why : Text → Option Text → Asked
   seen : Text → Text → Text → EnvName → ℕ → Bool → Asked
-  timeline : Text → Text → Option Text → EnvName → ℕ → Asked
+  timeline : Text → Text → Option Text → EnvName → ℕ → Bool → Asked
   bound : Text → Text → Text → EnvName → ℕ → Asked
   steady : Text → Text → Option Text → Bool → Asked
   leak : Text → Text → Text → EnvName → ℕ → Asked
@@ -40,9 +40,9 @@ abbrev pub why_asked : Option Text → Option Text → Option Asked
 why_asked (Some file) of = Some (why file of)
 why_asked None of = None
 
-abbrev pub timeline_asked : Option Text → Option Text → Option EnvName → Option ℕ → Option Text → Option Asked
-timeline_asked (Some file) (Some starts) (Some env) (Some budget) observer = Some (timeline file starts observer env budget)
-timeline_asked _ _ _ _ _ = None
+abbrev pub timeline_asked : Option Text → Option Text → Option EnvName → Option ℕ → Option Text → Bool → Option Asked
+timeline_asked (Some file) (Some starts) (Some env) (Some budget) observer refused = Some (timeline file starts observer env budget refused)
+timeline_asked _ _ _ _ _ _ = None
 
 -- a flag is there where its value is `true`, and not where it is `false`
 abbrev pub is_true : Option Text → Bool
@@ -66,7 +66,7 @@ given Why rows = why_asked (first_of (codes "FILE") rows) (first_of (codes "of")
 given Seen rows = observed_given (λ file starts observer env budget.
     seen file starts observer env budget (flag_given (codes "refused") rows)) rows
 given Timeline rows = timeline_asked (first_of (codes "FILE") rows) (first_of (codes "STARTS") rows) (env_given rows)
-    (budget_given rows) (first_of (codes "observer") rows)
+    (budget_given rows) (first_of (codes "observer") rows) (flag_given (codes "refused") rows)
 given Bound rows = observed_given bound rows
 given Steady rows = steady_asked (first_of (codes "FILE") rows) (first_of (codes "observer") rows) (first_of (codes "parts") rows)
     (flag_given (codes "whole") rows)
@@ -92,7 +92,7 @@ question_of (word ∷ words) = option_and_then (λ verb. asked_after verb words)
 abbrev pub IsInRange : Asked → Type 0
 IsInRange (why file of) = ⊤
 IsInRange (seen file starts observer env budget refused) = IsCycles budget
-IsInRange (timeline file starts observer env budget) = IsCycles budget
+IsInRange (timeline file starts observer env budget refused) = IsCycles budget
 IsInRange (bound file starts observer env budget) = IsCycles budget
 IsInRange (steady file observer parts whole) = ⊤
 IsInRange (leak file starts observer env budget) = IsCycles budget

@@ -10,15 +10,15 @@ use Rattle.lab_words.specs.declared.verbs.Verb.TheVariants.{Why, Seen, Timeline,
 abbrev pub why_app : App
 why_app = with_rule (with_rule (bare (new_app (codes "why"))) (required_word_rule (codes "FILE"))) (option_rule (codes "of"))
 
--- FILE STARTS [--env E] [--budget T] [--observer L]
-abbrev pub timeline_app : App
-timeline_app = with_rule (with_rule (with_rule (with_rule (with_rule (bare (new_app (codes "timeline")))
-    (required_word_rule (codes "FILE"))) (required_word_rule (codes "STARTS")))
-    (option_rule (codes "env"))) (option_rule (codes "budget"))) (option_rule (codes "observer"))
-
 -- `--name`
 abbrev pub flag_rule : Text → Rule
 flag_rule name = record (new_rule name) { long = Some name; action = Some SetTrue }
+
+-- FILE STARTS [--env E] [--budget T] [--observer L] [--refused]
+abbrev pub timeline_app : App
+timeline_app = with_rule (with_rule (with_rule (with_rule (with_rule (with_rule (bare (new_app (codes "timeline")))
+    (required_word_rule (codes "FILE"))) (required_word_rule (codes "STARTS")))
+    (option_rule (codes "env"))) (option_rule (codes "budget"))) (option_rule (codes "observer"))) (flag_rule (codes "refused"))
 
 -- FILE STARTS --observer L [--env E] [--budget T] [--refused]
 abbrev pub seen_app : App

@@ -7,8 +7,8 @@ use Rattle.lab_words.specs.QuestionAsked.{Asked, why, seen, timeline, bound, ste
 abbrev pub asked_of : Question → Asked
 asked_of (question.Why file of) = why file.now (option_map (λ n. n.now) of)
 asked_of (question.Seen file starts observer env budget refused) = seen file.now starts.now observer.now env budget refused
-asked_of (question.Timeline file starts observer env budget) =
-    timeline file.now starts.now (option_map (λ l. l.now) observer) env budget
+asked_of (question.Timeline file starts observer env budget refused) =
+    timeline file.now starts.now (option_map (λ l. l.now) observer) env budget refused
 asked_of (question.Bound file starts observer env budget) = bound file.now starts.now observer.now env budget
 asked_of (question.Steady file observer parts whole) = steady file.now observer.now (option_map (λ l. l.now) parts) whole
 asked_of (question.Leak file starts observer env budget) = leak file.now starts.now observer.now env budget

@@ -81,7 +81,7 @@ unknown_line command = codes "lab: " ++ (shown command ++ commands_there)
 abbrev pub form_told : Verb → Text
 form_told Why = codes "why FILE [--of NAME]\n"
 form_told Seen = codes "seen FILE STARTS --observer LABEL [--env flat|part|part2] [--budget 1..1099511627776] [--refused]\n"
-form_told Timeline = codes "timeline FILE STARTS [--env flat|part|part2] [--budget 1..1099511627776] [--observer LABEL]\n"
+form_told Timeline = codes "timeline FILE STARTS [--env flat|part|part2] [--budget 1..1099511627776] [--observer LABEL] [--refused]\n"
 form_told Bound = codes "bound FILE STARTS --observer LABEL [--env flat|part|part2] [--budget 1..1099511627776]\n"
 form_told Steady = codes "steady FILE --observer LABEL [--parts LABEL] [--whole]\n"
 form_told Leak = codes "leak FILE STARTS --observer LABEL [--env flat|part|part2] [--budget 1..1099511627776]\n"

@@ -18,7 +18,7 @@ fn why_form<'a>(alloc: Global) -> Result<Form<'a>, AllocError>
         .arg(option(alloc, "of"))
 }
 
-/// `timeline FILE STARTS [--env E] [--budget T] [--observer L]`.
+/// `timeline FILE STARTS [--env E] [--budget T] [--observer L] [--refused]`.
 fn timeline_form<'a>(alloc: Global) -> Result<Form<'a>, AllocError>
     ensures { IfOk result (λ f. app_of f ≡ timeline_app) }
 {
@@ -27,7 +27,8 @@ fn timeline_form<'a>(alloc: Global) -> Result<Form<'a>, AllocError>
         .arg(required_word(alloc, "STARTS"))?
         .arg(option(alloc, "env"))?
         .arg(option(alloc, "budget"))?
-        .arg(option(alloc, "observer"))
+        .arg(option(alloc, "observer"))?
+        .arg(flag(alloc, "refused"))
 }
 
 /// A flag `--name`.

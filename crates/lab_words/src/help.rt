@@ -51,13 +51,14 @@ what each run shows
 fn timeline_help() -> &'static [u8]
     ensures { result.now ≡ timeline_help }
 {
-    b"usage: lab timeline FILE STARTS [--env flat|part|part2] [--budget T] [--observer L]
+    b"usage: lab timeline FILE STARTS [--env flat|part|part2] [--budget T] [--observer L] [--refused]
 when mitigations begin and end
   FILE        program
   STARTS      starts
   --env       environment: where costs come from; part where it is left out
   --budget    cycles: the last cycle; 1000000 where it is left out
   --observer  label: who sees; all assignments where it is left out
+  --refused   runs a refused program too
 "
 }
 

@@ -98,7 +98,7 @@ fn form_told(verb: Verb) -> &'static [u8]
         Verb::Seen =>
             b"seen FILE STARTS --observer LABEL [--env flat|part|part2] [--budget 1..1099511627776] [--refused]\n",
         Verb::Timeline =>
-            b"timeline FILE STARTS [--env flat|part|part2] [--budget 1..1099511627776] [--observer LABEL]\n",
+            b"timeline FILE STARTS [--env flat|part|part2] [--budget 1..1099511627776] [--observer LABEL] [--refused]\n",
         Verb::Bound =>
             b"bound FILE STARTS --observer LABEL [--env flat|part|part2] [--budget 1..1099511627776]\n",
         Verb::Steady => b"steady FILE --observer LABEL [--parts LABEL] [--whole]\n",

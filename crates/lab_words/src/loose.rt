@@ -40,7 +40,7 @@ fn seen_form<'a>(alloc: Global) -> Result<Form<'a>, AllocError>
     observed_form(alloc, "seen")?.arg(flag(alloc, "refused"))
 }
 
-/// `timeline [FILE] [STARTS] [--env E] [--budget T] [--observer L]`.
+/// `timeline [FILE] [STARTS] [--env E] [--budget T] [--observer L] [--refused]`.
 fn timeline_form<'a>(alloc: Global) -> Result<Form<'a>, AllocError>
     ensures { IfOk result (λ f. app_of f ≡ loosened timeline_app) }
 {
@@ -49,7 +49,8 @@ fn timeline_form<'a>(alloc: Global) -> Result<Form<'a>, AllocError>
         .arg(Arg::new(alloc, "STARTS"))?
         .arg(option(alloc, "env"))?
         .arg(option(alloc, "budget"))?
-        .arg(option(alloc, "observer"))
+        .arg(option(alloc, "observer"))?
+        .arg(flag(alloc, "refused"))
 }
 
 /// `steady [FILE] [--observer L] [--parts P] [--whole]`.

@@ -29,13 +29,14 @@ pub enum Question<'a> {
         budget: u64,
         refused: bool,
     },
-    /// `timeline FILE STARTS [--env E] [--budget T] [--observer L]`, `budget` from 1 to `MAX_CYCLES`
+    /// `timeline FILE STARTS [--env E] [--budget T] [--observer L] [--refused]`, `budget` from 1 to `MAX_CYCLES`
     Timeline {
         file: &'a str,
         starts: &'a str,
         observer: Option<&'a str>,
         env: EnvName,
         budget: u64,
+        refused: bool,
     },
     /// `bound FILE STARTS --observer L [--env E] [--budget T]`, `budget` from 1 to `MAX_CYCLES`
     Bound {

@@ -48,12 +48,14 @@ fn timeline<'a>(matches: &ArgMatches<'a>) -> Option<Question<'a>>
     let env = env(matches)?;
     let budget = budget(matches)?;
     let observer = text(matches, "observer");
+    let refused = flag(matches, "refused");
     Some(Question::Timeline {
         file,
         starts,
         observer,
         env,
         budget,
+        refused,
     })
 }
 
