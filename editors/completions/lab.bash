@@ -8,7 +8,7 @@ _lab_options() {
         seen) echo "--observer --env --budget --refused" ;;
         timeline) echo "--env --budget --observer --refused" ;;
         bound | leak) echo "--observer --env --budget" ;;
-        steady) echo "--observer --parts --whole" ;;
+        steady) echo "--observer --parts --constant --whole" ;;
     esac
 }
 
@@ -54,7 +54,7 @@ _lab() {
             done
             return
             ;;
-        --budget) return ;;
+        --budget | --constant) return ;;
     esac
     case $word in
         -*) mapfile -t COMPREPLY < <(compgen -W "$(_lab_options "$command")" -- "$word") ;;

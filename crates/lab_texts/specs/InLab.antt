@@ -10,7 +10,7 @@ lab_usage_text =
     ++ (codes "       lab seen FILE STARTS --observer L [--env flat|part|part2] [--budget T] [--refused]\n"
     ++ (codes "       lab timeline FILE STARTS [--env flat|part|part2] [--budget T] [--observer L] [--refused]\n"
     ++ (codes "       lab bound FILE STARTS --observer L [--env flat|part|part2] [--budget T]\n"
-    ++ (codes "       lab steady FILE --observer L [--parts P] [--whole]\n"
+    ++ (codes "       lab steady FILE --observer L [--parts P] [--constant NAMES] [--whole]\n"
     ++ (codes "       lab leak FILE STARTS --observer L [--env flat|part|part2] [--budget T]\n"
     ++ (codes "       lab help [COMMAND]\n"
     ++ codes "       lab version\n"))))))

@@ -20,7 +20,7 @@ pub fn usage() -> &'static [u8]
        lab seen FILE STARTS --observer L [--env flat|part|part2] [--budget T] [--refused]
        lab timeline FILE STARTS [--env flat|part|part2] [--budget T] [--observer L] [--refused]
        lab bound FILE STARTS --observer L [--env flat|part|part2] [--budget T]
-       lab steady FILE --observer L [--parts P] [--whole]
+       lab steady FILE --observer L [--parts P] [--constant NAMES] [--whole]
        lab leak FILE STARTS --observer L [--env flat|part|part2] [--budget T]
        lab help [COMMAND]
        lab version

@@ -86,10 +86,10 @@ completes old new Rises content (bound file starts observer env budget) r Rose e
     let m = second_file Rises content file starts [] none can.known in
     done_if (CanBound content file starts observer (Named env) budget) r e can.goes (λ goes.
     bound_completes old new Rises content file starts observer (Named env) budget r Rose ends write goes k.0 m.0 n)
-completes old new Rises content (steady file observer parts whole) r Rose ends write e can none n =
+completes old new Rises content (steady file observer parts constant whole) r Rose ends write e can none n =
     let k = first_file Rises content file [] none can.known in
-    ends_as old new (Before content (steady file observer parts whole)) (IsAnswer Rises content (steady file observer parts whole)) r e ends
-    (λ f. n (write f)) (λ t h. steady_ends Rises content file observer (parts_or parts observer) whole r e t k.0 k.1 can.goes h)
+    ends_as old new (Before content (steady file observer parts constant whole)) (IsAnswer Rises content (steady file observer parts constant whole)) r e ends
+    (λ f. n (write f)) (λ t h. steady_ends constant Rises content file observer (parts_or parts observer) whole r e t k.0 k.1 can.goes h)
 completes old new Rises content (leak file starts observer env budget) r Rose ends write e can none n =
     let k = first_file Rises content file (starts ∷ []) none can.known in
     let m = second_file Rises content file starts [] none can.known in

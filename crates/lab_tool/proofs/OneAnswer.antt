@@ -95,10 +95,10 @@ answers_one content before now (bound file starts observer e budget) s u t x kno
     let other = second_file rises content file starts [] none known in
     let one = one_bound_in_lab content before now file starts observer (Named e) budget s u t x good.1 other.1 good.0 other.0 h k in
     one
-answers_one content before now (steady file observer parts whole) s u t x known none h k =
+answers_one content before now (steady file observer parts constant whole) s u t x known none h k =
     let rises = λ (name : List ℕ). Rose (before name) (now name) in
     let good = first_file rises content file [] none known in
-    let one = one_in file observer (parts_or parts observer) whole rises content s u t x good.0 good.1 h k in
+    let one = one_in constant file observer (parts_or parts observer) whole rises content s u t x good.0 good.1 h k in
     one
 answers_one content before now (leak file starts observer e budget) s u t x known none h k =
     let rises = λ (name : List ℕ). Rose (before name) (now name) in

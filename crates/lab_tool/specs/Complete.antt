@@ -23,7 +23,7 @@ files_of (why file of) = file ∷ []
 files_of (seen file starts observer e budget refused) = file ∷ starts ∷ []
 files_of (timeline file starts observer e budget refused) = file ∷ starts ∷ []
 files_of (bound file starts observer e budget) = file ∷ starts ∷ []
-files_of (steady file observer parts whole) = file ∷ []
+files_of (steady file observer parts constant whole) = file ∷ []
 files_of (leak file starts observer e budget) = file ∷ starts ∷ []
 files_of (help command) = []
 files_of version = []
@@ -53,7 +53,7 @@ Goes content (leak file starts observer e budget) s = IsDoneIf (CanLeak content 
 Goes content (timeline file starts observer e budget refused) s = IsDoneIf (CanShow refused content file starts observer) s
 Goes content (help command) s = IsDoneIf ⊤ s
 Goes content version s = IsDoneIf ⊤ s
-Goes content (steady file observer parts whole) s = SteadyGoes (content file) observer (parts_or parts observer) whole s
+Goes content (steady file observer parts constant whole) s = SteadyGoes constant (content file) observer (parts_or parts observer) whole s
 
 -- the files that a question names are told to hold bytes, and with these it goes on to this end
 pub record CanEnd (content : Content) (a : Asked) (s : Status) : Type 0 where

@@ -92,8 +92,11 @@ fn obey<S: Shelf, W: Sink>(
             file,
             observer,
             parts,
+            constant,
             whole,
-        } => steady(alloc, shelf, out, file, observer, parts, whole),
+        } => steady(
+            alloc, shelf, out, file, observer, parts, constant, whole,
+        ),
         Question::Leak {
             file,
             starts,

@@ -58,12 +58,13 @@ bound_help =
 
 unfoldable pub steady_help : Text
 steady_help =
-    codes "usage: lab steady FILE --observer L [--parts P] [--whole]\n"
+    codes "usage: lab steady FILE --observer L [--parts P] [--constant NAMES] [--whole]\n"
     ++ (codes "whether code is constant in time\n"
     ++ (codes "  FILE        program\n"
     ++ (codes "  --observer  label: who sees\n"
     ++ (codes "  --parts     label: what environments agree in; the observer where it is left out\n"
-    ++ codes "  --whole     the end too\n"))))
+    ++ (codes "  --constant  names: operators of constant cost; the costs of the machine where it is left out\n"
+    ++ codes "  --whole     the end too\n")))))
 
 unfoldable pub leak_help : Text
 leak_help =

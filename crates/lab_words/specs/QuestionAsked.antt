@@ -11,14 +11,14 @@ use Rattle.lab_words.specs.declared.verbs.Verb.TheVariants.{Why, Seen, Timeline,
 use Rattle.lab_words.specs.QuestionForms.{form_app}
 
 -- A question with the bytes of its texts, in the order of `Question`: file, starts, observer, environment and budget;
--- of `seen` and `timeline` also whether refused programs run; of `steady` file, observer, parts, and whether the whole run is asked about;
+-- of `seen` and `timeline` also whether refused programs run; of `steady` file, observer, parts, names of operators, and whether the whole run is asked about;
 -- of `help` the command, if there is one.
 pub data Asked : Type 0 where
   why : Text → Option Text → Asked
   seen : Text → Text → Text → EnvName → ℕ → Bool → Asked
   timeline : Text → Text → Option Text → EnvName → ℕ → Bool → Asked
   bound : Text → Text → Text → EnvName → ℕ → Asked
-  steady : Text → Text → Option Text → Bool → Asked
+  steady : Text → Text → Option Text → Option Text → Bool → Asked
   leak : Text → Text → Text → EnvName → ℕ → Asked
   help : Option Verb → Asked
   version : Asked
@@ -52,9 +52,9 @@ is_true (Some word) = bytes_eq word (codes "true")
 abbrev pub flag_given : Text → List Row → Bool
 flag_given name rows = is_true (first_of name rows)
 
-abbrev pub steady_asked : Option Text → Option Text → Option Text → Bool → Option Asked
-steady_asked (Some file) (Some observer) parts whole = Some (steady file observer parts whole)
-steady_asked _ _ _ _ = None
+abbrev pub steady_asked : Option Text → Option Text → Option Text → Option Text → Bool → Option Asked
+steady_asked (Some file) (Some observer) parts constant whole = Some (steady file observer parts constant whole)
+steady_asked _ _ _ _ _ = None
 
 -- what follows `help` is a command word, or nothing
 abbrev pub help_asked : Option Text → Option Asked
@@ -69,7 +69,7 @@ given Timeline rows = timeline_asked (first_of (codes "FILE") rows) (first_of (c
     (budget_given rows) (first_of (codes "observer") rows) (flag_given (codes "refused") rows)
 given Bound rows = observed_given bound rows
 given Steady rows = steady_asked (first_of (codes "FILE") rows) (first_of (codes "observer") rows) (first_of (codes "parts") rows)
-    (flag_given (codes "whole") rows)
+    (first_of (codes "constant") rows) (flag_given (codes "whole") rows)
 given Leak rows = observed_given leak rows
 given Help rows = help_asked (first_of (codes "COMMAND") rows)
 given Version rows = Some version
@@ -94,7 +94,7 @@ IsInRange (why file of) = ⊤
 IsInRange (seen file starts observer env budget refused) = IsCycles budget
 IsInRange (timeline file starts observer env budget refused) = IsCycles budget
 IsInRange (bound file starts observer env budget) = IsCycles budget
-IsInRange (steady file observer parts whole) = ⊤
+IsInRange (steady file observer parts constant whole) = ⊤
 IsInRange (leak file starts observer env budget) = IsCycles budget
 IsInRange (help command) = ⊤
 IsInRange version = ⊤

@@ -24,10 +24,10 @@ timeline_app = with_rule (with_rule (with_rule (with_rule (with_rule (with_rule 
 abbrev pub seen_app : App
 seen_app = with_rule (observed_app (codes "seen")) (flag_rule (codes "refused"))
 
--- FILE --observer L [--parts P] [--whole]
+-- FILE --observer L [--parts P] [--constant NAMES] [--whole]
 abbrev pub steady_app : App
-steady_app = with_rule (with_rule (with_rule (with_rule (bare (new_app (codes "steady"))) (required_word_rule (codes "FILE")))
-    (required_option_rule (codes "observer"))) (option_rule (codes "parts"))) (flag_rule (codes "whole"))
+steady_app = with_rule (with_rule (with_rule (with_rule (with_rule (bare (new_app (codes "steady"))) (required_word_rule (codes "FILE")))
+    (required_option_rule (codes "observer"))) (option_rule (codes "parts"))) (option_rule (codes "constant"))) (flag_rule (codes "whole"))
 
 -- [COMMAND]
 abbrev pub help_app : App

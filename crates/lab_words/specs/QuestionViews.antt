@@ -10,7 +10,8 @@ asked_of (question.Seen file starts observer env budget refused) = seen file.now
 asked_of (question.Timeline file starts observer env budget refused) =
     timeline file.now starts.now (option_map (λ l. l.now) observer) env budget refused
 asked_of (question.Bound file starts observer env budget) = bound file.now starts.now observer.now env budget
-asked_of (question.Steady file observer parts whole) = steady file.now observer.now (option_map (λ l. l.now) parts) whole
+asked_of (question.Steady file observer parts constant whole) =
+    steady file.now observer.now (option_map (λ l. l.now) parts) (option_map (λ w. w.now) constant) whole
 asked_of (question.Leak file starts observer env budget) = leak file.now starts.now observer.now env budget
 asked_of (question.Help command) = help command
 asked_of question.Version = version

@@ -46,7 +46,7 @@ fn seen_form<'a>(alloc: Global) -> Result<Form<'a>, AllocError>
     observed_form(alloc, "seen")?.arg(flag(alloc, "refused"))
 }
 
-/// `steady FILE --observer L [--parts P] [--whole]`.
+/// `steady FILE --observer L [--parts P] [--constant NAMES] [--whole]`.
 fn steady_form<'a>(alloc: Global) -> Result<Form<'a>, AllocError>
     ensures { IfOk result (λ f. app_of f ≡ steady_app) }
 {
@@ -54,6 +54,7 @@ fn steady_form<'a>(alloc: Global) -> Result<Form<'a>, AllocError>
         .arg(required_word(alloc, "FILE"))?
         .arg(required_option(alloc, "observer"))?
         .arg(option(alloc, "parts"))?
+        .arg(option(alloc, "constant"))?
         .arg(flag(alloc, "whole"))
 }
 

@@ -80,11 +80,12 @@ an audit, the sharp count
 fn steady_help() -> &'static [u8]
     ensures { result.now ≡ steady_help }
 {
-    b"usage: lab steady FILE --observer L [--parts P] [--whole]
+    b"usage: lab steady FILE --observer L [--parts P] [--constant NAMES] [--whole]
 whether code is constant in time
   FILE        program
   --observer  label: who sees
   --parts     label: what environments agree in; the observer where it is left out
+  --constant  names: operators of constant cost; the costs of the machine where it is left out
   --whole     the end too
 "
 }

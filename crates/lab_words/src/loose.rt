@@ -53,7 +53,7 @@ fn timeline_form<'a>(alloc: Global) -> Result<Form<'a>, AllocError>
         .arg(flag(alloc, "refused"))
 }
 
-/// `steady [FILE] [--observer L] [--parts P] [--whole]`.
+/// `steady [FILE] [--observer L] [--parts P] [--constant NAMES] [--whole]`.
 fn steady_form<'a>(alloc: Global) -> Result<Form<'a>, AllocError>
     ensures { IfOk result (λ f. app_of f ≡ loosened steady_app) }
 {
@@ -61,6 +61,7 @@ fn steady_form<'a>(alloc: Global) -> Result<Form<'a>, AllocError>
         .arg(Arg::new(alloc, "FILE"))?
         .arg(option(alloc, "observer"))?
         .arg(option(alloc, "parts"))?
+        .arg(option(alloc, "constant"))?
         .arg(flag(alloc, "whole"))
 }
 

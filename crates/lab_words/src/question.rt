@@ -46,11 +46,12 @@ pub enum Question<'a> {
         env: EnvName,
         budget: u64,
     },
-    /// `steady FILE --observer L [--parts P] [--whole]`
+    /// `steady FILE --observer L [--parts P] [--constant NAMES] [--whole]`
     Steady {
         file: &'a str,
         observer: &'a str,
         parts: Option<&'a str>,
+        constant: Option<&'a str>,
         whole: bool,
     },
     /// `leak FILE STARTS --observer L [--env E] [--budget T]`, `budget` from 1 to `MAX_CYCLES`

@@ -94,11 +94,13 @@ fn steady<'a>(matches: &ArgMatches<'a>) -> Option<Question<'a>>
     let file = file(matches)?;
     let observer = text(matches, "observer")?;
     let parts = text(matches, "parts");
+    let constant = text(matches, "constant");
     let whole = flag(matches, "whole");
     Some(Question::Steady {
         file,
         observer,
         parts,
+        constant,
         whole,
     })
 }

@@ -27,7 +27,7 @@ const LAB_USAGE: &[u8] = b"usage: lab why FILE [--of NAME]
        lab seen FILE STARTS --observer L [--env flat|part|part2] [--budget T] [--refused]
        lab timeline FILE STARTS [--env flat|part|part2] [--budget T] [--observer L] [--refused]
        lab bound FILE STARTS --observer L [--env flat|part|part2] [--budget T]
-       lab steady FILE --observer L [--parts P] [--whole]
+       lab steady FILE --observer L [--parts P] [--constant NAMES] [--whole]
        lab leak FILE STARTS --observer L [--env flat|part|part2] [--budget T]
        lab help [COMMAND]
        lab version
