@@ -49,7 +49,7 @@ pub record Bounds (e : Environment) (q : LabelledProgram) (o t : ℕ) (ss : List
   pub shared_ended : AreApart q o → CountsEnd q o → FewToEndIn e q o t ss (shared_of t levels)
 
 -- of runs of which there is a report, and of whose levels this is told
-pub record IsEnough (e : EnvName) (q : LabelledProgram) (o t : ℕ) (ss : List StartValue) (r : AuditReport) (levels : List LevelRuns) : Type 0 where
+pub record IsEnough (e : Environment) (q : LabelledProgram) (o t : ℕ) (ss : List StartValue) (r : AuditReport) (levels : List LevelRuns) : Type 0 where
   -- each run, not the first alone, begins as many relevant mitigations of each level as are told
   pub begun : Each (λ m. BeginsEach (order_of q) (labels_of q) (levels_of q) o (plan_of q.program) m (counts_of levels)) (memories_of ss)
   -- the numbers bound what the runs show

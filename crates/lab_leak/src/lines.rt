@@ -56,7 +56,7 @@ fn write_class<E: MachineEnv + Drop, M: MakeEnv<E>>(
     ensures { OnOk result (out.new.text.items ≡ out.old.text.items ++ ((codes "class " ++ (decimal size ++ codes " first "))
         ++ line_text p.now.compiled.typed.labelled p.now.observer first
         (told_by (run_from E.env p.now.compiled.image.instrs budget (start_of (M.made maker.now) p.now.compiled.typed.labelled.program.order
-            (seen start.now)))))) }
+        (seen start.now)))))) }
 {
     let labelled = p.compiled.typed.labelled();
     let mut machine = load(alloc, maker, labelled, &p.compiled.image, start)?;

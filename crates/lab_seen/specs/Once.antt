@@ -11,7 +11,7 @@ use Rattle.lab_seen.specs.Seen.{IsSeen}
 abbrev pub HasOneSeen : Type 0
 HasOneSeen =
     (content : Content) (before now : List ℕ → ℕ) (file starts observer : List ℕ) (e : Environment) (budget : ℕ) (refused : Bool) (s u : Status)
-        (t x : List ℕ) →
+    (t x : List ℕ) →
     IsKnown (content file) → IsKnown (content starts) → (Rose (before file) (now file) → ⊥) → (Rose (before starts) (now starts) → ⊥) →
     IsSeen (λ name. Rose (before name) (now name)) content file starts observer e budget refused s t
     → IsSeen (λ name. Rose (before name) (now name)) content file starts observer e budget refused u x →

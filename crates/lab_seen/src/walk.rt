@@ -44,12 +44,12 @@ fn run_line<E: MachineEnv + Drop, M: MakeEnv<E>, W: Sink>(
     requires start { IsFor (shown_of p.now.program.labels).labelled.program (seen start.now) }
     ensures text { OnOk result (Appends (W.taken out.old) (W.taken out.new) (line_text (shown_of p.now.program.labels).labelled observer number
         (told_by (run_from E.env p.now.program.image.instrs budget (start_of (M.made maker.now) (shown_of p.now.program.labels).labelled.program.order
-            (seen start.now)))))) }
+        (seen start.now)))))) }
     ensures memory { IsErrOf result RunFault.Memory → W.taken out.new ≡ W.taken out.old }
     ensures prefix { IsErrOf result RunFault.Sink → AppendsPrefix (W.taken out.old) (W.taken out.new)
         (line_text (shown_of p.now.program.labels).labelled observer number
         (told_by (run_from E.env p.now.program.image.instrs budget (start_of (M.made maker.now) (shown_of p.now.program.labels).labelled.program.order
-            (seen start.now))))) }
+        (seen start.now))))) }
     ensures fault { IsErrOf result RunFault.Sink → Rose (W.faults out.old) (W.faults out.new) }
     ensures later { W.faults out.old ≤ W.faults out.new }
 {

@@ -61,7 +61,8 @@ module _ (costing : Costing) where
     source_short = subst (λ (z : List ℕ). length z ≤ limit) reads.1 reads.0.short
 
   -- no answer to a program that is read is a read fault
-  pub no_read : (text : List ℕ) (p : Syntax) (observer parts : List ℕ) (whole : Bool) (t : List ℕ) → OfProgram costing text p observer parts whole status.ReadFault t → ⊥
+  pub no_read : (text : List ℕ) (p : Syntax) (observer parts : List ℕ) (whole : Bool) (t : List ℕ)
+      → OfProgram costing text p observer parts whole status.ReadFault t → ⊥
   no_read text p observer parts whole t (inl h) = h
   no_read text p observer parts whole t (inr (o, named, inl h)) = h
   no_read text p observer parts whole t (inr (o, named, inr (h, agreed, (q, infers, inl k)))) = k

@@ -19,9 +19,11 @@ use Rattle.steady_program.specs.Lowered.{IsSteady, IsFirstFault}
 -- what is found with these tests of variables and labels
 abbrev Found : Costing → (ℕ → Bool) → (ℕ → Bool) → Code → ℕ → Option Fault → Type 0
 Found costing low felt code end f =
-    MatchOption f (IsClear (settled_by costing) low felt code.instrs end) (λ (x : Fault). IsFirst (settled_by costing) low felt code.instrs end x.place x.reason)
+    MatchOption f (IsClear (settled_by costing) low felt code.instrs end) (λ (x : Fault). IsFirst
+    (settled_by costing) low felt code.instrs end x.place x.reason)
 
-pub told : (costing : Costing) (q : LabelledProgram) (order : Order) (items ls : List Label) (code : Code) (o h end : ℕ) (f : Option Fault) → order ≡ q.program.order
+pub told : (costing : Costing) (q : LabelledProgram) (order : Order) (items ls : List Label) (code : Code) (o h end : ℕ) (f : Option Fault)
+    → order ≡ q.program.order
     → code ≡ lowered q → ls ≡ items → ((x : ℕ) → label_in q.program.order items x ≡ labels_of q x)
     → Found costing (low_in order ls o) (felt_in order h) code end f → MatchOption f (IsSteady costing q o h end) (IsFirstFault costing q o h end)
 told costing q order items ls code o h end f eo ec el same found =

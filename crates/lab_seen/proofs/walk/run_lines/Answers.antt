@@ -51,7 +51,7 @@ returns-in-Err-clause-prefix g c = λ e.
     (named_told g.E.MachineEnv.env (g.M.MakeEnv.made c.args.maker.now) c.args.setting.env (g.M.MachineMaker.machine c.args.maker.now) c.requires.machine q
     c.args.p.now.program.image
     c.laws.ensures.shaped (c.makers_tell_as_histories.ensures.runs c.args.maker.now) c.requires.fit.image (seen x) fits c.args.setting.budget)
-        (c.in-Err.ensures.prefix e))
+    (c.in-Err.ensures.prefix e))
 
 pub loop-i-preserved : goal.loop-i-preserved
 loop-i-preserved g c =
@@ -72,6 +72,6 @@ loop-i-preserved g c =
           (named_told g.E.MachineEnv.env (g.M.MakeEnv.made c.args.maker.now) c.args.setting.env (g.M.MachineMaker.machine c.args.maker.now) c.requires.machine q
           c.args.p.now.program.image
           c.laws.ensures.shaped (c.makers_tell_as_histories.ensures.runs c.args.maker.now) c.requires.fit.image (seen x) fits c.args.setting.budget)
-              c.in-Ok.ensures.text);
+          c.in-Ok.ensures.text);
       later = up_to _ _ _ c.loop-i.invariant.later c.run_line.ensures.later;
     }

@@ -45,7 +45,8 @@ returns-in-Ok-Unsteady-clause-answered g c =
       c.as_slice-in-Ok-Unsteady.result.now,
       subst (λ (t : List ℕ). SteadiesBy constant rises content file observer (parts_or parts observer) c.args.whole Refused t)
           (sym c.as_slice-in-Ok-Unsteady.ensures.value)
-          (subst (λ (w : List ℕ). SteadiesBy constant rises content file observer w c.args.whole Refused c.in-Ok-Unsteady.text.items) c.parts_named-parts.ensures
+          (subst (λ (w : List ℕ). SteadiesBy constant rises content file observer w c.args.whole Refused c.in-Ok-Unsteady.text.items)
+          c.parts_named-parts.ensures
           (subst (λ (z : Verdict). SteadiesBy constant rises content file observer c.parts_named-parts.result.now c.args.whole (status_told z) (text_told z))
           c.in-Ok-Unsteady.field-0-is c.in-Ok-Unsteady.ensures.told)),
       refl,

@@ -54,9 +54,12 @@ returns-in-Err-clause-prefix g c = λ e.
     let fits = fits_here (IsFor q.program) c.as_slice-starts.result.now items c.loop-i.i x c.requires.fit.starts same lt c.index-starts-i.is in
     walking_breaks c.args.setting.env c.args.setting.budget q c.args.p.now.program.observer c.args.p.now.program.image (map seen items) c.loop-i.i (seen x)
     (within c.as_slice-starts.result.now items c.loop-i.i same lt)
-    (from_here c.as_slice-starts.result.now items c.loop-i.i x same lt c.index-starts-i.is) v (start_of (g.M.MakeEnv.made c.args.maker.now) q.program.order (seen x))
-    (named_timed v (g.M.MakeEnv.made c.args.maker.now) c.args.setting.env (g.M.MachineMaker.machine c.args.maker.now) c.requires.machine q c.args.p.now.program.image c.laws.ensures.shaped
-    c.requires.fit.image (c.makers_tell_as_histories.ensures.runs c.args.maker.now) (c.timelines_are_the_same.ensures c.args.maker.now) (seen x) fits c.args.setting.budget)
+    (from_here c.as_slice-starts.result.now items c.loop-i.i x same lt c.index-starts-i.is) v (start_of
+    (g.M.MakeEnv.made c.args.maker.now) q.program.order (seen x))
+    (named_timed v (g.M.MakeEnv.made c.args.maker.now) c.args.setting.env (g.M.MachineMaker.machine c.args.maker.now) c.requires.machine q
+    c.args.p.now.program.image c.laws.ensures.shaped
+    c.requires.fit.image (c.makers_tell_as_histories.ensures.runs c.args.maker.now) (c.timelines_are_the_same.ensures c.args.maker.now)
+    (seen x) fits c.args.setting.budget)
     (g.W.Sink.taken c.args.out.now) (g.W.Sink.taken c.loop-i.out) (g.W.Sink.taken c.write_run.new.out) c.loop-i.listing.tallies.items
     c.loop-i.invariant.walking (c.in-Err.ensures.prefix e)
 
@@ -73,9 +76,12 @@ loop-i-preserved g c =
       walking =
           walking_next c.args.setting.env c.args.setting.budget q c.args.p.now.program.observer c.args.p.now.program.image (map seen items) c.loop-i.i
           (seen x) (within c.as_slice-starts.result.now items c.loop-i.i same lt)
-          (from_here c.as_slice-starts.result.now items c.loop-i.i x same lt c.index-starts-i.is) v (start_of (g.M.MakeEnv.made c.args.maker.now) q.program.order (seen x))
-          (named_timed v (g.M.MakeEnv.made c.args.maker.now) c.args.setting.env (g.M.MachineMaker.machine c.args.maker.now) c.requires.machine q c.args.p.now.program.image c.laws.ensures.shaped
-          c.requires.fit.image (c.makers_tell_as_histories.ensures.runs c.args.maker.now) (c.timelines_are_the_same.ensures c.args.maker.now) (seen x) fits c.args.setting.budget)
+          (from_here c.as_slice-starts.result.now items c.loop-i.i x same lt c.index-starts-i.is) v (start_of
+          (g.M.MakeEnv.made c.args.maker.now) q.program.order (seen x))
+          (named_timed v (g.M.MakeEnv.made c.args.maker.now) c.args.setting.env (g.M.MachineMaker.machine c.args.maker.now) c.requires.machine q
+          c.args.p.now.program.image c.laws.ensures.shaped
+          c.requires.fit.image (c.makers_tell_as_histories.ensures.runs c.args.maker.now) (c.timelines_are_the_same.ensures c.args.maker.now)
+          (seen x) fits c.args.setting.budget)
           (g.W.Sink.taken c.args.out.now) (g.W.Sink.taken c.loop-i.out) (g.W.Sink.taken c.write_run.new.out) c.loop-i.listing.tallies.items
           c.write_run.new.listing.tallies.items c.loop-i.invariant.walking c.in-Ok.ensures.written c.write_run.ensures.grown c.requires.cycles.1;
       places = c.write_run.ensures.places ∙ c.loop-i.invariant.places;

@@ -17,7 +17,8 @@ pub returns-in_default-write_all-clause-prefix : goal.returns-in_default-write_a
 returns-in_default-write_all-clause-prefix g c = λ e.
     let v : Env g.row.E.Denot = g.E.MachineEnv.env in
     let q = (shown_of c.args.program.now.labels).labelled in
-    head_breaks v c.args.program.now.image c.args.limit (start_of (g.M.MakeEnv.made c.args.maker.now) q.program.order (seen c.args.start.now)) q c.args.program.now.observer
+    head_breaks v c.args.program.now.image c.args.limit (start_of (g.M.MakeEnv.made c.args.maker.now) q.program.order
+    (seen c.args.start.now)) q c.args.program.now.observer
     c.args.number (g.W.Sink.taken c.args.out.now) (g.W.Sink.taken c.args.out.now) (g.W.Sink.taken c.write_all.new.out)
     c.bytes.result.now (c.bytes.ensures ∙ c.run_line-head.ensures) c.in_default-write_all.ensures.prefix
 
@@ -31,7 +32,8 @@ returns-in-Err-clause-prefix g c = λ e.
     (g.W.Sink.taken c.print_timeline.new.out) =
     subst (λ (z : LabelledProgram). PrintedPart v c.args.program.now.image.instrs c.args.limit from z c.args.program.now.observer
     (g.W.Sink.taken c.write_all.new.out) (g.W.Sink.taken c.print_timeline.new.out)) c.labelled-labelled.ensures c.in-Err.ensures.prefix in
-    rest_breaks v c.args.program.now.image c.args.limit (start_of (g.M.MakeEnv.made c.args.maker.now) q.program.order (seen c.args.start.now)) q c.args.program.now.observer
+    rest_breaks v c.args.program.now.image c.args.limit (start_of (g.M.MakeEnv.made c.args.maker.now) q.program.order
+    (seen c.args.start.now)) q c.args.program.now.observer
     c.args.number (g.W.Sink.taken c.args.out.now) (g.W.Sink.taken c.write_all.new.out) (g.W.Sink.taken c.print_timeline.new.out)
     c.bytes.result.now (c.bytes.ensures ∙ c.run_line-head.ensures) from (same_start s.memory.items _ s.env _ c.in-Ok.ensures.memory c.in-Ok.ensures.env)
     c.in-Ok-write_all.ensures.ok part
