@@ -20,46 +20,64 @@ use Rattle.tool_texts.specs.Ends.{IsStop, EndsBy, Nothing, status_of, stop_text}
 use Rattle.tool_texts.proofs.EndLemmas.{broke_map, ends_done}
 use Rattle.tool_stages.specs.Content.{Content}
 use Rattle.tool_stages.specs.Goes.{CanBeAudited, OfObserver}
-use Rattle.tool_stages.specs.Envs.{ReportsIn}
+use Rattle.tool_stages.specs.Envs.{hardware_of, ReportsIn}
 use Rattle.tool_stages.proofs.ChainLemmas.{prepared_done, prepares_no_fault}
 use Rattle.audit_stage.specs.Audited.{AuditStops}
 use Rattle.audit_stage.proofs.Once.{audit_goes}
-use Rattle.lab_bound.specs.Text.{sharp_of, SharedPut}
+use Rattle.machine_stage.specs.Lines.{machine_head}
+use Rattle.lab_bound.specs.Text.{sharp_of, SharedPut, IsSharedText, TextPut}
 use Rattle.lab_leak.specs.Answer.{HasLeak, Leaks, IsLeakAnswer, sequences_in}
 use Rattle.lab_leak.specs.declared.sizes.ClassSizes.{ClassSizes}
 use Rattle.lab_leak.specs.Classes.{AreSizes, classes_of_runs, sizes_of}
 use Rattle.lab_leak.specs.Complete.{CanLeak}
-use Rattle.lab_leak.specs.Text.{IsLeakText, class_lines, head_lines}
+use Rattle.lab_leak.specs.Text.{HasCounts, TopBy, IsLeakText, class_lines, head_lines}
 
 -- what comes after the stages
 abbrev pub leak_next : Environment → ℕ → Syntax → LabelledProgram → Option Label → Code → List StartValue → Status → List ℕ → Type 0
 leak_next e t p q o code ss = HasLeak e t q o ss
 
+-- the first lines on a machine with partitions
+pub counts_put : (t : ℕ) (q : LabelledProgram) (l : Label) (xs ss : List StartValue) (r : AuditReport) (levels found : List LevelRuns) (order : Order)
+    (count : Option ℕ) (old head new : List ℕ) → xs ≡ ss → AreTold q l.number (memories_of xs) levels → order ≡ q.program.order → found ≡ levels
+    → count ≡ fitting (sharp_of t found) → head ≡ old ++ head_lines order l t r count → SharedPut q l.number t found head new
+    → TextPut (HasCounts q l t ss r) old new
+counts_put t q l xs ss r levels found order count old head new same told is e counted first put =
+    let top = head_lines q.program.order l t r (fitting (sharp_of t levels)) in
+    let there : head ≡ old ++ top =
+    first ∙ ap (λ (z : Order). old ++ head_lines z l t r count) is
+    ∙ ap (λ z. old ++ head_lines q.program.order l t r z) (counted ∙ ap (λ z. fitting (sharp_of t z)) e) in (
+      top ++ put.0,
+      (
+        levels,
+        subst (λ (z : List StartValue). AreTold q l.number (memories_of z) levels) same told,
+        put.0,
+        subst (λ (z : List LevelRuns). IsSharedText q l.number t z put.0) e put.1,
+        refl,
+      ),
+      put.2 ∙ ap (λ z. z ++ put.0) there ∙ append_assoc old top put.0,
+    )
+
 -- the lines one after another
-pub leak_put : (q : LabelledProgram) (l : Label) (t : ℕ) (r : AuditReport) (levels : List LevelRuns) (k : Classes) (s : ClassSizes) (order : Order)
-    (count : Option ℕ) (size : ℕ) (ws none one shown two whole : List ℕ) → AreSizes k s → order ≡ q.program.order → count ≡ fitting (sharp_of t levels)
-    → size ≡ r.runs → ws ≡ s.sizes.items → none ≡ [] → one ≡ none ++ head_lines order l t r count → SharedPut q l.number t levels one shown
-    → NumbersPut size ws shown two → whole ≡ two ++ class_lines q.program.declarations k.seen k.firsts → IsLeakText q l t r levels k whole
-leak_put q l t r levels k s order count size ws none one shown two whole are is told runs sizes empty head shared put rest =
+pub leak_put : (e : Environment) (q : LabelledProgram) (l : Label) (t : ℕ) (ss : List StartValue) (r : AuditReport) (k : Classes) (s : ClassSizes) (size : ℕ)
+    (ws none head top two whole : List ℕ) → AreSizes k s → size ≡ r.runs → ws ≡ s.sizes.items → none ≡ [] → head ≡ none ++ machine_head e
+    → TextPut (TopBy (hardware_of e).sharing q l t ss r) head top → NumbersPut size ws top two
+    → whole ≡ two ++ class_lines q.program.declarations k.seen k.firsts → IsLeakText e q l t ss r k whole
+leak_put e q l t ss r k s size ws none head top two whole are runs sizes empty first shown put rest =
     let lines = class_lines q.program.declarations k.seen k.firsts in
     let numbers : AreNumbers r.runs (sizes_of k) put.lines =
     subst (λ z. AreNumbers z (sizes_of k) put.lines) runs (subst (λ z. AreNumbers size z put.lines) (sizes ∙ are.sizes) put.are) in
-    let top = head_lines q.program.order l t r (fitting (sharp_of t levels)) in
-    let heads : one ≡ top =
-    head ∙ ap (λ z. z ++ head_lines order l t r count) empty ∙ ap (λ (z : Order). head_lines z l t r count) is
-    ∙ ap (λ z. head_lines q.program.order l t r z) told in (
-      shared.0,
-      shared.1,
+    let heads : head ≡ machine_head e = first ∙ ap (λ z. z ++ machine_head e) empty in (
+      shown.0,
+      shown.1,
       put.lines,
       numbers,
-      rest ∙ ap (λ z. z ++ lines) (put.put ∙ ap (λ z. z ++ put.lines) (shared.2 ∙ ap (λ z. z ++ shared.0) heads))
-          ∙ append_assoc (top ++ shared.0) put.lines lines,
+      rest ∙ ap (λ z. z ++ lines) (put.put ∙ ap (λ z. z ++ put.lines) (shown.2 ∙ ap (λ z. z ++ shown.0) heads))
+          ∙ append_assoc (machine_head e ++ shown.0) put.lines lines,
     )
 
-pub leak_tells : (e : Environment) (t : ℕ) (q : LabelledProgram) (l : Label) (ss : List StartValue) (r : AuditReport) (levels : List LevelRuns) (x : List ℕ)
-    → ReportsIn e q l.number t ss r → AreTold q l.number (memories_of ss) levels
-    → IsLeakText q l t r levels (classes_of_runs (sequences_in e t q l.number ss)) x → HasLeak e t q (Some l) ss status.Done x
-leak_tells e t q l ss r levels x reports told text = inr (r, reports, (refl, levels, told, text))
+pub leak_tells : (e : Environment) (t : ℕ) (q : LabelledProgram) (l : Label) (ss : List StartValue) (r : AuditReport) (x : List ℕ)
+    → ReportsIn e q l.number t ss r → IsLeakText e q l t ss r (classes_of_runs (sequences_in e t q l.number ss)) x → HasLeak e t q (Some l) ss status.Done x
+leak_tells e t q l ss r x reports text = inr (r, reports, (refl, text))
 
 pub leak_stop : (e : Environment) (t : ℕ) (q : LabelledProgram) (l : Label) (ss : List StartValue) (s : Stop) → IsStop (AuditStops e t q l ss) s
     → IsStop (HasLeak e t q (Some l) ss) s

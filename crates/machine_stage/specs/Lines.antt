@@ -1,11 +1,13 @@
 -- The lines of a machine file that is refused, and the line that tells how a machine is shared.
-use Rattle.std.specs.Prelude.{ℕ, List, ◌++◌, codes, decimal}
+use Rattle.std.specs.Prelude.{ℕ, List, [], ◌++◌, codes, decimal}
 use Rattle.env_contract.specs.declared.place.Place.{Place}
 use Rattle.part_tlb.specs.declared.bank.Sharing.{Sharing}
 use Rattle.part_tlb.specs.declared.bank.Sharing.TheVariants as sharing
 use Rattle.machine_file.specs.declared.fault.MachineFault.{MachineFault}
 use Rattle.machine_file.specs.declared.fault.MachineFault.TheVariants.{NotToml, Version, UnknownKey, Sharing as BadSharing, BadBank, Sets, Ways, Bytes}
 use Rattle.machine_file.specs.declared.fault.MachineFault.TheVariants.{Costs, Memory}
+use Rattle.tool_stages.specs.declared.envs.Environment.{Environment}
+use Rattle.tool_stages.specs.declared.envs.Environment.TheVariants.{Named, Described}
 use Rattle.tool_texts.specs.Texts.{memory_line}
 use Rattle.tool_texts.specs.Reports.{place_name}
 
@@ -29,3 +31,12 @@ machine_fault_line Memory = memory_line
 abbrev pub machine_line : Sharing → List ℕ
 machine_line sharing.Partitioned = codes "machine partitioned\n"
 machine_line sharing.Shared = codes "machine shared\n"
+
+-- what stands in front of numbers: nothing of a machine that has a name, else how it is shared
+abbrev pub machine_head : Environment → List ℕ
+machine_head (Named e) = []
+machine_head (Described m) = machine_line m.hardware.sharing
+
+-- what stands in place of numbers that rest on laws, where all labels share the banks
+abbrev pub no_bound_line : List ℕ
+no_bound_line = codes "no bound: all labels share the banks, and the law on the write label does not hold\n"

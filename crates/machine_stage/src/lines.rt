@@ -1,13 +1,16 @@
-//! The lines of a machine file that is refused, and the line that tells how a machine is shared.
+//! The lines of a machine file that is refused, and those that tell how a machine is shared.
 
-ghost use Rattle.std.specs.Prelude.{◌≡◌, ◌≤◌, ◌++◌, length, codes, decimal};
+ghost use Rattle.std.specs.Prelude.{◌≡◌, ◌≤◌, ◌++◌, OnOk, length, codes, decimal};
+ghost use Rattle.tool_stages.specs.Envs.{hardware_of};
 ghost use Rattle.tool_texts.specs.Reports.{place_name};
-ghost use Rattle.machine_stage.specs.Lines.{place_line, machine_fault_line, machine_line};
+ghost use Rattle.machine_stage.specs.Lines.{place_line, machine_fault_line, machine_line, machine_head, no_bound_line};
 
 use env_contract::place::Place;
 use machine_file::fault::MachineFault;
 use part_tlb::bank::Sharing;
+use std::alloc::AllocError;
 use tim_base::line::Line;
+use tool_stages::envs::{EnvName, Environment};
 
 // The name of a place, as start files and machine files write it.
 fn place_name(place: Place) -> &'static [u8]
@@ -83,4 +86,39 @@ pub fn machine(sharing: Sharing) -> Line
         Sharing::Partitioned => words(b"machine partitioned\n"),
         Sharing::Shared => words(b"machine shared\n"),
     }
+}
+
+/// How the machine of an environment is shared.
+pub fn sharing(environment: Environment) -> Sharing
+    ensures { result ≡ (hardware_of environment).sharing }
+{
+    match environment {
+        Environment::Named(EnvName::Flat) => Sharing::Partitioned,
+        Environment::Named(EnvName::Part) => Sharing::Partitioned,
+        Environment::Named(EnvName::Part2) => Sharing::Partitioned,
+        Environment::Described(machine) => machine.hardware.sharing,
+    }
+}
+
+/// Appends what stands in front of numbers: nothing of a machine that has a name, else how it is shared.
+///
+/// # Errors
+/// `AllocError` where memory runs out.
+pub fn put_head(text: &mut Vec<u8>, environment: Environment) -> Result<(), AllocError>
+    ensures { OnOk result (text.new.items ≡ text.old.items ++ machine_head environment) }
+{
+    match environment {
+        Environment::Named(_) => Ok(()),
+        Environment::Described(described) => {
+            let line = machine(described.hardware.sharing);
+            text.extend_from_slice(line.bytes())
+        }
+    }
+}
+
+/// The line that stands in place of numbers that rest on laws, where all labels share the banks.
+pub fn no_bound() -> Line
+    ensures { result ≡ no_bound_line }
+{
+    words(b"no bound: all labels share the banks, and the law on the write label does not hold\n")
 }
