@@ -1,6 +1,7 @@
 -- The machine that a file describes, or the first refusal.
 use Rattle.std.specs.Prelude.{◌≡◌, ℕ, ◌+◌, ltb, leb, max, ◌&&◌, ◌||◌, if◌then◌else◌, Bool, false, List, Option, None, Some, Result, Ok, Err, codes, pos}
 use Rattle.std.specs.Ordering.{int_eq}
+use Rattle.std.specs.Option.{option_or}
 use Rattle.std.specs.Str.{bytes_eq}
 use Rattle.toml.specs.Data.{Data, Members, get_member, string, integer, table}
 use Rattle.env_contract.specs.declared.place.Place.{Place}
@@ -82,11 +83,6 @@ machine_in ms =
 
 -- ---- limits
 
--- the first of two faults
-abbrev pub or_else : Option MachineFault → Option MachineFault → Option MachineFault
-or_else (Some e) f = Some e
-or_else None f = f
-
 -- 1 to 64 sets of 1 to 8 ways, and at least a byte for a tag
 abbrev pub bank_fault : Place → Option Bank → Option MachineFault
 bank_fault p None = None
@@ -105,8 +101,8 @@ cost_fault hw = if leb (most_of_all hw) 1000 then None else Some (Costs (most_of
 -- the first limit that is broken, place by place, and the costs last
 abbrev pub limit_fault : Hardware → Option MachineFault
 limit_fault hw =
-    or_else (bank_fault place.Page hw.buffer) (or_else (bank_fault place.Code hw.code_cache) (or_else (bank_fault place.Data hw.data_cache)
-    (or_else (bank_fault place.Second hw.second) (cost_fault hw))))
+    option_or (bank_fault place.Page hw.buffer) (option_or (bank_fault place.Code hw.code_cache) (option_or (bank_fault place.Data hw.data_cache)
+    (option_or (bank_fault place.Second hw.second) (cost_fault hw))))
 
 -- the bytes are a document that describes the machine, which is within the limits
 abbrev pub Describes : List ℕ → Hardware → Type 0

@@ -2,7 +2,7 @@
 
 ghost use Rattle.std.specs.Prelude.{◌≡◌, ◌≤◌, None};
 ghost use Rattle.hardware.specs.Limits.{IsWithin, dearest};
-ghost use Rattle.machine_file.specs.Files.{bank_fault, most_of_all, limit_fault};
+ghost use Rattle.machine_file.specs.Files.{bank_fault, most_of_all, cost_fault, limit_fault};
 
 use crate::fault::MachineFault;
 use env_contract::place::Place;
@@ -48,6 +48,17 @@ fn most(hardware: Hardware) -> u64
     page + code.max(line) + second
 }
 
+// The fault of a machine where an access can cost too much.
+fn cost_fault(hardware: Hardware) -> Option<MachineFault>
+    ensures { result ≡ cost_fault hardware }
+{
+    let most = most(hardware);
+    if most > MAX_COST {
+        return Some(MachineFault::Costs(most));
+    }
+    None
+}
+
 /// The first limit that the machine breaks: place by place the sets of its bank, the ways and the bytes of a tag, and
 /// last what an access can cost.
 pub fn limit_fault(hardware: Hardware) -> Option<MachineFault>
@@ -58,11 +69,6 @@ pub fn limit_fault(hardware: Hardware) -> Option<MachineFault>
     let code = bank_fault(Place::Code, hardware.code_cache);
     let line = bank_fault(Place::Data, hardware.data_cache);
     let second = bank_fault(Place::Second, hardware.second);
-    let most = most(hardware);
-    let costs = if most > MAX_COST {
-        Some(MachineFault::Costs(most))
-    } else {
-        None
-    };
-    page.or(code).or(line).or(second).or(costs)
+    let costs = cost_fault(hardware);
+    page.or(code.or(line.or(second.or(costs))))
 }
