@@ -101,7 +101,8 @@ fn form_told(verb: Verb) -> &'static [u8]
             b"timeline FILE STARTS [--env flat|part|part2] [--machine M] [--budget 1..1099511627776] [--observer LABEL] [--refused]\n",
         Verb::Bound =>
             b"bound FILE STARTS --observer LABEL [--env flat|part|part2] [--machine M] [--budget 1..1099511627776]\n",
-        Verb::Steady => b"steady FILE --observer LABEL [--parts LABEL] [--constant NAMES] [--whole]\n",
+        Verb::Steady =>
+            b"steady FILE --observer LABEL [--parts LABEL] [--constant NAMES] [--whole]\n",
         Verb::Leak =>
             b"leak FILE STARTS --observer LABEL [--env flat|part|part2] [--machine M] [--budget 1..1099511627776]\n",
         Verb::Help => b"help [why|seen|timeline|bound|steady|leak|help|version]\n",
