@@ -36,12 +36,13 @@ reasons for a refusal or a label
 fn seen_help() -> &'static [u8]
     ensures { result.now ≡ seen_help }
 {
-    b"usage: lab seen FILE STARTS --observer L [--env flat|part|part2] [--budget T] [--refused]
+    b"usage: lab seen FILE STARTS --observer L [--env flat|part|part2] [--machine M] [--budget T] [--refused]
 what each run shows
   FILE        program
   STARTS      starts
   --observer  label: who sees
   --env       environment: where costs come from; part where it is left out
+  --machine   machine file: a machine in place of an environment
   --budget    cycles: the last cycle; 1000000 where it is left out
   --refused   runs a refused program too
 "
@@ -51,11 +52,12 @@ what each run shows
 fn timeline_help() -> &'static [u8]
     ensures { result.now ≡ timeline_help }
 {
-    b"usage: lab timeline FILE STARTS [--env flat|part|part2] [--budget T] [--observer L] [--refused]
+    b"usage: lab timeline FILE STARTS [--env flat|part|part2] [--machine M] [--budget T] [--observer L] [--refused]
 when mitigations begin and end
   FILE        program
   STARTS      starts
   --env       environment: where costs come from; part where it is left out
+  --machine   machine file: a machine in place of an environment
   --budget    cycles: the last cycle; 1000000 where it is left out
   --observer  label: who sees; all assignments where it is left out
   --refused   runs a refused program too
@@ -66,12 +68,13 @@ when mitigations begin and end
 fn bound_help() -> &'static [u8]
     ensures { result.now ≡ bound_help }
 {
-    b"usage: lab bound FILE STARTS --observer L [--env flat|part|part2] [--budget T]
+    b"usage: lab bound FILE STARTS --observer L [--env flat|part|part2] [--machine M] [--budget T]
 an audit, the sharp count
   FILE        program
   STARTS      starts
   --observer  label: who sees
   --env       environment: where costs come from; part where it is left out
+  --machine   machine file: a machine in place of an environment
   --budget    cycles: the last cycle; 1000000 where it is left out
 "
 }
@@ -94,12 +97,13 @@ whether code is constant in time
 fn leak_help() -> &'static [u8]
     ensures { result.now ≡ leak_help }
 {
-    b"usage: lab leak FILE STARTS --observer L [--env flat|part|part2] [--budget T]
+    b"usage: lab leak FILE STARTS --observer L [--env flat|part|part2] [--machine M] [--budget T]
 what these runs tell, exactly
   FILE        program
   STARTS      starts
   --observer  label: who sees
   --env       environment: where costs come from; part where it is left out
+  --machine   machine file: a machine in place of an environment
   --budget    cycles: the last cycle; 1000000 where it is left out
 "
 }

@@ -10,4 +10,5 @@ returns c =
     let third = c.in_ok-arg-3.ensures.shape c.option.ensures.local ∙ ap₂ with_rule second c.option.ensures.rule in
     let fourth = c.in_ok-arg-4.ensures.shape c.option-2.ensures.local ∙ ap₂ with_rule third c.option-2.ensures.rule in
     let fifth = c.in_ok-arg-5.ensures.shape c.option-3.ensures.local ∙ ap₂ with_rule fourth c.option-3.ensures.rule in
-    IfOk-weaker c.arg-6.result _ _ (λ m h. h.shape c.flag.ensures.local ∙ ap₂ with_rule fifth c.flag.ensures.rule) c.arg-6.ensures
+    let sixth = c.in_ok-arg-6.ensures.shape c.option-4.ensures.local ∙ ap₂ with_rule fifth c.option-4.ensures.rule in
+    IfOk-weaker c.arg-7.result _ _ (λ m h. h.shape c.flag.ensures.local ∙ ap₂ with_rule sixth c.flag.ensures.rule) c.arg-7.ensures
