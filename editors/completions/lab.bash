@@ -5,9 +5,9 @@
 _lab_options() {
     case $1 in
         why) echo "--of" ;;
-        seen) echo "--observer --env --budget --refused" ;;
-        timeline) echo "--env --budget --observer --refused" ;;
-        bound | leak) echo "--observer --env --budget" ;;
+        seen) echo "--observer --env --machine --budget --refused" ;;
+        timeline) echo "--env --machine --budget --observer --refused" ;;
+        bound | leak) echo "--observer --env --machine --budget" ;;
         steady) echo "--observer --parts --constant --whole" ;;
     esac
 }
@@ -46,6 +46,11 @@ _lab() {
             ;;
         --env)
             mapfile -t COMPREPLY < <(compgen -W "flat part part2" -- "$word")
+            return
+            ;;
+        --machine)
+            compopt -o filenames 2>/dev/null
+            mapfile -t COMPREPLY < <(compgen -f -- "$word")
             return
             ;;
         --parts)
