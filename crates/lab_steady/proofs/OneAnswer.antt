@@ -204,7 +204,7 @@ module _ (costing : Costing) where
 -- ---- by the costs for which a word asks
 
 costing_stops : (w : Option (List ℕ)) (s : Status) (t : List ℕ) → CostingStops w s t → (s ≡ status.Usage) × (costing_of w ≡ None) × (t ≡ usage_text)
-costing_stops w status.Usage t h = (refl, h)
+costing_stops w status.Usage t h = (refl, h.0, h.1)
 costing_stops w status.Done t h = absurd h
 costing_stops w status.Refused t h = absurd h
 costing_stops w status.Syntax t h = absurd h
