@@ -1,6 +1,7 @@
 //! From the word of `--constant` to the costs of operators that are asked about.
 
-ghost use Rattle.std.specs.Prelude.{◌≡◌, Some, IfOk, IfErr, eqb, map, option_map, slice_split};
+ghost use Rattle.std.specs.Prelude.{◌≡◌, Some, IfOk, IfErr, eqb, map, option_map};
+ghost use Rattle.std.specs.List.{slice_split};
 ghost use Rattle.tool_texts.specs.Ends.{IsStop};
 ghost use Rattle.lab_steady.specs.Constant.{CostingStops, constant_of, costing_of, with_name as name_added, with_names as names_added};
 
