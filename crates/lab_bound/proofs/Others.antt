@@ -1,12 +1,12 @@
 -- The numbers of a text bound what other starts show.
-use Rattle.std.proofs.Common.{◌≡◌, ◌<◌, ◌≤◌, ◌∷◌, ◌++◌, ◌⊎◌, ℕ, List, [], inl, inr, subst}
-use Rattle.std.specs.Prelude.{ℤ, Bool}
+use Rattle.std.proofs.Common.{◌∷◌, ◌++◌, ◌⊎◌, ℕ, List, [], inl, inr}
+use Rattle.std.specs.Prelude.{Bool}
 use Rattle.label_lattice.specs.Order.{Order}
 use Rattle.env_contract.specs.declared.place.Touch.{Touch}
 use Rattle.label_code.specs.Run.{Start}
 use Rattle.mit_syntax.specs.Todo.{Todo}
 use Rattle.mit_syntax.specs.Program.{plan_of}
-use Rattle.timing_types.specs.Labelled.{LabelledProgram, order_of, labels_of, levels_of}
+use Rattle.timing_types.specs.Labelled.{order_of, labels_of}
 use Rattle.code_lower.specs.Lowered.{lowered}
 use Rattle.leak_bound.specs.Records.{Each}
 use Rattle.start_file.specs.Starts.{StartValue}

@@ -29,7 +29,7 @@ use Rattle.tool_stages.specs.Envs.{hardware_of}
 use Rattle.machine_stage.specs.Lines.{machine_head, no_bound_line}
 use Rattle.audit_stage.proofs.Once.{audit_stops, one_audit_stop, same_report, not_fault, same_lines, two_parts}
 use Rattle.lab_bound.specs.Text.{IsBits, IsSharpText, IsBoundText, IsSharedText, IsEndText, level_lines, number_text, shared_line, sharp_of}
-use Rattle.lab_bound.specs.Answer.{HasBound, HasCounts, TellsBy, shown_lines, Bounds}
+use Rattle.lab_bound.specs.Answer.{HasBound, HasCounts, TellsBy, shown_head, shown_lines, Bounds}
 use Rattle.lab_bound.specs.Complete.{HasOneBound}
 use Rattle.lab_bound.proofs.Enough.{begins_each_one}
 use Rattle.lab_bound.proofs.Answering.{bound_next}
@@ -95,13 +95,14 @@ one_counts q l t ss a b x y lines h k =
     ∙ ap (λ z. ((audit_lines q.program.order l t b ++ k.2) ++ z) ++ h.6) line
     ∙ ap (λ z. ((audit_lines q.program.order l t b ++ k.2) ++ k.4) ++ z) last ∙ sym k.8
 
+pub same_shown_head : (o : Order) (l : Label) (t : ℕ) (r s : AuditReport) → SameReport r s → shown_head o l t r ≡ shown_head o l t s
+same_shown_head o l t r s h =
+    ap (λ z. number_line (codes "runs ") z ++ (label_line (codes "observer ") o l ++ number_line (codes "budget ") t)) h.runs
+
 same_shown : (o : Order) (l : Label) (t : ℕ) (r s : AuditReport) → SameReport r s → shown_lines o l t r ≡ shown_lines o l t s
 same_shown o l t r s h =
-    two_parts _ _ _ _ (ap (number_line (codes "runs ")) h.runs)
-    (ap (λ z. label_line (codes "observer ") o l ++ (number_line (codes "budget ") t ++ z))
-    (two_parts _ _ _ _ (ap (number_line (codes "mitigations ")) h.mitigations)
-    (two_parts _ _ _ _ (ap (number_line (codes "distinct ")) h.measures.distinct)
-    (ap (λ z. no_bound_line ++ class_lines 1 z) h.measures.classes))))
+    two_parts _ _ _ _ (same_shown_head o l t r s h) (two_parts _ _ _ _ (ap (number_line (codes "mitigations ")) h.mitigations)
+    (two_parts _ _ _ _ (ap (number_line (codes "distinct ")) h.measures.distinct) (ap (λ z. no_bound_line ++ class_lines 1 z) h.measures.classes)))
 
 one_by : (sharing : Sharing) (q : LabelledProgram) (l : Label) (t : ℕ) (ss : List StartValue) (a b : AuditReport) (x y : List ℕ) → SameReport a b
     → TellsBy sharing q l t ss a x → TellsBy sharing q l t ss b y → x ≡ y

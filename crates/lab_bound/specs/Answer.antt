@@ -32,12 +32,15 @@ HasCounts q l t ss r x =
     × (line : List ℕ) × IsSharedText q l.number t levels line
     × (last : List ℕ) × IsEndText q l.number last × (x ≡ ((audit_lines q.program.order l t r ++ rest) ++ line) ++ last)
 
--- where all labels share the banks: what the runs show, and that no bound is told
+-- how it begins where all labels share the banks: the runs, the observer and the budget
+abbrev pub shown_head : Order → Label → ℕ → AuditReport → List ℕ
+shown_head o l t r = number_line (codes "runs ") r.runs ++ (label_line (codes "observer ") o l ++ number_line (codes "budget ") t)
+
+-- there what the runs show is told, and that no bound is
 abbrev pub shown_lines : Order → Label → ℕ → AuditReport → List ℕ
 shown_lines o l t r =
-    number_line (codes "runs ") r.runs ++ (label_line (codes "observer ") o l ++ (number_line (codes "budget ") t
-    ++ (number_line (codes "mitigations ") r.mitigations ++ (number_line (codes "distinct ") r.measures.distinct
-    ++ (no_bound_line ++ class_lines 1 r.measures.classes.items)))))
+    shown_head o l t r ++ (number_line (codes "mitigations ") r.mitigations ++ (number_line (codes "distinct ") r.measures.distinct
+    ++ (no_bound_line ++ class_lines 1 r.measures.classes.items)))
 
 -- what is told, by how the machine is shared
 abbrev pub TellsBy : Sharing → LabelledProgram → Label → ℕ → List StartValue → AuditReport → List ℕ → Type 0

@@ -7,5 +7,5 @@ mod end;
 pub mod laws;
 mod lines;
 pub mod shared;
-mod shown;
+pub mod shown;
 mod text;

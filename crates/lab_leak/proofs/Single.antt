@@ -25,7 +25,7 @@ use Rattle.machine_stage.specs.Lines.{machine_head, no_bound_line}
 use Rattle.lab_texts.proofs.LabLemmas.{one_in_lab}
 use Rattle.audit_stage.proofs.Once.{audit_stops, one_audit_stop, same_report, not_fault}
 use Rattle.lab_bound.specs.Text.{sharp_of}
-use Rattle.lab_bound.proofs.Single.{one_told, one_shared}
+use Rattle.lab_bound.proofs.Single.{one_told, one_shared, same_shown_head}
 use Rattle.lab_leak.specs.Answer.{HasLeak, Leaks, sequences_in}
 use Rattle.lab_leak.specs.Classes.{classes_of_runs, sizes_of}
 use Rattle.lab_leak.specs.Complete.{HasOneLeak}
@@ -55,8 +55,7 @@ one_top : (sharing : Sharing) (q : LabelledProgram) (l : Label) (t : ℕ) (ss : 
     → TopBy sharing q l t ss r x → TopBy sharing q l t ss s y → x ≡ y
 one_top Partitioned q l t ss r s x y same h k = one_counts q l t ss r s x y same h k
 one_top Shared q l t ss r s x y same h k =
-    h ∙ ap (λ z. number_line (codes "runs ") z ++ (label_line (codes "observer ") q.program.order l
-    ++ (number_line (codes "budget ") t ++ no_bound_line))) same.runs ∙ sym k
+    h ∙ ap (λ z. z ++ no_bound_line) (same_shown_head q.program.order l t r s same) ∙ sym k
 
 one_leak_text : (e : Environment) (q : LabelledProgram) (l : Label) (t : ℕ) (ss : List StartValue) (r s : AuditReport) (k : Classes) (x y : List ℕ)
     → SameReport r s → IsLeakText e q l t ss r k x → IsLeakText e q l t ss s k y → x ≡ y

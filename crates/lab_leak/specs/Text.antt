@@ -14,6 +14,7 @@ use Rattle.leak_numbers.specs.Numbers.{AreNumbers}
 use Rattle.tool_texts.specs.Texts.{number_line}
 use Rattle.tool_texts.specs.Reports.{label_line, bound_line}
 use Rattle.lab_bound.specs.Text.{sharp_of, IsSharedText}
+use Rattle.lab_bound.specs.Answer.{shown_head}
 use Rattle.part_tlb.specs.declared.bank.Sharing.{Sharing}
 use Rattle.part_tlb.specs.declared.bank.Sharing.TheVariants.{Partitioned, Shared}
 use Rattle.start_file.specs.Starts.{StartValue}
@@ -53,8 +54,7 @@ HasCounts q l t ss r x =
 
 -- where all labels share the banks: that no bound is told
 abbrev pub shown_lines : Order → Label → ℕ → AuditReport → List ℕ
-shown_lines order l t r =
-    number_line (codes "runs ") r.runs ++ (label_line (codes "observer ") order l ++ (number_line (codes "budget ") t ++ no_bound_line))
+shown_lines order l t r = shown_head order l t r ++ no_bound_line
 
 -- the first lines, by how the machine is shared
 abbrev pub TopBy : Sharing → LabelledProgram → Label → ℕ → List StartValue → AuditReport → List ℕ → Type 0

@@ -3,6 +3,7 @@
 ghost use Rattle.std.specs.Prelude.{◌≡◌, ◌++◌, OnOk};
 ghost use Rattle.lab_leak.specs.Text.{sharp_line, head_lines, shown_lines};
 
+use lab_bound::shown::put_shown_head;
 use label_lattice::label::Label;
 use label_lattice::lattice::Lattice;
 use leak_audit::report::AuditReport;
@@ -68,9 +69,7 @@ pub(crate) fn put_shown(
 ) -> Result<(), AllocError>
     ensures { OnOk result (text.new.items ≡ text.old.items ++ shown_lines order.now observer budget report.now) }
 {
-    put(text, &number(b"runs ", u64::from(report.runs)))?;
-    put(text, &label(b"observer ", order, observer))?;
-    put(text, &number(b"budget ", budget))?;
+    put_shown_head(text, order, observer, budget, report)?;
     put(text, &no_bound())?;
     Ok(())
 }

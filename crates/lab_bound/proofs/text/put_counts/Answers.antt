@@ -8,8 +8,8 @@ use Rattle.lab_bound.proofs.Ending.{reported_end}
 use Rattle.lab_bound.proofs.Answering.{counts_put}
 use Rattle.lab_bound.proofs.text.put_counts.Goals as goal
 
-pub level_counts-levels-requires-clause-ends : goal.level_counts-levels-requires-clause-ends
-level_counts-levels-requires-clause-ends c =
+pub level_counts-requires-clause-ends : goal.level_counts-requires-clause-ends
+level_counts-requires-clause-ends c =
     let q : LabelledProgram = c.args.p.now.compiled.typed.labelled in
     let same : map seen c.as_slice-starts.result.now ≡ map seen c.args.p.now.starts.items = ap (map seen) c.as_slice-starts.ensures.value in
     subst (λ (z : List StartValue). All (λ s. HasEnded (plan_of q.program) s.memory (c.args.setting.budget + 1)) z) (sym same)
