@@ -27,7 +27,7 @@ use Rattle.machine_stage.specs.Stage.{MachineIs, MachineStops, HasMachineFault}
 is_within : (h : Hardware) → IsProp (IsWithin h)
 is_within h = Prim.hlevel props
 
-made : (h : Hardware) → IsWithin h → MakeHardware
+abbrev made : (h : Hardware) → IsWithin h → MakeHardware
 made h w = record { hardware = h; within = w }
 
 same_made : (h k : Hardware) (v : IsWithin h) (w : IsWithin k) → h ≡ k → made h v ≡ made k w
@@ -41,37 +41,37 @@ same_document bytes None (Some n) g h = absurd (none-some n (sym (g h.0) ∙ h.1
 same_document bytes (Some m) None g h = absurd (none-some m (sym (h g.0) ∙ g.1))
 same_document bytes (Some m) (Some n) g h = sym g.1 ∙ h.1
 
-fault_in : Result Hardware MachineFault → Option MachineFault
+abbrev fault_in : Result Hardware MachineFault → Option MachineFault
 fault_in (Ok hw) = limit_fault hw
 fault_in (Err e) = Some e
 
-fault_of : Option Members → Option MachineFault
+abbrev fault_of : Option Members → Option MachineFault
 fault_of None = Some NotToml
 fault_of (Some ms) = fault_in (described_by ms)
 
-refused_for : (bytes : List ℕ) (e : MachineFault) → Refused bytes e → (d : Option Members) × IsDocument bytes d × (fault_of d ≡ Some e)
-refused_for bytes e (no_document h) = (None, h, refl)
-refused_for bytes e (no_machine ms f h is) = (Some ms, h, ap fault_in is)
-refused_for bytes e (too_great ms hw f h is over) = (Some ms, h, ap fault_in is ∙ over)
+refused_for : (bytes : List ℕ) {e : MachineFault} → Refused bytes e → (d : Option Members) × IsDocument bytes d × (fault_of d ≡ Some e)
+refused_for bytes (no_document h) = (None, h, refl)
+refused_for bytes (no_machine ms f h is) = (Some ms, h, ap fault_in is)
+refused_for bytes (too_great ms hw f h is over) = (Some ms, h, ap fault_in is ∙ over)
 
 one_refusal : (bytes : List ℕ) (e f : MachineFault) → Refused bytes e → Refused bytes f → e ≡ f
 one_refusal bytes e f h k =
-    let a = refused_for bytes e h in
-    let b = refused_for bytes f k in
+    let a = refused_for bytes h in
+    let b = refused_for bytes k in
     same_Some e f (sym a.2 ∙ ap fault_of (same_document bytes a.0 b.0 a.1 b.1) ∙ b.2)
 
 not_refused : (bytes : List ℕ) (hw : Hardware) (e : MachineFault) → Describes bytes hw → Refused bytes e → ⊥
 not_refused bytes hw e h k =
-    let b = refused_for bytes e k in
-    none-some e (sym h.3 ∙ sym (ap fault_in h.2) ∙ ap fault_of (same_document bytes (Some h.0) b.0 h.1 b.1) ∙ b.2)
+    let b = refused_for bytes k in
+    none-some e (sym h.1.2 ∙ sym (ap fault_in h.1.1) ∙ ap fault_of (same_document bytes (Some h.0) b.0 h.1.0 b.1) ∙ b.2)
 
 same_ok : (h k : Hardware) → ◌≡◌ {A = Result Hardware MachineFault} (Ok h) (Ok k) → h ≡ k
 same_ok h k e = cc
 
 one_hardware : (bytes : List ℕ) (h k : Hardware) → Describes bytes h → Describes bytes k → h ≡ k
 one_hardware bytes h k a b =
-    let document : a.0 ≡ b.0 = same_Some a.0 b.0 (same_document bytes (Some a.0) (Some b.0) a.1 b.1) in
-    same_ok h k (sym a.2 ∙ ap described_by document ∙ b.2)
+    let document : a.0 ≡ b.0 = same_Some a.0 b.0 (same_document bytes (Some a.0) (Some b.0) a.1.0 b.1.0) in
+    same_ok h k (sym a.1.1 ∙ ap described_by document ∙ b.1.1)
 
 -- ---- a file
 

@@ -10,7 +10,7 @@ use Rattle.tool_texts.specs.declared.status.Status.TheVariants as status
 use Rattle.tool_stages.specs.declared.envs.Environment.{Environment}
 use Rattle.tool_stages.specs.Begins.{Prepares}
 use Rattle.tool_stages.specs.Content.{Content}
-use Rattle.tool_stages.specs.Stages.{Then, Reads, ProgramStops}
+use Rattle.tool_stages.specs.Stages.{ProgramStops}
 use Rattle.tool_stages.proofs.StopLemmas.{start_rise}
 use Rattle.lab_bound.specs.Answer.{HasBound}
 use Rattle.lab_leak.specs.Answer.{HasLeak}
@@ -35,11 +35,6 @@ program_rise R R' c status.Disagree t f h = h
 program_rise R R' c status.Unfinished t f h = h
 program_rise R R' c status.Memory t f h = h
 program_rise R R' c status.Rejected t f h = h
-
-reads_rise : (R R' : Type 0) (c : Option (Option (List ℕ))) (Next : Syntax → Status → List ℕ → Type 0) (s : Status) (t : List ℕ) → (R → R')
-    → Then (ProgramStops R c) (Reads c) Next s t → Then (ProgramStops R' c) (Reads c) Next s t
-reads_rise R R' c Next s t f (inl h) = inl (program_rise R R' c s t f h)
-reads_rise R R' c Next s t f (inr h) = inr h
 
 module _ (Rises Rises' : List ℕ → Type 0) (content : Content) (rise : (name : List ℕ) → Rises name → Rises' name) where
   prepares_rise : (file starts observer : List ℕ) (Next : Syntax → LabelledProgram → Option Label → Code → List StartValue → Status → List ℕ → Type 0)
@@ -70,8 +65,10 @@ module _ (Rises Rises' : List ℕ → Type 0) (content : Content) (rise : (name 
 
   -- what answers it answers it
   pub answer_rises : (e : Environment) (a : Asked) (s : Status) (t : List ℕ) → IsAnswerIn e Rises content a s t → IsAnswerIn e Rises' content a s t
-  answer_rises e (why file None) s t h = reads_rise (Rises file) (Rises' file) (content file) _ s t (rise file) h
-  answer_rises e (why file (Some name)) s t h = (h.0, reads_rise (Rises file) (Rises' file) (content file) _ s h.0 (rise file) h.1, h.2)
+  answer_rises e (why file None) s t (inl h) = inl (program_rise (Rises file) (Rises' file) (content file) s t (rise file) h)
+  answer_rises e (why file None) s t (inr h) = inr h
+  answer_rises e (why file (Some name)) s t (m, inl h, is) = (m, inl (program_rise (Rises file) (Rises' file) (content file) s m (rise file) h), is)
+  answer_rises e (why file (Some name)) s t (m, inr h, is) = (m, inr h, is)
   answer_rises e (seen file starts observer machine budget refused) s t h =
       (h.0, shows_rise refused file starts (Some observer) (AreLines e budget) s h.0 h.1, h.2)
   answer_rises e (timeline file starts observer machine budget refused) s t h =
@@ -79,8 +76,9 @@ module _ (Rises Rises' : List ℕ → Type 0) (content : Content) (rise : (name 
   answer_rises e (bound file starts observer machine budget) s t h =
       (h.0, prepares_rise file starts observer (λ p q o code ss. HasBound e budget q o ss) s h.0 h.1, h.2)
   answer_rises e (steady file observer parts constant whole) s t (m, inl h, is) = (m, inl h, is)
-  answer_rises e (steady file observer parts constant whole) s t (m, inr (costing, of, h), is) =
-      (m, inr (costing, of, reads_rise (Rises file) (Rises' file) (content file) _ s m (rise file) h), is)
+  answer_rises e (steady file observer parts constant whole) s t (m, inr (costing, of, inl h), is) =
+      (m, inr (costing, of, inl (program_rise (Rises file) (Rises' file) (content file) s m (rise file) h)), is)
+  answer_rises e (steady file observer parts constant whole) s t (m, inr (costing, of, inr h), is) = (m, inr (costing, of, inr h), is)
   answer_rises e (leak file starts observer machine budget) s t h =
       (h.0, prepares_rise file starts observer (λ p q o code ss. HasLeak e budget q o ss) s h.0 h.1, h.2)
   answer_rises e (help command) s t h = h
