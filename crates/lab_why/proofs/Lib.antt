@@ -1,4 +1,5 @@
 pub mod ReasonLemmas
+pub mod FaultLemmas
 pub mod OriginLemmas
 pub mod OneReason
 pub mod OneOrigins

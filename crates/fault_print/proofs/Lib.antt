@@ -1,0 +1,4 @@
+pub mod Lines
+pub mod Told
+pub mod OneReach
+pub mod OneTold

@@ -1,0 +1,5 @@
+pub mod Marked
+pub mod Words
+pub mod Traps
+pub mod Hints
+pub mod Faults
