@@ -43,7 +43,7 @@ one_taken words n m xs ys h k =
 -- ---- what can stand there
 
 -- the place of a sort among all
-sign_place : SignType → ℕ
+abbrev sign_place : SignType → ℕ
 sign_place Assign = 13
 sign_place Colon = 14
 sign_place Semicolon = 15
@@ -67,7 +67,7 @@ sign_place LessEqual = 32
 sign_place Greater = 33
 sign_place GreaterEqual = 34
 
-place : Sort → ℕ
+abbrev place : Sort → ℕ
 place Name = 0
 place Number = 1
 place (Key k) = 2 + key_code k
@@ -75,7 +75,7 @@ place (Sign s) = sign_place s
 place End = 35
 
 -- each has a place above n, and each one behind another has a greater one
-Rising : ℕ → List Sort → Type 0
+abbrev Rising : ℕ → List Sort → Type 0
 Rising n [] = Unit {0}
 Rising n (x ∷ xs) = (n ≤ place x) × Rising (place x + 1) xs
 
@@ -104,7 +104,7 @@ above (y ∷ ys) n x r (inr h) =
     omega (arith, k, l)
 
 -- the same members
-Same : List Sort → List Sort → Type 0
+abbrev Same : List Sort → List Sort → Type 0
 Same xs ys = ((x : Sort) → IsOneOf xs x → IsOneOf ys x) × ((x : Sort) → IsOneOf ys x → IsOneOf xs x)
 
 -- the first ones of two that rise and have the same members

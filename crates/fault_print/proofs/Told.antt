@@ -1,6 +1,6 @@
 -- What is told of a token, and of a byte with which no word begins.
 use Rattle.std.proofs.Common.{◌≡◌, ◌≢◌, ◌-◌, ◌<◌, refl, sym, ap, ◌∙◌, subst, ℕ, List, [], ◌++◌, length, take, get_or, Result, Ok, Err, IfOk, OnOk, Vec, Global}
-use Rattle.std.proofs.Common.{inl, inr}
+use Rattle.std.proofs.Common.{inl, inr, arith}
 use Rattle.std.specs.Prelude.{Some, ◌==◌, if◌then◌else◌}
 use Rattle.std.proofs.lemmas.Option.{slice_get-get_or}
 use Rattle.text_base.specs.declared.pos.Pos.{Pos}
@@ -25,17 +25,21 @@ if_ok (Ok v) P Q f h = f v h
 if_ok (Err e) P Q f h = h
 
 -- the lines on the token with a number
-pub token_told : (T : List ℕ) (ts : List Token) (n : ℕ) (d : Token) (could : List Sort) (w trap old new : List ℕ) → n < length ts
-    → w ≡ token_bytes T (get_or ts n d) → trap ≡ trap_at T ts n (sort_in (get_or ts n d).kind) w could
+pub token_told : (T : List ℕ) (ts : List Token) (n : ℕ) (d : Token) (could : List Sort) (x : Sort) (w trap old new : List ℕ) → n < length ts
+    → x ≡ sort_in (get_or ts n d).kind → w ≡ token_bytes T (get_or ts n d) → trap ≡ trap_at T ts n x w could
     → new ≡ old ++ (marked T (get_or ts n d).pos ++ (found_sort (sort_in (get_or ts n d).kind) w ++ (expected_line could ++ trap)))
     → new ≡ old ++ token_lines T ts n could
-token_told T ts n d could w trap old new h word is e =
+token_told T ts n d could x w trap old new h sort word is e =
     let t : Token = get_or ts n d in
-    let x : Sort = sort_in t.kind in
+    let k : Sort = sort_in t.kind in
     e
-    ∙ ap (λ (z : List ℕ). old ++ (marked T t.pos ++ (found_sort x w ++ (expected_line could ++ z)))) is
-    ∙ ap (λ (z : List ℕ). old ++ (marked T t.pos ++ (found_sort x z ++ (expected_line could ++ trap_at T ts n x z could)))) word
+    ∙ ap (λ (z : List ℕ). old ++ (marked T t.pos ++ (found_sort k w ++ (expected_line could ++ z)))) is
+    ∙ ap (λ (z : Sort). old ++ (marked T t.pos ++ (found_sort k w ++ (expected_line could ++ trap_at T ts n z w could)))) sort
+    ∙ ap (λ (z : List ℕ). old ++ (marked T t.pos ++ (found_sort k z ++ (expected_line could ++ trap_at T ts n k z could)))) word
     ∙ ap (λ z. old ++ lines_at T ts n could z) (sym (slice_get-get_or ts n d h))
+
+pub not_all : (a b : ℕ) (xs ys : List Sort) → a ≢ b → (if a == b then xs else ys) ≡ ys
+not_all a b xs ys h = grind arith
 
 -- what could stand behind a text with these tokens
 pub follows : (F : List ℕ) (ts : List Token) (could : List Sort) (n taken : ℕ) (sorts : List Sort) → n ≡ length ts - 1

@@ -10,6 +10,6 @@ bytes-word-requires-clause-within c = to_within _ _ c.requires _ _ c.if-n-tokens
 
 pub returns : goal.returns
 returns c =
-    on_ok _ _ _ (token_told c.args.text.now c.args.tokens.now c.args.n _ c.args.could.now c.bytes-word.result.now c.trap_at-trap.result.now
+    on_ok _ _ _ (token_told c.args.text.now c.args.tokens.now c.args.n _ c.args.could.now c.sort_in.result c.bytes-word.result.now c.trap_at-trap.result.now
     c.args.out.now.items c.put_lines.new.out.items
-    c.if-n-tokens.false c.bytes-word.ensures c.trap_at-trap.ensures) c.put_lines.ensures
+    c.if-n-tokens.false c.sort_in.ensures c.bytes-word.ensures c.trap_at-trap.ensures) c.put_lines.ensures
