@@ -197,6 +197,46 @@ def word_at(text, at):
     return text[at:end].decode("ascii")
 
 
+def distance(a, b):
+    """How many letters are other ones, too much, missing or changed with their neighbour, from one word to the other; at most 2."""
+    above, last = None, list(range(len(b) + 1))
+    for i, x in enumerate(a, 1):
+        row = [i]
+        for j, y in enumerate(b, 1):
+            row.append(min(last[j] + 1, row[j - 1] + 1, last[j - 1] + (x != y)))
+            if i > 1 and j > 1 and x == b[j - 2] and a[i - 2] == y:
+                row[j] = min(row[j], above[j - 2] + 1)
+        above, last = last, row
+    return min(last[-1], 2)
+
+
+def label_places(pairs, declarations, commands):
+    """The places of the names that stand for labels."""
+    found = [name[2] for pair in pairs for name in pair] + [label[2] for _, _, label in declarations if label]
+    for command in commands:
+        names = [*(command.get("marks") or []), command.get("level")]
+        found += [name[2] for name in names if name]
+        for part in command["parts"]:
+            found += label_places([], [], part)
+    return found
+
+
+def of_name(found, place, word, parser):
+    """The lines on a name that is declared nowhere."""
+    labels, pairs, declarations, body = parser(found).program()
+    variables = [name for (_, name, _), _, _ in declarations]
+    labels = ["L", "H"] if labels is None else [name for _, name, _ in labels]
+    if place in label_places(pairs, declarations, body):
+        head = "it is a variable, and no label\n" if word in variables else ""
+        return head + "".join(["labels", *(f" {name}" for name in labels), "\n"])
+    if word in labels:
+        return "it is a label, and no variable\n"
+    near = [name for name in variables if distance(name.lower(), word.lower()) <= 1]
+    if not near:
+        return "a variable is declared before the commands, as var NAME;\n"
+    return "".join(["nearest", *(f" {name}" for name in near), "\n"])
+
+
 def lines_on(line, text, tokens, parser, stop):
     """The lines behind a line of `mitigate` that refuses a text."""
     what, _, place = line.removeprefix("syntax: ").partition(" at ")
@@ -216,12 +256,13 @@ def lines_on(line, text, tokens, parser, stop):
         return marked(text, row, column) + DEEP + "\n"
     word = word_at(text, place_of(text, row, column))
     short = word if len(word) <= 40 else word[:40] + ".."
+    if what == "unknown name":
+        return marked(text, row, column) + f"found {short}\n" + of_name(tokens(text), (row, column), word, parser)
     sentence = {
         "wide number": NUMBERS,
         "long name": f"a name has at most 32 bytes, and this one has {len(word)}",
-        "unknown name": None,
         "name twice": "a name is declared once",
         "array size": SIZE,
         "wrong use of a name": MISUSE,
     }[what]
-    return marked(text, row, column) + f"found {short}\n" + (sentence + "\n" if sentence else "")
+    return marked(text, row, column) + f"found {short}\n{sentence}\n"

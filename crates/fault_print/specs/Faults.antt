@@ -15,27 +15,16 @@ use Rattle.next_tokens.specs.Following.{Reaches}
 use Rattle.fault_print.specs.Marked.{marked, from_place, before_place}
 use Rattle.fault_print.specs.Words.{expected_line, found_line, found_word, found_end, byte_text, word_front}
 use Rattle.fault_print.specs.Traps.{trap_lines, token_trap, byte_trap}
+use Rattle.fault_print.specs.Tokens.{sort_at, word_at, before_at}
+use Rattle.fault_print.specs.Names.{name_lines}
 use Rattle.fault_print.specs.Hints.{utf8_hint, wide_hint, long_hint, deep_hint, many_hint, twice_hint, size_hint, misuse_hint, lattice_hint}
 
 -- ---- a token that can't stand at its place
-
--- the sort and the bytes of a token, where there is one
-abbrev pub sort_at : Option Token → Sort
-sort_at None = End
-sort_at (Some t) = sort_in t.kind
-
-abbrev pub word_at : List ℕ → Option Token → List ℕ
-word_at T None = []
-word_at T (Some t) = token_bytes T t
 
 -- what stands at a token's place
 abbrev pub found_sort : Sort → List ℕ → List ℕ
 found_sort End w = found_end
 found_sort x w = found_word w
-
--- the token before the one with the number n
-abbrev pub before_at : List Token → ℕ → Option Token
-before_at ts n = if nat_lt 0 n then slice_get ts (n - 1) else None
 
 -- the mistake that the token with the number n shows, which has the sort x and the bytes w
 abbrev pub trap_at : List ℕ → List Token → ℕ → Sort → List ℕ → List Sort → List ℕ
@@ -121,7 +110,7 @@ abbrev pub TellsTokens : List ℕ → List Token → ParseFault → List ℕ →
 TellsTokens T ts (parse.Unexpected p) t = TellsToken T ts t
 TellsTokens T ts (parse.TooDeep p) t = t ≡ marked T p ++ deep_hint
 TellsTokens T ts (parse.TooMany n) t = t ≡ many_hint
-TellsTokens T ts (parse.Unknown p) t = t ≡ place_lines T p []
+TellsTokens T ts (parse.Unknown p) t = t ≡ place_lines T p (name_lines T ts (word_there T p) p)
 TellsTokens T ts (parse.Twice p) t = t ≡ place_lines T p twice_hint
 TellsTokens T ts (parse.Lattice f) t = t ≡ lattice_hint f
 TellsTokens T ts parse.Memory t = t ≡ []

@@ -4,10 +4,12 @@ ghost use Rattle.std.specs.Prelude.{◌≡◌, ◌++◌, ◌^◌, ◌<◌, drop,
 ghost use Rattle.mit_syntax.specs.Cut.{AreTokens};
 ghost use Rattle.fault_print.specs.Marked.{marked};
 ghost use Rattle.fault_print.specs.Faults.{TellsToken, TellsText, TellsTokens, place_lines, word_there, byte_at};
+ghost use Rattle.fault_print.specs.Names.{name_lines};
 ghost use Rattle.fault_print.specs.Hints.{long_hint, utf8_hint, deep_hint};
 
 use crate::hints;
 use crate::marked::{behind, put_marked};
+use crate::names::name_text;
 use crate::text::{byte_lines, put_byte_at, put_place, word_there};
 use crate::token::put_token;
 use mit_parser::fault::ParseFault;
@@ -65,6 +67,15 @@ fn long_lines(alloc: Global, text: &[u8], pos: Pos) -> Result<Vec<u8>, Memory>
     place_lines(alloc, text, pos, hint.as_slice())
 }
 
+// A name that is declared nowhere.
+fn name_lines(alloc: Global, text: &[u8], tokens: &[Token], pos: Pos) -> Result<Vec<u8>, Memory>
+    requires { AreTokens text.now tokens.now }
+    ensures { IfOk result (λ v. v.items ≡ place_lines text.now pos (name_lines text.now tokens.now (word_there text.now pos) pos)) }
+{
+    let hint = name_text(alloc, text, tokens, word_there(text, pos), pos)?;
+    place_lines(alloc, text, pos, hint.as_slice())
+}
+
 // The byte with a number, with which no text in UTF-8 goes on.
 fn utf8_lines(alloc: Global, text: &[u8], n: u32) -> Result<Vec<u8>, Memory>
     ensures { IfOk result (λ v. v.items ≡ byte_at (drop n text.now) ++ utf8_hint) }
@@ -111,7 +122,7 @@ pub fn parse_lines(
         ParseFault::Unexpected(_) => token_lines(alloc, text, tokens),
         ParseFault::TooDeep(pos) => marked_lines(alloc, text, pos, hints::deep_hint()),
         ParseFault::TooMany(_) => hint_lines(alloc, hints::many_hint()),
-        ParseFault::Unknown(pos) => place_lines(alloc, text, pos, b""),
+        ParseFault::Unknown(pos) => name_lines(alloc, text, tokens, pos),
         ParseFault::Twice(pos) => place_lines(alloc, text, pos, hints::twice_hint()),
         ParseFault::Lattice(fault) => hint_lines(alloc, hints::lattice_hint(fault)),
         ParseFault::Memory => Ok(Vec::new(alloc)),

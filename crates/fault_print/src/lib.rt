@@ -5,6 +5,8 @@
 pub mod faults;
 mod hints;
 mod marked;
+mod names;
+mod near;
 mod text;
 mod token;
 mod traps;

@@ -5,7 +5,8 @@ ghost use Rattle.mit_syntax.specs.Cut.{AreTokens};
 ghost use Rattle.next_tokens.specs.Sorts.{sort_in};
 ghost use Rattle.fault_print.specs.Marked.{marked};
 ghost use Rattle.fault_print.specs.Words.{expected_line};
-ghost use Rattle.fault_print.specs.Faults.{sort_at, word_at, found_sort, before_at, trap_at, token_lines};
+ghost use Rattle.fault_print.specs.Tokens.{sort_at, word_at, before_at};
+ghost use Rattle.fault_print.specs.Faults.{found_sort, trap_at, token_lines};
 
 use crate::marked::put_marked;
 use crate::traps::{token_trap, trap_lines};
@@ -14,8 +15,8 @@ use mit_syntax::token::Token;
 use next_tokens::sort::{Sort, sort_in};
 use std::alloc::AllocError;
 
-// The sort of the token with a number; the end where there is none.
-fn sort_at(tokens: &[Token], n: usize) -> Sort
+/// The sort of the token with a number; the end where there is none.
+pub(crate) fn sort_at(tokens: &[Token], n: usize) -> Sort
     ensures { result ≡ sort_at (slice_get tokens.now n) }
 {
     if n >= tokens.len() {
@@ -24,8 +25,8 @@ fn sort_at(tokens: &[Token], n: usize) -> Sort
     sort_in(tokens[n].kind)
 }
 
-// The bytes of the token with a number; none where there is no such token.
-fn word_at<'a>(text: &'a [u8], tokens: &[Token], n: usize) -> &'a [u8]
+/// The bytes of the token with a number; none where there is no such token.
+pub(crate) fn word_at<'a>(text: &'a [u8], tokens: &[Token], n: usize) -> &'a [u8]
     requires { AreTokens text.now tokens.now }
     ensures { result.now ≡ word_at text.now (slice_get tokens.now n) }
 {
@@ -35,8 +36,8 @@ fn word_at<'a>(text: &'a [u8], tokens: &[Token], n: usize) -> &'a [u8]
     tokens[n].bytes(text)
 }
 
-// The sort of the token before the one with a number.
-fn sort_before(tokens: &[Token], n: usize) -> Sort
+/// The sort of the token before the one with a number.
+pub(crate) fn sort_before(tokens: &[Token], n: usize) -> Sort
     ensures { result ≡ sort_at (before_at tokens.now n) }
 {
     if n == 0 {

@@ -39,7 +39,8 @@ pub enum Trap {
     OneLeft,
 }
 
-fn trap_line(trap: Trap) -> &'static [u8]
+/// The sentence of a mistake.
+pub(crate) fn trap_line(trap: Trap) -> &'static [u8]
     ensures { result.now ≡ trap_line trap }
 {
     match trap {
