@@ -1,5 +1,5 @@
 -- What is told of a text that is no program.
-use Rattle.std.proofs.Common.{◌≡◌, ℕ, List, ◌++◌, Option, ◌⊎◌, inl, inr, refl, sym, ap, subst, ◌∙◌}
+use Rattle.std.proofs.Common.{◌≡◌, ℕ, List, ◌++◌, Option, ◌⊎◌, inl, inr, refl, sym, ap, subst, ◌∙◌, Result, Ok, Err, IfOk}
 use Rattle.label_lattice.specs.Order.{IsOrder}
 use Rattle.tim_base.specs.Told.{IsTold, IsTooLong}
 use Rattle.mit_syntax.specs.declared.fault.TextFault.{TextFault}
@@ -30,6 +30,10 @@ use Rattle.lab_why.specs.Answers.{IsTypeAnswer}
 use Rattle.lab_why.specs.Faulty.{HasTextTold, HasTokensTold, HasFaultTold, WhyStops}
 
 -- ---- from what was told of a text to the answer
+
+pub if_ok : {A E : Type 0} (r : Result A E) (P Q : A → Type 0) → ((v : A) → P v → Q v) → IfOk r P → IfOk r Q
+if_ok (Ok v) P Q f h = f v h
+if_ok (Err e) P Q f h = h
 
 pub explained_program : (c : Option (Option (List ℕ))) (p : Syntax) (x : Explained) → Reads c p → IsTypeAnswer c p (status_told x) (text_told x)
     → IsExplained c x
