@@ -40,6 +40,24 @@ class Maker:
             runs += f"[[run]]\nmemory = {{ {', '.join(values)} }}\n"
         return runs
 
+    def bank(self):
+        numbers = {
+            "sets": self.dice.choice([1, 2, 3, 8, 64]),
+            "ways": self.dice.randint(1, 8),
+            "bytes": self.dice.choice([4, 8, 24, 32, 1024]),
+            "hit": self.dice.choice([0, 0, 1, 5]),
+            "miss": self.dice.choice([0, 7, 20, 200]),
+        }
+        if self.dice.random() < 0.02:
+            numbers[self.dice.choice(list(numbers))] = self.dice.choice([-1, 0, 65, 900])
+        return f"{{ {', '.join(f'{name} = {number}' for name, number in numbers.items())} }}"
+
+    def machine(self):
+        """A machine file, now and then one that is refused."""
+        sharing = self.dice.choice(["partitioned", "shared"] * 20 + ["both"])
+        banks = [f"{place} = {self.bank()}\n" for place in ("page", "code", "data", "second") if self.dice.random() < 0.7]
+        return f'version = 1\nsharing = "{sharing}"\n' + "".join(banks)
+
     def place(self, depth=0):
         name, is_array = self.dice.choice(self.variables)
         return f"{name}[{self.expression(depth + 1)}]" if is_array else name
@@ -100,6 +118,9 @@ class Maker:
         yield from self.verdicts()
         yield from (("lab", [word, "p", "s", *observer, *setting]) for word in ("seen", "bound", "leak"))
         yield "lab", ["timeline", "p", "s", *setting, *self.dice.choice([observer, []])]
+        on_machine = ["--machine", "m", *setting[2:]]
+        yield from (("lab", [word, "p", "s", *observer, *on_machine]) for word in ("seen", "bound", "leak"))
+        yield "lab", ["timeline", "p", "s", *on_machine]
 
     def changed(self, certificate):
         """A certificate, mostly with one of its words changed."""

@@ -3,6 +3,12 @@ import dataclasses
 
 COMPARISONS = ("==", "!=", "<", "<=", ">", ">=")
 
+# The names of `--constant`, in the order in which they are told, each with its operators.
+NAMES = {"add": "+", "subtract": "-", "multiply": "*", "divide": "/", "remainder": "%", "compare": COMPARISONS}
+
+# The forms of mends that multiply by secrets: none where costs are not those of the table.
+BY_TABLE = ("if", "index", "operand")
+
 # The form of a mend, by the reason, and for a guard by its command.
 MENDS = {
     "if": "choose by arithmetic: x := (c != 0) * a + (c == 0) * b",
@@ -37,15 +43,32 @@ def reads(expression):
     return reads(expression[2]) + reads(expression[3])
 
 
-class Judgement:
-    """The instructions of a program for an observer, and its first fault."""
+def operators(name):
+    """The signs of the operators with a name."""
+    return NAMES[name] if name == "compare" else (NAMES[name],)
 
-    def __init__(self, program, labelling, observer):
-        self.program, self.labelling, self.observer = program, labelling, observer
+
+def constant_of(word):
+    """The names of a word of `--constant`; none where it names something else."""
+    names = [] if word == "none" else word.split(",")
+    return names if all(name in NAMES for name in names) else None
+
+
+class Judgement:
+    """The instructions of a program for an observer, and its first fault; by the table's costs of operators, or by names of constant ones."""
+
+    def __init__(self, program, labelling, observer, constant=None):
+        self.program, self.labelling, self.observer, self.constant = program, labelling, observer, constant
         self.sees = {name: program.lattice.flows[label][observer] for name, label in labelling.of.items()}
         self.steps = []
         self.list(program.body)
         self.steps.append(Step(None, program.lattice.bottom))
+
+    def enough(self, operator, known):
+        """Whether enough is known of an operand, so that two runs pay the same for the operator."""
+        if self.constant is None:
+            return operator != "*" or any(known)
+        return known[0] or any(operator in operators(name) for name in self.constant)
 
     def value(self, command, expression, label):
         """What is known of a value: that it is the same in two runs, and that it is short."""
@@ -62,8 +85,10 @@ class Judgement:
         else:
             left = self.value(command, expression[2], label)
             right = self.value(command, expression[3], label)
-            if expression[1] == "*" and not (any(left) and any(right)):
-                step.reason, step.blamed = "operand", expression[2] if any(right) else expression[3]
+            if not self.enough(expression[1], right):
+                step.reason, step.blamed = "operand", expression[3]
+            elif not self.enough(expression[1], left):
+                step.reason, step.blamed = "operand", expression[2]
             same, is_short = left[0] and right[0], expression[1] in COMPARISONS
         self.steps.append(step)
         return same, is_short
@@ -142,8 +167,9 @@ class Judgement:
 
     def mend(self, step, reason):
         """The line that shows the form of a mend, where one is known."""
-        form = MENDS.get(step.command["form"] if reason == "guard" else reason)
-        return f"mend: {form}\n" if form else ""
+        kind = step.command["form"] if reason == "guard" else reason
+        is_known = kind in MENDS and (self.constant is None or kind not in BY_TABLE)
+        return f"mend: {MENDS[kind]}\n" if is_known else ""
 
     def refusal(self, step, reason, parts, why):
         names = self.program.lattice.names
@@ -159,13 +185,15 @@ class Judgement:
         return text + told + self.mend(step, reason)
 
 
-def told(program, labelling, observer, parts, whole, why):
+def told(program, labelling, observer, parts, constant, whole, why):
     """The status of `steady`, and what it writes, where `why` tells the lines of `why --of` on a name."""
-    judgement = Judgement(program, labelling, observer)
+    judgement = Judgement(program, labelling, observer, constant)
     found = judgement.fault(whole, parts)
     if found:
         return 1, judgement.refusal(*found, parts, why)
     names = program.lattice.names
     seen = sum(judgement.sees[program.name_of(x)] for x in range(len(program.names)))
     asked = "end asked" if whole else "end not asked"
+    if constant is not None:
+        asked = " ".join(["constant", *([name for name in NAMES if name in constant] or ["none"])]) + "\n" + asked
     return 0, (f"steady\nobserver {names[observer]}\nparts {names[parts]}\n{asked}\nsees {seen} of {len(program.names)} variables\n")

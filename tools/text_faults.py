@@ -1,5 +1,7 @@
 """What `lab why` tells of a text that is no program, behind the line of `mitigate`: a second reading of docs/LAB.md."""
 
+from refusals import Stop
+
 KEYS = "labels order var skip if then else while do mitigate sleep".split()
 SIGNS = ":= : ; , ( ) { } [ ] @ + - * / % == != < <= > >=".split()
 # all tokens that a text can have at a place, in the order in which they are told
@@ -56,14 +58,14 @@ def told(kind, value):
     return {"name": "NAME", "number": "NUMBER", "end": "END"}.get(kind, value)
 
 
-def could_stand(before, parser, stop):
+def could_stand(before, parser):
     """What could stand behind some tokens, each tried in turn; None where these can't stand themselves."""
 
     def is_refused(found, number):
         reader = parser(found)
         try:
             reader.program()
-        except stop as fault:
+        except Stop as fault:
             return "unexpected" in fault.line and reader.at <= number
         return False
 
@@ -154,11 +156,11 @@ def byte_told(text):
     return f"found {chr(text[0])}\n" if 32 <= text[0] <= 126 else f"found byte {text[0]}\n"
 
 
-def of_byte(text, line, column, tokens, parser, stop):
+def of_byte(text, line, column, tokens, parser):
     at = place_of(text, line, column)
     try:
-        could = could_stand(tokens(text[:at])[:-1], parser, stop) or []
-    except stop:
+        could = could_stand(tokens(text[:at])[:-1], parser) or []
+    except Stop:
         could = []
     lines = marked(text, line, column) + byte_told(text[at:])
     if could:
@@ -167,13 +169,13 @@ def of_byte(text, line, column, tokens, parser, stop):
     return lines + (sentence + "\n" if sentence else "")
 
 
-def of_token(text, found, parser, stop):
+def of_token(text, found, parser):
     reader = parser(found)
     try:
         reader.program()
-    except stop:
+    except Stop:
         number = reader.at
-    could = could_stand(found[:number], parser, stop)
+    could = could_stand(found[:number], parser)
 
     def one(number):
         if not 0 <= number < len(found):
@@ -237,7 +239,7 @@ def of_name(found, place, word, parser):
     return "".join(["nearest", *(f" {name}" for name in near), "\n"])
 
 
-def lines_on(line, text, tokens, parser, stop):
+def lines_on(line, text, tokens, parser):
     """The lines behind a line of `mitigate` that refuses a text."""
     what, _, place = line.removeprefix("syntax: ").partition(" at ")
     if what == "not UTF-8":
@@ -249,9 +251,9 @@ def lines_on(line, text, tokens, parser, stop):
             return sentence + "\n"
     row, column = map(int, place.split(":"))
     if what == "bad byte":
-        return of_byte(text, row, column, tokens, parser, stop)
+        return of_byte(text, row, column, tokens, parser)
     if what == "unexpected":
-        return of_token(text, tokens(text), parser, stop)
+        return of_token(text, tokens(text), parser)
     if what == "too deep":
         return marked(text, row, column) + DEEP + "\n"
     word = word_at(text, place_of(text, row, column))

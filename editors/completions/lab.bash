@@ -5,10 +5,10 @@
 _lab_options() {
     case $1 in
         why) echo "--of" ;;
-        seen) echo "--observer --env --budget --refused" ;;
-        timeline) echo "--env --budget --observer" ;;
-        bound | leak) echo "--observer --env --budget" ;;
-        steady) echo "--observer --parts --whole" ;;
+        seen) echo "--observer --env --machine --budget --refused" ;;
+        timeline) echo "--env --machine --budget --observer --refused" ;;
+        bound | leak) echo "--observer --env --machine --budget" ;;
+        steady) echo "--observer --parts --constant --whole" ;;
     esac
 }
 
@@ -48,13 +48,18 @@ _lab() {
             mapfile -t COMPREPLY < <(compgen -W "flat part part2" -- "$word")
             return
             ;;
+        --machine)
+            compopt -o filenames 2>/dev/null
+            mapfile -t COMPREPLY < <(compgen -f -- "$word")
+            return
+            ;;
         --parts)
             for file in "${COMP_WORDS[@]}"; do
                 case $file in *.mit) mapfile -t COMPREPLY < <(compgen -W "$(_lab_labels "$file")" -- "$word") ;; esac
             done
             return
             ;;
-        --budget) return ;;
+        --budget | --constant) return ;;
     esac
     case $word in
         -*) mapfile -t COMPREPLY < <(compgen -W "$(_lab_options "$command")" -- "$word") ;;

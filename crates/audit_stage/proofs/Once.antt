@@ -15,7 +15,7 @@ use Rattle.leak_audit.specs.Measured.{SameMeasures}
 use Rattle.leak_audit.specs.Report.{SameReport}
 use Rattle.leak_audit.proofs.Once as audit
 use Rattle.leak_audit.proofs.Once.{no_audit_fault}
-use Rattle.tool_words.specs.declared.words.EnvName.{EnvName}
+use Rattle.tool_stages.specs.declared.envs.Environment.{Environment}
 use Rattle.tool_texts.specs.declared.status.Status.{Status}
 use Rattle.tool_texts.specs.declared.status.Status.TheVariants as status
 use Rattle.tool_texts.specs.Texts.{number_line}
@@ -26,16 +26,17 @@ use Rattle.tool_stages.proofs.OneLemmas.{Same}
 use Rattle.tool_stages.proofs.AgreeLemmas.{all_halt}
 use Rattle.audit_stage.specs.Audited.{AuditStops}
 
-pub same_report : (e : EnvName) (q : LabelledProgram) (o t : ℕ) (ss : List StartValue) (r s : AuditReport) → ReportsIn e q o t ss r
+pub same_report : (e : Environment) (q : LabelledProgram) (o t : ℕ) (ss : List StartValue) (r s : AuditReport) → ReportsIn e q o t ss r
     → ReportsIn e q o t ss s → SameReport r s
 same_report e q o t ss r s h k = audit.same_report (environment e q.program.order) AnyHistory q o t (starts_of history_made q.program.order ss) r s h k
 
-same_fault : (e : EnvName) (q : LabelledProgram) (o t : ℕ) (ss : List StartValue) (f g : AuditFault) → AuditFaultsIn e q o t ss f → AuditFaultsIn e q o t ss g
+same_fault : (e : Environment) (q : LabelledProgram) (o t : ℕ) (ss : List StartValue) (f g : AuditFault) → AuditFaultsIn e q o t ss f
+    → AuditFaultsIn e q o t ss g
     → f ≢ audit_fault.Memory → g ≢ audit_fault.Memory → f ≡ g
 same_fault e q o t ss f g h k n m =
     audit.same_fault (environment e q.program.order) AnyHistory q o t (starts_of history_made q.program.order ss) f g h k n m
 
-pub not_fault : (e : EnvName) (q : LabelledProgram) (o t : ℕ) (ss : List StartValue) (r : AuditReport) (f : AuditFault) → ReportsIn e q o t ss r
+pub not_fault : (e : Environment) (q : LabelledProgram) (o t : ℕ) (ss : List StartValue) (r : AuditReport) (f : AuditFault) → ReportsIn e q o t ss r
     → AuditFaultsIn e q o t ss f → f ≡ audit_fault.Memory
 not_fault e q o t ss r f h k = audit.not_fault (environment e q.program.order) AnyHistory q o t (starts_of history_made q.program.order ss) r f h k
 
@@ -71,21 +72,22 @@ fault_line p (audit_fault.TooMuch count) = events_line count
 fault_line p audit_fault.Memory = []
 
 -- a stop of an audit is a fault of it
-pub record HasFault (e : EnvName) (t : ℕ) (q : LabelledProgram) (l : Label) (ss : List StartValue) (s : Status) (x : List ℕ) : Type 0 where
+pub record HasFault (e : Environment) (t : ℕ) (q : LabelledProgram) (l : Label) (ss : List StartValue) (s : Status) (x : List ℕ) : Type 0 where
   pub fault : AuditFault
   pub none : fault ≢ audit_fault.Memory
   pub is : AuditFaultsIn e q l.number t ss fault
   pub told : s ≡ fault_status fault
   pub line : x ≡ fault_line q.program fault
 
-pub audit_stops : (e : EnvName) (t : ℕ) (q : LabelledProgram) (l : Label) (ss : List StartValue) (s : Status) (x : List ℕ)
+pub audit_stops : (e : Environment) (t : ℕ) (q : LabelledProgram) (l : Label) (ss : List StartValue) (s : Status) (x : List ℕ)
     → AuditStops e t q l ss s x → HasFault e t q l ss s x
 audit_stops e t q l ss status.TooLong x h = record { fault = audit_fault.TooMuch h.0; none = λ e. cc; is = h.1; told = refl; line = h.2 }
 audit_stops e t q l ss status.Disagree x h = record { fault = audit_fault.Disagree h.0 h.1; none = λ e. cc; is = h.2; told = refl; line = h.3 }
 audit_stops e t q l ss status.Unfinished x h = record { fault = audit_fault.Unfinished h.0 h.1; none = λ e. cc; is = h.2; told = refl; line = h.3 }
 audit_stops e t q l ss _ x h = absurd h
 
-pub one_audit_stop : (e : EnvName) (t : ℕ) (q : LabelledProgram) (l : Label) (ss : List StartValue) (s u : Status) (x y : List ℕ) → AuditStops e t q l ss s x
+pub one_audit_stop : (e : Environment) (t : ℕ) (q : LabelledProgram) (l : Label) (ss : List StartValue) (s u : Status) (x y : List ℕ)
+    → AuditStops e t q l ss s x
     → AuditStops e t q l ss u y → Same s u x y
 one_audit_stop e t q l ss s u x y h k =
     let a = audit_stops e t q l ss s x h in
@@ -93,11 +95,11 @@ one_audit_stop e t q l ss s u x y h k =
     let same : a.fault ≡ b.fault = same_fault e q l.number t ss a.fault b.fault a.is b.is a.none b.none in
     (a.told ∙ ap fault_status same ∙ sym b.told, a.line ∙ ap (fault_line q.program) same ∙ sym b.line)
 
-halt_in : (e : EnvName) (t : ℕ) (q : LabelledProgram) (o : Label) (ss : List StartValue) (f : AuditFault) → CanBeAudited e t q o.number ss
+halt_in : (e : Environment) (t : ℕ) (q : LabelledProgram) (o : Label) (ss : List StartValue) (f : AuditFault) → CanBeAudited e t q o.number ss
     → AuditFaultsIn e q o.number t ss f → f ≡ audit_fault.Memory
 halt_in e t q o ss f k h = no_audit_fault (environment e q.program.order) AnyHistory q o.number t (starts_of history_made q.program.order ss) f k.cut.agree
     (all_halt (environment e q.program.order) history_made q t ss k.halt) k.cut.few h
 
-pub audit_goes : (e : EnvName) (t : ℕ) (q : LabelledProgram) (o : Label) (ss : List StartValue) (s : Status) (x : List ℕ) → CanBeAudited e t q o.number ss
+pub audit_goes : (e : Environment) (t : ℕ) (q : LabelledProgram) (o : Label) (ss : List StartValue) (s : Status) (x : List ℕ) → CanBeAudited e t q o.number ss
     → AuditStops e t q o ss s x → ⊥
 audit_goes e t q o ss s x k h = let stop = audit_stops e t q o ss s x h in stop.none (halt_in e t q o ss stop.fault k stop.is)

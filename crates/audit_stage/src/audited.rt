@@ -4,10 +4,10 @@ ghost use Rattle.std.specs.Prelude.{◌≡◌, ℕ, List, IfOk, IfErr, map};
 ghost use Rattle.label_lattice.specs.declared.label.Label.{Label};
 ghost use Rattle.timing_types.specs.Labelled.{LabelledProgram};
 ghost use Rattle.start_file.specs.Starts.{StartValue, seen};
-ghost use Rattle.tool_words.specs.declared.words.EnvName.{EnvName};
+ghost use Rattle.tool_stages.specs.declared.envs.Environment.{Environment};
 ghost use Rattle.run_limits.specs.Cycles.{IsCycles};
 ghost use Rattle.tool_texts.specs.Ends.{IsStop};
-ghost use Rattle.tool_stages.specs.Envs.{ReportsIn, AuditFaultsIn};
+ghost use Rattle.tool_stages.specs.Envs.{hardware_of, ReportsIn, AuditFaultsIn};
 ghost use Rattle.tool_stages.specs.Begins.{CanAudit};
 ghost use Rattle.audit_stage.specs.Audited.{AuditStops};
 
@@ -17,17 +17,17 @@ use leak_audit::report::{AuditFault, AuditReport};
 use mit_syntax::program::Program;
 use run_watch::Watch;
 use std::alloc::Global;
-use tool_stages::envs::NamedEnv;
+use tool_stages::envs::MachineMaker;
 use tool_stages::in_env;
-use tool_stages::laws::named_tell_as_histories;
+use tool_stages::laws::makers_tell_as_histories;
 use tool_stages::prepared::Prepared;
 use tool_stages::setting::Setting;
 use tool_texts::lines;
 use tool_texts::status::Status;
 use tool_texts::stop::{Stop, no_memory};
 
-// Audits in the environments of a maker, which have the name.
-fn audit_in<E: MachineEnv + Drop, M: NamedEnv<E>, W: Watch>(
+// Audits in the environments of a maker.
+fn audit_in<E: MachineEnv + Drop, M: MachineMaker<E>, W: Watch>(
     alloc: Global,
     maker: &M,
     p: &Prepared,
@@ -36,13 +36,13 @@ fn audit_in<E: MachineEnv + Drop, M: NamedEnv<E>, W: Watch>(
 ) -> Result<AuditReport, AuditFault>
     requires fit { CanAudit p.now.compiled.typed.labelled p.now.observer p.now.compiled.image (map seen p.now.starts.items) }
     requires cycles { IsCycles setting.budget }
-    requires named { setting.env ≡ M.name }
+    requires machine { hardware_of setting.env ≡ M.machine maker.now }
     ensures report { IfOk result (ReportsIn setting.env p.now.compiled.typed.labelled p.now.observer.number setting.budget (map seen p.now.starts.items)) }
     ensures fault { IfErr result (AuditFaultsIn setting.env p.now.compiled.typed.labelled p.now.observer.number setting.budget (map seen p.now.starts.items)) }
 {
     let (typed, image, starts) = (&p.compiled.typed, &p.compiled.image, p.starts.as_slice());
     image.laws();
-    named_tell_as_histories::<E, M>();
+    makers_tell_as_histories::<E, M>();
     audit(
         alloc,
         typed,
@@ -55,7 +55,7 @@ fn audit_in<E: MachineEnv + Drop, M: NamedEnv<E>, W: Watch>(
     )
 }
 
-// Audits in the environment of a name.
+// Audits in an environment.
 fn audit_named<W: Watch>(
     alloc: Global,
     p: &Prepared,
@@ -72,7 +72,7 @@ fn audit_named<W: Watch>(
 
 // The stop for an audit without a report.
 fn audit_stop(p: &Program, fault: AuditFault) -> Stop
-    ensures { (e : EnvName) (t : ℕ) (q : LabelledProgram) (l : Label) (ss : List StartValue) → p.now ≡ q.program → AuditFaultsIn e q l.number t ss fault
+    ensures { (e : Environment) (t : ℕ) (q : LabelledProgram) (l : Label) (ss : List StartValue) → p.now ≡ q.program → AuditFaultsIn e q l.number t ss fault
         → IsStop (AuditStops e t q l ss) result }
 {
     match fault {
@@ -92,7 +92,7 @@ fn audit_stop(p: &Program, fault: AuditFault) -> Stop
     }
 }
 
-/// The report of an audit in the environment of a name. A watch is told how far each run has come.
+/// The report of an audit in an environment. A watch is told how far each run has come.
 ///
 /// # Errors
 /// Stops with `Disagree`, `Unfinished`, `TooLong` or `Memory`.

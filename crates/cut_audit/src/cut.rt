@@ -2,6 +2,7 @@
 
 ghost use Rattle.std.specs.Prelude.{◌≡◌, ◌<◌, ◌≤◌, ◌^◌, All, IfOk, IfErr, length, map};
 ghost use Rattle.code_lower.specs.Lowered.{lowered};
+ghost use Rattle.leak_bound.specs.Over.{KeepsLaws};
 ghost use Rattle.start_file.specs.Starts.{seen, IsFor};
 ghost use Rattle.leak_audit.specs.Agreement.{starts_of};
 ghost use Rattle.cut_audit.specs.Report.{IsReport, IsCutFault};
@@ -15,7 +16,6 @@ use leak_audit::agreement::all_agree;
 use leak_audit::measure::measure;
 use leak_audit::relevance::relevant_marks;
 use leak_audit::survey::{Request, survey_runs};
-use leak_bound::laws::lowered_few_sequences;
 use run_watch::Watch;
 use start_file::start::Start;
 use std::alloc::Global;
@@ -24,7 +24,7 @@ use timing_types::typed::Typed;
 /// Runs a program's image from each start of a list, 1 to 4,096 of them, up to a limit of 1 to 2^40 cycles,
 /// and counts the different sequences of assignments, with their cycles, that an observer sees by then, of
 /// runs that have halted and of those that have not. That is at most the base to the power of the exponent of the
-/// report's measures, in every environment that keeps the laws of `MachineEnv`. The image is that of the program, the
+/// report's measures, in every environment that keeps the laws of `LawfulEnv`. The image is that of the program, the
 /// starts are for it, and the observer is one of its labels. Keeps 24 bytes for each assignment of each different sequence.
 /// A watch is told how far each run has come.
 ///
@@ -50,12 +50,11 @@ pub fn cut<E: MachineEnv + Drop, M: MakeEnv<E>, W: Watch>(
     requires cycles { 0 < limit }
     requires limit { limit ≤ 2 ^ 40 }
     ensures report { IfOk result (IsReport E.env E.serves p.now.labelled observer.number limit
-        (starts_of M.made p.now.labelled.program.order (map seen starts.now))) }
-    ensures bound { IfOk result (λ r. r.measures.distinct ≤ r.measures.base ^ r.measures.exponent) }
+        (starts_of (M.made make.now) p.now.labelled.program.order (map seen starts.now))) }
+    ensures bound { KeepsLaws (λ order. E.env) E.serves → IfOk result (λ r. r.measures.distinct ≤ r.measures.base ^ r.measures.exponent) }
     ensures fault { IfErr result (IsCutFault E.env E.serves p.now.labelled observer.number limit
-        (starts_of M.made p.now.labelled.program.order (map seen starts.now))) }
+        (starts_of (M.made make.now) p.now.labelled.program.order (map seen starts.now))) }
 {
-    lowered_few_sequences::<E>();
     let labelled = p.labelled();
     let program = labelled.program();
     let order = program.lattice();

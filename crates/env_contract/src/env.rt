@@ -42,7 +42,10 @@ pub trait MachineEnv {
             × (serves order self.now × serves order other.now × (label.number < order.size)) }
         ensures { IsTrue result
             ↔ (env.part place label.number self.now ≡ env.part place label.number other.now) };
+}
 
+/// An environment that keeps the three laws, as one with a partition for each label does.
+pub trait LawfulEnv: MachineEnv {
     ghost lawful: { (order : Order) → IsLattice (lattice_of order)
-        → IsLawful env (lattice_of order) (serves order) };
+        → IsLawful Self.env (lattice_of order) (Self.serves order) };
 }

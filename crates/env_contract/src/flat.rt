@@ -3,7 +3,7 @@
 ghost use Rattle.std.specs.Prelude.{◌≡◌, ◌≤◌};
 ghost use Rattle.label_lattice.specs.Order.{Order};
 
-use crate::env::{MAX_PENALTY, MachineEnv};
+use crate::env::{LawfulEnv, MAX_PENALTY, MachineEnv};
 use crate::place::{Kind, Place};
 use label_lattice::label::Label;
 
@@ -21,19 +21,11 @@ impl FlatEnv {
 }
 
 impl MachineEnv for FlatEnv {
-    ghost use Rattle.std.specs.Prelude.{refl};
     ghost use Rattle.env_contract.specs.Flat.{flat_env};
 
     ghost serves = { λ order e. Unit {0} };
 
     ghost env = { flat_env };
-
-    ghost lawful = { λ order good. record {
-      keeps = λ k a er ew e s. tt;
-      write_label = λ k a er ew e s q l apart. refl;
-      read_label = λ k a er ew e e' s s' agree. refl;
-      agreement = λ k a er ew h e e' s s' agree q l flows. refl;
-    } };
 
     fn access(&mut self, _kind: Kind, _address: u32, _er: Label, _ew: Label) -> u32
         ensures cost { result ≡ 0 }
@@ -48,4 +40,15 @@ impl MachineEnv for FlatEnv {
     fn same(&self, _other: &Self, _place: Place, _label: Label) -> bool {
         true
     }
+}
+
+impl LawfulEnv for FlatEnv {
+    ghost use Rattle.std.specs.Prelude.{refl};
+
+    ghost lawful = { λ order good. record {
+      keeps = λ k a er ew e s. tt;
+      write_label = λ k a er ew e s q l apart. refl;
+      read_label = λ k a er ew e e' s s' agree. refl;
+      agreement = λ k a er ew h e e' s s' agree q l flows. refl;
+    } };
 }

@@ -15,14 +15,14 @@ use text_base::pos::Memory;
 pub trait MakeEnv<E: MachineEnv> {
     ghost use Rattle.env_contract.specs.declared.place.Touch.{Touch};
 
-    // The environment that a lattice and touches, the earliest first, give.
-    ghost made: { Order → List Touch → E };
+    // The environment that the maker gives of a lattice and touches, the earliest first.
+    ghost made: { Self → Order → List Touch → E };
 
     /// The environment after the touches, the earliest first. It serves the lattice, whose labels those
     /// of the touches are. Fails only for want of memory.
     fn make(&self, alloc: Global, lattice: Lattice, touches: &[Touch]) -> Result<E, Memory>
         requires { All (λ t. t.label.number < lattice.size) touches.now }
-        ensures value { IfOk result (λ e. e ≡ made lattice touches.now) }
+        ensures value { IfOk result (λ e. e ≡ made self.now lattice touches.now) }
         ensures serves { IfOk result (E.serves lattice) };
 }
 
@@ -31,7 +31,7 @@ pub trait MakeEnv<E: MachineEnv> {
 pub struct MakeFlat;
 
 impl MakeEnv<FlatEnv> for MakeFlat {
-    ghost made = { λ order touches. record {} };
+    ghost made = { λ maker order touches. record {} };
 
     fn make(
         &self,

@@ -17,7 +17,7 @@ use Rattle.part_tlb.specs.declared.bank.Hardware.{Hardware}
 use Rattle.part_tlb.specs.Machine.{bank_at, home, home_by, accessed, touches_in, bank_part, part_at}
 use Rattle.hardware.specs.Limits.{IsBank}
 use Rattle.hardware.specs.Laws.{SharedBreak}
-use Rattle.hardware.proofs.Touching.{sets_from_numbers}
+use Rattle.hardware.specs.Touching.{sets_from_numbers}
 
 -- a touch of a tag in a partition
 abbrev mark : ℕ → ℕ → Touched

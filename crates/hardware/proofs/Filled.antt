@@ -19,7 +19,7 @@ use Rattle.part_tlb.specs.declared.bank.Sharing.TheVariants.{Partitioned}
 use Rattle.part_tlb.specs.Machine.{home, home_by, accessed, touches_in, hits_in, hits_at, part_at}
 use Rattle.hardware.specs.Limits.{IsBank, HasBanks}
 use Rattle.hardware.specs.Rules.{fills_on_a_miss, BreaksAgreement, FillsOnAMissBreak}
-use Rattle.hardware.proofs.Touching.{in_front, holds_is}
+use Rattle.hardware.specs.Touching.{in_front, holds_is}
 use Rattle.hardware.proofs.Lawful.{elsewhere}
 use Rattle.hardware.proofs.Broken.{changes, touches_once}
 

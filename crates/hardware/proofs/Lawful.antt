@@ -17,7 +17,7 @@ use Rattle.part_tlb.specs.declared.bank.Sharing.TheVariants.{Partitioned, Shared
 use Rattle.part_tlb.specs.Machine.{bank_at, home, home_by, touch_at, accessed, hits_in, hits_at, cost_at, access_cost, bank_part, part_at, hardware_by_history}
 use Rattle.hardware.specs.Limits.{IsBank, HasBanks}
 use Rattle.hardware.specs.Laws.{PartitionedAreLawful, AllReadAndAgree}
-use Rattle.hardware.proofs.Touching.{touch_elsewhere, touch_agrees, hits_same}
+use Rattle.hardware.specs.Touching.{touch_elsewhere, touch_agrees, hits_same}
 
 -- a label to which ew does not flow is not ew
 not_own : (order : Order) → IsLattice (lattice_of order) → (ew l : ℕ) → (Flows (lattice_of order) ew l → ⊥) → l ≡ ew → ⊥

@@ -19,7 +19,7 @@ use Rattle.part_tlb.specs.Machine.{bank_at, home, touches_in, hits_in, hits_at, 
 use Rattle.hardware.specs.Limits.{IsBank, HasBanks}
 use Rattle.hardware.specs.Rules.{least_recent, set_after, set_in, ruled_hits, ruled_hits_at, ruled_cost_at, ruled_cost, ruled_bank, ruled_part}
 use Rattle.hardware.specs.Rules.{LeastRecentIsMachine}
-use Rattle.hardware.proofs.Touching.{some_below_same}
+use Rattle.hardware.specs.Touching.{some_below_same}
 
 -- what tags leave of a set that earlier ones made
 after_more : (ways : ℕ) → 0 < ways → (before tags : List ℕ)

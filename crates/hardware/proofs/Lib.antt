@@ -1,7 +1,5 @@
-pub mod Touching
 pub mod Lawful
 pub mod Broken
-pub mod Seated
 pub mod Within
 pub mod Ruled
 pub mod Least

@@ -27,7 +27,7 @@ use Rattle.hardware.specs.Limits.{IsBank, HasBanks}
 use Rattle.hardware.specs.Rules.{Rule, IsTold, set_after, Spot, all_touched, set_in}
 use Rattle.hardware.specs.Rules.{ruled_hits, ruled_hits_at, ruled_cost_at, ruled_cost, ruled_bank, ruled_part}
 use Rattle.hardware.specs.Rules.{RuledAreLawful}
-use Rattle.hardware.proofs.Touching.{some_below_same, touches-push}
+use Rattle.hardware.specs.Touching.{some_below_same, touches-push}
 
 map_same : (f g : ℕ → List ℕ) (a n : ℕ) → ((k : ℕ) → k < a + n → f k ≡ g k) → map f (range_with_len a n) ≡ map g (range_with_len a n)
 map_same f g a zero h = refl

@@ -3,3 +3,5 @@ pub mod Seats
 pub mod Envs
 pub mod Laws
 pub mod Rules
+pub mod Touching
+pub mod Seated

@@ -4,6 +4,7 @@
 pub mod laws;
 pub mod limits;
 pub mod machine;
+pub mod make;
 mod seat;
 #[cfg(test)]
 mod tests;

@@ -1,10 +1,10 @@
 ghost use Rattle.std.specs.Prelude.{◌≤◌};
 ghost use Rattle.label_lattice.specs.Order.{Order};
-ghost use Rattle.part_tlb.specs.declared.bank.Hardware.{Hardware};
-ghost use Rattle.hardware.specs.Envs.{IsMadeOf};
+ghost use Rattle.hardware.specs.Envs.{IsOfSome};
 
 use crate::limits::is_within;
 use crate::machine::HardwareEnv;
+use env_contract::env::MachineEnv;
 use env_contract::place::Kind;
 use label_lattice::label::Label;
 use label_lattice::lattice::Lattice;
@@ -77,7 +77,7 @@ static ROWS: [(Kind, u32, Label, Label, [u32; 4]); 13] = [
 
 // The first row whose access does not cost what it should.
 fn first_wrong(env: &mut HardwareEnv, column: usize) -> Option<usize>
-    requires made { (hw : Hardware) × (order : Order) × (IsMadeOf hw order env.old × (2 ≤ order.size)) }
+    requires made { (order : Order) × (IsOfSome order env.old × (2 ≤ order.size)) }
     requires column { column ≤ 3 }
 {
     for i in 0..ROWS.len() {

@@ -13,7 +13,7 @@ use Rattle.part_tlb.specs.declared.bank.Bank.{Bank}
 use Rattle.part_tlb.specs.declared.bank.Hardware.{Hardware}
 use Rattle.part_tlb.specs.Machine.{bank_at, bank_part, hardware_by_history}
 use Rattle.hardware.specs.Limits.{IsBank, HasBanks}
-use Rattle.hardware.proofs.Touching.{sets_from_numbers, numbers_from_sets}
+use Rattle.hardware.specs.Touching.{sets_from_numbers, numbers_from_sets}
 use Rattle.history_bound.specs.Over.{AnyHistory}
 use Rattle.history_bound.specs.Held.{BankHoldsAlike, HoldAlike, AgreeInHeld}
 

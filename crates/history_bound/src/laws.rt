@@ -67,15 +67,15 @@ pub fn agreement_is_what_is_held()
         Agree (hardware_by_history hw order) (lattice_of order) (AnyHistory order) g o s s' ↔ AgreeInHeld hw order (lattice_of order) g o s s' }
 {}
 
-/// What is told of starts in environments is told of the starts over the histories that they stand for: whether they
-/// agree, whether they halt, what an observer sees, and how many relevant mitigates begin and end.
+/// What is told of starts in the environments of a maker is told of the starts over the histories that they stand for:
+/// whether they agree, whether they halt, what an observer sees, and how many relevant mitigates begin and end.
 pub fn rows_tell_as_histories<E: MachineEnv, M: ByHistory<E>>()
-    ensures { TellsAs E.env E.serves M.by_history AnyHistory M.stands }
+    ensures { (maker : M) → TellsAs E.env E.serves (M.by_history maker) AnyHistory (M.stands maker) }
 {}
 
 /// What a run does and when it does it is told by histories alone: from any memory, any touches and to any
 /// T, the machine comes to where the machine comes to whose environment is the list of touches so far, with the same
 /// clock, memory, misses and log; and its environment stands for the list at the end.
 pub fn runs_do_as_histories<E: MachineEnv, M: ByHistory<E>>()
-    ensures { RunsByHistory E.env M.stands M.made M.by_history }
+    ensures { (maker : M) → RunsByHistory E.env (M.stands maker) (M.made maker) (M.by_history maker) }
 {}

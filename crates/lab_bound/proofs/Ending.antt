@@ -28,7 +28,7 @@ use Rattle.start_file.specs.Starts.{StartValue}
 use Rattle.leak_audit.specs.Agreement.{start_of, starts_of}
 use Rattle.history_bound.specs.Over.{history_made}
 use Rattle.leak_audit.specs.declared.report.AuditReport.{AuditReport}
-use Rattle.tool_words.specs.declared.words.EnvName.{EnvName}
+use Rattle.tool_stages.specs.declared.envs.Environment.{Environment}
 use Rattle.tool_stages.specs.Envs.{environment, ReportsIn}
 
 module _ {E : Type 0} (v : Env E) (image : List Instr) (lat : Lattice) (g : ℕ → ℕ) where
@@ -105,6 +105,6 @@ module _ {E : Type 0} (v : Env E) (made : Order → List Touch → E) (q : Label
   all_ended (s ∷ ss) h (suc k) d lt = all_ended ss h.1 k d (omega (arith, lt))
 
 -- runs of which there is a report
-pub reported_end : (e : EnvName) (q : LabelledProgram) (o t : ℕ) (ss : List StartValue) (r : AuditReport) → ReportsIn e q o t ss r
+pub reported_end : (e : Environment) (q : LabelledProgram) (o t : ℕ) (ss : List StartValue) (r : AuditReport) → ReportsIn e q o t ss r
     → All (λ s. HasEnded (plan_of q.program) s.memory (t + 1)) ss
 reported_end e q o t ss r h = all_ended (environment e q.program.order) history_made q t ss h.halted

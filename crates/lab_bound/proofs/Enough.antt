@@ -48,9 +48,9 @@ use Rattle.history_bound.specs.Over.{AnyHistory, history_made}
 use Rattle.leak_audit.specs.declared.report.AuditReport.{AuditReport}
 use Rattle.leak_audit.specs.Report.{IsReport}
 use Rattle.level_counts.specs.Begun.{begins_next, PredictedIn, FirstBeginsEach, AreTold, memories_of}
-use Rattle.tool_words.specs.declared.words.EnvName.{EnvName}
+use Rattle.tool_stages.specs.declared.envs.Environment.{Environment}
 use Rattle.tool_stages.specs.Stages.{Types}
-use Rattle.tool_stages.specs.Envs.{environment}
+use Rattle.tool_stages.specs.Envs.{IsPartitioned, environment}
 use Rattle.tool_stages.proofs.SoundLemmas.{typed_made}
 use Rattle.lab_bound.specs.Text.{sharp_of, AreApart}
 use Rattle.lab_bound.specs.Enough.{AllAreEnough}
@@ -288,26 +288,27 @@ typed_with words p q spelled types = typed_made words p q spelled types.program 
 pub below : (p : Syntax) (q : LabelledProgram) (o : ℕ) → Types p q → o < p.order.size → o < q.program.order.size
 below p q o types l = subst (λ (z : Syntax). o < z.order.size) (sym types.program) l
 
--- in each environment that `--env` names
-module _ (sharp : (e : EnvName) → LoweredSharpOver (environment e) AnyHistory) (ending : (e : EnvName) → LoweredSharpEndOver (environment e) AnyHistory)
-    (sharing : (e : EnvName) → LoweredSharedOver (environment e) AnyHistory) where
+-- in each environment of a machine with partitions
+module _ (sharp : (e : Environment) → IsPartitioned e → LoweredSharpOver (environment e) AnyHistory)
+    (ending : (e : Environment) → IsPartitioned e → LoweredSharpEndOver (environment e) AnyHistory)
+    (sharing : (e : Environment) → IsPartitioned e → LoweredSharedOver (environment e) AnyHistory) where
   pub all_enough : AllAreEnough
-  all_enough e t some words p q o ss r levels spelled types low is h =
+  all_enough e t own some words p q o ss r levels spelled types low is h =
       let v = environment e q.program.order in
       let is_typed = typed_with words p q spelled types in
       let low' = below p q o types low in
       let study = reported v AnyHistory history_made q o t ss r levels is h in
-      let f = found v AnyHistory history_made q o t (sharp e q is_typed) low' some ss levels study in
+      let f = found v AnyHistory history_made q o t (sharp e own q is_typed) low' some ss levels study in
       record {
         begun = f.begun;
         bounds = record {
           few = f.few;
           ended = λ end same tests. few_told v AnyHistory history_made q o t (seen_to_end v (order_of q) (labels_of q) (lowered q).instrs o t)
-              ((ending e q is_typed).halted o low' end t some) ss levels study same tests;
-          shared = λ apart. shared_told v AnyHistory history_made q o t (sequence_from v q o t) ((sharing e q is_typed).few o low' t some) apart ss levels
+              ((ending e own q is_typed).halted o low' end t some) ss levels study same tests;
+          shared = λ apart. shared_told v AnyHistory history_made q o t (sequence_from v q o t) ((sharing e own q is_typed).few o low' t some) apart ss levels
               study same_sequence tests_sequences;
           shared_ended = λ apart end same tests. shared_told v AnyHistory history_made q o t (seen_to_end v (order_of q) (labels_of q) (lowered q).instrs o t)
-              ((ending e q is_typed).shared o low' end t some) apart ss levels study same tests;
+              ((ending e own q is_typed).shared o low' end t some) apart ss levels study same tests;
         };
         counted = counted v AnyHistory history_made q o t ss r levels is f;
         shared_within = shares_within t levels;

@@ -18,8 +18,8 @@ use Rattle.leak_audit.specs.Sequences.{same_sequence}
 use Rattle.leak_audit.specs.Surveyed.{sequence_from}
 use Rattle.leak_audit.proofs.Classing.{tests_sequences}
 use Rattle.level_counts.specs.Begun.{PredictedIn, memories_of}
-use Rattle.tool_words.specs.declared.words.EnvName.{EnvName}
-use Rattle.tool_stages.specs.Envs.{environment}
+use Rattle.tool_stages.specs.declared.envs.Environment.{Environment}
+use Rattle.tool_stages.specs.Envs.{IsPartitioned, environment}
 use Rattle.tool_stages.proofs.AgreeLemmas.{all_halt}
 use Rattle.lab_bound.specs.Others.{AllBoundOthers}
 use Rattle.lab_bound.proofs.Enough.{Study, reported, few_told, shared_told, found, typed_with, below}
@@ -46,11 +46,12 @@ either : {A B C : Type 0} → (A → C) → (B → C) → A ⊎ B → C
 either f g (inl a) = f a
 either f g (inr b) = g b
 
--- in each environment that `--env` names
-module _ (sharp : (e : EnvName) → LoweredSharpOver (environment e) AnyHistory) (ending : (e : EnvName) → LoweredSharpEndOver (environment e) AnyHistory)
-    (sharing : (e : EnvName) → LoweredSharedOver (environment e) AnyHistory) where
+-- in each environment of a machine with partitions
+module _ (sharp : (e : Environment) → IsPartitioned e → LoweredSharpOver (environment e) AnyHistory)
+    (ending : (e : Environment) → IsPartitioned e → LoweredSharpEndOver (environment e) AnyHistory)
+    (sharing : (e : Environment) → IsPartitioned e → LoweredSharedOver (environment e) AnyHistory) where
   pub all_bound_others : AllBoundOthers
-  all_bound_others e t some words p q o s ss r levels spelled types low is told others are =
+  all_bound_others e t own some words p q o s ss r levels spelled types low is told others are =
       let v = environment e q.program.order in
       let is_typed = typed_with words p q spelled types in
       let low' = below p q o types low in
@@ -64,11 +65,11 @@ module _ (sharp : (e : EnvName) → LoweredSharpOver (environment e) AnyHistory)
         least = λ l x k. either (known.least l x) (are.predict l x) (predicted_either _ (plan_of q.program) listed others x k);
       } in
       record {
-        few = (found v AnyHistory history_made q o t (sharp e q is_typed) low' some (listed ++ others) levels study).few;
+        few = (found v AnyHistory history_made q o t (sharp e own q is_typed) low' some (listed ++ others) levels study).few;
         ended = λ end same tests. few_told v AnyHistory history_made q o t (seen_to_end v (order_of q) (labels_of q) (lowered q).instrs o t)
-            ((ending e q is_typed).halted o low' end t some) (listed ++ others) levels study same tests;
-        shared = λ apart. shared_told v AnyHistory history_made q o t (sequence_from v q o t) ((sharing e q is_typed).few o low' t some) apart
+            ((ending e own q is_typed).halted o low' end t some) (listed ++ others) levels study same tests;
+        shared = λ apart. shared_told v AnyHistory history_made q o t (sequence_from v q o t) ((sharing e own q is_typed).few o low' t some) apart
             (listed ++ others) levels study same_sequence tests_sequences;
         shared_ended = λ apart end same tests. shared_told v AnyHistory history_made q o t (seen_to_end v (order_of q) (labels_of q) (lowered q).instrs o t)
-            ((ending e q is_typed).shared o low' end t some) apart (listed ++ others) levels study same tests;
+            ((ending e own q is_typed).shared o low' end t some) apart (listed ++ others) levels study same tests;
       }

@@ -14,15 +14,22 @@ use Rattle.sharp_count.specs.Shared.{shared_of}
 use Rattle.sharp_bound.specs.Sharp.{relevant_at}
 use Rattle.level_counts.specs.Begun.{PredictedIn, FirstBeginsEach, AreTold, memories_of}
 use Rattle.level_counts.proofs.Leasts.{one_least}
-use Rattle.tool_words.specs.declared.words.EnvName.{EnvName}
+use Rattle.tool_stages.specs.declared.envs.Environment.{Environment}
 use Rattle.tool_texts.specs.declared.status.Status.{Status}
-use Rattle.tool_texts.specs.Reports.{audit_lines}
+use Rattle.tool_texts.specs.Texts.{number_line}
+use Rattle.tool_texts.specs.Reports.{label_line, class_lines, audit_lines}
 use Rattle.tool_stages.proofs.OneLemmas.{Same}
 use Rattle.tool_stages.proofs.ChainLemmas.{prepares_one}
 use Rattle.lab_texts.proofs.LabLemmas.{one_in_lab}
-use Rattle.audit_stage.proofs.Once.{audit_stops, one_audit_stop, same_report, not_fault, same_lines}
+use Rattle.leak_audit.specs.declared.report.AuditReport.{AuditReport}
+use Rattle.leak_audit.specs.Report.{SameReport}
+use Rattle.part_tlb.specs.declared.bank.Sharing.{Sharing}
+use Rattle.part_tlb.specs.declared.bank.Sharing.TheVariants.{Partitioned, Shared}
+use Rattle.tool_stages.specs.Envs.{hardware_of}
+use Rattle.machine_stage.specs.Lines.{machine_head, no_bound_line}
+use Rattle.audit_stage.proofs.Once.{audit_stops, one_audit_stop, same_report, not_fault, same_lines, two_parts}
 use Rattle.lab_bound.specs.Text.{IsBits, IsSharpText, IsBoundText, IsSharedText, IsEndText, level_lines, number_text, shared_line, sharp_of}
-use Rattle.lab_bound.specs.Answer.{HasBound, Bounds}
+use Rattle.lab_bound.specs.Answer.{HasBound, HasCounts, TellsBy, shown_lines, Bounds}
 use Rattle.lab_bound.specs.Complete.{HasOneBound}
 use Rattle.lab_bound.proofs.Enough.{begins_each_one}
 use Rattle.lab_bound.proofs.Answering.{bound_next}
@@ -77,22 +84,41 @@ one_end q o x y (inl h) (inr k) = absurd (k.0 h.0)
 one_end q o x y (inr h) (inl k) = absurd (h.0 k.0)
 one_end q o x y (inr h) (inr k) = h.1 ∙ sym k.1
 
-one_bound : (e : EnvName) (t : ℕ) (q : LabelledProgram) (o : Option Label) (ss : List StartValue) (s u : Status) (x y : List ℕ) → HasBound e t q o ss s x
+one_counts : (q : LabelledProgram) (l : Label) (t : ℕ) (ss : List StartValue) (a b : AuditReport) (x y : List ℕ)
+    → audit_lines q.program.order l t a ≡ audit_lines q.program.order l t b → HasCounts q l t ss a x → HasCounts q l t ss b y → x ≡ y
+one_counts q l t ss a b x y lines h k =
+    let levels = one_told q l.number (memories_of ss) h.0 k.0 h.1 k.1 in
+    let rest = one_text q.program.order l.number t h.0 k.0 h.2 k.2 levels h.3 k.3 in
+    let line = one_shared q l.number t h.0 k.0 h.4 k.4 levels h.5 k.5 in
+    let last = one_end q l.number h.6 k.6 h.7 k.7 in
+    h.8 ∙ ap (λ z. ((z ++ h.2) ++ h.4) ++ h.6) lines ∙ ap (λ z. ((audit_lines q.program.order l t b ++ z) ++ h.4) ++ h.6) rest
+    ∙ ap (λ z. ((audit_lines q.program.order l t b ++ k.2) ++ z) ++ h.6) line
+    ∙ ap (λ z. ((audit_lines q.program.order l t b ++ k.2) ++ k.4) ++ z) last ∙ sym k.8
+
+same_shown : (o : Order) (l : Label) (t : ℕ) (r s : AuditReport) → SameReport r s → shown_lines o l t r ≡ shown_lines o l t s
+same_shown o l t r s h =
+    two_parts _ _ _ _ (ap (number_line (codes "runs ")) h.runs)
+    (ap (λ z. label_line (codes "observer ") o l ++ (number_line (codes "budget ") t ++ z))
+    (two_parts _ _ _ _ (ap (number_line (codes "mitigations ")) h.mitigations)
+    (two_parts _ _ _ _ (ap (number_line (codes "distinct ")) h.measures.distinct)
+    (ap (λ z. no_bound_line ++ class_lines 1 z) h.measures.classes))))
+
+one_by : (sharing : Sharing) (q : LabelledProgram) (l : Label) (t : ℕ) (ss : List StartValue) (a b : AuditReport) (x y : List ℕ) → SameReport a b
+    → TellsBy sharing q l t ss a x → TellsBy sharing q l t ss b y → x ≡ y
+one_by Partitioned q l t ss a b x y same h k = one_counts q l t ss a b x y (same_lines q.program.order l t a b same) h k
+one_by Shared q l t ss a b x y same h k = h ∙ same_shown q.program.order l t a b same ∙ sym k
+
+one_bound : (e : Environment) (t : ℕ) (q : LabelledProgram) (o : Option Label) (ss : List StartValue) (s u : Status) (x y : List ℕ) → HasBound e t q o ss s x
     → HasBound e t q o ss u y → Same s u x y
 one_bound e t q None ss s u x y h k = absurd h
 one_bound e t q (Some l) ss s u x y (inl h) (inl k) = one_audit_stop e t q l ss s u x y h k
 one_bound e t q (Some l) ss s u x y (inl h) (inr k) = let a = audit_stops e t q l ss s x h in absurd (a.none (not_fault e q l.number t ss k.0 a.fault k.1 a.is))
 one_bound e t q (Some l) ss s u x y (inr h) (inl k) = let a = audit_stops e t q l ss u y k in absurd (a.none (not_fault e q l.number t ss h.0 a.fault h.1 a.is))
 one_bound e t q (Some l) ss s u x y (inr h) (inr k) =
-    let lines = same_lines q.program.order l t h.0 k.0 (same_report e q l.number t ss h.0 k.0 h.1 k.1) in
-    let levels = one_told q l.number (memories_of ss) h.2.1 k.2.1 h.2.2 k.2.2 in
-    let rest = one_text q.program.order l.number t h.2.1 k.2.1 h.2.3 k.2.3 levels h.2.4 k.2.4 in
-    let line = one_shared q l.number t h.2.1 k.2.1 h.2.5 k.2.5 levels h.2.6 k.2.6 in
-    let last = one_end q l.number h.2.7 k.2.7 h.2.8 k.2.8 in (
+    let same = same_report e q l.number t ss h.0 k.0 h.1 k.1 in
+    let told = one_by (hardware_of e).sharing q l t ss h.0 k.0 h.2.1 k.2.1 same h.2.2 k.2.2 in (
       h.2.0 ∙ sym k.2.0,
-      h.2.9 ∙ ap (λ z. ((z ++ h.2.3) ++ h.2.5) ++ h.2.7) lines ∙ ap (λ z. ((audit_lines q.program.order l t k.0 ++ z) ++ h.2.5) ++ h.2.7) rest
-          ∙ ap (λ z. ((audit_lines q.program.order l t k.0 ++ k.2.3) ++ z) ++ h.2.7) line
-          ∙ ap (λ z. ((audit_lines q.program.order l t k.0 ++ k.2.3) ++ k.2.5) ++ z) last ∙ sym k.2.9,
+      h.2.3 ∙ ap (λ z. machine_head e ++ z) told ∙ sym k.2.3,
     )
 
 pub one_bound_in_lab : HasOneBound

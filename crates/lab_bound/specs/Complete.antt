@@ -2,7 +2,7 @@
 use Rattle.std.specs.Prelude.{◌≡◌, ℕ, List, Some}
 use Rattle.tim_base.specs.Faults.{Rose}
 use Rattle.start_file.specs.Starts.{StartValue}
-use Rattle.tool_words.specs.declared.words.EnvName.{EnvName}
+use Rattle.tool_stages.specs.declared.envs.Environment.{Environment}
 use Rattle.tool_texts.specs.declared.status.Status.{Status}
 use Rattle.tool_stages.specs.Content.{Content, IsKnown}
 use Rattle.tool_stages.specs.Stages.{StartsAre}
@@ -11,7 +11,7 @@ use Rattle.lab_bound.specs.Answer.{IsBoundAnswer}
 
 -- Nothing but want of memory stops the command: both files are told to hold bytes, and the program of the one can be
 -- audited from the starts of the other.
-pub record CanBound (content : Content) (file starts observer : List ℕ) (e : EnvName) (t : ℕ) : Type 0 where
+pub record CanBound (content : Content) (file starts observer : List ℕ) (e : Environment) (t : ℕ) : Type 0 where
   pub known : IsKnown (content file)
   pub known_starts : IsKnown (content starts)
   pub goes : CanCompile (content file) (Some observer) (λ p q o. (ss : List StartValue) × StartsAre (content starts) p ss
@@ -21,7 +21,7 @@ pub record CanBound (content : Content) (file starts observer : List ℕ) (e : E
 -- status and the same text.
 abbrev pub HasOneBound : Type 0
 HasOneBound =
-    (content : Content) (before now : List ℕ → ℕ) (file starts observer : List ℕ) (e : EnvName) (t : ℕ) (s u : Status) (x y : List ℕ) →
+    (content : Content) (before now : List ℕ → ℕ) (file starts observer : List ℕ) (e : Environment) (t : ℕ) (s u : Status) (x y : List ℕ) →
     IsKnown (content file) → IsKnown (content starts) → (Rose (before file) (now file) → ⊥) → (Rose (before starts) (now starts) → ⊥) →
     IsBoundAnswer (λ name. Rose (before name) (now name)) content file starts observer e t s x
     → IsBoundAnswer (λ name. Rose (before name) (now name)) content file starts observer e t u y →

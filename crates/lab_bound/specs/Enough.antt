@@ -21,25 +21,25 @@ use Rattle.leak_audit.specs.Sequences.{same_sequence}
 use Rattle.leak_audit.specs.Surveyed.{sequence_from}
 use Rattle.leak_audit.specs.declared.report.AuditReport.{AuditReport}
 use Rattle.level_counts.specs.Begun.{AreTold, memories_of}
-use Rattle.tool_words.specs.declared.words.EnvName.{EnvName}
+use Rattle.tool_stages.specs.declared.envs.Environment.{Environment}
 use Rattle.tool_stages.specs.Stages.{Types}
-use Rattle.tool_stages.specs.Envs.{environment, ReportsIn}
+use Rattle.tool_stages.specs.Envs.{IsPartitioned, environment, ReportsIn}
 use Rattle.lab_bound.specs.Text.{sharp_of, AreApart, CountsEnd}
 
--- In a named environment the runs from starts show at most n different sequences up to T, and whoever sees one of them
+-- In an environment the runs from starts show at most n different sequences up to T, and whoever sees one of them
 -- guesses the start right at most n times as often.
-abbrev pub FewIn : EnvName → LabelledProgram → ℕ → ℕ → List StartValue → ℕ → Type 0
+abbrev pub FewIn : Environment → LabelledProgram → ℕ → ℕ → List StartValue → ℕ → Type 0
 FewIn e q o t ss n = FewShown (sequence_from (environment e q.program.order) q o t) same_sequence (starts_of history_made q.program.order ss) n
 
 -- The same of who sees the end too: at most n different pairs of a sequence and the cycle at which the run has ended. Two
 -- pairs may be told apart by any test of equality.
-abbrev pub FewToEndIn : EnvName → LabelledProgram → ℕ → ℕ → List StartValue → ℕ → Type 0
+abbrev pub FewToEndIn : Environment → LabelledProgram → ℕ → ℕ → List StartValue → ℕ → Type 0
 FewToEndIn e q o t ss n =
     (same : List Event × List ℕ → List Event × List ℕ → Bool) → Tests same →
     FewShown (seen_to_end (environment e q.program.order) (order_of q) (labels_of q) (lowered q).instrs o t) same (starts_of history_made q.program.order ss) n
 
 -- the numbers that are told of the levels bound what the runs from starts show
-pub record Bounds (e : EnvName) (q : LabelledProgram) (o t : ℕ) (ss : List StartValue) (levels : List LevelRuns) : Type 0 where
+pub record Bounds (e : Environment) (q : LabelledProgram) (o t : ℕ) (ss : List StartValue) (levels : List LevelRuns) : Type 0 where
   -- the sharp count bounds the runs
   pub few : FewIn e q o t ss (sharp_of t levels)
   -- where the end is told as counted, it bounds what is seen of the runs with their ends
@@ -49,7 +49,7 @@ pub record Bounds (e : EnvName) (q : LabelledProgram) (o t : ℕ) (ss : List Sta
   pub shared_ended : AreApart q o → CountsEnd q o → FewToEndIn e q o t ss (shared_of t levels)
 
 -- of runs of which there is a report, and of whose levels this is told
-pub record IsEnough (e : EnvName) (q : LabelledProgram) (o t : ℕ) (ss : List StartValue) (r : AuditReport) (levels : List LevelRuns) : Type 0 where
+pub record IsEnough (e : Environment) (q : LabelledProgram) (o t : ℕ) (ss : List StartValue) (r : AuditReport) (levels : List LevelRuns) : Type 0 where
   -- each run, not the first alone, begins as many relevant mitigations of each level as are told
   pub begun : Each (λ m. BeginsEach (order_of q) (labels_of q) (levels_of q) o (plan_of q.program) m (counts_of levels)) (memories_of ss)
   -- the numbers bound what the runs show
@@ -61,12 +61,13 @@ pub record IsEnough (e : EnvName) (q : LabelledProgram) (o t : ℕ) (ss : List S
   -- the sharp count is at most the bound of the report
   pub within : sharp_of t levels ≤ r.measures.base ^ r.measures.exponent
 
--- so it is of each program that words spell, with its least labelling, up to each T of at least 1
-abbrev pub NumbersAreEnough : EnvName → ℕ → Type 0
-NumbersAreEnough e t = 0 < t →
+-- so it is on a machine with partitions of each program that words spell, with its least labelling, up to each T of at
+-- least 1
+abbrev pub NumbersAreEnough : Environment → ℕ → Type 0
+NumbersAreEnough e t = IsPartitioned e → 0 < t →
     (words : List Told) (p : Syntax) (q : LabelledProgram) (o : ℕ) (ss : List StartValue) (r : AuditReport) (levels : List LevelRuns) → IsProgram words p
     → Types p q → o < p.order.size →
     ReportsIn e q o t ss r → AreTold q o (memories_of ss) levels → IsEnough e q o t ss r levels
 
 abbrev pub AllAreEnough : Type 0
-AllAreEnough = (e : EnvName) (t : ℕ) → NumbersAreEnough e t
+AllAreEnough = (e : Environment) (t : ℕ) → NumbersAreEnough e t

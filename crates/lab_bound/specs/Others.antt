@@ -10,28 +10,29 @@ use Rattle.sharp_count.specs.Levels.{told_of}
 use Rattle.sharp_bound.specs.Sharp.{relevant_at}
 use Rattle.leak_audit.specs.declared.report.AuditReport.{AuditReport}
 use Rattle.level_counts.specs.Begun.{AreTold, PredictedIn, memories_of}
-use Rattle.tool_words.specs.declared.words.EnvName.{EnvName}
+use Rattle.tool_stages.specs.declared.envs.Environment.{Environment}
 use Rattle.tool_stages.specs.Stages.{Types}
-use Rattle.tool_stages.specs.Envs.{ReportsIn}
+use Rattle.tool_stages.specs.Envs.{IsPartitioned, ReportsIn}
 use Rattle.tool_stages.specs.Goes.{AgreeIn, HaltsBy}
 use Rattle.lab_bound.specs.Enough.{Bounds}
 
 -- Other starts: with the listed ones they agree pairwise for the observer, they halt by T, and of each level no relevant
 -- mitigation that they begin has a first prediction below the least one that is told.
-pub record AreOthers (e : EnvName) (q : LabelledProgram) (o t : ℕ) (ss : List StartValue) (levels : List LevelRuns) (others : List StartValue) : Type 0 where
+pub record AreOthers (e : Environment) (q : LabelledProgram) (o t : ℕ) (ss : List StartValue) (levels : List LevelRuns)
+    (others : List StartValue) : Type 0 where
   pub agree : AgreeIn e q o (ss ++ others)
   pub halt : All (HaltsBy e t q) others
   pub predict : (l x : ℕ) → PredictedIn (relevant_at (order_of q) (labels_of q) (levels_of q) o (plan_of q.program) l)
       (plan_of q.program) (memories_of others) x → (told_of levels l).first ≤ x
 
--- Of each program that words spell, with its least labelling, up to each T of at least 1: where there is a report of
+-- On a machine with partitions, of each program that words spell, with its least labelling, up to each T of at least 1: where there is a report of
 -- listed starts, of which there is one at least, the numbers bound these and any others together.
-abbrev pub BoundOthers : EnvName → ℕ → Type 0
-BoundOthers e t = 0 < t →
+abbrev pub BoundOthers : Environment → ℕ → Type 0
+BoundOthers e t = IsPartitioned e → 0 < t →
     (words : List Told) (p : Syntax) (q : LabelledProgram) (o : ℕ) (s : StartValue) (ss : List StartValue) (r : AuditReport) (levels : List LevelRuns)
     → IsProgram words p → Types p q → o < p.order.size →
     ReportsIn e q o t (s ∷ ss) r → AreTold q o (memories_of (s ∷ ss)) levels →
     (others : List StartValue) → AreOthers e q o t (s ∷ ss) levels others → Bounds e q o t ((s ∷ ss) ++ others) levels
 
 abbrev pub AllBoundOthers : Type 0
-AllBoundOthers = (e : EnvName) (t : ℕ) → BoundOthers e t
+AllBoundOthers = (e : Environment) (t : ℕ) → BoundOthers e t

@@ -92,3 +92,7 @@ BoundPut order o t levels old new = (rest : List ℕ) × IsBoundText order o t l
 -- the line of the count by shared time stands after a text, if there is one
 abbrev pub SharedPut : LabelledProgram → ℕ → ℕ → List LevelRuns → List ℕ → List ℕ → Type 0
 SharedPut q o t levels old new = (line : List ℕ) × IsSharedText q o t levels line × (new ≡ old ++ line)
+
+-- a text of which this is true stands after another one
+abbrev pub TextPut : (List ℕ → Type 0) → List ℕ → List ℕ → Type 0
+TextPut P old new = (x : List ℕ) × P x × (new ≡ old ++ x)

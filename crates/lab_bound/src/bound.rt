@@ -23,8 +23,9 @@ use tool_texts::status::Status;
 /// Writes what an audit says of the program of a file, of the runs from the starts of another one, and of an observer;
 /// and after it for each level that does not flow to the observer how many relevant mitigations a run begins and the
 /// least of their first predictions, the sharp count of that, its bits, what it means for guessing, the count by shared
-/// time where relevant mitigates stand apart, and whether all this holds of who sees runs end. It stops where and as an
-/// audit does.
+/// time where relevant mitigates stand apart, and whether all this holds of who sees runs end. On a machine that a file
+/// describes a line stands in front that tells how it is shared; where all labels share it, what the runs show is told alone,
+/// and that no bound is. It stops where and as an audit does.
 ///
 /// `answered`: the status and the text are the answer, in the order of its refusals, from what the shelf is told to
 /// hold. A file may not be read only where the count of its faults rose. After a fault of the sink a prefix of the text

@@ -5,25 +5,25 @@ ghost use Rattle.lab_bound.specs.Enough.{AllAreEnough};
 ghost use Rattle.lab_bound.specs.Others.{AllBoundOthers};
 
 use sharp_history::laws::lowered_few_sequences_sharp_of_histories;
-use tool_stages::laws::named_keep_the_laws;
+use tool_stages::laws::partitioned_keep_the_laws;
 
-/// A law: the sharp count of what is told of the levels bounds the number of different sequences that the report counts,
-/// and what seeing one of them is worth to somebody who guesses the start; where the end is counted, so it does where the
-/// ends are seen too. Where relevant mitigates stand apart, so does the count by shared time, which is no greater.
+/// A law: on a machine with partitions the sharp count of what is told of the levels bounds the number of different sequences
+/// that the report counts, and what seeing one of them is worth to somebody who guesses the start; where the end is counted,
+/// so it does where the ends are seen too. Where relevant mitigates stand apart, so does the count by shared time, which is no greater.
 pub fn sharp_counts_are_enough()
     ensures { AllAreEnough }
 {
-    named_keep_the_laws();
+    partitioned_keep_the_laws();
     lowered_few_sequences_sharp_of_histories();
 }
 
-/// A law: the numbers bound what other starts show too, whatever a file lists: together with the listed ones all starts
+/// A law: there the numbers bound what other starts show too, whatever a file lists: together with the listed ones all starts
 /// that agree with them for the observer, halt by T, and begin no relevant mitigation whose first prediction is below the
 /// least that is told of its level.
 pub fn sharp_counts_bound_others()
     ensures { AllBoundOthers }
 {
-    named_keep_the_laws();
+    partitioned_keep_the_laws();
     lowered_few_sequences_sharp_of_histories();
 }
 

@@ -7,4 +7,5 @@ mod end;
 pub mod laws;
 mod lines;
 pub mod shared;
+mod shown;
 mod text;

@@ -10,19 +10,25 @@ ghost use Rattle.tool_texts.specs.declared.status.Status.TheVariants as status;
 ghost use Rattle.tool_stages.specs.Begins.{CanAudit};
 ghost use Rattle.tool_stages.specs.Accepted.{is_past_typing, IsAccepted};
 ghost use Rattle.tool_stages.specs.Fetches.{Fetches};
-ghost use Rattle.lab_bound.specs.Text.{BoundPut};
-ghost use Rattle.lab_bound.specs.Answer.{HasBound, Bounds};
+ghost use Rattle.tool_stages.specs.Envs.{hardware_of, ReportsIn};
+ghost use Rattle.lab_bound.specs.Text.{BoundPut, TextPut};
+ghost use Rattle.lab_bound.specs.Answer.{HasBound, HasCounts, TellsBy, Bounds};
 
 use crate::end::put_end;
 use crate::lines::{put_levels, put_sharp};
 use crate::shared::put_shared;
+use crate::shown::put_shown;
 use audit_stage::audited::audited;
 use label_lattice::label::Label;
 use label_lattice::lattice::Lattice;
+use leak_audit::report::AuditReport;
 use level_counts::levels::level_counts;
+use machine_stage::lines::{put_head, sharing};
+use part_tlb::bank::Sharing;
 use run_watch::Watch;
 use sharp_count::count::{LevelRuns, Runs, sharp_count};
 use std::alloc::{AllocError, Global};
+use text_base::pos::Memory;
 use tim_base::shelf::Shelf;
 use tool_stages::prepared::{Prepared, prepare};
 use tool_stages::setting::Setting;
@@ -45,6 +51,74 @@ fn put_bound(
     Ok(())
 }
 
+// Appends what is told of a prepared program of whose runs there is a report, on a machine with partitions.
+fn put_counts(
+    alloc: Global,
+    text: &mut Vec<u8>,
+    p: &Prepared,
+    setting: Setting,
+    report: &AuditReport,
+) -> Result<(), Memory>
+    requires fit { CanAudit p.now.compiled.typed.labelled p.now.observer p.now.compiled.image (map seen p.now.starts.items) }
+    requires cycles { IsCycles setting.budget }
+    requires reported { ReportsIn setting.env p.now.compiled.typed.labelled p.now.observer.number setting.budget (map seen p.now.starts.items) report.now }
+    ensures { OnOk result (TextPut (HasCounts p.now.compiled.typed.labelled p.now.observer setting.budget (map seen p.now.starts.items) report.now)
+        text.old.items text.new.items) }
+{
+    let (typed, starts) = (&p.compiled.typed, p.starts.as_slice());
+    let (observer, budget) = (p.observer, setting.budget);
+    let levels = level_counts(alloc, typed, starts, observer, budget + 1)?;
+    let order = typed.labelled().program().lattice();
+    put_audit(text, &order, observer, budget, report)?;
+    put_bound(text, &order, observer, budget, &levels)?;
+    put_shared(alloc, text, typed, observer, budget, &levels)?;
+    put_end(text, typed, observer)?;
+    Ok(())
+}
+
+// Appends what is told of a prepared program of whose runs there is a report.
+fn put_told(
+    alloc: Global,
+    text: &mut Vec<u8>,
+    p: &Prepared,
+    setting: Setting,
+    report: &AuditReport,
+) -> Result<(), Memory>
+    requires fit { CanAudit p.now.compiled.typed.labelled p.now.observer p.now.compiled.image (map seen p.now.starts.items) }
+    requires cycles { IsCycles setting.budget }
+    requires reported { ReportsIn setting.env p.now.compiled.typed.labelled p.now.observer.number setting.budget (map seen p.now.starts.items) report.now }
+    ensures { OnOk result (TextPut (TellsBy (hardware_of setting.env).sharing p.now.compiled.typed.labelled p.now.observer setting.budget
+        (map seen p.now.starts.items) report.now) text.old.items text.new.items) }
+{
+    match sharing(setting.env) {
+        Sharing::Partitioned => put_counts(alloc, text, p, setting, report),
+        Sharing::Shared => {
+            let order = p.compiled.typed.labelled().program().lattice();
+            put_shown(text, &order, p.observer, setting.budget, report)?;
+            Ok(())
+        }
+    }
+}
+
+// The text of a prepared program of whose runs there is a report.
+fn told_text(
+    alloc: Global,
+    p: &Prepared,
+    setting: Setting,
+    report: &AuditReport,
+) -> Result<Vec<u8>, Memory>
+    requires fit { CanAudit p.now.compiled.typed.labelled p.now.observer p.now.compiled.image (map seen p.now.starts.items) }
+    requires cycles { IsCycles setting.budget }
+    requires reported { ReportsIn setting.env p.now.compiled.typed.labelled p.now.observer.number setting.budget (map seen p.now.starts.items) report.now }
+    ensures { IfOk result (λ v. HasBound setting.env setting.budget p.now.compiled.typed.labelled (Some p.now.observer) (map seen p.now.starts.items)
+        status.Done v.items) }
+{
+    let mut text = Vec::new(alloc);
+    put_head(&mut text, setting.env)?;
+    put_told(alloc, &mut text, p, setting, report)?;
+    Ok(text)
+}
+
 // The text of a prepared program.
 fn prepared_text<W: Watch>(
     alloc: Global,
@@ -63,24 +137,8 @@ fn prepared_text<W: Watch>(
         Ok(report) => report,
         Err(stop) => return Err(stop),
     };
-    let (typed, starts) = (&p.compiled.typed, p.starts.as_slice());
-    let (observer, budget) = (p.observer, setting.budget);
-    let Ok(levels) = level_counts(alloc, typed, starts, observer, budget + 1) else {
-        return Err(no_memory());
-    };
-    let order = typed.labelled().program().lattice();
-    let mut text = Vec::new(alloc);
-    let Ok(()) = put_audit(&mut text, &order, observer, budget, &report) else {
-        return Err(no_memory());
-    };
-    let Ok(()) = put_bound(&mut text, &order, observer, budget, &levels) else {
-        return Err(no_memory());
-    };
-    let Ok(()) = put_shared(alloc, &mut text, typed, observer, budget, &levels) else {
-        return Err(no_memory());
-    };
-    match put_end(&mut text, typed, observer) {
-        Ok(()) => Ok(text),
+    match told_text(alloc, p, setting, &report) {
+        Ok(text) => Ok(text),
         Err(_) => Err(no_memory()),
     }
 }

@@ -12,7 +12,7 @@ use Rattle.sharp_count.specs.Count.{fitting}
 use Rattle.leak_classes.specs.Classes.{Classes}
 use Rattle.leak_numbers.specs.Numbers.{AreNumbers, NumbersPut}
 use Rattle.level_counts.specs.Begun.{AreTold, memories_of}
-use Rattle.tool_words.specs.declared.words.EnvName.{EnvName}
+use Rattle.tool_stages.specs.declared.envs.Environment.{Environment}
 use Rattle.tool_texts.specs.declared.status.Status.{Status}
 use Rattle.tool_texts.specs.declared.status.Status.TheVariants as status
 use Rattle.tool_texts.specs.declared.stop.Stop.{Stop}
@@ -20,79 +20,99 @@ use Rattle.tool_texts.specs.Ends.{IsStop, EndsBy, Nothing, status_of, stop_text}
 use Rattle.tool_texts.proofs.EndLemmas.{broke_map, ends_done}
 use Rattle.tool_stages.specs.Content.{Content}
 use Rattle.tool_stages.specs.Goes.{CanBeAudited, OfObserver}
-use Rattle.tool_stages.specs.Envs.{ReportsIn}
+use Rattle.tool_stages.specs.Envs.{hardware_of, ReportsIn}
 use Rattle.tool_stages.proofs.ChainLemmas.{prepared_done, prepares_no_fault}
 use Rattle.audit_stage.specs.Audited.{AuditStops}
 use Rattle.audit_stage.proofs.Once.{audit_goes}
-use Rattle.lab_bound.specs.Text.{sharp_of, SharedPut}
+use Rattle.machine_stage.specs.Lines.{machine_head}
+use Rattle.lab_bound.specs.Text.{sharp_of, SharedPut, IsSharedText, TextPut}
 use Rattle.lab_leak.specs.Answer.{HasLeak, Leaks, IsLeakAnswer, sequences_in}
 use Rattle.lab_leak.specs.declared.sizes.ClassSizes.{ClassSizes}
 use Rattle.lab_leak.specs.Classes.{AreSizes, classes_of_runs, sizes_of}
 use Rattle.lab_leak.specs.Complete.{CanLeak}
-use Rattle.lab_leak.specs.Text.{IsLeakText, class_lines, head_lines}
+use Rattle.lab_leak.specs.Text.{HasCounts, TopBy, IsLeakText, class_lines, head_lines}
 
 -- what comes after the stages
-abbrev pub leak_next : EnvName → ℕ → Syntax → LabelledProgram → Option Label → Code → List StartValue → Status → List ℕ → Type 0
+abbrev pub leak_next : Environment → ℕ → Syntax → LabelledProgram → Option Label → Code → List StartValue → Status → List ℕ → Type 0
 leak_next e t p q o code ss = HasLeak e t q o ss
 
+-- the first lines on a machine with partitions
+pub counts_put : (t : ℕ) (q : LabelledProgram) (l : Label) (xs ss : List StartValue) (r : AuditReport) (levels found : List LevelRuns) (order : Order)
+    (count : Option ℕ) (old head new : List ℕ) → xs ≡ ss → AreTold q l.number (memories_of xs) levels → order ≡ q.program.order → found ≡ levels
+    → count ≡ fitting (sharp_of t found) → head ≡ old ++ head_lines order l t r count → SharedPut q l.number t found head new
+    → TextPut (HasCounts q l t ss r) old new
+counts_put t q l xs ss r levels found order count old head new same told is e counted first put =
+    let top = head_lines q.program.order l t r (fitting (sharp_of t levels)) in
+    let there : head ≡ old ++ top =
+    first ∙ ap (λ (z : Order). old ++ head_lines z l t r count) is
+    ∙ ap (λ z. old ++ head_lines q.program.order l t r z) (counted ∙ ap (λ z. fitting (sharp_of t z)) e) in (
+      top ++ put.0,
+      (
+        levels,
+        subst (λ (z : List StartValue). AreTold q l.number (memories_of z) levels) same told,
+        put.0,
+        subst (λ (z : List LevelRuns). IsSharedText q l.number t z put.0) e put.1,
+        refl,
+      ),
+      put.2 ∙ ap (λ z. z ++ put.0) there ∙ append_assoc old top put.0,
+    )
+
 -- the lines one after another
-pub leak_put : (q : LabelledProgram) (l : Label) (t : ℕ) (r : AuditReport) (levels : List LevelRuns) (k : Classes) (s : ClassSizes) (order : Order)
-    (count : Option ℕ) (size : ℕ) (ws none one shown two whole : List ℕ) → AreSizes k s → order ≡ q.program.order → count ≡ fitting (sharp_of t levels)
-    → size ≡ r.runs → ws ≡ s.sizes.items → none ≡ [] → one ≡ none ++ head_lines order l t r count → SharedPut q l.number t levels one shown
-    → NumbersPut size ws shown two → whole ≡ two ++ class_lines q.program.declarations k.seen k.firsts → IsLeakText q l t r levels k whole
-leak_put q l t r levels k s order count size ws none one shown two whole are is told runs sizes empty head shared put rest =
+pub leak_put : (e : Environment) (q : LabelledProgram) (l : Label) (t : ℕ) (ss : List StartValue) (r : AuditReport) (k : Classes) (s : ClassSizes) (size : ℕ)
+    (ws none head top two whole : List ℕ) → AreSizes k s → size ≡ r.runs → ws ≡ s.sizes.items → none ≡ [] → head ≡ none ++ machine_head e
+    → TextPut (TopBy (hardware_of e).sharing q l t ss r) head top → NumbersPut size ws top two
+    → whole ≡ two ++ class_lines q.program.declarations k.seen k.firsts → IsLeakText e q l t ss r k whole
+leak_put e q l t ss r k s size ws none head top two whole are runs sizes empty first shown put rest =
     let lines = class_lines q.program.declarations k.seen k.firsts in
     let numbers : AreNumbers r.runs (sizes_of k) put.lines =
     subst (λ z. AreNumbers z (sizes_of k) put.lines) runs (subst (λ z. AreNumbers size z put.lines) (sizes ∙ are.sizes) put.are) in
-    let top = head_lines q.program.order l t r (fitting (sharp_of t levels)) in
-    let heads : one ≡ top =
-    head ∙ ap (λ z. z ++ head_lines order l t r count) empty ∙ ap (λ (z : Order). head_lines z l t r count) is
-    ∙ ap (λ z. head_lines q.program.order l t r z) told in (
-      shared.0,
-      shared.1,
+    let heads : head ≡ machine_head e = first ∙ ap (λ z. z ++ machine_head e) empty in (
+      shown.0,
+      shown.1,
       put.lines,
       numbers,
-      rest ∙ ap (λ z. z ++ lines) (put.put ∙ ap (λ z. z ++ put.lines) (shared.2 ∙ ap (λ z. z ++ shared.0) heads))
-          ∙ append_assoc (top ++ shared.0) put.lines lines,
+      rest ∙ ap (λ z. z ++ lines) (put.put ∙ ap (λ z. z ++ put.lines) (shown.2 ∙ ap (λ z. z ++ shown.0) heads))
+          ∙ append_assoc (machine_head e ++ shown.0) put.lines lines,
     )
 
-pub leak_tells : (e : EnvName) (t : ℕ) (q : LabelledProgram) (l : Label) (ss : List StartValue) (r : AuditReport) (levels : List LevelRuns) (x : List ℕ)
-    → ReportsIn e q l.number t ss r → AreTold q l.number (memories_of ss) levels
-    → IsLeakText q l t r levels (classes_of_runs (sequences_in e t q l.number ss)) x → HasLeak e t q (Some l) ss status.Done x
-leak_tells e t q l ss r levels x reports told text = inr (r, reports, (refl, levels, told, text))
+pub leak_tells : (e : Environment) (t : ℕ) (q : LabelledProgram) (l : Label) (ss : List StartValue) (r : AuditReport) (x : List ℕ)
+    → ReportsIn e q l.number t ss r → IsLeakText e q l t ss r (classes_of_runs (sequences_in e t q l.number ss)) x → HasLeak e t q (Some l) ss status.Done x
+leak_tells e t q l ss r x reports text = inr (r, reports, (refl, text))
 
-pub leak_stop : (e : EnvName) (t : ℕ) (q : LabelledProgram) (l : Label) (ss : List StartValue) (s : Stop) → IsStop (AuditStops e t q l ss) s
+pub leak_stop : (e : Environment) (t : ℕ) (q : LabelledProgram) (l : Label) (ss : List StartValue) (s : Stop) → IsStop (AuditStops e t q l ss) s
     → IsStop (HasLeak e t q (Some l) ss) s
 leak_stop e t q l ss s h = broke_map (AuditStops e t q l ss) (HasLeak e t q (Some l) ss) (status_of s) (stop_text s) (λ k. inl k) h
 
 -- ---- no answer is a write fault
 
-no_fault_in : (e : EnvName) (t : ℕ) (q : LabelledProgram) (o : Option Label) (ss : List StartValue) (x : List ℕ) → HasLeak e t q o ss status.WriteFault x → ⊥
+no_fault_in : (e : Environment) (t : ℕ) (q : LabelledProgram) (o : Option Label) (ss : List StartValue) (x : List ℕ) → HasLeak e t q o ss status.WriteFault x
+    → ⊥
 no_fault_in e t q None ss x h = h
 no_fault_in e t q (Some l) ss x (inl h) = h
 no_fault_in e t q (Some l) ss x (inr (r, is, h)) = cc (h.0)
 
-pub leak_no_fault : (Rises : List ℕ → Type 0) (content : Content) (file starts observer : List ℕ) (e : EnvName) (t : ℕ) (x : List ℕ)
+pub leak_no_fault : (Rises : List ℕ → Type 0) (content : Content) (file starts observer : List ℕ) (e : Environment) (t : ℕ) (x : List ℕ)
     → Leaks Rises content file starts observer e t status.WriteFault x → ⊥
 leak_no_fault Rises content file starts observer e t x =
     prepares_no_fault Rises content file observer (Rises starts) (content starts) (leak_next e t) x (λ p q o code ss. no_fault_in e t q o ss x)
 
 -- ---- no answer to a program that is prepared is a read fault
 
-pub no_read_in : (e : EnvName) (t : ℕ) (q : LabelledProgram) (o : Option Label) (ss : List StartValue) (x : List ℕ) → HasLeak e t q o ss status.ReadFault x → ⊥
+pub no_read_in : (e : Environment) (t : ℕ) (q : LabelledProgram) (o : Option Label) (ss : List StartValue) (x : List ℕ)
+    → HasLeak e t q o ss status.ReadFault x → ⊥
 no_read_in e t q None ss x h = h
 no_read_in e t q (Some l) ss x (inl h) = h
 no_read_in e t q (Some l) ss x (inr (r, is, h)) = cc (h.0)
 
 -- ---- what can be done is done
 
-leak_done : (e : EnvName) (t : ℕ) (q : LabelledProgram) (o : Option Label) (ss : List StartValue) (s : Status) (x : List ℕ)
+leak_done : (e : Environment) (t : ℕ) (q : LabelledProgram) (o : Option Label) (ss : List StartValue) (s : Status) (x : List ℕ)
     → OfObserver (λ l. CanBeAudited e t q l ss) o → HasLeak e t q o ss s x → s ≡ status.Done
 leak_done e t q None ss s x k h = absurd h
 leak_done e t q (Some l) ss s x k (inl h) = absurd (audit_goes e t q l ss s x k h)
 leak_done e t q (Some l) ss s x k (inr h) = h.2.0
 
-pub completes : (old new : Option (List ℕ)) (Rises : List ℕ → Type 0) (content : Content) (file starts observer : List ℕ) (e : EnvName) (t : ℕ)
+pub completes : (old new : Option (List ℕ)) (Rises : List ℕ → Type 0) (content : Content) (file starts observer : List ℕ) (e : Environment) (t : ℕ)
     (r : Status) (Rose : Type 0) →
     EndsBy old new Nothing (IsLeakAnswer Rises content file starts observer e t) r → (r ≡ status.WriteFault → Rose) →
     CanLeak content file starts observer e t → (Rises file → ⊥) → (Rises starts → ⊥) → (Rose → ⊥) → (r ≡ status.Done) ⊎ (r ≡ status.Memory)

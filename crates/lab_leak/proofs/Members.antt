@@ -14,7 +14,7 @@ use Rattle.start_file.specs.Starts.{StartValue, seen}
 use Rattle.history_bound.specs.Over.{history_made}
 use Rattle.leak_audit.specs.Agreement.{start_of}
 use Rattle.leak_audit.specs.Surveyed.{sequence_from}
-use Rattle.tool_words.specs.declared.words.EnvName.{EnvName}
+use Rattle.tool_stages.specs.declared.envs.Environment.{Environment}
 use Rattle.tool_stages.specs.Envs.{environment, told_in}
 use Rattle.lab_runs.proofs.TextLemmas.{map-from}
 use Rattle.lab_seen.specs.Seen.{line_text}
@@ -96,7 +96,7 @@ module _ (ds : List Declaration) (cs : List (List Event × ℕ)) (fs : List ℕ)
 
 -- ---- what a run shows
 
-module _ (e : EnvName) (t : ℕ) (q : LabelledProgram) (l : Label) (code : Code) (image : code ≡ lowered q) where
+module _ (e : Environment) (t : ℕ) (q : LabelledProgram) (l : Label) (code : Code) (image : code ≡ lowered q) where
   -- the field of a run, as a list of assignments
   field_is : (s : StartValue) → seen_text q l (told_in e q.program.order code s t)
       ≡ field_text q.program.declarations (sequence_from (environment e q.program.order) q l.number t (start_of history_made q.program.order s))

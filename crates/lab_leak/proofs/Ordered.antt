@@ -6,8 +6,8 @@ use Rattle.lab_leak.specs.Ordered.{AllAreOrdered}
 use Rattle.lab_leak.proofs.Tallied.{are_tallied}
 
 pub all_ordered : AllAreEnough → AllAreOrdered
-all_ordered enough e t some words p q o ss r levels spelled types low is told =
-    let h = enough e t some words p q o ss r levels spelled types low is told in
+all_ordered enough e t own some words p q o ss r levels spelled types low is told =
+    let h = enough e t own some words p q o ss r levels spelled types low is told in
     let tallied = are_tallied (sequences_in e t q o ss) in
     let distinct = tallied.distinct in
     let few = h.bounds.few.count in

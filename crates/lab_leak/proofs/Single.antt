@@ -3,6 +3,8 @@ use Rattle.std.proofs.Common.{◌≡◌, ℕ, List, ◌++◌, Option, Some, None
 use Rattle.tim_base.specs.Faults.{Rose}
 use Rattle.label_lattice.specs.declared.label.Label.{Label}
 use Rattle.timing_types.specs.Labelled.{LabelledProgram}
+use Rattle.part_tlb.specs.declared.bank.Sharing.{Sharing}
+use Rattle.part_tlb.specs.declared.bank.Sharing.TheVariants.{Partitioned, Shared}
 use Rattle.start_file.specs.Starts.{StartValue}
 use Rattle.sharp_count.specs.declared.count.LevelRuns.{LevelRuns}
 use Rattle.sharp_count.specs.Count.{fitting}
@@ -12,12 +14,14 @@ use Rattle.leak_classes.specs.Classes.{Classes}
 use Rattle.leak_numbers.specs.Numbers.{AreNumbers}
 use Rattle.leak_numbers.proofs.Lines.{one_text}
 use Rattle.level_counts.specs.Begun.{memories_of}
-use Rattle.tool_words.specs.declared.words.EnvName.{EnvName}
+use Rattle.tool_stages.specs.declared.envs.Environment.{Environment}
 use Rattle.tool_texts.specs.declared.status.Status.{Status}
 use Rattle.tool_texts.specs.Texts.{number_line}
 use Rattle.tool_texts.specs.Reports.{label_line, bound_line}
+use Rattle.tool_stages.specs.Envs.{hardware_of}
 use Rattle.tool_stages.proofs.OneLemmas.{Same}
 use Rattle.tool_stages.proofs.ChainLemmas.{prepares_one}
+use Rattle.machine_stage.specs.Lines.{machine_head, no_bound_line}
 use Rattle.lab_texts.proofs.LabLemmas.{one_in_lab}
 use Rattle.audit_stage.proofs.Once.{audit_stops, one_audit_stop, same_report, not_fault}
 use Rattle.lab_bound.specs.Text.{sharp_of}
@@ -25,7 +29,7 @@ use Rattle.lab_bound.proofs.Single.{one_told, one_shared}
 use Rattle.lab_leak.specs.Answer.{HasLeak, Leaks, sequences_in}
 use Rattle.lab_leak.specs.Classes.{classes_of_runs, sizes_of}
 use Rattle.lab_leak.specs.Complete.{HasOneLeak}
-use Rattle.lab_leak.specs.Text.{IsLeakText, class_lines, head_lines, sharp_line}
+use Rattle.lab_leak.specs.Text.{HasCounts, TopBy, IsLeakText, class_lines, head_lines, sharp_line}
 use Rattle.lab_leak.proofs.Answering.{leak_next}
 
 same_head : (q : LabelledProgram) (l : Label) (t : ℕ) (r s : AuditReport) (sharp : Option ℕ) → SameReport r s
@@ -38,29 +42,41 @@ same_head q l t r s sharp h =
     ∙ ap (λ z. number_line (codes "runs ") s.runs ++ (label_line (codes "observer ") q.program.order l
     ++ (number_line (codes "budget ") t ++ (bound_line s.measures.base z ++ sharp_line sharp)))) h.measures.exponent
 
-one_leak_text : (q : LabelledProgram) (l : Label) (t : ℕ) (r s : AuditReport) (levels : List LevelRuns) (k : Classes) (x y : List ℕ) → SameReport r s
-    → IsLeakText q l t r levels k x → IsLeakText q l t s levels k y → x ≡ y
-one_leak_text q l t r s levels k x y same h j =
-    let line : h.0 ≡ j.0 = one_shared q l.number t levels levels h.0 j.0 refl h.1 j.1 in
+one_counts : (q : LabelledProgram) (l : Label) (t : ℕ) (ss : List StartValue) (r s : AuditReport) (x y : List ℕ) → SameReport r s
+    → HasCounts q l t ss r x → HasCounts q l t ss s y → x ≡ y
+one_counts q l t ss r s x y same h k =
+    let levels = one_told q l.number (memories_of ss) h.0 k.0 h.1 k.1 in
+    let line : h.2 ≡ k.2 = one_shared q l.number t h.0 k.0 h.2 k.2 levels h.3 k.3 in
+    h.4 ∙ ap (λ z. z ++ h.2) (same_head q l t r s (fitting (sharp_of t h.0)) same)
+    ∙ ap (λ z. head_lines q.program.order l t s (fitting (sharp_of t z)) ++ h.2) levels
+    ∙ ap (λ z. head_lines q.program.order l t s (fitting (sharp_of t k.0)) ++ z) line ∙ sym k.4
+
+one_top : (sharing : Sharing) (q : LabelledProgram) (l : Label) (t : ℕ) (ss : List StartValue) (r s : AuditReport) (x y : List ℕ) → SameReport r s
+    → TopBy sharing q l t ss r x → TopBy sharing q l t ss s y → x ≡ y
+one_top Partitioned q l t ss r s x y same h k = one_counts q l t ss r s x y same h k
+one_top Shared q l t ss r s x y same h k =
+    h ∙ ap (λ z. number_line (codes "runs ") z ++ (label_line (codes "observer ") q.program.order l
+    ++ (number_line (codes "budget ") t ++ no_bound_line))) same.runs ∙ sym k
+
+one_leak_text : (e : Environment) (q : LabelledProgram) (l : Label) (t : ℕ) (ss : List StartValue) (r s : AuditReport) (k : Classes) (x y : List ℕ)
+    → SameReport r s → IsLeakText e q l t ss r k x → IsLeakText e q l t ss s k y → x ≡ y
+one_leak_text e q l t ss r s k x y same h j =
+    let top : h.0 ≡ j.0 = one_top (hardware_of e).sharing q l t ss r s h.0 j.0 same h.1 j.1 in
     let numbers : h.2 ≡ j.2 = one_text s.runs (sizes_of k) h.2 j.2 (subst (λ z. AreNumbers z (sizes_of k) h.2) same.runs h.3) j.3 in
     let rest = class_lines q.program.declarations k.seen k.firsts in
-    let sharp = fitting (sharp_of t levels) in
-    h.4 ∙ ap (λ z. (head_lines q.program.order l t r sharp ++ h.0) ++ (z ++ rest)) numbers
-    ∙ ap (λ z. (head_lines q.program.order l t r sharp ++ z) ++ (j.2 ++ rest)) line
-    ∙ ap (λ z. (z ++ j.0) ++ (j.2 ++ rest)) (same_head q l t r s sharp same) ∙ sym j.4
+    h.4 ∙ ap (λ z. (machine_head e ++ h.0) ++ (z ++ rest)) numbers ∙ ap (λ z. (machine_head e ++ z) ++ (j.2 ++ rest)) top ∙ sym j.4
 
-one_leak : (e : EnvName) (t : ℕ) (q : LabelledProgram) (o : Option Label) (ss : List StartValue) (s u : Status) (x y : List ℕ) → HasLeak e t q o ss s x
+one_leak : (e : Environment) (t : ℕ) (q : LabelledProgram) (o : Option Label) (ss : List StartValue) (s u : Status) (x y : List ℕ) → HasLeak e t q o ss s x
     → HasLeak e t q o ss u y → Same s u x y
 one_leak e t q None ss s u x y h k = absurd h
 one_leak e t q (Some l) ss s u x y (inl h) (inl k) = one_audit_stop e t q l ss s u x y h k
 one_leak e t q (Some l) ss s u x y (inl h) (inr k) = let a = audit_stops e t q l ss s x h in absurd (a.none (not_fault e q l.number t ss k.0 a.fault k.1 a.is))
 one_leak e t q (Some l) ss s u x y (inr h) (inl k) = let a = audit_stops e t q l ss u y k in absurd (a.none (not_fault e q l.number t ss h.0 a.fault h.1 a.is))
-one_leak e t q (Some l) ss s u x y (inr h) (inr k) =
-    let same = same_report e q l.number t ss h.0 k.0 h.1 k.1 in
-    let levels = one_told q l.number (memories_of ss) h.2.1 k.2.1 h.2.2 k.2.2 in
-    let classes = classes_of_runs (sequences_in e t q l.number ss) in
-    let one = subst (λ z. IsLeakText q l t h.0 z classes x) levels h.2.3 in
-    (h.2.0 ∙ sym k.2.0, one_leak_text q l t h.0 k.0 k.2.1 classes x y same one k.2.3)
+one_leak e t q (Some l) ss s u x y (inr h) (inr k) = (
+  h.2.0 ∙ sym k.2.0,
+  one_leak_text e q l t ss h.0 k.0 (classes_of_runs (sequences_in e t q l.number ss)) x y
+      (same_report e q l.number t ss h.0 k.0 h.1 k.1) h.2.1 k.2.1,
+)
 
 pub one_leak_in_lab : HasOneLeak
 one_leak_in_lab content before now file starts observer e t s u x y known known_starts one other h k =

@@ -5,11 +5,9 @@ use Rattle.timing_types.specs.Labelled.{LabelledProgram}
 use Rattle.label_code.specs.Machine.{Event}
 use Rattle.start_file.specs.Starts.{StartValue}
 use Rattle.history_bound.specs.Over.{history_made}
-use Rattle.sharp_count.specs.declared.count.LevelRuns.{LevelRuns}
 use Rattle.leak_audit.specs.Agreement.{starts_of}
 use Rattle.leak_audit.specs.Surveyed.{sequence_from}
-use Rattle.level_counts.specs.Begun.{AreTold, memories_of}
-use Rattle.tool_words.specs.declared.words.EnvName.{EnvName}
+use Rattle.tool_stages.specs.declared.envs.Environment.{Environment}
 use Rattle.tool_texts.specs.declared.status.Status.{Status}
 use Rattle.tool_texts.specs.declared.status.Status.TheVariants as status
 use Rattle.tool_stages.specs.Content.{Content}
@@ -21,27 +19,24 @@ use Rattle.audit_stage.specs.Audited.{AuditStops}
 use Rattle.lab_leak.specs.Classes.{classes_of_runs}
 use Rattle.lab_leak.specs.Text.{IsLeakText}
 
--- what an observer sees of the runs from starts, in a named environment, up to T
-abbrev pub sequences_in : EnvName → ℕ → LabelledProgram → ℕ → List StartValue → List (List Event)
+-- what an observer sees of the runs from starts, in an environment, up to T
+abbrev pub sequences_in : Environment → ℕ → LabelledProgram → ℕ → List StartValue → List (List Event)
 sequences_in e t q o ss = map (sequence_from (environment e q.program.order) q o t) (starts_of history_made q.program.order ss)
 
--- The runs are those of an audit, and stop where and as one does. Their classes are told by what the observer sees, and
--- the sharp count and the count by shared time by what is told of the levels.
-abbrev pub HasLeak : EnvName → ℕ → LabelledProgram → Option Label → List StartValue → Status → List ℕ → Type 0
+-- The runs are those of an audit, and stop where and as one does. Their classes are told by what the observer sees.
+abbrev pub HasLeak : Environment → ℕ → LabelledProgram → Option Label → List StartValue → Status → List ℕ → Type 0
 HasLeak e t q None ss = λ s x. ⊥
 HasLeak e t q (Some l) ss =
     Then (AuditStops e t q l ss) (ReportsIn e q l.number t ss) (λ r s x.
-    (s ≡ status.Done)
-    × (levels : List LevelRuns) × AreTold q l.number (memories_of ss) levels
-    × IsLeakText q l t r levels (classes_of_runs (sequences_in e t q l.number ss)) x)
+    (s ≡ status.Done) × IsLeakText e q l t ss r (classes_of_runs (sequences_in e t q l.number ss)) x)
 
 -- What is told, in the order of its refusals, which are those of an audit. `Rises` tells the names whose counts of
 -- faults rose.
-abbrev pub Leaks : (List ℕ → Type 0) → Content → List ℕ → List ℕ → List ℕ → EnvName → ℕ → Status → List ℕ → Type 0
+abbrev pub Leaks : (List ℕ → Type 0) → Content → List ℕ → List ℕ → List ℕ → Environment → ℕ → Status → List ℕ → Type 0
 Leaks Rises content file starts observer e t =
     Prepares Rises content file observer (Rises starts) (content starts) (λ p q o code ss.
     HasLeak e t q o ss)
 
 -- the answer of `leak`
-abbrev pub IsLeakAnswer : (List ℕ → Type 0) → Content → List ℕ → List ℕ → List ℕ → EnvName → ℕ → Status → List ℕ → Type 0
+abbrev pub IsLeakAnswer : (List ℕ → Type 0) → Content → List ℕ → List ℕ → List ℕ → Environment → ℕ → Status → List ℕ → Type 0
 IsLeakAnswer Rises content file starts observer e t = InLab (Leaks Rises content file starts observer e t)

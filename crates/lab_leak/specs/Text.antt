@@ -14,6 +14,13 @@ use Rattle.leak_numbers.specs.Numbers.{AreNumbers}
 use Rattle.tool_texts.specs.Texts.{number_line}
 use Rattle.tool_texts.specs.Reports.{label_line, bound_line}
 use Rattle.lab_bound.specs.Text.{sharp_of, IsSharedText}
+use Rattle.part_tlb.specs.declared.bank.Sharing.{Sharing}
+use Rattle.part_tlb.specs.declared.bank.Sharing.TheVariants.{Partitioned, Shared}
+use Rattle.start_file.specs.Starts.{StartValue}
+use Rattle.level_counts.specs.Begun.{AreTold, memories_of}
+use Rattle.tool_stages.specs.declared.envs.Environment.{Environment}
+use Rattle.tool_stages.specs.Envs.{hardware_of}
+use Rattle.machine_stage.specs.Lines.{machine_head, no_bound_line}
 use Rattle.lab_leak.specs.Classes.{sizes_of}
 
 -- `sharp N`; N is told where it is below 2^128
@@ -37,10 +44,26 @@ abbrev pub class_lines : List Declaration → List (List Event × ℕ) → List 
 class_lines ds (c ∷ cs) (f ∷ fs) = class_line ds c.0 c.1 f ++ class_lines ds cs fs
 class_lines ds _ _ = []
 
--- The whole text, of an audit's report, what is told of the levels, and classes. The line of the count by shared time, if there
--- is one, stands below that of the sharp count.
-abbrev pub IsLeakText : LabelledProgram → Label → ℕ → AuditReport → List LevelRuns → Classes → List ℕ → Type 0
-IsLeakText q l t r levels k x =
-    (line : List ℕ) × IsSharedText q l.number t levels line
+-- On a machine with partitions: the first lines, of an audit's report and what is told of the levels. The line of the count by
+-- shared time, if there is one, stands below that of the sharp count.
+abbrev pub HasCounts : LabelledProgram → Label → ℕ → List StartValue → AuditReport → List ℕ → Type 0
+HasCounts q l t ss r x =
+    (levels : List LevelRuns) × AreTold q l.number (memories_of ss) levels
+    × (line : List ℕ) × IsSharedText q l.number t levels line × (x ≡ head_lines q.program.order l t r (fitting (sharp_of t levels)) ++ line)
+
+-- where all labels share the banks: that no bound is told
+abbrev pub shown_lines : Order → Label → ℕ → AuditReport → List ℕ
+shown_lines order l t r =
+    number_line (codes "runs ") r.runs ++ (label_line (codes "observer ") order l ++ (number_line (codes "budget ") t ++ no_bound_line))
+
+-- the first lines, by how the machine is shared
+abbrev pub TopBy : Sharing → LabelledProgram → Label → ℕ → List StartValue → AuditReport → List ℕ → Type 0
+TopBy Partitioned q l t ss r x = HasCounts q l t ss r x
+TopBy Shared q l t ss r x = x ≡ shown_lines q.program.order l t r
+
+-- The whole text, of an audit's report and classes. Of a machine that a file describes, how it is shared stands in front.
+abbrev pub IsLeakText : Environment → LabelledProgram → Label → ℕ → List StartValue → AuditReport → Classes → List ℕ → Type 0
+IsLeakText e q l t ss r k x =
+    (top : List ℕ) × TopBy (hardware_of e).sharing q l t ss r top
     × (numbers : List ℕ) × AreNumbers r.runs (sizes_of k) numbers
-    × (x ≡ (head_lines q.program.order l t r (fitting (sharp_of t levels)) ++ line) ++ (numbers ++ class_lines q.program.declarations k.seen k.firsts))
+    × (x ≡ (machine_head e ++ top) ++ (numbers ++ class_lines q.program.declarations k.seen k.firsts))

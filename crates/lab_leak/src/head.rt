@@ -1,11 +1,12 @@
 //! The lines before those of the classes.
 
 ghost use Rattle.std.specs.Prelude.{◌≡◌, ◌++◌, OnOk};
-ghost use Rattle.lab_leak.specs.Text.{sharp_line, head_lines};
+ghost use Rattle.lab_leak.specs.Text.{sharp_line, head_lines, shown_lines};
 
 use label_lattice::label::Label;
 use label_lattice::lattice::Lattice;
 use leak_audit::report::AuditReport;
+use machine_stage::lines::no_bound;
 use seen_line::cells::put_wide;
 use std::alloc::AllocError;
 use tim_base::line::Line;
@@ -51,5 +52,25 @@ pub(crate) fn put_head(
     put(text, &number(b"budget ", budget))?;
     put(text, &bound(report.measures.base, report.measures.exponent))?;
     put(text, &sharp(count))?;
+    Ok(())
+}
+
+/// Appends the number of the runs, the observer, the budget in cycles, and that no bound is told.
+///
+/// # Errors
+/// `AllocError` where memory runs out.
+pub(crate) fn put_shown(
+    text: &mut Vec<u8>,
+    order: &Lattice,
+    observer: Label,
+    budget: u64,
+    report: &AuditReport,
+) -> Result<(), AllocError>
+    ensures { OnOk result (text.new.items ≡ text.old.items ++ shown_lines order.now observer budget report.now) }
+{
+    put(text, &number(b"runs ", u64::from(report.runs)))?;
+    put(text, &label(b"observer ", order, observer))?;
+    put(text, &number(b"budget ", budget))?;
+    put(text, &no_bound())?;
     Ok(())
 }

@@ -5,6 +5,7 @@ ghost use Rattle.label_code.specs.Run.{run_from};
 ghost use Rattle.cycle_machine.specs.Rest.{told_by};
 ghost use Rattle.start_file.specs.Starts.{seen, IsFor};
 ghost use Rattle.leak_audit.specs.Agreement.{start_of};
+ghost use Rattle.tool_stages.specs.Envs.{hardware_of};
 ghost use Rattle.tool_stages.specs.Begins.{CanAudit};
 ghost use Rattle.lab_seen.specs.Seen.{line_text};
 ghost use Rattle.lab_leak.specs.Answer.{sequences_in};
@@ -23,9 +24,9 @@ use std::alloc::Global;
 use text_base::pos::Memory;
 use tim_base::line::Line;
 use tim_base::sink::write_all;
-use tool_stages::envs::NamedEnv;
+use tool_stages::envs::MachineMaker;
 use tool_stages::in_env;
-use tool_stages::laws::named_tell_as_histories;
+use tool_stages::laws::makers_tell_as_histories;
 use tool_stages::prepared::Prepared;
 use tool_stages::setting::Setting;
 
@@ -54,7 +55,8 @@ fn write_class<E: MachineEnv + Drop, M: MakeEnv<E>>(
     requires start { IsFor p.now.compiled.typed.labelled.program (seen start.now) }
     ensures { OnOk result (out.new.text.items ≡ out.old.text.items ++ ((codes "class " ++ (decimal size ++ codes " first "))
         ++ line_text p.now.compiled.typed.labelled p.now.observer first
-        (told_by (run_from E.env p.now.compiled.image.instrs budget (start_of M.made p.now.compiled.typed.labelled.program.order (seen start.now)))))) }
+        (told_by (run_from E.env p.now.compiled.image.instrs budget (start_of (M.made maker.now) p.now.compiled.typed.labelled.program.order
+        (seen start.now)))))) }
 {
     let labelled = p.compiled.typed.labelled();
     let mut machine = load(alloc, maker, labelled, &p.compiled.image, start)?;
@@ -70,8 +72,8 @@ fn write_class<E: MachineEnv + Drop, M: MakeEnv<E>>(
     }
 }
 
-// Writes the lines of all classes, in the environments of a maker, which have the name.
-fn write_in<E: MachineEnv + Drop, M: NamedEnv<E>>(
+// Writes the lines of all classes, in the environments of a maker.
+fn write_in<E: MachineEnv + Drop, M: MachineMaker<E>>(
     alloc: Global,
     maker: &M,
     p: &Prepared,
@@ -80,7 +82,7 @@ fn write_in<E: MachineEnv + Drop, M: NamedEnv<E>>(
     out: &mut Sheet,
 ) -> Result<(), Memory>
     requires fit { CanAudit p.now.compiled.typed.labelled p.now.observer p.now.compiled.image (map seen p.now.starts.items) }
-    requires named { setting.env ≡ M.name }
+    requires machine { hardware_of setting.env ≡ M.machine maker.now }
     requires are { AreSizes (classes_of_runs (sequences_in setting.env setting.budget p.now.compiled.typed.labelled p.now.observer.number
         (map seen p.now.starts.items))) found.now }
     ensures { OnOk result (out.new.text.items ≡ out.old.text.items ++ class_lines p.now.compiled.typed.labelled.program.declarations
@@ -88,7 +90,7 @@ fn write_in<E: MachineEnv + Drop, M: NamedEnv<E>>(
         (classes_of_runs (sequences_in setting.env setting.budget p.now.compiled.typed.labelled p.now.observer.number (map seen p.now.starts.items))).firsts) }
 {
     p.compiled.image.laws();
-    named_tell_as_histories::<E, M>();
+    makers_tell_as_histories::<E, M>();
     let (starts, sizes, firsts) = (
         p.starts.as_slice(),
         found.sizes.as_slice(),
@@ -101,7 +103,7 @@ fn write_in<E: MachineEnv + Drop, M: NamedEnv<E>>(
     Ok(())
 }
 
-// Writes them in the environment of a name.
+// Writes them in an environment.
 fn write_named(
     alloc: Global,
     p: &Prepared,
@@ -119,7 +121,7 @@ fn write_named(
     in_env!(setting.env, maker => write_in(alloc, maker, p, setting, found, out))
 }
 
-/// Appends the lines of all classes to a text: the first run of each is run once more, in the environment of a name.
+/// Appends the lines of all classes to a text: the first run of each is run once more, in an environment.
 ///
 /// # Errors
 /// `Memory` where memory runs out.

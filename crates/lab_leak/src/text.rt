@@ -10,12 +10,13 @@ ghost use Rattle.tool_texts.specs.declared.status.Status.TheVariants as status;
 ghost use Rattle.tool_stages.specs.Begins.{CanAudit};
 ghost use Rattle.tool_stages.specs.Accepted.{is_past_typing, IsAccepted};
 ghost use Rattle.tool_stages.specs.Fetches.{Fetches};
-ghost use Rattle.tool_stages.specs.Envs.{ReportsIn};
+ghost use Rattle.tool_stages.specs.Envs.{hardware_of, ReportsIn};
+ghost use Rattle.lab_bound.specs.Text.{TextPut};
 ghost use Rattle.lab_leak.specs.Answer.{HasLeak, Leaks, sequences_in};
 ghost use Rattle.lab_leak.specs.Classes.{classes_of_runs};
-ghost use Rattle.lab_leak.specs.Text.{IsLeakText};
+ghost use Rattle.lab_leak.specs.Text.{HasCounts, TopBy, IsLeakText};
 
-use crate::head::put_head;
+use crate::head::{put_head, put_shown};
 use crate::lines::with_classes;
 use crate::sizes::sizes;
 use audit_stage::audited::audited;
@@ -23,8 +24,11 @@ use lab_bound::shared::put_shared;
 use leak_audit::report::AuditReport;
 use leak_numbers::numbers::put_numbers;
 use level_counts::levels::level_counts;
+use machine_stage::lines as machine;
+use machine_stage::lines::sharing;
+use part_tlb::bank::Sharing;
 use run_watch::Watch;
-use sharp_count::count::{LevelRuns, Runs, sharp_count};
+use sharp_count::count::{Runs, sharp_count};
 use std::alloc::Global;
 use text_base::pos::Memory;
 use tim_base::shelf::Shelf;
@@ -32,33 +36,72 @@ use tool_stages::prepared::{Prepared, prepare};
 use tool_stages::setting::Setting;
 use tool_texts::stop::{Stop, no_memory};
 
-// The text of a prepared program of whose runs there is a report, and of whose levels this is told.
+// Appends the first lines on a machine with partitions.
+fn put_counts(
+    alloc: Global,
+    text: &mut Vec<u8>,
+    p: &Prepared,
+    setting: Setting,
+    report: &AuditReport,
+) -> Result<(), Memory>
+    requires fit { CanAudit p.now.compiled.typed.labelled p.now.observer p.now.compiled.image (map seen p.now.starts.items) }
+    requires cycles { IsCycles setting.budget }
+    requires reported { ReportsIn setting.env p.now.compiled.typed.labelled p.now.observer.number setting.budget (map seen p.now.starts.items) report.now }
+    ensures { OnOk result (TextPut (HasCounts p.now.compiled.typed.labelled p.now.observer setting.budget (map seen p.now.starts.items) report.now)
+        text.old.items text.new.items) }
+{
+    let (typed, starts) = (&p.compiled.typed, p.starts.as_slice());
+    let (observer, budget) = (p.observer, setting.budget);
+    let levels = level_counts(alloc, typed, starts, observer, budget + 1)?;
+    let order = typed.labelled().program().lattice();
+    let count = sharp_count(Runs::Halted, &levels, budget);
+    put_head(text, &order, observer, budget, report, count)?;
+    put_shared(alloc, text, typed, observer, budget, &levels)?;
+    Ok(())
+}
+
+// Appends the first lines.
+fn put_top(
+    alloc: Global,
+    text: &mut Vec<u8>,
+    p: &Prepared,
+    setting: Setting,
+    report: &AuditReport,
+) -> Result<(), Memory>
+    requires fit { CanAudit p.now.compiled.typed.labelled p.now.observer p.now.compiled.image (map seen p.now.starts.items) }
+    requires cycles { IsCycles setting.budget }
+    requires reported { ReportsIn setting.env p.now.compiled.typed.labelled p.now.observer.number setting.budget (map seen p.now.starts.items) report.now }
+    ensures { OnOk result (TextPut (TopBy (hardware_of setting.env).sharing p.now.compiled.typed.labelled p.now.observer setting.budget
+        (map seen p.now.starts.items) report.now) text.old.items text.new.items) }
+{
+    match sharing(setting.env) {
+        Sharing::Partitioned => put_counts(alloc, text, p, setting, report),
+        Sharing::Shared => {
+            let order = p.compiled.typed.labelled().program().lattice();
+            put_shown(text, &order, p.observer, setting.budget, report)?;
+            Ok(())
+        }
+    }
+}
+
+// The text of a prepared program of whose runs there is a report.
 fn told_text(
     alloc: Global,
     p: &Prepared,
     setting: Setting,
     report: &AuditReport,
-    levels: &[LevelRuns],
 ) -> Result<Vec<u8>, Memory>
     requires fit { CanAudit p.now.compiled.typed.labelled p.now.observer p.now.compiled.image (map seen p.now.starts.items) }
+    requires cycles { IsCycles setting.budget }
     requires reported { ReportsIn setting.env p.now.compiled.typed.labelled p.now.observer.number setting.budget (map seen p.now.starts.items) report.now }
-    ensures { IfOk result (λ v. IsLeakText p.now.compiled.typed.labelled p.now.observer setting.budget report.now levels.now
+    ensures { IfOk result (λ v. IsLeakText setting.env p.now.compiled.typed.labelled p.now.observer setting.budget (map seen p.now.starts.items) report.now
         (classes_of_runs (sequences_in setting.env setting.budget p.now.compiled.typed.labelled p.now.observer.number (map seen p.now.starts.items)))
         v.items) }
 {
-    let order = p.compiled.typed.labelled().program().lattice();
     let found = sizes(alloc, report.measures.classes.as_slice())?;
-    let count = sharp_count(Runs::Halted, levels, setting.budget);
     let mut text = Vec::new(alloc);
-    put_head(&mut text, &order, p.observer, setting.budget, report, count)?;
-    put_shared(
-        alloc,
-        &mut text,
-        &p.compiled.typed,
-        p.observer,
-        setting.budget,
-        levels,
-    )?;
+    machine::put_head(&mut text, setting.env)?;
+    put_top(alloc, &mut text, p, setting, report)?;
     let runs = u64::from(report.runs);
     put_numbers(&mut text, runs, found.sizes.as_slice())?;
     let whole = with_classes(alloc, p, setting, &found, text)?;
@@ -83,11 +126,7 @@ fn prepared_text<W: Watch>(
         Ok(report) => report,
         Err(stop) => return Err(stop),
     };
-    let (typed, starts) = (&p.compiled.typed, p.starts.as_slice());
-    let Ok(levels) = level_counts(alloc, typed, starts, p.observer, setting.budget + 1) else {
-        return Err(no_memory());
-    };
-    match told_text(alloc, p, setting, &report, &levels) {
+    match told_text(alloc, p, setting, &report) {
         Ok(text) => Ok(text),
         Err(_) => Err(no_memory()),
     }

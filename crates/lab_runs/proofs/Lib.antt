@@ -1,3 +1,3 @@
 pub mod TextLemmas
-pub mod BeginLemmas
 pub mod ShownLemmas
+pub mod EndLemmas

@@ -30,10 +30,9 @@ use Rattle.tool_stages.proofs.StartLemmas.{count_given}
 use Rattle.tool_stages.proofs.StopLemmas.{start_rise}
 use Rattle.lab_texts.specs.InLab.{InLab}
 use Rattle.lab_texts.proofs.LabLemmas.{one_in_lab}
-use Rattle.lab_runs.specs.Begins.{OfRuns}
 use Rattle.lab_runs.specs.CanRun.{CanRun}
-use Rattle.lab_runs.specs.Shown.{Shown, head_line, RunsAccepted, RunsRefused, Shows, ShowStops, ShowsOf, ShowsFrom, ShowsRuns, IsShown, HasShown, HasRuns}
-use Rattle.lab_runs.specs.Shown.{ProgramShowStops, FileShowStops, RunsStop, RunsAs, CanShow}
+use Rattle.lab_runs.specs.Shown.{OfRuns, Shown, head_line, RunsAccepted, RunsRefused, Shows, ShowStops, ShowsOf, ShowsFrom, ShowsRuns}
+use Rattle.lab_runs.specs.Shown.{IsShown, HasShown, HasRuns, ProgramShowStops, FileShowStops, RunsStop, RunsAs, CanShow}
 
 -- ---- a program
 

@@ -1,5 +1,4 @@
 pub mod Runs
-pub mod Begins
 pub mod CanRun
 pub mod Shown
 pub mod ShownViews

@@ -15,7 +15,10 @@ use Rattle.tool_stages.specs.Stages.{HasImage, ImageStops, StartsAre, StartStops
 use Rattle.tool_stages.specs.Content.{Content, IsKnown}
 use Rattle.tool_stages.specs.Begins.{NoMore}
 use Rattle.tool_stages.specs.Goes.{IsTypable}
-use Rattle.lab_runs.specs.Begins.{OfRuns}
+
+-- what is said of a text, by a program, the observer that is named, an image, and starts
+abbrev pub OfRuns : Type 1
+OfRuns = LabelledProgram → Option Label → Code → List StartValue → List ℕ → Type 0
 
 -- a labelled program, and what is told before its runs
 pub record Shown : Type 0 where

@@ -65,11 +65,11 @@ below : (p : Syntax) (q : LabelledProgram) (o : ℕ) → Types p q → o < p.ord
 below p q o types l = subst (λ (z : Syntax). o < z.order.size) (sym types.program) l
 
 pub fields_are_few : TypedAreSound → FieldsAreFew
-fields_are_few sound words p q spelled types e t some l low ss agree same tests =
+fields_are_few sound words p q spelled types e t own some l low ss agree same tests =
     fields_few (environment e q.program.order) history_made q l t AnyHistory (below p q l.number types low) some
-    (least_is_sound sound words p q spelled types e).cut ss agree same tests
+    (least_is_sound sound words p q spelled types e own).cut ss agree same tests
 
 pub fields_within_cut : TypedAreSound → FieldsAreWithinCut
-fields_within_cut sound words p q spelled types e t some l low ss r is same tests =
+fields_within_cut sound words p q spelled types e t own some l low ss r is same tests =
     within_cut (environment e q.program.order) history_made q l t AnyHistory (below p q l.number types low) some
-    (least_is_sound sound words p q spelled types e).cut ss r is same tests
+    (least_is_sound sound words p q spelled types e own).cut ss r is same tests

@@ -1,7 +1,7 @@
 -- `seen` has one answer.
 use Rattle.std.specs.Prelude.{◌≡◌, ℕ, List, Bool}
 use Rattle.tim_base.specs.Faults.{Rose}
-use Rattle.tool_words.specs.declared.words.EnvName.{EnvName}
+use Rattle.tool_stages.specs.declared.envs.Environment.{Environment}
 use Rattle.tool_texts.specs.declared.status.Status.{Status}
 use Rattle.tool_stages.specs.Content.{Content, IsKnown}
 use Rattle.lab_seen.specs.Seen.{IsSeen}
@@ -10,7 +10,8 @@ use Rattle.lab_seen.specs.Seen.{IsSeen}
 -- status and the same text.
 abbrev pub HasOneSeen : Type 0
 HasOneSeen =
-    (content : Content) (before now : List ℕ → ℕ) (file starts observer : List ℕ) (e : EnvName) (budget : ℕ) (refused : Bool) (s u : Status) (t x : List ℕ) →
+    (content : Content) (before now : List ℕ → ℕ) (file starts observer : List ℕ) (e : Environment) (budget : ℕ) (refused : Bool) (s u : Status)
+    (t x : List ℕ) →
     IsKnown (content file) → IsKnown (content starts) → (Rose (before file) (now file) → ⊥) → (Rose (before starts) (now starts) → ⊥) →
     IsSeen (λ name. Rose (before name) (now name)) content file starts observer e budget refused s t
     → IsSeen (λ name. Rose (before name) (now name)) content file starts observer e budget refused u x →

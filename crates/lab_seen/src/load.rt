@@ -28,7 +28,7 @@ pub fn load<'a, E: MachineEnv + Drop, M: MakeEnv<E>>(
     requires start { IsFor p.now.program (seen start.now) }
     ensures code { IfOk result (λ m. m.code ≡ image.now) }
     ensures runs { IfOk result (λ m. (t : ℕ) → rest_of E.env t m
-        ≡ told_by (run_from E.env image.now.instrs t (start_of M.made p.now.program.order (seen start.now)))) }
+        ≡ told_by (run_from E.env image.now.instrs t (start_of (M.made maker.now) p.now.program.order (seen start.now)))) }
 {
     let env = maker.make(alloc, image.lattice(), start.touches.as_slice())?;
     let memory = start.memory.clone()?;

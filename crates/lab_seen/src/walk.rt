@@ -8,6 +8,7 @@ ghost use Rattle.label_code.specs.Run.{run_from};
 ghost use Rattle.start_file.specs.Starts.{seen, IsFor};
 ghost use Rattle.cycle_machine.specs.Rest.{told_by};
 ghost use Rattle.leak_audit.specs.Agreement.{start_of};
+ghost use Rattle.tool_stages.specs.Envs.{hardware_of};
 ghost use Rattle.lab_runs.specs.CanRun.{CanRun};
 ghost use Rattle.lab_runs.specs.Runs.{texts, WritesSome};
 ghost use Rattle.lab_runs.specs.ShownViews.{shown_of};
@@ -23,9 +24,9 @@ use label_lattice::label::Label;
 use start_file::start::Start;
 use std::alloc::Global;
 use tim_base::sink::Sink;
-use tool_stages::envs::NamedEnv;
+use tool_stages::envs::MachineMaker;
 use tool_stages::in_env;
-use tool_stages::laws::named_tell_as_histories;
+use tool_stages::laws::makers_tell_as_histories;
 use tool_stages::setting::Setting;
 
 // The line of the run from a start, in the environment that a maker makes.
@@ -42,13 +43,13 @@ fn run_line<E: MachineEnv + Drop, M: MakeEnv<E>, W: Sink>(
     requires fit { CanRun (shown_of p.now.program.labels).labelled (Some observer) p.now.program.image (map seen p.now.starts.items) }
     requires start { IsFor (shown_of p.now.program.labels).labelled.program (seen start.now) }
     ensures text { OnOk result (Appends (W.taken out.old) (W.taken out.new) (line_text (shown_of p.now.program.labels).labelled observer number
-        (told_by (run_from E.env p.now.program.image.instrs budget
-        (start_of M.made (shown_of p.now.program.labels).labelled.program.order (seen start.now)))))) }
+        (told_by (run_from E.env p.now.program.image.instrs budget (start_of (M.made maker.now) (shown_of p.now.program.labels).labelled.program.order
+        (seen start.now)))))) }
     ensures memory { IsErrOf result RunFault.Memory → W.taken out.new ≡ W.taken out.old }
     ensures prefix { IsErrOf result RunFault.Sink → AppendsPrefix (W.taken out.old) (W.taken out.new)
         (line_text (shown_of p.now.program.labels).labelled observer number
-        (told_by (run_from E.env p.now.program.image.instrs budget
-        (start_of M.made (shown_of p.now.program.labels).labelled.program.order (seen start.now))))) }
+        (told_by (run_from E.env p.now.program.image.instrs budget (start_of (M.made maker.now) (shown_of p.now.program.labels).labelled.program.order
+        (seen start.now))))) }
     ensures fault { IsErrOf result RunFault.Sink → Rose (W.faults out.old) (W.faults out.new) }
     ensures later { W.faults out.old ≤ W.faults out.new }
 {
@@ -70,8 +71,8 @@ fn run_line<E: MachineEnv + Drop, M: MakeEnv<E>, W: Sink>(
     }
 }
 
-// The lines of all runs, in the environments of a maker, which have the name.
-fn run_lines<E: MachineEnv + Drop, M: NamedEnv<E>, W: Sink>(
+// The lines of all runs, in the environments of a maker.
+fn run_lines<E: MachineEnv + Drop, M: MachineMaker<E>, W: Sink>(
     alloc: Global,
     maker: &M,
     p: &ShownRuns,
@@ -80,7 +81,7 @@ fn run_lines<E: MachineEnv + Drop, M: NamedEnv<E>, W: Sink>(
     out: &mut W,
 ) -> Result<(), RunFault>
     requires fit { CanRun (shown_of p.now.program.labels).labelled (Some observer) p.now.program.image (map seen p.now.starts.items) }
-    requires named { setting.env ≡ M.name }
+    requires machine { hardware_of setting.env ≡ M.machine maker.now }
     ensures text { OnOk result (Appends (W.taken out.old) (W.taken out.new)
         (texts (line_in setting.env setting.budget (shown_of p.now.program.labels).labelled observer p.now.program.image) (map seen p.now.starts.items))) }
     ensures some { IsErrOf result RunFault.Memory → WritesSome (W.taken out.old) (W.taken out.new)
@@ -91,7 +92,7 @@ fn run_lines<E: MachineEnv + Drop, M: NamedEnv<E>, W: Sink>(
     ensures later { W.faults out.old ≤ W.faults out.new }
 {
     p.program.image.laws();
-    named_tell_as_histories::<E, M>();
+    makers_tell_as_histories::<E, M>();
     let starts = p.starts.as_slice();
     for (i, start) in starts.iter().enumerate() {
         match run_line(
@@ -111,7 +112,7 @@ fn run_lines<E: MachineEnv + Drop, M: NamedEnv<E>, W: Sink>(
     Ok(())
 }
 
-/// Writes the line of each run, in the environment of a name, one after the other. The memory of each run is taken
+/// Writes the line of each run, in an environment, one after the other. The memory of each run is taken
 /// when it begins.
 ///
 /// # Errors

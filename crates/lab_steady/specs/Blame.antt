@@ -11,6 +11,8 @@ use Rattle.steady_code.specs.declared.fault.Reason.TheVariants.{Felt, Guard, Ind
 use Rattle.timing_types.specs.Labelled.{LabelledProgram, order_of, labels_of}
 use Rattle.code_lower.specs.Lowered.{lowered}
 use Rattle.steady_code.specs.declared.fault.Fault.{Fault}
+use Rattle.steady_code.specs.declared.costing.Costing.{Costing}
+use Rattle.steady_code.specs.declared.costing.Costing.TheVariants.{Table, Only}
 use Rattle.steady_code.specs.Timed.{low_of}
 use Rattle.lab_steady.specs.Owner.{or_else}
 
@@ -88,12 +90,17 @@ abbrev pub is_compared : List Instr → ℕ → Bool
 is_compared image zero = false
 is_compared image (suc a) = compared_by (slice_get image a)
 
--- The side of a product that is to blame: the right one, unless all that it reads is seen or it is a comparison, which is
--- short; else the left one.
-abbrev pub hidden_side : (ℕ → Bool) → List Instr → ℕ → Option ℕ
-hidden_side low image a =
+-- whether what is made just before a place is short enough for a product, by the table: a comparison is
+abbrev pub is_short_enough : Costing → List Instr → ℕ → Bool
+is_short_enough Table image a = is_compared image a
+is_short_enough (Only c) image a = false
+
+-- The side of an operator that is to blame: the right one, unless all that it reads is seen or it is short enough; else
+-- the left one.
+abbrev pub hidden_side : Costing → (ℕ → Bool) → List Instr → ℕ → Option ℕ
+hidden_side costing low image a =
     let m = begin_of image 1 a in
-    or_else (cond (is_compared image a) None (hidden_in low image m a)) (hidden_in low image 0 m)
+    or_else (cond (is_short_enough costing image a) None (hidden_in low image m a)) (hidden_in low image 0 m)
 
 -- An index stands just before its instruction, or before the value that is assigned.
 abbrev pub index_end : List Instr → ℕ → Work → ℕ
@@ -113,23 +120,23 @@ index_end image a Nop = a
 index_end image a Halt = a
 
 -- the variable to blame for a fault of the instruction at a place
-abbrev pub blamed : (ℕ → Bool) → List Instr → ℕ → Work → Reason → Option ℕ
-blamed low image a w Felt = None
-blamed low image a w Guard = hidden_in low image 0 a
-blamed low image a w Index = hidden_in low image 0 (index_end image a w)
-blamed low image a w Assigned = hidden_in low image 0 a
-blamed low image a w Operand = hidden_side low image a
-blamed low image a w Wait = hidden_in low image 0 a
-blamed low image a w Estimate = hidden_in low image 0 a
-blamed low image a w Target = None
-blamed low image a w Seen = None
+abbrev pub blamed : Costing → (ℕ → Bool) → List Instr → ℕ → Work → Reason → Option ℕ
+blamed costing low image a w Felt = None
+blamed costing low image a w Guard = hidden_in low image 0 a
+blamed costing low image a w Index = hidden_in low image 0 (index_end image a w)
+blamed costing low image a w Assigned = hidden_in low image 0 a
+blamed costing low image a w Operand = hidden_side costing low image a
+blamed costing low image a w Wait = hidden_in low image 0 a
+blamed costing low image a w Estimate = hidden_in low image 0 a
+blamed costing low image a w Target = None
+blamed costing low image a w Seen = None
 
-abbrev pub blamed_by : (ℕ → Bool) → List Instr → ℕ → Reason → Option Instr → Option ℕ
-blamed_by low image a r None = None
-blamed_by low image a r (Some i) = blamed low image a i.work r
+abbrev pub blamed_by : Costing → (ℕ → Bool) → List Instr → ℕ → Reason → Option Instr → Option ℕ
+blamed_by costing low image a r None = None
+blamed_by costing low image a r (Some i) = blamed costing low image a i.work r
 
 -- for a fault of the image of a program, for an observer
-abbrev pub blamed_of : LabelledProgram → ℕ → Fault → Option ℕ
-blamed_of q o f =
+abbrev pub blamed_of : Costing → LabelledProgram → ℕ → Fault → Option ℕ
+blamed_of costing q o f =
     let image = (lowered q).instrs in
-    blamed_by (low_of (order_of q) (labels_of q) o) image f.place f.reason (slice_get image f.place)
+    blamed_by costing (low_of (order_of q) (labels_of q) o) image f.place f.reason (slice_get image f.place)

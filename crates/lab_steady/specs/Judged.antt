@@ -4,13 +4,14 @@ use Rattle.label_lattice.specs.Order.{Order, lattice_of}
 use Rattle.mit_syntax.specs.Program.{plan_of}
 use Rattle.timing_types.specs.Labelled.{LabelledProgram}
 use Rattle.steady_code.specs.declared.fault.Fault.{Fault}
+use Rattle.steady_code.specs.declared.costing.Costing.{Costing}
 use Rattle.steady_program.specs.Lowered.{IsEnd, IsSteady, IsFirstFault}
 use Rattle.lab_steady.specs.Owner.{owner, same_place}
 
--- No instruction of the image has a fault for an observer, and below a label of the environments, or this is the first
--- one that has; something is asked up to the last thing that is seen, or of the whole run.
-abbrev pub IsJudged : LabelledProgram → ℕ → ℕ → Bool → Option Fault → Type 0
-IsJudged q o h whole f = (end : ℕ) × IsEnd q o whole end × MatchOption f (IsSteady q o h end) (IsFirstFault q o h end)
+-- No instruction of the image has a fault, by the costs of operators that are asked about, for an observer and below a
+-- label of the environments, or this is the first one that has; something is asked up to the last thing that is seen, or of the whole run.
+abbrev pub IsJudged : Costing → LabelledProgram → ℕ → ℕ → Bool → Option Fault → Type 0
+IsJudged costing q o h whole f = (end : ℕ) × IsEnd q o whole end × MatchOption f (IsSteady costing q o h end) (IsFirstFault costing q o h end)
 
 -- the join of the labels below a number, and the label to which all flow
 abbrev pub join_below : Order → ℕ → ℕ

@@ -2,6 +2,7 @@ pub mod Owner
 pub mod Blame
 pub mod Judged
 pub mod Mend
+pub mod Constant
 pub mod Text
 pub mod Why
 pub mod Told

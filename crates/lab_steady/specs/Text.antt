@@ -1,5 +1,5 @@
 -- The text of an answer.
-use Rattle.std.specs.Prelude.{ℕ, zero, suc, ◌+◌, List, [], ◌++◌, Bool, true, false, cond, Option, Some, None, codes, decimal}
+use Rattle.std.specs.Prelude.{ℕ, zero, suc, ◌+◌, List, [], ◌++◌, Bool, true, false, cond, not, ◌||◌, Option, Some, None, codes, decimal}
 use Rattle.std.specs.Prelude.{slice_get}
 use Rattle.text_base.specs.declared.pos.Pos.{Pos}
 use Rattle.mit_syntax.specs.declared.token.Token.{Token}
@@ -9,6 +9,9 @@ use Rattle.timing_types.specs.Labelled.{LabelledProgram, order_of, labels_of}
 use Rattle.label_code.specs.declared.code.Instr.{Instr}
 use Rattle.code_lower.specs.Lowered.{lowered}
 use Rattle.steady_code.specs.declared.fault.Fault.{Fault}
+use Rattle.steady_code.specs.declared.costing.Constant.{Constant}
+use Rattle.steady_code.specs.declared.costing.Costing.{Costing}
+use Rattle.steady_code.specs.declared.costing.Costing.TheVariants.{Table, Only}
 use Rattle.steady_code.specs.declared.fault.Reason.{Reason}
 use Rattle.steady_code.specs.declared.fault.Reason.TheVariants.{Felt, Guard, Index, Assigned, Operand, Wait, Estimate, Target, Seen}
 use Rattle.steady_code.specs.Timed.{low_of}
@@ -28,19 +31,40 @@ abbrev pub end_line : Bool → List ℕ
 end_line true = codes "end asked\n"
 end_line false = codes "end not asked\n"
 
+-- a word where a test holds
+abbrev pub word_if : Bool → List ℕ → List ℕ
+word_if true t = t
+word_if false t = []
+
+-- no operator is named
+abbrev pub is_empty : Constant → Bool
+is_empty c = not (c.add || (c.subtract || (c.multiply || (c.divide || (c.remainder || c.compare)))))
+
+-- the line of the operators that are named, where costs other than the table's are asked about
+abbrev pub names_line : Constant → List ℕ
+names_line c =
+    codes "constant" ++ (word_if (is_empty c) (codes " none") ++ (word_if c.add (codes " add") ++ (word_if c.subtract (codes " subtract")
+    ++ (word_if c.multiply (codes " multiply") ++ (word_if c.divide (codes " divide") ++ (word_if c.remainder (codes " remainder")
+    ++ (word_if c.compare (codes " compare") ++ codes "\n")))))))
+
+abbrev pub costing_line : Costing → List ℕ
+costing_line Table = []
+costing_line (Only c) = names_line c
+
 -- what was asked
-abbrev pub told_of : Syntax → ℕ → ℕ → Bool → List ℕ
-told_of p o h whole =
-    codes "steady\nobserver " ++ (label_text p.order o ++ (codes "\nparts " ++ (label_text p.order h ++ (codes "\n" ++ end_line whole))))
+abbrev pub told_of : Costing → Syntax → ℕ → ℕ → Bool → List ℕ
+told_of costing p o h whole =
+    codes "steady\nobserver "
+    ++ (label_text p.order o ++ (codes "\nparts " ++ (label_text p.order h ++ (codes "\n" ++ (costing_line costing ++ end_line whole)))))
 
 -- how many variables the observer sees, of how many
 abbrev pub sees_text : ℕ → ℕ → List ℕ
 sees_text n m = codes "sees " ++ (decimal n ++ (codes " of " ++ (decimal m ++ codes " variables\n")))
 
-abbrev pub yes_text : LabelledProgram → ℕ → ℕ → Bool → List ℕ
-yes_text q o h whole =
+abbrev pub yes_text : Costing → LabelledProgram → ℕ → ℕ → Bool → List ℕ
+yes_text costing q o h whole =
     let m = variables q.program.declarations in
-    told_of q.program o h whole ++ sees_text (seen_below (low_of (order_of q) (labels_of q) o) m) m
+    told_of costing q.program o h whole ++ sees_text (seen_below (low_of (order_of q) (labels_of q) o) m) m
 
 -- ---- a no
 
@@ -102,8 +126,8 @@ instr_lines q o h lines v (Some i) r = reason_lines q o h lines v i r
 
 -- The reason and the place of a fault, the labels that do not flow, what is to blame, of which these lines tell, and a mend
 -- where one is known.
-abbrev pub no_text : LabelledProgram → ℕ → ℕ → List Token → List ℕ → Fault → List ℕ
-no_text q o h tokens lines f =
+abbrev pub no_text : Costing → LabelledProgram → ℕ → ℕ → List Token → List ℕ → Fault → List ℕ
+no_text costing q o h tokens lines f =
     let at = owner (plan_of q.program) 0 f.place in
     begin_text f.reason at
-    ++ (instr_lines q o h lines (blamed_of q o f) (slice_get (lowered q).instrs f.place) f.reason ++ mend_line (kind_there tokens at) f.reason)
+    ++ (instr_lines q o h lines (blamed_of costing q o f) (slice_get (lowered q).instrs f.place) f.reason ++ mend_line costing (kind_there tokens at) f.reason)

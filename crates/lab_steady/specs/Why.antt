@@ -3,6 +3,7 @@ use Rattle.std.specs.Prelude.{◌≡◌, ℕ, List, [], Option, MatchOption}
 use Rattle.mit_syntax.specs.declared.token.Token.{Token}
 use Rattle.timing_types.specs.Labelled.{LabelledProgram}
 use Rattle.steady_code.specs.declared.fault.Fault.{Fault}
+use Rattle.steady_code.specs.declared.costing.Costing.{Costing}
 use Rattle.flow_path.specs.declared.step.Spot.TheVariants.{Variable}
 use Rattle.flow_path.specs.Steps.{written}
 use Rattle.flow_print.specs.Lines.{variable_text}
@@ -21,6 +22,6 @@ abbrev pub TellsBlamed : List ℕ → List Token → LabelledProgram → Option 
 TellsBlamed text tokens q v t = MatchOption v (t ≡ []) (λ x. TellsVariable text tokens q x t)
 
 -- the text of a no, by the fault that is told
-abbrev pub TellsNo : List ℕ → List Token → LabelledProgram → ℕ → ℕ → Fault → List ℕ → Type 0
-TellsNo text tokens q o h f t =
-    (lines : List ℕ) × TellsBlamed text tokens q (blamed_of q o f) lines × (t ≡ no_text q o h tokens lines f)
+abbrev pub TellsNo : Costing → List ℕ → List Token → LabelledProgram → ℕ → ℕ → Fault → List ℕ → Type 0
+TellsNo costing text tokens q o h f t =
+    (lines : List ℕ) × TellsBlamed text tokens q (blamed_of costing q o f) lines × (t ≡ no_text costing q o h tokens lines f)

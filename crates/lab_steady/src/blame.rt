@@ -6,12 +6,13 @@ ghost use Rattle.label_code.specs.Shaped.{takes as operands_taken};
 ghost use Rattle.code_lower.specs.Lowered.{lowered};
 ghost use Rattle.steady_code.specs.Timed.{low_of};
 ghost use Rattle.lab_steady.specs.Blame.{begin_of, blamed as variable_blamed, blamed_of, hidden as hidden_variable, hidden_in, hidden_side, index_end};
-ghost use Rattle.lab_steady.specs.Blame.{is_comparison as makes_comparison, is_compared, compares as op_compares};
+ghost use Rattle.lab_steady.specs.Blame.{is_comparison as makes_comparison, is_compared, is_short_enough as short_enough, compares as op_compares};
 
 use label_code::code::Work;
 use label_code::image::Image;
 use label_lattice::label::Label;
 use mit_syntax::ast::Op;
+use steady_code::costing::Costing;
 use steady_code::fault::{Fault, Reason};
 use timing_types::labelled::Labelled;
 
@@ -122,13 +123,24 @@ fn compared(image: &Image, place: u32) -> bool
     is_comparison(image.at(place - 1).work)
 }
 
-/// The side of a product that is to blame.
-fn side(p: &Labelled, observer: Label, image: &Image, place: u32) -> Option<u32>
+/// Whether what is made just before a place is short enough for a product, by the table.
+fn is_short_enough(costing: Costing, image: &Image, place: u32) -> bool
     requires { place ≤ length image.now.instrs }
-    ensures { result ≡ hidden_side (low_of (order_of p.now) (labels_of p.now) observer.number) image.now.instrs place }
+    ensures { result ≡ short_enough costing image.now.instrs place }
+{
+    match costing {
+        Costing::Table => compared(image, place),
+        Costing::Only(_) => false,
+    }
+}
+
+/// The side of an operator that is to blame.
+fn side(p: &Labelled, observer: Label, costing: Costing, image: &Image, place: u32) -> Option<u32>
+    requires { place ≤ length image.now.instrs }
+    ensures { result ≡ hidden_side costing (low_of (order_of p.now) (labels_of p.now) observer.number) image.now.instrs place }
 {
     let middle = begin(image, place);
-    if compared(image, place) {
+    if is_short_enough(costing, image, place) {
         return last_hidden(p, observer, image, 0, middle);
     }
     let right = last_hidden(p, observer, image, middle, place);
@@ -154,30 +166,37 @@ fn after_index(image: &Image, place: u32, work: Work) -> u32
 fn blamed(
     p: &Labelled,
     observer: Label,
+    costing: Costing,
     image: &Image,
     place: u32,
     work: Work,
     reason: Reason,
 ) -> Option<u32>
     requires { place ≤ length image.now.instrs }
-    ensures { result ≡ variable_blamed (low_of (order_of p.now) (labels_of p.now) observer.number) image.now.instrs place work reason }
+    ensures { result ≡ variable_blamed costing (low_of (order_of p.now) (labels_of p.now) observer.number) image.now.instrs place work reason }
 {
     match reason {
         Reason::Guard | Reason::Assigned | Reason::Wait | Reason::Estimate => {
             last_hidden(p, observer, image, 0, place)
         }
         Reason::Index => last_hidden(p, observer, image, 0, after_index(image, place, work)),
-        Reason::Operand => side(p, observer, image, place),
+        Reason::Operand => side(p, observer, costing, image, place),
         Reason::Felt | Reason::Target | Reason::Seen => None,
     }
 }
 
 /// The variable to blame for a fault of the image of a program.
-pub(crate) fn blamed_for(p: &Labelled, observer: Label, image: &Image, fault: Fault) -> Option<u32>
+pub(crate) fn blamed_for(
+    p: &Labelled,
+    observer: Label,
+    costing: Costing,
+    image: &Image,
+    fault: Fault,
+) -> Option<u32>
     requires image { image.now ≡ lowered p.now }
     requires place { fault.place < length image.now.instrs }
-    ensures { result ≡ blamed_of p.now observer.number fault }
+    ensures { result ≡ blamed_of costing p.now observer.number fault }
 {
     let work = image.at(fault.place).work;
-    blamed(p, observer, image, fault.place, work, fault.reason)
+    blamed(p, observer, costing, image, fault.place, work, fault.reason)
 }

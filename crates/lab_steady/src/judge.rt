@@ -16,6 +16,7 @@ use label_lattice::label::Label;
 use label_lattice::lattice::Lattice;
 use mit_syntax::tokens::tokens;
 use std::alloc::Global;
+use steady_code::costing::Costing;
 use steady_code::fault::Fault;
 use steady_program::steady::steady;
 use timing_types::labelled::Labelled;
@@ -66,6 +67,7 @@ fn refused(
     image: &Image,
     observer: Label,
     parts: Label,
+    costing: Costing,
     whole: bool,
     text: &[u8],
     first: Fault,
@@ -73,12 +75,12 @@ fn refused(
     requires least { IsLeast p.now.program p.now.labels }
     requires size { length text.now < 2 ^ 31 }
     requires image { image.now ≡ lowered p.now }
-    requires first { IsJudged p.now observer.number parts.number whole (Some first) }
-    ensures ok { IfOk result (λ v. IsNo text.now p.now observer.number parts.number whole v.items) }
+    requires first { IsJudged costing p.now observer.number parts.number whole (Some first) }
+    ensures ok { IfOk result (λ v. IsNo costing text.now p.now observer.number parts.number whole v.items) }
     ensures fault { IfErr result (IsLowerFault p.now) }
 {
     let top = top(&p.program().lattice());
-    let plain = steady(alloc, p, observer, top, whole)?;
+    let plain = steady(alloc, p, observer, top, costing, whole)?;
     let fault = told(p, first, plain.fault);
     // The text spells the program, so it has tokens.
     let Ok(tokens) = tokens(alloc, text) else {
@@ -90,6 +92,7 @@ fn refused(
         image,
         observer,
         parts,
+        costing,
         text,
         tokens.as_slice(),
         fault,
@@ -108,24 +111,26 @@ pub(crate) fn judge(
     p: &Labelled,
     observer: Label,
     parts: Label,
+    costing: Costing,
     whole: bool,
     text: &[u8],
 ) -> Result<Verdict, LowerFault>
     requires least { IsLeast p.now.program p.now.labels }
     requires size { length text.now < 2 ^ 31 }
-    ensures ok { IfOk result (λ a. IsAnswered text.now p.now observer.number parts.number whole (status_told a) (text_told a)) }
+    ensures ok { IfOk result (λ a. IsAnswered costing text.now p.now observer.number parts.number whole (status_told a) (text_told a)) }
     ensures short { IfOk result (λ a. length (lowered p.now).instrs ≤ 200000) }
     ensures fault { IfErr result (IsLowerFault p.now) }
 {
-    let answer = steady(alloc, p, observer, parts, whole)?;
+    let answer = steady(alloc, p, observer, parts, costing, whole)?;
     match answer.fault {
-        None => Ok(Verdict::Steady(yes_text(alloc, p, observer, parts, whole)?)),
+        None => Ok(Verdict::Steady(yes_text(alloc, p, observer, parts, costing, whole)?)),
         Some(first) => Ok(Verdict::Unsteady(refused(
             alloc,
             p,
             &answer.image,
             observer,
             parts,
+            costing,
             whole,
             text,
             first,

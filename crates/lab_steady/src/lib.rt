@@ -3,6 +3,7 @@
 #![tactic(auto)]
 
 mod blame;
+mod constant;
 mod judge;
 pub mod laws;
 mod mend;

@@ -17,6 +17,7 @@ use label_code::image::Image;
 use label_lattice::label::Label;
 use mit_syntax::token::Token;
 use std::alloc::{AllocError, Global};
+use steady_code::costing::Costing;
 use steady_code::fault::{Fault, Reason};
 use text_base::pos::Memory;
 use timing_types::labelled::Labelled;
@@ -95,6 +96,7 @@ fn no_lines(
     image: &Image,
     observer: Label,
     parts: Label,
+    costing: Costing,
     tokens: &[Token],
     lines: &[u8],
     variable: Option<u32>,
@@ -102,8 +104,8 @@ fn no_lines(
 ) -> Result<Vec<u8>, AllocError>
     requires image { image.now ≡ lowered p.now }
     requires place { fault.place < length image.now.instrs }
-    requires variable { variable ≡ blamed_of p.now observer.number fault }
-    ensures { IfOk result (λ v. v.items ≡ text_of_no p.now observer.number parts.number tokens.now lines.now fault) }
+    requires variable { variable ≡ blamed_of costing p.now observer.number fault }
+    ensures { IfOk result (λ v. v.items ≡ text_of_no costing p.now observer.number parts.number tokens.now lines.now fault) }
 {
     let mut out = Vec::new(alloc);
     let at = owner_of(p.program(), fault.place);
@@ -119,7 +121,7 @@ fn no_lines(
         instr,
         fault.reason,
     )?;
-    out.extend_from_slice(mend_line(kind_there(tokens, at), fault.reason))?;
+    out.extend_from_slice(mend_line(costing, kind_there(tokens, at), fault.reason))?;
     Ok(out)
 }
 
@@ -133,6 +135,7 @@ pub(crate) fn no_text(
     image: &Image,
     observer: Label,
     parts: Label,
+    costing: Costing,
     text: &[u8],
     tokens: &[Token],
     fault: Fault,
@@ -140,9 +143,9 @@ pub(crate) fn no_text(
     requires least { IsLeast p.now.program p.now.labels }
     requires image { image.now ≡ lowered p.now }
     requires place { fault.place < length image.now.instrs }
-    ensures { IfOk result (λ v. TellsNo text.now tokens.now p.now observer.number parts.number fault v.items) }
+    ensures { IfOk result (λ v. TellsNo costing text.now tokens.now p.now observer.number parts.number fault v.items) }
 {
-    let variable = blamed_for(p, observer, image, fault);
+    let variable = blamed_for(p, observer, costing, image, fault);
     let lines = blamed_lines(alloc, p, text, tokens, variable)?;
     Ok(no_lines(
         alloc,
@@ -150,6 +153,7 @@ pub(crate) fn no_text(
         image,
         observer,
         parts,
+        costing,
         tokens,
         lines.as_slice(),
         variable,

@@ -7,11 +7,11 @@ use Rattle.tool_texts.specs.declared.status.Status.TheVariants as status
 unfoldable pub lab_usage_text : List ℕ
 lab_usage_text =
     codes "usage: lab why FILE [--of NAME]\n"
-    ++ (codes "       lab seen FILE STARTS --observer L [--env flat|part|part2] [--budget T] [--refused]\n"
-    ++ (codes "       lab timeline FILE STARTS [--env flat|part|part2] [--budget T] [--observer L]\n"
-    ++ (codes "       lab bound FILE STARTS --observer L [--env flat|part|part2] [--budget T]\n"
-    ++ (codes "       lab steady FILE --observer L [--parts P] [--whole]\n"
-    ++ (codes "       lab leak FILE STARTS --observer L [--env flat|part|part2] [--budget T]\n"
+    ++ (codes "       lab seen FILE STARTS --observer L [--env flat|part|part2] [--machine M] [--budget T] [--refused]\n"
+    ++ (codes "       lab timeline FILE STARTS [--env flat|part|part2] [--machine M] [--budget T] [--observer L] [--refused]\n"
+    ++ (codes "       lab bound FILE STARTS --observer L [--env flat|part|part2] [--machine M] [--budget T]\n"
+    ++ (codes "       lab steady FILE --observer L [--parts P] [--constant NAMES] [--whole]\n"
+    ++ (codes "       lab leak FILE STARTS --observer L [--env flat|part|part2] [--machine M] [--budget T]\n"
     ++ (codes "       lab help [COMMAND]\n"
     ++ codes "       lab version\n"))))))
 

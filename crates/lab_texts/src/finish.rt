@@ -17,11 +17,11 @@ pub fn usage() -> &'static [u8]
     ensures { result.now ≡ lab_usage_text }
 {
     b"usage: lab why FILE [--of NAME]
-       lab seen FILE STARTS --observer L [--env flat|part|part2] [--budget T] [--refused]
-       lab timeline FILE STARTS [--env flat|part|part2] [--budget T] [--observer L]
-       lab bound FILE STARTS --observer L [--env flat|part|part2] [--budget T]
-       lab steady FILE --observer L [--parts P] [--whole]
-       lab leak FILE STARTS --observer L [--env flat|part|part2] [--budget T]
+       lab seen FILE STARTS --observer L [--env flat|part|part2] [--machine M] [--budget T] [--refused]
+       lab timeline FILE STARTS [--env flat|part|part2] [--machine M] [--budget T] [--observer L] [--refused]
+       lab bound FILE STARTS --observer L [--env flat|part|part2] [--machine M] [--budget T]
+       lab steady FILE --observer L [--parts P] [--constant NAMES] [--whole]
+       lab leak FILE STARTS --observer L [--env flat|part|part2] [--machine M] [--budget T]
        lab help [COMMAND]
        lab version
 "

@@ -1,6 +1,5 @@
 pub mod Alike
 pub mod Named
 pub mod Walking
-pub mod BeginLemmas
 pub mod EndLemmas
 pub mod OneTimeline

@@ -26,7 +26,7 @@ use Rattle.run_timeline.specs.Text.{run_text, timeline_text}
 use Rattle.run_timeline.specs.Summary.{AreTallies, summary_text}
 use Rattle.run_timeline.specs.Places.{places}
 use Rattle.run_timeline.specs.Tallied.{no_tally, HaveRoom, Grown}
-use Rattle.tool_words.specs.declared.words.EnvName.{EnvName}
+use Rattle.tool_stages.specs.declared.envs.Environment.{Environment}
 use Rattle.tool_texts.proofs.EndLemmas.{prefix_after, prefix_longer}
 use Rattle.lab_runs.specs.Runs.{texts}
 use Rattle.lab_runs.proofs.TextLemmas.{take_one, take_end, texts_last}
@@ -103,7 +103,7 @@ module _ {E : Type 0} (v : Env E) (code : Code) (t : ℕ) where
 
 -- ---- all runs
 
-module _ (e : EnvName) (t : ℕ) (q : LabelledProgram) (o : Option Label) (code : Code) (ss : List StartValue) where
+module _ (e : Environment) (t : ℕ) (q : LabelledProgram) (o : Option Label) (code : Code) (ss : List StartValue) where
   -- the lines of the first i runs are written, and their mitigations are in the tallies
   pub record Walking (i : ℕ) (old now : Option (List ℕ)) (tallies : List Tally) : Type 0 where
     pub runs : List Timed

@@ -14,7 +14,7 @@ use Rattle.run_timeline.specs.declared.tally.Tally.{Tally}
 use Rattle.run_timeline.specs.Timeline.{IsTimeline}
 use Rattle.run_timeline.specs.Printed.{end_of_run}
 use Rattle.run_timeline.specs.Summary.{AreTallies}
-use Rattle.tool_words.specs.declared.words.EnvName.{EnvName}
+use Rattle.tool_stages.specs.declared.envs.Environment.{Environment}
 use Rattle.lab_runs.specs.Runs.{texts}
 use Rattle.lab_timeline.specs.Timed.{Timed, IsTimed, run_lines, all_moments, AreRuns, AreTimelines}
 
@@ -38,7 +38,7 @@ pub record BreaksRun {E : Type 0} (v : Env E) (code : Code) (t : ℕ) (s : Start
   pub written : AppendsPrefix taken taken' (run_lines q o number (timed_by v code t s moments))
 
 -- the lines of the runs from starts were written, and their mitigations are in the tallies
-pub record WritesRuns (e : EnvName) (t : ℕ) (q : LabelledProgram) (o : Option Label) (code : Code) (ss : List StartValue) (old new : Option (List ℕ))
+pub record WritesRuns (e : Environment) (t : ℕ) (q : LabelledProgram) (o : Option Label) (code : Code) (ss : List StartValue) (old new : Option (List ℕ))
     (tallies : List Tally) : Type 0 where
   pub runs : List Timed
   pub timed : AllZip (IsTimed e t q.program.order code) ss runs
@@ -46,7 +46,7 @@ pub record WritesRuns (e : EnvName) (t : ℕ) (q : LabelledProgram) (o : Option 
   pub tallied : AreTallies (all_moments runs) tallies
 
 -- those of the first few
-pub record WritesFew (e : EnvName) (t : ℕ) (q : LabelledProgram) (o : Option Label) (code : Code) (ss : List StartValue) (old new : Option
+pub record WritesFew (e : Environment) (t : ℕ) (q : LabelledProgram) (o : Option Label) (code : Code) (ss : List StartValue) (old new : Option
     (List ℕ)) : Type 0 where
   pub count : ℕ
   pub text : List ℕ
@@ -54,7 +54,7 @@ pub record WritesFew (e : EnvName) (t : ℕ) (q : LabelledProgram) (o : Option L
   pub written : Appends old new text
 
 -- a prefix of those
-pub record BreaksFew (e : EnvName) (t : ℕ) (q : LabelledProgram) (o : Option Label) (code : Code) (ss : List StartValue) (old new : Option
+pub record BreaksFew (e : Environment) (t : ℕ) (q : LabelledProgram) (o : Option Label) (code : Code) (ss : List StartValue) (old new : Option
     (List ℕ)) : Type 0 where
   pub count : ℕ
   pub text : List ℕ
@@ -62,14 +62,14 @@ pub record BreaksFew (e : EnvName) (t : ℕ) (q : LabelledProgram) (o : Option L
   pub written : AppendsPrefix old new text
 
 -- all lines and those of the mitigates were written
-pub record WritesAll (e : EnvName) (t : ℕ) (q : LabelledProgram) (o : Option Label) (code : Code) (ss : List StartValue) (old new : Option
+pub record WritesAll (e : Environment) (t : ℕ) (q : LabelledProgram) (o : Option Label) (code : Code) (ss : List StartValue) (old new : Option
     (List ℕ)) : Type 0 where
   pub text : List ℕ
   pub timelines : AreTimelines e t q o code ss text
   pub written : Appends old new text
 
 -- a prefix of them was
-pub record BreaksAll (e : EnvName) (t : ℕ) (q : LabelledProgram) (o : Option Label) (code : Code) (ss : List StartValue) (old new : Option
+pub record BreaksAll (e : Environment) (t : ℕ) (q : LabelledProgram) (o : Option Label) (code : Code) (ss : List StartValue) (old new : Option
     (List ℕ)) : Type 0 where
   pub text : List ℕ
   pub timelines : AreTimelines e t q o code ss text

@@ -4,23 +4,25 @@ use Rattle.std.specs.Bool.{⊤}
 use Rattle.tool_texts.specs.declared.status.Status.{Status}
 use Rattle.tool_texts.specs.declared.status.Status.TheVariants as status
 use Rattle.tool_texts.specs.Ends.{EndsBy}
-use Rattle.tool_stages.specs.Content.{Content, NoneRises}
+use Rattle.tool_stages.specs.declared.envs.Environment.{Environment}
+use Rattle.tool_stages.specs.Content.{Content, IsKnown, AreKnown, NoneRises}
 use Rattle.tool_stages.proofs.ChainLemmas.{first_file, second_file}
 use Rattle.lab_bound.specs.Complete.{CanBound}
 use Rattle.lab_bound.proofs.Answering.{completes as bound_completes}
 use Rattle.lab_leak.specs.Complete.{CanLeak}
 use Rattle.lab_leak.proofs.Answering.{completes as leak_completes}
-use Rattle.lab_runs.specs.Begins.{CanBegin}
 use Rattle.lab_runs.specs.Shown.{CanShow}
-use Rattle.lab_runs.proofs.BeginLemmas.{begin_completes}
 use Rattle.lab_runs.proofs.ShownLemmas.{show_completes}
 use Rattle.lab_seen.specs.Seen.{AreLines, SeenBefore}
 use Rattle.lab_steady.specs.Answer.{parts_or}
 use Rattle.lab_steady.proofs.OneAnswer.{steady_ends}
 use Rattle.lab_timeline.specs.Timed.{AreTimelines, TimelinesBefore}
 use Rattle.lab_words.specs.QuestionAsked.{Asked, why, seen, timeline, bound, steady, leak, help, version}
-use Rattle.lab_tool.specs.Answers.{Before, IsAnswer}
-use Rattle.lab_tool.specs.Complete.{CanEnd, IsDoneIf, Names, files_of}
+use Rattle.lab_tool.specs.Answers.{Before, BeforeIn, IsAnswer, IsAnswerIn}
+use Rattle.lab_tool.specs.Complete.{CanEnd, GoesIn, IsDoneIf, Names, files_of, own_files}
+use Rattle.lab_tool.specs.Machines.{machine_in}
+use Rattle.lab_tool.proofs.AskedLemmas.{nothing_before_in}
+use Rattle.lab_tool.proofs.OnMachine.{ends_on, split_files}
 use Rattle.lab_tool.proofs.WhyLemmas.{origin_ends, why_ends}
 
 -- a call whose answer has one status, and whose writes do not fail
@@ -56,48 +58,60 @@ done_if Can r status.Unfinished h f = absurd h
 done_if Can r status.Memory h f = absurd h
 done_if Can r status.Rejected h f = absurd h
 
-pub completes : (old new : Option (List ℕ)) (Rises : List ℕ → Type 0) (content : Content) (a : Asked) (r : Status) (Rose : Type 0)
-    → EndsBy old new (Before content a) (IsAnswer Rises content a) r → (r ≡ status.WriteFault → Rose)
-    → (e : Status) → CanEnd content a e → NoneRises Rises (files_of a) → (Rose → ⊥) → (r ≡ e) ⊎ (r ≡ status.Memory)
-completes old new Rises content (why file None) r Rose ends write e can none n =
-    let k = first_file Rises content file [] none can.known in
-    ends_as old new (Before content (why file None)) (IsAnswer Rises content (why file None)) r e ends (λ f. n (write f))
-    (λ t h. why_ends Rises content file r e t k.0 k.1 can.goes h)
-completes old new Rises content (why file (Some name)) r Rose ends write e can none n =
-    let k = first_file Rises content file [] none can.known in
-    done_if (Names (content file) name) r e can.goes (λ goes.
-    ends_as old new (Before content (why file (Some name))) (IsAnswer Rises content (why file (Some name))) r status.Done ends (λ f. n (write f))
+completes_in : (env : Environment) (old new : Option (List ℕ)) (Rises : List ℕ → Type 0) (content : Content) (a : Asked) (r : Status) (Rose : Type 0)
+    → EndsBy old new (BeforeIn env content a) (IsAnswerIn env Rises content a) r → (r ≡ status.WriteFault → Rose)
+    → (e : Status) → AreKnown content (own_files a) → GoesIn env content a e → NoneRises Rises (own_files a) → (Rose → ⊥) → (r ≡ e) ⊎ (r ≡ status.Memory)
+completes_in env old new Rises content (why file None) r Rose ends write e known can none n =
+    let k = first_file Rises content file [] none known in
+    ends_as old new (BeforeIn env content (why file None)) (IsAnswerIn env Rises content (why file None)) r e ends (λ f. n (write f))
+    (λ t h. why_ends Rises content file r e t k.0 k.1 can h)
+completes_in env old new Rises content (why file (Some name)) r Rose ends write e known can none n =
+    let k = first_file Rises content file [] none known in
+    done_if (Names (content file) name) r e can (λ goes.
+    ends_as old new (BeforeIn env content (why file (Some name))) (IsAnswerIn env Rises content (why file (Some name))) r status.Done ends (λ f. n (write f))
     (λ t h. origin_ends Rises content file name r t k.0 k.1 goes h))
-completes old new Rises content (seen file starts observer env budget refused) r Rose ends write e can none n =
-    let k = first_file Rises content file (starts ∷ []) none can.known in
-    let m = second_file Rises content file starts [] none can.known in
-    done_if (CanShow refused content file starts (Some observer)) r e can.goes (λ goes.
+completes_in env old new Rises content (seen file starts observer machine budget refused) r Rose ends write e known can none n =
+    let k = first_file Rises content file (starts ∷ []) none known in
+    let m = second_file Rises content file starts [] none known in
+    done_if (CanShow refused content file starts (Some observer)) r e can (λ goes.
     show_completes refused Rises content file starts (Some observer) (AreLines env budget) old new
     (SeenBefore content file starts observer env budget refused) r
     Rose ends write goes k.0 m.0 n)
-completes old new Rises content (timeline file starts observer env budget) r Rose ends write e can none n =
-    let k = first_file Rises content file (starts ∷ []) none can.known in
-    let m = second_file Rises content file starts [] none can.known in
-    done_if (CanBegin content file starts observer) r e can.goes (λ goes.
-    begin_completes Rises content file starts observer (AreTimelines env budget) old new (TimelinesBefore content file starts observer env budget) r
+completes_in env old new Rises content (timeline file starts observer machine budget refused) r Rose ends write e known can none n =
+    let k = first_file Rises content file (starts ∷ []) none known in
+    let m = second_file Rises content file starts [] none known in
+    done_if (CanShow refused content file starts observer) r e can (λ goes.
+    show_completes refused Rises content file starts observer (AreTimelines env budget) old new
+    (TimelinesBefore content file starts observer env budget refused) r
     Rose ends write goes k.0 m.0 n)
-completes old new Rises content (bound file starts observer env budget) r Rose ends write e can none n =
-    let k = first_file Rises content file (starts ∷ []) none can.known in
-    let m = second_file Rises content file starts [] none can.known in
-    done_if (CanBound content file starts observer env budget) r e can.goes (λ goes.
+completes_in env old new Rises content (bound file starts observer machine budget) r Rose ends write e known can none n =
+    let k = first_file Rises content file (starts ∷ []) none known in
+    let m = second_file Rises content file starts [] none known in
+    done_if (CanBound content file starts observer env budget) r e can (λ goes.
     bound_completes old new Rises content file starts observer env budget r Rose ends write goes k.0 m.0 n)
-completes old new Rises content (steady file observer parts whole) r Rose ends write e can none n =
-    let k = first_file Rises content file [] none can.known in
-    ends_as old new (Before content (steady file observer parts whole)) (IsAnswer Rises content (steady file observer parts whole)) r e ends
-    (λ f. n (write f)) (λ t h. steady_ends Rises content file observer (parts_or parts observer) whole r e t k.0 k.1 can.goes h)
-completes old new Rises content (leak file starts observer env budget) r Rose ends write e can none n =
-    let k = first_file Rises content file (starts ∷ []) none can.known in
-    let m = second_file Rises content file starts [] none can.known in
-    done_if (CanLeak content file starts observer env budget) r e can.goes (λ goes.
+completes_in env old new Rises content (steady file observer parts constant whole) r Rose ends write e known can none n =
+    let k = first_file Rises content file [] none known in
+    ends_as old new (BeforeIn env content (steady file observer parts constant whole))
+    (IsAnswerIn env Rises content (steady file observer parts constant whole)) r e
+    ends (λ f. n (write f)) (λ t h. steady_ends constant Rises content file observer (parts_or parts observer) whole r e t k.0 k.1 can h)
+completes_in env old new Rises content (leak file starts observer machine budget) r Rose ends write e known can none n =
+    let k = first_file Rises content file (starts ∷ []) none known in
+    let m = second_file Rises content file starts [] none known in
+    done_if (CanLeak content file starts observer env budget) r e can (λ goes.
     leak_completes old new Rises content file starts observer env budget r Rose ends write goes k.0 m.0 n)
-completes old new Rises content (help command) r Rose ends write e can none n =
-    done_if ⊤ r e can.goes (λ goes.
-    ends_as old new (Before content (help command)) (IsAnswer Rises content (help command)) r status.Done ends (λ f. n (write f)) (λ t h. h.0))
-completes old new Rises content version r Rose ends write e can none n =
-    done_if ⊤ r e can.goes (λ goes.
-    ends_as old new (Before content version) (IsAnswer Rises content version) r status.Done ends (λ f. n (write f)) (λ t h. h.0))
+completes_in env old new Rises content (help command) r Rose ends write e known can none n =
+    done_if ⊤ r e can (λ goes.
+    ends_as old new (BeforeIn env content (help command)) (IsAnswerIn env Rises content (help command)) r status.Done ends (λ f. n (write f)) (λ t h. h.0))
+completes_in env old new Rises content version r Rose ends write e known can none n =
+    done_if ⊤ r e can (λ goes.
+    ends_as old new (BeforeIn env content version) (IsAnswerIn env Rises content version) r status.Done ends (λ f. n (write f)) (λ t h. h.0))
+
+pub completes : (old new : Option (List ℕ)) (Rises : List ℕ → Type 0) (content : Content) (a : Asked) (r : Status) (Rose : Type 0)
+    → EndsBy old new (Before content a) (IsAnswer Rises content a) r → (r ≡ status.WriteFault → Rose)
+    → (e : Status) → CanEnd content a e → NoneRises Rises (files_of a) → (Rose → ⊥) → (r ≡ e) ⊎ (r ≡ status.Memory)
+completes old new Rises content a r Rose ends write e can none n =
+    let told = split_files (λ name. IsKnown (content name)) (machine_in a) (own_files a) can.known in
+    let kept = split_files (λ name. Rises name → ⊥) (machine_in a) (own_files a) none in
+    ends_on old new Rises content (machine_in a) (λ env. BeforeIn env content a) (λ env. IsAnswerIn env Rises content a) (λ env. GoesIn env content a e) r
+    ((r ≡ e) ⊎ (r ≡ status.Memory)) told.0 kept.0 (λ env. nothing_before_in env content a)
+    (λ env goes h. completes_in env old new Rises content a r Rose h write e told.1 goes kept.1 n) can.goes ends

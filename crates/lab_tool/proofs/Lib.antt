@@ -1,3 +1,7 @@
+pub mod OneMachine
+pub mod OnMachine
+pub mod RiseLemmas
+pub mod MachineEnds
 pub mod AskedLemmas
 pub mod WhyLemmas
 pub mod EndsLemmas

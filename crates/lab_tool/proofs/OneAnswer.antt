@@ -6,6 +6,7 @@ use Rattle.mit_syntax.specs.Program.{Syntax}
 use Rattle.flow_path.specs.declared.step.Spot.{Spot}
 use Rattle.tool_texts.specs.declared.status.Status.{Status}
 use Rattle.tool_texts.specs.declared.status.Status.TheVariants.{Done}
+use Rattle.tool_stages.specs.declared.envs.Environment.{Environment}
 use Rattle.tool_stages.specs.Accepted.{HasChecked}
 use Rattle.tool_stages.specs.Stages.{Then, Reads, ProgramStops, Types}
 use Rattle.tool_stages.specs.Content.{Content, IsKnown, AreKnown, NoneRises}
@@ -26,8 +27,10 @@ use Rattle.lab_why.specs.Answers.{ReasonStops}
 use Rattle.lab_why.specs.Names.{named}
 use Rattle.lab_why.specs.Reasons.{HasReason}
 use Rattle.lab_why.specs.Origins.{HasOrigins, NameStops}
-use Rattle.lab_tool.specs.Answers.{IsAnswer}
-use Rattle.lab_tool.specs.Complete.{files_of}
+use Rattle.lab_tool.specs.Answers.{IsAnswer, IsAnswerIn}
+use Rattle.lab_tool.specs.Complete.{files_of, own_files}
+use Rattle.lab_tool.specs.Machines.{machine_in}
+use Rattle.lab_tool.proofs.OnMachine.{one_on, split_files}
 use Rattle.lab_tool.proofs.WhyLemmas.{is_typable, name_stops, reason_stops}
 
 reason_one : (c : Option (Option (List ℕ))) (p : Syntax) (s u : Status) (t x : List ℕ)
@@ -59,51 +62,62 @@ origin_one c p w s u t x same (inr h) (inr k) =
     let spot : k.0 ≡ h.0 = same_Some k.0 h.0 (sym k.1 ∙ h.1) in
     (h.2.0 ∙ sym k.2.0, same h.0 h.2.1 (subst (λ z. HasOrigins c p w z x) spot k.2.1))
 
-pub answers_one : (content : Content) (before now : List ℕ → ℕ) (a : Asked) (s u : Status) (t x : List ℕ) → AreKnown content (files_of a)
-    → NoneRises (λ name. Rose (before name) (now name)) (files_of a)
-    → IsAnswer (λ name. Rose (before name) (now name)) content a s t → IsAnswer (λ name. Rose (before name) (now name)) content a u x
+answers_one_in : (env : Environment) (content : Content) (before now : List ℕ → ℕ) (a : Asked) (s u : Status) (t x : List ℕ)
+    → AreKnown content (own_files a) → NoneRises (λ name. Rose (before name) (now name)) (own_files a)
+    → IsAnswerIn env (λ name. Rose (before name) (now name)) content a s t → IsAnswerIn env (λ name. Rose (before name) (now name)) content a u x
     → (s ≡ u) × (t ≡ x)
-answers_one content before now (why file None) s u t x known none h k =
+answers_one_in env content before now (why file None) s u t x known none h k =
     let rises = λ (name : List ℕ). Rose (before name) (now name) in
     let good = first_file rises content file [] none known in
     let one = reads_one s u t x (rises file) (content file) (λ p. Then (ReasonStops (content file) p) (Types p) (λ q. HasChecked p)) good.0 good.1
     (λ p o. reason_one (content file) p s u t x (one_reason (content file) p t x good.1 o)) h k in
     one
-answers_one content before now (why file (Some name)) s u t x known none h k =
+answers_one_in env content before now (why file (Some name)) s u t x known none h k =
     let rises = λ (name : List ℕ). Rose (before name) (now name) in
     let good = first_file rises content file [] none known in
     let one = reads_one s u h.0 k.0 (rises file) (content file)
     (λ p. Then (NameStops p name) (λ spot. named p name ≡ Some spot) (λ spot s t. (s ≡ Done) × HasOrigins (content file) p name spot t)) good.0 good.1
     (λ p o. origin_one (content file) p name s u h.0 k.0 (λ spot. one_origins (content file) p name spot h.0 k.0 good.1 o)) h.1 k.1 in
     (one.0, h.2 ∙ ap (λ (z : Status). lab_text z h.0) one.0 ∙ ap (lab_text u) one.1 ∙ sym k.2)
-answers_one content before now (seen file starts observer e budget refused) s u t x known none h k =
+answers_one_in env content before now (seen file starts observer machine budget refused) s u t x known none h k =
     let rises = λ (name : List ℕ). Rose (before name) (now name) in
     let good = first_file rises content file (starts ∷ []) none known in
     let other = second_file rises content file starts [] none known in
-    let one = seen_once rises content file starts observer e budget refused s u t x good.0 other.0 good.1 other.1 h k in
+    let one = seen_once rises content file starts observer env budget refused s u t x good.0 other.0 good.1 other.1 h k in
     one
-answers_one content before now (timeline file starts observer e budget) s u t x known none h k =
+answers_one_in env content before now (timeline file starts observer machine budget refused) s u t x known none h k =
     let rises = λ (name : List ℕ). Rose (before name) (now name) in
     let good = first_file rises content file (starts ∷ []) none known in
     let other = second_file rises content file starts [] none known in
-    let one = timeline_once rises content file starts observer e budget s u t x good.0 other.0 good.1 other.1 h k in
+    let one = timeline_once rises content file starts observer env budget refused s u t x good.0 other.0 good.1 other.1 h k in
     one
-answers_one content before now (bound file starts observer e budget) s u t x known none h k =
+answers_one_in env content before now (bound file starts observer machine budget) s u t x known none h k =
     let rises = λ (name : List ℕ). Rose (before name) (now name) in
     let good = first_file rises content file (starts ∷ []) none known in
     let other = second_file rises content file starts [] none known in
-    let one = one_bound_in_lab content before now file starts observer e budget s u t x good.1 other.1 good.0 other.0 h k in
+    let one = one_bound_in_lab content before now file starts observer env budget s u t x good.1 other.1 good.0 other.0 h k in
     one
-answers_one content before now (steady file observer parts whole) s u t x known none h k =
+answers_one_in env content before now (steady file observer parts constant whole) s u t x known none h k =
     let rises = λ (name : List ℕ). Rose (before name) (now name) in
     let good = first_file rises content file [] none known in
-    let one = one_in file observer (parts_or parts observer) whole rises content s u t x good.0 good.1 h k in
+    let one = one_in constant file observer (parts_or parts observer) whole rises content s u t x good.0 good.1 h k in
     one
-answers_one content before now (leak file starts observer e budget) s u t x known none h k =
+answers_one_in env content before now (leak file starts observer machine budget) s u t x known none h k =
     let rises = λ (name : List ℕ). Rose (before name) (now name) in
     let good = first_file rises content file (starts ∷ []) none known in
     let other = second_file rises content file starts [] none known in
-    let one = one_leak_in_lab content before now file starts observer e budget s u t x good.1 other.1 good.0 other.0 h k in
+    let one = one_leak_in_lab content before now file starts observer env budget s u t x good.1 other.1 good.0 other.0 h k in
     one
-answers_one content before now (help command) s u t x known none h k = (h.0 ∙ sym k.0, h.1 ∙ sym k.1)
-answers_one content before now version s u t x known none h k = (h.0 ∙ sym k.0, h.1 ∙ sym k.1)
+answers_one_in env content before now (help command) s u t x known none h k = (h.0 ∙ sym k.0, h.1 ∙ sym k.1)
+answers_one_in env content before now version s u t x known none h k = (h.0 ∙ sym k.0, h.1 ∙ sym k.1)
+
+pub answers_one : (content : Content) (before now : List ℕ → ℕ) (a : Asked) (s u : Status) (t x : List ℕ) → AreKnown content (files_of a)
+    → NoneRises (λ name. Rose (before name) (now name)) (files_of a)
+    → IsAnswer (λ name. Rose (before name) (now name)) content a s t → IsAnswer (λ name. Rose (before name) (now name)) content a u x
+    → (s ≡ u) × (t ≡ x)
+answers_one content before now a s u t x known none h k =
+    let rises = λ (name : List ℕ). Rose (before name) (now name) in
+    let told = split_files (λ name. IsKnown (content name)) (machine_in a) (own_files a) known in
+    let kept = split_files (λ name. rises name → ⊥) (machine_in a) (own_files a) none in
+    one_on rises content (machine_in a) (λ e. IsAnswerIn e rises content a) s u t x told.0 kept.0
+    (λ e. answers_one_in e content before now a s u t x told.1 kept.1) h k

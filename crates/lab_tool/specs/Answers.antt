@@ -3,6 +3,7 @@ use Rattle.std.specs.Prelude.{◌≡◌, ◌++◌, ℕ, List, [], Some, None}
 use Rattle.tool_texts.specs.declared.status.Status.{Status}
 use Rattle.tool_texts.specs.declared.status.Status.TheVariants as status
 use Rattle.tool_stages.specs.Content.{Content}
+use Rattle.tool_stages.specs.declared.envs.Environment.{Environment}
 use Rattle.lab_texts.specs.InLab.{lab_usage_text}
 use Rattle.lab_words.specs.Help.{help_text, version_text}
 use Rattle.lab_words.specs.Refusal.{IsLine}
@@ -14,6 +15,7 @@ use Rattle.lab_steady.specs.Answer.{IsSteadyAnswer}
 use Rattle.lab_timeline.specs.Timed.{TellsTimelines, TimelinesBefore}
 use Rattle.lab_why.specs.Answers.{IsWhyAnswer}
 use Rattle.lab_why.specs.Origins.{IsOriginAnswer}
+use Rattle.lab_tool.specs.Machines.{machine_in, OnMachine, BeforeOn}
 
 -- words that ask for nothing: a line on the first that can't be taken, and the usage text
 abbrev pub IsUsage : List (List ℕ) → Status → List ℕ → Type 0
@@ -23,20 +25,28 @@ IsUsage words s t = (s ≡ status.Usage) × (line : List ℕ) × IsLine words li
 abbrev pub IsDoneWith : List ℕ → Status → List ℕ → Type 0
 IsDoneWith text s t = (s ≡ status.Done) × (t ≡ text)
 
--- The answer to a question, in the order of its refusals. `Rises` tells the names whose counts of faults rose.
-abbrev pub IsAnswer : (List ℕ → Type 0) → Content → Asked → Status → List ℕ → Type 0
-IsAnswer Rises content (why file None) = IsWhyAnswer Rises content file
-IsAnswer Rises content (why file (Some name)) = IsOriginAnswer Rises content file name
-IsAnswer Rises content (seen file starts observer e budget refused) = IsSeen Rises content file starts observer e budget refused
-IsAnswer Rises content (timeline file starts observer e budget) = TellsTimelines Rises content file starts observer e budget
-IsAnswer Rises content (bound file starts observer e budget) = IsBoundAnswer Rises content file starts observer e budget
-IsAnswer Rises content (steady file observer parts whole) = IsSteadyAnswer Rises content file observer parts whole
-IsAnswer Rises content (leak file starts observer e budget) = IsLeakAnswer Rises content file starts observer e budget
-IsAnswer Rises content (help command) = IsDoneWith (help_text command)
-IsAnswer Rises content version = IsDoneWith version_text
+-- The answer to a question in an environment, in the order of its refusals; whatever machine it asks about, its runs are made in
+-- this one. `Rises` tells the names whose counts of faults rose.
+abbrev pub IsAnswerIn : Environment → (List ℕ → Type 0) → Content → Asked → Status → List ℕ → Type 0
+IsAnswerIn e Rises content (why file None) = IsWhyAnswer Rises content file
+IsAnswerIn e Rises content (why file (Some name)) = IsOriginAnswer Rises content file name
+IsAnswerIn e Rises content (seen file starts observer machine budget refused) = IsSeen Rises content file starts observer e budget refused
+IsAnswerIn e Rises content (timeline file starts observer machine budget refused) = TellsTimelines Rises content file starts observer e budget refused
+IsAnswerIn e Rises content (bound file starts observer machine budget) = IsBoundAnswer Rises content file starts observer e budget
+IsAnswerIn e Rises content (steady file observer parts constant whole) = IsSteadyAnswer constant Rises content file observer parts whole
+IsAnswerIn e Rises content (leak file starts observer machine budget) = IsLeakAnswer Rises content file starts observer e budget
+IsAnswerIn e Rises content (help command) = IsDoneWith (help_text command)
+IsAnswerIn e Rises content version = IsDoneWith version_text
 
--- what may stand before the line for memory: nothing, or what is told of some of the runs
+-- the answer to a question: that in the environment of the machine that it asks about
+abbrev pub IsAnswer : (List ℕ → Type 0) → Content → Asked → Status → List ℕ → Type 0
+IsAnswer Rises content a = OnMachine Rises content (machine_in a) (λ e. IsAnswerIn e Rises content a)
+
+-- what may stand before the line for memory, in an environment: nothing, or what is told of some of the runs
+abbrev pub BeforeIn : Environment → Content → Asked → List ℕ → Type 0
+BeforeIn e content (seen file starts observer machine budget refused) b = SeenBefore content file starts observer e budget refused b
+BeforeIn e content (timeline file starts observer machine budget refused) b = TimelinesBefore content file starts observer e budget refused b
+BeforeIn e content a b = b ≡ []
+
 abbrev pub Before : Content → Asked → List ℕ → Type 0
-Before content (seen file starts observer e budget refused) b = SeenBefore content file starts observer e budget refused b
-Before content (timeline file starts observer e budget) b = TimelinesBefore content file starts observer e budget b
-Before content a b = b ≡ []
+Before content a = BeforeOn content (machine_in a) (λ e. BeforeIn e content a)

@@ -1,32 +1,37 @@
 -- How a question can end: what must be so that nothing but want of memory ends it otherwise.
-use Rattle.std.specs.Prelude.{◌≡◌, ℕ, List, [], ◌∷◌, Option, Some, None}
+use Rattle.std.specs.Prelude.{◌≡◌, ℕ, List, [], ◌∷◌, ◌++◌, Option, Some, None}
 use Rattle.std.specs.Bool.{⊤}
 use Rattle.flow_path.specs.declared.step.Spot.{Spot}
 use Rattle.mit_syntax.specs.Program.{Syntax}
 use Rattle.tool_texts.specs.declared.status.Status.{Status}
 use Rattle.tool_texts.specs.declared.status.Status.TheVariants as status
+use Rattle.tool_stages.specs.declared.envs.Environment.{Environment}
 use Rattle.tool_stages.specs.Stages.{Reads}
 use Rattle.tool_stages.specs.Content.{Content, AreKnown}
 use Rattle.tool_stages.specs.Goes.{IsTypable}
 use Rattle.lab_bound.specs.Complete.{CanBound}
 use Rattle.lab_leak.specs.Complete.{CanLeak}
-use Rattle.lab_runs.specs.Begins.{CanBegin}
 use Rattle.lab_runs.specs.Shown.{CanShow}
 use Rattle.lab_steady.specs.Answer.{parts_or}
 use Rattle.lab_steady.specs.Complete.{SteadyGoes}
 use Rattle.lab_why.specs.Names.{named}
 use Rattle.lab_words.specs.QuestionAsked.{Asked, why, seen, timeline, bound, steady, leak, help, version}
+use Rattle.lab_tool.specs.Machines.{machine_in, machine_files, GoesOn}
 
--- the files that a question names
+-- the files that a question names beside that of a machine
+abbrev pub own_files : Asked → List (List ℕ)
+own_files (why file of) = file ∷ []
+own_files (seen file starts observer machine budget refused) = file ∷ starts ∷ []
+own_files (timeline file starts observer machine budget refused) = file ∷ starts ∷ []
+own_files (bound file starts observer machine budget) = file ∷ starts ∷ []
+own_files (steady file observer parts constant whole) = file ∷ []
+own_files (leak file starts observer machine budget) = file ∷ starts ∷ []
+own_files (help command) = []
+own_files version = []
+
+-- the files that a question names: first that of a machine
 abbrev pub files_of : Asked → List (List ℕ)
-files_of (why file of) = file ∷ []
-files_of (seen file starts observer e budget refused) = file ∷ starts ∷ []
-files_of (timeline file starts observer e budget) = file ∷ starts ∷ []
-files_of (bound file starts observer e budget) = file ∷ starts ∷ []
-files_of (steady file observer parts whole) = file ∷ []
-files_of (leak file starts observer e budget) = file ∷ starts ∷ []
-files_of (help command) = []
-files_of version = []
+files_of a = machine_files (machine_in a) ++ own_files a
 
 -- `why` is done where some labelling types the program, and tells its reason where none does
 abbrev pub WhyGoes : Option (Option (List ℕ)) → Status → Type 0
@@ -43,17 +48,21 @@ IsDoneIf Can _ = ⊥
 abbrev pub Names : Option (Option (List ℕ)) → List ℕ → Type 0
 Names content w = (p : Syntax) × Reads content p × (spot : Spot) × (named p w ≡ Some spot)
 
+-- what must be so beside the files, in an environment
+abbrev pub GoesIn : Environment → Content → Asked → Status → Type 0
+GoesIn e content (why file None) s = WhyGoes (content file) s
+GoesIn e content (why file (Some name)) s = IsDoneIf (Names (content file) name) s
+GoesIn e content (seen file starts observer machine budget refused) s = IsDoneIf (CanShow refused content file starts (Some observer)) s
+GoesIn e content (bound file starts observer machine budget) s = IsDoneIf (CanBound content file starts observer e budget) s
+GoesIn e content (leak file starts observer machine budget) s = IsDoneIf (CanLeak content file starts observer e budget) s
+GoesIn e content (timeline file starts observer machine budget refused) s = IsDoneIf (CanShow refused content file starts observer) s
+GoesIn e content (help command) s = IsDoneIf ⊤ s
+GoesIn e content version s = IsDoneIf ⊤ s
+GoesIn e content (steady file observer parts constant whole) s = SteadyGoes constant (content file) observer (parts_or parts observer) whole s
+
 -- what must be so beside the files
 abbrev pub Goes : Content → Asked → Status → Type 0
-Goes content (why file None) s = WhyGoes (content file) s
-Goes content (why file (Some name)) s = IsDoneIf (Names (content file) name) s
-Goes content (seen file starts observer e budget refused) s = IsDoneIf (CanShow refused content file starts (Some observer)) s
-Goes content (bound file starts observer e budget) s = IsDoneIf (CanBound content file starts observer e budget) s
-Goes content (leak file starts observer e budget) s = IsDoneIf (CanLeak content file starts observer e budget) s
-Goes content (timeline file starts observer e budget) s = IsDoneIf (CanBegin content file starts observer) s
-Goes content (help command) s = IsDoneIf ⊤ s
-Goes content version s = IsDoneIf ⊤ s
-Goes content (steady file observer parts whole) s = SteadyGoes (content file) observer (parts_or parts observer) whole s
+Goes content a s = GoesOn content (machine_in a) (λ e. GoesIn e content a s)
 
 -- the files that a question names are told to hold bytes, and with these it goes on to this end
 pub record CanEnd (content : Content) (a : Asked) (s : Status) : Type 0 where

@@ -1,3 +1,4 @@
+pub mod Machines
 pub mod Answers
 pub mod Complete
 pub mod Once

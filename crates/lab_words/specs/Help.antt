@@ -26,53 +26,59 @@ why_help =
 
 unfoldable pub seen_help : Text
 seen_help =
-    codes "usage: lab seen FILE STARTS --observer L [--env flat|part|part2] [--budget T] [--refused]\n"
+    codes "usage: lab seen FILE STARTS --observer L [--env flat|part|part2] [--machine M] [--budget T] [--refused]\n"
     ++ (codes "what each run shows\n"
     ++ (codes "  FILE        program\n"
     ++ (codes "  STARTS      starts\n"
     ++ (codes "  --observer  label: who sees\n"
     ++ (codes "  --env       environment: where costs come from; part where it is left out\n"
+    ++ (codes "  --machine   machine file: a machine in place of an environment\n"
     ++ (codes "  --budget    cycles: the last cycle; 1000000 where it is left out\n"
-    ++ codes "  --refused   runs a refused program too\n"))))))
+    ++ codes "  --refused   runs a refused program too\n")))))))
 
 unfoldable pub timeline_help : Text
 timeline_help =
-    codes "usage: lab timeline FILE STARTS [--env flat|part|part2] [--budget T] [--observer L]\n"
+    codes "usage: lab timeline FILE STARTS [--env flat|part|part2] [--machine M] [--budget T] [--observer L] [--refused]\n"
     ++ (codes "when mitigations begin and end\n"
     ++ (codes "  FILE        program\n"
     ++ (codes "  STARTS      starts\n"
     ++ (codes "  --env       environment: where costs come from; part where it is left out\n"
+    ++ (codes "  --machine   machine file: a machine in place of an environment\n"
     ++ (codes "  --budget    cycles: the last cycle; 1000000 where it is left out\n"
-    ++ codes "  --observer  label: who sees; all assignments where it is left out\n")))))
+    ++ (codes "  --observer  label: who sees; all assignments where it is left out\n"
+    ++ codes "  --refused   runs a refused program too\n")))))))
 
 unfoldable pub bound_help : Text
 bound_help =
-    codes "usage: lab bound FILE STARTS --observer L [--env flat|part|part2] [--budget T]\n"
+    codes "usage: lab bound FILE STARTS --observer L [--env flat|part|part2] [--machine M] [--budget T]\n"
     ++ (codes "an audit, the sharp count\n"
     ++ (codes "  FILE        program\n"
     ++ (codes "  STARTS      starts\n"
     ++ (codes "  --observer  label: who sees\n"
     ++ (codes "  --env       environment: where costs come from; part where it is left out\n"
-    ++ codes "  --budget    cycles: the last cycle; 1000000 where it is left out\n")))))
+    ++ (codes "  --machine   machine file: a machine in place of an environment\n"
+    ++ codes "  --budget    cycles: the last cycle; 1000000 where it is left out\n"))))))
 
 unfoldable pub steady_help : Text
 steady_help =
-    codes "usage: lab steady FILE --observer L [--parts P] [--whole]\n"
+    codes "usage: lab steady FILE --observer L [--parts P] [--constant NAMES] [--whole]\n"
     ++ (codes "whether code is constant in time\n"
     ++ (codes "  FILE        program\n"
     ++ (codes "  --observer  label: who sees\n"
     ++ (codes "  --parts     label: what environments agree in; the observer where it is left out\n"
-    ++ codes "  --whole     the end too\n"))))
+    ++ (codes "  --constant  names: operators of constant cost; the costs of the machine where it is left out\n"
+    ++ codes "  --whole     the end too\n")))))
 
 unfoldable pub leak_help : Text
 leak_help =
-    codes "usage: lab leak FILE STARTS --observer L [--env flat|part|part2] [--budget T]\n"
+    codes "usage: lab leak FILE STARTS --observer L [--env flat|part|part2] [--machine M] [--budget T]\n"
     ++ (codes "what these runs tell, exactly\n"
     ++ (codes "  FILE        program\n"
     ++ (codes "  STARTS      starts\n"
     ++ (codes "  --observer  label: who sees\n"
     ++ (codes "  --env       environment: where costs come from; part where it is left out\n"
-    ++ codes "  --budget    cycles: the last cycle; 1000000 where it is left out\n")))))
+    ++ (codes "  --machine   machine file: a machine in place of an environment\n"
+    ++ codes "  --budget    cycles: the last cycle; 1000000 where it is left out\n"))))))
 
 unfoldable pub help_help : Text
 help_help =

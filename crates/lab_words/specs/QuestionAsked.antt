@@ -5,21 +5,26 @@ use Rattle.clap.specs.Words.{Row, Text, fault_of, first_of, matches_of}
 use Rattle.clap.specs.Walk.{is_empty}
 use Rattle.tool_words.specs.declared.words.EnvName.{EnvName}
 use Rattle.run_limits.specs.Cycles.{IsCycles}
-use Rattle.tool_words.specs.WordsValues.{budget_given, env_given, observed_given}
+use Rattle.tool_words.specs.WordsValues.{budget_given, env_named}
 use Rattle.lab_words.specs.declared.verbs.Verb.{Verb}
 use Rattle.lab_words.specs.declared.verbs.Verb.TheVariants.{Why, Seen, Timeline, Bound, Steady, Leak, Help, Version}
 use Rattle.lab_words.specs.QuestionForms.{form_app}
 
--- A question with the bytes of its texts, in the order of `Question`: file, starts, observer, environment and budget;
--- of `seen` also whether refused programs run; of `steady` file, observer, parts, and whether the whole run is asked about;
+-- the machine that runs are made on: that of an environment by its name, or the one that a file with this name describes
+pub data MachineAsked : Type 0 where
+  named : EnvName → MachineAsked
+  described : Text → MachineAsked
+
+-- A question with the bytes of its texts, in the order of `Question`: file, starts, observer, machine and budget;
+-- of `seen` and `timeline` also whether refused programs run; of `steady` file, observer, parts, names of operators, and whether the whole run is asked about;
 -- of `help` the command, if there is one.
 pub data Asked : Type 0 where
   why : Text → Option Text → Asked
-  seen : Text → Text → Text → EnvName → ℕ → Bool → Asked
-  timeline : Text → Text → Option Text → EnvName → ℕ → Asked
-  bound : Text → Text → Text → EnvName → ℕ → Asked
-  steady : Text → Text → Option Text → Bool → Asked
-  leak : Text → Text → Text → EnvName → ℕ → Asked
+  seen : Text → Text → Text → MachineAsked → ℕ → Bool → Asked
+  timeline : Text → Text → Option Text → MachineAsked → ℕ → Bool → Asked
+  bound : Text → Text → Text → MachineAsked → ℕ → Asked
+  steady : Text → Text → Option Text → Option Text → Bool → Asked
+  leak : Text → Text → Text → MachineAsked → ℕ → Asked
   help : Option Verb → Asked
   version : Asked
 
@@ -40,9 +45,29 @@ abbrev pub why_asked : Option Text → Option Text → Option Asked
 why_asked (Some file) of = Some (why file of)
 why_asked None of = None
 
-abbrev pub timeline_asked : Option Text → Option Text → Option EnvName → Option ℕ → Option Text → Option Asked
-timeline_asked (Some file) (Some starts) (Some env) (Some budget) observer = Some (timeline file starts observer env budget)
-timeline_asked _ _ _ _ _ = None
+-- `--machine` stands in place of `--env`: both name no machine, and none of both names that of an environment
+abbrev pub machine_named : Option Text → Option Text → Option MachineAsked
+machine_named None env = option_map named (env_named env)
+machine_named (Some file) None = Some (described file)
+machine_named (Some file) (Some env) = None
+
+abbrev pub machine_given : List Row → Option MachineAsked
+machine_given rows = machine_named (first_of (codes "machine") rows) (first_of (codes "env") rows)
+
+-- of what is observed of runs: file, starts, observer, machine and budget
+abbrev pub runs_asked : (Text → Text → Text → MachineAsked → ℕ → Asked)
+    → Option Text → Option Text → Option Text → Option MachineAsked → Option ℕ → Option Asked
+runs_asked ask (Some file) (Some starts) (Some observer) (Some machine) (Some budget) = Some (ask file starts observer machine budget)
+runs_asked _ _ _ _ _ _ = None
+
+abbrev pub runs_given : (Text → Text → Text → MachineAsked → ℕ → Asked) → List Row → Option Asked
+runs_given ask rows = runs_asked ask (first_of (codes "FILE") rows) (first_of (codes "STARTS") rows)
+    (first_of (codes "observer") rows) (machine_given rows) (budget_given rows)
+
+abbrev pub timeline_asked : Option Text → Option Text → Option MachineAsked → Option ℕ → Option Text → Bool → Option Asked
+timeline_asked (Some file) (Some starts) (Some machine) (Some budget) observer refused =
+    Some (timeline file starts observer machine budget refused)
+timeline_asked _ _ _ _ _ _ = None
 
 -- a flag is there where its value is `true`, and not where it is `false`
 abbrev pub is_true : Option Text → Bool
@@ -52,9 +77,9 @@ is_true (Some word) = bytes_eq word (codes "true")
 abbrev pub flag_given : Text → List Row → Bool
 flag_given name rows = is_true (first_of name rows)
 
-abbrev pub steady_asked : Option Text → Option Text → Option Text → Bool → Option Asked
-steady_asked (Some file) (Some observer) parts whole = Some (steady file observer parts whole)
-steady_asked _ _ _ _ = None
+abbrev pub steady_asked : Option Text → Option Text → Option Text → Option Text → Bool → Option Asked
+steady_asked (Some file) (Some observer) parts constant whole = Some (steady file observer parts constant whole)
+steady_asked _ _ _ _ _ = None
 
 -- what follows `help` is a command word, or nothing
 abbrev pub help_asked : Option Text → Option Asked
@@ -63,14 +88,14 @@ help_asked (Some word) = option_map (λ verb. help (Some verb)) (verb_named word
 
 abbrev pub given : Verb → List Row → Option Asked
 given Why rows = why_asked (first_of (codes "FILE") rows) (first_of (codes "of") rows)
-given Seen rows = observed_given (λ file starts observer env budget.
-    seen file starts observer env budget (flag_given (codes "refused") rows)) rows
-given Timeline rows = timeline_asked (first_of (codes "FILE") rows) (first_of (codes "STARTS") rows) (env_given rows)
-    (budget_given rows) (first_of (codes "observer") rows)
-given Bound rows = observed_given bound rows
+given Seen rows = runs_given (λ file starts observer machine budget.
+    seen file starts observer machine budget (flag_given (codes "refused") rows)) rows
+given Timeline rows = timeline_asked (first_of (codes "FILE") rows) (first_of (codes "STARTS") rows) (machine_given rows)
+    (budget_given rows) (first_of (codes "observer") rows) (flag_given (codes "refused") rows)
+given Bound rows = runs_given bound rows
 given Steady rows = steady_asked (first_of (codes "FILE") rows) (first_of (codes "observer") rows) (first_of (codes "parts") rows)
-    (flag_given (codes "whole") rows)
-given Leak rows = observed_given leak rows
+    (first_of (codes "constant") rows) (flag_given (codes "whole") rows)
+given Leak rows = runs_given leak rows
 given Help rows = help_asked (first_of (codes "COMMAND") rows)
 given Version rows = Some version
 
@@ -91,10 +116,10 @@ question_of (word ∷ words) = option_and_then (λ verb. asked_after verb words)
 -- the budget of a question is in range
 abbrev pub IsInRange : Asked → Type 0
 IsInRange (why file of) = ⊤
-IsInRange (seen file starts observer env budget refused) = IsCycles budget
-IsInRange (timeline file starts observer env budget) = IsCycles budget
-IsInRange (bound file starts observer env budget) = IsCycles budget
-IsInRange (steady file observer parts whole) = ⊤
-IsInRange (leak file starts observer env budget) = IsCycles budget
+IsInRange (seen file starts observer machine budget refused) = IsCycles budget
+IsInRange (timeline file starts observer machine budget refused) = IsCycles budget
+IsInRange (bound file starts observer machine budget) = IsCycles budget
+IsInRange (steady file observer parts constant whole) = ⊤
+IsInRange (leak file starts observer machine budget) = IsCycles budget
 IsInRange (help command) = ⊤
 IsInRange version = ⊤

@@ -10,24 +10,29 @@ use Rattle.lab_words.specs.declared.verbs.Verb.TheVariants.{Why, Seen, Timeline,
 abbrev pub why_app : App
 why_app = with_rule (with_rule (bare (new_app (codes "why"))) (required_word_rule (codes "FILE"))) (option_rule (codes "of"))
 
--- FILE STARTS [--env E] [--budget T] [--observer L]
-abbrev pub timeline_app : App
-timeline_app = with_rule (with_rule (with_rule (with_rule (with_rule (bare (new_app (codes "timeline")))
-    (required_word_rule (codes "FILE"))) (required_word_rule (codes "STARTS")))
-    (option_rule (codes "env"))) (option_rule (codes "budget"))) (option_rule (codes "observer"))
-
 -- `--name`
 abbrev pub flag_rule : Text → Rule
 flag_rule name = record (new_rule name) { long = Some name; action = Some SetTrue }
 
--- FILE STARTS --observer L [--env E] [--budget T] [--refused]
-abbrev pub seen_app : App
-seen_app = with_rule (observed_app (codes "seen")) (flag_rule (codes "refused"))
+-- FILE STARTS [--env E] [--machine M] [--budget T] [--observer L] [--refused]
+abbrev pub timeline_app : App
+timeline_app = with_rule (with_rule (with_rule (with_rule (with_rule (with_rule (with_rule (bare (new_app (codes "timeline")))
+    (required_word_rule (codes "FILE"))) (required_word_rule (codes "STARTS")))
+    (option_rule (codes "env"))) (option_rule (codes "machine"))) (option_rule (codes "budget"))) (option_rule (codes "observer")))
+    (flag_rule (codes "refused"))
 
--- FILE --observer L [--parts P] [--whole]
+-- what is observed of runs on a machine: FILE STARTS --observer L [--env E] [--budget T] [--machine M]
+abbrev pub runs_app : Text → App
+runs_app name = with_rule (observed_app name) (option_rule (codes "machine"))
+
+-- the same and [--refused]
+abbrev pub seen_app : App
+seen_app = with_rule (runs_app (codes "seen")) (flag_rule (codes "refused"))
+
+-- FILE --observer L [--parts P] [--constant NAMES] [--whole]
 abbrev pub steady_app : App
-steady_app = with_rule (with_rule (with_rule (with_rule (bare (new_app (codes "steady"))) (required_word_rule (codes "FILE")))
-    (required_option_rule (codes "observer"))) (option_rule (codes "parts"))) (flag_rule (codes "whole"))
+steady_app = with_rule (with_rule (with_rule (with_rule (with_rule (bare (new_app (codes "steady"))) (required_word_rule (codes "FILE")))
+    (required_option_rule (codes "observer"))) (option_rule (codes "parts"))) (option_rule (codes "constant"))) (flag_rule (codes "whole"))
 
 -- [COMMAND]
 abbrev pub help_app : App
@@ -38,8 +43,8 @@ abbrev pub form_app : Verb → App
 form_app Why = why_app
 form_app Seen = seen_app
 form_app Timeline = timeline_app
-form_app Bound = observed_app (codes "bound")
+form_app Bound = runs_app (codes "bound")
 form_app Steady = steady_app
-form_app Leak = observed_app (codes "leak")
+form_app Leak = runs_app (codes "leak")
 form_app Help = help_app
 form_app Version = bare (new_app (codes "version"))

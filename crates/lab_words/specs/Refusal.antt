@@ -7,10 +7,10 @@ use Rattle.std.specs.List.{list_all, starts_with}
 use Rattle.clap.specs.Simple.{on_top}
 use Rattle.clap.specs.Walk.{is_empty}
 use Rattle.clap.specs.Words.{App, Row, Rule, Text, fault_of, first_of, matches_of}
-use Rattle.tool_words.specs.WordsValues.{budget_given, env_given}
+use Rattle.tool_words.specs.WordsValues.{budget_given}
 use Rattle.lab_words.specs.declared.verbs.Verb.{Verb}
 use Rattle.lab_words.specs.declared.verbs.Verb.TheVariants.{Why, Seen, Timeline, Bound, Steady, Leak, Help, Version}
-use Rattle.lab_words.specs.QuestionAsked.{help_asked, verb_named}
+use Rattle.lab_words.specs.QuestionAsked.{help_asked, machine_given, verb_named}
 use Rattle.lab_words.specs.QuestionForms.{form_app}
 
 -- ---- the first word that can't be taken
@@ -24,7 +24,7 @@ loosened = on_top (λ s. record s { rules = map optional s.rules })
 
 -- the values that words give are of their form
 abbrev pub has_values : List Row → Bool
-has_values rows = is_some (env_given rows) && (is_some (budget_given rows) && is_some (help_asked (first_of (codes "COMMAND") rows)))
+has_values rows = is_some (machine_given rows) && (is_some (budget_given rows) && is_some (help_asked (first_of (codes "COMMAND") rows)))
 
 -- the words after a command word can be taken, if some more follow
 abbrev pub is_taken : Verb → List Text → Bool
@@ -80,11 +80,11 @@ unknown_line command = codes "lab: " ++ (shown command ++ commands_there)
 -- the form of each command, with what its values may be
 abbrev pub form_told : Verb → Text
 form_told Why = codes "why FILE [--of NAME]\n"
-form_told Seen = codes "seen FILE STARTS --observer LABEL [--env flat|part|part2] [--budget 1..1099511627776] [--refused]\n"
-form_told Timeline = codes "timeline FILE STARTS [--env flat|part|part2] [--budget 1..1099511627776] [--observer LABEL]\n"
-form_told Bound = codes "bound FILE STARTS --observer LABEL [--env flat|part|part2] [--budget 1..1099511627776]\n"
-form_told Steady = codes "steady FILE --observer LABEL [--parts LABEL] [--whole]\n"
-form_told Leak = codes "leak FILE STARTS --observer LABEL [--env flat|part|part2] [--budget 1..1099511627776]\n"
+form_told Seen = codes "seen FILE STARTS --observer LABEL [--env flat|part|part2] [--machine M] [--budget 1..1099511627776] [--refused]\n"
+form_told Timeline = codes "timeline FILE STARTS [--env flat|part|part2] [--machine M] [--budget 1..1099511627776] [--observer LABEL] [--refused]\n"
+form_told Bound = codes "bound FILE STARTS --observer LABEL [--env flat|part|part2] [--machine M] [--budget 1..1099511627776]\n"
+form_told Steady = codes "steady FILE --observer LABEL [--parts LABEL] [--constant NAMES] [--whole]\n"
+form_told Leak = codes "leak FILE STARTS --observer LABEL [--env flat|part|part2] [--machine M] [--budget 1..1099511627776]\n"
 form_told Help = codes "help [why|seen|timeline|bound|steady|leak|help|version]\n"
 form_told Version = codes "version\n"
 

@@ -2,7 +2,7 @@
 
 ghost use Rattle.std.specs.Prelude.{◌≡◌, false, IfOk};
 ghost use Rattle.clap.specs.Words.{app_of, rule_of};
-ghost use Rattle.lab_words.specs.QuestionForms.{flag_rule, form_app, help_app, seen_app, steady_app, timeline_app, why_app};
+ghost use Rattle.lab_words.specs.QuestionForms.{flag_rule, form_app, help_app, runs_app, seen_app, steady_app, timeline_app, why_app};
 
 use crate::verbs::Verb;
 use clap::{Arg, ArgAction, Command as Form};
@@ -18,7 +18,7 @@ fn why_form<'a>(alloc: Global) -> Result<Form<'a>, AllocError>
         .arg(option(alloc, "of"))
 }
 
-/// `timeline FILE STARTS [--env E] [--budget T] [--observer L]`.
+/// `timeline FILE STARTS [--env E] [--machine M] [--budget T] [--observer L] [--refused]`.
 fn timeline_form<'a>(alloc: Global) -> Result<Form<'a>, AllocError>
     ensures { IfOk result (λ f. app_of f ≡ timeline_app) }
 {
@@ -26,8 +26,10 @@ fn timeline_form<'a>(alloc: Global) -> Result<Form<'a>, AllocError>
         .arg(required_word(alloc, "FILE"))?
         .arg(required_word(alloc, "STARTS"))?
         .arg(option(alloc, "env"))?
+        .arg(option(alloc, "machine"))?
         .arg(option(alloc, "budget"))?
-        .arg(option(alloc, "observer"))
+        .arg(option(alloc, "observer"))?
+        .arg(flag(alloc, "refused"))
 }
 
 /// A flag `--name`.
@@ -38,14 +40,21 @@ pub(crate) fn flag<'a>(alloc: Global, name: &'a str) -> Arg<'a>
     Arg::new(alloc, name).long(name).action(ArgAction::SetTrue)
 }
 
-/// `seen FILE STARTS --observer L [--env E] [--budget T] [--refused]`.
+/// `FILE STARTS --observer L [--env E] [--machine M] [--budget T]`.
+fn runs_form<'a>(alloc: Global, name: &'a str) -> Result<Form<'a>, AllocError>
+    ensures { IfOk result (λ f. app_of f ≡ runs_app name.entry.now) }
+{
+    observed_form(alloc, name)?.arg(option(alloc, "machine"))
+}
+
+/// `seen FILE STARTS --observer L [--env E] [--machine M] [--budget T] [--refused]`.
 fn seen_form<'a>(alloc: Global) -> Result<Form<'a>, AllocError>
     ensures { IfOk result (λ f. app_of f ≡ seen_app) }
 {
-    observed_form(alloc, "seen")?.arg(flag(alloc, "refused"))
+    runs_form(alloc, "seen")?.arg(flag(alloc, "refused"))
 }
 
-/// `steady FILE --observer L [--parts P] [--whole]`.
+/// `steady FILE --observer L [--parts P] [--constant NAMES] [--whole]`.
 fn steady_form<'a>(alloc: Global) -> Result<Form<'a>, AllocError>
     ensures { IfOk result (λ f. app_of f ≡ steady_app) }
 {
@@ -53,6 +62,7 @@ fn steady_form<'a>(alloc: Global) -> Result<Form<'a>, AllocError>
         .arg(required_word(alloc, "FILE"))?
         .arg(required_option(alloc, "observer"))?
         .arg(option(alloc, "parts"))?
+        .arg(option(alloc, "constant"))?
         .arg(flag(alloc, "whole"))
 }
 
@@ -71,9 +81,9 @@ pub(crate) fn form<'a>(alloc: Global, verb: Verb) -> Result<Form<'a>, AllocError
         Verb::Why => why_form(alloc),
         Verb::Seen => seen_form(alloc),
         Verb::Timeline => timeline_form(alloc),
-        Verb::Bound => observed_form(alloc, "bound"),
+        Verb::Bound => runs_form(alloc, "bound"),
         Verb::Steady => steady_form(alloc),
-        Verb::Leak => observed_form(alloc, "leak"),
+        Verb::Leak => runs_form(alloc, "leak"),
         Verb::Help => help_form(alloc),
         Verb::Version => Ok(bare_form(alloc, "version")),
     }

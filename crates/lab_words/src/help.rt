@@ -36,12 +36,13 @@ reasons for a refusal or a label
 fn seen_help() -> &'static [u8]
     ensures { result.now ≡ seen_help }
 {
-    b"usage: lab seen FILE STARTS --observer L [--env flat|part|part2] [--budget T] [--refused]
+    b"usage: lab seen FILE STARTS --observer L [--env flat|part|part2] [--machine M] [--budget T] [--refused]
 what each run shows
   FILE        program
   STARTS      starts
   --observer  label: who sees
   --env       environment: where costs come from; part where it is left out
+  --machine   machine file: a machine in place of an environment
   --budget    cycles: the last cycle; 1000000 where it is left out
   --refused   runs a refused program too
 "
@@ -51,13 +52,15 @@ what each run shows
 fn timeline_help() -> &'static [u8]
     ensures { result.now ≡ timeline_help }
 {
-    b"usage: lab timeline FILE STARTS [--env flat|part|part2] [--budget T] [--observer L]
+    b"usage: lab timeline FILE STARTS [--env flat|part|part2] [--machine M] [--budget T] [--observer L] [--refused]
 when mitigations begin and end
   FILE        program
   STARTS      starts
   --env       environment: where costs come from; part where it is left out
+  --machine   machine file: a machine in place of an environment
   --budget    cycles: the last cycle; 1000000 where it is left out
   --observer  label: who sees; all assignments where it is left out
+  --refused   runs a refused program too
 "
 }
 
@@ -65,12 +68,13 @@ when mitigations begin and end
 fn bound_help() -> &'static [u8]
     ensures { result.now ≡ bound_help }
 {
-    b"usage: lab bound FILE STARTS --observer L [--env flat|part|part2] [--budget T]
+    b"usage: lab bound FILE STARTS --observer L [--env flat|part|part2] [--machine M] [--budget T]
 an audit, the sharp count
   FILE        program
   STARTS      starts
   --observer  label: who sees
   --env       environment: where costs come from; part where it is left out
+  --machine   machine file: a machine in place of an environment
   --budget    cycles: the last cycle; 1000000 where it is left out
 "
 }
@@ -79,11 +83,12 @@ an audit, the sharp count
 fn steady_help() -> &'static [u8]
     ensures { result.now ≡ steady_help }
 {
-    b"usage: lab steady FILE --observer L [--parts P] [--whole]
+    b"usage: lab steady FILE --observer L [--parts P] [--constant NAMES] [--whole]
 whether code is constant in time
   FILE        program
   --observer  label: who sees
   --parts     label: what environments agree in; the observer where it is left out
+  --constant  names: operators of constant cost; the costs of the machine where it is left out
   --whole     the end too
 "
 }
@@ -92,12 +97,13 @@ whether code is constant in time
 fn leak_help() -> &'static [u8]
     ensures { result.now ≡ leak_help }
 {
-    b"usage: lab leak FILE STARTS --observer L [--env flat|part|part2] [--budget T]
+    b"usage: lab leak FILE STARTS --observer L [--env flat|part|part2] [--machine M] [--budget T]
 what these runs tell, exactly
   FILE        program
   STARTS      starts
   --observer  label: who sees
   --env       environment: where costs come from; part where it is left out
+  --machine   machine file: a machine in place of an environment
   --budget    cycles: the last cycle; 1000000 where it is left out
 "
 }

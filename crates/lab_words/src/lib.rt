@@ -6,6 +6,7 @@ mod forms;
 pub mod help;
 mod lines;
 mod loose;
+pub mod machine;
 pub mod question;
 mod readers;
 pub mod refusal;

@@ -96,14 +96,15 @@ fn form_told(verb: Verb) -> &'static [u8]
     match verb {
         Verb::Why => b"why FILE [--of NAME]\n",
         Verb::Seen =>
-            b"seen FILE STARTS --observer LABEL [--env flat|part|part2] [--budget 1..1099511627776] [--refused]\n",
+            b"seen FILE STARTS --observer LABEL [--env flat|part|part2] [--machine M] [--budget 1..1099511627776] [--refused]\n",
         Verb::Timeline =>
-            b"timeline FILE STARTS [--env flat|part|part2] [--budget 1..1099511627776] [--observer LABEL]\n",
+            b"timeline FILE STARTS [--env flat|part|part2] [--machine M] [--budget 1..1099511627776] [--observer LABEL] [--refused]\n",
         Verb::Bound =>
-            b"bound FILE STARTS --observer LABEL [--env flat|part|part2] [--budget 1..1099511627776]\n",
-        Verb::Steady => b"steady FILE --observer LABEL [--parts LABEL] [--whole]\n",
+            b"bound FILE STARTS --observer LABEL [--env flat|part|part2] [--machine M] [--budget 1..1099511627776]\n",
+        Verb::Steady =>
+            b"steady FILE --observer LABEL [--parts LABEL] [--constant NAMES] [--whole]\n",
         Verb::Leak =>
-            b"leak FILE STARTS --observer LABEL [--env flat|part|part2] [--budget 1..1099511627776]\n",
+            b"leak FILE STARTS --observer LABEL [--env flat|part|part2] [--machine M] [--budget 1..1099511627776]\n",
         Verb::Help => b"help [why|seen|timeline|bound|steady|leak|help|version]\n",
         Verb::Version => b"version\n",
     }

@@ -3,7 +3,7 @@
 ghost use Rattle.std.specs.Prelude.{◌≡◌, IfOk};
 ghost use Rattle.clap.specs.Words.{app_of};
 ghost use Rattle.tool_words.specs.WordsForms.{observed_app};
-ghost use Rattle.lab_words.specs.QuestionForms.{form_app, seen_app, steady_app, timeline_app, why_app};
+ghost use Rattle.lab_words.specs.QuestionForms.{form_app, runs_app, seen_app, steady_app, timeline_app, why_app};
 ghost use Rattle.lab_words.specs.Refusal.{loosened};
 
 use crate::forms::{flag, help_form};
@@ -33,14 +33,21 @@ fn observed_form<'a>(alloc: Global, name: &'a str) -> Result<Form<'a>, AllocErro
         .arg(option(alloc, "budget"))
 }
 
-/// `seen [FILE] [STARTS] [--observer L] [--env E] [--budget T] [--refused]`.
+/// `[FILE] [STARTS] [--observer L] [--env E] [--machine M] [--budget T]`.
+fn runs_form<'a>(alloc: Global, name: &'a str) -> Result<Form<'a>, AllocError>
+    ensures { IfOk result (λ f. app_of f ≡ loosened (runs_app name.entry.now)) }
+{
+    observed_form(alloc, name)?.arg(option(alloc, "machine"))
+}
+
+/// `seen [FILE] [STARTS] [--observer L] [--env E] [--machine M] [--budget T] [--refused]`.
 fn seen_form<'a>(alloc: Global) -> Result<Form<'a>, AllocError>
     ensures { IfOk result (λ f. app_of f ≡ loosened seen_app) }
 {
-    observed_form(alloc, "seen")?.arg(flag(alloc, "refused"))
+    runs_form(alloc, "seen")?.arg(flag(alloc, "refused"))
 }
 
-/// `timeline [FILE] [STARTS] [--env E] [--budget T] [--observer L]`.
+/// `timeline [FILE] [STARTS] [--env E] [--machine M] [--budget T] [--observer L] [--refused]`.
 fn timeline_form<'a>(alloc: Global) -> Result<Form<'a>, AllocError>
     ensures { IfOk result (λ f. app_of f ≡ loosened timeline_app) }
 {
@@ -48,11 +55,13 @@ fn timeline_form<'a>(alloc: Global) -> Result<Form<'a>, AllocError>
         .arg(Arg::new(alloc, "FILE"))?
         .arg(Arg::new(alloc, "STARTS"))?
         .arg(option(alloc, "env"))?
+        .arg(option(alloc, "machine"))?
         .arg(option(alloc, "budget"))?
-        .arg(option(alloc, "observer"))
+        .arg(option(alloc, "observer"))?
+        .arg(flag(alloc, "refused"))
 }
 
-/// `steady [FILE] [--observer L] [--parts P] [--whole]`.
+/// `steady [FILE] [--observer L] [--parts P] [--constant NAMES] [--whole]`.
 fn steady_form<'a>(alloc: Global) -> Result<Form<'a>, AllocError>
     ensures { IfOk result (λ f. app_of f ≡ loosened steady_app) }
 {
@@ -60,6 +69,7 @@ fn steady_form<'a>(alloc: Global) -> Result<Form<'a>, AllocError>
         .arg(Arg::new(alloc, "FILE"))?
         .arg(option(alloc, "observer"))?
         .arg(option(alloc, "parts"))?
+        .arg(option(alloc, "constant"))?
         .arg(flag(alloc, "whole"))
 }
 
@@ -71,9 +81,9 @@ pub(crate) fn loose_form<'a>(alloc: Global, verb: Verb) -> Result<Form<'a>, Allo
         Verb::Why => why_form(alloc),
         Verb::Seen => seen_form(alloc),
         Verb::Timeline => timeline_form(alloc),
-        Verb::Bound => observed_form(alloc, "bound"),
+        Verb::Bound => runs_form(alloc, "bound"),
         Verb::Steady => steady_form(alloc),
-        Verb::Leak => observed_form(alloc, "leak"),
+        Verb::Leak => runs_form(alloc, "leak"),
         Verb::Help => help_form(alloc),
         Verb::Version => Ok(bare_form(alloc, "version")),
     }

@@ -5,11 +5,12 @@ ghost use Rattle.lab_words.specs.QuestionAsked.{IsInRange, asked_after, question
 ghost use Rattle.lab_words.specs.QuestionViews.{asked_of};
 
 use crate::forms::form;
+use crate::machine::Machine;
 use crate::readers::question;
 use crate::verbs::{Verb, verb_of};
 use std::alloc::Global;
 use tool_words::forms::matched;
-use tool_words::words::{EnvName, WordsFault};
+use tool_words::words::WordsFault;
 
 /// What words ask of the lab. Files, observers and names are the words themselves; whether there are such is not seen
 /// here.
@@ -20,44 +21,46 @@ pub enum Question<'a> {
         file: &'a str,
         of: Option<&'a str>,
     },
-    /// `seen FILE STARTS --observer L [--env E] [--budget T] [--refused]`, `budget` from 1 to `MAX_CYCLES`
+    /// `seen FILE STARTS --observer L [--env E | --machine M] [--budget T] [--refused]`, `budget` from 1 to `MAX_CYCLES`
     Seen {
         file: &'a str,
         starts: &'a str,
         observer: &'a str,
-        env: EnvName,
+        machine: Machine<'a>,
         budget: u64,
         refused: bool,
     },
-    /// `timeline FILE STARTS [--env E] [--budget T] [--observer L]`, `budget` from 1 to `MAX_CYCLES`
+    /// `timeline FILE STARTS [--env E | --machine M] [--budget T] [--observer L] [--refused]`, `budget` from 1 to `MAX_CYCLES`
     Timeline {
         file: &'a str,
         starts: &'a str,
         observer: Option<&'a str>,
-        env: EnvName,
+        machine: Machine<'a>,
         budget: u64,
+        refused: bool,
     },
-    /// `bound FILE STARTS --observer L [--env E] [--budget T]`, `budget` from 1 to `MAX_CYCLES`
+    /// `bound FILE STARTS --observer L [--env E | --machine M] [--budget T]`, `budget` from 1 to `MAX_CYCLES`
     Bound {
         file: &'a str,
         starts: &'a str,
         observer: &'a str,
-        env: EnvName,
+        machine: Machine<'a>,
         budget: u64,
     },
-    /// `steady FILE --observer L [--parts P] [--whole]`
+    /// `steady FILE --observer L [--parts P] [--constant NAMES] [--whole]`
     Steady {
         file: &'a str,
         observer: &'a str,
         parts: Option<&'a str>,
+        constant: Option<&'a str>,
         whole: bool,
     },
-    /// `leak FILE STARTS --observer L [--env E] [--budget T]`, `budget` from 1 to `MAX_CYCLES`
+    /// `leak FILE STARTS --observer L [--env E | --machine M] [--budget T]`, `budget` from 1 to `MAX_CYCLES`
     Leak {
         file: &'a str,
         starts: &'a str,
         observer: &'a str,
-        env: EnvName,
+        machine: Machine<'a>,
         budget: u64,
     },
     /// `help [COMMAND]`

@@ -2,9 +2,10 @@
 
 ghost use Rattle.std.specs.Prelude.{◌≡◌, IfSome, option_map};
 ghost use Rattle.clap.specs.Words.{found_of, rows_of};
-ghost use Rattle.lab_words.specs.QuestionAsked.{IsInRange, flag_given, given};
-ghost use Rattle.lab_words.specs.QuestionViews.{asked_of};
+ghost use Rattle.lab_words.specs.QuestionAsked.{IsInRange, flag_given, given, machine_given};
+ghost use Rattle.lab_words.specs.QuestionViews.{asked_of, machine_of};
 
+use crate::machine::Machine;
 use crate::question::Question;
 use crate::verbs::{Verb, verb_of};
 use clap::ArgMatches;
@@ -19,6 +20,22 @@ fn why<'a>(matches: &ArgMatches<'a>) -> Option<Question<'a>>
     Some(Question::Why { file, of })
 }
 
+/// The machine that the words name, if they name one and no more.
+pub(crate) fn machine<'a>(matches: &ArgMatches<'a>) -> Option<Machine<'a>>
+    ensures { option_map machine_of result ≡ machine_given (rows_of (found_of matches.now)) }
+{
+    match text(matches, "machine") {
+        Some(file) => match text(matches, "env") {
+            Some(_) => None,
+            None => Some(Machine::Described(file)),
+        },
+        None => match env(matches) {
+            Some(env) => Some(Machine::Named(env)),
+            None => None,
+        },
+    }
+}
+
 fn seen<'a>(matches: &ArgMatches<'a>) -> Option<Question<'a>>
     ensures asked { option_map asked_of result ≡ given Verb.Seen (rows_of (found_of matches.now)) }
     ensures range { IfSome result (λ q. IsInRange (asked_of q)) }
@@ -26,14 +43,14 @@ fn seen<'a>(matches: &ArgMatches<'a>) -> Option<Question<'a>>
     let file = file(matches)?;
     let starts = text(matches, "STARTS")?;
     let observer = text(matches, "observer")?;
-    let env = env(matches)?;
+    let machine = machine(matches)?;
     let budget = budget(matches)?;
     let refused = flag(matches, "refused");
     Some(Question::Seen {
         file,
         starts,
         observer,
-        env,
+        machine,
         budget,
         refused,
     })
@@ -45,15 +62,17 @@ fn timeline<'a>(matches: &ArgMatches<'a>) -> Option<Question<'a>>
 {
     let file = file(matches)?;
     let starts = text(matches, "STARTS")?;
-    let env = env(matches)?;
+    let machine = machine(matches)?;
     let budget = budget(matches)?;
     let observer = text(matches, "observer");
+    let refused = flag(matches, "refused");
     Some(Question::Timeline {
         file,
         starts,
         observer,
-        env,
+        machine,
         budget,
+        refused,
     })
 }
 
@@ -64,13 +83,13 @@ fn bound<'a>(matches: &ArgMatches<'a>) -> Option<Question<'a>>
     let file = file(matches)?;
     let starts = text(matches, "STARTS")?;
     let observer = text(matches, "observer")?;
-    let env = env(matches)?;
+    let machine = machine(matches)?;
     let budget = budget(matches)?;
     Some(Question::Bound {
         file,
         starts,
         observer,
-        env,
+        machine,
         budget,
     })
 }
@@ -92,11 +111,13 @@ fn steady<'a>(matches: &ArgMatches<'a>) -> Option<Question<'a>>
     let file = file(matches)?;
     let observer = text(matches, "observer")?;
     let parts = text(matches, "parts");
+    let constant = text(matches, "constant");
     let whole = flag(matches, "whole");
     Some(Question::Steady {
         file,
         observer,
         parts,
+        constant,
         whole,
     })
 }
@@ -108,13 +129,13 @@ fn leak<'a>(matches: &ArgMatches<'a>) -> Option<Question<'a>>
     let file = file(matches)?;
     let starts = text(matches, "STARTS")?;
     let observer = text(matches, "observer")?;
-    let env = env(matches)?;
+    let machine = machine(matches)?;
     let budget = budget(matches)?;
     Some(Question::Leak {
         file,
         starts,
         observer,
-        env,
+        machine,
         budget,
     })
 }

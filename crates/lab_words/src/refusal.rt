@@ -8,12 +8,13 @@ ghost use Rattle.lab_words.specs.Refusal.{IsFirst, IsLine, IsLineAfter, has_valu
 
 use crate::lines::{missing_line, no_command, unknown_line, wrong_line};
 use crate::loose::loose_form;
+use crate::readers::machine;
 use crate::verbs::{Verb, verb_of};
 use clap::ArgMatches;
 use std::alloc::Global;
 use text_base::pos::Memory;
 use tool_words::forms::matched;
-use tool_words::readers::{budget, env, text};
+use tool_words::readers::{budget, text};
 use tool_words::words::WordsFault;
 
 // Whether a command follows `help`, or nothing.
@@ -30,7 +31,7 @@ fn has_command(matches: &ArgMatches<'_>) -> bool
 fn has_values(matches: &ArgMatches<'_>) -> bool
     ensures { result ≡ has_values (rows_of (found_of matches.now)) }
 {
-    env(matches).is_some() && budget(matches).is_some() && has_command(matches)
+    machine(matches).is_some() && budget(matches).is_some() && has_command(matches)
 }
 
 // The matches of words of which none must be there, if they can be taken.

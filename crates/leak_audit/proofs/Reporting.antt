@@ -7,6 +7,7 @@ use Rattle.timing_types.specs.Labelled.{LabelledProgram, order_of, labels_of, le
 use Rattle.source_meaning.specs.Source.{started_in}
 use Rattle.env_contract.specs.Env.{Env}
 use Rattle.label_code.specs.Run.{Start}
+use Rattle.code_lower.specs.Follows.{KeepsOrder}
 use Rattle.code_lower.specs.Lowered.{lowered}
 use Rattle.leak_bound.specs.Relevant.{Begins}
 use Rattle.leak_bound.specs.Records.{Each, Pairwise, distinct_count}
@@ -37,12 +38,12 @@ first_one p o [] k j a b = a ∙ sym b
 first_one p o (s ∷ ss) k j a b = begins_one (order_of p) (labels_of p) (levels_of p) o (plan_of p.program) s.memory k j a b
 
 module _ {E : Type 0} (v : Env E) (serves : Order → E → Type 0) (p : LabelledProgram) (o t : ℕ)
-    (sound : Sound v p.program.order (serves p.program.order) (labels_of p) (levels_of p) (lowered p).instrs (plan_of p.program)) where
+    (keeps : KeepsOrder v (lowered p).instrs (plan_of p.program)) where
   -- the run of a start that halts begins as many relevant mitigations as the program does
   begins : (s : Start E) → Halts v (lowered p).instrs t s
       → Begins (order_of p) (labels_of p) (levels_of p) o (plan_of p.program) s.memory (begun_first v p o t (s ∷ []))
   begins s h =
-      let f = sound.keeps.follows s t in
+      let f = keeps.follows s t in
       (f.0, f.2 h, ap (λ z. count_by (relevant_for p o) (started_in z)) (sym f.1) ∙ sym (begun-told (relevant_for p o) (run_of v p t s).core.log))
 
   first_begins : (ss : List (Start E)) (k : ℕ) → Each (Halts v (lowered p).instrs t) ss → k ≡ begun_first v p o t ss
@@ -63,11 +64,13 @@ module _ {E : Type 0} (v : Env E) (serves : Order → E → Type 0) (p : Labelle
         (sym made.mitigations) (sym made.measures) measure;
   }
 
-  pub report_within : o < p.program.order.size → 0 < t → (ss : List (Start E)) (r : AuditReport) → IsReport v serves p o t ss r
-      → r.measures.distinct ≤ r.measures.base ^ r.measures.exponent
-  report_within low some ss r is =
-      let seqs = map (sequence_from v p o t) ss in
-      let few = sound.few o low t some ss is.agree is.halted same_sequence tests_sequences in
-      let same : few.0 ≡ r.mitigations = first_one p o ss few.0 r.mitigations few.1 is.mitigations in
-      within p.program.order o t r.mitigations seqs r.measures is.measures
-      (subst (λ z. distinct_count same_sequence seqs ≤ bound p.program.order o t z) same few.3)
+pub report_within : {E : Type 0} (v : Env E) (serves : Order → E → Type 0) (p : LabelledProgram) (o t : ℕ)
+    → Sound v p.program.order (serves p.program.order) (labels_of p) (levels_of p) (lowered p).instrs (plan_of p.program)
+    → o < p.program.order.size → 0 < t → (ss : List (Start E)) (r : AuditReport) → IsReport v serves p o t ss r
+    → r.measures.distinct ≤ r.measures.base ^ r.measures.exponent
+report_within v serves p o t sound low some ss r is =
+    let seqs = map (sequence_from v p o t) ss in
+    let few = sound.few o low t some ss is.agree is.halted same_sequence tests_sequences in
+    let same : few.0 ≡ r.mitigations = first_one p o ss few.0 r.mitigations few.1 is.mitigations in
+    within p.program.order o t r.mitigations seqs r.measures is.measures
+    (subst (λ z. distinct_count same_sequence seqs ≤ bound p.program.order o t z) same few.3)

@@ -50,8 +50,10 @@ pub fn all_agree<E: MachineEnv + Drop, M: MakeEnv<E>>(
     requires observer { observer.number < p.now.program.order.size }
     requires few { length starts.now ≤ 4096 }
     requires starts { All (IsFor p.now.program) (map seen starts.now) }
-    ensures agree { OnOk result (Pairwise (AgreeFor E.env E.serves p.now observer.number) (starts_of M.made p.now.program.order (map seen starts.now))) }
-    ensures differ { IfErr result (IsDisagreement E.env E.serves p.now observer.number (starts_of M.made p.now.program.order (map seen starts.now))) }
+    ensures agree { OnOk result (Pairwise (AgreeFor E.env E.serves p.now observer.number) (starts_of (M.made make.now) p.now.program.order
+        (map seen starts.now))) }
+    ensures differ { IfErr result (IsDisagreement E.env E.serves p.now observer.number (starts_of (M.made make.now) p.now.program.order
+        (map seen starts.now))) }
 {
     let Some(first) = starts.first() else {
         return Ok(());

@@ -2,6 +2,7 @@
 
 ghost use Rattle.std.specs.Prelude.{◌≡◌, ◌<◌, ◌≤◌, ◌^◌, All, IfOk, IfErr, length, map};
 ghost use Rattle.code_lower.specs.Lowered.{lowered};
+ghost use Rattle.leak_bound.specs.Over.{KeepsLaws};
 ghost use Rattle.start_file.specs.Starts.{seen, IsFor};
 ghost use Rattle.leak_audit.specs.Agreement.{starts_of};
 ghost use Rattle.leak_audit.specs.Report.{IsReport, IsAuditFault};
@@ -11,11 +12,11 @@ use crate::measure::measure;
 use crate::relevance::relevant_marks;
 use crate::report::{AuditFault, AuditReport};
 use crate::survey::{Request, survey_runs};
+use code_lower::laws::image_keeps_order;
 use env_contract::env::MachineEnv;
 use env_contract::make::MakeEnv;
 use label_code::image::Image;
 use label_lattice::label::Label;
-use leak_bound::laws::lowered_few_sequences;
 use run_watch::Watch;
 use start_file::start::Start;
 use std::alloc::Global;
@@ -24,7 +25,7 @@ use timing_types::typed::Typed;
 /// Runs a program's image from each start of a list, 1 to 4,096 of them, up to a limit of 1 to 2^40 cycles,
 /// and counts the different sequences of assignments, with their cycles, that an observer sees. That is at
 /// most the base to the power of the exponent of the report's measures, in every environment that keeps the laws of
-/// `MachineEnv`. The image is that of the program, the starts are for it, and the observer is one of its
+/// `LawfulEnv`. The image is that of the program, the starts are for it, and the observer is one of its
 /// labels. Keeps 24 bytes for each assignment of each different sequence. A watch is told how far each run
 /// has come.
 ///
@@ -50,12 +51,12 @@ pub fn audit<E: MachineEnv + Drop, M: MakeEnv<E>, W: Watch>(
     requires cycles { 0 < limit }
     requires limit { limit ≤ 2 ^ 40 }
     ensures report { IfOk result (IsReport E.env E.serves p.now.labelled observer.number limit
-        (starts_of M.made p.now.labelled.program.order (map seen starts.now))) }
-    ensures bound { IfOk result (λ r. r.measures.distinct ≤ r.measures.base ^ r.measures.exponent) }
+        (starts_of (M.made make.now) p.now.labelled.program.order (map seen starts.now))) }
+    ensures bound { KeepsLaws (λ order. E.env) E.serves → IfOk result (λ r. r.measures.distinct ≤ r.measures.base ^ r.measures.exponent) }
     ensures fault { IfErr result (IsAuditFault E.env E.serves p.now.labelled observer.number limit
-        (starts_of M.made p.now.labelled.program.order (map seen starts.now))) }
+        (starts_of (M.made make.now) p.now.labelled.program.order (map seen starts.now))) }
 {
-    lowered_few_sequences::<E>();
+    image_keeps_order::<E>();
     let labelled = p.labelled();
     let program = labelled.program();
     let order = program.lattice();

@@ -180,7 +180,7 @@ fn observe_start<E: MachineEnv + Drop, M: MakeEnv<E>, W: Watch>(
     requires limit { limit ≤ 2 ^ 40 }
     requires shown { TellsSeen p.now observer.now.label.number observer.now.shown.now }
     ensures { IfOk result (ObservesRun E.env p.now observer.now.label.number observer.now.relevant.now observer.now.room limit
-        (start_of M.made p.now.program.order (seen start.now))) }
+        (start_of (M.made make.now) p.now.program.order (seen start.now))) }
 {
     let env = make.make(alloc, image.lattice(), start.touches.as_slice())?;
     let memory = start.memory.clone()?;
@@ -212,10 +212,10 @@ pub fn survey_runs<E: MachineEnv + Drop, M: MakeEnv<E>, W: Watch>(
     requires relevant { request.now.relevant.now ≡ relevances (order_of p.now) (labels_of p.now) (levels_of p.now) request.now.observer.number
         (order_of p.now).bottom (plan_of p.now.program) }
     ensures survey { IfOk result (IsSurvey E.env p.now request.now.observer.number request.now.limit request.now.must_halt
-        (starts_of M.made p.now.program.order (map seen starts.now))) }
+        (starts_of (M.made make.now) p.now.program.order (map seen starts.now))) }
     ensures kinds { IfOk result (λ s. length s.kinds.different.keys ≤ 4096) }
     ensures fault { IfErr result (IsSurveyFault E.env p.now request.now.observer.number request.now.limit request.now.must_halt
-        (starts_of M.made p.now.program.order (map seen starts.now))) }
+        (starts_of (M.made make.now) p.now.program.order (map seen starts.now))) }
 {
     image.laws();
     let shown = seen_variables(p, request.observer);

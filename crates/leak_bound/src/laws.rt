@@ -8,7 +8,7 @@ ghost use Rattle.leak_bound.specs.Sound.{SoundAll, ShowsOneAll, CutSoundAll};
 ghost use Rattle.leak_bound.specs.Source.{LabelsKeepCounts, LoweredSoundAll, LoweredShowsOneAll, LoweredCutSoundAll};
 ghost use Rattle.leak_bound.specs.Over.{KeepsLaws, SoundOver, ShowsOneOver, CutSoundOver};
 
-use env_contract::env::MachineEnv;
+use env_contract::env::{LawfulEnv, MachineEnv};
 use env_contract::flat::FlatEnv;
 
 /// Every accepted program is sound in every environment that keeps the laws of `MachineEnv`.
@@ -22,7 +22,7 @@ use env_contract::flat::FlatEnv;
 ///
 /// `cut`: the bound for runs that may not have halted by T, where K is the greatest number of relevant
 /// mitigations that end by T in one of them.
-pub fn few_sequences<E: MachineEnv>()
+pub fn few_sequences<E: LawfulEnv>()
     ensures halted { SoundAll E.env E.serves }
     ensures quiet { ShowsOneAll E.env E.serves }
     ensures cut { CutSoundAll E.env E.serves }
@@ -64,7 +64,7 @@ pub fn labels_keep_counts()
 /// The theorem for the image that `lower` makes of a labelled program. Its source is the program that was read,
 /// without its labels: what the image does, in its order, and how many relevant mitigates begin, are said of that
 /// one.
-pub fn lowered_few_sequences<E: MachineEnv>()
+pub fn lowered_few_sequences<E: LawfulEnv>()
     ensures halted { LoweredSoundAll E.env E.serves }
     ensures quiet { LoweredShowsOneAll E.env E.serves }
     ensures cut { LoweredCutSoundAll E.env E.serves }

@@ -14,10 +14,12 @@ use Rattle.black_box.specs.Bound.{box_bound}
 use Rattle.black_box.proofs.Gathered.{cycles_test}
 use Rattle.history_bound.specs.Over.{AnyHistory, history_made}
 use Rattle.tool_words.specs.declared.words.EnvName.{EnvName}
+use Rattle.tool_stages.specs.declared.envs.Environment.TheVariants.{Named}
 use Rattle.tool_stages.specs.Stages.{Types}
 use Rattle.tool_stages.specs.Envs.{environment}
 use Rattle.tool_texts.specs.Reports.{all_released}
 use Rattle.tool_stages.specs.Accepted.{TypedAreSound}
+use Rattle.tool_stages.proofs.EnvLemmas.{named_partitioned}
 use Rattle.tool_stages.proofs.SoundLemmas.{least_is_sound}
 use Rattle.mit_tool.specs.Bounded.{AuditsAreWithin, CutsAreWithin, ReleasesAreWithin}
 
@@ -28,13 +30,14 @@ below p q o types l = subst (λ (z : Syntax). o < z.order.size) (sym types.progr
 module _ (sound : TypedAreSound) where
   pub audits_within : (e : EnvName) (t : ℕ) → AuditsAreWithin e t
   audits_within e t some words p q o ss r spelled types l is =
-      report_within (environment e q.program.order) AnyHistory q o t (least_is_sound sound words p q spelled types e).halted (below p q o types l) some
+      report_within (environment (Named e) q.program.order) AnyHistory q o t (least_is_sound sound words p q spelled types (Named e)
+          (named_partitioned e)).halted (below p q o types l) some
       (starts_of history_made q.program.order ss) r is
 
   pub cuts_within : (e : EnvName) (t : ℕ) → CutsAreWithin e t
   cuts_within e t some words p q o ss r spelled types l is =
-      cut.report_within (environment e q.program.order) AnyHistory q o t (starts_of history_made q.program.order ss)
-      (least_is_sound sound words p q spelled types e).cut (below p q o types l) some r is
+      cut.report_within (environment (Named e) q.program.order) AnyHistory q o t (starts_of history_made q.program.order ss)
+      (least_is_sound sound words p q spelled types (Named e) (named_partitioned e)).cut (below p q o types l) some r is
 
 -- lists of releases are few
 abbrev pub FewLists : Type 0

@@ -9,6 +9,7 @@ use Rattle.mit_gen.specs.Made.{starts_text}
 use Rattle.tool_words.specs.declared.words.EnvName.{EnvName}
 use Rattle.tool_words.specs.declared.words.EnvName.TheVariants.{Part}
 use Rattle.tool_words.specs.WordsAsked.{Asked, check, infer, compile, run, meaning, audit, gen, cut, blackbox, certify, recheck, IsInRange}
+use Rattle.tool_stages.specs.declared.envs.Environment.TheVariants.{Named}
 use Rattle.tool_texts.specs.declared.status.Status.{Status}
 use Rattle.tool_texts.specs.declared.status.Status.TheVariants as status
 use Rattle.tool_texts.specs.Reports.{made_lines}
@@ -245,13 +246,13 @@ module _ (Rises : List ℕ → Type 0) (content : Content) (s : Status) (t : Lis
   answers_done (audit file starts observer e budget) range n known can h =
       let k = first_file Rises content file (starts ∷ []) n known in
       let m = second_file Rises content file starts [] n known in
-      prepared_done s t Rises content file observer (Rises starts) (content starts) (λ q o ss. OfObserver (λ l. CanBeAudited e budget q l ss) o)
+      prepared_done s t Rises content file observer (Rises starts) (content starts) (λ q o ss. OfObserver (λ l. CanBeAudited (Named e) budget q l ss) o)
       (audit_next e budget) k.0 k.1 m.0 m.1 can (λ p q o code ss. audited_done e budget q o ss [] s t) h
   answers_done (gen size number) range n known can h = made_done size number s t range.0 range.1 can h
   answers_done (cut file starts observer e budget) range n known can h =
       let k = first_file Rises content file (starts ∷ []) n known in
       let m = second_file Rises content file starts [] n known in
-      prepared_done s t Rises content file observer (Rises starts) (content starts) (λ q o ss. OfObserver (λ l. CanCut e budget q l ss) o)
+      prepared_done s t Rises content file observer (Rises starts) (content starts) (λ q o ss. OfObserver (λ l. CanCut (Named e) budget q l ss) o)
       (cut_next e budget) k.0 k.1 m.0 m.1 can (λ p q o code ss. cut_done e budget q o ss s t) h
   answers_done (blackbox file first budget) range n known can h =
       ready_done Rises content s t file (HasReleased first budget) (first_file Rises content file [] n known) can (λ runs m. m.0) h

@@ -20,6 +20,7 @@ use Rattle.cut_audit.specs.declared.report.CutFault.TheVariants as cut_fault
 use Rattle.cut_audit.proofs.Once.{no_cut_fault}
 use Rattle.tool_words.specs.declared.words.EnvName.{EnvName}
 use Rattle.tool_words.specs.declared.words.EnvName.TheVariants.{Part}
+use Rattle.tool_stages.specs.declared.envs.Environment.TheVariants.{Named}
 use Rattle.tool_texts.specs.declared.status.Status.{Status}
 use Rattle.tool_texts.specs.declared.status.Status.TheVariants as status
 use Rattle.tool_texts.specs.Reports.{audit_lines, cut_lines, made_lines}
@@ -47,27 +48,28 @@ halted_done : (e : RunEnd) → IsHalted e → status_at e ≡ status.Done
 halted_done (Halted c) h = refl
 halted_done (Limit c) h = absurd h
 
-cut_in : (e : EnvName) (t : ℕ) (q : LabelledProgram) (o : Label) (ss : List StartValue) (f : CutFault) → CanCut e t q o.number ss
-    → CutFaultsIn e q o.number t ss f → f ≡ cut_fault.Memory
-cut_in e t q o ss f k h = no_cut_fault (environment e q.program.order) AnyHistory q o.number t
+cut_in : (e : EnvName) (t : ℕ) (q : LabelledProgram) (o : Label) (ss : List StartValue) (f : CutFault) → CanCut (Named e) t q o.number ss
+    → CutFaultsIn (Named e) q o.number t ss f → f ≡ cut_fault.Memory
+cut_in e t q o ss f k h = no_cut_fault (environment (Named e) q.program.order) AnyHistory q o.number t
     (starts_of history_made q.program.order ss) f k.agree k.few h
 
-cut_goes : (e : EnvName) (t : ℕ) (q : LabelledProgram) (o : Label) (ss : List StartValue) (s : Status) (x : List ℕ) → CanCut e t q o.number ss
+cut_goes : (e : EnvName) (t : ℕ) (q : LabelledProgram) (o : Label) (ss : List StartValue) (s : Status) (x : List ℕ) → CanCut (Named e) t q o.number ss
     → CutStops e t q o ss s x → ⊥
 cut_goes e t q o ss s x k h = let stop = cut_stops e t q o ss s x h in stop.none (cut_in e t q o ss stop.fault k stop.is)
 
 pub audited_done : (e : EnvName) (t : ℕ) (q : LabelledProgram) (o : Option Label) (ss : List StartValue) (before : List ℕ) (s : Status) (x : List ℕ)
-    → OfObserver (λ l. CanBeAudited e t q l ss) o → HasAudited e t q o ss before s x → s ≡ status.Done
+    → OfObserver (λ l. CanBeAudited (Named e) t q l ss) o → HasAudited e t q o ss before s x → s ≡ status.Done
 audited_done e t q None ss before s x k h = absurd h
 audited_done e t q (Some l) ss before s x k h =
-    then_goes (AuditStops e t q l ss) (ReportsIn e q l.number t ss) (λ r s x. (s ≡ status.Done) × (x ≡ before ++ audit_lines q.program.order l t r)) s x
-    (audit_goes e t q l ss s x k) (λ r a n. n.0) h
+    then_goes (AuditStops (Named e) t q l ss) (ReportsIn (Named e) q l.number t ss) (λ r s x. (s ≡ status.Done)
+        × (x ≡ before ++ audit_lines q.program.order l t r)) s x
+    (audit_goes (Named e) t q l ss s x k) (λ r a n. n.0) h
 
 pub cut_done : (e : EnvName) (t : ℕ) (q : LabelledProgram) (o : Option Label) (ss : List StartValue) (s : Status) (x : List ℕ)
-    → OfObserver (λ l. CanCut e t q l ss) o → HasCut e t q o ss s x → s ≡ status.Done
+    → OfObserver (λ l. CanCut (Named e) t q l ss) o → HasCut e t q o ss s x → s ≡ status.Done
 cut_done e t q None ss s x k h = absurd h
 cut_done e t q (Some l) ss s x k h =
-    then_goes (CutStops e t q l ss) (CutReportsIn e q l.number t ss) (λ r s x. (s ≡ status.Done) × (x ≡ cut_lines q.program.order l t r)) s x
+    then_goes (CutStops e t q l ss) (CutReportsIn (Named e) q l.number t ss) (λ r s x. (s ≡ status.Done) × (x ≡ cut_lines q.program.order l t r)) s x
     (cut_goes e t q l ss s x k) (λ r a n. n.0) h
 
 -- ---- stages
@@ -81,17 +83,17 @@ module _ (Rises : List ℕ → Type 0) (content : Content) (s : Status) (t : Lis
 
   -- a run from the first start
   pub ran_done : (file : List ℕ) (starts : Option (List ℕ)) (e : EnvName) (budget : ℕ) (observer : Option (List ℕ)) → IsGood file → OtherIsGood starts
-      → CanCompile (content file) observer (λ p q o. (start : StartValue) × FirstStart content starts p start × HaltsBy e budget q start)
+      → CanCompile (content file) observer (λ p q o. (start : StartValue) × FirstStart content starts p start × HaltsBy (Named e) budget q start)
       → Compiles Rises content file observer (run_next Rises content starts e budget) s t → s ≡ status.Done
   ran_done file starts e budget observer good others can =
-      compiles_go Rises content file observer (λ p q o. (start : StartValue) × FirstStart content starts p start × HaltsBy e budget q start)
+      compiles_go Rises content file observer (λ p q o. (start : StartValue) × FirstStart content starts p start × HaltsBy (Named e) budget q start)
       (run_next Rises content starts e budget) s t good.0 good.1 can
       (λ p q o code image goes.
       let start : StartValue = goes.0 in
       first_done Rises content s t starts p (λ start. HasRun e budget q o code start) start others goes.1 (λ told.
-      let same : s ≡ status_at (told_in e q.program.order (lowered q) start budget).end =
-      told.0 ∙ ap (λ (z : Code). status_at (told_in e q.program.order z start budget).end) image in
-      same ∙ halted_done (told_in e q.program.order (lowered q) start budget).end goes.2))
+      let same : s ≡ status_at (told_in (Named e) q.program.order (lowered q) start budget).end =
+      told.0 ∙ ap (λ (z : Code). status_at (told_in (Named e) q.program.order z start budget).end) image in
+      same ∙ halted_done (told_in (Named e) q.program.order (lowered q) start budget).end goes.2))
 
   -- the same without its time
   pub meant_done : (file : List ℕ) (starts : Option (List ℕ)) (n : ℕ) → IsGood file → OtherIsGood starts
@@ -131,7 +133,7 @@ module _ (Rises : List ℕ → Type 0) (content : Content) (s : Status) (t : Lis
 -- ---- made programs
 
 pub made_done : (size number : ℕ) (s : Status) (t : List ℕ) → 1 ≤ size → size ≤ 10000
-    → ((p : Syntax) → Reads (made_content size number []) p → CanLower p (λ q. CanBeAudited Part (2 ^ 40) q 0 made_starts))
+    → ((p : Syntax) → Reads (made_content size number []) p → CanLower p (λ q. CanBeAudited (Named Part) (2 ^ 40) q 0 made_starts))
     → HasGenerated size number s t → s ≡ status.Done
 made_done size number s t some few can h =
     let c : Option (Option (List ℕ)) = Some (Some (program_text size number)) in
@@ -144,9 +146,9 @@ made_done size number s t some few can h =
     then_goes (ObserverStops p.order (Some (codes "L"))) (Observes p.order (Some (codes "L")))
     (λ o. Then (TypeStops p) (Types p) (λ q. Then (ImageStops q) (HasImage q) (λ code. last p q o code))) s t
     (made_observer_goes size number p s t some reads) (λ o is.
-    lower_goes p (λ q. CanBeAudited Part (2 ^ 40) q 0 made_starts) (λ q code. last p q o code) s t (can p reads) (λ q code image goes.
+    lower_goes p (λ q. CanBeAudited (Named Part) (2 ^ 40) q 0 made_starts) (λ q code. last p q o code) s t (can p reads) (λ q code image goes.
     let before : List ℕ = made_lines size number (count (plan_of p)) (length code.instrs) in
     starts_done s t ⊥ (Some (Some starts_text)) p (λ ss. HasAudited Part (2 ^ 40) q o ss before) made_starts
     (λ n. n) tt (made_starts_are size number p some reads)
     (audited_done Part (2 ^ 40) q o made_starts before s t
-    (made_observer size number p o (λ l. CanBeAudited Part (2 ^ 40) q l made_starts) some reads is goes))))) h
+    (made_observer size number p o (λ l. CanBeAudited (Named Part) (2 ^ 40) q l made_starts) some reads is goes))))) h

@@ -15,6 +15,7 @@ use Rattle.cut_audit.specs.Report.{SameReport as SameCut}
 use Rattle.cut_audit.proofs.Once as cut
 use Rattle.black_box.specs.Outcomes.{Outcome, IsOutcome}
 use Rattle.tool_words.specs.declared.words.EnvName.{EnvName}
+use Rattle.tool_stages.specs.declared.envs.Environment.TheVariants.{Named}
 use Rattle.tool_texts.specs.declared.status.Status.{Status}
 use Rattle.tool_texts.specs.declared.status.Status.TheVariants as status
 use Rattle.tool_texts.specs.Texts.{number_line}
@@ -26,18 +27,19 @@ use Rattle.tool_stages.proofs.OneLemmas.{Same}
 
 -- ---- reports and faults in a named environment
 
-same_cut : (e : EnvName) (q : LabelledProgram) (o t : ℕ) (ss : List StartValue) (r s : CutReport) → CutReportsIn e q o t ss r
-    → CutReportsIn e q o t ss s → SameCut r s
-same_cut e q o t ss r s h k = cut.same_report (environment e q.program.order) AnyHistory q o t (starts_of history_made q.program.order ss) r s h k
+same_cut : (e : EnvName) (q : LabelledProgram) (o t : ℕ) (ss : List StartValue) (r s : CutReport) → CutReportsIn (Named e) q o t ss r
+    → CutReportsIn (Named e) q o t ss s → SameCut r s
+same_cut e q o t ss r s h k = cut.same_report (environment (Named e) q.program.order) AnyHistory q o t (starts_of history_made q.program.order ss) r s h k
 
-same_cut_fault : (e : EnvName) (q : LabelledProgram) (o t : ℕ) (ss : List StartValue) (f g : CutFault) → CutFaultsIn e q o t ss f → CutFaultsIn e q o t ss g
+same_cut_fault : (e : EnvName) (q : LabelledProgram) (o t : ℕ) (ss : List StartValue) (f g : CutFault) → CutFaultsIn (Named e) q o t ss f
+    → CutFaultsIn (Named e) q o t ss g
     → f ≢ cut_fault.Memory → g ≢ cut_fault.Memory → f ≡ g
 same_cut_fault e q o t ss f g h k n m =
-    cut.same_fault (environment e q.program.order) AnyHistory q o t (starts_of history_made q.program.order ss) f g h k n m
+    cut.same_fault (environment (Named e) q.program.order) AnyHistory q o t (starts_of history_made q.program.order ss) f g h k n m
 
-not_cut_fault : (e : EnvName) (q : LabelledProgram) (o t : ℕ) (ss : List StartValue) (r : CutReport) (f : CutFault) → CutReportsIn e q o t ss r
-    → CutFaultsIn e q o t ss f → f ≡ cut_fault.Memory
-not_cut_fault e q o t ss r f h k = cut.not_fault (environment e q.program.order) AnyHistory q o t (starts_of history_made q.program.order ss) r f h k
+not_cut_fault : (e : EnvName) (q : LabelledProgram) (o t : ℕ) (ss : List StartValue) (r : CutReport) (f : CutFault) → CutReportsIn (Named e) q o t ss r
+    → CutFaultsIn (Named e) q o t ss f → f ≡ cut_fault.Memory
+not_cut_fault e q o t ss r f h k = cut.not_fault (environment (Named e) q.program.order) AnyHistory q o t (starts_of history_made q.program.order ss) r f h k
 
 -- ---- their lines
 
@@ -52,13 +54,13 @@ same_cut_lines o l t r s h =
 pub one_audit : (e : EnvName) (t : ℕ) (q : LabelledProgram) (o : Option Label) (ss : List StartValue) (before : List ℕ) (s u : Status) (x y : List ℕ)
     → HasAudited e t q o ss before s x → HasAudited e t q o ss before u y → Same s u x y
 one_audit e t q None ss before s u x y h k = absurd h
-one_audit e t q (Some l) ss before s u x y (inl h) (inl k) = one_audit_stop e t q l ss s u x y h k
-one_audit e t q (Some l) ss before s u x y (inl h) (inr k) = let a = audit_stops e t q l ss s x h in
-    absurd (a.none (not_fault e q l.number t ss k.0 a.fault k.1 a.is))
-one_audit e t q (Some l) ss before s u x y (inr h) (inl k) = let a = audit_stops e t q l ss u y k in
-    absurd (a.none (not_fault e q l.number t ss h.0 a.fault h.1 a.is))
+one_audit e t q (Some l) ss before s u x y (inl h) (inl k) = one_audit_stop (Named e) t q l ss s u x y h k
+one_audit e t q (Some l) ss before s u x y (inl h) (inr k) = let a = audit_stops (Named e) t q l ss s x h in
+    absurd (a.none (not_fault (Named e) q l.number t ss k.0 a.fault k.1 a.is))
+one_audit e t q (Some l) ss before s u x y (inr h) (inl k) = let a = audit_stops (Named e) t q l ss u y k in
+    absurd (a.none (not_fault (Named e) q l.number t ss h.0 a.fault h.1 a.is))
 one_audit e t q (Some l) ss before s u x y (inr h) (inr k) =
-    let lines = same_lines q.program.order l t h.0 k.0 (same_report e q l.number t ss h.0 k.0 h.1 k.1) in
+    let lines = same_lines q.program.order l t h.0 k.0 (same_report (Named e) q l.number t ss h.0 k.0 h.1 k.1) in
     (h.2.0 ∙ sym k.2.0, h.2.1 ∙ ap (λ (z : List ℕ). before ++ z) lines ∙ sym k.2.1)
 
 -- ---- audits of runs that may not have halted
@@ -76,7 +78,7 @@ cut_line p cut_fault.Memory = []
 pub record HasCutFault (e : EnvName) (t : ℕ) (q : LabelledProgram) (l : Label) (ss : List StartValue) (s : Status) (x : List ℕ) : Type 0 where
   pub fault : CutFault
   pub none : fault ≢ cut_fault.Memory
-  pub is : CutFaultsIn e q l.number t ss fault
+  pub is : CutFaultsIn (Named e) q l.number t ss fault
   pub told : s ≡ cut_status fault
   pub line : x ≡ cut_line q.program fault
 

@@ -17,6 +17,7 @@ use Rattle.event_print.specs.Text.{text_of}
 use Rattle.cycle_machine.specs.Rest.{Told}
 use Rattle.tool_words.specs.declared.words.EnvName.{EnvName}
 use Rattle.tool_words.specs.declared.words.EnvName.TheVariants.{Part}
+use Rattle.tool_stages.specs.declared.envs.Environment.TheVariants.{Named}
 use Rattle.tool_texts.specs.declared.status.Status.{Status}
 use Rattle.tool_texts.specs.declared.status.Status.TheVariants as status
 use Rattle.tool_texts.specs.Texts.{rechecked_line, usage_text}
@@ -37,7 +38,7 @@ HasTold q o told s t = (s ≡ status_at told.end) × (t ≡ text_of q o told)
 
 -- a run up to T tells its events, or those that the observer sees, and its end
 abbrev pub HasRun : EnvName → ℕ → LabelledProgram → Option Label → Code → StartValue → Status → List ℕ → Type 0
-HasRun e budget q o code start = HasTold q o (told_in e q.program.order code start budget)
+HasRun e budget q o code start = HasTold q o (told_in (Named e) q.program.order code start budget)
 
 -- the canonical text of a program with all labels
 abbrev pub HasInferred : LabelledProgram → Status → List ℕ → Type 0

@@ -8,6 +8,7 @@ use Rattle.leak_audit.specs.declared.what.What.{What}
 use Rattle.cut_audit.specs.declared.report.CutFault.TheVariants as cut
 use Rattle.black_box.specs.Outcomes.{Outcome, IsOutcome}
 use Rattle.tool_words.specs.declared.words.EnvName.{EnvName}
+use Rattle.tool_stages.specs.declared.envs.Environment.TheVariants.{Named}
 use Rattle.tool_texts.specs.declared.status.Status.{Status}
 use Rattle.tool_texts.specs.declared.status.Status.TheVariants as status
 use Rattle.tool_texts.specs.Reports.{audit_lines, cut_lines, disagree_line, events_line, box_lines}
@@ -21,21 +22,21 @@ use Rattle.audit_stage.specs.Audited.{AuditStops}
 abbrev pub HasAudited : EnvName → ℕ → LabelledProgram → Option Label → List StartValue → List ℕ → Status → List ℕ → Type 0
 HasAudited e t q None ss before = λ s x. ⊥
 HasAudited e t q (Some l) ss before =
-    Then (AuditStops e t q l ss) (ReportsIn e q l.number t ss) (λ r s x.
+    Then (AuditStops (Named e) t q l ss) (ReportsIn (Named e) q l.number t ss) (λ r s x.
     (s ≡ status.Done) × (x ≡ before ++ audit_lines q.program.order l t r))
 
 -- ---- the same where runs may not have halted
 
 abbrev pub CutStops : EnvName → ℕ → LabelledProgram → Label → List StartValue → Status → List ℕ → Type 0
 CutStops e t q l ss status.Disagree x =
-    (run : ℕ) × (what : What) × CutFaultsIn e q l.number t ss (cut.Disagree run what) × (x ≡ disagree_line q.program run what)
-CutStops e t q l ss status.TooLong x = (count : ℕ) × CutFaultsIn e q l.number t ss (cut.TooMuch count) × (x ≡ events_line count)
+    (run : ℕ) × (what : What) × CutFaultsIn (Named e) q l.number t ss (cut.Disagree run what) × (x ≡ disagree_line q.program run what)
+CutStops e t q l ss status.TooLong x = (count : ℕ) × CutFaultsIn (Named e) q l.number t ss (cut.TooMuch count) × (x ≡ events_line count)
 CutStops e t q l ss _ x = ⊥
 
 abbrev pub HasCut : EnvName → ℕ → LabelledProgram → Option Label → List StartValue → Status → List ℕ → Type 0
 HasCut e t q None ss = λ s x. ⊥
 HasCut e t q (Some l) ss =
-    Then (CutStops e t q l ss) (CutReportsIn e q l.number t ss) (λ r s x.
+    Then (CutStops e t q l ss) (CutReportsIn (Named e) q l.number t ss) (λ r s x.
     (s ≡ status.Done) × (x ≡ cut_lines q.program.order l t r))
 
 -- ---- a black box

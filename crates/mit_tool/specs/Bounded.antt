@@ -13,6 +13,7 @@ use Rattle.cut_audit.specs.declared.report.CutReport.{CutReport}
 use Rattle.black_box.specs.Audits.{same_cycles}
 use Rattle.black_box.specs.Outcomes.{Outcome, IsOutcome}
 use Rattle.tool_words.specs.declared.words.EnvName.{EnvName}
+use Rattle.tool_stages.specs.declared.envs.Environment.TheVariants.{Named}
 use Rattle.tool_stages.specs.Stages.{Types}
 use Rattle.tool_stages.specs.Envs.{ReportsIn, CutReportsIn}
 use Rattle.tool_texts.specs.Reports.{all_released}
@@ -22,13 +23,13 @@ use Rattle.tool_texts.specs.Reports.{all_released}
 abbrev pub AuditsAreWithin : EnvName → ℕ → Type 0
 AuditsAreWithin e t = 0 < t →
     (words : List Told) (p : Syntax) (q : LabelledProgram) (o : ℕ) (ss : List StartValue) (r : AuditReport) → IsProgram words p → Types p q → o < p.order.size →
-    ReportsIn e q o t ss r → r.measures.distinct ≤ r.measures.base ^ r.measures.exponent
+    ReportsIn (Named e) q o t ss r → r.measures.distinct ≤ r.measures.base ^ r.measures.exponent
 
 -- the same of runs that may not have halted
 abbrev pub CutsAreWithin : EnvName → ℕ → Type 0
 CutsAreWithin e t = 0 < t →
     (words : List Told) (p : Syntax) (q : LabelledProgram) (o : ℕ) (ss : List StartValue) (r : CutReport) → IsProgram words p → Types p q → o < p.order.size →
-    CutReportsIn e q o t ss r → r.measures.distinct ≤ r.measures.base ^ r.measures.exponent
+    CutReportsIn (Named e) q o t ss r → r.measures.distinct ≤ r.measures.base ^ r.measures.exponent
 
 -- the number of different lists of releases, of all runs of a file of ready cycles
 abbrev pub ReleasesAreWithin : ℕ → ℕ → Type 0

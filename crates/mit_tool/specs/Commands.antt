@@ -10,6 +10,7 @@ use Rattle.black_box.specs.Files.{refusal}
 use Rattle.made_laws.specs.MadeStarts.{made_starts}
 use Rattle.tool_words.specs.declared.words.EnvName.TheVariants.{Part}
 use Rattle.tool_words.specs.WordsAsked.{Asked, check, infer, compile, run, meaning, audit, gen, cut, blackbox, certify, recheck}
+use Rattle.tool_stages.specs.declared.envs.Environment.TheVariants.{Named}
 use Rattle.tool_texts.specs.declared.status.Status.{Status}
 use Rattle.tool_stages.specs.Stages.{Then, Reads, ProgramStops, Types, TypeStops, StartsAre, FirstStart, FirstStops, ReadyStops, HoldsRuns, CertificateStops}
 use Rattle.tool_stages.specs.Stages.{Rechecks, HoldsCertificate}
@@ -128,17 +129,17 @@ CanGoOn content (infer file) = (p : Syntax) × Reads (content file) p × IsTypab
 CanGoOn content (compile file) = CanCompile (content file) None (λ p q o. ⊤)
 CanGoOn content (run file starts e budget observer) =
     CanCompile (content file) observer (λ p q o.
-    (s : StartValue) × FirstStart content starts p s × HaltsBy e budget q s)
+    (s : StartValue) × FirstStart content starts p s × HaltsBy (Named e) budget q s)
 CanGoOn content (meaning file starts n) =
     (p : Syntax) × Reads (content file) p × (s : StartValue) × FirstStart content starts p s
 CanGoOn content (audit file starts observer e budget) =
     CanCompile (content file) (Some observer) (λ p q o.
-    (ss : List StartValue) × StartsAre (content starts) p ss × OfObserver (λ l. CanBeAudited e budget q l ss) o)
+    (ss : List StartValue) × StartsAre (content starts) p ss × OfObserver (λ l. CanBeAudited (Named e) budget q l ss) o)
 CanGoOn content (gen size number) =
-    (p : Syntax) → Reads (made_content size number []) p → CanLower p (λ q. CanBeAudited Part (2 ^ 40) q 0 made_starts)
+    (p : Syntax) → Reads (made_content size number []) p → CanLower p (λ q. CanBeAudited (Named Part) (2 ^ 40) q 0 made_starts)
 CanGoOn content (cut file starts observer e budget) =
     CanCompile (content file) (Some observer) (λ p q o.
-    (ss : List StartValue) × StartsAre (content starts) p ss × OfObserver (λ l. CanCut e budget q l ss) o)
+    (ss : List StartValue) × StartsAre (content starts) p ss × OfObserver (λ l. CanCut (Named e) budget q l ss) o)
 CanGoOn content (blackbox file first budget) = (bytes : List ℕ) × IsTold (content file) bytes × (length bytes ≤ limit) × (refusal bytes ≡ None)
 CanGoOn content (certify file) = (p : Syntax) × Reads (content file) p × IsTypable p
 CanGoOn content (recheck file certificate) =

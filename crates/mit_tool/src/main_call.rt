@@ -31,7 +31,7 @@ use std::alloc::Global;
 use tim_base::shelf::Shelf;
 use tim_base::sink::Sink;
 use tool_stages::laws::typed_are_sound;
-use tool_stages::setting::Setting;
+use tool_stages::setting::NamedSetting;
 use tool_texts::finish::{finish, stop, stop_for_memory, tell};
 use tool_texts::status::Status;
 use tool_texts::stop::Stop;
@@ -103,7 +103,7 @@ fn obey<S: Shelf, W: Sink>(
             budget,
             observer,
         } => {
-            let setting = Setting { env, budget };
+            let setting = NamedSetting { env, budget };
             run(alloc, shelf, out, file, starts, observer, setting)
         }
         Command::Meaning {
@@ -120,7 +120,7 @@ fn obey<S: Shelf, W: Sink>(
             env,
             budget,
         } => {
-            let setting = Setting { env, budget };
+            let setting = NamedSetting { env, budget };
             let text = audit_text(alloc, shelf, file, starts, observer, setting, &*out);
             tell(out, text)
         }
@@ -140,7 +140,7 @@ fn obey<S: Shelf, W: Sink>(
             env,
             budget,
         } => {
-            let setting = Setting { env, budget };
+            let setting = NamedSetting { env, budget };
             let text = cut_text(alloc, shelf, file, starts, observer, setting, &*out);
             tell(out, text)
         }

@@ -121,7 +121,7 @@ module _ (c : Inside) (good : IsBody c) (v : Rows) (is : rows_view c ≡ v) (tag
 pub touched_history : (v w : Rows) (c : Inside) → rows_view c ≡ v → IsBody c → (tag ew : ℕ) → ew < v.order.size → w ≡ touched v tag ew → (h : List Touched)
     → StandsFor v h → StandsFor w (h ++ record { label = ew; tag = tag } ∷ [])
 touched_history v w c is good tag ew lt e h s =
-    subst (λ w. StandsFor w (h ++ record { label = ew; tag = tag } ∷ [])) (sym e) (StandsFor-touched v (subst IsCache is (body_cache c good)) tag ew h lt s)
+    subst (λ w. StandsFor w (h ++ record { label = ew; tag = tag } ∷ [])) (sym e) (StandsFor-touched v (subst IsCache is (body_cache c good)) tag ew h s)
 
 -- ---- a lookup
 pub look_found : (v : Rows) (c : Inside) → rows_view c ≡ v → (tag er label size : ℕ) → size ≡ c.lattice.value.size → label < size

@@ -4,7 +4,7 @@ use Rattle.std.proofs.Common.{◌∙◌, subst, ◌⊎◌, inl, inr, ⊎_elim, a
 use Rattle.std.specs.Prelude.{map, eqb, ◌&&◌, ◌↔◌}
 use Rattle.std.specs.List.{list_any, range_with_len}
 use Rattle.std.proofs.lemmas.List.{take_at, drop_at, set_past}
-use Rattle.std.proofs.lemmas.List.FromFn.{get_or-map-range_with_len}
+use Rattle.std.proofs.lemmas.List.FromFn.{get_or-map-range_with_len, length-map-range_with_len}
 use Rattle.std.proofs.lemmas.Nat.{mod_below}
 use Rattle.std.proofs.lemmas.Bool.{cases_eq, cases_lt, cases_Bool, both_ways}
 use Rattle.label_lattice.specs.Lattice.{Flows}
@@ -27,6 +27,19 @@ rows_from_numbers (x ∷ xs) (y ∷ ys) e =
     ∙ drop_at y (numbers_of ys) (length x) (sym n) in
     let tails = rows_from_numbers xs ys others in
     cc
+
+-- equal parts are of as many sets
+pub sets_from_part : (c d : Rows) (label : ℕ) → part_of label c ≡ part_of label d → c.sets ≡ d.sets
+sets_from_part c d label e =
+    sym (length-map-range_with_len (tags_at c label) 0 c.sets)
+    ∙ ap length (rows_from_numbers (tag_rows c label) (tag_rows d label) e)
+    ∙ length-map-range_with_len (tags_at d label) 0 d.sets
+
+-- a partition that has a set is told by some number
+pub some_part : (c : Rows) (label : ℕ) → 0 < c.sets → [] ≡ part_of label c → ⊥
+some_part c label some e =
+    let none : 0 ≡ length (tag_rows c label) = ap length (rows_from_numbers [] (tag_rows c label) e) in
+    absurd (omega (arith, some, none, length-map-range_with_len (tags_at c label) 0 c.sets))
 
 -- equal parts are equal rows
 pub rows_same : (c d : Rows) (label : ℕ) → c.sets ≡ d.sets → part_of label c ≡ part_of label d → (set : ℕ) → set < c.sets

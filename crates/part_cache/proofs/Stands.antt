@@ -107,9 +107,10 @@ module _ (c : Rows) (good : IsCache c) where
           rw (e, get_or-set_same c.rows place row [] l) (length-to_front tag (tags_at c ew (tag % c.sets)))
       short k (inl e) (inr ge) = let l : length c.rows ≤ place = omega arith in rw (set_past c.rows place row l) (good.few k)
 
-  pub StandsFor-touched : (tag ew : ℕ) (h : List Touched) → ew < c.order.size → StandsFor c h
+  -- a number that is no label touches no row, and no row's history
+  pub StandsFor-touched : (tag ew : ℕ) (h : List Touched) → StandsFor c h
       → StandsFor (touched c tag ew) (h ++ record { label = ew; tag = tag } ∷ [])
-  StandsFor-touched tag ew h in_range stands =
+  StandsFor-touched tag ew h stands =
       record { each = λ label set lb sb. go label set lb sb (cases_Bool (is_at c.sets label set (record { label = ew; tag = tag }))) }
     where
       go : (label set : ℕ) → label < c.order.size → set < c.sets
@@ -119,6 +120,7 @@ module _ (c : Rows) (good : IsCache c) where
           let p = and_parts (eqb ew label) (eqb (tag % c.sets) set) e in
           let same_label : ew ≡ label = eqb-true ew label p.0 in
           let same_set : tag % c.sets ≡ set = eqb-true (tag % c.sets) set p.1 in
+          let in_range : ew < c.order.size = omega (arith, same_label, lb) in
           subst (λ l. tags_at (touched c tag ew) l set ≡ held c.sets c.ways (h ++ record { label = ew; tag = tag } ∷ []) l set) same_label
           (subst (λ s. tags_at (touched c tag ew) ew s ≡ held c.sets c.ways (h ++ record { label = ew; tag = tag } ∷ []) ew s) same_set
           (tags_here tag ew in_range ∙ ap (to_front c.ways tag) (stands.each ew (tag % c.sets) in_range (set_below tag))

@@ -67,6 +67,14 @@ impl PartCache {
         })
     }
 
+    /// The lowest label of the cache's lattice.
+    pub fn lowest(&self) -> Label
+        ensures value { result.number ≡ self.now.order.bottom }
+        ensures within { result.number < self.now.order.size }
+    {
+        self.lattice.bottom()
+    }
+
     /// Whether a partition whose label flows to `er` holds the tag. Takes no memory.
     pub fn look(&self, tag: u32, er: Label) -> bool
         requires { er.number < self.now.order.size }
@@ -122,9 +130,18 @@ impl PartCache {
         self.slots[row].bring(tag)
     }
 
-    /// Whether both hold the same tags in the same order in each set of the label's partition. Takes no
-    /// memory.
+    /// Whether both have as many sets, and hold the same tags in the same order in each set of the label's
+    /// partition. Takes no memory.
     pub fn same_part(&self, other: &PartCache, label: Label) -> bool
+        requires here { label.number < self.now.order.size }
+        requires there { label.number < other.now.order.size }
+        ensures { IsTrue result ↔ (part_of label.number self.now ≡ part_of label.number other.now) }
+    {
+        self.sets == other.sets && self.same_sets(other, label)
+    }
+
+    // Whether both hold the same tags in the same order in each set of the label's partition.
+    fn same_sets(&self, other: &PartCache, label: Label) -> bool
         requires here { label.number < self.now.order.size }
         requires there { label.number < other.now.order.size }
         requires sets { self.now.sets ≡ other.now.sets }

@@ -102,7 +102,7 @@ module _ {E : Type 0} (structure : Place → Option (E → Rows)) (touched_at : 
       moved p at c d (touches same t) =
           subst (λ v. StandsFor v (touches_at p (h ++ x ∷ []))) (sym (t tag ew e))
           (subst (StandsFor (touched (at e) tag ew)) (here p same)
-          (StandsFor-touched (at e) c.cache tag ew (touches_at p h) (subst (λ (o : Order). ew < o.size) (sym c.same_order) in_range) d))
+          (StandsFor-touched (at e) c.cache tag ew (touches_at p h) d))
       moved p at c d (leaves apart t) =
           subst (λ v. StandsFor v (touches_at p (h ++ x ∷ []))) (sym (t tag ew e)) (subst (StandsFor (at e)) (there p apart) d)
 
@@ -252,9 +252,6 @@ part2_after_stands order k a er ew e h s in_range stands =
 -- ---- conditions of the calls
 pub label_in : (order : Order) (sets ways : ℕ) (c : Rows) (l : ℕ) → IsCacheOf order sets ways c → l < order.size → l < c.order.size
 label_in order sets ways c l s h = subst (λ (o : Order). l < o.size) (sym s.same_order) h
-
-pub sets_same : (order : Order) (sets ways : ℕ) (c d : Rows) → IsCacheOf order sets ways c → IsCacheOf order sets ways d → c.sets ≡ d.sets
-sets_same order sets ways c d s t = s.same_sets ∙ sym t.same_sets
 
 -- ---- new environments
 pub part_serves : (order : Order) (e : PartEnv) → IsCacheOf order 1 4 e.buffer → IsCacheOf order 8 2 e.code_cache → IsCacheOf order 8 2 e.data_cache

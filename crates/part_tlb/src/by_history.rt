@@ -16,22 +16,22 @@ pub trait ByHistory<E: MachineEnv>: MakeEnv<E> {
     ghost use Rattle.env_contract.specs.Env.{Env};
     ghost use Rattle.env_contract.specs.Alike.{DoesAs};
 
-    // What an access costs and what is held, where nothing is kept but the history.
-    ghost by_history: { Order → Env (List Touch) };
+    // What an access costs and what is held in the maker's environments, where nothing is kept but the history.
+    ghost by_history: { Self → Order → Env (List Touch) };
 
-    // The environment stands for the history.
-    ghost stands: { Order → E → List Touch → Type 0 };
+    // An environment of the maker stands for the history.
+    ghost stands: { Self → Order → E → List Touch → Type 0 };
 
     // Where it does, an access costs what the history says, the environment after it stands for the longer history,
     // and each part is what the history says is held.
-    ghost does: { (order : Order) → DoesAs E.env (by_history order) order.size (stands order) };
+    ghost does: { (maker : Self) (order : Order) → DoesAs E.env (by_history maker order) order.size (stands maker order) };
 
     // The environment that touches make stands for the history that they are.
-    ghost starts: { (order : Order) (touches : List Touch) → All (λ t. t.label.number < order.size) touches
-        → stands order (Self.made order touches) touches };
+    ghost starts: { (maker : Self) (order : Order) (touches : List Touch) → All (λ t. t.label.number < order.size) touches
+        → stands maker order (Self.made maker order touches) touches };
 
     // Only an environment that serves the lattice stands for a history.
-    ghost served: { (order : Order) (e : E) (h : List Touch) → stands order e h → E.serves order e };
+    ghost served: { (maker : Self) (order : Order) (e : E) (h : List Touch) → stands maker order e h → E.serves order e };
 }
 
 impl ByHistory<FlatEnv> for MakeFlat {
@@ -39,15 +39,15 @@ impl ByHistory<FlatEnv> for MakeFlat {
     ghost use Rattle.part_tlb.specs.Named.{flat_machine};
     ghost use Rattle.part_tlb.specs.Alike.{no_level};
 
-    ghost by_history = { hardware_by_history flat_machine };
+    ghost by_history = { λ maker. hardware_by_history flat_machine };
 
-    ghost stands = { λ order e h. Unit {0} };
+    ghost stands = { λ maker order e h. Unit {0} };
 
-    ghost does = { no_level };
+    ghost does = { λ maker. no_level };
 
-    ghost starts = { λ order touches below. tt };
+    ghost starts = { λ maker order touches below. tt };
 
-    ghost served = { λ order e h s. tt };
+    ghost served = { λ maker order e h s. tt };
 }
 
 impl ByHistory<PartEnv> for MakePart {
@@ -57,15 +57,15 @@ impl ByHistory<PartEnv> for MakePart {
     ghost use Rattle.part_tlb.specs.Envs.{part_structure};
     ghost use Rattle.part_tlb.specs.Alike.{one_level, one_start};
 
-    ghost by_history = { hardware_by_history part_machine };
+    ghost by_history = { λ maker. hardware_by_history part_machine };
 
-    ghost stands = { Keeps part_structure };
+    ghost stands = { λ maker. Keeps part_structure };
 
-    ghost does = { one_level };
+    ghost does = { λ maker. one_level };
 
-    ghost starts = { one_start };
+    ghost starts = { λ maker. one_start };
 
-    ghost served = { λ order e h s. s.made };
+    ghost served = { λ maker order e h s. s.made };
 }
 
 impl ByHistory<Part2Env> for MakePart2 {
@@ -75,13 +75,13 @@ impl ByHistory<Part2Env> for MakePart2 {
     ghost use Rattle.part_tlb.specs.Envs.{part2_structure};
     ghost use Rattle.part_tlb.specs.Alike.{two_levels, two_start};
 
-    ghost by_history = { hardware_by_history part2_machine };
+    ghost by_history = { λ maker. hardware_by_history part2_machine };
 
-    ghost stands = { Keeps part2_structure };
+    ghost stands = { λ maker. Keeps part2_structure };
 
-    ghost does = { two_levels };
+    ghost does = { λ maker. two_levels };
 
-    ghost starts = { two_start };
+    ghost starts = { λ maker. two_start };
 
-    ghost served = { λ order e h s. s.made };
+    ghost served = { λ maker order e h s. s.made };
 }

@@ -12,7 +12,7 @@ ghost use Rattle.part_tlb.specs.Structures.{IsMadeFor, StandsForAll, part_at, wa
 ghost use Rattle.part_tlb.specs.Envs.{part_structure, line_cache, part_touched, part_penalty, part_after, empty_part};
 
 use crate::lookup::{Hits, look_and_touch, tag_at};
-use env_contract::env::{MAX_PENALTY, MachineEnv};
+use env_contract::env::{LawfulEnv, MAX_PENALTY, MachineEnv};
 use env_contract::make::MakeEnv;
 use env_contract::place::{Kind, Place, Touch};
 use label_lattice::label::Label;
@@ -120,13 +120,10 @@ impl PartEnv {
 impl MachineEnv for PartEnv {
     ghost use Rattle.part_tlb.specs.Structures.{IsMadeFor};
     ghost use Rattle.part_tlb.specs.Envs.{part_structure, part_env};
-    ghost use Rattle.part_tlb.specs.Laws.{part_lawful};
 
     ghost serves = { IsMadeFor part_structure };
 
     ghost env = { part_env };
-
-    ghost lawful = { part_lawful };
 
     #[inline(always)]
     fn access(&mut self, kind: Kind, address: u32, er: Label, ew: Label) -> u32
@@ -155,6 +152,12 @@ impl MachineEnv for PartEnv {
     }
 }
 
+impl LawfulEnv for PartEnv {
+    ghost use Rattle.part_tlb.specs.Laws.{part_lawful};
+
+    ghost lawful = { part_lawful };
+}
+
 /// Makes environments of one level of caches.
 #[derive(Clone, Copy, Debug, PartialEq, Eq)]
 pub struct MakePart;
@@ -163,7 +166,7 @@ impl MakeEnv<PartEnv> for MakePart {
     ghost use Rattle.part_tlb.specs.Structures.{warmed};
     ghost use Rattle.part_tlb.specs.Envs.{part_touched, empty_part};
 
-    ghost made = { λ order touches. warmed part_touched (empty_part order) touches };
+    ghost made = { λ maker order touches. warmed part_touched (empty_part order) touches };
 
     fn make(&self, alloc: Global, lattice: Lattice, touches: &[Touch]) -> Result<PartEnv, Memory>
         requires { All (λ t. t.label.number < lattice.size) touches.now }

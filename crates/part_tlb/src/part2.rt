@@ -11,7 +11,7 @@ ghost use Rattle.part_tlb.specs.Envs.{part2_structure, part2_touched, part2_pena
 
 use crate::lookup::{look_and_touch, miss_cost, tag_at};
 use crate::part::PartEnv;
-use env_contract::env::{MAX_PENALTY, MachineEnv};
+use env_contract::env::{LawfulEnv, MAX_PENALTY, MachineEnv};
 use env_contract::make::MakeEnv;
 use env_contract::place::{Kind, Place, Touch};
 use label_lattice::label::Label;
@@ -67,13 +67,10 @@ impl Part2Env {
 impl MachineEnv for Part2Env {
     ghost use Rattle.part_tlb.specs.Structures.{IsMadeFor};
     ghost use Rattle.part_tlb.specs.Envs.{part2_structure, part2_env};
-    ghost use Rattle.part_tlb.specs.Laws.{part2_lawful};
 
     ghost serves = { IsMadeFor part2_structure };
 
     ghost env = { part2_env };
-
-    ghost lawful = { part2_lawful };
 
     #[inline(always)]
     fn access(&mut self, kind: Kind, address: u32, er: Label, ew: Label) -> u32
@@ -108,6 +105,12 @@ impl MachineEnv for Part2Env {
     }
 }
 
+impl LawfulEnv for Part2Env {
+    ghost use Rattle.part_tlb.specs.Laws.{part2_lawful};
+
+    ghost lawful = { part2_lawful };
+}
+
 /// Makes environments of two levels of caches.
 #[derive(Clone, Copy, Debug, PartialEq, Eq)]
 pub struct MakePart2;
@@ -116,7 +119,7 @@ impl MakeEnv<Part2Env> for MakePart2 {
     ghost use Rattle.part_tlb.specs.Structures.{warmed};
     ghost use Rattle.part_tlb.specs.Envs.{part2_touched, empty_part2};
 
-    ghost made = { λ order touches. warmed part2_touched (empty_part2 order) touches };
+    ghost made = { λ maker order touches. warmed part2_touched (empty_part2 order) touches };
 
     fn make(&self, alloc: Global, lattice: Lattice, touches: &[Touch]) -> Result<Part2Env, Memory>
         requires { All (λ t. t.label.number < lattice.size) touches.now }

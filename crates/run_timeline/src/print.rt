@@ -23,7 +23,7 @@ use env_contract::env::MachineEnv;
 use label_code::image::Image;
 use label_lattice::label::Label;
 use tim_base::sink::{Sink, SinkFault, write_all};
-use timing_types::typed::Typed;
+use timing_types::labelled::Labelled;
 
 /// Runs an image from a start to a limit in cycles, and writes a line for each beginning and each end of a
 /// mitigation, a line for each assignment, or of those that the observer sees, and then how it ended. Counts
@@ -35,7 +35,7 @@ use timing_types::typed::Typed;
 pub fn print_timeline<E: MachineEnv + Drop, W: Sink>(
     image: &Image,
     mut state: State<E>,
-    p: &Typed,
+    p: &Labelled,
     listing: &mut Listing,
     observer: Option<Label>,
     limit: u64,
@@ -43,30 +43,29 @@ pub fn print_timeline<E: MachineEnv + Drop, W: Sink>(
 ) -> Result<RunEnd, SinkFault>
     requires stands { Stands E.serves image.now state }
     requires start { seen state ≡ start state.memory.items state.env }
-    requires variables { image.now.variables ≡ variables p.now.labelled.program.declarations }
-    requires observer { IfSome observer (λ o. o.number < p.now.labelled.program.order.size) }
-    requires places { listing.old.places.items ≡ places (plan_of p.now.labelled.program) }
+    requires variables { image.now.variables ≡ variables p.now.program.declarations }
+    requires observer { IfSome observer (λ o. o.number < p.now.program.order.size) }
+    requires places { listing.old.places.items ≡ places (plan_of p.now.program) }
     requires room { HaveRoom limit listing.old.tallies.items }
     ensures end { IfOk result (λ end. end ≡ end_of_run E.env image.now.instrs limit (record { memory = state.memory.items; env = state.env })) }
     ensures printed { OnOk result (Printed E.env image.now.instrs limit (record { memory = state.memory.items; env = state.env })
-        p.now.labelled observer (W.taken out.old) (W.taken out.new) listing.old.tallies.items listing.new.tallies.items) }
+        p.now observer (W.taken out.old) (W.taken out.new) listing.old.tallies.items listing.new.tallies.items) }
     ensures prefix { OnErr result (PrintedPart E.env image.now.instrs limit (record { memory = state.memory.items; env = state.env })
-        p.now.labelled observer (W.taken out.old) (W.taken out.new)) }
+        p.now observer (W.taken out.old) (W.taken out.new)) }
     ensures places { listing.new.places ≡ listing.old.places }
     ensures grown { Grown limit listing.old.tallies.items listing.new.tallies.items }
     ensures later { W.faults out.old ≤ W.faults out.new }
     ensures fault { OnErr result (Rose (W.faults out.old) (W.faults out.new)) }
 {
     image.laws();
-    let labelled = p.labelled();
-    let order = labelled.program().lattice();
+    let order = p.program().lattice();
     'run: loop {
         match step(image, &mut state, limit) {
             Step::Went => {}
             Step::Told(moment) => {
                 note(&mut listing.tallies, moment);
                 let places = listing.places.as_slice();
-                write_moment(labelled, &order, places, observer, moment, out)?;
+                write_moment(p, &order, places, observer, moment, out)?;
             }
             Step::Stopped(end) => {
                 let line = last_line(end);

@@ -11,7 +11,7 @@ ghost use Rattle.sharp_bound.specs.Shared.{SharpSharedAll};
 ghost use Rattle.sharp_bound.specs.Sleeper.{EndTells};
 ghost use Rattle.sharp_bound.specs.Twice.{FewTwice, SharpTwiceAll, LeavesAgree};
 
-use env_contract::env::MachineEnv;
+use env_contract::env::{LawfulEnv, MachineEnv};
 use env_contract::flat::FlatEnv;
 
 /// Every accepted program shows few sequences in every environment that keeps the laws of `MachineEnv`: at
@@ -31,7 +31,7 @@ use env_contract::flat::FlatEnv;
 ///
 /// `ended`: the same of the sequences with the cycle of the end added, where the program's end label flows to the
 /// observer.
-pub fn few_sequences_sharp<E: MachineEnv>()
+pub fn few_sequences_sharp<E: LawfulEnv>()
     ensures halted { SharpSoundAll E.env E.serves }
     ensures cut { SharpCutAll E.env E.serves }
     ensures ended { SharpEndAll E.env E.serves }
@@ -39,7 +39,7 @@ pub fn few_sequences_sharp<E: MachineEnv>()
 
 /// The same for the image that `lower` makes of a labelled program. Its source is the program that was read, without
 /// its labels: how many relevant mitigates begin, and with which first predictions, is said of that one.
-pub fn lowered_few_sequences_sharp<E: MachineEnv>()
+pub fn lowered_few_sequences_sharp<E: LawfulEnv>()
     ensures halted { LoweredSharpAll E.env E.serves }
     ensures cut { LoweredSharpCutAll E.env E.serves }
     ensures ended { LoweredSharpEndAll E.env E.serves }
@@ -68,7 +68,7 @@ pub fn lowered_few_sequences_sharp_flat()
 /// show at most as many sequences as there are choices of miss counts, for each level as many as relevant mitigations of
 /// it begin, that never fall and whose `e * 2 ^ m` add up to at most T. `ways_are_few` says that these are no more than
 /// the sharp count.
-pub fn few_sequences_shared<E: MachineEnv>()
+pub fn few_sequences_shared<E: LawfulEnv>()
     ensures { SharpSharedAll E.env E.serves }
 {}
 
@@ -125,7 +125,7 @@ pub fn few_twice<X, V, W>()
 /// `few`: for runs that halt, at most the product of the sharp counts, and the same for runs that may be cut.
 ///
 /// `left`: what halted runs leave in memory and environment agrees again, so that a second run may go on from it.
-pub fn few_sequences_twice<X, E: MachineEnv>()
+pub fn few_sequences_twice<X, E: LawfulEnv>()
     ensures few { SharpTwiceAll X E.env E.serves }
     ensures left { LeavesAgree E.env E.serves }
 {}
@@ -144,13 +144,13 @@ pub fn few_many<X, V>()
 ///
 /// The secret tells what earlier runs left in memory and environment, so that a start may hold that too; by
 /// `few_sequences_twice`, clause `left`, it agrees where it should.
-pub fn few_sequences_many<X, E: MachineEnv>()
+pub fn few_sequences_many<X, E: LawfulEnv>()
     ensures { SharpManyAll X E.env E.serves }
 {}
 
 /// The same for the images that `lower` makes of labelled programs over one lattice: `many`. What their halted runs leave
 /// in memory and environment agrees where the starts agree: `left`.
-pub fn lowered_few_sequences_many<X, E: MachineEnv>()
+pub fn lowered_few_sequences_many<X, E: LawfulEnv>()
     ensures many { LoweredManyAll X E.env E.serves }
     ensures left { LoweredLeavesAgree E.env E.serves }
 {}

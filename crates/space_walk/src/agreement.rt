@@ -55,7 +55,7 @@ pub fn space_agrees<E: MachineEnv + Drop, M: MakeEnv<E>>(
 ) -> Result<Option<u32>, Memory>
     requires observer { observer.number < p.now.program.order.size }
     requires space { IsSpaceFor p.now.program (seen space.now) }
-    ensures { IfOk result (λ r. MatchOption r (AllAgree E.env E.serves M.made p.now observer.number (seen space.now))
+    ensures { IfOk result (λ r. MatchOption r (AllAgree E.env E.serves (M.made make.now) p.now observer.number (seen space.now))
         (IsFirstRanging p.now observer.number space.now.memory.items)) }
 {
     if let Some(x) = first_ranging(p, observer, space.memory.as_slice()) {

@@ -49,7 +49,7 @@ fn observe_at<E: MachineEnv + Drop, M: MakeEnv<E>, W: Watch>(
     requires shown { TellsSeen p.now observer.now.label.number observer.now.shown.now }
     ensures chooser { IsChooser (seen space.now) chooser.new }
     ensures observes { IfOk result (ObservesRun E.env p.now observer.now.label.number observer.now.relevant.now observer.now.room limit
-        (start_of M.made p.now.program.order (start_at (seen space.now) number))) }
+        (start_of (M.made make.now) p.now.program.order (start_at (seen space.now) number))) }
     ensures fault { IfErr result (λ e. e ≡ fault.Memory) }
 {
     let env = make.make(alloc, image.lattice(), space.touches.as_slice())?;
@@ -82,12 +82,12 @@ pub fn walk_space<E: MachineEnv + Drop, M: MakeEnv<E>, W: Watch>(
     requires space { IsSpaceFor p.now.program (seen space.now) }
     requires numbers { numbers.end ≤ size_of (seen space.now) }
     requires limit { limit ≤ 2 ^ 40 }
-    ensures classes { IfOk result (λ k. walk (shown_at E.env M.made p.now label.number limit (seen space.now))
-        (end_at E.env M.made p.now limit (seen space.now)) one no_classes numbers.begin (numbers.end - numbers.begin) ≡ Ok (classes_of k)) }
+    ensures classes { IfOk result (λ k. walk (shown_at E.env (M.made make.now) p.now label.number limit (seen space.now))
+        (end_at E.env (M.made make.now) p.now limit (seen space.now)) one no_classes numbers.begin (numbers.end - numbers.begin) ≡ Ok (classes_of k)) }
     ensures counted { IfOk result IsCounted }
     ensures total { IfOk result (λ k. total k.classes.entries ≡ numbers.end - numbers.begin) }
-    ensures fault { IfErr result (λ e. e ≢ fault.Memory → walk (shown_at E.env M.made p.now label.number limit (seen space.now))
-        (end_at E.env M.made p.now limit (seen space.now)) one no_classes numbers.begin (numbers.end - numbers.begin) ≡ Err e) }
+    ensures fault { IfErr result (λ e. e ≢ fault.Memory → walk (shown_at E.env (M.made make.now) p.now label.number limit (seen space.now))
+        (end_at E.env (M.made make.now) p.now limit (seen space.now)) one no_classes numbers.begin (numbers.end - numbers.begin) ≡ Err e) }
 {
     image.laws();
     let shown = seen_variables(p, label);

@@ -1,4 +1,5 @@
 pub mod Tags
+pub mod Costs
 pub mod Two
 pub mod Clear
 pub mod Backs

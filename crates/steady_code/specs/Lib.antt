@@ -1,4 +1,5 @@
 pub mod Steady
+pub mod Costing
 pub mod Timed
 pub mod Plain
 pub mod Tail

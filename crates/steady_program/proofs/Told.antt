@@ -8,6 +8,8 @@ use Rattle.timing_types.specs.Labelled.{LabelledProgram, order_of, labels_of}
 use Rattle.label_code.specs.Shaped.{Code}
 use Rattle.code_lower.specs.Lowered.{lowered}
 use Rattle.steady_code.specs.declared.fault.Fault.{Fault}
+use Rattle.steady_code.specs.declared.costing.Costing.{Costing}
+use Rattle.steady_code.specs.Costing.{settled_by}
 use Rattle.steady_code.specs.Plain.{IsClear, IsFirst}
 use Rattle.steady_code.specs.Tail.{IsLastSeen}
 use Rattle.steady_code.specs.View.{label_in, low_in, felt_in}
@@ -15,17 +17,20 @@ use Rattle.steady_code.specs.Timed.{low_of, felt_of}
 use Rattle.steady_program.specs.Lowered.{IsSteady, IsFirstFault}
 
 -- what is found with these tests of variables and labels
-abbrev Found : (ℕ → Bool) → (ℕ → Bool) → Code → ℕ → Option Fault → Type 0
-Found low felt code end f = MatchOption f (IsClear low felt code.instrs end) (λ (x : Fault). IsFirst low felt code.instrs end x.place x.reason)
+abbrev Found : Costing → (ℕ → Bool) → (ℕ → Bool) → Code → ℕ → Option Fault → Type 0
+Found costing low felt code end f =
+    MatchOption f (IsClear (settled_by costing) low felt code.instrs end) (λ (x : Fault). IsFirst
+    (settled_by costing) low felt code.instrs end x.place x.reason)
 
-pub told : (q : LabelledProgram) (order : Order) (items ls : List Label) (code : Code) (o h end : ℕ) (f : Option Fault) → order ≡ q.program.order
+pub told : (costing : Costing) (q : LabelledProgram) (order : Order) (items ls : List Label) (code : Code) (o h end : ℕ) (f : Option Fault)
+    → order ≡ q.program.order
     → code ≡ lowered q → ls ≡ items → ((x : ℕ) → label_in q.program.order items x ≡ labels_of q x)
-    → Found (low_in order ls o) (felt_in order h) code end f → MatchOption f (IsSteady q o h end) (IsFirstFault q o h end)
-told q order items ls code o h end f eo ec el same found =
-    subst (λ low. Found low (felt_in q.program.order h) (lowered q) end f) lows
-    (subst (λ z. Found (low_in q.program.order items o) (felt_in q.program.order h) z end f) ec
-    (subst (λ z. Found (low_in q.program.order z o) (felt_in q.program.order h) code end f) el
-    (subst (λ z. Found (low_in z ls o) (felt_in z h) code end f) eo found)))
+    → Found costing (low_in order ls o) (felt_in order h) code end f → MatchOption f (IsSteady costing q o h end) (IsFirstFault costing q o h end)
+told costing q order items ls code o h end f eo ec el same found =
+    subst (λ low. Found costing low (felt_in q.program.order h) (lowered q) end f) lows
+    (subst (λ z. Found costing (low_in q.program.order items o) (felt_in q.program.order h) z end f) ec
+    (subst (λ z. Found costing (low_in q.program.order z o) (felt_in q.program.order h) code end f) el
+    (subst (λ z. Found costing (low_in z ls o) (felt_in z h) code end f) eo found)))
   where
     lows : low_in q.program.order items o ≡ low_of (order_of q) (labels_of q) o
     lows = fun_ext (λ x. ap (λ l. (order_of q).flows l o) (same x))

@@ -14,6 +14,7 @@ use label_code::image::Image;
 use label_lattice::label::Label;
 use std::alloc::{AllocError, Global};
 use steady_code::check::first_fault;
+use steady_code::costing::Costing;
 use steady_code::fault::Fault;
 use steady_code::tail::last_seen;
 use timing_types::labelled::Labelled;
@@ -40,8 +41,8 @@ pub struct Answer {
 }
 
 /// Whether a labelled program, typed or not, is steady for an observer, where the environments agree in what they keep
-/// for labels that flow to `parts`: `steady_programs`, whose premise `lattice` gives, says what is true of its runs
-/// then. With `whole` something is asked of each instruction, and so its runs end at one cycle too; else up to the last
+/// for labels that flow to `parts`, and operators cost what `costing` says: `steady_programs`, whose premise `lattice`
+/// gives, says what is true of its runs then. With `whole` something is asked of each instruction, and so its runs end at one cycle too; else up to the last
 /// thing that is seen.
 ///
 /// # Errors
@@ -51,10 +52,11 @@ pub fn steady(
     p: &Labelled,
     observer: Label,
     parts: Label,
+    costing: Costing,
     whole: bool,
 ) -> Result<Answer, LowerFault>
     ensures judged { IfOk result (λ a. MatchOption a.fault
-        (IsSteady p.now observer.number parts.number a.end) (IsFirstFault p.now observer.number parts.number a.end)) }
+        (IsSteady costing p.now observer.number parts.number a.end) (IsFirstFault costing p.now observer.number parts.number a.end)) }
     ensures image { IfOk result (λ a. a.image ≡ lowered p.now) }
     ensures short { IfOk result (λ a. length a.image.instrs ≤ 200000) }
     ensures end { IfOk result (λ a. IsEnd p.now observer.number whole a.end) }
@@ -71,6 +73,8 @@ pub fn steady(
     } else {
         last_seen(&lattice, &labels, observer, &image)
     };
-    let fault = first_fault(alloc, &lattice, &labels, observer, parts, &image, end)?;
+    let fault = first_fault(
+        alloc, &lattice, &labels, observer, parts, costing, &image, end,
+    )?;
     Ok(Answer { image, end, fault })
 }

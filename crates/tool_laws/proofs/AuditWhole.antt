@@ -6,6 +6,7 @@ use Rattle.timing_types.specs.Labelled.{LabelledProgram}
 use Rattle.code_lower.specs.Lowered.{lowered}
 use Rattle.tool_words.specs.declared.words.EnvName.TheVariants.{Part}
 use Rattle.tool_words.specs.WordsAsked.{Asked, audit}
+use Rattle.tool_stages.specs.declared.envs.Environment.TheVariants.{Named}
 use Rattle.tool_texts.specs.declared.status.Status.{Status}
 use Rattle.tool_texts.specs.declared.status.Status.TheVariants.{Done}
 use Rattle.tool_stages.specs.Stages.{Observes, Types}
@@ -46,7 +47,7 @@ typable = (labels, are_labels, typed)
 
 -- what goes on with the least labelling, of which there is one
 abbrev GoesOn : LabelledProgram → Type 0
-GoesOn q = (length (lowered q).instrs ≤ 200000) × CanBeAudited Part budget q observer both_starts
+GoesOn q = (length (lowered q).instrs ≤ 200000) × CanBeAudited (Named Part) budget q observer both_starts
 
 eight : length (lowered labelled).instrs ≡ 8
 eight = refl

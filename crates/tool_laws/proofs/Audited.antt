@@ -7,6 +7,7 @@ use denote.RawPtr.{null_ptr}
 use Rattle.start_file.specs.Starts.{StartValue}
 use Rattle.leak_audit.specs.declared.report.AuditReport.{AuditReport}
 use Rattle.tool_words.specs.declared.words.EnvName.TheVariants.{Part}
+use Rattle.tool_stages.specs.declared.envs.Environment.TheVariants.{Named}
 use Rattle.tool_texts.specs.Reports.{audit_lines}
 use Rattle.tool_stages.specs.Goes.{CanBeAudited, HaltsBy, shown_in}
 use Rattle.tool_stages.specs.Envs.{ReportsIn}
@@ -16,17 +17,17 @@ use Rattle.tool_laws.proofs.AuditTypes.{labelled}
 use Rattle.tool_laws.proofs.Premises.{apart, begins}
 use Rattle.tool_laws.proofs.Starts.{untouched, both_starts}
 
-halts : All (HaltsBy Part budget labelled) both_starts
+halts : All (HaltsBy (Named Part) budget labelled) both_starts
 unfolding table flow_table join_table
 halts =
-    let P : StartValue → Type 0 = HaltsBy Part budget labelled in
+    let P : StartValue → Type 0 = HaltsBy (Named Part) budget labelled in
     All-cons P (untouched 0) (untouched 100 ∷ []) tt (All-cons P (untouched 100) [] tt (All-nil P))
 
-shown : shown_in Part labelled observer budget both_starts ≡ 2
+shown : shown_in (Named Part) labelled observer budget both_starts ≡ 2
 unfolding table flow_table join_table
 shown = refl
 
-pub can_be_audited : CanBeAudited Part budget labelled observer both_starts
+pub can_be_audited : CanBeAudited (Named Part) budget labelled observer both_starts
 can_be_audited = record { cut = record { agree = (apart Part).agree; few = omega (arith, shown) }; halt = halts }
 
 abbrev classes : Vec ℕ Global
@@ -44,7 +45,7 @@ classes = record {
 abbrev pub report : AuditReport
 report = record { runs = 2; mitigations = 1; measures = record { levels = 1; distinct = 2; base = 2; exponent = 10; classes = classes } }
 
-pub reports : ReportsIn Part labelled observer budget both_starts report
+pub reports : ReportsIn (Named Part) labelled observer budget both_starts report
 unfolding table flow_table join_table
 reports = record {
   agree = (apart Part).agree;

@@ -14,6 +14,7 @@ use Rattle.env_contract.specs.declared.place.Touch.{Touch}
 use Rattle.history_bound.specs.Over.{AnyHistory}
 use Rattle.tool_words.specs.declared.words.EnvName.{EnvName}
 use Rattle.tool_words.specs.declared.words.EnvName.TheVariants.{Flat, Part, Part2}
+use Rattle.tool_stages.specs.declared.envs.Environment.TheVariants.{Named}
 use Rattle.tool_stages.specs.Envs.{environment}
 use Rattle.tool_stages.specs.Stages.{Reads, Types}
 use Rattle.tool_laws.specs.FirstAudit.{program_text, observer, budget, with_secret, AreApart, IsMet}
@@ -79,11 +80,11 @@ both v h k c d n see see' =
     cycle_of : {c d : ℕ} → Wrote 1 (pos 1) c ∷ [] ≡ Wrote 1 (pos 1) d ∷ [] → c ≡ d
     cycle_of f = ap first_cycle f
 
-pub apart : (e : EnvName) → AreApart (environment e two) labelled (with_secret (pos 0)) (with_secret (pos 100))
+pub apart : (e : EnvName) → AreApart (environment (Named e) two) labelled (with_secret (pos 0)) (with_secret (pos 100))
 unfolding table flow_table join_table
-apart Flat = both (environment Flat two) refl refl 8 132 (λ e. absurd (omega (arith, e))) refl refl
-apart Part = both (environment Part two) refl refl 96 288 (λ e. absurd (omega (arith, e))) refl refl
-apart Part2 = both (environment Part2 two) refl refl 190 318 (λ e. absurd (omega (arith, e))) refl refl
+apart Flat = both (environment (Named Flat) two) refl refl 8 132 (λ e. absurd (omega (arith, e))) refl refl
+apart Part = both (environment (Named Part) two) refl refl 96 288 (λ e. absurd (omega (arith, e))) refl refl
+apart Part2 = both (environment (Named Part2) two) refl refl 190 318 (λ e. absurd (omega (arith, e))) refl refl
 
 pub met : (c : Option (Option (List ℕ))) → c ≡ Some (Some program_text) → IsMet c
 met c h = record { program = program; reads = reads c h; labelled = labelled; types = types; apart = apart }

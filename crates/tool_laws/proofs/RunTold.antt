@@ -18,6 +18,7 @@ use Rattle.env_contract.specs.Env.{Env}
 use Rattle.env_contract.specs.declared.place.Touch.{Touch}
 use Rattle.part_tlb.specs.Machine.{hardware_by_history}
 use Rattle.part_tlb.specs.Named.{flat_machine}
+use Rattle.tool_stages.specs.declared.envs.Environment.TheVariants.{Named}
 use Rattle.tool_stages.specs.Envs.{told_in}
 use Rattle.tool_stages.specs.Stages.{zero_start}
 use Rattle.tool_laws.specs.FirstRun.{first_answer}
@@ -53,7 +54,7 @@ comes l t h =
 abbrev pub first_told : Told
 first_told = record { events = Wrote 0 (pos 7) 2 ∷ []; end = Halted 3 }
 
-pub tells : (l : Labelling) (t : ℕ) → 3 ≤ t → told_in Flat program.order (lowered (with_labels l)) zeros t ≡ first_told
+pub tells : (l : Labelling) (t : ℕ) → 3 ≤ t → told_in (Named Flat) program.order (lowered (with_labels l)) zeros t ≡ first_told
 tells l t h = ap told_by (comes l t h)
 
 pub shows : (l : Labelling) → text_of (with_labels l) None first_told ≡ first_answer

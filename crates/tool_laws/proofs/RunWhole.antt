@@ -10,6 +10,7 @@ use Rattle.event_print.specs.Text.{text_of}
 use Rattle.cycle_machine.specs.Rest.{Told}
 use Rattle.tool_words.specs.declared.words.EnvName.TheVariants.{Flat}
 use Rattle.tool_words.specs.WordsAsked.{run}
+use Rattle.tool_stages.specs.declared.envs.Environment.TheVariants.{Named}
 use Rattle.tool_texts.specs.declared.status.Status.{Status}
 use Rattle.tool_texts.specs.declared.status.Status.TheVariants.{Done}
 use Rattle.tool_stages.specs.Stages.{Reads, Types}
@@ -53,9 +54,9 @@ short q e =
     let P : Syntax → Type 0 = λ p. length (lowered (record { program = p; labels = q.labels })).instrs ≡ 3 in
     subst P (sym e) (three q.labels)
 
-halts : (q : LabelledProgram) (t : ℕ) → 3 ≤ t → q.program ≡ program → HaltsBy Flat t q zeros
+halts : (q : LabelledProgram) (t : ℕ) → 3 ≤ t → q.program ≡ program → HaltsBy (Named Flat) t q zeros
 halts q t h e =
-    let P : Syntax → Type 0 = λ p. HaltsBy Flat t (record { program = p; labels = q.labels }) zeros in
+    let P : Syntax → Type 0 = λ p. HaltsBy (Named Flat) t (record { program = p; labels = q.labels }) zeros in
     subst P (sym e) (subst (λ (x : Told). IsHalted x.end) (sym (tells q.labels t h)) tt)
 
 -- ---- the command

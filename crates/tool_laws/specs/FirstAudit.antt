@@ -12,6 +12,7 @@ use Rattle.leak_bound.specs.Sound.{Agree, seen_from, Halts}
 use Rattle.env_contract.specs.declared.place.Touch.{Touch}
 use Rattle.history_bound.specs.Over.{AnyHistory}
 use Rattle.tool_words.specs.declared.words.EnvName.{EnvName}
+use Rattle.tool_stages.specs.declared.envs.Environment.TheVariants.{Named}
 use Rattle.tool_stages.specs.Stages.{Reads, Types}
 use Rattle.tool_stages.specs.Envs.{environment}
 
@@ -49,7 +50,7 @@ pub record IsMet (content : Option (Option (List ℕ))) : Type 0 where
   pub reads : Reads content program
   pub labelled : LabelledProgram
   pub types : Types program labelled
-  pub apart : (e : EnvName) → AreApart (environment e labelled.program.order) labelled (with_secret (pos 0)) (with_secret (pos 100))
+  pub apart : (e : EnvName) → AreApart (environment (Named e) labelled.program.order) labelled (with_secret (pos 0)) (with_secret (pos 100))
 
 -- ---- the audit
 

@@ -12,9 +12,9 @@ use Rattle.leak_bound.specs.Source.{IsTypedWith}
 use Rattle.tool_texts.specs.declared.status.Status.{Status}
 use Rattle.tool_texts.specs.declared.status.Status.TheVariants as status
 use Rattle.tool_texts.specs.Texts.{accepted_line}
-use Rattle.tool_words.specs.declared.words.EnvName.{EnvName}
+use Rattle.tool_stages.specs.declared.envs.Environment.{Environment}
 use Rattle.tool_stages.specs.Stages.{Reads, Types, Rechecks}
-use Rattle.tool_stages.specs.Envs.{environment}
+use Rattle.tool_stages.specs.Envs.{IsPartitioned, environment}
 
 -- The image of a labelled program is sound in an environment, for runs that halt and for runs that are cut. Its
 -- source is the program that is labelled, without its labels.
@@ -22,9 +22,9 @@ pub record IsSoundIn (v : Env (List Touch)) (q : LabelledProgram) : Type 0 where
   pub halted : Sound v q.program.order (AnyHistory q.program.order) (labels_of q) (levels_of q) (instrs_of q) (plan_of q.program)
   pub cut : CutSound v q.program.order (AnyHistory q.program.order) (labels_of q) (levels_of q) (instrs_of q) (plan_of q.program)
 
--- it is in each environment that `--env` names
+-- it is in each environment of a machine with partitions, as those are that `--env` names
 abbrev pub IsSound : LabelledProgram → Type 0
-IsSound q = (e : EnvName) → IsSoundIn (environment e q.program.order) q
+IsSound q = (e : Environment) → IsPartitioned e → IsSoundIn (environment e q.program.order) q
 
 -- every program is, with each labelling that types it, the least one or another
 abbrev pub TypedAreSound : Type 0

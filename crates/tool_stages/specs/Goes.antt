@@ -14,7 +14,7 @@ use Rattle.history_bound.specs.Over.{AnyHistory, history_made}
 use Rattle.start_file.specs.Starts.{StartValue}
 use Rattle.cycle_machine.specs.declared.end.RunEnd.{RunEnd}
 use Rattle.cycle_machine.specs.declared.end.RunEnd.TheVariants.{Halted, Limit}
-use Rattle.tool_words.specs.declared.words.EnvName.{EnvName}
+use Rattle.tool_stages.specs.declared.envs.Environment.{Environment}
 use Rattle.tool_stages.specs.Stages.{Reads, Observes, Types}
 use Rattle.tool_stages.specs.Envs.{environment, told_in}
 
@@ -39,24 +39,24 @@ IsHalted (Halted c) = ⊤
 IsHalted (Limit c) = ⊥
 
 -- the run of a program's image from a start halts by T
-abbrev pub HaltsBy : EnvName → ℕ → LabelledProgram → StartValue → Type 0
+abbrev pub HaltsBy : Environment → ℕ → LabelledProgram → StartValue → Type 0
 HaltsBy e t q s = IsHalted (told_in e q.program.order (lowered q) s t).end
 
 -- the starts agree pairwise for an observer
-abbrev pub AgreeIn : EnvName → LabelledProgram → ℕ → List StartValue → Type 0
+abbrev pub AgreeIn : Environment → LabelledProgram → ℕ → List StartValue → Type 0
 AgreeIn e q o ss = Pairwise (AgreeFor (environment e q.program.order) AnyHistory q o) (starts_of history_made q.program.order ss)
 
 -- how many assignments the runs to T show to the observer
-abbrev pub shown_in : EnvName → LabelledProgram → ℕ → ℕ → List StartValue → ℕ
+abbrev pub shown_in : Environment → LabelledProgram → ℕ → ℕ → List StartValue → ℕ
 shown_in e q o t ss = shown_by_all (environment e q.program.order) q o t (starts_of history_made q.program.order ss)
 
 -- they agree, and show few enough
-pub record CanCut (e : EnvName) (t : ℕ) (q : LabelledProgram) (o : ℕ) (ss : List StartValue) : Type 0 where
+pub record CanCut (e : Environment) (t : ℕ) (q : LabelledProgram) (o : ℕ) (ss : List StartValue) : Type 0 where
   pub agree : AgreeIn e q o ss
   pub few : shown_in e q o t ss ≤ 16777216
 
 -- and all have halted by T
-pub record CanBeAudited (e : EnvName) (t : ℕ) (q : LabelledProgram) (o : ℕ) (ss : List StartValue) : Type 0 where
+pub record CanBeAudited (e : Environment) (t : ℕ) (q : LabelledProgram) (o : ℕ) (ss : List StartValue) : Type 0 where
   pub cut : CanCut e t q o ss
   pub halt : All (HaltsBy e t q) ss
 

@@ -35,7 +35,7 @@ fn file_stop(kind: &[u8], fault: FetchFault) -> Stop
 }
 
 /// The bytes that a file holds, at most `LIMIT`. The line of a fault calls the file by its kind: `program`, `starts`,
-/// `ready` or `certificate`.
+/// `ready`, `certificate` or `machine`.
 ///
 /// # Errors
 /// Stops with `ReadFault`, `TooLong` or `Memory`.

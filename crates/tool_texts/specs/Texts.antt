@@ -46,12 +46,14 @@ pub data File : Type 0 where
   starts : File
   ready : File
   certificate : File
+  machine : File
 
 abbrev pub file_name : File → List ℕ
 file_name program = codes "program"
 file_name starts = codes "starts"
 file_name ready = codes "ready"
 file_name certificate = codes "certificate"
+file_name machine = codes "machine"
 
 abbrev pub read_fault_line : File → List ℕ
 read_fault_line f = codes "read fault: " ++ (file_name f ++ codes "\n")

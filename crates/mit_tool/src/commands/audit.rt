@@ -16,8 +16,9 @@ use audit_stage::audited::audited;
 use run_watch::Watch;
 use std::alloc::Global;
 use tim_base::shelf::Shelf;
+use tool_stages::envs::Environment;
 use tool_stages::prepared::{Prepared, prepare};
-use tool_stages::setting::Setting;
+use tool_stages::setting::{NamedSetting, Setting};
 use tool_texts::pieces::audits::put_audit;
 use tool_texts::status::Status;
 use tool_texts::stop::{Stop, no_memory};
@@ -30,7 +31,7 @@ pub fn audit_after<W: Watch>(
     alloc: Global,
     mut text: Vec<u8>,
     p: &Prepared,
-    setting: Setting,
+    setting: NamedSetting,
     watch: &W,
 ) -> Result<Vec<u8>, Stop>
     requires fit { CanAudit p.now.compiled.typed.labelled p.now.observer p.now.compiled.image (map seen p.now.starts.items) }
@@ -41,7 +42,11 @@ pub fn audit_after<W: Watch>(
         text.items)) }
 {
     let program = p.compiled.typed.labelled().program();
-    let report = match audited(alloc, p, setting, watch) {
+    let named = Setting {
+        env: Environment::Named(setting.env),
+        budget: setting.budget,
+    };
+    let report = match audited(alloc, p, named, watch) {
         Ok(report) => report,
         Err(stop) => return Err(stop),
     };
@@ -62,7 +67,7 @@ pub fn audit_text<S: Shelf, W: Watch>(
     file: &str,
     starts: &str,
     name: &str,
-    setting: Setting,
+    setting: NamedSetting,
     watch: &W,
 ) -> Result<Vec<u8>, Stop>
     requires { IsCycles setting.budget }

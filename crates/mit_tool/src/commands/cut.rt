@@ -10,7 +10,8 @@ ghost use Rattle.tool_words.specs.declared.words.EnvName.{EnvName};
 ghost use Rattle.run_limits.specs.Cycles.{IsCycles};
 ghost use Rattle.tool_words.specs.WordsAsked.{cut};
 ghost use Rattle.tool_texts.specs.Ends.{IsStop};
-ghost use Rattle.tool_stages.specs.Envs.{CutReportsIn, CutFaultsIn};
+ghost use Rattle.tool_stages.specs.declared.envs.Environment.{Environment};
+ghost use Rattle.tool_stages.specs.Envs.{machine_of, CutReportsIn, CutFaultsIn};
 ghost use Rattle.tool_stages.specs.Begins.{CanAudit};
 ghost use Rattle.tool_stages.specs.Fetches.{Fetches};
 ghost use Rattle.mit_tool.specs.Audited.{CutStops, HasCut};
@@ -23,33 +24,35 @@ use mit_syntax::program::Program;
 use run_watch::Watch;
 use std::alloc::Global;
 use tim_base::shelf::Shelf;
-use tool_stages::envs::NamedEnv;
-use tool_stages::in_env;
-use tool_stages::laws::named_tell_as_histories;
+use tool_stages::envs::MachineMaker;
+use tool_stages::in_named;
+use tool_stages::laws::makers_tell_as_histories;
 use tool_stages::prepared::{Prepared, prepare};
-use tool_stages::setting::Setting;
+use tool_stages::setting::NamedSetting;
 use tool_texts::lines;
 use tool_texts::pieces::audits::put_cut;
 use tool_texts::status::Status;
 use tool_texts::stop::{Stop, no_memory};
 
 // Audits runs that may not have halted in the environments of a maker, which have the name.
-fn cut_in<E: MachineEnv + Drop, M: NamedEnv<E>, W: Watch>(
+fn cut_in<E: MachineEnv + Drop, M: MachineMaker<E>, W: Watch>(
     alloc: Global,
     maker: &M,
     p: &Prepared,
-    setting: Setting,
+    setting: NamedSetting,
     watch: &W,
 ) -> Result<CutReport, CutFault>
     requires fit { CanAudit p.now.compiled.typed.labelled p.now.observer p.now.compiled.image (map seen p.now.starts.items) }
     requires cycles { IsCycles setting.budget }
-    requires named { setting.env ≡ M.name }
-    ensures report { IfOk result (CutReportsIn setting.env p.now.compiled.typed.labelled p.now.observer.number setting.budget (map seen p.now.starts.items)) }
-    ensures fault { IfErr result (CutFaultsIn setting.env p.now.compiled.typed.labelled p.now.observer.number setting.budget (map seen p.now.starts.items)) }
+    requires machine { machine_of setting.env ≡ M.machine maker.now }
+    ensures report { IfOk result (CutReportsIn (Environment.Named setting.env) p.now.compiled.typed.labelled p.now.observer.number setting.budget
+        (map seen p.now.starts.items)) }
+    ensures fault { IfErr result (CutFaultsIn (Environment.Named setting.env) p.now.compiled.typed.labelled p.now.observer.number setting.budget
+        (map seen p.now.starts.items)) }
 {
     let (typed, image, starts) = (&p.compiled.typed, &p.compiled.image, p.starts.as_slice());
     image.laws();
-    named_tell_as_histories::<E, M>();
+    makers_tell_as_histories::<E, M>();
     cut(
         alloc,
         typed,
@@ -66,20 +69,23 @@ fn cut_in<E: MachineEnv + Drop, M: NamedEnv<E>, W: Watch>(
 fn cut_named<W: Watch>(
     alloc: Global,
     p: &Prepared,
-    setting: Setting,
+    setting: NamedSetting,
     watch: &W,
 ) -> Result<CutReport, CutFault>
     requires fit { CanAudit p.now.compiled.typed.labelled p.now.observer p.now.compiled.image (map seen p.now.starts.items) }
     requires cycles { IsCycles setting.budget }
-    ensures report { IfOk result (CutReportsIn setting.env p.now.compiled.typed.labelled p.now.observer.number setting.budget (map seen p.now.starts.items)) }
-    ensures fault { IfErr result (CutFaultsIn setting.env p.now.compiled.typed.labelled p.now.observer.number setting.budget (map seen p.now.starts.items)) }
+    ensures report { IfOk result (CutReportsIn (Environment.Named setting.env) p.now.compiled.typed.labelled p.now.observer.number setting.budget
+        (map seen p.now.starts.items)) }
+    ensures fault { IfErr result (CutFaultsIn (Environment.Named setting.env) p.now.compiled.typed.labelled p.now.observer.number setting.budget
+        (map seen p.now.starts.items)) }
 {
-    in_env!(setting.env, maker => cut_in(alloc, maker, p, setting, watch))
+    in_named!(setting.env, maker => cut_in(alloc, maker, p, setting, watch))
 }
 
 // The stop for an audit without a report.
 fn cut_stop(p: &Program, fault: CutFault) -> Stop
-    ensures { (e : EnvName) (t : ℕ) (q : LabelledProgram) (l : Label) (ss : List StartValue) → p.now ≡ q.program → CutFaultsIn e q l.number t ss fault
+    ensures { (e : EnvName) (t : ℕ) (q : LabelledProgram) (l : Label) (ss : List StartValue) → p.now ≡ q.program
+        → CutFaultsIn (Environment.Named e) q l.number t ss fault
         → IsStop (CutStops e t q l ss) result }
 {
     match fault {
@@ -99,7 +105,7 @@ fn cut_stop(p: &Program, fault: CutFault) -> Stop
 fn cut_report<W: Watch>(
     alloc: Global,
     p: &Prepared,
-    setting: Setting,
+    setting: NamedSetting,
     watch: &W,
 ) -> Result<Vec<u8>, Stop>
     requires fit { CanAudit p.now.compiled.typed.labelled p.now.observer p.now.compiled.image (map seen p.now.starts.items) }
@@ -132,7 +138,7 @@ pub fn cut_text<S: Shelf, W: Watch>(
     file: &str,
     starts: &str,
     name: &str,
-    setting: Setting,
+    setting: NamedSetting,
     watch: &W,
 ) -> Result<Vec<u8>, Stop>
     requires { IsCycles setting.budget }

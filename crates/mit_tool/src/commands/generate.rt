@@ -19,7 +19,7 @@ use std::alloc::{AllocError, Global};
 use tool_stages::compiled::compile_program;
 use tool_stages::prepared::Prepared;
 use tool_stages::program::program_of;
-use tool_stages::setting::Setting;
+use tool_stages::setting::NamedSetting;
 use tool_stages::starts::starts_of;
 use tool_texts::pieces::audits::put_made;
 use tool_texts::status::Status;
@@ -27,7 +27,7 @@ use tool_texts::stop::{Stop, no_memory};
 use tool_words::words::EnvName;
 
 /// The environment and the budget of the audit of a made program.
-const SETTING: Setting = Setting {
+const SETTING: NamedSetting = NamedSetting {
     env: EnvName::Part,
     budget: MAX_CYCLES,
 };

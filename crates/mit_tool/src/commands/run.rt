@@ -8,6 +8,7 @@ ghost use Rattle.start_file.specs.Starts.{seen, IsFor};
 ghost use Rattle.cycle_machine.specs.Rest.{told_by};
 ghost use Rattle.tool_words.specs.WordsAsked.{run};
 ghost use Rattle.tool_texts.specs.Ends.{EndsBy, Nothing};
+ghost use Rattle.tool_stages.specs.Envs.{machine_of};
 ghost use Rattle.tool_stages.specs.Stages.{HasImage};
 ghost use Rattle.tool_stages.specs.Fetches.{HasFetched, named};
 ghost use Rattle.mit_tool.specs.Logged.{HasWritten, AreLines, IsRunLine};
@@ -24,10 +25,10 @@ use std::alloc::Global;
 use tim_base::shelf::Shelf;
 use tim_base::sink::Sink;
 use tool_stages::compiled::Compiled;
-use tool_stages::envs::NamedEnv;
-use tool_stages::in_env;
-use tool_stages::laws::named_tell_as_histories;
-use tool_stages::setting::Setting;
+use tool_stages::envs::MachineMaker;
+use tool_stages::in_named;
+use tool_stages::laws::makers_tell_as_histories;
+use tool_stages::setting::NamedSetting;
 use tool_stages::started::ready;
 use tool_texts::finish::{stop, stop_for_memory};
 use tool_texts::status::Status;
@@ -46,7 +47,7 @@ fn run_in<E: MachineEnv + Drop, M: MakeEnv<E>, W: Sink>(
     requires observer { IfSome program.now.observer (λ o. o.number < program.now.typed.labelled.program.order.size) }
     ensures ended { EndsBy (W.taken out.old) (W.taken out.new) Nothing (HasTold program.now.typed.labelled program.now.observer
         (told_by (run_from E.env program.now.image.instrs budget
-        (record { memory = start.memory.items; env = M.made program.now.typed.labelled.program.order start.touches.items })))) result }
+        (record { memory = start.memory.items; env = M.made maker.now program.now.typed.labelled.program.order start.touches.items })))) result }
     ensures later { W.faults out.old ≤ W.faults out.new }
     ensures fault { result ≡ Status.WriteFault → Rose (W.faults out.old) (W.faults out.new) }
     ensures pieces { HasWritten (AreLines IsRunLine) result (W.log out.old) (W.log out.new) }
@@ -74,18 +75,18 @@ fn run_in<E: MachineEnv + Drop, M: MakeEnv<E>, W: Sink>(
 }
 
 // Runs a program in the environment that a maker makes, which has the name.
-fn run_as<E: MachineEnv + Drop, M: NamedEnv<E>, W: Sink>(
+fn run_as<E: MachineEnv + Drop, M: MachineMaker<E>, W: Sink>(
     alloc: Global,
     maker: &M,
     program: &Compiled,
     start: Start,
-    setting: Setting,
+    setting: NamedSetting,
     out: &mut W,
 ) -> Status
     requires image { HasImage program.now.typed.labelled program.now.image }
     requires start { IsFor program.now.typed.labelled.program (seen start) }
     requires observer { IfSome program.now.observer (λ o. o.number < program.now.typed.labelled.program.order.size) }
-    requires named { setting.env ≡ M.name }
+    requires machine { machine_of setting.env ≡ M.machine maker.now }
     ensures ended { EndsBy (W.taken out.old) (W.taken out.new) Nothing
         (HasRun setting.env setting.budget program.now.typed.labelled program.now.observer program.now.image (seen start)) result }
     ensures later { W.faults out.old ≤ W.faults out.new }
@@ -94,7 +95,7 @@ fn run_as<E: MachineEnv + Drop, M: NamedEnv<E>, W: Sink>(
     ensures unread { result ≢ Status.ReadFault }
 {
     program.image.laws();
-    named_tell_as_histories::<E, M>();
+    makers_tell_as_histories::<E, M>();
     run_in(alloc, maker, program, start, setting.budget, out)
 }
 
@@ -103,7 +104,7 @@ fn run_named<W: Sink>(
     alloc: Global,
     program: &Compiled,
     start: Start,
-    setting: Setting,
+    setting: NamedSetting,
     out: &mut W,
 ) -> Status
     requires image { HasImage program.now.typed.labelled program.now.image }
@@ -116,7 +117,7 @@ fn run_named<W: Sink>(
     ensures pieces { HasWritten (AreLines IsRunLine) result (W.log out.old) (W.log out.new) }
     ensures unread { result ≢ Status.ReadFault }
 {
-    in_env!(setting.env, maker => run_as(alloc, maker, program, start, setting, out))
+    in_named!(setting.env, maker => run_as(alloc, maker, program, start, setting, out))
 }
 
 /// Runs the program of a file from the first start of another one, or from zeros.
@@ -127,7 +128,7 @@ pub fn run<S: Shelf, W: Sink>(
     file: &str,
     starts: Option<&str>,
     name: Option<&str>,
-    setting: Setting,
+    setting: NamedSetting,
 ) -> Status
     ensures same { KeepsFiles (S.content shelf.old) (S.content shelf.new) }
     ensures later { NoCountFalls (S.faults shelf.old) (S.faults shelf.new) }

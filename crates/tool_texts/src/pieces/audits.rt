@@ -13,8 +13,11 @@ use leak_audit::measure::Measures;
 use leak_audit::report::AuditReport;
 use std::alloc::AllocError;
 
-// Appends a line for each run, by its class.
-fn put_classes(text: &mut Vec<u8>, classes: &[u32]) -> Result<(), AllocError>
+/// Appends a line for each run, by its class.
+///
+/// # Errors
+/// `AllocError` where memory runs out.
+pub fn put_classes(text: &mut Vec<u8>, classes: &[u32]) -> Result<(), AllocError>
     ensures { OnOk result (text.new.items ≡ text.old.items ++ class_lines 1 classes.now) }
 {
     for (k, found) in classes.iter().enumerate() {

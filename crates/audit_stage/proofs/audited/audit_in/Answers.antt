@@ -12,10 +12,12 @@ returns g c =
     let xs = map seen c.as_slice-starts.result.now in
     let ss = map seen p.starts.items in
     let same = ap (map seen) c.as_slice-starts.ensures.value in
-    let alike = c.named_tell_as_histories.ensures.audits in
+    let alike = c.makers_tell_as_histories.ensures.audits c.args.maker.now in
     record {
-      report = named_report g.E.MachineEnv.env g.M.MakeEnv.made c.args.setting.env g.M.NamedEnv.name c.requires.named q p.compiled.image
+      report = named_report g.E.MachineEnv.env (g.M.MakeEnv.made c.args.maker.now) c.args.setting.env
+          (g.M.MachineMaker.machine c.args.maker.now) c.requires.machine q p.compiled.image
           c.laws.ensures.shaped g.E.MachineEnv.serves alike p.observer t xs ss same c.requires.fit c.audit.result c.audit.ensures.report;
-      fault = named_fault g.E.MachineEnv.env g.M.MakeEnv.made c.args.setting.env g.M.NamedEnv.name c.requires.named q p.compiled.image
+      fault = named_fault g.E.MachineEnv.env (g.M.MakeEnv.made c.args.maker.now) c.args.setting.env (g.M.MachineMaker.machine c.args.maker.now)
+          c.requires.machine q p.compiled.image
           c.laws.ensures.shaped g.E.MachineEnv.serves alike p.observer t xs ss same c.requires.fit c.audit.result c.audit.ensures.fault;
     }

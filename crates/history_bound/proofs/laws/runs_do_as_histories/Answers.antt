@@ -2,4 +2,5 @@ use Rattle.history_bound.proofs.Runs.{runs_by_history}
 use Rattle.history_bound.proofs.laws.runs_do_as_histories.Goals as goal
 
 pub returns : goal.returns
-returns g c = runs_by_history _ g.M.ByHistory.stands _ g.M.ByHistory.by_history g.met.M.ByHistory.does g.met.M.ByHistory.starts
+returns g c maker =
+    runs_by_history _ (g.M.ByHistory.stands maker) _ (g.M.ByHistory.by_history maker) (g.met.M.ByHistory.does maker) (g.met.M.ByHistory.starts maker)

@@ -19,7 +19,7 @@ returns-in-Ok-write_line g c =
     let p = c.labelled-labelled.result.now in
     let words = codes "class " ++ (decimal c.args.size ++ codes " first ") in
     let told : LabelledProgram → Told = λ q. told_by (run_from v c.args.p.now.compiled.image.instrs c.args.budget
-    (start_of g.M.MakeEnv.made q.program.order (seen c.args.start.now))) in
+    (start_of (g.M.MakeEnv.made c.args.maker.now) q.program.order (seen c.args.start.now))) in
     subst (λ (q : LabelledProgram). c.write_line.new.out.text.items
     ≡ c.args.out.now.text.items ++ (words ++ line_text q c.args.p.now.observer c.args.first (told q)))
     c.labelled-labelled.ensures.labelled

@@ -83,8 +83,8 @@ loop-k-preserved g c =
     (how_many e t q l code c.requires.fit.image items) c.as_slice-starts.ensures.value in
     let fits = fits_here (IsFor q.program) c.as_slice-starts.result.now items (first - 1) x c.requires.fit.starts c.as_slice-starts.ensures.value
     here c.index-starts-first.is in
-    let told = named_told g.E.MachineEnv.env g.M.MakeEnv.made e g.M.NamedEnv.name c.requires.named q code
-    c.laws.ensures.shaped c.named_tell_as_histories.ensures.runs c.requires.fit.image (seen x) fits t in
+    let told = named_told g.E.MachineEnv.env (g.M.MakeEnv.made c.args.maker.now) e (g.M.MachineMaker.machine c.args.maker.now) c.requires.machine q code
+    c.laws.ensures.shaped (c.makers_tell_as_histories.ensures.runs c.args.maker.now) c.requires.fit.image (seen x) fits t in
     let there : first - 1 < length items = subst (λ xs. first - 1 < length xs) c.as_slice-starts.ensures.value here in
     let is : x ≡ get_or items (first - 1) x = c.index-starts-first.is ∙ ap (λ xs. get_or xs (first - 1) x) c.as_slice-starts.ensures.value in
     let line = class_is e t q l code c.requires.fit.image items classes.seen classes.firsts k a x (first - 1) first size there is refl

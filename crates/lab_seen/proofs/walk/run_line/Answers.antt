@@ -15,7 +15,8 @@ returns-clause-prefix g c = λ e.
     let p = c.labelled-labelled.result.now in
     subst (λ (q : LabelledProgram). AppendsPrefix (g.W.Sink.taken c.args.out.now) (g.W.Sink.taken c.write_line.new.out)
     (line_text q c.args.observer c.args.number
-    (told_by (run_from v c.args.p.now.program.image.instrs c.args.budget (start_of g.M.MakeEnv.made q.program.order (seen c.args.start.now))))))
+    (told_by (run_from v c.args.p.now.program.image.instrs c.args.budget (start_of (g.M.MakeEnv.made c.args.maker.now) q.program.order
+    (seen c.args.start.now))))))
     c.labelled-labelled.ensures
     (subst (λ (z : Told). AppendsPrefix (g.W.Sink.taken c.args.out.now) (g.W.Sink.taken c.write_line.new.out)
     (line_text p c.args.observer c.args.number z)) (c.in-Ok.ensures.runs c.args.budget) c.in-Err.ensures.prefix)

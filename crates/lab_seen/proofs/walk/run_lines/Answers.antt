@@ -48,9 +48,10 @@ returns-in-Err-clause-prefix g c = λ e.
     (g.W.Sink.taken c.run_line.new.out) c.loop-i.invariant.written
     (subst (λ (z : Told). AppendsPrefix (g.W.Sink.taken c.loop-i.out) (g.W.Sink.taken c.run_line.new.out)
     (line_text q c.args.observer (c.loop-i.i + 1) z))
-    (named_told g.E.MachineEnv.env g.M.MakeEnv.made c.args.setting.env g.M.NamedEnv.name c.requires.named q
+    (named_told g.E.MachineEnv.env (g.M.MakeEnv.made c.args.maker.now) c.args.setting.env (g.M.MachineMaker.machine c.args.maker.now) c.requires.machine q
     c.args.p.now.program.image
-    c.laws.ensures.shaped c.named_tell_as_histories.ensures.runs c.requires.fit.image (seen x) fits c.args.setting.budget) (c.in-Err.ensures.prefix e))
+    c.laws.ensures.shaped (c.makers_tell_as_histories.ensures.runs c.args.maker.now) c.requires.fit.image (seen x) fits c.args.setting.budget)
+    (c.in-Err.ensures.prefix e))
 
 pub loop-i-preserved : goal.loop-i-preserved
 loop-i-preserved g c =
@@ -68,8 +69,9 @@ loop-i-preserved g c =
           (g.W.Sink.taken c.run_line.new.out) c.loop-i.invariant.written
           (subst (λ (z : Told). Appends (g.W.Sink.taken c.loop-i.out) (g.W.Sink.taken c.run_line.new.out)
           (line_text q c.args.observer (c.loop-i.i + 1) z))
-          (named_told g.E.MachineEnv.env g.M.MakeEnv.made c.args.setting.env g.M.NamedEnv.name c.requires.named q
+          (named_told g.E.MachineEnv.env (g.M.MakeEnv.made c.args.maker.now) c.args.setting.env (g.M.MachineMaker.machine c.args.maker.now) c.requires.machine q
           c.args.p.now.program.image
-          c.laws.ensures.shaped c.named_tell_as_histories.ensures.runs c.requires.fit.image (seen x) fits c.args.setting.budget) c.in-Ok.ensures.text);
+          c.laws.ensures.shaped (c.makers_tell_as_histories.ensures.runs c.args.maker.now) c.requires.fit.image (seen x) fits c.args.setting.budget)
+          c.in-Ok.ensures.text);
       later = up_to _ _ _ c.loop-i.invariant.later c.run_line.ensures.later;
     }

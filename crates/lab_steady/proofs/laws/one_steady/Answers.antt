@@ -4,5 +4,5 @@ use Rattle.lab_steady.proofs.OneAnswer.{one_in}
 use Rattle.lab_steady.proofs.laws.one_steady.Goals as goal
 
 pub returns : goal.returns
-returns c = λ content before now file observer parts whole s u t x known n.
-    one_in file observer (parts_or parts observer) whole (λ name. Rose (before name) (now name)) content s u t x n known
+returns c = λ constant content before now file observer parts whole s u t x known n.
+    one_in constant file observer (parts_or parts observer) whole (λ name. Rose (before name) (now name)) content s u t x n known

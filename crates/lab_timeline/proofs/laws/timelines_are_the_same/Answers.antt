@@ -9,5 +9,7 @@ use Rattle.lab_timeline.proofs.Alike.{timelines_tell_alike}
 use Rattle.lab_timeline.proofs.laws.timelines_are_the_same.Goals as goal
 
 pub returns : goal.returns
-returns g c = subst (λ (w : Order → Env (List Touch)). TimelinesTellAlike g.E.MachineEnv.env g.M.MakeEnv.made w history_made) g.met.M.NamedEnv.means
-    (timelines_tell_alike _ _ g.M.ByHistory.by_history history_made g.M.ByHistory.stands g.met.M.ByHistory.does g.met.M.ByHistory.starts)
+returns g c maker =
+    subst (λ (w : Order → Env (List Touch)). TimelinesTellAlike g.E.MachineEnv.env (g.M.MakeEnv.made maker) w history_made) (g.met.M.MachineMaker.means maker)
+    (timelines_tell_alike _ _ (g.M.ByHistory.by_history maker) history_made (g.M.ByHistory.stands maker) (g.met.M.ByHistory.does maker)
+    (g.met.M.ByHistory.starts maker))

@@ -1,132 +1,40 @@
-use Rattle.std.proofs.Common.{ℕ, List, [], Option, Bor, refl, sym, subst}
+use Rattle.std.proofs.Common.{◌∙◌, ◌++◌, ℕ, List, ap, subst, sym}
 use Rattle.tim_base.specs.Faults.{Rose}
-use Rattle.tool_texts.specs.declared.status.Status.TheVariants.{Done}
 use Rattle.tool_texts.specs.Ends.{EndsBy}
-use Rattle.tool_texts.proofs.EndLemmas.{ends_finish}
 use Rattle.tool_stages.specs.Fetches.{HasFetched}
-use Rattle.tool_stages.proofs.FetchLemmas.{fetched_nothing, never_read}
-use Rattle.lab_words.specs.declared.question.Question.{Question}
-use Rattle.lab_words.specs.declared.question.Question.TheVariants.{Why}
-use Rattle.lab_words.specs.QuestionAsked.{help, version}
-use Rattle.lab_words.specs.QuestionViews.{asked_of}
-use Rattle.lab_tool.specs.Answers.{Before, IsAnswer}
-use Rattle.lab_tool.specs.Complete.{files_of}
+use Rattle.lab_words.specs.QuestionAsked.{MachineAsked}
+use Rattle.lab_words.specs.QuestionViews.{asked_of, machine_of}
+use Rattle.lab_tool.specs.Answers.{BeforeIn, IsAnswerIn}
+use Rattle.lab_tool.specs.Complete.{own_files}
+use Rattle.lab_tool.specs.Machines.{BeforeOn, OnMachine, machine_files}
 use Rattle.lab_tool.proofs.main_call.obey.Goals as goal
 
-pub returns-in-None-clause-answered : goal.returns-in-None-clause-answered
-returns-in-None-clause-answered g c =
+pub returns-in-Named-clause-answered : goal.returns-in-Named-clause-answered
+returns-in-Named-clause-answered g c =
     let content = g.S.Shelf.content c.args.shelf.now in
-    let rises = λ (name : List ℕ). Rose (g.S.Shelf.faults c.args.shelf.now name) (g.S.Shelf.faults c.why.new.shelf name) in
-    let P = λ (x : Question). EndsBy (g.W.Sink.taken c.args.out.now) (g.W.Sink.taken c.why.new.out) (Before content (asked_of x))
-    (IsAnswer rises content (asked_of x)) c.why.result in
-    subst P (sym c.in-Why.is) (subst (λ (o : Option (Bor (List ℕ))). P (Why c.in-Why.file o)) (sym c.in-None.is) c.why.ensures.answered)
+    let rises = λ (name : List ℕ). Rose (g.S.Shelf.faults c.args.shelf.now name) (g.S.Shelf.faults c.obey_in.new.shelf name) in
+    let a = asked_of c.args.question in
+    subst (λ (x : MachineAsked). EndsBy (g.W.Sink.taken c.args.out.now) (g.W.Sink.taken c.obey_in.new.out) (BeforeOn content x (λ e. BeforeIn e content a))
+    (OnMachine rises content x (λ e. IsAnswerIn e rises content a)) c.obey_in.result) (sym (ap machine_of c.in-Named.is) ∙ c.machine_in.ensures)
+    c.obey_in.ensures.answered
 
-pub returns-in-Some-clause-answered : goal.returns-in-Some-clause-answered
-returns-in-Some-clause-answered g c =
+pub returns-in-Described-clause-answered : goal.returns-in-Described-clause-answered
+returns-in-Described-clause-answered g c =
     let content = g.S.Shelf.content c.args.shelf.now in
-    let rises = λ (name : List ℕ). Rose (g.S.Shelf.faults c.args.shelf.now name) (g.S.Shelf.faults c.why_of.new.shelf name) in
-    let P = λ (x : Question). EndsBy (g.W.Sink.taken c.args.out.now) (g.W.Sink.taken c.why_of.new.out) (Before content (asked_of x))
-    (IsAnswer rises content (asked_of x)) c.why_of.result in
-    subst P (sym c.in-Why.is) (subst (λ (o : Option (Bor (List ℕ))). P (Why c.in-Why.file o)) (sym c.in-Some.is) c.why_of.ensures.answered)
+    let rises = λ (name : List ℕ). Rose (g.S.Shelf.faults c.args.shelf.now name) (g.S.Shelf.faults c.obey_on.new.shelf name) in
+    let a = asked_of c.args.question in
+    subst (λ (x : MachineAsked). EndsBy (g.W.Sink.taken c.args.out.now) (g.W.Sink.taken c.obey_on.new.out) (BeforeOn content x (λ e. BeforeIn e content a))
+    (OnMachine rises content x (λ e. IsAnswerIn e rises content a)) c.obey_on.result) (sym (ap machine_of c.in-Described.is) ∙ c.machine_in.ensures)
+    c.obey_on.ensures.answered
 
-pub returns-in-Seen-clause-answered : goal.returns-in-Seen-clause-answered
-returns-in-Seen-clause-answered g c =
-    let content = g.S.Shelf.content c.args.shelf.now in
-    let rises = λ (name : List ℕ). Rose (g.S.Shelf.faults c.args.shelf.now name) (g.S.Shelf.faults c.seen.new.shelf name) in
-    subst (λ (x : Question). EndsBy (g.W.Sink.taken c.args.out.now) (g.W.Sink.taken c.seen.new.out) (Before content (asked_of x))
-    (IsAnswer rises content (asked_of x)) c.seen.result) (sym c.in-Seen.is) c.seen.ensures.answered
+pub returns-in-Named-clause-fetched : goal.returns-in-Named-clause-fetched
+returns-in-Named-clause-fetched g c =
+    let a = asked_of c.args.question in
+    subst (λ (x : MachineAsked). HasFetched (machine_files x ++ own_files a) c.obey_in.result (g.S.Shelf.log c.args.shelf.now)
+    (g.S.Shelf.log c.obey_in.new.shelf)) (sym (ap machine_of c.in-Named.is) ∙ c.machine_in.ensures) c.obey_in.ensures.fetched
 
-pub returns-in-Bound-clause-answered : goal.returns-in-Bound-clause-answered
-returns-in-Bound-clause-answered g c =
-    let content = g.S.Shelf.content c.args.shelf.now in
-    let rises = λ (name : List ℕ). Rose (g.S.Shelf.faults c.args.shelf.now name) (g.S.Shelf.faults c.bound.new.shelf name) in
-    subst (λ (x : Question). EndsBy (g.W.Sink.taken c.args.out.now) (g.W.Sink.taken c.bound.new.out) (Before content (asked_of x))
-    (IsAnswer rises content (asked_of x)) c.bound.result) (sym c.in-Bound.is) c.bound.ensures.answered
-
-pub returns-in-Steady-clause-answered : goal.returns-in-Steady-clause-answered
-returns-in-Steady-clause-answered g c =
-    let content = g.S.Shelf.content c.args.shelf.now in
-    let rises = λ (name : List ℕ). Rose (g.S.Shelf.faults c.args.shelf.now name) (g.S.Shelf.faults c.steady.new.shelf name) in
-    subst (λ (x : Question). EndsBy (g.W.Sink.taken c.args.out.now) (g.W.Sink.taken c.steady.new.out) (Before content (asked_of x))
-    (IsAnswer rises content (asked_of x)) c.steady.result) (sym c.in-Steady.is) c.steady.ensures.answered
-
-pub returns-in-Leak-clause-answered : goal.returns-in-Leak-clause-answered
-returns-in-Leak-clause-answered g c =
-    let content = g.S.Shelf.content c.args.shelf.now in
-    let rises = λ (name : List ℕ). Rose (g.S.Shelf.faults c.args.shelf.now name) (g.S.Shelf.faults c.leak.new.shelf name) in
-    subst (λ (x : Question). EndsBy (g.W.Sink.taken c.args.out.now) (g.W.Sink.taken c.leak.new.out) (Before content (asked_of x))
-    (IsAnswer rises content (asked_of x)) c.leak.result) (sym c.in-Leak.is) c.leak.ensures.answered
-
-pub returns-in-Timeline-clause-answered : goal.returns-in-Timeline-clause-answered
-returns-in-Timeline-clause-answered g c =
-    let content = g.S.Shelf.content c.args.shelf.now in
-    let rises = λ (name : List ℕ). Rose (g.S.Shelf.faults c.args.shelf.now name) (g.S.Shelf.faults c.timeline.new.shelf name) in
-    subst (λ (x : Question). EndsBy (g.W.Sink.taken c.args.out.now) (g.W.Sink.taken c.timeline.new.out) (Before content (asked_of x))
-    (IsAnswer rises content (asked_of x)) c.timeline.result) (sym c.in-Timeline.is) c.timeline.ensures.answered
-
-pub returns-in-None-clause-fetched : goal.returns-in-None-clause-fetched
-returns-in-None-clause-fetched g c =
-    subst (λ (x : Question). HasFetched (files_of (asked_of x)) c.why.result (g.S.Shelf.log c.args.shelf.now) (g.S.Shelf.log c.why.new.shelf))
-    (sym c.in-Why.is) c.why.ensures.fetched
-
-pub returns-in-Some-clause-fetched : goal.returns-in-Some-clause-fetched
-returns-in-Some-clause-fetched g c =
-    subst (λ (x : Question). HasFetched (files_of (asked_of x)) c.why_of.result (g.S.Shelf.log c.args.shelf.now) (g.S.Shelf.log c.why_of.new.shelf))
-    (sym c.in-Why.is) c.why_of.ensures.fetched
-
-pub returns-in-Seen-clause-fetched : goal.returns-in-Seen-clause-fetched
-returns-in-Seen-clause-fetched g c =
-    subst (λ (x : Question). HasFetched (files_of (asked_of x)) c.seen.result (g.S.Shelf.log c.args.shelf.now) (g.S.Shelf.log c.seen.new.shelf))
-    (sym c.in-Seen.is) c.seen.ensures.fetched
-
-pub returns-in-Bound-clause-fetched : goal.returns-in-Bound-clause-fetched
-returns-in-Bound-clause-fetched g c =
-    subst (λ (x : Question). HasFetched (files_of (asked_of x)) c.bound.result (g.S.Shelf.log c.args.shelf.now) (g.S.Shelf.log c.bound.new.shelf))
-    (sym c.in-Bound.is) c.bound.ensures.fetched
-
-pub returns-in-Steady-clause-fetched : goal.returns-in-Steady-clause-fetched
-returns-in-Steady-clause-fetched g c =
-    subst (λ (x : Question). HasFetched (files_of (asked_of x)) c.steady.result (g.S.Shelf.log c.args.shelf.now) (g.S.Shelf.log c.steady.new.shelf))
-    (sym c.in-Steady.is) c.steady.ensures.fetched
-
-pub returns-in-Leak-clause-fetched : goal.returns-in-Leak-clause-fetched
-returns-in-Leak-clause-fetched g c =
-    subst (λ (x : Question). HasFetched (files_of (asked_of x)) c.leak.result (g.S.Shelf.log c.args.shelf.now) (g.S.Shelf.log c.leak.new.shelf))
-    (sym c.in-Leak.is) c.leak.ensures.fetched
-
-pub returns-in-Timeline-clause-fetched : goal.returns-in-Timeline-clause-fetched
-returns-in-Timeline-clause-fetched g c =
-    subst (λ (x : Question). HasFetched (files_of (asked_of x)) c.timeline.result (g.S.Shelf.log c.args.shelf.now) (g.S.Shelf.log c.timeline.new.shelf))
-    (sym c.in-Timeline.is) c.timeline.ensures.fetched
-
-pub returns-in-Help-clause-answered : goal.returns-in-Help-clause-answered
-returns-in-Help-clause-answered g c =
-    let content = g.S.Shelf.content c.args.shelf.now in
-    let rises = λ (name : List ℕ). Rose (g.S.Shelf.faults c.args.shelf.now name) (g.S.Shelf.faults c.args.shelf.now name) in
-    subst (λ (x : Question). EndsBy (g.W.Sink.taken c.args.out.now) (g.W.Sink.taken c.finish.new.out) (Before content (asked_of x))
-    (IsAnswer rises content (asked_of x)) c.finish.result) (sym c.in-Help.is)
-    (ends_finish (g.W.Sink.taken c.args.out.now) (g.W.Sink.taken c.finish.new.out) (Before content (help c.in-Help.command))
-    (IsAnswer rises content (help c.in-Help.command)) Done c.help_text.result.now c.finish.result (refl, c.help_text.ensures)
-    c.finish.ensures.told c.finish.ensures.prefix)
-
-pub returns-in-Help-clause-fetched : goal.returns-in-Help-clause-fetched
-returns-in-Help-clause-fetched g c =
-    subst (λ (x : Question). HasFetched (files_of (asked_of x)) c.finish.result (g.S.Shelf.log c.args.shelf.now) (g.S.Shelf.log c.args.shelf.now))
-    (sym c.in-Help.is) (fetched_nothing [] (g.S.Shelf.log c.args.shelf.now) c.finish.result
-    (never_read Done c.finish.result (λ e. absurd cc) (λ n. (c.finish.ensures.told n).0)))
-
-pub returns-in-Version-clause-answered : goal.returns-in-Version-clause-answered
-returns-in-Version-clause-answered g c =
-    let content = g.S.Shelf.content c.args.shelf.now in
-    let rises = λ (name : List ℕ). Rose (g.S.Shelf.faults c.args.shelf.now name) (g.S.Shelf.faults c.args.shelf.now name) in
-    subst (λ (x : Question). EndsBy (g.W.Sink.taken c.args.out.now) (g.W.Sink.taken c.finish-in-Version.new.out) (Before content (asked_of x))
-    (IsAnswer rises content (asked_of x)) c.finish-in-Version.result) (sym c.in-Version.is)
-    (ends_finish (g.W.Sink.taken c.args.out.now) (g.W.Sink.taken c.finish-in-Version.new.out) (Before content (version))
-    (IsAnswer rises content (version)) Done c.version_text.result.now c.finish-in-Version.result (refl, c.version_text.ensures)
-    c.finish-in-Version.ensures.told c.finish-in-Version.ensures.prefix)
-
-pub returns-in-Version-clause-fetched : goal.returns-in-Version-clause-fetched
-returns-in-Version-clause-fetched g c =
-    subst (λ (x : Question). HasFetched (files_of (asked_of x)) c.finish-in-Version.result (g.S.Shelf.log c.args.shelf.now)
-    (g.S.Shelf.log c.args.shelf.now)) (sym c.in-Version.is) (fetched_nothing [] (g.S.Shelf.log c.args.shelf.now) c.finish-in-Version.result
-    (never_read Done c.finish-in-Version.result (λ e. absurd cc) (λ n. (c.finish-in-Version.ensures.told n).0)))
+pub returns-in-Described-clause-fetched : goal.returns-in-Described-clause-fetched
+returns-in-Described-clause-fetched g c =
+    let a = asked_of c.args.question in
+    subst (λ (x : MachineAsked). HasFetched (machine_files x ++ own_files a) c.obey_on.result (g.S.Shelf.log c.args.shelf.now)
+    (g.S.Shelf.log c.obey_on.new.shelf)) (sym (ap machine_of c.in-Described.is) ∙ c.machine_in.ensures) c.obey_on.ensures.fetched

@@ -8,4 +8,5 @@ returns c =
     let first = c.in_ok-arg.ensures.shape c.required_word.ensures.local ∙ ap₂ with_rule c.bare_form.ensures c.required_word.ensures.rule in
     let second = c.in_ok-arg-2.ensures.shape c.required_option.ensures.local ∙ ap₂ with_rule first c.required_option.ensures.rule in
     let third = c.in_ok-arg-3.ensures.shape c.option.ensures.local ∙ ap₂ with_rule second c.option.ensures.rule in
-    IfOk-weaker c.arg-4.result _ _ (λ m h. h.shape c.flag.ensures.local ∙ ap₂ with_rule third c.flag.ensures.rule) c.arg-4.ensures
+    let fourth = c.in_ok-arg-4.ensures.shape c.option-2.ensures.local ∙ ap₂ with_rule third c.option-2.ensures.rule in
+    IfOk-weaker c.arg-5.result _ _ (λ m h. h.shape c.flag.ensures.local ∙ ap₂ with_rule fourth c.flag.ensures.rule) c.arg-5.ensures

@@ -35,7 +35,7 @@ none_case (Some w) P Q h n = absurd (n w refl)
 pub make-requires : goal.make-requires
 make-requires g c =
     let p = c.args.p.now in
-    let ss = starts_of g.M.MakeEnv.made p.program.order (map seen c.args.starts.now) in
+    let ss = starts_of (g.M.MakeEnv.made c.args.make.now) p.program.order (map seen c.args.starts.now) in
     let first = c.in-Some.first.now in
     let some = has_first c.args.starts.now first (sym c.in-Some.ensures.value) in
     let first_is = sym (get_or_from_slice_get c.args.starts.now 0 first first (sym c.in-Some.ensures.value)) in
@@ -55,7 +55,7 @@ make-requires-in-loop-i g c =
 pub first_difference-requires-clause-one : goal.first_difference-requires-clause-one
 first_difference-requires-clause-one g c =
     let p = c.args.p.now in
-    let ss = starts_of g.M.MakeEnv.made p.program.order (map seen c.args.starts.now) in
+    let ss = starts_of (g.M.MakeEnv.made c.args.make.now) p.program.order (map seen c.args.starts.now) in
     let first = c.in-Some.first.now in
     let some = has_first c.args.starts.now first (sym c.in-Some.ensures.value) in
     let first_is = sym (get_or_from_slice_get c.args.starts.now 0 first first (sym c.in-Some.ensures.value)) in
@@ -73,63 +73,69 @@ pub returns-in-Some-first_difference-clause-differ : goal.returns-in-Some-first_
 returns-in-Some-first_difference-clause-differ g c =
     let v : Env g.row.E.Denot = g.E.MachineEnv.env in
     let p = c.args.p.now in
-    let ss = starts_of g.M.MakeEnv.made p.program.order (map seen c.args.starts.now) in
+    let ss = starts_of (g.M.MakeEnv.made c.args.make.now) p.program.order (map seen c.args.starts.now) in
     let first = c.in-Some.first.now in
     let some = has_first c.args.starts.now first (sym c.in-Some.ensures.value) in
     let first_is = sym (get_or_from_slice_get c.args.starts.now 0 first first (sym c.in-Some.ensures.value)) in
     let order = c.lattice-lattice.ensures ∙ ap (λ z. z.order) c.program.ensures.program in
     let start = c.index-starts-i.result in
     let lt : c.loop-i.i < length c.args.starts.now = omega arith in
-    let from = starts-from g.M.MakeEnv.made p.program.order c.args.starts.now c.loop-i.i start lt c.index-starts-i.is in
-    let one = started g.M.MakeEnv.made _ _ first _ _ _ order c.as_slice-one.ensures.value c.as_slice.ensures.value c.in_ok-env.ensures.value in
-    let two = started g.M.MakeEnv.made _ _ start _ _ _ order c.as_slice-two.ensures.value c.as_slice-in-loop-i.ensures.value c.in_ok-other.ensures.value in
+    let from = starts-from (g.M.MakeEnv.made c.args.make.now) p.program.order c.args.starts.now c.loop-i.i start lt c.index-starts-i.is in
+    let one = started (g.M.MakeEnv.made c.args.make.now) _ _ first _ _ _ order c.as_slice-one.ensures.value c.as_slice.ensures.value
+        c.in_ok-env.ensures.value in
+    let two = started (g.M.MakeEnv.made c.args.make.now) _ _ start _ _ _ order c.as_slice-two.ensures.value c.as_slice-in-loop-i.ensures.value
+        c.in_ok-other.ensures.value in
     let w = c.in-Some-first_difference.what in
-    let d : IsFirstDifference v p c.args.observer.number (start_of g.M.MakeEnv.made p.program.order (seen first))
-    (start_of g.M.MakeEnv.made p.program.order (seen start)) w =
-    subst (λ z. IsFirstDifference v p c.args.observer.number (start_of g.M.MakeEnv.made p.program.order (seen first)) z w) two
+    let d : IsFirstDifference v p c.args.observer.number (start_of (g.M.MakeEnv.made c.args.make.now) p.program.order (seen first))
+    (start_of (g.M.MakeEnv.made c.args.make.now) p.program.order (seen start)) w =
+    subst (λ z. IsFirstDifference v p c.args.observer.number (start_of (g.M.MakeEnv.made c.args.make.now) p.program.order (seen first)) z w) two
     (subst (λ z. IsFirstDifference v p c.args.observer.number z (record { memory = c.as_slice-two.result.now; env = c.in_ok-other.other }) w) one
     c.in-Some-first_difference.ensures) in
-    disagrees v g.E.MachineEnv.serves p c.args.observer.number (start_of g.M.MakeEnv.made p.program.order (seen first)) ss (drop (0 + 1) ss) (c.loop-i.i + 1) w
-    (starts-from g.M.MakeEnv.made p.program.order c.args.starts.now 0 first some first_is)
-    (apart_here v g.E.MachineEnv.serves p c.args.observer.number (start_of g.M.MakeEnv.made p.program.order (seen first))
-    (start_of g.M.MakeEnv.made p.program.order (seen start)) ss (drop c.loop-i.i ss) (drop (c.loop-i.i + 1) ss)
+    disagrees v g.E.MachineEnv.serves p c.args.observer.number (start_of (g.M.MakeEnv.made c.args.make.now) p.program.order (seen first)) ss
+        (drop (0 + 1) ss) (c.loop-i.i + 1) w
+    (starts-from (g.M.MakeEnv.made c.args.make.now) p.program.order c.args.starts.now 0 first some first_is)
+    (apart_here v g.E.MachineEnv.serves p c.args.observer.number (start_of (g.M.MakeEnv.made c.args.make.now) p.program.order (seen first))
+    (start_of (g.M.MakeEnv.made c.args.make.now) p.program.order (seen start)) ss (drop c.loop-i.i ss) (drop (c.loop-i.i + 1) ss)
     (c.loop-i.i + 1) w from c.loop-i.invariant d)
 
 pub loop-i-preserved : goal.loop-i-preserved
 loop-i-preserved g c =
     let v : Env g.row.E.Denot = g.E.MachineEnv.env in
     let p = c.args.p.now in
-    let ss = starts_of g.M.MakeEnv.made p.program.order (map seen c.args.starts.now) in
+    let ss = starts_of (g.M.MakeEnv.made c.args.make.now) p.program.order (map seen c.args.starts.now) in
     let first = c.in-Some.first.now in
     let some = has_first c.args.starts.now first (sym c.in-Some.ensures.value) in
     let first_is = sym (get_or_from_slice_get c.args.starts.now 0 first first (sym c.in-Some.ensures.value)) in
     let order = c.lattice-lattice.ensures ∙ ap (λ z. z.order) c.program.ensures.program in
     let start = c.index-starts-i.result in
     let lt : c.loop-i.i < length c.args.starts.now = omega arith in
-    let from = starts-from g.M.MakeEnv.made p.program.order c.args.starts.now c.loop-i.i start lt c.index-starts-i.is in
-    let one = started g.M.MakeEnv.made _ _ first _ _ _ order c.as_slice-one.ensures.value c.as_slice.ensures.value c.in_ok-env.ensures.value in
-    let two = started g.M.MakeEnv.made _ _ start _ _ _ order c.as_slice-two.ensures.value c.as_slice-in-loop-i.ensures.value c.in_ok-other.ensures.value in
+    let from = starts-from (g.M.MakeEnv.made c.args.make.now) p.program.order c.args.starts.now c.loop-i.i start lt c.index-starts-i.is in
+    let one = started (g.M.MakeEnv.made c.args.make.now) _ _ first _ _ _ order c.as_slice-one.ensures.value c.as_slice.ensures.value
+        c.in_ok-env.ensures.value in
+    let two = started (g.M.MakeEnv.made c.args.make.now) _ _ start _ _ _ order c.as_slice-two.ensures.value c.as_slice-in-loop-i.ensures.value
+        c.in_ok-other.ensures.value in
     let same = none_case c.first_difference.result
     (AgreeFor v g.E.MachineEnv.serves p c.args.observer.number (record { memory = c.as_slice-one.result.now; env = c.in_ok-env.env })
     (record { memory = c.as_slice-two.result.now; env = c.in_ok-other.other }))
     (IsFirstDifference v p c.args.observer.number (record { memory = c.as_slice-one.result.now; env = c.in_ok-env.env })
     (record { memory = c.as_slice-two.result.now; env = c.in_ok-other.other })) c.first_difference.ensures c.in_default-first_difference.not-Some in
-    let a : AgreeFor v g.E.MachineEnv.serves p c.args.observer.number (start_of g.M.MakeEnv.made p.program.order (seen first))
-    (start_of g.M.MakeEnv.made p.program.order (seen start)) =
-    subst (λ z. AgreeFor v g.E.MachineEnv.serves p c.args.observer.number (start_of g.M.MakeEnv.made p.program.order (seen first)) z) two
+    let a : AgreeFor v g.E.MachineEnv.serves p c.args.observer.number (start_of (g.M.MakeEnv.made c.args.make.now) p.program.order (seen first))
+    (start_of (g.M.MakeEnv.made c.args.make.now) p.program.order (seen start)) =
+    subst (λ z. AgreeFor v g.E.MachineEnv.serves p c.args.observer.number (start_of (g.M.MakeEnv.made c.args.make.now) p.program.order (seen first)) z) two
     (subst (λ z. AgreeFor v g.E.MachineEnv.serves p c.args.observer.number z (record { memory = c.as_slice-two.result.now; env = c.in_ok-other.other })) one
     same) in
-    agree_more v g.E.MachineEnv.serves p c.args.observer.number (start_of g.M.MakeEnv.made p.program.order (seen first))
-    (start_of g.M.MakeEnv.made p.program.order (seen start)) ss (drop c.loop-i.i ss) (drop (c.loop-i.i + 1) ss) (c.loop-i.i + 1) (c.loop-i.i + 1 + 1)
+    agree_more v g.E.MachineEnv.serves p c.args.observer.number (start_of (g.M.MakeEnv.made c.args.make.now) p.program.order (seen first))
+    (start_of (g.M.MakeEnv.made c.args.make.now) p.program.order (seen start)) ss (drop c.loop-i.i ss) (drop (c.loop-i.i + 1) ss) (c.loop-i.i + 1)
+        (c.loop-i.i + 1 + 1)
     refl from c.loop-i.invariant a
 
 pub returns-clause-agree : goal.returns-clause-agree
 returns-clause-agree g c =
     let v : Env g.row.E.Denot = g.E.MachineEnv.env in
     let p = c.args.p.now in
-    let ss = starts_of g.M.MakeEnv.made p.program.order (map seen c.args.starts.now) in
-    let one = start_of g.M.MakeEnv.made p.program.order (seen c.in-Some.first.now) in
+    let ss = starts_of (g.M.MakeEnv.made c.args.make.now) p.program.order (map seen c.args.starts.now) in
+    let one = start_of (g.M.MakeEnv.made c.args.make.now) p.program.order (seen c.in-Some.first.now) in
     let le : length c.args.starts.now ≤ c.loop-i.i = omega arith in
-    let end = starts-end g.M.MakeEnv.made p.program.order c.args.starts.now c.loop-i.i le in
+    let end = starts-end (g.M.MakeEnv.made c.args.make.now) p.program.order c.args.starts.now c.loop-i.i le in
     all_pairwise v g.E.MachineEnv.serves p c.args.observer.number one ss
     (agree_end v g.E.MachineEnv.serves p c.args.observer.number one ss (drop c.loop-i.i ss) (c.loop-i.i + 1) end c.loop-i.invariant)

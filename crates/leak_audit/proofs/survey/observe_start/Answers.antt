@@ -11,14 +11,14 @@ use Rattle.leak_audit.proofs.survey.observe_start.Goals as goal
 pub returns : goal.returns
 returns g c =
     let v : Env g.row.E.Denot = g.E.MachineEnv.env in
-    let s : Start g.row.E.Denot = start_of g.M.MakeEnv.made c.args.p.now.program.order (seen c.args.start.now) in
+    let s : Start g.row.E.Denot = start_of (g.M.MakeEnv.made c.args.make.now) c.args.p.now.program.order (seen c.args.start.now) in
     let at : Start g.row.E.Denot = record { memory = c.in_ok-memory.memory.items; env = c.in_ok-env.env } in
     let memory : c.in_ok-memory.memory.items ≡ c.args.start.now.memory.items =
     each_same c.args.start.now.memory.items c.in_ok-memory.memory.items c.in_ok-memory.ensures.cases.0 in
     let lattice : c.lattice.result ≡ c.args.p.now.program.order = c.lattice.ensures ∙ ap (λ i. i.order) c.requires.image in
-    let env : c.in_ok-env.env ≡ g.M.MakeEnv.made c.args.p.now.program.order c.args.start.now.touches.items =
-    c.in_ok-env.ensures.value ∙ (ap (λ z. g.M.MakeEnv.made z c.as_slice.result.now) lattice
-    ∙ ap (g.M.MakeEnv.made c.args.p.now.program.order) c.as_slice.ensures.value) in
+    let env : c.in_ok-env.env ≡ g.M.MakeEnv.made c.args.make.now c.args.p.now.program.order c.args.start.now.touches.items =
+    c.in_ok-env.ensures.value ∙ (ap (λ z. g.M.MakeEnv.made c.args.make.now z c.as_slice.result.now) lattice
+    ∙ ap (g.M.MakeEnv.made c.args.make.now c.args.p.now.program.order) c.as_slice.ensures.value) in
     let is : at ≡ s = cc in
     subst (λ z. IsObserved c.args.p.now c.args.observer.now.label.number c.args.observer.now.relevant.now c.args.observer.now.room c.args.limit z
     c.in_ok-seen.seen)

@@ -22,7 +22,7 @@ seen_variables-shown-requires g c =
 pub loop-i-init : goal.loop-i-init
 loop-i-init g c =
     let v : Env g.row.E.Denot = g.E.MachineEnv.env in
-    let ss = starts_of g.M.MakeEnv.made c.args.p.now.program.order (map seen c.args.starts.now) in
+    let ss = starts_of (g.M.MakeEnv.made c.args.make.now) c.args.p.now.program.order (map seen c.args.starts.now) in
     let none = c.in_ok-survey.ensures in
     none_surveyed v c.args.p.now c.args.request.now.observer.number c.args.request.now.limit c.args.request.now.must_halt ss 1 c.in_ok-survey.survey refl
     none.0 none.1 none.2 none.3 none.4
@@ -35,30 +35,34 @@ observe_start-requires-clause-start g c =
 pub returns-in_err-take-clause-fault : goal.returns-in_err-take-clause-fault
 returns-in_err-take-clause-fault g c =
     let v : Env g.row.E.Denot = g.E.MachineEnv.env in
-    let ss = starts_of g.M.MakeEnv.made c.args.p.now.program.order (map seen c.args.starts.now) in
+    let ss = starts_of (g.M.MakeEnv.made c.args.make.now) c.args.p.now.program.order (map seen c.args.starts.now) in
     let lt : c.loop-i.i < length c.args.starts.now = omega arith in
-    let from = starts-from g.M.MakeEnv.made c.args.p.now.program.order c.args.starts.now c.loop-i.i c.index-starts-i.result lt c.index-starts-i.is in
+    let from = starts-from (g.M.MakeEnv.made c.args.make.now) c.args.p.now.program.order c.args.starts.now c.loop-i.i c.index-starts-i.result lt
+        c.index-starts-i.is in
     same_fault c.from_residual-in_err-take.result c.in_err-take.field-0.0 _ c.from_residual-in_err-take.ensures.1
     (refuses v c.args.p.now c.args.request.now.observer.number c.args.request.now.limit c.args.request.now.must_halt ss
-    (start_of g.M.MakeEnv.made c.args.p.now.program.order (seen c.index-starts-i.result)) (drop c.loop-i.i ss) (drop (c.loop-i.i + 1) ss) (c.loop-i.i + 1)
+    (start_of (g.M.MakeEnv.made c.args.make.now) c.args.p.now.program.order (seen c.index-starts-i.result)) (drop c.loop-i.i ss) (drop (c.loop-i.i + 1) ss)
+        (c.loop-i.i + 1)
     c.loop-i.survey from c.loop-i.invariant c.in_ok-seen.seen c.args.request.now.relevant.now c.requires.relevant c.in_ok-seen.ensures c.in_err-take.field-0.0
     c.in_err-take.ensures.refuses)
 
 pub loop-i-preserved : goal.loop-i-preserved
 loop-i-preserved g c =
     let v : Env g.row.E.Denot = g.E.MachineEnv.env in
-    let ss = starts_of g.M.MakeEnv.made c.args.p.now.program.order (map seen c.args.starts.now) in
+    let ss = starts_of (g.M.MakeEnv.made c.args.make.now) c.args.p.now.program.order (map seen c.args.starts.now) in
     let lt : c.loop-i.i < length c.args.starts.now = omega arith in
-    let from = starts-from g.M.MakeEnv.made c.args.p.now.program.order c.args.starts.now c.loop-i.i c.index-starts-i.result lt c.index-starts-i.is in
+    let from = starts-from (g.M.MakeEnv.made c.args.make.now) c.args.p.now.program.order c.args.starts.now c.loop-i.i c.index-starts-i.result lt
+        c.index-starts-i.is in
     one_surveyed v c.args.p.now c.args.request.now.observer.number c.args.request.now.limit c.args.request.now.must_halt ss
-    (start_of g.M.MakeEnv.made c.args.p.now.program.order (seen c.index-starts-i.result)) (drop c.loop-i.i ss) (drop (c.loop-i.i + 1) ss) (c.loop-i.i + 1)
+    (start_of (g.M.MakeEnv.made c.args.make.now) c.args.p.now.program.order (seen c.index-starts-i.result)) (drop c.loop-i.i ss) (drop (c.loop-i.i + 1) ss)
+        (c.loop-i.i + 1)
     c.loop-i.survey from c.loop-i.invariant c.in_ok-seen.seen c.args.request.now.relevant.now c.requires.relevant c.in_ok-seen.ensures (c.loop-i.i + 1 + 1)
     c.take.new.self refl c.in_ok-take.ensures.takes
 
 pub take-requires-clause-kinds : goal.take-requires-clause-kinds
 take-requires-clause-kinds g c =
     let v : Env g.row.E.Denot = g.E.MachineEnv.env in
-    let ss = starts_of g.M.MakeEnv.made c.args.p.now.program.order (map seen c.args.starts.now) in
+    let ss = starts_of (g.M.MakeEnv.made c.args.make.now) c.args.p.now.program.order (map seen c.args.starts.now) in
     let below = kinds_below v c.args.p.now c.args.request.now.observer.number c.args.request.now.limit c.args.request.now.must_halt ss (drop c.loop-i.i ss)
     (c.loop-i.i + 1) c.loop-i.survey c.loop-i.invariant in
     omega (arith, below)

@@ -2,7 +2,6 @@ use Rattle.std.proofs.Common.{◌≡◌, ◌≤◌, refl, sym, ap, ◌∙◌, su
 use Rattle.std.specs.Prelude.{ℕ, Result, Ok, Err, OnErr}
 use Rattle.std.specs.Io.KnownBytes.{Appends}
 use Rattle.tim_base.specs.Sinks.{AppendsPrefix}
-use Rattle.mit_syntax.specs.Declarations.{variables}
 use Rattle.mit_syntax.specs.Program.{plan_of}
 use Rattle.env_contract.specs.Env.{Env}
 use Rattle.label_code.specs.Run.{Start}
@@ -27,14 +26,13 @@ run-init g c =
     let v : Env g.row.E.Denot = g.E.MachineEnv.env in
     let from : Start g.row.E.Denot = record { memory = c.args.state.memory.items; env = c.args.state.env } in
     let code = c.args.image.now.instrs in
-    let q = c.args.p.now.labelled in
+    let q = c.args.p.now in
     record {
       printing = first_printing v code c.args.limit from q c.args.observer c.args.state (g.W.Sink.taken c.args.out.now) c.args.listing.now.tallies.items
           c.requires.start c.requires.room;
       stands = c.requires.stands;
       places = refl;
       later = omega arith;
-      labelled = c.labelled-labelled.ensures.labelled;
     }
 
 pub run-preserved-in-Went : goal.run-preserved-in-Went
@@ -42,14 +40,13 @@ run-preserved-in-Went g c =
     let v : Env g.row.E.Denot = g.E.MachineEnv.env in
     let from : Start g.row.E.Denot = record { memory = c.args.state.memory.items; env = c.args.state.env } in
     let code = c.args.image.now.instrs in
-    let q = c.args.p.now.labelled in
+    let q = c.args.p.now in
     let e = c.in-Went.ensures in
     record {
       printing = quiet_printing v code c.args.limit from q c.args.observer c.run.state c.step.new.state _ _ _ _ c.run.invariant.printing e.0 e.4 e.1 e.2;
       stands = e.3;
       places = c.run.invariant.places;
       later = c.run.invariant.later;
-      labelled = c.labelled-labelled.ensures.labelled;
     }
 
 pub write_moment-requires-clause-below : goal.write_moment-requires-clause-below
@@ -57,10 +54,8 @@ write_moment-requires-clause-below g c =
     let v : Env g.row.E.Denot = g.E.MachineEnv.env in
     let from : Start g.row.E.Denot = record { memory = c.args.state.memory.items; env = c.args.state.env } in
     let code = c.args.image.now.instrs in
-    let q = c.args.p.now.labelled in
-    let count : c.args.image.now.variables ≡ variables c.labelled-labelled.result.now.program.declarations =
-    c.requires.variables ∙ ap (λ p. variables p.program.declarations) (sym c.labelled-labelled.ensures.labelled) in
-    subst (λ n. IsMomentBelow n c.in-Told.moment) count
+    let q = c.args.p.now in
+    subst (λ n. IsMomentBelow n c.in-Told.moment) c.requires.variables
     (moment_below v c.args.image.now c.run.state c.step.new.state c.in-Told.moment c.laws.ensures.shaped c.in-Told.ensures.0)
 
 pub run-preserved : goal.run-preserved
@@ -68,23 +63,20 @@ run-preserved g c =
     let v : Env g.row.E.Denot = g.E.MachineEnv.env in
     let from : Start g.row.E.Denot = record { memory = c.args.state.memory.items; env = c.args.state.env } in
     let code = c.args.image.now.instrs in
-    let q = c.args.p.now.labelled in
+    let q = c.args.p.now in
     let e = c.in-Told.ensures in
     let at : c.as_slice-places.result.now ≡ places (plan_of q.program) =
     c.as_slice-places.ensures.value ∙ (ap (λ z. z.items) c.run.invariant.places ∙ c.requires.places) in
     let text : Appends (g.W.Sink.taken c.run.out) (g.W.Sink.taken c.write_moment.new.out)
     (moment_text q (places (plan_of q.program)) c.args.observer c.in-Told.moment) =
     subst (λ z. Appends (g.W.Sink.taken c.run.out) (g.W.Sink.taken c.write_moment.new.out) (moment_text q z c.args.observer c.in-Told.moment)) at
-    (subst (λ p. Appends (g.W.Sink.taken c.run.out) (g.W.Sink.taken c.write_moment.new.out)
-    (moment_text p c.as_slice-places.result.now c.args.observer c.in-Told.moment)) c.labelled-labelled.ensures.labelled
-    c.in_ok-write_moment-in-Told.ensures.text) in
+    c.in_ok-write_moment-in-Told.ensures.text in
     record {
       printing = told_printing v code c.args.limit from q c.args.observer c.run.state c.step.new.state c.in-Told.moment _ _ _ _ _ _ c.run.invariant.printing e.0
           e.4 e.1 e.2 c.note.ensures text;
       stands = e.3;
       places = c.run.invariant.places;
       later = up_to _ _ _ c.run.invariant.later c.write_moment.ensures.later;
-      labelled = c.labelled-labelled.ensures.labelled;
     }
 
 pub returns-in_err-write_moment-in-Told-clause-prefix : goal.returns-in_err-write_moment-in-Told-clause-prefix
@@ -92,16 +84,14 @@ returns-in_err-write_moment-in-Told-clause-prefix g c =
     let v : Env g.row.E.Denot = g.E.MachineEnv.env in
     let from : Start g.row.E.Denot = record { memory = c.args.state.memory.items; env = c.args.state.env } in
     let code = c.args.image.now.instrs in
-    let q = c.args.p.now.labelled in
+    let q = c.args.p.now in
     let e = c.in-Told.ensures in
     let at : c.as_slice-places.result.now ≡ places (plan_of q.program) =
     c.as_slice-places.ensures.value ∙ (ap (λ z. z.items) c.run.invariant.places ∙ c.requires.places) in
     let text : AppendsPrefix (g.W.Sink.taken c.run.out) (g.W.Sink.taken c.write_moment.new.out)
     (moment_text q (places (plan_of q.program)) c.args.observer c.in-Told.moment) =
     subst (λ z. AppendsPrefix (g.W.Sink.taken c.run.out) (g.W.Sink.taken c.write_moment.new.out) (moment_text q z c.args.observer c.in-Told.moment)) at
-    (subst (λ p. AppendsPrefix (g.W.Sink.taken c.run.out) (g.W.Sink.taken c.write_moment.new.out)
-    (moment_text p c.as_slice-places.result.now c.args.observer c.in-Told.moment)) c.labelled-labelled.ensures.labelled
-    c.in_err-write_moment-in-Told.ensures.prefix) in
+    c.in_err-write_moment-in-Told.ensures.prefix in
     on_err _ _ (part_printed v code c.args.limit from q c.args.observer c.run.state c.step.new.state c.in-Told.moment _ _ _ _ _
     c.run.invariant.printing e.0 e.4 e.1 text)
 
@@ -118,7 +108,7 @@ returns-in_err-write_all-in-Stopped-clause-prefix g c =
     let v : Env g.row.E.Denot = g.E.MachineEnv.env in
     let from : Start g.row.E.Denot = record { memory = c.args.state.memory.items; env = c.args.state.env } in
     let code = c.args.image.now.instrs in
-    let q = c.args.p.now.labelled in
+    let q = c.args.p.now in
     let t = stopped_end v g.E.MachineEnv.serves c.args.image.now c.args.limit from q c.args.observer c.run.state c.step.new.state c.in-Stopped.end
     c.run.invariant.printing.moments c.run.invariant.printing.followed c.in-Stopped.ensures in
     let text : AppendsPrefix (g.W.Sink.taken c.run.out) (g.W.Sink.taken c.write_all.new.out) (last_line c.in-Stopped.end) =
@@ -131,7 +121,7 @@ returns-in-Stopped-clause-end g c =
     let v : Env g.row.E.Denot = g.E.MachineEnv.env in
     let from : Start g.row.E.Denot = record { memory = c.args.state.memory.items; env = c.args.state.env } in
     let code = c.args.image.now.instrs in
-    let q = c.args.p.now.labelled in
+    let q = c.args.p.now in
     (stopped_end v g.E.MachineEnv.serves c.args.image.now c.args.limit from q c.args.observer c.run.state c.step.new.state c.in-Stopped.end
     c.run.invariant.printing.moments c.run.invariant.printing.followed c.in-Stopped.ensures).0
 
@@ -140,7 +130,7 @@ returns-in-Stopped-clause-printed g c =
     let v : Env g.row.E.Denot = g.E.MachineEnv.env in
     let from : Start g.row.E.Denot = record { memory = c.args.state.memory.items; env = c.args.state.env } in
     let code = c.args.image.now.instrs in
-    let q = c.args.p.now.labelled in
+    let q = c.args.p.now in
     let t = stopped_end v g.E.MachineEnv.serves c.args.image.now c.args.limit from q c.args.observer c.run.state c.step.new.state c.in-Stopped.end
     c.run.invariant.printing.moments c.run.invariant.printing.followed c.in-Stopped.ensures in
     let text : Appends (g.W.Sink.taken c.run.out) (g.W.Sink.taken c.write_all.new.out) (last_line c.in-Stopped.end) =

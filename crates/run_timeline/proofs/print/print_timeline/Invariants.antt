@@ -7,11 +7,10 @@ abbrev pub invariant-run : goal.invariant-run
 invariant-run g l = record {
   printing :
       Printing g.E.MachineEnv.env l.image.instrs l.limit (record { memory = l.fn.state.memory.items; env = l.fn.state.env })
-      l.fn.p.labelled l.fn.observer l.state (g.W.Sink.taken l.fn.out) (g.W.Sink.taken l.out) l.fn.listing.tallies.items l.listing.tallies.items;
+      l.fn.p l.fn.observer l.state (g.W.Sink.taken l.fn.out) (g.W.Sink.taken l.out) l.fn.listing.tallies.items l.listing.tallies.items;
   stands : Stands g.E.MachineEnv.serves l.image l.state;
   places : l.listing.places ≡ l.fn.listing.places;
   later : g.W.Sink.faults l.fn.out ≤ g.W.Sink.faults l.out;
-  labelled : l.labelled ≡ l.fn.p.labelled;
 }
 
 abbrev pub decreases-run : goal.decreases-run

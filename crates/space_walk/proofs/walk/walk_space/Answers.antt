@@ -20,7 +20,8 @@ seen_variables-shown-requires g c =
 
 pub loop-number-init : goal.loop-number-init
 loop-number-init g c = record {
-  walking = none_walked g.E.MachineEnv.env g.M.MakeEnv.made c.args.p.now c.args.label.number c.args.limit (seen c.args.space.now) c.args.numbers.begin
+  walking = none_walked g.E.MachineEnv.env (g.M.MakeEnv.made c.args.make.now) c.args.p.now c.args.label.number c.args.limit
+      (seen c.args.space.now) c.args.numbers.begin
       c.args.numbers.end c.new-known.result c.new-known.ensures.none c.new-known.ensures.counted c.new-known.ensures.light;
   chooser = c.in_ok-chooser.ensures;
   inside = λ h. refl;
@@ -28,7 +29,8 @@ loop-number-init g c = record {
 
 pub loop-number-preserved : goal.loop-number-preserved
 loop-number-preserved g c = record {
-  walking = one_walked g.E.MachineEnv.env g.M.MakeEnv.made c.args.p.now c.args.label.number c.args.limit (seen c.args.space.now) c.args.numbers.begin
+  walking = one_walked g.E.MachineEnv.env (g.M.MakeEnv.made c.args.make.now) c.args.p.now c.args.label.number c.args.limit
+      (seen c.args.space.now) c.args.numbers.begin
       c.args.numbers.end _ c.loop-number.number c.in_ok-seen.seen c.in_ok-seen.ensures.observes c.loop-number.known c.take.new.self
       c.loop-number.invariant.walking (omega arith) (omega arith) c.in_ok-take.ensures.counted c.in_ok-take.ensures.total c.in_ok-take.ensures.taken;
   chooser = c.in_ok-seen.ensures.chooser;
@@ -38,13 +40,15 @@ loop-number-preserved g c = record {
 pub returns-in_err-take-clause-fault : goal.returns-in_err-take-clause-fault
 returns-in_err-take-clause-fault g c =
     same_fault c.from_residual-in_err-take.result c.in_err-take.field-0.0 _ c.from_residual-in_err-take.ensures.1
-    (λ n. refused g.E.MachineEnv.env g.M.MakeEnv.made c.args.p.now c.args.label.number c.args.limit (seen c.args.space.now) c.args.numbers.begin
+    (λ n. refused g.E.MachineEnv.env (g.M.MakeEnv.made c.args.make.now) c.args.p.now c.args.label.number c.args.limit
+    (seen c.args.space.now) c.args.numbers.begin
     c.args.numbers.end _ c.loop-number.number c.in_ok-seen.seen c.in_ok-seen.ensures.observes c.loop-number.known c.take.new.self
     c.loop-number.invariant.walking (omega arith) (omega arith) c.in_err-take.field-0.0 (c.in_err-take.ensures.refused n))
 
 pub take-requires-clause-kept : goal.take-requires-clause-kept
 take-requires-clause-kept g c =
-    kept g.E.MachineEnv.env g.M.MakeEnv.made c.args.p.now c.args.label.number c.args.limit (seen c.args.space.now) c.args.numbers.begin c.args.numbers.end _
+    kept g.E.MachineEnv.env (g.M.MakeEnv.made c.args.make.now) c.args.p.now c.args.label.number c.args.limit
+    (seen c.args.space.now) c.args.numbers.begin c.args.numbers.end _
     c.loop-number.number c.in_ok-seen.seen c.in_ok-seen.ensures.observes
 
 pub take-requires-clause-weight : goal.take-requires-clause-weight
@@ -56,7 +60,7 @@ take-requires-clause-weight g c =
 
 pub returns-clause-classes : goal.returns-clause-classes
 returns-clause-classes g c =
-    all_walked g.E.MachineEnv.env g.M.MakeEnv.made c.args.p.now c.args.label.number c.args.limit (seen c.args.space.now) c.args.numbers.begin
+    all_walked g.E.MachineEnv.env (g.M.MakeEnv.made c.args.make.now) c.args.p.now c.args.label.number c.args.limit (seen c.args.space.now) c.args.numbers.begin
     c.args.numbers.end c.loop-number.known c.loop-number.number (omega arith) c.loop-number.invariant.walking
 
 pub returns-clause-total : goal.returns-clause-total

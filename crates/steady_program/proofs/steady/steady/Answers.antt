@@ -8,7 +8,7 @@ use Rattle.steady_program.proofs.steady.steady.Goals.{then-whole, else-whole}
 
 pub returns-clause-judged : goal.returns-clause-judged
 returns-clause-judged c =
-    told c.args.p.now c.lattice-lattice.result c.in_ok-labels.labels.items c.deref-2.result.now c.in_ok-image.image c.args.observer.number
+    told c.args.costing c.args.p.now c.lattice-lattice.result c.in_ok-labels.labels.items c.deref-2.result.now c.in_ok-image.image c.args.observer.number
     c.args.parts.number c.if-whole.end c.in_ok-fault.fault (c.lattice-lattice.ensures ∙ ap (λ z. z.order) c.program.ensures.program)
     c.in_ok-image.ensures.image c.deref-2.ensures.value c.in_ok-labels.ensures c.in_ok-fault.ensures
 

@@ -1,6 +1,7 @@
 use Rattle.std.proofs.Common.{ap}
 use Rattle.std.specs.Prelude.{map}
 use Rattle.start_file.specs.Starts.{seen}
+use Rattle.tool_stages.specs.declared.envs.Environment.TheVariants.{Named}
 use Rattle.tool_stages.proofs.EnvLemmas.{named_cut, named_cut_fault}
 use Rattle.mit_tool.proofs.commands.cut.cut_in.Goals as goal
 
@@ -12,10 +13,12 @@ returns g c =
     let xs = map seen c.as_slice-starts.result.now in
     let ss = map seen p.starts.items in
     let same = ap (map seen) c.as_slice-starts.ensures.value in
-    let alike = c.named_tell_as_histories.ensures.audits in
+    let alike = c.makers_tell_as_histories.ensures.audits c.args.maker.now in
     record {
-      report = named_cut g.E.MachineEnv.env g.M.MakeEnv.made c.args.setting.env g.M.NamedEnv.name c.requires.named q p.compiled.image
-          c.laws.ensures.shaped g.E.MachineEnv.serves alike p.observer t xs ss same c.requires.fit c.cut.result c.cut.ensures.report;
-      fault = named_cut_fault g.E.MachineEnv.env g.M.MakeEnv.made c.args.setting.env g.M.NamedEnv.name c.requires.named q p.compiled.image
-          c.laws.ensures.shaped g.E.MachineEnv.serves alike p.observer t xs ss same c.requires.fit c.cut.result c.cut.ensures.fault;
+      report = named_cut g.E.MachineEnv.env (g.M.MakeEnv.made c.args.maker.now) (Named c.args.setting.env)
+          (g.M.MachineMaker.machine c.args.maker.now) c.requires.machine q p.compiled.image c.laws.ensures.shaped g.E.MachineEnv.serves alike p.observer t xs
+              ss same c.requires.fit c.cut.result c.cut.ensures.report;
+      fault = named_cut_fault g.E.MachineEnv.env (g.M.MakeEnv.made c.args.maker.now) (Named c.args.setting.env)
+          (g.M.MachineMaker.machine c.args.maker.now) c.requires.machine q p.compiled.image c.laws.ensures.shaped g.E.MachineEnv.serves alike p.observer t xs
+              ss same c.requires.fit c.cut.result c.cut.ensures.fault;
     }

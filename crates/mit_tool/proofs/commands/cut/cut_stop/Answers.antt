@@ -1,4 +1,5 @@
 use Rattle.std.proofs.Common.{ap, subst, ◌∙◌}
+use Rattle.tool_stages.specs.declared.envs.Environment.TheVariants.{Named}
 use Rattle.tool_texts.specs.Reports.{disagree_line}
 use Rattle.tool_stages.specs.Envs.{CutFaultsIn}
 use Rattle.mit_tool.proofs.commands.cut.cut_stop.Goals as goal
@@ -7,10 +8,10 @@ pub returns-in-Disagree : goal.returns-in-Disagree
 returns-in-Disagree c = λ e t q l ss is h. (
   c.in-Disagree.run',
   c.in-Disagree.what,
-  subst (CutFaultsIn e q l.number t ss) c.in-Disagree.is h,
+  subst (CutFaultsIn (Named e) q l.number t ss) c.in-Disagree.is h,
   c.disagree.ensures ∙ ap (λ p. disagree_line p c.in-Disagree.run' c.in-Disagree.what) is,
 )
 
 pub returns-in-TooMuch : goal.returns-in-TooMuch
 returns-in-TooMuch c = λ e t q l ss is h.
-    (c.in-TooMuch.count, subst (CutFaultsIn e q l.number t ss) c.in-TooMuch.is h, c.too_long_events.ensures)
+    (c.in-TooMuch.count, subst (CutFaultsIn (Named e) q l.number t ss) c.in-TooMuch.is h, c.too_long_events.ensures)

@@ -24,7 +24,7 @@ returns-in_default-clause-ended g c =
     let told : Told = told_by (run_from v c.args.program.now.image.instrs c.args.budget (record {
       memory = c.args.start.memory.items;
       env =
-          g.M.MakeEnv.made q.program.order c.args.start.touches.items;
+          g.M.MakeEnv.made c.args.maker.now q.program.order c.args.start.touches.items;
     })) in
     ends_memory (g.W.Sink.taken c.args.out.now) (g.W.Sink.taken c.stop_for_memory.new.out) Nothing (HasTold q c.args.program.now.observer told)
     c.stop_for_memory.result refl c.stop_for_memory.ensures.told c.stop_for_memory.ensures.prefix
@@ -36,7 +36,7 @@ returns-in_default-load-clause-ended g c =
     let told : Told = told_by (run_from v c.args.program.now.image.instrs c.args.budget (record {
       memory = c.args.start.memory.items;
       env =
-          g.M.MakeEnv.made q.program.order c.args.start.touches.items;
+          g.M.MakeEnv.made c.args.maker.now q.program.order c.args.start.touches.items;
     })) in
     ends_memory (g.W.Sink.taken c.args.out.now) (g.W.Sink.taken c.stop_for_memory-in_default-load.new.out) Nothing (HasTold q c.args.program.now.observer told)
     c.stop_for_memory-in_default-load.result refl
@@ -48,15 +48,15 @@ returns-clause-ended g c =
     let q = c.args.program.now.typed.labelled in
     let o = c.args.program.now.observer in
     let order = c.lattice-lattice.ensures ∙ ap (λ p. p.order) (c.program-source.ensures.program ∙ ap (λ l. l.program) c.labelled.ensures.labelled) in
-    let env = c.in-Ok.ensures.value ∙ ap (λ l. g.M.MakeEnv.made l c.as_slice.result.now) order
-    ∙ ap (g.M.MakeEnv.made q.program.order) c.as_slice.ensures.value in
+    let env = c.in-Ok.ensures.value ∙ ap (λ l. (g.M.MakeEnv.made c.args.maker.now) l c.as_slice.result.now) order
+    ∙ ap (g.M.MakeEnv.made c.args.maker.now q.program.order) c.as_slice.ensures.value in
     let told : Told = told_by (run_from v c.args.program.now.image.instrs c.args.budget (record {
       memory = c.args.start.memory.items;
       env =
-          g.M.MakeEnv.made q.program.order c.args.start.touches.items;
+          g.M.MakeEnv.made c.args.maker.now q.program.order c.args.start.touches.items;
     })) in
     let runs = loaded_runs v c.args.budget c.in-Ok-load.machine c.args.program.now.image c.args.start.memory.items c.in-Ok.env
-    (g.M.MakeEnv.made q.program.order c.args.start.touches.items)
+    (g.M.MakeEnv.made c.args.maker.now q.program.order c.args.start.touches.items)
     c.in-Ok-load.ensures.going c.in-Ok-load.ensures.code c.in-Ok-load.ensures.start env in (
       status_at told.end,
       text_of q o told,

@@ -1,4 +1,4 @@
-use Rattle.part_tlb.specs.Standing.{label_in, sets_same}
+use Rattle.part_tlb.specs.Standing.{label_in}
 use Rattle.env_contract.specs.declared.place.Place.TheVariants.{Second}
 use Rattle.part_tlb.specs.Laws.{first_serves}
 use Rattle.part_tlb.proofs.part2.Part2EnvMachineEnv.same.Goals as goal
@@ -8,10 +8,6 @@ same_part-requires-clause-here c = label_in c.requires.0 32 4 c.args.self.now.se
 
 pub same_part-requires-clause-there : goal.same_part-requires-clause-there
 same_part-requires-clause-there c = label_in c.requires.0 32 4 c.args.other.now.second c.args.label.number (c.requires.1.1.each Second) c.requires.1.2
-
-pub same_part-requires-clause-sets : goal.same_part-requires-clause-sets
-same_part-requires-clause-sets c =
-    sets_same c.requires.0 32 4 c.args.self.now.second c.args.other.now.second (c.requires.1.0.each Second) (c.requires.1.1.each Second)
 
 pub same-requires : goal.same-requires
 same-requires c = (

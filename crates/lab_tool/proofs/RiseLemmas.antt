@@ -1,0 +1,87 @@
+-- A question after a machine: its files hold what they held, and a count that rose since then rose since the call began.
+use Rattle.std.proofs.Common.{◌≡◌, ℕ, List, Bool, true, false, Option, Some, None, inl, inr}
+use Rattle.label_lattice.specs.declared.label.Label.{Label}
+use Rattle.mit_syntax.specs.Program.{Syntax}
+use Rattle.timing_types.specs.Labelled.{LabelledProgram}
+use Rattle.label_code.specs.Shaped.{Code}
+use Rattle.start_file.specs.Starts.{StartValue}
+use Rattle.tool_texts.specs.declared.status.Status.{Status}
+use Rattle.tool_texts.specs.declared.status.Status.TheVariants as status
+use Rattle.tool_stages.specs.declared.envs.Environment.{Environment}
+use Rattle.tool_stages.specs.Begins.{Prepares}
+use Rattle.tool_stages.specs.Content.{Content}
+use Rattle.tool_stages.specs.Stages.{Then, Reads, ProgramStops}
+use Rattle.tool_stages.proofs.StopLemmas.{start_rise}
+use Rattle.lab_bound.specs.Answer.{HasBound}
+use Rattle.lab_leak.specs.Answer.{HasLeak}
+use Rattle.lab_runs.specs.Shown.{OfRuns, ShowsRuns}
+use Rattle.lab_seen.specs.Seen.{AreLines}
+use Rattle.lab_texts.specs.InLab.{InLab}
+use Rattle.lab_timeline.specs.Timed.{AreTimelines}
+use Rattle.lab_words.specs.QuestionAsked.{Asked, why, seen, timeline, bound, steady, leak, help, version}
+use Rattle.lab_tool.specs.Answers.{IsAnswerIn}
+
+program_rise : (R R' : Type 0) (c : Option (Option (List ℕ))) (s : Status) (t : List ℕ) → (R → R') → ProgramStops R c s t → ProgramStops R' c s t
+program_rise R R' c status.Done t f h = h
+program_rise R R' c status.Refused t f h = h
+program_rise R R' c status.Syntax t f h = h
+program_rise R R' c status.Starts t f h = h
+program_rise R R' c status.Usage t f h = h
+program_rise R R' c status.ReadFault t f h = (f h.0, h.1)
+program_rise R R' c status.WriteFault t f h = h
+program_rise R R' c status.TooLong t f h = h
+program_rise R R' c status.Budget t f h = h
+program_rise R R' c status.Disagree t f h = h
+program_rise R R' c status.Unfinished t f h = h
+program_rise R R' c status.Memory t f h = h
+program_rise R R' c status.Rejected t f h = h
+
+reads_rise : (R R' : Type 0) (c : Option (Option (List ℕ))) (Next : Syntax → Status → List ℕ → Type 0) (s : Status) (t : List ℕ) → (R → R')
+    → Then (ProgramStops R c) (Reads c) Next s t → Then (ProgramStops R' c) (Reads c) Next s t
+reads_rise R R' c Next s t f (inl h) = inl (program_rise R R' c s t f h)
+reads_rise R R' c Next s t f (inr h) = inr h
+
+module _ (Rises Rises' : List ℕ → Type 0) (content : Content) (rise : (name : List ℕ) → Rises name → Rises' name) where
+  prepares_rise : (file starts observer : List ℕ) (Next : Syntax → LabelledProgram → Option Label → Code → List StartValue → Status → List ℕ → Type 0)
+      (s : Status) (t : List ℕ) → Prepares Rises content file observer (Rises starts) (content starts) Next s t
+      → Prepares Rises' content file observer (Rises' starts) (content starts) Next s t
+  prepares_rise file starts observer Next s t (inl h) = inl (program_rise (Rises file) (Rises' file) (content file) s t (rise file) h)
+  prepares_rise file starts observer Next s t (inr (p, reads, inl h)) = inr (p, reads, inl h)
+  prepares_rise file starts observer Next s t (inr (p, reads, inr (o, sees, inl h))) = inr (p, reads, inr (o, sees, inl h))
+  prepares_rise file starts observer Next s t (inr (p, reads, inr (o, sees, inr (q, types, inl h)))) = inr (p, reads, inr (o, sees, inr (q, types, inl h)))
+  prepares_rise file starts observer Next s t (inr (p, reads, inr (o, sees, inr (q, types, inr (code, image, inl h))))) =
+      inr (p, reads, inr (o, sees, inr (q, types, inr (code, image,
+      inl (start_rise (Rises starts) (Rises' starts) (content starts) p s t (rise starts) h)))))
+  prepares_rise file starts observer Next s t (inr (p, reads, inr (o, sees, inr (q, types, inr (code, image, inr h))))) =
+      inr (p, reads, inr (o, sees, inr (q, types, inr (code, image, inr h))))
+
+  shows_rise : (refused : Bool) (file starts : List ℕ) (observer : Option (List ℕ)) (IsText : OfRuns) (s : Status) (t : List ℕ)
+      → ShowsRuns refused Rises content file starts observer IsText s t → ShowsRuns refused Rises' content file starts observer IsText s t
+  shows_rise refused file starts observer IsText s t (inl h) = inl (program_rise (Rises file) (Rises' file) (content file) s t (rise file) h)
+  shows_rise refused file starts observer IsText s t (inr (p, reads, inl h)) = inr (p, reads, inl h)
+  shows_rise refused file starts observer IsText s t (inr (p, reads, inr (o, sees, inl h))) = inr (p, reads, inr (o, sees, inl h))
+  shows_rise refused file starts observer IsText s t (inr (p, reads, inr (o, sees, inr (x, shows, inl h)))) =
+      inr (p, reads, inr (o, sees, inr (x, shows, inl h)))
+  shows_rise refused file starts observer IsText s t (inr (p, reads, inr (o, sees, inr (x, shows, inr (code, image, inl h))))) =
+      inr (p, reads, inr (o, sees, inr (x, shows, inr (code, image,
+      inl (start_rise (Rises starts) (Rises' starts) (content starts) p s t (rise starts) h)))))
+  shows_rise refused file starts observer IsText s t (inr (p, reads, inr (o, sees, inr (x, shows, inr (code, image, inr h))))) =
+      inr (p, reads, inr (o, sees, inr (x, shows, inr (code, image, inr h))))
+
+  -- what answers it answers it
+  pub answer_rises : (e : Environment) (a : Asked) (s : Status) (t : List ℕ) → IsAnswerIn e Rises content a s t → IsAnswerIn e Rises' content a s t
+  answer_rises e (why file None) s t h = reads_rise (Rises file) (Rises' file) (content file) _ s t (rise file) h
+  answer_rises e (why file (Some name)) s t h = (h.0, reads_rise (Rises file) (Rises' file) (content file) _ s h.0 (rise file) h.1, h.2)
+  answer_rises e (seen file starts observer machine budget refused) s t h =
+      (h.0, shows_rise refused file starts (Some observer) (AreLines e budget) s h.0 h.1, h.2)
+  answer_rises e (timeline file starts observer machine budget refused) s t h =
+      (h.0, shows_rise refused file starts observer (AreTimelines e budget) s h.0 h.1, h.2)
+  answer_rises e (bound file starts observer machine budget) s t h =
+      (h.0, prepares_rise file starts observer (λ p q o code ss. HasBound e budget q o ss) s h.0 h.1, h.2)
+  answer_rises e (steady file observer parts constant whole) s t (m, inl h, is) = (m, inl h, is)
+  answer_rises e (steady file observer parts constant whole) s t (m, inr (costing, of, h), is) =
+      (m, inr (costing, of, reads_rise (Rises file) (Rises' file) (content file) _ s m (rise file) h), is)
+  answer_rises e (leak file starts observer machine budget) s t h =
+      (h.0, prepares_rise file starts observer (λ p q o code ss. HasLeak e budget q o ss) s h.0 h.1, h.2)
+  answer_rises e (help command) s t h = h
+  answer_rises e version s t h = h
