@@ -1,15 +1,14 @@
 -- How far words begin what the grammar allows, and what can stand behind these, is one.
-use Rattle.std.proofs.Common.{◌≡◌, ◌<◌, ◌≤◌, ◌+◌, refl, sym, ap, ◌∙◌, subst, ℕ, zero, suc, List, [], ◌∷◌, ◌++◌, append_assoc, length, take, drop, Bool, true}
+use Rattle.std.proofs.Common.{◌≡◌, ◌<◌, ◌≤◌, ◌+◌, refl, sym, ap, ◌∙◌, subst, ℕ, List, [], ◌∷◌, ◌++◌, append_assoc, length, take, drop}
 use Rattle.std.proofs.Common.{◌⊎◌, inl, inr, ⊎_elim, arith}
-use Rattle.std.specs.Prelude.{◌&&◌, nat_lt, Option, Some, None, pos}
+use Rattle.std.specs.Prelude.{pos}
 use Rattle.std.proofs.lemmas.List.{take-append-drop, take-take}
-use Rattle.mit_syntax.specs.declared.token.Keyword.TheVariants.{Labels, Order, Var, Skip, If, Then, Else, While, Do, Mitigate, Sleep}
 use Rattle.mit_syntax.specs.declared.token.Sign.{Sign as SignType}
 use Rattle.mit_syntax.specs.declared.token.Sign.TheVariants.{Assign, Colon, Semicolon, Comma, LeftRound, RightRound, LeftBrace, RightBrace, LeftSquare}
 use Rattle.mit_syntax.specs.declared.token.Sign.TheVariants.{RightSquare, At, Plus, Minus, Star, Slash, Percent, Equal, NotEqual, LessEqual, Less}
 use Rattle.mit_syntax.specs.declared.token.Sign.TheVariants.{GreaterEqual, Greater}
 use Rattle.mit_syntax.specs.Chunks.{key, sign, number, name}
-use Rattle.mit_parser.specs.Words.{Symbol, word, the_end, Told, key_code}
+use Rattle.mit_parser.specs.Words.{word, the_end, Told, key_code}
 use Rattle.mit_parser.specs.Spells.{Spells, Begins}
 use Rattle.next_tokens.specs.declared.sort.Sort.{Sort}
 use Rattle.next_tokens.specs.declared.sort.Sort.TheVariants.{Key, Sign, Name, Number, End}

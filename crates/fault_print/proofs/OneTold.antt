@@ -1,5 +1,5 @@
 -- One text is told of a fault.
-use Rattle.std.proofs.Common.{◌≡◌, ◌-◌, refl, sym, ap, ◌∙◌, subst, ℕ, List, [], ◌++◌, length, inl, inr}
+use Rattle.std.proofs.Common.{◌≡◌, ◌-◌, sym, ap, ◌∙◌, subst, ℕ, List, [], ◌++◌, length, inl, inr}
 use Rattle.std.specs.Prelude.{◌==◌, if◌then◌else◌}
 use Rattle.text_base.specs.declared.pos.Pos.{Pos}
 use Rattle.mit_syntax.specs.declared.fault.TextFault.{TextFault}
@@ -8,7 +8,7 @@ use Rattle.mit_syntax.specs.declared.token.Token.{Token}
 use Rattle.mit_syntax.proofs.OneList.{one_list}
 use Rattle.mit_parser.specs.declared.fault.ParseFault.{ParseFault}
 use Rattle.mit_parser.specs.declared.fault.ParseFault.TheVariants as parse
-use Rattle.mit_parser.specs.Words.{Told, told}
+use Rattle.mit_parser.specs.Words.{told}
 use Rattle.next_tokens.specs.declared.sort.Sort.{Sort}
 use Rattle.next_tokens.specs.Following.{Reaches}
 use Rattle.fault_print.specs.Marked.{marked, from_place, before_place}

@@ -1,7 +1,7 @@
 -- What is told of a token, and of a byte with which no word begins.
-use Rattle.std.proofs.Common.{◌≡◌, ◌≢◌, ◌-◌, ◌<◌, refl, sym, ap, ◌∙◌, subst, ℕ, List, [], ◌++◌, length, take, get_or, Result, Ok, Err, IfOk, OnOk, Vec, Global}
-use Rattle.std.proofs.Common.{inl, inr, arith}
-use Rattle.std.specs.Prelude.{Some, ◌==◌, if◌then◌else◌}
+use Rattle.std.proofs.Common.{◌≡◌, ◌≢◌, ◌-◌, ◌<◌, sym, ap, ◌∙◌, subst, ℕ, List, [], ◌++◌, length, take, get_or, Result, Ok, Err, IfOk, OnOk}
+use Rattle.std.proofs.Common.{inr, arith}
+use Rattle.std.specs.Prelude.{◌==◌, if◌then◌else◌}
 use Rattle.std.proofs.lemmas.Option.{slice_get-get_or}
 use Rattle.text_base.specs.declared.pos.Pos.{Pos}
 use Rattle.mit_syntax.specs.declared.fault.TextFault.{TextFault}
@@ -14,7 +14,7 @@ use Rattle.next_tokens.specs.Following.{Reaches}
 use Rattle.next_tokens.specs.Sorts.{sort_in}
 use Rattle.fault_print.specs.Marked.{marked, from_place, before_place}
 use Rattle.fault_print.specs.Words.{expected_line}
-use Rattle.fault_print.specs.Faults.{found_sort, trap_at, token_lines, lines_at, but_end, Follow, CouldFollow, byte_lines, TellsByte}
+use Rattle.fault_print.specs.Faults.{found_sort, trap_at, token_lines, lines_at, Follow, CouldFollow, byte_lines, TellsByte}
 
 pub on_ok : {A E : Type 0} (r : Result A E) (P Q : Type 0) → (P → Q) → OnOk r P → OnOk r Q
 on_ok (Ok v) P Q f h = f h

@@ -1,5 +1,5 @@
 -- What stands at a place, and what could stand there.
-use Rattle.std.specs.Prelude.{ℕ, ◌&&◌, Bool, if◌then◌else◌, nat_lt, List, [], ◌∷◌, ◌++◌, length, take, codes, decimal}
+use Rattle.std.specs.Prelude.{ℕ, if◌then◌else◌, nat_lt, List, [], ◌∷◌, ◌++◌, length, take, codes, decimal}
 use Rattle.label_lattice.specs.Names.{is_name_byte}
 use Rattle.mit_syntax.specs.Lexemes.{key_text, sign_text}
 use Rattle.next_tokens.specs.declared.sort.Sort.{Sort}
