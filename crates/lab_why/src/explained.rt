@@ -11,7 +11,7 @@ ghost use Rattle.tool_stages.specs.Stages.{Reads};
 ghost use Rattle.lab_why.specs.Answers.{IsTypeAnswer, IsWhyAnswer};
 ghost use Rattle.lab_why.specs.Explained.{status_told, text_told, IsExplained};
 
-use crate::faulty::{Spelled, spelled};
+use crate::faulty::{Spelled, spelling};
 use crate::refused::refusal_text;
 use flow_path::why::check_why;
 use label_infer::infer::infer;
@@ -90,7 +90,7 @@ fn explain_text(alloc: Global, text: &[u8]) -> Result<Explained, Memory>
     requires { length text.now ≤ limit }
     ensures { IfOk result (λ x. (content : Option (Option (List ℕ))) → IsTold content text.now → IsExplained content x) }
 {
-    match spelled(alloc, text) {
+    match spelling(alloc, text) {
         Ok(Spelled::Spells(program)) => explain_program(alloc, text, program),
         Ok(Spelled::Faulty(lines)) => Ok(Explained::Faulty(lines)),
         Err(fault) => Err(fault),

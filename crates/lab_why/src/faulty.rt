@@ -101,7 +101,7 @@ fn faulty_tokens(
 ///
 /// # Errors
 /// `Memory` is want of memory.
-pub fn spelled(alloc: Global, text: &[u8]) -> Result<Spelled, Memory>
+pub fn spelling(alloc: Global, text: &[u8]) -> Result<Spelled, Memory>
     requires { length text.now ≤ limit }
     ensures { IfOk result (λ x. (content : Option (Option (List ℕ))) → IsTold content text.now → IsSpelled content text.now x) }
 {
