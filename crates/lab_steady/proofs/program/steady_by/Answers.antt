@@ -31,8 +31,8 @@ returns-in-Ok-steady_told-clause-told g c =
     (g.S.Shelf.content c.args.shelf.now) c.args.file.now c.args.observer.now c.args.parts.now c.args.whole c.in-Ok.costing c.in-Ok.ensures.ok
     (status_told c.in-Ok-steady_told.told) (text_told c.in-Ok-steady_told.told) c.in-Ok-steady_told.ensures.told
 
-pub returns-clause-stop : goal.returns-clause-stop
-returns-clause-stop g c =
+pub returns-in-Err-steady_told-clause-stop : goal.returns-in-Err-steady_told-clause-stop
+returns-in-Err-steady_told-clause-stop g c =
     stops_by (option_map (λ s. s.now) c.args.constant)
     (λ (name : List ℕ). Rose (g.S.Shelf.faults c.args.shelf.now name) (g.S.Shelf.faults c.steady_told.new.shelf name))
     (g.S.Shelf.content c.args.shelf.now) c.args.file.now c.args.observer.now c.args.parts.now c.args.whole c.in-Ok.costing c.in-Ok.ensures.ok
