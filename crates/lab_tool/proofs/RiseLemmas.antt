@@ -1,5 +1,5 @@
 -- A question after a machine: its files hold what they held, and a count that rose since then rose since the call began.
-use Rattle.std.proofs.Common.{◌≡◌, ℕ, List, Bool, true, false, Option, Some, None, inl, inr}
+use Rattle.std.proofs.Common.{ℕ, List, Bool, Option, Some, None, inl, inr}
 use Rattle.label_lattice.specs.declared.label.Label.{Label}
 use Rattle.mit_syntax.specs.Program.{Syntax}
 use Rattle.timing_types.specs.Labelled.{LabelledProgram}
@@ -16,7 +16,6 @@ use Rattle.lab_bound.specs.Answer.{HasBound}
 use Rattle.lab_leak.specs.Answer.{HasLeak}
 use Rattle.lab_runs.specs.Shown.{OfRuns, ShowsRuns}
 use Rattle.lab_seen.specs.Seen.{AreLines}
-use Rattle.lab_texts.specs.InLab.{InLab}
 use Rattle.lab_timeline.specs.Timed.{AreTimelines}
 use Rattle.lab_words.specs.QuestionAsked.{Asked, why, seen, timeline, bound, steady, leak, help, version}
 use Rattle.lab_tool.specs.Answers.{IsAnswerIn}
@@ -45,8 +44,8 @@ module _ (Rises Rises' : List ℕ → Type 0) (content : Content) (rise : (name 
   prepares_rise file starts observer Next s t (inr (p, reads, inr (o, sees, inl h))) = inr (p, reads, inr (o, sees, inl h))
   prepares_rise file starts observer Next s t (inr (p, reads, inr (o, sees, inr (q, types, inl h)))) = inr (p, reads, inr (o, sees, inr (q, types, inl h)))
   prepares_rise file starts observer Next s t (inr (p, reads, inr (o, sees, inr (q, types, inr (code, image, inl h))))) =
-      inr (p, reads, inr (o, sees, inr (q, types, inr (code, image,
-      inl (start_rise (Rises starts) (Rises' starts) (content starts) p s t (rise starts) h)))))
+      let stop = start_rise (Rises starts) (Rises' starts) (content starts) p s t (rise starts) h in
+      inr (p, reads, inr (o, sees, inr (q, types, inr (code, image, inl stop))))
   prepares_rise file starts observer Next s t (inr (p, reads, inr (o, sees, inr (q, types, inr (code, image, inr h))))) =
       inr (p, reads, inr (o, sees, inr (q, types, inr (code, image, inr h))))
 
@@ -58,8 +57,8 @@ module _ (Rises Rises' : List ℕ → Type 0) (content : Content) (rise : (name 
   shows_rise refused file starts observer IsText s t (inr (p, reads, inr (o, sees, inr (x, shows, inl h)))) =
       inr (p, reads, inr (o, sees, inr (x, shows, inl h)))
   shows_rise refused file starts observer IsText s t (inr (p, reads, inr (o, sees, inr (x, shows, inr (code, image, inl h))))) =
-      inr (p, reads, inr (o, sees, inr (x, shows, inr (code, image,
-      inl (start_rise (Rises starts) (Rises' starts) (content starts) p s t (rise starts) h)))))
+      let stop = start_rise (Rises starts) (Rises' starts) (content starts) p s t (rise starts) h in
+      inr (p, reads, inr (o, sees, inr (x, shows, inr (code, image, inl stop))))
   shows_rise refused file starts observer IsText s t (inr (p, reads, inr (o, sees, inr (x, shows, inr (code, image, inr h))))) =
       inr (p, reads, inr (o, sees, inr (x, shows, inr (code, image, inr h))))
 
