@@ -19,6 +19,7 @@ use Rattle.lab_steady.specs.Answer.{parts_or}
 use Rattle.lab_steady.proofs.OneAnswer.{one_in}
 use Rattle.lab_timeline.proofs.OneTimeline.{timeline_once}
 use Rattle.lab_texts.specs.InLab.{lab_text}
+use Rattle.lab_why.proofs.FaultLemmas.{why_one}
 use Rattle.lab_why.proofs.OneReason.{one_reason}
 use Rattle.lab_why.proofs.OneOrigins.{one_origins}
 use Rattle.lab_why.specs.Answers.{ReasonStops}
@@ -67,7 +68,7 @@ answers_one_in : (env : Environment) (content : Content) (before now : List ℕ 
 answers_one_in env content before now (why file None) s u t x known none h k =
     let rises = λ (name : List ℕ). Rose (before name) (now name) in
     let good = first_file rises content file [] none known in
-    let one = reads_one s u t x (rises file) (content file) (λ p. Then (ReasonStops (content file) p) (Types p) (λ q. HasChecked p)) good.0 good.1
+    let one = why_one s u t x (rises file) (content file) (λ p. Then (ReasonStops (content file) p) (Types p) (λ q. HasChecked p)) good.0 good.1
     (λ p o. reason_one (content file) p s u t x (one_reason (content file) p t x good.1 o)) h k in
     one
 answers_one_in env content before now (why file (Some name)) s u t x known none h k =

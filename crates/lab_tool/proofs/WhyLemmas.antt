@@ -14,6 +14,8 @@ use Rattle.tool_stages.specs.Goes.{IsTypable}
 use Rattle.tool_stages.proofs.GoesLemmas.{program_goes}
 use Rattle.tool_stages.proofs.OneLemmas.{one_program, same_labelled}
 use Rattle.lab_why.specs.Answers.{ReasonStops, IsWhyAnswer}
+use Rattle.lab_why.specs.Faulty.{WhyStops}
+use Rattle.lab_why.proofs.FaultLemmas.{why_goes}
 use Rattle.lab_why.specs.Reasons.{HasReason}
 use Rattle.lab_why.specs.Names.{named}
 use Rattle.lab_why.specs.Origins.{HasOrigins, IsOriginAnswer, NameStops}
@@ -65,14 +67,14 @@ pub why_ends : (Rises : List ℕ → Type 0) (content : Content) (file : List �
     → IsKnown (content file) → WhyGoes (content file) e
     → IsWhyAnswer Rises content file s t → s ≡ e
 why_ends Rises content file s status.Done t n known goes h =
-    then_ends (ProgramStops (Rises file) (content file)) (Reads (content file))
+    then_ends (WhyStops (Rises file) (content file)) (Reads (content file))
     (λ p. Then (ReasonStops (content file) p) (Types p) (λ q. HasChecked p)) s status.Done t
-    goes.0 goes.1 (one_program (content file) known) (program_goes (Rises file) (content file) goes.0 s t n known goes.1)
+    goes.0 goes.1 (one_program (content file) known) (why_goes (Rises file) (content file) goes.0 s t n known goes.1)
     (accepted_ends (content file) goes.0 s t goes.2) h
 why_ends Rises content file s status.Refused t n known goes h =
-    then_ends (ProgramStops (Rises file) (content file)) (Reads (content file))
+    then_ends (WhyStops (Rises file) (content file)) (Reads (content file))
     (λ p. Then (ReasonStops (content file) p) (Types p) (λ q. HasChecked p)) s status.Refused t
-    goes.0 goes.1 (one_program (content file) known) (program_goes (Rises file) (content file) goes.0 s t n known goes.1)
+    goes.0 goes.1 (one_program (content file) known) (why_goes (Rises file) (content file) goes.0 s t n known goes.1)
     (refused_ends (content file) goes.0 s t goes.2) h
 why_ends Rises content file s status.Syntax t n known goes h = absurd goes
 why_ends Rises content file s status.Starts t n known goes h = absurd goes

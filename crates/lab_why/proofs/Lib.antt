@@ -1,4 +1,6 @@
 pub mod ReasonLemmas
+pub mod FaultLemmas
+pub mod SpelledLemmas
 pub mod OriginLemmas
 pub mod OneReason
 pub mod OneOrigins

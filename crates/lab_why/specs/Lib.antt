@@ -1,4 +1,5 @@
 pub mod Reasons
+pub mod Faulty
 pub mod Answers
 pub mod Explained
 pub mod Names

@@ -1,8 +1,9 @@
-//! The question `why`: whether a program is accepted, and if not, by which chain of conditions its labels can't hold;
-//! and by which chains a label comes from those that are written.
+//! The question `why`: whether a program is accepted, and if not, by which chain of conditions its labels can't hold, or what is wrong
+//! with its text; and by which chains a label comes from those that are written.
 #![tactic(auto)]
 
 mod explained;
+mod faulty;
 mod names;
 pub mod of;
 pub mod origins;

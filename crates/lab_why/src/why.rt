@@ -16,7 +16,8 @@ use tool_texts::status::Status;
 
 /// Tells whether the program of a file is accepted, and if not, which condition is broken first and by which chain of
 /// conditions no labels can hold there. Of all such chains none is cheaper, and of those that are as cheap it is the
-/// earliest.
+/// earliest. Where the text is no program, it tells what is wrong with it: the tool's own line, the line of the text with a mark under
+/// the place, what stands there, and what could stand there or which limit is passed.
 pub fn why<S: Shelf, W: Sink>(alloc: Global, shelf: &mut S, out: &mut W, file: &str) -> Status
     ensures same { KeepsFiles (S.content shelf.old) (S.content shelf.new) }
     ensures later { NoCountFalls (S.faults shelf.old) (S.faults shelf.new) }
@@ -29,6 +30,7 @@ pub fn why<S: Shelf, W: Sink>(alloc: Global, shelf: &mut S, out: &mut W, file: &
     match explain(alloc, shelf, file) {
         Ok(Explained::Accepted(line)) => finish(out, line.bytes(), Status::Done),
         Ok(Explained::Refused(lines)) => finish(out, lines.as_slice(), Status::Refused),
+        Ok(Explained::Faulty(lines)) => finish(out, lines.as_slice(), Status::Syntax),
         Err(e) => stop(out, e),
     }
 }

@@ -3,7 +3,7 @@
 ghost use Rattle.own_firsts.specs.Count.{OwnIsEnough, OwnExample};
 ghost use Rattle.own_firsts.specs.Own.{SharpOwnAll, LoweredOwnAll};
 
-use env_contract::env::MachineEnv;
+use env_contract::env::LawfulEnv;
 
 /// Each mitigation counts with its own first prediction: where no relevant mitigate of an accepted program stands in another,
 /// starts that agree and halt by T show at most as many sequences as there are ways in which their mitigations can end. A way
@@ -12,13 +12,13 @@ use env_contract::env::MachineEnv;
 ///
 /// Nor is seeing the run worth more to one who guesses the start. Where the end label flows to the observer, the same holds of
 /// who sees the end of the run too.
-pub fn few_sequences_own<E: MachineEnv>()
+pub fn few_sequences_own<E: LawfulEnv>()
     ensures { SharpOwnAll E.env E.serves }
 {}
 
 /// The same for the image that `lower` makes of a labelled program. Its source is the program that was read, without its
 /// labels.
-pub fn lowered_few_sequences_own<E: MachineEnv>()
+pub fn lowered_few_sequences_own<E: LawfulEnv>()
     ensures { LoweredOwnAll E.env E.serves }
 {}
 

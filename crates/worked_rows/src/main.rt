@@ -14,7 +14,7 @@ mod text;
 mod words_tests;
 
 // The tables, in the order in which they are run.
-const TABLES: [&str; 27] = [
+const TABLES: [&str; 28] = [
     "examples.txt",
     "texts.txt",
     "grammar.txt",
@@ -36,6 +36,7 @@ const TABLES: [&str; 27] = [
     "faults.txt",
     "lab-examples.txt",
     "lab-why.txt",
+    "lab-texts.txt",
     "lab-runs.txt",
     "lab-bounds.txt",
     "lab-steady.txt",

@@ -1,9 +1,11 @@
 use Rattle.std.proofs.Common.{refl, sym, subst, inl}
 use Rattle.std.specs.Prelude.{ℕ, List, [], ◌∷◌, Ok, Err}
 use Rattle.tim_base.specs.Faults.{Rose}
-use Rattle.tool_texts.specs.declared.status.Status.TheVariants.{Done, Refused}
+use Rattle.tool_texts.specs.declared.status.Status.TheVariants.{Done, Refused, Syntax}
 use Rattle.tool_texts.specs.Ends.{Nothing, status_of, stop_text}
-use Rattle.tool_stages.specs.Stages.{ProgramStops}
+use Rattle.tool_texts.specs.Texts.{program}
+use Rattle.tool_stages.specs.Fetches.{FileStops}
+use Rattle.lab_why.proofs.FaultLemmas.{file_why}
 use Rattle.tool_stages.proofs.FetchLemmas.{fetched_by}
 use Rattle.tool_texts.proofs.EndLemmas.{ends_finish, ends_stop}
 use Rattle.lab_why.specs.declared.explained.Explained.{Explained}
@@ -29,14 +31,25 @@ returns-in-Ok-Refused-clause-answered g c =
     (subst (λ (z : Explained). answer (status_told z) (text_told z)) c.in-Ok-Refused.field-0-is c.in-Ok-Refused.ensures.told))
     c.finish-in-Ok-Refused.ensures.told c.finish-in-Ok-Refused.ensures.prefix
 
+pub returns-in-Ok-Faulty-clause-answered : goal.returns-in-Ok-Faulty-clause-answered
+returns-in-Ok-Faulty-clause-answered g c =
+    let answer = IsWhyAnswer (λ (name : List ℕ). Rose (g.S.Shelf.faults c.args.shelf.now name) (g.S.Shelf.faults c.explain.new.shelf name))
+    (g.S.Shelf.content c.args.shelf.now) c.args.file.now in
+    ends_finish (g.W.Sink.taken c.args.out.now) (g.W.Sink.taken c.finish-in-Ok-Faulty.new.out) Nothing answer Syntax c.as_slice-in-Ok-Faulty.result.now
+    c.finish-in-Ok-Faulty.result
+    (subst (λ (t : List ℕ). answer Syntax t) (sym c.as_slice-in-Ok-Faulty.ensures.value)
+    (subst (λ (z : Explained). answer (status_told z) (text_told z)) c.in-Ok-Faulty.field-0-is c.in-Ok-Faulty.ensures.told))
+    c.finish-in-Ok-Faulty.ensures.told c.finish-in-Ok-Faulty.ensures.prefix
+
 pub returns-in-Err-clause-answered : goal.returns-in-Err-clause-answered
 returns-in-Err-clause-answered g c =
     let rises = λ (name : List ℕ). Rose (g.S.Shelf.faults c.args.shelf.now name) (g.S.Shelf.faults c.explain.new.shelf name) in
     let content = g.S.Shelf.content c.args.shelf.now in
     let e = c.in-Err.e in
-    ends_stop (g.W.Sink.taken c.args.out.now) (g.W.Sink.taken c.stop.new.out) Nothing (ProgramStops (rises c.args.file.now) (content c.args.file.now))
-    (IsWhyAnswer rises content c.args.file.now)
-    (status_of e) (stop_text e) c.stop.result refl (λ t h. inl h) c.in-Err.ensures.stop c.stop.ensures.told c.stop.ensures.prefix
+    ends_stop (g.W.Sink.taken c.args.out.now) (g.W.Sink.taken c.stop.new.out) Nothing
+    (FileStops (rises c.args.file.now) (content c.args.file.now) program) (IsWhyAnswer rises content c.args.file.now)
+    (status_of e) (stop_text e) c.stop.result refl (λ t h. inl (file_why (rises c.args.file.now) (content c.args.file.now) (status_of e) t h))
+    c.in-Err.ensures.stop c.stop.ensures.told c.stop.ensures.prefix
 
 pub returns-in-Ok-Accepted-clause-fetched : goal.returns-in-Ok-Accepted-clause-fetched
 returns-in-Ok-Accepted-clause-fetched g c =
@@ -47,6 +60,11 @@ pub returns-in-Ok-Refused-clause-fetched : goal.returns-in-Ok-Refused-clause-fet
 returns-in-Ok-Refused-clause-fetched g c =
     fetched_by {A = Unit {0}} (c.args.file.now ∷ []) (g.S.Shelf.log c.args.shelf.now) (g.S.Shelf.log c.explain.new.shelf) Refused
     c.finish-in-Ok-Refused.result (Ok tt) (λ e. absurd cc) c.in-Ok-Refused.ensures.log (λ n. (c.finish-in-Ok-Refused.ensures.told n).0)
+
+pub returns-in-Ok-Faulty-clause-fetched : goal.returns-in-Ok-Faulty-clause-fetched
+returns-in-Ok-Faulty-clause-fetched g c =
+    fetched_by {A = Unit {0}} (c.args.file.now ∷ []) (g.S.Shelf.log c.args.shelf.now) (g.S.Shelf.log c.explain.new.shelf) Syntax
+    c.finish-in-Ok-Faulty.result (Ok tt) (λ e. absurd cc) c.in-Ok-Faulty.ensures.log (λ n. (c.finish-in-Ok-Faulty.ensures.told n).0)
 
 pub returns-in-Err-clause-fetched : goal.returns-in-Err-clause-fetched
 returns-in-Err-clause-fetched g c =

@@ -4,4 +4,4 @@ use Rattle.own_firsts.proofs.laws.lowered_few_sequences_own.Goals as goal
 
 pub returns : goal.returns
 returns g c = lowered_own _ _
-    (λ order labels levels image p made. is_own _ order labels levels image p made (g.met.E.MachineEnv.lawful order made.lattice))
+    (λ order labels levels image p made. is_own _ order labels levels image p made (g.met.E.LawfulEnv.lawful order made.lattice))

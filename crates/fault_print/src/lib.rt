@@ -1,0 +1,13 @@
+//! The lines that tell what is wrong with a text, beside the tool's own line: its line with a mark under the place, what stands there,
+//! and what could stand there.
+#![tactic(auto)]
+
+pub mod faults;
+mod hints;
+mod marked;
+mod names;
+mod near;
+mod text;
+mod token;
+mod traps;
+mod words;
