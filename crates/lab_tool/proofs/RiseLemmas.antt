@@ -17,6 +17,7 @@ use Rattle.lab_leak.specs.Answer.{HasLeak}
 use Rattle.lab_runs.specs.Shown.{OfRuns, ShowsRuns}
 use Rattle.lab_seen.specs.Seen.{AreLines}
 use Rattle.lab_timeline.specs.Timed.{AreTimelines}
+use Rattle.lab_why.specs.Faulty.{WhyStops}
 use Rattle.lab_words.specs.QuestionAsked.{Asked, why, seen, timeline, bound, steady, leak, help, version}
 use Rattle.lab_tool.specs.Answers.{IsAnswerIn}
 
@@ -34,6 +35,21 @@ program_rise R R' c status.Disagree t f h = h
 program_rise R R' c status.Unfinished t f h = h
 program_rise R R' c status.Memory t f h = h
 program_rise R R' c status.Rejected t f h = h
+
+why_rise : (R R' : Type 0) (c : Option (Option (List ℕ))) (s : Status) (t : List ℕ) → (R → R') → WhyStops R c s t → WhyStops R' c s t
+why_rise R R' c status.Done t f h = h
+why_rise R R' c status.Refused t f h = h
+why_rise R R' c status.Syntax t f h = h
+why_rise R R' c status.Starts t f h = h
+why_rise R R' c status.Usage t f h = h
+why_rise R R' c status.ReadFault t f h = (f h.0, h.1)
+why_rise R R' c status.WriteFault t f h = h
+why_rise R R' c status.TooLong t f h = h
+why_rise R R' c status.Budget t f h = h
+why_rise R R' c status.Disagree t f h = h
+why_rise R R' c status.Unfinished t f h = h
+why_rise R R' c status.Memory t f h = h
+why_rise R R' c status.Rejected t f h = h
 
 module _ (Rises Rises' : List ℕ → Type 0) (content : Content) (rise : (name : List ℕ) → Rises name → Rises' name) where
   prepares_rise : (file starts observer : List ℕ) (Next : Syntax → LabelledProgram → Option Label → Code → List StartValue → Status → List ℕ → Type 0)
@@ -64,7 +80,7 @@ module _ (Rises Rises' : List ℕ → Type 0) (content : Content) (rise : (name 
 
   -- what answers it answers it
   pub answer_rises : (e : Environment) (a : Asked) (s : Status) (t : List ℕ) → IsAnswerIn e Rises content a s t → IsAnswerIn e Rises' content a s t
-  answer_rises e (why file None) s t (inl h) = inl (program_rise (Rises file) (Rises' file) (content file) s t (rise file) h)
+  answer_rises e (why file None) s t (inl h) = inl (why_rise (Rises file) (Rises' file) (content file) s t (rise file) h)
   answer_rises e (why file None) s t (inr h) = inr h
   answer_rises e (why file (Some name)) s t (m, inl h, is) = (m, inl (program_rise (Rises file) (Rises' file) (content file) s m (rise file) h), is)
   answer_rises e (why file (Some name)) s t (m, inr h, is) = (m, inr h, is)
