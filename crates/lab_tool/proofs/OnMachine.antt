@@ -1,5 +1,5 @@
 -- What comes after a machine: where it has one answer, where it can end, and what may stand before the line for memory.
-use Rattle.std.proofs.Common.{◌≡◌, ◌⊎◌, ℕ, List, [], ◌∷◌, ◌++◌, All, Option, refl, sym, subst, inl, inr}
+use Rattle.std.proofs.Common.{◌≡◌, ◌⊎◌, ℕ, List, [], ◌++◌, All, Option, refl, sym, subst, inl, inr}
 use Rattle.std.proofs.lemmas.List.Elements.{All-cons, All-head, All-nil, All-tail}
 use Rattle.hardware.specs.declared.make.MakeHardware.{MakeHardware}
 use Rattle.tool_texts.specs.declared.status.Status.{Status}

@@ -8,11 +8,9 @@ use Rattle.tool_texts.specs.declared.status.Status.{Status}
 use Rattle.tool_texts.specs.declared.status.Status.TheVariants.{Done}
 use Rattle.tool_stages.specs.declared.envs.Environment.{Environment}
 use Rattle.tool_stages.specs.Accepted.{HasChecked}
-use Rattle.tool_stages.specs.Stages.{Then, Reads, ProgramStops, Types}
+use Rattle.tool_stages.specs.Stages.{Then, Types}
 use Rattle.tool_stages.specs.Content.{Content, IsKnown, AreKnown, NoneRises}
 use Rattle.tool_stages.proofs.ChainLemmas.{first_file, second_file, reads_one}
-use Rattle.tool_stages.proofs.GoesLemmas.{program_goes}
-use Rattle.tool_stages.proofs.OneLemmas.{one_program, one_program_stop}
 use Rattle.lab_words.specs.QuestionAsked.{Asked, why, seen, timeline, bound, steady, leak, help, version}
 use Rattle.lab_bound.proofs.Single.{one_bound_in_lab}
 use Rattle.lab_leak.proofs.Single.{one_leak_in_lab}

@@ -3,7 +3,6 @@ use Rattle.std.proofs.Common.{◌≡◌, ◌∙◌, ℕ, List, Option, Some, Non
 use Rattle.std.proofs.lemmas.Option.{none-some, same_Some}
 use Rattle.std.proofs.Props.{props}
 use Rattle.toml.specs.Data.{Members}
-use Rattle.tim_base.specs.Told.{IsTooLong}
 use Rattle.part_tlb.specs.declared.bank.Hardware.{Hardware}
 use Rattle.hardware.specs.Limits.{IsWithin}
 use Rattle.hardware.specs.declared.make.MakeHardware.{MakeHardware}
@@ -14,7 +13,7 @@ use Rattle.machine_file.specs.Files.{Describes, Refused, no_document, no_machine
 use Rattle.machine_file.specs.Files.{machine_in as described_by}
 use Rattle.tool_texts.specs.declared.status.Status.{Status}
 use Rattle.tool_texts.specs.declared.status.Status.TheVariants as status
-use Rattle.tool_texts.specs.Texts.{machine, too_long_line, read_fault_line}
+use Rattle.tool_texts.specs.Texts.{machine}
 use Rattle.tool_stages.specs.Content.{IsKnown}
 use Rattle.tool_stages.proofs.GoesLemmas.{one_told, not_long}
 use Rattle.tool_stages.proofs.OneLemmas.{Same}

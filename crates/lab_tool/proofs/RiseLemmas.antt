@@ -1,5 +1,5 @@
 -- A question after a machine: its files hold what they held, and a count that rose since then rose since the call began.
-use Rattle.std.proofs.Common.{◌≡◌, ℕ, List, Bool, true, false, Option, Some, None, inl, inr}
+use Rattle.std.proofs.Common.{ℕ, List, Bool, Option, Some, None, inl, inr}
 use Rattle.label_lattice.specs.declared.label.Label.{Label}
 use Rattle.mit_syntax.specs.Program.{Syntax}
 use Rattle.timing_types.specs.Labelled.{LabelledProgram}
@@ -16,8 +16,8 @@ use Rattle.lab_bound.specs.Answer.{HasBound}
 use Rattle.lab_leak.specs.Answer.{HasLeak}
 use Rattle.lab_runs.specs.Shown.{OfRuns, ShowsRuns}
 use Rattle.lab_seen.specs.Seen.{AreLines}
-use Rattle.lab_texts.specs.InLab.{InLab}
 use Rattle.lab_timeline.specs.Timed.{AreTimelines}
+use Rattle.lab_why.specs.Faulty.{WhyStops}
 use Rattle.lab_words.specs.QuestionAsked.{Asked, why, seen, timeline, bound, steady, leak, help, version}
 use Rattle.lab_tool.specs.Answers.{IsAnswerIn}
 
@@ -36,6 +36,21 @@ program_rise R R' c status.Unfinished t f h = h
 program_rise R R' c status.Memory t f h = h
 program_rise R R' c status.Rejected t f h = h
 
+why_rise : (R R' : Type 0) (c : Option (Option (List ℕ))) (s : Status) (t : List ℕ) → (R → R') → WhyStops R c s t → WhyStops R' c s t
+why_rise R R' c status.Done t f h = h
+why_rise R R' c status.Refused t f h = h
+why_rise R R' c status.Syntax t f h = h
+why_rise R R' c status.Starts t f h = h
+why_rise R R' c status.Usage t f h = h
+why_rise R R' c status.ReadFault t f h = (f h.0, h.1)
+why_rise R R' c status.WriteFault t f h = h
+why_rise R R' c status.TooLong t f h = h
+why_rise R R' c status.Budget t f h = h
+why_rise R R' c status.Disagree t f h = h
+why_rise R R' c status.Unfinished t f h = h
+why_rise R R' c status.Memory t f h = h
+why_rise R R' c status.Rejected t f h = h
+
 module _ (Rises Rises' : List ℕ → Type 0) (content : Content) (rise : (name : List ℕ) → Rises name → Rises' name) where
   prepares_rise : (file starts observer : List ℕ) (Next : Syntax → LabelledProgram → Option Label → Code → List StartValue → Status → List ℕ → Type 0)
       (s : Status) (t : List ℕ) → Prepares Rises content file observer (Rises starts) (content starts) Next s t
@@ -45,8 +60,8 @@ module _ (Rises Rises' : List ℕ → Type 0) (content : Content) (rise : (name 
   prepares_rise file starts observer Next s t (inr (p, reads, inr (o, sees, inl h))) = inr (p, reads, inr (o, sees, inl h))
   prepares_rise file starts observer Next s t (inr (p, reads, inr (o, sees, inr (q, types, inl h)))) = inr (p, reads, inr (o, sees, inr (q, types, inl h)))
   prepares_rise file starts observer Next s t (inr (p, reads, inr (o, sees, inr (q, types, inr (code, image, inl h))))) =
-      inr (p, reads, inr (o, sees, inr (q, types, inr (code, image,
-      inl (start_rise (Rises starts) (Rises' starts) (content starts) p s t (rise starts) h)))))
+      let stop = start_rise (Rises starts) (Rises' starts) (content starts) p s t (rise starts) h in
+      inr (p, reads, inr (o, sees, inr (q, types, inr (code, image, inl stop))))
   prepares_rise file starts observer Next s t (inr (p, reads, inr (o, sees, inr (q, types, inr (code, image, inr h))))) =
       inr (p, reads, inr (o, sees, inr (q, types, inr (code, image, inr h))))
 
@@ -58,14 +73,14 @@ module _ (Rises Rises' : List ℕ → Type 0) (content : Content) (rise : (name 
   shows_rise refused file starts observer IsText s t (inr (p, reads, inr (o, sees, inr (x, shows, inl h)))) =
       inr (p, reads, inr (o, sees, inr (x, shows, inl h)))
   shows_rise refused file starts observer IsText s t (inr (p, reads, inr (o, sees, inr (x, shows, inr (code, image, inl h))))) =
-      inr (p, reads, inr (o, sees, inr (x, shows, inr (code, image,
-      inl (start_rise (Rises starts) (Rises' starts) (content starts) p s t (rise starts) h)))))
+      let stop = start_rise (Rises starts) (Rises' starts) (content starts) p s t (rise starts) h in
+      inr (p, reads, inr (o, sees, inr (x, shows, inr (code, image, inl stop))))
   shows_rise refused file starts observer IsText s t (inr (p, reads, inr (o, sees, inr (x, shows, inr (code, image, inr h))))) =
       inr (p, reads, inr (o, sees, inr (x, shows, inr (code, image, inr h))))
 
   -- what answers it answers it
   pub answer_rises : (e : Environment) (a : Asked) (s : Status) (t : List ℕ) → IsAnswerIn e Rises content a s t → IsAnswerIn e Rises' content a s t
-  answer_rises e (why file None) s t (inl h) = inl (program_rise (Rises file) (Rises' file) (content file) s t (rise file) h)
+  answer_rises e (why file None) s t (inl h) = inl (why_rise (Rises file) (Rises' file) (content file) s t (rise file) h)
   answer_rises e (why file None) s t (inr h) = inr h
   answer_rises e (why file (Some name)) s t (m, inl h, is) = (m, inl (program_rise (Rises file) (Rises' file) (content file) s m (rise file) h), is)
   answer_rises e (why file (Some name)) s t (m, inr h, is) = (m, inr h, is)

@@ -95,9 +95,7 @@ fn obey_in<S: Shelf, W: Sink>(
             parts,
             constant,
             whole,
-        } => steady(
-            alloc, shelf, out, file, observer, parts, constant, whole,
-        ),
+        } => steady(alloc, shelf, out, file, observer, parts, constant, whole),
         Question::Leak {
             file,
             starts,
