@@ -1,5 +1,5 @@
 -- From the word of `--constant` to the costs of operators that are asked about.
-use Rattle.std.specs.Prelude.{◌≡◌, ℕ, List, [], ◌∷◌, Bool, true, false, Option, Some, None, codes, bytes_eq, eqb, option_and_then, option_map, if◌then◌else◌}
+use Rattle.std.specs.Prelude.{◌≡◌, ℕ, List, [], ◌∷◌, true, false, Option, Some, None, codes, bytes_eq, eqb, option_and_then, option_map, if◌then◌else◌}
 use Rattle.std.specs.List.{slice_split}
 use Rattle.steady_code.specs.declared.costing.Constant.{Constant}
 use Rattle.steady_code.specs.declared.costing.Costing.{Costing}
