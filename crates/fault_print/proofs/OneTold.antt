@@ -23,8 +23,8 @@ one_token T ts t x h k =
 one_follow : (F : List ℕ) (a b : List Sort) → Follow F a → Follow F b → a ≡ b
 one_follow F a b h k =
     let list : h.tokens ≡ k.tokens = one_list F h.tokens k.tokens h.cut k.cut in
-    let reaches : Reaches (told F (but_end k.tokens)) h.taken h.sorts = subst (λ (z : List Token). Reaches (told F
-    (but_end z)) h.taken h.sorts) list h.reaches in
+    let reaches : Reaches (told F (but_end k.tokens)) h.taken h.sorts =
+    subst (λ (z : List Token). Reaches (told F (but_end z)) h.taken h.sorts) list h.reaches in
     let one = one_reach (told F (but_end k.tokens)) h.taken k.taken h.sorts k.sorts reaches k.reaches in
     h.are ∙ ap (λ (z : List Token). if h.taken == length z - 1 then h.sorts else []) list
     ∙ ap (λ (n : ℕ). if n == length k.tokens - 1 then h.sorts else []) one.0

@@ -1,7 +1,6 @@
 -- What is told of a text that is no program.
 use Rattle.std.proofs.Common.{◌≡◌, ℕ, List, ◌++◌, Option, ◌⊎◌, inl, inr, refl, sym, ap, subst, ◌∙◌, Result, Ok, Err, IfOk}
 use Rattle.label_lattice.specs.Order.{IsOrder}
-use Rattle.tim_base.specs.Told.{IsTold, IsTooLong}
 use Rattle.mit_syntax.specs.declared.fault.TextFault.{TextFault}
 use Rattle.mit_syntax.specs.declared.token.Token.{Token}
 use Rattle.mit_syntax.specs.Cut.{AreTokens, IsFault}
@@ -19,7 +18,7 @@ use Rattle.tool_texts.specs.declared.status.Status.{Status}
 use Rattle.tool_texts.specs.declared.status.Status.TheVariants as status
 use Rattle.tool_texts.specs.Texts.{program}
 use Rattle.tool_stages.specs.Fetches.{FileStops}
-use Rattle.tool_stages.specs.Stages.{Then, Reads, HasTextFault, HasParseFault, ProgramStops}
+use Rattle.tool_stages.specs.Stages.{Then, Reads, ProgramStops}
 use Rattle.tool_stages.specs.Content.{IsKnown}
 use Rattle.tool_stages.proofs.GoesLemmas.{one_told, program_goes}
 use Rattle.tool_stages.proofs.OneLemmas.{Same, then_one, one_program, one_program_stop}

@@ -1,5 +1,5 @@
 -- From the fault of a text, or the program that it spells, to what is told of it.
-use Rattle.std.proofs.Common.{◌≡◌, ◌≢◌, ◌≤◌, ℕ, List, ◌++◌, length, Option, refl, sym, ap, subst, ◌∙◌, Result, IfOk}
+use Rattle.std.proofs.Common.{◌≡◌, ◌≢◌, ◌≤◌, ℕ, List, ◌++◌, length, Option, refl, ap, subst, ◌∙◌, Result, IfOk}
 use Rattle.text_base.specs.declared.pos.Memory.{Memory}
 use Rattle.tim_base.specs.Told.{limit, IsTold}
 use Rattle.mit_syntax.specs.declared.fault.TextFault.{TextFault}

@@ -1,6 +1,5 @@
 -- What is told of a file whose text is no program: the tool's own line, and behind it lines on the fault.
 use Rattle.std.specs.Prelude.{◌≡◌, ◌⊎◌, ℕ, List, ◌++◌, Option}
-use Rattle.mit_syntax.specs.Program.{Syntax}
 use Rattle.fault_print.specs.Faults.{TellsText, TellsTokens}
 use Rattle.tool_texts.specs.declared.status.Status.{Status}
 use Rattle.tool_texts.specs.declared.status.Status.TheVariants as status

@@ -1,5 +1,5 @@
-use Rattle.std.proofs.Common.{◌≡◌, ℕ, List, Option, refl, sym, ap, inl, inr, ◌∙◌}
-use Rattle.tool_stages.specs.Stages.{Types, Reads}
+use Rattle.std.proofs.Common.{refl, sym, ap, inl, inr, ◌∙◌}
+use Rattle.tool_stages.specs.Stages.{Types}
 use Rattle.timing_types.specs.Labelled.{HasType}
 use Rattle.tool_texts.specs.Texts.{accepted_line}
 use Rattle.lab_why.proofs.ReasonLemmas.{of_ok, of_err, same_tokens, tells_reason}
