@@ -31,7 +31,7 @@ module _ (sound : TypedAreSound) where
   pub audits_within : (e : EnvName) (t : ℕ) → AuditsAreWithin e t
   audits_within e t some words p q o ss r spelled types l is =
       report_within (environment (Named e) q.program.order) AnyHistory q o t (least_is_sound sound words p q spelled types (Named e)
-          (named_partitioned e)).halted (below p q o types l) some
+      (named_partitioned e)).halted (below p q o types l) some
       (starts_of history_made q.program.order ss) r is
 
   pub cuts_within : (e : EnvName) (t : ℕ) → CutsAreWithin e t

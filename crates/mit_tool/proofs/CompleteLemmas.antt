@@ -62,7 +62,7 @@ pub audited_done : (e : EnvName) (t : ℕ) (q : LabelledProgram) (o : Option Lab
 audited_done e t q None ss before s x k h = absurd h
 audited_done e t q (Some l) ss before s x k h =
     then_goes (AuditStops (Named e) t q l ss) (ReportsIn (Named e) q l.number t ss) (λ r s x. (s ≡ status.Done)
-        × (x ≡ before ++ audit_lines q.program.order l t r)) s x
+    × (x ≡ before ++ audit_lines q.program.order l t r)) s x
     (audit_goes (Named e) t q l ss s x k) (λ r a n. n.0) h
 
 pub cut_done : (e : EnvName) (t : ℕ) (q : LabelledProgram) (o : Option Label) (ss : List StartValue) (s : Status) (x : List ℕ)

@@ -33,7 +33,7 @@ returns-clause-report g c =
     let agree = subst (λ z. Pairwise (AgreeFor v g.E.MachineEnv.serves z o) (starts_of (g.M.MakeEnv.made c.args.make.now) z.program.order stored)) same
     c.in_ok-all_agree.ensures.agree in
     let survey = subst (λ z. IsSurvey v z o t false (starts_of (g.M.MakeEnv.made c.args.make.now) z.program.order stored) c.in-Ok.survey) same
-        c.in-Ok.ensures.survey in
+    c.in-Ok.ensures.survey in
     let measure = subst (λ z. IsMeasure z o t c.in-Ok.survey.ended (map (sequence_from v p o t) ss) c.measure-measures.result) order
     (c.measure-measures.ensures (map (sequence_from v p o t) ss) survey.kinds) in
     let count : length c.args.starts.now ≡ length ss =

@@ -82,9 +82,9 @@ returns-in-Some-first_difference-clause-differ g c =
     let lt : c.loop-i.i < length c.args.starts.now = omega arith in
     let from = starts-from (g.M.MakeEnv.made c.args.make.now) p.program.order c.args.starts.now c.loop-i.i start lt c.index-starts-i.is in
     let one = started (g.M.MakeEnv.made c.args.make.now) _ _ first _ _ _ order c.as_slice-one.ensures.value c.as_slice.ensures.value
-        c.in_ok-env.ensures.value in
+    c.in_ok-env.ensures.value in
     let two = started (g.M.MakeEnv.made c.args.make.now) _ _ start _ _ _ order c.as_slice-two.ensures.value c.as_slice-in-loop-i.ensures.value
-        c.in_ok-other.ensures.value in
+    c.in_ok-other.ensures.value in
     let w = c.in-Some-first_difference.what in
     let d : IsFirstDifference v p c.args.observer.number (start_of (g.M.MakeEnv.made c.args.make.now) p.program.order (seen first))
     (start_of (g.M.MakeEnv.made c.args.make.now) p.program.order (seen start)) w =
@@ -92,7 +92,7 @@ returns-in-Some-first_difference-clause-differ g c =
     (subst (λ z. IsFirstDifference v p c.args.observer.number z (record { memory = c.as_slice-two.result.now; env = c.in_ok-other.other }) w) one
     c.in-Some-first_difference.ensures) in
     disagrees v g.E.MachineEnv.serves p c.args.observer.number (start_of (g.M.MakeEnv.made c.args.make.now) p.program.order (seen first)) ss
-        (drop (0 + 1) ss) (c.loop-i.i + 1) w
+    (drop (0 + 1) ss) (c.loop-i.i + 1) w
     (starts-from (g.M.MakeEnv.made c.args.make.now) p.program.order c.args.starts.now 0 first some first_is)
     (apart_here v g.E.MachineEnv.serves p c.args.observer.number (start_of (g.M.MakeEnv.made c.args.make.now) p.program.order (seen first))
     (start_of (g.M.MakeEnv.made c.args.make.now) p.program.order (seen start)) ss (drop c.loop-i.i ss) (drop (c.loop-i.i + 1) ss)
@@ -111,9 +111,9 @@ loop-i-preserved g c =
     let lt : c.loop-i.i < length c.args.starts.now = omega arith in
     let from = starts-from (g.M.MakeEnv.made c.args.make.now) p.program.order c.args.starts.now c.loop-i.i start lt c.index-starts-i.is in
     let one = started (g.M.MakeEnv.made c.args.make.now) _ _ first _ _ _ order c.as_slice-one.ensures.value c.as_slice.ensures.value
-        c.in_ok-env.ensures.value in
+    c.in_ok-env.ensures.value in
     let two = started (g.M.MakeEnv.made c.args.make.now) _ _ start _ _ _ order c.as_slice-two.ensures.value c.as_slice-in-loop-i.ensures.value
-        c.in_ok-other.ensures.value in
+    c.in_ok-other.ensures.value in
     let same = none_case c.first_difference.result
     (AgreeFor v g.E.MachineEnv.serves p c.args.observer.number (record { memory = c.as_slice-one.result.now; env = c.in_ok-env.env })
     (record { memory = c.as_slice-two.result.now; env = c.in_ok-other.other }))
@@ -126,7 +126,7 @@ loop-i-preserved g c =
     same) in
     agree_more v g.E.MachineEnv.serves p c.args.observer.number (start_of (g.M.MakeEnv.made c.args.make.now) p.program.order (seen first))
     (start_of (g.M.MakeEnv.made c.args.make.now) p.program.order (seen start)) ss (drop c.loop-i.i ss) (drop (c.loop-i.i + 1) ss) (c.loop-i.i + 1)
-        (c.loop-i.i + 1 + 1)
+    (c.loop-i.i + 1 + 1)
     refl from c.loop-i.invariant a
 
 pub returns-clause-agree : goal.returns-clause-agree

@@ -38,11 +38,11 @@ returns-in_err-take-clause-fault g c =
     let ss = starts_of (g.M.MakeEnv.made c.args.make.now) c.args.p.now.program.order (map seen c.args.starts.now) in
     let lt : c.loop-i.i < length c.args.starts.now = omega arith in
     let from = starts-from (g.M.MakeEnv.made c.args.make.now) c.args.p.now.program.order c.args.starts.now c.loop-i.i c.index-starts-i.result lt
-        c.index-starts-i.is in
+    c.index-starts-i.is in
     same_fault c.from_residual-in_err-take.result c.in_err-take.field-0.0 _ c.from_residual-in_err-take.ensures.1
     (refuses v c.args.p.now c.args.request.now.observer.number c.args.request.now.limit c.args.request.now.must_halt ss
     (start_of (g.M.MakeEnv.made c.args.make.now) c.args.p.now.program.order (seen c.index-starts-i.result)) (drop c.loop-i.i ss) (drop (c.loop-i.i + 1) ss)
-        (c.loop-i.i + 1)
+    (c.loop-i.i + 1)
     c.loop-i.survey from c.loop-i.invariant c.in_ok-seen.seen c.args.request.now.relevant.now c.requires.relevant c.in_ok-seen.ensures c.in_err-take.field-0.0
     c.in_err-take.ensures.refuses)
 
@@ -52,10 +52,10 @@ loop-i-preserved g c =
     let ss = starts_of (g.M.MakeEnv.made c.args.make.now) c.args.p.now.program.order (map seen c.args.starts.now) in
     let lt : c.loop-i.i < length c.args.starts.now = omega arith in
     let from = starts-from (g.M.MakeEnv.made c.args.make.now) c.args.p.now.program.order c.args.starts.now c.loop-i.i c.index-starts-i.result lt
-        c.index-starts-i.is in
+    c.index-starts-i.is in
     one_surveyed v c.args.p.now c.args.request.now.observer.number c.args.request.now.limit c.args.request.now.must_halt ss
     (start_of (g.M.MakeEnv.made c.args.make.now) c.args.p.now.program.order (seen c.index-starts-i.result)) (drop c.loop-i.i ss) (drop (c.loop-i.i + 1) ss)
-        (c.loop-i.i + 1)
+    (c.loop-i.i + 1)
     c.loop-i.survey from c.loop-i.invariant c.in_ok-seen.seen c.args.request.now.relevant.now c.requires.relevant c.in_ok-seen.ensures (c.loop-i.i + 1 + 1)
     c.take.new.self refl c.in_ok-take.ensures.takes
 

@@ -17,8 +17,8 @@ returns g c =
     record {
       report = named_cut g.E.MachineEnv.env (g.M.MakeEnv.made c.args.maker.now) (Named c.args.setting.env)
           (g.M.MachineMaker.machine c.args.maker.now) c.requires.machine q p.compiled.image c.laws.ensures.shaped g.E.MachineEnv.serves alike p.observer t xs
-              ss same c.requires.fit c.cut.result c.cut.ensures.report;
+          ss same c.requires.fit c.cut.result c.cut.ensures.report;
       fault = named_cut_fault g.E.MachineEnv.env (g.M.MakeEnv.made c.args.maker.now) (Named c.args.setting.env)
           (g.M.MachineMaker.machine c.args.maker.now) c.requires.machine q p.compiled.image c.laws.ensures.shaped g.E.MachineEnv.serves alike p.observer t xs
-              ss same c.requires.fit c.cut.result c.cut.ensures.fault;
+          ss same c.requires.fit c.cut.result c.cut.ensures.fault;
     }
