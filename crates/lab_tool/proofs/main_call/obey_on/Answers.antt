@@ -11,7 +11,7 @@ returns-in-Ok-clause-answered g c =
     answer_ends (g.W.Sink.taken c.args.out.now) (g.W.Sink.taken c.obey_in.new.out) (g.S.Shelf.content c.args.shelf.now)
     (g.S.Shelf.content c.machine.new.shelf) (g.S.Shelf.faults c.args.shelf.now) (g.S.Shelf.faults c.machine.new.shelf)
     (g.S.Shelf.faults c.obey_in.new.shelf) c.args.file.now (asked_of c.args.question) c.in-Ok.machine c.obey_in.result
-    c.machine.ensures.same c.machine.ensures.later c.in-Ok.ensures c.obey_in.ensures.answered
+    c.machine.ensures.same c.machine.ensures.later c.in-Ok.ensures.ok c.obey_in.ensures.answered
 
 pub returns-in-Ok-clause-fetched : goal.returns-in-Ok-clause-fetched
 returns-in-Ok-clause-fetched g c =
@@ -21,7 +21,7 @@ returns-in-Ok-clause-fetched g c =
 pub stop-requires : goal.stop-requires
 stop-requires g c =
     no_write (Rose (g.S.Shelf.faults c.args.shelf.now c.args.file.now) (g.S.Shelf.faults c.machine.new.shelf c.args.file.now))
-    (g.S.Shelf.content c.args.shelf.now c.args.file.now) c.in-Err.e c.in-Err.ensures
+    (g.S.Shelf.content c.args.shelf.now c.args.file.now) c.in-Err.e c.in-Err.ensures.stop
 
 pub returns-in-Err-clause-answered : goal.returns-in-Err-clause-answered
 returns-in-Err-clause-answered g c =
@@ -29,7 +29,7 @@ returns-in-Err-clause-answered g c =
     let rises = λ (name : List ℕ). Rose (g.S.Shelf.faults c.args.shelf.now name) (g.S.Shelf.faults c.machine.new.shelf name) in
     stop_ends (g.W.Sink.taken c.args.out.now) (g.W.Sink.taken c.stop.new.out) rises content c.args.file.now
     (λ e. BeforeIn e content (asked_of c.args.question)) (λ e. IsAnswerIn e rises content (asked_of c.args.question)) c.in-Err.e c.stop.result
-    c.in-Err.ensures c.stop.ensures.told c.stop.ensures.prefix
+    c.in-Err.ensures.stop c.stop.ensures.told c.stop.ensures.prefix
 
 pub returns-in-Err-clause-fetched : goal.returns-in-Err-clause-fetched
 returns-in-Err-clause-fetched g c =
