@@ -182,7 +182,11 @@ def of_token(text, found, parser):
             return "END", ""
         kind, value, place = found[number]
         at = place_of(text, *place)
-        size = len(value) if kind != "number" else next((k for k in range(len(text) - at) if not text[at + k : at + k + 1].isdigit()), len(text) - at)
+        size = (
+            len(value)
+            if kind != "number"
+            else next((k for k in range(len(text) - at) if not text[at + k : at + k + 1].isdigit()), len(text) - at)
+        )
         return told(kind, value), text[at : at + size].decode("latin-1")
 
     here, word = one(number)
