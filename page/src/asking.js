@@ -16,7 +16,7 @@ import { drawStarts } from './starts_part.js';
 import { $, answeredOf, calls, faults, shown, state } from './state.js';
 import { drawSteady } from './steady_part.js';
 import {
-  auditOf, chainOf, codeOf, completedBy, leakOf, mendOf, runsOf, sharpOf, steadyOf, verdictOf,
+  auditOf, chainOf, codeOf, completedBy, faultOf, leakOf, mendOf, runsOf, sharpOf, steadyOf, verdictOf,
 } from './study.js';
 import { canSweep, drawSweep, stopSweep, sweep } from './sweep_part.js';
 import { drawTime } from './time_part.js';
@@ -64,13 +64,14 @@ export async function ask() {
     const isAccepted = verdict.kind === 'accepted';
     const completed = isAccepted ? await completedBy(tool, asked) : null;
     const chain = verdict.kind === 'refused' ? await chainOf(tool, asked) : null;
+    const told = verdict.kind === 'syntax' ? await faultOf(tool, asked) : [];
     if (isOld()) return;
     shown.labels = (completed && labelsOf(completed)) ?? writtenLabels(asked.program);
     drawObservers();
     asked.observer = state.observer;
     const steady = await steadyAsked(asked, verdict);
     if (isOld()) return;
-    Object.assign(shown, { verdict, steps: chain?.steps ?? [] });
+    Object.assign(shown, { verdict, told, steps: chain?.steps ?? [] });
     answeredOf.verdict = asked;
     if (steady) noteSteady(steady, asked);
     drawProgram();

@@ -34,6 +34,7 @@ const LISTS = {
     ['the left-out labels', 'mitigate', 'infer'], ['the compiled code', 'mitigate', 'compile'],
   ],
   refused: [['the verdict', 'mitigate', 'check'], ['the way that the secret took', 'lab', 'why']],
+  syntax: [['the verdict', 'mitigate', 'check'], ['what could stand there', 'lab', 'why']],
   cut: [
     ['the verdict', 'mitigate', 'check'], ['the count until then', 'mitigate', 'cut'],
     ['the timeline', 'lab', 'timeline'],

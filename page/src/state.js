@@ -17,6 +17,7 @@ export const faults = { budget: '', cell: '' };
 export const shown = {
   verdict: null, // the answer to `check`
   steps: [], // the chain of a refusal
+  told: [], // what the lab tells of a text that is no program
   mended: null, // the offered mitigate
   // the program's, and of each variable
   labels: { names: ['L', 'H'], pairs: [], of: new Map(), marks: null, levels: null },

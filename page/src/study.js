@@ -1,7 +1,8 @@
 // What the page asks of the tool about one program and its starts. Each answer is what the tool printed, read.
 
 import {
-  classesOf, markSeen, readAudit, readLeak, readRefusal, readRun, readSteady, readTimeline, readVerdict, readWhy,
+  classesOf, markSeen, readAudit, readFault, readLeak, readRefusal, readRun, readSteady, readTimeline, readVerdict,
+  readWhy,
 } from './answers.js';
 import { asSeen, PROGRAM, STARTS, WORDS } from './commands.js';
 import { offsetOf, placeOf, readProgram, withEstimate, wrapped } from './language.js';
@@ -37,6 +38,11 @@ export async function chainOf(tool, state) {
   const { text } = await tool.call('lab', WORDS.why(), files(state));
   const why = readWhy(text);
   return why.steps.length ? why : null;
+}
+
+/** What the lab tells of a text that is no program; nothing where the lab is not in the module. */
+export async function faultOf(tool, state) {
+  return tool.has('lab') ? readFault((await tool.call('lab', WORDS.why(), files(state))).text) : [];
 }
 
 const MOST_TRIES = 60, FIRST_ESTIMATE = 64;

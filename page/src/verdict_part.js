@@ -5,16 +5,16 @@ import { changeProgram, focusProgram } from './program_part.js';
 import { $, shown } from './state.js';
 import { isOnlyRefused } from './steady_part.js';
 import { besideVerdict } from './steady_text.js';
-import { mendText, verdictText, whyText } from './verdict_text.js';
+import { faultText, mendText, verdictText, whyText } from './verdict_text.js';
 
 /** The verdict, and below it why. */
 export function drawVerdict() {
-  const { verdict, labels, steps } = shown;
+  const { verdict, labels, steps, told } = shown;
   const isNoLeak = isOnlyRefused();
   $('verdict').className = `verdict ${verdict.kind === 'accepted' ? 'yes' : isNoLeak ? 'rules' : 'no'}`;
   $('verdict').innerHTML = verdictText(verdict, labels);
   $('verdict-steady').innerHTML = isNoLeak ? besideVerdict(shown.steady, labels) : '';
-  $('why').innerHTML = whyText(verdict, steps);
+  $('why').innerHTML = verdict.kind === 'syntax' ? faultText(told) : whyText(verdict, steps);
   $('mend').innerHTML = '';
   $('problems').scrollTop = 0;
 }

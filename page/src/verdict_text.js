@@ -38,6 +38,20 @@ export function verdictText(verdict, labels) {
   }
 }
 
+const codes = (words) => words.split(' ').map((word) => `<code>${escaped(word)}</code>`).join(' ');
+const FAULT = {
+  found: (words) => `Found ${/^byte \d+$/.test(words) ? `a ${words}` : codes(words)}.`,
+  expected: (words) => `Here could stand ${codes(words)}.`,
+  labels: (words) => `The labels are ${codes(words)}.`,
+  nearest: (words) => `Is it ${codes(words)}?`,
+  '': (words) => `${escaped(words[0].toUpperCase() + words.slice(1))}.`,
+};
+
+/** What is told of a text that is no program. */
+export function faultText(told) {
+  return told.map(({ says, words }) => `<p class="word">${FAULT[says](words)}</p>`).join('');
+}
+
 /** Why a program is refused: the chain, or where there is none what the rule says. */
 export function whyText(verdict, steps) {
   if (verdict.kind !== 'refused') return '';

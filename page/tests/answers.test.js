@@ -1,6 +1,6 @@
 import assert from 'node:assert/strict';
 import test from 'node:test';
-import { bitsOf, classesOf, markSeen, readAudit, readCode, readRefusal, readRun, readTimeline, readVerdict,
+import { bitsOf, classesOf, markSeen, readAudit, readCode, readFault, readRefusal, readRun, readTimeline, readVerdict,
   readWhy } from '../src/answers.js';
 
 test('verdicts', () => {
@@ -105,6 +105,15 @@ test('chains', () => {
     + ' gets its value after it\n');
   assert.deepEqual(why.steps[0], { place: { line: 6, column: 5 }, text: 'right is declared H' });
   assert.deepEqual([why.refusal.rule, why.steps.length], ['T-ASGN', 2]);
+});
+
+test('faults of texts', () => {
+  assert.deepEqual(readFault('syntax: unexpected at 1:6\n| var a, b : L;\n|      ^\nfound ,\nexpected : ; [\n'
+    + 'each variable has a var of its own\n'), [
+    { says: 'found', words: ',' },
+    { says: 'expected', words: ': ; [' },
+    { says: '', words: 'each variable has a var of its own' },
+  ]);
 });
 
 test('bits of a power', () => {

@@ -13,7 +13,7 @@ import { jsonOf, readFileText } from '../src/saved.js';
 import { seenTexts } from '../src/seen.js';
 import { readStarts } from '../src/starts.js';
 import { addersText, seenText, tableText } from '../src/starts_table.js';
-import { mendText, verdictText, whyText } from '../src/verdict_text.js';
+import { faultText, mendText, verdictText, whyText } from '../src/verdict_text.js';
 
 const plain = (html) => html.replace(/<sup>/g, '^').replace(/<[^>]*>/g, '').replaceAll('\u202f', ' ')
   .replace(/\s+/g, ' ').trim();
@@ -246,6 +246,13 @@ test('verdicts in a line, and why', () => {
   const syntax = { kind: 'syntax', what: 'unexpected',
     refusals: [{ what: 'unexpected', place: { line: 2, column: 5 } }] };
   assert.equal(plain(verdictText(syntax, labels)), 'Not a program unexpected at 2:5');
+  const told = [{ says: 'found', words: ',' }, { says: 'expected', words: ': ; [' },
+    { says: '', words: 'each variable has a var of its own' }];
+  assert.equal(faultText(told), '<p class="word">Found <code>,</code>.</p>'
+    + '<p class="word">Here could stand <code>:</code> <code>;</code> <code>[</code>.</p>'
+    + '<p class="word">Each variable has a var of its own.</p>');
+  assert.equal(plain(faultText([{ says: 'found', words: 'byte 233' }, { says: 'nearest', words: 'a<b' }])),
+    'Found a byte 233.Is it a&lt;b?');
 });
 
 test('command lines are those of the calls, with the chosen settings', () => {
@@ -261,7 +268,8 @@ test('command lines are those of the calls, with the chosen settings', () => {
   ]);
   assert.equal(commandLines(state, 'refused').at(-1).line, './lab why program.mit');
   assert.match(commandLines(state, 'cut')[1].line, /^\.\/mitigate cut program\.mit starts\.toml /);
-  assert.deepEqual(commandLines(state, 'syntax').map((one) => one.line), ['./mitigate check program.mit']);
+  assert.deepEqual(commandLines(state, 'syntax').map((one) => one.line), 
+    ['./mitigate check program.mit', './lab why program.mit']);
 });
 
 test('instructions have the lines of their commands', () => {
