@@ -124,8 +124,8 @@ export function readWhy(text) {
   return { refusal, steps: steps.map((step) => ({ place: place(step[1]), text: step[2] })) };
 }
 
-/** What the lab's `why` tells of a text that is no program, behind the first line and the marked one: [{says, words}], where
-    `says` is `found`, `expected`, `labels`, `nearest`, or empty for a sentence. */
+/** What the lab's `why` tells of a text that is no program, behind the first line and the marked one: [{says, words}],
+    where `says` is `found`, `expected`, `labels`, `nearest`, or empty for a sentence. */
 export function readFault(text) {
   return lines(text).slice(1).filter((line) => !line.startsWith('| ')).map((line) => {
     const told = /^(found|expected|labels|nearest) (.+)$/.exec(line);

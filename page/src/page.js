@@ -47,8 +47,8 @@ function load(next, { isOwn = false, isLesson = false, isBack = false, example =
   faults.cell = '';
   for (const name of Object.keys(answeredOf)) delete answeredOf[name];
   Object.assign(shown, {
-    points: [], isSwept: false, audit: null, leak: null, runs: null, mitigates: null, verdict: null, steps: [], told: [],
-    steady: null, wantsSteady: false, code: null, mostRuns: undefined,
+    points: [], isSwept: false, audit: null, leak: null, runs: null, mitigates: null, verdict: null, steps: [],
+    told: [], steady: null, wantsSteady: false, code: null, mostRuns: undefined,
   });
   shown.labels = writtenLabels(state.program);
   drawObservers();
