@@ -40,9 +40,9 @@ export function verdictText(verdict, labels) {
 
 const codes = (words) => words.split(' ').map((word) => `<code>${escaped(word)}</code>`).join(' ');
 const FAULT = {
-  found: (words) => `Found ${/^byte \d+$/.test(words) ? `a ${words}` : codes(words)}.`,
-  expected: (words) => `Here could stand ${codes(words)}.`,
-  labels: (words) => `The labels are ${codes(words)}.`,
+  found: (words) => `Found ${/^byte \d+$/.test(words) ? `a ${words}` : codes(words)}`,
+  expected: (words) => `Here could stand ${codes(words)}`,
+  labels: (words) => `The labels are ${codes(words)}`,
   nearest: (words) => `Is it ${codes(words)}?`,
   '': (words) => `${escaped(words[0].toUpperCase() + words.slice(1))}.`,
 };

@@ -248,11 +248,11 @@ test('verdicts in a line, and why', () => {
   assert.equal(plain(verdictText(syntax, labels)), 'Not a program unexpected at 2:5');
   const told = [{ says: 'found', words: ',' }, { says: 'expected', words: ': ; [' },
     { says: '', words: 'each variable has a var of its own' }];
-  assert.equal(faultText(told), '<p class="word">Found <code>,</code>.</p>'
-    + '<p class="word">Here could stand <code>:</code> <code>;</code> <code>[</code>.</p>'
+  assert.equal(faultText(told), '<p class="word">Found <code>,</code></p>'
+    + '<p class="word">Here could stand <code>:</code> <code>;</code> <code>[</code></p>'
     + '<p class="word">Each variable has a var of its own.</p>');
   assert.equal(plain(faultText([{ says: 'found', words: 'byte 233' }, { says: 'nearest', words: 'a<b' }])),
-    'Found a byte 233.Is it a&lt;b?');
+    'Found a byte 233Is it a&lt;b?');
 });
 
 test('command lines are those of the calls, with the chosen settings', () => {

@@ -253,7 +253,7 @@ def ten_faults(page):
     holds(page.count("#editor .wrong") >= 1, "a place is marked")
     page.write("var l : L;\nl = 1;;")
     holds("Not a program" in page.text("#verdict"), page.text("#verdict"))
-    holds("Here could stand := [." in page.text("#why"), page.text("#why"))
+    holds("Here could stand := [" in page.text("#why"), page.text("#why"))
 
 
 def disagreeing(page):
