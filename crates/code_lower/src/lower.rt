@@ -51,14 +51,14 @@ pub fn lower_labelled(alloc: Global, labelled: &Labelled) -> Result<Image, Lower
     }
     let order = program.lattice();
     let mut code = Vec::with_capacity(alloc, count as usize)?;
-    emit_list(&mut code, program.body(), labelled.labels(), &order, 0)?;
+    emit_list(&mut code, program.body(), labelled.labels(), order, 0)?;
     let bottom = order.bottom();
     put(&mut code, Work::Halt, (bottom, bottom))?;
     let variables = program.variables();
     Ok(Image::of(
         code,
         variables,
-        order,
+        Box::new(alloc, *order)?,
         extent.operands as u32,
         extent.nesting as u32,
     ))

@@ -72,7 +72,7 @@ pub fn cut<E: MachineEnv + Drop, M: MakeEnv<E>, W: Watch>(
         Ok(survey) => survey,
         Err(fault) => return Err(CutFault::of(fault)),
     };
-    let measures = measure(&order, observer, limit, survey.ended, survey.kinds);
+    let measures = measure(order, observer, limit, survey.ended, survey.kinds);
     Ok(CutReport {
         runs: starts.len() as u32,
         ended: survey.ended,

@@ -64,7 +64,7 @@ fn mitigated_code(alloc: Global, lattice: Lattice) -> Result<Image, Memory>
             ew: low
         },
     ]?;
-    Ok(Image::of(instrs, 4, lattice, 2, 1))
+    Ok(Image::of(instrs, 4, Box::new(alloc, lattice)?, 2, 1))
 }
 
 // What the run tells, without costs of accesses: the assignment takes 3 cycles, the mitigation 64.

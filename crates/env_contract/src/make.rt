@@ -20,10 +20,10 @@ pub trait MakeEnv<E: MachineEnv> {
 
     /// The environment after the touches, the earliest first. It serves the lattice, whose labels those
     /// of the touches are. Fails only for want of memory.
-    fn make(&self, alloc: Global, lattice: Lattice, touches: &[Touch]) -> Result<E, Memory>
-        requires { All (λ t. t.label.number < lattice.size) touches.now }
-        ensures value { IfOk result (λ e. e ≡ made self.now lattice touches.now) }
-        ensures serves { IfOk result (E.serves lattice) };
+    fn make(&self, alloc: Global, lattice: &Lattice, touches: &[Touch]) -> Result<E, Memory>
+        requires { All (λ t. t.label.number < lattice.now.size) touches.now }
+        ensures value { IfOk result (λ e. e ≡ made self.now lattice.now touches.now) }
+        ensures serves { IfOk result (E.serves lattice.now) };
 }
 
 /// Makes flat environments, which no touch changes.
@@ -36,7 +36,7 @@ impl MakeEnv<FlatEnv> for MakeFlat {
     fn make(
         &self,
         _alloc: Global,
-        _lattice: Lattice,
+        _lattice: &Lattice,
         _touches: &[Touch],
     ) -> Result<FlatEnv, Memory> {
         Ok(FlatEnv::new())

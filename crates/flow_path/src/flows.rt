@@ -37,7 +37,7 @@ pub(crate) struct Flows {
     pub(crate) lasts: Vec<u32>,
     pub(crate) sources: Vec<u32>,
     pub(crate) start: u32,
-    lattice: Lattice,
+    lattice: Box<Lattice>,
     target: Target,
 }
 
@@ -57,7 +57,7 @@ impl Flows {
             let source = match written_at(p, &Spot::Variable(x)) {
                 None => x,
                 Some(label) => {
-                    if is_high_in(&lattice, label, target) {
+                    if is_high_in(lattice, label, target) {
                         start
                     } else {
                         NOWHERE
@@ -73,7 +73,7 @@ impl Flows {
             lasts,
             sources,
             start,
-            lattice,
+            lattice: Box::new(alloc, *lattice)?,
             target: *target,
         })
     }

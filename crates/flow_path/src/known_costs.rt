@@ -22,7 +22,7 @@ const MAX_STEPS: usize = u32::MAX as usize;
 #[derive(Drop)]
 pub(crate) struct Known {
     pub(crate) variables: Vec<Option<Cost>>,
-    pub(crate) lattice: Lattice,
+    pub(crate) lattice: Box<Lattice>,
 }
 
 /// What a round of the search goes by: the program, what is known of what chains in it cost, and where they are to end.
@@ -57,8 +57,9 @@ pub(crate) fn starts(alloc: Global, p: &Program, target: &Target) -> Result<Know
     let lattice = p.lattice();
     let mut variables = Vec::new(alloc);
     for y in 0..p.variables() {
-        variables.push(start_at(p, &lattice, target, &Spot::Variable(y)))?;
+        variables.push(start_at(p, lattice, target, &Spot::Variable(y)))?;
     }
+    let lattice = Box::new(alloc, *lattice)?;
     Ok(Known { variables, lattice })
 }
 

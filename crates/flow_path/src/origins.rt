@@ -86,7 +86,7 @@ fn all_told(alloc: Global, p: &Program, spot: &Spot) -> Result<Vec<Origin>, Allo
         let label = Label {
             number: number as u8,
         };
-        tell(alloc, p, &lattice, spot, label, &mut told)?;
+        tell(alloc, p, lattice, spot, label, &mut told)?;
     }
     Ok(told)
 }
@@ -115,6 +115,6 @@ pub fn why_label(alloc: Global, p: &Labelled, spot: &Spot) -> Result<Vec<Origin>
     // The call stands for what it says: the program is valid.
     let _ = program.body();
     let told = all_told(alloc, program, spot)?;
-    let kept = needed(alloc, &program.lattice(), told)?;
+    let kept = needed(alloc, program.lattice(), told)?;
     Ok(kept)
 }

@@ -74,7 +74,7 @@ fn put_about_label(
     ensures { OnOk result (out.new.items ≡ out.old.items ++ (begin.now ++ (label_text p.now.order label.number ++ line words.now last.now))) }
 {
     out.extend_from_slice(begin)?;
-    put_label(out, &p.lattice(), label)?;
+    put_label(out, p.lattice(), label)?;
     put_line(out, words, last)?;
     Ok(())
 }

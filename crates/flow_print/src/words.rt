@@ -112,7 +112,7 @@ fn put_spot(out: &mut Vec<u8>, p: &Program, spot: &Spot) -> Result<(), AllocErro
             Ok(())
         }
         Spot::Command(label) => {
-            put_label(out, &p.lattice(), *label)?;
+            put_label(out, p.lattice(), *label)?;
             Ok(())
         }
         Spot::Level(_, _) => Ok(()),
@@ -124,7 +124,7 @@ fn put_written(out: &mut Vec<u8>, p: &Program, spot: &Spot) -> Result<(), AllocE
 {
     match written_at(p, spot) {
         Some(label) => {
-            put_label(out, &p.lattice(), label)?;
+            put_label(out, p.lattice(), label)?;
             Ok(())
         }
         None => Ok(()),

@@ -29,7 +29,7 @@ impl MakeEnv<HardwareEnv> for MakeHardware {
     fn make(
         &self,
         alloc: Global,
-        lattice: Lattice,
+        lattice: &Lattice,
         touches: &[Touch],
     ) -> Result<HardwareEnv, Memory> {
         HardwareEnv::new(alloc, lattice, self.hardware, touches)

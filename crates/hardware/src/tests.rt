@@ -92,8 +92,8 @@ fn first_wrong(env: &mut HardwareEnv, column: usize) -> Option<usize>
 }
 
 // A machine with nothing in it; none where memory is wanting.
-fn empty(alloc: Global, lattice: Lattice, hardware: Hardware, column: usize) -> Option<usize>
-    requires size { 2 ≤ lattice.size }
+fn empty(alloc: Global, lattice: &Lattice, hardware: Hardware, column: usize) -> Option<usize>
+    requires size { 2 ≤ lattice.now.size }
     requires column { column ≤ 3 }
 {
     if !is_within(hardware) {

@@ -26,7 +26,7 @@ pub fn print_image(alloc: Global, i: &Image, p: &Program) -> Result<Vec<u8>, Mem
     let declared = p.declarations();
     let mut out = Vec::new(alloc);
     for place in 0..i.len() {
-        put_instr(&mut out, &labels, declared, place, i.at(place))?;
+        put_instr(&mut out, labels, declared, place, i.at(place))?;
     }
     Ok(out)
 }

@@ -21,7 +21,7 @@ fn counts_end(typed: &Typed, observer: Label) -> bool
     let end = loop_end(
         program.body(),
         labelled.labels(),
-        &order,
+        order,
         0,
         bottom,
         bottom,

@@ -69,8 +69,8 @@ fn put_counts(
     let (observer, budget) = (p.observer, setting.budget);
     let levels = level_counts(alloc, typed, starts, observer, budget + 1)?;
     let order = typed.labelled().program().lattice();
-    put_audit(text, &order, observer, budget, report)?;
-    put_bound(text, &order, observer, budget, &levels)?;
+    put_audit(text, order, observer, budget, report)?;
+    put_bound(text, order, observer, budget, &levels)?;
     put_shared(alloc, text, typed, observer, budget, &levels)?;
     put_end(text, typed, observer)?;
     Ok(())
@@ -94,7 +94,7 @@ fn put_told(
         Sharing::Partitioned => put_counts(alloc, text, p, setting, report),
         Sharing::Shared => {
             let order = p.compiled.typed.labelled().program().lattice();
-            put_shown(text, &order, p.observer, setting.budget, report)?;
+            put_shown(text, order, p.observer, setting.budget, report)?;
             Ok(())
         }
     }

@@ -55,7 +55,7 @@ fn put_counts(
     let levels = level_counts(alloc, typed, starts, observer, budget + 1)?;
     let order = typed.labelled().program().lattice();
     let count = sharp_count(Runs::Halted, &levels, budget);
-    put_head(text, &order, observer, budget, report, count)?;
+    put_head(text, order, observer, budget, report, count)?;
     put_shared(alloc, text, typed, observer, budget, &levels)?;
     Ok(())
 }
@@ -78,7 +78,7 @@ fn put_top(
         Sharing::Partitioned => put_counts(alloc, text, p, setting, report),
         Sharing::Shared => {
             let order = p.compiled.typed.labelled().program().lattice();
-            put_shown(text, &order, p.observer, setting.budget, report)?;
+            put_shown(text, order, p.observer, setting.budget, report)?;
             Ok(())
         }
     }

@@ -91,7 +91,7 @@ fn refused(labelled: Labelled, fault: TypeFault) -> Result<LeastLabelled, Stop>
             allowed,
         } => {
             let order = labelled.program().lattice();
-            let refusal = lines::refused(&order, rule, pos, have, allowed);
+            let refusal = lines::refused(order, rule, pos, have, allowed);
             Ok(LeastLabelled::Refused(labelled, refusal))
         }
         TypeFault::Memory => Err(no_memory()),

@@ -67,7 +67,7 @@ fn shown_program(
     ensures ok { IfOk result (λ r. IsShown refused_too program (option_map (λ s. s.now) name.entry) (shown_of r.labels) r.observer r.image) }
     ensures stop { IfErr result (IsStop (ProgramShowStops refused_too program (option_map (λ s. s.now) name.entry))) }
 {
-    let observer = observer(&program.lattice(), name)?;
+    let observer = observer(program.lattice(), name)?;
     let labels = match least_labelled(alloc, program, refused_too) {
         Ok(labels) => labels,
         Err(stop) => return Err(stop),

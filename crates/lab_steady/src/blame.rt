@@ -21,7 +21,7 @@ pub(crate) fn is_seen(p: &Labelled, observer: Label, x: u32) -> bool
     ensures { result ≡ low_of (order_of p.now) (labels_of p.now) observer.number x }
 {
     let lattice = p.program().lattice();
-    let label = p.labels().variable(x, &lattice);
+    let label = p.labels().variable(x, lattice);
     lattice.flows(label, observer)
 }
 

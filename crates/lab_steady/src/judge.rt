@@ -79,7 +79,7 @@ fn refused(
     ensures ok { IfOk result (λ v. IsNo costing text.now p.now observer.number parts.number whole v.items) }
     ensures fault { IfErr result (IsLowerFault p.now) }
 {
-    let top = top(&p.program().lattice());
+    let top = top(p.program().lattice());
     let plain = steady(alloc, p, observer, top, costing, whole)?;
     let fault = told(p, first, plain.fault);
     // The text spells the program, so it has tokens.

@@ -35,7 +35,7 @@ fn put_blame(
     let Some(x) = variable else {
         return out.extend_from_slice(b"\n");
     };
-    let label = p.labels().variable(x, &p.program().lattice());
+    let label = p.labels().variable(x, p.program().lattice());
     put_flow(out, p.program(), label, observer)?;
     out.extend_from_slice(lines)?;
     Ok(())

@@ -54,8 +54,8 @@ fn program_told(
     ensures stop { IfErr result (IsStop (OfProgram costing text.now program observer.now parts.now whole)) }
 {
     let lattice = program.lattice();
-    let observer = label_named(&lattice, observer)?;
-    let parts = match label_named(&lattice, parts) {
+    let observer = label_named(lattice, observer)?;
+    let parts = match label_named(lattice, parts) {
         Ok(label) => label,
         Err(stop) => return Err(stop),
     };

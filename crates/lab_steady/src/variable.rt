@@ -57,7 +57,7 @@ fn variable_lines(
     let spot = Spot::Variable(x);
     match written_at(program, &spot) {
         Some(_) => {
-            let label = p.labels().variable(x, &program.lattice());
+            let label = p.labels().variable(x, program.lattice());
             Ok(declared_line(alloc, p, x, label)?)
         }
         None => {

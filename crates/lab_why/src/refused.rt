@@ -35,7 +35,7 @@ pub fn refusal_text(
         return Ok(whole);
     };
     let program = refusal.labelled.program();
-    let line = lines::refused(&program.lattice(), rule, pos, have, allowed);
+    let line = lines::refused(program.lattice(), rule, pos, have, allowed);
     whole.extend_from_slice(line.bytes())?;
     let chain = chain_text(alloc, text, tokens, program, refusal.chain.as_slice())?;
     whole.extend_from_slice(chain.as_slice())?;

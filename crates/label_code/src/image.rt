@@ -23,7 +23,7 @@ pub fn is_too_long(count: u64) -> bool
 pub struct Image {
     instrs: Vec<Instr>,
     variables: u32,
-    lattice: Lattice,
+    lattice: Box<Lattice>,
     operands: u32,
     nesting: u32,
 }
@@ -33,12 +33,12 @@ impl Model for Image {
 
     ghost Value = { Code };
 
-    ghost view = { λ i. record { instrs = i.instrs.items; variables = i.variables; order = i.lattice; operands = i.operands; nesting = i.nesting } };
+    ghost view = { λ i. record { instrs = i.instrs.items; variables = i.variables; order = i.lattice.value; operands = i.operands; nesting = i.nesting } };
 
     ghost invariant = { λ i. IsShaped (record {
       instrs = i.instrs.items;
       variables = i.variables;
-      order = i.lattice;
+      order = i.lattice.value;
       operands = i.operands;
       nesting = i.nesting;
     }) };
@@ -50,12 +50,12 @@ impl Image {
     pub fn of(
         instrs: Vec<Instr>,
         variables: u32,
-        lattice: Lattice,
+        lattice: Box<Lattice>,
         operands: u32,
         nesting: u32,
     ) -> Self
-        requires { IsShaped (record { instrs = instrs.items; variables = variables; order = lattice; operands = operands; nesting = nesting }) }
-        ensures { result ≡ record { instrs = instrs.items; variables = variables; order = lattice; operands = operands; nesting = nesting } }
+        requires { IsShaped (record { instrs = instrs.items; variables = variables; order = lattice.value; operands = operands; nesting = nesting }) }
+        ensures { result ≡ record { instrs = instrs.items; variables = variables; order = lattice.value; operands = operands; nesting = nesting } }
     {
         Image {
             instrs,
@@ -97,10 +97,10 @@ impl Image {
     }
 
     /// The lattice of the code's labels.
-    pub fn lattice(&self) -> Lattice
-        ensures { result ≡ self.now.order }
+    pub fn lattice(&self) -> &Lattice
+        ensures { result.now ≡ self.now.order }
     {
-        self.lattice
+        &self.lattice
     }
 
     /// The greatest depth of operands.

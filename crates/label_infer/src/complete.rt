@@ -23,7 +23,7 @@ fn pairs(alloc: Global, p: &Program, variables: &[Label]) -> Result<Vec<(Label, 
 {
     let order = p.lattice();
     let mut found = Vec::new(alloc);
-    list_pairs(p.body(), variables, &order, order.bottom(), &mut found)?;
+    list_pairs(p.body(), variables, order, order.bottom(), &mut found)?;
     Ok(found)
 }
 

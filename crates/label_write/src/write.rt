@@ -42,8 +42,9 @@ fn program_of(alloc: Global, p: &Labelled) -> Result<Program, AllocError>
     let order = program.lattice();
     let commands = program.body();
     let pairs = Vec::from_slice(alloc, program.pairs())?;
-    let table = write_declarations(alloc, program.declarations(), labels, &order)?;
-    let (_, body) = write_list(alloc, commands, labels, &order, 0)?;
+    let table = write_declarations(alloc, program.declarations(), labels, order)?;
+    let (_, body) = write_list(alloc, commands, labels, order, 0)?;
+    let order = Box::new(alloc, *order)?;
     Ok(Program::of(order, pairs, table, body))
 }
 

@@ -71,7 +71,7 @@ pub fn audit<E: MachineEnv + Drop, M: MakeEnv<E>, W: Watch>(
         relevant: relevant.as_slice(),
     };
     let survey = survey_runs(alloc, labelled, image, starts, &request, make, watch)?;
-    let measures = measure(&order, observer, limit, survey.begun, survey.kinds);
+    let measures = measure(order, observer, limit, survey.begun, survey.kinds);
     Ok(AuditReport {
         runs: starts.len() as u32,
         mitigations: survey.begun,

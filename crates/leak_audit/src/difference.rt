@@ -110,7 +110,7 @@ pub fn first_difference<E: MachineEnv>(
     }
     let lattice = p.program().lattice();
     for place in PLACES {
-        if let Some(label) = first_label(&lattice, observer, place, one_env, other_env) {
+        if let Some(label) = first_label(lattice, observer, place, one_env, other_env) {
             return Some(What::Partition(place, label));
         }
     }

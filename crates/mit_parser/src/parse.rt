@@ -1,6 +1,6 @@
 //! The program that tokens spell.
 
-ghost use Rattle.std.specs.Prelude.{◌<◌, ◌^◌, MatchResult, length};
+ghost use Rattle.std.specs.Prelude.{◌<◌, ◌^◌, IfOk, MatchResult, length};
 ghost use Rattle.mit_syntax.specs.Cut.{AreTokens};
 ghost use Rattle.mit_parser.specs.Words.{told};
 ghost use Rattle.mit_parser.specs.Spells.{IsProgram, Refuses};
@@ -14,12 +14,17 @@ use label_lattice::label::Label;
 use mit_syntax::ast::Command;
 use mit_syntax::program::Program;
 use mit_syntax::token::Token;
-use std::alloc::Global;
+use std::alloc::{AllocError, Global};
 
 // The program of these parts.
-fn assembled(pairs: Vec<(Label, Label)>, names: Names, body: Vec<Command>) -> Program
+fn assembled(
+    alloc: Global,
+    pairs: Vec<(Label, Label)>,
+    names: Names,
+    body: Vec<Command>,
+) -> Result<Program, AllocError>
     requires { AreParts names.lattice pairs.items names.variables body.items }
-    ensures { IsAssembled names.lattice pairs.items names.variables body.items result }
+    ensures { IfOk result (IsAssembled names.lattice pairs.items names.variables body.items) }
 {
     let Some(lattice) = names.lattice else {
         unreachable!()
@@ -29,7 +34,8 @@ fn assembled(pairs: Vec<(Label, Label)>, names: Names, body: Vec<Command>) -> Pr
     let _ = names.variables.len();
     let table = names.variables.into_table();
     let _ = table.len();
-    Program::of(lattice, pairs, table, body)
+    let lattice = Box::new(alloc, lattice)?;
+    Ok(Program::of(lattice, pairs, table, body))
 }
 
 /// The program that the tokens of a text of at most 2^31 - 1 bytes spell.
@@ -57,6 +63,9 @@ pub fn parse(alloc: Global, tokens: &[Token], text: &[u8]) -> Result<Program, Pa
     }
     match parser.fault() {
         Some(fault) => Err(fault),
-        None => Ok(assembled(pairs, names, body)),
+        None => match assembled(alloc, pairs, names, body) {
+            Ok(program) => Ok(program),
+            Err(_) => Err(ParseFault::Memory),
+        },
     }
 }

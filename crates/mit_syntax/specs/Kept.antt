@@ -6,7 +6,7 @@ use Rattle.mit_syntax.specs.Program.{Syntax, syntax, plan_of}
 use Rattle.mit_syntax.specs.Valid.{IsValid}
 
 abbrev pub syntax_of : Inside → Syntax
-syntax_of p = syntax p.lattice p.pairs.items p.variables p.body.items
+syntax_of p = syntax p.lattice.value p.pairs.items p.variables p.body.items
 
 pub record IsKept (p : Inside) : Type 0 where
   pub valid : IsValid (syntax_of p)

@@ -35,10 +35,10 @@ fn text_of(alloc: Global, program: &Program) -> Result<Vec<u8>, AllocError>
     let variables = program.declarations();
     let body = program.body();
     let mut out = Vec::new(alloc);
-    put_labels(&mut out, &labels)?;
-    put_order(&mut out, &labels, program.pairs())?;
-    put_declarations(&mut out, &labels, variables)?;
-    put_commands(&mut out, &labels, variables, body, 0)?;
+    put_labels(&mut out, labels)?;
+    put_order(&mut out, labels, program.pairs())?;
+    put_declarations(&mut out, labels, variables)?;
+    put_commands(&mut out, labels, variables, body, 0)?;
     put_line(&mut out)?;
     Ok(out)
 }

@@ -18,7 +18,7 @@ use std::marker::Model;
 /// A program: its labels, the pairs that give their order, its variables and its commands.
 #[derive(Drop)]
 pub struct Program {
-    lattice: Lattice,
+    lattice: Box<Lattice>,
     pairs: Vec<(Label, Label)>,
     variables: Variables,
     body: Vec<Command>,
@@ -45,13 +45,13 @@ impl Model for Program {
 impl Program {
     /// A program of these parts, which are those of a program: takes no memory.
     pub fn of(
-        lattice: Lattice,
+        lattice: Box<Lattice>,
         pairs: Vec<(Label, Label)>,
         variables: IndexMap<Name, Decl>,
         body: Vec<Command>,
     ) -> Program
-        requires { IsValid (syntax lattice pairs.items variables.entries body.items) }
-        ensures { result ≡ syntax lattice pairs.items variables.entries body.items }
+        requires { IsValid (syntax lattice.value pairs.items variables.entries body.items) }
+        ensures { result ≡ syntax lattice.value pairs.items variables.entries body.items }
     {
         let Counts {
             commands,
@@ -76,10 +76,10 @@ impl Program {
     }
 
     /// The labels and their order.
-    pub fn lattice(&self) -> Lattice
-        ensures { result ≡ self.now.order }
+    pub fn lattice(&self) -> &Lattice
+        ensures { result.now ≡ self.now.order }
     {
-        self.lattice
+        &self.lattice
     }
 
     /// The pairs of labels, as they are written.

@@ -44,10 +44,10 @@ pub struct PartEnv {
 impl PartEnv {
     /// The environment of a lattice in which the touches were made, the earliest first. Those of the
     /// second level change nothing. Fails only for want of memory.
-    pub fn warm(alloc: Global, lattice: Lattice, touches: &[Touch]) -> Result<PartEnv, Memory>
-        requires { All (λ t. t.label.number < lattice.size) touches.now }
-        ensures value { IfOk result (λ e. e ≡ warmed part_touched (empty_part lattice) touches.now) }
-        ensures serves { IfOk result (IsMadeFor part_structure lattice) }
+    pub fn warm(alloc: Global, lattice: &Lattice, touches: &[Touch]) -> Result<PartEnv, Memory>
+        requires { All (λ t. t.label.number < lattice.now.size) touches.now }
+        ensures value { IfOk result (λ e. e ≡ warmed part_touched (empty_part lattice.now) touches.now) }
+        ensures serves { IfOk result (IsMadeFor part_structure lattice.now) }
         ensures history { IfOk result (λ e. StandsForAll part_structure e touches.now) }
     {
         let buffer = PartCache::new(alloc, lattice, BUFFER_SETS, BUFFER_WAYS)?;
@@ -168,10 +168,10 @@ impl MakeEnv<PartEnv> for MakePart {
 
     ghost made = { λ maker order touches. warmed part_touched (empty_part order) touches };
 
-    fn make(&self, alloc: Global, lattice: Lattice, touches: &[Touch]) -> Result<PartEnv, Memory>
-        requires { All (λ t. t.label.number < lattice.size) touches.now }
-        ensures value { IfOk result (λ e. e ≡ warmed part_touched (empty_part lattice) touches.now) }
-        ensures serves { IfOk result (IsMadeFor part_structure lattice) }
+    fn make(&self, alloc: Global, lattice: &Lattice, touches: &[Touch]) -> Result<PartEnv, Memory>
+        requires { All (λ t. t.label.number < lattice.now.size) touches.now }
+        ensures value { IfOk result (λ e. e ≡ warmed part_touched (empty_part lattice.now) touches.now) }
+        ensures serves { IfOk result (IsMadeFor part_structure lattice.now) }
         ensures history { IfOk result (λ e. StandsForAll part_structure e touches.now) }
     {
         PartEnv::warm(alloc, lattice, touches)

@@ -37,10 +37,10 @@ pub struct Part2Env {
 impl Part2Env {
     /// The environment of a lattice in which the touches were made, the earliest first. Fails only for
     /// want of memory.
-    pub fn warm(alloc: Global, lattice: Lattice, touches: &[Touch]) -> Result<Part2Env, Memory>
-        requires { All (λ t. t.label.number < lattice.size) touches.now }
-        ensures value { IfOk result (λ e. e ≡ warmed part2_touched (empty_part2 lattice) touches.now) }
-        ensures serves { IfOk result (IsMadeFor part2_structure lattice) }
+    pub fn warm(alloc: Global, lattice: &Lattice, touches: &[Touch]) -> Result<Part2Env, Memory>
+        requires { All (λ t. t.label.number < lattice.now.size) touches.now }
+        ensures value { IfOk result (λ e. e ≡ warmed part2_touched (empty_part2 lattice.now) touches.now) }
+        ensures serves { IfOk result (IsMadeFor part2_structure lattice.now) }
         ensures history { IfOk result (λ e. StandsForAll part2_structure e touches.now) }
     {
         let first = PartEnv::warm(alloc, lattice, &[])?;
@@ -121,10 +121,10 @@ impl MakeEnv<Part2Env> for MakePart2 {
 
     ghost made = { λ maker order touches. warmed part2_touched (empty_part2 order) touches };
 
-    fn make(&self, alloc: Global, lattice: Lattice, touches: &[Touch]) -> Result<Part2Env, Memory>
-        requires { All (λ t. t.label.number < lattice.size) touches.now }
-        ensures value { IfOk result (λ e. e ≡ warmed part2_touched (empty_part2 lattice) touches.now) }
-        ensures serves { IfOk result (IsMadeFor part2_structure lattice) }
+    fn make(&self, alloc: Global, lattice: &Lattice, touches: &[Touch]) -> Result<Part2Env, Memory>
+        requires { All (λ t. t.label.number < lattice.now.size) touches.now }
+        ensures value { IfOk result (λ e. e ≡ warmed part2_touched (empty_part2 lattice.now) touches.now) }
+        ensures serves { IfOk result (IsMadeFor part2_structure lattice.now) }
         ensures history { IfOk result (λ e. StandsForAll part2_structure e touches.now) }
     {
         Part2Env::warm(alloc, lattice, touches)

@@ -15,11 +15,11 @@ use text_base::pos::Memory;
 fn make<E: MachineEnv, M: MakeEnv<E>>(
     maker: &M,
     alloc: Global,
-    lattice: Lattice,
+    lattice: &Lattice,
     touches: &[Touch],
 ) -> Result<E, Memory>
-    requires { All (λ t. t.label.number < lattice.size) touches.now }
-    ensures { IfOk result (E.serves lattice) }
+    requires { All (λ t. t.label.number < lattice.now.size) touches.now }
+    ensures { IfOk result (E.serves lattice.now) }
 {
     maker.make(alloc, lattice, touches)
 }
@@ -60,14 +60,14 @@ fn first_wrong<E: MachineEnv>(env: &mut E, two_levels: bool) -> Option<usize>
 #[test]
 fn costs_one_level(rt: HostRuntime) {
     let lattice = two_labels().expect(&rt, "a lattice");
-    let mut env = make(&MakePart, rt.alloc(), lattice, &[]).expect(&rt, "memory");
+    let mut env = make(&MakePart, rt.alloc(), &lattice, &[]).expect(&rt, "memory");
     assert_eq!(rt; first_wrong(&mut env, false), None);
 }
 
 #[test]
 fn costs_two_levels(rt: HostRuntime) {
     let lattice = two_labels().expect(&rt, "a lattice");
-    let mut env = make(&MakePart2, rt.alloc(), lattice, &[]).expect(&rt, "memory");
+    let mut env = make(&MakePart2, rt.alloc(), &lattice, &[]).expect(&rt, "memory");
     assert_eq!(rt; first_wrong(&mut env, true), None);
 }
 
@@ -81,9 +81,9 @@ const FAR: Touch = Touch {
 #[test]
 fn uses_touches_of_the_second_level_with_two(rt: HostRuntime) {
     let lattice = two_labels().expect(&rt, "a lattice");
-    let mut one = PartEnv::warm(rt.alloc(), lattice, &[FAR]).expect(&rt, "memory");
+    let mut one = PartEnv::warm(rt.alloc(), &lattice, &[FAR]).expect(&rt, "memory");
     assert_eq!(rt; one.access(Kind::Code, 0, LOW, LOW), 28);
-    let mut two = Part2Env::warm(rt.alloc(), lattice, &[FAR]).expect(&rt, "memory");
+    let mut two = Part2Env::warm(rt.alloc(), &lattice, &[FAR]).expect(&rt, "memory");
     assert_eq!(rt; two.access(Kind::Code, 0, LOW, LOW), 28);
 }
 
@@ -104,8 +104,8 @@ const WARM: [Touch; 2] = [
 #[test]
 fn compares_parts(rt: HostRuntime) {
     let lattice = two_labels().expect(&rt, "a lattice");
-    let one = PartEnv::warm(rt.alloc(), lattice, &WARM).expect(&rt, "memory");
-    let other = PartEnv::warm(rt.alloc(), lattice, &WARM[..1]).expect(&rt, "memory");
+    let one = PartEnv::warm(rt.alloc(), &lattice, &WARM).expect(&rt, "memory");
+    let other = PartEnv::warm(rt.alloc(), &lattice, &WARM[..1]).expect(&rt, "memory");
     for place in PLACES {
         assert!(rt; one.same(&other, place, LOW));
         assert_eq!(rt; one.same(&other, place, HIGH), place != Place::Data);

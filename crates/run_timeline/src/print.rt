@@ -65,7 +65,7 @@ pub fn print_timeline<E: MachineEnv + Drop, W: Sink>(
             Step::Told(moment) => {
                 note(&mut listing.tallies, moment);
                 let places = listing.places.as_slice();
-                write_moment(p, &order, places, observer, moment, out)?;
+                write_moment(p, order, places, observer, moment, out)?;
             }
             Step::Stopped(end) => {
                 let line = last_line(end);

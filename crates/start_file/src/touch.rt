@@ -145,7 +145,7 @@ pub fn touches(
     };
     match value {
         Value::Array(values) => {
-            all_touches(alloc, version, &program.lattice(), run, values.as_slice())
+            all_touches(alloc, version, program.lattice(), run, values.as_slice())
         }
         _ => Err(StartFault::BadTouch(run)),
     }

@@ -71,10 +71,10 @@ pub fn steady(
     let end = if whole {
         image.len() + 1
     } else {
-        last_seen(&lattice, &labels, observer, &image)
+        last_seen(lattice, &labels, observer, &image)
     };
     let fault = first_fault(
-        alloc, &lattice, &labels, observer, parts, costing, &image, end,
+        alloc, lattice, &labels, observer, parts, costing, &image, end,
     )?;
     Ok(Answer { image, end, fault })
 }

@@ -68,7 +68,7 @@ impl Labelled {
         ensures value { result.number ≡ variable_of self.now.program.order self.now.labels x }
         ensures within { result.number < self.now.program.order.size }
     {
-        self.labels.variable(x, &self.program.lattice())
+        self.labels.variable(x, self.program.lattice())
     }
 
     /// The read label and the write label of a command, whose number is below the program's number of
@@ -79,7 +79,7 @@ impl Labelled {
         ensures ew { result.1.number ≡ (marks_of self.now.program.order self.now.labels i).ew }
         ensures within { (result.0.number < self.now.program.order.size) × (result.1.number < self.now.program.order.size) }
     {
-        self.labels.command(i as usize, &self.program.lattice())
+        self.labels.command(i as usize, self.program.lattice())
     }
 
     /// The level of a mitigate, whose mark is below the program's number of mitigates.
@@ -88,7 +88,7 @@ impl Labelled {
         ensures value { result.number ≡ level_of self.now.program.order self.now.labels mark }
         ensures within { result.number < self.now.program.order.size }
     {
-        self.labels.level(mark, &self.program.lattice())
+        self.labels.level(mark, self.program.lattice())
     }
 
     /// All labels.

@@ -21,7 +21,7 @@ impl Labelled {
         let order = program.lattice();
         let labels = self.labels();
         for x in 0..program.variables() {
-            seen[x as usize] = order.flows(labels.variable(x, &order), observer);
+            seen[x as usize] = order.flows(labels.variable(x, order), observer);
         }
     }
 }

@@ -41,7 +41,7 @@ pub fn compile_program(
     ensures ok { IfOk result (λ r. IsCompiled program (option_map (λ s. s.now) name.entry) r.typed.labelled r.observer r.image) }
     ensures stop { IfErr result (IsStop (ProgramCompileStops program (option_map (λ s. s.now) name.entry))) }
 {
-    let observer = observer(&program.lattice(), name)?;
+    let observer = observer(program.lattice(), name)?;
     let typed = typed(alloc, program)?;
     match image(alloc, &typed) {
         Ok(image) => Ok(Compiled {

@@ -32,7 +32,7 @@ fn type_stop(p: &Labelled, fault: TypeFault) -> Stop
             allowed,
         } => Stop::With {
             status: Status::Refused,
-            line: lines::refused(&p.program().lattice(), rule, pos, have, allowed),
+            line: lines::refused(p.program().lattice(), rule, pos, have, allowed),
         },
         TypeFault::Memory => no_memory(),
     }

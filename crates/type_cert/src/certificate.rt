@@ -53,7 +53,7 @@ pub fn certificate(alloc: Global, q: &Labelled) -> Result<Vec<u8>, AllocError>
     let lines = derive(alloc, q)?;
     let mut out = Vec::new(alloc);
     out.extend_from_slice(b"certificate 1\n")?;
-    put_variables(&mut out, &order, q)?;
-    put_lines(&mut out, &order, &lines)?;
+    put_variables(&mut out, order, q)?;
+    put_lines(&mut out, order, &lines)?;
     Ok(out)
 }

@@ -109,7 +109,7 @@ fn read_variables<'a>(
     let mut found = Vec::new(alloc);
     for k in 0..declarations.len() {
         let (name, decl) = declarations.declaration(k);
-        let Some((label, next)) = right_variable(rest, &order, name, decl.label) else {
+        let Some((label, next)) = right_variable(rest, order, name, decl.label) else {
             return Err(CertFault::Line(k as u32 + 2));
         };
         found.push(label)?;
@@ -148,7 +148,7 @@ fn places(
     list_places(
         p.body(),
         variables,
-        &order,
+        order,
         order.bottom(),
         Start::First,
         Close::Open,
@@ -180,7 +180,7 @@ fn read(alloc: Global, p: &Program, bytes: &[u8]) -> Result<Contents, CertFault>
     let mut rest = text;
     let mut lines = Vec::new(alloc);
     for (number, place) in places.iter().enumerate() {
-        let Some((line, next)) = right_line(rest, &order, number, place, &lines) else {
+        let Some((line, next)) = right_line(rest, order, number, place, &lines) else {
             return Err(CertFault::Line(line_number(declared.len(), number)));
         };
         lines.push(line)?;

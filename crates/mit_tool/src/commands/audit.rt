@@ -51,7 +51,7 @@ pub fn audit_after<W: Watch>(
         Err(stop) => return Err(stop),
     };
     let order = program.lattice();
-    match put_audit(&mut text, &order, p.observer, setting.budget, &report) {
+    match put_audit(&mut text, order, p.observer, setting.budget, &report) {
         Ok(()) => Ok(text),
         Err(_) => Err(no_memory()),
     }

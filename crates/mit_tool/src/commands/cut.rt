@@ -121,7 +121,7 @@ fn cut_report<W: Watch>(
     };
     let order = program.lattice();
     let mut text = Vec::new(alloc);
-    match put_cut(&mut text, &order, p.observer, setting.budget, &report) {
+    match put_cut(&mut text, order, p.observer, setting.budget, &report) {
         Ok(()) => Ok(text),
         Err(_) => Err(no_memory()),
     }

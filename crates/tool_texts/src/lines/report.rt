@@ -100,7 +100,7 @@ fn differs_in_partition(p: &Program, run: u32, place: Place, l: Label) -> Line
     put(&mut line, b"disagree: run ");
     put_number(&mut line, run as u64);
     put(&mut line, b": partition ");
-    put_label(&mut line, &p.lattice(), l);
+    put_label(&mut line, p.lattice(), l);
     put(&mut line, b" of ");
     put(&mut line, place_name(place));
     put(&mut line, b"\n");

@@ -34,7 +34,7 @@ returns c =
     whole_text c.new-out.ensures.items
     (puts_then c.in_ok-put_labels.ensures
     (puts_then c.in_ok-put_order.ensures (puts_then c.in_ok-put_declarations.ensures (puts_then c.in_ok-put_commands.ensures c.in_ok-put_line.ensures))))
-    ∙ text_as c.lattice-labels.result c.args.program.now.order c.pairs.result.now c.args.program.now.pairs c.declarations-variables.result.now
+    ∙ text_as c.lattice-labels.result.now c.args.program.now.order c.pairs.result.now c.args.program.now.pairs c.declarations-variables.result.now
     c.args.program.now.declarations
     (list_plan c.body-body.result.now) c.args.program.now.plan c.lattice-labels.ensures c.pairs.ensures
     c.declarations-variables.ensures c.body-body.ensures.body
