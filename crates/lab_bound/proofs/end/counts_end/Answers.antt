@@ -9,7 +9,7 @@ returns-clause-counted c =
     let same : c.labelled-labelled.result.now ≡ q = c.labelled-labelled.ensures.labelled in
     let program : c.program-program.result.now ≡ q.program = c.program-program.ensures.program ∙ ap (λ (z : LabelledProgram). z.program) same in
     let labels : c.labels.result.now ≡ q.labels = c.labels.ensures ∙ ap (λ (z : LabelledProgram). z.labels) same in
-    counted q c.program-program.result.now c.lattice-order.result c.labels.result.now c.body.result.now c.bottom-bottom.result c.loop_end-end.result
+    counted q c.program-program.result.now c.lattice-order.result.now c.labels.result.now c.body.result.now c.bottom-bottom.result c.loop_end-end.result
     c.args.observer.number c.flows.result program c.lattice-order.ensures labels c.body.ensures.body c.bottom-bottom.ensures.value c.loop_end-end.ensures
     c.flows.ensures c.laws.ensures.lattice c.labelled-labelled.ensures.typed
 
@@ -19,6 +19,6 @@ returns-clause-not_counted c =
     let same : c.labelled-labelled.result.now ≡ q = c.labelled-labelled.ensures.labelled in
     let program : c.program-program.result.now ≡ q.program = c.program-program.ensures.program ∙ ap (λ (z : LabelledProgram). z.program) same in
     let labels : c.labels.result.now ≡ q.labels = c.labels.ensures ∙ ap (λ (z : LabelledProgram). z.labels) same in
-    not_counted q c.program-program.result.now c.lattice-order.result c.labels.result.now c.body.result.now c.bottom-bottom.result c.loop_end-end.result
+    not_counted q c.program-program.result.now c.lattice-order.result.now c.labels.result.now c.body.result.now c.bottom-bottom.result c.loop_end-end.result
     c.args.observer.number c.flows.result program c.lattice-order.ensures labels c.body.ensures.body c.bottom-bottom.ensures.value c.loop_end-end.ensures
     c.flows.ensures c.laws.ensures.lattice

@@ -20,10 +20,10 @@ pub returns : goal.returns
 returns c =
     let q : LabelledProgram = c.args.p.now.compiled.typed.labelled in
     let l = c.args.p.now.observer in
-    let order : c.lattice-order.result ≡ q.program.order =
+    let order : c.lattice-order.result.now ≡ q.program.order =
     c.lattice-order.ensures ∙ ap (λ z. z.order) (c.program.ensures.program ∙ ap (λ z. z.program) c.labelled.ensures.labelled) in
     counts_put c.args.setting.budget q l (map seen c.as_slice-starts.result.now) (map seen c.args.p.now.starts.items) c.args.report.now
-    c.in_ok-levels.levels.items c.deref.result.now c.lattice-order.result
+    c.in_ok-levels.levels.items c.deref.result.now c.lattice-order.result.now
     c.args.text.now.items c.put_audit.new.text.items c.put_bound.new.text.items c.put_shared.new.text.items c.put_end.new.text.items
     (ap (map seen) c.as_slice-starts.ensures.value)
     c.in_ok-levels.ensures order c.in_ok-put_audit.ensures c.deref.ensures.value c.in_ok-put_bound.ensures

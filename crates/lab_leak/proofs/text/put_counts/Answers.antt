@@ -21,10 +21,10 @@ returns c =
     let q : LabelledProgram = c.args.p.now.compiled.typed.labelled in
     let l = c.args.p.now.observer in
     let t = c.args.setting.budget in
-    let order : c.lattice-order.result ≡ q.program.order =
+    let order : c.lattice-order.result.now ≡ q.program.order =
     c.lattice-order.ensures ∙ ap (λ z. z.order) (c.program.ensures.program ∙ ap (λ z. z.program) c.labelled.ensures.labelled) in
     counts_put t q l (map seen c.as_slice-starts.result.now) (map seen c.args.p.now.starts.items) c.args.report.now
-    c.in_ok-levels.levels.items c.deref.result.now c.lattice-order.result c.sharp_count-count.result c.args.text.now.items c.put_head.new.text.items
+    c.in_ok-levels.levels.items c.deref.result.now c.lattice-order.result.now c.sharp_count-count.result c.args.text.now.items c.put_head.new.text.items
     c.put_shared.new.text.items (ap (map seen) c.as_slice-starts.ensures.value) c.in_ok-levels.ensures order c.deref.ensures.value
     c.sharp_count-count.ensures c.in_ok-put_head.ensures
     (subst (λ z. SharedPut q l.number t z c.put_head.new.text.items c.put_shared.new.text.items)

@@ -4,13 +4,13 @@ use Rattle.lab_steady.proofs.program.program_told.Goals as goal
 
 pub returns-in-Err-clause-stop : goal.returns-in-Err-clause-stop
 returns-in-Err-clause-stop c =
-    parts_stop c.args.costing c.args.program c.lattice-lattice.result c.args.text.now c.args.observer.now c.args.parts.now c.args.whole
+    parts_stop c.args.costing c.args.program c.lattice-lattice.result.now c.args.text.now c.args.observer.now c.args.parts.now c.args.whole
     c.lattice-lattice.ensures
     c.in_ok-observer.observer c.in_ok-observer.ensures.ok c.in-Err.stop c.in-Err.ensures.stop
 
 pub returns-in-Ok-judge-clause-ok : goal.returns-in-Ok-judge-clause-ok
 returns-in-Ok-judge-clause-ok c =
-    told_program c.args.costing c.args.program c.lattice-lattice.result c.args.text.now c.args.observer.now c.args.parts.now c.args.whole
+    told_program c.args.costing c.args.program c.lattice-lattice.result.now c.args.text.now c.args.observer.now c.args.parts.now c.args.whole
     c.lattice-lattice.ensures
     c.in_ok-observer.observer c.in_ok-observer.ensures.ok c.in-Ok.label c.in-Ok.ensures.ok c.in-Ok-infer.labelled
     c.in-Ok-infer.ensures.program c.in-Ok-infer.ensures.least (status_told c.in-Ok-judge.told) (text_told c.in-Ok-judge.told)
@@ -18,7 +18,7 @@ returns-in-Ok-judge-clause-ok c =
 
 pub returns-clause-stop : goal.returns-clause-stop
 returns-clause-stop c =
-    image_stops c.args.costing c.args.program c.lattice-lattice.result c.args.text.now c.args.observer.now c.args.parts.now c.args.whole
+    image_stops c.args.costing c.args.program c.lattice-lattice.result.now c.args.text.now c.args.observer.now c.args.parts.now c.args.whole
     c.lattice-lattice.ensures
     c.in_ok-observer.observer c.in_ok-observer.ensures.ok c.in-Ok.label c.in-Ok.ensures.ok c.in-Ok-infer.labelled
     c.in-Ok-infer.ensures.program c.in-Ok-infer.ensures.least c.image_stop.result

@@ -12,7 +12,7 @@ returns c = record {
   none = c.in_ok-origins.ensures.none;
   told = c.in_ok-origins.ensures.told;
   lines = tells_lines c.args.text.now c.args.tokens.now c.args.p.now c.args.word.now c.args.spot.now c.in_ok-origins.origins.items c.as_slice.result.now
-      c.program-program.result.now c.lattice.result c.label_there.result
+      c.program-program.result.now c.lattice.result.now c.label_there.result
       c.args.word.now c.bytes.result.now c.as_slice-2.result.now c.extend_from_slice-5.new.self.items
       refl (c.bytes.ensures.value ∙ c.name-name.ensures) c.lattice.ensures c.label_there.ensures.value c.program-program.ensures.program
       c.as_slice.ensures.value (c.as_slice-2.ensures.value ∙ c.in_ok-lines.ensures)

@@ -40,7 +40,7 @@ make-requires g c =
     let some = has_first c.args.starts.now first (sym c.in-Some.ensures.value) in
     let first_is = sym (get_or_from_slice_get c.args.starts.now 0 first first (sym c.in-Some.ensures.value)) in
     let order = c.lattice-lattice.ensures ∙ ap (λ z. z.order) c.program.ensures.program in
-    touches_below p.program c.lattice-lattice.result first c.as_slice.result.now
+    touches_below p.program c.lattice-lattice.result.now first c.as_slice.result.now
     (All-seen (IsFor p.program) c.args.starts.now 0 first c.requires.starts some first_is) order c.as_slice.ensures.value
 
 pub make-requires-in-loop-i : goal.make-requires-in-loop-i
@@ -48,7 +48,7 @@ make-requires-in-loop-i g c =
     let p = c.args.p.now in
     let order = c.lattice-lattice.ensures ∙ ap (λ z. z.order) c.program.ensures.program in
     let lt : c.loop-i.i < length c.args.starts.now = omega arith in
-    touches_below p.program c.lattice-lattice.result c.index-starts-i.result c.as_slice-in-loop-i.result.now
+    touches_below p.program c.lattice-lattice.result.now c.index-starts-i.result c.as_slice-in-loop-i.result.now
     (All-seen (IsFor p.program) c.args.starts.now c.loop-i.i c.index-starts-i.result c.requires.starts lt c.index-starts-i.is) order
     c.as_slice-in-loop-i.ensures.value
 

@@ -9,10 +9,11 @@ use Rattle.mit_parser.proofs.parse.assembled.Goals as goal
 
 pub of-requires : goal.of-requires
 of-requires c =
-    let same : c.requires.order ≡ c.in-Some.lattice = let z : Some c.requires.order ≡ Some c.in-Some.lattice = sym c.requires.there ∙ c.in-Some.is in cc in
+    let there : c.requires.order ≡ c.in-Some.lattice = let z : Some c.requires.order ≡ Some c.in-Some.lattice = sym c.requires.there ∙ c.in-Some.is in cc in
+    let same : c.requires.order ≡ c.in_ok-lattice.lattice.value = there ∙ sym c.in_ok-lattice.ensures.ok in
     let differ : AllDiffer (map (λ (d : Declaration). d.0) c.args.names.variables) =
     subst (λ (ds : List Declaration). AllDiffer (map (λ (d : Declaration). d.0) ds)) c.into_table-table.ensures
     (names_differ c.into_table-table.result.entries c.len-2.ensures.unique) in
     rw c.into_table-table.ensures
     (subst (λ q. IsValid (syntax q c.args.pairs.items c.args.names.variables c.args.body.items)) same
-    (c.requires.valid (subst IsOrder (sym same) c.laws.ensures.order) c.len.ensures.few differ))
+    (c.requires.valid (subst IsOrder (sym there) c.laws.ensures.order) c.len.ensures.few differ))

@@ -71,12 +71,12 @@ assembled-requires c =
     c.variables.new.self c.commands.new.self
     h c.in_ok-variables.ensures c.in_ok-body.ensures c.if-not-is_at_end.ensures c.laws.ensures.low (sym c.fault.ensures ∙ c.in-None.is) sound.proper short
 
-pub returns-in-None : goal.returns-in-None
-returns-in-None c =
+pub returns-in-Ok : goal.returns-in-Ok
+returns-in-Ok c =
     let words = told c.args.text.now c.args.tokens.now in
     let h : IsHeader c.in_ok-lattice.field-0.lattice c.in_ok-lattice.field-0.pairs.items (begin words) c.header.new.self =
     rw c.new-parser.ensures at c.in_ok-lattice.ensures in
     program words c.in_ok-lattice.field-0.lattice c.in_ok-lattice.field-0.pairs.items c.in_ok-variables.variables c.in_ok-body.body.items c.header.new.self
     c.variables.new.self c.commands.new.self
     h c.in_ok-variables.ensures c.in_ok-body.ensures c.if-not-is_at_end.ensures c.laws.ensures.low (sym c.fault.ensures ∙ c.in-None.is)
-    c.assembled.result c.assembled.ensures
+    c.in-Ok.program c.in-Ok.ensures

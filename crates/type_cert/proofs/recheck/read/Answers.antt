@@ -105,7 +105,7 @@ loop-number-preserved c =
     let ep = c.deref-place-items.ensures.value ∙ c.in_ok-places.ensures ∙ ap (places_of c.args.p.now) c.deref-2.ensures.value in
     record {
       begins =
-          next_line c.args.p.now c.laws-2.ensures.valid c.args.bytes.now c.lattice-order.result c.lattice-order.ensures c.in_ok-declared.declared.items
+          next_line c.args.p.now c.laws-2.ensures.valid c.args.bytes.now c.lattice-order.result.now c.lattice-order.ensures c.in_ok-declared.declared.items
           c.in_ok-declared.ensures.complete ps ep k
           c.loop-number.lines.items c.loop-number.invariant.count c.loop-number.rest.now c.loop-number.invariant.begins c.deref-in-loop-number.result.now
           c.deref-in-loop-number.ensures.value _ h (get_or_default ps k _ _ h)
@@ -119,7 +119,7 @@ returns-in_default-clause-fault c =
     let k = c.loop-number.number in
     let h = c.loop-number-test.true in
     let ep = c.deref-place-items.ensures.value ∙ c.in_ok-places.ensures ∙ ap (places_of c.args.p.now) c.deref-2.ensures.value in
-    wrong_line c.args.p.now c.laws-2.ensures.valid c.args.bytes.now c.lattice-order.result c.lattice-order.ensures c.in_ok-declared.declared.items
+    wrong_line c.args.p.now c.laws-2.ensures.valid c.args.bytes.now c.lattice-order.result.now c.lattice-order.ensures c.in_ok-declared.declared.items
     c.in_ok-declared.ensures.complete ps ep k
     c.loop-number.lines.items c.loop-number.invariant.count c.loop-number.rest.now c.loop-number.invariant.begins c.deref-in-loop-number.result.now
     c.deref-in-loop-number.ensures.value _ h (get_or_default ps k _ _ h)
@@ -132,7 +132,7 @@ returns-then-not-is_empty-clause-fault c =
     let n = c.line_number-then-not-is_empty.ensures in
     let a = c.len-then-not-is_empty.ensures ∙ c.in_ok-declared.declared.ok.0 in
     let b = c.len-then-not-is_empty-2.ensures ∙ c.in_ok-places.places.ok.0 ∙ ap length (sym c.deref-place-items.ensures.value) in
-    wrong_rest c.args.p.now c.laws-2.ensures.valid c.args.bytes.now c.lattice-order.result c.lattice-order.ensures c.in_ok-declared.declared.items
+    wrong_rest c.args.p.now c.laws-2.ensures.valid c.args.bytes.now c.lattice-order.result.now c.lattice-order.ensures c.in_ok-declared.declared.items
     c.in_ok-declared.ensures.complete ps ep c.loop-number.number
     c.loop-number.lines.items c.loop-number.invariant.count c.loop-number.rest.now c.loop-number.invariant.begins c.loop-number-test.false
     c.loop-number.auto.number-end
@@ -143,7 +143,7 @@ pub returns-clause-contents : goal.returns-clause-contents
 returns-clause-contents c =
     let ps = c.deref-place-items.result.now in
     let ep = c.deref-place-items.ensures.value ∙ c.in_ok-places.ensures ∙ ap (places_of c.args.p.now) c.deref-2.ensures.value in
-    contents c.args.p.now c.laws-2.ensures.valid c.args.bytes.now c.lattice-order.result c.lattice-order.ensures c.in_ok-declared.declared.items
+    contents c.args.p.now c.laws-2.ensures.valid c.args.bytes.now c.lattice-order.result.now c.lattice-order.ensures c.in_ok-declared.declared.items
     c.in_ok-declared.ensures.complete ps ep c.loop-number.number
     c.loop-number.lines.items c.loop-number.invariant.count c.loop-number.rest.now c.loop-number.invariant.begins c.loop-number-test.false
     c.loop-number.auto.number-end

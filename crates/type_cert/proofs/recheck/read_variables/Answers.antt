@@ -15,7 +15,7 @@ loop-k-init c = record {
 
 pub returns-in_default-right_variable-clause-fault : goal.returns-in_default-right_variable-clause-fault
 returns-in_default-right_variable-clause-fault c =
-    wrong_variable c.args.p.now c.laws-2.ensures.valid c.args.bytes.now c.lattice-order.result c.lattice-order.ensures c.declarations-declarations.result.now
+    wrong_variable c.args.p.now c.laws-2.ensures.valid c.args.bytes.now c.lattice-order.result.now c.lattice-order.ensures c.declarations-declarations.result.now
     c.declarations-declarations.ensures
     c.loop-k.k c.loop-k.found.items c.loop-k.invariant.count c.declaration-name.result c.declaration-name.ensures c.loop-k.rest.now c.loop-k.invariant.begins
     (c.loop-k.k + 2) refl c.in_default-right_variable.ensures
@@ -24,7 +24,7 @@ pub loop-k-preserved : goal.loop-k-preserved
 loop-k-preserved c =
     record {
       begins =
-          next_variable c.args.p.now c.laws-2.ensures.valid c.args.bytes.now c.lattice-order.result c.lattice-order.ensures
+          next_variable c.args.p.now c.laws-2.ensures.valid c.args.bytes.now c.lattice-order.result.now c.lattice-order.ensures
           c.declarations-declarations.result.now c.declarations-declarations.ensures
           c.loop-k.k c.loop-k.found.items c.loop-k.invariant.count c.declaration-name.result c.declaration-name.ensures
           c.loop-k.rest.now c.loop-k.invariant.begins

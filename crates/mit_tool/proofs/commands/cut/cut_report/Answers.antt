@@ -21,5 +21,5 @@ returns-in-Ok-put_cut-clause-text g c =
     let ss = map seen c.args.p.now.starts.items in
     let is = c.lattice-order.ensures ∙ ap (λ x. x.order) (c.program-program.ensures.program ∙ ap (λ x. x.program) c.labelled.ensures.labelled) in
     cut_tells c.args.setting.env c.args.setting.budget q l ss c.in-Ok.report _ c.in-Ok.ensures.report
-    (c.in-Ok-put_cut.ensures ∙ ap (λ z. z ++ cut_lines c.lattice-order.result l c.args.setting.budget c.in-Ok.report) c.new-text.ensures.items
+    (c.in-Ok-put_cut.ensures ∙ ap (λ z. z ++ cut_lines c.lattice-order.result.now l c.args.setting.budget c.in-Ok.report) c.new-text.ensures.items
     ∙ ap (λ o. cut_lines o l c.args.setting.budget c.in-Ok.report) is)
