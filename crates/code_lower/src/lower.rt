@@ -55,10 +55,13 @@ pub fn lower_labelled(alloc: Global, labelled: &Labelled) -> Result<Image, Lower
     let bottom = order.bottom();
     put(&mut code, Work::Halt, (bottom, bottom))?;
     let variables = program.variables();
+    let Ok(lattice) = Box::new(alloc, *order) else {
+        return Err(LowerFault::Memory);
+    };
     Ok(Image::of(
         code,
         variables,
-        Box::new(alloc, *order)?,
+        lattice,
         extent.operands as u32,
         extent.nesting as u32,
     ))
