@@ -37,7 +37,7 @@ pub(crate) struct Flows {
     pub(crate) lasts: Vec<u32>,
     pub(crate) sources: Vec<u32>,
     pub(crate) start: u32,
-    lattice: Box<Lattice>,
+    lattice: Lattice,
     target: Target,
 }
 
@@ -73,7 +73,7 @@ impl Flows {
             lasts,
             sources,
             start,
-            lattice: Box::new(alloc, *lattice)?,
+            lattice: *lattice,
             target: *target,
         })
     }

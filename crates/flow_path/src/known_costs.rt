@@ -22,7 +22,7 @@ const MAX_STEPS: usize = u32::MAX as usize;
 #[derive(Drop)]
 pub(crate) struct Known {
     pub(crate) variables: Vec<Option<Cost>>,
-    pub(crate) lattice: Box<Lattice>,
+    pub(crate) lattice: Lattice,
 }
 
 /// What a round of the search goes by: the program, what is known of what chains in it cost, and where they are to end.
@@ -59,8 +59,10 @@ pub(crate) fn starts(alloc: Global, p: &Program, target: &Target) -> Result<Know
     for y in 0..p.variables() {
         variables.push(start_at(p, lattice, target, &Spot::Variable(y)))?;
     }
-    let lattice = Box::new(alloc, *lattice)?;
-    Ok(Known { variables, lattice })
+    Ok(Known {
+        variables,
+        lattice: *lattice,
+    })
 }
 
 impl Known {

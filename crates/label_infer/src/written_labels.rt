@@ -11,7 +11,7 @@ use std::alloc::Global;
 #[derive(Drop)]
 pub(crate) struct Known {
     pub(crate) alloc: Global,
-    pub(crate) order: Box<Lattice>,
+    pub(crate) order: Lattice,
     pub(crate) written: Vec<Option<Label>>,
     ghost small: { vec_len written ≤ 3072 },
 }

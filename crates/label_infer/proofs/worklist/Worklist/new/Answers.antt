@@ -17,8 +17,8 @@ use Rattle.label_infer.proofs.worklist.Worklist.new.Goals as goal
 pub returns-clause-work : goal.returns-clause-work
 returns-clause-work c =
     let s = c.args.p.now in
-    let o = c.lattice-order.result.now in
-    let ho = c.lattice-order.ensures in
+    let o = c.lattice.result.now in
+    let ho = c.lattice.ensures in
     let w = c.in_ok-written_labels.field-0 in
     let few = c.in_ok-written_labels.ensures.few in
     let wl = w.ok.0 in
@@ -42,8 +42,8 @@ returns-clause-work c =
 pub returns-clause-first : goal.returns-clause-first
 returns-clause-first c =
     let s = c.args.p.now in
-    let o = c.lattice-order.result.now in
-    let ho = c.lattice-order.ensures in
+    let o = c.lattice.result.now in
+    let ho = c.lattice.ensures in
     let w = c.in_ok-written_labels.field-0 in
     let few = c.in_ok-written_labels.ensures.few in
     let wl = w.ok.0 in
@@ -67,8 +67,8 @@ returns-clause-first c =
 pub returns-clause-steps : goal.returns-clause-steps
 returns-clause-steps c =
     let s = c.args.p.now in
-    let o = c.lattice-order.result.now in
-    let ho = c.lattice-order.ensures in
+    let o = c.lattice.result.now in
+    let ho = c.lattice.ensures in
     let w = c.in_ok-written_labels.field-0 in
     let few = c.in_ok-written_labels.ensures.few in
     let wl = w.ok.0 in
@@ -92,8 +92,8 @@ returns-clause-steps c =
 pub invariant_of-result : goal.invariant_of-result
 invariant_of-result c =
     let s = c.args.p.now in
-    let o = c.lattice-order.result.now in
-    let ho = c.lattice-order.ensures in
+    let o = c.lattice.result.now in
+    let ho = c.lattice.ensures in
     let w = c.in_ok-written_labels.field-0 in
     let few = c.in_ok-written_labels.ensures.few in
     let wl = w.ok.0 in
