@@ -12,7 +12,7 @@ use Rattle.tool_texts.specs.declared.status.Status.{Status}
 use Rattle.tool_texts.specs.declared.status.Status.TheVariants as status
 use Rattle.tool_texts.specs.declared.stop.Stop.{Stop}
 use Rattle.tool_texts.specs.Ends.{IsStop, Broke, status_of, stop_text, told_status, told_text}
-use Rattle.tool_texts.specs.Texts.{value_line}
+use Rattle.tool_texts.specs.Texts.{value_line, memory_line}
 use Rattle.tool_texts.specs.Reports.{made_lines}
 use Rattle.tool_words.specs.declared.words.EnvName.{EnvName}
 use Rattle.tool_words.specs.declared.words.EnvName.TheVariants.{Part}
@@ -40,6 +40,13 @@ pub one_piece : (Pieces : Status → List (List ℕ) → Type 0) (s r : Status) 
     → (r ≢ status.WriteFault → HasSent old new (text ∷ [])) → (r ≡ status.WriteFault → HasBroken old new (text ∷ [])) → HasWritten Pieces r old new
 one_piece Pieces s r text old new p is sent broken =
     record { would = s; pieces = text ∷ []; are = p; sent = λ n. (is n, sent n); broken = broken }
+
+-- the line of want of memory, alone
+pub memory_alone : (IsLine : List ℕ → Type 0) (r : Status) (old new : Option (List Offered)) → (r ≢ status.WriteFault → r ≡ status.Memory)
+    → (r ≢ status.WriteFault → HasSent old new (memory_line ∷ [])) → (r ≡ status.WriteFault → HasBroken old new (memory_line ∷ []))
+    → HasWritten (AreLines IsLine) r old new
+memory_alone IsLine r old new is sent broken =
+    one_piece (AreLines IsLine) status.Memory r memory_line old new (inr ((λ e. absurd cc), (λ e. absurd cc), [], memory_line, refl, All-nil IsLine)) is sent broken
 
 -- ---- lines
 

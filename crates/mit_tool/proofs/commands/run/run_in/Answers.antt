@@ -7,11 +7,12 @@ use Rattle.cycle_machine.specs.Rest.{Told}
 use Rattle.cycle_machine.specs.Rest.{told_by}
 use Rattle.tool_texts.specs.Ends.{Nothing}
 use Rattle.mit_tool.specs.Answers.{HasTold, status_at}
+use Rattle.mit_tool.specs.Logged.{IsRunLine}
 use Rattle.tool_texts.proofs.EndLemmas.{ends_memory}
 use Rattle.tool_stages.proofs.RunLemmas.{loaded_runs}
 use Rattle.mit_tool.proofs.RunLemmas.{told_tells}
 use Rattle.std.specs.Prelude.{All}
-use Rattle.mit_tool.proofs.LoggedLemmas.{run_sent, run_broken, on_ok}
+use Rattle.mit_tool.proofs.LoggedLemmas.{run_sent, run_broken, on_ok, memory_alone}
 use Rattle.label_lattice.specs.Names.{IsName}
 use Rattle.mit_syntax.specs.Program.{Syntax}
 use Rattle.tool_texts.specs.declared.status.Status.TheVariants.{Done, Budget}
@@ -84,3 +85,13 @@ returns-clause-pieces g c =
     let names = subst (λ (p : Syntax). All (λ d. IsName d.0) p.declarations) is c.laws.ensures.valid.names in
     run_broken c.args.program.now.typed.labelled.program.declarations (g.W.Sink.log c.args.out.now) (g.W.Sink.log c.print_run.new.out)
     names c.in-Err.ensures.broken
+
+pub returns-in_default-clause-pieces : goal.returns-in_default-clause-pieces
+returns-in_default-clause-pieces g c =
+    memory_alone IsRunLine c.stop_for_memory.result (g.W.Sink.log c.args.out.now) (g.W.Sink.log c.stop_for_memory.new.out)
+    (λ n. (c.stop_for_memory.ensures.told n).0) c.stop_for_memory.ensures.sent c.stop_for_memory.ensures.broken
+
+pub returns-in_default-load-clause-pieces : goal.returns-in_default-load-clause-pieces
+returns-in_default-load-clause-pieces g c =
+    memory_alone IsRunLine c.stop_for_memory-in_default-load.result (g.W.Sink.log c.args.out.now) (g.W.Sink.log c.stop_for_memory-in_default-load.new.out)
+    (λ n. (c.stop_for_memory-in_default-load.ensures.told n).0) c.stop_for_memory-in_default-load.ensures.sent c.stop_for_memory-in_default-load.ensures.broken
