@@ -29,17 +29,14 @@ impl<E: MachineEnv> State<E> {
         let Some(end) = pass(self.clock, 1 + fetched, limit) else {
             return Outcome::Late;
         };
-        match self.opened.push(Open {
+        self.clock = end;
+        self.place += 1;
+        self.opened.push_reserved(Open {
             estimate,
             level,
             mark,
             since: end,
-        }) {
-            Ok(()) => {}
-            Err(_) => unreachable!(),
-        }
-        self.clock = end;
-        self.place += 1;
+        });
         Outcome::Began(mark)
     }
 

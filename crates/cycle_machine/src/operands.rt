@@ -28,12 +28,9 @@ impl<E: MachineEnv> State<E> {
         let Some(end) = pass(self.clock, 1 + fetched, limit) else {
             return Outcome::Late;
         };
-        match self.operands.push(n) {
-            Ok(()) => {}
-            Err(_) => unreachable!(),
-        }
         self.clock = end;
         self.place += 1;
+        self.operands.push_reserved(n);
         Outcome::Went
     }
 
@@ -53,12 +50,9 @@ impl<E: MachineEnv> State<E> {
         let Some(end) = pass(self.clock, 1 + fetched + touched, limit) else {
             return Outcome::Late;
         };
-        match self.operands.push(self.memory[x as usize]) {
-            Ok(()) => {}
-            Err(_) => unreachable!(),
-        }
         self.clock = end;
         self.place += 1;
+        self.operands.push_reserved(self.memory[x as usize]);
         Outcome::Went
     }
 
@@ -81,9 +75,9 @@ impl<E: MachineEnv> State<E> {
         let Some(end) = pass(self.clock, 1 + fetched + touched, limit) else {
             return Outcome::Late;
         };
-        self.memory[x as usize] = n;
         self.clock = end;
         self.place += 1;
+        self.memory[x as usize] = n;
         Outcome::Wrote(x, n)
     }
 
@@ -109,12 +103,9 @@ impl<E: MachineEnv> State<E> {
         let Some(end) = pass(self.clock, 1 + fetched + touched, limit) else {
             return Outcome::Late;
         };
-        match self.operands.push(n) {
-            Ok(()) => {}
-            Err(_) => unreachable!(),
-        }
         self.clock = end;
         self.place += 1;
+        self.operands.push_reserved(n);
         Outcome::Went
     }
 
@@ -142,9 +133,9 @@ impl<E: MachineEnv> State<E> {
         let Some(end) = pass(self.clock, 1 + fetched + touched, limit) else {
             return Outcome::Late;
         };
-        self.memory[x as usize] = value;
         self.clock = end;
         self.place += 1;
+        self.memory[x as usize] = value;
         Outcome::Wrote(x, value)
     }
 
@@ -168,12 +159,9 @@ impl<E: MachineEnv> State<E> {
         let Some(end) = pass(self.clock, 1 + fetched + u64::from(worked), limit) else {
             return Outcome::Late;
         };
-        match self.operands.push(op.apply(left, right)) {
-            Ok(()) => {}
-            Err(_) => unreachable!(),
-        }
         self.clock = end;
         self.place += 1;
+        self.operands.push_reserved(op.apply(left, right));
         Outcome::Went
     }
 }

@@ -1,9 +1,9 @@
 //! Whether the starts of a list agree for an observer.
 
-ghost use Rattle.std.specs.Prelude.{◌≡◌, ◌<◌, ◌≤◌, All, OnOk, IfErr, length, map};
+ghost use Rattle.std.specs.Prelude.{◌≡◌, ◌<◌, ◌≤◌, All, OnOk, IfErr, IfOk, MatchOption, length, map};
 ghost use Rattle.start_file.specs.Starts.{seen, IsFor};
 ghost use Rattle.leak_bound.specs.Records.{Pairwise};
-ghost use Rattle.leak_audit.specs.Agreement.{starts_of, AgreeFor, IsDisagreement};
+ghost use Rattle.leak_audit.specs.Agreement.{start_of, starts_of, AgreeFor, IsDisagreement, IsFirstDifference};
 ghost use Rattle.leak_audit.specs.declared.agreement.Disagreement.TheVariants.{Memory};
 
 use crate::difference::first_difference;
@@ -33,9 +33,40 @@ impl From<Memory> for Disagreement {
     }
 }
 
+// The first difference of a start from the first one, which has this environment. Where neither has touches,
+// theirs are the same, and no other one is made.
+fn difference_from<E: MachineEnv + Drop, M: MakeEnv<E>>(
+    alloc: Global,
+    p: &Labelled,
+    observer: Label,
+    first: &Start,
+    env: &E,
+    start: &Start,
+    make: &M,
+) -> Result<Option<What>, Memory>
+    requires observer { observer.number < p.now.program.order.size }
+    requires first { IsFor p.now.program (seen first.now) }
+    requires start { IsFor p.now.program (seen start.now) }
+    requires made { env.now ≡ M.made make.now p.now.program.order first.now.touches.items }
+    requires serves { E.serves p.now.program.order env.now }
+    ensures { IfOk result (λ found. MatchOption found
+        (AgreeFor E.env E.serves p.now observer.number (start_of (M.made make.now) p.now.program.order (seen first.now))
+        (start_of (M.made make.now) p.now.program.order (seen start.now)))
+        (λ w. IsFirstDifference E.env p.now observer.number (start_of (M.made make.now) p.now.program.order (seen first.now))
+        (start_of (M.made make.now) p.now.program.order (seen start.now)) w)) }
+{
+    let (one, two) = (first.memory.as_slice(), start.memory.as_slice());
+    let touches = start.touches.as_slice();
+    if touches.is_empty() && first.touches.as_slice().is_empty() {
+        return Ok(first_difference(p, observer, one, env, two, env));
+    }
+    let other = make.make(alloc, p.program().lattice(), touches)?;
+    Ok(first_difference(p, observer, one, env, two, &other))
+}
+
 /// Whether each two starts of a list agree for an observer, each with the environment that its touches make:
 /// where the labels flow to the observer, the variables have equal values and the environments hold the
-/// same. Keeps two environments at a time.
+/// same. Keeps at most two environments at a time.
 ///
 /// # Errors
 /// `Differs` exactly where some start does not agree with the first one, for the first such start. `Memory`
@@ -61,9 +92,8 @@ pub fn all_agree<E: MachineEnv + Drop, M: MakeEnv<E>>(
     let lattice = p.program().lattice();
     let env = make.make(alloc, lattice, first.touches.as_slice())?;
     for (i, start) in starts.iter().enumerate() {
-        let other = make.make(alloc, lattice, start.touches.as_slice())?;
-        let (one, two) = (first.memory.as_slice(), start.memory.as_slice());
-        if let Some(what) = first_difference(p, observer, one, &env, two, &other) {
+        let found = difference_from(alloc, p, observer, first, &env, start, make)?;
+        if let Some(what) = found {
             return Err(Disagreement::Differs {
                 run: i as u32 + 1,
                 what,

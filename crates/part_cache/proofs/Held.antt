@@ -76,3 +76,13 @@ pub some_held : (tags : List ℕ) → AreWays tags → (tag k : ℕ) → tag < 2
 some_held tags s tag k small lt e =
     let w = way_held tags s tag k small lt e in
     sym (ap (list_any (eqb tag)) (held_is tags s) ∙ any_some tag s.held k w.0 w.1)
+
+-- where at most two ways hold a tag, and the first two do not have this one, no way has it
+pub two_held : (tags : List ℕ) → AreWays tags → (tag : ℕ) → tag < 2 ^ 32 → length (held_tags tags) ≤ 2 → (get_or tags 0 0 ≡ tag → ⊥)
+    → (get_or tags 1 0 ≡ tag → ⊥) → false ≡ list_any (eqb tag) (held_tags tags)
+two_held tags s tag small few first second = none_held tags s tag (λ k lt e. at k (way_held tags s tag k small lt e).0 e)
+  where
+    at : (k : ℕ) → k < length s.held → get_or tags k 0 ≡ tag → ⊥
+    at zero lt e = first e
+    at (suc zero) lt e = second e
+    at (suc (suc k)) lt e = omega (arith, few, ap length (held_is tags s), lt)

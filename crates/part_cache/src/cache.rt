@@ -1,6 +1,6 @@
 //! The partitioned cache.
 
-ghost use Rattle.std.specs.Prelude.{◌≡◌, ◌+◌, ◌%◌, ◌<◌, ◌≤◌, ℕ, [], ◌∷◌, ◌++◌, List, cond, true, IfOk, IsTrue, ◌↔◌};
+ghost use Rattle.std.specs.Prelude.{◌≡◌, ◌+◌, ◌%◌, ◌<◌, ◌≤◌, ℕ, [], ◌∷◌, ◌++◌, List, cond, true, false, IfOk, IsTrue, ◌↔◌};
 ghost use Rattle.part_cache.specs.Ways.{held_tags, AreWays};
 ghost use Rattle.part_cache.specs.History.{Touched, hits};
 ghost use Rattle.part_cache.specs.Rows.{StandsFor, IsCacheOf, empty_cache, part_of, tags_at, has, found, touched};
@@ -83,18 +83,20 @@ impl PartCache {
             → result ≡ hits self.now.order self.now.sets self.now.ways h er.number tag }
     {
         self.lattice.laws();
-        self.has(tag, er) || self.look_in_all(tag, er)
+        self.has(tag, er) || self.look_in_others(tag, er)
     }
 
-    // Whether a partition whose label flows to `er` holds the tag, each partition tried.
-    fn look_in_all(&self, tag: u32, er: Label) -> bool
-        requires { er.number < self.now.order.size }
+    // Whether a partition whose label flows to `er` holds the tag, where that of `er` does not: each other
+    // partition is tried.
+    fn look_in_others(&self, tag: u32, er: Label) -> bool
+        requires label { er.number < self.now.order.size }
+        requires absent { has self.now tag er.number ≡ false }
         ensures { result ≡ found self.now tag er.number }
     {
         let lattice: &Lattice = &self.lattice;
         for number in 0..lattice.size() {
             let label = Label::new(number as u8);
-            if lattice.flows(label, er) && self.has(tag, label) {
+            if label.number != er.number && lattice.flows(label, er) && self.has(tag, label) {
                 return true;
             }
         }
@@ -127,7 +129,25 @@ impl PartCache {
     {
         self.lattice.laws();
         let row = usize::from(label.number) * sets as usize + set_of(tag, sets) as usize;
-        self.slots[row].bring(tag)
+        self.slots[row].bring(self.ways, tag)
+    }
+
+    /// Touches a tag that the partition of the label does not hold: whether a look-up at the label hits. The
+    /// set is not searched again. `sets` is the number of sets. Takes no memory.
+    #[inline(never)]
+    pub fn enter(&mut self, sets: u32, tag: u32, label: Label) -> bool
+        requires label { label.number < self.old.order.size }
+        requires sets { sets ≡ self.old.sets }
+        requires absent { has self.old tag label.number ≡ false }
+        ensures found { result ≡ found self.old tag label.number }
+        ensures touched { self.new ≡ touched self.old tag label.number }
+    {
+        let found = self.look_in_others(tag, label);
+        let set = set_of(tag, sets) as usize;
+        let row = usize::from(label.number) * sets as usize + set;
+        let ways = self.ways as usize;
+        self.slots[row].enter(ways, tag);
+        found
     }
 
     /// Whether both have as many sets, and hold the same tags in the same order in each set of the label's

@@ -2,7 +2,7 @@
 
 ghost use Rattle.std.specs.Prelude.{◌≡◌, ◌+◌, ◌<◌, ◌≤◌, ℕ, List, [], ◌∷◌, ◌++◌, length, take, drop, slice_index, cond, eqb, MatchOption, IsTrue, ◌↔◌};
 ghost use Rattle.std.specs.List.{list_any};
-ghost use Rattle.part_cache.specs.Ways.{AreWays, held_tags, to_front};
+ghost use Rattle.part_cache.specs.Ways.{AreWays, absent, held_tags, to_front};
 
 /// What stands in a way that has no tag. No tag is so great.
 const EMPTY: u64 = 18_446_744_073_709_551_615;
@@ -77,11 +77,26 @@ impl Ways {
         }
     }
 
-    /// The tag, where a way has it, comes to the front: whether a way has it. The first two ways are tried
-    /// in place.
+    /// A tag that no way has comes to the front. Of the others the latest stay, as many as there are ways left.
     #[inline(always)]
-    pub fn bring(&mut self, tag: u32) -> bool
-        requires { AreWays self.old.tags }
+    pub fn enter(&mut self, ways: usize, tag: u32)
+        requires some { 0 < ways }
+        requires ways { ways ≤ 8 }
+        requires set { AreWays self.old.tags }
+        requires few { length (held_tags self.old.tags) ≤ ways }
+        requires absent { absent tag (held_tags self.old.tags) }
+        ensures row { held_tags self.new.tags ≡ to_front ways tag (held_tags self.old.tags) }
+        ensures set { AreWays self.new.tags }
+    {
+        self.rotate(ways - 1, tag);
+    }
+
+    /// The tag, where a way has it, comes to the front: whether a way has it. The first two ways are tried
+    /// in place, and the others where there are more.
+    #[inline(always)]
+    pub fn bring(&mut self, ways: u32, tag: u32) -> bool
+        requires set { AreWays self.old.tags }
+        requires few { length (held_tags self.old.tags) ≤ ways }
         ensures held { result ≡ list_any (eqb tag) (held_tags self.old.tags) }
         ensures row { (ways : ℕ) → length (held_tags self.old.tags) ≤ ways
             → held_tags self.new.tags ≡ cond result (to_front ways tag (held_tags self.old.tags)) (held_tags self.old.tags) }
@@ -96,6 +111,9 @@ impl Ways {
             self.tags[1] = front;
             self.tags[0] = wide;
             return true;
+        }
+        if ways <= 2 {
+            return false;
         }
         self.bring_far(tag)
     }

@@ -52,7 +52,7 @@ fn look_and_touch_at(cache: &mut PartCache, sets: u32, tag: u32, label: Label) -
     if cache.touch_held(sets, tag, label) {
         true
     } else {
-        look_then_touch(cache, tag, label, label)
+        cache.enter(sets, tag, label)
     }
 }
 

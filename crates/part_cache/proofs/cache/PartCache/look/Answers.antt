@@ -16,4 +16,4 @@ returns-then-has-clause-history c =
 
 pub returns-else-has-clause-history : goal.returns-else-has-clause-history
 returns-else-has-clause-history c =
-    look_history c.args.self.now c.self.inside c.self.view_is c.self.invariant c.args.tag c.args.er.number c.look_in_all.result c.look_in_all.ensures
+    look_history c.args.self.now c.self.inside c.self.view_is c.self.invariant c.args.tag c.args.er.number c.look_in_others.result c.look_in_others.ensures

@@ -1,4 +1,4 @@
-use Rattle.std.proofs.Common.{◌≡◌, sym, ap, ◌∙◌}
+use Rattle.std.proofs.Common.{sym, ap, ◌∙◌}
 use Rattle.std.proofs.lemmas.Bool.{eqb-true}
 use Rattle.part_cache.proofs.Laws.{sets_from_part}
 use Rattle.part_cache.proofs.cache.PartCache.same_part.Goals as goal

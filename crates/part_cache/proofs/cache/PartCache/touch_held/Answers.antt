@@ -3,8 +3,8 @@ use Rattle.label_lattice.specs.Order.{lattice_of}
 use Rattle.part_cache.proofs.Flat.{place_is, old_set, has_is, brought_body, brought_view, look_own}
 use Rattle.part_cache.proofs.cache.PartCache.touch_held.Goals as goal
 
-pub bring-requires : goal.bring-requires
-bring-requires c =
+pub bring-requires-clause-set : goal.bring-requires-clause-set
+bring-requires-clause-set c =
     old_set c.self.inside c.self.invariant c.args.self.now c.self.view_is c.args.tag c.args.label.number c.requires.label _
     (place_is c.from.result c.args.label.number c.args.sets c.self.inside.sets c.set_of.result c.args.tag c.from.ensures (c.requires.sets
     ∙ sym (ap (λ v. v.sets) c.self.view_is)) c.set_of.ensures) c.index_mut.result.now c.index_mut.ensures.value

@@ -1,7 +1,7 @@
 use Rattle.std.proofs.Common.{◌≡◌, true, sym, ap, subst, ◌<◌, ◌∙◌}
 use Rattle.label_lattice.specs.Order.{lattice_of}
 use Rattle.part_cache.proofs.Flat.{look_found}
-use Rattle.part_cache.proofs.cache.PartCache.look_in_all.Goals as goal
+use Rattle.part_cache.proofs.cache.PartCache.look_in_others.Goals as goal
 
 pub returns-then-has : goal.returns-then-has
 returns-then-has c =
