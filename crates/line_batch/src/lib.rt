@@ -90,6 +90,18 @@ impl<W: Sink> Batch<W> {
         hand_on(&mut self.out, &mut self.lines)
     }
 
+    /// Hands all that waits to the sink: the whole lines, as one piece, and then the line that is begun.
+    pub fn hand_all(&mut self) -> Result<(), SinkFault>
+        ensures kept { Keeps (text_of self.old) (text_of self.new) }
+        ensures empty { OnOk result ((self.new.lines ≡ []) × (self.new.begun ≡ [])) }
+        ensures sent { OnOk result (HasSent self.old.log self.new.log (self.old.lines ∷ self.old.begun ∷ [])) }
+        ensures room { self.new.room ≡ self.old.room }
+        ensures later { self.old.faults ≤ self.new.faults }
+        ensures fault { OnErr result (Rose self.old.faults self.new.faults) }
+    {
+        hand_all(&mut self.out, &mut self.lines, &mut self.begun)
+    }
+
     /// Hands all that waits to the sink, the whole lines first, and gives the sink back.
     pub fn finish(self) -> (W, Result<(), SinkFault>)
         ensures kept { (rest : List ℕ) × Keeps (text_of self) (append_known (W.taken result.0) rest) × OnOk result.1 (rest ≡ []) }

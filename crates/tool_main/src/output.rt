@@ -3,7 +3,7 @@
 use line_batch::Batch;
 use run_watch::{RunNumber, Watch};
 use std::alloc::Global;
-use std::cell::Cell;
+use std::cell::RefCell;
 use std::io;
 use std::io::{Error, ErrorKind, IsTerminal, Write};
 use std::rt::{Clock, Files, Stdout};
@@ -51,49 +51,26 @@ pub fn target_of<R: Files>(rt: &R, out: &Stdout) -> Target {
     }
 }
 
-/// A writer that hands whole lines to standard output: those that wait where no more fit, where they have waited long enough
-/// when a line comes or the watch is told, and at the end. A call writes to it by reference, and tells it by another; what
-/// waits stands in a cell between the two, and is gone after a fault, so whatever comes then fails. No contract speaks of
-/// what is in the cell; those of `Batch` say what becomes of it.
+// Lines that wait, and when lines went last, or the program began; none where the clock does not answer, and then no line
+// waits.
 #[derive(Drop)]
-pub struct Outlet<'a, C: Clock, P: Watch> {
-    clock: &'a C,
-    watch: &'a P,
-    batch: Cell<Option<Batch<OutSink<Stdout, &'a P>>>>,
+struct Lines<W: Sink> {
+    batch: Batch<W>,
     wait: u64,
-
-    // When lines went last, or the program began; none where the clock does not answer, and then no line waits.
-    went: Cell<Option<Instant>>,
+    went: Option<Instant>,
+    is_lost: bool,
 }
 
-impl<'a, C: Clock, P: Watch> Outlet<'a, C, P> {
-    /// A writer over standard output, from which nothing has gone yet; none where there is no memory for what waits.
-    pub fn new(
-        alloc: Global,
-        clock: &'a C,
-        watch: &'a P,
-        out: Stdout,
-        target: Target,
-    ) -> Option<Outlet<'a, C, P>> {
-        let batch = Batch::new(alloc, OutSink::new(out, watch), target.room()).ok()?;
-        Some(Outlet {
-            clock,
-            watch,
-            batch: Cell::new(Some(batch)),
-            wait: target.wait(),
-            went: Cell::new(Instant::now(clock).ok()),
-        })
-    }
-
+impl<W: Sink> Lines<W> {
     // Whether lines that wait have to go.
-    fn is_late(&self) -> bool {
+    fn is_late<C: Clock>(&self, clock: &C) -> bool {
         if self.wait == 0 {
             return true;
         }
-        let Some(went) = self.went.get() else {
+        let Some(went) = self.went else {
             return true;
         };
-        match went.elapsed(self.clock) {
+        match went.elapsed(clock) {
             Ok(elapsed) => {
                 elapsed.as_secs() > 0 || u64::from(elapsed.subsec_millis()) >= self.wait
             }
@@ -102,13 +79,78 @@ impl<'a, C: Clock, P: Watch> Outlet<'a, C, P> {
     }
 
     // Hands on the lines that wait, where they have to go.
-    fn hand_on<W: Sink>(&self, batch: &mut Batch<W>) -> Result<(), SinkFault> {
-        if !batch.waits() || !self.is_late() {
+    fn hand_on<C: Clock>(&mut self, clock: &C) -> Result<(), SinkFault> {
+        if self.is_lost {
+            return Err(SinkFault);
+        }
+        if !self.batch.waits() || !self.is_late(clock) {
             return Ok(());
         }
-        let result = batch.hand_on();
-        self.went.set(Instant::now(self.clock).ok());
+        let result = self.batch.hand_on();
+        self.is_lost = result.is_err();
+        self.went = Instant::now(clock).ok();
         result
+    }
+
+    // Takes a piece.
+    fn put<C: Clock>(&mut self, clock: &C, piece: &[u8]) -> Result<(), SinkFault> {
+        if self.is_lost {
+            return Err(SinkFault);
+        }
+        if send(&mut self.batch, piece).1.is_err() {
+            self.is_lost = true;
+            return Err(SinkFault);
+        }
+        self.hand_on(clock)
+    }
+
+    // Hands on all that waits.
+    fn end(&mut self) -> Result<(), SinkFault> {
+        if self.is_lost {
+            return Err(SinkFault);
+        }
+        let result = self.batch.hand_all();
+        self.is_lost = result.is_err();
+        result
+    }
+}
+
+/// A writer that hands whole lines to standard output: those that wait where no more fit, where they have waited long enough
+/// when a line comes or the watch is told, and at the end. A call writes to it by one reference, and tells it by another;
+/// what waits stands in a cell between the two. After a fault nothing more is handed on, and whatever comes fails. No
+/// contract speaks of what is in the cell; those of `Batch` say what becomes of it.
+#[derive(Drop)]
+pub struct Outlet<'a, C: Clock, P: Watch> {
+    clock: &'a C,
+    watch: &'a P,
+    lines: RefCell<Option<Lines<OutSink<Stdout, &'a P>>>>,
+}
+
+impl<'a, C: Clock, P: Watch> Outlet<'a, C, P> {
+    /// A writer over standard output, from which nothing has gone yet. Where there is no memory for lines that wait, none
+    /// waits.
+    pub fn new(
+        alloc: Global,
+        clock: &'a C,
+        watch: &'a P,
+        out: Stdout,
+        target: Target,
+    ) -> Outlet<'a, C, P> {
+        let batch = match Batch::new(alloc, OutSink::new(out, watch), target.room()) {
+            Ok(batch) => Some(batch),
+            Err(out) => Batch::new(alloc, out, 0).ok(),
+        };
+        let lines = batch.map(|batch| Lines {
+            batch,
+            wait: target.wait(),
+            went: Instant::now(clock).ok(),
+            is_lost: false,
+        });
+        Outlet {
+            clock,
+            watch,
+            lines: RefCell::new(lines),
+        }
     }
 }
 
@@ -119,21 +161,28 @@ fn lost() -> Error {
 
 impl<C: Clock, P: Watch> Write for &Outlet<'_, C, P> {
     fn write(&mut self, piece: &[u8]) -> io::Result<usize> {
-        let Some(mut batch) = self.batch.take() else {
+        let Ok(mut found) = self.lines.try_borrow_mut() else {
             return Err(lost());
         };
-        if send(&mut batch, piece).1.is_err() || self.hand_on(&mut batch).is_err() {
-            return Err(lost());
+        let result = match &mut *found {
+            Some(lines) => lines.put(self.clock, piece),
+            None => Err(SinkFault),
+        };
+        match result {
+            Ok(()) => Ok(piece.len()),
+            Err(_) => Err(lost()),
         }
-        self.batch.set(Some(batch));
-        Ok(piece.len())
     }
 
     fn flush(&mut self) -> io::Result<()> {
-        let Some(batch) = self.batch.take() else {
+        let Ok(mut found) = self.lines.try_borrow_mut() else {
             return Err(lost());
         };
-        match batch.finish().1 {
+        let result = match &mut *found {
+            Some(lines) => lines.end(),
+            None => Err(SinkFault),
+        };
+        match result {
             Ok(()) => Ok(()),
             Err(_) => Err(lost()),
         }
@@ -143,13 +192,14 @@ impl<C: Clock, P: Watch> Write for &Outlet<'_, C, P> {
 impl<C: Clock, P: Watch> Watch for Outlet<'_, C, P> {
     fn tell(&self, number: RunNumber, clock: u64, limit: u64) {
         self.watch.tell(number, clock, limit);
-        if let Some(mut batch) = self.batch.take()
-            && self.hand_on(&mut batch).is_ok()
+        if let Ok(mut found) = self.lines.try_borrow_mut()
+            && let Some(lines) = &mut *found
         {
-            self.batch.set(Some(batch));
+            // What fails here fails where the next line comes, or at the end.
+            let _ = lines.hand_on(self.clock);
         }
     }
 
-    // The line is taken away where lines go, and not where they wait.
+    // The line of progress is taken away where lines go, and not where they wait.
     fn clear(&self) {}
 }
