@@ -1,8 +1,6 @@
 -- How a call ends, from how the tool ended and what became of the text.
-use Rattle.std.proofs.Common.{◌≡◌, ◌≢◌, ◌⊎◌, inl, inr, ℕ, ◌≤◌, List, [], Option, Some, None, IfSome, IsTrue, sym, subst, ◌∙◌, arith}
-use Rattle.std.specs.Io.KnownBytes.{Keeps, append_known}
-use Rattle.tim_base.specs.Faults.{Rose}
-use Rattle.tim_base.specs.Sinks.{Grew}
+use Rattle.std.proofs.Common.{◌≡◌, ◌⊎◌, inl, inr, ℕ, List, Option, Some, None, IfSome, IsTrue, sym, subst, ◌∙◌}
+use Rattle.std.specs.Io.KnownBytes.{Keeps}
 use Rattle.tool_words.specs.WordsAsked.{Asked, command_of}
 use Rattle.tool_texts.specs.declared.status.Status.{Status}
 use Rattle.tool_texts.specs.declared.status.Status.TheVariants as status
@@ -15,7 +13,7 @@ use Rattle.mit_tool.specs.Held.{EndsByHeld, told_all}
 use Rattle.mit_tool.specs.Ran.{HasRunSoundly}
 use Rattle.mit_tool.proofs.RanLemmas.{ends_ran}
 use Rattle.mit_call.specs.Called.{HasEnded}
-use Rattle.mit_call.proofs.Cut.{append_known-nil, ends_kept, ends_broken, ends_cut}
+use Rattle.mit_call.proofs.Cut.{ends_kept, ends_broken}
 
 -- what holds of each command holds after a change for each
 if_some_map : {A : Type 0} {P Q : A → Type 0} (o : Option A) → ((a : A) → P a → Q a) → IfSome o P → IfSome o Q
@@ -59,36 +57,6 @@ leads_kept Risen Rises old taken new s t e rose fails k = record {
     | inr broke ↦ subst (EndsBy old new B A) (sym broke) (ends_broken old taken new B A s k h)
   ];
 }
-
--- nothing waits at the end of a call that has not failed
-ends_same : (old taken new : Option (List ℕ)) (rest : List ℕ) (B : List ℕ → Type 0) (A : Status → List ℕ → Type 0) (s : Status)
-    → Grew old new → Keeps taken (append_known new rest) → (s ≢ status.WriteFault → rest ≡ []) → EndsBy old taken B A s → EndsBy old new B A s
-ends_same old taken new rest B A status.WriteFault g k whole h = ends_cut old taken new rest B A status.WriteFault g k h
-ends_same old taken new rest B A s g k whole h =
-    ends_kept old taken new B A s (subst (Keeps taken) (append_known-nil new) (subst (λ r. Keeps taken (append_known new r)) (whole (λ e. cc)) k)) h
-
--- it took the beginning of what was handed on
-pub leads_cut : (Risen Rises : Type 0) (old taken new : Option (List ℕ)) (rest : List ℕ) (s t : Status) → (t ≡ s) ⊎ (t ≡ status.WriteFault)
-    → (Risen → Rises) → (t ≡ status.WriteFault → Rises)
-    → Grew old new → Keeps taken (append_known new rest) → (t ≢ status.WriteFault → rest ≡ []) → Leads Risen Rises old taken new s t
-leads_cut Risen Rises old taken new rest s t e rose fails g k whole = record {
-  is = e;
-  rose = rose;
-  fails = fails;
-  ends = λ B A h. elim e [
-    | inl same ↦ ends_same old taken new rest B A t g k whole (subst (EndsBy old taken B A) (sym same) h)
-    | inr broke ↦ subst (EndsBy old new B A) (sym broke) (ends_cut old taken new rest B A s g k h)
-  ];
-}
-
--- a count that rose has risen later too
-pub rose_late : (a b c : ℕ) → b ≤ c → Rose a b → Rose a c
-rose_late a b c p r = omega (arith, p, r)
-
--- and it rose where it did before or after
-pub rose_either : (a b c : ℕ) (S : Type 0) → a ≤ b → b ≤ c → (S → Rose a b) → S ⊎ Rose b c → Rose a c
-rose_either a b c S p q f (inl s) = rose_late a b c q (f s)
-rose_either a b c S p q f (inr r) = omega (arith, p, r)
 
 -- how the tool ended leads to how the call ended
 pub ended : (content : Content) (Names : List ℕ → Type 0) (Risen Rises : Type 0) (old taken new : Option (List ℕ)) (words : List (List ℕ)) (s t : Status)

@@ -5,7 +5,7 @@ use mit_call::call;
 use run_watch::Watch;
 use std::process::ExitCode;
 use tim_base::shelf::FileShelf;
-use tool_main::output::{At, kind_of_output};
+use tool_main::output::{Outlet, target_of};
 use tool_main::progress::ProgressLine;
 use tool_main::words::words;
 
@@ -17,15 +17,9 @@ fn main(rt: HostRuntime) -> ExitCode {
         Err(refused) => return ExitCode::from(refused.number()),
     };
     let mut shelf = FileShelf::new(&rt);
-    let is_buffered = matches!(kind_of_output(&rt), At::TheEnd);
-    let (number, _out) = call(
-        alloc,
-        words.as_slice(),
-        &mut shelf,
-        rt.stdout(),
-        &progress,
-        is_buffered,
-    );
+    let target = target_of(&rt, &rt.stdout());
+    let outlet = Outlet::new(alloc, &rt, &progress, rt.stdout(), target);
+    let (number, _out) = call(alloc, words.as_slice(), &mut shelf, &outlet, &outlet);
     progress.clear();
     ExitCode::from(number)
 }

@@ -11,6 +11,7 @@ ghost use Rattle.mit_tool.specs.Logged.{IsMeaningLine, SentLines, BrokenLines};
 ghost use Rattle.mit_tool.specs.Means.{IsLastLine, lines_after, text_of_walk, pieces_of_walk, IsWalkBelow, WritesSome, BreaksOff};
 
 use mit_syntax::program::Program;
+use run_watch::{RunNumber, Watch};
 use source_meaning::walk::Walk;
 use source_meaning::walker::Walker;
 use std::alloc::Global;
@@ -25,6 +26,19 @@ pub enum WalkFault {
     Memory,
     /// The sink failed. A prefix of those lines was written.
     Sink,
+}
+
+// How often who looks at the sink is told of steps. They are no run of the machine, and have no number of one.
+const STAGE: u64 = 1 << 18;
+
+const NO_RUN: RunNumber = RunNumber { run: 0, runs: 0 };
+
+// Tells who looks at the sink how many steps are taken, once in so many.
+#[inline(always)]
+fn tell_steps<W: Sink>(out: &W, taken: u64, steps: u64) {
+    if taken % STAGE == 0 {
+        out.tell(NO_RUN, taken, steps);
+    }
 }
 
 // Writes the line of a step, if it has one. A line is lent, to be filled anew.
@@ -89,6 +103,7 @@ pub fn walk<W: Sink>(
         if taken >= steps {
             return Ok(not_ended(steps));
         }
+        tell_steps(&*out, taken, steps);
         match print_step(p, walk, &mut line, out) {
             Ok(()) => taken += 1,
             Err(_) => return Err(WalkFault::Sink),
