@@ -3,6 +3,7 @@ use Rattle.std.specs.Prelude.{◌≡◌, ℕ, ◌+◌, ◌*◌, ◌≤◌, List,
 use Rattle.std.specs.List.{list_any}
 use Rattle.leak_bound.specs.Records.{distinct, distinct_count, Tests}
 use Rattle.sharp_count.specs.Lists.{IsAmong}
+use Rattle.sharp_bound.specs.Guess.{FewShown}
 use Rattle.sharp_bound.specs.Twice.{that_show}
 
 -- the sum of a number over the members of a list
@@ -52,6 +53,10 @@ FewGains {X} A see same xs n = (weight : X → ℕ) (gain : A → X → ℕ) (ac
 abbrev pub ViewsGainFew : Type 0 → Type 0 → Type 0 → Type 0
 ViewsGainFew X V A =
     (see : X → V) (same : V → V → Bool) → Tests same → (xs : List X) (n : ℕ) → distinct_count same (map see xs) ≤ n → FewGains A see same xs n
+
+-- so it is wherever a view is said to show few
+abbrev pub ShownGainFew : Type 0 → Type 0 → Type 0 → Type 0
+ShownGainFew X V A = (see : X → V) (same : V → V → Bool) → Tests same → (xs : List X) (n : ℕ) → FewShown see same xs n → FewGains A see same xs n
 
 -- The same of any actions that are allowed, however many: if none of them gains more than most without the view, no choice of
 -- such by the view gains more than n times that.
