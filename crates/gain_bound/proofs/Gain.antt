@@ -4,13 +4,12 @@ use Rattle.std.proofs.Common.{arith}
 use Rattle.std.specs.Prelude.{cond, max, leb}
 use Rattle.std.specs.List.{filter}
 use Rattle.std.proofs.Math.Nat.{le-max_left, le-max_right, max-le, mul-le-mul_right}
-use Rattle.std.proofs.lemmas.Bool.{leb-true, leb-false, le-leb}
-use Rattle.leak_bound.specs.Records.{distinct, distinct_count, Tests, Each}
-use Rattle.leak_bound.proofs.Few.{Spread, Spread-distinct}
+use Rattle.std.proofs.lemmas.Bool.{leb-true, leb-false}
+use Rattle.leak_bound.specs.Records.{distinct, distinct_count, Tests}
 use Rattle.sharp_count.specs.Lists.{IsAmong}
 use Rattle.sharp_bound.specs.Twice.{that_show}
-use Rattle.sharp_bound.proofs.Guess.{Has, Covered, covered_views, covered_distinct}
-use Rattle.gain_bound.specs.Gain.{sum_over, gained, best_gain, best_gains, gain_after, gain_by, FewGain, ViewsGainFew, ChoicesGainFew, named, TriesNameFew}
+use Rattle.gain_bound.proofs.Views.{over, over_views, over_all}
+use Rattle.gain_bound.specs.Gain.{sum_over, gained, best_gain, best_gains, gain_after, gain_by, FewGain, ViewsGainFew, ChoicesGainFew}
 
 -- ---- sums over those that pass
 
@@ -23,7 +22,7 @@ sum-filter f t (x ∷ xs) = go (t x) (sum-filter f t xs)
     go false h = omega (arith, h)
 
 -- two numbers that are the same for those that pass have the same sums
-sum_same : {X : Type 0} (f g : X → ℕ) (t : X → Bool) → ((x : X) → t x ≡ true → f x ≡ g x) → (xs : List X)
+pub sum_same : {X : Type 0} (f g : X → ℕ) (t : X → Bool) → ((x : X) → t x ≡ true → f x ≡ g x) → (xs : List X)
     → sum_over f (filter t xs) ≡ sum_over g (filter t xs)
 sum_same f g t e [] = refl
 sum_same f g t e (x ∷ xs) = go (t x) refl (sum_same f g t e xs)
@@ -85,60 +84,29 @@ module _ {X A : Type 0} (weight : X → ℕ) (gain : A → X → ℕ) where
 
 module _ {X V : Type 0} (see : X → V) (same : V → V → Bool) (tests : Tests same) where
   -- for each of some views the sum over those that show it, and these together
-  abbrev class_sums : (X → ℕ) → List X → List V → ℕ
+  abbrev pub class_sums : (X → ℕ) → List X → List V → ℕ
   class_sums f xs [] = 0
   class_sums f xs (v ∷ vs) = sum_over f (that_show see same v xs) + class_sums f xs vs
 
-  -- once for each view that a member shows
-  abbrev times : ℕ → X → List V → ℕ
-  times n x [] = 0
-  times n x (v ∷ vs) = cond (same v (see x)) n 0 + times n x vs
+  left : (n : ℕ) → 0 + n ≡ n
+  left n = omega arith
 
-  sums-step : (f : X → ℕ) (x : X) (xs : List X) (vs : List V) → class_sums f (x ∷ xs) vs ≡ times (f x) x vs + class_sums f xs vs
-  sums-step f x xs [] = omega arith
-  sums-step f x xs (v ∷ vs) = go (same v (see x)) (sums-step f x xs vs)
-    where
-      go : (b : Bool) → class_sums f (x ∷ xs) vs ≡ times (f x) x vs + class_sums f xs vs
-          → sum_over f (cond b (x ∷ that_show see same v xs) (that_show see same v xs)) + class_sums f (x ∷ xs) vs
-          ≡ cond b (f x) 0 + times (f x) x vs + (sum_over f (that_show see same v xs) + class_sums f xs vs)
-      go true h = omega (arith, h)
-      go false h = omega (arith, h)
+  right : (n : ℕ) → n + 0 ≡ n
+  right n = omega arith
 
-  -- none of these is shown by one that shows another
-  never : (n : ℕ) (x : X) (v : V) → same v (see x) ≡ true → (vs : List V) → Each (λ u. same v u ≡ false) vs → times n x vs ≡ 0
-  never n x v e [] h = refl
-  never n x v e (u ∷ vs) h = go (same u (see x)) refl (never n x v e vs h.1)
-    where
-      go : (b : Bool) → same u (see x) ≡ b → times n x vs ≡ 0 → cond b n 0 + times n x vs ≡ 0
-      go true p r =
-          let here : v ≡ u = tests.same_to v (see x) e ∙ sym (tests.same_to u (see x) p) in
-          let both : true ≡ false = sym (tests.same_from v u here) ∙ h.0 in
-          absurd (cc)
-      go false p r = omega (arith, r)
+  exchange : (a b c d : ℕ) → a + b + (c + d) ≡ a + c + (b + d)
+  exchange a b c d = omega arith
 
-  once : (n : ℕ) (x : X) (vs : List V) → Spread same vs → Has (λ v. same v (see x)) vs → times n x vs ≡ n
-  once n x [] s h = absurd h
-  once n x (v ∷ vs) s (inl e) = let a = ap (λ b. cond {A = ℕ} b n 0) e in omega (arith, a, never n x v e vs s.0)
-  once n x (v ∷ vs) s (inr h) = go (same v (see x)) refl (once n x vs s.1 h) (λ e. never n x v e vs s.0)
-    where
-      go : (b : Bool) → same v (see x) ≡ b → times n x vs ≡ n → (same v (see x) ≡ true → times n x vs ≡ 0) → cond b n 0 + times n x vs ≡ n
-      go true e r none = omega (arith, none e)
-      go false e r none = omega (arith, r)
+  as_sum : (f : X → ℕ) (xs : List X) → sum_over f xs ≡ over see same tests ◌+◌ 0 left right exchange f xs
+  as_sum f [] = refl
+  as_sum f (x ∷ xs) = ap (λ z. f x + z) (as_sum f xs)
 
-  sums_covered : (f : X → ℕ) (vs : List V) → Spread same vs → (xs : List X) → Covered see same vs xs → class_sums f xs vs ≡ sum_over f xs
-  sums_covered f vs s [] h = nothing vs
-    where
-      nothing : (us : List V) → class_sums f [] us ≡ 0
-      nothing [] = refl
-      nothing (u ∷ us) = omega (arith, nothing us)
-  sums_covered f vs s (x ∷ xs) h = omega (arith, sums-step f x xs vs, once (f x) x vs s h.0, sums_covered f vs s xs h.1)
+  as_sums : (f : X → ℕ) (xs : List X) (vs : List V) → class_sums f xs vs ≡ over_views see same tests ◌+◌ 0 left right exchange f xs vs
+  as_sums f xs [] = refl
+  as_sums f xs (v ∷ vs) = omega (arith, as_sum f (that_show see same v xs), as_sums f xs vs)
 
-  -- each member is counted at its view, once
   pub views_sum : (f : X → ℕ) (xs : List X) → class_sums f xs (distinct same (map see xs)) ≡ sum_over f xs
-  views_sum f xs =
-      let views = map see xs in
-      sums_covered f (distinct same views) (Spread-distinct same views) xs
-      (covered_distinct see same tests views xs (covered_views see same tests xs))
+  views_sum f xs = as_sums f xs _ ∙ over_all see same tests ◌+◌ 0 left right exchange f xs ∙ sym (as_sum f xs)
 
   -- ---- what actions gain
 
@@ -226,8 +194,3 @@ choices_gain_few X V A see same tests xs n h weight gain allowed most each choos
       each_choice see same tests weight gain allowed most xs each choose i (distinct same (map see xs)),
       mul-le-mul_right most h,
     )
-
-pub tries_name_few : (X V P : Type 0) → TriesNameFew X V P
-tries_name_few X V P see same tests xs n h part alike weight k most each choose i =
-    choices_gain_few X V (List P) see same tests xs n h weight (named part alike) (λ tries. leb (length tries) k) most
-    (λ tries e. each tries (leb-true (length tries) k e)) choose (λ v. le-leb (length (choose v)) k (i v))

@@ -1,2 +1,7 @@
+pub mod Views
 pub mod Gain
+pub mod Tries
+pub mod Powers
+pub mod Information
+pub mod Worth
 pub mod Programs

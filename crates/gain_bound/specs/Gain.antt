@@ -1,9 +1,7 @@
 -- What a view of a start is worth to one who chooses an action, whatever the starts weigh and whatever actions gain.
-use Rattle.std.specs.Prelude.{◌≡◌, ℕ, ◌+◌, ◌*◌, ◌≤◌, List, [], ◌∷◌, length, Bool, true, cond, max, map}
-use Rattle.std.specs.List.{list_any}
+use Rattle.std.specs.Prelude.{◌≡◌, ℕ, ◌+◌, ◌*◌, ◌≤◌, List, [], ◌∷◌, Bool, true, max, map}
 use Rattle.leak_bound.specs.Records.{distinct, distinct_count, Tests}
 use Rattle.sharp_count.specs.Lists.{IsAmong}
-use Rattle.sharp_bound.specs.Guess.{FewShown}
 use Rattle.sharp_bound.specs.Twice.{that_show}
 
 -- the sum of a number over the members of a list
@@ -36,27 +34,20 @@ gain_by see choose weight gain xs = sum_over (λ x. weight x * gain (choose (see
 
 -- A view multiplies what the best of some actions gains by at most n, and no way to choose by it gains more; what it gains
 -- is what one way to choose gains, and no less than without the view.
-pub record FewGain {X V A : Type 0} (see : X → V) (same : V → V → Bool) (xs : List X) (n : ℕ) (weight : X → ℕ) (gain : A → X → ℕ)
-    (actions : List A) : Type 0 where
+pub record FewGain {X V A : Type 0} (see : X → V) (same : V → V → Bool) (xs : List X) (n : ℕ) (weight : X → ℕ) (gain : A → X → ℕ) (actions : List A) :
+    Type 0 where
   pub few : gain_after see same weight gain actions xs ≤ n * best_gain weight gain actions xs
-  pub most : (choose : V → A) → ((v : V) → IsAmong (choose v) actions) →
-      gain_by see choose weight gain xs ≤ gain_after see same weight gain actions xs
-  pub reached : (a : A) → IsAmong a actions → (choose : V → A) × ((v : V) → IsAmong (choose v) actions)
-      × (gain_by see choose weight gain xs ≡ gain_after see same weight gain actions xs)
+  pub most : (choose : V → A) → ((v : V) → IsAmong (choose v) actions)
+      → gain_by see choose weight gain xs ≤ gain_after see same weight gain actions xs
+  pub reached : (a : A) → IsAmong a actions
+      → (choose : V → A) × ((v : V) → IsAmong (choose v) actions) × (gain_by see choose weight gain xs ≡ gain_after see same weight gain actions xs)
   pub no_less : best_gain weight gain actions xs ≤ gain_after see same weight gain actions xs
 
--- so it is for all weights of the starts, all gains, and all lists of actions
-abbrev pub FewGains : {X V : Type 0} → Type 0 → (X → V) → (V → V → Bool) → List X → ℕ → Type 0
-FewGains {X} A see same xs n = (weight : X → ℕ) (gain : A → X → ℕ) (actions : List A) → FewGain see same xs n weight gain actions
-
--- n is any number that is not below the number of different views
+-- n is any number that is not below the number of different views; weights, gains and actions are any
 abbrev pub ViewsGainFew : Type 0 → Type 0 → Type 0 → Type 0
 ViewsGainFew X V A =
-    (see : X → V) (same : V → V → Bool) → Tests same → (xs : List X) (n : ℕ) → distinct_count same (map see xs) ≤ n → FewGains A see same xs n
-
--- so it is wherever a view is said to show few
-abbrev pub ShownGainFew : Type 0 → Type 0 → Type 0 → Type 0
-ShownGainFew X V A = (see : X → V) (same : V → V → Bool) → Tests same → (xs : List X) (n : ℕ) → FewShown see same xs n → FewGains A see same xs n
+    (see : X → V) (same : V → V → Bool) → Tests same → (xs : List X) (n : ℕ) → distinct_count same (map see xs) ≤ n →
+    (weight : X → ℕ) (gain : A → X → ℕ) (actions : List A) → FewGain see same xs n weight gain actions
 
 -- The same of any actions that are allowed, however many: if none of them gains more than most without the view, no choice of
 -- such by the view gains more than n times that.
@@ -65,20 +56,3 @@ ChoicesGainFew X V A =
     (see : X → V) (same : V → V → Bool) → Tests same → (xs : List X) (n : ℕ) → distinct_count same (map see xs) ≤ n →
     (weight : X → ℕ) (gain : A → X → ℕ) (allowed : A → Bool) (most : ℕ) → ((a : A) → allowed a ≡ true → gained weight gain xs a ≤ most) →
     (choose : V → A) → ((v : V) → allowed (choose v) ≡ true) → gain_by see choose weight gain xs ≤ n * most
-
--- whether one of these tries is the part of the start that is asked for
-abbrev pub is_named : {X P : Type 0} → (X → P) → (P → P → Bool) → List P → X → Bool
-is_named part alike tries x = list_any (λ p. alike p (part x)) tries
-
--- how many tries have named it
-abbrev pub named : {X P : Type 0} → (X → P) → (P → P → Bool) → List P → X → ℕ
-named part alike tries x = cond (is_named part alike tries x) 1 0
-
--- A part of the start, whatever is taken for it, may be named in k tries. If no k tries name it for starts of more weight
--- than most, then no k tries that are chosen by the view name it for more than n times as much.
-abbrev pub TriesNameFew : Type 0 → Type 0 → Type 0 → Type 0
-TriesNameFew X V P =
-    (see : X → V) (same : V → V → Bool) → Tests same → (xs : List X) (n : ℕ) → distinct_count same (map see xs) ≤ n →
-    (part : X → P) (alike : P → P → Bool) (weight : X → ℕ) (k most : ℕ) →
-    ((tries : List P) → length tries ≤ k → gained weight (named part alike) xs tries ≤ most) →
-    (choose : V → List P) → ((v : V) → length (choose v) ≤ k) → gain_by see choose weight (named part alike) xs ≤ n * most

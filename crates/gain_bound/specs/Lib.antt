@@ -1,2 +1,5 @@
 pub mod Gain
+pub mod Tries
+pub mod Information
+pub mod Worth
 pub mod Programs

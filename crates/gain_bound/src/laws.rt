@@ -11,17 +11,19 @@ ghost use Rattle.hardware.specs.Limits.{HasBanks};
 ghost use Rattle.hardware.specs.Laws.{AnyTouches};
 ghost use Rattle.leak_bound.specs.Over.{KeepsLaws};
 ghost use Rattle.history_bound.specs.Over.{AnyHistory};
-ghost use Rattle.gain_bound.specs.Gain.{ViewsGainFew, ShownGainFew, ChoicesGainFew, TriesNameFew};
-ghost use Rattle.gain_bound.specs.Programs.{LoweredGainOver};
+ghost use Rattle.gain_bound.specs.Gain.{ViewsGainFew, ChoicesGainFew};
+ghost use Rattle.gain_bound.specs.Tries.{TriesNameFew};
+ghost use Rattle.gain_bound.specs.Information.{ViewsTellFew};
+ghost use Rattle.gain_bound.specs.Worth.{ShownIsWorthFew};
+ghost use Rattle.gain_bound.specs.Programs.{LoweredWorthOver};
 
 use env_contract::env::LawfulEnv;
 use hardware::laws::machines_and_the_laws;
 
 /// Whatever the starts weigh, and whatever actions gain at them: a view that shows at most n different things multiplies what
-/// the best of some actions gains by at most n. So it is of each count of this repository that says that a view shows few.
+/// the best of some actions gains by at most n.
 pub fn few_gains<X, V, A>()
     ensures views { ViewsGainFew X V A }
-    ensures shown { ShownGainFew X V A }
     ensures choices { ChoicesGainFew X V A }
 {}
 
@@ -30,23 +32,33 @@ pub fn few_tries<X, V, P>()
     ensures { TriesNameFew X V P }
 {}
 
+/// Whatever the starts weigh, the mutual information of start and view is at most log2 n.
+pub fn few_bits<X, V>()
+    ensures { ViewsTellFew X V }
+{}
+
+/// So it is of each count that says that a view shows few.
+pub fn few_worth<X, V, A>()
+    ensures { ShownIsWorthFew X V A }
+{}
+
 /// The runs of every accepted program, in the image that `lower` makes of it: for starts that agree, seeing them multiplies what
-/// the best of any actions gains by at most the sharp count, whatever the starts weigh and whatever the actions gain. The same
-/// holds of the count of runs that may be cut, of the count by shared time, and, where the end label flows to the observer, of
-/// who sees the end too.
-pub fn lowered_few_gains<A, E: LawfulEnv>()
-    ensures { LoweredGainOver A (λ order. E.env) E.serves }
+/// the best of any actions gains by at most the sharp count, and tells at most the logarithm of that, whatever the starts weigh
+/// and whatever the actions gain. The same holds of the count of runs that may be cut, of the count by shared time, and, where
+/// the end label flows to the observer, of who sees the end too.
+pub fn lowered_few_worth<A, E: LawfulEnv>()
+    ensures { LoweredWorthOver A (λ order. E.env) E.serves }
 {}
 
 /// The same where a look back into the history says what accesses cost: in every environment whose state is the history and that
 /// keeps the laws, from every history.
-pub fn lowered_few_gains_of_histories<A>()
-    ensures { (v : Order → Env (List Touch)) → KeepsLaws v AnyHistory → LoweredGainOver A v AnyHistory }
+pub fn lowered_few_worth_of_histories<A>()
+    ensures { (v : Order → Env (List Touch)) → KeepsLaws v AnyHistory → LoweredWorthOver A v AnyHistory }
 {}
 
 /// The same on every machine with partitions.
-pub fn lowered_few_gains_on_machines<A>()
-    ensures { (hw : Hardware) → HasBanks hw → hw.sharing ≡ Partitioned → LoweredGainOver A (hardware_by_history hw) AnyTouches }
+pub fn lowered_few_worth_on_machines<A>()
+    ensures { (hw : Hardware) → HasBanks hw → hw.sharing ≡ Partitioned → LoweredWorthOver A (hardware_by_history hw) AnyTouches }
 {
     machines_and_the_laws();
 }

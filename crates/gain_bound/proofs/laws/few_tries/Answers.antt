@@ -1,4 +1,4 @@
-use Rattle.gain_bound.proofs.Gain.{tries_name_few}
+use Rattle.gain_bound.proofs.Tries.{tries_name_few}
 use Rattle.gain_bound.proofs.laws.few_tries.Goals as goal
 
 pub returns : goal.returns

@@ -1,6 +1,0 @@
-use Rattle.history_bound.specs.Over.{AnyHistory}
-use Rattle.gain_bound.proofs.Programs.{lowered_gain}
-use Rattle.gain_bound.proofs.laws.lowered_few_gains_of_histories.Goals as goal
-
-pub returns : goal.returns
-returns g c = λ v laws. lowered_gain _ v AnyHistory laws
