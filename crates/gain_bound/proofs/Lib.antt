@@ -4,4 +4,5 @@ pub mod Tries
 pub mod Powers
 pub mod Information
 pub mod Worth
+pub mod Reached
 pub mod Programs

@@ -2,4 +2,5 @@ pub mod Gain
 pub mod Tries
 pub mod Information
 pub mod Worth
+pub mod Reached
 pub mod Programs

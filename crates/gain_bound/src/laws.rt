@@ -15,6 +15,7 @@ ghost use Rattle.gain_bound.specs.Gain.{ViewsGainFew, ChoicesGainFew};
 ghost use Rattle.gain_bound.specs.Tries.{TriesNameFew};
 ghost use Rattle.gain_bound.specs.Information.{ViewsTellFew};
 ghost use Rattle.gain_bound.specs.Worth.{ShownIsWorthFew};
+ghost use Rattle.gain_bound.specs.Reached.{WorthReached};
 ghost use Rattle.gain_bound.specs.Programs.{LoweredWorthOver};
 
 use env_contract::env::LawfulEnv;
@@ -40,6 +41,12 @@ pub fn few_bits<X, V>()
 /// So it is of each count that says that a view shows few.
 pub fn few_worth<X, V, A>()
     ensures { ShownIsWorthFew X V A }
+{}
+
+/// No smaller number serves: for each n there are starts of weight 1 that show n views, of which one guess gains n with the view
+/// and 1 without, and the view tells log2 n bits.
+pub fn worth_reached()
+    ensures { WorthReached }
 {}
 
 /// The runs of every accepted program, in the image that `lower` makes of it: for starts that agree, seeing them multiplies what
