@@ -50,7 +50,8 @@ module _ {X A : Type 0} (weight : X → ℕ) (gain : A → X → ℕ) where
   best_is_best (b ∷ actions) xs a (inr h) =
       omega (arith, best_is_best actions xs a h, le-max_right (gained weight gain xs b) (best_gain weight gain actions xs))
 
-  pub best_is_least : (actions : List A) (xs : List X) (m : ℕ) → ((a : A) → IsAmong a actions → gained weight gain xs a ≤ m) → best_gain weight gain actions xs ≤ m
+  pub best_is_least : (actions : List A) (xs : List X) (m : ℕ) → ((a : A) → IsAmong a actions → gained weight gain xs a ≤ m)
+      → best_gain weight gain actions xs ≤ m
   best_is_least [] xs m h = omega arith
   best_is_least (a ∷ actions) xs m h = max-le (h a (inl refl)) (best_is_least actions xs m (λ b i. h b (inr i)))
 
