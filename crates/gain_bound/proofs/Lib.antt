@@ -6,3 +6,4 @@ pub mod Information
 pub mod Worth
 pub mod Reached
 pub mod Programs
+pub mod Many
