@@ -7,3 +7,4 @@ pub mod Worth
 pub mod Reached
 pub mod Programs
 pub mod Many
+pub mod Own

@@ -5,3 +5,4 @@ pub mod Worth
 pub mod Reached
 pub mod Programs
 pub mod Many
+pub mod Own
