@@ -1,0 +1,10 @@
+pub mod Views
+pub mod Gain
+pub mod Tries
+pub mod Powers
+pub mod Information
+pub mod Worth
+pub mod Reached
+pub mod Programs
+pub mod Many
+pub mod Own
