@@ -63,7 +63,12 @@ module _ (q : LabelledProgram) (o : ℕ) where
           (cases_lt i (many_at listed l))
 
   pub listed_one : (m : List ℤ) (listed : List (List ℕ)) → IsListed q o m listed → AreListed q o (m ∷ []) listed
-  listed_one m listed h = record { size = h.size; begun = h.begun; first = λ l i lt. one_least m listed h l i }
+  listed_one m listed h = record {
+    size = h.size;
+    begun = h.begun;
+    least = λ l i x lt. (one_least m listed h l i).least x;
+    one = λ l i lt. inl (h.each l i lt);
+  }
 
   counts_first : (ms ns : List (List ℤ)) (a b : List (List ℕ)) → 0 < length ms → ((l : ℕ) → many_at b l ≡ many_at a l)
       → FirstBeginsEach q o ms (many_at a) → FirstBeginsEach q o (ms ++ ns) (many_at b)
@@ -76,15 +81,25 @@ module _ (q : LabelledProgram) (o : ℕ) where
   listed_more n ms old run new some h k size long is = record {
     size = size ∙ h.size;
     begun = counts_first ms (n ∷ []) old new some long h.begun;
-    first = λ l i lt.
-        let e = long l in
-        let lower : i < many_at old l = omega (arith, lt, e) in
-        subst (IsLeast (In l i (ms ++ n ∷ []))) (sym (is l i lower))
-        (least_same (λ x. In l i ms x ⊎ In l i (n ∷ []) x) (In l i (ms ++ n ∷ [])) (lesser (first_at old l i) (first_at run l i))
-        (to l i ms (n ∷ [])) (from l i ms (n ∷ []))
-        (least_both (In l i ms) (In l i (n ∷ [])) (in_some l i ms) (in_some l i (n ∷ [])) (first_at old l i) (first_at run l i)
-        (h.first l i lower) (one_least n run k l i)));
+    least = λ l i x lt. (both l i lt).least x;
+    one = λ l i lt. ⊎_elim (λ (a : In l i (ms ++ n ∷ []) (first_at new l i)). a)
+        (λ (a : (first_at new l i ≡ 0) × ((y : ℕ) → In l i (ms ++ n ∷ []) y → ⊥)).
+        absurd (a.1 (first_at old l i) (to l i ms (n ∷ []) (first_at old l i) (inl (h.one l i (lower l i lt)))))) (both l i lt).one;
   }
+    where
+      lower : (l i : ℕ) → i < many_at new l → i < many_at old l
+      lower l i lt = let e = long l in omega (arith, lt, e)
+
+      its : (l i : ℕ) → i < many_at old l → IsLeast (In l i ms) (first_at old l i)
+      its l i lt = record { least = λ y. h.least l i y lt; one = inl (h.one l i lt) }
+
+      both : (l i : ℕ) → i < many_at new l → IsLeast (In l i (ms ++ n ∷ [])) (first_at new l i)
+      both l i lt =
+          subst (IsLeast (In l i (ms ++ n ∷ []))) (sym (is l i (lower l i lt)))
+          (least_same (λ x. In l i ms x ⊎ In l i (n ∷ []) x) (In l i (ms ++ n ∷ [])) (lesser (first_at old l i) (first_at run l i))
+          (to l i ms (n ∷ [])) (from l i ms (n ∷ []))
+          (least_both (In l i ms) (In l i (n ∷ [])) (in_some l i ms) (in_some l i (n ∷ [])) (first_at old l i) (first_at run l i)
+          (its l i (lower l i lt)) (one_least n run k l i)))
 
 -- ---- the memories of starts
 

@@ -1,5 +1,5 @@
 -- The first predictions of the relevant mitigations that runs begin, listed for each level in the order of their beginnings.
-use Rattle.std.specs.Prelude.{◌≡◌, ◌<◌, ◌⊎◌, ℕ, ℤ, List, [], ◌∷◌, length, map, Some, Bool, true}
+use Rattle.std.specs.Prelude.{◌≡◌, ◌<◌, ◌≤◌, ◌⊎◌, ℕ, ℤ, List, [], ◌∷◌, length, map, Some, Bool, true}
 use Rattle.std.specs.List.{count_by}
 use Rattle.std.specs.Prelude.{Vec}
 use Rattle.std.specs.declared.alloc.Global.{Global}
@@ -9,7 +9,7 @@ use Rattle.timing_types.specs.Labelled.{LabelledProgram, order_of, labels_of, le
 use Rattle.source_meaning.specs.Source.{marks_of}
 use Rattle.sharp_bound.specs.Sharp.{BeginsEach, relevant_at}
 use Rattle.own_firsts.specs.Count.{many_at, first_at}
-use Rattle.level_counts.specs.Begun.{begins_after, FirstBeginsEach, IsLeast}
+use Rattle.level_counts.specs.Begun.{begins_after, FirstBeginsEach}
 
 -- what lists hold
 abbrev pub lists : List (Vec ℕ Global) → List (List ℕ)
@@ -40,5 +40,7 @@ pub record IsListed (q : LabelledProgram) (o : ℕ) (m : List ℤ) (listed : Lis
 pub record AreListed (q : LabelledProgram) (o : ℕ) (ms : List (List ℤ)) (listed : List (List ℕ)) : Type 0 where
   pub size : length listed ≡ q.program.order.size
   pub begun : FirstBeginsEach q o ms (many_at listed)
-  pub first : (l i : ℕ) → i < many_at listed l
-      → IsLeast (PredictedAtIn (relevant_at (order_of q) (labels_of q) (levels_of q) o (plan_of q.program) l) (plan_of q.program) ms i) (first_at listed l i)
+  pub least : (l i x : ℕ) → i < many_at listed l
+      → PredictedAtIn (relevant_at (order_of q) (labels_of q) (levels_of q) o (plan_of q.program) l) (plan_of q.program) ms i x → first_at listed l i ≤ x
+  pub one : (l i : ℕ) → i < many_at listed l
+      → PredictedAtIn (relevant_at (order_of q) (labels_of q) (levels_of q) o (plan_of q.program) l) (plan_of q.program) ms i (first_at listed l i)
