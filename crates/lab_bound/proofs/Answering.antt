@@ -23,7 +23,7 @@ use Rattle.tool_stages.proofs.ChainLemmas.{prepared_done, prepares_no_fault}
 use Rattle.audit_stage.specs.Audited.{AuditStops}
 use Rattle.audit_stage.proofs.Once.{audit_goes}
 use Rattle.machine_stage.specs.Lines.{machine_head}
-use Rattle.lab_bound.specs.Text.{BoundPut, IsBoundText, SharedPut, IsSharedText, EndPut, TextPut}
+use Rattle.lab_bound.specs.Text.{BoundPut, IsBoundText, SharedPut, IsSharedText, IsOwnText, EndPut, TextPut}
 use Rattle.lab_bound.specs.Answer.{HasBound, HasCounts, TellsBy, Bounds, IsBoundAnswer}
 use Rattle.lab_bound.specs.Complete.{CanBound}
 
@@ -31,23 +31,23 @@ use Rattle.lab_bound.specs.Complete.{CanBound}
 abbrev pub bound_next : Environment → ℕ → Syntax → LabelledProgram → Option Label → Code → List StartValue → Status → List ℕ → Type 0
 bound_next e t p q o code ss = HasBound e t q o ss
 
--- four texts, one after another
-chained : (old a b c d x y z w : List ℕ) → x ≡ old ++ a → y ≡ x ++ b → z ≡ y ++ c → w ≡ z ++ d → w ≡ old ++ (((a ++ b) ++ c) ++ d)
-chained old a b c d x y z w h k m n =
-    n ∙ ap (λ v. v ++ d) (m ∙ ap (λ v. v ++ c) (k ∙ ap (λ v. v ++ b) h ∙ append_assoc old a b) ∙ append_assoc old (a ++ b) c)
-    ∙ append_assoc old ((a ++ b) ++ c) d
+-- five texts, one after another
+chained : (old a b c d e x y z w v : List ℕ) → x ≡ old ++ a → y ≡ x ++ b → z ≡ y ++ c → w ≡ z ++ d → v ≡ w ++ e → v ≡ old ++ ((((a ++ b) ++ c) ++ d) ++ e)
+chained old a b c d e x y z w v h k m n i =
+    i ∙ ap (λ u. u ++ e) (n ∙ ap (λ u. u ++ d) (m ∙ ap (λ u. u ++ c) (k ∙ ap (λ u. u ++ b) h ∙ append_assoc old a b) ∙ append_assoc old (a ++ b) c)
+    ∙ append_assoc old ((a ++ b) ++ c) d) ∙ append_assoc old (((a ++ b) ++ c) ++ d) e
 
 -- what is told on a machine with partitions
 pub counts_put : (t : ℕ) (q : LabelledProgram) (l : Label) (xs ss : List StartValue) (r : AuditReport) (levels found : List LevelRuns) (order : Order)
-    (old audited x y z : List ℕ) → xs ≡ ss → AreTold q l.number (memories_of xs) levels → order ≡ q.program.order
+    (old audited x y z w : List ℕ) → xs ≡ ss → AreTold q l.number (memories_of xs) levels → order ≡ q.program.order
     → audited ≡ old ++ audit_lines order l t r → found ≡ levels → BoundPut order l.number t found audited x → SharedPut q l.number t found x y
-    → EndPut q l.number y z → TextPut (HasCounts q l t ss r) old z
-counts_put t q l xs ss r levels found order old audited x y z same told is a e put shared end =
+    → TextPut (IsOwnText q l.number t (memories_of xs)) y z → EndPut q l.number z w → TextPut (HasCounts q l t ss r) old w
+counts_put t q l xs ss r levels found order old audited x y z w same told is a e put shared own end =
     let rest = put.0 in
     let text : IsBoundText q.program.order l.number t levels rest =
     subst (λ (z : Order). IsBoundText z l.number t levels rest) is (subst (λ z. IsBoundText order l.number t z rest) e put.1) in
     let lines = audit_lines q.program.order l t r in (
-      ((lines ++ rest) ++ shared.0) ++ end.0,
+      (((lines ++ rest) ++ shared.0) ++ own.0) ++ end.0,
       (
         levels,
         subst (λ (z : List StartValue). AreTold q l.number (memories_of z) levels) same told,
@@ -55,11 +55,13 @@ counts_put t q l xs ss r levels found order old audited x y z same told is a e p
         text,
         shared.0,
         subst (λ (w : List LevelRuns). IsSharedText q l.number t w shared.0) e shared.1,
+        own.0,
+        subst (λ (z : List StartValue). IsOwnText q l.number t (memories_of z) own.0) same own.1,
         end.0,
         end.1,
         refl,
       ),
-      chained old lines rest shared.0 end.0 audited x y z (a ∙ ap (λ (w : Order). old ++ audit_lines w l t r) is) put.2 shared.2 end.2,
+      chained old lines rest shared.0 own.0 end.0 audited x y z w (a ∙ ap (λ (w : Order). old ++ audit_lines w l t r) is) put.2 shared.2 own.2 end.2,
     )
 
 -- behind what stands in front

@@ -1,20 +1,23 @@
 -- The sharp count of what is told of the levels bounds what the runs show.
 use Rattle.std.proofs.Common.{◌≡◌, ◌<◌, ◌≤◌, ℕ, zero, suc, ◌+◌, ◌*◌, ◌^◌, List, [], ◌∷◌, length, map, refl, sym, ap, ◌∙◌, subst, Some}
-use Rattle.std.proofs.Common.{inl, inr, ◌⊎◌, arith, le_trans}
+use Rattle.std.proofs.Common.{inl, inr, ◌⊎◌, ⊎_elim, arith, le_trans}
 use Rattle.std.proofs.Math.Nat.{pow-suc, pow-zero}
 use Rattle.std.specs.Prelude.{Bool, true, ℤ, eqb}
 use Rattle.std.specs.List.{count_by}
-use Rattle.std.proofs.lemmas.Bool.{eq-eqb, and_from}
+use Rattle.std.proofs.lemmas.Bool.{eq-eqb, and_from, cases_lt}
+use Rattle.std.proofs.lemmas.List.{get_or_past}
 use Rattle.label_lattice.specs.Order.{Order, lattice_of, count_not_below}
 use Rattle.mit_syntax.specs.Todo.{Todo, Done, Skip, Assign, Put, Sleep, If, While, Mitigate, commands_of}
+use Rattle.mit_syntax.specs.Plan.{Plan}
 use Rattle.mit_syntax.specs.Program.{Syntax, plan_of}
 use Rattle.mit_syntax.specs.Values.{value_of}
 use Rattle.mit_parser.specs.Words.{Told}
 use Rattle.mit_parser.specs.Spells.{IsProgram}
 use Rattle.doubling_schedule.specs.Doubling.{prediction}
 use Rattle.timing_types.specs.Labelled.{LabelledProgram, order_of, labels_of, levels_of}
-use Rattle.source_meaning.specs.Source.{source_start, source_steps, started_in}
+use Rattle.source_meaning.specs.Source.{source_start, source_steps, started_in, notes_of, marks_of}
 use Rattle.source_meaning.proofs.Told.{ended_same}
+use Rattle.source_meaning.proofs.Unlabelled.{notes_unlabelled}
 use Rattle.env_contract.specs.Env.{Env}
 use Rattle.env_contract.specs.declared.place.Touch.{Touch}
 use Rattle.label_code.specs.Run.{Start}
@@ -37,9 +40,14 @@ use Rattle.sharp_bound.specs.Guess.{FewShown}
 use Rattle.sharp_bound.specs.End.{seen_to_end}
 use Rattle.sharp_bound.specs.Shared.{FewShared}
 use Rattle.sharp_bound.proofs.Guess.{few_shown}
-use Rattle.sharp_history.specs.Over.{LoweredSharpOver, LoweredSharpEndOver, LoweredSharedOver}
+use Rattle.own_firsts.specs.Count.{many_at, first_at, own_by, own, own_of}
+use Rattle.own_firsts.specs.Own.{FewOwn}
+use Rattle.own_firsts.specs.Predicted.{begun_of, PredictsOwnBy}
+use Rattle.own_firsts.proofs.Counted.{own_is_enough}
+use Rattle.own_firsts.proofs.Listed.{own_ways, are_own_ways}
+use Rattle.sharp_history.specs.Over.{LoweredSharpOver, LoweredSharpEndOver, LoweredSharedOver, LoweredOwnOver}
 use Rattle.start_file.specs.Starts.{StartValue}
-use Rattle.leak_audit.specs.Agreement.{AgreeFor, starts_of}
+use Rattle.leak_audit.specs.Agreement.{AgreeFor, start_of, starts_of}
 use Rattle.leak_audit.specs.Sequences.{same_sequence}
 use Rattle.leak_audit.specs.Surveyed.{sequence_from}
 use Rattle.leak_audit.proofs.Classing.{tests_sequences}
@@ -48,6 +56,7 @@ use Rattle.history_bound.specs.Over.{AnyHistory, history_made}
 use Rattle.leak_audit.specs.declared.report.AuditReport.{AuditReport}
 use Rattle.leak_audit.specs.Report.{IsReport}
 use Rattle.level_counts.specs.Begun.{begins_next, PredictedIn, FirstBeginsEach, AreTold, memories_of}
+use Rattle.level_counts.specs.Listed.{PredictedAtIn, AreListed}
 use Rattle.tool_stages.specs.declared.envs.Environment.{Environment}
 use Rattle.tool_stages.specs.Stages.{Types}
 use Rattle.tool_stages.specs.Envs.{IsPartitioned, environment}
@@ -99,6 +108,24 @@ module _ (q : LabelledProgram) (o : ℕ) where
   begins_each_with : (m : List ℤ) (c d : ℕ → ℕ) → ((l : ℕ) → c l ≡ d l) → Each' m c → Each' m d
   begins_each_with m c d same a = (a.0, a.1, λ l. a.2 l ∙ same l)
 
+-- the first run of some memories begins one number of mitigates of each level
+pub same_counts : (q : LabelledProgram) (o : ℕ) (ms : List (List ℤ)) (c d : ℕ → ℕ) → FirstBeginsEach q o ms c → FirstBeginsEach q o ms d → (l : ℕ) → c l ≡ d l
+same_counts q o [] c d h k l = h l ∙ sym (k l)
+same_counts q o (m ∷ ms) c d h k l = begins_each_one q o m c d h k l
+
+same_own : (t : ℕ) (firsts : ℕ → ℕ → ℕ) (c d : ℕ → ℕ) (n : ℕ) → ((l : ℕ) → c l ≡ d l) → own t firsts n c ≡ own t firsts n d
+same_own t firsts c d zero h = refl
+same_own t firsts c d (suc l) h =
+    ap (λ z. own_by t (firsts l) z * own t firsts l c) (h l) ∙ ap (λ z. own_by t (firsts l) (d l) * z) (same_own t firsts c d l h)
+
+-- a place that is not listed asks for nothing
+listed_below : (firsts : List (List ℕ)) (l i x : ℕ) → (i < many_at firsts l → first_at firsts l i ≤ x) → first_at firsts l i ≤ x
+listed_below firsts l i x h =
+    ⊎_elim
+    (λ (lt : i < many_at firsts l). h lt)
+    (λ (le : many_at firsts l ≤ i). let none : first_at firsts l i ≡ 0 = get_or_past _ i 0 le in omega (arith, none))
+    (cases_lt i (many_at firsts l))
+
 module _ {E : Type 0} (v : Env E) (serves : Order → E → Type 0) (made : Order → List Touch → E) (q : LabelledProgram) (o t : ℕ) where
   abbrev Rel : ℕ → Bool
   Rel = is_relevant (order_of q) (labels_of q) (levels_of q) o (plan_of q.program)
@@ -121,16 +148,44 @@ module _ {E : Type 0} (v : Env E) (serves : Order → E → Type 0) (made : Orde
     predicts_each ss levels (λ l x k. h l x (inr k)),
   )
 
+  -- the same by own first predictions
+  predicts_own : (ss : List StartValue) (firsts : List (List ℕ))
+      → ((l i x : ℕ) → i < many_at firsts l → PredictedAtIn (relevant_at (order_of q) (labels_of q) (levels_of q) o (plan_of q.program) l) (plan_of q.program)
+      (memories_of ss) i x → first_at firsts l i ≤ x) →
+      Each (λ s. PredictsOwnBy v (order_of q) (labels_of q) (levels_of q) (lowered q).instrs (plan_of q.program) o t (first_at firsts) s)
+      (starts_of made q.program.order ss)
+  predicts_own [] firsts h = tt
+  predicts_own (s ∷ ss) firsts h = (here, predicts_own ss firsts (λ l i x lt k. h l i x lt (inr k)))
+    where
+      p : Plan
+      p = plan_of q.program
+
+      here : PredictsOwnBy v (order_of q) (labels_of q) (levels_of q) (lowered q).instrs p o t (first_at firsts) (start_of made q.program.order s)
+      here n lt =
+          let notes = notes_of (commands_of p) s.memory n in
+          predicts_next Rel (levels_of q) (λ l. first_at firsts l (begun_of Rel (levels_of q) notes l))
+          (source_steps n (source_start (commands_of p) s.memory)).todo (source_steps n (source_start (commands_of p) s.memory)).memory
+          (λ k x is in'.
+          let l = levels_of q k in
+          let i = begun_of Rel (levels_of q) notes l in
+          listed_below firsts l i x (λ less. h l i x less (inl (
+            n,
+            k,
+            sym (bare_after p s.memory n) ∙ is,
+            and_from (Rel k) (eqb l l) in' (eq-eqb l l refl),
+            ap (λ z. begun_of Rel (levels_of q) z l) (sym (notes_unlabelled (λ _. tt) (λ _. tt) p s.memory n)),
+          ))))
+
   each_memory : (P : List ℤ → Type 0) (ss : List StartValue) → Each (λ (s : Start E). P s.memory) (starts_of made q.program.order ss) → Each P (memories_of ss)
   each_memory P [] h = tt
   each_memory P (s ∷ ss) h = (h.0, each_memory P ss h.1)
 
-  counts_same : (ss : List StartValue) (levels : List LevelRuns) (counts : ℕ → ℕ)
+  counts_same : (ss : List StartValue) (known counts : ℕ → ℕ)
       → Each (λ m. BeginsEach (order_of q) (labels_of q) (levels_of q) o (plan_of q.program) m counts) (memories_of ss)
-      → FirstBeginsEach q o (memories_of ss) (counts_of levels) →
-      (ss ≡ []) ⊎ ((l : ℕ) → counts l ≡ counts_of levels l)
-  counts_same [] levels counts h k = inl refl
-  counts_same (s ∷ ss) levels counts h k = inr (begins_each_one q o s.memory counts (counts_of levels) h.0 k)
+      → FirstBeginsEach q o (memories_of ss) known →
+      (ss ≡ []) ⊎ ((l : ℕ) → counts l ≡ known l)
+  counts_same [] known counts h k = inl refl
+  counts_same (s ∷ ss) known counts h k = inr (begins_each_one q o s.memory counts known h.0 k)
 
   -- starts of which the theorem speaks, with what is told of their levels
   pub record Study (ss : List StartValue) (levels : List LevelRuns) : Type 0 where
@@ -159,7 +214,7 @@ module _ {E : Type 0} (v : Env E) (serves : Order → E → Type 0) (made : Orde
       let size : q.program.order.size ≡ length levels = sym h.size in
       go ss levels counts
       (subst (λ n. FewShown view same (starts_of made q.program.order ss) (sharp (ends_by t firsts) n counts)) size some.2)
-      (counts_same ss levels counts (each_memory (λ m. BeginsEach (order_of q) (labels_of q) (levels_of q) o (plan_of q.program) m counts) ss some.1) h.begun)
+      (counts_same ss (counts_of levels) counts (each_memory (λ m. BeginsEach (order_of q) (labels_of q) (levels_of q) o (plan_of q.program) m counts) ss some.1) h.begun)
     where
       go : (ss : List StartValue) (levels : List LevelRuns) (counts : ℕ → ℕ)
           → FewShown view same (starts_of made q.program.order ss) (sharp (ends_by t (firsts_of levels)) (length levels) counts)
@@ -187,7 +242,7 @@ module _ {E : Type 0} (v : Env E) (serves : Order → E → Type 0) (made : Orde
       go ss levels counts
       (subst (λ n. FewShown view same (starts_of made q.program.order ss) (shared t firsts n counts)) size
       (few_shown view same tests (starts_of made q.program.order ss) (shared t firsts q.program.order.size counts) (le_trans way.count enough)))
-      (counts_same ss levels counts (each_memory (λ m. BeginsEach (order_of q) (labels_of q) (levels_of q) o (plan_of q.program) m counts) ss some.1) h.begun)
+      (counts_same ss (counts_of levels) counts (each_memory (λ m. BeginsEach (order_of q) (labels_of q) (levels_of q) o (plan_of q.program) m counts) ss some.1) h.begun)
     where
       go : (ss : List StartValue) (levels : List LevelRuns) (counts : ℕ → ℕ)
           → FewShown view same (starts_of made q.program.order ss) (shared t (firsts_of levels) (length levels) counts)
@@ -197,6 +252,48 @@ module _ {E : Type 0} (v : Env E) (serves : Order → E → Type 0) (made : Orde
           (record { count = omega arith; best_few = λ w. omega arith; guess = λ w g. omega arith })
       go ss levels counts some (inr alike) =
           subst (FewShown view same (starts_of made q.program.order ss)) (same_shares t (firsts_of levels) counts (counts_of levels) (length levels) alike) some
+
+  -- starts of which the theorem by own first predictions speaks, with what is listed
+  pub record OwnStudy (ss : List StartValue) (firsts : List (List ℕ)) : Type 0 where
+    pub agree : Pairwise (AgreeFor v serves q o) (starts_of made q.program.order ss)
+    pub halted : Each (Halts v (lowered q).instrs t) (starts_of made q.program.order ss)
+    pub size : length firsts ≡ q.program.order.size
+    pub begun : FirstBeginsEach q o (memories_of ss) (many_at firsts)
+    pub least : (l i x : ℕ) → i < many_at firsts l
+        → PredictedAtIn (relevant_at (order_of q) (labels_of q) (levels_of q) o (plan_of q.program) l) (plan_of q.program) (memories_of ss) i x
+        → first_at firsts l i ≤ x
+
+  pub listed : (ss : List StartValue) (r : AuditReport) (firsts : List (List ℕ)) → IsReport v serves q o t (starts_of made q.program.order ss) r
+      → AreListed q o (memories_of ss) firsts → OwnStudy ss firsts
+  listed ss r firsts is h = record { agree = is.agree; halted = is.halted; size = h.size; begun = h.begun; least = h.least }
+
+  -- a view that shows few by own first predictions, where relevant mitigates stand apart
+  pub own_told : {V : Type 0} (view : Start E → V)
+      → FewOwn v q.program.order (serves q.program.order) (labels_of q) (levels_of q) (lowered q).instrs (plan_of q.program) o t view → AreApart q o →
+      (ss : List StartValue) (firsts : List (List ℕ)) → OwnStudy ss firsts → (same : V → V → Bool) → Tests same →
+      FewShown view same (starts_of made q.program.order ss) (own_of t firsts)
+  own_told {V} view few apart ss firsts h same tests =
+      let some = few apart (starts_of made q.program.order ss) h.agree h.halted (first_at firsts) (predicts_own ss firsts h.least) same tests in
+      let counts = some.0 in
+      let size : q.program.order.size ≡ length firsts = sym h.size in
+      let ways = own_ways t (first_at firsts) q.program.order.size counts in
+      let are = are_own_ways t (first_at firsts) q.program.order.size counts in
+      let way = some.2 ways are in
+      let enough = (own_is_enough t (first_at firsts) q.program.order.size counts).0 ways are in
+      go ss firsts counts
+      (subst (λ n. FewShown view same (starts_of made q.program.order ss) (own t (first_at firsts) n counts)) size
+      (few_shown view same tests (starts_of made q.program.order ss) (own t (first_at firsts) q.program.order.size counts) (le_trans way.count enough)))
+      (counts_same ss (many_at firsts) counts (each_memory (λ m. BeginsEach (order_of q) (labels_of q) (levels_of q) o (plan_of q.program) m counts) ss some.1)
+      h.begun)
+    where
+      go : (ss : List StartValue) (firsts : List (List ℕ)) (counts : ℕ → ℕ)
+          → FewShown view same (starts_of made q.program.order ss) (own t (first_at firsts) (length firsts) counts)
+          → (ss ≡ []) ⊎ ((l : ℕ) → counts l ≡ many_at firsts l) → FewShown view same (starts_of made q.program.order ss) (own_of t firsts)
+      go ss firsts counts some (inl none) =
+          subst (λ (z : List StartValue). FewShown view same (starts_of made q.program.order z) (own_of t firsts)) (sym none)
+          (record { count = omega arith; best_few = λ w. omega arith; guess = λ w g. omega arith })
+      go ss firsts counts some (inr alike) =
+          subst (FewShown view same (starts_of made q.program.order ss)) (same_own t (first_at firsts) counts (many_at firsts) (length firsts) alike) some
 
   each_with : (ms : List (List ℤ)) (c d : ℕ → ℕ) → ((l : ℕ) → c l ≡ d l)
       → Each (λ m. BeginsEach (order_of q) (labels_of q) (levels_of q) o (plan_of q.program) m c) ms
@@ -234,7 +331,7 @@ module _ {E : Type 0} (v : Env E) (serves : Order → E → Type 0) (made : Orde
       (λ n. FewShown (sequence_from v q o t) same_sequence (starts_of made q.program.order ss) (sharp (ends_by t firsts) n counts)) size few.2)
       (λ k first. subst (λ n. sharp (ends_by t firsts) n counts ≤ bound q.program.order o t k) size
       (le_trans (few.3 k first).0 (few.3 k first).1))
-      (counts_same ss levels counts each h.begun)
+      (counts_same ss (counts_of levels) counts each h.begun)
     where
       go : (ss : List StartValue) (levels : List LevelRuns) (counts : ℕ → ℕ) → Study ss levels
           → Each (λ m. BeginsEach (order_of q) (labels_of q) (levels_of q) o (plan_of q.program) m counts) (memories_of ss) →
@@ -275,6 +372,27 @@ module _ {E : Type 0} (v : Env E) (serves : Order → E → Type 0) (made : Orde
       (power_is q.program.order o t r.mitigations (map (sequence_from v q o t) (starts_of made q.program.order ss)) r.measures is.measures)
       (f.within r.mitigations is.mitigations)
 
+-- a first prediction at a place is one of its level
+placed_in : {M L : Type 0} (rel : ℕ → Bool) (p : Todo M L) (ms : List (List ℤ)) (i x : ℕ) → PredictedAtIn rel p ms i x → PredictedIn rel p ms x
+placed_in rel p [] i x h = h
+placed_in rel p (m ∷ ms) i x (inl b) = inl (b.0, b.1, b.2, b.3)
+placed_in rel p (m ∷ ms) i x (inr h) = inr (placed_in rel p ms i x h)
+
+-- the count by own first predictions is at most the sharp count
+own_within : (q : LabelledProgram) (o t : ℕ) (ms : List (List ℤ)) (levels : List LevelRuns) (firsts : List (List ℕ)) → AreTold q o ms levels
+    → AreListed q o ms firsts → own_of t firsts ≤ sharp_of t levels
+own_within q o t ms levels firsts told listed =
+    let p = plan_of q.program in
+    let size : length firsts ≡ length levels = listed.size ∙ sym told.size in
+    let few = (own_is_enough t (first_at firsts) (length firsts) (many_at firsts)).1 (firsts_of levels)
+    (λ l i lt. (told.first l).least (first_at firsts l i)
+    (placed_in (relevant_at (order_of q) (labels_of q) (levels_of q) o p l) p ms i (first_at firsts l i) (listed.one l i lt))) in
+    let alike = same_product (ends_by t (firsts_of levels)) (many_at firsts) (counts_of levels) (length levels)
+    (same_counts q o ms (many_at firsts) (counts_of levels) listed.begun told.begun) in
+    let here : own_of t firsts ≤ sharp (ends_by t (firsts_of levels)) (length levels) (many_at firsts) =
+    subst (λ n. own_of t firsts ≤ sharp (ends_by t (firsts_of levels)) n (many_at firsts)) size few in
+    subst (λ z. own_of t firsts ≤ z) alike here
+
 -- the count by shared time is at most the sharp count
 shares_within : (t : ℕ) (levels : List LevelRuns) → shared_of t levels ≤ sharp_of t levels
 shares_within t levels =
@@ -291,26 +409,37 @@ below p q o types l = subst (λ (z : Syntax). o < z.order.size) (sym types.progr
 -- in each environment of a machine with partitions
 module _ (sharp : (e : Environment) → IsPartitioned e → LoweredSharpOver (environment e) AnyHistory)
     (ending : (e : Environment) → IsPartitioned e → LoweredSharpEndOver (environment e) AnyHistory)
-    (sharing : (e : Environment) → IsPartitioned e → LoweredSharedOver (environment e) AnyHistory) where
+    (sharing : (e : Environment) → IsPartitioned e → LoweredSharedOver (environment e) AnyHistory)
+    (owning : (e : Environment) → IsPartitioned e → LoweredOwnOver (environment e) AnyHistory) where
   pub all_enough : AllAreEnough
-  all_enough e t own some words p q o ss r levels spelled types low is h =
+  all_enough e t parted some words p q o ss r levels spelled types low is h =
       let v = environment e q.program.order in
       let is_typed = typed_with words p q spelled types in
       let low' = below p q o types low in
       let study = reported v AnyHistory history_made q o t ss r levels is h in
-      let f = found v AnyHistory history_made q o t (sharp e own q is_typed) low' some ss levels study in
+      let f = found v AnyHistory history_made q o t (sharp e parted q is_typed) low' some ss levels study in
       record {
         begun = f.begun;
         bounds = record {
           few = f.few;
           ended = λ end same tests. few_told v AnyHistory history_made q o t (seen_to_end v (order_of q) (labels_of q) (lowered q).instrs o t)
-              ((ending e own q is_typed).halted o low' end t some) ss levels study same tests;
-          shared = λ apart. shared_told v AnyHistory history_made q o t (sequence_from v q o t) ((sharing e own q is_typed).few o low' t some) apart ss levels
+              ((ending e parted q is_typed).halted o low' end t some) ss levels study same tests;
+          shared = λ apart. shared_told v AnyHistory history_made q o t (sequence_from v q o t) ((sharing e parted q is_typed).few o low' t some) apart ss levels
               study same_sequence tests_sequences;
           shared_ended = λ apart end same tests. shared_told v AnyHistory history_made q o t (seen_to_end v (order_of q) (labels_of q) (lowered q).instrs o t)
-              ((ending e own q is_typed).shared o low' end t some) apart ss levels study same tests;
+              ((ending e parted q is_typed).shared o low' end t some) apart ss levels study same tests;
         };
         counted = counted v AnyHistory history_made q o t ss r levels is f;
         shared_within = shares_within t levels;
+        own = λ firsts are.
+            let own_study = listed v AnyHistory history_made q o t ss r firsts is are in (
+              record {
+                few = λ apart. own_told v AnyHistory history_made q o t (sequence_from v q o t) ((owning e parted q is_typed).few o low' t some) apart ss firsts
+                    own_study same_sequence tests_sequences;
+                ended = λ apart end same tests. own_told v AnyHistory history_made q o t (seen_to_end v (order_of q) (labels_of q) (lowered q).instrs o t)
+                    ((owning e parted q is_typed).ended o low' end t some) apart ss firsts own_study same tests;
+              },
+              own_within q o t (memories_of ss) levels firsts h are,
+            );
         within = bounded v AnyHistory history_made q o t ss r levels is f;
       }

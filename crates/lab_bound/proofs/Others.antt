@@ -11,18 +11,19 @@ use Rattle.code_lower.specs.Lowered.{lowered}
 use Rattle.leak_bound.specs.Records.{Each}
 use Rattle.start_file.specs.Starts.{StartValue}
 use Rattle.sharp_bound.specs.End.{seen_to_end}
-use Rattle.sharp_history.specs.Over.{LoweredSharpOver, LoweredSharpEndOver, LoweredSharedOver}
+use Rattle.sharp_history.specs.Over.{LoweredSharpOver, LoweredSharpEndOver, LoweredSharedOver, LoweredOwnOver}
 use Rattle.history_bound.specs.Over.{AnyHistory, history_made}
 use Rattle.leak_audit.specs.Agreement.{starts_of}
 use Rattle.leak_audit.specs.Sequences.{same_sequence}
 use Rattle.leak_audit.specs.Surveyed.{sequence_from}
 use Rattle.leak_audit.proofs.Classing.{tests_sequences}
 use Rattle.level_counts.specs.Begun.{PredictedIn, memories_of}
+use Rattle.level_counts.specs.Listed.{PredictedAtIn}
 use Rattle.tool_stages.specs.declared.envs.Environment.{Environment}
 use Rattle.tool_stages.specs.Envs.{IsPartitioned, environment}
 use Rattle.tool_stages.proofs.AgreeLemmas.{all_halt}
-use Rattle.lab_bound.specs.Others.{AllBoundOthers}
-use Rattle.lab_bound.proofs.Enough.{Study, reported, few_told, shared_told, found, typed_with, below}
+use Rattle.lab_bound.specs.Others.{AllBoundOthers, AllBoundOthersOwn}
+use Rattle.lab_bound.proofs.Enough.{Study, OwnStudy, reported, listed as study_listed, few_told, shared_told, own_told, found, typed_with, below}
 
 -- what holds of each of two lists of starts holds of both together
 each_both : {E : Type 0} (made : Order → List Touch → E) (order : Order) (P : Start E → Type 0) (ss others : List StartValue)
@@ -39,6 +40,17 @@ predicted_either rel p (s ∷ ss) others x (inr h) = go (predicted_either rel p 
   where
     go : PredictedIn rel p (memories_of ss) x ⊎ PredictedIn rel p (memories_of others) x
         → PredictedIn rel p (memories_of (s ∷ ss)) x ⊎ PredictedIn rel p (memories_of others) x
+    go (inl k) = inl (inr k)
+    go (inr k) = inr k
+
+placed_either : {M L : Type 0} (rel : ℕ → Bool) (p : Todo M L) (ss others : List StartValue) (i x : ℕ) → PredictedAtIn rel p (memories_of (ss ++ others)) i x
+    → PredictedAtIn rel p (memories_of ss) i x ⊎ PredictedAtIn rel p (memories_of others) i x
+placed_either rel p [] others i x h = inr h
+placed_either rel p (s ∷ ss) others i x (inl h) = inl (inl h)
+placed_either rel p (s ∷ ss) others i x (inr h) = go (placed_either rel p ss others i x h)
+  where
+    go : PredictedAtIn rel p (memories_of ss) i x ⊎ PredictedAtIn rel p (memories_of others) i x
+        → PredictedAtIn rel p (memories_of (s ∷ ss)) i x ⊎ PredictedAtIn rel p (memories_of others) i x
     go (inl k) = inl (inr k)
     go (inr k) = inr k
 
@@ -72,4 +84,26 @@ module _ (sharp : (e : Environment) → IsPartitioned e → LoweredSharpOver (en
             (listed ++ others) levels study same_sequence tests_sequences;
         shared_ended = λ apart end same tests. shared_told v AnyHistory history_made q o t (seen_to_end v (order_of q) (labels_of q) (lowered q).instrs o t)
             ((ending e own q is_typed).shared o low' end t some) apart (listed ++ others) levels study same tests;
+      }
+
+module _ (owning : (e : Environment) → IsPartitioned e → LoweredOwnOver (environment e) AnyHistory) where
+  pub all_bound_others_own : AllBoundOthersOwn
+  all_bound_others_own e t own some words p q o s ss r firsts spelled types low is listed others are =
+      let v = environment e q.program.order in
+      let is_typed = typed_with words p q spelled types in
+      let low' = below p q o types low in
+      let all = s ∷ ss in
+      let known = study_listed v AnyHistory history_made q o t all r firsts is listed in
+      let study : OwnStudy v AnyHistory history_made q o t (all ++ others) firsts = record {
+        agree = are.agree;
+        halted = each_both history_made q.program.order _ all others known.halted (all_halt v history_made q t others are.halt);
+        size = known.size;
+        begun = known.begun;
+        least = λ l i x lt k. either (known.least l i x lt) (are.predict l i x lt) (placed_either _ (plan_of q.program) all others i x k);
+      } in
+      record {
+        few = λ apart. own_told v AnyHistory history_made q o t (sequence_from v q o t) ((owning e own q is_typed).few o low' t some) apart
+            (all ++ others) firsts study same_sequence tests_sequences;
+        ended = λ apart end same tests. own_told v AnyHistory history_made q o t (seen_to_end v (order_of q) (labels_of q) (lowered q).instrs o t)
+            ((owning e own q is_typed).ended o low' end t some) apart (all ++ others) firsts study same tests;
       }

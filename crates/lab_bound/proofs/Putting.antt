@@ -1,7 +1,7 @@
 -- Lines, one after another.
 use Rattle.std.proofs.Common.{◌≡◌, ◌<◌, ◌≤◌, ◌^◌, ℕ, ◌+◌, List, [], ◌∷◌, ◌++◌, length, append_assoc, append-nil, refl, sym, ap, ◌∙◌, subst, drop, drop-cons}
 use Rattle.std.proofs.Common.{add-one, Option, Some, codes, inl, inr}
-use Rattle.std.specs.Prelude.{cond}
+use Rattle.std.specs.Prelude.{cond, ℤ}
 use Rattle.std.proofs.lemmas.List.{drop_all}
 use Rattle.label_lattice.specs.Order.{Order, lattice_of}
 use Rattle.sharp_count.specs.declared.count.LevelRuns.{LevelRuns}
@@ -9,7 +9,9 @@ use Rattle.sharp_count.specs.Count.{fitting}
 use Rattle.sharp_count.specs.Levels.{told_of}
 use Rattle.sharp_count.specs.Shared.{shared_of}
 use Rattle.timing_types.specs.Labelled.{LabelledProgram}
-use Rattle.lab_bound.specs.Text.{level_line, level_lines, number_text, shared_line, IsSharpText, SharpPut, BoundPut, SharedPut, AreApart, sharp_of}
+use Rattle.own_firsts.specs.Count.{own_of}
+use Rattle.level_counts.specs.Listed.{AreListed}
+use Rattle.lab_bound.specs.Text.{level_line, level_lines, number_text, shared_line, own_line, IsSharpText, IsOwnText, SharpPut, BoundPut, SharedPut, TextPut, AreApart, sharp_of}
 
 -- the lines of the levels before the i-th stand after a text
 pub record LevelsPut (order : Order) (o t : ℕ) (levels : List LevelRuns) (old : List ℕ) (i : ℕ) (now : List ℕ) : Type 0 where
@@ -70,3 +72,11 @@ shared_put q o t levels old new count apart e is = (shared_line count, inl (apar
 
 pub nothing_put : (q : LabelledProgram) (o t : ℕ) (levels : List LevelRuns) (old : List ℕ) → (AreApart q o → ⊥) → SharedPut q o t levels old old
 nothing_put q o t levels old none = ([], inr (none, refl), sym (append-nil old))
+
+-- the line of the count by own first predictions, or none
+pub own_put : (q : LabelledProgram) (o t : ℕ) (ms : List (List ℤ)) (old new : List ℕ) → AreApart q o →
+    (firsts : List (List ℕ)) × AreListed q o ms firsts × (new ≡ old ++ own_line (fitting (own_of t firsts))) → TextPut (IsOwnText q o t ms) old new
+own_put q o t ms old new apart h = (own_line (fitting (own_of t h.0)), inl (apart, h.0, h.1, refl), h.2)
+
+pub no_own_put : (q : LabelledProgram) (o t : ℕ) (ms : List (List ℤ)) (old : List ℕ) → (AreApart q o → ⊥) → TextPut (IsOwnText q o t ms) old old
+no_own_put q o t ms old none = ([], inr (none, refl), sym (append-nil old))

@@ -21,16 +21,17 @@ use Rattle.tool_stages.specs.Envs.{hardware_of, ReportsIn}
 use Rattle.machine_stage.specs.Lines.{machine_head, no_bound_line}
 use Rattle.lab_texts.specs.InLab.{InLab}
 use Rattle.audit_stage.specs.Audited.{AuditStops}
-use Rattle.lab_bound.specs.Text.{IsBoundText, IsSharedText, IsEndText}
+use Rattle.lab_bound.specs.Text.{IsBoundText, IsSharedText, IsOwnText, IsEndText}
 
 -- On a machine with partitions: the lines of the audit's report, then what is told of the levels and the sharp count, then the
--- count by shared time, and then whether the end is counted.
+-- count by shared time and the one by own first predictions, and then whether the end is counted.
 abbrev pub HasCounts : LabelledProgram → Label → ℕ → List StartValue → AuditReport → List ℕ → Type 0
 HasCounts q l t ss r x =
     (levels : List LevelRuns) × AreTold q l.number (memories_of ss) levels
     × (rest : List ℕ) × IsBoundText q.program.order l.number t levels rest
     × (line : List ℕ) × IsSharedText q l.number t levels line
-    × (last : List ℕ) × IsEndText q l.number last × (x ≡ ((audit_lines q.program.order l t r ++ rest) ++ line) ++ last)
+    × (own : List ℕ) × IsOwnText q l.number t (memories_of ss) own
+    × (last : List ℕ) × IsEndText q l.number last × (x ≡ (((audit_lines q.program.order l t r ++ rest) ++ line) ++ own) ++ last)
 
 -- how it begins where all labels share the banks: the runs, the observer and the budget
 abbrev pub shown_head : Order → Label → ℕ → AuditReport → List ℕ

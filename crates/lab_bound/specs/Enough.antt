@@ -1,4 +1,4 @@
--- What the sharp count bounds, and the count by shared time.
+-- What the sharp count bounds, and the counts by shared time and by own first predictions.
 use Rattle.std.specs.Prelude.{◌≡◌, ◌≤◌, ◌<◌, ◌^◌, ℕ, List, Bool, Some}
 use Rattle.mit_syntax.specs.Program.{Syntax, plan_of}
 use Rattle.mit_parser.specs.Words.{Told}
@@ -16,11 +16,13 @@ use Rattle.sharp_bound.specs.Sharp.{BeginsEach}
 use Rattle.sharp_bound.specs.End.{seen_to_end}
 use Rattle.sharp_bound.specs.Guess.{FewShown}
 use Rattle.history_bound.specs.Over.{history_made}
+use Rattle.own_firsts.specs.Count.{own_of}
 use Rattle.leak_audit.specs.Agreement.{starts_of}
 use Rattle.leak_audit.specs.Sequences.{same_sequence}
 use Rattle.leak_audit.specs.Surveyed.{sequence_from}
 use Rattle.leak_audit.specs.declared.report.AuditReport.{AuditReport}
 use Rattle.level_counts.specs.Begun.{AreTold, memories_of}
+use Rattle.level_counts.specs.Listed.{AreListed}
 use Rattle.tool_stages.specs.declared.envs.Environment.{Environment}
 use Rattle.tool_stages.specs.Stages.{Types}
 use Rattle.tool_stages.specs.Envs.{IsPartitioned, environment, ReportsIn}
@@ -48,6 +50,11 @@ pub record Bounds (e : Environment) (q : LabelledProgram) (o t : ℕ) (ss : List
   pub shared : AreApart q o → FewIn e q o t ss (shared_of t levels)
   pub shared_ended : AreApart q o → CountsEnd q o → FewToEndIn e q o t ss (shared_of t levels)
 
+-- so does the count by own first predictions, where these are listed and it is told
+pub record BoundsOwn (e : Environment) (q : LabelledProgram) (o t : ℕ) (ss : List StartValue) (firsts : List (List ℕ)) : Type 0 where
+  pub few : AreApart q o → FewIn e q o t ss (own_of t firsts)
+  pub ended : AreApart q o → CountsEnd q o → FewToEndIn e q o t ss (own_of t firsts)
+
 -- of runs of which there is a report, and of whose levels this is told
 pub record IsEnough (e : Environment) (q : LabelledProgram) (o t : ℕ) (ss : List StartValue) (r : AuditReport) (levels : List LevelRuns) : Type 0 where
   -- each run, not the first alone, begins as many relevant mitigations of each level as are told
@@ -58,6 +65,8 @@ pub record IsEnough (e : Environment) (q : LabelledProgram) (o t : ℕ) (ss : Li
   pub counted : (n : ℕ) → fitting (sharp_of t levels) ≡ Some n → r.measures.distinct ≤ n
   -- the count by shared time is at most the sharp count
   pub shared_within : shared_of t levels ≤ sharp_of t levels
+  -- and what is listed of the runs gives a count by own first predictions that bounds them, and is at most the sharp count
+  pub own : (firsts : List (List ℕ)) → AreListed q o (memories_of ss) firsts → BoundsOwn e q o t ss firsts × (own_of t firsts ≤ sharp_of t levels)
   -- the sharp count is at most the bound of the report
   pub within : sharp_of t levels ≤ r.measures.base ^ r.measures.exponent
 

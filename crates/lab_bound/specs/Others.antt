@@ -9,12 +9,14 @@ use Rattle.sharp_count.specs.declared.count.LevelRuns.{LevelRuns}
 use Rattle.sharp_count.specs.Levels.{told_of}
 use Rattle.sharp_bound.specs.Sharp.{relevant_at}
 use Rattle.leak_audit.specs.declared.report.AuditReport.{AuditReport}
+use Rattle.own_firsts.specs.Count.{many_at, first_at}
 use Rattle.level_counts.specs.Begun.{AreTold, PredictedIn, memories_of}
+use Rattle.level_counts.specs.Listed.{PredictedAtIn, AreListed}
 use Rattle.tool_stages.specs.declared.envs.Environment.{Environment}
 use Rattle.tool_stages.specs.Stages.{Types}
 use Rattle.tool_stages.specs.Envs.{IsPartitioned, ReportsIn}
 use Rattle.tool_stages.specs.Goes.{AgreeIn, HaltsBy}
-use Rattle.lab_bound.specs.Enough.{Bounds}
+use Rattle.lab_bound.specs.Enough.{Bounds, BoundsOwn}
 
 -- Other starts: with the listed ones they agree pairwise for the observer, they halt by T, and of each level no relevant
 -- mitigation that they begin has a first prediction below the least one that is told.
@@ -36,3 +38,21 @@ BoundOthers e t = IsPartitioned e → 0 < t →
 
 abbrev pub AllBoundOthers : Type 0
 AllBoundOthers = (e : Environment) (t : ℕ) → BoundOthers e t
+
+-- The same by own first predictions: of each level none at a place that is listed is below the one at that place.
+pub record AreOthersBy (e : Environment) (q : LabelledProgram) (o t : ℕ) (ss : List StartValue) (firsts : List (List ℕ))
+    (others : List StartValue) : Type 0 where
+  pub agree : AgreeIn e q o (ss ++ others)
+  pub halt : All (HaltsBy e t q) others
+  pub predict : (l i x : ℕ) → i < many_at firsts l → PredictedAtIn (relevant_at (order_of q) (labels_of q) (levels_of q) o (plan_of q.program) l)
+      (plan_of q.program) (memories_of others) i x → first_at firsts l i ≤ x
+
+abbrev pub BoundOthersOwn : Environment → ℕ → Type 0
+BoundOthersOwn e t = IsPartitioned e → 0 < t →
+    (words : List Told) (p : Syntax) (q : LabelledProgram) (o : ℕ) (s : StartValue) (ss : List StartValue) (r : AuditReport) (firsts : List (List ℕ))
+    → IsProgram words p → Types p q → o < p.order.size →
+    ReportsIn e q o t (s ∷ ss) r → AreListed q o (memories_of (s ∷ ss)) firsts →
+    (others : List StartValue) → AreOthersBy e q o t (s ∷ ss) firsts others → BoundsOwn e q o t ((s ∷ ss) ++ others) firsts
+
+abbrev pub AllBoundOthersOwn : Type 0
+AllBoundOthersOwn = (e : Environment) (t : ℕ) → BoundOthersOwn e t

@@ -1,6 +1,6 @@
--- The lines that stand after those of an audit: what is told of each level, the sharp count, the count by shared time, and
--- whether the end is counted.
-use Rattle.std.specs.Prelude.{◌≡◌, ◌⊎◌, ◌≤◌, ◌+◌, ◌^◌, ℕ, List, [], ◌∷◌, ◌++◌, length, Option, Some, None, cond, eqb, codes, decimal}
+-- The lines that stand after those of an audit: what is told of each level, the sharp count, the count by shared time, the
+-- count by own first predictions, and whether the end is counted.
+use Rattle.std.specs.Prelude.{◌≡◌, ◌⊎◌, ◌≤◌, ◌+◌, ◌^◌, ℕ, List, [], ◌∷◌, ◌++◌, length, Option, Some, None, cond, eqb, codes, decimal, ℤ}
 use Rattle.label_lattice.specs.Order.{Order, lattice_of, name_of}
 use Rattle.mit_syntax.specs.Program.{plan_of}
 use Rattle.mit_syntax.specs.Todo.{commands_of}
@@ -13,6 +13,8 @@ use Rattle.sharp_count.specs.Levels.{miss_counts, counts_of, values_of}
 use Rattle.sharp_count.specs.Shared.{shared_of}
 use Rattle.sharp_bound.specs.End.{EndsLow}
 use Rattle.sharp_bound.specs.Shared.{StandApart}
+use Rattle.own_firsts.specs.Count.{own_of}
+use Rattle.level_counts.specs.Listed.{AreListed}
 
 -- ` first E digits B`, where runs begin mitigations of the level
 abbrev pub firsts_text : ℕ → LevelRuns → List ℕ
@@ -64,6 +66,18 @@ shared_line (Some n) = number_text (codes "shared ") n ++ codes "\n"
 abbrev pub IsSharedText : LabelledProgram → ℕ → ℕ → List LevelRuns → List ℕ → Type 0
 IsSharedText q o t levels x =
     (AreApart q o × (x ≡ shared_line (fitting (shared_of t levels))))
+    ⊎ ((AreApart q o → ⊥) × (x ≡ []))
+
+-- `own N`; N is told where it is below 2^128
+abbrev pub own_line : Option ℕ → List ℕ
+own_line None = codes "own 2^128 or more\n"
+own_line (Some n) = number_text (codes "own ") n ++ codes "\n"
+
+-- the count by own first predictions of runs from these memories that halt by T, where mitigates stand apart, and nothing where
+-- they don't
+abbrev pub IsOwnText : LabelledProgram → ℕ → ℕ → List (List ℤ) → List ℕ → Type 0
+IsOwnText q o t ms x =
+    (AreApart q o × (firsts : List (List ℕ)) × AreListed q o ms firsts × (x ≡ own_line (fitting (own_of t firsts))))
     ⊎ ((AreApart q o → ⊥) × (x ≡ []))
 
 -- The program can be typed with an end label that flows to the observer. A loop can be given more than one end label, and

@@ -2,7 +2,7 @@
 
 ghost use Rattle.std.specs.Prelude.{◌≡◌, ◌≤◌, ◌<◌, ◌+◌, ◌++◌, [], length, codes, decimal, cond, OnOk};
 ghost use Rattle.label_lattice.specs.Order.{lattice_of};
-ghost use Rattle.lab_bound.specs.Text.{level_line, level_lines, firsts_text, number_text, shared_line, SharpPut};
+ghost use Rattle.lab_bound.specs.Text.{level_line, level_lines, firsts_text, number_text, shared_line, own_line, SharpPut};
 
 use label_lattice::label::Label;
 use label_lattice::lattice::Lattice;
@@ -129,4 +129,17 @@ pub fn put_shared_line(text: &mut Vec<u8>, count: Option<u128>) -> Result<(), Al
         return text.extend_from_slice(b"shared 2^128 or more\n");
     };
     put_count(text, b"shared ", count, b"\n")
+}
+
+/// Appends the line of a count by own first predictions, which may be too large to be told.
+///
+/// # Errors
+/// `AllocError` where memory runs out.
+pub fn put_own_line(text: &mut Vec<u8>, count: Option<u128>) -> Result<(), AllocError>
+    ensures { OnOk result (text.new.items ≡ text.old.items ++ own_line count) }
+{
+    let Some(count) = count else {
+        return text.extend_from_slice(b"own 2^128 or more\n");
+    };
+    put_count(text, b"own ", count, b"\n")
 }

@@ -16,6 +16,7 @@ ghost use Rattle.lab_bound.specs.Answer.{HasBound, HasCounts, TellsBy, Bounds};
 
 use crate::end::put_end;
 use crate::lines::{put_levels, put_sharp};
+use crate::own::put_own;
 use crate::shared::put_shared;
 use crate::shown::put_shown;
 use audit_stage::audited::audited;
@@ -72,6 +73,7 @@ fn put_counts(
     put_audit(text, order, observer, budget, report)?;
     put_bound(text, order, observer, budget, &levels)?;
     put_shared(alloc, text, typed, observer, budget, &levels)?;
+    put_own(alloc, text, typed, starts, observer, budget)?;
     put_end(text, typed, observer)?;
     Ok(())
 }

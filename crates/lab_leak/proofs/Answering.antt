@@ -25,7 +25,7 @@ use Rattle.tool_stages.proofs.ChainLemmas.{prepared_done, prepares_no_fault}
 use Rattle.audit_stage.specs.Audited.{AuditStops}
 use Rattle.audit_stage.proofs.Once.{audit_goes}
 use Rattle.machine_stage.specs.Lines.{machine_head}
-use Rattle.lab_bound.specs.Text.{sharp_of, SharedPut, IsSharedText, TextPut}
+use Rattle.lab_bound.specs.Text.{sharp_of, SharedPut, IsSharedText, IsOwnText, TextPut}
 use Rattle.lab_leak.specs.Answer.{HasLeak, Leaks, IsLeakAnswer, sequences_in}
 use Rattle.lab_leak.specs.declared.sizes.ClassSizes.{ClassSizes}
 use Rattle.lab_leak.specs.Classes.{AreSizes, classes_of_runs, sizes_of}
@@ -38,23 +38,26 @@ leak_next e t p q o code ss = HasLeak e t q o ss
 
 -- the first lines on a machine with partitions
 pub counts_put : (t : ℕ) (q : LabelledProgram) (l : Label) (xs ss : List StartValue) (r : AuditReport) (levels found : List LevelRuns) (order : Order)
-    (count : Option ℕ) (old head new : List ℕ) → xs ≡ ss → AreTold q l.number (memories_of xs) levels → order ≡ q.program.order → found ≡ levels
-    → count ≡ fitting (sharp_of t found) → head ≡ old ++ head_lines order l t r count → SharedPut q l.number t found head new
-    → TextPut (HasCounts q l t ss r) old new
-counts_put t q l xs ss r levels found order count old head new same told is e counted first put =
+    (count : Option ℕ) (old head x new : List ℕ) → xs ≡ ss → AreTold q l.number (memories_of xs) levels → order ≡ q.program.order → found ≡ levels
+    → count ≡ fitting (sharp_of t found) → head ≡ old ++ head_lines order l t r count → SharedPut q l.number t found head x
+    → TextPut (IsOwnText q l.number t (memories_of xs)) x new → TextPut (HasCounts q l t ss r) old new
+counts_put t q l xs ss r levels found order count old head x new same told is e counted first put own =
     let top = head_lines q.program.order l t r (fitting (sharp_of t levels)) in
     let there : head ≡ old ++ top =
     first ∙ ap (λ (z : Order). old ++ head_lines z l t r count) is
-    ∙ ap (λ z. old ++ head_lines q.program.order l t r z) (counted ∙ ap (λ z. fitting (sharp_of t z)) e) in (
-      top ++ put.0,
+    ∙ ap (λ z. old ++ head_lines q.program.order l t r z) (counted ∙ ap (λ z. fitting (sharp_of t z)) e) in
+    let line : x ≡ old ++ (top ++ put.0) = put.2 ∙ ap (λ z. z ++ put.0) there ∙ append_assoc old top put.0 in (
+      (top ++ put.0) ++ own.0,
       (
         levels,
         subst (λ (z : List StartValue). AreTold q l.number (memories_of z) levels) same told,
         put.0,
         subst (λ (z : List LevelRuns). IsSharedText q l.number t z put.0) e put.1,
+        own.0,
+        subst (λ (z : List StartValue). IsOwnText q l.number t (memories_of z) own.0) same own.1,
         refl,
       ),
-      put.2 ∙ ap (λ z. z ++ put.0) there ∙ append_assoc old top put.0,
+      own.2 ∙ ap (λ z. z ++ own.0) line ∙ append_assoc old (top ++ put.0) own.0,
     )
 
 -- the lines one after another

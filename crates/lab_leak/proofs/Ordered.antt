@@ -1,4 +1,4 @@
--- The number of classes, the count by shared time, the sharp count and the bound.
+-- The number of classes, the counts by shared time and by own first predictions, the sharp count and the bound.
 use Rattle.std.proofs.Common.{arith}
 use Rattle.lab_bound.specs.Enough.{AllAreEnough}
 use Rattle.lab_leak.specs.Answer.{sequences_in}
@@ -16,5 +16,8 @@ all_ordered enough e t own some words p q o ss r levels spelled types low is tol
       sharp = omega (arith, distinct, few);
       shared = λ apart. let less = (h.bounds.shared apart).count in omega (arith, distinct, less);
       within = h.shared_within;
+      own = λ firsts are.
+          let each = h.own firsts are in
+          ((λ apart. let less = (each.0.few apart).count in omega (arith, distinct, less)), each.1);
       bound = h.within;
     }

@@ -25,7 +25,7 @@ use Rattle.machine_stage.specs.Lines.{machine_head, no_bound_line}
 use Rattle.lab_texts.proofs.LabLemmas.{one_in_lab}
 use Rattle.audit_stage.proofs.Once.{audit_stops, one_audit_stop, same_report, not_fault}
 use Rattle.lab_bound.specs.Text.{sharp_of}
-use Rattle.lab_bound.proofs.Single.{one_told, one_shared, same_shown_head}
+use Rattle.lab_bound.proofs.Single.{one_told, one_shared, one_own, same_shown_head}
 use Rattle.lab_leak.specs.Answer.{HasLeak, Leaks, sequences_in}
 use Rattle.lab_leak.specs.Classes.{classes_of_runs, sizes_of}
 use Rattle.lab_leak.specs.Complete.{HasOneLeak}
@@ -47,9 +47,11 @@ one_counts : (q : LabelledProgram) (l : Label) (t : ℕ) (ss : List StartValue) 
 one_counts q l t ss r s x y same h k =
     let levels = one_told q l.number (memories_of ss) h.0 k.0 h.1 k.1 in
     let line : h.2 ≡ k.2 = one_shared q l.number t h.0 k.0 h.2 k.2 levels h.3 k.3 in
-    h.4 ∙ ap (λ z. z ++ h.2) (same_head q l t r s (fitting (sharp_of t h.0)) same)
-    ∙ ap (λ z. head_lines q.program.order l t s (fitting (sharp_of t z)) ++ h.2) levels
-    ∙ ap (λ z. head_lines q.program.order l t s (fitting (sharp_of t k.0)) ++ z) line ∙ sym k.4
+    let own : h.4 ≡ k.4 = one_own q l.number t (memories_of ss) h.4 k.4 h.5 k.5 in
+    h.6 ∙ ap (λ z. (z ++ h.2) ++ h.4) (same_head q l t r s (fitting (sharp_of t h.0)) same)
+    ∙ ap (λ z. (head_lines q.program.order l t s (fitting (sharp_of t z)) ++ h.2) ++ h.4) levels
+    ∙ ap (λ z. (head_lines q.program.order l t s (fitting (sharp_of t k.0)) ++ z) ++ h.4) line
+    ∙ ap (λ z. (head_lines q.program.order l t s (fitting (sharp_of t k.0)) ++ k.2) ++ z) own ∙ sym k.6
 
 one_top : (sharing : Sharing) (q : LabelledProgram) (l : Label) (t : ℕ) (ss : List StartValue) (r s : AuditReport) (x y : List ℕ) → SameReport r s
     → TopBy sharing q l t ss r x → TopBy sharing q l t ss s y → x ≡ y

@@ -7,8 +7,10 @@ use Rattle.timing_types.specs.Labelled.{LabelledProgram}
 use Rattle.start_file.specs.Starts.{StartValue}
 use Rattle.sharp_count.specs.declared.count.LevelRuns.{LevelRuns}
 use Rattle.sharp_count.specs.Shared.{shared_of}
+use Rattle.own_firsts.specs.Count.{own_of}
 use Rattle.leak_audit.specs.declared.report.AuditReport.{AuditReport}
 use Rattle.level_counts.specs.Begun.{AreTold, memories_of}
+use Rattle.level_counts.specs.Listed.{AreListed}
 use Rattle.tool_stages.specs.declared.envs.Environment.{Environment}
 use Rattle.tool_stages.specs.Stages.{Types}
 use Rattle.tool_stages.specs.Envs.{IsPartitioned, ReportsIn}
@@ -26,7 +28,10 @@ pub record AreOrdered (e : Environment) (q : LabelledProgram) (o t : ℕ) (ss : 
   pub shared : AreApart q o → length (classes_of_runs (sequences_in e t q o ss)).seen ≤ shared_of t levels
   -- which is at most the sharp count
   pub within : shared_of t levels ≤ sharp_of t levels
-  -- and that is at most the bound
+  -- so it is with the count by own first predictions
+  pub own : (firsts : List (List ℕ)) → AreListed q o (memories_of ss) firsts →
+      (AreApart q o → length (classes_of_runs (sequences_in e t q o ss)).seen ≤ own_of t firsts) × (own_of t firsts ≤ sharp_of t levels)
+  -- and the sharp count is at most the bound
   pub bound : sharp_of t levels ≤ r.measures.base ^ r.measures.exponent
 
 -- so it is on a machine with partitions of each program that words spell, with its least labelling, up to each T of at

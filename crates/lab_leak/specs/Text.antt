@@ -13,7 +13,7 @@ use Rattle.leak_classes.specs.Classes.{Classes}
 use Rattle.leak_numbers.specs.Numbers.{AreNumbers}
 use Rattle.tool_texts.specs.Texts.{number_line}
 use Rattle.tool_texts.specs.Reports.{label_line, bound_line}
-use Rattle.lab_bound.specs.Text.{sharp_of, IsSharedText}
+use Rattle.lab_bound.specs.Text.{sharp_of, IsSharedText, IsOwnText}
 use Rattle.lab_bound.specs.Answer.{shown_head}
 use Rattle.part_tlb.specs.declared.bank.Sharing.{Sharing}
 use Rattle.part_tlb.specs.declared.bank.Sharing.TheVariants.{Partitioned, Shared}
@@ -45,12 +45,13 @@ abbrev pub class_lines : List Declaration → List (List Event × ℕ) → List 
 class_lines ds (c ∷ cs) (f ∷ fs) = class_line ds c.0 c.1 f ++ class_lines ds cs fs
 class_lines ds _ _ = []
 
--- On a machine with partitions: the first lines, of an audit's report and what is told of the levels. The line of the count by
--- shared time, if there is one, stands below that of the sharp count.
+-- On a machine with partitions: the first lines, of an audit's report and what is told of the levels. The lines of the counts
+-- by shared time and by own first predictions, if there are any, stand below that of the sharp count.
 abbrev pub HasCounts : LabelledProgram → Label → ℕ → List StartValue → AuditReport → List ℕ → Type 0
 HasCounts q l t ss r x =
     (levels : List LevelRuns) × AreTold q l.number (memories_of ss) levels
-    × (line : List ℕ) × IsSharedText q l.number t levels line × (x ≡ head_lines q.program.order l t r (fitting (sharp_of t levels)) ++ line)
+    × (line : List ℕ) × IsSharedText q l.number t levels line
+    × (own : List ℕ) × IsOwnText q l.number t (memories_of ss) own × (x ≡ (head_lines q.program.order l t r (fitting (sharp_of t levels)) ++ line) ++ own)
 
 -- where all labels share the banks: that no bound is told
 abbrev pub shown_lines : Order → Label → ℕ → AuditReport → List ℕ

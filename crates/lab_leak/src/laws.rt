@@ -14,8 +14,8 @@ pub fn classes_are_tallied()
 {}
 
 /// A law: of what is told of runs on a machine with partitions, the number of classes is at most the sharp count, and that is
-/// at most the bound. Where relevant mitigates stand apart, it is at most the count by shared time, which is no greater than
-/// the sharp count.
+/// at most the bound. Where relevant mitigates stand apart, it is at most the count by shared time, and the one by own first
+/// predictions, which are no greater than the sharp count.
 pub fn numbers_are_ordered()
     ensures { AllAreOrdered }
 {

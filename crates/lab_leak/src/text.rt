@@ -20,6 +20,7 @@ use crate::head::{put_head, put_shown};
 use crate::lines::with_classes;
 use crate::sizes::sizes;
 use audit_stage::audited::audited;
+use lab_bound::own::put_own;
 use lab_bound::shared::put_shared;
 use leak_audit::report::AuditReport;
 use leak_numbers::numbers::put_numbers;
@@ -57,6 +58,7 @@ fn put_counts(
     let count = sharp_count(Runs::Halted, &levels, budget);
     put_head(text, order, observer, budget, report, count)?;
     put_shared(alloc, text, typed, observer, budget, &levels)?;
+    put_own(alloc, text, typed, starts, observer, budget)?;
     Ok(())
 }
 

@@ -28,7 +28,8 @@ use Rattle.sharp_count.specs.Levels.{told_of, counts_of}
 use Rattle.sharp_bound.specs.Sharp.{relevant_at}
 use Rattle.level_counts.specs.Estimates.{estimates_of}
 use Rattle.level_counts.specs.Begun.{begins_next, begins_after, PredictedIn, IsLeast, AreTold}
-use Rattle.level_counts.specs.Noted.{lesser, with_one, noted_at, noted, stored}
+use Rattle.level_counts.specs.declared.note.Mitigation.{Mitigation}
+use Rattle.level_counts.specs.Noted.{lesser, with_one, begun_at, with_begun, noted, stored}
 use Rattle.level_counts.proofs.Table.{Tells, tells_first, tells_act}
 use Rattle.level_counts.proofs.Steps.{Quiet, Begins, does, memory_after, some_prediction}
 use Rattle.level_counts.proofs.Leasts.{least_same, least_one, least_both}
@@ -190,6 +191,10 @@ pub record Going (rel : ℕ → Bool) (ls : ℕ → ℕ) (s : Syntax) (m : List 
   pub size : length levels ≡ s.order.size
   pub counted : Counted rel ls (plan_of s) m n levels
 
+counted_if : (b : Bool) (x : Mitigation) (levels : List LevelRuns) → with_begun (cond b (Some x) None) levels ≡ cond b (with_begun (Some x) levels) levels
+counted_if true x levels = refl
+counted_if false x levels = refl
+
 length_stored : (walk : Walk) (m : List ℤ) → length (stored walk m) ≡ length m
 length_stored (DidAssign x n) m = length-set m x n
 length_stored (Began k) m = refl
@@ -234,13 +239,13 @@ module _ (rel : ℕ → Bool) (ls : ℕ → ℕ) (s : Syntax) (m : List ℤ) whe
     memory_here : (source_steps n (source_start p m)).memory ≡ walker.memory
     memory_here = ap (λ σ. σ.memory) h.stands
 
-    after_here : (o : Option (ℕ × ℕ)) → begins_next (todo_of walker.lists) walker.memory ≡ o → begins_after p m n ≡ o
+    pub after_here : (o : Option (ℕ × ℕ)) → begins_next (todo_of walker.lists) walker.memory ≡ o → begins_after p m n ≡ o
     after_here o e = ap (λ z. begins_next z (source_steps n (source_start p m)).memory) todo_here ∙ ap (begins_next (todo_of walker.lists)) memory_here ∙ e
 
-    marks_more : (ks : List ℕ) → started_in (told_by walk) ≡ ks → marks_of p m (n + 1) ≡ marks_of p m n ++ ks
+    pub marks_more : (ks : List ℕ) → started_in (told_by walk) ≡ ks → marks_of p m (n + 1) ≡ marks_of p m n ++ ks
     marks_more ks e = ap (λ σ. started_in σ.notes) goes_on ∙ started_append (notes_of p m n) (told_by walk) ∙ ap (λ z. marks_of p m n ++ z) e
 
-    marks_same : started_in (told_by walk) ≡ [] → marks_of p m (n + 1) ≡ marks_of p m n
+    pub marks_same : started_in (told_by walk) ≡ [] → marks_of p m (n + 1) ≡ marks_of p m n
     marks_same e = marks_more [] e ∙ append-nil (marks_of p m n)
 
     levels_after : List LevelRuns
@@ -248,7 +253,7 @@ module _ (rel : ℕ → Bool) (ls : ℕ → ℕ) (s : Syntax) (m : List ℤ) whe
 
     counted_quiet : Quiet rel ls (estimates_of p) (todo_of walker.lists) walker.memory walk
         → Counted rel ls p m (n + 1) (noted rel ls (estimates_of p) walk walker.memory levels)
-    counted_quiet q = subst (Counted rel ls p m (n + 1)) (sym (q.same levels))
+    counted_quiet q = subst (Counted rel ls p m (n + 1)) (sym (ap (λ z. with_begun z levels) q.none))
         (quiet_next rel ls p m n levels h.counted (after_here None q.next) (marks_same q.marks))
 
     counted_begins : ((k : ℕ) → ls k < s.order.size) → Begins (estimates_of p) (todo_of walker.lists) walker.memory walk
@@ -262,17 +267,18 @@ module _ (rel : ℕ → Bool) (ls : ℕ → ℕ) (s : Syntax) (m : List ℤ) whe
         (marks_more (b.mark ∷ []) (ap (λ w. started_in (told_by w)) b.walk_is)) less in
         subst (Counted rel ls p m (n + 1))
         (sym (ap (λ w. noted rel ls (estimates_of p) w walker.memory levels) b.walk_is
-        ∙ ap (λ o. cond (rel b.mark) (noted_at (ls b.mark) o walker.memory levels) levels) b.told)) c
+        ∙ ap (λ o. with_begun (cond (rel b.mark) (begun_at (ls b.mark) o walker.memory) None) levels) b.told
+        ∙ counted_if (rel b.mark) (record { level = ls b.mark; first = x }) levels)) c
 
     length_noted : (w : Walk) (es : List Expression) → length (noted rel ls es w walker.memory levels) ≡ length levels
     length_noted (DidAssign x k) es = refl
     length_noted (Began k) es = both (rel k) (slice_get es k)
       where
-        at : (o : Option Expression) → length (noted_at (ls k) o walker.memory levels) ≡ length levels
+        at : (o : Option Expression) → length (with_begun (begun_at (ls k) o walker.memory) levels) ≡ length levels
         at None = refl
         at (Some e) = length-set levels (ls k) (with_one (told_of levels (ls k)) (prediction (value_of e walker.memory) 0))
 
-        both : (b : Bool) (o : Option Expression) → length (cond b (noted_at (ls k) o walker.memory levels) levels) ≡ length levels
+        both : (b : Bool) (o : Option Expression) → length (with_begun (cond b (begun_at (ls k) o walker.memory) None) levels) ≡ length levels
         both true o = at o
         both false o = refl
     length_noted Silent es = refl
@@ -309,7 +315,7 @@ module _ (q : LabelledProgram) (o : ℕ) (m : List ℤ) (n : ℕ) (ended : HasEn
   abbrev rel : ℕ → Bool
   rel = is_relevant (order_of q) (labels_of q) (levels_of q) o (plan_of q.program)
 
-  nothing_later : (i : ℕ) → n ≤ i → begins_after (plan_of q.program) m i ≡ None
+  pub nothing_later : (i : ℕ) → n ≤ i → begins_after (plan_of q.program) m i ≡ None
   nothing_later i le =
       let stay = steps_stay n (i - n) (source_start (plan_of q.program) m) ended in
       let e : n + (i - n) ≡ i = omega (arith, le) in

@@ -3,6 +3,9 @@ pub mod Table
 pub mod Steps
 pub mod Leasts
 pub mod Going
+pub mod Listing
+pub mod ListLemmas
+pub mod Merging
 pub mod Taking
 pub mod NoteLemmas
 pub mod Walking

@@ -1,5 +1,5 @@
 -- What is noted at a step.
-use Rattle.std.proofs.Common.{◌≡◌, ◌<◌, ℕ, sym, ap, ◌∙◌, subst, List, length, All, map, Some, get_or, arith}
+use Rattle.std.proofs.Common.{◌≡◌, ◌<◌, ℕ, sym, ap, ◌∙◌, subst, List, length, All, map, Some, None, get_or, arith}
 use Rattle.std.specs.Prelude.{ℤ, Bool, true, cond, slice_get, slice_set, option_map}
 use Rattle.std.proofs.lemmas.Option.{slice_get-map, slice_get-get_or}
 use Rattle.std.proofs.lemmas.List.{get_or-map, length-map}
@@ -10,7 +10,8 @@ use Rattle.source_meaning.specs.declared.walk.Walk.{Walk}
 use Rattle.source_meaning.specs.declared.walk.Walk.TheVariants.{Began}
 use Rattle.sharp_count.specs.declared.count.LevelRuns.{LevelRuns}
 use Rattle.sharp_count.specs.Levels.{told_of}
-use Rattle.level_counts.specs.Noted.{with_one, noted, noted_at}
+use Rattle.level_counts.specs.declared.note.Mitigation.{Mitigation}
+use Rattle.level_counts.specs.Noted.{begun, begun_at}
 
 -- what is true of all that a table gives is true of one
 pub in_table : {X : Type 0} (f : X → Expression) (xs : List X) (k : ℕ) (x : X) (P : Expression → Type 0) → All P (map f xs) → k < length xs
@@ -23,12 +24,13 @@ in_table f xs k x P h lt is =
 told_at : {X : Type 0} (f : X → Expression) (xs : List X) (k : ℕ) (x : X) → k < length xs → x ≡ get_or xs k x → slice_get (map f xs) k ≡ Some (f x)
 told_at f xs k x lt is = slice_get-map f xs k ∙ ap (λ o. option_map f o) (slice_get-get_or xs k x lt ∙ ap (λ z. Some z) (sym is))
 
-pub noted_is : {X : Type 0} (f : X → Expression) (rel : ℕ → Bool) (ls : ℕ → ℕ) (xs : List X) (k l : ℕ) (x : X) (walk : Walk) (m : List ℤ)
-    (levels new : List LevelRuns) (first : ℕ) →
+abbrev one : ℕ → ℕ → Mitigation
+one l x = record { level = l; first = x }
+
+pub begun_is : {X : Type 0} (f : X → Expression) (rel : ℕ → Bool) (ls : ℕ → ℕ) (xs : List X) (k l : ℕ) (x : X) (walk : Walk) (m : List ℤ) (first : ℕ) →
     walk ≡ Began k → rel k ≡ true → k < length xs → x ≡ get_or xs k x → l ≡ ls k → first ≡ prediction (value_of (f x) m) 0
-    → new ≡ slice_set levels l (with_one (told_of levels l) first) → new ≡ noted rel ls (map f xs) walk m levels
-noted_is f rel ls xs k l x walk m levels new first is yes' lt at level e n =
-    n ∙ ap (λ z. slice_set levels l (with_one (told_of levels l) z)) e
-    ∙ ap (λ z. slice_set levels z (with_one (told_of levels z) (prediction (value_of (f x) m) 0))) level
-    ∙ sym (ap (λ w. noted rel ls (map f xs) w m levels) is ∙ ap (λ b. cond b (noted_at (ls k) (slice_get (map f xs) k) m levels) levels) yes'
-    ∙ ap (λ o. noted_at (ls k) o m levels) (told_at f xs k x lt at))
+    → Some (one l first) ≡ begun rel ls (map f xs) walk m
+begun_is f rel ls xs k l x walk m first is yes' lt at level e =
+    ap (λ z. Some (one z first)) level ∙ ap (λ z. Some (one (ls k) z)) e
+    ∙ sym (ap (λ w. begun rel ls (map f xs) w m) is ∙ ap (λ b. cond b (begun_at (ls k) (slice_get (map f xs) k) m) None) yes'
+    ∙ ap (λ o. begun_at (ls k) o m) (told_at f xs k x lt at))

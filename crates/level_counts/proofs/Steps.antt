@@ -10,16 +10,15 @@ use Rattle.source_meaning.specs.declared.walk.Walk.{Walk}
 use Rattle.source_meaning.specs.declared.walk.Walk.TheVariants.{Assigned as DidAssign, Began, Silent, Ended}
 use Rattle.source_meaning.specs.Source.{Assigned, Started, source_act, started_in}
 use Rattle.source_meaning.specs.Walked.{Standing, told_by, source_at}
-use Rattle.sharp_count.specs.declared.count.LevelRuns.{LevelRuns}
 use Rattle.level_counts.specs.Begun.{begins_next}
-use Rattle.level_counts.specs.Noted.{noted, stored}
+use Rattle.level_counts.specs.Noted.{begun, stored}
 use Rattle.level_counts.proofs.Table.{Tells}
 
 -- nothing begins
 pub record Quiet (rel : ℕ → Bool) (ls : ℕ → ℕ) (es : List Expression) (p : Plan) (m : List ℤ) (walk : Walk) : Type 0 where
   pub next : begins_next p m ≡ None
   pub marks : started_in (told_by walk) ≡ []
-  pub same : (levels : List LevelRuns) → noted rel ls es walk m levels ≡ levels
+  pub none : begun rel ls es walk m ≡ None
 
 -- a mitigate begins
 pub record Begins (es : List Expression) (p : Plan) (m : List ℤ) (walk : Walk) : Type 0 where
@@ -33,11 +32,11 @@ module _ (rel : ℕ → Bool) (ls : ℕ → ℕ) (es : List Expression) (m : Lis
   silent : (p : Plan) (walk : Walk) → begins_next p m ≡ None → [] ≡ told_by walk → Quiet rel ls es p m walk
   silent p (DidAssign x n) h e = absurd (cc)
   silent p (Began k) h e = absurd (cc)
-  silent p Silent h e = record { next = h; marks = refl; same = λ levels. refl }
-  silent p Ended h e = record { next = h; marks = refl; same = λ levels. refl }
+  silent p Silent h e = record { next = h; marks = refl; none = refl }
+  silent p Ended h e = record { next = h; marks = refl; none = refl }
 
   assigns : (p : Plan) (walk : Walk) (x : ℕ) (n : ℤ) → begins_next p m ≡ None → Assigned x n ∷ [] ≡ told_by walk → Quiet rel ls es p m walk
-  assigns p (DidAssign y k) x n h e = record { next = h; marks = refl; same = λ levels. refl }
+  assigns p (DidAssign y k) x n h e = record { next = h; marks = refl; none = refl }
   assigns p (Began k) x n h e = absurd (cc)
   assigns p Silent x n h e = absurd (cc)
   assigns p Ended x n h e = absurd (cc)

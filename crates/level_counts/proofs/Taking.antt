@@ -105,7 +105,7 @@ module _ (q : LabelledProgram) (o : ℕ) where
 
 -- ---- the memories of starts
 
-memory_more : (starts : List Start) (i : ℕ) (x : Start) → i < length starts → x ≡ get_or starts i x
+pub memory_more : (starts : List Start) (i : ℕ) (x : Start) → i < length starts → x ≡ get_or starts i x
     → take (i + 1) (memories_of (map seen starts)) ≡ take i (memories_of (map seen starts)) ++ x.memory.items ∷ []
 memory_more starts i x lt is =
     take_more_at (memories_of (map seen starts)) i x.memory.items (omega (arith, lt, length-map (map seen starts) (λ s. s.memory), length-map starts seen))

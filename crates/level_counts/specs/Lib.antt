@@ -2,3 +2,4 @@ pub mod Apart
 pub mod Estimates
 pub mod Begun
 pub mod Noted
+pub mod Listed

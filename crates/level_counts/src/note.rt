@@ -1,6 +1,6 @@
 //! What a step adds to what is told of the levels.
 
-ghost use Rattle.std.specs.Prelude.{◌≡◌, ◌<◌, ◌≤◌, ◌+◌, ◌^◌, ℕ, All, length, map, slice_set, slice_index_or, Bool, false};
+ghost use Rattle.std.specs.Prelude.{◌≡◌, ◌<◌, ◌≤◌, ◌+◌, ◌^◌, ℕ, All, IfSome, length, map, slice_set, slice_index_or, Bool, false};
 ghost use Rattle.mit_syntax.specs.Expression.{expression_of};
 ghost use Rattle.mit_syntax.specs.Plan.{mitigates};
 ghost use Rattle.mit_syntax.specs.Program.{plan_of};
@@ -8,7 +8,7 @@ ghost use Rattle.doubling_schedule.specs.Doubling.{prediction};
 ghost use Rattle.timing_types.specs.Labelled.{levels_of};
 ghost use Rattle.source_meaning.specs.InRange.{IsIn};
 ghost use Rattle.sharp_count.specs.Levels.{told_of};
-ghost use Rattle.level_counts.specs.Noted.{lesser, with_one, with_first, noted, stored};
+ghost use Rattle.level_counts.specs.Noted.{lesser, with_one, with_first, begun, noted, stored};
 
 use mit_syntax::ast::Expr;
 use mit_syntax::declarations::MAX_CELLS;
@@ -50,8 +50,47 @@ fn count(levels: &mut Vec<LevelRuns>, level: usize, first: u64)
     };
 }
 
-/// Counts the mitigation that a step began, if it is relevant. By their marks it is told which mitigates are, and what
-/// their estimates are.
+/// A mitigation that a step began.
+#[derive(Clone, Copy, Debug, PartialEq, Eq)]
+pub struct Mitigation {
+    /// The number of its level.
+    pub level: usize,
+    /// Its first prediction.
+    pub first: u64,
+}
+
+/// The mitigation that a step began, if it is relevant. By their marks it is told which mitigates are, and what their estimates
+/// are.
+pub fn begun(
+    p: &Labelled,
+    relevant: &[bool],
+    estimates: &[&Expr],
+    walk: Walk,
+    memory: &[i64],
+) -> Option<Mitigation>
+    requires fit { length estimates.now ≡ mitigates (plan_of p.now.program) }
+    requires within { All (IsIn (length memory.now)) (map (λ e. expression_of e.now) estimates.now) }
+    requires few { length memory.now ≤ MAX_CELLS }
+    ensures is { result ≡ begun (λ k. slice_index_or relevant.now k false) (levels_of p.now) (map (λ e. expression_of e.now) estimates.now) walk memory.now }
+    ensures below { IfSome result (λ b. b.level < p.now.program.order.size) }
+{
+    let Walk::Began(mark) = walk else {
+        return None;
+    };
+    let k = mark as usize;
+    if !relevant.get(k).copied().unwrap_or(false) {
+        return None;
+    }
+    let Some(estimate) = estimates.get(k) else {
+        return None;
+    };
+    Some(Mitigation {
+        level: usize::from(p.level(mark).number),
+        first: first_prediction(value(estimate, memory)),
+    })
+}
+
+/// Counts the mitigation that a step began, if it is relevant.
 pub fn note(
     p: &Labelled,
     relevant: &[bool],
@@ -68,18 +107,9 @@ pub fn note(
     ensures { levels.new.items ≡ noted (λ k. slice_index_or relevant.now k false) (levels_of p.now) (map (λ e. expression_of e.now) estimates.now) walk
         memory.now levels.old.items }
 {
-    let Walk::Began(mark) = walk else {
-        return;
-    };
-    let k = mark as usize;
-    if !relevant.get(k).copied().unwrap_or(false) {
-        return;
+    if let Some(begun) = begun(p, relevant, estimates, walk, memory) {
+        count(levels, begun.level, begun.first);
     }
-    let Some(estimate) = estimates.get(k) else {
-        return;
-    };
-    let level = usize::from(p.level(mark).number);
-    count(levels, level, first_prediction(value(estimate, memory)));
 }
 
 /// Gives a variable that a step assigned its value.

@@ -3,7 +3,8 @@ mod Balance
 mod Spent
 mod Fits
 mod Choices
-mod Final
-mod Lowered
-mod Counted
+pub mod Final
+pub mod Lowered
+pub mod Counted
 mod Rows
+pub mod Listed

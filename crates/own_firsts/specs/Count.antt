@@ -1,5 +1,5 @@
 -- The count by own first predictions: level by level, how many lists of miss counts there are.
-use Rattle.std.specs.Prelude.{◌≡◌, ℕ, zero, suc, ◌+◌, ◌*◌, ◌<◌, ◌≤◌, List, length, ltb, cond}
+use Rattle.std.specs.Prelude.{◌≡◌, ℕ, zero, suc, ◌+◌, ◌*◌, ◌<◌, ◌≤◌, List, [], length, ltb, cond, slice_index_or}
 use Rattle.leak_bound.specs.Digits.{digits}
 use Rattle.sharp_count.specs.Count.{sharp}
 use Rattle.sharp_count.specs.Levels.{miss_counts}
@@ -22,6 +22,21 @@ own_by t firsts k = lists_below (λ i. miss_counts t (firsts i)) 0 (digits t) 0 
 abbrev pub own : ℕ → (ℕ → ℕ → ℕ) → ℕ → (ℕ → ℕ) → ℕ
 own t firsts zero counts = 1
 own t firsts (suc l) counts = own_by t (firsts l) (counts l) * own t firsts l counts
+
+-- where first predictions are listed, a list for each level: those of the level with a number
+abbrev pub firsts_at : List (List ℕ) → ℕ → List ℕ
+firsts_at listed l = slice_index_or listed l []
+
+-- how many there are, and the one at a place, from 0; 0 where there is none
+abbrev pub many_at : List (List ℕ) → ℕ → ℕ
+many_at listed l = length (firsts_at listed l)
+
+abbrev pub first_at : List (List ℕ) → ℕ → ℕ → ℕ
+first_at listed l i = slice_index_or (firsts_at listed l) i 0
+
+-- the product for these levels
+abbrev pub own_of : ℕ → List (List ℕ) → ℕ
+own_of t listed = own t (first_at listed) (length listed) (many_at listed)
 
 -- There are no more ways than that. It is at most the sharp count, with whatever first predictions are the least of each level.
 abbrev pub OwnIsEnough : Type 0

@@ -25,3 +25,7 @@ pub record AreOwnWays (t : ℕ) (firsts : ℕ → ℕ → ℕ) (n : ℕ) (counts
   pub each : Each (IsOwnWay t firsts n counts) all
   pub whole : (c : List (List ℕ)) → IsOwnWay t firsts n counts c → IsAmong c all
   pub differ : AllDiffer all
+
+-- there is a list of them
+abbrev pub OwnWaysAre : Type 0
+OwnWaysAre = (t : ℕ) (firsts : ℕ → ℕ → ℕ) (n : ℕ) (counts : ℕ → ℕ) → (all : List (List (List ℕ))) × AreOwnWays t firsts n counts all

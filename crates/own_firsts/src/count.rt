@@ -1,11 +1,11 @@
 //! The count by own first predictions, as a number.
 
-ghost use Rattle.std.specs.Prelude.{◌≡◌, ◌+◌, ◌≤◌, ◌<◌, ℕ, None, length, slice_index_or, cond, ltb};
+ghost use Rattle.std.specs.Prelude.{◌≡◌, ◌+◌, ◌≤◌, ◌<◌, ℕ, None, length, map, slice_index_or, cond, ltb};
 ghost use Rattle.sharp_count.specs.Count.{fitting};
-ghost use Rattle.own_firsts.specs.Count.{own_by};
+ghost use Rattle.own_firsts.specs.Count.{own_by, own_of};
 ghost use Rattle.own_firsts.specs.Rows.{IsRow};
 
-use sharp_count::count::miss_counts;
+use sharp_count::count::{miss_counts, product};
 
 /// A place for each miss count from 0 to 64.
 const PLACES: usize = 65;
@@ -65,4 +65,18 @@ pub fn own_count(firsts: &[u64], t: u64) -> Option<u128>
         row = with_one_before(&row, miss_counts(t, firsts[place]), values);
     }
     row[0]
+}
+
+/// The count by own first predictions of runs that halt by cycle T: the product over the levels of `own_count`. There is no
+/// answer where it is 2^128 or more.
+///
+/// The levels are told in their order, each by the first predictions of its mitigations.
+pub fn own_product(levels: &[Vec<u64>], t: u64) -> Option<u128>
+    ensures { result ≡ fitting (own_of t (map (λ v. v.items) levels.now)) }
+{
+    let mut count = Some(1);
+    for firsts in levels {
+        count = product(own_count(firsts.as_slice(), t), count);
+    }
+    count
 }

@@ -2,6 +2,7 @@
 
 ghost use Rattle.own_firsts.specs.Count.{OwnIsEnough, OwnExample};
 ghost use Rattle.own_firsts.specs.Own.{SharpOwnAll, LoweredOwnAll};
+ghost use Rattle.own_firsts.specs.Ways.{OwnWaysAre};
 
 use env_contract::env::LawfulEnv;
 
@@ -22,12 +23,13 @@ pub fn lowered_few_sequences_own<E: LawfulEnv>()
     ensures { LoweredOwnAll E.env E.serves }
 {}
 
-/// How many ways there are, as a number: at most the product over the levels of the number of lists of miss counts that never
+/// There is a list of these ways: `are`. How many there are, as a number: at most the product over the levels of the number of lists of miss counts that never
 /// fall, in which each mitigation ends by T on its own. That product is at most the sharp count: `few`.
 ///
 /// Two mitigations of one level with first predictions 2 and 16 have at most 10 ways to end by cycle 200, where the sharp count
 /// is 28: `example`.
 pub fn own_ways_are_few()
+    ensures are { OwnWaysAre }
     ensures few { OwnIsEnough }
     ensures example { OwnExample }
 {}

@@ -100,7 +100,7 @@ differ-pairs (ms ∷ all) cs h k =
     (λ c u. differ_from ms all cs h.0 c) cs (each_true (λ d. Unit {0}) (λ d. tt) cs))
 
 -- all choices
-abbrev choices : (ℕ → ℕ) → ℕ → (ℕ → ℕ) → List Choice
+abbrev pub choices : (ℕ → ℕ) → ℕ → (ℕ → ℕ) → List Choice
 choices values zero counts = [] ∷ []
 choices values (suc l) counts = pairs (listing 0 (values l) (counts l)) (choices values l counts)
 
@@ -111,20 +111,20 @@ length-choices values (suc l) counts =
     ∙ ap (λ z. z * length (choices values l counts)) (length-listing 0 (values l) (counts l))
     ∙ ap (λ z. rising (values l) (counts l) * z) (length-choices values l counts)
 
-each_choice : (values : ℕ → ℕ) (n : ℕ) (counts : ℕ → ℕ) → Each (IsChoice values n counts) (choices values n counts)
+pub each_choice : (values : ℕ → ℕ) (n : ℕ) (counts : ℕ → ℕ) → Each (IsChoice values n counts) (choices values n counts)
 each_choice values zero counts = (refl, tt)
 each_choice values (suc l) counts =
     each-pairs (NeverFalling 0 (values l) (counts l)) (IsChoice values l counts) (IsChoice values (suc l) counts) (λ ms c h k. (h, k))
     (listing 0 (values l) (counts l)) (choices values l counts) (each_falls (values l) 0 (values l) (counts l) (omega arith)) (each_choice values l counts)
 
-whole_choices : (values : ℕ → ℕ) (n : ℕ) (counts : ℕ → ℕ) (c : Choice) → IsChoice values n counts c → IsAmong c (choices values n counts)
+pub whole_choices : (values : ℕ → ℕ) (n : ℕ) (counts : ℕ → ℕ) (c : Choice) → IsChoice values n counts c → IsAmong c (choices values n counts)
 whole_choices values zero counts c h = inl h
 whole_choices values (suc l) counts [] h = absurd h
 whole_choices values (suc l) counts (ms ∷ c) h =
     among-pairs ms c (listing 0 (values l) (counts l)) (choices values l counts)
     (has_all (values l) 0 (values l) (counts l) ms (omega arith) h.0) (whole_choices values l counts c h.1)
 
-differ_choices : (values : ℕ → ℕ) (n : ℕ) (counts : ℕ → ℕ) → AllDiffer (choices values n counts)
+pub differ_choices : (values : ℕ → ℕ) (n : ℕ) (counts : ℕ → ℕ) → AllDiffer (choices values n counts)
 differ_choices values zero counts = (tt, tt)
 differ_choices values (suc l) counts =
     differ-pairs (listing 0 (values l) (counts l)) (choices values l counts) (all_differ 0 (values l) (counts l)) (differ_choices values l counts)

@@ -77,7 +77,7 @@ fn times(one: u128, other: Option<u128>) -> Option<u128>
 }
 
 /// The product of two numbers, each of which may be too large to be told.
-pub(crate) fn product(one: Option<u128>, other: Option<u128>) -> Option<u128>
+pub fn product(one: Option<u128>, other: Option<u128>) -> Option<u128>
     ensures { (m n : ℕ) → one ≡ fitting m → other ≡ fitting n → result ≡ fitting (m * n) }
 {
     if let Some(one) = one {

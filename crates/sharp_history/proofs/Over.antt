@@ -9,7 +9,9 @@ use Rattle.leak_bound.specs.Over.{KeepsLaws}
 use Rattle.leak_bound.proofs.Source.{made_of}
 use Rattle.sharp_bound.proofs.Final.{is_sharp, is_sharp_cut, is_sharp_end, is_shared}
 use Rattle.sharp_bound.proofs.Lowered.{few_halted_same, few_cut_same, few_shared_same}
-use Rattle.sharp_history.specs.Over.{LoweredSharpOver, LoweredSharpCutOver, LoweredSharpEndOver, LoweredSharedOver}
+use Rattle.own_firsts.proofs.Final.{is_own}
+use Rattle.own_firsts.proofs.Lowered.{few_own_same}
+use Rattle.sharp_history.specs.Over.{LoweredSharpOver, LoweredSharpCutOver, LoweredSharpEndOver, LoweredSharedOver, LoweredOwnOver}
 
 module _ {E : Type 0} (v : Order → Env E) (serves : Order → E → Type 0) (laws : KeepsLaws v serves) where
   pub lowered_sharp : LoweredSharpOver v serves
@@ -54,4 +56,16 @@ module _ {E : Type 0} (v : Order → Env E) (serves : Order → E → Type 0) (l
       record {
         few = λ o low t some. few_shared_same (v order) order (serves order) (labels_of q) (levels_of q) (lowered q).instrs (bare_of q)
             (plan_of q.program) (keep_commands q) o t _ (few o low t some);
+      }
+
+  pub lowered_own : LoweredOwnOver v serves
+  lowered_own q is =
+      let order = q.program.order in
+      let made = made_of q is in
+      let own = is_own (v order) order (labels_of q) (levels_of q) (lowered q).instrs (bare_of q) made (laws order made.lattice) in
+      record {
+        few = λ o low t some. few_own_same (v order) order (serves order) (labels_of q) (levels_of q) (lowered q).instrs (bare_of q)
+            (plan_of q.program) (keep_commands q) o t _ (own.few o low t some);
+        ended = λ o low ends t some. few_own_same (v order) order (serves order) (labels_of q) (levels_of q) (lowered q).instrs (bare_of q)
+            (plan_of q.program) (keep_commands q) o t _ (own.ended o low ends t some);
       }

@@ -8,6 +8,7 @@ use Rattle.leak_bound.specs.Source.{IsTypedWith}
 use Rattle.sharp_bound.specs.Sharp.{SharpSound, SharpCut}
 use Rattle.sharp_bound.specs.End.{SharpEnd}
 use Rattle.sharp_bound.specs.Shared.{SharpShared}
+use Rattle.own_firsts.specs.Own.{SharpOwn}
 
 module _ {E : Type 0} (v : Order → Env E) (serves : Order → E → Type 0) where
   abbrev pub LoweredSharpOver : Type 0
@@ -26,3 +27,8 @@ module _ {E : Type 0} (v : Order → Env E) (serves : Order → E → Type 0) wh
   abbrev pub LoweredSharedOver : Type 0
   LoweredSharedOver = (q : LabelledProgram) → IsTypedWith q →
       SharpShared (v q.program.order) q.program.order (serves q.program.order) (labels_of q) (levels_of q) (lowered q).instrs (plan_of q.program)
+
+  -- each mitigation with its own first prediction
+  abbrev pub LoweredOwnOver : Type 0
+  LoweredOwnOver = (q : LabelledProgram) → IsTypedWith q →
+      SharpOwn (v q.program.order) q.program.order (serves q.program.order) (labels_of q) (levels_of q) (lowered q).instrs (bare_of q) (plan_of q.program)
