@@ -2,7 +2,9 @@
 
 import { escaped } from './colours.js';
 import { commandLines } from './commands.js';
-import { $, shown, state } from './state.js';
+import { isFresh } from './freshness.js';
+import { banksNow } from './machine_part.js';
+import { $, answeredOf, faults, shown, state } from './state.js';
 
 let kind = ''; // what the lines are for: where there is no program they stay as they were
 
@@ -11,7 +13,8 @@ export function commandsNow() {
   const { verdict, audit, steady } = shown;
   if (verdict?.kind === 'accepted') kind = audit?.isCut ? 'cut' : 'accepted';
   else if (verdict?.kind === 'refused' || !kind) kind = verdict?.kind ?? '';
-  return commandLines(state, kind, steady);
+  const isCompared = shown.compared && isFresh('compared', answeredOf.compared, state, faults);
+  return commandLines(state, kind, steady, isCompared ? banksNow() : null);
 }
 
 export function drawCommands() {

@@ -12,6 +12,7 @@ function limitOf(report, sharp) {
   return sharp?.sharp ?? BigInt(report.base) ** BigInt(report.exponent);
 }
 
+const NO_LIMIT = 'no limit holds, since all labels share the caches';
 const limitWords = (limit) => (limit < 10n ** 6n ? inWords(limit) : `2<sup>${bitsIn(limit)}</sup>`);
 
 // The least B with a number at most 2^B.
@@ -20,8 +21,8 @@ function bitsIn(number) {
 }
 
 function ofReport({ report, isCut, sharp }, labels) {
-  const who = `an observer at ${labelText(report.observer, labels)}`, limit = limitOf(report, sharp),
-    { runs, distinct } = report;
+  const who = `an observer at ${labelText(report.observer, labels)}`, { runs, distinct } = report;
+  const isShared = report.sharing === 'shared', limit = isShared ? null : limitOf(report, sharp);
   if (isCut) {
     const verb = report.halted === 1 ? 'has' : 'have';
     const some = `${capital(inWords(report.halted))} of ${counted(runs, 'run')} ${verb}`;
@@ -29,12 +30,11 @@ function ofReport({ report, isCut, sharp }, labels) {
     const halted = `${report.halted === 0 ? 'No run has' : some} halted by cycle ${spaced(report.budget)}`;
     return `${halted}. Until then ${who} sees ${timings}.`;
   }
-  const most = limit === 1n
-    ? 'no other is possible'
+  const most = isShared ? NO_LIMIT : limit === 1n ? 'no other is possible'
     : `at most ${limitWords(limit)} are possible`;
-  if (runs === 1) return `Of one run ${who} sees one timing; ${limit === 1n ? most : `with other secrets ${most}`}.`;
+  const others = isShared || limit === 1n ? most : `with other secrets ${most}`;
+  if (runs === 1) return `Of one run ${who} sees one timing; ${others}.`;
   if (distinct === 1) {
-    const others = limit === 1n ? most : `with other secrets ${most}`;
     return `${capital(who)} cannot tell these ${inWords(runs)} runs apart; ${others}.`;
   }
   return `Of ${inWords(runs)} runs ${who} sees ${inWords(distinct)} different timings; ${most}.`;
@@ -69,6 +69,11 @@ export function refusalText(refusal, labels, observer) {
       : `the cache partition ${escaped(name)}`;
     return `No count: the starts must agree in all that an observer at ${labelText(observer, labels)} may see, `
       + `and run ${run} differs from run 1 in ${what}.`;
+  }
+  const unfinished = /^unfinished: run (\d+) @(\d+)$/.exec(refusal.text);
+  if (unfinished) {
+    return `No count: run ${spaced(unfinished[1])} has not halted by the greatest cycle, and on a machine of a file`
+      + ' only runs are counted that have.';
   }
   if (refusal.kind === 'starts') return `No runs: <code>${escaped(refusal.text)}</code>.`;
   return `No count: <code>${escaped(refusal.text)}</code>.`;
