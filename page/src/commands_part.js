@@ -2,19 +2,17 @@
 
 import { escaped } from './colours.js';
 import { commandLines } from './commands.js';
-import { isFresh } from './freshness.js';
 import { banksNow } from './machine_part.js';
-import { $, answeredOf, faults, shown, state } from './state.js';
+import { $, shown, state } from './state.js';
 
 let kind = ''; // what the lines are for: where there is no program they stay as they were
 
 /** The command lines of what is shown. */
 export function commandsNow() {
-  const { verdict, audit, steady } = shown;
+  const { verdict, audit, steady, compared } = shown;
   if (verdict?.kind === 'accepted') kind = audit?.isCut ? 'cut' : 'accepted';
   else if (verdict?.kind === 'refused' || !kind) kind = verdict?.kind ?? '';
-  const isCompared = shown.compared && isFresh('compared', answeredOf.compared, state, faults);
-  return commandLines(state, kind, steady, isCompared ? banksNow() : null);
+  return commandLines(state, kind, steady, compared ? banksNow() : null);
 }
 
 export function drawCommands() {

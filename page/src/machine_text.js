@@ -53,7 +53,7 @@ function numbersTable(leaks) {
     return `<tr><th scope="row">${says}</th>${cells}</tr>`;
   });
   const head = `<thead><tr><td></td>${heads}</tr></thead>`;
-  return `<table class="both">${head}<tbody>${rows.join('')}</tbody></table>`;
+  return `<div class="scroll"><table class="both">${head}<tbody>${rows.join('')}</tbody></table></div>`;
 }
 
 function classesOf(side, { classes, greatest }) {

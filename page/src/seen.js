@@ -47,10 +47,11 @@ export function seenTexts(runs) {
 export function partingTexts(sequences) {
   const texts = sequences.map((events) => {
     const others = sequences.filter((other) => other !== events);
-    const place = Math.max(...others.map((other) => firstDifference(events, other)));
+    const place = Math.max(0, ...others.map((other) => firstDifference(events, other)));
+    if (events.length === 0) return 'nothing';
     return `${place > 0 ? '… ' : ''}${eventText(events[place])}${place + 1 < events.length ? ' …' : ''}`;
   });
-  if (sequences.length > 1 && new Set(texts).size === texts.length) return texts;
+  if (new Set(texts).size === texts.length) return texts;
   return seenTexts(sequences.map((events, k) => ({
     class: k + 1, events: events.map((event) => ({ ...event, isSeen: true })),
   })));

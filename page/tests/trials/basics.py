@@ -34,6 +34,7 @@ def each_example(page):
 
 def audit_as_documented(page):
     starts = (EXAMPLES / "password.toml").read_text()
+    page.choose(0)
     for file, distinct, sentence in (
         ("password_small.mit", "3", "Of four runs an observer at L sees three different timings; at most 16 are possible."),
         ("password.mit", "1", "An observer at L cannot tell these four runs apart; with other secrets at most eleven are possible."),

@@ -16,10 +16,11 @@ LEVEL_STARTS = "".join(f"[[run]]\nmemory = {{ c = {n} }}\n\n" for n in (0, 3, 9)
 DATA = "[...document.querySelectorAll(arguments[0])].map((one) => one.dataset[arguments[1]])"
 
 
-def call(program, words, mit, toml):
-    """What a proved program prints for these texts, by the words of its command line."""
+def call(program, words, mit, toml, **more):
+    """What a proved program prints for these texts, by the words of its command line; `more` are further TOML files."""
     with tempfile.TemporaryDirectory(prefix="page-call-") as folder:
-        for name, text in (("program.mit", mit), ("starts.toml", toml)):
+        texts = {"program.mit": mit, "starts.toml": toml, **{f"{name}.toml": text for name, text in more.items()}}
+        for name, text in texts.items():
             (pathlib.Path(folder) / name).write_text(text, encoding="utf-8")
         ran = subprocess.run([PROGRAMS / program, *words.split()], cwd=folder, capture_output=True, text=True)
     return ran.stdout
@@ -53,9 +54,9 @@ def compare(page, observer="L", env="part", budget="1000000"):
     return int(distinct)
 
 
-def compare_lanes(page, observer, settings, mit, toml):
+def compare_lanes(page, observer, settings, mit, toml, **more):
     """Each lane and each row of the table, beside what is printed of its run."""
-    seen = call("lab", f"seen program.mit starts.toml --observer {observer} {settings}", mit, toml).splitlines()
+    seen = call("lab", f"seen program.mit starts.toml --observer {observer} {settings}", mit, toml, **more).splitlines()
     lanes = page.run("return [...document.querySelectorAll('.lane')].map((one) => one.getAttribute('aria-label'))")
     rows = page.texts("#starts-table td.seen")
     same(len(lanes), len(seen), "lanes")
@@ -66,7 +67,7 @@ def compare_lanes(page, observer, settings, mit, toml):
         holds(all(word in plain for word in words), f"{lane}: {words}")
         same(plain.count(" = "), len(words), f"how much is told as seen in {lane}")
         holds(all(re.sub(" at ", " @", word) in row for word in words[:2]), f"{row}: {words}")
-    told = call("lab", f"timeline program.mit starts.toml {settings}", mit, toml)
+    told = call("lab", f"timeline program.mit starts.toml {settings}", mit, toml, **more)
     ends = re.findall(r"^end #\d+ (\S+) level (\S+) worked (\d+) lasts \d+ misses \d+ to \d+ @(\d+)$", told, re.MULTILINE)
     tips = " ".join(page.run("return " + DATA, ".lane [data-tip]", "tip")).replace("\u202f", "")
     for place, level, worked, end in ends:
