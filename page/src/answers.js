@@ -82,11 +82,14 @@ export function readCode(text) {
   });
 }
 
-/** The lab's timeline: the runs with their mitigations, and a line for each mitigate of the text; or null. */
+const RUNS_REFUSED = /^refused .*; it runs by its least labels, and no bound holds$/;
+
+/** The lab's timeline: the runs with their mitigations, and a line for each mitigate of the text; or null. Of a refused
+    program a line in front says so. */
 export function readTimeline(text) {
-  const runs = [], mitigates = [];
+  const runs = [], mitigates = [], [head, ...rest] = lines(text);
   let open = [];
-  for (const line of lines(text)) {
+  for (const line of RUNS_REFUSED.test(head) ? rest : [head, ...rest]) {
     const run = runs.at(-1), assigned = EVENT.exec(line), end = END.exec(line);
     const begin = /^begin #(\d+) (\d+:\d+) level (\S+) estimate (-?\d+) predicts (\d+) misses (\d+) @(\d+)$/.exec(line);
     const ended = /^end #(\d+) (\d+:\d+) level (\S+) worked (\d+) lasts (\d+) misses (\d+) to (\d+) @(\d+)$/.exec(line);

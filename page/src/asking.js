@@ -17,8 +17,8 @@ import { drawStarts } from './starts_part.js';
 import { $, answeredOf, calls, faults, shown, state } from './state.js';
 import { drawSteady } from './steady_part.js';
 import {
-  auditOf, chainOf, codeOf, comparedOf, completedBy, faultOf, leakOf, machineFaultOf, mendOf, runsOf, sharpOf, steadyOf,
-  verdictOf,
+  auditOf, chainOf, codeOf, comparedOf, completedBy, faultOf, leakOf, machineFaultOf, mendOf, refusedRunsOf, runsOf,
+  sharpOf, steadyOf, verdictOf,
 } from './study.js';
 import { canSweep, drawSweep, stopSweep, sweep } from './sweep_part.js';
 import { drawTime } from './time_part.js';
@@ -151,8 +151,7 @@ async function askRuns(asked, isOld) {
   if (runs && audit.report) {
     audit.report.classes.forEach((number, k) => runs[k] && Object.assign(runs[k], { class: number }));
   }
-  Object.assign(shown, { runs, mitigates, isAll, view: null, page: 0, lane: -1 });
-  answeredOf.runs = asked;
+  noteRuns({ runs, mitigates, isAll }, asked);
   const hasPoints = shown.isSwept && isFresh('points', answeredOf.points, asked);
   if (!hasPoints) forgetPoints();
   setProgress('');
@@ -166,6 +165,11 @@ async function askRuns(asked, isOld) {
   if (isOld()) return;
   endFollowing();
   if (!hasPoints && canSweep() && took * SWEEP_CALLS < QUICK_SWEEP) sweep();
+}
+
+function noteRuns({ runs, mitigates, isAll }, asked) {
+  Object.assign(shown, { runs, mitigates, isAll, view: null, page: 0, lane: -1 });
+  answeredOf.runs = asked;
 }
 
 function forgetPoints() {
@@ -208,10 +212,22 @@ export async function askCompared() {
   }
 }
 
+// The runs of a refused program, by its least labels. What counts and limits tell stays, as of an earlier program.
+async function askRefusedRuns(asked, isOld) {
+  step = stepOf('the timeline');
+  const told = await refusedRunsOf(calls.tool, asked);
+  if (isOld() || !told) return;
+  noteRuns(told, asked);
+  drawStarts();
+  drawCosts();
+}
+
 // A refused program, and one that is none: what was answered before stays, as of an earlier program.
 async function askMend(asked, isOld) {
-  const { kind } = shown.verdict;
+  const { kind } = shown.verdict, isFault = faults.budget || faults.cell || faults.machine;
   setProgress(kind === 'accepted' ? 'fault' : kind === 'refused' ? 'refused' : 'syntax');
+  if (kind === 'refused' && !isFault) await askRefusedRuns(asked, isOld);
+  if (isOld()) return;
   drawSentence();
   drawTime();
   drawSweep();

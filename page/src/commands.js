@@ -30,6 +30,8 @@ export const WORDS = {
   steady: (asked) => ['steady', PROGRAM, ...observer(asked)],
   steadyEnd: (asked) => ['steady', PROGRAM, ...observer(asked), '--whole'],
   timeline: (asked) => ['timeline', PROGRAM, STARTS, ...settings(asked)],
+  timelineRefused: (asked) => ['timeline', PROGRAM, STARTS, ...settings(asked), '--refused'],
+  seenRefused: (asked) => [...onStarts('seen', asked), '--refused'],
   run: (asked) => ['run', PROGRAM, STARTS, ...settings(asked)],
 };
 
@@ -54,7 +56,10 @@ const LISTS = {
     ['what these runs tell', 'lab', 'leak'], ['the timeline', 'lab', 'timeline'], ['what is seen', 'lab', 'seen'],
     ['the left-out labels', 'mitigate', 'infer'], ['the compiled code', 'mitigate', 'compile'],
   ],
-  refused: [['the verdict', 'mitigate', 'check'], ['the way that the secret took', 'lab', 'why']],
+  refused: [
+    ['the verdict', 'mitigate', 'check'], ['the way that the secret took', 'lab', 'why'],
+    ['the timeline', 'lab', 'timelineRefused'], ['what is seen', 'lab', 'seenRefused'],
+  ],
   syntax: [['the verdict', 'mitigate', 'check'], ['what could stand there', 'lab', 'why']],
   cut: [
     ['the verdict', 'mitigate', 'check'], ['the count until then', 'mitigate', 'cut'],

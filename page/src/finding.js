@@ -40,8 +40,16 @@ function ofReport({ report, isCut, sharp }, labels) {
   return `Of ${inWords(runs)} runs ${who} sees ${inWords(distinct)} different timings; ${most}.`;
 }
 
+// What is seen of the runs of a refused program.
+function ofRefused(runs, observer, labels) {
+  const distinct = Math.max(...runs.map((run) => run.class)), who = `an observer at ${labelText(observer, labels)}`;
+  const timings = distinct === 1 ? 'one timing' : `${inWords(distinct)} timings`;
+  const of = runs.length === 1 ? 'one run' : `${inWords(runs.length)} runs`;
+  return `Of ${of} ${who} sees ${timings}, and no limit holds.`;
+}
+
 /** What was found of a program and its starts, as HTML; empty where nothing was found yet. */
-export function findingText({ verdict, audit, labels, observer, steady = null }) {
+export function findingText({ verdict, audit, labels, observer, steady = null, runs = null }) {
   if (verdict?.kind === 'syntax') {
     return `This is not a program: ${escaped(verdict.what)}${verdict.place ? ` at ${placeText(verdict.place)}` : ''}.`;
   }
@@ -52,7 +60,8 @@ export function findingText({ verdict, audit, labels, observer, steady = null })
   if (verdict?.kind === 'refused') {
     const { from, to } = verdict;
     const what = `what is ${labelText(from, labels)} would reach ${labelText(to, labels)}`;
-    return `Refused, since at ${placeText(verdict.place)} ${what}. No limit holds for how much it tells.`;
+    const refused = `Refused, since at ${placeText(verdict.place)} ${what}.`;
+    return `${refused} ${runs ? ofRefused(runs, observer, labels) : 'No limit holds for how much it tells.'}`;
   }
   if (verdict && verdict.kind !== 'accepted') return `There is no verdict: ${escaped(verdict.text)}.`;
   if (audit?.report) return ofReport(audit, labels);

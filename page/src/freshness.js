@@ -42,7 +42,7 @@ export function staleText({ hasAnswers, of, now, why, fault = '' }) {
   const reasons = {
     working: 'The new answer is being worked out.',
     stopped: 'The runs were stopped.',
-    refused: 'The program that is here is refused, so it has no runs.',
+    refused: 'The program that is here is refused, so no limit holds of it.',
     syntax: 'What is here is not a program.',
     fault,
   };

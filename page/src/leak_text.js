@@ -83,7 +83,7 @@ export function leakNumbers(leak) {
 
 /** Why the runs have no exact leak; empty where nothing says so. */
 export function noLeakText({ verdict, audit, leak }) {
-  if (verdict?.kind === 'refused') return 'A refused program is not run here, so no runs tell something.';
+  if (verdict?.kind === 'refused') return 'What runs tell is counted of accepted programs.';
   if (verdict?.kind !== 'accepted' || !audit || leak) return '';
   if (audit.isCut) {
     return `Not all of these runs have halted by cycle ${spaced(audit.report.budget)}. What they tell is told exactly`

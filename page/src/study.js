@@ -137,8 +137,8 @@ export async function steadyOf(tool, state) {
   return steady.kind === 'yes' ? { ...steady, end: await judged(WORDS.steadyEnd(state)) } : steady;
 }
 
-async function byLab(tool, state) {
-  const words = WORDS.timeline(state);
+async function byLab(tool, state, isRefused) {
+  const words = isRefused ? WORDS.timelineRefused(state) : WORDS.timeline(state);
   const all = await tool.call('lab', words, files(state)), told = readTimeline(all.text);
   if (!told) return { refusal: refusalOf(all) };
   const seen = await tool.call('lab', asSeen(words, state), files(state));
@@ -170,7 +170,16 @@ async function byRuns(tool, state, most) {
 /** The runs with their assignments and ends, and with mitigations where the lab is there: {runs, mitigates} or
     {refusal}. */
 export async function runsOf(tool, state, most = MOST_SINGLE_RUNS) {
-  const told = tool.has('lab') ? await byLab(tool, state) : await byRuns(tool, state, most);
+  return withClasses(tool.has('lab') ? await byLab(tool, state, false) : await byRuns(tool, state, most));
+}
+
+/** The runs of a refused program, by its least labels, as the lab tells them; null where it is not there or refuses. */
+export async function refusedRunsOf(tool, state) {
+  const told = tool.has('lab') ? await byLab(tool, state, true) : {};
+  return told.runs ? withClasses(told) : null;
+}
+
+function withClasses(told) {
   if (told.runs) classesOf(told.runs).forEach((number, k) => Object.assign(told.runs[k], { class: number }));
   return told;
 }

@@ -14,10 +14,8 @@ const lanesWidth = () => Math.max($('lanes').clientWidth - 2, 280);
 function placeholder() {
   const kind = answeredOf.verdict ? shown.verdict?.kind : null;
   const words = {
-    refused: isOnlyRefused() ? 'A refused program is not run here. This one is constant in time: whatever is secret,'
-      + ' the observer sees the same at the same cycles.'
-      : 'A refused program is not run here. Where it is its time that tells, the offered mitigate gives it a limit, and'
-        + ' a picture.',
+    refused: isOnlyRefused() ? 'This program is constant in time: whatever is secret, the observer sees the same at the'
+      + ' same cycles.' : 'There are no runs of this refused program.',
     syntax: 'Runs are drawn here once there is a program.',
   };
   return `<p class="empty">${words[kind] ?? ''}</p>`;
@@ -42,9 +40,12 @@ export function drawTime() {
   $('lane-pages').innerHTML = pagesText(runs.length, first, part.length, shown.isAll);
   $('time-legend').innerHTML =
     timeLegend(runs, { hasLab: calls.tool.has('lab'), hasMitigates: mitigatesNow().length > 0 });
-  $('lane-says').innerHTML =
-    (shown.mitigates ?? []).filter((mitigate) => mitigate.ended).map(mitigateText).join('<br>');
+  const told = (shown.mitigates ?? []).filter((mitigate) => mitigate.ended).map(mitigateText);
+  $('lane-says').innerHTML = [...(isOfRefused() ? [REFUSED] : []), ...told].join('<br>');
 }
+
+const REFUSED = 'The rules refuse this program. These are its runs by its least labels, and no limit holds of them.';
+const isOfRefused = () => shown.verdict?.kind === 'refused' && answeredOf.runs?.program === answeredOf.verdict?.program;
 
 function zoom(factor, about) {
   if (!shown.runs) return;

@@ -122,7 +122,7 @@ def machine_is_refused(page):
         page.set("#machine-text", text)
         page.idle()
         holds(told(page, "seen").startswith("machine: "), told(page, "seen"))
-        holds(words in plain(page.text("#machine-fault")), page.text("#machine-fault"))
+        holds(words in plain(page.text("#machine-fault")), f"{words}: {page.text('#machine-fault')}")
         same(page.run("return document.getElementById('machine-text').getAttribute('aria-invalid')"), "true", "it is marked")
         all_dimmed(page, "#lanes .lane", "lanes of another machine")
         all_dimmed(page, "#machine-sides td", "both sides of another machine")
