@@ -28,7 +28,7 @@ import { keepWork } from './work.js';
 
 const PAUSE = 250; // milliseconds of rest before a change is answered
 const QUICK_SWEEP = 4000; // milliseconds that a sweep may take to begin by itself
-const QUICK_BOTH = 500; // milliseconds that runs may take to be made on both machines by themselves
+const QUICK_BOTH = 3000; // milliseconds that runs may take to be made on both machines by themselves
 const SWEEP_CALLS = 90; // how often as long as the runs a sweep takes, about
 const SHOWN_AFTER = 400, FOLLOWED_AFTER = 1000; // milliseconds until work is told, and until its runs are followed
 

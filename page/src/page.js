@@ -19,6 +19,7 @@ import { listenProgram, loadProgram } from './program_part.js';
 import { drawStarts, listenStarts } from './starts_part.js';
 import { $, answeredOf, calls, faults, shown, state } from './state.js';
 import { drawSteady, listenSteady } from './steady_part.js';
+import { listenSteps } from './steps_part.js';
 import { drawSweep, listenSweep } from './sweep_part.js';
 import { readTask } from './tasks.js';
 import { listenTeach } from './teach_part.js';
@@ -169,6 +170,7 @@ function listen() {
   listenVerdict();
   listenStarts(changed);
   listenTime(ask);
+  listenSteps();
   listenSteady(askSteady);
   listenLeak();
   listenCode(ask);

@@ -4,6 +4,7 @@ import { drawCosts } from './costs_part.js';
 import { saveSvg } from './saving.js';
 import { spaced } from './numbers.js';
 import { isOnlyRefused } from './steady_part.js';
+import { drawStep, goBy } from './steps_part.js';
 import { $, answeredOf, calls, mitigatesNow, shown, starts } from './state.js';
 import { LANES, mitigateText, pagesText, timeLegend } from './time_text.js';
 import { cycleAt, moved, runText, timeline, wholeView, zoomed } from './timeline.js';
@@ -24,6 +25,7 @@ function placeholder() {
 /** The lanes, with what stands about them; where there are no runs, why. */
 export function drawTime() {
   const { runs } = shown, box = $('lanes');
+  drawStep();
   for (const id of ['zoom-in', 'zoom-out', 'zoom-all', 'time-save']) $(id).disabled = !runs;
   if (!runs) {
     box.innerHTML = placeholder();
@@ -88,6 +90,7 @@ export function pickLane(number, says = true) {
     lane?.scrollIntoView({ block: 'nearest' });
     $('lane-says').textContent = $('announce').textContent = runText(shown.runs[number], number + 1);
     drawCosts();
+    drawStep();
   }
 }
 
@@ -154,6 +157,8 @@ function onKey(event) {
     ArrowRight: () => move(step),
     ArrowDown: () => pickLane(Math.min(shown.lane + 1, shown.runs.length - 1)),
     ArrowUp: () => pickLane(Math.max(shown.lane - 1, 0)),
+    '.': () => goBy(1),
+    ',': () => goBy(-1),
   };
   if (!keys[event.key]) return;
   event.preventDefault();

@@ -5,7 +5,7 @@ import subprocess
 import tempfile
 import tomllib
 
-from driving import SWEPT, TOP, holds, same
+from driving import SWEPT, TOP, all_dimmed, holds, same
 
 PROGRAMS = TOP / "programs/x86_64-linux"
 LABELS = "labels A, B, C;\norder A < B, B < C;\nvar a : A;\nvar b : B;\nvar c : C;\n"
@@ -248,6 +248,30 @@ def many_runs(page):
     page.choose(4)
 
 
+def stepped_through(page):
+    """A run can be gone through, with its line, the clock, miss counts and values, as the lab's timeline tells them."""
+    page.choose(0)
+    told = call("lab", "timeline program.mit starts.toml", page.program(), page.value("#toml")).split("run 2\n")[0]
+    cycles = re.findall(r" @(\d+)$", told, re.MULTILINE)
+    holds(page.run("return document.getElementById('step-back').disabled"), "nothing is behind the beginning")
+    for number, cycle in enumerate(cycles, 1):
+        page.run("document.getElementById('step-on').click()")
+        text = page.text("#step-says").replace("\u202f", "")
+        holds(text.startswith(f"Run 1, step {number} of {len(cycles)}, cycle {cycle}:"), f"{text}: {cycle}")
+        if number == 1:
+            holds("level H, begins and predicts 16. Misses: H 0." in text, text)
+            same(page.count("#editor .lit"), 1, "lines that are lit")
+    misses = re.search(r"misses 0 to (\d+) ", told)[1]
+    holds(f"the run ends. Misses: H {misses}." in text and "done = 1." in text, text)
+    holds(page.run("return document.getElementById('step-on').disabled"), "nothing is behind the end")
+    page.run("document.getElementById('step-back').click()")
+    holds(": done = 1. Misses" in page.text("#step-says"), page.text("#step-says"))
+    page.write_now(page.program() + " ")
+    all_dimmed(page, "#step-says", "a step of an earlier program")
+    page.idle()
+    same(page.text("#step-says"), "", "another program begins anew")
+
+
 def costs_beside_lines(page):
     """Beside the lines stand the cycles of the chosen run, as the lab's timeline tells them."""
     page.choose(0)
@@ -270,6 +294,7 @@ def costs_beside_lines(page):
 
 TRIALS = [
     costs_beside_lines,
+    stepped_through,
     defaults,
     environments,
     budgets,

@@ -27,6 +27,13 @@ def choose_file(page, name):
     page.idle()
 
 
+def sides_now(page):
+    """Both sides, which are made by themselves only where runs take little."""
+    if page.run("return document.getElementById('machine-shown').hidden"):
+        page.run("document.getElementById('machine-go').click()")
+        page.browser.wait("return !document.getElementById('machine-shown').hidden", 60, "both sides")
+
+
 def probe(page, name):
     """The probe of sixteen places, on a machine of the shipped ones."""
     page.choose(0)
@@ -108,6 +115,7 @@ def own_machine(page):
 def machine_is_refused(page):
     """What is refused in a machine file is told beside it with its line, which can be gone to, and dims what is of another."""
     probe(page, "shared")
+    sides_now(page)
     good = page.value("#machine-text")
     for change, words, line in (
         (("version = 1", "version = 2"), "version = 1 has to be there", "version = 2"),
@@ -142,6 +150,7 @@ def both_sides(page):
     """Partitions beside one cache for all: numbers, classes and what is seen of each, as the lab tells of either file."""
     for name in ("part", "shared2"):
         probe(page, name)
+        sides_now(page)
         text, rows, sides = page.value("#machine-text"), page.run(TABLE), page.run(CLASSES)
         for k, sharing in enumerate(("partitioned", "shared")):
             leak = told(page, "leak", machine=re.sub(r'^sharing = "\w+"', f'sharing = "{sharing}"', text, flags=re.MULTILINE))
