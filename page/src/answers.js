@@ -15,7 +15,7 @@ export function readRefusal(line) {
   }
   const syntax = /^syntax: (.*?)(?: at (\d+:\d+))?$/.exec(line);
   if (syntax) return { kind: 'syntax', what: syntax[1], place: syntax[2] ? place(syntax[2]) : null, text: line };
-  const named = /^(starts|disagree|unfinished|too long|read fault|memory|usage)/.exec(line);
+  const named = /^(starts|disagree|unfinished|too long|read fault|memory|usage|machine)/.exec(line);
   return { kind: named ? named[1] : 'other', place: null, text: line };
 }
 
@@ -45,7 +45,10 @@ export function readRun(text) {
   return run.end === null ? null : run;
 }
 
-/** The report of `audit`, `cut` or the lab's `bound`, or null. */
+const NO_BOUND = /^no bound: /;
+
+/** The report of `audit`, `cut` or the lab's `bound`, or null. On a machine `sharing` says of which kind it is; where
+    that is `shared` there is no bound. */
 export function readAudit(text) {
   const found = { classes: [], levelsOf: [] };
   for (const line of lines(text)) {
@@ -55,7 +58,7 @@ export function readAudit(text) {
     const long = /^(sharp|shared) (\d+)$/.exec(line) ?? /^(guess) at most (\d+) times as often$/.exec(line);
     const observer = /^observer (\S+)$/.exec(line),
       tooMuch = /^(sharp|shared|bits) \S+ or more$|^guess no limit told$/.test(line);
-    const end = /^end (counted|not counted): /.exec(line);
+    const end = /^end (counted|not counted): /.exec(line), machine = /^machine (partitioned|shared)$/.exec(line);
     if (bound) Object.assign(found, { base: Number(bound[1]), exponent: Number(bound[2]) });
     else if (run) found.classes.push(Number(run[2]));
     else if (level) found.levelsOf.push(
@@ -65,9 +68,10 @@ export function readAudit(text) {
     else if (long) found[long[1]] = BigInt(long[2]);
     else if (observer) [, found.observer] = observer;
     else if (end) found.countsEnd = end[1] === 'counted';
-    else if (!tooMuch) return null;
+    else if (machine) [, found.sharing] = machine;
+    else if (!tooMuch && !NO_BOUND.test(line)) return null;
   }
-  return found.runs === undefined || found.base === undefined ? null : found;
+  return found.runs === undefined || (found.base === undefined && found.sharing !== 'shared') ? null : found;
 }
 
 /** The instructions of `compile`: number, name, operand, labels. */
@@ -78,11 +82,14 @@ export function readCode(text) {
   });
 }
 
-/** The lab's timeline: the runs with their mitigations, and a line for each mitigate of the text; or null. */
+const RUNS_REFUSED = /^refused .*; it runs by its least labels, and no bound holds$/;
+
+/** The lab's timeline: the runs with their mitigations, and a line for each mitigate of the text; or null. Of a refused
+    program a line in front says so. */
 export function readTimeline(text) {
-  const runs = [], mitigates = [];
+  const runs = [], mitigates = [], [head, ...rest] = lines(text);
   let open = [];
-  for (const line of lines(text)) {
+  for (const line of RUNS_REFUSED.test(head) ? rest : [head, ...rest]) {
     const run = runs.at(-1), assigned = EVENT.exec(line), end = END.exec(line);
     const begin = /^begin #(\d+) (\d+:\d+) level (\S+) estimate (-?\d+) predicts (\d+) misses (\d+) @(\d+)$/.exec(line);
     const ended = /^end #(\d+) (\d+:\d+) level (\S+) worked (\d+) lasts (\d+) misses (\d+) to (\d+) @(\d+)$/.exec(line);
@@ -144,6 +151,7 @@ function leakLine(line, found) {
   const right = /^right at first (\d+) of (\d+) before, (\d+) of (\d+) after$/.exec(line);
   const guesses = /^guesses (\d+)\/(\d+) before, (\d+)\/(\d+) after$/.exec(line);
   const part = /^class (\d+) first (\d+)\t(.*)$/.exec(line), observer = /^observer (\S+)$/.exec(line);
+  const machine = /^machine (partitioned|shared)$/.exec(line);
   if (count) found[count[1]] = Number(count[2]);
   else if (observer) [, found.observer] = observer;
   else if (bound) [found.base, found.exponent] = numbers(bound);
@@ -157,7 +165,8 @@ function leakLine(line, found) {
   } else if (part) {
     const events = part[3] === '-' ? [] : part[3].split(' ').map((text) => event(FIELD.exec(text)));
     found.classes.push({ size: Number(part[1]), first: Number(part[2]), events });
-  } else return /^(sharp|shared) \S+ or more$/.test(line);
+  } else if (machine) [, found.sharing] = machine;
+  else return /^(sharp|shared) \S+ or more$/.test(line) || NO_BOUND.test(line);
   return true;
 }
 

@@ -10,13 +10,15 @@ import { isFresh } from './freshness.js';
 import { announce, drawFreshness, setProgress } from './freshness_part.js';
 import { drawLeak } from './leak_part.js';
 import { drawLesson, isCovered } from './lesson_part.js';
+import { banksNow, drawMachine, noteMachineFault } from './machine_part.js';
 import { drawProgram } from './program_part.js';
 import { followRuns, progressText } from './progress.js';
 import { drawStarts } from './starts_part.js';
 import { $, answeredOf, calls, faults, shown, state } from './state.js';
 import { drawSteady } from './steady_part.js';
 import {
-  auditOf, chainOf, codeOf, completedBy, faultOf, leakOf, mendOf, runsOf, sharpOf, steadyOf, verdictOf,
+  auditOf, chainOf, codeOf, comparedOf, completedBy, faultOf, leakOf, machineFaultOf, mendOf, refusedRunsOf, runsOf,
+  sharpOf, steadyOf, verdictOf,
 } from './study.js';
 import { canSweep, drawSweep, stopSweep, sweep } from './sweep_part.js';
 import { drawTime } from './time_part.js';
@@ -26,11 +28,12 @@ import { keepWork } from './work.js';
 
 const PAUSE = 250; // milliseconds of rest before a change is answered
 const QUICK_SWEEP = 4000; // milliseconds that a sweep may take to begin by itself
+const QUICK_BOTH = 3000; // milliseconds that runs may take to be made on both machines by themselves
 const SWEEP_CALLS = 90; // how often as long as the runs a sweep takes, about
 const SHOWN_AFTER = 400, FOLLOWED_AFTER = 1000; // milliseconds until work is told, and until its runs are followed
 
 // What is worked out of an accepted program, in order.
-const STEPS = ['the verdict', 'the count', 'the sharp count', 'the timeline', 'what the runs tell'];
+const STEPS = ['the verdict', 'the count', 'the sharp count', 'the timeline', 'what the runs tell', 'both machines'];
 const stepOf = (name) => ({ says: name, number: STEPS.indexOf(name) + 1, of: STEPS.length });
 
 let turn = 0, waiting = null, step = stepOf(STEPS[0]);
@@ -69,8 +72,9 @@ export async function ask() {
     shown.labels = (completed && labelsOf(completed)) ?? writtenLabels(asked.program);
     drawObservers();
     asked.observer = state.observer;
-    const steady = await steadyAsked(asked, verdict);
+    const steady = await steadyAsked(asked, verdict), fault = await machineFaultOf(tool, asked);
     if (isOld()) return;
+    noteMachineFault(fault);
     Object.assign(shown, { verdict, told, steps: chain?.steps ?? [] });
     answeredOf.verdict = asked;
     if (steady) noteSteady(steady, asked);
@@ -81,7 +85,8 @@ export async function ask() {
     drawCommands();
     if (!$('code-part').hidden) await askCode(asked, isOld);
     if (isOld()) return;
-    if (isAccepted && !faults.budget && !faults.cell) await askRuns(asked, isOld);
+    drawMachine();
+    if (isAccepted && !faults.budget && !faults.cell && !faults.machine) await askRuns(asked, isOld);
     else await askMend(asked, isOld);
   } catch (fault) {
     if (!isOld()) drawStopped(fault);
@@ -132,9 +137,9 @@ async function askRuns(asked, isOld) {
   const audit = await auditOf(tool, asked);
   if (isOld()) return;
   step = stepOf('the sharp count');
-  const sharp = audit.report && !audit.isCut ? await sharpOf(tool, asked) : null;
+  const sharp = audit.report && !audit.isCut && audit.sharp === undefined ? await sharpOf(tool, asked) : null;
   if (isOld()) return;
-  shown.audit = { ...audit, sharp };
+  shown.audit = { sharp, ...audit };
   answeredOf.audit = asked;
   drawAudit();
   drawFreshness();
@@ -146,8 +151,7 @@ async function askRuns(asked, isOld) {
   if (runs && audit.report) {
     audit.report.classes.forEach((number, k) => runs[k] && Object.assign(runs[k], { class: number }));
   }
-  Object.assign(shown, { runs, mitigates, isAll, view: null, page: 0, lane: -1 });
-  answeredOf.runs = asked;
+  noteRuns({ runs, mitigates, isAll }, asked);
   const hasPoints = shown.isSwept && isFresh('points', answeredOf.points, asked);
   if (!hasPoints) forgetPoints();
   setProgress('');
@@ -157,8 +161,15 @@ async function askRuns(asked, isOld) {
   drawSweep();
   await askLeak(asked, isOld);
   if (isOld()) return;
+  if (took < QUICK_BOTH || isFresh('compared', answeredOf.compared, asked)) await askBoth(asked, isOld);
+  if (isOld()) return;
   endFollowing();
   if (!hasPoints && canSweep() && took * SWEEP_CALLS < QUICK_SWEEP) sweep();
+}
+
+function noteRuns({ runs, mitigates, isAll }, asked) {
+  Object.assign(shown, { runs, mitigates, isAll, view: null, page: 0, lane: -1 });
+  answeredOf.runs = asked;
 }
 
 function forgetPoints() {
@@ -176,10 +187,47 @@ async function askLeak(asked, isOld) {
   drawLeak();
 }
 
+// What the runs tell with partitions, and where all labels share the caches.
+async function askBoth(asked, isOld) {
+  const banks = banksNow(), { audit } = shown;
+  step = stepOf('both machines');
+  const compared = banks !== null && audit?.report && !audit.isCut ? await comparedOf(calls.tool, asked, banks) : null;
+  if (isOld()) return;
+  shown.compared = compared;
+  answeredOf.compared = asked;
+  drawMachine();
+  drawCommands();
+}
+
+/** Asks for both machines, also where that takes long. */
+export async function askCompared() {
+  const mine = turn, asked = { ...state };
+  $('machine-go').disabled = true;
+  try {
+    await askBoth(asked, () => mine !== turn);
+  } catch (fault) {
+    if (!(fault instanceof Stopped)) throw fault;
+  } finally {
+    drawMachine();
+  }
+}
+
+// The runs of a refused program, by its least labels. What counts and limits tell stays, as of an earlier program.
+async function askRefusedRuns(asked, isOld) {
+  step = stepOf('the timeline');
+  const told = await refusedRunsOf(calls.tool, asked);
+  if (isOld() || !told) return;
+  noteRuns(told, asked);
+  drawStarts();
+  drawCosts();
+}
+
 // A refused program, and one that is none: what was answered before stays, as of an earlier program.
 async function askMend(asked, isOld) {
-  const { kind } = shown.verdict;
+  const { kind } = shown.verdict, isFault = faults.budget || faults.cell || faults.machine;
   setProgress(kind === 'accepted' ? 'fault' : kind === 'refused' ? 'refused' : 'syntax');
+  if (kind === 'refused' && !isFault) await askRefusedRuns(asked, isOld);
+  if (isOld()) return;
   drawSentence();
   drawTime();
   drawSweep();

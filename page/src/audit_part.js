@@ -3,7 +3,8 @@
 import { auditBoxes, auditWords } from './audit_text.js';
 import { escaped } from './colours.js';
 import { findingText, isLeaking } from './finding.js';
-import { $, answeredOf, shown, state } from './state.js';
+import { isFresh } from './freshness.js';
+import { $, answeredOf, faults, shown, state } from './state.js';
 import { isOnlyRefused } from './steady_part.js';
 
 /** The numbers with what they mean, or why there are none. */
@@ -17,7 +18,8 @@ export function drawAudit() {
 
 /** The sentence that says what was found. */
 export function drawSentence() {
-  const text = findingText({ ...shown, observer: state.observer });
+  const runs = isFresh('runs', answeredOf.runs, state, faults) ? shown.runs : null;
+  const text = findingText({ ...shown, runs, observer: state.observer });
   if (text) $('sentence').innerHTML = text;
   $('finding').classList.toggle('no-leak', isOnlyRefused());
 }

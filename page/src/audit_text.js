@@ -20,6 +20,8 @@ function boundBox({ base, exponent }) {
     `at most, by the ${limitName('bound')} ${counted(bitsOf(base, exponent), 'bit')}`);
 }
 
+const NO_LIMIT = 'no limit, since all labels share the caches';
+
 /** The numbers: what is seen, and the limits. */
 export function auditBoxes({ report, sharp }) {
   const runs = report.runs === 1 ? 'this run' : `these ${spaced(report.runs)} runs`;
@@ -29,11 +31,15 @@ export function auditBoxes({ report, sharp }) {
     ? ''
     : numberBox(boundText(sharp.sharp), `at most, by the ${limitName('sharp count')} ${counted(sharp.bits, 'bit')}`,
     wholeBound(sharp.sharp));
-  return seen + limit + boundBox(report);
+  return seen + limit + (report.sharing === 'shared' ? numberBox('none', NO_LIMIT) : boundBox(report));
 }
 
 // The starts for which the numbers hold.
 function holdsFor(report, isCut, sharp, observer) {
+  if (report.sharing === 'shared') {
+    return ' All labels share the caches of this machine. So what a secret access leaves behind changes what public'
+      + ' ones find, and no limit is told: each rests on a law that such a machine breaks.';
+  }
   const agree = `for all starts that agree with these at or below ${observer}`;
   if (isCut) return ` The bound holds ${agree}, and with which no more relevant mitigations end by then.`;
   if (sharp?.sharp === undefined) return ` The bound holds ${agree}, and halt by then.`;
@@ -50,9 +56,11 @@ function howText(report, isCut, observer) {
       + ` is counted`
       + ` (cut). ${spaced(report.ended)} ${relevantWord(report.ended)} at most ended.`;
   }
+  const many = `${spaced(report.mitigations)} ${relevantWord(report.mitigations)} in each run`;
+  if (report.levels === undefined) return `${who}: ${many}.`;
   const levels = `${counted(report.levels, 'label')} that ${report.levels === 1 ? 'does' : 'do'} not flow to the`
     + ` observer`;
-  return `${who}: ${spaced(report.mitigations)} ${relevantWord(report.mitigations)} in each run, ${levels}.`;
+  return `${who}: ${many}, ${levels}.`;
 }
 
 // Whether the limits hold of one who sees when a run ends too.

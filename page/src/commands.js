@@ -1,9 +1,18 @@
 // The words of each call that the page makes, which are those of a command line too.
 
+import { OWN, withSharing } from './machine.js';
+
 export const PROGRAM = 'program.mit';
 export const STARTS = 'starts.toml';
+export const MACHINE = 'machine.toml';
 
-const settings = (asked) => ['--env', asked.environment, '--budget', asked.budget];
+/** Either machine of a comparison, as a file. */
+export const SIDES = { partitioned: 'partitioned.toml', shared: 'shared.toml' };
+
+const isOwn = (asked) => asked.environment === OWN;
+const machineName = (asked) => SIDES[asked.side] ?? MACHINE;
+const caches = (asked) => (isOwn(asked) ? ['--machine', machineName(asked)] : ['--env', asked.environment]);
+const settings = (asked) => [...caches(asked), '--budget', asked.budget];
 const observer = (asked) => ['--observer', asked.observer];
 const onStarts = (command, asked) => [command, PROGRAM, STARTS, ...observer(asked), ...settings(asked)];
 
@@ -21,8 +30,22 @@ export const WORDS = {
   steady: (asked) => ['steady', PROGRAM, ...observer(asked)],
   steadyEnd: (asked) => ['steady', PROGRAM, ...observer(asked), '--whole'],
   timeline: (asked) => ['timeline', PROGRAM, STARTS, ...settings(asked)],
+  timelineRefused: (asked) => ['timeline', PROGRAM, STARTS, ...settings(asked), '--refused'],
+  seenRefused: (asked) => [...onStarts('seen', asked), '--refused'],
   run: (asked) => ['run', PROGRAM, STARTS, ...settings(asked)],
 };
+
+/** The files that the words name. */
+export const filesOf = (asked) => ({
+  [PROGRAM]: asked.program, [STARTS]: asked.starts, ...(isOwn(asked) ? { [machineName(asked)]: asked.machine } : {}),
+});
+
+/** The call that counts what is seen of runs that halt: the lab alone takes machines. */
+export const countCall = (asked) => (isOwn(asked) ? ['lab', WORDS.bound(asked)] : ['mitigate', WORDS.audit(asked)]);
+
+/** What is asked of either machine of a comparison: of that of `text`, with partitions or shared. */
+export const onSide = (asked, text, side) =>
+  ({ ...asked, environment: OWN, machine: withSharing(text, side), side });
 
 /** The words of a call that shows to the chosen observer only what it sees. */
 export const asSeen = (words, asked) => [...words, ...observer(asked)];
@@ -33,7 +56,10 @@ const LISTS = {
     ['what these runs tell', 'lab', 'leak'], ['the timeline', 'lab', 'timeline'], ['what is seen', 'lab', 'seen'],
     ['the left-out labels', 'mitigate', 'infer'], ['the compiled code', 'mitigate', 'compile'],
   ],
-  refused: [['the verdict', 'mitigate', 'check'], ['the way that the secret took', 'lab', 'why']],
+  refused: [
+    ['the verdict', 'mitigate', 'check'], ['the way that the secret took', 'lab', 'why'],
+    ['the timeline', 'lab', 'timelineRefused'], ['what is seen', 'lab', 'seenRefused'],
+  ],
   syntax: [['the verdict', 'mitigate', 'check'], ['what could stand there', 'lab', 'why']],
   cut: [
     ['the verdict', 'mitigate', 'check'], ['the count until then', 'mitigate', 'cut'],
@@ -47,12 +73,22 @@ const LISTS = {
 const STEADY = [['whether it is constant in time', 'lab', 'steady']];
 const STEADY_END = [...STEADY, ['and its end', 'lab', 'steadyEnd']];
 
-/** The command lines that give what the page shows: [{says, program, words, line}]. `steady` is the answer to whether
-    the program is constant in time, where that was asked. */
-export function commandLines(asked, kind, steady = null) {
+const NOT_ON_MACHINES = ['audit', 'cut'];
+const COMPARED = [['with partitions', 'partitioned'], ['with one cache for all', 'shared']];
+
+function commandLine(says, program, name, asked) {
+  const words = WORDS[name](asked);
+  return { says, program, words, line: `./${program} ${words.join(' ')}`, files: filesOf(asked) };
+}
+
+/** The command lines that give what the page shows: [{says, program, words, line, files}]. `steady` is the answer to
+    whether the program is constant in time, where that was asked, `banks` the machine's text where partitions stand
+    beside one cache for all. */
+export function commandLines(asked, kind, steady = null, banks = null) {
   const more = !steady ? [] : steady.kind === 'yes' ? STEADY_END : STEADY;
-  return [...(LISTS[kind] ?? LISTS.other), ...more].map(([says, program, name]) => {
-    const words = WORDS[name](asked);
-    return { says, program, words, line: `./${program} ${words.join(' ')}` };
-  });
+  const isThere = ([, , name]) => !(isOwn(asked) && NOT_ON_MACHINES.includes(name));
+  const lines = [...(LISTS[kind] ?? LISTS.other), ...more].filter(isThere)
+    .map(([says, program, name]) => commandLine(says, program, name, asked));
+  if (banks === null) return lines;
+  return [...lines, ...COMPARED.map(([says, side]) => commandLine(says, 'lab', 'leak', onSide(asked, banks, side)))];
 }

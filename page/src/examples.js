@@ -1,9 +1,11 @@
 // The examples, each with a sentence. `files` are the texts of examples/ and of this folder; page/build puts them in.
 
-/** A list of starts in which one variable goes from a number to another one. */
-export function countedStarts(name, from, to) {
+import { OWN } from './machine.js';
+
+/** A list of starts in which one variable goes from a number to another one, in steps. */
+export function countedStarts(name, from, to, step = 1) {
   const runs = [];
-  for (let value = from; value <= to; value++) runs.push(`[[run]]\nmemory = { ${name} = ${value} }\n`);
+  for (let value = from; value <= to; value += step) runs.push(`[[run]]\nmemory = { ${name} = ${value} }\n`);
   return runs.join('\n');
 }
 
@@ -42,5 +44,9 @@ export function examplesOf(files) {
     { name: 'A branch with a low write label',
       says: 'Refused: what stands in a branch on a secret may not change parts of the machine that all can see.',
       program: files['refused/if.mit'], starts: '[[run]]\n' },
+    { name: 'A probe of one cache for all',
+      says: 'Accepted, with a prediction that is enough; and all 16 places are told, since labels share the caches.',
+      program: files['probe/probe.mit'], starts: countedStarts('secret', 0, 60, 4), budget: '8191',
+      environment: OWN, machine: files['machines/shared.toml'] },
   ].map((example) => ({ ...usual, ...example }));
 }

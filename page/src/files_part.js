@@ -5,7 +5,7 @@ import { isFresh } from './freshness.js';
 import { readFileText, jsonOf } from './saved.js';
 import { saveText } from './saving.js';
 import { $, answeredOf, calls, faults, shown, state } from './state.js';
-import { PROGRAM, STARTS } from './commands.js';
+import { MACHINE, PROGRAM, STARTS } from './commands.js';
 import { hasAside } from './work.js';
 
 const EMPTY = { program: 'var l : L;\nvar h : H;\n\nl := 1\n', starts: '[[run]]\nmemory = { h = 0 }\n' };
@@ -25,17 +25,17 @@ export function drawWayBack() {
 
 const answers = () => {
   const fresh = (name, value) => (isFresh(name, answeredOf[name], state, faults) ? value : null);
-  const { verdict, steady, audit, leak, runs, mitigates, points } = shown;
+  const { verdict, steady, audit, leak, compared, runs, mitigates, points } = shown;
   return {
     state, verdict: fresh('verdict', verdict), steady: fresh('steady', steady), audit: fresh('audit', audit),
     leak: fresh('leak', leak), runs: fresh('runs', runs), mitigates: fresh('runs', mitigates),
-    points: fresh('points', points),
+    points: fresh('points', points), compared: fresh('compared', compared),
   };
 };
 
 async function saveLines() {
-  const files = { [PROGRAM]: state.program, [STARTS]: state.starts }, parts = [];
-  for (const { program, words, line } of commandsNow()) {
+  const parts = [];
+  for (const { program, words, line, files } of commandsNow()) {
     const { status, text } = await calls.tool.call(program, words, files);
     parts.push(`$ ${line}\n${text}(status ${status})\n`);
   }
@@ -49,7 +49,8 @@ async function openFiles(files, load) {
     if (!read) drawNotice(`${file.name} holds nothing that can be opened here.`);
     next = { ...next, ...read };
   }
-  if (next.program !== undefined || next.starts !== undefined) load({ ...state, ...next }, { isOwn: true });
+  const isSome = ['program', 'starts', 'machine'].some((name) => next[name] !== undefined);
+  if (isSome) load({ ...state, ...next }, { isOwn: true });
 }
 
 /** What a person does with files. `load` puts a program and its starts in place of what is there;
@@ -65,6 +66,7 @@ export function listenFiles(load, goBack) {
   press('file-back', goBack);
   press('file-save', () => saveText(state.program, PROGRAM));
   press('starts-save', () => saveText(state.starts, STARTS));
+  press('machine-save', () => saveText($('machine-text').value, MACHINE));
   press('lines-save', () => saveLines().catch(() => {}));
   press('json-save', () => saveText(jsonOf(answers()), 'answers.json', 'application/json'));
   $('file-chosen').addEventListener('change', ({ target }) => {

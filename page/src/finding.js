@@ -12,6 +12,7 @@ function limitOf(report, sharp) {
   return sharp?.sharp ?? BigInt(report.base) ** BigInt(report.exponent);
 }
 
+const NO_LIMIT = 'no limit holds, since all labels share the caches';
 const limitWords = (limit) => (limit < 10n ** 6n ? inWords(limit) : `2<sup>${bitsIn(limit)}</sup>`);
 
 // The least B with a number at most 2^B.
@@ -20,8 +21,8 @@ function bitsIn(number) {
 }
 
 function ofReport({ report, isCut, sharp }, labels) {
-  const who = `an observer at ${labelText(report.observer, labels)}`, limit = limitOf(report, sharp),
-    { runs, distinct } = report;
+  const who = `an observer at ${labelText(report.observer, labels)}`, { runs, distinct } = report;
+  const isShared = report.sharing === 'shared', limit = isShared ? null : limitOf(report, sharp);
   if (isCut) {
     const verb = report.halted === 1 ? 'has' : 'have';
     const some = `${capital(inWords(report.halted))} of ${counted(runs, 'run')} ${verb}`;
@@ -29,19 +30,26 @@ function ofReport({ report, isCut, sharp }, labels) {
     const halted = `${report.halted === 0 ? 'No run has' : some} halted by cycle ${spaced(report.budget)}`;
     return `${halted}. Until then ${who} sees ${timings}.`;
   }
-  const most = limit === 1n
-    ? 'no other is possible'
+  const most = isShared ? NO_LIMIT : limit === 1n ? 'no other is possible'
     : `at most ${limitWords(limit)} are possible`;
-  if (runs === 1) return `Of one run ${who} sees one timing; ${limit === 1n ? most : `with other secrets ${most}`}.`;
+  const others = isShared || limit === 1n ? most : `with other secrets ${most}`;
+  if (runs === 1) return `Of one run ${who} sees one timing; ${others}.`;
   if (distinct === 1) {
-    const others = limit === 1n ? most : `with other secrets ${most}`;
     return `${capital(who)} cannot tell these ${inWords(runs)} runs apart; ${others}.`;
   }
   return `Of ${inWords(runs)} runs ${who} sees ${inWords(distinct)} different timings; ${most}.`;
 }
 
+// What is seen of the runs of a refused program.
+function ofRefused(runs, observer, labels) {
+  const distinct = Math.max(...runs.map((run) => run.class)), who = `an observer at ${labelText(observer, labels)}`;
+  const timings = distinct === 1 ? 'one timing' : `${inWords(distinct)} timings`;
+  const of = runs.length === 1 ? 'one run' : `${inWords(runs.length)} runs`;
+  return `Of ${of} ${who} sees ${timings}, and no limit holds.`;
+}
+
 /** What was found of a program and its starts, as HTML; empty where nothing was found yet. */
-export function findingText({ verdict, audit, labels, observer, steady = null }) {
+export function findingText({ verdict, audit, labels, observer, steady = null, runs = null }) {
   if (verdict?.kind === 'syntax') {
     return `This is not a program: ${escaped(verdict.what)}${verdict.place ? ` at ${placeText(verdict.place)}` : ''}.`;
   }
@@ -52,7 +60,8 @@ export function findingText({ verdict, audit, labels, observer, steady = null })
   if (verdict?.kind === 'refused') {
     const { from, to } = verdict;
     const what = `what is ${labelText(from, labels)} would reach ${labelText(to, labels)}`;
-    return `Refused, since at ${placeText(verdict.place)} ${what}. No limit holds for how much it tells.`;
+    const refused = `Refused, since at ${placeText(verdict.place)} ${what}.`;
+    return `${refused} ${runs ? ofRefused(runs, observer, labels) : 'No limit holds for how much it tells.'}`;
   }
   if (verdict && verdict.kind !== 'accepted') return `There is no verdict: ${escaped(verdict.text)}.`;
   if (audit?.report) return ofReport(audit, labels);
@@ -69,6 +78,11 @@ export function refusalText(refusal, labels, observer) {
       : `the cache partition ${escaped(name)}`;
     return `No count: the starts must agree in all that an observer at ${labelText(observer, labels)} may see, `
       + `and run ${run} differs from run 1 in ${what}.`;
+  }
+  const unfinished = /^unfinished: run (\d+) @(\d+)$/.exec(refusal.text);
+  if (unfinished) {
+    return `No count: run ${spaced(unfinished[1])} has not halted by the greatest cycle, and on a machine of a file`
+      + ' only runs are counted that have.';
   }
   if (refusal.kind === 'starts') return `No runs: <code>${escaped(refusal.text)}</code>.`;
   return `No count: <code>${escaped(refusal.text)}</code>.`;

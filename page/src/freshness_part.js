@@ -9,7 +9,8 @@ const SHOWN_IN = {
   steady: ['steady-says'],
   audit: ['audit', 'words'],
   leak: ['leak-shown'],
-  runs: ['lanes', 'lane-says', 'time-legend', 'lane-pages'],
+  compared: ['machine-shown'],
+  runs: ['lanes', 'lane-says', 'step-says', 'time-legend', 'lane-pages'],
   points: ['sweep-picture', 'sweep-text', 'sweep-numbers'],
 };
 
@@ -43,11 +44,13 @@ export function drawFreshness() {
   const isOfNow = fresh('verdict') && (isOfVerdict ? !isOfSteady : fresh('audit'));
   $('sentence').classList.toggle('stale', !isOfNow);
   const stale = ['audit', 'runs', 'leak', 'steady'].filter(isStale), of = answeredOf[stale[0]];
-  const text = staleText({ hasAnswers: stale.length > 0, of, now: state, why, fault: faults.budget || faults.cell });
+  const fault = faults.budget || faults.cell || faults.machine;
+  const text = staleText({ hasAnswers: stale.length > 0, of, now: state, why, fault });
   if ($('freshness').textContent !== text) $('freshness').textContent = text;
   $('time-note').classList.toggle('stale', false);
   noteOf($('sweep-note'), 'points');
   noteOf($('leak-note'), 'leak');
+  noteOf($('machine-note'), 'compared');
 }
 
 // The words above a part, and of what it is where that is another text.

@@ -29,18 +29,24 @@ function row(head, share, fill, words) {
   return `<tr><th scope="row">${head}</th><td class="bar-cell">${bar(share, fill)}</td><td>${words}</td></tr>`;
 }
 
-const bitsText = (bits) => (bits === null ? '128 bits or more' : counted(bits, 'bit'));
+const manyBits = (bits) => (bits === null ? '128 bits or more' : counted(bits, 'bit'));
 
 // What the runs show, and the limits, one below the other; bars by the bits that tell so many things apart.
-function limitsText({ distinct, sharp, base, exponent }) {
+function limitsText({ distinct, sharp, base, exponent, sharing }) {
+  const head = '<h3>How many things are told apart</h3><table class="numbers"><tbody>';
+  const exact = (share) =>
+    row(spaced(distinct), share, HALF, `exactly, by these runs: ${manyBits(bitsOf(distinct, 1))}`);
+  if (sharing === 'shared') {
+    const none = row('none', 0, HALF, 'no limit: all labels share the caches');
+    return `${head}${exact(1)}${none}</tbody></table>`;
+  }
   const bits = [bitsOf(distinct, 1), sharp === undefined ? null : bitsOf(sharp, 1), bitsOf(base, exponent)];
   const most = Math.max(...bits, 1), share = (k) => (bits[k] ?? Math.min(128, most)) / most;
   const rounded = sharp === undefined ? '' : wholeBound(sharp), title = rounded ? ` title="${rounded}"` : '';
   const sharpText = sharp === undefined ? '2<sup>128</sup> or more' : boundText(sharp);
-  return '<h3>How many things are told apart</h3><table class="numbers"><tbody>'
-    + row(spaced(distinct), share(0), HALF, `exactly, by these runs: ${bitsText(bits[0])}`)
-    + row(`<span${title}>${sharpText}</span>`, share(1), HALF, `at most, by the sharp count: ${bitsText(bits[1])}`)
-    + row(powerText({ base, exponent }), share(2), HALF, `at most, by the bound: ${bitsText(bits[2])}`)
+  return head + exact(share(0))
+    + row(`<span${title}>${sharpText}</span>`, share(1), HALF, `at most, by the sharp count: ${manyBits(bits[1])}`)
+    + row(powerText({ base, exponent }), share(2), HALF, `at most, by the bound: ${manyBits(bits[2])}`)
     + '</tbody></table>';
 }
 
@@ -60,11 +66,13 @@ function guessText({ runs, right, guesses }) {
     + ` ${fractionText(guesses.after)} after.</p>`;
 }
 
+/** A number of bits that lies between two numbers. */
+export const bitsText = ([low, high]) => (Number(high) === 0 ? '0' : `${low} to ${high}`);
+
 function entropyText({ minEntropy, shannon }) {
-  const between = ([low, high]) => (Number(high) === 0 ? '0' : `${low} to ${high}`);
   return '<h3>In bits</h3><table class="numbers bits"><tbody>'
-    + `<tr><th scope="row">${between(minEntropy)}</th><td>better is the first guess: ${term('min-entropy')}</td></tr>`
-    + `<tr><th scope="row">${between(shannon)}</th><td>told of the start on the average: ${term('Shannon entropy')}`
+    + `<tr><th scope="row">${bitsText(minEntropy)}</th><td>better is the first guess: ${term('min-entropy')}</td></tr>`
+    + `<tr><th scope="row">${bitsText(shannon)}</th><td>told of the start on the average: ${term('Shannon entropy')}`
     + '</td></tr></tbody></table>';
 }
 
@@ -75,7 +83,7 @@ export function leakNumbers(leak) {
 
 /** Why the runs have no exact leak; empty where nothing says so. */
 export function noLeakText({ verdict, audit, leak }) {
-  if (verdict?.kind === 'refused') return 'A refused program is not run here, so no runs tell something.';
+  if (verdict?.kind === 'refused') return 'What runs tell is counted of accepted programs.';
   if (verdict?.kind !== 'accepted' || !audit || leak) return '';
   if (audit.isCut) {
     return `Not all of these runs have halted by cycle ${spaced(audit.report.budget)}. What they tell is told exactly`

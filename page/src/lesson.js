@@ -2,6 +2,7 @@
 // guess before it tells, and for something to be done. `files` are the texts of examples/.
 
 import { countedStarts } from './examples.js';
+import { OWN } from './machine.js';
 
 const loop = (label, head, indent, end) => `// A number is counted down, and then it is said that this is done.
 var secret : ${label};
@@ -283,11 +284,73 @@ const constantSteps = (files) => {
   ];
 };
 
+const sharedSteps = (files) => {
+  const program = files['probe/probe.mit'], places = countedStarts('secret', 0, 60, 4), budget = '8191';
+  return [
+    {
+      title: 'A look-up, and a probe',
+      text: [
+        'A table is looked up at a secret place, under a prediction that is enough for it. Then a public loop reads the'
+          + ' table through, one place in each line of the cache: where a line is there already, its read is faster.',
+        'Each label has partitions of its own. Sixteen places are tried, in sixteen lines of the cache.',
+      ],
+      guess: {
+        ask: 'How many different things does an observer at L see of the sixteen places?',
+        options: ['One: the look-up is in the partition of H', 'Two: some lines are there and some are not',
+          'Sixteen: the line that was looked up is there'],
+        right: 0,
+        tells: 'One, and the sharp count is 1: no place can be told from another one. The prediction hides how long the'
+          + ' look-up takes, and the partitions hide what it leaves behind.',
+      },
+      program, starts: places, budget, look: 'leak',
+    },
+    {
+      title: 'One cache for all',
+      text: [
+        'A processor knows no labels: all that runs on it shares its caches. This machine is the one of before but for'
+          + ' that. The program is the same, is accepted, and waits out its prediction.',
+      ],
+      guess: {
+        ask: 'How many different things are seen of the sixteen places here?',
+        options: ['One: the rules accept the program', 'Two', 'Sixteen: each tells its place'],
+        right: 2,
+        tells: 'Sixteen. The secret look-up leaves its line behind, and the public loop finds it. No limit is told of'
+          + ' such a machine: all of them rest on a law that it breaks. Below, both machines stand side by side.',
+      },
+      program, starts: places, budget, environment: OWN, machine: files['machines/shared.toml'], look: 'machine',
+    },
+    {
+      title: 'A machine that keeps the law',
+      text: ['This machine has two levels of caches, and all labels share them. Its file is there to be written into.'],
+      task: {
+        says: 'Change one word of the machine file, so that nothing is told of the place and a limit says so.',
+        goal: { accepted: true, sequences: 1, sharp: 1, sameProgram: true, sameStarts: true },
+      },
+      program, starts: places, budget, environment: OWN, machine: files['machines/shared2.toml'], look: 'machine',
+    },
+    {
+      title: 'Another machine, another prediction',
+      text: [
+        'A login tries 24 names, each under mitigate (460, H). On one level of caches that is enough. This machine has'
+          + ' larger caches, whose misses are dearer, and there it is missed.',
+      ],
+      task: {
+        says: 'Find a first prediction with which the three tables of names cannot be told apart here. It may cost more'
+          + ' than before.',
+        goal: { accepted: true, sequences: 1, longest: 40000, sameStarts: true, sameLabels: true },
+      },
+      program: files['login/login.mit'], starts: files['login/starts.toml'], environment: OWN,
+      machine: files['machines/larger.toml'], look: 'sweep',
+    },
+  ];
+};
+
 /** The lessons, in order: name and steps. */
 export function lessonsOf(files) {
   return [
     { name: 'See a leak', steps: TIME },
     { name: 'A cache attack', steps: cacheSteps(files) },
     { name: 'Code of constant time', steps: constantSteps(files) },
+    { name: 'One cache for all', steps: sharedSteps(files) },
   ];
 }

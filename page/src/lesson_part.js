@@ -16,6 +16,7 @@ const LESSONS = lessonsOf(DATA);
 const PARTS = {
   program: 'the program', time: 'the timeline', answer: 'what is seen, and when', starts: 'the starts',
   sweep: 'the predictions', steady: 'whether it is constant in time', leak: 'what these runs tell',
+  machine: 'the machine',
 };
 
 let course = null, number = 0, mustGo = false, isDone = false;

@@ -7,8 +7,8 @@ import { counted, spaced } from './numbers.js';
 
 const MOST_CYCLES = 4; // cycles that are told one by one
 
-// The variables and arrays that a program assigns on one line alone, with that line.
-function assignedOnce(text) {
+/** The variables and arrays that a program assigns on one line alone, with that line. */
+export function assignedOnce(text) {
   const program = readProgram(text), lineOf = lineFinder(text), lines = new Map();
   for (const command of program ? allCommands(program.body) : []) {
     if (command.form !== 'assign' && command.form !== 'put') continue;

@@ -10,6 +10,7 @@ const base64 = (bytes) => {
 const unbase64 = (text) =>
   Uint8Array.from(atob(text.replaceAll('-', '+').replaceAll('_', '/')), (sign) => sign.charCodeAt(0));
 const KEYS = { program: 'p', starts: 's', observer: 'o', environment: 'e', budget: 'b' };
+const MACHINE = 'm'; // the machine file, where there is one
 const MOST = 4 * 1024 * 1024;
 
 // The bytes that come out of a packing or an unpacking, at most so many.
@@ -36,6 +37,7 @@ async function* chunks(stream) {
 /** The part after '#' for what is on the page, with a task of it where there is one. */
 export async function linkOf(state, task = null) {
   const short = Object.fromEntries(Object.entries(KEYS).map(([name, letter]) => [letter, state[name]]));
+  if (state.machine) short[MACHINE] = state.machine;
   if (task) short.t = task;
   const bytes = new TextEncoder().encode(JSON.stringify(short));
   if (typeof CompressionStream === 'undefined') return `#j${base64(bytes)}`;
@@ -52,6 +54,7 @@ export async function stateOf(hash) {
     const short = JSON.parse(new TextDecoder().decode(plain));
     const state = Object.fromEntries(Object.entries(KEYS).map(([name, letter]) => [name, short[letter]]));
     if (!Object.values(state).every((value) => typeof value === 'string')) return null;
+    if (typeof short[MACHINE] === 'string') state.machine = short[MACHINE];
     const task = readTask(short.t);
     return task ? { ...state, task } : state;
   } catch {

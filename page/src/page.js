@@ -1,6 +1,6 @@
 // The page: what is loaded into it, its settings, and its beginning.
 
-import { ask, askSteady, changed } from './asking.js';
+import { ask, askCompared, askSteady, changed } from './asking.js';
 import { drawAudit, drawObservers } from './audit_part.js';
 import { listenCode } from './code_part.js';
 import { escaped } from './colours.js';
@@ -14,10 +14,12 @@ import { drawFreshness } from './freshness_part.js';
 import { drawLeak, listenLeak } from './leak_part.js';
 import { closeLesson, listenLesson, openTask } from './lesson_part.js';
 import { linkOf, stateOf } from './link.js';
+import { drawMachine, listenMachine, noteMachineFault } from './machine_part.js';
 import { listenProgram, loadProgram } from './program_part.js';
 import { drawStarts, listenStarts } from './starts_part.js';
 import { $, answeredOf, calls, faults, shown, state } from './state.js';
 import { drawSteady, listenSteady } from './steady_part.js';
+import { listenSteps } from './steps_part.js';
 import { drawSweep, listenSweep } from './sweep_part.js';
 import { readTask } from './tasks.js';
 import { listenTeach } from './teach_part.js';
@@ -27,7 +29,9 @@ import { listenTips } from './tips.js';
 import { drawNoModule, listenVerdict } from './verdict_part.js';
 import { keptWork, noteLoaded, noteTask, putAside, takeAside, taskNow } from './work.js';
 
-const EXAMPLES = examplesOf(DATA), USUAL = { observer: 'L', environment: 'part', budget: '1000000' };
+const EXAMPLES = examplesOf(DATA), USUAL = {
+  observer: 'L', environment: 'part', machine: '', budget: '1000000',
+};
 const MOST_CYCLES = 2 ** 40;
 
 // Puts a program, its starts and settings in place of what is there, which is put aside where it is a person's own.
@@ -41,14 +45,14 @@ function load(next, { isOwn = false, isLesson = false, isBack = false, example =
   for (const name of Object.keys(USUAL)) state[name] = next[name] ?? USUAL[name];
   loadProgram(next.program);
   $('toml').value = state.starts;
-  $('environment').value = state.environment;
   $('budget').value = state.budget;
   setFault('');
   faults.cell = '';
+  noteMachineFault(null);
   for (const name of Object.keys(answeredOf)) delete answeredOf[name];
   Object.assign(shown, {
     points: [], isSwept: false, audit: null, leak: null, runs: null, mitigates: null, verdict: null, steps: [],
-    told: [], steady: null, wantsSteady: false, code: null, mostRuns: undefined,
+    told: [], steady: null, wantsSteady: false, code: null, compared: null, mostRuns: undefined,
   });
   shown.labels = writtenLabels(state.program);
   drawObservers();
@@ -56,6 +60,7 @@ function load(next, { isOwn = false, isLesson = false, isBack = false, example =
   drawTime();
   drawSteady();
   drawLeak();
+  drawMachine();
   drawStarts();
   drawSweep();
   drawNotice(isAside ? 'Your program was put aside.' : '');
@@ -107,8 +112,8 @@ async function copyLink() {
   setTimeout(() => { button.textContent = 'Copy link'; }, 2500);
 }
 
-function setting(name) {
-  state[name] = $(name).value;
+function setObserver() {
+  state.observer = $('observer').value;
   drawStarts();
   changed({ now: true });
 }
@@ -141,8 +146,7 @@ function listenSettings() {
     if (value === 'own') goBack();
     else loadExample(Number(value));
   });
-  $('observer').addEventListener('change', () => setting('observer'));
-  $('environment').addEventListener('change', () => setting('environment'));
+  $('observer').addEventListener('change', setObserver);
   $('budget').addEventListener('input', setBudget);
   $('stop').addEventListener('click', () => calls.tool.stop());
   $('copy').addEventListener('click', copyLink);
@@ -166,11 +170,13 @@ function listen() {
   listenVerdict();
   listenStarts(changed);
   listenTime(ask);
+  listenSteps();
   listenSteady(askSteady);
   listenLeak();
   listenCode(ask);
   listenCosts();
   listenSweep();
+  listenMachine(changed, askCompared);
   listenCommands();
   listenFiles(load, goBack);
   listenLesson(load);
@@ -209,6 +215,7 @@ async function begin() {
   document.documentElement.dataset.ready = calls.tool.programs.join(' ');
   drawSteady();
   drawLeak();
+  drawMachine();
   ask();
 }
 

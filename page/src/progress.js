@@ -1,7 +1,7 @@
 // How far a long run is: told by runs of its own, one after the other, each asked for up to twice as many cycles as
 // before. So what is told is a fact about the runs, whatever the module is working on at that time.
 
-import { PROGRAM, STARTS, WORDS } from './commands.js';
+import { countCall, filesOf } from './commands.js';
 import { counted, spaced } from './numbers.js';
 import { oneStart, readStarts } from './starts.js';
 
@@ -17,10 +17,10 @@ export async function followRuns(tool, asked, tell) {
   if (starts.fault) return;
   const runs = starts.runs.length;
   for (let k = 0; k < runs; k++) {
-    const files = { [PROGRAM]: asked.program, [STARTS]: oneStart(starts, k) };
+    const files = filesOf({ ...asked, starts: oneStart(starts, k) });
     tell({ run: k + 1, runs, cycle: 0, budget: most });
     for (let cycles = FIRST_CYCLES; cycles < most; cycles *= 2) {
-      const { status } = await tool.call('mitigate', WORDS.audit({ ...asked, budget: String(cycles) }), files);
+      const { status } = await tool.call(...countCall({ ...asked, budget: String(cycles) }), files);
       if (status === DONE) break;
       if (status !== UNFINISHED) return;
       tell({ run: k + 1, runs, cycle: cycles, budget: most });

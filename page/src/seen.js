@@ -42,6 +42,21 @@ export function seenTexts(runs) {
   return runs.map((run) => texts.get(run.class));
 }
 
+/** A word for each of several different sequences: where it parts from the last one of the others; where such words
+    read alike, those of `seenTexts`. */
+export function partingTexts(sequences) {
+  const texts = sequences.map((events) => {
+    const others = sequences.filter((other) => other !== events);
+    const place = Math.max(0, ...others.map((other) => firstDifference(events, other)));
+    if (events.length === 0) return 'nothing';
+    return `${place > 0 ? '… ' : ''}${eventText(events[place])}${place + 1 < events.length ? ' …' : ''}`;
+  });
+  if (new Set(texts).size === texts.length) return texts;
+  return seenTexts(sequences.map((events, k) => ({
+    class: k + 1, events: events.map((event) => ({ ...event, isSeen: true })),
+  })));
+}
+
 // The first place at which two sequences differ.
 function firstDifference(some, others) {
   const length = Math.max(some.length, others.length);

@@ -7,11 +7,11 @@ import { readStarts } from './starts.js';
 export const $ = (id) => document.getElementById(id);
 
 /** What is asked about. */
-export const state = { program: '', starts: '', observer: 'L', environment: 'part', budget: '1000000' };
+export const state = { program: '', starts: '', observer: 'L', environment: 'part', machine: '', budget: '1000000' };
 
-/** Words for what was written and is not asked about, since it is none: the number of cycles, and a
-    cell of the table. */
-export const faults = { budget: '', cell: '' };
+/** Words for what was written and is not asked about, since it is none: the number of cycles, a cell of the table, and
+    the machine file. */
+export const faults = { budget: '', cell: '', machine: '' };
 
 /** What was answered, and how it is looked at. */
 export const shown = {
@@ -25,6 +25,8 @@ export const shown = {
   steady: null, wantsSteady: false, // whether it is constant in time, and whether that is asked of what is accepted too
   audit: null, // {report, isCut, sharp} or {refusal}
   leak: null, // what the runs tell, exactly
+  machineFault: null, // what the lab refuses in the machine file
+  compared: null, // what the runs tell with partitions, and where all labels share the caches
   runs: null, mitigates: null, isAll: true, mostRuns: undefined, // the runs: all of them, or as many as are asked for
   view: null, page: 0, lane: -1, // the cycles and the runs that the lanes show, and the run that is looked at
   points: [], unfinished: 0, least: null, // what was tried with other predictions, and with how many not all runs halt

@@ -4,8 +4,9 @@ import {
   classesOf, markSeen, readAudit, readFault, readLeak, readRefusal, readRun, readSteady, readTimeline, readVerdict,
   readWhy,
 } from './answers.js';
-import { asSeen, PROGRAM, STARTS, WORDS } from './commands.js';
+import { asSeen, countCall, filesOf, MACHINE, onSide, PROGRAM, STARTS, WORDS } from './commands.js';
 import { offsetOf, placeOf, readProgram, withEstimate, wrapped } from './language.js';
+import { machineFault, OWN } from './machine.js';
 import { oneStart, readStarts } from './starts.js';
 
 const DONE = 0, OUT_OF_BUDGET = 8, UNFINISHED = 10;
@@ -13,7 +14,7 @@ const DONE = 0, OUT_OF_BUDGET = 8, UNFINISHED = 10;
 /** How many runs are drawn where each needs a call of its own. */
 export const MOST_SINGLE_RUNS = 64;
 
-const files = (state) => ({ [PROGRAM]: state.program, [STARTS]: state.starts });
+const files = filesOf;
 const refusalOf = ({ text }) => readRefusal(text.split('\n')[0]);
 
 /** Whether the tool accepts the program, and which refusals it names. */
@@ -73,23 +74,51 @@ function listsTo(list, at) {
   return [list, ...around.parts.flatMap((part) => listsTo(part, at))];
 }
 
-const reportOn = (tool, state, command) => tool.call('mitigate', WORDS[command](state), files(state));
+const counted = (tool, state) => tool.call(...countCall(state), files(state));
 
-/** The audit: {report} of runs that have halted, {report, isCut} where some have not, or {refusal}. */
+/** The audit: {report} of runs that have halted, {report, isCut} where some have not, or {refusal}. On a machine of a
+    file, which the lab alone takes, the sharp count stands beside it already, and no runs are cut. */
 export async function auditOf(tool, state) {
-  const answer = await reportOn(tool, state, 'audit');
-  if (answer.status === DONE) return { report: readAudit(answer.text), isCut: false };
-  if (answer.status !== UNFINISHED) return { refusal: refusalOf(answer) };
-  const cut = await reportOn(tool, state, 'cut');
+  const answer = await counted(tool, state), isOwn = state.environment === OWN;
+  if (answer.status === DONE) {
+    const report = readAudit(answer.text);
+    return { report, isCut: false, ...(isOwn ? { sharp: sharpIn(report) } : {}) };
+  }
+  if (answer.status !== UNFINISHED || isOwn) return { refusal: refusalOf(answer) };
+  const cut = await tool.call('mitigate', WORDS.cut(state), files(state));
   return cut.status === DONE ? { report: readAudit(cut.text), isCut: true } : { refusal: refusalOf(cut) };
 }
+
+const sharpIn = (report) => (report?.sharp === undefined ? null : report);
 
 /** The sharp count and what stands beside it, by the lab; null where it is not there or refuses. */
 export async function sharpOf(tool, state) {
   if (!tool.has('lab')) return null;
   const { status, text } = await tool.call('lab', WORDS.bound(state), files(state));
-  const report = status === DONE ? readAudit(text) : null;
-  return report?.sharp === undefined ? null : report;
+  return sharpIn(status === DONE ? readAudit(text) : null);
+}
+
+const LEAST = { [PROGRAM]: 'var l : L;\nskip\n', [STARTS]: '[[run]]\n' };
+
+/** What the lab refuses in a machine file, as {words, line}, or null. It reads it before the program, so that the least
+    program serves. */
+export async function machineFaultOf(tool, state) {
+  if (state.environment !== OWN || !tool.has('lab')) return null;
+  const words = WORDS.timeline({ ...state, budget: '1000000' });
+  const { text } = await tool.call('lab', words, { ...LEAST, [MACHINE]: state.machine });
+  const [line] = text.split('\n');
+  return /machine/.test(line) ? machineFault(state.machine, line) : null;
+}
+
+/** What the runs tell with partitions, and where all labels share the caches: {partitioned, shared}, each {leak} or
+    {refusal}. `banks` is the machine's text. */
+export async function comparedOf(tool, state, banks) {
+  const found = {};
+  for (const side of ['partitioned', 'shared']) {
+    const asked = onSide(state, banks, side), answer = await tool.call('lab', WORDS.leak(asked), files(asked));
+    found[side] = answer.status === DONE ? { leak: readLeak(answer.text) } : { refusal: refusalOf(answer) };
+  }
+  return found;
 }
 
 /** What the runs tell, exactly, by the lab; null where it is not there or refuses. */
@@ -108,8 +137,8 @@ export async function steadyOf(tool, state) {
   return steady.kind === 'yes' ? { ...steady, end: await judged(WORDS.steadyEnd(state)) } : steady;
 }
 
-async function byLab(tool, state) {
-  const words = WORDS.timeline(state);
+async function byLab(tool, state, isRefused) {
+  const words = isRefused ? WORDS.timelineRefused(state) : WORDS.timeline(state);
   const all = await tool.call('lab', words, files(state)), told = readTimeline(all.text);
   if (!told) return { refusal: refusalOf(all) };
   const seen = await tool.call('lab', asSeen(words, state), files(state));
@@ -117,7 +146,7 @@ async function byLab(tool, state) {
 }
 
 async function single(tool, state, starts, k, words) {
-  const alone = { [PROGRAM]: state.program, [STARTS]: oneStart(starts, k) };
+  const alone = files({ ...state, starts: oneStart(starts, k) });
   const answer = await tool.call('mitigate', words, alone);
   return answer.status === DONE || answer.status === OUT_OF_BUDGET ? readRun(answer.text) : refusalOf(answer);
 }
@@ -141,7 +170,16 @@ async function byRuns(tool, state, most) {
 /** The runs with their assignments and ends, and with mitigations where the lab is there: {runs, mitigates} or
     {refusal}. */
 export async function runsOf(tool, state, most = MOST_SINGLE_RUNS) {
-  const told = tool.has('lab') ? await byLab(tool, state) : await byRuns(tool, state, most);
+  return withClasses(tool.has('lab') ? await byLab(tool, state, false) : await byRuns(tool, state, most));
+}
+
+/** The runs of a refused program, by its least labels, as the lab tells them; null where it is not there or refuses. */
+export async function refusedRunsOf(tool, state) {
+  const told = tool.has('lab') ? await byLab(tool, state, true) : {};
+  return told.runs ? withClasses(told) : null;
+}
+
+function withClasses(told) {
   if (told.runs) classesOf(told.runs).forEach((number, k) => Object.assign(told.runs[k], { class: number }));
   return told;
 }
@@ -151,7 +189,7 @@ export async function runsOf(tool, state, most = MOST_SINGLE_RUNS) {
     halt: what those tell and cost, and how long their bodies are, is not known. */
 export async function pointOf(tool, state, mitigate, prediction) {
   const tried = { ...state, program: withEstimate(state.program, mitigate, prediction) };
-  const audit = await reportOn(tool, tried, 'audit');
+  const audit = await counted(tool, tried);
   if (audit.status !== DONE) return null;
   const report = readAudit(audit.text);
   const told = tool.has('lab') ? await labEnds(tool, tried) : await singleEnds(tool, tried, report.runs);

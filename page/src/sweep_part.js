@@ -24,7 +24,8 @@ const estimateOf = (mitigate) => {
 
 /** Whether there is a sweep to make: all runs have halted, and there is a mitigate. */
 export function canSweep() {
-  const hasRuns = shown.audit?.report && !shown.audit.isCut && shown.runs && shown.isAll;
+  const isCounted = shown.verdict?.kind === 'accepted' && shown.audit?.report && !shown.audit.isCut;
+  const hasRuns = isCounted && shown.runs && shown.isAll;
   return Boolean(hasRuns && mitigatesNow().length && isFresh('runs', answeredOf.runs, state));
 }
 

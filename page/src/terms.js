@@ -105,8 +105,15 @@ export const TERMS = {
   },
   caches: {
     says: 'How long an access takes. flat: all take alike. part: a cache and a translation buffer, with a part for each'
-      + ' label, so that what is secret leaves no traces in the public part. part2: with a second level.',
+      + ' label, so that what is secret leaves no traces in the public part. part2: with a second level. A machine file'
+      + ' describes another machine.',
     links: [tutorial(CACHES), glossary('Environment'), machine('Environments')],
+  },
+  machine: {
+    says: 'A machine file has the sizes and costs of a translation buffer and of caches, and says whether each label'
+      + ' has partitions of its own or all share them. The limits are proved of every machine with partitions, and of'
+      + ' no shared one.',
+    links: [tutorial(CACHES), machine('Machine files'), HEADLINE],
   },
   cycle: {
     says: 'The unit of the machine’s time. Each instruction takes one, and more where caches miss, where an operator is'

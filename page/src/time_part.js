@@ -4,6 +4,7 @@ import { drawCosts } from './costs_part.js';
 import { saveSvg } from './saving.js';
 import { spaced } from './numbers.js';
 import { isOnlyRefused } from './steady_part.js';
+import { drawStep, goBy } from './steps_part.js';
 import { $, answeredOf, calls, mitigatesNow, shown, starts } from './state.js';
 import { LANES, mitigateText, pagesText, timeLegend } from './time_text.js';
 import { cycleAt, moved, runText, timeline, wholeView, zoomed } from './timeline.js';
@@ -14,10 +15,8 @@ const lanesWidth = () => Math.max($('lanes').clientWidth - 2, 280);
 function placeholder() {
   const kind = answeredOf.verdict ? shown.verdict?.kind : null;
   const words = {
-    refused: isOnlyRefused() ? 'A refused program is not run here. This one is constant in time: whatever is secret,'
-      + ' the observer sees the same at the same cycles.'
-      : 'A refused program is not run here. Where it is its time that tells, the offered mitigate gives it a limit, and'
-        + ' a picture.',
+    refused: isOnlyRefused() ? 'This program is constant in time: whatever is secret, the observer sees the same at the'
+      + ' same cycles.' : 'There are no runs of this refused program.',
     syntax: 'Runs are drawn here once there is a program.',
   };
   return `<p class="empty">${words[kind] ?? ''}</p>`;
@@ -26,6 +25,7 @@ function placeholder() {
 /** The lanes, with what stands about them; where there are no runs, why. */
 export function drawTime() {
   const { runs } = shown, box = $('lanes');
+  drawStep();
   for (const id of ['zoom-in', 'zoom-out', 'zoom-all', 'time-save']) $(id).disabled = !runs;
   if (!runs) {
     box.innerHTML = placeholder();
@@ -42,9 +42,12 @@ export function drawTime() {
   $('lane-pages').innerHTML = pagesText(runs.length, first, part.length, shown.isAll);
   $('time-legend').innerHTML =
     timeLegend(runs, { hasLab: calls.tool.has('lab'), hasMitigates: mitigatesNow().length > 0 });
-  $('lane-says').innerHTML =
-    (shown.mitigates ?? []).filter((mitigate) => mitigate.ended).map(mitigateText).join('<br>');
+  const told = (shown.mitigates ?? []).filter((mitigate) => mitigate.ended).map(mitigateText);
+  $('lane-says').innerHTML = [...(isOfRefused() ? [REFUSED] : []), ...told].join('<br>');
 }
+
+const REFUSED = 'The rules refuse this program. These are its runs by its least labels, and no limit holds of them.';
+const isOfRefused = () => shown.verdict?.kind === 'refused' && answeredOf.runs?.program === answeredOf.verdict?.program;
 
 function zoom(factor, about) {
   if (!shown.runs) return;
@@ -87,6 +90,7 @@ export function pickLane(number, says = true) {
     lane?.scrollIntoView({ block: 'nearest' });
     $('lane-says').textContent = $('announce').textContent = runText(shown.runs[number], number + 1);
     drawCosts();
+    drawStep();
   }
 }
 
@@ -153,6 +157,8 @@ function onKey(event) {
     ArrowRight: () => move(step),
     ArrowDown: () => pickLane(Math.min(shown.lane + 1, shown.runs.length - 1)),
     ArrowUp: () => pickLane(Math.max(shown.lane - 1, 0)),
+    '.': () => goBy(1),
+    ',': () => goBy(-1),
   };
   if (!keys[event.key]) return;
   event.preventDefault();

@@ -1,13 +1,14 @@
 // What a person wrote is kept in this browser: what is on the page, and the own work that something
 // else came in place of.
 
+import { isOwnMachine } from './machine_part.js';
 import { $, state } from './state.js';
 
 const WORK = 'mitigate.work', ASIDE = 'mitigate.aside', MOST_ASIDE = 10;
 const KEYS = ['program', 'starts', 'observer', 'environment', 'budget'];
 
 // what was loaded, whose it is, and of which task, as {task, given}, it is
-const loaded = { isOwn: false, isLesson: false, program: '', starts: '', ofTask: null };
+const loaded = { isOwn: false, isLesson: false, program: '', starts: '', machine: '', ofTask: null };
 
 const isWork = (work) => Boolean(work) && KEYS.every((key) => typeof work[key] === 'string');
 
@@ -27,7 +28,8 @@ function write(name, value) {
   }
 }
 
-const isChanged = () => state.program !== loaded.program || state.starts !== loaded.starts;
+const isChanged = () => state.program !== loaded.program || state.starts !== loaded.starts
+  || (state.machine !== loaded.machine && isOwnMachine(state.machine));
 
 /** Keeps what is on the page. */
 export function keepWork() {
@@ -52,7 +54,8 @@ export const hasAside = () => allAside().length > 0;
 
 /** What was loaded, and whose it is: a person's own, a step of the lesson, or neither. */
 export function noteLoaded(next, { isOwn, isLesson }) {
-  Object.assign(loaded, { isOwn, isLesson, program: next.program, starts: next.starts });
+  const { program, starts, machine = '' } = next;
+  Object.assign(loaded, { isOwn, isLesson, program, starts, machine });
 }
 
 /** That what is on the page is worked on for a task that began with `given`; null where for none. */

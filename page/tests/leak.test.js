@@ -132,7 +132,7 @@ test('entropies are intervals, as they are told', () => {
 
 test('why there is no exact leak', () => {
   const report = { budget: 1000 }, accepted = { kind: 'accepted' };
-  assert.match(noLeakText({ verdict: { kind: 'refused' } }), /^A refused program is not run/);
+  assert.match(noLeakText({ verdict: { kind: 'refused' } }), /^What runs tell is counted of accepted programs/);
   assert.match(plain(noLeakText({ verdict: accepted, audit: { report, isCut: true }, leak: null })),
     /^Not all of these runs have halted by cycle 1 000\./);
   assert.match(noLeakText({ verdict: accepted, audit: { refusal: {} }, leak: null }), /^There is no count/);

@@ -4,7 +4,9 @@ import test from 'node:test';
 import { mitigates, readProgram } from '../src/language.js';
 import { call } from '../src/module.js';
 import { moduleBytes } from './built_module.js';
-import { auditOf, chainOf, completedBy, mendOf, pointOf, runsOf, sharpOf, verdictOf } from '../src/study.js';
+import {
+  auditOf, chainOf, completedBy, mendOf, pointOf, refusedRunsOf, runsOf, sharpOf, verdictOf,
+} from '../src/study.js';
 
 // A tool that answers by a function of program, words and files, and keeps the calls.
 function toolOf(programs, answer) {
@@ -84,6 +86,20 @@ test('with the lab two calls tell all runs, also those that have not ended', asy
   assert.deepEqual(tool.calls.map((call) => call.split(' ').slice(0, 2).join(' ')), ['lab timeline', 'lab timeline']);
   assert.deepEqual(told.runs.map((run) => [run.class, run.halted]), [[1, true], [2, false]]);
   assert.equal(told.mitigates[0].least, 11);
+});
+
+const REFUSED = 'refused T-ASGN at 18:1: H does not flow to L; it runs by its least labels, and no bound holds\n';
+
+test('a refused program runs by its least labels, and has no runs without the lab', async () => {
+  const text = `${REFUSED}run 1\nl = 1 @5\nend @6\nrun 2\nl = 1 @7\nend @8\n`;
+  const tool = toolOf(['mitigate', 'lab'], byWords({ timeline: () => done(text) }));
+  const told = await refusedRunsOf(tool, state);
+  const words = 'lab timeline program.mit starts.toml --env part --budget 1000';
+  assert.deepEqual(told.runs.map((run) => [run.class, run.end]), [[1, 6], [2, 8]]);
+  assert.deepEqual(tool.calls, [`${words} --refused`, `${words} --refused --observer L`]);
+  assert.equal(await refusedRunsOf(toolOf(['mitigate'], byWords({})), state), null);
+  const none = toolOf(['lab'], byWords({ timeline: () => ({ status: 3, text: 'starts: not TOML\n' }) }));
+  assert.equal(await refusedRunsOf(none, state), null);
 });
 
 test('each question is asked for the chosen observer, caches and number of cycles', async () => {

@@ -91,6 +91,11 @@ test('why nothing was found', () => {
   const refused = { kind: 'refused', rule: 'T-ASGN', place: { line: 18, column: 1 }, from: 'H', to: 'L', refusals: [] };
   assert.equal(found(null, refused),
     'Refused, since at 18:1 what is H would reach L. No limit holds for how much it tells.');
+  const runs = [{ class: 1 }, { class: 2 }, { class: 1 }];
+  const ofRuns = (list) => plain(findingText({ verdict: refused, audit: null, labels, observer: 'L', runs: list }));
+  assert.equal(ofRuns(runs), 'Refused, since at 18:1 what is H would reach L. Of three runs an observer at L sees two'
+    + ' timings, and no limit holds.');
+  assert.match(ofRuns([{ class: 1 }]), / Of one run an observer at L sees one timing, and no limit holds\.$/);
   assert.equal(found(null, { kind: 'syntax', what: 'unexpected', place: { line: 2, column: 3 } }),
     'This is not a program: unexpected at 2:3.');
   assert.match(found({ refusal: { kind: 'disagree', text: 'disagree: run 2: variable l' } }),
@@ -190,7 +195,7 @@ test('what is dimmed is told, with the reason', () => {
   assert.equal(text('stopped'), 'The runs were stopped. What is dimmed is of an earlier program.');
   assert.equal(text('syntax'), 'What is here is not a program. What is dimmed is of an earlier program.');
   assert.equal(text('fault', { fault: 'No number.' }), 'No number. What is dimmed is of an earlier program.');
-  assert.equal(text('refused', { hasAnswers: false }), 'The program that is here is refused, so it has no runs.');
+  assert.equal(text('refused', { hasAnswers: false }), 'The program that is here is refused, so no limit holds of it.');
   assert.equal(text('', { hasAnswers: false }), '');
 });
 
@@ -266,7 +271,10 @@ test('command lines are those of the calls, with the chosen settings', () => {
     './lab timeline program.mit starts.toml --env part2 --budget 77',
     './lab seen program.mit starts.toml --observer bob --env part2 --budget 77',
   ]);
-  assert.equal(commandLines(state, 'refused').at(-1).line, './lab why program.mit');
+  assert.deepEqual(commandLines(state, 'refused').map((one) => one.line).slice(1), [
+    './lab why program.mit', './lab timeline program.mit starts.toml --env part --budget 9 --refused',
+    './lab seen program.mit starts.toml --observer L --env part --budget 9 --refused',
+  ]);
   assert.match(commandLines(state, 'cut')[1].line, /^\.\/mitigate cut program\.mit starts\.toml /);
   assert.deepEqual(commandLines(state, 'syntax').map((one) => one.line), 
     ['./mitigate check program.mit', './lab why program.mit']);

@@ -146,7 +146,7 @@ def tells_how_far(page):
     )
     page.browser.wait(f"return /run 2 of 3 is past \\d+ cycles of 1099511627776, .* %/.test((() => {{ {told} }})())", 60, "how far it is")
     text = page.run(told)
-    holds(text.startswith("the count (step 2 of 5), "), text)
+    holds(text.startswith("the count (step 2 of 6), "), text)
     first = int(re.search(r"past (\d+) cycles", text)[1])
     page.browser.wait(f"return Number(/past (\\d+) cycles/.exec((() => {{ {told} }})())?.[1]) > {first}", 60, "more cycles")
     page.browser.click("#stop")

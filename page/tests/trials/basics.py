@@ -26,14 +26,14 @@ def each_example(page):
         is_refused = sentence.startswith("Refused")
         holds(verdict.startswith("Refused" if is_refused else "Accepted"), f"{name}: {verdict}")
         holds(page.text("#sentence").startswith("Refused") == is_refused, f"{name}: {page.text('#sentence')}")
-        if not is_refused:
-            same(page.count(".lane"), page.count("#starts-table tr[data-run]"), f"{name}: lanes")
-            holds(page.text("#audit"), f"{name}: an audit")
-        same(page.text("#freshness"), "The program that is here is refused, so it has no runs." if is_refused else "", name)
+        same(page.count(".lane"), page.count("#starts-table tr[data-run]"), f"{name}: lanes")
+        holds(bool(page.text("#audit")) != is_refused, f"{name}: an audit, of what is accepted alone")
+        same(page.text("#freshness"), "The program that is here is refused, so no limit holds of it." if is_refused else "", name)
 
 
 def audit_as_documented(page):
     starts = (EXAMPLES / "password.toml").read_text()
+    page.choose(0)
     for file, distinct, sentence in (
         ("password_small.mit", "3", "Of four runs an observer at L sees three different timings; at most 16 are possible."),
         ("password.mit", "1", "An observer at L cannot tell these four runs apart; with other secrets at most eleven are possible."),

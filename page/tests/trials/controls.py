@@ -5,7 +5,7 @@ import subprocess
 import tempfile
 import tomllib
 
-from driving import SWEPT, TOP, holds, same
+from driving import SWEPT, TOP, all_dimmed, holds, same
 
 PROGRAMS = TOP / "programs/x86_64-linux"
 LABELS = "labels A, B, C;\norder A < B, B < C;\nvar a : A;\nvar b : B;\nvar c : C;\n"
@@ -16,10 +16,11 @@ LEVEL_STARTS = "".join(f"[[run]]\nmemory = {{ c = {n} }}\n\n" for n in (0, 3, 9)
 DATA = "[...document.querySelectorAll(arguments[0])].map((one) => one.dataset[arguments[1]])"
 
 
-def call(program, words, mit, toml):
-    """What a proved program prints for these texts, by the words of its command line."""
+def call(program, words, mit, toml, **more):
+    """What a proved program prints for these texts, by the words of its command line; `more` are further TOML files."""
     with tempfile.TemporaryDirectory(prefix="page-call-") as folder:
-        for name, text in (("program.mit", mit), ("starts.toml", toml)):
+        texts = {"program.mit": mit, "starts.toml": toml, **{f"{name}.toml": text for name, text in more.items()}}
+        for name, text in texts.items():
             (pathlib.Path(folder) / name).write_text(text, encoding="utf-8")
         ran = subprocess.run([PROGRAMS / program, *words.split()], cwd=folder, capture_output=True, text=True)
     return ran.stdout
@@ -53,9 +54,9 @@ def compare(page, observer="L", env="part", budget="1000000"):
     return int(distinct)
 
 
-def compare_lanes(page, observer, settings, mit, toml):
+def compare_lanes(page, observer, settings, mit, toml, **more):
     """Each lane and each row of the table, beside what is printed of its run."""
-    seen = call("lab", f"seen program.mit starts.toml --observer {observer} {settings}", mit, toml).splitlines()
+    seen = call("lab", f"seen program.mit starts.toml --observer {observer} {settings}", mit, toml, **more).splitlines()
     lanes = page.run("return [...document.querySelectorAll('.lane')].map((one) => one.getAttribute('aria-label'))")
     rows = page.texts("#starts-table td.seen")
     same(len(lanes), len(seen), "lanes")
@@ -66,7 +67,7 @@ def compare_lanes(page, observer, settings, mit, toml):
         holds(all(word in plain for word in words), f"{lane}: {words}")
         same(plain.count(" = "), len(words), f"how much is told as seen in {lane}")
         holds(all(re.sub(" at ", " @", word) in row for word in words[:2]), f"{row}: {words}")
-    told = call("lab", f"timeline program.mit starts.toml {settings}", mit, toml)
+    told = call("lab", f"timeline program.mit starts.toml {settings}", mit, toml, **more)
     ends = re.findall(r"^end #\d+ (\S+) level (\S+) worked (\d+) lasts \d+ misses \d+ to \d+ @(\d+)$", told, re.MULTILINE)
     tips = " ".join(page.run("return " + DATA, ".lane [data-tip]", "tip")).replace("\u202f", "")
     for place, level, worked, end in ends:
@@ -247,6 +248,30 @@ def many_runs(page):
     page.choose(4)
 
 
+def stepped_through(page):
+    """A run can be gone through, with its line, the clock, miss counts and values, as the lab's timeline tells them."""
+    page.choose(0)
+    told = call("lab", "timeline program.mit starts.toml", page.program(), page.value("#toml")).split("run 2\n")[0]
+    cycles = re.findall(r" @(\d+)$", told, re.MULTILINE)
+    holds(page.run("return document.getElementById('step-back').disabled"), "nothing is behind the beginning")
+    for number, cycle in enumerate(cycles, 1):
+        page.run("document.getElementById('step-on').click()")
+        text = page.text("#step-says").replace("\u202f", "")
+        holds(text.startswith(f"Run 1, step {number} of {len(cycles)}, cycle {cycle}:"), f"{text}: {cycle}")
+        if number == 1:
+            holds("level H, begins and predicts 16. Misses: H 0." in text, text)
+            same(page.count("#editor .lit"), 1, "lines that are lit")
+    misses = re.search(r"misses 0 to (\d+) ", told)[1]
+    holds(f"the run ends. Misses: H {misses}." in text and "done = 1." in text, text)
+    holds(page.run("return document.getElementById('step-on').disabled"), "nothing is behind the end")
+    page.run("document.getElementById('step-back').click()")
+    holds(": done = 1. Misses" in page.text("#step-says"), page.text("#step-says"))
+    page.write_now(page.program() + " ")
+    all_dimmed(page, "#step-says", "a step of an earlier program")
+    page.idle()
+    same(page.text("#step-says"), "", "another program begins anew")
+
+
 def costs_beside_lines(page):
     """Beside the lines stand the cycles of the chosen run, as the lab's timeline tells them."""
     page.choose(0)
@@ -269,6 +294,7 @@ def costs_beside_lines(page):
 
 TRIALS = [
     costs_beside_lines,
+    stepped_through,
     defaults,
     environments,
     budgets,

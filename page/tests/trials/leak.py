@@ -95,12 +95,36 @@ def no_exact_leak(page):
     page.write("var l : L;\nl := 1", "[[run]]\nmemory = { l = 1 }\n\n[[run]]\nmemory = { l = 2 }\n")
     holds("no exact leak" in page.text("#leak-note"), page.text("#leak-note"))
     page.choose(2)
-    holds("is not run" in page.text("#leak-note"), page.text("#leak-note"))
+    holds("counted of accepted programs" in page.text("#leak-note"), page.text("#leak-note"))
     page.choose(0)
     none_dimmed(page, "#leak-shown tr", "what the runs tell")
     page.write((EXAMPLES / "password_open.mit").read_text())
     all_dimmed(page, "#leak-shown tr", "what the runs of the program before told")
     same(page.text("#leak-note"), "Of an earlier program.", "whose it is")
+
+
+def refused_is_shown(page):
+    """A refused program has its picture, by its least labels: each run as the lab tells it, and how many are told apart."""
+    page.choose(2)
+    seen = call("lab", "seen program.mit starts.toml --observer L --refused", page.program(), page.value("#toml")).splitlines()
+    holds(seen[0].startswith("refused T-ASGN at 18:1") and len(seen) == 10, seen)
+    rows, ends = page.texts("#starts-table td.seen"), [line.split("@")[1] for line in seen[1:]]
+    same(page.count(".lane"), 9, "lanes")
+    for row, cycle in zip(rows, ends):
+        holds(row.endswith(f"done = 1 @{cycle}"), f"{row}: {cycle}")
+    none_dimmed(page, ".lane", "lanes of what is there")
+    distinct = {9: "nine", 8: "eight", 7: "seven"}[len(set(ends))]
+    holds(f"Of nine runs an observer at L sees {distinct} timings, and no limit holds." in page.text("#sentence"), page.text("#sentence"))
+    holds("no limit holds of them" in page.text("#lane-says"), page.text("#lane-says"))
+    holds(page.run("return document.getElementById('sweep-go').disabled || document.getElementById('sweep').hidden"), "no sweep")
+    lines = page.texts("#command-list code")
+    holds("./lab timeline program.mit starts.toml --env part --budget 1000000 --refused" in lines, lines)
+    page.choose(0)
+    page.write((EXAMPLES / "password_open.mit").read_text())
+    none_dimmed(page, ".lane", "lanes of a program that is refused after an accepted one")
+    all_dimmed(page, "#audit b", "numbers of the accepted one")
+    page.write(page.program() + "$")
+    all_dimmed(page, ".lane", "lanes of what is no program any more")
 
 
 def steady(page, program, starts="[[run]]\n"):
@@ -173,6 +197,6 @@ def asked_where_accepted(page):
     holds(page.text("#steady-says").startswith("The rules bound"), "another program is not asked about")
 
 
-TRIALS = [exact_leak, looks_at_its_run, no_exact_leak, steady_and_refused, not_steady, asked_where_accepted]
+TRIALS = [exact_leak, looks_at_its_run, no_exact_leak, refused_is_shown, steady_and_refused, not_steady, asked_where_accepted]
 if not PROGRAMS.exists():
     TRIALS = []

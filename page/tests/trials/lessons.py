@@ -142,7 +142,7 @@ def cache_attack(page):
 def constant_time(page):
     """The third lesson: a comparison of all bytes, written by hand."""
     page.open()
-    same(page.run(COUNT), 3, "lessons")
+    same(page.run(COUNT), 4, "lessons")
     open_step(page, 2, 1)
     not_done(page)
     text = page.program().replace("while same * (at < 8) do", "while at < 8 do")
