@@ -6,7 +6,7 @@ ghost use Rattle.leak_bound.specs.Records.{Pairwise};
 ghost use Rattle.leak_audit.specs.Agreement.{start_of, starts_of, AgreeFor, IsDisagreement, IsFirstDifference};
 ghost use Rattle.leak_audit.specs.declared.agreement.Disagreement.TheVariants.{Memory};
 
-use crate::difference::first_difference;
+use crate::difference::{first_difference, first_difference_in};
 use crate::what::What;
 use env_contract::env::MachineEnv;
 use env_contract::make::MakeEnv;
@@ -58,7 +58,7 @@ fn difference_from<E: MachineEnv + Drop, M: MakeEnv<E>>(
     let (one, two) = (first.memory.as_slice(), start.memory.as_slice());
     let touches = start.touches.as_slice();
     if touches.is_empty() && first.touches.as_slice().is_empty() {
-        return Ok(first_difference(p, observer, one, env, two, env));
+        return Ok(first_difference_in(p, observer, one, two, env));
     }
     let other = make.make(alloc, p.program().lattice(), touches)?;
     Ok(first_difference(p, observer, one, env, two, &other))

@@ -116,3 +116,27 @@ pub fn first_difference<E: MachineEnv>(
     }
     None
 }
+
+/// The first difference of two starts that have one environment, given by the values of their variables: only
+/// variables can differ. Takes no memory.
+pub fn first_difference_in<E: MachineEnv>(
+    p: &Labelled,
+    observer: Label,
+    one: &[i64],
+    other: &[i64],
+    env: &E,
+) -> Option<What>
+    requires one { length one.now ≡ variables p.now.program.declarations }
+    requires other { length other.now ≡ variables p.now.program.declarations }
+    requires serves { E.serves p.now.program.order env.now }
+    ensures { MatchOption result
+        (AgreeFor E.env E.serves p.now observer.number (record { memory = one.now; env = env.now }) (record { memory = other.now; env = env.now }))
+        (λ w. IsFirstDifference E.env p.now observer.number (record { memory = one.now; env = env.now })
+        (record { memory = other.now; env = env.now }) w) }
+{
+    let _ = env;
+    match first_variable(p, observer, one, other) {
+        Some(x) => Some(What::Variable(x)),
+        None => None,
+    }
+}

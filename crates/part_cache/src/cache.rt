@@ -10,12 +10,13 @@ use label_lattice::label::Label;
 use label_lattice::lattice::Lattice;
 use std::alloc::Global;
 use std::marker::Model;
+use std::rc::Rc;
 use text_base::pos::Memory;
 
 /// A cache with a partition for each label, each of as many sets, and each set of as many ways.
 #[derive(Drop)]
 pub struct PartCache {
-    lattice: Box<Lattice>,
+    lattice: Rc<Lattice>,
     sets: u32,
     ways: u32,
     slots: Vec<Ways>,
@@ -56,9 +57,28 @@ impl PartCache {
         ensures cache { IfOk result (IsCacheOf lattice.now sets ways) }
         ensures history { IfOk result (λ c. StandsFor c []) }
     {
+        let lattice = Rc::new(alloc, *lattice)?;
+        PartCache::of_shared(alloc, &lattice, sets, ways)
+    }
+
+    /// The same of a lattice that several caches share. Fails only for want of memory.
+    pub fn of_shared(
+        alloc: Global,
+        lattice: &Rc<Lattice>,
+        sets: u32,
+        ways: u32,
+    ) -> Result<PartCache, Memory>
+        requires some_set { 0 < sets }
+        requires few_sets { sets ≤ 64 }
+        requires some_way { 0 < ways }
+        requires few_ways { ways ≤ 8 }
+        ensures value { IfOk result (λ c. c ≡ empty_cache lattice.now.value sets ways) }
+        ensures cache { IfOk result (IsCacheOf lattice.now.value sets ways) }
+        ensures history { IfOk result (λ c. StandsFor c []) }
+    {
         let count = lattice.size() as usize * sets as usize;
         let slots = vec![in alloc; Ways::none(); count]?;
-        let lattice = Box::new(alloc, *lattice)?;
+        let lattice = lattice.clone()?;
         Ok(PartCache {
             lattice,
             sets,

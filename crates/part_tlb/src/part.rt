@@ -19,6 +19,7 @@ use label_lattice::label::Label;
 use label_lattice::lattice::Lattice;
 use part_cache::cache::PartCache;
 use std::alloc::Global;
+use std::rc::Rc;
 use text_base::pos::Memory;
 
 /// The sets of the translation buffer.
@@ -50,9 +51,24 @@ impl PartEnv {
         ensures serves { IfOk result (IsMadeFor part_structure lattice.now) }
         ensures history { IfOk result (λ e. StandsForAll part_structure e touches.now) }
     {
-        let buffer = PartCache::new(alloc, lattice, BUFFER_SETS, BUFFER_WAYS)?;
-        let code_cache = PartCache::new(alloc, lattice, SETS, WAYS)?;
-        let data_cache = PartCache::new(alloc, lattice, SETS, WAYS)?;
+        let shared = Rc::new(alloc, *lattice)?;
+        PartEnv::warm_shared(alloc, &shared, touches)
+    }
+
+    // The same of a lattice that its caches share with others.
+    pub(crate) fn warm_shared(
+        alloc: Global,
+        lattice: &Rc<Lattice>,
+        touches: &[Touch],
+    ) -> Result<PartEnv, Memory>
+        requires { All (λ t. t.label.number < lattice.now.value.size) touches.now }
+        ensures value { IfOk result (λ e. e ≡ warmed part_touched (empty_part lattice.now.value) touches.now) }
+        ensures serves { IfOk result (IsMadeFor part_structure lattice.now.value) }
+        ensures history { IfOk result (λ e. StandsForAll part_structure e touches.now) }
+    {
+        let buffer = PartCache::of_shared(alloc, lattice, BUFFER_SETS, BUFFER_WAYS)?;
+        let code_cache = PartCache::of_shared(alloc, lattice, SETS, WAYS)?;
+        let data_cache = PartCache::of_shared(alloc, lattice, SETS, WAYS)?;
         let mut env = PartEnv {
             buffer,
             code_cache,

@@ -18,6 +18,7 @@ use label_lattice::label::Label;
 use label_lattice::lattice::Lattice;
 use part_cache::cache::PartCache;
 use std::alloc::Global;
+use std::rc::Rc;
 use text_base::pos::Memory;
 
 /// The sets of the cache of the second level.
@@ -43,8 +44,23 @@ impl Part2Env {
         ensures serves { IfOk result (IsMadeFor part2_structure lattice.now) }
         ensures history { IfOk result (λ e. StandsForAll part2_structure e touches.now) }
     {
-        let first = PartEnv::warm(alloc, lattice, &[])?;
-        let second = PartCache::new(alloc, lattice, SETS, WAYS)?;
+        let shared = Rc::new(alloc, *lattice)?;
+        Part2Env::warm_shared(alloc, &shared, touches)
+    }
+
+    // The same of a lattice that its caches share.
+    fn warm_shared(
+        alloc: Global,
+        lattice: &Rc<Lattice>,
+        touches: &[Touch],
+    ) -> Result<Part2Env, Memory>
+        requires { All (λ t. t.label.number < lattice.now.value.size) touches.now }
+        ensures value { IfOk result (λ e. e ≡ warmed part2_touched (empty_part2 lattice.now.value) touches.now) }
+        ensures serves { IfOk result (IsMadeFor part2_structure lattice.now.value) }
+        ensures history { IfOk result (λ e. StandsForAll part2_structure e touches.now) }
+    {
+        let first = PartEnv::warm_shared(alloc, lattice, &[])?;
+        let second = PartCache::of_shared(alloc, lattice, SETS, WAYS)?;
         let mut env = Part2Env { first, second };
         for touch in touches {
             env.touch(touch.place, tag_at(touch.place, touch.address), touch.label);

@@ -30,3 +30,9 @@ returns-clause-found c t =
     (sym (has_is c.self.inside c.self.invariant c.args.self.now c.self.view_is c.args.tag c.args.label.number c.requires.label _
     (place_is c.from.result c.args.label.number c.args.sets c.self.inside.sets c.set_of.result c.args.tag c.from.ensures (c.requires.sets
     ∙ sym (ap (λ v. v.sets) c.self.view_is)) c.set_of.ensures) c.index_mut.result.now c.index_mut.ensures.value c.bring.result c.bring.ensures.held) ∙ t)
+
+pub returns-clause-held : goal.returns-clause-held
+returns-clause-held c =
+    has_is c.self.inside c.self.invariant c.args.self.now c.self.view_is c.args.tag c.args.label.number c.requires.label _
+    (place_is c.from.result c.args.label.number c.args.sets c.self.inside.sets c.set_of.result c.args.tag c.from.ensures (c.requires.sets
+    ∙ sym (ap (λ v. v.sets) c.self.view_is)) c.set_of.ensures) c.index_mut.result.now c.index_mut.ensures.value c.bring.result c.bring.ensures.held
