@@ -35,7 +35,14 @@ impl<W: Sink> Model for Batch<W> {
 
     ghost Value = { Held };
 
-    ghost view = { λ s. record { sent = W.taken s.out; log = W.log s.out; lines = s.lines.items; begun = s.begun.items; faults = W.faults s.out; room = s.room } };
+    ghost view = { λ s. record {
+      sent = W.taken s.out;
+      log = W.log s.out;
+      lines = s.lines.items;
+      begun = s.begun.items;
+      faults = W.faults s.out;
+      room = s.room;
+    } };
 
     ghost invariant = { λ s. (s.room ≤ vec_capacity s.lines) × (s.room ≤ vec_capacity s.begun) × (vec_len s.lines ≤ s.room) × AreLines s.lines.items };
 }
@@ -144,8 +151,10 @@ impl<W: Sink> Sink for Batch<W> {
 
         // Of a piece that is no lines, or more than fit the room, the first line is taken. Where that has no end, it waits as the
         // line that is begun.
-        ensures begun { ends_with_byte 10 (front_of self.old.room piece.now) ≡ false → length self.old.begun + length (front_of self.old.room piece.now) ≤ self.old.room
-            → (result ≡ Ok (length (front_of self.old.room piece.now))) × (self.new ≡ record self.old { begun = self.old.begun ++ front_of self.old.room piece.now }) }
+        ensures begun { ends_with_byte 10 (front_of self.old.room piece.now) ≡ false
+            → length self.old.begun + length (front_of self.old.room piece.now) ≤ self.old.room
+            → (result ≡ Ok (length (front_of self.old.room piece.now)))
+            × (self.new ≡ record self.old { begun = self.old.begun ++ front_of self.old.room piece.now }) }
 
         // What is whole lines waits behind those that wait, where they fit the room together.
         ensures line { ends_with_byte 10 (front_of self.old.room piece.now) ≡ true
@@ -244,7 +253,8 @@ fn hand_on<W: Sink>(out: &mut W, waiting: &mut Vec<u8>) -> Result<(), SinkFault>
 // Hands the lines that wait to the sink, and then the line that is begun.
 #[tactic(auto, using(crate::proofs::BatchLemmas::Keeps_behind))]
 fn hand_all<W: Sink>(out: &mut W, lines: &mut Vec<u8>, begun: &mut Vec<u8>) -> Result<(), SinkFault>
-    ensures kept { Keeps (append_known (W.taken out.old) (lines.old.items ++ begun.old.items)) (append_known (W.taken out.new) (lines.new.items ++ begun.new.items)) }
+    ensures kept { Keeps (append_known (W.taken out.old) (lines.old.items ++ begun.old.items))
+        (append_known (W.taken out.new) (lines.new.items ++ begun.new.items)) }
     ensures empty { OnOk result ((lines.new.items ≡ []) × (begun.new.items ≡ [])) }
     ensures lines { AreLines lines.old.items → AreLines lines.new.items }
     ensures len { vec_len lines.new ≤ vec_len lines.old }
@@ -386,9 +396,11 @@ fn put_line<W: Sink>(
     ensures later { W.faults out.old ≤ W.faults out.new }
     ensures fault { OnErr result (Rose (W.faults out.old) (W.faults out.new)) }
     ensures waits { vec_len lines.old + (vec_len begun.old + length first.now) ≤ room
-        → (result ≡ Ok (length first.now)) × (out.new ≡ out.old) × (lines.new.items ≡ lines.old.items ++ begun.old.items ++ first.now) × (begun.new.items ≡ []) }
+        → (result ≡ Ok (length first.now)) × (out.new ≡ out.old)
+        × (lines.new.items ≡ lines.old.items ++ begun.old.items ++ first.now) × (begun.new.items ≡ []) }
     ensures full { room < vec_len lines.old + (vec_len begun.old + length first.now)
-        → OnOk result (HasSent (W.log out.old) (W.log out.new) (lines.old.items ∷ []) × (lines.new.items ≡ begun.old.items ++ first.now) × (begun.new.items ≡ []))
+        → OnOk result (HasSent (W.log out.old) (W.log out.new) (lines.old.items ∷ [])
+        × (lines.new.items ≡ begun.old.items ++ first.now) × (begun.new.items ≡ []))
         × OnErr result (HasBroken (W.log out.old) (W.log out.new) (lines.old.items ∷ []) × (begun.new.items ≡ begun.old.items)) }
 {
     match make_room(out, lines, room, begun.len() + first.len()) {
@@ -475,10 +487,12 @@ fn put_first<W: Sink>(
     ensures begun { ends_with_byte 10 first.now ≡ false → vec_len begun.old + length first.now ≤ room
         → (result ≡ Ok (length first.now)) × (out.new ≡ out.old) × (lines.new.items ≡ lines.old.items) × (begun.new.items ≡ begun.old.items ++ first.now) }
     ensures line { ends_with_byte 10 first.now ≡ true → vec_len lines.old + (vec_len begun.old + length first.now) ≤ room
-        → (result ≡ Ok (length first.now)) × (out.new ≡ out.old) × (lines.new.items ≡ lines.old.items ++ begun.old.items ++ first.now) × (begun.new.items ≡ []) }
+        → (result ≡ Ok (length first.now)) × (out.new ≡ out.old)
+        × (lines.new.items ≡ lines.old.items ++ begun.old.items ++ first.now) × (begun.new.items ≡ []) }
     ensures full { ends_with_byte 10 first.now ≡ true → room < vec_len lines.old + (vec_len begun.old + length first.now)
         → vec_len begun.old + length first.now ≤ room
-        → OnOk result (HasSent (W.log out.old) (W.log out.new) (lines.old.items ∷ []) × (lines.new.items ≡ begun.old.items ++ first.now) × (begun.new.items ≡ []))
+        → OnOk result (HasSent (W.log out.old) (W.log out.new) (lines.old.items ∷ [])
+        × (lines.new.items ≡ begun.old.items ++ first.now) × (begun.new.items ≡ []))
         × OnErr result (HasBroken (W.log out.old) (W.log out.new) (lines.old.items ∷ []) × (begun.new.items ≡ begun.old.items)) }
 {
     if !ends_line(first) {

@@ -20,7 +20,8 @@ returns-clause-line g c =
     let out = c.put.new.out in
     let new = held_over g.W.Sink.taken g.W.Sink.log g.W.Sink.faults out c.put.new.lines.items c.put.new.begun.items c.self.inside.room in
     subst (λ (h : Held). ends_with_byte 10 (front_of h.room piece) ≡ true → length h.lines + (length h.begun + length (front_of h.room piece)) ≤ h.room
-    → (c.put.result ≡ Ok (length (front_of h.room piece))) × (new ≡ record h { lines = h.lines ++ h.begun ++ (front_of h.room piece); begun = [] })) c.self.view_is
+    → (c.put.result ≡ Ok (length (front_of h.room piece)))
+    × (new ≡ record h { lines = h.lines ++ h.begun ++ (front_of h.room piece); begun = [] })) c.self.view_is
     (λ e f. let p = c.put.ensures.line e f in (p.0, same_held g.W.Sink.taken g.W.Sink.log g.W.Sink.faults out _ _ _ _ _ c.self.inside.room p.1 p.2 p.3))
 
 pub returns-clause-full : goal.returns-clause-full
