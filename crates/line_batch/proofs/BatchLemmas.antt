@@ -1,5 +1,7 @@
 -- What waits, and what goes behind it.
-use Rattle.std.proofs.Common.{◌≡◌, inl, inr, ℕ, suc, zero, ◌+◌, ◌-◌, ◌≤◌, ◌<◌, ◌≢◌, All, arith, slice_index, take-append-drop, take_all, List, [], ◌∷◌, ◌++◌, length, take, drop, ap, Option, Some, None, Result, Ok, Err, OnOk, subst, refl, sym, ◌∙◌, append_assoc, append-nil}
+use Rattle.std.proofs.Common.{◌≡◌, inl, inr, ℕ, suc, zero, ◌+◌, ◌-◌, ◌≤◌, ◌<◌, ◌≢◌, All, arith, slice_index}
+use Rattle.std.proofs.Common.{take-append-drop, take_all, List, [], ◌∷◌, ◌++◌, length, take, drop}
+use Rattle.std.proofs.Common.{ap, Option, Some, None, Result, Ok, Err, OnOk, subst, refl, sym, ◌∙◌, append_assoc, append-nil}
 use Rattle.std.specs.Io.BufRead.{take_through}
 use Rattle.std.proofs.BufReadLemmas.{take_through-append}
 use Rattle.std.proofs.lemmas.List.{take_more}

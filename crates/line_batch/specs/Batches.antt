@@ -1,5 +1,6 @@
 -- What a batch holds.
-use Rattle.std.specs.Prelude.{◌≡◌, ◌⊎◌, ℕ, List, [], ◌∷◌, ◌++◌, Option}
+use Rattle.std.specs.Prelude.{◌≡◌, ◌⊎◌, ◌&&◌, if◌then◌else◌, ℕ, nat_le, List, [], ◌∷◌, ◌++◌, length, Option}
+use Rattle.std.specs.Io.BufRead.{ends_with_byte, take_through}
 use Rattle.std.specs.Io.KnownBytes.{append_known}
 use Rattle.tim_base.specs.Logs.{Offered}
 
@@ -10,6 +11,10 @@ EndsLine bytes = (front : List ℕ) × (bytes ≡ front ++ 10 ∷ [])
 -- whole lines: no bytes, or bytes that end with a line feed
 abbrev pub AreLines : List ℕ → Type 0
 AreLines bytes = (bytes ≡ []) ⊎ EndsLine bytes
+
+-- What is taken of a piece at once: all, where it is lines that fit the room, and else its first line, or what there is of one.
+abbrev pub front_of : ℕ → List ℕ → List ℕ
+front_of room piece = if nat_le (length piece) room && ends_with_byte 10 piece then piece else take_through 10 piece
 
 -- the bytes that the sink has taken and its writes, where it tells them, the whole lines that wait for it, the line that is
 -- begun behind them, the count of the sink's faults, and how many bytes of whole lines may wait

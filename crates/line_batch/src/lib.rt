@@ -7,7 +7,7 @@ ghost use Rattle.std.specs.Io.BufRead.{ends_with_byte, take_through};
 ghost use Rattle.std.specs.Io.KnownBytes.{Keeps, WriteAppends, append_known};
 ghost use Rattle.tim_base.specs.Faults.{Rose};
 ghost use Rattle.tim_base.specs.Logs.{HasSent, HasBroken};
-ghost use Rattle.line_batch.specs.Batches.{EndsLine, AreLines, text_of};
+ghost use Rattle.line_batch.specs.Batches.{EndsLine, AreLines, front_of, text_of};
 
 use run_watch::{RunNumber, Watch};
 use std::alloc::Global;
@@ -35,7 +35,14 @@ impl<W: Sink> Model for Batch<W> {
 
     ghost Value = { Held };
 
-    ghost view = { λ s. record { sent = W.taken s.out; log = W.log s.out; lines = s.lines.items; begun = s.begun.items; faults = W.faults s.out; room = s.room } };
+    ghost view = { λ s. record {
+      sent = W.taken s.out;
+      log = W.log s.out;
+      lines = s.lines.items;
+      begun = s.begun.items;
+      faults = W.faults s.out;
+      room = s.room;
+    } };
 
     ghost invariant = { λ s. (s.room ≤ vec_capacity s.lines) × (s.room ≤ vec_capacity s.begun) × (vec_len s.lines ≤ s.room) × AreLines s.lines.items };
 }
@@ -142,22 +149,25 @@ impl<W: Sink> Sink for Batch<W> {
         ensures fault { OnErr result (Rose self.old.faults self.new.faults) }
         ensures room { self.new.room ≡ self.old.room }
 
-        // A piece is taken up to its first line feed. Where it has none, it waits as the line that is begun.
-        ensures begun { ends_with_byte 10 (take_through 10 piece.now) ≡ false → length self.old.begun + length (take_through 10 piece.now) ≤ self.old.room
-            → (result ≡ Ok (length (take_through 10 piece.now))) × (self.new ≡ record self.old { begun = self.old.begun ++ take_through 10 piece.now }) }
+        // Of a piece that is no lines, or more than fit the room, the first line is taken. Where that has no end, it waits as the
+        // line that is begun.
+        ensures begun { ends_with_byte 10 (front_of self.old.room piece.now) ≡ false
+            → length self.old.begun + length (front_of self.old.room piece.now) ≤ self.old.room
+            → (result ≡ Ok (length (front_of self.old.room piece.now)))
+            × (self.new ≡ record self.old { begun = self.old.begun ++ front_of self.old.room piece.now }) }
 
-        // A line that is whole waits behind those that wait, where they fit the room together.
-        ensures line { ends_with_byte 10 (take_through 10 piece.now) ≡ true
-            → length self.old.lines + (length self.old.begun + length (take_through 10 piece.now)) ≤ self.old.room
-            → (result ≡ Ok (length (take_through 10 piece.now)))
-            × (self.new ≡ record self.old { lines = self.old.lines ++ self.old.begun ++ take_through 10 piece.now; begun = [] }) }
+        // What is whole lines waits behind those that wait, where they fit the room together.
+        ensures line { ends_with_byte 10 (front_of self.old.room piece.now) ≡ true
+            → length self.old.lines + (length self.old.begun + length (front_of self.old.room piece.now)) ≤ self.old.room
+            → (result ≡ Ok (length (front_of self.old.room piece.now)))
+            × (self.new ≡ record self.old { lines = self.old.lines ++ self.old.begun ++ front_of self.old.room piece.now; begun = [] }) }
 
-        // Where they do not, those that wait go to the sink, as one piece, and the line waits.
-        ensures full { ends_with_byte 10 (take_through 10 piece.now) ≡ true
-            → self.old.room < length self.old.lines + (length self.old.begun + length (take_through 10 piece.now))
-            → length self.old.begun + length (take_through 10 piece.now) ≤ self.old.room
+        // Where they do not, those that wait go to the sink, as one piece, and the others wait.
+        ensures full { ends_with_byte 10 (front_of self.old.room piece.now) ≡ true
+            → self.old.room < length self.old.lines + (length self.old.begun + length (front_of self.old.room piece.now))
+            → length self.old.begun + length (front_of self.old.room piece.now) ≤ self.old.room
             → OnOk result (HasSent self.old.log self.new.log (self.old.lines ∷ [])
-            × (self.new.lines ≡ self.old.begun ++ take_through 10 piece.now) × (self.new.begun ≡ []))
+            × (self.new.lines ≡ self.old.begun ++ front_of self.old.room piece.now) × (self.new.begun ≡ []))
             × OnErr result (HasBroken self.old.log self.new.log (self.old.lines ∷ []) × (self.new.begun ≡ self.old.begun)) }
     {
         put(
@@ -182,6 +192,18 @@ fn line_end(piece: &[u8]) -> usize
         }
     }
     piece.len()
+}
+
+// How many bytes of a piece are taken at once: all, where they are lines that fit the room, and else the first line.
+fn front_end(room: usize, piece: &[u8]) -> usize
+    ensures bound { result ≤ length piece.now }
+    ensures some { 0 < length piece.now → 0 < result }
+    ensures front { take result piece.now ≡ front_of room piece.now }
+{
+    if piece.len() <= room && ends_line(piece) {
+        return piece.len();
+    }
+    line_end(piece)
 }
 
 // Whether a piece ends with a line feed.
@@ -231,7 +253,8 @@ fn hand_on<W: Sink>(out: &mut W, waiting: &mut Vec<u8>) -> Result<(), SinkFault>
 // Hands the lines that wait to the sink, and then the line that is begun.
 #[tactic(auto, using(crate::proofs::BatchLemmas::Keeps_behind))]
 fn hand_all<W: Sink>(out: &mut W, lines: &mut Vec<u8>, begun: &mut Vec<u8>) -> Result<(), SinkFault>
-    ensures kept { Keeps (append_known (W.taken out.old) (lines.old.items ++ begun.old.items)) (append_known (W.taken out.new) (lines.new.items ++ begun.new.items)) }
+    ensures kept { Keeps (append_known (W.taken out.old) (lines.old.items ++ begun.old.items))
+        (append_known (W.taken out.new) (lines.new.items ++ begun.new.items)) }
     ensures empty { OnOk result ((lines.new.items ≡ []) × (begun.new.items ≡ [])) }
     ensures lines { AreLines lines.old.items → AreLines lines.new.items }
     ensures len { vec_len lines.new ≤ vec_len lines.old }
@@ -344,8 +367,8 @@ fn join(lines: &mut Vec<u8>, begun: &mut Vec<u8>, first: &[u8]) -> usize
     ensures begun_capacity { vec_capacity begun.new ≡ vec_capacity begun.old }
 {
     append(lines, begun.as_slice());
-    append(lines, first);
     begun.clear();
+    append(lines, first);
     first.len()
 }
 
@@ -373,9 +396,11 @@ fn put_line<W: Sink>(
     ensures later { W.faults out.old ≤ W.faults out.new }
     ensures fault { OnErr result (Rose (W.faults out.old) (W.faults out.new)) }
     ensures waits { vec_len lines.old + (vec_len begun.old + length first.now) ≤ room
-        → (result ≡ Ok (length first.now)) × (out.new ≡ out.old) × (lines.new.items ≡ lines.old.items ++ begun.old.items ++ first.now) × (begun.new.items ≡ []) }
+        → (result ≡ Ok (length first.now)) × (out.new ≡ out.old)
+        × (lines.new.items ≡ lines.old.items ++ begun.old.items ++ first.now) × (begun.new.items ≡ []) }
     ensures full { room < vec_len lines.old + (vec_len begun.old + length first.now)
-        → OnOk result (HasSent (W.log out.old) (W.log out.new) (lines.old.items ∷ []) × (lines.new.items ≡ begun.old.items ++ first.now) × (begun.new.items ≡ []))
+        → OnOk result (HasSent (W.log out.old) (W.log out.new) (lines.old.items ∷ [])
+        × (lines.new.items ≡ begun.old.items ++ first.now) × (begun.new.items ≡ []))
         × OnErr result (HasBroken (W.log out.old) (W.log out.new) (lines.old.items ∷ []) × (begun.new.items ≡ begun.old.items)) }
 {
     match make_room(out, lines, room, begun.len() + first.len()) {
@@ -462,10 +487,12 @@ fn put_first<W: Sink>(
     ensures begun { ends_with_byte 10 first.now ≡ false → vec_len begun.old + length first.now ≤ room
         → (result ≡ Ok (length first.now)) × (out.new ≡ out.old) × (lines.new.items ≡ lines.old.items) × (begun.new.items ≡ begun.old.items ++ first.now) }
     ensures line { ends_with_byte 10 first.now ≡ true → vec_len lines.old + (vec_len begun.old + length first.now) ≤ room
-        → (result ≡ Ok (length first.now)) × (out.new ≡ out.old) × (lines.new.items ≡ lines.old.items ++ begun.old.items ++ first.now) × (begun.new.items ≡ []) }
+        → (result ≡ Ok (length first.now)) × (out.new ≡ out.old)
+        × (lines.new.items ≡ lines.old.items ++ begun.old.items ++ first.now) × (begun.new.items ≡ []) }
     ensures full { ends_with_byte 10 first.now ≡ true → room < vec_len lines.old + (vec_len begun.old + length first.now)
         → vec_len begun.old + length first.now ≤ room
-        → OnOk result (HasSent (W.log out.old) (W.log out.new) (lines.old.items ∷ []) × (lines.new.items ≡ begun.old.items ++ first.now) × (begun.new.items ≡ []))
+        → OnOk result (HasSent (W.log out.old) (W.log out.new) (lines.old.items ∷ [])
+        × (lines.new.items ≡ begun.old.items ++ first.now) × (begun.new.items ≡ []))
         × OnErr result (HasBroken (W.log out.old) (W.log out.new) (lines.old.items ∷ []) × (begun.new.items ≡ begun.old.items)) }
 {
     if !ends_line(first) {
@@ -477,7 +504,7 @@ fn put_first<W: Sink>(
     put_line(out, lines, begun, room, first)
 }
 
-// Takes a piece up to its first line feed.
+// Takes a piece that is lines, or the first line of one.
 fn put<W: Sink>(
     out: &mut W,
     lines: &mut Vec<u8>,
@@ -498,19 +525,20 @@ fn put<W: Sink>(
     ensures begun_capacity { room ≤ vec_capacity begun.new }
     ensures later { W.faults out.old ≤ W.faults out.new }
     ensures fault { OnErr result (Rose (W.faults out.old) (W.faults out.new)) }
-    ensures begun { ends_with_byte 10 (take_through 10 piece.now) ≡ false → length begun.old.items + length (take_through 10 piece.now) ≤ room
-        → (result ≡ Ok (length (take_through 10 piece.now))) × (out.new ≡ out.old) × (lines.new.items ≡ lines.old.items)
-        × (begun.new.items ≡ begun.old.items ++ take_through 10 piece.now) }
-    ensures line { ends_with_byte 10 (take_through 10 piece.now) ≡ true
-        → length lines.old.items + (length begun.old.items + length (take_through 10 piece.now)) ≤ room
-        → (result ≡ Ok (length (take_through 10 piece.now))) × (out.new ≡ out.old)
-        × (lines.new.items ≡ lines.old.items ++ begun.old.items ++ take_through 10 piece.now) × (begun.new.items ≡ []) }
-    ensures full { ends_with_byte 10 (take_through 10 piece.now) ≡ true
-        → room < length lines.old.items + (length begun.old.items + length (take_through 10 piece.now))
-        → length begun.old.items + length (take_through 10 piece.now) ≤ room
+    ensures begun { ends_with_byte 10 (front_of room piece.now) ≡ false → length begun.old.items + length (front_of room piece.now) ≤ room
+        → (result ≡ Ok (length (front_of room piece.now))) × (out.new ≡ out.old) × (lines.new.items ≡ lines.old.items)
+        × (begun.new.items ≡ begun.old.items ++ front_of room piece.now) }
+    ensures line { ends_with_byte 10 (front_of room piece.now) ≡ true
+        → length lines.old.items + (length begun.old.items + length (front_of room piece.now)) ≤ room
+        → (result ≡ Ok (length (front_of room piece.now))) × (out.new ≡ out.old)
+        × (lines.new.items ≡ lines.old.items ++ begun.old.items ++ front_of room piece.now) × (begun.new.items ≡ []) }
+    ensures full { ends_with_byte 10 (front_of room piece.now) ≡ true
+        → room < length lines.old.items + (length begun.old.items + length (front_of room piece.now))
+        → length begun.old.items + length (front_of room piece.now) ≤ room
         → OnOk result (HasSent (W.log out.old) (W.log out.new) (lines.old.items ∷ [])
-        × (lines.new.items ≡ begun.old.items ++ take_through 10 piece.now) × (begun.new.items ≡ []))
+        × (lines.new.items ≡ begun.old.items ++ front_of room piece.now) × (begun.new.items ≡ []))
         × OnErr result (HasBroken (W.log out.old) (W.log out.new) (lines.old.items ∷ []) × (begun.new.items ≡ begun.old.items)) }
 {
-    put_first(out, lines, begun, room, &piece[..line_end(piece)])
+    let front = front_end(room, piece);
+    put_first(out, lines, begun, room, &piece[..front])
 }

@@ -51,6 +51,9 @@ pub fn target_of<R: Files>(rt: &R, out: &Stdout) -> Target {
     }
 }
 
+// The clock is asked once in so many pieces. Where work lies between them the watch is told, so it is asked then too.
+const PIECES: u32 = 64;
+
 // Lines that wait, and when lines went last, or the program began; none where the clock does not answer, and then no line
 // waits.
 #[derive(Drop)]
@@ -58,6 +61,9 @@ struct Lines<W: Sink> {
     batch: Batch<W>,
     wait: u64,
     went: Option<Instant>,
+
+    // How many pieces came since the clock was asked.
+    pieces: u32,
     is_lost: bool,
 }
 
@@ -101,6 +107,11 @@ impl<W: Sink> Lines<W> {
             self.is_lost = true;
             return Err(SinkFault);
         }
+        self.pieces = self.pieces.saturating_add(1);
+        if self.wait > 0 && self.pieces < PIECES {
+            return Ok(());
+        }
+        self.pieces = 0;
         self.hand_on(clock)
     }
 
@@ -144,6 +155,7 @@ impl<'a, C: Clock, P: Watch> Outlet<'a, C, P> {
             batch,
             wait: target.wait(),
             went: Instant::now(clock).ok(),
+            pieces: 0,
             is_lost: false,
         });
         Outlet {
@@ -191,7 +203,10 @@ impl<C: Clock, P: Watch> Write for &Outlet<'_, C, P> {
 
 impl<C: Clock, P: Watch> Watch for Outlet<'_, C, P> {
     fn tell(&self, number: RunNumber, clock: u64, limit: u64) {
-        self.watch.tell(number, clock, limit);
+        // Who shows how far runs have come is told of runs alone.
+        if number.runs > 0 {
+            self.watch.tell(number, clock, limit);
+        }
         if let Ok(mut found) = self.lines.try_borrow_mut()
             && let Some(lines) = &mut *found
         {
