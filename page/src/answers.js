@@ -55,9 +55,9 @@ export function readAudit(text) {
     const bound = /^bound (\d+)\^(\d+)$/.exec(line), run = /^run (\d+) class (\d+)$/.exec(line);
     const level = /^level (\S+) mitigations (\d+)(?: first (\d+) digits (\d+))?$/.exec(line);
     const count = /^(runs|budget|levels|mitigations|ended|halted|distinct|bits) (\d+)$/.exec(line);
-    const long = /^(sharp|shared) (\d+)$/.exec(line) ?? /^(guess) at most (\d+) times as often$/.exec(line);
+    const long = /^(sharp|shared|own) (\d+)$/.exec(line) ?? /^(guess) at most (\d+) times as often$/.exec(line);
     const observer = /^observer (\S+)$/.exec(line),
-      tooMuch = /^(sharp|shared|bits) \S+ or more$|^guess no limit told$/.test(line);
+      tooMuch = /^(sharp|shared|own|bits) \S+ or more$|^guess no limit told$/.test(line);
     const end = /^end (counted|not counted): /.exec(line), machine = /^machine (partitioned|shared)$/.exec(line);
     if (bound) Object.assign(found, { base: Number(bound[1]), exponent: Number(bound[2]) });
     else if (run) found.classes.push(Number(run[2]));
@@ -145,7 +145,7 @@ const numbers = (match) => match.slice(1).map(Number);
 
 // One line of the lab's `leak`, put into what was found; whether it is one.
 function leakLine(line, found) {
-  const count = /^(runs|budget|distinct) (\d+)$/.exec(line), wide = /^(sharp|shared) (\d+)$/.exec(line);
+  const count = /^(runs|budget|distinct) (\d+)$/.exec(line), wide = /^(sharp|shared|own) (\d+)$/.exec(line);
   const bound = /^bound (\d+)\^(\d+)$/.exec(line), sizes = /^least (\d+) greatest (\d+)$/.exec(line);
   const bits = /^(min-entropy|shannon) (\d+\.\d+) to (\d+\.\d+)$/.exec(line);
   const right = /^right at first (\d+) of (\d+) before, (\d+) of (\d+) after$/.exec(line);
@@ -166,12 +166,12 @@ function leakLine(line, found) {
     const events = part[3] === '-' ? [] : part[3].split(' ').map((text) => event(FIELD.exec(text)));
     found.classes.push({ size: Number(part[1]), first: Number(part[2]), events });
   } else if (machine) [, found.sharing] = machine;
-  else return /^(sharp|shared) \S+ or more$/.test(line) || NO_BOUND.test(line);
+  else return /^(sharp|shared|own) \S+ or more$/.test(line) || NO_BOUND.test(line);
   return true;
 }
 
 /** The lab's `leak`: its numbers, and of each class of runs its size, its first run and what is seen of that; or null.
-    Entropies stay texts, each as two ends between which it lies; `sharp` and `shared` are left out
+    Entropies stay texts, each as two ends between which it lies; `sharp`, `shared` and `own` are left out
     where they are too great. */
 export function readLeak(text) {
   const found = { classes: [] };

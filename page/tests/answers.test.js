@@ -47,14 +47,16 @@ test('audits, cuts and bounds', () => {
   assert.deepEqual([cut.ended, cut.halted], [0, 0]);
   const sharp = readAudit('runs 9\nobserver L\nbudget 1000000\nlevels 1\nmitigations 1\ndistinct 3\nbound'
     + ' 2^20\nlevel H mitigations 1 first 16 digits 16\nsharp 16\nbits 4\nguess at most 16 times as often\n'
-    + 'shared 15\n'
+    + 'shared 15\nown 14\n'
     + 'end counted: the same holds for who sees runs end\n');
-  assert.deepEqual([sharp.sharp, sharp.bits, sharp.guess, sharp.shared, sharp.levelsOf[0].first],
-    [16n, 4, 16n, 15n, 16]);
+  assert.deepEqual([sharp.sharp, sharp.bits, sharp.guess, sharp.shared, sharp.own, sharp.levelsOf[0].first],
+    [16n, 4, 16n, 15n, 14n, 16]);
   const few = readAudit('runs 1\nbound 1^40\nlevel A mitigations 0\nlevel B mitigations 2 first 3 digits 19\nsharp'
     + ' 2^128 or more\nbits 128 or more\nguess no limit told\nshared 2^128 or more\n'
+    + 'own 2^128 or more\n'
     + 'end not counted: no limit told for who sees runs end\n');
-  assert.deepEqual([few.sharp, few.bits, few.guess, few.shared], [undefined, undefined, undefined, undefined]);
+  assert.deepEqual([few.sharp, few.bits, few.guess, few.shared, few.own],
+    [undefined, undefined, undefined, undefined, undefined]);
   assert.deepEqual(few.levelsOf.map((one) => [one.mitigations, one.first]), [[0, 1], [2, 3]]);
   assert.deepEqual([sharp.countsEnd, few.countsEnd, audit.countsEnd], [true, false, undefined]);
   assert.equal(readAudit('disagree: run 2: variable h\n'), null);

@@ -23,6 +23,7 @@ budget 1000000
 bound 2^20
 sharp 16
 shared 15
+own 14
 distinct 3
 least 1 greatest 6
 min-entropy 1.584962500 to 1.584962501
@@ -38,8 +39,8 @@ const leak = readLeak(TEXT);
 test('a leak as it is told', () => {
   const { classes, ...numbers } = leak;
   assert.deepEqual(numbers, {
-    runs: 9, observer: 'L', budget: 1000000, base: 2, exponent: 20, sharp: 16n, shared: 15n, distinct: 3, least: 1,
-    greatest: 6,
+    runs: 9, observer: 'L', budget: 1000000, base: 2, exponent: 20, sharp: 16n, shared: 15n, own: 14n, distinct: 3,
+    least: 1, greatest: 6,
     minEntropy: ['1.584962500', '1.584962501'], shannon: ['1.224394444', '1.224394447'],
     right: { before: 1, after: 3 }, guesses: { before: [10, 2], after: [50, 18] },
   });
@@ -48,6 +49,7 @@ test('a leak as it is told', () => {
     [{ variable: 'a[1]', value: '-7', cycle: 20 }, { variable: 'done', value: '1', cycle: 552 }]);
   assert.equal(readLeak(TEXT.replace('sharp 16', 'sharp 2^128 or more')).sharp, undefined);
   assert.equal(readLeak(TEXT.replace('shared 15', 'shared 2^128 or more')).shared, undefined);
+  assert.equal(readLeak(TEXT.replace('own 14', 'own 2^128 or more')).own, undefined);
   assert.deepEqual(readLeak(TEXT.replace(/done=1@168/, '-')).classes[0].events, []);
   for (const other of ['disagree: run 2: variable h\n', TEXT.replace('distinct 3', 'distinct 4'),
     TEXT.replace(/^shannon.*\n/m, ''), `${TEXT}more\n`]) assert.equal(readLeak(other), null);

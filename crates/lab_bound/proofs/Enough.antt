@@ -15,7 +15,7 @@ use Rattle.mit_parser.specs.Words.{Told}
 use Rattle.mit_parser.specs.Spells.{IsProgram}
 use Rattle.doubling_schedule.specs.Doubling.{prediction}
 use Rattle.timing_types.specs.Labelled.{LabelledProgram, order_of, labels_of, levels_of}
-use Rattle.source_meaning.specs.Source.{source_start, source_steps, started_in, notes_of, marks_of}
+use Rattle.source_meaning.specs.Source.{source_start, source_steps, started_in, notes_of}
 use Rattle.source_meaning.proofs.Told.{ended_same}
 use Rattle.source_meaning.proofs.Unlabelled.{notes_unlabelled}
 use Rattle.env_contract.specs.Env.{Env}

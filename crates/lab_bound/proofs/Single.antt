@@ -13,7 +13,7 @@ use Rattle.sharp_count.specs.Levels.{told_of, counts_of}
 use Rattle.sharp_count.specs.Shared.{shared_of}
 use Rattle.sharp_bound.specs.Sharp.{relevant_at}
 use Rattle.own_firsts.specs.Count.{firsts_at, many_at, first_at, own_of}
-use Rattle.level_counts.specs.Begun.{PredictedIn, FirstBeginsEach, AreTold, memories_of}
+use Rattle.level_counts.specs.Begun.{PredictedIn, AreTold, memories_of}
 use Rattle.level_counts.specs.Listed.{AreListed}
 use Rattle.level_counts.proofs.Leasts.{one_least}
 use Rattle.tool_stages.specs.declared.envs.Environment.{Environment}

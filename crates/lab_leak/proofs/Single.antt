@@ -1,12 +1,11 @@
 -- There is one answer.
-use Rattle.std.proofs.Common.{◌≡◌, ℕ, List, ◌++◌, Option, Some, None, inl, inr, refl, sym, ap, ◌∙◌, subst, codes}
+use Rattle.std.proofs.Common.{◌≡◌, ℕ, List, ◌++◌, Option, Some, None, inl, inr, sym, ap, ◌∙◌, subst, codes}
 use Rattle.tim_base.specs.Faults.{Rose}
 use Rattle.label_lattice.specs.declared.label.Label.{Label}
 use Rattle.timing_types.specs.Labelled.{LabelledProgram}
 use Rattle.part_tlb.specs.declared.bank.Sharing.{Sharing}
 use Rattle.part_tlb.specs.declared.bank.Sharing.TheVariants.{Partitioned, Shared}
 use Rattle.start_file.specs.Starts.{StartValue}
-use Rattle.sharp_count.specs.declared.count.LevelRuns.{LevelRuns}
 use Rattle.sharp_count.specs.Count.{fitting}
 use Rattle.leak_audit.specs.declared.report.AuditReport.{AuditReport}
 use Rattle.leak_audit.specs.Report.{SameReport}

@@ -16,7 +16,7 @@ use Rattle.doubling_schedule.specs.Doubling.{prediction}
 use Rattle.timing_types.specs.Labelled.{LabelledProgram, order_of, labels_of, levels_of}
 use Rattle.source_meaning.specs.declared.walk.Walk.{Walk}
 use Rattle.source_meaning.specs.declared.walk.Walk.TheVariants.{Ended}
-use Rattle.source_meaning.specs.Source.{source_start, source_steps, started_in, marks_of, HasEnded}
+use Rattle.source_meaning.specs.Source.{source_start, started_in, marks_of, HasEnded}
 use Rattle.source_meaning.specs.Frames.{todo_of}
 use Rattle.source_meaning.specs.Walked.{Standing, told_by, source_at, IsStep}
 use Rattle.leak_bound.specs.Relevant.{relevances, is_relevant}

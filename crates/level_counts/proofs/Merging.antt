@@ -1,9 +1,9 @@
 -- The first predictions of one run more, at their places.
-use Rattle.std.proofs.Common.{◌≡◌, ◌<◌, ◌≤◌, ℕ, ◌+◌, ◌⊎◌, inl, inr, ⊎_elim, refl, sym, ap, ◌∙◌, subst, List, [], ◌∷◌, ◌++◌, length, arith}
+use Rattle.std.proofs.Common.{◌≡◌, ◌<◌, ◌≤◌, ℕ, ◌+◌, ◌⊎◌, inl, inr, ⊎_elim, sym, ap, ◌∙◌, subst, List, [], ◌∷◌, ◌++◌, length, arith}
 use Rattle.std.specs.Prelude.{Bool, ℤ, take, map, get_or}
 use Rattle.std.proofs.lemmas.Bool.{cases_lt}
 use Rattle.std.proofs.lemmas.List.{get_or_past, length-map, length-take}
-use Rattle.start_file.specs.Starts.{StartValue, seen}
+use Rattle.start_file.specs.Starts.{seen}
 use Rattle.start_file.specs.declared.start.Start.{Start}
 use Rattle.mit_syntax.specs.Program.{plan_of}
 use Rattle.timing_types.specs.Labelled.{LabelledProgram, order_of, labels_of, levels_of}

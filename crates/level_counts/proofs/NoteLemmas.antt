@@ -1,6 +1,6 @@
 -- What is noted at a step.
 use Rattle.std.proofs.Common.{◌≡◌, ◌<◌, ℕ, sym, ap, ◌∙◌, subst, List, length, All, map, Some, None, get_or, arith}
-use Rattle.std.specs.Prelude.{ℤ, Bool, true, cond, slice_get, slice_set, option_map}
+use Rattle.std.specs.Prelude.{ℤ, Bool, true, cond, slice_get, option_map}
 use Rattle.std.proofs.lemmas.Option.{slice_get-map, slice_get-get_or}
 use Rattle.std.proofs.lemmas.List.{get_or-map, length-map}
 use Rattle.mit_syntax.specs.Expression.{Expression}
@@ -8,8 +8,6 @@ use Rattle.mit_syntax.specs.Values.{value_of}
 use Rattle.doubling_schedule.specs.Doubling.{prediction}
 use Rattle.source_meaning.specs.declared.walk.Walk.{Walk}
 use Rattle.source_meaning.specs.declared.walk.Walk.TheVariants.{Began}
-use Rattle.sharp_count.specs.declared.count.LevelRuns.{LevelRuns}
-use Rattle.sharp_count.specs.Levels.{told_of}
 use Rattle.level_counts.specs.declared.note.Mitigation.{Mitigation}
 use Rattle.level_counts.specs.Noted.{begun, begun_at}
 

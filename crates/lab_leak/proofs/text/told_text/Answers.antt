@@ -1,4 +1,4 @@
-use Rattle.std.proofs.Common.{◌≡◌, map, ap, ◌∙◌}
+use Rattle.std.proofs.Common.{map, ◌∙◌}
 use Rattle.start_file.specs.Starts.{seen}
 use Rattle.lab_leak.specs.Answer.{sequences_in}
 use Rattle.lab_leak.specs.Classes.{classes_of_runs}

@@ -1,4 +1,3 @@
-use Rattle.std.proofs.Common.{◌∙◌}
 use Rattle.level_counts.proofs.ListLemmas.{lists_set}
 use Rattle.level_counts.proofs.firsts.list.Goals as goal
 

@@ -1,4 +1,4 @@
-use Rattle.std.proofs.Common.{◌≡◌, sym, ap, ◌∙◌, subst, length, map, arith, [], replicate}
+use Rattle.std.proofs.Common.{◌≡◌, ap, ◌∙◌, subst, length, map, arith, [], replicate}
 use Rattle.std.specs.Prelude.{slice_index_or, false}
 use Rattle.std.proofs.lemmas.List.{length-map}
 use Rattle.mit_syntax.specs.Expression.{expression_of}

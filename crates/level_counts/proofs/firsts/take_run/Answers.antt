@@ -1,4 +1,4 @@
-use Rattle.std.proofs.Common.{◌≡◌, ℕ, sym, ap, ◌∙◌, List}
+use Rattle.std.proofs.Common.{ℕ, ap, ◌∙◌, List}
 use Rattle.std.specs.Prelude.{slice_index_or}
 use Rattle.level_counts.specs.Noted.{lesser}
 use Rattle.level_counts.proofs.ListLemmas.{run_taken}
