@@ -20,6 +20,13 @@ function boundBox({ base, exponent }) {
     `at most, by the ${limitName('bound')} ${counted(bitsOf(base, exponent), 'bit')}`);
 }
 
+// The count by shared time, where that is less than the sharp one.
+function sharedBox({ sharp, shared }) {
+  if (shared === undefined || (sharp !== undefined && shared >= sharp)) return '';
+  const bits = counted(bitsOf(shared, 1), 'bit');
+  return numberBox(boundText(shared), `at most, by ${limitName('shared time')} ${bits}`, wholeBound(shared));
+}
+
 const NO_LIMIT = 'no limit, since all labels share the caches';
 
 /** The numbers: what is seen, and the limits. */
@@ -31,7 +38,8 @@ export function auditBoxes({ report, sharp }) {
     ? ''
     : numberBox(boundText(sharp.sharp), `at most, by the ${limitName('sharp count')} ${counted(sharp.bits, 'bit')}`,
     wholeBound(sharp.sharp));
-  return seen + limit + (report.sharing === 'shared' ? numberBox('none', NO_LIMIT) : boundBox(report));
+  const last = report.sharing === 'shared' ? numberBox('none', NO_LIMIT) : boundBox(report);
+  return seen + limit + sharedBox(sharp ?? {}) + last;
 }
 
 // The starts for which the numbers hold.

@@ -7,9 +7,9 @@ import { isSteady } from './steady_text.js';
 
 const capital = (text) => text[0].toUpperCase() + text.slice(1);
 
-// The lesser of the limits: the sharp count, or where there is none the bound.
+// The least of the limits: the count by shared time, the sharp count, or where there is none the bound.
 function limitOf(report, sharp) {
-  return sharp?.sharp ?? BigInt(report.base) ** BigInt(report.exponent);
+  return sharp?.shared ?? sharp?.sharp ?? BigInt(report.base) ** BigInt(report.exponent);
 }
 
 const NO_LIMIT = 'no limit holds, since all labels share the caches';

@@ -41,6 +41,12 @@ export const TERMS = {
       + ' missed predictions stay doubled, and how great first predictions are; so it is mostly far below the bound.',
     links: [tutorial(AUDIT_IT), glossary('Sharp count'), SHARP],
   },
+  'shared time': {
+    says: 'A number of different timed sequences like the sharp count, and at most that. Where no relevant mitigate'
+      + ' stands in another, mitigations last one after the other: of the miss counts only those can be whose cycles'
+      + ' fit into the budget together.',
+    links: [glossary('Count by shared time'), SHARP],
+  },
   bound: {
     says: 'A number of different timed sequences that is proved never to be passed: (K+1) to the power N·b. K is the'
       + ' number of relevant mitigations of a run, N the number of labels that do not flow to the observer, b the'

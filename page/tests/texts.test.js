@@ -114,6 +114,11 @@ test('the numbers, and what they are', () => {
     '3different sequences seen in these 9 runs; 16at most, by the sharp count: 4 bits; 2^20at most, by the bound: 20'
       + ' bits;',
   );
+  const login = { sharp: 417225900n, bits: 29, guess: 417225900n, shared: 23603879n };
+  assert.match(plain(auditBoxes({ report, sharp: login })),
+    /417 225 900at most, by the sharp count: 29 bits23 603 879at most, by shared time: 25 bits2\^20at most/);
+  assert.match(found({ report, sharp: { ...login, shared: 40n } }), /; at most 40 are possible\.$/);
+  assert.doesNotMatch(auditBoxes({ report, sharp: { ...sharp, shared: 16n } }), /shared time/);
   const three = { ...report, base: 3, distinct: 1, runs: 1 };
   assert.equal(
     plain(auditBoxes({ report: three, sharp: null }).replaceAll('</div>', '; ')),

@@ -120,7 +120,11 @@ def machine_is_refused(page):
     for change, words, line in (
         (("version = 1", "version = 2"), "version = 1 has to be there", "version = 2"),
         (('"shared"', '"both"'), "sharing = ", "sharing ="),
-        (("sets = 8, ways = 2, bytes = 32, hit = 0, miss = 8", "sets = 99, ways = 2, bytes = 32, hit = 0, miss = 8"), "code has 1 to 64", "code"),
+        (
+            ("sets = 8, ways = 2, bytes = 32, hit = 0, miss = 8", "sets = 99, ways = 2, bytes = 32, hit = 0, miss = 8"),
+            "code has 1 to 64",
+            "code",
+        ),
         (("sets = 1, ways = 4", "sets = 1, ways = 9"), "page has 1 to 8 ways", "page"),
         (("miss = 12 }", "miss = 12"), "not TOML", "data"),
         (("version = 1", "version = 1\nfourth = 4"), "none of version", "fourth"),
@@ -136,9 +140,7 @@ def machine_is_refused(page):
         all_dimmed(page, "#machine-sides td", "both sides of another machine")
         if line:
             page.run("document.querySelector('#machine-fault .place').click()")
-            selected = page.run(
-                "const box = document.activeElement; return box.value.slice(box.selectionStart, box.selectionEnd)"
-            )
+            selected = page.run("const box = document.activeElement; return box.value.slice(box.selectionStart, box.selectionEnd)")
             holds(selected.startswith(line), f"{selected!r} is gone to, and not {line}")
     page.set("#machine-text", good)
     page.idle()
