@@ -9,7 +9,7 @@ WRONG_VERSIONS = ["0", "2", "-1", "1.0", '"1"', "true", "[1]", "2026-11-28", "{ 
 WRONG_SHARING = ['"both"', '"Shared"', '"partition"', '""', "1", "true", '["shared"]']
 WRONG_KEYS = ["pages", "Page", "third", "cost", "run", '""', '"page "']
 WRONG_BANKS = ["1", "true", '"none"', "[]", "{}", "[[]]", "8.5"]
-WRONG_NUMBERS = ["-1", "4294967296", "9223372036854775807", "1.0", '"1"', "true", "[1]", "{}", "inf", "07:32:00"]
+WRONG_NUMBERS = ["-1", "4294967296", "9223372036854775807", "9223372036854775808", "1.0", '"1"', "true", "[1]", "{}", "inf", "07:32:00"]
 NO_TOML = ["=", "page", "page = ", "[page", "x = 01", 'x = "', "x = 1 2", "x = \xff", "x = { a = 1", "x = 9223372036854775808", "\x00"]
 
 
@@ -135,13 +135,13 @@ class MachineMaker:
         self.some_bank(document)[1][self.dice.choice(["hit", "miss"])] = str(MOST_COST + self.dice.choice([1, 1, 30, 2**31]))
 
     def broken(self, number):
-        """A file that is refused, by the refusal of this number, and now and then by another one too."""
+        """A file that is refused, by the refusal of this number, and every other one in another way too."""
         document, breaks = self.document(), [self.break_version, self.break_keys, self.break_sharing, self.break_bank]
         breaks += [self.break_sets, self.break_ways, self.break_bytes, self.break_costs]
         number %= len(breaks) + 1
         if number < len(breaks):
             breaks[number](document)
-        if self.dice.random() < 0.3:
+        if self.dice.random() < 0.5:
             self.dice.choice(breaks)(document)
         text = self.text(document)
         if number < len(breaks):

@@ -35,10 +35,12 @@ class TextMaker:
         spans = [match.span() for match in WORD.finditer(text)]
         if not spans:
             return self.word()
-        number = self.dice.randrange(len(spans))
+        number, kind = self.dice.randrange(len(spans)), self.dice.randrange(8)
+        ends = [place for place, (begin, _) in enumerate(spans) if text[begin] == ";"]
+        if kind == 0 and ends and self.dice.random() < 0.5:
+            number = self.dice.choice(ends)
         begin, end = spans[number]
         before, here, behind = text[:begin], text[begin:end], text[end:]
-        kind = self.dice.randrange(8)
         if kind == 0:
             return before + behind
         if kind == 1:
