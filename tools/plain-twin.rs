@@ -1899,12 +1899,37 @@ struct Bank {
 /// A bank with the tags of all labels' partitions, each set's from front to back. A tag may be any `u32`.
 struct Held {
     bank: Bank,
+    bytes: Divisor,
+    sets: Divisor,
     tags: Vec<u64>,
+}
+
+/// A number by which much is divided: most are powers of two.
+struct Divisor {
+    number: u32,
+    exponent: Option<u32>,
+}
+
+impl Divisor {
+    fn new(number: u32) -> Self {
+        Divisor { number, exponent: number.is_power_of_two().then_some(number.trailing_zeros()) }
+    }
+
+    #[inline(always)]
+    fn quotient(&self, of: u32) -> u32 {
+        self.exponent.map_or_else(|| of / self.number, |exponent| of >> exponent)
+    }
+
+    #[inline(always)]
+    fn rest(&self, of: u32) -> u32 {
+        if self.exponent.is_some() { of & (self.number - 1) } else { of % self.number }
+    }
 }
 
 impl Held {
     fn new(bank: Bank, labels: usize) -> Self {
-        Held { bank, tags: vec![u64::MAX; labels * (bank.sets * bank.ways) as usize] }
+        let (bytes, sets) = (Divisor::new(bank.bytes), Divisor::new(bank.sets));
+        Held { bank, bytes, sets, tags: vec![u64::MAX; labels * (bank.sets * bank.ways) as usize] }
     }
 
     /// The place of the first tag of a label's set.
@@ -1914,14 +1939,17 @@ impl Held {
 
     /// Whether a partition that may be read holds the tag of an address; the write label's own gets it at its front.
     fn touch(&mut self, address: u32, reach: Reach) -> bool {
-        let tag = address / self.bank.bytes;
-        let (set, ways, tag) = (tag % self.bank.sets, self.bank.ways as usize, tag as u64);
+        let tag = self.bytes.quotient(address);
+        let (set, ways, tag) = (self.sets.rest(tag), self.bank.ways as usize, tag as u64);
         let first = self.first(reach.write as usize, set);
-        let own = &mut self.tags[first..first + ways];
-        let found = own.iter().position(|held| *held == tag);
-        own[..=found.unwrap_or(ways - 1)].rotate_right(1);
-        own[0] = tag;
-        let mut is_held = found.is_some() && reach.reads_own;
+        let mut carried = tag;
+        for held in &mut self.tags[first..first + ways] {
+            std::mem::swap(held, &mut carried);
+            if carried == tag {
+                break;
+            }
+        }
+        let mut is_held = carried == tag && reach.reads_own;
         let mut others = reach.others;
         while !is_held && others != 0 {
             let first = self.first(others.trailing_zeros() as usize, set);
